@@ -1,0 +1,20 @@
+-- A drawing as plain lists.
+use Rattle.std.specs.Prelude.{ℕ, List, [], get_or, ◌++◌}
+use Rattle.std.specs.List.{flat_map}
+use Rattle.plan_core.specs.declared.point.Point.{Point}
+use Rattle.plan_core.specs.Line.{origin}
+
+-- a point for each node, and a line for each edge, by number
+pub record Drawing : Type 0 where
+  pub places : List Point
+  pub lines : List (List Point)
+
+abbrev pub place : Drawing → ℕ → Point
+place d n = get_or d.places n origin
+
+abbrev pub line : Drawing → ℕ → List Point
+line d e = get_or d.lines e []
+
+-- the nodes' points, and each point of each line
+abbrev pub all_points : Drawing → List Point
+all_points d = d.places ++ flat_map (λ l. l) d.lines

@@ -1,0 +1,90 @@
+-- The track graph as plain lists: a node or an edge is named by its place in its list, from 0.
+use Rattle.std.specs.Prelude.{◌≡◌, ℕ, ℤ, pos, ◌⊎◌, ◌<◌, ◌<ℤ◌, List, [], get_or, length}
+use Rattle.std.specs.Int.{int_max, int_min}
+use Rattle.plan_core.specs.declared.sides.Compass.{Compass}
+use Rattle.plan_core.specs.declared.sides.Compass.TheVariants.{East, West}
+use Rattle.plan_core.specs.declared.sides.Side.{Side}
+
+-- the edges that meet at a node, each by its place there; which places there are is the node's kind
+pub data Ports : Type 0 where
+  End : (edge : ℕ) (side : Compass) → Ports
+  Joint : (west east : ℕ) → Ports
+  Switch : (legs : Compass) (branch : Side) (trunk straight diverging : ℕ) → Ports
+  Crossing : (west_upper west_lower east_upper east_lower : ℕ) → Ports
+
+-- a node: the mileage is in micrometres
+pub record Node : Type 0 where
+  pub name : List ℕ
+  pub mileage : ℤ
+  pub ports : Ports
+
+-- an edge: the name of its track, and its nodes of smaller and of greater mileage
+pub record Edge : Type 0 where
+  pub track : List ℕ
+  pub west : ℕ
+  pub east : ℕ
+
+pub record Graph : Type 0 where
+  pub nodes : List Node
+  pub edges : List Edge
+
+-- what stands past the end of a list; no definition asks for it in a track graph
+abbrev pub no_node : Node
+no_node = record { name = []; mileage = pos 0; ports = End 0 East }
+
+abbrev pub no_edge : Edge
+no_edge = record { track = []; west = 0; east = 0 }
+
+abbrev pub node : Graph → ℕ → Node
+node g n = get_or g.nodes n no_node
+
+abbrev pub edge : Graph → ℕ → Edge
+edge g e = get_or g.edges e no_edge
+
+abbrev pub mileage : Graph → ℕ → ℤ
+mileage g n = (node g n).mileage
+
+-- the edge has the node at one of its two ends
+abbrev pub IsEndOf : Graph → ℕ → ℕ → Type 0
+IsEndOf g e n = ((edge g e).west ≡ n) ⊎ ((edge g e).east ≡ n)
+
+-- the greater of the two west mileages is below the smaller of the two east mileages
+abbrev pub Overlap : Graph → ℕ → ℕ → Type 0
+Overlap g e f =
+    int_max (mileage g (edge g e).west) (mileage g (edge g f).west)
+    <ℤ int_min (mileage g (edge g e).east) (mileage g (edge g f).east)
+
+-- every edge of the ports is there
+abbrev pub AreBelow : ℕ → Ports → Type 0
+AreBelow edges (End e side) = e < edges
+AreBelow edges (Joint west east) = (west < edges) × (east < edges)
+AreBelow edges (Switch legs branch trunk straight diverging) =
+    (trunk < edges) × (straight < edges) × (diverging < edges)
+AreBelow edges (Crossing west_upper west_lower east_upper east_lower) =
+    (west_upper < edges) × (west_lower < edges) × (east_upper < edges) × (east_lower < edges)
+
+-- the edge lies east of the node, or west of it
+abbrev pub LiesOn : Compass → Graph → ℕ → ℕ → Type 0
+LiesOn East g n e = (edge g e).west ≡ n
+LiesOn West g n e = (edge g e).east ≡ n
+
+abbrev pub opposite : Compass → Compass
+opposite East = West
+opposite West = East
+
+-- each edge lies on that side of the node on which its port is
+abbrev pub AreAt : Graph → ℕ → Ports → Type 0
+AreAt g n (End e side) = LiesOn side g n e
+AreAt g n (Joint west east) = LiesOn West g n west × LiesOn East g n east
+AreAt g n (Switch legs branch trunk straight diverging) =
+    LiesOn (opposite legs) g n trunk × LiesOn legs g n straight × LiesOn legs g n diverging
+AreAt g n (Crossing west_upper west_lower east_upper east_lower) =
+    LiesOn West g n west_upper × LiesOn West g n west_lower × LiesOn East g n east_upper × LiesOn East g n east_lower
+
+-- what every track graph has: its edges' nodes and its ports' edges are there, each edge's west
+-- node has the smaller mileage, and the edges lie as the ports say
+pub record IsTrackGraph (g : Graph) : Type 0 where
+  pub ends : (e : ℕ) → e < length g.edges → ((edge g e).west < length g.nodes) × ((edge g e).east < length g.nodes)
+  pub forward : (e : ℕ) → e < length g.edges → mileage g (edge g e).west <ℤ mileage g (edge g e).east
+  pub edges : (n : ℕ) → n < length g.nodes → AreBelow (length g.edges) (node g n).ports
+  pub ports : (n : ℕ) → n < length g.nodes → AreAt g n (node g n).ports

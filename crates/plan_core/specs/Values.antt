@@ -1,0 +1,41 @@
+-- What a drawing measures, and which of two drawings is better.
+use Rattle.std.specs.Prelude.{◌≡◌, ℕ, ◌<◌, ◌⊎◌, Bool, List, [], ◌∷◌, map, max}
+use Rattle.std.specs.List.{sum_by}
+use Rattle.plan_core.specs.declared.criterion.Values.{Values}
+use Rattle.plan_core.specs.declared.criterion.Criterion.{Criterion}
+use Rattle.plan_core.specs.declared.criterion.Criterion.TheVariants.{Height, Bends, Diagonal, Width}
+use Rattle.plan_core.specs.Grid.{GridSize}
+use Rattle.plan_core.specs.Line.{bends, diagonal}
+use Rattle.plan_core.specs.Graph.{Graph}
+use Rattle.plan_core.specs.Drawing.{Drawing, all_points}
+use Rattle.plan_core.specs.Lawful.{Lawful}
+
+-- the greatest number of a list, or 0 where there is none
+abbrev pub greatest : List ℕ → ℕ
+greatest [] = 0
+greatest (x ∷ xs) = max x (greatest xs)
+
+-- the greatest y and x of all points, and the sums over the lines
+abbrev pub values_of : Drawing → Values
+values_of d = record {
+  height = greatest (map (λ p. p.y) (all_points d));
+  bends = sum_by bends d.lines;
+  diagonal = sum_by diagonal d.lines;
+  width = greatest (map (λ p. p.x) (all_points d));
+}
+
+abbrev pub value_of : Values → Criterion → ℕ
+value_of v Height = v.height
+value_of v Bends = v.bends
+value_of v Diagonal = v.diagonal
+value_of v Width = v.width
+
+-- a is less than b at the first criterion of the order at which they differ
+abbrev pub Better : List Criterion → Values → Values → Type 0
+Better [] a b = ⊥
+Better (c ∷ rest) a b = (value_of a c < value_of b c) ⊎ ((value_of a c ≡ value_of b c) × Better rest a b)
+
+-- the drawing is lawful, and no lawful drawing is better
+pub record IsBest (g : Graph) (above : ℕ → ℕ → Bool) (grid : GridSize) (order : List Criterion) (d : Drawing) : Type 0 where
+  pub lawful : Lawful g above grid d
+  pub none_better : (other : Drawing) → Lawful g above grid other → Better order (values_of other) (values_of d) → ⊥

@@ -1,0 +1,33 @@
+//! The words that every crate of railplan shares, and what a lawful drawing is.
+//!
+//! `src/` has the numbers, the grid, the order of criteria, texts and lists, and the rows of a
+//! topology. `specs/` has the definitions that the whole product is judged by, over plain lists:
+//! `Graph` (nodes, edges and ports), `Line` (the eleven shapes), `Drawing`, `Laws` (each law's
+//! sentence for its parties), `Lawful` (all laws for all parties) and `Values` (what a drawing
+//! measures, and which of two is better). `docs/definitions.md` states each in plain words.
+//! Every other crate stands on this one, and it stands on none.
+#![tactic(auto)]
+
+mod criterion;
+mod grid;
+mod items;
+mod memory;
+mod numbers;
+mod order;
+mod point;
+mod sides;
+mod text;
+mod topology;
+
+pub use criterion::{Criterion, Values};
+pub use grid::Grid;
+pub use items::Items;
+pub use memory::OutOfMemory;
+pub use numbers::{ColumnNo, EdgeNo, Micro, NodeNo};
+pub use order::Order;
+pub use point::{Point, Slope};
+pub use sides::{Compass, Hand, Side};
+pub use text::Text;
+pub use topology::{
+    Conn, End, Inner, InnerKind, InnerList, Part, Place, Topology, Track, TrackList,
+};
