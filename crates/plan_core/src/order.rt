@@ -1,5 +1,5 @@
 // The order in which criteria are made least.
-ghost use Rattle.std.specs.Prelude.{◌≡◌, ◌<◌, Some, length, slice_get, SomeIff, ◌≢◌, ◌↔◌, IsTrue, AllPairs};
+ghost use Rattle.std.specs.Prelude.{◌≡◌, ◌<◌, Some, length, slice_get, SomeIff, ◌≢◌, ◌↔◌, IsTrue, AllPairs, Contains};
 ghost use Rattle.plan_core.specs.Order.{IsOrder};
 
 use crate::Criterion;
@@ -24,12 +24,19 @@ impl Model for Order {
     ghost invariant = { λ o. IsOrder o.list.items };
 }
 
+/// Whether the criterion stands in the list.
+fn stands_in(c: Criterion, list: &[Criterion]) -> bool
+    ensures { IsTrue result ↔ Contains list.now c }
+{
+    list.iter().any(|d| *d == c)
+}
+
 /// Whether no criterion stands twice.
 fn are_distinct(list: &[Criterion]) -> bool
     ensures { IsTrue result ↔ AllPairs (λ c d. c ≢ d) list.now }
 {
     for (i, c) in list.iter().enumerate() {
-        if list[..i].contains(c) {
+        if stands_in(*c, &list[..i]) {
             return false;
         }
     }
