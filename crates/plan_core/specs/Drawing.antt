@@ -9,6 +9,9 @@ pub record Drawing : Type 0 where
   pub places : List Point
   pub lines : List (List Point)
 
+abbrev pub drawing : List Point → List (List Point) → Drawing
+drawing places lines = record { places = places; lines = lines }
+
 abbrev pub place : Drawing → ℕ → Point
 place d n = get_or d.places n origin
 
