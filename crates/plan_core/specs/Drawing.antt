@@ -1,5 +1,5 @@
 -- A drawing as plain lists.
-use Rattle.std.specs.Prelude.{ℕ, List, [], get_or, ◌++◌}
+use Rattle.std.specs.Prelude.{ℕ, List, [], ◌++◌, slice_index_or}
 use Rattle.std.specs.List.{flat_map}
 use Rattle.plan_core.specs.declared.point.Point.{Point}
 use Rattle.plan_core.specs.Line.{origin}
@@ -13,10 +13,10 @@ abbrev pub drawing : List Point → List (List Point) → Drawing
 drawing places lines = record { places = places; lines = lines }
 
 abbrev pub place : Drawing → ℕ → Point
-place d n = get_or d.places n origin
+place d n = slice_index_or d.places n origin
 
 abbrev pub line : Drawing → ℕ → List Point
-line d e = get_or d.lines e []
+line d e = slice_index_or d.lines e []
 
 -- the nodes' points, and each point of each line
 abbrev pub all_points : Drawing → List Point

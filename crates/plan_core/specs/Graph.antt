@@ -1,24 +1,31 @@
 -- The track graph as plain lists: a node or an edge is named by its place in its list, from 0.
-use Rattle.std.specs.Prelude.{◌≡◌, ℕ, ℤ, pos, ◌⊎◌, ◌<◌, ◌<ℤ◌, List, [], get_or, length}
+--
+-- An end of the railway is an end node, with one edge. Where two tracks are joined end to end there is
+-- a joint. A switch splits its trunk into two legs, the straight one and the diverging one. At a
+-- crossing two paths cross: the rising one goes from west lower to east upper, the falling one from
+-- west upper to east lower.
+use Rattle.std.specs.Prelude.{◌≡◌, ◌≢◌, ℕ, ℤ, pos, ◌⊎◌, ◌<◌, ◌<ℤ◌, List, [], ◌∷◌, length, slice_index_or, All, AllPairs, Contains}
 use Rattle.std.specs.Int.{int_max, int_min}
 use Rattle.plan_core.specs.declared.sides.Compass.{Compass}
 use Rattle.plan_core.specs.declared.sides.Compass.TheVariants.{East, West}
 use Rattle.plan_core.specs.declared.sides.Side.{Side}
 
--- the edges that meet at a node, each by its place there; which places there are is the node's kind
+-- the edges that meet at a node, each by its port there; which ports there are is the node's kind. An
+-- end's side is where its edge lies, a switch's legs where its legs lie. A switch's branch is the side of
+-- its diverging leg, also where that leg is its own track
 pub data Ports : Type 0 where
   End : (edge : ℕ) (side : Compass) → Ports
   Joint : (west east : ℕ) → Ports
   Switch : (legs : Compass) (branch : Side) (trunk straight diverging : ℕ) → Ports
   Crossing : (west_upper west_lower east_upper east_lower : ℕ) → Ports
 
--- a node: the mileage is in micrometres
+-- a node: its name in UTF-8, and its mileage in micrometres
 pub record Node : Type 0 where
   pub name : List ℕ
   pub mileage : ℤ
   pub ports : Ports
 
--- an edge: the name of its track, and its nodes of smaller and of greater mileage
+-- an edge: the name of its track in UTF-8, and its nodes of smaller and of greater mileage
 pub record Edge : Type 0 where
   pub track : List ℕ
   pub west : ℕ
@@ -36,10 +43,10 @@ abbrev pub no_edge : Edge
 no_edge = record { track = []; west = 0; east = 0 }
 
 abbrev pub node : Graph → ℕ → Node
-node g n = get_or g.nodes n no_node
+node g n = slice_index_or g.nodes n no_node
 
 abbrev pub edge : Graph → ℕ → Edge
-edge g e = get_or g.edges e no_edge
+edge g e = slice_index_or g.edges e no_edge
 
 abbrev pub mileage : Graph → ℕ → ℤ
 mileage g n = (node g n).mileage
@@ -54,14 +61,12 @@ Overlap g e f =
     int_max (mileage g (edge g e).west) (mileage g (edge g f).west)
     <ℤ int_min (mileage g (edge g e).east) (mileage g (edge g f).east)
 
--- every edge of the ports is there
-abbrev pub AreBelow : ℕ → Ports → Type 0
-AreBelow edges (End e side) = e < edges
-AreBelow edges (Joint west east) = (west < edges) × (east < edges)
-AreBelow edges (Switch legs branch trunk straight diverging) =
-    (trunk < edges) × (straight < edges) × (diverging < edges)
-AreBelow edges (Crossing west_upper west_lower east_upper east_lower) =
-    (west_upper < edges) × (west_lower < edges) × (east_upper < edges) × (east_lower < edges)
+-- the edges of the ports
+abbrev pub edges_of : Ports → List ℕ
+edges_of (End e side) = e ∷ []
+edges_of (Joint west east) = west ∷ east ∷ []
+edges_of (Switch legs branch trunk straight diverging) = trunk ∷ straight ∷ diverging ∷ []
+edges_of (Crossing west_upper west_lower east_upper east_lower) = west_upper ∷ west_lower ∷ east_upper ∷ east_lower ∷ []
 
 -- the edge lies east of the node, or west of it
 abbrev pub LiesOn : Compass → Graph → ℕ → ℕ → Type 0
@@ -81,10 +86,20 @@ AreAt g n (Switch legs branch trunk straight diverging) =
 AreAt g n (Crossing west_upper west_lower east_upper east_lower) =
     LiesOn West g n west_upper × LiesOn West g n west_lower × LiesOn East g n east_upper × LiesOn East g n east_lower
 
--- what every track graph has: its edges' nodes and its ports' edges are there, each edge's west
--- node has the smaller mileage, and the edges lie as the ports say
+-- the edge is one of the node's ports
+abbrev pub IsPortOf : Graph → ℕ → ℕ → Type 0
+IsPortOf g n e = Contains (edges_of (node g n).ports) e
+
+-- the node's ports: each has an edge of its own, which is there and lies as the port says
+pub record ArePortsOf (g : Graph) (n : ℕ) (ports : Ports) : Type 0 where
+  pub there : All (λ e. e < length g.edges) (edges_of ports)
+  pub apart : AllPairs (λ e f. e ≢ f) (edges_of ports)
+  pub placed : AreAt g n ports
+
+-- what every track graph has: an edge joins two nodes that are there, the west one of smaller mileage,
+-- and is a port of both; a node's ports are so
 pub record IsTrackGraph (g : Graph) : Type 0 where
-  pub ends : (e : ℕ) → e < length g.edges → ((edge g e).west < length g.nodes) × ((edge g e).east < length g.nodes)
+  pub nodes : (e : ℕ) → e < length g.edges → ((edge g e).west < length g.nodes) × ((edge g e).east < length g.nodes)
   pub forward : (e : ℕ) → e < length g.edges → mileage g (edge g e).west <ℤ mileage g (edge g e).east
-  pub edges : (n : ℕ) → n < length g.nodes → AreBelow (length g.edges) (node g n).ports
-  pub ports : (n : ℕ) → n < length g.nodes → AreAt g n (node g n).ports
+  pub met : (e : ℕ) → e < length g.edges → IsPortOf g (edge g e).west e × IsPortOf g (edge g e).east e
+  pub ports : (n : ℕ) → n < length g.nodes → ArePortsOf g n (node g n).ports

@@ -6,7 +6,7 @@ use Rattle.plan_core.specs.Line.{is_line}
 use Rattle.plan_core.specs.Drawing.{Drawing}
 use Rattle.plan_core.specs.Laws.{NodeIsOnGrid, LineIsOnGrid, NodesAreOrdered, LineJoinsItsNodes, NodeIsAligned, NodesAreApart, EdgeIsOver, EdgesAreParted}
 
--- a law and its parties
+-- a law and its parties: in order, law 1 of nodes, law 1 of lines, and laws 2 to 7
 pub data Instance : Type 0 where
   NodeOnGrid : (n : ℕ) → Instance
   LineOnGrid : (e : ℕ) → Instance
@@ -23,13 +23,13 @@ pub record IsPair (count a b : ℕ) : Type 0 where
   pub within : b < count
 
 -- e is above f
-pub record AreOrdered (g : Graph) (above : ℕ → ℕ → Bool) (e f : ℕ) : Type 0 where
+pub record IsAbovePair (g : Graph) (above : ℕ → ℕ → Bool) (e f : ℕ) : Type 0 where
   pub first : e < length g.edges
   pub second : f < length g.edges
   pub is_above : above e f ≡ true
 
 -- the edges overlap, and neither is above the other
-pub record AreUnordered (g : Graph) (above : ℕ → ℕ → Bool) (e f : ℕ) : Type 0 where
+pub record IsOtherPair (g : Graph) (above : ℕ → ℕ → Bool) (e f : ℕ) : Type 0 where
   pub pair : IsPair (length g.edges) e f
   pub overlap : Overlap g e f
   pub not_above : above e f ≡ false
@@ -44,8 +44,8 @@ IsInstance g above (Ordered u v) = IsPair (length g.nodes) u v
 IsInstance g above (Joined e) = e < length g.edges
 IsInstance g above (Aligned n) = n < length g.nodes
 IsInstance g above (Apart u v) = IsPair (length g.nodes) u v
-IsInstance g above (Over e f) = AreOrdered g above e f
-IsInstance g above (Parted e f) = AreUnordered g above e f
+IsInstance g above (Over e f) = IsAbovePair g above e f
+IsInstance g above (Parted e f) = IsOtherPair g above e f
 
 -- the law's sentence holds for these parties
 abbrev pub Meets : Graph → GridSize → Drawing → Instance → Type 0
@@ -64,7 +64,9 @@ pub record Fits (g : Graph) (d : Drawing) : Type 0 where
   pub lines : length d.lines ≡ length g.edges
   pub are_lines : All (λ l. is_line l ≡ true) d.lines
 
--- the drawing fits the graph and meets all laws; above e f says that e is above f
+-- the drawing fits the graph and meets all laws. above e f says that e is above f; where it said so both
+-- ways, no drawing could be lawful. What a law says of a node's ports or an edge's nodes it says of those
+-- that are there, so the words are about track graphs
 pub record Lawful (g : Graph) (above : ℕ → ℕ → Bool) (grid : GridSize) (d : Drawing) : Type 0 where
   pub fits : Fits g d
   pub laws : (i : Instance) → IsInstance g above i → Meets g grid d i

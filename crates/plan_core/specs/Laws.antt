@@ -1,5 +1,5 @@
 -- The seven laws, each as a sentence about its parties: n, u and v are nodes, e and f edges.
-use Rattle.std.specs.Prelude.{◌≡◌, ◌≢◌, ℕ, ◌<◌, ◌≤◌, ◌⊎◌, ◌==◌, cond, ℤ, pos, negsuc, ◌+ℤ◌, ◌<ℤ◌, All}
+use Rattle.std.specs.Prelude.{◌≡◌, ◌≢◌, ℕ, ◌<◌, ◌≤◌, ◌⊎◌, ◌==◌, if◌then◌else◌, ℤ, pos, negsuc, ◌+ℤ◌, ◌<ℤ◌, All}
 use Rattle.std.specs.Ordering.{int_cmp}
 use Rattle.std.specs.declared.cmp.Ordering.{Ordering}
 use Rattle.std.specs.declared.cmp.Ordering.TheVariants.{Less, Equal, Greater}
@@ -37,8 +37,8 @@ InOrder Greater u_x v_x = v_x ≤ u_x
 abbrev pub NodesAreOrdered : Graph → Drawing → ℕ → ℕ → Type 0
 NodesAreOrdered g d u v = InOrder (int_cmp (mileage g u) (mileage g v)) (place d u).x (place d v).x
 
--- Law 3: the edge's line begins at its west node's point and ends at its east node's point. A least
--- length for every edge would be a number of the grid, and a third field here.
+-- Law 3: the edge's line begins at its west node's point and ends at its east node's point. What the
+-- grid may ask of an edge belongs here.
 
 pub record LineJoinsItsNodes (g : Graph) (grid : GridSize) (d : Drawing) (e : ℕ) : Type 0 where
   pub begins : west_end (line d e) ≡ place d (edge g e).west
@@ -64,7 +64,8 @@ Diverges East Lower s diverging = IsOneMore diverging s
 Diverges West Upper s diverging = IsOneMore diverging s
 Diverges West Lower s diverging = IsOneMore s diverging
 
--- trunk and straight leg have one slope, and the diverging leg turns off from it
+-- trunk and straight leg have one slope, and the diverging leg turns off from it; at_node e is the slope
+-- of edge e's line where it meets the node
 pub record SwitchIsAligned (at_node : ℕ → Slope) (legs : Compass) (branch : Side) (trunk straight diverging : ℕ) : Type 0 where
   pub goes_straight : at_node straight ≡ at_node trunk
   pub turns_off : Diverges legs branch (at_node trunk) (at_node diverging)
@@ -87,7 +88,7 @@ PortsAreAligned at_node (Crossing west_upper west_lower east_upper east_lower) =
 
 -- the slope of the edge's line where it meets the node
 abbrev pub slope_at : Graph → Drawing → ℕ → ℕ → Slope
-slope_at g d n e = cond ((edge g e).west == n) (slope_west (line d e)) (slope_east (line d e))
+slope_at g d n e = (if (edge g e).west == n then slope_west (line d e) else slope_east (line d e))
 
 abbrev pub NodeIsAligned : Graph → Drawing → ℕ → Type 0
 NodeIsAligned g d n = PortsAreAligned (slope_at g d n) (node g n).ports
@@ -97,13 +98,14 @@ NodeIsAligned g d n = PortsAreAligned (slope_at g d n) (node g n).ports
 abbrev pub NodesAreApart : Drawing → ℕ → ℕ → Type 0
 NodesAreApart d u v = place d u ≢ place d v
 
--- Laws 6 and 7: which of two lines is over the other.
+-- Laws 6 and 7: which of two lines is over the other. Above is what the track graph asks for, over what
+-- the drawing shows.
 
 -- both lines have the column, and it isn't that of a node that is an end of both
 pub record AreCompared (g : Graph) (d : Drawing) (e f x : ℕ) : Type 0 where
   pub first : HasColumn (line d e) x
   pub second : HasColumn (line d f) x
-  pub unless : (n : ℕ) → IsEndOf g e n → IsEndOf g f n → x ≢ (place d n).x
+  pub no_shared_end : (n : ℕ) → IsEndOf g e n → IsEndOf g f n → x ≢ (place d n).x
 
 -- e's height is the greater at each such column
 abbrev pub EdgeIsOver : Graph → Drawing → ℕ → ℕ → Type 0

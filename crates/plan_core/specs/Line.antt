@@ -1,5 +1,6 @@
--- The lines that an edge may have, each a list of points from west to east.
-use Rattle.std.specs.Prelude.{ℕ, ◌+◌, ◌-◌, ◌≤◌, Bool, true, false, ◌&&◌, ◌||◌, cond, ◌==◌, nat_lt, nat_le, List, [], ◌∷◌, map, length}
+-- The lines that an edge may be drawn with, each a list of points of the grid from west to east. A
+-- column here is a column of the grid.
+use Rattle.std.specs.Prelude.{ℕ, ◌+◌, ◌-◌, ◌≤◌, Bool, true, false, ◌&&◌, ◌||◌, if◌then◌else◌, ◌==◌, nat_lt, nat_le, List, [], ◌∷◌, map, length}
 use Rattle.std.specs.List.{list_all, sum_by}
 use Rattle.plan_core.specs.declared.point.Point.{Point}
 use Rattle.plan_core.specs.declared.point.Slope.{Slope}
@@ -31,7 +32,7 @@ is_piece p =
 
 -- which of the three slopes a piece has
 abbrev pub slope : Piece → Slope
-slope p = cond (nat_lt p.west.y p.east.y) Up (cond (nat_lt p.east.y p.west.y) Down Level)
+slope p = (if nat_lt p.west.y p.east.y then Up else (if nat_lt p.east.y p.west.y then Down else Level))
 
 -- the eleven shapes, by the slopes of their pieces from west to east
 abbrev pub is_shape : List Slope → Bool
@@ -98,7 +99,7 @@ height_on p x = reached (slope p) p.west.y (x - p.west.x)
 
 abbrev pub height_from : Point → List Point → ℕ → ℕ
 height_from a [] x = a.y
-height_from a (b ∷ rest) x = cond (nat_le x b.x) (height_on (record { west = a; east = b }) x) (height_from b rest x)
+height_from a (b ∷ rest) x = (if nat_le x b.x then height_on (record { west = a; east = b }) x else height_from b rest x)
 
 -- the height of a line at a column of its own: that of the piece over it
 abbrev pub height : List Point → ℕ → ℕ

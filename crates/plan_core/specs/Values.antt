@@ -1,5 +1,5 @@
 -- What a drawing measures, and which of two drawings is better.
-use Rattle.std.specs.Prelude.{◌≡◌, ℕ, ◌<◌, ◌⊎◌, Bool, List, [], ◌∷◌, map, max}
+use Rattle.std.specs.Prelude.{◌≡◌, ℕ, ◌*◌, ◌<◌, ◌⊎◌, Bool, List, [], ◌∷◌, length, map, max}
 use Rattle.std.specs.List.{sum_by}
 use Rattle.plan_core.specs.declared.criterion.Values.{Values}
 use Rattle.plan_core.specs.declared.criterion.Criterion.{Criterion}
@@ -11,17 +11,17 @@ use Rattle.plan_core.specs.Drawing.{Drawing, all_points}
 use Rattle.plan_core.specs.Lawful.{Lawful}
 
 -- the greatest number of a list, or 0 where there is none
-abbrev pub greatest : List ℕ → ℕ
-greatest [] = 0
-greatest (x ∷ xs) = max x (greatest xs)
+abbrev pub maximum : List ℕ → ℕ
+maximum [] = 0
+maximum (x ∷ xs) = max x (maximum xs)
 
 -- the greatest y and x of all points, and the sums over the lines
 abbrev pub values_of : Drawing → Values
 values_of d = record {
-  height = greatest (map (λ p. p.y) (all_points d));
+  height = maximum (map (λ p. p.y) (all_points d));
   bends = sum_by bends d.lines;
   diagonal = sum_by diagonal d.lines;
-  width = greatest (map (λ p. p.x) (all_points d));
+  width = maximum (map (λ p. p.x) (all_points d));
 }
 
 abbrev pub value_of : Values → Criterion → ℕ
@@ -30,7 +30,15 @@ value_of v Bends = v.bends
 value_of v Diagonal = v.diagonal
 value_of v Width = v.width
 
--- a is less than b at the first criterion of the order at which they differ
+-- what no lawful drawing's value passes
+abbrev pub limit_of : Graph → GridSize → Criterion → ℕ
+limit_of g grid Height = grid.height
+limit_of g grid Bends = 2 * length g.edges
+limit_of g grid Diagonal = length g.edges * grid.width
+limit_of g grid Width = grid.width
+
+-- a is less than b at the first criterion of the order at which they differ; on the first s criteria
+-- alone where the order is take s of one
 abbrev pub Better : List Criterion → Values → Values → Type 0
 Better [] a b = ⊥
 Better (c ∷ rest) a b = (value_of a c < value_of b c) ⊎ ((value_of a c ≡ value_of b c) × Better rest a b)

@@ -2,7 +2,8 @@
 ghost use Rattle.std.specs.Prelude.{◌≡◌};
 ghost use Rattle.plan_core.specs.Values.{value_of};
 
-/// One of the four numbers that a drawing is to have least.
+/// One of the four numbers that a drawing is to have least. The default only serves a list of fixed
+/// size, which keeps its unused places filled.
 #[derive(Clone, Copy, Debug, Default, PartialEq, Eq)]
 pub enum Criterion {
     #[default]

@@ -1,4 +1,4 @@
-// Numbers that name nodes, edges and columns, and lengths along the line.
+// Numbers that name nodes, edges and mileages, and lengths along the railway.
 
 /// A node's number, counted from 0.
 #[derive(Clone, Copy, Debug, PartialEq, Eq)]
@@ -8,7 +8,8 @@ pub struct NodeNo(pub u16);
 #[derive(Clone, Copy, Debug, PartialEq, Eq)]
 pub struct EdgeNo(pub u16);
 
-/// A column's number, counted from 0 in the west: the rank of a mileage among all mileages.
+/// The rank of a node's mileage among the distinct mileages of all nodes, counted from 0 in the west;
+/// no column of the grid.
 #[derive(Clone, Copy, Debug, PartialEq, Eq)]
 pub struct ColumnNo(pub u16);
 

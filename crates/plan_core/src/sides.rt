@@ -7,14 +7,14 @@ pub enum Side {
     Lower,
 }
 
-/// A direction along the line: mileages grow towards the east.
+/// A direction along the railway: mileages grow towards the east.
 #[derive(Clone, Copy, Debug, PartialEq, Eq)]
 pub enum Compass {
     East,
     West,
 }
 
-/// The hand of a switch, seen from its points towards its legs.
+/// A hand, seen from a switch's trunk towards its legs.
 #[derive(Clone, Copy, Debug, PartialEq, Eq)]
 pub enum Hand {
     Left,

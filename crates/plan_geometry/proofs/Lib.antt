@@ -1,0 +1,3 @@
+pub mod ComparingLemmas
+pub mod GreatestLemmas
+pub mod LineLemmas

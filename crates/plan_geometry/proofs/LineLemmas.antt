@@ -1,0 +1,59 @@
+-- How long lines are, and walks along them.
+use Rattle.std.proofs.Common.{◌≡◌, ℕ, ◌+◌, ◌*◌, ◌<◌, ◌≤◌, Bool, true, false, ◌&&◌, List, [], ◌∷◌, length, take, drop, map, get_or, refl, sym, ◌∙◌, ap, subst, arith}
+use Rattle.std.specs.Prelude.{sum_by}
+use Rattle.std.specs.List.{list_all}
+use Rattle.std.proofs.lemmas.Bool.{and_parts, false≢true}
+use Rattle.std.proofs.lemmas.List.{length-take, length-map}
+use Rattle.plan_core.specs.declared.point.Point.{Point}
+use Rattle.plan_core.specs.declared.point.Slope.{Slope}
+use Rattle.plan_core.specs.Line.{Piece, pieces_from, pieces, is_piece, slope, is_shape, is_line, height, height_from, diagonal, absolute_rise}
+
+shape_few : (slopes : List Slope) → is_shape slopes ≡ true → length slopes ≤ 3
+shape_few [] h = omega arith
+shape_few (a ∷ []) h = omega arith
+shape_few (a ∷ b ∷ []) h = omega arith
+shape_few (a ∷ b ∷ c ∷ []) h = omega arith
+shape_few (a ∷ b ∷ c ∷ d ∷ rest) h = absurd (false≢true h)
+
+length-pieces_from : (a : Point) (rest : List Point) → length (pieces_from a rest) ≡ length rest
+length-pieces_from a [] = refl
+length-pieces_from a (b ∷ rest) = let k = length-pieces_from b rest in omega (arith, k)
+
+-- a line has two to four points
+pub line_length : (line : List Point) → is_line line ≡ true → (2 ≤ length line) × (length line ≤ 4)
+line_length [] h = absurd (false≢true h)
+line_length (a ∷ []) h = absurd (false≢true h)
+line_length (a ∷ b ∷ rest) h =
+    let all = pieces (a ∷ b ∷ rest) in
+    let few = shape_few (map slope all) (and_parts (list_all is_piece all) (is_shape (map slope all)) h).1 in
+    let same = length-map all slope in
+    let long = length-pieces_from a (b ∷ rest) in
+    (omega arith, omega (arith, few, same, long))
+
+pub long_is_no_line : (line : List Point) → 5 ≤ length line → false ≡ is_line line
+long_is_no_line line long =
+    elim (is_line line) as (λ b. is_line line ≡ b → false ≡ b) [
+      | true ↦ λ e. let few = line_length line e in absurd (omega (arith, few, long))
+      | false ↦ λ e. refl
+    ] refl
+
+-- while a line's points are copied there is room for one more
+pub room_left : (line : List Point) (i : ℕ) (copied : List Point) → is_line line ≡ true → i < length line → copied ≡ take i line → length copied < 4
+room_left line i copied is_one within same =
+    let few = line_length line is_one in
+    let n : length copied ≡ length (take i line) = ap (length {A = Point}) same in
+    omega (arith, few, within, n, length-take i line)
+
+-- what a walk to a column keeps: the point where it stands, and the points left
+pub record IsOnTheWay (line : List Point) (x : ℕ) (west : Point) (rest : List Point) : Type 0 where
+  pub same : height_from west rest x ≡ height line x
+  pub passed : west.x ≤ x
+  pub pieces : list_all is_piece (pieces_from west rest) ≡ true
+
+-- what a walk along a whole line keeps: the rises of the pieces passed, and those left
+pub record IsMeasured (line : List Point) (west : Point) (rest : List Point) (sum steps : ℕ) : Type 0 where
+  pub same : sum + sum_by absolute_rise (pieces_from west rest) ≡ diagonal line
+  pub bounded : sum ≤ 65535 * steps
+
+pub pieces_of_line : (line : List Point) → is_line line ≡ true → list_all is_piece (pieces line) ≡ true
+pieces_of_line line h = (and_parts (list_all is_piece (pieces line)) (is_shape (map slope (pieces line))) h).0
