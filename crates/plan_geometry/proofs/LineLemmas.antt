@@ -1,12 +1,12 @@
 -- How long lines are, and walks along them.
-use Rattle.std.proofs.Common.{◌≡◌, ℕ, ◌+◌, ◌*◌, ◌<◌, ◌≤◌, Bool, true, false, ◌&&◌, List, [], ◌∷◌, length, take, drop, map, get_or, refl, sym, ◌∙◌, ap, subst, arith}
+use Rattle.std.proofs.Common.{◌≡◌, ℕ, ◌+◌, ◌*◌, ◌<◌, ◌≤◌, true, false, List, [], ◌∷◌, length, take, map, refl, ap, arith}
 use Rattle.std.specs.Prelude.{sum_by}
 use Rattle.std.specs.List.{list_all}
 use Rattle.std.proofs.lemmas.Bool.{and_parts, false≢true}
 use Rattle.std.proofs.lemmas.List.{length-take, length-map}
 use Rattle.plan_core.specs.declared.point.Point.{Point}
 use Rattle.plan_core.specs.declared.point.Slope.{Slope}
-use Rattle.plan_core.specs.Line.{Piece, pieces_from, pieces, is_piece, slope, is_shape, is_line, height, height_from, diagonal, absolute_rise}
+use Rattle.plan_core.specs.Line.{pieces_from, pieces, is_piece, slope, is_shape, is_line, height, height_from, diagonal, absolute_rise}
 
 shape_few : (slopes : List Slope) → is_shape slopes ≡ true → length slopes ≤ 3
 shape_few [] h = omega arith

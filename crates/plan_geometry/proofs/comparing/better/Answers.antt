@@ -1,4 +1,4 @@
-use Rattle.std.proofs.Common.{◌≡◌, arith, sym, ◌∙◌}
+use Rattle.std.proofs.Common.{arith, sym, ◌∙◌}
 use Rattle.plan_geometry.proofs.ComparingLemmas.{equal_values, different_values}
 use Rattle.plan_geometry.proofs.comparing.better.Goals as goal
 

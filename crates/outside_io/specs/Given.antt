@@ -1,0 +1,8 @@
+-- What a sink was given, where it tells that.
+use Rattle.std.specs.Prelude.{ℕ, List, take}
+use Rattle.std.specs.declared.option.Option.{Option}
+use Rattle.std.specs.Io.KnownBytes.{Appends}
+
+-- some of the bytes were added, from the first on, and perhaps none
+abbrev pub AppendsFront : Option (List ℕ) → Option (List ℕ) → List ℕ → Type 0
+AppendsFront old new bytes = (n : ℕ) × Appends old new (take n bytes)

@@ -1,0 +1,4 @@
+pub mod Counts
+pub mod Contents
+pub mod Given
+pub mod Memory

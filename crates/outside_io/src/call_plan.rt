@@ -1,0 +1,39 @@
+// Which calls on an object in memory are to fail.
+ghost use Rattle.std.specs.Prelude.{◌≡◌, ◌↔◌, [], IfOk, IsTrue, Contains};
+ghost use Rattle.outside_io.specs.Counts.{next_count};
+
+use crate::counting::Count;
+use plan_core::OutOfMemory;
+use std::alloc::Global;
+
+/// The numbers of the calls that are to fail, and how many calls there were. The first call has the
+/// number 1.
+#[derive(Drop)]
+pub struct CallPlan {
+    pub to_fail: Vec<u32>,
+    pub calls: Count,
+}
+
+impl CallPlan {
+    /// The plan at the start, before any call.
+    pub fn new(alloc: Global, to_fail: &[u32]) -> Result<Self, OutOfMemory>
+        ensures to_fail { IfOk result (λ p. p.to_fail.items ≡ to_fail.now) }
+        ensures calls { IfOk result (λ p. p.calls.value ≡ 0) }
+    {
+        Ok(CallPlan {
+            to_fail: Vec::from_slice(alloc, to_fail)?,
+            calls: Count::new(),
+        })
+    }
+
+    /// Counts one more call, and tells whether it is to fail.
+    pub fn next_fails(&mut self) -> bool
+        ensures planned { IsTrue result ↔ Contains self.old.to_fail.items self.new.calls.value }
+        ensures calls { self.new.calls.value ≡ next_count self.old.calls.value }
+        ensures to_fail { self.new.to_fail ≡ self.old.to_fail }
+    {
+        self.calls.raise();
+        let number = self.calls.value;
+        self.to_fail.iter().any(|n| u64::from(*n) == number)
+    }
+}

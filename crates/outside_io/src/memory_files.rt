@@ -1,0 +1,103 @@
+// Files in memory whose calls can be made to fail.
+ghost use Rattle.std.specs.Prelude.{◌≡◌, Some, None, IfOk, OnOk, OnErr};
+ghost use Rattle.std.specs.Option.{option_copied};
+ghost use Rattle.outside_io.specs.Contents.{WhereTold, SameFiles, Sets, TellsAt};
+ghost use Rattle.outside_io.specs.Memory.{told_of};
+
+use crate::call_plan::CallPlan;
+use crate::counting::Count;
+use crate::named_bytes::NamedBytes;
+use crate::{FileFault, Files};
+use plan_core::OutOfMemory;
+use std::alloc::Global;
+
+/// Names and byte lists, with a list of the numbers of the calls that are to fail.
+#[derive(Drop)]
+pub struct MemoryFiles {
+    named: NamedBytes,
+    plan: CallPlan,
+    read_faults: Count,
+    write_faults: Count,
+    reads: Count,
+}
+
+impl MemoryFiles {
+    /// No file is there. Calls of the trait `Files` are numbered from 1 on, and those whose number
+    /// stands in `fail` fail.
+    pub fn new(alloc: Global, fail: &[u32]) -> Result<Self, OutOfMemory>
+        ensures contents { IfOk result (λ s. ⟦<MemoryFiles as Files>⟧.contents s ≡ Some (λ _. None)) }
+        ensures read_faults { IfOk result (λ s. ⟦<MemoryFiles as Files>⟧.read_faults s ≡ 0) }
+        ensures write_faults { IfOk result (λ s. ⟦<MemoryFiles as Files>⟧.write_faults s ≡ 0) }
+        ensures reads { IfOk result (λ s. ⟦<MemoryFiles as Files>⟧.reads s ≡ 0) }
+    {
+        Ok(MemoryFiles {
+            named: NamedBytes::new(alloc),
+            plan: CallPlan::new(alloc, fail)?,
+            read_faults: Count::new(),
+            write_faults: Count::new(),
+            reads: Count::new(),
+        })
+    }
+
+    /// Sets the bytes under the name, whether it was there or not. It isn't a call of the trait, so
+    /// no number stands for it, and no fault can come of it.
+    pub fn add(&mut self, name: &str, bytes: &[u8]) -> Result<(), OutOfMemory>
+        ensures ok { OnOk result (WhereTold (⟦<MemoryFiles as Files>⟧.contents self.old) (⟦<MemoryFiles as Files>⟧.contents self.new) (Sets name.now bytes.now)) }
+        ensures err { OnErr result (WhereTold (⟦<MemoryFiles as Files>⟧.contents self.old) (⟦<MemoryFiles as Files>⟧.contents self.new) SameFiles) }
+        ensures read_faults { ⟦<MemoryFiles as Files>⟧.read_faults self.new ≡ ⟦<MemoryFiles as Files>⟧.read_faults self.old }
+        ensures write_faults { ⟦<MemoryFiles as Files>⟧.write_faults self.new ≡ ⟦<MemoryFiles as Files>⟧.write_faults self.old }
+        ensures reads { ⟦<MemoryFiles as Files>⟧.reads self.new ≡ ⟦<MemoryFiles as Files>⟧.reads self.old }
+    {
+        self.named.set(name, bytes)
+    }
+
+    /// The bytes under the name, or `None` exactly where it isn't there.
+    pub fn get(&self, name: &str) -> Option<&[u8]>
+        ensures { TellsAt (⟦<MemoryFiles as Files>⟧.contents self.now) name.now (option_copied result) }
+    {
+        self.named.get(name)
+    }
+}
+
+impl Files for MemoryFiles {
+    ghost contents = { λ s. Some (told_of s.named) };
+
+    ghost read_faults = { λ s. s.read_faults.value };
+
+    ghost write_faults = { λ s. s.write_faults.value };
+
+    ghost reads = { λ s. s.reads.value };
+
+    ghost counts_end = { λ s. (s.read_faults.in_range, s.write_faults.in_range, s.reads.in_range) };
+
+    fn read_front(
+        &mut self,
+        name: &str,
+        limit: usize,
+        into: &mut Vec<u8>,
+    ) -> Result<(), FileFault> {
+        if self.plan.next_fails() || !self.named.read_front(name, limit, into)? {
+            self.read_faults.raise();
+            return Err(FileFault::Failed);
+        }
+        self.reads.raise();
+        Ok(())
+    }
+
+    fn create(&mut self, name: &str) -> Result<(), FileFault> {
+        if self.plan.next_fails() {
+            self.write_faults.raise();
+            return Err(FileFault::Failed);
+        }
+        self.named.set(name, &[])?;
+        Ok(())
+    }
+
+    fn append(&mut self, name: &str, bytes: &[u8]) -> Result<(), FileFault> {
+        if self.plan.next_fails() || !self.named.append(name, bytes)? {
+            self.write_faults.raise();
+            return Err(FileFault::Failed);
+        }
+        Ok(())
+    }
+}
