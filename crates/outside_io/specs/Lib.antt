@@ -2,3 +2,4 @@ pub mod Counts
 pub mod Contents
 pub mod Given
 pub mod Memory
+pub mod Streams

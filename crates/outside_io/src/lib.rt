@@ -15,14 +15,19 @@
 mod call_plan;
 mod counting;
 mod files;
+mod host_files;
+mod host_out;
 mod memory_files;
 mod memory_sink;
 mod named_bytes;
 mod sink;
+mod streams;
 mod sure_files;
 mod sure_sink;
 
 pub use files::{FileFault, Files};
+pub use host_files::HostFiles;
+pub use host_out::HostOut;
 pub use memory_files::MemoryFiles;
 pub use memory_sink::MemorySink;
 pub use sink::{Sink, SinkFault};

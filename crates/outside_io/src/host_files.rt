@@ -1,0 +1,86 @@
+// The system's files. They tell nothing of their contents.
+ghost use Rattle.std.specs.Prelude.{◌≡◌, None};
+
+use crate::counting::Count;
+use crate::streams::{read_up_to, write_whole};
+use crate::{FileFault, Files};
+use std::fs::{self, OpenOptions};
+
+/// Files of the system, over the program's runtime. A call that the system refuses fails, and so
+/// does a write that takes nothing.
+#[derive(Drop)]
+pub struct HostFiles<'a, R: std::rt::Files> {
+    rt: &'a R,
+    read_faults: Count,
+    write_faults: Count,
+    reads: Count,
+}
+
+impl<'a, R: std::rt::Files> HostFiles<'a, R> {
+    /// The files of this runtime.
+    pub fn new(rt: &'a R) -> Self
+        ensures contents { ⟦<HostFiles<'a, R> as Files>⟧.contents result ≡ None }
+        ensures read_faults { ⟦<HostFiles<'a, R> as Files>⟧.read_faults result ≡ 0 }
+        ensures write_faults { ⟦<HostFiles<'a, R> as Files>⟧.write_faults result ≡ 0 }
+        ensures reads { ⟦<HostFiles<'a, R> as Files>⟧.reads result ≡ 0 }
+    {
+        HostFiles {
+            rt,
+            read_faults: Count::new(),
+            write_faults: Count::new(),
+            reads: Count::new(),
+        }
+    }
+}
+
+impl<'a, R: std::rt::Files> Files for HostFiles<'a, R> {
+    ghost contents = { λ _. None };
+
+    ghost read_faults = { λ s. s.read_faults.value };
+
+    ghost write_faults = { λ s. s.write_faults.value };
+
+    ghost reads = { λ s. s.reads.value };
+
+    ghost counts_end = { λ s. (s.read_faults.in_range, s.write_faults.in_range, s.reads.in_range) };
+
+    fn read_front(
+        &mut self,
+        name: &str,
+        limit: usize,
+        into: &mut Vec<u8>,
+    ) -> Result<(), FileFault> {
+        let read = match fs::open(self.rt, name) {
+            Ok(mut file) => read_up_to(&mut file, limit, into),
+            Err(_) => Err(FileFault::Failed),
+        };
+        match &read {
+            Ok(()) => self.reads.raise(),
+            Err(FileFault::Failed) => self.read_faults.raise(),
+            Err(FileFault::Memory) => {}
+        }
+        read
+    }
+
+    fn create(&mut self, name: &str) -> Result<(), FileFault> {
+        match fs::create(self.rt, name) {
+            Ok(_) => Ok(()),
+            Err(_) => {
+                self.write_faults.raise();
+                Err(FileFault::Failed)
+            }
+        }
+    }
+
+    fn append(&mut self, name: &str, bytes: &[u8]) -> Result<(), FileFault> {
+        let mut options = OpenOptions::new();
+        options.append(true);
+        if let Ok(mut file) = options.open(self.rt, name)
+            && write_whole(&mut file, bytes)
+        {
+            return Ok(());
+        }
+        self.write_faults.raise();
+        Err(FileFault::Failed)
+    }
+}
