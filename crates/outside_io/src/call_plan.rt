@@ -1,6 +1,6 @@
 // Which calls on an object in memory are to fail.
-ghost use Rattle.std.specs.Prelude.{◌≡◌, ◌↔◌, [], IfOk, IsTrue, Contains};
-ghost use Rattle.outside_io.specs.Counts.{next_count};
+ghost use Rattle.std.specs.Prelude.{◌≡◌, ◌↔◌, IfOk, IsTrue};
+ghost use Rattle.outside_io.specs.Plan.{IsNextToFail, after_call, plan_of};
 
 use crate::counting::Count;
 use plan_core::OutOfMemory;
@@ -17,8 +17,7 @@ pub struct CallPlan {
 impl CallPlan {
     /// The plan at the start, before any call.
     pub fn new(alloc: Global, to_fail: &[u32]) -> Result<Self, OutOfMemory>
-        ensures to_fail { IfOk result (λ p. p.to_fail.items ≡ to_fail.now) }
-        ensures calls { IfOk result (λ p. p.calls.value ≡ 0) }
+        ensures { IfOk result (λ p. plan_of p ≡ record { to_fail = to_fail.now; calls = 0 }) }
     {
         Ok(CallPlan {
             to_fail: Vec::from_slice(alloc, to_fail)?,
@@ -28,9 +27,8 @@ impl CallPlan {
 
     /// Counts one more call, and tells whether it is to fail.
     pub fn next_fails(&mut self) -> bool
-        ensures planned { IsTrue result ↔ Contains self.old.to_fail.items self.new.calls.value }
-        ensures calls { self.new.calls.value ≡ next_count self.old.calls.value }
-        ensures to_fail { self.new.to_fail ≡ self.old.to_fail }
+        ensures planned { IsTrue result ↔ IsNextToFail (plan_of self.old) }
+        ensures counted { plan_of self.new ≡ after_call (plan_of self.old) }
     {
         self.calls.raise();
         let number = self.calls.value;

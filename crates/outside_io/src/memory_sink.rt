@@ -1,5 +1,9 @@
 // A sink in memory whose calls can be made to fail.
-ghost use Rattle.std.specs.Prelude.{◌≡◌, [], Some, IfOk};
+ghost use Rattle.std.specs.Prelude.{◌≡◌, ◌≤◌, ◌↔◌, [], Some, IfOk, OnOk, OnErr, IsErrOf};
+ghost use Rattle.std.specs.Io.KnownBytes.{Appends};
+ghost use Rattle.outside_io.specs.Counts.{Rose};
+ghost use Rattle.outside_io.specs.Given.{AppendsFront};
+ghost use Rattle.outside_io.specs.Plan.{IsNextToFail, after_call, sink_plan};
 
 use crate::call_plan::CallPlan;
 use crate::counting::Count;
@@ -21,6 +25,7 @@ impl MemorySink {
     pub fn new(alloc: Global, fail: &[u32]) -> Result<Self, OutOfMemory>
         ensures given { IfOk result (λ s. ⟦<MemorySink as Sink>⟧.given s ≡ Some []) }
         ensures faults { IfOk result (λ s. ⟦<MemorySink as Sink>⟧.faults s ≡ 0) }
+        ensures plan { IfOk result (λ s. sink_plan s ≡ record { to_fail = fail.now; calls = 0 }) }
     {
         Ok(MemorySink {
             bytes: Vec::new(alloc),
@@ -44,7 +49,15 @@ impl Sink for MemorySink {
 
     ghost count_ends = { λ s. s.faults.in_range };
 
-    fn put(&mut self, bytes: &[u8]) -> Result<(), SinkFault> {
+    /// Fails exactly where the call's number stands in the list.
+    fn put(&mut self, bytes: &[u8]) -> Result<(), SinkFault>
+        ensures ok { OnOk result (Appends (⟦<MemorySink as Sink>⟧.given self.old) (⟦<MemorySink as Sink>⟧.given self.new) bytes.now) }
+        ensures err { OnErr result (AppendsFront (⟦<MemorySink as Sink>⟧.given self.old) (⟦<MemorySink as Sink>⟧.given self.new) bytes.now) }
+        ensures later { ⟦<MemorySink as Sink>⟧.faults self.old ≤ ⟦<MemorySink as Sink>⟧.faults self.new }
+        ensures cause { IsErrOf result SinkFault.Failed → Rose (⟦<MemorySink as Sink>⟧.faults self.old) (⟦<MemorySink as Sink>⟧.faults self.new) }
+        ensures failed { IsErrOf result SinkFault.Failed ↔ IsNextToFail (sink_plan self.old) }
+        ensures plan { sink_plan self.new ≡ after_call (sink_plan self.old) }
+    {
         if self.plan.next_fails() {
             self.faults.raise();
             return Err(SinkFault::Failed);
