@@ -1,7 +1,7 @@
 // A sink in memory whose calls can be made to fail.
 ghost use Rattle.std.specs.Prelude.{◌≡◌, ◌≤◌, ◌↔◌, [], Some, IfOk, OnOk, OnErr, IsErrOf};
 ghost use Rattle.std.specs.Io.KnownBytes.{Appends};
-ghost use Rattle.outside_io.specs.Counts.{Rose};
+ghost use Rattle.outside_io.specs.Counts.{next_count};
 ghost use Rattle.outside_io.specs.Given.{AppendsFront};
 ghost use Rattle.outside_io.specs.Plan.{IsNextToFail, after_call, sink_plan};
 
@@ -53,8 +53,8 @@ impl Sink for MemorySink {
     fn put(&mut self, bytes: &[u8]) -> Result<(), SinkFault>
         ensures ok { OnOk result (Appends (⟦<MemorySink as Sink>⟧.given self.old) (⟦<MemorySink as Sink>⟧.given self.new) bytes.now) }
         ensures err { OnErr result (AppendsFront (⟦<MemorySink as Sink>⟧.given self.old) (⟦<MemorySink as Sink>⟧.given self.new) bytes.now) }
-        ensures later { ⟦<MemorySink as Sink>⟧.faults self.old ≤ ⟦<MemorySink as Sink>⟧.faults self.new }
-        ensures cause { IsErrOf result SinkFault.Failed → Rose (⟦<MemorySink as Sink>⟧.faults self.old) (⟦<MemorySink as Sink>⟧.faults self.new) }
+        ensures once { IsErrOf result SinkFault.Failed → ⟦<MemorySink as Sink>⟧.faults self.new ≡ next_count (⟦<MemorySink as Sink>⟧.faults self.old) }
+        ensures otherwise { (IsErrOf result SinkFault.Failed → ⊥) → ⟦<MemorySink as Sink>⟧.faults self.new ≡ ⟦<MemorySink as Sink>⟧.faults self.old }
         ensures failed { IsErrOf result SinkFault.Failed ↔ IsNextToFail (sink_plan self.old) }
         ensures plan { sink_plan self.new ≡ after_call (sink_plan self.old) }
     {
