@@ -1,8 +1,10 @@
 // Files in memory whose calls can be made to fail.
-ghost use Rattle.std.specs.Prelude.{◌≡◌, Some, None, IfOk, OnOk, OnErr};
+ghost use Rattle.std.specs.Prelude.{◌≡◌, ◌≤◌, ◌↔◌, ◌⊎◌, Some, None, IfOk, OnOk, OnErr, IsErrOf};
 ghost use Rattle.std.specs.Option.{option_copied};
-ghost use Rattle.outside_io.specs.Contents.{WhereTold, SameFiles, Sets, TellsAt};
+ghost use Rattle.outside_io.specs.Counts.{next_count};
+ghost use Rattle.outside_io.specs.Contents.{WhereTold, SameFiles, Sets, TellsAt, Creates, MayCreate, AppendsTo, MayAppendTo, ReadsFront, Begins};
 ghost use Rattle.outside_io.specs.Memory.{told_of};
+ghost use Rattle.outside_io.specs.Plan.{IsNextToFail, after_call, files_plan};
 
 use crate::call_plan::CallPlan;
 use crate::counting::Count;
@@ -29,6 +31,7 @@ impl MemoryFiles {
         ensures read_faults { IfOk result (λ s. ⟦<MemoryFiles as Files>⟧.read_faults s ≡ 0) }
         ensures write_faults { IfOk result (λ s. ⟦<MemoryFiles as Files>⟧.write_faults s ≡ 0) }
         ensures reads { IfOk result (λ s. ⟦<MemoryFiles as Files>⟧.reads s ≡ 0) }
+        ensures plan { IfOk result (λ s. files_plan s ≡ record { to_fail = fail.now; calls = 0 }) }
     {
         Ok(MemoryFiles {
             named: NamedBytes::new(alloc),
@@ -47,6 +50,7 @@ impl MemoryFiles {
         ensures read_faults { ⟦<MemoryFiles as Files>⟧.read_faults self.new ≡ ⟦<MemoryFiles as Files>⟧.read_faults self.old }
         ensures write_faults { ⟦<MemoryFiles as Files>⟧.write_faults self.new ≡ ⟦<MemoryFiles as Files>⟧.write_faults self.old }
         ensures reads { ⟦<MemoryFiles as Files>⟧.reads self.new ≡ ⟦<MemoryFiles as Files>⟧.reads self.old }
+        ensures plan { files_plan self.new ≡ files_plan self.old }
     {
         self.named.set(name, bytes)
     }
@@ -70,12 +74,20 @@ impl Files for MemoryFiles {
 
     ghost counts_end = { λ s. (s.read_faults.in_range, s.write_faults.in_range, s.reads.in_range) };
 
-    fn read_front(
-        &mut self,
-        name: &str,
-        limit: usize,
-        into: &mut Vec<u8>,
-    ) -> Result<(), FileFault> {
+    /// Fails exactly where the call's number stands in the list or the name isn't there.
+    fn read_front(&mut self, name: &str, limit: usize, into: &mut Vec<u8>) -> Result<(), FileFault>
+        requires { 1 ≤ limit }
+        ensures ok { OnOk result (ReadsFront (⟦<MemoryFiles as Files>⟧.contents self.old) name.now limit into.old.items into.new.items) }
+        ensures begins { Begins into.old.items into.new.items }
+        ensures same { WhereTold (⟦<MemoryFiles as Files>⟧.contents self.old) (⟦<MemoryFiles as Files>⟧.contents self.new) SameFiles }
+        ensures once { IsErrOf result FileFault.Failed → ⟦<MemoryFiles as Files>⟧.read_faults self.new ≡ next_count (⟦<MemoryFiles as Files>⟧.read_faults self.old) }
+        ensures otherwise { (IsErrOf result FileFault.Failed → ⊥) → ⟦<MemoryFiles as Files>⟧.read_faults self.new ≡ ⟦<MemoryFiles as Files>⟧.read_faults self.old }
+        ensures reads_ok { OnOk result (⟦<MemoryFiles as Files>⟧.reads self.new ≡ next_count (⟦<MemoryFiles as Files>⟧.reads self.old)) }
+        ensures reads_err { OnErr result (⟦<MemoryFiles as Files>⟧.reads self.new ≡ ⟦<MemoryFiles as Files>⟧.reads self.old) }
+        ensures write_faults { ⟦<MemoryFiles as Files>⟧.write_faults self.new ≡ ⟦<MemoryFiles as Files>⟧.write_faults self.old }
+        ensures failed { IsErrOf result FileFault.Failed ↔ (IsNextToFail (files_plan self.old) ⊎ TellsAt (⟦<MemoryFiles as Files>⟧.contents self.old) name.now None) }
+        ensures plan { files_plan self.new ≡ after_call (files_plan self.old) }
+    {
         if self.plan.next_fails() || !self.named.read_front(name, limit, into)? {
             self.read_faults.raise();
             return Err(FileFault::Failed);
@@ -84,7 +96,17 @@ impl Files for MemoryFiles {
         Ok(())
     }
 
-    fn create(&mut self, name: &str) -> Result<(), FileFault> {
+    /// Fails exactly where the call's number stands in the list.
+    fn create(&mut self, name: &str) -> Result<(), FileFault>
+        ensures ok { OnOk result (WhereTold (⟦<MemoryFiles as Files>⟧.contents self.old) (⟦<MemoryFiles as Files>⟧.contents self.new) (Creates name.now)) }
+        ensures err { OnErr result (WhereTold (⟦<MemoryFiles as Files>⟧.contents self.old) (⟦<MemoryFiles as Files>⟧.contents self.new) (MayCreate name.now)) }
+        ensures once { IsErrOf result FileFault.Failed → ⟦<MemoryFiles as Files>⟧.write_faults self.new ≡ next_count (⟦<MemoryFiles as Files>⟧.write_faults self.old) }
+        ensures otherwise { (IsErrOf result FileFault.Failed → ⊥) → ⟦<MemoryFiles as Files>⟧.write_faults self.new ≡ ⟦<MemoryFiles as Files>⟧.write_faults self.old }
+        ensures read_faults { ⟦<MemoryFiles as Files>⟧.read_faults self.new ≡ ⟦<MemoryFiles as Files>⟧.read_faults self.old }
+        ensures reads { ⟦<MemoryFiles as Files>⟧.reads self.new ≡ ⟦<MemoryFiles as Files>⟧.reads self.old }
+        ensures failed { IsErrOf result FileFault.Failed ↔ IsNextToFail (files_plan self.old) }
+        ensures plan { files_plan self.new ≡ after_call (files_plan self.old) }
+    {
         if self.plan.next_fails() {
             self.write_faults.raise();
             return Err(FileFault::Failed);
@@ -93,7 +115,17 @@ impl Files for MemoryFiles {
         Ok(())
     }
 
-    fn append(&mut self, name: &str, bytes: &[u8]) -> Result<(), FileFault> {
+    /// Fails exactly where the call's number stands in the list or the name isn't there.
+    fn append(&mut self, name: &str, bytes: &[u8]) -> Result<(), FileFault>
+        ensures ok { OnOk result (WhereTold (⟦<MemoryFiles as Files>⟧.contents self.old) (⟦<MemoryFiles as Files>⟧.contents self.new) (AppendsTo name.now bytes.now)) }
+        ensures err { OnErr result (WhereTold (⟦<MemoryFiles as Files>⟧.contents self.old) (⟦<MemoryFiles as Files>⟧.contents self.new) (MayAppendTo name.now bytes.now)) }
+        ensures once { IsErrOf result FileFault.Failed → ⟦<MemoryFiles as Files>⟧.write_faults self.new ≡ next_count (⟦<MemoryFiles as Files>⟧.write_faults self.old) }
+        ensures otherwise { (IsErrOf result FileFault.Failed → ⊥) → ⟦<MemoryFiles as Files>⟧.write_faults self.new ≡ ⟦<MemoryFiles as Files>⟧.write_faults self.old }
+        ensures read_faults { ⟦<MemoryFiles as Files>⟧.read_faults self.new ≡ ⟦<MemoryFiles as Files>⟧.read_faults self.old }
+        ensures reads { ⟦<MemoryFiles as Files>⟧.reads self.new ≡ ⟦<MemoryFiles as Files>⟧.reads self.old }
+        ensures failed { IsErrOf result FileFault.Failed ↔ (IsNextToFail (files_plan self.old) ⊎ TellsAt (⟦<MemoryFiles as Files>⟧.contents self.old) name.now None) }
+        ensures plan { files_plan self.new ≡ after_call (files_plan self.old) }
+    {
         if self.plan.next_fails() || !self.named.append(name, bytes)? {
             self.write_faults.raise();
             return Err(FileFault::Failed);

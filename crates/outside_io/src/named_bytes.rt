@@ -1,5 +1,5 @@
 // Files in memory, as a map from names to bytes.
-ghost use Rattle.std.specs.Prelude.{◌≡◌, None, Some, false, IfOk, OnOk, OnErr, MatchBool};
+ghost use Rattle.std.specs.Prelude.{◌≡◌, ◌≢◌, None, Some, false, IfOk, OnOk, OnErr, MatchBool};
 ghost use Rattle.std.specs.Option.{option_copied};
 ghost use Rattle.outside_io.specs.Contents.{Sets, AppendsTo, ReadsFront, SameFiles};
 ghost use Rattle.outside_io.specs.Memory.{told_of};
@@ -50,6 +50,7 @@ impl NamedBytes {
         ensures ok { IfOk result (λ found. MatchBool found (AppendsTo name.now bytes.now (told_of self.old) (told_of self.new)) (told_of self.old name.now ≡ None)) }
         ensures absent { IfOk result (λ found. found ≡ false → SameFiles (told_of self.old) (told_of self.new)) }
         ensures err { OnErr result (SameFiles (told_of self.old) (told_of self.new)) }
+        ensures there { OnErr result (told_of self.old name.now ≢ None) }
     {
         match self.files.get_mut(name) {
             Some(old) => {
@@ -71,6 +72,7 @@ impl NamedBytes {
         ensures ok { IfOk result (λ found. MatchBool found (ReadsFront (Some (told_of self.now)) name.now limit into.old.items into.new.items) (told_of self.now name.now ≡ None)) }
         ensures absent { IfOk result (λ found. found ≡ false → into.new.items ≡ into.old.items) }
         ensures err { OnErr result (into.new.items ≡ into.old.items) }
+        ensures there { OnErr result (told_of self.now name.now ≢ None) }
     {
         match self.get(name) {
             Some(bytes) => {
