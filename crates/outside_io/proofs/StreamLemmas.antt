@@ -6,10 +6,11 @@ use Rattle.std.proofs.Math.Seq.{take-append-add, take-append_seam, take-add}
 
 -- a list that was lengthened still begins with what it had
 pub take-lengthened :
-    (old zeros long : List ℕ) (start most : ℕ) → start ≡ length old → long ≡ take (start + most) old ++ zeros → take start long ≡ old
-take-lengthened old zeros long start most is_start is_long =
+    (old zeros long now : List ℕ) (start most : ℕ) → start ≡ length old → long ≡ take (start + most) old ++ zeros → now ≡ long
+    → take start now ≡ old
+take-lengthened old zeros long now start most is_start is_long is_now =
     let short : length old ≤ start + most = omega arith in
-    ap (take start) is_long
+    ap (take start) (is_now ∙ is_long)
     ∙ ap (λ (f : List ℕ). take start (f ++ zeros)) (take_all (start + most) old short)
     ∙ ap (λ (n : ℕ). take n (old ++ zeros)) is_start
     ∙ take-append_seam old zeros

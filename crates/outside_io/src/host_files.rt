@@ -84,3 +84,6 @@ impl<'a, R: std::rt::Files> Files for HostFiles<'a, R> {
         Err(FileFault::Failed)
     }
 }
+
+#[cfg(test)]
+mod tests;

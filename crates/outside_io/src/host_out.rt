@@ -42,3 +42,17 @@ impl<'a, R: Print> Sink for HostOut<'a, R> {
         Err(SinkFault::Failed)
     }
 }
+
+#[cfg(test)]
+mod tests {
+    use super::*;
+    use std::test::Fail;
+
+    #[test]
+    fn puts_to_the_standard_output(rt: HostRuntime) -> Result<(), Fail> {
+        let mut out = HostOut::new(&rt);
+        out.put(b"")?;
+        out.put(b"one line\n")?;
+        Ok(())
+    }
+}

@@ -133,3 +133,6 @@ impl Files for MemoryFiles {
         Ok(())
     }
 }
+
+#[cfg(test)]
+mod tests;

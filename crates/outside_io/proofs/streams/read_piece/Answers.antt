@@ -9,8 +9,7 @@ returns-in-Ok-clause-ok g c =
     let is_start : c.len-start.result ≡ length c.args.into.now.items = omega (arith, c.args.into.now.ok.0) in
     let is_long = c.in_ok-resize.ensures.len in
     let kept : take c.len-start.result c.deref_mut.result.now ≡ c.args.into.now.items =
-    take-lengthened c.args.into.now.items _ c.deref_mut.result.now c.len-start.result c.args.most is_start
-    (c.deref_mut.ensures.value ∙ c.in_ok-resize.ensures.items)
+    take-lengthened c.args.into.now.items _ _ _ c.len-start.result c.args.most is_start c.in_ok-resize.ensures.items c.deref_mut.ensures.value
     in
     record {
       bytes = take c.in-Ok.came c.read.new.buf;
