@@ -46,13 +46,78 @@ impl<'a, R: Print> Sink for HostOut<'a, R> {
 #[cfg(test)]
 mod tests {
     use super::*;
+    use std::cell::Cell;
+    use std::fmt::Display;
     use std::test::Fail;
 
+    // A standard output that takes two bytes a write, and at its write number `stop`, counted from 1,
+    // refuses or takes nothing. It notes whether it was ever offered other bytes than those left of `due`.
+    #[derive(Drop)]
+    struct Narrow {
+        due: &'static [u8],
+        taken: Cell<usize>,
+        writes: Cell<u8>,
+        strays: Cell<bool>,
+        stop: u8,
+        refuses: bool,
+    }
+
+    impl Print for Narrow {
+        fn print<D: Display + Drop>(&self, _value: D) -> io::Result<()> {
+            Ok(())
+        }
+
+        fn println<D: Display + Drop>(&self, _value: D) -> io::Result<()> {
+            Ok(())
+        }
+
+        fn write_all(&self, _bytes: &[u8]) -> io::Result<()> {
+            Ok(())
+        }
+
+        fn write_some(&self, bytes: &[u8]) -> io::Result<usize> {
+            self.writes.set(self.writes.get().saturating_add(1));
+            if self.writes.get() != self.stop {
+                let at = self.taken.get();
+                if self.due.get(at..) != Some(bytes) {
+                    self.strays.set(true);
+                }
+                let taken = bytes.len().min(2);
+                self.taken.set(at.saturating_add(taken));
+                Ok(taken)
+            } else if self.refuses {
+                Err(io::Error::from(io::ErrorKind::BrokenPipe))
+            } else {
+                Ok(0)
+            }
+        }
+    }
+
     #[test]
-    fn puts_to_the_standard_output(rt: HostRuntime) -> Result<(), Fail> {
-        let mut out = HostOut::new(&rt);
-        out.put(b"")?;
-        out.put(b"one line\n")?;
+    fn puts_every_byte_once_or_fails_where_a_write_does(rt: HostRuntime) -> Result<(), Fail> {
+        HostOut::new(&rt).put(b"one line\n")?;
+        let table = [
+            (0, false, false, 5),
+            (1, true, true, 0),
+            (2, true, true, 2),
+            (3, false, true, 4),
+            (4, true, false, 5),
+        ];
+        for (stop, refuses, fails, taken) in table {
+            let narrow = Narrow {
+                due: b"abcde",
+                taken: Cell::new(0),
+                writes: Cell::new(0),
+                strays: Cell::new(false),
+                stop,
+                refuses,
+            };
+            let mut out = HostOut::new(&narrow);
+            let failed = matches!(out.put(b"abcde"), Err(SinkFault::Failed));
+            assert_eq!(rt; failed, fails, "stop {stop}");
+            assert_eq!(rt; narrow.taken.get(), taken, "stop {stop}");
+            assert!(rt; !narrow.strays.get(), "stop {stop}");
+        }
         Ok(())
     }
 }

@@ -68,3 +68,54 @@ pub fn write_whole<W: Write>(out: &mut W, bytes: &[u8]) -> bool
     }
     true
 }
+
+#[cfg(test)]
+mod tests {
+    use super::*;
+    use std::io;
+    use std::test::Fail;
+
+    // Gives one byte a read, and fails once it has given `until`.
+    #[derive(Drop)]
+    struct Halting {
+        given: u8,
+        until: u8,
+    }
+
+    impl Read for Halting {
+        fn read(&mut self, buf: &mut [u8]) -> io::Result<usize> {
+            if self.given >= self.until {
+                return Err(io::Error::from(io::ErrorKind::TimedOut));
+            }
+            self.given += 1;
+            match buf.first_mut() {
+                Some(first) => {
+                    *first = self.given;
+                    Ok(1)
+                }
+                None => Ok(0),
+            }
+        }
+    }
+
+    #[test]
+    fn keeps_what_came_before_a_read_that_fails(rt: HostRuntime) -> Result<(), Fail> {
+        let table = [
+            (0, b">".as_slice(), true),
+            (2, b">\x01\x02".as_slice(), true),
+            (3, b">\x01\x02\x03".as_slice(), false),
+            (9, b">\x01\x02\x03".as_slice(), false),
+        ];
+        for (until, kept, fails) in table {
+            let mut into = Vec::from_slice(rt.alloc(), b">")?;
+            let mut source = Halting { given: 0, until };
+            let failed = matches!(
+                read_up_to(&mut source, 3, &mut into),
+                Err(FileFault::Failed)
+            );
+            assert_eq!(rt; failed, fails, "until {until}");
+            assert_eq!(rt; into.as_slice(), kept, "until {until}");
+        }
+        Ok(())
+    }
+}
