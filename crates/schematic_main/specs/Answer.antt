@@ -1,0 +1,92 @@
+-- What a run owes: by command, the status and the text that goes with it.
+use Rattle.std.specs.Prelude.{◌≡◌, ℕ, ◌⊎◌, Bool, List, [], ◌∷◌, None, Some}
+use Rattle.std.specs.declared.option.Option.{Option}
+use Rattle.std.specs.Io.KnownBytes.{Appends, Keeps}
+use Rattle.outside_io.specs.Contents.{Told, IsFile, TellsAt}
+use Rattle.outside_io.specs.Given.{AppendsFront}
+use Rattle.plan_core.specs.declared.criterion.Criterion.{Criterion}
+use Rattle.plan_core.specs.declared.criterion.Criterion.TheVariants.{Height, Bends, Diagonal, Width}
+use Rattle.plan_core.specs.Grid.{GridSize, grid_size}
+use Rattle.plan_core.specs.Graph.{Graph, IsTrackGraph}
+use Rattle.plan_core.specs.Drawing.{Drawing}
+use Rattle.plan_core.specs.Values.{IsBest}
+use Rattle.schematic_main.specs.declared.fault.RunFault.{RunFault}
+use Rattle.schematic_main.specs.declared.fault.RunFault.TheVariants.{NotBuilt, ReadFailed}
+use Rattle.schematic_main.specs.Fault.{fault_line, fault_status}
+use Rattle.schematic_main.specs.Words.{Command, Draw, command_of}
+use Rattle.schematic_main.specs.StraightFile.{StraightFile, Spells}
+use Rattle.schematic_main.specs.StraightTrack.{track_of, graph_of, none_above}
+use Rattle.schematic_main.specs.Sheet.{Best, sheet_text}
+
+-- what draw takes where nothing else is said: a grid of 40 by 8, and height before bends before diagonal
+-- length before width
+abbrev pub default_grid : GridSize
+default_grid = grid_size 40 8
+
+abbrev pub default_order : List Criterion
+default_order = Height ∷ Bends ∷ Diagonal ∷ Width ∷ []
+
+-- the text is the sheet of a drawing of this track graph that is lawful, with the drawing's own values,
+-- and no lawful drawing of the graph on this grid is better in this order
+pub record IsBestSheet (g : Graph) (above : ℕ → ℕ → Bool) (grid : GridSize) (order : List Criterion) (text : List ℕ) : Type 0 where
+  pub track_graph : IsTrackGraph g
+  pub drawn : Drawing
+  pub best : IsBest g above grid order drawn
+  pub spelled : text ≡ sheet_text g (record { grid = grid; order = order; found = Some drawn; ending = Best })
+
+-- the fault's status and its line
+pub record IsFault (fault : RunFault) (status : ℕ) (text : List ℕ) : Type 0 where
+  pub status_is : status ≡ fault_status fault
+  pub line_is : text ≡ fault_line fault
+
+-- the bytes are a file with one straight track, and the text is a best sheet of its graph
+pub record IsDrawn (bytes : List ℕ) (status : ℕ) (text : List ℕ) : Type 0 where
+  pub status_is : status ≡ 0
+  pub file : StraightFile
+  pub spelled : Spells bytes file
+  pub sheet : IsBestSheet (graph_of (track_of file)) none_above default_grid default_order text
+
+-- the bytes are no such file, and the answer says that such files aren't drawn yet
+pub record IsTurnedDown (bytes : List ℕ) (status : ℕ) (text : List ℕ) : Type 0 where
+  pub other : (file : StraightFile) → Spells bytes file → ⊥
+  pub fault : IsFault NotBuilt status text
+
+-- what draw answers to the bytes of its file
+abbrev pub IsJudged : List ℕ → ℕ → List ℕ → Type 0
+IsJudged bytes status text = IsDrawn bytes status text ⊎ IsTurnedDown bytes status text
+
+-- what draw answers: it judges the file that stands under the name, or the file couldn't be read
+abbrev pub IsDrawAnswer : List ℕ → Option Told → ℕ → List ℕ → Type 0
+IsDrawAnswer input contents status text =
+    ((bytes : List ℕ) × IsFile contents input bytes × IsJudged bytes status text) ⊎ IsFault (ReadFailed 1) status text
+
+-- what each command answers; words that aren't accepted are answered by not built
+abbrev pub IsAnswerTo : Option Command → Option Told → ℕ → List ℕ → Type 0
+IsAnswerTo None contents status text = IsFault NotBuilt status text
+IsAnswerTo (Some (Draw input)) contents status text = IsDrawAnswer input contents status text
+
+-- with these words and files a run that isn't cut short ends with this status and has put this text
+abbrev pub IsAnswer : List (List ℕ) → Option Told → ℕ → List ℕ → Type 0
+IsAnswer words contents status text = IsAnswerTo (command_of words) contents status text
+
+-- the words ask for the drawing of a file that is told, and that has one straight track
+pub record AsksForStraightTrack (words : List (List ℕ)) (contents : Option Told) : Type 0 where
+  pub input : List ℕ
+  pub accepted : command_of words ≡ Some (Draw input)
+  pub bytes : List ℕ
+  pub there : TellsAt contents input (Some bytes)
+  pub file : StraightFile
+  pub spelled : Spells bytes file
+
+-- a whole text with this property was given
+abbrev pub GivenAll : Option (List ℕ) → Option (List ℕ) → (List ℕ → Type 0) → Type 0
+GivenAll old new P = (text : List ℕ) × P text × Appends old new text
+
+-- nothing was given, or a front of a text with this property
+abbrev pub GivenFront : Option (List ℕ) → Option (List ℕ) → (List ℕ → Type 0) → Type 0
+GivenFront old new P = Keeps old new ⊎ ((text : List ℕ) × P text × AppendsFront old new text)
+
+-- nothing was read: neither count of the files moved
+pub record IsUnread {Self : Type 0} (faults reads : Self → ℕ) (old new : Self) : Type 0 where
+  pub same_faults : faults new ≡ faults old
+  pub same_reads : reads new ≡ reads old

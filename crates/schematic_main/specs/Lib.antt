@@ -1,0 +1,9 @@
+pub mod Words
+pub mod StraightFile
+pub mod StraightReading
+pub mod StraightParts
+pub mod StraightTrack
+pub mod Sheet
+pub mod StraightSheet
+pub mod Fault
+pub mod Answer

@@ -1,0 +1,42 @@
+//! The program `railplan`: the words of the command line, the run of a command, and its answer.
+//!
+//! `run` is the top call. It is generic over the files that it reads and the sink that it puts its
+//! answer to, so its contract can say what was put: `specs/Answer` has what a run owes, by command.
+//! `specs/Words` says which words are accepted, `specs/Fault` which line and which status each
+//! fault has, `specs/Sheet` what a drawing text is, and `specs/StraightFile` and
+//! `specs/StraightTrack` which files are drawn, and what their track graph is.
+//! `main` makes the system's files and output, calls `run` and ends with its status.
+//! The crate stands on all others, and nothing stands on it.
+#![tactic(auto)]
+
+mod fault;
+mod run;
+mod sheet;
+mod straight_file;
+mod straight_track;
+#[cfg(test)]
+mod tests;
+mod words;
+
+use outside_io::{HostFiles, HostOut};
+use run::run;
+use std::env;
+use std::process::ExitCode;
+
+/// The words of the command line, without the program's own name.
+fn command_line(rt: &HostRuntime) -> Option<Vec<String>> {
+    let mut words = env::args(rt).ok()?;
+    let _ = words.next();
+    words.collect(rt.alloc()).ok()
+}
+
+fn main(rt: HostRuntime) -> ExitCode {
+    match command_line(&rt) {
+        Some(words) => {
+            let mut files = HostFiles::new(&rt);
+            let mut out = HostOut::new(&rt);
+            ExitCode::from(run(rt.alloc(), &words, &mut files, &mut out))
+        }
+        None => ExitCode::from(10),
+    }
+}
