@@ -1,6 +1,8 @@
 pub mod Counts
 pub mod Contents
 pub mod Given
-pub mod Memory
+pub mod NamedBytes
 pub mod Plan
+pub mod MemoryFiles
+pub mod MemorySink
 pub mod Streams

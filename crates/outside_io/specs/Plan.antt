@@ -1,8 +1,6 @@
 -- Calls on an object in memory that are to fail by their number.
 use Rattle.std.specs.Prelude.{ℕ, List, Contains}
 use Rattle.outside_io.specs.declared.call_plan.CallPlan.{CallPlan}
-use Rattle.outside_io.specs.declared.memory_files.MemoryFiles.{MemoryFiles}
-use Rattle.outside_io.specs.declared.memory_sink.MemorySink.{MemorySink}
 use Rattle.outside_io.specs.Counts.{next_count}
 
 -- the numbers of the calls that are to fail, and how many calls there were; the first has the number 1
@@ -20,9 +18,3 @@ after_call plan = record plan { calls = next_count plan.calls }
 
 abbrev pub plan_of : CallPlan → Plan
 plan_of plan = record { to_fail = plan.to_fail.items; calls = plan.calls.value }
-
-abbrev pub files_plan : MemoryFiles → Plan
-files_plan files = plan_of files.plan
-
-abbrev pub sink_plan : MemorySink → Plan
-sink_plan sink = plan_of sink.plan

@@ -1,10 +1,9 @@
 // Files in memory whose calls can be made to fail.
 ghost use Rattle.std.specs.Prelude.{◌≡◌, ◌≤◌, ◌↔◌, ◌⊎◌, Some, None, IfOk, OnOk, OnErr, IsErrOf};
 ghost use Rattle.std.specs.Option.{option_copied};
-ghost use Rattle.outside_io.specs.Counts.{next_count};
 ghost use Rattle.outside_io.specs.Contents.{WhereTold, SameFiles, Sets, TellsAt, Creates, MayCreate, AppendsTo, MayAppendTo, ReadsFront, Begins};
-ghost use Rattle.outside_io.specs.Memory.{told_of};
-ghost use Rattle.outside_io.specs.Plan.{IsNextToFail, after_call, files_plan};
+ghost use Rattle.outside_io.specs.MemoryFiles.{files_told, files_plan, files_counts, after_read, after_write};
+ghost use Rattle.outside_io.specs.Plan.{IsNextToFail, after_call};
 
 use crate::call_plan::CallPlan;
 use crate::counting::Count;
@@ -64,7 +63,7 @@ impl MemoryFiles {
 }
 
 impl Files for MemoryFiles {
-    ghost contents = { λ s. Some (told_of s.named) };
+    ghost contents = { λ s. Some (files_told s) };
 
     ghost read_faults = { λ s. s.read_faults.value };
 
@@ -77,15 +76,11 @@ impl Files for MemoryFiles {
     /// Fails exactly where the call's number stands in the list or the name isn't there.
     fn read_front(&mut self, name: &str, limit: usize, into: &mut Vec<u8>) -> Result<(), FileFault>
         requires { 1 ≤ limit }
-        ensures ok { OnOk result (ReadsFront (⟦<MemoryFiles as Files>⟧.contents self.old) name.now limit into.old.items into.new.items) }
+        ensures ok { OnOk result (ReadsFront (Some (files_told self.old)) name.now limit into.old.items into.new.items) }
         ensures begins { Begins into.old.items into.new.items }
-        ensures same { WhereTold (⟦<MemoryFiles as Files>⟧.contents self.old) (⟦<MemoryFiles as Files>⟧.contents self.new) SameFiles }
-        ensures once { IsErrOf result FileFault.Failed → ⟦<MemoryFiles as Files>⟧.read_faults self.new ≡ next_count (⟦<MemoryFiles as Files>⟧.read_faults self.old) }
-        ensures otherwise { (IsErrOf result FileFault.Failed → ⊥) → ⟦<MemoryFiles as Files>⟧.read_faults self.new ≡ ⟦<MemoryFiles as Files>⟧.read_faults self.old }
-        ensures reads_ok { OnOk result (⟦<MemoryFiles as Files>⟧.reads self.new ≡ next_count (⟦<MemoryFiles as Files>⟧.reads self.old)) }
-        ensures reads_err { OnErr result (⟦<MemoryFiles as Files>⟧.reads self.new ≡ ⟦<MemoryFiles as Files>⟧.reads self.old) }
-        ensures write_faults { ⟦<MemoryFiles as Files>⟧.write_faults self.new ≡ ⟦<MemoryFiles as Files>⟧.write_faults self.old }
-        ensures failed { IsErrOf result FileFault.Failed ↔ (IsNextToFail (files_plan self.old) ⊎ TellsAt (⟦<MemoryFiles as Files>⟧.contents self.old) name.now None) }
+        ensures same { SameFiles (files_told self.old) (files_told self.new) }
+        ensures counts { files_counts self.new ≡ after_read result (files_counts self.old) }
+        ensures failed { IsErrOf result FileFault.Failed ↔ (IsNextToFail (files_plan self.old) ⊎ (files_told self.old name.now ≡ None)) }
         ensures plan { files_plan self.new ≡ after_call (files_plan self.old) }
     {
         if self.plan.next_fails() || !self.named.read_front(name, limit, into)? {
@@ -98,12 +93,9 @@ impl Files for MemoryFiles {
 
     /// Fails exactly where the call's number stands in the list.
     fn create(&mut self, name: &str) -> Result<(), FileFault>
-        ensures ok { OnOk result (WhereTold (⟦<MemoryFiles as Files>⟧.contents self.old) (⟦<MemoryFiles as Files>⟧.contents self.new) (Creates name.now)) }
-        ensures err { OnErr result (WhereTold (⟦<MemoryFiles as Files>⟧.contents self.old) (⟦<MemoryFiles as Files>⟧.contents self.new) (MayCreate name.now)) }
-        ensures once { IsErrOf result FileFault.Failed → ⟦<MemoryFiles as Files>⟧.write_faults self.new ≡ next_count (⟦<MemoryFiles as Files>⟧.write_faults self.old) }
-        ensures otherwise { (IsErrOf result FileFault.Failed → ⊥) → ⟦<MemoryFiles as Files>⟧.write_faults self.new ≡ ⟦<MemoryFiles as Files>⟧.write_faults self.old }
-        ensures read_faults { ⟦<MemoryFiles as Files>⟧.read_faults self.new ≡ ⟦<MemoryFiles as Files>⟧.read_faults self.old }
-        ensures reads { ⟦<MemoryFiles as Files>⟧.reads self.new ≡ ⟦<MemoryFiles as Files>⟧.reads self.old }
+        ensures ok { OnOk result (Creates name.now (files_told self.old) (files_told self.new)) }
+        ensures err { OnErr result (MayCreate name.now (files_told self.old) (files_told self.new)) }
+        ensures counts { files_counts self.new ≡ after_write result (files_counts self.old) }
         ensures failed { IsErrOf result FileFault.Failed ↔ IsNextToFail (files_plan self.old) }
         ensures plan { files_plan self.new ≡ after_call (files_plan self.old) }
     {
@@ -117,13 +109,10 @@ impl Files for MemoryFiles {
 
     /// Fails exactly where the call's number stands in the list or the name isn't there.
     fn append(&mut self, name: &str, bytes: &[u8]) -> Result<(), FileFault>
-        ensures ok { OnOk result (WhereTold (⟦<MemoryFiles as Files>⟧.contents self.old) (⟦<MemoryFiles as Files>⟧.contents self.new) (AppendsTo name.now bytes.now)) }
-        ensures err { OnErr result (WhereTold (⟦<MemoryFiles as Files>⟧.contents self.old) (⟦<MemoryFiles as Files>⟧.contents self.new) (MayAppendTo name.now bytes.now)) }
-        ensures once { IsErrOf result FileFault.Failed → ⟦<MemoryFiles as Files>⟧.write_faults self.new ≡ next_count (⟦<MemoryFiles as Files>⟧.write_faults self.old) }
-        ensures otherwise { (IsErrOf result FileFault.Failed → ⊥) → ⟦<MemoryFiles as Files>⟧.write_faults self.new ≡ ⟦<MemoryFiles as Files>⟧.write_faults self.old }
-        ensures read_faults { ⟦<MemoryFiles as Files>⟧.read_faults self.new ≡ ⟦<MemoryFiles as Files>⟧.read_faults self.old }
-        ensures reads { ⟦<MemoryFiles as Files>⟧.reads self.new ≡ ⟦<MemoryFiles as Files>⟧.reads self.old }
-        ensures failed { IsErrOf result FileFault.Failed ↔ (IsNextToFail (files_plan self.old) ⊎ TellsAt (⟦<MemoryFiles as Files>⟧.contents self.old) name.now None) }
+        ensures ok { OnOk result (AppendsTo name.now bytes.now (files_told self.old) (files_told self.new)) }
+        ensures err { OnErr result (MayAppendTo name.now bytes.now (files_told self.old) (files_told self.new)) }
+        ensures counts { files_counts self.new ≡ after_write result (files_counts self.old) }
+        ensures failed { IsErrOf result FileFault.Failed ↔ (IsNextToFail (files_plan self.old) ⊎ (files_told self.old name.now ≡ None)) }
         ensures plan { files_plan self.new ≡ after_call (files_plan self.old) }
     {
         if self.plan.next_fails() || !self.named.append(name, bytes)? {

@@ -2,7 +2,7 @@
 ghost use Rattle.std.specs.Prelude.{◌≡◌, ◌≢◌, None, Some, false, IfOk, OnOk, OnErr, MatchBool};
 ghost use Rattle.std.specs.Option.{option_copied};
 ghost use Rattle.outside_io.specs.Contents.{Sets, AppendsTo, ReadsFront, SameFiles};
-ghost use Rattle.outside_io.specs.Memory.{told_of};
+ghost use Rattle.outside_io.specs.NamedBytes.{told_of};
 
 use plan_core::OutOfMemory;
 use std::alloc::Global;

@@ -3,7 +3,7 @@ ghost use Rattle.std.specs.Prelude.{◌≡◌, [], Some, OnOk, OnErr};
 ghost use Rattle.std.specs.Option.{option_copied};
 ghost use Rattle.outside_io.specs.Contents.{WhereTold, SameFiles, Sets, TellsAt};
 ghost use Rattle.outside_io.specs.Counts.{none_counted};
-ghost use Rattle.outside_io.specs.Memory.{sure_of};
+ghost use Rattle.outside_io.specs.NamedBytes.{sure_of};
 
 use crate::counting::Count;
 use crate::named_bytes::NamedBytes;

@@ -1,4 +1,4 @@
--- What the implementations in memory hold, as contracts see it.
+-- The bytes that stand under names in memory, as contracts see them.
 use Rattle.std.specs.Prelude.{[], Some, unwrap_or}
 use Rattle.std.specs.Option.{option_map}
 use Rattle.std.specs.BTreeMap.{get_by_text}
