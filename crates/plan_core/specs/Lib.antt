@@ -6,3 +6,6 @@ pub mod Drawing
 pub mod Laws
 pub mod Lawful
 pub mod Values
+pub mod Examples
+pub mod Breaches
+pub mod Readings

@@ -51,3 +51,32 @@ impl Grid {
         self.height
     }
 }
+
+#[cfg(test)]
+mod tests {
+    use super::*;
+
+    #[test]
+    fn a_grid_has_1_to_64_columns_and_0_to_12_rows(rt: HostRuntime) {
+        let cases = [
+            (40, 8, true),
+            (1, 0, true),
+            (64, 12, true),
+            (0, 8, false),
+            (65, 8, false),
+            (40, 13, false),
+            (0, 13, false),
+            (u16::MAX, u16::MAX, false),
+        ];
+        for (width, height, is_grid) in cases {
+            match Grid::new(width, height) {
+                Some(grid) => {
+                    assert!(rt; is_grid, "{width} by {height}");
+                    assert_eq!(rt; grid.width(), width);
+                    assert_eq!(rt; grid.height(), height);
+                }
+                None => assert!(rt; !is_grid, "{width} by {height}"),
+            }
+        }
+    }
+}

@@ -31,3 +31,6 @@ pub use text::Text;
 pub use topology::{
     Conn, End, Inner, InnerKind, InnerList, Part, Place, Topology, Track, TrackList,
 };
+
+#[cfg(test)]
+mod examples;
