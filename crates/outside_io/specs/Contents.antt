@@ -59,9 +59,9 @@ abbrev pub Begins : List ℕ → List ℕ → Type 0
 Begins old new = (more : List ℕ) × (new ≡ old ++ more)
 
 -- the file has these bytes, or isn't told
-abbrev pub IsFile : Option Told → List ℕ → List ℕ → Type 0
-IsFile None name bytes = ⊤
-IsFile (Some told) name bytes = told name ≡ Some bytes
+abbrev pub IsFileWhereTold : Option Told → List ℕ → List ℕ → Type 0
+IsFileWhereTold None name bytes = ⊤
+IsFileWhereTold (Some told) name bytes = told name ≡ Some bytes
 
 -- the contents are told, and this is what they tell of the name
 abbrev pub TellsAt : Option Told → List ℕ → Option (List ℕ) → Type 0

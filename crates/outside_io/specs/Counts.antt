@@ -1,5 +1,5 @@
 -- Counts that never fall, and stand still at their end.
-use Rattle.std.specs.Prelude.{ℕ, ◌+◌, ◌-◌, ◌^◌, ◌≤◌, min}
+use Rattle.std.specs.Prelude.{ℕ, zero, suc, ◌+◌, ◌-◌, ◌^◌, ◌≤◌, min}
 use Rattle.std.proofs.Common.{lit≤}
 
 -- where every count ends: the greatest number of 64 bits
@@ -21,3 +21,8 @@ Rose before now = next_count before ≤ now
 -- every count begins at 0
 pub none_counted : IsCount 0
 none_counted = lit≤ tt
+
+-- so many more, or the end
+abbrev pub rose_by : ℕ → ℕ → ℕ
+rose_by zero n = n
+rose_by (suc more) n = next_count (rose_by more n)

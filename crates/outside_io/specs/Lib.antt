@@ -2,7 +2,7 @@ pub mod Counts
 pub mod Contents
 pub mod Given
 pub mod NamedBytes
-pub mod Plan
+pub mod FailingCalls
 pub mod MemoryFiles
 pub mod MemorySink
 pub mod Streams

@@ -7,13 +7,13 @@ use Rattle.outside_io.specs.declared.memory_files.MemoryFiles.{MemoryFiles}
 use Rattle.outside_io.specs.Contents.{Told}
 use Rattle.outside_io.specs.Counts.{next_count}
 use Rattle.outside_io.specs.NamedBytes.{told_of}
-use Rattle.outside_io.specs.Plan.{Plan, plan_of}
+use Rattle.outside_io.specs.FailingCalls.{FailingCalls, plan_of}
 
 -- the bytes under each name
 abbrev pub files_told : MemoryFiles → Told
 files_told files = told_of files.named
 
-abbrev pub files_plan : MemoryFiles → Plan
+abbrev pub files_plan : MemoryFiles → FailingCalls
 files_plan files = plan_of files.plan
 
 pub record FileCounts : Type 0 where

@@ -5,12 +5,12 @@ use Rattle.outside_io.specs.declared.memory_sink.MemorySink.{MemorySink}
 use Rattle.outside_io.specs.declared.sink.SinkFault.{SinkFault}
 use Rattle.outside_io.specs.declared.sink.SinkFault.TheVariants.{Failed, Memory}
 use Rattle.outside_io.specs.Counts.{next_count}
-use Rattle.outside_io.specs.Plan.{Plan, plan_of}
+use Rattle.outside_io.specs.FailingCalls.{FailingCalls, plan_of}
 
 abbrev pub sink_bytes : MemorySink → List ℕ
 sink_bytes sink = sink.bytes.items
 
-abbrev pub sink_plan : MemorySink → Plan
+abbrev pub sink_plan : MemorySink → FailingCalls
 sink_plan sink = plan_of sink.plan
 
 abbrev pub sink_faults : MemorySink → ℕ

@@ -1,6 +1,6 @@
 // Which calls on an object in memory are to fail.
 ghost use Rattle.std.specs.Prelude.{◌≡◌, ◌↔◌, IfOk, IsTrue};
-ghost use Rattle.outside_io.specs.Plan.{IsNextToFail, after_call, plan_of};
+ghost use Rattle.outside_io.specs.FailingCalls.{IsNextToFail, after_call, plan_of};
 
 use crate::counting::Count;
 use plan_core::OutOfMemory;

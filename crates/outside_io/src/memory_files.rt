@@ -3,7 +3,7 @@ ghost use Rattle.std.specs.Prelude.{◌≡◌, ◌≤◌, ◌↔◌, ◌⊎◌, 
 ghost use Rattle.std.specs.Option.{option_copied};
 ghost use Rattle.outside_io.specs.Contents.{WhereTold, SameFiles, Sets, TellsAt, Creates, MayCreate, AppendsTo, MayAppendTo, ReadsFront, Begins};
 ghost use Rattle.outside_io.specs.MemoryFiles.{files_told, files_plan, files_counts, after_read, after_write};
-ghost use Rattle.outside_io.specs.Plan.{IsNextToFail, after_call};
+ghost use Rattle.outside_io.specs.FailingCalls.{IsNextToFail, after_call};
 
 use crate::call_plan::CallPlan;
 use crate::counting::Count;

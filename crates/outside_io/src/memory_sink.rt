@@ -1,8 +1,8 @@
 // A sink in memory whose calls can be made to fail.
 ghost use Rattle.std.specs.Prelude.{◌≡◌, ◌↔◌, ◌++◌, [], Some, IfOk, OnOk, OnErr, IsErrOf};
-ghost use Rattle.outside_io.specs.Given.{AppendsFront};
+ghost use Rattle.outside_io.specs.Given.{AppendsPrefix};
 ghost use Rattle.outside_io.specs.MemorySink.{sink_bytes, sink_plan, sink_faults, after_put};
-ghost use Rattle.outside_io.specs.Plan.{IsNextToFail, after_call};
+ghost use Rattle.outside_io.specs.FailingCalls.{IsNextToFail, after_call};
 
 use crate::call_plan::CallPlan;
 use crate::counting::Count;
@@ -51,7 +51,7 @@ impl Sink for MemorySink {
     /// Fails exactly where the call's number stands in the list.
     fn put(&mut self, bytes: &[u8]) -> Result<(), SinkFault>
         ensures ok { OnOk result (sink_bytes self.new ≡ sink_bytes self.old ++ bytes.now) }
-        ensures err { OnErr result (AppendsFront (Some (sink_bytes self.old)) (Some (sink_bytes self.new)) bytes.now) }
+        ensures err { OnErr result (AppendsPrefix (Some (sink_bytes self.old)) (Some (sink_bytes self.new)) bytes.now) }
         ensures count { sink_faults self.new ≡ after_put result (sink_faults self.old) }
         ensures failed { IsErrOf result SinkFault.Failed ↔ IsNextToFail (sink_plan self.old) }
         ensures plan { sink_plan self.new ≡ after_call (sink_plan self.old) }

@@ -4,7 +4,7 @@ ghost use Rattle.std.specs.declared.option.Option.{Option};
 ghost use Rattle.std.specs.Io.KnownBytes.{Appends};
 ghost use Rattle.outside_io.specs.declared.sink.SinkFault.TheVariants.{Memory};
 ghost use Rattle.outside_io.specs.Counts.{IsCount, Rose};
-ghost use Rattle.outside_io.specs.Given.{AppendsFront};
+ghost use Rattle.outside_io.specs.Given.{AppendsPrefix};
 
 use plan_core::OutOfMemory;
 use std::alloc::{AllocError, AllocFailed};
@@ -57,7 +57,7 @@ pub trait Sink {
     /// Adds the bytes. After an error some of them may have been added, from the first on.
     fn put(&mut self, bytes: &[u8]) -> Result<(), SinkFault>
         ensures ok { OnOk result (Appends (given self.old) (given self.new) bytes.now) }
-        ensures err { OnErr result (AppendsFront (given self.old) (given self.new) bytes.now) }
+        ensures err { OnErr result (AppendsPrefix (given self.old) (given self.new) bytes.now) }
         ensures later { faults self.old ≤ faults self.new }
         ensures cause { IsErrOf result SinkFault.Failed → Rose (faults self.old) (faults self.new) };
 

@@ -2,7 +2,7 @@
 ghost use Rattle.std.specs.Prelude.{◌≡◌, ◌≤◌, ◌++◌, [], None, take, IfOk, IfSome, OnOk, OnErr, MatchBool};
 ghost use Rattle.std.specs.Io.KnownBytes.{Appends};
 ghost use Rattle.outside_io.specs.Contents.{ReadsFront, Begins};
-ghost use Rattle.outside_io.specs.Given.{AppendsFront};
+ghost use Rattle.outside_io.specs.Given.{AppendsPrefix};
 ghost use Rattle.outside_io.specs.Streams.{AddsPiece};
 
 use crate::FileFault;
@@ -57,7 +57,7 @@ fn read_piece<S: Read>(source: &mut S, most: usize, into: &mut Vec<u8>) -> Resul
 
 /// Writes all bytes, and tells whether it could. A write that failed or took nothing ends it.
 pub fn write_whole<W: Write>(out: &mut W, bytes: &[u8]) -> bool
-    ensures { MatchBool result (Appends (W.contents out.old) (W.contents out.new) bytes.now) (AppendsFront (W.contents out.old) (W.contents out.new) bytes.now) }
+    ensures { MatchBool result (Appends (W.contents out.old) (W.contents out.new) bytes.now) (AppendsPrefix (W.contents out.old) (W.contents out.new) bytes.now) }
 {
     let mut rest = bytes;
     while !rest.is_empty() {

@@ -1,5 +1,5 @@
--- Drawings taken at random, and what a judge that was written apart from the definitions says of each:
--- the broken instances in their order, and the values.
+-- Drawings taken at random, and what bench/sample_drawings.py, which was written apart from the
+-- definitions, says of each: the broken instances in their order, and the values.
 use Rattle.std.proofs.Common.{◌≡◌, ℕ, Bool, List, [], ◌∷◌, refl}
 use Rattle.plan_core.specs.declared.criterion.Values.{Values}
 use Rattle.plan_core.specs.declared.sides.Compass.TheVariants.{East, West}

@@ -37,8 +37,8 @@ InOrder Greater u_x v_x = v_x ≤ u_x
 abbrev pub NodesAreOrdered : Graph → Drawing → ℕ → ℕ → Type 0
 NodesAreOrdered g d u v = InOrder (int_cmp (mileage g u) (mileage g v)) (place d u).x (place d v).x
 
--- Law 3: the edge's line begins at its west node's point and ends at its east node's point. What the
--- grid may ask of an edge belongs here.
+-- Law 3: the edge's line begins at its west node's point and ends at its east node's point. It is
+-- handed the grid, as law 1 is, and asks nothing of it.
 
 pub record LineJoinsItsNodes (g : Graph) (grid : GridSize) (d : Drawing) (e : ℕ) : Type 0 where
   pub begins : west_end (line d e) ≡ place d (edge g e).west

@@ -5,6 +5,7 @@ pub mod Line
 pub mod Drawing
 pub mod Laws
 pub mod Lawful
+pub mod Topology
 pub mod Values
 pub mod Examples
 pub mod Breaches

@@ -3,8 +3,10 @@
 //! `src/` has the numbers, the grid, the order of criteria, texts and lists, and the rows of a
 //! topology. `specs/` has the definitions that the whole product is judged by, over plain lists:
 //! `Graph` (nodes, edges and ports), `Line` (the eleven shapes), `Drawing`, `Laws` (each law's
-//! sentence for its parties), `Lawful` (all laws for all parties) and `Values` (what a drawing
-//! measures, and which of two is better). `docs/definitions.md` states each in plain words.
+//! sentence for its parties), `Lawful` (all laws for all parties), `Values` (what a drawing measures,
+//! and which of two is better) and `Topology` (what was resolved from a file). Of these, `Examples`,
+//! `Breaches` and `Readings` have examples and other words, and `src/examples.rt`, which only tests
+//! have, states what holds of them. `docs/definitions.md` states each definition in plain words.
 //! Every other crate stands on this one, and it stands on none.
 #![tactic(auto)]
 

@@ -9,7 +9,7 @@ pub struct NodeNo(pub u16);
 pub struct EdgeNo(pub u16);
 
 /// The rank of a node's mileage among the distinct mileages of all nodes, counted from 0 in the west;
-/// no column of the grid.
+/// not a column of the grid.
 #[derive(Clone, Copy, Debug, PartialEq, Eq)]
 pub struct ColumnNo(pub u16);
 

@@ -17,10 +17,10 @@ pub struct Drawing {
 
 impl Model for Drawing {
     ghost use Rattle.std.specs.Prelude.{◌≤◌, length};
-    ghost use Rattle.plan_core.specs.Drawing.{Drawing as Plan, drawing};
+    ghost use Rattle.plan_core.specs.Drawing.{Drawing as PlainDrawing, drawing};
     ghost use Rattle.plan_geometry.specs.Limits.{IsWithinLimits};
 
-    ghost Value = { Plan };
+    ghost Value = { PlainDrawing };
 
     ghost view = { λ d. drawing d.places.items d.lines.items };
 

@@ -14,6 +14,8 @@ mod drawing;
 mod line;
 mod measuring;
 mod pieces;
+#[cfg(test)]
+mod tests;
 
 pub use comparing::better;
 pub use drawing::Drawing;

@@ -6,9 +6,9 @@ use Rattle.std.specs.Char.{is_ascii_digit, is_ascii_alphanumeric}
 use Rattle.std.specs.declared.option.Option.{Option}
 use Rattle.std.proofs.lemmas.Bool.{and_parts, leb-true}
 use Rattle.std.proofs.lemmas.List.{take_all, length-take, length-append}
-use Rattle.outside_io.specs.Contents.{Told, ReadsFront}
+use Rattle.outside_io.specs.Contents.{Told, ReadsFront, IsFileWhereTold}
 use Rattle.schematic_main.specs.StraightFile.{StraightFile, IsStraightFile, Spells, is_id, is_number, file_text}
-use Rattle.schematic_main.specs.Answer.{IsDrawn, IsJudged, IsDrawAnswer}
+use Rattle.schematic_main.specs.Answer.{IsDrawn, IsJudged}
 
 id_few : (word : List ℕ) → is_id word ≡ true → length word ≤ 64
 id_few word h =
@@ -61,9 +61,9 @@ judged_whole limit bytes status text large (inr down) = inr (record {
 })
 
 -- the answer to bytes that are a file's front
-pub from_front : (contents : Option Told) (name old new : List ℕ) (limit status : ℕ) (text : List ℕ) → 1001 < limit → old ≡ [] → ReadsFront contents name limit old new → IsJudged new status text → IsDrawAnswer name contents status text
-from_front None name old new limit status text large empty read judged = inl (new, tt, judged)
+pub from_front : (contents : Option Told) (name old new : List ℕ) (limit status : ℕ) (text : List ℕ) → 1001 < limit → old ≡ [] → ReadsFront contents name limit old new → IsJudged new status text → (bytes : List ℕ) × IsFileWhereTold contents name bytes × IsJudged bytes status text
+from_front None name old new limit status text large empty read judged = (new, tt, judged)
 from_front (Some told) name old new limit status text large empty read judged =
     let same : new ≡ take limit read.0 = read.2 ∙ ap (λ xs. xs ++ take limit read.0) empty in
     let P : List ℕ → Type 0 = λ xs. IsJudged xs status text in
-    inl (read.0, read.1, judged_whole limit read.0 status text large (subst P same judged))
+    (read.0, read.1, judged_whole limit read.0 status text large (subst P same judged))

@@ -2,8 +2,9 @@
 use Rattle.std.specs.Prelude.{◌≡◌, ℕ, ◌⊎◌, Bool, List, [], ◌∷◌, None, Some}
 use Rattle.std.specs.declared.option.Option.{Option}
 use Rattle.std.specs.Io.KnownBytes.{Appends, Keeps}
-use Rattle.outside_io.specs.Contents.{Told, IsFile, TellsAt}
-use Rattle.outside_io.specs.Given.{AppendsFront}
+use Rattle.outside_io.specs.Contents.{Told, IsFileWhereTold, TellsAt}
+use Rattle.outside_io.specs.Counts.{Rose, rose_by}
+use Rattle.outside_io.specs.Given.{AppendsPrefix}
 use Rattle.plan_core.specs.declared.criterion.Criterion.{Criterion}
 use Rattle.plan_core.specs.declared.criterion.Criterion.TheVariants.{Height, Bends, Diagonal, Width}
 use Rattle.plan_core.specs.Grid.{GridSize, grid_size}
@@ -55,19 +56,27 @@ pub record IsTurnedDown (bytes : List ℕ) (status : ℕ) (text : List ℕ) : Ty
 abbrev pub IsJudged : List ℕ → ℕ → List ℕ → Type 0
 IsJudged bytes status text = IsDrawn bytes status text ⊎ IsTurnedDown bytes status text
 
--- what draw answers: it judges the file that stands under the name, or the file couldn't be read
-abbrev pub IsDrawAnswer : List ℕ → Option Told → ℕ → List ℕ → Type 0
-IsDrawAnswer input contents status text =
-    ((bytes : List ℕ) × IsFile contents input bytes × IsJudged bytes status text) ⊎ IsFault (ReadFailed 1) status text
+-- an input couldn't be read: the count of read faults rose, and so many reads had been done before
+pub record ReadFails {Self : Type 0} (faults reads : Self → ℕ) (old new : Self) (before : ℕ) : Type 0 where
+  pub rose : Rose (faults old) (faults new)
+  pub done : reads new ≡ rose_by before (reads old)
+
+-- what draw answers: it judges the file that stands under the name, or the file couldn't be read.
+-- fails n says that in this run a read failed after n reads
+abbrev pub IsDrawAnswer : List ℕ → Option Told → (ℕ → Type 0) → ℕ → List ℕ → Type 0
+IsDrawAnswer input contents fails status text =
+    ((bytes : List ℕ) × IsFileWhereTold contents input bytes × IsJudged bytes status text)
+    ⊎ (fails 0 × IsFault (ReadFailed 1) status text)
 
 -- what each command answers; words that aren't accepted are answered by not built
-abbrev pub IsAnswerTo : Option Command → Option Told → ℕ → List ℕ → Type 0
-IsAnswerTo None contents status text = IsFault NotBuilt status text
-IsAnswerTo (Some (Draw input)) contents status text = IsDrawAnswer input contents status text
+abbrev pub IsAnswerTo : Option Command → Option Told → (ℕ → Type 0) → ℕ → List ℕ → Type 0
+IsAnswerTo None contents fails status text = IsFault NotBuilt status text
+IsAnswerTo (Some (Draw input)) contents fails status text = IsDrawAnswer input contents fails status text
 
--- with these words and files a run that isn't cut short ends with this status and has put this text
-abbrev pub IsAnswer : List (List ℕ) → Option Told → ℕ → List ℕ → Type 0
-IsAnswer words contents status text = IsAnswerTo (command_of words) contents status text
+-- with these words and files, and this fact on failed reads, a run that isn't cut short ends with this
+-- status and has put this text
+abbrev pub IsAnswer : List (List ℕ) → Option Told → (ℕ → Type 0) → ℕ → List ℕ → Type 0
+IsAnswer words contents fails status text = IsAnswerTo (command_of words) contents fails status text
 
 -- the words ask for the drawing of a file that is told, and that has one straight track
 pub record AsksForStraightTrack (words : List (List ℕ)) (contents : Option Told) : Type 0 where
@@ -82,11 +91,11 @@ pub record AsksForStraightTrack (words : List (List ℕ)) (contents : Option Tol
 abbrev pub GivenAll : Option (List ℕ) → Option (List ℕ) → (List ℕ → Type 0) → Type 0
 GivenAll old new P = (text : List ℕ) × P text × Appends old new text
 
--- nothing was given, or a front of a text with this property
-abbrev pub GivenFront : Option (List ℕ) → Option (List ℕ) → (List ℕ → Type 0) → Type 0
-GivenFront old new P = Keeps old new ⊎ ((text : List ℕ) × P text × AppendsFront old new text)
+-- nothing was given, or a prefix of a text with this property
+abbrev pub GivenPrefix : Option (List ℕ) → Option (List ℕ) → (List ℕ → Type 0) → Type 0
+GivenPrefix old new P = Keeps old new ⊎ ((text : List ℕ) × P text × AppendsPrefix old new text)
 
--- nothing was read: neither count of the files moved
+-- nothing was read: neither the number of reads done nor the count of their faults rose
 pub record IsUnread {Self : Type 0} (faults reads : Self → ℕ) (old new : Self) : Type 0 where
   pub same_faults : faults new ≡ faults old
   pub same_reads : reads new ≡ reads old

@@ -12,8 +12,8 @@ use Rattle.plan_core.specs.Graph.{Graph, node, edge}
 use Rattle.plan_core.specs.Drawing.{Drawing, place, line}
 use Rattle.plan_core.specs.Values.{values_of}
 
--- how a drawing text ends: the drawing is best, there is none, or the search was cut short with so many
--- criteria settled, for want of conflicts or of room
+-- how a drawing text ends: the drawing is best, there is none, or the search was cut short because its
+-- budget of conflicts was spent or its room was full; so many criteria were settled by then
 pub data Ending : Type 0 where
   Best : Ending
   NoDrawing : Ending

@@ -4,7 +4,7 @@ ghost use Rattle.outside_io.specs.Counts.{Rose};
 ghost use Rattle.outside_io.specs.Contents.{WhereTold, SameFiles};
 ghost use Rattle.schematic_main.specs.declared.fault.RunFault.TheVariants.{NotBuilt, ReadFailed};
 ghost use Rattle.schematic_main.specs.Words.{texts_of, command_of};
-ghost use Rattle.schematic_main.specs.Answer.{IsFault, IsJudged, IsDrawAnswer, IsAnswer, AsksForStraightTrack, IsUnread, GivenAll, GivenFront};
+ghost use Rattle.schematic_main.specs.Answer.{IsFault, IsJudged, IsDrawAnswer, IsAnswer, AsksForStraightTrack, IsUnread, ReadFails, GivenAll, GivenPrefix};
 
 use crate::fault::RunFault;
 use crate::straight_file::straight_file_in;
@@ -48,8 +48,8 @@ fn judge(alloc: Global, bytes: &[u8]) -> Result<Reply, OutOfMemory>
 
 /// What `draw` answers.
 fn draw<F: Files>(alloc: Global, input: &str, files: &mut F) -> Result<Reply, OutOfMemory>
-    ensures answer { IfOk result (λ r. IsDrawAnswer input.now (F.contents files.old) r.status r.text.items) }
-    ensures read_fault { IfOk result (λ r. r.status ≡ 5 → Rose (F.read_faults files.old) (F.read_faults files.new) × (F.reads files.new ≡ F.reads files.old)) }
+    ensures answer { IfOk result (λ r. IsDrawAnswer input.now (F.contents files.old) (ReadFails F.read_faults F.reads files.old files.new) r.status r.text.items) }
+    ensures read_fault { IfOk result (λ r. r.status ≡ 5 → ReadFails F.read_faults F.reads files.old files.new 0) }
     ensures later { F.read_faults files.old ≤ F.read_faults files.new }
     ensures same { WhereTold (F.contents files.old) (F.contents files.new) SameFiles }
 {
@@ -63,8 +63,8 @@ fn draw<F: Files>(alloc: Global, input: &str, files: &mut F) -> Result<Reply, Ou
 
 /// What the words are answered with.
 fn reply_to<F: Files>(alloc: Global, words: &[String], files: &mut F) -> Result<Reply, OutOfMemory>
-    ensures answer { IfOk result (λ r. IsAnswer (texts_of words.now) (F.contents files.old) r.status r.text.items) }
-    ensures read_fault { IfOk result (λ r. r.status ≡ 5 → Rose (F.read_faults files.old) (F.read_faults files.new) × (F.reads files.new ≡ F.reads files.old)) }
+    ensures answer { IfOk result (λ r. IsAnswer (texts_of words.now) (F.contents files.old) (ReadFails F.read_faults F.reads files.old files.new) r.status r.text.items) }
+    ensures read_fault { IfOk result (λ r. r.status ≡ 5 → ReadFails F.read_faults F.reads files.old files.new 0) }
     ensures unread { command_of (texts_of words.now) ≡ None → IsUnread F.read_faults F.reads files.old files.new }
     ensures later { F.read_faults files.old ≤ F.read_faults files.new }
     ensures same { WhereTold (F.contents files.old) (F.contents files.new) SameFiles }
@@ -81,13 +81,13 @@ fn reply_to<F: Files>(alloc: Global, words: &[String], files: &mut F) -> Result<
 /// file couldn't be read, 6 where the sink failed, and 7 for want of memory.
 pub fn run<F: Files, O: Sink>(alloc: Global, words: &[String], files: &mut F, out: &mut O) -> u8
     // Every run that isn't cut short has put a whole text: what its command owes with its status.
-    ensures answer { result ≢ 6 → result ≢ 7 → GivenAll (O.given out.old) (O.given out.new) (IsAnswer (texts_of words.now) (F.contents files.old) result) }
-    // One that is cut short has put nothing, or a front of a text that some status owes.
-    ensures cut_short { (result ≡ 6) ⊎ (result ≡ 7) → GivenFront (O.given out.old) (O.given out.new) (λ text. (status : ℕ) × IsAnswer (texts_of words.now) (F.contents files.old) status text) }
+    ensures answer { result ≢ 6 → result ≢ 7 → GivenAll (O.given out.old) (O.given out.new) (IsAnswer (texts_of words.now) (F.contents files.old) (ReadFails F.read_faults F.reads files.old files.new) result) }
+    // One that is cut short has put nothing, or a prefix of a text that this run may answer.
+    ensures cut_short { (result ≡ 6) ⊎ (result ≡ 7) → GivenPrefix (O.given out.old) (O.given out.new) (λ text. (status : ℕ) × IsAnswer (texts_of words.now) (F.contents files.old) (ReadFails F.read_faults F.reads files.old files.new) status text) }
     ensures statuses { (result ≡ 0) ⊎ (result ≡ 1) ⊎ (result ≡ 5) ⊎ (result ≡ 6) ⊎ (result ≡ 7) }
 
     // The causes of the faults from outside, and what follows where there is none.
-    ensures read_fault { result ≡ 5 → Rose (F.read_faults files.old) (F.read_faults files.new) × (F.reads files.new ≡ F.reads files.old) }
+    ensures read_fault { result ≡ 5 → ReadFails F.read_faults F.reads files.old files.new 0 }
     ensures write_fault { result ≡ 6 → Rose (O.faults out.old) (O.faults out.new) }
     ensures completes { AsksForStraightTrack (texts_of words.now) (F.contents files.old) → ¬ Rose (F.read_faults files.old) (F.read_faults files.new) → ¬ Rose (O.faults out.old) (O.faults out.new) → (result ≡ 0) ⊎ (result ≡ 7) }
 
