@@ -1,0 +1,10 @@
+use Rattle.std.proofs.Common.{◌≡◌, length}
+use Rattle.rail_mileage.specs.Metres.{is_blank}
+use Rattle.rail_mileage.specs.Reading.{past}
+use Rattle.rail_mileage.proofs.reading.past_blanks.Given as goal
+
+abbrev pub invariant-loop-rest : goal.invariant-loop-rest
+invariant-loop-rest l = past is_blank l.rest ≡ past is_blank l.text
+
+abbrev pub decreases-loop-rest : goal.decreases-loop-rest
+decreases-loop-rest l = length l.rest

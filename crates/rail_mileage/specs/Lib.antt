@@ -1,0 +1,3 @@
+pub mod Metres
+pub mod MetresText
+pub mod Reading
