@@ -1,0 +1,7 @@
+pub mod BlockLemmas
+pub mod ClauseLemmas
+pub mod GatherLemmas
+pub mod QuantifierLemmas
+pub mod SettingLemmas
+pub mod StepLemmas
+pub mod StoreLemmas

@@ -1,0 +1,6 @@
+use Rattle.std.proofs.Common.{arith}
+use Rattle.cnf_core.proofs.StoreLemmas.{stored_vars}
+use Rattle.cnf_core.proofs.formula.Formula.new_vars.Goals as goal
+
+pub invariant_of-self : goal.invariant_of-self
+invariant_of-self c = let le = c.self.invariant.formula.vars_limit in stored_vars _ _ c.args.n _ _ (omega arith) c.self.invariant

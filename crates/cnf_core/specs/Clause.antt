@@ -1,0 +1,37 @@
+-- Clauses: lists of literals of distinct variables, and the words that they take.
+use Rattle.std.specs.Prelude.{◌≢◌, ◌≤◌, ⊤, ℕ, ◌+◌, List, [], ◌∷◌, length}
+use Rattle.cnf_core.specs.Lit.{Literal}
+
+abbrev pub Clauses : Type 0
+Clauses = List (List Literal)
+
+-- x is the variable of none of them
+abbrev pub Avoids : ℕ → List Literal → Type 0
+Avoids x [] = ⊤
+Avoids x (l ∷ ls) = (x ≢ l.var) × Avoids x ls
+
+-- no two of them have the same variable
+abbrev pub AreDistinct : List Literal → Type 0
+AreDistinct [] = ⊤
+AreDistinct (l ∷ ls) = Avoids l.var ls × AreDistinct ls
+
+-- the variable is one of 1 to vars
+abbrev pub IsThere : ℕ → Literal → Type 0
+IsThere vars l = (1 ≤ l.var) × (l.var ≤ vars)
+
+abbrev pub AreThere : ℕ → List Literal → Type 0
+AreThere vars [] = ⊤
+AreThere vars (l ∷ ls) = IsThere vars l × AreThere vars ls
+
+abbrev pub AllThere : ℕ → Clauses → Type 0
+AllThere vars [] = ⊤
+AllThere vars (c ∷ cs) = AreThere vars c × AllThere vars cs
+
+abbrev pub AllDistinct : Clauses → Type 0
+AllDistinct [] = ⊤
+AllDistinct (c ∷ cs) = AreDistinct c × AllDistinct cs
+
+-- a clause of n literals has n + 3 words
+abbrev pub words_of : Clauses → ℕ
+words_of [] = 0
+words_of (c ∷ cs) = length c + 3 + words_of cs

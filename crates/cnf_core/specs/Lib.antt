@@ -1,0 +1,7 @@
+pub mod Lit
+pub mod Clause
+pub mod Assignment
+pub mod LitOrTruth
+pub mod Formula
+pub mod Added
+pub mod Truths

@@ -1,0 +1,35 @@
+//! Literals, clauses and formulas: what is satisfied, in how many words, and by which assignments.
+//!
+//! `Lit` is one word that contracts see as a variable and a sign, `Clause` a list of literals of
+//! distinct variables, `Formula` a number of variables and a list of clauses within a room of
+//! words, and `Truths` a truth value for each variable. `specs/` has the definitions: `Lit`,
+//! `Clause` (distinct variables, words), `Assignment` (satisfaction, and assignments that differ
+//! in a block of variables alone), `LitOrTruth` (the clause that literals and truth values make),
+//! `Formula` and `Truths`. `laws` states what follows from them; `proofs/` has the lemmas that
+//! every crate above cites: `ClauseLemmas` and `GatherLemmas` on satisfaction, `StepLemmas` on
+//! calls that add clauses, `SettingLemmas` on blocks of variables that are set one after another.
+//! Integers, sums, the drawing's formula, the log, its checker and the solver stand on this crate.
+#![tactic(auto)]
+
+mod clause;
+mod fault;
+mod formula;
+mod gather;
+mod laws;
+mod limits;
+mod literal;
+mod truths;
+
+pub use clause::Clause;
+pub use fault::CnfFault;
+pub use formula::{ClauseNo, Formula};
+pub use laws::{
+    clause_says_one_is_true, each_clause_is_satisfied, negation_is_false, no_variable_twice,
+    one_literal_is_true, other_variables_are_free,
+};
+pub use limits::{LAST_VAR, ROOM, VARS};
+pub use literal::{Lit, LitOrTruth, Var};
+pub use truths::Truths;
+
+#[cfg(test)]
+mod tests;

@@ -1,0 +1,27 @@
+-- The range of an integer, and its variables.
+use Rattle.std.specs.Prelude.{◌≤◌, ℕ, ◌+◌, ◌-◌}
+use Rattle.cnf_core.specs.declared.limits.TheConstants.{VARS}
+
+-- variable first + k says "at least low + k + 1"
+pub record IntVars : Type 0 where
+  pub low : ℕ
+  pub high : ℕ
+  pub first : ℕ
+
+abbrev pub int_vars : ℕ → ℕ → ℕ → IntVars
+int_vars low high first = record { low = low; high = high; first = first }
+
+-- how many variables it has
+abbrev pub size : IntVars → ℕ
+size i = i.high - i.low
+
+pub record IsInt (i : IntVars) : Type 0 where
+  pub order : i.low ≤ i.high
+  pub small : i.high ≤ 65535
+  pub from : 1 ≤ i.first
+  pub to : i.first + size i ≤ VARS + 1
+
+-- its variables are among the variables 1 to vars
+pub record IntIsThere (vars : ℕ) (i : IntVars) : Type 0 where
+  pub from : 1 ≤ i.first
+  pub to : i.first + size i ≤ vars + 1

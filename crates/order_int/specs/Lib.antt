@@ -1,0 +1,2 @@
+pub mod IntVars
+pub mod OrderInt

@@ -1,0 +1,5 @@
+pub mod JoinLemmas
+pub mod SumLemmas
+pub mod SizeLemmas
+pub mod NodeLemmas
+pub mod TopLemmas

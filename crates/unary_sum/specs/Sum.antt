@@ -1,0 +1,92 @@
+-- Capped unary sums of literals: a tree over the inputs, whose joins add what their sides count.
+use Rattle.std.specs.Prelude.{◌≡◌, ◌≤◌, ℕ, ◌+◌, ◌/◌, cond, min, zero, suc, List, [], ◌∷◌, ◌++◌, length, take, drop}
+use Rattle.cnf_core.specs.declared.literal.LitOrTruth.{LitOrTruth}
+use Rattle.cnf_core.specs.declared.limits.TheConstants.{VARS}
+use Rattle.cnf_core.specs.Lit.{Literal}
+use Rattle.cnf_core.specs.Clause.{Clauses, AreThere}
+use Rattle.cnf_core.specs.Assignment.{Assignment, truth}
+use Rattle.unary_sum.specs.declared.joins.Part.{Part}
+use Rattle.unary_sum.specs.declared.joins.Part.TheVariants.{Input, Outputs}
+use Rattle.unary_sum.specs.declared.joins.Join.{Join}
+use Rattle.unary_sum.specs.Part.{at, join_clauses}
+
+-- how many of the literals are true
+abbrev pub count_true : Assignment → List Literal → ℕ
+count_true v [] = 0
+count_true v (l ∷ ls) = cond (truth v l) 1 0 + count_true v ls
+
+pub data Tree : Type 0 where
+  Empty : Tree
+  Leaf : Literal → Tree
+  Node : Tree → Tree → Tree
+
+-- a balanced tree over the literals, in their order; the depth is at least one less than their number
+abbrev pub tree_of : ℕ → List Literal → Tree
+tree_of depth [] = Empty
+tree_of depth (l ∷ []) = Leaf l
+tree_of zero (k ∷ l ∷ ls) = Empty
+tree_of (suc depth) (k ∷ l ∷ ls) = Node
+    (tree_of depth (take (length (k ∷ l ∷ ls) / 2) (k ∷ l ∷ ls)))
+    (tree_of depth (drop (length (k ∷ l ∷ ls) / 2) (k ∷ l ∷ ls)))
+
+-- how many outputs tell of a tree's inputs: one for each, up to the cap
+abbrev pub tree_size : ℕ → Tree → ℕ
+tree_size most Empty = 0
+tree_size most (Leaf l) = 1
+tree_size most (Node a b) = min (tree_size most a + tree_size most b) most
+
+-- how many variables its joins have
+abbrev pub tree_count : ℕ → Tree → ℕ
+tree_count most Empty = 0
+tree_count most (Leaf l) = 0
+tree_count most (Node a b) = tree_count most a + tree_count most b + min (tree_size most a + tree_size most b) most
+
+-- what counts a tree's inputs, where its variables follow the variable of number vars:
+-- those of the left side, then those of the right side, then the outputs that join them
+abbrev pub top : ℕ → ℕ → Tree → Part
+top most vars Empty = Outputs (vars + 1) 0
+top most vars (Leaf l) = Input l
+top most vars (Node a b) = Outputs (vars + (tree_count most a + tree_count most b) + 1) (min (tree_size most a + tree_size most b) most)
+
+abbrev pub join_of : Part → Part → ℕ → ℕ → Join
+join_of left right vars count = record { left = left; right = right; first = vars + 1; count = count }
+
+abbrev pub tree_clauses : ℕ → ℕ → Tree → Clauses
+tree_clauses most vars Empty = []
+tree_clauses most vars (Leaf l) = []
+tree_clauses most vars (Node a b) =
+    tree_clauses most vars a ++ tree_clauses most (vars + tree_count most a) b
+    ++ join_clauses (join_of (top most vars a) (top most (vars + tree_count most a) b) (vars + (tree_count most a + tree_count most b)) (min (tree_size most a + tree_size most b) most))
+
+-- a sum of inputs, up to a cap, whose variables follow the variable of number vars
+pub record SumVars : Type 0 where
+  pub inputs : List Literal
+  pub most : ℕ
+  pub vars : ℕ
+
+abbrev pub sum_vars : List Literal → ℕ → ℕ → SumVars
+sum_vars inputs most vars = record { inputs = inputs; most = most; vars = vars }
+
+abbrev pub sum_tree : SumVars → Tree
+sum_tree s = tree_of (length s.inputs) s.inputs
+
+abbrev pub sum_count : SumVars → ℕ
+sum_count s = tree_count s.most (sum_tree s)
+
+abbrev pub sum_clauses : SumVars → Clauses
+sum_clauses s = tree_clauses s.most s.vars (sum_tree s)
+
+-- "at least k inputs are true", for k up to the cap
+abbrev pub at_least : SumVars → ℕ → LitOrTruth
+at_least s k = at (top s.most s.vars (sum_tree s)) k
+
+-- what each sum keeps
+pub record IsSum (s : SumVars) : Type 0 where
+  pub inputs_small : length s.inputs ≤ 65535
+  pub most_small : s.most ≤ 65535
+  pub there : AreThere s.vars s.inputs
+  pub limit : s.vars + sum_count s ≤ VARS
+
+pub record IsBuilt (s : SumVars) (built : Part) : Type 0 where
+  pub sum : IsSum s
+  pub is_top : built ≡ top s.most s.vars (sum_tree s)
