@@ -3,6 +3,8 @@ use crate::{OrderInt, equal, less_equal, new_int};
 use cnf_core::{ClauseNo, CnfFault, Formula, Lit, LitOrTruth, ROOM, Truths, Var};
 use std::test::Fail;
 
+mod table;
+
 #[test]
 fn an_integer_from_0_to_3_has_three_variables(rt: HostRuntime) -> Result<(), Fail> {
     let mut f = Formula::new(rt.alloc(), ROOM)?;

@@ -1,0 +1,9 @@
+pub mod Ends
+pub mod PlaceLemmas
+pub mod TreeLemmas
+pub mod RowLemmas
+pub mod FormedLemmas
+pub mod CutLemmas
+pub mod KeptLemmas
+pub mod EndLemmas
+pub mod FaultLemmas

@@ -1,0 +1,91 @@
+-- Which tree a document spells, and which fault its text has.
+use Rattle.std.specs.Prelude.{◌≡◌, ◌≢◌, ◌⊎◌, ◌<◌, ℕ, false, codes, List, [], ◌∷◌, ◌++◌, length, Contains, IsUtf8, ⊤}
+use Rattle.std.specs.Str.{IsValidUpTo}
+use Rattle.railml_text.specs.declared.fault.TextWhat.{TextWhat}
+use Rattle.railml_text.specs.declared.fault.TextWhat.TheVariants.{NotUtf8, Unfinished, NoInfrastructure}
+use Rattle.railml_text.specs.Items.{Shape, HasItem}
+use Rattle.railml_text.specs.Faults.{number_of, HasFault}
+use Rattle.railml_text.specs.Cutting.{Placed, ComesTo, IsCutInto, is_first}
+use Rattle.railml_read.specs.Tree.{Tree, root_of, tags_of, names_of}
+use Rattle.railml_read.specs.Rows.{rows_of}
+use Rattle.railml_read.specs.Places.{content, role_of, role_of_shape, tags_in, open_names, has_root, IsMisplaced, AreInPlace}
+use Rattle.railml_read.specs.declared.faults.ReadFault.{ReadFault}
+use Rattle.railml_read.specs.declared.faults.ReadFault.TheVariants as answers
+use Rattle.railml_read.specs.declared.rows.Elem.{Elem}
+
+-- outside of the root stands no content: behind the first items, where none is open, no other has it
+abbrev pub IsFreeOutside : List Placed → List Placed → Type 0
+IsFreeOutside before [] = ⊤
+IsFreeOutside before (item ∷ items) = (open_names before ≡ [] → role_of item.kind ≢ content) × IsFreeOutside (before ++ item ∷ []) items
+
+-- The bytes are the items of the tree in the order of the document, with only items between them that
+-- are passed over: their tags are those of the tree, and no content stands outside of the root.
+pub record Spells (bytes : List ℕ) (tree : Tree) : Type 0 where
+  pub items : List Placed
+  pub cut : IsCutInto bytes items
+  pub tags : tags_in items ≡ tags_of (root_of tree)
+  pub outside : IsFreeOutside [] items
+
+-- ---- faults
+
+-- an item begins the rest, and may not stand behind the items before
+pub record HasMisplaced (before : List Placed) (rest : List ℕ) (what : TextWhat) : Type 0 where
+  pub shape : Shape
+  pub after : List ℕ
+  pub item : HasItem (is_first before) rest shape after
+  pub misplaced : IsMisplaced (open_names before) (has_root before) (role_of_shape shape) what
+
+-- what begins the rest has this fault behind the items before: by itself, or by its place
+abbrev pub HasFaultBehind : List Placed → List ℕ → TextWhat → Type 0
+HasFaultBehind before rest what = HasFault (is_first before) rest what ⊎ HasMisplaced before rest what
+
+-- the first item that has a fault begins at this place, and this is its fault with the lowest number
+pub record IsFirstFault (bytes : List ℕ) (what : TextWhat) (at : ℕ) : Type 0 where
+  pub utf8 : IsUtf8 bytes
+  pub before : List Placed
+  pub rest : List ℕ
+  pub comes_to : ComesTo bytes before at rest
+  pub sound : AreInPlace [] before
+  pub some : rest ≢ []
+  pub fault : HasFaultBehind before rest what
+  pub least : (other : TextWhat) → number_of other < number_of what → HasFaultBehind before rest other → ⊥
+
+-- no item has a fault, and the input ends with no root or with an element open
+pub record EndsOpen (bytes : List ℕ) (at : ℕ) : Type 0 where
+  pub utf8 : IsUtf8 bytes
+  pub items : List Placed
+  pub cut : IsCutInto bytes items
+  pub sound : AreInPlace [] items
+  pub is_open : (has_root items ≡ false) ⊎ (open_names items ≢ [])
+  pub end : at ≡ length bytes
+
+-- no item has a fault, and the root is `railml` and has no child `infrastructure`
+pub record LacksInfrastructure (bytes : List ℕ) (at : ℕ) : Type 0 where
+  pub utf8 : IsUtf8 bytes
+  pub tree : Tree
+  pub spells : Spells bytes tree
+  pub sound : AreInPlace [] spells.items
+  pub named : tree.name ≡ codes "railml"
+  pub lacks : Contains (names_of tree.children) (codes "infrastructure") → ⊥
+  pub end : at ≡ length bytes
+
+-- The table of faults of a whole text: this is its fault, at this place. That it isn't UTF-8 comes
+-- before all others, at the length of its longest front that is.
+abbrev pub IsTextFault : List ℕ → TextWhat → ℕ → Type 0
+IsTextFault bytes NotUtf8 at = IsValidUpTo bytes at
+IsTextFault bytes Unfinished at = IsFirstFault bytes Unfinished at ⊎ EndsOpen bytes at
+IsTextFault bytes NoInfrastructure at = LacksInfrastructure bytes at
+IsTextFault bytes what at = IsFirstFault bytes what at
+
+-- ---- answers
+
+-- the rows of a tree that the bytes spell
+pub record AreRows (bytes : List ℕ) (rows : List Elem) : Type 0 where
+  pub tree : Tree
+  pub spells : Spells bytes tree
+  pub found : rows ≡ rows_of tree
+
+-- what an answer without rows says of the bytes
+abbrev pub IsFaultOf : List ℕ → ReadFault → Type 0
+IsFaultOf bytes (answers.Text what at) = IsTextFault bytes what at
+IsFaultOf bytes answers.Memory = ⊤

@@ -1,0 +1,88 @@
+-- What the reader keeps while items go by.
+use Rattle.std.specs.Prelude.{ℕ, ◌-◌, ◌==◌, nat_le, Bool, true, false, not, ◌||◌, ◌&&◌, if◌then◌else◌, codes, List, [], ◌∷◌, ◌++◌, length, take, map, fold, Option, Some, None, slice_get, bytes_eq}
+use Rattle.std.specs.Option.{option_map_or}
+use Rattle.railml_text.specs.declared.fault.TextWhat.{TextWhat}
+use Rattle.railml_text.specs.declared.fault.TextWhat.TheVariants.{Markup, EndTag, Root, AfterRoot, Depth}
+use Rattle.railml_text.specs.Cutting.{Placed}
+use Rattle.railml_read.specs.declared.rows.Elem.{Elem}
+use Rattle.railml_read.specs.declared.contexts.Context.{Context}
+use Rattle.railml_read.specs.declared.contexts.Context.TheVariants.{Outside, Infrastructure}
+use Rattle.railml_read.specs.declared.progress.Frame.{Frame}
+use Rattle.railml_read.specs.declared.progress.Progress.{Progress as Kept}
+use Rattle.railml_read.specs.Contexts.{below}
+use Rattle.railml_read.specs.Rows.{own_row, nearest}
+use Rattle.railml_read.specs.Tree.{Tag, opens, closes}
+use Rattle.railml_read.specs.Places.{tags_in, innermost, Role, opening, closing, content, free}
+
+-- the open elements, the rows so far, and whether an infrastructure has begun
+pub record State : Type 0 where
+  pub stack : List Frame
+  pub rows : List Elem
+  pub reached : Bool
+
+abbrev pub state_of : Kept → State
+state_of kept = record { stack = kept.stack.items; rows = kept.rows.items; reached = kept.has_infrastructure }
+
+abbrev pub top : List Frame → Option Frame
+top stack = slice_get stack (length stack - 1)
+
+abbrev pub context_in : Option Frame → Context
+context_in None = Outside
+context_in (Some frame) = frame.context
+
+abbrev pub row_in : Option Frame → Option ℕ
+row_in None = None
+row_in (Some frame) = frame.row
+
+abbrev pub is_infrastructure : Context → Bool
+is_infrastructure Infrastructure = true
+is_infrastructure context = false
+
+-- the frame of an element of this name that opens inside these, and whose own row would have the
+-- number n
+abbrev pub frame_in : List Frame → List ℕ → ℕ → Frame
+frame_in stack name n =
+    let here = below (context_in (top stack)) name in
+    record { name = name; context = here; row = nearest here n (row_in (top stack)) }
+
+abbrev pub step : State → Tag → State
+step s (opens at name attrs) =
+    let frame = frame_in s.stack name (length s.rows) in
+    record {
+      stack = s.stack ++ frame ∷ [];
+      rows = s.rows ++ own_row frame.context at attrs (row_in (top s.stack));
+      reached = s.reached || is_infrastructure frame.context;
+    }
+step s (closes name) = record { stack = take (length s.stack - 1) s.stack; rows = s.rows; reached = s.reached }
+
+abbrev pub start : State
+start = record { stack = []; rows = []; reached = false }
+
+-- after the tags of these items
+abbrev pub state_after : List Placed → State
+state_after items = fold step start (tags_in items)
+
+-- ---- where the next item stands
+
+abbrev pub is_root_name : List ℕ → Bool
+is_root_name name = bytes_eq name (codes "railml") || bytes_eq name (codes "infrastructure")
+
+abbrev pub is_innermost : List ℕ → List (List ℕ) → Bool
+is_innermost name names = option_map_or (λ other. bytes_eq other name) (innermost names) false
+
+-- the fault with the lowest number of an item of this role, if its place gives it one
+abbrev pub fault_in : List (List ℕ) → Bool → Role → Option TextWhat
+fault_in names rooted (opening name) =
+    if not rooted && not (is_root_name name) then Some Root
+    else if rooted && (length names == 0) then Some AfterRoot
+    else if nat_le 64 (length names) then Some Depth
+    else None
+fault_in names rooted (closing name) = if is_innermost name names then None else Some EndTag
+fault_in names rooted content =
+    if not rooted then Some Markup
+    else if length names == 0 then Some AfterRoot
+    else None
+fault_in names rooted free = None
+
+abbrev pub names_in : List Frame → List (List ℕ)
+names_in stack = map (λ frame. frame.name) stack

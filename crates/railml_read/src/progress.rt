@@ -1,0 +1,248 @@
+// What is kept while the items of a document go by.
+ghost use Rattle.std.specs.Prelude.{◌≡◌, ◌<◌, ◌^◌, ◌-◌, ◌++◌, ◌∷◌, ◌||◌, ◌==◌, [], length, take, fold, OnOk, IfOk, true, false, ◌≢◌, ◌⊎◌};
+ghost use Rattle.railml_read.specs.Rows.{own_row, text_named as named_text, attrs_read};
+ghost use Rattle.railml_read.specs.Tree.{opens};
+ghost use Rattle.railml_read.specs.Places.{role_of, tags_at, begins_element};
+ghost use Rattle.railml_read.specs.Progress.{top, context_in, row_in, frame_in as frame_inside, is_innermost as innermost_is, fault_in, names_in, is_infrastructure, is_root_name as root_name, state_of, step};
+
+use crate::contexts::{Context, below};
+use crate::{Attrs, Elem, Records};
+use plan_core::{OutOfMemory, Text};
+use railml_text::{Attr, ItemKind, TextWhat};
+use std::alloc::Global;
+
+/// The greatest depth of an element, that of the root being 1.
+const DEEPEST: usize = 64;
+
+/// An open element: its name, where it stands, and the number of the nearest row at or above it.
+#[derive(Drop)]
+pub(crate) struct Frame {
+    pub(crate) name: Text,
+    pub(crate) context: Context,
+    pub(crate) row: Option<u32>,
+}
+
+/// The open elements, the outermost first, the rows so far, and whether the root and an
+/// `infrastructure` of the path have begun.
+#[derive(Drop)]
+pub(crate) struct Progress {
+    pub(crate) stack: Vec<Frame>,
+    pub(crate) rows: Vec<Elem>,
+    pub(crate) has_root: bool,
+    pub(crate) has_infrastructure: bool,
+}
+
+fn is_root_name(name: &str) -> bool
+    ensures { result ≡ root_name name.now }
+{
+    name == "railml" || name == "infrastructure"
+}
+
+/// Where the innermost open element stands, and the nearest row at or above it.
+fn innermost(stack: &[Frame]) -> (Context, Option<u32>)
+    ensures context { result.0 ≡ context_in (top stack.now) }
+    ensures row { result.1 ≡ row_in (top stack.now) }
+{
+    match stack {
+        [] => (Context::Outside, None),
+        [.., frame] => (frame.context, frame.row),
+    }
+}
+
+/// A copy of the text of the attribute of this name, if there is one.
+fn text_named(alloc: Global, attrs: &[Attr], name: &str) -> Result<Option<Text>, OutOfMemory>
+    ensures { IfOk result (λ text. text ≡ named_text name.now attrs.now) }
+{
+    for attr in attrs {
+        if attr.name.as_str() == name {
+            return Ok(Some(Text::from_bytes(alloc, attr.value.bytes())?));
+        }
+    }
+    Ok(None)
+}
+
+/// The attributes that a row has.
+fn read_attrs(alloc: Global, attrs: &[Attr]) -> Result<Attrs, OutOfMemory>
+    ensures { IfOk result (λ read. read ≡ attrs_read attrs.now) }
+{
+    Ok(Attrs {
+        id: text_named(alloc, attrs, "id")?,
+        pos: text_named(alloc, attrs, "pos")?,
+        abs_pos: text_named(alloc, attrs, "absPos")?,
+        reference: text_named(alloc, attrs, "ref")?,
+        course: text_named(alloc, attrs, "course")?,
+        orientation: text_named(alloc, attrs, "orientation")?,
+        continue_course: text_named(alloc, attrs, "trackContinueCourse")?,
+    })
+}
+
+/// The frame of an element that opens inside these, whose own row would have this number.
+fn frame_in(stack: &[Frame], name: Text, number: u32) -> Frame
+    ensures { result ≡ frame_inside stack.now name number }
+{
+    let (context, parent) = innermost(stack);
+    let context = below(context, name.as_str());
+    let row = match context {
+        Context::Selected(_) => Some(number),
+        _ => parent,
+    };
+    Frame { name, context, row }
+}
+
+impl Progress {
+    /// Nothing has been read.
+    pub(crate) fn new(alloc: Global) -> Self
+        ensures stack { result.stack.items ≡ [] }
+        ensures rows { result.rows.items ≡ [] }
+        ensures root { result.has_root ≡ false }
+        ensures infrastructure { result.has_infrastructure ≡ false }
+    {
+        Progress {
+            stack: Vec::new(alloc),
+            rows: Vec::new(alloc),
+            has_root: false,
+            has_infrastructure: false,
+        }
+    }
+
+    /// Whether an element of this name is the innermost one that is open.
+    fn is_innermost(&self, name: &Text) -> bool
+        ensures { result ≡ innermost_is name.now (names_in self.now.stack.items) }
+    {
+        match self.stack.as_slice() {
+            [] => false,
+            [.., frame] => frame.name.as_str() == name.as_str(),
+        }
+    }
+
+    /// The fault that its place gives to the next item, if any.
+    pub(crate) fn fault_of(&self, kind: &ItemKind) -> Option<TextWhat>
+        ensures { result ≡ fault_in (names_in self.now.stack.items) self.now.has_root (role_of kind.now) }
+    {
+        match kind {
+            ItemKind::Start { name, .. } => {
+                if !self.has_root && !is_root_name(name.as_str()) {
+                    Some(TextWhat::Root)
+                } else if self.has_root && self.stack.is_empty() {
+                    Some(TextWhat::AfterRoot)
+                } else if self.stack.len() >= DEEPEST {
+                    Some(TextWhat::Depth)
+                } else {
+                    None
+                }
+            }
+            ItemKind::EndTag { name } => {
+                if self.is_innermost(name) {
+                    None
+                } else {
+                    Some(TextWhat::EndTag)
+                }
+            }
+            ItemKind::Cdata | ItemKind::Reference | ItemKind::Chars { blank: false } => {
+                if !self.has_root {
+                    Some(TextWhat::Markup)
+                } else if self.stack.is_empty() {
+                    Some(TextWhat::AfterRoot)
+                } else {
+                    None
+                }
+            }
+            _ => None,
+        }
+    }
+
+    /// Adds the row of an element that stands here, if it is selected.
+    fn add_row(
+        &mut self,
+        alloc: Global,
+        at: usize,
+        attrs: &[Attr],
+        context: Context,
+        parent: Option<u32>,
+    ) -> Result<(), OutOfMemory>
+        ensures rows { OnOk result (self.new.rows.items ≡ self.old.rows.items ++ own_row context at attrs.now parent) }
+        ensures others { self.new ≡ record self.old { rows = self.new.rows } }
+    {
+        if let Context::Selected(kind) = context {
+            let attrs = read_attrs(alloc, attrs)?;
+            self.rows.push(Elem {
+                kind,
+                at,
+                parent,
+                attrs,
+            })?;
+        }
+        Ok(())
+    }
+
+    /// An element begins.
+    fn enter(
+        &mut self,
+        alloc: Global,
+        at: usize,
+        name: Text,
+        attrs: &[Attr],
+    ) -> Result<(), OutOfMemory>
+        requires { length self.old.rows.items < 2 ^ 32 }
+        ensures state { OnOk result (state_of self.new ≡ step (state_of self.old) (opens at name attrs.now)) }
+        ensures root { OnOk result (self.new.has_root ≡ true) }
+    {
+        let (_, parent) = innermost(&self.stack);
+        let frame = frame_in(&self.stack, name, self.rows.len() as u32);
+        let context = frame.context;
+        self.add_row(alloc, at, attrs, context, parent)?;
+        self.stack.push(frame)?;
+        self.has_root = true;
+        self.has_infrastructure = self.has_infrastructure || context == Context::Infrastructure;
+        Ok(())
+    }
+
+    /// The innermost element ends.
+    fn leave(&mut self)
+        ensures stack { self.new.stack.items ≡ take (length self.old.stack.items - 1) self.old.stack.items }
+        ensures others { self.new ≡ record self.old { stack = self.new.stack } }
+    {
+        let _ = self.stack.pop();
+    }
+
+    /// Takes the tags of an item into account.
+    pub(crate) fn add(
+        &mut self,
+        alloc: Global,
+        at: usize,
+        kind: ItemKind,
+    ) -> Result<(), OutOfMemory>
+        requires { length self.old.rows.items < 2 ^ 32 }
+        ensures state { OnOk result (state_of self.new ≡ fold step (state_of self.old) (tags_at at kind)) }
+        ensures root { OnOk result (self.new.has_root ≡ (self.old.has_root || begins_element kind)) }
+    {
+        match kind {
+            ItemKind::Start { name, attrs, empty } => {
+                self.enter(alloc, at, name, attrs.as_slice())?;
+                if empty {
+                    self.leave();
+                }
+                Ok(())
+            }
+            ItemKind::EndTag { name: _name } => {
+                self.leave();
+                Ok(())
+            }
+            _other => Ok(()),
+        }
+    }
+
+    /// Whether the root has begun and ended.
+    pub(crate) fn is_closed(&self) -> bool
+        ensures yes { result ≡ true → (self.now.has_root ≡ true) × (self.now.stack.items ≡ []) }
+        ensures no { result ≡ false → (self.now.has_root ≡ false) ⊎ (self.now.stack.items ≢ []) }
+    {
+        self.has_root && self.stack.is_empty()
+    }
+
+    pub(crate) fn into_rows(self) -> Records
+        ensures { result ≡ self.rows.items }
+    {
+        Records::from_vec(self.rows)
+    }
+}

@@ -1,0 +1,16 @@
+pub mod RunLemmas
+pub mod LawLemmas
+pub mod ReaderLemmas
+pub mod TagLemmas
+pub mod BracketLemmas
+pub mod ReferenceLemmas
+pub mod MarkupLemmas
+pub mod ItemLemmas
+pub mod TextLemmas
+pub mod ValueLemmas
+pub mod OneItem
+pub mod FaultLemmas
+pub mod PartLemmas
+pub mod AttrLemmas
+pub mod ScanLemmas
+pub mod CutLemmas

@@ -1,0 +1,109 @@
+-- The faults of one item, and the item that has none.
+use Rattle.std.specs.Prelude.{◌≡◌, ◌≢◌, ◌⊎◌, ◌<◌, ℕ, Bool, codes, Some, List, [], slice_get, map, Any, ⊤}
+use Rattle.std.specs.Str.{str_to_ascii_lowercase}
+use Rattle.railml_text.specs.declared.item.ItemKind.{ItemKind}
+use Rattle.railml_text.specs.declared.fault.TextWhat.{TextWhat}
+use Rattle.railml_text.specs.declared.fault.TextWhat.TheVariants.{NotUtf8, Encoding, Doctype, Markup, Entity, EndTag, RepeatedAttribute, Root, Unfinished, AfterRoot, Depth, NoInfrastructure}
+use Rattle.railml_text.specs.declared.fault.ItemFault.{ItemFault}
+use Rattle.railml_text.specs.declared.fault.ItemFault.TheVariants as answers
+use Rattle.railml_text.specs.Bytes.{BeginsWith}
+use Rattle.railml_text.specs.References.{BeginsLoose}
+use Rattle.railml_text.specs.Values.{HasLoose}
+use Rattle.railml_text.specs.Grammar.{Written}
+use Rattle.railml_text.specs.Items.{Shape, declaration, start_tag, HasItem, HasNoItem, IsFront, IsKindOf}
+
+-- the numbers of the table of faults
+abbrev pub number_of : TextWhat → ℕ
+number_of NotUtf8 = 1
+number_of Encoding = 2
+number_of Doctype = 3
+number_of Markup = 4
+number_of Entity = 5
+number_of EndTag = 6
+number_of RepeatedAttribute = 7
+number_of Root = 8
+number_of Unfinished = 9
+number_of AfterRoot = 10
+number_of Depth = 11
+number_of NoInfrastructure = 12
+
+-- an attribute `encoding` whose value isn't `UTF-8`, without regard to ASCII case; the value as it
+-- is written counts
+abbrev pub NamesOtherEncoding : List Written → Type 0
+NamesOtherEncoding attrs = Any (λ attr. (attr.name ≡ codes "encoding") × (str_to_ascii_lowercase attr.value ≢ codes "utf-8")) attrs
+
+-- two attributes of one name
+pub record HasRepeat (attrs : List Written) : Type 0 where
+  pub name : List ℕ
+  pub i : ℕ
+  pub j : ℕ
+  pub earlier : i < j
+  pub at_i : slice_get (map (λ attr. attr.name) attrs) i ≡ Some name
+  pub at_j : slice_get (map (λ attr. attr.name) attrs) j ≡ Some name
+
+-- the attributes of a start tag or the declaration; no other item has one
+abbrev pub attrs_of : Shape → List Written
+attrs_of (declaration attrs) = attrs
+attrs_of (start_tag name attrs empty) = attrs
+attrs_of shape = []
+
+-- `<` begins no item and never will, whatever is written after the rest
+pub record IsNoMarkup (first : Bool) (rest : List ℕ) : Type 0 where
+  pub begins : BeginsWith rest (codes "<")
+  pub no_doctype : BeginsWith rest (codes "<!DOCTYPE") → ⊥
+  pub no_item : HasNoItem first rest
+  pub no_front : IsFront first rest → ⊥
+
+-- `<` begins no item, and the rest is a proper front of one or of `<!DOCTYPE`
+pub record IsUnfinished (first : Bool) (rest : List ℕ) : Type 0 where
+  pub begins : BeginsWith rest (codes "<")
+  pub no_item : HasNoItem first rest
+  pub front : IsFront first rest
+
+pub record HasOtherEncoding (first : Bool) (rest : List ℕ) : Type 0 where
+  pub attrs : List Written
+  pub after : List ℕ
+  pub item : HasItem first rest (declaration attrs) after
+  pub names : NamesOtherEncoding attrs
+
+pub record HasLooseInTag (first : Bool) (rest : List ℕ) : Type 0 where
+  pub name : List ℕ
+  pub attrs : List Written
+  pub empty : Bool
+  pub after : List ℕ
+  pub item : HasItem first rest (start_tag name attrs empty) after
+  pub loose : Any (λ attr. HasLoose attr.value) attrs
+
+pub record HasRepeatedAttr (first : Bool) (rest : List ℕ) : Type 0 where
+  pub shape : Shape
+  pub after : List ℕ
+  pub item : HasItem first rest shape after
+  pub repeat : HasRepeat (attrs_of shape)
+
+-- The table of faults, as far as it speaks of one item alone: the item that begins at the rest has
+-- this fault. The other kinds speak of the item's place in the document.
+abbrev pub HasFault : Bool → List ℕ → TextWhat → Type 0
+HasFault first rest Encoding = HasOtherEncoding first rest
+HasFault first rest Doctype = BeginsWith rest (codes "<!DOCTYPE")
+HasFault first rest Markup = IsNoMarkup first rest
+HasFault first rest Entity = BeginsLoose rest ⊎ HasLooseInTag first rest
+HasFault first rest RepeatedAttribute = HasRepeatedAttr first rest
+HasFault first rest Unfinished = IsUnfinished first rest
+HasFault first rest what = ⊥
+
+-- the fault, and none with a lower number
+pub record IsLeastFault (first : Bool) (rest : List ℕ) (what : TextWhat) : Type 0 where
+  pub holds : HasFault first rest what
+  pub least : (other : TextWhat) → number_of other < number_of what → HasFault first rest other → ⊥
+
+-- the rest begins with an item of this kind that has no fault of its own, and these bytes follow it
+pub record HasSoundItem (first : Bool) (rest : List ℕ) (kind : ItemKind) (after : List ℕ) : Type 0 where
+  pub shape : Shape
+  pub item : HasItem first rest shape after
+  pub kind_is : IsKindOf shape kind
+  pub sound : (what : TextWhat) → HasFault first rest what → ⊥
+
+-- what an answer that isn't an item says of the rest
+abbrev pub IsFaultAt : Bool → List ℕ → ItemFault → Type 0
+IsFaultAt first rest (answers.Item what) = IsLeastFault first rest what
+IsFaultAt first rest answers.Memory = ⊤

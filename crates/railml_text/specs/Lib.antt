@@ -1,0 +1,9 @@
+pub mod Bytes
+pub mod References
+pub mod Values
+pub mod Grammar
+pub mod Items
+pub mod Faults
+pub mod Cutting
+pub mod Reading
+pub mod Judging

@@ -1,0 +1,31 @@
+//! One item of a document: a tag, a comment, a reference, a run of characters.
+//!
+//! `scan` answers the item that begins at a place of the bytes, or that item's own fault. Its
+//! contract is the grammar in `specs/`: `Bytes` (classes of bytes), `References`, `Values` (the text
+//! of an attribute), `Grammar` (the shapes), `Items` (the table of items), `Faults` (the table of
+//! faults, as far as it speaks of one item) and `Cutting` (a file cut into items). `specs/Reading`
+//! is cited by private contracts alone.
+//! It stands on `plan_core`; `railml_read` stands on it.
+#![tactic(auto)]
+
+mod brackets;
+mod fault;
+mod item;
+mod judging;
+pub mod laws;
+mod markup;
+mod miss;
+mod reading;
+mod references;
+mod repeats;
+mod runs;
+mod scanning;
+mod values;
+mod written;
+
+pub use fault::{ItemFault, TextWhat};
+pub use item::{Attr, AttrList, Item, ItemKind};
+pub use scanning::scan;
+
+#[cfg(test)]
+mod tests;

@@ -1,0 +1,79 @@
+// The text of an attribute.
+ghost use Rattle.std.specs.Prelude.{◌≡◌, ◌++◌, option_map, IfOk, IfErr, OnOk, IsUtf8};
+ghost use Rattle.railml_text.specs.Values.{IsTextOf};
+ghost use Rattle.railml_text.specs.Reading.{piece_at as piece, past_line_feed as past_feed, bytes_of, IsValueFault};
+
+use crate::references::reference_at;
+use crate::{ItemFault, TextWhat};
+use plan_core::Text;
+use std::alloc::{AllocError, Global};
+
+/// What a piece of a value stands for.
+#[derive(Clone, Copy, Debug)]
+enum Meaning {
+    Byte(u8),
+    Space,
+    Character(char),
+}
+
+/// What follows the line feed at the front, if there is one.
+fn past_line_feed(bytes: &[u8]) -> &[u8]
+    ensures { result.now ≡ past_feed bytes.now }
+{
+    match bytes {
+        [b'\n', rest @ ..] => rest,
+        _ => bytes,
+    }
+}
+
+/// What the first piece of a value stands for, and what follows it; `None` where the bytes begin
+/// with an `&` that begins no reference, or are none.
+fn piece_at(bytes: &[u8]) -> Option<(Meaning, &[u8])>
+    ensures { option_map (λ x. (bytes_of x.0, x.1.now)) result ≡ piece bytes.now }
+{
+    match bytes {
+        [] => None,
+        [b'&', ..] => match reference_at(bytes) {
+            Some((character, after)) => Some((Meaning::Character(character), after)),
+            None => None,
+        },
+        [b'\r', tail @ ..] => Some((Meaning::Space, past_line_feed(tail))),
+        [b'\t' | b'\n', tail @ ..] => Some((Meaning::Space, tail)),
+        [b, tail @ ..] => Some((Meaning::Byte(*b), tail)),
+    }
+}
+
+/// Adds what a piece stands for.
+fn push(text: &mut Vec<u8>, meaning: Meaning) -> Result<(), AllocError>
+    ensures { OnOk result (text.new.items ≡ text.old.items ++ bytes_of meaning) }
+{
+    match meaning {
+        Meaning::Byte(b) => text.push(b)?,
+        Meaning::Space => text.push(b' ')?,
+        Meaning::Character(character) => {
+            let mut bytes = [0; 4];
+            text.extend_from_slice(character.encode_utf8(&mut bytes).as_bytes())?;
+        }
+    }
+    Ok(())
+}
+
+/// The text of an attribute with this value, or Entity where an `&` of the value begins no reference.
+pub(crate) fn text_of(alloc: Global, value: &[u8]) -> Result<Text, ItemFault>
+    requires { IsUtf8 value.now }
+    ensures text { IfOk result (λ text. IsTextOf value.now text) }
+    ensures fault { IfErr result (λ e. IsValueFault value.now e) }
+{
+    let mut text = Vec::new(alloc);
+    let mut rest = value;
+    while !rest.is_empty() {
+        match piece_at(rest) {
+            Some((meaning, after)) => {
+                push(&mut text, meaning)?;
+                rest = after;
+            }
+            None => return Err(ItemFault::Item(TextWhat::Entity)),
+        }
+    }
+    Ok(Text::from_bytes(alloc, &text)?)
+}
