@@ -88,8 +88,10 @@ fn has_fault(rt: &(impl Abort + AllocGlobal), document: &[u8], what: TextWhat, a
 
 #[test]
 fn the_first_item_with_a_fault_is_told_with_its_place(rt: HostRuntime) {
-    let cases: [(&[u8], TextWhat, usize); 50] = [
+    let cases: [(&[u8], TextWhat, usize); 55] = [
         (b"<a>\xFF", TextWhat::NotUtf8, 3),
+        (b"<infra\xFFstructure/>", TextWhat::NotUtf8, 6),
+        (b"<infrastructure/>\xE2\x82", TextWhat::NotUtf8, 17),
         (b"<!DOCTYPE>\xC3", TextWhat::NotUtf8, 10),
         (
             b"<?xml version='1.0' encoding='latin1'?>",
@@ -100,6 +102,11 @@ fn the_first_item_with_a_fault_is_told_with_its_place(rt: HostRuntime) {
             b"\xEF\xBB\xBF<?xml encoding='&#85;TF-8' encoding=''?>",
             TextWhat::Encoding,
             3,
+        ),
+        (
+            b"<?xml version='1.0' encoding='UTF-8 '?>",
+            TextWhat::Encoding,
+            0,
         ),
         (b"<!DOCTYPEx", TextWhat::Doctype, 0),
         (b"<infrastructure><!DOCTYPEx", TextWhat::Doctype, 16),
@@ -130,6 +137,12 @@ fn the_first_item_with_a_fault_is_told_with_its_place(rt: HostRuntime) {
             b"<infrastructure><a b='' c='' b=''/>",
             TextWhat::RepeatedAttribute,
             16,
+        ),
+        (b"<?xml a='1' a='1'?>", TextWhat::RepeatedAttribute, 0),
+        (
+            b"<infrastructure a='1' a='2'/>",
+            TextWhat::RepeatedAttribute,
+            0,
         ),
         (b"<a/>", TextWhat::Root, 0),
         (b"<railML/>", TextWhat::Root, 0),
@@ -184,6 +197,16 @@ fn elements_go_sixty_four_deep(rt: HostRuntime) -> Result<(), Fail> {
     has_fault(&rt, &document, TextWhat::RepeatedAttribute, deepest);
     document.truncate(deepest);
     document.extend_from_slice(b"<b/>")?;
+    has_fault(&rt, &document, TextWhat::Depth, deepest);
+    document.truncate(deepest);
+    document.extend_from_slice(b"</a><!-- <a> --><a>")?;
+    let again = document.len();
+    document.extend_from_slice(b"<x:b>")?;
+    has_fault(&rt, &document, TextWhat::Depth, again);
+    document.truncate(deepest);
+    document.extend_from_slice(b"<b")?;
+    has_fault(&rt, &document, TextWhat::Unfinished, deepest);
+    document.extend_from_slice(b" c='1'>\xEF\xBB\xBF")?;
     has_fault(&rt, &document, TextWhat::Depth, deepest);
     document.truncate(deepest);
     for _ in 0..63 {
