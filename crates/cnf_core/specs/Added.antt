@@ -8,7 +8,8 @@ use Rattle.cnf_core.specs.Formula.{Cnf, Passes, Full}
 
 -- Ok: exactly these clauses were added. Room: the words of all of them pass the room, and so do
 -- those at return with one more clause of the longest length. On each outcome variables and room
--- are as before, and no further clauses were added.
+-- are as before, and the words aren't more than with all of them. After an error the formula isn't
+-- used further, and nothing else is said of its clauses.
 pub record AddsClauses {T : Type 0} (result : Result T CnfFault) (old new : Cnf) (clauses : Clauses) (longest : ℕ) : Type 0 where
   pub added : OnOk result (new.clauses ≡ old.clauses ++ clauses)
   pub passes : IsErrOf result Room → Passes old clauses

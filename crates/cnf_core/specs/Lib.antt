@@ -4,4 +4,5 @@ pub mod Assignment
 pub mod LitOrTruth
 pub mod Formula
 pub mod Added
+pub mod Propagation
 pub mod Truths

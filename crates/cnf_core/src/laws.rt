@@ -33,7 +33,7 @@ pub fn clause_says_one_is_true()
     ensures { (v : Assignment) (unless : List Literal) (ts : List Given) → SatisfiesAll v (clause_of unless ts) ↔ (Satisfies v unless ⊎ SomeTrue v ts) }
 {}
 
-/// Of an assignment only the variables of the clauses count.
+/// Of an assignment only the variables that are there count.
 pub fn other_variables_are_free()
     ensures { (v w : Assignment) (vars : ℕ) (cs : Clauses) → AllThere vars cs → ((x : ℕ) → x ≤ vars → w x ≡ v x) → SatisfiesAll v cs → SatisfiesAll w cs }
 {}

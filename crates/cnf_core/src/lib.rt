@@ -5,10 +5,13 @@
 //! words, and `Truths` a truth value for each variable. `specs/` has the definitions: `Lit`,
 //! `Clause` (distinct variables, words), `Assignment` (satisfaction, and assignments that differ
 //! in a block of variables alone), `LitOrTruth` (the clause that literals and truth values make),
-//! `Formula` and `Truths`. `laws` states what follows from them; `proofs/` has the lemmas that
-//! every crate above cites: `ClauseLemmas` and `GatherLemmas` on satisfaction, `StepLemmas` on
-//! calls that add clauses, `SettingLemmas` on blocks of variables that are set one after another.
-//! Integers, sums, the drawing's formula, the log, its checker and the solver stand on this crate.
+//! `Formula`, `Added` (what a call that adds clauses leaves), `Truths`, and `Propagation` (the
+//! closure, and clauses that follow from it or are new). `laws` and `unit_laws` state what follows
+//! from them. `proofs/` has the lemmas that the crates above cite: `ClauseLemmas` and
+//! `GatherLemmas` on satisfaction, `StepLemmas` and `BlockLemmas` on calls that add clauses,
+//! `SettingLemmas` on blocks of variables that are set one after another, `PropagationLemmas`.
+//! It is the base for integers and sums, for the drawing's formula, the log, its checker and the
+//! solver.
 #![tactic(auto)]
 
 mod clause;
@@ -19,6 +22,7 @@ mod laws;
 mod limits;
 mod literal;
 mod truths;
+mod unit_laws;
 
 pub use clause::Clause;
 pub use fault::CnfFault;
@@ -30,6 +34,10 @@ pub use laws::{
 pub use limits::{LAST_VAR, ROOM, VARS};
 pub use literal::{Lit, LitOrTruth, Var};
 pub use truths::Truths;
+pub use unit_laws::{
+    closure_adds_nothing_again, closure_is_the_least_closed_set, more_clauses_more_closure,
+    new_by_a_closed_set, new_includes_no_clause, rup_is_sound,
+};
 
 #[cfg(test)]
 mod tests;

@@ -117,8 +117,8 @@ int_extends v i n low high = record {
 }
 
 -- the number is read where the variables say the same
-pub reads_same : (v w : Assignment) (i : IntVars) (n vars : ℕ) → IntIsThere vars i → ((x : ℕ) → x ≤ vars → w x ≡ v x) → Reads v i n → Reads w i n
-reads_same v w i n vars there e r = reads_from_steps w i n r.low r.high (λ k within. let to = there.to in e (i.first + k) (omega arith) ∙ steps_from_reads v i n r k within)
+pub reads_same : (v w : Assignment) (i : IntVars) (n : ℕ) → ((x : ℕ) → i.first ≤ x → x < i.first + size i → w x ≡ v x) → Reads v i n → Reads w i n
+reads_same v w i n e r = reads_from_steps w i n r.low r.high (λ k within. e (i.first + k) (omega arith) (omega arith) ∙ steps_from_reads v i n r k within)
 
 -- an assignment gives it one number
 pub reads_once : (v : Assignment) (i : IntVars) (m n : ℕ) → Reads v i m → Reads v i n → m ≡ n

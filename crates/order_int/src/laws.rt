@@ -1,7 +1,7 @@
 // Laws of integers. The functions do nothing: their contracts are the laws.
 ghost use Rattle.std.specs.Prelude.{◌≡◌, ◌≤◌, ◌<◌, ◌+◌, ℕ};
 ghost use Rattle.cnf_core.specs.Assignment.{Assignment, SatisfiesAll};
-ghost use Rattle.order_int.specs.IntVars.{IntVars, IntIsThere, size};
+ghost use Rattle.order_int.specs.IntVars.{IntVars, size};
 ghost use Rattle.order_int.specs.OrderInt.{int_clauses, Reads, number};
 
 /// An assignment satisfies an integer's clauses exactly where it gives the integer a number.
@@ -23,5 +23,5 @@ pub fn one_setting()
 
 /// Of an assignment only the integer's variables count.
 pub fn other_variables_are_free()
-    ensures { (v w : Assignment) (i : IntVars) (n vars : ℕ) → IntIsThere vars i → ((x : ℕ) → x ≤ vars → w x ≡ v x) → Reads v i n → Reads w i n }
+    ensures { (v w : Assignment) (i : IntVars) (n : ℕ) → ((x : ℕ) → i.first ≤ x → x < i.first + size i → w x ≡ v x) → Reads v i n → Reads w i n }
 {}

@@ -7,7 +7,7 @@
 //! range and its variables) and `OrderInt` (the clauses, and `Reads`: an assignment gives the
 //! integer this number). What clauses mean is said of the numbers that are read, never of single
 //! variables; `laws` has what holds of `Reads`, `proofs/` the lemmas for the crates above.
-//! The crates of one edge and of the whole drawing stand on this one.
+//! It is the base for the clauses of one edge and of the whole drawing.
 #![tactic(auto)]
 
 mod integer;

@@ -7,7 +7,7 @@
 //! (the tree, its variables and its clauses, and `count_true`). In each assignment that satisfies
 //! the clauses "at least k" is true exactly where at least k inputs are, every assignment of the
 //! inputs extends to the sum's variables, and no other variable is constrained.
-//! The bounds of a drawing's criteria stand on this crate.
+//! It is the base for the bounds of a drawing's criteria.
 #![tactic(auto)]
 
 mod joins;

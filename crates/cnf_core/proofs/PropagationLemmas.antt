@@ -1,0 +1,189 @@
+-- What follows by unit propagation.
+use Rattle.std.proofs.Common.{◌≡◌, ℕ, ◌<◌, ◌⊎◌, Bool, true, false, not, cond, zero, suc, List, [], ◌∷◌, ◌++◌, length, get_or, refl, sym, ◌∙◌, ap, subst, inl, inr, arith}
+use Rattle.std.specs.Prelude.{All, Contains}
+use Rattle.std.proofs.lemmas.Bool.Decides.{eqb_tells}
+use Rattle.std.proofs.lemmas.List.Elements.{All-contains, All-weaker, All-nil, All-cons, All-contains_itself, Contains-get_or, Contains-append_left, Contains-append_right}
+use Rattle.cnf_core.specs.Lit.{Literal, literal, negate, same_sign, same_literal, has}
+use Rattle.cnf_core.specs.Clause.{Clauses}
+use Rattle.cnf_core.specs.Assignment.{Assignment, truth, Satisfies, SatisfiesAll}
+use Rattle.cnf_core.specs.Propagation.{LiteralSet, IsIn, Includes, IsClosed, Closure, Falsifies, negations, Rup, IsNew, SameLiterals, AreAmong, IsWitness}
+use Rattle.cnf_core.proofs.GatherLemmas.{not_not, truth-negate}
+use Rattle.cnf_core.proofs.QuantifierLemmas.{some_from_satisfies}
+
+-- a literal that stands in a list
+pub literal_same : (k l : Literal) → k.var ≡ l.var → k.positive ≡ l.positive → k ≡ l
+literal_same k l e f = ap (λ x. literal x k.positive) e ∙ ap (λ p. literal l.var p) f
+
+pub negate-negate : (l : Literal) → negate (negate l) ≡ l
+negate-negate l = ap (λ p. literal l.var p) (not_not l.positive)
+
+signs_same : (p q : Bool) → same_sign p q ≡ true → p ≡ q
+signs_same true true h = refl
+signs_same true false h = cc
+signs_same false true h = cc
+signs_same false false h = refl
+
+signs_equal : (p : Bool) → same_sign p p ≡ true
+signs_equal true = refl
+signs_equal false = refl
+
+same_from_test : (k l : Literal) → same_literal k l ≡ true → k ≡ l
+same_from_test k l h = elim (eqb_tells k.var l.var) [
+  | inl e ↦ literal_same k l e.1 (signs_same k.positive l.positive (rw e.0 at h))
+  | inr e ↦ cc (rw e.0 at h)
+]
+
+test_from_same : (k l : Literal) → k ≡ l → same_literal k l ≡ true
+test_from_same k l e = subst (λ (m : Literal). same_literal k m ≡ true) e (elim (eqb_tells k.var k.var) [
+  | inl a ↦ rw a.0 (signs_equal k.positive)
+  | inr a ↦ absurd (a.1 refl)
+])
+
+contains_first : (l : Literal) (ls : List Literal) → Contains (l ∷ ls) l
+contains_first l ls = (0, omega arith, refl)
+
+contains_later : (k l : Literal) (ls : List Literal) → Contains ls l → Contains (k ∷ ls) l
+contains_later k l ls h = let lt = h.1 in (suc h.0, omega arith, h.2)
+
+pub contains_from_has : (ls : List Literal) (l : Literal) → has ls l ≡ true → Contains ls l
+contains_from_has [] l h = cc
+contains_from_has (k ∷ ls) l h = elim (same_literal k l) as (λ b. same_literal k l ≡ b → cond b true (has ls l) ≡ true → Contains (k ∷ ls) l) [
+  | true ↦ λ e _. subst (λ (m : Literal). Contains (k ∷ ls) m) (same_from_test k l e) (contains_first k ls)
+  | false ↦ λ _ m. contains_later k l ls (contains_from_has ls l m)
+] refl h
+
+has_at : (ls : List Literal) (l : Literal) (i : ℕ) → i < length ls → get_or ls i l ≡ l → has ls l ≡ true
+has_at [] l i lt e = absurd (omega arith)
+has_at (k ∷ ls) l zero lt e = rw (test_from_same k l e) refl
+has_at (k ∷ ls) l (suc i) lt e = elim (same_literal k l) as (λ b. cond b true (has ls l) ≡ true) [ true ↦ refl | false ↦ has_at ls l i (omega arith) e ]
+
+pub has_from_contains : (ls : List Literal) (l : Literal) → Contains ls l → has ls l ≡ true
+has_from_contains ls l h = has_at ls l h.0 h.1 h.2
+
+-- the closure is a closed set that includes start, and the least one
+pub closure_start : (clauses : Clauses) (start : LiteralSet) (l : Literal) → IsIn start l → Closure clauses start l
+closure_start clauses start l h = λ set closed includes. includes l h
+
+pub closure_unit : (clauses : Clauses) (start : LiteralSet) (clause : List Literal) (l : Literal) → Contains clauses clause → Contains clause l → All (λ k. (k ≡ l) ⊎ Closure clauses start (negate k)) clause → Closure clauses start l
+closure_unit clauses start clause l among in_clause others = λ set closed includes. closed clause among l (record {
+  among = in_clause;
+  others = All-weaker (λ k. (k ≡ l) ⊎ Closure clauses start (negate k)) (λ k. (k ≡ l) ⊎ IsIn set (negate k)) (λ k h. elim h [ inl e ↦ inl e | inr c ↦ inr (c set closed includes) ]) clause others;
+})
+
+pub closure_least : (clauses : Clauses) (start set : LiteralSet) (l : Literal) → IsClosed clauses set → Includes set start → Closure clauses start l → IsIn set l
+closure_least clauses start set l closed includes h = h set closed includes
+
+-- what follows of what follows, follows
+pub closure_again : (clauses : Clauses) (start more : LiteralSet) (l : Literal) → ((k : Literal) → IsIn more k → Closure clauses start k) → Closure clauses more l → Closure clauses start l
+closure_again clauses start more l f h = λ set closed includes. h set closed (λ k m. f k m set closed includes)
+
+pub falsifies_again : (clauses : Clauses) (start more : LiteralSet) → ((k : Literal) → IsIn more k → Closure clauses start k) → Falsifies clauses more → Falsifies clauses start
+falsifies_again clauses start more f h = record {
+  clause = h.clause;
+  among = h.among;
+  each = All-weaker (λ k. Closure clauses more (negate k)) (λ k. Closure clauses start (negate k)) (λ k c. closure_again clauses start more (negate k) f c) h.clause h.each;
+}
+
+-- more clauses, more closure; the order of a clause's literals doesn't count
+all_same : (P : Literal → Type 0) (c d : List Literal) → SameLiterals c d → All P c → All P d
+all_same P c d same h = All-weaker (Contains d) P (λ k m. All-contains P c k h ((same k).1 m)) d (All-contains_itself d)
+
+closed_among : (clauses more : Clauses) (set : LiteralSet) → AreAmong clauses more → IsClosed more set → IsClosed clauses set
+closed_among clauses more set there closed = λ c among l unit.
+    let d = there c among in
+    closed d.0 d.1 l (record {
+      among = (d.2 l).0 unit.among;
+      others = all_same (λ k. (k ≡ l) ⊎ IsIn set (negate k)) c d.0 d.2 unit.others;
+    })
+
+pub closure_more : (clauses more : Clauses) (start : LiteralSet) (l : Literal) → AreAmong clauses more → Closure clauses start l → Closure more start l
+closure_more clauses more start l there h = λ set closed includes. h set (closed_among clauses more set there closed) includes
+
+pub falsifies_more : (clauses more : Clauses) (start : LiteralSet) → AreAmong clauses more → Falsifies clauses start → Falsifies more start
+falsifies_more clauses more start there h =
+    let d = there h.clause h.among in
+    record {
+      clause = d.0;
+      among = d.1;
+      each = all_same (λ k. Closure more start (negate k)) h.clause d.0 d.2
+          (All-weaker (λ k. Closure clauses start (negate k)) (λ k. Closure more start (negate k)) (λ k c. closure_more clauses more start (negate k) there c) h.clause h.each);
+    }
+
+pub rup_more : (clauses more : Clauses) (clause : List Literal) → AreAmong clauses more → Rup clauses clause → Rup more clause
+rup_more clauses more clause there h = falsifies_more clauses more (negations clause) there h
+
+pub among_left : (xs ys : Clauses) → AreAmong xs (xs ++ ys)
+among_left xs ys = λ c h. (c, Contains-append_left xs ys c h, λ l. (λ m. m, λ m. m))
+
+pub among_right : (xs ys : Clauses) → AreAmong ys (xs ++ ys)
+among_right xs ys = λ c h. (c, Contains-append_right xs ys c h, λ l. (λ m. m, λ m. m))
+
+-- a clause of the list is satisfied where all are
+pub satisfies_one : (v : Assignment) (cs : Clauses) (c : List Literal) → SatisfiesAll v cs → Contains cs c → Satisfies v c
+satisfies_one v cs c h m = at_place cs m.0 m.1 m.2 h
+  where
+    at_place : (cs : Clauses) (k : ℕ) → k < length cs → get_or cs k c ≡ c → SatisfiesAll v cs → Satisfies v c
+    at_place [] k lt e h = absurd (omega arith)
+    at_place (d ∷ cs) zero lt e h = subst (Satisfies v) e h.0
+    at_place (d ∷ cs) (suc k) lt e h = at_place cs k (omega arith) e h.1
+
+-- where all clauses are satisfied, the true literals are a closed set that falsifies none
+true_and_false : (v : Assignment) (l : Literal) → truth v l ≡ true → truth v (negate l) ≡ true → ⊥
+true_and_false v l t f = cc (truth-negate v l, t, f)
+
+pub closed_by_model : (v : Assignment) (clauses : Clauses) → SatisfiesAll v clauses → IsClosed clauses (truth v)
+closed_by_model v clauses h = λ c among l unit.
+    let some = some_from_satisfies v c (satisfies_one v clauses c h among) in
+    elim (All-contains (λ k. (k ≡ l) ⊎ (truth v (negate k) ≡ true)) c some.1 unit.others (some.0, some.2, some.3)) [
+      | inl e ↦ subst (λ (k : Literal). truth v k ≡ true) e some.4
+      | inr f ↦ absurd (true_and_false v some.1 some.4 f)
+    ]
+
+satisfies_or_false : (v : Assignment) (c : List Literal) → Satisfies v c ⊎ All (λ l. truth v l ≡ false) c
+satisfies_or_false v [] = inr (All-nil (λ l. truth v l ≡ false))
+satisfies_or_false v (l ∷ c) = elim (truth v l) as (λ b. truth v l ≡ b → Satisfies v (l ∷ c) ⊎ All (λ k. truth v k ≡ false) (l ∷ c)) [
+  | true ↦ λ t. inl (inl t)
+  | false ↦ λ f. elim (satisfies_or_false v c) [
+    | inl s ↦ inl (inr s)
+    | inr all ↦ inr (All-cons (λ k. truth v k ≡ false) l c f all)
+  ]
+] refl
+
+-- a clause that follows by unit propagation is satisfied wherever the clauses are
+pub rup_sound : (v : Assignment) (clauses : Clauses) (clause : List Literal) → Rup clauses clause → SatisfiesAll v clauses → Satisfies v clause
+rup_sound v clauses clause rup h = elim (satisfies_or_false v clause) [
+  | inl s ↦ s
+  | inr all ↦
+      let includes : Includes (truth v) (negations clause) = λ l m.
+      let f = All-contains (λ k. truth v k ≡ false) clause (negate l) all (contains_from_has clause (negate l) m) in
+      sym (not_not (truth v l)) ∙ ap not (sym (truth-negate v l) ∙ f) in
+      let some = some_from_satisfies v rup.clause (satisfies_one v clauses rup.clause h rup.among) in
+      let f = All-contains (λ k. Closure clauses (negations clause) (negate k)) rup.clause some.1 rup.each (some.0, some.2, some.3) (truth v) (closed_by_model v clauses h) includes in
+      absurd (true_and_false v some.1 some.4 f)
+]
+
+-- a clause is new where a closed set shows it
+pub new_by_witness : (clauses : Clauses) (first : Literal) (others : List Literal) (set : LiteralSet) → IsWitness clauses first others set → (Falsifies clauses (negations others) → ⊥) × (Closure clauses (negations others) first → ⊥)
+new_by_witness clauses first others set w = (
+  λ f. w.unfalsified f.clause f.among (All-weaker (λ k. Closure clauses (negations others) (negate k)) (λ k. IsIn set (negate k)) (λ k h. h set w.closed w.includes) f.clause f.each),
+  λ h. w.lacks (h set w.closed w.includes),
+)
+
+-- no clause has only literals of a new one
+pub new_includes_none : (clauses : Clauses) (first : Literal) (others : List Literal) → IsNew clauses first others → (d : List Literal) → Contains clauses d → ((l : Literal) → Contains d l → (l ≡ first) ⊎ Contains others l) → ⊥
+new_includes_none clauses first others new d among within =
+    elim (has d first) as (λ b. has d first ≡ b → ⊥) [
+      | true ↦ λ t. new.unknown (closure_unit clauses (negations others) d first among (contains_from_has d first t) (λ k e lt.
+          elim (within (get_or d k e) (Contains-get_or d k e lt)) [ inl same ↦ inl same | inr m ↦ inr (negation_follows (get_or d k e) m) ]))
+      | false ↦ λ f. new.unfalsified (record {
+        clause = d;
+        among = among;
+        each = λ k e lt. elim (within (get_or d k e) (Contains-get_or d k e lt)) [
+          | inl same ↦ absurd (cc (f, has_from_contains d first (subst (λ (m : Literal). Contains d m) same (Contains-get_or d k e lt))))
+          | inr m ↦ negation_follows (get_or d k e) m
+        ];
+      })
+    ] refl
+  where
+    negation_follows : (k : Literal) → Contains others k → Closure clauses (negations others) (negate k)
+    negation_follows k m = closure_start clauses (negations others) (negate k) (ap (has others) (negate-negate k) ∙ has_from_contains others k m)

@@ -1,0 +1,70 @@
+-- Unit propagation: what follows from clauses and a set of literals, clause by clause.
+use Rattle.std.specs.Prelude.{◌≡◌, ◌≤◌, ◌⊎◌, ◌↔◌, ℕ, max, Bool, true, List, [], ◌∷◌, All, Contains}
+use Rattle.cnf_core.specs.Lit.{Literal, negate, has}
+use Rattle.cnf_core.specs.Clause.{Clauses}
+
+-- a set of literals, as a test
+abbrev pub LiteralSet : Type 0
+LiteralSet = Literal → Bool
+
+abbrev pub IsIn : LiteralSet → Literal → Type 0
+IsIn set l = set l ≡ true
+
+abbrev pub Includes : LiteralSet → LiteralSet → Type 0
+Includes set start = (l : Literal) → IsIn start l → IsIn set l
+
+-- l is one of the clause's literals, and the negation of each other one is in the set
+pub record IsUnit (set : LiteralSet) (clause : List Literal) (l : Literal) : Type 0 where
+  pub among : Contains clause l
+  pub others : All (λ k. (k ≡ l) ⊎ IsIn set (negate k)) clause
+
+-- the set has the one literal of each unit clause
+abbrev pub IsClosed : Clauses → LiteralSet → Type 0
+IsClosed clauses set = (clause : List Literal) → Contains clauses clause → (l : Literal) → IsUnit set clause l → IsIn set l
+
+-- l is in every closed set that includes start, and so in the least one
+abbrev pub Closure : Clauses → LiteralSet → Literal → Type 0
+Closure clauses start l = (set : LiteralSet) → IsClosed clauses set → Includes set start → IsIn set l
+
+-- the negations of all literals of some clause are in the closure
+pub record Falsifies (clauses : Clauses) (start : LiteralSet) : Type 0 where
+  pub clause : List Literal
+  pub among : Contains clauses clause
+  pub each : All (λ k. Closure clauses start (negate k)) clause
+
+abbrev pub negations : List Literal → LiteralSet
+negations clause l = has clause (negate l)
+
+-- the clause follows by unit propagation: the negations of its literals falsify a clause
+abbrev pub Rup : Clauses → List Literal → Type 0
+Rup clauses clause = Falsifies clauses (negations clause)
+
+abbrev pub greatest_in : List Literal → ℕ
+greatest_in [] = 0
+greatest_in (l ∷ ls) = max l.var (greatest_in ls)
+
+-- the greatest variable of the clauses, or 0 where there is none
+abbrev pub greatest_var : Clauses → ℕ
+greatest_var [] = 0
+greatest_var (c ∷ cs) = max (greatest_in c) (greatest_var cs)
+
+-- the clause of first and others says more than propagation knows, and names no further variable
+pub record IsNew (clauses : Clauses) (first : Literal) (others : List Literal) : Type 0 where
+  pub named : All (λ l. l.var ≤ greatest_var clauses) (first ∷ others)
+  pub unfalsified : Falsifies clauses (negations others) → ⊥
+  pub unknown : Closure clauses (negations others) first → ⊥
+
+-- each clause of the first list has one in the second with the same literals
+abbrev pub SameLiterals : List Literal → List Literal → Type 0
+SameLiterals c d = (l : Literal) → Contains c l ↔ Contains d l
+
+abbrev pub AreAmong : Clauses → Clauses → Type 0
+AreAmong clauses more = (c : List Literal) → Contains clauses c → (d : List Literal) × Contains more d × SameLiterals c d
+
+-- a closed set that shows a clause to be new: it has the negations of the others and not the
+-- first, and falsifies no clause
+pub record IsWitness (clauses : Clauses) (first : Literal) (others : List Literal) (set : LiteralSet) : Type 0 where
+  pub closed : IsClosed clauses set
+  pub includes : Includes set (negations others)
+  pub lacks : IsIn set first → ⊥
+  pub unfalsified : (c : List Literal) → Contains clauses c → All (λ k. IsIn set (negate k)) c → ⊥

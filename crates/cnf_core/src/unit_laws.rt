@@ -1,0 +1,49 @@
+// Laws of unit propagation. The functions do nothing: their contracts are the laws.
+ghost use Rattle.std.specs.Prelude.{◌≡◌, ◌≤◌, ◌⊎◌, ◌∷◌, ◌++◌, List, All, Contains};
+ghost use Rattle.cnf_core.specs.Lit.{Literal, negate};
+ghost use Rattle.cnf_core.specs.Clause.{Clauses};
+ghost use Rattle.cnf_core.specs.Assignment.{Assignment, Satisfies, SatisfiesAll};
+ghost use Rattle.cnf_core.specs.Propagation.{LiteralSet, IsIn, Includes, IsClosed, Closure, Falsifies, Rup, IsNew, AreAmong, IsWitness, greatest_var};
+
+/// The closure has the literals of the start, is closed, and is within every such set.
+pub fn closure_is_the_least_closed_set()
+    ensures start { (clauses : Clauses) (start : LiteralSet) (l : Literal) → IsIn start l → Closure clauses start l }
+    ensures closed { (clauses : Clauses) (start : LiteralSet) (clause : List Literal) (l : Literal) → Contains clauses clause →
+        Contains clause l → All (λ k. (k ≡ l) ⊎ Closure clauses start (negate k)) clause → Closure clauses start l }
+    ensures least { (clauses : Clauses) (start set : LiteralSet) (l : Literal) → IsClosed clauses set → Includes set start →
+        Closure clauses start l → IsIn set l }
+{}
+
+/// The closure of what follows adds nothing.
+pub fn closure_adds_nothing_again()
+    ensures closure { (clauses : Clauses) (start more : LiteralSet) (l : Literal) →
+        ((k : Literal) → IsIn more k → Closure clauses start k) → Closure clauses more l → Closure clauses start l }
+    ensures falsifies { (clauses : Clauses) (start more : LiteralSet) →
+        ((k : Literal) → IsIn more k → Closure clauses start k) → Falsifies clauses more → Falsifies clauses start }
+{}
+
+/// Of more clauses more follows, whatever the order of clauses and of literals in a clause.
+pub fn more_clauses_more_closure()
+    ensures closure { (clauses more : Clauses) (start : LiteralSet) (l : Literal) → AreAmong clauses more → Closure clauses start l → Closure more start l }
+    ensures rup { (clauses more : Clauses) (clause : List Literal) → AreAmong clauses more → Rup clauses clause → Rup more clause }
+    ensures behind { (xs ys : Clauses) → AreAmong xs (xs ++ ys) }
+{}
+
+/// A clause that follows by unit propagation is satisfied by each assignment that satisfies the
+/// clauses.
+pub fn rup_is_sound()
+    ensures { (v : Assignment) (clauses : Clauses) (clause : List Literal) → Rup clauses clause → SatisfiesAll v clauses → Satisfies v clause }
+{}
+
+/// A clause is new where a closed set has the negations of its other literals, lacks the first and
+/// falsifies no clause.
+pub fn new_by_a_closed_set()
+    ensures { (clauses : Clauses) (first : Literal) (others : List Literal) (set : LiteralSet) → IsWitness clauses first others set →
+        All (λ l. l.var ≤ greatest_var clauses) (first ∷ others) → IsNew clauses first others }
+{}
+
+/// No clause has only literals of a new one.
+pub fn new_includes_no_clause()
+    ensures { (clauses : Clauses) (first : Literal) (others : List Literal) → IsNew clauses first others →
+        (d : List Literal) → Contains clauses d → ((l : Literal) → Contains d l → (l ≡ first) ⊎ Contains others l) → ⊥ }
+{}
