@@ -61,13 +61,14 @@ pub record IsProperFront (bytes text : List ℕ) : Type 0 where
   pub some : more ≢ []
   pub parts : text ≡ bytes ++ more
 
--- the rest is a proper front of an item or of `<!DOCTYPE`
+-- the rest is a proper front of an item
 pub record IsFrontOfItem (first : Bool) (rest : List ℕ) : Type 0 where
   pub text : List ℕ
   pub shape : Shape
   pub is : IsItem first text shape
   pub front : IsProperFront rest text
 
+-- or of `<!DOCTYPE`
 abbrev pub IsFront : Bool → List ℕ → Type 0
 IsFront first rest = IsFrontOfItem first rest ⊎ IsProperFront rest (codes "<!DOCTYPE")
 

@@ -70,16 +70,21 @@ fn start_kind(
     ensures kind { IfOk result (λ kind. IsJudged (item (start_tag name.now (map written_of attrs.now) empty)) kind) }
     ensures fault { IfErr result (λ e. IsRefused (item (start_tag name.now (map written_of attrs.now) empty)) e) }
 {
-    let texts = texts_of(alloc, attrs)?;
-    if has_repeat(alloc, attrs)? {
-        return Err(ItemFault::Item(TextWhat::RepeatedAttribute));
+    let repeated = has_repeat(alloc, attrs)?;
+    match texts_of(alloc, attrs) {
+        Err(fault) => Err(fault),
+        Ok(texts) => {
+            if repeated {
+                return Err(ItemFault::Item(TextWhat::RepeatedAttribute));
+            }
+            let name = Text::from_bytes(alloc, name)?;
+            Ok(ItemKind::Start {
+                name,
+                attrs: texts,
+                empty,
+            })
+        }
     }
-    let name = Text::from_bytes(alloc, name)?;
-    Ok(ItemKind::Start {
-        name,
-        attrs: texts,
-        empty,
-    })
 }
 
 /// What is told of the markup, or its own fault.

@@ -86,9 +86,10 @@ fn item_at(alloc: Global, rest: &[u8], first: bool) -> Result<(ItemKind, &[u8]),
     Ok(chars_item(rest))
 }
 
-/// The item that begins at the place `at` of the bytes, or its own fault of the lowest number. A
-/// declaration is looked for exactly where `first` is true. The kinds of faults are Encoding,
-/// Doctype, Markup, Entity, RepeatedAttribute and Unfinished.
+/// The item that begins at the place `at` of a document's bytes, counted from 0, or its own fault of
+/// the lowest number. A character begins at `at`. A declaration is looked for exactly where `first`
+/// is true. The kinds of faults are Encoding, Doctype, Markup, Entity, RepeatedAttribute and
+/// Unfinished; those that hang on the item's place among others are not looked for.
 pub fn scan(alloc: Global, bytes: &[u8], at: usize, first: bool) -> Result<Item, ItemFault>
     requires utf8 { IsUtf8 bytes.now }
     requires within { at < length bytes.now }

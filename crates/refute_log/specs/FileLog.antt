@@ -1,0 +1,106 @@
+-- A log in a file: what its state tells, and what stands in the file at the end.
+use Rattle.std.specs.Prelude.{◌≡◌, ◌≤◌, ℕ, Bool, true, false, List, ◌++◌, ◌⊎◌, take, None, Some, ⊤, string_bytes, refl}
+use Rattle.std.specs.declared.option.Option.{Option}
+use Rattle.std.proofs.Common.{◌∙◌, sym, ap}
+use Rattle.outside_io.specs.Contents.{Told, WhereTold, SameElsewhere}
+use Rattle.outside_io.specs.Counts.{Rose}
+use Rattle.refute_log.specs.declared.file_log.Gathered.{Gathered}
+use Rattle.refute_log.specs.declared.sink.LogSinkFault.{LogSinkFault}
+use Rattle.refute_log.specs.declared.sink.LogSinkFault.TheVariants.{Failed}
+use Rattle.refute_log.specs.Lines.{header, log_text, AreWellFormed}
+use Rattle.refute_log.specs.OneText.{log_text_once}
+use Rattle.refute_log.specs.Told.{Lines}
+
+-- the contents are told
+abbrev pub IsTold : Option Told → Type 0
+IsTold None = ⊥
+IsTold (Some told) = ⊤
+
+-- the contents are told, and the file's bytes, with those that are gathered, are the text of the lines
+abbrev pub IsText : Option Told → List ℕ → List ℕ → Lines → Type 0
+IsText None name gathered lines = ⊥
+IsText (Some told) name gathered lines = (bytes : List ℕ) × (told name ≡ Some bytes) × (bytes ++ gathered ≡ log_text lines)
+
+-- no call has failed, and the text is that of the lines
+abbrev pub TellsText : Bool → Option Told → List ℕ → List ℕ → Lines → Type 0
+TellsText failed contents name gathered lines = (failed ≡ false) × IsText contents name gathered lines × AreWellFormed lines
+
+-- the file's name
+abbrev pub name_of : Gathered → List ℕ
+name_of kept = string_bytes kept.name
+
+-- the number of Learnt lines told
+abbrev pub learnt_of : Gathered → ℕ
+learnt_of kept = kept.learnt
+
+-- what a log keeps, with the files' contents, tells that these are its lines
+abbrev pub TellsLines : Gathered → Option Told → Lines → Type 0
+TellsLines kept contents lines = TellsText kept.failed contents (name_of kept) kept.bytes.items lines
+
+-- the bytes begin the text of some log
+pub record BeginsLog (bytes : List ℕ) : Type 0 where
+  pub lines : Lines
+  pub more : List ℕ
+  pub formed : AreWellFormed lines
+  pub spelled : bytes ++ more ≡ log_text lines
+
+-- the file is there, and its bytes begin the text of some log
+abbrev pub FileBeginsLog : Told → List ℕ → Type 0
+FileBeginsLog told name = (bytes : List ℕ) × (told name ≡ Some bytes) × BeginsLog bytes
+
+-- as long as no call has failed, the file's bytes with those that are gathered are the text of a log;
+-- from then on the file's bytes begin one
+abbrev pub KeepsText : Bool → Told → List ℕ → List ℕ → Type 0
+KeepsText true told name gathered = FileBeginsLog told name
+KeepsText false told name gathered = (lines : Lines) × TellsText false (Some told) name gathered lines
+
+abbrev pub KeepsLog : Gathered → Told → Type 0
+KeepsLog kept told = KeepsText kept.failed told (name_of kept) kept.bytes.items
+
+-- where the first kept the text of a log with these contents, the second does with those
+abbrev pub StillKeeps : Gathered → Gathered → Told → Told → Type 0
+StillKeeps kept now before after = KeepsLog kept before → KeepsLog now after
+
+-- the contents are told, and the file holds the text of the lines
+abbrev pub HasText : Option Told → List ℕ → Lines → Type 0
+HasText None name lines = ⊥
+HasText (Some told) name lines = told name ≡ Some (log_text lines)
+
+-- the file stands as it stood, or holds the first line or a front of it, and no other changed
+pub record MayStart (name : List ℕ) (before after : Told) : Type 0 where
+  pub either : (after name ≡ before name) ⊎ ((n : ℕ) × (after name ≡ Some (take n header)))
+  pub others : SameElsewhere name before after
+
+-- the files after a log that couldn't be started
+pub record StartFails {F : Type 0} (contents : F → Option Told) (write_faults : F → ℕ) (name : List ℕ) (before : F) (fault : LogSinkFault) (after : F) : Type 0 where
+  pub file : WhereTold (contents before) (contents after) (MayStart name)
+  pub later : write_faults before ≤ write_faults after
+  pub cause : fault ≡ Failed → Rose (write_faults before) (write_faults after)
+
+-- laws of the later state
+pub where_told_same : (c : Option Told) (name : List ℕ) → WhereTold c c (SameElsewhere name)
+where_told_same None name = tt
+where_told_same (Some told) name = λ other ne. refl
+
+pub where_told_more : (a b c : Option Told) (first second : List ℕ) → second ≡ first → WhereTold a b (SameElsewhere first) → WhereTold b c (SameElsewhere second) → WhereTold a c (SameElsewhere first)
+where_told_more None b c first second e h k = tt
+where_told_more (Some x) None c first second e h k = absurd h
+where_told_more (Some x) (Some y) None first second e h k = absurd k
+where_told_more (Some x) (Some y) (Some z) first second e h k = λ other ne. k other (λ same. ne (same ∙ e)) ∙ h other ne
+
+-- a state tells one list
+pub tells_once : (failed : Bool) (contents : Option Told) (name gathered : List ℕ) (a b : Lines) → TellsText failed contents name gathered a → TellsText failed contents name gathered b → a ≡ b
+tells_once failed None name gathered a b h k = absurd h.1
+tells_once failed (Some told) name gathered a b h k =
+    let same : h.1.0 ≡ k.1.0 = let e : Some h.1.0 ≡ Some k.1.0 = sym h.1.1 ∙ k.1.1 in cc in
+    log_text_once a b h.2 k.2 (sym h.1.2 ∙ ap (λ (xs : List ℕ). xs ++ gathered) same ∙ k.1.2)
+
+pub keeps_same : (c : Option Told) (kept : Gathered) → WhereTold c c (StillKeeps kept kept)
+keeps_same None kept = tt
+keeps_same (Some told) kept = λ k. k
+
+pub keeps_more : (a b c : Option Told) (x y z : Gathered) → WhereTold a b (StillKeeps x y) → WhereTold b c (StillKeeps y z) → WhereTold a c (StillKeeps x z)
+keeps_more None b c x y z h k = tt
+keeps_more (Some a) None c x y z h k = absurd h
+keeps_more (Some a) (Some b) None x y z h k = absurd k
+keeps_more (Some a) (Some b) (Some c) x y z h k = λ f. k (h f)

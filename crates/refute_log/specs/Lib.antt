@@ -1,0 +1,5 @@
+pub mod Lines
+pub mod Told
+pub mod LineList
+pub mod OneText
+pub mod FileLog

@@ -1,0 +1,177 @@
+// A log in a file of files that are lent.
+ghost use Rattle.std.specs.Prelude.{◌≡◌, ◌≤◌, [], false, OnOk, OnErr, IfOk, IfErr, IsErrOf, string_bytes};
+ghost use Rattle.outside_io.specs.Counts.{Rose};
+ghost use Rattle.outside_io.specs.Contents.{WhereTold, SameElsewhere, Sets};
+ghost use Rattle.refute_log.specs.Lines.{header};
+ghost use Rattle.refute_log.specs.FileLog.{MayStart, StartFails};
+
+use crate::{LogLine, LogSink, LogSinkFault, write_line};
+use outside_io::{FileFault, Files};
+use std::alloc::Global;
+
+/// How many bytes are gathered, at least, before they go into the file.
+const PIECE: usize = 65536;
+
+/// What a log in a file keeps beside the files that are lent to it.
+#[derive(Drop)]
+pub struct Gathered {
+    alloc: Global,
+    name: String,
+    bytes: Vec<u8>,
+    learnt: u64,
+    failed: bool,
+}
+
+/// A log that gathers the text of its lines and appends it, in pieces, to a file of the files that
+/// are lent to it. `finish` appends the rest; without it the file has a front of the text. Once a
+/// call has failed the log writes nothing more, and refuses each line with `Memory`.
+///
+/// The second type parameter is always `Gathered`. It is a parameter so that what the files are at
+/// the end is known to the caller.
+#[derive(Drop)]
+pub struct FileLog<'a, F: Files, G = Gathered> {
+    files: &'a mut F,
+    kept: G,
+}
+
+fn fault_of(fault: FileFault) -> LogSinkFault
+    ensures { result ≡ LogSinkFault.Failed → fault ≡ FileFault.Failed }
+{
+    match fault {
+        FileFault::Failed => LogSinkFault::Failed,
+        FileFault::Memory => LogSinkFault::Memory,
+    }
+}
+
+/// The file with the first line.
+fn begin<F: Files>(files: &mut F, name: &str) -> Result<(), FileFault>
+    ensures ok { OnOk result (WhereTold (F.contents files.old) (F.contents files.new) (Sets name.now header)) }
+    ensures err { OnErr result (WhereTold (F.contents files.old) (F.contents files.new) (MayStart name.now)) }
+    ensures later { F.write_faults files.old ≤ F.write_faults files.new }
+    ensures cause { IsErrOf result FileFault.Failed → Rose (F.write_faults files.old) (F.write_faults files.new) }
+{
+    files.create(name)?;
+    files.append(name, b"railplan-log 1\n")
+}
+
+/// Makes room for what the log keeps, and then the file with its first line.
+fn prepare<F: Files>(alloc: Global, files: &mut F, name: &str) -> Result<Gathered, LogSinkFault>
+    ensures kept { IfOk result (λ k. (string_bytes k.name ≡ name.now) × (k.learnt ≡ 0) × (k.failed ≡ false) × (k.bytes.items ≡ [])) }
+    ensures created { OnOk result (WhereTold (F.contents files.old) (F.contents files.new) (Sets name.now header)) }
+    ensures err { IfErr result (λ e. StartFails F.contents F.write_faults name.now files.old e files.new) }
+    ensures later { F.write_faults files.old ≤ F.write_faults files.new }
+{
+    let copy = String::from_str(alloc, name)?;
+    match begin(files, name) {
+        Ok(()) => Ok(Gathered {
+            alloc,
+            name: copy,
+            bytes: Vec::new(alloc),
+            learnt: 0,
+            failed: false,
+        }),
+        Err(fault) => Err(fault_of(fault)),
+    }
+}
+
+impl<'a, F: Files> FileLog<'a, F> {
+    ghost use Rattle.std.specs.Prelude.{◌≡◌, ◌≤◌, [], OnOk, IfOk, IfErr, IsErrOf};
+    ghost use Rattle.outside_io.specs.Counts.{Rose};
+    ghost use Rattle.outside_io.specs.Contents.{WhereTold, SameElsewhere, Sets};
+    ghost use Rattle.refute_log.specs.Lines.{header};
+    ghost use Rattle.refute_log.specs.FileLog.{TellsLines, KeepsLog, FileBeginsLog, name_of, learnt_of, HasText, IsTold, StartFails};
+    ghost use Rattle.refute_log.specs.declared.sink.LogSinkFault.TheVariants.{Failed};
+    ghost use Rattle.refute_log.specs.Told.{Lines};
+
+    /// Creates the file with its first line. An `Err` hands the files back.
+    pub fn start(
+        alloc: Global,
+        files: &'a mut F,
+        name: &str,
+    ) -> Result<FileLog<'a, F>, (LogSinkFault, &'a mut F)>
+        ensures same_reference { IfOk result (λ s. s.files.ghost_name ≡ files.entry.ghost_name) }
+        ensures same_reference_err { IfErr result (λ e. e.1.ghost_name ≡ files.entry.ghost_name) }
+        ensures name { IfOk result (λ s. name_of s.kept ≡ name.now) }
+        ensures learnt { IfOk result (λ s. learnt_of s.kept ≡ 0) }
+        ensures created { IfOk result (λ s. WhereTold (F.contents files.entry.now) (F.contents s.files.now) (Sets name.now header)) }
+        ensures tells { IfOk result (λ s. IsTold (F.contents files.entry.now) → TellsLines s.kept (F.contents s.files.now) []) }
+        ensures keeps { IfOk result (λ s. WhereTold (F.contents files.entry.now) (F.contents s.files.now) (λ _ now. KeepsLog s.kept now)) }
+        ensures faults { IfOk result (λ s. F.write_faults files.entry.now ≤ F.write_faults s.files.now) }
+        ensures err { IfErr result (λ e. StartFails F.contents F.write_faults name.now files.entry.now e.0 e.1.now) }
+    {
+        match prepare(alloc, files, name) {
+            Ok(kept) => Ok(FileLog { files, kept }),
+            Err(fault) => Err((fault, files)),
+        }
+    }
+
+    /// Lets the files go as they are.
+    pub fn abandon(self)
+        ensures { self.exit.0.now ≡ self.entry.files.now }
+    {
+        let FileLog { files: _, kept: _ } = self;
+    }
+
+    /// Appends what is gathered. Where a call has failed before, it writes nothing and answers
+    /// `Memory`.
+    pub fn finish(self) -> Result<(), LogSinkFault>
+        ensures faults { F.write_faults self.entry.files.now ≤ F.write_faults self.exit.0.now }
+        ensures others { WhereTold (F.contents self.entry.files.now) (F.contents self.exit.0.now) (SameElsewhere (name_of self.entry.kept)) }
+        ensures cause { IsErrOf result Failed → Rose (F.write_faults self.entry.files.now) (F.write_faults self.exit.0.now) }
+        ensures begins { WhereTold (F.contents self.entry.files.now) (F.contents self.exit.0.now) (λ before now. KeepsLog self.entry.kept before → FileBeginsLog now (name_of self.entry.kept)) }
+        ensures text { OnOk result ((lines : Lines) → TellsLines self.entry.kept (F.contents self.entry.files.now) lines → HasText (F.contents self.exit.0.now) (name_of self.entry.kept) lines) }
+    {
+        let FileLog { files, kept } = self;
+        if kept.failed {
+            return Err(LogSinkFault::Memory);
+        }
+        match files.append(kept.name.as_str(), &kept.bytes) {
+            Ok(()) => Ok(()),
+            Err(fault) => Err(fault_of(fault)),
+        }
+    }
+}
+
+impl<'a, F: Files> LogSink for FileLog<'a, F> {
+    ghost use Rattle.std.specs.Prelude.{◌≡◌};
+    ghost use Rattle.std.proofs.Common.{refl, ◌∙◌};
+    ghost use Rattle.outside_io.specs.Contents.{WhereTold, SameElsewhere};
+    ghost use Rattle.refute_log.specs.FileLog.{TellsLines, name_of, learnt_of, StillKeeps, keeps_same, keeps_more, where_told_same, where_told_more, tells_once};
+
+    ghost tells = { λ s lines. TellsLines s.kept (F.contents s.files.now) lines };
+
+    ghost learnt = { λ s. learnt_of s.kept };
+
+    ghost faults = { λ s. F.write_faults s.files.now };
+
+    ghost is_later = { λ s t. (t.files.ghost_name ≡ s.files.ghost_name) × (name_of t.kept ≡ name_of s.kept)
+        × WhereTold (F.contents s.files.now) (F.contents t.files.now) (SameElsewhere (name_of s.kept))
+        × WhereTold (F.contents s.files.now) (F.contents t.files.now) (StillKeeps s.kept t.kept) };
+
+    fn tell(&mut self, line: &LogLine) -> Result<(), LogSinkFault> {
+        if self.kept.failed {
+            return Err(LogSinkFault::Memory);
+        }
+        if write_line(self.kept.alloc, line, &mut self.kept.bytes).is_err() {
+            self.kept.failed = true;
+            return Err(LogSinkFault::Memory);
+        }
+        if self.kept.bytes.len() >= PIECE {
+            match self.files.append(self.kept.name.as_str(), &self.kept.bytes) {
+                Ok(()) => self.kept.bytes.clear(),
+                Err(fault) => {
+                    self.kept.failed = true;
+                    return Err(fault_of(fault));
+                }
+            }
+        }
+        self.kept.learnt = line.count_after(self.kept.learnt);
+        Ok(())
+    }
+
+    ghost one_reading = { λ s a b h k. tells_once s.kept.failed (F.contents s.files.now) (name_of s.kept) s.kept.bytes.items a b h k };
+
+    ghost later_same = { λ s. (refl, refl, where_told_same (F.contents s.files.now) (name_of s.kept), keeps_same (F.contents s.files.now) s.kept) };
+
+    ghost later_more = { λ a b c h k. (k.0 ∙ h.0, k.1 ∙ h.1, where_told_more (F.contents a.files.now) (F.contents b.files.now) (F.contents c.files.now) (name_of a.kept) (name_of b.kept) h.1 h.2 k.2, keeps_more (F.contents a.files.now) (F.contents b.files.now) (F.contents c.files.now) a.kept b.kept c.kept h.3 k.3) };
+}
