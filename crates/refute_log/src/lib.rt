@@ -1,11 +1,11 @@
-//! The lines of a log, where they are told, and their text, both ways.
+//! The lines of a log, where they are told, and their text.
 //!
 //! A log is the certificate of a drawing: the clauses of its formula, the clauses that the search
 //! learnt, its questions and their answers, one a line. `LogSink` is what a search tells its lines
 //! to, `LineList` keeps them in memory, `NoLog` only counts, and `FileLog` writes them to a file of
 //! files that are lent. `specs/Lines` says which lines are well formed and the text of each,
-//! `specs/Told` what a log tells of its lines. The checker of logs, the solver and all that searches
-//! with it stand on this crate.
+//! `specs/Told` what a log tells of its lines. It is the base for the checker of logs and for all that
+//! searches.
 #![tactic(auto)]
 
 mod file_log;
@@ -21,3 +21,6 @@ pub use line_list::LineList;
 pub use no_log::NoLog;
 pub use sink::{LogSink, LogSinkFault};
 pub use writing::write_line;
+
+#[cfg(test)]
+mod tests;
