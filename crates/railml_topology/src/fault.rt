@@ -1,0 +1,101 @@
+// What can be wrong with the rows of a document.
+ghost use Rattle.std.specs.Prelude.{◌≡◌};
+ghost use Rattle.railml_topology.specs.declared.fault.ResolveFault.TheVariants.{Memory};
+
+use plan_core::{OutOfMemory, Text};
+use std::alloc::{AllocError, AllocFailed};
+use std::fmt;
+use thiserror::Error;
+
+/// The faults of a topology, in the order of their numbers from 1 to 13. Where rows have several, the
+/// lowest number counts, and then the least place.
+#[derive(Clone, Copy, Debug, PartialEq, Eq)]
+pub enum TopologyWhat {
+    /// There is no track.
+    NoTracks,
+    /// There are more than 128 tracks; told of the 129th.
+    TooMany,
+    /// A required attribute is missing; told with its name.
+    Missing,
+    /// An id is too short, too long, or has a character that none may have.
+    Id,
+    /// An id stands at an earlier element too; told with the id.
+    RepeatedId,
+    /// A `pos` or an `absPos` is no number of metres; told with the element's id and the attribute's
+    /// name.
+    Number,
+    /// A connection refers to no connection; told with its id.
+    UnknownRef,
+    /// A connection refers to one that refers to another; told with both ids.
+    NotMutual,
+    /// A connection refers to itself; told with its id.
+    SelfRef,
+    /// A track, a begin, an end, a switch or a crossing lacks one of its parts, or has one too many;
+    /// told with its id.
+    EndKind,
+    /// A course is none that its connection may have; told with the connection's id.
+    Course,
+    /// An orientation is neither `incoming` nor `outgoing`; told with the connection's id.
+    Orientation,
+    /// An end, a switch or a crossing lies outside of its track; told with its id.
+    OutsideTrack,
+}
+
+/// Why rows give no topology.
+#[derive(Drop, Error)]
+pub enum ResolveFault {
+    /// The rows have a fault. `at` is the byte of the start tag that it is told of, 0 where there is no
+    /// track, and the texts are those that its kind tells, empty where it tells none.
+    #[error("a fault in the topology")]
+    Topology {
+        what: TopologyWhat,
+        at: usize,
+        first: Text,
+        second: Text,
+    },
+    /// Memory couldn't be had.
+    #[error("out of memory")]
+    Memory,
+}
+
+impl fmt::Debug for ResolveFault {
+    fn fmt<W: fmt::Write>(&self, f: &mut fmt::Formatter<W>) -> fmt::Result {
+        match self {
+            ResolveFault::Topology {
+                what,
+                at,
+                first,
+                second,
+            } => {
+                let first = first.as_str();
+                let second = second.as_str();
+                write!(f, "{what:?} at {at}: {first:?}, {second:?}")
+            }
+            ResolveFault::Memory => write!(f, "Memory"),
+        }
+    }
+}
+
+impl From<OutOfMemory> for ResolveFault {
+    ghost from_gives = { λ _ e. e ≡ Memory };
+
+    fn from(_: OutOfMemory) -> Self {
+        ResolveFault::Memory
+    }
+}
+
+impl From<AllocError> for ResolveFault {
+    ghost from_gives = { λ _ e. e ≡ Memory };
+
+    fn from(_: AllocError) -> Self {
+        ResolveFault::Memory
+    }
+}
+
+impl<T: Drop> From<AllocFailed<T>> for ResolveFault {
+    ghost from_gives = { λ _ e. e ≡ Memory };
+
+    fn from(_: AllocFailed<T>) -> Self {
+        ResolveFault::Memory
+    }
+}

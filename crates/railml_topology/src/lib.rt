@@ -1,0 +1,15 @@
+//! The track topology that a document's rows give, or the fault that they have.
+//!
+//! Thirteen things can be wrong with rows. `specs/Rows` has the words that all speak in (a row's
+//! children, ids, attributes and positions), and `specs/Faults` says of each of the thirteen exactly
+//! where it holds and which texts are told with it; the fault that is told is the first by kind and
+//! then by place.
+//!
+//! It stands on `railml_read`, which gives the rows, and on `rail_mileage`, which reads positions and
+//! mileages; the track graph is built from its topology.
+#![tactic(auto)]
+
+mod attributes;
+mod fault;
+
+pub use fault::{ResolveFault, TopologyWhat};
