@@ -11,5 +11,6 @@
 
 mod attributes;
 mod fault;
+mod layout;
 
 pub use fault::{ResolveFault, TopologyWhat};
