@@ -1,1 +1,7 @@
 pub mod Apart
+pub mod Zips
+pub mod Family
+pub mod PositionLemmas
+pub mod ElementLemmas
+pub mod JoinLemmas
+pub mod ResolvedLemmas
