@@ -5,3 +5,4 @@ pub mod PositionLemmas
 pub mod ElementLemmas
 pub mod JoinLemmas
 pub mod ResolvedLemmas
+pub mod SoundLemmas
