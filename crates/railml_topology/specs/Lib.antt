@@ -1,2 +1,5 @@
 pub mod Rows
 pub mod Faults
+pub mod Ids
+pub mod Searching
+pub mod Tables

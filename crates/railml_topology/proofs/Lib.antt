@@ -1,0 +1,6 @@
+pub mod SearchLemmas
+pub mod TableLemmas
+pub mod ListLemmas
+pub mod IdLemmas
+pub mod CharacterLemmas
+pub mod ChildLemmas
