@@ -6,3 +6,9 @@ pub mod ElementLemmas
 pub mod JoinLemmas
 pub mod ResolvedLemmas
 pub mod SoundLemmas
+pub mod SearchLemmas
+pub mod TableLemmas
+pub mod ListLemmas
+pub mod IdLemmas
+pub mod CharacterLemmas
+pub mod ChildLemmas

@@ -10,7 +10,15 @@
 #![tactic(auto)]
 
 mod attributes;
+mod bad_ids;
+mod children;
+mod courses;
 mod fault;
+mod ids;
 mod layout;
+mod missing;
+mod numbers;
+mod rows;
+mod tracks;
 
 pub use fault::{ResolveFault, TopologyWhat};

@@ -1,0 +1,2 @@
+-- Ids by their numbers.
+use Rattle.std.proofs.Common.{ℕ}

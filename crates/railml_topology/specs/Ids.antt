@@ -1,0 +1,39 @@
+-- Ids: which characters they have, and which row's number an id is kept with.
+use Rattle.std.specs.Prelude.{◌≡◌, ◌<◌, ℕ, Bool, if◌then◌else◌, List, Option, Some, None, bytes_eq, slice_get, nat_lt, ◌&&◌, ◌||◌}
+use Rattle.std.specs.Borrow.{Bor}
+use Rattle.std.specs.HashMap.{HashMap, get_by}
+use Rattle.railml_read.specs.declared.rows.Elem.{Elem}
+use Rattle.railml_read.specs.declared.rows.ElemKind.TheVariants.{Connection}
+use Rattle.railml_topology.specs.Rows.{same_kind, bears_id}
+
+-- whether a character is no control character, no space and no no-break space
+abbrev pub is_id_character : ℕ → Bool
+is_id_character c = nat_lt 32 c && (nat_lt c 127 || nat_lt 160 c)
+
+-- the number that an id is kept with
+abbrev pub number_in : {S : Type 0} → HashMap (Bor (List ℕ)) ℕ S → List ℕ → Option ℕ
+number_in {S} numbers id = get_by (λ k. bytes_eq id k.now) numbers
+
+-- one id has this number from now on, and each other the number that it had
+abbrev pub Numbers : {S : Type 0} → HashMap (Bor (List ℕ)) ℕ S → HashMap (Bor (List ℕ)) ℕ S → List ℕ → ℕ → Type 0
+Numbers {S} old new id number = (q : List ℕ) → number_in new q ≡ (if bytes_eq id q then Some number else number_in old q)
+
+-- a row's id, if it has one that counts
+abbrev pub own_id : Elem → Option (List ℕ)
+own_id row = if bears_id row.kind then row.attrs.id else None
+
+-- a connection's id, if it has one
+abbrev pub connection_id : Elem → Option (List ℕ)
+connection_id row = if same_kind row.kind Connection then row.attrs.id else None
+
+-- row j, one of the first n, has this id
+pub record HasIdAt (id_at : Elem → Option (List ℕ)) (rows : List Elem) (n j : ℕ) (id : List ℕ) : Type 0 where
+  pub row : Elem
+  pub before : j < n
+  pub is : slice_get rows j ≡ Some row
+  pub has : id_at row ≡ Some id
+
+-- ids of the first n rows are kept with the number of a row that has them, and no id is left out
+pub record KeepsIds {S : Type 0} (id_at : Elem → Option (List ℕ)) (rows : List Elem) (n : ℕ) (numbers : HashMap (Bor (List ℕ)) ℕ S) : Type 0 where
+  pub found : (id : List ℕ) (j : ℕ) → number_in numbers id ≡ Some j → HasIdAt id_at rows n j id
+  pub missed : (id : List ℕ) (j : ℕ) → number_in numbers id ≡ None → HasIdAt id_at rows n j id → ⊥

@@ -1,0 +1,45 @@
+-- What is kept of rows while they are judged and built from: tables with an entry for each row.
+use Rattle.std.specs.Prelude.{◌≡◌, ◌≢◌, ℕ, List, [], ◌∷◌, ◌++◌, length, Option, Some, None, slice_get, ℤ}
+use Rattle.std.specs.declared.vec.Vec.{Vec}
+use Rattle.std.specs.declared.alloc.Global.{Global}
+use Rattle.plan_core.specs.declared.numbers.Micro.{Micro}
+use Rattle.railml_read.specs.declared.rows.Elem.{Elem}
+use Rattle.railml_topology.specs.Rows.{all_children, HasPosition, IsConnectionNamed}
+use Rattle.railml_topology.specs.Faults.{RefersTo}
+
+-- the one entry of a list that has just one
+abbrev pub only_of : List ℕ → Option ℕ
+only_of [] = None
+only_of (c ∷ []) = Some c
+only_of (c ∷ d ∷ list) = None
+
+-- there is an entry for each row, and of the entry of row i this holds
+pub record HasEntries {X : Type 0} (Q : ℕ → X → Type 0) (rows : List Elem) (table : List X) : Type 0 where
+  pub whole : length table ≡ length rows
+  pub entry : (i : ℕ) (x : X) → slice_get table i ≡ Some x → Q i x
+
+-- the children of each row
+abbrev pub ListsChildren : List Elem → List (Vec ℕ Global) → Type 0
+ListsChildren rows table = HasEntries (λ i (list : Vec ℕ Global). list.items ≡ all_children rows i) rows table
+
+-- the parent's list has one more child, and no other list has changed
+pub record AddsChild (old new : List (Vec ℕ Global)) (parent child : ℕ) : Type 0 where
+  pub added : (list : Vec ℕ Global) → slice_get new parent ≡ Some list → (before : Vec ℕ Global) × (slice_get old parent ≡ Some before) × (list.items ≡ before.items ++ child ∷ [])
+  pub others : (i : ℕ) → i ≢ parent → slice_get new i ≡ slice_get old i
+
+-- a row's position, if its `pos` is a number
+abbrev pub IsPositionOf : Elem → Option Micro → Type 0
+IsPositionOf row None = (z : ℤ) → HasPosition row z → ⊥
+IsPositionOf row (Some m) = HasPosition row m.0
+
+-- row j is a connection that a connection refers to
+pub record IsReferredTo (rows : List Elem) (row : Elem) (j : ℕ) : Type 0 where
+  pub name : List ℕ
+  pub other : Elem
+  pub refers : RefersTo row name
+  pub named : IsConnectionNamed rows j name other
+
+-- the number of a connection that a row refers to, if it refers to one
+abbrev pub IsTargetOf : List Elem → Elem → Option ℕ → Type 0
+IsTargetOf rows row None = (j : ℕ) → IsReferredTo rows row j → ⊥
+IsTargetOf rows row (Some j) = IsReferredTo rows row j
