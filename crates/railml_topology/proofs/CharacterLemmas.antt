@@ -28,6 +28,7 @@ told c h = ap (λ b. b && (nat_lt c 127 || nat_lt 160 c)) (lt-ltb 32 c h.0) ∙ 
     orb : (a b : Bool) → b ≡ true → (a || b) ≡ true
     orb true b e = refl
     orb false b e = e
+
     by : (c < 127) ⊎ (160 < c) → (nat_lt c 127 || nat_lt 160 c) ≡ true
     by (inl e) = ap (λ b. b || nat_lt 160 c) (lt-ltb c 127 e)
     by (inr e) = orb (nat_lt c 127) (nat_lt 160 c) (lt-ltb 160 c e)

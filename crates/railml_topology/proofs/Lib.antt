@@ -2,6 +2,7 @@ pub mod Apart
 pub mod Zips
 pub mod Family
 pub mod PositionLemmas
+pub mod OrderLemmas
 pub mod ElementLemmas
 pub mod JoinLemmas
 pub mod ResolvedLemmas

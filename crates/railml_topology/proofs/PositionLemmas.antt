@@ -1,13 +1,20 @@
 -- A row has one position at most, and the order along a track never goes in a circle.
-use Rattle.std.proofs.Common.{◌≡◌, ◌≢◌, ℕ, ◌<◌, List, slice_get, sym, ap, ◌∙◌, subst, inl, inr, arith}
-use Rattle.std.specs.Prelude.{ℤ, ◌<ℤ◌}
-use Rattle.std.proofs.lemmas.Int.{ints}
-use Rattle.std.proofs.lemmas.Option.{same_Some}
-use Rattle.rail_mileage.specs.Metres.{Parts, mileage}
+use Rattle.std.proofs.Common.{◌≡◌, ◌≢◌, FitsSigned, w64, to_z, of_z, ℕ, ◌<◌, List, slice_get, sym, ap, ◌∙◌, subst, inl, inr, arith}
+use Rattle.std.proofs.Common.{length, get_or, refl}
+use Rattle.std.specs.Prelude.{◌^◌, ◌||◌, Some, Bool, true, false, pos, neg_ℤ, ℤ, ◌<ℤ◌}
+use Rattle.std.proofs.lemmas.Int.{ints, to_z-of_z}
+use Rattle.std.proofs.lemmas.Option.{same_Some, slice_get_within, slice_get_read}
+use Rattle.plan_core.specs.declared.numbers.Micro.{Micro}
+use Rattle.rail_mileage.specs.Metres.{Parts, IsMetres, mileage, size_of, signed, is_minus, fraction_digits}
+use Rattle.rail_mileage.proofs.Digits.{size_below}
 use Rattle.rail_mileage.proofs.PartsLemmas.{one_reading}
 use Rattle.railml_read.specs.declared.rows.Elem.{Elem}
-use Rattle.railml_topology.specs.Rows.{Reads, HasPosition}
+use Rattle.railml_read.specs.declared.rows.ElemKind.TheVariants.{Switch, Crossing}
+use Rattle.railml_topology.specs.Rows.{is_of_kind, bears_position, Reads, HasPosition}
 use Rattle.railml_topology.specs.Resolved.{StandsBefore}
+use Rattle.railml_topology.specs.Plans.{is_inner, IsWithin}
+use Rattle.railml_topology.specs.Sound.{AreSound}
+use Rattle.railml_topology.proofs.Family.{of_kind}
 
 pub one_number : (text : List ℕ) (z w : ℤ) → Reads text z → Reads text w → z ≡ w
 one_number text z w a b = sym a.is ∙ (ap (λ (p : Parts). (mileage p).0) (one_reading text a.parts b.parts a.metres b.metres) ∙ b.is)
@@ -28,3 +35,53 @@ before_differs rows i j s same =
       | inl less ↦ never_below s.to (subst (λ (v : ℤ). v <ℤ s.to) level less)
       | inr later ↦ (let below : i < j = later.1 in omega arith)
     ]
+
+-- ---- how far from nought
+
+signed_within : (b n : ℕ) (negative : Bool) → n < b → IsWithin b (signed negative n)
+signed_within b n true h = (omega (arith, ints), omega (arith, ints))
+signed_within b n false h = (omega (arith, ints), omega (arith, ints))
+
+pub number_within : (text : List ℕ) (z : ℤ) → Reads text z → IsWithin (10 ^ 15) z
+number_within text z r =
+    let m = r.metres in
+    let p = r.parts in
+    subst (IsWithin (10 ^ 15)) r.is (signed_within (10 ^ 15) (size_of p.whole (fraction_digits p.fraction)) (is_minus p.sign)
+    (size_below p.whole (fraction_digits p.fraction) m.digits_before m.digits_after m.whole_limit m.fraction_limit))
+
+-- the same of what a reader of metres says
+pub metres_within : (text : List ℕ) (m : Micro) → (parts : Parts) × IsMetres text parts × (m ≡ mileage parts) → IsWithin (10 ^ 15) m.0
+metres_within text m (parts, metres, is) = number_within text m.0 (record { parts = parts; metres = metres; is = ap (λ (v : Micro). v.0) (sym is) })
+
+fits_64 : (z : ℤ) → IsWithin (10 ^ 15) z → FitsSigned w64 z
+fits_64 z h = let low = h.0 in let high = h.1 in omega (arith, ints)
+
+-- such a number goes through a signed word of 64 bits
+pub kept_within : (z : ℤ) → IsWithin (10 ^ 15) z → IsWithin (10 ^ 15) (to_z w64 (of_z w64 z))
+kept_within z h = subst (IsWithin (10 ^ 15)) (sym (to_z-of_z w64 z (fits_64 z h))) h
+
+-- ---- switches and crossings
+
+inner_kind : (rows : List Elem) (i : ℕ) → is_inner rows i ≡ true → (row : Elem) × (slice_get rows i ≡ Some row) × (bears_position row.kind ≡ true)
+inner_kind rows i h = choose (is_of_kind rows Switch i) refl h
+  where
+    choose : (v : Bool) → is_of_kind rows Switch i ≡ v → (v || is_of_kind rows Crossing i) ≡ true → (row : Elem) × (slice_get rows i ≡ Some row) × (bears_position row.kind ≡ true)
+    choose true e h = let (row, is, kind) = of_kind rows Switch i e in (row, is, rw kind refl)
+    choose false e h = let (row, is, kind) = of_kind rows Crossing i h in (row, is, rw kind refl)
+
+-- a switch or a crossing has a position
+pub inner_position : (rows : List Elem) → AreSound rows → (i : ℕ) → is_inner rows i ≡ true → (row : Elem) × (slice_get rows i ≡ Some row) × ((z : ℤ) × HasPosition row z)
+inner_position rows s i h = let (row, is, bears) = inner_kind rows i h in (row, is, s.positions i row is bears)
+
+pub inner_within : (rows : List Elem) → AreSound rows → (i : ℕ) → is_inner rows i ≡ true → i < length rows
+inner_within rows s i h = let (row, is, bears) = inner_kind rows i h in slice_get_within rows i row is
+
+pub word_is : (z : ℤ) → IsWithin (10 ^ 15) z → to_z w64 (of_z w64 z) ≡ z
+word_is z h = to_z-of_z w64 z (fits_64 z h)
+
+-- the row that is read at the number of a switch or a crossing
+pub inner_read : (rows : List Elem) → AreSound rows → (i : ℕ) → is_inner rows i ≡ true → (read : Elem) → read ≡ get_or rows i read → (slice_get rows i ≡ Some read) × ((z : ℤ) × HasPosition read z)
+inner_read rows s i h read e =
+    let (row, is, there) = inner_position rows s i h in
+    let at : slice_get rows i ≡ Some read = slice_get_read rows (length rows) i read refl (inner_within rows s i h) e in
+    (at, subst (λ (v : Elem). (z : ℤ) × HasPosition v z) (same_Some row read (sym is ∙ at)) there)

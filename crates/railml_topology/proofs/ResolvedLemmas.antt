@@ -18,6 +18,8 @@ use Rattle.railml_topology.specs.declared.layout.Layout.{Layout}
 use Rattle.railml_topology.specs.Rows.{track_rows, BearsId, Reads, HasPosition}
 use Rattle.railml_topology.specs.Resolved.{AreLayouts, IsMeasured, HasMileage, IsInnerOf, IsTrackOf, IsTopologyOf}
 use Rattle.railml_topology.specs.Sound.{AreSound}
+use Rattle.railml_topology.specs.Plans.{IsWithin}
+use Rattle.railml_topology.proofs.PositionLemmas.{number_within}
 use Rattle.railml_topology.proofs.Apart.{all_more, all_joined, all_mapped, pairs_from_stands, stands_mapped, apart_short, Covers}
 use Rattle.railml_topology.proofs.Zips.{zip_length}
 use Rattle.railml_topology.proofs.ElementLemmas.{Bears, element_of, element_is, covered}
@@ -100,21 +102,6 @@ few_tracks rows layouts t s h tracks =
     omega arith
 
 -- ---- mileages
-
--- less than b either way
-abbrev IsWithin : ℕ → ℤ → Type 0
-IsWithin b z = (neg_ℤ (pos b) <ℤ z) × (z <ℤ pos b)
-
-signed_within : (b n : ℕ) (negative : Bool) → n < b → IsWithin b (signed negative n)
-signed_within b n true h = (omega (arith, ints), omega (arith, ints))
-signed_within b n false h = (omega (arith, ints), omega (arith, ints))
-
-number_within : (text : List ℕ) (z : ℤ) → Reads text z → IsWithin (10 ^ 15) z
-number_within text z r =
-    let m = r.metres in
-    let p = r.parts in
-    subst (IsWithin (10 ^ 15)) r.is (signed_within (10 ^ 15) (size_of p.whole (fraction_digits p.fraction)) (is_minus p.sign)
-    (size_below p.whole (fraction_digits p.fraction) m.digits_before m.digits_after m.whole_limit m.fraction_limit))
 
 -- the limit of mileages is three times that of numbers
 wider : (b c : ℕ) (z : ℤ) → b ≤ c → IsWithin b z → IsWithin c z

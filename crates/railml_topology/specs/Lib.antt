@@ -5,3 +5,4 @@ pub mod Sound
 pub mod Ids
 pub mod Searching
 pub mod Tables
+pub mod Plans

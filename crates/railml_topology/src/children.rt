@@ -46,7 +46,7 @@ pub(crate) fn all_children(alloc: Global, rows: &[Elem]) -> Result<Vec<Vec<u32>>
 }
 
 /// The only one of these rows that is of a kind, if there is just one.
-fn only_of_kind(rows: &[Elem], numbers: &[u32], kind: ElemKind) -> Option<u32>
+pub(crate) fn only_of_kind(rows: &[Elem], numbers: &[u32], kind: ElemKind) -> Option<u32>
     ensures { result ≡ only_of (filter (of_kind rows.now kind) numbers.now) }
 {
     let mut found = None;

@@ -21,7 +21,11 @@ pub(crate) fn number_of(numbers: &IdNumbers<'_>, id: &str) -> Option<u32>
 }
 
 /// Keeps an id with a number, in place of the one that it had.
-pub(crate) fn keep<'a>(numbers: &mut IdNumbers<'a>, id: &'a str, number: u32) -> Result<(), OutOfMemory>
+pub(crate) fn keep<'a>(
+    numbers: &mut IdNumbers<'a>,
+    id: &'a str,
+    number: u32,
+) -> Result<(), OutOfMemory>
     ensures { OnOk result (Numbers numbers.old numbers.new id.now number) }
 {
     numbers.insert(id, number)?;

@@ -18,6 +18,7 @@ mod ids;
 mod layout;
 mod missing;
 mod numbers;
+mod order;
 mod rows;
 mod tracks;
 

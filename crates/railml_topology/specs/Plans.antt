@@ -1,0 +1,26 @@
+-- What is known while a topology is built from its rows.
+use Rattle.std.specs.Prelude.{◌≡◌, ◌<◌, ◌||◌, ℕ, Bool, true, List, [], ◌∷◌, length, map, filter, Option, Some, slice_get, ℤ, pos, neg_ℤ, ◌<ℤ◌}
+use Rattle.railml_read.specs.declared.rows.Elem.{Elem}
+use Rattle.railml_read.specs.declared.rows.ElemKind.{ElemKind}
+use Rattle.railml_read.specs.declared.rows.ElemKind.TheVariants.{Switch, Crossing}
+use Rattle.railml_topology.specs.declared.order.Standing.{Standing}
+use Rattle.railml_topology.specs.Rows.{is_of_kind, children, HasPosition}
+
+-- less than b from nought, either way
+abbrev pub IsWithin : ℕ → ℤ → Type 0
+IsWithin b z = (neg_ℤ (pos b) <ℤ z) × (z <ℤ pos b)
+
+-- row i has just one child of this kind
+pub record HasOne (rows : List Elem) (i : ℕ) (kind : ElemKind) : Type 0 where
+  pub number : ℕ
+  pub only : children rows i kind ≡ number ∷ []
+
+-- a switch or a crossing
+abbrev pub is_inner : List Elem → ℕ → Bool
+is_inner rows i = is_of_kind rows Switch i || is_of_kind rows Crossing i
+
+-- a row with its position
+pub record IsStanding (rows : List Elem) (s : Standing) : Type 0 where
+  pub row : Elem
+  pub is : slice_get rows s.row ≡ Some row
+  pub position : HasPosition row s.position
