@@ -1,5 +1,5 @@
 -- The characters of ids, by a test and by what is said of them.
-use Rattle.std.proofs.Common.{◌≡◌, ◌⊎◌, ℕ, ◌<◌, Bool, true, false, ◌&&◌, ◌||◌, true≢false, List, [], ◌∷◌, length, get_or, refl, sym, ◌∙◌, ap, inl, inr, nat_lt, arith}
+use Rattle.std.proofs.Common.{◌≡◌, ◌⊎◌, ℕ, ◌<◌, Bool, true, false, ◌&&◌, ◌||◌, true≢false, List, [], ◌∷◌, refl, sym, ◌∙◌, ap, inl, inr, nat_lt}
 use Rattle.std.specs.List.{list_all, All}
 use Rattle.std.proofs.lemmas.Bool.{ltb-true, lt-ltb}
 use Rattle.std.proofs.lemmas.List.Elements.{All-nil, All-cons, recursion_from_All}
@@ -28,6 +28,7 @@ told c h = ap (λ b. b && (nat_lt c 127 || nat_lt 160 c)) (lt-ltb 32 c h.0) ∙ 
     orb : (a b : Bool) → b ≡ true → (a || b) ≡ true
     orb true b e = refl
     orb false b e = e
+
     by : (c < 127) ⊎ (160 < c) → (nat_lt c 127 || nat_lt 160 c) ≡ true
     by (inl e) = ap (λ b. b || nat_lt 160 c) (lt-ltb c 127 e)
     by (inr e) = orb (nat_lt c 127) (nat_lt 160 c) (lt-ltb 160 c e)

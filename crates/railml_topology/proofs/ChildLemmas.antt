@@ -36,8 +36,10 @@ two_found p numbers i found within before some here = by found before some
   where
     more : filter p (take (i + 1) numbers) ≡ filter p (take i numbers) ++ get_or numbers i 0 ∷ []
     more = filter_more p numbers i 0 within ∙ ap (λ b. filter p (take i numbers) ++ (if b then get_or numbers i 0 ∷ [] else [])) here
+
     whole : filter p numbers ≡ (filter p (take i numbers) ++ get_or numbers i 0 ∷ []) ++ filter p (drop (i + 1) numbers)
     whole = ap (filter p) (sym (take-append-drop (i + 1) numbers)) ∙ (filter-append p (take (i + 1) numbers) (drop (i + 1) numbers) ∙ ap (λ l. l ++ filter p (drop (i + 1) numbers)) more)
+
     by : (f : Option ℕ) → filter p (take i numbers) ≡ option_to_list f → is_some f ≡ true → only_of (filter p numbers) ≡ None
     by None before some = absurd (true≢false (sym some))
     by (Some y) before some = ap only_of (whole ∙ ap (λ l. (l ++ get_or numbers i 0 ∷ []) ++ filter p (drop (i + 1) numbers)) before)
@@ -69,13 +71,16 @@ listed_child rows n row p old new l within is has adds same = record { whole = s
   where
     numbers : ℕ → List ℕ
     numbers k = numbers_from (is_child_of k) 0 (take n rows)
+
     step : (k : ℕ) (b : Bool) → (p == k) ≡ b → numbers_from (is_child_of k) 0 (take (n + 1) rows) ≡ (if b then numbers k ++ n ∷ [] else numbers k)
     step k b e = one_more rows n row k within is ∙ ap (λ c. if c then numbers k ++ n ∷ [] else numbers k) (ap (λ q. option_map_or (λ parent. parent == k) q false) has ∙ e)
+
     here : (k : ℕ) (list : Vec ℕ Global) → slice_get new k ≡ Some list → p ≡ k → (p == k) ≡ true → list.items ≡ numbers_from (is_child_of k) 0 (take (n + 1) rows)
     here k list at e t =
         let a = adds.added list (subst (λ j. slice_get new j ≡ Some list) (sym e) at) in
         let before : a.0.items ≡ numbers k = l.lists k a.0 (subst (λ j. slice_get old j ≡ Some a.0) e a.1) in
         a.2 ∙ (ap (λ m. m ++ n ∷ []) before ∙ sym (step k true t))
+
     by : (k : ℕ) (list : Vec ℕ Global) → slice_get new k ≡ Some list → (((p == k) ≡ true) × (p ≡ k)) ⊎ (((p == k) ≡ false) × (p ≢ k)) → list.items ≡ numbers_from (is_child_of k) 0 (take (n + 1) rows)
     by k list at (inl e) = here k list at e.1 e.0
     by k list at (inr e) = l.lists k list (sym (adds.others k (λ q. e.1 (sym q))) ∙ at) ∙ sym (step k false e.0)
@@ -103,6 +108,7 @@ parent_earlier rows i row p formed at has = by row.kind (formed.parents i row at
   where
     held : HasParent rows i row → p < i
     held h = let same : p ≡ h.number = same_Some p h.number (sym has ∙ h.is) in let before : h.number < i = h.earlier in omega arith
+
     by : (kind : ElemKind) → IsPlaced rows i row kind → p < i
     by Track h = absurd (none-some p (sym h ∙ has))
     by Topology h = held h

@@ -15,10 +15,12 @@ none_more {P} {rows} {i} {row} before within is not = record { none = λ k other
   where
     here : slice_get rows i ≡ Some row
     here = slice_get_read rows (length rows) i row refl within is
+
     last : (k : ℕ) (other : Elem) → k ≡ i → slice_get rows k ≡ Some other → P k other → ⊥
     last k other same at had =
         let one : other ≡ row = same_Some other row (sym at ∙ (ap (slice_get rows) same ∙ here)) in
         not (subst (λ (e : Elem). P i e) one (subst (λ (n : ℕ). P n other) same had))
+
     by : (k : ℕ) (other : Elem) → k < i + 1 → slice_get rows k ≡ Some other → P k other → (k < i) ⊎ (i ≤ k) → ⊥
     by k other below at had (inl before_i) = before.none k other before_i at had
     by k other below at had (inr from_i) = let same : k ≡ i = omega arith in last k other same at had

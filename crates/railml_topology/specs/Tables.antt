@@ -4,7 +4,7 @@ use Rattle.std.specs.declared.vec.Vec.{Vec}
 use Rattle.std.specs.declared.alloc.Global.{Global}
 use Rattle.plan_core.specs.declared.numbers.Micro.{Micro}
 use Rattle.railml_read.specs.declared.rows.Elem.{Elem}
-use Rattle.railml_topology.specs.Rows.{all_children, HasPosition, IsConnectionNamed}
+use Rattle.railml_topology.specs.Rows.{all_children, id_of, HasPosition, IsConnectionNamed}
 use Rattle.railml_topology.specs.Faults.{RefersTo}
 
 -- the one entry of a list that has just one
@@ -43,3 +43,12 @@ pub record IsReferredTo (rows : List Elem) (row : Elem) (j : ℕ) : Type 0 where
 abbrev pub IsTargetOf : List Elem → Elem → Option ℕ → Type 0
 IsTargetOf rows row None = (j : ℕ) → IsReferredTo rows row j → ⊥
 IsTargetOf rows row (Some j) = IsReferredTo rows row j
+
+-- the number of a connection that each row refers to, if it refers to one
+abbrev pub HasTargets : List Elem → List (Option ℕ) → Type 0
+HasTargets rows table = HasEntries (λ i (target : Option ℕ). (row : Elem) → slice_get rows i ≡ Some row → IsTargetOf rows row target) rows table
+
+-- the row that is referred to doesn't refer back to the one that refers to it
+abbrev pub IsNotAnswered : List Elem → Elem → Option ℕ → Type 0
+IsNotAnswered rows row None = ⊥
+IsNotAnswered rows row (Some j) = (other : Elem) × (slice_get rows j ≡ Some other) × (other.attrs.reference ≡ Some (id_of row) → ⊥)

@@ -17,6 +17,7 @@ mod fault;
 mod ids;
 mod missing;
 mod numbers;
+mod references;
 mod rows;
 mod tracks;
 

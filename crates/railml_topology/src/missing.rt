@@ -40,7 +40,10 @@ fn is_missing(attrs: &Attrs, attribute: Attribute) -> bool
 }
 
 /// What a connection must have below an element of this kind.
-fn required_of_connection(parent: Option<ElemKind>, orientation: &Option<Text>) -> &'static [Attribute]
+fn required_of_connection(
+    parent: Option<ElemKind>,
+    orientation: &Option<Text>,
+) -> &'static [Attribute]
     ensures { result.now ≡ required_of ElemKind.Connection parent orientation.now }
 {
     let with_course = &[
@@ -63,7 +66,11 @@ fn required_of_connection(parent: Option<ElemKind>, orientation: &Option<Text>) 
 }
 
 /// What an element of this kind must have, in order, below one of this kind.
-fn required(kind: ElemKind, parent: Option<ElemKind>, orientation: &Option<Text>) -> &'static [Attribute]
+fn required(
+    kind: ElemKind,
+    parent: Option<ElemKind>,
+    orientation: &Option<Text>,
+) -> &'static [Attribute]
     ensures { result.now ≡ required_of kind parent orientation.now }
 {
     match kind {
@@ -92,7 +99,10 @@ pub(crate) fn first_lacking(rows: &[Elem], row: &Elem) -> Option<Attribute>
     ensures { result ≡ slice_get (lacking rows.now row.now) 0 }
 {
     let parent = parent_of(rows, row).map(|parent| parent.kind);
-    first_of(&row.attrs, required(row.kind, parent, &row.attrs.orientation))
+    first_of(
+        &row.attrs,
+        required(row.kind, parent, &row.attrs.orientation),
+    )
 }
 
 /// The first row that lacks a required attribute.

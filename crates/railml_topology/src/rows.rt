@@ -45,7 +45,8 @@ pub(crate) fn bears_id(kind: ElemKind) -> bool
         | ElemKind::Switch
         | ElemKind::Crossing
         | ElemKind::Connection => true,
-        ElemKind::Topology | ElemKind::OpenEnd | ElemKind::BufferStop | ElemKind::MacroNode => false,
+        ElemKind::Topology | ElemKind::OpenEnd | ElemKind::BufferStop | ElemKind::MacroNode =>
+            false,
     }
 }
 

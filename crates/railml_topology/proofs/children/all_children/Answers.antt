@@ -1,4 +1,4 @@
-use Rattle.std.proofs.Common.{◌≡◌, ◌<◌, ◌+◌, ◌∙◌, ℕ, Vec, Global, sym, refl, subst, length, slice_get, Some, arith}
+use Rattle.std.proofs.Common.{◌≡◌, ◌+◌, ◌∙◌, ℕ, Vec, Global, sym, refl, subst, length, slice_get, Some, arith}
 use Rattle.std.proofs.lemmas.Option.{slice_get_read}
 use Rattle.railml_topology.proofs.ChildLemmas.{Listed, listed_start, listed_child, listed_none, listed_all, parent_earlier}
 use Rattle.railml_topology.proofs.children.all_children.Goals as goal
@@ -21,12 +21,12 @@ loop-i-preserved c =
     let row = c.index-rows-i.result in
     let old = c.loop-i.table in
     elim c.match-row.branch [
-      in-Some+in_ok-add_child w ↦
-        let added = w.add_child.new.table in
-        let same : length added.items ≡ length old.items = omega (arith, w.in_ok-add_child.ensures.len, added.ok.0, old.ok.0) in
-        subst (λ (v : Vec (Vec ℕ Global) Global). Listed rows (c.loop-i.i + 1) v.items) (sym w.table-is) (listed_child rows c.loop-i.i row w.in-Some.parent old.items added.items c.loop-i.invariant c.loop-i-test.true c.index-rows-i.is w.in-Some.is w.in_ok-add_child.ensures.added same)
-    | in_default w ↦
-        subst (λ (v : Vec (Vec ℕ Global) Global). Listed rows (c.loop-i.i + 1) v.items) (sym w.table-is) (listed_none rows c.loop-i.i row old.items c.loop-i.invariant c.loop-i-test.true c.index-rows-i.is w.in_default.is)
+      | in-Some+in_ok-add_child w ↦
+          let added = w.add_child.new.table in
+          let same : length added.items ≡ length old.items = omega (arith, w.in_ok-add_child.ensures.len, added.ok.0, old.ok.0) in
+          subst (λ (v : Vec (Vec ℕ Global) Global). Listed rows (c.loop-i.i + 1) v.items) (sym w.table-is) (listed_child rows c.loop-i.i row w.in-Some.parent old.items added.items c.loop-i.invariant c.loop-i-test.true c.index-rows-i.is w.in-Some.is w.in_ok-add_child.ensures.added same)
+      | in_default w ↦
+          subst (λ (v : Vec (Vec ℕ Global) Global). Listed rows (c.loop-i.i + 1) v.items) (sym w.table-is) (listed_none rows c.loop-i.i row old.items c.loop-i.invariant c.loop-i-test.true c.index-rows-i.is w.in_default.is)
     ]
 
 pub returns : goal.returns
