@@ -17,8 +17,10 @@ mod fault;
 mod ids;
 mod missing;
 mod numbers;
+mod outside;
 mod references;
 mod rows;
+mod tables;
 mod tracks;
 
 pub use fault::{ResolveFault, TopologyWhat};
