@@ -1,5 +1,5 @@
 -- The first of a list that passes a test.
-use Rattle.std.proofs.Common.{◌≡◌, ℕ, ◌<◌, ◌+◌, Bool, true, List, [], ◌∷◌, ◌++◌, length, Some, slice_get, take, drop, filter, get_or, refl, sym, ◌∙◌, ap, if◌then◌else◌}
+use Rattle.std.proofs.Common.{◌≡◌, ℕ, ◌<◌, ◌+◌, Bool, true, List, [], ◌∷◌, ◌++◌, length, Some, slice_get, take, drop, filter, get_or, sym, ◌∙◌, ap, if◌then◌else◌}
 use Rattle.std.proofs.lemmas.List.{take-append-drop}
 use Rattle.std.proofs.lemmas.List.Elements.{filter_more, filter-append}
 

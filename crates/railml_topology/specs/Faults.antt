@@ -30,6 +30,14 @@ pub record RepeatsId (rows : List Elem) (i : ℕ) (id : List ℕ) : Type 0 where
   pub before : earlier < i
   pub there : BearsId rows earlier id
 
+-- row i bears some id that an earlier row bears
+abbrev pub Repeats : List Elem → ℕ → Type 0
+Repeats rows i = (id : List ℕ) × RepeatsId rows i id
+
+-- no id stands at two rows
+abbrev pub AreIdsDistinct : List Elem → Type 0
+AreIdsDistinct rows = (i : ℕ) → Repeats rows i → ⊥
+
 -- a text that is there and is no number of metres
 abbrev pub IsNoNumber : Option (List ℕ) → Type 0
 IsNoNumber None = ⊥

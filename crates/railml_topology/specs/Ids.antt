@@ -1,5 +1,5 @@
 -- Ids: which characters they have, and which row's number an id is kept with.
-use Rattle.std.specs.Prelude.{◌≡◌, ◌<◌, ℕ, Bool, if◌then◌else◌, List, Option, Some, None, bytes_eq, slice_get, nat_lt, ◌&&◌, ◌||◌}
+use Rattle.std.specs.Prelude.{◌≡◌, ◌<◌, ℕ, Bool, if◌then◌else◌, List, Option, Some, None, bytes_eq, slice_get, nat_lt, ◌&&◌, ◌||◌, ⊤}
 use Rattle.std.specs.Borrow.{Bor}
 use Rattle.std.specs.HashMap.{HashMap, get_by}
 use Rattle.railml_read.specs.declared.rows.Elem.{Elem}
@@ -25,6 +25,24 @@ own_id row = if bears_id row.kind then row.attrs.id else None
 -- a connection's id, if it has one
 abbrev pub connection_id : Elem → Option (List ℕ)
 connection_id row = if same_kind row.kind Connection then row.attrs.id else None
+
+-- the name that a connection refers to, if it has a reference
+abbrev pub reference_of : Elem → Option (List ℕ)
+reference_of row = if same_kind row.kind Connection then row.attrs.reference else None
+
+-- a row's id, if it has one, has this number from now on
+abbrev pub AddsId : {S : Type 0} → HashMap (Bor (List ℕ)) ℕ S → HashMap (Bor (List ℕ)) ℕ S → Option (List ℕ) → ℕ → Type 0
+AddsId {S} old new None number = (q : List ℕ) → number_in new q ≡ number_in old q
+AddsId {S} old new (Some id) number = Numbers old new id number
+
+-- there is an id, and it is kept; where there is one, it isn't
+abbrev pub IsKept : {S : Type 0} → HashMap (Bor (List ℕ)) ℕ S → Option (List ℕ) → Type 0
+IsKept {S} numbers None = ⊥
+IsKept {S} numbers (Some id) = (j : ℕ) × (number_in numbers id ≡ Some j)
+
+abbrev pub IsNotKept : {S : Type 0} → HashMap (Bor (List ℕ)) ℕ S → Option (List ℕ) → Type 0
+IsNotKept {S} numbers None = ⊤
+IsNotKept {S} numbers (Some id) = number_in numbers id ≡ None
 
 -- row j, one of the first n, has this id
 pub record HasIdAt (id_at : Elem → Option (List ℕ)) (rows : List Elem) (n j : ℕ) (id : List ℕ) : Type 0 where

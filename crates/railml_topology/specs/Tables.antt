@@ -1,10 +1,14 @@
 -- What is kept of rows while they are judged and built from: tables with an entry for each row.
-use Rattle.std.specs.Prelude.{◌≡◌, ◌≢◌, ℕ, List, [], ◌∷◌, ◌++◌, length, Option, Some, None, slice_get, ℤ}
+use Rattle.std.specs.Prelude.{◌≡◌, ◌≢◌, ℕ, List, [], ◌∷◌, ◌++◌, length, Option, Some, None, slice_get, ℤ, ◌<ℤ◌}
+use Rattle.std.specs.Option.{option_map, option_and_then}
 use Rattle.std.specs.declared.vec.Vec.{Vec}
 use Rattle.std.specs.declared.alloc.Global.{Global}
 use Rattle.plan_core.specs.declared.numbers.Micro.{Micro}
 use Rattle.railml_read.specs.declared.rows.Elem.{Elem}
-use Rattle.railml_topology.specs.Rows.{all_children, HasPosition, IsConnectionNamed}
+use Rattle.railml_read.specs.declared.rows.ElemKind.{ElemKind}
+use Rattle.railml_read.specs.declared.rows.ElemKind.TheVariants.{Topology, Begin, End, Connection}
+use Rattle.railml_topology.specs.declared.tables.Tables.{Tables}
+use Rattle.railml_topology.specs.Rows.{all_children, children, id_of, HasPosition, IsConnectionNamed}
 use Rattle.railml_topology.specs.Faults.{RefersTo}
 
 -- the one entry of a list that has just one
@@ -22,6 +26,19 @@ pub record HasEntries {X : Type 0} (Q : ℕ → X → Type 0) (rows : List Elem)
 abbrev pub ListsChildren : List Elem → List (Vec ℕ Global) → Type 0
 ListsChildren rows table = HasEntries (λ i (list : Vec ℕ Global). list.items ≡ all_children rows i) rows table
 
+-- the only child of a kind of each row that has just one
+abbrev pub HasOnlyChildren : List Elem → ElemKind → List (Option ℕ) → Type 0
+HasOnlyChildren rows kind table = HasEntries (λ i (only : Option ℕ). only ≡ only_of (children rows i kind)) rows table
+
+-- the two entries of a list that has just two
+abbrev pub pair_of : List ℕ → Option (ℕ × ℕ)
+pair_of [] = None
+pair_of (c ∷ list) = option_map (λ d. (c, d)) (only_of list)
+
+-- an entry of a table, if it is there and isn't empty
+abbrev pub entry_in : {X : Type 0} → List (Option X) → ℕ → Option X
+entry_in table i = option_and_then (λ x. x) (slice_get table i)
+
 -- the parent's list has one more child, and no other list has changed
 pub record AddsChild (old new : List (Vec ℕ Global)) (parent child : ℕ) : Type 0 where
   pub added : (list : Vec ℕ Global) → slice_get new parent ≡ Some list → (before : Vec ℕ Global) × (slice_get old parent ≡ Some before) × (list.items ≡ before.items ++ child ∷ [])
@@ -31,6 +48,19 @@ pub record AddsChild (old new : List (Vec ℕ Global)) (parent child : ℕ) : Ty
 abbrev pub IsPositionOf : Elem → Option Micro → Type 0
 IsPositionOf row None = (z : ℤ) → HasPosition row z → ⊥
 IsPositionOf row (Some m) = HasPosition row m.0
+
+-- the position of each row whose `pos` is a number
+abbrev pub HasPositions : List Elem → List (Option Micro) → Type 0
+HasPositions rows table = HasEntries (λ i (position : Option Micro). (row : Elem) → slice_get rows i ≡ Some row → IsPositionOf row position) rows table
+
+-- the position of the only begin or end beside a row, by such a table and the positions
+abbrev pub beside_in : List (Option ℕ) → List (Option Micro) → Elem → Option Micro
+beside_in only positions row = option_and_then (entry_in positions) (option_and_then (entry_in only) row.parent)
+
+-- both positions are there, and the first is less
+abbrev pub IsLess : Option Micro → Option Micro → Type 0
+IsLess (Some a) (Some b) = a.0 <ℤ b.0
+IsLess a b = ⊥
 
 -- row j is a connection that a connection refers to
 pub record IsReferredTo (rows : List Elem) (row : Elem) (j : ℕ) : Type 0 where
@@ -43,3 +73,22 @@ pub record IsReferredTo (rows : List Elem) (row : Elem) (j : ℕ) : Type 0 where
 abbrev pub IsTargetOf : List Elem → Elem → Option ℕ → Type 0
 IsTargetOf rows row None = (j : ℕ) → IsReferredTo rows row j → ⊥
 IsTargetOf rows row (Some j) = IsReferredTo rows row j
+
+-- the number of a connection that each row refers to, if it refers to one
+abbrev pub HasTargets : List Elem → List (Option ℕ) → Type 0
+HasTargets rows table = HasEntries (λ i (target : Option ℕ). (row : Elem) → slice_get rows i ≡ Some row → IsTargetOf rows row target) rows table
+
+-- the row that is referred to doesn't refer back to the one that refers to it
+abbrev pub IsNotAnswered : List Elem → Elem → Option ℕ → Type 0
+IsNotAnswered rows row None = ⊥
+IsNotAnswered rows row (Some j) = (other : Elem) × (slice_get rows j ≡ Some other) × (other.attrs.reference ≡ Some (id_of row) → ⊥)
+
+-- what is kept of rows
+pub record AreTablesOf (rows : List Elem) (t : Tables) : Type 0 where
+  pub children : ListsChildren rows t.children.items
+  pub topologies : HasOnlyChildren rows Topology t.topologies.items
+  pub begins : HasOnlyChildren rows Begin t.begins.items
+  pub ends : HasOnlyChildren rows End t.ends.items
+  pub connections : HasOnlyChildren rows Connection t.connections.items
+  pub targets : HasTargets rows t.targets.items
+  pub positions : HasPositions rows t.positions.items

@@ -1,8 +1,8 @@
 // The children of rows.
 ghost use Rattle.std.specs.Prelude.{◌≡◌, ◌≢◌, ◌<◌, ◌^◌, ℕ, [], ◌∷◌, ◌++◌, IfOk, OnOk, Some, slice_get, vec_len, filter};
 ghost use Rattle.railml_read.specs.Formed.{AreFormed};
-ghost use Rattle.railml_topology.specs.Rows.{children as children_of_kind, is_of_kind as of_kind};
-ghost use Rattle.railml_topology.specs.Tables.{only_of, HasEntries, ListsChildren, AddsChild};
+ghost use Rattle.railml_topology.specs.Rows.{is_of_kind as of_kind};
+ghost use Rattle.railml_topology.specs.Tables.{only_of, pair_of, HasOnlyChildren, ListsChildren, AddsChild};
 
 use crate::rows::is_of_kind;
 use plan_core::OutOfMemory;
@@ -61,6 +61,19 @@ pub(crate) fn only_of_kind(rows: &[Elem], numbers: &[u32], kind: ElemKind) -> Op
     found
 }
 
+/// The only two of these rows that are of a kind, if there are just two.
+pub(crate) fn two_of_kind(rows: &[Elem], numbers: &[u32], kind: ElemKind) -> Option<(u32, u32)>
+    ensures { result ≡ pair_of (filter (of_kind rows.now kind) numbers.now) }
+{
+    for (i, number) in numbers.iter().enumerate() {
+        if is_of_kind(rows, *number, kind) {
+            let other = only_of_kind(rows, &numbers[i + 1..], kind)?;
+            return Some((*number, other));
+        }
+    }
+    None
+}
+
 /// The only child of a kind of each row that has just one.
 pub(crate) fn only_children(
     alloc: Global,
@@ -69,7 +82,7 @@ pub(crate) fn only_children(
     kind: ElemKind,
 ) -> Result<Vec<Option<u32>>, OutOfMemory>
     requires { ListsChildren rows.now children.now }
-    ensures { IfOk result (λ table. HasEntries (λ i only. only ≡ only_of (children_of_kind rows.now i kind)) rows.now table.items) }
+    ensures { IfOk result (λ table. HasOnlyChildren rows.now kind table.items) }
 {
     let mut table = Vec::new(alloc);
     for list in children {

@@ -1,8 +1,11 @@
 // Ids that are numbered.
-ghost use Rattle.std.specs.Prelude.{◌≡◌, ◌<◌, ℕ, None, OnOk, length, IfOk};
+ghost use Rattle.std.specs.Prelude.{◌≡◌, true, false, OnOk, length, IfOk};
 ghost use Rattle.std.specs.Option.{option_copied};
 ghost use Rattle.railml_read.specs.Formed.{AreFormed};
-ghost use Rattle.railml_topology.specs.Ids.{number_in, Numbers, own_id as id_of_row, connection_id as id_of_connection, KeepsIds};
+ghost use Rattle.railml_topology.specs.Rows.{id_of as id_or_empty};
+ghost use Rattle.railml_topology.specs.Faults.{Repeats};
+ghost use Rattle.railml_topology.specs.Ids.{number_in, Numbers, AddsId, IsKept, IsNotKept, own_id as id_of_row, connection_id as id_of_connection, reference_of as reference, KeepsIds};
+ghost use Rattle.railml_topology.specs.Searching.{FindsFirst};
 
 use crate::rows::{bears_id, is_kind};
 use indexmap::IndexMap;
@@ -33,11 +36,31 @@ pub(crate) fn keep<'a>(
 }
 
 /// A row's id, if it has one that counts.
-pub(crate) fn own_id(row: &Elem) -> Option<&str>
+fn own_id(row: &Elem) -> Option<&str>
     ensures { option_copied result ≡ id_of_row row.now }
 {
     match &row.attrs.id {
         Some(id) if bears_id(row.kind) => Some(id.as_str()),
+        _ => None,
+    }
+}
+
+/// A row's id, empty where it has none.
+pub(crate) fn id_of(row: &Elem) -> &str
+    ensures { result.now ≡ id_or_empty row.now }
+{
+    match &row.attrs.id {
+        Some(id) => id.as_str(),
+        None => "",
+    }
+}
+
+/// The name that a connection refers to, if it has a reference.
+pub(crate) fn reference_of(row: &Elem) -> Option<&str>
+    ensures { option_copied result ≡ reference row.now }
+{
+    match &row.attrs.reference {
+        Some(name) if is_kind(row.kind, ElemKind::Connection) => Some(name.as_str()),
         _ => None,
     }
 }
@@ -50,4 +73,66 @@ fn connection_id(row: &Elem) -> Option<&str>
         Some(id) if is_kind(row.kind, ElemKind::Connection) => Some(id.as_str()),
         _ => None,
     }
+}
+
+/// Keeps a row's own id with its number, unless it is kept already; answers whether it is.
+fn keep_own<'a>(
+    numbers: &mut IdNumbers<'a>,
+    row: &'a Elem,
+    number: u32,
+) -> Result<bool, OutOfMemory>
+    ensures again { IfOk result (λ again. again ≡ true → IsKept numbers.old (id_of_row row.now)) }
+    ensures first { IfOk result (λ again. again ≡ false → IsNotKept numbers.old (id_of_row row.now)) }
+    ensures added { IfOk result (λ again. again ≡ false → AddsId numbers.old numbers.new (id_of_row row.now) number) }
+{
+    match own_id(row) {
+        Some(id) => {
+            if number_of(numbers, id).is_some() {
+                return Ok(true);
+            }
+            keep(numbers, id, number)?;
+            Ok(false)
+        }
+        None => Ok(false),
+    }
+}
+
+/// The first row whose id an earlier row bears.
+pub(crate) fn first_repeated(alloc: Global, rows: &[Elem]) -> Result<Option<usize>, OutOfMemory>
+    requires { AreFormed rows.now }
+    ensures { IfOk result (λ found. FindsFirst (λ i _. Repeats rows.now i) rows.now found) }
+{
+    let mut numbers = IdNumbers::new(alloc);
+    for (i, row) in rows.iter().enumerate() {
+        if keep_own(&mut numbers, row, i as u32)? {
+            return Ok(Some(i));
+        }
+    }
+    Ok(None)
+}
+
+/// Keeps a connection's id with its number.
+fn keep_connection<'a>(
+    numbers: &mut IdNumbers<'a>,
+    row: &'a Elem,
+    number: u32,
+) -> Result<(), OutOfMemory>
+    ensures { OnOk result (AddsId numbers.old numbers.new (id_of_connection row.now) number) }
+{
+    match connection_id(row) {
+        Some(id) => keep(numbers, id, number),
+        None => Ok(()),
+    }
+}
+
+/// The numbers of connections by their ids.
+pub(crate) fn connection_numbers(alloc: Global, rows: &[Elem]) -> Result<IdNumbers<'_>, OutOfMemory>
+    requires { AreFormed rows.now }
+    ensures { IfOk result (λ numbers. KeepsIds id_of_connection rows.now (length rows.now) numbers) }
+{
+    let mut numbers = IdNumbers::new(alloc);
+    for (i, row) in rows.iter().enumerate() {
+        keep_connection(&mut numbers, row, i as u32)?;
+    }
+    Ok(numbers)
 }

@@ -19,7 +19,10 @@ mod layout;
 mod missing;
 mod numbers;
 mod order;
+mod outside;
+mod references;
 mod rows;
+mod tables;
 mod tracks;
 
 pub use fault::{ResolveFault, TopologyWhat};

@@ -1,4 +1,4 @@
-use Rattle.std.proofs.Common.{◌≡◌, ◌<◌, ◌+◌, ◌∙◌, ℕ, Vec, Global, sym, refl, subst, length, slice_get, Some, arith}
+use Rattle.std.proofs.Common.{◌≡◌, ◌+◌, ◌∙◌, ℕ, Vec, Global, sym, refl, subst, length, slice_get, Some, arith}
 use Rattle.std.proofs.lemmas.Option.{slice_get_read}
 use Rattle.railml_topology.proofs.ChildLemmas.{Listed, listed_start, listed_child, listed_none, listed_all, parent_earlier}
 use Rattle.railml_topology.proofs.children.all_children.Goals as goal

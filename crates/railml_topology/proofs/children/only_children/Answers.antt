@@ -1,4 +1,4 @@
-use Rattle.std.proofs.Common.{◌≡◌, ◌∙◌, length, arith}
+use Rattle.std.proofs.Common.{◌≡◌, length, arith}
 use Rattle.railml_topology.proofs.TableLemmas.{none_first, one_first, all_first}
 use Rattle.railml_topology.proofs.ChildLemmas.{only_entry}
 use Rattle.railml_topology.proofs.children.only_children.Goals as goal

@@ -1,4 +1,4 @@
-use Rattle.std.proofs.Common.{◌≡◌, ◌<◌, ◌+◌, length, drop, slice_get}
+use Rattle.std.proofs.Common.{◌≡◌, drop, slice_get}
 use Rattle.railml_read.specs.declared.rows.ElemKind.TheVariants.{Track}
 use Rattle.railml_topology.specs.Rows.{same_kind, numbers_from, track_rows}
 use Rattle.railml_topology.proofs.tracks.track_at.Given as goal

@@ -1,0 +1,59 @@
+// What is kept of rows while they are judged and built from.
+ghost use Rattle.std.specs.Prelude.{◌≡◌, IfOk};
+ghost use Rattle.railml_read.specs.Formed.{AreFormed};
+ghost use Rattle.railml_topology.specs.Tables.{AreTablesOf, entry_in};
+
+use crate::children::{all_children, only_children};
+use crate::outside::positions;
+use crate::references::targets;
+use plan_core::{Micro, OutOfMemory};
+use railml_read::{Elem, ElemKind};
+use std::alloc::Global;
+
+/// Tables with an entry for each row: its children, its only topology, begin, end and connection if it
+/// has just one, the connection that it refers to, and its position.
+#[derive(Drop)]
+pub(crate) struct Tables {
+    pub(crate) children: Vec<Vec<u32>>,
+    pub(crate) topologies: Vec<Option<u32>>,
+    pub(crate) begins: Vec<Option<u32>>,
+    pub(crate) ends: Vec<Option<u32>>,
+    pub(crate) connections: Vec<Option<u32>>,
+    pub(crate) targets: Vec<Option<u32>>,
+    pub(crate) positions: Vec<Option<Micro>>,
+}
+
+impl Tables {
+    /// The tables of rows.
+    pub(crate) fn new(alloc: Global, rows: &[Elem]) -> Result<Self, OutOfMemory>
+        requires { AreFormed rows.now }
+        ensures { IfOk result (λ tables. AreTablesOf rows.now tables) }
+    {
+        let children = all_children(alloc, rows)?;
+        let topologies = only_children(alloc, rows, &children, ElemKind::Topology)?;
+        let begins = only_children(alloc, rows, &children, ElemKind::Begin)?;
+        let ends = only_children(alloc, rows, &children, ElemKind::End)?;
+        let connections = only_children(alloc, rows, &children, ElemKind::Connection)?;
+        let targets = targets(alloc, rows)?;
+        let positions = positions(alloc, rows)?;
+        Ok(Tables {
+            children,
+            topologies,
+            begins,
+            ends,
+            connections,
+            targets,
+            positions,
+        })
+    }
+}
+
+/// An entry of a table of numbers, if it is there and isn't empty.
+pub(crate) fn entry(table: &[Option<u32>], i: u32) -> Option<u32>
+    ensures { result ≡ entry_in table.now i }
+{
+    match table.get(i as usize) {
+        Some(entry) => *entry,
+        None => None,
+    }
+}
