@@ -3,6 +3,7 @@ pub mod Zips
 pub mod Family
 pub mod PositionLemmas
 pub mod OrderLemmas
+pub mod LayoutLemmas
 pub mod ElementLemmas
 pub mod JoinLemmas
 pub mod ResolvedLemmas
