@@ -127,7 +127,7 @@ end_found : (rows : List Elem) (layouts : List Layout) (i k : ℕ) (o : Option C
 end_found rows layouts i k None h only = absurd (none_only (children rows i Connection) k h only)
 end_found rows layouts i k (Some c) (j, one, conn) only = record { c = c; is = refl; conn = subst (λ (v : ℕ). IsConnOf rows layouts v c) (one_only (children rows i Connection) j k one only) conn }
 
-kinds_clash : (rows : List Elem) (i : ℕ) → is_of_kind rows Switch i ≡ true → is_of_kind rows Crossing i ≡ true → ⊥
+pub kinds_clash : (rows : List Elem) (i : ℕ) → is_of_kind rows Switch i ≡ true → is_of_kind rows Crossing i ≡ true → ⊥
 kinds_clash rows i a b =
     let (r, is_r, kind_r) = of_kind rows Switch i a in
     let (q, is_q, kind_q) = of_kind rows Crossing i b in

@@ -104,23 +104,23 @@ rest_of_rows p rows n row within is =
 pub laid_more : (rows : List Elem) (n : ℕ) (layouts : List Layout) (row : Elem) (l : Layout) → LaidUpTo rows n layouts → n < length rows → row ≡ get_or rows n row → same_kind row.kind Track ≡ true → l.track ≡ n → IsLayout rows l → LaidUpTo rows (n + 1) (layouts ++ l ∷ [])
 laid_more rows n layouts row l h within is track same laid = record {
   tracks =
-    let p : Elem → Bool = λ (r : Elem). same_kind r.kind Track in
-    let rest : numbers_from p n (drop n rows) ≡ l.track ∷ numbers_from p (n + 1) (drop (n + 1) rows) =
-        rest_of_rows p rows n row within is ∙ (ap (λ v. cond v (n ∷ numbers_from p (n + 1) (drop (n + 1) rows)) (numbers_from p (n + 1) (drop (n + 1) rows))) track
-        ∙ ap (λ k. k ∷ numbers_from p (n + 1) (drop (n + 1) rows)) (sym same)) in
-    ap (λ v. v ++ numbers_from p (n + 1) (drop (n + 1) rows)) (map-append (λ (v : Layout). v.track) layouts (l ∷ []))
-    ∙ (append_assoc (map (λ (v : Layout). v.track) layouts) (l.track ∷ []) (numbers_from p (n + 1) (drop (n + 1) rows))
-    ∙ (ap (λ v. map (λ (w : Layout). w.track) layouts ++ v) (sym rest) ∙ h.tracks));
+      let p : Elem → Bool = λ (r : Elem). same_kind r.kind Track in
+      let rest : numbers_from p n (drop n rows) ≡ l.track ∷ numbers_from p (n + 1) (drop (n + 1) rows) =
+      rest_of_rows p rows n row within is ∙ (ap (λ v. cond v (n ∷ numbers_from p (n + 1) (drop (n + 1) rows)) (numbers_from p (n + 1) (drop (n + 1) rows))) track
+      ∙ ap (λ k. k ∷ numbers_from p (n + 1) (drop (n + 1) rows)) (sym same)) in
+      ap (λ v. v ++ numbers_from p (n + 1) (drop (n + 1) rows)) (map-append (λ (v : Layout). v.track) layouts (l ∷ []))
+      ∙ (append_assoc (map (λ (v : Layout). v.track) layouts) (l.track ∷ []) (numbers_from p (n + 1) (drop (n + 1) rows))
+      ∙ (ap (λ v. map (λ (w : Layout). w.track) layouts ++ v) (sym rest) ∙ h.tracks));
   each = All-push (IsLayout rows) layouts l h.each laid;
 }
 
 pub laid_passed : (rows : List Elem) (n : ℕ) (layouts : List Layout) (row : Elem) → LaidUpTo rows n layouts → n < length rows → row ≡ get_or rows n row → same_kind row.kind Track ≡ false → LaidUpTo rows (n + 1) layouts
 laid_passed rows n layouts row h within is other = record {
   tracks =
-    let p : Elem → Bool = λ (r : Elem). same_kind r.kind Track in
-    let rest : numbers_from p n (drop n rows) ≡ numbers_from p (n + 1) (drop (n + 1) rows) =
-        rest_of_rows p rows n row within is ∙ ap (λ v. cond v (n ∷ numbers_from p (n + 1) (drop (n + 1) rows)) (numbers_from p (n + 1) (drop (n + 1) rows))) other in
-    ap (λ v. map (λ (w : Layout). w.track) layouts ++ v) (sym rest) ∙ h.tracks;
+      let p : Elem → Bool = λ (r : Elem). same_kind r.kind Track in
+      let rest : numbers_from p n (drop n rows) ≡ numbers_from p (n + 1) (drop (n + 1) rows) =
+      rest_of_rows p rows n row within is ∙ ap (λ v. cond v (n ∷ numbers_from p (n + 1) (drop (n + 1) rows)) (numbers_from p (n + 1) (drop (n + 1) rows))) other in
+      ap (λ v. map (λ (w : Layout). w.track) layouts ++ v) (sym rest) ∙ h.tracks;
   each = h.each;
 }
 

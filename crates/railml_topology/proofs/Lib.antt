@@ -4,6 +4,7 @@ pub mod Family
 pub mod PositionLemmas
 pub mod OrderLemmas
 pub mod LayoutLemmas
+pub mod PlaceLemmas
 pub mod ElementLemmas
 pub mod JoinLemmas
 pub mod ResolvedLemmas

@@ -6,3 +6,4 @@ pub mod Ids
 pub mod Searching
 pub mod Tables
 pub mod Plans
+pub mod Places

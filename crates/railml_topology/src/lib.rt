@@ -20,6 +20,7 @@ mod missing;
 mod numbers;
 mod order;
 mod outside;
+mod places;
 mod references;
 mod rows;
 mod tables;
