@@ -1,9 +1,6 @@
 -- The first fault of one argument behind others, kind by kind.
-use Rattle.std.proofs.Common.{◌≡◌, ℕ, ◌+◌, ◌<◌, ◌≤◌, None, Some, List, [], ◌∷◌, length, refl, sym, ap, subst, ◌∙◌, arith}
-use Rattle.std.specs.Prelude.{Option, Contains, MatchOption}
-use Rattle.std.specs.Bool.{MatchBool}
-use Rattle.std.specs.List.{list_any}
-use Rattle.std.specs.Str.{bytes_eq}
+use Rattle.std.proofs.Common.{◌≡◌, ℕ, ◌+◌, ◌<◌, ◌≤◌, None, Some, List, length, refl, ap, subst, arith}
+use Rattle.std.specs.Prelude.{Option, Contains}
 use Rattle.plan_words.specs.declared.command.CommandWord.{CommandWord}
 use Rattle.plan_words.specs.declared.option_values.OptionWord.{OptionWord}
 use Rattle.plan_words.specs.declared.arguments.Argument.{Argument}
@@ -13,7 +10,7 @@ use Rattle.plan_words.specs.declared.fault.WordWhat.TheVariants.{NoCommand, Unkn
 use Rattle.plan_words.specs.OptionValues.{option_word, Takes}
 use Rattle.plan_words.specs.Arguments.{names_in, options_in}
 use Rattle.plan_words.specs.WordFaults.{number_of, name_count, TakesName, IsOptionOf, HasFault}
-use Rattle.plan_words.specs.Soundness.{IsFirstFault, IsSoundBehind}
+use Rattle.plan_words.specs.Soundness.{IsFirstFault}
 use Rattle.plan_words.proofs.PlaceLemmas.{fault_from}
 
 -- ---- a name

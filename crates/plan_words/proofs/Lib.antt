@@ -6,3 +6,4 @@ pub mod FirstFaultLemmas
 pub mod WordLemmas
 pub mod FileLemmas
 pub mod PartLemmas
+pub mod AnswerLemmas

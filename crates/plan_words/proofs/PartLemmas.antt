@@ -1,5 +1,5 @@
 -- What sound arguments give: values that are taken, and as many names as the command has.
-use Rattle.std.proofs.Common.{◌≡◌, ℕ, ◌<◌, ◌≤◌, true, false, None, Some, List, [], ◌∷◌, ◌++◌, length, refl, sym, ap, subst, ◌∙◌, arith}
+use Rattle.std.proofs.Common.{◌≡◌, ℕ, ◌≤◌, true, false, None, Some, List, [], ◌∷◌, ◌++◌, length, refl, sym, ap, subst, ◌∙◌, arith}
 use Rattle.std.specs.Prelude.{Option, MatchOption, All, slice_get, bytes_eq, if◌then◌else◌, ⊤}
 use Rattle.std.proofs.lemmas.List.Elements.{All-nil, All-cons, All-head}
 use Rattle.std.proofs.lemmas.Slice.Eq.{bytes_eq-Decides}
@@ -9,10 +9,10 @@ use Rattle.plan_words.specs.declared.arguments.Argument.{Argument}
 use Rattle.plan_words.specs.declared.arguments.Argument.TheVariants.{Name, Setting}
 use Rattle.plan_words.specs.OptionValues.{option_word, Takes}
 use Rattle.plan_words.specs.Arguments.{names_in, value_of}
-use Rattle.plan_words.specs.WordFaults.{name_count, TakesName}
+use Rattle.plan_words.specs.WordFaults.{TakesName}
 use Rattle.plan_words.specs.Soundness.{SoundFrom}
 use Rattle.plan_words.specs.Words.{given}
-use Rattle.plan_words.proofs.SoundLemmas.{option_word_injective, sound_at, names_most}
+use Rattle.plan_words.proofs.SoundLemmas.{option_word_injective, sound_at}
 
 -- an option of this word with this value stands among the arguments
 record HasSetting (arguments : List Argument) (word value : List ℕ) : Type 0 where

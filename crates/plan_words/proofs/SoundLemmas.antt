@@ -1,6 +1,6 @@
 -- Arguments without a fault: one more, how many they can be, and that the first fault behind them is the leftmost.
 use Rattle.std.proofs.Common.{◌≡◌, ◌≢◌, ℕ, zero, suc, ◌+◌, ◌<◌, ◌≤◌, ◌⊎◌, inl, inr, true, false, ◌||◌, None, Some, List, [], ◌∷◌, ◌++◌, length, take, drop, get_or, map, eqb, refl, sym, ap, subst, ◌∙◌, append_assoc, length-append, arith}
-use Rattle.std.specs.Prelude.{if◌then◌else◌, ◌==◌, AllPairs, All, Contains}
+use Rattle.std.specs.Prelude.{if◌then◌else◌, ◌==◌, AllPairs, All}
 use Rattle.std.proofs.lemmas.Bool.{ne_eqb, eqb-true, false≢true}
 use Rattle.std.proofs.lemmas.Bool.Decides.{nat_tests}
 use Rattle.std.proofs.lemmas.List.{append-nil, get_or-map, length-map, get_or_default, take_more, length-take-le}
@@ -20,10 +20,10 @@ use Rattle.plan_words.specs.declared.fault.WordWhat.{WordWhat}
 use Rattle.plan_words.specs.declared.fault.WordWhat.TheVariants.{NoCommand, UnknownCommand, MissingName, ExtraWord, UnknownOption, RepeatedOption, BadValue}
 use Rattle.plan_words.specs.OptionValues.{option_word, Takes}
 use Rattle.plan_words.specs.Arguments.{name_of, names_in, option_of, options_in}
-use Rattle.plan_words.specs.WordFaults.{name_count, IsOptionOf, HasFault, SomeHasFault, IsLeftmost, HaveNoFault}
-use Rattle.plan_words.specs.Soundness.{place_of, next_place, StandFrom, IsNear, IsFirstFault, IsSoundBehind, SoundFrom}
+use Rattle.plan_words.specs.WordFaults.{name_count, IsOptionOf, HasFault, IsLeftmost, HaveNoFault}
+use Rattle.plan_words.specs.Soundness.{next_place, StandFrom, IsNear, IsFirstFault, IsSoundBehind, SoundFrom}
 use Rattle.plan_words.proofs.WordLemmas.{cut_at}
-use Rattle.plan_words.proofs.PlaceLemmas.{next_within, stands_behind, stands_near, fault_from, fault_to}
+use Rattle.plan_words.proofs.PlaceLemmas.{stands_behind, stands_near, fault_from, fault_to}
 
 -- ---- each option has a number
 

@@ -1,5 +1,5 @@
 -- What can be wrong with the words of a command line, and which fault counts.
-use Rattle.std.specs.Prelude.{◌≡◌, ◌≢◌, ◌≤◌, ◌<◌, ◌⊎◌, ℕ, ◌+◌, Option, None, Some, List, [], ◌∷◌, ◌++◌, codes, length, map, Contains, AllPairs}
+use Rattle.std.specs.Prelude.{◌≡◌, ◌≢◌, ◌≤◌, ◌<◌, ◌⊎◌, ℕ, ◌+◌, None, Some, List, [], ◌∷◌, ◌++◌, codes, length, map, Contains, AllPairs}
 use Rattle.plan_words.specs.declared.command.CommandWord.{CommandWord}
 use Rattle.plan_words.specs.declared.command.CommandWord.TheVariants.{Draw, Verify, Check, Graph, Make}
 use Rattle.plan_words.specs.declared.option_values.OptionWord.{OptionWord}

@@ -1,8 +1,9 @@
 // The words of the command line.
-ghost use Rattle.std.specs.Prelude.{◌≡◌, ℕ, List, ◌∷◌, IfOk, IfErr};
-ghost use Rattle.plan_words.specs.declared.command.CommandWord.TheVariants as words;
+ghost use Rattle.std.specs.Prelude.{◌≡◌, ◌⊎◌, ℕ, List, ◌∷◌, IfOk, IfErr, IsErrOf};
+ghost use Rattle.plan_words.specs.declared.command.Command.{Command as Asked};
+ghost use Rattle.plan_words.specs.declared.fault.WordWhat.{WordWhat as What};
 ghost use Rattle.plan_words.specs.Arguments.{texts_of};
-ghost use Rattle.plan_words.specs.WordFaults.{command_word};
+ghost use Rattle.plan_words.specs.WordFaults.{command_word, IsFaultOfWords};
 ghost use Rattle.plan_words.specs.Words.{IsCommandOf, IsFaultOf};
 
 use crate::arguments::arguments_in;
@@ -31,9 +32,8 @@ fn read_arguments(
     }
 }
 
-/// The command that the words ask for, or the one fault of them that counts. The words are those of
-/// the command line, without the program's own name.
-pub fn read_words(alloc: Global, words: &[String]) -> Result<Command, WordFault>
+/// The command that the words ask for, or their fault.
+fn read_line(alloc: Global, words: &[String]) -> Result<Command, WordFault>
     ensures command { IfOk result (λ c. IsCommandOf (texts_of words.now) c) }
     ensures fault { IfErr result (λ e. IsFaultOf (texts_of words.now) e) }
 {
@@ -50,4 +50,19 @@ pub fn read_words(alloc: Global, words: &[String]) -> Result<Command, WordFault>
             position: 1,
         }),
     }
+}
+
+/// The command that the words ask for, or the one fault of them that counts. The words are those of
+/// the command line, without the program's own name.
+///
+/// Positions count from 1 at the command. The leftmost fault of a name or an option counts; where
+/// there is none, that a name is missing; and then that two files of `draw` have one name.
+pub fn read_words(alloc: Global, words: &[String]) -> Result<Command, WordFault>
+    ensures command { IfOk result (λ c. IsCommandOf (texts_of words.now) c) }
+    ensures fault { IfErr result (λ e. IsFaultOf (texts_of words.now) e) }
+    // Only want of memory may stand in the place of the words' own answer.
+    ensures command_told { (c : Asked) → IsCommandOf (texts_of words.now) c → (result ≡ Ok c) ⊎ IsErrOf result WordFault.Memory }
+    ensures fault_told { (what : What) (position : ℕ) → IsFaultOfWords (texts_of words.now) what position → IsErrOf result (WordFault.Words what position) ⊎ IsErrOf result WordFault.Memory }
+{
+    read_line(alloc, words)
 }

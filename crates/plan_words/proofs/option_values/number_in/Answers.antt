@@ -1,9 +1,8 @@
-use Rattle.std.proofs.Common.{◌≡◌, ℕ, ◌<◌, ◌≤◌, ◌^◌, true, false, sym, ap, ◌∙◌, arith}
+use Rattle.std.proofs.Common.{◌≡◌, ◌<◌, ◌^◌, true, sym, ap, ◌∙◌, arith}
 use Rattle.std.proofs.lemmas.Fmt.{parse-decimal}
 use Rattle.std.proofs.lemmas.Slice.Eq.{bytes_eq-Decides}
 use Rattle.std.specs.Fmt.{decimal}
 use Rattle.std.specs.Str.{bytes_eq}
-use Rattle.plan_words.specs.OptionValues.{IsNumberIn}
 use Rattle.plan_words.proofs.option_values.number_in.Goals as goal
 use Rattle.plan_words.proofs.option_values.number_in.Goals.{else-eq-via-then-eq+then-low-number+else-number-high, else-eq-via-then-eq+else-low-number, else-eq-via-else-eq}
 

@@ -1,10 +1,9 @@
-use Rattle.std.proofs.Common.{sym, subst, ◌∙◌, List, ℕ, string_bytes}
-use Rattle.std.specs.Prelude.{IfErr}
-use Rattle.plan_words.specs.Words.{IsFaultOf}
-use Rattle.plan_words.proofs.ArgumentLemmas.{texts_front}
+use Rattle.plan_words.specs.Arguments.{texts_of}
+use Rattle.plan_words.proofs.AnswerLemmas.{command_told, fault_told}
 use Rattle.plan_words.proofs.reading.read_words.Goals as goal
 
-pub returns-in-Some-clause-fault : goal.returns-in-Some-clause-fault
-returns-in-Some-clause-fault c =
-    let P : List (List ℕ) → Type 0 = λ words. IfErr c.read_arguments.result (λ e. IsFaultOf words e) in
-    subst P (sym (texts_front c.args.words.now c.first-item.result c.in-len1-up.len_at_least c.first-item.is)) (c.read_arguments.ensures.fault (string_bytes c.first-item.result) (sym c.as_str.ensures.value ∙ c.in-Some.ensures))
+pub returns-clause-command_told : goal.returns-clause-command_told
+returns-clause-command_told c = command_told (texts_of c.args.words.now) c.read_line.result c.read_line.ensures.command c.read_line.ensures.fault
+
+pub returns-clause-fault_told : goal.returns-clause-fault_told
+returns-clause-fault_told c = fault_told (texts_of c.args.words.now) c.read_line.result c.read_line.ensures.command c.read_line.ensures.fault
