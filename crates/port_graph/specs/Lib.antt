@@ -1,0 +1,4 @@
+pub mod StationGraph
+pub mod Columns
+pub mod Plain
+pub mod Kept
