@@ -1,0 +1,5 @@
+pub mod Spots
+pub mod Runs
+pub mod Sites
+pub mod PortRule
+pub mod TopologyGraph
