@@ -1,7 +1,7 @@
 -- The edges of a topology: the pieces into which nodes cut its tracks, and the joins between switches
 -- and crossings; and their numbers.
-use Rattle.std.specs.Prelude.{ℕ, ◌+◌, nat_lt, min, if◌then◌else◌, List, [], ◌∷◌, ◌++◌, length, map, take, sum_by, count_by, flat_map, Option, Some, None, slice_get}
-use Rattle.std.specs.Option.{option_map_or}
+use Rattle.std.specs.Prelude.{ℕ, ◌+◌, nat_lt, min, not, ◌&&◌, Bool, if◌then◌else◌, List, [], ◌∷◌, ◌++◌, length, map, take, sum_by, count_by, flat_map, slice_get, unwrap_or}
+use Rattle.std.specs.Option.{option_map, option_map_or}
 use Rattle.plan_core.specs.declared.topology.Topology.{Topology}
 use Rattle.plan_core.specs.declared.topology.Track.{Track}
 use Rattle.plan_core.specs.declared.topology.Inner.{Inner}
@@ -12,7 +12,7 @@ use Rattle.plan_core.specs.Topology.{connections, connection}
 use Rattle.port_graph.specs.declared.runs.Spot.{Spot}
 use Rattle.port_graph.specs.declared.runs.Run.{Run}
 use Rattle.port_graph.specs.declared.runs.Join.{Join}
-use Rattle.port_graph.specs.Spots.{Standing, AnInner, standing, inner_spot, leads_to}
+use Rattle.port_graph.specs.Spots.{spot_at, is_track_end, inner_spot, leads_to}
 
 -- Pieces.
 
@@ -43,21 +43,34 @@ piece_number t k i = sum_by piece_count (take k t.tracks) + i
 
 -- Joins.
 
--- the join that a connection of a switch or crossing begins: one to a connection of a switch or
--- crossing that is listed later
-abbrev pub begun_join : Inner → Conn → Option Standing → Option Conn → List Join
-begun_join x c (Some (AnInner y)) (Some other) =
-    if nat_lt c.at other.at
-    then record { at = c.at; run = record { track = c.id; from = inner_spot x; to = inner_spot y } } ∷ []
+-- the file place of the connection to which a connection leads
+abbrev pub joined_at : Topology → Conn → ℕ
+joined_at t c = unwrap_or (option_map (λ (other : Conn). other.at) (connection t c.to)) c.at
+
+-- a connection begins a join where it leads to a connection of a switch or crossing that is listed
+-- later
+abbrev pub begins_join : Topology → Conn → Bool
+begins_join t c = not (is_track_end c.to.part) && nat_lt c.at (joined_at t c)
+
+-- the join that a connection of this switch or crossing begins, if it does
+abbrev pub begun_join : Topology → Inner → Conn → List Join
+begun_join t x c =
+    if begins_join t c
+    then record {
+      at = c.at;
+      run = record { track = c.id; from = inner_spot x; to = unwrap_or (spot_at t c.to) (inner_spot x) };
+    } ∷ []
     else []
-begun_join x c _ _ = []
 
 abbrev pub inner_joins : Topology → Inner → List Join
-inner_joins t x = flat_map (λ (c : Conn). begun_join x c (standing t c.to) (connection t c.to)) (connections x.what)
+inner_joins t x = flat_map (begun_join t x) (connections x.what)
+
+abbrev pub track_joins : Topology → Track → List Join
+track_joins t track = flat_map (inner_joins t) track.inner
 
 -- the joins, each by the connection that is listed first
 abbrev pub joins : Topology → List Join
-joins t = flat_map (λ (track : Track). flat_map (inner_joins t) track.inner) t.tracks
+joins t = flat_map (track_joins t) t.tracks
 
 -- the number of the join whose first connection stands at this place of the file: it comes after all
 -- pieces and after the joins that stand before
@@ -74,17 +87,16 @@ edge_count t = sum_by piece_count t.tracks + length (joins t)
 abbrev pub last_piece : Topology → ℕ → ℕ
 last_piece t k = piece_number t k (option_map_or (λ (track : Track). length track.inner) (slice_get t.tracks k) 0)
 
--- the file place of the one that is listed first, of a connection and that to which it leads
-abbrev pub first_place : Conn → Option Conn → ℕ
-first_place c (Some other) = min c.at other.at
-first_place c None = c.at
+-- the number of the join that a connection begins or ends
+abbrev pub join_of : Topology → Conn → ℕ
+join_of t c = join_number t (min c.at (joined_at t c))
 
 abbrev pub edge_toward : Topology → Conn → ℕ → Part → ℕ
 edge_toward t c track Begin = piece_number t track 0
 edge_toward t c track End = last_piece t track
-edge_toward t c track (Branch i) = join_number t (first_place c (connection t c.to))
-edge_toward t c track (Incoming i) = join_number t (first_place c (connection t c.to))
-edge_toward t c track (Outgoing i) = join_number t (first_place c (connection t c.to))
+edge_toward t c track (Branch i) = join_of t c
+edge_toward t c track (Incoming i) = join_of t c
+edge_toward t c track (Outgoing i) = join_of t c
 
 -- the edge along which a connection leads away from its switch, its crossing or its track's end
 abbrev pub edge_beyond : Topology → Conn → ℕ

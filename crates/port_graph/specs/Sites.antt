@@ -12,28 +12,23 @@ use Rattle.plan_core.specs.declared.topology.Conn.{Conn}
 use Rattle.port_graph.specs.declared.sites.Site.{Site}
 use Rattle.port_graph.specs.declared.sites.Meeting.{Meeting}
 use Rattle.port_graph.specs.declared.sites.Meeting.TheVariants as meeting
-use Rattle.port_graph.specs.Spots.{Standing, AnEnd, standing, end_spot, inner_spot}
+use Rattle.port_graph.specs.Spots.{has_node, end_spot, inner_spot}
 use Rattle.port_graph.specs.Runs.{piece_number, last_piece, edge_beyond}
 
 abbrev pub edge_no : ℕ → EdgeNo
 edge_no e = record { 0 = e }
 
--- of a track's end with this edge and what it is joined to: the joint, at the end that is listed first
--- of two
-abbrev pub joint_sites : TrackEnd → ℕ → ℕ → Option Standing → List Site
-joint_sites e own other (Some (AnEnd f)) =
-    if nat_lt e.at f.at
-    then record { id = e.id; spot = end_spot e; meets = meeting.Joint (edge_no own) (edge_no other) } ∷ []
-    else []
-joint_sites e own other _ = []
+-- what meets at the node of a track's end with this edge
+abbrev pub end_meeting : Topology → ℕ → Option Conn → Meeting
+end_meeting t own None = meeting.End (edge_no own)
+end_meeting t own (Some c) = meeting.Joint (edge_no own) (edge_no (edge_beyond t c))
 
-abbrev pub joined_sites : Topology → TrackEnd → ℕ → Option Conn → List Site
-joined_sites t e own None = record { id = e.id; spot = end_spot e; meets = meeting.End (edge_no own) } ∷ []
-joined_sites t e own (Some c) = joint_sites e own (edge_beyond t c) (standing t c.to)
-
--- the node of a track's end with this edge, if it has one of its own: an open end's, or a joint
+-- the node of a track's end with this edge, if it has one of its own
 abbrev pub end_sites : Topology → TrackEnd → ℕ → List Site
-end_sites t e own = joined_sites t e own e.joined
+end_sites t e own =
+    if has_node t e
+    then record { id = e.id; spot = end_spot e; meets = end_meeting t own e.joined } ∷ []
+    else []
 
 -- what meets at a switch or crossing between these two pieces of its track
 abbrev pub inner_meeting : Topology → ℕ → ℕ → InnerKind → Meeting
