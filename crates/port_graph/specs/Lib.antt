@@ -2,3 +2,8 @@ pub mod StationGraph
 pub mod Columns
 pub mod Plain
 pub mod Kept
+pub mod Spots
+pub mod Runs
+pub mod Sites
+pub mod PortRule
+pub mod TopologyGraph

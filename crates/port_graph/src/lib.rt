@@ -10,9 +10,15 @@
 #![tactic(auto)]
 
 mod columns;
+mod fault;
 mod graph;
 mod ports;
 mod rows;
+mod runs;
+mod sites;
 
+pub use fault::GraphFault;
 pub use graph::PortGraph;
 pub use ports::{NodeKind, Ports};
+pub use runs::{Join, Run, Spot};
+pub use sites::{Meeting, Site};
