@@ -15,6 +15,7 @@ mod graph;
 mod ports;
 mod rows;
 mod runs;
+mod sides;
 mod sites;
 
 pub use fault::GraphFault;
