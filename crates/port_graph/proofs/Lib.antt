@@ -1,2 +1,3 @@
 pub mod RisingLemmas
 pub mod ColumnLemmas
+pub mod PortLemmas
