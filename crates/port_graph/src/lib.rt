@@ -2,8 +2,11 @@
 #![tactic(auto)]
 
 mod fault;
+mod joins;
+mod pieces;
 mod runs;
 mod sites;
+mod spots;
 
 pub use fault::GraphFault;
 pub use runs::{Join, Run, Spot};
