@@ -12,11 +12,14 @@
 mod columns;
 mod fault;
 mod graph;
+mod joins;
+mod pieces;
 mod ports;
 mod rows;
 mod runs;
 mod sides;
 mod sites;
+mod spots;
 
 pub use fault::GraphFault;
 pub use graph::PortGraph;
