@@ -1,3 +1,5 @@
 pub mod RisingLemmas
 pub mod ColumnLemmas
 pub mod PortLemmas
+pub mod TurnedLists
+pub mod TurnedTopology

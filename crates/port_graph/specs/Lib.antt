@@ -8,3 +8,4 @@ pub mod Runs
 pub mod Sites
 pub mod PortRule
 pub mod TopologyGraph
+pub mod Turned
