@@ -1,5 +1,6 @@
 pub mod Spots
 pub mod Runs
 pub mod Sites
+pub mod Numbering
 pub mod PortRule
 pub mod TopologyGraph

@@ -94,7 +94,9 @@ fn push_inner_joins(
     match &inner.what {
         InnerKind::Switch { conn, .. } => push_join(alloc, t, inner, conn, joins),
         InnerKind::Crossing {
-            incoming, outgoing, ..
+            incoming,
+            outgoing,
+            ..
         } => {
             push_join(alloc, t, inner, incoming, joins)?;
             push_join(alloc, t, inner, outgoing, joins)

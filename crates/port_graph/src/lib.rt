@@ -3,6 +3,8 @@
 
 mod fault;
 mod joins;
+mod listing;
+mod numbers;
 mod pieces;
 mod runs;
 mod sites;
