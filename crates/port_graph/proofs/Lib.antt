@@ -1,1 +1,4 @@
 pub mod NumberLemmas
+pub mod RisingLemmas
+pub mod ColumnLemmas
+pub mod PortLemmas

@@ -1,3 +1,8 @@
+pub mod StationGraph
+pub mod Columns
+pub mod Plain
+pub mod Kept
+pub mod Sides
 pub mod Spots
 pub mod Runs
 pub mod Sites

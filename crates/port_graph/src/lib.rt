@@ -1,15 +1,30 @@
-//! The track graph of a station.
+//! The track graph of a station: nodes, edges, ports and columns.
+//!
+//! A `PortGraph` has a node for each end of the railway, each joint of two tracks, each switch and
+//! each crossing, and an edge for each piece of track between two of them. Contracts see it as
+//! `plan_core`'s plain `Graph`, which is an `IsStationGraph` by its type: a track graph within the
+//! limits, with names and mileages as a file has them. Its columns are the distinct mileages of its
+//! nodes in rising order.
+//! The crate stands on `plan_core`. The track order, the lawful checker, the clause encoding and the
+//! texts stand on it.
 #![tactic(auto)]
 
+mod columns;
 mod fault;
+mod graph;
 mod joins;
 mod listing;
 mod numbers;
 mod pieces;
+mod ports;
+mod rows;
 mod runs;
+mod sides;
 mod sites;
 mod spots;
 
 pub use fault::GraphFault;
+pub use graph::PortGraph;
+pub use ports::{NodeKind, Ports};
 pub use runs::{Join, Run, Spot};
 pub use sites::{Meeting, Site};
