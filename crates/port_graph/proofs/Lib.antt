@@ -2,3 +2,5 @@ pub mod NumberLemmas
 pub mod RisingLemmas
 pub mod ColumnLemmas
 pub mod PortLemmas
+pub mod Sublists
+pub mod FromFile

@@ -7,5 +7,6 @@ pub mod Spots
 pub mod Runs
 pub mod Sites
 pub mod Numbering
+pub mod Counts
 pub mod PortRule
 pub mod TopologyGraph
