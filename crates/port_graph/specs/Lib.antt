@@ -6,6 +6,8 @@ pub mod Sides
 pub mod Spots
 pub mod Runs
 pub mod Sites
+pub mod Numbering
+pub mod Counts
 pub mod PortRule
 pub mod TopologyGraph
 pub mod Turned

@@ -45,12 +45,15 @@ inner_site t k i x = record {
   meets = inner_meeting t (piece_number t k i) (piece_number t k (i + 1)) x.what;
 }
 
+-- the nodes of track k's switches and crossings
+abbrev pub inner_sites : Topology → ℕ → Track → List Site
+inner_sites t k track = map (λ (ix : ℕ × Inner). inner_site t k ix.0 ix.1) (enumerate_from 0 track.inner)
+
 -- the nodes of track k
 abbrev pub track_sites : Topology → ℕ → Track → List Site
 track_sites t k track =
     end_sites t track.begin (piece_number t k 0)
-    ++ (map (λ (ix : ℕ × Inner). inner_site t k ix.0 ix.1) (enumerate_from 0 track.inner)
-    ++ end_sites t track.end (last_piece t k))
+    ++ (inner_sites t k track ++ end_sites t track.end (last_piece t k))
 
 -- the nodes, track by track
 abbrev pub sites : Topology → List Site

@@ -13,6 +13,8 @@ mod columns;
 mod fault;
 mod graph;
 mod joins;
+mod listing;
+mod numbers;
 mod pieces;
 mod ports;
 mod rows;
