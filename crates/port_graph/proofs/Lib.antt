@@ -6,3 +6,4 @@ pub mod TurnedLists
 pub mod TurnedTopology
 pub mod Sublists
 pub mod FromFile
+pub mod TurnedGraph
