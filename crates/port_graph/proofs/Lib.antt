@@ -7,3 +7,5 @@ pub mod TurnedTopology
 pub mod Sublists
 pub mod FromFile
 pub mod TurnedGraph
+pub mod Membership
+pub mod Places
