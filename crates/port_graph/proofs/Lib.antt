@@ -9,3 +9,5 @@ pub mod FromFile
 pub mod TurnedGraph
 pub mod Membership
 pub mod Places
+pub mod RunLemmas
+pub mod MeetingLemmas
