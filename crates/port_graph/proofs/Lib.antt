@@ -11,3 +11,4 @@ pub mod Membership
 pub mod Places
 pub mod RunLemmas
 pub mod MeetingLemmas
+pub mod RunEnds

@@ -62,15 +62,15 @@ own_met : (t : Topology) (n : ℕ) (joined : Option Conn) → In n (edges_met (e
 own_met t n None = inl refl
 own_met t n (Some c) = inl refl
 
-before_met : (t : Topology) (before after : ℕ) (what : InnerKind) → In before (edges_met (inner_meeting t before after what))
+pub before_met : (t : Topology) (before after : ℕ) (what : InnerKind) → In before (edges_met (inner_meeting t before after what))
 before_met t before after (Switch outgoing hand track_diverges conn) = inl refl
 before_met t before after (Crossing hand incoming outgoing) = inl refl
 
-after_met : (t : Topology) (before after : ℕ) (what : InnerKind) → In after (edges_met (inner_meeting t before after what))
+pub after_met : (t : Topology) (before after : ℕ) (what : InnerKind) → In after (edges_met (inner_meeting t before after what))
 after_met t before after (Switch outgoing hand track_diverges conn) = inr (inl refl)
 after_met t before after (Crossing hand incoming outgoing) = inr (inl refl)
 
-connection_met : (t : Topology) (before after : ℕ) (what : InnerKind) (m : ℕ) (c : Conn) → slice_get (connections what) m ≡ Some c → In (edge_beyond t c) (edges_met (inner_meeting t before after what))
+pub connection_met : (t : Topology) (before after : ℕ) (what : InnerKind) (m : ℕ) (c : Conn) → slice_get (connections what) m ≡ Some c → In (edge_beyond t c) (edges_met (inner_meeting t before after what))
 connection_met t before after (Switch outgoing hand track_diverges conn) zero c is = inr (inr (inl (ap (edge_beyond t) (some_same conn c is))))
 connection_met t before after (Switch outgoing hand track_diverges conn) (suc m) c is = absurd (not_some c is)
 connection_met t before after (Crossing hand incoming outgoing) zero c is = inr (inr (inl (ap (edge_beyond t) (some_same incoming c is))))
@@ -207,7 +207,7 @@ same_site_with t spot spot' e e' same same' s = record {
   met = subst (λ (n : ℕ). In n (edges_met s.site.meets)) same' s.met;
 }
 
-inner_with : (t : Topology) (k i : ℕ) (track : Track) (x : Inner) (e : ℕ) → slice_get t.tracks k ≡ Some track → slice_get track.inner i ≡ Some x → In e (edges_met (inner_meeting t (piece_number t k i) (piece_number t k (i + 1)) x.what)) → SiteWith t (inner_spot x) e
+pub inner_with : (t : Topology) (k i : ℕ) (track : Track) (x : Inner) (e : ℕ) → slice_get t.tracks k ≡ Some track → slice_get track.inner i ≡ Some x → In e (edges_met (inner_meeting t (piece_number t k i) (piece_number t k (i + 1)) x.what)) → SiteWith t (inner_spot x) e
 inner_with t k i track x e here at_i met = record { site = inner_site t k i x; there = inner_site_there t k i track x here at_i; at = refl; met = met }
 
 leads_beside : (t : Topology) → IsResolved t → (k : ℕ) (track : Track) (last : Bool) (c other : Conn) → slice_get t.tracks k ≡ Some track → (end_of track last).joined ≡ Some c → has_node t (end_of track last) ≡ false → connection t (end_place k last) ≡ Some c → other.to ≡ end_place k last → Where t c.to other → SiteWith t (leads_to t (end_of track last)) (own t k last)
