@@ -12,3 +12,5 @@ pub mod Places
 pub mod RunLemmas
 pub mod MeetingLemmas
 pub mod RunEnds
+pub mod RankLemmas
+pub mod ApartLemmas

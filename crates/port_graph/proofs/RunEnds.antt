@@ -36,11 +36,11 @@ begins_parts t c begins =
     let parts = and_parts (not (is_track_end c.to.part)) (nat_lt c.at (joined_at t c)) begins in
     (not_true (is_track_end c.to.part) parts.0, ltb-true c.at (joined_at t c) parts.1)
 
-begins_yes : (t : Topology) (c : Conn) → is_track_end c.to.part ≡ false → c.at < joined_at t c → begins_join t c ≡ true
+pub begins_yes : (t : Topology) (c : Conn) → is_track_end c.to.part ≡ false → c.at < joined_at t c → begins_join t c ≡ true
 begins_yes t c inner less =
     ap (λ (b : Bool). not b && nat_lt c.at (joined_at t c)) inner ∙ lt-ltb c.at (joined_at t c) less
 
-joined_is : (t : Topology) (c other : Conn) → connection t c.to ≡ Some other → joined_at t c ≡ other.at
+pub joined_is : (t : Topology) (c other : Conn) → connection t c.to ≡ Some other → joined_at t c ≡ other.at
 joined_is t c other there = ap (λ (o : Option Conn). unwrap_or (option_map (λ (d : Conn). d.at) o) c.at) there
 
 -- ---- the ends of a join
