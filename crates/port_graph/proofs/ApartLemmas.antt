@@ -1,8 +1,8 @@
 -- The edges that meet at a node differ, where each edge goes forward: an edge with both ends at one node has
 -- one mileage at both.
-use Rattle.std.proofs.Common.{◌≡◌, ◌≢◌, ℕ, zero, suc, ◌+◌, ◌<◌, ◌≤◌, Bool, true, false, cond, min, List, [], ◌∷◌, length, take, Option, Some, None, refl, sym, ap, ◌∙◌, subst, inl, inr, arith}
-use Rattle.std.specs.Prelude.{nat_lt, sum_by, count_by, slice_get, unwrap_or, AllPairs, All}
-use Rattle.std.proofs.lemmas.Bool.{cases_lt, cases_eq}
+use Rattle.std.proofs.Common.{◌≡◌, ◌≢◌, ℕ, suc, ◌+◌, ◌<◌, ◌≤◌, Bool, true, false, cond, min, [], ◌∷◌, length, Option, Some, None, refl, sym, ap, ◌∙◌, subst, inl, inr, arith}
+use Rattle.std.specs.Prelude.{slice_get, unwrap_or, AllPairs}
+use Rattle.std.proofs.lemmas.Bool.{cases_lt}
 use Rattle.std.proofs.lemmas.Option.{slice_get_within}
 use Rattle.std.proofs.lemmas.List.Elements.{All-nil, All-cons}
 use Rattle.std.proofs.lemmas.List.Kept.{AllPairs-cons}
@@ -15,24 +15,22 @@ use Rattle.plan_core.specs.declared.topology.InnerKind.{InnerKind}
 use Rattle.plan_core.specs.declared.topology.InnerKind.TheVariants.{Switch, Crossing}
 use Rattle.plan_core.specs.declared.topology.Conn.{Conn}
 use Rattle.plan_core.specs.declared.topology.Place.{Place}
-use Rattle.plan_core.specs.declared.topology.Part.{Part}
 use Rattle.plan_core.specs.declared.topology.Part.TheVariants.{Incoming, Outgoing}
 use Rattle.plan_core.specs.Topology.{connections, connection, IsResolved}
 use Rattle.port_graph.specs.declared.runs.Spot.{Spot}
-use Rattle.port_graph.specs.declared.runs.Run.{Run}
 use Rattle.port_graph.specs.declared.runs.Join.{Join}
 use Rattle.port_graph.specs.declared.sites.Site.{Site}
 use Rattle.port_graph.specs.Spots.{end_spot, inner_spot, spot_at, is_track_end, has_node, leads_to}
-use Rattle.port_graph.specs.Runs.{spots_along, piece_count, piece_number, last_piece, joined_at, joins, join_number, join_of, edge_beyond}
-use Rattle.port_graph.specs.Sites.{end_meeting, inner_meeting, inner_site, sites}
+use Rattle.port_graph.specs.Runs.{spots_along, piece_count, piece_number, joined_at, joins, join_number, join_of, edge_beyond}
+use Rattle.port_graph.specs.Sites.{end_meeting, inner_meeting, sites}
 use Rattle.port_graph.specs.Sides.{edges_met}
-use Rattle.port_graph.specs.TopologyGraph.{IsRun, AllForward}
+use Rattle.port_graph.specs.TopologyGraph.{AllForward}
 use Rattle.port_graph.proofs.NumberLemmas.{piece_below}
 use Rattle.port_graph.proofs.Membership.{In, contains_in, some_same}
-use Rattle.port_graph.proofs.RankLemmas.{rank, one_rank}
+use Rattle.port_graph.proofs.RankLemmas.{one_rank}
 use Rattle.port_graph.proofs.Places.{Where, at_end, at_inner, end_of, end_part, inner_part, end_place, inner_place, where_is, end_connection, inner_connection, end_spot_at, inner_spot_at, end_is_end, inner_is_no_end, same_place, connections_apart}
 use Rattle.port_graph.proofs.RunLemmas.{one_place, spot_of_inner, spot_of_end, piece_at, join_from, join_there}
-use Rattle.port_graph.proofs.MeetingLemmas.{own, beyond_end, beyond_inner, last_is, site_of_end, SiteOf, of_end, of_inner, site_of, node_beside_end, no_node_beside_inner, leads_own, leads_other}
+use Rattle.port_graph.proofs.MeetingLemmas.{own, beyond_end, beyond_inner, last_is, SiteOf, of_end, of_inner, site_of, node_beside_end, no_node_beside_inner, leads_own, leads_other}
 use Rattle.port_graph.proofs.RunEnds.{begins_yes, joined_is}
 use Rattle.std.proofs.lemmas.Bool.{false≢true, ltb-true, le-ltb}
 

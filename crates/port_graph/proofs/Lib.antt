@@ -14,3 +14,4 @@ pub mod MeetingLemmas
 pub mod RunEnds
 pub mod RankLemmas
 pub mod ApartLemmas
+pub mod TrackGraphLemmas

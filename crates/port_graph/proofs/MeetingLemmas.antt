@@ -1,10 +1,9 @@
 -- Each run goes from a node to a node at which it meets, and what meets at a node are runs with an end there.
-use Rattle.std.proofs.Common.{◌≡◌, ◌≢◌, ℕ, zero, suc, ◌+◌, ◌-◌, ◌<◌, ◌≤◌, Bool, true, false, not, ◌&&◌, cond, min, List, [], ◌∷◌, ◌++◌, length, map, get_or, Option, Some, None, refl, sym, ap, ◌∙◌, subst, inl, inr, zero-add, arith}
-use Rattle.std.specs.Prelude.{◌⊎◌, nat_lt, slice_get, unwrap_or, option_and_then, Contains}
-use Rattle.std.specs.Option.{option_map, option_map_or}
-use Rattle.std.specs.List.{flat_map, enumerate_from}
-use Rattle.std.proofs.lemmas.Bool.{false≢true, cases_lt, and_parts, ltb-true, ltb-false, lt-ltb, le-ltb}
-use Rattle.std.proofs.lemmas.Option.{slice_get_within, slice_get-get_or}
+use Rattle.std.proofs.Common.{◌≡◌, ◌≢◌, ℕ, zero, suc, ◌+◌, ◌≤◌, Bool, true, false, ◌&&◌, cond, List, [], ◌∷◌, ◌++◌, length, map, Option, Some, None, refl, sym, ap, ◌∙◌, subst, inl, inr, zero-add, arith}
+use Rattle.std.specs.Prelude.{nat_lt, slice_get, unwrap_or, option_and_then}
+use Rattle.std.specs.Option.{option_map_or}
+use Rattle.std.specs.List.{enumerate_from}
+use Rattle.std.proofs.lemmas.Bool.{false≢true, ltb-false, lt-ltb}
 use Rattle.plan_core.specs.declared.topology.Topology.{Topology}
 use Rattle.plan_core.specs.declared.topology.Track.{Track}
 use Rattle.plan_core.specs.declared.topology.End.{End as TrackEnd}
@@ -17,18 +16,13 @@ use Rattle.plan_core.specs.declared.topology.Part.{Part}
 use Rattle.plan_core.specs.declared.topology.Part.TheVariants.{Begin, End, Branch, Incoming, Outgoing}
 use Rattle.plan_core.specs.Topology.{connections, connection, IsResolved}
 use Rattle.port_graph.specs.declared.runs.Spot.{Spot}
-use Rattle.port_graph.specs.declared.runs.Run.{Run}
-use Rattle.port_graph.specs.declared.runs.Join.{Join}
 use Rattle.port_graph.specs.declared.sites.Site.{Site}
-use Rattle.port_graph.specs.declared.sites.Meeting.{Meeting}
 use Rattle.port_graph.specs.Spots.{end_spot, inner_spot, spot_at, is_track_end, is_listed_before, is_node, has_node, leads_to}
-use Rattle.port_graph.specs.Runs.{spots_along, pieces, piece_number, last_piece, joined_at, begins_join, joins, join_number, join_of, edge_toward, edge_beyond}
-use Rattle.port_graph.specs.Sites.{edge_no, end_meeting, end_sites, inner_meeting, inner_site, track_sites, sites}
+use Rattle.port_graph.specs.Runs.{piece_number, last_piece, join_of, edge_toward, edge_beyond}
+use Rattle.port_graph.specs.Sites.{end_meeting, end_sites, inner_meeting, inner_site, track_sites, sites}
 use Rattle.port_graph.specs.Sides.{edges_met}
-use Rattle.port_graph.specs.TopologyGraph.{IsRun}
-use Rattle.port_graph.proofs.Membership.{In, contains_in, in_contains, some_same, not_some, in_at, in_left, in_right, in_append, in_map, in_numbered, numbered_in}
-use Rattle.port_graph.proofs.Places.{Where, at_end, at_inner, end_of, end_part, inner_part, end_place, inner_place, where_is, end_connection, inner_connection, end_spot_at, inner_spot_at, end_is_end, inner_is_no_end, same_place, ends_apart, connections_apart}
-use Rattle.port_graph.proofs.RunLemmas.{spot_of_inner, spot_of_end, spot_cases, piece_at, IsPiece, piece_of, length-spots, join_from, IsJoin, join_of_list, join_there}
+use Rattle.port_graph.proofs.Membership.{In, some_same, not_some, in_left, in_right, in_append, in_map, in_numbered, numbered_in}
+use Rattle.port_graph.proofs.Places.{Where, at_end, at_inner, end_of, end_part, end_place, where_is, end_connection, end_spot_at, inner_spot_at, end_is_end, same_place, ends_apart}
 
 -- ---- edges beyond connections
 
@@ -120,9 +114,9 @@ pub inner_site_there : (t : Topology) (k i : ℕ) (track : Track) (x : Inner) �
 inner_site_there t k i track x here at_i =
     in_sites t k track (inner_site t k i x) here
     (in_right (end_sites t track.begin (piece_number t k 0)) (inner_list t k track ++ end_sites t track.end (last_piece t k)) (inner_site t k i x)
-      (in_left (inner_list t k track) (end_sites t track.end (last_piece t k)) (inner_site t k i x)
-        (subst (λ (n : ℕ). In (inner_site t k n x) (inner_list t k track)) (zero-add i)
-          (in_map (λ (ix : ℕ × Inner). inner_site t k ix.0 ix.1) (enumerate_from 0 track.inner) (0 + i, x) (numbered_there 0 track.inner i x at_i)))))
+    (in_left (inner_list t k track) (end_sites t track.end (last_piece t k)) (inner_site t k i x)
+    (subst (λ (n : ℕ). In (inner_site t k n x) (inner_list t k track)) (zero-add i)
+    (in_map (λ (ix : ℕ × Inner). inner_site t k ix.0 ix.1) (enumerate_from 0 track.inner) (0 + i, x) (numbered_there 0 track.inner i x at_i)))))
 
 chosen : (b : Bool) (s : Site) → b ≡ true → In s (cond b (s ∷ []) [])
 chosen b s is = subst (λ (b : Bool). In s (cond b (s ∷ []) [])) (sym is) (inl refl)
@@ -139,7 +133,7 @@ end_site_there t k track false here node =
 end_site_there t k track true here node =
     let s : Site = site_of_end t track.end (last_piece t k) in
     in_sites t k track s here (in_right (end_sites t track.begin (piece_number t k 0)) (inner_list t k track ++ end_sites t track.end (last_piece t k)) s
-      (in_right (inner_list t k track) (end_sites t track.end (last_piece t k)) s (chosen (has_node t track.end) s node)))
+    (in_right (inner_list t k track) (end_sites t track.end (last_piece t k)) s (chosen (has_node t track.end) s node)))
 
 -- a node is that of a track's end, or of a switch or crossing
 pub data SiteOf (t : Topology) (s : Site) : Type 0 where
@@ -165,9 +159,9 @@ site_of t s h =
     elim (in_append (end_sites t track.begin (piece_number t k 0)) (inner_list t k track ++ end_sites t track.end (last_piece t k)) s h') [
       | inl begin ↦ let c = was_chosen (has_node t track.begin) s (site_of_end t track.begin (piece_number t k 0)) begin in of_end k track false f.2 c.0 c.1
       | inr rest ↦ elim (in_append (inner_list t k track) (end_sites t track.end (last_piece t k)) s rest) [
-          | inl inner ↦ of_inner_list t k track s f.2 inner
-          | inr end ↦ let c = was_chosen (has_node t track.end) s (site_of_end t track.end (last_piece t k)) end in of_end k track true f.2 c.0 c.1
-        ]
+        | inl inner ↦ of_inner_list t k track s f.2 inner
+        | inr end ↦ let c = was_chosen (has_node t track.end) s (site_of_end t track.end (last_piece t k)) end in of_end k track true f.2 c.0 c.1
+      ]
     ]
 
 -- ---- which ends have nodes, and where the others lead
@@ -243,6 +237,7 @@ leads_with t resolved k track last here = by_node (has_node t (end_of track last
         let from : connection t (end_place k last) ≡ Some c = end_connection t k track last here ∙ joined in
         let back = resolved.joins.back (end_place k last) c from in
         leads_beside t resolved k track last c back.0 here joined node from back.2 (where_is t c.to back.0 back.1)
+
     by_node : (b : Bool) → has_node t (end_of track last) ≡ b → SiteWith t (leads_to t (end_of track last)) (own t k last)
     by_node true node = record {
       site = site_of_end t (end_of track last) (own t k last);

@@ -1,9 +1,9 @@
 -- How many elements of a list stand before a place: no two elements that stand apart have one such number,
 -- and each number below the length is one's.
-use Rattle.std.proofs.Common.{◌≡◌, ◌≢◌, ℕ, zero, suc, ◌+◌, ◌-◌, ◌<◌, ◌≤◌, Bool, true, false, cond, List, [], ◌∷◌, length, map, get_or, refl, sym, ap, ◌∙◌, subst, inl, inr, arith}
-use Rattle.std.specs.Prelude.{nat_lt, count_by, sum_by, AllPairs}
+use Rattle.std.proofs.Common.{◌≡◌, ◌≢◌, ℕ, ◌+◌, ◌-◌, ◌<◌, ◌≤◌, Bool, cond, List, [], ◌∷◌, length, map, get_or, refl, sym, ap, ◌∙◌, subst, inl, inr, arith}
+use Rattle.std.specs.Prelude.{nat_lt, count_by, AllPairs}
 use Rattle.std.proofs.Math.ListN.{get_or-map}
-use Rattle.std.proofs.lemmas.Bool.{cases_lt, cases_order, ltb-true, ltb-false, lt-ltb, le-ltb}
+use Rattle.std.proofs.lemmas.Bool.{cases_lt, cases_order, lt-ltb, le-ltb}
 use Rattle.std.proofs.lemmas.List.{length-map}
 use Rattle.std.proofs.lemmas.List.Elements.{All-contains}
 use Rattle.std.proofs.lemmas.List.Sums.{sum_by-cons, count_by-le-length}
@@ -29,9 +29,9 @@ module _ {X : Type 0} (f : X → ℕ) where
       elim (cases_lt (f x) a) [
         | inl less ↦ omega (arith, rest, rank-before x xs a less, rank-before x xs b (omega arith))
         | inr more ↦ elim (cases_lt (f x) b) [
-            | inl less ↦ omega (arith, rest, rank-after x xs a more, rank-before x xs b less)
-            | inr more' ↦ omega (arith, rest, rank-after x xs a more, rank-after x xs b more')
-          ]
+          | inl less ↦ omega (arith, rest, rank-after x xs a more, rank-before x xs b less)
+          | inr more' ↦ omega (arith, rest, rank-after x xs a more, rank-after x xs b more')
+        ]
       ]
 
   -- an element between the places counts
@@ -46,9 +46,9 @@ module _ {X : Type 0} (f : X → ℕ) where
       elim (cases_lt (f y) a) [
         | inl before ↦ omega (arith, rest, rank-before y ys a before, rank-before y ys b (omega arith))
         | inr more ↦ elim (cases_lt (f y) b) [
-            | inl before ↦ omega (arith, rest, rank-after y ys a more, rank-before y ys b before)
-            | inr more' ↦ omega (arith, rest, rank-after y ys a more, rank-after y ys b more')
-          ]
+          | inl before ↦ omega (arith, rest, rank-after y ys a more, rank-before y ys b before)
+          | inr more' ↦ omega (arith, rest, rank-after y ys a more, rank-after y ys b more')
+        ]
       ]
 
   pub rank_below : (xs : List X) (x : X) → In x xs → rank xs (f x) < length xs

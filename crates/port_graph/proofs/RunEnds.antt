@@ -1,8 +1,8 @@
 -- Both ends of a run are nodes at which it meets; and each edge that meets at a node is a run with an end there.
-use Rattle.std.proofs.Common.{◌≡◌, ◌≢◌, ℕ, zero, suc, ◌+◌, ◌<◌, ◌≤◌, Bool, true, false, not, ◌&&◌, cond, min, List, [], ◌∷◌, length, get_or, Option, Some, None, refl, sym, ap, ◌∙◌, subst, inl, inr, arith}
-use Rattle.std.specs.Prelude.{◌⊎◌, nat_lt, slice_get, unwrap_or, Contains}
+use Rattle.std.proofs.Common.{◌≡◌, ◌≢◌, ℕ, zero, suc, ◌+◌, ◌<◌, Bool, true, false, not, ◌&&◌, min, length, get_or, Option, Some, None, refl, sym, ap, ◌∙◌, subst, inl, inr, arith}
+use Rattle.std.specs.Prelude.{◌⊎◌, nat_lt, slice_get, unwrap_or}
 use Rattle.std.specs.Option.{option_map}
-use Rattle.std.proofs.lemmas.Bool.{false≢true, cases_lt, and_parts, ltb-true, ltb-false, lt-ltb, le-ltb}
+use Rattle.std.proofs.lemmas.Bool.{false≢true, cases_lt, and_parts, ltb-true, lt-ltb, le-ltb}
 use Rattle.std.proofs.lemmas.Option.{slice_get_within, slice_get-get_or}
 use Rattle.plan_core.specs.declared.topology.Topology.{Topology}
 use Rattle.plan_core.specs.declared.topology.Track.{Track}
@@ -16,14 +16,14 @@ use Rattle.port_graph.specs.declared.runs.Run.{Run}
 use Rattle.port_graph.specs.declared.runs.Join.{Join}
 use Rattle.port_graph.specs.declared.sites.Site.{Site}
 use Rattle.port_graph.specs.Spots.{end_spot, inner_spot, spot_at, is_track_end, has_node, leads_to}
-use Rattle.port_graph.specs.Runs.{spots_along, pieces, piece_number, last_piece, joined_at, begins_join, joins, join_number, join_of, edge_beyond}
-use Rattle.port_graph.specs.Sites.{end_meeting, inner_meeting, inner_site, sites}
+use Rattle.port_graph.specs.Runs.{spots_along, piece_number, last_piece, joined_at, begins_join, joins, join_number, edge_beyond}
+use Rattle.port_graph.specs.Sites.{end_meeting, sites}
 use Rattle.port_graph.specs.Sides.{edges_met}
 use Rattle.port_graph.specs.TopologyGraph.{IsRun}
-use Rattle.port_graph.proofs.Membership.{In, contains_in, in_contains, some_same, not_some}
+use Rattle.port_graph.proofs.Membership.{In, contains_in, in_contains, some_same}
 use Rattle.port_graph.proofs.Places.{Where, at_end, at_inner, end_of, end_part, inner_part, end_place, inner_place, where_is, end_connection, inner_connection, end_spot_at, inner_spot_at, end_is_end, inner_is_no_end, connections_apart}
-use Rattle.port_graph.proofs.RunLemmas.{spot_of_inner, spot_of_end, spot_cases, piece_at, IsPiece, piece_of, length-spots, join_from, IsJoin, join_of_list, join_there}
-use Rattle.port_graph.proofs.MeetingLemmas.{own, beyond_end, beyond_inner, last_is, Met, met_before, met_after, met_beyond, met_cases, before_met, after_met, connection_met, site_of_end, inner_site_there, SiteOf, of_end, of_inner, site_of, node_beside_end, no_node_beside_inner, leads_own, leads_other, SiteWith, same_site_with, inner_with, leads_with}
+use Rattle.port_graph.proofs.RunLemmas.{spot_of_inner, spot_of_end, spot_cases, piece_at, piece_of, length-spots, join_from, IsJoin, join_of_list, join_there}
+use Rattle.port_graph.proofs.MeetingLemmas.{own, beyond_end, beyond_inner, last_is, Met, met_before, met_after, met_beyond, met_cases, before_met, after_met, connection_met, SiteOf, of_end, of_inner, site_of, node_beside_end, no_node_beside_inner, leads_own, leads_other, SiteWith, same_site_with, inner_with, leads_with}
 
 -- ---- what begins a join
 
@@ -54,7 +54,7 @@ join_site_from t j join =
     (ap (λ (j : Join). j.run.from) join.is)
     (beyond_inner t join.c parts.0 ∙ ap (join_number t) first ∙ ap (λ (j : Join). join_number t j.at) join.is)
     (inner_with t join.k join.i join.track join.x (edge_beyond t join.c) join.here join.at_i
-      (connection_met t (piece_number t join.k join.i) (piece_number t join.k (join.i + 1)) join.x.what join.m join.c join.at_m))
+    (connection_met t (piece_number t join.k join.i) (piece_number t join.k (join.i + 1)) join.x.what join.m join.c join.at_m))
 
 join_to_inner : (t : Topology) (x : Inner) (c other : Conn) → begins_join t c ≡ true → connection t c.to ≡ Some other → connection t other.to ≡ Some c → is_track_end other.to.part ≡ false → Where t c.to other → SiteWith t (unwrap_or (spot_at t c.to) (inner_spot x)) (join_number t c.at)
 join_to_inner t x c other begins there back inner (at_end track2 last2 here2 on joined2) =
@@ -68,7 +68,7 @@ join_to_inner t x c other begins there back inner (at_inner track2 i2 m2 x2 here
     (sym (ap (λ (o : Option Spot). unwrap_or o (inner_spot x)) (inner_spot_at t c.to track2 i2 m2 x2 here2 at_i on)))
     (beyond_inner t other inner ∙ ap (join_number t) first)
     (inner_with t c.to.track i2 track2 x2 (edge_beyond t other) here2 at_i
-      (connection_met t (piece_number t c.to.track i2) (piece_number t c.to.track (i2 + 1)) x2.what m2 other at_m))
+    (connection_met t (piece_number t c.to.track i2) (piece_number t c.to.track (i2 + 1)) x2.what m2 other at_m))
 
 join_site_to : (t : Topology) → IsResolved t → (j : Join) → IsJoin t j → SiteWith t j.run.to (join_number t j.at)
 join_site_to t resolved j join =

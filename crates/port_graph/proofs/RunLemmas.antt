@@ -1,6 +1,6 @@
 -- The pieces and the joins of a topology, by their numbers.
-use Rattle.std.proofs.Common.{◌≡◌, ◌≢◌, ℕ, zero, suc, ◌+◌, ◌-◌, ◌<◌, ◌≤◌, Bool, true, false, cond, List, [], ◌∷◌, ◌++◌, length, map, take, Option, Some, None, refl, sym, ap, ◌∙◌, subst, inl, inr, arith}
-use Rattle.std.specs.Prelude.{◌⊎◌, sum_by, slice_get, unwrap_or, Contains}
+use Rattle.std.proofs.Common.{◌≡◌, ℕ, zero, suc, ◌+◌, ◌-◌, ◌<◌, Bool, true, false, cond, List, [], ◌∷◌, ◌++◌, length, map, take, Option, Some, refl, sym, ap, ◌∙◌, subst, inl, inr, arith}
+use Rattle.std.specs.Prelude.{◌⊎◌, sum_by, slice_get, unwrap_or}
 use Rattle.std.specs.List.{flat_map}
 use Rattle.std.proofs.lemmas.Bool.{cases_lt}
 use Rattle.std.proofs.lemmas.List.{length-map, length-append}
@@ -201,5 +201,5 @@ pub join_there : (t : Topology) (k i m : ℕ) (track : Track) (x : Inner) (c : C
 join_there t k i m track x c here at_i at_m begins =
     in_flat (track_joins t) t.tracks track (join_from t x c) (in_at t.tracks k track here)
     (in_flat (inner_joins t) track.inner x (join_from t x c) (in_at track.inner i x at_i)
-      (in_flat (begun_join t x) (connections x.what) c (join_from t x c) (in_at (connections x.what) m c at_m)
-        (subst (λ (b : Bool). In (join_from t x c) (cond b (join_from t x c ∷ []) [])) (sym begins) (inl refl))))
+    (in_flat (begun_join t x) (connections x.what) c (join_from t x c) (in_at (connections x.what) m c at_m)
+    (subst (λ (b : Bool). In (join_from t x c) (cond b (join_from t x c ∷ []) [])) (sym begins) (inl refl))))

@@ -33,10 +33,10 @@ use Rattle.port_graph.proofs.TurnedTopology.{turned_spot, turned_run, turned_joi
 
 -- ---- mileages
 
-less_true : (a b : ℤ) → a <ℤ b → int_lt a b ≡ true
+pub less_true : (a b : ℤ) → a <ℤ b → int_lt a b ≡ true
 less_true a b less = grind (arith, ints)
 
-less_false : (a b : ℤ) → a <ℤ b → int_lt b a ≡ false
+pub less_false : (a b : ℤ) → a <ℤ b → int_lt b a ≡ false
 less_false a b less = grind (arith, ints)
 
 pub neg_less : (a b : ℤ) → a <ℤ b → neg_ℤ b <ℤ neg_ℤ a
