@@ -10,6 +10,7 @@
 #![tactic(auto)]
 
 mod columns;
+mod counts;
 mod fault;
 mod graph;
 mod joins;
