@@ -4,3 +4,4 @@ pub mod ColumnLemmas
 pub mod PortLemmas
 pub mod Sublists
 pub mod FromFile
+pub mod EdgeLemmas

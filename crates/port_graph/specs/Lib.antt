@@ -10,3 +10,4 @@ pub mod Numbering
 pub mod Counts
 pub mod PortRule
 pub mod TopologyGraph
+pub mod Ordered

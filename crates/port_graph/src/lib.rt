@@ -11,6 +11,7 @@
 
 mod columns;
 mod counts;
+mod edges;
 mod fault;
 mod graph;
 mod joins;
