@@ -1,5 +1,5 @@
 -- What is added to the rows of edges.
-use Rattle.std.proofs.Common.{◌≡◌, ℕ, suc, ◌+◌, ◌<◌, List, [], ◌∷◌, ◌++◌, length, map, drop, get_or, refl, sym, ap, ◌∙◌, subst, append_assoc, drop-cons, add-one}
+use Rattle.std.proofs.Common.{◌≡◌, ℕ, suc, ◌+◌, ◌<◌, List, [], ◌∷◌, ◌++◌, length, map, drop, get_or, sym, ap, ◌∙◌, append_assoc, drop-cons, add-one}
 use Rattle.std.proofs.lemmas.List.{map-append}
 use Rattle.plan_core.specs.Graph.{Edge}
 use Rattle.port_graph.specs.declared.rows.EdgeRow.{EdgeRow}

@@ -1,7 +1,7 @@
 -- Nodes and joins are elements of the file, each of its own; so their names, file places and mileages are
 -- such as a file has.
-use Rattle.std.proofs.Common.{◌≡◌, ◌≢◌, ℕ, ℤ, ◌+◌, ◌<◌, ◌≤◌, Bool, true, false, cond, inl, inr, List, [], ◌∷◌, ◌++◌, length, map, refl, sym, ap, ◌∙◌, subst, length-append, get_or, drop, arith}
-use Rattle.std.specs.Prelude.{All, AllPairs, sum_by, unwrap_or, option_to_list}
+use Rattle.std.proofs.Common.{◌≡◌, ℕ, ℤ, ◌+◌, ◌<◌, ◌≤◌, Bool, true, false, cond, inl, inr, List, [], ◌∷◌, ◌++◌, length, map, refl, sym, ap, ◌∙◌, subst, length-append, get_or, drop, arith}
+use Rattle.std.specs.Prelude.{sum_by, unwrap_or, option_to_list}
 use Rattle.std.specs.List.{flat_map, enumerate_from}
 use Rattle.std.proofs.lemmas.List.{map-append, length-map, append-nil}
 use Rattle.std.proofs.lemmas.List.FromFn.{length-enumerate_from}
@@ -11,7 +11,7 @@ use Rattle.plan_core.specs.declared.topology.Track.{Track}
 use Rattle.plan_core.specs.declared.topology.End.{End as TrackEnd}
 use Rattle.plan_core.specs.declared.topology.Inner.{Inner}
 use Rattle.plan_core.specs.declared.topology.Conn.{Conn}
-use Rattle.plan_core.specs.Topology.{Element, end_element, end_elements, inner_element, inner_elements, conn_element, connections, track_elements, elements, track_miles, IsResolved}
+use Rattle.plan_core.specs.Topology.{Element, end_elements, inner_elements, conn_element, connections, track_elements, elements, track_miles}
 use Rattle.port_graph.specs.declared.sites.Site.{Site}
 use Rattle.port_graph.specs.declared.runs.Join.{Join}
 use Rattle.port_graph.specs.Spots.{has_node, inner_spot, spot_at}

@@ -5,3 +5,4 @@ pub mod PortLemmas
 pub mod Sublists
 pub mod FromFile
 pub mod EdgeLemmas
+pub mod NodeLemmas

@@ -1,5 +1,5 @@
 -- Runs and nodes in the order of their numbers, and what they become.
-use Rattle.std.specs.Prelude.{◌≡◌, ℕ, ◌<◌, List, [], ◌∷◌, length, map, All, Option, Some, None, IsSome, slice_get}
+use Rattle.std.specs.Prelude.{◌≡◌, ℕ, ◌<◌, List, length, map, Option, Some, None, IsSome, slice_get}
 use Rattle.std.specs.List.{enumerate_from}
 use Rattle.std.specs.Option.{option_map}
 use Rattle.plan_core.specs.declared.topology.Topology.{Topology}
@@ -7,9 +7,8 @@ use Rattle.plan_core.specs.Graph.{Node, Edge, Ports}
 use Rattle.port_graph.specs.declared.runs.Run.{Run}
 use Rattle.port_graph.specs.declared.sites.Site.{Site}
 use Rattle.port_graph.specs.declared.fault.GraphFault.{GraphFault}
-use Rattle.port_graph.specs.declared.fault.GraphFault.TheVariants.{TooManyNodes, TooManyEdges, NotForward, SideMismatch, Memory}
+use Rattle.port_graph.specs.declared.fault.GraphFault.TheVariants.{NotForward, SideMismatch, Memory}
 use Rattle.port_graph.specs.Runs.{edge_count}
-use Rattle.port_graph.specs.Sites.{sites}
 use Rattle.port_graph.specs.PortRule.{ports_of}
 use Rattle.port_graph.specs.TopologyGraph.{IsRun, IsForward, side_at}
 
@@ -44,6 +43,12 @@ pub record IsMismatchAt (edges : List Edge) (ss : List Site) (n : ℕ) (s : Site
   pub there : slice_get ss n ≡ Some s
   pub mismatched : ports_of (side_at edges n) s.meets ≡ None
   pub before : (m : ℕ) (r : Site) → m < n → slice_get ss m ≡ Some r → IsSome (ports_of (side_at edges m) r.meets)
+
+-- the fault of this site at this number, if the edges don't lie there as they must
+abbrev pub IsMismatchOf : List Edge → ℕ → Site → GraphFault → Type 0
+IsMismatchOf edges n s (SideMismatch node name) = (node.0 ≡ n) × (name ≡ s.id) × (ports_of (side_at edges n) s.meets ≡ None)
+IsMismatchOf edges n s Memory = Unit {0}
+IsMismatchOf edges n s _ = ⊥
 
 abbrev pub IsMismatchFault : List Edge → List Site → GraphFault → Type 0
 IsMismatchFault edges ss (SideMismatch node name) = (s : Site) × IsMismatchAt edges ss node.0 s × (name ≡ s.id)

@@ -16,6 +16,7 @@ mod fault;
 mod graph;
 mod joins;
 mod listing;
+mod nodes;
 mod numbers;
 mod pieces;
 mod ports;

@@ -1,4 +1,4 @@
-use Rattle.std.proofs.Common.{◌+◌, ◌<◌, ◌≤◌, length, arith}
+use Rattle.std.proofs.Common.{◌+◌, ◌≤◌, length, arith}
 use Rattle.plan_core.specs.Topology.{elements}
 use Rattle.port_graph.specs.Counts.{node_count}
 use Rattle.port_graph.proofs.FromFile.{counted_more}
