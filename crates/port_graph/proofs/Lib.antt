@@ -6,3 +6,6 @@ pub mod Sublists
 pub mod FromFile
 pub mod EdgeLemmas
 pub mod NodeLemmas
+pub mod ListPlaces
+pub mod Ranks
+pub mod RunOrder

@@ -18,6 +18,7 @@ mod joins;
 mod listing;
 mod nodes;
 mod numbers;
+mod order;
 mod pieces;
 mod ports;
 mod rows;
