@@ -9,3 +9,5 @@ pub mod NodeLemmas
 pub mod ListPlaces
 pub mod Ranks
 pub mod RunOrder
+pub mod GraphLemmas
+pub mod StationLemmas

@@ -1,5 +1,5 @@
 -- Elements of a list by their place.
-use Rattle.std.proofs.Common.{◌≡◌, ℕ, zero, suc, ◌+◌, ◌⊎◌, inl, inr, List, [], ◌∷◌, ◌++◌, length, map, Some, None, refl, ap, ◌∙◌, arith, zero-add}
+use Rattle.std.proofs.Common.{◌≡◌, ℕ, zero, suc, ◌+◌, ◌<◌, ◌⊎◌, inl, inr, List, [], ◌∷◌, ◌++◌, length, map, Some, None, refl, ap, ◌∙◌, arith, zero-add}
 use Rattle.std.specs.Prelude.{slice_get, Contains}
 use Rattle.std.proofs.lemmas.Option.{slice_get_within, get_or_from_slice_get, slice_get-get_or}
 
@@ -39,3 +39,9 @@ pub place_map_from : {A B : Type 0} (f : A → B) (xs : List A) (n : ℕ) (y : B
 place_map_from f [] n y is = absurd (let e : None ≡ Some y = is in cc)
 place_map_from f (z ∷ xs) zero y is = (z, refl, (let e : Some (f z) ≡ Some y = is in cc))
 place_map_from f (z ∷ xs) (suc n) y is = place_map_from f xs n y is
+
+-- at each place of a list something stands
+pub place_within : {A : Type 0} (xs : List A) (i : ℕ) → i < length xs → (x : A) × (slice_get xs i ≡ Some x)
+place_within [] i within = absurd (omega arith)
+place_within (z ∷ xs) zero within = (z, refl)
+place_within (z ∷ xs) (suc i) within = place_within xs i (omega arith)
