@@ -17,7 +17,7 @@ use Rattle.port_graph.specs.declared.fault.GraphFault.{GraphFault}
 use Rattle.port_graph.specs.declared.fault.GraphFault.TheVariants.{TooManyNodes, TooManyEdges, NotForward, SideMismatch, Memory}
 use Rattle.port_graph.specs.Sites.{sites, node_number}
 use Rattle.port_graph.specs.PortRule.{ports_of}
-use Rattle.port_graph.specs.TopologyGraph.{edge_of, IsForward, AllForward, AreEdgesOf, IsNodeOf, IsGraphOf, HasFewNodes, HasFewEdges, IsGraphFault, side_at}
+use Rattle.port_graph.specs.TopologyGraph.{edge_of, IsForward, AllForward, AreEdgesOf, IsNodeOf, IsGraphOf, HasFewNodes, HasFewEdges, IsGraphFault, edge_among, side_at}
 use Rattle.port_graph.specs.Ordered.{AreRunsOf, IsLevelFault, IsMismatchFault, node_among, nodes_among}
 use Rattle.port_graph.proofs.Sublists.{sublist-AllPairs}
 use Rattle.port_graph.proofs.FromFile.{site_element, sites_from_file}
@@ -161,3 +161,12 @@ is_graph t g ss resolved built order all = record {
   count = nodes_count g.edges ss g.nodes all ∙ length_permutation (sites t) ss order.same;
   each = is_node t g ss resolved order all;
 }
+
+-- What `build` has in hand.
+
+pub edges_made : (t : Topology) (found : List Site) (runs read : List Run) (edges : List Edge) → found ≡ sites t → read ≡ runs → edges ≡ map (edge_among found) read → edges ≡ map (edge_of t) runs
+edges_made t found runs read edges all same is =
+    is ∙ ap (λ ss. map (edge_among ss) read) all ∙ ap (map (edge_of t)) same
+
+pub sites_in_order : (t : Topology) (found ss : List Site) → found ≡ sites t → IsPermutation found ss → IsNonDecreasingBy (λ (s : Site). s.spot.at) ss → AreInOrder t ss
+sites_in_order t found ss all moved rise = record { same = subst (λ (l : List Site). IsPermutation l ss) all moved; rise = rise }

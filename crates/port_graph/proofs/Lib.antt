@@ -11,3 +11,4 @@ pub mod Ranks
 pub mod RunOrder
 pub mod GraphLemmas
 pub mod StationLemmas
+pub mod BuildLemmas

@@ -13,6 +13,7 @@ mod columns;
 mod counts;
 mod edges;
 mod fault;
+mod from_topology;
 mod graph;
 mod joins;
 mod listing;
@@ -27,6 +28,7 @@ mod sides;
 mod sites;
 mod spots;
 
+pub use from_topology::build;
 pub use fault::GraphFault;
 pub use graph::PortGraph;
 pub use ports::{NodeKind, Ports};
