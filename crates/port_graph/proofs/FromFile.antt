@@ -1,11 +1,11 @@
 -- Nodes and joins are elements of the file, each of its own; so their names, file places and mileages are
 -- such as a file has.
-use Rattle.std.proofs.Common.{◌≡◌, ℕ, ℤ, ◌+◌, ◌≤◌, Bool, true, false, cond, inl, inr, List, [], ◌∷◌, ◌++◌, length, map, refl, sym, ap, ◌∙◌, subst, length-append, arith}
+use Rattle.std.proofs.Common.{◌≡◌, ℕ, ℤ, ◌+◌, ◌<◌, ◌≤◌, Bool, true, false, cond, inl, inr, List, [], ◌∷◌, ◌++◌, length, map, refl, sym, ap, ◌∙◌, subst, length-append, get_or, drop, arith}
 use Rattle.std.specs.Prelude.{sum_by, unwrap_or, option_to_list}
 use Rattle.std.specs.List.{flat_map, enumerate_from}
 use Rattle.std.proofs.lemmas.List.{map-append, length-map, append-nil}
 use Rattle.std.proofs.lemmas.List.FromFn.{length-enumerate_from}
-use Rattle.std.proofs.lemmas.List.Sums.{sum_by-cons}
+use Rattle.std.proofs.lemmas.List.Sums.{sum_by-cons, sum_by-drop_more}
 use Rattle.plan_core.specs.declared.topology.Topology.{Topology}
 use Rattle.plan_core.specs.declared.topology.Track.{Track}
 use Rattle.plan_core.specs.declared.topology.End.{End as TrackEnd}
@@ -152,3 +152,10 @@ sites_count t = sym (count_from t 0 t.tracks)
 -- there are no more nodes than elements
 pub sites_few : (t : Topology) → length (sites t) ≤ length (elements t)
 sites_few t = let h = sublist-length (map site_element (sites t)) (elements t) (sites_from_file t) in let m = length-map (sites t) site_element in omega (arith, h, m)
+
+-- the nodes of the tracks so far and of the next one are no more than the elements
+pub counted_more : (t : Topology) (tracks : List Track) (i total : ℕ) (track : Track) → i < length tracks → track ≡ get_or tracks i track → total + sum_by (node_count t) (drop i tracks) ≡ length (sites t) → total + node_count t track ≤ length (elements t)
+counted_more t tracks i total track within is so_far =
+    let more = sum_by-drop_more (node_count t) tracks i track within in
+    let same = ap (node_count t) is in
+    omega (arith, more, same, sites_few t)

@@ -15,3 +15,11 @@ pub mod RunEnds
 pub mod RankLemmas
 pub mod ApartLemmas
 pub mod TrackGraphLemmas
+pub mod EdgeLemmas
+pub mod NodeLemmas
+pub mod ListPlaces
+pub mod Ranks
+pub mod RunOrder
+pub mod GraphLemmas
+pub mod StationLemmas
+pub mod BuildLemmas

@@ -145,7 +145,7 @@ apart a b differ =
     elim (eqb a b) as (λ t. eqb a b ≡ t → t ≡ false) [ true ↦ λ is. absurd (differ (eqb-true a b is)) | false ↦ λ is. refl ] refl
 
 -- numbers that differ do so in another order too
-apart_moved : (xs ys : List ℕ) → IsPermutation xs ys → AllPairs (λ (e f : ℕ). e ≢ f) xs → AllPairs (λ (e f : ℕ). e ≢ f) ys
+pub apart_moved : (xs ys : List ℕ) → IsPermutation xs ys → AllPairs (λ (e f : ℕ). e ≢ f) xs → AllPairs (λ (e f : ℕ). e ≢ f) ys
 apart_moved xs ys moved differ i j d less within =
     different _ _
     (apart_from_distinct eqb ys i j d

@@ -42,10 +42,10 @@ sublist-All P xs [] p all = subst (All P) (sym p) (All-nil P)
 sublist-All P xs (y ∷ ys) (inl p) all = sublist-All P xs ys p (All-tail P y ys all)
 sublist-All P xs (y ∷ ys) (inr (rest, is, p)) all = subst (All P) (sym is) (All-cons P y rest (All-head P y ys all) (sublist-All P rest ys p (All-tail P y ys all)))
 
-pairs-head : {A : Type 0} (R : A → A → Type 0) (y : A) (ys : List A) → AllPairs R (y ∷ ys) → All (R y) ys
+pub pairs-head : {A : Type 0} (R : A → A → Type 0) (y : A) (ys : List A) → AllPairs R (y ∷ ys) → All (R y) ys
 pairs-head R y ys pairs i d within = pairs 0 (suc i) d (omega arith) (omega arith)
 
-pairs-tail : {A : Type 0} (R : A → A → Type 0) (y : A) (ys : List A) → AllPairs R (y ∷ ys) → AllPairs R ys
+pub pairs-tail : {A : Type 0} (R : A → A → Type 0) (y : A) (ys : List A) → AllPairs R (y ∷ ys) → AllPairs R ys
 pairs-tail R y ys pairs i j d less within = pairs (suc i) (suc j) d (omega arith) (omega arith)
 
 -- what holds of each two elements holds of those

@@ -1,6 +1,6 @@
 -- The graph of a topology is a track graph, where each edge goes forward.
 use Rattle.std.proofs.Common.{◌≡◌, ◌≢◌, ℕ, zero, suc, ◌+◌, ◌-◌, ◌<◌, ℤ, Bool, true, false, cond, List, [], ◌∷◌, length, map, get_or, Some, refl, sym, ap, ◌∙◌, subst, inl, inr, arith}
-use Rattle.std.specs.Prelude.{◌⊎◌, ◌<ℤ◌, int_lt, slice_get, sum_by, All, AllPairs}
+use Rattle.std.specs.Prelude.{◌⊎◌, ◌<ℤ◌, int_lt, slice_get, sum_by, All, AllPairs, Contains}
 use Rattle.std.specs.Cmp.{int_ranks}
 use Rattle.std.specs.List.{fold}
 use Rattle.std.specs.Ordering.{int_cmp, MatchOrdering}

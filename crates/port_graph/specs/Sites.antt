@@ -59,6 +59,10 @@ track_sites t k track =
 abbrev pub sites : Topology → List Site
 sites t = flat_map (λ (kt : ℕ × Track). track_sites t kt.0 kt.1) (enumerate_from 0 t.tracks)
 
+-- how many of these nodes stand before a place of the file
+abbrev pub number_among : List Site → ℕ → ℕ
+number_among ss at = count_by (λ (s : Site). nat_lt s.spot.at at) ss
+
 -- the number of the node whose element stands at this place of the file: how many nodes stand before it
 abbrev pub node_number : Topology → ℕ → ℕ
-node_number t at = count_by (λ (s : Site). nat_lt s.spot.at at) (sites t)
+node_number t at = number_among (sites t) at

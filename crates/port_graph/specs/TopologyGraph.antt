@@ -11,7 +11,7 @@ use Rattle.port_graph.specs.declared.sites.Site.{Site}
 use Rattle.port_graph.specs.declared.fault.GraphFault.{GraphFault}
 use Rattle.port_graph.specs.declared.fault.GraphFault.TheVariants.{TooManyNodes, TooManyEdges, NotForward, SideMismatch, Memory}
 use Rattle.port_graph.specs.Runs.{pieces, joins, join_number, edge_count}
-use Rattle.port_graph.specs.Sites.{sites, node_number}
+use Rattle.port_graph.specs.Sites.{sites, number_among, node_number}
 use Rattle.port_graph.specs.PortRule.{ports_of}
 
 -- the two nodes of a run, the one of smaller mileage first
@@ -21,8 +21,12 @@ west_of r = if int_lt r.from.mile.0 r.to.mile.0 then r.from else r.to
 abbrev pub east_of : Run → Spot
 east_of r = if int_lt r.from.mile.0 r.to.mile.0 then r.to else r.from
 
+-- the edge that a run becomes where these are the nodes
+abbrev pub edge_among : List Site → Run → Edge
+edge_among ss r = record { track = r.track; west = number_among ss (west_of r).at; east = number_among ss (east_of r).at }
+
 abbrev pub edge_of : Topology → Run → Edge
-edge_of t r = record { track = r.track; west = node_number t (west_of r).at; east = node_number t (east_of r).at }
+edge_of t r = edge_among (sites t) r
 
 -- the run that becomes the edge of this number
 abbrev pub IsRun : Topology → ℕ → Run → Type 0

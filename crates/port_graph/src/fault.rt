@@ -1,5 +1,5 @@
 // Why a topology has no track graph.
-use plan_core::{EdgeNo, Micro, NodeNo, Text};
+use plan_core::{EdgeNo, Micro, NodeNo, OutOfMemory, Text};
 
 /// Why a topology has no track graph: the first of these, in this order.
 #[derive(Drop)]
@@ -21,4 +21,15 @@ pub enum GraphFault {
     },
     /// Memory couldn't be had.
     Memory,
+}
+
+impl From<OutOfMemory> for GraphFault {
+    ghost use Rattle.std.specs.Prelude.{◌≡◌};
+    ghost use Rattle.port_graph.specs.declared.fault.GraphFault.TheVariants.{Memory};
+
+    ghost from_gives = { λ _ fault. fault ≡ Memory };
+
+    fn from(_: OutOfMemory) -> Self {
+        GraphFault::Memory
+    }
 }

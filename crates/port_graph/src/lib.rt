@@ -10,11 +10,16 @@
 #![tactic(auto)]
 
 mod columns;
+mod counts;
+mod edges;
 mod fault;
+mod from_topology;
 mod graph;
 mod joins;
 mod listing;
+mod nodes;
 mod numbers;
+mod order;
 mod pieces;
 mod ports;
 mod rows;
@@ -23,6 +28,7 @@ mod sides;
 mod sites;
 mod spots;
 
+pub use from_topology::build;
 pub use fault::GraphFault;
 pub use graph::PortGraph;
 pub use ports::{NodeKind, Ports};
