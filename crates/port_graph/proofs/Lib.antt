@@ -2,6 +2,8 @@ pub mod NumberLemmas
 pub mod RisingLemmas
 pub mod ColumnLemmas
 pub mod PortLemmas
+pub mod TurnedLists
+pub mod TurnedTopology
 pub mod Sublists
 pub mod FromFile
 pub mod EdgeLemmas
@@ -12,3 +14,12 @@ pub mod RunOrder
 pub mod GraphLemmas
 pub mod StationLemmas
 pub mod BuildLemmas
+pub mod TurnedGraph
+pub mod Membership
+pub mod Places
+pub mod RunLemmas
+pub mod MeetingLemmas
+pub mod RunEnds
+pub mod RankLemmas
+pub mod ApartLemmas
+pub mod TrackGraphLemmas

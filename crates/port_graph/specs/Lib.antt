@@ -11,3 +11,4 @@ pub mod Counts
 pub mod PortRule
 pub mod TopologyGraph
 pub mod Ordered
+pub mod Turned
