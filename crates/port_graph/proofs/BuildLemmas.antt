@@ -1,13 +1,12 @@
 -- From what the parts of `build` give to what it gives.
-use Rattle.std.proofs.Common.{◌≡◌, ℕ, ◌<◌, ◌≤◌, List, length, map, get_or, Some, sym, ap, ◌∙◌, subst, arith}
-use Rattle.std.specs.Prelude.{All, Contains}
+use Rattle.std.proofs.Common.{◌≡◌, ℕ, ◌<◌, ◌≤◌, List, length, map, get_or, Some, ◌∙◌, subst, arith}
+use Rattle.std.specs.Prelude.{All}
 use Rattle.std.specs.List.Sorted.{IsPermutation, IsNonDecreasingBy}
 use Rattle.std.proofs.lemmas.List.{length-map}
 use Rattle.std.proofs.lemmas.Option.{slice_get-get_or}
 use Rattle.std.proofs.lemmas.List.Sorted.{length_permutation}
 use Rattle.plan_core.specs.declared.topology.Topology.{Topology}
 use Rattle.plan_core.specs.Topology.{IsResolved}
-use Rattle.plan_core.specs.Graph.{Graph, Node, Edge}
 use Rattle.port_graph.specs.declared.runs.Run.{Run}
 use Rattle.port_graph.specs.declared.sites.Site.{Site}
 use Rattle.port_graph.specs.declared.rows.EdgeRow.{EdgeRow}
@@ -16,13 +15,14 @@ use Rattle.port_graph.specs.declared.fault.GraphFault.{GraphFault}
 use Rattle.port_graph.specs.Plain.{plain_edge, plain_node, plain_graph}
 use Rattle.port_graph.specs.StationGraph.{IsStationGraph}
 use Rattle.port_graph.specs.Sides.{edges_met}
-use Rattle.port_graph.specs.Runs.{edge_count}
 use Rattle.port_graph.specs.Sites.{sites}
 use Rattle.port_graph.specs.TopologyGraph.{edge_of, edge_among, IsForward, AllForward, IsGraphOf, IsGraphFault, HasFewNodes, HasFewEdges}
 use Rattle.port_graph.specs.Ordered.{AreRunsOf, IsMismatchFault, nodes_among}
 use Rattle.port_graph.proofs.GraphLemmas.{AreInOrder, edges_made, sites_in_order, are_edges, all_forward, is_graph, site_there, mismatch_fault}
 use Rattle.port_graph.proofs.StationLemmas.{is_station}
-use Rattle.port_graph.proofs.Awaited.{met_there, track_graph}
+use Rattle.port_graph.proofs.Membership.{in_contains, in_at}
+use Rattle.port_graph.proofs.RunEnds.{met_run}
+use Rattle.port_graph.proofs.TrackGraphLemmas.{edge_within, track_graph}
 
 -- runs that all lead forward, the edges that they become, and the sites in order
 pub record IsLaidOut (t : Topology) (runs : List Run) (edges : List EdgeRow) (ss : List Site) : Type 0 where
@@ -48,14 +48,15 @@ laid_out t found named ss runs tried read edges resolved nodes few in_order same
 pub few_sites : (t : Topology) (runs : List Run) (edges : List EdgeRow) (ss : List Site) → IsLaidOut t runs edges ss → length ss ≤ 128
 few_sites t runs edges ss laid = omega (arith, length_permutation (sites t) ss laid.sites.same, laid.few_nodes)
 
-edges_count : (t : Topology) (runs : List Run) (edges : List EdgeRow) (ss : List Site) → IsLaidOut t runs edges ss → length edges ≡ edge_count t
-edges_count t runs edges ss laid = sym (length-map edges plain_edge) ∙ ap length laid.made ∙ length-map runs (edge_of t) ∙ laid.in_order.count
-
+-- the edges that meet at each site are there
 pub met_in_order : (t : Topology) (runs : List Run) (edges : List EdgeRow) (ss : List Site) → IsLaidOut t runs edges ss → All (λ (s : Site). All (λ (e : ℕ). e < length edges) (edges_met s.meets)) ss
-met_in_order t runs edges ss laid i d within =
+met_in_order t runs edges ss laid i d within j f there =
     let s = get_or ss i d in
-    subst (λ n. All (λ (e : ℕ). e < n) (edges_met s.meets)) (sym (edges_count t runs edges ss laid))
-    (met_there t laid.resolved s (site_there t ss laid.sites i s (slice_get-get_or ss i d within)))
+    let e = get_or (edges_met s.meets) j f in
+    let at = in_contains (sites t) s (site_there t ss laid.sites i s (slice_get-get_or ss i d within)) in
+    let run = met_run t laid.resolved s e at (in_at (edges_met s.meets) j e (slice_get-get_or (edges_met s.meets) j f there)) in
+    let found : e < length (map plain_edge edges) = edge_within t (map plain_edge edges) e run.run (are_edges t runs (map plain_edge edges) laid.in_order laid.made) run.numbered in
+    omega (arith, length-map edges plain_edge)
 
 pub laid_mismatch : (t : Topology) (runs : List Run) (edges : List EdgeRow) (ss : List Site) (fault : GraphFault) → IsLaidOut t runs edges ss → IsMismatchFault (map plain_edge edges) ss fault → IsGraphFault t fault
 laid_mismatch t runs edges ss fault laid h =

@@ -6,6 +6,14 @@ pub mod TurnedLists
 pub mod TurnedTopology
 pub mod Sublists
 pub mod FromFile
+pub mod EdgeLemmas
+pub mod NodeLemmas
+pub mod ListPlaces
+pub mod Ranks
+pub mod RunOrder
+pub mod GraphLemmas
+pub mod StationLemmas
+pub mod BuildLemmas
 pub mod TurnedGraph
 pub mod Membership
 pub mod Places
@@ -15,11 +23,3 @@ pub mod RunEnds
 pub mod RankLemmas
 pub mod ApartLemmas
 pub mod TrackGraphLemmas
-pub mod EdgeLemmas
-pub mod NodeLemmas
-pub mod ListPlaces
-pub mod Ranks
-pub mod RunOrder
-pub mod GraphLemmas
-pub mod StationLemmas
-pub mod BuildLemmas

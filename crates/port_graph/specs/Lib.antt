@@ -10,5 +10,5 @@ pub mod Numbering
 pub mod Counts
 pub mod PortRule
 pub mod TopologyGraph
-pub mod Turned
 pub mod Ordered
+pub mod Turned

@@ -28,8 +28,8 @@ mod sides;
 mod sites;
 mod spots;
 
-pub use from_topology::build;
 pub use fault::GraphFault;
+pub use from_topology::build;
 pub use graph::PortGraph;
 pub use ports::{NodeKind, Ports};
 pub use runs::{Join, Run, Spot};
