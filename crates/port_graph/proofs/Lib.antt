@@ -23,3 +23,7 @@ pub mod RunEnds
 pub mod RankLemmas
 pub mod ApartLemmas
 pub mod TrackGraphLemmas
+pub mod TurnedNodes
+pub mod TurnedColumns
+pub mod TurnedStation
+pub mod TurnedFaults

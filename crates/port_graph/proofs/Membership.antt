@@ -58,6 +58,9 @@ in_map f [] x h = absurd h
 in_map f (y ∷ ys) x (inl e) = inl (ap f e)
 in_map f (y ∷ ys) x (inr h) = inr (in_map f ys x h)
 
+pub contains_map : {X Y : Type 0} (f : X → Y) (xs : List X) (x : X) → Contains xs x → Contains (map f xs) (f x)
+contains_map f xs x there = contains_in (map f xs) (f x) (in_map f xs x (in_contains xs x there))
+
 pub in_flat : {X Y : Type 0} (f : X → List Y) (xs : List X) (x : X) (y : Y) → In x xs → In y (f x) → In y (flat_map f xs)
 in_flat f [] x y g h = absurd g
 in_flat {Y = Y} f (z ∷ zs) x y (inl e) h = in_left (f z) (flat_map f zs) y (subst (λ (l : List Y). In y l) (ap f (sym e)) h)

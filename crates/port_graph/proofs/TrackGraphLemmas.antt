@@ -143,7 +143,7 @@ end_at t edges e spot are r =
       ]
     ]
 
-all_of : {X : Type 0} (P : X → Type 0) (xs : List X) → ((x : X) → In x xs → P x) → All P xs
+pub all_of : {X : Type 0} (P : X → Type 0) (xs : List X) → ((x : X) → In x xs → P x) → All P xs
 all_of P xs each k d within = each (get_or xs k d) (in_contains xs (get_or xs k d) (Contains-get_or xs k d within))
 
 -- what meets at a node is below the count of edges

@@ -75,7 +75,7 @@ site_twice s = ap (λ (p : Spot). site p) (spot_twice s.spot)
     site p = record { id = s.id; spot = p; meets = s.meets }
 
 -- what stands in a turned list stands, turned, in the list
-contains_back : {X : Type 0} (f : X → X) (twice : (x : X) → f (f x) ≡ x) (xs : List X) (x : X) → Contains (map f xs) x → Contains xs (f x)
+pub contains_back : {X : Type 0} (f : X → X) (twice : (x : X) → f (f x) ≡ x) (xs : List X) (x : X) → Contains (map f xs) x → Contains xs (f x)
 contains_back {X} f twice xs x there =
     let within : there.0 < length xs = subst (λ (n : ℕ). there.0 < n) (length-map xs f) there.1 in
     let read : f (get_or xs there.0 (f x)) ≡ x = sym (get_or-map f xs there.0 (f x) x within) ∙ there.2 in
@@ -84,7 +84,7 @@ contains_back {X} f twice xs x there =
 some_same : {X : Type 0} (x y : X) → Some x ≡ Some y → x ≡ y
 some_same x y e = cc
 
-some_back : {X : Type 0} (f : X → X) (twice : (x : X) → f (f x) ≡ x) (o : Option X) (y : X) → option_map f o ≡ Some y → o ≡ Some (f y)
+pub some_back : {X : Type 0} (f : X → X) (twice : (x : X) → f (f x) ≡ x) (o : Option X) (y : X) → option_map f o ≡ Some y → o ≡ Some (f y)
 some_back f twice None y is = cc
 some_back {X} f twice (Some x) y is = ap (λ (z : X). Some z) (sym (twice x) ∙ ap f (some_same (f x) y is))
 
