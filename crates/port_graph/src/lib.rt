@@ -32,5 +32,5 @@ pub use fault::GraphFault;
 pub use from_topology::build;
 pub use graph::PortGraph;
 pub use ports::{NodeKind, Ports};
-pub use runs::{Join, Run, Spot};
-pub use sites::{Meeting, Site};
+use runs::{Join, Run, Spot};
+use sites::{Meeting, Site};

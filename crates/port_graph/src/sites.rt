@@ -4,16 +4,16 @@ use plan_core::{EdgeNo, Hand, Text};
 
 /// A node to be: its element's id, where it stands, and what meets there.
 #[derive(Drop)]
-pub struct Site {
-    pub id: Text,
-    pub spot: Spot,
-    pub meets: Meeting,
+pub(crate) struct Site {
+    pub(crate) id: Text,
+    pub(crate) spot: Spot,
+    pub(crate) meets: Meeting,
 }
 
 /// The edges that meet at a node, as the file tells them apart. `before` and `after` are the pieces of
 /// the node's own track, in the track's direction. At a switch `hand` is that of the diverging leg.
 #[derive(Clone, Copy, Debug, PartialEq, Eq)]
-pub enum Meeting {
+pub(crate) enum Meeting {
     /// An end of the railway.
     End {
         edge: EdgeNo,
