@@ -27,3 +27,5 @@ pub mod TurnedNodes
 pub mod TurnedColumns
 pub mod TurnedStation
 pub mod TurnedFaults
+pub mod OneGraph
+pub mod TurnedTwice

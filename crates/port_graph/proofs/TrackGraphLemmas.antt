@@ -52,7 +52,7 @@ sum_alike : {X : Type 0} (f g : X → ℕ) → ((x : X) → f x ≡ g x) → (n 
 sum_alike f g same n [] = refl
 sum_alike {X} f g same n (x ∷ xs) = ap (λ (m : ℕ). fold (λ (a : ℕ) (x : X). a + f x) (n + m) xs) (same x) ∙ sum_alike f g same (n + g x) xs
 
-length-pieces : (t : Topology) → length (pieces t) ≡ sum_by piece_count t.tracks
+pub length-pieces : (t : Topology) → length (pieces t) ≡ sum_by piece_count t.tracks
 length-pieces t =
     length-flat_map (track_pieces t) t.tracks
     ∙ sum_alike (λ (track : Track). length (track_pieces t track)) piece_count (length-track_pieces t) 0 t.tracks

@@ -66,12 +66,12 @@ IsFirstMismatch-turned t n name resolved forward is =
       mismatched =
           subst (λ (k : ℕ). ports_of (side_at (map turned_edge is.edges) k) is.site.meets ≡ None) is.numbered
           (site_ports-turned t resolved forward is.edges is.site is.built (in_contains (sites t) is.site is.there)
-            ∙ ap (option_map turned_ports) (subst (λ (k : ℕ). ports_of (side_at is.edges k) is.site.meets ≡ None) number is.mismatched));
+          ∙ ap (option_map turned_ports) (subst (λ (k : ℕ). ports_of (side_at is.edges k) is.site.meets ≡ None) number is.mismatched));
       before = λ s there less.
-        let there' = contains_back turned_site site_twice (sites t) s (subst (λ (l : List Site). Contains l s) (sites-turned t) there) in
-        let matches = is.before (turned_site s) there' (subst (λ (k : ℕ). k < n) (node_number-turned t s.spot.at) less) in
-        subst (λ (k : ℕ). IsSome (ports_of (side_at (map turned_edge is.edges) k) s.meets)) (sym (node_number-turned t s.spot.at))
-        (subst IsSome (sym (site_ports-turned t resolved forward is.edges (turned_site s) is.built (in_contains (sites t) (turned_site s) there')))
+          let there' = contains_back turned_site site_twice (sites t) s (subst (λ (l : List Site). Contains l s) (sites-turned t) there) in
+          let matches = is.before (turned_site s) there' (subst (λ (k : ℕ). k < n) (node_number-turned t s.spot.at) less) in
+          subst (λ (k : ℕ). IsSome (ports_of (side_at (map turned_edge is.edges) k) s.meets)) (sym (node_number-turned t s.spot.at))
+          (subst IsSome (sym (site_ports-turned t resolved forward is.edges (turned_site s) is.built (in_contains (sites t) (turned_site s) there')))
           (some_map turned_ports (ports_of (side_at is.edges (node_number t s.spot.at)) s.meets) matches));
     }
 

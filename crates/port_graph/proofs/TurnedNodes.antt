@@ -45,7 +45,7 @@ nodes_differ t resolved forward edges e r are run same =
     let w = west_with t resolved e r run in
     let x = east_with t resolved e r run in
     let numbers : node_number t w.site.spot.at ≡ node_number t x.site.spot.at =
-        ap (λ (s : Spot). node_number t s.at) w.at ∙ sym (ap (λ (y : Edge). y.west) at_e) ∙ same ∙ ap (λ (y : Edge). y.east) at_e ∙ sym (ap (λ (s : Spot). node_number t s.at) x.at) in
+    ap (λ (s : Spot). node_number t s.at) w.at ∙ sym (ap (λ (y : Edge). y.west) at_e) ∙ same ∙ ap (λ (y : Edge). y.east) at_e ∙ sym (ap (λ (s : Spot). node_number t s.at) x.at) in
     let place : w.site.spot.at ≡ x.site.spot.at = one_rank (λ (s : Site). s.spot.at) (sites t) w.site x.site w.there x.there numbers in
     let spot : west_of r ≡ east_of r = sym w.at ∙ ap (λ (s : Site). s.spot) (one_site t resolved w.site x.site w.there x.there place) ∙ x.at in
     <ℤ_irrefl (subst (λ (s : Spot). s.mile.0 <ℤ (east_of r).mile.0) spot (goes_east r (forward e r run)))
@@ -56,8 +56,8 @@ pub flips : (t : Topology) → IsResolved t → AllForward t → (edges : List E
 flips t resolved forward edges s are there =
     all_of (λ (e : ℕ). side_at (map turned_edge edges) (node_number t s.spot.at) e ≡ opposite (side_at edges (node_number t s.spot.at) e)) (edges_met s.meets)
     (λ e met.
-      let r = met_run t resolved s e there met in
-      side-turned edges (node_number t s.spot.at) e (edge_within t edges e r.run are r.numbered) (end_at t edges e s.spot are r) (nodes_differ t resolved forward edges e r.run are r.numbered))
+    let r = met_run t resolved s e there met in
+    side-turned edges (node_number t s.spot.at) e (edge_within t edges e r.run are r.numbered) (end_at t edges e s.spot are r) (nodes_differ t resolved forward edges e r.run are r.numbered))
 
 pub site_ports-turned : (t : Topology) → IsResolved t → AllForward t → (edges : List Edge) (s : Site) → AreEdgesOf t edges → In s (sites t) → ports_of (side_at (map turned_edge edges) (node_number t s.spot.at)) s.meets ≡ option_map turned_ports (ports_of (side_at edges (node_number t s.spot.at)) s.meets)
 site_ports-turned t resolved forward edges s are there =
@@ -79,8 +79,8 @@ IsNodeOf-turned t g s resolved forward are there within is =
       ports =
           subst (λ (k : ℕ). ports_of (side_at (map turned_edge g.edges) k) s.meets ≡ Some (node (turned_graph g) k).ports) number
           (site_ports-turned t resolved forward g.edges s are there
-            ∙ ap (option_map turned_ports) is.ports
-            ∙ sym (ap (λ (x : Node). Some x.ports) at_n));
+          ∙ ap (option_map turned_ports) is.ports
+          ∙ sym (ap (λ (x : Node). Some x.ports) at_n));
     }
 
 -- ---- the graph
@@ -99,7 +99,7 @@ all_forward_of t g resolved is track_graph e r run level =
       | inr c ↦ ap (λ (s : Spot). s.mile.0) c.0 ∙ sym level ∙ sym (ap (λ (s : Spot). s.mile.0) c.1)
     ] in
     let same : mileage g (edge g e).west ≡ mileage g (edge g e).east =
-        ap (λ (y : Edge). mileage g y.west) at_e ∙ west ∙ one ∙ sym east ∙ sym (ap (λ (y : Edge). mileage g y.east) at_e) in
+    ap (λ (y : Edge). mileage g y.west) at_e ∙ west ∙ one ∙ sym east ∙ sym (ap (λ (y : Edge). mileage g y.east) at_e) in
     <ℤ_irrefl (subst (λ (z : ℤ). z <ℤ mileage g (edge g e).east) same less)
 
 pub IsGraphOf-turned : (t : Topology) (g : Graph) → IsResolved t → AllForward t → IsGraphOf t g → IsGraphOf (turned_topology t) (turned_graph g)
@@ -107,9 +107,9 @@ IsGraphOf-turned t g resolved forward is = record {
   edges = AreEdgesOf-turned t g.edges forward is.edges;
   count = length-map g.nodes turned_node ∙ is.count ∙ sym (ap (λ (l : List Site). length l) (sites-turned t) ∙ length-map (sites t) turned_site);
   each = λ s there.
-    let there' = contains_back turned_site site_twice (sites t) s (subst (λ (l : List Site). Contains l s) (sites-turned t) there) in
-    let in_there = in_contains (sites t) (turned_site s) there' in
-    let within = subst (λ (n : ℕ). node_number t s.spot.at < n) (sym is.count) (number_within t (turned_site s) in_there) in
-    subst (λ (x : Site). IsNodeOf (turned_topology t) (turned_graph g) x) (site_twice s)
-    (IsNodeOf-turned t g (turned_site s) resolved forward is.edges in_there within (is.each (turned_site s) there'));
+      let there' = contains_back turned_site site_twice (sites t) s (subst (λ (l : List Site). Contains l s) (sites-turned t) there) in
+      let in_there = in_contains (sites t) (turned_site s) there' in
+      let within = subst (λ (n : ℕ). node_number t s.spot.at < n) (sym is.count) (number_within t (turned_site s) in_there) in
+      subst (λ (x : Site). IsNodeOf (turned_topology t) (turned_graph g) x) (site_twice s)
+      (IsNodeOf-turned t g (turned_site s) resolved forward is.edges in_there within (is.each (turned_site s) there'));
 }

@@ -55,8 +55,8 @@ IsResolved-turned t resolved = record {
   places_differ = subst (λ (l : List Element). AllPairs (λ (d e : Element). d.at ≢ e.at) l) (sym (elements-turned t)) resolved.places_differ;
   joins = record {
     back = λ p c is.
-      let b = resolved.joins.back p c (sym (connection-turned t p) ∙ is) in
-      (b.0, connection-turned t c.to ∙ b.1, b.2);
+        let b = resolved.joins.back p c (sym (connection-turned t p) ∙ is) in
+        (b.0, connection-turned t c.to ∙ b.1, b.2);
     elsewhere = λ p c is. resolved.joins.elsewhere p c (sym (connection-turned t p) ∙ is);
   };
   miles =
@@ -114,26 +114,28 @@ module _ (g : Graph) (is : IsTrackGraph g) where
   pub IsTrackGraph-turned : IsTrackGraph (turned_graph g)
   IsTrackGraph-turned = record {
     nodes = λ e within.
-      let here = edge_there e within in
-      let ends = is.nodes e here in
-      (subst (λ (n : ℕ). n < length (turned_graph g).nodes) (sym (ap (λ (x : Edge). x.west) (edge-turned g e here))) (subst (λ (n : ℕ). (edge g e).east < n) node_count ends.1),
-      subst (λ (n : ℕ). n < length (turned_graph g).nodes) (sym (ap (λ (x : Edge). x.east) (edge-turned g e here))) (subst (λ (n : ℕ). (edge g e).west < n) node_count ends.0));
+        let here = edge_there e within in
+        let ends = is.nodes e here in (
+          subst (λ (n : ℕ). n < length (turned_graph g).nodes) (sym (ap (λ (x : Edge). x.west) (edge-turned g e here))) (subst (λ (n : ℕ). (edge g e).east < n) node_count ends.1),
+          subst (λ (n : ℕ). n < length (turned_graph g).nodes) (sym (ap (λ (x : Edge). x.east) (edge-turned g e here))) (subst (λ (n : ℕ). (edge g e).west < n) node_count ends.0),
+        );
     forward = λ e within.
-      let here = edge_there e within in
-      let ends = is.nodes e here in
-      let west : mileage (turned_graph g) (edge (turned_graph g) e).west ≡ neg_ℤ (mileage g (edge g e).east) = ap (λ (x : Edge). mileage (turned_graph g) x.west) (edge-turned g e here) ∙ mileage-turned g (edge g e).east ends.1 in
-      let east : mileage (turned_graph g) (edge (turned_graph g) e).east ≡ neg_ℤ (mileage g (edge g e).west) = ap (λ (x : Edge). mileage (turned_graph g) x.east) (edge-turned g e here) ∙ mileage-turned g (edge g e).west ends.0 in
-      subst (λ (z : ℤ). z <ℤ mileage (turned_graph g) (edge (turned_graph g) e).east) (sym west)
-      (subst (λ (z : ℤ). neg_ℤ (mileage g (edge g e).east) <ℤ z) (sym east) (neg_less (mileage g (edge g e).west) (mileage g (edge g e).east) (is.forward e here)));
+        let here = edge_there e within in
+        let ends = is.nodes e here in
+        let west : mileage (turned_graph g) (edge (turned_graph g) e).west ≡ neg_ℤ (mileage g (edge g e).east) = ap (λ (x : Edge). mileage (turned_graph g) x.west) (edge-turned g e here) ∙ mileage-turned g (edge g e).east ends.1 in
+        let east : mileage (turned_graph g) (edge (turned_graph g) e).east ≡ neg_ℤ (mileage g (edge g e).west) = ap (λ (x : Edge). mileage (turned_graph g) x.east) (edge-turned g e here) ∙ mileage-turned g (edge g e).west ends.0 in
+        subst (λ (z : ℤ). z <ℤ mileage (turned_graph g) (edge (turned_graph g) e).east) (sym west)
+        (subst (λ (z : ℤ). neg_ℤ (mileage g (edge g e).east) <ℤ z) (sym east) (neg_less (mileage g (edge g e).west) (mileage g (edge g e).east) (is.forward e here)));
     met = λ e within.
-      let here = edge_there e within in
-      let ends = is.nodes e here in
-      let ports = is.met e here in
-      (subst (λ (x : Edge). IsPortOf (turned_graph g) x.west e) (sym (edge-turned g e here)) (port-turned g (edge g e).east e ends.1 ports.1),
-      subst (λ (x : Edge). IsPortOf (turned_graph g) x.east e) (sym (edge-turned g e here)) (port-turned g (edge g e).west e ends.0 ports.0));
+        let here = edge_there e within in
+        let ends = is.nodes e here in
+        let ports = is.met e here in (
+          subst (λ (x : Edge). IsPortOf (turned_graph g) x.west e) (sym (edge-turned g e here)) (port-turned g (edge g e).east e ends.1 ports.1),
+          subst (λ (x : Edge). IsPortOf (turned_graph g) x.east e) (sym (edge-turned g e here)) (port-turned g (edge g e).west e ends.0 ports.0),
+        );
     ports = λ n within.
-      let here = subst (λ (k : ℕ). n < k) (sym node_count) within in
-      subst (λ (x : Node). ArePortsOf (turned_graph g) n x.ports) (sym (node-turned g n here)) (ports-turned g n (node g n).ports (is.ports n here));
+        let here = subst (λ (k : ℕ). n < k) (sym node_count) within in
+        subst (λ (x : Node). ArePortsOf (turned_graph g) n x.ports) (sym (node-turned g n here)) (ports-turned g n (node g n).ports (is.ports n here));
   }
 
 pairs_map : {X : Type 0} (R : X → X → Type 0) (f : X → X) (xs : List X) → AllPairs (λ (x y : X). R (f x) (f y)) xs → AllPairs R (map f xs)
