@@ -1,11 +1,8 @@
 -- A topology has one track graph or one fault.
-use Rattle.std.proofs.Common.{◌≡◌, ◌≢◌, ℕ, zero, suc, ◌+◌, ◌<◌, ◌≤◌, ℤ, List, [], ◌∷◌, length, get_or, Option, Some, None, refl, sym, ap, ◌∙◌, subst, inl, inr, arith}
-use Rattle.std.specs.Prelude.{slice_get, sum_by, Contains, IsSome}
+use Rattle.std.proofs.Common.{◌≡◌, ◌≢◌, ℕ, suc, ◌<◌, ◌≤◌, ℤ, List, [], ◌∷◌, length, Option, Some, None, refl, sym, ap, ◌∙◌, subst, inl, inr, arith}
+use Rattle.std.specs.Prelude.{slice_get, IsSome}
 use Rattle.std.proofs.lemmas.Bool.{cases_order, cases_eq, false≢true}
 use Rattle.std.proofs.lemmas.Option.{slice_get-get_or, slice_get_within}
-use Rattle.plan_core.specs.declared.numbers.EdgeNo.{EdgeNo}
-use Rattle.plan_core.specs.declared.numbers.NodeNo.{NodeNo}
-use Rattle.plan_core.specs.declared.numbers.Micro.{Micro}
 use Rattle.plan_core.specs.declared.topology.Topology.{Topology}
 use Rattle.plan_core.specs.Graph.{Graph, Node, Edge, Ports, node, no_node}
 use Rattle.plan_core.specs.Topology.{IsResolved}
@@ -15,10 +12,10 @@ use Rattle.port_graph.specs.declared.runs.Run.{Run}
 use Rattle.port_graph.specs.declared.runs.Join.{Join}
 use Rattle.port_graph.specs.declared.sites.Site.{Site}
 use Rattle.port_graph.specs.PortRule.{ports_of}
-use Rattle.port_graph.specs.Runs.{pieces, piece_count, joins, join_number, edge_count}
+use Rattle.port_graph.specs.Runs.{pieces, joins, join_number}
 use Rattle.port_graph.specs.Sites.{sites, node_number}
 use Rattle.port_graph.specs.StationGraph.{IsStationGraph}
-use Rattle.port_graph.specs.TopologyGraph.{edge_of, IsRun, AreEdgesOf, side_at, IsNodeOf, IsGraphOf, AllForward, IsFirstLevel, IsFirstMismatch, IsGraphFault}
+use Rattle.port_graph.specs.TopologyGraph.{IsRun, AreEdgesOf, side_at, IsNodeOf, IsGraphOf, IsFirstLevel, IsFirstMismatch, IsGraphFault}
 use Rattle.port_graph.proofs.Membership.{In, contains_in, in_contains, at_in, some_same, not_some, pairs_at}
 use Rattle.port_graph.proofs.RankLemmas.{one_rank}
 use Rattle.port_graph.proofs.TrackGraphLemmas.{join_places_differ, numbered_run, numbered_site, length-pieces}

@@ -1,12 +1,10 @@
 -- A topology seen from its other end has the same fault.
-use Rattle.std.proofs.Common.{◌≡◌, ◌≢◌, ℕ, ◌<◌, ◌≤◌, ℤ, List, length, map, Option, Some, None, refl, sym, ap, ◌∙◌, subst, inl, inr, arith}
+use Rattle.std.proofs.Common.{◌≡◌, ℕ, ◌<◌, ◌≤◌, ℤ, List, length, map, Option, Some, None, refl, sym, ap, ◌∙◌, subst, inl, inr}
 use Rattle.std.specs.Prelude.{neg_ℤ, slice_get, Contains, IsSome}
 use Rattle.std.specs.Option.{option_map}
-use Rattle.std.proofs.Math.IntN.{neg_ℤ-neg_ℤ}
 use Rattle.std.proofs.lemmas.List.{length-map}
 use Rattle.std.proofs.lemmas.Option.{slice_get-map}
 use Rattle.plan_core.specs.declared.topology.Topology.{Topology}
-use Rattle.plan_core.specs.Graph.{Edge, Ports}
 use Rattle.plan_core.specs.Topology.{IsResolved}
 use Rattle.port_graph.specs.declared.fault.GraphFault.{GraphFault}
 use Rattle.port_graph.specs.declared.fault.GraphFault.TheVariants.{TooManyNodes, TooManyEdges, NotForward, SideMismatch, Memory}
@@ -14,12 +12,12 @@ use Rattle.port_graph.specs.declared.runs.Run.{Run}
 use Rattle.port_graph.specs.declared.runs.Join.{Join}
 use Rattle.port_graph.specs.declared.sites.Site.{Site}
 use Rattle.port_graph.specs.PortRule.{ports_of}
-use Rattle.port_graph.specs.Runs.{pieces, joins, join_number, edge_count}
+use Rattle.port_graph.specs.Runs.{pieces, joins}
 use Rattle.port_graph.specs.Sites.{sites, node_number}
-use Rattle.port_graph.specs.TopologyGraph.{IsRun, AreEdgesOf, side_at, IsForward, AllForward, Matches, IsFirstLevel, IsFirstMismatch, HasFewNodes, HasFewEdges, IsGraphFault}
+use Rattle.port_graph.specs.TopologyGraph.{IsRun, side_at, IsForward, AllForward, IsFirstLevel, IsFirstMismatch, IsGraphFault}
 use Rattle.port_graph.specs.Turned.{turned_topology, turned_ports, turned_edge, turned_fault}
 use Rattle.port_graph.proofs.Membership.{in_contains, contains_map}
-use Rattle.port_graph.proofs.TurnedGraph.{run_twice, site_twice, contains_back, IsRun-turned, AreEdgesOf-turned}
+use Rattle.port_graph.proofs.TurnedGraph.{site_twice, contains_back, IsRun-turned, AreEdgesOf-turned}
 use Rattle.port_graph.proofs.TurnedNodes.{site_ports-turned}
 use Rattle.port_graph.proofs.TurnedTopology.{turned_run, turned_join, turned_site, pieces-turned, joins-turned, join_number-turned, edge_count-turned, sites-turned, node_number-turned}
 

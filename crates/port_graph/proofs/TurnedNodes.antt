@@ -1,11 +1,11 @@
 -- The graph of a topology seen from its other end is the graph seen from its other end.
-use Rattle.std.proofs.Common.{◌≡◌, ◌≢◌, ℕ, ◌<◌, ℤ, List, length, map, get_or, Option, Some, None, refl, sym, ap, ◌∙◌, subst, inl, inr, arith}
+use Rattle.std.proofs.Common.{◌≡◌, ◌≢◌, ℕ, ◌<◌, ℤ, List, length, map, get_or, Option, Some, sym, ap, ◌∙◌, subst, inl, inr}
 use Rattle.std.specs.Prelude.{◌<ℤ◌, neg_ℤ, slice_get, All, Contains}
 use Rattle.std.specs.Int.Signed.{<ℤ_irrefl}
 use Rattle.std.specs.Option.{option_map}
 use Rattle.std.proofs.lemmas.List.{length-map, get_or-map}
 use Rattle.plan_core.specs.declared.topology.Topology.{Topology}
-use Rattle.plan_core.specs.Graph.{Graph, Node, Edge, Ports, node, edge, no_node, no_edge, mileage, opposite, IsTrackGraph}
+use Rattle.plan_core.specs.Graph.{Graph, Node, Edge, node, edge, no_node, no_edge, mileage, opposite, IsTrackGraph}
 use Rattle.plan_core.specs.Topology.{IsResolved}
 use Rattle.port_graph.specs.declared.runs.Spot.{Spot}
 use Rattle.port_graph.specs.declared.runs.Run.{Run}
@@ -13,9 +13,8 @@ use Rattle.port_graph.specs.declared.sites.Site.{Site}
 use Rattle.port_graph.specs.PortRule.{ports_of}
 use Rattle.port_graph.specs.Sides.{edges_met}
 use Rattle.port_graph.specs.Sites.{sites, node_number}
-use Rattle.port_graph.specs.TopologyGraph.{west_of, east_of, edge_of, IsRun, AreEdgesOf, side_at, IsNodeOf, IsGraphOf, IsForward, AllForward}
+use Rattle.port_graph.specs.TopologyGraph.{west_of, east_of, IsRun, AreEdgesOf, side_at, IsNodeOf, IsGraphOf, AllForward}
 use Rattle.port_graph.specs.Turned.{turned_topology, turned_ports, turned_node, turned_edge, turned_graph}
-use Rattle.port_graph.proofs.MeetingLemmas.{SiteWith}
 use Rattle.port_graph.proofs.Membership.{In, contains_in, in_contains, at_in, some_same, pairs_at}
 use Rattle.port_graph.proofs.RankLemmas.{one_rank}
 use Rattle.port_graph.proofs.RunEnds.{met_run}

@@ -1,6 +1,6 @@
 -- What a topology and a track graph are, they are seen from the other end too.
-use Rattle.std.proofs.Common.{◌≡◌, ◌≢◌, ℕ, ◌<◌, ◌≤◌, ◌^◌, ℤ, List, [], ◌∷◌, ◌++◌, length, map, get_or, refl, sym, ap, ◌∙◌, subst, inl, inr, arith}
-use Rattle.std.specs.Prelude.{◌<ℤ◌, neg_ℤ, slice_get, All, AllPairs, Contains}
+use Rattle.std.proofs.Common.{◌≡◌, ◌≢◌, ℕ, ◌<◌, ◌≤◌, ◌^◌, ℤ, List, [], ◌∷◌, ◌++◌, length, map, get_or, refl, sym, ap, ◌∙◌, subst, arith}
+use Rattle.std.specs.Prelude.{◌<ℤ◌, neg_ℤ, All, AllPairs, Contains}
 use Rattle.std.specs.List.{flat_map}
 use Rattle.std.specs.List.Sorted.{IsPermutation}
 use Rattle.std.proofs.Math.IntN.{neg_ℤ-neg_ℤ}
@@ -12,12 +12,10 @@ use Rattle.plan_core.specs.declared.sides.Compass.TheVariants.{East, West}
 use Rattle.plan_core.specs.declared.topology.Topology.{Topology}
 use Rattle.plan_core.specs.declared.topology.Track.{Track}
 use Rattle.plan_core.specs.declared.topology.Inner.{Inner}
-use Rattle.plan_core.specs.declared.topology.Conn.{Conn}
-use Rattle.plan_core.specs.declared.topology.Place.{Place}
-use Rattle.plan_core.specs.Graph.{Graph, Node, Edge, Ports, End, Joint, Switch, Crossing, node, edge, no_node, no_edge, mileage, edges_of, opposite, LiesOn, AreAt, IsPortOf, ArePortsOf, IsTrackGraph}
-use Rattle.plan_core.specs.Topology.{Element, elements, track_elements, inner_elements, end_elements, track_element, track_miles, connection, LeadsBothWays, IsMileage, farthest, IsId, IsResolved}
+use Rattle.plan_core.specs.Graph.{Graph, Node, Edge, Ports, End, Joint, Switch, Crossing, node, edge, no_edge, mileage, edges_of, opposite, LiesOn, AreAt, IsPortOf, ArePortsOf, IsTrackGraph}
+use Rattle.plan_core.specs.Topology.{Element, elements, track_elements, inner_elements, end_elements, track_element, track_miles, IsMileage, farthest, IsId, IsResolved}
 use Rattle.port_graph.specs.StationGraph.{IsStationGraph}
-use Rattle.port_graph.specs.Turned.{turned_end, turned_inner, turned_track, turned_topology, turned_ports, turned_node, turned_edge, turned_graph}
+use Rattle.port_graph.specs.Turned.{turned_inner, turned_track, turned_topology, turned_ports, turned_node, turned_edge, turned_graph}
 use Rattle.port_graph.proofs.PortLemmas.{apart_moved}
 use Rattle.port_graph.proofs.TurnedGraph.{neg_less}
 use Rattle.port_graph.proofs.TurnedLists.{map_turned, flat_turned}

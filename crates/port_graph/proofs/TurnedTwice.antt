@@ -1,5 +1,5 @@
 -- Seen twice from its other end, a station is as it was.
-use Rattle.std.proofs.Common.{◌≡◌, ℤ, List, [], ◌∷◌, map, refl, sym, ap, ◌∙◌}
+use Rattle.std.proofs.Common.{◌≡◌, ℤ, List, [], ◌∷◌, map, refl, ap, ◌∙◌}
 use Rattle.std.proofs.Math.IntN.{neg_ℤ-neg_ℤ}
 use Rattle.plan_core.specs.declared.numbers.Micro.{Micro}
 use Rattle.plan_core.specs.declared.sides.Compass.{Compass}
