@@ -4,3 +4,4 @@ pub mod OrderingLemmas
 pub mod TableLemmas
 pub mod SplitLemmas
 pub mod OrderLemmas
+pub mod TurnedLemmas

@@ -1,7 +1,8 @@
 // Laws of the order of edges. The functions do nothing: their contracts are the laws.
-ghost use Rattle.std.specs.Prelude.{◌≡◌, ℕ, Bool, true};
+ghost use Rattle.std.specs.Prelude.{◌≡◌, ◌↔◌, ℕ, Bool, true};
 ghost use Rattle.plan_core.specs.Graph.{Graph};
 ghost use Rattle.plan_core.specs.declared.sides.Compass.{Compass};
+ghost use Rattle.port_graph.specs.Turned.{turned_graph};
 ghost use Rattle.track_order.specs.Reach.{Reaches, IsOnward};
 ghost use Rattle.track_order.specs.Above.{Above};
 
@@ -18,4 +19,9 @@ pub fn reach_is_the_least_onward_set()
 /// No edge is above itself.
 pub fn no_edge_is_above_itself()
     ensures { (g : Graph) (e : ℕ) → Above g e e → ⊥ }
+{}
+
+/// Seen from the other end of the station, what was above is below.
+pub fn order_turns_round()
+    ensures { (g : Graph) (e f : ℕ) → Above g e f ↔ Above (turned_graph g) f e }
 {}

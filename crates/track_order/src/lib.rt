@@ -22,5 +22,5 @@ mod walking;
 
 pub use derive_order::derive;
 pub use fault::OrderFault;
-pub use laws::{no_edge_is_above_itself, reach_is_the_least_onward_set};
+pub use laws::{no_edge_is_above_itself, order_turns_round, reach_is_the_least_onward_set};
 pub use order::TrackOrder;
