@@ -1,19 +1,26 @@
--- The front of a file that was read is answered as the file is.
-use Rattle.std.proofs.Common.{◌≡◌, ℕ, ◌<◌, ◌≤◌, List, [], ◌++◌, None, Some, length, take, refl, sym, ◌∙◌, ap, subst, inl, inr, arith}
+-- The front of a file that was read is answered as the file is, and what a sound file is answered with.
+use Rattle.std.proofs.Common.{◌≡◌, ◌⊎◌, ℕ, ◌<◌, ◌≤◌, List, [], ◌++◌, None, Some, length, take, refl, sym, ◌∙◌, ap, subst, inl, inr, arith}
 use Rattle.std.specs.declared.option.Option.{Option}
 use Rattle.std.proofs.lemmas.List.{take_all, length-take}
 use Rattle.plan_core.specs.declared.topology.Topology.{Topology as Tracks}
+use Rattle.plan_core.specs.Graph.{Graph}
+use Rattle.port_graph.specs.declared.fault.GraphFault.{GraphFault}
+use Rattle.track_order.specs.Order.{EdgeOrder}
 use Rattle.railml_read.specs.declared.rows.Elem.{Elem}
 use Rattle.railml_read.specs.Document.{IsTextFault}
 use Rattle.outside_io.specs.Contents.{Told, ReadsFront, IsFileWhereTold, TellsAt}
+use Rattle.plan_words.specs.declared.command.Command.{Command}
+use Rattle.plan_words.specs.declared.command.Command.TheVariants.{Draw, Verify, Check, Graph as PrintGraph, Make}
+use Rattle.plan_words.specs.Words.{IsCommandOf}
 use Rattle.schematic_main.specs.declared.fault.RunFault.{RunFault}
-use Rattle.schematic_main.specs.declared.fault.RunFault.TheVariants.{NotBuilt, Long, Text, Topology, ReadFailed}
+use Rattle.schematic_main.specs.declared.fault.RunFault.TheVariants.{NotBuilt, Words, Long, Text, Topology, TooManyNodes, TooManyEdges, NotForward, SideMismatch, Contradicts, ReadFailed}
 use Rattle.schematic_main.specs.Fault.{fault_status}
-use Rattle.schematic_main.specs.Input.{file_limit, HasRows, HasTopology, HasFault}
-use Rattle.schematic_main.specs.Words.{Command, Draw, command_of, input_of}
-use Rattle.schematic_main.specs.Answer.{IsJudged, IsDrawAnswer, IsAnswerTo, IsAnswer, AsksForSoundFile}
+use Rattle.schematic_main.specs.Input.{file_limit, HasRows, HasTopology, HasGraph, HasGraphFault, HasStation, HasFault}
+use Rattle.schematic_main.specs.Reading.{IsOfFile}
+use Rattle.schematic_main.specs.Answer.{IsFault, IsRefused, IsJudged, IsAnswerOn, IsAnswerTo, IsAnswer, AsksForSoundFile}
 
--- a front that isn't too long is the whole file
+-- ---- a front that isn't too long is the whole file
+
 few_are_all : (limit : ℕ) (bytes : List ℕ) → file_limit < limit → length (take limit bytes) ≤ file_limit → take limit bytes ≡ bytes
 few_are_all limit bytes large few = take_all limit bytes (omega (arith, length-take limit bytes))
 
@@ -28,57 +35,82 @@ topology_whole limit bytes t large has = record {
   resolved = has.resolved;
 }
 
-fault_whole : (limit : ℕ) (bytes : List ℕ) (fault : RunFault) → file_limit < limit → HasFault (take limit bytes) fault → HasFault bytes fault
-fault_whole limit bytes NotBuilt large (t, has, other) = (t, topology_whole limit bytes t large has, other)
+graph_whole : (limit : ℕ) (bytes : List ℕ) (g : Graph) → file_limit < limit → HasGraph (take limit bytes) g → HasGraph bytes g
+graph_whole limit bytes g large has = record {
+  topology = has.topology;
+  has_topology = topology_whole limit bytes has.topology large has.has_topology;
+  graph = has.graph;
+}
+
+pub station_whole : (limit : ℕ) (bytes : List ℕ) (g : Graph) (o : EdgeOrder) → file_limit < limit → HasStation (take limit bytes) g o → HasStation bytes g o
+station_whole limit bytes g o large has = record {
+  has_graph = graph_whole limit bytes g large has.has_graph;
+  order = has.order;
+}
+
+graph_fault_whole : (limit : ℕ) (bytes : List ℕ) (fault : GraphFault) → file_limit < limit → HasGraphFault (take limit bytes) fault → HasGraphFault bytes fault
+graph_fault_whole limit bytes fault large (t, has, is) = (t, topology_whole limit bytes t large has, is)
+
+pub fault_whole : (limit : ℕ) (bytes : List ℕ) (fault : RunFault) → file_limit < limit → HasFault (take limit bytes) fault → HasFault bytes fault
 fault_whole limit bytes (Long input) large (first, long) = (first, omega (arith, long, length-take limit bytes))
 fault_whole limit bytes (Text what at) large (few, fault) =
     let whole = few_are_all limit bytes large few in
     let P : List ℕ → Type 0 = λ xs. (length xs ≤ file_limit) × IsTextFault xs what at in
     subst P whole (few, fault)
 fault_whole limit bytes (Topology what at first second) large (rows, has, fault) = (rows, rows_whole limit bytes rows large has, fault)
+fault_whole limit bytes (TooManyNodes count) large has = graph_fault_whole limit bytes _ large has
+fault_whole limit bytes (TooManyEdges count) large has = graph_fault_whole limit bytes _ large has
+fault_whole limit bytes (NotForward track mileage) large (edge, has) = (edge, graph_fault_whole limit bytes _ large has)
+fault_whole limit bytes (SideMismatch name) large (node, has) = (node, graph_fault_whole limit bytes _ large has)
+fault_whole limit bytes (Contradicts e f) large (g, has, first) = (g, graph_whole limit bytes g large has, first)
+fault_whole limit bytes NotBuilt large h = absurd h
+fault_whole limit bytes (Words what position) large h = absurd h
 fault_whole limit bytes (ReadFailed input) large h = absurd h
 
-judged_whole : (limit : ℕ) (bytes : List ℕ) (status : ℕ) (text : List ℕ) → file_limit < limit → IsJudged (take limit bytes) status text → IsJudged bytes status text
-judged_whole limit bytes status text large (inl (t, has, drawn)) = inl (t, topology_whole limit bytes t large has, drawn)
-judged_whole limit bytes status text large (inr (fault, has, answer)) = inr (fault, fault_whole limit bytes fault large has, answer)
-
--- the answer to bytes that are a file's front
-pub from_front : (contents : Option Told) (name old new : List ℕ) (limit status : ℕ) (text : List ℕ) → file_limit < limit → old ≡ [] → ReadsFront contents name limit old new → IsJudged new status text → (bytes : List ℕ) × IsFileWhereTold contents name bytes × IsJudged bytes status text
-from_front None name old new limit status text large empty read judged = (new, tt, judged)
-from_front (Some told) name old new limit status text large empty read judged =
+-- what holds of bytes that are a file's front, and so of the file, holds of the file
+of_front : (contents : Option Told) (name old new : List ℕ) (limit : ℕ) (P : List ℕ → Type 0) → ((bytes : List ℕ) → P (take limit bytes) → P bytes) → old ≡ [] → ReadsFront contents name limit old new → P new → IsOfFile P name contents
+of_front None name old new limit P whole empty read is = (new, tt, is)
+of_front (Some told) name old new limit P whole empty read is =
     let same : new ≡ take limit read.0 = read.2 ∙ ap (λ xs. xs ++ take limit read.0) empty in
-    let P : List ℕ → Type 0 = λ xs. IsJudged xs status text in
-    (read.0, read.1, judged_whole limit read.0 status text large (subst P same judged))
+    (read.0, read.1, whole read.0 (subst P same is))
+
+pub station_of_front : (contents : Option Told) (name old new : List ℕ) (limit : ℕ) (g : Graph) (o : EdgeOrder) → file_limit < limit → old ≡ [] → ReadsFront contents name limit old new → HasStation new g o → IsOfFile (λ bytes. HasStation bytes g o) name contents
+station_of_front contents name old new limit g o large empty read has =
+    of_front contents name old new limit (λ bytes. HasStation bytes g o) (λ bytes. station_whole limit bytes g o large) empty read has
+
+pub fault_of_front : (contents : Option Told) (name old new : List ℕ) (limit : ℕ) (fault : RunFault) → file_limit < limit → old ≡ [] → ReadsFront contents name limit old new → HasFault new fault → IsOfFile (λ bytes. HasFault bytes fault) name contents
+fault_of_front contents name old new limit fault large empty read has =
+    of_front contents name old new limit (λ bytes. HasFault bytes fault) (λ bytes. fault_whole limit bytes fault large) empty read has
+
+-- ---- a file's fault
 
 -- a fault of a file's bytes ends the run with 1
 pub fault_of_bytes : (bytes : List ℕ) (fault : RunFault) → HasFault bytes fault → fault_status fault ≡ 1
-fault_of_bytes bytes NotBuilt has = refl
 fault_of_bytes bytes (Long input) has = refl
 fault_of_bytes bytes (Text what at) has = refl
 fault_of_bytes bytes (Topology what at first second) has = refl
+fault_of_bytes bytes (TooManyNodes count) has = refl
+fault_of_bytes bytes (TooManyEdges count) has = refl
+fault_of_bytes bytes (NotForward track mileage) has = refl
+fault_of_bytes bytes (SideMismatch name) has = refl
+fault_of_bytes bytes (Contradicts e f) has = refl
+fault_of_bytes bytes NotBuilt has = absurd has
+fault_of_bytes bytes (Words what position) has = absurd has
 fault_of_bytes bytes (ReadFailed input) has = absurd has
 
--- words that ask for the drawing of a file are answered as that drawing is
-named_input : (command : Option Command) (input : List ℕ) → Some input ≡ input_of command → command ≡ Some (Draw input)
-named_input None input e = cc
-named_input (Some (Draw name)) input e = cc
+-- a command answers with the fault of its file, or that it couldn't be read
+pub refused_on : (Answers : Graph → EdgeOrder → ℕ → List ℕ → Type 0) (input : List ℕ) (contents : Option Told) (fails : ℕ → Type 0) (fault : RunFault) (status : ℕ) (text : List ℕ) →
+    IsOfFile (λ bytes. HasFault bytes fault) input contents ⊎ (fails 0 × (fault ≡ ReadFailed 1)) → IsFault fault status text → IsAnswerOn Answers input contents fails status text
+refused_on Answers input contents fails fault status text (inl (bytes, is, has)) told = inl (bytes, is, inr (record { fault = fault; has = has; told = told }))
+refused_on Answers input contents fails fault status text (inr (failed, same)) told = inr (failed, subst (λ (f : RunFault). IsFault f status text) same told)
 
-pub answers_draw : (words : List (List ℕ)) (contents : Option Told) (fails : ℕ → Type 0) (input : List ℕ) (status : ℕ) (text : List ℕ) → Some input ≡ input_of (command_of words) → IsDrawAnswer input contents fails status text → IsAnswer words contents fails status text
-answers_draw words contents fails input status text named answer =
-    let P : Option Command → Type 0 = λ command. IsAnswerTo command contents fails status text in
-    subst P (sym (named_input (command_of words) input named)) answer
+-- such an answer has status 1, or 5 where a read failed
+pub refused_status : (input : List ℕ) (contents : Option Told) (fails : ℕ → Type 0) (fault : RunFault) (status : ℕ) (text : List ℕ) →
+    IsOfFile (λ bytes. HasFault bytes fault) input contents ⊎ (fails 0 × (fault ≡ ReadFailed 1)) → IsFault fault status text → (status ≡ 1) ⊎ ((status ≡ 5) × fails 0)
+refused_status input contents fails fault status text (inl (bytes, is, has)) told = inl (told.status_is ∙ fault_of_bytes bytes fault has)
+refused_status input contents fails fault status text (inr (failed, same)) told = inr (told.status_is ∙ ap fault_status same, failed)
 
--- files tell one list of bytes of a name
-told_once : (contents : Option Told) (name bytes others : List ℕ) → TellsAt contents name (Some bytes) → IsFileWhereTold contents name others → others ≡ bytes
-told_once None name bytes others there is = absurd there
-told_once (Some told) name bytes others there is = let k : Some bytes ≡ Some others = there ∙ is in cc
-
--- a file without a fault, of which no read failed, is drawn
-pub sound_is_drawn : (words : List (List ℕ)) (contents : Option Told) (fails : ℕ → Type 0) (status : ℕ) (text : List ℕ) → AsksForSoundFile words contents → (fails 0 → ⊥) → IsAnswer words contents fails status text → status ≡ 0
-sound_is_drawn words contents fails status text asks read answer =
-    let P : Option Command → Type 0 = λ command. IsAnswerTo command contents fails status text in
-    elim (subst P asks.accepted answer) [
-      | inl (bytes, is, inl (t, has, drawn)) ↦ drawn.status_is
-      | inl (bytes, is, inr (fault, has, line)) ↦ let Q : List ℕ → Type 0 = λ xs. HasFault xs fault in absurd (asks.sound fault (subst Q (told_once contents asks.input asks.bytes bytes asks.there is) has))
-      | inr (failed, line) ↦ absurd (read failed)
-    ]
+-- a command answers to the station of its file
+pub answered_on : (Answers : Graph → EdgeOrder → ℕ → List ℕ → Type 0) (input : List ℕ) (contents : Option Told) (fails : ℕ → Type 0) (g : Graph) (o : EdgeOrder) (status : ℕ) (text : List ℕ) →
+    IsOfFile (λ bytes. HasStation bytes g o) input contents → Answers g o status text → IsAnswerOn Answers input contents fails status text
+answered_on Answers input contents fails g o status text (bytes, is, has) answer = inl (bytes, is, inl (g, o, has, answer))

@@ -1,33 +1,27 @@
 -- What a run owes: by command, the status and the text that goes with it.
-use Rattle.std.specs.Prelude.{◌≡◌, ℕ, ◌⊎◌, Bool, List, [], ◌∷◌, None, Some}
+use Rattle.std.specs.Prelude.{◌≡◌, ◌≢◌, ℕ, ◌⊎◌, Bool, true, false, List, length, None, Some}
 use Rattle.std.specs.declared.option.Option.{Option}
 use Rattle.std.specs.Io.KnownBytes.{Appends, Keeps}
 use Rattle.outside_io.specs.Contents.{Told, IsFileWhereTold, TellsAt}
 use Rattle.outside_io.specs.Counts.{Rose, rose_by}
 use Rattle.outside_io.specs.Given.{AppendsPrefix}
 use Rattle.plan_core.specs.declared.criterion.Criterion.{Criterion}
-use Rattle.plan_core.specs.declared.criterion.Criterion.TheVariants.{Height, Bends, Diagonal, Width}
-use Rattle.plan_core.specs.declared.topology.Topology.{Topology}
-use Rattle.plan_core.specs.declared.topology.Track.{Track}
-use Rattle.plan_core.specs.Grid.{GridSize, grid_size}
+use Rattle.plan_core.specs.Grid.{GridSize}
 use Rattle.plan_core.specs.Graph.{Graph, IsTrackGraph}
 use Rattle.plan_core.specs.Drawing.{Drawing}
 use Rattle.plan_core.specs.Values.{IsBest}
+use Rattle.plan_words.specs.declared.command.Command.{Command}
+use Rattle.plan_words.specs.declared.command.Command.TheVariants.{Draw, Verify, Check, Graph as PrintGraph, Make}
+use Rattle.plan_words.specs.WordFaults.{IsFaultOfWords}
+use Rattle.plan_words.specs.Words.{IsCommandOf}
+use Rattle.plan_words.specs.declared.fault.WordWhat.{WordWhat}
+use Rattle.track_order.specs.Order.{EdgeOrder, is_above}
+use Rattle.plan_text.specs.GraphText.{graph_text}
 use Rattle.schematic_main.specs.declared.fault.RunFault.{RunFault}
-use Rattle.schematic_main.specs.declared.fault.RunFault.TheVariants.{NotBuilt, ReadFailed}
+use Rattle.schematic_main.specs.declared.fault.RunFault.TheVariants.{NotBuilt, Words, ReadFailed}
 use Rattle.schematic_main.specs.Fault.{fault_line, fault_status}
-use Rattle.schematic_main.specs.Words.{Command, Draw, command_of}
-use Rattle.schematic_main.specs.StraightTrack.{IsOneTrack, HasStraightTrack, track_of, graph_of, none_above}
-use Rattle.schematic_main.specs.Input.{HasTopology, HasFault}
+use Rattle.schematic_main.specs.Input.{HasStation, HasFault}
 use Rattle.schematic_main.specs.Sheet.{Best, sheet_text}
-
--- what draw takes where nothing else is said: a grid of 40 by 8, and height before bends before diagonal
--- length before width
-abbrev pub default_grid : GridSize
-default_grid = grid_size 40 8
-
-abbrev pub default_order : List Criterion
-default_order = Height ∷ Bends ∷ Diagonal ∷ Width ∷ []
 
 -- the text is the sheet of a drawing of this track graph that is lawful, with the drawing's own values,
 -- and no lawful drawing of the graph on this grid is better in this order
@@ -42,57 +36,114 @@ pub record IsFault (fault : RunFault) (status : ℕ) (text : List ℕ) : Type 0 
   pub status_is : status ≡ fault_status fault
   pub line_is : text ≡ fault_line fault
 
--- the topology is a straight track, and the text a best sheet of its graph
-pub record IsDrawn (t : Topology) (status : ℕ) (text : List ℕ) : Type 0 where
-  pub status_is : status ≡ 0
-  pub track : Track
-  pub one : IsOneTrack t track
-  pub sheet : IsBestSheet (graph_of (track_of track)) none_above default_grid default_order text
+-- the bytes have a fault, and this is its line
+pub record IsRefused (bytes : List ℕ) (status : ℕ) (text : List ℕ) : Type 0 where
+  pub fault : RunFault
+  pub has : HasFault bytes fault
+  pub told : IsFault fault status text
 
--- the topology is no such track, and the answer says that it isn't drawn yet
-pub record IsTurnedDown (t : Topology) (status : ℕ) (text : List ℕ) : Type 0 where
-  pub other : HasStraightTrack t → ⊥
+-- ---- draw
+
+-- the drawing of such a graph, with such files to write, isn't built yet: the graph has another number of
+-- edges than one, or a picture or a log is asked for
+abbrev pub IsUnbuilt : Graph → Option (List ℕ) → Option (List ℕ) → Type 0
+IsUnbuilt g svg log = (length g.edges ≢ 1) ⊎ (svg ≢ None) ⊎ (log ≢ None)
+
+-- the text is a best sheet of this station's graph
+pub record IsDrawn (g : Graph) (o : EdgeOrder) (grid : GridSize) (order : List Criterion) (status : ℕ) (text : List ℕ) : Type 0 where
+  pub status_is : status ≡ 0
+  pub sheet : IsBestSheet g (is_above o) grid order text
+
+-- the answer says that the drawing isn't built yet
+pub record IsTurnedDown (g : Graph) (svg log : Option (List ℕ)) (status : ℕ) (text : List ℕ) : Type 0 where
+  pub unbuilt : IsUnbuilt g svg log
   pub fault : IsFault NotBuilt status text
 
--- what draw answers to a topology
-abbrev pub IsAnswered : Topology → ℕ → List ℕ → Type 0
-IsAnswered t status text = IsDrawn t status text ⊎ IsTurnedDown t status text
+-- what draw answers to a station
+abbrev pub IsDrawing : Graph → EdgeOrder → GridSize → List Criterion → Option (List ℕ) → Option (List ℕ) → ℕ → List ℕ → Type 0
+IsDrawing g o grid order svg log status text = IsDrawn g o grid order status text ⊎ IsTurnedDown g svg log status text
 
--- what draw answers to the bytes of its file: the drawing of their topology, or the fault that they have
-abbrev pub IsJudged : List ℕ → ℕ → List ℕ → Type 0
-IsJudged bytes status text =
-    ((t : Topology) × HasTopology bytes t × IsDrawn t status text)
-    ⊎ ((fault : RunFault) × HasFault bytes fault × IsFault fault status text)
+-- ---- graph
+
+-- the text is that of this station's graph and of the order of its edges
+pub record IsPrinted (g : Graph) (o : EdgeOrder) (status : ℕ) (text : List ℕ) : Type 0 where
+  pub status_is : status ≡ 0
+  pub spelled : text ≡ graph_text g (is_above o)
+
+-- ---- what a run owes
+
+-- the bytes have this station and the answer is one to it, or they have a fault
+abbrev pub IsJudged : (Graph → EdgeOrder → ℕ → List ℕ → Type 0) → List ℕ → ℕ → List ℕ → Type 0
+IsJudged Answers bytes status text =
+    ((g : Graph) × (o : EdgeOrder) × HasStation bytes g o × Answers g o status text) ⊎ IsRefused bytes status text
 
 -- an input couldn't be read: the count of read faults rose, and so many reads had been done before
 pub record ReadFails {Self : Type 0} (faults reads : Self → ℕ) (old new : Self) (before : ℕ) : Type 0 where
   pub rose : Rose (faults old) (faults new)
   pub done : reads new ≡ rose_by before (reads old)
 
--- what draw answers: it judges the file that stands under the name, or the file couldn't be read.
--- fails n says that in this run a read failed after n reads
-abbrev pub IsDrawAnswer : List ℕ → Option Told → (ℕ → Type 0) → ℕ → List ℕ → Type 0
-IsDrawAnswer input contents fails status text =
-    ((bytes : List ℕ) × IsFileWhereTold contents input bytes × IsJudged bytes status text)
+-- what a command with one input answers: it judges the file that stands under the name, or the file
+-- couldn't be read. fails n says that in this run a read failed after n reads
+abbrev pub IsAnswerOn : (Graph → EdgeOrder → ℕ → List ℕ → Type 0) → List ℕ → Option Told → (ℕ → Type 0) → ℕ → List ℕ → Type 0
+IsAnswerOn Answers input contents fails status text =
+    ((bytes : List ℕ) × IsFileWhereTold contents input bytes × IsJudged Answers bytes status text)
     ⊎ (fails 0 × IsFault (ReadFailed 1) status text)
 
--- what each command answers; words that aren't accepted are answered by not built
-abbrev pub IsAnswerTo : Option Command → Option Told → (ℕ → Type 0) → ℕ → List ℕ → Type 0
-IsAnswerTo None contents fails status text = IsFault NotBuilt status text
-IsAnswerTo (Some (Draw input)) contents fails status text = IsDrawAnswer input contents fails status text
+-- what each command answers; verify, check and make aren't built yet
+abbrev pub IsAnswerTo : Command → Option Told → (ℕ → Type 0) → ℕ → List ℕ → Type 0
+IsAnswerTo (Draw input grid order budget svg log) contents fails status text =
+    IsAnswerOn (λ g o. IsDrawing g o grid order svg log) input contents fails status text
+IsAnswerTo (PrintGraph input) contents fails status text = IsAnswerOn IsPrinted input contents fails status text
+IsAnswerTo (Verify input sheet) contents fails status text = IsFault NotBuilt status text
+IsAnswerTo (Check input sheet log) contents fails status text = IsFault NotBuilt status text
+IsAnswerTo (Make n) contents fails status text = IsFault NotBuilt status text
+
+-- the words ask for a command, and this is its answer
+pub record IsCommandsAnswer (words : List (List ℕ)) (contents : Option Told) (fails : ℕ → Type 0) (status : ℕ) (text : List ℕ) : Type 0 where
+  pub command : Command
+  pub asked : IsCommandOf words command
+  pub answer : IsAnswerTo command contents fails status text
+
+-- the words have a fault, and this is its line
+pub record IsWordsAnswer (words : List (List ℕ)) (status : ℕ) (text : List ℕ) : Type 0 where
+  pub what : WordWhat
+  pub position : ℕ
+  pub fault : IsFaultOfWords words what position
+  pub told : IsFault (Words what position) status text
 
 -- with these words and files, and this fact on failed reads, a run that isn't cut short ends with this
 -- status and has put this text
 abbrev pub IsAnswer : List (List ℕ) → Option Told → (ℕ → Type 0) → ℕ → List ℕ → Type 0
-IsAnswer words contents fails status text = IsAnswerTo (command_of words) contents fails status text
+IsAnswer words contents fails status text = IsCommandsAnswer words contents fails status text ⊎ IsWordsAnswer words status text
 
--- the words ask for the drawing of a file that is told, and that has none of the faults
+-- the input of a command that reads one now
+abbrev pub input_of : Command → Option (List ℕ)
+input_of (Draw input grid order budget svg log) = Some input
+input_of (PrintGraph input) = Some input
+input_of (Verify input sheet) = None
+input_of (Check input sheet log) = None
+input_of (Make n) = None
+
+-- the words ask for no command that reads a file now
+abbrev pub ReadsNothing : List (List ℕ) → Type 0
+ReadsNothing words = (command : Command) → IsCommandOf words command → input_of command ≡ None
+
+-- what the command asks of this station is built
+abbrev pub IsBuiltFor : Command → Graph → Type 0
+IsBuiltFor (Draw input grid order budget svg log) g = IsUnbuilt g svg log → ⊥
+IsBuiltFor command g = Unit {0}
+
+-- the words ask for a command on one file, which is told and has none of the faults, and what it asks of its
+-- station is built
 pub record AsksForSoundFile (words : List (List ℕ)) (contents : Option Told) : Type 0 where
+  pub command : Command
+  pub asked : IsCommandOf words command
   pub input : List ℕ
-  pub accepted : command_of words ≡ Some (Draw input)
+  pub reads : input_of command ≡ Some input
   pub bytes : List ℕ
   pub there : TellsAt contents input (Some bytes)
   pub sound : (fault : RunFault) → HasFault bytes fault → ⊥
+  pub built : (g : Graph) (o : EdgeOrder) → HasStation bytes g o → IsBuiltFor command g
 
 -- a whole text with this property was given
 abbrev pub GivenAll : Option (List ℕ) → Option (List ℕ) → (List ℕ → Type 0) → Type 0

@@ -8,7 +8,9 @@ use Rattle.railml_topology.specs.declared.fault.TopologyWhat.{TopologyWhat}
 use Rattle.railml_topology.specs.declared.fault.TopologyWhat.TheVariants as topologies
 use Rattle.railml_topology.specs.Faults as topology_faults
 use Rattle.schematic_main.specs.declared.fault.RunFault.{RunFault}
-use Rattle.schematic_main.specs.declared.fault.RunFault.TheVariants.{NotBuilt, Long, Text, Topology, ReadFailed}
+use Rattle.plan_words.specs.FaultLine as word_faults
+use Rattle.rail_mileage.specs.MetresText.{metres_text}
+use Rattle.schematic_main.specs.declared.fault.RunFault.TheVariants.{NotBuilt, Words, Long, Text, Topology, TooManyNodes, TooManyEdges, NotForward, SideMismatch, Contradicts, ReadFailed}
 use Rattle.schematic_main.specs.Sheet.{line_text}
 
 abbrev pub text_word : TextWhat → List ℕ
@@ -53,14 +55,25 @@ texts_told what first second = first ∷ []
 abbrev pub found_fields : ℕ → List ℕ → ℕ → List (List ℕ)
 found_fields number word at = decimal number ∷ word ∷ codes "at" ∷ decimal at ∷ []
 
+-- the fields of a graph's fault: its number, its word, and what it tells
+abbrev pub graph_line : List ℕ → List ℕ → List (List ℕ) → List ℕ
+graph_line number word told = line_text (codes "graph") (number ∷ word ∷ told)
+
 abbrev pub fault_line : RunFault → List ℕ
 fault_line NotBuilt = codes "not built\n"
+fault_line (Words what position) = word_faults.fault_line what position
 fault_line (Long input) = line_text (codes "long") (decimal input ∷ [])
 fault_line (Text what at) = line_text (codes "text") (found_fields (text_faults.number_of what) (text_word what) at)
 fault_line (Topology what at first second) =
     line_text (codes "topology") (found_fields (topology_faults.number_of what) (topology_word what) at ++ texts_told what first second)
+fault_line (TooManyNodes count) = graph_line (codes "1") (codes "TooManyNodes") (decimal count ∷ [])
+fault_line (TooManyEdges count) = graph_line (codes "2") (codes "TooManyEdges") (decimal count ∷ [])
+fault_line (NotForward track mileage) = graph_line (codes "3") (codes "NotForward") (track ∷ metres_text mileage.0 ∷ [])
+fault_line (SideMismatch name) = graph_line (codes "4") (codes "SideMismatch") (name ∷ [])
+fault_line (Contradicts e f) = line_text (codes "order") (codes "1" ∷ codes "Contradicts" ∷ decimal e.0 ∷ decimal f.0 ∷ [])
 fault_line (ReadFailed input) = line_text (codes "read failed") (decimal input ∷ [])
 
 abbrev pub fault_status : RunFault → ℕ
+fault_status (Words what position) = 2
 fault_status (ReadFailed input) = 5
 fault_status fault = 1

@@ -4,10 +4,14 @@ ghost use Rattle.std.specs.Fmt.{decimal};
 ghost use Rattle.railml_text.specs.Faults as text_faults;
 ghost use Rattle.railml_topology.specs.Faults as topology_faults;
 ghost use Rattle.schematic_main.specs.Sheet.{line_text, spaced};
-ghost use Rattle.schematic_main.specs.Fault.{fault_line, fault_status, found_fields, text_word as word_of_text, topology_word as word_of_topology, texts_told};
+ghost use Rattle.plan_words.specs.FaultLine as word_faults;
+ghost use Rattle.rail_mileage.specs.MetresText.{metres_text};
+ghost use Rattle.schematic_main.specs.Fault.{fault_line, graph_line, fault_status, found_fields, text_word as word_of_text, topology_word as word_of_topology, texts_told};
 
 use crate::sheet::{push_field, push_number, push_place, push_text};
-use plan_core::{OutOfMemory, Text};
+use plan_core::{EdgeNo, Micro, OutOfMemory, Text};
+use plan_words::{WordWhat, push_word_fault};
+use rail_mileage::write_metres;
 use railml_text::TextWhat;
 use railml_topology::TopologyWhat;
 use std::alloc::Global;
@@ -15,8 +19,13 @@ use std::alloc::Global;
 /// A run's fault. Its line goes to the output, and its status ends the run.
 #[derive(Drop)]
 pub enum RunFault {
-    /// The words or the file ask for what isn't built yet.
+    /// The words ask for what isn't built yet.
     NotBuilt,
+    /// The words have a fault. `position` is that of a word, counted from 1.
+    Words {
+        what: WordWhat,
+        position: u32,
+    },
     /// The input with this number, counted from 1, has too many bytes.
     Long(u8),
     /// The text of the file has a fault. `at` is its place, in bytes from 0.
@@ -32,6 +41,21 @@ pub enum RunFault {
         first: Text,
         second: Text,
     },
+    /// The track graph would have so many nodes, and may have 128.
+    TooManyNodes(u32),
+    /// The track graph would have so many edges, and may have 160.
+    TooManyEdges(u32),
+    /// An edge of this track has one mileage at both ends, in micrometres.
+    NotForward {
+        track: Text,
+        mileage: Micro,
+    },
+    /// The edges at the node of this name don't lie on the sides that its kind asks for.
+    SideMismatch {
+        name: Text,
+    },
+    /// Each of these two edges lies above the other.
+    Contradicts(EdgeNo, EdgeNo),
     /// The input with this number, counted from 1, couldn't be read.
     ReadFailed(u8),
 }
@@ -178,12 +202,68 @@ fn topology_line(
     Ok(line)
 }
 
+fn words_line(alloc: Global, what: WordWhat, position: u32) -> Result<Vec<u8>, OutOfMemory>
+    ensures { IfOk result (λ v. v.items ≡ word_faults.fault_line what position) }
+{
+    let mut line = Vec::new(alloc);
+    push_word_fault(&mut line, what, position)?;
+    Ok(line)
+}
+
+/// The line of too many nodes or edges.
+fn count_line(
+    alloc: Global,
+    number: &[u8],
+    word: &[u8],
+    count: u32,
+) -> Result<Vec<u8>, OutOfMemory>
+    ensures { IfOk result (λ v. v.items ≡ graph_line number.now word.now (decimal count ∷ [])) }
+{
+    let mut line = Vec::from_slice(alloc, b"graph")?;
+    push_field(&mut line, number)?;
+    push_field(&mut line, word)?;
+    push_number(&mut line, count)?;
+    push_text(&mut line, b"\n")?;
+    Ok(line)
+}
+
+fn level_line(alloc: Global, track: &Text, mileage: Micro) -> Result<Vec<u8>, OutOfMemory>
+    ensures { IfOk result (λ v. v.items ≡ graph_line (codes "3") (codes "NotForward") (track.now ∷ metres_text mileage.0 ∷ [])) }
+{
+    let mut line = Vec::from_slice(alloc, b"graph 3 NotForward")?;
+    push_field(&mut line, track.bytes())?;
+    push_text(&mut line, b" ")?;
+    write_metres(alloc, mileage, &mut line)?;
+    push_text(&mut line, b"\n")?;
+    Ok(line)
+}
+
+fn mismatch_line(alloc: Global, name: &Text) -> Result<Vec<u8>, OutOfMemory>
+    ensures { IfOk result (λ v. v.items ≡ graph_line (codes "4") (codes "SideMismatch") (name.now ∷ [])) }
+{
+    let mut line = Vec::from_slice(alloc, b"graph 4 SideMismatch")?;
+    push_field(&mut line, name.bytes())?;
+    push_text(&mut line, b"\n")?;
+    Ok(line)
+}
+
+fn contradiction_line(alloc: Global, e: EdgeNo, f: EdgeNo) -> Result<Vec<u8>, OutOfMemory>
+    ensures { IfOk result (λ v. v.items ≡ line_text (codes "order") (codes "1" ∷ codes "Contradicts" ∷ decimal e.0 ∷ decimal f.0 ∷ [])) }
+{
+    let mut line = Vec::from_slice(alloc, b"order 1 Contradicts")?;
+    push_number(&mut line, u32::from(e.0))?;
+    push_number(&mut line, u32::from(f.0))?;
+    push_text(&mut line, b"\n")?;
+    Ok(line)
+}
+
 impl RunFault {
     /// The status that the run ends with.
     pub fn status(&self) -> u8
         ensures { result ≡ fault_status self.now }
     {
         match self {
+            RunFault::Words { .. } => 2,
             RunFault::ReadFailed(_) => 5,
             _ => 1,
         }
@@ -203,6 +283,12 @@ impl RunFault {
                 first,
                 second,
             } => topology_line(alloc, *what, *at, first, second),
+            RunFault::Words { what, position } => words_line(alloc, *what, *position),
+            RunFault::TooManyNodes(count) => count_line(alloc, b"1", b"TooManyNodes", *count),
+            RunFault::TooManyEdges(count) => count_line(alloc, b"2", b"TooManyEdges", *count),
+            RunFault::NotForward { track, mileage } => level_line(alloc, track, *mileage),
+            RunFault::SideMismatch { name } => mismatch_line(alloc, name),
+            RunFault::Contradicts(e, f) => contradiction_line(alloc, *e, *f),
             RunFault::ReadFailed(input) => input_line(alloc, b"read failed", *input),
         }
     }

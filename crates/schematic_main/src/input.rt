@@ -1,18 +1,22 @@
-// The bytes of a file to draw: their topology, or the first of their faults.
+// The bytes of a railML file: the station that they are, or the first of their faults.
 ghost use Rattle.std.specs.Prelude.{◌≤◌, ℕ, List, length, IfOk, IfErr};
 ghost use Rattle.railml_read.specs.Formed.{AreFormed};
-ghost use Rattle.schematic_main.specs.Input.{HasRows, HasTopology, IsRefusal};
+ghost use Rattle.plan_core.specs.Topology.{IsResolved};
+ghost use Rattle.track_order.specs.Order.{IsOrderOf};
+ghost use Rattle.schematic_main.specs.Input.{HasRows, HasTopology, HasGraph, HasStation, IsRefusal};
 
 use crate::fault::RunFault;
 use plan_core::Topology;
+use port_graph::{GraphFault, PortGraph, build};
 use railml_read::{ReadFault, Records, read};
 use railml_topology::{ResolveFault, resolve};
 use std::alloc::Global;
+use track_order::{OrderFault, TrackOrder, derive};
 
 /// The greatest number of bytes that a railML file may have.
 pub const FILE_LIMIT: usize = 4_194_304;
 
-/// Why bytes give no topology.
+/// Why bytes give no station.
 #[derive(Drop)]
 pub enum Refusal {
     /// They have this fault.
@@ -39,6 +43,7 @@ fn rows_in(alloc: Global, bytes: &[u8]) -> Result<Records, Refusal>
 fn topology_from(alloc: Global, rows: &Records) -> Result<Topology, Refusal>
     requires { AreFormed rows.now }
     ensures topology { (bytes : List ℕ) → HasRows bytes rows.now → IfOk result (λ t. HasTopology bytes t) }
+    ensures resolved { IfOk result (λ t. IsResolved t) }
     ensures refusal { (bytes : List ℕ) → HasRows bytes rows.now → IfErr result (λ r. IsRefusal bytes r) }
 {
     match resolve(alloc, rows) {
@@ -61,8 +66,9 @@ fn topology_from(alloc: Global, rows: &Records) -> Result<Topology, Refusal>
 }
 
 /// The topology of a file's bytes, or the first of their faults.
-pub fn topology_in(alloc: Global, bytes: &[u8]) -> Result<Topology, Refusal>
+fn topology_in(alloc: Global, bytes: &[u8]) -> Result<Topology, Refusal>
     ensures topology { IfOk result (λ t. HasTopology bytes.now t) }
+    ensures resolved { IfOk result (λ t. IsResolved t) }
     ensures refusal { IfErr result (λ r. IsRefusal bytes.now r) }
 {
     if bytes.len() > FILE_LIMIT {
@@ -70,4 +76,68 @@ pub fn topology_in(alloc: Global, bytes: &[u8]) -> Result<Topology, Refusal>
     }
     let rows = rows_in(alloc, bytes)?;
     topology_from(alloc, &rows)
+}
+
+/// The track graph of a topology, or its fault.
+fn graph_from(alloc: Global, topology: &Topology) -> Result<PortGraph, Refusal>
+    requires { IsResolved topology.now }
+    ensures graph { (bytes : List ℕ) → HasTopology bytes topology.now → IfOk result (λ g. HasGraph bytes g) }
+    ensures refusal { (bytes : List ℕ) → HasTopology bytes topology.now → IfErr result (λ r. IsRefusal bytes r) }
+{
+    match build(alloc, topology) {
+        Ok(graph) => Ok(graph),
+        Err(GraphFault::TooManyNodes(count)) => {
+            Err(Refusal::Fault(RunFault::TooManyNodes(count)))
+        }
+        Err(GraphFault::TooManyEdges(count)) => {
+            Err(Refusal::Fault(RunFault::TooManyEdges(count)))
+        }
+        Err(GraphFault::NotForward {
+            edge: _,
+            track,
+            mileage,
+        }) => Err(Refusal::Fault(RunFault::NotForward { track, mileage })),
+        Err(GraphFault::SideMismatch { node: _, name }) => {
+            Err(Refusal::Fault(RunFault::SideMismatch { name }))
+        }
+        Err(GraphFault::Memory) => Err(Refusal::Memory),
+    }
+}
+
+/// The track graph of a file's bytes, or the first of their faults.
+fn graph_in(alloc: Global, bytes: &[u8]) -> Result<PortGraph, Refusal>
+    ensures graph { IfOk result (λ g. HasGraph bytes.now g) }
+    ensures refusal { IfErr result (λ r. IsRefusal bytes.now r) }
+{
+    let topology = topology_in(alloc, bytes)?;
+    graph_from(alloc, &topology)
+}
+
+/// The order of a graph's edges, or its fault.
+fn order_from(alloc: Global, graph: &PortGraph) -> Result<TrackOrder, Refusal>
+    ensures order { IfOk result (λ o. IsOrderOf graph.now o) }
+    ensures refusal { (bytes : List ℕ) → HasGraph bytes graph.now → IfErr result (λ r. IsRefusal bytes r) }
+{
+    match derive(alloc, graph) {
+        Ok(order) => Ok(order),
+        Err(OrderFault::Contradicts(e, f)) => Err(Refusal::Fault(RunFault::Contradicts(e, f))),
+        Err(OrderFault::Memory) => Err(Refusal::Memory),
+    }
+}
+
+/// A station: its track graph, and the order of its edges.
+#[derive(Drop)]
+pub struct Station {
+    pub graph: PortGraph,
+    pub order: TrackOrder,
+}
+
+/// The station of a file's bytes, or the first of their faults.
+pub fn station_in(alloc: Global, bytes: &[u8]) -> Result<Station, Refusal>
+    ensures station { IfOk result (λ s. HasStation bytes.now s.graph s.order) }
+    ensures refusal { IfErr result (λ r. IsRefusal bytes.now r) }
+{
+    let graph = graph_in(alloc, bytes)?;
+    let order = order_from(alloc, &graph)?;
+    Ok(Station { graph, order })
 }

@@ -10,15 +10,17 @@
 //! The crate stands on all others, and nothing stands on it.
 #![tactic(auto)]
 
+mod answers;
 mod fault;
 mod input;
-mod laws;
+mod one_edge;
+mod reading;
 mod run;
 mod sheet;
-mod straight_track;
+
 #[cfg(test)]
 mod tests;
-mod words;
+
 
 use outside_io::{HostFiles, HostOut};
 use run::run;

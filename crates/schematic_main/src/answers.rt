@@ -1,0 +1,141 @@
+// What each command answers.
+ghost use Rattle.std.specs.Prelude.{◌≡◌, ◌≤◌, ◌⊎◌, IfOk, IsTrue, IsFalse, None, length};
+ghost use Rattle.outside_io.specs.Contents.{WhereTold, SameFiles};
+ghost use Rattle.track_order.specs.Order.{IsOrderOf};
+ghost use Rattle.schematic_main.specs.Answer.{IsFault, IsUnbuilt, IsDrawing, IsPrinted, IsAnswerOn, IsAnswerTo, IsUnread, ReadFails, input_of};
+
+use crate::fault::RunFault;
+use crate::input::{Refusal, Station};
+use crate::one_edge::best_sheet;
+use crate::reading::station_of;
+use outside_io::Files;
+use plan_core::{Grid, Order, OutOfMemory, Text};
+use plan_text::write_graph;
+use plan_words::Command;
+use port_graph::PortGraph;
+use std::alloc::Global;
+
+/// A status, and the text that goes with it.
+#[derive(Drop)]
+pub struct Reply {
+    pub status: u8,
+    pub text: Vec<u8>,
+}
+
+/// The answer that tells of a fault.
+pub fn fault_reply(alloc: Global, fault: RunFault) -> Result<Reply, OutOfMemory>
+    ensures { IfOk result (λ r. IsFault fault r.status r.text.items) }
+{
+    Ok(Reply {
+        status: fault.status(),
+        text: fault.line(alloc)?,
+    })
+}
+
+/// Whether the drawing of such a graph, with such files to write, isn't built yet.
+fn is_unbuilt(g: &PortGraph, svg: &Option<Text>, log: &Option<Text>) -> bool
+    ensures unbuilt { IsTrue result → IsUnbuilt g.now svg.now log.now }
+    ensures built { IsFalse result → length g.now.edges ≡ 1 }
+{
+    g.edges() != 1 || svg.is_some() || log.is_some()
+}
+
+/// What `draw` answers to a station.
+fn draw_station(
+    alloc: Global,
+    station: &Station,
+    grid: &Grid,
+    order: &Order,
+    svg: &Option<Text>,
+    log: &Option<Text>,
+) -> Result<Reply, OutOfMemory>
+    requires { IsOrderOf station.now.graph station.now.order }
+    ensures answer { IfOk result (λ r. IsDrawing station.now.graph station.now.order grid.now order.now svg.now log.now r.status r.text.items) }
+    ensures statuses { IfOk result (λ r. (r.status ≡ 0) ⊎ (r.status ≡ 1)) }
+{
+    if is_unbuilt(&station.graph, svg, log) {
+        return fault_reply(alloc, RunFault::NotBuilt);
+    }
+    Ok(Reply {
+        status: 0,
+        text: best_sheet(alloc, &station.graph, &station.order, grid, order)?,
+    })
+}
+
+/// What `graph` answers to a station.
+fn print_station(alloc: Global, station: &Station) -> Result<Reply, OutOfMemory>
+    requires { IsOrderOf station.now.graph station.now.order }
+    ensures answer { IfOk result (λ r. IsPrinted station.now.graph station.now.order r.status r.text.items) }
+    ensures statuses { IfOk result (λ r. r.status ≡ 0) }
+{
+    let mut text = Vec::new(alloc);
+    write_graph(alloc, &station.graph, &station.order, &mut text)?;
+    Ok(Reply { status: 0, text })
+}
+
+/// What `draw` answers.
+fn draw<F: Files>(
+    alloc: Global,
+    input: &Text,
+    grid: &Grid,
+    order: &Order,
+    svg: &Option<Text>,
+    log: &Option<Text>,
+    files: &mut F,
+) -> Result<Reply, OutOfMemory>
+    ensures answer { IfOk result (λ r. IsAnswerOn (λ g o. IsDrawing g o grid.now order.now svg.now log.now) input.now (F.contents files.old) (ReadFails F.read_faults F.reads files.old files.new) r.status r.text.items) }
+    ensures statuses { IfOk result (λ r. (r.status ≡ 0) ⊎ (r.status ≡ 1) ⊎ (r.status ≡ 5)) }
+    ensures read_fault { IfOk result (λ r. r.status ≡ 5 → ReadFails F.read_faults F.reads files.old files.new 0) }
+    ensures later { F.read_faults files.old ≤ F.read_faults files.new }
+    ensures same { WhereTold (F.contents files.old) (F.contents files.new) SameFiles }
+{
+    match station_of(alloc, input, files) {
+        Ok(station) => draw_station(alloc, &station, grid, order, svg, log),
+        Err(Refusal::Fault(fault)) => fault_reply(alloc, fault),
+        Err(Refusal::Memory) => Err(OutOfMemory),
+    }
+}
+
+/// What `graph` answers.
+fn print<F: Files>(alloc: Global, input: &Text, files: &mut F) -> Result<Reply, OutOfMemory>
+    ensures answer { IfOk result (λ r. IsAnswerOn IsPrinted input.now (F.contents files.old) (ReadFails F.read_faults F.reads files.old files.new) r.status r.text.items) }
+    ensures statuses { IfOk result (λ r. (r.status ≡ 0) ⊎ (r.status ≡ 1) ⊎ (r.status ≡ 5)) }
+    ensures read_fault { IfOk result (λ r. r.status ≡ 5 → ReadFails F.read_faults F.reads files.old files.new 0) }
+    ensures later { F.read_faults files.old ≤ F.read_faults files.new }
+    ensures same { WhereTold (F.contents files.old) (F.contents files.new) SameFiles }
+{
+    match station_of(alloc, input, files) {
+        Ok(station) => print_station(alloc, &station),
+        Err(Refusal::Fault(fault)) => fault_reply(alloc, fault),
+        Err(Refusal::Memory) => Err(OutOfMemory),
+    }
+}
+
+/// What a command answers.
+pub fn answer_to<F: Files>(
+    alloc: Global,
+    command: &Command,
+    files: &mut F,
+) -> Result<Reply, OutOfMemory>
+    ensures answer { IfOk result (λ r. IsAnswerTo command.now (F.contents files.old) (ReadFails F.read_faults F.reads files.old files.new) r.status r.text.items) }
+    ensures statuses { IfOk result (λ r. (r.status ≡ 0) ⊎ (r.status ≡ 1) ⊎ (r.status ≡ 5)) }
+    ensures read_fault { IfOk result (λ r. r.status ≡ 5 → ReadFails F.read_faults F.reads files.old files.new 0) }
+    ensures unread { input_of command.now ≡ None → IsUnread F.read_faults F.reads files.old files.new }
+    ensures later { F.read_faults files.old ≤ F.read_faults files.new }
+    ensures same { WhereTold (F.contents files.old) (F.contents files.new) SameFiles }
+{
+    match command {
+        Command::Draw {
+            input,
+            grid,
+            order,
+            budget: _,
+            svg,
+            log,
+        } => draw(alloc, input, grid, order, svg, log, files),
+        Command::Graph { input } => print(alloc, input, files),
+        Command::Verify { .. } | Command::Check { .. } | Command::Make { .. } => {
+            fault_reply(alloc, RunFault::NotBuilt)
+        }
+    }
+}
