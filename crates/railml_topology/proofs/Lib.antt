@@ -5,6 +5,8 @@ pub mod PositionLemmas
 pub mod OrderLemmas
 pub mod LayoutLemmas
 pub mod PlaceLemmas
+pub mod SiteLemmas
+pub mod BuildLemmas
 pub mod ElementLemmas
 pub mod JoinLemmas
 pub mod ResolvedLemmas

@@ -7,3 +7,4 @@ pub mod Searching
 pub mod Tables
 pub mod Plans
 pub mod Places
+pub mod Sites

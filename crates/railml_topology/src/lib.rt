@@ -11,11 +11,13 @@
 
 mod attributes;
 mod bad_ids;
+mod building;
 mod children;
 mod courses;
 mod fault;
 mod ids;
 mod layout;
+mod mileages;
 mod missing;
 mod numbers;
 mod order;
@@ -23,6 +25,7 @@ mod outside;
 mod places;
 mod references;
 mod rows;
+mod sites;
 mod tables;
 mod tracks;
 
