@@ -3,3 +3,4 @@ pub mod Faults
 pub mod Ids
 pub mod Searching
 pub mod Tables
+pub mod Telling

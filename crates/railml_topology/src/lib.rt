@@ -14,13 +14,16 @@ mod bad_ids;
 mod children;
 mod courses;
 mod fault;
+mod finding;
 mod ids;
 mod missing;
 mod numbers;
 mod outside;
+mod parts;
 mod references;
 mod rows;
 mod tables;
+mod telling;
 mod tracks;
 
 pub use fault::{ResolveFault, TopologyWhat};
