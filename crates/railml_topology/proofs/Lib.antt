@@ -14,6 +14,10 @@ pub mod SoundLemmas
 pub mod SearchLemmas
 pub mod TableLemmas
 pub mod ListLemmas
+pub mod FaultLemmas
+pub mod ToldLemmas
+pub mod PartLemmas
+pub mod OutsideLemmas
 pub mod IdLemmas
 pub mod ReferenceLemmas
 pub mod CharacterLemmas

@@ -8,3 +8,5 @@ pub mod Tables
 pub mod Plans
 pub mod Places
 pub mod Sites
+pub mod Answers
+pub mod Telling

@@ -74,7 +74,7 @@ pub(crate) fn joined_at(
     requires an_end { IsEither site.now.rows.now number }
     ensures { IfOk result (λ joined. IsJoinedAs site.now.rows.now site.now.layouts.now number joined) }
 {
-    match entry(&site.tables.connections, number) {
+    match entry(&site.tables.connections, number as usize) {
         Some(connection) => Ok(Some(conn_of(alloc, site, connection)?)),
         None => Ok(None),
     }
