@@ -172,7 +172,7 @@ found rows layouts t s tracks k p h =
 
 -- ---- a row stands at one place
 
-all_at : {A : Type 0} (P : A → Type 0) (xs : List A) (k : ℕ) (x : A) → AllByRecursion P xs → slice_get xs k ≡ Some x → P x
+pub all_at : {A : Type 0} (P : A → Type 0) (xs : List A) (k : ℕ) (x : A) → AllByRecursion P xs → slice_get xs k ≡ Some x → P x
 all_at P [] k x h e = absurd cc
 all_at P (y ∷ ys) zero x h e = let same : y ≡ x = same_Some y x e in subst P same h.0
 all_at P (y ∷ ys) (suc k) x h e = all_at P ys k x h.1 e

@@ -5,6 +5,8 @@ pub mod PositionLemmas
 pub mod OrderLemmas
 pub mod LayoutLemmas
 pub mod PlaceLemmas
+pub mod SiteLemmas
+pub mod BuildLemmas
 pub mod ElementLemmas
 pub mod JoinLemmas
 pub mod ResolvedLemmas
@@ -12,6 +14,10 @@ pub mod SoundLemmas
 pub mod SearchLemmas
 pub mod TableLemmas
 pub mod ListLemmas
+pub mod FaultLemmas
+pub mod ToldLemmas
+pub mod PartLemmas
+pub mod OutsideLemmas
 pub mod IdLemmas
 pub mod ReferenceLemmas
 pub mod CharacterLemmas

@@ -136,12 +136,12 @@ way_found rows crossing n outgoing a e =
     }
 
 -- a child of a row is one of its connections
-connection_of_row : (rows : List Elem) (i k : ℕ) (parent : Elem) (kind : ElemKind) → slice_get rows i ≡ Some parent → parent.kind ≡ kind → (c : IsChild rows i Connection k) → IsConnectionOf rows c.row kind parent
+pub connection_of_row : (rows : List Elem) (i k : ℕ) (parent : Elem) (kind : ElemKind) → slice_get rows i ≡ Some parent → parent.kind ≡ kind → (c : IsChild rows i Connection k) → IsConnectionOf rows c.row kind parent
 connection_of_row rows i k parent kind is kind_is c =
     let up = c.parent_is in record { connection = c.kind_is; holds = rw up is; of_kind = kind_is }
 
 -- the way of a child of a crossing
-way_of_child : (rows : List Elem) → AreSound rows → (crossing k : ℕ) → is_of_kind rows Crossing crossing ≡ true → IsChild rows crossing Connection k → (outgoing : Bool) × IsWayOf rows crossing outgoing k
+pub way_of_child : (rows : List Elem) → AreSound rows → (crossing k : ℕ) → is_of_kind rows Crossing crossing ≡ true → IsChild rows crossing Connection k → (outgoing : Bool) × IsWayOf rows crossing outgoing k
 way_of_child rows s crossing k a c =
     let (parent, is, kind_is) = of_kind rows Crossing crossing a in
     let (outgoing, way) = s.ways k c.row parent c.is (inr (connection_of_row rows crossing k parent Crossing is kind_is c)) in

@@ -62,7 +62,7 @@ kept_within z h = subst (IsWithin (10 ^ 15)) (sym (to_z-of_z w64 z (fits_64 z h)
 
 -- ---- switches and crossings
 
-inner_kind : (rows : List Elem) (i : ℕ) → is_inner rows i ≡ true → (row : Elem) × (slice_get rows i ≡ Some row) × (bears_position row.kind ≡ true)
+pub inner_kind : (rows : List Elem) (i : ℕ) → is_inner rows i ≡ true → (row : Elem) × (slice_get rows i ≡ Some row) × (bears_position row.kind ≡ true)
 inner_kind rows i h = choose (is_of_kind rows Switch i) refl h
   where
     choose : (v : Bool) → is_of_kind rows Switch i ≡ v → (v || is_of_kind rows Crossing i) ≡ true → (row : Elem) × (slice_get rows i ≡ Some row) × (bears_position row.kind ≡ true)

@@ -7,3 +7,6 @@ pub mod Searching
 pub mod Tables
 pub mod Plans
 pub mod Places
+pub mod Sites
+pub mod Answers
+pub mod Telling

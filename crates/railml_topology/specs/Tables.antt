@@ -1,15 +1,15 @@
 -- What is kept of rows while they are judged and built from: tables with an entry for each row.
-use Rattle.std.specs.Prelude.{◌≡◌, ◌≢◌, ℕ, List, [], ◌∷◌, ◌++◌, length, Option, Some, None, slice_get, ℤ, ◌<ℤ◌}
+use Rattle.std.specs.Prelude.{◌≡◌, ◌≢◌, ◌⊎◌, ℕ, filter, List, [], ◌∷◌, ◌++◌, length, Option, Some, None, slice_get, ℤ, ◌<ℤ◌}
 use Rattle.std.specs.Option.{option_map, option_and_then}
 use Rattle.std.specs.declared.vec.Vec.{Vec}
 use Rattle.std.specs.declared.alloc.Global.{Global}
 use Rattle.plan_core.specs.declared.numbers.Micro.{Micro}
 use Rattle.railml_read.specs.declared.rows.Elem.{Elem}
 use Rattle.railml_read.specs.declared.rows.ElemKind.{ElemKind}
-use Rattle.railml_read.specs.declared.rows.ElemKind.TheVariants.{Topology, Begin, End, Connection}
+use Rattle.railml_read.specs.declared.rows.ElemKind.TheVariants.{Topology, Begin, End, Switch, Crossing, Connection}
 use Rattle.railml_topology.specs.declared.tables.Tables.{Tables}
-use Rattle.railml_topology.specs.Rows.{all_children, children, id_of, HasPosition, IsConnectionNamed}
-use Rattle.railml_topology.specs.Faults.{RefersTo}
+use Rattle.railml_topology.specs.Rows.{all_children, children, is_of_kind, id_of, HasPosition, IsConnectionNamed}
+use Rattle.railml_topology.specs.Faults.{RefersTo, AreOrientedAlike}
 
 -- the one entry of a list that has just one
 abbrev pub only_of : List ℕ → Option ℕ
@@ -92,3 +92,43 @@ pub record AreTablesOf (rows : List Elem) (t : Tables) : Type 0 where
   pub connections : HasOnlyChildren rows Connection t.connections.items
   pub targets : HasTargets rows t.targets.items
   pub positions : HasPositions rows t.positions.items
+
+-- ---- faults by the tables
+
+-- a row lies before the begin beside it
+abbrev pub IsBeforeBeginBy : Tables → ℕ → Elem → Type 0
+IsBeforeBeginBy t i row = IsLess (entry_in t.positions.items i) (beside_in t.begins.items t.positions.items row)
+
+-- a row lies behind the end beside it
+abbrev pub IsBehindEndBy : Tables → ℕ → Elem → Type 0
+IsBehindEndBy t i row = IsLess (beside_in t.ends.items t.positions.items row) (entry_in t.positions.items i)
+
+abbrev pub LiesOutsideBy : Tables → ℕ → Elem → ElemKind → Type 0
+LiesOutsideBy t i row End = IsBeforeBeginBy t i row
+LiesOutsideBy t i row Switch = IsBeforeBeginBy t i row ⊎ IsBehindEndBy t i row
+LiesOutsideBy t i row Crossing = IsBeforeBeginBy t i row ⊎ IsBehindEndBy t i row
+LiesOutsideBy t i row kind = ⊥
+
+-- a track has one topology, with one begin and one end
+pub record IsWholeBy (t : Tables) (i : ℕ) : Type 0 where
+  pub topology : ℕ
+  pub begin : ℕ
+  pub end : ℕ
+  pub one_topology : entry_in t.topologies.items i ≡ Some topology
+  pub one_begin : entry_in t.begins.items topology ≡ Some begin
+  pub one_end : entry_in t.ends.items topology ≡ Some end
+
+-- row i's list in a table of lists
+abbrev pub IsListAt : List (Vec ℕ Global) → ℕ → List ℕ → Type 0
+IsListAt table i list = (v : Vec ℕ Global) × (slice_get table i ≡ Some v) × (list ≡ v.items)
+
+-- two texts are there, and are one
+abbrev pub AreSameWords : Option (List ℕ) → Option (List ℕ) → Type 0
+AreSameWords a b = (word : List ℕ) × (a ≡ Some word) × (b ≡ Some word)
+
+-- there are just two connections among these, and their orientations aren't one word
+pub record HasTwoWaysAmong (rows : List Elem) (list : List ℕ) : Type 0 where
+  pub one : ℕ
+  pub other : ℕ
+  pub two : pair_of (filter (is_of_kind rows Connection) list) ≡ Some (one, other)
+  pub differ : AreOrientedAlike rows one other → ⊥

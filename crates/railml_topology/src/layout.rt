@@ -29,7 +29,7 @@ pub(crate) fn sure_entry(table: &[Option<u32>], i: u32) -> u32
     requires there { (k : ℕ) × (entry_in table.now i ≡ Some k) }
     ensures { entry_in table.now i ≡ Some result }
 {
-    match entry(table, i) {
+    match entry(table, i as usize) {
         Some(k) => k,
         None => unreachable!(),
     }

@@ -11,19 +11,27 @@
 
 mod attributes;
 mod bad_ids;
+mod building;
 mod children;
 mod courses;
 mod fault;
+mod finding;
 mod ids;
 mod layout;
+mod mileages;
 mod missing;
 mod numbers;
 mod order;
 mod outside;
+mod parts;
 mod places;
 mod references;
+mod resolving;
 mod rows;
+mod sites;
 mod tables;
+mod telling;
 mod tracks;
 
 pub use fault::{ResolveFault, TopologyWhat};
+pub use resolving::resolve;

@@ -1,5 +1,5 @@
 // Positions and mileages that are no numbers.
-ghost use Rattle.std.specs.Prelude.{IsTrue, ◌↔◌, ◌≡◌, IfSome, IfNone};
+ghost use Rattle.std.specs.Prelude.{IsTrue, ◌↔◌, ◌≡◌, IfSome, Some};
 ghost use Rattle.railml_topology.specs.Faults.{IsNoNumber, HasNoNumber};
 ghost use Rattle.railml_topology.specs.Searching.{FindsFirst};
 ghost use Rattle.railml_topology.specs.declared.attributes.Attribute.{Attribute as Named};
@@ -23,7 +23,7 @@ fn is_no_number(text: &Option<Text>) -> bool
 /// The attribute of a row that is to be a number and is none; `pos` comes first.
 pub(crate) fn bad_number(row: &Elem) -> Option<Attribute>
     ensures found { IfSome result (λ a. HasNoNumber row.now a) }
-    ensures none { IfNone result ((a : Named) → HasNoNumber row.now a → ⊥) }
+    ensures only { (a : Named) → HasNoNumber row.now a → result ≡ Some a }
 {
     if !bears_position(row.kind) {
         return None;

@@ -170,7 +170,7 @@ fn put_end(connections: &[Option<u32>], holder: u32, place: Place, table: &mut V
     requires { (i : ℕ) → entry_in connections.now holder ≡ Some i → i < length table.old.items }
     ensures { Adds (λ i p. (entry_in connections.now holder ≡ Some i) × (p ≡ place)) table.old.items table.new.items }
 {
-    if let Some(connection) = entry(connections, holder) {
+    if let Some(connection) = entry(connections, holder as usize) {
         put(table, connection, place);
     }
 }

@@ -49,10 +49,10 @@ impl Tables {
 }
 
 /// An entry of a table of numbers, if it is there and isn't empty.
-pub(crate) fn entry(table: &[Option<u32>], i: u32) -> Option<u32>
+pub(crate) fn entry(table: &[Option<u32>], i: usize) -> Option<u32>
     ensures { result ≡ entry_in table.now i }
 {
-    match table.get(i as usize) {
+    match table.get(i) {
         Some(entry) => *entry,
         None => None,
     }

@@ -1,4 +1,4 @@
-use Rattle.std.proofs.Common.{◌≡◌, ℕ, Option, Some, slice_get}
+use Rattle.std.proofs.Common.{◌≡◌, Option, Some, slice_get}
 use Rattle.plan_core.specs.declared.numbers.Micro.{Micro}
 use Rattle.railml_read.specs.declared.rows.Elem.{Elem}
 use Rattle.railml_topology.specs.Tables.{IsPositionOf}

@@ -1,0 +1,69 @@
+-- Which fault is found first, and what is told with it.
+use Rattle.std.specs.Prelude.{◌≡◌, ◌<◌, ◌≤◌, ℕ, List, [], length, Option, Some, None, slice_get}
+use Rattle.std.specs.Option.{option_map_or}
+use Rattle.railml_read.specs.declared.rows.Elem.{Elem}
+use Rattle.railml_topology.specs.declared.attributes.Attribute.{Attribute}
+use Rattle.railml_topology.specs.declared.fault.TopologyWhat.{TopologyWhat}
+use Rattle.railml_topology.specs.declared.fault.TopologyWhat.TheVariants.{NoTracks, TooMany, Missing, Id, Number, NotMutual}
+use Rattle.railml_topology.specs.declared.finding.Finding.{Finding}
+use Rattle.railml_topology.specs.declared.telling.Told.{Told}
+use Rattle.railml_topology.specs.Rows.{lacking, name_of, id_of}
+use Rattle.railml_topology.specs.Faults.{HasFault, HasNoNumber, IsFirstFault, number_of}
+use Rattle.railml_topology.specs.Searching.{NoneBefore, IsFirst}
+
+-- row i has this fault, whatever is told with it
+abbrev pub HasKind : List Elem → TopologyWhat → ℕ → Elem → Type 0
+HasKind rows what i row = (first : List ℕ) × (second : List ℕ) × HasFault rows what i row first second
+
+-- no row has a fault of a kind from low on, up to and without high
+pub record HasNoneOf (rows : List Elem) (low high : ℕ) : Type 0 where
+  pub none : (what : TopologyWhat) → low ≤ number_of what → number_of what < high → NoneBefore (HasKind rows what) rows (length rows)
+
+-- of the kinds from low on, up to and without high, this is the lowest that a row has, and this is the
+-- first row that has it
+pub record IsLowest (rows : List Elem) (low high : ℕ) (what : TopologyWhat) (i : ℕ) : Type 0 where
+  pub from : low ≤ number_of what
+  pub below : number_of what < high
+  pub first : IsFirst (HasKind rows what) rows i
+  pub lower : HasNoneOf rows low (number_of what)
+
+abbrev pub FindsLowest : List Elem → ℕ → ℕ → Option Finding → Type 0
+FindsLowest rows low high None = HasNoneOf rows low high
+FindsLowest rows low high (Some found) = IsLowest rows low high found.what found.row
+
+-- the text that is told first of a row with this fault
+abbrev pub first_of : List Elem → Elem → TopologyWhat → List ℕ
+first_of rows row NoTracks = []
+first_of rows row TooMany = []
+first_of rows row Missing = option_map_or name_of (slice_get (lacking rows row) 0) []
+first_of rows row Id = []
+first_of rows row what = id_of row
+
+-- the text that is told second
+abbrev pub IsSecond : Elem → TopologyWhat → List ℕ → Type 0
+IsSecond row Number second = (attribute : Attribute) → HasNoNumber row attribute → second ≡ name_of attribute
+IsSecond row NotMutual second = (name : List ℕ) → row.attrs.reference ≡ Some name → second ≡ name
+IsSecond row what second = second ≡ []
+
+-- what is told of row i with this fault
+pub record IsToldOf (rows : List Elem) (found : Finding) (told : Told) : Type 0 where
+  pub row : Elem
+  pub is : slice_get rows found.row ≡ Some row
+  pub same : told.what ≡ found.what
+  pub place : told.at ≡ row.at
+  pub fault : HasFault rows found.what found.row row told.first told.second
+
+-- the row that a fault is told of has it
+abbrev pub IsFound : List Elem → Finding → Type 0
+IsFound rows found = (row : Elem) × (slice_get rows found.row ≡ Some row) × HasKind rows found.what found.row row
+
+-- the first fault of rows
+abbrev pub IsFirstTold : List Elem → Told → Type 0
+IsFirstTold rows told = IsFirstFault rows told.what told.at told.first told.second
+
+-- what is told where there is no track
+pub record TellsNoTracks (told : Told) : Type 0 where
+  pub what : told.what ≡ NoTracks
+  pub start : told.at ≡ 0
+  pub no_first : told.first ≡ []
+  pub no_second : told.second ≡ []

@@ -1,0 +1,61 @@
+// The topology that rows resolve to, or the fault that they have.
+ghost use Rattle.std.specs.Prelude.{IfOk, IfErr, OnOk};
+ghost use Rattle.plan_core.specs.Topology.{IsResolved};
+ghost use Rattle.railml_read.specs.Formed.{AreFormed};
+ghost use Rattle.railml_topology.specs.Faults.{HasNoFault};
+ghost use Rattle.railml_topology.specs.Resolved.{IsTopologyOf};
+ghost use Rattle.railml_topology.specs.Tables.{AreTablesOf};
+ghost use Rattle.railml_topology.specs.Answers.{IsFaultOf};
+
+use crate::ResolveFault;
+use crate::building::topology_of;
+use crate::tables::Tables;
+use crate::telling::{Told, first_fault};
+use plan_core::{OutOfMemory, Topology};
+use railml_read::{Elem, Records};
+use std::alloc::Global;
+
+/// The topology of rows of which nothing is wrong.
+fn faultless(alloc: Global, rows: &[Elem], tables: &Tables) -> Result<Topology, OutOfMemory>
+    requires formed { AreFormed rows.now }
+    requires faultless { HasNoFault rows.now }
+    requires tables { AreTablesOf rows.now tables.now }
+    ensures topology { IfOk result (λ t. IsTopologyOf rows.now t) }
+    ensures resolved { IfOk result (λ t. IsResolved t) }
+{
+    topology_of(alloc, rows, tables)
+}
+
+/// The topology of the rows that were read from a document, or the first fault that they have: the one
+/// with the lowest number in the order of `TopologyWhat`, and of that kind the one with the least place.
+/// Want of memory may come in place of either.
+pub fn resolve(alloc: Global, rows: &Records) -> Result<Topology, ResolveFault>
+    requires { AreFormed rows.now }
+
+    ensures topology { IfOk result (λ t. IsTopologyOf rows.now t) }
+    ensures resolved { IfOk result (λ t. IsResolved t) }
+
+    // A topology comes exactly where nothing is wrong, and a fault exactly where it is the first.
+    ensures faultless { OnOk result (HasNoFault rows.now) }
+    ensures fault { IfErr result (λ e. IsFaultOf rows.now e) }
+{
+    let rows = rows.as_slice();
+    let tables = Tables::new(alloc, rows)?;
+    match first_fault(alloc, rows, &tables)? {
+        Some(told) => {
+            let Told {
+                what,
+                at,
+                first,
+                second,
+            } = told;
+            Err(ResolveFault::Topology {
+                what,
+                at,
+                first,
+                second,
+            })
+        }
+        None => Ok(faultless(alloc, rows, &tables)?),
+    }
+}
