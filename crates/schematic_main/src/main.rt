@@ -18,8 +18,6 @@ mod reading;
 mod run;
 mod sheet;
 
-#[cfg(test)]
-mod tests;
 
 
 use outside_io::{HostFiles, HostOut};
