@@ -17,6 +17,8 @@ mod one_edge;
 mod reading;
 mod run;
 mod sheet;
+#[cfg(test)]
+mod tests;
 
 
 
