@@ -1,8 +1,7 @@
 #!/bin/sh
 # Times the built program on files of 256 KB, 1 MB and 4 MB of three kinds, beside xmllint where that is
-# there, and prints the time per MB of each and the ratio of the largest file's to the smallest's. Today
-# draw reads files of one form alone and turns the others down, so its times say little until it reads
-# any file.
+# there, and prints the time per MB of each and the ratio of the largest file's to the smallest's. Each of
+# these files has a fault of its topology, so that its whole text is read.
 set -eu
 top=$(cd "$(dirname "$0")/.." && pwd)
 program=$top/crates/schematic_main/out/schematic_main

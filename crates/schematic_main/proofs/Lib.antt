@@ -1,6 +1,3 @@
-pub mod DigitLemmas
-pub mod ReadingLemmas
-pub mod FileLemmas
 pub mod AnswerLemmas
 pub mod TextLemmas
 pub mod StraightSheetLemmas

@@ -20,8 +20,8 @@ use Rattle.plan_core.specs.Drawing.{Drawing}
 use Rattle.plan_core.specs.Laws.{InOrder, IsOnGrid, NodeIsOnGrid, LineIsOnGrid, NodesAreOrdered, LineJoinsItsNodes, NodeIsAligned, NodesAreApart}
 use Rattle.plan_core.specs.Lawful.{Instance, NodeOnGrid, LineOnGrid, Ordered, Joined, Aligned, Apart, Over, Parted, IsInstance, IsPair, Meets, Fits}
 use Rattle.plan_core.specs.Values.{maximum, values_of, value_of, Better, IsBest}
-use Rattle.schematic_main.specs.StraightTrack.{StraightTrack, track_of, goes_east, graph_towards, graph_of, none_above, at_column, level_drawing}
-use Rattle.schematic_main.specs.StraightFile.{StraightFile, IsStraightFile, metres}
+use Rattle.plan_core.specs.declared.topology.Track.{Track}
+use Rattle.schematic_main.specs.StraightTrack.{StraightTrack, IsBare, track_of, goes_east, graph_towards, graph_of, none_above, at_column, level_drawing}
 
 -- Values
 
@@ -115,17 +115,17 @@ compared a b false e apart =
       | false ↦ λ f. let P : Ordering → Type 0 = λ o. MatchOrdering o (a <ℤ b) (a ≡ b) (b <ℤ a) in let k : int_cmp a b ≡ Equal = rw (e, f) refl in absurd (apart (subst P k (int_ranks a b)))
     ] refl
 
-its_laws : (t : StraightTrack) (east : Bool) (grid : GridSize) → goes_east t ≡ east → t.begin_mileage ≢ t.end_mileage → 1 ≤ grid.width → (i : Instance) → IsInstance (graph_towards east t) none_above i → Meets (graph_towards east t) grid (level_drawing east) i
+its_laws : (t : StraightTrack) (east : Bool) (grid : GridSize) → goes_east t ≡ east → t.first_mileage ≢ t.second_mileage → 1 ≤ grid.width → (i : Instance) → IsInstance (graph_towards east t) none_above i → Meets (graph_towards east t) grid (level_drawing east) i
 its_laws t true grid e apart wide (NodeOnGrid n) h = below_two (λ n. NodeIsOnGrid grid (level_drawing true) n) (on_row grid 0 (omega arith)) (on_row grid 1 wide) n h
 its_laws t false grid e apart wide (NodeOnGrid n) h = below_two (λ n. NodeIsOnGrid grid (level_drawing false) n) (on_row grid 1 wide) (on_row grid 0 (omega arith)) n h
 its_laws t true grid e apart wide (LineOnGrid n) h = below_one (λ n. LineIsOnGrid grid (level_drawing true) n) (line_on_row grid wide) n h
 its_laws t false grid e apart wide (LineOnGrid n) h = below_one (λ n. LineIsOnGrid grid (level_drawing false) n) (line_on_row grid wide) n h
 its_laws t true grid e apart wide (Ordered u v) h =
     let P : Ordering → Type 0 = λ o. InOrder o 0 1 in
-    pair_of_two (λ u v. NodesAreOrdered (graph_towards true t) (level_drawing true) u v) (subst P (sym (compared t.begin_mileage t.end_mileage true e apart)) (omega arith)) u v h
+    pair_of_two (λ u v. NodesAreOrdered (graph_towards true t) (level_drawing true) u v) (subst P (sym (compared t.first_mileage t.second_mileage true e apart)) (omega arith)) u v h
 its_laws t false grid e apart wide (Ordered u v) h =
     let P : Ordering → Type 0 = λ o. InOrder o 1 0 in
-    pair_of_two (λ u v. NodesAreOrdered (graph_towards false t) (level_drawing false) u v) (subst P (sym (compared t.begin_mileage t.end_mileage false e apart)) (omega arith)) u v h
+    pair_of_two (λ u v. NodesAreOrdered (graph_towards false t) (level_drawing false) u v) (subst P (sym (compared t.first_mileage t.second_mileage false e apart)) (omega arith)) u v h
 its_laws t true grid e apart wide (Joined n) h = below_one (λ n. LineJoinsItsNodes (graph_towards true t) grid (level_drawing true) n) (record { begins = refl; ends = refl }) n h
 its_laws t false grid e apart wide (Joined n) h = below_one (λ n. LineJoinsItsNodes (graph_towards false t) grid (level_drawing false) n) (record { begins = refl; ends = refl }) n h
 its_laws t true grid e apart wide (Aligned n) h = below_two (λ n. NodeIsAligned (graph_towards true t) (level_drawing true) n) refl refl n h
@@ -137,7 +137,7 @@ its_laws t false grid e apart wide (Over a b) h = let k = h.is_above in cc
 its_laws t true grid e apart wide (Parted a b) h = let r = h.pair.rising in let w = h.pair.within in absurd (omega (arith, r, w))
 its_laws t false grid e apart wide (Parted a b) h = let r = h.pair.rising in let w = h.pair.within in absurd (omega (arith, r, w))
 
-pub level_is_best : (t : StraightTrack) (grid : GridSize) (order : List Criterion) → t.begin_mileage ≢ t.end_mileage → 1 ≤ grid.width → IsBest (graph_of t) none_above grid order (level_drawing (goes_east t))
+pub level_is_best : (t : StraightTrack) (grid : GridSize) (order : List Criterion) → t.first_mileage ≢ t.second_mileage → 1 ≤ grid.width → IsBest (graph_of t) none_above grid order (level_drawing (goes_east t))
 level_is_best t grid order apart wide = record {
   lawful = record { fits = its_fit t (goes_east t); laws = its_laws t (goes_east t) grid refl apart wide };
   none_better = λ other lawful. as_small order (values_of other) (values_of (level_drawing (goes_east t))) (least_values other t (goes_east t) lawful.fits);
@@ -160,10 +160,10 @@ one_edge = 0 ∷ []
 is_met : Contains one_edge 0
 is_met = (0, omega arith, refl)
 
-is_track_graph : (t : StraightTrack) (east : Bool) → goes_east t ≡ east → t.begin_mileage ≢ t.end_mileage → IsTrackGraph (graph_towards east t)
+is_track_graph : (t : StraightTrack) (east : Bool) → goes_east t ≡ east → t.first_mileage ≢ t.second_mileage → IsTrackGraph (graph_towards east t)
 is_track_graph t true e apart = let g = graph_towards true t in record {
   nodes = below_one (λ e. ((edge g e).west < 2) × ((edge g e).east < 2)) (omega arith, omega arith);
-  forward = below_one (λ e. mileage g (edge g e).west <ℤ mileage g (edge g e).east) (in_order t.begin_mileage t.end_mileage true e apart);
+  forward = below_one (λ e. mileage g (edge g e).west <ℤ mileage g (edge g e).east) (in_order t.first_mileage t.second_mileage true e apart);
   met = below_one (λ e. IsPortOf g (edge g e).west e × IsPortOf g (edge g e).east e) (is_met, is_met);
   ports = below_two (λ n. ArePortsOf g n (node g n).ports)
       (record { there = one_edge_there; apart = one_edge_apart; placed = refl })
@@ -171,20 +171,20 @@ is_track_graph t true e apart = let g = graph_towards true t in record {
 }
 is_track_graph t false e apart = let g = graph_towards false t in record {
   nodes = below_one (λ e. ((edge g e).west < 2) × ((edge g e).east < 2)) (omega arith, omega arith);
-  forward = below_one (λ e. mileage g (edge g e).west <ℤ mileage g (edge g e).east) (in_order t.begin_mileage t.end_mileage false e apart);
+  forward = below_one (λ e. mileage g (edge g e).west <ℤ mileage g (edge g e).east) (in_order t.first_mileage t.second_mileage false e apart);
   met = below_one (λ e. IsPortOf g (edge g e).west e × IsPortOf g (edge g e).east e) (is_met, is_met);
   ports = below_two (λ n. ArePortsOf g n (node g n).ports)
       (record { there = one_edge_there; apart = one_edge_apart; placed = refl })
       (record { there = one_edge_there; apart = one_edge_apart; placed = refl });
 }
 
-pub straight_is_track_graph : (t : StraightTrack) → t.begin_mileage ≢ t.end_mileage → IsTrackGraph (graph_of t)
+pub straight_is_track_graph : (t : StraightTrack) → t.first_mileage ≢ t.second_mileage → IsTrackGraph (graph_of t)
 straight_is_track_graph t apart = is_track_graph t (goes_east t) refl apart
 
--- mileages in micrometres differ where the metres do
-pub mileages_apart : (f : StraightFile) → IsStraightFile f → (track_of f).begin_mileage ≢ (track_of f).end_mileage
-mileages_apart f is e =
-    let a = metres f.begin.mileage in
-    let b = metres f.end.mileage in
-    let k : 1000000 * a ≡ 1000000 * b = cc in
-    is.apart (omega (arith, k))
+-- the mileages differ in the order of the file too
+pub mileages_apart : (track : Track) → IsBare track → (track_of track).first_mileage ≢ (track_of track).second_mileage
+mileages_apart track bare =
+    elim (nat_lt track.begin.at track.end.at) as (λ b. (cond b track.begin track.end).mile.0 ≢ (cond b track.end track.begin).mile.0) [
+      | true ↦ bare.apart
+      | false ↦ λ e. bare.apart (sym e)
+    ]

@@ -7,6 +7,8 @@ use Rattle.outside_io.specs.Counts.{Rose, rose_by}
 use Rattle.outside_io.specs.Given.{AppendsPrefix}
 use Rattle.plan_core.specs.declared.criterion.Criterion.{Criterion}
 use Rattle.plan_core.specs.declared.criterion.Criterion.TheVariants.{Height, Bends, Diagonal, Width}
+use Rattle.plan_core.specs.declared.topology.Topology.{Topology}
+use Rattle.plan_core.specs.declared.topology.Track.{Track}
 use Rattle.plan_core.specs.Grid.{GridSize, grid_size}
 use Rattle.plan_core.specs.Graph.{Graph, IsTrackGraph}
 use Rattle.plan_core.specs.Drawing.{Drawing}
@@ -15,8 +17,8 @@ use Rattle.schematic_main.specs.declared.fault.RunFault.{RunFault}
 use Rattle.schematic_main.specs.declared.fault.RunFault.TheVariants.{NotBuilt, ReadFailed}
 use Rattle.schematic_main.specs.Fault.{fault_line, fault_status}
 use Rattle.schematic_main.specs.Words.{Command, Draw, command_of}
-use Rattle.schematic_main.specs.StraightFile.{StraightFile, Spells}
-use Rattle.schematic_main.specs.StraightTrack.{track_of, graph_of, none_above}
+use Rattle.schematic_main.specs.StraightTrack.{IsOneTrack, HasStraightTrack, track_of, graph_of, none_above}
+use Rattle.schematic_main.specs.Input.{HasTopology, HasFault}
 use Rattle.schematic_main.specs.Sheet.{Best, sheet_text}
 
 -- what draw takes where nothing else is said: a grid of 40 by 8, and height before bends before diagonal
@@ -40,21 +42,27 @@ pub record IsFault (fault : RunFault) (status : ℕ) (text : List ℕ) : Type 0 
   pub status_is : status ≡ fault_status fault
   pub line_is : text ≡ fault_line fault
 
--- the bytes are a file with one straight track, and the text is a best sheet of its graph
-pub record IsDrawn (bytes : List ℕ) (status : ℕ) (text : List ℕ) : Type 0 where
+-- the topology is a straight track, and the text a best sheet of its graph
+pub record IsDrawn (t : Topology) (status : ℕ) (text : List ℕ) : Type 0 where
   pub status_is : status ≡ 0
-  pub file : StraightFile
-  pub spelled : Spells bytes file
-  pub sheet : IsBestSheet (graph_of (track_of file)) none_above default_grid default_order text
+  pub track : Track
+  pub one : IsOneTrack t track
+  pub sheet : IsBestSheet (graph_of (track_of track)) none_above default_grid default_order text
 
--- the bytes are no such file, and the answer says that such files aren't drawn yet
-pub record IsTurnedDown (bytes : List ℕ) (status : ℕ) (text : List ℕ) : Type 0 where
-  pub other : (file : StraightFile) → Spells bytes file → ⊥
+-- the topology is no such track, and the answer says that it isn't drawn yet
+pub record IsTurnedDown (t : Topology) (status : ℕ) (text : List ℕ) : Type 0 where
+  pub other : HasStraightTrack t → ⊥
   pub fault : IsFault NotBuilt status text
 
--- what draw answers to the bytes of its file
+-- what draw answers to a topology
+abbrev pub IsAnswered : Topology → ℕ → List ℕ → Type 0
+IsAnswered t status text = IsDrawn t status text ⊎ IsTurnedDown t status text
+
+-- what draw answers to the bytes of its file: the drawing of their topology, or the fault that they have
 abbrev pub IsJudged : List ℕ → ℕ → List ℕ → Type 0
-IsJudged bytes status text = IsDrawn bytes status text ⊎ IsTurnedDown bytes status text
+IsJudged bytes status text =
+    ((t : Topology) × HasTopology bytes t × IsDrawn t status text)
+    ⊎ ((fault : RunFault) × HasFault bytes fault × IsFault fault status text)
 
 -- an input couldn't be read: the count of read faults rose, and so many reads had been done before
 pub record ReadFails {Self : Type 0} (faults reads : Self → ℕ) (old new : Self) (before : ℕ) : Type 0 where
@@ -78,14 +86,13 @@ IsAnswerTo (Some (Draw input)) contents fails status text = IsDrawAnswer input c
 abbrev pub IsAnswer : List (List ℕ) → Option Told → (ℕ → Type 0) → ℕ → List ℕ → Type 0
 IsAnswer words contents fails status text = IsAnswerTo (command_of words) contents fails status text
 
--- the words ask for the drawing of a file that is told, and that has one straight track
-pub record AsksForStraightTrack (words : List (List ℕ)) (contents : Option Told) : Type 0 where
+-- the words ask for the drawing of a file that is told, and that has none of the faults
+pub record AsksForSoundFile (words : List (List ℕ)) (contents : Option Told) : Type 0 where
   pub input : List ℕ
   pub accepted : command_of words ≡ Some (Draw input)
   pub bytes : List ℕ
   pub there : TellsAt contents input (Some bytes)
-  pub file : StraightFile
-  pub spelled : Spells bytes file
+  pub sound : (fault : RunFault) → HasFault bytes fault → ⊥
 
 -- a whole text with this property was given
 abbrev pub GivenAll : Option (List ℕ) → Option (List ℕ) → (List ℕ → Type 0) → Type 0

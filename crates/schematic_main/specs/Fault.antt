@@ -1,13 +1,66 @@
 -- Why a run ends with one fault line: the line, and the status.
-use Rattle.std.specs.Prelude.{ℕ, List, ◌++◌, codes}
+use Rattle.std.specs.Prelude.{ℕ, List, [], ◌∷◌, ◌++◌, codes}
 use Rattle.std.specs.Fmt.{decimal}
+use Rattle.railml_text.specs.declared.fault.TextWhat.{TextWhat}
+use Rattle.railml_text.specs.declared.fault.TextWhat.TheVariants as texts
+use Rattle.railml_text.specs.Faults as text_faults
+use Rattle.railml_topology.specs.declared.fault.TopologyWhat.{TopologyWhat}
+use Rattle.railml_topology.specs.declared.fault.TopologyWhat.TheVariants as topologies
+use Rattle.railml_topology.specs.Faults as topology_faults
 use Rattle.schematic_main.specs.declared.fault.RunFault.{RunFault}
-use Rattle.schematic_main.specs.declared.fault.RunFault.TheVariants.{NotBuilt, ReadFailed}
+use Rattle.schematic_main.specs.declared.fault.RunFault.TheVariants.{NotBuilt, Long, Text, Topology, ReadFailed}
+use Rattle.schematic_main.specs.Sheet.{line_text}
+
+abbrev pub text_word : TextWhat → List ℕ
+text_word texts.NotUtf8 = codes "NotUtf8"
+text_word texts.Encoding = codes "Encoding"
+text_word texts.Doctype = codes "Doctype"
+text_word texts.Markup = codes "Markup"
+text_word texts.Entity = codes "Entity"
+text_word texts.EndTag = codes "EndTag"
+text_word texts.RepeatedAttribute = codes "RepeatedAttribute"
+text_word texts.Root = codes "Root"
+text_word texts.Unfinished = codes "Unfinished"
+text_word texts.AfterRoot = codes "AfterRoot"
+text_word texts.Depth = codes "Depth"
+text_word texts.NoInfrastructure = codes "NoInfrastructure"
+
+abbrev pub topology_word : TopologyWhat → List ℕ
+topology_word topologies.NoTracks = codes "NoTracks"
+topology_word topologies.TooMany = codes "TooMany"
+topology_word topologies.Missing = codes "Missing"
+topology_word topologies.Id = codes "Id"
+topology_word topologies.RepeatedId = codes "RepeatedId"
+topology_word topologies.Number = codes "Number"
+topology_word topologies.UnknownRef = codes "UnknownRef"
+topology_word topologies.NotMutual = codes "NotMutual"
+topology_word topologies.SelfRef = codes "SelfRef"
+topology_word topologies.EndKind = codes "EndKind"
+topology_word topologies.Course = codes "Course"
+topology_word topologies.Orientation = codes "Orientation"
+topology_word topologies.OutsideTrack = codes "OutsideTrack"
+
+-- the texts that a topology fault of this kind tells, of the two that it may have
+abbrev pub texts_told : TopologyWhat → List ℕ → List ℕ → List (List ℕ)
+texts_told topologies.NoTracks first second = []
+texts_told topologies.TooMany first second = []
+texts_told topologies.Id first second = []
+texts_told topologies.Number first second = first ∷ second ∷ []
+texts_told topologies.NotMutual first second = first ∷ second ∷ []
+texts_told what first second = first ∷ []
+
+-- the fields that say which fault of a table was found, and where
+abbrev pub found_fields : ℕ → List ℕ → ℕ → List (List ℕ)
+found_fields number word at = decimal number ∷ word ∷ codes "at" ∷ decimal at ∷ []
 
 abbrev pub fault_line : RunFault → List ℕ
 fault_line NotBuilt = codes "not built\n"
-fault_line (ReadFailed input) = codes "read failed " ++ decimal input ++ codes "\n"
+fault_line (Long input) = line_text (codes "long") (decimal input ∷ [])
+fault_line (Text what at) = line_text (codes "text") (found_fields (text_faults.number_of what) (text_word what) at)
+fault_line (Topology what at first second) =
+    line_text (codes "topology") (found_fields (topology_faults.number_of what) (topology_word what) at ++ texts_told what first second)
+fault_line (ReadFailed input) = line_text (codes "read failed") (decimal input ∷ [])
 
 abbrev pub fault_status : RunFault → ℕ
-fault_status NotBuilt = 1
 fault_status (ReadFailed input) = 5
+fault_status fault = 1

@@ -1,9 +1,7 @@
 pub mod Words
-pub mod StraightFile
-pub mod StraightReading
-pub mod StraightParts
-pub mod StraightTrack
 pub mod Sheet
+pub mod StraightTrack
 pub mod StraightSheet
 pub mod Fault
+pub mod Input
 pub mod Answer

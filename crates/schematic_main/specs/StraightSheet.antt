@@ -15,10 +15,10 @@ head_text grid order = codes "railplan 1\n" ++ grid_line grid ++ order_line orde
 abbrev pub ends_text : StraightTrack → Drawing → List ℕ
 ends_text t d =
     line_text (codes "nodes") (decimal 2 ∷ [])
-    ++ line_text (codes "node") (decimal 0 ∷ t.begin_name ∷ coordinates (place d 0))
-    ++ line_text (codes "node") (decimal 1 ∷ t.end_name ∷ coordinates (place d 1))
+    ++ line_text (codes "node") (decimal 0 ∷ t.first_name ∷ coordinates (place d 0))
+    ++ line_text (codes "node") (decimal 1 ∷ t.second_name ∷ coordinates (place d 1))
 
--- the node at the west of the edge: the begin where the track goes east
+-- the node at the west of the edge: the first where the track goes east
 abbrev pub west_of : Bool → ℕ
 west_of true = 0
 west_of false = 1

@@ -3,16 +3,17 @@
 //! `run` is the top call. It is generic over the files that it reads and the sink that it puts its
 //! answer to, so its contract can say what was put: `specs/Answer` has what a run owes, by command.
 //! `specs/Words` says which words are accepted, `specs/Fault` which line and which status each
-//! fault has, `specs/Sheet` what a drawing text is, and `specs/StraightFile` and
-//! `specs/StraightTrack` which files are drawn, and what their track graph is.
+//! fault has, `specs/Input` what the bytes of a file are to a run (a topology, or the first fault),
+//! `specs/StraightTrack` which topologies are drawn and what their track graph is, and `specs/Sheet`
+//! what a drawing text is.
 //! `main` makes the system's files and output, calls `run` and ends with its status.
 //! The crate stands on all others, and nothing stands on it.
 #![tactic(auto)]
 
 mod fault;
+mod input;
 mod run;
 mod sheet;
-mod straight_file;
 mod straight_track;
 #[cfg(test)]
 mod tests;

@@ -4,18 +4,15 @@ ghost use Rattle.outside_io.specs.Counts.{Rose};
 ghost use Rattle.outside_io.specs.Contents.{WhereTold, SameFiles};
 ghost use Rattle.schematic_main.specs.declared.fault.RunFault.TheVariants.{NotBuilt, ReadFailed};
 ghost use Rattle.schematic_main.specs.Words.{texts_of, command_of};
-ghost use Rattle.schematic_main.specs.Answer.{IsFault, IsJudged, IsDrawAnswer, IsAnswer, AsksForStraightTrack, IsUnread, ReadFails, GivenAll, GivenPrefix};
+ghost use Rattle.schematic_main.specs.Answer.{IsFault, IsJudged, IsAnswered, IsDrawAnswer, IsAnswer, AsksForSoundFile, IsUnread, ReadFails, GivenAll, GivenPrefix};
 
 use crate::fault::RunFault;
-use crate::straight_file::straight_file_in;
-use crate::straight_track::best_sheet;
+use crate::input::{FILE_LIMIT, Refusal, topology_in};
+use crate::straight_track::{best_sheet, straight_track_in};
 use crate::words::input_name;
 use outside_io::{FileFault, Files, Sink, SinkFault};
-use plan_core::OutOfMemory;
+use plan_core::{OutOfMemory, Topology};
 use std::alloc::Global;
-
-/// The greatest number of bytes that a railML file may have.
-const FILE_LIMIT: usize = 4_194_304;
 
 /// A status, and the text that goes with it.
 #[derive(Drop)]
@@ -33,22 +30,35 @@ fn fault_reply(alloc: Global, fault: RunFault) -> Result<Reply, OutOfMemory>
     })
 }
 
-/// What `draw` answers to the bytes of its file.
-fn judge(alloc: Global, bytes: &[u8]) -> Result<Reply, OutOfMemory>
-    ensures { IfOk result (λ r. IsJudged bytes.now r.status r.text.items) }
+/// What `draw` answers to a topology.
+fn answer_to(alloc: Global, topology: &Topology) -> Result<Reply, OutOfMemory>
+    ensures { IfOk result (λ r. IsAnswered topology.now r.status r.text.items) }
 {
-    match straight_file_in(bytes) {
-        Some(file) => Ok(Reply {
+    match straight_track_in(topology) {
+        Some(track) => Ok(Reply {
             status: 0,
-            text: best_sheet(alloc, &file)?,
+            text: best_sheet(alloc, track)?,
         }),
         None => fault_reply(alloc, RunFault::NotBuilt),
+    }
+}
+
+/// What `draw` answers to the bytes of its file.
+fn judge(alloc: Global, bytes: &[u8]) -> Result<Reply, OutOfMemory>
+    ensures answer { IfOk result (λ r. IsJudged bytes.now r.status r.text.items) }
+    ensures statuses { IfOk result (λ r. (r.status ≡ 0) ⊎ (r.status ≡ 1)) }
+{
+    match topology_in(alloc, bytes) {
+        Ok(topology) => answer_to(alloc, &topology),
+        Err(Refusal::Fault(fault)) => fault_reply(alloc, fault),
+        Err(Refusal::Memory) => Err(OutOfMemory),
     }
 }
 
 /// What `draw` answers.
 fn draw<F: Files>(alloc: Global, input: &str, files: &mut F) -> Result<Reply, OutOfMemory>
     ensures answer { IfOk result (λ r. IsDrawAnswer input.now (F.contents files.old) (ReadFails F.read_faults F.reads files.old files.new) r.status r.text.items) }
+    ensures statuses { IfOk result (λ r. (r.status ≡ 0) ⊎ (r.status ≡ 1) ⊎ (r.status ≡ 5)) }
     ensures read_fault { IfOk result (λ r. r.status ≡ 5 → ReadFails F.read_faults F.reads files.old files.new 0) }
     ensures later { F.read_faults files.old ≤ F.read_faults files.new }
     ensures same { WhereTold (F.contents files.old) (F.contents files.new) SameFiles }
@@ -64,6 +74,7 @@ fn draw<F: Files>(alloc: Global, input: &str, files: &mut F) -> Result<Reply, Ou
 /// What the words are answered with.
 fn reply_to<F: Files>(alloc: Global, words: &[String], files: &mut F) -> Result<Reply, OutOfMemory>
     ensures answer { IfOk result (λ r. IsAnswer (texts_of words.now) (F.contents files.old) (ReadFails F.read_faults F.reads files.old files.new) r.status r.text.items) }
+    ensures statuses { IfOk result (λ r. (r.status ≡ 0) ⊎ (r.status ≡ 1) ⊎ (r.status ≡ 5)) }
     ensures read_fault { IfOk result (λ r. r.status ≡ 5 → ReadFails F.read_faults F.reads files.old files.new 0) }
     ensures unread { command_of (texts_of words.now) ≡ None → IsUnread F.read_faults F.reads files.old files.new }
     ensures later { F.read_faults files.old ≤ F.read_faults files.new }
@@ -77,8 +88,8 @@ fn reply_to<F: Files>(alloc: Global, words: &[String], files: &mut F) -> Result<
 
 /// Carries out the command that the words ask for, over files and a sink that are handed in, and
 /// answers the status that the program ends with:
-/// 0 where a drawing was put, 1 where the words or the file ask for what isn't built, 5 where a
-/// file couldn't be read, 6 where the sink failed, and 7 for want of memory.
+/// 0 where a drawing was put, 1 where the file has a fault, or words or file ask for what isn't built,
+/// 5 where a file couldn't be read, 6 where the sink failed, and 7 for want of memory.
 pub fn run<F: Files, O: Sink>(alloc: Global, words: &[String], files: &mut F, out: &mut O) -> u8
     // Every run that isn't cut short has put a whole text: what its command owes with its status.
     ensures answer { result ≢ 6 → result ≢ 7 → GivenAll (O.given out.old) (O.given out.new) (IsAnswer (texts_of words.now) (F.contents files.old) (ReadFails F.read_faults F.reads files.old files.new) result) }
@@ -89,7 +100,7 @@ pub fn run<F: Files, O: Sink>(alloc: Global, words: &[String], files: &mut F, ou
     // The causes of the faults from outside, and what follows where there is none.
     ensures read_fault { result ≡ 5 → ReadFails F.read_faults F.reads files.old files.new 0 }
     ensures write_fault { result ≡ 6 → Rose (O.faults out.old) (O.faults out.new) }
-    ensures completes { AsksForStraightTrack (texts_of words.now) (F.contents files.old) → ¬ Rose (F.read_faults files.old) (F.read_faults files.new) → ¬ Rose (O.faults out.old) (O.faults out.new) → (result ≡ 0) ⊎ (result ≡ 7) }
+    ensures completes { AsksForSoundFile (texts_of words.now) (F.contents files.old) → ¬ Rose (F.read_faults files.old) (F.read_faults files.new) → ¬ Rose (O.faults out.old) (O.faults out.new) → (result ≡ 0) ⊎ (result ≡ 7) }
 
     // Nothing is read for words that aren't accepted, and no file is changed.
     ensures unread { command_of (texts_of words.now) ≡ None → IsUnread F.read_faults F.reads files.old files.new }

@@ -16,7 +16,7 @@ pub fn push_text(into: &mut Vec<u8>, text: &[u8]) -> Result<(), OutOfMemory>
 }
 
 /// Appends a space and a text.
-fn push_field(into: &mut Vec<u8>, text: &[u8]) -> Result<(), OutOfMemory>
+pub fn push_field(into: &mut Vec<u8>, text: &[u8]) -> Result<(), OutOfMemory>
     ensures { OnOk result (into.new.items ≡ into.old.items ++ (32 ∷ text.now)) }
 {
     into.push(b' ')?;
@@ -25,11 +25,19 @@ fn push_field(into: &mut Vec<u8>, text: &[u8]) -> Result<(), OutOfMemory>
 }
 
 /// Appends a space and a number.
-fn push_number(into: &mut Vec<u8>, n: u32) -> Result<(), OutOfMemory>
+pub fn push_number(into: &mut Vec<u8>, n: u32) -> Result<(), OutOfMemory>
     ensures { OnOk result (into.new.items ≡ into.old.items ++ (32 ∷ decimal n)) }
 {
     let mut digits = Buffer::new();
     push_field(into, digits.format(n).as_bytes())
+}
+
+/// Appends a space and a place in a file.
+pub fn push_place(into: &mut Vec<u8>, at: usize) -> Result<(), OutOfMemory>
+    ensures { OnOk result (into.new.items ≡ into.old.items ++ (32 ∷ decimal at)) }
+{
+    let mut digits = Buffer::new();
+    push_field(into, digits.format(at).as_bytes())
 }
 
 /// Appends the line that tells the grid.

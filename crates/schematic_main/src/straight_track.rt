@@ -1,17 +1,14 @@
 // Drawing a straight track.
-ghost use Rattle.std.specs.Prelude.{◌≡◌, ◌++◌, length, IfOk, OnOk};
+ghost use Rattle.std.specs.Prelude.{◌≡◌, ◌++◌, ◌↔◌, nat_lt, IsTrue, length, IfOk, OnOk, MatchOption};
 ghost use Rattle.schematic_main.specs.Answer.{IsBestSheet, default_grid, default_order};
 ghost use Rattle.schematic_main.specs.StraightSheet.{head_text, ends_text, west_of, track_text};
-ghost use Rattle.schematic_main.specs.StraightFile.{IsStraightFile};
-ghost use Rattle.schematic_main.specs.StraightParts.{file_parts};
-ghost use Rattle.schematic_main.specs.StraightTrack.{track_of, goes_east, graph_of, none_above, level_drawing};
+ghost use Rattle.schematic_main.specs.StraightTrack.{IsBare, IsOneTrack, HasStraightTrack, track_of, goes_east, graph_of, none_above, level_drawing, first_end as first_of, second_end as second_of};
 
 use crate::sheet::{
     push_count_line, push_edge_line, push_grid_line, push_node_line, push_order_line, push_text,
     push_values_line,
 };
-use crate::straight_file::{StraightFile, metres_of};
-use plan_core::{Criterion, EdgeNo, Grid, NodeNo, Order, OutOfMemory, Point};
+use plan_core::{Criterion, EdgeNo, End, Grid, NodeNo, Order, OutOfMemory, Point, Topology, Track};
 use plan_geometry::{Drawing, Line, values};
 use std::alloc::Global;
 
@@ -22,12 +19,72 @@ const DEFAULT_ORDER: [Criterion; 4] = [
     Criterion::Width,
 ];
 
-/// Whether mileages grow from the track's begin to its end.
-fn is_eastward(file: &StraightFile<'_>) -> bool
-    requires { IsStraightFile (file_parts file.now) }
-    ensures { result ≡ goes_east (track_of (file_parts file.now)) }
+/// Whether nothing stands on the track, neither end is joined, and the ends have two mileages.
+fn is_bare(track: &Track) -> bool
+    ensures { IsTrue result ↔ IsBare track.now }
 {
-    metres_of(file.begin.mileage) < metres_of(file.end.mileage)
+    track.inner.is_empty()
+        && track.begin.joined.is_none()
+        && track.end.joined.is_none()
+        && track.begin.mile != track.end.mile
+}
+
+/// The one track of the topology, or `None` exactly where it isn't a straight track.
+pub fn straight_track_in(topology: &Topology) -> Option<&Track>
+    ensures { MatchOption result (HasStraightTrack topology.now → ⊥) (λ track. IsOneTrack topology.now track.now) }
+{
+    match topology.tracks.as_slice() {
+        [track] if is_bare(track) => Some(track),
+        _ => None,
+    }
+}
+
+/// Whether the begin stands before the end in the file.
+fn is_begin_first(track: &Track) -> bool
+    ensures { result ≡ nat_lt track.now.begin.at track.now.end.at }
+{
+    track.begin.at < track.end.at
+}
+
+/// The end that stands first in the file.
+fn first_end(track: &Track) -> &End
+    ensures { result.now ≡ first_of track.now }
+{
+    if is_begin_first(track) {
+        &track.begin
+    } else {
+        &track.end
+    }
+}
+
+/// The end that stands second in the file.
+fn second_end(track: &Track) -> &End
+    ensures { result.now ≡ second_of track.now }
+{
+    if is_begin_first(track) {
+        &track.end
+    } else {
+        &track.begin
+    }
+}
+
+/// Whether mileages grow from the end that stands first to the other.
+fn is_eastward(track: &Track) -> bool
+    ensures { result ≡ goes_east (track_of track.now) }
+{
+    first_end(track).mile.0 < second_end(track).mile.0
+}
+
+fn first_name(track: &Track) -> &[u8]
+    ensures { result.now ≡ (track_of track.now).first_name }
+{
+    first_end(track).id.bytes()
+}
+
+fn second_name(track: &Track) -> &[u8]
+    ensures { result.now ≡ (track_of track.now).second_name }
+{
+    second_end(track).id.bytes()
 }
 
 /// The west node at column 0, the east node at column 1, and a level line between them.
@@ -58,21 +115,17 @@ fn default_head(alloc: Global) -> Result<Vec<u8>, OutOfMemory>
 }
 
 /// Appends the lines of the two nodes.
-fn push_ends(
-    into: &mut Vec<u8>,
-    file: &StraightFile<'_>,
-    drawing: &Drawing,
-) -> Result<(), OutOfMemory>
+fn push_ends(into: &mut Vec<u8>, track: &Track, drawing: &Drawing) -> Result<(), OutOfMemory>
     requires { length drawing.now.places ≡ 2 }
-    ensures { OnOk result (into.new.items ≡ into.old.items ++ ends_text (track_of (file_parts file.now)) drawing.now) }
+    ensures { OnOk result (into.new.items ≡ into.old.items ++ ends_text (track_of track.now) drawing.now) }
 {
     push_count_line(into, b"nodes", 2)?;
-    push_node_line(into, 0, file.begin.id, drawing.place(NodeNo(0)))?;
-    push_node_line(into, 1, file.end.id, drawing.place(NodeNo(1)))?;
+    push_node_line(into, 0, first_name(track), drawing.place(NodeNo(0)))?;
+    push_node_line(into, 1, second_name(track), drawing.place(NodeNo(1)))?;
     Ok(())
 }
 
-/// The number of the west node: that of the begin where the track goes east.
+/// The number of the west node: that of the first end where the track goes east.
 fn node_at_west(eastward: bool) -> u16
     ensures { result ≡ west_of eastward }
 {
@@ -97,14 +150,14 @@ fn push_track(into: &mut Vec<u8>, eastward: bool, drawing: &Drawing) -> Result<(
 }
 
 /// The text of the best drawing of the track.
-pub fn best_sheet(alloc: Global, file: &StraightFile<'_>) -> Result<Vec<u8>, OutOfMemory>
-    requires { IsStraightFile (file_parts file.now) }
-    ensures { IfOk result (λ text. IsBestSheet (graph_of (track_of (file_parts file.now))) none_above default_grid default_order text.items) }
+pub fn best_sheet(alloc: Global, track: &Track) -> Result<Vec<u8>, OutOfMemory>
+    requires { IsBare track.now }
+    ensures { IfOk result (λ text. IsBestSheet (graph_of (track_of track.now)) none_above default_grid default_order text.items) }
 {
-    let eastward = is_eastward(file);
+    let eastward = is_eastward(track);
     let drawing = draw_level(alloc, eastward)?;
     let mut text = default_head(alloc)?;
-    push_ends(&mut text, file, &drawing)?;
+    push_ends(&mut text, track, &drawing)?;
     push_track(&mut text, eastward, &drawing)?;
     push_text(&mut text, b"end best\n")?;
     Ok(text)

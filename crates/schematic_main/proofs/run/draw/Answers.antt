@@ -9,4 +9,4 @@ returns-in-Ok-clause-answer g c =
     IfOk-weaker c.judge.result _ _ (λ r judged.
     inl (from_front _ c.args.input.now c.new-bytes.result.items c.read_front.new.into.items 4194305 _ _ (lit< tt) c.new-bytes.ensures.items c.in-Ok.ensures.ok
     (subst (λ (xs : List ℕ). IsJudged xs r.status r.text.items) c.deref.ensures.value judged)))
-    c.judge.ensures
+    c.judge.ensures.answer

@@ -1,7 +1,6 @@
 use Rattle.std.proofs.Common.{◌≡◌, Bool, Some, ◌++◌, ◌∙◌, ap, subst, arith}
 use Rattle.plan_core.specs.Drawing.{Drawing}
 use Rattle.schematic_main.specs.Answer.{default_grid, default_order}
-use Rattle.schematic_main.specs.StraightParts.{file_parts}
 use Rattle.schematic_main.specs.StraightTrack.{track_of, goes_east, graph_towards, level_drawing}
 use Rattle.schematic_main.specs.StraightSheet.{ends_text, track_text}
 use Rattle.schematic_main.specs.Sheet.{Best, sheet_text}
@@ -11,9 +10,8 @@ use Rattle.schematic_main.proofs.straight_track.best_sheet.Goals as goal
 
 pub returns : goal.returns
 returns c =
-    let file = file_parts c.args.file.now in
-    let track = track_of file in
-    let apart = mileages_apart file c.requires in
+    let track = track_of c.args.track.now in
+    let apart = mileages_apart c.args.track.now c.requires in
     record {
       track_graph = straight_is_track_graph track apart;
       drawn = level_drawing (goes_east track);
