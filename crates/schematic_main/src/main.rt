@@ -12,6 +12,7 @@
 
 mod fault;
 mod input;
+mod laws;
 mod run;
 mod sheet;
 mod straight_track;

@@ -1,0 +1,12 @@
+// What holds of the definitions alone.
+ghost use Rattle.std.specs.Prelude.{◌≡◌, ℕ, List};
+ghost use Rattle.plan_core.specs.declared.topology.Topology.{Topology};
+ghost use Rattle.schematic_main.specs.declared.fault.RunFault.{RunFault};
+ghost use Rattle.schematic_main.specs.Input.{HasTopology, HasFault};
+ghost use Rattle.schematic_main.specs.StraightTrack.{HasStraightTrack};
+
+/// A file isn't both drawn and refused: where its topology is a straight track, it has none of the
+/// faults.
+pub fn drawn_or_refused()
+    ensures { (bytes : List ℕ) (t : Topology) (fault : RunFault) → HasTopology bytes t → HasStraightTrack t → HasFault bytes fault → ⊥ }
+{}
