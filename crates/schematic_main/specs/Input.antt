@@ -39,6 +39,12 @@ HasFault bytes (Topology what at first second) = (rows : List Elem) × HasRows b
 HasFault bytes NotBuilt = (t : Tracks) × HasTopology bytes t × (HasStraightTrack t → ⊥)
 HasFault bytes (ReadFailed input) = ⊥
 
+-- two faults of one kind and one place; which texts a topology's fault tells is said by its table
+abbrev pub AreAlike : RunFault → RunFault → Type 0
+AreAlike (Text what at) (Text other place) = (what ≡ other) × (at ≡ place)
+AreAlike (Topology what at first second) (Topology other place a b) = (what ≡ other) × (at ≡ place)
+AreAlike fault other = fault ≡ other
+
 -- what an answer without a topology says of the bytes
 abbrev pub IsRefusal : List ℕ → Refusal → Type 0
 IsRefusal bytes (refusals.Fault fault) = HasFault bytes fault
