@@ -5,7 +5,7 @@
 //! `specs/Words` says which words are accepted, `specs/Fault` which line and which status each
 //! fault has, `specs/Input` what the bytes of a file are to a run (a topology, or the first fault),
 //! `specs/StraightTrack` which topologies are drawn and what their track graph is, and `specs/Sheet`
-//! what a drawing text is.
+//! what a drawing text is. `laws` says that a file isn't both drawn and refused, and has one fault.
 //! `main` makes the system's files and output, calls `run` and ends with its status.
 //! The crate stands on all others, and nothing stands on it.
 #![tactic(auto)]
