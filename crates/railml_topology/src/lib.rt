@@ -16,6 +16,7 @@ mod courses;
 mod fault;
 mod finding;
 mod ids;
+mod laws;
 mod missing;
 mod numbers;
 mod outside;
@@ -24,6 +25,9 @@ mod references;
 mod rows;
 mod tables;
 mod telling;
+#[cfg(test)]
+mod tests;
 mod tracks;
 
 pub use fault::{ResolveFault, TopologyWhat};
+pub use laws::one_fault;
