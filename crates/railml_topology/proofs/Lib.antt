@@ -16,6 +16,7 @@ pub mod TableLemmas
 pub mod ListLemmas
 pub mod FaultLemmas
 pub mod ToldLemmas
+pub mod LawLemmas
 pub mod PartLemmas
 pub mod OutsideLemmas
 pub mod IdLemmas
