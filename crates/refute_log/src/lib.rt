@@ -8,17 +8,25 @@
 //! searches.
 #![tactic(auto)]
 
+mod fault;
+mod fields;
 mod file_log;
+mod laws;
 mod line;
 mod line_list;
+mod literals;
 mod no_log;
+mod reading;
 mod sink;
 mod writing;
 
+pub use fault::{LineTextFault, LogWhat};
 pub use file_log::{FileLog, Gathered};
+pub use laws::{one_form, one_line, one_line_or_one_fault, right_numbers_make_a_line};
 pub use line::LogLine;
 pub use line_list::LineList;
 pub use no_log::NoLog;
+pub use reading::read_line;
 pub use sink::{LogSink, LogSinkFault};
 pub use writing::write_line;
 
