@@ -3,9 +3,13 @@
 //! A log is the certificate of a drawing: the clauses of its formula, the clauses that the search
 //! learnt, its questions and their answers, one a line. `LogSink` is what a search tells its lines
 //! to, `LineList` keeps them in memory, `NoLog` only counts, and `FileLog` writes them to a file of
-//! files that are lent. `specs/Lines` says which lines are well formed and the text of each,
-//! `specs/Told` what a log tells of its lines. It is the base for the checker of logs and for all that
-//! searches.
+//! files that are lent. `write_line` writes a line's text, and `read_line` reads it.
+//!
+//! `specs/Lines` says which lines are well formed and the text of each, `specs/Told` what a log tells
+//! of its lines, `specs/LineForm` what a text's form is and which of its numbers are right, and
+//! `specs/LineText` which line a text is and which fault it has. `specs/FieldText` is for private
+//! contracts alone; `laws` states what follows from the definitions. It is the base for the checker of
+//! logs and for all that searches.
 #![tactic(auto)]
 
 mod fault;
