@@ -2,7 +2,6 @@
 use Rattle.std.proofs.Common.{◌≡◌, ◌≢◌, ℕ, zero, suc, ◌<◌, ◌≤◌, ◌^◌, ◌++◌, ◌∷◌, [], List, Bool, true, false, IsTrue, leb, length, get_or, decimal, Result, Ok, Err, Option, Some, None, MatchOption, MatchResult, sym, ◌∙◌, ap, subst, refl, arith, inl, inr, lit<, ◌⊎◌}
 use Rattle.std.specs.Bool.{then_some}
 use Rattle.std.specs.Result.{result_ok}
-use Rattle.std.specs.Char.{digit_value}
 use Rattle.std.specs.Str.{IsUtf8}
 use Rattle.std.specs.Str.Parse.{AllDigits, ParsesUnsigned, digits_value}
 use Rattle.std.proofs.lemmas.Bool.Decides.{leb_tells}

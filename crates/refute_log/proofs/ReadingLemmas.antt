@@ -1,5 +1,5 @@
 -- Fields that were read so far, and what the text then has.
-use Rattle.std.proofs.Common.{◌≡◌, ◌≢◌, ℕ, ◌≤◌, Bool, true, false, List, [], ◌∷◌, ◌++◌, length, map, refl, sym, ◌∙◌, ap, subst, arith, append_assoc}
+use Rattle.std.proofs.Common.{◌≡◌, ℕ, Bool, true, false, List, [], ◌∷◌, ◌++◌, map, refl, sym, ◌∙◌, ap, subst, arith, append_assoc}
 use Rattle.std.specs.Char.{IsAsciiDigit}
 use Rattle.std.specs.List.{AllByRecursion}
 use Rattle.cnf_core.specs.Lit.{Literal}
@@ -7,7 +7,7 @@ use Rattle.cnf_core.specs.Clause.{IsThere, AreThere}
 use Rattle.refute_log.specs.declared.fault.LogWhat.TheVariants.{Form, Number}
 use Rattle.refute_log.specs.Lines.{last_var, sign_text, literal_text, literals_text}
 use Rattle.refute_log.specs.LineForm.{Field, IsNumber, AreNumbers, spaced, fields_text, IsLiteral}
-use Rattle.refute_log.specs.FieldText.{IsOneField, IsCut, HasFields, HasLiterals, AddsLiteral, AreRead, IsReadTo, HasFieldsFault}
+use Rattle.refute_log.specs.FieldText.{IsOneField, IsCut, HasLiterals, AddsLiteral, AreRead, IsReadTo, HasFieldsFault}
 
 -- a field ends at its first space
 pub record SameCut (xs ys r s : List ℕ) : Type 0 where

@@ -1,5 +1,5 @@
 -- Numbers that are put in order stand twice exactly where two neighbours are equal.
-use Rattle.std.proofs.Common.{◌≡◌, ◌≢◌, ℕ, ◌+◌, ◌<◌, ◌≤◌, ◌↔◌, ◌⊎◌, Bool, true, false, IsTrue, List, length, get_or, ltb, AllPairs, map, subst, refl, sym, ◌∙◌, ap, arith, inl, inr}
+use Rattle.std.proofs.Common.{◌≡◌, ◌≢◌, ℕ, ◌+◌, ◌<◌, ◌↔◌, Bool, true, false, IsTrue, List, length, get_or, ltb, AllPairs, map, subst, refl, sym, ◌∙◌, ap, arith, inl, inr}
 use Rattle.std.specs.List.{swap, IsAllAdjacentAnswer}
 use Rattle.std.specs.List.Sorted.{IsPermutation, IsSorted, IsStrictlyIncreasing}
 use Rattle.std.specs.Ordering.{nat_cmp}

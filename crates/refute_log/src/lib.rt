@@ -26,7 +26,9 @@ mod writing;
 
 pub use fault::{LineTextFault, LogWhat};
 pub use file_log::{FileLog, Gathered};
-pub use laws::{one_form, one_line, one_line_or_one_fault, right_numbers_make_a_line};
+pub use laws::{
+    one_form, one_line, one_line_or_one_fault, right_numbers_make_a_line, written_is_read_again,
+};
 pub use line::LogLine;
 pub use line_list::LineList;
 pub use no_log::NoLog;

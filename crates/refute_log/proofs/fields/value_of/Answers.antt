@@ -1,4 +1,3 @@
-use Rattle.std.proofs.Common.{◌≡◌, ℕ, ◌<◌, ◌^◌, decimal, Bor, List}
 use Rattle.refute_log.proofs.FieldLemmas.{none_at, from_err, from_ok, decimal_utf8, read_as_value}
 use Rattle.refute_log.proofs.fields.value_of.Goals as goal
 

@@ -1,4 +1,3 @@
-use Rattle.std.proofs.Common.{map, refl}
 use Rattle.refute_log.proofs.TwiceLemmas.{distinct_variables}
 use Rattle.refute_log.proofs.literals.are_distinct.Goals as goal
 

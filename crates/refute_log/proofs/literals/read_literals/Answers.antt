@@ -1,8 +1,6 @@
-use Rattle.std.proofs.Common.{refl, MatchBool, Bool, true, false, subst}
+use Rattle.std.proofs.Common.{refl}
 use Rattle.std.proofs.lemmas.Bool.{false≢true}
-use Rattle.refute_log.specs.LineForm.{IsLiteral}
-use Rattle.refute_log.specs.FieldText.{AddsLiteral}
-use Rattle.refute_log.proofs.ReadingLemmas.{none_read, no_form_at_field, no_form_at_end, read_more, read_wrong, all_right}
+use Rattle.refute_log.proofs.ReadingLemmas.{no_form_at_field, no_form_at_end, read_more, read_wrong, all_right}
 use Rattle.refute_log.proofs.literals.read_literals.Goals as goal
 
 pub returns-then-not-is_number-clause-fault : goal.returns-then-not-is_number-clause-fault
