@@ -1,0 +1,9 @@
+pub mod ArgumentLemmas
+pub mod OrderTextLemmas
+pub mod PlaceLemmas
+pub mod SoundLemmas
+pub mod FirstFaultLemmas
+pub mod WordLemmas
+pub mod FileLemmas
+pub mod PartLemmas
+pub mod AnswerLemmas

@@ -1,0 +1,71 @@
+-- The words behind the command, from left to right: names, and options with their values.
+use Rattle.std.specs.Prelude.{ℕ, ◌+◌, Bool, if◌then◌else◌, ◌||◌, Option, None, Some, List, [], ◌∷◌, codes, map, flat_map, nat_eq, bytes_eq, string_bytes}
+use Rattle.std.specs.List.{starts_with}
+use Rattle.std.specs.declared.string.String.{String}
+use Rattle.std.specs.declared.alloc.Global.{Global}
+use Rattle.plan_words.specs.declared.option_values.OptionWord.TheVariants.{Svg, Log}
+use Rattle.plan_words.specs.declared.arguments.Argument.{Argument}
+use Rattle.plan_words.specs.declared.arguments.Argument.TheVariants.{Name, Setting}
+use Rattle.plan_words.specs.declared.files.FileWord.{FileWord}
+use Rattle.plan_words.specs.OptionValues.{option_word}
+
+-- the bytes of each word
+abbrev pub texts_of : List (String Global) → List (List ℕ)
+texts_of words = map string_bytes words
+
+-- a word that begins with `--` is an option
+abbrev pub is_option : List ℕ → Bool
+is_option word = starts_with nat_eq word (codes "--")
+
+-- the words from this position on: an option takes the word behind it as its value, whatever it is, and
+-- every word that is neither an option nor a value is a name
+abbrev pub arguments_from : ℕ → List (List ℕ) → List Argument
+arguments_from at [] = []
+arguments_from at (word ∷ []) = (if is_option word then Setting at word None else Name at word) ∷ []
+arguments_from at (word ∷ next ∷ rest) =
+    if is_option word then Setting at word (Some next) ∷ arguments_from (at + 2) rest
+    else Name at word ∷ arguments_from (at + 1) (next ∷ rest)
+
+abbrev pub first_of : List (List ℕ) → Option (List ℕ)
+first_of [] = None
+first_of (word ∷ words) = Some word
+
+-- ---- parts of arguments
+
+abbrev pub name_of : Argument → List (List ℕ)
+name_of (Name at word) = word ∷ []
+name_of (Setting at word value) = []
+
+-- the names, in their order
+abbrev pub names_in : List Argument → List (List ℕ)
+names_in arguments = flat_map name_of arguments
+
+abbrev pub option_of : Argument → List (List ℕ)
+option_of (Name at word) = []
+option_of (Setting at word value) = word ∷ []
+
+-- the words of the options, in their order
+abbrev pub options_in : List Argument → List (List ℕ)
+options_in arguments = flat_map option_of arguments
+
+-- the value behind the first option of this word
+abbrev pub value_of : List ℕ → List Argument → Option (List ℕ)
+value_of option [] = None
+value_of option (Name at word ∷ arguments) = value_of option arguments
+value_of option (Setting at word value ∷ arguments) = if bytes_eq word option then value else value_of option arguments
+
+-- whether the option's value names a file
+abbrev pub takes_file : List ℕ → Bool
+takes_file option = bytes_eq option (option_word Svg) || bytes_eq option (option_word Log)
+
+abbrev pub file_word : ℕ → List ℕ → FileWord
+file_word position name = record { position = position; name = name }
+
+abbrev pub file_of : Argument → List FileWord
+file_of (Name at word) = file_word at word ∷ []
+file_of (Setting at word None) = []
+file_of (Setting at word (Some value)) = if takes_file word then file_word (at + 1) value ∷ [] else []
+
+-- the words that name files: the names, and the values of `--svg` and `--log`
+abbrev pub files_in : List Argument → List FileWord
+files_in arguments = flat_map file_of arguments

@@ -1,0 +1,128 @@
+-- What can be wrong with the words of a command line, and which fault counts.
+use Rattle.std.specs.Prelude.{◌≡◌, ◌≢◌, ◌≤◌, ◌<◌, ◌⊎◌, ℕ, ◌+◌, None, Some, List, [], ◌∷◌, ◌++◌, codes, length, map, Contains, AllPairs}
+use Rattle.plan_words.specs.declared.command.CommandWord.{CommandWord}
+use Rattle.plan_words.specs.declared.command.CommandWord.TheVariants.{Draw, Verify, Check, Graph, Make}
+use Rattle.plan_words.specs.declared.option_values.OptionWord.{OptionWord}
+use Rattle.plan_words.specs.declared.arguments.Argument.{Argument}
+use Rattle.plan_words.specs.declared.arguments.Argument.TheVariants.{Name, Setting}
+use Rattle.plan_words.specs.declared.files.FileWord.{FileWord}
+use Rattle.plan_words.specs.declared.fault.WordWhat.{WordWhat}
+use Rattle.plan_words.specs.declared.fault.WordWhat.TheVariants.{NoCommand, UnknownCommand, MissingName, ExtraWord, UnknownOption, RepeatedOption, BadValue}
+use Rattle.plan_words.specs.OptionValues.{option_word, IsSeed, Takes}
+use Rattle.plan_words.specs.Arguments.{arguments_from, names_in, options_in, files_in}
+
+abbrev pub command_word : CommandWord → List ℕ
+command_word Draw = codes "draw"
+command_word Verify = codes "verify"
+command_word Check = codes "check"
+command_word Graph = codes "graph"
+command_word Make = codes "make"
+
+-- the numbers of the table of faults
+abbrev pub number_of : WordWhat → ℕ
+number_of NoCommand = 1
+number_of UnknownCommand = 2
+number_of MissingName = 3
+number_of ExtraWord = 4
+number_of UnknownOption = 5
+number_of RepeatedOption = 6
+number_of BadValue = 7
+
+-- how many names the command has
+abbrev pub name_count : CommandWord → ℕ
+name_count Draw = 1
+name_count Verify = 2
+name_count Check = 3
+name_count Graph = 1
+name_count Make = 1
+
+-- the command takes this name: the number of `make`, and any other that isn't empty
+abbrev pub TakesName : CommandWord → List ℕ → Type 0
+TakesName Make name = (n : ℕ) × IsSeed name n
+TakesName command name = name ≢ []
+
+-- the word is an option of the command; only `draw` has options
+abbrev pub IsOptionOf : CommandWord → List ℕ → Type 0
+IsOptionOf Draw word = (option : OptionWord) × (word ≡ option_word option)
+IsOptionOf command word = ⊥
+
+-- ---- faults of one argument, behind the arguments before it
+
+-- the argument has this fault at this position
+abbrev pub HasFault : CommandWord → List Argument → Argument → WordWhat → ℕ → Type 0
+HasFault command before (Name at name) ExtraWord position = (name_count command ≤ length (names_in before)) × (position ≡ at)
+HasFault command before (Name at name) BadValue position = (TakesName command name → ⊥) × (position ≡ at)
+HasFault command before (Setting at word value) UnknownOption position = (IsOptionOf command word → ⊥) × (position ≡ at)
+HasFault command before (Setting at word value) RepeatedOption position = Contains (options_in before) word × (position ≡ at)
+HasFault command before (Setting at word None) BadValue position = position ≡ at
+HasFault command before (Setting at word (Some value)) BadValue position = (option : OptionWord) × (word ≡ option_word option) × (Takes option value → ⊥) × (position ≡ at + 1)
+HasFault command before argument what position = ⊥
+
+-- one of the arguments has this fault
+pub record SomeHasFault (command : CommandWord) (arguments : List Argument) (what : WordWhat) (position : ℕ) : Type 0 where
+  pub before : List Argument
+  pub argument : Argument
+  pub after : List Argument
+  pub cut : arguments ≡ before ++ argument ∷ after
+  pub fault : HasFault command before argument what position
+
+-- the leftmost of these faults; where several stand at one position, that with the lowest number
+pub record IsLeftmost (command : CommandWord) (arguments : List Argument) (what : WordWhat) (position : ℕ) : Type 0 where
+  pub fault : SomeHasFault command arguments what position
+  pub leftmost : (other : WordWhat) (place : ℕ) → SomeHasFault command arguments other place → position ≤ place
+  pub lowest : (other : WordWhat) → SomeHasFault command arguments other position → number_of what ≤ number_of other
+
+-- no argument has a fault
+abbrev pub HaveNoFault : CommandWord → List Argument → Type 0
+HaveNoFault command arguments = (what : WordWhat) (position : ℕ) → SomeHasFault command arguments what position → ⊥
+
+-- ---- faults of the whole
+
+abbrev pub file_names : List FileWord → List (List ℕ)
+file_names files = map (λ file. file.name) files
+
+-- the first file, from the left, that has the name of an earlier one stands at this position
+pub record IsFirstRepeat (files : List FileWord) (position : ℕ) : Type 0 where
+  pub before : List FileWord
+  pub file : FileWord
+  pub after : List FileWord
+  pub cut : files ≡ before ++ file ∷ after
+  pub distinct : AllPairs (λ a b. a ≢ b) (file_names before)
+  pub again : Contains (file_names before) file.name
+  pub place : position ≡ file.position
+
+-- no argument has a fault, and a name is missing at the end, this position
+pub record IsMissing (command : CommandWord) (arguments : List Argument) (end position : ℕ) : Type 0 where
+  pub sound : HaveNoFault command arguments
+  pub few : length (names_in arguments) < name_count command
+  pub place : position ≡ end
+
+-- no argument has a fault, no name is missing, and two files of `draw` have one name
+pub record HasOneNameTwice (command : CommandWord) (arguments : List Argument) (position : ℕ) : Type 0 where
+  pub sound : HaveNoFault command arguments
+  pub enough : name_count command ≤ length (names_in arguments)
+  pub draws : command ≡ Draw
+  pub repeat : IsFirstRepeat (files_in arguments) position
+
+-- the fault that counts of a command's arguments, behind which this position is the first free one
+abbrev pub IsFaultOfArguments : CommandWord → List Argument → ℕ → WordWhat → ℕ → Type 0
+IsFaultOfArguments command arguments end MissingName position = IsMissing command arguments end position
+IsFaultOfArguments command arguments end BadValue position = IsLeftmost command arguments BadValue position ⊎ HasOneNameTwice command arguments position
+IsFaultOfArguments command arguments end what position = IsLeftmost command arguments what position
+
+-- the words behind a command's own have this fault
+pub record IsFaultBehind (first : List ℕ) (rest : List (List ℕ)) (what : WordWhat) (position : ℕ) : Type 0 where
+  pub command : CommandWord
+  pub named : first ≡ command_word command
+  pub fault : IsFaultOfArguments command (arguments_from 2 rest) (length rest + 2) what position
+
+-- the first word is no command
+pub record IsUnknown (first : List ℕ) (what : WordWhat) (position : ℕ) : Type 0 where
+  pub none : (command : CommandWord) → first ≢ command_word command
+  pub kind : what ≡ UnknownCommand
+  pub place : position ≡ 1
+
+-- the words have this fault, and it is the one that counts
+abbrev pub IsFaultOfWords : List (List ℕ) → WordWhat → ℕ → Type 0
+IsFaultOfWords [] what position = (what ≡ NoCommand) × (position ≡ 1)
+IsFaultOfWords (first ∷ rest) what position = IsUnknown first what position ⊎ IsFaultBehind first rest what position

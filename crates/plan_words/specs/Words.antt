@@ -1,0 +1,72 @@
+-- What the words of a command line ask for.
+use Rattle.std.specs.Prelude.{◌≡◌, ◌≢◌, ◌≤◌, ℕ, Option, MatchOption, List, [], ◌∷◌, length, AllPairs, ⊤}
+use Rattle.plan_core.specs.declared.criterion.Criterion.{Criterion}
+use Rattle.plan_core.specs.declared.criterion.Criterion.TheVariants as criteria
+use Rattle.plan_core.specs.Grid.{GridSize}
+use Rattle.plan_words.specs.declared.command.CommandWord.{CommandWord}
+use Rattle.plan_words.specs.declared.command.CommandWord.TheVariants as words
+use Rattle.plan_words.specs.declared.command.Command.{Command}
+use Rattle.plan_words.specs.declared.command.Command.TheVariants.{Draw, Verify, Check, Graph, Make}
+use Rattle.plan_words.specs.declared.option_values.OptionWord.{OptionWord}
+use Rattle.plan_words.specs.declared.option_values.OptionWord.TheVariants as options
+use Rattle.plan_words.specs.declared.arguments.Argument.{Argument}
+use Rattle.plan_words.specs.declared.fault.WordFault.{WordFault}
+use Rattle.plan_words.specs.declared.fault.WordFault.TheVariants as answers
+use Rattle.plan_words.specs.OptionValues.{option_word, IsWidth, IsHeight, IsBudget, IsSeed, IsOrderText}
+use Rattle.plan_words.specs.Arguments.{arguments_from, names_in, files_in, value_of}
+use Rattle.plan_words.specs.WordFaults.{command_word, name_count, HaveNoFault, file_names, IsFaultOfWords}
+
+-- height before bends before diagonal length before width
+abbrev pub default_order : List Criterion
+default_order = criteria.Height ∷ criteria.Bends ∷ criteria.Diagonal ∷ criteria.Width ∷ []
+
+-- x is what the value means where there is one, and else the default
+abbrev pub IsChosen : {X : Type 0} → Option (List ℕ) → (List ℕ → X → Type 0) → X → X → Type 0
+IsChosen value Means default x = MatchOption value (x ≡ default) (λ text. Means text x)
+
+-- what was given for an option
+abbrev pub given : OptionWord → List Argument → Option (List ℕ)
+given option arguments = value_of (option_word option) arguments
+
+-- the parts of a drawing's command
+pub record IsDrawing (arguments : List Argument) (input : List ℕ) (grid : GridSize) (order : List Criterion) (budget : ℕ) (svg log : Option (List ℕ)) : Type 0 where
+  pub names : names_in arguments ≡ input ∷ []
+  pub width : IsChosen (given options.Width arguments) IsWidth 40 grid.width
+  pub height : IsChosen (given options.Height arguments) IsHeight 8 grid.height
+  pub criteria : IsChosen (given options.Criteria arguments) IsOrderText default_order order
+  pub conflicts : IsChosen (given options.Conflicts arguments) IsBudget 50000 budget
+  pub svg_name : svg ≡ given options.Svg arguments
+  pub log_name : log ≡ given options.Log arguments
+
+abbrev pub word_of : Command → CommandWord
+word_of (Draw input grid order budget svg log) = words.Draw
+word_of (Verify input sheet) = words.Verify
+word_of (Check input sheet log) = words.Check
+word_of (Graph input) = words.Graph
+word_of (Make n) = words.Make
+
+-- the command has the parts that its arguments give
+abbrev pub HasParts : List Argument → Command → Type 0
+HasParts arguments (Draw input grid order budget svg log) = IsDrawing arguments input grid order budget svg log
+HasParts arguments (Verify input sheet) = names_in arguments ≡ input ∷ sheet ∷ []
+HasParts arguments (Check input sheet log) = names_in arguments ≡ input ∷ sheet ∷ log ∷ []
+HasParts arguments (Graph input) = names_in arguments ≡ input ∷ []
+HasParts arguments (Make n) = (name : List ℕ) × (names_in arguments ≡ name ∷ []) × IsSeed name n
+
+-- the arguments of a command without a fault
+pub record AreSound (command : CommandWord) (arguments : List Argument) : Type 0 where
+  pub sound : HaveNoFault command arguments
+  pub enough : name_count command ≤ length (names_in arguments)
+  pub apart : command ≡ words.Draw → AllPairs (λ a b. a ≢ b) (file_names (files_in arguments))
+
+-- the words have no fault, and this is the command that they ask for
+pub record IsCommandOf (words : List (List ℕ)) (command : Command) : Type 0 where
+  pub rest : List (List ℕ)
+  pub first : words ≡ command_word (word_of command) ∷ rest
+  pub sound : AreSound (word_of command) (arguments_from 2 rest)
+  pub parts : HasParts (arguments_from 2 rest) command
+
+-- what an answer without a command says of the words
+abbrev pub IsFaultOf : List (List ℕ) → WordFault → Type 0
+IsFaultOf words (answers.Words what position) = IsFaultOfWords words what position
+IsFaultOf words answers.Memory = ⊤

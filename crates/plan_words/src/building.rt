@@ -1,0 +1,200 @@
+// The command that sound arguments ask for.
+ghost use Rattle.std.specs.Prelude.{◌≡◌, ◌≤◌, ◌<◌, ℕ, List, [], ◌∷◌, length, slice_get, Some, IfOk, MatchOption, ⊤};
+ghost use Rattle.std.specs.Option.{option_copied};
+ghost use Rattle.plan_words.specs.declared.command.CommandWord.TheVariants as words;
+ghost use Rattle.plan_words.specs.declared.option_values.OptionWord.TheVariants as options;
+ghost use Rattle.plan_words.specs.OptionValues.{IsNumberIn, IsWidth, IsHeight, IsBudget, IsSeed, IsOrderText};
+ghost use Rattle.plan_words.specs.Arguments.{names_in};
+ghost use Rattle.plan_words.specs.WordFaults.{name_count};
+ghost use Rattle.plan_words.specs.Soundness.{SoundFrom};
+ghost use Rattle.plan_words.specs.Words.{default_order, IsChosen, given, IsDrawing, word_of, HasParts};
+
+use crate::Command;
+use crate::arguments::Argument;
+use crate::command::CommandWord;
+use crate::files::copy_of;
+use crate::option_values::{OptionWord, number_in, order_in};
+use plan_core::{Criterion, Grid, Order, OutOfMemory, Text};
+use std::alloc::Global;
+
+const DEFAULT_WIDTH: u32 = 40;
+
+const DEFAULT_HEIGHT: u32 = 8;
+
+const DEFAULT_BUDGET: u32 = 50_000;
+
+const DEFAULT_ORDER: [Criterion; 4] = [
+    Criterion::Height,
+    Criterion::Bends,
+    Criterion::Diagonal,
+    Criterion::Width,
+];
+
+/// The name at a place among the names, counted from 0.
+fn name_at(arguments: &[Argument], place: usize) -> &Text
+    requires { place < length (names_in arguments.now) }
+    ensures { slice_get (names_in arguments.now) place ≡ Some result.now }
+{
+    let mut left = place;
+    for argument in arguments {
+        if let Argument::Name { word, .. } = argument {
+            if left == 0 {
+                return word;
+            }
+            left -= 1;
+        }
+    }
+    unreachable!()
+}
+
+/// A copy of the name at a place among the names, counted from 0.
+fn name_copy(alloc: Global, arguments: &[Argument], place: usize) -> Result<Text, OutOfMemory>
+    requires { place < length (names_in arguments.now) }
+    ensures { IfOk result (λ name. slice_get (names_in arguments.now) place ≡ Some name) }
+{
+    copy_of(alloc, name_at(arguments, place))
+}
+
+/// The value that the option was given, if it was.
+fn value_given(arguments: &[Argument], option: OptionWord) -> Option<&Text>
+    ensures { option_copied result ≡ given option arguments.now }
+{
+    for argument in arguments {
+        if let Argument::Setting { word, value, .. } = argument {
+            if word.as_str() == option.word() {
+                return value.as_ref();
+            }
+        }
+    }
+    None
+}
+
+/// The number that the option was given, or the default.
+fn number_given(
+    arguments: &[Argument],
+    option: OptionWord,
+    low: u32,
+    high: u32,
+    default: u32,
+) -> u32
+    requires { MatchOption (given option arguments.now) ⊤ (λ text. (n : ℕ) × IsNumberIn low high text n) }
+    ensures { IsChosen (given option arguments.now) (IsNumberIn low high) default result }
+{
+    match value_given(arguments, option) {
+        Some(text) => match number_in(text.as_str(), low, high) {
+            Some(number) => number,
+            None => unreachable!(),
+        },
+        None => default,
+    }
+}
+
+/// The grid that the options give, or parts of the default in their place.
+fn grid_given(arguments: &[Argument]) -> Grid
+    requires { SoundFrom words.Draw [] arguments.now }
+    ensures width { IsChosen (given options.Width arguments.now) IsWidth 40 result.width }
+    ensures height { IsChosen (given options.Height arguments.now) IsHeight 8 result.height }
+{
+    let width = number_given(arguments, OptionWord::Width, 1, 64, DEFAULT_WIDTH);
+    let height = number_given(arguments, OptionWord::Height, 0, 12, DEFAULT_HEIGHT);
+    match Grid::new(width as u16, height as u16) {
+        Some(grid) => grid,
+        None => unreachable!(),
+    }
+}
+
+fn usual_order() -> Order
+    ensures { result ≡ default_order }
+{
+    match Order::new(&DEFAULT_ORDER) {
+        Some(order) => order,
+        None => unreachable!(),
+    }
+}
+
+/// The order that the option gives, or the default.
+fn order_given(arguments: &[Argument]) -> Order
+    requires { SoundFrom words.Draw [] arguments.now }
+    ensures { IsChosen (given options.Criteria arguments.now) IsOrderText default_order result }
+{
+    match value_given(arguments, OptionWord::Criteria) {
+        Some(text) => match order_in(text.as_str()) {
+            Some(order) => order,
+            None => unreachable!(),
+        },
+        None => usual_order(),
+    }
+}
+
+/// A copy of the file's name that the option was given, if it was.
+fn file_given(
+    alloc: Global,
+    arguments: &[Argument],
+    option: OptionWord,
+) -> Result<Option<Text>, OutOfMemory>
+    ensures { IfOk result (λ name. name ≡ given option arguments.now) }
+{
+    match value_given(arguments, option) {
+        Some(name) => Ok(Some(copy_of(alloc, name)?)),
+        None => Ok(None),
+    }
+}
+
+fn draw_of(alloc: Global, arguments: &[Argument]) -> Result<Command, OutOfMemory>
+    requires sound { SoundFrom words.Draw [] arguments.now }
+    requires enough { 1 ≤ length (names_in arguments.now) }
+    ensures word { IfOk result (λ c. word_of c ≡ words.Draw) }
+    ensures parts { IfOk result (λ c. HasParts arguments.now c) }
+{
+    Ok(Command::Draw {
+        input: name_copy(alloc, arguments, 0)?,
+        grid: grid_given(arguments),
+        order: order_given(arguments),
+        budget: number_given(arguments, OptionWord::Conflicts, 1, 200_000, DEFAULT_BUDGET),
+        svg: file_given(alloc, arguments, OptionWord::Svg)?,
+        log: file_given(alloc, arguments, OptionWord::Log)?,
+    })
+}
+
+/// The number that `make` has as its name.
+fn seed_of(arguments: &[Argument]) -> u32
+    requires sound { SoundFrom words.Make [] arguments.now }
+    requires enough { 1 ≤ length (names_in arguments.now) }
+    ensures { (name : List ℕ) × (names_in arguments.now ≡ name ∷ []) × IsSeed name result }
+{
+    match number_in(name_at(arguments, 0).as_str(), 0, u32::MAX) {
+        Some(number) => number,
+        None => unreachable!(),
+    }
+}
+
+/// The command that the arguments ask for.
+pub(crate) fn command_of(
+    alloc: Global,
+    command: CommandWord,
+    arguments: &[Argument],
+) -> Result<Command, OutOfMemory>
+    requires sound { SoundFrom command [] arguments.now }
+    requires enough { name_count command ≤ length (names_in arguments.now) }
+    ensures word { IfOk result (λ c. word_of c ≡ command) }
+    ensures parts { IfOk result (λ c. HasParts arguments.now c) }
+{
+    match command {
+        CommandWord::Draw => draw_of(alloc, arguments),
+        CommandWord::Verify => Ok(Command::Verify {
+            input: name_copy(alloc, arguments, 0)?,
+            sheet: name_copy(alloc, arguments, 1)?,
+        }),
+        CommandWord::Check => Ok(Command::Check {
+            input: name_copy(alloc, arguments, 0)?,
+            sheet: name_copy(alloc, arguments, 1)?,
+            log: name_copy(alloc, arguments, 2)?,
+        }),
+        CommandWord::Graph => Ok(Command::Graph {
+            input: name_copy(alloc, arguments, 0)?,
+        }),
+        CommandWord::Make => Ok(Command::Make {
+            n: seed_of(arguments),
+        }),
+    }
+}

@@ -1,0 +1,76 @@
+// What the program is asked to do.
+ghost use Rattle.std.specs.Prelude.{◌≡◌, ◌≢◌, MatchOption};
+ghost use Rattle.plan_words.specs.WordFaults.{command_word, name_count as count_of};
+
+use plan_core::{Grid, Order, Text};
+
+/// A word that names a command.
+#[derive(Clone, Copy, Debug, PartialEq, Eq)]
+pub(crate) enum CommandWord {
+    Draw,
+    Verify,
+    Check,
+    Graph,
+    Make,
+}
+
+impl CommandWord {
+    /// The command that the word names, if it names one.
+    pub(crate) fn named(word: &str) -> Option<CommandWord>
+        ensures { MatchOption result ((c : CommandWord) → word.now ≢ command_word c) (λ c. word.now ≡ command_word c) }
+    {
+        match word {
+            "draw" => Some(CommandWord::Draw),
+            "verify" => Some(CommandWord::Verify),
+            "check" => Some(CommandWord::Check),
+            "graph" => Some(CommandWord::Graph),
+            "make" => Some(CommandWord::Make),
+            _ => None,
+        }
+    }
+
+    /// The number of names behind the command.
+    pub(crate) fn name_count(self) -> usize
+        ensures { result ≡ count_of self }
+    {
+        match self {
+            CommandWord::Draw | CommandWord::Graph | CommandWord::Make => 1,
+            CommandWord::Verify => 2,
+            CommandWord::Check => 3,
+        }
+    }
+}
+
+/// What the program is asked to do. Each text is a file's name.
+#[derive(Drop)]
+pub enum Command {
+    /// Draws the railML file `input` on the grid, best in the order, with at most so many learnt
+    /// clauses as the budget says; writes a picture and a log where names are given for them.
+    Draw {
+        input: Text,
+        grid: Grid,
+        order: Order,
+        budget: u32,
+        svg: Option<Text>,
+        log: Option<Text>,
+    },
+    /// Decides whether the drawing in `sheet` is lawful for `input`.
+    Verify {
+        input: Text,
+        sheet: Text,
+    },
+    /// Decides whether `log` certifies what `sheet` claims of `input`.
+    Check {
+        input: Text,
+        sheet: Text,
+        log: Text,
+    },
+    /// Prints the track graph of `input`.
+    Graph {
+        input: Text,
+    },
+    /// Makes a station from a number.
+    Make {
+        n: u32,
+    },
+}

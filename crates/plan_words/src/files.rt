@@ -1,0 +1,90 @@
+// The words that name files.
+ghost use Rattle.std.specs.Prelude.{◌≡◌, ◌≢◌, All, AllPairs, Contains, IfOk, MatchOption, option_to_list};
+ghost use Rattle.std.specs.Bool.{MatchBool};
+ghost use Rattle.plan_words.specs.Arguments.{takes_file as option_takes_file, file_of as named_file, files_in as named_files};
+ghost use Rattle.plan_words.specs.WordFaults.{file_names, IsFirstRepeat};
+ghost use Rattle.plan_words.specs.Soundness.{IsNear};
+
+use crate::arguments::Argument;
+use plan_core::{OutOfMemory, Text};
+use std::alloc::Global;
+
+/// A word that names a file, and where it stands, counted from 1 at the command.
+#[derive(Drop)]
+pub(crate) struct FileWord {
+    pub(crate) position: u32,
+    pub(crate) name: Text,
+}
+
+/// A copy of a text.
+pub(crate) fn copy_of(alloc: Global, text: &Text) -> Result<Text, OutOfMemory>
+    ensures { IfOk result (λ copy. copy ≡ text.now) }
+{
+    Text::from_bytes(alloc, text.bytes())
+}
+
+fn takes_file(option: &str) -> bool
+    ensures { result ≡ option_takes_file option.now }
+{
+    option == "--svg" || option == "--log"
+}
+
+/// The word of the argument that names a file, if it has one.
+fn file_of(alloc: Global, argument: &Argument) -> Result<Option<FileWord>, OutOfMemory>
+    requires { IsNear argument.now }
+    ensures { IfOk result (λ file. option_to_list file ≡ named_file argument.now) }
+{
+    match argument {
+        Argument::Name { position, word } => Ok(Some(FileWord {
+            position: *position as u32,
+            name: copy_of(alloc, word)?,
+        })),
+        Argument::Setting {
+            position,
+            word,
+            value: Some(value),
+        } if takes_file(word.as_str()) => Ok(Some(FileWord {
+            position: *position as u32 + 1,
+            name: copy_of(alloc, value)?,
+        })),
+        Argument::Setting { .. } => Ok(None),
+    }
+}
+
+/// The words that name files.
+pub(crate) fn files_in(alloc: Global, arguments: &[Argument]) -> Result<Vec<FileWord>, OutOfMemory>
+    requires { All IsNear arguments.now }
+    ensures { IfOk result (λ files. files.items ≡ named_files arguments.now) }
+{
+    let mut files = Vec::new(alloc);
+    for argument in arguments {
+        if let Some(file) = file_of(alloc, argument)? {
+            files.push(file)?;
+        }
+    }
+    Ok(files)
+}
+
+/// Whether one of the files has the name.
+fn has_name(files: &[FileWord], name: &Text) -> bool
+    ensures { MatchBool result (Contains (file_names files.now) name.now) (Contains (file_names files.now) name.now → ⊥) }
+{
+    for file in files {
+        if file.name.as_str() == name.as_str() {
+            return true;
+        }
+    }
+    false
+}
+
+/// The position of the first file, from the left, that has the name of an earlier one.
+pub(crate) fn first_repeat(files: &[FileWord]) -> Option<u32>
+    ensures { MatchOption result (AllPairs (λ a b. a ≢ b) (file_names files.now)) (IsFirstRepeat files.now) }
+{
+    for (i, file) in files.iter().enumerate() {
+        if has_name(&files[..i], &file.name) {
+            return Some(file.position);
+        }
+    }
+    None
+}

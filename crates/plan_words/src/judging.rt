@@ -1,0 +1,65 @@
+// The fault that counts of a command's arguments.
+ghost use Rattle.std.specs.Prelude.{◌≡◌, ◌≢◌, ◌≤◌, ◌+◌, ◌*◌, [], length, All, AllPairs, IfOk, IfNone, MatchOption};
+ghost use Rattle.plan_words.specs.declared.command.CommandWord.TheVariants.{Draw};
+ghost use Rattle.plan_words.specs.Arguments.{files_in as named_files};
+ghost use Rattle.plan_words.specs.WordFaults.{file_names, IsFirstRepeat, IsFaultOfArguments};
+ghost use Rattle.plan_words.specs.Soundness.{StandFrom, IsNear, SoundFrom};
+ghost use Rattle.plan_words.specs.Words.{AreSound};
+
+use crate::WordWhat;
+use crate::arguments::Argument;
+use crate::command::CommandWord;
+use crate::files::{files_in, first_repeat};
+use crate::leftmost::{Found, count_names, leftmost_fault};
+use plan_core::OutOfMemory;
+use std::alloc::Global;
+
+/// The position of the first file of `draw`, from the left, that has the name of an earlier one.
+fn repeated_file(
+    alloc: Global,
+    command: CommandWord,
+    arguments: &[Argument],
+) -> Result<Option<u32>, OutOfMemory>
+    requires { All IsNear arguments.now }
+    ensures { IfOk result (λ found. MatchOption found (command ≡ Draw → AllPairs (λ a b. a ≢ b) (file_names (named_files arguments.now))) (λ position. (command ≡ Draw) × IsFirstRepeat (named_files arguments.now) position)) }
+{
+    match command {
+        CommandWord::Draw => {
+            let files = files_in(alloc, arguments)?;
+            Ok(first_repeat(&files))
+        }
+        CommandWord::Verify | CommandWord::Check | CommandWord::Graph | CommandWord::Make => {
+            Ok(None)
+        }
+    }
+}
+
+/// The fault that counts of the arguments, behind which the position `end` is the first free one.
+pub(crate) fn fault_that_counts(
+    alloc: Global,
+    command: CommandWord,
+    arguments: &[Argument],
+    end: usize,
+) -> Result<Option<Found>, OutOfMemory>
+    requires stand { StandFrom 2 arguments.now }
+    requires near { end ≤ 2 + 2 * length arguments.now }
+    ensures fault { IfOk result (λ found. MatchOption found (AreSound command arguments.now) (λ f. IsFaultOfArguments command arguments.now end f.what f.position)) }
+    ensures sound { IfOk result (λ found. IfNone found (SoundFrom command [] arguments.now)) }
+{
+    if let Some(found) = leftmost_fault(command, arguments) {
+        return Ok(Some(found));
+    }
+    if count_names(arguments) < command.name_count() {
+        return Ok(Some(Found {
+            what: WordWhat::MissingName,
+            position: end as u32,
+        }));
+    }
+    match repeated_file(alloc, command, arguments)? {
+        Some(position) => Ok(Some(Found {
+            what: WordWhat::BadValue,
+            position,
+        })),
+        None => Ok(None),
+    }
+}

@@ -1,0 +1,158 @@
+// The leftmost fault of a command's arguments.
+ghost use Rattle.std.specs.Prelude.{◌≡◌, ◌<◌, ◌+◌, ◌^◌, length, Contains, MatchOption, []};
+ghost use Rattle.std.specs.Bool.{MatchBool};
+ghost use Rattle.plan_words.specs.declared.arguments.Argument.TheVariants.{Name, Setting};
+ghost use Rattle.plan_words.specs.OptionValues.{option_word};
+ghost use Rattle.plan_words.specs.Arguments.{names_in, options_in};
+ghost use Rattle.plan_words.specs.WordFaults.{TakesName, IsOptionOf, IsLeftmost};
+ghost use Rattle.plan_words.specs.Soundness.{StandFrom, IsNear, IsFirstFault, IsSoundBehind, SoundFrom};
+
+use crate::WordWhat;
+use crate::arguments::Argument;
+use crate::command::CommandWord;
+use crate::option_values::{OptionWord, number_in};
+use plan_core::Text;
+
+/// A fault, and the position of its word, counted from 1 at the command.
+#[derive(Clone, Copy, Debug, PartialEq, Eq)]
+pub(crate) struct Found {
+    pub(crate) what: WordWhat,
+    pub(crate) position: u32,
+}
+
+/// The number of names among the arguments.
+pub(crate) fn count_names(arguments: &[Argument]) -> usize
+    ensures { result ≡ length (names_in arguments.now) }
+{
+    let mut count = 0;
+    for argument in arguments {
+        if let Argument::Name { .. } = argument {
+            count += 1;
+        }
+    }
+    count
+}
+
+/// Whether the option is among the arguments.
+fn has_option(arguments: &[Argument], option: &str) -> bool
+    ensures { MatchBool result (Contains (options_in arguments.now) option.now) (Contains (options_in arguments.now) option.now → ⊥) }
+{
+    for argument in arguments {
+        if let Argument::Setting { word, .. } = argument {
+            if word.as_str() == option {
+                return true;
+            }
+        }
+    }
+    false
+}
+
+/// The option of the command that the word names, if it names one.
+fn option_of(command: CommandWord, word: &str) -> Option<OptionWord>
+    ensures { MatchOption result (IsOptionOf command word.now → ⊥) (λ o. IsOptionOf command word.now × (word.now ≡ option_word o)) }
+{
+    match command {
+        CommandWord::Draw => OptionWord::named(word),
+        CommandWord::Verify | CommandWord::Check | CommandWord::Graph | CommandWord::Make => None,
+    }
+}
+
+/// Whether the command takes the name.
+fn takes_name(command: CommandWord, name: &str) -> bool
+    ensures { MatchBool result (TakesName command name.now) (TakesName command name.now → ⊥) }
+{
+    match command {
+        CommandWord::Make => number_in(name, 0, u32::MAX).is_some(),
+        CommandWord::Draw | CommandWord::Verify | CommandWord::Check | CommandWord::Graph => {
+            !name.is_empty()
+        }
+    }
+}
+
+/// The fault of a name behind other arguments, if it has one.
+fn name_fault(command: CommandWord, before: &[Argument], position: u32, name: &str) -> Option<Found>
+    ensures { MatchOption result (IsSoundBehind command before.now (Name position name.now)) (λ found. IsFirstFault command before.now (Name position name.now) found.what found.position) }
+{
+    if command.name_count() <= count_names(before) {
+        return Some(Found {
+            what: WordWhat::ExtraWord,
+            position,
+        });
+    }
+    if !takes_name(command, name) {
+        return Some(Found {
+            what: WordWhat::BadValue,
+            position,
+        });
+    }
+    None
+}
+
+/// The first fault of an option behind other arguments, if it has one.
+fn setting_fault(
+    command: CommandWord,
+    before: &[Argument],
+    position: u32,
+    word: &str,
+    value: &Option<Text>,
+) -> Option<Found>
+    requires { position + 1 < 2 ^ 32 }
+    ensures { MatchOption result (IsSoundBehind command before.now (Setting position word.now value.now)) (λ found. IsFirstFault command before.now (Setting position word.now value.now) found.what found.position) }
+{
+    let Some(option) = option_of(command, word) else {
+        return Some(Found {
+            what: WordWhat::UnknownOption,
+            position,
+        });
+    };
+    if has_option(before, word) {
+        return Some(Found {
+            what: WordWhat::RepeatedOption,
+            position,
+        });
+    }
+    let Some(text) = value else {
+        return Some(Found {
+            what: WordWhat::BadValue,
+            position,
+        });
+    };
+    if !option.takes(text.as_str()) {
+        return Some(Found {
+            what: WordWhat::BadValue,
+            position: position + 1,
+        });
+    }
+    None
+}
+
+/// The first fault of an argument behind others, if it has one.
+fn fault_of(command: CommandWord, before: &[Argument], argument: &Argument) -> Option<Found>
+    requires { IsNear argument.now }
+    ensures { MatchOption result (IsSoundBehind command before.now argument.now) (λ found. IsFirstFault command before.now argument.now found.what found.position) }
+{
+    match argument {
+        Argument::Name { position, word } => {
+            name_fault(command, before, *position as u32, word.as_str())
+        }
+        Argument::Setting {
+            position,
+            word,
+            value,
+        } => setting_fault(command, before, *position as u32, word.as_str(), value),
+    }
+}
+
+/// The leftmost fault of the arguments, if they have one. Each argument is looked at with those
+/// before it, which are at most nine where they have no fault.
+pub(crate) fn leftmost_fault(command: CommandWord, arguments: &[Argument]) -> Option<Found>
+    requires { StandFrom 2 arguments.now }
+    ensures { MatchOption result (SoundFrom command [] arguments.now) (λ found. IsLeftmost command arguments.now found.what found.position) }
+{
+    for (i, argument) in arguments.iter().enumerate() {
+        if let Some(found) = fault_of(command, &arguments[..i], argument) {
+            return Some(found);
+        }
+    }
+    None
+}

@@ -1,0 +1,121 @@
+// Options and the values that they take.
+ghost use Rattle.std.specs.Prelude.{◌≡◌, ◌≢◌, ◌≤◌, ℕ, List, length, MatchOption};
+ghost use Rattle.std.specs.Bool.{MatchBool};
+ghost use Rattle.plan_core.specs.declared.criterion.Criterion.{Criterion as Measure};
+ghost use Rattle.plan_words.specs.OptionValues.{option_word, criterion_word, order_text, IsNumberIn, IsOrderText, Takes};
+
+use arrayvec::ArrayVec;
+use itoa::Buffer;
+use plan_core::{Criterion, Order};
+
+/// A word that names an option of `draw`.
+#[derive(Clone, Copy, Debug, PartialEq, Eq)]
+pub(crate) enum OptionWord {
+    Width,
+    Height,
+    Criteria,
+    Conflicts,
+    Svg,
+    Log,
+}
+
+impl OptionWord {
+    /// The option that the word names, if it names one.
+    pub(crate) fn named(word: &str) -> Option<OptionWord>
+        ensures { MatchOption result ((o : OptionWord) → word.now ≢ option_word o) (λ o. word.now ≡ option_word o) }
+    {
+        match word {
+            "--width" => Some(OptionWord::Width),
+            "--height" => Some(OptionWord::Height),
+            "--order" => Some(OptionWord::Criteria),
+            "--conflicts" => Some(OptionWord::Conflicts),
+            "--svg" => Some(OptionWord::Svg),
+            "--log" => Some(OptionWord::Log),
+            _ => None,
+        }
+    }
+
+    /// The option's word.
+    pub(crate) fn word(self) -> &'static str
+        ensures { result.now ≡ option_word self }
+    {
+        match self {
+            OptionWord::Width => "--width",
+            OptionWord::Height => "--height",
+            OptionWord::Criteria => "--order",
+            OptionWord::Conflicts => "--conflicts",
+            OptionWord::Svg => "--svg",
+            OptionWord::Log => "--log",
+        }
+    }
+}
+
+/// The number that the text writes, if it writes one within the limits.
+pub(crate) fn number_in(text: &str, low: u32, high: u32) -> Option<u32>
+    ensures { MatchOption result ((n : ℕ) → IsNumberIn low high text.now n → ⊥) (IsNumberIn low high text.now) }
+{
+    let Ok(number) = text.parse::<u32>() else {
+        return None;
+    };
+    let mut digits = Buffer::new();
+    if digits.format(number) == text && low <= number && number <= high {
+        Some(number)
+    } else {
+        None
+    }
+}
+
+/// The criterion that the word names, if it names one.
+fn criterion_named(word: &str) -> Option<Criterion>
+    ensures { MatchOption result ((c : Measure) → word.now ≢ criterion_word c) (λ c. word.now ≡ criterion_word c) }
+{
+    match word {
+        "height" => Some(Criterion::Height),
+        "bends" => Some(Criterion::Bends),
+        "diagonal" => Some(Criterion::Diagonal),
+        "width" => Some(Criterion::Width),
+        _ => None,
+    }
+}
+
+/// The criteria whose words the text has between its commas, if they are at most four.
+fn criteria_in(text: &str) -> Option<ArrayVec<Criterion, 4>>
+    ensures { MatchOption result ((list : List Measure) → 1 ≤ length list → length list ≤ 4 → text.now ≢ order_text list) (λ list. text.now ≡ order_text list.items) }
+{
+    let mut list = ArrayVec::new();
+    for word in text.split(',') {
+        let Some(criterion) = criterion_named(word) else {
+            return None;
+        };
+        if list.is_full() {
+            return None;
+        }
+        list.push(criterion);
+    }
+    Some(list)
+}
+
+/// The order that the text writes, if it writes one.
+pub(crate) fn order_in(text: &str) -> Option<Order>
+    ensures { MatchOption result ((order : List Measure) → IsOrderText text.now order → ⊥) (IsOrderText text.now) }
+{
+    match criteria_in(text) {
+        Some(list) => Order::new(&list),
+        None => None,
+    }
+}
+
+impl OptionWord {
+    /// Whether the option takes the value.
+    pub(crate) fn takes(self, value: &str) -> bool
+        ensures { MatchBool result (Takes self value.now) (Takes self value.now → ⊥) }
+    {
+        match self {
+            OptionWord::Width => number_in(value, 1, 64).is_some(),
+            OptionWord::Height => number_in(value, 0, 12).is_some(),
+            OptionWord::Criteria => order_in(value).is_some(),
+            OptionWord::Conflicts => number_in(value, 1, 200_000).is_some(),
+            OptionWord::Svg | OptionWord::Log => !value.is_empty(),
+        }
+    }
+}

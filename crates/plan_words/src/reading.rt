@@ -1,0 +1,68 @@
+// The words of the command line.
+ghost use Rattle.std.specs.Prelude.{◌≡◌, ◌⊎◌, ℕ, List, ◌∷◌, IfOk, IfErr, IsErrOf};
+ghost use Rattle.plan_words.specs.declared.command.Command.{Command as Asked};
+ghost use Rattle.plan_words.specs.declared.fault.WordWhat.{WordWhat as What};
+ghost use Rattle.plan_words.specs.Arguments.{texts_of};
+ghost use Rattle.plan_words.specs.WordFaults.{command_word, IsFaultOfWords};
+ghost use Rattle.plan_words.specs.Words.{IsCommandOf, IsFaultOf};
+
+use crate::arguments::arguments_in;
+use crate::building::command_of;
+use crate::command::CommandWord;
+use crate::judging::fault_that_counts;
+use crate::{Command, WordFault, WordWhat};
+use std::alloc::Global;
+
+/// The command that its arguments ask for, or their fault.
+fn read_arguments(
+    alloc: Global,
+    command: CommandWord,
+    words: &[String],
+) -> Result<Command, WordFault>
+    ensures command { (first : List ℕ) → first ≡ command_word command → IfOk result (λ c. IsCommandOf (first ∷ texts_of words.now) c) }
+    ensures fault { (first : List ℕ) → first ≡ command_word command → IfErr result (λ e. IsFaultOf (first ∷ texts_of words.now) e) }
+{
+    let arguments = arguments_in(alloc, words)?;
+    match fault_that_counts(alloc, command, &arguments, words.len() + 2)? {
+        Some(found) => Err(WordFault::Words {
+            what: found.what,
+            position: found.position,
+        }),
+        None => Ok(command_of(alloc, command, &arguments)?),
+    }
+}
+
+/// The command that the words ask for, or their fault.
+fn read_line(alloc: Global, words: &[String]) -> Result<Command, WordFault>
+    ensures command { IfOk result (λ c. IsCommandOf (texts_of words.now) c) }
+    ensures fault { IfErr result (λ e. IsFaultOf (texts_of words.now) e) }
+{
+    let [first, others @ ..] = words else {
+        return Err(WordFault::Words {
+            what: WordWhat::NoCommand,
+            position: 1,
+        });
+    };
+    match CommandWord::named(first.as_str()) {
+        Some(command) => read_arguments(alloc, command, others),
+        None => Err(WordFault::Words {
+            what: WordWhat::UnknownCommand,
+            position: 1,
+        }),
+    }
+}
+
+/// The command that the words ask for, or the one fault of them that counts. The words are those of
+/// the command line, without the program's own name.
+///
+/// Positions count from 1 at the command. The leftmost fault of a name or an option counts; where
+/// there is none, that a name is missing; and then that two files of `draw` have one name.
+pub fn read_words(alloc: Global, words: &[String]) -> Result<Command, WordFault>
+    ensures command { IfOk result (λ c. IsCommandOf (texts_of words.now) c) }
+    ensures fault { IfErr result (λ e. IsFaultOf (texts_of words.now) e) }
+    // Only want of memory may stand in the place of the words' own answer.
+    ensures command_told { (c : Asked) → IsCommandOf (texts_of words.now) c → (result ≡ Ok c) ⊎ IsErrOf result WordFault.Memory }
+    ensures fault_told { (what : What) (position : ℕ) → IsFaultOfWords (texts_of words.now) what position → IsErrOf result (WordFault.Words what position) ⊎ IsErrOf result WordFault.Memory }
+{
+    read_line(alloc, words)
+}
