@@ -23,3 +23,4 @@ pub mod RunEnds
 pub mod RankLemmas
 pub mod ApartLemmas
 pub mod TrackGraphLemmas
+pub mod ResolvedTest
