@@ -24,3 +24,4 @@ pub mod RankLemmas
 pub mod ApartLemmas
 pub mod TrackGraphLemmas
 pub mod ResolvedTest
+pub mod GraphTest

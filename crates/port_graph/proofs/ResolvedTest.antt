@@ -1,56 +1,54 @@
 -- A test by which an example is shown to be a topology as a file gives it.
-use Rattle.std.proofs.Common.{◌≡◌, ◌≢◌, ℕ, ℤ, zero, suc, ◌+◌, ◌^◌, ◌<◌, ◌≤◌, ◌⊎◌, inl, inr, Bool, true, false, not, ◌&&◌, List, [], ◌∷◌, ◌++◌, length, map, Option, Some, None, refl, sym, ap, ◌∙◌, subst, arith, eqb, eqb-true, eq-eqb, ltb-true, leb-true, add-zero, zero-add}
-use Rattle.std.specs.Prelude.{nat_lt, nat_le, nat_eq, All, AllPairs, Contains, slice_get, neg_ℤ, ◌<ℤ◌, bytes_eq, chars, option_to_list, ◌||◌}
-use Rattle.std.specs.Bool.{Decides}
-use Rattle.std.specs.List.{flat_map, enumerate_from, list_all, AllPass}
+use Rattle.std.proofs.Common.{◌≡◌, ◌≢◌, ℕ, ℤ, zero, suc, ◌+◌, ◌^◌, ◌<◌, inl, inr, Bool, true, false, not, ◌&&◌, List, [], ◌∷◌, ◌++◌, length, map, Option, Some, None, refl, sym, ap, ◌∙◌, subst, arith, eqb, eqb-true, eq-eqb, ltb-true, leb-true, add-zero, zero-add, get_or}
+use Rattle.std.specs.Prelude.{nat_lt, nat_le, All, AllPairs, slice_get, neg_ℤ, ◌<ℤ◌, bytes_eq, option_to_list}
+use Rattle.std.specs.List.{flat_map, enumerate_from, list_all}
 use Rattle.std.specs.Cmp.{int_ranks}
 use Rattle.std.specs.Ordering.{int_cmp, MatchOrdering, is_lt}
-use Rattle.std.specs.declared.cmp.Ordering.{Ordering}
 use Rattle.std.specs.declared.cmp.Ordering.TheVariants.{Less, Equal, Greater}
-use Rattle.std.proofs.lemmas.Bool.{false≢true, and_parts}
+use Rattle.std.proofs.lemmas.Bool.{false≢true, and_parts, cases_lt}
+use Rattle.std.proofs.Math.ListN.{get_or-eq_default}
 use Rattle.std.proofs.lemmas.List.Sums.{AllPass-from_list_all}
 use Rattle.std.proofs.lemmas.List.Elements.{All-weaker, All-contains}
 use Rattle.std.proofs.lemmas.List.Kept.{AllPairs-cons}
+use Rattle.std.specs.Str.{IsAscii}
+use Rattle.std.proofs.lemmas.Str.{chars-IsAscii}
 use Rattle.std.proofs.lemmas.Slice.Eq.{bytes_eq-Decides}
 use Rattle.plan_core.specs.declared.topology.Topology.{Topology}
 use Rattle.plan_core.specs.declared.topology.Track.{Track}
 use Rattle.plan_core.specs.declared.topology.End.{End as TrackEnd}
 use Rattle.plan_core.specs.declared.topology.Inner.{Inner}
-use Rattle.plan_core.specs.declared.topology.InnerKind.{InnerKind}
-use Rattle.plan_core.specs.declared.topology.InnerKind.TheVariants.{Switch, Crossing}
 use Rattle.plan_core.specs.declared.topology.Conn.{Conn}
 use Rattle.plan_core.specs.declared.topology.Place.{Place}
 use Rattle.plan_core.specs.declared.topology.Part.{Part}
 use Rattle.plan_core.specs.declared.topology.Part.TheVariants.{Begin, End, Branch, Incoming, Outgoing}
 use Rattle.plan_core.specs.Topology.{Element, elements, track_miles, connections, connection, LeadsBothWays, farthest, IsMileage, IsIdCharacter, IsId, IsResolved}
-use Rattle.port_graph.proofs.Membership.{In, contains_in, in_contains, in_at, in_left, in_right, in_map, in_numbered}
-use Rattle.port_graph.proofs.Places.{end_of, end_part, end_place, inner_part, inner_place, Where, at_end, at_inner, where_is, same_place}
+use Rattle.port_graph.proofs.Membership.{In, contains_in, in_left, in_right, in_map, in_numbered}
+use Rattle.port_graph.proofs.Places.{end_place, inner_place, Where, at_end, at_inner, where_is, same_place}
 
 -- Ids, and elements that differ.
 
+-- a printable character of ASCII, and no space
 abbrev pub id_character : ℕ → Bool
-id_character c = nat_lt 32 c && (nat_lt c 127 || nat_lt 160 c)
-
-character_sound : (c : ℕ) → id_character c ≡ true → IsIdCharacter c
-character_sound c is =
-    let parts = and_parts (nat_lt 32 c) (nat_lt c 127 || nat_lt 160 c) is in
-    (ltb-true 32 c parts.0,
-    elim (nat_lt c 127) as (λ b. nat_lt c 127 ≡ b → (b || nat_lt 160 c) ≡ true → (c < 127) ⊎ (160 < c)) [
-      | true ↦ λ low or. inl (ltb-true c 127 low)
-      | false ↦ λ low or. inr (ltb-true 160 c or)
-    ] refl parts.1)
+id_character c = nat_lt 32 c && nat_lt c 127
 
 abbrev pub id_test : List ℕ → Bool
-id_test id = nat_le 1 (length id) && (nat_le (length id) 64 && list_all id_character (chars id))
+id_test id = nat_le 1 (length id) && (nat_le (length id) 64 && list_all id_character id)
 
 id_sound : (id : List ℕ) → id_test id ≡ true → IsId id
 id_sound id is =
-    let first = and_parts (nat_le 1 (length id)) (nat_le (length id) 64 && list_all id_character (chars id)) is in
-    let second = and_parts (nat_le (length id) 64) (list_all id_character (chars id)) first.1 in
+    let first = and_parts (nat_le 1 (length id)) (nat_le (length id) 64 && list_all id_character id) is in
+    let second = and_parts (nat_le (length id) 64) (list_all id_character id) first.1 in
+    let tested = AllPass-from_list_all id_character id second.1 in
+    let low : (c : ℕ) → id_character c ≡ true → c < 127 = λ c h. ltb-true c 127 (and_parts (nat_lt 32 c) (nat_lt c 127) h).1 in
+    let high : (c : ℕ) → id_character c ≡ true → 32 < c = λ c h. ltb-true 32 c (and_parts (nat_lt 32 c) (nat_lt c 127) h).0 in
+    let ascii : IsAscii id = λ i. elim (cases_lt i (length id)) [
+      | inl within ↦ let l = low (get_or id i 0) (tested i 0 within) in omega (arith, l)
+      | inr past ↦ rw (get_or-eq_default id 0 past) (omega arith)
+    ] in
     record {
       some = leb-true 1 (length id) first.0;
       short = leb-true (length id) 64 second.0;
-      characters = All-weaker (λ c. id_character c ≡ true) IsIdCharacter character_sound (chars id) (AllPass-from_list_all id_character (chars id) second.1);
+      characters = subst (All IsIdCharacter) (sym (chars-IsAscii id ascii)) (All-weaker (λ c. id_character c ≡ true) IsIdCharacter (λ c h. (high c h, inl (low c h))) id tested);
     }
 
 -- no two are the same by a test
@@ -165,17 +163,26 @@ in_inner k i m x c is =
     (subst (λ n. In (n, c) (enumerate_from 0 (connections x.what))) (zero-add m) (in_numbers 0 (connections x.what) m c is))
 
 on_track : (t : Topology) (p : Place) (c : Conn) → Where t p c → (track : Track) × (slice_get t.tracks p.track ≡ Some track) × In {X = Place × Conn} (p, c) (track_connections p.track track)
-on_track t p c (at_end track false here on joined) =
-    (track, here, subst (λ q. In (q, c) (track_connections p.track track)) (same_place (end_place p.track false) p refl (sym on))
-    (in_left (end_joins p.track false track.begin) _ _ (in_end p.track false track.begin track.begin.joined c joined)))
-on_track t p c (at_end track true here on joined) =
-    (track, here, subst (λ q. In (q, c) (track_connections p.track track)) (same_place (end_place p.track true) p refl (sym on))
-    (in_right (end_joins p.track false track.begin) _ _ (in_left (end_joins p.track true track.end) _ _ (in_end p.track true track.end track.end.joined c joined))))
-on_track t p c (at_inner track i m x here at on conn) =
-    (track, here, subst (λ q. In (q, c) (track_connections p.track track)) (same_place (inner_place p.track x.what i m) p refl (sym on))
-    (in_right (end_joins p.track false track.begin) _ _ (in_right (end_joins p.track true track.end) _ _
-    (in_numbered (inner_at p.track) 0 track.inner i x (inner_place p.track x.what i m, c) at
-    (subst (λ n. In (inner_place p.track x.what i m, c) (inner_at p.track n x)) (sym (zero-add i)) (in_inner p.track i m x c conn))))))
+on_track t p c (at_end track false here on joined) = (
+  track,
+  here,
+  subst (λ q. In (q, c) (track_connections p.track track)) (same_place (end_place p.track false) p refl (sym on))
+      (in_left (end_joins p.track false track.begin) _ _ (in_end p.track false track.begin track.begin.joined c joined)),
+)
+on_track t p c (at_end track true here on joined) = (
+  track,
+  here,
+  subst (λ q. In (q, c) (track_connections p.track track)) (same_place (end_place p.track true) p refl (sym on))
+      (in_right (end_joins p.track false track.begin) _ _ (in_left (end_joins p.track true track.end) _ _ (in_end p.track true track.end track.end.joined c joined))),
+)
+on_track t p c (at_inner track i m x here at on conn) = (
+  track,
+  here,
+  subst (λ q. In (q, c) (track_connections p.track track)) (same_place (inner_place p.track x.what i m) p refl (sym on))
+      (in_right (end_joins p.track false track.begin) _ _ (in_right (end_joins p.track true track.end) _ _
+      (in_numbered (inner_at p.track) 0 track.inner i x (inner_place p.track x.what i m, c) at
+      (subst (λ n. In (inner_place p.track x.what i m, c) (inner_at p.track n x)) (sym (zero-add i)) (in_inner p.track i m x c conn))))),
+)
 
 all_listed : (t : Topology) (p : Place) (c : Conn) → connection t p ≡ Some c → In {X = Place × Conn} (p, c) (all_connections t)
 all_listed t p c is =
@@ -186,14 +193,15 @@ all_listed t p c is =
 back_sound : (p to : Place) (o : Option Conn) → leads_back p to o ≡ true → ((other : Conn) × (o ≡ Some other) × (other.to ≡ p)) × (to ≢ p)
 back_sound p to None is = absurd (false≢true is)
 back_sound p to (Some other) is =
-    let parts = and_parts (same_place_test other.to p) (not (same_place_test to p)) is in
-    ((other, refl, place_sound other.to p parts.0),
-    λ same. false≢true (sym (not_true (same_place_test to p) parts.1) ∙ ap (λ q. same_place_test to q) (sym same) ∙ place_refl to))
+    let parts = and_parts (same_place_test other.to p) (not (same_place_test to p)) is in (
+      (other, refl, place_sound other.to p parts.0),
+      λ same. false≢true (sym (not_true (same_place_test to p) parts.1) ∙ ap (λ q. same_place_test to q) (sym same) ∙ place_refl to),
+    )
 
 joins_sound : (t : Topology) → both_ways_test t ≡ true → LeadsBothWays t
 joins_sound t is =
     let tested : (p : Place) (c : Conn) → connection t p ≡ Some c → leads_back p c.to (connection t c.to) ≡ true =
-      λ p c at. All-contains (λ (pc : Place × Conn). leads_back pc.0 pc.1.to (connection t pc.1.to) ≡ true) (all_connections t) (p, c) (AllPass-from_list_all _ (all_connections t) is) (contains_in (all_connections t) (p, c) (all_listed t p c at)) in
+    λ p c at. All-contains (λ (pc : Place × Conn). leads_back pc.0 pc.1.to (connection t pc.1.to) ≡ true) (all_connections t) (p, c) (AllPass-from_list_all _ (all_connections t) is) (contains_in (all_connections t) (p, c) (all_listed t p c at)) in
     record {
       back = λ p c at. (back_sound p c.to (connection t c.to) (tested p c at)).0;
       elsewhere = λ p c at. (back_sound p c.to (connection t c.to) (tested p c at)).1;

@@ -21,7 +21,10 @@ pub enum GraphFault {
     },
     /// The edges at a node don't lie on the sides that its kind asks for. It is the first such node.
     #[error("edges on the wrong sides of a node")]
-    SideMismatch { node: NodeNo, name: Text },
+    SideMismatch {
+        node: NodeNo,
+        name: Text,
+    },
     /// Memory couldn't be had.
     #[error("out of memory")]
     Memory,

@@ -34,3 +34,6 @@ pub use graph::PortGraph;
 pub use ports::{NodeKind, Ports};
 use runs::{Join, Run, Spot};
 use sites::{Meeting, Site};
+
+#[cfg(test)]
+mod examples;
