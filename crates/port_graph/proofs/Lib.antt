@@ -29,3 +29,5 @@ pub mod TurnedStation
 pub mod TurnedFaults
 pub mod OneGraph
 pub mod TurnedTwice
+pub mod ResolvedTest
+pub mod GraphTest
