@@ -1,0 +1,15 @@
+pub mod StationGraph
+pub mod Columns
+pub mod Plain
+pub mod Kept
+pub mod Sides
+pub mod Spots
+pub mod Runs
+pub mod Sites
+pub mod Numbering
+pub mod Counts
+pub mod PortRule
+pub mod TopologyGraph
+pub mod Ordered
+pub mod Turned
+pub mod Examples

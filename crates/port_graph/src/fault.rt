@@ -1,0 +1,67 @@
+// Why a topology has no track graph.
+use plan_core::{EdgeNo, Micro, NodeNo, OutOfMemory, Text};
+use std::fmt;
+use thiserror::Error;
+
+/// Why a topology has no track graph: the first of these, in this order.
+#[derive(Drop, Error)]
+pub enum GraphFault {
+    /// There are more than 128 nodes; the number is how many.
+    #[error("too many nodes")]
+    TooManyNodes(u32),
+    /// There are more than 160 edges; the number is how many.
+    #[error("too many edges")]
+    TooManyEdges(u32),
+    /// Both nodes of an edge have this mileage. It is the first such edge.
+    #[error("an edge between nodes of one mileage")]
+    NotForward {
+        edge: EdgeNo,
+        track: Text,
+        mileage: Micro,
+    },
+    /// The edges at a node don't lie on the sides that its kind asks for. It is the first such node.
+    #[error("edges on the wrong sides of a node")]
+    SideMismatch {
+        node: NodeNo,
+        name: Text,
+    },
+    /// Memory couldn't be had.
+    #[error("out of memory")]
+    Memory,
+}
+
+impl fmt::Debug for GraphFault {
+    fn fmt<W: fmt::Write>(&self, f: &mut fmt::Formatter<W>) -> fmt::Result {
+        match self {
+            GraphFault::TooManyNodes(count) => write!(f, "TooManyNodes {count}"),
+            GraphFault::TooManyEdges(count) => write!(f, "TooManyEdges {count}"),
+            GraphFault::NotForward {
+                edge,
+                track,
+                mileage,
+            } => {
+                let edge = edge.0;
+                let track = track.as_str();
+                let mileage = mileage.0;
+                write!(f, "NotForward {edge} {track} at {mileage}")
+            }
+            GraphFault::SideMismatch { node, name } => {
+                let node = node.0;
+                let name = name.as_str();
+                write!(f, "SideMismatch {node} {name}")
+            }
+            GraphFault::Memory => write!(f, "Memory"),
+        }
+    }
+}
+
+impl From<OutOfMemory> for GraphFault {
+    ghost use Rattle.std.specs.Prelude.{◌≡◌};
+    ghost use Rattle.port_graph.specs.declared.fault.GraphFault.TheVariants.{Memory};
+
+    ghost from_gives = { λ _ fault. fault ≡ Memory };
+
+    fn from(_: OutOfMemory) -> Self {
+        GraphFault::Memory
+    }
+}

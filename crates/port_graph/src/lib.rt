@@ -1,0 +1,44 @@
+//! The track graph of a station: nodes, edges, ports and columns.
+//!
+//! A `PortGraph` has a node for each end of the railway, each joint of two tracks, each switch and
+//! each crossing, and an edge for each piece of track between two of them. Contracts see it as
+//! `plan_core`'s plain `Graph`, which is an `IsStationGraph` by its type: a track graph within the
+//! limits, with names and mileages as a file has them. Its columns are the distinct mileages of its
+//! nodes in rising order.
+//! The crate stands on `plan_core`. The track order, the lawful checker, the clause encoding and the
+//! texts stand on it.
+#![tactic(auto)]
+
+mod columns;
+mod counts;
+mod edges;
+mod fault;
+mod from_topology;
+mod graph;
+mod joins;
+mod laws;
+mod listing;
+mod nodes;
+mod numbers;
+mod order;
+mod pieces;
+mod ports;
+mod rows;
+mod runs;
+mod sides;
+mod sites;
+mod spots;
+
+pub use fault::GraphFault;
+pub use from_topology::build;
+pub use graph::PortGraph;
+pub use laws::{
+    columns_are_the_distinct_mileages, columns_count_from_the_other_end, one_graph_or_one_fault,
+    seen_from_the_other_end,
+};
+pub use ports::{NodeKind, Ports};
+use runs::{Join, Run, Spot};
+use sites::{Meeting, Site};
+
+#[cfg(test)]
+mod examples;
