@@ -20,11 +20,11 @@ use Rattle.std.proofs.lemmas.List.Sorted.{list_any-IsPermutation, searchable_fro
 use Rattle.std.proofs.lemmas.Map.Keys.{Less-from_sorted}
 use Rattle.std.proofs.lemmas.Option.{slice_get-get_or, slice_get_within, get_or_from_slice_get}
 use Rattle.plan_core.specs.declared.numbers.ColumnNo.{ColumnNo}
-use Rattle.plan_core.specs.Graph.{Graph, Node, Edge, no_node, no_edge, edge, mileage}
+use Rattle.plan_core.specs.Graph.{Graph, Node, Edge, Ports as PlainPorts, no_node, no_edge, node, edge, mileage, ArePortsOf}
 use Rattle.port_graph.specs.declared.rows.NodeRow.{NodeRow}
 use Rattle.port_graph.specs.declared.rows.EdgeRow.{EdgeRow}
 use Rattle.port_graph.specs.StationGraph.{IsStationGraph}
-use Rattle.port_graph.specs.Plain.{plain_graph, plain_edge, miles_of}
+use Rattle.port_graph.specs.Plain.{plain_graph, plain_node, plain_edge, plain_ports, miles_of}
 use Rattle.port_graph.specs.Columns.{mileages, rising, columns_of, AreColumns}
 use Rattle.port_graph.specs.Kept.{ArePlaces, IsKept}
 use Rattle.port_graph.proofs.RisingLemmas.{Rises, is_in, rising_rises, is_in-rising, same_rising, all_in, or_again, rises_from_pairs, same_when, is_in_from, contains_from}
@@ -215,3 +215,11 @@ column_order columns i j m n rise is is' =
       | inr (inl less) ↦ sym (nat_cmp_is i j Less less) ∙ int_cmp_is m n Less (before_below columns i j m n rise less is is')
       | inr (inr more) ↦ sym (nat_cmp_is i j Greater more) ∙ int_cmp_is m n Greater (before_below columns j i n m rise more is' is)
     ]
+
+-- the ports of a row are those of its node
+pub ports_there : (nodes : List NodeRow) (edges : List EdgeRow) (g : Graph) (n : ℕ) (x : NodeRow) → plain_graph nodes edges ≡ g → IsStationGraph (plain_graph nodes edges) → n < length g.nodes → x ≡ get_or nodes n x → ArePortsOf g n (plain_ports x.ports)
+ports_there nodes edges g n x is station within at_n =
+    let here : n < length nodes = subst (λ (k : ℕ). n < k) (ap (λ (g : Graph). length g.nodes) (sym is) ∙ length-map nodes plain_node) within in
+    let row : (node (plain_graph nodes edges) n).ports ≡ plain_ports x.ports = ap (λ (y : Node). y.ports) (get_or-map plain_node nodes n x no_node here) ∙ ap (λ (y : NodeRow). plain_ports y.ports) (sym at_n) in
+    let there = station.track_graph.ports n (subst (λ (k : ℕ). n < k) (sym (length-map nodes plain_node)) here) in
+    subst (λ (g : Graph). ArePortsOf g n (plain_ports x.ports)) is (subst (λ (p : PlainPorts). ArePortsOf (plain_graph nodes edges) n p) row there)

@@ -1,6 +1,6 @@
 // The track graph.
 ghost use Rattle.std.specs.Prelude.{◌≡◌, ◌<◌, ◌≤◌, Some, length, slice_get, IfOk};
-ghost use Rattle.plan_core.specs.Graph.{node, edge, mileage};
+ghost use Rattle.plan_core.specs.Graph.{node, edge, mileage, ArePortsOf};
 ghost use Rattle.port_graph.specs.StationGraph.{IsStationGraph};
 ghost use Rattle.port_graph.specs.Columns.{columns_of, AreColumns};
 ghost use Rattle.port_graph.specs.Plain.{plain_graph, plain_ports, kind_of};
@@ -126,7 +126,8 @@ impl PortGraph {
     /// The edges at a node, each by its port.
     pub fn ports(&self, n: NodeNo) -> Ports
         requires { n.0 < length self.now.nodes }
-        ensures { plain_ports result ≡ (node self.now n.0).ports }
+        ensures value { plain_ports result ≡ (node self.now n.0).ports }
+        ensures there { ArePortsOf self.now n.0 (plain_ports result) }
     {
         self.nodes[n.0 as usize].ports
     }

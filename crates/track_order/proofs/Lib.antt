@@ -1,0 +1,7 @@
+pub mod ReachLemmas
+pub mod FillingLemmas
+pub mod OrderingLemmas
+pub mod TableLemmas
+pub mod SplitLemmas
+pub mod OrderLemmas
+pub mod TurnedLemmas

@@ -1,0 +1,10 @@
+pub mod Reach
+pub mod Above
+pub mod Tables
+pub mod Order
+pub mod Filling
+pub mod Ordering
+pub mod Walks
+pub mod Splits
+pub mod Searching
+pub mod Causes

@@ -1,0 +1,42 @@
+// Why a graph has no order.
+ghost use Rattle.std.specs.Prelude.{◌≡◌};
+ghost use Rattle.track_order.specs.declared.fault.OrderFault.TheVariants.{Memory};
+
+use plan_core::{EdgeNo, OutOfMemory};
+use std::alloc::{AllocError, AllocFailed};
+use thiserror::Error;
+
+/// Why no order was derived.
+#[derive(Debug, Drop, Error)]
+pub enum OrderFault {
+    /// Each of the two edges is above the other; they are the least pair, the smaller number first.
+    #[error("two edges are each above the other")]
+    Contradicts(EdgeNo, EdgeNo),
+    /// Memory couldn't be had.
+    #[error("out of memory")]
+    Memory,
+}
+
+impl From<AllocError> for OrderFault {
+    ghost from_gives = { λ _ e. e ≡ Memory };
+
+    fn from(_: AllocError) -> Self {
+        OrderFault::Memory
+    }
+}
+
+impl<T: Drop> From<AllocFailed<T>> for OrderFault {
+    ghost from_gives = { λ _ e. e ≡ Memory };
+
+    fn from(_: AllocFailed<T>) -> Self {
+        OrderFault::Memory
+    }
+}
+
+impl From<OutOfMemory> for OrderFault {
+    ghost from_gives = { λ _ e. e ≡ Memory };
+
+    fn from(_: OutOfMemory) -> Self {
+        OrderFault::Memory
+    }
+}
