@@ -11,6 +11,7 @@ pub mod ElementLemmas
 pub mod JoinLemmas
 pub mod ResolvedLemmas
 pub mod SoundLemmas
+pub mod OneTopologyLemmas
 pub mod SearchLemmas
 pub mod TableLemmas
 pub mod ListLemmas

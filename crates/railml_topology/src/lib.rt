@@ -38,5 +38,5 @@ mod tests;
 mod tracks;
 
 pub use fault::{ResolveFault, TopologyWhat};
-pub use laws::one_fault;
+pub use laws::{one_fault, one_topology};
 pub use resolving::resolve;
