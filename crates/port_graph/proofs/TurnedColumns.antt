@@ -12,7 +12,7 @@ use Rattle.port_graph.specs.Columns.{mileages, rising, columns_of}
 use Rattle.port_graph.specs.Turned.{turned_node, turned_graph}
 use Rattle.port_graph.proofs.ColumnLemmas.{rising_pairs}
 use Rattle.port_graph.proofs.RisingLemmas.{rises_from_pairs, is_in, rising_rises, is_in-rising, same_rising, same_when}
-use Rattle.port_graph.proofs.TurnedGraph.{neg_less}
+use Rattle.port_graph.proofs.MileLemmas.{neg_less}
 use Rattle.port_graph.proofs.TurnedNodes.{node-turned}
 
 back_rises : (xs : List ℤ) → AllPairs (λ (x y : ℤ). x <ℤ y) xs → AllPairs (λ (x y : ℤ). x <ℤ y) (reverse (map neg_ℤ xs))
