@@ -11,7 +11,7 @@ use Rattle.cnf_core.specs.Clause.{Clauses, Avoids, AreDistinct, AllDistinct, wor
 use Rattle.cnf_core.specs.Propagation.{LiteralSet, IsIn}
 use Rattle.cnf_core.proofs.PropagationLemmas.{negate-negate, contains_from_has, has_from_contains}
 use Rattle.cnf_core.proofs.ClauseLemmas.{distinct_at, words_at}
-use Rattle.refute_check.specs.Tables.{times, CountedUp, places_from, false_count, AreCounts}
+use Rattle.refute_check.specs.Tables.{times, CountedUp, places_from, false_count, AreCounts, weight}
 use Rattle.refute_check.proofs.TrailLemmas.{has_last, has_front, same_literal_or, not_both, same_true, contains_tail}
 
 abbrev one_at : ℕ → ℕ → ℕ
@@ -28,7 +28,7 @@ one_same n m e = elim (eqb_tells m n) [ inl h ↦ rw h.0 refl | inr h ↦ absurd
 
 -- the clause is named once where it has the literal, and else not
 abbrev pub one_has : List Literal → Literal → ℕ
-one_has c l = cond (has c l) 1 0
+one_has c l = weight (has c l)
 
 times_head : (b : Bool) (m : ℕ) (ms : List ℕ) (n : ℕ) → times (cond b (m ∷ ms) ms) n ≡ cond b (one_at n m) 0 + times ms n
 times_head true m ms n = times_cons m ms n
@@ -38,7 +38,7 @@ cond_none : (b : Bool) (n : ℕ) → n ≡ 0 → cond b n 0 ≡ 0
 cond_none true n e = e
 cond_none false n e = refl
 
-cond_one : (b : Bool) (n : ℕ) → n ≡ 1 → cond b n 0 ≡ cond b 1 0
+cond_one : (b : Bool) (n : ℕ) → n ≡ 1 → cond b n 0 ≡ weight b
 cond_one true n e = e
 cond_one false n e = refl
 
@@ -76,8 +76,8 @@ pub places_there : (cs : Clauses) (l : Literal) → All (λ n. n < length cs) (p
 places_there cs l = places_below cs l 0 (length cs) (omega arith)
 
 -- one more literal on the trail
-count_cons : (set : LiteralSet) (k : Literal) (c : List Literal) → false_count set (k ∷ c) ≡ cond (set (negate k)) 1 0 + false_count set c
-count_cons set k c = sum_by-cons (λ m. cond (set (negate m)) 1 0) k c
+count_cons : (set : LiteralSet) (k : Literal) (c : List Literal) → false_count set (k ∷ c) ≡ weight (set (negate k)) + false_count set c
+count_cons set k c = sum_by-cons (λ m. weight (set (negate m))) k c
 
 negated_back : (k l : Literal) → negate k ≡ l → k ≡ negate l
 negated_back k l e = sym (negate-negate k) ∙ ap negate e
@@ -110,14 +110,14 @@ false_more trail (k ∷ c) l distinct none =
     elim (same_literal_or (negate k) l) [
       | inl e ↦
           let back : k ≡ negate l = negated_back k l e in
-          let a : cond (has (trail ++ l ∷ []) (negate k)) 1 0 ≡ 1 = ap (λ m. cond (has (trail ++ l ∷ []) m) 1 0) e ∙ ap (λ b. cond b 1 0) (has_last trail l) in
-          let b : cond (has trail (negate k)) 1 0 ≡ 0 = ap (λ m. cond (has trail m) 1 0) e ∙ ap (λ b. cond b 1 0) none in
-          let h : one_has (k ∷ c) (negate l) ≡ 1 = ap (λ b. cond b 1 0) (has_cons_same k (negate l) c back) in
-          let g : one_has c (negate l) ≡ 0 = ap (λ b. cond b 1 0) (avoids_lacks c (negate l) (subst (λ (m : Literal). Avoids m.var c) back distinct.0)) in
+          let a : weight (has (trail ++ l ∷ []) (negate k)) ≡ 1 = ap (λ m. weight (has (trail ++ l ∷ []) m)) e ∙ ap (λ b. weight b) (has_last trail l) in
+          let b : weight (has trail (negate k)) ≡ 0 = ap (λ m. weight (has trail m)) e ∙ ap (λ b. weight b) none in
+          let h : one_has (k ∷ c) (negate l) ≡ 1 = ap (λ b. weight b) (has_cons_same k (negate l) c back) in
+          let g : one_has c (negate l) ≡ 0 = ap (λ b. weight b) (avoids_lacks c (negate l) (subst (λ (m : Literal). Avoids m.var c) back distinct.0)) in
           omega (arith, now, was, rest, a, b, h, g)
       | inr ne ↦
-          let a : cond (has (trail ++ l ∷ []) (negate k)) 1 0 ≡ cond (has trail (negate k)) 1 0 = ap (λ b. cond b 1 0) (has_front trail l (negate k) ne) in
-          let h : one_has (k ∷ c) (negate l) ≡ one_has c (negate l) = ap (λ b. cond b 1 0) (has_cons_other k (negate l) c (λ e. ne (ap negate e ∙ negate-negate l))) in
+          let a : weight (has (trail ++ l ∷ []) (negate k)) ≡ weight (has trail (negate k)) = ap (λ b. weight b) (has_front trail l (negate k) ne) in
+          let h : one_has (k ∷ c) (negate l) ≡ one_has c (negate l) = ap (λ b. weight b) (has_cons_other k (negate l) c (λ e. ne (ap negate e ∙ negate-negate l))) in
           omega (arith, now, was, rest, a, h)
     ]
 
@@ -152,7 +152,7 @@ pub lacks_count : (clauses : Clauses) (l : Literal) (n : ℕ) → n < length cla
 lacks_count clauses l n within e = by_test (has (get_or clauses n []) l) refl
   where
     by_test : (b : Bool) → has (get_or clauses n []) l ≡ b → b ≡ false
-    by_test true h = let one : one_has (get_or clauses n []) l ≡ 1 = ap (λ b. cond b 1 0) h in absurd (omega (arith, one, times_in clauses l n within))
+    by_test true h = let one : one_has (get_or clauses n []) l ≡ 1 = ap (λ b. weight b) h in absurd (omega (arith, one, times_in clauses l n within))
     by_test false h = refl
 
 pub named_by : (clauses : Clauses) (l : Literal) (n : ℕ) → n < length clauses → has (get_or clauses n []) l ≡ true → Contains (places_from 0 clauses l) n

@@ -3,3 +3,5 @@ pub mod ScanLemmas
 pub mod TrailLemmas
 pub mod GrowthLemmas
 pub mod FalseCountLemmas
+pub mod AdvanceLemmas
+pub mod UndoLemmas

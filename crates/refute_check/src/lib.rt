@@ -8,5 +8,6 @@ mod places;
 mod propagation;
 mod scan;
 mod trail;
+mod undo;
 
 pub use fault::LineFault;
