@@ -5,3 +5,4 @@ pub mod GrowthLemmas
 pub mod FalseCountLemmas
 pub mod AdvanceLemmas
 pub mod UndoLemmas
+pub mod AssumeLemmas

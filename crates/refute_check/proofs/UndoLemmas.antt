@@ -1,6 +1,6 @@
 -- Literals are taken off a trail again.
-use Rattle.std.proofs.Common.{◌≡◌, ℕ, ◌+◌, ◌*◌, ◌<◌, ◌≤◌, Bool, false, List, [], ◌∷◌, ◌++◌, length, take, get_or, refl, sym, ◌∙◌, ap, subst, arith, length-append, length-take-le}
-use Rattle.std.specs.Prelude.{All}
+use Rattle.std.proofs.Common.{◌≡◌, ℕ, ◌+◌, ◌-◌, ◌*◌, ◌<◌, ◌≤◌, Bool, false, List, [], ◌∷◌, ◌++◌, length, take, get_or, refl, sym, ◌∙◌, ap, subst, arith, length-append, length-take-le}
+use Rattle.std.specs.Prelude.{All, Option, None, option_to_list}
 use Rattle.std.proofs.lemmas.List.{take-take, take_all, take_at, get_or_push}
 use Rattle.cnf_core.specs.Lit.{Literal, negate, word_of, has}
 use Rattle.cnf_core.specs.Clause.{Clauses, AreDistinct, AreThere, AllDistinct, IsThere}
@@ -17,7 +17,7 @@ pub record Dropped (vars : ℕ) (old : List Literal) (truth : List Bool) (new : 
 pub dropped_none : (vars : ℕ) (trail : List Literal) (truth : List Bool) (front : ℕ) → IsTrail vars truth trail → Dropped vars trail truth trail front
 dropped_none vars trail truth front t = record { table = t; rest = sym (take_all (length trail) trail (omega arith)); same = refl }
 
-pub dropped_one : (vars : ℕ) (old mid new : List Literal) (truth then : List Bool) (front : ℕ) (last : List Literal) → Dropped vars old truth mid front → front < length mid → IsTrail vars then new → mid ≡ new ++ last → length last ≤ 1 → Dropped vars old then new front
+pub dropped_one : (vars : ℕ) (old mid new : List Literal) (truth then : List Bool) (front : ℕ) (last : List Literal) → Dropped vars old truth mid front → front < length mid → IsTrail vars then new → mid ≡ new ++ last → length new ≡ length mid - 1 → Dropped vars old then new front
 dropped_one vars old mid new truth then front last d within t e one =
     let size : length mid ≡ length new + length last = ap length e ∙ length-append new last in
     let prefix : take (length new) mid ≡ new = ap (take (length new)) e ∙ take_at new last (length new) refl in
@@ -75,3 +75,28 @@ retracted_none vars clauses old mid truth then counts level front c t e le =
       same = ap (take level) e ∙ take-take level front old le;
       long = omega arith;
     }
+
+-- a trail that is a rest and one literal
+abbrev Ends : List Literal → List Literal → Literal → Type 0
+Ends old rest l = old ≡ rest ++ l ∷ []
+
+pub back_there : (vars : ℕ) (truth : List Bool) (old rest : List Literal) (l : Literal) → IsTrail vars truth old → Ends old rest l → IsThere vars l
+back_there vars truth old rest l t e = there_last vars rest l (subst (λ (ls : List Literal). AreThere vars ls) e t.there)
+
+pub back_places : (vars : ℕ) (clauses : Clauses) (lists : List (List ℕ)) (truth : List Bool) (old rest : List Literal) (l n : Literal) (word : ℕ) (list shown : List ℕ) → AreOccurrences vars clauses lists → IsTrail vars truth old → Ends old rest l → n ≡ negate l → word ≡ word_of n → list ≡ get_or lists word list → shown ≡ list → shown ≡ places_from 0 clauses (negate l)
+back_places vars clauses lists truth old rest l n word list shown o t e is w read s =
+    places_read vars clauses lists (negate l) word list shown o (back_there vars truth old rest l t e) (w ∙ ap word_of is) read s
+
+pub back_lacks : (vars : ℕ) (truth : List Bool) (old rest : List Literal) (l : Literal) → IsTrail vars truth old → Ends old rest l → has rest l ≡ false
+back_lacks vars truth old rest l t e = last_lacks rest l (subst (λ (ls : List Literal). AreDistinct ls) e t.distinct)
+
+pub back_right : (vars : ℕ) (clauses : Clauses) (truth : List Bool) (old rest : List Literal) (l : Literal) (counts : List ℕ) → IsCounted vars clauses truth old counts (length old) → Ends old rest l → AreCounts clauses (has (rest ++ l ∷ [])) counts
+back_right vars clauses truth old rest l counts c e = subst (λ (ls : List Literal). AreCounts clauses (has ls) counts) e (counted_whole vars clauses truth old counts c)
+
+pub back_rest : (old rest last : List Literal) → old ≡ rest ++ last → rest ≡ take (length rest) old
+back_rest old rest last e = sym (ap (take (length rest)) e ∙ take_at rest last (length rest) refl)
+
+pub back_some : (old rest : List Literal) (o : Option Literal) → old ≡ rest ++ option_to_list o → 1 ≤ length old → length rest ≡ length old - 1 → o ≡ None → ⊥
+back_some old rest o e some less none =
+    let same : old ≡ rest ++ [] = e ∙ ap (λ (p : Option Literal). rest ++ option_to_list p) none in
+    omega (arith, ap length same, length-append rest [], some, less)

@@ -3,7 +3,7 @@ use Rattle.std.specs.Prelude.{◌≡◌, ◌≤◌, ◌<◌, ◌⊎◌, ℕ, ◌
 use Rattle.std.specs.List.{sum_by, count_by}
 use Rattle.cnf_core.specs.Lit.{Literal, negate, word_of, has}
 use Rattle.cnf_core.specs.Clause.{Clauses, AreDistinct, AreThere}
-use Rattle.cnf_core.specs.Propagation.{LiteralSet, IsIn, Includes, IsUnit, IsClosed, Closure, Falsifies}
+use Rattle.cnf_core.specs.Propagation.{LiteralSet, IsIn, Includes, IsUnit, Closure, negations}
 
 -- how often a number stands in the list
 abbrev pub times : List ℕ → ℕ → ℕ
@@ -101,3 +101,16 @@ IsQuietNow clause count old new = (done : LiteralSet) → Includes (has old) don
 
 abbrev pub AreQuietNow : Clauses → List ℕ → List ℕ → List Literal → List Literal → Type 0
 AreQuietNow clauses numbers counts old new = All (λ n. IsQuietNow (slice_index_or clauses n []) (slice_index counts n) old new) numbers
+
+-- the new trail is the old one and negations of some of the literals behind it
+pub record Assumes (lits old new : List Literal) : Type 0 where
+  pub front : take (length old) new ≡ old
+  pub longer : length old ≤ length new
+  pub keeps : Includes (has new) (has old)
+  pub only : (l : Literal) → IsIn (has new) l → IsIn (has old) l ⊎ IsIn (negations lits) l
+
+-- one of the literals is on the trail
+pub record Clashes (lits trail : List Literal) : Type 0 where
+  pub literal : Literal
+  pub among : Contains lits literal
+  pub true_now : IsIn (has trail) literal

@@ -1,12 +1,14 @@
 //! The checker of logs.
 #![tactic(auto)]
 
+mod assume;
 mod counts;
 mod fault;
 mod looks;
 mod places;
 mod propagation;
 mod scan;
+mod tables;
 mod trail;
 mod undo;
 

@@ -1,5 +1,5 @@
 // Marking literals as true, and taking marks back.
-ghost use Rattle.std.specs.Prelude.{◌≡◌, ◌≤◌, ◌<◌, ◌+◌, ◌*◌, [], ◌∷◌, ◌++◌, true, false, length, OnOk, option_to_list};
+ghost use Rattle.std.specs.Prelude.{◌≡◌, ◌≤◌, ◌<◌, ◌+◌, ◌-◌, ◌*◌, [], ◌∷◌, ◌++◌, true, false, length, OnOk, option_to_list};
 ghost use Rattle.cnf_core.specs.Lit.{negate};
 ghost use Rattle.cnf_core.specs.Clause.{IsThere};
 ghost use Rattle.refute_check.specs.Tables.{marked, IsTrail};
@@ -27,6 +27,7 @@ pub(crate) fn unmark_last(truth: &mut [bool], trail: &mut Vec<Lit>, vars: u32) -
     requires { IsTrail vars truth.old trail.old.items }
     ensures trail { IsTrail vars truth.new trail.new.items }
     ensures last { trail.old.items ≡ trail.new.items ++ option_to_list result }
+    ensures less { length trail.new.items ≡ length trail.old.items - 1 }
 {
     let l = trail.pop()?;
     truth[l.word() as usize] = false;

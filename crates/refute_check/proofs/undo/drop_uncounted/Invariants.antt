@@ -2,8 +2,8 @@ use Rattle.std.proofs.Common.{length, vec_len}
 use Rattle.refute_check.proofs.UndoLemmas.{Dropped}
 use Rattle.refute_check.proofs.undo.drop_uncounted.Given as goal
 
-abbrev pub invariant-loop-trail : goal.invariant-loop-trail
-invariant-loop-trail l = Dropped l.vars l.fn.trail.items l.truth l.trail.items l.front
+abbrev pub invariant-loop-truth : goal.invariant-loop-truth
+invariant-loop-truth l = Dropped l.vars l.fn.trail.items l.truth l.trail.items l.front
 
-abbrev pub decreases-loop-trail : goal.decreases-loop-trail
-decreases-loop-trail l = length l.trail.items
+abbrev pub decreases-loop-truth : goal.decreases-loop-truth
+decreases-loop-truth l = length l.trail.items
