@@ -6,3 +6,4 @@ pub mod FalseCountLemmas
 pub mod AdvanceLemmas
 pub mod UndoLemmas
 pub mod AssumeLemmas
+pub mod SupposeLemmas

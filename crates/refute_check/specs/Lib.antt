@@ -2,3 +2,4 @@ pub mod Log
 pub mod Kept
 pub mod Tables
 pub mod Scans
+pub mod Settled

@@ -3,7 +3,7 @@ use Rattle.std.specs.Prelude.{◌≡◌, ◌≤◌, ◌<◌, ◌⊎◌, ℕ, ◌
 use Rattle.std.specs.List.{sum_by, count_by}
 use Rattle.cnf_core.specs.Lit.{Literal, negate, word_of, has}
 use Rattle.cnf_core.specs.Clause.{Clauses, AreDistinct, AreThere}
-use Rattle.cnf_core.specs.Propagation.{LiteralSet, IsIn, Includes, IsUnit, Closure, negations}
+use Rattle.cnf_core.specs.Propagation.{LiteralSet, IsIn, Includes, IsUnit, IsClosed, Closure, negations}
 
 -- how often a number stands in the list
 abbrev pub times : List ℕ → ℕ → ℕ
@@ -114,3 +114,10 @@ pub record Clashes (lits trail : List Literal) : Type 0 where
   pub literal : Literal
   pub among : Contains lits literal
   pub true_now : IsIn (has trail) literal
+
+-- the set is the closure of start, and falsifies no clause
+pub record IsClosure (clauses : Clauses) (start set : LiteralSet) : Type 0 where
+  pub closed : IsClosed clauses set
+  pub includes : Includes set start
+  pub within : (l : Literal) → IsIn set l → Closure clauses start l
+  pub unfalsified : (c : List Literal) → Contains clauses c → All (λ k. IsIn set (negate k)) c → ⊥
