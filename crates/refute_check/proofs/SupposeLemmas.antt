@@ -1,16 +1,17 @@
 -- What follows of assumptions.
 use Rattle.std.proofs.Common.{◌≡◌, ℕ, ◌+◌, ◌*◌, ◌<◌, ◌≤◌, ◌⊎◌, Bool, true, false, List, [], ◌∷◌, ◌++◌, length, take, get_or, refl, sym, ◌∙◌, ap, subst, inl, inr, arith}
 use Rattle.std.specs.Prelude.{All, Contains}
-use Rattle.std.proofs.lemmas.List.{take_all}
+use Rattle.std.proofs.lemmas.List.{take_all, take_at, get_or_default}
 use Rattle.std.proofs.lemmas.List.Elements.{All-contains, All-weaker}
-use Rattle.cnf_core.specs.Lit.{Literal, negate, has}
-use Rattle.cnf_core.specs.Clause.{Clauses, AreDistinct, AreThere}
+use Rattle.cnf_core.specs.Lit.{Literal, negate, has, word_of}
+use Rattle.cnf_core.specs.Clause.{Clauses, AreDistinct, AreThere, IsThere}
 use Rattle.cnf_core.specs.Propagation.{LiteralSet, IsIn, Includes, IsUnit, IsClosed, Closure, Falsifies, Rup, negations}
 use Rattle.cnf_core.proofs.PropagationLemmas.{negate-negate, contains_from_has, has_from_contains, closure_start, closure_again, closure_least}
 use Rattle.refute_check.specs.declared.tables.Tables.{Tables}
 use Rattle.refute_check.specs.Tables.{IsTrail, IsCounted, AreCounts, AreQuiet, IsQuiet, HasReason, Falsified, Grows, Assumes, Clashes, IsClosure}
 use Rattle.refute_check.specs.Settled.{nothing, IsSettled}
 use Rattle.refute_check.proofs.ScanLemmas.{IsFalse}
+use Rattle.refute_check.proofs.TrailLemmas.{word_below}
 use Rattle.refute_check.proofs.GrowthLemmas.{quiet_more}
 use Rattle.refute_check.proofs.AdvanceLemmas.{same_front}
 
@@ -86,13 +87,23 @@ closure_unfalsified clauses start set c f = c.unfalsified f.clause f.among (All-
 pub closure_in : (clauses : Clauses) (start set : LiteralSet) (l : Literal) → IsClosure clauses start set → Closure clauses start l → IsIn set l
 closure_in clauses start set l c h = closure_least clauses start set l c.closed c.includes h
 
+-- a vector whose slice was written
+pub written_back : (n : ℕ) (xs : List Bool) (ys : List Bool) → length xs ≡ n → take n (xs ++ ys) ≡ xs
+written_back n xs ys e = take_at xs ys n e
+
+-- a mark, as it is read
+pub marked_read : (vars : ℕ) (truth : List Bool) (trail : List Literal) (l : Literal) (word : ℕ) (b : Bool) → IsTrail vars truth trail → IsThere vars l → word ≡ word_of l → b ≡ get_or truth word b → has trail l ≡ b
+marked_read vars truth trail l word b t there w read =
+    let within : word_of l < length truth = omega (arith, t.size, word_below vars l there) in
+    sym (t.marks l) ∙ get_or_default truth (word_of l) false b within ∙ ap (λ n. get_or truth n b) (sym w) ∙ sym read
+
 -- the tables after assumptions were taken back
-pub settled_again : (vars : ℕ) (clauses : Clauses) (old new : Tables) (mid : List Literal) → IsSettled vars clauses old → new.occurrences.items ≡ old.occurrences.items → IsCounted vars clauses new.truth.items new.trail.items new.counts.items (length old.trail.items) → new.trail.items ≡ take (length old.trail.items) mid → take (length old.trail.items) mid ≡ old.trail.items → IsSettled vars clauses new
-settled_again vars clauses old new mid s same counted rest front =
-    let is : old.trail.items ≡ new.trail.items = sym (rest ∙ front) in
+pub settled_again : (vars : ℕ) (clauses : Clauses) (old new : Tables) (mid : List Literal) (level : ℕ) → level ≡ length old.trail.items → IsSettled vars clauses old → new.occurrences.items ≡ old.occurrences.items → IsCounted vars clauses new.truth.items new.trail.items new.counts.items level → new.trail.items ≡ take level mid → take (length old.trail.items) mid ≡ old.trail.items → IsSettled vars clauses new
+settled_again vars clauses old new mid level e s same counted rest front =
+    let is : old.trail.items ≡ new.trail.items = sym (rest ∙ ap (λ n. take n mid) e ∙ front) in
     record {
       occurrences = rw same s.occurrences;
-      counted = subst (λ n. IsCounted vars clauses new.truth.items new.trail.items new.counts.items n) (ap length is) counted;
+      counted = subst (λ n. IsCounted vars clauses new.truth.items new.trail.items new.counts.items n) (e ∙ ap length is) counted;
       within = subst (λ (ls : List Literal). (l : Literal) → IsIn (has ls) l → Closure clauses nothing l) is s.within;
       reasoned = subst (λ (ls : List Literal). (l : Literal) → IsIn (has ls) l → HasReason clauses (has ls) l) is s.reasoned;
       quiet = subst (λ (ls : List Literal). AreQuiet clauses ls (length ls)) is s.quiet;
