@@ -132,7 +132,7 @@ quiet_few done set c distinct few = record {
 }
 
 -- the same at a table's marks
-all_same_set : (set other : LiteralSet) (c : List Literal) → ((l : Literal) → set l ≡ other l) → All (IsFalse set) c → All (IsFalse other) c
+pub all_same_set : (set other : LiteralSet) (c : List Literal) → ((l : Literal) → set l ≡ other l) → All (IsFalse set) c → All (IsFalse other) c
 all_same_set set other c same all = All-weaker (IsFalse set) (IsFalse other) (λ k h. sym (same (negate k)) ∙ h) c all
 
 unit_same_set : (set other : LiteralSet) (c : List Literal) (l : Literal) → ((l : Literal) → set l ≡ other l) → IsUnit set c l → IsUnit other c l

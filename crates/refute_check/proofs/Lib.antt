@@ -7,3 +7,4 @@ pub mod AdvanceLemmas
 pub mod UndoLemmas
 pub mod AssumeLemmas
 pub mod SupposeLemmas
+pub mod AddLemmas

@@ -121,3 +121,8 @@ pub record IsClosure (clauses : Clauses) (start set : LiteralSet) : Type 0 where
   pub includes : Includes set start
   pub within : (l : Literal) → IsIn set l → Closure clauses start l
   pub unfalsified : (c : List Literal) → Contains clauses c → All (λ k. IsIn set (negate k)) c → ⊥
+
+-- the number stands behind the others in the list of each of the literals
+pub record Lists (lits : List Literal) (number : ℕ) (old new : List (List ℕ)) : Type 0 where
+  pub size : length new ≡ length old
+  pub each : (l : Literal) → word_of l < length old → slice_index_or new (word_of l) [] ≡ slice_index_or old (word_of l) [] ++ cond (has lits l) (number ∷ []) []

@@ -1,6 +1,7 @@
 //! The checker of logs.
 #![tactic(auto)]
 
+mod adding;
 mod assume;
 mod counts;
 mod fault;
