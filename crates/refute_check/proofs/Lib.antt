@@ -8,3 +8,4 @@ pub mod UndoLemmas
 pub mod AssumeLemmas
 pub mod SupposeLemmas
 pub mod AddLemmas
+pub mod KeepLemmas

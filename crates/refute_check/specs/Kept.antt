@@ -2,6 +2,7 @@
 use Rattle.std.specs.Prelude.{◌≡◌, ◌≤◌, ◌<◌, ◌⊎◌, ℕ, ◌+◌, max, ⊤, Result, Ok, Err, Option, List, [], ◌∷◌, ◌++◌, All, Any, length}
 use Rattle.cnf_core.specs.Lit.{Literal}
 use Rattle.cnf_core.specs.Clause.{Clauses, words_of}
+use Rattle.cnf_core.specs.Formula.{Cnf}
 use Rattle.cnf_core.specs.Propagation.{Falsifies, Closure, negations, greatest_in, greatest_var}
 use Rattle.cnf_core.specs.declared.limits.TheConstants.{VARS}
 use Rattle.refute_log.specs.declared.line.LogLine.{LogLine}
@@ -14,6 +15,9 @@ use Rattle.refute_check.specs.Log.{Facts, added, given, refuted, asked, bounded,
 pub record Kept : Type 0 where
   pub room : ℕ
   pub facts : Facts
+
+abbrev pub kept_of : Cnf → Option (List Literal) → Clauses → Kept
+kept_of f query refuted = record { room = f.room; facts = record { greatest = f.vars; clauses = f.clauses; query = query; refuted = refuted } }
 
 -- the facts with one more line
 abbrev pub facts_after : Facts → LogLine → Facts

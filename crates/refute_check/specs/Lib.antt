@@ -3,3 +3,4 @@ pub mod Kept
 pub mod Tables
 pub mod Scans
 pub mod Settled
+pub mod Standing

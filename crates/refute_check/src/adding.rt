@@ -136,7 +136,7 @@ impl Tables {
     }
 
     /// Makes room for one more variable.
-    fn add_var(&mut self, alloc: Global, formula: &Formula) -> Result<(), OutOfMemory>
+    pub(crate) fn add_var(&mut self, alloc: Global, formula: &Formula) -> Result<(), OutOfMemory>
         requires settled { IsSettled formula.now.vars formula.now.clauses self.old }
         ensures { OnOk result (IsSettled (formula.now.vars + 1) formula.now.clauses self.new) }
     {

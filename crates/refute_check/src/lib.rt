@@ -3,8 +3,11 @@
 
 mod adding;
 mod assume;
+mod checker;
 mod counts;
 mod fault;
+mod judging;
+mod keeping;
 mod looks;
 mod places;
 mod propagation;
@@ -13,4 +16,5 @@ mod tables;
 mod trail;
 mod undo;
 
+pub use checker::Checker;
 pub use fault::LineFault;

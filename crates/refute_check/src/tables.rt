@@ -1,5 +1,5 @@
 // The tables that propagation works on, between the lines of a log.
-ghost use Rattle.std.specs.Prelude.{◌≡◌, ◌≤◌, ◌<◌, ◌⊎◌, ◌+◌, ◌*◌, true, false, OnOk, IfOk, length, take};
+ghost use Rattle.std.specs.Prelude.{◌≡◌, ◌≤◌, ◌<◌, ◌⊎◌, ◌+◌, ◌*◌, [], true, false, OnOk, IfOk, length, take};
 ghost use Rattle.cnf_core.specs.Lit.{has};
 ghost use Rattle.cnf_core.specs.Clause.{AreThere, AreDistinct, IsThere};
 ghost use Rattle.cnf_core.specs.Propagation.{Closure, Falsifies, Rup, negations};
@@ -12,6 +12,7 @@ use crate::propagation::propagate;
 use crate::undo::undo;
 use cnf_core::{Formula, Lit};
 use plan_core::OutOfMemory;
+use std::alloc::Global;
 
 /// What is true without assumptions, and the counts of false literals that belong to it.
 #[derive(Drop)]
@@ -27,6 +28,24 @@ pub(crate) struct Tables {
 }
 
 impl Tables {
+    /// No variable, and no clause.
+    pub(crate) fn new(alloc: Global) -> Result<Tables, OutOfMemory>
+        ensures { IfOk result (λ t. IsSettled 0 [] t) }
+    {
+        let mut occurrences = Vec::new(alloc);
+        occurrences.push(Places::new(alloc))?;
+        occurrences.push(Places::new(alloc))?;
+        let mut truth = Vec::new(alloc);
+        truth.push(false)?;
+        truth.push(false)?;
+        Ok(Tables {
+            occurrences,
+            counts: Vec::new(alloc),
+            truth,
+            trail: Vec::new(alloc),
+        })
+    }
+
     /// Assumes that the literals are false, and marks what follows. The answer is whether some
     /// clause is falsified, and how far the trail was counted.
     fn suppose(&mut self, formula: &Formula, lits: &[Lit]) -> Result<(bool, usize), OutOfMemory>
