@@ -9,3 +9,5 @@ pub mod AssumeLemmas
 pub mod SupposeLemmas
 pub mod AddLemmas
 pub mod KeepLemmas
+pub mod JudgeLemmas
+pub mod CheckerLemmas

@@ -91,3 +91,15 @@ IsAnswer old new line (Err Room) = PassesRoom old line × (new ≡ old)
 IsAnswer old new line (Err NotImplied) = IsUnproved old line × (new ≡ old)
 IsAnswer old new line (Err NotNew) = IsOld old line × (new ≡ old)
 IsAnswer old new line (Err Memory) = ⊤
+
+-- the same with one more clause, of the variables up to vars
+abbrev pub with_clause : Kept → List Literal → ℕ → Kept
+with_clause kept c vars = record {
+  room = kept.room;
+  facts = record {
+    greatest = max kept.facts.greatest vars;
+    clauses = kept.facts.clauses ++ c ∷ [];
+    query = kept.facts.query;
+    refuted = kept.facts.refuted;
+  };
+}
