@@ -61,3 +61,10 @@ kept_both old mid new c vars e d = d ∙ ap (λ (f : Cnf). with_clause f c) e
   where
     with_clause : Cnf → List Literal → Cnf
     with_clause f c = record f { clauses = f.clauses ++ c ∷ [] }
+
+greatest_var_push : (cs : Clauses) (c : List Literal) → greatest_var (cs ++ c ∷ []) ≡ max (greatest_var cs) (greatest_in c)
+greatest_var_push [] c = omega arith
+greatest_var_push (d ∷ cs) c = omega (arith, greatest_var_push cs c)
+
+pub greatest_kept : (cs : Clauses) (c : List Literal) (vars more : ℕ) → vars ≤ greatest_var cs → more ≤ max vars (greatest_in c) → max vars more ≤ greatest_var (cs ++ c ∷ [])
+greatest_kept cs c vars more le named = omega (arith, greatest_var_push cs c)

@@ -1,5 +1,5 @@
 -- What a checker keeps of the lines that it accepted, and why it refuses a line.
-use Rattle.std.specs.Prelude.{◌≡◌, ◌≤◌, ◌<◌, ◌⊎◌, ℕ, ◌+◌, max, ⊤, Result, Ok, Err, Option, List, [], ◌∷◌, ◌++◌, All, Any, length}
+use Rattle.std.specs.Prelude.{◌≡◌, ◌≤◌, ◌<◌, ◌⊎◌, ℕ, ◌+◌, max, ⊤, Result, Ok, Err, Option, List, [], ◌∷◌, ◌++◌, All, Any, Contains, length}
 use Rattle.cnf_core.specs.Lit.{Literal}
 use Rattle.cnf_core.specs.Clause.{Clauses, words_of}
 use Rattle.cnf_core.specs.Formula.{Cnf}
@@ -16,8 +16,8 @@ pub record Kept : Type 0 where
   pub room : ℕ
   pub facts : Facts
 
-abbrev pub kept_of : Cnf → Option (List Literal) → Clauses → Kept
-kept_of f query refuted = record { room = f.room; facts = record { greatest = f.vars; clauses = f.clauses; query = query; refuted = refuted } }
+abbrev pub kept_of : ℕ → Cnf → Option (List Literal) → Clauses → Kept
+kept_of room f query refuted = record { room = room; facts = record { greatest = f.vars; clauses = f.clauses; query = query; refuted = refuted } }
 
 -- the facts with one more line
 abbrev pub facts_after : Facts → LogLine → Facts
@@ -103,3 +103,16 @@ with_clause kept c vars = record {
     refuted = kept.facts.refuted;
   };
 }
+
+-- c has each literal of d
+abbrev pub Includes : List Literal → List Literal → Type 0
+Includes c d = (l : Literal) → Contains d l → Contains c l
+
+-- a Learnt line's clause has all the literals of none of the clauses
+abbrev pub IncludesNone : Clauses → LogLine → Type 0
+IncludesNone clauses (Learnt c) = (d : List Literal) → Contains clauses d → Includes c d → ⊥
+IncludesNone clauses line = ⊤
+
+-- some Refuted line has only literals that are allowed
+abbrev pub Refutes : Kept → List Literal → Type 0
+Refutes kept allowed = Any (λ c. Includes allowed c) kept.facts.refuted

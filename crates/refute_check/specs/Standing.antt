@@ -1,5 +1,5 @@
 -- What a checker's tables are good for.
-use Rattle.std.specs.Prelude.{◌≡◌, ◌≤◌, ⊤, ℕ}
+use Rattle.std.specs.Prelude.{◌≤◌, ⊤}
 use Rattle.cnf_core.specs.Formula.{Cnf}
 use Rattle.cnf_core.specs.Propagation.{Falsifies, greatest_var}
 use Rattle.refute_check.specs.declared.tables.Tables.{Tables}
@@ -21,8 +21,3 @@ abbrev pub IsChecker : Cnf → Tables → Standing → Type 0
 IsChecker f t Open = IsOpenChecker f t
 IsChecker f t Contradiction = IsContradicted f
 IsChecker f t Lost = ⊤
-
--- the number beside the formula is its room
-pub record IsCheckerWithin (room : ℕ) (f : Cnf) (t : Tables) (standing : Standing) : Type 0 where
-  pub room_is : room ≡ f.room
-  pub checker : IsChecker f t standing

@@ -129,7 +129,7 @@ pub(crate) fn keep(
     requires there { AreThere (max formula.old.vars vars) lits.now }
     requires limit { vars ≤ VARS }
     requires small { length lits.now < 2 ^ 32 }
-    requires greatest { max formula.old.vars vars ≤ greatest_var (formula.old.clauses ++ lits.now ∷ []) }
+    requires named { vars ≤ max formula.old.vars (greatest_in lits.now) }
     ensures checker { IfOk result (λ s. IsChecker formula.new tables.new s) }
     ensures kept { OnOk result (formula.new ≡ record formula.old { vars = max formula.old.vars vars; clauses = formula.old.clauses ++ lits.now ∷ [] }) }
 {
