@@ -49,7 +49,7 @@ named_line c lits vars room f q rs kept e v k all =
     let n : vars ≡ kept.facts.greatest = v ∙ ap (λ (m : Kept). m.facts.greatest) k in
     subst (λ (ls : List Literal). All (λ l. l.var ≤ kept.facts.greatest) ls) e (subst (λ m. All (λ (l : Literal). l.var ≤ m) lits) n all)
 
-there_below : (m n : ℕ) (c : List Literal) → AreThere m c → All (λ l. l.var ≤ n) c → AreThere n c
+pub there_below : (m n : ℕ) (c : List Literal) → AreThere m c → All (λ l. l.var ≤ n) c → AreThere n c
 there_below m n [] h all = tt
 there_below m n (l ∷ c) h all = ((h.0.0, All-head (λ (k : Literal). k.var ≤ n) l c all), there_below m n c h.1 (All-tail (λ (k : Literal). k.var ≤ n) l c all))
 
@@ -213,7 +213,7 @@ first_or_later first l others m = at m.0 m.1 m.2
     at zero lt e = inl (sym e)
     at (suc i) lt e = inr (i, omega arith, e)
 
-learnt_finite : (clauses : Clauses) (c d : List Literal) → IsNewClause clauses c → Contains clauses d → Includes c d → ⊥
+pub learnt_finite : (clauses : Clauses) (c d : List Literal) → IsNewClause clauses c → Contains clauses d → Includes c d → ⊥
 learnt_finite clauses [] d fresh among within = fresh
 learnt_finite clauses (first ∷ others) d fresh among within = new_includes_none clauses first others fresh d among (λ l m. first_or_later first l others (within l m))
 

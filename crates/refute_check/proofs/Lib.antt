@@ -11,3 +11,5 @@ pub mod AddLemmas
 pub mod KeepLemmas
 pub mod JudgeLemmas
 pub mod CheckerLemmas
+pub mod VerdictLemmas
+pub mod LawLemmas

@@ -4,4 +4,4 @@ use Rattle.refute_check.specs.Kept.{Includes}
 use Rattle.refute_check.proofs.checker.Checker.verdict.Given as goal
 
 abbrev pub invariant-loop-clause : goal.invariant-loop-clause
-invariant-loop-clause l = All (λ c. Includes l.allowed c → ⊥) (take l.clause-index l.self-inside.refuted.items)
+invariant-loop-clause l = All (λ c. Includes l.allowed c → ⊥) (take l.clause-index l.clause-items)
