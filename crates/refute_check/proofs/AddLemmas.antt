@@ -39,7 +39,7 @@ lists_more lits i l number word old mid place now distinct within at w low s rea
         let same : word_of m ≡ word = ap word_of e ∙ sym w in
         let now_at : get_or (set mid word now) (word_of m) [] ≡ now = get_or-set_at mid word (word_of m) now [] same (omega (arith, w, low, s.size)) in
         let was : place ≡ get_or old (word_of l) [] =
-            read ∙ get_or_default mid word place [] (omega (arith, w, low, s.size)) ∙ ap (λ n. get_or mid n []) w ∙ s.each l low ∙ ap (λ b. get_or old (word_of l) [] ++ cond b (number ∷ []) []) lacks ∙ append-nil (get_or old (word_of l) []) in
+        read ∙ get_or_default mid word place [] (omega (arith, w, low, s.size)) ∙ ap (λ n. get_or mid n []) w ∙ s.each l low ∙ ap (λ b. get_or old (word_of l) [] ++ cond b (number ∷ []) []) lacks ∙ append-nil (get_or old (word_of l) []) in
         let has_m : has (take (i + 1) lits) m ≡ true = ap (λ (ls : List Literal). has ls m) next ∙ ap (has (take i lits ++ l ∷ [])) e ∙ has_last (take i lits) l in
         now_at ∙ push ∙ ap (λ (ns : List ℕ). ns ++ number ∷ []) (was ∙ ap (λ n. get_or old n []) (sym (ap word_of e))) ∙ ap (λ b. get_or old (word_of m) [] ++ cond b (number ∷ []) []) (sym has_m)
     | inr ne ↦
@@ -51,6 +51,7 @@ lists_more lits i l number word old mid place now distinct within at w low s rea
   where
     lacks : has (take i lits) l ≡ false
     lacks = front_lacks lits i l distinct within (sym at)
+
     next : take (i + 1) lits ≡ take i lits ++ l ∷ []
     next = take_more lits i l within ∙ ap (λ (k : Literal). take i lits ++ k ∷ []) (sym at)
 
@@ -128,7 +129,7 @@ settled_quiet vars clauses c t s q = record {
   within = s.within;
   reasoned = s.reasoned;
   quiet = all_of clauses c (IsQuiet (has (take (length t.trail.items) t.trail.items)) (has t.trail.items)) s.quiet
-    (subst (λ (ls : List Literal). IsQuiet (has ls) (has t.trail.items) c) (sym (take_all (length t.trail.items) t.trail.items (omega arith))) q);
+      (subst (λ (ls : List Literal). IsQuiet (has ls) (has t.trail.items) c) (sym (take_all (length t.trail.items) t.trail.items (omega arith))) q);
 }
 
 pub settled_falsified : (vars : ℕ) (clauses : Clauses) (c : List Literal) (t : Tables) → IsListed vars clauses c t → All (IsFalse (marked t.truth.items)) c → Falsifies clauses nothing
@@ -136,7 +137,7 @@ settled_falsified vars clauses c t s all = record {
   clause = c;
   among = s.among;
   each = All-weaker (IsFalse (has t.trail.items)) (λ k. Closure clauses nothing (negate k)) (λ k h. s.within (negate k) h) c
-    (let k = s.counted in let table = k.table in all_same_set (marked t.truth.items) (has t.trail.items) c table.marks all);
+      (let k = s.counted in let table = k.table in all_same_set (marked t.truth.items) (has t.trail.items) c table.marks all);
 }
 
 -- the unit literal is marked, and the clause quiet then
@@ -144,10 +145,10 @@ pub unit_quiet : (clauses : Clauses) (c trail : List Literal) (l : Literal) → 
 unit_quiet clauses c trail l quiet u =
     let front : take (length trail) (trail ++ l ∷ []) ≡ take (length trail) trail = take_at trail (l ∷ []) (length trail) refl ∙ sym (take_all (length trail) trail (omega arith)) in
     subst (λ (ls : List Literal). All (IsQuiet (has ls) (has (trail ++ l ∷ []))) clauses) (sym front)
-      (all_of clauses c (IsQuiet (has (take (length trail) trail)) (has (trail ++ l ∷ [])))
-        (All-weaker (λ d. (d ≡ c) ⊎ IsQuiet (has (take (length trail) trail)) (has trail) d) (λ d. (d ≡ c) ⊎ IsQuiet (has (take (length trail) trail)) (has (trail ++ l ∷ [])) d)
-          (λ d h. elim h [ inl e ↦ inl e | inr q ↦ inr (quiet_more (has (take (length trail) trail)) (has trail) (has (trail ++ l ∷ [])) d (push_keeps trail l) q) ]) clauses quiet)
-        (quiet_marked trail c l (has (take (length trail) trail)) u (front_includes trail (length trail))))
+    (all_of clauses c (IsQuiet (has (take (length trail) trail)) (has (trail ++ l ∷ [])))
+    (All-weaker (λ d. (d ≡ c) ⊎ IsQuiet (has (take (length trail) trail)) (has trail) d) (λ d. (d ≡ c) ⊎ IsQuiet (has (take (length trail) trail)) (has (trail ++ l ∷ [])) d)
+    (λ d h. elim h [ inl e ↦ inl e | inr q ↦ inr (quiet_more (has (take (length trail) trail)) (has trail) (has (trail ++ l ∷ [])) d (push_keeps trail l) q) ]) clauses quiet)
+    (quiet_marked trail c l (has (take (length trail) trail)) u (front_includes trail (length trail))))
 
 pub unit_counted : (vars : ℕ) (clauses : Clauses) (truth then : List Bool) (trail : List Literal) (counts : List ℕ) (l : Literal) → IsCounted vars clauses truth trail counts (length trail) → IsTrail vars then (trail ++ l ∷ []) → IsCounted vars clauses then (trail ++ l ∷ []) counts (length trail)
 unit_counted vars clauses truth then trail counts l c t = record {
@@ -230,8 +231,10 @@ var_added vars clauses old new there s occurrences truth trail counts = record {
   where
     table : IsTrail vars old.truth.items old.trail.items
     table = let k = s.counted in k.table
+
     low_or_high : (i n : ℕ) → (i < n) ⊎ (n ≤ i)
     low_or_high i n = grind arith
+
     by_place : (l : Literal) → (word_of l < length old.occurrences.items) ⊎ (length old.occurrences.items ≤ word_of l) → get_or old.occurrences.items (word_of l) [] ≡ places_from 0 clauses l
     by_place l (inl low) = let o = s.occurrences in o.each l low
     by_place l (inr high) = let o = s.occurrences in

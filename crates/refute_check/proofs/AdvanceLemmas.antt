@@ -57,25 +57,29 @@ quiet_next clauses trail new counts front l within e g quiet right looked =
   where
     fronts : take (front + 1) new ≡ take front trail ++ l ∷ []
     fronts = same_front clauses trail new (front + 1) g (omega arith) ∙ next_front trail front l within e
+
     set_is : (c : List Literal) → IsQuiet (has (take front trail ++ l ∷ [])) (has new) c → IsQuiet (has (take (front + 1) new)) (has new) c
     set_is c q = subst (λ (ls : List Literal). IsQuiet (has ls) (has new) c) (sym fronts) q
+
     at_default : (n : ℕ) (d : List Literal) → n < length clauses → IsQuiet (has (take (front + 1) new)) (has new) (get_or clauses n []) → IsQuiet (has (take (front + 1) new)) (has new) (get_or clauses n d)
     at_default n d there q = subst (λ (c : List Literal). IsQuiet (has (take (front + 1) new)) (has new) c) (get_or_default clauses n [] d there) q
+
     within_trail : Includes (has trail) (has (take front trail ++ l ∷ []))
     within_trail = subst (λ (ls : List Literal). Includes (has trail) (has ls)) (next_front trail front l within e) (front_includes trail (front + 1))
+
     by_test : (n : ℕ) (d : List Literal) → n < length clauses → (b : Bool) → has (get_or clauses n []) (negate l) ≡ b → IsQuiet (has (take (front + 1) new)) (has new) (get_or clauses n d)
     by_test n d there true h = at_default n d there (set_is (get_or clauses n [])
-      (All-contains (λ m. IsQuietNow (get_or clauses m []) (get_or counts m 0) trail new) (places_from 0 clauses (negate l)) n looked (named_by clauses (negate l) n there h)
+        (All-contains (λ m. IsQuietNow (get_or clauses m []) (get_or counts m 0) trail new) (places_from 0 clauses (negate l)) n looked (named_by clauses (negate l) n there h)
         (has (take front trail ++ l ∷ [])) within_trail (right.each n there)))
     by_test n d there false h = at_default n d there (set_is (get_or clauses n [])
-      (quiet_more (has (take front trail ++ l ∷ [])) (has trail) (has new) (get_or clauses n []) g.keeps (quiet_untouched (take front trail) (get_or clauses n []) (has trail) l h (quiet n [] there))))
+        (quiet_more (has (take front trail ++ l ∷ [])) (has trail) (has new) (get_or clauses n []) g.keeps (quiet_untouched (take front trail) (get_or clauses n []) (has trail) l h (quiet n [] there))))
 
 pub counted_next : (vars : ℕ) (clauses : Clauses) (truth then : List Bool) (trail new : List Literal) (old counts : List ℕ) (front : ℕ) (l : Literal) → front < length trail → get_or trail front l ≡ l → AllDistinct clauses → IsCounted vars clauses truth trail old front → Grows clauses trail new → IsTrail vars then new → length counts ≡ length old → CountedUp (places_from 0 clauses (negate l)) old counts → IsCounted vars clauses then new counts (front + 1)
 counted_next vars clauses truth then trail new old counts front l within e distinct counted g t same up = record {
   table = t;
   within = let longer = g.longer in omega arith;
   right = subst (λ (ls : List Literal). AreCounts clauses (has ls) counts) (sym (same_front clauses trail new (front + 1) g (omega arith) ∙ next_front trail front l within e))
-    (counts_up clauses (take front trail) l old counts distinct (front_lacks trail front l (let k = counted.table in k.distinct) within e) counted.right same up);
+      (counts_up clauses (take front trail) l old counts distinct (front_lacks trail front l (let k = counted.table in k.distinct) within e) counted.right same up);
 }
 
 pub right_next : (clauses : Clauses) (trail : List Literal) (old counts : List ℕ) (front : ℕ) (l : Literal) → front < length trail → get_or trail front l ≡ l → AllDistinct clauses → AreDistinct trail → AreCounts clauses (has (take front trail)) old → length counts ≡ length old → CountedUp (places_from 0 clauses (negate l)) old counts → AreCounts clauses (has (take front trail ++ l ∷ [])) counts

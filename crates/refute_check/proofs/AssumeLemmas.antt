@@ -56,7 +56,7 @@ assumed_more vars lits old truth then new now i l n within at s is t e =
       table = t;
       assumes = subst (λ (ls : List Literal). Assumes lits old ls) (sym behind) (assumes_push lits old new i l within at s.assumes);
       false_now = subst (λ (ls : List Literal). All (IsFalse (has ls)) (take (i + 1) lits)) (sym behind)
-        (All-more (IsFalse (has (new ++ negate l ∷ []))) lits i l within
+          (All-more (IsFalse (has (new ++ negate l ∷ []))) lits i l within
           (All-weaker (IsFalse (has new)) (IsFalse (has (new ++ negate l ∷ []))) (λ k h. push_keeps new (negate l) (negate k) h) (take i lits) s.false_now)
           (subst (λ (k : Literal). IsFalse (has (new ++ negate l ∷ [])) k) at (has_last new (negate l))));
     }

@@ -164,8 +164,10 @@ refuted_accepts old mid new room f q rs now c lits d e de same k push is named a
   where
     with_refuted : Kept → List Literal → Kept
     with_refuted m c = record { room = m.room; facts = record { greatest = m.facts.greatest; clauses = m.facts.clauses; query = m.facts.query; refuted = m.facts.refuted ++ c ∷ [] } }
+
     with_both : ℕ → Clauses → Kept
     with_both n cs = record { room = old.room; facts = record { greatest = n; clauses = cs; query = old.facts.query; refuted = old.facts.refuted ++ c ∷ [] } }
+
     whole : with_refuted old c ≡ kept_after old (Refuted c)
     whole = let zero : old.facts.greatest ≡ max old.facts.greatest 0 = omega arith in ap (λ n. with_both n old.facts.clauses) zero ∙ ap (λ (cs : Clauses). with_both (max old.facts.greatest 0) cs) (sym (append-nil old.facts.clauses))
 

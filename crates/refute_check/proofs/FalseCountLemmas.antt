@@ -98,8 +98,8 @@ tail_of k l c (suc i) lt e ne = has_from_contains c l (i, omega arith, e)
 
 has_cons_other : (k l : Literal) (c : List Literal) → (k ≡ l → ⊥) → has (k ∷ c) l ≡ has c l
 has_cons_other k l c ne = same_true (has (k ∷ c) l) (has c l)
-  (λ h. let m = contains_from_has (k ∷ c) l h in tail_of k l c m.0 m.1 m.2 ne)
-  (λ h. has_from_contains (k ∷ c) l (contains_tail k l c (contains_from_has c l h)))
+    (λ h. let m = contains_from_has (k ∷ c) l h in tail_of k l c m.0 m.1 m.2 ne)
+    (λ h. has_from_contains (k ∷ c) l (contains_tail k l c (contains_from_has c l h)))
 
 pub false_more : (trail c : List Literal) (l : Literal) → AreDistinct c → has trail l ≡ false → false_count (has (trail ++ l ∷ [])) c ≡ false_count (has trail) c + one_has c (negate l)
 false_more trail [] l distinct none = refl
@@ -127,8 +127,8 @@ false_small set clauses n = omega (arith, count_by-le-length (λ k. set (negate 
 -- what counting up and down needs and leaves
 pub up_small : (clauses : Clauses) (trail : List Literal) (l : Literal) (counts : List ℕ) → AllDistinct clauses → has trail l ≡ false → words_of clauses ≤ 268435456 → AreCounts clauses (has trail) counts → All (λ n. get_or counts n 0 + times (places_from 0 clauses (negate l)) n < 2 ^ 32) (places_from 0 clauses (negate l))
 up_small clauses trail l counts distinct none small right = All-weaker (IsBelow (length clauses)) (λ n. get_or counts n 0 + times (places_from 0 clauses (negate l)) n < 2 ^ 32)
-  (λ n within. omega (arith, right.each n within, times_in clauses (negate l) n within, false_more trail (get_or clauses n []) l (distinct_at clauses n distinct) none, false_small (has (trail ++ l ∷ [])) clauses n))
-  (places_from 0 clauses (negate l)) (places_there clauses (negate l))
+    (λ n within. omega (arith, right.each n within, times_in clauses (negate l) n within, false_more trail (get_or clauses n []) l (distinct_at clauses n distinct) none, false_small (has (trail ++ l ∷ [])) clauses n))
+    (places_from 0 clauses (negate l)) (places_there clauses (negate l))
 
 pub counts_up : (clauses : Clauses) (trail : List Literal) (l : Literal) (old new : List ℕ) → AllDistinct clauses → has trail l ≡ false → AreCounts clauses (has trail) old → length new ≡ length old → CountedUp (places_from 0 clauses (negate l)) old new → AreCounts clauses (has (trail ++ l ∷ [])) new
 counts_up clauses trail l old new distinct none right same up = record {
@@ -138,8 +138,8 @@ counts_up clauses trail l old new distinct none right same up = record {
 
 pub down_enough : (clauses : Clauses) (trail : List Literal) (l : Literal) (counts : List ℕ) → AllDistinct clauses → has trail l ≡ false → AreCounts clauses (has (trail ++ l ∷ [])) counts → All (λ n. times (places_from 0 clauses (negate l)) n ≤ get_or counts n 0) (places_from 0 clauses (negate l))
 down_enough clauses trail l counts distinct none right = All-weaker (IsBelow (length clauses)) (λ n. times (places_from 0 clauses (negate l)) n ≤ get_or counts n 0)
-  (λ n within. omega (arith, right.each n within, times_in clauses (negate l) n within, false_more trail (get_or clauses n []) l (distinct_at clauses n distinct) none))
-  (places_from 0 clauses (negate l)) (places_there clauses (negate l))
+    (λ n within. omega (arith, right.each n within, times_in clauses (negate l) n within, false_more trail (get_or clauses n []) l (distinct_at clauses n distinct) none))
+    (places_from 0 clauses (negate l)) (places_there clauses (negate l))
 
 pub counts_down : (clauses : Clauses) (trail : List Literal) (l : Literal) (old new : List ℕ) → AllDistinct clauses → has trail l ≡ false → AreCounts clauses (has (trail ++ l ∷ [])) old → length new ≡ length old → CountedUp (places_from 0 clauses (negate l)) new old → AreCounts clauses (has trail) new
 counts_down clauses trail l old new distinct none right same up = record {
@@ -161,6 +161,7 @@ named_by clauses l n within h = named_from clauses l 0 n n (omega arith) within 
     later : (b : Bool) (m n : ℕ) (ms : List ℕ) → Contains ms n → Contains (cond b (m ∷ ms) ms) n
     later true m n ms h = let lt = h.1 in (suc h.0, omega arith, h.2)
     later false m n ms h = h
+
     named_from : (cs : Clauses) (l : Literal) (s k n : ℕ) → n ≡ s + k → k < length cs → has (get_or cs k []) l ≡ true → Contains (places_from s cs l) n
     named_from [] l s k n e within h = absurd (omega arith)
     named_from (c ∷ cs) l s zero n e within h = let same : s ≡ n = omega arith in rw h (0, omega arith, same)

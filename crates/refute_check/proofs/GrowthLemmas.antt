@@ -185,6 +185,6 @@ looked_one vars clauses numbers counts old truth then mid new i within s t g q =
   table = t;
   grows = grows_more clauses old mid new s.grows g;
   quiet = All-more (λ n. IsQuietNow (get_or clauses n []) (get_or counts n 0) old new) numbers i 0 within
-    (All-weaker (λ n. IsQuietNow (get_or clauses n []) (get_or counts n 0) old mid) (λ n. IsQuietNow (get_or clauses n []) (get_or counts n 0) old new) (λ n h. still_now (get_or clauses n []) (get_or counts n 0) old old mid new (λ l m. m) g.keeps h) (take i numbers) s.quiet)
-    (still_now (get_or clauses (get_or numbers i 0) []) (get_or counts (get_or numbers i 0) 0) old mid new new (let k = s.grows in k.keeps) (λ l m. m) q);
+      (All-weaker (λ n. IsQuietNow (get_or clauses n []) (get_or counts n 0) old mid) (λ n. IsQuietNow (get_or clauses n []) (get_or counts n 0) old new) (λ n h. still_now (get_or clauses n []) (get_or counts n 0) old old mid new (λ l m. m) g.keeps h) (take i numbers) s.quiet)
+      (still_now (get_or clauses (get_or numbers i 0) []) (get_or counts (get_or numbers i 0) 0) old mid new new (let k = s.grows in k.keeps) (λ l m. m) q);
 }

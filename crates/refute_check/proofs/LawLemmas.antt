@@ -212,14 +212,14 @@ learnt_added : (lines : Lines) (d : List Literal) → Contains (flat_map learnt 
 learnt_added [] d m = m
 learnt_added (line ∷ lines) d m =
     subst (λ (cs : Clauses). Contains cs d) (sym (flat_map-cons added line lines))
-      (by_kind (flat_map learnt lines) (flat_map added lines) d (λ h. learnt_added lines d h) line
-        (Contains-append_cases (learnt line) (flat_map learnt lines) d (subst (λ (cs : Clauses). Contains cs d) (flat_map-cons learnt line lines) m)))
+    (by_kind (flat_map learnt lines) (flat_map added lines) d (λ h. learnt_added lines d h) line
+    (Contains-append_cases (learnt line) (flat_map learnt lines) d (subst (λ (cs : Clauses). Contains cs d) (flat_map-cons learnt line lines) m)))
 
 -- one line more
 few_more : (v : ℕ) (lines : Lines) (line : LogLine) → (facts_of lines).greatest ≤ v → IsWellFormed line → Stands lines line → AllDistinct (flat_map learnt lines) → Few v (flat_map learnt lines) → Few v (flat_map learnt lines ++ learnt line)
 few_more v lines (Learnt c) le formed s distinct few =
     few_push v (flat_map learnt lines) (flat_map added lines) c few (learnt_added lines) distinct
-      (there_below last_var v c formed.0 (λ i d within. let low = s.named i d within in omega (arith, low, le))) s.says_more
+    (there_below last_var v c formed.0 (λ i d within. let low = s.named i d within in omega (arith, low, le))) s.says_more
 few_more v lines (Formula c) le formed s distinct few = rw (append-nil (flat_map learnt lines)) few
 few_more v lines (Bound criterion k x) le formed s distinct few = rw (append-nil (flat_map learnt lines)) few
 few_more v lines (Query c) le formed s distinct few = rw (append-nil (flat_map learnt lines)) few

@@ -93,10 +93,13 @@ quiet_two set c i u d distinct within s not_false =
   where
     size : length (take i c) ≡ i
     size = length-take-le i c (omega arith)
+
     below : s.among.0 < i
     below = let lt = s.among.1 in omega (arith, size, lt)
+
     low : s.among.0 < length c
     low = omega (arith, below)
+
     at_u : get_or c s.among.0 u ≡ u
     at_u = sym (get_or-take i c s.among.0 u below) ∙ s.among.2
 

@@ -30,7 +30,7 @@ assumed_counted vars clauses truth then old mid counts lits c a t = record {
 pub assumed_quiet : (clauses : Clauses) (old mid lits : List Literal) → AreQuiet clauses old (length old) → Assumes lits old mid → AreQuiet clauses mid (length old)
 assumed_quiet clauses old mid lits q a =
     subst (λ (ls : List Literal). All (IsQuiet (has ls) (has mid)) clauses) (take_all (length old) old (omega arith) ∙ sym a.front)
-      (All-weaker (IsQuiet (has (take (length old) old)) (has old)) (IsQuiet (has (take (length old) old)) (has mid)) (λ c h. quiet_more (has (take (length old) old)) (has old) (has mid) c a.keeps h) clauses q)
+    (All-weaker (IsQuiet (has (take (length old) old)) (has old)) (IsQuiet (has (take (length old) old)) (has mid)) (λ c h. quiet_more (has (take (length old) old)) (has old) (has mid) c a.keeps h) clauses q)
 
 -- an assumption is false already
 pub clash_falsifies : (clauses : Clauses) (trail lits : List Literal) → ((l : Literal) → IsIn (has trail) l → Closure clauses nothing l) → ((l : Literal) → IsIn (has trail) l → HasReason clauses (has trail) l) → Clashes lits trail → Falsifies clauses (negations lits)
@@ -48,8 +48,8 @@ clash_falsifies clauses trail lits within reasoned clash =
 -- what is on the trail after propagation follows of the assumptions
 pub supposed_within : (clauses : Clauses) (old mid new lits : List Literal) → ((l : Literal) → IsIn (has old) l → Closure clauses nothing l) → Assumes lits old mid → Grows clauses mid new → (l : Literal) → IsIn (has new) l → Closure clauses (negations lits) l
 supposed_within clauses old mid new lits within a g l h = closure_again clauses (negations lits) (has mid) l
-  (λ k m. elim (a.only k m) [ inl o ↦ closure_any clauses (negations lits) k (within k o) | inr n ↦ closure_start clauses (negations lits) k n ])
-  (g.within l h)
+    (λ k m. elim (a.only k m) [ inl o ↦ closure_any clauses (negations lits) k (within k o) | inr n ↦ closure_start clauses (negations lits) k n ])
+    (g.within l h)
 
 pub supposed_falsifies : (clauses : Clauses) (old mid new lits : List Literal) → ((l : Literal) → IsIn (has old) l → Closure clauses nothing l) → Assumes lits old mid → Grows clauses mid new → Falsified clauses (has new) → Falsifies clauses (negations lits)
 supposed_falsifies clauses old mid new lits within a g f = record {

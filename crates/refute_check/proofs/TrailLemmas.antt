@@ -40,11 +40,11 @@ same_true false false f g = refl
 
 pub has_front : (ls : List Literal) (l k : Literal) → (k ≡ l → ⊥) → has (ls ++ l ∷ []) k ≡ has ls k
 has_front ls l k ne = same_true (has (ls ++ l ∷ []) k) (has ls k)
-  (λ h. elim (Contains-push_cases ls l k (contains_from_has (ls ++ l ∷ []) k h)) [
-    | inl m ↦ has_from_contains ls k m
-    | inr e ↦ absurd (ne (sym e))
-  ])
-  (λ h. has_from_contains (ls ++ l ∷ []) k (Contains-append_left ls (l ∷ []) k (contains_from_has ls k h)))
+    (λ h. elim (Contains-push_cases ls l k (contains_from_has (ls ++ l ∷ []) k h)) [
+      | inl m ↦ has_from_contains ls k m
+      | inr e ↦ absurd (ne (sym e))
+    ])
+    (λ h. has_from_contains (ls ++ l ∷ []) k (Contains-append_left ls (l ∷ []) k (contains_from_has ls k h)))
 
 pub not_both : (b : Bool) → b ≡ true → b ≡ false → ⊥
 not_both b h k = cc
@@ -189,9 +189,11 @@ trail_less vars truth trail l t =
         let there : get_or (trail ++ l ∷ []) among.0 l ≡ l = get_or_append_left trail (l ∷ []) l among.0 among.1 ∙ among.2 in
         let last : get_or (trail ++ l ∷ []) (length trail) l ≡ l = get_or_push trail l l (length trail) refl in
         pairs_from_distinct (trail ++ l ∷ []) t.distinct among.0 (length trail) l among.1 (omega (arith, length-append trail (l ∷ []))) (ap (λ (m : Literal). m.var) there ∙ sym (ap (λ (m : Literal). m.var) last))
+
     false_of : (b : Bool) → (b ≡ true → ⊥) → b ≡ false
     false_of true f = absurd (f refl)
     false_of false f = refl
+
     last_once : {k : Literal} → k ≡ l → has trail k ≡ false
     last_once {k} e = ap (has trail) e ∙ false_of (has trail l) gone
 

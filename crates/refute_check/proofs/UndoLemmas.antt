@@ -38,7 +38,7 @@ whole trail = take_all (length trail) trail (omega arith)
 pub last_lacks : (trail : List Literal) (l : Literal) → AreDistinct (trail ++ l ∷ []) → has trail l ≡ false
 last_lacks trail l distinct =
     subst (λ (ls : List Literal). has ls l ≡ false) (take_at trail (l ∷ []) (length trail) refl)
-      (front_lacks (trail ++ l ∷ []) (length trail) l distinct (omega (arith, length-append trail (l ∷ []))) (get_or_push trail l l (length trail) refl))
+    (front_lacks (trail ++ l ∷ []) (length trail) l distinct (omega (arith, length-append trail (l ∷ []))) (get_or_push trail l l (length trail) refl))
 
 pub counted_whole : (vars : ℕ) (clauses : Clauses) (truth : List Bool) (trail : List Literal) (counts : List ℕ) → IsCounted vars clauses truth trail counts (length trail) → AreCounts clauses (has trail) counts
 counted_whole vars clauses truth trail counts c = subst (λ (ls : List Literal). AreCounts clauses (has ls) counts) (whole trail) c.right

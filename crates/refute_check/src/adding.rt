@@ -41,7 +41,12 @@ fn count_false(lits: &[Lit], truth: &[bool], vars: u32) -> u32
 }
 
 /// Puts the clause's number behind those of each of its literals.
-fn list_clause(occurrences: &mut Vec<Places>, lits: &[Lit], number: u32, vars: u32) -> Result<(), OutOfMemory>
+fn list_clause(
+    occurrences: &mut Vec<Places>,
+    lits: &[Lit],
+    number: u32,
+    vars: u32,
+) -> Result<(), OutOfMemory>
     requires table { length occurrences.old.items ≡ 2 * vars + 2 }
     requires there { AreThere vars lits.now }
     requires distinct { AreDistinct lits.now }
@@ -64,7 +69,12 @@ impl Tables {
         ensures { OnOk result (IsListed formula.now.vars (formula.now.clauses ++ lits.now ∷ []) lits.now self.new) }
     {
         let count = count_false(lits, &self.truth, formula.vars());
-        list_clause(&mut self.occurrences, lits, formula.clauses(), formula.vars())?;
+        list_clause(
+            &mut self.occurrences,
+            lits,
+            formula.clauses(),
+            formula.vars(),
+        )?;
         self.counts.push(count)?;
         Ok(())
     }
@@ -86,12 +96,7 @@ impl Tables {
     }
 
     /// Marks the literal of the clause that is alone not false, and what follows.
-    fn settle_unit(
-        &mut self,
-        formula: &Formula,
-        lits: &[Lit],
-        l: Lit,
-    ) -> Result<bool, OutOfMemory>
+    fn settle_unit(&mut self, formula: &Formula, lits: &[Lit], l: Lit) -> Result<bool, OutOfMemory>
         requires listed { IsListed formula.now.vars formula.now.clauses lits.now self.old }
         requires there { AreThere formula.now.vars lits.now }
         requires unset { IsUnset (marked self.old.truth.items) lits.now l }

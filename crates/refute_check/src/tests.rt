@@ -151,13 +151,18 @@ static LOGS: [Log; 10] = [
     Log(2, &[Step(Formula, &[], Room)]),
 ];
 
-/// The literal of a number. No line has the number 0.
-fn literal(number: i32) -> Lit {
-    let var = number.unsigned_abs();
+/// The literal of a variable, which isn't 0 in any line.
+fn variable(var: u32) -> Lit {
     if var == 0 || var > LAST_VAR {
         return Lit::new(Var(1), true);
     }
-    Lit::new(Var(var), number > 0)
+    Lit::new(Var(var), true)
+}
+
+/// The literal of a number, which is negative for a negative literal.
+fn literal(number: i32) -> Lit {
+    let l = variable(number.unsigned_abs());
+    if number < 0 { l.negated() } else { l }
 }
 
 fn has_var(lits: &[Lit], l: Lit) -> bool
@@ -185,12 +190,12 @@ fn add(lits: &mut Vec<Lit>, l: Lit) -> Result<(), OutOfMemory>
     Ok(())
 }
 
-fn clause(alloc: Global, numbers: &[i32]) -> Result<Clause, OutOfMemory>
+fn clause(alloc: Global, given: &[Lit]) -> Result<Clause, OutOfMemory>
     ensures { IfOk result (λ c. AreThere LAST_VAR c) }
 {
     let mut lits = Vec::new(alloc);
-    for n in numbers {
-        add(&mut lits, literal(*n))?;
+    for l in given {
+        add(&mut lits, *l)?;
     }
     Ok(Clause::from_vec(lits))
 }
@@ -205,10 +210,10 @@ fn learnt(clause: Clause) -> LogLine
     LogLine::Learnt(clause)
 }
 
-fn line(alloc: Global, kind: Kind, numbers: &[i32]) -> Result<LogLine, OutOfMemory>
+fn line(alloc: Global, kind: Kind, lits: &[Lit]) -> Result<LogLine, OutOfMemory>
     ensures { IfOk result IsWellFormed }
 {
-    let c = clause(alloc, numbers)?;
+    let c = clause(alloc, lits)?;
     Ok(match kind {
         Kind::Formula => LogLine::Formula(c),
         Kind::Learnt => learnt(c),
@@ -223,8 +228,8 @@ fn line(alloc: Global, kind: Kind, numbers: &[i32]) -> Result<LogLine, OutOfMemo
     })
 }
 
-fn answer(result: Result<(), LineFault>) -> Answer {
-    match result {
+fn answer_of(outcome: Result<(), LineFault>) -> Answer {
+    match outcome {
         Ok(()) => Answer::Accepted,
         Err(LineFault::NewVar) => Answer::NewVar,
         Err(LineFault::WrongQuery) => Answer::WrongQuery,
@@ -240,20 +245,34 @@ fn told(
     alloc: Global,
     checker: &mut Checker,
     kind: Kind,
+    lits: &[Lit],
+) -> Result<Answer, OutOfMemory> {
+    let line = line(alloc, kind, lits)?;
+    Ok(answer_of(checker.feed(&line)))
+}
+
+/// The same, of the literals of numbers.
+fn told_numbers(
+    alloc: Global,
+    checker: &mut Checker,
+    kind: Kind,
     numbers: &[i32],
 ) -> Result<Answer, OutOfMemory> {
-    let line = line(alloc, kind, numbers)?;
-    Ok(answer(checker.feed(&line)))
+    let mut lits = Vec::new(alloc);
+    for n in numbers {
+        lits.push(literal(*n))?;
+    }
+    told(alloc, checker, kind, &lits)
 }
 
 #[test]
 fn each_line_has_its_answer(rt: HostRuntime) -> Result<(), Fail> {
     let alloc = rt.alloc();
     for log in &LOGS {
-        let room = log.0.min(1000);
+        let room = if log.0 < 1000 { log.0 } else { 1000 };
         let mut checker = Checker::new(alloc, room)?;
         for step in log.1 {
-            let got = told(alloc, &mut checker, step.0, step.1)?;
+            let got = told_numbers(alloc, &mut checker, step.0, step.1)?;
             assert!(rt; got == step.2);
         }
     }
@@ -264,14 +283,14 @@ fn each_line_has_its_answer(rt: HostRuntime) -> Result<(), Fail> {
 fn a_verdict_wants_a_refuted_line_of_allowed_literals(rt: HostRuntime) -> Result<(), Fail> {
     let alloc = rt.alloc();
     let mut checker = Checker::new(alloc, 100)?;
-    told(alloc, &mut checker, Kind::Formula, &[1, 2])?;
-    told(alloc, &mut checker, Kind::Formula, &[-1])?;
-    told(alloc, &mut checker, Kind::Query, &[-2, -1])?;
+    told_numbers(alloc, &mut checker, Kind::Formula, &[1, 2])?;
+    told_numbers(alloc, &mut checker, Kind::Formula, &[-1])?;
+    told_numbers(alloc, &mut checker, Kind::Query, &[-2, -1])?;
     let allowed = [literal(1), literal(2)];
     assert!(rt; !checker.verdict(&allowed));
-    told(alloc, &mut checker, Kind::Refuted, &[])?;
+    told_numbers(alloc, &mut checker, Kind::Refuted, &[])?;
     assert!(rt; !checker.verdict(&allowed));
-    told(alloc, &mut checker, Kind::Refuted, &[2])?;
+    told_numbers(alloc, &mut checker, Kind::Refuted, &[2])?;
     assert!(rt; checker.verdict(&allowed));
     assert!(rt; !checker.verdict(&[literal(1)]));
     assert!(rt; !checker.verdict(&[]));
@@ -279,20 +298,29 @@ fn a_verdict_wants_a_refuted_line_of_allowed_literals(rt: HostRuntime) -> Result
 }
 
 /// How many links each of the two chains of the long log has.
-const LINKS: i32 = 2_000;
+const LINKS: u32 = 2_000;
 
-/// Tells the formula of the long log: two chains of implications that end in a contradiction, each
-/// with a literal that is false, and twenty literals that imply both where they are false.
+/// Tells that the first literal implies the second where the variable 1 is false.
+fn tell_link(alloc: Global, checker: &mut Checker, from: u32, to: u32) -> Result<(), OutOfMemory> {
+    let lits = [variable(from).negated(), variable(1), variable(to)];
+    told(alloc, checker, Kind::Formula, &lits)?;
+    Ok(())
+}
+
+/// Tells the formula of the long log: two chains of implications, whose last literals aren't both
+/// true, and twenty literals that are true or start both chains.
 fn tell_chains(alloc: Global, checker: &mut Checker) -> Result<(), OutOfMemory> {
-    told(alloc, checker, Kind::Formula, &[-1])?;
+    told(alloc, checker, Kind::Formula, &[variable(1).negated()])?;
     for i in 2..LINKS {
-        told(alloc, checker, Kind::Formula, &[-i, 1, i + 1])?;
-        told(alloc, checker, Kind::Formula, &[-i - LINKS, 1, i + 1 + LINKS])?;
+        tell_link(alloc, checker, i, i + 1)?;
+        tell_link(alloc, checker, i + LINKS, i + 1 + LINKS)?;
     }
-    told(alloc, checker, Kind::Formula, &[-LINKS, 1, -2 * LINKS])?;
+    let ends = [variable(LINKS).negated(), variable(2 * LINKS).negated()];
+    told(alloc, checker, Kind::Formula, &ends)?;
     for j in 1..21 {
-        told(alloc, checker, Kind::Formula, &[2 * LINKS + j, 2])?;
-        told(alloc, checker, Kind::Formula, &[2 * LINKS + j, 2 + LINKS])?;
+        let start = variable(2 * LINKS + j);
+        told(alloc, checker, Kind::Formula, &[start, variable(2)])?;
+        told(alloc, checker, Kind::Formula, &[start, variable(2 + LINKS)])?;
     }
     Ok(())
 }
@@ -303,7 +331,8 @@ fn long_chains_are_followed_to_their_end(rt: HostRuntime) -> Result<(), Fail> {
     let mut checker = Checker::new(alloc, 1_000_000)?;
     tell_chains(alloc, &mut checker)?;
     for j in 1..21 {
-        let got = told(alloc, &mut checker, Kind::Learnt, &[2 * LINKS + j])?;
+        let start = variable(2 * LINKS + j);
+        let got = told(alloc, &mut checker, Kind::Learnt, &[start])?;
         assert!(rt; got == Answer::Accepted);
     }
     Ok(())

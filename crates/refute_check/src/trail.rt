@@ -8,7 +8,12 @@ use cnf_core::Lit;
 use plan_core::OutOfMemory;
 
 /// Marks a literal that is neither true nor false.
-pub(crate) fn mark(truth: &mut [bool], trail: &mut Vec<Lit>, vars: u32, l: Lit) -> Result<(), OutOfMemory>
+pub(crate) fn mark(
+    truth: &mut [bool],
+    trail: &mut Vec<Lit>,
+    vars: u32,
+    l: Lit,
+) -> Result<(), OutOfMemory>
     requires trail { IsTrail vars truth.old trail.old.items }
     requires there { IsThere vars l }
     requires not_true { marked truth.old l ≡ false }

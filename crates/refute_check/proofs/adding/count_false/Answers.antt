@@ -8,7 +8,7 @@ use Rattle.refute_check.proofs.adding.count_false.Goals as goal
 use Rattle.refute_check.proofs.adding.count_false.Goals.{then-is_marked, else-is_marked}
 
 pub is_marked-requires-clause-there : goal.is_marked-requires-clause-there
-is_marked-requires-clause-there c = 
+is_marked-requires-clause-there c =
     let h = there_get c.args.vars c.args.lits.now c.loop-l.l-index c.l-item.result c.loop-l-test.true c.requires.there in
     let there = subst (λ (k : Literal). IsThere c.args.vars k) (sym c.l-item.is) h in
     subst (λ (k : Literal). IsThere c.args.vars k) (sym c.negated.ensures) there

@@ -10,7 +10,7 @@ loop-front-init c = propagated_none c.args.formula.now.vars c.args.formula.now.c
 pub loop-front-preserved : goal.loop-front-preserved
 loop-front-preserved c =
     propagated_more c.args.formula.now.vars c.args.formula.now.clauses c.args.trail.now.items c.loop-front.trail.items c.advance.new.trail.items c.loop-front.truth c.advance.new.truth c.loop-front.counts c.advance.new.counts c.args.from c.loop-front.front
-      c.loop-front.invariant c.in_ok-found.ensures.counted (c.in_ok-found.ensures.quiet c.if-found.false) c.in_ok-found.ensures.grows
+    c.loop-front.invariant c.in_ok-found.ensures.counted (c.in_ok-found.ensures.quiet c.if-found.false) c.in_ok-found.ensures.grows
 
 pub loop-front-smaller : goal.loop-front-smaller
 loop-front-smaller c =

@@ -25,7 +25,7 @@ count_down-requires-clause-enough c =
     let right = back_right c.args.formula.now.vars c.args.formula.now.clauses c.args.truth.now c.args.trail.now.items c.unmark_last.new.trail.items c.in-Some.l c.args.counts.now c.requires.counted c.in-Some.ensures.last in
     let lacks = back_lacks c.args.formula.now.vars c.args.truth.now c.args.trail.now.items c.unmark_last.new.trail.items c.in-Some.l c.requires.counted.table c.in-Some.ensures.last in
     subst (λ (ns : List ℕ). All (λ n. times ns n ≤ get_or c.args.counts.now n 0) ns) (sym is)
-      (down_enough c.args.formula.now.clauses c.unmark_last.new.trail.items c.in-Some.l c.args.counts.now c.vars-vars.ensures.formula.distinct lacks right)
+    (down_enough c.args.formula.now.clauses c.unmark_last.new.trail.items c.in-Some.l c.args.counts.now c.vars-vars.ensures.formula.distinct lacks right)
 
 pub returns-in-Some-clause-counted : goal.returns-in-Some-clause-counted
 returns-in-Some-clause-counted c =
@@ -35,8 +35,8 @@ returns-in-Some-clause-counted c =
     let lacks = back_lacks c.args.formula.now.vars c.args.truth.now c.args.trail.now.items c.unmark_last.new.trail.items c.in-Some.l c.requires.counted.table c.in-Some.ensures.last in
     let t = subst (λ vars. IsTrail vars c.unmark_last.new.truth c.unmark_last.new.trail.items) c.vars-vars.ensures.value c.in-Some.ensures.trail in
     counted_from c.args.formula.now.vars clauses c.unmark_last.new.truth c.unmark_last.new.trail.items c.count_down.new.counts t
-      (counts_down clauses c.unmark_last.new.trail.items c.in-Some.l c.args.counts.now c.count_down.new.counts c.vars-vars.ensures.formula.distinct lacks right c.count_down.auto.counts
-        (subst (λ (ns : List ℕ). CountedUp ns c.count_down.new.counts c.args.counts.now) is c.count_down.ensures))
+    (counts_down clauses c.unmark_last.new.trail.items c.in-Some.l c.args.counts.now c.count_down.new.counts c.vars-vars.ensures.formula.distinct lacks right c.count_down.auto.counts
+    (subst (λ (ns : List ℕ). CountedUp ns c.count_down.new.counts c.args.counts.now) is c.count_down.ensures))
 
 pub returns-in-Some-clause-shorter : goal.returns-in-Some-clause-shorter
 returns-in-Some-clause-shorter c = omega (arith, c.requires.some, c.in-Some.ensures.less)

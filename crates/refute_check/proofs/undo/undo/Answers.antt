@@ -12,7 +12,7 @@ pub loop-counts-preserved : goal.loop-counts-preserved
 loop-counts-preserved c =
     let within : c.args.level < length c.loop-counts.trail.items = omega (arith, c.len.ensures, c.loop-counts-test.true) in
     retracted_one c.args.formula.now.vars c.args.formula.now.clauses c.args.trail.now.items c.loop-counts.trail.items c.step_back.new.trail.items c.loop-counts.truth c.step_back.new.truth c.loop-counts.counts c.step_back.new.counts c.args.level
-      c.loop-counts.invariant within c.step_back.ensures.counted c.step_back.ensures.shorter c.step_back.ensures.rest
+    c.loop-counts.invariant within c.step_back.ensures.counted c.step_back.ensures.shorter c.step_back.ensures.rest
 
 pub returns-clause-counted : goal.returns-clause-counted
 returns-clause-counted c =

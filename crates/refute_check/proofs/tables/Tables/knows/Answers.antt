@@ -9,13 +9,13 @@ pub returns-then-falsified-clause-settled : goal.returns-then-falsified-clause-s
 returns-then-falsified-clause-settled c =
     let level : c.len-level.result ≡ length c.args.self.now.trail.items = omega (arith, c.len-level.ensures) in
     settled_again c.args.formula.now.vars c.args.formula.now.clauses c.args.self.now c.take_back.new.self c.suppose.new.self.trail.items c.len-level.result level c.requires.settled
-      (c.take_back.ensures.same ∙ c.in_ok-falsified.ensures.same) c.take_back.ensures.counted c.take_back.ensures.rest c.in_ok-falsified.ensures.front
+    (c.take_back.ensures.same ∙ c.in_ok-falsified.ensures.same) c.take_back.ensures.counted c.take_back.ensures.rest c.in_ok-falsified.ensures.front
 
 pub returns-else-falsified-clause-settled : goal.returns-else-falsified-clause-settled
 returns-else-falsified-clause-settled c =
     let level : c.len-level.result ≡ length c.args.self.now.trail.items = omega (arith, c.len-level.ensures) in
     settled_again c.args.formula.now.vars c.args.formula.now.clauses c.args.self.now c.take_back.new.self c.suppose.new.self.trail.items c.len-level.result level c.requires.settled
-      (c.take_back.ensures.same ∙ c.in_ok-falsified.ensures.same) c.take_back.ensures.counted c.take_back.ensures.rest c.in_ok-falsified.ensures.front
+    (c.take_back.ensures.same ∙ c.in_ok-falsified.ensures.same) c.take_back.ensures.counted c.take_back.ensures.rest c.in_ok-falsified.ensures.front
 
 pub returns-else-falsified-clause-yes : goal.returns-else-falsified-clause-yes
 returns-else-falsified-clause-yes c = λ t.

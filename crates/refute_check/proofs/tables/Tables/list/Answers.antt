@@ -9,4 +9,4 @@ returns c =
     let lists = subst (λ n. Lists c.args.lits.now n c.args.self.now.occurrences.items c.list_clause.new.occurrences.items) c.clauses.ensures.value c.in_ok-list_clause.ensures in
     let count = c.count_false-count.ensures ∙ ap (λ (bs : List Bool). false_count (marked bs) c.args.lits.now) c.deref.ensures.value in
     listed c.args.formula.now.vars clauses c.args.lits.now c.count_false-count.result c.args.self.now (record { occurrences = c.list_clause.new.occurrences; counts = c.push.new.self; truth = c.args.self.now.truth; trail = c.args.self.now.trail })
-      c.requires.settled lists count c.in_ok-push.ensures.items refl refl
+    c.requires.settled lists count c.in_ok-push.ensures.items refl refl
