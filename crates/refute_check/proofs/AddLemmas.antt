@@ -1,22 +1,21 @@
 -- A clause or a variable is added to the tables.
 use Rattle.std.proofs.Common.{◌≡◌, ◌≢◌, ℕ, ◌+◌, ◌*◌, ◌<◌, ◌≤◌, ◌⊎◌, Bool, true, false, cond, zero, suc, List, [], ◌∷◌, ◌++◌, length, take, get_or, set, refl, sym, ◌∙◌, ap, subst, inl, inr, arith, length-append, length-set, append_assoc, append-nil}
-use Rattle.std.specs.Prelude.{All, Contains}
-use Rattle.std.specs.List.{sum_by}
+use Rattle.std.specs.Prelude.{All}
 use Rattle.std.proofs.lemmas.List.{take_all, take_at, take_more, get_or_default, get_or_append_left, get_or_push, get_or_past, get_or-set_other}
 use Rattle.std.proofs.lemmas.Grind.{get_or-set_at}
-use Rattle.std.proofs.lemmas.List.Elements.{All-contains, All-weaker, All-push, Contains-push, Contains-append_left}
+use Rattle.std.proofs.lemmas.List.Elements.{All-weaker, All-push, Contains-push, Contains-append_left}
 use Rattle.std.proofs.lemmas.Bool.Decides.{eqb_tells}
 use Rattle.std.proofs.lemmas.List.Sums.{sum_by_more, sum_by-append}
 use Rattle.cnf_core.specs.Lit.{Literal, negate, word_of, has}
-use Rattle.cnf_core.specs.Clause.{Clauses, AreDistinct, AreThere, IsThere, AllThere}
-use Rattle.cnf_core.specs.Propagation.{LiteralSet, IsIn, Includes, IsUnit, Closure, Falsifies}
-use Rattle.cnf_core.proofs.PropagationLemmas.{contains_from_has, has_from_contains, closure_again, closure_more, among_left}
+use Rattle.cnf_core.specs.Clause.{Clauses, AreDistinct, AreThere, AllThere}
+use Rattle.cnf_core.specs.Propagation.{LiteralSet, IsIn, Closure, Falsifies}
+use Rattle.cnf_core.proofs.PropagationLemmas.{closure_again, closure_more, among_left}
 use Rattle.cnf_core.proofs.ClauseLemmas.{there_more}
 use Rattle.refute_check.specs.declared.tables.Tables.{Tables}
-use Rattle.refute_check.specs.Tables.{marked, weight, mark_count, false_count, IsTrail, IsCounted, AreCounts, AreQuiet, IsQuiet, IsUnset, HasReason, Falsified, Grows, Lists, AreOccurrences, places_from}
+use Rattle.refute_check.specs.Tables.{marked, weight, false_count, IsTrail, IsCounted, AreCounts, AreQuiet, IsQuiet, IsUnset, HasReason, Falsified, Grows, Lists, AreOccurrences, places_from}
 use Rattle.refute_check.specs.Settled.{nothing, IsSettled, IsListed}
 use Rattle.refute_check.proofs.ScanLemmas.{IsFalse}
-use Rattle.refute_check.proofs.TrailLemmas.{word_below, word_once, has_last, has_front, same_literal_or}
+use Rattle.refute_check.proofs.TrailLemmas.{word_once, has_last, has_front, same_literal_or}
 use Rattle.refute_check.proofs.GrowthLemmas.{quiet_more, quiet_marked, grows_more, grows_unit, reason_more, push_keeps, all_same_set}
 use Rattle.refute_check.proofs.AdvanceLemmas.{front_lacks, front_includes}
 

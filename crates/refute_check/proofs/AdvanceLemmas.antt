@@ -1,18 +1,17 @@
 -- One more literal of the trail is counted.
-use Rattle.std.proofs.Common.{◌≡◌, ◌≢◌, ℕ, ◌+◌, ◌*◌, ◌<◌, ◌≤◌, ◌⊎◌, Bool, true, false, not, zero, suc, List, [], ◌∷◌, ◌++◌, length, take, drop, get_or, refl, sym, ◌∙◌, ap, subst, inl, inr, arith}
-use Rattle.std.specs.Prelude.{All, Contains}
+use Rattle.std.proofs.Common.{◌≡◌, ℕ, ◌+◌, ◌<◌, ◌≤◌, Bool, true, false, List, [], ◌∷◌, ◌++◌, length, take, drop, get_or, refl, sym, ◌∙◌, ap, subst, inl, inr, arith}
+use Rattle.std.specs.Prelude.{Contains}
 use Rattle.std.proofs.lemmas.List.{take_more, take-take, take-append-drop, get_or_default}
-use Rattle.std.proofs.lemmas.List.Elements.{All-contains, All-weaker, Contains-get_or, Contains-append_left}
+use Rattle.std.proofs.lemmas.List.Elements.{All-contains, Contains-get_or, Contains-append_left}
 use Rattle.cnf_core.specs.Lit.{Literal, negate, word_of, has}
 use Rattle.cnf_core.specs.Clause.{Clauses, AreDistinct, AreThere, AllDistinct, IsThere}
-use Rattle.cnf_core.specs.Formula.{Cnf, IsFormula}
-use Rattle.cnf_core.specs.Propagation.{LiteralSet, IsIn, Includes, IsUnit}
+use Rattle.cnf_core.specs.Propagation.{LiteralSet, IsIn, Includes}
 use Rattle.cnf_core.proofs.PropagationLemmas.{negate-negate, contains_from_has, has_from_contains}
-use Rattle.refute_check.specs.Tables.{times, CountedUp, places_from, false_count, AreCounts, AreOccurrences, IsTrail, IsCounted, IsQuiet, AreQuiet, IsQuietNow, AreQuietNow, Grows}
-use Rattle.refute_check.proofs.ScanLemmas.{IsFalse, front_differs, there_get}
+use Rattle.refute_check.specs.Tables.{CountedUp, places_from, AreCounts, AreOccurrences, IsTrail, IsCounted, IsQuiet, AreQuiet, IsQuietNow, AreQuietNow, Grows}
+use Rattle.refute_check.proofs.ScanLemmas.{front_differs, there_get}
 use Rattle.refute_check.proofs.TrailLemmas.{has_front, same_literal_or, word_below}
 use Rattle.refute_check.proofs.GrowthLemmas.{quiet_more, grows_none, grows_more}
-use Rattle.refute_check.proofs.FalseCountLemmas.{up_small, counts_up, named_by, places_there}
+use Rattle.refute_check.proofs.FalseCountLemmas.{counts_up, named_by}
 
 pub front_includes : (trail : List Literal) (n : ℕ) → Includes (has trail) (has (take n trail))
 front_includes trail n = λ l h. has_from_contains trail l (subst (λ (ls : List Literal). Contains ls l) (take-append-drop n trail) (Contains-append_left (take n trail) (drop n trail) l (contains_from_has (take n trail) l h)))

@@ -1,11 +1,11 @@
 -- The negations of a clause's literals are put on a trail.
-use Rattle.std.proofs.Common.{◌≡◌, ℕ, ◌+◌, ◌*◌, ◌<◌, ◌≤◌, ◌⊎◌, Bool, true, false, List, [], ◌∷◌, ◌++◌, length, take, get_or, refl, sym, ◌∙◌, ap, subst, inl, inr, arith, length-append}
+use Rattle.std.proofs.Common.{◌≡◌, ℕ, ◌+◌, ◌<◌, ◌≤◌, Bool, List, [], ◌∷◌, ◌++◌, length, take, get_or, refl, sym, ◌∙◌, ap, subst, inl, inr, arith, length-append}
 use Rattle.std.specs.Prelude.{All, Contains}
 use Rattle.std.proofs.lemmas.List.{take-take, take_all, take_at}
 use Rattle.std.proofs.lemmas.List.Elements.{All-contains, All-more, All-nil, All-weaker, Contains-get_or}
 use Rattle.cnf_core.specs.Lit.{Literal, negate, has}
-use Rattle.cnf_core.specs.Clause.{AreDistinct, AreThere}
-use Rattle.cnf_core.specs.Propagation.{LiteralSet, IsIn, Includes, negations}
+use Rattle.cnf_core.specs.Clause.{AreDistinct}
+use Rattle.cnf_core.specs.Propagation.{IsIn, Includes, negations}
 use Rattle.cnf_core.proofs.PropagationLemmas.{negate-negate, contains_from_has, has_from_contains}
 use Rattle.refute_check.specs.Tables.{marked, IsTrail, Assumes, Clashes}
 use Rattle.refute_check.proofs.ScanLemmas.{IsFalse}

@@ -1,19 +1,19 @@
 -- What a checker answers, by what its tables are good for.
 use Rattle.std.proofs.Common.{◌≡◌, ℕ, zero, suc, ◌+◌, ◌-◌, ◌<◌, ◌≤◌, ◌⊎◌, max, List, [], ◌∷◌, ◌++◌, length, take, drop, get_or, refl, sym, ◌∙◌, ap, subst, inl, inr, arith, append-nil}
-use Rattle.std.specs.Prelude.{All, Any, Contains, Option, MatchOption, Result, Ok, Err, OnOk, IfErr}
+use Rattle.std.specs.Prelude.{All, Contains, Option, MatchOption, Result, Ok, Err, OnOk, IfErr}
 use Rattle.std.proofs.lemmas.List.{take_all}
 use Rattle.std.proofs.lemmas.List.Elements.{All-weaker, All-nil, All-head, All-tail}
-use Rattle.cnf_core.specs.Lit.{Literal, negate, has}
+use Rattle.cnf_core.specs.Lit.{Literal, negate}
 use Rattle.cnf_core.specs.Clause.{Clauses, IsThere, AreThere, words_of}
 use Rattle.cnf_core.specs.Formula.{Cnf}
-use Rattle.cnf_core.specs.Propagation.{LiteralSet, Closure, Falsifies, Rup, negations, greatest_in, greatest_var, IsNew}
+use Rattle.cnf_core.specs.Propagation.{LiteralSet, Closure, Falsifies, Rup, negations, greatest_in, greatest_var}
 use Rattle.cnf_core.proofs.PropagationLemmas.{falsifies_again, new_includes_none}
 use Rattle.cnf_core.proofs.ClauseLemmas.{words_append}
 use Rattle.refute_log.specs.declared.line.LogLine.{LogLine}
 use Rattle.refute_log.specs.declared.line.LogLine.TheVariants.{Formula, Learnt, Bound, Query, Refuted, Model}
 use Rattle.refute_check.specs.declared.fault.LineFault.{LineFault}
 use Rattle.refute_check.specs.declared.fault.LineFault.TheVariants.{NewVar, WrongQuery, Room, NotImplied, NotNew, Memory}
-use Rattle.refute_check.specs.Log.{Answers, IsNewClause, SaysMore, StandsOn}
+use Rattle.refute_check.specs.Log.{Answers, IsNewClause, SaysMore}
 use Rattle.refute_check.specs.Settled.{nothing}
 use Rattle.refute_check.specs.Standing.{IsContradicted}
 use Rattle.refute_check.specs.Kept.{Kept, kept_of, kept_after, with_clause, IsKnownClause, Accepts, AnswersWrongly, PassesRoom, IsUnproved, IsOld, NamesNew, IsAnswer, Includes, IncludesNone}

@@ -1,18 +1,16 @@
 -- Counts of false literals: as the trail grows and shrinks, and as clauses are added.
-use Rattle.std.proofs.Common.{◌≡◌, ◌≢◌, ℕ, ◌+◌, ◌*◌, ◌<◌, ◌≤◌, ◌⊎◌, ◌^◌, Bool, true, false, not, cond, nat_eq, zero, suc, List, [], ◌∷◌, ◌++◌, length, take, get_or, set, refl, sym, ◌∙◌, ap, subst, inl, inr, arith, length-append}
+use Rattle.std.proofs.Common.{◌≡◌, ◌≢◌, ℕ, ◌+◌, ◌<◌, ◌≤◌, ◌^◌, Bool, true, false, cond, nat_eq, zero, suc, List, [], ◌∷◌, ◌++◌, length, get_or, set, refl, sym, ◌∙◌, ap, subst, inl, inr, arith}
 use Rattle.std.specs.Prelude.{All, Contains}
-use Rattle.std.specs.List.{count_by}
 use Rattle.std.proofs.lemmas.Bool.Decides.{eqb_tells}
-use Rattle.std.proofs.lemmas.List.{get_or_past, get_or_append_left, get_or_push, take_more, take_all}
 use Rattle.std.proofs.lemmas.List.Elements.{All-weaker, All-nil, All-cons}
 use Rattle.std.proofs.lemmas.List.Sums.{sum_by-cons, count_by-le-length}
-use Rattle.cnf_core.specs.Lit.{Literal, literal, negate, word_of, has, same_literal}
+use Rattle.cnf_core.specs.Lit.{Literal, negate, has}
 use Rattle.cnf_core.specs.Clause.{Clauses, Avoids, AreDistinct, AllDistinct, words_of}
-use Rattle.cnf_core.specs.Propagation.{LiteralSet, IsIn}
+use Rattle.cnf_core.specs.Propagation.{LiteralSet}
 use Rattle.cnf_core.proofs.PropagationLemmas.{negate-negate, contains_from_has, has_from_contains}
 use Rattle.cnf_core.proofs.ClauseLemmas.{distinct_at, words_at}
 use Rattle.refute_check.specs.Tables.{times, CountedUp, places_from, false_count, AreCounts, weight}
-use Rattle.refute_check.proofs.TrailLemmas.{has_last, has_front, same_literal_or, not_both, same_true, contains_tail}
+use Rattle.refute_check.proofs.TrailLemmas.{has_last, has_front, same_literal_or, same_true, contains_tail}
 
 abbrev one_at : ℕ → ℕ → ℕ
 one_at n m = cond (nat_eq m n) 1 0

@@ -1,16 +1,15 @@
 -- What follows of literals that are marked one after another, and which clauses are quiet.
-use Rattle.std.proofs.Common.{◌≡◌, ◌≢◌, ℕ, ◌+◌, ◌*◌, ◌<◌, ◌≤◌, ◌⊎◌, Bool, true, false, not, cond, zero, suc, List, [], ◌∷◌, ◌++◌, length, take, get_or, set, refl, sym, ◌∙◌, ap, subst, inl, inr, arith, length-append}
+use Rattle.std.proofs.Common.{◌≡◌, ◌≢◌, ℕ, ◌+◌, ◌<◌, ◌≤◌, ◌⊎◌, Bool, cond, List, [], ◌∷◌, ◌++◌, length, take, get_or, set, refl, sym, ◌∙◌, ap, subst, inl, inr, arith, length-append}
 use Rattle.std.specs.Prelude.{All, Contains}
-use Rattle.std.specs.List.{count_by}
-use Rattle.std.proofs.lemmas.List.{take_at, take-append-le, take-take, take_all}
-use Rattle.std.proofs.lemmas.List.Elements.{All-contains, All-weaker, All-head, All-tail, All-more, All-nil, All-cons, Contains-get_or}
-use Rattle.std.proofs.lemmas.List.Sums.{sum_by-cons, count_by-le-length}
-use Rattle.cnf_core.specs.Lit.{Literal, literal, negate, word_of, has}
-use Rattle.cnf_core.specs.Clause.{Clauses, Avoids, AreDistinct, AreThere, IsThere}
-use Rattle.cnf_core.specs.Propagation.{LiteralSet, IsIn, Includes, IsUnit, IsClosed, Closure, Falsifies}
-use Rattle.cnf_core.proofs.PropagationLemmas.{negate-negate, contains_from_has, has_from_contains, closure_start, closure_unit, closure_again}
+use Rattle.std.proofs.lemmas.List.{take_at, take-take, take_all}
+use Rattle.std.proofs.lemmas.List.Elements.{All-contains, All-weaker, All-head, All-tail, All-more, All-nil, All-cons}
+use Rattle.std.proofs.lemmas.List.Sums.{sum_by-cons}
+use Rattle.cnf_core.specs.Lit.{Literal, negate, has}
+use Rattle.cnf_core.specs.Clause.{Clauses, Avoids, AreDistinct}
+use Rattle.cnf_core.specs.Propagation.{LiteralSet, IsIn, Includes, IsUnit, Closure}
+use Rattle.cnf_core.proofs.PropagationLemmas.{closure_start, closure_unit, closure_again}
 use Rattle.refute_check.specs.Tables.{marked, false_count, IsTrail, IsConsistent, IsQuiet, IsUnset, HasReason, Falsified, Grows, IsQuietNow, AreQuietNow}
-use Rattle.refute_check.proofs.ScanLemmas.{IsFalse, IsLastOr, there_all}
+use Rattle.refute_check.proofs.ScanLemmas.{IsFalse, IsLastOr}
 use Rattle.refute_check.proofs.TrailLemmas.{has_last, has_front, same_literal_or, distinct_consistent, not_both}
 
 -- sets that agree

@@ -1,14 +1,14 @@
 -- A clause is kept.
 use Rattle.std.proofs.Common.{◌≡◌, ℕ, ◌+◌, ◌<◌, ◌≤◌, max, List, [], ◌∷◌, ◌++◌, length, take, get_or, refl, sym, ◌∙◌, ap, subst, arith}
-use Rattle.std.proofs.lemmas.List.{take_more, take_all}
+use Rattle.std.proofs.lemmas.List.{take_more}
 use Rattle.cnf_core.specs.Lit.{Literal}
 use Rattle.cnf_core.specs.Clause.{Clauses}
 use Rattle.cnf_core.specs.Formula.{Cnf}
-use Rattle.cnf_core.specs.Propagation.{greatest_in, greatest_var, Falsifies}
+use Rattle.cnf_core.specs.Propagation.{greatest_in, greatest_var}
 use Rattle.cnf_core.proofs.PropagationLemmas.{falsifies_more, among_left}
 use Rattle.refute_check.specs.declared.tables.Tables.{Tables}
 use Rattle.refute_check.specs.Settled.{nothing, IsSettled}
-use Rattle.refute_check.specs.Standing.{IsContradicted, IsOpenChecker}
+use Rattle.refute_check.specs.Standing.{IsContradicted}
 
 -- the greatest variable of a list with one more literal
 pub greatest_push : (ls : List Literal) (l : Literal) → greatest_in (ls ++ l ∷ []) ≡ max (greatest_in ls) l.var

@@ -1,5 +1,5 @@
 -- Logs line by line, and how many Learnt lines there can be.
-use Rattle.std.proofs.Common.{◌≡◌, ◌≢◌, ℕ, zero, suc, ◌+◌, ◌*◌, ◌^◌, ◌<◌, ◌≤◌, ◌⊎◌, max, Bool, true, false, cond, eqb, List, [], ◌∷◌, ◌++◌, length, take, drop, get_or, map, refl, sym, ◌∙◌, ap, subst, inl, inr, arith, append-nil, length-append, Some, None}
+use Rattle.std.proofs.Common.{◌≡◌, ℕ, zero, suc, ◌+◌, ◌*◌, ◌^◌, ◌<◌, ◌≤◌, ◌⊎◌, max, Bool, true, false, cond, eqb, List, [], ◌∷◌, ◌++◌, length, take, drop, get_or, map, refl, sym, ◌∙◌, ap, subst, inl, inr, arith, append-nil, length-append, Some, None}
 use Rattle.std.specs.Prelude.{All, Any, Contains, Option, slice_get, flat_map, fold}
 use Rattle.std.specs.List.{IsDistinct, list_any}
 use Rattle.std.proofs.Math.Nat.{pow-suc}
@@ -14,16 +14,16 @@ use Rattle.std.proofs.lemmas.Option.{slice_get_within, get_or_from_slice_get, sl
 use Rattle.std.proofs.lemmas.Map.Keys.{IsDistinct-push}
 use Rattle.std.proofs.lemmas.Map.Steps.{length-le_from_distinct_below}
 use Rattle.std.proofs.lemmas.Bool.Decides.{eqb_tells}
-use Rattle.cnf_core.specs.Lit.{Literal, literal, positive_of, negative_of, negate, has}
+use Rattle.cnf_core.specs.Lit.{Literal, positive_of, negative_of, has}
 use Rattle.cnf_core.specs.Clause.{Clauses, AreDistinct, AreThere, IsThere, AllDistinct}
-use Rattle.cnf_core.specs.Propagation.{greatest_in, greatest_var}
+use Rattle.cnf_core.specs.Propagation.{greatest_var}
 use Rattle.cnf_core.proofs.PropagationLemmas.{literal_same, contains_from_has, has_from_contains}
 use Rattle.cnf_core.proofs.ClauseLemmas.{distinct_at}
 use Rattle.refute_log.specs.declared.line.LogLine.{LogLine}
 use Rattle.refute_log.specs.declared.line.LogLine.TheVariants.{Formula, Learnt, Bound, Query, Refuted, Model}
 use Rattle.refute_log.specs.Told.{Lines}
 use Rattle.refute_log.specs.Lines.{IsWellFormed, AreWellFormed, last_var}
-use Rattle.refute_check.specs.Log.{Facts, facts_of, added, given, learnt, refuted, asked, bounded, IsNewClause, Stands, Derives}
+use Rattle.refute_check.specs.Log.{Facts, facts_of, added, given, learnt, refuted, asked, IsNewClause, Stands, Derives}
 use Rattle.refute_check.specs.Kept.{facts_after, Includes}
 use Rattle.refute_check.proofs.ScanLemmas.{there_all}
 use Rattle.refute_check.proofs.TrailLemmas.{distinct_consistent}

@@ -1,12 +1,12 @@
 -- A look at one clause, literal by literal.
-use Rattle.std.proofs.Common.{◌≡◌, ℕ, ◌+◌, ◌<◌, ◌≤◌, ◌⊎◌, Bool, true, false, zero, suc, List, [], ◌∷◌, ◌++◌, None, Some, length, take, get_or, refl, sym, ◌∙◌, ap, subst, inl, inr, arith, length-take-le}
-use Rattle.std.specs.Prelude.{All, Contains, AllPairs}
-use Rattle.std.proofs.lemmas.List.Elements.{All-contains, All-more, All-weaker, Contains-push, Contains-append_left, Contains-get_or}
+use Rattle.std.proofs.Common.{◌≡◌, ℕ, ◌+◌, ◌<◌, ◌≤◌, ◌⊎◌, Bool, true, false, zero, suc, List, [], ◌∷◌, None, Some, length, take, get_or, refl, sym, ◌∙◌, ap, subst, inl, inr, arith, length-take-le}
+use Rattle.std.specs.Prelude.{All, Contains}
+use Rattle.std.proofs.lemmas.List.Elements.{All-contains, All-more, All-weaker, Contains-push, Contains-append_left}
 use Rattle.std.proofs.lemmas.List.{take_more, take_all, get_or-take, get_or_default}
 use Rattle.std.specs.declared.option.Option.{Option}
 use Rattle.cnf_core.specs.Lit.{Literal, negate}
 use Rattle.cnf_core.specs.Clause.{AreThere, AreDistinct, IsThere}
-use Rattle.cnf_core.specs.Propagation.{LiteralSet, IsIn, IsUnit}
+use Rattle.cnf_core.specs.Propagation.{LiteralSet, IsIn}
 use Rattle.cnf_core.proofs.QuantifierLemmas.{pairs_from_distinct}
 use Rattle.refute_check.specs.Tables.{IsConsistent, IsQuiet, IsUnset}
 

@@ -1,12 +1,12 @@
 -- What follows of assumptions.
-use Rattle.std.proofs.Common.{◌≡◌, ℕ, ◌+◌, ◌*◌, ◌<◌, ◌≤◌, ◌⊎◌, Bool, true, false, List, [], ◌∷◌, ◌++◌, length, take, get_or, refl, sym, ◌∙◌, ap, subst, inl, inr, arith}
+use Rattle.std.proofs.Common.{◌≡◌, ℕ, ◌<◌, ◌⊎◌, Bool, false, List, ◌++◌, length, take, get_or, sym, ◌∙◌, ap, subst, inl, inr, arith}
 use Rattle.std.specs.Prelude.{All, Contains}
 use Rattle.std.proofs.lemmas.List.{take_all, take_at, get_or_default}
 use Rattle.std.proofs.lemmas.List.Elements.{All-contains, All-weaker}
 use Rattle.cnf_core.specs.Lit.{Literal, negate, has, word_of}
-use Rattle.cnf_core.specs.Clause.{Clauses, AreDistinct, AreThere, IsThere}
-use Rattle.cnf_core.specs.Propagation.{LiteralSet, IsIn, Includes, IsUnit, IsClosed, Closure, Falsifies, Rup, negations}
-use Rattle.cnf_core.proofs.PropagationLemmas.{negate-negate, contains_from_has, has_from_contains, closure_start, closure_again, closure_least}
+use Rattle.cnf_core.specs.Clause.{Clauses, IsThere}
+use Rattle.cnf_core.specs.Propagation.{LiteralSet, IsIn, Includes, IsUnit, IsClosed, Closure, Falsifies, negations}
+use Rattle.cnf_core.proofs.PropagationLemmas.{negate-negate, has_from_contains, closure_start, closure_again, closure_least}
 use Rattle.refute_check.specs.declared.tables.Tables.{Tables}
 use Rattle.refute_check.specs.Tables.{IsTrail, IsCounted, AreCounts, AreQuiet, IsQuiet, HasReason, Falsified, Grows, Assumes, Clashes, IsClosure}
 use Rattle.refute_check.specs.Settled.{nothing, IsSettled}

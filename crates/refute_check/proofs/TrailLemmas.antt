@@ -1,18 +1,16 @@
 -- Trails: tables that mark the literals of a list.
-use Rattle.std.proofs.Common.{◌≡◌, ◌≢◌, ℕ, ◌+◌, ◌*◌, ◌<◌, ◌≤◌, ◌⊎◌, Bool, true, false, not, cond, zero, suc, List, [], ◌∷◌, ◌++◌, length, take, get_or, set, refl, sym, ◌∙◌, ap, subst, inl, inr, arith, length-set, length-append}
-use Rattle.std.specs.Prelude.{All, Contains, AllPairs}
-use Rattle.std.specs.List.{sum_by}
+use Rattle.std.proofs.Common.{◌≡◌, ◌≢◌, ℕ, ◌+◌, ◌*◌, ◌<◌, ◌≤◌, ◌⊎◌, Bool, true, false, not, cond, suc, List, [], ◌∷◌, ◌++◌, length, get_or, set, refl, sym, ◌∙◌, ap, subst, inl, inr, arith, length-set, length-append}
+use Rattle.std.specs.Prelude.{Contains}
 use Rattle.std.proofs.lemmas.Bool.Decides.{eqb_tells}
 use Rattle.std.proofs.lemmas.List.{get_or-set_other, get_or_default, get_or_append_left, get_or_push}
 use Rattle.std.proofs.lemmas.List.Elements.{Contains-push, Contains-push_cases, Contains-append_left}
 use Rattle.std.proofs.lemmas.Grind.{get_or-set_at}
 use Rattle.std.proofs.lemmas.List.Sums.{sum_by-set, sum_by-le}
-use Rattle.cnf_core.specs.Lit.{Literal, literal, negate, word_of, has, same_literal}
+use Rattle.cnf_core.specs.Lit.{Literal, negate, word_of, has}
 use Rattle.cnf_core.specs.Clause.{Avoids, AreDistinct, AreThere, IsThere}
-use Rattle.cnf_core.specs.Propagation.{LiteralSet, IsIn}
-use Rattle.cnf_core.proofs.PropagationLemmas.{literal_same, negate-negate, contains_from_has, has_from_contains}
+use Rattle.cnf_core.proofs.PropagationLemmas.{literal_same, contains_from_has, has_from_contains}
 use Rattle.cnf_core.proofs.QuantifierLemmas.{pairs_from_distinct}
-use Rattle.refute_check.specs.Tables.{marked, weight, mark_count, IsTrail, IsConsistent}
+use Rattle.refute_check.specs.Tables.{marked, weight, IsTrail, IsConsistent}
 
 -- a literal is known by its word
 record SameParts (x y : ℕ) (p q : Bool) : Type 0 where

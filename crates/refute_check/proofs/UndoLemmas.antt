@@ -1,13 +1,12 @@
 -- Literals are taken off a trail again.
-use Rattle.std.proofs.Common.{◌≡◌, ℕ, ◌+◌, ◌-◌, ◌*◌, ◌<◌, ◌≤◌, Bool, false, List, [], ◌∷◌, ◌++◌, length, take, get_or, refl, sym, ◌∙◌, ap, subst, arith, length-append, length-take-le}
-use Rattle.std.specs.Prelude.{All, Option, None, option_to_list}
+use Rattle.std.proofs.Common.{◌≡◌, ℕ, ◌+◌, ◌-◌, ◌<◌, ◌≤◌, Bool, false, List, [], ◌∷◌, ◌++◌, length, take, get_or, refl, sym, ◌∙◌, ap, subst, arith, length-append, length-take-le}
+use Rattle.std.specs.Prelude.{Option, None, option_to_list}
 use Rattle.std.proofs.lemmas.List.{take-take, take_all, take_at, get_or_push}
 use Rattle.cnf_core.specs.Lit.{Literal, negate, word_of, has}
-use Rattle.cnf_core.specs.Clause.{Clauses, AreDistinct, AreThere, AllDistinct, IsThere}
-use Rattle.refute_check.specs.Tables.{times, CountedUp, places_from, AreCounts, AreOccurrences, IsTrail, IsCounted}
-use Rattle.refute_check.proofs.TrailLemmas.{there_last, word_below}
+use Rattle.cnf_core.specs.Clause.{Clauses, AreDistinct, AreThere, IsThere}
+use Rattle.refute_check.specs.Tables.{places_from, AreCounts, AreOccurrences, IsTrail, IsCounted}
+use Rattle.refute_check.proofs.TrailLemmas.{there_last}
 use Rattle.refute_check.proofs.AdvanceLemmas.{front_lacks, places_read}
-use Rattle.refute_check.proofs.FalseCountLemmas.{counts_down, down_enough}
 
 pub record Dropped (vars : ℕ) (old : List Literal) (truth : List Bool) (new : List Literal) (front : ℕ) : Type 0 where
   pub table : IsTrail vars truth new

@@ -1,15 +1,15 @@
 -- What a checker keeps of the lines that it accepted, and why it refuses a line.
-use Rattle.std.specs.Prelude.{◌≡◌, ◌≤◌, ◌<◌, ◌⊎◌, ℕ, ◌+◌, max, ⊤, Result, Ok, Err, Option, List, [], ◌∷◌, ◌++◌, All, Any, Contains, length}
+use Rattle.std.specs.Prelude.{◌≡◌, ◌≤◌, ◌<◌, ◌⊎◌, ℕ, max, ⊤, Result, Ok, Err, Option, List, [], ◌∷◌, ◌++◌, All, Any, Contains}
 use Rattle.cnf_core.specs.Lit.{Literal}
 use Rattle.cnf_core.specs.Clause.{Clauses, words_of}
 use Rattle.cnf_core.specs.Formula.{Cnf}
 use Rattle.cnf_core.specs.Propagation.{Falsifies, Closure, negations, greatest_in, greatest_var}
 use Rattle.cnf_core.specs.declared.limits.TheConstants.{VARS}
 use Rattle.refute_log.specs.declared.line.LogLine.{LogLine}
-use Rattle.refute_log.specs.declared.line.LogLine.TheVariants.{Formula, Learnt, Bound, Query, Refuted, Model}
+use Rattle.refute_log.specs.declared.line.LogLine.TheVariants.{Formula, Learnt}
 use Rattle.refute_check.specs.declared.fault.LineFault.{LineFault}
 use Rattle.refute_check.specs.declared.fault.LineFault.TheVariants.{NewVar, WrongQuery, Room, NotImplied, NotNew, Memory}
-use Rattle.refute_check.specs.Log.{Facts, added, given, refuted, asked, bounded, Answers, IsImplied, SaysMore, StandsOn}
+use Rattle.refute_check.specs.Log.{Facts, added, given, refuted, asked, bounded, Answers, IsImplied, StandsOn}
 
 -- the room for words, and the facts of the accepted lines
 pub record Kept : Type 0 where

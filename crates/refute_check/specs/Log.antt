@@ -1,10 +1,10 @@
 -- Logs: the clauses of their lines, which lines stand, and which logs derive.
-use Rattle.std.specs.Prelude.{◌≡◌, ◌≤◌, ℕ, max, ⊤, Option, Some, None, MatchOption, List, [], ◌∷◌, All, Contains, flat_map, fold, take, slice_get}
+use Rattle.std.specs.Prelude.{◌≡◌, ◌≤◌, ℕ, ⊤, Option, Some, None, MatchOption, List, [], ◌∷◌, All, Contains, flat_map, fold, take, slice_get}
 use Rattle.cnf_core.specs.Lit.{Literal, negate, has}
 use Rattle.cnf_core.specs.Clause.{Clauses}
 use Rattle.cnf_core.specs.Propagation.{Falsifies, Rup, IsNew, greatest_var}
 use Rattle.refute_log.specs.declared.line.LogLine.{LogLine}
-use Rattle.refute_log.specs.declared.line.LogLine.TheVariants.{Formula, Learnt, Bound, Query, Refuted, Model}
+use Rattle.refute_log.specs.declared.line.LogLine.TheVariants.{Formula, Learnt, Query, Refuted}
 use Rattle.refute_log.specs.Told.{Lines}
 
 -- the clauses that one line adds to what further lines follow from

@@ -1,5 +1,5 @@
 -- What a look at one clause answers.
-use Rattle.std.specs.Prelude.{◌≡◌, true, false, List, All}
+use Rattle.std.specs.Prelude.{◌≡◌, false, List, All}
 use Rattle.cnf_core.specs.Lit.{Literal, negate}
 use Rattle.cnf_core.specs.Propagation.{LiteralSet, IsIn}
 use Rattle.refute_check.specs.declared.scan.Scan.{Scan}

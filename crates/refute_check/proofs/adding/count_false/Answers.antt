@@ -1,7 +1,7 @@
-use Rattle.std.proofs.Common.{◌≡◌, ◌∙◌, ◌+◌, arith, sym, ap, subst, take}
+use Rattle.std.proofs.Common.{◌≡◌, ◌∙◌, arith, sym, ap, subst}
 use Rattle.cnf_core.specs.Lit.{Literal, negate}
 use Rattle.cnf_core.specs.Clause.{IsThere}
-use Rattle.refute_check.specs.Tables.{marked, weight, false_count}
+use Rattle.refute_check.specs.Tables.{marked, weight}
 use Rattle.refute_check.proofs.ScanLemmas.{there_get}
 use Rattle.refute_check.proofs.AddLemmas.{false_step}
 use Rattle.refute_check.proofs.adding.count_false.Goals as goal

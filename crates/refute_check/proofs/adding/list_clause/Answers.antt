@@ -1,4 +1,4 @@
-use Rattle.std.proofs.Common.{◌≡◌, ◌∙◌, ◌<◌, arith, sym, subst, length}
+use Rattle.std.proofs.Common.{◌<◌, arith, sym, subst, length}
 use Rattle.cnf_core.specs.Lit.{Literal, word_of}
 use Rattle.cnf_core.specs.Clause.{IsThere}
 use Rattle.refute_check.proofs.ScanLemmas.{there_get}

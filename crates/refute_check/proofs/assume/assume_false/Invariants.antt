@@ -1,4 +1,3 @@
-use Rattle.std.proofs.Common.{take}
 use Rattle.refute_check.proofs.AssumeLemmas.{Assumed}
 use Rattle.refute_check.proofs.assume.assume_false.Given as goal
 

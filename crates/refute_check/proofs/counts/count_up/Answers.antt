@@ -1,7 +1,5 @@
-use Rattle.std.proofs.Common.{arith, ◌≡◌, ℕ, ◌+◌, ◌<◌, ◌≤◌, refl, length, get_or, take, sym, ◌∙◌, subst}
-use Rattle.std.proofs.lemmas.List.{take_all}
-use Rattle.refute_check.specs.Tables.{times, CountedUp}
-use Rattle.refute_check.proofs.CountLemmas.{times_at, counted_more, counted_less, some_left}
+use Rattle.std.proofs.Common.{arith, ◌<◌, length, get_or}
+use Rattle.refute_check.proofs.CountLemmas.{times_at, counted_more}
 use Rattle.refute_check.proofs.counts.count_up.Goals as goal
 
 pub overflow_add-counts : goal.overflow_add-counts

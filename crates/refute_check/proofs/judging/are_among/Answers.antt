@@ -1,4 +1,4 @@
-use Rattle.std.proofs.Common.{◌≡◌, ◌∙◌, sym}
+use Rattle.std.proofs.Common.{sym}
 use Rattle.std.specs.Prelude.{Contains}
 use Rattle.cnf_core.proofs.PropagationLemmas.{contains_from_has}
 use Rattle.refute_check.proofs.JudgeLemmas.{all_more_at, all_not_at, all_end, lacks_not}

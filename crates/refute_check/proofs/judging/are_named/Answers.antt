@@ -1,5 +1,4 @@
-use Rattle.std.proofs.Common.{◌≤◌, arith, subst}
-use Rattle.cnf_core.specs.Lit.{Literal}
+use Rattle.std.proofs.Common.{◌≤◌, arith}
 use Rattle.refute_check.proofs.JudgeLemmas.{all_more_at, all_end}
 use Rattle.refute_check.proofs.judging.are_named.Goals as goal
 

@@ -1,4 +1,4 @@
-use Rattle.std.proofs.Common.{◌≡◌, ◌≤◌, ◌-◌}
+use Rattle.std.proofs.Common.{◌-◌}
 use Rattle.refute_check.proofs.KeepLemmas.{Grown}
 use Rattle.refute_check.proofs.keeping.grow.Given as goal
 

@@ -1,7 +1,4 @@
 use Rattle.std.proofs.Common.{max}
-use Rattle.cnf_core.specs.Formula.{Cnf}
-use Rattle.cnf_core.specs.Propagation.{greatest_var}
-use Rattle.cnf_core.specs.Clause.{Clauses}
 use Rattle.refute_check.specs.Standing.{IsContradicted, IsOpenChecker}
 use Rattle.refute_check.proofs.KeepLemmas.{contradicted_more, kept_both, greatest_kept}
 use Rattle.refute_check.proofs.keeping.keep.Goals as goal

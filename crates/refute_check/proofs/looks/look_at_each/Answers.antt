@@ -1,4 +1,4 @@
-use Rattle.refute_check.proofs.GrowthLemmas.{Looked, looked_none, looked_one, grows_more}
+use Rattle.refute_check.proofs.GrowthLemmas.{looked_none, looked_one, grows_more}
 use Rattle.refute_check.proofs.looks.look_at_each.Goals as goal
 
 pub loop-n-init : goal.loop-n-init

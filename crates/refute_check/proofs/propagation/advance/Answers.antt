@@ -1,9 +1,9 @@
-use Rattle.std.proofs.Common.{◌≡◌, ◌∙◌, ◌+◌, ◌<◌, ◌^◌, ◌++◌, ◌∷◌, [], ℕ, List, length, get_or, take, sym, ap, subst, arith}
+use Rattle.std.proofs.Common.{◌≡◌, ◌∙◌, ◌+◌, ◌<◌, ◌^◌, ℕ, List, length, get_or, take, sym, ap, subst, arith}
 use Rattle.std.specs.Prelude.{All}
-use Rattle.cnf_core.specs.Lit.{Literal, negate, word_of, has}
+use Rattle.cnf_core.specs.Lit.{negate, word_of}
 use Rattle.cnf_core.specs.Clause.{IsThere}
 use Rattle.cnf_core.specs.Formula.{IsFormula}
-use Rattle.refute_check.specs.Tables.{times, CountedUp, places_from, AreCounts, AreQuietNow}
+use Rattle.refute_check.specs.Tables.{times, CountedUp, places_from, AreQuietNow}
 use Rattle.refute_check.proofs.TrailLemmas.{word_below}
 use Rattle.refute_check.proofs.AdvanceLemmas.{front_lacks, counted_next, quiet_next, right_next, advance_places, negated_there}
 use Rattle.refute_check.proofs.FalseCountLemmas.{up_small, places_there}

@@ -1,7 +1,7 @@
-use Rattle.std.proofs.Common.{arith, ◌≤◌, length}
+use Rattle.std.proofs.Common.{arith}
 use Rattle.refute_check.proofs.TrailLemmas.{trail_short}
 use Rattle.refute_check.proofs.GrowthLemmas.{grows_more}
-use Rattle.refute_check.proofs.AdvanceLemmas.{Propagated, propagated_none, propagated_more, quiet_at_end}
+use Rattle.refute_check.proofs.AdvanceLemmas.{propagated_none, propagated_more}
 use Rattle.refute_check.proofs.propagation.propagate.Goals as goal
 
 pub loop-front-init : goal.loop-front-init

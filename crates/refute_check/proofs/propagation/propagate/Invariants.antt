@@ -1,5 +1,4 @@
-use Rattle.std.proofs.Common.{◌≤◌, ◌-◌, length}
-use Rattle.refute_check.specs.Tables.{IsCounted, AreQuiet, Grows}
+use Rattle.std.proofs.Common.{◌-◌, length}
 use Rattle.refute_check.proofs.AdvanceLemmas.{Propagated}
 use Rattle.refute_check.proofs.propagation.propagate.Given as goal
 

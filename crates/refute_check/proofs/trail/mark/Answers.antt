@@ -1,6 +1,3 @@
-use Rattle.std.proofs.Common.{◌≡◌, ◌∙◌, ap, sym, subst, true, Bool, ℕ, List, set, ◌++◌, ◌∷◌, []}
-use Rattle.cnf_core.specs.Lit.{Literal, word_of}
-use Rattle.refute_check.specs.Tables.{IsTrail}
 use Rattle.refute_check.proofs.TrailLemmas.{trail_more}
 use Rattle.refute_check.proofs.trail.mark.Goals as goal
 

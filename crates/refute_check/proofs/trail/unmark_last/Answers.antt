@@ -1,5 +1,5 @@
-use Rattle.std.proofs.Common.{◌≡◌, ◌∙◌, ◌<◌, ◌++◌, ◌∷◌, [], List, arith, subst, set, false, length}
-use Rattle.cnf_core.specs.Lit.{Literal, word_of}
+use Rattle.std.proofs.Common.{◌++◌, ◌∷◌, [], List, arith, subst}
+use Rattle.cnf_core.specs.Lit.{Literal}
 use Rattle.refute_check.specs.Tables.{IsTrail}
 use Rattle.refute_check.proofs.TrailLemmas.{trail_less, there_last, word_below}
 use Rattle.refute_check.proofs.trail.unmark_last.Goals as goal

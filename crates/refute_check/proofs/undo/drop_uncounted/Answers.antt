@@ -1,4 +1,4 @@
-use Rattle.std.proofs.Common.{arith, ◌≡◌, ◌≤◌, ◌<◌, length}
+use Rattle.std.proofs.Common.{arith, ◌≤◌, ◌<◌, length}
 use Rattle.std.specs.Prelude.{option_to_list}
 use Rattle.refute_check.proofs.UndoLemmas.{dropped_none, dropped_one, dropped_all}
 use Rattle.refute_check.proofs.undo.drop_uncounted.Goals as goal

@@ -1,4 +1,4 @@
-use Rattle.std.proofs.Common.{length, vec_len}
+use Rattle.std.proofs.Common.{length}
 use Rattle.refute_check.proofs.UndoLemmas.{Dropped}
 use Rattle.refute_check.proofs.undo.drop_uncounted.Given as goal
 

@@ -1,6 +1,6 @@
-use Rattle.std.proofs.Common.{arith, ◌≡◌, ◌≤◌, ◌<◌, ◌++◌, ◌∷◌, [], ℕ, List, length, get_or, sym, ◌∙◌, ap, subst, length-append}
-use Rattle.std.specs.Prelude.{All, option_to_list}
-use Rattle.cnf_core.specs.Lit.{Literal, negate, word_of, has}
+use Rattle.std.proofs.Common.{arith, ◌≡◌, ◌≤◌, ◌<◌, ◌∷◌, [], ℕ, List, length, get_or, sym, ◌∙◌, ap, subst}
+use Rattle.std.specs.Prelude.{All}
+use Rattle.cnf_core.specs.Lit.{negate, word_of}
 use Rattle.refute_check.specs.Tables.{times, CountedUp, places_from, IsTrail}
 use Rattle.refute_check.proofs.TrailLemmas.{word_below}
 use Rattle.refute_check.proofs.FalseCountLemmas.{places_there, down_enough, counts_down}

@@ -1,4 +1,4 @@
-use Rattle.std.proofs.Common.{length, vec_len}
+use Rattle.std.proofs.Common.{length}
 use Rattle.refute_check.proofs.UndoLemmas.{Retracted}
 use Rattle.refute_check.proofs.undo.undo.Given as goal
 

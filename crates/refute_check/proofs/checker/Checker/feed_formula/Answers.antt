@@ -1,4 +1,4 @@
-use Rattle.std.proofs.Common.{refl, ◌∙◌, sym, max}
+use Rattle.std.proofs.Common.{refl}
 use Rattle.refute_check.proofs.CheckerLemmas.{there_up, formula_lacks, formula_accepts}
 use Rattle.refute_check.proofs.checker.Checker.feed_formula.Goals as goal
 

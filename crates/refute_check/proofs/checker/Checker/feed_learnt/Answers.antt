@@ -1,4 +1,4 @@
-use Rattle.std.proofs.Common.{refl, ◌∙◌, sym, max}
+use Rattle.std.proofs.Common.{refl, ◌∙◌}
 use Rattle.refute_check.proofs.CheckerLemmas.{named_line, there_named, learnt_lacks, learnt_unproved, learnt_old, learnt_accepts, there_same, there_zero}
 use Rattle.refute_check.proofs.checker.Checker.feed_learnt.Goals as goal
 

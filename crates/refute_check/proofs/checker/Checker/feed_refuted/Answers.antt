@@ -1,4 +1,4 @@
-use Rattle.std.proofs.Common.{refl, ◌∙◌, sym, max}
+use Rattle.std.proofs.Common.{refl}
 use Rattle.refute_check.specs.Kept.{kept_of}
 use Rattle.refute_check.proofs.CheckerLemmas.{named_line, there_named, refuted_wrong, refuted_answers, refuted_unproved, refuted_accepts}
 use Rattle.refute_check.proofs.checker.Checker.feed_refuted.Goals as goal

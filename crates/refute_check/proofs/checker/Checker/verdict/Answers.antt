@@ -1,4 +1,4 @@
-use Rattle.std.proofs.Common.{rules, ◌≡◌, refl}
+use Rattle.std.proofs.Common.{rules}
 use Rattle.refute_check.specs.Kept.{Includes}
 use Rattle.refute_check.proofs.JudgeLemmas.{all_more_at, all_end}
 use Rattle.refute_check.proofs.VerdictLemmas.{includes_from, includes_to, refutes_at, refutes_none}

@@ -1,4 +1,4 @@
-use Rattle.std.proofs.Common.{◌≡◌, ◌∙◌, ◌++◌, ◌∷◌, [], List, ℕ, Bool, false, ap, refl, append_assoc, sym}
+use Rattle.std.proofs.Common.{[], false, refl}
 use Rattle.refute_check.proofs.AddLemmas.{var_added, pushed_twice}
 use Rattle.refute_check.proofs.tables.Tables.add_var.Goals as goal
 

@@ -1,4 +1,4 @@
-use Rattle.std.proofs.Common.{◌≡◌, ◌∙◌, arith, length, inr, sym}
+use Rattle.std.proofs.Common.{◌≡◌, ◌∙◌, arith, length, inr}
 use Rattle.cnf_core.specs.Lit.{has}
 use Rattle.cnf_core.specs.Propagation.{negations}
 use Rattle.refute_check.proofs.TrailLemmas.{not_both}

@@ -1,4 +1,4 @@
-use Rattle.std.proofs.Common.{◌≡◌, ◌∙◌, ℕ, List, Bool, ap, subst, refl}
+use Rattle.std.proofs.Common.{◌∙◌, List, Bool, ap, subst, refl}
 use Rattle.refute_check.specs.Tables.{Lists, marked, false_count}
 use Rattle.refute_check.proofs.AddLemmas.{listed}
 use Rattle.refute_check.proofs.tables.Tables.list.Goals as goal

@@ -1,6 +1,6 @@
 use Rattle.std.proofs.Common.{◌≡◌, ◌∙◌, arith, length, subst, drop}
-use Rattle.refute_check.specs.Tables.{IsTrail, IsCounted}
-use Rattle.refute_check.proofs.SupposeLemmas.{assumed_counted, assumed_quiet, clash_falsifies, supposed_falsifies, supposed_closure, written_back}
+use Rattle.refute_check.specs.Tables.{IsTrail}
+use Rattle.refute_check.proofs.SupposeLemmas.{assumed_counted, clash_falsifies, supposed_falsifies, supposed_closure, written_back}
 use Rattle.refute_check.proofs.tables.Tables.suppose.Goals as goal
 
 pub propagate-requires-clause-counted : goal.propagate-requires-clause-counted
