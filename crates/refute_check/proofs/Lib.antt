@@ -10,6 +10,7 @@ pub mod SupposeLemmas
 pub mod AddLemmas
 pub mod KeepLemmas
 pub mod JudgeLemmas
+pub mod WordLemmas
 pub mod CheckerLemmas
 pub mod VerdictLemmas
 pub mod LawLemmas

@@ -9,7 +9,7 @@ ghost use Rattle.refute_log.specs.Lines.{IsWellFormed};
 use crate::LineFault;
 use crate::judging::{answer, are_among, are_named};
 use crate::keeping::{Standing, greatest, keep};
-use crate::places::Places;
+use crate::question::Question;
 use crate::tables::Tables;
 use cnf_core::{Clause, Formula, LAST_VAR, Lit, ROOM, VARS};
 use plan_core::OutOfMemory;
@@ -25,7 +25,7 @@ pub struct Checker {
     formula: Formula,
     tables: Tables,
     standing: Standing,
-    query: Option<Clause>,
+    query: Option<Question>,
     refuted: Vec<Clause>,
 }
 
@@ -203,7 +203,7 @@ impl Checker {
         if !are_named(lits, self.formula.vars()) {
             return Err(LineFault::NewVar);
         }
-        let query = Clause::new(self.alloc, lits)?;
+        let query = Question::new(self.alloc, lits)?;
         self.query = Some(query);
         Ok(())
     }

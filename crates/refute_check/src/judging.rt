@@ -2,7 +2,8 @@
 ghost use Rattle.std.specs.Prelude.{◌≡◌, ◌≤◌, ◌<◌, true, false, All, Any, Contains, MatchOption};
 ghost use Rattle.cnf_core.specs.Lit.{has, negate};
 
-use cnf_core::{Clause, Lit};
+use crate::question::Question;
+use cnf_core::Lit;
 
 /// Whether the literal stands among the others.
 fn is_among(lits: &[Lit], l: Lit) -> bool
@@ -42,13 +43,13 @@ pub(crate) fn are_among(lits: &[Lit], others: &[Lit]) -> bool
     true
 }
 
-/// Whether the negation of each literal is among the others.
-fn are_negated(lits: &[Lit], others: &[Lit]) -> bool
-    ensures yes { result ≡ true → All (λ l. Contains others.now (negate l)) lits.now }
-    ensures no { result ≡ false → All (λ l. Contains others.now (negate l)) lits.now → ⊥ }
+/// Whether the negation of each literal is one of the query.
+fn are_negated(lits: &[Lit], query: &Question) -> bool
+    ensures yes { result ≡ true → All (λ l. Contains query.now (negate l)) lits.now }
+    ensures no { result ≡ false → All (λ l. Contains query.now (negate l)) lits.now → ⊥ }
 {
     for l in lits {
-        if !is_among(others, l.negated()) {
+        if !query.has(l.negated()) {
             return false;
         }
     }
@@ -56,12 +57,12 @@ fn are_negated(lits: &[Lit], others: &[Lit]) -> bool
 }
 
 /// Whether there is a query, and each literal is the negation of one of it.
-pub(crate) fn answer(query: &Option<Clause>, lits: &[Lit]) -> bool
+pub(crate) fn answer(query: &Option<Question>, lits: &[Lit]) -> bool
     ensures yes { result ≡ true → MatchOption query.now ⊥ (λ q. All (λ l. Contains q (negate l)) lits.now) }
     ensures no { result ≡ false → MatchOption query.now ⊥ (λ q. All (λ l. Contains q (negate l)) lits.now) → ⊥ }
 {
     match query {
         None => false,
-        Some(q) => are_negated(lits, q.as_slice()),
+        Some(q) => are_negated(lits, q),
     }
 }

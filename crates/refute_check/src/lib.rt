@@ -22,6 +22,7 @@ mod laws;
 mod looks;
 mod places;
 mod propagation;
+mod question;
 mod scan;
 mod tables;
 mod trail;

@@ -4,4 +4,4 @@ use Rattle.cnf_core.specs.Lit.{negate}
 use Rattle.refute_check.proofs.judging.are_negated.Given as goal
 
 abbrev pub invariant-loop-l : goal.invariant-loop-l
-invariant-loop-l l = All (λ k. Contains l.others (negate k)) (take l.l-index l.lits)
+invariant-loop-l l = All (λ k. Contains l.query (negate k)) (take l.l-index l.lits)
