@@ -19,10 +19,10 @@ line_more line old into new n so_far now =
     ∙ ap (λ (xs : List ℕ). xs ++ line n) so_far
     ∙ append_assoc old (flat_map line (range_with_len 0 n)) (line n)
     ∙ ap (λ (xs : List ℕ). old ++ xs) (sym (
-        ap (λ (k : ℕ). flat_map line (range_with_len 0 k)) (add-one n)
-        ∙ ap (λ (xs : List ℕ). flat_map line xs) (range_more 0 n ∙ ap (λ (k : ℕ). range_with_len 0 n ++ k ∷ []) (zero_more n))
-        ∙ flat_map-append line (range_with_len 0 n) (n ∷ [])
-        ∙ ap (λ (xs : List ℕ). flat_map line (range_with_len 0 n) ++ xs) (append-nil (line n))))
+    ap (λ (k : ℕ). flat_map line (range_with_len 0 k)) (add-one n)
+    ∙ ap (λ (xs : List ℕ). flat_map line xs) (range_more 0 n ∙ ap (λ (k : ℕ). range_with_len 0 n ++ k ∷ []) (zero_more n))
+    ∙ flat_map-append line (range_with_len 0 n) (n ∷ [])
+    ∙ ap (λ (xs : List ℕ). flat_map line (range_with_len 0 n) ++ xs) (append-nil (line n))))
 
 -- texts that are appended one after another
 pub appended_four : (old a b c d one two three four : List ℕ) → one ≡ old ++ a → two ≡ one ++ b → three ≡ two ++ c → four ≡ three ++ d → four ≡ old ++ (a ++ (b ++ (c ++ d)))

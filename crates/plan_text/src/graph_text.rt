@@ -75,7 +75,12 @@ fn push_named(into: &mut Vec<u8>, word: &[u8], number: u16, name: &[u8]) -> Resu
     push_field(into, name)
 }
 
-fn push_node_line(alloc: Global, g: &PortGraph, n: u16, into: &mut Vec<u8>) -> Result<(), OutOfMemory>
+fn push_node_line(
+    alloc: Global,
+    g: &PortGraph,
+    n: u16,
+    into: &mut Vec<u8>,
+) -> Result<(), OutOfMemory>
     requires { n < length g.now.nodes }
     ensures ok { OnOk result (into.new.items ≡ into.old.items ++ node_line g.now n) }
     ensures begins { Begins into.old.items into.new.items }

@@ -13,6 +13,7 @@ use Rattle.std.proofs.lemmas.Bool.{cases_lt, cases_order}
 use Rattle.std.proofs.lemmas.Bool.Decides.{Decides-int_eq}
 use Rattle.std.proofs.lemmas.Cmp.{nat_cmp_total, int_cmp_total, int_ranked}
 use Rattle.std.proofs.lemmas.List.{length-map, get_or-map}
+use Rattle.std.proofs.lemmas.List.Elements.{All-contains}
 use Rattle.std.proofs.lemmas.List.Filters.{dedup_is}
 use Rattle.std.proofs.lemmas.List.Kept.{IsStrictlySortedBy-dedup}
 use Rattle.std.proofs.lemmas.List.Sorted.{list_any-IsPermutation, searchable_from_sorted}
@@ -26,7 +27,7 @@ use Rattle.port_graph.specs.StationGraph.{IsStationGraph}
 use Rattle.port_graph.specs.Plain.{plain_graph, plain_node, plain_edge, plain_ports, miles_of}
 use Rattle.port_graph.specs.Columns.{mileages, rising, columns_of, AreColumns}
 use Rattle.port_graph.specs.Kept.{ArePlaces, IsKept}
-use Rattle.port_graph.proofs.RisingLemmas.{Rises, is_in, rising_rises, is_in-rising, same_rising, all_in, or_again}
+use Rattle.port_graph.proofs.RisingLemmas.{Rises, is_in, rising_rises, is_in-rising, same_rising, all_in, or_again, rises_from_pairs, same_when, is_in_from, contains_from}
 
 -- ---- the list of columns
 
@@ -44,6 +45,18 @@ columns_are g = record {
   every = all_in_rising (mileages g);
   no_other = all_in (rising (mileages g)) (mileages g) (λ q there. sym (is_in-rising q (mileages g)) ∙ there);
 }
+
+-- no other list is so
+pub only_columns : (g : Graph) (columns : List ℤ) → AreColumns g columns → columns ≡ columns_of g
+unfolding columns_of
+only_columns g columns are =
+    let ms : List ℤ = mileages g in
+    same_rising columns (rising ms) (rises_from_pairs columns are.rise) (rising_rises ms)
+    (λ q.
+    same_when (is_in q columns) (is_in q ms)
+    (λ there. is_in_from ms q (All-contains (Contains ms) columns q are.no_other (contains_from columns q there)))
+    (λ there. is_in_from columns q (All-contains (Contains columns) ms q are.every (contains_from ms q there)))
+    ∙ sym (is_in-rising q ms))
 
 length-put : (k : ℤ) (ks : List ℤ) → length (insert_key int_cmp ks k) ≤ length ks + 1
 length-put k [] = omega arith

@@ -2,6 +2,7 @@ pub mod NumberLemmas
 pub mod RisingLemmas
 pub mod ColumnLemmas
 pub mod PortLemmas
+pub mod MileLemmas
 pub mod TurnedLists
 pub mod TurnedTopology
 pub mod Sublists
@@ -29,3 +30,5 @@ pub mod TurnedStation
 pub mod TurnedFaults
 pub mod OneGraph
 pub mod TurnedTwice
+pub mod ResolvedTest
+pub mod GraphTest

@@ -31,7 +31,7 @@ use Rattle.port_graph.proofs.RankLemmas.{rank_below, ranked, pairs_of_map}
 use Rattle.port_graph.proofs.RunEnds.{run_site_from, run_site_to, RunAt, met_run}
 use Rattle.port_graph.proofs.RunLemmas.{length-track_pieces}
 use Rattle.port_graph.proofs.Sublists.{sublist-AllPairs}
-use Rattle.port_graph.proofs.TurnedGraph.{less_true, less_false}
+use Rattle.port_graph.proofs.MileLemmas.{less_true, less_false}
 
 -- ---- numbers
 

@@ -1,36 +1,19 @@
 -- Seen from its other end, a station's columns count from the other end.
-use Rattle.std.proofs.Common.{◌≡◌, ℕ, ◌-◌, ◌<◌, ℤ, Bool, true, false, ◌||◌, List, [], ◌∷◌, length, map, reverse, get_or, refl, sym, ap, ◌∙◌, subst, arith}
-use Rattle.std.specs.Prelude.{◌<ℤ◌, neg_ℤ, slice_get, Some, All, AllPairs}
-use Rattle.std.specs.Cmp.{int_cmp_is}
-use Rattle.std.specs.Ordering.{int_cmp, int_eq}
-use Rattle.std.specs.declared.cmp.Ordering.TheVariants.{Less}
-use Rattle.std.specs.List.{AllByRecursion}
-use Rattle.std.specs.List.Sorted.{IsStrictlySortedBy}
+use Rattle.std.proofs.Common.{◌≡◌, ℕ, ◌-◌, ◌<◌, ℤ, Bool, ◌||◌, List, [], ◌∷◌, length, map, reverse, get_or, refl, sym, ap, ◌∙◌, subst, arith}
+use Rattle.std.specs.Prelude.{◌<ℤ◌, neg_ℤ, slice_get, Some, AllPairs}
+use Rattle.std.specs.Ordering.{int_eq}
 use Rattle.std.proofs.Math.IntN.{neg_ℤ-neg_ℤ}
 use Rattle.std.proofs.lemmas.Bool.Decides.{Decides-int_eq}
 use Rattle.std.proofs.lemmas.List.{length-map, get_or-map, get_or-reverse, length-reverse}
-use Rattle.std.proofs.lemmas.List.Elements.{All-head, All-tail}
 use Rattle.std.proofs.lemmas.List.Sorted.{IsPermutation-reverse, list_any-IsPermutation}
 use Rattle.std.proofs.lemmas.Option.{slice_get_within, slice_get-get_or, get_or_from_slice_get}
 use Rattle.plan_core.specs.Graph.{Graph, Node, mileage}
 use Rattle.port_graph.specs.Columns.{mileages, rising, columns_of}
 use Rattle.port_graph.specs.Turned.{turned_node, turned_graph}
 use Rattle.port_graph.proofs.ColumnLemmas.{rising_pairs}
-use Rattle.port_graph.proofs.Membership.{pairs_head, pairs_tail}
-use Rattle.port_graph.proofs.RisingLemmas.{Rises, is_in, rising_rises, is_in-rising, same_rising}
-use Rattle.port_graph.proofs.TurnedGraph.{neg_less}
+use Rattle.port_graph.proofs.RisingLemmas.{rises_from_pairs, is_in, rising_rises, is_in-rising, same_rising, same_when}
+use Rattle.port_graph.proofs.MileLemmas.{neg_less}
 use Rattle.port_graph.proofs.TurnedNodes.{node-turned}
-
--- a list of which each number is below each later one rises
-all_over : (x : ℤ) (ys : List ℤ) → All (λ (y : ℤ). x <ℤ y) ys → AllByRecursion (λ (y : ℤ). int_cmp x y ≡ Less) ys
-all_over x [] all = tt
-all_over x (y ∷ ys) all =
-    (sym (int_cmp_is x y Less (All-head (λ (y : ℤ). x <ℤ y) y ys all)), all_over x ys (All-tail (λ (y : ℤ). x <ℤ y) y ys all))
-
-pub rises_from_pairs : (xs : List ℤ) → AllPairs (λ (x y : ℤ). x <ℤ y) xs → Rises xs
-unfolding IsStrictlySortedBy
-rises_from_pairs [] pairs = tt
-rises_from_pairs (x ∷ xs) pairs = (all_over x xs (pairs_head (λ (x y : ℤ). x <ℤ y) x xs pairs), rises_from_pairs xs (pairs_tail (λ (x y : ℤ). x <ℤ y) x xs pairs))
 
 back_rises : (xs : List ℤ) → AllPairs (λ (x y : ℤ). x <ℤ y) xs → AllPairs (λ (x y : ℤ). x <ℤ y) (reverse (map neg_ℤ xs))
 back_rises xs pairs i j d less within =
@@ -45,12 +28,7 @@ back_rises xs pairs i j d less within =
     (subst (λ (z : ℤ). neg_ℤ (get_or xs (length xs - 1 - i) d) <ℤ z) (sym second) (neg_less (get_or xs (length xs - 1 - j) d) (get_or xs (length xs - 1 - i) d) below))
 
 same_test : (a b c d : ℤ) → (a ≡ b → c ≡ d) → (c ≡ d → a ≡ b) → int_eq a b ≡ int_eq c d
-same_test a b c d f g = both (int_eq a b) (int_eq c d) (λ e. (Decides-int_eq c d).1 (f ((Decides-int_eq a b).0 e))) (λ e. (Decides-int_eq a b).1 (g ((Decides-int_eq c d).0 e)))
-  where
-    both : (p q : Bool) → (p ≡ true → q ≡ true) → (q ≡ true → p ≡ true) → p ≡ q
-    both true q f g = sym (f refl)
-    both false true f g = g refl
-    both false false f g = refl
+same_test a b c d f g = same_when (int_eq a b) (int_eq c d) (λ e. (Decides-int_eq c d).1 (f ((Decides-int_eq a b).0 e))) (λ e. (Decides-int_eq a b).1 (g ((Decides-int_eq c d).0 e)))
 
 is_in-negated : (q : ℤ) (xs : List ℤ) → is_in q (map neg_ℤ xs) ≡ is_in (neg_ℤ q) xs
 is_in-negated q [] = refl

@@ -7,7 +7,6 @@ use Rattle.std.specs.declared.cmp.Ordering.TheVariants.{Less, Equal, Greater}
 use Rattle.std.specs.Cmp.{int_ranks}
 use Rattle.std.proofs.Math.IntN.{neg_ℤ-neg_ℤ}
 use Rattle.std.proofs.lemmas.Bool.{ne_eqb}
-use Rattle.std.proofs.lemmas.Int.{ints}
 use Rattle.std.proofs.lemmas.List.{length-map, get_or-map}
 use Rattle.std.proofs.lemmas.Option.{slice_get-map}
 use Rattle.plan_core.specs.declared.numbers.Micro.{Micro}
@@ -29,18 +28,8 @@ use Rattle.port_graph.specs.PortRule.{ports_of, joint_ports, side_of_hand, switc
 use Rattle.port_graph.specs.Sides.{edges_met}
 use Rattle.port_graph.specs.TopologyGraph.{west_of, east_of, edge_of, IsRun, AreEdgesOf, side_at, IsForward, AllForward}
 use Rattle.port_graph.specs.Turned.{turned_mile, turned_topology, other_side, turned_ports, turned_edge}
+use Rattle.port_graph.proofs.MileLemmas.{less_true, less_false, neg_less}
 use Rattle.port_graph.proofs.TurnedTopology.{turned_spot, turned_run, turned_join, turned_site, pieces-turned, joins-turned, join_number-turned, edge_count-turned, node_number-turned}
-
--- ---- mileages
-
-pub less_true : (a b : ℤ) → a <ℤ b → int_lt a b ≡ true
-less_true a b less = grind (arith, ints)
-
-pub less_false : (a b : ℤ) → a <ℤ b → int_lt b a ≡ false
-less_false a b less = grind (arith, ints)
-
-pub neg_less : (a b : ℤ) → a <ℤ b → neg_ℤ b <ℤ neg_ℤ a
-neg_less a b less = omega (arith, ints)
 
 -- ---- turned twice, a thing is as it was
 

@@ -17,7 +17,7 @@ use Rattle.plan_core.specs.Topology.{Element, elements, track_elements, inner_el
 use Rattle.port_graph.specs.StationGraph.{IsStationGraph}
 use Rattle.port_graph.specs.Turned.{turned_inner, turned_track, turned_topology, turned_ports, turned_node, turned_edge, turned_graph}
 use Rattle.port_graph.proofs.PortLemmas.{apart_moved}
-use Rattle.port_graph.proofs.TurnedGraph.{neg_less}
+use Rattle.port_graph.proofs.MileLemmas.{neg_less}
 use Rattle.port_graph.proofs.TurnedLists.{map_turned, flat_turned}
 use Rattle.port_graph.proofs.TurnedNodes.{node-turned}
 use Rattle.port_graph.proofs.TurnedTopology.{connection-turned}

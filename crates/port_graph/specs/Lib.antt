@@ -12,3 +12,4 @@ pub mod PortRule
 pub mod TopologyGraph
 pub mod Ordered
 pub mod Turned
+pub mod Examples

@@ -1,12 +1,13 @@
 // Laws of track graphs. The functions do nothing: their contracts are the laws.
-ghost use Rattle.std.specs.Prelude.{◌≡◌, ◌≢◌, ℕ, ◌<◌, ◌-◌, Some, neg_ℤ, length, map, reverse, slice_get};
+ghost use Rattle.std.specs.Prelude.{◌≡◌, ◌≢◌, ℕ, ◌<◌, ◌-◌, Some, ℤ, neg_ℤ, List, length, map, reverse, slice_get};
+ghost use Rattle.std.specs.Ordering.{nat_cmp, int_cmp};
 ghost use Rattle.plan_core.specs.declared.topology.Topology.{Topology as ATopology};
 ghost use Rattle.plan_core.specs.Topology.{IsResolved};
 ghost use Rattle.plan_core.specs.Graph.{Graph, mileage};
 ghost use Rattle.port_graph.specs.declared.fault.GraphFault.{GraphFault as AFault};
 ghost use Rattle.port_graph.specs.declared.fault.GraphFault.TheVariants.{Memory};
 ghost use Rattle.port_graph.specs.StationGraph.{IsStationGraph};
-ghost use Rattle.port_graph.specs.Columns.{columns_of};
+ghost use Rattle.port_graph.specs.Columns.{columns_of, AreColumns};
 ghost use Rattle.port_graph.specs.TopologyGraph.{IsGraphOf, IsGraphFault};
 ghost use Rattle.port_graph.specs.Turned.{turned_topology, turned_graph, turned_fault};
 
@@ -16,6 +17,14 @@ pub fn one_graph_or_one_fault()
     ensures graph { (t : ATopology) (g h : Graph) → IsResolved t → IsGraphOf t g → IsGraphOf t h → g ≡ h }
     ensures no_fault { (t : ATopology) (g : Graph) (fault : AFault) → IsResolved t → IsStationGraph g → IsGraphOf t g → IsGraphFault t fault → fault ≡ Memory }
     ensures fault { (t : ATopology) (e f : AFault) → IsResolved t → IsGraphFault t e → IsGraphFault t f → e ≢ Memory → f ≢ Memory → e ≡ f }
+{}
+
+/// The columns of a graph are the one list that rises and has just the mileages of its nodes; and the
+/// columns of two nodes compare as their mileages do.
+pub fn columns_are_the_distinct_mileages()
+    ensures are { (g : Graph) → AreColumns g (columns_of g) }
+    ensures only { (g : Graph) (columns : List ℤ) → AreColumns g columns → columns ≡ columns_of g }
+    ensures order { (g : Graph) (m n i j : ℕ) → slice_get (columns_of g) i ≡ Some (mileage g m) → slice_get (columns_of g) j ≡ Some (mileage g n) → nat_cmp i j ≡ int_cmp (mileage g m) (mileage g n) }
 {}
 
 /// With every mileage negated a topology is that of the same station seen from its other end. Its

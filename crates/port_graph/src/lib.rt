@@ -1,10 +1,12 @@
 //! The track graph of a station: nodes, edges, ports and columns.
 //!
 //! A `PortGraph` has a node for each end of the railway, each joint of two tracks, each switch and
-//! each crossing, and an edge for each piece of track between two of them. Contracts see it as
-//! `plan_core`'s plain `Graph`, which is an `IsStationGraph` by its type: a track graph within the
-//! limits, with names and mileages as a file has them. Its columns are the distinct mileages of its
-//! nodes in rising order.
+//! each crossing, and an edge for each piece of track between two of them. `build` makes it of a
+//! topology, or answers the first fault. Contracts see it as `plan_core`'s plain `Graph`, which is an
+//! `IsStationGraph` by its type: a track graph within the limits, with names and mileages as a file
+//! has them. `specs/` has what the graph of a topology is (`TopologyGraph`, over `Sites`, `Runs` and
+//! the side rule in `PortRule`), the columns, which are the distinct mileages of the nodes in rising
+//! order (`Columns`), and the station seen from its other end (`Turned`), of which `laws` speaks.
 //! The crate stands on `plan_core`. The track order, the lawful checker, the clause encoding and the
 //! texts stand on it.
 #![tactic(auto)]
@@ -32,7 +34,13 @@ mod spots;
 pub use fault::GraphFault;
 pub use from_topology::build;
 pub use graph::PortGraph;
-pub use laws::{columns_count_from_the_other_end, one_graph_or_one_fault, seen_from_the_other_end};
+pub use laws::{
+    columns_are_the_distinct_mileages, columns_count_from_the_other_end, one_graph_or_one_fault,
+    seen_from_the_other_end,
+};
 pub use ports::{NodeKind, Ports};
 use runs::{Join, Run, Spot};
 use sites::{Meeting, Site};
+
+#[cfg(test)]
+mod examples;

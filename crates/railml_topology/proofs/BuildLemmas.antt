@@ -1,19 +1,18 @@
 -- Elements of a topology are made from their rows.
-use Rattle.std.proofs.Common.{◌≡◌, ◌⊎◌, ℕ, suc, zero, ◌+◌, ◌*◌, ◌<◌, ◌≤◌, ◌^◌, Bool, true, false, Option, Some, None, List, [], ◌∷◌, ◌++◌, length, map, take, get_or, slice_get, refl, sym, ap, ◌∙◌, subst, inl, inr, FitsSigned, w64, to_z, of_z, arith}
-use Rattle.std.specs.Prelude.{codes, ℤ, pos, neg_ℤ, ◌+ℤ◌, ◌-ℤ◌, ◌<ℤ◌, is_some, MatchOption}
-use Rattle.std.specs.List.{All, AllZip}
+use Rattle.std.proofs.Common.{◌≡◌, ℕ, ◌+◌, ◌<◌, ◌≤◌, ◌^◌, Bool, true, false, Option, Some, None, List, [], ◌∷◌, ◌++◌, length, take, get_or, slice_get, refl, sym, ap, ◌∙◌, subst, inl, inr, FitsSigned, w64, to_z, of_z, arith}
+use Rattle.std.specs.Prelude.{codes, ℤ, ◌+ℤ◌, ◌-ℤ◌, is_some, MatchOption}
+use Rattle.std.specs.List.{AllZip}
 use Rattle.std.proofs.lemmas.Int.{ints, to_z-of_z}
 use Rattle.std.proofs.lemmas.List.{take_more, take_all}
-use Rattle.std.proofs.lemmas.Option.{same_Some, slice_get_within}
 use Rattle.plan_core.specs.declared.sides.Hand.{Hand}
 use Rattle.plan_core.specs.declared.topology.Conn.{Conn}
 use Rattle.railml_read.specs.declared.rows.Elem.{Elem}
 use Rattle.railml_read.specs.declared.rows.ElemKind.{ElemKind}
-use Rattle.railml_read.specs.declared.rows.ElemKind.TheVariants.{Track, Topology, Begin, End, Switch, Crossing, Connection}
+use Rattle.railml_read.specs.declared.rows.ElemKind.TheVariants.{Track, Begin, End, Switch, Crossing, Connection}
 use Rattle.railml_topology.specs.declared.layout.Layout.{Layout}
-use Rattle.railml_topology.specs.Rows.{is_of_kind, bears_id, bears_position, is_word, Reads, HasPosition, children}
+use Rattle.railml_topology.specs.Rows.{is_of_kind, bears_id, bears_position, is_word, Reads, HasPosition}
 use Rattle.railml_topology.specs.Faults.{IsConnectionOf}
-use Rattle.railml_topology.specs.Resolved.{way_word, hand_word, HasWay, HasAbsPos, IsMeasured, HasMileage, IsLayout, AreLayouts, IsBranchOf, IsWayOf, IsConnOf, IsCourseOf, IsSwitchOf, IsCrossingOf}
+use Rattle.railml_topology.specs.Resolved.{way_word, hand_word, HasWay, IsMeasured, HasMileage, IsLayout, AreLayouts, IsBranchOf, IsWayOf, IsConnOf, IsCourseOf, IsSwitchOf, IsCrossingOf}
 use Rattle.railml_topology.specs.Plans.{is_inner, IsWithin}
 use Rattle.railml_topology.specs.Sites.{HasNumbers, IsStart, IsEither}
 use Rattle.railml_topology.specs.Sound.{AreSound}

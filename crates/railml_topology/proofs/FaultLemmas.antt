@@ -47,7 +47,7 @@ back Course = refl
 back Orientation = refl
 back OutsideTrack = refl
 
-one_kind : (a b : TopologyWhat) → number_of a ≡ number_of b → a ≡ b
+pub one_kind : (a b : TopologyWhat) → number_of a ≡ number_of b → a ≡ b
 one_kind a b same = sym (back a) ∙ (ap kind_of same ∙ back b)
 
 pub numbers_from_one : (what : TopologyWhat) → 1 ≤ number_of what

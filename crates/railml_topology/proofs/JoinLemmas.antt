@@ -326,7 +326,7 @@ one_place rows layouts s h k p q a b =
 
 -- ---- both ways
 
-one_named : (rows : List Elem) → AreSound rows → (i j : ℕ) (name : List ℕ) (a b : Elem) → IsConnectionNamed rows i name a → IsConnectionNamed rows j name b → i ≡ j
+pub one_named : (rows : List Elem) → AreSound rows → (i j : ℕ) (name : List ℕ) (a b : Elem) → IsConnectionNamed rows i name a → IsConnectionNamed rows j name b → i ≡ j
 one_named rows s i j name a b m n =
     s.ids_differ i j name (record { row = a; is = m.is; bears = rw m.connection refl; has = m.has }) (record { row = b; is = n.is; bears = rw n.connection refl; has = n.has })
 
@@ -337,7 +337,7 @@ named_self rows layouts k c h = record { is = h.is; connection = h.refers.connec
 id_of_conn : (rows : List Elem) (layouts : List Layout) (k : ℕ) (c : Conn) (h : IsConnOf rows layouts k c) → id_of h.row ≡ c.id
 id_of_conn rows layouts k c h = let e = h.id in rw e refl
 
-one_reference : (row : Elem) (a b : List ℕ) → RefersTo row a → RefersTo row b → a ≡ b
+pub one_reference : (row : Elem) (a b : List ℕ) → RefersTo row a → RefersTo row b → a ≡ b
 one_reference row a b h k = same_Some a b (sym h.refers ∙ k.refers)
 
 -- the place that a connection leads to leads to its row

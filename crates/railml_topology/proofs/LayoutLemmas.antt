@@ -1,6 +1,5 @@
 -- The rows of a track, by the tables of only children.
 use Rattle.std.proofs.Common.{◌≡◌, ℕ, suc, ◌+◌, ◌<◌, ◌≤◌, Bool, true, false, cond, Option, Some, None, List, [], ◌∷◌, ◌++◌, length, map, get_or, slice_get, drop, refl, sym, ap, ◌∙◌, subst, append_assoc, arith}
-use Rattle.std.specs.Option.{option_and_then}
 use Rattle.std.specs.List.{All}
 use Rattle.std.proofs.lemmas.List.{map-append, drop_more, drop_all, append-nil}
 use Rattle.std.proofs.lemmas.List.Elements.{All-push}
@@ -16,7 +15,7 @@ use Rattle.railml_topology.specs.Resolved.{AreInner, IsLayout, AreLayouts}
 use Rattle.railml_topology.specs.Tables.{only_of, HasOnlyChildren, entry_in, AreTablesOf}
 use Rattle.railml_topology.specs.Plans.{HasOne}
 use Rattle.railml_topology.specs.Sound.{AreSound}
-use Rattle.railml_topology.proofs.Family.{of_kind, IsChild, only_child}
+use Rattle.railml_topology.proofs.Family.{of_kind, only_child}
 
 only_is : (xs : List ℕ) (k : ℕ) → only_of xs ≡ Some k → xs ≡ k ∷ []
 only_is [] k e = cc

@@ -11,11 +11,13 @@ pub mod ElementLemmas
 pub mod JoinLemmas
 pub mod ResolvedLemmas
 pub mod SoundLemmas
+pub mod OneTopologyLemmas
 pub mod SearchLemmas
 pub mod TableLemmas
 pub mod ListLemmas
 pub mod FaultLemmas
 pub mod ToldLemmas
+pub mod LawLemmas
 pub mod PartLemmas
 pub mod OutsideLemmas
 pub mod IdLemmas

@@ -1,20 +1,20 @@
 -- Where the connections of rows are.
-use Rattle.std.proofs.Common.{Vec, Global, ◌^◌, ◌≡◌, ◌≢◌, ◌⊎◌, ℕ, suc, zero, ◌+◌, ◌<◌, ◌≤◌, Bool, true, false, cond, Option, Some, None, List, [], ◌∷◌, ◌++◌, length, map, get_or, slice_get, set, refl, sym, ap, ◌∙◌, subst, inl, inr, length-set, replicate, arith}
+use Rattle.std.proofs.Common.{Vec, Global, ◌^◌, ◌≡◌, ◌≢◌, ◌⊎◌, ℕ, suc, zero, ◌+◌, ◌<◌, ◌≤◌, Bool, true, false, cond, Option, Some, None, List, [], ◌∷◌, length, map, get_or, slice_get, set, refl, sym, ap, ◌∙◌, subst, inl, inr, length-set, replicate, arith}
 use Rattle.std.proofs.lemmas.List.{length-replicate, length-map}
 use Rattle.std.proofs.lemmas.List.Elements.{All-from_recursion}
 use Rattle.std.proofs.Math.Bool.{or-true}
-use Rattle.std.specs.Prelude.{◌&&◌, codes, find}
+use Rattle.std.specs.Prelude.{◌&&◌, find}
 use Rattle.std.proofs.lemmas.Slice.Eq.{bytes_eq-Decides}
-use Rattle.std.specs.Option.{option_and_then, option_map_or}
+use Rattle.std.specs.Option.{option_map_or}
 use Rattle.std.specs.List.{Contains, All, AllByRecursion}
 use Rattle.std.proofs.lemmas.Bool.Decides.{eqb_tells}
-use Rattle.std.proofs.lemmas.Option.{same_Some, slice_get_within, slice_get_read, slice_get-get_or, slice_get_past, option_and_then_some}
+use Rattle.std.proofs.lemmas.Option.{same_Some, slice_get_within, slice_get_read, option_and_then_some}
 use Rattle.plan_core.specs.declared.topology.Place.{Place}
 use Rattle.plan_core.specs.declared.topology.Part.{Part}
 use Rattle.plan_core.specs.declared.topology.Part.TheVariants as parts
 use Rattle.railml_read.specs.declared.rows.Elem.{Elem}
 use Rattle.railml_read.specs.declared.rows.ElemKind.{ElemKind}
-use Rattle.railml_read.specs.declared.rows.ElemKind.TheVariants.{Track, Topology, Begin, End, Switch, Crossing, Connection}
+use Rattle.railml_read.specs.declared.rows.ElemKind.TheVariants.{Begin, End, Switch, Crossing, Connection}
 use Rattle.railml_topology.specs.declared.layout.Layout.{Layout}
 use Rattle.railml_topology.specs.declared.tables.Tables.{Tables}
 use Rattle.railml_topology.specs.Rows.{track_rows, is_of_kind, is_word, all_children, children}
@@ -26,7 +26,7 @@ use Rattle.railml_topology.specs.Sound.{AreSound}
 use Rattle.railml_topology.proofs.Apart.{Apart, Among, all_more, stands_weaker, stands_from_pairs, apart_short}
 use Rattle.railml_topology.proofs.PositionLemmas.{before_differs, inner_within}
 use Rattle.railml_topology.specs.Plans.{is_inner}
-use Rattle.railml_topology.proofs.Family.{among_from_contains, contains_from_among, among_filtered, filtered_among, of_kind, is_of_its_kind, IsChild, child, has_child, only_child, is_only}
+use Rattle.railml_topology.proofs.Family.{among_from_contains, contains_from_among, among_filtered, filtered_among, of_kind, is_of_its_kind, IsChild, child, has_child, only_child}
 use Rattle.railml_topology.proofs.ElementLemmas.{same_row, way_child}
 use Rattle.railml_topology.proofs.LayoutLemmas.{entry_child, child_entry}
 use Rattle.railml_topology.proofs.JoinLemmas.{one_way, kinds_clash}

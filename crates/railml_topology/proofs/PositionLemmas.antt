@@ -1,7 +1,7 @@
 -- A row has one position at most, and the order along a track never goes in a circle.
 use Rattle.std.proofs.Common.{◌≡◌, ◌≢◌, FitsSigned, w64, to_z, of_z, ℕ, ◌<◌, List, slice_get, sym, ap, ◌∙◌, subst, inl, inr, arith}
 use Rattle.std.proofs.Common.{length, get_or, refl}
-use Rattle.std.specs.Prelude.{◌^◌, ◌||◌, Some, Bool, true, false, pos, neg_ℤ, ℤ, ◌<ℤ◌}
+use Rattle.std.specs.Prelude.{◌^◌, ◌||◌, Some, Bool, true, false, ℤ, ◌<ℤ◌}
 use Rattle.std.proofs.lemmas.Int.{ints, to_z-of_z}
 use Rattle.std.proofs.lemmas.Option.{same_Some, slice_get_within, slice_get_read}
 use Rattle.plan_core.specs.declared.numbers.Micro.{Micro}

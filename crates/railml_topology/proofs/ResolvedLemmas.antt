@@ -1,6 +1,6 @@
 -- A topology that rows resolve to is resolved: its ids and places differ, and its mileages stay in range.
-use Rattle.std.proofs.Common.{◌≡◌, ◌≢◌, ℕ, ◌+◌, ◌*◌, ◌<◌, ◌≤◌, ◌^◌, Bool, true, false, Option, Some, None, List, [], ◌∷◌, length, map, refl, sym, ap, ◌∙◌, subst, inl, inr, lit≤, arith}
-use Rattle.std.specs.Prelude.{ℤ, pos, neg_ℤ, ◌+ℤ◌, ◌-ℤ◌, ◌<ℤ◌, MatchOption}
+use Rattle.std.proofs.Common.{◌≡◌, ◌≢◌, ℕ, ◌+◌, ◌*◌, ◌<◌, ◌≤◌, ◌^◌, Option, Some, None, List, [], ◌∷◌, length, map, refl, sym, ap, ◌∙◌, subst, inl, inr, lit≤, arith}
+use Rattle.std.specs.Prelude.{ℤ, ◌+ℤ◌, ◌-ℤ◌, MatchOption}
 use Rattle.std.proofs.lemmas.Int.{ints}
 use Rattle.std.proofs.lemmas.List.{length-map}
 use Rattle.std.specs.List.{All, AllByRecursion, AllPairs, AllZip, flat_map}
@@ -11,8 +11,6 @@ use Rattle.plan_core.specs.declared.topology.Topology.{Topology}
 use Rattle.plan_core.specs.declared.topology.Track.{Track}
 use Rattle.plan_core.specs.declared.topology.Inner.{Inner}
 use Rattle.plan_core.specs.Topology.{Element, IsId, elements, IsMileage, track_miles, IsResolved}
-use Rattle.rail_mileage.specs.Metres.{size_of, signed, is_minus, fraction_digits}
-use Rattle.rail_mileage.proofs.Digits.{size_below}
 use Rattle.railml_read.specs.declared.rows.Elem.{Elem}
 use Rattle.railml_topology.specs.declared.layout.Layout.{Layout}
 use Rattle.railml_topology.specs.Rows.{track_rows, BearsId, Reads, HasPosition}

@@ -1,12 +1,10 @@
 -- What the rows and tables that a topology is built from say of its connections.
-use Rattle.std.proofs.Common.{◌≡◌, ◌⊎◌, ℕ, suc, zero, ◌+◌, ◌<◌, ◌≤◌, Bool, true, false, Option, Some, None, List, [], ◌∷◌, length, map, get_or, slice_get, refl, sym, ap, ◌∙◌, subst, inl, inr, zero-add, arith}
-use Rattle.std.specs.Option.{option_and_then}
-use Rattle.std.specs.List.{Contains, All, filter}
+use Rattle.std.proofs.Common.{◌≡◌, ◌⊎◌, ℕ, suc, zero, ◌<◌, Bool, true, false, Option, Some, None, List, [], ◌∷◌, length, map, get_or, slice_get, refl, sym, ap, ◌∙◌, subst, inl, inr, zero-add}
+use Rattle.std.specs.List.{Contains, filter}
 use Rattle.std.proofs.lemmas.List.Elements.{recursion_from_All}
-use Rattle.std.proofs.lemmas.Option.{same_Some, slice_get_within, slice_get_read, slice_get-get_or, option_and_then_some}
+use Rattle.std.proofs.lemmas.Option.{slice_get_within, slice_get-get_or, option_and_then_some}
 use Rattle.plan_core.specs.declared.topology.Conn.{Conn}
 use Rattle.plan_core.specs.declared.topology.Place.{Place}
-use Rattle.plan_core.specs.declared.topology.Part.{Part}
 use Rattle.plan_core.specs.declared.topology.Part.TheVariants as parts
 use Rattle.railml_read.specs.declared.rows.Elem.{Elem}
 use Rattle.railml_read.specs.declared.rows.ElemKind.{ElemKind}
@@ -14,19 +12,19 @@ use Rattle.railml_read.specs.declared.rows.ElemKind.TheVariants as kinds
 use Rattle.railml_read.specs.Formed.{may_hold, HasParent, IsPlaced, AreFormed}
 use Rattle.railml_topology.specs.declared.layout.Layout.{Layout}
 use Rattle.railml_topology.specs.declared.tables.Tables.{Tables}
-use Rattle.railml_topology.specs.Rows.{same_kind, track_rows, is_child_of, is_of_kind, all_children, children, bears_id, id_of}
+use Rattle.railml_topology.specs.Rows.{same_kind, track_rows, is_of_kind, all_children, children, bears_id}
 use Rattle.railml_topology.specs.Faults.{HasItsParts}
-use Rattle.railml_topology.specs.Resolved.{IsConnOf, IsJoinedAs, IsLayout, AreLayouts, IsBranchOf, IsWayOf, IsAtPart, IsAtPlace}
-use Rattle.railml_topology.specs.Tables.{only_of, HasOnlyChildren, IsReferredTo, IsTargetOf, HasTargets, entry_in, AreTablesOf}
-use Rattle.railml_topology.specs.Places.{IsThere, HasPlaces}
+use Rattle.railml_topology.specs.Resolved.{IsConnOf, IsJoinedAs, IsLayout, AreLayouts, IsWayOf, IsAtPlace}
+use Rattle.railml_topology.specs.Tables.{only_of, IsReferredTo, IsTargetOf, HasTargets, entry_in, AreTablesOf}
+use Rattle.railml_topology.specs.Places.{HasPlaces}
 use Rattle.railml_topology.specs.Sites.{IsEither}
-use Rattle.railml_topology.specs.Sound.{HasGoodId, AreSound}
+use Rattle.railml_topology.specs.Sound.{AreSound}
 use Rattle.railml_topology.proofs.Apart.{Among}
-use Rattle.railml_topology.proofs.Family.{among_from_contains, contains_from_among, of_kind, is_of_its_kind, has_number, among_filtered, IsChild, has_child, only_child, is_only}
-use Rattle.railml_topology.proofs.ElementLemmas.{same_row, kind_tested}
+use Rattle.railml_topology.proofs.Family.{contains_from_among, of_kind, is_of_its_kind, has_number, among_filtered, IsChild, has_child, only_child, is_only}
+use Rattle.railml_topology.proofs.ElementLemmas.{same_row}
 use Rattle.railml_topology.proofs.JoinLemmas.{all_at}
 use Rattle.railml_topology.proofs.LayoutLemmas.{entry_child}
-use Rattle.railml_topology.proofs.PlaceLemmas.{connection_of_row, way_of_child}
+use Rattle.railml_topology.proofs.PlaceLemmas.{way_of_child}
 
 -- ---- each connection has a place
 
@@ -77,6 +75,9 @@ layout_number [] k a = absurd a
 layout_number (l ∷ ls) k (inl e) = (0, l, refl, sym e)
 layout_number (l ∷ ls) k (inr a) = let (n, m, at, same) = layout_number ls k a in (suc n, m, at, same)
 
+moved_parent : (row : Elem) (a b : ℕ) → row.parent ≡ Some a → a ≡ b → row.parent ≡ Some b
+moved_parent row a b e f = e ∙ ap (λ (v : ℕ). Some v) f
+
 -- row k is held by a topology: the layout of the track, in which that topology is the track's
 pub record IsHeldIn (rows : List Elem) (layouts : List Layout) (topology : ℕ) : Type 0 where
   pub number : ℕ
@@ -93,7 +94,7 @@ topology_layout rows layouts s h topology row is kind_is =
     (has_number (λ (r : Elem). same_kind r.kind kinds.Track) 0 rows up.number up.parent up.at (ap (λ (v : ElemKind). same_kind v kinds.Track) track_kind)) in
     let (n, l, at, same) = layout_number layouts up.number (subst (λ (v : List ℕ). Among v up.number) (sym h.tracks) numbered) in
     let laid : IsLayout rows l = all_at (IsLayout rows) layouts n l (recursion_from_All (IsLayout rows) layouts h.each) at in
-    let child : IsChild rows l.track kinds.Topology topology = record { row = row; is = is; parent_is = up.is ∙ ap (λ (v : ℕ). Some v) (sym same); kind_is = kind_is } in
+    let child : IsChild rows l.track kinds.Topology topology = record { row = row; is = is; parent_is = moved_parent row up.number l.track up.is (sym same); kind_is = kind_is } in
     record { number = n; layout = l; at = at; laid = laid; same = is_only rows l.track kinds.Topology l.topology topology laid.one_topology child }
 
 -- what holds a connection stands in the layout of its track
@@ -119,7 +120,7 @@ holder_of rows layouts s h k t =
       is = up.at;
       connection = record { row = row; is = is; parent_is = up.is; kind_is = kind_is };
       kind_is = kind;
-      in_layout = (held.number, held.layout, held.at, held.laid, record { row = up.parent; is = up.at; parent_is = above.is ∙ ap (λ (v : ℕ). Some v) held.same; kind_is = refl });
+      in_layout = (held.number, held.layout, held.at, held.laid, record { row = up.parent; is = up.at; parent_is = moved_parent up.parent above.number held.layout.topology above.is held.same; kind_is = refl });
     }
   where
     no_track : (v : ElemKind) → ((v ≡ kinds.Begin) ⊎ (v ≡ kinds.End)) ⊎ ((v ≡ kinds.Switch) ⊎ (v ≡ kinds.Crossing)) → same_kind v kinds.Track ≡ false

@@ -1,5 +1,5 @@
 -- What a topology is built from.
-use Rattle.std.specs.Prelude.{◌≡◌, ◌⊎◌, ℕ, true, List, Some, slice_get, ℤ}
+use Rattle.std.specs.Prelude.{◌≡◌, ◌⊎◌, ℕ, true, List, Some, ℤ}
 use Rattle.railml_read.specs.declared.rows.Elem.{Elem}
 use Rattle.railml_read.specs.declared.rows.ElemKind.TheVariants.{Begin, End}
 use Rattle.railml_topology.specs.declared.sites.Site.{Site}

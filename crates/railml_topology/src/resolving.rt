@@ -59,3 +59,6 @@ pub fn resolve(alloc: Global, rows: &Records) -> Result<Topology, ResolveFault>
         None => Ok(faultless(alloc, rows, &tables)?),
     }
 }
+
+#[cfg(test)]
+mod tests;

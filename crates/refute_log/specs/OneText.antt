@@ -120,7 +120,7 @@ literals_once (l ∷ ls) (k ∷ ks) r s h i e =
 clause_once : (c d : List Literal) (r s : List ℕ) → AreThere last_var c → AreThere last_var d → ((literals_text c ++ 48 ∷ []) ++ 10 ∷ []) ++ r ≡ ((literals_text d ++ 48 ∷ []) ++ 10 ∷ []) ++ s → SameTail c d r s
 clause_once c d r s h k e = literals_once c d r s h k (sym (regroup_end (literals_text c) r 48 10) ∙ e ∙ regroup_end (literals_text d) s 48 10)
 
-criterion_once : (a b : Criterion) (r s : List ℕ) → criterion_text a ++ r ≡ criterion_text b ++ s → (a ≡ b) × (r ≡ s)
+pub criterion_once : (a b : Criterion) (r s : List ℕ) → criterion_text a ++ r ≡ criterion_text b ++ s → (a ≡ b) × (r ≡ s)
 criterion_once Height Height r s e = (refl, cc)
 criterion_once Bends Bends r s e = (refl, cc)
 criterion_once Diagonal Diagonal r s e = (refl, cc)

@@ -1,7 +1,6 @@
 use Rattle.std.proofs.Common.{◌≡◌, ℕ, List, Option, Some, subst, sym}
-use Rattle.std.proofs.lemmas.Result.{IfOk-weaker}
 use Rattle.railml_topology.specs.Tables.{entry_in}
-use Rattle.railml_topology.proofs.LayoutLemmas.{topology_entry, begin_entry, end_entry, topology_found, IsFound}
+use Rattle.railml_topology.proofs.LayoutLemmas.{topology_entry, begin_entry, end_entry, topology_found}
 use Rattle.railml_topology.proofs.layout.layout_of.Goals as goal
 
 pub sure_entry-topology-requires : goal.sure_entry-topology-requires

@@ -1,5 +1,5 @@
 use Rattle.std.proofs.Common.{sym, ◌∙◌}
-use Rattle.railml_topology.proofs.BuildLemmas.{mileage_text, start_text, own_mileage, measured_mileage}
+use Rattle.railml_topology.proofs.BuildLemmas.{mileage_text, own_mileage, measured_mileage}
 use Rattle.railml_topology.proofs.mileages.mileage_of.Goals as goal
 
 pub metres_in-requires : goal.metres_in-requires

@@ -1,4 +1,4 @@
-use Rattle.std.proofs.Common.{get_or, refl}
+use Rattle.std.proofs.Common.{get_or}
 use Rattle.std.proofs.lemmas.List.{get_or_default}
 use Rattle.railml_topology.proofs.PlaceLemmas.{first_more}
 use Rattle.railml_topology.proofs.places.put_all_inner.Goals as goal

@@ -1,4 +1,3 @@
-use Rattle.std.proofs.Common.{◌≡◌, length}
 use Rattle.railml_topology.specs.Places.{Adds, IsOnFirst}
 use Rattle.railml_topology.proofs.places.put_all_inner.Given as goal
 

@@ -1,5 +1,5 @@
-use Rattle.std.proofs.Common.{◌<◌, length, subst, sym}
-use Rattle.railml_topology.proofs.PlaceLemmas.{switch_put, branch_within}
+use Rattle.std.proofs.Common.{◌<◌, subst, sym}
+use Rattle.railml_topology.proofs.PlaceLemmas.{branch_within}
 use Rattle.railml_topology.proofs.places.put_switch.Goals as goal
 
 pub put-requires : goal.put-requires

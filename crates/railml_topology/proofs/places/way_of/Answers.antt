@@ -1,4 +1,4 @@
-use Rattle.std.proofs.Common.{◌≡◌, ℕ, List, Option, Some, None, sym, ap, ◌∙◌}
+use Rattle.std.proofs.Common.{◌≡◌, ℕ, List, Some, None, sym, ap, ◌∙◌}
 use Rattle.std.specs.Prelude.{find}
 use Rattle.railml_read.specs.declared.rows.ElemKind.TheVariants.{Crossing}
 use Rattle.railml_topology.specs.Rows.{all_children}

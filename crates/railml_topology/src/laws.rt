@@ -1,0 +1,20 @@
+// What holds of the definitions alone.
+ghost use Rattle.std.specs.Prelude.{◌≡◌, ℕ, List};
+ghost use Rattle.railml_read.specs.declared.rows.Elem.{Elem};
+ghost use Rattle.railml_read.specs.Formed.{AreFormed};
+ghost use Rattle.railml_topology.specs.declared.fault.TopologyWhat.{TopologyWhat};
+ghost use Rattle.plan_core.specs.declared.topology.Topology.{Topology as Resolved};
+ghost use Rattle.railml_topology.specs.Faults.{IsFirstFault, HasNoFault};
+ghost use Rattle.railml_topology.specs.Resolved.{IsTopologyOf};
+
+/// Rows have one first fault at most, at one place and with the same texts.
+pub fn one_fault()
+    ensures { (rows : List Elem) (a b : TopologyWhat) (at place : ℕ) (first second one other : List ℕ) → AreFormed rows →
+        IsFirstFault rows a at first second → IsFirstFault rows b place one other →
+        (a ≡ b) × (at ≡ place) × (first ≡ one) × (second ≡ other) }
+{}
+
+/// Rows of which nothing is wrong resolve to one topology at most.
+pub fn one_topology()
+    ensures { (rows : List Elem) (t u : Resolved) → AreFormed rows → HasNoFault rows → IsTopologyOf rows t → IsTopologyOf rows u → t ≡ u }
+{}

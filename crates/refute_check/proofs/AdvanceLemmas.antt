@@ -1,0 +1,119 @@
+-- One more literal of the trail is counted.
+use Rattle.std.proofs.Common.{◌≡◌, ℕ, ◌+◌, ◌<◌, ◌≤◌, Bool, true, false, List, [], ◌∷◌, ◌++◌, length, take, drop, get_or, refl, sym, ◌∙◌, ap, subst, inl, inr, arith}
+use Rattle.std.specs.Prelude.{Contains}
+use Rattle.std.proofs.lemmas.List.{take_more, take-take, take-append-drop, get_or_default}
+use Rattle.std.proofs.lemmas.List.Elements.{All-contains, Contains-get_or, Contains-append_left}
+use Rattle.cnf_core.specs.Lit.{Literal, negate, word_of, has}
+use Rattle.cnf_core.specs.Clause.{Clauses, AreDistinct, AreThere, AllDistinct, IsThere}
+use Rattle.cnf_core.specs.Propagation.{LiteralSet, IsIn, Includes}
+use Rattle.cnf_core.proofs.PropagationLemmas.{negate-negate, contains_from_has, has_from_contains}
+use Rattle.refute_check.specs.Tables.{CountedUp, places_from, AreCounts, AreOccurrences, IsTrail, IsCounted, IsQuiet, AreQuiet, IsQuietNow, AreQuietNow, Grows}
+use Rattle.refute_check.proofs.ScanLemmas.{front_differs, there_get}
+use Rattle.refute_check.proofs.TrailLemmas.{has_front, same_literal_or, word_below}
+use Rattle.refute_check.proofs.GrowthLemmas.{quiet_more, grows_none, grows_more}
+use Rattle.refute_check.proofs.FalseCountLemmas.{counts_up, named_by}
+
+pub front_includes : (trail : List Literal) (n : ℕ) → Includes (has trail) (has (take n trail))
+front_includes trail n = λ l h. has_from_contains trail l (subst (λ (ls : List Literal). Contains ls l) (take-append-drop n trail) (Contains-append_left (take n trail) (drop n trail) l (contains_from_has (take n trail) l h)))
+
+false_of : (b : Bool) → (b ≡ true → ⊥) → b ≡ false
+false_of true f = absurd (f refl)
+false_of false f = refl
+
+-- the next literal isn't in the front
+pub front_lacks : (trail : List Literal) (front : ℕ) (l : Literal) → AreDistinct trail → front < length trail → get_or trail front l ≡ l → has (take front trail) l ≡ false
+front_lacks trail front l distinct within e = false_of (has (take front trail) l) (λ h. front_differs trail front l l distinct within (contains_from_has (take front trail) l h) e)
+
+pub next_front : (trail : List Literal) (front : ℕ) (l : Literal) → front < length trail → get_or trail front l ≡ l → take (front + 1) trail ≡ take front trail ++ l ∷ []
+next_front trail front l within e = take_more trail front l within ∙ ap (λ (k : Literal). take front trail ++ k ∷ []) e
+
+-- a grown trail has the same front
+pub same_front : (clauses : Clauses) (old new : List Literal) (n : ℕ) → Grows clauses old new → n ≤ length old → take n new ≡ take n old
+same_front clauses old new n g le = sym (take-take n (length old) new le) ∙ ap (take n) g.front
+
+-- a clause without the negation of the literal
+quiet_untouched : (front c : List Literal) (set : LiteralSet) (l : Literal) → has c (negate l) ≡ false → IsQuiet (has front) set c → IsQuiet (has (front ++ l ∷ [])) set c
+quiet_untouched front c set l lacks q = record {
+  closed = λ m unit. q.closed m (record {
+    among = unit.among;
+    others = λ i d within. elim (unit.others i d within) [ inl e ↦ inl e | inr f ↦ inr (false_before i d within f) ];
+  });
+  unfalsified = λ all. q.unfalsified (λ i d within. false_before i d within (all i d within));
+}
+  where
+    false_before : (i : ℕ) (d : Literal) → i < length c → IsIn (has (front ++ l ∷ [])) (negate (get_or c i d)) → IsIn (has front) (negate (get_or c i d))
+    false_before i d within h = elim (same_literal_or (negate (get_or c i d)) l) [
+      | inl e ↦
+          let back : get_or c i d ≡ negate l = sym (negate-negate (get_or c i d)) ∙ ap negate e in
+          let there : has c (negate l) ≡ true = has_from_contains c (negate l) (subst (λ (k : Literal). Contains c k) back (Contains-get_or c i d within)) in
+          cc (there, lacks)
+      | inr ne ↦ sym (has_front front l (negate (get_or c i d)) ne) ∙ h
+    ]
+
+pub quiet_next : (clauses : Clauses) (trail new : List Literal) (counts : List ℕ) (front : ℕ) (l : Literal) → front < length trail → get_or trail front l ≡ l → Grows clauses trail new → AreQuiet clauses trail front → AreCounts clauses (has (take front trail ++ l ∷ [])) counts → AreQuietNow clauses (places_from 0 clauses (negate l)) counts trail new → AreQuiet clauses new (front + 1)
+quiet_next clauses trail new counts front l within e g quiet right looked =
+    λ n d there. by_test n d there (has (get_or clauses n []) (negate l)) refl
+  where
+    fronts : take (front + 1) new ≡ take front trail ++ l ∷ []
+    fronts = same_front clauses trail new (front + 1) g (omega arith) ∙ next_front trail front l within e
+
+    set_is : (c : List Literal) → IsQuiet (has (take front trail ++ l ∷ [])) (has new) c → IsQuiet (has (take (front + 1) new)) (has new) c
+    set_is c q = subst (λ (ls : List Literal). IsQuiet (has ls) (has new) c) (sym fronts) q
+
+    at_default : (n : ℕ) (d : List Literal) → n < length clauses → IsQuiet (has (take (front + 1) new)) (has new) (get_or clauses n []) → IsQuiet (has (take (front + 1) new)) (has new) (get_or clauses n d)
+    at_default n d there q = subst (λ (c : List Literal). IsQuiet (has (take (front + 1) new)) (has new) c) (get_or_default clauses n [] d there) q
+
+    within_trail : Includes (has trail) (has (take front trail ++ l ∷ []))
+    within_trail = subst (λ (ls : List Literal). Includes (has trail) (has ls)) (next_front trail front l within e) (front_includes trail (front + 1))
+
+    by_test : (n : ℕ) (d : List Literal) → n < length clauses → (b : Bool) → has (get_or clauses n []) (negate l) ≡ b → IsQuiet (has (take (front + 1) new)) (has new) (get_or clauses n d)
+    by_test n d there true h = at_default n d there (set_is (get_or clauses n [])
+        (All-contains (λ m. IsQuietNow (get_or clauses m []) (get_or counts m 0) trail new) (places_from 0 clauses (negate l)) n looked (named_by clauses (negate l) n there h)
+        (has (take front trail ++ l ∷ [])) within_trail (right.each n there)))
+    by_test n d there false h = at_default n d there (set_is (get_or clauses n [])
+        (quiet_more (has (take front trail ++ l ∷ [])) (has trail) (has new) (get_or clauses n []) g.keeps (quiet_untouched (take front trail) (get_or clauses n []) (has trail) l h (quiet n [] there))))
+
+pub counted_next : (vars : ℕ) (clauses : Clauses) (truth then : List Bool) (trail new : List Literal) (old counts : List ℕ) (front : ℕ) (l : Literal) → front < length trail → get_or trail front l ≡ l → AllDistinct clauses → IsCounted vars clauses truth trail old front → Grows clauses trail new → IsTrail vars then new → length counts ≡ length old → CountedUp (places_from 0 clauses (negate l)) old counts → IsCounted vars clauses then new counts (front + 1)
+counted_next vars clauses truth then trail new old counts front l within e distinct counted g t same up = record {
+  table = t;
+  within = let longer = g.longer in omega arith;
+  right = subst (λ (ls : List Literal). AreCounts clauses (has ls) counts) (sym (same_front clauses trail new (front + 1) g (omega arith) ∙ next_front trail front l within e))
+      (counts_up clauses (take front trail) l old counts distinct (front_lacks trail front l (let k = counted.table in k.distinct) within e) counted.right same up);
+}
+
+pub right_next : (clauses : Clauses) (trail : List Literal) (old counts : List ℕ) (front : ℕ) (l : Literal) → front < length trail → get_or trail front l ≡ l → AllDistinct clauses → AreDistinct trail → AreCounts clauses (has (take front trail)) old → length counts ≡ length old → CountedUp (places_from 0 clauses (negate l)) old counts → AreCounts clauses (has (take front trail ++ l ∷ [])) counts
+right_next clauses trail old counts front l within e distinct once right same up = counts_up clauses (take front trail) l old counts distinct (front_lacks trail front l once within e) right same up
+
+-- the list of a literal, as it is read
+pub places_read : (vars : ℕ) (clauses : Clauses) (lists : List (List ℕ)) (l : Literal) (word : ℕ) (list shown : List ℕ) → AreOccurrences vars clauses lists → IsThere vars l → word ≡ word_of l → list ≡ get_or lists word list → shown ≡ list → shown ≡ places_from 0 clauses l
+places_read vars clauses lists l word list shown o there w is s =
+    let within : word_of l < length lists = omega (arith, o.size, word_below vars l there) in
+    s ∙ is ∙ ap (λ n. get_or lists n list) w ∙ get_or_default lists (word_of l) list [] within ∙ o.each l within
+
+pub negated_there : (vars : ℕ) (trail : List Literal) (front : ℕ) (l : Literal) → AreThere vars trail → front < length trail → get_or trail front l ≡ l → IsThere vars (negate l)
+negated_there vars trail front l there within e = subst (λ (k : Literal). IsThere vars k) e (there_get vars trail front l within there)
+
+pub advance_places : (vars : ℕ) (clauses : Clauses) (lists : List (List ℕ)) (trail : List Literal) (front : ℕ) (l n : Literal) (word : ℕ) (list shown : List ℕ) → AreOccurrences vars clauses lists → AreThere vars trail → front < length trail → l ≡ get_or trail front l → n ≡ negate l → word ≡ word_of n → list ≡ get_or lists word list → shown ≡ list → shown ≡ places_from 0 clauses (negate l)
+advance_places vars clauses lists trail front l n word list shown o there within at is w read s =
+    places_read vars clauses lists (negate l) word list shown o (negated_there vars trail front l there within (sym at)) (w ∙ ap word_of is) read s
+
+-- how far propagation came
+pub record Propagated (vars : ℕ) (clauses : Clauses) (old : List Literal) (truth : List Bool) (new : List Literal) (counts : List ℕ) (from front : ℕ) : Type 0 where
+  pub counted : IsCounted vars clauses truth new counts front
+  pub quiet : AreQuiet clauses new front
+  pub grows : Grows clauses old new
+  pub on : from ≤ front
+
+pub propagated_none : (vars : ℕ) (clauses : Clauses) (trail : List Literal) (truth : List Bool) (counts : List ℕ) (from : ℕ) → IsCounted vars clauses truth trail counts from → AreQuiet clauses trail from → Propagated vars clauses trail truth trail counts from from
+propagated_none vars clauses trail truth counts from counted quiet = record { counted = counted; quiet = quiet; grows = grows_none clauses trail; on = omega arith }
+
+pub propagated_more : (vars : ℕ) (clauses : Clauses) (old mid new : List Literal) (truth then : List Bool) (counts now : List ℕ) (from front : ℕ) → Propagated vars clauses old truth mid counts from front → IsCounted vars clauses then new now (front + 1) → AreQuiet clauses new (front + 1) → Grows clauses mid new → Propagated vars clauses old then new now from (front + 1)
+propagated_more vars clauses old mid new truth then counts now from front p counted quiet g = record {
+  counted = counted;
+  quiet = quiet;
+  grows = grows_more clauses old mid new p.grows g;
+  on = let le = p.on in omega arith;
+}
+
+pub quiet_at_end : (clauses : Clauses) (trail : List Literal) (front : ℕ) → front ≤ length trail → length trail ≤ front → AreQuiet clauses trail front → AreQuiet clauses trail (length trail)
+quiet_at_end clauses trail front le ge quiet = let e : front ≡ length trail = omega arith in subst (λ n. AreQuiet clauses trail n) e quiet

@@ -1,0 +1,189 @@
+-- What follows of literals that are marked one after another, and which clauses are quiet.
+use Rattle.std.proofs.Common.{◌≡◌, ◌≢◌, ℕ, ◌+◌, ◌<◌, ◌≤◌, ◌⊎◌, Bool, cond, List, [], ◌∷◌, ◌++◌, length, take, get_or, set, refl, sym, ◌∙◌, ap, subst, inl, inr, arith, length-append}
+use Rattle.std.specs.Prelude.{All, Contains}
+use Rattle.std.proofs.lemmas.List.{take_at, take-take, take_all}
+use Rattle.std.proofs.lemmas.List.Elements.{All-contains, All-weaker, All-head, All-tail, All-more, All-nil, All-cons}
+use Rattle.std.proofs.lemmas.List.Sums.{sum_by-cons}
+use Rattle.cnf_core.specs.Lit.{Literal, negate, has}
+use Rattle.cnf_core.specs.Clause.{Clauses, Avoids, AreDistinct}
+use Rattle.cnf_core.specs.Propagation.{LiteralSet, IsIn, Includes, IsUnit, Closure}
+use Rattle.cnf_core.proofs.PropagationLemmas.{closure_start, closure_unit, closure_again}
+use Rattle.refute_check.specs.Tables.{marked, false_count, IsTrail, IsConsistent, IsQuiet, IsUnset, HasReason, Falsified, Grows, IsQuietNow, AreQuietNow}
+use Rattle.refute_check.proofs.ScanLemmas.{IsFalse, IsLastOr}
+use Rattle.refute_check.proofs.TrailLemmas.{has_last, has_front, same_literal_or, distinct_consistent, not_both}
+
+-- sets that agree
+pub marks_false : (vars : ℕ) (truth : List Bool) (trail : List Literal) (l : Literal) → IsTrail vars truth trail → IsIn (marked truth) l → IsIn (has trail) l
+marks_false vars truth trail l t h = sym (t.marks l) ∙ h
+
+pub trail_consistent : (vars : ℕ) (truth : List Bool) (trail : List Literal) → IsTrail vars truth trail → IsConsistent (marked truth)
+trail_consistent vars truth trail t = λ l h k. distinct_consistent trail t.distinct l (marks_false vars truth trail l t h) (marks_false vars truth trail (negate l) t k)
+
+-- more literals, more units
+pub unit_more : (set more : LiteralSet) (c : List Literal) (l : Literal) → Includes more set → IsUnit set c l → IsUnit more c l
+unit_more set more c l within unit = record {
+  among = unit.among;
+  others = All-weaker (λ k. (k ≡ l) ⊎ IsIn set (negate k)) (λ k. (k ≡ l) ⊎ IsIn more (negate k)) (λ k h. elim h [ inl e ↦ inl e | inr f ↦ inr (within (negate k) f) ]) c unit.others;
+}
+
+pub reason_more : (clauses : Clauses) (set more : LiteralSet) (l : Literal) → Includes more set → HasReason clauses set l → HasReason clauses more l
+reason_more clauses set more l within r = record { reason = r.reason; among = r.among; unit = unit_more set more r.reason l within r.unit }
+
+pub quiet_more : (done set more : LiteralSet) (c : List Literal) → Includes more set → IsQuiet done set c → IsQuiet done more c
+quiet_more done set more c within q = record { closed = λ l unit. within l (q.closed l unit); unfalsified = q.unfalsified }
+
+-- a clause that is quiet at a set is quiet at each part of it
+pub quiet_part : (done set : LiteralSet) (c : List Literal) → Includes set done → IsQuiet set set c → IsQuiet done set c
+quiet_part done set c within q = record {
+  closed = λ l unit. q.closed l (unit_more done set c l within unit);
+  unfalsified = λ all. q.unfalsified (All-weaker (IsFalse done) (IsFalse set) (λ k h. within (negate k) h) c all);
+}
+
+-- growing
+pub grows_none : (clauses : Clauses) (trail : List Literal) → Grows clauses trail trail
+grows_none clauses trail = record {
+  front = take_all (length trail) trail (omega arith);
+  longer = omega arith;
+  keeps = λ l h. h;
+  within = λ l h. closure_start clauses (has trail) l h;
+  reason = λ l h. inl h;
+}
+
+pub grows_more : (clauses : Clauses) (old mid new : List Literal) → Grows clauses old mid → Grows clauses mid new → Grows clauses old new
+grows_more clauses old mid new a b = record {
+  front = let longer = a.longer in sym (take-take (length old) (length mid) new longer) ∙ ap (take (length old)) b.front ∙ a.front;
+  longer = let x = a.longer in let y = b.longer in omega arith;
+  keeps = λ l h. b.keeps l (a.keeps l h);
+  within = λ l h. closure_again clauses (has old) (has mid) l a.within (b.within l h);
+  reason = λ l h. elim (b.reason l h) [
+    | inl m ↦ elim (a.reason l m) [ inl o ↦ inl o | inr r ↦ inr (reason_more clauses (has mid) (has new) l b.keeps r) ]
+    | inr r ↦ inr r
+  ];
+}
+
+pub push_keeps : (trail : List Literal) (l : Literal) → Includes (has (trail ++ l ∷ [])) (has trail)
+push_keeps trail l = λ k h. elim (same_literal_or k l) [
+  | inl e ↦ ap (has (trail ++ l ∷ [])) e ∙ has_last trail l
+  | inr ne ↦ has_front trail l k ne ∙ h
+]
+
+pub grows_unit : (clauses : Clauses) (trail : List Literal) (c : List Literal) (l : Literal) → Contains clauses c → IsUnit (has trail) c l → Grows clauses trail (trail ++ l ∷ [])
+grows_unit clauses trail c l among unit = record {
+  front = take_at trail (l ∷ []) (length trail) refl;
+  longer = omega (arith, length-append trail (l ∷ []));
+  keeps = push_keeps trail l;
+  within = λ k h. elim (same_literal_or k l) [
+    | inl e ↦ subst (λ (m : Literal). Closure clauses (has trail) m) (sym e) (closure_unit clauses (has trail) c l among unit.among (All-weaker (IsLastOr (has trail) l) (λ m. (m ≡ l) ⊎ Closure clauses (has trail) (negate m)) (λ m o. elim o [ inl s ↦ inl s | inr f ↦ inr (closure_start clauses (has trail) (negate m) f) ]) c unit.others))
+    | inr ne ↦ closure_start clauses (has trail) k (sym (has_front trail l k ne) ∙ h)
+  ];
+  reason = λ k h. elim (same_literal_or k l) [
+    | inl e ↦ inr (subst (λ (m : Literal). HasReason clauses (has (trail ++ l ∷ [])) m) (sym e) (record { reason = c; among = among; unit = unit_more (has trail) (has (trail ++ l ∷ [])) c l (push_keeps trail l) unit }))
+    | inr ne ↦ inl (sym (has_front trail l k ne) ∙ h)
+  ];
+}
+
+-- the clause of the literal is quiet then
+pub quiet_marked : (trail : List Literal) (c : List Literal) (l : Literal) (done : LiteralSet) → IsUnset (has trail) c l → Includes (has trail) done → IsQuiet done (has (trail ++ l ∷ [])) c
+quiet_marked trail c l done u within = record {
+  closed = λ m unit. elim (All-contains (λ k. (k ≡ m) ⊎ IsIn done (negate k)) c l unit.others u.unit.among) [
+    | inl e ↦ subst (λ (k : Literal). IsIn (has (trail ++ l ∷ [])) k) e (has_last trail l)
+    | inr f ↦ absurd (not_both (has trail (negate l)) (within (negate l) f) u.not_false)
+  ];
+  unfalsified = λ all. not_both (has trail (negate l)) (within (negate l) (All-contains (IsFalse done) c l all u.unit.among)) u.not_false;
+}
+
+-- counting false literals
+abbrev one_if : LiteralSet → Literal → ℕ
+one_if set k = cond (set (negate k)) 1 0
+
+count_cons : (set : LiteralSet) (k : Literal) (c : List Literal) → false_count set (k ∷ c) ≡ one_if set k + false_count set c
+count_cons set k c = sum_by-cons (one_if set) k c
+
+one_is : (set : LiteralSet) (k : Literal) → IsIn set (negate k) → one_if set k ≡ 1
+one_is set k h = ap (λ b. cond b 1 0) h
+
+pub all_false_count : (set : LiteralSet) (c : List Literal) → All (IsFalse set) c → length c ≤ false_count set c
+all_false_count set [] all = omega arith
+all_false_count set (k ∷ c) all =
+    omega (arith, count_cons set k c, one_is set k (All-head (IsFalse set) k c all), all_false_count set c (All-tail (IsFalse set) k c all))
+
+avoids_none : (x : ℕ) (c : List Literal) → Avoids x c → All (λ (m : Literal). x ≢ m.var) c
+avoids_none x [] h = All-nil (λ (m : Literal). x ≢ m.var)
+avoids_none x (m ∷ c) h = All-cons (λ (m : Literal). x ≢ m.var) m c h.0 (avoids_none x c h.1)
+
+unit_count : (set : LiteralSet) (c : List Literal) (l : Literal) → AreDistinct c → All (IsLastOr set l) c → length c ≤ false_count set c + 1
+unit_count set [] l distinct all = omega arith
+unit_count set (k ∷ c) l distinct all = elim (All-head (IsLastOr set l) k c all) [
+  | inl e ↦
+      let rest : All (IsFalse set) c = λ i d within. elim (All-tail (IsLastOr set l) k c all i d within) [
+        | inl same ↦ absurd (avoids_none k.var c distinct.0 i d within (ap (λ (m : Literal). m.var) (e ∙ sym same)))
+        | inr f ↦ f
+      ] in
+      omega (arith, count_cons set k c, all_false_count set c rest)
+  | inr f ↦ omega (arith, count_cons set k c, one_is set k f, unit_count set c l distinct.1 (All-tail (IsLastOr set l) k c all))
+]
+
+-- where two literals or more aren't counted, the clause is quiet
+pub quiet_few : (done set : LiteralSet) (c : List Literal) → AreDistinct c → false_count done c + 1 < length c → IsQuiet done set c
+quiet_few done set c distinct few = record {
+  closed = λ l unit. absurd (omega (arith, unit_count done c l distinct unit.others));
+  unfalsified = λ all. omega (arith, all_false_count done c all);
+}
+
+-- the same at a table's marks
+pub all_same_set : (set other : LiteralSet) (c : List Literal) → ((l : Literal) → set l ≡ other l) → All (IsFalse set) c → All (IsFalse other) c
+all_same_set set other c same all = All-weaker (IsFalse set) (IsFalse other) (λ k h. sym (same (negate k)) ∙ h) c all
+
+unit_same_set : (set other : LiteralSet) (c : List Literal) (l : Literal) → ((l : Literal) → set l ≡ other l) → IsUnit set c l → IsUnit other c l
+unit_same_set set other c l same unit = unit_more set other c l (λ k h. sym (same k) ∙ h) unit
+
+pub falsified_by_marks : (vars : ℕ) (truth : List Bool) (trail : List Literal) (clauses : Clauses) (c : List Literal) → IsTrail vars truth trail → Contains clauses c → All (IsFalse (marked truth)) c → Falsified clauses (has trail)
+falsified_by_marks vars truth trail clauses c t among all = record { clause = c; among = among; each = all_same_set (marked truth) (has trail) c t.marks all }
+
+pub unset_by_marks : (vars : ℕ) (truth : List Bool) (trail : List Literal) (c : List Literal) (l : Literal) → IsTrail vars truth trail → IsUnset (marked truth) c l → IsUnset (has trail) c l
+unset_by_marks vars truth trail c l t u = record {
+  unit = unit_same_set (marked truth) (has trail) c l t.marks u.unit;
+  not_true = sym (t.marks l) ∙ u.not_true;
+  not_false = sym (t.marks (negate l)) ∙ u.not_false;
+}
+
+pub quiet_by_marks : (vars : ℕ) (truth : List Bool) (trail : List Literal) (c : List Literal) → IsTrail vars truth trail → IsQuiet (marked truth) (marked truth) c → IsQuiet (has trail) (has trail) c
+quiet_by_marks vars truth trail c t q = record {
+  closed = λ l unit. sym (t.marks l) ∙ q.closed l (unit_same_set (has trail) (marked truth) c l (λ k. sym (t.marks k)) unit);
+  unfalsified = λ all. q.unfalsified (all_same_set (has trail) (marked truth) c (λ k. sym (t.marks k)) all);
+}
+
+pub quiet_now : (clause : List Literal) (count : ℕ) (trail : List Literal) → IsQuiet (has trail) (has trail) clause → IsQuietNow clause count trail trail
+quiet_now clause count trail q = λ done within e. quiet_part done (has trail) clause within q
+
+pub few_now : (clause : List Literal) (count : ℕ) (trail : List Literal) → AreDistinct clause → count + 1 < length clause → IsQuietNow clause count trail trail
+few_now clause count trail distinct few = λ done within e. quiet_few done (has trail) clause distinct (omega arith)
+
+pub marked_now : (clause : List Literal) (count : ℕ) (trail : List Literal) (l : Literal) → IsUnset (has trail) clause l → IsQuietNow clause count trail (trail ++ l ∷ [])
+marked_now clause count trail l u = λ done within e. quiet_marked trail clause l done u within
+
+-- a clause is quiet still when more literals are marked, and where only a part was marked before
+pub still_now : (clause : List Literal) (count : ℕ) (first old new last : List Literal) → Includes (has old) (has first) → Includes (has last) (has new) → IsQuietNow clause count old new → IsQuietNow clause count first last
+still_now clause count first old new last before after q = λ done within e. quiet_more done (has new) (has last) clause after (q done (λ l h. before l (within l h)) e)
+
+-- how far a list of clauses was looked at
+pub record Looked (vars : ℕ) (clauses : Clauses) (numbers counts : List ℕ) (old : List Literal) (truth : List Bool) (new : List Literal) : Type 0 where
+  pub table : IsTrail vars truth new
+  pub grows : Grows clauses old new
+  pub quiet : AreQuietNow clauses numbers counts old new
+
+pub looked_none : (vars : ℕ) (clauses : Clauses) (counts : List ℕ) (truth : List Bool) (trail : List Literal) → IsTrail vars truth trail → Looked vars clauses [] counts trail truth trail
+looked_none vars clauses counts truth trail t = record {
+  table = t;
+  grows = grows_none clauses trail;
+  quiet = All-nil (λ n. IsQuietNow (get_or clauses n []) (get_or counts n 0) trail trail);
+}
+
+pub looked_one : (vars : ℕ) (clauses : Clauses) (numbers counts : List ℕ) (old : List Literal) (truth then : List Bool) (mid new : List Literal) (i : ℕ) → i < length numbers → Looked vars clauses (take i numbers) counts old truth mid → IsTrail vars then new → Grows clauses mid new → IsQuietNow (get_or clauses (get_or numbers i 0) []) (get_or counts (get_or numbers i 0) 0) mid new → Looked vars clauses (take (i + 1) numbers) counts old then new
+looked_one vars clauses numbers counts old truth then mid new i within s t g q = record {
+  table = t;
+  grows = grows_more clauses old mid new s.grows g;
+  quiet = All-more (λ n. IsQuietNow (get_or clauses n []) (get_or counts n 0) old new) numbers i 0 within
+      (All-weaker (λ n. IsQuietNow (get_or clauses n []) (get_or counts n 0) old mid) (λ n. IsQuietNow (get_or clauses n []) (get_or counts n 0) old new) (λ n h. still_now (get_or clauses n []) (get_or counts n 0) old old mid new (λ l m. m) g.keeps h) (take i numbers) s.quiet)
+      (still_now (get_or clauses (get_or numbers i 0) []) (get_or counts (get_or numbers i 0) 0) old mid new new (let k = s.grows in k.keeps) (λ l m. m) q);
+}

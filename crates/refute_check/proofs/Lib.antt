@@ -1,0 +1,16 @@
+pub mod CountLemmas
+pub mod ScanLemmas
+pub mod TrailLemmas
+pub mod GrowthLemmas
+pub mod FalseCountLemmas
+pub mod AdvanceLemmas
+pub mod UndoLemmas
+pub mod AssumeLemmas
+pub mod SupposeLemmas
+pub mod AddLemmas
+pub mod KeepLemmas
+pub mod JudgeLemmas
+pub mod WordLemmas
+pub mod CheckerLemmas
+pub mod VerdictLemmas
+pub mod LawLemmas

@@ -1,0 +1,42 @@
+use Rattle.std.proofs.Common.{◌++◌, ◌∷◌, [], List, sym, subst, get_or}
+use Rattle.std.specs.Prelude.{Contains}
+use Rattle.std.proofs.lemmas.List.Elements.{All-contains, Contains-get_or}
+use Rattle.cnf_core.specs.Lit.{Literal, has}
+use Rattle.cnf_core.specs.Clause.{IsThere}
+use Rattle.refute_check.specs.Tables.{IsUnset, IsQuietNow}
+use Rattle.refute_check.proofs.ScanLemmas.{there_all}
+use Rattle.refute_check.proofs.GrowthLemmas.{trail_consistent, grows_unit, unset_by_marks, few_now, marked_now}
+use Rattle.refute_check.proofs.looks.look_at.Goals as goal
+use Rattle.refute_check.proofs.looks.look_at.Goals.{In_ok-mark-in-Unit}
+
+pub returns-then-counts-number-clause-quiet : goal.returns-then-counts-number-clause-quiet
+returns-then-counts-number-clause-quiet c =
+    let count = get_or c.args.counts.now c.args.number 0 in
+    let trail = c.args.trail.now.items in
+    λ _. subst (λ (clause : List Literal). IsQuietNow clause count trail trail) c.lits_of-clause.ensures.value (few_now c.lits_of-clause.result.now count trail c.lits_of-clause.ensures.distinct c.if-counts-number.true)
+
+pub scan_clause-requires-clause-consistent : goal.scan_clause-requires-clause-consistent
+scan_clause-requires-clause-consistent c = trail_consistent _ c.args.truth.now c.args.trail.now.items c.requires.trail
+
+pub mark-requires-clause-there : goal.mark-requires-clause-there
+mark-requires-clause-there c =
+    let vars = c.args.formula.now.vars in
+    let clause = c.lits_of-clause.result.now in
+    let there : IsThere vars c.in-Unit.l = All-contains (IsThere vars) clause c.in-Unit.l (there_all vars clause c.lits_of-clause.ensures.there) c.in-Unit.ensures.unit.among in
+    subst (λ n. IsThere n c.in-Unit.l) (sym c.vars-in-Unit.ensures.value) there
+
+among : (c : In_ok-mark-in-Unit) → Contains c.args.formula.now.clauses c.lits_of-clause.result.now
+among c = subst (λ (clause : List Literal). Contains c.args.formula.now.clauses clause) (sym c.lits_of-clause.ensures.value) (Contains-get_or c.args.formula.now.clauses c.args.number [] c.requires.there)
+
+unset : (c : In_ok-mark-in-Unit) → IsUnset (has c.args.trail.now.items) c.lits_of-clause.result.now c.in-Unit.l
+unset c = unset_by_marks c.args.formula.now.vars c.args.truth.now c.args.trail.now.items c.lits_of-clause.result.now c.in-Unit.l c.requires.trail c.in-Unit.ensures
+
+pub returns-in_ok-mark-in-Unit-clause-grows : goal.returns-in_ok-mark-in-Unit-clause-grows
+returns-in_ok-mark-in-Unit-clause-grows c =
+    rw c.in_ok-mark-in-Unit.ensures.more (grows_unit c.args.formula.now.clauses c.args.trail.now.items c.lits_of-clause.result.now c.in-Unit.l (among c) (let u = unset c in u.unit))
+
+pub returns-in_ok-mark-in-Unit-clause-quiet : goal.returns-in_ok-mark-in-Unit-clause-quiet
+returns-in_ok-mark-in-Unit-clause-quiet c =
+    let count = get_or c.args.counts.now c.args.number 0 in
+    let trail = c.args.trail.now.items in
+    λ _. rw c.in_ok-mark-in-Unit.ensures.more (subst (λ (clause : List Literal). IsQuietNow clause count trail (trail ++ c.in-Unit.l ∷ [])) c.lits_of-clause.ensures.value (marked_now c.lits_of-clause.result.now count trail c.in-Unit.l (unset c)))

@@ -1,0 +1,24 @@
+use Rattle.std.proofs.Common.{arith}
+use Rattle.refute_check.proofs.TrailLemmas.{trail_short}
+use Rattle.refute_check.proofs.GrowthLemmas.{grows_more}
+use Rattle.refute_check.proofs.AdvanceLemmas.{propagated_none, propagated_more}
+use Rattle.refute_check.proofs.propagation.propagate.Goals as goal
+
+pub loop-front-init : goal.loop-front-init
+loop-front-init c = propagated_none c.args.formula.now.vars c.args.formula.now.clauses c.args.trail.now.items c.args.truth.now c.args.counts.now c.args.from c.requires.counted c.requires.quiet
+
+pub loop-front-preserved : goal.loop-front-preserved
+loop-front-preserved c =
+    propagated_more c.args.formula.now.vars c.args.formula.now.clauses c.args.trail.now.items c.loop-front.trail.items c.advance.new.trail.items c.loop-front.truth c.advance.new.truth c.loop-front.counts c.advance.new.counts c.args.from c.loop-front.front
+    c.loop-front.invariant c.in_ok-found.ensures.counted (c.in_ok-found.ensures.quiet c.if-found.false) c.in_ok-found.ensures.grows
+
+pub loop-front-smaller : goal.loop-front-smaller
+loop-front-smaller c =
+    let short = trail_short c.args.formula.now.vars c.loop-front.truth c.loop-front.trail.items c.loop-front.invariant.counted.table in
+    let size = c.loop-front.invariant.counted.table.size in
+    let same = c.advance.auto.truth in
+    omega (arith, short, size, same, c.len.ensures, c.loop-front-test.true)
+
+pub returns-then-found-clause-grows : goal.returns-then-found-clause-grows
+returns-then-found-clause-grows c =
+    grows_more c.args.formula.now.clauses c.args.trail.now.items c.loop-front.trail.items c.advance.new.trail.items c.loop-front.invariant.grows c.in_ok-found.ensures.grows

@@ -1,0 +1,7 @@
+use Rattle.std.proofs.Common.{take}
+use Rattle.refute_check.specs.Tables.{marked}
+use Rattle.refute_check.proofs.ScanLemmas.{Seen}
+use Rattle.refute_check.proofs.scan.scan_clause.Given as goal
+
+abbrev pub invariant-loop-l : goal.invariant-loop-l
+invariant-loop-l l = Seen (marked l.truth) (take l.l-index l.clause) l.candidate

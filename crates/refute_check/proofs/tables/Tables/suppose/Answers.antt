@@ -1,0 +1,24 @@
+use Rattle.std.proofs.Common.{◌≡◌, ◌∙◌, arith, length, subst, drop}
+use Rattle.refute_check.specs.Tables.{IsTrail}
+use Rattle.refute_check.proofs.SupposeLemmas.{assumed_counted, clash_falsifies, supposed_falsifies, supposed_closure, written_back}
+use Rattle.refute_check.proofs.tables.Tables.suppose.Goals as goal
+
+pub propagate-requires-clause-counted : goal.propagate-requires-clause-counted
+propagate-requires-clause-counted c =
+    let vars = c.args.formula.now.vars in
+    let clauses = c.args.formula.now.clauses in
+    let t = subst (λ n. IsTrail n c.assume_false.new.truth c.assume_false.new.trail.items) c.vars.ensures.value c.in_ok-clash.ensures.trail in
+    let counted = assumed_counted vars clauses c.args.self.now.truth.items c.assume_false.new.truth c.args.self.now.trail.items c.assume_false.new.trail.items c.args.self.now.counts.items c.args.lits.now c.requires.settled.counted c.in_ok-clash.ensures.assumes t in
+    let size : length c.assume_false.new.truth ≡ c.args.self.now.truth.len = c.assume_false.auto.truth ∙ c.deref_mut.ensures.len in
+    let truth_is : c.deref_mut-3.result.now ≡ c.assume_false.new.truth = c.deref_mut-3.ensures.value ∙ written_back c.args.self.now.truth.len c.assume_false.new.truth (drop (length c.assume_false.new.truth) c.args.self.now.truth.items) size in
+    let level : c.len-level.result ≡ length c.args.self.now.trail.items = omega (arith, c.len-level.ensures) in
+    rw (truth_is, c.deref_mut-2.ensures.value, level) counted
+
+pub returns-then-clash-clause-falsified : goal.returns-then-clash-clause-falsified
+returns-then-clash-clause-falsified c = λ _. clash_falsifies c.args.formula.now.clauses c.args.self.now.trail.items c.args.lits.now c.requires.settled.within c.requires.settled.reasoned (c.in_ok-clash.ensures.clash c.if-clash.true)
+
+pub returns-clause-falsified : goal.returns-clause-falsified
+returns-clause-falsified c = λ t. supposed_falsifies c.args.formula.now.clauses c.args.self.now.trail.items c.assume_false.new.trail.items c.propagate.new.trail.items c.args.lits.now c.requires.settled.within c.in_ok-clash.ensures.assumes c.in_ok-reached.ensures.grows (c.in_ok-reached.ensures.falsified t)
+
+pub returns-clause-closed : goal.returns-clause-closed
+returns-clause-closed c = λ f. supposed_closure c.args.formula.now.clauses c.args.self.now.trail.items c.assume_false.new.trail.items c.propagate.new.trail.items c.args.lits.now c.requires.settled.within c.in_ok-clash.ensures.assumes (c.in_ok-clash.ensures.all c.if-clash.false) c.in_ok-reached.ensures.grows (c.in_ok-reached.ensures.quiet f)

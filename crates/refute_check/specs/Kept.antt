@@ -1,0 +1,118 @@
+-- What a checker keeps of the lines that it accepted, and why it refuses a line.
+use Rattle.std.specs.Prelude.{◌≡◌, ◌≤◌, ◌<◌, ◌⊎◌, ℕ, max, ⊤, Result, Ok, Err, Option, List, [], ◌∷◌, ◌++◌, All, Any, Contains}
+use Rattle.cnf_core.specs.Lit.{Literal}
+use Rattle.cnf_core.specs.Clause.{Clauses, words_of}
+use Rattle.cnf_core.specs.Formula.{Cnf}
+use Rattle.cnf_core.specs.Propagation.{Falsifies, Closure, negations, greatest_in, greatest_var}
+use Rattle.cnf_core.specs.declared.limits.TheConstants.{VARS}
+use Rattle.refute_log.specs.declared.line.LogLine.{LogLine}
+use Rattle.refute_log.specs.declared.line.LogLine.TheVariants.{Formula, Learnt}
+use Rattle.refute_check.specs.declared.fault.LineFault.{LineFault}
+use Rattle.refute_check.specs.declared.fault.LineFault.TheVariants.{NewVar, WrongQuery, Room, NotImplied, NotNew, Memory}
+use Rattle.refute_check.specs.Log.{Facts, added, given, refuted, asked, bounded, Answers, IsImplied, StandsOn}
+
+-- the room for words, and the facts of the accepted lines
+pub record Kept : Type 0 where
+  pub room : ℕ
+  pub facts : Facts
+
+abbrev pub kept_of : ℕ → Cnf → Option (List Literal) → Clauses → Kept
+kept_of room f query refuted = record { room = room; facts = record { greatest = f.vars; clauses = f.clauses; query = query; refuted = refuted } }
+
+-- the facts with one more line
+abbrev pub facts_after : Facts → LogLine → Facts
+facts_after facts line = record {
+  greatest = max facts.greatest (greatest_var (given line));
+  clauses = facts.clauses ++ added line;
+  query = asked facts.query line;
+  refuted = facts.refuted ++ refuted line;
+}
+
+abbrev pub kept_after : Kept → LogLine → Kept
+kept_after kept line = record { room = kept.room; facts = facts_after kept.facts line }
+
+-- a literal names a variable greater than all in the Formula lines
+abbrev pub NamesNew : Facts → LogLine → Type 0
+NamesNew facts line = Any (λ l. facts.greatest < l.var) (bounded line)
+
+abbrev pub IsNamed : Facts → LogLine → Type 0
+IsNamed facts line = All (λ l. l.var ≤ facts.greatest) (bounded line)
+
+-- with the line's clause the words pass the room, or a Formula line names a variable above VARS
+abbrev pub LacksRoom : Kept → LogLine → Type 0
+LacksRoom kept (Formula c) = (kept.room < words_of (kept.facts.clauses ++ c ∷ [])) ⊎ (VARS < greatest_in c)
+LacksRoom kept (Learnt c) = kept.room < words_of (kept.facts.clauses ++ c ∷ [])
+LacksRoom kept line = ⊥
+
+-- the first literal follows already where the others are false, or these falsify a clause
+abbrev pub IsKnownClause : Clauses → List Literal → Type 0
+IsKnownClause clauses [] = ⊥
+IsKnownClause clauses (first ∷ others) = Falsifies clauses (negations others) ⊎ Closure clauses (negations others) first
+
+abbrev pub IsKnown : Clauses → LogLine → Type 0
+IsKnown clauses (Learnt c) = IsKnownClause clauses c
+IsKnown clauses line = ⊥
+
+-- the line is kept: it stands, there is room for it, and the facts are those with it
+pub record Accepts (old new : Kept) (line : LogLine) : Type 0 where
+  pub stands : StandsOn old.facts line
+  pub fits : LacksRoom old line → ⊥
+  pub kept : new ≡ kept_after old line
+
+-- the causes of the refusals, each without those before it
+pub record AnswersWrongly (kept : Kept) (line : LogLine) : Type 0 where
+  pub named : IsNamed kept.facts line
+  pub wrong : Answers kept.facts.query line → ⊥
+
+pub record PassesRoom (kept : Kept) (line : LogLine) : Type 0 where
+  pub named : IsNamed kept.facts line
+  pub answers : Answers kept.facts.query line
+  pub passes : LacksRoom kept line
+
+pub record IsUnproved (kept : Kept) (line : LogLine) : Type 0 where
+  pub named : IsNamed kept.facts line
+  pub answers : Answers kept.facts.query line
+  pub fits : LacksRoom kept line → ⊥
+  pub unproved : IsImplied kept.facts.clauses line → ⊥
+
+pub record IsOld (kept : Kept) (line : LogLine) : Type 0 where
+  pub named : IsNamed kept.facts line
+  pub answers : Answers kept.facts.query line
+  pub fits : LacksRoom kept line → ⊥
+  pub implied : IsImplied kept.facts.clauses line
+  pub known : IsKnown kept.facts.clauses line
+
+-- the one answer that is due, and what it leaves; after want of memory nothing is said
+abbrev pub IsAnswer : Kept → Kept → LogLine → Result Unit LineFault → Type 0
+IsAnswer old new line (Ok u) = Accepts old new line
+IsAnswer old new line (Err NewVar) = NamesNew old.facts line × (new ≡ old)
+IsAnswer old new line (Err WrongQuery) = AnswersWrongly old line × (new ≡ old)
+IsAnswer old new line (Err Room) = PassesRoom old line × (new ≡ old)
+IsAnswer old new line (Err NotImplied) = IsUnproved old line × (new ≡ old)
+IsAnswer old new line (Err NotNew) = IsOld old line × (new ≡ old)
+IsAnswer old new line (Err Memory) = ⊤
+
+-- the same with one more clause, of the variables up to vars
+abbrev pub with_clause : Kept → List Literal → ℕ → Kept
+with_clause kept c vars = record {
+  room = kept.room;
+  facts = record {
+    greatest = max kept.facts.greatest vars;
+    clauses = kept.facts.clauses ++ c ∷ [];
+    query = kept.facts.query;
+    refuted = kept.facts.refuted;
+  };
+}
+
+-- c has each literal of d
+abbrev pub Includes : List Literal → List Literal → Type 0
+Includes c d = (l : Literal) → Contains d l → Contains c l
+
+-- a Learnt line's clause has all the literals of none of the clauses
+abbrev pub IncludesNone : Clauses → LogLine → Type 0
+IncludesNone clauses (Learnt c) = (d : List Literal) → Contains clauses d → Includes c d → ⊥
+IncludesNone clauses line = ⊤
+
+-- some Refuted line has only literals that are allowed
+abbrev pub Refutes : Kept → List Literal → Type 0
+Refutes kept allowed = Any (λ c. Includes allowed c) kept.facts.refuted

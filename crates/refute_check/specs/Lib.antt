@@ -1,0 +1,7 @@
+pub mod Log
+pub mod Kept
+pub mod Tables
+pub mod Words
+pub mod Scans
+pub mod Settled
+pub mod Standing

@@ -1,0 +1,29 @@
+-- Tables between two lines: what is true without assumptions.
+use Rattle.std.specs.Prelude.{◌≡◌, ◌⊎◌, ℕ, List, [], length, take, All, Contains}
+use Rattle.cnf_core.specs.Lit.{Literal, has}
+use Rattle.cnf_core.specs.Clause.{Clauses}
+use Rattle.cnf_core.specs.Propagation.{LiteralSet, IsIn, Closure, negations}
+use Rattle.refute_check.specs.declared.tables.Tables.{Tables}
+use Rattle.refute_check.specs.Tables.{AreOccurrences, IsCounted, HasReason, AreQuiet, IsQuiet}
+
+-- no literal
+abbrev pub nothing : LiteralSet
+nothing = negations []
+
+-- the trail is the closure of nothing, each of its literals has a clause that makes it true, no
+-- clause is falsified, and all is counted
+pub record IsSettled (vars : ℕ) (clauses : Clauses) (t : Tables) : Type 0 where
+  pub occurrences : AreOccurrences vars clauses t.occurrences.items
+  pub counted : IsCounted vars clauses t.truth.items t.trail.items t.counts.items (length t.trail.items)
+  pub within : (l : Literal) → IsIn (has t.trail.items) l → Closure clauses nothing l
+  pub reasoned : (l : Literal) → IsIn (has t.trail.items) l → HasReason clauses (has t.trail.items) l
+  pub quiet : AreQuiet clauses t.trail.items (length t.trail.items)
+
+-- the tables know the clause, and it alone wasn't looked at
+pub record IsListed (vars : ℕ) (clauses : Clauses) (c : List Literal) (t : Tables) : Type 0 where
+  pub among : Contains clauses c
+  pub occurrences : AreOccurrences vars clauses t.occurrences.items
+  pub counted : IsCounted vars clauses t.truth.items t.trail.items t.counts.items (length t.trail.items)
+  pub within : (l : Literal) → IsIn (has t.trail.items) l → Closure clauses nothing l
+  pub reasoned : (l : Literal) → IsIn (has t.trail.items) l → HasReason clauses (has t.trail.items) l
+  pub quiet : All (λ d. (d ≡ c) ⊎ IsQuiet (has (take (length t.trail.items) t.trail.items)) (has t.trail.items) d) clauses

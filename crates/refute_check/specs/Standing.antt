@@ -1,0 +1,23 @@
+-- What a checker's tables are good for.
+use Rattle.std.specs.Prelude.{◌≤◌, ⊤}
+use Rattle.cnf_core.specs.Formula.{Cnf}
+use Rattle.cnf_core.specs.Propagation.{Falsifies, greatest_var}
+use Rattle.refute_check.specs.declared.tables.Tables.{Tables}
+use Rattle.refute_check.specs.declared.keeping.Standing.{Standing}
+use Rattle.refute_check.specs.declared.keeping.Standing.TheVariants.{Open, Contradiction, Lost}
+use Rattle.refute_check.specs.Settled.{nothing, IsSettled}
+
+-- some clause is falsified without assumptions
+pub record IsContradicted (f : Cnf) : Type 0 where
+  pub falsified : Falsifies f.clauses nothing
+  pub greatest : f.vars ≤ greatest_var f.clauses
+
+-- the tables are right, and no clause is
+pub record IsOpenChecker (f : Cnf) (t : Tables) : Type 0 where
+  pub settled : IsSettled f.vars f.clauses t
+  pub greatest : f.vars ≤ greatest_var f.clauses
+
+abbrev pub IsChecker : Cnf → Tables → Standing → Type 0
+IsChecker f t Open = IsOpenChecker f t
+IsChecker f t Contradiction = IsContradicted f
+IsChecker f t Lost = ⊤

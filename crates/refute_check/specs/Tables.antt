@@ -1,0 +1,128 @@
+-- Tables by clause and by literal, over which false literals are counted.
+use Rattle.std.specs.Prelude.{◌≡◌, ◌≤◌, ◌<◌, ◌⊎◌, ℕ, ◌+◌, ◌*◌, Bool, false, cond, List, [], ◌∷◌, ◌++◌, All, Contains, length, slice_index, slice_index_or, take, nat_eq}
+use Rattle.std.specs.List.{sum_by, count_by}
+use Rattle.cnf_core.specs.Lit.{Literal, negate, word_of, has}
+use Rattle.cnf_core.specs.Clause.{Clauses, AreDistinct, AreThere}
+use Rattle.cnf_core.specs.Propagation.{LiteralSet, IsIn, Includes, IsUnit, IsClosed, Closure, negations}
+
+-- how often a number stands in the list
+abbrev pub times : List ℕ → ℕ → ℕ
+times ns n = count_by (λ m. nat_eq m n) ns
+
+-- each count grew by how often its number stands in the list
+abbrev pub CountedUp : List ℕ → List ℕ → List ℕ → Type 0
+CountedUp ns old new = (n : ℕ) → slice_index new n ≡ slice_index old n + times ns n
+
+-- the literals that a table by word marks
+abbrev pub marked : List Bool → LiteralSet
+marked truth l = slice_index_or truth (word_of l) false
+
+-- no literal beside its negation
+abbrev pub IsConsistent : LiteralSet → Type 0
+IsConsistent set = (l : Literal) → IsIn set l → IsIn set (negate l) → ⊥
+
+abbrev pub weight : Bool → ℕ
+weight b = cond b 1 0
+
+abbrev pub mark_count : List Bool → ℕ
+mark_count truth = sum_by weight truth
+
+-- the table of the variables 1 to vars marks exactly the literals of the trail, which are of
+-- distinct variables
+pub record IsTrail (vars : ℕ) (truth : List Bool) (trail : List Literal) : Type 0 where
+  pub size : length truth ≡ 2 * vars + 2
+  pub marks : (l : Literal) → marked truth l ≡ has trail l
+  pub distinct : AreDistinct trail
+  pub there : AreThere vars trail
+  pub count : length trail ≡ mark_count truth
+
+-- the numbers of the clauses that have the literal, counted from n
+abbrev pub places_from : ℕ → Clauses → Literal → List ℕ
+places_from n [] l = []
+places_from n (c ∷ cs) l = cond (has c l) (n ∷ places_from (n + 1) cs l) (places_from (n + 1) cs l)
+
+-- how many literals of the clause are false in the set
+abbrev pub false_count : LiteralSet → List Literal → ℕ
+false_count set c = count_by (λ k. set (negate k)) c
+
+pub record AreCounts (clauses : Clauses) (set : LiteralSet) (counts : List ℕ) : Type 0 where
+  pub size : length counts ≡ length clauses
+  pub each : (n : ℕ) → n < length clauses → slice_index counts n ≡ false_count set (slice_index_or clauses n [])
+
+-- the set has each literal that is alone not false in done, and done falsifies the clause not
+pub record IsQuiet (done set : LiteralSet) (c : List Literal) : Type 0 where
+  pub closed : (l : Literal) → IsUnit done c l → IsIn set l
+  pub unfalsified : All (λ k. IsIn done (negate k)) c → ⊥
+
+-- a literal that is alone not false in the clause, and neither true
+pub record IsUnset (set : LiteralSet) (c : List Literal) (l : Literal) : Type 0 where
+  pub unit : IsUnit set c l
+  pub not_true : set l ≡ false
+  pub not_false : set (negate l) ≡ false
+
+-- some clause makes the literal true by itself
+pub record HasReason (clauses : Clauses) (set : LiteralSet) (l : Literal) : Type 0 where
+  pub reason : List Literal
+  pub among : Contains clauses reason
+  pub unit : IsUnit set reason l
+
+-- the set has the negations of all literals of some clause
+pub record Falsified (clauses : Clauses) (set : LiteralSet) : Type 0 where
+  pub clause : List Literal
+  pub among : Contains clauses clause
+  pub each : All (λ k. IsIn set (negate k)) clause
+
+-- the list of each literal has the numbers of the clauses that have it
+pub record AreOccurrences (vars : ℕ) (clauses : Clauses) (lists : List (List ℕ)) : Type 0 where
+  pub size : length lists ≡ 2 * vars + 2
+  pub each : (l : Literal) → word_of l < length lists → slice_index_or lists (word_of l) [] ≡ places_from 0 clauses l
+
+-- the new trail is the old one and literals behind it that follow from it, each by some clause
+pub record Grows (clauses : Clauses) (old new : List Literal) : Type 0 where
+  pub front : take (length old) new ≡ old
+  pub longer : length old ≤ length new
+  pub keeps : Includes (has new) (has old)
+  pub within : (l : Literal) → IsIn (has new) l → Closure clauses (has old) l
+  pub reason : (l : Literal) → IsIn (has new) l → IsIn (has old) l ⊎ HasReason clauses (has new) l
+
+-- the false literals are counted for the front of the trail
+pub record IsCounted (vars : ℕ) (clauses : Clauses) (truth : List Bool) (trail : List Literal) (counts : List ℕ) (front : ℕ) : Type 0 where
+  pub table : IsTrail vars truth trail
+  pub within : front ≤ length trail
+  pub right : AreCounts clauses (has (take front trail)) counts
+
+-- each clause was looked at with the front of the trail
+abbrev pub AreQuiet : Clauses → List Literal → ℕ → Type 0
+AreQuiet clauses trail front = All (IsQuiet (has (take front trail)) (has trail)) clauses
+
+-- whatever part of the old trail was counted, the clause is quiet there
+abbrev pub IsQuietNow : List Literal → ℕ → List Literal → List Literal → Type 0
+IsQuietNow clause count old new = (done : LiteralSet) → Includes (has old) done → count ≡ false_count done clause → IsQuiet done (has new) clause
+
+abbrev pub AreQuietNow : Clauses → List ℕ → List ℕ → List Literal → List Literal → Type 0
+AreQuietNow clauses numbers counts old new = All (λ n. IsQuietNow (slice_index_or clauses n []) (slice_index counts n) old new) numbers
+
+-- the new trail is the old one and negations of some of the literals behind it
+pub record Assumes (lits old new : List Literal) : Type 0 where
+  pub front : take (length old) new ≡ old
+  pub longer : length old ≤ length new
+  pub keeps : Includes (has new) (has old)
+  pub only : (l : Literal) → IsIn (has new) l → IsIn (has old) l ⊎ IsIn (negations lits) l
+
+-- one of the literals is on the trail
+pub record Clashes (lits trail : List Literal) : Type 0 where
+  pub literal : Literal
+  pub among : Contains lits literal
+  pub true_now : IsIn (has trail) literal
+
+-- the set is the closure of start, and falsifies no clause
+pub record IsClosure (clauses : Clauses) (start set : LiteralSet) : Type 0 where
+  pub closed : IsClosed clauses set
+  pub includes : Includes set start
+  pub within : (l : Literal) → IsIn set l → Closure clauses start l
+  pub unfalsified : (c : List Literal) → Contains clauses c → All (λ k. IsIn set (negate k)) c → ⊥
+
+-- the number stands behind the others in the list of each of the literals
+pub record Lists (lits : List Literal) (number : ℕ) (old new : List (List ℕ)) : Type 0 where
+  pub size : length new ≡ length old
+  pub each : (l : Literal) → word_of l < length old → slice_index_or new (word_of l) [] ≡ slice_index_or old (word_of l) [] ++ cond (has lits l) (number ∷ []) []

@@ -1,0 +1,25 @@
+// Counts of false literals by clause.
+ghost use Rattle.std.specs.Prelude.{◌≡◌, ◌≤◌, ◌<◌, ◌+◌, ◌^◌, ℕ, All, length, slice_index};
+ghost use Rattle.refute_check.specs.Tables.{times, CountedUp};
+
+/// Adds one to the count of each clause that the list names, once for each time.
+pub(crate) fn count_up(places: &[u32], counts: &mut [u32])
+    requires there { All (λ n. n < length counts.old) places.now }
+    requires small { All (λ n. slice_index counts.old n + times places.now n < 2 ^ 32) places.now }
+    ensures { CountedUp places.now counts.old counts.new }
+{
+    for n in places {
+        counts[*n as usize] += 1;
+    }
+}
+
+/// Takes one from the count of each clause that the list names, once for each time.
+pub(crate) fn count_down(places: &[u32], counts: &mut [u32])
+    requires there { All (λ n. n < length counts.old) places.now }
+    requires enough { All (λ n. times places.now n ≤ slice_index counts.old n) places.now }
+    ensures { CountedUp places.now counts.new counts.old }
+{
+    for n in places {
+        counts[*n as usize] -= 1;
+    }
+}

@@ -1,0 +1,136 @@
+// The tables that propagation works on, between the lines of a log.
+ghost use Rattle.std.specs.Prelude.{◌≡◌, ◌≤◌, ◌<◌, ◌⊎◌, ◌+◌, ◌*◌, [], true, false, OnOk, IfOk, length, take};
+ghost use Rattle.cnf_core.specs.Lit.{has};
+ghost use Rattle.cnf_core.specs.Clause.{AreThere, AreDistinct, IsThere};
+ghost use Rattle.cnf_core.specs.Propagation.{Closure, Falsifies, Rup, negations};
+ghost use Rattle.refute_check.specs.Tables.{IsCounted, IsClosure, AreOccurrences};
+ghost use Rattle.refute_check.specs.Settled.{IsSettled};
+
+use crate::assume::assume_false;
+use crate::places::Places;
+use crate::propagation::propagate;
+use crate::undo::undo;
+use cnf_core::{Formula, Lit};
+use plan_core::OutOfMemory;
+use std::alloc::Global;
+
+/// What is true without assumptions, and the counts of false literals that belong to it.
+#[derive(Drop)]
+pub(crate) struct Tables {
+    /// By a literal's word, the clauses that have the literal.
+    pub(crate) occurrences: Vec<Places>,
+    /// By clause, how many of its literals are false.
+    pub(crate) counts: Vec<u32>,
+    /// By a literal's word, whether it is true.
+    pub(crate) truth: Vec<bool>,
+    /// The literals that are true, in the order in which they became so.
+    pub(crate) trail: Vec<Lit>,
+}
+
+impl Tables {
+    /// No variable, and no clause.
+    pub(crate) fn new(alloc: Global) -> Result<Tables, OutOfMemory>
+        ensures { IfOk result (λ t. IsSettled 0 [] t) }
+    {
+        let mut occurrences = Vec::new(alloc);
+        occurrences.push(Places::new(alloc))?;
+        occurrences.push(Places::new(alloc))?;
+        let mut truth = Vec::new(alloc);
+        truth.push(false)?;
+        truth.push(false)?;
+        Ok(Tables {
+            occurrences,
+            counts: Vec::new(alloc),
+            truth,
+            trail: Vec::new(alloc),
+        })
+    }
+
+    /// Assumes that the literals are false, and marks what follows. The answer is whether some
+    /// clause is falsified, and how far the trail was counted.
+    fn suppose(&mut self, formula: &Formula, lits: &[Lit]) -> Result<(bool, usize), OutOfMemory>
+        requires settled { IsSettled formula.now.vars formula.now.clauses self.old }
+        requires there { AreThere formula.now.vars lits.now }
+        requires distinct { AreDistinct lits.now }
+        ensures counted { IfOk result (λ r. IsCounted formula.now.vars formula.now.clauses self.new.truth.items self.new.trail.items self.new.counts.items r.1) }
+        ensures on { IfOk result (λ r. length self.old.trail.items ≤ r.1) }
+        ensures front { OnOk result (take (length self.old.trail.items) self.new.trail.items ≡ self.old.trail.items) }
+        ensures same { OnOk result (self.new.occurrences.items ≡ self.old.occurrences.items) }
+        ensures falsified { IfOk result (λ r. r.0 ≡ true → Falsifies formula.now.clauses (negations lits.now)) }
+        ensures closed { IfOk result (λ r. r.0 ≡ false → IsClosure formula.now.clauses (negations lits.now) (has self.new.trail.items)) }
+    {
+        let level = self.trail.len();
+        let clash = assume_false(&mut self.truth, &mut self.trail, formula.vars(), lits)?;
+        if clash {
+            return Ok((true, level));
+        }
+        let reached = propagate(
+            formula,
+            &self.occurrences,
+            &mut self.counts,
+            &mut self.truth,
+            &mut self.trail,
+            level,
+        )?;
+        Ok(reached)
+    }
+
+    /// Takes the trail back to its first `level` literals, of which `front` were counted.
+    fn take_back(&mut self, formula: &Formula, level: usize, front: usize)
+        requires counted { IsCounted formula.now.vars formula.now.clauses self.old.truth.items self.old.trail.items self.old.counts.items front }
+        requires level { level ≤ front }
+        requires occurrences { AreOccurrences formula.now.vars formula.now.clauses self.old.occurrences.items }
+        ensures counted { IsCounted formula.now.vars formula.now.clauses self.new.truth.items self.new.trail.items self.new.counts.items level }
+        ensures rest { self.new.trail.items ≡ take level self.old.trail.items }
+        ensures same { self.new.occurrences.items ≡ self.old.occurrences.items }
+    {
+        undo(
+            formula,
+            &self.occurrences,
+            &mut self.counts,
+            &mut self.truth,
+            &mut self.trail,
+            level,
+            front,
+        );
+    }
+
+    /// Whether the clause of these literals follows by unit propagation.
+    pub(crate) fn follows(&mut self, formula: &Formula, lits: &[Lit]) -> Result<bool, OutOfMemory>
+        requires settled { IsSettled formula.now.vars formula.now.clauses self.old }
+        requires there { AreThere formula.now.vars lits.now }
+        requires distinct { AreDistinct lits.now }
+        ensures settled { OnOk result (IsSettled formula.now.vars formula.now.clauses self.new) }
+        ensures yes { IfOk result (λ b. b ≡ true → Rup formula.now.clauses lits.now) }
+        ensures no { IfOk result (λ b. b ≡ false → Rup formula.now.clauses lits.now → ⊥) }
+    {
+        let level = self.trail.len();
+        let (falsified, front) = self.suppose(formula, lits)?;
+        self.take_back(formula, level, front);
+        Ok(falsified)
+    }
+
+    /// Whether the first literal follows already where the others are false, or these falsify some
+    /// clause.
+    pub(crate) fn knows(
+        &mut self,
+        formula: &Formula,
+        first: Lit,
+        others: &[Lit],
+    ) -> Result<bool, OutOfMemory>
+        requires settled { IsSettled formula.now.vars formula.now.clauses self.old }
+        requires first { IsThere formula.now.vars first }
+        requires there { AreThere formula.now.vars others.now }
+        requires distinct { AreDistinct others.now }
+        ensures settled { OnOk result (IsSettled formula.now.vars formula.now.clauses self.new) }
+        ensures yes { IfOk result (λ b. b ≡ true → Falsifies formula.now.clauses (negations others.now) ⊎ Closure formula.now.clauses (negations others.now) first) }
+        ensures unfalsified { IfOk result (λ b. b ≡ false → Falsifies formula.now.clauses (negations others.now) → ⊥) }
+        ensures unknown { IfOk result (λ b. b ≡ false → Closure formula.now.clauses (negations others.now) first → ⊥) }
+    {
+        let level = self.trail.len();
+        let (falsified, front) = self.suppose(formula, others)?;
+        let marked = self.truth[first.word() as usize];
+        self.take_back(formula, level, front);
+        Ok(falsified || marked)
+    }
+}

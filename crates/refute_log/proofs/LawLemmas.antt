@@ -1,0 +1,182 @@
+-- A text has one form, is one line's, and has one fault or none where it is a line's.
+use Rattle.std.proofs.Common.{◌≡◌, ℕ, ◌≤◌, ◌⊎◌, ◌↔◌, inl, inr, true, List, [], ◌∷◌, ◌++◌, length, get_or, map, decimal, Result, Ok, Err, MatchResult, refl, sym, ◌∙◌, ap, subst, arith}
+use Rattle.std.specs.Prelude.{IfOk, IfErr, IsErrOf}
+use Rattle.std.specs.Char.{IsAsciiDigit}
+use Rattle.std.specs.List.{AllByRecursion}
+use Rattle.std.specs.Str.Parse.{AllDigits}
+use Rattle.std.proofs.lemmas.List.{append-nil}
+use Rattle.std.proofs.lemmas.Str.Parse.{digit_from_value}
+use Rattle.cnf_core.specs.Lit.{Literal}
+use Rattle.cnf_core.specs.Clause.{AreThere}
+use Rattle.refute_log.specs.declared.line.LogLine.{LogLine}
+use Rattle.refute_log.specs.declared.line.LogLine.TheVariants.{Formula, Learnt, Bound, Query, Refuted, Model}
+use Rattle.refute_log.specs.declared.fault.LogWhat.{LogWhat}
+use Rattle.refute_log.specs.declared.fault.LogWhat.TheVariants.{Header, Form, Number, Twice}
+use Rattle.refute_log.specs.declared.fault.LineTextFault.{LineTextFault}
+use Rattle.refute_log.specs.declared.fault.LineTextFault.TheVariants.{Log, Memory}
+use Rattle.refute_log.specs.Lines.{last_var, literal_text, literals_text, line_text, header}
+use Rattle.refute_log.specs.LineForm.{Field, LineForm, IsNumber, AreNumbers, HasForm, form_text, spaced, fields_text, IsLiteral, HasRightNumbers}
+use Rattle.refute_log.specs.LineForm.LineForm.{FormulaForm, LearntForm, BoundForm, QueryForm, RefutedForm, ModelForm}
+use Rattle.refute_log.specs.LineText.{NamesOnce, Spells, IsTextOf, HasFault, IsFaultOf}
+use Rattle.refute_log.specs.OneText.{criterion_once, is_decimal, log_text_once}
+use Rattle.refute_log.proofs.ReadingLemmas.{ahead, zero_is_one, same_cut, no_cut, number_is_one, regroup, spaced_literals}
+
+-- a text has one form
+fields_once : (fs gs : List Field) → AreNumbers fs → AreNumbers gs → fields_text fs ≡ fields_text gs → fs ≡ gs
+fields_once fs gs h k e =
+    let a = ahead fs gs (48 ∷ []) h k e in
+    end a.more a.split a.left
+  where
+    end : (more : List Field) → gs ≡ fs ++ more → 48 ∷ [] ≡ fields_text more → fs ≡ gs
+    end [] s z = sym (s ∙ append-nil fs)
+    end (f ∷ more) s z = absurd (no_cut (48 ∷ []) f (fields_text more) zero_is_one (z ∙ regroup f (spaced more) (48 ∷ [])))
+
+pub form_once : (text : List ℕ) (a b : LineForm) → HasForm text a → HasForm text b → a ≡ b
+form_once text (FormulaForm fs) (FormulaForm gs) h k = let e = sym h.spelled ∙ k.spelled in ap FormulaForm (fields_once fs gs h.is_form k.is_form cc)
+form_once text (LearntForm fs) (LearntForm gs) h k = let e = sym h.spelled ∙ k.spelled in ap LearntForm (fields_once fs gs h.is_form.0 k.is_form.0 cc)
+form_once text (BoundForm c k x) (BoundForm d l y) h i =
+    let e = sym h.spelled ∙ i.spelled in
+    let one = criterion_once c d (32 ∷ (k ++ 32 ∷ x)) (32 ∷ (l ++ 32 ∷ y)) cc in
+    let f : k ++ 32 ∷ x ≡ l ++ 32 ∷ y = cc (one.1) in
+    let two = same_cut k l x y (number_is_one k h.is_form.0) (number_is_one l i.is_form.0) f in
+    cc (one.0, two.field, two.rest)
+form_once text (QueryForm fs) (QueryForm gs) h k = let e = sym h.spelled ∙ k.spelled in ap QueryForm (fields_once fs gs h.is_form k.is_form cc)
+form_once text (RefutedForm fs) (RefutedForm gs) h k = let e = sym h.spelled ∙ k.spelled in ap RefutedForm (fields_once fs gs h.is_form k.is_form cc)
+form_once text ModelForm ModelForm h k = refl
+form_once text a b h k = let z = ap (λ (t : List ℕ). get_or t 0 0) (sym h.spelled ∙ k.spelled) in absurd (omega arith)
+
+-- a text is one line's
+pub line_once : (text : List ℕ) (a b : LogLine) → Spells text a → Spells text b → a ≡ b
+line_once text a b h k =
+    let same : line_text a ≡ line_text b = h.spelled ∙ sym k.spelled in
+    let lines = log_text_once (a ∷ []) (b ∷ []) (h.formed, tt) (k.formed, tt) (ap (λ (t : List ℕ). header ++ ((t ++ 10 ∷ []) ++ [])) same) in
+    cc
+
+-- the text of a line has a form whose numbers are right
+digits_in : (ds : List ℕ) → AllDigits 10 ds → AllByRecursion IsAsciiDigit ds
+digits_in [] h = tt
+digits_in (d ∷ ds) h = (digit_from_value d h.0, digits_in ds h.1)
+
+decimal_is_number : (n : ℕ) → n ≤ last_var → IsNumber (decimal n)
+decimal_is_number n h =
+    let numeral = is_decimal n h in
+    record { positive = true; digits = decimal n; some = numeral.0; only = digits_in (decimal n) numeral.1; spelled = refl }
+
+literal_is_number : (l : Literal) → l.var ≤ last_var → IsNumber (literal_text l)
+literal_is_number l h =
+    let numeral = is_decimal l.var h in
+    record { positive = l.positive; digits = decimal l.var; some = numeral.0; only = digits_in (decimal l.var) numeral.1; spelled = refl }
+
+literals_are_numbers : (ls : List Literal) → AreThere last_var ls → AreNumbers (map literal_text ls)
+literals_are_numbers [] h = tt
+literals_are_numbers (l ∷ ls) h = (literal_is_number l h.0.1, literals_are_numbers ls h.1)
+
+literals_are_right : (ls : List Literal) → AreThere last_var ls → AllByRecursion IsLiteral (map literal_text ls)
+literals_are_right [] h = tt
+literals_are_right (l ∷ ls) h = (record { literal = l; there = h.0; spelled = refl }, literals_are_right ls h.1)
+
+some_fields : (ls : List Literal) → 1 ≤ length ls → 1 ≤ length (map literal_text ls)
+some_fields [] h = h
+some_fields (l ∷ ls) h = omega arith
+
+-- a form that the text has, with right numbers
+record RightForm (text : List ℕ) : Type 0 where
+  form : LineForm
+  has : HasForm text form
+  right : HasRightNumbers form
+
+behind : (a : ℕ) (ls : List Literal) (text : List ℕ) → a ∷ 32 ∷ (literals_text ls ++ 48 ∷ []) ≡ text → text ≡ a ∷ 32 ∷ fields_text (map literal_text ls)
+behind a ls text e = sym e ∙ ap (λ (t : List ℕ). a ∷ 32 ∷ (t ++ 48 ∷ [])) (sym (spaced_literals ls))
+
+line_form : (text : List ℕ) (line : LogLine) → Spells text line → RightForm text
+line_form text (Formula c) h = record { form = FormulaForm (map literal_text c); has = record { is_form = literals_are_numbers c h.formed; spelled = behind 102 c text h.spelled }; right = literals_are_right c h.formed }
+line_form text (Learnt c) h = record { form = LearntForm (map literal_text c); has = record { is_form = (literals_are_numbers c h.formed.0, some_fields c h.formed.1); spelled = behind 108 c text h.spelled }; right = literals_are_right c h.formed.0 }
+line_form text (Bound criterion k x) h =
+    let small : k ≤ last_var = omega (arith, h.formed.1) in
+    record {
+      form = BoundForm criterion (decimal k) (decimal x.0);
+      has = record { is_form = (decimal_is_number k small, decimal_is_number x.0 h.formed.3); spelled = sym h.spelled };
+      right = (record { number = k; from = h.formed.0; to = h.formed.1; spelled = refl }, record { number = x.0; from = h.formed.2; to = h.formed.3; spelled = refl });
+    }
+line_form text (Query c) h = record { form = QueryForm (map literal_text c); has = record { is_form = literals_are_numbers c h.formed; spelled = behind 113 c text h.spelled }; right = literals_are_right c h.formed }
+line_form text (Refuted c) h = record { form = RefutedForm (map literal_text c); has = record { is_form = literals_are_numbers c h.formed; spelled = behind 114 c text h.spelled }; right = literals_are_right c h.formed }
+line_form text Model h = record { form = ModelForm; has = record { is_form = tt; spelled = sym h.spelled }; right = tt }
+
+-- faults exclude each other, and lines
+no_form_no_line : (text : List ℕ) (line : LogLine) → Spells text line → HasFault text Form → ⊥
+no_form_no_line text line s f = let r = line_form text line s in f r.form r.has
+
+wrong_number_no_line : (text : List ℕ) (line : LogLine) → Spells text line → HasFault text Number → ⊥
+wrong_number_no_line text line s f =
+    let r = line_form text line s in
+    f.2 (subst HasRightNumbers (form_once text r.form f.0 r.has f.1) r.right)
+
+pub line_no_fault : (text : List ℕ) (line : LogLine) (what : LogWhat) → IsTextOf text line → HasFault text what → ⊥
+line_no_fault text line Header t f = f
+line_no_fault text line Form t f = no_form_no_line text line t.spells f
+line_no_fault text line Number t f = wrong_number_no_line text line t.spells f
+line_no_fault text line Twice t f = f.2 (subst NamesOnce (line_once text line f.0 t.spells f.1) t.once)
+
+pub fault_once : (text : List ℕ) (a b : LogWhat) → HasFault text a → HasFault text b → a ≡ b
+fault_once text Form Form f g = refl
+fault_once text Form Number f g = absurd (f g.0 g.1)
+fault_once text Form Twice f g = absurd (no_form_no_line text g.0 g.1 f)
+fault_once text Number Form f g = absurd (g f.0 f.1)
+fault_once text Number Number f g = refl
+fault_once text Number Twice f g = absurd (wrong_number_no_line text g.0 g.1 f)
+fault_once text Twice Form f g = absurd (no_form_no_line text f.0 f.1 g)
+fault_once text Twice Number f g = absurd (wrong_number_no_line text f.0 f.1 g)
+fault_once text Twice Twice f g = refl
+fault_once text Header b f g = absurd f
+fault_once text Form Header f g = absurd g
+fault_once text Number Header f g = absurd g
+fault_once text Twice Header f g = absurd g
+
+-- so an answer that is right is the only one
+pub told : (text : List ℕ) (number : ℕ) (r : Result LogLine LineTextFault) → IfOk r (IsTextOf text) → IfErr r (IsFaultOf text number) → (what : LogWhat) → HasFault text what → IsErrOf r (Log what number) ⊎ IsErrOf r Memory
+told text number (Ok line) ok err what f = absurd (line_no_fault text line what ok f)
+told text number (Err Memory) ok err what f = inr refl
+told text number (Err (Log other at)) ok err what f =
+    let same : other ≡ what = fault_once text other what err.1 f in
+    inl (cc (same, err.0))
+
+pub read_again : (text : List ℕ) (number : ℕ) (r : Result LogLine LineTextFault) → IfOk r (IsTextOf text) → IfErr r (IsFaultOf text number) → (line : LogLine) → IsTextOf text line → MatchResult r (λ read. read ≡ line) (λ e. e ≡ Memory)
+read_again text number (Ok read) ok err line t = line_once text read line ok.spells t.spells
+read_again text number (Err Memory) ok err line t = refl
+read_again text number (Err (Log other at)) ok err line t = absurd (line_no_fault text line other t err.1)
+
+-- a form whose numbers are right is that of a line
+record OfLiterals (fields : List Field) : Type 0 where
+  literals : List Literal
+  there : AreThere last_var literals
+  texts : fields ≡ map literal_text literals
+
+of_literals : (fields : List Field) → AllByRecursion IsLiteral fields → OfLiterals fields
+of_literals [] h = record { literals = []; there = tt; texts = refl }
+of_literals (f ∷ fields) h =
+    let more = of_literals fields h.1 in
+    record { literals = h.0.literal ∷ more.literals; there = (h.0.there, more.there); texts = let e = h.0.spelled in let d = more.texts in cc }
+
+spelled_by : (a : ℕ) (fields : List Field) (text : List ℕ) (r : OfLiterals fields) → text ≡ a ∷ 32 ∷ fields_text fields → a ∷ 32 ∷ (literals_text r.literals ++ 48 ∷ []) ≡ text
+spelled_by a fields text r e = ap (λ (t : List ℕ). a ∷ 32 ∷ (t ++ 48 ∷ [])) (sym (spaced_literals r.literals)) ∙ sym (e ∙ ap (λ (t : List Field). a ∷ 32 ∷ fields_text t) r.texts)
+
+some_literals : (fields : List Field) (ls : List Literal) → fields ≡ map literal_text ls → 1 ≤ length fields → 1 ≤ length ls
+some_literals fields [] e h = let z = ap length e in omega arith
+some_literals fields (l ∷ ls) e h = omega arith
+
+form_line : (text : List ℕ) (form : LineForm) → HasForm text form → HasRightNumbers form → (line : LogLine) × Spells text line
+form_line text (FormulaForm fields) h right = let r = of_literals fields right in (Formula r.literals, record { formed = r.there; spelled = spelled_by 102 fields text r h.spelled })
+form_line text (LearntForm fields) h right = let r = of_literals fields right in (Learnt r.literals, record { formed = (r.there, some_literals fields r.literals r.texts h.is_form.1); spelled = spelled_by 108 fields text r h.spelled })
+form_line text (BoundForm criterion k x) h right =
+    let e = right.0.spelled in
+    let f = right.1.spelled in
+    (Bound criterion right.0.number (record { 0 = right.1.number }), record { formed = (right.0.from, right.0.to, right.1.from, right.1.to); spelled = ap (λ (t : Field). form_text (BoundForm criterion t (decimal right.1.number))) (sym e) ∙ ap (λ (t : Field). form_text (BoundForm criterion k t)) (sym f) ∙ sym h.spelled })
+form_line text (QueryForm fields) h right = let r = of_literals fields right in (Query r.literals, record { formed = r.there; spelled = spelled_by 113 fields text r h.spelled })
+form_line text (RefutedForm fields) h right = let r = of_literals fields right in (Refuted r.literals, record { formed = r.there; spelled = spelled_by 114 fields text r h.spelled })
+form_line text ModelForm h right = (Model, record { formed = tt; spelled = sym h.spelled })
+
+pub right_form : (text : List ℕ) → ((form : LineForm) × HasForm text form × HasRightNumbers form) ↔ ((line : LogLine) × Spells text line)
+right_form text = (
+  λ h. form_line text h.0 h.1 h.2,
+  λ s. let r = line_form text s.0 s.1 in (r.form, r.has, r.right),
+)

@@ -1,0 +1,160 @@
+-- What the text behind the letter says of the whole line.
+use Rattle.std.proofs.Common.{◌≡◌, ◌≢◌, ℕ, ◌≤◌, ◌⊎◌, inl, inr, not, true, eqb, List, [], ◌∷◌, ◌++◌, length, get_or, refl, sym, ◌∙◌, ap, subst, arith}
+use Rattle.std.specs.List.{list_all}
+use Rattle.std.proofs.lemmas.Bool.Decides.{eqb_tells}
+use Rattle.plan_core.specs.declared.criterion.Criterion.{Criterion}
+use Rattle.plan_core.specs.declared.criterion.Criterion.TheVariants.{Height, Bends, Diagonal, Width}
+use Rattle.cnf_core.specs.Lit.{Literal}
+use Rattle.cnf_core.specs.Clause.{AreDistinct}
+use Rattle.refute_log.specs.declared.line.LogLine.TheVariants.{Formula, Learnt, Query, Refuted}
+use Rattle.refute_log.specs.declared.fault.LogWhat.{LogWhat}
+use Rattle.refute_log.specs.declared.fault.LogWhat.TheVariants.{Header, Form, Number, Twice}
+use Rattle.refute_log.specs.declared.fault.LineTextFault.{LineTextFault}
+use Rattle.refute_log.specs.declared.fault.LineTextFault.TheVariants.{Log, Memory}
+use Rattle.refute_log.specs.Lines.{last_bound, last_var, criterion_text}
+use Rattle.refute_log.specs.LineForm.{Field, spaced, fields_text, IsNumber, IsCounted}
+use Rattle.refute_log.specs.LineForm.LineForm.{FormulaForm, LearntForm, BoundForm, QueryForm, RefutedForm, ModelForm}
+use Rattle.refute_log.specs.LineText.{IsTextOf, HasFault, IsFaultWhere, IsFaultOf}
+use Rattle.refute_log.specs.FieldText.{IsOneField, IsCut, HasBound, HasFields, HasLiterals, HasFieldsFault}
+use Rattle.refute_log.proofs.ReadingLemmas.{zero_is_one, SameCut, same_cut, no_cut, number_is_one, regroup}
+
+-- a fault of one kind is one of another
+pub fault_as : (P Q : LogWhat → Type 0) → ((what : LogWhat) → P what → Q what) → (line : ℕ) (fault : LineTextFault) → IsFaultWhere P line fault → IsFaultWhere Q line fault
+fault_as P Q f line (Log what at) h = (h.0, f what h.1)
+fault_as P Q f line Memory h = tt
+
+-- lines of the four kinds that have literals
+pub formula_is : (text : List ℕ) (c : List Literal) → HasLiterals text c → AreDistinct c → IsTextOf (102 ∷ 32 ∷ text) (Formula c)
+formula_is text c h d = record { spells = record { formed = h.there; spelled = ap (λ (t : List ℕ). 102 ∷ 32 ∷ t) (sym h.spelled) }; once = d }
+
+pub query_is : (text : List ℕ) (c : List Literal) → HasLiterals text c → AreDistinct c → IsTextOf (113 ∷ 32 ∷ text) (Query c)
+query_is text c h d = record { spells = record { formed = h.there; spelled = ap (λ (t : List ℕ). 113 ∷ 32 ∷ t) (sym h.spelled) }; once = d }
+
+pub refuted_is : (text : List ℕ) (c : List Literal) → HasLiterals text c → AreDistinct c → IsTextOf (114 ∷ 32 ∷ text) (Refuted c)
+refuted_is text c h d = record { spells = record { formed = h.there; spelled = ap (λ (t : List ℕ). 114 ∷ 32 ∷ t) (sym h.spelled) }; once = d }
+
+some_literal : (text : List ℕ) (c : List Literal) → (text ≡ 48 ∷ [] → ⊥) → HasLiterals text c → 1 ≤ length c
+some_literal text [] not h = absurd (not h.spelled)
+some_literal text (l ∷ c) not h = omega arith
+
+pub learnt_is : (text : List ℕ) (c : List Literal) → (text ≡ 48 ∷ [] → ⊥) → HasLiterals text c → AreDistinct c → IsTextOf (108 ∷ 32 ∷ text) (Learnt c)
+learnt_is text c not h d = record { spells = record { formed = (h.there, some_literal text c not h); spelled = ap (λ (t : List ℕ). 108 ∷ 32 ∷ t) (sym h.spelled) }; once = d }
+
+-- and their faults
+formula_form : (text : List ℕ) → HasFieldsFault text Form → HasFault (102 ∷ 32 ∷ text) Form
+formula_form text h (FormulaForm fields) k = h fields (record { numbers = k.is_form; spelled = let e = k.spelled in cc })
+formula_form text h form k = let z = ap (λ (t : List ℕ). get_or t 0 0) k.spelled in absurd (omega arith)
+
+formula_wrong : (text : List ℕ) (what : LogWhat) → HasFieldsFault text what → HasFault (102 ∷ 32 ∷ text) what
+formula_wrong text Header h = h
+formula_wrong text Form h = formula_form text h
+formula_wrong text Number h = (FormulaForm h.0, record { is_form = h.1.numbers; spelled = ap (λ (t : List ℕ). 102 ∷ 32 ∷ t) h.1.spelled }, h.2)
+formula_wrong text Twice h = (Formula h.0, record { formed = h.1.there; spelled = ap (λ (t : List ℕ). 102 ∷ 32 ∷ t) (sym h.1.spelled) }, h.2)
+
+query_form : (text : List ℕ) → HasFieldsFault text Form → HasFault (113 ∷ 32 ∷ text) Form
+query_form text h (QueryForm fields) k = h fields (record { numbers = k.is_form; spelled = let e = k.spelled in cc })
+query_form text h form k = let z = ap (λ (t : List ℕ). get_or t 0 0) k.spelled in absurd (omega arith)
+
+query_wrong : (text : List ℕ) (what : LogWhat) → HasFieldsFault text what → HasFault (113 ∷ 32 ∷ text) what
+query_wrong text Header h = h
+query_wrong text Form h = query_form text h
+query_wrong text Number h = (QueryForm h.0, record { is_form = h.1.numbers; spelled = ap (λ (t : List ℕ). 113 ∷ 32 ∷ t) h.1.spelled }, h.2)
+query_wrong text Twice h = (Query h.0, record { formed = h.1.there; spelled = ap (λ (t : List ℕ). 113 ∷ 32 ∷ t) (sym h.1.spelled) }, h.2)
+
+refuted_form : (text : List ℕ) → HasFieldsFault text Form → HasFault (114 ∷ 32 ∷ text) Form
+refuted_form text h (RefutedForm fields) k = h fields (record { numbers = k.is_form; spelled = let e = k.spelled in cc })
+refuted_form text h form k = let z = ap (λ (t : List ℕ). get_or t 0 0) k.spelled in absurd (omega arith)
+
+refuted_wrong : (text : List ℕ) (what : LogWhat) → HasFieldsFault text what → HasFault (114 ∷ 32 ∷ text) what
+refuted_wrong text Header h = h
+refuted_wrong text Form h = refuted_form text h
+refuted_wrong text Number h = (RefutedForm h.0, record { is_form = h.1.numbers; spelled = ap (λ (t : List ℕ). 114 ∷ 32 ∷ t) h.1.spelled }, h.2)
+refuted_wrong text Twice h = (Refuted h.0, record { formed = h.1.there; spelled = ap (λ (t : List ℕ). 114 ∷ 32 ∷ t) (sym h.1.spelled) }, h.2)
+
+learnt_form : (text : List ℕ) → HasFieldsFault text Form → HasFault (108 ∷ 32 ∷ text) Form
+learnt_form text h (LearntForm fields) k = h fields (record { numbers = k.is_form.0; spelled = let e = k.spelled in cc })
+learnt_form text h form k = let z = ap (λ (t : List ℕ). get_or t 0 0) k.spelled in absurd (omega arith)
+
+some_field : (text : List ℕ) (fields : List Field) → (text ≡ 48 ∷ [] → ⊥) → HasFields text fields → 1 ≤ length fields
+some_field text [] not h = absurd (not h.spelled)
+some_field text (f ∷ fields) not h = omega arith
+
+learnt_wrong : (text : List ℕ) → (text ≡ 48 ∷ [] → ⊥) → (what : LogWhat) → HasFieldsFault text what → HasFault (108 ∷ 32 ∷ text) what
+learnt_wrong text not Header h = h
+learnt_wrong text not Form h = learnt_form text h
+learnt_wrong text not Number h = (LearntForm h.0, record { is_form = (h.1.numbers, some_field text h.0 not h.1); spelled = ap (λ (t : List ℕ). 108 ∷ 32 ∷ t) h.1.spelled }, h.2)
+learnt_wrong text not Twice h = (Learnt h.0, record { formed = (h.1.there, some_literal text h.0 not h.1); spelled = ap (λ (t : List ℕ). 108 ∷ 32 ∷ t) (sym h.1.spelled) }, h.2)
+
+pub formula_fault : (text : List ℕ) (line : ℕ) (fault : LineTextFault) → IsFaultWhere (HasFieldsFault text) line fault → IsFaultOf (102 ∷ 32 ∷ text) line fault
+formula_fault text line fault h = fault_as (HasFieldsFault text) (HasFault (102 ∷ 32 ∷ text)) (formula_wrong text) line fault h
+
+pub query_fault : (text : List ℕ) (line : ℕ) (fault : LineTextFault) → IsFaultWhere (HasFieldsFault text) line fault → IsFaultOf (113 ∷ 32 ∷ text) line fault
+query_fault text line fault h = fault_as (HasFieldsFault text) (HasFault (113 ∷ 32 ∷ text)) (query_wrong text) line fault h
+
+pub refuted_fault : (text : List ℕ) (line : ℕ) (fault : LineTextFault) → IsFaultWhere (HasFieldsFault text) line fault → IsFaultOf (114 ∷ 32 ∷ text) line fault
+refuted_fault text line fault h = fault_as (HasFieldsFault text) (HasFault (114 ∷ 32 ∷ text)) (refuted_wrong text) line fault h
+
+pub learnt_fault : (text : List ℕ) → (text ≡ 48 ∷ [] → ⊥) → (line : ℕ) (fault : LineTextFault) → IsFaultWhere (HasFieldsFault text) line fault → IsFaultOf (108 ∷ 32 ∷ text) line fault
+learnt_fault text not line fault h = fault_as (HasFieldsFault text) (HasFault (108 ∷ 32 ∷ text)) (learnt_wrong text not) line fault h
+
+-- a Learnt line has a literal
+pub no_learnt : (text : List ℕ) → text ≡ 48 ∷ [] → HasFault (108 ∷ 32 ∷ text) Form
+no_learnt text e (LearntForm []) k = omega (arith, k.is_form.1)
+no_learnt text e (LearntForm (f ∷ fields)) k =
+    no_cut (48 ∷ []) f (fields_text fields) zero_is_one (sym e ∙ (let s = k.spelled in cc) ∙ regroup f (spaced fields) (48 ∷ []))
+no_learnt text e form k = let z = ap (λ (t : List ℕ). get_or t 0 0) k.spelled in absurd (omega arith)
+
+-- the letter is that of no line
+pub no_letter : (letter : ℕ) (text : List ℕ) → letter ≢ 102 → letter ≢ 108 → letter ≢ 98 → letter ≢ 113 → letter ≢ 114 → HasFault (letter ∷ 32 ∷ text) Form
+no_letter letter text f l b q r (FormulaForm fields) k = f (let e = k.spelled in cc)
+no_letter letter text f l b q r (LearntForm fields) k = l (let e = k.spelled in cc)
+no_letter letter text f l b q r (BoundForm criterion k x) h = b (let e = h.spelled in cc)
+no_letter letter text f l b q r (QueryForm fields) k = q (let e = k.spelled in cc)
+no_letter letter text f l b q r (RefutedForm fields) k = r (let e = k.spelled in cc)
+no_letter letter text f l b q r ModelForm k = let e = k.spelled in cc
+
+-- no letter and space stand in front
+pub no_front : (text : List ℕ) → ((letter : ℕ) (rest : List ℕ) → text ≢ letter ∷ 32 ∷ rest) → (text ≡ 109 ∷ [] → ⊥) → HasFault text Form
+no_front text h m (FormulaForm fields) k = h 102 (fields_text fields) k.spelled
+no_front text h m (LearntForm fields) k = h 108 (fields_text fields) k.spelled
+no_front text h m (BoundForm criterion k x) e = h 98 (criterion_text criterion ++ 32 ∷ (k ++ 32 ∷ x)) e.spelled
+no_front text h m (QueryForm fields) k = h 113 (fields_text fields) k.spelled
+no_front text h m (RefutedForm fields) k = h 114 (fields_text fields) k.spelled
+no_front text h m ModelForm k = m k.spelled
+
+-- Bound lines
+one_by_test : (bs : List ℕ) → list_all (λ b. not (eqb b 32)) bs ≡ true → IsOneField bs
+one_by_test [] e = tt
+one_by_test (b ∷ bs) e = elim (eqb_tells b 32) [
+  | inl is ↦ cc (rw is.0 at e)
+  | inr other ↦ (other.1, one_by_test bs (rw other.0 at e))
+]
+
+criterion_is_one : (c : Criterion) → IsOneField (criterion_text c)
+criterion_is_one Height = one_by_test (criterion_text Height) refl
+criterion_is_one Bends = one_by_test (criterion_text Bends) refl
+criterion_is_one Diagonal = one_by_test (criterion_text Diagonal) refl
+criterion_is_one Width = one_by_test (criterion_text Width) refl
+
+abbrev pub LacksBound : List ℕ → Type 0
+LacksBound text = (c : Criterion) (k x : Field) → HasBound text c k x → ⊥
+
+bound_cut : (text word rest : List ℕ) (c : Criterion) (k x : Field) → IsCut text word rest → HasBound text c k x → SameCut word (criterion_text c) rest (k ++ 32 ∷ x)
+bound_cut text word rest c k x cut h = same_cut word (criterion_text c) rest (k ++ 32 ∷ x) cut.one (criterion_is_one c) (sym cut.spelled ∙ h.spelled)
+
+pub no_criterion : (text word rest : List ℕ) → IsCut text word rest → ((c : Criterion) → word ≡ criterion_text c → ⊥) → LacksBound text
+no_criterion text word rest cut not = λ c k x h. not c (bound_cut text word rest c k x cut h).field
+
+pub no_second_field : (text word rest : List ℕ) → IsCut text word rest → IsOneField rest → LacksBound text
+no_second_field text word rest cut one = λ c k x h. no_cut rest k x one (bound_cut text word rest c k x cut h).rest
+
+pub no_numbers : (text word rest k x : List ℕ) → IsCut text word rest → IsCut rest k x → (IsNumber k → ⊥) ⊎ (IsNumber x → ⊥) → LacksBound text
+no_numbers text word rest k x cut second either = λ c l y h.
+    let same = same_cut k l x y second.one (number_is_one l h.k_number) (sym second.spelled ∙ (bound_cut text word rest c l y cut h).rest) in
+    elim either [
+      | inl not ↦ not (subst IsNumber (sym same.field) h.k_number)
+      | inr not ↦ not (subst IsNumber (sym same.rest) h.x_number)
+    ]
+
+pub wrong_bound : (text : List ℕ) (c : Criterion) (k x : Field) → HasBound text c k x → (IsCounted last_bound k × IsCounted last_var x → ⊥) → HasFault (98 ∷ 32 ∷ text) Number
+wrong_bound text c k x h not = (BoundForm c k x, record { is_form = (h.k_number, h.x_number); spelled = ap (λ (t : List ℕ). 98 ∷ 32 ∷ t) h.spelled }, not)

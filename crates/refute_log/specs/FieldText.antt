@@ -1,0 +1,66 @@
+-- What is known of a line's text while its fields are read, for private contracts alone.
+use Rattle.std.specs.Prelude.{◌≡◌, ◌≢◌, ◌<◌, ℕ, Bool, true, false, codes, map, List, [], ◌∷◌, ◌++◌, slice_index}
+use Rattle.std.specs.List.{AllByRecursion}
+use Rattle.plan_core.specs.declared.criterion.Criterion.{Criterion}
+use Rattle.cnf_core.specs.Lit.{Literal}
+use Rattle.cnf_core.specs.Clause.{IsThere, AreThere, AreDistinct}
+use Rattle.refute_log.specs.declared.fault.LogWhat.{LogWhat}
+use Rattle.refute_log.specs.declared.fault.LogWhat.TheVariants.{Header, Form, Number, Twice}
+use Rattle.refute_log.specs.Lines.{last_var, literal_text, literals_text, criterion_text}
+use Rattle.refute_log.specs.LineForm.{Field, IsNumber, AreNumbers, spaced, fields_text, IsLiteral}
+
+-- no space stands in the text
+abbrev pub IsOneField : List ℕ → Type 0
+IsOneField text = AllByRecursion (λ b. b ≢ 32) text
+
+-- a field ends at the first space of the text, and the rest stands behind it
+pub record IsCut (text field rest : List ℕ) : Type 0 where
+  pub one : IsOneField field
+  pub spelled : text ≡ field ++ (codes " " ++ rest)
+
+-- the field begins with a digit other than 0
+pub record BeginsCanonical (field : Field) : Type 0 where
+  pub above : 48 < slice_index field 0
+  pub below : slice_index field 0 < 58
+
+-- the text has these fields between the letter and the last `0`
+pub record HasFields (text : List ℕ) (fields : List Field) : Type 0 where
+  pub numbers : AreNumbers fields
+  pub spelled : text ≡ fields_text fields
+
+-- the text is that of these literals and the last `0`
+pub record HasLiterals (text : List ℕ) (literals : List Literal) : Type 0 where
+  pub there : AreThere last_var literals
+  pub spelled : text ≡ literals_text literals ++ codes "0"
+
+-- the literal of the field was added at the end
+pub record AddsLiteral (old new : List Literal) (field : Field) : Type 0 where
+  pub literal : Literal
+  pub added : new ≡ old ++ literal ∷ []
+  pub there : IsThere last_var literal
+  pub spelled : field ≡ literal_text literal
+
+-- the fault of the text behind the letter of a line that has literals
+abbrev pub HasFieldsFault : List ℕ → LogWhat → Type 0
+HasFieldsFault text Header = ⊥
+HasFieldsFault text Form = (fields : List Field) → HasFields text fields → ⊥
+HasFieldsFault text Number = (fields : List Field) × HasFields text fields × (AllByRecursion IsLiteral fields → ⊥)
+HasFieldsFault text Twice = (literals : List Literal) × HasLiterals text literals × (AreDistinct literals → ⊥)
+
+-- the fields read so far are the texts of the literals, or some isn't the text of one
+abbrev pub AreRead : Bool → List Field → List Literal → Type 0
+AreRead true fields literals = (fields ≡ map literal_text literals) × AreThere last_var literals
+AreRead false fields literals = AllByRecursion IsLiteral fields → ⊥
+
+-- some fields of the text were read, and the rest stands behind them
+pub record IsReadTo (text rest : List ℕ) (right : Bool) (literals : List Literal) : Type 0 where
+  pub fields : List Field
+  pub numbers : AreNumbers fields
+  pub spelled : text ≡ spaced fields ++ rest
+  pub read : AreRead right fields literals
+
+-- the text behind the letter of a Bound line has these fields
+pub record HasBound (text : List ℕ) (criterion : Criterion) (k x : Field) : Type 0 where
+  pub k_number : IsNumber k
+  pub x_number : IsNumber x
+  pub spelled : text ≡ criterion_text criterion ++ (codes " " ++ (k ++ (codes " " ++ x)))

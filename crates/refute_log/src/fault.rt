@@ -1,0 +1,56 @@
+// What can be wrong with the text of a log.
+ghost use Rattle.std.specs.Prelude.{◌≡◌};
+ghost use Rattle.refute_log.specs.declared.fault.LineTextFault.TheVariants.{Memory};
+
+use plan_core::OutOfMemory;
+use std::alloc::{AllocError, AllocFailed};
+use thiserror::Error;
+
+/// The faults of a log's text, in the order of their numbers from 1 to 4. Where several hold, the
+/// lowest number counts.
+#[derive(Clone, Copy, Debug, PartialEq, Eq)]
+pub enum LogWhat {
+    /// The first line isn't `railplan-log 1` with its line feed. Reading one line never finds it.
+    Header,
+    /// The line isn't of one of the six forms, numbers being an optional `-` and digits.
+    Form,
+    /// A number isn't canonical or is out of its range.
+    Number,
+    /// A variable stands twice in the line.
+    Twice,
+}
+
+/// Why a text isn't read as a line of a log.
+#[derive(Debug, Drop, Error)]
+pub enum LineTextFault {
+    /// The text has a fault. Lines are numbered from 1, and the first line of a log's text is line 1.
+    #[error("a fault in the log")]
+    Log { what: LogWhat, line: u32 },
+    /// Memory couldn't be had.
+    #[error("out of memory")]
+    Memory,
+}
+
+impl From<OutOfMemory> for LineTextFault {
+    ghost from_gives = { λ _ e. e ≡ Memory };
+
+    fn from(_: OutOfMemory) -> Self {
+        LineTextFault::Memory
+    }
+}
+
+impl From<AllocError> for LineTextFault {
+    ghost from_gives = { λ _ e. e ≡ Memory };
+
+    fn from(_: AllocError) -> Self {
+        LineTextFault::Memory
+    }
+}
+
+impl<T: Drop> From<AllocFailed<T>> for LineTextFault {
+    ghost from_gives = { λ _ e. e ≡ Memory };
+
+    fn from(_: AllocFailed<T>) -> Self {
+        LineTextFault::Memory
+    }
+}

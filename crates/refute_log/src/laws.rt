@@ -1,0 +1,48 @@
+// Laws of lines and their texts. The functions change nothing: their contracts are the laws.
+ghost use Rattle.std.specs.Prelude.{◌≡◌, ◌↔◌, ℕ, List};
+ghost use Rattle.refute_log.specs.declared.line.LogLine.{LogLine as Line};
+ghost use Rattle.refute_log.specs.declared.fault.LogWhat.{LogWhat as What};
+ghost use Rattle.refute_log.specs.Lines.{IsWellFormed, line_text};
+ghost use Rattle.refute_log.specs.LineForm.{LineForm, HasForm, HasRightNumbers};
+ghost use Rattle.refute_log.specs.LineText.{Spells, IsTextOf, HasFault};
+
+use crate::LogLine;
+
+/// A text has one form at most.
+pub fn one_form()
+    ensures { (text : List ℕ) (a b : LineForm) → HasForm text a → HasForm text b → a ≡ b }
+{}
+
+/// A text is that of one line at most.
+pub fn one_line()
+    ensures { (text : List ℕ) (a b : Line) → Spells text a → Spells text b → a ≡ b }
+{}
+
+/// A text is that of a well-formed line exactly where it has a form whose numbers are right.
+pub fn right_numbers_make_a_line()
+    ensures { (text : List ℕ) → ((form : LineForm) × HasForm text form × HasRightNumbers form) ↔ ((line : Line) × Spells text line) }
+{}
+
+/// The text of a well-formed line, as `write_line` writes it, is the text of this line, so it is read
+/// as the same line again.
+pub fn written_is_read_again(line: &LogLine)
+    requires { IsWellFormed line.now }
+    ensures { IsTextOf (line_text line.now) line.now }
+{
+    match line {
+        LogLine::Formula(clause)
+        | LogLine::Learnt(clause)
+        | LogLine::Query(clause)
+        | LogLine::Refuted(clause) => {
+            let _ = clause.as_slice();
+        }
+        LogLine::Bound { .. } | LogLine::Model => {}
+    }
+}
+
+/// A text has one fault at most, and none where it is that of a line in which no variable stands
+/// twice.
+pub fn one_line_or_one_fault()
+    ensures fault { (text : List ℕ) (a b : What) → HasFault text a → HasFault text b → a ≡ b }
+    ensures line { (text : List ℕ) (line : Line) (what : What) → IsTextOf text line → HasFault text what → ⊥ }
+{}
