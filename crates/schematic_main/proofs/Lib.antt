@@ -1,5 +1,5 @@
 pub mod AnswerLemmas
 pub mod TextLemmas
-pub mod StraightSheetLemmas
-pub mod StraightTrackLemmas
+pub mod OneEdge
 pub mod SheetLemmas
+pub mod SheetParts

@@ -1,6 +1,5 @@
 pub mod Sheet
-pub mod StraightTrack
-pub mod StraightSheet
+pub mod OneEdge
 pub mod Fault
 pub mod Input
 pub mod Answer
