@@ -211,12 +211,7 @@ fn words_line(alloc: Global, what: WordWhat, position: u32) -> Result<Vec<u8>, O
 }
 
 /// The line of too many nodes or edges.
-fn count_line(
-    alloc: Global,
-    number: &[u8],
-    word: &[u8],
-    count: u32,
-) -> Result<Vec<u8>, OutOfMemory>
+fn count_line(alloc: Global, number: &[u8], word: &[u8], count: u32) -> Result<Vec<u8>, OutOfMemory>
     ensures { IfOk result (λ v. v.items ≡ graph_line number.now word.now (decimal count ∷ [])) }
 {
     let mut line = Vec::from_slice(alloc, b"graph")?;

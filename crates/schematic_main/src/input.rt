@@ -92,11 +92,13 @@ fn graph_from(alloc: Global, topology: &Topology) -> Result<PortGraph, Refusal>
         Err(GraphFault::TooManyEdges(count)) => {
             Err(Refusal::Fault(RunFault::TooManyEdges(count)))
         }
-        Err(GraphFault::NotForward {
-            edge: _,
-            track,
-            mileage,
-        }) => Err(Refusal::Fault(RunFault::NotForward { track, mileage })),
+        Err(
+            GraphFault::NotForward {
+                edge: _,
+                track,
+                mileage,
+            },
+        ) => Err(Refusal::Fault(RunFault::NotForward { track, mileage })),
         Err(GraphFault::SideMismatch { node: _, name }) => {
             Err(Refusal::Fault(RunFault::SideMismatch { name }))
         }

@@ -2,11 +2,12 @@
 //!
 //! `run` is the top call. It is generic over the files that it reads and the sink that it puts its
 //! answer to, so its contract can say what was put: `specs/Answer` has what a run owes, by command.
-//! `specs/Words` says which words are accepted, `specs/Fault` which line and which status each
-//! fault has, `specs/Input` what the bytes of a file are to a run (a topology, or the first fault),
-//! `specs/StraightTrack` which topologies are drawn and what their track graph is, and `specs/Sheet`
-//! what a drawing text is. `laws` says that a file isn't both drawn and refused, and has one fault.
-//! `main` makes the system's files and output, calls `run` and ends with its status.
+//! `specs/Fault` says which line and which status each fault has, `specs/Input` what the bytes of a
+//! file are to a run (a station, which is a track graph and the order of its edges, or the first
+//! fault), `specs/Reading` the same of a file under its name, and `specs/Sheet` what a drawing text is.
+//! `run` reads the words and puts the answer, `answers` has what each command answers, `reading` and
+//! `input` find the station, `one_edge` draws a graph with one edge, `sheet` writes the lines of a
+//! drawing text. `main` makes the system's files and output, calls `run` and ends with its status.
 //! The crate stands on all others, and nothing stands on it.
 #![tactic(auto)]
 
@@ -19,8 +20,6 @@ mod run;
 mod sheet;
 #[cfg(test)]
 mod tests;
-
-
 
 use outside_io::{HostFiles, HostOut};
 use run::run;

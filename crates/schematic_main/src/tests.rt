@@ -4,7 +4,8 @@ mod stations;
 use crate::run::run;
 use outside_io::{MemoryFiles, MemorySink, SureFiles, SureSink};
 use stations::{
-    BACK, BACK_GRAPH, CROSS, CROSS_GRAPH, LOOP, LOOP_GRAPH, MUTUAL, ONE, ONE_GRAPH, SCISSORS, SCISSORS_GRAPH, STATION, STATION_GRAPH, TWO, TWO_GRAPH,
+    BACK, BACK_GRAPH, CROSS, CROSS_GRAPH, LOOP, LOOP_GRAPH, MUTUAL, ONE, ONE_GRAPH, SCISSORS,
+    SCISSORS_GRAPH, STATION, STATION_GRAPH, TWO, TWO_GRAPH,
 };
 use std::alloc::{AllocError, Global};
 use std::test::Fail;
@@ -165,7 +166,14 @@ fn answers_by_words_and_file(rt: HostRuntime) -> Result<(), Fail> {
         ),
         (
             &[
-                "draw", "--height", "0", "--order", "width,bends", "one.xml", "--width", "5",
+                "draw",
+                "--height",
+                "0",
+                "--order",
+                "width,bends",
+                "one.xml",
+                "--width",
+                "5",
             ],
             ONE,
             0,
@@ -401,11 +409,16 @@ fn tells_of_an_edge_between_equal_mileages(rt: HostRuntime) -> Result<(), Fail> 
     let (middle, tail) = back
         .split_once("pos=\"60\" absPos=\"260\"")
         .ok_or("the end of track x stands in the file")?;
-    let file = format!(in alloc; "{front}pos=\"200\" absPos=\"200\"{middle}pos=\"0\" absPos=\"200\"{tail}")?;
+    let file = format!(in alloc;
+        "{front}pos=\"200\" absPos=\"200\"{middle}pos=\"0\" absPos=\"200\"{tail}"
+    )?;
     let mut files = SureFiles::new(alloc);
     files.add("one.xml", file.as_bytes())?;
     let mut out = SureSink::new(alloc);
     assert_eq!(rt; run(alloc, &words, &mut files, &mut out), 1);
-    assert_eq!(rt; out.bytes(), b"graph 3 NotForward x 200.000000\n".as_slice());
+    assert_eq!(rt;
+        out.bytes(),
+        b"graph 3 NotForward x 200.000000\n".as_slice()
+    );
     Ok(())
 }
