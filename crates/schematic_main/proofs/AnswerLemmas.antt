@@ -46,6 +46,7 @@ graph_whole limit bytes g large has = record {
   topology = has.topology;
   has_topology = topology_whole limit bytes has.topology large has.has_topology;
   graph = has.graph;
+  station = has.station;
 }
 
 pub station_whole : (limit : ℕ) (bytes : List ℕ) (g : Graph) (o : EdgeOrder) → file_limit < limit → HasStation (take limit bytes) g o → HasStation bytes g o

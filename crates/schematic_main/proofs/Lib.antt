@@ -3,3 +3,5 @@ pub mod TextLemmas
 pub mod OneEdge
 pub mod SheetLemmas
 pub mod SheetParts
+pub mod FormedRows
+pub mod InputLemmas

@@ -49,8 +49,9 @@ pub record IsRefused (bytes : List ℕ) (status : ℕ) (text : List ℕ) : Type 
 abbrev pub IsUnbuilt : Graph → Option (List ℕ) → Option (List ℕ) → Type 0
 IsUnbuilt g svg log = (length g.edges ≢ 1) ⊎ (svg ≢ None) ⊎ (log ≢ None)
 
--- the text is a best sheet of this station's graph
-pub record IsDrawn (g : Graph) (o : EdgeOrder) (grid : GridSize) (order : List Criterion) (status : ℕ) (text : List ℕ) : Type 0 where
+-- the drawing is built, and the text is a best sheet of this station's graph
+pub record IsDrawn (g : Graph) (o : EdgeOrder) (grid : GridSize) (order : List Criterion) (svg log : Option (List ℕ)) (status : ℕ) (text : List ℕ) : Type 0 where
+  pub built : IsUnbuilt g svg log → ⊥
   pub status_is : status ≡ 0
   pub sheet : IsBestSheet g (is_above o) grid order text
 
@@ -61,7 +62,7 @@ pub record IsTurnedDown (g : Graph) (svg log : Option (List ℕ)) (status : ℕ)
 
 -- what draw answers to a station
 abbrev pub IsDrawing : Graph → EdgeOrder → GridSize → List Criterion → Option (List ℕ) → Option (List ℕ) → ℕ → List ℕ → Type 0
-IsDrawing g o grid order svg log status text = IsDrawn g o grid order status text ⊎ IsTurnedDown g svg log status text
+IsDrawing g o grid order svg log status text = IsDrawn g o grid order svg log status text ⊎ IsTurnedDown g svg log status text
 
 -- ---- graph
 

@@ -9,6 +9,7 @@ use Rattle.plan_core.specs.Graph.{Graph}
 use Rattle.port_graph.specs.declared.fault.GraphFault.{GraphFault}
 use Rattle.port_graph.specs.declared.fault.GraphFault.TheVariants as graphs
 use Rattle.port_graph.specs.TopologyGraph.{IsGraphOf, IsGraphFault}
+use Rattle.port_graph.specs.StationGraph.{IsStationGraph}
 use Rattle.track_order.specs.Order.{EdgeOrder, IsOrderOf, IsFirstContradiction}
 use Rattle.railml_text.specs.declared.fault.TextWhat.{TextWhat}
 use Rattle.railml_read.specs.declared.rows.Elem.{Elem}
@@ -37,11 +38,12 @@ pub record HasTopology (bytes : List ℕ) (t : Tracks) : Type 0 where
   pub sound : HasNoFault rows
   pub resolved : IsTopologyOf rows t
 
--- the topology has no fault as a graph either, and this is its track graph
+-- the topology has no fault as a graph either: this is its track graph, and within the limits
 pub record HasGraph (bytes : List ℕ) (g : Graph) : Type 0 where
   pub topology : Tracks
   pub has_topology : HasTopology bytes topology
   pub graph : IsGraphOf topology g
+  pub station : IsStationGraph g
 
 -- nor do two edges lie above each other: this is the graph, and the order of its edges
 pub record HasStation (bytes : List ℕ) (g : Graph) (o : EdgeOrder) : Type 0 where

@@ -35,7 +35,8 @@ pub fn fault_reply(alloc: Global, fault: RunFault) -> Result<Reply, OutOfMemory>
 /// Whether the drawing of such a graph, with such files to write, isn't built yet.
 fn is_unbuilt(g: &PortGraph, svg: &Option<Text>, log: &Option<Text>) -> bool
     ensures unbuilt { IsTrue result → IsUnbuilt g.now svg.now log.now }
-    ensures built { IsFalse result → length g.now.edges ≡ 1 }
+    ensures built { IsFalse result → IsUnbuilt g.now svg.now log.now → ⊥ }
+    ensures one { IsFalse result → length g.now.edges ≡ 1 }
 {
     g.edges() != 1 || svg.is_some() || log.is_some()
 }

@@ -85,7 +85,11 @@ fn graph_from(alloc: Global, topology: &Topology) -> Result<PortGraph, Refusal>
     ensures refusal { (bytes : List ℕ) → HasTopology bytes topology.now → IfErr result (λ r. IsRefusal bytes r) }
 {
     match build(alloc, topology) {
-        Ok(graph) => Ok(graph),
+        Ok(graph) => {
+            let nodes = graph.nodes();
+            prove!(nodes <= 128);
+            Ok(graph)
+        }
         Err(GraphFault::TooManyNodes(count)) => {
             Err(Refusal::Fault(RunFault::TooManyNodes(count)))
         }

@@ -14,6 +14,7 @@
 mod answers;
 mod fault;
 mod input;
+mod laws;
 mod one_edge;
 mod reading;
 mod run;

@@ -100,13 +100,37 @@ fn words_from(alloc: Global, words: &[&str]) -> Result<Vec<String>, AllocError> 
 #[test]
 fn answers_by_words_and_file(rt: HostRuntime) -> Result<(), Fail> {
     let alloc = rt.alloc();
-    let cases: [(&[&str], &str, u8, &str); 32] = [
+    let cases: [(&[&str], &str, u8, &str); 36] = [
         (&["draw", "one.xml"], ONE, 0, ONE_SHEET),
         (&["draw", "one.xml"], REVERSED, 0, REVERSED_SHEET),
         (&["draw", "one.xml"], END_FIRST, 0, END_FIRST_SHEET),
         (&["draw", "one.xml"], LOOP, 1, NOT_BUILT),
         (&["draw", "one.xml"], TWO, 1, NOT_BUILT),
-        (&["draw", "one.xml"], RING, 1, NOT_BUILT),
+        (
+            &["draw", "one.xml"],
+            RING,
+            1,
+            "graph 3 NotForward m 0.000000\n",
+        ),
+        (
+            &["graph", "one.xml"],
+            RING,
+            1,
+            "graph 3 NotForward m 0.000000\n",
+        ),
+        (&["draw", "a", "b"], ONE, 2, "words 4 ExtraWord 3\n"),
+        (
+            &["draw", "a", "--width=4"],
+            ONE,
+            2,
+            "words 5 UnknownOption 3\n",
+        ),
+        (
+            &["draw", "one.xml", "--width", "4", "--width", "5"],
+            ONE,
+            2,
+            "words 6 RepeatedOption 5\n",
+        ),
         (&["draw", "one.xml"], BULGE, 1, NOT_BUILT),
         (
             &["draw", "one.xml"],
@@ -209,123 +233,176 @@ fn answers_by_words_and_file(rt: HostRuntime) -> Result<(), Fail> {
     Ok(())
 }
 
-/// Each edit of a file, by the text that it takes the place of, and the line that answers it; no line
-/// where the file is still drawn.
+/// An edit of a file, by the text that it takes the place of, and the line that answers it; no line where the
+/// file is still drawn.
+struct Edit {
+    file: &'static str,
+    old: &'static str,
+    new: &'static str,
+    line: &'static str,
+}
+
+static EDITS: [Edit; 21] = [
+    Edit {
+        file: ONE,
+        old: "absPos=\"600\"",
+        new: "absPos=\"999999999\"",
+        line: "",
+    },
+    Edit {
+        file: ONE,
+        old: "absPos=\"600\"",
+        new: "absPos=\" -6.5 \"",
+        line: "",
+    },
+    Edit {
+        file: ONE,
+        old: " absPos=\"600\"",
+        new: "",
+        line: "",
+    },
+    Edit {
+        file: ONE,
+        old: " absPos=\"0\"",
+        new: "",
+        line: "topology 3 Missing at 61 absPos\n",
+    },
+    Edit {
+        file: ONE,
+        old: "absPos=\"600\"",
+        new: "absPos=\"000\"",
+        line: "graph 3 NotForward m 0.000000\n",
+    },
+    Edit {
+        file: LOOP,
+        old: "course=\"right\"",
+        new: "course=\"left\"",
+        line: "order 1 Contradicts 1 3\n",
+    },
+    Edit {
+        file: ONE,
+        old: "absPos=\"600\"",
+        new: "absPos=\"6000000000\"",
+        line: "topology 6 Number at 132 me absPos\n",
+    },
+    Edit {
+        file: ONE,
+        old: "absPos=\"600\"",
+        new: "absPos=\"\"",
+        line: "topology 6 Number at 132 me absPos\n",
+    },
+    Edit {
+        file: ONE,
+        old: "pos=\"600\"",
+        new: "pos=\"0\"",
+        line: "",
+    },
+    Edit {
+        file: ONE,
+        old: "pos=\"0\"",
+        new: "pos=\"601\"",
+        line: "topology 13 OutsideTrack at 134 me\n",
+    },
+    Edit {
+        file: ONE,
+        old: "id=\"me\"",
+        new: "id=\"mb\"",
+        line: "topology 5 RepeatedId at 132 mb\n",
+    },
+    Edit {
+        file: ONE,
+        old: "id=\"mb\"",
+        new: "id=\"m\"",
+        line: "topology 5 RepeatedId at 61 m\n",
+    },
+    Edit {
+        file: ONE,
+        old: "id=\"m\"",
+        new: "id=\"\"",
+        line: "topology 4 Id at 31\n",
+    },
+    Edit {
+        file: ONE,
+        old: "id=\"mp\"",
+        new: "id=\"mo\"",
+        line: "",
+    },
+    Edit {
+        file: ONE,
+        old: "<openEnd id=\"mo\"/>",
+        new: "",
+        line: "topology 10 EndKind at 61 mb\n",
+    },
+    Edit {
+        file: ONE,
+        old: "<tracks>",
+        new: "<tracks a='1' a='2'>",
+        line: "text 7 RepeatedAttribute at 23\n",
+    },
+    Edit {
+        file: ONE,
+        old: "</tracks>",
+        new: "</track>",
+        line: "text 6 EndTag at 227\n",
+    },
+    Edit {
+        file: LOOP,
+        old: "orientation=\"outgoing\"",
+        new: "orientation=\"entering\"",
+        line: "topology 12 Orientation at 257 c1\n",
+    },
+    Edit {
+        file: LOOP,
+        old: "course=\"left\"",
+        new: "course=\"straight\"",
+        line: "topology 11 Course at 257 c1\n",
+    },
+    Edit {
+        file: LOOP,
+        old: "ref=\"d1\"",
+        new: "ref=\"d3\"",
+        line: "topology 7 UnknownRef at 257 c1\n",
+    },
+    Edit {
+        file: LOOP,
+        old: "ref=\"d1\"",
+        new: "ref=\"c1\"",
+        line: "topology 8 NotMutual at 561 d1 c1\n",
+    },
+];
+
+/// What `draw` answers to the file with one text in the place of another.
+fn answer_to_edit(alloc: Global, edit: &Edit) -> Result<(u8, Vec<u8>), Fail> {
+    let words = words_from(alloc, &["draw", "one.xml"])?;
+    let (front, back) = edit
+        .file
+        .split_once(edit.old)
+        .ok_or("the text stands in the file")?;
+    let mut file = Vec::from_slice(alloc, front.as_bytes())?;
+    file.extend_from_slice(edit.new.as_bytes())?;
+    file.extend_from_slice(back.as_bytes())?;
+    let mut files = MemoryFiles::new(alloc, &[])?;
+    files.add("one.xml", &file)?;
+    let mut out = SureSink::new(alloc);
+    let status = run(alloc, &words, &mut files, &mut out);
+    Ok((status, Vec::from_slice(alloc, out.bytes())?))
+}
+
 #[test]
 fn answers_edits_of_files(rt: HostRuntime) -> Result<(), Fail> {
     let alloc = rt.alloc();
-    let words = words_from(alloc, &["draw", "one.xml"])?;
-    let cases = [
-        (ONE, "absPos=\"600\"", "absPos=\"999999999\"", ""),
-        (ONE, "absPos=\"600\"", "absPos=\" -6.5 \"", ""),
-        (ONE, " absPos=\"600\"", "", ""),
-        (
-            ONE,
-            " absPos=\"0\"",
-            "",
-            "topology 3 Missing at 61 absPos\n",
-        ),
-        (
-            ONE,
-            "absPos=\"600\"",
-            "absPos=\"000\"",
-            "graph 3 NotForward m 0.000000\n",
-        ),
-        (
-            LOOP,
-            "course=\"right\"",
-            "course=\"left\"",
-            "order 1 Contradicts 1 3\n",
-        ),
-        (
-            LOOP,
-            "absPos=\"500\"><connection id=\"d2\"",
-            "absPos=\"500\"><connection id=\"d2\"",
-            NOT_BUILT,
-        ),
-        (
-            ONE,
-            "absPos=\"600\"",
-            "absPos=\"6000000000\"",
-            "topology 6 Number at 132 me absPos\n",
-        ),
-        (
-            ONE,
-            "absPos=\"600\"",
-            "absPos=\"\"",
-            "topology 6 Number at 132 me absPos\n",
-        ),
-        (ONE, "pos=\"600\"", "pos=\"0\"", ""),
-        (
-            ONE,
-            "pos=\"0\"",
-            "pos=\"601\"",
-            "topology 13 OutsideTrack at 134 me\n",
-        ),
-        (
-            ONE,
-            "id=\"me\"",
-            "id=\"mb\"",
-            "topology 5 RepeatedId at 132 mb\n",
-        ),
-        (
-            ONE,
-            "id=\"mb\"",
-            "id=\"m\"",
-            "topology 5 RepeatedId at 61 m\n",
-        ),
-        (ONE, "id=\"m\"", "id=\"\"", "topology 4 Id at 31\n"),
-        (ONE, "id=\"mp\"", "id=\"mo\"", ""),
-        (
-            ONE,
-            "<openEnd id=\"mo\"/>",
-            "",
-            "topology 10 EndKind at 61 mb\n",
-        ),
-        (
-            ONE,
-            "<tracks>",
-            "<tracks a='1' a='2'>",
-            "text 7 RepeatedAttribute at 23\n",
-        ),
-        (ONE, "</tracks>", "</track>", "text 6 EndTag at 227\n"),
-        (
-            LOOP,
-            "orientation=\"outgoing\"",
-            "orientation=\"entering\"",
-            "topology 12 Orientation at 257 c1\n",
-        ),
-        (
-            LOOP,
-            "course=\"left\"",
-            "course=\"straight\"",
-            "topology 11 Course at 257 c1\n",
-        ),
-        (
-            LOOP,
-            "ref=\"d1\"",
-            "ref=\"d3\"",
-            "topology 7 UnknownRef at 257 c1\n",
-        ),
-        (
-            LOOP,
-            "ref=\"d1\"",
-            "ref=\"c1\"",
-            "topology 8 NotMutual at 561 d1 c1\n",
-        ),
-    ];
-    for (file, old, new, line) in cases {
-        let (front, back) = file.split_once(old).ok_or("the text stands in the file")?;
-        let file = format!(in alloc; "{front}{new}{back}")?;
-        let mut files = MemoryFiles::new(alloc, &[])?;
-        files.add("one.xml", file.as_bytes())?;
-        let mut out = SureSink::new(alloc);
-        let status = run(alloc, &words, &mut files, &mut out);
-        if line.is_empty() {
-            assert_eq!(rt; status, 0, "{old} {new}");
-        } else {
-            assert_eq!(rt; status, 1, "{old} {new}");
-            assert_eq!(rt; out.bytes(), line.as_bytes(), "{old} {new}");
+    for edit in &EDITS {
+        let (status, text) = answer_to_edit(alloc, edit)?;
+        let due = if edit.line.is_empty() { 0 } else { 1 };
+        assert_eq!(rt; status, due, "{} {}", edit.old, edit.new);
+        if due == 1 {
+            assert_eq!(rt;
+                text.as_slice(),
+                edit.line.as_bytes(),
+                "{} {}",
+                edit.old,
+                edit.new
+            );
         }
     }
     Ok(())
