@@ -8,7 +8,8 @@
 //! `run` reads the words and puts the answer, `answers` has what each command answers, `reading` and
 //! `input` find the station, `one_edge` draws a graph with one edge, `sheet` writes the lines of a
 //! drawing text. `main` makes the system's files and output, calls `run` and ends with its status.
-//! The crate stands on all others, and nothing stands on it.
+//! `laws` says that a file that has a station has no fault, and that it has one fault at most.
+//! Nothing stands on this crate.
 #![tactic(auto)]
 
 mod answers;
