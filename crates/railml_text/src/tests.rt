@@ -49,7 +49,7 @@ fn told(alloc: Global, text: &str, at: usize, first: bool) -> Result<String, Fai
 
 /// A text, a place in it, whether the first item begins there, and what is told of it.
 static ROWS: [(&str, usize, bool, &str); 93] = [
-    // The rows `one` and `text-unfinished`.
+    // Tags of one track, and a tag that is cut short.
     (
         "<infrastructure id=\"i\"><tracks>",
         0,
