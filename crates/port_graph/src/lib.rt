@@ -44,3 +44,5 @@ use sites::{Meeting, Site};
 
 #[cfg(test)]
 mod examples;
+#[cfg(test)]
+mod tests;
