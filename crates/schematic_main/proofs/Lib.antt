@@ -1,5 +1,2 @@
 pub mod AnswerLemmas
-pub mod TextLemmas
 pub mod OneEdge
-pub mod SheetLemmas
-pub mod SheetParts

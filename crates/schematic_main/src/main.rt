@@ -4,10 +4,10 @@
 //! answer to, so its contract can say what was put: `specs/Answer` has what a run owes, by command.
 //! `specs/Fault` says which line and which status each fault has, `specs/Input` what the bytes of a
 //! file are to a run (a station, which is a track graph and the order of its edges, or the first
-//! fault), `specs/Reading` the same of a file under its name, and `specs/Sheet` what a drawing text is.
-//! `run` reads the words and puts the answer, `answers` has what each command answers, `reading` and
-//! `input` find the station, `one_edge` draws a graph with one edge, `sheet` writes the lines of a
-//! drawing text. `main` makes the system's files and output, calls `run` and ends with its status.
+//! fault), and `specs/Reading` the same of a file under its name. `run` reads the words and puts the
+//! answer, `answers` has what each command answers, `reading` and `input` find the station, `one_edge`
+//! draws a graph with one edge. `main` makes the system's files and output, calls `run` and ends with
+//! its status.
 //! The crate stands on all others, and nothing stands on it.
 #![tactic(auto)]
 
@@ -17,7 +17,6 @@ mod input;
 mod one_edge;
 mod reading;
 mod run;
-mod sheet;
 #[cfg(test)]
 mod tests;
 
