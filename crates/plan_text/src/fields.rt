@@ -8,7 +8,7 @@ use itoa::Buffer;
 use plan_core::OutOfMemory;
 
 /// Appends a text.
-pub(crate) fn push_text(into: &mut Vec<u8>, text: &[u8]) -> Result<(), OutOfMemory>
+pub fn push_text(into: &mut Vec<u8>, text: &[u8]) -> Result<(), OutOfMemory>
     ensures ok { OnOk result (into.new.items ≡ into.old.items ++ text.now) }
     ensures begins { Begins into.old.items into.new.items }
 {
@@ -17,7 +17,7 @@ pub(crate) fn push_text(into: &mut Vec<u8>, text: &[u8]) -> Result<(), OutOfMemo
 }
 
 /// Appends a space and a text.
-pub(crate) fn push_field(into: &mut Vec<u8>, text: &[u8]) -> Result<(), OutOfMemory>
+pub fn push_field(into: &mut Vec<u8>, text: &[u8]) -> Result<(), OutOfMemory>
     ensures ok { OnOk result (into.new.items ≡ into.old.items ++ (32 ∷ text.now)) }
     ensures begins { Begins into.old.items into.new.items }
 {
@@ -26,12 +26,21 @@ pub(crate) fn push_field(into: &mut Vec<u8>, text: &[u8]) -> Result<(), OutOfMem
 }
 
 /// Appends a space and a number.
-pub(crate) fn push_number(into: &mut Vec<u8>, n: u32) -> Result<(), OutOfMemory>
+pub fn push_number(into: &mut Vec<u8>, n: u32) -> Result<(), OutOfMemory>
     ensures ok { OnOk result (into.new.items ≡ into.old.items ++ (32 ∷ decimal n)) }
     ensures begins { Begins into.old.items into.new.items }
 {
     let mut digits = Buffer::new();
     push_field(into, digits.format(n).as_bytes())
+}
+
+/// Appends a space and a place in a file, in bytes from 0.
+pub fn push_place(into: &mut Vec<u8>, at: usize) -> Result<(), OutOfMemory>
+    ensures ok { OnOk result (into.new.items ≡ into.old.items ++ (32 ∷ decimal at)) }
+    ensures begins { Begins into.old.items into.new.items }
+{
+    let mut digits = Buffer::new();
+    push_field(into, digits.format(at).as_bytes())
 }
 
 /// Appends a line with a word and a count.

@@ -1,7 +1,7 @@
 -- A graph with one edge has two nodes, both ends; its level drawing is lawful, and no lawful drawing of
 -- the graph is better.
-use Rattle.std.proofs.Common.{◌≡◌, ℕ, zero, suc, ◌+◌, ◌<◌, ◌≤◌, ◌⊎◌, inl, inr, Bool, true, false, ◌&&◌, ◌||◌, ◌==◌, nat_lt, List, [], ◌∷◌, ◌++◌, map, length, refl, sym, ◌∙◌, ap, subst, arith, ℤ, ◌<ℤ◌}
-use Rattle.std.specs.Prelude.{◌≢◌, if◌then◌else◌, max, All, flat_map}
+use Rattle.std.proofs.Common.{◌≡◌, ℕ, zero, suc, ◌+◌, ◌<◌, ◌≤◌, ◌⊎◌, inl, inr, Bool, true, false, ◌&&◌, ◌||◌, ◌==◌, nat_lt, List, [], ◌∷◌, ◌++◌, map, length, take, Some, refl, sym, ◌∙◌, ap, subst, arith, ℤ, ◌<ℤ◌}
+use Rattle.std.specs.Prelude.{◌≢◌, if◌then◌else◌, max, All, flat_map, slice_get}
 use Rattle.std.specs.List.{list_all}
 use Rattle.std.specs.Ordering.{int_cmp}
 use Rattle.std.specs.Cmp.{int_cmp_is}
@@ -9,7 +9,8 @@ use Rattle.std.specs.declared.cmp.Ordering.{Ordering}
 use Rattle.std.specs.declared.cmp.Ordering.TheVariants.{Less, Equal, Greater}
 use Rattle.std.proofs.lemmas.Bool.{and_parts, ltb-true}
 use Rattle.std.proofs.lemmas.List.Elements.{All-head, All-nil, All-cons}
-use Rattle.std.proofs.lemmas.List.{map-append}
+use Rattle.std.proofs.lemmas.List.{map-append, take_more}
+use Rattle.std.proofs.lemmas.Option.{get_or_from_slice_get}
 use Rattle.plan_core.specs.declared.point.Point.{Point}
 use Rattle.plan_core.specs.declared.point.Slope.{Slope}
 use Rattle.plan_core.specs.declared.point.Slope.TheVariants.{Level}
@@ -20,13 +21,14 @@ use Rattle.plan_core.specs.declared.sides.Compass.TheVariants.{East, West}
 use Rattle.plan_core.specs.Grid.{GridSize}
 use Rattle.plan_core.specs.Graph.{Graph, Ports, End, Joint, Switch, Crossing, node, edge, mileage, IsEndOf, ArePortsOf, IsTrackGraph}
 use Rattle.plan_core.specs.Line.{Piece, pieces_from, is_piece, is_shape, slope, run, is_line}
-use Rattle.plan_core.specs.Drawing.{Drawing, place}
+use Rattle.plan_core.specs.Drawing.{Drawing, place, all_points}
 use Rattle.plan_core.specs.Laws.{InOrder, IsOnGrid, NodeIsOnGrid, LineIsOnGrid, NodesAreOrdered, LineJoinsItsNodes, PortsAreAligned, slope_at, NodeIsAligned, NodesAreApart}
 use Rattle.plan_core.specs.Lawful.{Instance, NodeOnGrid, LineOnGrid, Ordered, Joined, Aligned, Apart, Over, Parted, IsInstance, IsPair, Meets, Fits}
 use Rattle.plan_core.specs.Values.{maximum, values_of, value_of, Better, IsBest}
 use Rattle.track_order.specs.Above.{Above}
 use Rattle.track_order.specs.Order.{EdgeOrder, is_above, IsOrderOf}
-use Rattle.schematic_main.specs.OneEdge.{at_column, level_drawing}
+use Rattle.plan_text.specs.SheetText.{Sheet, DrawsAll, DrawsOnGrid, StatesSettled}
+use Rattle.schematic_main.specs.OneEdge.{at_column, level_drawing, level_sheet}
 
 -- Numbers
 
@@ -296,3 +298,32 @@ not_above_itself g o order one h =
     let there : 0 < length g.edges = omega (arith, one) in
     let above : Above g 0 0 = (order.above 0 0 there there).0 h in
     above.parts.second.alone above.parts.first.reached
+
+-- ---- the sheet of the level drawing
+
+on_level : (grid : GridSize) (b : Bool) → 1 ≤ grid.width → All (IsOnGrid grid) (all_points (level_drawing b))
+on_level grid true wide =
+    All-cons (IsOnGrid grid) (at_column 0) (at_column 1 ∷ at_column 0 ∷ at_column 1 ∷ []) (on_row grid 0 (omega arith))
+    (All-cons (IsOnGrid grid) (at_column 1) (at_column 0 ∷ at_column 1 ∷ []) (on_row grid 1 wide) (line_on_row grid wide))
+on_level grid false wide =
+    All-cons (IsOnGrid grid) (at_column 1) (at_column 0 ∷ at_column 0 ∷ at_column 1 ∷ []) (on_row grid 1 wide)
+    (All-cons (IsOnGrid grid) (at_column 0) (at_column 0 ∷ at_column 1 ∷ []) (on_row grid 0 (omega arith)) (line_on_row grid wide))
+
+pub level_draws_all : (g : Graph) (grid : GridSize) (order : List Criterion) (b : Bool) (s : Sheet) → IsTrackGraph g → length g.edges ≡ 1 → s ≡ level_sheet grid order b → DrawsAll g s
+level_draws_all g grid order b s t one drawn =
+    subst (λ (r : Sheet). DrawsAll g r) (sym drawn) (record { places = sym (two_nodes g t one); lines = sym one })
+
+pub level_draws_on_grid : (grid : GridSize) (order : List Criterion) (b : Bool) (s : Sheet) → 1 ≤ grid.width → s ≡ level_sheet grid order b → DrawsOnGrid s
+level_draws_on_grid grid order b s wide drawn = subst (λ (r : Sheet). DrawsOnGrid r) (sym drawn) (on_level grid b wide)
+
+pub level_settles : (grid : GridSize) (order : List Criterion) (b : Bool) (s : Sheet) → s ≡ level_sheet grid order b → StatesSettled s s.ending
+level_settles grid order b s drawn = subst (λ (r : Sheet). StatesSettled r r.ending) (sym drawn) tt
+
+-- ---- an order, criterion by criterion
+
+pub taken_more : (order : List Criterion) (i : ℕ) (c : Criterion) (before after : List Criterion) → i < length order → slice_get order i ≡ Some c → before ≡ take i order → after ≡ before ++ c ∷ [] → after ≡ take (i + 1) order
+taken_more order i c before after within is_c so_far more =
+    more
+    ∙ ap (λ (list : List Criterion). list ++ c ∷ []) so_far
+    ∙ ap (λ (d : Criterion). take i order ++ d ∷ []) (sym (get_or_from_slice_get order i c c is_c))
+    ∙ sym (take_more order i c within)

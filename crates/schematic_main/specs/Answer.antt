@@ -16,12 +16,13 @@ use Rattle.plan_words.specs.WordFaults.{IsFaultOfWords}
 use Rattle.plan_words.specs.Words.{IsCommandOf}
 use Rattle.plan_words.specs.declared.fault.WordWhat.{WordWhat}
 use Rattle.track_order.specs.Order.{EdgeOrder, is_above}
+use Rattle.plan_text.specs.declared.ending.Ending.TheVariants.{Best}
 use Rattle.plan_text.specs.GraphText.{graph_text}
+use Rattle.plan_text.specs.SheetText.{sheet_text}
 use Rattle.schematic_main.specs.declared.fault.RunFault.{RunFault}
 use Rattle.schematic_main.specs.declared.fault.RunFault.TheVariants.{NotBuilt, Words, ReadFailed}
 use Rattle.schematic_main.specs.Fault.{fault_line, fault_status}
 use Rattle.schematic_main.specs.Input.{HasStation, HasFault}
-use Rattle.schematic_main.specs.Sheet.{Best, sheet_text}
 
 -- the text is the sheet of a drawing of this track graph that is lawful, with the drawing's own values,
 -- and no lawful drawing of the graph on this grid is better in this order

@@ -11,7 +11,7 @@ use Rattle.schematic_main.specs.declared.fault.RunFault.{RunFault}
 use Rattle.plan_words.specs.FaultLine as word_faults
 use Rattle.rail_mileage.specs.MetresText.{metres_text}
 use Rattle.schematic_main.specs.declared.fault.RunFault.TheVariants.{NotBuilt, Words, Long, Text, Topology, TooManyNodes, TooManyEdges, NotForward, SideMismatch, Contradicts, ReadFailed}
-use Rattle.schematic_main.specs.Sheet.{line_text}
+use Rattle.plan_text.specs.Fields.{line_text}
 
 abbrev pub text_word : TextWhat → List ℕ
 text_word texts.NotUtf8 = codes "NotUtf8"

@@ -1,4 +1,3 @@
-pub mod Sheet
 pub mod OneEdge
 pub mod Fault
 pub mod Input

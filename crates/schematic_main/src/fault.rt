@@ -3,13 +3,13 @@ ghost use Rattle.std.specs.Prelude.{◌≡◌, ◌++◌, [], ◌∷◌, codes, I
 ghost use Rattle.std.specs.Fmt.{decimal};
 ghost use Rattle.railml_text.specs.Faults as text_faults;
 ghost use Rattle.railml_topology.specs.Faults as topology_faults;
-ghost use Rattle.schematic_main.specs.Sheet.{line_text, spaced};
+ghost use Rattle.plan_text.specs.Fields.{line_text, spaced};
 ghost use Rattle.plan_words.specs.FaultLine as word_faults;
 ghost use Rattle.rail_mileage.specs.MetresText.{metres_text};
 ghost use Rattle.schematic_main.specs.Fault.{fault_line, graph_line, fault_status, found_fields, text_word as word_of_text, topology_word as word_of_topology, texts_told};
 
-use crate::sheet::{push_field, push_number, push_place, push_text};
 use plan_core::{EdgeNo, Micro, OutOfMemory, Text};
+use plan_text::{push_field, push_number, push_place, push_text};
 use plan_words::{WordWhat, push_word_fault};
 use rail_mileage::write_metres;
 use railml_text::TextWhat;

@@ -4,12 +4,11 @@
 //! answer to, so its contract can say what was put: `specs/Answer` has what a run owes, by command.
 //! `specs/Fault` says which line and which status each fault has, `specs/Input` what the bytes of a
 //! file are to a run (a station, which is a track graph and the order of its edges, or the first
-//! fault), `specs/Reading` the same of a file under its name, and `specs/Sheet` what a drawing text is.
-//! `run` reads the words and puts the answer, `answers` has what each command answers, `reading` and
-//! `input` find the station, `one_edge` draws a graph with one edge, `sheet` writes the lines of a
-//! drawing text. `main` makes the system's files and output, calls `run` and ends with its status.
-//! `laws` says that a file that has a station has no fault, and that it has one fault at most.
-//! Nothing stands on this crate.
+//! fault), and `specs/Reading` the same of a file under its name. `run` reads the words and puts the
+//! answer, `answers` has what each command answers, `reading` and `input` find the station, `one_edge`
+//! draws a graph with one edge. `main` makes the system's files and output, calls `run` and ends with
+//! its status. `laws` says that a file that has a station has no fault, and that it has one fault at
+//! most. Nothing stands on this crate.
 #![tactic(auto)]
 
 mod answers;
@@ -19,7 +18,6 @@ mod laws;
 mod one_edge;
 mod reading;
 mod run;
-mod sheet;
 #[cfg(test)]
 mod tests;
 

@@ -1,17 +1,13 @@
 // The best drawing of a graph with one edge.
-ghost use Rattle.std.specs.Prelude.{◌≡◌, ◌<◌, ◌==◌, ◌++◌, length, IfOk, OnOk};
-ghost use Rattle.plan_core.specs.Graph.{node, edge};
+ghost use Rattle.std.specs.Prelude.{◌≡◌, ◌==◌, length, IfOk};
+ghost use Rattle.plan_core.specs.Graph.{edge};
 ghost use Rattle.track_order.specs.Order.{is_above, IsOrderOf};
 ghost use Rattle.schematic_main.specs.Answer.{IsBestSheet};
-ghost use Rattle.schematic_main.specs.OneEdge.{level_drawing, head_text, nodes_text, track_text};
-ghost use Rattle.schematic_main.specs.Sheet.{node_line, edge_line};
+ghost use Rattle.schematic_main.specs.OneEdge.{level_drawing, level_sheet};
 
-use crate::sheet::{
-    push_count_line, push_edge_line, push_grid_line, push_node_line, push_order_line, push_text,
-    push_values_line,
-};
-use plan_core::{EdgeNo, Grid, NodeNo, Order, OutOfMemory, Point};
-use plan_geometry::{Drawing, Line, values};
+use plan_core::{EdgeNo, Grid, Order, OutOfMemory, Point};
+use plan_geometry::{Drawing, Line};
+use plan_text::{Ending, Sheet, write_sheet};
 use port_graph::PortGraph;
 use std::alloc::Global;
 use track_order::TrackOrder;
@@ -41,73 +37,37 @@ fn draw_level(alloc: Global, is_west_first: bool) -> Result<Drawing, OutOfMemory
     Drawing::new(alloc, &places, &[line])
 }
 
-/// The first three lines of a drawing text.
-fn head(alloc: Global, grid: &Grid, order: &Order) -> Result<Vec<u8>, OutOfMemory>
-    ensures { IfOk result (λ v. v.items ≡ head_text grid.now order.now) }
+/// The same order once more.
+fn copy_of(alloc: Global, order: &Order) -> Result<Order, OutOfMemory>
+    ensures { IfOk result (λ o. o ≡ order.now) }
 {
-    let mut text = Vec::from_slice(alloc, b"railplan 1\n")?;
-    push_grid_line(&mut text, grid)?;
-    push_order_line(&mut text, order)?;
-    Ok(text)
+    let mut list = Vec::with_capacity(alloc, order.len())?;
+    for i in 0..order.len() {
+        list.push(order.get(i))?;
+    }
+    match Order::new(&list) {
+        Some(copy) => Ok(copy),
+        None => unreachable!(),
+    }
 }
 
-/// The bytes of a node's name.
-fn name_of(g: &PortGraph, n: NodeNo) -> &[u8]
-    requires { n.0 < length g.now.nodes }
-    ensures { result.now ≡ (node g.now n.0).name }
+/// The sheet of the level drawing.
+fn level_sheet(
+    alloc: Global,
+    is_west_first: bool,
+    grid: &Grid,
+    order: &Order,
+) -> Result<Sheet, OutOfMemory>
+    ensures { IfOk result (λ s. s ≡ level_sheet grid.now order.now is_west_first) }
 {
-    g.name(n).bytes()
-}
-
-/// Appends the line of a node.
-fn push_node(
-    into: &mut Vec<u8>,
-    g: &PortGraph,
-    drawing: &Drawing,
-    n: NodeNo,
-) -> Result<(), OutOfMemory>
-    requires there { n.0 < length g.now.nodes }
-    requires placed { n.0 < length drawing.now.places }
-    ensures { OnOk result (into.new.items ≡ into.old.items ++ node_line g.now drawing.now n.0) }
-{
-    push_node_line(into, n.0, name_of(g, n), drawing.place(n))?;
-    Ok(())
-}
-
-/// Appends the lines of the two nodes.
-fn push_nodes(into: &mut Vec<u8>, g: &PortGraph, drawing: &Drawing) -> Result<(), OutOfMemory>
-    requires two { length g.now.nodes ≡ 2 }
-    requires places { length drawing.now.places ≡ 2 }
-    ensures { OnOk result (into.new.items ≡ into.old.items ++ nodes_text g.now drawing.now) }
-{
-    push_count_line(into, b"nodes", 2)?;
-    push_node(into, g, drawing, NodeNo(0))?;
-    push_node(into, g, drawing, NodeNo(1))?;
-    Ok(())
-}
-
-/// Appends the line of the edge.
-fn push_edge(into: &mut Vec<u8>, g: &PortGraph, drawing: &Drawing) -> Result<(), OutOfMemory>
-    requires one { length g.now.edges ≡ 1 }
-    requires lines { length drawing.now.lines ≡ 1 }
-    ensures { OnOk result (into.new.items ≡ into.old.items ++ edge_line g.now drawing.now 0) }
-{
-    let west = g.west(EdgeNo(0));
-    let east = g.east(EdgeNo(0));
-    push_edge_line(into, 0, west.0, east.0, drawing.line(EdgeNo(0)))?;
-    Ok(())
-}
-
-/// Appends the line of the edge and the values.
-fn push_track(into: &mut Vec<u8>, g: &PortGraph, drawing: &Drawing) -> Result<(), OutOfMemory>
-    requires one { length g.now.edges ≡ 1 }
-    requires lines { length drawing.now.lines ≡ 1 }
-    ensures { OnOk result (into.new.items ≡ into.old.items ++ track_text g.now drawing.now) }
-{
-    push_count_line(into, b"edges", 1)?;
-    push_edge(into, g, drawing)?;
-    push_values_line(into, &values(drawing))?;
-    Ok(())
+    let order = copy_of(alloc, order)?;
+    let drawing = draw_level(alloc, is_west_first)?;
+    Ok(Sheet {
+        grid: *grid,
+        order,
+        found: Some(drawing),
+        ending: Ending::Best,
+    })
 }
 
 /// The text of the best drawing of a graph with one edge, on this grid and in this order.
@@ -127,10 +87,8 @@ pub fn best_sheet(
     let width = grid.width();
     prove!(width >= 1);
     let is_west_first = is_west_first(g);
-    let drawing = draw_level(alloc, is_west_first)?;
-    let mut text = head(alloc, grid, order)?;
-    push_nodes(&mut text, g, &drawing)?;
-    push_track(&mut text, g, &drawing)?;
-    push_text(&mut text, b"end best\n")?;
+    let sheet = level_sheet(alloc, is_west_first, grid, order)?;
+    let mut text = Vec::new(alloc);
+    write_sheet(alloc, g, &sheet, &mut text)?;
     Ok(text)
 }

@@ -1,5 +1,5 @@
 -- The drawing text, or sheet: what is drawn, line by line.
-use Rattle.std.specs.Prelude.{ℕ, List, [], ◌∷◌, ◌++◌, None, Some, codes, map, length, flat_map}
+use Rattle.std.specs.Prelude.{◌≡◌, ℕ, ◌<◌, ⊤, List, [], ◌∷◌, ◌++◌, None, Some, codes, map, length, flat_map, All, IfSome}
 use Rattle.std.specs.List.{range_with_len}
 use Rattle.std.specs.Fmt.{decimal}
 use Rattle.std.specs.declared.option.Option.{Option}
@@ -9,16 +9,12 @@ use Rattle.plan_core.specs.declared.criterion.Criterion.{Criterion}
 use Rattle.plan_core.specs.declared.criterion.Criterion.TheVariants.{Height, Bends, Diagonal, Width}
 use Rattle.plan_core.specs.Grid.{GridSize}
 use Rattle.plan_core.specs.Graph.{Graph, node, edge}
-use Rattle.plan_core.specs.Drawing.{Drawing, place, line}
+use Rattle.plan_core.specs.Drawing.{Drawing, place, line, all_points}
+use Rattle.plan_core.specs.Laws.{IsOnGrid}
 use Rattle.plan_core.specs.Values.{values_of}
-
--- how a drawing text ends: the drawing is best, there is none, or the search was cut short because its
--- budget of conflicts was spent or its room was full; so many criteria were settled by then
-pub data Ending : Type 0 where
-  Best : Ending
-  NoDrawing : Ending
-  Conflicts : (settled : ℕ) → Ending
-  Room : (settled : ℕ) → Ending
+use Rattle.plan_text.specs.declared.ending.Ending.{Ending}
+use Rattle.plan_text.specs.declared.ending.Ending.TheVariants.{Best, NoDrawing, Conflicts, Room}
+use Rattle.plan_text.specs.Fields.{line_text}
 
 pub record Sheet : Type 0 where
   pub grid : GridSize
@@ -26,13 +22,38 @@ pub record Sheet : Type 0 where
   pub found : Option Drawing
   pub ending : Ending
 
--- each field after one space
-abbrev pub spaced : List (List ℕ) → List ℕ
-spaced fields = flat_map (λ field. 32 ∷ field) fields
+-- ---- what a sheet says of its drawing
 
--- a line: its first field, the others each after one space, and a line feed
-abbrev pub line_text : List ℕ → List (List ℕ) → List ℕ
-line_text first others = first ++ spaced others ++ codes "\n"
+-- a best drawing is there, and where there is none there is none
+abbrev pub Agrees : Option Drawing → Ending → Type 0
+Agrees None Best = ⊥
+Agrees (Some d) NoDrawing = ⊥
+Agrees found ending = ⊤
+
+-- so many criteria may be said to be settled: fewer than there are, and none without a drawing
+pub record MayBeSettled (s : Sheet) (settled : ℕ) : Type 0 where
+  pub some_left : settled < length s.order
+  pub drawn : s.found ≡ None → settled ≡ 0
+
+abbrev pub StatesSettled : Sheet → Ending → Type 0
+StatesSettled s Best = ⊤
+StatesSettled s NoDrawing = ⊤
+StatesSettled s (Conflicts settled) = MayBeSettled s settled
+StatesSettled s (Room settled) = MayBeSettled s settled
+
+-- a drawing with a point for each node of the graph and a line for each edge
+pub record HasSizeOf (g : Graph) (d : Drawing) : Type 0 where
+  pub places : length d.places ≡ length g.nodes
+  pub lines : length d.lines ≡ length g.edges
+
+abbrev pub DrawsAll : Graph → Sheet → Type 0
+DrawsAll g s = IfSome s.found (HasSizeOf g)
+
+-- every point of the drawing lies on the sheet's grid
+abbrev pub DrawsOnGrid : Sheet → Type 0
+DrawsOnGrid s = IfSome s.found (λ d. All (IsOnGrid s.grid) (all_points d))
+
+-- ---- the text
 
 abbrev pub criterion_word : Criterion → List ℕ
 criterion_word Height = codes "height"
@@ -66,14 +87,16 @@ ending_line NoDrawing = codes "end none\n"
 ending_line (Conflicts settled) = line_text (codes "end") (codes "conflicts" ∷ decimal settled ∷ [])
 ending_line (Room settled) = line_text (codes "end") (codes "room" ∷ decimal settled ∷ [])
 
+-- how many nodes there are, and each with its point; how many edges, and each with its line
+abbrev pub places_text : Graph → Drawing → List ℕ
+places_text g d = line_text (codes "nodes") (decimal (length g.nodes) ∷ []) ++ flat_map (node_line g d) (range_with_len 0 (length g.nodes))
+
+abbrev pub lines_text : Graph → Drawing → List ℕ
+lines_text g d = line_text (codes "edges") (decimal (length g.edges) ∷ []) ++ flat_map (edge_line g d) (range_with_len 0 (length g.edges))
+
 -- the nodes and the edges by number, and the drawing's own values
 abbrev pub drawing_text : Graph → Drawing → List ℕ
-drawing_text g d =
-    line_text (codes "nodes") (decimal (length g.nodes) ∷ [])
-    ++ flat_map (node_line g d) (range_with_len 0 (length g.nodes))
-    ++ line_text (codes "edges") (decimal (length g.edges) ∷ [])
-    ++ flat_map (edge_line g d) (range_with_len 0 (length g.edges))
-    ++ values_line (values_of d)
+drawing_text g d = places_text g d ++ (lines_text g d ++ values_line (values_of d))
 
 abbrev pub found_text : Graph → Option Drawing → List ℕ
 found_text g None = []
@@ -81,4 +104,4 @@ found_text g (Some d) = drawing_text g d
 
 abbrev pub sheet_text : Graph → Sheet → List ℕ
 sheet_text g s =
-    codes "railplan 1\n" ++ grid_line s.grid ++ order_line s.order ++ found_text g s.found ++ ending_line s.ending
+    codes "railplan 1\n" ++ (grid_line s.grid ++ (order_line s.order ++ (found_text g s.found ++ ending_line s.ending)))

@@ -1,0 +1,234 @@
+// The sheet, written.
+ghost use Rattle.std.specs.Prelude.{◌≡◌, ◌<◌, ◌++◌, [], ◌∷◌, codes, length, flat_map, map, OnOk};
+ghost use Rattle.std.specs.List.{range_with_len};
+ghost use Rattle.std.specs.Fmt.{decimal};
+ghost use Rattle.outside_io.specs.Contents.{Begins};
+ghost use Rattle.plan_core.specs.Drawing.{place, line};
+ghost use Rattle.plan_core.specs.Graph.{node, edge};
+ghost use Rattle.plan_text.specs.Fields.{spaced, line_text};
+ghost use Rattle.plan_text.specs.SheetText.{HasSizeOf, DrawsAll, DrawsOnGrid, StatesSettled, criterion_word, grid_line, order_line, coordinates, node_line, edge_line, values_line, ending_line, places_text, lines_text, drawing_text, found_text, sheet_text};
+
+use crate::fields::{push_count_line, push_field, push_number, push_text};
+use crate::{Ending, Sheet};
+use plan_core::{Criterion, EdgeNo, Grid, NodeNo, Order, OutOfMemory, Point, Values};
+use plan_geometry::{Drawing, values};
+use port_graph::PortGraph;
+use std::alloc::Global;
+
+/// Appends two numbers, each after a space.
+fn push_pair(a: u32, b: u32, into: &mut Vec<u8>) -> Result<(), OutOfMemory>
+    ensures ok { OnOk result (into.new.items ≡ into.old.items ++ spaced (decimal a ∷ decimal b ∷ [])) }
+    ensures begins { Begins into.old.items into.new.items }
+{
+    push_number(into, a)?;
+    push_number(into, b)
+}
+
+fn push_grid_line(grid: &Grid, into: &mut Vec<u8>) -> Result<(), OutOfMemory>
+    ensures ok { OnOk result (into.new.items ≡ into.old.items ++ grid_line grid.now) }
+    ensures begins { Begins into.old.items into.new.items }
+{
+    push_text(into, b"grid")?;
+    push_pair(u32::from(grid.width()), u32::from(grid.height()), into)?;
+    push_text(into, b"\n")
+}
+
+fn criterion_word(c: Criterion) -> &'static [u8]
+    ensures { result.now ≡ criterion_word c }
+{
+    match c {
+        Criterion::Height => b"height",
+        Criterion::Bends => b"bends",
+        Criterion::Diagonal => b"diagonal",
+        Criterion::Width => b"width",
+    }
+}
+
+fn push_criteria(order: &Order, into: &mut Vec<u8>) -> Result<(), OutOfMemory>
+    ensures ok { OnOk result (into.new.items ≡ into.old.items ++ spaced (map criterion_word order.now)) }
+    ensures begins { Begins into.old.items into.new.items }
+{
+    for i in 0..order.len() {
+        push_field(into, criterion_word(order.get(i)))?;
+    }
+    Ok(())
+}
+
+fn push_order_line(order: &Order, into: &mut Vec<u8>) -> Result<(), OutOfMemory>
+    ensures ok { OnOk result (into.new.items ≡ into.old.items ++ order_line order.now) }
+    ensures begins { Begins into.old.items into.new.items }
+{
+    push_text(into, b"order")?;
+    push_criteria(order, into)?;
+    push_text(into, b"\n")
+}
+
+/// Appends the coordinates of a point, each after a space.
+fn push_point(p: Point, into: &mut Vec<u8>) -> Result<(), OutOfMemory>
+    ensures ok { OnOk result (into.new.items ≡ into.old.items ++ spaced (coordinates p)) }
+    ensures begins { Begins into.old.items into.new.items }
+{
+    push_pair(u32::from(p.x), u32::from(p.y), into)
+}
+
+fn push_points(points: &[Point], into: &mut Vec<u8>) -> Result<(), OutOfMemory>
+    ensures ok { OnOk result (into.new.items ≡ into.old.items ++ spaced (flat_map coordinates points.now)) }
+    ensures begins { Begins into.old.items into.new.items }
+{
+    for p in points {
+        push_point(*p, into)?;
+    }
+    Ok(())
+}
+
+fn push_node_line(g: &PortGraph, d: &Drawing, n: u16, into: &mut Vec<u8>) -> Result<(), OutOfMemory>
+    requires there { n < length g.now.nodes }
+    requires placed { n < length d.now.places }
+    ensures ok { OnOk result (into.new.items ≡ into.old.items ++ node_line g.now d.now n) }
+    ensures begins { Begins into.old.items into.new.items }
+{
+    push_text(into, b"node")?;
+    push_number(into, u32::from(n))?;
+    push_field(into, g.name(NodeNo(n)).bytes())?;
+    push_point(d.place(NodeNo(n)), into)?;
+    push_text(into, b"\n")
+}
+
+/// Appends the number of an edge and its nodes.
+fn push_edge_head(g: &PortGraph, e: u16, into: &mut Vec<u8>) -> Result<(), OutOfMemory>
+    requires { e < length g.now.edges }
+    ensures ok { OnOk result (into.new.items ≡ into.old.items ++ (codes "edge" ++ spaced (decimal e ∷ decimal (edge g.now e).west ∷ decimal (edge g.now e).east ∷ []))) }
+    ensures begins { Begins into.old.items into.new.items }
+{
+    push_text(into, b"edge")?;
+    push_number(into, u32::from(e))?;
+    let west = g.west(EdgeNo(e)).0;
+    let east = g.east(EdgeNo(e)).0;
+    push_pair(u32::from(west), u32::from(east), into)
+}
+
+fn push_edge_line(g: &PortGraph, d: &Drawing, e: u16, into: &mut Vec<u8>) -> Result<(), OutOfMemory>
+    requires there { e < length g.now.edges }
+    requires drawn { e < length d.now.lines }
+    ensures ok { OnOk result (into.new.items ≡ into.old.items ++ edge_line g.now d.now e) }
+    ensures begins { Begins into.old.items into.new.items }
+{
+    push_edge_head(g, e, into)?;
+    push_points(d.line(EdgeNo(e)).points(), into)?;
+    push_text(into, b"\n")
+}
+
+fn push_values_line(v: Values, into: &mut Vec<u8>) -> Result<(), OutOfMemory>
+    ensures ok { OnOk result (into.new.items ≡ into.old.items ++ values_line v) }
+    ensures begins { Begins into.old.items into.new.items }
+{
+    push_text(into, b"values")?;
+    push_pair(v.height, v.bends, into)?;
+    push_pair(v.diagonal, v.width, into)?;
+    push_text(into, b"\n")
+}
+
+fn push_node_lines(g: &PortGraph, d: &Drawing, into: &mut Vec<u8>) -> Result<(), OutOfMemory>
+    requires { HasSizeOf g.now d.now }
+    ensures ok { OnOk result (into.new.items ≡ into.old.items ++ flat_map (node_line g.now d.now) (range_with_len 0 (length g.now.nodes))) }
+    ensures begins { Begins into.old.items into.new.items }
+{
+    for n in 0..g.nodes() {
+        push_node_line(g, d, n, into)?;
+    }
+    Ok(())
+}
+
+fn push_places(g: &PortGraph, d: &Drawing, into: &mut Vec<u8>) -> Result<(), OutOfMemory>
+    requires { HasSizeOf g.now d.now }
+    ensures ok { OnOk result (into.new.items ≡ into.old.items ++ places_text g.now d.now) }
+    ensures begins { Begins into.old.items into.new.items }
+{
+    push_count_line(into, b"nodes", u32::from(g.nodes()))?;
+    push_node_lines(g, d, into)
+}
+
+fn push_edge_lines(g: &PortGraph, d: &Drawing, into: &mut Vec<u8>) -> Result<(), OutOfMemory>
+    requires { HasSizeOf g.now d.now }
+    ensures ok { OnOk result (into.new.items ≡ into.old.items ++ flat_map (edge_line g.now d.now) (range_with_len 0 (length g.now.edges))) }
+    ensures begins { Begins into.old.items into.new.items }
+{
+    for e in 0..g.edges() {
+        push_edge_line(g, d, e, into)?;
+    }
+    Ok(())
+}
+
+fn push_lines(g: &PortGraph, d: &Drawing, into: &mut Vec<u8>) -> Result<(), OutOfMemory>
+    requires { HasSizeOf g.now d.now }
+    ensures ok { OnOk result (into.new.items ≡ into.old.items ++ lines_text g.now d.now) }
+    ensures begins { Begins into.old.items into.new.items }
+{
+    push_count_line(into, b"edges", u32::from(g.edges()))?;
+    push_edge_lines(g, d, into)
+}
+
+fn push_drawing(g: &PortGraph, d: &Drawing, into: &mut Vec<u8>) -> Result<(), OutOfMemory>
+    requires { HasSizeOf g.now d.now }
+    ensures ok { OnOk result (into.new.items ≡ into.old.items ++ drawing_text g.now d.now) }
+    ensures begins { Begins into.old.items into.new.items }
+{
+    push_places(g, d, into)?;
+    push_lines(g, d, into)?;
+    push_values_line(values(d), into)
+}
+
+/// Appends the drawing, where there is one.
+fn push_found(g: &PortGraph, s: &Sheet, into: &mut Vec<u8>) -> Result<(), OutOfMemory>
+    requires { DrawsAll g.now s.now }
+    ensures ok { OnOk result (into.new.items ≡ into.old.items ++ found_text g.now s.now.found) }
+    ensures begins { Begins into.old.items into.new.items }
+{
+    match &s.found {
+        Some(d) => push_drawing(g, d, into),
+        None => Ok(()),
+    }
+}
+
+fn push_settled(word: &[u8], settled: u8, into: &mut Vec<u8>) -> Result<(), OutOfMemory>
+    ensures ok { OnOk result (into.new.items ≡ into.old.items ++ line_text (codes "end") (word.now ∷ decimal settled ∷ [])) }
+    ensures begins { Begins into.old.items into.new.items }
+{
+    push_text(into, b"end")?;
+    push_field(into, word)?;
+    push_number(into, u32::from(settled))?;
+    push_text(into, b"\n")
+}
+
+fn push_ending(ending: Ending, into: &mut Vec<u8>) -> Result<(), OutOfMemory>
+    ensures ok { OnOk result (into.new.items ≡ into.old.items ++ ending_line ending) }
+    ensures begins { Begins into.old.items into.new.items }
+{
+    match ending {
+        Ending::Best => push_text(into, b"end best\n"),
+        Ending::NoDrawing => push_text(into, b"end none\n"),
+        Ending::Conflicts(settled) => push_settled(b"conflicts", settled, into),
+        Ending::Room(settled) => push_settled(b"room", settled, into),
+    }
+}
+
+/// Appends the text of a sheet: its grid and order, the points of all nodes and the lines of all edges,
+/// both by number, what the drawing measures, and how the search ended.
+pub fn write_sheet(
+    alloc: Global,
+    g: &PortGraph,
+    s: &Sheet,
+    into: &mut Vec<u8>,
+) -> Result<(), OutOfMemory>
+    requires draws_all { DrawsAll g.now s.now }
+    requires on_grid { DrawsOnGrid s.now }
+    requires settled { StatesSettled s.now s.now.ending }
+    ensures ok { OnOk result (into.new.items ≡ into.old.items ++ sheet_text g.now s.now) }
+    ensures begins { Begins into.old.items into.new.items }
+{
+    push_text(into, b"railplan 1\n")?;
+    push_grid_line(&s.grid, into)?;
+    push_order_line(&s.order, into)?;
+    push_found(g, s, into)?;
+    push_ending(s.ending, into)
+}
