@@ -1,3 +1,13 @@
 pub mod LineLemmas
 pub mod OrderWords
 pub mod SheetParts
+pub mod TextLemmas
+pub mod FieldLemmas
+pub mod LineOnce
+pub mod FormLemmas
+pub mod CheckLemmas
+pub mod ReadingLemmas
+pub mod SheetAgain
+pub mod LineAgain
+pub mod SheetLaws
+pub mod WrittenSheet

@@ -1,25 +1,61 @@
 -- The parts of a sheet's text are the whole.
-use Rattle.std.proofs.Common.{◌≡◌, ℕ, List, ◌++◌, ◌∙◌, ap, append_assoc}
-use Rattle.std.specs.Prelude.{codes}
+use Rattle.std.proofs.Common.{◌≡◌, ℕ, ◌+◌, List, [], ◌∷◌, ◌++◌, map, refl, sym, ◌∙◌, ap, append_assoc}
+use Rattle.std.specs.Prelude.{flat_map}
+use Rattle.std.specs.List.{range_with_len}
 use Rattle.std.specs.declared.option.Option.{Option}
+use Rattle.std.proofs.lemmas.Grind.{flat_map-append}
+use Rattle.std.proofs.lemmas.List.{append-nil}
 use Rattle.plan_core.specs.declared.criterion.Criterion.{Criterion}
 use Rattle.plan_core.specs.Grid.{GridSize}
 use Rattle.plan_core.specs.Graph.{Graph}
 use Rattle.plan_core.specs.Drawing.{Drawing}
 use Rattle.plan_text.specs.declared.ending.Ending.{Ending}
-use Rattle.plan_text.specs.SheetText.{Sheet, grid_line, order_line, found_text, ending_line, sheet_text}
+use Rattle.plan_text.specs.SheetLine.{SheetLine, Title, GridLine, OrderLine, EndLine, text_of}
+use Rattle.plan_text.specs.SheetText.{Sheet, found_lines, sheet_text}
+use Rattle.plan_text.proofs.LineLemmas.{line_more}
 
-regroup : (old a b c d e : List ℕ) → ((((old ++ a) ++ b) ++ c) ++ d) ++ e ≡ old ++ (a ++ (b ++ (c ++ (d ++ e))))
-regroup old a b c d e = simp append_assoc
+abbrev texts : List SheetLine → List ℕ
+texts lines = flat_map text_of lines
+
+-- ---- one more line of a numbered list
+
+texts_numbered : (line : ℕ → SheetLine) (numbers : List ℕ) → texts (map line numbers) ≡ flat_map (λ (n : ℕ). text_of (line n)) numbers
+texts_numbered line [] = refl
+texts_numbered line (n ∷ numbers) = ap (λ (t : List ℕ). text_of (line n) ++ t) (texts_numbered line numbers)
+
+pub text_more : (line : ℕ → SheetLine) (old into new : List ℕ) (n : ℕ) → into ≡ old ++ texts (map line (range_with_len 0 n)) → new ≡ into ++ text_of (line n) → new ≡ old ++ texts (map line (range_with_len 0 (n + 1)))
+text_more line old into new n so_far now =
+    line_more (λ (k : ℕ). text_of (line k)) old into new n (so_far ∙ ap (λ (t : List ℕ). old ++ t) (texts_numbered line (range_with_len 0 n))) now
+    ∙ ap (λ (t : List ℕ). old ++ t) (sym (texts_numbered line (range_with_len 0 (n + 1))))
+
+-- ---- parts one after another
+
+pub parts_appended : (a b c : List SheetLine) (old one two three : List ℕ) → one ≡ old ++ texts a → two ≡ one ++ texts b → three ≡ two ++ texts c → three ≡ old ++ texts (a ++ (b ++ c))
+parts_appended a b c old one two three e f g =
+    g
+    ∙ ap (λ (t : List ℕ). t ++ texts c) (f ∙ ap (λ (t : List ℕ). t ++ texts b) e ∙ append_assoc old (texts a) (texts b))
+    ∙ append_assoc old (texts a ++ texts b) (texts c)
+    ∙ ap (λ (t : List ℕ). old ++ t) (
+    append_assoc (texts a) (texts b) (texts c)
+    ∙ ap (λ (t : List ℕ). texts a ++ t) (sym (flat_map-append text_of b c))
+    ∙ sym (flat_map-append text_of a (b ++ c)))
+
+-- where the first two parts are one list
+pub parts_grouped : (l : SheetLine) (a b c : List SheetLine) (old three : List ℕ) → three ≡ old ++ texts (l ∷ (a ++ (b ++ c))) → three ≡ old ++ texts (l ∷ ((a ++ b) ++ c))
+parts_grouped l a b c old three e = e ∙ ap (λ (lines : List SheetLine). old ++ texts (l ∷ lines)) (sym (append_assoc a b c))
+
+-- a line is a part
+pub line_appended : (line : SheetLine) (into new : List ℕ) → new ≡ into ++ text_of line → new ≡ into ++ texts (line ∷ [])
+line_appended line into new e = e ∙ ap (λ (t : List ℕ). into ++ t) (sym (append-nil (text_of line)))
 
 abbrev sheet_of : GridSize → List Criterion → Option Drawing → Ending → Sheet
 sheet_of grid order found ending = record { grid = grid; order = order; found = found; ending = ending }
 
 pub sheet_appended : (g : Graph) (s : Sheet) (grid : GridSize) (order : List Criterion) (found : Option Drawing) (ending : Ending) (old one two three four five : List ℕ) →
-    sheet_of grid order found ending ≡ s → one ≡ old ++ codes "railplan 1\n" → two ≡ one ++ grid_line grid → three ≡ two ++ order_line order → four ≡ three ++ found_text g s.found → five ≡ four ++ ending_line ending →
+    sheet_of grid order found ending ≡ s → one ≡ old ++ text_of Title → two ≡ one ++ text_of (GridLine grid) → three ≡ two ++ text_of (OrderLine order) → four ≡ three ++ texts (found_lines g s.found) → five ≡ four ++ text_of (EndLine ending) →
     five ≡ old ++ sheet_text g s
 sheet_appended g s grid order found ending old one two three four five is a b c d e =
-    e
-    ∙ ap (λ (t : List ℕ). t ++ ending_line ending) (d ∙ ap (λ (t : List ℕ). t ++ found_text g s.found) (c ∙ ap (λ (t : List ℕ). t ++ order_line order) (b ∙ ap (λ (t : List ℕ). t ++ grid_line grid) a)))
-    ∙ regroup old (codes "railplan 1\n") (grid_line grid) (order_line order) (found_text g s.found) (ending_line ending)
-    ∙ ap (λ (t : Sheet). old ++ (codes "railplan 1\n" ++ (grid_line t.grid ++ (order_line t.order ++ (found_text g s.found ++ ending_line t.ending))))) is
+    let head : List SheetLine = Title ∷ GridLine grid ∷ OrderLine order ∷ [] in
+    let begun : three ≡ old ++ texts head = parts_appended (Title ∷ []) (GridLine grid ∷ []) (OrderLine order ∷ []) old one two three (line_appended Title old one a) (line_appended (GridLine grid) one two b) (line_appended (OrderLine order) two three c) in
+    parts_appended head (found_lines g s.found) (EndLine ending ∷ []) old three four five begun d (line_appended (EndLine ending) four five e)
+    ∙ ap (λ (t : Sheet). old ++ texts (Title ∷ GridLine t.grid ∷ OrderLine t.order ∷ (found_lines g s.found ++ EndLine t.ending ∷ []))) is

@@ -2,20 +2,32 @@
 //!
 //! `write_graph` appends the text of a track graph and of the order of its edges, `write_sheet` that of a
 //! `Sheet`: the grid, the order of criteria, the drawing that was found, and how the search ended.
-//! `specs/Fields` says what a line of fields is, `specs/GraphText` and `specs/SheetText` have the texts.
+//! `read_sheet` and `read_drawing` read a sheet again, or answer the first line with a fault; `laws` says
+//! that a text is that of one sheet or has one first fault, and that what is written is read again.
+//! `specs/Fields` says what a line of fields is, `specs/GraphText` and `specs/SheetText` have the texts,
+//! `specs/SheetLine` the forms of a sheet's lines, and `specs/SheetFaults` their faults.
 //! `fields` appends fields and lines; fault lines are written with it too.
-//! The crate stands on `plan_geometry`, `port_graph`, `track_order` and `rail_mileage`; the top call
-//! stands on it.
+//! The crate stands on `plan_core`, `plan_geometry`, `port_graph`, `track_order` and `rail_mileage`, and on
+//! `outside_io` for what a list of bytes begins with; the top call stands on it.
 #![tactic(auto)]
 
 mod ending;
 mod fields;
 mod graph_text;
+mod laws;
 mod sheet;
+mod sheet_checks;
+mod sheet_fault;
+mod sheet_fields;
+mod sheet_lines;
+mod sheet_reading;
 mod sheet_text;
 
 pub use ending::Ending;
 pub use fields::{push_field, push_number, push_place, push_text};
 pub use graph_text::write_graph;
+pub use laws::{one_sheet, one_sheet_fault, sheet_or_fault, written_is_read};
 pub use sheet::Sheet;
+pub use sheet_fault::{SheetFault, SheetWhat};
+pub use sheet_reading::{read_drawing, read_sheet};
 pub use sheet_text::write_sheet;

@@ -8,18 +8,24 @@ use std::marker::Model;
 /// there is a drawing, with `NoDrawing` there is none.
 #[derive(Drop)]
 pub struct Sheet {
+    /// The columns and rows that the search had.
     pub grid: Grid,
+    /// What was to be least, the most important first.
     pub order: Order,
+    /// The drawing that was found last, if any was.
     pub found: Option<Drawing>,
+    /// How the search ended.
     pub ending: Ending,
 }
 
 impl Model for Sheet {
-    ghost use Rattle.plan_text.specs.SheetText.{Sheet as PlainSheet, Agrees};
+    ghost use Rattle.std.specs.Option.{is_some};
+    ghost use Rattle.plan_text.specs.SheetLine.{MayEnd};
+    ghost use Rattle.plan_text.specs.SheetText.{Sheet as PlainSheet};
 
     ghost Value = { PlainSheet };
 
     ghost view = { λ s. record { grid = s.grid; order = s.order; found = s.found; ending = s.ending } };
 
-    ghost invariant = { λ s. Agrees s.found s.ending };
+    ghost invariant = { λ s. MayEnd (is_some s.found) s.ending };
 }

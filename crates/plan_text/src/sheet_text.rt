@@ -6,7 +6,9 @@ ghost use Rattle.outside_io.specs.Contents.{Begins};
 ghost use Rattle.plan_core.specs.Drawing.{place, line};
 ghost use Rattle.plan_core.specs.Graph.{node, edge};
 ghost use Rattle.plan_text.specs.Fields.{spaced, line_text};
-ghost use Rattle.plan_text.specs.SheetText.{HasSizeOf, DrawsAll, DrawsOnGrid, StatesSettled, criterion_word, grid_line, order_line, coordinates, node_line, edge_line, values_line, ending_line, places_text, lines_text, drawing_text, found_text, sheet_text};
+ghost use Rattle.std.specs.Option.{is_some};
+ghost use Rattle.plan_text.specs.SheetLine.{Title, GridLine, OrderLine, NodesLine, EdgesLine, ValuesLine, EndLine, criterion_word, coordinates, text_of};
+ghost use Rattle.plan_text.specs.SheetText.{HasSizeOf, DrawsAll, DrawsOnGrid, StatesSettled, node_line, edge_line, node_lines, edge_lines, drawing_lines, found_lines, sheet_text};
 
 use crate::fields::{push_count_line, push_field, push_number, push_text};
 use crate::{Ending, Sheet};
@@ -25,7 +27,7 @@ fn push_pair(a: u32, b: u32, into: &mut Vec<u8>) -> Result<(), OutOfMemory>
 }
 
 fn push_grid_line(grid: &Grid, into: &mut Vec<u8>) -> Result<(), OutOfMemory>
-    ensures ok { OnOk result (into.new.items ≡ into.old.items ++ grid_line grid.now) }
+    ensures ok { OnOk result (into.new.items ≡ into.old.items ++ text_of (GridLine grid.now)) }
     ensures begins { Begins into.old.items into.new.items }
 {
     push_text(into, b"grid")?;
@@ -55,7 +57,7 @@ fn push_criteria(order: &Order, into: &mut Vec<u8>) -> Result<(), OutOfMemory>
 }
 
 fn push_order_line(order: &Order, into: &mut Vec<u8>) -> Result<(), OutOfMemory>
-    ensures ok { OnOk result (into.new.items ≡ into.old.items ++ order_line order.now) }
+    ensures ok { OnOk result (into.new.items ≡ into.old.items ++ text_of (OrderLine order.now)) }
     ensures begins { Begins into.old.items into.new.items }
 {
     push_text(into, b"order")?;
@@ -65,14 +67,14 @@ fn push_order_line(order: &Order, into: &mut Vec<u8>) -> Result<(), OutOfMemory>
 
 /// Appends the coordinates of a point, each after a space.
 fn push_point(p: Point, into: &mut Vec<u8>) -> Result<(), OutOfMemory>
-    ensures ok { OnOk result (into.new.items ≡ into.old.items ++ spaced (coordinates p)) }
+    ensures ok { OnOk result (into.new.items ≡ into.old.items ++ spaced (map decimal (coordinates p))) }
     ensures begins { Begins into.old.items into.new.items }
 {
     push_pair(u32::from(p.x), u32::from(p.y), into)
 }
 
 fn push_points(points: &[Point], into: &mut Vec<u8>) -> Result<(), OutOfMemory>
-    ensures ok { OnOk result (into.new.items ≡ into.old.items ++ spaced (flat_map coordinates points.now)) }
+    ensures ok { OnOk result (into.new.items ≡ into.old.items ++ spaced (map decimal (flat_map coordinates points.now))) }
     ensures begins { Begins into.old.items into.new.items }
 {
     for p in points {
@@ -84,7 +86,7 @@ fn push_points(points: &[Point], into: &mut Vec<u8>) -> Result<(), OutOfMemory>
 fn push_node_line(g: &PortGraph, d: &Drawing, n: u16, into: &mut Vec<u8>) -> Result<(), OutOfMemory>
     requires there { n < length g.now.nodes }
     requires placed { n < length d.now.places }
-    ensures ok { OnOk result (into.new.items ≡ into.old.items ++ node_line g.now d.now n) }
+    ensures ok { OnOk result (into.new.items ≡ into.old.items ++ text_of (node_line g.now d.now n)) }
     ensures begins { Begins into.old.items into.new.items }
 {
     push_text(into, b"node")?;
@@ -110,7 +112,7 @@ fn push_edge_head(g: &PortGraph, e: u16, into: &mut Vec<u8>) -> Result<(), OutOf
 fn push_edge_line(g: &PortGraph, d: &Drawing, e: u16, into: &mut Vec<u8>) -> Result<(), OutOfMemory>
     requires there { e < length g.now.edges }
     requires drawn { e < length d.now.lines }
-    ensures ok { OnOk result (into.new.items ≡ into.old.items ++ edge_line g.now d.now e) }
+    ensures ok { OnOk result (into.new.items ≡ into.old.items ++ text_of (edge_line g.now d.now e)) }
     ensures begins { Begins into.old.items into.new.items }
 {
     push_edge_head(g, e, into)?;
@@ -119,7 +121,7 @@ fn push_edge_line(g: &PortGraph, d: &Drawing, e: u16, into: &mut Vec<u8>) -> Res
 }
 
 fn push_values_line(v: Values, into: &mut Vec<u8>) -> Result<(), OutOfMemory>
-    ensures ok { OnOk result (into.new.items ≡ into.old.items ++ values_line v) }
+    ensures ok { OnOk result (into.new.items ≡ into.old.items ++ text_of (ValuesLine v)) }
     ensures begins { Begins into.old.items into.new.items }
 {
     push_text(into, b"values")?;
@@ -130,7 +132,7 @@ fn push_values_line(v: Values, into: &mut Vec<u8>) -> Result<(), OutOfMemory>
 
 fn push_node_lines(g: &PortGraph, d: &Drawing, into: &mut Vec<u8>) -> Result<(), OutOfMemory>
     requires { HasSizeOf g.now d.now }
-    ensures ok { OnOk result (into.new.items ≡ into.old.items ++ flat_map (node_line g.now d.now) (range_with_len 0 (length g.now.nodes))) }
+    ensures ok { OnOk result (into.new.items ≡ into.old.items ++ flat_map text_of (node_lines g.now d.now)) }
     ensures begins { Begins into.old.items into.new.items }
 {
     for n in 0..g.nodes() {
@@ -141,7 +143,7 @@ fn push_node_lines(g: &PortGraph, d: &Drawing, into: &mut Vec<u8>) -> Result<(),
 
 fn push_places(g: &PortGraph, d: &Drawing, into: &mut Vec<u8>) -> Result<(), OutOfMemory>
     requires { HasSizeOf g.now d.now }
-    ensures ok { OnOk result (into.new.items ≡ into.old.items ++ places_text g.now d.now) }
+    ensures ok { OnOk result (into.new.items ≡ into.old.items ++ flat_map text_of (NodesLine (length g.now.nodes) ∷ node_lines g.now d.now)) }
     ensures begins { Begins into.old.items into.new.items }
 {
     push_count_line(into, b"nodes", u32::from(g.nodes()))?;
@@ -150,7 +152,7 @@ fn push_places(g: &PortGraph, d: &Drawing, into: &mut Vec<u8>) -> Result<(), Out
 
 fn push_edge_lines(g: &PortGraph, d: &Drawing, into: &mut Vec<u8>) -> Result<(), OutOfMemory>
     requires { HasSizeOf g.now d.now }
-    ensures ok { OnOk result (into.new.items ≡ into.old.items ++ flat_map (edge_line g.now d.now) (range_with_len 0 (length g.now.edges))) }
+    ensures ok { OnOk result (into.new.items ≡ into.old.items ++ flat_map text_of (edge_lines g.now d.now)) }
     ensures begins { Begins into.old.items into.new.items }
 {
     for e in 0..g.edges() {
@@ -161,7 +163,7 @@ fn push_edge_lines(g: &PortGraph, d: &Drawing, into: &mut Vec<u8>) -> Result<(),
 
 fn push_lines(g: &PortGraph, d: &Drawing, into: &mut Vec<u8>) -> Result<(), OutOfMemory>
     requires { HasSizeOf g.now d.now }
-    ensures ok { OnOk result (into.new.items ≡ into.old.items ++ lines_text g.now d.now) }
+    ensures ok { OnOk result (into.new.items ≡ into.old.items ++ flat_map text_of (EdgesLine (length g.now.edges) ∷ edge_lines g.now d.now)) }
     ensures begins { Begins into.old.items into.new.items }
 {
     push_count_line(into, b"edges", u32::from(g.edges()))?;
@@ -170,7 +172,7 @@ fn push_lines(g: &PortGraph, d: &Drawing, into: &mut Vec<u8>) -> Result<(), OutO
 
 fn push_drawing(g: &PortGraph, d: &Drawing, into: &mut Vec<u8>) -> Result<(), OutOfMemory>
     requires { HasSizeOf g.now d.now }
-    ensures ok { OnOk result (into.new.items ≡ into.old.items ++ drawing_text g.now d.now) }
+    ensures ok { OnOk result (into.new.items ≡ into.old.items ++ flat_map text_of (drawing_lines g.now d.now)) }
     ensures begins { Begins into.old.items into.new.items }
 {
     push_places(g, d, into)?;
@@ -181,7 +183,7 @@ fn push_drawing(g: &PortGraph, d: &Drawing, into: &mut Vec<u8>) -> Result<(), Ou
 /// Appends the drawing, where there is one.
 fn push_found(g: &PortGraph, s: &Sheet, into: &mut Vec<u8>) -> Result<(), OutOfMemory>
     requires { DrawsAll g.now s.now }
-    ensures ok { OnOk result (into.new.items ≡ into.old.items ++ found_text g.now s.now.found) }
+    ensures ok { OnOk result (into.new.items ≡ into.old.items ++ flat_map text_of (found_lines g.now s.now.found)) }
     ensures begins { Begins into.old.items into.new.items }
 {
     match &s.found {
@@ -201,7 +203,7 @@ fn push_settled(word: &[u8], settled: u8, into: &mut Vec<u8>) -> Result<(), OutO
 }
 
 fn push_ending(ending: Ending, into: &mut Vec<u8>) -> Result<(), OutOfMemory>
-    ensures ok { OnOk result (into.new.items ≡ into.old.items ++ ending_line ending) }
+    ensures ok { OnOk result (into.new.items ≡ into.old.items ++ text_of (EndLine ending)) }
     ensures begins { Begins into.old.items into.new.items }
 {
     match ending {
@@ -222,7 +224,7 @@ pub fn write_sheet(
 ) -> Result<(), OutOfMemory>
     requires draws_all { DrawsAll g.now s.now }
     requires on_grid { DrawsOnGrid s.now }
-    requires settled { StatesSettled s.now s.now.ending }
+    requires settled { StatesSettled s.now.order (is_some s.now.found) s.now.ending }
     ensures ok { OnOk result (into.new.items ≡ into.old.items ++ sheet_text g.now s.now) }
     ensures begins { Begins into.old.items into.new.items }
 {

@@ -1,0 +1,197 @@
+-- Fields of a text, one after another.
+use Rattle.std.proofs.Common.{◌≡◌, ◌≢◌, ◌⊎◌, inl, inr, ℕ, ◌+◌, ◌<◌, ◌≤◌, ◌^◌, List, [], ◌∷◌, ◌++◌, map, length, get_or, Bool, true, ◌==◌, refl, sym, ◌∙◌, ap, subst, arith, append_assoc, length-append}
+use Rattle.std.specs.Prelude.{⊤}
+use Rattle.std.specs.Fmt.{decimal}
+use Rattle.std.specs.List.{AllByRecursion}
+use Rattle.std.specs.Str.Parse.{AllDigits}
+use Rattle.std.proofs.lemmas.Fmt.{decimal_is_IsNumeral, decimal_injective}
+use Rattle.std.proofs.lemmas.Bool.{eqb-true}
+use Rattle.std.proofs.lemmas.List.{append-nil}
+use Rattle.std.proofs.lemmas.Str.Parse.{digit_from_value}
+use Rattle.plan_core.specs.declared.criterion.Criterion.{Criterion}
+use Rattle.plan_core.specs.declared.criterion.Criterion.TheVariants.{Height, Bends, Diagonal, Width}
+use Rattle.plan_text.specs.Fields.{spaced}
+use Rattle.plan_text.specs.SheetLine.{criterion_word, EndsField, IsOneField, IsSmall}
+use Rattle.plan_text.specs.SheetReading.{Ends}
+
+-- ---- one field
+
+pub record SameField (xs ys r s : List ℕ) : Type 0 where
+  pub field : xs ≡ ys
+  pub rest : r ≡ s
+
+-- a field isn't longer than another, where both end
+no_longer : (y : ℕ) (ys r s : List ℕ) → IsOneField (y ∷ ys) → Ends r → r ≡ (y ∷ ys) ++ s → ⊥
+no_longer y ys [] s one ends e = cc
+no_longer y ys (b ∷ r) s one ends e = let f : b ≡ y = cc in one.0 (subst EndsField f ends)
+
+pub same_field : (xs ys r s : List ℕ) → IsOneField xs → IsOneField ys → Ends r → Ends s → xs ++ r ≡ ys ++ s → SameField xs ys r s
+same_field [] [] r s h k m n e = record { field = refl; rest = e }
+same_field [] (y ∷ ys) r s h k m n e = absurd (no_longer y ys r s k m e)
+same_field (x ∷ xs) [] r s h k m n e = absurd (no_longer x xs s r h n (sym e))
+same_field (x ∷ xs) (y ∷ ys) r s h k m n e =
+    let f : x ≡ y = cc in
+    let g : xs ++ r ≡ ys ++ s = cc in
+    let more = same_field xs ys r s h.1 k.1 m n g in
+    record { field = cc (f, more.field); rest = more.rest }
+
+no_feed_at_space : (x y : List ℕ) → 32 ∷ x ≡ 10 ∷ y → ⊥
+no_feed_at_space x y e = cc
+
+-- ---- words that stand for values
+
+-- each value has a field of its own
+pub record IsSpelling (A : Type 0) (P : A → Type 0) (word : A → List ℕ) : Type 0 where
+  pub one : (a : A) → P a → IsOneField (word a)
+  pub once : (a b : A) → P a → P b → word a ≡ word b → a ≡ b
+
+abbrev pub words : {A : Type 0} → (A → List ℕ) → List A → List ℕ
+words word values = spaced (map word values)
+
+regroup : (a b r : List ℕ) → (32 ∷ (a ++ b)) ++ r ≡ 32 ∷ (a ++ (b ++ r))
+regroup a b r = ap (λ (t : List ℕ). 32 ∷ t) (append_assoc a b r)
+
+words_end : {A : Type 0} (word : A → List ℕ) (values : List A) (rest : List ℕ) → Ends rest → Ends (words word values ++ rest)
+words_end word [] rest ends = ends
+words_end word (a ∷ values) rest ends = inl refl
+
+pub ends_of : {A : Type 0} (a : A) (values : List A) (rest : List ℕ) → (a ∷ values ≡ []) ⊎ Ends rest → Ends rest
+ends_of a values rest (inl e) = cc
+ends_of a values rest (inr ends) = ends
+
+-- the values that were read are the first of any values that the text has
+pub record Ahead (A : Type 0) (P : A → Type 0) (word : A → List ℕ) (read values : List A) (rest behind : List ℕ) : Type 0 where
+  pub more : List A
+  pub split : values ≡ read ++ more
+  pub all : AllByRecursion P more
+  pub left : rest ≡ words word more ++ 10 ∷ behind
+
+pub ahead : {A : Type 0} {P : A → Type 0} {word : A → List ℕ} (s : IsSpelling A P word) (read values : List A) (rest behind : List ℕ) → AllByRecursion P read → AllByRecursion P values → (read ≡ []) ⊎ Ends rest →
+    words word read ++ rest ≡ words word values ++ 10 ∷ behind → Ahead A P word read values rest behind
+ahead s [] values rest behind h k ends e = record { more = values; split = refl; all = k; left = e }
+ahead {A} {P} {word} s (a ∷ read) [] rest behind h k ends e = absurd (no_feed_at_space ((word a ++ words word read) ++ rest) behind e)
+ahead {A} {P} {word} s (a ∷ read) (b ∷ values) rest behind h k ends e =
+    let end = ends_of a read rest ends in
+    let f : 32 ∷ (word a ++ (words word read ++ rest)) ≡ 32 ∷ (word b ++ (words word values ++ 10 ∷ behind)) =
+    sym (regroup (word a) (words word read) rest) ∙ e ∙ regroup (word b) (words word values) (10 ∷ behind) in
+    let g : word a ++ (words word read ++ rest) ≡ word b ++ (words word values ++ 10 ∷ behind) = cc in
+    let same = same_field (word a) (word b) (words word read ++ rest) (words word values ++ 10 ∷ behind) (s.one a h.0) (s.one b k.0) (words_end word read rest end) (words_end word values (10 ∷ behind) (inr refl)) g in
+    let later = ahead s read values rest behind h.1 k.1 (inr end) same.rest in
+    let first : a ≡ b = s.once a b h.0 k.0 same.field in
+    record { more = later.more; split = cc (first, later.split); all = later.all; left = later.left }
+
+-- a list of values is known by its text, up to its line feed
+pub record SameWords {A : Type 0} (xs ys : List A) (r s : List ℕ) : Type 0 where
+  pub values : xs ≡ ys
+  pub behind : r ≡ s
+
+pub words_once : {A : Type 0} {P : A → Type 0} {word : A → List ℕ} (s : IsSpelling A P word) (xs ys : List A) (q r : List ℕ) → AllByRecursion P xs → AllByRecursion P ys →
+    words word xs ++ 10 ∷ q ≡ words word ys ++ 10 ∷ r → SameWords xs ys q r
+words_once {A} {P} {word} s xs ys q r h k e =
+    let a = ahead s xs ys (10 ∷ q) r h k (inr (inr refl)) e in
+    end a.more a.split a.left
+  where
+    end : (more : List A) → ys ≡ xs ++ more → 10 ∷ q ≡ words word more ++ 10 ∷ r → SameWords xs ys q r
+    end [] split left = record { values = sym (split ∙ append-nil xs); behind = cc }
+    end (m ∷ more) split left = absurd (no_feed_at_space ((word m ++ words word more) ++ 10 ∷ r) q (sym left))
+
+-- ---- where reading stops
+
+-- at a field that is no value's
+pub no_value : {A : Type 0} {P : A → Type 0} {word : A → List ℕ} (s : IsSpelling A P word) (text : List ℕ) (read : List A) (rest after field left : List ℕ) →
+    AllByRecursion P read → (read ≡ []) ⊎ Ends rest → text ≡ words word read ++ rest → rest ≡ 32 ∷ after → IsOneField field → Ends left → after ≡ field ++ left → ((a : A) → P a → field ≢ word a) →
+    (values : List A) (behind : List ℕ) → AllByRecursion P values → text ≢ words word values ++ 10 ∷ behind
+no_value {A} {P} {word} s text read rest after field left h ends so_far is one end cut none values behind k e =
+    let a = ahead s read values rest behind h k ends (sym so_far ∙ e) in
+    at a.more a.all a.left
+  where
+    at : (more : List A) → AllByRecursion P more → rest ≡ words word more ++ 10 ∷ behind → ⊥
+    at [] all f = no_feed_at_space after behind (sym is ∙ f)
+    at (b ∷ more) all f =
+        let g : 32 ∷ (field ++ left) ≡ 32 ∷ (word b ++ (words word more ++ 10 ∷ behind)) = ap (λ (t : List ℕ). 32 ∷ t) (sym cut) ∙ sym is ∙ f ∙ regroup (word b) (words word more) (10 ∷ behind) in
+        let i : field ++ left ≡ word b ++ (words word more ++ 10 ∷ behind) = cc in
+        none b all.0 (same_field field (word b) left (words word more ++ 10 ∷ behind) one (s.one b all.0) end (words_end word more (10 ∷ behind) (inr refl)) i).field
+
+-- at one field too many
+pub no_more : {A : Type 0} {P : A → Type 0} {word : A → List ℕ} (s : IsSpelling A P word) (text : List ℕ) (read : List A) (rest after : List ℕ) (most : ℕ) →
+    AllByRecursion P read → (read ≡ []) ⊎ Ends rest → text ≡ words word read ++ rest → rest ≡ 32 ∷ after → most ≤ length read →
+    (values : List A) (behind : List ℕ) → AllByRecursion P values → length values ≤ most → text ≢ words word values ++ 10 ∷ behind
+no_more {A} {P} {word} s text read rest after most h ends so_far is full values behind k few e =
+    let a = ahead s read values rest behind h k ends (sym so_far ∙ e) in
+    at a.more a.split a.left
+  where
+    at : (more : List A) → values ≡ read ++ more → rest ≡ words word more ++ 10 ∷ behind → ⊥
+    at [] split f = no_feed_at_space after behind (sym is ∙ f)
+    at (b ∷ more) split f = let n : length values ≡ length read + length (b ∷ more) = ap length split ∙ length-append read (b ∷ more) in omega (arith, n)
+
+pub full_is : (n most : ℕ) (b : Bool) → b ≡ (n == most) → b ≡ true → most ≤ n
+full_is n most b e h = let f = eqb-true n most (sym e ∙ h) in omega (arith, f)
+
+-- where neither a space nor a line feed comes
+pub no_end : {A : Type 0} {P : A → Type 0} {word : A → List ℕ} (s : IsSpelling A P word) (text : List ℕ) (read : List A) (rest : List ℕ) →
+    AllByRecursion P read → (read ≡ []) ⊎ Ends rest → text ≡ words word read ++ rest → ((after : List ℕ) → rest ≢ 32 ∷ after) → ((after : List ℕ) → rest ≢ 10 ∷ after) →
+    (values : List A) (behind : List ℕ) → AllByRecursion P values → text ≢ words word values ++ 10 ∷ behind
+no_end {A} {P} {word} s text read rest h ends so_far no_space no_feed values behind k e =
+    let a = ahead s read values rest behind h k ends (sym so_far ∙ e) in
+    at a.more a.left
+  where
+    at : (more : List A) → rest ≡ words word more ++ 10 ∷ behind → ⊥
+    at [] f = no_feed behind f
+    at (b ∷ more) f = no_space (word b ++ (words word more ++ 10 ∷ behind)) (f ∙ regroup (word b) (words word more) (10 ∷ behind))
+
+-- one more value
+pub words_more : {A : Type 0} (word : A → List ℕ) (values : List A) (a : A) (left : List ℕ) → words word values ++ 32 ∷ (word a ++ left) ≡ words word (values ++ a ∷ []) ++ left
+words_more word [] a left = sym (regroup (word a) [] left)
+words_more word (b ∷ values) a left =
+    regroup (word b) (words word values) (32 ∷ (word a ++ left))
+    ∙ ap (λ (t : List ℕ). 32 ∷ (word b ++ t)) (words_more word values a left)
+    ∙ sym (regroup (word b) (words word (values ++ a ∷ [])) left)
+
+pub read_more : {A : Type 0} (word : A → List ℕ) (text : List ℕ) (read : List A) (rest after field left : List ℕ) (a : A) → text ≡ words word read ++ rest → rest ≡ 32 ∷ after → after ≡ field ++ left → field ≡ word a → text ≡ words word (read ++ a ∷ []) ++ left
+read_more word text read rest after field left a so_far is cut same =
+    so_far
+    ∙ ap (λ (t : List ℕ). words word read ++ t) (is ∙ ap (λ (t : List ℕ). 32 ∷ t) (cut ∙ ap (λ (t : List ℕ). t ++ left) same))
+    ∙ words_more word read a left
+
+pub all_more : {A : Type 0} (P : A → Type 0) (xs : List A) (x : A) → AllByRecursion P xs → P x → AllByRecursion P (xs ++ x ∷ [])
+all_more P [] x h k = (k, tt)
+all_more P (y ∷ xs) x h k = (h.0, all_more P xs x h.1 k)
+
+-- ---- numbers and criteria
+
+digits_are_one : (ds : List ℕ) → AllDigits 10 ds → IsOneField ds
+digits_are_one [] h = tt
+digits_are_one (d ∷ ds) h = let range = digit_from_value d h.0 in ((λ ends. no_end_digit d range.0 range.1 ends), digits_are_one ds h.1)
+  where
+    no_end_digit : (d : ℕ) → 48 ≤ d → d ≤ 57 → EndsField d → ⊥
+    no_end_digit d from to (inl e) = omega (arith, e)
+    no_end_digit d from to (inr e) = omega (arith, e)
+
+pub of_numbers : IsSpelling ℕ IsSmall decimal
+of_numbers = record {
+  one = λ n small. let big : n < 2 ^ 64 = omega arith in digits_are_one (decimal n) (decimal_is_IsNumeral n big).0.1;
+  once = λ m n h k e. let hm : m < 2 ^ 64 = omega arith in let hn : n < 2 ^ 64 = omega arith in decimal_injective m n hm hn e;
+}
+
+abbrev pub Any : Criterion → Type 0
+Any c = ⊤
+
+word_is_one : (c : Criterion) → IsOneField (criterion_word c)
+word_is_one Height = grind arith
+word_is_one Bends = grind arith
+word_is_one Diagonal = grind arith
+word_is_one Width = grind arith
+
+word_once : (c d : Criterion) → criterion_word c ≡ criterion_word d → c ≡ d
+word_once Height Height e = refl
+word_once Bends Bends e = refl
+word_once Diagonal Diagonal e = refl
+word_once Width Width e = refl
+word_once c d e = let z : get_or (criterion_word c) 0 0 ≡ get_or (criterion_word d) 0 0 = ap (λ (t : List ℕ). get_or t 0 0) e in absurd (omega arith)
+
+pub of_criteria : IsSpelling Criterion Any criterion_word
+of_criteria = record { one = λ c h. word_is_one c; once = λ c d h k e. word_once c d e }
+
+pub any_criteria : (cs : List Criterion) → AllByRecursion Any cs
+any_criteria [] = tt
+any_criteria (c ∷ cs) = (tt, any_criteria cs)

@@ -1,0 +1,229 @@
+-- The lines that were read, one after another, and the first line with a fault.
+use Rattle.std.proofs.Common.{◌≡◌, ℕ, suc, ◌+◌, ◌<◌, ◌≤◌, Bool, true, if◌then◌else◌, List, [], ◌∷◌, ◌++◌, length, refl, sym, ◌∙◌, ap, subst, arith, append_assoc, length-append}
+use Rattle.std.specs.Prelude.{flat_map}
+use Rattle.std.specs.declared.result.Result.{Result}
+use Rattle.std.specs.Result.{IsErrAnd, MatchResult}
+use Rattle.std.proofs.lemmas.Grind.{flat_map-append}
+use Rattle.std.proofs.lemmas.List.{append-nil}
+use Rattle.std.proofs.lemmas.Bool.{lt-ltb}
+use Rattle.std.proofs.Common.{Ok, Err, Option, None, Some, MatchOption}
+use Rattle.plan_core.specs.declared.point.Point.{Point}
+use Rattle.plan_core.specs.declared.criterion.Criterion.{Criterion}
+use Rattle.plan_core.specs.Grid.{GridSize, IsGrid}
+use Rattle.plan_core.specs.Order.{IsOrder}
+use Rattle.plan_core.specs.Graph.{Graph, node, edge}
+use Rattle.plan_core.specs.Values.{values_of}
+use Rattle.plan_text.specs.declared.ending.Ending.{Ending}
+use Rattle.plan_core.specs.Drawing.{Drawing, drawing}
+use Rattle.plan_text.specs.declared.sheet_fault.SheetFault.{SheetFault}
+use Rattle.plan_text.specs.declared.sheet_fault.SheetFault.TheVariants.{Sheet as SheetHas, Memory}
+use Rattle.plan_text.specs.SheetLine.{SheetLine, Title, GridLine, OrderLine, NodeLine, EdgeLine, ValuesLine, EndLine, text_of, MayEnd}
+use Rattle.plan_text.specs.SheetText.{StatesSettled}
+use Rattle.plan_text.specs.SheetFaults.{Due, TitleDue, GridDue, OrderDue, NodeDue, EdgesDue, EdgeDue, ValuesDue, EndDue, IsDue, node_due, edge_due, due_behind, due_after, criteria_told, place_told, line_told, order_told, drawing_told, IsInRange, IsOfGraph, HasShape, IsMeasured, AreRight, HasFault}
+use Rattle.plan_text.specs.SheetReading.{IsLineTo, head_lines, placed_lines, drawn_lines, AreReadTo, IsFaultHere, IsFaultFrom}
+
+-- ---- results
+
+pub fails : {A E : Type 0} (r : Result A E) (P : A → Type 0) (Q : E → Type 0) (x : E) → IsErrAnd r (λ e. e ≡ x) → Q x → MatchResult r P Q
+fails (Ok a) P Q x is h = absurd is
+fails (Err e) P Q x is h = subst Q (sym is) h
+
+-- ---- lists of lines
+
+pub due_append : (g : Graph) (due : Due) (a b : List SheetLine) → due_after g due (a ++ b) ≡ due_after g (due_after g due a) b
+due_append g due [] b = refl
+due_append g due (l ∷ a) b = due_append g (due_behind g due l) a b
+
+regroup : (before a : List SheetLine) (l : SheetLine) → before ++ (l ∷ a) ≡ (before ++ l ∷ []) ++ a
+regroup before a l = sym (append_assoc before (l ∷ []) a)
+
+pub right_append : (g : Graph) (before : List SheetLine) (due : Due) (a b : List SheetLine) → AreRight g before due a → AreRight g (before ++ a) (due_after g due a) b → AreRight g before due (a ++ b)
+right_append g before due [] b h k = subst (λ (lines : List SheetLine). AreRight g lines due b) (append-nil before) k
+right_append g before due (l ∷ a) b h k =
+    (h.0, right_append g (before ++ l ∷ []) (due_behind g due l) a b h.1 (subst (λ (lines : List SheetLine). AreRight g lines (due_after g (due_behind g due l) a) b) (regroup before a l) k))
+
+pub read_none : (g : Graph) (before : List SheetLine) (due : Due) (text : List ℕ) → AreReadTo g before due text [] text
+read_none g before due text = record { right = tt; spelled = refl }
+
+pub read_append : (g : Graph) (before : List SheetLine) (due : Due) (text mid rest : List ℕ) (a b : List SheetLine) → AreReadTo g before due text a mid → AreReadTo g (before ++ a) (due_after g due a) mid b rest → AreReadTo g before due text (a ++ b) rest
+read_append g before due text mid rest a b h k = record {
+  right = right_append g before due a b h.right k.right;
+  spelled = h.spelled
+      ∙ ap (λ (t : List ℕ). flat_map text_of a ++ t) k.spelled
+      ∙ sym (append_assoc (flat_map text_of a) (flat_map text_of b) rest)
+      ∙ ap (λ (t : List ℕ). t ++ rest) (sym (flat_map-append text_of a b));
+}
+
+pub read_one : (g : Graph) (before : List SheetLine) (due : Due) (text rest : List ℕ) (line : SheetLine) → IsDue due line → IsInRange before due line → IsOfGraph g due line → HasShape line → IsMeasured before line → IsLineTo text line rest → AreReadTo g before due text (line ∷ []) rest
+read_one g before due text rest line is range of shape measured to = record {
+  right = (record { is_due = is; form = to.form; range = range; of_graph = of; shape = shape; measured = measured }, tt);
+  spelled = to.spelled ∙ ap (λ (t : List ℕ). t ++ rest) (sym (append-nil (text_of line)));
+}
+
+-- ---- the first fault
+
+pub first_here : (g : Graph) (before : List SheetLine) (due : Due) (text : List ℕ) (number line : ℕ) (fault : SheetFault) → line ≡ number → IsFaultHere g before due text line fault → IsFaultFrom g before due text number fault
+first_here g before due text number line (SheetHas what at) same h = record {
+  lines = [];
+  rest = text;
+  read = read_none g before due text;
+  counted = h.0 ∙ same ∙ add_none number;
+  fault = subst (λ (lines : List SheetLine). HasFault g lines due text what) (sym (append-nil before)) h.1;
+}
+  where
+    add_none : (n : ℕ) → n ≡ n + 0
+    add_none n = omega arith
+first_here g before due text number line Memory same h = tt
+
+pub first_later : (g : Graph) (before : List SheetLine) (due : Due) (text mid : List ℕ) (a : List SheetLine) (number line : ℕ) (fault : SheetFault) → AreReadTo g before due text a mid → line ≡ number + length a → IsFaultFrom g (before ++ a) (due_after g due a) mid line fault → IsFaultFrom g before due text number fault
+first_later g before due text mid a number line (SheetHas what at) h same f = record {
+  lines = a ++ f.lines;
+  rest = f.rest;
+  read = read_append g before due text mid f.rest a f.lines h f.read;
+  counted = counted_on at line number (length a) (length f.lines) (length (a ++ f.lines)) f.counted same (length-append a f.lines);
+  fault = subst (λ (lines : List SheetLine). HasFault g lines (due_after g due (a ++ f.lines)) f.rest what) (append_assoc before a f.lines)
+      (subst (λ (d : Due). HasFault g ((before ++ a) ++ f.lines) d f.rest what) (sym (due_append g due a f.lines)) f.fault);
+}
+  where
+    counted_on : (at line number a b c : ℕ) → at ≡ line + b → line ≡ number + a → c ≡ a + b → at ≡ number + c
+    counted_on at line number a b c e f h = omega (arith, e, f, h)
+first_later g before due text mid a number line Memory h same f = tt
+
+pub later_here : (g : Graph) (before : List SheetLine) (due : Due) (text mid : List ℕ) (a : List SheetLine) (number line : ℕ) (fault : SheetFault) → AreReadTo g before due text a mid → line ≡ number + length a → IsFaultHere g (before ++ a) (due_after g due a) mid line fault → IsFaultFrom g before due text number fault
+later_here g before due text mid a number line fault h same f =
+    first_later g before due text mid a number line fault h same (first_here g (before ++ a) (due_after g due a) mid line line fault refl f)
+
+-- ---- the nodes and the edges, one by one
+
+pub node_due_at : (g : Graph) (n : ℕ) → n < length g.nodes → node_due g n ≡ NodeDue n
+node_due_at g n less = ap (λ (b : Bool). if b then NodeDue n else EdgesDue) (lt-ltb n (length g.nodes) less)
+
+pub edge_due_at : (g : Graph) (e : ℕ) → e < length g.edges → edge_due g e ≡ EdgeDue e
+edge_due_at g e less = ap (λ (b : Bool). if b then EdgeDue e else ValuesDue) (lt-ltb e (length g.edges) less)
+
+pub due_places : (g : Graph) (k : ℕ) (places : List Point) → k + length places ≤ length g.nodes → due_after g (node_due g k) (placed_lines g k places) ≡ node_due g (k + length places)
+due_places g k [] fits = ap (node_due g) (omega arith)
+due_places g k (p ∷ places) fits =
+    ap (λ (d : Due). due_after g (due_behind g d (NodeLine k (node g k).name p)) (placed_lines g (k + 1) places)) (node_due_at g k (omega (arith, fits)))
+    ∙ due_places g (k + 1) places (omega (arith, fits))
+    ∙ ap (node_due g) (omega arith)
+
+pub due_lines : (g : Graph) (k : ℕ) (lines : List (List Point)) → k + length lines ≤ length g.edges → due_after g (edge_due g k) (drawn_lines g k lines) ≡ edge_due g (k + length lines)
+due_lines g k [] fits = ap (edge_due g) (omega arith)
+due_lines g k (l ∷ lines) fits =
+    ap (λ (d : Due). due_after g (due_behind g d (EdgeLine k (edge g k).west (edge g k).east l)) (drawn_lines g (k + 1) lines)) (edge_due_at g k (omega (arith, fits)))
+    ∙ due_lines g (k + 1) lines (omega (arith, fits))
+    ∙ ap (edge_due g) (omega arith)
+
+placed_more : (g : Graph) (k : ℕ) (places : List Point) (p : Point) → placed_lines g k (places ++ p ∷ []) ≡ placed_lines g k places ++ NodeLine (k + length places) (node g (k + length places)).name p ∷ []
+placed_more g k [] p = ap (λ (n : ℕ). NodeLine n (node g n).name p ∷ []) (omega arith)
+placed_more g k (q ∷ places) p = ap (λ (lines : List SheetLine). NodeLine k (node g k).name q ∷ lines) (placed_more g (k + 1) places p ∙ ap (λ (n : ℕ). placed_lines g (k + 1) places ++ NodeLine n (node g n).name p ∷ []) (omega arith))
+
+drawn_more : (g : Graph) (k : ℕ) (lines : List (List Point)) (l : List Point) → drawn_lines g k (lines ++ l ∷ []) ≡ drawn_lines g k lines ++ EdgeLine (k + length lines) (edge g (k + length lines)).west (edge g (k + length lines)).east l ∷ []
+drawn_more g k [] l = ap (λ (n : ℕ). EdgeLine n (edge g n).west (edge g n).east l ∷ []) (omega arith)
+drawn_more g k (m ∷ lines) l = ap (λ (more : List SheetLine). EdgeLine k (edge g k).west (edge g k).east m ∷ more) (drawn_more g (k + 1) lines l ∙ ap (λ (n : ℕ). drawn_lines g (k + 1) lines ++ EdgeLine n (edge g n).west (edge g n).east l ∷ []) (omega arith))
+
+pub placed_length : (g : Graph) (k : ℕ) (places : List Point) → length (placed_lines g k places) ≡ length places
+placed_length g k [] = refl
+placed_length g k (p ∷ places) = ap suc (placed_length g (k + 1) places)
+
+pub drawn_length : (g : Graph) (k : ℕ) (lines : List (List Point)) → length (drawn_lines g k lines) ≡ length lines
+drawn_length g k [] = refl
+drawn_length g k (l ∷ lines) = ap suc (drawn_length g (k + 1) lines)
+
+-- what is due behind the first n nodes
+due_there : (g : Graph) (n : ℕ) (places : List Point) → n < length g.nodes → length places ≡ n → due_after g (node_due g 0) (placed_lines g 0 places) ≡ NodeDue n
+due_there g n places less count = let there : 0 + length places ≡ n = omega (arith, count) in due_places g 0 places (omega (arith, less, count)) ∙ ap (node_due g) there ∙ node_due_at g n less
+
+due_there_edge : (g : Graph) (e : ℕ) (lines : List (List Point)) → e < length g.edges → length lines ≡ e → due_after g (edge_due g 0) (drawn_lines g 0 lines) ≡ EdgeDue e
+due_there_edge g e lines less count = let there : 0 + length lines ≡ e = omega (arith, count) in due_lines g 0 lines (omega (arith, less, count)) ∙ ap (edge_due g) there ∙ edge_due_at g e less
+
+pub place_read : (g : Graph) (text mid rest : List ℕ) (n : ℕ) (places : List Point) (p : Point) → n < length g.nodes → length places ≡ n → ((before : List SheetLine) → AreReadTo g before (node_due g 0) text (placed_lines g 0 places) mid) →
+    IsLineTo mid (NodeLine n (node g n).name p) rest → (before : List SheetLine) → AreReadTo g before (node_due g 0) text (placed_lines g 0 (places ++ p ∷ [])) rest
+place_read g text mid rest n places p less count so_far to before =
+    let due = due_there g n places less count in
+    let there : n ≡ 0 + length places = omega (arith, count) in
+    let one = read_one g (before ++ placed_lines g 0 places) (NodeDue n) mid rest (NodeLine n (node g n).name p) tt tt (refl, refl) tt tt to in
+    let grown = read_append g before (node_due g 0) text mid rest (placed_lines g 0 places) (NodeLine n (node g n).name p ∷ []) (so_far before)
+    (subst (λ (d : Due). AreReadTo g (before ++ placed_lines g 0 places) d mid (NodeLine n (node g n).name p ∷ []) rest) (sym due) one) in
+    subst (λ (lines : List SheetLine). AreReadTo g before (node_due g 0) text lines rest)
+    (ap (λ (k : ℕ). placed_lines g 0 places ++ NodeLine k (node g k).name p ∷ []) there ∙ sym (placed_more g 0 places p)) grown
+
+pub place_fault : (g : Graph) (text mid : List ℕ) (n line : ℕ) (places : List Point) (fault : SheetFault) → n < length g.nodes → length places ≡ n → ((before : List SheetLine) → AreReadTo g before (node_due g 0) text (placed_lines g 0 places) mid) →
+    line ≡ 5 + n → ((before : List SheetLine) → IsFaultHere g before (NodeDue n) mid line fault) → (before : List SheetLine) → IsFaultFrom g before (node_due g 0) text 5 fault
+place_fault g text mid n line places fault less count so_far numbered h before =
+    let k = placed_length g 0 places in
+    later_here g before (node_due g 0) text mid (placed_lines g 0 places) 5 line fault (so_far before) (omega (arith, k, count, numbered))
+    (subst (λ (d : Due). IsFaultHere g (before ++ placed_lines g 0 places) d mid line fault) (sym (due_there g n places less count)) (h (before ++ placed_lines g 0 places)))
+
+pub line_read : (g : Graph) (text mid rest : List ℕ) (e : ℕ) (lines : List (List Point)) (l : List Point) → e < length g.edges → length lines ≡ e → ((before : List SheetLine) → AreReadTo g before (edge_due g 0) text (drawn_lines g 0 lines) mid) →
+    HasShape (EdgeLine e (edge g e).west (edge g e).east l) → IsLineTo mid (EdgeLine e (edge g e).west (edge g e).east l) rest → (before : List SheetLine) → AreReadTo g before (edge_due g 0) text (drawn_lines g 0 (lines ++ l ∷ [])) rest
+line_read g text mid rest e lines l less count so_far shape to before =
+    let due = due_there_edge g e lines less count in
+    let there : e ≡ 0 + length lines = omega (arith, count) in
+    let line : SheetLine = EdgeLine e (edge g e).west (edge g e).east l in
+    let one = read_one g (before ++ drawn_lines g 0 lines) (EdgeDue e) mid rest line tt tt (refl, refl, refl) shape tt to in
+    let grown = read_append g before (edge_due g 0) text mid rest (drawn_lines g 0 lines) (line ∷ []) (so_far before)
+    (subst (λ (d : Due). AreReadTo g (before ++ drawn_lines g 0 lines) d mid (line ∷ []) rest) (sym due) one) in
+    subst (λ (more : List SheetLine). AreReadTo g before (edge_due g 0) text more rest)
+    (ap (λ (k : ℕ). drawn_lines g 0 lines ++ EdgeLine k (edge g k).west (edge g k).east l ∷ []) there ∙ sym (drawn_more g 0 lines l)) grown
+
+pub line_fault : (g : Graph) (text mid : List ℕ) (e line first : ℕ) (lines : List (List Point)) (fault : SheetFault) → e < length g.edges → length lines ≡ e → ((before : List SheetLine) → AreReadTo g before (edge_due g 0) text (drawn_lines g 0 lines) mid) →
+    line ≡ first + e → ((before : List SheetLine) → IsFaultHere g before (EdgeDue e) mid line fault) → (before : List SheetLine) → IsFaultFrom g before (edge_due g 0) text first fault
+line_fault g text mid e line first lines fault less count so_far numbered h before =
+    let k = drawn_length g 0 lines in
+    later_here g before (edge_due g 0) text mid (drawn_lines g 0 lines) first line fault (so_far before) (omega (arith, k, count, numbered))
+    (subst (λ (d : Due). IsFaultHere g (before ++ drawn_lines g 0 lines) d mid line fault) (sym (due_there_edge g e lines less count)) (h (before ++ drawn_lines g 0 lines)))
+
+-- ---- one more of a list
+
+pub count_more : {A : Type 0} (new old : List A) (a : A) (n : ℕ) → new ≡ old ++ a ∷ [] → length old ≡ n → length new ≡ n + 1
+count_more new old a n grown count = let e = ap length grown in let f = length-append old (a ∷ []) in omega (arith, e, f, count)
+
+-- ---- the head
+
+pub read_title : (g : Graph) (needs_drawing : Bool) (text rest : List ℕ) → IsLineTo text Title rest → AreReadTo g [] (TitleDue needs_drawing) text (Title ∷ []) rest
+read_title g needs_drawing text rest to = read_one g [] (TitleDue needs_drawing) text rest Title tt tt tt tt tt to
+
+pub read_grid : (g : Graph) (needs_drawing : Bool) (text mid rest : List ℕ) (grid : GridSize) → IsLineTo text Title mid → IsGrid grid → IsLineTo mid (GridLine grid) rest → AreReadTo g [] (TitleDue needs_drawing) text (Title ∷ GridLine grid ∷ []) rest
+read_grid g needs_drawing text mid rest grid title is to =
+    read_append g [] (TitleDue needs_drawing) text mid rest (Title ∷ []) (GridLine grid ∷ []) (read_title g needs_drawing text mid title)
+    (read_one g (Title ∷ []) (GridDue needs_drawing) mid rest (GridLine grid) tt is tt tt tt to)
+
+pub read_head : (g : Graph) (needs_drawing : Bool) (text one two rest : List ℕ) (grid : GridSize) (order : List Criterion) → IsLineTo text Title one → IsGrid grid → IsLineTo one (GridLine grid) two → IsOrder order → IsLineTo two (OrderLine order) rest →
+    AreReadTo g [] (TitleDue needs_drawing) text (head_lines grid order) rest
+read_head g needs_drawing text one two rest grid order title is grid_to is_order to =
+    read_append g [] (TitleDue needs_drawing) text two rest (Title ∷ GridLine grid ∷ []) (OrderLine order ∷ []) (read_grid g needs_drawing text one two grid title is grid_to)
+    (read_one g (Title ∷ GridLine grid ∷ []) (OrderDue needs_drawing) two rest (OrderLine order) tt is_order tt tt tt to)
+
+-- ---- what the lines tell
+
+pub order_kept : (before lines : List SheetLine) (order : List Criterion) → order_told lines ≡ [] → order_told before ≡ order → order_told (before ++ lines) ≡ order
+order_kept before lines order none told = flat_map-append criteria_told before lines ∙ ap (λ (o : List Criterion). order_told before ++ o) none ∙ append-nil (order_told before) ∙ told
+
+pub drawing_grown : (before lines : List SheetLine) (d : Drawing) → drawing_told before ≡ drawing [] [] → drawing_told lines ≡ d → drawing_told (before ++ lines) ≡ d
+drawing_grown before lines d none told =
+    let places : flat_map place_told (before ++ lines) ≡ flat_map place_told lines = flat_map-append place_told before lines ∙ ap (λ (d : Drawing). d.places ++ flat_map place_told lines) none in
+    let drawn : flat_map line_told (before ++ lines) ≡ flat_map line_told lines = flat_map-append line_told before lines ∙ ap (λ (d : Drawing). d.lines ++ flat_map line_told lines) none in
+    ap (λ (ps : List Point). drawing ps (flat_map line_told (before ++ lines))) places ∙ ap (λ (ls : List (List Point)). drawing (flat_map place_told lines) ls) drawn ∙ told
+
+-- ---- the end of a sheet with a drawing
+
+pub read_values : (g : Graph) (before : List SheetLine) (d : Drawing) (text rest : List ℕ) → drawing_told before ≡ d → IsLineTo text (ValuesLine (values_of d)) rest → AreReadTo g before ValuesDue text (ValuesLine (values_of d) ∷ []) rest
+read_values g before d text rest told to = read_one g before ValuesDue text rest (ValuesLine (values_of d)) tt tt tt tt (ap values_of (sym told)) to
+
+pub read_ending : (g : Graph) (before : List SheetLine) (order : List Criterion) (d : Drawing) (text mid rest : List ℕ) (e : Ending) → order_told before ≡ order → drawing_told before ≡ d → IsLineTo text (ValuesLine (values_of d)) mid → MayEnd true e → StatesSettled order true e → IsLineTo mid (EndLine e) rest →
+    AreReadTo g before ValuesDue text (ValuesLine (values_of d) ∷ EndLine e ∷ []) rest
+read_ending g before order d text mid rest e ordered told values may settled to =
+    read_append g before ValuesDue text mid rest (ValuesLine (values_of d) ∷ []) (EndLine e ∷ []) (read_values g before d text mid told values)
+    (read_one g (before ++ ValuesLine (values_of d) ∷ []) EndDue mid rest (EndLine e) may (subst (λ (o : List Criterion). StatesSettled o true e) (sym (order_kept before (ValuesLine (values_of d) ∷ []) order refl ordered)) settled) tt tt tt to)
+
+-- ---- options
+
+pub some_case : {A : Type 0} (o : Option A) (P : Type 0) (Q : A → Type 0) (x : A) → MatchOption o P Q → o ≡ Some x → Q x
+some_case None P Q x h is = cc
+some_case (Some y) P Q x h is = let same : y ≡ x = cc in subst Q same h
+
+pub none_case : {A : Type 0} (o : Option A) (P : Type 0) (Q : A → Type 0) → MatchOption o P Q → o ≡ None → P
+none_case None P Q h is = h
+none_case (Some y) P Q h is = cc

@@ -1,0 +1,186 @@
+-- Which sheet a text is, and which fault it has.
+use Rattle.std.specs.Prelude.{◌≡◌, ◌≢◌, ℕ, ◌+◌, ⊤, Bool, true, false, if◌then◌else◌, nat_lt, List, [], ◌∷◌, ◌++◌, Some, length, flat_map}
+use Rattle.plan_core.specs.declared.point.Point.{Point}
+use Rattle.plan_core.specs.declared.criterion.Criterion.{Criterion}
+use Rattle.plan_core.specs.Grid.{GridSize, IsGrid}
+use Rattle.plan_core.specs.Order.{IsOrder}
+use Rattle.plan_core.specs.Line.{is_line}
+use Rattle.plan_core.specs.Graph.{Graph, node, edge}
+use Rattle.plan_core.specs.Drawing.{Drawing, drawing}
+use Rattle.plan_core.specs.Values.{values_of}
+use Rattle.plan_text.specs.declared.sheet_fault.SheetWhat.{SheetWhat}
+use Rattle.plan_text.specs.declared.sheet_fault.SheetWhat.TheVariants as whats
+use Rattle.plan_text.specs.declared.sheet_fault.SheetFault.{SheetFault}
+use Rattle.plan_text.specs.declared.sheet_fault.SheetFault.TheVariants.{Sheet as SheetHas, Memory}
+use Rattle.plan_text.specs.SheetLine.{SheetLine, Title, GridLine, OrderLine, NodesLine, NodeLine, EdgesLine, EdgeLine, ValuesLine, EndLine, text_of, IsForm, MayEnd}
+use Rattle.plan_text.specs.SheetText.{Sheet, StatesSettled, DrawsAll, sheet_lines, sheet_text}
+
+-- ---- which line is due
+
+-- the kind of line that is due, and its number where it has one. needs_drawing says that a sheet without a
+-- drawing isn't taken. Behind the order comes the body: the count of nodes, with which a drawing begins, or
+-- the ending of a sheet without one. Behind the ending comes no line
+pub data Due : Type 0 where
+  TitleDue : (needs_drawing : Bool) → Due
+  GridDue : (needs_drawing : Bool) → Due
+  OrderDue : (needs_drawing : Bool) → Due
+  BodyDue : (needs_drawing : Bool) → Due
+  NodeDue : (number : ℕ) → Due
+  EdgesDue : Due
+  EdgeDue : (number : ℕ) → Due
+  ValuesDue : Due
+  EndDue : Due
+  NoneDue : Due
+
+-- the line of the next node, if there is one, or else the count of edges
+abbrev pub node_due : Graph → ℕ → Due
+node_due g n = (if nat_lt n (length g.nodes) then NodeDue n else EdgesDue)
+
+abbrev pub edge_due : Graph → ℕ → Due
+edge_due g e = (if nat_lt e (length g.edges) then EdgeDue e else ValuesDue)
+
+-- what is due behind a line of the kind that was due
+abbrev pub due_behind : Graph → Due → SheetLine → Due
+due_behind g (TitleDue needs_drawing) line = GridDue needs_drawing
+due_behind g (GridDue needs_drawing) line = OrderDue needs_drawing
+due_behind g (OrderDue needs_drawing) line = BodyDue needs_drawing
+due_behind g (BodyDue needs_drawing) (NodesLine count) = node_due g 0
+due_behind g (BodyDue needs_drawing) line = NoneDue
+due_behind g (NodeDue n) line = node_due g (n + 1)
+due_behind g EdgesDue line = edge_due g 0
+due_behind g (EdgeDue e) line = edge_due g (e + 1)
+due_behind g ValuesDue line = EndDue
+due_behind g EndDue line = NoneDue
+due_behind g NoneDue line = NoneDue
+
+-- what is due behind these lines, where the first of them was due
+abbrev pub due_after : Graph → Due → List SheetLine → Due
+due_after g due [] = due
+due_after g due (line ∷ lines) = due_after g (due_behind g due line) lines
+
+-- the line is of the kind that is due
+abbrev pub IsDue : Due → SheetLine → Type 0
+IsDue (TitleDue needs_drawing) Title = ⊤
+IsDue (GridDue needs_drawing) (GridLine grid) = ⊤
+IsDue (OrderDue needs_drawing) (OrderLine order) = ⊤
+IsDue (BodyDue needs_drawing) (NodesLine count) = ⊤
+IsDue (BodyDue false) (EndLine ending) = MayEnd false ending
+IsDue (NodeDue n) (NodeLine number name place) = ⊤
+IsDue EdgesDue (EdgesLine count) = ⊤
+IsDue (EdgeDue e) (EdgeLine number west east points) = ⊤
+IsDue ValuesDue (ValuesLine values) = ⊤
+IsDue EndDue (EndLine ending) = MayEnd true ending
+IsDue due line = ⊥
+
+-- ---- what a line must meet beside its form
+
+-- what the lines before tell
+abbrev pub criteria_told : SheetLine → List Criterion
+criteria_told (OrderLine order) = order
+criteria_told line = []
+
+abbrev pub place_told : SheetLine → List Point
+place_told (NodeLine number name place) = place ∷ []
+place_told line = []
+
+abbrev pub line_told : SheetLine → List (List Point)
+line_told (EdgeLine number west east points) = points ∷ []
+line_told line = []
+
+abbrev pub order_told : List SheetLine → List Criterion
+order_told lines = flat_map criteria_told lines
+
+abbrev pub drawing_told : List SheetLine → Drawing
+drawing_told lines = drawing (flat_map place_told lines) (flat_map line_told lines)
+
+-- width and height are a grid, the criteria an order, and no more criteria are settled than may be
+abbrev pub IsInRange : List SheetLine → Due → SheetLine → Type 0
+IsInRange before due (GridLine grid) = IsGrid grid
+IsInRange before due (OrderLine order) = IsOrder order
+IsInRange before EndDue (EndLine ending) = StatesSettled (order_told before) true ending
+IsInRange before due (EndLine ending) = StatesSettled (order_told before) false ending
+IsInRange before due line = ⊤
+
+-- the counts, a node's number and name, and an edge's number and ends are the graph's
+abbrev pub IsOfGraph : Graph → Due → SheetLine → Type 0
+IsOfGraph g due (NodesLine count) = count ≡ length g.nodes
+IsOfGraph g (NodeDue n) (NodeLine number name place) = (number ≡ n) × (name ≡ (node g n).name)
+IsOfGraph g due (EdgesLine count) = count ≡ length g.edges
+IsOfGraph g (EdgeDue e) (EdgeLine number west east points) = (number ≡ e) × (west ≡ (edge g e).west) × (east ≡ (edge g e).east)
+IsOfGraph g due line = ⊤
+
+-- an edge's points are a line
+abbrev pub HasShape : SheetLine → Type 0
+HasShape (EdgeLine number west east points) = is_line points ≡ true
+HasShape line = ⊤
+
+-- the values are those of the drawing that the lines before tell
+abbrev pub IsMeasured : List SheetLine → SheetLine → Type 0
+IsMeasured before (ValuesLine values) = values ≡ values_of (drawing_told before)
+IsMeasured before line = ⊤
+
+-- ---- the first line with a fault
+
+-- the text begins with this line, which is of the form that is due
+pub record BeginsWith (due : Due) (text : List ℕ) (line : SheetLine) : Type 0 where
+  pub is_due : IsDue due line
+  pub form : IsForm line
+  pub behind : List ℕ
+  pub spelled : text ≡ text_of line ++ behind
+
+-- no line of the form that is due begins the text, so that it is missing, or has no line feed, or is another.
+-- Where none is due, there is text all the same
+abbrev pub IsMisformed : Due → List ℕ → Type 0
+IsMisformed NoneDue text = text ≢ []
+IsMisformed due text = (line : SheetLine) → BeginsWith due text line → ⊥
+
+-- the first line of the text has this fault, and none with a lower number: form, range, graph, shape,
+-- values. Where its form is right, only an edge's line can have two, of which the graph's comes first
+abbrev pub HasFault : Graph → List SheetLine → Due → List ℕ → SheetWhat → Type 0
+HasFault g before due text whats.Form = IsMisformed due text
+HasFault g before due text whats.Range = (line : SheetLine) × BeginsWith due text line × (IsInRange before due line → ⊥)
+HasFault g before due text whats.Graph = (line : SheetLine) × BeginsWith due text line × (IsOfGraph g due line → ⊥)
+HasFault g before due text whats.Shape = (line : SheetLine) × BeginsWith due text line × IsOfGraph g due line × (HasShape line → ⊥)
+HasFault g before due text whats.Values = (line : SheetLine) × BeginsWith due text line × (IsMeasured before line → ⊥)
+
+-- the line is due after the lines before, and has no fault
+pub record IsRight (g : Graph) (before : List SheetLine) (due : Due) (line : SheetLine) : Type 0 where
+  pub is_due : IsDue due line
+  pub form : IsForm line
+  pub range : IsInRange before due line
+  pub of_graph : IsOfGraph g due line
+  pub shape : HasShape line
+  pub measured : IsMeasured before line
+
+-- each line is due after those before it, and has no fault
+abbrev pub AreRight : Graph → List SheetLine → Due → List SheetLine → Type 0
+AreRight g before due [] = ⊤
+AreRight g before due (line ∷ lines) = IsRight g before due line × AreRight g (before ++ line ∷ []) (due_behind g due line) lines
+
+-- the first line of the text that has a fault has this one, and this number, counted from 1
+pub record IsFirstFault (g : Graph) (needs_drawing : Bool) (text : List ℕ) (what : SheetWhat) (number : ℕ) : Type 0 where
+  pub before : List SheetLine
+  pub right : AreRight g [] (TitleDue needs_drawing) before
+  pub rest : List ℕ
+  pub spelled : text ≡ flat_map text_of before ++ rest
+  pub counted : number ≡ length before + 1
+  pub fault : HasFault g before (due_after g (TitleDue needs_drawing) before) rest what
+
+-- the text is that of the sheet, and each of its lines is right. The points needn't lie on the sheet's grid:
+-- where one doesn't, the drawing breaks a law
+pub record IsTextOf (g : Graph) (needs_drawing : Bool) (text : List ℕ) (s : Sheet) : Type 0 where
+  pub draws_all : DrawsAll g s
+  pub right : AreRight g [] (TitleDue needs_drawing) (sheet_lines g s)
+  pub spelled : text ≡ sheet_text g s
+
+-- the text is that of a sheet with this drawing on this grid
+pub record IsDrawingOf (g : Graph) (text : List ℕ) (grid : GridSize) (d : Drawing) : Type 0 where
+  pub sheet : Sheet
+  pub on_grid : sheet.grid ≡ grid
+  pub found : sheet.found ≡ Some d
+  pub told : IsTextOf g true text sheet
+
+-- the fault is the first of the text, or want of memory
+abbrev pub IsFaultOf : Graph → (needs_drawing : Bool) → List ℕ → SheetFault → Type 0
+IsFaultOf g needs_drawing text (SheetHas what line) = IsFirstFault g needs_drawing text what line
+IsFaultOf g needs_drawing text Memory = ⊤
