@@ -4,7 +4,9 @@ use plan_core::{EdgeNo, NodeNo};
 /// A node or an edge of which a law speaks.
 #[derive(Clone, Copy, Debug, PartialEq, Eq)]
 pub enum Party {
+    /// A node, by its number in the graph.
     Node(NodeNo),
+    /// An edge, by its number in the graph.
     Edge(EdgeNo),
 }
 
@@ -13,7 +15,10 @@ pub enum Party {
 /// has the edge that must be above, and then the other.
 #[derive(Clone, Copy, Debug, PartialEq, Eq)]
 pub struct LawBreak {
+    /// The number of the law.
     pub law: u8,
+    /// The party that it is broken for, or the first of two.
     pub first: Party,
+    /// The other of two.
     pub second: Option<Party>,
 }

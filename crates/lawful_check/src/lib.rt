@@ -4,16 +4,18 @@
 //! `Lawful`, and else the least broken law with its least parties, as `specs/Breaks` orders them. Each
 //! law has a function that looks for the least parties for which the law's sentence fails: law 1 in
 //! `grid_law`, laws 2 and 5 in `node_laws`, laws 3 and 4 in `line_laws`, laws 6 and 7 in `edge_laws`.
-//! The crate stands on `port_graph`, `track_order` and `plan_geometry`. The clause encoding and the top
-//! call stand on it.
+//! `laws` has laws of the answers: a lawful drawing breaks none, and the least broken law is one.
+//! The crate stands on `port_graph`, `track_order` and `plan_geometry`. The top call stands on it.
 #![tactic(auto)]
 
 mod breaking;
 mod edge_laws;
 mod grid_law;
 mod law_break;
+mod laws;
 mod line_laws;
 mod node_laws;
 
 pub use breaking::broken;
 pub use law_break::{LawBreak, Party};
+pub use laws::{lawful_or_broken, one_least_break};
