@@ -1,172 +1,148 @@
--- The front of a file that was read is answered as the file is, and what a sound file is answered with.
-use Rattle.std.proofs.Common.{◌≡◌, ◌⊎◌, ℕ, ◌<◌, ◌≤◌, List, [], ◌++◌, None, Some, length, take, refl, sym, ◌∙◌, ap, subst, inl, inr, arith}
+-- What was read of a file is answered as the file is, and what sound files are answered with.
+use Rattle.std.proofs.Common.{◌≡◌, ◌⊎◌, ℕ, ◌<◌, ◌≤◌, List, [], ◌∷◌, ◌++◌, None, Some, length, take, refl, sym, ◌∙◌, ap, subst, inl, inr, arith}
 use Rattle.std.specs.declared.option.Option.{Option}
 use Rattle.std.proofs.lemmas.List.{take_all, length-take}
-use Rattle.plan_core.specs.declared.topology.Topology.{Topology as Tracks}
 use Rattle.plan_core.specs.declared.criterion.Criterion.{Criterion}
 use Rattle.plan_core.specs.Grid.{GridSize}
 use Rattle.plan_core.specs.Graph.{Graph}
-use Rattle.port_graph.specs.declared.fault.GraphFault.{GraphFault}
-use Rattle.port_graph.specs.declared.fault.GraphFault.TheVariants as graphs
+use Rattle.plan_core.specs.Drawing.{Drawing}
 use Rattle.track_order.specs.Order.{EdgeOrder}
-use Rattle.railml_read.specs.declared.rows.Elem.{Elem}
-use Rattle.railml_read.specs.Document.{IsTextFault}
-use Rattle.outside_io.specs.Contents.{Told, ReadsFront, IsFileWhereTold, TellsAt}
+use Rattle.outside_io.specs.Contents.{Told, WhereTold, SameFiles, ReadsFront, IsFileWhereTold, TellsAt}
+use Rattle.outside_io.specs.Counts.{next_count}
 use Rattle.plan_words.specs.declared.command.Command.{Command}
 use Rattle.plan_words.specs.declared.command.Command.TheVariants.{Draw, Verify, Check, Graph as PrintGraph, Make}
-use Rattle.plan_words.specs.Words.{IsCommandOf}
 use Rattle.plan_words.proofs.AnswerLemmas.{command_same, command_or_fault}
 use Rattle.schematic_main.specs.declared.fault.RunFault.{RunFault}
-use Rattle.schematic_main.specs.declared.fault.RunFault.TheVariants.{NotBuilt, Words, Long, Text, Topology, TooManyNodes, TooManyEdges, NotForward, SideMismatch, Contradicts, ReadFailed}
-use Rattle.schematic_main.specs.Fault.{fault_status}
-use Rattle.schematic_main.specs.Input.{file_limit, HasRows, HasTopology, HasGraph, HasGraphFault, HasStation, HasFault, IsRefusal}
+use Rattle.schematic_main.specs.declared.fault.RunFault.TheVariants.{Long, ReadFailed}
+use Rattle.schematic_main.specs.Fault.{IsFault}
+use Rattle.schematic_main.specs.Input.{file_limit, IsLong, IsShort, HasStation, HasFault}
 use Rattle.schematic_main.specs.declared.input.Refusal.{Refusal}
 use Rattle.schematic_main.specs.declared.input.Refusal.TheVariants as refusals
-use Rattle.schematic_main.specs.Reading.{IsOfFile, IsRefusalOf}
-use Rattle.schematic_main.specs.Answer.{IsFault, IsRefused, IsJudged, IsUnbuilt, IsDrawing, IsPrinted, IsAnswerOn, IsAnswerTo, IsAnswer, input_of, IsBuiltFor, AsksForSoundFile}
+use Rattle.schematic_main.specs.Verdict.{IsVerdict, IsSheetJudged, IsSoundSheet}
+use Rattle.schematic_main.specs.Reading.{IsOfFile, IsInput, IsRefusalOf}
+use Rattle.schematic_main.specs.Answer.{IsJudged, IsUnbuilt, IsDrawing, IsPrinted, IsVerified, IsAnswerOn, IsAnswerTo, IsAnswer, ReadFails, inputs_of, IsBuiltFor, AsksForSoundFile, AsksForSoundSheet}
+use Rattle.schematic_main.proofs.InputLemmas.{short_or_long}
 
--- ---- a front that isn't too long is the whole file
+-- ---- what was read
 
+-- a front that isn't too long is the whole file
 few_are_all : (limit : ℕ) (bytes : List ℕ) → file_limit < limit → length (take limit bytes) ≤ file_limit → take limit bytes ≡ bytes
 few_are_all limit bytes large few = take_all limit bytes (omega (arith, length-take limit bytes))
 
-rows_whole : (limit : ℕ) (bytes : List ℕ) (rows : List Elem) → file_limit < limit → HasRows (take limit bytes) rows → HasRows bytes rows
-rows_whole limit bytes rows large has = let P : List ℕ → Type 0 = λ xs. HasRows xs rows in subst P (few_are_all limit bytes large has.few) has
-
-topology_whole : (limit : ℕ) (bytes : List ℕ) (t : Tracks) → file_limit < limit → HasTopology (take limit bytes) t → HasTopology bytes t
-topology_whole limit bytes t large has = record {
-  rows = has.rows;
-  has_rows = rows_whole limit bytes has.rows large has.has_rows;
-  sound = has.sound;
-  resolved = has.resolved;
-}
-
-graph_whole : (limit : ℕ) (bytes : List ℕ) (g : Graph) → file_limit < limit → HasGraph (take limit bytes) g → HasGraph bytes g
-graph_whole limit bytes g large has = record {
-  topology = has.topology;
-  has_topology = topology_whole limit bytes has.topology large has.has_topology;
-  graph = has.graph;
-  station = has.station;
-}
-
-pub station_whole : (limit : ℕ) (bytes : List ℕ) (g : Graph) (o : EdgeOrder) → file_limit < limit → HasStation (take limit bytes) g o → HasStation bytes g o
-station_whole limit bytes g o large has = record {
-  has_graph = graph_whole limit bytes g large has.has_graph;
-  order = has.order;
-}
-
-graph_fault_whole : (limit : ℕ) (bytes : List ℕ) (fault : GraphFault) → file_limit < limit → HasGraphFault (take limit bytes) fault → HasGraphFault bytes fault
-graph_fault_whole limit bytes fault large (t, has, is) = (t, topology_whole limit bytes t large has, is)
-
-pub fault_whole : (limit : ℕ) (bytes : List ℕ) (fault : RunFault) → file_limit < limit → HasFault (take limit bytes) fault → HasFault bytes fault
-fault_whole limit bytes (Long input) large (first, long) = (first, omega (arith, long, length-take limit bytes))
-fault_whole limit bytes (Text what at) large (few, fault) =
-    let whole = few_are_all limit bytes large few in
-    let P : List ℕ → Type 0 = λ xs. (length xs ≤ file_limit) × IsTextFault xs what at in
-    subst P whole (few, fault)
-fault_whole limit bytes (Topology what at first second) large (rows, has, fault) = (rows, rows_whole limit bytes rows large has, fault)
-fault_whole limit bytes (TooManyNodes count) large has = graph_fault_whole limit bytes (graphs.TooManyNodes count) large has
-fault_whole limit bytes (TooManyEdges count) large has = graph_fault_whole limit bytes (graphs.TooManyEdges count) large has
-fault_whole limit bytes (NotForward track mileage) large (edge, has) = (edge, graph_fault_whole limit bytes (graphs.NotForward edge track mileage) large has)
-fault_whole limit bytes (SideMismatch name) large (node, has) = (node, graph_fault_whole limit bytes (graphs.SideMismatch node name) large has)
-fault_whole limit bytes (Contradicts e f) large (g, has, first) = (g, graph_whole limit bytes g large has, first)
-fault_whole limit bytes NotBuilt large h = absurd h
-fault_whole limit bytes (Words what position) large h = absurd h
-fault_whole limit bytes (ReadFailed input) large h = absurd h
-
--- what holds of bytes that are a file's front, and so of the file, holds of the file
-of_front : (contents : Option Told) (name old new : List ℕ) (limit : ℕ) (P : List ℕ → Type 0) → ((bytes : List ℕ) → P (take limit bytes) → P bytes) → old ≡ [] → ReadsFront contents name limit old new → P new → IsOfFile P name contents
-of_front None name old new limit P whole empty read is = (new, tt, is)
-of_front (Some told) name old new limit P whole empty read is =
+-- the front of a file that was read, where it isn't too long
+pub input_of_front : (contents : Option Told) (name old new : List ℕ) (limit : ℕ) → file_limit < limit → old ≡ [] → ReadsFront contents name limit old new → IsShort new → IsInput name contents new
+input_of_front None name old new limit large empty read short = record { is_file = tt; short = short }
+input_of_front (Some told) name old new limit large empty read short =
     let same : new ≡ take limit read.0 = read.2 ∙ ap (λ xs. xs ++ take limit read.0) empty in
-    (read.0, read.1, whole read.0 (subst P same is))
+    let whole : new ≡ read.0 = same ∙ few_are_all limit read.0 large (subst IsShort same short) in
+    record { is_file = read.1 ∙ ap (λ (xs : List ℕ). Some xs) (sym whole); short = short }
 
-pub station_of_front : (contents : Option Told) (name old new : List ℕ) (limit : ℕ) (g : Graph) (o : EdgeOrder) → file_limit < limit → old ≡ [] → ReadsFront contents name limit old new → HasStation new g o → IsOfFile (λ bytes. HasStation bytes g o) name contents
-station_of_front contents name old new limit g o large empty read has =
-    of_front contents name old new limit (λ bytes. HasStation bytes g o) (λ bytes. station_whole limit bytes g o large) empty read has
+-- and where it is
+pub long_of_front : (contents : Option Told) (name old new : List ℕ) (limit : ℕ) → old ≡ [] → ReadsFront contents name limit old new → IsLong new → IsOfFile IsLong name contents
+long_of_front None name old new limit empty read long = (new, tt, long)
+long_of_front (Some told) name old new limit empty read long =
+    let same : new ≡ take limit read.0 = read.2 ∙ ap (λ xs. xs ++ take limit read.0) empty in
+    let front : IsLong (take limit read.0) = subst IsLong same long in
+    (read.0, read.1, omega (arith, front, length-take limit read.0))
 
-pub fault_of_front : (contents : Option Told) (name old new : List ℕ) (limit : ℕ) (fault : RunFault) → file_limit < limit → old ≡ [] → ReadsFront contents name limit old new → HasFault new fault → IsOfFile (λ bytes. HasFault bytes fault) name contents
-fault_of_front contents name old new limit fault large empty read has =
-    of_front contents name old new limit (λ bytes. HasFault bytes fault) (λ bytes. fault_whole limit bytes fault large) empty read has
+-- ---- how an input is answered
 
-pub refusal_of_front : (contents : Option Told) (name old new : List ℕ) (limit : ℕ) (fails : ℕ → Type 0) (r : Refusal) → file_limit < limit → old ≡ [] → ReadsFront contents name limit old new → IsRefusal new r → IsRefusalOf name contents fails r
-refusal_of_front contents name old new limit fails (refusals.Fault fault) large empty read has = inl (fault_of_front contents name old new limit fault large empty read has)
-refusal_of_front contents name old new limit fails refusals.Memory large empty read has = tt
+-- an input that was read is answered as its bytes are
+pub read_on : (number : ℕ) (name : List ℕ) (contents : Option Told) (failed : Type 0) (Answers : List ℕ → ℕ → List ℕ → Type 0) (bytes : List ℕ) (status : ℕ) (text : List ℕ) →
+    IsInput name contents bytes → Answers bytes status text → IsAnswerOn number name contents failed Answers status text
+read_on number name contents failed Answers bytes status text input answer = inl (bytes, input.is_file, inr (input.short, answer))
 
--- ---- a file's fault
+-- an input with a fault, or one that couldn't be read, is answered with that
+pub refused_on : (Answers : Graph → EdgeOrder → ℕ → List ℕ → Type 0) (input : List ℕ) (contents : Option Told) (fails : ℕ → Type 0) (r : Refusal) (fault : RunFault) (status : ℕ) (text : List ℕ) →
+    IsRefusalOf input contents fails r → r ≡ refusals.Fault fault → IsFault fault status text → IsAnswerOn 1 input contents (fails 0) (IsJudged Answers) status text
+refused_on Answers input contents fails (refusals.Fault other) fault status text (inl (bytes, is, has)) same told =
+    let here : HasFault bytes fault = subst (λ (f : RunFault). HasFault bytes f) (cc) has in
+    elim (short_or_long bytes fault here) [
+      | inl (long, named) ↦ inl (bytes, is, inl (long, subst (λ (f : RunFault). IsFault f status text) named told))
+      | inr short ↦ inl (bytes, is, inr (short, inr (record { fault = fault; has = here; told = told })))
+    ]
+refused_on Answers input contents fails (refusals.Fault other) fault status text (inr (failed, named)) same told =
+    let here : fault ≡ ReadFailed 1 = cc in
+    inr (failed, subst (λ (f : RunFault). IsFault f status text) here told)
+refused_on Answers input contents fails refusals.Memory fault status text refused same told = absurd (cc)
 
--- a fault of a file's bytes ends the run with 1
-pub fault_of_bytes : (bytes : List ℕ) (fault : RunFault) → HasFault bytes fault → fault_status fault ≡ 1
-fault_of_bytes bytes (Long input) has = refl
-fault_of_bytes bytes (Text what at) has = refl
-fault_of_bytes bytes (Topology what at first second) has = refl
-fault_of_bytes bytes (TooManyNodes count) has = refl
-fault_of_bytes bytes (TooManyEdges count) has = refl
-fault_of_bytes bytes (NotForward track mileage) has = refl
-fault_of_bytes bytes (SideMismatch name) has = refl
-fault_of_bytes bytes (Contradicts e f) has = refl
-fault_of_bytes bytes NotBuilt has = absurd has
-fault_of_bytes bytes (Words what position) has = absurd has
-fault_of_bytes bytes (ReadFailed input) has = absurd has
+-- ---- two reads
 
--- a command answers with the fault of its file, or that it couldn't be read
-pub refused_on : (Answers : Graph → EdgeOrder → ℕ → List ℕ → Type 0) (input : List ℕ) (contents : Option Told) (fails : ℕ → Type 0) (fault : RunFault) (status : ℕ) (text : List ℕ) →
-    IsOfFile (λ bytes. HasFault bytes fault) input contents ⊎ (fails 0 × (fault ≡ ReadFailed 1)) → IsFault fault status text → IsAnswerOn Answers input contents fails status text
-refused_on Answers input contents fails fault status text (inl (bytes, is, has)) told = inl (bytes, is, inr (record { fault = fault; has = has; told = told }))
-refused_on Answers input contents fails fault status text (inr (failed, same)) told = inr (failed, subst (λ (f : RunFault). IsFault f status text) same told)
+-- a file that is told after a read is told before it
+told_before : (old mid : Option Told) (name bytes : List ℕ) → WhereTold old mid SameFiles → IsFileWhereTold mid name bytes → IsFileWhereTold old name bytes
+told_before None mid name bytes same is = tt
+told_before (Some before) None name bytes same is = absurd same
+told_before (Some before) (Some after) name bytes same is = sym (same name) ∙ is
 
--- such an answer has status 1, or 5 where a read failed
-pub refused_status : (input : List ℕ) (contents : Option Told) (fails : ℕ → Type 0) (fault : RunFault) (status : ℕ) (text : List ℕ) →
-    IsOfFile (λ bytes. HasFault bytes fault) input contents ⊎ (fails 0 × (fault ≡ ReadFailed 1)) → IsFault fault status text → (status ≡ 1) ⊎ ((status ≡ 5) × fails 0)
-refused_status input contents fails fault status text (inl (bytes, is, has)) told = inl (told.status_is ∙ fault_of_bytes bytes fault has)
-refused_status input contents fails fault status text (inr (failed, same)) told = inr (told.status_is ∙ ap fault_status same, failed)
+-- so what is answered on the files after a read is answered on those before it
+pub answer_before : (number : ℕ) (name : List ℕ) (old mid : Option Told) (failed before : Type 0) (Answers : List ℕ → ℕ → List ℕ → Type 0) (status : ℕ) (text : List ℕ) →
+    WhereTold old mid SameFiles → (failed → before) → IsAnswerOn number name mid failed Answers status text → IsAnswerOn number name old before Answers status text
+answer_before number name old mid failed before Answers status text same later (inl (bytes, is, answer)) = inl (bytes, told_before old mid name bytes same is, answer)
+answer_before number name old mid failed before Answers status text same later (inr (fails, told)) = inr (later fails, told)
 
--- a command answers to the station of its file
-pub answered_on : (Answers : Graph → EdgeOrder → ℕ → List ℕ → Type 0) (input : List ℕ) (contents : Option Told) (fails : ℕ → Type 0) (g : Graph) (o : EdgeOrder) (status : ℕ) (text : List ℕ) →
-    IsOfFile (λ bytes. HasStation bytes g o) input contents → Answers g o status text → IsAnswerOn Answers input contents fails status text
-answered_on Answers input contents fails g o status text (bytes, is, has) answer = inl (bytes, is, inl (g, o, has, answer))
+-- a read that failed after another one
+pub fails_later : {Self : Type 0} (faults reads : Self → ℕ) (old mid new : Self) → faults old ≤ faults mid → reads mid ≡ next_count (reads old) → ReadFails faults reads mid new 0 → ReadFails faults reads old new 1
+fails_later faults reads old mid new later one fails = let rose = fails.rose in record { rose = omega (arith, later, rose); done = fails.done ∙ one }
 
 -- ---- what a sound file is answered with
 
-same_some : {X : Type 0} {a b : X} → Some a ≡ Some b → b ≡ a
-same_some e = cc
+one_of : {X : Type 0} {a b : X} → a ∷ [] ≡ b ∷ [] → b ≡ a
+one_of e = cc
 
-none_some : {X : Type 0} {a : X} → None ≡ Some a → ⊥
-none_some e = cc
+not_one : {X : Type 0} {a : X} → [] ≡ a ∷ [] → ⊥
+not_one e = cc
+
+not_two : {X : Type 0} {a b c : X} → a ∷ b ∷ [] ≡ c ∷ [] → ⊥
+not_two e = cc
 
 -- files tell one list of bytes of a name
 told_once : (contents : Option Told) (name bytes others : List ℕ) → TellsAt contents name (Some bytes) → IsFileWhereTold contents name others → others ≡ bytes
 told_once None name bytes others there is = absurd there
 told_once (Some told) name bytes others there is = let k : Some bytes ≡ Some others = there ∙ is in cc
 
--- an answer on one file, of which no read failed and which has no fault, is one to its station
-sound_on : (Answers : Graph → EdgeOrder → ℕ → List ℕ → Type 0) (name bytes : List ℕ) (contents : Option Told) (fails : ℕ → Type 0) (status : ℕ) (text : List ℕ) →
-    TellsAt contents name (Some bytes) → ((fault : RunFault) → HasFault bytes fault → ⊥) → (fails 0 → ⊥) → IsAnswerOn Answers name contents fails status text →
+too_long : (bytes : List ℕ) → IsShort bytes → IsLong bytes → ⊥
+too_long bytes short long = omega (arith, short, long)
+
+-- an answer on an input that was read and isn't too long is one to its bytes
+within_on : (number : ℕ) (name bytes : List ℕ) (contents : Option Told) (failed : Type 0) (Answers : List ℕ → ℕ → List ℕ → Type 0) (status : ℕ) (text : List ℕ) →
+    TellsAt contents name (Some bytes) → (IsLong bytes → ⊥) → (failed → ⊥) → IsAnswerOn number name contents failed Answers status text → Answers bytes status text
+within_on number name bytes contents failed Answers status text there few read (inl (others, is, inl (long, told))) =
+    absurd (few (subst IsLong (told_once contents name bytes others there is) long))
+within_on number name bytes contents failed Answers status text there few read (inl (others, is, inr (short, answer))) =
+    subst (λ (xs : List ℕ). Answers xs status text) (told_once contents name bytes others there is) answer
+within_on number name bytes contents failed Answers status text there few read (inr (fails, told)) = absurd (read fails)
+
+-- an answer to a file that has no fault is one to its station
+sound_judged : (Answers : Graph → EdgeOrder → ℕ → List ℕ → Type 0) (bytes : List ℕ) (status : ℕ) (text : List ℕ) → ((fault : RunFault) → HasFault bytes fault → ⊥) → IsJudged Answers bytes status text →
     (g : Graph) × (o : EdgeOrder) × HasStation bytes g o × Answers g o status text
-sound_on Answers name bytes contents fails status text there sound read (inl (others, is, inl (g, o, has, answer))) =
-    (g, o, subst (λ (xs : List ℕ). HasStation xs g o) (told_once contents name bytes others there is) has, answer)
-sound_on Answers name bytes contents fails status text there sound read (inl (others, is, inr refused)) =
-    absurd (sound refused.fault (subst (λ (xs : List ℕ). HasFault xs refused.fault) (told_once contents name bytes others there is) refused.has))
-sound_on Answers name bytes contents fails status text there sound read (inr (failed, line)) = absurd (read failed)
+sound_judged Answers bytes status text sound (inl answer) = answer
+sound_judged Answers bytes status text sound (inr refused) = absurd (sound refused.fault refused.has)
+
+-- an answer on one file, of which no read failed and which has no fault, is one to its station
+sound_on : (Answers : Graph → EdgeOrder → ℕ → List ℕ → Type 0) (name bytes : List ℕ) (contents : Option Told) (failed : Type 0) (status : ℕ) (text : List ℕ) →
+    TellsAt contents name (Some bytes) → ((fault : RunFault) → HasFault bytes fault → ⊥) → (failed → ⊥) → IsAnswerOn 1 name contents failed (IsJudged Answers) status text →
+    (g : Graph) × (o : EdgeOrder) × HasStation bytes g o × Answers g o status text
+sound_on Answers name bytes contents failed status text there sound read answer =
+    sound_judged Answers bytes status text sound (within_on 1 name bytes contents failed (IsJudged Answers) status text there (λ long. sound (Long 1) (refl, long)) read answer)
 
 drawn_is_0 : (g : Graph) (o : EdgeOrder) (grid : GridSize) (order : List Criterion) (svg log : Option (List ℕ)) (status : ℕ) (text : List ℕ) → (IsUnbuilt g svg log → ⊥) → IsDrawing g o grid order svg log status text → status ≡ 0
 drawn_is_0 g o grid order svg log status text built (inl drawn) = drawn.status_is
 drawn_is_0 g o grid order svg log status text built (inr down) = absurd (built down.unbuilt)
 
-command_is_0 : (command : Command) (name bytes : List ℕ) (contents : Option Told) (fails : ℕ → Type 0) (status : ℕ) (text : List ℕ) → input_of command ≡ Some name →
+command_is_0 : (command : Command) (name bytes : List ℕ) (contents : Option Told) (fails : ℕ → Type 0) (status : ℕ) (text : List ℕ) → inputs_of command ≡ name ∷ [] →
     TellsAt contents name (Some bytes) → ((fault : RunFault) → HasFault bytes fault → ⊥) → ((g : Graph) (o : EdgeOrder) → HasStation bytes g o → IsBuiltFor command g) →
     (fails 0 → ⊥) → IsAnswerTo command contents fails status text → status ≡ 0
 command_is_0 (Draw input grid order budget svg log) name bytes contents fails status text reads there sound built read answer =
-    let same : name ≡ input = same_some reads in
-    let found = sound_on (λ g o. IsDrawing g o grid order svg log) input bytes contents fails status text (subst (λ (n : List ℕ). TellsAt contents n (Some bytes)) same there) sound read answer in
+    let same : name ≡ input = one_of reads in
+    let found = sound_on (λ g o. IsDrawing g o grid order svg log) input bytes contents (fails 0) status text (subst (λ (n : List ℕ). TellsAt contents n (Some bytes)) same there) sound read answer in
     drawn_is_0 found.0 found.1 grid order svg log status text (built found.0 found.1 found.2) found.3
 command_is_0 (PrintGraph input) name bytes contents fails status text reads there sound built read answer =
-    let same : name ≡ input = same_some reads in
-    let found = sound_on IsPrinted input bytes contents fails status text (subst (λ (n : List ℕ). TellsAt contents n (Some bytes)) same there) sound read answer in
+    let same : name ≡ input = one_of reads in
+    let found = sound_on IsPrinted input bytes contents (fails 0) status text (subst (λ (n : List ℕ). TellsAt contents n (Some bytes)) same there) sound read answer in
     found.3.status_is
-command_is_0 (Verify input sheet) name bytes contents fails status text reads there sound built read answer = absurd (none_some reads)
-command_is_0 (Check input sheet log) name bytes contents fails status text reads there sound built read answer = absurd (none_some reads)
-command_is_0 (Make n) name bytes contents fails status text reads there sound built read answer = absurd (none_some reads)
+command_is_0 (Verify input sheet) name bytes contents fails status text reads there sound built read answer = absurd (not_two reads)
+command_is_0 (Check input sheet log) name bytes contents fails status text reads there sound built read answer = absurd (not_one reads)
+command_is_0 (Make n) name bytes contents fails status text reads there sound built read answer = absurd (not_one reads)
 
 -- words that ask for a command on a sound file are answered with 0
 pub sound_is_answered : (words : List (List ℕ)) (contents : Option Told) (fails : ℕ → Type 0) (status : ℕ) (text : List ℕ) → AsksForSoundFile words contents → (fails 0 → ⊥) → IsAnswer words contents fails status text → status ≡ 0
@@ -174,3 +150,29 @@ sound_is_answered words contents fails status text asks read (inl found) =
     let one : found.command ≡ asks.command = command_same words found.command asks.command found.asked asks.asked in
     command_is_0 asks.command asks.input asks.bytes contents fails status text asks.reads asks.there asks.sound asks.built read (subst (λ (command : Command). IsAnswerTo command contents fails status text) one found.answer)
 sound_is_answered words contents fails status text asks read (inr wrong) = absurd (command_or_fault words asks.command wrong.what wrong.position asks.asked wrong.fault)
+
+-- ---- what a sound sheet is answered with
+
+verdict_status : (g : Graph) (o : EdgeOrder) (grid : GridSize) (d : Drawing) (status : ℕ) (text : List ℕ) → IsVerdict g o grid d status text → (status ≡ 0) ⊎ (status ≡ 8)
+verdict_status g o grid d status text (inl lawful) = inl lawful.status_is
+verdict_status g o grid d status text (inr broken) = inr broken.status_is
+
+sheet_status : (g : Graph) (o : EdgeOrder) (sheet : List ℕ) (status : ℕ) (text : List ℕ) → IsSoundSheet g sheet → IsSheetJudged g o sheet status text → (status ≡ 0) ⊎ (status ≡ 8)
+sheet_status g o sheet status text sound (inl judged) = verdict_status g o judged.grid judged.drawn status text judged.verdict
+sheet_status g o sheet status text sound (inr refused) = absurd (sound.sound refused.what refused.line refused.first)
+
+-- words that ask to verify a sound sheet for a sound file are answered with a verdict
+sheet_is_judged : (words : List (List ℕ)) (contents : Option Told) (fails : ℕ → Type 0) (status : ℕ) (text : List ℕ) (asks : AsksForSoundSheet words contents) → ((n : ℕ) → fails n → ⊥) →
+    IsAnswerTo (Verify asks.input asks.sheet) contents fails status text → (status ≡ 0) ⊎ (status ≡ 8)
+sheet_is_judged words contents fails status text asks read answer =
+    let Then : List ℕ → ℕ → List ℕ → Type 0 = λ bytes. IsAnswerOn 2 asks.sheet contents (fails 1) (IsVerified bytes) in
+    let both = within_on 1 asks.input asks.bytes contents (fails 0) Then status text asks.there (λ long. asks.sound (Long 1) (refl, long)) (read 0) answer in
+    let verified = within_on 2 asks.sheet asks.sheet_bytes contents (fails 1) (IsVerified asks.bytes) status text asks.sheet_there (too_long asks.sheet_bytes asks.short) (read 1) both in
+    let found = sound_judged (λ g o. IsSheetJudged g o asks.sheet_bytes) asks.bytes status text asks.sound verified in
+    sheet_status found.0 found.1 asks.sheet_bytes status text (asks.drawn found.0 found.1 found.2) found.3
+
+pub sound_is_judged : (words : List (List ℕ)) (contents : Option Told) (fails : ℕ → Type 0) (status : ℕ) (text : List ℕ) → AsksForSoundSheet words contents → ((n : ℕ) → fails n → ⊥) → IsAnswer words contents fails status text → (status ≡ 0) ⊎ (status ≡ 8)
+sound_is_judged words contents fails status text asks read (inl found) =
+    let one : found.command ≡ Verify asks.input asks.sheet = command_same words found.command (Verify asks.input asks.sheet) found.asked asks.asked in
+    sheet_is_judged words contents fails status text asks read (subst (λ (command : Command). IsAnswerTo command contents fails status text) one found.answer)
+sound_is_judged words contents fails status text asks read (inr wrong) = absurd (command_or_fault words (Verify asks.input asks.sheet) wrong.what wrong.position asks.asked wrong.fault)

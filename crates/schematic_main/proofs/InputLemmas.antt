@@ -1,5 +1,5 @@
 -- A file that has a station has none of the faults; it has one track graph and one fault at most.
-use Rattle.std.proofs.Common.{◌≡◌, ℕ, ◌<◌, ◌≤◌, Bool, true, false, List, length, refl, sym, ◌∙◌, ap, subst, inl, inr, arith}
+use Rattle.std.proofs.Common.{◌≡◌, ◌⊎◌, ℕ, ◌<◌, ◌≤◌, Bool, true, false, List, length, refl, sym, ◌∙◌, ap, subst, inl, inr, arith}
 use Rattle.std.proofs.lemmas.Bool.{cases_order, false≢true}
 use Rattle.plan_core.specs.declared.topology.Topology.{Topology as Tracks}
 use Rattle.plan_core.specs.Topology.{IsResolved}
@@ -23,8 +23,8 @@ use Rattle.port_graph.specs.TopologyGraph.{IsGraphOf, IsGraphFault}
 use Rattle.port_graph.proofs.OneGraph.{one_graph as one_built, graph_or_fault, one_fault as one_of_graph}
 use Rattle.track_order.specs.Order.{EdgeOrder, IsFirstContradiction}
 use Rattle.schematic_main.specs.declared.fault.RunFault.{RunFault}
-use Rattle.schematic_main.specs.declared.fault.RunFault.TheVariants.{NotBuilt, Words, Long, Text, Topology, TooManyNodes, TooManyEdges, NotForward, SideMismatch, Contradicts, ReadFailed}
-use Rattle.schematic_main.specs.Input.{file_limit, HasRows, HasTopology, HasGraph, HasGraphFault, HasStation, HasFault}
+use Rattle.schematic_main.specs.declared.fault.RunFault.TheVariants.{NotBuilt, Words, Long, Text, Topology, TooManyNodes, TooManyEdges, NotForward, SideMismatch, Contradicts, Sheet, ReadFailed}
+use Rattle.schematic_main.specs.Input.{file_limit, IsLong, IsShort, HasRows, HasTopology, HasGraph, HasGraphFault, HasStation, HasFault}
 use Rattle.schematic_main.proofs.FormedRows.{rows_formed}
 
 one_rows : (bytes : List ℕ) (a b : List Elem) → HasRows bytes a → HasRows bytes b → a ≡ b
@@ -100,7 +100,21 @@ caused bytes (SideMismatch name) h = record { cause = OfGraph (graphs.SideMismat
 caused bytes (Contradicts e f) h = record { cause = OfOrder e.0 f.0; has = h; is = refl }
 caused bytes NotBuilt h = absurd h
 caused bytes (Words what position) h = absurd h
+caused bytes (Sheet what line) h = absurd h
 caused bytes (ReadFailed input) h = absurd h
+
+-- a file with a cause is too long, which is then the cause, or it isn't
+few_or_too_many : (bytes : List ℕ) (cause : Cause) → HasCause bytes cause → (IsLong bytes × (told cause ≡ Long 1)) ⊎ IsShort bytes
+few_or_too_many bytes TooLong h = inl (h, refl)
+few_or_too_many bytes (OfText what at) h = inr h.0
+few_or_too_many bytes (OfTopology what at first second) h = inr h.1.few
+few_or_too_many bytes (OfGraph fault) h = inr h.has.1.has_rows.few
+few_or_too_many bytes (OfOrder e f) h = inr h.1.has_topology.has_rows.few
+
+pub short_or_long : (bytes : List ℕ) (fault : RunFault) → HasFault bytes fault → (IsLong bytes × (fault ≡ Long 1)) ⊎ IsShort bytes
+short_or_long bytes fault h =
+    let c = caused bytes fault h in
+    subst (λ (f : RunFault). (IsLong bytes × (f ≡ Long 1)) ⊎ IsShort bytes) c.is (few_or_too_many bytes c.cause c.has)
 
 -- ---- no cause comes with what stands behind it
 

@@ -2,3 +2,4 @@ pub mod AnswerLemmas
 pub mod OneEdge
 pub mod FormedRows
 pub mod InputLemmas
+pub mod VerdictLemmas

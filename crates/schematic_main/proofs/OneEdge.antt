@@ -3,6 +3,7 @@
 use Rattle.std.proofs.Common.{◌≡◌, ℕ, zero, suc, ◌+◌, ◌<◌, ◌≤◌, ◌⊎◌, inl, inr, Bool, true, false, ◌&&◌, ◌||◌, ◌==◌, nat_lt, List, [], ◌∷◌, ◌++◌, map, length, take, Some, refl, sym, ◌∙◌, ap, subst, arith, ℤ, ◌<ℤ◌}
 use Rattle.std.specs.Prelude.{◌≢◌, if◌then◌else◌, max, All, flat_map, slice_get}
 use Rattle.std.specs.List.{list_all}
+use Rattle.std.specs.Option.{is_some}
 use Rattle.std.specs.Ordering.{int_cmp}
 use Rattle.std.specs.Cmp.{int_cmp_is}
 use Rattle.std.specs.declared.cmp.Ordering.{Ordering}
@@ -316,8 +317,8 @@ level_draws_all g grid order b s t one drawn =
 pub level_draws_on_grid : (grid : GridSize) (order : List Criterion) (b : Bool) (s : Sheet) → 1 ≤ grid.width → s ≡ level_sheet grid order b → DrawsOnGrid s
 level_draws_on_grid grid order b s wide drawn = subst (λ (r : Sheet). DrawsOnGrid r) (sym drawn) (on_level grid b wide)
 
-pub level_settles : (grid : GridSize) (order : List Criterion) (b : Bool) (s : Sheet) → s ≡ level_sheet grid order b → StatesSettled s s.ending
-level_settles grid order b s drawn = subst (λ (r : Sheet). StatesSettled r r.ending) (sym drawn) tt
+pub level_settles : (grid : GridSize) (order : List Criterion) (b : Bool) (s : Sheet) → s ≡ level_sheet grid order b → StatesSettled s.order (is_some s.found) s.ending
+level_settles grid order b s drawn = subst (λ (r : Sheet). StatesSettled r.order (is_some r.found) r.ending) (sym drawn) tt
 
 -- ---- an order, criterion by criterion
 

@@ -1,5 +1,5 @@
 -- What a run owes: by command, the status and the text that goes with it.
-use Rattle.std.specs.Prelude.{◌≡◌, ◌≢◌, ℕ, ◌⊎◌, Bool, true, false, List, length, None, Some}
+use Rattle.std.specs.Prelude.{◌≡◌, ◌≢◌, ℕ, ◌<◌, ◌⊎◌, Bool, List, [], ◌∷◌, length, None, Some}
 use Rattle.std.specs.declared.option.Option.{Option}
 use Rattle.std.specs.Io.KnownBytes.{Appends, Keeps}
 use Rattle.outside_io.specs.Contents.{Told, IsFileWhereTold, TellsAt}
@@ -20,9 +20,10 @@ use Rattle.plan_text.specs.declared.ending.Ending.TheVariants.{Best}
 use Rattle.plan_text.specs.GraphText.{graph_text}
 use Rattle.plan_text.specs.SheetText.{sheet_text}
 use Rattle.schematic_main.specs.declared.fault.RunFault.{RunFault}
-use Rattle.schematic_main.specs.declared.fault.RunFault.TheVariants.{NotBuilt, Words, ReadFailed}
-use Rattle.schematic_main.specs.Fault.{fault_line, fault_status}
-use Rattle.schematic_main.specs.Input.{HasStation, HasFault}
+use Rattle.schematic_main.specs.declared.fault.RunFault.TheVariants.{NotBuilt, Words, Long, ReadFailed}
+use Rattle.schematic_main.specs.Fault.{IsFault}
+use Rattle.schematic_main.specs.Input.{IsLong, IsShort, HasStation, HasFault}
+use Rattle.schematic_main.specs.Verdict.{IsSheetJudged, IsSoundSheet}
 
 -- the text is the sheet of a drawing of this track graph that is lawful, with the drawing's own values,
 -- and no lawful drawing of the graph on this grid is better in this order
@@ -31,11 +32,6 @@ pub record IsBestSheet (g : Graph) (above : ℕ → ℕ → Bool) (grid : GridSi
   pub drawn : Drawing
   pub best : IsBest g above grid order drawn
   pub spelled : text ≡ sheet_text g (record { grid = grid; order = order; found = Some drawn; ending = Best })
-
--- the fault's status and its line
-pub record IsFault (fault : RunFault) (status : ℕ) (text : List ℕ) : Type 0 where
-  pub status_is : status ≡ fault_status fault
-  pub line_is : text ≡ fault_line fault
 
 -- the bytes have a fault, and this is its line
 pub record IsRefused (bytes : List ℕ) (status : ℕ) (text : List ℕ) : Type 0 where
@@ -84,19 +80,31 @@ pub record ReadFails {Self : Type 0} (faults reads : Self → ℕ) (old new : Se
   pub rose : Rose (faults old) (faults new)
   pub done : reads new ≡ rose_by before (reads old)
 
--- what a command with one input answers: it judges the file that stands under the name, or the file
--- couldn't be read. fails n says that in this run a read failed after n reads
-abbrev pub IsAnswerOn : (Graph → EdgeOrder → ℕ → List ℕ → Type 0) → List ℕ → Option Told → (ℕ → Type 0) → ℕ → List ℕ → Type 0
-IsAnswerOn Answers input contents fails status text =
-    ((bytes : List ℕ) × IsFileWhereTold contents input bytes × IsJudged Answers bytes status text)
-    ⊎ (fails 0 × IsFault (ReadFailed 1) status text)
+-- the input of this number, counted from 1, has too many bytes and its line says so, or its bytes are
+-- answered like this
+abbrev pub IsAnswerWithin : (number : ℕ) → (List ℕ → ℕ → List ℕ → Type 0) → List ℕ → ℕ → List ℕ → Type 0
+IsAnswerWithin number Answers bytes status text =
+    (IsLong bytes × IsFault (Long number) status text) ⊎ (IsShort bytes × Answers bytes status text)
 
--- what each command answers; verify, check and make aren't built yet
+-- what a command answers that reads the input of this number: so is the file answered that stands under
+-- the name, or the read failed
+abbrev pub IsAnswerOn : (number : ℕ) → List ℕ → Option Told → (failed : Type 0) → (List ℕ → ℕ → List ℕ → Type 0) → ℕ → List ℕ → Type 0
+IsAnswerOn number name contents failed Answers status text =
+    ((bytes : List ℕ) × IsFileWhereTold contents name bytes × IsAnswerWithin number Answers bytes status text)
+    ⊎ (failed × IsFault (ReadFailed number) status text)
+
+-- what verify answers to the bytes of the file and of the sheet: the file's fault comes before the sheet's
+abbrev pub IsVerified : List ℕ → List ℕ → ℕ → List ℕ → Type 0
+IsVerified bytes sheet status text = IsJudged (λ g o. IsSheetJudged g o sheet) bytes status text
+
+-- what each command answers; fails n says that in this run a read failed after n reads. verify reads the
+-- file, and then the sheet, before it judges what they say. check and make aren't built yet
 abbrev pub IsAnswerTo : Command → Option Told → (ℕ → Type 0) → ℕ → List ℕ → Type 0
 IsAnswerTo (Draw input grid order budget svg log) contents fails status text =
-    IsAnswerOn (λ g o. IsDrawing g o grid order svg log) input contents fails status text
-IsAnswerTo (PrintGraph input) contents fails status text = IsAnswerOn IsPrinted input contents fails status text
-IsAnswerTo (Verify input sheet) contents fails status text = IsFault NotBuilt status text
+    IsAnswerOn 1 input contents (fails 0) (IsJudged (λ g o. IsDrawing g o grid order svg log)) status text
+IsAnswerTo (PrintGraph input) contents fails status text = IsAnswerOn 1 input contents (fails 0) (IsJudged IsPrinted) status text
+IsAnswerTo (Verify input sheet) contents fails status text =
+    IsAnswerOn 1 input contents (fails 0) (λ bytes. IsAnswerOn 2 sheet contents (fails 1) (IsVerified bytes)) status text
 IsAnswerTo (Check input sheet log) contents fails status text = IsFault NotBuilt status text
 IsAnswerTo (Make n) contents fails status text = IsFault NotBuilt status text
 
@@ -118,17 +126,25 @@ pub record IsWordsAnswer (words : List (List ℕ)) (status : ℕ) (text : List �
 abbrev pub IsAnswer : List (List ℕ) → Option Told → (ℕ → Type 0) → ℕ → List ℕ → Type 0
 IsAnswer words contents fails status text = IsCommandsAnswer words contents fails status text ⊎ IsWordsAnswer words status text
 
--- the input of a command that reads one now
-abbrev pub input_of : Command → Option (List ℕ)
-input_of (Draw input grid order budget svg log) = Some input
-input_of (PrintGraph input) = Some input
-input_of (Verify input sheet) = None
-input_of (Check input sheet log) = None
-input_of (Make n) = None
+-- the names of the files that a command reads now, in this order
+abbrev pub inputs_of : Command → List (List ℕ)
+inputs_of (Draw input grid order budget svg log) = input ∷ []
+inputs_of (PrintGraph input) = input ∷ []
+inputs_of (Verify input sheet) = input ∷ sheet ∷ []
+inputs_of (Check input sheet log) = []
+inputs_of (Make n) = []
 
 -- the words ask for no command that reads a file now
 abbrev pub ReadsNothing : List (List ℕ) → Type 0
-ReadsNothing words = (command : Command) → IsCommandOf words command → input_of command ≡ None
+ReadsNothing words = (command : Command) → IsCommandOf words command → inputs_of command ≡ []
+
+-- one of the command's files couldn't be read, after those before it were
+abbrev pub FailsIn : Command → (ℕ → Type 0) → Type 0
+FailsIn command fails = (before : ℕ) × (before < length (inputs_of command)) × fails before
+
+-- so it is with the command that the words ask for
+abbrev pub FailsToRead : List (List ℕ) → (ℕ → Type 0) → Type 0
+FailsToRead words fails = (command : Command) × IsCommandOf words command × FailsIn command fails
 
 -- what the command asks of this station is built
 abbrev pub IsBuiltFor : Command → Graph → Type 0
@@ -141,11 +157,25 @@ pub record AsksForSoundFile (words : List (List ℕ)) (contents : Option Told) :
   pub command : Command
   pub asked : IsCommandOf words command
   pub input : List ℕ
-  pub reads : input_of command ≡ Some input
+  pub reads : inputs_of command ≡ input ∷ []
   pub bytes : List ℕ
   pub there : TellsAt contents input (Some bytes)
   pub sound : (fault : RunFault) → HasFault bytes fault → ⊥
   pub built : (g : Graph) (o : EdgeOrder) → HasStation bytes g o → IsBuiltFor command g
+
+-- the words ask to verify a sheet for a file, which are both told; the file has none of the faults, the sheet
+-- isn't too long and has none as a sheet of the file's station with a drawing
+pub record AsksForSoundSheet (words : List (List ℕ)) (contents : Option Told) : Type 0 where
+  pub input : List ℕ
+  pub sheet : List ℕ
+  pub asked : IsCommandOf words (Verify input sheet)
+  pub bytes : List ℕ
+  pub there : TellsAt contents input (Some bytes)
+  pub sound : (fault : RunFault) → HasFault bytes fault → ⊥
+  pub sheet_bytes : List ℕ
+  pub sheet_there : TellsAt contents sheet (Some sheet_bytes)
+  pub short : IsShort sheet_bytes
+  pub drawn : (g : Graph) (o : EdgeOrder) → HasStation bytes g o → IsSoundSheet g sheet_bytes
 
 -- a whole text with this property was given
 abbrev pub GivenAll : Option (List ℕ) → Option (List ℕ) → (List ℕ → Type 0) → Type 0

@@ -1,5 +1,5 @@
 -- Why a run ends with one fault line: the line, and the status.
-use Rattle.std.specs.Prelude.{ℕ, List, [], ◌∷◌, ◌++◌, codes}
+use Rattle.std.specs.Prelude.{◌≡◌, ℕ, List, [], ◌∷◌, ◌++◌, codes}
 use Rattle.std.specs.Fmt.{decimal}
 use Rattle.railml_text.specs.declared.fault.TextWhat.{TextWhat}
 use Rattle.railml_text.specs.declared.fault.TextWhat.TheVariants as texts
@@ -7,10 +7,12 @@ use Rattle.railml_text.specs.Faults as text_faults
 use Rattle.railml_topology.specs.declared.fault.TopologyWhat.{TopologyWhat}
 use Rattle.railml_topology.specs.declared.fault.TopologyWhat.TheVariants as topologies
 use Rattle.railml_topology.specs.Faults as topology_faults
+use Rattle.plan_text.specs.declared.sheet_fault.SheetWhat.{SheetWhat}
+use Rattle.plan_text.specs.declared.sheet_fault.SheetWhat.TheVariants as sheets
 use Rattle.schematic_main.specs.declared.fault.RunFault.{RunFault}
 use Rattle.plan_words.specs.FaultLine as word_faults
 use Rattle.rail_mileage.specs.MetresText.{metres_text}
-use Rattle.schematic_main.specs.declared.fault.RunFault.TheVariants.{NotBuilt, Words, Long, Text, Topology, TooManyNodes, TooManyEdges, NotForward, SideMismatch, Contradicts, ReadFailed}
+use Rattle.schematic_main.specs.declared.fault.RunFault.TheVariants.{NotBuilt, Words, Long, Text, Topology, TooManyNodes, TooManyEdges, NotForward, SideMismatch, Contradicts, Sheet, ReadFailed}
 use Rattle.plan_text.specs.Fields.{line_text}
 
 abbrev pub text_word : TextWhat → List ℕ
@@ -42,6 +44,20 @@ topology_word topologies.Course = codes "Course"
 topology_word topologies.Orientation = codes "Orientation"
 topology_word topologies.OutsideTrack = codes "OutsideTrack"
 
+abbrev pub sheet_number : SheetWhat → ℕ
+sheet_number sheets.Form = 1
+sheet_number sheets.Range = 2
+sheet_number sheets.Graph = 3
+sheet_number sheets.Shape = 4
+sheet_number sheets.Values = 5
+
+abbrev pub sheet_word : SheetWhat → List ℕ
+sheet_word sheets.Form = codes "Form"
+sheet_word sheets.Range = codes "Range"
+sheet_word sheets.Graph = codes "Graph"
+sheet_word sheets.Shape = codes "Shape"
+sheet_word sheets.Values = codes "Values"
+
 -- the texts that a topology fault of this kind tells, of the two that it may have
 abbrev pub texts_told : TopologyWhat → List ℕ → List ℕ → List (List ℕ)
 texts_told topologies.NoTracks first second = []
@@ -71,9 +87,16 @@ fault_line (TooManyEdges count) = graph_line (codes "2") (codes "TooManyEdges") 
 fault_line (NotForward track mileage) = graph_line (codes "3") (codes "NotForward") (track ∷ metres_text mileage.0 ∷ [])
 fault_line (SideMismatch name) = graph_line (codes "4") (codes "SideMismatch") (name ∷ [])
 fault_line (Contradicts e f) = line_text (codes "order") (codes "1" ∷ codes "Contradicts" ∷ decimal e.0 ∷ decimal f.0 ∷ [])
+fault_line (Sheet what line) =
+    line_text (codes "sheet") (decimal (sheet_number what) ∷ sheet_word what ∷ codes "line" ∷ decimal line ∷ [])
 fault_line (ReadFailed input) = line_text (codes "read failed") (decimal input ∷ [])
 
 abbrev pub fault_status : RunFault → ℕ
 fault_status (Words what position) = 2
 fault_status (ReadFailed input) = 5
 fault_status fault = 1
+
+-- the fault's status and its line
+pub record IsFault (fault : RunFault) (status : ℕ) (text : List ℕ) : Type 0 where
+  pub status_is : status ≡ fault_status fault
+  pub line_is : text ≡ fault_line fault

@@ -17,7 +17,7 @@ use Rattle.railml_read.specs.Document.{AreRows, IsTextFault}
 use Rattle.railml_topology.specs.Faults.{IsFirstFault, HasNoFault}
 use Rattle.railml_topology.specs.Resolved.{IsTopologyOf}
 use Rattle.schematic_main.specs.declared.fault.RunFault.{RunFault}
-use Rattle.schematic_main.specs.declared.fault.RunFault.TheVariants.{NotBuilt, Words, Long, Text, Topology, TooManyNodes, TooManyEdges, NotForward, SideMismatch, Contradicts, ReadFailed}
+use Rattle.schematic_main.specs.declared.fault.RunFault.TheVariants.{NotBuilt, Words, Long, Text, Topology, TooManyNodes, TooManyEdges, NotForward, SideMismatch, Contradicts, Sheet, ReadFailed}
 use Rattle.schematic_main.specs.declared.input.Refusal.{Refusal}
 use Rattle.schematic_main.specs.declared.input.Refusal.TheVariants as refusals
 
@@ -25,9 +25,16 @@ use Rattle.schematic_main.specs.declared.input.Refusal.TheVariants as refusals
 abbrev pub file_limit : ℕ
 file_limit = 4194304
 
+-- a file has more bytes, or hasn't
+abbrev pub IsLong : List ℕ → Type 0
+IsLong bytes = file_limit < length bytes
+
+abbrev pub IsShort : List ℕ → Type 0
+IsShort bytes = length bytes ≤ file_limit
+
 -- the file isn't too long, its text has no fault, and these are the rows of the tree that it spells
 pub record HasRows (bytes : List ℕ) (rows : List Elem) : Type 0 where
-  pub few : length bytes ≤ file_limit
+  pub few : IsShort bytes
   pub sound : (what : TextWhat) (at : ℕ) → IsTextFault bytes what at → ⊥
   pub are_rows : AreRows bytes rows
 
@@ -56,8 +63,8 @@ HasGraphFault bytes fault = (t : Tracks) × HasTopology bytes t × IsGraphFault 
 
 -- the bytes have this fault, and none that is looked for before it
 abbrev pub HasFault : List ℕ → RunFault → Type 0
-HasFault bytes (Long input) = (input ≡ 1) × (file_limit < length bytes)
-HasFault bytes (Text what at) = (length bytes ≤ file_limit) × IsTextFault bytes what at
+HasFault bytes (Long input) = (input ≡ 1) × IsLong bytes
+HasFault bytes (Text what at) = IsShort bytes × IsTextFault bytes what at
 HasFault bytes (Topology what at first second) = (rows : List Elem) × HasRows bytes rows × IsFirstFault rows what at first second
 HasFault bytes (TooManyNodes count) = HasGraphFault bytes (graphs.TooManyNodes count)
 HasFault bytes (TooManyEdges count) = HasGraphFault bytes (graphs.TooManyEdges count)
@@ -66,6 +73,7 @@ HasFault bytes (SideMismatch name) = (node : NodeNo) × HasGraphFault bytes (gra
 HasFault bytes (Contradicts e f) = (g : Graph) × HasGraph bytes g × IsFirstContradiction g e.0 f.0
 HasFault bytes NotBuilt = ⊥
 HasFault bytes (Words what position) = ⊥
+HasFault bytes (Sheet what line) = ⊥
 HasFault bytes (ReadFailed input) = ⊥
 
 -- what an answer without a station says of the bytes

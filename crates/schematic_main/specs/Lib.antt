@@ -1,5 +1,6 @@
 pub mod OneEdge
 pub mod Fault
 pub mod Input
+pub mod Verdict
 pub mod Answer
 pub mod Reading

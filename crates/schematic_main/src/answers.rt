@@ -1,36 +1,21 @@
 // What each command answers.
-ghost use Rattle.std.specs.Prelude.{◌≡◌, ◌≤◌, ◌⊎◌, IfOk, IsTrue, IsFalse, None, length};
+ghost use Rattle.std.specs.Prelude.{◌≡◌, ◌≤◌, ◌⊎◌, [], IfOk, IsTrue, IsFalse, None, length};
 ghost use Rattle.outside_io.specs.Contents.{WhereTold, SameFiles};
 ghost use Rattle.track_order.specs.Order.{IsOrderOf};
-ghost use Rattle.schematic_main.specs.Answer.{IsFault, IsUnbuilt, IsDrawing, IsPrinted, IsAnswerOn, IsAnswerTo, IsUnread, ReadFails, input_of};
+ghost use Rattle.schematic_main.specs.Answer.{IsUnbuilt, IsDrawing, IsPrinted, IsJudged, IsAnswerOn, IsAnswerTo, IsUnread, FailsIn, ReadFails, inputs_of};
 
 use crate::fault::RunFault;
 use crate::input::{Refusal, Station};
 use crate::one_edge::best_sheet;
 use crate::reading::station_of;
+use crate::reply::{Reply, fault_reply};
+use crate::verify::verify;
 use outside_io::Files;
 use plan_core::{Grid, Order, OutOfMemory, Text};
 use plan_text::write_graph;
 use plan_words::Command;
 use port_graph::PortGraph;
 use std::alloc::Global;
-
-/// A status, and the text that goes with it.
-#[derive(Drop)]
-pub struct Reply {
-    pub status: u8,
-    pub text: Vec<u8>,
-}
-
-/// The answer that tells of a fault.
-pub fn fault_reply(alloc: Global, fault: RunFault) -> Result<Reply, OutOfMemory>
-    ensures { IfOk result (λ r. IsFault fault r.status r.text.items) }
-{
-    Ok(Reply {
-        status: fault.status(),
-        text: fault.line(alloc)?,
-    })
-}
 
 /// Whether the drawing of such a graph, with such files to write, isn't built yet.
 fn is_unbuilt(g: &PortGraph, svg: &Option<Text>, log: &Option<Text>) -> bool
@@ -84,7 +69,7 @@ fn draw<F: Files>(
     log: &Option<Text>,
     files: &mut F,
 ) -> Result<Reply, OutOfMemory>
-    ensures answer { IfOk result (λ r. IsAnswerOn (λ g o. IsDrawing g o grid.now order.now svg.now log.now) input.now (F.contents files.old) (ReadFails F.read_faults F.reads files.old files.new) r.status r.text.items) }
+    ensures answer { IfOk result (λ r. IsAnswerOn 1 input.now (F.contents files.old) (ReadFails F.read_faults F.reads files.old files.new 0) (IsJudged (λ g o. IsDrawing g o grid.now order.now svg.now log.now)) r.status r.text.items) }
     ensures statuses { IfOk result (λ r. (r.status ≡ 0) ⊎ (r.status ≡ 1) ⊎ (r.status ≡ 5)) }
     ensures read_fault { IfOk result (λ r. r.status ≡ 5 → ReadFails F.read_faults F.reads files.old files.new 0) }
     ensures later { F.read_faults files.old ≤ F.read_faults files.new }
@@ -99,7 +84,7 @@ fn draw<F: Files>(
 
 /// What `graph` answers.
 fn print<F: Files>(alloc: Global, input: &Text, files: &mut F) -> Result<Reply, OutOfMemory>
-    ensures answer { IfOk result (λ r. IsAnswerOn IsPrinted input.now (F.contents files.old) (ReadFails F.read_faults F.reads files.old files.new) r.status r.text.items) }
+    ensures answer { IfOk result (λ r. IsAnswerOn 1 input.now (F.contents files.old) (ReadFails F.read_faults F.reads files.old files.new 0) (IsJudged IsPrinted) r.status r.text.items) }
     ensures statuses { IfOk result (λ r. (r.status ≡ 0) ⊎ (r.status ≡ 1) ⊎ (r.status ≡ 5)) }
     ensures read_fault { IfOk result (λ r. r.status ≡ 5 → ReadFails F.read_faults F.reads files.old files.new 0) }
     ensures later { F.read_faults files.old ≤ F.read_faults files.new }
@@ -119,9 +104,9 @@ pub fn answer_to<F: Files>(
     files: &mut F,
 ) -> Result<Reply, OutOfMemory>
     ensures answer { IfOk result (λ r. IsAnswerTo command.now (F.contents files.old) (ReadFails F.read_faults F.reads files.old files.new) r.status r.text.items) }
-    ensures statuses { IfOk result (λ r. (r.status ≡ 0) ⊎ (r.status ≡ 1) ⊎ (r.status ≡ 5)) }
-    ensures read_fault { IfOk result (λ r. r.status ≡ 5 → ReadFails F.read_faults F.reads files.old files.new 0) }
-    ensures unread { input_of command.now ≡ None → IsUnread F.read_faults F.reads files.old files.new }
+    ensures statuses { IfOk result (λ r. (r.status ≡ 0) ⊎ (r.status ≡ 1) ⊎ (r.status ≡ 5) ⊎ (r.status ≡ 8)) }
+    ensures read_fault { IfOk result (λ r. r.status ≡ 5 → FailsIn command.now (ReadFails F.read_faults F.reads files.old files.new)) }
+    ensures unread { inputs_of command.now ≡ [] → IsUnread F.read_faults F.reads files.old files.new }
     ensures later { F.read_faults files.old ≤ F.read_faults files.new }
     ensures same { WhereTold (F.contents files.old) (F.contents files.new) SameFiles }
 {
@@ -135,8 +120,7 @@ pub fn answer_to<F: Files>(
             log,
         } => draw(alloc, input, grid, order, svg, log, files),
         Command::Graph { input } => print(alloc, input, files),
-        Command::Verify { .. } | Command::Check { .. } | Command::Make { .. } => {
-            fault_reply(alloc, RunFault::NotBuilt)
-        }
+        Command::Verify { input, sheet } => verify(alloc, input, sheet, files),
+        Command::Check { .. } | Command::Make { .. } => fault_reply(alloc, RunFault::NotBuilt),
     }
 }

@@ -6,10 +6,10 @@ ghost use Rattle.railml_topology.specs.Faults as topology_faults;
 ghost use Rattle.plan_text.specs.Fields.{line_text, spaced};
 ghost use Rattle.plan_words.specs.FaultLine as word_faults;
 ghost use Rattle.rail_mileage.specs.MetresText.{metres_text};
-ghost use Rattle.schematic_main.specs.Fault.{fault_line, graph_line, fault_status, found_fields, text_word as word_of_text, topology_word as word_of_topology, texts_told};
+ghost use Rattle.schematic_main.specs.Fault.{fault_line, graph_line, fault_status, found_fields, text_word as word_of_text, topology_word as word_of_topology, sheet_number as number_of_sheet, sheet_word as word_of_sheet, texts_told};
 
 use plan_core::{EdgeNo, Micro, OutOfMemory, Text};
-use plan_text::{push_field, push_number, push_place, push_text};
+use plan_text::{SheetWhat, push_field, push_number, push_place, push_text};
 use plan_words::{WordWhat, push_word_fault};
 use rail_mileage::write_metres;
 use railml_text::TextWhat;
@@ -56,6 +56,11 @@ pub enum RunFault {
     },
     /// Each of these two edges lies above the other.
     Contradicts(EdgeNo, EdgeNo),
+    /// The text of the sheet has a fault, in the line with this number, counted from 1.
+    Sheet {
+        what: SheetWhat,
+        line: u32,
+    },
     /// The input with this number, counted from 1, couldn't be read.
     ReadFailed(u8),
 }
@@ -135,6 +140,30 @@ fn topology_word(what: TopologyWhat) -> &'static [u8]
         TopologyWhat::Course => b"Course",
         TopologyWhat::Orientation => b"Orientation",
         TopologyWhat::OutsideTrack => b"OutsideTrack",
+    }
+}
+
+fn sheet_number(what: SheetWhat) -> u32
+    ensures { result ≡ number_of_sheet what }
+{
+    match what {
+        SheetWhat::Form => 1,
+        SheetWhat::Range => 2,
+        SheetWhat::Graph => 3,
+        SheetWhat::Shape => 4,
+        SheetWhat::Values => 5,
+    }
+}
+
+fn sheet_word(what: SheetWhat) -> &'static [u8]
+    ensures { result.now ≡ word_of_sheet what }
+{
+    match what {
+        SheetWhat::Form => b"Form",
+        SheetWhat::Range => b"Range",
+        SheetWhat::Graph => b"Graph",
+        SheetWhat::Shape => b"Shape",
+        SheetWhat::Values => b"Values",
     }
 }
 
@@ -252,6 +281,18 @@ fn contradiction_line(alloc: Global, e: EdgeNo, f: EdgeNo) -> Result<Vec<u8>, Ou
     Ok(line)
 }
 
+fn sheet_line(alloc: Global, what: SheetWhat, line: u32) -> Result<Vec<u8>, OutOfMemory>
+    ensures { IfOk result (λ v. v.items ≡ line_text (codes "sheet") (decimal (number_of_sheet what) ∷ word_of_sheet what ∷ codes "line" ∷ decimal line ∷ [])) }
+{
+    let mut text = Vec::from_slice(alloc, b"sheet")?;
+    push_number(&mut text, sheet_number(what))?;
+    push_field(&mut text, sheet_word(what))?;
+    push_text(&mut text, b" line")?;
+    push_number(&mut text, line)?;
+    push_text(&mut text, b"\n")?;
+    Ok(text)
+}
+
 impl RunFault {
     /// The status that the run ends with.
     pub fn status(&self) -> u8
@@ -284,6 +325,7 @@ impl RunFault {
             RunFault::NotForward { track, mileage } => level_line(alloc, track, *mileage),
             RunFault::SideMismatch { name } => mismatch_line(alloc, name),
             RunFault::Contradicts(e, f) => contradiction_line(alloc, *e, *f),
+            RunFault::Sheet { what, line } => sheet_line(alloc, *what, *line),
             RunFault::ReadFailed(input) => input_line(alloc, b"read failed", *input),
         }
     }

@@ -13,7 +13,7 @@ use railml_topology::{ResolveFault, resolve};
 use std::alloc::Global;
 use track_order::{OrderFault, TrackOrder, derive};
 
-/// The greatest number of bytes that a railML file may have.
+/// The greatest number of bytes that a railML file or a sheet may have.
 pub const FILE_LIMIT: usize = 4_194_304;
 
 /// Why bytes give no station.
@@ -65,15 +65,13 @@ fn topology_from(alloc: Global, rows: &Records) -> Result<Topology, Refusal>
     }
 }
 
-/// The topology of a file's bytes, or the first of their faults.
+/// The topology of bytes that aren't too many, or the first of their faults.
 fn topology_in(alloc: Global, bytes: &[u8]) -> Result<Topology, Refusal>
+    requires { length bytes.now ≤ FILE_LIMIT }
     ensures topology { IfOk result (λ t. HasTopology bytes.now t) }
     ensures resolved { IfOk result (λ t. IsResolved t) }
     ensures refusal { IfErr result (λ r. IsRefusal bytes.now r) }
 {
-    if bytes.len() > FILE_LIMIT {
-        return Err(Refusal::Fault(RunFault::Long(1)));
-    }
     let rows = rows_in(alloc, bytes)?;
     topology_from(alloc, &rows)
 }
@@ -110,8 +108,9 @@ fn graph_from(alloc: Global, topology: &Topology) -> Result<PortGraph, Refusal>
     }
 }
 
-/// The track graph of a file's bytes, or the first of their faults.
+/// The track graph of bytes that aren't too many, or the first of their faults.
 fn graph_in(alloc: Global, bytes: &[u8]) -> Result<PortGraph, Refusal>
+    requires { length bytes.now ≤ FILE_LIMIT }
     ensures graph { IfOk result (λ g. HasGraph bytes.now g) }
     ensures refusal { IfErr result (λ r. IsRefusal bytes.now r) }
 {
@@ -138,8 +137,9 @@ pub struct Station {
     pub order: TrackOrder,
 }
 
-/// The station of a file's bytes, or the first of their faults.
+/// The station of bytes that aren't too many, or the first of their faults.
 pub fn station_in(alloc: Global, bytes: &[u8]) -> Result<Station, Refusal>
+    requires { length bytes.now ≤ FILE_LIMIT }
     ensures station { IfOk result (λ s. HasStation bytes.now s.graph s.order) }
     ensures refusal { IfErr result (λ r. IsRefusal bytes.now r) }
 {

@@ -1,9 +1,16 @@
-// Laws of files. The functions do nothing: their contracts are the laws.
-ghost use Rattle.std.specs.Prelude.{◌≡◌, ℕ, List};
+// Laws of files and of what is answered to them. The functions do nothing: their contracts are the laws.
+ghost use Rattle.std.specs.Prelude.{◌≡◌, ◌↔◌, ℕ, List};
+ghost use Rattle.plan_core.specs.Grid.{GridSize};
 ghost use Rattle.plan_core.specs.Graph.{Graph};
-ghost use Rattle.track_order.specs.Order.{EdgeOrder};
+ghost use Rattle.plan_core.specs.Drawing.{Drawing};
+ghost use Rattle.plan_core.specs.Values.{values_of};
+ghost use Rattle.plan_core.specs.Lawful.{Lawful};
+ghost use Rattle.plan_text.specs.SheetFaults.{IsDrawingOf};
+ghost use Rattle.track_order.specs.Order.{EdgeOrder, is_above};
 ghost use Rattle.schematic_main.specs.declared.fault.RunFault.{RunFault as Fault};
 ghost use Rattle.schematic_main.specs.Input.{HasGraph, HasStation, HasFault};
+ghost use Rattle.schematic_main.specs.Verdict.{lawful_line, IsSheetJudged};
+ghost use Rattle.schematic_main.specs.Answer.{IsVerified};
 
 /// A file that has a station has none of the faults.
 pub fn station_or_fault()
@@ -18,4 +25,24 @@ pub fn one_graph()
 /// A file has one fault at most.
 pub fn one_fault()
     ensures { (bytes : List ℕ) (a b : Fault) → HasFault bytes a → HasFault bytes b → a ≡ b }
+{}
+
+/// A sheet has one answer at most for a station: one status, with one text.
+pub fn one_sheet_answer()
+    ensures status { (g : Graph) (o : EdgeOrder) (sheet : List ℕ) (status other : ℕ) (text another : List ℕ) → IsSheetJudged g o sheet status text → IsSheetJudged g o sheet other another → status ≡ other }
+    ensures text { (g : Graph) (o : EdgeOrder) (sheet : List ℕ) (status other : ℕ) (text another : List ℕ) → IsSheetJudged g o sheet status text → IsSheetJudged g o sheet other another → text ≡ another }
+{}
+
+/// Where a sheet's text is that of a drawing, its answer has status 0 exactly where the drawing is lawful,
+/// and then the line of what it measures, and status 8 exactly where it isn't.
+pub fn verdict_of_drawing()
+    ensures lawful { (g : Graph) (o : EdgeOrder) (sheet : List ℕ) (grid : GridSize) (d : Drawing) (status : ℕ) (text : List ℕ) → IsDrawingOf g sheet grid d → IsSheetJudged g o sheet status text → (status ≡ 0) ↔ Lawful g (is_above o) grid d }
+    ensures line { (g : Graph) (o : EdgeOrder) (sheet : List ℕ) (grid : GridSize) (d : Drawing) (status : ℕ) (text : List ℕ) → IsDrawingOf g sheet grid d → IsSheetJudged g o sheet status text → Lawful g (is_above o) grid d → text ≡ lawful_line (values_of d) }
+    ensures broken { (g : Graph) (o : EdgeOrder) (sheet : List ℕ) (grid : GridSize) (d : Drawing) (status : ℕ) (text : List ℕ) → IsDrawingOf g sheet grid d → IsSheetJudged g o sheet status text → (status ≡ 8) ↔ (Lawful g (is_above o) grid d → ⊥) }
+{}
+
+/// A file and a sheet have one answer at most: one status, with one text.
+pub fn one_answer_to_a_file()
+    ensures status { (bytes sheet : List ℕ) (status other : ℕ) (text another : List ℕ) → IsVerified bytes sheet status text → IsVerified bytes sheet other another → status ≡ other }
+    ensures text { (bytes sheet : List ℕ) (status other : ℕ) (text another : List ℕ) → IsVerified bytes sheet status text → IsVerified bytes sheet other another → text ≡ another }
 {}

@@ -4,11 +4,12 @@
 //! answer to, so its contract can say what was put: `specs/Answer` has what a run owes, by command.
 //! `specs/Fault` says which line and which status each fault has, `specs/Input` what the bytes of a
 //! file are to a run (a station, which is a track graph and the order of its edges, or the first
-//! fault), and `specs/Reading` the same of a file under its name. `run` reads the words and puts the
-//! answer, `answers` has what each command answers, `reading` and `input` find the station, `one_edge`
-//! draws a graph with one edge. `main` makes the system's files and output, calls `run` and ends with
-//! its status. `laws` says that a file that has a station has no fault, and that it has one fault at
-//! most. Nothing stands on this crate.
+//! fault), `specs/Verdict` what is answered to a sheet, and `specs/Reading` what reading a file gives.
+//! `run` reads the words and puts the answer, `answers` has what each command answers, `reading` and
+//! `input` find the station, `one_edge` draws a graph with one edge, `verify` reads a file and a sheet
+//! and `verdict` judges its drawing. `main` makes the system's files and output, calls `run` and ends with
+//! its status. `laws` says that a file has one station or one fault, and a sheet one verdict. Nothing stands
+//! on this crate.
 #![tactic(auto)]
 
 mod answers;
@@ -17,9 +18,12 @@ mod input;
 mod laws;
 mod one_edge;
 mod reading;
+mod reply;
 mod run;
 #[cfg(test)]
 mod tests;
+mod verdict;
+mod verify;
 
 use outside_io::{HostFiles, HostOut};
 use run::run;

@@ -1,15 +1,51 @@
-// Reading the station of a file.
-ghost use Rattle.std.specs.Prelude.{◌≤◌, IfOk, IfErr};
+// Reading the inputs of a command.
+ghost use Rattle.std.specs.Prelude.{◌≡◌, ◌≤◌, IfOk, IfErr, OnOk, MatchBool};
 ghost use Rattle.outside_io.specs.Contents.{WhereTold, SameFiles};
+ghost use Rattle.outside_io.specs.Counts.{next_count};
 ghost use Rattle.track_order.specs.Order.{IsOrderOf};
 ghost use Rattle.schematic_main.specs.Answer.{ReadFails};
-ghost use Rattle.schematic_main.specs.Reading.{IsStationOf, IsRefusalOf};
+ghost use Rattle.schematic_main.specs.Input.{IsLong, IsShort};
+ghost use Rattle.schematic_main.specs.Reading.{IsInput, IsUnreadInput, IsStationOf, IsRefusalOf};
 
 use crate::fault::RunFault;
 use crate::input::{FILE_LIMIT, Refusal, Station, station_in};
 use outside_io::{FileFault, Files};
 use plan_core::Text;
 use std::alloc::Global;
+
+/// Whether a file or a sheet has too many bytes.
+fn is_long(bytes: &[u8]) -> bool
+    ensures { MatchBool result (IsLong bytes.now) (IsShort bytes.now) }
+{
+    bytes.len() > FILE_LIMIT
+}
+
+/// The bytes of the input with this number, counted from 1, which is the file of this name; or that
+/// they are too many, or that they couldn't be read.
+pub fn bytes_of<F: Files>(
+    alloc: Global,
+    number: u8,
+    name: &Text,
+    files: &mut F,
+) -> Result<Vec<u8>, Refusal>
+    ensures bytes { IfOk result (λ v. IsInput name.now (F.contents files.old) v.items) }
+    ensures refusal { IfErr result (λ r. IsUnreadInput number name.now (F.contents files.old) (ReadFails F.read_faults F.reads files.old files.new 0) r) }
+    ensures reads { OnOk result (F.reads files.new ≡ next_count (F.reads files.old)) }
+    ensures later { F.read_faults files.old ≤ F.read_faults files.new }
+    ensures same { WhereTold (F.contents files.old) (F.contents files.new) SameFiles }
+{
+    let mut bytes = Vec::new(alloc);
+    match files.read_front(name.as_str(), FILE_LIMIT + 1, &mut bytes) {
+        Ok(()) => {
+            if is_long(&bytes) {
+                return Err(Refusal::Fault(RunFault::Long(number)));
+            }
+            Ok(bytes)
+        }
+        Err(FileFault::Failed) => Err(Refusal::Fault(RunFault::ReadFailed(number))),
+        Err(FileFault::Memory) => Err(Refusal::Memory),
+    }
+}
 
 /// The station of the file of this name, or its first fault, or that it couldn't be read.
 pub fn station_of<F: Files>(alloc: Global, input: &Text, files: &mut F) -> Result<Station, Refusal>
@@ -19,10 +55,8 @@ pub fn station_of<F: Files>(alloc: Global, input: &Text, files: &mut F) -> Resul
     ensures later { F.read_faults files.old ≤ F.read_faults files.new }
     ensures same { WhereTold (F.contents files.old) (F.contents files.new) SameFiles }
 {
-    let mut bytes = Vec::new(alloc);
-    match files.read_front(input.as_str(), FILE_LIMIT + 1, &mut bytes) {
-        Ok(()) => station_in(alloc, &bytes),
-        Err(FileFault::Failed) => Err(Refusal::Fault(RunFault::ReadFailed(1))),
-        Err(FileFault::Memory) => Err(Refusal::Memory),
+    match bytes_of(alloc, 1, input, files) {
+        Ok(bytes) => station_in(alloc, &bytes),
+        Err(refusal) => Err(refusal),
     }
 }

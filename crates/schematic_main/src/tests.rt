@@ -1,5 +1,8 @@
 // The run over files and sinks in memory.
+mod examples;
+mod sheets;
 mod stations;
+mod verdicts;
 
 use crate::run::run;
 use outside_io::{MemoryFiles, MemorySink, SureFiles, SureSink};
@@ -10,7 +13,7 @@ use stations::{
 use std::alloc::{AllocError, Global};
 use std::test::Fail;
 
-const ONE_SHEET: &str = "railplan 1
+pub const ONE_SHEET: &str = "railplan 1
 grid 40 8
 order height bends diagonal width
 nodes 2
@@ -89,7 +92,7 @@ end best
 
 const NOT_BUILT: &str = "not built\n";
 
-fn words_from(alloc: Global, words: &[&str]) -> Result<Vec<String>, AllocError> {
+pub fn words_from(alloc: Global, words: &[&str]) -> Result<Vec<String>, AllocError> {
     let mut list = Vec::new(alloc);
     for word in words {
         list.push(String::from_str(alloc, word)?)?;
@@ -100,7 +103,7 @@ fn words_from(alloc: Global, words: &[&str]) -> Result<Vec<String>, AllocError> 
 #[test]
 fn answers_by_words_and_file(rt: HostRuntime) -> Result<(), Fail> {
     let alloc = rt.alloc();
-    let cases: [(&[&str], &str, u8, &str); 36] = [
+    let cases: [(&[&str], &str, u8, &str); 40] = [
         (&["draw", "one.xml"], ONE, 0, ONE_SHEET),
         (&["draw", "one.xml"], REVERSED, 0, REVERSED_SHEET),
         (&["draw", "one.xml"], END_FIRST, 0, END_FIRST_SHEET),
@@ -162,7 +165,26 @@ fn answers_by_words_and_file(rt: HostRuntime) -> Result<(), Fail> {
             "words 7 BadValue 3\n",
         ),
         (&["verify", "one.xml"], ONE, 2, "words 3 MissingName 3\n"),
-        (&["verify", "one.xml", "none.xml"], ONE, 1, NOT_BUILT),
+        (
+            &["verify", "one.xml", "none.xml"],
+            ONE,
+            5,
+            "read failed 2\n",
+        ),
+        (&["verify", "none.xml", "-"], ONE, 5, "read failed 1\n"),
+        (&["verify", "-", "none.xml"], ONE, 5, "read failed 2\n"),
+        (
+            &["verify", "-", "one.xml"],
+            ONE_SHEET,
+            1,
+            "text 9 Unfinished at 0\n",
+        ),
+        (
+            &["verify", "one.xml", "-"],
+            MUTUAL,
+            1,
+            "topology 8 NotMutual at 174 c1 c2\n",
+        ),
         (&["check", "none.xml", "b", "c"], ONE, 1, NOT_BUILT),
         (&["make", "5"], ONE, 1, NOT_BUILT),
         (&["draw"], ONE, 2, "words 3 MissingName 2\n"),
@@ -432,6 +454,31 @@ fn draws_a_file_at_the_limit_and_none_past_it(rt: HostRuntime) -> Result<(), Fai
     Ok(())
 }
 
+/// Of both inputs, before what they say is looked at.
+#[test]
+fn verifies_nothing_past_the_limit(rt: HostRuntime) -> Result<(), Fail> {
+    let alloc = rt.alloc();
+    let cases: [(&[&str], usize, &str); 3] = [
+        (&["verify", "one.xml", "none.xml"], 4_194_305, "long 1\n"),
+        (&["verify", "-", "one.xml"], 4_194_305, "long 2\n"),
+        (
+            &["verify", "-", "one.xml"],
+            4_194_304,
+            "text 9 Unfinished at 0\n",
+        ),
+    ];
+    for (words, size, text) in cases {
+        let words = words_from(alloc, words)?;
+        let mut files = MemoryFiles::new(alloc, &[])?;
+        files.add("one.xml", &padded(alloc, size)?)?;
+        files.add("-", b"")?;
+        let mut out = SureSink::new(alloc);
+        assert_eq!(rt; run(alloc, &words, &mut files, &mut out), 1, "{text}");
+        assert_eq!(rt; out.bytes(), text.as_bytes(), "{text}");
+    }
+    Ok(())
+}
+
 #[test]
 fn answers_faults_from_outside(rt: HostRuntime) -> Result<(), Fail> {
     let alloc = rt.alloc();
@@ -443,6 +490,13 @@ fn answers_faults_from_outside(rt: HostRuntime) -> Result<(), Fail> {
     assert_eq!(rt; run(alloc, &words, &mut files, &mut out), 5);
     assert_eq!(rt; out.bytes(), b"read failed 1\n".as_slice());
     assert_eq!(rt; files.get("one.xml"), Some(ONE.as_bytes()));
+
+    let verify = words_from(alloc, &["verify", "one.xml", "one.xml"])?;
+    let mut files = MemoryFiles::new(alloc, &[2])?;
+    files.add("one.xml", ONE.as_bytes())?;
+    let mut out = SureSink::new(alloc);
+    assert_eq!(rt; run(alloc, &verify, &mut files, &mut out), 5);
+    assert_eq!(rt; out.bytes(), b"read failed 2\n".as_slice());
 
     let mut files = SureFiles::new(alloc);
     files.add("one.xml", ONE.as_bytes())?;

@@ -1,0 +1,81 @@
+-- What `verify` answers to a station and the bytes of a sheet: the verdict on the sheet's drawing, or the
+-- sheet's fault.
+use Rattle.std.specs.Prelude.{◌≡◌, ◌⊎◌, ℕ, List, [], ◌∷◌, ◌++◌, None, Some, true, map, codes}
+use Rattle.std.specs.declared.option.Option.{Option}
+use Rattle.std.specs.Fmt.{decimal}
+use Rattle.plan_core.specs.declared.criterion.Values.{Values}
+use Rattle.plan_core.specs.Grid.{GridSize}
+use Rattle.plan_core.specs.Graph.{Graph}
+use Rattle.plan_core.specs.Drawing.{Drawing}
+use Rattle.plan_core.specs.Values.{values_of}
+use Rattle.plan_core.specs.Lawful.{Lawful}
+use Rattle.track_order.specs.Order.{EdgeOrder, is_above}
+use Rattle.lawful_check.specs.declared.law_break.LawBreak.{LawBreak}
+use Rattle.lawful_check.specs.declared.law_break.Party.{Party}
+use Rattle.lawful_check.specs.declared.law_break.Party.TheVariants as party
+use Rattle.lawful_check.specs.Breaks.{IsLeastBreak}
+use Rattle.plan_text.specs.Fields.{line_text}
+use Rattle.plan_text.specs.declared.sheet_fault.SheetWhat.{SheetWhat}
+use Rattle.plan_text.specs.SheetFaults.{IsDrawingOf, IsFirstFault}
+use Rattle.schematic_main.specs.declared.fault.RunFault.TheVariants.{Sheet}
+use Rattle.schematic_main.specs.Fault.{IsFault}
+
+-- ---- the lines
+
+-- the line of a lawful drawing: what it measures
+abbrev pub lawful_line : Values → List ℕ
+lawful_line values = line_text (codes "lawful") (map decimal (values.height ∷ values.bends ∷ values.diagonal ∷ values.width ∷ []))
+
+abbrev pub party_fields : Party → List (List ℕ)
+party_fields (party.Node n) = codes "node" ∷ decimal n.0 ∷ []
+party_fields (party.Edge e) = codes "edge" ∷ decimal e.0 ∷ []
+
+-- those of the second party, where there is one
+abbrev pub second_fields : Option Party → List (List ℕ)
+second_fields None = []
+second_fields (Some party) = party_fields party
+
+-- the line of a broken law: which it is, and by whom it is broken
+abbrev pub broken_line : LawBreak → List ℕ
+broken_line b = line_text (codes "broken law") (decimal b.law ∷ party_fields b.first ++ second_fields b.second)
+
+-- ---- the verdict on a drawing
+
+-- the drawing is lawful, and the answer says what it measures
+pub record IsLawfulAnswer (g : Graph) (o : EdgeOrder) (grid : GridSize) (d : Drawing) (status : ℕ) (text : List ℕ) : Type 0 where
+  pub lawful : Lawful g (is_above o) grid d
+  pub status_is : status ≡ 0
+  pub line_is : text ≡ lawful_line (values_of d)
+
+-- the drawing breaks a law, and the answer names the least one with its least parties
+pub record IsBrokenAnswer (g : Graph) (o : EdgeOrder) (grid : GridSize) (d : Drawing) (status : ℕ) (text : List ℕ) : Type 0 where
+  pub broken : LawBreak
+  pub least : IsLeastBreak g (is_above o) grid d broken
+  pub status_is : status ≡ 8
+  pub line_is : text ≡ broken_line broken
+
+abbrev pub IsVerdict : Graph → EdgeOrder → GridSize → Drawing → ℕ → List ℕ → Type 0
+IsVerdict g o grid d status text = IsLawfulAnswer g o grid d status text ⊎ IsBrokenAnswer g o grid d status text
+
+-- ---- the answer to a sheet
+
+-- the sheet's text is that of a drawing on a grid, and the answer is the verdict on it
+pub record IsDrawingJudged (g : Graph) (o : EdgeOrder) (sheet : List ℕ) (status : ℕ) (text : List ℕ) : Type 0 where
+  pub grid : GridSize
+  pub drawn : Drawing
+  pub has : IsDrawingOf g sheet grid drawn
+  pub verdict : IsVerdict g o grid drawn status text
+
+-- a drawing is due, the sheet's text has this fault first, and this is its line
+pub record IsSheetRefused (g : Graph) (sheet : List ℕ) (status : ℕ) (text : List ℕ) : Type 0 where
+  pub what : SheetWhat
+  pub line : ℕ
+  pub first : IsFirstFault g true sheet what line
+  pub told : IsFault (Sheet what line) status text
+
+abbrev pub IsSheetJudged : Graph → EdgeOrder → List ℕ → ℕ → List ℕ → Type 0
+IsSheetJudged g o sheet status text = IsDrawingJudged g o sheet status text ⊎ IsSheetRefused g sheet status text
+
+-- the sheet's text has no fault, a drawing being due
+pub record IsSoundSheet (g : Graph) (sheet : List ℕ) : Type 0 where
+  pub sound : (what : SheetWhat) (line : ℕ) → IsFirstFault g true sheet what line → ⊥

@@ -1,0 +1,26 @@
+// What a run answers.
+ghost use Rattle.std.specs.Prelude.{IfOk};
+ghost use Rattle.schematic_main.specs.Fault.{IsFault};
+
+use crate::fault::RunFault;
+use plan_core::OutOfMemory;
+use std::alloc::Global;
+
+/// A status, and the text that goes with it.
+#[derive(Drop)]
+pub struct Reply {
+    /// What the run ends with once the text is put.
+    pub status: u8,
+    /// The whole text for the output.
+    pub text: Vec<u8>,
+}
+
+/// The answer that tells of a fault.
+pub fn fault_reply(alloc: Global, fault: RunFault) -> Result<Reply, OutOfMemory>
+    ensures { IfOk result (λ r. IsFault fault r.status r.text.items) }
+{
+    Ok(Reply {
+        status: fault.status(),
+        text: fault.line(alloc)?,
+    })
+}

@@ -1,0 +1,86 @@
+// What `verify` answers.
+ghost use Rattle.std.specs.Prelude.{◌≡◌, ◌≤◌, ◌⊎◌, length, IfOk};
+ghost use Rattle.outside_io.specs.Contents.{WhereTold, SameFiles};
+ghost use Rattle.plan_words.specs.declared.command.Command.TheVariants.{Verify};
+ghost use Rattle.track_order.specs.Order.{IsOrderOf};
+ghost use Rattle.schematic_main.specs.Answer.{IsVerified, IsAnswerOn, IsAnswerTo, FailsIn, ReadFails};
+ghost use Rattle.schematic_main.specs.Verdict.{IsSheetJudged};
+
+use crate::fault::RunFault;
+use crate::input::{FILE_LIMIT, Refusal, Station, station_in};
+use crate::reading::bytes_of;
+use crate::reply::{Reply, fault_reply};
+use crate::verdict::verdict;
+use outside_io::Files;
+use plan_core::{OutOfMemory, Text};
+use plan_text::{SheetFault, read_drawing};
+use std::alloc::Global;
+
+/// What is answered to a station and the bytes of a sheet.
+fn judge_sheet(alloc: Global, station: &Station, sheet: &[u8]) -> Result<Reply, OutOfMemory>
+    requires { IsOrderOf station.now.graph station.now.order }
+    ensures answer { IfOk result (λ r. IsSheetJudged station.now.graph station.now.order sheet.now r.status r.text.items) }
+    ensures statuses { IfOk result (λ r. (r.status ≡ 0) ⊎ (r.status ≡ 1) ⊎ (r.status ≡ 8)) }
+{
+    match read_drawing(alloc, &station.graph, sheet) {
+        Ok((grid, drawing)) => verdict(alloc, station, &grid, &drawing),
+        Err(SheetFault::Sheet { what, line }) => {
+            fault_reply(alloc, RunFault::Sheet { what, line })
+        }
+        Err(SheetFault::Memory) => Err(OutOfMemory),
+    }
+}
+
+/// What is answered to the bytes of a file and of a sheet.
+fn judge(alloc: Global, bytes: &[u8], sheet: &[u8]) -> Result<Reply, OutOfMemory>
+    requires { length bytes.now ≤ FILE_LIMIT }
+    ensures answer { IfOk result (λ r. IsVerified bytes.now sheet.now r.status r.text.items) }
+    ensures statuses { IfOk result (λ r. (r.status ≡ 0) ⊎ (r.status ≡ 1) ⊎ (r.status ≡ 8)) }
+{
+    match station_in(alloc, bytes) {
+        Ok(station) => judge_sheet(alloc, &station, sheet),
+        Err(Refusal::Fault(fault)) => fault_reply(alloc, fault),
+        Err(Refusal::Memory) => Err(OutOfMemory),
+    }
+}
+
+/// What `verify` answers to a file's bytes: it reads the sheet before it judges them.
+fn verify_bytes<F: Files>(
+    alloc: Global,
+    bytes: &[u8],
+    sheet: &Text,
+    files: &mut F,
+) -> Result<Reply, OutOfMemory>
+    requires { length bytes.now ≤ FILE_LIMIT }
+    ensures answer { IfOk result (λ r. IsAnswerOn 2 sheet.now (F.contents files.old) (ReadFails F.read_faults F.reads files.old files.new 0) (IsVerified bytes.now) r.status r.text.items) }
+    ensures statuses { IfOk result (λ r. (r.status ≡ 0) ⊎ (r.status ≡ 1) ⊎ (r.status ≡ 5) ⊎ (r.status ≡ 8)) }
+    ensures read_fault { IfOk result (λ r. r.status ≡ 5 → ReadFails F.read_faults F.reads files.old files.new 0) }
+    ensures later { F.read_faults files.old ≤ F.read_faults files.new }
+    ensures same { WhereTold (F.contents files.old) (F.contents files.new) SameFiles }
+{
+    match bytes_of(alloc, 2, sheet, files) {
+        Ok(sheet) => judge(alloc, bytes, &sheet),
+        Err(Refusal::Fault(fault)) => fault_reply(alloc, fault),
+        Err(Refusal::Memory) => Err(OutOfMemory),
+    }
+}
+
+/// What `verify` answers.
+pub fn verify<F: Files>(
+    alloc: Global,
+    input: &Text,
+    sheet: &Text,
+    files: &mut F,
+) -> Result<Reply, OutOfMemory>
+    ensures answer { IfOk result (λ r. IsAnswerTo (Verify input.now sheet.now) (F.contents files.old) (ReadFails F.read_faults F.reads files.old files.new) r.status r.text.items) }
+    ensures statuses { IfOk result (λ r. (r.status ≡ 0) ⊎ (r.status ≡ 1) ⊎ (r.status ≡ 5) ⊎ (r.status ≡ 8)) }
+    ensures read_fault { IfOk result (λ r. r.status ≡ 5 → FailsIn (Verify input.now sheet.now) (ReadFails F.read_faults F.reads files.old files.new)) }
+    ensures later { F.read_faults files.old ≤ F.read_faults files.new }
+    ensures same { WhereTold (F.contents files.old) (F.contents files.new) SameFiles }
+{
+    match bytes_of(alloc, 1, input, files) {
+        Ok(bytes) => verify_bytes(alloc, &bytes, sheet, files),
+        Err(Refusal::Fault(fault)) => fault_reply(alloc, fault),
+        Err(Refusal::Memory) => Err(OutOfMemory),
+    }
+}
