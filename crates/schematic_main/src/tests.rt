@@ -5,7 +5,7 @@ mod stations;
 mod verdicts;
 
 use crate::run::run;
-use outside_io::{MemoryFiles, MemorySink, SureFiles, SureSink};
+use outside_io::{Files, MemoryFiles, MemorySink, SureFiles, SureSink};
 use stations::{
     BACK, BACK_GRAPH, CROSS, CROSS_GRAPH, LOOP, LOOP_GRAPH, MUTUAL, ONE, ONE_GRAPH, SCISSORS,
     SCISSORS_GRAPH, STATION, STATION_GRAPH, TWO, TWO_GRAPH,
@@ -475,6 +475,32 @@ fn verifies_nothing_past_the_limit(rt: HostRuntime) -> Result<(), Fail> {
         let mut out = SureSink::new(alloc);
         assert_eq!(rt; run(alloc, &words, &mut files, &mut out), 1, "{text}");
         assert_eq!(rt; out.bytes(), text.as_bytes(), "{text}");
+    }
+    Ok(())
+}
+
+/// How often a run reads: the call after its last is the first that fails, and this test makes it.
+#[test]
+fn reads_each_input_once_and_no_sheet_in_vain(rt: HostRuntime) -> Result<(), Fail> {
+    let alloc = rt.alloc();
+    let cases: [(&[&str], u32, u8); 6] = [
+        (&["draw", "one.xml"], 2, 0),
+        (&["graph", "one.xml"], 2, 0),
+        (&["verify", "one.xml", "sheet"], 3, 0),
+        (&["verify", "long.xml", "sheet"], 2, 1),
+        (&["verify", "one.xml", "long.xml"], 3, 1),
+        (&["check", "one.xml", "sheet", "log"], 1, 1),
+    ];
+    for (words, next, status) in cases {
+        let words = words_from(alloc, words)?;
+        let mut files = MemoryFiles::new(alloc, &[next])?;
+        files.add("one.xml", ONE.as_bytes())?;
+        files.add("sheet", ONE_SHEET.as_bytes())?;
+        files.add("long.xml", &padded(alloc, 4_194_305)?)?;
+        let mut out = SureSink::new(alloc);
+        assert_eq!(rt; run(alloc, &words, &mut files, &mut out), status, "{next}");
+        let mut bytes = Vec::new(alloc);
+        assert!(rt; files.read_front("one.xml", 1, &mut bytes).is_err());
     }
     Ok(())
 }
