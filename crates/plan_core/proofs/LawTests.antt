@@ -70,8 +70,10 @@ are_in_order Greater u_x v_x = is_at_most v_x u_x
 
 abbrev pub joins_its_nodes : (g : Graph) (grid : GridSize) (d : Drawing) (e : ℕ) → Test (LineJoinsItsNodes g grid d e)
 joins_its_nodes g grid d e =
-    restated (λ h. record { begins = h.0; ends = h.1 }) (λ h. (h.begins, h.ends))
-    (both (is_same_point (west_end (line d e)) (place d (edge g e).west)) (is_same_point (east_end (line d e)) (place d (edge g e).east)))
+    restated (λ h. record { begins = h.0; ends = h.1.0; is_long = h.1.1 }) (λ h. (h.begins, (h.ends, h.is_long)))
+    (both (is_same_point (west_end (line d e)) (place d (edge g e).west))
+    (both (is_same_point (east_end (line d e)) (place d (edge g e).east))
+    (is_at_most ((place d (edge g e).west).x + grid.least) (place d (edge g e).east).x)))
 
 -- law 4
 

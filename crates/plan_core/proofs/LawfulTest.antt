@@ -98,7 +98,7 @@ Contains-candidates g above (Parted e f) h = of_part g 7 (for_pairs (length g.ed
 
 abbrev pub fits : (g : Graph) (d : Drawing) → Test (Fits g d)
 fits g d =
-    restated (λ h. record { places = h.0; lines = h.1.0; are_lines = h.1.1 }) (λ h. (h.places, (h.lines, h.are_lines)))
+    restated (λ h. record { size = record { places = h.0; lines = h.1.0 }; are_lines = h.1.1 }) (λ h. (h.size.places, (h.size.lines, h.are_lines)))
     (both (are_equal (length d.places) (length g.nodes)) (both (are_equal (length d.lines) (length g.edges)) (each_of (λ l. is_line l ≡ true) (λ l. is_bool (is_line l)) d.lines)))
 
 pub lawful_from_all : (g : Graph) (above : ℕ → ℕ → Bool) (grid : GridSize) (d : Drawing) → Fits g d × All (λ i. IsInstance g above i → Meets g grid d i) (candidates g) → Lawful g above grid d

@@ -34,8 +34,8 @@ All-flat_map P (l ∷ lists) h = All-append P l (flat_map (λ l. l) lists) (All-
 pub points_on_grid : (g : Graph) (above : ℕ → ℕ → Bool) (grid : GridSize) (d : Drawing) → Lawful g above grid d → All (IsOnGrid grid) (all_points d)
 points_on_grid g above grid d lawful =
     let keeps = each_law g above grid d lawful in
-    let nodes = lawful.fits.places in
-    let edges = lawful.fits.lines in
+    let nodes = lawful.fits.size.places in
+    let edges = lawful.fits.size.lines in
     All-append (IsOnGrid grid) d.places (flat_map (λ l. l) d.lines)
     (All-from_get_or (IsOnGrid grid) d.places origin (λ n within. keeps.nodes_on_grid n (omega (arith, nodes, within))))
     (All-flat_map (IsOnGrid grid) d.lines (All-from_get_or (All (IsOnGrid grid)) d.lines [] (λ e within. keeps.lines_on_grid e (omega (arith, edges, within)))))
@@ -70,12 +70,12 @@ pub value-le-limit : (g : Graph) (above : ℕ → ℕ → Bool) (grid : GridSize
 value-le-limit g above grid d lawful Height =
     coordinate-le (λ p. p.y) grid.height (all_points d) (All-weaker (IsOnGrid grid) (λ p. p.y ≤ grid.height) (λ p on. on.in_height) (all_points d) (points_on_grid g above grid d lawful))
 value-le-limit g above grid d lawful Bends =
-    let edges = lawful.fits.lines in
+    let edges = lawful.fits.size.lines in
     let most = sum_by-le bends 2 d.lines (All-weaker (λ l. is_line l ≡ true) (λ l. bends l ≤ 2) bends-le d.lines lawful.fits.are_lines) in
     omega (arith, edges, most)
 value-le-limit g above grid d lawful Diagonal =
     let keeps = each_law g above grid d lawful in
-    let edges = lawful.fits.lines in
+    let edges = lawful.fits.size.lines in
     let each : All (λ l. diagonal l ≤ grid.width) d.lines =
     All-from_get_or (λ l. diagonal l ≤ grid.width) d.lines [] (λ e within.
     diagonal-le-width grid (line d e) (All-get_or (λ l. is_line l ≡ true) d.lines e [] within lawful.fits.are_lines) (keeps.lines_on_grid e (omega (arith, edges, within)))) in

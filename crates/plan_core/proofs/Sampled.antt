@@ -7,7 +7,7 @@ use Rattle.plan_core.specs.Graph.{Graph, End, Joint}
 use Rattle.plan_core.specs.Drawing.{Drawing, drawing}
 use Rattle.plan_core.specs.Lawful.{Instance, NodeOnGrid, LineOnGrid, Ordered, Joined, Aligned, Apart, Over, Parted}
 use Rattle.plan_core.specs.Values.{values_of}
-use Rattle.plan_core.specs.Examples.{at, node_at, joining, track_graph, measured, usual_grid, one_graph, none_above, loop_graph, loop_above, back_graph, back_above, cross_graph, cross_above, two_graph, scissors_graph, scissors_above, station_graph, station_above}
+use Rattle.plan_core.specs.Examples.{at, node_at, joining, track_graph, measured, usual_grid, one_graph, none_above, loop_graph, loop_above, back_graph, cross_graph, cross_above, two_graph, scissors_graph, scissors_above, station_graph, station_above}
 use Rattle.plan_core.specs.Breaches.{meeting_graph, parted_graph, joined_graph}
 use Rattle.plan_core.proofs.LawfulTest.{broken}
 
@@ -318,7 +318,7 @@ loop_6 = record { laws = refl; values = refl }
 
 -- a loop listed backwards
 
-back_1 : IsJudged back_graph back_above
+back_1 : IsJudged back_graph loop_above
     (drawing (at 5 0 ∷ at 0 0 ∷ at 4 0 ∷ at 1 0 ∷ [])
     ((at 4 0 ∷ at 5 0 ∷ []) ∷ (at 1 0 ∷ at 4 0 ∷ []) ∷ (at 0 0 ∷ at 1 0 ∷ [])
     ∷ (at 1 0 ∷ at 2 1 ∷ at 3 1 ∷ at 4 0 ∷ []) ∷ []))
@@ -326,7 +326,7 @@ back_1 : IsJudged back_graph back_above
     (measured 1 2 2 5)
 back_1 = record { laws = refl; values = refl }
 
-back_2 : IsJudged back_graph back_above
+back_2 : IsJudged back_graph loop_above
     (drawing (at 5 0 ∷ at 0 0 ∷ at 4 0 ∷ at 1 0 ∷ [])
     ((at 4 0 ∷ at 5 0 ∷ []) ∷ (at 1 0 ∷ at 4 0 ∷ []) ∷ (at 0 0 ∷ at 1 0 ∷ []) ∷ (at 1 0 ∷ at 4 0 ∷ [])
     ∷ []))
@@ -334,7 +334,7 @@ back_2 : IsJudged back_graph back_above
     (measured 0 0 0 5)
 back_2 = record { laws = refl; values = refl }
 
-back_3 : IsJudged back_graph back_above
+back_3 : IsJudged back_graph loop_above
     (drawing (at 5 0 ∷ at 0 0 ∷ at 3 0 ∷ at 1 0 ∷ [])
     ((at 3 0 ∷ at 5 0 ∷ []) ∷ (at 1 0 ∷ at 3 0 ∷ []) ∷ (at 0 0 ∷ at 1 0 ∷ [])
     ∷ (at 2 0 ∷ at 6 4 ∷ at 7 4 ∷ at 10 1 ∷ []) ∷ []))
@@ -342,7 +342,7 @@ back_3 : IsJudged back_graph back_above
     (measured 4 2 7 10)
 back_3 = record { laws = refl; values = refl }
 
-back_4 : IsJudged back_graph back_above
+back_4 : IsJudged back_graph loop_above
     (drawing (at 5 0 ∷ at 0 0 ∷ at 5 0 ∷ at 1 0 ∷ [])
     ((at 4 0 ∷ at 5 0 ∷ []) ∷ (at 1 0 ∷ at 5 0 ∷ []) ∷ (at 0 0 ∷ at 1 0 ∷ [])
     ∷ (at 1 0 ∷ at 2 1 ∷ at 3 1 ∷ at 4 0 ∷ []) ∷ []))
@@ -350,7 +350,7 @@ back_4 : IsJudged back_graph back_above
     (measured 1 2 2 5)
 back_4 = record { laws = refl; values = refl }
 
-back_5 : IsJudged back_graph back_above
+back_5 : IsJudged back_graph loop_above
     (drawing (at 5 8 ∷ at 0 8 ∷ at 4 8 ∷ at 1 8 ∷ [])
     ((at 4 8 ∷ at 5 8 ∷ []) ∷ (at 1 8 ∷ at 4 8 ∷ []) ∷ (at 0 8 ∷ at 1 8 ∷ [])
     ∷ (at 1 8 ∷ at 2 9 ∷ at 3 9 ∷ at 4 8 ∷ []) ∷ []))

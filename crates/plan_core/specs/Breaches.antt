@@ -2,16 +2,17 @@
 use Rattle.std.specs.Prelude.{◌↔◌, ℕ, Bool, List, [], ◌∷◌, Contains}
 use Rattle.plan_core.specs.declared.sides.Compass.TheVariants.{East, West}
 use Rattle.plan_core.specs.declared.sides.Side.TheVariants.{Upper}
+use Rattle.plan_core.specs.Grid.{GridSize}
 use Rattle.plan_core.specs.Graph.{Graph, End, Joint, Switch}
 use Rattle.plan_core.specs.Drawing.{Drawing, drawing}
 use Rattle.plan_core.specs.Lawful.{Instance, IsInstance, Meets, Fits, Lawful}
-use Rattle.plan_core.specs.Examples.{at, node_at, joining, track_graph, usual_grid}
+use Rattle.plan_core.specs.Examples.{at, node_at, joining, track_graph}
 
 -- the drawing fits the graph and isn't lawful: these instances are broken, and no others
-pub record BreaksJust (g : Graph) (above : ℕ → ℕ → Bool) (d : Drawing) (instances : List Instance) : Type 0 where
+pub record BreaksJust (g : Graph) (above : ℕ → ℕ → Bool) (grid : GridSize) (d : Drawing) (instances : List Instance) : Type 0 where
   pub fits : Fits g d
-  pub unlawful : Lawful g above usual_grid d → ⊥
-  pub broken : (i : Instance) → Contains instances i ↔ (IsInstance g above i × (Meets g usual_grid d i → ⊥))
+  pub unlawful : Lawful g above grid d → ⊥
+  pub broken : (i : Instance) → Contains instances i ↔ (IsInstance g above i × (Meets g grid d i → ⊥))
 
 -- Two tracks, the second of which begins at the mileage where the first ends.
 
@@ -63,7 +64,8 @@ swapped = drawing
     (at 5 0 ∷ at 6 0 ∷ at 0 0 ∷ at 2 0 ∷ [])
     ((at 5 0 ∷ at 6 0 ∷ []) ∷ (at 0 0 ∷ at 2 0 ∷ []) ∷ [])
 
--- Law 3: a line that doesn't reach its east node; two lines that lie at each other's nodes.
+-- Law 3: a line that doesn't reach its east node; two lines that lie at each other's nodes; on a grid that
+-- asks for two columns, a loop whose last edge has one.
 
 abbrev pub short : Drawing
 short = drawing
@@ -74,6 +76,12 @@ abbrev pub exchanged : Drawing
 exchanged = drawing
     (at 0 0 ∷ at 1 0 ∷ at 0 1 ∷ at 1 1 ∷ [])
     ((at 0 1 ∷ at 1 1 ∷ []) ∷ (at 0 0 ∷ at 1 0 ∷ []) ∷ [])
+
+abbrev pub crowded : Drawing
+crowded = drawing
+    (at 0 0 ∷ at 6 0 ∷ at 2 0 ∷ at 5 0 ∷ [])
+    ((at 0 0 ∷ at 2 0 ∷ []) ∷ (at 2 0 ∷ at 5 0 ∷ []) ∷ (at 5 0 ∷ at 6 0 ∷ [])
+    ∷ (at 2 0 ∷ at 3 1 ∷ at 4 1 ∷ at 5 0 ∷ []) ∷ [])
 
 -- Law 4: a leg that turns off by two slopes; the rising path bent at a crossing, and the falling path;
 -- the main track bent at a switch; a track that isn't level at its ends; a track bent at a joint.

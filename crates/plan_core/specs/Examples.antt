@@ -7,7 +7,7 @@ use Rattle.plan_core.specs.declared.point.Slope.TheVariants.{Down, Level, Up}
 use Rattle.plan_core.specs.declared.criterion.Values.{Values}
 use Rattle.plan_core.specs.declared.sides.Compass.TheVariants.{East, West}
 use Rattle.plan_core.specs.declared.sides.Side.TheVariants.{Upper, Lower}
-use Rattle.plan_core.specs.Grid.{GridSize, grid_size}
+use Rattle.plan_core.specs.Grid.{GridSize, grid_size, grid_with}
 use Rattle.plan_core.specs.Graph.{Graph, Node, Edge, Ports, End, Switch, Crossing, IsTrackGraph}
 use Rattle.plan_core.specs.Drawing.{Drawing, drawing}
 use Rattle.plan_core.specs.Lawful.{Lawful}
@@ -45,10 +45,14 @@ measured height bends diagonal width = record { height = height; bends = bends; 
 abbrev pub usual_grid : GridSize
 usual_grid = grid_size 40 8
 
+-- the same columns and rows, and two columns or more for each edge
+abbrev pub roomy_grid : GridSize
+roomy_grid = grid_with 40 8 2
+
 -- the drawing is a lawful one of a track graph, and measures so much
-pub record IsWorked (g : Graph) (above : ℕ → ℕ → Bool) (d : Drawing) (v : Values) : Type 0 where
+pub record IsWorked (g : Graph) (above : ℕ → ℕ → Bool) (grid : GridSize) (d : Drawing) (v : Values) : Type 0 where
   pub graph : IsTrackGraph g
-  pub lawful : Lawful g above usual_grid d
+  pub lawful : Lawful g above grid d
   pub measures : values_of d ≡ v
 
 -- One track, from 0 to 600 metres.
@@ -87,16 +91,20 @@ loop_drawing = drawing
     ((at 0 0 ∷ at 1 0 ∷ []) ∷ (at 1 0 ∷ at 4 0 ∷ []) ∷ (at 4 0 ∷ at 5 0 ∷ [])
     ∷ (at 1 0 ∷ at 2 1 ∷ at 3 1 ∷ at 4 0 ∷ []) ∷ [])
 
--- The same loop, listed from the main track's east end to its west end.
+-- the same with two columns for each edge, as few as the roomy grid allows
+abbrev pub roomy_drawing : Drawing
+roomy_drawing = drawing
+    (at 0 0 ∷ at 7 0 ∷ at 2 0 ∷ at 5 0 ∷ [])
+    ((at 0 0 ∷ at 2 0 ∷ []) ∷ (at 2 0 ∷ at 5 0 ∷ []) ∷ (at 5 0 ∷ at 7 0 ∷ [])
+    ∷ (at 2 0 ∷ at 3 1 ∷ at 4 1 ∷ at 5 0 ∷ []) ∷ [])
+
+-- The same loop, listed from the main track's east end to its west end; again edge 3 is above edge 1.
 
 abbrev pub back_graph : Graph
 back_graph = track_graph
     (node_at 600 (End 0 West) ∷ node_at 0 (End 2 East) ∷ node_at 500 (Switch West Upper 0 1 3)
     ∷ node_at 100 (Switch East Upper 2 1 3) ∷ [])
     (joining 2 0 ∷ joining 3 2 ∷ joining 1 3 ∷ joining 3 2 ∷ [])
-
-abbrev pub back_above : ℕ → ℕ → Bool
-back_above = listed ((3, 1) ∷ [])
 
 abbrev pub back_drawing : Drawing
 back_drawing = drawing

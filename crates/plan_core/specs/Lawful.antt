@@ -58,10 +58,14 @@ Meets g grid d (Apart u v) = NodesAreApart d u v
 Meets g grid d (Over e f) = EdgeIsOver g d e f
 Meets g grid d (Parted e f) = EdgesAreParted g d e f
 
--- the drawing has a point for each node and a line for each edge
-pub record Fits (g : Graph) (d : Drawing) : Type 0 where
+-- the drawing has a point for each node, and a list of points for each edge
+pub record HasSizeOf (g : Graph) (d : Drawing) : Type 0 where
   pub places : length d.places ≡ length g.nodes
   pub lines : length d.lines ≡ length g.edges
+
+-- the drawing has a point for each node and a line for each edge
+pub record Fits (g : Graph) (d : Drawing) : Type 0 where
+  pub size : HasSizeOf g d
   pub are_lines : All (λ l. is_line l ≡ true) d.lines
 
 -- the drawing fits the graph and meets all laws. above e f says that e is above f; where it said so both

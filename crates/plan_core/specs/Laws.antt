@@ -1,5 +1,5 @@
 -- The seven laws, each as a sentence about its parties: n, u and v are nodes, e and f edges.
-use Rattle.std.specs.Prelude.{◌≡◌, ◌≢◌, ℕ, ◌<◌, ◌≤◌, ◌⊎◌, ◌==◌, if◌then◌else◌, ℤ, pos, negsuc, ◌+ℤ◌, ◌<ℤ◌, All}
+use Rattle.std.specs.Prelude.{◌≡◌, ◌≢◌, ℕ, ◌+◌, ◌<◌, ◌≤◌, ◌⊎◌, ◌==◌, if◌then◌else◌, ℤ, pos, negsuc, ◌+ℤ◌, ◌<ℤ◌, All}
 use Rattle.std.specs.Ordering.{int_cmp}
 use Rattle.std.specs.declared.cmp.Ordering.{Ordering}
 use Rattle.std.specs.declared.cmp.Ordering.TheVariants.{Less, Equal, Greater}
@@ -37,12 +37,13 @@ InOrder Greater u_x v_x = v_x ≤ u_x
 abbrev pub NodesAreOrdered : Graph → Drawing → ℕ → ℕ → Type 0
 NodesAreOrdered g d u v = InOrder (int_cmp (mileage g u) (mileage g v)) (place d u).x (place d v).x
 
--- Law 3: the edge's line begins at its west node's point and ends at its east node's point. It is
--- handed the grid, as law 1 is, and asks nothing of it.
+-- Law 3: the edge's line begins at its west node's point and ends at its east node's point, and the x of
+-- the second exceeds that of the first by the grid's least length or more.
 
 pub record LineJoinsItsNodes (g : Graph) (grid : GridSize) (d : Drawing) (e : ℕ) : Type 0 where
   pub begins : west_end (line d e) ≡ place d (edge g e).west
   pub ends : east_end (line d e) ≡ place d (edge g e).east
+  pub is_long : (place d (edge g e).west).x + grid.least ≤ (place d (edge g e).east).x
 
 -- Law 4: how slopes continue through a node.
 

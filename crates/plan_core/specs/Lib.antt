@@ -1,3 +1,4 @@
+pub mod Exactly
 pub mod Grid
 pub mod Order
 pub mod Graph

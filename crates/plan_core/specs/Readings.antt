@@ -6,7 +6,14 @@ use Rattle.plan_core.specs.declared.criterion.Criterion.{Criterion}
 use Rattle.plan_core.specs.declared.criterion.Criterion.TheVariants.{Height}
 use Rattle.plan_core.specs.declared.criterion.Values.{Values}
 use Rattle.plan_core.specs.Line.{Piece, run, height_on, height, west_end, east_end}
+use Rattle.plan_core.specs.Graph.{Graph, edge}
+use Rattle.plan_core.specs.Drawing.{Drawing, place, line}
 use Rattle.plan_core.specs.Values.{value_of}
+
+-- the edge's line begins and ends at the points of the edge's nodes
+pub record MeetsItsNodes (g : Graph) (d : Drawing) (e : ℕ) : Type 0 where
+  pub begins : west_end (line d e) ≡ place d (edge g e).west
+  pub ends : east_end (line d e) ≡ place d (edge g e).east
 
 -- a is less than b at this place of the order, and equal at all places before
 pub record IsLessAt (order : List Criterion) (a b : Values) (i : ℕ) : Type 0 where

@@ -2,6 +2,7 @@
 -- joins lead both ways, and mileages stay in a range. A topology is built by resolving a file's rows, and
 -- the track graph is built from one that is so.
 use Rattle.std.specs.Prelude.{◌≡◌, ◌≢◌, ℕ, ◌^◌, ◌*◌, ◌<◌, ◌≤◌, ◌⊎◌, ℤ, pos, neg_ℤ, ◌<ℤ◌, Option, Some, None, List, [], ◌∷◌, ◌++◌, length, map, flat_map, slice_get, option_and_then, option_to_list, All, AllPairs, chars}
+use Rattle.plan_core.specs.declared.limits.TheConstants.{MAX_ID_BYTES}
 use Rattle.plan_core.specs.declared.topology.Topology.{Topology}
 use Rattle.plan_core.specs.declared.topology.Track.{Track}
 use Rattle.plan_core.specs.declared.topology.End.{End as TrackEnd}
@@ -60,7 +61,7 @@ IsIdCharacter c = (32 < c) × ((c < 127) ⊎ (160 < c))
 -- an id as a file may have it
 pub record IsId (id : List ℕ) : Type 0 where
   pub some : 1 ≤ length id
-  pub short : length id ≤ 64
+  pub short : length id ≤ MAX_ID_BYTES
   pub characters : All IsIdCharacter (chars id)
 
 -- Joins.
@@ -110,7 +111,6 @@ track_miles track = track.begin.mile.0 ∷ (map (λ (x : Inner). x.mile.0) track
 
 -- what every topology is that was resolved from a file
 pub record IsResolved (t : Topology) : Type 0 where
-  pub tracks : length t.tracks ≤ 128
   pub few : length (elements t) < 2 ^ 32
   pub ids : All (λ (e : Element). IsId e.id) (elements t)
   pub ids_differ : AllPairs (λ (d e : Element). d.id ≢ e.id) (elements t)

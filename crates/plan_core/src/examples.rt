@@ -1,53 +1,57 @@
 // Examples of the definitions as theorems. The functions have no code: what they ensure speaks of the
 // track graphs and drawings that are written out in specs/, and of comparisons.
-ghost use Rattle.std.specs.Prelude.{◌≡◌, ◌≤◌, ◌↔◌, ℕ, Bool, true, false, List, [], ◌∷◌, length};
+ghost use Rattle.std.specs.Prelude.{◌≡◌, ◌<◌, ◌≤◌, ◌↔◌, ℕ, Bool, true, false, List, [], ◌∷◌, length};
 ghost use Rattle.std.specs.List.{list_all, count_by};
 ghost use Rattle.plan_core.specs.declared.criterion.Criterion.{Criterion};
 ghost use Rattle.plan_core.specs.declared.criterion.Criterion.TheVariants.{Height, Bends, Diagonal, Width};
 ghost use Rattle.plan_core.specs.declared.criterion.Values.{Values};
 ghost use Rattle.plan_core.specs.declared.point.Point.{Point};
-ghost use Rattle.plan_core.specs.Grid.{GridSize};
+ghost use Rattle.plan_core.specs.Grid.{GridSize, grid_size};
 ghost use Rattle.plan_core.specs.Graph.{Graph, Overlap, IsTrackGraph};
 ghost use Rattle.plan_core.specs.Drawing.{Drawing};
 ghost use Rattle.plan_core.specs.Line.{Piece, is_piece, is_shape, is_line, bends, diagonal, height};
-ghost use Rattle.plan_core.specs.Lawful.{Lawful, NodeOnGrid, LineOnGrid, Ordered, Joined, Aligned, Apart, Over, Parted};
+ghost use Rattle.plan_core.specs.Lawful.{Fits, Lawful, NodeOnGrid, LineOnGrid, Ordered, Joined, Aligned, Apart, Over, Parted};
+ghost use Rattle.plan_core.specs.Laws.{LineJoinsItsNodes};
 ghost use Rattle.plan_core.specs.Values.{values_of, value_of, limit_of, Better};
-ghost use Rattle.plan_core.specs.Readings.{IsLessAt, Interpolates, columns_off_level};
-ghost use Rattle.plan_core.specs.Examples.{at, longer, usual_grid, measured, IsWorked, one_graph, none_above, one_drawing, loop_graph, loop_above, loop_drawing, back_graph, back_above, back_drawing, cross_graph, cross_above, cross_drawing, two_graph, two_drawing, scissors_graph, scissors_above, scissors_drawing, station_graph, station_above, station_drawing, farthest_drawing};
-ghost use Rattle.plan_core.specs.Breaches.{BreaksJust, meeting_graph, parted_graph, joined_graph, too_wide, too_high, uneven, swapped, short, exchanged, too_steep, bent_rising_path, bent_falling_path, bent_main, sloping, kinked, one_point, touching, begins_above, ends_below, touched, crossed, backwards_graph, flat_graph, loose_graph, turned_graph, stray_graph, one_legged_graph, idle_graph};
+ghost use Rattle.plan_core.specs.Readings.{MeetsItsNodes, IsLessAt, Interpolates, columns_off_level};
+ghost use Rattle.plan_core.specs.Examples.{at, longer, usual_grid, roomy_grid, roomy_drawing, measured, IsWorked, one_graph, none_above, one_drawing, loop_graph, loop_above, loop_drawing, back_graph, back_drawing, cross_graph, cross_above, cross_drawing, two_graph, two_drawing, scissors_graph, scissors_above, scissors_drawing, station_graph, station_above, station_drawing, farthest_drawing};
+ghost use Rattle.plan_core.specs.Breaches.{BreaksJust, meeting_graph, parted_graph, joined_graph, too_wide, too_high, uneven, swapped, short, exchanged, crowded, too_steep, bent_rising_path, bent_falling_path, bent_main, sloping, kinked, one_point, touching, begins_above, ends_below, touched, crossed, backwards_graph, flat_graph, loose_graph, turned_graph, stray_graph, one_legged_graph, idle_graph};
 
 // Each worked drawing is lawful, and measures height, bends, diagonal and width as stated.
 fn worked_drawings()
-    ensures one_track { IsWorked one_graph none_above one_drawing (measured 0 0 0 1) }
-    ensures one_track_as_far_out_as_the_grid_goes { IsWorked one_graph none_above farthest_drawing (measured 8 0 0 40) }
-    ensures a_loop { IsWorked loop_graph loop_above loop_drawing (measured 1 2 2 5) }
-    ensures a_loop_listed_backwards { IsWorked back_graph back_above back_drawing (measured 1 2 2 5) }
-    ensures a_crossover { IsWorked cross_graph cross_above cross_drawing (measured 1 0 1 3) }
-    ensures two_tracks { IsWorked two_graph none_above two_drawing (measured 1 0 0 1) }
-    ensures scissors { IsWorked scissors_graph scissors_above scissors_drawing (measured 2 0 4 4) }
-    ensures a_station { IsWorked station_graph station_above station_drawing (measured 2 2 3 7) }
+    ensures one_track { IsWorked one_graph none_above usual_grid one_drawing (measured 0 0 0 1) }
+    ensures one_track_as_far_out_as_the_grid_goes { IsWorked one_graph none_above usual_grid farthest_drawing (measured 8 0 0 40) }
+    ensures a_loop { IsWorked loop_graph loop_above usual_grid loop_drawing (measured 1 2 2 5) }
+    ensures a_loop_listed_backwards { IsWorked back_graph loop_above usual_grid back_drawing (measured 1 2 2 5) }
+    ensures a_crossover { IsWorked cross_graph cross_above usual_grid cross_drawing (measured 1 0 1 3) }
+    ensures two_tracks { IsWorked two_graph none_above usual_grid two_drawing (measured 1 0 0 1) }
+    ensures scissors { IsWorked scissors_graph scissors_above usual_grid scissors_drawing (measured 2 0 4 4) }
+    ensures a_loop_with_two_columns_for_each_edge { IsWorked loop_graph loop_above roomy_grid roomy_drawing (measured 1 2 2 7) }
+    ensures a_station { IsWorked station_graph station_above usual_grid station_drawing (measured 2 2 3 7) }
 {}
 
 // Each of these drawings breaks one law, for the parties listed and for no others.
 fn broken_drawings()
-    ensures too_wide { BreaksJust one_graph none_above too_wide (NodeOnGrid 1 ∷ LineOnGrid 0 ∷ []) }
-    ensures too_high { BreaksJust loop_graph loop_above too_high (LineOnGrid 3 ∷ []) }
-    ensures uneven { BreaksJust two_graph none_above uneven (Ordered 1 3 ∷ []) }
-    ensures swapped { BreaksJust parted_graph none_above swapped (Ordered 0 2 ∷ Ordered 0 3 ∷ Ordered 1 2 ∷ Ordered 1 3 ∷ []) }
-    ensures short { BreaksJust one_graph none_above short (Joined 0 ∷ []) }
-    ensures exchanged { BreaksJust two_graph none_above exchanged (Joined 0 ∷ Joined 1 ∷ []) }
-    ensures too_steep { BreaksJust loop_graph loop_above too_steep (Aligned 3 ∷ []) }
-    ensures bent_rising_path { BreaksJust scissors_graph scissors_above bent_rising_path (Aligned 8 ∷ []) }
-    ensures bent_falling_path { BreaksJust scissors_graph scissors_above bent_falling_path (Aligned 8 ∷ []) }
-    ensures bent_main { BreaksJust loop_graph loop_above bent_main (Aligned 3 ∷ []) }
-    ensures sloping { BreaksJust one_graph none_above sloping (Aligned 0 ∷ Aligned 1 ∷ []) }
-    ensures kinked { BreaksJust joined_graph none_above kinked (Aligned 1 ∷ []) }
-    ensures one_point { BreaksJust meeting_graph none_above one_point (Apart 1 2 ∷ []) }
-    ensures touching { BreaksJust parted_graph none_above touching (Apart 1 2 ∷ []) }
-    ensures begins_above { BreaksJust cross_graph cross_above begins_above (Over 2 0 ∷ []) }
-    ensures ends_below { BreaksJust cross_graph cross_above ends_below (Over 3 1 ∷ []) }
-    ensures touched { BreaksJust joined_graph none_above touched (Parted 0 2 ∷ Parted 1 2 ∷ []) }
-    ensures crossed { BreaksJust joined_graph none_above crossed (Parted 0 2 ∷ []) }
+    ensures too_wide { BreaksJust one_graph none_above usual_grid too_wide (NodeOnGrid 1 ∷ LineOnGrid 0 ∷ []) }
+    ensures too_high { BreaksJust loop_graph loop_above usual_grid too_high (LineOnGrid 3 ∷ []) }
+    ensures uneven { BreaksJust two_graph none_above usual_grid uneven (Ordered 1 3 ∷ []) }
+    ensures swapped { BreaksJust parted_graph none_above usual_grid swapped (Ordered 0 2 ∷ Ordered 0 3 ∷ Ordered 1 2 ∷ Ordered 1 3 ∷ []) }
+    ensures short { BreaksJust one_graph none_above usual_grid short (Joined 0 ∷ []) }
+    ensures exchanged { BreaksJust two_graph none_above usual_grid exchanged (Joined 0 ∷ Joined 1 ∷ []) }
+    ensures crowded { BreaksJust loop_graph loop_above roomy_grid crowded (Joined 2 ∷ []) }
+    ensures a_loop_with_one_column_at_its_ends { BreaksJust loop_graph loop_above roomy_grid loop_drawing (Joined 0 ∷ Joined 2 ∷ []) }
+    ensures too_steep { BreaksJust loop_graph loop_above usual_grid too_steep (Aligned 3 ∷ []) }
+    ensures bent_rising_path { BreaksJust scissors_graph scissors_above usual_grid bent_rising_path (Aligned 8 ∷ []) }
+    ensures bent_falling_path { BreaksJust scissors_graph scissors_above usual_grid bent_falling_path (Aligned 8 ∷ []) }
+    ensures bent_main { BreaksJust loop_graph loop_above usual_grid bent_main (Aligned 3 ∷ []) }
+    ensures sloping { BreaksJust one_graph none_above usual_grid sloping (Aligned 0 ∷ Aligned 1 ∷ []) }
+    ensures kinked { BreaksJust joined_graph none_above usual_grid kinked (Aligned 1 ∷ []) }
+    ensures one_point { BreaksJust meeting_graph none_above usual_grid one_point (Apart 1 2 ∷ []) }
+    ensures touching { BreaksJust parted_graph none_above usual_grid touching (Apart 1 2 ∷ []) }
+    ensures begins_above { BreaksJust cross_graph cross_above usual_grid begins_above (Over 2 0 ∷ []) }
+    ensures ends_below { BreaksJust cross_graph cross_above usual_grid ends_below (Over 3 1 ∷ []) }
+    ensures touched { BreaksJust joined_graph none_above usual_grid touched (Parted 0 2 ∷ Parted 1 2 ∷ []) }
+    ensures crossed { BreaksJust joined_graph none_above usual_grid crossed (Parted 0 2 ∷ []) }
 {}
 
 // None of these is a track graph; each has one thing wrong.
@@ -117,6 +121,7 @@ fn other_readings()
     ensures heights_interpolate { (p : Piece) (x : ℕ) → is_piece p ≡ true → p.west.x ≤ x → x ≤ p.east.x → Interpolates p x }
     ensures diagonal_counts_columns { (l : List Point) → is_line l ≡ true → diagonal l ≡ columns_off_level l }
     ensures no_value_passes_its_limit { (g : Graph) (above : ℕ → ℕ → Bool) (grid : GridSize) (d : Drawing) → Lawful g above grid d → (c : Criterion) → value_of (values_of d) c ≤ limit_of g grid c }
+    ensures least_1_asks_no_more_than_that_ends_meet { (g : Graph) (width height : ℕ) (d : Drawing) (e : ℕ) → Fits g d → e < length g.edges → MeetsItsNodes g d e → LineJoinsItsNodes g (grid_size width height) d e }
     ensures better_is_less_at_some_place { (order : List Criterion) (a b : Values) → Better order a b ↔ (i : ℕ) × IsLessAt order a b i }
     ensures nothing_is_better_than_itself { (order : List Criterion) (a : Values) → Better order a a → ⊥ }
     ensures better_than_a_better_one { (order : List Criterion) (a b c : Values) → Better order a b → Better order b c → Better order a c }

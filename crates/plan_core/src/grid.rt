@@ -1,35 +1,52 @@
 // The grid that a drawing stands on.
 ghost use Rattle.std.specs.Prelude.{◌≡◌, SomeIff};
-ghost use Rattle.plan_core.specs.Grid.{IsGrid, grid_size};
+ghost use Rattle.plan_core.specs.Grid.{IsGrid, grid_size, grid_with};
 
+use crate::{MAX_HEIGHT, MAX_LEAST, MAX_WIDTH};
 use std::marker::Model;
 
-/// A grid of 1 to 64 columns beside column 0, and of 0 to 12 rows above row 0.
+/// A grid of 1 to 64 columns beside column 0, and of 0 to 12 rows above row 0, and over how many columns each
+/// edge goes at the least, 1 to 16.
 #[derive(Clone, Copy, Debug, PartialEq, Eq)]
 pub struct Grid {
     width: u16,
     height: u16,
+    least: u16,
 }
 
 impl Model for Grid {
-    ghost use Rattle.plan_core.specs.Grid.{GridSize, IsGrid, grid_size};
+    ghost use Rattle.plan_core.specs.Grid.{GridSize, IsGrid, grid_with};
 
     ghost Value = { GridSize };
 
-    ghost view = { λ g. grid_size g.width g.height };
+    ghost view = { λ g. grid_with g.width g.height g.least };
 
-    ghost invariant = { λ g. IsGrid (grid_size g.width g.height) };
+    ghost invariant = { λ g. IsGrid (grid_with g.width g.height g.least) };
 
-    ghost inverse = { λ v. record { width = v.width; height = v.height } };
+    ghost inverse = { λ v. record { width = v.width; height = v.height; least = v.least } };
 }
 
 impl Grid {
-    /// The grid of this width and height, or `None` exactly where they are none.
+    /// The grid of this width and height and of least length 1, or `None` exactly where they are none.
     pub fn new(width: u16, height: u16) -> Option<Grid>
         ensures { SomeIff result (IsGrid (grid_size width height)) (grid_size width height) }
     {
-        if (1..=64).contains(&width) && height <= 12 {
-            Some(Grid { width, height })
+        Grid::with_least(width, height, 1)
+    }
+
+    /// The grid of this width, height and least length, or `None` exactly where they are none.
+    pub fn with_least(width: u16, height: u16, least: u16) -> Option<Grid>
+        ensures { SomeIff result (IsGrid (grid_with width height least)) (grid_with width height least) }
+    {
+        if (1..=MAX_WIDTH).contains(&width)
+            && height <= MAX_HEIGHT
+            && (1..=MAX_LEAST).contains(&least)
+        {
+            Some(Grid {
+                width,
+                height,
+                least,
+            })
         } else {
             None
         }
@@ -50,6 +67,14 @@ impl Grid {
     {
         self.height
     }
+
+    /// Over how many columns each edge goes at the least, 1 to 16.
+    pub fn least(&self) -> u16
+        ensures value { result ≡ self.now.least }
+        ensures is_grid { IsGrid self.now }
+    {
+        self.least
+    }
 }
 
 #[cfg(test)]
@@ -57,25 +82,29 @@ mod tests {
     use super::*;
 
     #[test]
-    fn a_grid_has_1_to_64_columns_and_0_to_12_rows(rt: HostRuntime) {
+    fn a_grid_has_its_limits(rt: HostRuntime) {
         let cases = [
-            (40, 8, true),
-            (1, 0, true),
-            (64, 12, true),
-            (0, 8, false),
-            (65, 8, false),
-            (40, 13, false),
-            (0, 13, false),
-            (u16::MAX, u16::MAX, false),
+            (40, 8, 1, true),
+            (1, 0, 1, true),
+            (64, 12, 16, true),
+            (0, 8, 1, false),
+            (65, 8, 1, false),
+            (40, 13, 1, false),
+            (40, 8, 0, false),
+            (40, 8, 17, false),
+            (u16::MAX, u16::MAX, u16::MAX, false),
         ];
-        for (width, height, is_grid) in cases {
-            match Grid::new(width, height) {
-                Some(grid) => {
-                    assert!(rt; is_grid, "{width} by {height}");
-                    assert_eq!(rt; grid.width(), width);
-                    assert_eq!(rt; grid.height(), height);
-                }
-                None => assert!(rt; !is_grid, "{width} by {height}"),
+        for (width, height, least, is_grid) in cases {
+            let shown = match Grid::with_least(width, height, least) {
+                Some(grid) => (grid.width(), grid.height(), grid.least()) == (width, height, least),
+                None => !is_grid,
+            };
+            assert!(rt; shown, "{width} by {height}, {least}");
+            if least == 1 {
+                assert_eq!(rt;
+                    Grid::new(width, height),
+                    Grid::with_least(width, height, 1)
+                );
             }
         }
     }

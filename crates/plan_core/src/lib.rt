@@ -1,6 +1,6 @@
 //! The words that every crate of railplan shares, and what a lawful drawing is.
 //!
-//! `src/` has the numbers, the grid, the order of criteria, texts and lists, and the rows of a
+//! `src/` has the limits, the numbers, the grid, the order of criteria, texts and lists, and the rows of a
 //! topology. `specs/` has the definitions that the whole product is judged by, over plain lists:
 //! `Graph` (nodes, edges and ports), `Line` (the eleven shapes), `Drawing`, `Laws` (each law's
 //! sentence for its parties), `Lawful` (all laws for all parties), `Values` (what a drawing measures,
@@ -13,6 +13,7 @@
 mod criterion;
 mod grid;
 mod items;
+mod limits;
 mod memory;
 mod numbers;
 mod order;
@@ -24,6 +25,10 @@ mod topology;
 pub use criterion::{Criterion, Values};
 pub use grid::Grid;
 pub use items::Items;
+pub use limits::{
+    MAX_BUDGET, MAX_EDGES, MAX_FILE_BYTES, MAX_HEIGHT, MAX_ID_BYTES, MAX_LEAST, MAX_LOG_BYTES,
+    MAX_NODES, MAX_TRACKS, MAX_WIDTH,
+};
 pub use memory::OutOfMemory;
 pub use numbers::{ColumnNo, EdgeNo, Micro, NodeNo};
 pub use order::Order;

@@ -1,4 +1,4 @@
-use Rattle.plan_core.proofs.Breaking.{too_wide_breaks, too_high_breaks, uneven_breaks, swapped_breaks, short_breaks, exchanged_breaks, too_steep_breaks, bent_rising_path_breaks, bent_falling_path_breaks, bent_main_breaks, sloping_breaks, kinked_breaks, one_point_breaks, touching_breaks, begins_above_breaks, ends_below_breaks, touched_breaks, crossed_breaks}
+use Rattle.plan_core.proofs.Breaking.{too_wide_breaks, too_high_breaks, uneven_breaks, swapped_breaks, short_breaks, exchanged_breaks, crowded_breaks, loop_breaks, too_steep_breaks, bent_rising_path_breaks, bent_falling_path_breaks, bent_main_breaks, sloping_breaks, kinked_breaks, one_point_breaks, touching_breaks, begins_above_breaks, ends_below_breaks, touched_breaks, crossed_breaks}
 use Rattle.plan_core.proofs.examples.broken_drawings.Goals as goal
 
 pub returns-clause-too_wide : goal.returns-clause-too_wide
@@ -18,6 +18,12 @@ returns-clause-short c = short_breaks
 
 pub returns-clause-exchanged : goal.returns-clause-exchanged
 returns-clause-exchanged c = exchanged_breaks
+
+pub returns-clause-crowded : goal.returns-clause-crowded
+returns-clause-crowded c = crowded_breaks
+
+pub returns-clause-a_loop_with_one_column_at_its_ends : goal.returns-clause-a_loop_with_one_column_at_its_ends
+returns-clause-a_loop_with_one_column_at_its_ends c = loop_breaks
 
 pub returns-clause-too_steep : goal.returns-clause-too_steep
 returns-clause-too_steep c = too_steep_breaks

@@ -2,6 +2,7 @@ use Rattle.plan_core.proofs.LineLemmas.{line_length}
 use Rattle.plan_core.proofs.PieceLemmas.{piece_by_test, height_on-interpolates}
 use Rattle.plan_core.proofs.DiagonalLemmas.{diagonal_by_columns}
 use Rattle.plan_core.proofs.LimitLemmas.{value-le-limit}
+use Rattle.plan_core.proofs.JoinLemmas.{joins_where_ends_meet}
 use Rattle.plan_core.proofs.BetterLemmas.{better_is_less_somewhere, Better-irreflexive, Better-transitive}
 use Rattle.plan_core.proofs.examples.other_readings.Goals as goal
 
@@ -16,6 +17,9 @@ returns-clause-diagonal_counts_columns c = diagonal_by_columns
 
 pub returns-clause-no_value_passes_its_limit : goal.returns-clause-no_value_passes_its_limit
 returns-clause-no_value_passes_its_limit c = value-le-limit
+
+pub returns-clause-least_1_asks_no_more_than_that_ends_meet : goal.returns-clause-least_1_asks_no_more_than_that_ends_meet
+returns-clause-least_1_asks_no_more_than_that_ends_meet c = joins_where_ends_meet
 
 pub returns-clause-better_is_less_at_some_place : goal.returns-clause-better_is_less_at_some_place
 returns-clause-better_is_less_at_some_place c = better_is_less_somewhere

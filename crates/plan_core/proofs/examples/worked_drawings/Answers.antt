@@ -1,4 +1,4 @@
-use Rattle.plan_core.proofs.Worked.{one_is_worked, farthest_is_worked, loop_is_worked, back_is_worked, cross_is_worked, two_is_worked, scissors_is_worked, station_is_worked}
+use Rattle.plan_core.proofs.Worked.{one_is_worked, farthest_is_worked, loop_is_worked, roomy_is_worked, back_is_worked, cross_is_worked, two_is_worked, scissors_is_worked, station_is_worked}
 use Rattle.plan_core.proofs.examples.worked_drawings.Goals as goal
 
 pub returns-clause-one_track : goal.returns-clause-one_track
@@ -21,6 +21,9 @@ returns-clause-two_tracks c = two_is_worked
 
 pub returns-clause-scissors : goal.returns-clause-scissors
 returns-clause-scissors c = scissors_is_worked
+
+pub returns-clause-a_loop_with_two_columns_for_each_edge : goal.returns-clause-a_loop_with_two_columns_for_each_edge
+returns-clause-a_loop_with_two_columns_for_each_edge c = roomy_is_worked
 
 pub returns-clause-a_station : goal.returns-clause-a_station
 returns-clause-a_station c = station_is_worked
