@@ -1,0 +1,102 @@
+// Numbers in fields, by their canonical decimals.
+ghost use Rattle.std.specs.Prelude.{◌≡◌, ◌<◌, ◌^◌, ◌++◌, ◌∷◌, ◌↔◌, ℕ, IsTrue, OnOk, MatchOption};
+ghost use Rattle.std.specs.Fmt.{decimal};
+ghost use Rattle.outside_io.specs.Contents.{Begins};
+ghost use Rattle.line_text.specs.Numbers.{IsNumberIn, BeginsCanonical};
+
+use crate::{push_field, push_text};
+use itoa::Buffer;
+use plan_core::OutOfMemory;
+
+/// Whether a digit is in front, and a 0 only where nothing follows it.
+fn begins_canonical(field: &[u8]) -> bool
+    ensures { IsTrue result ↔ BeginsCanonical field.now }
+{
+    match field {
+        [b'0', behind @ ..] => behind.is_empty(),
+        [first, ..] => b'1' <= *first && *first <= b'9',
+        [] => false,
+    }
+}
+
+/// The number that the field is the decimal of, if it is one that fits.
+fn value_of(field: &[u8]) -> Option<u32>
+    requires { BeginsCanonical field.now }
+    ensures { MatchOption result ((n : ℕ) → n < 2 ^ 32 → field.now ≡ decimal n → ⊥) (λ n. (n < 2 ^ 32) × (field.now ≡ decimal n)) }
+{
+    let text = std::str::from_utf8(field).ok()?;
+    text.parse::<u32>().ok()
+}
+
+/// The number that the field is the decimal of, without a sign and without a zero in front, if it is one
+/// from `least` to `greatest`.
+pub fn read_number(field: &[u8], least: u32, greatest: u32) -> Option<u32>
+    ensures { MatchOption result ((n : ℕ) → IsNumberIn least greatest field.now n → ⊥) (IsNumberIn least greatest field.now) }
+{
+    if !begins_canonical(field) {
+        return None;
+    }
+    let number = value_of(field)?;
+    if least <= number && number <= greatest {
+        Some(number)
+    } else {
+        None
+    }
+}
+
+/// Appends a number. Where memory couldn't be had, `into` begins with what it held.
+pub fn push_number(into: &mut Vec<u8>, n: u32) -> Result<(), OutOfMemory>
+    ensures ok { OnOk result (into.new.items ≡ into.old.items ++ decimal n) }
+    ensures begins { Begins into.old.items into.new.items }
+{
+    let mut digits = Buffer::new();
+    push_text(into, digits.format(n).as_bytes())
+}
+
+/// Appends a space and a number. Where memory couldn't be had, `into` begins with what it held.
+pub fn push_number_field(into: &mut Vec<u8>, n: u32) -> Result<(), OutOfMemory>
+    ensures ok { OnOk result (into.new.items ≡ into.old.items ++ (32 ∷ decimal n)) }
+    ensures begins { Begins into.old.items into.new.items }
+{
+    let mut digits = Buffer::new();
+    push_field(into, digits.format(n).as_bytes())
+}
+
+/// Appends a space and a place in a file, in bytes from 0. Where memory couldn't be had, `into` begins
+/// with what it held.
+pub fn push_place_field(into: &mut Vec<u8>, at: usize) -> Result<(), OutOfMemory>
+    ensures ok { OnOk result (into.new.items ≡ into.old.items ++ (32 ∷ decimal at)) }
+    ensures begins { Begins into.old.items into.new.items }
+{
+    let mut digits = Buffer::new();
+    push_field(into, digits.format(at).as_bytes())
+}
+
+#[cfg(test)]
+mod tests {
+    use super::*;
+
+    #[test]
+    fn a_number_has_one_field(rt: HostRuntime) {
+        let cases: [(&[u8], Option<u32>); 12] = [
+            (b"0", None),
+            (b"1", Some(1)),
+            (b"9", Some(9)),
+            (b"10", Some(10)),
+            (b"65535", Some(65_535)),
+            (b"65536", None),
+            (b"4294967296", None),
+            (b"", None),
+            (b"01", None),
+            (b"+1", None),
+            (b"-1", None),
+            (b"1 ", None),
+        ];
+        for (field, number) in cases {
+            assert_eq!(rt; read_number(field, 1, 65_535), number);
+        }
+        assert_eq!(rt; read_number(b"0", 0, u32::MAX), Some(0));
+        assert_eq!(rt; read_number(b"00", 0, u32::MAX), None);
+        assert_eq!(rt; read_number(b"4294967295", 0, u32::MAX), Some(u32::MAX));
+    }
+}
