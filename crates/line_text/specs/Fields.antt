@@ -15,12 +15,12 @@ line_text first others = first ++ spaced others ++ codes "\n"
 -- ---- cut
 
 -- this byte doesn't stand in the text
-abbrev pub Lacks : ℕ → List ℕ → Type 0
-Lacks mark text = AllByRecursion (λ b. b ≢ mark) text
+abbrev pub LacksByte : ℕ → List ℕ → Type 0
+LacksByte mark text = AllByRecursion (λ b. b ≢ mark) text
 
 -- the text, cut at the first of these bytes: what stands before it and what stands behind it
 pub record IsCutAt (mark : ℕ) (text front rest : List ℕ) : Type 0 where
-  pub first : Lacks mark front
+  pub first : LacksByte mark front
   pub spelled : text ≡ front ++ mark ∷ rest
 
 -- a space or a line feed, before which a field ends
@@ -37,7 +37,7 @@ Ends [] = ⊤
 Ends (b ∷ rest) = EndsField b
 
 -- the field at the front of the text, and what stands behind it
-pub record IsFront (text field rest : List ℕ) : Type 0 where
+pub record IsFrontField (text field rest : List ℕ) : Type 0 where
   pub one : IsOneField field
   pub ends : Ends rest
   pub spelled : text ≡ field ++ rest

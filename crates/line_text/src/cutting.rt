@@ -1,10 +1,10 @@
 // Bytes, cut into lines and fields.
 ghost use Rattle.std.specs.Prelude.{◌≡◌, ◌≢◌, ◌↔◌, ◌++◌, ℕ, List, IsTrue, MatchOption};
-ghost use Rattle.line_text.specs.Fields.{Lacks, IsCutAt, EndsField, IsFront};
+ghost use Rattle.line_text.specs.Fields.{LacksByte, IsCutAt, EndsField, IsFrontField};
 
 /// What stands before the first of these bytes, and what stands behind it, if there is one.
 fn cut_at(text: &[u8], mark: u8) -> Option<(&[u8], &[u8])>
-    ensures { MatchOption result (Lacks mark text.now) (λ p. IsCutAt mark text.now p.0.now p.1.now) }
+    ensures { MatchOption result (LacksByte mark text.now) (λ p. IsCutAt mark text.now p.0.now p.1.now) }
 {
     for (end, b) in text.iter().enumerate() {
         if *b == mark {
@@ -16,14 +16,14 @@ fn cut_at(text: &[u8], mark: u8) -> Option<(&[u8], &[u8])>
 
 /// The line at the front, without its line feed, and what stands behind that, if there is a line feed.
 pub fn cut_line(text: &[u8]) -> Option<(&[u8], &[u8])>
-    ensures { MatchOption result (Lacks 10 text.now) (λ p. IsCutAt 10 text.now p.0.now p.1.now) }
+    ensures { MatchOption result (LacksByte 10 text.now) (λ p. IsCutAt 10 text.now p.0.now p.1.now) }
 {
     cut_at(text, b'\n')
 }
 
 /// The field at the front of a line, and what stands behind the space that follows it, if there is a space.
 pub fn cut_field(line: &[u8]) -> Option<(&[u8], &[u8])>
-    ensures { MatchOption result (Lacks 32 line.now) (λ p. IsCutAt 32 line.now p.0.now p.1.now) }
+    ensures { MatchOption result (LacksByte 32 line.now) (λ p. IsCutAt 32 line.now p.0.now p.1.now) }
 {
     cut_at(line, b' ')
 }
@@ -37,7 +37,7 @@ fn ends_field(b: u8) -> bool
 /// The field at the front of a text that may have several lines, and what stands behind it, with the
 /// space or the line feed that ends it.
 pub fn front_field(text: &[u8]) -> (&[u8], &[u8])
-    ensures { IsFront text.now result.0.now result.1.now }
+    ensures { IsFrontField text.now result.0.now result.1.now }
 {
     for (end, b) in text.iter().enumerate() {
         if ends_field(*b) {
