@@ -4,7 +4,7 @@ use Rattle.std.specs.Prelude.{◌≢◌, All, AllPairs, slice_index_or}
 use Rattle.std.specs.List.{Contains, filter, flat_map, list_any}
 use Rattle.std.specs.Bool.{Decides}
 use Rattle.std.specs.Int.{int_max, int_min}
-use Rattle.std.proofs.lemmas.Bool.{false≢true, true_from_ne_false}
+use Rattle.std.proofs.lemmas.Bool.{both_ways, false≢true, false_from_ne_true, true_from_ne_false}
 use Rattle.std.proofs.lemmas.List.Elements.{All-contains, filter_passes, Decides-contains}
 use Rattle.std.proofs.lemmas.Bool.Decides.{Decides-eqb, Decides-by_or}
 use Rattle.std.proofs.lemmas.List.{get_or_default}
@@ -26,15 +26,8 @@ overlap g e f =
     is_smaller_integer (int_max (mileage g (edge g e).west) (mileage g (edge g f).west))
     (int_min (mileage g (edge g e).east) (mileage g (edge g f).east))
 
-pub not_true : (b : Bool) → (b ≡ true → ⊥) → b ≡ false
-not_true true h = absurd (h refl)
-not_true false h = refl
-
-pub not_both : (b : Bool) → b ≡ false → b ≡ true → ⊥
-not_both b is_not is = false≢true (sym is_not ∙ is)
-
 abbrev pub is_false : (b : Bool) → Test (b ≡ false)
-is_false b = restated (not_true b) (not_both b) (opposite_of (is_bool b))
+is_false b = restated (false_from_ne_true b) (both_ways b) (opposite_of (is_bool b))
 
 abbrev pub is_pair : (count a b : ℕ) → Test (IsPair count a b)
 is_pair count a b = restated (λ h. record { rising = h.0; within = h.1 }) (λ h. (h.rising, h.within)) (both (is_below a b) (is_below b count))
@@ -149,7 +142,7 @@ broken-has g above grid d i speaks fails =
     let test = is_instance g above i in
     let met = meets g grid d i in
     Contains-filter (λ i. not (holds g above grid d i).passes) (candidates g) i (Contains-candidates g above i speaks)
-    (implication_fails test.passes met.passes (test.decides.1 speaks) (not_true met.passes (λ e. fails (shown met e))))
+    (implication_fails test.passes met.passes (test.decides.1 speaks) (false_from_ne_true met.passes (λ e. fails (shown met e))))
 
 -- and what is in the list is a broken instance
 pub broken-only : (g : Graph) (above : ℕ → ℕ → Bool) (grid : GridSize) (d : Drawing) (i : Instance) → Contains (broken g above grid d) i → IsInstance g above i × (Meets g grid d i → ⊥)

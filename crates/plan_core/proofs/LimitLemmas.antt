@@ -43,7 +43,7 @@ points_on_grid g above grid d lawful =
 coordinate-le : (coordinate : Point → ℕ) (most : ℕ) (points : List Point) → All (λ p. coordinate p ≤ most) points → maximum (map coordinate points) ≤ most
 coordinate-le coordinate most points h = maximum-le (map coordinate points) most (All-map (λ x. x ≤ most) coordinate points h)
 
-bends-le : (l : List Point) → is_line l ≡ true → bends l ≤ 2
+pub bends-le : (l : List Point) → is_line l ≡ true → bends l ≤ 2
 bends-le l h = let few = (line_length l h).1 in omega (arith, few)
 
 last_has : (P : Point → Type 0) (a : Point) (rest : List Point) → All P (a ∷ rest) → P (last_from a rest)
