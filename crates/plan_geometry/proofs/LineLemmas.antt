@@ -1,34 +1,12 @@
 -- How long lines are, and walks along them.
-use Rattle.std.proofs.Common.{◌≡◌, ℕ, ◌+◌, ◌*◌, ◌<◌, ◌≤◌, true, false, List, [], ◌∷◌, length, take, map, refl, ap, arith}
+use Rattle.std.proofs.Common.{◌≡◌, ℕ, ◌+◌, ◌*◌, ◌<◌, ◌≤◌, true, false, List, length, take, map, refl, ap, arith}
 use Rattle.std.specs.Prelude.{sum_by}
 use Rattle.std.specs.List.{list_all}
-use Rattle.std.proofs.lemmas.Bool.{and_parts, false≢true}
-use Rattle.std.proofs.lemmas.List.{length-take, length-map}
+use Rattle.std.proofs.lemmas.Bool.{and_parts}
+use Rattle.std.proofs.lemmas.List.{length-take}
 use Rattle.plan_core.specs.declared.point.Point.{Point}
-use Rattle.plan_core.specs.declared.point.Slope.{Slope}
+use Rattle.plan_core.proofs.LineLemmas.{line_length}
 use Rattle.plan_core.specs.Line.{pieces_from, pieces, is_piece, slope, is_shape, is_line, height, height_from, diagonal, absolute_rise}
-
-shape_few : (slopes : List Slope) → is_shape slopes ≡ true → length slopes ≤ 3
-shape_few [] h = omega arith
-shape_few (a ∷ []) h = omega arith
-shape_few (a ∷ b ∷ []) h = omega arith
-shape_few (a ∷ b ∷ c ∷ []) h = omega arith
-shape_few (a ∷ b ∷ c ∷ d ∷ rest) h = absurd (false≢true h)
-
-length-pieces_from : (a : Point) (rest : List Point) → length (pieces_from a rest) ≡ length rest
-length-pieces_from a [] = refl
-length-pieces_from a (b ∷ rest) = let k = length-pieces_from b rest in omega (arith, k)
-
--- a line has two to four points
-pub line_length : (line : List Point) → is_line line ≡ true → (2 ≤ length line) × (length line ≤ 4)
-line_length [] h = absurd (false≢true h)
-line_length (a ∷ []) h = absurd (false≢true h)
-line_length (a ∷ b ∷ rest) h =
-    let all = pieces (a ∷ b ∷ rest) in
-    let few = shape_few (map slope all) (and_parts (list_all is_piece all) (is_shape (map slope all)) h).1 in
-    let same = length-map all slope in
-    let long = length-pieces_from a (b ∷ rest) in
-    (omega arith, omega (arith, few, same, long))
 
 pub long_is_no_line : (line : List Point) → 5 ≤ length line → false ≡ is_line line
 long_is_no_line line long =

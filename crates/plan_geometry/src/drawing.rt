@@ -1,5 +1,6 @@
 // A drawing.
 ghost use Rattle.std.specs.Prelude.{◌≡◌, ◌<◌, ◌≤◌, true, length, map, All, IfOk};
+ghost use Rattle.plan_core.specs.declared.limits.TheConstants.{MAX_NODES, MAX_EDGES};
 ghost use Rattle.plan_core.specs.Line.{is_line};
 ghost use Rattle.plan_core.specs.Drawing.{place, line, drawing};
 
@@ -30,8 +31,8 @@ impl Model for Drawing {
 impl Drawing {
     /// The drawing with these points, one for each node, and these lines, one for each edge.
     pub fn new(alloc: Global, places: &[Point], lines: &[Line]) -> Result<Drawing, OutOfMemory>
-        requires places { length places.now ≤ 128 }
-        requires lines { length lines.now ≤ 160 }
+        requires places { length places.now ≤ MAX_NODES }
+        requires lines { length lines.now ≤ MAX_EDGES }
         ensures { IfOk result (λ d. d ≡ drawing places.now lines.now) }
     {
         let mut copies = Vec::with_capacity(alloc, lines.len())?;
@@ -47,7 +48,7 @@ impl Drawing {
     /// The number of nodes, at most 128.
     pub fn nodes(&self) -> u16
         ensures value { result ≡ length self.now.places }
-        ensures limit { result ≤ 128 }
+        ensures limit { result ≤ MAX_NODES }
     {
         self.places.len() as u16
     }
@@ -55,7 +56,7 @@ impl Drawing {
     /// The number of edges, at most 160.
     pub fn edges(&self) -> u16
         ensures value { result ≡ length self.now.lines }
-        ensures limit { result ≤ 160 }
+        ensures limit { result ≤ MAX_EDGES }
         ensures are_lines { All (λ l. is_line l ≡ true) self.now.lines }
     {
         self.lines.len() as u16
@@ -80,7 +81,7 @@ impl Drawing {
     /// The points of all nodes, by number.
     pub fn places(&self) -> &[Point]
         ensures value { result.now ≡ self.now.places }
-        ensures limit { length self.now.places ≤ 128 }
+        ensures limit { length self.now.places ≤ MAX_NODES }
     {
         &self.places
     }
@@ -88,7 +89,7 @@ impl Drawing {
     /// The lines of all edges, by number.
     pub fn lines(&self) -> &[Line]
         ensures value { result.now ≡ self.now.lines }
-        ensures limit { length self.now.lines ≤ 160 }
+        ensures limit { length self.now.lines ≤ MAX_EDGES }
     {
         &self.lines
     }

@@ -92,6 +92,25 @@ impl Line {
         self.points.as_slice()
     }
 
+    /// The first point.
+    pub fn west_end(&self) -> Point
+        ensures { result ≡ west_end self.now }
+    {
+        self.points[0]
+    }
+
+    /// The last point.
+    pub fn east_end(&self) -> Point
+        ensures { result ≡ east_end self.now }
+    {
+        let points = self.points.as_slice();
+        let mut last = points[0];
+        for p in &points[1..] {
+            last = *p;
+        }
+        last
+    }
+
     /// The same line once more.
     pub fn copied(&self) -> Line
         ensures same { result ≡ self.now }
@@ -159,23 +178,6 @@ impl Line {
             west = *p;
         }
         sum
-    }
-
-    fn west_end(&self) -> Point
-        ensures { result ≡ west_end self.now }
-    {
-        self.points[0]
-    }
-
-    fn east_end(&self) -> Point
-        ensures { result ≡ east_end self.now }
-    {
-        let points = self.points.as_slice();
-        let mut last = points[0];
-        for p in &points[1..] {
-            last = *p;
-        }
-        last
     }
 
     fn height(&self, x: u16) -> u16

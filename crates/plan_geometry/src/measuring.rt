@@ -1,5 +1,6 @@
 // What a drawing measures.
 ghost use Rattle.std.specs.Prelude.{◌≡◌, ◌*◌, ◌≤◌, length, map, sum_by, flat_map};
+ghost use Rattle.plan_core.specs.declared.limits.TheConstants.{MAX_EDGES};
 ghost use Rattle.plan_core.specs.Line.{bends, diagonal};
 ghost use Rattle.plan_core.specs.Values.{maximum, values_of};
 
@@ -60,7 +61,7 @@ fn greatest_x_of(lines: &[Line]) -> u16
 }
 
 fn total_bends(lines: &[Line]) -> u32
-    requires { length lines.now ≤ 160 }
+    requires { length lines.now ≤ MAX_EDGES }
     ensures { result ≡ sum_by bends lines.now }
 {
     let mut sum = 0;
@@ -71,7 +72,7 @@ fn total_bends(lines: &[Line]) -> u32
 }
 
 fn total_diagonal(lines: &[Line]) -> u32
-    requires { length lines.now ≤ 160 }
+    requires { length lines.now ≤ MAX_EDGES }
     ensures { result ≡ sum_by diagonal lines.now }
 {
     let mut sum = 0;
