@@ -1,5 +1,5 @@
 -- Calls that make variables and add clauses, one after another or in a loop.
-use Rattle.std.proofs.Common.{◌≡◌, ℕ, ◌+◌, ◌<◌, ◌≤◌, suc, [], ◌++◌, refl, sym, ◌∙◌, ap, subst, inl, inr, arith, append_assoc, append-nil, Ok, Err}
+use Rattle.std.proofs.Common.{◌≡◌, ℕ, ◌+◌, ◌<◌, ◌≤◌, [], ◌++◌, refl, sym, ◌∙◌, ap, subst, inl, inr, arith, append_assoc, append-nil, Ok, Err}
 use Rattle.std.specs.Prelude.{◌-◌, Result, IsErr, IsErrOf}
 use Rattle.cnf_core.specs.declared.fault.CnfFault.{CnfFault}
 use Rattle.cnf_core.specs.declared.fault.CnfFault.TheVariants.{Room}
@@ -7,7 +7,7 @@ use Rattle.cnf_core.specs.Clause.{Clauses, words_of}
 use Rattle.cnf_core.specs.Formula.{Cnf, each, count_each}
 use Rattle.cnf_core.specs.Added.{AddsClauses, AddsBlock}
 use Rattle.cnf_core.proofs.ClauseLemmas.{words_append}
-use Rattle.cnf_core.proofs.StepLemmas.{grown, passes_more, passes_after}
+use Rattle.cnf_core.proofs.StepLemmas.{grown, passes_more, passes_after, one_less}
 
 -- a call that makes no variables
 pub block_of_clauses : {T : Type 0} (r : Result T CnfFault) (old new : Cnf) (xs : Clauses) (longest : ℕ) → AddsClauses r old new xs longest → AddsBlock r old new 0 xs longest
@@ -113,9 +113,6 @@ pub record IsBuilding (count : ℕ → ℕ) (f : ℕ → Clauses) (old now : Cnf
   pub from : old.vars ≤ now.vars
   pub left : now.clauses ++ each f k (end - k) ≡ old.clauses ++ clauses
   pub room : now.room ≡ old.room
-
-one_less : (k end : ℕ) → k < end → end - k ≡ suc (end - (k + 1))
-one_less k end h = omega arith
 
 count_next : (count : ℕ → ℕ) (k end : ℕ) → k < end → count_each count k (end - k) ≡ count k + count_each count (k + 1) (end - (k + 1))
 count_next count k end h = ap (λ n. count_each count k n) (one_less k end h)

@@ -1,7 +1,8 @@
 -- The clause of literals and truth values: what it says, its variables, and its words.
-use Rattle.std.proofs.Common.{◌≡◌, ℕ, ◌+◌, ◌≤◌, ◌⊎◌, ◌≢◌, Bool, true, false, not, cond, List, [], ◌∷◌, ◌++◌, length, refl, sym, ◌∙◌, ap, subst, inl, inr, arith, length-append}
+use Rattle.std.proofs.Common.{◌≡◌, ℕ, ◌+◌, ◌≤◌, ◌⊎◌, ◌≢◌, Bool, true, false, not, cond, List, [], ◌∷◌, ◌++◌, length, refl, sym, ◌∙◌, ap, subst, inl, inr, arith, length-append, append_assoc, append-nil}
 use Rattle.std.specs.Prelude.{map}
 use Rattle.std.proofs.lemmas.Bool.Decides.{eqb_tells}
+use Rattle.std.proofs.lemmas.List.{map-append}
 use Rattle.cnf_core.specs.declared.literal.LitOrTruth.{LitOrTruth}
 use Rattle.cnf_core.specs.declared.literal.LitOrTruth.TheVariants.{Lit as OfLit, True, False}
 use Rattle.cnf_core.specs.Lit.{Literal, negate, same_sign, same_literal, has}
@@ -39,7 +40,7 @@ either_sign v l = cases (truth v l) (truth v (negate l)) (truth-negate v l)
     cases false b e = inr e
 
 -- a literal that stands in a list
-signs_same : (p q : Bool) → same_sign p q ≡ true → p ≡ q
+pub signs_same : (p q : Bool) → same_sign p q ≡ true → p ≡ q
 signs_same true true h = refl
 signs_same true false h = cc
 signs_same false true h = cc
@@ -122,15 +123,15 @@ pub clause_holds : (v : Assignment) (unless : List Literal) (ts : List LitOrTrut
 clause_holds v unless ts h = gathered_holds v [] (map OfLit unless ++ ts) (inr (some_true_to v unless ts h))
 
 -- its literals are of distinct variables
-avoids_push : (x : ℕ) (front : List Literal) (l : Literal) → Avoids x front → x ≢ l.var → Avoids x (front ++ l ∷ [])
+pub avoids_push : (x : ℕ) (front : List Literal) (l : Literal) → Avoids x front → x ≢ l.var → Avoids x (front ++ l ∷ [])
 avoids_push x [] l h ne = (ne, tt)
 avoids_push x (k ∷ front) l h ne = (h.0, avoids_push x front l h.1 ne)
 
-distinct_push : (front : List Literal) (l : Literal) → AreDistinct front → has front l ≡ false → has front (negate l) ≡ false → AreDistinct (front ++ l ∷ [])
-distinct_push [] l d h n = (tt, tt)
-distinct_push (k ∷ front) l d h n = elim (eqb_tells k.var l.var) [
+distinct_gathered : (front : List Literal) (l : Literal) → AreDistinct front → has front l ≡ false → has front (negate l) ≡ false → AreDistinct (front ++ l ∷ [])
+distinct_gathered [] l d h n = (tt, tt)
+distinct_gathered (k ∷ front) l d h n = elim (eqb_tells k.var l.var) [
   | inl e ↦ absurd (either k.positive l.positive (has front l) (has front (negate l)) (rw e.0 at h) (rw e.0 at n))
-  | inr e ↦ (avoids_push k.var front l d.0 e.1, distinct_push front l d.1 (rw e.0 at h) (rw e.0 at n))
+  | inr e ↦ (avoids_push k.var front l d.0 e.1, distinct_gathered front l d.1 (rw e.0 at h) (rw e.0 at n))
 ]
   where
     either : (p q a b : Bool) → cond (same_sign p q) true a ≡ false → cond (same_sign p (not q)) true b ≡ false → ⊥
@@ -139,7 +140,7 @@ distinct_push (k ∷ front) l d h n = elim (eqb_tells k.var l.var) [
     either false true a b h k = cc
     either false false a b h k = cc
 
-there_push : (vars : ℕ) (front : List Literal) (l : Literal) → AreThere vars front → IsThere vars l → AreThere vars (front ++ l ∷ [])
+pub there_push : (vars : ℕ) (front : List Literal) (l : Literal) → AreThere vars front → IsThere vars l → AreThere vars (front ++ l ∷ [])
 there_push vars [] l h k = (k, tt)
 there_push vars (x ∷ front) l h k = (h.0, there_push vars front l h.1 k)
 
@@ -154,7 +155,7 @@ gathered_distinct front (OfLit l ∷ ts) c d e = elim (has front l) as (λ b. ha
   | true ↦ λ _ k. gathered_distinct front ts c d k
   | false ↦ λ h k. elim (has front (negate l)) as (λ b. has front (negate l) ≡ b → cond b [] (gathered (front ++ l ∷ []) ts) ≡ c ∷ [] → AreDistinct c) [
     | true ↦ λ _ m. cc
-    | false ↦ λ n m. gathered_distinct (front ++ l ∷ []) ts c (distinct_push front l d h n) m
+    | false ↦ λ n m. gathered_distinct (front ++ l ∷ []) ts c (distinct_gathered front l d h n) m
   ] refl k
 ] refl e
 gathered_distinct front (True ∷ ts) c d e = cc
@@ -203,3 +204,25 @@ gathered_there_one vars unless ts c e h w = let all = subst (λ (cs : Clauses). 
 
 pub gathered_length : (unless : List Literal) (ts : List LitOrTruth) (c : List Literal) → clause_of unless ts ≡ c ∷ [] → length c ≤ length unless + length ts
 gathered_length unless ts c e = let words : words_of (clause_of unless ts) ≡ words_of (c ∷ []) = ap words_of e in omega (arith, clause_words unless ts)
+
+-- literals of distinct variables are gathered as they are
+avoids_middle : (x : ℕ) (front : List Literal) (l : Literal) (ls : List Literal) → Avoids x (front ++ l ∷ ls) → x ≢ l.var
+avoids_middle x [] l ls h = h.0
+avoids_middle x (k ∷ front) l ls h = avoids_middle x front l ls h.1
+
+distinct_lacks : (front : List Literal) (l m : Literal) (ls : List Literal) → m.var ≡ l.var → AreDistinct (front ++ l ∷ ls) → has front m ≡ false
+distinct_lacks [] l m ls e d = refl
+distinct_lacks (k ∷ front) l m ls e d = elim (eqb_tells k.var m.var) [
+  | inl same ↦ absurd (avoids_middle k.var front l ls d.0 (same.1 ∙ e))
+  | inr other ↦ rw other.0 (distinct_lacks front l m ls e d.1)
+]
+
+gathered_literals : (front ls : List Literal) → AreDistinct (front ++ ls) → gathered front (map OfLit ls) ≡ (front ++ ls) ∷ []
+gathered_literals front [] d = ap (λ (c : List Literal). c ∷ []) (sym (append-nil front))
+gathered_literals front (l ∷ ls) d =
+    let whole : (front ++ l ∷ []) ++ ls ≡ front ++ l ∷ ls = append_assoc front (l ∷ []) ls in
+    let rest = gathered_literals (front ++ l ∷ []) ls (subst AreDistinct (sym whole) d) in
+    rw (distinct_lacks front l l ls refl d, distinct_lacks front l (negate l) ls refl d) (rest ∙ ap (λ (c : List Literal). c ∷ []) whole)
+
+pub clause_of_literals : (unless ls : List Literal) → AreDistinct (unless ++ ls) → clause_of unless (map OfLit ls) ≡ (unless ++ ls) ∷ []
+clause_of_literals unless ls d = ap (λ (ts : List LitOrTruth). gathered [] ts) (sym (map-append OfLit unless ls)) ∙ gathered_literals [] (unless ++ ls) d

@@ -1,8 +1,10 @@
 pub mod BlockLemmas
 pub mod ClauseLemmas
 pub mod GatherLemmas
+pub mod GreatestLemmas
 pub mod PropagationLemmas
 pub mod QuantifierLemmas
 pub mod SettingLemmas
 pub mod StepLemmas
 pub mod StoreLemmas
+pub mod TrailLemmas

@@ -1,14 +1,15 @@
 -- What follows by unit propagation.
-use Rattle.std.proofs.Common.{◌≡◌, ℕ, ◌<◌, ◌⊎◌, Bool, true, false, not, cond, zero, suc, List, [], ◌∷◌, ◌++◌, length, get_or, refl, sym, ◌∙◌, ap, subst, inl, inr, arith}
+use Rattle.std.proofs.Common.{◌≡◌, ℕ, ◌<◌, ◌≤◌, ◌⊎◌, Bool, true, false, not, cond, zero, suc, List, [], ◌∷◌, ◌++◌, length, get_or, refl, sym, ◌∙◌, ap, subst, inl, inr, arith}
 use Rattle.std.specs.Prelude.{All, Contains}
 use Rattle.std.proofs.lemmas.Bool.Decides.{eqb_tells}
-use Rattle.std.proofs.lemmas.List.Elements.{All-contains, All-weaker, All-nil, All-cons, All-contains_itself, Contains-get_or, Contains-append_left, Contains-append_right}
+use Rattle.std.proofs.lemmas.List.Elements.{All-contains, All-weaker, All-nil, All-cons, All-head, All-tail, All-contains_itself, Contains-get_or, Contains-append_left, Contains-append_right, Contains-append_cases}
 use Rattle.cnf_core.specs.Lit.{Literal, literal, negate, same_sign, same_literal, has}
 use Rattle.cnf_core.specs.Clause.{Clauses}
 use Rattle.cnf_core.specs.Assignment.{Assignment, truth, Satisfies, SatisfiesAll}
-use Rattle.cnf_core.specs.Propagation.{LiteralSet, IsIn, Includes, IsClosed, Closure, Falsifies, negations, Rup, IsNew, SameLiterals, AreAmong, IsWitness}
-use Rattle.cnf_core.proofs.GatherLemmas.{not_not, truth-negate}
+use Rattle.cnf_core.specs.Propagation.{LiteralSet, IsIn, nothing, Includes, IsUnit, HasReason, Falsified, IsClosed, Closure, IsClosure, IsForced, units, Falsifies, negations, Rup, IsNew, greatest_var, SameLiterals, AreAmong, IsWitness}
+use Rattle.cnf_core.proofs.GatherLemmas.{not_not, truth-negate, signs_same}
 use Rattle.cnf_core.proofs.QuantifierLemmas.{some_from_satisfies}
+use Rattle.cnf_core.proofs.GreatestLemmas.{greatest_among}
 
 -- a literal that stands in a list
 pub literal_same : (k l : Literal) → k.var ≡ l.var → k.positive ≡ l.positive → k ≡ l
@@ -16,12 +17,6 @@ literal_same k l e f = ap (λ x. literal x k.positive) e ∙ ap (λ p. literal l
 
 pub negate-negate : (l : Literal) → negate (negate l) ≡ l
 negate-negate l = ap (λ p. literal l.var p) (not_not l.positive)
-
-signs_same : (p q : Bool) → same_sign p q ≡ true → p ≡ q
-signs_same true true h = refl
-signs_same true false h = cc
-signs_same false true h = cc
-signs_same false false h = refl
 
 signs_equal : (p : Bool) → same_sign p p ≡ true
 signs_equal true = refl
@@ -39,10 +34,10 @@ test_from_same k l e = subst (λ (m : Literal). same_literal k m ≡ true) e (el
   | inr a ↦ absurd (a.1 refl)
 ])
 
-contains_first : (l : Literal) (ls : List Literal) → Contains (l ∷ ls) l
+pub contains_first : (l : Literal) (ls : List Literal) → Contains (l ∷ ls) l
 contains_first l ls = (0, omega arith, refl)
 
-contains_later : (k l : Literal) (ls : List Literal) → Contains ls l → Contains (k ∷ ls) l
+pub contains_later : (k l : Literal) (ls : List Literal) → Contains ls l → Contains (k ∷ ls) l
 contains_later k l ls h = let lt = h.1 in (suc h.0, omega arith, h.2)
 
 pub contains_from_has : (ls : List Literal) (l : Literal) → has ls l ≡ true → Contains ls l
@@ -84,11 +79,46 @@ falsifies_again clauses start more f h = record {
   each = All-weaker (λ k. Closure clauses more (negate k)) (λ k. Closure clauses start (negate k)) (λ k c. closure_again clauses start more (negate k) f c) h.clause h.each;
 }
 
+-- what follows of nothing follows of anything
+pub closure_any : (clauses : Clauses) (start : LiteralSet) (l : Literal) → Closure clauses nothing l → Closure clauses start l
+closure_any clauses start l h = closure_again clauses start nothing l (λ k m. cc) h
+
+-- more literals, more units
+pub unit_more : (set more : LiteralSet) (c : List Literal) (l : Literal) → Includes more set → IsUnit set c l → IsUnit more c l
+unit_more set more c l within unit = record {
+  among = unit.among;
+  others = All-weaker (λ k. (k ≡ l) ⊎ IsIn set (negate k)) (λ k. (k ≡ l) ⊎ IsIn more (negate k)) (λ k h. elim h [ inl e ↦ inl e | inr f ↦ inr (within (negate k) f) ]) c unit.others;
+}
+
+pub reason_more : (clauses : Clauses) (set more : LiteralSet) (l : Literal) → Includes more set → HasReason clauses set l → HasReason clauses more l
+reason_more clauses set more l within r = record { reason = r.reason; among = r.among; unit = unit_more set more r.reason l within r.unit }
+
+-- a set within the closure of start: its reasons and what it falsifies
+pub reason_follows : (clauses : Clauses) (start set : LiteralSet) (l : Literal) → ((k : Literal) → IsIn set k → Closure clauses start k) → HasReason clauses set l → Closure clauses start l
+reason_follows clauses start set l within r =
+    let unit = r.unit in
+    closure_unit clauses start r.reason l r.among unit.among
+    (All-weaker (λ k. (k ≡ l) ⊎ IsIn set (negate k)) (λ k. (k ≡ l) ⊎ Closure clauses start (negate k)) (λ k h. elim h [ inl e ↦ inl e | inr f ↦ inr (within (negate k) f) ]) r.reason unit.others)
+
+pub falsified_within : (clauses : Clauses) (start set : LiteralSet) → ((l : Literal) → IsIn set l → Closure clauses start l) → Falsified clauses set → Falsifies clauses start
+falsified_within clauses start set within f = record {
+  clause = f.clause;
+  among = f.among;
+  each = All-weaker (λ k. IsIn set (negate k)) (λ k. Closure clauses start (negate k)) (λ k h. within (negate k) h) f.clause f.each;
+}
+
+-- a closure that falsifies no clause
+pub closure_in : (clauses : Clauses) (start set : LiteralSet) (l : Literal) → IsClosure clauses start set → Closure clauses start l → IsIn set l
+closure_in clauses start set l c h = closure_least clauses start set l c.closed c.includes h
+
+pub closure_unfalsified : (clauses : Clauses) (start set : LiteralSet) → IsClosure clauses start set → Falsifies clauses start → ⊥
+closure_unfalsified clauses start set c f = c.unfalsified f.clause f.among (All-weaker (λ k. Closure clauses start (negate k)) (λ k. IsIn set (negate k)) (λ k h. closure_in clauses start set (negate k) c h) f.clause f.each)
+
 -- more clauses, more closure; the order of a clause's literals doesn't count
-all_same : (P : Literal → Type 0) (c d : List Literal) → SameLiterals c d → All P c → All P d
+pub all_same : (P : Literal → Type 0) (c d : List Literal) → SameLiterals c d → All P c → All P d
 all_same P c d same h = All-weaker (Contains d) P (λ k m. All-contains P c k h ((same k).1 m)) d (All-contains_itself d)
 
-closed_among : (clauses more : Clauses) (set : LiteralSet) → AreAmong clauses more → IsClosed more set → IsClosed clauses set
+pub closed_among : (clauses more : Clauses) (set : LiteralSet) → AreAmong clauses more → IsClosed more set → IsClosed clauses set
 closed_among clauses more set there closed = λ c among l unit.
     let d = there c among in
     closed d.0 d.1 l (record {
@@ -111,6 +141,36 @@ falsifies_more clauses more start there h =
 
 pub rup_more : (clauses more : Clauses) (clause : List Literal) → AreAmong clauses more → Rup clauses clause → Rup more clause
 rup_more clauses more clause there h = falsifies_more clauses more (negations clause) there h
+
+-- a clause of the same literals
+pub unit_same : (set : LiteralSet) (c d : List Literal) (l : Literal) → SameLiterals c d → IsUnit set c l → IsUnit set d l
+unit_same set c d l same unit = record { among = (same l).0 unit.among; others = all_same (λ k. (k ≡ l) ⊎ IsIn set (negate k)) c d same unit.others }
+
+pub negations_same : (c d : List Literal) → SameLiterals c d → Includes (negations d) (negations c)
+negations_same c d same = λ l h. has_from_contains d (negate l) ((same (negate l)).0 (contains_from_has c (negate l) h))
+
+pub falsifies_start : (clauses : Clauses) (start more : LiteralSet) → Includes more start → Falsifies clauses start → Falsifies clauses more
+falsifies_start clauses start more within h = falsifies_again clauses more start (λ k m. closure_start clauses more k (within k m)) h
+
+pub closure_more_start : (clauses : Clauses) (start more : LiteralSet) (l : Literal) → Includes more start → Closure clauses start l → Closure clauses more l
+closure_more_start clauses start more l within h = closure_again clauses more start l (λ k m. closure_start clauses more k (within k m)) h
+
+pub rup_same : (clauses : Clauses) (c d : List Literal) → SameLiterals c d → Rup clauses c → Rup clauses d
+rup_same clauses c d same h = falsifies_start clauses (negations c) (negations d) (negations_same c d same) h
+
+pub same_back : (c d : List Literal) → SameLiterals c d → SameLiterals d c
+same_back c d same = λ l. ((same l).1, (same l).0)
+
+pub new_same : (clauses more : Clauses) (first : Literal) (others again : List Literal) → AreAmong clauses more → AreAmong more clauses → SameLiterals others again → IsNew clauses first others → IsNew more first again
+new_same clauses more first others again there back same new =
+    let Named : Literal → Type 0 = λ l. l.var ≤ greatest_var more in
+    let rise = greatest_among clauses more there in
+    let named : All Named (first ∷ others) = All-weaker (λ l. l.var ≤ greatest_var clauses) Named (λ l h. omega arith) (first ∷ others) new.named in
+    record {
+      named = All-cons Named first again (All-head Named first others named) (all_same Named others again same (All-tail Named first others named));
+      unfalsified = λ f. new.unfalsified (falsifies_more more clauses (negations others) back (falsifies_start more (negations again) (negations others) (negations_same again others (same_back others again same)) f));
+      unknown = λ h. new.unknown (closure_more more clauses (negations others) first back (closure_more_start more (negations again) (negations others) first (negations_same again others (same_back others again same)) h));
+    }
 
 pub among_left : (xs ys : Clauses) → AreAmong xs (xs ++ ys)
 among_left xs ys = λ c h. (c, Contains-append_left xs ys c h, λ l. (λ m. m, λ m. m))
@@ -187,3 +247,72 @@ new_includes_none clauses first others new d among within =
   where
     negation_follows : (k : Literal) → Contains others k → Closure clauses (negations others) (negate k)
     negation_follows k m = closure_start clauses (negations others) (negate k) (ap (has others) (negate-negate k) ∙ has_from_contains others k m)
+
+-- clauses of one literal that follow from the others add nothing
+pub forced_follows : (clauses : Clauses) (start : LiteralSet) (l : Literal) → IsForced clauses l → Closure clauses start l
+forced_follows clauses start l f = closure_unit clauses start f.clause l f.among f.inside
+    (All-weaker (λ k. (k ≡ l) ⊎ Closure clauses nothing (negate k)) (λ k. (k ≡ l) ⊎ Closure clauses start (negate k)) (λ k h. elim h [ inl e ↦ inl e | inr c ↦ inr (closure_any clauses start (negate k) c) ]) f.clause f.others)
+
+-- a reason by literals that follow from the clauses alone
+pub forced_by_reason : (clauses : Clauses) (set : LiteralSet) (l : Literal) → ((k : Literal) → IsIn set k → Closure clauses nothing k) → HasReason clauses set l → IsForced clauses l
+forced_by_reason clauses set l within r =
+    let unit = r.unit in
+    record {
+      clause = r.reason;
+      among = r.among;
+      inside = unit.among;
+      others = All-weaker (λ k. (k ≡ l) ⊎ IsIn set (negate k)) (λ k. (k ≡ l) ⊎ Closure clauses nothing (negate k)) (λ k h. elim h [ inl e ↦ inl e | inr f ↦ inr (within (negate k) f) ]) r.reason unit.others;
+    }
+
+pub record IsUnitClause (ls c : List Literal) : Type 0 where
+  pub lit : Literal
+  pub among : Contains ls lit
+  pub is : lit ∷ [] ≡ c
+
+pub from_units : (ls c : List Literal) → Contains (units ls) c → IsUnitClause ls c
+from_units ls c h = at_place ls h.0 h.1 h.2
+  where
+    at_place : (ls : List Literal) (i : ℕ) → i < length (units ls) → get_or (units ls) i c ≡ c → IsUnitClause ls c
+    at_place [] i lt e = absurd (omega arith)
+    at_place (l ∷ ls) zero lt e = record { lit = l; among = contains_first l ls; is = e }
+    at_place (l ∷ ls) (suc i) lt e = let u = at_place ls i (omega arith) e in record { lit = u.lit; among = contains_later l u.lit ls u.among; is = u.is }
+
+only_one : (k l : Literal) → Contains (k ∷ []) l → k ≡ l
+only_one k l h = at_place h.0 h.1 h.2
+  where
+    at_place : (i : ℕ) → i < length (k ∷ []) → get_or (k ∷ []) i l ≡ l → k ≡ l
+    at_place zero lt e = e
+    at_place (suc i) lt e = absurd (omega arith)
+
+pub closure_without : (clauses : Clauses) (ls : List Literal) (start : LiteralSet) (l : Literal) → All (IsForced clauses) ls → Closure (clauses ++ units ls) start l → Closure clauses start l
+closure_without clauses ls start l forced h = λ set closed includes. h set (λ c among m unit. elim (Contains-append_cases clauses (units ls) c among) [
+  | inl old ↦ closed c old m unit
+  | inr r ↦
+      let u = from_units ls c r in
+      let is : u.lit ≡ m = only_one u.lit m (subst (λ (d : List Literal). Contains d m) (sym u.is) unit.among) in
+      subst (IsIn set) is (forced_follows clauses start u.lit (All-contains (IsForced clauses) ls u.lit forced u.among) set closed includes)
+]) includes
+
+pub falsifies_without : (clauses : Clauses) (ls : List Literal) (start : LiteralSet) → All (IsForced clauses) ls → Falsifies (clauses ++ units ls) start → Falsifies clauses start
+falsifies_without clauses ls start forced f = elim (Contains-append_cases clauses (units ls) f.clause f.among) [
+  | inl old ↦ record {
+    clause = f.clause;
+    among = old;
+    each = All-weaker (λ k. Closure (clauses ++ units ls) start (negate k)) (λ k. Closure clauses start (negate k)) (λ k h. closure_without clauses ls start (negate k) forced h) f.clause f.each;
+  }
+  | inr r ↦
+      let u = from_units ls f.clause r in
+      let reason = All-contains (IsForced clauses) ls u.lit forced u.among in
+      let off : Closure (clauses ++ units ls) start (negate u.lit) = All-contains (λ k. Closure (clauses ++ units ls) start (negate k)) f.clause u.lit f.each (subst (λ (d : List Literal). Contains d u.lit) u.is (contains_first u.lit [])) in
+      record {
+        clause = reason.clause;
+        among = reason.among;
+        each = All-weaker (λ k. (k ≡ u.lit) ⊎ Closure clauses nothing (negate k)) (λ k. Closure clauses start (negate k)) (λ k h. elim h [
+          | inl e ↦ subst (λ (m : Literal). Closure clauses start (negate m)) (sym e) (closure_without clauses ls start (negate u.lit) forced off)
+          | inr c ↦ closure_any clauses start (negate k) c
+        ]) reason.clause reason.others;
+      }
+]
+
+pub rup_without : (clauses : Clauses) (ls c : List Literal) → All (IsForced clauses) ls → Rup (clauses ++ units ls) c → Rup clauses c
+rup_without clauses ls c forced h = falsifies_without clauses ls (negations c) forced h

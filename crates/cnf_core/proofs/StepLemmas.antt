@@ -132,7 +132,7 @@ adding_first f old first n = let z : first + n - first ≡ n = omega arith in re
   room = refl;
 }
 
-one_less : (k end : ℕ) → k < end → end - k ≡ suc (end - (k + 1))
+pub one_less : (k end : ℕ) → k < end → end - k ≡ suc (end - (k + 1))
 one_less k end h = omega arith
 
 pub adding_more : {T : Type 0} (x : T) (f : ℕ → Clauses) (old now new : Cnf) (total : Clauses) (k end longest : ℕ) → k < end → IsAdding f old now total k end → AddsClauses (Ok x) now new (f k) longest → IsAdding f old new total (k + 1) end

@@ -1,5 +1,5 @@
 -- Clauses: lists of literals of distinct variables, and the words that they take.
-use Rattle.std.specs.Prelude.{◌≢◌, ◌≤◌, ⊤, ℕ, ◌+◌, List, [], ◌∷◌, length}
+use Rattle.std.specs.Prelude.{◌≢◌, ◌≤◌, ◌<◌, ⊤, ℕ, ◌+◌, List, [], ◌∷◌, length, Contains}
 use Rattle.cnf_core.specs.Lit.{Literal}
 
 abbrev pub Clauses : Type 0
@@ -14,6 +14,15 @@ Avoids x (l ∷ ls) = (x ≢ l.var) × Avoids x ls
 abbrev pub AreDistinct : List Literal → Type 0
 AreDistinct [] = ⊤
 AreDistinct (l ∷ ls) = Avoids l.var ls × AreDistinct ls
+
+-- their variables rise, above low and up to high
+abbrev pub AreRising : ℕ → ℕ → List Literal → Type 0
+AreRising low high [] = low ≤ high
+AreRising low high (l ∷ ls) = (low < l.var) × AreRising l.var high ls
+
+-- c has each literal of d
+abbrev pub HasAllOf : List Literal → List Literal → Type 0
+HasAllOf c d = (l : Literal) → Contains d l → Contains c l
 
 -- the variable is one of 1 to vars
 abbrev pub IsThere : ℕ → Literal → Type 0

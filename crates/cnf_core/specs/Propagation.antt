@@ -1,5 +1,5 @@
 -- Unit propagation: what follows from clauses and a set of literals, clause by clause.
-use Rattle.std.specs.Prelude.{◌≡◌, ◌≤◌, ◌⊎◌, ◌↔◌, ℕ, max, Bool, true, List, [], ◌∷◌, All, Contains}
+use Rattle.std.specs.Prelude.{◌≡◌, ◌≤◌, ◌⊎◌, ◌↔◌, ℕ, max, Bool, true, false, List, [], ◌∷◌, All, Contains}
 use Rattle.cnf_core.specs.Lit.{Literal, negate, has}
 use Rattle.cnf_core.specs.Clause.{Clauses}
 
@@ -13,10 +13,30 @@ IsIn set l = set l ≡ true
 abbrev pub Includes : LiteralSet → LiteralSet → Type 0
 Includes set start = (l : Literal) → IsIn start l → IsIn set l
 
+-- no literal
+abbrev pub nothing : LiteralSet
+nothing l = false
+
+-- no literal beside its negation
+abbrev pub IsConsistent : LiteralSet → Type 0
+IsConsistent set = (l : Literal) → IsIn set l → IsIn set (negate l) → ⊥
+
 -- l is one of the clause's literals, and the negation of each other one is in the set
 pub record IsUnit (set : LiteralSet) (clause : List Literal) (l : Literal) : Type 0 where
   pub among : Contains clause l
   pub others : All (λ k. (k ≡ l) ⊎ IsIn set (negate k)) clause
+
+-- some clause makes the literal true by itself
+pub record HasReason (clauses : Clauses) (set : LiteralSet) (l : Literal) : Type 0 where
+  pub reason : List Literal
+  pub among : Contains clauses reason
+  pub unit : IsUnit set reason l
+
+-- the set has the negations of all literals of some clause
+pub record Falsified (clauses : Clauses) (set : LiteralSet) : Type 0 where
+  pub clause : List Literal
+  pub among : Contains clauses clause
+  pub each : All (λ k. IsIn set (negate k)) clause
 
 -- the set has the one literal of each unit clause
 abbrev pub IsClosed : Clauses → LiteralSet → Type 0
@@ -25,6 +45,25 @@ IsClosed clauses set = (clause : List Literal) → Contains clauses clause → (
 -- l is in every closed set that includes start, and so in the least one
 abbrev pub Closure : Clauses → LiteralSet → Literal → Type 0
 Closure clauses start l = (set : LiteralSet) → IsClosed clauses set → Includes set start → IsIn set l
+
+-- the set is the closure of start, and falsifies no clause
+pub record IsClosure (clauses : Clauses) (start set : LiteralSet) : Type 0 where
+  pub closed : IsClosed clauses set
+  pub includes : Includes set start
+  pub within : (l : Literal) → IsIn set l → Closure clauses start l
+  pub unfalsified : (c : List Literal) → Contains clauses c → All (λ k. IsIn set (negate k)) c → ⊥
+
+-- some clause makes the literal true by what follows from the clauses alone
+pub record IsForced (clauses : Clauses) (l : Literal) : Type 0 where
+  pub clause : List Literal
+  pub among : Contains clauses clause
+  pub inside : Contains clause l
+  pub others : All (λ k. (k ≡ l) ⊎ Closure clauses nothing (negate k)) clause
+
+-- a clause of one literal for each of them
+abbrev pub units : List Literal → Clauses
+units [] = []
+units (l ∷ ls) = (l ∷ []) ∷ units ls
 
 -- the negations of all literals of some clause are in the closure
 pub record Falsifies (clauses : Clauses) (start : LiteralSet) : Type 0 where

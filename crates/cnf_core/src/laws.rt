@@ -1,8 +1,9 @@
 // Laws of clauses and assignments. The functions do nothing: their contracts are the laws.
-ghost use Rattle.std.specs.Prelude.{◌≡◌, ◌≢◌, ◌≤◌, ◌↔◌, ◌⊎◌, ◌++◌, ◌-◌, ℕ, Bool, true, not, List, AllPairs, Any, All};
+ghost use Rattle.std.specs.Prelude.{◌≡◌, ◌≢◌, ◌≤◌, ◌↔◌, ◌⊎◌, ◌++◌, ◌-◌, ℕ, Bool, true, not, List, [], ◌∷◌, map, AllPairs, Any, All};
 ghost use Rattle.cnf_core.specs.declared.literal.LitOrTruth.{LitOrTruth as Given};
+ghost use Rattle.cnf_core.specs.declared.literal.LitOrTruth.TheVariants.{Lit as OfLit};
 ghost use Rattle.cnf_core.specs.Lit.{Literal, negate};
-ghost use Rattle.cnf_core.specs.Clause.{Clauses, AllThere, AreDistinct};
+ghost use Rattle.cnf_core.specs.Clause.{Clauses, AreThere, AllThere, AreDistinct, AreRising};
 ghost use Rattle.cnf_core.specs.Assignment.{Assignment, truth, Satisfies, SatisfiesAll};
 ghost use Rattle.cnf_core.specs.LitOrTruth.{SomeTrue, clause_of, value, flip};
 
@@ -36,4 +37,17 @@ pub fn clause_says_one_is_true()
 /// Of an assignment only the variables that are there count.
 pub fn other_variables_are_free()
     ensures { (v w : Assignment) (vars : ℕ) (cs : Clauses) → AllThere vars cs → ((x : ℕ) → x ≤ vars → w x ≡ v x) → SatisfiesAll v cs → SatisfiesAll w cs }
+{}
+
+/// Literals of distinct variables make the clause that they are.
+pub fn distinct_literals_make_their_clause()
+    ensures { (unless literals : List Literal) → AreDistinct (unless ++ literals) → clause_of unless (map OfLit literals) ≡ (unless ++ literals) ∷ [] }
+{}
+
+/// Where each literal's variable is above the one before it, no two are the same; so a long list is
+/// shown to be distinct without a comparison of all pairs, and block by block.
+pub fn rising_variables_are_distinct()
+    ensures distinct { (low high : ℕ) (c : List Literal) → AreRising low high c → AreDistinct c }
+    ensures blocks { (low middle high : ℕ) (c d : List Literal) → AreRising low middle c → AreRising middle high d → AreRising low high (c ++ d) }
+    ensures there { (low high vars : ℕ) (c : List Literal) → high ≤ vars → AreRising low high c → AreThere vars c }
 {}

@@ -6,10 +6,11 @@
 //! `Clause` (distinct variables, words), `Assignment` (satisfaction, and assignments that differ
 //! in a block of variables alone), `LitOrTruth` (the clause that literals and truth values make),
 //! `Formula`, `Added` (what a call that adds clauses leaves), `Truths`, and `Propagation` (the
-//! closure, and clauses that follow from it or are new). `laws` and `unit_laws` state what follows
-//! from them. `proofs/` has the lemmas that the crates above cite: `ClauseLemmas` and
-//! `GatherLemmas` on satisfaction, `StepLemmas` and `BlockLemmas` on calls that add clauses,
-//! `SettingLemmas` on blocks of variables that are set one after another, `PropagationLemmas`.
+//! closure, reasons, falsified clauses, and clauses that follow or are new). `laws` and `unit_laws`
+//! state what follows from them. `proofs/` has the lemmas that the crates above cite: `ClauseLemmas`
+//! and `GatherLemmas` on satisfaction, `StepLemmas` and `BlockLemmas` on calls that add clauses,
+//! `SettingLemmas` on blocks of variables that are set one after another, `PropagationLemmas`,
+//! `GreatestLemmas` on the greatest variable, and `TrailLemmas` on lists of distinct variables.
 //! It is the base for integers and sums, for the drawing's formula, the log, its checker and the
 //! solver.
 #![tactic(auto)]
@@ -28,15 +29,17 @@ pub use clause::Clause;
 pub use fault::CnfFault;
 pub use formula::{ClauseNo, Formula};
 pub use laws::{
-    clause_says_one_is_true, each_clause_is_satisfied, negation_is_false, no_variable_twice,
-    one_literal_is_true, other_variables_are_free,
+    clause_says_one_is_true, distinct_literals_make_their_clause, each_clause_is_satisfied,
+    negation_is_false, no_variable_twice, one_literal_is_true, other_variables_are_free,
+    rising_variables_are_distinct,
 };
 pub use limits::{LAST_VAR, ROOM, VARS};
 pub use literal::{Lit, LitOrTruth, Var};
 pub use truths::Truths;
 pub use unit_laws::{
-    closure_adds_nothing_again, closure_is_the_least_closed_set, more_clauses_more_closure,
-    new_by_a_closed_set, new_includes_no_clause, rup_is_sound,
+    closure_adds_nothing_again, closure_is_the_least_closed_set, forced_literals_add_nothing,
+    more_clauses_more_closure, new_by_a_closed_set, new_includes_no_clause,
+    only_sets_of_literals_count, rup_is_sound,
 };
 
 #[cfg(test)]

@@ -3,7 +3,7 @@ ghost use Rattle.std.specs.Prelude.{◌≡◌, ◌≤◌, ◌⊎◌, ◌∷◌, 
 ghost use Rattle.cnf_core.specs.Lit.{Literal, negate};
 ghost use Rattle.cnf_core.specs.Clause.{Clauses};
 ghost use Rattle.cnf_core.specs.Assignment.{Assignment, Satisfies, SatisfiesAll};
-ghost use Rattle.cnf_core.specs.Propagation.{LiteralSet, IsIn, Includes, IsClosed, Closure, Falsifies, Rup, IsNew, AreAmong, IsWitness, greatest_var};
+ghost use Rattle.cnf_core.specs.Propagation.{LiteralSet, IsIn, Includes, IsClosed, Closure, IsForced, units, Falsifies, Rup, IsNew, SameLiterals, AreAmong, IsWitness, greatest_var};
 
 /// The closure has the literals of the start, is closed, and is within every such set.
 pub fn closure_is_the_least_closed_set()
@@ -25,8 +25,25 @@ pub fn closure_adds_nothing_again()
 /// Of more clauses more follows, whatever the order of clauses and of literals in a clause.
 pub fn more_clauses_more_closure()
     ensures closure { (clauses more : Clauses) (start : LiteralSet) (l : Literal) → AreAmong clauses more → Closure clauses start l → Closure more start l }
+    ensures falsifies { (clauses more : Clauses) (start : LiteralSet) → AreAmong clauses more → Falsifies clauses start → Falsifies more start }
     ensures rup { (clauses more : Clauses) (clause : List Literal) → AreAmong clauses more → Rup clauses clause → Rup more clause }
     ensures behind { (xs ys : Clauses) → AreAmong xs (xs ++ ys) }
+{}
+
+/// Of a clause and of a list of clauses only the sets of literals count.
+pub fn only_sets_of_literals_count()
+    ensures rup { (clauses : Clauses) (c d : List Literal) → SameLiterals c d → Rup clauses c → Rup clauses d }
+    ensures new { (clauses more : Clauses) (first : Literal) (others again : List Literal) → AreAmong clauses more → AreAmong more clauses →
+        SameLiterals others again → IsNew clauses first others → IsNew more first again }
+{}
+
+/// Literals that the clauses force, as clauses of their own, add nothing.
+pub fn forced_literals_add_nothing()
+    ensures closure { (clauses : Clauses) (forced : List Literal) (start : LiteralSet) (l : Literal) → All (IsForced clauses) forced →
+        Closure (clauses ++ units forced) start l → Closure clauses start l }
+    ensures falsifies { (clauses : Clauses) (forced : List Literal) (start : LiteralSet) → All (IsForced clauses) forced →
+        Falsifies (clauses ++ units forced) start → Falsifies clauses start }
+    ensures rup { (clauses : Clauses) (forced clause : List Literal) → All (IsForced clauses) forced → Rup (clauses ++ units forced) clause → Rup clauses clause }
 {}
 
 /// A clause that follows by unit propagation is satisfied by each assignment that satisfies the
