@@ -1,9 +1,11 @@
 -- Lists of literals of distinct variables: clauses whose variables rise, and trails.
 use Rattle.std.proofs.Common.{◌≡◌, ◌≢◌, ℕ, ◌+◌, ◌*◌, ◌<◌, ◌≤◌, ◌⊎◌, Bool, true, false, not, cond, zero, suc, List, [], ◌∷◌, ◌++◌, length, take, drop, get_or, refl, sym, ◌∙◌, ap, subst, inl, inr, arith, length-take-le}
 use Rattle.std.specs.Prelude.{All, Contains}
+use Rattle.std.proofs.lemmas.Bool.{false_from_ne_true}
 use Rattle.std.proofs.lemmas.Bool.Decides.{eqb_tells}
 use Rattle.std.proofs.lemmas.List.{take_more, take-append-drop, get_or-take, get_or_default}
 use Rattle.std.proofs.lemmas.List.Elements.{Contains-push, Contains-push_cases, Contains-append_left}
+use Rattle.plan_core.proofs.TruthFacts.{same_when}
 use Rattle.cnf_core.specs.Lit.{Literal, negate, word_of, has}
 use Rattle.cnf_core.specs.Clause.{Avoids, AreDistinct, AreRising, AreThere, IsThere}
 use Rattle.cnf_core.specs.Propagation.{Includes, IsConsistent}
@@ -60,14 +62,8 @@ negate_differs l e = sign_differs l.positive (ap (λ (m : Literal). m.positive) 
 pub has_last : (ls : List Literal) (l : Literal) → has (ls ++ l ∷ []) l ≡ true
 has_last ls l = has_from_contains (ls ++ l ∷ []) l (Contains-push ls l)
 
-pub same_true : (a b : Bool) → (a ≡ true → b ≡ true) → (b ≡ true → a ≡ true) → a ≡ b
-same_true true true f g = refl
-same_true true false f g = sym (f refl)
-same_true false true f g = g refl
-same_true false false f g = refl
-
 pub has_front : (ls : List Literal) (l k : Literal) → (k ≡ l → ⊥) → has (ls ++ l ∷ []) k ≡ has ls k
-has_front ls l k ne = same_true (has (ls ++ l ∷ []) k) (has ls k)
+has_front ls l k ne = same_when (has (ls ++ l ∷ []) k) (has ls k)
     (λ h. elim (Contains-push_cases ls l k (contains_from_has (ls ++ l ∷ []) k h)) [
       | inl m ↦ has_from_contains ls k m
       | inr e ↦ absurd (ne (sym e))
@@ -168,12 +164,8 @@ front_differs c i u d distinct within among e =
     let same : get_or c i u ≡ u = get_or_default c i u d within ∙ e in
     pairs_from_distinct c distinct j i u below within (ap (λ (l : Literal). l.var) at ∙ sym (ap (λ (l : Literal). l.var) same))
 
-false_unless : (b : Bool) → (b ≡ true → ⊥) → b ≡ false
-false_unless true f = absurd (f refl)
-false_unless false f = refl
-
 pub front_lacks : (trail : List Literal) (front : ℕ) (l : Literal) → AreDistinct trail → front < length trail → get_or trail front l ≡ l → has (take front trail) l ≡ false
-front_lacks trail front l distinct within e = false_unless (has (take front trail) l) (λ h. front_differs trail front l l distinct within (contains_from_has (take front trail) l h) e)
+front_lacks trail front l distinct within e = false_from_ne_true (has (take front trail) l) (λ h. front_differs trail front l l distinct within (contains_from_has (take front trail) l h) e)
 
 pub next_front : (trail : List Literal) (front : ℕ) (l : Literal) → front < length trail → get_or trail front l ≡ l → take (front + 1) trail ≡ take front trail ++ l ∷ []
 next_front trail front l within e = take_more trail front l within ∙ ap (λ (k : Literal). take front trail ++ k ∷ []) e
