@@ -1,10 +1,14 @@
 -- Words have one answer.
 use Rattle.std.proofs.Common.{◌≡◌, ◌≢◌, ℕ, zero, suc, ◌+◌, ◌^◌, ◌<◌, ◌⊎◌, inl, inr, None, Some, List, [], ◌∷◌, ◌++◌, length, refl, sym, ap, subst, ◌∙◌, length-append, arith}
-use Rattle.std.specs.Prelude.{Result, Ok, Err, IfOk, IfErr, IsErrOf, Option, AllPairs, Contains, if◌then◌else◌, ◌==◌}
+use Rattle.std.specs.Prelude.{Result, IfOk, IfErr, Option, AllPairs, Contains, if◌then◌else◌, ◌==◌}
 use Rattle.std.proofs.Math.Seq.{get_or-append_seam}
 use Rattle.std.proofs.lemmas.List.{get_or_append_left, map-append}
 use Rattle.std.proofs.lemmas.Fmt.{decimal_injective}
-use Rattle.plan_core.specs.Grid.{GridSize}
+use Rattle.plan_core.specs.Grid.{GridSize, grid_with}
+use Rattle.plan_core.specs.declared.limits.TheConstants.{MAX_WIDTH, MAX_HEIGHT, MAX_LEAST, MAX_BUDGET}
+use Rattle.plan_core.specs.Exactly.{AnswersExactly}
+use Rattle.plan_core.proofs.ExactlyLemmas.{answers_exactly}
+use Rattle.line_text.specs.Numbers.{IsNumberIn}
 use Rattle.plan_core.specs.declared.criterion.Criterion.{Criterion}
 use Rattle.plan_words.specs.declared.command.CommandWord.{CommandWord}
 use Rattle.plan_words.specs.declared.command.CommandWord.TheVariants as words
@@ -16,11 +20,11 @@ use Rattle.plan_words.specs.declared.fault.WordWhat.{WordWhat}
 use Rattle.plan_words.specs.declared.fault.WordWhat.TheVariants.{NoCommand, UnknownCommand, MissingName, ExtraWord, UnknownOption, RepeatedOption, BadValue}
 use Rattle.plan_words.specs.declared.fault.WordFault.{WordFault}
 use Rattle.plan_words.specs.declared.fault.WordFault.TheVariants as answers
-use Rattle.plan_words.specs.OptionValues.{IsNumberIn, IsOrderText}
+use Rattle.plan_words.specs.OptionValues.{IsOrderText}
 use Rattle.plan_words.specs.Arguments.{arguments_from, files_in}
-use Rattle.plan_words.specs.WordFaults.{command_word, number_of, SomeHasFault, IsLeftmost, file_names, IsFirstRepeat, IsMissing, HasOneNameTwice, IsFaultOfArguments, IsFaultBehind, IsFaultOfWords}
-use Rattle.plan_words.specs.Words.{default_order, IsChosen, word_of, HasParts, AreSound, IsCommandOf, IsFaultOf}
-use Rattle.plan_words.proofs.OrderTextLemmas.{order_text_injective}
+use Rattle.plan_words.specs.WordFaults.{command_word, number_of, SomeHasWordFault, IsLeftmost, file_names, IsFirstRepeat, IsMissing, HasOneNameTwice, IsFaultOfArguments, IsFaultBehind, IsFaultOfWords}
+use Rattle.plan_words.specs.Words.{default_order, IsChosen, kind_of, HasParts, AreSoundArguments, IsCommandOf, IsWordFault}
+use Rattle.plan_words.proofs.OrderTextLemmas.{criteria_text_injective}
 
 -- ---- words of commands and numbers of faults are distinct
 
@@ -103,8 +107,8 @@ leftmost_same command arguments a b p q x y =
     let at_most = x.leftmost b q y.fault in
     let at_least = y.leftmost a p x.fault in
     let same : p ≡ q = omega (arith, at_most, at_least) in
-    let lower = x.lowest b (subst (λ (r : ℕ). SomeHasFault command arguments b r) (sym same) y.fault) in
-    let higher = y.lowest a (subst (λ (r : ℕ). SomeHasFault command arguments a r) same x.fault) in
+    let lower = x.lowest b (subst (λ (r : ℕ). SomeHasWordFault command arguments b r) (sym same) y.fault) in
+    let higher = y.lowest a (subst (λ (r : ℕ). SomeHasWordFault command arguments a r) same x.fault) in
     (number_of_injective a b (omega (arith, lower, higher)), same)
 
 abbrev Sorts : CommandWord → List Argument → ℕ → WordWhat → ℕ → Type 0
@@ -150,14 +154,14 @@ fault_same (first ∷ rest) a b p q (inr x) (inr y) = behind_same first rest a b
 
 -- ---- a command or a fault
 
-sound_or_fault : (command : CommandWord) (arguments : List Argument) (end : ℕ) (what : WordWhat) (position : ℕ) → AreSound command arguments → Sorts command arguments end what position → ⊥
+sound_or_fault : (command : CommandWord) (arguments : List Argument) (end : ℕ) (what : WordWhat) (position : ℕ) → AreSoundArguments command arguments → Sorts command arguments end what position → ⊥
 sound_or_fault command arguments end what position sound (inl x) = sound.sound what position x.fault
 sound_or_fault command arguments end what position sound (inr (inl x)) = let few = x.1.few in let enough = sound.enough in omega (arith, few, enough)
 sound_or_fault command arguments end what position sound (inr (inr x)) =
     let repeat = x.1.repeat in
     apart_has_no_repeat (files_in arguments) repeat.before repeat.file repeat.after repeat.cut (sound.apart x.1.draws) repeat.again
 
-fault_of_command : (command : CommandWord) (rest : List (List ℕ)) (what : WordWhat) (position : ℕ) → AreSound command (arguments_from 2 rest) → IsFaultOfWords (command_word command ∷ rest) what position → ⊥
+fault_of_command : (command : CommandWord) (rest : List (List ℕ)) (what : WordWhat) (position : ℕ) → AreSoundArguments command (arguments_from 2 rest) → IsFaultOfWords (command_word command ∷ rest) what position → ⊥
 fault_of_command command rest what position sound (inl x) = x.none command refl
 fault_of_command command rest what position sound (inr x) =
     let same : x.command ≡ command = command_word_injective x.command command (sym x.named) in
@@ -167,7 +171,7 @@ fault_of_command command rest what position sound (inr x) =
 pub command_or_fault : (list : List (List ℕ)) (command : Command) (what : WordWhat) (position : ℕ) → IsCommandOf list command → IsFaultOfWords list what position → ⊥
 command_or_fault list command what position x fault =
     let P : List (List ℕ) → Type 0 = λ all. IsFaultOfWords all what position in
-    fault_of_command (word_of command) x.rest what position x.sound (subst P x.first fault)
+    fault_of_command (kind_of command) x.rest what position x.sound (subst P x.first fault)
 
 -- ---- one command
 
@@ -180,22 +184,24 @@ chosen_number (Some text) low high default n m small x y =
 
 chosen_order : (value : Option (List ℕ)) (a b : List Criterion) → IsChosen value IsOrderText default_order a → IsChosen value IsOrderText default_order b → a ≡ b
 chosen_order None a b x y = x ∙ sym y
-chosen_order (Some text) a b x y = order_text_injective a b (sym x.written ∙ y.written)
+chosen_order (Some text) a b x y = criteria_text_injective a b (sym x.written ∙ y.written)
 
-same_grid : (a b : GridSize) → a.width ≡ b.width → a.height ≡ b.height → a ≡ b
-same_grid a b width height =
-    let F : ℕ → ℕ → GridSize = λ w h. record { width = w; height = h } in
-    ap (λ (w : ℕ). F w a.height) width ∙ ap (λ (h : ℕ). F b.width h) height
+same_grid : (a b : GridSize) → a.width ≡ b.width → a.height ≡ b.height → a.least ≡ b.least → a ≡ b
+same_grid a b width height least =
+    ap (λ (w : ℕ). grid_with w a.height a.least) width
+    ∙ ap (λ (h : ℕ). grid_with b.width h a.least) height
+    ∙ ap (λ (l : ℕ). grid_with b.width b.height l) least
 
-same_parts : (arguments : List Argument) (a b : Command) → word_of a ≡ word_of b → HasParts arguments a → HasParts arguments b → a ≡ b
+same_parts : (arguments : List Argument) (a b : Command) → kind_of a ≡ kind_of b → HasParts arguments a → HasParts arguments b → a ≡ b
 same_parts arguments (Draw i g o n s l) (Draw j h r m t k) word x y =
     let names : i ∷ [] ≡ j ∷ [] = sym x.names ∙ y.names in
     let input : i ≡ j = cc in
-    let width = chosen_number _ 1 64 40 g.width h.width (omega arith) x.width y.width in
-    let height = chosen_number _ 0 12 8 g.height h.height (omega arith) x.height y.height in
-    let grid : g ≡ h = same_grid g h width height in
+    let width = chosen_number _ 1 MAX_WIDTH 40 g.width h.width (omega arith) x.width y.width in
+    let height = chosen_number _ 0 MAX_HEIGHT 8 g.height h.height (omega arith) x.height y.height in
+    let least = chosen_number _ 1 MAX_LEAST 1 g.least h.least (omega arith) x.least y.least in
+    let grid : g ≡ h = same_grid g h width height least in
     let order : o ≡ r = chosen_order _ o r x.criteria y.criteria in
-    let budget : n ≡ m = chosen_number _ 1 200000 50000 n m (omega arith) x.conflicts y.conflicts in
+    let budget : n ≡ m = chosen_number _ 1 MAX_BUDGET 50000 n m (omega arith) x.conflicts y.conflicts in
     let svg : s ≡ t = x.svg_name ∙ sym y.svg_name in
     let log : l ≡ k = x.log_name ∙ sym y.log_name in
     cc
@@ -212,25 +218,24 @@ same_parts arguments a b word x y = cc word
 
 pub command_same : (list : List (List ℕ)) (a b : Command) → IsCommandOf list a → IsCommandOf list b → a ≡ b
 command_same list a b x y =
-    let e : command_word (word_of a) ∷ x.rest ≡ command_word (word_of b) ∷ y.rest = sym x.first ∙ y.first in
-    let word : command_word (word_of a) ≡ command_word (word_of b) = cc in
+    let e : command_word (kind_of a) ∷ x.rest ≡ command_word (kind_of b) ∷ y.rest = sym x.first ∙ y.first in
+    let word : command_word (kind_of a) ≡ command_word (kind_of b) = cc in
     let rest : x.rest ≡ y.rest = cc in
     let P : List (List ℕ) → Type 0 = λ r. HasParts (arguments_from 2 r) a in
-    same_parts (arguments_from 2 y.rest) a b (command_word_injective (word_of a) (word_of b) word) (subst P rest x.parts) y.parts
+    same_parts (arguments_from 2 y.rest) a b (command_word_injective (kind_of a) (kind_of b) word) (subst P rest x.parts) y.parts
 
 -- ---- an answer
 
-pub command_told : (list : List (List ℕ)) (answer : Result Command WordFault) → IfOk answer (λ c. IsCommandOf list c) → IfErr answer (λ e. IsFaultOf list e) → (c : Command) → IsCommandOf list c → (answer ≡ Ok c) ⊎ IsErrOf answer answers.Memory
-command_told list (Ok d) is fault c asked = inl (ap (λ (x : Command). Ok x) (command_same list d c is asked))
-command_told list (Err (answers.Words what position)) is fault c asked = absurd (command_or_fault list c what position asked fault)
-command_told list (Err answers.Memory) is fault c asked = inr refl
+one_word_fault : (list : List (List ℕ)) (e f : WordFault) → IsWordFault list e → IsWordFault list f → e ≡ f
+one_word_fault list (answers.Words what position) (answers.Words other place) x y =
+    let same = fault_same list what other position place x y in
+    ap (λ (w : WordWhat). answers.Words w position) same.0 ∙ ap (λ (p : ℕ). answers.Words other p) same.1
+one_word_fault list answers.Memory f x y = absurd x
+one_word_fault list e answers.Memory x y = absurd y
 
-pub fault_told : (list : List (List ℕ)) (answer : Result Command WordFault) → IfOk answer (λ c. IsCommandOf list c) → IfErr answer (λ e. IsFaultOf list e) → (what : WordWhat) (position : ℕ) → IsFaultOfWords list what position → IsErrOf answer (answers.Words what position) ⊎ IsErrOf answer answers.Memory
-fault_told list (Ok d) is fault what position counts = absurd (command_or_fault list d what position is counts)
-fault_told list (Err (answers.Words other place)) is fault what position counts =
-    let same = fault_same list other what place position fault counts in
-    let kind = same.0 in
-    let at = same.1 in
-    let F : WordWhat → ℕ → Result Command WordFault = λ w p. Err (answers.Words w p) in
-    inl (ap (λ (w : WordWhat). F w place) kind ∙ ap (λ (p : ℕ). F what p) at)
-fault_told list (Err answers.Memory) is fault what position counts = inr refl
+not_both : (list : List (List ℕ)) (command : Command) (e : WordFault) → IsCommandOf list command → IsWordFault list e → ⊥
+not_both list command (answers.Words what position) x y = command_or_fault list command what position x y
+not_both list command answers.Memory x y = y
+
+pub words_exactly : (list : List (List ℕ)) (answer : Result Command WordFault) → IfOk answer (IsCommandOf list) → IfErr answer (λ e. (e ≡ answers.Memory) ⊎ IsWordFault list e) → AnswersExactly answer answers.Memory (IsCommandOf list) (IsWordFault list)
+words_exactly list answer command fault = answers_exactly answer answers.Memory (IsCommandOf list) (IsWordFault list) command fault (command_same list) (one_word_fault list) (not_both list)

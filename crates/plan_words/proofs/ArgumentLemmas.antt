@@ -6,9 +6,9 @@ use Rattle.std.specs.declared.string.String.{String}
 use Rattle.std.specs.declared.alloc.Global.{Global}
 use Rattle.plan_words.specs.declared.arguments.Argument.{Argument}
 use Rattle.plan_words.specs.declared.arguments.Argument.TheVariants.{Name, Setting}
-use Rattle.plan_words.specs.Arguments.{texts_of, is_option, first_of, arguments_from}
+use Rattle.plan_words.specs.Arguments.{texts_of, is_option, first_word, arguments_from}
 
-setting_in_front : (at : ℕ) (word : List ℕ) (words : List (List ℕ)) → is_option word ≡ true → arguments_from at (word ∷ words) ≡ Setting at word (first_of words) ∷ arguments_from (at + 2) (drop 1 words)
+setting_in_front : (at : ℕ) (word : List ℕ) (words : List (List ℕ)) → is_option word ≡ true → arguments_from at (word ∷ words) ≡ Setting at word (first_word words) ∷ arguments_from (at + 2) (drop 1 words)
 setting_in_front at word [] is = rw is refl
 setting_in_front at word (next ∷ words) is = rw is refl
 
@@ -30,10 +30,10 @@ texts_of-drop : (words : List (String Global)) → drop 1 (texts_of words) ≡ t
 texts_of-drop [] = refl
 texts_of-drop (word ∷ words) = refl
 
-pub setting_taken : (items done : List Argument) (at : ℕ) (words : List (String Global)) (front : String Global) (word : List ℕ) (value : Option (List ℕ)) (others : List (String Global)) → 1 ≤ length words → front ≡ get_or words 0 front → word ≡ string_bytes front → is_option (string_bytes front) ≡ true → value ≡ first_of (texts_of (take (length words - 1) (drop 1 words))) → others ≡ drop 1 (take (length words - 1) (drop 1 words)) → done ≡ items ++ Setting at word value ∷ [] → done ++ arguments_from (at + 2) (texts_of others) ≡ items ++ arguments_from at (texts_of words)
+pub setting_taken : (items done : List Argument) (at : ℕ) (words : List (String Global)) (front : String Global) (word : List ℕ) (value : Option (List ℕ)) (others : List (String Global)) → 1 ≤ length words → front ≡ get_or words 0 front → word ≡ string_bytes front → is_option (string_bytes front) ≡ true → value ≡ first_word (texts_of (take (length words - 1) (drop 1 words))) → others ≡ drop 1 (take (length words - 1) (drop 1 words)) → done ≡ items ++ Setting at word value ∷ [] → done ++ arguments_from (at + 2) (texts_of others) ≡ items ++ arguments_from at (texts_of words)
 setting_taken items done at words front word value others some is copied option first behind put =
     let f = front_of words front some is in
-    let copied_value : value ≡ first_of (texts_of f.rest) = first ∙ ap (λ (ws : List (String Global)). first_of (texts_of ws)) f.tail in
+    let copied_value : value ≡ first_word (texts_of f.rest) = first ∙ ap (λ (ws : List (String Global)). first_word (texts_of ws)) f.tail in
     let left : texts_of others ≡ drop 1 (texts_of f.rest) = ap texts_of (behind ∙ ap (drop 1) f.tail) ∙ sym (texts_of-drop f.rest) in
     ap (λ (xs : List Argument). xs ++ arguments_from (at + 2) (texts_of others)) put
     ∙ append_assoc items (Setting at word value ∷ []) (arguments_from (at + 2) (texts_of others))

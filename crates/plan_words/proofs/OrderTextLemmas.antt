@@ -9,7 +9,8 @@ use Rattle.plan_core.specs.declared.criterion.Criterion.{Criterion}
 use Rattle.plan_core.specs.declared.criterion.Criterion.TheVariants.{Height, Bends, Diagonal, Width}
 use Rattle.plan_core.specs.Order.{IsOrder}
 use Rattle.plan_core.proofs.OrderLemmas.{few_criteria}
-use Rattle.plan_words.specs.OptionValues.{criterion_word, order_text, IsOrderText}
+use Rattle.line_text.specs.Criteria.{criterion_word}
+use Rattle.plan_words.specs.OptionValues.{criteria_text, IsOrderText}
 
 abbrev pub pieces : List ℕ → List (List ℕ)
 pieces text = slice_split (λ b. eqb b 44) text
@@ -20,21 +21,21 @@ no_comma Bends = All-from_recursion (λ b. eqb b 44 ≡ false) (criterion_word B
 no_comma Diagonal = All-from_recursion (λ b. eqb b 44 ≡ false) (criterion_word Diagonal) (refl, (refl, (refl, (refl, (refl, (refl, (refl, (refl, tt))))))))
 no_comma Width = All-from_recursion (λ b. eqb b 44 ≡ false) (criterion_word Width) (refl, (refl, (refl, (refl, (refl, tt)))))
 
-pub pieces-order_text : (c : Criterion) (rest : List Criterion) → pieces (order_text (c ∷ rest)) ≡ map criterion_word (c ∷ rest)
-pieces-order_text c [] = slice_split_none (λ b. eqb b 44) (criterion_word c) (no_comma c)
-pieces-order_text c (d ∷ rest) =
-    slice_split_at (λ b. eqb b 44) (criterion_word c) 44 (order_text (d ∷ rest)) (no_comma c) refl
-    ∙ ap (λ (ps : List (List ℕ)). criterion_word c ∷ ps) (pieces-order_text d rest)
+pub pieces-criteria_text : (c : Criterion) (rest : List Criterion) → pieces (criteria_text (c ∷ rest)) ≡ map criterion_word (c ∷ rest)
+pieces-criteria_text c [] = slice_split_none (λ b. eqb b 44) (criterion_word c) (no_comma c)
+pieces-criteria_text c (d ∷ rest) =
+    slice_split_at (λ b. eqb b 44) (criterion_word c) 44 (criteria_text (d ∷ rest)) (no_comma c) refl
+    ∙ ap (λ (ps : List (List ℕ)). criterion_word c ∷ ps) (pieces-criteria_text d rest)
 
-pieces_are : (text : List ℕ) (order : List Criterion) → 1 ≤ length order → text ≡ order_text order → pieces text ≡ map criterion_word order
+pieces_are : (text : List ℕ) (order : List Criterion) → 1 ≤ length order → text ≡ criteria_text order → pieces text ≡ map criterion_word order
 pieces_are text [] some is = absurd (omega arith)
-pieces_are text (c ∷ rest) some is = ap pieces is ∙ pieces-order_text c rest
+pieces_are text (c ∷ rest) some is = ap pieces is ∙ pieces-criteria_text c rest
 
 -- the piece at n is this word
 abbrev pub IsPiece : List ℕ → ℕ → List ℕ → Type 0
 IsPiece text n word = (n < length (pieces text)) × (word ≡ get_or (pieces text) n word)
 
-pub wrong_word : (text word : List ℕ) (n : ℕ) → IsPiece text n word → ((c : Criterion) → word ≢ criterion_word c) → (order : List Criterion) → 1 ≤ length order → text ≢ order_text order
+pub wrong_word : (text word : List ℕ) (n : ℕ) → IsPiece text n word → ((c : Criterion) → word ≢ criterion_word c) → (order : List Criterion) → 1 ≤ length order → text ≢ criteria_text order
 wrong_word text word n piece none order some is =
     let words : pieces text ≡ map criterion_word order = pieces_are text order some is in
     let count : length (pieces text) ≡ length order = ap length words ∙ length-map order criterion_word in
@@ -42,7 +43,7 @@ wrong_word text word n piece none order some is =
     let n_within : n < length order = omega (arith, within, count) in
     none (get_or order n Height) (piece.1 ∙ ap (λ (ps : List (List ℕ)). get_or ps n word) words ∙ get_or-map criterion_word order n Height word n_within)
 
-pub too_many_words : (text word : List ℕ) (n : ℕ) → IsPiece text n word → 4 ≤ n → (order : List Criterion) → 1 ≤ length order → length order ≤ 4 → text ≢ order_text order
+pub too_many_words : (text word : List ℕ) (n : ℕ) → IsPiece text n word → 4 ≤ n → (order : List Criterion) → 1 ≤ length order → length order ≤ 4 → text ≢ criteria_text order
 too_many_words text word n piece many order some few is =
     let count : length (pieces text) ≡ length order = ap length (pieces_are text order some is) ∙ length-map order criterion_word in
     let within = piece.0 in
@@ -56,12 +57,12 @@ one_word_more text word n list longer c piece is read put =
     ∙ ap (λ (w : List ℕ). take n (pieces text) ++ w ∷ []) (sym is ∙ piece.1)
     ∙ sym (take_more (pieces text) n word piece.0)
 
-pub all_words : (text : List ℕ) (n : ℕ) (list : List Criterion) → n ≡ length (pieces text) → map criterion_word list ≡ take n (pieces text) → text ≡ order_text list
+pub all_words : (text : List ℕ) (n : ℕ) (list : List Criterion) → n ≡ length (pieces text) → map criterion_word list ≡ take n (pieces text) → text ≡ criteria_text list
 all_words text n list all read =
     sym (join_with_byte-slice_split 44 text)
     ∙ ap (join_with_byte 44) (sym (read ∙ take_all n (pieces text) (omega arith)))
 
-pub not_an_order : (text : List ℕ) → ((list : List Criterion) → 1 ≤ length list → length list ≤ 4 → text ≢ order_text list) → (order : List Criterion) → IsOrderText text order → ⊥
+pub not_an_order : (text : List ℕ) → ((list : List Criterion) → 1 ≤ length list → length list ≤ 4 → text ≢ criteria_text list) → (order : List Criterion) → IsOrderText text order → ⊥
 not_an_order text none order is = none order is.is_order.some (few_criteria order is.is_order.each_once) is.written
 
 -- ---- a text is that of one order
@@ -88,22 +89,22 @@ word_not_empty Bends = omega arith
 word_not_empty Diagonal = omega arith
 word_not_empty Width = omega arith
 
-some_text : (c : Criterion) (rest : List Criterion) → order_text (c ∷ rest) ≡ [] → ⊥
+some_text : (c : Criterion) (rest : List Criterion) → criteria_text (c ∷ rest) ≡ [] → ⊥
 some_text c rest is =
-    let word : [] ∷ [] ≡ map criterion_word (c ∷ rest) = ap pieces (sym is) ∙ pieces-order_text c rest in
+    let word : [] ∷ [] ≡ map criterion_word (c ∷ rest) = ap pieces (sym is) ∙ pieces-criteria_text c rest in
     let some = word_not_empty c in
     let long : 0 ≡ length (criterion_word c) = ap (λ (ps : List (List ℕ)). length (get_or ps 0 [])) word in
     omega (arith, some, long)
 
-pub order_text_injective : (a b : List Criterion) → order_text a ≡ order_text b → a ≡ b
-order_text_injective [] [] is = refl
-order_text_injective [] (d ∷ rest) is = absurd (some_text d rest (sym is))
-order_text_injective (c ∷ rest) [] is = absurd (some_text c rest is)
-order_text_injective (c ∷ rest) (d ∷ others) is =
+pub criteria_text_injective : (a b : List Criterion) → criteria_text a ≡ criteria_text b → a ≡ b
+criteria_text_injective [] [] is = refl
+criteria_text_injective [] (d ∷ rest) is = absurd (some_text d rest (sym is))
+criteria_text_injective (c ∷ rest) [] is = absurd (some_text c rest is)
+criteria_text_injective (c ∷ rest) (d ∷ others) is =
     sym (criteria_at-words (c ∷ rest))
-    ∙ ap (map criterion_at) (sym (pieces-order_text c rest) ∙ ap pieces is ∙ pieces-order_text d others)
+    ∙ ap (map criterion_at) (sym (pieces-criteria_text c rest) ∙ ap pieces is ∙ pieces-criteria_text d others)
     ∙ criteria_at-words (d ∷ others)
 
-pub order_or_none : (text : List ℕ) (list : List Criterion) (r : Option (List Criterion)) → text ≡ order_text list → SomeIff r (IsOrder list) list → MatchOption r ((order : List Criterion) → IsOrderText text order → ⊥) (IsOrderText text)
-order_or_none text list None is none = λ order other. none (subst IsOrder (order_text_injective order list (sym other.written ∙ is)) other.is_order)
-order_or_none text list (Some order) is (is_order, same) = record { written = is ∙ ap order_text (sym same); is_order = subst IsOrder (sym same) is_order }
+pub order_or_none : (text : List ℕ) (list : List Criterion) (r : Option (List Criterion)) → text ≡ criteria_text list → SomeIff r (IsOrder list) list → MatchOption r ((order : List Criterion) → IsOrderText text order → ⊥) (IsOrderText text)
+order_or_none text list None is none = λ order other. none (subst IsOrder (criteria_text_injective order list (sym other.written ∙ is)) other.is_order)
+order_or_none text list (Some order) is (is_order, same) = record { written = is ∙ ap criteria_text (sym same); is_order = subst IsOrder (sym same) is_order }

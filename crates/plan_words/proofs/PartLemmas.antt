@@ -8,10 +8,10 @@ use Rattle.plan_words.specs.declared.option_values.OptionWord.{OptionWord}
 use Rattle.plan_words.specs.declared.arguments.Argument.{Argument}
 use Rattle.plan_words.specs.declared.arguments.Argument.TheVariants.{Name, Setting}
 use Rattle.plan_words.specs.OptionValues.{option_word, Takes}
-use Rattle.plan_words.specs.Arguments.{names_in, value_of}
+use Rattle.plan_words.specs.Arguments.{argument_names, option_value}
 use Rattle.plan_words.specs.WordFaults.{TakesName}
 use Rattle.plan_words.specs.Soundness.{SoundFrom}
-use Rattle.plan_words.specs.Words.{given}
+use Rattle.plan_words.specs.Words.{given_for}
 use Rattle.plan_words.proofs.SoundLemmas.{option_word_injective, sound_at}
 
 -- an option of this word with this value stands among the arguments
@@ -21,13 +21,13 @@ record HasSetting (arguments : List Argument) (word value : List ℕ) : Type 0 w
   after : List Argument
   cut : arguments ≡ before ++ Setting at word (Some value) ∷ after
 
-setting_of : (arguments : List Argument) (word value : List ℕ) → value_of word arguments ≡ Some value → HasSetting arguments word value
+setting_of : (arguments : List Argument) (word value : List ℕ) → option_value word arguments ≡ Some value → HasSetting arguments word value
 setting_of [] word value is = let e : None ≡ Some value = is in cc
 setting_of (Name at name ∷ arguments) word value is =
     let later = setting_of arguments word value is in
     record { before = Name at name ∷ later.before; at = later.at; after = later.after; cut = ap (λ (xs : List Argument). Name at name ∷ xs) later.cut }
 setting_of (Setting at other text ∷ arguments) word value is =
-    elim (bytes_eq other word) as (λ b. bytes_eq other word ≡ b → (if b then text else value_of word arguments) ≡ Some value → HasSetting (Setting at other text ∷ arguments) word value) [
+    elim (bytes_eq other word) as (λ b. bytes_eq other word ≡ b → (if b then text else option_value word arguments) ≡ Some value → HasSetting (Setting at other text ∷ arguments) word value) [
       | true ↦ λ same there. record {
         before = [];
         at = at;
@@ -41,7 +41,7 @@ setting_of (Setting at other text ∷ arguments) word value is =
           record { before = Setting at other text ∷ later.before; at = later.at; after = later.after; cut = ap (λ (xs : List Argument). Setting at other text ∷ xs) later.cut }
     ] refl is
 
-pub given_taken : (command : CommandWord) (arguments : List Argument) (option : OptionWord) (value : List ℕ) → SoundFrom command [] arguments → given option arguments ≡ Some value → Takes option value
+pub given_taken : (command : CommandWord) (arguments : List Argument) (option : OptionWord) (value : List ℕ) → SoundFrom command [] arguments → given_for option arguments ≡ Some value → Takes option value
 given_taken command arguments option value sound is =
     let setting = setting_of arguments (option_word option) value is in
     let one = sound_at command arguments setting.before (Setting setting.at (option_word option) (Some value)) setting.after sound setting.cut in
@@ -51,15 +51,15 @@ given_taken command arguments option value sound is =
     let P : OptionWord → Type 0 = λ o. Takes o value in
     subst P same (subst (Takes one.option) text one.taken)
 
-pub given_is_taken : (command : CommandWord) (arguments : List Argument) (option : OptionWord) → SoundFrom command [] arguments → MatchOption (given option arguments) ⊤ (Takes option)
+pub given_is_taken : (command : CommandWord) (arguments : List Argument) (option : OptionWord) → SoundFrom command [] arguments → MatchOption (given_for option arguments) ⊤ (Takes option)
 given_is_taken command arguments option sound =
-    elim (given option arguments) as (λ r. given option arguments ≡ r → MatchOption r ⊤ (Takes option)) [ None ↦ λ is. tt | Some value ↦ λ is. given_taken command arguments option value sound is ] refl
+    elim (given_for option arguments) as (λ r. given_for option arguments ≡ r → MatchOption r ⊤ (Takes option)) [ None ↦ λ is. tt | Some value ↦ λ is. given_taken command arguments option value sound is ] refl
 
 -- ---- names
 
-pub names_taken : (command : CommandWord) (before arguments : List Argument) → SoundFrom command before arguments → All (TakesName command) (names_in arguments)
+pub names_taken : (command : CommandWord) (before arguments : List Argument) → SoundFrom command before arguments → All (TakesName command) (argument_names arguments)
 names_taken command before [] sound = All-nil (TakesName command)
-names_taken command before (Name at name ∷ arguments) sound = All-cons (TakesName command) name (names_in arguments) sound.0.1 (names_taken command (before ++ Name at name ∷ []) arguments sound.1)
+names_taken command before (Name at name ∷ arguments) sound = All-cons (TakesName command) name (argument_names arguments) sound.0.1 (names_taken command (before ++ Name at name ∷ []) arguments sound.1)
 names_taken command before (Setting at word value ∷ arguments) sound = names_taken command (before ++ Setting at word value ∷ []) arguments sound.1
 
 pub one_name : (names : List (List ℕ)) (a : List ℕ) → length names ≤ 1 → slice_get names 0 ≡ Some a → names ≡ a ∷ []
@@ -80,5 +80,5 @@ three_names (x ∷ y ∷ []) a b d most first second third = let e : None ≡ So
 three_names (x ∷ y ∷ z ∷ []) a b d most first second third = let e : Some x ≡ Some a = first in let f : Some y ≡ Some b = second in let g : Some z ≡ Some d = third in cc
 three_names (x ∷ y ∷ z ∷ u ∷ names) a b d most first second third = absurd (omega arith)
 
-pub first_taken : (command : CommandWord) (arguments : List Argument) (name : List ℕ) → SoundFrom command [] arguments → names_in arguments ≡ name ∷ [] → TakesName command name
+pub first_taken : (command : CommandWord) (arguments : List Argument) (name : List ℕ) → SoundFrom command [] arguments → argument_names arguments ≡ name ∷ [] → TakesName command name
 first_taken command arguments name sound is = let P : List (List ℕ) → Type 0 = λ names. All (TakesName command) names in All-head (TakesName command) name [] (subst P is (names_taken command [] arguments sound))

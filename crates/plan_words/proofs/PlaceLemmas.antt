@@ -7,7 +7,7 @@ use Rattle.plan_words.specs.declared.arguments.Argument.TheVariants.{Name, Setti
 use Rattle.plan_words.specs.declared.fault.WordWhat.{WordWhat}
 use Rattle.plan_words.specs.declared.fault.WordWhat.TheVariants.{NoCommand, UnknownCommand, MissingName, ExtraWord, UnknownOption, RepeatedOption, BadValue}
 use Rattle.plan_words.specs.Arguments.{is_option, arguments_from}
-use Rattle.plan_words.specs.WordFaults.{HasFault}
+use Rattle.plan_words.specs.WordFaults.{HasWordFault}
 use Rattle.plan_words.specs.Soundness.{place_of, next_place, StandFrom}
 
 pub arguments_stand : (at : ℕ) (words : List (List ℕ)) → StandFrom at (arguments_from at words)
@@ -45,7 +45,7 @@ stands_near at (first ∷ before) argument after h =
 
 -- ---- faults stand at the argument's own words
 
-pub fault_from : (command : CommandWord) (before : List Argument) (argument : Argument) (what : WordWhat) (position : ℕ) → HasFault command before argument what position → place_of argument ≤ position
+pub fault_from : (command : CommandWord) (before : List Argument) (argument : Argument) (what : WordWhat) (position : ℕ) → HasWordFault command before argument what position → place_of argument ≤ position
 fault_from command before (Name at name) NoCommand position h = absurd h
 fault_from command before (Name at name) UnknownCommand position h = absurd h
 fault_from command before (Name at name) MissingName position h = absurd h
@@ -62,7 +62,7 @@ fault_from command before (Setting at word value) RepeatedOption position h = le
 fault_from command before (Setting at word None) BadValue position h = omega (arith, h)
 fault_from command before (Setting at word (Some value)) BadValue position h = let e = h.3 in omega (arith, e)
 
-pub fault_to : (command : CommandWord) (before : List Argument) (argument : Argument) (what : WordWhat) (position : ℕ) → HasFault command before argument what position → position < next_place argument
+pub fault_to : (command : CommandWord) (before : List Argument) (argument : Argument) (what : WordWhat) (position : ℕ) → HasWordFault command before argument what position → position < next_place argument
 fault_to command before (Name at name) NoCommand position h = absurd h
 fault_to command before (Name at name) UnknownCommand position h = absurd h
 fault_to command before (Name at name) MissingName position h = absurd h

@@ -13,15 +13,15 @@ use Rattle.std.specs.List.{list_any}
 use Rattle.plan_words.specs.declared.command.CommandWord.{CommandWord}
 use Rattle.plan_words.specs.declared.command.CommandWord.TheVariants.{Draw, Verify, Check, Graph, Make}
 use Rattle.plan_words.specs.declared.option_values.OptionWord.{OptionWord}
-use Rattle.plan_words.specs.declared.option_values.OptionWord.TheVariants.{Width, Height, Criteria, Conflicts, Svg, Log}
+use Rattle.plan_words.specs.declared.option_values.OptionWord.TheVariants.{Width, Height, Least, Criteria, Conflicts, Svg, Log}
 use Rattle.plan_words.specs.declared.arguments.Argument.{Argument}
 use Rattle.plan_words.specs.declared.arguments.Argument.TheVariants.{Name, Setting}
 use Rattle.plan_words.specs.declared.fault.WordWhat.{WordWhat}
 use Rattle.plan_words.specs.declared.fault.WordWhat.TheVariants.{NoCommand, UnknownCommand, MissingName, ExtraWord, UnknownOption, RepeatedOption, BadValue}
 use Rattle.plan_words.specs.OptionValues.{option_word, Takes}
-use Rattle.plan_words.specs.Arguments.{name_of, names_in, option_of, options_in}
-use Rattle.plan_words.specs.WordFaults.{name_count, IsOptionOf, HasFault, IsLeftmost, HaveNoFault}
-use Rattle.plan_words.specs.Soundness.{next_place, StandFrom, IsNear, IsFirstFault, IsSoundBehind, SoundFrom}
+use Rattle.plan_words.specs.Arguments.{name_of, argument_names, option_of, options_in}
+use Rattle.plan_words.specs.WordFaults.{name_count, IsOptionOf, HasWordFault, IsLeftmost, HaveNoFault}
+use Rattle.plan_words.specs.Soundness.{next_place, StandFrom, IsNear, IsFirstWordFault, IsSoundBehind, SoundFrom}
 use Rattle.plan_words.proofs.WordLemmas.{cut_at}
 use Rattle.plan_words.proofs.PlaceLemmas.{stands_behind, stands_near, fault_from, fault_to}
 
@@ -30,7 +30,7 @@ use Rattle.plan_words.proofs.PlaceLemmas.{stands_behind, stands_near, fault_from
 abbrev rank : List ℕ → ℕ
 rank word =
     let letter = get_or word 2 0 in
-    if letter == 119 then 0 else if letter == 104 then 1 else if letter == 111 then 2 else if letter == 99 then 3 else if letter == 115 then 4 else 5
+    if letter == 119 then 0 else if letter == 104 then 1 else if letter == 111 then 2 else if letter == 99 then 3 else if letter == 115 then 4 else if get_or word 3 0 == 101 then 5 else 6
 
 abbrev of_rank : ℕ → OptionWord
 of_rank zero = Width
@@ -38,11 +38,13 @@ of_rank (suc zero) = Height
 of_rank (suc (suc zero)) = Criteria
 of_rank (suc (suc (suc zero))) = Conflicts
 of_rank (suc (suc (suc (suc zero)))) = Svg
+of_rank (suc (suc (suc (suc (suc zero))))) = Least
 of_rank other = Log
 
 of_rank-word : (option : OptionWord) → of_rank (rank (option_word option)) ≡ option
 of_rank-word Width = refl
 of_rank-word Height = refl
+of_rank-word Least = refl
 of_rank-word Criteria = refl
 of_rank-word Conflicts = refl
 of_rank-word Svg = refl
@@ -51,7 +53,7 @@ of_rank-word Log = refl
 pub option_word_injective : (a b : OptionWord) → option_word a ≡ option_word b → a ≡ b
 option_word_injective a b is = sym (of_rank-word a) ∙ ap (λ (word : List ℕ). of_rank (rank word)) is ∙ of_rank-word b
 
-rank_is_small : (word : List ℕ) → rank word < 6
+rank_is_small : (word : List ℕ) → rank word < 7
 rank_is_small word = grind (arith, nat_tests)
 
 -- ---- there are few
@@ -59,15 +61,15 @@ rank_is_small word = grind (arith, nat_tests)
 abbrev IsKnown : List ℕ → Type 0
 IsKnown word = (option : OptionWord) × (word ≡ option_word option)
 
-ranks_are_small : (words : List (List ℕ)) (q : ℕ) → list_any (eqb q) (map rank words) ≡ true → q < 6
+ranks_are_small : (words : List (List ℕ)) (q : ℕ) → list_any (eqb q) (map rank words) ≡ true → q < 7
 ranks_are_small [] q h = absurd (false≢true h)
 ranks_are_small (word ∷ words) q h =
-    elim (eqb q (rank word)) as (λ b. eqb q (rank word) ≡ b → (b || list_any (eqb q) (map rank words)) ≡ true → q < 6) [
+    elim (eqb q (rank word)) as (λ b. eqb q (rank word) ≡ b → (b || list_any (eqb q) (map rank words)) ≡ true → q < 7) [
       | true ↦ λ e _. let k : q ≡ rank word = eqb-true q (rank word) e in let m = rank_is_small word in omega (arith, k, m)
       | false ↦ λ _ more. ranks_are_small words q more
     ] refl h
 
-few_options : (words : List (List ℕ)) → AllPairs (λ a b. a ≢ b) words → All IsKnown words → length words ≤ 6
+few_options : (words : List (List ℕ)) → AllPairs (λ a b. a ≢ b) words → All IsKnown words → length words ≤ 7
 few_options words apart known =
     let n : length (map rank words) ≡ length words = length-map words rank in
     let distinct : (i j : ℕ) (d : ℕ) → i < j → j < length (map rank words) → eqb (get_or (map rank words) i d) (get_or (map rank words) j d) ≡ false =
@@ -82,28 +84,28 @@ few_options words apart known =
     let same : a.0 ≡ b.0 = sym (of_rank-word a.0) ∙ ap of_rank (ap rank (sym a.1) ∙ sym ei ∙ e ∙ ej ∙ ap rank b.1) ∙ of_rank-word b.0 in
     apart i j [] less in_j (a.1 ∙ ap option_word same ∙ sym b.1))
     in
-    let most = length-le_from_distinct_below (map rank words) 6 (IsDistinct-from_apart eqb (map rank words) distinct) (ranks_are_small words) in
+    let most = length-le_from_distinct_below (map rank words) 7 (IsDistinct-from_apart eqb (map rank words) distinct) (ranks_are_small words) in
     omega (arith, n, most)
 
-names_in-push : (before : List Argument) (argument : Argument) → names_in (before ++ argument ∷ []) ≡ names_in before ++ name_of argument
-names_in-push before argument = flat_map-append name_of before (argument ∷ []) ∙ ap (λ (ws : List (List ℕ)). names_in before ++ ws) (append-nil (name_of argument))
+argument_names-push : (before : List Argument) (argument : Argument) → argument_names (before ++ argument ∷ []) ≡ argument_names before ++ name_of argument
+argument_names-push before argument = flat_map-append name_of before (argument ∷ []) ∙ ap (λ (ws : List (List ℕ)). argument_names before ++ ws) (append-nil (name_of argument))
 
 options_in-push : (before : List Argument) (argument : Argument) → options_in (before ++ argument ∷ []) ≡ options_in before ++ option_of argument
 options_in-push before argument = flat_map-append option_of before (argument ∷ []) ∙ ap (λ (ws : List (List ℕ)). options_in before ++ ws) (append-nil (option_of argument))
 
-names_push : (command : CommandWord) (before : List Argument) (argument : Argument) → length (names_in before) ≤ name_count command → IsSoundBehind command before argument → length (names_in (before ++ argument ∷ [])) ≤ name_count command
+names_push : (command : CommandWord) (before : List Argument) (argument : Argument) → length (argument_names before) ≤ name_count command → IsSoundBehind command before argument → length (argument_names (before ++ argument ∷ [])) ≤ name_count command
 names_push command before (Name at name) few sound =
-    let n = ap length (names_in-push before (Name at name)) ∙ length-append (names_in before) (name ∷ []) in
+    let n = ap length (argument_names-push before (Name at name)) ∙ length-append (argument_names before) (name ∷ []) in
     let less = sound.0 in
     omega (arith, n, less)
 names_push command before (Setting at word value) few sound =
-    let n = ap length (names_in-push before (Setting at word value) ∙ append-nil (names_in before)) in
+    let n = ap length (argument_names-push before (Setting at word value) ∙ append-nil (argument_names before)) in
     omega (arith, n, few)
 
-names_few : (command : CommandWord) (before arguments : List Argument) → length (names_in before) ≤ name_count command → SoundFrom command before arguments → length (names_in (before ++ arguments)) ≤ name_count command
-names_few command before [] few sound = let P : List Argument → Type 0 = λ xs. length (names_in xs) ≤ name_count command in subst P (sym (append-nil before)) few
+names_few : (command : CommandWord) (before arguments : List Argument) → length (argument_names before) ≤ name_count command → SoundFrom command before arguments → length (argument_names (before ++ arguments)) ≤ name_count command
+names_few command before [] few sound = let P : List Argument → Type 0 = λ xs. length (argument_names xs) ≤ name_count command in subst P (sym (append-nil before)) few
 names_few command before (argument ∷ arguments) few sound =
-    let P : List Argument → Type 0 = λ xs. length (names_in xs) ≤ name_count command in
+    let P : List Argument → Type 0 = λ xs. length (argument_names xs) ≤ name_count command in
     subst P (append_assoc before (argument ∷ []) arguments) (names_few command (before ++ argument ∷ []) arguments (names_push command before argument few sound.0) sound.1)
 
 -- option words that stand once each, and are known
@@ -136,7 +138,7 @@ options_once command before (argument ∷ arguments) are sound =
 no_options : AreOptions []
 no_options = record { apart = λ i j d less within. absurd (omega arith); known = λ k d within. absurd (omega arith) }
 
-length-parts : (arguments : List Argument) → length arguments ≡ length (names_in arguments) + length (options_in arguments)
+length-parts : (arguments : List Argument) → length arguments ≡ length (argument_names arguments) + length (options_in arguments)
 length-parts [] = refl
 length-parts (Name at name ∷ arguments) = let n = length-parts arguments in omega (arith, n)
 length-parts (Setting at word value ∷ arguments) = let n = length-parts arguments in omega (arith, n)
@@ -148,7 +150,7 @@ name_count_small Check = omega arith
 name_count_small Graph = omega arith
 name_count_small Make = omega arith
 
-pub few_arguments : (command : CommandWord) (arguments : List Argument) → SoundFrom command [] arguments → length arguments ≤ 9
+pub few_arguments : (command : CommandWord) (arguments : List Argument) → SoundFrom command [] arguments → length arguments ≤ 10
 few_arguments command arguments sound =
     let parts = length-parts arguments in
     let names = names_few command [] arguments (omega arith) sound in
@@ -172,7 +174,7 @@ sound_push command before (first ∷ arguments) argument sound one =
     let P : List Argument → Type 0 = λ xs. IsSoundBehind command xs argument in
     (sound.0, sound_push command (before ++ first ∷ []) arguments argument sound.1 (subst P (sym (append_assoc before (first ∷ []) arguments)) one))
 
-no_fault_behind : (command : CommandWord) (before : List Argument) (argument : Argument) → IsSoundBehind command before argument → (what : WordWhat) (position : ℕ) → HasFault command before argument what position → ⊥
+no_fault_behind : (command : CommandWord) (before : List Argument) (argument : Argument) → IsSoundBehind command before argument → (what : WordWhat) (position : ℕ) → HasWordFault command before argument what position → ⊥
 no_fault_behind command before (Name at name) sound NoCommand position h = h
 no_fault_behind command before (Name at name) sound UnknownCommand position h = h
 no_fault_behind command before (Name at name) sound MissingName position h = h
@@ -209,10 +211,10 @@ sound_have_no_fault command arguments sound what position f =
 
 -- ---- the first fault behind sound arguments
 
-same_or_later : (command : CommandWord) (before sound_ones : List Argument) (argument : Argument) (after : List Argument) (at : ℕ) → SoundFrom command before sound_ones → StandFrom at (sound_ones ++ argument ∷ after) → (between : List Argument) (other : Argument) (rest : List Argument) → sound_ones ++ argument ∷ after ≡ between ++ other ∷ rest → (what : WordWhat) (position : ℕ) → HasFault command (before ++ between) other what position → HasFault command (before ++ sound_ones) argument what position ⊎ (next_place argument ≤ position)
+same_or_later : (command : CommandWord) (before sound_ones : List Argument) (argument : Argument) (after : List Argument) (at : ℕ) → SoundFrom command before sound_ones → StandFrom at (sound_ones ++ argument ∷ after) → (between : List Argument) (other : Argument) (rest : List Argument) → sound_ones ++ argument ∷ after ≡ between ++ other ∷ rest → (what : WordWhat) (position : ℕ) → HasWordFault command (before ++ between) other what position → HasWordFault command (before ++ sound_ones) argument what position ⊎ (next_place argument ≤ position)
 same_or_later command before [] argument after at sound stand [] other rest cut what position fault =
     let same : other ≡ argument = cc in
-    let P : Argument → Type 0 = λ x. HasFault command (before ++ []) x what position in
+    let P : Argument → Type 0 = λ x. HasWordFault command (before ++ []) x what position in
     inl (subst P same fault)
 same_or_later command before [] argument after at sound stand (y ∷ between) other rest cut what position fault =
     let tail : after ≡ between ++ other ∷ rest = cc in
@@ -221,19 +223,19 @@ same_or_later command before [] argument after at sound stand (y ∷ between) ot
     inr (omega (arith, later, from))
 same_or_later command before (x ∷ sound_ones) argument after at sound stand [] other rest cut what position fault =
     let same : other ≡ x = cc in
-    let P : Argument → Type 0 = λ z. HasFault command before z what position in
-    let Q : List Argument → Type 0 = λ zs. HasFault command zs other what position in
+    let P : Argument → Type 0 = λ z. HasWordFault command before z what position in
+    let Q : List Argument → Type 0 = λ zs. HasWordFault command zs other what position in
     absurd (no_fault_behind command before x sound.0 what position (subst P same (subst Q (append-nil before) fault)))
 same_or_later command before (x ∷ sound_ones) argument after at sound stand (y ∷ between) other rest cut what position fault =
     let same : y ≡ x = cc in
     let tail : sound_ones ++ argument ∷ after ≡ between ++ other ∷ rest = cc in
-    let P : List Argument → Type 0 = λ zs. HasFault command zs other what position in
+    let P : List Argument → Type 0 = λ zs. HasWordFault command zs other what position in
     let shift : before ++ y ∷ between ≡ (before ++ x ∷ []) ++ between = ap (λ (z : Argument). before ++ z ∷ between) same ∙ sym (append_assoc before (x ∷ []) between) in
     let found = same_or_later command (before ++ x ∷ []) sound_ones argument after (next_place x) sound.1 stand.1 between other rest tail what position (subst P shift fault) in
-    let Q : List Argument → Type 0 = λ zs. HasFault command zs argument what position ⊎ (next_place argument ≤ position) in
+    let Q : List Argument → Type 0 = λ zs. HasWordFault command zs argument what position ⊎ (next_place argument ≤ position) in
     subst Q (append_assoc before (x ∷ []) sound_ones) found
 
-pub leftmost_from : (command : CommandWord) (arguments before : List Argument) (argument : Argument) (after : List Argument) (what : WordWhat) (position : ℕ) → arguments ≡ before ++ argument ∷ after → SoundFrom command [] before → StandFrom 2 arguments → IsFirstFault command before argument what position → IsLeftmost command arguments what position
+pub leftmost_from : (command : CommandWord) (arguments before : List Argument) (argument : Argument) (after : List Argument) (what : WordWhat) (position : ℕ) → arguments ≡ before ++ argument ∷ after → SoundFrom command [] before → StandFrom 2 arguments → IsFirstWordFault command before argument what position → IsLeftmost command arguments what position
 leftmost_from command arguments before argument after what position cut sound stand first =
     let stand_cut = subst (StandFrom 2) cut stand in
     let to = fault_to command before argument what position first.fault in
@@ -262,13 +264,13 @@ sound_more command arguments i argument within is sound one =
     let more : take (i + 1) arguments ≡ take i arguments ++ argument ∷ [] = take_more arguments i argument within ∙ ap (λ (a : Argument). take i arguments ++ a ∷ []) (sym is) in
     subst (SoundFrom command []) (sym more) (sound_push command [] (take i arguments) argument sound one)
 
-pub leftmost_at : (command : CommandWord) (arguments : List Argument) (i : ℕ) (argument : Argument) (what : WordWhat) (position : ℕ) → i < length arguments → argument ≡ get_or arguments i argument → SoundFrom command [] (take i arguments) → StandFrom 2 arguments → IsFirstFault command (take i arguments) argument what position → IsLeftmost command arguments what position
+pub leftmost_at : (command : CommandWord) (arguments : List Argument) (i : ℕ) (argument : Argument) (what : WordWhat) (position : ℕ) → i < length arguments → argument ≡ get_or arguments i argument → SoundFrom command [] (take i arguments) → StandFrom 2 arguments → IsFirstWordFault command (take i arguments) argument what position → IsLeftmost command arguments what position
 leftmost_at command arguments i argument what position within is sound stand first =
     leftmost_from command arguments (take i arguments) argument (drop (suc i) arguments) what position (cut_at arguments i argument within is) sound stand first
 
 -- ---- names, and files
 
-pub names_most : (command : CommandWord) (arguments : List Argument) → SoundFrom command [] arguments → length (names_in arguments) ≤ name_count command
+pub names_most : (command : CommandWord) (arguments : List Argument) → SoundFrom command [] arguments → length (argument_names arguments) ≤ name_count command
 names_most command arguments sound = names_few command [] arguments (omega arith) sound
 
 pub all_near : (command : CommandWord) (arguments : List Argument) → SoundFrom command [] arguments → StandFrom 2 arguments → All IsNear arguments

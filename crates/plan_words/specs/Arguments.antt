@@ -26,9 +26,9 @@ arguments_from at (word ∷ next ∷ rest) =
     if is_option word then Setting at word (Some next) ∷ arguments_from (at + 2) rest
     else Name at word ∷ arguments_from (at + 1) (next ∷ rest)
 
-abbrev pub first_of : List (List ℕ) → Option (List ℕ)
-first_of [] = None
-first_of (word ∷ words) = Some word
+abbrev pub first_word : List (List ℕ) → Option (List ℕ)
+first_word [] = None
+first_word (word ∷ words) = Some word
 
 -- ---- parts of arguments
 
@@ -37,8 +37,8 @@ name_of (Name at word) = word ∷ []
 name_of (Setting at word value) = []
 
 -- the names, in their order
-abbrev pub names_in : List Argument → List (List ℕ)
-names_in arguments = flat_map name_of arguments
+abbrev pub argument_names : List Argument → List (List ℕ)
+argument_names arguments = flat_map name_of arguments
 
 abbrev pub option_of : Argument → List (List ℕ)
 option_of (Name at word) = []
@@ -49,10 +49,10 @@ abbrev pub options_in : List Argument → List (List ℕ)
 options_in arguments = flat_map option_of arguments
 
 -- the value behind the first option of this word
-abbrev pub value_of : List ℕ → List Argument → Option (List ℕ)
-value_of option [] = None
-value_of option (Name at word ∷ arguments) = value_of option arguments
-value_of option (Setting at word value ∷ arguments) = if bytes_eq word option then value else value_of option arguments
+abbrev pub option_value : List ℕ → List Argument → Option (List ℕ)
+option_value option [] = None
+option_value option (Name at word ∷ arguments) = option_value option arguments
+option_value option (Setting at word value ∷ arguments) = if bytes_eq word option then value else option_value option arguments
 
 -- whether the option's value names a file
 abbrev pub takes_file : List ℕ → Bool

@@ -1,6 +1,5 @@
 pub mod OptionValues
 pub mod Arguments
 pub mod WordFaults
-pub mod FaultLine
 pub mod Soundness
 pub mod Words

@@ -6,8 +6,8 @@ use Rattle.plan_words.specs.declared.arguments.Argument.{Argument}
 use Rattle.plan_words.specs.declared.arguments.Argument.TheVariants.{Name, Setting}
 use Rattle.plan_words.specs.declared.fault.WordWhat.{WordWhat}
 use Rattle.plan_words.specs.OptionValues.{option_word, Takes}
-use Rattle.plan_words.specs.Arguments.{names_in, options_in}
-use Rattle.plan_words.specs.WordFaults.{number_of, name_count, TakesName, IsOptionOf, HasFault}
+use Rattle.plan_words.specs.Arguments.{argument_names, options_in}
+use Rattle.plan_words.specs.WordFaults.{number_of, name_count, TakesName, IsOptionOf, HasWordFault}
 
 -- where the argument stands, and where the next one does
 abbrev pub place_of : Argument → ℕ
@@ -28,10 +28,10 @@ abbrev pub IsNear : Argument → Type 0
 IsNear argument = place_of argument + 1 < 2 ^ 32
 
 -- this fault of the argument is its leftmost, and at its position that with the lowest number
-pub record IsFirstFault (command : CommandWord) (before : List Argument) (argument : Argument) (what : WordWhat) (position : ℕ) : Type 0 where
-  pub fault : HasFault command before argument what position
-  pub leftmost : (other : WordWhat) (place : ℕ) → HasFault command before argument other place → position ≤ place
-  pub lowest : (other : WordWhat) → HasFault command before argument other position → number_of what ≤ number_of other
+pub record IsFirstWordFault (command : CommandWord) (before : List Argument) (argument : Argument) (what : WordWhat) (position : ℕ) : Type 0 where
+  pub fault : HasWordFault command before argument what position
+  pub leftmost : (other : WordWhat) (place : ℕ) → HasWordFault command before argument other place → position ≤ place
+  pub lowest : (other : WordWhat) → HasWordFault command before argument other position → number_of what ≤ number_of other
 
 -- the option is one of the command's, is new, and has a value that it takes
 pub record IsSoundSetting (command : CommandWord) (before : List Argument) (word : List ℕ) (value : Option (List ℕ)) : Type 0 where
@@ -45,7 +45,7 @@ pub record IsSoundSetting (command : CommandWord) (before : List Argument) (word
 
 -- the argument has no fault
 abbrev pub IsSoundBehind : CommandWord → List Argument → Argument → Type 0
-IsSoundBehind command before (Name at name) = (length (names_in before) < name_count command) × TakesName command name
+IsSoundBehind command before (Name at name) = (length (argument_names before) < name_count command) × TakesName command name
 IsSoundBehind command before (Setting at word value) = IsSoundSetting command before word value
 
 -- no argument has a fault, behind those before

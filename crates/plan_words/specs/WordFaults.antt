@@ -9,7 +9,7 @@ use Rattle.plan_words.specs.declared.files.FileWord.{FileWord}
 use Rattle.plan_words.specs.declared.fault.WordWhat.{WordWhat}
 use Rattle.plan_words.specs.declared.fault.WordWhat.TheVariants.{NoCommand, UnknownCommand, MissingName, ExtraWord, UnknownOption, RepeatedOption, BadValue}
 use Rattle.plan_words.specs.OptionValues.{option_word, IsSeed, Takes}
-use Rattle.plan_words.specs.Arguments.{arguments_from, names_in, options_in, files_in}
+use Rattle.plan_words.specs.Arguments.{arguments_from, argument_names, options_in, files_in}
 
 abbrev pub command_word : CommandWord → List ℕ
 command_word Draw = codes "draw"
@@ -18,7 +18,7 @@ command_word Check = codes "check"
 command_word Graph = codes "graph"
 command_word Make = codes "make"
 
--- the numbers of the table of faults
+-- the numbers of the table of faults, and their words
 abbrev pub number_of : WordWhat → ℕ
 number_of NoCommand = 1
 number_of UnknownCommand = 2
@@ -27,6 +27,15 @@ number_of ExtraWord = 4
 number_of UnknownOption = 5
 number_of RepeatedOption = 6
 number_of BadValue = 7
+
+abbrev pub word_of : WordWhat → List ℕ
+word_of NoCommand = codes "NoCommand"
+word_of UnknownCommand = codes "UnknownCommand"
+word_of MissingName = codes "MissingName"
+word_of ExtraWord = codes "ExtraWord"
+word_of UnknownOption = codes "UnknownOption"
+word_of RepeatedOption = codes "RepeatedOption"
+word_of BadValue = codes "BadValue"
 
 -- how many names the command has
 abbrev pub name_count : CommandWord → ℕ
@@ -49,32 +58,32 @@ IsOptionOf command word = ⊥
 -- ---- faults of one argument, behind the arguments before it
 
 -- the argument has this fault at this position
-abbrev pub HasFault : CommandWord → List Argument → Argument → WordWhat → ℕ → Type 0
-HasFault command before (Name at name) ExtraWord position = (name_count command ≤ length (names_in before)) × (position ≡ at)
-HasFault command before (Name at name) BadValue position = (TakesName command name → ⊥) × (position ≡ at)
-HasFault command before (Setting at word value) UnknownOption position = (IsOptionOf command word → ⊥) × (position ≡ at)
-HasFault command before (Setting at word value) RepeatedOption position = Contains (options_in before) word × (position ≡ at)
-HasFault command before (Setting at word None) BadValue position = position ≡ at
-HasFault command before (Setting at word (Some value)) BadValue position = (option : OptionWord) × (word ≡ option_word option) × (Takes option value → ⊥) × (position ≡ at + 1)
-HasFault command before argument what position = ⊥
+abbrev pub HasWordFault : CommandWord → List Argument → Argument → WordWhat → ℕ → Type 0
+HasWordFault command before (Name at name) ExtraWord position = (name_count command ≤ length (argument_names before)) × (position ≡ at)
+HasWordFault command before (Name at name) BadValue position = (TakesName command name → ⊥) × (position ≡ at)
+HasWordFault command before (Setting at word value) UnknownOption position = (IsOptionOf command word → ⊥) × (position ≡ at)
+HasWordFault command before (Setting at word value) RepeatedOption position = Contains (options_in before) word × (position ≡ at)
+HasWordFault command before (Setting at word None) BadValue position = position ≡ at
+HasWordFault command before (Setting at word (Some value)) BadValue position = (option : OptionWord) × (word ≡ option_word option) × (Takes option value → ⊥) × (position ≡ at + 1)
+HasWordFault command before argument what position = ⊥
 
 -- one of the arguments has this fault
-pub record SomeHasFault (command : CommandWord) (arguments : List Argument) (what : WordWhat) (position : ℕ) : Type 0 where
+pub record SomeHasWordFault (command : CommandWord) (arguments : List Argument) (what : WordWhat) (position : ℕ) : Type 0 where
   pub before : List Argument
   pub argument : Argument
   pub after : List Argument
   pub cut : arguments ≡ before ++ argument ∷ after
-  pub fault : HasFault command before argument what position
+  pub fault : HasWordFault command before argument what position
 
 -- the leftmost of these faults; where several stand at one position, that with the lowest number
 pub record IsLeftmost (command : CommandWord) (arguments : List Argument) (what : WordWhat) (position : ℕ) : Type 0 where
-  pub fault : SomeHasFault command arguments what position
-  pub leftmost : (other : WordWhat) (place : ℕ) → SomeHasFault command arguments other place → position ≤ place
-  pub lowest : (other : WordWhat) → SomeHasFault command arguments other position → number_of what ≤ number_of other
+  pub fault : SomeHasWordFault command arguments what position
+  pub leftmost : (other : WordWhat) (place : ℕ) → SomeHasWordFault command arguments other place → position ≤ place
+  pub lowest : (other : WordWhat) → SomeHasWordFault command arguments other position → number_of what ≤ number_of other
 
 -- no argument has a fault
 abbrev pub HaveNoFault : CommandWord → List Argument → Type 0
-HaveNoFault command arguments = (what : WordWhat) (position : ℕ) → SomeHasFault command arguments what position → ⊥
+HaveNoFault command arguments = (what : WordWhat) (position : ℕ) → SomeHasWordFault command arguments what position → ⊥
 
 -- ---- faults of the whole
 
@@ -94,13 +103,13 @@ pub record IsFirstRepeat (files : List FileWord) (position : ℕ) : Type 0 where
 -- no argument has a fault, and a name is missing at the end, this position
 pub record IsMissing (command : CommandWord) (arguments : List Argument) (end position : ℕ) : Type 0 where
   pub sound : HaveNoFault command arguments
-  pub few : length (names_in arguments) < name_count command
+  pub few : length (argument_names arguments) < name_count command
   pub place : position ≡ end
 
 -- no argument has a fault, no name is missing, and two files of `draw` have one name
 pub record HasOneNameTwice (command : CommandWord) (arguments : List Argument) (position : ℕ) : Type 0 where
   pub sound : HaveNoFault command arguments
-  pub enough : name_count command ≤ length (names_in arguments)
+  pub enough : name_count command ≤ length (argument_names arguments)
   pub draws : command ≡ Draw
   pub repeat : IsFirstRepeat (files_in arguments) position
 

@@ -1,5 +1,5 @@
 -- What the words of a command line ask for.
-use Rattle.std.specs.Prelude.{◌≡◌, ◌≢◌, ◌≤◌, ℕ, Option, MatchOption, List, [], ◌∷◌, length, AllPairs, ⊤}
+use Rattle.std.specs.Prelude.{◌≡◌, ◌≢◌, ◌≤◌, ℕ, Option, MatchOption, List, [], ◌∷◌, length, AllPairs}
 use Rattle.plan_core.specs.declared.criterion.Criterion.{Criterion}
 use Rattle.plan_core.specs.declared.criterion.Criterion.TheVariants as criteria
 use Rattle.plan_core.specs.Grid.{GridSize}
@@ -12,8 +12,8 @@ use Rattle.plan_words.specs.declared.option_values.OptionWord.TheVariants as opt
 use Rattle.plan_words.specs.declared.arguments.Argument.{Argument}
 use Rattle.plan_words.specs.declared.fault.WordFault.{WordFault}
 use Rattle.plan_words.specs.declared.fault.WordFault.TheVariants as answers
-use Rattle.plan_words.specs.OptionValues.{option_word, IsWidth, IsHeight, IsBudget, IsSeed, IsOrderText}
-use Rattle.plan_words.specs.Arguments.{arguments_from, names_in, files_in, value_of}
+use Rattle.plan_words.specs.OptionValues.{option_word, IsWidth, IsHeight, IsLeast, IsBudget, IsSeed, IsOrderText}
+use Rattle.plan_words.specs.Arguments.{arguments_from, argument_names, files_in, option_value}
 use Rattle.plan_words.specs.WordFaults.{command_word, name_count, HaveNoFault, file_names, IsFaultOfWords}
 
 -- height before bends before diagonal length before width
@@ -25,48 +25,49 @@ abbrev pub IsChosen : {X : Type 0} → Option (List ℕ) → (List ℕ → X →
 IsChosen value Means default x = MatchOption value (x ≡ default) (λ text. Means text x)
 
 -- what was given for an option
-abbrev pub given : OptionWord → List Argument → Option (List ℕ)
-given option arguments = value_of (option_word option) arguments
+abbrev pub given_for : OptionWord → List Argument → Option (List ℕ)
+given_for option arguments = option_value (option_word option) arguments
 
 -- the parts of a drawing's command
-pub record IsDrawing (arguments : List Argument) (input : List ℕ) (grid : GridSize) (order : List Criterion) (budget : ℕ) (svg log : Option (List ℕ)) : Type 0 where
-  pub names : names_in arguments ≡ input ∷ []
-  pub width : IsChosen (given options.Width arguments) IsWidth 40 grid.width
-  pub height : IsChosen (given options.Height arguments) IsHeight 8 grid.height
-  pub criteria : IsChosen (given options.Criteria arguments) IsOrderText default_order order
-  pub conflicts : IsChosen (given options.Conflicts arguments) IsBudget 50000 budget
-  pub svg_name : svg ≡ given options.Svg arguments
-  pub log_name : log ≡ given options.Log arguments
+pub record IsDrawCommand (arguments : List Argument) (input : List ℕ) (grid : GridSize) (order : List Criterion) (budget : ℕ) (svg log : Option (List ℕ)) : Type 0 where
+  pub names : argument_names arguments ≡ input ∷ []
+  pub width : IsChosen (given_for options.Width arguments) IsWidth 40 grid.width
+  pub height : IsChosen (given_for options.Height arguments) IsHeight 8 grid.height
+  pub least : IsChosen (given_for options.Least arguments) IsLeast 1 grid.least
+  pub criteria : IsChosen (given_for options.Criteria arguments) IsOrderText default_order order
+  pub conflicts : IsChosen (given_for options.Conflicts arguments) IsBudget 50000 budget
+  pub svg_name : svg ≡ given_for options.Svg arguments
+  pub log_name : log ≡ given_for options.Log arguments
 
-abbrev pub word_of : Command → CommandWord
-word_of (Draw input grid order budget svg log) = words.Draw
-word_of (Verify input sheet) = words.Verify
-word_of (Check input sheet log) = words.Check
-word_of (Graph input) = words.Graph
-word_of (Make n) = words.Make
+abbrev pub kind_of : Command → CommandWord
+kind_of (Draw input grid order budget svg log) = words.Draw
+kind_of (Verify input sheet) = words.Verify
+kind_of (Check input sheet log) = words.Check
+kind_of (Graph input) = words.Graph
+kind_of (Make n) = words.Make
 
 -- the command has the parts that its arguments give
 abbrev pub HasParts : List Argument → Command → Type 0
-HasParts arguments (Draw input grid order budget svg log) = IsDrawing arguments input grid order budget svg log
-HasParts arguments (Verify input sheet) = names_in arguments ≡ input ∷ sheet ∷ []
-HasParts arguments (Check input sheet log) = names_in arguments ≡ input ∷ sheet ∷ log ∷ []
-HasParts arguments (Graph input) = names_in arguments ≡ input ∷ []
-HasParts arguments (Make n) = (name : List ℕ) × (names_in arguments ≡ name ∷ []) × IsSeed name n
+HasParts arguments (Draw input grid order budget svg log) = IsDrawCommand arguments input grid order budget svg log
+HasParts arguments (Verify input sheet) = argument_names arguments ≡ input ∷ sheet ∷ []
+HasParts arguments (Check input sheet log) = argument_names arguments ≡ input ∷ sheet ∷ log ∷ []
+HasParts arguments (Graph input) = argument_names arguments ≡ input ∷ []
+HasParts arguments (Make n) = (name : List ℕ) × (argument_names arguments ≡ name ∷ []) × IsSeed name n
 
 -- the arguments of a command without a fault
-pub record AreSound (command : CommandWord) (arguments : List Argument) : Type 0 where
+pub record AreSoundArguments (command : CommandWord) (arguments : List Argument) : Type 0 where
   pub sound : HaveNoFault command arguments
-  pub enough : name_count command ≤ length (names_in arguments)
+  pub enough : name_count command ≤ length (argument_names arguments)
   pub apart : command ≡ words.Draw → AllPairs (λ a b. a ≢ b) (file_names (files_in arguments))
 
 -- the words have no fault, and this is the command that they ask for
 pub record IsCommandOf (words : List (List ℕ)) (command : Command) : Type 0 where
   pub rest : List (List ℕ)
-  pub first : words ≡ command_word (word_of command) ∷ rest
-  pub sound : AreSound (word_of command) (arguments_from 2 rest)
+  pub first : words ≡ command_word (kind_of command) ∷ rest
+  pub sound : AreSoundArguments (kind_of command) (arguments_from 2 rest)
   pub parts : HasParts (arguments_from 2 rest) command
 
--- what an answer without a command says of the words
-abbrev pub IsFaultOf : List (List ℕ) → WordFault → Type 0
-IsFaultOf words (answers.Words what position) = IsFaultOfWords words what position
-IsFaultOf words answers.Memory = ⊤
+-- the words have this fault, and it is the one that counts; want of memory is no fault of theirs
+abbrev pub IsWordFault : List (List ℕ) → WordFault → Type 0
+IsWordFault words (answers.Words what position) = IsFaultOfWords words what position
+IsWordFault words answers.Memory = ⊥

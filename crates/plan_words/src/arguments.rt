@@ -1,6 +1,6 @@
 // The words behind the command, cut into names and options with their values.
 ghost use Rattle.std.specs.Prelude.{◌≡◌, IfOk, string_bytes, drop};
-ghost use Rattle.plan_words.specs.Arguments.{is_option as begins_option, texts_of, first_of, arguments_from};
+ghost use Rattle.plan_words.specs.Arguments.{is_option as begins_option, texts_of, first_word, arguments_from};
 
 use plan_core::{OutOfMemory, Text};
 use std::alloc::Global;
@@ -35,7 +35,7 @@ fn copy_of(alloc: Global, word: &String) -> Result<Text, OutOfMemory>
 
 /// A copy of the word in front, if there is one, and the words behind it.
 fn split_value(alloc: Global, words: &[String]) -> Result<(Option<Text>, &[String]), OutOfMemory>
-    ensures value { IfOk result (λ split. split.0 ≡ first_of (texts_of words.now)) }
+    ensures value { IfOk result (λ split. split.0 ≡ first_word (texts_of words.now)) }
     ensures behind { IfOk result (λ split. split.1.now ≡ drop 1 words.now) }
 {
     match words {

@@ -3,23 +3,28 @@ ghost use Rattle.std.specs.Prelude.{◌≡◌, ◌≤◌, ◌<◌, ℕ, List, []
 ghost use Rattle.std.specs.Option.{option_copied};
 ghost use Rattle.plan_words.specs.declared.command.CommandWord.TheVariants as words;
 ghost use Rattle.plan_words.specs.declared.option_values.OptionWord.TheVariants as options;
-ghost use Rattle.plan_words.specs.OptionValues.{IsNumberIn, IsWidth, IsHeight, IsBudget, IsSeed, IsOrderText};
-ghost use Rattle.plan_words.specs.Arguments.{names_in};
+ghost use Rattle.line_text.specs.Numbers.{IsNumberIn};
+ghost use Rattle.plan_words.specs.OptionValues.{IsWidth, IsHeight, IsLeast, IsBudget, IsSeed, IsOrderText};
+ghost use Rattle.plan_words.specs.Arguments.{argument_names};
 ghost use Rattle.plan_words.specs.WordFaults.{name_count};
 ghost use Rattle.plan_words.specs.Soundness.{SoundFrom};
-ghost use Rattle.plan_words.specs.Words.{default_order, IsChosen, given, IsDrawing, word_of, HasParts};
+ghost use Rattle.plan_words.specs.Words.{default_order, IsChosen, given_for, IsDrawCommand, kind_of, HasParts};
 
 use crate::Command;
 use crate::arguments::Argument;
 use crate::command::CommandWord;
 use crate::files::copy_of;
 use crate::option_values::{OptionWord, number_in, order_in};
-use plan_core::{Criterion, Grid, Order, OutOfMemory, Text};
+use plan_core::{
+    Criterion, Grid, MAX_BUDGET, MAX_HEIGHT, MAX_LEAST, MAX_WIDTH, Order, OutOfMemory, Text,
+};
 use std::alloc::Global;
 
 const DEFAULT_WIDTH: u32 = 40;
 
 const DEFAULT_HEIGHT: u32 = 8;
+
+const DEFAULT_LEAST: u32 = 1;
 
 const DEFAULT_BUDGET: u32 = 50_000;
 
@@ -32,8 +37,8 @@ const DEFAULT_ORDER: [Criterion; 4] = [
 
 /// The name at a place among the names, counted from 0.
 fn name_at(arguments: &[Argument], place: usize) -> &Text
-    requires { place < length (names_in arguments.now) }
-    ensures { slice_get (names_in arguments.now) place ≡ Some result.now }
+    requires { place < length (argument_names arguments.now) }
+    ensures { slice_get (argument_names arguments.now) place ≡ Some result.now }
 {
     let mut left = place;
     for argument in arguments {
@@ -49,15 +54,15 @@ fn name_at(arguments: &[Argument], place: usize) -> &Text
 
 /// A copy of the name at a place among the names, counted from 0.
 fn name_copy(alloc: Global, arguments: &[Argument], place: usize) -> Result<Text, OutOfMemory>
-    requires { place < length (names_in arguments.now) }
-    ensures { IfOk result (λ name. slice_get (names_in arguments.now) place ≡ Some name) }
+    requires { place < length (argument_names arguments.now) }
+    ensures { IfOk result (λ name. slice_get (argument_names arguments.now) place ≡ Some name) }
 {
     copy_of(alloc, name_at(arguments, place))
 }
 
 /// The value that the option was given, if it was.
 fn value_given(arguments: &[Argument], option: OptionWord) -> Option<&Text>
-    ensures { option_copied result ≡ given option arguments.now }
+    ensures { option_copied result ≡ given_for option arguments.now }
 {
     for argument in arguments {
         if let Argument::Setting { word, value, .. } = argument {
@@ -77,8 +82,8 @@ fn number_given(
     high: u32,
     default: u32,
 ) -> u32
-    requires { MatchOption (given option arguments.now) ⊤ (λ text. (n : ℕ) × IsNumberIn low high text n) }
-    ensures { IsChosen (given option arguments.now) (IsNumberIn low high) default result }
+    requires { MatchOption (given_for option arguments.now) ⊤ (λ text. (n : ℕ) × IsNumberIn low high text n) }
+    ensures { IsChosen (given_for option arguments.now) (IsNumberIn low high) default result }
 {
     match value_given(arguments, option) {
         Some(text) => match number_in(text.as_str(), low, high) {
@@ -92,12 +97,32 @@ fn number_given(
 /// The grid that the options give, or parts of the default in their place.
 fn grid_given(arguments: &[Argument]) -> Grid
     requires { SoundFrom words.Draw [] arguments.now }
-    ensures width { IsChosen (given options.Width arguments.now) IsWidth 40 result.width }
-    ensures height { IsChosen (given options.Height arguments.now) IsHeight 8 result.height }
+    ensures width { IsChosen (given_for options.Width arguments.now) IsWidth 40 result.width }
+    ensures height { IsChosen (given_for options.Height arguments.now) IsHeight 8 result.height }
+    ensures least { IsChosen (given_for options.Least arguments.now) IsLeast 1 result.least }
 {
-    let width = number_given(arguments, OptionWord::Width, 1, 64, DEFAULT_WIDTH);
-    let height = number_given(arguments, OptionWord::Height, 0, 12, DEFAULT_HEIGHT);
-    match Grid::new(width as u16, height as u16) {
+    let width = number_given(
+        arguments,
+        OptionWord::Width,
+        1,
+        u32::from(MAX_WIDTH),
+        DEFAULT_WIDTH,
+    );
+    let height = number_given(
+        arguments,
+        OptionWord::Height,
+        0,
+        u32::from(MAX_HEIGHT),
+        DEFAULT_HEIGHT,
+    );
+    let least = number_given(
+        arguments,
+        OptionWord::Least,
+        1,
+        u32::from(MAX_LEAST),
+        DEFAULT_LEAST,
+    );
+    match Grid::with_least(width as u16, height as u16, least as u16) {
         Some(grid) => grid,
         None => unreachable!(),
     }
@@ -115,7 +140,7 @@ fn usual_order() -> Order
 /// The order that the option gives, or the default.
 fn order_given(arguments: &[Argument]) -> Order
     requires { SoundFrom words.Draw [] arguments.now }
-    ensures { IsChosen (given options.Criteria arguments.now) IsOrderText default_order result }
+    ensures { IsChosen (given_for options.Criteria arguments.now) IsOrderText default_order result }
 {
     match value_given(arguments, OptionWord::Criteria) {
         Some(text) => match order_in(text.as_str()) {
@@ -132,7 +157,7 @@ fn file_given(
     arguments: &[Argument],
     option: OptionWord,
 ) -> Result<Option<Text>, OutOfMemory>
-    ensures { IfOk result (λ name. name ≡ given option arguments.now) }
+    ensures { IfOk result (λ name. name ≡ given_for option arguments.now) }
 {
     match value_given(arguments, option) {
         Some(name) => Ok(Some(copy_of(alloc, name)?)),
@@ -142,15 +167,21 @@ fn file_given(
 
 fn draw_of(alloc: Global, arguments: &[Argument]) -> Result<Command, OutOfMemory>
     requires sound { SoundFrom words.Draw [] arguments.now }
-    requires enough { 1 ≤ length (names_in arguments.now) }
-    ensures word { IfOk result (λ c. word_of c ≡ words.Draw) }
+    requires enough { 1 ≤ length (argument_names arguments.now) }
+    ensures word { IfOk result (λ c. kind_of c ≡ words.Draw) }
     ensures parts { IfOk result (λ c. HasParts arguments.now c) }
 {
     Ok(Command::Draw {
         input: name_copy(alloc, arguments, 0)?,
         grid: grid_given(arguments),
         order: order_given(arguments),
-        budget: number_given(arguments, OptionWord::Conflicts, 1, 200_000, DEFAULT_BUDGET),
+        budget: number_given(
+            arguments,
+            OptionWord::Conflicts,
+            1,
+            MAX_BUDGET,
+            DEFAULT_BUDGET,
+        ),
         svg: file_given(alloc, arguments, OptionWord::Svg)?,
         log: file_given(alloc, arguments, OptionWord::Log)?,
     })
@@ -159,8 +190,8 @@ fn draw_of(alloc: Global, arguments: &[Argument]) -> Result<Command, OutOfMemory
 /// The number that `make` has as its name.
 fn seed_of(arguments: &[Argument]) -> u32
     requires sound { SoundFrom words.Make [] arguments.now }
-    requires enough { 1 ≤ length (names_in arguments.now) }
-    ensures { (name : List ℕ) × (names_in arguments.now ≡ name ∷ []) × IsSeed name result }
+    requires enough { 1 ≤ length (argument_names arguments.now) }
+    ensures { (name : List ℕ) × (argument_names arguments.now ≡ name ∷ []) × IsSeed name result }
 {
     match number_in(name_at(arguments, 0).as_str(), 0, u32::MAX) {
         Some(number) => number,
@@ -175,8 +206,8 @@ pub(crate) fn command_of(
     arguments: &[Argument],
 ) -> Result<Command, OutOfMemory>
     requires sound { SoundFrom command [] arguments.now }
-    requires enough { name_count command ≤ length (names_in arguments.now) }
-    ensures word { IfOk result (λ c. word_of c ≡ command) }
+    requires enough { name_count command ≤ length (argument_names arguments.now) }
+    ensures word { IfOk result (λ c. kind_of c ≡ command) }
     ensures parts { IfOk result (λ c. HasParts arguments.now c) }
 {
     match command {

@@ -1,8 +1,7 @@
 // What can be wrong with the words.
 ghost use Rattle.std.specs.Prelude.{◌≡◌};
 ghost use Rattle.plan_words.specs.declared.fault.WordFault.TheVariants.{Memory};
-ghost use Rattle.plan_words.specs.WordFaults.{number_of};
-ghost use Rattle.plan_words.specs.FaultLine.{kind_name};
+ghost use Rattle.plan_words.specs.WordFaults.{number_of, word_of};
 
 use plan_core::OutOfMemory;
 use std::alloc::{AllocError, AllocFailed};
@@ -43,9 +42,9 @@ impl WordWhat {
         }
     }
 
-    /// The fault's name.
-    pub fn name(self) -> &'static str
-        ensures { result.now ≡ kind_name self }
+    /// The fault's word, as its line names it.
+    pub fn word(self) -> &'static str
+        ensures { result.now ≡ word_of self }
     {
         match self {
             WordWhat::NoCommand => "NoCommand",

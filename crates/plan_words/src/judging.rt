@@ -4,7 +4,7 @@ ghost use Rattle.plan_words.specs.declared.command.CommandWord.TheVariants.{Draw
 ghost use Rattle.plan_words.specs.Arguments.{files_in as named_files};
 ghost use Rattle.plan_words.specs.WordFaults.{file_names, IsFirstRepeat, IsFaultOfArguments};
 ghost use Rattle.plan_words.specs.Soundness.{StandFrom, IsNear, SoundFrom};
-ghost use Rattle.plan_words.specs.Words.{AreSound};
+ghost use Rattle.plan_words.specs.Words.{AreSoundArguments};
 
 use crate::WordWhat;
 use crate::arguments::Argument;
@@ -43,7 +43,7 @@ pub(crate) fn fault_that_counts(
 ) -> Result<Option<Found>, OutOfMemory>
     requires stand { StandFrom 2 arguments.now }
     requires near { end ≤ 2 + 2 * length arguments.now }
-    ensures fault { IfOk result (λ found. MatchOption found (AreSound command arguments.now) (λ f. IsFaultOfArguments command arguments.now end f.what f.position)) }
+    ensures fault { IfOk result (λ found. MatchOption found (AreSoundArguments command arguments.now) (λ f. IsFaultOfArguments command arguments.now end f.what f.position)) }
     ensures sound { IfOk result (λ found. IfNone found (SoundFrom command [] arguments.now)) }
 {
     if let Some(found) = leftmost_fault(command, arguments) {

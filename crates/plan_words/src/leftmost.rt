@@ -3,9 +3,9 @@ ghost use Rattle.std.specs.Prelude.{◌≡◌, ◌<◌, ◌+◌, ◌^◌, length
 ghost use Rattle.std.specs.Bool.{MatchBool};
 ghost use Rattle.plan_words.specs.declared.arguments.Argument.TheVariants.{Name, Setting};
 ghost use Rattle.plan_words.specs.OptionValues.{option_word};
-ghost use Rattle.plan_words.specs.Arguments.{names_in, options_in};
+ghost use Rattle.plan_words.specs.Arguments.{argument_names, options_in};
 ghost use Rattle.plan_words.specs.WordFaults.{TakesName, IsOptionOf, IsLeftmost};
-ghost use Rattle.plan_words.specs.Soundness.{StandFrom, IsNear, IsFirstFault, IsSoundBehind, SoundFrom};
+ghost use Rattle.plan_words.specs.Soundness.{StandFrom, IsNear, IsFirstWordFault, IsSoundBehind, SoundFrom};
 
 use crate::WordWhat;
 use crate::arguments::Argument;
@@ -22,7 +22,7 @@ pub(crate) struct Found {
 
 /// The number of names among the arguments.
 pub(crate) fn count_names(arguments: &[Argument]) -> usize
-    ensures { result ≡ length (names_in arguments.now) }
+    ensures { result ≡ length (argument_names arguments.now) }
 {
     let mut count = 0;
     for argument in arguments {
@@ -71,7 +71,7 @@ fn takes_name(command: CommandWord, name: &str) -> bool
 
 /// The fault of a name behind other arguments, if it has one.
 fn name_fault(command: CommandWord, before: &[Argument], position: u32, name: &str) -> Option<Found>
-    ensures { MatchOption result (IsSoundBehind command before.now (Name position name.now)) (λ found. IsFirstFault command before.now (Name position name.now) found.what found.position) }
+    ensures { MatchOption result (IsSoundBehind command before.now (Name position name.now)) (λ found. IsFirstWordFault command before.now (Name position name.now) found.what found.position) }
 {
     if command.name_count() <= count_names(before) {
         return Some(Found {
@@ -97,7 +97,7 @@ fn setting_fault(
     value: &Option<Text>,
 ) -> Option<Found>
     requires { position + 1 < 2 ^ 32 }
-    ensures { MatchOption result (IsSoundBehind command before.now (Setting position word.now value.now)) (λ found. IsFirstFault command before.now (Setting position word.now value.now) found.what found.position) }
+    ensures { MatchOption result (IsSoundBehind command before.now (Setting position word.now value.now)) (λ found. IsFirstWordFault command before.now (Setting position word.now value.now) found.what found.position) }
 {
     let Some(option) = option_of(command, word) else {
         return Some(Found {
@@ -129,7 +129,7 @@ fn setting_fault(
 /// The first fault of an argument behind others, if it has one.
 fn fault_of(command: CommandWord, before: &[Argument], argument: &Argument) -> Option<Found>
     requires { IsNear argument.now }
-    ensures { MatchOption result (IsSoundBehind command before.now argument.now) (λ found. IsFirstFault command before.now argument.now found.what found.position) }
+    ensures { MatchOption result (IsSoundBehind command before.now argument.now) (λ found. IsFirstWordFault command before.now argument.now found.what found.position) }
 {
     match argument {
         Argument::Name { position, word } => {
@@ -144,7 +144,7 @@ fn fault_of(command: CommandWord, before: &[Argument], argument: &Argument) -> O
 }
 
 /// The leftmost fault of the arguments, if they have one. Each argument is looked at with those
-/// before it, which are at most nine where they have no fault.
+/// before it, which are at most ten where they have no fault.
 pub(crate) fn leftmost_fault(command: CommandWord, arguments: &[Argument]) -> Option<Found>
     requires { StandFrom 2 arguments.now }
     ensures { MatchOption result (SoundFrom command [] arguments.now) (λ found. IsLeftmost command arguments.now found.what found.position) }

@@ -3,18 +3,17 @@
 //! `read_words` answers the command, or the one fault that counts. `specs/Arguments` says how words
 //! are cut into names and options with their values, `specs/OptionValues` which values are allowed,
 //! `specs/WordFaults` what each fault is and which one counts, and `specs/Words` which command words
-//! without a fault ask for. `push_word_fault` writes the line that tells of a fault, by
-//! `specs/FaultLine`. `specs/Soundness` is what code keeps from left to right, for private contracts
-//! alone. `laws` says that words have one answer.
+//! without a fault ask for. `specs/Soundness` is what code keeps from left to right, for private
+//! contracts alone. `laws` says that words have one answer.
 //!
-//! The crate stands on `plan_core`, for grids, orders and texts. It is made for the program.
+//! The crate stands on `plan_core`, for grids, orders and texts, and on `line_text`, for numbers and the
+//! words of criteria. It is made for the program.
 #![tactic(auto)]
 
 mod arguments;
 mod building;
 mod command;
 mod fault;
-mod fault_line;
 mod files;
 mod judging;
 mod laws;
@@ -26,6 +25,5 @@ mod tests;
 
 pub use command::Command;
 pub use fault::{WordFault, WordWhat};
-pub use fault_line::push_word_fault;
 pub use laws::{no_command_with_a_fault, one_command, one_fault};
 pub use reading::read_words;

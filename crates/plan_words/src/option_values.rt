@@ -2,17 +2,19 @@
 ghost use Rattle.std.specs.Prelude.{◌≡◌, ◌≢◌, ◌≤◌, ℕ, List, length, MatchOption};
 ghost use Rattle.std.specs.Bool.{MatchBool};
 ghost use Rattle.plan_core.specs.declared.criterion.Criterion.{Criterion as Measure};
-ghost use Rattle.plan_words.specs.OptionValues.{option_word, criterion_word, order_text, IsNumberIn, IsOrderText, Takes};
+ghost use Rattle.line_text.specs.Numbers.{IsNumberIn};
+ghost use Rattle.plan_words.specs.OptionValues.{option_word, criteria_text, IsOrderText, Takes};
 
 use arrayvec::ArrayVec;
-use itoa::Buffer;
-use plan_core::{Criterion, Order};
+use line_text::{read_criterion, read_number};
+use plan_core::{Criterion, MAX_BUDGET, MAX_HEIGHT, MAX_LEAST, MAX_WIDTH, Order};
 
 /// A word that names an option of `draw`.
 #[derive(Clone, Copy, Debug, PartialEq, Eq)]
 pub(crate) enum OptionWord {
     Width,
     Height,
+    Least,
     Criteria,
     Conflicts,
     Svg,
@@ -27,6 +29,7 @@ impl OptionWord {
         match word {
             "--width" => Some(OptionWord::Width),
             "--height" => Some(OptionWord::Height),
+            "--least" => Some(OptionWord::Least),
             "--order" => Some(OptionWord::Criteria),
             "--conflicts" => Some(OptionWord::Conflicts),
             "--svg" => Some(OptionWord::Svg),
@@ -42,6 +45,7 @@ impl OptionWord {
         match self {
             OptionWord::Width => "--width",
             OptionWord::Height => "--height",
+            OptionWord::Least => "--least",
             OptionWord::Criteria => "--order",
             OptionWord::Conflicts => "--conflicts",
             OptionWord::Svg => "--svg",
@@ -54,37 +58,16 @@ impl OptionWord {
 pub(crate) fn number_in(text: &str, low: u32, high: u32) -> Option<u32>
     ensures { MatchOption result ((n : ℕ) → IsNumberIn low high text.now n → ⊥) (IsNumberIn low high text.now) }
 {
-    let Ok(number) = text.parse::<u32>() else {
-        return None;
-    };
-    let mut digits = Buffer::new();
-    if digits.format(number) == text && low <= number && number <= high {
-        Some(number)
-    } else {
-        None
-    }
-}
-
-/// The criterion that the word names, if it names one.
-fn criterion_named(word: &str) -> Option<Criterion>
-    ensures { MatchOption result ((c : Measure) → word.now ≢ criterion_word c) (λ c. word.now ≡ criterion_word c) }
-{
-    match word {
-        "height" => Some(Criterion::Height),
-        "bends" => Some(Criterion::Bends),
-        "diagonal" => Some(Criterion::Diagonal),
-        "width" => Some(Criterion::Width),
-        _ => None,
-    }
+    read_number(text.as_bytes(), low, high)
 }
 
 /// The criteria whose words the text has between its commas, if they are at most four.
 fn criteria_in(text: &str) -> Option<ArrayVec<Criterion, 4>>
-    ensures { MatchOption result ((list : List Measure) → 1 ≤ length list → length list ≤ 4 → text.now ≢ order_text list) (λ list. text.now ≡ order_text list.items) }
+    ensures { MatchOption result ((list : List Measure) → 1 ≤ length list → length list ≤ 4 → text.now ≢ criteria_text list) (λ list. text.now ≡ criteria_text list.items) }
 {
     let mut list = ArrayVec::new();
     for word in text.split(',') {
-        let Some(criterion) = criterion_named(word) else {
+        let Some(criterion) = read_criterion(word.as_bytes()) else {
             return None;
         };
         if list.is_full() {
@@ -111,10 +94,11 @@ impl OptionWord {
         ensures { MatchBool result (Takes self value.now) (Takes self value.now → ⊥) }
     {
         match self {
-            OptionWord::Width => number_in(value, 1, 64).is_some(),
-            OptionWord::Height => number_in(value, 0, 12).is_some(),
+            OptionWord::Width => number_in(value, 1, u32::from(MAX_WIDTH)).is_some(),
+            OptionWord::Height => number_in(value, 0, u32::from(MAX_HEIGHT)).is_some(),
+            OptionWord::Least => number_in(value, 1, u32::from(MAX_LEAST)).is_some(),
             OptionWord::Criteria => order_in(value).is_some(),
-            OptionWord::Conflicts => number_in(value, 1, 200_000).is_some(),
+            OptionWord::Conflicts => number_in(value, 1, MAX_BUDGET).is_some(),
             OptionWord::Svg | OptionWord::Log => !value.is_empty(),
         }
     }

@@ -1,10 +1,9 @@
 // The words of the command line.
-ghost use Rattle.std.specs.Prelude.{◌≡◌, ◌⊎◌, ℕ, List, ◌∷◌, IfOk, IfErr, IsErrOf};
-ghost use Rattle.plan_words.specs.declared.command.Command.{Command as Asked};
-ghost use Rattle.plan_words.specs.declared.fault.WordWhat.{WordWhat as What};
+ghost use Rattle.std.specs.Prelude.{◌≡◌, ◌⊎◌, ℕ, List, ◌∷◌, IfOk, IfErr};
+ghost use Rattle.plan_core.specs.Exactly.{AnswersExactly};
 ghost use Rattle.plan_words.specs.Arguments.{texts_of};
-ghost use Rattle.plan_words.specs.WordFaults.{command_word, IsFaultOfWords};
-ghost use Rattle.plan_words.specs.Words.{IsCommandOf, IsFaultOf};
+ghost use Rattle.plan_words.specs.WordFaults.{command_word};
+ghost use Rattle.plan_words.specs.Words.{IsCommandOf, IsWordFault};
 
 use crate::arguments::arguments_in;
 use crate::building::command_of;
@@ -20,7 +19,7 @@ fn read_arguments(
     words: &[String],
 ) -> Result<Command, WordFault>
     ensures command { (first : List ℕ) → first ≡ command_word command → IfOk result (λ c. IsCommandOf (first ∷ texts_of words.now) c) }
-    ensures fault { (first : List ℕ) → first ≡ command_word command → IfErr result (λ e. IsFaultOf (first ∷ texts_of words.now) e) }
+    ensures fault { (first : List ℕ) → first ≡ command_word command → IfErr result (λ e. (e ≡ WordFault.Memory) ⊎ IsWordFault (first ∷ texts_of words.now) e) }
 {
     let arguments = arguments_in(alloc, words)?;
     match fault_that_counts(alloc, command, &arguments, words.len() + 2)? {
@@ -35,7 +34,7 @@ fn read_arguments(
 /// The command that the words ask for, or their fault.
 fn read_line(alloc: Global, words: &[String]) -> Result<Command, WordFault>
     ensures command { IfOk result (λ c. IsCommandOf (texts_of words.now) c) }
-    ensures fault { IfErr result (λ e. IsFaultOf (texts_of words.now) e) }
+    ensures fault { IfErr result (λ e. (e ≡ WordFault.Memory) ⊎ IsWordFault (texts_of words.now) e) }
 {
     let [first, others @ ..] = words else {
         return Err(WordFault::Words {
@@ -58,11 +57,7 @@ fn read_line(alloc: Global, words: &[String]) -> Result<Command, WordFault>
 /// Positions count from 1 at the command. The leftmost fault of a name or an option counts; where
 /// there is none, that a name is missing; and then that two files of `draw` have one name.
 pub fn read_words(alloc: Global, words: &[String]) -> Result<Command, WordFault>
-    ensures command { IfOk result (λ c. IsCommandOf (texts_of words.now) c) }
-    ensures fault { IfErr result (λ e. IsFaultOf (texts_of words.now) e) }
-    // Only want of memory may stand in the place of the words' own answer.
-    ensures command_told { (c : Asked) → IsCommandOf (texts_of words.now) c → (result ≡ Ok c) ⊎ IsErrOf result WordFault.Memory }
-    ensures fault_told { (what : What) (position : ℕ) → IsFaultOfWords (texts_of words.now) what position → IsErrOf result (WordFault.Words what position) ⊎ IsErrOf result WordFault.Memory }
+    ensures { AnswersExactly result WordFault.Memory (IsCommandOf (texts_of words.now)) (IsWordFault (texts_of words.now)) }
 {
     read_line(alloc, words)
 }

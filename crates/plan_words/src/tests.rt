@@ -1,4 +1,4 @@
-use crate::{Command, WordFault, WordWhat, push_word_fault, read_words};
+use crate::{Command, WordFault, WordWhat, read_words};
 use plan_core::{Criterion, Grid, Order, Text};
 use std::alloc::{AllocError, Global};
 use std::test::Fail;
@@ -38,7 +38,8 @@ fn file_shown(name: &Option<Text>) -> &str {
 fn grid_shown(alloc: Global, grid: &Grid) -> Result<String, AllocError> {
     let width = grid.width();
     let height = grid.height();
-    format!(in alloc; "{width} {height}")
+    let least = grid.least();
+    format!(in alloc; "{width} {height} {least}")
 }
 
 /// A line that shows a command.
@@ -78,44 +79,46 @@ fn command_shown(alloc: Global, command: &Command) -> Result<String, AllocError>
     }
 }
 
-/// A line that shows an answer; of a fault, the line that tells of it, without its line feed.
+/// A line that shows an answer.
 fn answer_shown(alloc: Global, words: &[&str]) -> Result<String, Fail> {
     let words = words_from(alloc, words)?;
     match read_words(alloc, &words) {
         Ok(command) => Ok(command_shown(alloc, &command)?),
         Err(WordFault::Words { what, position }) => {
-            let mut line = Vec::new(alloc);
-            push_word_fault(&mut line, what, position)?;
-            let line = std::str::from_utf8(&line)?;
-            let line = line.strip_suffix('\n').ok_or("no line feed")?;
-            Ok(String::from_str(alloc, line)?)
+            let number = what.number();
+            let word = what.word();
+            Ok(format!(in alloc; "{number} {word} {position}")?)
         }
         Err(WordFault::Memory) => Ok(String::from_str(alloc, "out of memory")?),
     }
 }
 
-static CASES: [(&[&str], &str); 64] = [
+static CASES: [(&[&str], &str); 68] = [
     // Commands.
-    (&["draw", "a"], "draw a 40 8 hbdw 50000 none none"),
+    (&["draw", "a"], "draw a 40 8 1 hbdw 50000 none none"),
     (
         &["draw", "a", "--width", "64", "--height", "0"],
-        "draw a 64 0 hbdw 50000 none none",
+        "draw a 64 0 1 hbdw 50000 none none",
     ),
     (
         &["draw", "--order", "width,bends", "a", "--conflicts", "1"],
-        "draw a 40 8 wb 1 none none",
+        "draw a 40 8 1 wb 1 none none",
     ),
     (
         &["draw", "--svg", "--log", "a"],
-        "draw a 40 8 hbdw 50000 --log none",
+        "draw a 40 8 1 hbdw 50000 --log none",
     ),
     (
         &["draw", "--svg", "x", "--log", "y", "-"],
-        "draw - 40 8 hbdw 50000 x y",
+        "draw - 40 8 1 hbdw 50000 x y",
     ),
     (
         &["draw", "-x", "--order", "diagonal,height,width,bends"],
-        "draw -x 40 8 dhwb 50000 none none",
+        "draw -x 40 8 1 dhwb 50000 none none",
+    ),
+    (
+        &["draw", "--least", "16", "a"],
+        "draw a 40 8 16 hbdw 50000 none none",
     ),
     (&["verify", "a", "a"], "verify a a"),
     (&["check", "a", "b", "-"], "check a b -"),
@@ -124,88 +127,73 @@ static CASES: [(&[&str], &str); 64] = [
     (&["make", "4294967295"], "make 4294967295"),
     (
         &["draw", "a", "--conflicts", "200000", "--height", "12"],
-        "draw a 40 12 hbdw 200000 none none",
+        "draw a 40 12 1 hbdw 200000 none none",
     ),
     // The first word.
-    (&[], "words 1 NoCommand 1"),
-    (&["--help"], "words 2 UnknownCommand 1"),
-    (&["--version"], "words 2 UnknownCommand 1"),
-    (&["Draw", "a"], "words 2 UnknownCommand 1"),
-    (&["", "a"], "words 2 UnknownCommand 1"),
-    (&["draw ", "--x"], "words 2 UnknownCommand 1"),
+    (&[], "1 NoCommand 1"),
+    (&["--help"], "2 UnknownCommand 1"),
+    (&["--version"], "2 UnknownCommand 1"),
+    (&["Draw", "a"], "2 UnknownCommand 1"),
+    (&["", "a"], "2 UnknownCommand 1"),
+    (&["draw ", "--x"], "2 UnknownCommand 1"),
     // Names.
-    (&["draw"], "words 3 MissingName 2"),
-    (&["verify", "a"], "words 3 MissingName 3"),
-    (&["check", "a", "b"], "words 3 MissingName 4"),
-    (&["graph"], "words 3 MissingName 2"),
-    (&["make"], "words 3 MissingName 2"),
-    (&["draw", "--width", "4"], "words 3 MissingName 4"),
-    (&["draw", "a", "b"], "words 4 ExtraWord 3"),
-    (&["draw", "a", ""], "words 4 ExtraWord 3"),
-    (&["verify", "a", "b", "c"], "words 4 ExtraWord 4"),
-    (&["check", "a", "b", "c", "d"], "words 4 ExtraWord 5"),
-    (&["make", "1", "2"], "words 4 ExtraWord 3"),
-    (&["draw", ""], "words 7 BadValue 2"),
-    (&["verify", "", "--x"], "words 7 BadValue 2"),
-    (&["check", "a", "", "c"], "words 7 BadValue 3"),
-    (&["make", ""], "words 7 BadValue 2"),
-    (&["make", "007"], "words 7 BadValue 2"),
-    (&["make", "+1"], "words 7 BadValue 2"),
-    (&["make", "-1"], "words 7 BadValue 2"),
-    (&["make", "4294967296"], "words 7 BadValue 2"),
-    (&["make", "x", "y"], "words 7 BadValue 2"),
+    (&["draw"], "3 MissingName 2"),
+    (&["verify", "a"], "3 MissingName 3"),
+    (&["check", "a", "b"], "3 MissingName 4"),
+    (&["graph"], "3 MissingName 2"),
+    (&["make"], "3 MissingName 2"),
+    (&["draw", "--width", "4"], "3 MissingName 4"),
+    (&["draw", "a", "b"], "4 ExtraWord 3"),
+    (&["draw", "a", ""], "4 ExtraWord 3"),
+    (&["verify", "a", "b", "c"], "4 ExtraWord 4"),
+    (&["check", "a", "b", "c", "d"], "4 ExtraWord 5"),
+    (&["make", "1", "2"], "4 ExtraWord 3"),
+    (&["draw", ""], "7 BadValue 2"),
+    (&["verify", "", "--x"], "7 BadValue 2"),
+    (&["check", "a", "", "c"], "7 BadValue 3"),
+    (&["make", ""], "7 BadValue 2"),
+    (&["make", "007"], "7 BadValue 2"),
+    (&["make", "+1"], "7 BadValue 2"),
+    (&["make", "-1"], "7 BadValue 2"),
+    (&["make", "4294967296"], "7 BadValue 2"),
+    (&["make", "x", "y"], "7 BadValue 2"),
     // Options.
-    (&["draw", "a", "--width=4"], "words 5 UnknownOption 3"),
-    (&["draw", "--", "a"], "words 5 UnknownOption 2"),
-    (&["draw", "--Width", "4", "a"], "words 5 UnknownOption 2"),
-    (&["draw", "a", "--x"], "words 5 UnknownOption 3"),
-    (&["draw", "a", "--help"], "words 5 UnknownOption 3"),
-    (&["verify", "a", "--width", "4"], "words 5 UnknownOption 3"),
-    (&["graph", "--svg", "a"], "words 5 UnknownOption 2"),
+    (&["draw", "a", "--width=4"], "5 UnknownOption 3"),
+    (&["draw", "--", "a"], "5 UnknownOption 2"),
+    (&["draw", "--Width", "4", "a"], "5 UnknownOption 2"),
+    (&["draw", "a", "--x"], "5 UnknownOption 3"),
+    (&["draw", "a", "--help"], "5 UnknownOption 3"),
+    (&["verify", "a", "--width", "4"], "5 UnknownOption 3"),
+    (&["graph", "--svg", "a"], "5 UnknownOption 2"),
     (
         &["draw", "a", "--width", "4", "--width", "4"],
-        "words 6 RepeatedOption 5",
+        "6 RepeatedOption 5",
     ),
-    (
-        &["draw", "a", "--log", "b", "--log"],
-        "words 6 RepeatedOption 5",
-    ),
-    (&["draw", "a", "--log"], "words 7 BadValue 3"),
-    (&["draw", "a", "--svg", ""], "words 7 BadValue 4"),
-    (&["draw", "a", "--width", "0"], "words 7 BadValue 4"),
-    (&["draw", "a", "--width", "65"], "words 7 BadValue 4"),
-    (&["draw", "a", "--height", "13"], "words 7 BadValue 4"),
-    (&["draw", "a", "--height", "08"], "words 7 BadValue 4"),
-    (&["draw", "a", "--conflicts", "0"], "words 7 BadValue 4"),
-    (
-        &["draw", "a", "--conflicts", "200001"],
-        "words 7 BadValue 4",
-    ),
+    (&["draw", "a", "--log", "b", "--log"], "6 RepeatedOption 5"),
+    (&["draw", "a", "--log"], "7 BadValue 3"),
+    (&["draw", "a", "--svg", ""], "7 BadValue 4"),
+    (&["draw", "a", "--width", "0"], "7 BadValue 4"),
+    (&["draw", "a", "--width", "65"], "7 BadValue 4"),
+    (&["draw", "a", "--height", "13"], "7 BadValue 4"),
+    (&["draw", "a", "--height", "08"], "7 BadValue 4"),
+    (&["draw", "a", "--least", "0"], "7 BadValue 4"),
+    (&["draw", "a", "--least", "17"], "7 BadValue 4"),
+    (&["draw", "a", "--least", "+1"], "7 BadValue 4"),
+    (&["draw", "a", "--conflicts", "0"], "7 BadValue 4"),
+    (&["draw", "a", "--conflicts", "200001"], "7 BadValue 4"),
     (
         &["draw", "loop.xml", "--order", "bends,bends"],
-        "words 7 BadValue 4",
+        "7 BadValue 4",
     ),
-    (&["draw", "a", "--order", ""], "words 7 BadValue 4"),
-    (&["draw", "a", "--order", "height,"], "words 7 BadValue 4"),
-    (
-        &["draw", "a", "--order", "height bends"],
-        "words 7 BadValue 4",
-    ),
+    (&["draw", "a", "--order", ""], "7 BadValue 4"),
+    (&["draw", "a", "--order", "height,"], "7 BadValue 4"),
+    (&["draw", "a", "--order", "height bends"], "7 BadValue 4"),
     // Which fault counts.
-    (
-        &["draw", "--x", "1", "--width", "0"],
-        "words 5 UnknownOption 2",
-    ),
-    (&["draw", "--width", "0", "--x", "1"], "words 7 BadValue 3"),
-    (
-        &["draw", "one.xml", "--log", "one.xml"],
-        "words 7 BadValue 4",
-    ),
-    (&["draw", "--log", "x", "x"], "words 7 BadValue 4"),
-    (
-        &["draw", "--log", "x", "--svg", "x", "x"],
-        "words 7 BadValue 5",
-    ),
+    (&["draw", "--x", "1", "--width", "0"], "5 UnknownOption 2"),
+    (&["draw", "--width", "0", "--x", "1"], "7 BadValue 3"),
+    (&["draw", "one.xml", "--log", "one.xml"], "7 BadValue 4"),
+    (&["draw", "--log", "x", "x"], "7 BadValue 4"),
+    (&["draw", "--log", "x", "--svg", "x", "x"], "7 BadValue 5"),
 ];
 
 #[test]
@@ -219,13 +207,13 @@ fn words_are_a_command_or_have_the_fault_that_counts(rt: HostRuntime) -> Result<
 }
 
 #[test]
-fn each_fault_has_its_number_and_name(rt: HostRuntime) {
+fn each_fault_has_its_number_and_word(rt: HostRuntime) {
     let cases = [
         (WordWhat::NoCommand, 1, "NoCommand"),
         (WordWhat::BadValue, 7, "BadValue"),
     ];
-    for (what, number, name) in cases {
+    for (what, number, word) in cases {
         assert_eq!(rt; what.number(), number);
-        assert_eq!(rt; what.name(), name);
+        assert_eq!(rt; what.word(), word);
     }
 }

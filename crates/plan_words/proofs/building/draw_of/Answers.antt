@@ -1,6 +1,6 @@
 use Rattle.plan_words.specs.declared.command.CommandWord.TheVariants.{Draw}
 use Rattle.plan_words.specs.declared.option_values.OptionWord.TheVariants.{Conflicts}
-use Rattle.plan_words.specs.Arguments.{names_in}
+use Rattle.plan_words.specs.Arguments.{argument_names}
 use Rattle.plan_words.proofs.SoundLemmas.{names_most}
 use Rattle.plan_words.proofs.PartLemmas.{given_is_taken, one_name}
 use Rattle.plan_words.proofs.building.draw_of.Goals as goal
@@ -10,9 +10,10 @@ number_given-requires c = given_is_taken Draw c.args.arguments.now Conflicts c.r
 
 pub returns-clause-parts : goal.returns-clause-parts
 returns-clause-parts c = record {
-  names = one_name (names_in c.args.arguments.now) c.in_ok-name_copy.field-0 (names_most Draw c.args.arguments.now c.requires.sound) c.in_ok-name_copy.ensures;
+  names = one_name (argument_names c.args.arguments.now) c.in_ok-name_copy.field-0 (names_most Draw c.args.arguments.now c.requires.sound) c.in_ok-name_copy.ensures;
   width = c.grid_given.ensures.width;
   height = c.grid_given.ensures.height;
+  least = c.grid_given.ensures.least;
   criteria = c.order_given.ensures;
   conflicts = c.number_given.ensures;
   svg_name = c.in_ok-file_given.ensures;
