@@ -1,5 +1,5 @@
 -- The range of an integer, and its variables.
-use Rattle.std.specs.Prelude.{◌≤◌, ℕ, ◌+◌, ◌-◌}
+use Rattle.std.specs.Prelude.{◌≤◌, ◌<◌, ℕ, ◌+◌, ◌-◌}
 use Rattle.cnf_core.specs.declared.limits.TheConstants.{VARS}
 
 -- variable first + k says "at least low + k + 1"
@@ -25,3 +25,7 @@ pub record IsInt (i : IntVars) : Type 0 where
 pub record IntIsThere (vars : ℕ) (i : IntVars) : Type 0 where
   pub from : 1 ≤ i.first
   pub to : i.first + size i ≤ vars + 1
+
+-- the same of its variables alone: an integer of one number has none
+abbrev pub IntIsIn : ℕ → IntVars → Type 0
+IntIsIn vars i = 0 < size i → i.first + size i ≤ vars + 1

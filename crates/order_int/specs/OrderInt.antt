@@ -1,5 +1,5 @@
 -- Integers in order encoding: each variable says whether the integer is at least some number.
-use Rattle.std.specs.Prelude.{◌≡◌, ◌≤◌, ℕ, ◌+◌, ◌-◌, cond, nat_le, nat_lt, zero, suc, List, [], ◌∷◌, ◌++◌}
+use Rattle.std.specs.Prelude.{◌≡◌, ◌≤◌, ℕ, ◌+◌, ◌-◌, min, cond, nat_le, nat_lt, zero, suc, List, [], ◌∷◌, ◌++◌}
 use Rattle.cnf_core.specs.declared.literal.LitOrTruth.{LitOrTruth}
 use Rattle.cnf_core.specs.declared.literal.LitOrTruth.TheVariants.{True, False}
 use Rattle.cnf_core.specs.Lit.{Literal, positive_of, negative_of}
@@ -45,9 +45,14 @@ number v i = i.low + leading v i.first (size i)
 abbrev pub le_clause : IntVars → IntVars → ℕ → List Literal → ℕ → Clauses
 le_clause a b plus unless k = clause_of unless (flip (at_least a k) ∷ at_least b (k + plus) ∷ [])
 
--- one of unless is true, or a + plus is at most b: a clause for each number of a's range
+-- how many of a's numbers, from the least on, there are up to the first that with plus is above b's
+-- greatest: what its clause says of it holds of all after it
+abbrev pub le_count : IntVars → IntVars → ℕ → ℕ
+le_count a b plus = min (size a) (b.high + 1 - (a.low + plus)) + 1
+
+-- one of unless is true, or a + plus is at most b: a clause for each of these numbers
 abbrev pub le_clauses : IntVars → IntVars → ℕ → List Literal → Clauses
-le_clauses a b plus unless = each (le_clause a b plus unless) a.low (size a + 1)
+le_clauses a b plus unless = each (le_clause a b plus unless) a.low (le_count a b plus)
 
 -- one of unless is true, or a equals b
 abbrev pub equal_clauses : IntVars → IntVars → List Literal → Clauses

@@ -6,7 +6,7 @@ ghost use Rattle.cnf_core.specs.Assignment.{Assignment, SatisfiesAll, SameOutsid
 ghost use Rattle.cnf_core.specs.Formula.{each};
 ghost use Rattle.cnf_core.specs.Added.{AddsClauses, AddsBlock};
 ghost use Rattle.cnf_core.specs.Truths.{assignment};
-ghost use Rattle.order_int.specs.IntVars.{int_vars, size, IntIsThere};
+ghost use Rattle.order_int.specs.IntVars.{int_vars, size, IntIsThere, IntIsIn};
 ghost use Rattle.order_int.specs.OrderInt.{at_least as at_least_of, link, chain, int_clauses, Reads, number};
 
 use cnf_core::{CnfFault, Formula, Lit, LitOrTruth, Truths, Var};
@@ -49,7 +49,7 @@ impl OrderInt {
 
     /// The number of the integer in a model of its clauses.
     pub fn value_of(&self, m: &Truths) -> u32
-        requires there { IntIsThere (length m.now) self.now }
+        requires there { IntIsIn (length m.now) self.now }
         requires model { SatisfiesAll (assignment m.now) (int_clauses self.now) }
         ensures { Reads (assignment m.now) self.now result }
     {
@@ -65,7 +65,7 @@ impl OrderInt {
     pub fn put(&self, value: u32, m: &mut Truths)
         requires low { self.now.low ≤ value }
         requires high { value ≤ self.now.high }
-        requires there { IntIsThere (length m.old) self.now }
+        requires there { IntIsIn (length m.old) self.now }
         ensures reads { Reads (assignment m.new) self.now value }
         ensures model { SatisfiesAll (assignment m.new) (int_clauses self.now) }
         ensures same { SameOutside self.now.first (size self.now) (assignment m.old) (assignment m.new) }
@@ -102,6 +102,15 @@ fn make_int(f: &mut Formula, low: u32, high: u32) -> Result<OrderInt, CnfFault>
     let first = f.new_vars(high - low)?;
     add_chain(f, first.0, high - low)?;
     Ok(OrderInt { low, high, first })
+}
+
+/// Adds the clauses that give one number to an integer whose variables are there.
+pub fn add_int(f: &mut Formula, i: &OrderInt) -> Result<(), CnfFault>
+    requires limit { f.old.vars ≤ VARS }
+    requires there { IntIsThere f.old.vars i.now }
+    ensures { AddsClauses result f.old f.new (int_clauses i.now) 2 }
+{
+    add_chain(f, i.first.0, i.high - i.low)
 }
 
 /// Makes each of the n variables from first on true only where the one before it is.

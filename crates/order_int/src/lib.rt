@@ -1,7 +1,7 @@
 //! Integers as variables of a formula, in order encoding: each variable says "at least k".
 //!
 //! `OrderInt` is a range and its variables; `new_int` makes one with the clauses that give it one
-//! number in each model, `at_least` is the literal of a number, `value_of` reads the number in a
+//! number in each model, and `add_int` adds these clauses where the variables are there; `at_least` is the literal of a number, `value_of` reads the number in a
 //! model and `put` writes it. `less_equal` and `equal` add the clauses of an order, with a distance
 //! and with literals of which one may be true instead. `specs/` has the definitions: `IntVars` (a
 //! range and its variables) and `OrderInt` (the clauses, and `Reads`: an assignment gives the
@@ -14,7 +14,7 @@ mod integer;
 mod laws;
 mod orders;
 
-pub use integer::{OrderInt, new_int};
+pub use integer::{OrderInt, add_int, new_int};
 pub use laws::{clauses_give_a_number, one_number, one_setting, other_variables_are_free};
 pub use orders::{equal, less_equal};
 

@@ -5,12 +5,13 @@ ghost use Rattle.cnf_core.specs.Clause.{AreThere, words_of};
 ghost use Rattle.cnf_core.specs.Assignment.{Assignment, Satisfies, SatisfiesAll};
 ghost use Rattle.cnf_core.specs.Added.{AddsClauses};
 ghost use Rattle.order_int.specs.IntVars.{IntIsThere};
-ghost use Rattle.order_int.specs.OrderInt.{Reads, le_clause, le_clauses, equal_clauses};
+ghost use Rattle.order_int.specs.OrderInt.{Reads, le_clause, le_count, le_clauses, equal_clauses};
 
 use crate::OrderInt;
 use cnf_core::{CnfFault, Formula, Lit};
 
-/// Says that one of `unless` is true, or `a + plus` is at most `b`.
+/// Says that one of `unless` is true, or `a + plus` is at most `b`. The clauses end with the first
+/// number of `a` that with `plus` is above all of `b`.
 pub fn less_equal(
     f: &mut Formula,
     a: &OrderInt,
@@ -30,7 +31,18 @@ pub fn less_equal(
     add_order(f, a, b, plus, unless)
 }
 
-/// A clause for each number of a's range.
+/// How many of a's numbers, from the least on, there are up to the first that with plus is above b's
+/// greatest.
+fn count_of(a: &OrderInt, b: &OrderInt, plus: u32) -> u32
+    requires plus { plus ≤ 65535 }
+    ensures count { result ≡ le_count a.now b.now plus }
+    ensures small { a.now.low + result ≤ 65536 }
+{
+    let left = (b.high + 1).saturating_sub(a.low + plus);
+    (a.high - a.low).min(left) + 1
+}
+
+/// A clause for each of these numbers of a's range.
 fn add_order(
     f: &mut Formula,
     a: &OrderInt,
@@ -44,7 +56,7 @@ fn add_order(
     requires plus { plus ≤ 65535 }
     ensures { AddsClauses result f.old f.new (le_clauses a.now b.now plus unless.now) (length unless.now + 2) }
 {
-    let end = a.low + (a.high - a.low + 1);
+    let end = a.low + count_of(a, b, plus);
     for k in a.low..end {
         add_le_clause(f, a, b, plus, unless, k)?;
     }
