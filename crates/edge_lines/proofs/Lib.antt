@@ -1,0 +1,12 @@
+pub mod TrackLemmas
+pub mod ShapeLemmas
+pub mod LineTrackLemmas
+pub mod RunLemmas
+pub mod LineHeights
+pub mod UniqueLemmas
+pub mod StepLemmas
+pub mod BendLemmas
+pub mod DiagonalSteps
+pub mod GridLemmas
+pub mod CodeLemmas
+pub mod TraceLemmas

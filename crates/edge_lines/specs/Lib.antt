@@ -1,0 +1,3 @@
+pub mod Track
+pub mod Columns
+pub mod Joins
