@@ -1,5 +1,5 @@
 -- From what the parts of `build` give to what it gives.
-use Rattle.std.proofs.Common.{◌≡◌, ℕ, ◌<◌, ◌≤◌, List, length, map, get_or, Some, ◌∙◌, subst, arith}
+use Rattle.std.proofs.Common.{◌≡◌, ◌⊎◌, ℕ, ◌<◌, ◌≤◌, List, length, map, get_or, Some, ◌∙◌, subst, arith}
 use Rattle.std.specs.Prelude.{All}
 use Rattle.std.specs.List.Sorted.{IsPermutation, IsNonDecreasingBy}
 use Rattle.std.proofs.lemmas.List.{length-map}
@@ -12,11 +12,12 @@ use Rattle.port_graph.specs.declared.sites.Site.{Site}
 use Rattle.port_graph.specs.declared.rows.EdgeRow.{EdgeRow}
 use Rattle.port_graph.specs.declared.rows.NodeRow.{NodeRow}
 use Rattle.port_graph.specs.declared.fault.GraphFault.{GraphFault}
+use Rattle.port_graph.specs.declared.fault.GraphFault.TheVariants.{Memory}
 use Rattle.port_graph.specs.Plain.{plain_edge, plain_node, plain_graph}
 use Rattle.port_graph.specs.StationGraph.{IsStationGraph}
 use Rattle.port_graph.specs.Sides.{edges_met}
 use Rattle.port_graph.specs.Sites.{sites}
-use Rattle.port_graph.specs.TopologyGraph.{edge_of, edge_among, IsForward, AllForward, IsGraphOf, IsGraphFault, HasFewNodes, HasFewEdges}
+use Rattle.port_graph.specs.TopologyGraph.{edge_of, edge_among, IsForward, AllForward, IsGraphOf, IsStationGraphOf, IsGraphFault, HasFewNodes, HasFewEdges}
 use Rattle.port_graph.specs.Ordered.{AreRunsOf, IsMismatchFault, nodes_among}
 use Rattle.port_graph.proofs.GraphLemmas.{AreInOrder, edges_made, sites_in_order, are_edges, all_forward, is_graph, site_there, mismatch_fault}
 use Rattle.port_graph.proofs.StationLemmas.{is_station}
@@ -58,7 +59,7 @@ met_in_order t runs edges ss laid i d within j f there =
     let found : e < length (map plain_edge edges) = edge_within t (map plain_edge edges) e run.run (are_edges t runs (map plain_edge edges) laid.in_order laid.made) run.numbered in
     omega (arith, length-map edges plain_edge)
 
-pub laid_mismatch : (t : Topology) (runs : List Run) (edges : List EdgeRow) (ss : List Site) (fault : GraphFault) → IsLaidOut t runs edges ss → IsMismatchFault (map plain_edge edges) ss fault → IsGraphFault t fault
+pub laid_mismatch : (t : Topology) (runs : List Run) (edges : List EdgeRow) (ss : List Site) (fault : GraphFault) → IsLaidOut t runs edges ss → IsMismatchFault (map plain_edge edges) ss fault → (fault ≡ Memory) ⊎ IsGraphFault t fault
 laid_mismatch t runs edges ss fault laid h =
     mismatch_fault t (map plain_edge edges) ss fault laid.resolved laid.few_nodes laid.few_edges laid.forward (are_edges t runs (map plain_edge edges) laid.in_order laid.made) laid.sites h
 
@@ -70,3 +71,6 @@ pub laid_station : (t : Topology) (runs : List Run) (edges : List EdgeRow) (ss :
 laid_station t runs edges ss nodes laid all =
     is_station t runs ss (plain_graph nodes edges) laid.resolved laid.few_nodes laid.few_edges laid.in_order laid.sites laid.made all
     (track_graph t (plain_graph nodes edges) laid.resolved laid.forward (laid_graph t runs edges ss nodes laid all))
+
+pub laid_station_graph : (t : Topology) (runs : List Run) (edges : List EdgeRow) (ss : List Site) (nodes : List NodeRow) → IsLaidOut t runs edges ss → map Some (map plain_node nodes) ≡ nodes_among (map plain_edge edges) ss → IsStationGraphOf t (plain_graph nodes edges)
+laid_station_graph t runs edges ss nodes laid all = record { graph = laid_graph t runs edges ss nodes laid all; station = laid_station t runs edges ss nodes laid all }

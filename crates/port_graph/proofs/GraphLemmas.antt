@@ -1,5 +1,5 @@
 -- From the lists in order to the track graph of the topology, or its fault.
-use Rattle.std.proofs.Common.{◌≡◌, ◌≢◌, ℕ, zero, suc, ◌+◌, List, [], ◌∷◌, length, map, Some, None, sym, ap, ◌∙◌, subst, arith, add-zero, zero-add}
+use Rattle.std.proofs.Common.{◌≡◌, ◌⊎◌, inl, inr, ◌≢◌, ℕ, zero, suc, ◌+◌, List, [], ◌∷◌, length, map, Some, None, refl, sym, ap, ◌∙◌, subst, arith, add-zero, zero-add}
 use Rattle.std.specs.Prelude.{Option, slice_get, All, AllPairs, Contains}
 use Rattle.std.specs.Option.{option_map}
 use Rattle.std.specs.List.{enumerate_from}
@@ -39,8 +39,8 @@ all_forward t runs in_order forward e r run =
     subst IsForward (get_or_from_slice_get runs e r r at) (forward e r (slice_get_within runs e r at))
 
 -- the fault of runs in order is that of the topology
-pub level_fault : (t : Topology) (runs : List Run) (fault : GraphFault) → AreRunsOf t runs → HasFewNodes t → HasFewEdges t → IsLevelFault runs fault → IsGraphFault t fault
-level_fault t runs (NotForward edge track mileage) in_order nodes edges (r, level, named, at) = (
+pub level_fault : (t : Topology) (runs : List Run) (fault : GraphFault) → AreRunsOf t runs → HasFewNodes t → HasFewEdges t → IsLevelFault runs fault → (fault ≡ Memory) ⊎ IsGraphFault t fault
+level_fault t runs (NotForward edge track mileage) in_order nodes edges (r, level, named, at) = inr (
   nodes,
   edges,
   record {
@@ -52,7 +52,7 @@ level_fault t runs (NotForward edge track mileage) in_order nodes edges (r, leve
     before = λ f q less run. level.before f q less (in_order.each f q run);
   },
 )
-level_fault t runs Memory in_order nodes edges h = h
+level_fault t runs Memory in_order nodes edges h = inl refl
 level_fault t runs (TooManyNodes n) in_order nodes edges h = absurd h
 level_fault t runs (TooManyEdges n) in_order nodes edges h = absurd h
 level_fault t runs (SideMismatch n name) in_order nodes edges h = absurd h
@@ -84,8 +84,8 @@ pub site_there : (t : Topology) (ss : List Site) → AreInOrder t ss → (n : �
 site_there t ss order n s is = Contains-permutation ss (sites t) s (IsPermutation-sym (sites t) ss order.same) (contained ss n s is)
 
 -- the fault of sites in order is that of the topology
-pub mismatch_fault : (t : Topology) (edges : List Edge) (ss : List Site) (fault : GraphFault) → IsResolved t → HasFewNodes t → HasFewEdges t → AllForward t → AreEdgesOf t edges → AreInOrder t ss → IsMismatchFault edges ss fault → IsGraphFault t fault
-mismatch_fault t edges ss (SideMismatch n name) resolved nodes few forward built order (s, mismatch, named) = (
+pub mismatch_fault : (t : Topology) (edges : List Edge) (ss : List Site) (fault : GraphFault) → IsResolved t → HasFewNodes t → HasFewEdges t → AllForward t → AreEdgesOf t edges → AreInOrder t ss → IsMismatchFault edges ss fault → (fault ≡ Memory) ⊎ IsGraphFault t fault
+mismatch_fault t edges ss (SideMismatch n name) resolved nodes few forward built order (s, mismatch, named) = inr (
   nodes,
   few,
   forward,
@@ -100,7 +100,7 @@ mismatch_fault t edges ss (SideMismatch n name) resolved nodes few forward built
     before = λ r there less. mismatch.before (node_number t r.spot.at) r less (site_place t ss resolved order r there);
   },
 )
-mismatch_fault t edges ss Memory resolved nodes few forward built order h = h
+mismatch_fault t edges ss Memory resolved nodes few forward built order h = inl refl
 mismatch_fault t edges ss (TooManyNodes n) resolved nodes few forward built order h = absurd h
 mismatch_fault t edges ss (TooManyEdges n) resolved nodes few forward built order h = absurd h
 mismatch_fault t edges ss (NotForward edge track mileage) resolved nodes few forward built order h = absurd h

@@ -1,6 +1,6 @@
 -- A topology has one track graph or one fault.
-use Rattle.std.proofs.Common.{◌≡◌, ◌≢◌, ℕ, suc, ◌<◌, ◌≤◌, ℤ, List, [], ◌∷◌, length, Option, Some, None, refl, sym, ap, ◌∙◌, subst, inl, inr, arith}
-use Rattle.std.specs.Prelude.{slice_get, IsSome}
+use Rattle.std.proofs.Common.{◌≡◌, ◌≢◌, ℕ, suc, ◌<◌, ◌≤◌, ℤ, List, [], ◌∷◌, length, Option, Some, None, Result, ◌⊎◌, refl, sym, ap, ◌∙◌, subst, inl, inr, arith}
+use Rattle.std.specs.Prelude.{slice_get, IsSome, IfOk, IfErr}
 use Rattle.std.proofs.lemmas.Bool.{cases_order, cases_eq, false≢true}
 use Rattle.std.proofs.lemmas.Option.{slice_get-get_or, slice_get_within}
 use Rattle.plan_core.specs.declared.topology.Topology.{Topology}
@@ -14,8 +14,9 @@ use Rattle.port_graph.specs.declared.sites.Site.{Site}
 use Rattle.port_graph.specs.PortRule.{ports_of}
 use Rattle.port_graph.specs.Runs.{pieces, joins, join_number}
 use Rattle.port_graph.specs.Sites.{sites, node_number}
-use Rattle.port_graph.specs.StationGraph.{IsStationGraph}
-use Rattle.port_graph.specs.TopologyGraph.{IsRun, AreEdgesOf, side_at, IsNodeOf, IsGraphOf, IsFirstLevel, IsFirstMismatch, IsGraphFault}
+use Rattle.port_graph.specs.TopologyGraph.{IsRun, AreEdgesOf, side_at, IsNodeOf, IsGraphOf, IsStationGraphOf, IsFirstLevel, IsFirstMismatch, IsGraphFault}
+use Rattle.plan_core.specs.Exactly.{AnswersExactly}
+use Rattle.plan_core.proofs.ExactlyLemmas.{answers_exactly}
 use Rattle.port_graph.proofs.Membership.{In, contains_in, in_contains, at_in, some_same, not_some, pairs_at}
 use Rattle.port_graph.proofs.RankLemmas.{one_rank}
 use Rattle.port_graph.proofs.TrackGraphLemmas.{join_places_differ, numbered_run, numbered_site, length-pieces}
@@ -76,17 +77,17 @@ mismatch_beside t g n name resolved is fault =
     (ap (λ (l : List Edge). ports_of (side_at l n) fault.site.meets) edges
     ∙ ap (λ (k : ℕ). ports_of (side_at g.edges k) fault.site.meets) (sym fault.numbered) ∙ ports)
 
-pub graph_or_fault : (t : Topology) (g : Graph) (fault : GraphFault) → IsResolved t → IsStationGraph g → IsGraphOf t g → IsGraphFault t fault → fault ≡ Memory
-graph_or_fault t g (TooManyNodes n) resolved station is fault =
-    let many = fault.0 in let count = is.count in let few = station.few_nodes in
-    absurd (omega (arith, many, fault.1, count, few))
-graph_or_fault t g (TooManyEdges n) resolved station is fault =
-    let many = fault.1 in let count = is.edges.count in let few = station.few_edges in
-    absurd (omega (arith, many, fault.2, count, few))
-graph_or_fault t g (NotForward e track mileage) resolved station is fault =
-    absurd (all_forward_of t g resolved is station.track_graph e.0 fault.2.run fault.2.numbered (fault.2.from ∙ sym fault.2.to))
-graph_or_fault t g (SideMismatch n name) resolved station is fault = absurd (mismatch_beside t g n.0 name resolved is fault.3)
-graph_or_fault t g Memory resolved station is fault = refl
+pub graph_or_fault : (t : Topology) (g : Graph) (fault : GraphFault) → IsResolved t → IsStationGraphOf t g → IsGraphFault t fault → ⊥
+graph_or_fault t g (TooManyNodes n) resolved is fault =
+    let many = fault.0 in let count = is.graph.count in let few = is.station.few_nodes in
+    omega (arith, many, fault.1, count, few)
+graph_or_fault t g (TooManyEdges n) resolved is fault =
+    let many = fault.1 in let count = is.graph.edges.count in let few = is.station.few_edges in
+    omega (arith, many, fault.2, count, few)
+graph_or_fault t g (NotForward e track mileage) resolved is fault =
+    all_forward_of t g resolved is.graph is.station.track_graph e.0 fault.2.run fault.2.numbered (fault.2.from ∙ sym fault.2.to)
+graph_or_fault t g (SideMismatch n name) resolved is fault = mismatch_beside t g n.0 name resolved is.graph fault.3
+graph_or_fault t g Memory resolved is fault = fault
 
 -- ---- one fault
 
@@ -156,30 +157,38 @@ one_mismatch t n n' name name' resolved is is' =
     let place : is.site.spot.at ≡ is'.site.spot.at = one_rank (λ (s : Site). s.spot.at) (sites t) is.site is'.site there there' (is.numbered ∙ same ∙ sym is'.numbered) in
     (same, is.named ∙ ap (λ (s : Site). s.id) (one_site t resolved is.site is'.site there there' place) ∙ sym is'.named)
 
-pub one_fault : (t : Topology) (f f' : GraphFault) → IsResolved t → IsGraphFault t f → IsGraphFault t f' → f ≢ Memory → f' ≢ Memory → f ≡ f'
-one_fault t (TooManyNodes n) (TooManyNodes n') resolved is is' a b = ap TooManyNodes (is.0 ∙ sym is'.0)
-one_fault t (TooManyNodes n) (TooManyEdges n') resolved is is' a b = let p = is.0 in absurd (omega (arith, p, is.1, is'.0))
-one_fault t (TooManyNodes n) (NotForward e track m) resolved is is' a b = let p = is.0 in absurd (omega (arith, p, is.1, is'.0))
-one_fault t (TooManyNodes n) (SideMismatch k name) resolved is is' a b = let p = is.0 in absurd (omega (arith, p, is.1, is'.0))
-one_fault t (TooManyEdges n) (TooManyNodes n') resolved is is' a b = let p = is'.0 in absurd (omega (arith, p, is'.1, is.0))
-one_fault t (TooManyEdges n) (TooManyEdges n') resolved is is' a b = ap TooManyEdges (is.1 ∙ sym is'.1)
-one_fault t (TooManyEdges n) (NotForward e track m) resolved is is' a b = let p = is.1 in absurd (omega (arith, p, is.2, is'.1))
-one_fault t (TooManyEdges n) (SideMismatch k name) resolved is is' a b = let p = is.1 in absurd (omega (arith, p, is.2, is'.1))
-one_fault t (NotForward e track m) (TooManyNodes n') resolved is is' a b = let p = is'.0 in absurd (omega (arith, p, is'.1, is.0))
-one_fault t (NotForward e track m) (TooManyEdges n') resolved is is' a b = let p = is'.1 in absurd (omega (arith, p, is'.2, is.1))
-one_fault t (NotForward e track m) (NotForward e' track' m') resolved is is' a b =
+pub one_fault : (t : Topology) (f f' : GraphFault) → IsResolved t → IsGraphFault t f → IsGraphFault t f' → f ≡ f'
+one_fault t (TooManyNodes n) (TooManyNodes n') resolved is is' = ap TooManyNodes (is.0 ∙ sym is'.0)
+one_fault t (TooManyNodes n) (TooManyEdges n') resolved is is' = let p = is.0 in absurd (omega (arith, p, is.1, is'.0))
+one_fault t (TooManyNodes n) (NotForward e track m) resolved is is' = let p = is.0 in absurd (omega (arith, p, is.1, is'.0))
+one_fault t (TooManyNodes n) (SideMismatch k name) resolved is is' = let p = is.0 in absurd (omega (arith, p, is.1, is'.0))
+one_fault t (TooManyEdges n) (TooManyNodes n') resolved is is' = let p = is'.0 in absurd (omega (arith, p, is'.1, is.0))
+one_fault t (TooManyEdges n) (TooManyEdges n') resolved is is' = ap TooManyEdges (is.1 ∙ sym is'.1)
+one_fault t (TooManyEdges n) (NotForward e track m) resolved is is' = let p = is.1 in absurd (omega (arith, p, is.2, is'.1))
+one_fault t (TooManyEdges n) (SideMismatch k name) resolved is is' = let p = is.1 in absurd (omega (arith, p, is.2, is'.1))
+one_fault t (NotForward e track m) (TooManyNodes n') resolved is is' = let p = is'.0 in absurd (omega (arith, p, is'.1, is.0))
+one_fault t (NotForward e track m) (TooManyEdges n') resolved is is' = let p = is'.1 in absurd (omega (arith, p, is'.2, is.1))
+one_fault t (NotForward e track m) (NotForward e' track' m') resolved is is' =
     let one = one_level t e.0 e'.0 track track' m.0 m'.0 resolved is.2 is'.2 in
     let F : ℕ → List ℕ → ℤ → GraphFault = λ e track m. NotForward (record { 0 = e }) track (record { 0 = m }) in
     ap (λ (x : ℕ). F x track m.0) one.0 ∙ ap (λ (x : List ℕ). F e'.0 x m.0) one.1 ∙ ap (F e'.0 track') one.2
-one_fault t (NotForward e track m) (SideMismatch k name) resolved is is' a b =
+one_fault t (NotForward e track m) (SideMismatch k name) resolved is is' =
     absurd (is'.2 e.0 is.2.run is.2.numbered (is.2.from ∙ sym is.2.to))
-one_fault t (SideMismatch k name) (TooManyNodes n') resolved is is' a b = let p = is'.0 in absurd (omega (arith, p, is'.1, is.0))
-one_fault t (SideMismatch k name) (TooManyEdges n') resolved is is' a b = let p = is'.1 in absurd (omega (arith, p, is'.2, is.1))
-one_fault t (SideMismatch k name) (NotForward e track m) resolved is is' a b =
+one_fault t (SideMismatch k name) (TooManyNodes n') resolved is is' = let p = is'.0 in absurd (omega (arith, p, is'.1, is.0))
+one_fault t (SideMismatch k name) (TooManyEdges n') resolved is is' = let p = is'.1 in absurd (omega (arith, p, is'.2, is.1))
+one_fault t (SideMismatch k name) (NotForward e track m) resolved is is' =
     absurd (is.2 e.0 is'.2.run is'.2.numbered (is'.2.from ∙ sym is'.2.to))
-one_fault t (SideMismatch k name) (SideMismatch k' name') resolved is is' a b =
+one_fault t (SideMismatch k name) (SideMismatch k' name') resolved is is' =
     let one = one_mismatch t k.0 k'.0 name name' resolved is.3 is'.3 in
     let F : ℕ → List ℕ → GraphFault = λ n name. SideMismatch (record { 0 = n }) name in
     ap (λ (x : ℕ). F x name) one.0 ∙ ap (F k'.0) one.1
-one_fault t Memory f' resolved is is' a b = absurd (a refl)
-one_fault t f Memory resolved is is' a b = absurd (b refl)
+one_fault t Memory f' resolved is is' = absurd is
+one_fault t f Memory resolved is is' = absurd is'
+
+-- ---- what is answered
+
+-- of a result that is the graph, a fault or want of memory
+pub graph_exactly : (t : Topology) (result : Result Graph GraphFault) → IsResolved t → IfOk result (IsStationGraphOf t) → IfErr result (λ fault. (fault ≡ Memory) ⊎ IsGraphFault t fault) → AnswersExactly result Memory (IsStationGraphOf t) (IsGraphFault t)
+graph_exactly t result resolved value fault =
+    answers_exactly result Memory (IsStationGraphOf t) (IsGraphFault t) value fault
+    (λ g h is is'. one_graph t g h resolved is.graph is'.graph) (λ f f' is is'. one_fault t f f' resolved is is') (λ g f is is'. graph_or_fault t g f resolved is is')

@@ -211,12 +211,11 @@ joins_sound t is =
 
 abbrev pub resolved_test : Topology → Bool
 resolved_test t =
-    nat_le (length t.tracks) 128
-    && (nat_lt (length (elements t)) (2 ^ 32)
+    nat_lt (length (elements t)) (2 ^ 32)
     && (list_all (λ (e : Element). id_test e.id) (elements t)
     && (apart_test (λ (d e : Element). bytes_eq d.id e.id) (elements t)
     && (apart_test (λ (d e : Element). eqb d.at e.at) (elements t)
-    && (both_ways_test t && list_all mile_test (flat_map track_miles t.tracks))))))
+    && (both_ways_test t && list_all mile_test (flat_map track_miles t.tracks)))))
 
 other_texts : (a b : List ℕ) → bytes_eq a b ≡ false → a ≢ b
 other_texts a b is same = false≢true (sym is ∙ (bytes_eq-Decides a b).1 same)
@@ -226,14 +225,12 @@ other_numbers a b is same = false≢true (sym is ∙ eq-eqb a b same)
 
 pub resolved_by_test : (t : Topology) → resolved_test t ≡ true → IsResolved t
 resolved_by_test t is =
-    let a = and_parts (nat_le (length t.tracks) 128) _ is in
-    let b = and_parts (nat_lt (length (elements t)) (2 ^ 32)) _ a.1 in
+    let b = and_parts (nat_lt (length (elements t)) (2 ^ 32)) _ is in
     let c = and_parts (list_all (λ (e : Element). id_test e.id) (elements t)) _ b.1 in
     let d = and_parts (apart_test (λ (d e : Element). bytes_eq d.id e.id) (elements t)) _ c.1 in
     let e = and_parts (apart_test (λ (d e : Element). eqb d.at e.at) (elements t)) _ d.1 in
     let f = and_parts (both_ways_test t) _ e.1 in
     record {
-      tracks = leb-true (length t.tracks) 128 a.0;
       few = ltb-true (length (elements t)) (2 ^ 32) b.0;
       ids = All-weaker (λ (x : Element). id_test x.id ≡ true) (λ (x : Element). IsId x.id) (λ x. id_sound x.id) (elements t) (AllPass-from_list_all _ (elements t) c.0);
       ids_differ = pairs_weaker _ (λ (x y : Element). x.id ≢ y.id) (elements t) (λ x y. other_texts x.id y.id) (apart_sound (λ (x y : Element). bytes_eq x.id y.id) (elements t) d.0);

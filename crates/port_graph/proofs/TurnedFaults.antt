@@ -4,6 +4,7 @@ use Rattle.std.specs.Prelude.{neg_ℤ, slice_get, Contains, IsSome}
 use Rattle.std.specs.Option.{option_map}
 use Rattle.std.proofs.lemmas.List.{length-map}
 use Rattle.std.proofs.lemmas.Option.{slice_get-map}
+use Rattle.plan_core.specs.declared.limits.TheConstants.{MAX_NODES, MAX_EDGES}
 use Rattle.plan_core.specs.declared.topology.Topology.{Topology}
 use Rattle.plan_core.specs.Topology.{IsResolved}
 use Rattle.port_graph.specs.declared.fault.GraphFault.{GraphFault}
@@ -76,9 +77,9 @@ IsFirstMismatch-turned t n name resolved forward is =
 pub IsGraphFault-turned : (t : Topology) (fault : GraphFault) → IsResolved t → IsGraphFault t fault → IsGraphFault (turned_topology t) (turned_fault fault)
 IsGraphFault-turned t (TooManyNodes n) resolved is = (is.0 ∙ sym (length-sites t), is.1)
 IsGraphFault-turned t (TooManyEdges n) resolved is =
-    (subst (λ (k : ℕ). k ≤ 128) (sym (length-sites t)) is.0, is.1 ∙ sym (edge_count-turned t), is.2)
+    (subst (λ (k : ℕ). k ≤ MAX_NODES) (sym (length-sites t)) is.0, is.1 ∙ sym (edge_count-turned t), is.2)
 IsGraphFault-turned t (NotForward e track mileage) resolved is =
-    (subst (λ (k : ℕ). k ≤ 128) (sym (length-sites t)) is.0, subst (λ (k : ℕ). k ≤ 160) (sym (edge_count-turned t)) is.1, IsFirstLevel-turned t e.0 track mileage.0 is.2)
+    (subst (λ (k : ℕ). k ≤ MAX_NODES) (sym (length-sites t)) is.0, subst (λ (k : ℕ). k ≤ MAX_EDGES) (sym (edge_count-turned t)) is.1, IsFirstLevel-turned t e.0 track mileage.0 is.2)
 IsGraphFault-turned t (SideMismatch n name) resolved is =
-    (subst (λ (k : ℕ). k ≤ 128) (sym (length-sites t)) is.0, subst (λ (k : ℕ). k ≤ 160) (sym (edge_count-turned t)) is.1, AllForward-turned t is.2, IsFirstMismatch-turned t n.0 name resolved is.2 is.3)
-IsGraphFault-turned t Memory resolved is = tt
+    (subst (λ (k : ℕ). k ≤ MAX_NODES) (sym (length-sites t)) is.0, subst (λ (k : ℕ). k ≤ MAX_EDGES) (sym (edge_count-turned t)) is.1, AllForward-turned t is.2, IsFirstMismatch-turned t n.0 name resolved is.2 is.3)
+IsGraphFault-turned t Memory resolved is = is

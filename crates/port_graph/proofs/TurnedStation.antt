@@ -9,6 +9,7 @@ use Rattle.std.proofs.lemmas.List.Elements.{All-map, All-weaker}
 use Rattle.std.proofs.lemmas.List.Sorted.{IsPermutation-refl, All-permutation, Contains-permutation}
 use Rattle.plan_core.specs.declared.sides.Compass.{Compass}
 use Rattle.plan_core.specs.declared.sides.Compass.TheVariants.{East, West}
+use Rattle.plan_core.specs.declared.limits.TheConstants.{MAX_NODES, MAX_EDGES}
 use Rattle.plan_core.specs.declared.topology.Topology.{Topology}
 use Rattle.plan_core.specs.declared.topology.Track.{Track}
 use Rattle.plan_core.specs.declared.topology.Inner.{Inner}
@@ -46,7 +47,6 @@ IsMileage-negated m is = (neg_less m farthest is.1, subst (λ (z : ℤ). neg_ℤ
 
 pub IsResolved-turned : (t : Topology) → IsResolved t → IsResolved (turned_topology t)
 IsResolved-turned t resolved = record {
-  tracks = subst (λ (n : ℕ). n ≤ 128) (sym (length-map t.tracks turned_track)) resolved.tracks;
   few = subst (λ (l : List Element). length l < 2 ^ 32) (sym (elements-turned t)) resolved.few;
   ids = subst (λ (l : List Element). All (λ (e : Element). IsId e.id) l) (sym (elements-turned t)) resolved.ids;
   ids_differ = subst (λ (l : List Element). AllPairs (λ (d e : Element). d.id ≢ e.id) l) (sym (elements-turned t)) resolved.ids_differ;
@@ -145,8 +145,8 @@ pairs_map {X} R f xs pairs i j d less within =
 pub IsStationGraph-turned : (g : Graph) → IsStationGraph g → IsStationGraph (turned_graph g)
 IsStationGraph-turned g is = record {
   track_graph = IsTrackGraph-turned g is.track_graph;
-  few_nodes = subst (λ (n : ℕ). n ≤ 128) (sym (length-map g.nodes turned_node)) is.few_nodes;
-  few_edges = subst (λ (n : ℕ). n ≤ 160) (sym (length-map g.edges turned_edge)) is.few_edges;
+  few_nodes = subst (λ (n : ℕ). n ≤ MAX_NODES) (sym (length-map g.nodes turned_node)) is.few_nodes;
+  few_edges = subst (λ (n : ℕ). n ≤ MAX_EDGES) (sym (length-map g.edges turned_edge)) is.few_edges;
   names = All-map (λ (n : Node). IsId n.name) turned_node g.nodes is.names;
   names_differ = pairs_map (λ (m n : Node). m.name ≢ n.name) turned_node g.nodes is.names_differ;
   track_names = All-map (λ (e : Edge). IsId e.track) turned_edge g.edges is.track_names;

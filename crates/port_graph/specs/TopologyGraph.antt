@@ -1,5 +1,6 @@
 -- The track graph of a topology, and why it may have none.
 use Rattle.std.specs.Prelude.{◌≡◌, ◌≢◌, ℕ, ◌≤◌, ◌<◌, ℤ, ◌⊎◌, nat_eq, int_lt, if◌then◌else◌, List, length, Contains, Some, None, IsSome, slice_get, slice_index_or}
+use Rattle.plan_core.specs.declared.limits.TheConstants.{MAX_NODES, MAX_EDGES}
 use Rattle.plan_core.specs.declared.sides.Compass.{Compass}
 use Rattle.plan_core.specs.declared.sides.Compass.TheVariants.{East, West}
 use Rattle.plan_core.specs.declared.topology.Topology.{Topology}
@@ -13,6 +14,7 @@ use Rattle.port_graph.specs.declared.fault.GraphFault.TheVariants.{TooManyNodes,
 use Rattle.port_graph.specs.Runs.{pieces, joins, join_number, edge_count}
 use Rattle.port_graph.specs.Sites.{sites, number_among, node_number}
 use Rattle.port_graph.specs.PortRule.{ports_of}
+use Rattle.port_graph.specs.StationGraph.{IsStationGraph}
 
 -- the two nodes of a run, the one of smaller mileage first
 abbrev pub west_of : Run → Spot
@@ -54,6 +56,11 @@ pub record IsGraphOf (t : Topology) (g : Graph) : Type 0 where
   pub count : length g.nodes ≡ length (sites t)
   pub each : (s : Site) → Contains (sites t) s → IsNodeOf t g s
 
+-- the track graph of a topology that has one
+pub record IsStationGraphOf (t : Topology) (g : Graph) : Type 0 where
+  pub graph : IsGraphOf t g
+  pub station : IsStationGraph g
+
 -- Faults.
 
 abbrev pub IsForward : Run → Type 0
@@ -88,15 +95,15 @@ pub record IsFirstMismatch (t : Topology) (n : ℕ) (name : List ℕ) : Type 0 w
   pub before : (s : Site) → Contains (sites t) s → node_number t s.spot.at < n → Matches t edges s
 
 abbrev pub HasFewNodes : Topology → Type 0
-HasFewNodes t = length (sites t) ≤ 128
+HasFewNodes t = length (sites t) ≤ MAX_NODES
 
 abbrev pub HasFewEdges : Topology → Type 0
-HasFewEdges t = edge_count t ≤ 160
+HasFewEdges t = edge_count t ≤ MAX_EDGES
 
--- the fault holds of the topology, and none before it in the order of their kinds
+-- the fault holds of the topology, and none before it in the order of their kinds; want of memory is no fault of it
 abbrev pub IsGraphFault : Topology → GraphFault → Type 0
-IsGraphFault t (TooManyNodes n) = (n ≡ length (sites t)) × (128 < n)
-IsGraphFault t (TooManyEdges n) = HasFewNodes t × (n ≡ edge_count t) × (160 < n)
+IsGraphFault t (TooManyNodes n) = (n ≡ length (sites t)) × (MAX_NODES < n)
+IsGraphFault t (TooManyEdges n) = HasFewNodes t × (n ≡ edge_count t) × (MAX_EDGES < n)
 IsGraphFault t (NotForward edge track mileage) = HasFewNodes t × HasFewEdges t × IsFirstLevel t edge.0 track mileage.0
 IsGraphFault t (SideMismatch node name) = HasFewNodes t × HasFewEdges t × AllForward t × IsFirstMismatch t node.0 name
-IsGraphFault t Memory = Unit {0}
+IsGraphFault t Memory = ⊥

@@ -1,5 +1,6 @@
 // The columns of a graph's nodes.
 ghost use Rattle.std.specs.Prelude.{◌≡◌, ◌≤◌, ℤ, ◌<ℤ◌, Some, length, slice_get, AllPairs, Contains, IfOk};
+ghost use Rattle.plan_core.specs.declared.limits.TheConstants.{MAX_NODES};
 ghost use Rattle.port_graph.specs.Columns.{rising};
 ghost use Rattle.port_graph.specs.Plain.{miles_of};
 ghost use Rattle.port_graph.specs.Kept.{ArePlaces};
@@ -10,7 +11,7 @@ use std::alloc::Global;
 
 /// The number of columns of nodes, and the column of each.
 pub fn number_columns(alloc: Global, nodes: &[NodeRow]) -> Result<(u16, Vec<ColumnNo>), OutOfMemory>
-    requires { length nodes.now ≤ 128 }
+    requires { length nodes.now ≤ MAX_NODES }
     ensures count { IfOk result (λ r. r.0 ≡ length (rising (miles_of nodes.now))) }
     ensures places { IfOk result (λ r. ArePlaces (rising (miles_of nodes.now)) (miles_of nodes.now) r.1.items) }
 {
@@ -52,7 +53,7 @@ fn column_numbers(
     columns: &[i64],
 ) -> Result<Vec<ColumnNo>, OutOfMemory>
     requires columns { columns.now ≡ rising (miles_of nodes.now) }
-    requires few { length columns.now ≤ 128 }
+    requires few { length columns.now ≤ MAX_NODES }
     ensures { IfOk result (λ c. ArePlaces columns.now (miles_of nodes.now) c.items) }
 {
     let mut numbers = Vec::with_capacity(alloc, nodes.len())?;
@@ -65,7 +66,7 @@ fn column_numbers(
 fn column_number(columns: &[i64], mileage: i64) -> ColumnNo
     requires rise { AllPairs (λ (x y : ℤ). x <ℤ y) columns.now }
     requires there { Contains columns.now mileage }
-    requires few { length columns.now ≤ 128 }
+    requires few { length columns.now ≤ MAX_NODES }
     ensures { slice_get columns.now result.0 ≡ Some mileage }
 {
     match columns.binary_search(&mileage) {

@@ -1,5 +1,6 @@
 // The edges that runs become, or the first run whose nodes have one mileage.
 ghost use Rattle.std.specs.Prelude.{◌≡◌, ◌+◌, ◌<◌, ◌≤◌, ◌^◌, ◌∷◌, ◌++◌, [], List, map, length, All, IfOk, IfErr, OnOk};
+ghost use Rattle.plan_core.specs.declared.limits.TheConstants.{MAX_NODES, MAX_EDGES};
 ghost use Rattle.port_graph.specs.Plain.{plain_edge};
 ghost use Rattle.port_graph.specs.Sites.{number_among};
 ghost use Rattle.port_graph.specs.TopologyGraph.{west_of, east_of, edge_among, IsForward};
@@ -14,7 +15,7 @@ use std::alloc::Global;
 
 /// How many of these nodes stand before a place of the file; there are at most 128.
 fn node_number(sites: &[Site], at: usize) -> NodeNo
-    requires { length sites.now ≤ 128 }
+    requires { length sites.now ≤ MAX_NODES }
     ensures { result.0 ≡ number_among sites.now at }
 {
     NodeNo(sites.iter().filter(|site| site.spot.at < at).count() as u16)
@@ -49,7 +50,7 @@ fn push_edge_row(
     run: &Run,
     rows: &mut Vec<EdgeRow>,
 ) -> Result<(), OutOfMemory>
-    requires { length sites.now ≤ 128 }
+    requires { length sites.now ≤ MAX_NODES }
     ensures { OnOk result (map plain_edge rows.new.items ≡
         map plain_edge rows.old.items ++ edge_among sites.now run.now ∷ []) }
 {
@@ -66,7 +67,7 @@ pub(crate) fn edge_rows(
     sites: &[Site],
     runs: &[Run],
 ) -> Result<Vec<EdgeRow>, OutOfMemory>
-    requires { length sites.now ≤ 128 }
+    requires { length sites.now ≤ MAX_NODES }
     ensures { IfOk result (λ rows. map plain_edge rows.items ≡ map (edge_among sites.now) runs.now) }
 {
     let mut rows = Vec::new(alloc);
@@ -93,7 +94,7 @@ fn level_fault(alloc: Global, run: &Run, number: usize) -> GraphFault
 
 /// That each run's nodes differ in mileage, or the fault of the first of which they don't.
 pub(crate) fn check_forward(alloc: Global, runs: &[Run]) -> Result<(), GraphFault>
-    requires { length runs.now ≤ 160 }
+    requires { length runs.now ≤ MAX_EDGES }
     ensures forward { OnOk result (All IsForward runs.now) }
     ensures fault { IfErr result (λ fault. IsLevelFault runs.now fault) }
 {

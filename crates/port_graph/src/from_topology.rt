@@ -1,9 +1,11 @@
 // The track graph of a topology, or why it has none.
-ghost use Rattle.std.specs.Prelude.{◌≡◌, ◌≤◌, length, IfOk, IfErr};
+ghost use Rattle.std.specs.Prelude.{◌≡◌, ◌⊎◌, length, IfOk, IfErr};
+ghost use Rattle.plan_core.specs.Exactly.{AnswersExactly};
 ghost use Rattle.plan_core.specs.Topology.{IsResolved};
+ghost use Rattle.port_graph.specs.declared.fault.GraphFault.TheVariants.{Memory};
 ghost use Rattle.port_graph.specs.Runs.{edge_count, joins as all_joins};
 ghost use Rattle.port_graph.specs.Sites.{sites as all_sites};
-ghost use Rattle.port_graph.specs.TopologyGraph.{HasFewNodes, HasFewEdges, IsGraphOf, IsGraphFault};
+ghost use Rattle.port_graph.specs.TopologyGraph.{HasFewNodes, HasFewEdges, IsStationGraphOf, IsGraphFault};
 
 use crate::counts::{count_nodes, count_pieces};
 use crate::edges::{check_forward, edge_rows};
@@ -13,19 +15,12 @@ use crate::nodes::node_rows;
 use crate::numbers::{Numbering, first_pieces};
 use crate::order::{order_sites, runs};
 use crate::{GraphFault, Join, PortGraph, Site};
-use plan_core::{OutOfMemory, Topology};
+use plan_core::{MAX_EDGES, MAX_NODES, OutOfMemory, Topology};
 use std::alloc::Global;
-
-/// How many nodes a track graph may have.
-const MAX_NODES: u32 = 128;
-
-/// How many edges a track graph may have.
-const MAX_EDGES: u32 = 160;
 
 /// How many edges there are, of which these are the joins.
 fn count_edges(t: &Topology, joins: &[Join]) -> u32
     requires resolved { IsResolved t.now }
-    requires nodes { HasFewNodes t.now }
     requires joins { joins.now ≡ all_joins t.now }
     ensures { result ≡ edge_count t.now }
 {
@@ -56,8 +51,8 @@ fn graph_within(alloc: Global, t: &Topology, joins: Vec<Join>) -> Result<PortGra
     requires nodes { HasFewNodes t.now }
     requires edges { HasFewEdges t.now }
     requires joins { joins.items ≡ all_joins t.now }
-    ensures graph { IfOk result (λ g. IsGraphOf t.now g) }
-    ensures fault { IfErr result (λ fault. IsGraphFault t.now fault) }
+    ensures graph { IfOk result (λ g. IsStationGraphOf t.now g) }
+    ensures fault { IfErr result (λ fault. (fault ≡ Memory) ⊎ IsGraphFault t.now fault) }
 {
     let (mut sites, joins) = numbered_sites(alloc, t, joins)?;
     let runs = runs(alloc, t, joins)?;
@@ -74,18 +69,18 @@ fn graph_within(alloc: Global, t: &Topology, joins: Vec<Join>) -> Result<PortGra
 /// Nodes are numbered by the place of their element in the file, a joint by the end that is listed
 /// first. Edges are numbered track by track from begin to end, and after them the joins between
 /// switches and crossings by the connection that is listed first.
+#[tactic(auto, using(crate::proofs::OneGraph::graph_exactly))]
 pub fn build(alloc: Global, t: &Topology) -> Result<PortGraph, GraphFault>
     requires { IsResolved t.now }
-    ensures graph { IfOk result (λ g. IsGraphOf t.now g) }
-    ensures fault { IfErr result (λ fault. IsGraphFault t.now fault) }
+    ensures { AnswersExactly result Memory (IsStationGraphOf t.now) (IsGraphFault t.now) }
 {
     let nodes = count_nodes(t);
-    if nodes > MAX_NODES {
+    if nodes as usize > MAX_NODES {
         return Err(GraphFault::TooManyNodes(nodes));
     }
     let joins = joins(alloc, t)?;
     let edges = count_edges(t, &joins);
-    if edges > MAX_EDGES {
+    if edges as usize > MAX_EDGES {
         return Err(GraphFault::TooManyEdges(edges));
     }
     graph_within(alloc, t, joins)

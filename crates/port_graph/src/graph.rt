@@ -1,5 +1,6 @@
 // The track graph.
 ghost use Rattle.std.specs.Prelude.{◌≡◌, ◌<◌, ◌≤◌, Some, length, slice_get, IfOk};
+ghost use Rattle.plan_core.specs.declared.limits.TheConstants.{MAX_NODES, MAX_EDGES};
 ghost use Rattle.plan_core.specs.Graph.{node, edge, mileage, ArePortsOf};
 ghost use Rattle.port_graph.specs.StationGraph.{IsStationGraph};
 ghost use Rattle.port_graph.specs.Columns.{columns_of, AreColumns};
@@ -56,7 +57,7 @@ impl PortGraph {
     /// The number of nodes, at most 128.
     pub fn nodes(&self) -> u16
         ensures value { result ≡ length self.now.nodes }
-        ensures limit { result ≤ 128 }
+        ensures limit { result ≤ MAX_NODES }
         ensures station { IsStationGraph self.now }
     {
         self.nodes.len() as u16
@@ -65,7 +66,7 @@ impl PortGraph {
     /// The number of edges, at most 160.
     pub fn edges(&self) -> u16
         ensures value { result ≡ length self.now.edges }
-        ensures limit { result ≤ 160 }
+        ensures limit { result ≤ MAX_EDGES }
         ensures station { IsStationGraph self.now }
     {
         self.edges.len() as u16

@@ -1,22 +1,21 @@
 // Laws of track graphs. The functions do nothing: their contracts are the laws.
-ghost use Rattle.std.specs.Prelude.{◌≡◌, ◌≢◌, ℕ, ◌<◌, ◌-◌, Some, ℤ, neg_ℤ, List, length, map, reverse, slice_get};
+ghost use Rattle.std.specs.Prelude.{◌≡◌, ℕ, ◌<◌, ◌-◌, Some, ℤ, neg_ℤ, List, length, map, reverse, slice_get};
 ghost use Rattle.std.specs.Ordering.{nat_cmp, int_cmp};
 ghost use Rattle.plan_core.specs.declared.topology.Topology.{Topology as ATopology};
 ghost use Rattle.plan_core.specs.Topology.{IsResolved};
 ghost use Rattle.plan_core.specs.Graph.{Graph, mileage};
 ghost use Rattle.port_graph.specs.declared.fault.GraphFault.{GraphFault as AFault};
-ghost use Rattle.port_graph.specs.declared.fault.GraphFault.TheVariants.{Memory};
 ghost use Rattle.port_graph.specs.StationGraph.{IsStationGraph};
 ghost use Rattle.port_graph.specs.Columns.{columns_of, AreColumns};
-ghost use Rattle.port_graph.specs.TopologyGraph.{IsGraphOf, IsGraphFault};
+ghost use Rattle.port_graph.specs.TopologyGraph.{IsGraphOf, IsStationGraphOf, IsGraphFault};
 ghost use Rattle.port_graph.specs.Turned.{turned_topology, turned_graph, turned_fault};
 
-/// A topology has at most one track graph. One that has a graph has no fault but want of memory, and
-/// of the others each has one fault at most.
+/// A topology has at most one track graph. One that has a graph has no fault, and of the others each
+/// has one fault at most.
 pub fn one_graph_or_one_fault()
     ensures graph { (t : ATopology) (g h : Graph) → IsResolved t → IsGraphOf t g → IsGraphOf t h → g ≡ h }
-    ensures no_fault { (t : ATopology) (g : Graph) (fault : AFault) → IsResolved t → IsStationGraph g → IsGraphOf t g → IsGraphFault t fault → fault ≡ Memory }
-    ensures fault { (t : ATopology) (e f : AFault) → IsResolved t → IsGraphFault t e → IsGraphFault t f → e ≢ Memory → f ≢ Memory → e ≡ f }
+    ensures no_fault { (t : ATopology) (g : Graph) (fault : AFault) → IsResolved t → IsStationGraphOf t g → IsGraphFault t fault → ⊥ }
+    ensures fault { (t : ATopology) (e f : AFault) → IsResolved t → IsGraphFault t e → IsGraphFault t f → e ≡ f }
 {}
 
 /// The columns of a graph are the one list that rises and has just the mileages of its nodes; and the

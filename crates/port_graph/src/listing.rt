@@ -1,5 +1,6 @@
 // The nodes of a topology, track by track.
 ghost use Rattle.std.specs.Prelude.{◌≡◌, ◌+◌, ◌<◌, ◌≤◌, ◌++◌, Some, length, slice_get, OnOk, IfOk};
+ghost use Rattle.plan_core.specs.declared.limits.TheConstants.{MAX_EDGES};
 ghost use Rattle.port_graph.specs.Runs.{piece_number as number_of_piece};
 ghost use Rattle.port_graph.specs.Sites.{end_meeting as meeting_of_end, end_sites as sites_of_end, inner_meeting as meeting_of_inner, inner_site as site_of_inner, inner_sites as sites_of_inner, track_sites as sites_on, sites as all_sites};
 ghost use Rattle.port_graph.specs.Numbering.{IsNumbering};
@@ -95,7 +96,7 @@ fn inner_site(
     inner: &Inner,
 ) -> Result<Site, OutOfMemory>
     requires numbering { IsNumbering t.now numbering.now }
-    requires few { number_of_piece t.now track (place + 1) ≤ 160 }
+    requires few { number_of_piece t.now track (place + 1) ≤ MAX_EDGES }
     ensures { IfOk result (λ site. site ≡ site_of_inner t.now track place inner.now) }
 {
     let id = copy_of(alloc, &inner.id)?;

@@ -1,5 +1,6 @@
 // The numbers of edges: the pieces track by track, and after them the joins in file order.
 ghost use Rattle.std.specs.Prelude.{◌≡◌, ◌+◌, ◌<◌, ◌≤◌, ◌^◌, ℕ, IfOk, List, length, slice_index, sum_by, vec_len};
+ghost use Rattle.plan_core.specs.declared.limits.TheConstants.{MAX_EDGES};
 ghost use Rattle.port_graph.specs.Runs.{piece_count, piece_number as number_of_piece, last_piece as number_of_last, join_number as number_of_join, join_of as number_of_join_along, edge_count, edge_beyond as edge_there, joins as all_joins};
 ghost use Rattle.port_graph.specs.Sites.{edge_no};
 ghost use Rattle.port_graph.specs.Numbering.{IsNumbering};
@@ -19,7 +20,7 @@ pub(crate) struct Numbering {
 
 /// The number of each track's first piece, and that of all pieces.
 pub(crate) fn first_pieces(alloc: Global, t: &Topology) -> Result<Vec<u16>, OutOfMemory>
-    requires { sum_by piece_count t.now.tracks ≤ 160 }
+    requires { sum_by piece_count t.now.tracks ≤ MAX_EDGES }
     ensures count { IfOk result (λ firsts. vec_len firsts ≡ length t.now.tracks + 1) }
     ensures each { IfOk result (λ firsts. (k : ℕ) → k ≤ length t.now.tracks →
         slice_index firsts.items k ≡ number_of_piece t.now k 0) }
@@ -42,7 +43,7 @@ pub(crate) fn piece_number(
     piece: usize,
 ) -> EdgeNo
     requires numbering { IsNumbering t.now numbering.now }
-    requires few { number_of_piece t.now track piece ≤ 160 }
+    requires few { number_of_piece t.now track piece ≤ MAX_EDGES }
     ensures { result ≡ edge_no (number_of_piece t.now track piece) }
 {
     let track = track.min(t.tracks.len());

@@ -7,7 +7,7 @@ use Rattle.port_graph.specs.declared.fault.GraphFault.{GraphFault}
 use Rattle.port_graph.specs.Plain.{plain_edge}
 use Rattle.port_graph.specs.Ordered.{IsLevelFault, IsMismatchFault}
 use Rattle.port_graph.proofs.GraphLemmas.{level_fault}
-use Rattle.port_graph.proofs.BuildLemmas.{IsLaidOut, laid_out, few_sites, met_in_order, laid_mismatch, laid_graph, laid_station}
+use Rattle.port_graph.proofs.BuildLemmas.{IsLaidOut, laid_out, few_sites, met_in_order, laid_mismatch, laid_station, laid_station_graph}
 use Rattle.port_graph.proofs.from_topology.graph_within.Goals as goal
 
 pub returns-in_err-check_forward-clause-fault : goal.returns-in_err-check_forward-clause-fault
@@ -49,4 +49,4 @@ pub returns-clause-graph : goal.returns-clause-graph
 returns-clause-graph c =
     let laid : IsLaidOut c.args.t.now c.in_ok-runs.runs.items c.in_ok-edges.edges.items c.order_sites.new.sites.items =
     laid_out _ _ _ _ _ _ _ _ c.requires.resolved c.requires.nodes c.requires.edges c.in_ok-runs.ensures c.deref.ensures.value c.in_ok-check_forward.ensures.forward c.in_ok-sites.ensures.sites c.deref-2.ensures.value c.deref-3.ensures.value c.in_ok-edges.ensures c.order_sites.ensures.same c.order_sites.ensures.rise in
-    rw c.in_ok-graph.ensures (laid_graph _ _ _ _ _ laid (rw (← c.deref-5.ensures.value, ← c.deref-4.ensures.value) c.in_ok-nodes.ensures.nodes))
+    rw c.in_ok-graph.ensures (laid_station_graph _ _ _ _ _ laid (rw (← c.deref-5.ensures.value, ← c.deref-4.ensures.value) c.in_ok-nodes.ensures.nodes))
