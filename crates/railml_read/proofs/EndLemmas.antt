@@ -2,6 +2,7 @@
 use Rattle.std.proofs.Common.{◌≡◌, ◌≢◌, ◌⊎◌, ℕ, suc, zero, ◌<◌, Bool, true, false, cond, List, [], ◌∷◌, ◌++◌, length, get_or, refl, sym, ap, ◌∙◌, subst, inl, inr, arith}
 use Rattle.std.specs.Prelude.{fold, ◌||◌, codes, Contains, bytes_eq, IsUtf8}
 use Rattle.std.proofs.lemmas.List.{append-nil}
+use Rattle.std.proofs.Math.Bool.{or-false}
 use Rattle.railml_text.specs.declared.item.Attr.{Attr}
 use Rattle.railml_text.specs.declared.item.ItemKind.{ItemKind}
 use Rattle.railml_text.specs.declared.item.ItemKind.TheVariants as kinds
@@ -122,12 +123,8 @@ railml_not_reached (element at name attrs children after) = elim (bytes_eq name 
   ]
 ] refl
 
-or_false : (a : Bool) → (a || false) ≡ a
-or_false true = refl
-or_false false = refl
-
 root_railml : (at : ℕ) (name : List ℕ) (attrs : List Attr) (children : Elements) → name ≡ codes "railml" → reached_in Outside (element at name attrs children none) ≡ reached_in Railml children
-root_railml at name attrs children e = ap (λ (n : List ℕ). reached_in Outside (element at n attrs children none)) e ∙ or_false (reached_in Railml children)
+root_railml at name attrs children e = ap (λ (n : List ℕ). reached_in Outside (element at n attrs children none)) e ∙ or-false (reached_in Railml children)
 
 root_infrastructure : (at : ℕ) (name : List ℕ) (attrs : List Attr) (children : Elements) → name ≡ codes "infrastructure" → reached_in Outside (element at name attrs children none) ≡ true
 root_infrastructure at name attrs children e = ap (λ (n : List ℕ). reached_in Outside (element at n attrs children none)) e

@@ -3,16 +3,13 @@ use Rattle.std.proofs.Common.{◌≡◌, ◌≢◌, ◌⊎◌, ℕ, ◌-◌, tru
 use Rattle.std.specs.Prelude.{bytes_eq}
 use Rattle.std.proofs.lemmas.List.{take_at}
 use Rattle.std.proofs.lemmas.Slice.Eq.{bytes_eq-Decides}
+use Rattle.plan_core.proofs.ListFacts.{get_last}
 
 pub count_push : {X : Type 0} (xs : List X) (x : X) → length (xs ++ x ∷ []) - 1 ≡ length xs
 count_push xs x = omega (arith, length-append xs (x ∷ []))
 
-get_push : {X : Type 0} (xs : List X) (x : X) → slice_get (xs ++ x ∷ []) (length xs) ≡ Some x
-get_push [] x = refl
-get_push (y ∷ xs) x = get_push xs x
-
 pub last_push : {X : Type 0} (xs : List X) (x : X) → slice_get (xs ++ x ∷ []) (length (xs ++ x ∷ []) - 1) ≡ Some x
-last_push xs x = rw (count_push xs x) (get_push xs x)
+last_push xs x = rw (count_push xs x) (get_last xs x)
 
 pub front_push : {X : Type 0} (xs : List X) (x : X) → take (length (xs ++ x ∷ []) - 1) (xs ++ x ∷ []) ≡ xs
 front_push xs x = rw (count_push xs x) (take_at xs (x ∷ []) (length xs) refl)

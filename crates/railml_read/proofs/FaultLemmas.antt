@@ -1,8 +1,6 @@
 -- A text has one fault at most, and spells one tree at most.
-use Rattle.std.proofs.Common.{◌≡◌, ◌⊎◌, ℕ, ◌<◌, Bool, true, List, [], ◌∷◌, ◌++◌, length, drop, refl, sym, ap, ◌∙◌, subst, inl, inr, append_assoc, arith}
-use Rattle.std.specs.Prelude.{fold, IsUtf8, Result, Ok, Err, OnOk, IfErr, IsErrOf}
-use Rattle.railml_read.specs.declared.faults.ReadFault.{ReadFault}
-use Rattle.railml_read.specs.declared.faults.ReadFault.TheVariants as answers
+use Rattle.std.proofs.Common.{◌≡◌, ℕ, ◌<◌, Bool, true, List, [], ◌∷◌, ◌++◌, length, drop, refl, sym, ap, ◌∙◌, subst, inl, inr, append_assoc, arith}
+use Rattle.std.specs.Prelude.{fold, IsUtf8}
 use Rattle.std.specs.Str.{IsValidUpTo}
 use Rattle.std.proofs.lemmas.List.{take_all, append-nil}
 use Rattle.railml_text.specs.declared.fault.TextWhat.{TextWhat}
@@ -13,7 +11,7 @@ use Rattle.railml_read.specs.declared.contexts.Context.TheVariants.{Outside}
 use Rattle.railml_read.proofs.RowLemmas.{reached_in}
 use Rattle.railml_read.specs.Tree.{Elements, none, element, Tree, root_of, Tag, tags_of}
 use Rattle.railml_read.specs.Places.{Role, names_after, role_of, role_of_shape, tags_in, open_names, has_root, IsMisplaced, AreInPlace}
-use Rattle.railml_read.specs.Document.{Spells, HasFaultBehind, IsFirstFault, EndsOpen, LacksInfrastructure, IsTextFault, IsFaultOf}
+use Rattle.railml_read.specs.Document.{Spells, HasFaultBehind, IsFirstTextFault, EndsOpen, LacksInfrastructure, IsTextFault}
 use Rattle.railml_read.specs.Progress.{State}
 use Rattle.railml_read.specs.Passing.{IsReadThrough}
 use Rattle.railml_text.proofs.OneItem.{one_item}
@@ -60,7 +58,7 @@ one_tree bytes a b h k =
 -- the four forms that a fault of a text has
 pub data Form (bytes : List ℕ) (what : TextWhat) (at : ℕ) : Type 0 where
   no_text : what ≡ NotUtf8 → IsValidUpTo bytes at → Form bytes what at
-  first_fault : IsFirstFault bytes what at → Form bytes what at
+  first_fault : IsFirstTextFault bytes what at → Form bytes what at
   open_end : what ≡ Unfinished → EndsOpen bytes at → Form bytes what at
   lacks : what ≡ NoInfrastructure → LacksInfrastructure bytes at → Form bytes what at
 
@@ -80,7 +78,7 @@ one_place bytes a b v w =
     omega arith
 
 -- what is complete has no first fault
-complete : (bytes : List ℕ) (items : List Placed) (what : TextWhat) (at : ℕ) → IsCutInto bytes items → AreInPlace [] items → IsFirstFault bytes what at → ⊥
+complete : (bytes : List ℕ) (items : List Placed) (what : TextWhat) (at : ℕ) → IsCutInto bytes items → AreInPlace [] items → IsFirstTextFault bytes what at → ⊥
 complete bytes items what at cut sound f = elim (compared true (start_of bytes) (drop (start_of bytes) bytes) f.before f.rest items [] f.comes_to.cut cut.cut) [
   | inl same ↦ f.some same.1
   | inr d ↦ elim d [
@@ -95,7 +93,7 @@ least_one before rest a b h least k others =
     let q : number_of a < number_of b → ⊥ = λ lt. others a lt h in
     same_number a b (omega arith)
 
-pub first_ones : (bytes : List ℕ) (a b : TextWhat) (m n : ℕ) → IsFirstFault bytes a m → IsFirstFault bytes b n → (a ≡ b) × (m ≡ n)
+pub first_ones : (bytes : List ℕ) (a b : TextWhat) (m n : ℕ) → IsFirstTextFault bytes a m → IsFirstTextFault bytes b n → (a ≡ b) × (m ≡ n)
 first_ones bytes a b m n f g = elim (compared true (start_of bytes) (drop (start_of bytes) bytes) f.before f.rest g.before g.rest f.comes_to.cut g.comes_to.cut) [
   | inl same ↦
       let back : (what : TextWhat) → HasFaultBehind g.before g.rest what → HasFaultBehind f.before f.rest what = λ what h. subst (λ (rest : List ℕ). HasFaultBehind f.before rest what) (sym same.1) (subst (λ (items : List Placed). HasFaultBehind items g.rest what) (sym same.0) h) in
@@ -156,11 +154,3 @@ no_text_fault bytes state root r utf8 rooted closed reached what at fault = none
     none (lacks e f) =
         let same : tree.tree ≡ f.tree = one_tree bytes tree.tree f.tree tree.spells f.spells in
         not_lacking f.tree (sym (ap (λ (t : Tree). reached_in Outside (root_of t)) same) ∙ sym (ap (λ (s : State). s.reached) (state_is bytes state root r tree)) ∙ reached) (record { named = f.named; lacks = f.lacks })
-
--- what is answered where the text has a fault
-pub told : {V : Type 0} (bytes : List ℕ) (r : Result V ReadFault) → ((a b : TextWhat) (m n : ℕ) → IsTextFault bytes a m → IsTextFault bytes b n → (a ≡ b) × (m ≡ n)) → OnOk r ((what : TextWhat) (at : ℕ) → IsTextFault bytes what at → ⊥) → IfErr r (λ e. IsFaultOf bytes e) → (what : TextWhat) (at : ℕ) → IsTextFault bytes what at → IsErrOf r (answers.Text what at) ⊎ IsErrOf r answers.Memory
-told bytes (Ok rows) one sound fault what at f = absurd (sound what at f)
-told bytes (Err (answers.Text other place)) one sound fault what at f =
-    let same = one other what place at fault f in
-    inl (ap (λ (w : TextWhat). Err (answers.Text w place)) same.0 ∙ ap (λ (n : ℕ). Err (answers.Text what n)) same.1)
-told bytes (Err answers.Memory) one sound fault what at f = inr refl

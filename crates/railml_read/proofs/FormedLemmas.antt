@@ -1,8 +1,10 @@
 -- Rows are formed while they are read.
-use Rattle.std.proofs.Common.{◌≡◌, ◌⊎◌, ℕ, suc, zero, ◌-◌, ◌<◌, ◌≤◌, Bool, true, false, cond, Option, Some, None, List, [], ◌∷◌, ◌++◌, length, take, slice_get, refl, sym, ap, subst, inl, inr, length-append, arith}
+use Rattle.std.proofs.Common.{◌≡◌, ℕ, suc, zero, ◌-◌, ◌<◌, ◌≤◌, Bool, true, false, cond, Option, Some, None, List, [], ◌∷◌, ◌++◌, length, take, slice_get, refl, sym, ap, subst, inl, inr, length-append, arith}
 use Rattle.std.specs.Prelude.{fold, ◌||◌, bytes_eq, codes}
 use Rattle.std.proofs.lemmas.List.{append-nil}
 use Rattle.std.proofs.lemmas.Option.{slice_get_within}
+use Rattle.plan_core.proofs.ListFacts.{get_front, get_last, get_pushed}
+use Rattle.plan_core.specs.declared.limits.TheConstants.{MAX_FILE_BYTES}
 use Rattle.railml_text.specs.declared.item.Attr.{Attr}
 use Rattle.railml_text.specs.declared.item.ItemKind.{ItemKind}
 use Rattle.railml_text.specs.declared.item.ItemKind.TheVariants as kinds
@@ -20,25 +22,6 @@ use Rattle.railml_read.specs.Places.{tags_at}
 use Rattle.railml_read.specs.Progress.{State, top, context_in, row_in, is_infrastructure, step, start}
 
 -- ---- what is at a place
-
-get_more : {X : Type 0} (xs ys : List X) (i : ℕ) (x : X) → slice_get xs i ≡ Some x → slice_get (xs ++ ys) i ≡ Some x
-get_more [] ys i x e = absurd cc
-get_more (y ∷ xs) ys zero x e = e
-get_more (y ∷ xs) ys (suc i) x e = get_more xs ys i x e
-
-get_last : {X : Type 0} (xs : List X) (x : X) → slice_get (xs ++ x ∷ []) (length xs) ≡ Some x
-get_last [] x = refl
-get_last (y ∷ xs) x = get_last xs x
-
--- an old one, or the one that was put at the end
-get_pushed : {X : Type 0} (xs : List X) (y : X) (i : ℕ) (x : X) → slice_get (xs ++ y ∷ []) i ≡ Some x → (slice_get xs i ≡ Some x) ⊎ ((i ≡ length xs) × (y ≡ x))
-get_pushed [] y zero x e = inr (refl, cc)
-get_pushed [] y (suc i) x e = absurd cc
-get_pushed (z ∷ xs) y zero x e = inl e
-get_pushed (z ∷ xs) y (suc i) x e = elim (get_pushed xs y i x e) [
-  | inl old ↦ inl old
-  | inr new ↦ inr (ap (λ (n : ℕ). suc n) new.0, new.1)
-]
 
 get_taken : {X : Type 0} (n : ℕ) (xs : List X) (i : ℕ) (x : X) → slice_get (take n xs) i ≡ Some x → slice_get xs i ≡ Some x
 get_taken zero xs i x e = absurd cc
@@ -105,7 +88,7 @@ below_fits rows row name (Selected kind) h = selected_fits rows row name kind h
 below_fits rows row name Skipped h = tt
 
 row_more : (rows more : List Elem) (row : Option ℕ) (kind : ElemKind) → HasRow rows row kind → HasRow (rows ++ more) row kind
-row_more rows more row kind h = record { number = h.number; elem = h.elem; is = h.is; at = get_more rows more h.number h.elem h.at; kind_is = h.kind_is }
+row_more rows more row kind h = record { number = h.number; elem = h.elem; is = h.is; at = get_front rows more h.number h.elem h.at; kind_is = h.kind_is }
 
 fits_more : (rows more : List Elem) (context : Context) (row : Option ℕ) → FitsIn rows context row → FitsIn (rows ++ more) context row
 fits_more rows more (Selected kind) row h = row_more rows more row kind h
@@ -144,7 +127,7 @@ formed_later s at next le h = record {
 
 placed_more : (rows more : List Elem) (i : ℕ) (row : Elem) (kind : ElemKind) → IsPlaced rows i row kind → IsPlaced (rows ++ more) i row kind
 placed_more rows more i row Track h = h
-placed_more rows more i row kind h = record { number = h.number; parent = h.parent; is = h.is; earlier = h.earlier; at = get_more rows more h.number h.parent h.at; holds = h.holds }
+placed_more rows more i row kind h = record { number = h.number; parent = h.parent; is = h.is; earlier = h.earlier; at = get_front rows more h.number h.parent h.at; holds = h.holds }
 
 row_of : ElemKind → ℕ → Option ℕ → List Attr → Elem
 row_of kind at row attrs = record { kind = kind; at = at; parent = row; attrs = attrs_read attrs }
@@ -155,7 +138,7 @@ has_parent rows more row kind same h = record {
   parent = h.1.elem;
   is = h.1.is;
   earlier = slice_get_within rows h.1.number h.1.elem h.1.at;
-  at = get_more rows more h.1.number h.1.elem h.1.at;
+  at = get_front rows more h.1.number h.1.elem h.1.at;
   holds = rw (h.1.kind_is, same) h.2;
 }
 
@@ -245,5 +228,5 @@ formed_item s at next (kinds.Start name attrs false) lt h = formed_later _ (suc 
 formed_item s at next (kinds.EndTag name) lt h = formed_later _ at next (omega arith) (formed_closing s at name h)
 formed_item s at next kind lt h = formed_later s at next (omega arith) h
 
-pub all_formed : (s : State) (at : ℕ) → at ≤ 4194304 → IsFormedUpTo s at → AreFormed s.rows
+pub all_formed : (s : State) (at : ℕ) → at ≤ MAX_FILE_BYTES → IsFormedUpTo s at → AreFormed s.rows
 all_formed s at few h = record { rising = h.rising; parents = h.parents; few = omega (arith, h.few) }

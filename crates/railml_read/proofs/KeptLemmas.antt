@@ -1,21 +1,23 @@
 -- What is kept while the items of a document go by.
-use Rattle.std.proofs.Common.{◌≡◌, ℕ, ◌<◌, ◌≤◌, Bool, true, false, Some, None, List, [], ◌∷◌, ◌++◌, length, drop, refl, sym, ap, ◌∙◌, subst, inl, inr, length-drop, arith}
+use Rattle.std.proofs.Common.{◌≡◌, ◌⊎◌, ℕ, ◌<◌, ◌≤◌, Bool, true, false, Some, None, List, [], ◌∷◌, ◌++◌, length, drop, refl, sym, ap, ◌∙◌, subst, inl, inr, length-drop, arith}
 use Rattle.std.specs.Prelude.{fold, ◌||◌, IsUtf8, IsCharBoundary, codes}
 use Rattle.std.proofs.lemmas.List.{drop_all}
 use Rattle.std.proofs.lemmas.List.Sums.{fold-append}
+use Rattle.plan_core.specs.declared.limits.TheConstants.{MAX_FILE_BYTES}
 use Rattle.railml_text.specs.declared.item.ItemKind.{ItemKind}
 use Rattle.railml_text.specs.declared.fault.TextWhat.{TextWhat}
 use Rattle.railml_text.specs.declared.fault.TextWhat.TheVariants.{NotUtf8, Encoding, Doctype, Markup, Entity, EndTag, RepeatedAttribute, Root, Unfinished, AfterRoot, Depth, NoInfrastructure}
 use Rattle.railml_text.specs.declared.fault.ItemFault.{ItemFault}
 use Rattle.railml_text.specs.declared.fault.ItemFault.TheVariants as answers
+use Rattle.railml_read.specs.declared.faults.ReadFault.TheVariants as reads
 use Rattle.railml_text.specs.Items.{Shape, declaration, instruction, comment, cdata, start_tag, end_tag, reference, chars, IsItem, HasItem, IsKindOf}
 use Rattle.railml_text.specs.Bytes.{is_in_text}
 use Rattle.railml_text.specs.Grammar.{IsChars, IsBracketed}
 use Rattle.railml_text.specs.References.{IsReference, BeginsLoose}
-use Rattle.railml_text.specs.Faults.{number_of, attrs_of, HasFault, HasSoundItem, IsLeastFault, IsFaultAt, HasRepeat}
+use Rattle.railml_text.specs.Faults.{number_of, attrs_of, HasItemFault, HasSoundItem, IsLeastFault, IsItemFault, HasRepeat}
 use Rattle.railml_text.specs.Cutting.{Placed, Cuts, ComesTo, start_of, is_first}
 use Rattle.railml_read.specs.Places.{Role, opening, closing, content, free, role_of, role_of_shape, tags_at, tags_in, open_names, begins_element, has_root, IsMisplaced, AreInPlace}
-use Rattle.railml_read.specs.Document.{IsFirstFault, IsTextFault, IsFaultOf}
+use Rattle.railml_read.specs.Document.{IsFirstTextFault, IsTextFault, IsReadFault}
 use Rattle.railml_read.specs.declared.progress.Frame.{Frame}
 use Rattle.railml_read.specs.declared.rows.Elem.{Elem}
 use Rattle.railml_read.specs.Progress.{State, step, start, state_after, names_in, fault_in}
@@ -87,7 +89,7 @@ kept_next bytes at next first state after rooted root kind k sound lt within bou
 
 -- ---- the first fault
 
-first_is_one : (bytes : List ℕ) (at : ℕ) (what : TextWhat) → IsFirstFault bytes what at → IsTextFault bytes what at
+first_is_one : (bytes : List ℕ) (at : ℕ) (what : TextWhat) → IsFirstTextFault bytes what at → IsTextFault bytes what at
 first_is_one bytes at NotUtf8 f = elim f.fault [
   | inl own ↦ absurd own
   | inr m ↦ absurd (no_place (open_names f.before) (has_root f.before) (role_of_shape m.shape) m.misplaced)
@@ -183,7 +185,7 @@ repeat_lower names rooted (start_tag name attrs empty) other r m lt = omega (ari
 repeat_lower names rooted shape other r m lt = let no = r.at_i in cc
 
 -- an item with a fault of its own has none of a lower number by its place
-own_is_lower : (first : Bool) (rest : List ℕ) (names : List (List ℕ)) (rooted : Bool) (shape : Shape) (after : List ℕ) (what other : TextWhat) → HasFault first rest what → HasItem first rest shape after → IsMisplaced names rooted (role_of_shape shape) other → number_of other < number_of what → ⊥
+own_is_lower : (first : Bool) (rest : List ℕ) (names : List (List ℕ)) (rooted : Bool) (shape : Shape) (after : List ℕ) (what other : TextWhat) → HasItemFault first rest what → HasItem first rest shape after → IsMisplaced names rooted (role_of_shape shape) other → number_of other < number_of what → ⊥
 own_is_lower first rest names rooted shape after Encoding other fault item m lt = omega (arith, place_number names rooted (role_of_shape shape) other m, lt)
 own_is_lower first rest names rooted shape after Doctype other fault item m lt = omega (arith, place_number names rooted (role_of_shape shape) other m, lt)
 own_is_lower first rest names rooted shape after Markup other fault item m lt = omega (arith, place_number names rooted (role_of_shape shape) other m, lt)
@@ -217,9 +219,10 @@ own_fault bytes at first state rooted what utf8 k lt f =
     })
 
 -- the fault that an item's own is answered as
-pub item_fault : (bytes : List ℕ) (at : ℕ) (first : Bool) (state : State) (rooted : Bool) (e : ItemFault) → IsUtf8 bytes → Kept bytes at first state rooted → at < length bytes → IsFaultAt first (drop at bytes) e → IsFaultOf bytes (fault_at e at)
-item_fault bytes at first state rooted (answers.Item what) utf8 k lt f = own_fault bytes at first state rooted what utf8 k lt f
-item_fault bytes at first state rooted answers.Memory utf8 k lt f = tt
+pub item_fault : (bytes : List ℕ) (at : ℕ) (first : Bool) (state : State) (rooted : Bool) (e : ItemFault) → IsUtf8 bytes → Kept bytes at first state rooted → at < length bytes → (e ≡ answers.Memory) ⊎ IsItemFault first (drop at bytes) e → (fault_at e at ≡ reads.Memory) ⊎ IsReadFault bytes (fault_at e at)
+item_fault bytes at first state rooted e utf8 k lt (inl want) = inl (ap (λ (f : ItemFault). fault_at f at) want)
+item_fault bytes at first state rooted (answers.Item what) utf8 k lt (inr f) = inr (own_fault bytes at first state rooted what utf8 k lt f)
+item_fault bytes at first state rooted answers.Memory utf8 k lt (inr f) = absurd f
 
 pub place_fault : (bytes : List ℕ) (at : ℕ) (first : Bool) (state : State) (rooted : Bool) (kind : ItemKind) (after : List ℕ) (what : TextWhat) → IsUtf8 bytes → Kept bytes at first state rooted → at < length bytes → HasSoundItem first (drop at bytes) kind after → Some what ≡ fault_in (names_in state.stack) rooted (role_of kind) → IsTextFault bytes what at
 place_fault bytes at first state rooted kind after what utf8 k lt sound e =
@@ -237,7 +240,7 @@ place_fault bytes at first state rooted kind after what utf8 k lt sound e =
       some = λ empty. omega (arith, length-drop at bytes, ap length empty);
       fault = inr (record { shape = sound.shape; after = after; item = item; misplaced = subst (λ (x : Role). IsMisplaced (open_names k.items) (has_root k.items) x what) (sym role) least.holds });
       least = λ other low h. elim h [
-        | inl own ↦ sound.sound other (subst (λ (b : Bool). HasFault b (drop at bytes) other) (sym k.first_is) own)
+        | inl own ↦ sound.sound other (subst (λ (b : Bool). HasItemFault b (drop at bytes) other) (sym k.first_is) own)
         | inr m ↦
             let same = one_item (is_first k.items) (drop at bytes) m.shape sound.shape m.after after m.item item in
             least.least other low (subst (λ (x : Role). IsMisplaced (open_names k.items) (has_root k.items) x other) (ap role_of_shape same.0 ∙ role) m.misplaced)
@@ -246,7 +249,7 @@ place_fault bytes at first state rooted kind after what utf8 k lt sound e =
 
 -- ---- at the end
 
-pub read_through : (bytes : List ℕ) (at : ℕ) (first : Bool) (state : State) (rooted : Bool) → length bytes ≤ 4194304 → Kept bytes at first state rooted → length bytes ≤ at → IsReadThrough bytes state rooted
+pub read_through : (bytes : List ℕ) (at : ℕ) (first : Bool) (state : State) (rooted : Bool) → length bytes ≤ MAX_FILE_BYTES → Kept bytes at first state rooted → length bytes ≤ at → IsReadThrough bytes state rooted
 read_through bytes at first state rooted few k end =
     let here : at ≡ length bytes = omega (arith, k.within, end) in
     record {

@@ -7,3 +7,4 @@ pub mod CutLemmas
 pub mod KeptLemmas
 pub mod EndLemmas
 pub mod FaultLemmas
+pub mod AnswerLemmas

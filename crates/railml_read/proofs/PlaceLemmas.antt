@@ -8,10 +8,12 @@ use Rattle.std.proofs.lemmas.List.Sums.{fold-append}
 use Rattle.std.proofs.lemmas.List.Folds.{list_any-append}
 use Rattle.std.proofs.lemmas.Bool.{leb-true, le-leb}
 use Rattle.std.proofs.lemmas.Bool.Decides.{nat_tests}
+use Rattle.std.proofs.Math.Bool.{or-false}
 use Rattle.railml_text.specs.declared.fault.TextWhat.{TextWhat}
 use Rattle.railml_text.specs.declared.fault.TextWhat.TheVariants.{Markup, EndTag, Root, AfterRoot, Depth}
 use Rattle.railml_text.specs.Faults.{number_of}
 use Rattle.railml_text.specs.Cutting.{Placed}
+use Rattle.railml_read.specs.declared.progress.TheConstants.{MAX_DEPTH}
 use Rattle.railml_read.specs.Places.{Role, opening, closing, content, free, role_of, tags_at, tags_in, names_after, open_names, begins_element, has_root, innermost, IsRootName, IsMisplaced, AreInPlace}
 use Rattle.railml_read.specs.Progress.{is_root_name, is_innermost, fault_in}
 use Rattle.railml_read.proofs.Ends.{length_none, bytes_eq_true, bytes_eq_false}
@@ -24,12 +26,8 @@ tags_push items item = flat_map-append (λ i. tags_at i.at i.kind) items (item �
 pub names_push : (items : List Placed) (item : Placed) → open_names (items ++ item ∷ []) ≡ fold names_after (open_names items) (tags_at item.at item.kind)
 names_push items item = ap (λ t. fold names_after [] t) (tags_push items item) ∙ fold-append names_after [] (tags_in items) (tags_at item.at item.kind)
 
-or_false : (a : Bool) → (a || false) ≡ a
-or_false true = refl
-or_false false = refl
-
 pub root_push : (items : List Placed) (item : Placed) → has_root (items ++ item ∷ []) ≡ (has_root items || begins_element item.kind)
-root_push items item = list_any-append (λ i. begins_element i.kind) items (item ∷ []) ∙ ap (λ b. has_root items || b) (or_false (begins_element item.kind))
+root_push items item = list_any-append (λ i. begins_element i.kind) items (item ∷ []) ∙ ap (λ b. has_root items || b) (or-false (begins_element item.kind))
 
 pub place_push : (before items : List Placed) (item : Placed) → AreInPlace before items → ((what : TextWhat) → IsMisplaced (open_names (before ++ items)) (has_root (before ++ items)) (role_of item.kind) what → ⊥) → AreInPlace before (items ++ item ∷ [])
 place_push before [] item h here = (λ what m. here what (rw (append-nil before) m), tt)
@@ -103,8 +101,8 @@ some_length names h e = let no : (length names == 0) ≡ true = rw e refl in cc
 no_length : (names : List (List ℕ)) → (length names == 0) ≡ true → names ≡ []
 no_length names h = length_none names (grind (arith, nat_tests))
 
-not_deep : (n : ℕ) → nat_le 64 n ≡ false → 64 ≤ n → ⊥
-not_deep n h k = let yes = le-leb 64 n k in cc
+not_deep : (n : ℕ) → nat_le MAX_DEPTH n ≡ false → MAX_DEPTH ≤ n → ⊥
+not_deep n h k = let yes = le-leb MAX_DEPTH n k in cc
 
 fault_of_closing : (names : List (List ℕ)) (rooted : Bool) (name : List ℕ) → FaultIs names rooted (closing name) (fault_in names rooted (closing name))
 fault_of_closing names rooted name = elim (is_innermost name names) as (λ v. is_innermost name names ≡ v → FaultIs names rooted (closing name) (cond v None (Some EndTag))) [
@@ -119,18 +117,18 @@ fault_of_content names true = elim (length names == 0) as (λ v. (length names =
   | false ↦ λ e. no_content names true (λ m. cc) (λ m. some_length names e m.1)
 ] refl
 
-too_deep : (names : List (List ℕ)) (rooted : Bool) (name : List ℕ) → (IsMisplaced names rooted (opening name) Root → ⊥) → (IsMisplaced names rooted (opening name) AfterRoot → ⊥) → FaultIs names rooted (opening name) (cond (nat_le 64 (length names)) (Some Depth) None)
-too_deep names rooted name no_root no_after = elim (nat_le 64 (length names)) as (λ v. nat_le 64 (length names) ≡ v → FaultIs names rooted (opening name) (cond v (Some Depth) None)) [
-  | true ↦ λ e. record { holds = leb-true 64 (length names) e; least = lower_opening names rooted name 11 (λ lt. no_root) (λ lt. no_after) (λ lt m. omega arith) }
+too_deep : (names : List (List ℕ)) (rooted : Bool) (name : List ℕ) → (IsMisplaced names rooted (opening name) Root → ⊥) → (IsMisplaced names rooted (opening name) AfterRoot → ⊥) → FaultIs names rooted (opening name) (cond (nat_le MAX_DEPTH (length names)) (Some Depth) None)
+too_deep names rooted name no_root no_after = elim (nat_le MAX_DEPTH (length names)) as (λ v. nat_le MAX_DEPTH (length names) ≡ v → FaultIs names rooted (opening name) (cond v (Some Depth) None)) [
+  | true ↦ λ e. record { holds = leb-true MAX_DEPTH (length names) e; least = lower_opening names rooted name 11 (λ lt. no_root) (λ lt. no_after) (λ lt m. omega arith) }
   | false ↦ λ e. no_opening names rooted name no_root no_after (not_deep (length names) e)
 ] refl
 
 fault_of_opening : (names : List (List ℕ)) (rooted : Bool) (name : List ℕ) → FaultIs names rooted (opening name) (fault_in names rooted (opening name))
-fault_of_opening names false name = elim (is_root_name name) as (λ v. is_root_name name ≡ v → FaultIs names false (opening name) (cond (not v) (Some Root) (cond (nat_le 64 (length names)) (Some Depth) None))) [
+fault_of_opening names false name = elim (is_root_name name) as (λ v. is_root_name name ≡ v → FaultIs names false (opening name) (cond (not v) (Some Root) (cond (nat_le MAX_DEPTH (length names)) (Some Depth) None))) [
   | true ↦ λ e. too_deep names false name (λ m. m.1 (root_name name e)) (λ m. let no = m.0 in cc)
   | false ↦ λ e. record { holds = (refl, no_root_name name e); least = lower_opening names false name 8 (λ lt m. omega arith) (λ lt m. omega arith) (λ lt m. omega arith) }
 ] refl
-fault_of_opening names true name = elim (length names == 0) as (λ v. (length names == 0) ≡ v → FaultIs names true (opening name) (cond v (Some AfterRoot) (cond (nat_le 64 (length names)) (Some Depth) None))) [
+fault_of_opening names true name = elim (length names == 0) as (λ v. (length names == 0) ≡ v → FaultIs names true (opening name) (cond v (Some AfterRoot) (cond (nat_le MAX_DEPTH (length names)) (Some Depth) None))) [
   | true ↦ λ e. record { holds = (refl, no_length names e); least = lower_opening names true name 10 (λ lt m. let no = m.0 in cc) (λ lt m. omega arith) (λ lt m. omega arith) }
   | false ↦ λ e. too_deep names true name (λ m. let no = m.0 in cc) (λ m. some_length names e m.1)
 ] refl

@@ -2,6 +2,7 @@
 use Rattle.std.proofs.Common.{◌≡◌, ℕ, ◌+◌, ◌-◌, Bool, true, false, Option, List, [], ◌∷◌, ◌++◌, length, take, refl, sym, ap, ◌∙◌, append_assoc, length-append, arith}
 use Rattle.std.specs.Prelude.{fold, ◌||◌}
 use Rattle.std.proofs.lemmas.List.{append-nil, map-append, take-map, length-map}
+use Rattle.std.proofs.Math.Bool.{or-false}
 use Rattle.railml_read.specs.declared.rows.Elem.{Elem}
 use Rattle.railml_read.specs.declared.contexts.Context.{Context}
 use Rattle.railml_read.specs.declared.progress.Frame.{Frame}
@@ -20,17 +21,13 @@ reached_in context (element at name attrs children after) = is_infrastructure (b
 abbrev pub made : List Frame → List Elem → Bool → State
 made stack rows reached = record { stack = stack; rows = rows; reached = reached }
 
-or_false : (a : Bool) → (a || false) ≡ a
-or_false true = refl
-or_false false = refl
-
 or_four : (a b c d : Bool) → (((a || b) || c) || d) ≡ (a || ((b || c) || d))
 or_four true b c d = refl
 or_four false b c d = refl
 
 -- the tags of elements leave the stack, and add their rows
 pub gone_by : (elements : Elements) (s : State) (rest : List Tag) → fold step s (tags_of elements ++ rest) ≡ fold step (record { stack = s.stack; rows = s.rows ++ rows_from (context_in (top s.stack)) (row_in (top s.stack)) (length s.rows) elements; reached = s.reached || reached_in (context_in (top s.stack)) elements }) rest
-gone_by none s rest = rw (append-nil s.rows, or_false s.reached) refl
+gone_by none s rest = rw (append-nil s.rows, or-false s.reached) refl
 gone_by (element at name attrs children after) s rest =
     let context = context_in (top s.stack) in
     let parent = row_in (top s.stack) in

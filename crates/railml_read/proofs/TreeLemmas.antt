@@ -2,6 +2,7 @@
 use Rattle.std.proofs.Common.{◌≡◌, ◌≢◌, ℕ, ◌-◌, Bool, true, false, Option, Some, None, List, [], ◌∷◌, ◌++◌, length, take, drop, refl, sym, ap, ◌∙◌, subst, inl, inr, append_assoc}
 use Rattle.std.specs.Prelude.{fold, ◌||◌, codes}
 use Rattle.std.proofs.lemmas.List.{append-nil}
+use Rattle.std.proofs.Math.Bool.{or-false}
 use Rattle.railml_text.specs.declared.item.Attr.{Attr}
 use Rattle.railml_text.specs.declared.item.ItemKind.{ItemKind}
 use Rattle.railml_text.specs.declared.item.ItemKind.TheVariants as kinds
@@ -109,10 +110,6 @@ or_true : (a : Bool) → (a || true) ≡ true
 or_true true = refl
 or_true false = refl
 
-or_false : (a : Bool) → (a || false) ≡ a
-or_false true = refl
-or_false false = refl
-
 is_root_name : (names : List (List ℕ)) (root : Bool) (name : List ℕ) → ((root ≡ false) × (IsRootName name → ⊥) → ⊥) → root ≡ false → IsRootName name
 is_root_name names root name here e = elim (same_or_not name (codes "railml")) [
   | inl same ↦ inl same
@@ -138,8 +135,8 @@ fit_one names root at (kinds.Start name attrs true) tags here rest =
     (is_root_name names root name (here Root), is_first_root names root (here AfterRoot), (last_push names name, subst (λ (b : Bool). Fit (take (length (names ++ name ∷ []) - 1) (names ++ name ∷ [])) b tags) (or_true root) rest))
 fit_one names root at (kinds.Start name attrs false) tags here rest =
     (is_root_name names root name (here Root), is_first_root names root (here AfterRoot), subst (λ (b : Bool). Fit (names ++ name ∷ []) b tags) (or_true root) rest)
-fit_one names root at (kinds.EndTag name) tags here rest = (is_some (innermost names) name (here EndTag), subst (λ (b : Bool). Fit (take (length names - 1) names) b tags) (or_false root) rest)
-fit_one names root at kind tags here rest = subst (λ (b : Bool). Fit names b tags) (or_false root) rest
+fit_one names root at (kinds.EndTag name) tags here rest = (is_some (innermost names) name (here EndTag), subst (λ (b : Bool). Fit (take (length names - 1) names) b tags) (or-false root) rest)
+fit_one names root at kind tags here rest = subst (λ (b : Bool). Fit names b tags) (or-false root) rest
 
 pub items_fit : (before items : List Placed) → AreInPlace before items → Fit (open_names before) (has_root before) (tags_in items)
 items_fit before [] h = tt

@@ -4,7 +4,7 @@ use Rattle.std.specs.Str.{IsValidUpTo}
 use Rattle.railml_text.specs.declared.fault.TextWhat.{TextWhat}
 use Rattle.railml_text.specs.declared.fault.TextWhat.TheVariants.{NotUtf8, Unfinished, NoInfrastructure}
 use Rattle.railml_text.specs.Items.{Shape, HasItem}
-use Rattle.railml_text.specs.Faults.{number_of, HasFault}
+use Rattle.railml_text.specs.Faults.{number_of, HasItemFault}
 use Rattle.railml_text.specs.Cutting.{Placed, ComesTo, IsCutInto, is_first}
 use Rattle.railml_read.specs.Tree.{Tree, root_of, tags_of, names_of}
 use Rattle.railml_read.specs.Rows.{rows_of}
@@ -37,10 +37,10 @@ pub record HasMisplaced (before : List Placed) (rest : List ℕ) (what : TextWha
 
 -- what begins the rest has this fault behind the items before: by itself, or by its place
 abbrev pub HasFaultBehind : List Placed → List ℕ → TextWhat → Type 0
-HasFaultBehind before rest what = HasFault (is_first before) rest what ⊎ HasMisplaced before rest what
+HasFaultBehind before rest what = HasItemFault (is_first before) rest what ⊎ HasMisplaced before rest what
 
 -- the first item that has a fault begins at this place, and this is its fault with the lowest number
-pub record IsFirstFault (bytes : List ℕ) (what : TextWhat) (at : ℕ) : Type 0 where
+pub record IsFirstTextFault (bytes : List ℕ) (what : TextWhat) (at : ℕ) : Type 0 where
   pub utf8 : IsUtf8 bytes
   pub before : List Placed
   pub rest : List ℕ
@@ -73,9 +73,9 @@ pub record LacksInfrastructure (bytes : List ℕ) (at : ℕ) : Type 0 where
 -- before all others, at the length of its longest front that is.
 abbrev pub IsTextFault : List ℕ → TextWhat → ℕ → Type 0
 IsTextFault bytes NotUtf8 at = IsValidUpTo bytes at
-IsTextFault bytes Unfinished at = IsFirstFault bytes Unfinished at ⊎ EndsOpen bytes at
+IsTextFault bytes Unfinished at = IsFirstTextFault bytes Unfinished at ⊎ EndsOpen bytes at
 IsTextFault bytes NoInfrastructure at = LacksInfrastructure bytes at
-IsTextFault bytes what at = IsFirstFault bytes what at
+IsTextFault bytes what at = IsFirstTextFault bytes what at
 
 -- ---- answers
 
@@ -85,7 +85,12 @@ pub record AreRows (bytes : List ℕ) (rows : List Elem) : Type 0 where
   pub spells : Spells bytes tree
   pub found : rows ≡ rows_of tree
 
--- what an answer without rows says of the bytes
-abbrev pub IsFaultOf : List ℕ → ReadFault → Type 0
-IsFaultOf bytes (answers.Text what at) = IsTextFault bytes what at
-IsFaultOf bytes answers.Memory = ⊤
+-- the text has no fault, and these are the rows of its tree
+pub record GivesRows (bytes : List ℕ) (rows : List Elem) : Type 0 where
+  pub are_rows : AreRows bytes rows
+  pub sound : (what : TextWhat) (at : ℕ) → IsTextFault bytes what at → ⊥
+
+-- the fault that is told of the bytes; want of memory is none
+abbrev pub IsReadFault : List ℕ → ReadFault → Type 0
+IsReadFault bytes (answers.Text what at) = IsTextFault bytes what at
+IsReadFault bytes answers.Memory = ⊥

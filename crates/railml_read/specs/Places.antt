@@ -7,6 +7,7 @@ use Rattle.railml_text.specs.declared.fault.TextWhat.{TextWhat}
 use Rattle.railml_text.specs.declared.fault.TextWhat.TheVariants.{Markup, EndTag, Root, AfterRoot, Depth}
 use Rattle.railml_text.specs.Items.{Shape, start_tag, end_tag, cdata, reference, chars}
 use Rattle.railml_text.specs.Cutting.{Placed}
+use Rattle.railml_read.specs.declared.progress.TheConstants.{MAX_DEPTH}
 use Rattle.railml_read.specs.Tree.{Tag, opens, closes}
 
 -- what matters of an item for where it stands: it opens an element, closes one, is content, which
@@ -70,13 +71,13 @@ IsRootName name = (name ≡ codes "railml") ⊎ (name ≡ codes "infrastructure"
 
 -- The table of faults, as far as it speaks of where an item stands: an item of this role has this
 -- fault where elements of these names are open and the root has begun or hasn't. The root's depth is
--- 1, so an element that begins where 64 are open would be 65 deep.
+-- 1, so an element that begins where as many are open as may be would be too deep.
 abbrev pub IsMisplaced : List (List ℕ) → Bool → Role → TextWhat → Type 0
 IsMisplaced names rooted content Markup = rooted ≡ false
 IsMisplaced names rooted content AfterRoot = (rooted ≡ true) × (names ≡ [])
 IsMisplaced names rooted (opening name) Root = (rooted ≡ false) × (IsRootName name → ⊥)
 IsMisplaced names rooted (opening name) AfterRoot = (rooted ≡ true) × (names ≡ [])
-IsMisplaced names rooted (opening name) Depth = 64 ≤ length names
+IsMisplaced names rooted (opening name) Depth = MAX_DEPTH ≤ length names
 IsMisplaced names rooted (closing name) EndTag = innermost names ≢ Some name
 IsMisplaced names rooted role what = ⊥
 

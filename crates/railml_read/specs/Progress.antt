@@ -7,6 +7,7 @@ use Rattle.railml_text.specs.Cutting.{Placed}
 use Rattle.railml_read.specs.declared.rows.Elem.{Elem}
 use Rattle.railml_read.specs.declared.contexts.Context.{Context}
 use Rattle.railml_read.specs.declared.contexts.Context.TheVariants.{Outside, Infrastructure}
+use Rattle.railml_read.specs.declared.progress.TheConstants.{MAX_DEPTH}
 use Rattle.railml_read.specs.declared.progress.Frame.{Frame}
 use Rattle.railml_read.specs.declared.progress.Progress.{Progress as Kept}
 use Rattle.railml_read.specs.Contexts.{below}
@@ -75,7 +76,7 @@ abbrev pub fault_in : List (List ℕ) → Bool → Role → Option TextWhat
 fault_in names rooted (opening name) =
     if not rooted && not (is_root_name name) then Some Root
     else if rooted && (length names == 0) then Some AfterRoot
-    else if nat_le 64 (length names) then Some Depth
+    else if nat_le MAX_DEPTH (length names) then Some Depth
     else None
 fault_in names rooted (closing name) = if is_innermost name names then None else Some EndTag
 fault_in names rooted content =

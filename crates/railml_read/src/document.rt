@@ -1,8 +1,10 @@
 // A document's rows, in one pass over its items.
-ghost use Rattle.std.specs.Prelude.{◌≡◌, ◌≤◌, ◌⊎◌, ℕ, length, IfOk, IfErr, OnOk, IsErrOf, IsUtf8};
+ghost use Rattle.std.specs.Prelude.{◌≡◌, ◌≤◌, ◌⊎◌, ℕ, length, IfOk, IfErr, OnOk, IsUtf8};
+ghost use Rattle.plan_core.specs.Exactly.{AnswersExactly};
+ghost use Rattle.plan_core.specs.declared.limits.TheConstants.{MAX_FILE_BYTES};
 ghost use Rattle.railml_text.specs.declared.fault.TextWhat.{TextWhat as What};
 ghost use Rattle.railml_text.specs.Cutting.{start_of as start};
-ghost use Rattle.railml_read.specs.Document.{AreRows, IsFaultOf, IsTextFault};
+ghost use Rattle.railml_read.specs.Document.{AreRows, GivesRows, IsReadFault, IsTextFault};
 ghost use Rattle.railml_read.specs.Formed.{AreFormed};
 ghost use Rattle.railml_read.specs.Progress.{state_of};
 ghost use Rattle.railml_read.specs.Passing.{IsReadThrough, fault_at as text_fault_at};
@@ -39,9 +41,9 @@ fn fault_at(fault: ItemFault, at: usize) -> ReadFault
 /// Takes each item into account, or answers the fault of the first that has one.
 fn read_items(alloc: Global, bytes: &[u8]) -> Result<Progress, ReadFault>
     requires utf8 { IsUtf8 bytes.now }
-    requires few { length bytes.now ≤ 4194304 }
+    requires few { length bytes.now ≤ MAX_FILE_BYTES }
     ensures through { IfOk result (λ p. IsReadThrough bytes.now (state_of p) p.has_root) }
-    ensures fault { IfErr result (λ e. IsFaultOf bytes.now e) }
+    ensures fault { IfErr result (λ e. (e ≡ ReadFault.Memory) ⊎ IsReadFault bytes.now e) }
 {
     let mut progress = Progress::new(alloc);
     let mut at = start_of(bytes);
@@ -64,10 +66,10 @@ fn read_items(alloc: Global, bytes: &[u8]) -> Result<Progress, ReadFault>
 /// The rows of a text that is UTF-8, or its fault.
 fn read_text(alloc: Global, bytes: &[u8]) -> Result<Records, ReadFault>
     requires utf8 { IsUtf8 bytes.now }
-    requires few { length bytes.now ≤ 4194304 }
+    requires few { length bytes.now ≤ MAX_FILE_BYTES }
     ensures rows { IfOk result (λ rows. AreRows bytes.now rows) }
     ensures sound { OnOk result ((what : What) (at : ℕ) → IsTextFault bytes.now what at → ⊥) }
-    ensures fault { IfErr result (λ e. IsFaultOf bytes.now e) }
+    ensures fault { IfErr result (λ e. (e ≡ ReadFault.Memory) ⊎ IsReadFault bytes.now e) }
     ensures formed { IfOk result (λ rows. AreFormed rows) }
 {
     let progress = read_items(alloc, bytes)?;
@@ -87,19 +89,12 @@ fn read_text(alloc: Global, bytes: &[u8]) -> Result<Records, ReadFault>
     Ok(progress.into_rows())
 }
 
-/// The rows of the document's selected elements, or the fault of its text.
-///
-/// The text is cut into items from left to right, and the fault is that of the first item that has
-/// one. `NotUtf8` comes before all others, at the length of the longest front that is UTF-8;
-/// `Unfinished` of the whole text and `NoInfrastructure` come after all items, at its length.
-pub fn read(alloc: Global, bytes: &[u8]) -> Result<Records, ReadFault>
-    requires { length bytes.now ≤ 4194304 }
+/// The rows of any text, or its fault.
+fn read_bytes(alloc: Global, bytes: &[u8]) -> Result<Records, ReadFault>
+    requires { length bytes.now ≤ MAX_FILE_BYTES }
     ensures rows { IfOk result (λ rows. AreRows bytes.now rows) }
-    ensures fault { IfErr result (λ e. IsFaultOf bytes.now e) }
-    // Where the text has a fault, no rows are answered.
-    ensures told { (what : What) (at : ℕ) → IsTextFault bytes.now what at →
-        IsErrOf result (ReadFault.Text what at) ⊎ IsErrOf result ReadFault.Memory }
-    // How the rows are formed, for whoever reads them.
+    ensures sound { OnOk result ((what : What) (at : ℕ) → IsTextFault bytes.now what at → ⊥) }
+    ensures fault { IfErr result (λ e. (e ≡ ReadFault.Memory) ⊎ IsReadFault bytes.now e) }
     ensures formed { IfOk result (λ rows. AreFormed rows) }
 {
     if let Err(e) = std::str::from_utf8(bytes) {
@@ -109,4 +104,18 @@ pub fn read(alloc: Global, bytes: &[u8]) -> Result<Records, ReadFault>
         });
     }
     read_text(alloc, bytes)
+}
+
+/// The rows of the document's selected elements, or the fault of its text.
+///
+/// The text is cut into items from left to right, and the fault is that of the first item that has
+/// one. `NotUtf8` comes before all others, at the length of the longest front that is UTF-8;
+/// `Unfinished` of the whole text and `NoInfrastructure` come after all items, at its length.
+pub fn read(alloc: Global, bytes: &[u8]) -> Result<Records, ReadFault>
+    requires { length bytes.now ≤ MAX_FILE_BYTES }
+    ensures answers { AnswersExactly result ReadFault.Memory (GivesRows bytes.now) (IsReadFault bytes.now) }
+    // How the rows are formed, for whoever reads them.
+    ensures formed { IfOk result (λ rows. AreFormed rows) }
+{
+    read_bytes(alloc, bytes)
 }

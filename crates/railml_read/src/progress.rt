@@ -12,7 +12,7 @@ use railml_text::{Attr, ItemKind, TextWhat};
 use std::alloc::Global;
 
 /// The greatest depth of an element, that of the root being 1.
-const DEEPEST: usize = 64;
+pub(crate) const MAX_DEPTH: usize = 64;
 
 /// An open element: its name, where it stands, and the number of the nearest row at or above it.
 #[derive(Drop)]
@@ -125,7 +125,7 @@ impl Progress {
                     Some(TextWhat::Root)
                 } else if self.has_root && self.stack.is_empty() {
                     Some(TextWhat::AfterRoot)
-                } else if self.stack.len() >= DEEPEST {
+                } else if self.stack.len() >= MAX_DEPTH {
                     Some(TextWhat::Depth)
                 } else {
                     None

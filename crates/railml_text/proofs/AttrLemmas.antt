@@ -10,7 +10,7 @@ use Rattle.railml_text.specs.declared.written.WrittenAttr.{WrittenAttr}
 use Rattle.railml_text.specs.declared.item.Attr.{Attr}
 use Rattle.railml_text.specs.declared.fault.ItemFault.{ItemFault}
 use Rattle.railml_text.specs.declared.fault.ItemFault.TheVariants as answers
-use Rattle.railml_text.specs.Values.{IsTextOf, HasLoose}
+use Rattle.railml_text.specs.Values.{IsValueText, HasLoose}
 use Rattle.railml_text.specs.Grammar.{Written}
 use Rattle.railml_text.specs.Items.{AreTextsOf}
 use Rattle.railml_text.specs.Faults.{HasRepeat, NamesOtherEncoding}
@@ -124,7 +124,7 @@ seen_more q name some old new e f = seen_cases (bytes_eq name q) some old new e 
 
 -- ---- texts
 
-pub AreTextsOf-push : (attrs : List Written) (texts : List Attr) (attr : Written) (text : Attr) → AreTextsOf attrs texts → text.name ≡ attr.name → IsTextOf attr.value text.value → AreTextsOf (attrs ++ attr ∷ []) (texts ++ text ∷ [])
+pub AreTextsOf-push : (attrs : List Written) (texts : List Attr) (attr : Written) (text : Attr) → AreTextsOf attrs texts → text.name ≡ attr.name → IsValueText attr.value text.value → AreTextsOf (attrs ++ attr ∷ []) (texts ++ text ∷ [])
 AreTextsOf-push [] [] attr text h n v = (n, v, tt)
 AreTextsOf-push [] (t ∷ texts) attr text h n v = absurd h
 AreTextsOf-push (a ∷ attrs) [] attr text h n v = absurd h
@@ -135,7 +135,7 @@ map-push [] a = refl
 map-push (b ∷ attrs) a = ap (λ (xs : List Written). written_of b ∷ xs) (map-push attrs a)
 
 pub texts_more : (attrs : List WrittenAttr) (i : ℕ) (d : WrittenAttr) (texts : List Attr) (text : Attr) → i < length attrs → AreTextsOf (map written_of (take i attrs)) texts
-    → text.name ≡ (get_or attrs i d).name.now → IsTextOf (get_or attrs i d).value.now text.value → AreTextsOf (map written_of (take (i + 1) attrs)) (texts ++ text ∷ [])
+    → text.name ≡ (get_or attrs i d).name.now → IsValueText (get_or attrs i d).value.now text.value → AreTextsOf (map written_of (take (i + 1) attrs)) (texts ++ text ∷ [])
 texts_more attrs i d texts text lt h n v =
     subst (λ (xs : List Written). AreTextsOf xs (texts ++ text ∷ [])) (sym (ap (map written_of) (take_more attrs i d lt) ∙ map-push (take i attrs) (get_or attrs i d)))
     (AreTextsOf-push (map written_of (take i attrs)) texts (written_of (get_or attrs i d)) text h n v)

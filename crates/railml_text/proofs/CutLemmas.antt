@@ -11,7 +11,7 @@ use Rattle.railml_text.specs.declared.fault.TextWhat.{TextWhat}
 use Rattle.railml_text.specs.declared.fault.TextWhat.TheVariants.{NotUtf8, Encoding, Doctype, Markup, Entity, EndTag, RepeatedAttribute, Root, Unfinished, AfterRoot, Depth, NoInfrastructure}
 use Rattle.railml_text.specs.Grammar.{Written}
 use Rattle.railml_text.specs.Items.{Shape, declaration, instruction, comment, cdata, start_tag, end_tag, reference, chars, HasItem, AreTextsOf, IsKindOf}
-use Rattle.railml_text.specs.Faults.{number_of, HasFault, IsLeastFault, HasSoundItem}
+use Rattle.railml_text.specs.Faults.{number_of, HasItemFault, IsLeastFault, HasSoundItem}
 use Rattle.railml_text.specs.Cutting.{Placed, Cuts, byte_order_mark, start_of, ComesTo, IsCutInto, is_first, FirstFault}
 use Rattle.std.proofs.lemmas.Bool.Decides.{nat_tests}
 use Rattle.railml_text.proofs.RunLemmas.{both_true, not_both, same_if_eq}
@@ -92,11 +92,11 @@ one_fault first rest what other h k = elim (order (number_of what) (number_of ot
 
 -- ---- an item or a fault
 
-pub fault_no_sound : (first : Bool) (rest : List ℕ) (what : TextWhat) (kind : ItemKind) (after : List ℕ) → HasFault first rest what → HasSoundItem first rest kind after → ⊥
+pub fault_no_sound : (first : Bool) (rest : List ℕ) (what : TextWhat) (kind : ItemKind) (after : List ℕ) → HasItemFault first rest what → HasSoundItem first rest kind after → ⊥
 fault_no_sound first rest what kind after f h = h.sound what f
 
 -- at these faults no item begins
-pub fault_no_item : (first : Bool) (rest : List ℕ) (shape : Shape) (after : List ℕ) → HasFault first rest Doctype ⊎ HasFault first rest Markup ⊎ HasFault first rest Unfinished → HasItem first rest shape after → ⊥
+pub fault_no_item : (first : Bool) (rest : List ℕ) (shape : Shape) (after : List ℕ) → HasItemFault first rest Doctype ⊎ HasItemFault first rest Markup ⊎ HasItemFault first rest Unfinished → HasItem first rest shape after → ⊥
 fault_no_item first rest shape after (inl d) h = no_doctype first rest shape after h d
 fault_no_item first rest shape after (inr (inl m)) h = m.no_item shape after h
 fault_no_item first rest shape after (inr (inr u)) h = u.no_item shape after h
@@ -165,7 +165,7 @@ one_first_fault bytes what other at next h k =
 no_item_at_end : (first : Bool) (shape : Shape) (after : List ℕ) → HasItem first [] shape after → ⊥
 no_item_at_end first shape after h = absurd (omega (arith, item_some first [] shape after h))
 
-fault_some : (first : Bool) (what : TextWhat) → HasFault first [] what → ⊥
+fault_some : (first : Bool) (what : TextWhat) → HasItemFault first [] what → ⊥
 fault_some first NotUtf8 f = f
 fault_some first Encoding f = no_item_at_end first (declaration f.attrs) f.after f.item
 fault_some first Doctype f = let k : [] ≡ codes "<!DOCTYPE" ++ f.0 = f.1 in cc
@@ -184,7 +184,7 @@ fault_some first NoInfrastructure f = f
 pub fault_no_cut : (bytes : List ℕ) (what : TextWhat) (at : ℕ) (items : List Placed) → FirstFault bytes what at → IsCutInto bytes items → ⊥
 fault_no_cut bytes what at items h k =
     let o = comes_once bytes h.items items at (length bytes) h.rest [] h.before k (Stops-fault (is_first h.items) h.rest what h.fault) (Stops-end (is_first items)) in
-    fault_some (is_first h.items) what (subst (λ (u : List ℕ). HasFault (is_first h.items) u what) o.2 h.fault.holds)
+    fault_some (is_first h.items) what (subst (λ (u : List ℕ). HasItemFault (is_first h.items) u what) o.2 h.fault.holds)
 
 -- ---- from left to right
 

@@ -15,9 +15,9 @@ use Rattle.railml_text.specs.Bytes.{BeginsWith}
 use Rattle.railml_text.specs.References.{BeginsLoose}
 use Rattle.railml_text.specs.Grammar.{Written}
 use Rattle.railml_text.specs.Items.{Shape, declaration, instruction, comment, cdata, start_tag, end_tag, reference, chars, HasItem, AreTextsOf, IsKindOf}
-use Rattle.railml_text.specs.Faults.{number_of, NamesOtherEncoding, HasRepeat, attrs_of, HasFault, IsLeastFault, HasSoundItem, IsFaultAt}
+use Rattle.railml_text.specs.Faults.{number_of, NamesOtherEncoding, HasRepeat, attrs_of, HasItemFault, IsLeastFault, HasSoundItem}
 use Rattle.railml_text.specs.Reading.{Found, item, doctype, MarkupRead, Stopped}
-use Rattle.railml_text.specs.Judging.{AnyLoose, OwnFault, IsLeastOwn, IsSoundKind, IsJudged, IsRefused, refusal_of}
+use Rattle.railml_text.specs.Judging.{AnyLoose, OwnFault, IsLeastOwn, IsSoundKind, IsFoundKind, IsFoundFault, refusal_of, IsFaultAt}
 use Rattle.railml_text.proofs.RunLemmas.{heads_same}
 use Rattle.railml_text.proofs.AttrLemmas.{texts_no_loose}
 use Rattle.railml_text.proofs.OneItem.{Sort, sort_of, one_item, no_doctype, read_item, read_doctype, miss_no_item, miss_no_doctype, cut_front, bad_no_front, heads_differ, markup_heads, not_in_text}
@@ -32,7 +32,7 @@ loose_no_item first rest shape after l h = by_sort (sort_of shape)
     by_sort (inr (inl r)) = let i = subst (λ (u : Shape). HasItem first rest u after) r h in l.none i.text after i.is.0 i.parts i.is.1
     by_sort (inr (inr c)) = not_in_text first rest after c.0 38 refl (subst (λ (u : Shape). HasItem first rest u after) c.1 h) (l.rest, l.ampersand)
 
-pub own_fault : (first : Bool) (rest : List ℕ) (shape : Shape) (after : List ℕ) → HasItem first rest shape after → (what : TextWhat) → HasFault first rest what → OwnFault shape what
+pub own_fault : (first : Bool) (rest : List ℕ) (shape : Shape) (after : List ℕ) → HasItem first rest shape after → (what : TextWhat) → HasItemFault first rest what → OwnFault shape what
 own_fault first rest shape after h NotUtf8 f = absurd f
 own_fault first rest shape after h Encoding f = subst (λ (u : Shape). OwnFault u Encoding) (one_item first rest (declaration f.attrs) shape f.after after f.item h).0 f.names
 own_fault first rest shape after h Doctype f = absurd (no_doctype first rest shape after h f)
@@ -61,7 +61,7 @@ own_fault first rest shape after h Depth f = absurd f
 own_fault first rest shape after h NoInfrastructure f = absurd f
 
 -- and the other way round
-own_holds : (first : Bool) (rest : List ℕ) (shape : Shape) (after : List ℕ) → HasItem first rest shape after → (what : TextWhat) → OwnFault shape what → HasFault first rest what
+own_holds : (first : Bool) (rest : List ℕ) (shape : Shape) (after : List ℕ) → HasItem first rest shape after → (what : TextWhat) → OwnFault shape what → HasItemFault first rest what
 own_holds first rest (declaration attrs) after h Encoding o = record { attrs = attrs; after = after; item = h; names = o }
 own_holds first rest (declaration attrs) after h RepeatedAttribute o = record { shape = declaration attrs; after = after; item = h; repeat = o }
 own_holds first rest (start_tag name attrs empty) after h Entity o = inr (record { name = name; attrs = attrs; empty = empty; after = after; item = h; loose = o })
@@ -87,7 +87,7 @@ least_fault first rest shape after what h o = record {
 
 -- ---- after `<`
 
-least_doctype : (first : Bool) (rest : List ℕ) → BeginsWith rest (codes "<!DOCTYPE") → (other : TextWhat) → number_of other < 3 → HasFault first rest other → ⊥
+least_doctype : (first : Bool) (rest : List ℕ) → BeginsWith rest (codes "<!DOCTYPE") → (other : TextWhat) → number_of other < 3 → HasItemFault first rest other → ⊥
 least_doctype first rest b NotUtf8 lt f = f
 least_doctype first rest b Encoding lt f = no_doctype first rest (declaration f.attrs) f.after f.item b
 least_doctype first rest b Doctype lt f = absurd (omega arith)
@@ -107,7 +107,7 @@ doctype_fault first bytes after h = let b = read_doctype first bytes after h in 
 not_loose : (bytes : List ℕ) → BeginsLoose (60 ∷ bytes) → ⊥
 not_loose bytes l = let q = heads_same 60 38 bytes l.rest l.ampersand in absurd (omega (arith, q))
 
-least_unfinished : (first : Bool) (bytes : List ℕ) → MarkupRead first bytes (Err Cut) → (other : TextWhat) → number_of other < 9 → HasFault first (60 ∷ bytes) other → ⊥
+least_unfinished : (first : Bool) (bytes : List ℕ) → MarkupRead first bytes (Err Cut) → (other : TextWhat) → number_of other < 9 → HasItemFault first (60 ∷ bytes) other → ⊥
 least_unfinished first bytes h NotUtf8 lt f = f
 least_unfinished first bytes h Encoding lt f = miss_no_item first bytes Cut h (declaration f.attrs) f.after f.item
 least_unfinished first bytes h Doctype lt f = miss_no_doctype first bytes Cut h f
@@ -128,7 +128,7 @@ unfinished_fault first bytes h = record {
   least = least_unfinished first bytes h;
 }
 
-least_markup : (first : Bool) (bytes : List ℕ) → MarkupRead first bytes (Err Bad) → (other : TextWhat) → number_of other < 4 → HasFault first (60 ∷ bytes) other → ⊥
+least_markup : (first : Bool) (bytes : List ℕ) → MarkupRead first bytes (Err Bad) → (other : TextWhat) → number_of other < 4 → HasItemFault first (60 ∷ bytes) other → ⊥
 least_markup first bytes h NotUtf8 lt f = f
 least_markup first bytes h Encoding lt f = miss_no_item first bytes Bad h (declaration f.attrs) f.after f.item
 least_markup first bytes h Doctype lt f = miss_no_doctype first bytes Bad h f
@@ -153,11 +153,11 @@ stop_fault first bytes (stops.Miss Cut) h = unfinished_fault first bytes h
 stop_fault first bytes (stops.Miss Bad) h = markup_fault first bytes h
 stop_fault first bytes stops.Memory h = tt
 
-pub found_sound : (first : Bool) (bytes : List ℕ) (found : Found) (after : List ℕ) (kind : ItemKind) → MarkupRead first bytes (Ok (found, after)) → IsJudged found kind → HasSoundItem first (60 ∷ bytes) kind after
+pub found_sound : (first : Bool) (bytes : List ℕ) (found : Found) (after : List ℕ) (kind : ItemKind) → MarkupRead first bytes (Ok (found, after)) → IsFoundKind found kind → HasSoundItem first (60 ∷ bytes) kind after
 found_sound first bytes (item shape) after kind h j = sound_item first (60 ∷ bytes) shape after kind (read_item first bytes shape after h) j
 found_sound first bytes doctype after kind h j = absurd j
 
-pub found_fault : (first : Bool) (bytes : List ℕ) (found : Found) (after : List ℕ) (fault : ItemFault) → MarkupRead first bytes (Ok (found, after)) → IsRefused found fault → IsFaultAt first (60 ∷ bytes) fault
+pub found_fault : (first : Bool) (bytes : List ℕ) (found : Found) (after : List ℕ) (fault : ItemFault) → MarkupRead first bytes (Ok (found, after)) → IsFoundFault found fault → IsFaultAt first (60 ∷ bytes) fault
 found_fault first bytes found after answers.Memory h r = tt
 found_fault first bytes (item shape) after (answers.Item what) h r = least_fault first (60 ∷ bytes) shape after what (read_item first bytes shape after h) r
 found_fault first bytes doctype after (answers.Item what) h r = subst (IsLeastFault first (60 ∷ bytes)) (sym r) (doctype_fault first bytes after h)
@@ -188,7 +188,7 @@ quiet_sound shape kind q k = record { kind_is = k; sound = quiet shape q }
 
 -- ---- after `&`
 
-least_loose : (first : Bool) (rest : List ℕ) → BeginsLoose rest → (other : TextWhat) → number_of other < 5 → HasFault first rest other → ⊥
+least_loose : (first : Bool) (rest : List ℕ) → BeginsLoose rest → (other : TextWhat) → number_of other < 5 → HasItemFault first rest other → ⊥
 least_loose first rest l NotUtf8 lt f = f
 least_loose first rest l Encoding lt f = loose_no_item first rest (declaration f.attrs) f.after l f.item
 least_loose first rest l Doctype lt f = let q = heads_same 60 38 (codes "!DOCTYPE" ++ f.0) l.rest (sym f.1 ∙ l.ampersand) in absurd (omega (arith, q))

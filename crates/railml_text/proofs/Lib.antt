@@ -14,3 +14,4 @@ pub mod PartLemmas
 pub mod AttrLemmas
 pub mod ScanLemmas
 pub mod CutLemmas
+pub mod AnswerLemmas

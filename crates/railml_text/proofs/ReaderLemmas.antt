@@ -3,7 +3,7 @@ use Rattle.std.proofs.Common.{◌≡◌, ◌⊎◌, ℕ, Bool, true, false, cond
 use Rattle.std.specs.Prelude.{⊤}
 use Rattle.railml_text.specs.declared.miss.Miss.TheVariants.{Cut, Bad}
 use Rattle.railml_text.specs.Bytes.{is_blank, begins_name, goes_on_name, is_in_value, Passes}
-use Rattle.railml_text.specs.Grammar.{AreBlanks, IsName, Written, IsAttr, IsEndTag}
+use Rattle.railml_text.specs.Grammar.{AreBlanks, IsXmlName, Written, IsAttr, IsEndTag}
 use Rattle.railml_text.specs.Reading.{Read, done, front, past, skip, by_first, nothing_at, word_at, ended, name_at, closed, value_at, quoted_at, written, last_of, first_of, equals_at, attr_at, end_tag_at}
 use Rattle.railml_text.proofs.RunLemmas.{eq-same, same_if_eq, blank_no_name, front-past, front_passes, front_run, past_run, past_more, front_more, passes_all}
 use Rattle.railml_text.proofs.LawLemmas.{Taken, GoesOn, Law, graph, Anything, done_rest, done_read, Law-spelled, TurnText, SomeText, SomeText-turn, Law-in_turn, NoBlankFirst, GapText, Law-gap, OtherFirst, AfterFirst, FirstText, Law-by_first, NoText, Law-nothing}
@@ -68,9 +68,9 @@ pub record EndsName (rest : List ℕ) : Type 0 where
 
 pub record IsNameText (text name : List ℕ) : Type 0 where
   pub same : text ≡ name
-  pub named : IsName name
+  pub named : IsXmlName name
 
-pub name_again : (name rest : List ℕ) → IsName name → EndsName rest → name_at (name ++ rest) ≡ Ok (name, rest)
+pub name_again : (name rest : List ℕ) → IsXmlName name → EndsName rest → name_at (name ++ rest) ≡ Ok (name, rest)
 name_again [] rest h e = absurd h
 name_again (b ∷ name) rest h e =
     ap (λ (u : List ℕ). name_at ((b ∷ name) ++ u)) e.parts
@@ -106,7 +106,7 @@ name_takes (b ∷ bytes) name rest e =
     let w = name_whole b bytes name rest e in
     record {
       text = name;
-      is = record { same = refl; named = subst IsName w.is_name (w.begins, front_passes goes_on_name bytes) };
+      is = record { same = refl; named = subst IsXmlName w.is_name (w.begins, front_passes goes_on_name bytes) };
       parts = ap (λ (u : List ℕ). b ∷ u) (sym (front-past goes_on_name bytes)) ∙ ap (λ (u : List ℕ). b ∷ (front goes_on_name bytes ++ u)) (w.ends ∙ w.is_rest) ∙ ap (λ (u : List ℕ). u ++ rest) w.is_name;
     }
 
@@ -365,7 +365,7 @@ pub record BeginsName (text : List ℕ) : Type 0 where
   pub begins : begins_name head ≡ true
   pub parts : text ≡ head ∷ tail
 
-pub name_begins : (name rest : List ℕ) → IsName name → BeginsName (name ++ rest)
+pub name_begins : (name rest : List ℕ) → IsXmlName name → BeginsName (name ++ rest)
 name_begins [] rest h = absurd h
 name_begins (b ∷ name) rest h = record { head = b; tail = name ++ rest; begins = h.0; parts = refl }
 

@@ -8,7 +8,7 @@ use Rattle.std.proofs.lemmas.Str.{IsUtf8-append, IsUtf8-encode, IsUtf8-from_asci
 use Rattle.std.proofs.lemmas.Str.Ascii.{IsAscii-nil, IsAscii-cons}
 use Rattle.railml_text.specs.Bytes.{Passes}
 use Rattle.railml_text.specs.References.{IsReference, BeginsLoose}
-use Rattle.railml_text.specs.Values.{Piece, plain, line_end, blank, reference, value_of, text_of, IsPiece, AreSpelled, IsTextOf, HasLoose}
+use Rattle.railml_text.specs.Values.{ValuePiece, plain, line_end, blank, reference, value_of, text_of, IsPiece, AreSpelled, IsValueText, HasLoose}
 use Rattle.railml_text.specs.Reading.{reference_at, past_line_feed, encoded, piece_at}
 use Rattle.railml_text.proofs.RunLemmas.{eq-same, same_if_eq, false_unless, not_both, heads_same, tails_same}
 use Rattle.railml_text.proofs.ReferenceLemmas.{found, found_rest, found_value, reference_takes, reference_again, reference_shape}
@@ -18,7 +18,7 @@ use Rattle.railml_text.proofs.TextLemmas.{text_before, text_after}
 
 -- what a reading of a piece took
 pub record TakesPiece (bytes text after : List ℕ) : Type 0 where
-  pub piece : Piece
+  pub piece : ValuePiece
   pub is : IsPiece piece after
   pub parts : bytes ≡ value_of piece ++ after
   pub made : text ≡ text_of piece
@@ -100,7 +100,7 @@ no_feed : (after : List ℕ) → ((bytes : List ℕ) → after ≢ 10 ∷ bytes)
 no_feed [] h = refl
 no_feed (b ∷ after) h = rw (eq_false b 10 (λ e. h after (ap (λ (c : ℕ). c ∷ after) e))) refl
 
-pub piece_again : (piece : Piece) (after : List ℕ) → IsPiece piece after → piece_at (value_of piece ++ after) ≡ Some (text_of piece, after)
+pub piece_again : (piece : ValuePiece) (after : List ℕ) → IsPiece piece after → piece_at (value_of piece ++ after) ≡ Some (text_of piece, after)
 piece_again (plain b) after h = rw (eq_false b 38 h.0, eq_false b 13 h.3, neither_test b h.1 h.2) refl
 piece_again line_end after h = refl
 piece_again (blank b) after (inl (inl e)) = rw e refl
@@ -126,7 +126,7 @@ piece_none b bytes e = choose (b == 38) (b == 13) ((b == 9) || (b == 10)) refl e
     choose false false true p h = absurd cc
     choose false false false p h = absurd cc
 
-piece_some : (piece : Piece) (after : List ℕ) → IsPiece piece after → (b : ℕ) × (rest : List ℕ) × (value_of piece ≡ b ∷ rest)
+piece_some : (piece : ValuePiece) (after : List ℕ) → IsPiece piece after → (b : ℕ) × (rest : List ℕ) × (value_of piece ≡ b ∷ rest)
 piece_some (plain b) after h = (b, [], refl)
 piece_some line_end after h = (13, 10 ∷ [], refl)
 piece_some (blank b) after h = (b, [], refl)
@@ -135,21 +135,21 @@ piece_some (reference text c) after h = let s = reference_shape text c h in (38,
 -- ---- all pieces
 
 -- the value is these pieces, which stand for the text, and then the rest
-abbrev pub SpelledTo : List Piece → List ℕ → List ℕ → List ℕ → Type 0
+abbrev pub SpelledTo : List ValuePiece → List ℕ → List ℕ → List ℕ → Type 0
 SpelledTo [] value text rest = (value ≡ rest) × (text ≡ [])
 SpelledTo (piece ∷ pieces) value text rest =
     (after others : List ℕ) × IsPiece piece after × (value ≡ value_of piece ++ after) × (text ≡ text_of piece ++ others) × SpelledTo pieces after others rest
 
-pub SpelledTo-push : (pieces : List Piece) (piece : Piece) (value text rest after : List ℕ) → SpelledTo pieces value text rest → IsPiece piece after → rest ≡ value_of piece ++ after → SpelledTo (pieces ++ piece ∷ []) value (text ++ text_of piece) after
+pub SpelledTo-push : (pieces : List ValuePiece) (piece : ValuePiece) (value text rest after : List ℕ) → SpelledTo pieces value text rest → IsPiece piece after → rest ≡ value_of piece ++ after → SpelledTo (pieces ++ piece ∷ []) value (text ++ text_of piece) after
 SpelledTo-push [] piece value text rest after h is e = (after, [], is, h.0 ∙ e, ap (λ (u : List ℕ). u ++ text_of piece) h.1 ∙ sym (append-nil (text_of piece)), (refl, refl))
 SpelledTo-push (one ∷ pieces) piece value text rest after h is e =
     (h.0, h.1 ++ text_of piece, h.2, h.3, ap (λ (u : List ℕ). u ++ text_of piece) h.4 ∙ append_assoc (text_of one) h.1 (text_of piece), SpelledTo-push pieces piece h.0 h.1 rest after h.5 is e)
 
-pub spelled_all : (pieces : List Piece) (value text : List ℕ) → SpelledTo pieces value text [] → AreSpelled pieces value text
+pub spelled_all : (pieces : List ValuePiece) (value text : List ℕ) → SpelledTo pieces value text [] → AreSpelled pieces value text
 spelled_all [] value text h = h
 spelled_all (piece ∷ pieces) value text h = (h.0, h.1, h.2, h.3, h.4, spelled_all pieces h.0 h.1 h.5)
 
-pub spelled_before : (pieces : List Piece) (value text rest : List ℕ) → SpelledTo pieces value text rest → (before : List ℕ) × (value ≡ before ++ rest)
+pub spelled_before : (pieces : List ValuePiece) (value text rest : List ℕ) → SpelledTo pieces value text rest → (before : List ℕ) × (value ≡ before ++ rest)
 spelled_before [] value text rest h = ([], h.0)
 spelled_before (piece ∷ pieces) value text rest h =
     let b = spelled_before pieces h.0 h.1 rest h.5 in
@@ -157,7 +157,7 @@ spelled_before (piece ∷ pieces) value text rest h =
 
 -- so far: some pieces, and then the rest
 pub record SoFar (value text rest : List ℕ) : Type 0 where
-  pub pieces : List Piece
+  pub pieces : List ValuePiece
   pub spelled : SpelledTo pieces value text rest
 
 pub SoFar-none : (value : List ℕ) → SoFar value [] value
@@ -171,7 +171,7 @@ SoFar-more value text rest more after s e =
       spelled = subst (λ (u : List ℕ). SpelledTo (s.pieces ++ t.piece ∷ []) value (text ++ u) after) (sym t.made) (SpelledTo-push s.pieces t.piece value text rest after s.spelled t.is t.parts);
     }
 
-pub SoFar-all : (value text rest : List ℕ) → SoFar value text rest → (length rest == 0) ≡ true → IsTextOf value text
+pub SoFar-all : (value text rest : List ℕ) → SoFar value text rest → (length rest == 0) ≡ true → IsValueText value text
 SoFar-all value text [] s none = (s.pieces, spelled_all s.pieces value text s.spelled)
 SoFar-all value text (b ∷ rest) s none = let k : length (b ∷ rest) ≡ 0 = same_if_eq (length (b ∷ rest)) 0 none in absurd (omega (arith, k))
 
@@ -189,7 +189,7 @@ piece_shorter bytes text after e =
 
 -- ---- one text
 
-spelled_once : (pieces others : List Piece) (value text other : List ℕ) → AreSpelled pieces value text → AreSpelled others value other → text ≡ other
+spelled_once : (pieces others : List ValuePiece) (value text other : List ℕ) → AreSpelled pieces value text → AreSpelled others value other → text ≡ other
 spelled_once [] [] value text other h k = h.1 ∙ sym k.1
 spelled_once [] (q ∷ others) value text other h k = let s = piece_some q k.0 k.2 in let e : [] ≡ s.0 ∷ (s.1 ++ k.0) = sym h.0 ∙ k.3 ∙ ap (λ (u : List ℕ). u ++ k.0) s.2 in absurd cc
 spelled_once (p ∷ pieces) [] value text other h k = let s = piece_some p h.0 h.2 in let e : [] ≡ s.0 ∷ (s.1 ++ h.0) = sym k.0 ∙ h.3 ∙ ap (λ (u : List ℕ). u ++ h.0) s.2 in absurd cc
@@ -201,7 +201,7 @@ spelled_once (p ∷ pieces) (q ∷ others) value text other h k =
     h.4 ∙ ap (λ (u : List ℕ). u ++ h.1) same ∙ ap (λ (u : List ℕ). text_of q ++ u) rest ∙ sym k.4
 
 -- a value has at most one text
-pub one_text : (value text other : List ℕ) → IsTextOf value text → IsTextOf value other → text ≡ other
+pub one_text : (value text other : List ℕ) → IsValueText value text → IsValueText value other → text ≡ other
 one_text value text other h k = spelled_once h.0 k.0 value text other h.1 k.1
 
 -- ---- a value with a text has no loose `&`
@@ -218,7 +218,7 @@ behind (b ∷ run) after [] rest n e =
 behind (b ∷ run) after (x ∷ before) rest n e = behind run after before rest n.1 (tails_same b x (run ++ after) (before ++ 38 ∷ rest) e)
 
 -- the `&` stands behind the piece, or it is the piece
-beyond : (piece : Piece) (after before rest : List ℕ) → IsPiece piece after → value_of piece ++ after ≡ before ++ 38 ∷ rest → BeginsLoose (38 ∷ rest) → (others : List ℕ) × (after ≡ others ++ 38 ∷ rest)
+beyond : (piece : ValuePiece) (after before rest : List ℕ) → IsPiece piece after → value_of piece ++ after ≡ before ++ 38 ∷ rest → BeginsLoose (38 ∷ rest) → (others : List ℕ) × (after ≡ others ++ 38 ∷ rest)
 beyond (plain b) after before rest h e l = behind (b ∷ []) after before rest (ap not (eq_false b 38 h.0), tt) e
 beyond line_end after before rest h e l = behind (13 ∷ 10 ∷ []) after before rest (refl, (refl, tt)) e
 beyond (blank b) after before rest (inl (inl q)) e l = behind (b ∷ []) after before rest (rw q refl, tt) e
@@ -232,14 +232,14 @@ beyond (reference text c) after (x ∷ before) rest h e l =
     let first = behind s.inner (59 ∷ after) before rest s.no_ampersand tail in
     behind (59 ∷ []) after first.0 rest (refl, tt) first.1
 
-spelled_no_loose : (pieces : List Piece) (value text before rest : List ℕ) → AreSpelled pieces value text → value ≡ before ++ 38 ∷ rest → BeginsLoose (38 ∷ rest) → ⊥
+spelled_no_loose : (pieces : List ValuePiece) (value text before rest : List ℕ) → AreSpelled pieces value text → value ≡ before ++ 38 ∷ rest → BeginsLoose (38 ∷ rest) → ⊥
 spelled_no_loose [] value text [] rest h e l = let k : [] ≡ 38 ∷ rest = sym h.0 ∙ e in cc
 spelled_no_loose [] value text (x ∷ before) rest h e l = let k : [] ≡ x ∷ (before ++ 38 ∷ rest) = sym h.0 ∙ e in cc
 spelled_no_loose (piece ∷ pieces) value text before rest h e l =
     let b = beyond piece h.0 before rest h.2 (sym h.3 ∙ e) l in
     spelled_no_loose pieces h.0 h.1 b.0 rest h.5 b.1 l
 
-pub text_no_loose : (value text : List ℕ) → IsTextOf value text → HasLoose value → ⊥
+pub text_no_loose : (value text : List ℕ) → IsValueText value text → HasLoose value → ⊥
 text_no_loose value text t l =
     let e : value ≡ l.before ++ 38 ∷ l.loose.rest = l.parts ∙ ap (λ (u : List ℕ). l.before ++ u) l.loose.ampersand in
     spelled_no_loose t.0 value text l.before l.loose.rest t.1 e (subst BeginsLoose l.loose.ampersand l.loose)
@@ -249,7 +249,7 @@ text_no_loose value text t l =
 space_utf8 : (text : List ℕ) → IsUtf8 text → IsUtf8 (32 ∷ text)
 space_utf8 text u = IsUtf8-append (32 ∷ []) text (IsUtf8-from_ascii (32 ∷ []) (IsAscii-cons 32 [] (lit< tt) IsAscii-nil)) u
 
-spelled_utf8 : (pieces : List Piece) (run value text : List ℕ) → AreSpelled pieces value text → IsUtf8 (run ++ value) → IsUtf8 (run ++ text)
+spelled_utf8 : (pieces : List ValuePiece) (run value text : List ℕ) → AreSpelled pieces value text → IsUtf8 (run ++ value) → IsUtf8 (run ++ text)
 spelled_utf8 [] run value text h u = subst (λ (t : List ℕ). IsUtf8 (run ++ t)) (h.0 ∙ sym h.1) u
 spelled_utf8 (plain b ∷ pieces) run value text h u =
     let moved = ap (λ (t : List ℕ). run ++ t) h.3 ∙ sym (append_assoc run (b ∷ []) h.0) in
@@ -279,5 +279,5 @@ spelled_utf8 (reference ref c ∷ pieces) run value text h u =
     subst (λ (t : List ℕ). IsUtf8 (run ++ t)) (sym h.4)
     (IsUtf8-append run (encode_utf8 c ++ h.1) (text_before run 38 (s.inner ++ 59 ∷ h.0) (lit< tt) whole) (IsUtf8-append (encode_utf8 c) h.1 (IsUtf8-encode c s.scalar) rest))
 
-pub text_utf8 : (value text : List ℕ) → IsTextOf value text → IsUtf8 value → IsUtf8 text
+pub text_utf8 : (value text : List ℕ) → IsValueText value text → IsUtf8 value → IsUtf8 text
 text_utf8 value text t u = spelled_utf8 t.0 [] value text t.1 u

@@ -1,6 +1,7 @@
 -- The faults of one item, and the item that has none.
-use Rattle.std.specs.Prelude.{◌≡◌, ◌≢◌, ◌⊎◌, ◌<◌, ℕ, Bool, codes, Some, List, [], slice_get, map, Any, ⊤}
+use Rattle.std.specs.Prelude.{◌≡◌, ◌≢◌, ◌⊎◌, ◌<◌, ◌≤◌, ℕ, Bool, codes, Some, List, [], length, drop, slice_get, map, Any}
 use Rattle.std.specs.Str.{str_to_ascii_lowercase}
+use Rattle.railml_text.specs.declared.item.Item.{Item}
 use Rattle.railml_text.specs.declared.item.ItemKind.{ItemKind}
 use Rattle.railml_text.specs.declared.fault.TextWhat.{TextWhat}
 use Rattle.railml_text.specs.declared.fault.TextWhat.TheVariants.{NotUtf8, Encoding, Doctype, Markup, Entity, EndTag, RepeatedAttribute, Root, Unfinished, AfterRoot, Depth, NoInfrastructure}
@@ -26,6 +27,21 @@ number_of Unfinished = 9
 number_of AfterRoot = 10
 number_of Depth = 11
 number_of NoInfrastructure = 12
+
+-- the words of the table
+abbrev pub word_of : TextWhat → List ℕ
+word_of NotUtf8 = codes "NotUtf8"
+word_of Encoding = codes "Encoding"
+word_of Doctype = codes "Doctype"
+word_of Markup = codes "Markup"
+word_of Entity = codes "Entity"
+word_of EndTag = codes "EndTag"
+word_of RepeatedAttribute = codes "RepeatedAttribute"
+word_of Root = codes "Root"
+word_of Unfinished = codes "Unfinished"
+word_of AfterRoot = codes "AfterRoot"
+word_of Depth = codes "Depth"
+word_of NoInfrastructure = codes "NoInfrastructure"
 
 -- an attribute `encoding` whose value isn't `UTF-8`, without regard to ASCII case; the value as it
 -- is written counts
@@ -82,28 +98,33 @@ pub record HasRepeatedAttr (first : Bool) (rest : List ℕ) : Type 0 where
 
 -- The table of faults, as far as it speaks of one item alone: the item that begins at the rest has
 -- this fault. The other kinds speak of the item's place in the document.
-abbrev pub HasFault : Bool → List ℕ → TextWhat → Type 0
-HasFault first rest Encoding = HasOtherEncoding first rest
-HasFault first rest Doctype = BeginsWith rest (codes "<!DOCTYPE")
-HasFault first rest Markup = IsNoMarkup first rest
-HasFault first rest Entity = BeginsLoose rest ⊎ HasLooseInTag first rest
-HasFault first rest RepeatedAttribute = HasRepeatedAttr first rest
-HasFault first rest Unfinished = IsUnfinished first rest
-HasFault first rest what = ⊥
+abbrev pub HasItemFault : Bool → List ℕ → TextWhat → Type 0
+HasItemFault first rest Encoding = HasOtherEncoding first rest
+HasItemFault first rest Doctype = BeginsWith rest (codes "<!DOCTYPE")
+HasItemFault first rest Markup = IsNoMarkup first rest
+HasItemFault first rest Entity = BeginsLoose rest ⊎ HasLooseInTag first rest
+HasItemFault first rest RepeatedAttribute = HasRepeatedAttr first rest
+HasItemFault first rest Unfinished = IsUnfinished first rest
+HasItemFault first rest what = ⊥
 
 -- the fault, and none with a lower number
 pub record IsLeastFault (first : Bool) (rest : List ℕ) (what : TextWhat) : Type 0 where
-  pub holds : HasFault first rest what
-  pub least : (other : TextWhat) → number_of other < number_of what → HasFault first rest other → ⊥
+  pub holds : HasItemFault first rest what
+  pub least : (other : TextWhat) → number_of other < number_of what → HasItemFault first rest other → ⊥
 
 -- the rest begins with an item of this kind that has no fault of its own, and these bytes follow it
 pub record HasSoundItem (first : Bool) (rest : List ℕ) (kind : ItemKind) (after : List ℕ) : Type 0 where
   pub shape : Shape
   pub item : HasItem first rest shape after
   pub kind_is : IsKindOf shape kind
-  pub sound : (what : TextWhat) → HasFault first rest what → ⊥
+  pub sound : (what : TextWhat) → HasItemFault first rest what → ⊥
 
--- what an answer that isn't an item says of the rest
-abbrev pub IsFaultAt : Bool → List ℕ → ItemFault → Type 0
-IsFaultAt first rest (answers.Item what) = IsLeastFault first rest what
-IsFaultAt first rest answers.Memory = ⊤
+-- the item that begins at a place of the bytes, without a fault of its own; the next begins at its end
+pub record IsItemAt (first : Bool) (bytes : List ℕ) (at : ℕ) (item : Item) : Type 0 where
+  pub sound : HasSoundItem first (drop at bytes) item.kind (drop item.end bytes)
+  pub within : item.end ≤ length bytes
+
+-- the fault that is told of the rest; want of memory is none
+abbrev pub IsItemFault : Bool → List ℕ → ItemFault → Type 0
+IsItemFault first rest (answers.Item what) = IsLeastFault first rest what
+IsItemFault first rest answers.Memory = ⊥

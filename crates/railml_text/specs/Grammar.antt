@@ -2,9 +2,9 @@
 use Rattle.std.specs.Prelude.{◌≡◌, ◌≢◌, ◌⊎◌, ℕ, Bool, true, codes, if◌then◌else◌, List, [], ◌∷◌, ◌++◌}
 use Rattle.railml_text.specs.Bytes.{is_blank, begins_name, goes_on_name, is_in_value, is_in_text, Passes}
 
-abbrev pub IsName : List ℕ → Type 0
-IsName [] = ⊥
-IsName (b ∷ bytes) = (begins_name b ≡ true) × Passes goes_on_name bytes
+abbrev pub IsXmlName : List ℕ → Type 0
+IsXmlName [] = ⊥
+IsXmlName (b ∷ bytes) = (begins_name b ≡ true) × Passes goes_on_name bytes
 
 -- white space, or none
 abbrev pub AreBlanks : List ℕ → Type 0
@@ -21,7 +21,7 @@ pub record IsAttr (text : List ℕ) (attr : Written) : Type 0 where
   pub before : List ℕ
   pub after : List ℕ
   pub quote : ℕ
-  pub named : IsName attr.name
+  pub named : IsXmlName attr.name
   pub blank_before : AreBlanks before
   pub blank_after : AreBlanks after
   pub is_quote : (quote ≡ 34) ⊎ (quote ≡ 39)
@@ -53,7 +53,7 @@ pub record IsBracketed (opening closing text : List ℕ) : Type 0 where
 pub record IsStartTag (text name : List ℕ) (attrs : List Written) (empty : Bool) : Type 0 where
   pub between : List ℕ
   pub blanks : List ℕ
-  pub named : IsName name
+  pub named : IsXmlName name
   pub attributes : AreAttrs between attrs
   pub blank : AreBlanks blanks
   pub spelled : text ≡ codes "<" ++ name ++ between ++ blanks ++ (if empty then codes "/>" else codes ">")
@@ -61,7 +61,7 @@ pub record IsStartTag (text name : List ℕ) (attrs : List Written) (empty : Boo
 -- `</`, a name, white space or none, `>`
 pub record IsEndTag (text name : List ℕ) : Type 0 where
   pub blanks : List ℕ
-  pub named : IsName name
+  pub named : IsXmlName name
   pub blank : AreBlanks blanks
   pub spelled : text ≡ codes "</" ++ name ++ blanks ++ codes ">"
 

@@ -6,7 +6,7 @@ use Rattle.railml_text.specs.declared.item.ItemKind.TheVariants as kinds
 use Rattle.railml_text.specs.declared.item.Attr.{Attr}
 use Rattle.railml_text.specs.Bytes.{is_blank, is_in_text}
 use Rattle.railml_text.specs.References.{IsReference}
-use Rattle.railml_text.specs.Values.{IsTextOf}
+use Rattle.railml_text.specs.Values.{IsValueText}
 use Rattle.railml_text.specs.Grammar.{Written, IsDeclaration, IsBracketed, IsStartTag, IsEndTag, IsChars}
 
 -- what an item is, with its attributes as they are written
@@ -77,7 +77,7 @@ abbrev pub AreTextsOf : List Written → List Attr → Type 0
 AreTextsOf [] [] = ⊤
 AreTextsOf [] (attr ∷ attrs) = ⊥
 AreTextsOf (written ∷ others) [] = ⊥
-AreTextsOf (written ∷ others) (attr ∷ attrs) = (attr.name ≡ written.name) × IsTextOf written.value attr.value × AreTextsOf others attrs
+AreTextsOf (written ∷ others) (attr ∷ attrs) = (attr.name ≡ written.name) × IsValueText written.value attr.value × AreTextsOf others attrs
 
 -- what is told of an item of this shape
 abbrev pub IsKindOf : Shape → ItemKind → Type 0

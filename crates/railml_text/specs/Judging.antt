@@ -1,5 +1,5 @@
 -- What is wrong with an item that was read. Private contracts alone cite this module.
-use Rattle.std.specs.Prelude.{◌≡◌, ◌<◌, Any, IsUtf8, List, ⊤}
+use Rattle.std.specs.Prelude.{◌≡◌, ◌<◌, ℕ, Bool, Any, IsUtf8, List, ⊤}
 use Rattle.std.specs.List.{AllByRecursion}
 use Rattle.railml_text.specs.declared.item.ItemKind.{ItemKind}
 use Rattle.railml_text.specs.declared.fault.TextWhat.{TextWhat}
@@ -12,7 +12,7 @@ use Rattle.railml_text.specs.declared.miss.Stop.TheVariants as stops
 use Rattle.railml_text.specs.Values.{HasLoose}
 use Rattle.railml_text.specs.Grammar.{Written}
 use Rattle.railml_text.specs.Items.{Shape, declaration, start_tag, end_tag, IsKindOf}
-use Rattle.railml_text.specs.Faults.{number_of, NamesOtherEncoding, HasRepeat, attrs_of}
+use Rattle.railml_text.specs.Faults.{number_of, NamesOtherEncoding, HasRepeat, attrs_of, IsLeastFault}
 use Rattle.railml_text.specs.Reading.{Found, item, doctype}
 
 -- some attribute's value has an `&` that begins no reference
@@ -35,15 +35,15 @@ pub record IsSoundKind (shape : Shape) (kind : ItemKind) : Type 0 where
   pub kind_is : IsKindOf shape kind
   pub sound : (what : TextWhat) → OwnFault shape what → ⊥
 
-abbrev pub IsJudged : Found → ItemKind → Type 0
-IsJudged (item shape) kind = IsSoundKind shape kind
-IsJudged doctype kind = ⊥
+abbrev pub IsFoundKind : Found → ItemKind → Type 0
+IsFoundKind (item shape) kind = IsSoundKind shape kind
+IsFoundKind doctype kind = ⊥
 
 -- why an item has no answer
-abbrev pub IsRefused : Found → ItemFault → Type 0
-IsRefused found answers.Memory = ⊤
-IsRefused (item shape) (answers.Item what) = IsLeastOwn shape what
-IsRefused doctype (answers.Item what) = what ≡ Doctype
+abbrev pub IsFoundFault : Found → ItemFault → Type 0
+IsFoundFault found answers.Memory = ⊤
+IsFoundFault (item shape) (answers.Item what) = IsLeastOwn shape what
+IsFoundFault doctype (answers.Item what) = what ≡ Doctype
 
 -- why attributes have no texts
 abbrev pub IsAttrsFault : List Written → ItemFault → Type 0
@@ -68,3 +68,8 @@ abbrev pub refusal_of : Stop → ItemFault
 refusal_of (stops.Miss Cut) = answers.Item Unfinished
 refusal_of (stops.Miss Bad) = answers.Item Markup
 refusal_of stops.Memory = answers.Memory
+
+-- why there is no item at the front of the rest
+abbrev pub IsFaultAt : Bool → List ℕ → ItemFault → Type 0
+IsFaultAt first rest (answers.Item what) = IsLeastFault first rest what
+IsFaultAt first rest answers.Memory = ⊤

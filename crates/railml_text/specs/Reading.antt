@@ -339,6 +339,6 @@ abbrev pub Stopped : {Y : Type 0} → (Read Y → Type 0) → Stop → Type 0
 Stopped R stops.Memory = ⊤
 Stopped R (stops.Miss miss) = R (Err miss)
 
-abbrev pub Answers : {X Y : Type 0} → (X → Y × List ℕ) → Result X Stop → (Read Y → Type 0) → Type 0
-Answers view (Ok x) R = R (Ok (view x))
-Answers view (Err stop) R = Stopped R stop
+abbrev pub AnswersReading : {X Y : Type 0} → (X → Y × List ℕ) → Result X Stop → (Read Y → Type 0) → Type 0
+AnswersReading view (Ok x) R = R (Ok (view x))
+AnswersReading view (Err stop) R = Stopped R stop

@@ -3,40 +3,40 @@ use Rattle.std.specs.Prelude.{◌≡◌, ◌≢◌, ◌⊎◌, ℕ, List, [], �
 use Rattle.railml_text.specs.References.{IsReference, BeginsLoose}
 
 -- the pieces that a value falls into
-pub data Piece : Type 0 where
-  plain : ℕ → Piece  -- a byte that stands for itself
-  line_end : Piece  -- a carriage return with its line feed
-  blank : ℕ → Piece  -- another tab, line feed or carriage return
-  reference : (text : List ℕ) (character : ℕ) → Piece
+pub data ValuePiece : Type 0 where
+  plain : ℕ → ValuePiece  -- a byte that stands for itself
+  line_end : ValuePiece  -- a carriage return with its line feed
+  blank : ℕ → ValuePiece  -- another tab, line feed or carriage return
+  reference : (text : List ℕ) (character : ℕ) → ValuePiece
 
-abbrev pub value_of : Piece → List ℕ
+abbrev pub value_of : ValuePiece → List ℕ
 value_of (plain b) = b ∷ []
 value_of line_end = 13 ∷ 10 ∷ []
 value_of (blank b) = b ∷ []
 value_of (reference text character) = text
 
 -- what a piece stands for: a line end is one space, and so is another blank
-abbrev pub text_of : Piece → List ℕ
+abbrev pub text_of : ValuePiece → List ℕ
 text_of (plain b) = b ∷ []
 text_of line_end = 32 ∷ []
 text_of (blank b) = 32 ∷ []
 text_of (reference text character) = encode_utf8 character
 
 -- the piece may stand before these bytes: a carriage return alone has no line feed after it
-abbrev pub IsPiece : Piece → List ℕ → Type 0
+abbrev pub IsPiece : ValuePiece → List ℕ → Type 0
 IsPiece (plain b) after = (b ≢ 38) × (b ≢ 9) × (b ≢ 10) × (b ≢ 13)
 IsPiece line_end after = ⊤
 IsPiece (blank b) after = ((b ≡ 9) ⊎ (b ≡ 10)) ⊎ ((b ≡ 13) × ((bytes : List ℕ) → after ≢ 10 ∷ bytes))
 IsPiece (reference text character) after = IsReference text character
 
 -- the value is these pieces in a row, and the text is what they stand for
-abbrev pub AreSpelled : List Piece → List ℕ → List ℕ → Type 0
+abbrev pub AreSpelled : List ValuePiece → List ℕ → List ℕ → Type 0
 AreSpelled [] value text = (value ≡ []) × (text ≡ [])
 AreSpelled (piece ∷ pieces) value text =
     (after rest : List ℕ) × IsPiece piece after × (value ≡ value_of piece ++ after) × (text ≡ text_of piece ++ rest) × AreSpelled pieces after rest
 
-abbrev pub IsTextOf : List ℕ → List ℕ → Type 0
-IsTextOf value text = (pieces : List Piece) × AreSpelled pieces value text
+abbrev pub IsValueText : List ℕ → List ℕ → Type 0
+IsValueText value text = (pieces : List ValuePiece) × AreSpelled pieces value text
 
 -- an `&` of the value begins no reference
 pub record HasLoose (value : List ℕ) : Type 0 where

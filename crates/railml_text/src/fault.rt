@@ -1,5 +1,6 @@
 // What can be wrong with a document's text.
 ghost use Rattle.std.specs.Prelude.{◌≡◌};
+ghost use Rattle.railml_text.specs.Faults.{number_of, word_of};
 ghost use Rattle.railml_text.specs.declared.fault.ItemFault.TheVariants.{Memory};
 
 use plan_core::OutOfMemory;
@@ -34,6 +35,48 @@ pub enum TextWhat {
     Depth,
     /// The root `railml` has no child `infrastructure`.
     NoInfrastructure,
+}
+
+impl TextWhat {
+    /// The fault's number, from 1 to 12.
+    pub fn number(&self) -> u8
+        ensures { result ≡ number_of self.now }
+    {
+        match self {
+            TextWhat::NotUtf8 => 1,
+            TextWhat::Encoding => 2,
+            TextWhat::Doctype => 3,
+            TextWhat::Markup => 4,
+            TextWhat::Entity => 5,
+            TextWhat::EndTag => 6,
+            TextWhat::RepeatedAttribute => 7,
+            TextWhat::Root => 8,
+            TextWhat::Unfinished => 9,
+            TextWhat::AfterRoot => 10,
+            TextWhat::Depth => 11,
+            TextWhat::NoInfrastructure => 12,
+        }
+    }
+
+    /// The fault's word, as a fault line has it.
+    pub fn word(&self) -> &'static str
+        ensures { result.now ≡ word_of self.now }
+    {
+        match self {
+            TextWhat::NotUtf8 => "NotUtf8",
+            TextWhat::Encoding => "Encoding",
+            TextWhat::Doctype => "Doctype",
+            TextWhat::Markup => "Markup",
+            TextWhat::Entity => "Entity",
+            TextWhat::EndTag => "EndTag",
+            TextWhat::RepeatedAttribute => "RepeatedAttribute",
+            TextWhat::Root => "Root",
+            TextWhat::Unfinished => "Unfinished",
+            TextWhat::AfterRoot => "AfterRoot",
+            TextWhat::Depth => "Depth",
+            TextWhat::NoInfrastructure => "NoInfrastructure",
+        }
+    }
 }
 
 /// Why `scan` answers no item.

@@ -4,7 +4,7 @@ ghost use Rattle.std.specs.Str.{str_to_ascii_lowercase};
 ghost use Rattle.railml_text.specs.Items.{AreTextsOf, declaration, start_tag};
 ghost use Rattle.railml_text.specs.Faults.{NamesOtherEncoding};
 ghost use Rattle.railml_text.specs.Reading.{written_of, found_of, item};
-ghost use Rattle.railml_text.specs.Judging.{AreUtf8, IsAttrsFault, IsUtf8Found, IsJudged, IsRefused};
+ghost use Rattle.railml_text.specs.Judging.{AreUtf8, IsAttrsFault, IsUtf8Found, IsFoundKind, IsFoundFault};
 
 use crate::repeats::has_repeat;
 use crate::values::text_of;
@@ -47,8 +47,8 @@ fn texts_of(alloc: Global, attrs: &[WrittenAttr]) -> Result<AttrList, ItemFault>
 }
 
 fn declaration_kind(alloc: Global, attrs: &[WrittenAttr]) -> Result<ItemKind, ItemFault>
-    ensures kind { IfOk result (λ kind. IsJudged (item (declaration (map written_of attrs.now))) kind) }
-    ensures fault { IfErr result (λ e. IsRefused (item (declaration (map written_of attrs.now))) e) }
+    ensures kind { IfOk result (λ kind. IsFoundKind (item (declaration (map written_of attrs.now))) kind) }
+    ensures fault { IfErr result (λ e. IsFoundFault (item (declaration (map written_of attrs.now))) e) }
 {
     if names_other_encoding(attrs) {
         return Err(ItemFault::Item(TextWhat::Encoding));
@@ -67,8 +67,8 @@ fn start_kind(
 ) -> Result<ItemKind, ItemFault>
     requires name { IsUtf8 name.now }
     requires attrs { AreUtf8 (map written_of attrs.now) }
-    ensures kind { IfOk result (λ kind. IsJudged (item (start_tag name.now (map written_of attrs.now) empty)) kind) }
-    ensures fault { IfErr result (λ e. IsRefused (item (start_tag name.now (map written_of attrs.now) empty)) e) }
+    ensures kind { IfOk result (λ kind. IsFoundKind (item (start_tag name.now (map written_of attrs.now) empty)) kind) }
+    ensures fault { IfErr result (λ e. IsFoundFault (item (start_tag name.now (map written_of attrs.now) empty)) e) }
 {
     let repeated = has_repeat(alloc, attrs)?;
     match texts_of(alloc, attrs) {
@@ -90,8 +90,8 @@ fn start_kind(
 /// What is told of the markup, or its own fault.
 pub(crate) fn kind_of(alloc: Global, markup: Markup) -> Result<ItemKind, ItemFault>
     requires { IsUtf8Found (found_of markup) }
-    ensures kind { IfOk result (λ kind. IsJudged (found_of markup.entry) kind) }
-    ensures fault { IfErr result (λ e. IsRefused (found_of markup.entry) e) }
+    ensures kind { IfOk result (λ kind. IsFoundKind (found_of markup.entry) kind) }
+    ensures fault { IfErr result (λ e. IsFoundFault (found_of markup.entry) e) }
 {
     match markup {
         Markup::Declaration { attrs } => declaration_kind(alloc, &attrs),

@@ -4,7 +4,7 @@ ghost use Rattle.std.specs.Prelude.{◌≡◌, ◌⊎◌, ℕ, Bool, List};
 ghost use Rattle.railml_text.specs.declared.fault.TextWhat.{TextWhat};
 ghost use Rattle.railml_text.specs.declared.item.ItemKind.{ItemKind};
 ghost use Rattle.railml_text.specs.Items.{Shape, HasItem};
-ghost use Rattle.railml_text.specs.Faults.{HasFault, IsLeastFault, HasSoundItem};
+ghost use Rattle.railml_text.specs.Faults.{HasItemFault, IsLeastFault, HasSoundItem};
 ghost use Rattle.railml_text.specs.Cutting.{Placed, IsCutInto, FirstFault};
 
 /// Bytes begin with at most one item.
@@ -25,8 +25,8 @@ pub fn one_fault()
 /// Where an item has a fault, no item without one begins; at Doctype, Markup and Unfinished no item
 /// begins at all.
 pub fn fault_or_item()
-    ensures sound { (first : Bool) (rest : List ℕ) (what : TextWhat) (kind : ItemKind) (after : List ℕ) → HasFault first rest what → ¬ (HasSoundItem first rest kind after) }
-    ensures none { (first : Bool) (rest : List ℕ) (shape : Shape) (after : List ℕ) → (HasFault first rest TextWhat.Doctype ⊎ HasFault first rest TextWhat.Markup ⊎ HasFault first rest TextWhat.Unfinished) → ¬ (HasItem first rest shape after) }
+    ensures sound { (first : Bool) (rest : List ℕ) (what : TextWhat) (kind : ItemKind) (after : List ℕ) → HasItemFault first rest what → ¬ (HasSoundItem first rest kind after) }
+    ensures none { (first : Bool) (rest : List ℕ) (shape : Shape) (after : List ℕ) → (HasItemFault first rest TextWhat.Doctype ⊎ HasItemFault first rest TextWhat.Markup ⊎ HasItemFault first rest TextWhat.Unfinished) → ¬ (HasItem first rest shape after) }
 {}
 
 /// A file is cut into items in at most one way.

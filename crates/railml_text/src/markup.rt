@@ -1,6 +1,6 @@
 // What stands after a `<`.
 ghost use Rattle.std.specs.Prelude.{◌≡◌, true, false, drop, MatchOption};
-ghost use Rattle.railml_text.specs.Reading.{Returns, Answers, comment_at as comment_of, cdata_at as cdata_of, bang_at as bang_of, goes_on_xml, DeclarationRead, QuestionRead, StartRead, MarkupRead, found_of, item};
+ghost use Rattle.railml_text.specs.Reading.{Returns, AnswersReading, comment_at as comment_of, cdata_at as cdata_of, bang_at as bang_of, goes_on_xml, DeclarationRead, QuestionRead, StartRead, MarkupRead, found_of, item};
 ghost use Rattle.railml_text.specs.Items.{comment, cdata};
 
 use crate::brackets::{past_three, past_two};
@@ -61,7 +61,7 @@ fn xml_at(bytes: &[u8]) -> Option<&[u8]>
 
 /// The declaration, after its `<?xml`.
 fn declaration_at(alloc: Global, bytes: &[u8]) -> Result<(Markup, &[u8]), Stop>
-    ensures { Answers (λ x. (found_of x.0, x.1.now)) result (DeclarationRead bytes.now) }
+    ensures { AnswersReading (λ x. (found_of x.0, x.1.now)) result (DeclarationRead bytes.now) }
 {
     match attr_at(past_blanks(bytes)) {
         Ok((first, rest)) => {
@@ -76,7 +76,7 @@ fn declaration_at(alloc: Global, bytes: &[u8]) -> Result<(Markup, &[u8]), Stop>
 /// The declaration, which is looked for where `first` is true, or an instruction, after its `<?`.
 #[tactic(auto, unfolding(crate::specs::Reading::instruction_at))]
 fn question_at(alloc: Global, bytes: &[u8], first: bool) -> Result<(Markup, &[u8]), Stop>
-    ensures { Answers (λ x. (found_of x.0, x.1.now)) result (QuestionRead first bytes.now) }
+    ensures { AnswersReading (λ x. (found_of x.0, x.1.now)) result (QuestionRead first bytes.now) }
 {
     if first {
         if let Some(rest) = xml_at(bytes) {
@@ -91,7 +91,7 @@ fn question_at(alloc: Global, bytes: &[u8], first: bool) -> Result<(Markup, &[u8
 
 /// A start tag, after its `<`.
 fn start_tag_at(alloc: Global, bytes: &[u8]) -> Result<(Markup, &[u8]), Stop>
-    ensures { Answers (λ x. (found_of x.0, x.1.now)) result (StartRead bytes.now) }
+    ensures { AnswersReading (λ x. (found_of x.0, x.1.now)) result (StartRead bytes.now) }
 {
     match name_at(bytes) {
         Ok((name, rest)) => {
@@ -105,7 +105,7 @@ fn start_tag_at(alloc: Global, bytes: &[u8]) -> Result<(Markup, &[u8]), Stop>
 /// What stands after a `<`, and what follows it.
 #[tactic(auto, unfolding(crate::specs::Reading::closing_tag_at))]
 pub(crate) fn markup_at(alloc: Global, bytes: &[u8], first: bool) -> Result<(Markup, &[u8]), Stop>
-    ensures { Answers (λ x. (found_of x.0, x.1.now)) result (MarkupRead first bytes.now) }
+    ensures { AnswersReading (λ x. (found_of x.0, x.1.now)) result (MarkupRead first bytes.now) }
 {
     match bytes {
         [] => Err(Stop::Miss(Miss::Cut)),

@@ -1,6 +1,6 @@
 // Names, values, attributes and tags, read from left to right.
 ghost use Rattle.std.specs.Prelude.{◌≡◌, map};
-ghost use Rattle.railml_text.specs.Reading.{Returns, Answers, word_at as word_of, name_at as name_of, quoted_at as quoted, attr_at as attr, end_tag_at as end_tag, closing_at as closing_of, step_at as step, step_of, written_of, Tail};
+ghost use Rattle.railml_text.specs.Reading.{Returns, AnswersReading, word_at as word_of, name_at as name_of, quoted_at as quoted, attr_at as attr, end_tag_at as end_tag, closing_at as closing_of, step_at as step, step_of, written_of, Tail};
 
 use crate::miss::{Miss, Stop};
 use crate::runs::{begins_blank, begins_name, past_blanks, split_name, split_value};
@@ -134,7 +134,7 @@ pub(crate) fn tail_at(
     bytes: &[u8],
     closing: Closing,
 ) -> Result<(Vec<WrittenAttr>, bool, &[u8]), Stop>
-    ensures { Answers (λ x. ((map written_of x.0.items, x.1), x.2.now)) result (Tail closing bytes.now) }
+    ensures { AnswersReading (λ x. ((map written_of x.0.items, x.1), x.2.now)) result (Tail closing bytes.now) }
 {
     let mut attrs = Vec::new(alloc);
     let mut rest = bytes;

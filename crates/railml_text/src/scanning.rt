@@ -2,8 +2,9 @@
 ghost use Rattle.std.specs.Prelude.{◌≡◌, ◌∷◌, ◌<◌, ◌≤◌, Bool, true, length, drop, slice_index, IfOk, IfErr, IsUtf8, IsCharBoundary};
 ghost use Rattle.std.specs.List.{list_all};
 ghost use Rattle.railml_text.specs.Bytes.{is_blank as blank, is_in_text as in_text};
-ghost use Rattle.railml_text.specs.Faults.{HasSoundItem, IsFaultAt};
-ghost use Rattle.railml_text.specs.Judging.{refusal_of};
+ghost use Rattle.plan_core.specs.Exactly.{AnswersExactly};
+ghost use Rattle.railml_text.specs.Faults.{HasSoundItem, IsItemAt, IsItemFault};
+ghost use Rattle.railml_text.specs.Judging.{IsFaultAt, refusal_of};
 
 use crate::judging::kind_of;
 use crate::markup::markup_at;
@@ -86,18 +87,13 @@ fn item_at(alloc: Global, rest: &[u8], first: bool) -> Result<(ItemKind, &[u8]),
     Ok(chars_item(rest))
 }
 
-/// The item that begins at the place `at` of a document's bytes, counted from 0, or its own fault of
-/// the lowest number. A character begins at `at`. A declaration is looked for exactly where `first`
-/// is true. The kinds of faults are Encoding, Doctype, Markup, Entity, RepeatedAttribute and
-/// Unfinished; those that hang on the item's place among others are not looked for.
-pub fn scan(alloc: Global, bytes: &[u8], at: usize, first: bool) -> Result<Item, ItemFault>
+/// The item that begins at a place of the bytes, with its end.
+fn item_from(alloc: Global, bytes: &[u8], at: usize, first: bool) -> Result<Item, ItemFault>
     requires utf8 { IsUtf8 bytes.now }
     requires within { at < length bytes.now }
     requires begins { IsCharBoundary bytes.now at }
     ensures item { IfOk result (λ item. HasSoundItem first (drop at bytes.now) item.kind (drop item.end bytes.now)) }
     ensures fault { IfErr result (λ e. IsFaultAt first (drop at bytes.now) e) }
-
-    // The next item begins where this one ends.
     ensures after { IfOk result (λ item. at < item.end) }
     ensures within { IfOk result (λ item. item.end ≤ length bytes.now) }
     ensures ends { IfOk result (λ item. IsCharBoundary bytes.now item.end) }
@@ -107,4 +103,20 @@ pub fn scan(alloc: Global, bytes: &[u8], at: usize, first: bool) -> Result<Item,
         kind,
         end: bytes.len() - after.len(),
     })
+}
+
+/// The item that begins at the place `at` of a document's bytes, counted from 0, or its own fault of
+/// the lowest number. A character begins at `at`. A declaration is looked for exactly where `first`
+/// is true. The kinds of faults are Encoding, Doctype, Markup, Entity, RepeatedAttribute and
+/// Unfinished; those that hang on the item's place among others are not looked for.
+pub fn scan(alloc: Global, bytes: &[u8], at: usize, first: bool) -> Result<Item, ItemFault>
+    requires utf8 { IsUtf8 bytes.now }
+    requires within { at < length bytes.now }
+    requires begins { IsCharBoundary bytes.now at }
+    ensures answers { AnswersExactly result ItemFault.Memory (IsItemAt first bytes.now at) (IsItemFault first (drop at bytes.now)) }
+    // The next item begins where this one ends.
+    ensures after { IfOk result (λ item. at < item.end) }
+    ensures ends { IfOk result (λ item. IsCharBoundary bytes.now item.end) }
+{
+    item_from(alloc, bytes, at, first)
 }

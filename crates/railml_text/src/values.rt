@@ -1,6 +1,6 @@
 // The text of an attribute.
 ghost use Rattle.std.specs.Prelude.{◌≡◌, ◌++◌, option_map, IfOk, IfErr, OnOk, IsUtf8};
-ghost use Rattle.railml_text.specs.Values.{IsTextOf};
+ghost use Rattle.railml_text.specs.Values.{IsValueText};
 ghost use Rattle.railml_text.specs.Reading.{piece_at as piece, past_line_feed as past_feed, bytes_of, IsValueFault};
 
 use crate::references::reference_at;
@@ -61,7 +61,7 @@ fn push(text: &mut Vec<u8>, meaning: Meaning) -> Result<(), AllocError>
 /// The text of an attribute with this value, or Entity where an `&` of the value begins no reference.
 pub(crate) fn text_of(alloc: Global, value: &[u8]) -> Result<Text, ItemFault>
     requires { IsUtf8 value.now }
-    ensures text { IfOk result (λ text. IsTextOf value.now text) }
+    ensures text { IfOk result (λ text. IsValueText value.now text) }
     ensures fault { IfErr result (λ e. IsValueFault value.now e) }
 {
     let mut text = Vec::new(alloc);

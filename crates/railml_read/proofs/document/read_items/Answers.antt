@@ -1,3 +1,4 @@
+use Rattle.std.proofs.Common.{inr}
 use Rattle.railml_read.specs.Progress.{state_of}
 use Rattle.railml_read.proofs.KeptLemmas.{new_state, kept_start, kept_next, item_fault, place_fault}
 use Rattle.railml_read.proofs.document.read_items.Goals as goal
@@ -10,11 +11,11 @@ loop-at-init c =
 
 pub returns-in-Err-clause-fault : goal.returns-in-Err-clause-fault
 returns-in-Err-clause-fault c =
-    let said = item_fault c.args.bytes.now c.loop-at.at c.loop-at.first (state_of c.loop-at.progress) c.loop-at.progress.has_root c.in-Err.fault c.requires.utf8 c.loop-at.invariant c.loop-at-test.true c.in-Err.ensures.fault in
+    let said = item_fault c.args.bytes.now c.loop-at.at c.loop-at.first (state_of c.loop-at.progress) c.loop-at.progress.has_root c.in-Err.fault c.requires.utf8 c.loop-at.invariant c.loop-at-test.true c.in-Err.ensures.answers.fault in
     rw c.fault_at.ensures said
 
 pub returns-in-Some-clause-fault : goal.returns-in-Some-clause-fault
-returns-in-Some-clause-fault c = place_fault c.args.bytes.now c.loop-at.at c.loop-at.first (state_of c.loop-at.progress) c.loop-at.progress.has_root c.in-Ok.item.kind _ c.in-Some.what c.requires.utf8 c.loop-at.invariant c.loop-at-test.true c.in-Ok.ensures.item c.in-Some.ensures
+returns-in-Some-clause-fault c = inr (place_fault c.args.bytes.now c.loop-at.at c.loop-at.first (state_of c.loop-at.progress) c.loop-at.progress.has_root c.in-Ok.item.kind _ c.in-Some.what c.requires.utf8 c.loop-at.invariant c.loop-at-test.true c.in-Ok.ensures.answers.value.sound c.in-Some.ensures)
 
 pub loop-at-preserved : goal.loop-at-preserved
-loop-at-preserved c = kept_next c.args.bytes.now c.loop-at.at c.in-Ok.item.end c.loop-at.first (state_of c.loop-at.progress) (state_of c.add.new.self) c.loop-at.progress.has_root c.add.new.self.has_root c.in-Ok.item.kind c.loop-at.invariant c.in-Ok.ensures.item c.in-Ok.ensures.after c.in-Ok.ensures.within c.in-Ok.ensures.ends c.in_default.ensures c.in_ok-add.ensures.state c.in_ok-add.ensures.root
+loop-at-preserved c = kept_next c.args.bytes.now c.loop-at.at c.in-Ok.item.end c.loop-at.first (state_of c.loop-at.progress) (state_of c.add.new.self) c.loop-at.progress.has_root c.add.new.self.has_root c.in-Ok.item.kind c.loop-at.invariant c.in-Ok.ensures.answers.value.sound c.in-Ok.ensures.after c.in-Ok.ensures.answers.value.within c.in-Ok.ensures.ends c.in_default.ensures c.in_ok-add.ensures.state c.in_ok-add.ensures.root
