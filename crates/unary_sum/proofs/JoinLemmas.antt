@@ -1,6 +1,7 @@
 -- What the clauses of a join say.
-use Rattle.std.proofs.Common.{◌≡◌, ℕ, ◌+◌, ◌*◌, ◌<◌, ◌≤◌, Bool, true, false, not, zero, suc, [], ◌∷◌, refl, sym, ◌∙◌, ap, inl, inr, arith}
+use Rattle.std.proofs.Common.{◌≡◌, ℕ, ◌+◌, ◌*◌, ◌<◌, ◌≤◌, true, false, not, zero, suc, [], ◌∷◌, refl, sym, ◌∙◌, ap, inl, inr, arith}
 use Rattle.std.specs.Prelude.{◌-◌, nat_le, nat_lt, min, max}
+use Rattle.std.proofs.lemmas.Bool.{not-true}
 use Rattle.std.proofs.lemmas.Bool.Decides.{nat_tests, leb_tells}
 use Rattle.cnf_core.specs.declared.literal.LitOrTruth.TheVariants.{False}
 use Rattle.cnf_core.specs.Clause.{AllThere, words_of}
@@ -37,7 +38,7 @@ pub down_within : (vars : ℕ) (m : Join) (i j k : ℕ) → PartIsThere vars m.l
 down_within vars m i j k l r o = (at_within vars m.left i l, (at_within vars m.right j r, (flip_within vars (at (sum_of m) k) (at_within vars (sum_of m) k o), tt)))
 
 -- a part whose size is below the cap counts no more than its size
-counts_to : (v : Assignment) (most : ℕ) (p : Part) (n : ℕ) → Counts v most p n → min n most ≤ part_size p
+pub counts_to : (v : Assignment) (most : ℕ) (p : Part) (n : ℕ) → Counts v most p n → min n most ≤ part_size p
 counts_to v most p n c = elim (leb_tells (suc (part_size p)) most) [
   | inl h ↦
       let less = h.1 in
@@ -61,10 +62,6 @@ up_says v most m a b i j ca cb ic jc ia jb le h =
       | inr (inr (inr (inr s))) ↦ absurd s
     ]
 
-not_true : (b : Bool) → not b ≡ true → b ≡ false
-not_true true h = cc
-not_true false h = refl
-
 down_says : (v : Assignment) (most : ℕ) (m : Join) (a b i j : ℕ) → Counts v most m.left a → Counts v most m.right b → i < most → j < most → a ≤ i → b ≤ j → i + j < m.count → SatisfiesAll v (down m i j) → value v (at (sum_of m) (i + j + 1)) ≡ false
 down_says v most m a b i j ca cb ic jc ia jb le h =
     let t : nat_lt (i + j) m.count ≡ true = grind (arith, nat_tests) in
@@ -74,7 +71,7 @@ down_says v most m a b i j ca cb ic jc ia jb le h =
       | inl s ↦ absurd s
       | inr (inl s) ↦ absurd (cc (s, x))
       | inr (inr (inl s)) ↦ absurd (cc (s, y))
-      | inr (inr (inr (inl s))) ↦ not_true (value v (at (sum_of m) (i + j + 1))) (sym (value-flip v (at (sum_of m) (i + j + 1))) ∙ s)
+      | inr (inr (inr (inl s))) ↦ not-true (value v (at (sum_of m) (i + j + 1))) (sym (value-flip v (at (sum_of m) (i + j + 1))) ∙ s)
       | inr (inr (inr (inr s))) ↦ absurd s
     ]
 

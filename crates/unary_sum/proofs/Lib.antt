@@ -3,3 +3,4 @@ pub mod SumLemmas
 pub mod SizeLemmas
 pub mod NodeLemmas
 pub mod TopLemmas
+pub mod OutputLemmas

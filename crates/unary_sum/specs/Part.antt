@@ -1,7 +1,8 @@
 -- What counts inputs: one of them, or outputs that say "at least k".
-use Rattle.std.specs.Prelude.{⊤, ◌≡◌, ◌≤◌, ℕ, ◌+◌, cond, nat_le, nat_lt, zero, suc, [], ◌∷◌, ◌++◌}
+use Rattle.std.specs.Prelude.{⊤, ◌≡◌, ◌≤◌, ℕ, ◌+◌, cond, nat_le, nat_lt, zero, suc, List, [], ◌∷◌, ◌++◌}
 use Rattle.cnf_core.specs.declared.literal.LitOrTruth.{LitOrTruth}
 use Rattle.cnf_core.specs.declared.literal.LitOrTruth.TheVariants.{Lit as OfLit, True, False}
+use Rattle.cnf_core.specs.Lit.{Literal, positive_of}
 use Rattle.cnf_core.specs.Clause.{Clauses, IsThere}
 use Rattle.cnf_core.specs.Assignment.{Assignment}
 use Rattle.cnf_core.specs.LitOrTruth.{yes, flip, value, clause_of}
@@ -21,6 +22,16 @@ at part zero = True
 at (Input l) (suc zero) = OfLit l
 at (Input l) (suc (suc k)) = False
 at (Outputs first count) (suc k) = cond (nat_lt k count) (yes (first + k)) False
+
+-- count variables from first on, as literals
+abbrev pub block : ℕ → ℕ → List Literal
+block first zero = []
+block first (suc count) = positive_of first ∷ block (first + 1) count
+
+-- the literals "at least 1", "at least 2" and so on
+abbrev pub outputs_of : Part → List Literal
+outputs_of (Input l) = l ∷ []
+outputs_of (Outputs first count) = block first count
 
 -- it is a literal and no truth value
 abbrev pub IsLit : LitOrTruth → Type 0

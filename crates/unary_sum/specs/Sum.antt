@@ -8,7 +8,7 @@ use Rattle.cnf_core.specs.Assignment.{Assignment, truth}
 use Rattle.unary_sum.specs.declared.joins.Part.{Part}
 use Rattle.unary_sum.specs.declared.joins.Part.TheVariants.{Input, Outputs}
 use Rattle.unary_sum.specs.declared.joins.Join.{Join}
-use Rattle.unary_sum.specs.Part.{at, join_clauses}
+use Rattle.unary_sum.specs.Part.{at, outputs_of, join_clauses}
 
 -- how many of the literals are true
 abbrev pub count_true : Assignment → List Literal → ℕ
@@ -79,6 +79,10 @@ sum_clauses s = tree_clauses s.most s.vars (sum_tree s)
 -- "at least k inputs are true", for k up to the cap
 abbrev pub at_least : SumVars → ℕ → LitOrTruth
 at_least s k = at (top s.most s.vars (sum_tree s)) k
+
+-- "at least 1", "at least 2" and so on, up to the cap or the number of inputs
+abbrev pub sum_outputs : SumVars → List Literal
+sum_outputs s = take s.most (outputs_of (top s.most s.vars (sum_tree s)))
 
 -- what each sum keeps
 pub record IsSum (s : SumVars) : Type 0 where

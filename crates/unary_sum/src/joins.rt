@@ -1,10 +1,12 @@
 // Two counts and the outputs that add them, up to the cap.
-ghost use Rattle.std.specs.Prelude.{◌≡◌, ◌+◌, ◌<◌, ◌≤◌};
+ghost use Rattle.std.specs.Prelude.{◌≡◌, ◌+◌, ◌<◌, ◌≤◌, IfOk};
 ghost use Rattle.cnf_core.specs.declared.limits.TheConstants.{VARS};
 ghost use Rattle.cnf_core.specs.Added.{AddsClauses};
-ghost use Rattle.unary_sum.specs.Part.{part_size, at as at_least_of, PartIsThere, IsReady, join_clauses, row, cell, up, down};
+ghost use Rattle.unary_sum.specs.Part.{part_size, at as at_least_of, block, outputs_of, PartIsThere, IsReady, join_clauses, row, cell, up, down};
 
 use cnf_core::{CnfFault, Formula, Lit, LitOrTruth, Var};
+use plan_core::OutOfMemory;
+use std::alloc::Global;
 
 /// What counts: an input, or outputs of which the k-th says "at least k".
 #[derive(Clone, Copy, Debug, PartialEq, Eq)]
@@ -51,6 +53,30 @@ impl Part {
             }
         }
     }
+
+    /// The literals "at least 1", "at least 2" and so on.
+    pub(crate) fn outputs(&self, alloc: Global) -> Result<Vec<Lit>, OutOfMemory>
+        requires { PartIsThere VARS self.now }
+        ensures { IfOk result (λ v. v.items ≡ outputs_of self.now) }
+    {
+        match self {
+            Part::Input(l) => Ok(Vec::from_slice(alloc, &[*l])?),
+            Part::Outputs(first, count) => block_of(alloc, *first, *count),
+        }
+    }
+}
+
+/// The `count` variables from `first` on, as literals.
+fn block_of(alloc: Global, first: u32, count: u32) -> Result<Vec<Lit>, OutOfMemory>
+    requires from { 1 ≤ first }
+    requires to { first + count ≤ VARS + 1 }
+    ensures { IfOk result (λ v. v.items ≡ block first count) }
+{
+    let mut outputs = Vec::new(alloc);
+    for k in 0..count {
+        outputs.push(Lit::new(Var(first + k), true))?;
+    }
+    Ok(outputs)
 }
 
 /// `count` outputs from the variable `first` on, which add what the two sides count.

@@ -2,7 +2,8 @@
 //!
 //! `Sum::build` makes the clauses of a balanced tree over the inputs, whose joins add what their
 //! two sides count, up to a cap (the totalizer of Bailleux and Boufkhad, 2003); `at_least` is the
-//! literal of a number, and `put` sets the sum's own variables from its inputs. `specs/` has the
+//! literal of a number, `outputs` are all of them, as inputs of a further sum, and `put` sets the sum's own
+//! variables from its inputs. `specs/` has the
 //! definitions: `Part` (an input, or the outputs of a join, and the clauses of a join) and `Sum`
 //! (the tree, its variables and its clauses, and `count_true`). In each assignment that satisfies
 //! the clauses "at least k" is true exactly where at least k inputs are, every assignment of the

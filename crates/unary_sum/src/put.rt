@@ -21,7 +21,8 @@ pub(crate) fn put_tree(m: &mut Truths, depth: u32, vars: u32, inputs: &[Lit], ca
     requires inputs { AreThere vars inputs.now }
     requires few { length inputs.now ≤ 65535 }
     requires cap { cap ≤ 65535 }
-    requires there { vars + tree_count cap (tree_of depth inputs.now) ≤ length m.old }
+    requires inputs_set { AreThere (length m.old) inputs.now }
+    requires there { 0 < tree_count cap (tree_of depth inputs.now) → vars + tree_count cap (tree_of depth inputs.now) ≤ length m.old }
     requires limit { vars + tree_count cap (tree_of depth inputs.now) ≤ VARS }
     ensures size { result.size ≡ tree_size cap (tree_of depth inputs.now) }
     ensures end { result.end ≡ vars + tree_count cap (tree_of depth inputs.now) }
@@ -65,7 +66,7 @@ fn count_of(m: &Truths, inputs: &[Lit]) -> u32
 /// Makes the first n of the count variables from first on true, and the others false.
 fn put_outputs(m: &mut Truths, first: u32, count: u32, n: u32)
     requires from { 1 ≤ first }
-    requires there { first + count ≤ length m.old + 1 }
+    requires there { 0 < count → first + count ≤ length m.old + 1 }
     requires limit { first + count ≤ VARS + 1 }
     ensures same { SameOutside first count (assignment m.old) (assignment m.new) }
     ensures set { (k : ℕ) → k < count → assignment m.new (first + k) ≡ nat_lt k n }

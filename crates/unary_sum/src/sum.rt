@@ -8,11 +8,12 @@ ghost use Rattle.cnf_core.specs.Added.{AddsBlock};
 ghost use Rattle.cnf_core.specs.Truths.{assignment};
 ghost use Rattle.unary_sum.specs.declared.joins.Part.TheVariants.{Outputs};
 ghost use Rattle.unary_sum.specs.Part.{IsLit, part_size, PartIsThere, join_clauses};
-ghost use Rattle.unary_sum.specs.Sum.{count_true, tree_of, tree_size, tree_count, top as top_of, join_of, tree_clauses, sum_vars, sum_count, sum_clauses, at_least as at_least_of};
+ghost use Rattle.unary_sum.specs.Sum.{count_true, tree_of, tree_size, tree_count, top as top_of, join_of, tree_clauses, sum_vars, sum_count, sum_clauses, sum_outputs, at_least as at_least_of};
 
 use crate::joins::{Join, Part, add_join};
 use crate::put::put_tree;
 use cnf_core::{CnfFault, Formula, Lit, LitOrTruth, Truths, Var};
+use plan_core::OutOfMemory;
 use std::alloc::Global;
 use std::marker::Model;
 
@@ -68,10 +69,25 @@ impl Sum {
         self.top.at(k)
     }
 
+    /// The literals "at least 1", "at least 2" and so on, up to the cap or the number of inputs: as many
+    /// of them are true as inputs are, up to the cap. So sums of sums are built.
+    pub fn outputs(&self, alloc: Global) -> Result<Vec<Lit>, OutOfMemory>
+        ensures value { IfOk result (λ v. v.items ≡ sum_outputs self.now) }
+        ensures there { AreThere (self.now.vars + sum_count self.now) (sum_outputs self.now) }
+        ensures means { (v : Assignment) → SatisfiesAll v (sum_clauses self.now) →
+            count_true v (sum_outputs self.now) ≡ min (count_true v self.now.inputs) self.now.most }
+    {
+        if self.cap == 0 {
+            return Ok(Vec::new(alloc));
+        }
+        self.top.outputs(alloc)
+    }
+
     /// Sets the sum's own variables by the truth of its inputs, so that its clauses are satisfied,
     /// and changes no other variable.
     pub fn put(&self, m: &mut Truths)
-        requires { self.now.vars + sum_count self.now ≤ length m.old }
+        requires inputs { AreThere (length m.old) self.now.inputs }
+        requires own { 0 < sum_count self.now → self.now.vars + sum_count self.now ≤ length m.old }
         ensures model { SatisfiesAll (assignment m.new) (sum_clauses self.now) }
         ensures same { SameOutside (self.now.vars + 1) (sum_count self.now) (assignment m.old) (assignment m.new) }
         ensures vars { length m.new ≡ length m.old }

@@ -18,7 +18,7 @@ put_tree-left-requires t c =
     let measure = c.decreases in
     let n = length-take half ls in
     let count = ap (tree_count c.args.cap) (tree_of-node c.args.depth ls ne two) in
-    (omega arith, (omega arith, (there_take c.args.vars half ls c.requires.inputs, (omega arith, (c.requires.cap, (omega arith, omega arith))))))
+    (omega arith, (omega arith, (there_take c.args.vars half ls c.requires.inputs, (omega arith, (c.requires.cap, (there_take (length c.args.m.now) half ls c.requires.inputs_set, (λ some. let all = c.requires.there (omega arith) in omega arith, omega arith)))))))
 
 pub put_tree-right-requires : goal.put_tree-right-requires
 put_tree-right-requires t c =
@@ -33,8 +33,25 @@ put_tree-right-requires t c =
     let count = ap (tree_count c.args.cap) (tree_of-node c.args.depth ls ne two) in
     let end = c.put_tree-left.ensures.end in
     let vars = c.put_tree-left.ensures.vars in
-    let there = there_take c.args.vars (length ls - half) (drop half ls) (there_drop c.args.vars half ls c.requires.inputs) in
-    (omega arith, (omega arith, (there_more c.args.vars c.put_tree-left.result.end (take (length ls - half) (drop half ls)) (omega arith) there, (omega arith, (c.requires.cap, (omega arith, omega arith))))))
+    let there = there_take c.args.vars (length ls - half) (drop half ls) (there_drop c.args.vars half ls c.requires.inputs) in (
+      omega arith,
+      (
+        omega arith,
+        (
+          there_more c.args.vars c.put_tree-left.result.end (take (length ls - half) (drop half ls)) (omega arith) there,
+          (
+            omega arith,
+            (
+              c.requires.cap,
+              (
+                there_more (length c.args.m.now) (length c.put_tree-left.new.m) (take (length ls - half) (drop half ls)) (omega arith) (there_take (length c.args.m.now) (length ls - half) (drop half ls) (there_drop (length c.args.m.now) half ls c.requires.inputs_set)),
+                (λ some. let all = c.requires.there (omega arith) in omega arith, omega arith),
+              ),
+            ),
+          ),
+        ),
+      ),
+    )
 
 pub overflow_add-left : goal.overflow_add-left
 overflow_add-left t c =
@@ -50,8 +67,7 @@ pub count_of-n-requires-clause-inputs : goal.count_of-n-requires-clause-inputs
 count_of-n-requires-clause-inputs t c =
     let left = c.put_tree-left.ensures.vars in
     let right = c.put_tree-right.ensures.vars in
-    let there = c.requires.there in
-    there_more c.args.vars (length c.put_tree-right.new.m) c.args.inputs.now (omega arith) c.requires.inputs
+    there_more (length c.args.m.now) (length c.put_tree-right.new.m) c.args.inputs.now (omega arith) c.requires.inputs_set
 
 -- both sides and the outputs are set
 is_put : (t : ℕ) (c : After-put_outputs t) →
