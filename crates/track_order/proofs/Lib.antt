@@ -4,4 +4,5 @@ pub mod OrderingLemmas
 pub mod TableLemmas
 pub mod SplitLemmas
 pub mod OrderLemmas
+pub mod OneOrder
 pub mod TurnedLemmas

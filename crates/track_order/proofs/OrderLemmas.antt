@@ -1,6 +1,7 @@
 -- What the two tables say together.
-use Rattle.std.specs.Prelude.{◌≡◌, ◌<◌, ◌⊎◌, ℕ, Bool, List, length}
+use Rattle.std.specs.Prelude.{◌≡◌, ◌<◌, ◌≤◌, ◌⊎◌, ℕ, Bool, List, length}
 use Rattle.std.proofs.Common.{inl, inr, rules, sym, subst, arith}
+use Rattle.plan_core.specs.declared.limits.TheConstants.{MAX_EDGES}
 use Rattle.plan_core.specs.Graph.{Graph, Overlap}
 use Rattle.track_order.specs.Above.{Above, Contradicts}
 use Rattle.track_order.specs.Tables.{IsTable, IsTableOf}
@@ -17,9 +18,10 @@ contradicts g above e f table e_there f_there both = record {
   under = ((table.each f f_there).exact e e_there).0 both.1;
 }
 
-pub tables_are : (g : Graph) (edges : ℕ) (above overlap : List (List Bool)) → edges ≡ length g.edges → IsTableOf (length g.edges) (length g.edges) (Above g) above →
+pub tables_are : (g : Graph) (edges : ℕ) (above overlap : List (List Bool)) → edges ≡ length g.edges → edges ≤ MAX_EDGES → IsTableOf (length g.edges) (length g.edges) (Above g) above →
     IsTableOf (length g.edges) (length g.edges) (Overlap g) overlap → AreTables (edge_order edges above overlap)
-tables_are g edges above overlap count is_above is_overlap = record {
+tables_are g edges above overlap count few is_above is_overlap = record {
+  few = few;
   above = subst (λ (n : ℕ). IsTable n above) (sym count) (table_is (length g.edges) (Above g) above is_above);
   overlap = subst (λ (n : ℕ). IsTable n overlap) (sym count) (table_is (length g.edges) (Overlap g) overlap is_overlap);
 }
@@ -39,10 +41,11 @@ never_both g above table none e f e_there f_there c = elim (compare e f) [
     not_itself : Above g e e → ⊥
     not_itself above = above.parts.second.alone above.parts.first.reached
 
-pub order_is : (g : Graph) (edges : ℕ) (above overlap : List (List Bool)) → edges ≡ length g.edges → IsTableOf (length g.edges) (length g.edges) (Above g) above →
+pub order_is : (g : Graph) (edges : ℕ) (above overlap : List (List Bool)) → edges ≡ length g.edges → edges ≤ MAX_EDGES → IsTableOf (length g.edges) (length g.edges) (Above g) above →
     IsTableOf (length g.edges) (length g.edges) (Overlap g) overlap → ((e f : ℕ) → e < f → f < edges → IsBothWays above e f → ⊥) → IsOrderOf g (edge_order edges above overlap)
-order_is g edges above overlap count is_above is_overlap none = record {
+order_is g edges above overlap count few is_above is_overlap none = record {
   edges = count;
+  tables = tables_are g edges above overlap count few is_above is_overlap;
   above = λ e f e_there f_there. (is_above.each e e_there).exact f f_there;
   overlap = λ e f e_there f_there. (is_overlap.each e e_there).exact f f_there;
   one_way = never_both g above is_above (λ e f rising there both. none e f rising (subst (λ (n : ℕ). f < n) (sym count) there) both);

@@ -1,13 +1,11 @@
 -- Rows and tables that grow, and looking through one.
-use Rattle.std.specs.Prelude.{◌≡◌, ◌↔◌, ◌⊎◌, ℕ, ◌+◌, ◌<◌, Bool, true, false, List, [], ◌∷◌, ◌++◌, length, slice_index_or}
-use Rattle.std.proofs.Common.{inl, inr, rules, refl, sym, ◌∙◌, ap, subst, arith, length-append}
+use Rattle.std.specs.Prelude.{◌≡◌, ◌↔◌, ℕ, ◌+◌, ◌<◌, Bool, true, false, List, [], ◌∷◌, ◌++◌, length, slice_index_or}
+use Rattle.std.proofs.Common.{inl, inr, refl, sym, ◌∙◌, ap, subst, arith, length-append}
 use Rattle.std.proofs.lemmas.List.{get_or_append_left, get_or_default}
 use Rattle.std.proofs.Math.Seq.{get_or-append_seam}
+use Rattle.plan_core.proofs.TruthFacts.{below_or_is}
 use Rattle.track_order.specs.Tables.{is_marked, IsMarked, IsTable, IsRowOf, IsTableOf}
 use Rattle.track_order.specs.Searching.{IsBothWays, HasNoneBefore}
-
-below_or_is : (f e : ℕ) → f < e + 1 → (f < e) ⊎ (f ≡ e)
-below_or_is f e less = search (rules, arith)
 
 pub row_begins : (R : ℕ → Type 0) → IsRowOf 0 R []
 row_begins R = record { size = refl; exact = λ f less. absurd (omega arith) }

@@ -4,14 +4,15 @@ use Rattle.std.specs.Int.{int_max, int_min}
 use Rattle.std.proofs.Common.{inl, inr, rules, refl, sym, ◌∙◌, ap, subst, arith}
 use Rattle.std.proofs.lemmas.Int.{ints}
 use Rattle.std.proofs.lemmas.List.{length-map}
-use Rattle.std.proofs.lemmas.List.{get_or-map as get_or-map_within}
 use Rattle.std.proofs.Math.ListN.{get_or-map, get_or-eq_default}
-use Rattle.std.proofs.Math.IntN.{neg_ℤ-neg_ℤ}
 use Rattle.std.proofs.lemmas.List.Elements.{Contains-append_cases}
 use Rattle.plan_core.specs.declared.sides.Compass.{Compass}
 use Rattle.plan_core.specs.declared.sides.Compass.TheVariants.{East, West}
 use Rattle.plan_core.specs.declared.sides.Side.TheVariants.{Upper, Lower}
 use Rattle.plan_core.specs.Graph.{Graph, Node, Edge, Ports, End, Joint, Switch, Crossing, node, edge, no_node, no_edge, mileage, opposite, Overlap}
+use Rattle.port_graph.proofs.MileLemmas.{neg_less}
+use Rattle.port_graph.proofs.TurnedNodes.{node-turned}
+use Rattle.port_graph.proofs.TurnedTwice.{graph_twice}
 use Rattle.port_graph.specs.Turned.{turned_ports, turned_node, turned_edge, turned_graph}
 use Rattle.track_order.specs.Reach.{begin_of, end_of, IsWalk}
 use Rattle.track_order.specs.Above.{Fork, fork, forks, IsReachedAlone, Above}
@@ -24,9 +25,6 @@ neg_min c d = grind (arith, ints)
 neg_max : (a b : ℤ) → int_min (neg_ℤ a) (neg_ℤ b) ≡ neg_ℤ (int_max a b)
 neg_max a b = grind (arith, ints)
 
-neg_less : (a b : ℤ) → a <ℤ b → neg_ℤ b <ℤ neg_ℤ a
-neg_less a b less = omega (arith, ints)
-
 -- ---- edges and nodes
 
 edge_turned : (g : Graph) (e : ℕ) → edge (turned_graph g) e ≡ turned_edge (edge g e)
@@ -34,9 +32,6 @@ edge_turned g e = get_or-map turned_edge g.edges e no_edge
 
 edges_turned : (g : Graph) → length (turned_graph g).edges ≡ length g.edges
 edges_turned g = length-map g.edges turned_edge
-
-node_turned : (g : Graph) (n : ℕ) → n < length g.nodes → node (turned_graph g) n ≡ turned_node (node g n)
-node_turned g n there = get_or-map_within turned_node g.nodes n no_node no_node there
 
 -- ---- walks
 
@@ -74,7 +69,7 @@ alone_turned g way one other e is = record {
 
 mile_turned : (g : Graph) (n : ℕ) → mileage (turned_graph g) n ≡ neg_ℤ (mileage g n)
 mile_turned g n = elim (within_or_past n (length g.nodes)) [
-  | inl less ↦ ap (λ (x : Node). x.mileage) (node_turned g n less)
+  | inl less ↦ ap (λ (x : Node). x.mileage) (node-turned g n less)
   | inr past ↦
       ap (λ (x : Node). x.mileage) (get_or-eq_default (map turned_node g.nodes) no_node (subst (λ (k : ℕ). k ≤ n) (sym (length-map g.nodes turned_node)) past))
       ∙ sym (ap (λ (x : Node). neg_ℤ x.mileage) (get_or-eq_default g.nodes no_node past))
@@ -135,7 +130,7 @@ above_turned g e f above = record {
   at = above.at;
   there = subst (λ (n : ℕ). above.at < n) (sym (length-map g.nodes turned_node)) above.there;
   fork = fork (opposite above.fork.way) above.fork.lower above.fork.upper;
-  among = subst (λ (x : Node). Contains (forks x.ports) (fork (opposite above.fork.way) above.fork.lower above.fork.upper)) (sym (node_turned g above.at above.there))
+  among = subst (λ (x : Node). Contains (forks x.ports) (fork (opposite above.fork.way) above.fork.lower above.fork.upper)) (sym (node-turned g above.at above.there))
       (fork_turned (node g above.at).ports above.fork above.among);
   parts = record {
     first = alone_turned g above.fork.way above.fork.lower above.fork.upper f above.parts.second;
@@ -143,39 +138,6 @@ above_turned g e f above = record {
     overlap = overlap_turned g e f above.parts.overlap;
   };
 }
-
--- ---- turned twice
-
-ports_twice : (p : Ports) → turned_ports (turned_ports p) ≡ p
-ports_twice (End e East) = refl
-ports_twice (End e West) = refl
-ports_twice (Joint west east) = refl
-ports_twice (Switch East Upper trunk straight diverging) = refl
-ports_twice (Switch East Lower trunk straight diverging) = refl
-ports_twice (Switch West Upper trunk straight diverging) = refl
-ports_twice (Switch West Lower trunk straight diverging) = refl
-ports_twice (Crossing west_upper west_lower east_upper east_lower) = refl
-
-node_twice : (n : Node) → turned_node (turned_node n) ≡ n
-node_twice n =
-    ap (λ (m : ℤ). of m (turned_ports (turned_ports n.ports))) (neg_ℤ-neg_ℤ n.mileage) ∙ ap (λ (p : Ports). of n.mileage p) (ports_twice n.ports)
-  where
-    of : ℤ → Ports → Node
-    of m p = record { name = n.name; mileage = m; ports = p }
-
-nodes_twice : (xs : List Node) → map turned_node (map turned_node xs) ≡ xs
-nodes_twice [] = refl
-nodes_twice (x ∷ xs) = ap (λ (y : Node). y ∷ map turned_node (map turned_node xs)) (node_twice x) ∙ ap (λ (ys : List Node). x ∷ ys) (nodes_twice xs)
-
-edges_twice : (xs : List Edge) → map turned_edge (map turned_edge xs) ≡ xs
-edges_twice [] = refl
-edges_twice (x ∷ xs) = ap (λ (ys : List Edge). x ∷ ys) (edges_twice xs)
-
-graph_twice : (g : Graph) → turned_graph (turned_graph g) ≡ g
-graph_twice g = ap (λ (ns : List Node). of ns (map turned_edge (map turned_edge g.edges))) (nodes_twice g.nodes) ∙ ap (λ (es : List Edge). of g.nodes es) (edges_twice g.edges)
-  where
-    of : List Node → List Edge → Graph
-    of nodes edges = record { nodes = nodes; edges = edges }
 
 pub turned_above : (g : Graph) (e f : ℕ) → Above (turned_graph g) f e → Above g e f
 turned_above g e f above = subst (λ (x : Graph). Above x e f) (graph_twice g) (above_turned (turned_graph g) f e above)

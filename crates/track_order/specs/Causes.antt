@@ -1,10 +1,20 @@
--- What deriving the order of a graph answers.
-use Rattle.std.specs.Prelude.{⊤}
+-- Why a graph has no order, and the number and the word by which a fault is told.
+use Rattle.std.specs.Prelude.{ℕ, List, [], codes}
 use Rattle.plan_core.specs.Graph.{Graph}
 use Rattle.track_order.specs.declared.fault.OrderFault.{OrderFault}
 use Rattle.track_order.specs.declared.fault.OrderFault.TheVariants.{Contradicts, Memory}
 use Rattle.track_order.specs.Order.{IsFirstContradiction}
 
-abbrev pub IsFaultOf : Graph → OrderFault → Type 0
-IsFaultOf g (Contradicts e f) = IsFirstContradiction g e.0 f.0
-IsFaultOf g Memory = ⊤
+-- want of memory is no fault of the graph
+abbrev pub IsOrderFault : Graph → OrderFault → Type 0
+IsOrderFault g (Contradicts e f) = IsFirstContradiction g e.0 f.0
+IsOrderFault g Memory = ⊥
+
+-- want of memory has neither
+abbrev pub number_of : OrderFault → ℕ
+number_of (Contradicts e f) = 1
+number_of Memory = 0
+
+abbrev pub word_of : OrderFault → List ℕ
+word_of (Contradicts e f) = codes "Contradicts"
+word_of Memory = []

@@ -1,5 +1,6 @@
 -- The order of a graph's edges, as two tables with an entry for each two edges.
-use Rattle.std.specs.Prelude.{◌≡◌, ◌↔◌, ℕ, ◌<◌, ◌⊎◌, Bool, true, List, length}
+use Rattle.std.specs.Prelude.{◌≡◌, ◌↔◌, ℕ, ◌<◌, ◌≤◌, ◌⊎◌, Bool, true, List, length}
+use Rattle.plan_core.specs.declared.limits.TheConstants.{MAX_EDGES}
 use Rattle.plan_core.specs.Graph.{Graph, Overlap}
 use Rattle.track_order.specs.Above.{Above, Contradicts}
 use Rattle.track_order.specs.Tables.{entry, IsTable}
@@ -12,7 +13,9 @@ pub record EdgeOrder : Type 0 where
 abbrev pub edge_order : ℕ → List (List Bool) → List (List Bool) → EdgeOrder
 edge_order edges above_rows overlap_rows = record { edges = edges; above_rows = above_rows; overlap_rows = overlap_rows }
 
+-- two tables with an entry for each two edges, of which there are not too many
 pub record AreTables (o : EdgeOrder) : Type 0 where
+  pub few : o.edges ≤ MAX_EDGES
   pub above : IsTable o.edges o.above_rows
   pub overlap : IsTable o.edges o.overlap_rows
 
@@ -23,9 +26,10 @@ abbrev pub is_overlap : EdgeOrder → ℕ → ℕ → Bool
 is_overlap o e f = entry o.overlap_rows e f
 
 -- the tables say which edges of the graph are above which, and which overlap; no two edges are each
--- above the other
+-- above the other. A graph has one such order at most
 pub record IsOrderOf (g : Graph) (o : EdgeOrder) : Type 0 where
   pub edges : o.edges ≡ length g.edges
+  pub tables : AreTables o
   pub above : (e f : ℕ) → e < length g.edges → f < length g.edges → (is_above o e f ≡ true) ↔ Above g e f
   pub overlap : (e f : ℕ) → e < length g.edges → f < length g.edges → (is_overlap o e f ≡ true) ↔ Overlap g e f
   pub one_way : (e f : ℕ) → e < length g.edges → f < length g.edges → Contradicts g e f → ⊥

@@ -1,7 +1,8 @@
 // The order of a graph's edges, derived.
-ghost use Rattle.std.specs.Prelude.{IfOk, IfErr};
+ghost use Rattle.plan_core.specs.Exactly.{AnswersExactly};
+ghost use Rattle.track_order.specs.declared.fault.OrderFault.TheVariants.{Memory};
 ghost use Rattle.track_order.specs.Order.{IsOrderOf};
-ghost use Rattle.track_order.specs.Causes.{IsFaultOf};
+ghost use Rattle.track_order.specs.Causes.{IsOrderFault};
 
 use crate::fault::OrderFault;
 use crate::order::TrackOrder;
@@ -12,9 +13,9 @@ use port_graph::PortGraph;
 use std::alloc::Global;
 
 /// The order of the graph's edges, or the least pair of edges of which each is above the other.
+#[tactic(auto, using(crate::proofs::OneOrder::order_exactly))]
 pub fn derive(alloc: Global, g: &PortGraph) -> Result<TrackOrder, OrderFault>
-    ensures order { IfOk result (λ o. IsOrderOf g.now o) }
-    ensures fault { IfErr result (λ e. IsFaultOf g.now e) }
+    ensures { AnswersExactly result Memory (IsOrderOf g.now) (IsOrderFault g.now) }
 {
     let walks = Walks::new(alloc, g)?;
     let splits = all_splits(alloc, g, &walks)?;

@@ -1,6 +1,7 @@
 // Why a graph has no order.
 ghost use Rattle.std.specs.Prelude.{◌≡◌};
 ghost use Rattle.track_order.specs.declared.fault.OrderFault.TheVariants.{Memory};
+ghost use Rattle.track_order.specs.Causes.{number_of, word_of};
 
 use plan_core::{EdgeNo, OutOfMemory};
 use std::alloc::{AllocError, AllocFailed};
@@ -15,6 +16,28 @@ pub enum OrderFault {
     /// Memory couldn't be had.
     #[error("out of memory")]
     Memory,
+}
+
+impl OrderFault {
+    /// The number by which a fault line tells the fault; want of memory has no line, and 0.
+    pub fn number(&self) -> u8
+        ensures { result ≡ number_of self.now }
+    {
+        match self {
+            OrderFault::Contradicts(..) => 1,
+            OrderFault::Memory => 0,
+        }
+    }
+
+    /// The word by which a fault line tells the fault; want of memory has none.
+    pub fn word(&self) -> &'static str
+        ensures { result.now ≡ word_of self.now }
+    {
+        match self {
+            OrderFault::Contradicts(..) => "Contradicts",
+            OrderFault::Memory => "",
+        }
+    }
 }
 
 impl From<AllocError> for OrderFault {

@@ -1,5 +1,6 @@
 // The order of a graph's edges.
-ghost use Rattle.std.specs.Prelude.{◌≡◌, ◌<◌, length};
+ghost use Rattle.std.specs.Prelude.{◌≡◌, ◌<◌, ◌≤◌, length};
+ghost use Rattle.plan_core.specs.declared.limits.TheConstants.{MAX_EDGES};
 ghost use Rattle.track_order.specs.Order.{is_above, is_overlap};
 ghost use Rattle.track_order.specs.Tables.{entry, IsTable};
 
@@ -30,7 +31,8 @@ impl Model for TrackOrder {
 impl TrackOrder {
     /// The number of edges, at most 160.
     pub fn edges(&self) -> u16
-        ensures { result ≡ self.now.edges }
+        ensures value { result ≡ self.now.edges }
+        ensures limit { result ≤ MAX_EDGES }
     {
         self.edges
     }
