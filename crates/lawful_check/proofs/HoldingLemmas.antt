@@ -1,13 +1,9 @@
 -- How far a law holds: how that begins, each step, and how it ends.
-use Rattle.std.specs.Prelude.{Bool, true, false, ◌≡◌, ◌⊎◌, ℕ, ◌+◌, ◌<◌, ◌≤◌}
-use Rattle.std.proofs.Common.{inl, inr, rules, subst, arith}
+use Rattle.std.specs.Prelude.{◌≡◌, ℕ, ◌+◌, ◌<◌, ◌≤◌}
+use Rattle.std.proofs.Common.{inl, inr, subst, arith}
+use Rattle.std.proofs.lemmas.Bool.{cases_lt}
+use Rattle.plan_core.proofs.TruthFacts.{below_or_is}
 use Rattle.lawful_check.specs.Holding.{Where, HoldsTo, HoldsForAll, FailsFirst, HoldsToPair, HoldsForPairs}
-
-pub below_or_is : (f e : ℕ) → f < e + 1 → (f < e) ⊎ (f ≡ e)
-below_or_is f e less = search (rules, arith)
-
-within_or_past : (n count : ℕ) → (n < count) ⊎ (count ≤ n)
-within_or_past n count = search (rules, arith)
 
 -- ---- one party
 
@@ -65,7 +61,7 @@ row_ends C S a count none so_far = record {
   each = λ c d earlier. elim earlier [
     | inl less ↦ (elim (below_or_is c a less) [
       | inl before ↦ so_far.each c d (inl before)
-      | inr is ↦ (elim (within_or_past d count) [
+      | inr is ↦ (elim (cases_lt d count) [
         | inl within ↦ so_far.each c d (inr (is, within))
         | inr past ↦ record { met = λ speaks. absurd (none d past (subst (λ (x : ℕ). C x d) is speaks)) }
       ])
@@ -77,19 +73,8 @@ row_ends C S a count none so_far = record {
 -- of no pair with a first party from count on the law speaks
 pub pairs_end : (C S : ℕ → ℕ → Type 0) (count : ℕ) → ((a b : ℕ) → count ≤ a → C a b → ⊥) → HoldsToPair C S count 0 → HoldsForPairs C S
 pairs_end C S count none all = record {
-  each = λ a b. elim (within_or_past a count) [
+  each = λ a b. elim (cases_lt a count) [
     | inl within ↦ all.each a b (inl within)
     | inr past ↦ record { met = λ is. absurd (none a b past is) }
   ];
 }
-
--- ---- tests
-
-pub not_both : (b : Bool) → b ≡ true → b ≡ false → ⊥
-not_both b truth untrue = differ (back truth untrue)
-  where
-    back : {a b c : Bool} → a ≡ b → a ≡ c → b ≡ c
-    back e f = cc
-
-    differ : true ≡ false → ⊥
-    differ e = search rules

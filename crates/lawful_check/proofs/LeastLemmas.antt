@@ -1,12 +1,12 @@
 -- One broken law is the least.
-use Rattle.std.proofs.Common.{◌≡◌, ◌⊎◌, inl, inr, ℕ, ◌<◌, Bool, refl, sym, ◌∙◌, ap, arith}
+use Rattle.std.proofs.Common.{◌≡◌, ◌⊎◌, inl, inr, ℕ, ◌<◌, Bool, sym, ◌∙◌, ap, arith}
 use Rattle.std.proofs.lemmas.Bool.{cases_order}
 use Rattle.plan_core.specs.Grid.{GridSize}
 use Rattle.plan_core.specs.Graph.{Graph}
 use Rattle.plan_core.specs.Drawing.{Drawing}
 use Rattle.plan_core.specs.Lawful.{Instance, NodeOnGrid, LineOnGrid, Ordered, Joined, Aligned, Apart, Over, Parted, Lawful}
 use Rattle.lawful_check.specs.declared.law_break.LawBreak.{LawBreak}
-use Rattle.lawful_check.specs.Breaks.{rank, first_of, second_of, IsEarlier, IsBefore, break_of, IsLeastBroken, IsLeastBreak}
+use Rattle.lawful_check.specs.Breaks.{rank, first_of, second_of, IsBefore, break_of, IsLeastBroken, IsLeastBreak}
 
 pub lawful_breaks_none : (g : Graph) (above : ℕ → ℕ → Bool) (grid : GridSize) (d : Drawing) (b : LawBreak) → Lawful g above grid d → IsLeastBreak g above grid d b → ⊥
 lawful_breaks_none g above grid d b lawful broken = broken.least.broken (lawful.laws broken.instance broken.least.is)

@@ -4,6 +4,7 @@ use Rattle.plan_core.specs.Grid.{GridSize}
 use Rattle.plan_core.specs.Graph.{Graph}
 use Rattle.plan_core.specs.Drawing.{Drawing}
 use Rattle.plan_core.specs.Lawful.{Instance, NodeOnGrid, LineOnGrid, Ordered, Joined, Aligned, Apart, Over, Parted, IsInstance, Meets}
+use Rattle.track_order.specs.Order.{IsEarlier}
 use Rattle.lawful_check.specs.declared.law_break.LawBreak.{LawBreak}
 use Rattle.lawful_check.specs.declared.law_break.Party.{Party}
 use Rattle.lawful_check.specs.declared.law_break.Party.TheVariants as party
@@ -39,10 +40,6 @@ second_of (Aligned n) = 0
 second_of (Apart u v) = v
 second_of (Over e f) = f
 second_of (Parted e f) = f
-
--- by the first numbers, and then by the second
-abbrev pub IsEarlier : ℕ → ℕ → ℕ → ℕ → Type 0
-IsEarlier a b c d = (a < c) ⊎ ((a ≡ c) × (b < d))
 
 abbrev pub IsBefore : Instance → Instance → Type 0
 IsBefore i j = (rank i < rank j) ⊎ ((rank i ≡ rank j) × IsEarlier (first_of i) (second_of i) (first_of j) (second_of j))

@@ -1,13 +1,6 @@
 -- For which parties a law is known to hold. C says of which parties the law speaks, S is its sentence.
-use Rattle.std.specs.Prelude.{◌≡◌, ℕ, ◌<◌, length}
-use Rattle.plan_core.specs.Graph.{Graph}
-use Rattle.plan_core.specs.Drawing.{Drawing}
-use Rattle.lawful_check.specs.Breaks.{IsEarlier}
-
--- the drawing has as many places and lines as the graph has nodes and edges
-pub record IsFitting (g : Graph) (d : Drawing) : Type 0 where
-  pub places : length d.places ≡ length g.nodes
-  pub lines : length d.lines ≡ length g.edges
+use Rattle.std.specs.Prelude.{ℕ, ◌<◌}
+use Rattle.track_order.specs.Order.{IsEarlier}
 
 -- where the law speaks of these parties, its sentence holds
 pub record Where (C S : Type 0) : Type 0 where

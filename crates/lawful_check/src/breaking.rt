@@ -1,9 +1,8 @@
 // The least broken law.
 ghost use Rattle.std.specs.Prelude.{MatchOption};
-ghost use Rattle.plan_core.specs.Lawful.{Lawful};
+ghost use Rattle.plan_core.specs.Lawful.{HasSizeOf, Lawful};
 ghost use Rattle.track_order.specs.Order.{is_above, IsOrderOf};
 ghost use Rattle.lawful_check.specs.Breaks.{IsLeastBreak};
-ghost use Rattle.lawful_check.specs.Holding.{IsFitting};
 
 use crate::edge_laws::{least_not_over, least_not_parted};
 use crate::grid_law::{line_off_grid, node_off_grid};
@@ -19,7 +18,7 @@ use track_order::TrackOrder;
 /// by law, then by the first party, then by the second, nodes before edges.
 pub fn broken(g: &PortGraph, t: &TrackOrder, grid: &Grid, d: &Drawing) -> Option<LawBreak>
     requires order { IsOrderOf g.now t.now }
-    requires fitting { IsFitting g.now d.now }
+    requires fitting { HasSizeOf g.now d.now }
     ensures { MatchOption result (Lawful g.now (is_above t.now) grid.now d.now)
         (λ b. IsLeastBreak g.now (is_above t.now) grid.now d.now b) }
 {

@@ -1,12 +1,11 @@
 // Laws 6 and 7: which of two lines is over the other.
 ghost use Rattle.std.specs.Prelude.{◌+◌, ◌<◌, ◌↔◌, length, IsTrue, MatchOption};
 ghost use Rattle.plan_core.specs.Laws.{EdgeIsOver, EdgesAreParted};
-ghost use Rattle.plan_core.specs.Lawful.{IsAbovePair, IsOtherPair};
+ghost use Rattle.plan_core.specs.Lawful.{HasSizeOf, IsAbovePair, IsOtherPair};
 ghost use Rattle.track_order.specs.Order.{is_above, IsOrderOf};
 ghost use Rattle.lawful_check.specs.Columns.{EndsIn, IsShared, IsHigherAt};
-ghost use Rattle.lawful_check.specs.Holding.{IsFitting, HoldsToPair, HoldsForPairs, FailsFirstPair};
+ghost use Rattle.lawful_check.specs.Holding.{HoldsToPair, HoldsForPairs, FailsFirstPair};
 
-use crate::line_laws::{east_end, west_end};
 use plan_core::{EdgeNo, NodeNo};
 use plan_geometry::Drawing;
 use port_graph::PortGraph;
@@ -14,7 +13,7 @@ use track_order::TrackOrder;
 
 /// Whether the node is an end of the edge and stands in the column.
 fn ends_in(g: &PortGraph, d: &Drawing, f: EdgeNo, n: NodeNo, x: u16) -> bool
-    requires fitting { IsFitting g.now d.now }
+    requires fitting { HasSizeOf g.now d.now }
     requires there { f.0 < length g.now.edges }
     requires node { n.0 < length g.now.nodes }
     ensures { IsTrue result ↔ EndsIn g.now d.now f.0 n.0 x }
@@ -24,7 +23,7 @@ fn ends_in(g: &PortGraph, d: &Drawing, f: EdgeNo, n: NodeNo, x: u16) -> bool
 
 /// Whether the column is that of a node that is an end of both edges.
 fn is_shared(g: &PortGraph, d: &Drawing, e: EdgeNo, f: EdgeNo, x: u16) -> bool
-    requires fitting { IsFitting g.now d.now }
+    requires fitting { HasSizeOf g.now d.now }
     requires first { e.0 < length g.now.edges }
     requires second { f.0 < length g.now.edges }
     ensures { IsTrue result ↔ IsShared g.now d.now e.0 f.0 x }
@@ -34,7 +33,7 @@ fn is_shared(g: &PortGraph, d: &Drawing, e: EdgeNo, f: EdgeNo, x: u16) -> bool
 
 /// Whether `e` is the higher at the column, if the two are compared there.
 fn is_higher_at(g: &PortGraph, d: &Drawing, e: EdgeNo, f: EdgeNo, x: u16) -> bool
-    requires fitting { IsFitting g.now d.now }
+    requires fitting { HasSizeOf g.now d.now }
     requires first { e.0 < length g.now.edges }
     requires second { f.0 < length g.now.edges }
     ensures { IsTrue result ↔ IsHigherAt g.now d.now e.0 f.0 x }
@@ -47,13 +46,13 @@ fn is_higher_at(g: &PortGraph, d: &Drawing, e: EdgeNo, f: EdgeNo, x: u16) -> boo
 
 /// Whether `e` is the higher at each column that is compared.
 fn is_over(g: &PortGraph, d: &Drawing, e: EdgeNo, f: EdgeNo) -> bool
-    requires fitting { IsFitting g.now d.now }
+    requires fitting { HasSizeOf g.now d.now }
     requires first { e.0 < length g.now.edges }
     requires second { f.0 < length g.now.edges }
     ensures { IsTrue result ↔ EdgeIsOver g.now d.now e.0 f.0 }
 {
     let upper = d.line(e);
-    for x in west_end(upper).x..=east_end(upper).x {
+    for x in upper.west_end().x..=upper.east_end().x {
         if !is_higher_at(g, d, e, f, x) {
             return false;
         }
@@ -62,7 +61,7 @@ fn is_over(g: &PortGraph, d: &Drawing, e: EdgeNo, f: EdgeNo) -> bool
 }
 
 fn are_parted(g: &PortGraph, d: &Drawing, e: EdgeNo, f: EdgeNo) -> bool
-    requires fitting { IsFitting g.now d.now }
+    requires fitting { HasSizeOf g.now d.now }
     requires first { e.0 < length g.now.edges }
     requires second { f.0 < length g.now.edges }
     ensures { IsTrue result ↔ EdgesAreParted g.now d.now e.0 f.0 }
@@ -73,7 +72,7 @@ fn are_parted(g: &PortGraph, d: &Drawing, e: EdgeNo, f: EdgeNo) -> bool
 /// The least edge that `e` is above and doesn't lie over.
 fn not_over(g: &PortGraph, t: &TrackOrder, d: &Drawing, e: u16) -> Option<u16>
     requires order { IsOrderOf g.now t.now }
-    requires fitting { IsFitting g.now d.now }
+    requires fitting { HasSizeOf g.now d.now }
     requires there { e < length g.now.edges }
     requires before { HoldsToPair (IsAbovePair g.now (is_above t.now)) (EdgeIsOver g.now d.now) e 0 }
     ensures { MatchOption result (HoldsToPair (IsAbovePair g.now (is_above t.now)) (EdgeIsOver g.now d.now) (e + 1) 0)
@@ -90,7 +89,7 @@ fn not_over(g: &PortGraph, t: &TrackOrder, d: &Drawing, e: u16) -> Option<u16>
 /// The least two edges of which the first is above the second and doesn't lie over it.
 pub(crate) fn least_not_over(g: &PortGraph, t: &TrackOrder, d: &Drawing) -> Option<(EdgeNo, EdgeNo)>
     requires order { IsOrderOf g.now t.now }
-    requires fitting { IsFitting g.now d.now }
+    requires fitting { HasSizeOf g.now d.now }
     ensures { MatchOption result (HoldsForPairs (IsAbovePair g.now (is_above t.now)) (EdgeIsOver g.now d.now))
         (λ p. FailsFirstPair (IsAbovePair g.now (is_above t.now)) (EdgeIsOver g.now d.now) p.0.0 p.1.0) }
 {
@@ -115,7 +114,7 @@ fn are_unordered(g: &PortGraph, t: &TrackOrder, e: EdgeNo, f: EdgeNo) -> bool
 /// The least edge behind `e` that is unordered with it and not parted from it.
 fn not_parted(g: &PortGraph, t: &TrackOrder, d: &Drawing, e: u16) -> Option<u16>
     requires order { IsOrderOf g.now t.now }
-    requires fitting { IsFitting g.now d.now }
+    requires fitting { HasSizeOf g.now d.now }
     requires there { e < length g.now.edges }
     requires before { HoldsToPair (IsOtherPair g.now (is_above t.now)) (EdgesAreParted g.now d.now) e 0 }
     ensures { MatchOption result (HoldsToPair (IsOtherPair g.now (is_above t.now)) (EdgesAreParted g.now d.now) (e + 1) 0)
@@ -137,7 +136,7 @@ pub(crate) fn least_not_parted(
     d: &Drawing,
 ) -> Option<(EdgeNo, EdgeNo)>
     requires order { IsOrderOf g.now t.now }
-    requires fitting { IsFitting g.now d.now }
+    requires fitting { HasSizeOf g.now d.now }
     ensures { MatchOption result (HoldsForPairs (IsOtherPair g.now (is_above t.now)) (EdgesAreParted g.now d.now))
         (λ p. FailsFirstPair (IsOtherPair g.now (is_above t.now)) (EdgesAreParted g.now d.now) p.0.0 p.1.0) }
 {

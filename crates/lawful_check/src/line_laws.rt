@@ -1,56 +1,29 @@
 // Laws 3 and 4: lines join their nodes, and go on through them.
 ghost use Rattle.std.specs.Prelude.{◌≡◌, ◌<◌, ◌+ℤ◌, ◌↔◌, pos, length, All, IsTrue, MatchOption};
+ghost use Rattle.plan_core.specs.Lawful.{HasSizeOf};
 ghost use Rattle.plan_core.specs.Graph.{edges_of};
-ghost use Rattle.plan_core.specs.Line.{west_end, east_end, last_from};
 ghost use Rattle.plan_core.specs.Laws.{LineJoinsItsNodes, steepness, Diverges, slope_at, PortsAreAligned, NodeIsAligned};
 ghost use Rattle.port_graph.specs.Plain.{plain_ports};
-ghost use Rattle.lawful_check.specs.Holding.{IsFitting, HoldsForAll, FailsFirst};
+ghost use Rattle.lawful_check.specs.Holding.{HoldsForAll, FailsFirst};
 
-use plan_core::{Compass, EdgeNo, Grid, NodeNo, Point, Side, Slope};
-use plan_geometry::{Drawing, Line};
+use plan_core::{Compass, EdgeNo, Grid, NodeNo, Side, Slope};
+use plan_geometry::Drawing;
 use port_graph::{PortGraph, Ports};
 
-/// The first point of a line.
-pub(crate) fn west_end(line: &Line) -> Point
-    ensures { result ≡ west_end line.now }
-{
-    match line.points() {
-        [first, ..] => *first,
-        [] => Point { x: 0, y: 0 },
-    }
-}
-
-/// The last point of a line.
-pub(crate) fn east_end(line: &Line) -> Point
-    ensures { result ≡ east_end line.now }
-{
-    match line.points() {
-        [first, rest @ ..] => last_from(*first, rest),
-        [] => Point { x: 0, y: 0 },
-    }
-}
-
-fn last_from(first: Point, rest: &[Point]) -> Point
-    ensures { result ≡ last_from first rest.now }
-{
-    let mut last = first;
-    for p in rest {
-        last = *p;
-    }
-    last
-}
-
 fn joins_its_nodes(g: &PortGraph, grid: &Grid, d: &Drawing, e: EdgeNo) -> bool
-    requires fitting { IsFitting g.now d.now }
+    requires fitting { HasSizeOf g.now d.now }
     requires there { e.0 < length g.now.edges }
     ensures { IsTrue result ↔ LineJoinsItsNodes g.now grid.now d.now e.0 }
 {
-    west_end(d.line(e)) == d.place(g.west(e)) && east_end(d.line(e)) == d.place(g.east(e))
+    let (west, east) = (d.place(g.west(e)), d.place(g.east(e)));
+    d.line(e).west_end() == west
+        && d.line(e).east_end() == east
+        && u32::from(west.x) + u32::from(grid.least()) <= u32::from(east.x)
 }
 
 /// The least edge whose line doesn't join its nodes.
 pub(crate) fn unjoined(g: &PortGraph, grid: &Grid, d: &Drawing) -> Option<EdgeNo>
-    requires { IsFitting g.now d.now }
+    requires { HasSizeOf g.now d.now }
     ensures { MatchOption result (HoldsForAll (λ e. e < length g.now.edges) (LineJoinsItsNodes g.now grid.now d.now))
         (λ e. FailsFirst (λ e. e < length g.now.edges) (LineJoinsItsNodes g.now grid.now d.now) e.0) }
 {
@@ -91,7 +64,7 @@ fn turns_off(legs: Compass, branch: Side, s: Slope, diverging: Slope) -> bool
 
 /// The slope of the edge's line where it meets the node.
 fn slope_at(g: &PortGraph, d: &Drawing, n: NodeNo, e: EdgeNo) -> Slope
-    requires fitting { IsFitting g.now d.now }
+    requires fitting { HasSizeOf g.now d.now }
     requires there { e.0 < length g.now.edges }
     ensures { result ≡ slope_at g.now d.now n.0 e.0 }
 {
@@ -103,7 +76,7 @@ fn slope_at(g: &PortGraph, d: &Drawing, n: NodeNo, e: EdgeNo) -> Slope
 }
 
 fn are_aligned(g: &PortGraph, d: &Drawing, n: NodeNo, ports: Ports) -> bool
-    requires fitting { IsFitting g.now d.now }
+    requires fitting { HasSizeOf g.now d.now }
     requires there { All (λ e. e < length g.now.edges) (edges_of (plain_ports ports)) }
     ensures { IsTrue result ↔ PortsAreAligned (slope_at g.now d.now n.0) (plain_ports ports) }
 {
@@ -140,7 +113,7 @@ fn are_aligned(g: &PortGraph, d: &Drawing, n: NodeNo, ports: Ports) -> bool
 }
 
 fn is_aligned(g: &PortGraph, d: &Drawing, n: NodeNo) -> bool
-    requires fitting { IsFitting g.now d.now }
+    requires fitting { HasSizeOf g.now d.now }
     requires there { n.0 < length g.now.nodes }
     ensures { IsTrue result ↔ NodeIsAligned g.now d.now n.0 }
 {
@@ -149,7 +122,7 @@ fn is_aligned(g: &PortGraph, d: &Drawing, n: NodeNo) -> bool
 
 /// The least node through which the lines don't go on as its kind asks.
 pub(crate) fn unaligned(g: &PortGraph, d: &Drawing) -> Option<NodeNo>
-    requires { IsFitting g.now d.now }
+    requires { HasSizeOf g.now d.now }
     ensures { MatchOption result (HoldsForAll (λ n. n < length g.now.nodes) (NodeIsAligned g.now d.now))
         (λ n. FailsFirst (λ n. n < length g.now.nodes) (NodeIsAligned g.now d.now) n.0) }
 {

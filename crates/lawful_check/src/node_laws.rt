@@ -1,8 +1,8 @@
 // Laws 2 and 5: how two nodes lie to each other.
 ghost use Rattle.std.specs.Prelude.{◌+◌, ◌<◌, ◌↔◌, length, IsTrue, MatchOption};
 ghost use Rattle.plan_core.specs.Laws.{NodesAreOrdered, NodesAreApart};
-ghost use Rattle.plan_core.specs.Lawful.{IsPair};
-ghost use Rattle.lawful_check.specs.Holding.{IsFitting, HoldsToPair, HoldsForPairs, FailsFirstPair};
+ghost use Rattle.plan_core.specs.Lawful.{HasSizeOf, IsPair};
+ghost use Rattle.lawful_check.specs.Holding.{HoldsToPair, HoldsForPairs, FailsFirstPair};
 
 use plan_core::NodeNo;
 use plan_geometry::Drawing;
@@ -10,7 +10,7 @@ use port_graph::PortGraph;
 use std::cmp::Ordering;
 
 fn are_ordered(g: &PortGraph, d: &Drawing, u: NodeNo, v: NodeNo) -> bool
-    requires fitting { IsFitting g.now d.now }
+    requires fitting { HasSizeOf g.now d.now }
     requires first { u.0 < length g.now.nodes }
     requires second { v.0 < length g.now.nodes }
     ensures { IsTrue result ↔ NodesAreOrdered g.now d.now u.0 v.0 }
@@ -25,7 +25,7 @@ fn are_ordered(g: &PortGraph, d: &Drawing, u: NodeNo, v: NodeNo) -> bool
 
 /// The least node behind `u` that isn't ordered with it.
 fn disordered_with(g: &PortGraph, d: &Drawing, u: u16) -> Option<u16>
-    requires fitting { IsFitting g.now d.now }
+    requires fitting { HasSizeOf g.now d.now }
     requires there { u < length g.now.nodes }
     requires before { HoldsToPair (IsPair (length g.now.nodes)) (NodesAreOrdered g.now d.now) u 0 }
     ensures { MatchOption result (HoldsToPair (IsPair (length g.now.nodes)) (NodesAreOrdered g.now d.now) (u + 1) 0)
@@ -42,7 +42,7 @@ fn disordered_with(g: &PortGraph, d: &Drawing, u: u16) -> Option<u16>
 
 /// The least two nodes whose columns aren't in the order of their mileages.
 pub(crate) fn disordered(g: &PortGraph, d: &Drawing) -> Option<(NodeNo, NodeNo)>
-    requires { IsFitting g.now d.now }
+    requires { HasSizeOf g.now d.now }
     ensures { MatchOption result (HoldsForPairs (IsPair (length g.now.nodes)) (NodesAreOrdered g.now d.now))
         (λ p. FailsFirstPair (IsPair (length g.now.nodes)) (NodesAreOrdered g.now d.now) p.0.0 p.1.0) }
 {

@@ -5,7 +5,7 @@ use Rattle.plan_core.specs.Drawing.{line}
 use Rattle.plan_core.specs.Laws.{AreCompared}
 use Rattle.std.proofs.Common.{inl, inr, subst, sym, ap, ◌∙◌, refl, arith}
 use Rattle.lawful_check.specs.Columns.{IsHigherAt}
-use Rattle.lawful_check.proofs.HoldingLemmas.{below_or_is}
+use Rattle.plan_core.proofs.TruthFacts.{below_or_is}
 use Rattle.lawful_check.proofs.edge_laws.is_over.Goals as goal
 
 pub loop-x-preserved : goal.loop-x-preserved

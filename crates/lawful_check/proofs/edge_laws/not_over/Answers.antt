@@ -2,7 +2,8 @@ use Rattle.std.proofs.Common.{arith, sym, ◌∙◌}
 use Rattle.plan_core.specs.Laws.{EdgeIsOver}
 use Rattle.plan_core.specs.Lawful.{IsAbovePair}
 use Rattle.track_order.specs.Order.{is_above}
-use Rattle.lawful_check.proofs.HoldingLemmas.{pair_on, row_ends, not_both}
+use Rattle.lawful_check.proofs.HoldingLemmas.{pair_on, row_ends}
+use Rattle.std.proofs.lemmas.Bool.{both_ways}
 use Rattle.lawful_check.proofs.edge_laws.not_over.Goals.{else-above-via-then-above+else-not-is_over, else-above-via-else-above}
 use Rattle.lawful_check.proofs.edge_laws.not_over.Goals as goal
 
@@ -14,7 +15,7 @@ loop-f-preserved c =
           (record { met = λ is. w.is_over.ensures.0 w.if-not-is_over.false })
       | else-above-via-else-above w ↦
           pair_on (IsAbovePair c.args.g.now (is_above c.args.t.now)) (EdgeIsOver c.args.g.now c.args.d.now) c.args.e c.loop-f.f c.loop-f.invariant
-          (record { met = λ is. absurd (not_both (is_above c.args.t.now c.args.e c.loop-f.f) is.is_above (sym c.above.ensures ∙ w.if-above.false)) })
+          (record { met = λ is. absurd (both_ways (is_above c.args.t.now c.args.e c.loop-f.f) (sym c.above.ensures ∙ w.if-above.false) is.is_above) })
     ]
 
 pub returns : goal.returns

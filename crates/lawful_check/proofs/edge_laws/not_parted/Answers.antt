@@ -3,7 +3,8 @@ use Rattle.std.proofs.Common.{arith}
 use Rattle.plan_core.specs.Laws.{EdgesAreParted}
 use Rattle.plan_core.specs.Lawful.{IsOtherPair}
 use Rattle.track_order.specs.Order.{is_above}
-use Rattle.lawful_check.proofs.HoldingLemmas.{pair_from, pair_on, row_ends, not_both}
+use Rattle.lawful_check.proofs.HoldingLemmas.{pair_from, pair_on, row_ends}
+use Rattle.std.proofs.lemmas.Bool.{both_ways}
 use Rattle.lawful_check.proofs.edge_laws.not_parted.Goals.{else-are_unordered-via-then-are_unordered+else-not-are_parted, else-are_unordered-via-else-are_unordered}
 use Rattle.lawful_check.proofs.edge_laws.not_parted.Goals as goal
 
@@ -19,7 +20,7 @@ loop-f-preserved c =
           (record { met = λ is. w.are_parted.ensures.0 w.if-not-are_parted.false })
       | else-are_unordered-via-else-are_unordered w ↦
           pair_on (IsOtherPair c.args.g.now (is_above c.args.t.now)) (EdgesAreParted c.args.g.now c.args.d.now) c.args.e c.loop-f.f c.loop-f.invariant
-          (record { met = λ is. absurd (not_both c.are_unordered.result (c.are_unordered.ensures.1 is) w.if-are_unordered.false) })
+          (record { met = λ is. absurd (both_ways c.are_unordered.result w.if-are_unordered.false (c.are_unordered.ensures.1 is)) })
     ]
 
 pub returns : goal.returns
