@@ -9,6 +9,7 @@ use Rattle.std.proofs.lemmas.List.Elements.{All-from_recursion, recursion_from_A
 use Rattle.std.proofs.lemmas.List.FromFn.{length-range_with_len}
 use Rattle.std.proofs.lemmas.List.Kept.{AllPairs-cons}
 use Rattle.std.proofs.lemmas.Map.Made.{IsDistinct-from_AllPairs, is_member-Decides, length-le_from_is_member}
+use Rattle.plan_core.proofs.ListFacts.{pairs_tail}
 use Rattle.plan_core.proofs.Listing.{Contains-range_with_len}
 
 -- each item stands so to each later one
@@ -24,13 +25,10 @@ pub pairs_from_stands : {X : Type 0} (R : X → X → Type 0) (xs : List X) → 
 pairs_from_stands R [] h = λ i j d below within. absurd (omega arith)
 pairs_from_stands R (x ∷ xs) h = AllPairs-cons R x xs (All-from_recursion (R x) xs h.0) (pairs_from_stands R xs h.1)
 
-tail_pairs : {X : Type 0} (R : X → X → Type 0) (x : X) (xs : List X) → AllPairs R (x ∷ xs) → AllPairs R xs
-tail_pairs R x xs h = λ i j d below within. h (suc i) (suc j) d (omega arith) (omega arith)
-
 pub stands_from_pairs : {X : Type 0} (R : X → X → Type 0) (xs : List X) → AllPairs R xs → Stands R xs
 stands_from_pairs R [] h = tt
 stands_from_pairs R (x ∷ xs) h =
-    (recursion_from_All (R x) xs (λ k d within. h 0 (suc k) d (omega arith) (omega arith)), stands_from_pairs R xs (tail_pairs R x xs h))
+    (recursion_from_All (R x) xs (λ k d within. h 0 (suc k) d (omega arith) (omega arith)), stands_from_pairs R xs (pairs_tail R x xs h))
 
 -- ---- facts of all items
 

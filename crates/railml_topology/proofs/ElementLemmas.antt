@@ -6,7 +6,7 @@ use Rattle.std.proofs.lemmas.List.{append-nil}
 use Rattle.std.proofs.lemmas.List.Elements.{recursion_from_All}
 use Rattle.std.proofs.lemmas.List.Concat.{flat_map-append}
 use Rattle.std.proofs.lemmas.List.Folds.{flat_map-map}
-use Rattle.std.proofs.lemmas.Option.{same_Some}
+use Rattle.railml_topology.proofs.IdLemmas.{one_row}
 use Rattle.plan_core.specs.declared.topology.Topology.{Topology}
 use Rattle.plan_core.specs.declared.topology.Track.{Track as TrackOf}
 use Rattle.plan_core.specs.declared.topology.End.{End as EndOf}
@@ -21,7 +21,7 @@ use Rattle.railml_read.specs.declared.rows.ElemKind.TheVariants.{Track, Topology
 use Rattle.railml_read.specs.Formed.{AreFormed}
 use Rattle.railml_topology.specs.declared.layout.Layout.{Layout}
 use Rattle.railml_topology.specs.Rows.{same_kind, numbers_from, track_rows, is_of_kind, children, bears_id, id_of}
-use Rattle.railml_topology.specs.Resolved.{StandsBefore, IsLayout, AreLayouts, way_word, HasWay, IsWayOf, IsConnOf, IsJoinedAs, IsTrackEndOf, IsKindOf, IsInnerOf, IsTrackOf}
+use Rattle.railml_topology.specs.Resolved.{StandsBefore, IsLayout, AreLayouts, way_word, HasWay, IsWayOf, IsConnOf, IsJoinedAs, IsTrackEndOf, IsInnerKindOf, IsInnerOf, IsTrackOf}
 use Rattle.railml_topology.proofs.Apart.{Apart, all_more, all_both, all_joined, stands_joined, stands_from_pairs, stands_weaker, Among, all_among, Covers, covers_weaker, covers_groups}
 use Rattle.railml_topology.proofs.PositionLemmas.{before_differs}
 use Rattle.railml_topology.proofs.Zips.{zip_joined, zip_keyed}
@@ -51,9 +51,6 @@ stand rows k = cond (is_of_kind rows Connection k) (up rows k) k
 abbrev pub home : List Elem → ℕ → ℕ
 home rows k = up rows (up rows (up rows k))
 
-pub same_row : (rows : List Elem) (k : ℕ) (a b : Elem) → slice_get rows k ≡ Some a → slice_get rows k ≡ Some b → a ≡ b
-same_row rows k a b e f = same_Some a b (sym e ∙ f)
-
 pub element_is : (rows : List Elem) (k : ℕ) (row : Elem) (id : List ℕ) (at : ℕ) → slice_get rows k ≡ Some row → row.attrs.id ≡ Some id → row.at ≡ at → element_of rows k ≡ record { id = id; at = at }
 element_is rows k row id at is has place = rw (is, has, place) refl
 
@@ -79,7 +76,7 @@ stand_other rows k row is other = let e : is_of_kind rows Connection k ≡ false
 
 -- rows of two kinds differ
 pub kinds_differ : (rows : List Elem) (i j : ℕ) (a b : Elem) → slice_get rows i ≡ Some a → slice_get rows j ≡ Some b → a.kind ≢ b.kind → i ≢ j
-kinds_differ rows i j a b is_a is_b differ same = differ (ap (λ (v : Elem). v.kind) (same_row rows i a b is_a (ap (slice_get rows) same ∙ is_b)))
+kinds_differ rows i j a b is_a is_b differ same = differ (ap (λ (v : Elem). v.kind) (one_row rows i a b is_a (ap (slice_get rows) same ∙ is_b)))
 
 -- ---- a row with its connections
 
@@ -126,7 +123,7 @@ way_words_differ e = let first : ◌≡◌ {A = ℕ} 105 111 = ap (λ (v : Optio
 
 ways_differ : (rows : List Elem) (i j : ℕ) → HasWay rows i false → HasWay rows j true → i ≢ j
 ways_differ rows i j a b same =
-    let rows_same : a.row ≡ b.row = same_row rows i a.row b.row a.is (ap (slice_get rows) same ∙ b.is) in
+    let rows_same : a.row ≡ b.row = one_row rows i a.row b.row a.is (ap (slice_get rows) same ∙ b.is) in
     way_words_differ (sym a.way ∙ (ap (λ (v : Elem). v.attrs.orientation) rows_same ∙ b.way))
 
 pub way_child : (rows : List Elem) (crossing k : ℕ) (outgoing : Bool) → IsWayOf rows crossing outgoing k → IsChild rows crossing Connection k
@@ -141,7 +138,7 @@ inner_group rows layouts begin i x h row is bears other = choose x.what refl h.w
     whole : (ks : List ℕ) (w : InnerKind) → x.what ≡ w → map conn_element (connections w) ≡ map (element_of rows) ks → inner_elements x ≡ map (element_of rows) (i ∷ ks)
     whole ks w at same = ap (λ (v : InnerKind). inner_element x ∷ map conn_element (connections v)) at ∙ (ap (λ (v : List Element). inner_element x ∷ v) same ∙ ap (λ (v : Element). v ∷ map (element_of rows) ks) own)
 
-    choose : (w : InnerKind) → x.what ≡ w → IsKindOf rows layouts i h.row w → Covers (element_of rows) (λ k. Bears rows k × (stand rows k ≡ i)) (inner_elements x)
+    choose : (w : InnerKind) → x.what ≡ w → IsInnerKindOf rows layouts i h.row w → Covers (element_of rows) (λ k. Bears rows k × (stand rows k ≡ i)) (inner_elements x)
     choose (inners.Switch outgoing hand diverges c) at s =
         group rows i row (s.number ∷ []) (inner_elements x) is bears other (only_child rows i Connection s.number s.is_branch.only, tt) (one_child_apart s.number)
         (whole (s.number ∷ []) (inners.Switch outgoing hand diverges c) at (ap (λ (v : Element). v ∷ []) (conn_element_is rows layouts s.number c s.conn)))
@@ -165,7 +162,7 @@ pub record Laid (rows : List Elem) (l : Layout) : Type 0 where
   pub end : IsChild rows l.topology End l.end
   pub inner : AllByRecursion (λ i. IsChild rows l.topology Switch i ⊎ IsChild rows l.topology Crossing i) l.inner
 
-all_that_among : (P : ℕ → Type 0) (xs : List ℕ) → ((x : ℕ) → Among xs x → P x) → AllByRecursion P xs
+pub all_that_among : (P : ℕ → Type 0) (xs : List ℕ) → ((x : ℕ) → Among xs x → P x) → AllByRecursion P xs
 all_that_among P [] h = tt
 all_that_among P (x ∷ xs) h = (h x (inl refl), all_that_among P xs (λ y a. h y (inr a)))
 

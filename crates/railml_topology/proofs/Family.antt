@@ -1,6 +1,6 @@
 -- Rows by number: which rows pass, a row's children and its parent.
-use Rattle.std.proofs.Common.{◌≡◌, ℕ, suc, zero, ◌+◌, Bool, true, false, cond, Option, Some, None, List, [], ◌∷◌, slice_get, refl, sym, ap, ◌∙◌, subst, inl, inr, zero-add, arith}
-use Rattle.std.proofs.lemmas.Option.{same_Some}
+use Rattle.std.proofs.Common.{◌≡◌, ℕ, suc, zero, ◌+◌, Bool, true, false, cond, Option, Some, None, List, [], ◌∷◌, slice_get, refl, sym, ap, ◌∙◌, subst, inl, inr, zero-add, arith, ◌<◌, length}
+use Rattle.std.proofs.lemmas.Option.{same_Some, slice_get_within}
 use Rattle.std.specs.List.{filter, Contains}
 use Rattle.std.proofs.lemmas.Bool.{eq-eqb, eqb-true}
 use Rattle.railml_read.specs.declared.rows.Elem.{Elem}
@@ -58,6 +58,9 @@ of_kind rows kind i h = choose (slice_get rows i) refl
     choose : (v : Option Elem) → slice_get rows i ≡ v → (row : Elem) × (slice_get rows i ≡ Some row) × (row.kind ≡ kind)
     choose None e = absurd (let f : is_of_kind rows kind i ≡ false = rw e refl in cc)
     choose (Some row) e = (row, e, same_kind_is row.kind kind (rw e at h))
+
+pub within_of_kind : (rows : List Elem) (kind : ElemKind) (i : ℕ) → is_of_kind rows kind i ≡ true → i < length rows
+within_of_kind rows kind i t = let (row, is, kind_is) = of_kind rows kind i t in slice_get_within rows i row is
 
 pub is_of_its_kind : (rows : List Elem) (i : ℕ) (row : Elem) → slice_get rows i ≡ Some row → is_of_kind rows row.kind i ≡ true
 is_of_its_kind rows i row e = rw e (same_kind_self row.kind)

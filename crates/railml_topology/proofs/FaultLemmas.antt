@@ -1,17 +1,22 @@
 -- Faults by their numbers, and the order in which they are looked for.
-use Rattle.std.proofs.Common.{◌≡◌, ◌⊎◌, ℕ, suc, zero, ◌<◌, ◌≤◌, ◌+◌, ◌==◌, Bool, true, false, List, [], ◌∷◌, length, Option, Some, None, slice_get, refl, sym, ◌∙◌, ap, subst, inl, inr, arith, if◌then◌else◌}
-use Rattle.std.proofs.lemmas.Bool.{cases_lt, cases_eq}
+use Rattle.std.proofs.Common.{◌≡◌, ◌⊎◌, ℕ, suc, zero, ◌<◌, ◌≤◌, ◌+◌, ◌==◌, Bool, true, false, List, [], ◌∷◌, length, Option, Some, None, slice_get, get_or, refl, sym, ◌∙◌, ap, subst, inl, inr, arith, if◌then◌else◌}
+use Rattle.std.proofs.lemmas.Bool.{cases_eq}
+use Rattle.std.specs.List.{range_with_len}
+use Rattle.std.proofs.lemmas.List.{get_or-map}
+use Rattle.std.proofs.lemmas.List.FromFn.{get_or-range_with_len}
 use Rattle.std.proofs.lemmas.Option.{same_Some, none-some, slice_get_within}
+use Rattle.plan_core.proofs.ListFacts.{get_within}
+use Rattle.plan_core.specs.declared.limits.TheConstants.{MAX_TRACKS}
 use Rattle.railml_read.specs.declared.rows.Elem.{Elem}
 use Rattle.railml_read.specs.declared.rows.ElemKind.TheVariants as kinds
 use Rattle.railml_topology.specs.declared.attributes.Attribute.{Attribute}
 use Rattle.railml_topology.specs.declared.fault.TopologyWhat.{TopologyWhat}
 use Rattle.railml_topology.specs.declared.fault.TopologyWhat.TheVariants.{NoTracks, TooMany, Missing, Id, RepeatedId, Number, UnknownRef, NotMutual, SelfRef, EndKind, Course, Orientation, OutsideTrack}
+use Rattle.railml_topology.specs.declared.finding.TheConstants.{IN_ORDER}
 use Rattle.railml_topology.specs.Rows.{same_kind, numbers_from, track_rows, name_of, id_of}
 use Rattle.railml_topology.specs.Faults.{Lacks, HasBadId, Repeats, HasNoNumber, RefersToNone, IsNotReferredBack, RefersToItself, LacksItsParts, HasBadCourse, HasBadOrientation, LiesOutside, number_of, AreIdsDistinct}
-use Rattle.railml_topology.specs.Searching.{NoneBefore, IsFirst, FindsFirst}
-use Rattle.railml_topology.specs.Telling.{HasKind, HasNoneOf, IsLowest}
-use Rattle.railml_topology.proofs.TableLemmas.{there}
+use Rattle.railml_topology.specs.Searching.{NoneBefore, FindsFirst}
+use Rattle.railml_topology.specs.Telling.{HasKind, HasNoneBelow, HasNone}
 
 -- ---- numbers of faults
 
@@ -82,36 +87,36 @@ numbers_to_thirteen OutsideTrack = omega arith
 
 -- ---- the order of the search
 
-pub none_yet : (rows : List Elem) (low : ℕ) → HasNoneOf rows low low
-none_yet rows low = record { none = λ what from below. absurd (omega arith) }
+pub none_yet : (rows : List Elem) → HasNoneBelow rows 1
+none_yet rows = record { none = λ what below. (let from = numbers_from_one what in absurd (omega arith)) }
 
 -- one more kind that no row has
-pub none_of_more : {rows : List Elem} {low : ℕ} (what : TopologyWhat) → HasNoneOf rows low (number_of what) → NoneBefore (HasKind rows what) rows (length rows) → HasNoneOf rows low (number_of what + 1)
-none_of_more {rows} {low} what none here = record { none = λ other from below. by other from below (cases_eq (number_of other) (number_of what)) }
+pub none_of_more : {rows : List Elem} (what : TopologyWhat) → HasNoneBelow rows (number_of what) → NoneBefore (HasKind rows what) rows (length rows) → HasNoneBelow rows (number_of what + 1)
+none_of_more {rows} what none here = record { none = λ other below. by other below (cases_eq (number_of other) (number_of what)) }
   where
-    by : (other : TopologyWhat) → low ≤ number_of other → number_of other < number_of what + 1 → (number_of other ≡ number_of what) ⊎ (number_of other ≡ number_of what → ⊥) → NoneBefore (HasKind rows other) rows (length rows)
-    by other from below (inl same) = subst (λ (k : TopologyWhat). NoneBefore (HasKind rows k) rows (length rows)) (sym (one_kind other what same)) here
-    by other from below (inr differ) = none.none other from (omega (arith, differ))
+    by : (other : TopologyWhat) → number_of other < number_of what + 1 → (number_of other ≡ number_of what) ⊎ (number_of other ≡ number_of what → ⊥) → NoneBefore (HasKind rows other) rows (length rows)
+    by other below (inl same) = subst (λ (k : TopologyWhat). NoneBefore (HasKind rows k) rows (length rows)) (sym (one_kind other what same)) here
+    by other below (inr differ) = none.none other (omega (arith, differ))
 
--- a kind that a row has, after those that none has
-pub found_lowest : {rows : List Elem} {low high : ℕ} (what : TopologyWhat) {i : ℕ} → low ≤ number_of what → number_of what < high → HasNoneOf rows low (number_of what) → IsFirst (HasKind rows what) rows i → IsLowest rows low high what i
-found_lowest what from below lower first = record { from = from; below = below; first = first; lower = lower }
+-- the kinds in the order of the search have the numbers from one on
+pub number_in_order : (i : ℕ) (d : TopologyWhat) → i < 13 → number_of (get_or IN_ORDER i d) ≡ i + 1
+number_in_order i d within =
+    let read : get_or (range_with_len 1 13) i 0 ≡ number_of (get_or IN_ORDER i d) = get_or-map number_of IN_ORDER i d 0 within in
+    omega (arith, read, get_or-range_with_len 1 13 i 0 within)
 
--- kinds in a row
-pub none_joined : {rows : List Elem} {low middle high : ℕ} → HasNoneOf rows low middle → HasNoneOf rows middle high → HasNoneOf rows low high
-none_joined {rows} {low} {middle} {high} lower upper = record { none = λ what from below. by what from below (cases_lt (number_of what) middle) }
-  where
-    by : (what : TopologyWhat) → low ≤ number_of what → number_of what < high → (number_of what < middle) ⊎ (middle ≤ number_of what) → NoneBefore (HasKind rows what) rows (length rows)
-    by what from below (inl before) = lower.none what from before
-    by what from below (inr past) = upper.none what past below
+-- nor does one have the kind that was looked for next
+pub none_at_next : (rows : List Elem) (what : TopologyWhat) (found : Option ℕ) → FindsFirst (HasKind rows what) rows found → found ≡ None → (n : ℕ) → number_of what ≡ n → HasNoneBelow rows n → HasNoneBelow rows (n + 1)
+none_at_next rows what found finds is n number none =
+    let here : NoneBefore (HasKind rows what) rows (length rows) = subst (λ (r : Option ℕ). FindsFirst (HasKind rows what) rows r) is finds in
+    subst (λ m. HasNoneBelow rows (m + 1)) number (none_of_more what (subst (HasNoneBelow rows) (sym number) none) here)
 
-pub lowest_more : {rows : List Elem} {low high wider : ℕ} {what : TopologyWhat} {i : ℕ} → high ≤ wider → IsLowest rows low high what i → IsLowest rows low wider what i
-lowest_more wide l = record { from = l.from; below = (let b = l.below in omega arith); first = l.first; lower = l.lower }
-
-pub lowest_after : {rows : List Elem} {low middle high : ℕ} {what : TopologyWhat} {i : ℕ} → low ≤ middle → HasNoneOf rows low middle → IsLowest rows middle high what i → IsLowest rows low high what i
-lowest_after over none l = record { from = (let f = l.from in omega arith); below = l.below; first = l.first; lower = none_joined none l.lower }
+pub none_at_all : (rows : List Elem) → HasNoneBelow rows 14 → HasNone rows
+none_at_all rows none = λ what. none.none what (numbers_to_thirteen what)
 
 -- ---- what is found is a kind of fault
+
+pub of_this_kind : (rows : List Elem) (what kind : TopologyWhat) (r : Option ℕ) → what ≡ kind → FindsFirst (HasKind rows kind) rows r → FindsFirst (HasKind rows what) rows r
+of_this_kind rows what kind r same h = subst (λ (w : TopologyWhat). FindsFirst (HasKind rows w) rows r) (sym same) h
 
 module _ {P Q : ℕ → Elem → Type 0} (to : (i : ℕ) (row : Elem) → P i row → Q i row) (from : (i : ℕ) (row : Elem) → Q i row → P i row) (rows : List Elem) where
   none_as : (n : ℕ) → NoneBefore P rows n → NoneBefore Q rows n
@@ -166,11 +171,11 @@ numbers_within p n (row ∷ rows) k m h = by (p row) k h (λ j at. numbers_withi
     by true (suc k) h rest = let less = rest k h in omega arith
     by false k h rest = let less = rest k h in omega arith
 
-pub finds_too_many : (rows : List Elem) (r : Option ℕ) → r ≡ slice_get (track_rows rows) 128 → FindsFirst (HasKind rows TooMany) rows r
+pub finds_too_many : (rows : List Elem) (r : Option ℕ) → r ≡ slice_get (track_rows rows) MAX_TRACKS → FindsFirst (HasKind rows TooMany) rows r
 finds_too_many rows None e = record { none = λ i row below at had. none-some i (e ∙ had.2.0) }
 finds_too_many rows (Some n) e =
-    let within : n < length rows = omega (arith, numbers_within (λ row. same_kind row.kind kinds.Track) 0 rows 128 n (sym e)) in
-    let row = there rows n within in
+    let within : n < length rows = omega (arith, numbers_within (λ row. same_kind row.kind kinds.Track) 0 rows MAX_TRACKS n (sym e)) in
+    let row = get_within rows n within in
     record {
       row = row.0;
       is = row.1;

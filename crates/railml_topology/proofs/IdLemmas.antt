@@ -4,13 +4,15 @@ use Rattle.std.proofs.lemmas.Bool.{cases_lt}
 use Rattle.std.proofs.lemmas.Option.{slice_get_read, same_Some, none-some}
 use Rattle.std.proofs.lemmas.Slice.Eq.{bytes_eq-Decides}
 use Rattle.std.specs.Borrow.{Bor}
-use Rattle.std.specs.HashMap.{HashMap}
+use Rattle.std.specs.BTreeMap.{BTreeMap, is_at}
+use Rattle.std.specs.Cmp.Lexicographic.{slice_cmp}
+use Rattle.std.specs.Ordering.{nat_cmp}
 use Rattle.std.specs.Map.{lookup}
 use Rattle.std.specs.Str.{bytes_eq}
 use Rattle.railml_read.specs.declared.rows.Elem.{Elem}
 use Rattle.railml_topology.specs.Rows.{bears_id, BearsId}
 use Rattle.railml_topology.specs.Faults.{Repeats}
-use Rattle.railml_topology.specs.Ids.{number_in, own_id, AddsId, IsKept, IsNotKept, HasIdAt, KeepsIds}
+use Rattle.railml_topology.specs.Ids.{number_in, own_id, AddsId, IsKnownId, IsNewId, HasIdAt, KeepsIds}
 
 pub row_at : (rows : List Elem) (n : ℕ) (row : Elem) → n < length rows → row ≡ get_or rows n row → slice_get rows n ≡ Some row
 row_at rows n row within is = slice_get_read rows (length rows) n row refl within is
@@ -28,17 +30,17 @@ under false o x h = absurd (none-some x h)
 later : (id_at : Elem → Option (List ℕ)) (rows : List Elem) (n j : ℕ) (id : List ℕ) → HasIdAt id_at rows n j id → HasIdAt id_at rows (n + 1) j id
 later id_at rows n j id h = record { row = h.row; before = (let b = h.before in omega arith); is = h.is; has = h.has }
 
-module _ {S : Type 0} (id_at : Elem → Option (List ℕ)) (rows : List Elem) where
-  pub keeps_start : (numbers : HashMap (Bor (List ℕ)) ℕ S) → numbers.entries ≡ [] → KeepsIds id_at rows 0 numbers
+module _ (id_at : Elem → Option (List ℕ)) (rows : List Elem) where
+  pub keeps_start : (numbers : BTreeMap (Bor (List ℕ)) ℕ) → numbers.entries ≡ [] → KeepsIds id_at rows 0 numbers
   keeps_start numbers empty = record {
     found = λ id j at. absurd (none-some j (sym (none id) ∙ at));
     missed = λ id j at has. let before = has.before in absurd (omega arith);
   }
     where
       none : (id : List ℕ) → number_in numbers id ≡ None
-      none id = ap (lookup (λ (k : Bor (List ℕ)). bytes_eq id k.now)) empty
+      none id = ap (lookup (is_at (λ (k : Bor (List ℕ)). slice_cmp nat_cmp id k.now))) empty
 
-  pub keeps_more : (n : ℕ) (row : Elem) (old new : HashMap (Bor (List ℕ)) ℕ S) → KeepsIds id_at rows n old → n < length rows → row ≡ get_or rows n row → AddsId old new (id_at row) n → KeepsIds id_at rows (n + 1) new
+  pub keeps_more : (n : ℕ) (row : Elem) (old new : BTreeMap (Bor (List ℕ)) ℕ) → KeepsIds id_at rows n old → n < length rows → row ≡ get_or rows n row → AddsId old new (id_at row) n → KeepsIds id_at rows (n + 1) new
   keeps_more n row old new kept within is adds = by (id_at row) refl adds
     where
       at : slice_get rows n ≡ Some row
@@ -89,11 +91,11 @@ bears rows n j id h = let parts = under (bears_id h.row.kind) h.row.attrs.id id 
 owns : (rows : List Elem) (j : ℕ) (id : List ℕ) (h : BearsId rows j id) → own_id h.row ≡ Some id
 owns rows j id h = ap (λ b. if b then h.row.attrs.id else None) h.bears ∙ h.has
 
-module _ {S : Type 0} (rows : List Elem) (n : ℕ) (row : Elem) (old : HashMap (Bor (List ℕ)) ℕ S) (kept : KeepsIds own_id rows n old) (within : n < length rows) (is : row ≡ get_or rows n row) where
-  pub repeats_again : IsKept old (own_id row) → Repeats rows n
+module _ (rows : List Elem) (n : ℕ) (row : Elem) (old : BTreeMap (Bor (List ℕ)) ℕ) (kept : KeepsIds own_id rows n old) (within : n < length rows) (is : row ≡ get_or rows n row) where
+  pub repeats_again : IsKnownId old (own_id row) → Repeats rows n
   repeats_again again = by (own_id row) refl again
     where
-      by : (o : Option (List ℕ)) → own_id row ≡ o → IsKept old o → Repeats rows n
+      by : (o : Option (List ℕ)) → own_id row ≡ o → IsKnownId old o → Repeats rows n
       by None e h = absurd h
       by (Some id) e h =
           let there = kept.found id h.0 h.1 in (
@@ -106,10 +108,10 @@ module _ {S : Type 0} (rows : List Elem) (n : ℕ) (row : Elem) (old : HashMap (
             },
           )
 
-  pub repeats_none : IsNotKept old (own_id row) → Repeats rows n → ⊥
+  pub repeats_none : IsNewId old (own_id row) → Repeats rows n → ⊥
   repeats_none first h =
       let id = h.0 in
       let r = h.1 in
       let own : own_id row ≡ Some id = ap own_id (one_row rows n row r.here.row (row_at rows n row within is) r.here.is) ∙ owns rows n id r.here in
-      let gone : number_in old id ≡ None = subst (IsNotKept old) own first in
+      let gone : number_in old id ≡ None = subst (IsNewId old) own first in
       kept.missed id r.earlier gone (record { row = r.there.row; before = r.before; is = r.there.is; has = owns rows r.earlier id r.there })

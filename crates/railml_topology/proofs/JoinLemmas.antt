@@ -4,6 +4,7 @@ use Rattle.std.specs.Prelude.{codes}
 use Rattle.std.specs.List.{AllByRecursion, AllZip, Contains}
 use Rattle.std.specs.Option.{option_map_or, option_map, option_and_then}
 use Rattle.std.proofs.lemmas.Option.{same_Some, option_and_then_some, slice_get-map}
+use Rattle.railml_topology.proofs.IdLemmas.{one_row}
 use Rattle.plan_core.specs.declared.topology.Topology.{Topology}
 use Rattle.plan_core.specs.declared.topology.Track.{Track as TrackOf}
 use Rattle.plan_core.specs.declared.topology.End.{End as EndOf}
@@ -21,12 +22,12 @@ use Rattle.railml_read.specs.declared.rows.ElemKind.TheVariants.{Track, Begin, E
 use Rattle.railml_topology.specs.declared.layout.Layout.{Layout}
 use Rattle.railml_topology.specs.Rows.{is_of_kind, children, is_word, id_of, IsConnectionNamed}
 use Rattle.railml_topology.specs.Faults.{RefersTo, AreOrientedAlike, HasTwoWays}
-use Rattle.railml_topology.specs.Resolved.{AreLayouts, way_word, HasWay, IsBranchOf, IsWayOf, IsAtPart, IsAtPlace, IsConnOf, IsJoinedAs, IsTrackEndOf, IsKindOf, IsInnerOf, IsTrackOf}
-use Rattle.railml_topology.specs.Sound.{AreSound}
+use Rattle.railml_topology.specs.Resolved.{AreLayouts, way_word, HasWay, IsBranchOf, IsWayOf, IsAtPart, IsAtPlace, IsConnOf, IsJoinedAs, IsTrackEndOf, IsInnerKindOf, IsInnerOf, IsTrackOf}
+use Rattle.railml_topology.specs.Sound.{AreSoundRows}
 use Rattle.railml_topology.proofs.Apart.{Apart, Among}
 use Rattle.railml_topology.proofs.Zips.{zip_first, zip_second}
 use Rattle.railml_topology.proofs.Family.{among_from_contains, of_kind, IsChild, only_child}
-use Rattle.railml_topology.proofs.ElementLemmas.{same_row, up, up_child, way_child, stands_of, Laid, IsSet, home, IsHomeOf, stands_home, stands_apart, all_laid, layouts_apart}
+use Rattle.railml_topology.proofs.ElementLemmas.{up, up_child, way_child, stands_of, Laid, IsSet, home, IsHomeOf, stands_home, stands_apart, all_laid, layouts_apart}
 
 -- ---- the row at a place of the topology
 
@@ -39,15 +40,15 @@ pub record IsMadeOf (rows : List Elem) (layouts : List Layout) (l : Layout) (par
 end_made : (rows : List Elem) (layouts : List Layout) (begin : Elem) (i : ℕ) (e : EndOf) (c : Conn) → IsTrackEndOf rows layouts begin i e → e.joined ≡ Some c → (k : ℕ) × (children rows i Connection ≡ k ∷ []) × IsConnOf rows layouts k c
 end_made rows layouts begin i e c h is = rw is at h.joined
 
-switch_made : (rows : List Elem) (layouts : List Layout) (i : ℕ) (row : Elem) (w : InnerKind) (c : Conn) → IsKindOf rows layouts i row w → branch_of w ≡ Some c → (k : ℕ) × IsBranchOf rows i k × IsConnOf rows layouts k c
+switch_made : (rows : List Elem) (layouts : List Layout) (i : ℕ) (row : Elem) (w : InnerKind) (c : Conn) → IsInnerKindOf rows layouts i row w → branch_of w ≡ Some c → (k : ℕ) × IsBranchOf rows i k × IsConnOf rows layouts k c
 switch_made rows layouts i row (inners.Switch outgoing hand diverges conn) c h e = (h.number, h.is_branch, subst (λ (v : Conn). IsConnOf rows layouts h.number v) (same_Some conn c e) h.conn)
 switch_made rows layouts i row (inners.Crossing hand incoming outgoing) c h e = absurd cc
 
-incoming_made : (rows : List Elem) (layouts : List Layout) (i : ℕ) (row : Elem) (w : InnerKind) (c : Conn) → IsKindOf rows layouts i row w → incoming_of w ≡ Some c → (k : ℕ) × IsWayOf rows i false k × IsConnOf rows layouts k c
+incoming_made : (rows : List Elem) (layouts : List Layout) (i : ℕ) (row : Elem) (w : InnerKind) (c : Conn) → IsInnerKindOf rows layouts i row w → incoming_of w ≡ Some c → (k : ℕ) × IsWayOf rows i false k × IsConnOf rows layouts k c
 incoming_made rows layouts i row (inners.Switch outgoing hand diverges conn) c h e = absurd cc
 incoming_made rows layouts i row (inners.Crossing hand incoming outgoing) c h e = (h.coming, h.is_coming, subst (λ (v : Conn). IsConnOf rows layouts h.coming v) (same_Some incoming c e) h.coming_conn)
 
-outgoing_made : (rows : List Elem) (layouts : List Layout) (i : ℕ) (row : Elem) (w : InnerKind) (c : Conn) → IsKindOf rows layouts i row w → outgoing_of w ≡ Some c → (k : ℕ) × IsWayOf rows i true k × IsConnOf rows layouts k c
+outgoing_made : (rows : List Elem) (layouts : List Layout) (i : ℕ) (row : Elem) (w : InnerKind) (c : Conn) → IsInnerKindOf rows layouts i row w → outgoing_of w ≡ Some c → (k : ℕ) × IsWayOf rows i true k × IsConnOf rows layouts k c
 outgoing_made rows layouts i row (inners.Switch outgoing hand diverges conn) c h e = absurd cc
 outgoing_made rows layouts i row (inners.Crossing hand incoming outgoing) c h e = (h.leaving, h.is_leaving, subst (λ (v : Conn). IsConnOf rows layouts h.leaving v) (same_Some outgoing c e) h.leaving_conn)
 
@@ -85,10 +86,10 @@ made rows layouts t tracks p c e =
 
 -- ---- the connection of the topology where a row stands
 
-one_only : (xs : List ℕ) (a b : ℕ) → xs ≡ a ∷ [] → xs ≡ b ∷ [] → a ≡ b
-one_only xs a b e f = let both : a ∷ [] ≡ b ∷ [] = sym e ∙ f in cc
+pub one_number : (xs : List ℕ) (a b : ℕ) → xs ≡ a ∷ [] → xs ≡ b ∷ [] → a ≡ b
+one_number xs a b e f = let both : a ∷ [] ≡ b ∷ [] = sym e ∙ f in cc
 
-none_only : (xs : List ℕ) (a : ℕ) → xs ≡ [] → xs ≡ a ∷ [] → ⊥
+pub none_only : (xs : List ℕ) (a : ℕ) → xs ≡ [] → xs ≡ a ∷ [] → ⊥
 none_only xs a e f = let both : [] ≡ a ∷ [] = sym e ∙ f in cc
 
 among_two : (xs : List ℕ) (a b x : ℕ) → xs ≡ a ∷ b ∷ [] → Contains xs x → (x ≡ a) ⊎ (x ≡ b)
@@ -98,7 +99,7 @@ among_two xs a b x e c = elim (let m : Among (a ∷ b ∷ []) x = subst (λ (v :
 ]
 
 -- the connections of a crossing go different ways
-pub one_way : (rows : List Elem) → AreSound rows → (crossing : ℕ) (outgoing : Bool) (a b : ℕ) → IsWayOf rows crossing outgoing a → IsWayOf rows crossing outgoing b → a ≡ b
+pub one_way : (rows : List Elem) → AreSoundRows rows → (crossing : ℕ) (outgoing : Bool) (a b : ℕ) → IsWayOf rows crossing outgoing a → IsWayOf rows crossing outgoing b → a ≡ b
 one_way rows s crossing outgoing a b v w =
     let (row, is, kind_is) = of_kind rows Crossing crossing v.a_crossing in
     let two : HasTwoWays rows crossing = (rw kind_is at (s.parts crossing row is)) in
@@ -125,25 +126,25 @@ pub record Found (rows : List Elem) (layouts : List Layout) (o : Option Conn) (k
 
 end_found : (rows : List Elem) (layouts : List Layout) (i k : ℕ) (o : Option Conn) → IsJoinedAs rows layouts i o → children rows i Connection ≡ k ∷ [] → Found rows layouts o k
 end_found rows layouts i k None h only = absurd (none_only (children rows i Connection) k h only)
-end_found rows layouts i k (Some c) (j, one, conn) only = record { c = c; is = refl; conn = subst (λ (v : ℕ). IsConnOf rows layouts v c) (one_only (children rows i Connection) j k one only) conn }
+end_found rows layouts i k (Some c) (j, one, conn) only = record { c = c; is = refl; conn = subst (λ (v : ℕ). IsConnOf rows layouts v c) (one_number (children rows i Connection) j k one only) conn }
 
 pub kinds_clash : (rows : List Elem) (i : ℕ) → is_of_kind rows Switch i ≡ true → is_of_kind rows Crossing i ≡ true → ⊥
 kinds_clash rows i a b =
     let (r, is_r, kind_r) = of_kind rows Switch i a in
     let (q, is_q, kind_q) = of_kind rows Crossing i b in
-    let same : r ≡ q = same_row rows i r q is_r is_q in
+    let same : r ≡ q = one_row rows i r q is_r is_q in
     let kinds : Switch ≡ Crossing = sym kind_r ∙ (ap (λ (v : Elem). v.kind) same ∙ kind_q) in
     cc
 
-branch_found : (rows : List Elem) (layouts : List Layout) (i k : ℕ) (row : Elem) (w : InnerKind) → IsKindOf rows layouts i row w → IsBranchOf rows i k → Found rows layouts (branch_of w) k
-branch_found rows layouts i k row (inners.Switch outgoing hand diverges c) h b = record { c = c; is = refl; conn = subst (λ (v : ℕ). IsConnOf rows layouts v c) (one_only (children rows i Connection) h.number k h.is_branch.only b.only) h.conn }
+branch_found : (rows : List Elem) (layouts : List Layout) (i k : ℕ) (row : Elem) (w : InnerKind) → IsInnerKindOf rows layouts i row w → IsBranchOf rows i k → Found rows layouts (branch_of w) k
+branch_found rows layouts i k row (inners.Switch outgoing hand diverges c) h b = record { c = c; is = refl; conn = subst (λ (v : ℕ). IsConnOf rows layouts v c) (one_number (children rows i Connection) h.number k h.is_branch.only b.only) h.conn }
 branch_found rows layouts i k row (inners.Crossing hand incoming outgoing) h b = absurd (kinds_clash rows i b.a_switch h.is_coming.a_crossing)
 
-incoming_found : (rows : List Elem) (layouts : List Layout) → AreSound rows → (i k : ℕ) (row : Elem) (w : InnerKind) → IsKindOf rows layouts i row w → IsWayOf rows i false k → Found rows layouts (incoming_of w) k
+incoming_found : (rows : List Elem) (layouts : List Layout) → AreSoundRows rows → (i k : ℕ) (row : Elem) (w : InnerKind) → IsInnerKindOf rows layouts i row w → IsWayOf rows i false k → Found rows layouts (incoming_of w) k
 incoming_found rows layouts s i k row (inners.Switch outgoing hand diverges c) h b = absurd (kinds_clash rows i h.is_branch.a_switch b.a_crossing)
 incoming_found rows layouts s i k row (inners.Crossing hand incoming outgoing) h b = record { c = incoming; is = refl; conn = subst (λ (v : ℕ). IsConnOf rows layouts v incoming) (one_way rows s i false h.coming k h.is_coming b) h.coming_conn }
 
-outgoing_found : (rows : List Elem) (layouts : List Layout) → AreSound rows → (i k : ℕ) (row : Elem) (w : InnerKind) → IsKindOf rows layouts i row w → IsWayOf rows i true k → Found rows layouts (outgoing_of w) k
+outgoing_found : (rows : List Elem) (layouts : List Layout) → AreSoundRows rows → (i k : ℕ) (row : Elem) (w : InnerKind) → IsInnerKindOf rows layouts i row w → IsWayOf rows i true k → Found rows layouts (outgoing_of w) k
 outgoing_found rows layouts s i k row (inners.Switch outgoing hand diverges c) h b = absurd (kinds_clash rows i h.is_branch.a_switch b.a_crossing)
 outgoing_found rows layouts s i k row (inners.Crossing hand incoming outgoing) h b = record { c = outgoing; is = refl; conn = subst (λ (v : ℕ). IsConnOf rows layouts v outgoing) (one_way rows s i true h.leaving k h.is_leaving b) h.leaving_conn }
 
@@ -151,7 +152,7 @@ outgoing_found rows layouts s i k row (inners.Crossing hand incoming outgoing) h
 inner_found : (rows : List Elem) (layouts : List Layout) (f : Inner → Option Conn) (xs : List Inner) (n k : ℕ) (x : Inner) → slice_get xs n ≡ Some x → Found rows layouts (f x) k → Found rows layouts (option_and_then f (slice_get xs n)) k
 inner_found rows layouts f xs n k x e h = record { c = h.c; is = rw e h.is; conn = h.conn }
 
-part_found : (rows : List Elem) (layouts : List Layout) → AreSound rows → (l : Layout) (track : TrackOf) (part : Part) (k : ℕ) → IsTrackOf rows layouts l track → IsAtPart rows l k part → Found rows layouts (connection_of track part) k
+part_found : (rows : List Elem) (layouts : List Layout) → AreSoundRows rows → (l : Layout) (track : TrackOf) (part : Part) (k : ℕ) → IsTrackOf rows layouts l track → IsAtPart rows l k part → Found rows layouts (connection_of track part) k
 part_found rows layouts s l track parts.Begin k h at = end_found rows layouts l.begin k track.begin.joined h.begin.joined at
 part_found rows layouts s l track parts.End k h at = end_found rows layouts l.end k track.end.joined h.end.joined at
 part_found rows layouts s l track (parts.Branch n) k h (i, there, branch) =
@@ -164,7 +165,7 @@ part_found rows layouts s l track (parts.Outgoing n) k h (i, there, way) =
     let (x, is, of) = zip_first (IsInnerOf rows layouts h.begin_row) l.inner track.inner h.inner n i there in
     inner_found rows layouts (λ (x : Inner). outgoing_of x.what) track.inner n k x is (outgoing_found rows layouts s i k of.row x.what of.what way)
 
-pub found : (rows : List Elem) (layouts : List Layout) (t : Topology) → AreSound rows → AllZip (IsTrackOf rows layouts) layouts t.tracks → (k : ℕ) (p : Place) → IsAtPlace rows layouts k p → Found rows layouts (connection t p) k
+pub found : (rows : List Elem) (layouts : List Layout) (t : Topology) → AreSoundRows rows → AllZip (IsTrackOf rows layouts) layouts t.tracks → (k : ℕ) (p : Place) → IsAtPlace rows layouts k p → Found rows layouts (connection t p) k
 found rows layouts t s tracks k p h =
     let (track, is, of) = zip_first (IsTrackOf rows layouts) layouts t.tracks tracks p.track h.layout h.is in
     let f = part_found rows layouts s h.layout track p.part k of h.here in
@@ -293,7 +294,7 @@ held rows l d k (parts.Outgoing n) (i, there, way) =
       tagged = ap (λ v. tag_by v (leaves_at rows k)) (tested_kind_up rows i k Crossing c way.a_crossing) ∙ ap (λ v. tag_by Crossing v) (leaves_word rows k true way.way);
     }
 
-held_home : (rows : List Elem) → AreSound rows → (l : Layout) → Laid rows l → (k : ℕ) (part : Part) → IsHeld rows l k part → home rows k ≡ l.track
+held_home : (rows : List Elem) → AreSoundRows rows → (l : Layout) → Laid rows l → (k : ℕ) (part : Part) → IsHeld rows l k part → home rows k ≡ l.track
 held_home rows s l d k part h =
     let of : IsHomeOf rows l.track h.holder = all_at (IsHomeOf rows l.track) (stands_of l) (slot l part) h.holder (stands_home rows s.formed l d) h.there in
     ap (λ n. up rows (up rows n)) (up_child rows h.holder k Connection h.is_child) ∙ of.two
@@ -305,12 +306,12 @@ one_part rows l k p q apart a b =
     let tags : tag p ≡ tag q = sym a.tagged ∙ b.tagged in
     sym (part_again l p) ∙ (ap (λ v. part_from v (slot l p)) tags ∙ (ap (λ v. part_from (tag q) v) slots ∙ part_again l q))
 
-same_place : (p q : Place) → p.track ≡ q.track → p.part ≡ q.part → p ≡ q
-same_place p q e f =
+pub place_is : (p q : Place) → p.track ≡ q.track → p.part ≡ q.part → p ≡ q
+place_is p q e f =
     let F : ℕ → Part → Place = λ n part. record { track = n; part = part } in
     ap (λ n. F n p.part) e ∙ ap (λ part. F q.track part) f
 
-pub one_place : (rows : List Elem) (layouts : List Layout) → AreSound rows → AreLayouts rows layouts → (k : ℕ) (p q : Place) → IsAtPlace rows layouts k p → IsAtPlace rows layouts k q → p ≡ q
+pub one_place : (rows : List Elem) (layouts : List Layout) → AreSoundRows rows → AreLayouts rows layouts → (k : ℕ) (p q : Place) → IsAtPlace rows layouts k p → IsAtPlace rows layouts k q → p ≡ q
 one_place rows layouts s h k p q a b =
     let set_a : IsSet rows a.layout = all_at (IsSet rows) layouts p.track a.layout (all_laid rows layouts h) a.is in
     let set_b : IsSet rows b.layout = all_at (IsSet rows) layouts q.track b.layout (all_laid rows layouts h) b.is in
@@ -322,11 +323,11 @@ one_place rows layouts s h k p q a b =
     let at_q : slice_get numbers q.track ≡ Some a.layout.track = slice_get-map (λ (l : Layout). l.track) layouts q.track ∙ (ap (λ (v : Option Layout). option_map (λ (l : Layout). l.track) v) b.is ∙ ap (λ (v : ℕ). Some v) homes) in
     let tracks : p.track ≡ q.track = apart_at numbers p.track q.track a.layout.track (layouts_apart rows layouts h) at_p at_q in
     let layout : b.layout ≡ a.layout = same_Some b.layout a.layout (sym b.is ∙ (ap (slice_get layouts) (sym tracks) ∙ a.is)) in
-    same_place p q tracks (one_part rows a.layout k p.part q.part (stands_apart rows a.layout set_a.laid_down set_a.ordered) held_a (subst (λ (v : Layout). IsHeld rows v k q.part) layout held_b))
+    place_is p q tracks (one_part rows a.layout k p.part q.part (stands_apart rows a.layout set_a.laid_down set_a.ordered) held_a (subst (λ (v : Layout). IsHeld rows v k q.part) layout held_b))
 
 -- ---- both ways
 
-pub one_named : (rows : List Elem) → AreSound rows → (i j : ℕ) (name : List ℕ) (a b : Elem) → IsConnectionNamed rows i name a → IsConnectionNamed rows j name b → i ≡ j
+pub one_named : (rows : List Elem) → AreSoundRows rows → (i j : ℕ) (name : List ℕ) (a b : Elem) → IsConnectionNamed rows i name a → IsConnectionNamed rows j name b → i ≡ j
 one_named rows s i j name a b m n =
     s.ids_differ i j name (record { row = a; is = m.is; bears = rw m.connection refl; has = m.has }) (record { row = b; is = n.is; bears = rw n.connection refl; has = n.has })
 
@@ -341,27 +342,27 @@ pub one_reference : (row : Elem) (a b : List ℕ) → RefersTo row a → RefersT
 one_reference row a b h k = same_Some a b (sym h.refers ∙ k.refers)
 
 -- the place that a connection leads to leads to its row
-leads_back : (rows : List Elem) (layouts : List Layout) → AreSound rows → (k : ℕ) (c : Conn) (h : IsConnOf rows layouts k c) (d : Conn) (g : IsConnOf rows layouts h.number d) → IsAtPlace rows layouts k d.to
+leads_back : (rows : List Elem) (layouts : List Layout) → AreSoundRows rows → (k : ℕ) (c : Conn) (h : IsConnOf rows layouts k c) (d : Conn) (g : IsConnOf rows layouts h.number d) → IsAtPlace rows layouts k d.to
 leads_back rows layouts s k c h d g =
     let m = s.mutual_refs k h.row h.is h.refers.connection in
     let names : h.name ≡ m.name = one_reference h.row h.name m.name h.refers m.refers in
     let number : m.number ≡ h.number = one_named rows s m.number h.number m.name m.other h.other m.named (subst (λ (v : List ℕ). IsConnectionNamed rows h.number v h.other) names h.named) in
-    let other : m.other ≡ g.row = same_row rows h.number m.other g.row (ap (slice_get rows) (sym number) ∙ m.named.is) g.is in
+    let other : m.other ≡ g.row = one_row rows h.number m.other g.row (ap (slice_get rows) (sym number) ∙ m.named.is) g.is in
     let back : RefersTo g.row (id_of h.row) = subst (λ (v : Elem). RefersTo v (id_of h.row)) other m.back in
     let name : g.name ≡ c.id = one_reference g.row g.name (id_of h.row) g.refers back ∙ id_of_conn rows layouts k c h in
     let again : g.number ≡ k = one_named rows s g.number k c.id g.other h.row (subst (λ (v : List ℕ). IsConnectionNamed rows g.number v g.other) name g.named) (named_self rows layouts k c h) in
     subst (λ (v : ℕ). IsAtPlace rows layouts v d.to) again g.leads
 
 -- no connection leads to itself
-leads_elsewhere : (rows : List Elem) (layouts : List Layout) → AreSound rows → (k : ℕ) (c : Conn) (h : IsConnOf rows layouts k c) (d : Conn) (g : IsConnOf rows layouts h.number d) → d ≢ c
+leads_elsewhere : (rows : List Elem) (layouts : List Layout) → AreSoundRows rows → (k : ℕ) (c : Conn) (h : IsConnOf rows layouts k c) (d : Conn) (g : IsConnOf rows layouts h.number d) → d ≢ c
 leads_elsewhere rows layouts s k c h d g same =
     let m = s.mutual_refs k h.row h.is h.refers.connection in
     let names : h.name ≡ m.name = one_reference h.row h.name m.name h.refers m.refers in
-    let other : h.other ≡ g.row = same_row rows h.number h.other g.row h.named.is g.is in
+    let other : h.other ≡ g.row = one_row rows h.number h.other g.row h.named.is g.is in
     let ids : Some h.name ≡ Some c.id = sym h.named.has ∙ (ap (λ (v : Elem). v.attrs.id) other ∙ (g.id ∙ ap (λ (v : Conn). Some v.id) same)) in
     m.elsewhere (sym names ∙ (same_Some h.name c.id ids ∙ sym (id_of_conn rows layouts k c h)))
 
-pub both_ways : (rows : List Elem) (layouts : List Layout) (t : Topology) → AreSound rows → AreLayouts rows layouts → AllZip (IsTrackOf rows layouts) layouts t.tracks → LeadsBothWays t
+pub both_ways : (rows : List Elem) (layouts : List Layout) (t : Topology) → AreSoundRows rows → AreLayouts rows layouts → AllZip (IsTrackOf rows layouts) layouts t.tracks → LeadsBothWays t
 both_ways rows layouts t s h tracks = record {
   back = (λ p c e.
       (let m = made rows layouts t tracks p c e in

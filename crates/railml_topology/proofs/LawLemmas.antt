@@ -9,9 +9,10 @@ use Rattle.railml_topology.specs.declared.attributes.Attribute.TheVariants as at
 use Rattle.railml_topology.specs.declared.fault.TopologyWhat.{TopologyWhat}
 use Rattle.railml_topology.specs.declared.fault.TopologyWhat.TheVariants.{NoTracks, TooMany, Missing, Id, RepeatedId, Number, UnknownRef, NotMutual, SelfRef, EndKind, Course, Orientation, OutsideTrack}
 use Rattle.railml_topology.specs.Rows.{name_of, BearsId}
-use Rattle.railml_topology.specs.Faults.{HasNoNumber, HasFault, HasFaultAt, IsFault, IsFirstFault, number_of}
+use Rattle.railml_topology.specs.Faults.{HasNoNumber, HasTopologyFault, HasFaultAt, HasNoTracks, IsTopologyFault, IsFirstTopologyFault, number_of}
 use Rattle.railml_topology.proofs.IdLemmas.{one_row}
 use Rattle.railml_topology.proofs.FaultLemmas.{one_kind}
+use Rattle.railml_topology.proofs.ToldLemmas.{fault_at}
 
 -- the attribute that is no number, and is told first, is one
 one_attribute : (row : Elem) (a b : Attribute) → HasNoNumber row a → HasNoNumber row b → a ≡ b
@@ -42,7 +43,7 @@ module _ (rows : List Elem) (i : ℕ) (row : Elem) (first second one other : Lis
   both : {x y : List ℕ} → (first ≡ x) → (second ≡ y) → (one ≡ x) → (other ≡ y) → (first ≡ one) × (second ≡ other)
   both f s g t = (f ∙ sym g, s ∙ sym t)
 
-  one_telling : (what : TopologyWhat) → HasFault rows what i row first second → HasFault rows what i row one other → (first ≡ one) × (second ≡ other)
+  one_telling : (what : TopologyWhat) → HasTopologyFault rows what i row first second → HasTopologyFault rows what i row one other → (first ≡ one) × (second ≡ other)
   one_telling NoTracks h k = absurd h
   one_telling TooMany h k = both h.1 h.2 k.1 k.2
   one_telling Missing h k =
@@ -74,22 +75,20 @@ module _ (rows : List Elem) (at : ℕ) (first second one other : List ℕ) (form
       let number : k.number ≡ h.number = one_place rows k.number h.number k.row h.row formed k.is h.is (sym k.place ∙ h.place) in
       let here : slice_get rows h.number ≡ Some k.row = subst (λ j. slice_get rows j ≡ Some k.row) number k.is in
       let row : k.row ≡ h.row = one_row rows h.number k.row h.row here h.is in
-      one_telling rows h.number h.row first second one other what h.fault (subst (λ (e : Elem). HasFault rows what h.number e one other) row (subst (λ j. HasFault rows what j k.row one other) number k.fault))
+      one_telling rows h.number h.row first second one other what h.fault (subst (λ (e : Elem). HasTopologyFault rows what h.number e one other) row (subst (λ j. HasTopologyFault rows what j k.row one other) number k.fault))
 
-  same_texts : (what : TopologyWhat) → IsFault rows what at first second → IsFault rows what at one other → (first ≡ one) × (second ≡ other)
-  same_texts NoTracks h k = (h.no_first ∙ sym k.no_first, h.no_second ∙ sym k.no_second)
-  same_texts TooMany h k = of_row TooMany h k
-  same_texts Missing h k = of_row Missing h k
-  same_texts Id h k = of_row Id h k
-  same_texts RepeatedId h k = of_row RepeatedId h k
-  same_texts Number h k = of_row Number h k
-  same_texts UnknownRef h k = of_row UnknownRef h k
-  same_texts NotMutual h k = of_row NotMutual h k
-  same_texts SelfRef h k = of_row SelfRef h k
-  same_texts EndKind h k = of_row EndKind h k
-  same_texts Course h k = of_row Course h k
-  same_texts Orientation h k = of_row Orientation h k
-  same_texts OutsideTrack h k = of_row OutsideTrack h k
+  same_texts : (what : TopologyWhat) → IsTopologyFault rows what at first second → IsTopologyFault rows what at one other → (first ≡ one) × (second ≡ other)
+  same_texts what h k = by (fault_at rows at first second what h) (fault_at rows at one other what k)
+    where
+      -- that there is no track is told of no row
+      of_no_row : (a b : List ℕ) → HasFaultAt rows what at a b → what ≡ NoTracks → ⊥
+      of_no_row a b k none = subst (λ (w : TopologyWhat). HasTopologyFault rows w k.number k.row a b) none k.fault
+
+      by : ((what ≡ NoTracks) × HasNoTracks rows at first second) ⊎ HasFaultAt rows what at first second → ((what ≡ NoTracks) × HasNoTracks rows at one other) ⊎ HasFaultAt rows what at one other → (first ≡ one) × (second ≡ other)
+      by (inl h) (inl k) = (h.1.no_first ∙ sym k.1.no_first, h.1.no_second ∙ sym k.1.no_second)
+      by (inl h) (inr k) = absurd (of_no_row one other k h.0)
+      by (inr h) (inl k) = absurd (of_no_row first second h k.0)
+      by (inr h) (inr k) = of_row what h k
 
 -- what is neither below the other is equal to it
 level : (m n : ℕ) → (m < n → ⊥) → (n < m → ⊥) → m ≡ n
@@ -100,11 +99,11 @@ level m n below above = by (cases_lt m n) (cases_lt n m)
     by (inr from) (inl less) = absurd (above less)
     by (inr from) (inr to) = omega arith
 
-pub one_first_fault : (rows : List Elem) (a b : TopologyWhat) (at place : ℕ) (first second one other : List ℕ) → AreFormed rows → IsFirstFault rows a at first second → IsFirstFault rows b place one other
+pub one_first_fault : (rows : List Elem) (a b : TopologyWhat) (at place : ℕ) (first second one other : List ℕ) → AreFormed rows → IsFirstTopologyFault rows a at first second → IsFirstTopologyFault rows b place one other
     → (a ≡ b) × (at ≡ place) × (first ≡ one) × (second ≡ other)
 one_first_fault rows a b at place first second one other formed h k =
     let kind : b ≡ a = one_kind b a (level (number_of b) (number_of a) (λ less. h.lowest b place one other less k.holds) (λ less. k.lowest a at first second less h.holds)) in
-    let k' : IsFirstFault rows a place one other = subst (λ (what : TopologyWhat). IsFirstFault rows what place one other) kind k in
+    let k' : IsFirstTopologyFault rows a place one other = subst (λ (what : TopologyWhat). IsFirstTopologyFault rows what place one other) kind k in
     let spot : place ≡ at = level place at (λ less. h.least place one other less k'.holds) (λ less. k'.least at first second less h.holds) in
-    let texts = same_texts rows at first second one other formed a h.holds (subst (λ n. IsFault rows a n one other) spot k'.holds) in
+    let texts = same_texts rows at first second one other formed a h.holds (subst (λ n. IsTopologyFault rows a n one other) spot k'.holds) in
     (sym kind, sym spot, texts.0, texts.1)

@@ -1,9 +1,10 @@
 -- The rows of a track, by the tables of only children.
-use Rattle.std.proofs.Common.{◌≡◌, ℕ, suc, ◌+◌, ◌<◌, ◌≤◌, Bool, true, false, cond, Option, Some, None, List, [], ◌∷◌, ◌++◌, length, map, get_or, slice_get, drop, refl, sym, ap, ◌∙◌, subst, append_assoc, arith}
+use Rattle.std.proofs.Common.{◌≡◌, ℕ, suc, ◌+◌, ◌<◌, ◌≤◌, Bool, true, false, cond, Option, Some, List, [], ◌∷◌, ◌++◌, length, map, get_or, slice_get, drop, refl, sym, ap, ◌∙◌, append_assoc, arith}
 use Rattle.std.specs.List.{All}
 use Rattle.std.proofs.lemmas.List.{map-append, drop_more, drop_all, append-nil}
 use Rattle.std.proofs.lemmas.List.Elements.{All-push}
-use Rattle.std.proofs.lemmas.Option.{same_Some, option_and_then_some, slice_get-get_or, slice_get_within}
+use Rattle.std.proofs.lemmas.Option.{option_and_then_some, slice_get_within}
+use Rattle.railml_topology.proofs.PartLemmas.{only_some, only_child_entry}
 use Rattle.railml_read.specs.declared.rows.Elem.{Elem}
 use Rattle.railml_read.specs.declared.rows.ElemKind.{ElemKind}
 use Rattle.railml_read.specs.declared.rows.ElemKind.TheVariants.{Track, Topology, Begin, End}
@@ -12,40 +13,29 @@ use Rattle.railml_topology.specs.declared.tables.Tables.{Tables}
 use Rattle.railml_topology.specs.Rows.{same_kind, numbers_from, track_rows, is_of_kind, children}
 use Rattle.railml_topology.specs.Faults.{IsWholeTrack}
 use Rattle.railml_topology.specs.Resolved.{AreInner, IsLayout, AreLayouts}
-use Rattle.railml_topology.specs.Tables.{only_of, HasOnlyChildren, entry_in, AreTablesOf}
+use Rattle.railml_topology.specs.Tables.{HasOnlyChildren, entry_in, AreTablesOf}
 use Rattle.railml_topology.specs.Plans.{HasOne}
-use Rattle.railml_topology.specs.Sound.{AreSound}
+use Rattle.railml_topology.specs.Sound.{AreSoundRows}
 use Rattle.railml_topology.proofs.Family.{of_kind, only_child}
-
-only_is : (xs : List ℕ) (k : ℕ) → only_of xs ≡ Some k → xs ≡ k ∷ []
-only_is [] k e = cc
-only_is (c ∷ []) k e = ap (λ (v : ℕ). v ∷ []) (same_Some c k e)
-only_is (c ∷ d ∷ xs) k e = cc
 
 pub entry_child : (rows : List Elem) (kind : ElemKind) (table : List (Option ℕ)) (i k : ℕ) → HasOnlyChildren rows kind table → entry_in table i ≡ Some k → children rows i kind ≡ k ∷ []
 entry_child rows kind table i k h e =
-    option_and_then_some (λ (x : Option ℕ). x) (slice_get table i) k e (λ x at is. only_is (children rows i kind) k (sym (h.entry i x at) ∙ is))
-
-pub child_entry : (rows : List Elem) (kind : ElemKind) (table : List (Option ℕ)) (i k : ℕ) → HasOnlyChildren rows kind table → i < length rows → children rows i kind ≡ k ∷ [] → entry_in table i ≡ Some k
-child_entry rows kind table i k h within only =
-    let inside : i < length table = subst (λ n. i < n) (sym h.whole) within in
-    let at : slice_get table i ≡ Some (get_or table i None) = slice_get-get_or table i None inside in
-    rw at (h.entry i (get_or table i None) at ∙ ap only_of only)
+    option_and_then_some (λ (x : Option ℕ). x) (slice_get table i) k e (λ x at is. only_some (children rows i kind) k (sym (h.entry i x at) ∙ is))
 
 pub one_entry : (rows : List Elem) (kind : ElemKind) (table : List (Option ℕ)) (i : ℕ) → HasOnlyChildren rows kind table → i < length rows → HasOne rows i kind → (k : ℕ) × (entry_in table i ≡ Some k)
-one_entry rows kind table i h within one = (one.number, child_entry rows kind table i one.number h within one.only)
+one_entry rows kind table i h within one = (one.number, only_child_entry rows kind table i one.number h within one.only)
 
 -- ---- a whole track
 
-pub track_whole : (rows : List Elem) → AreSound rows → (track : ℕ) → is_of_kind rows Track track ≡ true → (track < length rows) × IsWholeTrack rows track
+pub track_whole : (rows : List Elem) → AreSoundRows rows → (track : ℕ) → is_of_kind rows Track track ≡ true → (track < length rows) × IsWholeTrack rows track
 track_whole rows s track t =
     let (row, is, kind_is) = of_kind rows Track track t in
     (slice_get_within rows track row is, rw kind_is at (s.parts track row is))
 
-pub topology_entry : (rows : List Elem) → AreSound rows → (t : Tables) → AreTablesOf rows t → (track : ℕ) → is_of_kind rows Track track ≡ true → (k : ℕ) × (entry_in t.topologies.items track ≡ Some k)
+pub topology_entry : (rows : List Elem) → AreSoundRows rows → (t : Tables) → AreTablesOf rows t → (track : ℕ) → is_of_kind rows Track track ≡ true → (k : ℕ) × (entry_in t.topologies.items track ≡ Some k)
 topology_entry rows s t h track is =
     let whole = track_whole rows s track is in
-    (whole.1.topology, child_entry rows Topology t.topologies.items track whole.1.topology h.topologies whole.0 whole.1.one_topology)
+    (whole.1.topology, only_child_entry rows Topology t.topologies.items track whole.1.topology h.topologies whole.0 whole.1.one_topology)
 
 heads : (a b : ℕ) → ◌≡◌ {A = List ℕ} (a ∷ []) (b ∷ []) → a ≡ b
 heads a b e = cc
@@ -57,7 +47,7 @@ pub record IsFound (rows : List Elem) (track topology : ℕ) : Type 0 where
   pub begin : HasOne rows topology Begin
   pub end : HasOne rows topology End
 
-pub topology_found : (rows : List Elem) → AreSound rows → (t : Tables) → AreTablesOf rows t → (track topology : ℕ) → is_of_kind rows Track track ≡ true → entry_in t.topologies.items track ≡ Some topology → IsFound rows track topology
+pub topology_found : (rows : List Elem) → AreSoundRows rows → (t : Tables) → AreTablesOf rows t → (track topology : ℕ) → is_of_kind rows Track track ≡ true → entry_in t.topologies.items track ≡ Some topology → IsFound rows track topology
 topology_found rows s t h track topology is e =
     let whole = (track_whole rows s track is).1 in
     let only : children rows track Topology ≡ topology ∷ [] = entry_child rows Topology t.topologies.items track topology h.topologies e in
@@ -70,13 +60,13 @@ topology_found rows s t h track topology is e =
       end = record { number = whole.end; only = ap (λ k. children rows k End) (sym same) ∙ whole.one_end };
     }
 
-pub begin_entry : (rows : List Elem) → AreSound rows → (t : Tables) → AreTablesOf rows t → (track topology : ℕ) → is_of_kind rows Track track ≡ true → entry_in t.topologies.items track ≡ Some topology → (k : ℕ) × (entry_in t.begins.items topology ≡ Some k)
+pub begin_entry : (rows : List Elem) → AreSoundRows rows → (t : Tables) → AreTablesOf rows t → (track topology : ℕ) → is_of_kind rows Track track ≡ true → entry_in t.topologies.items track ≡ Some topology → (k : ℕ) × (entry_in t.begins.items topology ≡ Some k)
 begin_entry rows s t h track topology is e = let f = topology_found rows s t h track topology is e in one_entry rows Begin t.begins.items topology h.begins f.within f.begin
 
-pub end_entry : (rows : List Elem) → AreSound rows → (t : Tables) → AreTablesOf rows t → (track topology : ℕ) → is_of_kind rows Track track ≡ true → entry_in t.topologies.items track ≡ Some topology → (k : ℕ) × (entry_in t.ends.items topology ≡ Some k)
+pub end_entry : (rows : List Elem) → AreSoundRows rows → (t : Tables) → AreTablesOf rows t → (track topology : ℕ) → is_of_kind rows Track track ≡ true → entry_in t.topologies.items track ≡ Some topology → (k : ℕ) × (entry_in t.ends.items topology ≡ Some k)
 end_entry rows s t h track topology is e = let f = topology_found rows s t h track topology is e in one_entry rows End t.ends.items topology h.ends f.within f.end
 
-pub layout_made : (rows : List Elem) → AreSound rows → (t : Tables) → AreTablesOf rows t → (l : Layout) → is_of_kind rows Track l.track ≡ true → entry_in t.topologies.items l.track ≡ Some l.topology → entry_in t.begins.items l.topology ≡ Some l.begin → entry_in t.ends.items l.topology ≡ Some l.end → AreInner rows l.topology l.inner → IsLayout rows l
+pub layout_made : (rows : List Elem) → AreSoundRows rows → (t : Tables) → AreTablesOf rows t → (l : Layout) → is_of_kind rows Track l.track ≡ true → entry_in t.topologies.items l.track ≡ Some l.topology → entry_in t.begins.items l.topology ≡ Some l.begin → entry_in t.ends.items l.topology ≡ Some l.end → AreInner rows l.topology l.inner → IsLayout rows l
 layout_made rows s t h l is topology begin end inner = record {
   one_topology = entry_child rows Topology t.topologies.items l.track l.topology h.topologies topology;
   one_begin = entry_child rows Begin t.begins.items l.topology l.begin h.begins begin;

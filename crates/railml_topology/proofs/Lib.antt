@@ -24,3 +24,4 @@ pub mod IdLemmas
 pub mod ReferenceLemmas
 pub mod CharacterLemmas
 pub mod ChildLemmas
+pub mod AnswerLemmas

@@ -6,6 +6,7 @@ use Rattle.std.specs.Option.{unwrap_or}
 use Rattle.std.proofs.lemmas.Int.{ints}
 use Rattle.std.proofs.lemmas.List.Elements.{recursion_from_All}
 use Rattle.std.proofs.lemmas.Option.{same_Some}
+use Rattle.railml_topology.proofs.IdLemmas.{one_row}
 use Rattle.plan_core.specs.declared.numbers.Micro.{Micro}
 use Rattle.plan_core.specs.declared.sides.Hand.{Hand}
 use Rattle.plan_core.specs.declared.sides.Hand.TheVariants.{Left, Right}
@@ -21,21 +22,21 @@ use Rattle.railml_read.specs.declared.rows.Elem.{Elem}
 use Rattle.railml_read.specs.declared.rows.ElemKind.TheVariants as kinds
 use Rattle.railml_read.specs.Formed.{AreFormed}
 use Rattle.railml_topology.specs.declared.layout.Layout.{Layout}
-use Rattle.railml_topology.specs.Rows.{children, Reads, HasPosition, IsConnectionNamed}
+use Rattle.railml_topology.specs.Rows.{children, ReadsMetres, HasPosition, IsConnectionNamed}
 use Rattle.railml_topology.specs.Faults.{HasNoFault}
-use Rattle.railml_topology.specs.Resolved.{StandsBefore, AreInner, IsAtPlace, IsLayout, AreLayouts, way_word, hand_word, HasWay, IsConnOf, IsMeasured, HasMileage, IsJoinedAs, IsTrackEndOf, IsCourseOf, IsKindOf, IsInnerOf, IsTrackOf, IsTopologyOf}
-use Rattle.railml_topology.specs.Sound.{AreSound}
+use Rattle.railml_topology.specs.Resolved.{StandsBefore, AreInner, IsAtPlace, IsLayout, AreLayouts, way_word, hand_word, HasWay, IsConnOf, IsMeasuredFrom, HasMileage, IsJoinedAs, IsTrackEndOf, IsCourseOf, IsInnerKindOf, IsInnerOf, IsTrackOf, IsTopologyOf}
+use Rattle.railml_topology.specs.Sound.{AreSoundRows}
 use Rattle.railml_topology.proofs.Apart.{Stands, stands_from_pairs, Among, all_among}
 use Rattle.railml_topology.proofs.Family.{among_from_contains, contains_from_among}
 use Rattle.railml_topology.proofs.PositionLemmas.{one_number, one_position, before_differs}
-use Rattle.railml_topology.proofs.ElementLemmas.{same_row, way_words_differ}
-use Rattle.railml_topology.proofs.JoinLemmas.{one_way, kinds_clash, one_place, one_named}
+use Rattle.railml_topology.proofs.ElementLemmas.{way_words_differ}
+use Rattle.railml_topology.proofs.JoinLemmas.{one_way, kinds_clash, one_place, one_named, none_only}
 use Rattle.railml_topology.proofs.SoundLemmas.{sound}
 
 -- ---- the order along a track
 
 position_same : (rows : List Elem) (k : ℕ) (a b : Elem) (z w : ℤ) → slice_get rows k ≡ Some a → slice_get rows k ≡ Some b → HasPosition a z → HasPosition b w → z ≡ w
-position_same rows k a b z w is_a is_b p q = one_position b z w (subst (λ (v : Elem). HasPosition v z) (same_row rows k a b is_a is_b) p) q
+position_same rows k a b z w is_a is_b p q = one_position b z w (subst (λ (v : Elem). HasPosition v z) (one_row rows k a b is_a is_b) p) q
 
 never_both : (a b c d : ℤ) (i j : ℕ) → a ≡ d → b ≡ c → (a <ℤ b) ⊎ ((a ≡ b) × (i < j)) → (c <ℤ d) ⊎ ((c ≡ d) × (j < i)) → ⊥
 never_both a b c d i j e f (inl h) (inl k) = let l : a <ℤ c = subst (λ (v : ℤ). a <ℤ v) f h in let m : c <ℤ a = subst (λ (v : ℤ). c <ℤ v) (sym e) k in omega (arith, ints)
@@ -119,10 +120,10 @@ one_layouts rows ls ms a b = layouts_same rows ls ms (a.tracks ∙ sym b.tracks)
 
 -- ---- connections
 
-one_conn : (rows : List Elem) (layouts : List Layout) → AreSound rows → AreLayouts rows layouts → (k : ℕ) (c d : Conn) → IsConnOf rows layouts k c → IsConnOf rows layouts k d → c ≡ d
+one_conn : (rows : List Elem) (layouts : List Layout) → AreSoundRows rows → AreLayouts rows layouts → (k : ℕ) (c d : Conn) → IsConnOf rows layouts k c → IsConnOf rows layouts k d → c ≡ d
 one_conn rows layouts s h k c d a b =
     let F : List ℕ → ℕ → Place → Conn = λ id at to. record { id = id; at = at; to = to } in
-    let row : a.row ≡ b.row = same_row rows k a.row b.row a.is b.is in
+    let row : a.row ≡ b.row = one_row rows k a.row b.row a.is b.is in
     let id : c.id ≡ d.id = same_Some c.id d.id (sym a.id ∙ (ap (λ (v : Elem). v.attrs.id) row ∙ b.id)) in
     let at : c.at ≡ d.at = sym a.at ∙ (ap (λ (v : Elem). v.at) row ∙ b.at) in
     let name : a.name ≡ b.name = same_Some a.name b.name (sym a.refers.refers ∙ (ap (λ (v : Elem). v.attrs.reference) row ∙ b.refers.refers)) in
@@ -130,23 +131,20 @@ one_conn rows layouts s h k c d a b =
     let to : c.to ≡ d.to = one_place rows layouts s h b.number c.to d.to (subst (λ n. IsAtPlace rows layouts n c.to) number a.leads) b.leads in
     ap (λ v. F v c.at c.to) id ∙ (ap (λ v. F d.id v c.to) at ∙ ap (λ v. F d.id d.at v) to)
 
-only_none : (xs : List ℕ) (a : ℕ) → xs ≡ [] → xs ≡ a ∷ [] → ⊥
-only_none xs a e f = let both : [] ≡ a ∷ [] = sym e ∙ f in cc
-
-one_joined : (rows : List Elem) (layouts : List Layout) → AreSound rows → AreLayouts rows layouts → (k : ℕ) (o p : Option Conn) → IsJoinedAs rows layouts k o → IsJoinedAs rows layouts k p → o ≡ p
+one_joined : (rows : List Elem) (layouts : List Layout) → AreSoundRows rows → AreLayouts rows layouts → (k : ℕ) (o p : Option Conn) → IsJoinedAs rows layouts k o → IsJoinedAs rows layouts k p → o ≡ p
 one_joined rows layouts s h k None None a b = refl
-one_joined rows layouts s h k None (Some d) a b = absurd (only_none (children rows k kinds.Connection) b.0 a b.1)
-one_joined rows layouts s h k (Some c) None a b = absurd (only_none (children rows k kinds.Connection) a.0 b a.1)
+one_joined rows layouts s h k None (Some d) a b = absurd (none_only (children rows k kinds.Connection) b.0 a b.1)
+one_joined rows layouts s h k (Some c) None a b = absurd (none_only (children rows k kinds.Connection) a.0 b a.1)
 one_joined rows layouts s h k (Some c) (Some d) a b =
     let same : a.0 ≡ b.0 = only_same (children rows k kinds.Connection) (children rows k kinds.Connection) a.0 b.0 refl a.1 b.1 in
     ap (λ (v : Conn). Some v) (one_conn rows layouts s h b.0 c d (subst (λ n. IsConnOf rows layouts n c) same a.2) b.2)
 
 -- ---- mileages
 
-one_measure : (begin row : Elem) (z w : ℤ) → IsMeasured begin row z → IsMeasured begin row w → z ≡ w
+one_measure : (begin row : Elem) (z w : ℤ) → IsMeasuredFrom begin row z → IsMeasuredFrom begin row w → z ≡ w
 one_measure begin row z w a b =
     let text : a.starts.text ≡ b.starts.text = same_Some a.starts.text b.starts.text (sym a.starts.has ∙ b.starts.has) in
-    let start : a.start ≡ b.start = one_number b.starts.text a.start b.start (subst (λ (v : List ℕ). Reads v a.start) text a.starts.reads) b.starts.reads in
+    let start : a.start ≡ b.start = one_number b.starts.text a.start b.start (subst (λ (v : List ℕ). ReadsMetres v a.start) text a.starts.reads) b.starts.reads in
     let to : a.to ≡ b.to = one_position row a.to b.to a.row_at b.row_at in
     let from : a.from ≡ b.from = one_position begin a.from b.from a.begin_at b.begin_at in
     a.sum ∙ (ap (λ v. (v +ℤ a.to) -ℤ a.from) start ∙ (ap (λ v. (b.start +ℤ v) -ℤ a.from) to ∙ (ap (λ v. (b.start +ℤ b.to) -ℤ v) from ∙ sym b.sum)))
@@ -154,16 +152,16 @@ one_measure begin row z w a b =
 one_mileage : (begin row : Elem) (m n : Micro) → HasMileage begin row m.0 → HasMileage begin row n.0 → m ≡ n
 one_mileage begin row m n a b = let F : ℤ → Micro = λ z. record { 0 = z } in ap F (choose row.attrs.abs_pos a b)
   where
-    choose : (o : Option (List ℕ)) → MatchOption o (IsMeasured begin row m.0) (λ text. Reads text m.0) → MatchOption o (IsMeasured begin row n.0) (λ text. Reads text n.0) → m.0 ≡ n.0
+    choose : (o : Option (List ℕ)) → MatchOption o (IsMeasuredFrom begin row m.0) (λ text. ReadsMetres text m.0) → MatchOption o (IsMeasuredFrom begin row n.0) (λ text. ReadsMetres text n.0) → m.0 ≡ n.0
     choose None a b = one_measure begin row m.0 n.0 a b
     choose (Some text) a b = one_number text m.0 n.0 a b
 
 -- ---- elements
 
-one_end : (rows : List Elem) (layouts : List Layout) → AreSound rows → AreLayouts rows layouts → (begin : Elem) (k : ℕ) (e f : End) → IsTrackEndOf rows layouts begin k e → IsTrackEndOf rows layouts begin k f → e ≡ f
+one_end : (rows : List Elem) (layouts : List Layout) → AreSoundRows rows → AreLayouts rows layouts → (begin : Elem) (k : ℕ) (e f : End) → IsTrackEndOf rows layouts begin k e → IsTrackEndOf rows layouts begin k f → e ≡ f
 one_end rows layouts s h begin k e f a b =
     let F : List ℕ → ℕ → Micro → Option Conn → End = λ id at mile joined. record { id = id; at = at; mile = mile; joined = joined } in
-    let row : a.row ≡ b.row = same_row rows k a.row b.row a.is b.is in
+    let row : a.row ≡ b.row = one_row rows k a.row b.row a.is b.is in
     let id : e.id ≡ f.id = same_Some e.id f.id (sym a.id ∙ (ap (λ (v : Elem). v.attrs.id) row ∙ b.id)) in
     let at : e.at ≡ f.at = sym a.at ∙ (ap (λ (v : Elem). v.at) row ∙ b.at) in
     let mile : e.mile ≡ f.mile = one_mileage begin b.row e.mile f.mile (subst (λ (v : Elem). HasMileage begin v e.mile.0) row a.mile) b.mile in
@@ -193,14 +191,14 @@ one_course switch branch x y false true a b = absurd (no_straight_hand x (sym a 
 one_course switch branch x y true false a b = absurd (no_straight_hand y (sym b ∙ a.0))
 
 way_same : (rows : List Elem) (k : ℕ) (x y : Bool) → HasWay rows k x → HasWay rows k y → x ≡ y
-way_same rows k x y a b = one_way_word x y (sym a.way ∙ (ap (λ (v : Elem). v.attrs.orientation) (same_row rows k a.row b.row a.is b.is) ∙ b.way))
+way_same rows k x y a b = one_way_word x y (sym a.way ∙ (ap (λ (v : Elem). v.attrs.orientation) (one_row rows k a.row b.row a.is b.is) ∙ b.way))
 
-one_kind : (rows : List Elem) (layouts : List Layout) → AreSound rows → AreLayouts rows layouts → (k : ℕ) (row : Elem) (v w : InnerKind) → IsKindOf rows layouts k row v → IsKindOf rows layouts k row w → v ≡ w
+one_kind : (rows : List Elem) (layouts : List Layout) → AreSoundRows rows → AreLayouts rows layouts → (k : ℕ) (row : Elem) (v w : InnerKind) → IsInnerKindOf rows layouts k row v → IsInnerKindOf rows layouts k row w → v ≡ w
 one_kind rows layouts s h k row (Switch o x d c) (Switch p y e f) a b =
     let F : Bool → Hand → Bool → Conn → InnerKind = λ t u v w. Switch t u v w in
     let number : a.number ≡ b.number = only_same (children rows k kinds.Connection) (children rows k kinds.Connection) a.number b.number refl a.is_branch.only b.is_branch.only in
     let way : o ≡ p = way_same rows b.number o p (subst (λ n. HasWay rows n o) number a.way) b.way in
-    let branch : a.conn.row ≡ b.conn.row = same_row rows b.number a.conn.row b.conn.row (ap (slice_get rows) (sym number) ∙ a.conn.is) b.conn.is in
+    let branch : a.conn.row ≡ b.conn.row = one_row rows b.number a.conn.row b.conn.row (ap (slice_get rows) (sym number) ∙ a.conn.is) b.conn.is in
     let course = one_course row b.conn.row x y d e (subst (λ (v : Elem). IsCourseOf row v x d) branch a.course) b.course in
     let conn : c ≡ f = one_conn rows layouts s h b.number c f (subst (λ n. IsConnOf rows layouts n c) number a.conn) b.conn in
     ap (λ v. F v x d c) way ∙ (ap (λ v. F p v d c) course.0 ∙ (ap (λ v. F p y v c) course.1 ∙ ap (λ v. F p y e v) conn))
@@ -210,20 +208,20 @@ one_kind rows layouts s h k row (Crossing x c d) (Crossing y f g) a b =
     let F : Hand → Conn → Conn → InnerKind = λ t u v. Crossing t u v in
     let coming : a.coming ≡ b.coming = one_way rows s k false a.coming b.coming a.is_coming b.is_coming in
     let leaving : a.leaving ≡ b.leaving = one_way rows s k true a.leaving b.leaving a.is_leaving b.is_leaving in
-    let row_same : a.leaving_conn.row ≡ b.leaving_conn.row = same_row rows b.leaving a.leaving_conn.row b.leaving_conn.row (ap (slice_get rows) (sym leaving) ∙ a.leaving_conn.is) b.leaving_conn.is in
+    let row_same : a.leaving_conn.row ≡ b.leaving_conn.row = one_row rows b.leaving a.leaving_conn.row b.leaving_conn.row (ap (slice_get rows) (sym leaving) ∙ a.leaving_conn.is) b.leaving_conn.is in
     let hand : x ≡ y = one_hand_word x y (sym a.course ∙ (ap (λ (v : Elem). v.attrs.course) row_same ∙ b.course)) in
     let one : c ≡ f = one_conn rows layouts s h b.coming c f (subst (λ n. IsConnOf rows layouts n c) coming a.coming_conn) b.coming_conn in
     let two : d ≡ g = one_conn rows layouts s h b.leaving d g (subst (λ n. IsConnOf rows layouts n d) leaving a.leaving_conn) b.leaving_conn in
     ap (λ v. F v c d) hand ∙ (ap (λ v. F y v d) one ∙ ap (λ v. F y f v) two)
 
-one_inner_element : (rows : List Elem) (layouts : List Layout) → AreSound rows → AreLayouts rows layouts → (begin : Elem) (k : ℕ) (x y : Inner) → IsInnerOf rows layouts begin k x → IsInnerOf rows layouts begin k y → x ≡ y
+one_inner_element : (rows : List Elem) (layouts : List Layout) → AreSoundRows rows → AreLayouts rows layouts → (begin : Elem) (k : ℕ) (x y : Inner) → IsInnerOf rows layouts begin k x → IsInnerOf rows layouts begin k y → x ≡ y
 one_inner_element rows layouts s h begin k x y a b =
     let F : List ℕ → ℕ → Micro → InnerKind → Inner = λ id at mile what. record { id = id; at = at; mile = mile; what = what } in
-    let row : a.row ≡ b.row = same_row rows k a.row b.row a.is b.is in
+    let row : a.row ≡ b.row = one_row rows k a.row b.row a.is b.is in
     let id : x.id ≡ y.id = same_Some x.id y.id (sym a.id ∙ (ap (λ (v : Elem). v.attrs.id) row ∙ b.id)) in
     let at : x.at ≡ y.at = sym a.at ∙ (ap (λ (v : Elem). v.at) row ∙ b.at) in
     let mile : x.mile ≡ y.mile = one_mileage begin b.row x.mile y.mile (subst (λ (v : Elem). HasMileage begin v x.mile.0) row a.mile) b.mile in
-    let what : x.what ≡ y.what = one_kind rows layouts s h k b.row x.what y.what (subst (λ (v : Elem). IsKindOf rows layouts k v x.what) row a.what) b.what in
+    let what : x.what ≡ y.what = one_kind rows layouts s h k b.row x.what y.what (subst (λ (v : Elem). IsInnerKindOf rows layouts k v x.what) row a.what) b.what in
     ap (λ v. F v x.at x.mile x.what) id ∙ (ap (λ v. F y.id v x.mile x.what) at ∙ (ap (λ v. F y.id y.at v x.what) mile ∙ ap (λ v. F y.id y.at y.mile v) what))
 
 -- lists whose items are those of the same numbers
@@ -235,13 +233,13 @@ zip_same R one (n ∷ ns) [] ys a b = absurd a
 zip_same R one (n ∷ ns) (x ∷ xs) [] a b = absurd b
 zip_same R one (n ∷ ns) (x ∷ xs) (y ∷ ys) a b = ap (λ v. v ∷ xs) (one n x y a.0 b.0) ∙ ap (λ v. y ∷ v) (zip_same R one ns xs ys a.1 b.1)
 
-one_track : (rows : List Elem) (layouts : List Layout) → AreSound rows → AreLayouts rows layouts → (l : Layout) (x y : Track) → IsTrackOf rows layouts l x → IsTrackOf rows layouts l y → x ≡ y
+one_track : (rows : List Elem) (layouts : List Layout) → AreSoundRows rows → AreLayouts rows layouts → (l : Layout) (x y : Track) → IsTrackOf rows layouts l x → IsTrackOf rows layouts l y → x ≡ y
 one_track rows layouts s h l x y a b =
     let F : List ℕ → ℕ → End → End → List Inner → Track = λ id at begin end inner. record { id = id; at = at; begin = begin; end = end; inner = inner } in
-    let row : a.row ≡ b.row = same_row rows l.track a.row b.row a.is b.is in
+    let row : a.row ≡ b.row = one_row rows l.track a.row b.row a.is b.is in
     let id : x.id ≡ y.id = same_Some x.id y.id (sym a.id ∙ (ap (λ (v : Elem). v.attrs.id) row ∙ b.id)) in
     let at : x.at ≡ y.at = sym a.at ∙ (ap (λ (v : Elem). v.at) row ∙ b.at) in
-    let start : a.begin_row ≡ b.begin_row = same_row rows l.begin a.begin_row b.begin_row a.begin_is b.begin_is in
+    let start : a.begin_row ≡ b.begin_row = one_row rows l.begin a.begin_row b.begin_row a.begin_is b.begin_is in
     let begin : x.begin ≡ y.begin = one_end rows layouts s h b.begin_row l.begin x.begin y.begin (subst (λ (v : Elem). IsTrackEndOf rows layouts v l.begin x.begin) start a.begin) b.begin in
     let end : x.end ≡ y.end = one_end rows layouts s h b.begin_row l.end x.end y.end (subst (λ (v : Elem). IsTrackEndOf rows layouts v l.end x.end) start a.end) b.end in
     let inner : x.inner ≡ y.inner = zip_same (IsInnerOf rows layouts b.begin_row) (one_inner_element rows layouts s h b.begin_row) l.inner x.inner y.inner (subst (λ (v : Elem). AllZip (IsInnerOf rows layouts v) l.inner x.inner) start a.inner) b.inner in

@@ -1,30 +1,21 @@
 -- Elements outside of their track, by the tables.
 use Rattle.std.proofs.Common.{◌≡◌, ◌⊎◌, ℕ, ◌<◌, List, [], ◌∷◌, length, Option, Some, None, slice_get, refl, sym, ◌∙◌, ap, subst, inl, inr, arith}
 use Rattle.std.specs.Prelude.{ℤ, ◌<ℤ◌}
-use Rattle.std.proofs.lemmas.Option.{same_Some, none-some, slice_get_within}
+use Rattle.std.proofs.lemmas.Option.{none-some, slice_get_within}
 use Rattle.std.specs.Option.{option_and_then}
+use Rattle.railml_topology.proofs.PositionLemmas.{one_position}
+use Rattle.plan_core.proofs.ListFacts.{get_within}
 use Rattle.plan_core.specs.declared.numbers.Micro.{Micro}
-use Rattle.rail_mileage.specs.Metres.{Parts, mileage}
-use Rattle.rail_mileage.proofs.PartsLemmas.{one_reading}
 use Rattle.railml_read.specs.declared.rows.Elem.{Elem}
 use Rattle.railml_read.specs.declared.rows.ElemKind.{ElemKind}
 use Rattle.railml_read.specs.declared.rows.ElemKind.TheVariants.{Track, Topology, Begin, End, Switch, Crossing, Connection, OpenEnd, BufferStop, MacroNode}
 use Rattle.railml_read.specs.Formed.{AreFormed}
 use Rattle.railml_topology.specs.declared.tables.Tables.{Tables}
-use Rattle.railml_topology.specs.Rows.{children, Reads, HasPosition, HasOnBeside}
+use Rattle.railml_topology.specs.Rows.{children, HasPosition, HasOnBeside}
 use Rattle.railml_topology.specs.Faults.{IsBeforeBegin, IsBehindEnd, LiesOutside}
 use Rattle.railml_topology.specs.Tables.{IsPositionOf, HasPositions, HasOnlyChildren, AreTablesOf, IsLess, entry_in, beside_in, IsBeforeBeginBy, IsBehindEndBy, LiesOutsideBy}
 use Rattle.railml_topology.proofs.ChildLemmas.{parent_earlier}
-use Rattle.railml_topology.proofs.TableLemmas.{there}
 use Rattle.railml_topology.proofs.PartLemmas.{entry_at, child_within, only_child, only_child_entry}
-
-one_number : (text : List ℕ) (z w : ℤ) → Reads text z → Reads text w → z ≡ w
-one_number text z w a b = sym a.is ∙ (ap (λ (p : Parts). (mileage p).0) (one_reading text a.parts b.parts a.metres b.metres) ∙ b.is)
-
-one_position : (row : Elem) (z w : ℤ) → HasPosition row z → HasPosition row w → z ≡ w
-one_position row z w a b =
-    let same : b.text ≡ a.text = same_Some b.text a.text (sym b.has ∙ a.has) in
-    one_number a.text z w a.reads (subst (λ (v : List ℕ). Reads v w) same b.reads)
 
 -- ---- positions by the table
 
@@ -55,7 +46,7 @@ module _ (rows : List Elem) (kind : ElemKind) (only : List (Option ℕ)) (positi
       last : (t c : ℕ) → row.parent ≡ Some t → children rows t kind ≡ c ∷ [] → (o : Option (Option Micro)) → slice_get positions c ≡ o → option_and_then (λ x. x) o ≡ Some m → (other : Elem) × HasOnBeside rows row kind other × HasPosition other m.0
       last t c inside one None e h = absurd (none-some m h)
       last t c inside one (Some p) e h =
-          let other = there rows c (child_within rows kind t c one) in
+          let other = get_within rows c (child_within rows kind t c one) in
           (other.0, record { topology = t; number = c; inside = inside; only = one; is = other.1 }, kept_is other.0 p m (has.entry c p e other.0 other.1) h)
 
       second : (t : ℕ) → row.parent ≡ Some t → (o : Option ℕ) → entry_in only t ≡ o → option_and_then (entry_in positions) o ≡ Some m → (other : Elem) × HasOnBeside rows row kind other × HasPosition other m.0

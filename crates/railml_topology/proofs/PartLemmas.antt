@@ -1,19 +1,20 @@
 -- Parts of elements, by the tables.
 use Rattle.std.proofs.Common.{◌≡◌, ◌⊎◌, inl, inr, ℕ, ◌<◌, ◌==◌, Bool, true, false, true≢false, List, [], ◌∷◌, length, filter, Option, Some, None, is_some, slice_get, refl, sym, ◌∙◌, ap, subst, arith, if◌then◌else◌}
-use Rattle.std.proofs.lemmas.Option.{same_Some, none-some, slice_get_within, some_pair_parts}
+use Rattle.std.proofs.lemmas.Option.{same_Some, none-some, some_pair_parts}
 use Rattle.std.proofs.lemmas.Bool.{eqb-true, eq-eqb}
 use Rattle.std.specs.Prelude.{IsTrue}
-use Rattle.std.specs.Option.{option_map, option_map_or, option_and_then}
+use Rattle.std.specs.Option.{option_map, option_and_then}
 use Rattle.std.specs.declared.vec.Vec.{Vec}
 use Rattle.std.specs.declared.alloc.Global.{Global}
+use Rattle.railml_topology.proofs.Family.{within_of_kind}
+use Rattle.plan_core.proofs.ListFacts.{get_within}
 use Rattle.railml_read.specs.declared.rows.Elem.{Elem}
 use Rattle.railml_read.specs.declared.rows.ElemKind.{ElemKind}
 use Rattle.railml_read.specs.declared.rows.ElemKind.TheVariants.{Topology, Begin, End, Connection}
 use Rattle.railml_topology.specs.declared.tables.Tables.{Tables}
-use Rattle.railml_topology.specs.Rows.{same_kind, all_children, children, is_of_kind}
+use Rattle.railml_topology.specs.Rows.{all_children, children, is_of_kind}
 use Rattle.railml_topology.specs.Faults.{IsWholeTrack, HasTwoWays, HasItsParts}
 use Rattle.railml_topology.specs.Tables.{only_of, pair_of, HasEntries, HasOnlyChildren, ListsChildren, AreTablesOf, entry_in, IsWholeBy, IsListAt, HasTwoWaysAmong}
-use Rattle.railml_topology.proofs.TableLemmas.{there}
 
 pub some_of : {X : Type 0} (o : Option X) → is_some o ≡ true → (x : X) × (o ≡ Some x)
 some_of None h = absurd (true≢false (sym h))
@@ -25,7 +26,7 @@ some_of (Some x) h = (x, refl)
 pub entry_at : {X : Type 0} (Q : ℕ → X → Type 0) (rows : List Elem) (table : List X) (i : ℕ) → HasEntries Q rows table → i < length rows → (x : X) × (slice_get table i ≡ Some x) × Q i x
 entry_at {X} Q rows table i has within =
     let inside : i < length table = omega (arith, has.whole) in
-    let h = there table i inside in
+    let h = get_within table i inside in
     (h.0, h.1, has.entry i h.0 h.1)
 
 pub only_some : (list : List ℕ) (c : ℕ) → only_of list ≡ Some c → list ≡ c ∷ []
@@ -42,13 +43,6 @@ first_passed p (d ∷ list) c more h = by (p d) refl h (first_passed p list c mo
     by true e h rest = let same : d ≡ c = cc in subst (λ k. p k ≡ true) same e
     by false e h rest = rest h
 
-pub of_kind_within : (rows : List Elem) (kind : ElemKind) (i : ℕ) → is_of_kind rows kind i ≡ true → i < length rows
-of_kind_within rows kind i h = by (slice_get rows i) refl
-  where
-    by : (o : Option Elem) → slice_get rows i ≡ o → i < length rows
-    by None e = absurd (true≢false (sym h ∙ ap (λ (o : Option Elem). option_map_or (λ row. same_kind row.kind kind) o false) e))
-    by (Some row) e = slice_get_within rows i row e
-
 -- the entry of a row in a table of only children
 pub only_entry_is : (rows : List Elem) (kind : ElemKind) (table : List (Option ℕ)) (i : ℕ) → HasOnlyChildren rows kind table → i < length rows → entry_in table i ≡ only_of (children rows i kind)
 only_entry_is rows kind table i has within = let h = entry_at (λ j (only : Option ℕ). only ≡ only_of (children rows j kind)) rows table i has within in ap (option_and_then (λ x. x)) h.1 ∙ h.2
@@ -60,7 +54,7 @@ pub only_child_entry : (rows : List Elem) (kind : ElemKind) (table : List (Optio
 only_child_entry rows kind table i c has within is = only_entry_is rows kind table i has within ∙ ap only_of is
 
 pub child_within : (rows : List Elem) (kind : ElemKind) (i c : ℕ) → children rows i kind ≡ c ∷ [] → c < length rows
-child_within rows kind i c is = of_kind_within rows kind c (first_passed (is_of_kind rows kind) (all_children rows i) c [] is)
+child_within rows kind i c is = within_of_kind rows kind c (first_passed (is_of_kind rows kind) (all_children rows i) c [] is)
 
 -- ---- whole tracks
 

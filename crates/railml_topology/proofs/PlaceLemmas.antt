@@ -9,9 +9,12 @@ use Rattle.std.specs.Option.{option_map_or}
 use Rattle.std.specs.List.{Contains, All, AllByRecursion}
 use Rattle.std.proofs.lemmas.Bool.Decides.{eqb_tells}
 use Rattle.std.proofs.lemmas.Option.{same_Some, slice_get_within, slice_get_read, option_and_then_some}
+use Rattle.railml_topology.proofs.PartLemmas.{only_child_entry}
+use Rattle.railml_topology.proofs.IdLemmas.{one_row}
 use Rattle.plan_core.specs.declared.topology.Place.{Place}
 use Rattle.plan_core.specs.declared.topology.Part.{Part}
 use Rattle.plan_core.specs.declared.topology.Part.TheVariants as parts
+use Rattle.plan_core.specs.declared.limits.TheConstants.{MAX_TRACKS}
 use Rattle.railml_read.specs.declared.rows.Elem.{Elem}
 use Rattle.railml_read.specs.declared.rows.ElemKind.{ElemKind}
 use Rattle.railml_read.specs.declared.rows.ElemKind.TheVariants.{Begin, End, Switch, Crossing, Connection}
@@ -21,15 +24,15 @@ use Rattle.railml_topology.specs.Rows.{track_rows, is_of_kind, is_word, all_chil
 use Rattle.railml_topology.specs.Faults.{HasTwoWays, IsConnectionOf}
 use Rattle.railml_topology.specs.Resolved.{StandsBefore, way_word, IsLayout, AreLayouts, IsBranchOf, IsWayOf, IsAtPart, IsAtPlace}
 use Rattle.railml_topology.specs.Tables.{entry_in, AreTablesOf}
-use Rattle.railml_topology.specs.Places.{IsThere, Adds, IsAtInner, IsOnInner, IsOnFirst, IsOnTrack, HasPlaces, goes_by}
-use Rattle.railml_topology.specs.Sound.{AreSound}
+use Rattle.railml_topology.specs.Places.{IsFilled, Adds, IsAtInner, IsOnInner, IsOnFirst, IsOnTrack, HasPlaces, goes_by}
+use Rattle.railml_topology.specs.Sound.{AreSoundRows}
 use Rattle.railml_topology.proofs.Apart.{Apart, Among, all_more, stands_weaker, stands_from_pairs, apart_short}
 use Rattle.railml_topology.proofs.PositionLemmas.{before_differs, inner_within}
 use Rattle.railml_topology.specs.Plans.{is_inner}
 use Rattle.railml_topology.proofs.Family.{among_from_contains, contains_from_among, among_filtered, filtered_among, of_kind, is_of_its_kind, IsChild, child, has_child, only_child}
-use Rattle.railml_topology.proofs.ElementLemmas.{same_row, way_child}
-use Rattle.railml_topology.proofs.LayoutLemmas.{entry_child, child_entry}
-use Rattle.railml_topology.proofs.JoinLemmas.{one_way, kinds_clash}
+use Rattle.railml_topology.proofs.ElementLemmas.{way_child, all_that_among}
+use Rattle.railml_topology.proofs.LayoutLemmas.{entry_child}
+use Rattle.railml_topology.proofs.JoinLemmas.{one_way, kinds_clash, place_is, one_number}
 use Rattle.railml_topology.proofs.TableLemmas.{entry_written, slice_get-set_other}
 
 -- ---- one entry
@@ -141,13 +144,13 @@ connection_of_row rows i k parent kind is kind_is c =
     let up = c.parent_is in record { connection = c.kind_is; holds = rw up is; of_kind = kind_is }
 
 -- the way of a child of a crossing
-pub way_of_child : (rows : List Elem) → AreSound rows → (crossing k : ℕ) → is_of_kind rows Crossing crossing ≡ true → IsChild rows crossing Connection k → (outgoing : Bool) × IsWayOf rows crossing outgoing k
+pub way_of_child : (rows : List Elem) → AreSoundRows rows → (crossing k : ℕ) → is_of_kind rows Crossing crossing ≡ true → IsChild rows crossing Connection k → (outgoing : Bool) × IsWayOf rows crossing outgoing k
 way_of_child rows s crossing k a c =
     let (parent, is, kind_is) = of_kind rows Crossing crossing a in
     let (outgoing, way) = s.ways k c.row parent c.is (inr (connection_of_row rows crossing k parent Crossing is kind_is c)) in
     (outgoing, record { a_crossing = a; among = contains_from_among (children rows crossing Connection) k (has_child rows crossing Connection k c); way = record { row = c.row; is = c.is; way = way } })
 
-pub has_way : (rows : List Elem) → AreSound rows → (crossing : ℕ) (outgoing : Bool) → is_of_kind rows Crossing crossing ≡ true → (k : ℕ) × IsWayOf rows crossing outgoing k
+pub has_way : (rows : List Elem) → AreSoundRows rows → (crossing : ℕ) (outgoing : Bool) → is_of_kind rows Crossing crossing ≡ true → (k : ℕ) × IsWayOf rows crossing outgoing k
 has_way rows s crossing outgoing a =
     let (row, is, kind_is) = of_kind rows Crossing crossing a in
     let two : HasTwoWays rows crossing = (rw kind_is at (s.parts crossing row is)) in
@@ -172,23 +175,20 @@ has_way rows s crossing outgoing a =
     choose false i j true false g h n = (j, h)
     choose false i j true true g h n = absurd (n refl)
 
-pub way_not_missing : (rows : List Elem) → AreSound rows → (crossing : ℕ) (outgoing : Bool) → is_of_kind rows Crossing crossing ≡ true → find (goes_by rows (way_word outgoing)) (all_children rows crossing) ≡ None → ⊥
+pub way_not_missing : (rows : List Elem) → AreSoundRows rows → (crossing : ℕ) (outgoing : Bool) → is_of_kind rows Crossing crossing ≡ true → find (goes_by rows (way_word outgoing)) (all_children rows crossing) ≡ None → ⊥
 way_not_missing rows s crossing outgoing a e =
     let (k, w) = has_way rows s crossing outgoing a in
     let c = way_child rows crossing k outgoing w in
-    let same : c.row ≡ w.way.row = same_row rows k c.row w.way.row c.is w.way.is in
+    let same : c.row ≡ w.way.row = one_row rows k c.row w.way.row c.is w.way.is in
     none_found (goes_by rows (way_word outgoing)) (all_children rows crossing) k e
     (among_filtered (is_of_kind rows Connection) (all_children rows crossing) k (has_child rows crossing Connection k c)).0
     (goes_if rows (way_word outgoing) k (record { row = w.way.row; is = w.way.is; kind_is = ap (λ (v : Elem). v.kind) (sym same) ∙ c.kind_is; way = w.way.way }))
 
-pub within_of_kind : (rows : List Elem) (kind : ElemKind) (i : ℕ) → is_of_kind rows kind i ≡ true → i < length rows
-within_of_kind rows kind i t = let (row, is, kind_is) = of_kind rows kind i t in slice_get_within rows i row is
-
-pub branch_entry : (rows : List Elem) → AreSound rows → (t : Tables) → AreTablesOf rows t → (switch : ℕ) → is_of_kind rows Switch switch ≡ true → (k : ℕ) × (entry_in t.connections.items switch ≡ Some k)
+pub branch_entry : (rows : List Elem) → AreSoundRows rows → (t : Tables) → AreTablesOf rows t → (switch : ℕ) → is_of_kind rows Switch switch ≡ true → (k : ℕ) × (entry_in t.connections.items switch ≡ Some k)
 branch_entry rows s t h switch a =
     let (row, is, kind_is) = of_kind rows Switch switch a in
     let one : (part : ℕ) × (children rows switch Connection ≡ part ∷ []) = (rw kind_is at (s.parts switch row is)) in
-    (one.0, child_entry rows Connection t.connections.items switch one.0 h.connections (slice_get_within rows switch row is) one.1)
+    (one.0, only_child_entry rows Connection t.connections.items switch one.0 h.connections (slice_get_within rows switch row is) one.1)
 
 pub branch_found : (rows : List Elem) (t : Tables) → AreTablesOf rows t → (switch k : ℕ) → is_of_kind rows Switch switch ≡ true → entry_in t.connections.items switch ≡ Some k → IsBranchOf rows switch k
 branch_found rows t h switch k a e = record { a_switch = a; only = entry_child rows Connection t.connections.items switch k h.connections e }
@@ -200,17 +200,9 @@ read_children rows t h i list within is =
 
 -- ---- one switch or crossing
 
-place_is : (p q : Place) → p.track ≡ q.track → p.part ≡ q.part → p ≡ q
-place_is p q e f =
-    let F : ℕ → Part → Place = λ n part. record { track = n; part = part } in
-    ap (λ n. F n p.part) e ∙ ap (λ part. F q.track part) f
-
 -- a place of a track
 abbrev pub at_part : ℕ → Part → Place
 at_part track part = record { track = track; part = part }
-
-one_number : (xs : List ℕ) (a b : ℕ) → xs ≡ a ∷ [] → xs ≡ b ∷ [] → a ≡ b
-one_number xs a b e f = let both : a ∷ [] ≡ b ∷ [] = sym e ∙ f in cc
 
 switch_places : (rows : List Elem) (track n inner branch : ℕ) → IsBranchOf rows inner branch → (i : ℕ) (track' : ℕ) (part : Part) → track' ≡ track → IsAtInner rows n inner i part → (i ≡ branch) × (at_part track' part ≡ at_part track (parts.Branch n))
 switch_places rows track n inner branch b i t parts.Begin e h = absurd h
@@ -229,7 +221,7 @@ switch_put rows track n inner branch old new b h =
     })
     (λ i p u. switch_places rows track n inner branch b i p.track p.part u.on u.here) h
 
-crossing_places : (rows : List Elem) → AreSound rows → (track n inner coming leaving : ℕ) → IsWayOf rows inner false coming → IsWayOf rows inner true leaving → (i : ℕ) (track' : ℕ) (part : Part) → track' ≡ track → IsAtInner rows n inner i part
+crossing_places : (rows : List Elem) → AreSoundRows rows → (track n inner coming leaving : ℕ) → IsWayOf rows inner false coming → IsWayOf rows inner true leaving → (i : ℕ) (track' : ℕ) (part : Part) → track' ≡ track → IsAtInner rows n inner i part
     → ((i ≡ coming) × (at_part track' part ≡ at_part track (parts.Incoming n))) ⊎ ((i ≡ leaving) × (at_part track' part ≡ at_part track (parts.Outgoing n)))
 crossing_places rows s track n inner coming leaving c l i t parts.Begin e h = absurd h
 crossing_places rows s track n inner coming leaving c l i t parts.End e h = absurd h
@@ -239,7 +231,7 @@ crossing_places rows s track n inner coming leaving c l i t (parts.Incoming k) e
 crossing_places rows s track n inner coming leaving c l i t (parts.Outgoing k) e h =
     inr (one_way rows s inner true i leaving h.1 l, place_is (at_part t (parts.Outgoing k)) (at_part track (parts.Outgoing n)) e (ap (λ m. parts.Outgoing m) h.0))
 
-pub crossing_put : (rows : List Elem) → AreSound rows → (track n inner coming leaving : ℕ) (old middle new : List (Option Place)) → IsWayOf rows inner false coming → IsWayOf rows inner true leaving
+pub crossing_put : (rows : List Elem) → AreSoundRows rows → (track n inner coming leaving : ℕ) (old middle new : List (Option Place)) → IsWayOf rows inner false coming → IsWayOf rows inner true leaving
     → Adds (λ i p. (i ≡ coming) × (p ≡ at_part track (parts.Incoming n))) old middle → Adds (λ i p. (i ≡ leaving) × (p ≡ at_part track (parts.Outgoing n))) middle new → Adds (IsOnInner rows track n inner) old new
 crossing_put rows s track n inner coming leaving old middle new c l h k =
     let T : ℕ → Place → Type 0 = λ i p. (i ≡ coming) × (p ≡ at_part track (parts.Incoming n)) in
@@ -291,8 +283,8 @@ entry_within rows t h holder i e =
 
 track_places : (rows : List Elem) (t : Tables) → AreTablesOf rows t → (track : ℕ) (l : Layout) → l.begin < length rows → l.end < length rows → (i : ℕ) (track' : ℕ) (part : Part) → track' ≡ track → IsAtPart rows l i part
     → (AtEnd t.connections.items l.begin (at_part track parts.Begin) i (at_part track' part) ⊎ AtEnd t.connections.items l.end (at_part track parts.End) i (at_part track' part)) ⊎ IsOnFirst rows track l.inner (length l.inner) i (at_part track' part)
-track_places rows t h track l begin end i u parts.Begin e a = inl (inl (child_entry rows Connection t.connections.items l.begin i h.connections begin a, place_is (at_part u parts.Begin) (at_part track parts.Begin) e refl))
-track_places rows t h track l begin end i u parts.End e a = inl (inr (child_entry rows Connection t.connections.items l.end i h.connections end a, place_is (at_part u parts.End) (at_part track parts.End) e refl))
+track_places rows t h track l begin end i u parts.Begin e a = inl (inl (only_child_entry rows Connection t.connections.items l.begin i h.connections begin a, place_is (at_part u parts.Begin) (at_part track parts.Begin) e refl))
+track_places rows t h track l begin end i u parts.End e a = inl (inr (only_child_entry rows Connection t.connections.items l.end i h.connections end a, place_is (at_part u parts.End) (at_part track parts.End) e refl))
 track_places rows t h track l begin end i u (parts.Branch k) e (row, is, b) = inr (record { number = k; below = slice_get_within l.inner k row is; row = row; is = is; on = record { on = e; here = (refl, b) } })
 track_places rows t h track l begin end i u (parts.Incoming k) e (row, is, b) = inr (record { number = k; below = slice_get_within l.inner k row is; row = row; is = is; on = record { on = e; here = (refl, b) } })
 track_places rows t h track l begin end i u (parts.Outgoing k) e (row, is, b) = inr (record { number = k; below = slice_get_within l.inner k row is; row = row; is = is; on = record { on = e; here = (refl, b) } })
@@ -329,7 +321,7 @@ track_put rows t h track l laid a b c d one two three =
 pub record PlacedUpTo (rows : List Elem) (layouts : List Layout) (k : ℕ) (table : List (Option Place)) : Type 0 where
   pub whole : length table ≡ length rows
   pub only : (i : ℕ) (p : Place) → entry_in table i ≡ Some p → IsAtPlace rows layouts i p
-  pub all : (i : ℕ) (p : Place) → p.track < k → IsAtPlace rows layouts i p → IsThere table i
+  pub all : (i : ℕ) (p : Place) → p.track < k → IsAtPlace rows layouts i p → IsFilled table i
 
 empty_entry : (n i : ℕ) (p : Place) → entry_in (replicate n None) i ≡ Some p → ⊥
 empty_entry zero i p e = cc
@@ -369,17 +361,13 @@ inner_of_kind : (rows : List Elem) (topology i : ℕ) → Contains (children row
 inner_of_kind rows topology i (inl c) = let e = (among_filtered (is_of_kind rows Switch) (all_children rows topology) i (among_from_contains (children rows topology Switch) i c)).1 in rw e refl
 inner_of_kind rows topology i (inr c) = let e = (among_filtered (is_of_kind rows Crossing) (all_children rows topology) i (among_from_contains (children rows topology Crossing) i c)).1 in rw e (or-true (is_of_kind rows Switch i))
 
-all_among_list : (P : ℕ → Type 0) (xs : List ℕ) → ((i : ℕ) → Among xs i → P i) → AllByRecursion P xs
-all_among_list P [] h = tt
-all_among_list P (x ∷ xs) h = (h x (inl refl), all_among_list P xs (λ i a. h i (inr a)))
-
 inner_each : (rows : List Elem) (l : Layout) → IsLayout rows l → AllByRecursion (λ i. is_inner rows i ≡ true) l.inner
-inner_each rows l h = all_among_list (λ i. is_inner rows i ≡ true) l.inner (λ i a. inner_of_kind rows l.topology i ((h.between.all i).0 (contains_from_among l.inner i a)))
+inner_each rows l h = all_that_among (λ i. is_inner rows i ≡ true) l.inner (λ i a. inner_of_kind rows l.topology i ((h.between.all i).0 (contains_from_among l.inner i a)))
 
 pub inner_all : (rows : List Elem) (l : Layout) → IsLayout rows l → All (λ i. is_inner rows i ≡ true) l.inner
 inner_all rows l h = All-from_recursion (λ i. is_inner rows i ≡ true) l.inner (inner_each rows l h)
 
-pub inner_few : (rows : List Elem) → AreSound rows → (l : Layout) → IsLayout rows l → length l.inner < 2 ^ 32
+pub inner_few : (rows : List Elem) → AreSoundRows rows → (l : Layout) → IsLayout rows l → length l.inner < 2 ^ 32
 inner_few rows s l h =
     let apart : Apart l.inner = stands_weaker (StandsBefore rows) (λ (i j : ℕ). i ≢ j) (before_differs rows) l.inner (stands_from_pairs (StandsBefore rows) l.inner h.between.ordered) in
     let short : length l.inner ≤ length rows = apart_short (length rows) l.inner apart (all_more (λ i. is_inner rows i ≡ true) (λ i. i < length rows) (inner_within rows s) l.inner (inner_each rows l h)) in
@@ -389,7 +377,7 @@ inner_few rows s l h =
 pub layout_at : (rows : List Elem) (layouts : List Layout) → AreLayouts rows layouts → (k : ℕ) (l : Layout) → k < length layouts → l ≡ get_or layouts k l → IsLayout rows l
 layout_at rows layouts h k l within is = subst (IsLayout rows) (sym is) (h.each k l within)
 
-pub few_layouts : (rows : List Elem) (layouts : List Layout) → AreSound rows → AreLayouts rows layouts → length layouts ≤ 128
+pub few_layouts : (rows : List Elem) (layouts : List Layout) → AreSoundRows rows → AreLayouts rows layouts → length layouts ≤ MAX_TRACKS
 few_layouts rows layouts s h =
     let one : length (map (λ (l : Layout). l.track) layouts) ≡ length layouts = length-map layouts (λ (l : Layout). l.track) in
     let two : length (map (λ (l : Layout). l.track) layouts) ≡ length (track_rows rows) = ap length h.tracks in

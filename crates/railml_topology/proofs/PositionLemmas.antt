@@ -10,19 +10,19 @@ use Rattle.rail_mileage.proofs.Digits.{size_below}
 use Rattle.rail_mileage.proofs.PartsLemmas.{one_reading}
 use Rattle.railml_read.specs.declared.rows.Elem.{Elem}
 use Rattle.railml_read.specs.declared.rows.ElemKind.TheVariants.{Switch, Crossing}
-use Rattle.railml_topology.specs.Rows.{is_of_kind, bears_position, Reads, HasPosition}
+use Rattle.railml_topology.specs.Rows.{is_of_kind, bears_position, ReadsMetres, HasPosition}
 use Rattle.railml_topology.specs.Resolved.{StandsBefore}
-use Rattle.railml_topology.specs.Plans.{is_inner, IsWithin}
-use Rattle.railml_topology.specs.Sound.{AreSound}
+use Rattle.railml_topology.specs.Plans.{is_inner, IsOfSize}
+use Rattle.railml_topology.specs.Sound.{AreSoundRows}
 use Rattle.railml_topology.proofs.Family.{of_kind}
 
-pub one_number : (text : List ℕ) (z w : ℤ) → Reads text z → Reads text w → z ≡ w
+pub one_number : (text : List ℕ) (z w : ℤ) → ReadsMetres text z → ReadsMetres text w → z ≡ w
 one_number text z w a b = sym a.is ∙ (ap (λ (p : Parts). (mileage p).0) (one_reading text a.parts b.parts a.metres b.metres) ∙ b.is)
 
 pub one_position : (row : Elem) (z w : ℤ) → HasPosition row z → HasPosition row w → z ≡ w
 one_position row z w a b =
     let same : b.text ≡ a.text = same_Some b.text a.text (sym b.has ∙ a.has) in
-    one_number a.text z w a.reads (subst (λ (v : List ℕ). Reads v w) same b.reads)
+    one_number a.text z w a.reads (subst (λ (v : List ℕ). ReadsMetres v w) same b.reads)
 
 never_below : (z : ℤ) → z <ℤ z → ⊥
 never_below z h = omega (arith, ints)
@@ -38,27 +38,27 @@ before_differs rows i j s same =
 
 -- ---- how far from nought
 
-signed_within : (b n : ℕ) (negative : Bool) → n < b → IsWithin b (signed negative n)
+signed_within : (b n : ℕ) (negative : Bool) → n < b → IsOfSize b (signed negative n)
 signed_within b n true h = (omega (arith, ints), omega (arith, ints))
 signed_within b n false h = (omega (arith, ints), omega (arith, ints))
 
-pub number_within : (text : List ℕ) (z : ℤ) → Reads text z → IsWithin (10 ^ 15) z
+pub number_within : (text : List ℕ) (z : ℤ) → ReadsMetres text z → IsOfSize (10 ^ 15) z
 number_within text z r =
     let m = r.metres in
     let p = r.parts in
-    subst (IsWithin (10 ^ 15)) r.is (signed_within (10 ^ 15) (size_of p.whole (fraction_digits p.fraction)) (is_minus p.sign)
+    subst (IsOfSize (10 ^ 15)) r.is (signed_within (10 ^ 15) (size_of p.whole (fraction_digits p.fraction)) (is_minus p.sign)
     (size_below p.whole (fraction_digits p.fraction) m.digits_before m.digits_after m.whole_limit m.fraction_limit))
 
 -- the same of what a reader of metres says
-pub metres_within : (text : List ℕ) (m : Micro) → (parts : Parts) × IsMetres text parts × (m ≡ mileage parts) → IsWithin (10 ^ 15) m.0
+pub metres_within : (text : List ℕ) (m : Micro) → (parts : Parts) × IsMetres text parts × (m ≡ mileage parts) → IsOfSize (10 ^ 15) m.0
 metres_within text m (parts, metres, is) = number_within text m.0 (record { parts = parts; metres = metres; is = ap (λ (v : Micro). v.0) (sym is) })
 
-fits_64 : (z : ℤ) → IsWithin (10 ^ 15) z → FitsSigned w64 z
+fits_64 : (z : ℤ) → IsOfSize (10 ^ 15) z → FitsSigned w64 z
 fits_64 z h = let low = h.0 in let high = h.1 in omega (arith, ints)
 
 -- such a number goes through a signed word of 64 bits
-pub kept_within : (z : ℤ) → IsWithin (10 ^ 15) z → IsWithin (10 ^ 15) (to_z w64 (of_z w64 z))
-kept_within z h = subst (IsWithin (10 ^ 15)) (sym (to_z-of_z w64 z (fits_64 z h))) h
+pub kept_within : (z : ℤ) → IsOfSize (10 ^ 15) z → IsOfSize (10 ^ 15) (to_z w64 (of_z w64 z))
+kept_within z h = subst (IsOfSize (10 ^ 15)) (sym (to_z-of_z w64 z (fits_64 z h))) h
 
 -- ---- switches and crossings
 
@@ -70,17 +70,17 @@ inner_kind rows i h = choose (is_of_kind rows Switch i) refl h
     choose false e h = let (row, is, kind) = of_kind rows Crossing i h in (row, is, rw kind refl)
 
 -- a switch or a crossing has a position
-pub inner_position : (rows : List Elem) → AreSound rows → (i : ℕ) → is_inner rows i ≡ true → (row : Elem) × (slice_get rows i ≡ Some row) × ((z : ℤ) × HasPosition row z)
+pub inner_position : (rows : List Elem) → AreSoundRows rows → (i : ℕ) → is_inner rows i ≡ true → (row : Elem) × (slice_get rows i ≡ Some row) × ((z : ℤ) × HasPosition row z)
 inner_position rows s i h = let (row, is, bears) = inner_kind rows i h in (row, is, s.positions i row is bears)
 
-pub inner_within : (rows : List Elem) → AreSound rows → (i : ℕ) → is_inner rows i ≡ true → i < length rows
+pub inner_within : (rows : List Elem) → AreSoundRows rows → (i : ℕ) → is_inner rows i ≡ true → i < length rows
 inner_within rows s i h = let (row, is, bears) = inner_kind rows i h in slice_get_within rows i row is
 
-pub word_is : (z : ℤ) → IsWithin (10 ^ 15) z → to_z w64 (of_z w64 z) ≡ z
+pub word_is : (z : ℤ) → IsOfSize (10 ^ 15) z → to_z w64 (of_z w64 z) ≡ z
 word_is z h = to_z-of_z w64 z (fits_64 z h)
 
 -- the row that is read at the number of a switch or a crossing
-pub inner_read : (rows : List Elem) → AreSound rows → (i : ℕ) → is_inner rows i ≡ true → (read : Elem) → read ≡ get_or rows i read → (slice_get rows i ≡ Some read) × ((z : ℤ) × HasPosition read z)
+pub inner_read : (rows : List Elem) → AreSoundRows rows → (i : ℕ) → is_inner rows i ≡ true → (read : Elem) → read ≡ get_or rows i read → (slice_get rows i ≡ Some read) × ((z : ℤ) × HasPosition read z)
 inner_read rows s i h read e =
     let (row, is, there) = inner_position rows s i h in
     let at : slice_get rows i ≡ Some read = slice_get_read rows (length rows) i read refl (inner_within rows s i h) e in

@@ -3,7 +3,7 @@ use Rattle.std.proofs.Common.{◌≡◌, ◌⊎◌, ℕ, ◌<◌, ◌≤◌, Boo
 use Rattle.std.proofs.lemmas.Bool.{cases_lt}
 use Rattle.std.proofs.lemmas.Option.{same_Some, none-some, slice_get_within, slice_get-get_or}
 use Rattle.std.specs.Borrow.{Bor}
-use Rattle.std.specs.HashMap.{HashMap}
+use Rattle.std.specs.BTreeMap.{BTreeMap}
 use Rattle.std.specs.Option.{is_none, option_and_then}
 use Rattle.railml_read.specs.declared.rows.Elem.{Elem}
 use Rattle.railml_read.specs.declared.rows.ElemKind.{ElemKind}
@@ -32,8 +32,8 @@ names row id kind has = ap (λ k. if same_kind k Connection then row.attrs.id el
 
 -- ---- the table of what is referred to
 
-pub target_entry : {S : Type 0} (rows : List Elem) (numbers : HashMap (Bor (List ℕ)) ℕ S) (row : Elem) (target : Option ℕ) → KeepsIds connection_id rows (length rows) numbers → target ≡ option_and_then (number_in numbers) (reference_of row) → IsTargetOf rows row target
-target_entry {S} rows numbers row target kept is = subst (IsTargetOf rows row) (sym is) (by (reference_of row) refl)
+pub target_entry : (rows : List Elem) (numbers : BTreeMap (Bor (List ℕ)) ℕ) (row : Elem) (target : Option ℕ) → KeepsIds connection_id rows (length rows) numbers → target ≡ option_and_then (number_in numbers) (reference_of row) → IsTargetOf rows row target
+target_entry rows numbers row target kept is = subst (IsTargetOf rows row) (sym is) (by (reference_of row) refl)
   where
     unnamed : (name : List ℕ) → reference_of row ≡ Some name → number_in numbers name ≡ None → (j : ℕ) → IsReferredTo rows row j → ⊥
     unnamed name e gone j h =

@@ -13,19 +13,18 @@ use Rattle.plan_core.specs.declared.topology.Inner.{Inner}
 use Rattle.plan_core.specs.Topology.{Element, IsId, elements, IsMileage, track_miles, IsResolved}
 use Rattle.railml_read.specs.declared.rows.Elem.{Elem}
 use Rattle.railml_topology.specs.declared.layout.Layout.{Layout}
-use Rattle.railml_topology.specs.Rows.{track_rows, BearsId, Reads, HasPosition}
-use Rattle.railml_topology.specs.Resolved.{AreLayouts, IsMeasured, HasMileage, IsInnerOf, IsTrackOf, IsTopologyOf}
-use Rattle.railml_topology.specs.Sound.{AreSound}
-use Rattle.railml_topology.specs.Plans.{IsWithin}
+use Rattle.railml_topology.specs.Rows.{BearsId, ReadsMetres, HasPosition}
+use Rattle.railml_topology.specs.Resolved.{IsMeasuredFrom, HasMileage, IsInnerOf, IsTrackOf, IsTopologyOf}
+use Rattle.railml_topology.specs.Sound.{AreSoundRows}
+use Rattle.railml_topology.specs.Plans.{IsOfSize}
 use Rattle.railml_topology.proofs.PositionLemmas.{number_within}
 use Rattle.railml_topology.proofs.Apart.{all_more, all_joined, all_mapped, pairs_from_stands, stands_mapped, apart_short, Covers}
-use Rattle.railml_topology.proofs.Zips.{zip_length}
 use Rattle.railml_topology.proofs.ElementLemmas.{Bears, element_of, element_is, covered}
 use Rattle.railml_topology.proofs.JoinLemmas.{both_ways}
 
 -- ---- elements
 
-pub few_elements : (rows : List Elem) (t : Topology) → AreSound rows → Covers (element_of rows) (Bears rows) (elements t) → length (elements t) < 2 ^ 32
+pub few_elements : (rows : List Elem) (t : Topology) → AreSoundRows rows → Covers (element_of rows) (Bears rows) (elements t) → length (elements t) < 2 ^ 32
 few_elements rows t s c =
     let short : length c.ks ≤ length rows = apart_short (length rows) c.ks c.apart (all_more (Bears rows) (λ k. k < length rows) (λ k b. slice_get_within rows k b.row b.is) c.ks c.good) in
     let same : length (elements t) ≡ length c.ks = ap length c.same ∙ length-map c.ks (element_of rows) in
@@ -39,7 +38,7 @@ record HasIdOf (rows : List Elem) (k : ℕ) : Type 0 where
   bears : BearsId rows k id
   is : (element_of rows k).id ≡ id
 
-id_at : (rows : List Elem) → AreSound rows → (k : ℕ) → Bears rows k → HasIdOf rows k
+id_at : (rows : List Elem) → AreSoundRows rows → (k : ℕ) → Bears rows k → HasIdOf rows k
 id_at rows s k b =
     let good = s.ids k b.row b.is b.bears in
     record {
@@ -49,32 +48,32 @@ id_at rows s k b =
       is = ap (λ (e : Element). e.id) (element_is rows k b.row good.id b.row.at b.is good.has refl);
     }
 
-pub ids_good : (rows : List Elem) (t : Topology) → AreSound rows → Covers (element_of rows) (Bears rows) (elements t) → All (λ (e : Element). IsId e.id) (elements t)
+pub ids_good : (rows : List Elem) (t : Topology) → AreSoundRows rows → Covers (element_of rows) (Bears rows) (elements t) → All (λ (e : Element). IsId e.id) (elements t)
 ids_good rows t s c =
     subst (λ (v : List Element). All (λ (e : Element). IsId e.id) v) (sym c.same)
     (All-from_recursion (λ (e : Element). IsId e.id) (map (element_of rows) c.ks)
     (all_mapped (λ (e : Element). IsId e.id) (element_of rows) c.ks
     (all_more (Bears rows) (λ k. IsId (element_of rows k).id) (λ k b. (let h = id_at rows s k b in subst IsId (sym h.is) h.good)) c.ks c.good)))
 
-ids_apart : (rows : List Elem) → AreSound rows → (i j : ℕ) → Bears rows i → Bears rows j → i ≢ j → (element_of rows i).id ≢ (element_of rows j).id
+ids_apart : (rows : List Elem) → AreSoundRows rows → (i j : ℕ) → Bears rows i → Bears rows j → i ≢ j → (element_of rows i).id ≢ (element_of rows j).id
 ids_apart rows s i j a b differ same =
     let h = id_at rows s i a in
     let k = id_at rows s j b in
     let ids : k.id ≡ h.id = sym k.is ∙ (sym same ∙ h.is) in
     differ (s.ids_differ i j h.id h.bears (subst (λ (v : List ℕ). BearsId rows j v) ids k.bears))
 
-pub ids_differ : (rows : List Elem) (t : Topology) → AreSound rows → Covers (element_of rows) (Bears rows) (elements t) → AllPairs (λ (d e : Element). d.id ≢ e.id) (elements t)
+pub ids_differ : (rows : List Elem) (t : Topology) → AreSoundRows rows → Covers (element_of rows) (Bears rows) (elements t) → AllPairs (λ (d e : Element). d.id ≢ e.id) (elements t)
 ids_differ rows t s c =
     subst (λ (v : List Element). AllPairs (λ (d e : Element). d.id ≢ e.id) v) (sym c.same)
     (pairs_from_stands (λ (d e : Element). d.id ≢ e.id) (map (element_of rows) c.ks)
     (stands_mapped (Bears rows) (λ (i j : ℕ). i ≢ j) (λ (d e : Element). d.id ≢ e.id) (element_of rows) (ids_apart rows s) c.ks c.good c.apart))
 
-place_of_row : (rows : List Elem) → AreSound rows → (k : ℕ) (b : Bears rows k) → (element_of rows k).at ≡ b.row.at
+place_of_row : (rows : List Elem) → AreSoundRows rows → (k : ℕ) (b : Bears rows k) → (element_of rows k).at ≡ b.row.at
 place_of_row rows s k b =
     let good = s.ids k b.row b.is b.bears in
     ap (λ (e : Element). e.at) (element_is rows k b.row good.id b.row.at b.is good.has refl)
 
-places_apart : (rows : List Elem) → AreSound rows → (i j : ℕ) → Bears rows i → Bears rows j → i ≢ j → (element_of rows i).at ≢ (element_of rows j).at
+places_apart : (rows : List Elem) → AreSoundRows rows → (i j : ℕ) → Bears rows i → Bears rows j → i ≢ j → (element_of rows i).at ≢ (element_of rows j).at
 places_apart rows s i j a b differ same =
     let places : a.row.at ≡ b.row.at = sym (place_of_row rows s i a) ∙ (same ∙ place_of_row rows s j b) in
     elim (leb_tells i j) [
@@ -85,41 +84,33 @@ places_apart rows s i j a b differ same =
       | inr lt ↦ (let k : j < i = lt.1 in let up : b.row.at < a.row.at = s.formed.rising j i b.row a.row k b.is a.is in omega arith)
     ]
 
-pub places_differ : (rows : List Elem) (t : Topology) → AreSound rows → Covers (element_of rows) (Bears rows) (elements t) → AllPairs (λ (d e : Element). d.at ≢ e.at) (elements t)
+pub places_differ : (rows : List Elem) (t : Topology) → AreSoundRows rows → Covers (element_of rows) (Bears rows) (elements t) → AllPairs (λ (d e : Element). d.at ≢ e.at) (elements t)
 places_differ rows t s c =
     subst (λ (v : List Element). AllPairs (λ (d e : Element). d.at ≢ e.at) v) (sym c.same)
     (pairs_from_stands (λ (d e : Element). d.at ≢ e.at) (map (element_of rows) c.ks)
     (stands_mapped (Bears rows) (λ (i j : ℕ). i ≢ j) (λ (d e : Element). d.at ≢ e.at) (element_of rows) (places_apart rows s) c.ks c.good c.apart))
 
-pub few_tracks : (rows : List Elem) (layouts : List Layout) (t : Topology) → AreSound rows → AreLayouts rows layouts → AllZip (IsTrackOf rows layouts) layouts t.tracks → length t.tracks ≤ 128
-few_tracks rows layouts t s h tracks =
-    let one : length layouts ≡ length t.tracks = zip_length (IsTrackOf rows layouts) layouts t.tracks tracks in
-    let two : length (map (λ (l : Layout). l.track) layouts) ≡ length layouts = length-map layouts (λ (l : Layout). l.track) in
-    let three : length (map (λ (l : Layout). l.track) layouts) ≡ length (track_rows rows) = ap length h.tracks in
-    let few = s.few in
-    omega arith
-
 -- ---- mileages
 
 -- the limit of mileages is three times that of numbers
-wider : (b c : ℕ) (z : ℤ) → b ≤ c → IsWithin b z → IsWithin c z
+wider : (b c : ℕ) (z : ℤ) → b ≤ c → IsOfSize b z → IsOfSize c z
 wider b c z h w = let low = w.0 in let high = w.1 in (omega (arith, ints), omega (arith, ints))
 
-sum_within : (b c : ℕ) (x y w z : ℤ) → c ≡ b + b + b → z ≡ (x +ℤ y) -ℤ w → IsWithin b x → IsWithin b y → IsWithin b w → IsWithin c z
+sum_within : (b c : ℕ) (x y w z : ℤ) → c ≡ b + b + b → z ≡ (x +ℤ y) -ℤ w → IsOfSize b x → IsOfSize b y → IsOfSize b w → IsOfSize c z
 sum_within b c x y w z e f hx hy hw =
     let a1 = hx.0 in let a2 = hx.1 in let b1 = hy.0 in let b2 = hy.1 in let c1 = hw.0 in let c2 = hw.1 in
     (omega (arith, ints), omega (arith, ints))
 
-mileage_from : (z : ℤ) → IsWithin (3000000000 * 1000000) z → IsMileage z
+mileage_from : (z : ℤ) → IsOfSize (3000000000 * 1000000) z → IsMileage z
 mileage_from z h = h
 
-position_within : (row : Elem) (z : ℤ) → HasPosition row z → IsWithin (10 ^ 15) z
+position_within : (row : Elem) (z : ℤ) → HasPosition row z → IsOfSize (10 ^ 15) z
 position_within row z p = number_within p.text z p.reads
 
 mile_within : (begin row : Elem) (z : ℤ) → HasMileage begin row z → IsMileage z
 mile_within begin row z h = choose row.attrs.abs_pos h
   where
-    choose : (o : Option (List ℕ)) → MatchOption o (IsMeasured begin row z) (λ text. Reads text z) → IsMileage z
+    choose : (o : Option (List ℕ)) → MatchOption o (IsMeasuredFrom begin row z) (λ text. ReadsMetres text z) → IsMileage z
     choose None m =
         mileage_from z (sum_within (10 ^ 15) (3000000000 * 1000000) m.start m.to m.from z refl m.sum
         (number_within m.starts.text m.start m.starts.reads) (position_within row m.to m.row_at) (position_within begin m.from m.begin_at))
@@ -147,11 +138,10 @@ all_miles rows layouts (l ∷ ls) (track ∷ tracks) h =
 
 -- ---- all of it
 
-pub resolved : (rows : List Elem) (t : Topology) → AreSound rows → IsTopologyOf rows t → IsResolved t
+pub resolved : (rows : List Elem) (t : Topology) → AreSoundRows rows → IsTopologyOf rows t → IsResolved t
 resolved rows t s h =
     let c = covered rows h.layouts t s.formed h.laid_out h.tracks in
     record {
-      tracks = few_tracks rows h.layouts t s h.laid_out h.tracks;
       few = few_elements rows t s c;
       ids = ids_good rows t s c;
       ids_differ = ids_differ rows t s c;

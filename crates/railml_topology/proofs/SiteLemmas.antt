@@ -3,6 +3,7 @@ use Rattle.std.proofs.Common.{◌≡◌, ◌⊎◌, ℕ, suc, zero, ◌<◌, Boo
 use Rattle.std.specs.List.{Contains, filter}
 use Rattle.std.proofs.lemmas.List.Elements.{recursion_from_All}
 use Rattle.std.proofs.lemmas.Option.{slice_get_within, slice_get-get_or, option_and_then_some}
+use Rattle.railml_topology.proofs.IdLemmas.{one_row}
 use Rattle.plan_core.specs.declared.topology.Conn.{Conn}
 use Rattle.plan_core.specs.declared.topology.Place.{Place}
 use Rattle.plan_core.specs.declared.topology.Part.TheVariants as parts
@@ -18,10 +19,9 @@ use Rattle.railml_topology.specs.Resolved.{IsConnOf, IsJoinedAs, IsLayout, AreLa
 use Rattle.railml_topology.specs.Tables.{only_of, IsReferredTo, IsTargetOf, HasTargets, entry_in, AreTablesOf}
 use Rattle.railml_topology.specs.Places.{HasPlaces}
 use Rattle.railml_topology.specs.Sites.{IsEither}
-use Rattle.railml_topology.specs.Sound.{AreSound}
+use Rattle.railml_topology.specs.Sound.{AreSoundRows}
 use Rattle.railml_topology.proofs.Apart.{Among}
 use Rattle.railml_topology.proofs.Family.{contains_from_among, of_kind, is_of_its_kind, has_number, among_filtered, IsChild, has_child, only_child, is_only}
-use Rattle.railml_topology.proofs.ElementLemmas.{same_row}
 use Rattle.railml_topology.proofs.JoinLemmas.{all_at}
 use Rattle.railml_topology.proofs.LayoutLemmas.{entry_child}
 use Rattle.railml_topology.proofs.PlaceLemmas.{way_of_child}
@@ -86,7 +86,7 @@ pub record IsHeldIn (rows : List Elem) (layouts : List Layout) (topology : ℕ) 
   pub laid : IsLayout rows layout
   pub same : topology ≡ layout.topology
 
-topology_layout : (rows : List Elem) (layouts : List Layout) → AreSound rows → AreLayouts rows layouts → (topology : ℕ) (row : Elem) → slice_get rows topology ≡ Some row → row.kind ≡ kinds.Topology → IsHeldIn rows layouts topology
+topology_layout : (rows : List Elem) (layouts : List Layout) → AreSoundRows rows → AreLayouts rows layouts → (topology : ℕ) (row : Elem) → slice_get rows topology ≡ Some row → row.kind ≡ kinds.Topology → IsHeldIn rows layouts topology
 topology_layout rows layouts s h topology row is kind_is =
     let up = parent_of_row rows s.formed topology row is (same_kind_none row.kind kinds.Topology kind_is refl) in
     let track_kind : up.parent.kind ≡ kinds.Track = track_holds up.parent.kind (subst (λ (v : ElemKind). may_hold up.parent.kind v ≡ true) kind_is up.holds) in
@@ -106,7 +106,7 @@ pub record IsHolder (rows : List Elem) (layouts : List Layout) (k : ℕ) : Type 
   pub kind_is : ((row.kind ≡ kinds.Begin) ⊎ (row.kind ≡ kinds.End)) ⊎ ((row.kind ≡ kinds.Switch) ⊎ (row.kind ≡ kinds.Crossing))
   pub in_layout : (n : ℕ) × (l : Layout) × (slice_get layouts n ≡ Some l) × IsLayout rows l × IsChild rows l.topology row.kind holder
 
-holder_of : (rows : List Elem) (layouts : List Layout) → AreSound rows → AreLayouts rows layouts → (k : ℕ) → is_of_kind rows kinds.Connection k ≡ true → IsHolder rows layouts k
+holder_of : (rows : List Elem) (layouts : List Layout) → AreSoundRows rows → AreLayouts rows layouts → (k : ℕ) → is_of_kind rows kinds.Connection k ≡ true → IsHolder rows layouts k
 holder_of rows layouts s h k t =
     let (row, is, kind_is) = of_kind rows kinds.Connection k t in
     let up = parent_of_row rows s.formed k row is (same_kind_none row.kind kinds.Connection kind_is refl) in
@@ -143,13 +143,13 @@ none_below rows i part e none = choose (is_of_kind rows kinds.Connection part) r
     choose false t = ap (filter (is_of_kind rows kinds.Connection)) e ∙ (rw t refl)
     choose true t = let one : children rows i kinds.Connection ≡ part ∷ [] = ap (filter (is_of_kind rows kinds.Connection)) e ∙ (rw t refl) in absurd (let f : None ≡ Some part = sym none ∙ ap only_of one in cc)
 
-parts_at : (rows : List Elem) → AreSound rows → (i : ℕ) (row : Elem) (kind : ElemKind) → slice_get rows i ≡ Some row → row.kind ≡ kind → HasItsParts rows i kind
+parts_at : (rows : List Elem) → AreSoundRows rows → (i : ℕ) (row : Elem) (kind : ElemKind) → slice_get rows i ≡ Some row → row.kind ≡ kind → HasItsParts rows i kind
 parts_at rows s i row kind is e = subst (HasItsParts rows i) e (s.parts i row is)
 
 place_in : (xs : List ℕ) (x : ℕ) → Contains xs x → (k : ℕ) × (slice_get xs k ≡ Some x)
 place_in xs x (k, within, is) = (k, slice_get-get_or xs k x within ∙ ap (λ (v : ℕ). Some v) is)
 
-pub place_exists : (rows : List Elem) (layouts : List Layout) → AreSound rows → AreLayouts rows layouts → (k : ℕ) → is_of_kind rows kinds.Connection k ≡ true → (p : Place) × IsAtPlace rows layouts k p
+pub place_exists : (rows : List Elem) (layouts : List Layout) → AreSoundRows rows → AreLayouts rows layouts → (k : ℕ) → is_of_kind rows kinds.Connection k ≡ true → (p : Place) × IsAtPlace rows layouts k p
 place_exists rows layouts s h k t =
     let o = holder_of rows layouts s h k t in
     let (n, l, at, laid, c) = o.in_layout in
@@ -196,7 +196,7 @@ no_entry (y ∷ ys) (suc k) x e f = no_entry ys k x e f
 pub place_read : (rows : List Elem) (layouts : List Layout) (table : List (Option Place)) → HasPlaces rows layouts table → (k : ℕ) (p : Place) → get_or table k None ≡ Some p → IsAtPlace rows layouts k p
 place_read rows layouts table h k p e = h.only k p (entry_get table k p e)
 
-pub place_missing : (rows : List Elem) (layouts : List Layout) → AreSound rows → AreLayouts rows layouts → (table : List (Option Place)) → HasPlaces rows layouts table → (k : ℕ) → is_of_kind rows kinds.Connection k ≡ true → get_or table k None ≡ None → ⊥
+pub place_missing : (rows : List Elem) (layouts : List Layout) → AreSoundRows rows → AreLayouts rows layouts → (table : List (Option Place)) → HasPlaces rows layouts table → (k : ℕ) → is_of_kind rows kinds.Connection k ≡ true → get_or table k None ≡ None → ⊥
 place_missing rows layouts s l table h k t e =
     let (p, at) = place_exists rows layouts s l k t in
     let there = h.all k p at in
@@ -206,7 +206,7 @@ pub target_is : (rows : List Elem) (table : List (Option ℕ)) → HasTargets ro
 target_is rows table h k j row is e =
     option_and_then_some (λ (x : Option ℕ). x) (slice_get table k) j e (λ x at same. subst (IsTargetOf rows row) same (h.entry k x at row is))
 
-pub target_there : (rows : List Elem) → AreSound rows → (table : List (Option ℕ)) → HasTargets rows table → (k : ℕ) → is_of_kind rows kinds.Connection k ≡ true → (j : ℕ) × (entry_in table k ≡ Some j)
+pub target_there : (rows : List Elem) → AreSoundRows rows → (table : List (Option ℕ)) → HasTargets rows table → (k : ℕ) → is_of_kind rows kinds.Connection k ≡ true → (j : ℕ) × (entry_in table k ≡ Some j)
 target_there rows s table h k t =
     let (row, is, kind_is) = of_kind rows kinds.Connection k t in
     let m = s.mutual_refs k row is kind_is in
@@ -223,21 +223,18 @@ target_kind rows row j r = subst (λ (v : ElemKind). is_of_kind rows v j ≡ tru
 pub conn_made : (rows : List Elem) (layouts : List Layout) (k : ℕ) (row : Elem) (j : ℕ) (c : Conn) → slice_get rows k ≡ Some row → row.attrs.id ≡ Some c.id → row.at ≡ c.at → IsReferredTo rows row j → IsAtPlace rows layouts j c.to → IsConnOf rows layouts k c
 conn_made rows layouts k row j c is id at r place = record { row = row; is = is; id = id; at = at; name = r.name; refers = r.refers; number = j; other = r.other; named = r.named; leads = place }
 
-pub kind_within : (rows : List Elem) (kind : ElemKind) (k : ℕ) → is_of_kind rows kind k ≡ true → k < length rows
-kind_within rows kind k t = let (row, is, e) = of_kind rows kind k t in slice_get_within rows k row is
-
-pub id_there : (rows : List Elem) → AreSound rows → (k : ℕ) (row : Elem) → slice_get rows k ≡ Some row → bears_id row.kind ≡ true → (t : List ℕ) × (row.attrs.id ≡ Some t)
+pub id_there : (rows : List Elem) → AreSoundRows rows → (k : ℕ) (row : Elem) → slice_get rows k ≡ Some row → bears_id row.kind ≡ true → (t : List ℕ) × (row.attrs.id ≡ Some t)
 id_there rows s k row is bears = let good = s.ids k row is bears in (good.id, good.has)
 
 pub bears_by_kind : (rows : List Elem) (kind : ElemKind) (k : ℕ) (row : Elem) → bears_id kind ≡ true → is_of_kind rows kind k ≡ true → slice_get rows k ≡ Some row → bears_id row.kind ≡ true
 bears_by_kind rows kind k row b t is =
     let (r, at, e) = of_kind rows kind k t in
-    let same : r ≡ row = same_row rows k r row at is in
+    let same : r ≡ row = one_row rows k r row at is in
     subst (λ (v : ElemKind). bears_id v ≡ true) (sym (ap (λ (v : Elem). v.kind) (sym same) ∙ e)) b
 
 -- ---- begins and ends
 
-only_child_of : (rows : List Elem) → AreSound rows → (k : ℕ) → IsEither rows k → (k < length rows) × ((part : ℕ) × (all_children rows k ≡ part ∷ []))
+only_child_of : (rows : List Elem) → AreSoundRows rows → (k : ℕ) → IsEither rows k → (k < length rows) × ((part : ℕ) × (all_children rows k ≡ part ∷ []))
 only_child_of rows s k (inl t) = let (row, is, e) = of_kind rows kinds.Begin k t in (slice_get_within rows k row is, parts_at rows s k row kinds.Begin is e)
 only_child_of rows s k (inr t) = let (row, is, e) = of_kind rows kinds.End k t in (slice_get_within rows k row is, parts_at rows s k row kinds.End is e)
 
@@ -249,7 +246,7 @@ joined_kind rows t h k j e =
 pub joined_some : (rows : List Elem) (layouts : List Layout) (t : Tables) → AreTablesOf rows t → (k j : ℕ) (c : Conn) → entry_in t.connections.items k ≡ Some j → IsConnOf rows layouts j c → IsJoinedAs rows layouts k (Some c)
 joined_some rows layouts t h k j c e conn = (j, entry_child rows kinds.Connection t.connections.items k j h.connections e, conn)
 
-pub joined_none : (rows : List Elem) (layouts : List Layout) → AreSound rows → (t : Tables) → AreTablesOf rows t → (k : ℕ) → IsEither rows k → entry_in t.connections.items k ≡ None → IsJoinedAs rows layouts k None
+pub joined_none : (rows : List Elem) (layouts : List Layout) → AreSoundRows rows → (t : Tables) → AreTablesOf rows t → (k : ℕ) → IsEither rows k → entry_in t.connections.items k ≡ None → IsJoinedAs rows layouts k None
 joined_none rows layouts s t h k either e =
     let below = only_child_of rows s k either in
     let inside : k < length t.connections.items = subst (λ n. k < n) (sym h.connections.whole) below.0 in

@@ -7,12 +7,14 @@ use Rattle.std.proofs.lemmas.Bool.Decides.{leb_tells}
 use Rattle.std.proofs.lemmas.List.Elements.{All-from_recursion, recursion_from_All, Contains-get_or}
 use Rattle.std.proofs.lemmas.Option.{same_Some, slice_get-get_or}
 use Rattle.std.proofs.lemmas.Slice.Eq.{bytes_eq-Decides}
+use Rattle.plan_core.proofs.ListFacts.{same_heads}
 use Rattle.plan_core.specs.declared.sides.Hand.{Hand}
 use Rattle.plan_core.specs.declared.sides.Hand.TheVariants.{Left, Right}
 use Rattle.plan_core.specs.Topology.{IsId, IsIdCharacter}
 use Rattle.rail_mileage.specs.Metres.{Parts, IsMetres, mileage}
 use Rattle.rail_mileage.specs.Reading.{parts_of, are_metres}
 use Rattle.rail_mileage.proofs.PartsLemmas.{parts_again, accepted, are_parts}
+use Rattle.plan_core.specs.declared.limits.TheConstants.{MAX_TRACKS}
 use Rattle.railml_read.specs.declared.rows.Elem.{Elem}
 use Rattle.railml_read.specs.declared.rows.ElemKind.{ElemKind}
 use Rattle.railml_read.specs.declared.rows.ElemKind.TheVariants as kinds
@@ -20,10 +22,10 @@ use Rattle.railml_read.specs.Formed.{AreFormed}
 use Rattle.railml_topology.specs.declared.attributes.Attribute.{Attribute}
 use Rattle.railml_topology.specs.declared.attributes.Attribute.TheVariants as attributes
 use Rattle.railml_topology.specs.declared.fault.TopologyWhat.TheVariants.{TooMany, Missing, Id, RepeatedId, Number, UnknownRef, NotMutual, SelfRef, EndKind, Course, Orientation}
-use Rattle.railml_topology.specs.Rows.{same_kind, track_rows, all_children, children, parent_of, bears_id, bears_position, id_of, BearsId, IsConnectionNamed, text_of, name_of, is_word, required_of, required, lacking, Reads, HasPosition}
+use Rattle.railml_topology.specs.Rows.{same_kind, track_rows, all_children, children, parent_of, bears_id, bears_position, id_of, BearsId, IsConnectionNamed, text_of, name_of, is_word, required_of, required, lacking, ReadsMetres, HasPosition}
 use Rattle.railml_topology.specs.Faults.{IsNoNumber, HasNoNumber, RefersTo, IsWholeTrack, AreOrientedAlike, HasTwoWays, HasItsParts, IsHand, IsStraight, IsCourseAt, IsConnectionOf, IsWay, HasNoFault}
 use Rattle.railml_topology.specs.Resolved.{way_word, hand_word, HasAbsPos, IsCourseOf}
-use Rattle.railml_topology.specs.Sound.{HasGoodId, IsMutual, IsConnectionOfInner, AreSound}
+use Rattle.railml_topology.specs.Sound.{HasGoodId, IsMutual, IsConnectionOfInner, AreSoundRows}
 use Rattle.railml_topology.proofs.Family.{among_from_contains, same_kind_is, same_kind_self}
 use Rattle.railml_topology.proofs.ElementLemmas.{track_rows_kind}
 
@@ -107,7 +109,7 @@ metres_known text = choose (are_metres (parts_of text)) refl
     choose true e = inl (parts_of text, are_parts text e)
     choose false e = inr (λ parts m. (let t = accepted text parts m in let same = ap are_metres (parts_again text parts m) in cc))
 
-reads_unless : (text : List ℕ) → (((parts : Parts) → IsMetres text parts → ⊥) → ⊥) → (z : ℤ) × Reads text z
+reads_unless : (text : List ℕ) → (((parts : Parts) → IsMetres text parts → ⊥) → ⊥) → (z : ℤ) × ReadsMetres text z
 reads_unless text h = elim (metres_known text) [
   | inl m ↦ ((mileage m.0).0, record { parts = m.0; metres = m.1; is = refl })
   | inr none ↦ absurd (h none)
@@ -200,14 +202,14 @@ require_below rows h i row parent k is of a required_a =
 
 -- ---- what holds of each row
 
-few_tracks : (rows : List Elem) → HasNoFault rows → length (track_rows rows) ≤ 128
-few_tracks rows h = elim (leb_tells (length (track_rows rows)) 128) [
+few_tracks : (rows : List Elem) → HasNoFault rows → length (track_rows rows) ≤ MAX_TRACKS
+few_tracks rows h = elim (leb_tells (length (track_rows rows)) MAX_TRACKS) [
   | inl le ↦ le.1
   | inr lt ↦
-      let within : 128 < length (track_rows rows) = lt.1 in
-      let k = get_or (track_rows rows) 128 0 in
-      let there = track_rows_kind rows k (among_from_contains (track_rows rows) k (Contains-get_or (track_rows rows) 128 0 within)) in
-      absurd (h TooMany there.0.at [] [] (record { number = k; row = there.0; is = there.1; place = refl; fault = (slice_get-get_or (track_rows rows) 128 0 within, refl, refl) }))
+      let within : MAX_TRACKS < length (track_rows rows) = lt.1 in
+      let k = get_or (track_rows rows) MAX_TRACKS 0 in
+      let there = track_rows_kind rows k (among_from_contains (track_rows rows) k (Contains-get_or (track_rows rows) MAX_TRACKS 0 within)) in
+      absurd (h TooMany there.0.at [] [] (record { number = k; row = there.0; is = there.1; place = refl; fault = (slice_get-get_or (track_rows rows) MAX_TRACKS 0 within, refl, refl) }))
 ]
 
 good_id : (rows : List Elem) → HasNoFault rows → (i : ℕ) (row : Elem) → slice_get rows i ≡ Some row → bears_id row.kind ≡ true → HasGoodId row
@@ -240,7 +242,7 @@ position_of_row rows h i row is bears =
     let (z, reads) = reads_unless there.0 (λ none. no_bad_number rows h i row is attributes.Pos (bears, subst IsNoNumber (sym there.1) none)) in
     (z, record { text = there.0; has = there.1; reads = reads })
 
-mileage_of_row : (rows : List Elem) → HasNoFault rows → (i : ℕ) (row : Elem) (text : List ℕ) → slice_get rows i ≡ Some row → bears_position row.kind ≡ true → row.attrs.abs_pos ≡ Some text → (z : ℤ) × Reads text z
+mileage_of_row : (rows : List Elem) → HasNoFault rows → (i : ℕ) (row : Elem) (text : List ℕ) → slice_get rows i ≡ Some row → bears_position row.kind ≡ true → row.attrs.abs_pos ≡ Some text → (z : ℤ) × ReadsMetres text z
 mileage_of_row rows h i row text is bears has =
     reads_unless text (λ none. no_bad_number rows h i row is attributes.AbsPos
     (bears, (λ bad. no_bad_number rows h i row is attributes.Pos (bears, bad)), subst IsNoNumber (sym has) none))
@@ -320,13 +322,10 @@ pair (c ∷ d ∷ b ∷ xs) = inr (λ a g e. cc)
 single_stable : (xs : List ℕ) → Stable ((c : ℕ) × (xs ≡ c ∷ []))
 single_stable xs h = elim (single xs) [ inl one ↦ one | inr none ↦ absurd (h (λ one. none one.0 one.1)) ]
 
-heads : (a b : ℕ) (xs ys : List ℕ) → a ∷ xs ≡ b ∷ ys → a ≡ b
-heads a b xs ys e = cc
-
 whole_stable : (rows : List Elem) (i : ℕ) → Stable (IsWholeTrack rows i)
 whole_stable rows i h =
     let topology = single_stable (children rows i kinds.Topology) (λ none. h (λ w. none (w.topology, w.one_topology))) in
-    let same : (w : IsWholeTrack rows i) → w.topology ≡ topology.0 = (λ w. heads w.topology topology.0 [] [] (sym w.one_topology ∙ topology.1)) in
+    let same : (w : IsWholeTrack rows i) → w.topology ≡ topology.0 = (λ w. same_heads w.topology topology.0 [] [] (sym w.one_topology ∙ topology.1)) in
     let begin = single_stable (children rows topology.0 kinds.Begin) (λ none. h (λ w. none (w.begin, ap (λ k. children rows k kinds.Begin) (sym (same w)) ∙ w.one_begin))) in
     let end = single_stable (children rows topology.0 kinds.End) (λ none. h (λ w. none (w.end, ap (λ k. children rows k kinds.End) (sym (same w)) ∙ w.one_end))) in
     record { topology = topology.0; begin = begin.0; end = end.0; one_topology = topology.1; one_begin = begin.1; one_end = end.1 }
@@ -425,7 +424,7 @@ hand_of_row rows h i row crossing is of leaving =
 
 -- ---- all of it
 
-pub sound : (rows : List Elem) → AreFormed rows → HasNoFault rows → AreSound rows
+pub sound : (rows : List Elem) → AreFormed rows → HasNoFault rows → AreSoundRows rows
 sound rows f h = record {
   formed = f;
   few = few_tracks rows h;

@@ -1,5 +1,5 @@
 -- Entries of a table after a push and after a write.
-use Rattle.std.proofs.Common.{◌≡◌, ℕ, suc, zero, ◌<◌, ◌+◌, ◌⊎◌, ◌≢◌, List, [], ◌∷◌, ◌++◌, length, Some, slice_get, refl, sym, ◌∙◌, ap, subst, inl, inr, arith, length-append}
+use Rattle.std.proofs.Common.{◌≡◌, ℕ, suc, zero, ◌+◌, ◌⊎◌, ◌≢◌, List, [], ◌∷◌, ◌++◌, length, Some, slice_get, refl, sym, ◌∙◌, ap, subst, inl, inr, arith, length-append}
 use Rattle.std.proofs.Math.ListN.{set}
 use Rattle.std.proofs.lemmas.Option.{same_Some, none-some}
 use Rattle.railml_read.specs.declared.rows.Elem.{Elem}
@@ -53,9 +53,3 @@ one_first {X} {Q} {n} {table} {x} {longer} h e q = record {
 
 pub all_first : {X : Type 0} {Q : ℕ → X → Type 0} {n : ℕ} {rows : List Elem} {table : List X} → HasFirst Q n table → n ≡ length rows → HasEntries Q rows table
 all_first h e = record { whole = h.counted ∙ e; entry = h.entry }
-
--- within a list there is an entry
-pub there : {X : Type 0} (xs : List X) (i : ℕ) → i < length xs → (x : X) × (slice_get xs i ≡ Some x)
-there [] i h = absurd (omega arith)
-there (x ∷ xs) zero h = (x, refl)
-there (x ∷ xs) (suc i) h = there xs i (omega arith)

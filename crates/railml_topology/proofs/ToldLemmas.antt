@@ -10,10 +10,10 @@ use Rattle.railml_topology.specs.declared.fault.TopologyWhat.TheVariants.{NoTrac
 use Rattle.railml_topology.specs.declared.finding.Finding.{Finding}
 use Rattle.railml_topology.specs.declared.telling.Told.{Told}
 use Rattle.railml_topology.specs.Rows.{track_rows, name_of, id_of}
-use Rattle.railml_topology.specs.Faults.{RepeatsId, IsNotReferredBack, HasFault, HasFaultAt, HasNoTracks, IsFault, IsFirstFault, HasNoFault, number_of}
-use Rattle.railml_topology.specs.Telling.{HasKind, HasNoneOf, IsLowest, first_of, IsSecond, IsFound, IsToldOf, IsFirstTold, TellsNoTracks}
+use Rattle.railml_topology.specs.Faults.{RepeatsId, IsNotReferredBack, HasTopologyFault, HasFaultAt, HasNoTracks, IsTopologyFault, IsFirstTopologyFault, HasNoFault, number_of}
+use Rattle.railml_topology.specs.Telling.{HasKind, HasNone, IsLowest, first_of, IsSecond, IsFound, IsToldOf, IsFirstTold, TellsNoTracks}
 use Rattle.railml_topology.proofs.IdLemmas.{one_row, row_at}
-use Rattle.railml_topology.proofs.FaultLemmas.{numbers_from_one, numbers_to_thirteen}
+use Rattle.railml_topology.proofs.FaultLemmas.{numbers_from_one}
 
 module _ (rows : List Elem) (i : ℕ) (row : Elem) (at : slice_get rows i ≡ Some row) (first second : List ℕ) where
   repeated : (id : List ℕ) → RepeatsId rows i id → first ≡ id_of row → RepeatsId rows i first
@@ -22,7 +22,7 @@ module _ (rows : List Elem) (i : ℕ) (row : Elem) (at : slice_get rows i ≡ So
       let own : id_of row ≡ id = ap id_of (sym one) ∙ ap (λ o. unwrap_or o []) r.here.has in
       subst (RepeatsId rows i) (sym (f ∙ own)) r
 
-  pub told_texts : (what : TopologyWhat) → HasKind rows what i row → first ≡ first_of rows row what → IsSecond row what second → HasFault rows what i row first second
+  pub told_texts : (what : TopologyWhat) → HasKind rows what i row → first ≡ first_of rows row what → IsSecond row what second → HasTopologyFault rows what i row first second
   told_texts NoTracks h f s = absurd h.2
   told_texts TooMany h f s = (h.2.0, f, s)
   told_texts Missing h f s = (h.2.0, h.2.1, f ∙ ap (λ o. option_map_or name_of o []) h.2.1, s)
@@ -40,8 +40,8 @@ module _ (rows : List Elem) (i : ℕ) (row : Elem) (at : slice_get rows i ≡ So
 -- ---- a fault of rows is that there is no track, or that of a row
 
 module _ (rows : List Elem) (at : ℕ) (first second : List ℕ) where
-  fault_at : (what : TopologyWhat) → IsFault rows what at first second → HasNoTracks rows at first second ⊎ HasFaultAt rows what at first second
-  fault_at NoTracks h = inl h
+  pub fault_at : (what : TopologyWhat) → IsTopologyFault rows what at first second → ((what ≡ NoTracks) × HasNoTracks rows at first second) ⊎ HasFaultAt rows what at first second
+  fault_at NoTracks h = inl (refl, h)
   fault_at TooMany h = inr h
   fault_at Missing h = inr h
   fault_at Id h = inr h
@@ -55,7 +55,7 @@ module _ (rows : List Elem) (at : ℕ) (first second : List ℕ) where
   fault_at Orientation h = inr h
   fault_at OutsideTrack h = inr h
 
-  is_fault : (what : TopologyWhat) → HasFaultAt rows what at first second → IsFault rows what at first second
+  is_fault : (what : TopologyWhat) → HasFaultAt rows what at first second → IsTopologyFault rows what at first second
   is_fault NoTracks h = absurd h.fault
   is_fault TooMany h = h
   is_fault Missing h = h
@@ -70,28 +70,12 @@ module _ (rows : List Elem) (at : ℕ) (first second : List ℕ) where
   is_fault Orientation h = h
   is_fault OutsideTrack h = h
 
--- that there is no track is told of no row
-of_row : (rows : List Elem) (i : ℕ) (row : Elem) (first second : List ℕ) (what : TopologyWhat) → HasFault rows what i row first second → 2 ≤ number_of what
-of_row rows i row first second NoTracks h = absurd h
-of_row rows i row first second TooMany h = omega arith
-of_row rows i row first second Missing h = omega arith
-of_row rows i row first second Id h = omega arith
-of_row rows i row first second RepeatedId h = omega arith
-of_row rows i row first second Number h = omega arith
-of_row rows i row first second UnknownRef h = omega arith
-of_row rows i row first second NotMutual h = omega arith
-of_row rows i row first second SelfRef h = omega arith
-of_row rows i row first second EndKind h = omega arith
-of_row rows i row first second Course h = omega arith
-of_row rows i row first second Orientation h = omega arith
-of_row rows i row first second OutsideTrack h = omega arith
-
 -- ---- the first fault
 
 pub told_no_tracks : (rows : List Elem) (told : Told) → slice_get (track_rows rows) 0 ≡ None → TellsNoTracks told → IsFirstTold rows told
 told_no_tracks rows told none t =
     let start : told.at ≡ 0 = t.start in
-    subst (λ (what : TopologyWhat). IsFirstFault rows what told.at told.first told.second) (sym t.what) (record {
+    subst (λ (what : TopologyWhat). IsFirstTopologyFault rows what told.at told.first told.second) (sym t.what) (record {
       holds = record { none = empty (track_rows rows) none; start = start; no_first = t.no_first; no_second = t.no_second };
       lowest = λ other place a b less h. (let more = numbers_from_one other in absurd (omega arith));
       least = λ place a b before h. absurd (omega arith);
@@ -105,23 +89,19 @@ some_track : (rows : List Elem) → (slice_get (track_rows rows) 0 ≡ None → 
 some_track rows some none = some (ap (λ l. slice_get l 0) none)
 
 -- rows with a track, of which this is the lowest kind of fault and this the first row that has it
-pub told_first : (rows : List Elem) (found : Finding) (told : Told) → AreFormed rows → (slice_get (track_rows rows) 0 ≡ None → ⊥) → IsLowest rows 2 14 found.what found.row → IsToldOf rows found told → IsFirstTold rows told
-told_first rows found told formed some l t = subst (λ (what : TopologyWhat). IsFirstFault rows what told.at told.first told.second) (sym t.same) (record {
+pub told_first : (rows : List Elem) (found : Finding) (told : Told) → AreFormed rows → (slice_get (track_rows rows) 0 ≡ None → ⊥) → IsLowest rows found.what found.row → IsToldOf rows found told → IsFirstTold rows told
+told_first rows found told formed some l t = subst (λ (what : TopologyWhat). IsFirstTopologyFault rows what told.at told.first told.second) (sym t.same) (record {
   holds = is_fault rows told.at told.first told.second found.what (record { number = found.row; row = t.row; is = t.is; place = t.place; fault = t.fault });
   lowest = λ other place a b less h. lower other place a b less (fault_at rows place a b other h);
   least = λ place a b before h. earlier place a b before (fault_at rows place a b found.what h);
 })
   where
-    lower : (other : TopologyWhat) (place : ℕ) (a b : List ℕ) → number_of other < number_of found.what → HasNoTracks rows place a b ⊎ HasFaultAt rows other place a b → ⊥
-    lower other place a b less (inl h) = some_track rows some h.none
-    lower other place a b less (inr h) = by (cases_lt (number_of other) 2)
-      where
-        by : (number_of other < 2) ⊎ (2 ≤ number_of other) → ⊥
-        by (inl low) = let from = of_row rows h.number h.row a b other h.fault in omega arith
-        by (inr from) = (l.lower.none other from less).none h.number h.row (slice_get_within rows h.number h.row h.is) h.is (a, b, h.fault)
+    lower : (other : TopologyWhat) (place : ℕ) (a b : List ℕ) → number_of other < number_of found.what → ((other ≡ NoTracks) × HasNoTracks rows place a b) ⊎ HasFaultAt rows other place a b → ⊥
+    lower other place a b less (inl h) = some_track rows some h.1.none
+    lower other place a b less (inr h) = (l.lower.none other less).none h.number h.row (slice_get_within rows h.number h.row h.is) h.is (a, b, h.fault)
 
-    earlier : (place : ℕ) (a b : List ℕ) → place < told.at → HasNoTracks rows place a b ⊎ HasFaultAt rows found.what place a b → ⊥
-    earlier place a b before (inl h) = some_track rows some h.none
+    earlier : (place : ℕ) (a b : List ℕ) → place < told.at → ((found.what ≡ NoTracks) × HasNoTracks rows place a b) ⊎ HasFaultAt rows found.what place a b → ⊥
+    earlier place a b before (inl h) = some_track rows some h.1.none
     earlier place a b before (inr h) = by (cases_lt h.number found.row) (cases_eq h.number found.row)
       where
         by : (h.number < found.row) ⊎ (found.row ≤ h.number) → (h.number ≡ found.row) ⊎ (h.number ≡ found.row → ⊥) → ⊥
@@ -135,12 +115,12 @@ told_first rows found told formed some l t = subst (λ (what : TopologyWhat). Is
             let rising = formed.rising found.row h.number t.row h.row later t.is h.is in
             omega (arith, rising, t.place, h.place)
 
-pub no_fault : (rows : List Elem) → (slice_get (track_rows rows) 0 ≡ None → ⊥) → HasNoneOf rows 2 14 → HasNoFault rows
+pub no_fault : (rows : List Elem) → (slice_get (track_rows rows) 0 ≡ None → ⊥) → HasNone rows → HasNoFault rows
 no_fault rows some none = λ what at first second h. by what at first second (fault_at rows at first second what h)
   where
-    by : (what : TopologyWhat) (at : ℕ) (first second : List ℕ) → HasNoTracks rows at first second ⊎ HasFaultAt rows what at first second → ⊥
-    by what at first second (inl h) = some_track rows some h.none
-    by what at first second (inr h) = (none.none what (of_row rows h.number h.row first second what h.fault) (numbers_to_thirteen what)).none h.number h.row (slice_get_within rows h.number h.row h.is) h.is (first, second, h.fault)
+    by : (what : TopologyWhat) (at : ℕ) (first second : List ℕ) → ((what ≡ NoTracks) × HasNoTracks rows at first second) ⊎ HasFaultAt rows what at first second → ⊥
+    by what at first second (inl h) = some_track rows some h.1.none
+    by what at first second (inr h) = (none what).none h.number h.row (slice_get_within rows h.number h.row h.is) h.is (first, second, h.fault)
 
 -- ---- what the code knows
 

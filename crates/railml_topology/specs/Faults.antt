@@ -1,6 +1,7 @@
 -- The thirteen things that can be wrong with a document's rows, each with the element that it is told of
 -- and the texts that are told with it; and which of them is told where there are several.
 use Rattle.std.specs.Prelude.{◌≡◌, ◌⊎◌, ◌<◌, ℕ, true, codes, List, [], ◌∷◌, Some, None, Option, slice_get, ⊤}
+use Rattle.plan_core.specs.declared.limits.TheConstants.{MAX_TRACKS}
 use Rattle.plan_core.specs.Topology.{IsId}
 use Rattle.railml_read.specs.declared.rows.Elem.{Elem}
 use Rattle.railml_read.specs.declared.rows.ElemKind.{ElemKind}
@@ -10,7 +11,7 @@ use Rattle.railml_topology.specs.declared.attributes.Attribute.{Attribute}
 use Rattle.railml_topology.specs.declared.attributes.Attribute.TheVariants as attributes
 use Rattle.railml_topology.specs.declared.fault.TopologyWhat.{TopologyWhat}
 use Rattle.railml_topology.specs.declared.fault.TopologyWhat.TheVariants.{NoTracks, TooMany, Missing, Id, RepeatedId, Number, UnknownRef, NotMutual, SelfRef, EndKind, Course, Orientation, OutsideTrack}
-use Rattle.railml_topology.specs.Rows.{track_rows, all_children, children, parent_of, bears_id, bears_position, id_of, BearsId, IsConnectionNamed, name_of, lacking, ComesBefore, IsBeginOf, IsEndOf}
+use Rattle.railml_topology.specs.Rows.{track_rows, all_children, children, parent_of, bears_id, bears_position, id_of, BearsId, IsConnectionNamed, name_of, lacking, ComesBefore, IsBeginBeside, IsEndBeside}
 
 -- 3: this is the first of the required attributes that the row lacks
 abbrev pub Lacks : List Elem → Elem → Attribute → Type 0
@@ -163,10 +164,10 @@ pub record HasBadOrientation (rows : List Elem) (row : Elem) : Type 0 where
   pub bad : IsWay word → ⊥
 
 abbrev pub IsBeforeBegin : List Elem → Elem → Type 0
-IsBeforeBegin rows row = (begin : Elem) × IsBeginOf rows row begin × ComesBefore row begin
+IsBeforeBegin rows row = (begin : Elem) × IsBeginBeside rows row begin × ComesBefore row begin
 
 abbrev pub IsBehindEnd : List Elem → Elem → Type 0
-IsBehindEnd rows row = (end : Elem) × IsEndOf rows row end × ComesBefore end row
+IsBehindEnd rows row = (end : Elem) × IsEndBeside rows row end × ComesBefore end row
 
 -- 13
 abbrev pub LiesOutside : List Elem → Elem → ElemKind → Type 0
@@ -182,20 +183,20 @@ abbrev pub IsUntold : List ℕ → Type 0
 IsUntold text = text ≡ []
 
 -- row i has this fault, which is told with these texts; that there is no track is told of no row
-abbrev pub HasFault : List Elem → TopologyWhat → ℕ → Elem → List ℕ → List ℕ → Type 0
-HasFault rows NoTracks i row first second = ⊥
-HasFault rows TooMany i row first second = (slice_get (track_rows rows) 128 ≡ Some i) × IsUntold first × IsUntold second
-HasFault rows Missing i row first second = (attribute : Attribute) × Lacks rows row attribute × (first ≡ name_of attribute) × IsUntold second
-HasFault rows Id i row first second = HasBadId row × IsUntold first × IsUntold second
-HasFault rows RepeatedId i row first second = RepeatsId rows i first × IsUntold second
-HasFault rows Number i row first second = (attribute : Attribute) × HasNoNumber row attribute × (first ≡ id_of row) × (second ≡ name_of attribute)
-HasFault rows UnknownRef i row first second = RefersToNone rows row × (first ≡ id_of row) × IsUntold second
-HasFault rows NotMutual i row first second = IsNotReferredBack rows row second × (first ≡ id_of row)
-HasFault rows SelfRef i row first second = RefersToItself row × (first ≡ id_of row) × IsUntold second
-HasFault rows EndKind i row first second = LacksItsParts rows i row × (first ≡ id_of row) × IsUntold second
-HasFault rows Course i row first second = HasBadCourse rows row × (first ≡ id_of row) × IsUntold second
-HasFault rows Orientation i row first second = HasBadOrientation rows row × (first ≡ id_of row) × IsUntold second
-HasFault rows OutsideTrack i row first second = LiesOutside rows row row.kind × (first ≡ id_of row) × IsUntold second
+abbrev pub HasTopologyFault : List Elem → TopologyWhat → ℕ → Elem → List ℕ → List ℕ → Type 0
+HasTopologyFault rows NoTracks i row first second = ⊥
+HasTopologyFault rows TooMany i row first second = (slice_get (track_rows rows) MAX_TRACKS ≡ Some i) × IsUntold first × IsUntold second
+HasTopologyFault rows Missing i row first second = (attribute : Attribute) × Lacks rows row attribute × (first ≡ name_of attribute) × IsUntold second
+HasTopologyFault rows Id i row first second = HasBadId row × IsUntold first × IsUntold second
+HasTopologyFault rows RepeatedId i row first second = RepeatsId rows i first × IsUntold second
+HasTopologyFault rows Number i row first second = (attribute : Attribute) × HasNoNumber row attribute × (first ≡ id_of row) × (second ≡ name_of attribute)
+HasTopologyFault rows UnknownRef i row first second = RefersToNone rows row × (first ≡ id_of row) × IsUntold second
+HasTopologyFault rows NotMutual i row first second = IsNotReferredBack rows row second × (first ≡ id_of row)
+HasTopologyFault rows SelfRef i row first second = RefersToItself row × (first ≡ id_of row) × IsUntold second
+HasTopologyFault rows EndKind i row first second = LacksItsParts rows i row × (first ≡ id_of row) × IsUntold second
+HasTopologyFault rows Course i row first second = HasBadCourse rows row × (first ≡ id_of row) × IsUntold second
+HasTopologyFault rows Orientation i row first second = HasBadOrientation rows row × (first ≡ id_of row) × IsUntold second
+HasTopologyFault rows OutsideTrack i row first second = LiesOutside rows row row.kind × (first ≡ id_of row) × IsUntold second
 
 -- a row that has this fault, and whose start tag stands at this place
 pub record HasFaultAt (rows : List Elem) (what : TopologyWhat) (at : ℕ) (first second : List ℕ) : Type 0 where
@@ -203,7 +204,7 @@ pub record HasFaultAt (rows : List Elem) (what : TopologyWhat) (at : ℕ) (first
   pub row : Elem
   pub is : slice_get rows number ≡ Some row
   pub place : at ≡ row.at
-  pub fault : HasFault rows what number row first second
+  pub fault : HasTopologyFault rows what number row first second
 
 -- there is no track, which is told of the start of the file
 pub record HasNoTracks (rows : List Elem) (at : ℕ) (first second : List ℕ) : Type 0 where
@@ -213,9 +214,9 @@ pub record HasNoTracks (rows : List Elem) (at : ℕ) (first second : List ℕ) :
   pub no_second : IsUntold second
 
 -- the rows have this fault at this place, and these are the texts that are told with it
-abbrev pub IsFault : List Elem → TopologyWhat → ℕ → List ℕ → List ℕ → Type 0
-IsFault rows NoTracks at first second = HasNoTracks rows at first second
-IsFault rows what at first second = HasFaultAt rows what at first second
+abbrev pub IsTopologyFault : List Elem → TopologyWhat → ℕ → List ℕ → List ℕ → Type 0
+IsTopologyFault rows NoTracks at first second = HasNoTracks rows at first second
+IsTopologyFault rows what at first second = HasFaultAt rows what at first second
 
 -- ---- which fault is told
 
@@ -234,12 +235,28 @@ number_of Course = 11
 number_of Orientation = 12
 number_of OutsideTrack = 13
 
+-- the words of the table
+abbrev pub word_of : TopologyWhat → List ℕ
+word_of NoTracks = codes "NoTracks"
+word_of TooMany = codes "TooMany"
+word_of Missing = codes "Missing"
+word_of Id = codes "Id"
+word_of RepeatedId = codes "RepeatedId"
+word_of Number = codes "Number"
+word_of UnknownRef = codes "UnknownRef"
+word_of NotMutual = codes "NotMutual"
+word_of SelfRef = codes "SelfRef"
+word_of EndKind = codes "EndKind"
+word_of Course = codes "Course"
+word_of Orientation = codes "Orientation"
+word_of OutsideTrack = codes "OutsideTrack"
+
 -- of all faults this one has the lowest number, and the least place among those of its kind
-pub record IsFirstFault (rows : List Elem) (what : TopologyWhat) (at : ℕ) (first second : List ℕ) : Type 0 where
-  pub holds : IsFault rows what at first second
-  pub lowest : (other : TopologyWhat) (place : ℕ) (a b : List ℕ) → number_of other < number_of what → IsFault rows other place a b → ⊥
-  pub least : (place : ℕ) (a b : List ℕ) → place < at → IsFault rows what place a b → ⊥
+pub record IsFirstTopologyFault (rows : List Elem) (what : TopologyWhat) (at : ℕ) (first second : List ℕ) : Type 0 where
+  pub holds : IsTopologyFault rows what at first second
+  pub lowest : (other : TopologyWhat) (place : ℕ) (a b : List ℕ) → number_of other < number_of what → IsTopologyFault rows other place a b → ⊥
+  pub least : (place : ℕ) (a b : List ℕ) → place < at → IsTopologyFault rows what place a b → ⊥
 
 -- nothing is wrong
 abbrev pub HasNoFault : List Elem → Type 0
-HasNoFault rows = (what : TopologyWhat) (at : ℕ) (first second : List ℕ) → IsFault rows what at first second → ⊥
+HasNoFault rows = (what : TopologyWhat) (at : ℕ) (first second : List ℕ) → IsTopologyFault rows what at first second → ⊥

@@ -1,7 +1,9 @@
 -- Ids: which characters they have, and which row's number an id is kept with.
 use Rattle.std.specs.Prelude.{◌≡◌, ◌<◌, ℕ, Bool, if◌then◌else◌, List, Option, Some, None, bytes_eq, slice_get, nat_lt, ◌&&◌, ◌||◌, ⊤}
 use Rattle.std.specs.Borrow.{Bor}
-use Rattle.std.specs.HashMap.{HashMap, get_by}
+use Rattle.std.specs.BTreeMap.{BTreeMap, get_by}
+use Rattle.std.specs.Cmp.Lexicographic.{slice_cmp}
+use Rattle.std.specs.Ordering.{nat_cmp}
 use Rattle.railml_read.specs.declared.rows.Elem.{Elem}
 use Rattle.railml_read.specs.declared.rows.ElemKind.TheVariants.{Connection}
 use Rattle.railml_topology.specs.Rows.{same_kind, bears_id}
@@ -11,12 +13,12 @@ abbrev pub is_id_character : ℕ → Bool
 is_id_character c = nat_lt 32 c && (nat_lt c 127 || nat_lt 160 c)
 
 -- the number that an id is kept with
-abbrev pub number_in : {S : Type 0} → HashMap (Bor (List ℕ)) ℕ S → List ℕ → Option ℕ
-number_in {S} numbers id = get_by (λ k. bytes_eq id k.now) numbers
+abbrev pub number_in : BTreeMap (Bor (List ℕ)) ℕ → List ℕ → Option ℕ
+number_in numbers id = get_by (λ k. slice_cmp nat_cmp id k.now) numbers
 
 -- one id has this number from now on, and each other the number that it had
-abbrev pub Numbers : {S : Type 0} → HashMap (Bor (List ℕ)) ℕ S → HashMap (Bor (List ℕ)) ℕ S → List ℕ → ℕ → Type 0
-Numbers {S} old new id number = (q : List ℕ) → number_in new q ≡ (if bytes_eq id q then Some number else number_in old q)
+abbrev pub Numbers : BTreeMap (Bor (List ℕ)) ℕ → BTreeMap (Bor (List ℕ)) ℕ → List ℕ → ℕ → Type 0
+Numbers old new id number = (q : List ℕ) → number_in new q ≡ (if bytes_eq id q then Some number else number_in old q)
 
 -- a row's id, if it has one that counts
 abbrev pub own_id : Elem → Option (List ℕ)
@@ -31,18 +33,18 @@ abbrev pub reference_of : Elem → Option (List ℕ)
 reference_of row = if same_kind row.kind Connection then row.attrs.reference else None
 
 -- a row's id, if it has one, has this number from now on
-abbrev pub AddsId : {S : Type 0} → HashMap (Bor (List ℕ)) ℕ S → HashMap (Bor (List ℕ)) ℕ S → Option (List ℕ) → ℕ → Type 0
-AddsId {S} old new None number = (q : List ℕ) → number_in new q ≡ number_in old q
-AddsId {S} old new (Some id) number = Numbers old new id number
+abbrev pub AddsId : BTreeMap (Bor (List ℕ)) ℕ → BTreeMap (Bor (List ℕ)) ℕ → Option (List ℕ) → ℕ → Type 0
+AddsId old new None number = (q : List ℕ) → number_in new q ≡ number_in old q
+AddsId old new (Some id) number = Numbers old new id number
 
 -- there is an id, and it is kept; where there is one, it isn't
-abbrev pub IsKept : {S : Type 0} → HashMap (Bor (List ℕ)) ℕ S → Option (List ℕ) → Type 0
-IsKept {S} numbers None = ⊥
-IsKept {S} numbers (Some id) = (j : ℕ) × (number_in numbers id ≡ Some j)
+abbrev pub IsKnownId : BTreeMap (Bor (List ℕ)) ℕ → Option (List ℕ) → Type 0
+IsKnownId numbers None = ⊥
+IsKnownId numbers (Some id) = (j : ℕ) × (number_in numbers id ≡ Some j)
 
-abbrev pub IsNotKept : {S : Type 0} → HashMap (Bor (List ℕ)) ℕ S → Option (List ℕ) → Type 0
-IsNotKept {S} numbers None = ⊤
-IsNotKept {S} numbers (Some id) = number_in numbers id ≡ None
+abbrev pub IsNewId : BTreeMap (Bor (List ℕ)) ℕ → Option (List ℕ) → Type 0
+IsNewId numbers None = ⊤
+IsNewId numbers (Some id) = number_in numbers id ≡ None
 
 -- row j, one of the first n, has this id
 pub record HasIdAt (id_at : Elem → Option (List ℕ)) (rows : List Elem) (n j : ℕ) (id : List ℕ) : Type 0 where
@@ -52,6 +54,6 @@ pub record HasIdAt (id_at : Elem → Option (List ℕ)) (rows : List Elem) (n j 
   pub has : id_at row ≡ Some id
 
 -- ids of the first n rows are kept with the number of a row that has them, and no id is left out
-pub record KeepsIds {S : Type 0} (id_at : Elem → Option (List ℕ)) (rows : List Elem) (n : ℕ) (numbers : HashMap (Bor (List ℕ)) ℕ S) : Type 0 where
+pub record KeepsIds (id_at : Elem → Option (List ℕ)) (rows : List Elem) (n : ℕ) (numbers : BTreeMap (Bor (List ℕ)) ℕ) : Type 0 where
   pub found : (id : List ℕ) (j : ℕ) → number_in numbers id ≡ Some j → HasIdAt id_at rows n j id
   pub missed : (id : List ℕ) (j : ℕ) → number_in numbers id ≡ None → HasIdAt id_at rows n j id → ⊥

@@ -12,7 +12,7 @@ use Rattle.railml_topology.specs.Resolved.{IsBranchOf, IsWayOf, IsAtPart, IsAtPl
 use Rattle.railml_topology.specs.Tables.{entry_in}
 
 -- an entry of a table isn't empty
-pub record IsThere {X : Type 0} (table : List (Option X)) (i : ℕ) : Type 0 where
+pub record IsFilled {X : Type 0} (table : List (Option X)) (i : ℕ) : Type 0 where
   pub entry : X
   pub is : entry_in table i ≡ Some entry
 
@@ -20,8 +20,8 @@ pub record IsThere {X : Type 0} (table : List (Option X)) (i : ℕ) : Type 0 whe
 pub record Adds (T : ℕ → Place → Type 0) (old new : List (Option Place)) : Type 0 where
   pub whole : length new ≡ length old
   pub only : (i : ℕ) (p : Place) → entry_in new i ≡ Some p → (entry_in old i ≡ Some p) ⊎ T i p
-  pub kept : (i : ℕ) → IsThere old i → IsThere new i
-  pub added : (i : ℕ) (p : Place) → T i p → IsThere new i
+  pub kept : (i : ℕ) → IsFilled old i → IsFilled new i
+  pub added : (i : ℕ) (p : Place) → T i p → IsFilled new i
 
 -- row i is that of the connection at a part of the switch or crossing with this row and this number
 abbrev pub IsAtInner : List Elem → ℕ → ℕ → ℕ → Part → Type 0
@@ -44,7 +44,7 @@ pub record IsOnInner (rows : List Elem) (track number inner i : ℕ) (p : Place)
 pub record HasPlaces (rows : List Elem) (layouts : List Layout) (table : List (Option Place)) : Type 0 where
   pub whole : length table ≡ length rows
   pub only : (i : ℕ) (p : Place) → entry_in table i ≡ Some p → IsAtPlace rows layouts i p
-  pub all : (i : ℕ) (p : Place) → IsAtPlace rows layouts i p → IsThere table i
+  pub all : (i : ℕ) (p : Place) → IsAtPlace rows layouts i p → IsFilled table i
 
 -- row i is a connection, and its orientation is this word
 abbrev pub goes_by : List Elem → List ℕ → ℕ → Bool

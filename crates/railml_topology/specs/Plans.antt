@@ -7,8 +7,8 @@ use Rattle.railml_topology.specs.declared.order.Standing.{Standing}
 use Rattle.railml_topology.specs.Rows.{is_of_kind, children, HasPosition}
 
 -- less than b from nought, either way
-abbrev pub IsWithin : ℕ → ℤ → Type 0
-IsWithin b z = (neg_ℤ (pos b) <ℤ z) × (z <ℤ pos b)
+abbrev pub IsOfSize : ℕ → ℤ → Type 0
+IsOfSize b z = (neg_ℤ (pos b) <ℤ z) × (z <ℤ pos b)
 
 -- row i has just one child of this kind
 pub record HasOne (rows : List Elem) (i : ℕ) (kind : ElemKind) : Type 0 where

@@ -17,7 +17,7 @@ use Rattle.plan_core.specs.declared.topology.Part.TheVariants as parts
 use Rattle.railml_read.specs.declared.rows.Elem.{Elem}
 use Rattle.railml_read.specs.declared.rows.ElemKind.TheVariants as kinds
 use Rattle.railml_topology.specs.declared.layout.Layout.{Layout}
-use Rattle.railml_topology.specs.Rows.{track_rows, is_of_kind, children, IsConnectionNamed, Reads, HasPosition}
+use Rattle.railml_topology.specs.Rows.{track_rows, is_of_kind, children, IsConnectionNamed, ReadsMetres, HasPosition}
 use Rattle.railml_topology.specs.Faults.{RefersTo}
 
 -- ---- layouts
@@ -112,10 +112,10 @@ pub record IsConnOf (rows : List Elem) (layouts : List Layout) (i : ℕ) (c : Co
 pub record HasAbsPos (row : Elem) (z : ℤ) : Type 0 where
   pub text : List ℕ
   pub has : row.attrs.abs_pos ≡ Some text
-  pub reads : Reads text z
+  pub reads : ReadsMetres text z
 
 -- as far from the begin's mileage as the row's position is from the begin's
-pub record IsMeasured (begin row : Elem) (z : ℤ) : Type 0 where
+pub record IsMeasuredFrom (begin row : Elem) (z : ℤ) : Type 0 where
   pub start : ℤ
   pub starts : HasAbsPos begin start
   pub from : ℤ
@@ -126,7 +126,7 @@ pub record IsMeasured (begin row : Elem) (z : ℤ) : Type 0 where
 
 -- the mileage of a row of a track with this begin: its `absPos` where it has one
 abbrev pub HasMileage : Elem → Elem → ℤ → Type 0
-HasMileage begin row z = MatchOption row.attrs.abs_pos (IsMeasured begin row z) (λ text. Reads text z)
+HasMileage begin row z = MatchOption row.attrs.abs_pos (IsMeasuredFrom begin row z) (λ text. ReadsMetres text z)
 
 -- ---- tracks
 
@@ -168,9 +168,9 @@ pub record IsCrossingOf (rows : List Elem) (layouts : List Layout) (i : ℕ) (ha
   pub leaving_conn : IsConnOf rows layouts leaving outgoing
   pub course : leaving_conn.row.attrs.course ≡ Some (hand_word hand)
 
-abbrev pub IsKindOf : List Elem → List Layout → ℕ → Elem → InnerKind → Type 0
-IsKindOf rows layouts i row (Switch outgoing hand track_diverges c) = IsSwitchOf rows layouts i row outgoing hand track_diverges c
-IsKindOf rows layouts i row (Crossing hand incoming outgoing) = IsCrossingOf rows layouts i hand incoming outgoing
+abbrev pub IsInnerKindOf : List Elem → List Layout → ℕ → Elem → InnerKind → Type 0
+IsInnerKindOf rows layouts i row (Switch outgoing hand track_diverges c) = IsSwitchOf rows layouts i row outgoing hand track_diverges c
+IsInnerKindOf rows layouts i row (Crossing hand incoming outgoing) = IsCrossingOf rows layouts i hand incoming outgoing
 
 -- a switch or a crossing is that of row i
 pub record IsInnerOf (rows : List Elem) (layouts : List Layout) (begin : Elem) (i : ℕ) (x : Inner) : Type 0 where
@@ -179,7 +179,7 @@ pub record IsInnerOf (rows : List Elem) (layouts : List Layout) (begin : Elem) (
   pub id : row.attrs.id ≡ Some x.id
   pub at : row.at ≡ x.at
   pub mile : HasMileage begin row x.mile.0
-  pub what : IsKindOf rows layouts i row x.what
+  pub what : IsInnerKindOf rows layouts i row x.what
 
 -- a track is that of these rows
 pub record IsTrackOf (rows : List Elem) (layouts : List Layout) (l : Layout) (track : Track) : Type 0 where

@@ -133,7 +133,7 @@ bears_position Crossing = true
 bears_position kind = false
 
 -- a text is a number of metres, and this is it
-pub record Reads (text : List ℕ) (z : ℤ) : Type 0 where
+pub record ReadsMetres (text : List ℕ) (z : ℤ) : Type 0 where
   pub parts : Parts
   pub metres : IsMetres text parts
   pub is : (mileage parts).0 ≡ z
@@ -142,7 +142,7 @@ pub record Reads (text : List ℕ) (z : ℤ) : Type 0 where
 pub record HasPosition (row : Elem) (z : ℤ) : Type 0 where
   pub text : List ℕ
   pub has : row.attrs.pos ≡ Some text
-  pub reads : Reads text z
+  pub reads : ReadsMetres text z
 
 -- by their positions the first comes before the second
 pub record ComesBefore (a b : Elem) : Type 0 where
@@ -161,8 +161,8 @@ pub record HasOnBeside (rows : List Elem) (row : Elem) (kind : ElemKind) (other 
   pub is : slice_get rows number ≡ Some other
 
 -- the begin and the end of the track that a row stands on
-abbrev pub IsBeginOf : List Elem → Elem → Elem → Type 0
-IsBeginOf rows row begin = HasOnBeside rows row Begin begin
+abbrev pub IsBeginBeside : List Elem → Elem → Elem → Type 0
+IsBeginBeside rows row begin = HasOnBeside rows row Begin begin
 
-abbrev pub IsEndOf : List Elem → Elem → Elem → Type 0
-IsEndOf rows row end = HasOnBeside rows row End end
+abbrev pub IsEndBeside : List Elem → Elem → Elem → Type 0
+IsEndBeside rows row end = HasOnBeside rows row End end

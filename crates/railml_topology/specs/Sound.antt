@@ -1,11 +1,12 @@
 -- What holds of each row where nothing is wrong with the rows. The builder of the topology goes by it.
 use Rattle.std.specs.Prelude.{◌≡◌, ◌≢◌, ◌⊎◌, ◌≤◌, ℕ, Bool, true, codes, List, length, Some, slice_get, ℤ}
+use Rattle.plan_core.specs.declared.limits.TheConstants.{MAX_TRACKS}
 use Rattle.plan_core.specs.declared.sides.Hand.{Hand}
 use Rattle.plan_core.specs.Topology.{IsId}
 use Rattle.railml_read.specs.declared.rows.Elem.{Elem}
 use Rattle.railml_read.specs.declared.rows.ElemKind.TheVariants.{Begin, Switch, Crossing, Connection}
 use Rattle.railml_read.specs.Formed.{AreFormed}
-use Rattle.railml_topology.specs.Rows.{track_rows, bears_id, bears_position, id_of, BearsId, IsConnectionNamed, Reads, HasPosition}
+use Rattle.railml_topology.specs.Rows.{track_rows, bears_id, bears_position, id_of, BearsId, IsConnectionNamed, ReadsMetres, HasPosition}
 use Rattle.railml_topology.specs.Faults.{RefersTo, HasItsParts, IsConnectionOf}
 use Rattle.railml_topology.specs.Resolved.{way_word, hand_word, HasAbsPos, IsCourseOf}
 
@@ -29,13 +30,13 @@ pub record IsMutual (rows : List Elem) (row : Elem) : Type 0 where
 abbrev pub IsConnectionOfInner : List Elem → Elem → Elem → Type 0
 IsConnectionOfInner rows row parent = IsConnectionOf rows row Switch parent ⊎ IsConnectionOf rows row Crossing parent
 
-pub record AreSound (rows : List Elem) : Type 0 where
+pub record AreSoundRows (rows : List Elem) : Type 0 where
   pub formed : AreFormed rows
-  pub few : length (track_rows rows) ≤ 128
+  pub few : length (track_rows rows) ≤ MAX_TRACKS
   pub ids : (i : ℕ) (row : Elem) → slice_get rows i ≡ Some row → bears_id row.kind ≡ true → HasGoodId row
   pub ids_differ : (i j : ℕ) (id : List ℕ) → BearsId rows i id → BearsId rows j id → i ≡ j
   pub positions : (i : ℕ) (row : Elem) → slice_get rows i ≡ Some row → bears_position row.kind ≡ true → (z : ℤ) × HasPosition row z
-  pub mileages : (i : ℕ) (row : Elem) (text : List ℕ) → slice_get rows i ≡ Some row → bears_position row.kind ≡ true → row.attrs.abs_pos ≡ Some text → (z : ℤ) × Reads text z
+  pub mileages : (i : ℕ) (row : Elem) (text : List ℕ) → slice_get rows i ≡ Some row → bears_position row.kind ≡ true → row.attrs.abs_pos ≡ Some text → (z : ℤ) × ReadsMetres text z
   pub begins : (i : ℕ) (row : Elem) → slice_get rows i ≡ Some row → row.kind ≡ Begin → (z : ℤ) × HasAbsPos row z
   pub mutual_refs : (i : ℕ) (row : Elem) → slice_get rows i ≡ Some row → row.kind ≡ Connection → IsMutual rows row
   pub parts : (i : ℕ) (row : Elem) → slice_get rows i ≡ Some row → HasItsParts rows i row.kind

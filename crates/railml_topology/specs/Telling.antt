@@ -1,5 +1,5 @@
 -- Which fault is found first, and what is told with it.
-use Rattle.std.specs.Prelude.{◌≡◌, ◌<◌, ◌≤◌, ℕ, List, [], length, Option, Some, None, slice_get}
+use Rattle.std.specs.Prelude.{◌≡◌, ◌<◌, ℕ, List, [], length, Option, Some, None, slice_get}
 use Rattle.std.specs.Option.{option_map_or}
 use Rattle.railml_read.specs.declared.rows.Elem.{Elem}
 use Rattle.railml_topology.specs.declared.attributes.Attribute.{Attribute}
@@ -8,28 +8,29 @@ use Rattle.railml_topology.specs.declared.fault.TopologyWhat.TheVariants.{NoTrac
 use Rattle.railml_topology.specs.declared.finding.Finding.{Finding}
 use Rattle.railml_topology.specs.declared.telling.Told.{Told}
 use Rattle.railml_topology.specs.Rows.{lacking, name_of, id_of}
-use Rattle.railml_topology.specs.Faults.{HasFault, HasNoNumber, IsFirstFault, number_of}
+use Rattle.railml_topology.specs.Faults.{HasTopologyFault, HasNoNumber, IsFirstTopologyFault, number_of}
 use Rattle.railml_topology.specs.Searching.{NoneBefore, IsFirst}
 
 -- row i has this fault, whatever is told with it
 abbrev pub HasKind : List Elem → TopologyWhat → ℕ → Elem → Type 0
-HasKind rows what i row = (first : List ℕ) × (second : List ℕ) × HasFault rows what i row first second
+HasKind rows what i row = (first : List ℕ) × (second : List ℕ) × HasTopologyFault rows what i row first second
 
--- no row has a fault of a kind from low on, up to and without high
-pub record HasNoneOf (rows : List Elem) (low high : ℕ) : Type 0 where
-  pub none : (what : TopologyWhat) → low ≤ number_of what → number_of what < high → NoneBefore (HasKind rows what) rows (length rows)
+-- no row has a fault with a number below this one
+pub record HasNoneBelow (rows : List Elem) (number : ℕ) : Type 0 where
+  pub none : (what : TopologyWhat) → number_of what < number → NoneBefore (HasKind rows what) rows (length rows)
 
--- of the kinds from low on, up to and without high, this is the lowest that a row has, and this is the
--- first row that has it
-pub record IsLowest (rows : List Elem) (low high : ℕ) (what : TopologyWhat) (i : ℕ) : Type 0 where
-  pub from : low ≤ number_of what
-  pub below : number_of what < high
+-- of all kinds this is the lowest that a row has, and this is the first row that has it
+pub record IsLowest (rows : List Elem) (what : TopologyWhat) (i : ℕ) : Type 0 where
   pub first : IsFirst (HasKind rows what) rows i
-  pub lower : HasNoneOf rows low (number_of what)
+  pub lower : HasNoneBelow rows (number_of what)
 
-abbrev pub FindsLowest : List Elem → ℕ → ℕ → Option Finding → Type 0
-FindsLowest rows low high None = HasNoneOf rows low high
-FindsLowest rows low high (Some found) = IsLowest rows low high found.what found.row
+-- no row has a fault
+abbrev pub HasNone : List Elem → Type 0
+HasNone rows = (what : TopologyWhat) → NoneBefore (HasKind rows what) rows (length rows)
+
+abbrev pub FindsLowest : List Elem → Option Finding → Type 0
+FindsLowest rows None = HasNone rows
+FindsLowest rows (Some found) = IsLowest rows found.what found.row
 
 -- the text that is told first of a row with this fault
 abbrev pub first_of : List Elem → Elem → TopologyWhat → List ℕ
@@ -51,7 +52,7 @@ pub record IsToldOf (rows : List Elem) (found : Finding) (told : Told) : Type 0 
   pub is : slice_get rows found.row ≡ Some row
   pub same : told.what ≡ found.what
   pub place : told.at ≡ row.at
-  pub fault : HasFault rows found.what found.row row told.first told.second
+  pub fault : HasTopologyFault rows found.what found.row row told.first told.second
 
 -- the row that a fault is told of has it
 abbrev pub IsFound : List Elem → Finding → Type 0
@@ -59,7 +60,7 @@ IsFound rows found = (row : Elem) × (slice_get rows found.row ≡ Some row) × 
 
 -- the first fault of rows
 abbrev pub IsFirstTold : List Elem → Told → Type 0
-IsFirstTold rows told = IsFirstFault rows told.what told.at told.first told.second
+IsFirstTold rows told = IsFirstTopologyFault rows told.what told.at told.first told.second
 
 -- what is told where there is no track
 pub record TellsNoTracks (told : Told) : Type 0 where

@@ -7,10 +7,8 @@ ghost use Rattle.railml_topology.specs.Ids.{is_id_character as id_character};
 ghost use Rattle.railml_topology.specs.Searching.{FindsFirst};
 
 use crate::rows::bears_id;
+use plan_core::MAX_ID_BYTES;
 use railml_read::Elem;
-
-/// The greatest length of an id, in bytes.
-const LONGEST: usize = 64;
 
 /// Whether a character is no control character, no space and no no-break space.
 fn is_id_character(c: char) -> bool
@@ -31,7 +29,7 @@ fn has_id_characters(text: &str) -> bool
 fn is_id(text: &str) -> bool
     ensures { IsTrue result ↔ IsId text.now }
 {
-    !text.is_empty() && text.len() <= LONGEST && has_id_characters(text)
+    !text.is_empty() && text.len() <= MAX_ID_BYTES && has_id_characters(text)
 }
 
 /// Whether a row has an id that counts and that none may have.

@@ -4,11 +4,11 @@ ghost use Rattle.std.specs.List.{AllZip};
 ghost use Rattle.plan_core.specs.declared.sides.Hand.{Hand as Side};
 ghost use Rattle.railml_read.specs.declared.rows.ElemKind.TheVariants.{Track as TrackRow, Switch as SwitchRow, Crossing as CrossingRow};
 ghost use Rattle.railml_topology.specs.Rows.{is_of_kind as of_kind};
-ghost use Rattle.railml_topology.specs.Resolved.{hand_word, IsCourseOf, IsTrackEndOf, IsKindOf, IsInnerOf, IsLayout, IsTrackOf, IsTopologyOf};
+ghost use Rattle.railml_topology.specs.Resolved.{hand_word, IsCourseOf, IsTrackEndOf, IsInnerKindOf, IsInnerOf, IsLayout, IsTrackOf, IsTopologyOf};
 ghost use Rattle.railml_topology.specs.Tables.{AreTablesOf};
 ghost use Rattle.railml_topology.specs.Plans.{is_inner as passes_inner};
-ghost use Rattle.railml_topology.specs.Sites.{IsReady, IsEither, IsStart};
-ghost use Rattle.railml_topology.specs.Sound.{AreSound};
+ghost use Rattle.railml_topology.specs.Sites.{IsReadySite, IsEither, IsStart};
+ghost use Rattle.railml_topology.specs.Sound.{AreSoundRows};
 
 use crate::layout::{Layout, layouts};
 use crate::mileages::mileage_of;
@@ -24,7 +24,7 @@ use std::alloc::Global;
 
 /// The begin or end of a row of a track with this begin.
 fn end_of(alloc: Global, site: &Site<'_>, begin: &Elem, number: u32) -> Result<End, OutOfMemory>
-    requires ready { IsReady site.now }
+    requires ready { IsReadySite site.now }
     requires start { IsStart begin.now }
     requires an_end { IsEither site.now.rows.now number }
     ensures { IfOk result (λ end. IsTrackEndOf site.now.rows.now site.now.layouts.now begin.now number end) }
@@ -73,10 +73,10 @@ fn switch_of(
     number: u32,
     row: &Elem,
 ) -> Result<InnerKind, OutOfMemory>
-    requires ready { IsReady site.now }
+    requires ready { IsReadySite site.now }
     requires a_switch { of_kind site.now.rows.now SwitchRow number ≡ true }
     requires at { slice_get site.now.rows.now number ≡ Some row.now }
-    ensures { IfOk result (λ what. IsKindOf site.now.rows.now site.now.layouts.now number row.now what) }
+    ensures { IfOk result (λ what. IsInnerKindOf site.now.rows.now site.now.layouts.now number row.now what) }
 {
     let branch = branch_of(site.rows, site.tables, number);
     let connection = row_at(site.rows, branch);
@@ -97,10 +97,10 @@ fn crossing_of(
     number: u32,
     row: &Elem,
 ) -> Result<InnerKind, OutOfMemory>
-    requires ready { IsReady site.now }
+    requires ready { IsReadySite site.now }
     requires a_crossing { of_kind site.now.rows.now CrossingRow number ≡ true }
     requires at { slice_get site.now.rows.now number ≡ Some row.now }
-    ensures { IfOk result (λ what. IsKindOf site.now.rows.now site.now.layouts.now number row.now what) }
+    ensures { IfOk result (λ what. IsInnerKindOf site.now.rows.now site.now.layouts.now number row.now what) }
 {
     let coming = way_of(site.rows, site.tables, number, false);
     let leaving = way_of(site.rows, site.tables, number, true);
@@ -121,10 +121,10 @@ fn kind_of(
     number: u32,
     row: &Elem,
 ) -> Result<InnerKind, OutOfMemory>
-    requires ready { IsReady site.now }
+    requires ready { IsReadySite site.now }
     requires an_inner { passes_inner site.now.rows.now number ≡ true }
     requires at { slice_get site.now.rows.now number ≡ Some row.now }
-    ensures { IfOk result (λ what. IsKindOf site.now.rows.now site.now.layouts.now number row.now what) }
+    ensures { IfOk result (λ what. IsInnerKindOf site.now.rows.now site.now.layouts.now number row.now what) }
 {
     if is_of_kind(site.rows, number, ElemKind::Switch) {
         switch_of(alloc, site, number, row)
@@ -135,7 +135,7 @@ fn kind_of(
 
 /// The switch or the crossing of a row of a track with this begin.
 fn inner_of(alloc: Global, site: &Site<'_>, begin: &Elem, number: u32) -> Result<Inner, OutOfMemory>
-    requires ready { IsReady site.now }
+    requires ready { IsReadySite site.now }
     requires start { IsStart begin.now }
     requires an_inner { passes_inner site.now.rows.now number ≡ true }
     ensures { IfOk result (λ inner. IsInnerOf site.now.rows.now site.now.layouts.now begin.now number inner) }
@@ -159,7 +159,7 @@ fn inner_list(
     begin: &Elem,
     numbers: &[u32],
 ) -> Result<InnerList, OutOfMemory>
-    requires ready { IsReady site.now }
+    requires ready { IsReadySite site.now }
     requires start { IsStart begin.now }
     requires all_inner { All (λ i. passes_inner site.now.rows.now i ≡ true) numbers.now }
     ensures { IfOk result (λ list. AllZip (IsInnerOf site.now.rows.now site.now.layouts.now begin.now) numbers.now list) }
@@ -173,7 +173,7 @@ fn inner_list(
 
 /// The track of these rows.
 fn track_of(alloc: Global, site: &Site<'_>, layout: &Layout) -> Result<Track, OutOfMemory>
-    requires ready { IsReady site.now }
+    requires ready { IsReadySite site.now }
     requires laid { IsLayout site.now.rows.now layout.now }
     requires a_track { of_kind site.now.rows.now TrackRow layout.now.track ≡ true }
     ensures { IfOk result (λ track. IsTrackOf site.now.rows.now site.now.layouts.now layout.now track) }
@@ -195,7 +195,7 @@ fn track_of(alloc: Global, site: &Site<'_>, layout: &Layout) -> Result<Track, Ou
 
 /// The tracks of a topology.
 fn tracks_of(alloc: Global, site: &Site<'_>) -> Result<TrackList, OutOfMemory>
-    requires { IsReady site.now }
+    requires { IsReadySite site.now }
     ensures { IfOk result (λ tracks. AllZip (IsTrackOf site.now.rows.now site.now.layouts.now) site.now.layouts.now tracks) }
 {
     let mut tracks = TrackList::new(alloc);
@@ -211,7 +211,7 @@ pub(crate) fn topology_of(
     rows: &[Elem],
     tables: &Tables,
 ) -> Result<Topology, OutOfMemory>
-    requires sound { AreSound rows.now }
+    requires sound { AreSoundRows rows.now }
     requires tables { AreTablesOf rows.now tables.now }
     ensures { IfOk result (λ t. IsTopologyOf rows.now t) }
 {

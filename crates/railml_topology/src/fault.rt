@@ -1,5 +1,6 @@
 // What can be wrong with the rows of a document.
 ghost use Rattle.std.specs.Prelude.{◌≡◌};
+ghost use Rattle.railml_topology.specs.Faults.{number_of, word_of};
 ghost use Rattle.railml_topology.specs.declared.fault.ResolveFault.TheVariants.{Memory};
 
 use plan_core::{OutOfMemory, Text};
@@ -39,6 +40,50 @@ pub enum TopologyWhat {
     Orientation,
     /// An end, a switch or a crossing lies outside of its track; told with its id.
     OutsideTrack,
+}
+
+impl TopologyWhat {
+    /// The fault's number, from 1 to 13.
+    pub fn number(&self) -> u8
+        ensures { result ≡ number_of self.now }
+    {
+        match self {
+            TopologyWhat::NoTracks => 1,
+            TopologyWhat::TooMany => 2,
+            TopologyWhat::Missing => 3,
+            TopologyWhat::Id => 4,
+            TopologyWhat::RepeatedId => 5,
+            TopologyWhat::Number => 6,
+            TopologyWhat::UnknownRef => 7,
+            TopologyWhat::NotMutual => 8,
+            TopologyWhat::SelfRef => 9,
+            TopologyWhat::EndKind => 10,
+            TopologyWhat::Course => 11,
+            TopologyWhat::Orientation => 12,
+            TopologyWhat::OutsideTrack => 13,
+        }
+    }
+
+    /// The fault's word, as a fault line has it.
+    pub fn word(&self) -> &'static str
+        ensures { result.now ≡ word_of self.now }
+    {
+        match self {
+            TopologyWhat::NoTracks => "NoTracks",
+            TopologyWhat::TooMany => "TooMany",
+            TopologyWhat::Missing => "Missing",
+            TopologyWhat::Id => "Id",
+            TopologyWhat::RepeatedId => "RepeatedId",
+            TopologyWhat::Number => "Number",
+            TopologyWhat::UnknownRef => "UnknownRef",
+            TopologyWhat::NotMutual => "NotMutual",
+            TopologyWhat::SelfRef => "SelfRef",
+            TopologyWhat::EndKind => "EndKind",
+            TopologyWhat::Course => "Course",
+            TopologyWhat::Orientation => "Orientation",
+            TopologyWhat::OutsideTrack => "OutsideTrack",
+        }
+    }
 }
 
 /// Why rows give no topology.

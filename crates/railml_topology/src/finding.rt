@@ -1,9 +1,10 @@
 // Which fault rows have, by its number and then by its place.
 ghost use Rattle.std.specs.Prelude.{◌≡◌, IfOk};
 ghost use Rattle.railml_read.specs.Formed.{AreFormed};
-ghost use Rattle.railml_topology.specs.Faults.{AreIdsDistinct};
+ghost use Rattle.railml_topology.specs.Faults.{number_of};
+ghost use Rattle.railml_topology.specs.Searching.{FindsFirst};
 ghost use Rattle.railml_topology.specs.Tables.{AreTablesOf};
-ghost use Rattle.railml_topology.specs.Telling.{FindsLowest};
+ghost use Rattle.railml_topology.specs.Telling.{HasKind, HasNoneBelow, FindsLowest};
 
 use crate::TopologyWhat;
 use crate::bad_ids::first_bad_id;
@@ -16,12 +17,26 @@ use crate::parts::first_without_parts;
 use crate::references::{first_not_mutual, first_self_ref, first_unknown_ref};
 use crate::tables::Tables;
 use crate::tracks::track_at;
-use plan_core::OutOfMemory;
+use plan_core::{MAX_TRACKS, OutOfMemory};
 use railml_read::Elem;
 use std::alloc::Global;
 
-/// The greatest number of tracks.
-const MOST_TRACKS: usize = 128;
+/// The faults in the order of their numbers, in which they are looked for.
+const IN_ORDER: [TopologyWhat; 13] = [
+    TopologyWhat::NoTracks,
+    TopologyWhat::TooMany,
+    TopologyWhat::Missing,
+    TopologyWhat::Id,
+    TopologyWhat::RepeatedId,
+    TopologyWhat::Number,
+    TopologyWhat::UnknownRef,
+    TopologyWhat::NotMutual,
+    TopologyWhat::SelfRef,
+    TopologyWhat::EndKind,
+    TopologyWhat::Course,
+    TopologyWhat::Orientation,
+    TopologyWhat::OutsideTrack,
+];
 
 /// A fault, and the number of the row that it is told of.
 #[derive(Clone, Copy, Debug, PartialEq, Eq)]
@@ -30,78 +45,34 @@ pub(crate) struct Finding {
     pub(crate) row: usize,
 }
 
-/// The first fault of a row by itself: from `TooMany` to `Number`.
-fn first_in_rows(alloc: Global, rows: &[Elem]) -> Result<Option<Finding>, OutOfMemory>
-    requires { AreFormed rows.now }
-    ensures { IfOk result (λ found. FindsLowest rows.now 2 7 found) }
-{
-    if let Some(row) = track_at(rows, MOST_TRACKS) {
-        let what = TopologyWhat::TooMany;
-        return Ok(Some(Finding { what, row }));
-    }
-    if let Some(row) = first_missing(rows) {
-        let what = TopologyWhat::Missing;
-        return Ok(Some(Finding { what, row }));
-    }
-    if let Some(row) = first_bad_id(rows) {
-        let what = TopologyWhat::Id;
-        return Ok(Some(Finding { what, row }));
-    }
-    if let Some(row) = first_repeated(alloc, rows)? {
-        let what = TopologyWhat::RepeatedId;
-        return Ok(Some(Finding { what, row }));
-    }
-    if let Some(row) = first_bad_number(rows) {
-        let what = TopologyWhat::Number;
-        return Ok(Some(Finding { what, row }));
-    }
-    Ok(None)
-}
-
-/// The first fault of a reference: from `UnknownRef` to `SelfRef`.
-fn first_in_references(rows: &[Elem], tables: &Tables) -> Option<Finding>
-    requires tables { AreTablesOf rows.now tables.now }
-    requires distinct { AreIdsDistinct rows.now }
-    ensures { FindsLowest rows.now 7 10 result }
-{
-    if let Some(row) = first_unknown_ref(rows, &tables.targets) {
-        let what = TopologyWhat::UnknownRef;
-        return Some(Finding { what, row });
-    }
-    if let Some(row) = first_not_mutual(rows, &tables.targets) {
-        let what = TopologyWhat::NotMutual;
-        return Some(Finding { what, row });
-    }
-    if let Some(row) = first_self_ref(rows) {
-        let what = TopologyWhat::SelfRef;
-        return Some(Finding { what, row });
-    }
-    None
-}
-
-/// The first fault of parts and of what stands in a track: from `EndKind` on.
-fn first_in_tracks(rows: &[Elem], tables: &Tables) -> Option<Finding>
+/// The first row that has a fault of this kind, where no row has one of a kind before it. That there is
+/// no track is told of no row.
+fn first_with(
+    alloc: Global,
+    rows: &[Elem],
+    tables: &Tables,
+    what: TopologyWhat,
+) -> Result<Option<usize>, OutOfMemory>
     requires formed { AreFormed rows.now }
     requires tables { AreTablesOf rows.now tables.now }
-    ensures { FindsLowest rows.now 10 14 result }
+    requires lower { HasNoneBelow rows.now (number_of what) }
+    ensures { IfOk result (λ found. FindsFirst (HasKind rows.now what) rows.now found) }
 {
-    if let Some(row) = first_without_parts(rows, tables) {
-        let what = TopologyWhat::EndKind;
-        return Some(Finding { what, row });
+    match what {
+        TopologyWhat::NoTracks => Ok(None),
+        TopologyWhat::TooMany => Ok(track_at(rows, MAX_TRACKS)),
+        TopologyWhat::Missing => Ok(first_missing(rows)),
+        TopologyWhat::Id => Ok(first_bad_id(rows)),
+        TopologyWhat::RepeatedId => first_repeated(alloc, rows),
+        TopologyWhat::Number => Ok(first_bad_number(rows)),
+        TopologyWhat::UnknownRef => Ok(first_unknown_ref(rows, &tables.targets)),
+        TopologyWhat::NotMutual => Ok(first_not_mutual(rows, &tables.targets)),
+        TopologyWhat::SelfRef => Ok(first_self_ref(rows)),
+        TopologyWhat::EndKind => Ok(first_without_parts(rows, tables)),
+        TopologyWhat::Course => Ok(first_bad_course(rows)),
+        TopologyWhat::Orientation => Ok(first_bad_orientation(rows)),
+        TopologyWhat::OutsideTrack => Ok(first_outside(rows, tables)),
     }
-    if let Some(row) = first_bad_course(rows) {
-        let what = TopologyWhat::Course;
-        return Some(Finding { what, row });
-    }
-    if let Some(row) = first_bad_orientation(rows) {
-        let what = TopologyWhat::Orientation;
-        return Some(Finding { what, row });
-    }
-    if let Some(row) = first_outside(rows, tables) {
-        let what = TopologyWhat::OutsideTrack;
-        return Some(Finding { what, row });
-    }
-    None
 }
 
 /// The first fault that is told of a row.
@@ -112,13 +83,12 @@ pub(crate) fn first_finding(
 ) -> Result<Option<Finding>, OutOfMemory>
     requires formed { AreFormed rows.now }
     requires tables { AreTablesOf rows.now tables.now }
-    ensures { IfOk result (λ found. FindsLowest rows.now 2 14 found) }
+    ensures { IfOk result (λ found. FindsLowest rows.now found) }
 {
-    if let Some(found) = first_in_rows(alloc, rows)? {
-        return Ok(Some(found));
+    for what in IN_ORDER {
+        if let Some(row) = first_with(alloc, rows, tables, what)? {
+            return Ok(Some(Finding { what, row }));
+        }
     }
-    if let Some(found) = first_in_references(rows, tables) {
-        return Ok(Some(found));
-    }
-    Ok(first_in_tracks(rows, tables))
+    Ok(None)
 }

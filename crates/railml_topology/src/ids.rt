@@ -4,17 +4,18 @@ ghost use Rattle.std.specs.Option.{option_copied};
 ghost use Rattle.railml_read.specs.Formed.{AreFormed};
 ghost use Rattle.railml_topology.specs.Rows.{id_of as id_or_empty};
 ghost use Rattle.railml_topology.specs.Faults.{Repeats};
-ghost use Rattle.railml_topology.specs.Ids.{number_in, Numbers, AddsId, IsKept, IsNotKept, own_id as id_of_row, connection_id as id_of_connection, reference_of as reference, KeepsIds};
+ghost use Rattle.railml_topology.specs.Ids.{number_in, Numbers, AddsId, IsKnownId, IsNewId, own_id as id_of_row, connection_id as id_of_connection, reference_of as reference, KeepsIds};
 ghost use Rattle.railml_topology.specs.Searching.{FindsFirst};
 
 use crate::rows::{bears_id, is_kind};
-use indexmap::IndexMap;
 use plan_core::OutOfMemory;
 use railml_read::{Elem, ElemKind};
 use std::alloc::Global;
+use std::collections::BTreeMap;
 
-/// Numbers of rows by their ids.
-pub(crate) type IdNumbers<'a> = IndexMap<&'a str, u32>;
+/// Numbers of rows by their ids. The ids come from a file, so they are ordered, and never hashed: whoever
+/// writes a file could give all of them one hash.
+pub(crate) type IdNumbers<'a> = BTreeMap<&'a str, u32>;
 
 /// The number that an id is kept with.
 pub(crate) fn number_of(numbers: &IdNumbers<'_>, id: &str) -> Option<u32>
@@ -81,8 +82,8 @@ fn keep_own<'a>(
     row: &'a Elem,
     number: u32,
 ) -> Result<bool, OutOfMemory>
-    ensures again { IfOk result (λ again. again ≡ true → IsKept numbers.old (id_of_row row.now)) }
-    ensures first { IfOk result (λ again. again ≡ false → IsNotKept numbers.old (id_of_row row.now)) }
+    ensures again { IfOk result (λ again. again ≡ true → IsKnownId numbers.old (id_of_row row.now)) }
+    ensures first { IfOk result (λ again. again ≡ false → IsNewId numbers.old (id_of_row row.now)) }
     ensures added { IfOk result (λ again. again ≡ false → AddsId numbers.old numbers.new (id_of_row row.now) number) }
 {
     match own_id(row) {

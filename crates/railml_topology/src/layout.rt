@@ -4,7 +4,7 @@ ghost use Rattle.railml_read.specs.declared.rows.ElemKind.TheVariants.{Track};
 ghost use Rattle.railml_topology.specs.Rows.{is_of_kind as of_kind};
 ghost use Rattle.railml_topology.specs.Resolved.{IsLayout, AreLayouts};
 ghost use Rattle.railml_topology.specs.Tables.{entry_in, AreTablesOf};
-ghost use Rattle.railml_topology.specs.Sound.{AreSound};
+ghost use Rattle.railml_topology.specs.Sound.{AreSoundRows};
 
 use crate::order::inner_rows;
 use crate::rows::is_kind;
@@ -42,7 +42,7 @@ fn layout_of(
     tables: &Tables,
     track: u32,
 ) -> Result<Layout, OutOfMemory>
-    requires sound { AreSound rows.now }
+    requires sound { AreSoundRows rows.now }
     requires tables { AreTablesOf rows.now tables.now }
     requires a_track { of_kind rows.now Track track ≡ true }
     ensures track { IfOk result (λ l. l.track ≡ track) }
@@ -67,7 +67,7 @@ pub(crate) fn layouts(
     rows: &[Elem],
     tables: &Tables,
 ) -> Result<Vec<Layout>, OutOfMemory>
-    requires sound { AreSound rows.now }
+    requires sound { AreSoundRows rows.now }
     requires tables { AreTablesOf rows.now tables.now }
     ensures { IfOk result (λ list. AreLayouts rows.now list.items) }
 {

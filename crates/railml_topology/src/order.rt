@@ -1,10 +1,10 @@
 // Switches and crossings in their order along a track.
 ghost use Rattle.std.specs.Prelude.{◌≡◌, ◌<◌, ◌^◌, true, ℕ, ℤ, List, map, filter, length, All, IfOk, Some, slice_get, Option};
-ghost use Rattle.railml_topology.specs.Rows.{Reads, HasPosition};
-ghost use Rattle.railml_topology.specs.Plans.{is_inner as passes_inner, IsStanding, IsWithin};
+ghost use Rattle.railml_topology.specs.Rows.{ReadsMetres, HasPosition};
+ghost use Rattle.railml_topology.specs.Plans.{is_inner as passes_inner, IsStanding, IsOfSize};
 ghost use Rattle.railml_topology.specs.Resolved.{AreInner};
 ghost use Rattle.railml_topology.specs.Tables.{ListsChildren};
-ghost use Rattle.railml_topology.specs.Sound.{AreSound};
+ghost use Rattle.railml_topology.specs.Sound.{AreSoundRows};
 ghost use Rattle.railml_topology.specs.declared.order.Standing.{Standing as Placed};
 
 use crate::rows::is_of_kind;
@@ -22,9 +22,9 @@ pub(crate) struct Standing {
 
 /// The number of micrometres that a text gives in metres.
 pub(crate) fn metres_in(text: &Option<Text>) -> i64
-    requires there { (t : List ℕ) × (z : ℤ) × (text.now ≡ Some t) × Reads t z }
-    ensures reads { (t : List ℕ) → text.now ≡ Some t → Reads t result }
-    ensures within { IsWithin (10 ^ 15) result }
+    requires there { (t : List ℕ) × (z : ℤ) × (text.now ≡ Some t) × ReadsMetres t z }
+    ensures reads { (t : List ℕ) → text.now ≡ Some t → ReadsMetres t result }
+    ensures within { IsOfSize (10 ^ 15) result }
 {
     match text {
         Some(text) => match read_metres(text.bytes()) {
@@ -39,7 +39,7 @@ pub(crate) fn metres_in(text: &Option<Text>) -> i64
 pub(crate) fn position_of(row: &Elem) -> i64
     requires there { (z : ℤ) × HasPosition row.now z }
     ensures reads { HasPosition row.now result }
-    ensures within { IsWithin (10 ^ 15) result }
+    ensures within { IsOfSize (10 ^ 15) result }
 {
     metres_in(&row.attrs.pos)
 }
@@ -53,7 +53,7 @@ fn is_inner(rows: &[Elem], number: u32) -> bool
 
 /// A switch or a crossing with its position.
 fn standing_at(rows: &[Elem], number: u32) -> Standing
-    requires sound { AreSound rows.now }
+    requires sound { AreSoundRows rows.now }
     requires inner { passes_inner rows.now number ≡ true }
     ensures row { result.row ≡ number }
     ensures standing { IsStanding rows.now result }
@@ -66,7 +66,7 @@ fn standing_at(rows: &[Elem], number: u32) -> Standing
 
 /// The switches and crossings among these rows, with their positions.
 fn standings(alloc: Global, rows: &[Elem], numbers: &[u32]) -> Result<Vec<Standing>, OutOfMemory>
-    requires sound { AreSound rows.now }
+    requires sound { AreSoundRows rows.now }
     ensures rows { IfOk result (λ list. map (λ (s : Placed). s.row) list.items ≡ filter (passes_inner rows.now) numbers.now) }
     ensures standing { IfOk result (λ list. All (IsStanding rows.now) list.items) }
 {
@@ -94,7 +94,7 @@ pub(crate) fn inner_rows(
     children: &[Vec<u32>],
     topology: u32,
 ) -> Result<Items<u32>, OutOfMemory>
-    requires sound { AreSound rows.now }
+    requires sound { AreSoundRows rows.now }
     requires table { ListsChildren rows.now children.now }
     requires within { topology < length rows.now }
     ensures { IfOk result (λ inner. AreInner rows.now topology inner) }

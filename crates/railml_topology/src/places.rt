@@ -6,7 +6,7 @@ ghost use Rattle.railml_topology.specs.Resolved.{way_word as word_of_way, IsBran
 ghost use Rattle.railml_topology.specs.Tables.{entry_in, AreTablesOf};
 ghost use Rattle.railml_topology.specs.Plans.{is_inner as passes_inner};
 ghost use Rattle.railml_topology.specs.Places.{goes_by, Adds, IsOnInner, IsOnFirst, IsOnTrack, HasPlaces};
-ghost use Rattle.railml_topology.specs.Sound.{AreSound};
+ghost use Rattle.railml_topology.specs.Sound.{AreSoundRows};
 
 use crate::layout::{Layout, sure_entry};
 use crate::rows::{is_of_kind, is_word};
@@ -34,7 +34,7 @@ fn goes(rows: &[Elem], number: u32, word: &str) -> bool
 
 /// The connection of a switch.
 pub(crate) fn branch_of(rows: &[Elem], tables: &Tables, switch: u32) -> u32
-    requires sound { AreSound rows.now }
+    requires sound { AreSoundRows rows.now }
     requires tables { AreTablesOf rows.now tables.now }
     requires a_switch { of_kind rows.now Switch switch ≡ true }
     ensures { IsBranchOf rows.now switch result }
@@ -54,7 +54,7 @@ fn first_going(rows: &[Elem], numbers: &[u32], word: &str) -> Option<u32>
 
 /// The connection of a crossing that goes this way.
 pub(crate) fn way_of(rows: &[Elem], tables: &Tables, crossing: u32, outgoing: bool) -> u32
-    requires sound { AreSound rows.now }
+    requires sound { AreSoundRows rows.now }
     requires tables { AreTablesOf rows.now tables.now }
     requires a_crossing { of_kind rows.now Crossing crossing ≡ true }
     ensures { IsWayOf rows.now crossing outgoing result }
@@ -84,7 +84,7 @@ fn put_inner(
     inner: u32,
     table: &mut Vec<Option<Place>>,
 )
-    requires sound { AreSound rows.now }
+    requires sound { AreSoundRows rows.now }
     requires tables { AreTablesOf rows.now tables.now }
     requires an_inner { passes_inner rows.now inner ≡ true }
     requires whole { length table.old.items ≡ length rows.now }
@@ -106,7 +106,7 @@ fn put_switch(
     inner: u32,
     table: &mut Vec<Option<Place>>,
 )
-    requires sound { AreSound rows.now }
+    requires sound { AreSoundRows rows.now }
     requires tables { AreTablesOf rows.now tables.now }
     requires a_switch { of_kind rows.now Switch inner ≡ true }
     requires whole { length table.old.items ≡ length rows.now }
@@ -125,7 +125,7 @@ fn put_crossing(
     inner: u32,
     table: &mut Vec<Option<Place>>,
 )
-    requires sound { AreSound rows.now }
+    requires sound { AreSoundRows rows.now }
     requires tables { AreTablesOf rows.now tables.now }
     requires a_crossing { of_kind rows.now Crossing inner ≡ true }
     requires whole { length table.old.items ≡ length rows.now }
@@ -153,7 +153,7 @@ fn put_all_inner(
     inner: &[u32],
     table: &mut Vec<Option<Place>>,
 )
-    requires sound { AreSound rows.now }
+    requires sound { AreSoundRows rows.now }
     requires tables { AreTablesOf rows.now tables.now }
     requires all_inner { All (λ i. passes_inner rows.now i ≡ true) inner.now }
     requires few { length inner.now < 2 ^ 32 }
@@ -183,7 +183,7 @@ fn put_track(
     layout: &Layout,
     table: &mut Vec<Option<Place>>,
 )
-    requires sound { AreSound rows.now }
+    requires sound { AreSoundRows rows.now }
     requires tables { AreTablesOf rows.now tables.now }
     requires laid { IsLayout rows.now layout.now }
     requires whole { length table.old.items ≡ length rows.now }
@@ -213,7 +213,7 @@ pub(crate) fn places_of(
     tables: &Tables,
     layouts: &[Layout],
 ) -> Result<Vec<Option<Place>>, OutOfMemory>
-    requires sound { AreSound rows.now }
+    requires sound { AreSoundRows rows.now }
     requires tables { AreTablesOf rows.now tables.now }
     requires layouts { AreLayouts rows.now layouts.now }
     ensures { IfOk result (λ table. HasPlaces rows.now layouts.now table.items) }

@@ -1,11 +1,12 @@
 // The topology that rows resolve to, or the fault that they have.
-ghost use Rattle.std.specs.Prelude.{IfOk, IfErr, OnOk};
+ghost use Rattle.std.specs.Prelude.{◌≡◌, ◌⊎◌, IfOk, IfErr, OnOk};
+ghost use Rattle.plan_core.specs.Exactly.{AnswersExactly};
 ghost use Rattle.plan_core.specs.Topology.{IsResolved};
 ghost use Rattle.railml_read.specs.Formed.{AreFormed};
 ghost use Rattle.railml_topology.specs.Faults.{HasNoFault};
 ghost use Rattle.railml_topology.specs.Resolved.{IsTopologyOf};
 ghost use Rattle.railml_topology.specs.Tables.{AreTablesOf};
-ghost use Rattle.railml_topology.specs.Answers.{IsFaultOf};
+ghost use Rattle.railml_topology.specs.Answers.{ResolvesTo, IsResolveFault};
 
 use crate::ResolveFault;
 use crate::building::topology_of;
@@ -26,20 +27,14 @@ fn faultless(alloc: Global, rows: &[Elem], tables: &Tables) -> Result<Topology, 
     topology_of(alloc, rows, tables)
 }
 
-/// The topology of the rows that were read from a document, or the first fault that they have: the one
-/// with the lowest number in the order of `TopologyWhat`, and of that kind the one with the least place.
-/// Want of memory may come in place of either.
-pub fn resolve(alloc: Global, rows: &Records) -> Result<Topology, ResolveFault>
+/// The topology of rows, or their first fault.
+fn topology_or_fault(alloc: Global, rows: &[Elem]) -> Result<Topology, ResolveFault>
     requires { AreFormed rows.now }
-
     ensures topology { IfOk result (λ t. IsTopologyOf rows.now t) }
     ensures resolved { IfOk result (λ t. IsResolved t) }
-
-    // A topology comes exactly where nothing is wrong, and a fault exactly where it is the first.
     ensures faultless { OnOk result (HasNoFault rows.now) }
-    ensures fault { IfErr result (λ e. IsFaultOf rows.now e) }
+    ensures fault { IfErr result (λ e. (e ≡ ResolveFault.Memory) ⊎ IsResolveFault rows.now e) }
 {
-    let rows = rows.as_slice();
     let tables = Tables::new(alloc, rows)?;
     match first_fault(alloc, rows, &tables)? {
         Some(told) => {
@@ -58,6 +53,17 @@ pub fn resolve(alloc: Global, rows: &Records) -> Result<Topology, ResolveFault>
         }
         None => Ok(faultless(alloc, rows, &tables)?),
     }
+}
+
+/// The topology of the rows that were read from a document, or the first fault that they have: the one
+/// with the lowest number in the order of `TopologyWhat`, and of that kind the one with the least place.
+pub fn resolve(alloc: Global, rows: &Records) -> Result<Topology, ResolveFault>
+    requires { AreFormed rows.now }
+    ensures answers { AnswersExactly result ResolveFault.Memory (ResolvesTo rows.now) (IsResolveFault rows.now) }
+    // What the layers above ask of a topology.
+    ensures resolved { IfOk result (λ t. IsResolved t) }
+{
+    topology_or_fault(alloc, rows.as_slice())
 }
 
 #[cfg(test)]

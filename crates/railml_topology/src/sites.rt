@@ -3,7 +3,7 @@ ghost use Rattle.std.specs.Prelude.{◌≡◌, ◌<◌, true, ℕ, List, IfOk, S
 ghost use Rattle.railml_read.specs.declared.rows.ElemKind.TheVariants.{Connection};
 ghost use Rattle.railml_topology.specs.Rows.{is_of_kind as of_kind};
 ghost use Rattle.railml_topology.specs.Resolved.{IsAtPlace, IsConnOf, IsJoinedAs};
-ghost use Rattle.railml_topology.specs.Sites.{IsReady, IsEither};
+ghost use Rattle.railml_topology.specs.Sites.{IsReadySite, IsEither};
 
 use crate::layout::{Layout, sure_entry};
 use crate::tables::{Tables, entry};
@@ -42,7 +42,7 @@ pub(crate) fn copied(alloc: Global, text: &Option<Text>) -> Result<Text, OutOfMe
 
 /// The place of a connection.
 fn place_of(site: &Site<'_>, number: u32) -> Place
-    requires ready { IsReady site.now }
+    requires ready { IsReadySite site.now }
     requires a_connection { of_kind site.now.rows.now Connection number ≡ true }
     ensures { IsAtPlace site.now.rows.now site.now.layouts.now number result }
 {
@@ -54,7 +54,7 @@ fn place_of(site: &Site<'_>, number: u32) -> Place
 
 /// The connection of a row, which leads to the place of the one that it refers to.
 pub(crate) fn conn_of(alloc: Global, site: &Site<'_>, number: u32) -> Result<Conn, OutOfMemory>
-    requires ready { IsReady site.now }
+    requires ready { IsReadySite site.now }
     requires a_connection { of_kind site.now.rows.now Connection number ≡ true }
     ensures { IfOk result (λ c. IsConnOf site.now.rows.now site.now.layouts.now number c) }
 {
@@ -70,7 +70,7 @@ pub(crate) fn joined_at(
     site: &Site<'_>,
     number: u32,
 ) -> Result<Option<Conn>, OutOfMemory>
-    requires ready { IsReady site.now }
+    requires ready { IsReadySite site.now }
     requires an_end { IsEither site.now.rows.now number }
     ensures { IfOk result (λ joined. IsJoinedAs site.now.rows.now site.now.layouts.now number joined) }
 {

@@ -4,19 +4,17 @@ use crate::TopologyWhat;
 use crate::tables::Tables;
 use crate::telling::{Told, first_fault};
 use cases::{Case, SOUND};
+use plan_core::MAX_FILE_BYTES;
 use railml_read::read;
 use std::process::Abort;
 use std::test::Fail;
-
-/// The most bytes that a document may have.
-const LIMIT: usize = 4_194_304;
 
 /// The first fault of a document that has these tracks, and the document.
 fn judge(rt: &(impl Abort + AllocGlobal), tracks: &str) -> Result<(Option<Told>, String), Fail> {
     let document = format!(in rt.alloc();
         "<infrastructure><tracks>{tracks}</tracks></infrastructure>"
     )?;
-    assert!(rt; document.len() <= LIMIT);
+    assert!(rt; document.len() <= MAX_FILE_BYTES);
     let rows = read(rt.alloc(), document.as_bytes())?;
     let tables = Tables::new(rt.alloc(), rows.as_slice())?;
     let told = first_fault(rt.alloc(), rows.as_slice(), &tables)?;

@@ -11,7 +11,7 @@ use Rattle.railml_read.specs.Rows.{rows_of}
 use Rattle.railml_read.specs.Document.{IsTextFault}
 use Rattle.railml_read.proofs.FaultLemmas.{one_tree, one_fault as one_text_fault}
 use Rattle.railml_topology.specs.declared.fault.TopologyWhat.{TopologyWhat}
-use Rattle.railml_topology.specs.Faults.{IsFirstFault, HasNoFault}
+use Rattle.railml_topology.specs.Faults.{IsFirstTopologyFault, HasNoFault}
 use Rattle.railml_topology.specs.Resolved.{IsTopologyOf}
 use Rattle.railml_topology.proofs.LawLemmas.{one_first_fault}
 use Rattle.railml_topology.proofs.OneTopologyLemmas.{one_topology as one_resolved}
@@ -68,7 +68,7 @@ data Cause : Type 0 where
 abbrev HasCause : List ℕ → Cause → Type 0
 HasCause bytes TooLong = file_limit < length bytes
 HasCause bytes (OfText what at) = (length bytes ≤ file_limit) × IsTextFault bytes what at
-HasCause bytes (OfTopology what at first second) = (rows : List Elem) × HasRows bytes rows × IsFirstFault rows what at first second
+HasCause bytes (OfTopology what at first second) = (rows : List Elem) × HasRows bytes rows × IsFirstTopologyFault rows what at first second
 HasCause bytes (OfGraph fault) = IsOfGraph bytes fault
 HasCause bytes (OfOrder e f) = (g : Graph) × HasGraph bytes g × IsFirstContradiction g e f
 
@@ -125,7 +125,7 @@ too_long bytes long few = omega arith
 no_text_cause : (bytes : List ℕ) (rows : List Elem) (what : TextWhat) (at : ℕ) → HasRows bytes rows → (length bytes ≤ file_limit) × IsTextFault bytes what at → ⊥
 no_text_cause bytes rows what at has h = has.sound what at h.1
 
-no_topology_cause : (bytes : List ℕ) (t : Tracks) (what : TopologyWhat) (at : ℕ) (first second : List ℕ) → HasTopology bytes t → (rows : List Elem) × HasRows bytes rows × IsFirstFault rows what at first second → ⊥
+no_topology_cause : (bytes : List ℕ) (t : Tracks) (what : TopologyWhat) (at : ℕ) (first second : List ℕ) → HasTopology bytes t → (rows : List Elem) × HasRows bytes rows × IsFirstTopologyFault rows what at first second → ⊥
 no_topology_cause bytes t what at first second has h =
     subst HasNoFault (one_rows bytes has.rows h.0 has.has_rows h.1) has.sound what at first second h.2.holds
 
@@ -155,9 +155,9 @@ station_or_fault bytes g o fault has h = let c = caused bytes fault h in no_caus
 one_text_cause : (bytes : List ℕ) (what other : TextWhat) (at place : ℕ) → (what ≡ other) × (at ≡ place) → OfText what at ≡ OfText other place
 one_text_cause bytes what other at place (kind, here) = cc
 
-one_topology_cause : (bytes : List ℕ) (rows others : List Elem) (what other : TopologyWhat) (at place : ℕ) (a b c d : List ℕ) → HasRows bytes rows → HasRows bytes others → IsFirstFault rows what at a b → IsFirstFault others other place c d → OfTopology what at a b ≡ OfTopology other place c d
+one_topology_cause : (bytes : List ℕ) (rows others : List Elem) (what other : TopologyWhat) (at place : ℕ) (a b c d : List ℕ) → HasRows bytes rows → HasRows bytes others → IsFirstTopologyFault rows what at a b → IsFirstTopologyFault others other place c d → OfTopology what at a b ≡ OfTopology other place c d
 one_topology_cause bytes rows others what other at place a b c d has also h k =
-    let P : List Elem → Type 0 = λ xs. IsFirstFault xs other place c d in
+    let P : List Elem → Type 0 = λ xs. IsFirstTopologyFault xs other place c d in
     let here = subst P (one_rows bytes others rows also has) k in
     let same = one_first_fault rows what other at place a b c d (rows_formed bytes rows has) h here in
     let kind = same.0 in

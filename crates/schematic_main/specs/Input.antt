@@ -14,7 +14,7 @@ use Rattle.track_order.specs.Order.{EdgeOrder, IsOrderOf, IsFirstContradiction}
 use Rattle.railml_text.specs.declared.fault.TextWhat.{TextWhat}
 use Rattle.railml_read.specs.declared.rows.Elem.{Elem}
 use Rattle.railml_read.specs.Document.{AreRows, IsTextFault}
-use Rattle.railml_topology.specs.Faults.{IsFirstFault, HasNoFault}
+use Rattle.railml_topology.specs.Faults.{IsFirstTopologyFault, HasNoFault}
 use Rattle.railml_topology.specs.Resolved.{IsTopologyOf}
 use Rattle.schematic_main.specs.declared.fault.RunFault.{RunFault}
 use Rattle.schematic_main.specs.declared.fault.RunFault.TheVariants.{NotBuilt, Words, Long, Text, Topology, TooManyNodes, TooManyEdges, NotForward, SideMismatch, Contradicts, Sheet, ReadFailed}
@@ -65,7 +65,7 @@ HasGraphFault bytes fault = (t : Tracks) × HasTopology bytes t × IsGraphFault 
 abbrev pub HasFault : List ℕ → RunFault → Type 0
 HasFault bytes (Long input) = (input ≡ 1) × IsLong bytes
 HasFault bytes (Text what at) = IsShort bytes × IsTextFault bytes what at
-HasFault bytes (Topology what at first second) = (rows : List Elem) × HasRows bytes rows × IsFirstFault rows what at first second
+HasFault bytes (Topology what at first second) = (rows : List Elem) × HasRows bytes rows × IsFirstTopologyFault rows what at first second
 HasFault bytes (TooManyNodes count) = HasGraphFault bytes (graphs.TooManyNodes count)
 HasFault bytes (TooManyEdges count) = HasGraphFault bytes (graphs.TooManyEdges count)
 HasFault bytes (NotForward track mileage) = (edge : EdgeNo) × HasGraphFault bytes (graphs.NotForward edge track mileage)

@@ -1,12 +1,9 @@
 use crate::{ResolveFault, TopologyWhat, resolve};
-use plan_core::{Conn, End, Hand, Inner, InnerKind, Part, Topology};
+use plan_core::{Conn, End, Hand, Inner, InnerKind, MAX_FILE_BYTES, Part, Topology};
 use railml_read::read;
 use std::alloc::{AllocError, Global};
 use std::process::Abort;
 use std::test::Fail;
-
-/// The most bytes that a document may have.
-const LIMIT: usize = 4_194_304;
 
 /// A main track with a loop.
 static LOOP: &str = "\
@@ -193,7 +190,7 @@ fn tracks_resolve_to_their_topology(rt: HostRuntime) -> Result<(), Fail> {
         let document = format!(in rt.alloc();
             "<infrastructure><tracks>{tracks}</tracks></infrastructure>"
         )?;
-        assert!(rt; document.len() <= LIMIT);
+        assert!(rt; document.len() <= MAX_FILE_BYTES);
         let rows = read(rt.alloc(), document.as_bytes())?;
         let topology = resolve(rt.alloc(), &rows)?;
         let lines = lines_of(rt.alloc(), &topology)?;
@@ -209,7 +206,7 @@ fn has_fault(
     what: TopologyWhat,
     at: usize,
 ) -> Result<(), Fail> {
-    assert!(rt; document.len() <= LIMIT);
+    assert!(rt; document.len() <= MAX_FILE_BYTES);
     let rows = read(rt.alloc(), document.as_bytes())?;
     match resolve(rt.alloc(), &rows) {
         Err(

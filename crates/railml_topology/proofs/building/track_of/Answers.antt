@@ -2,12 +2,12 @@ use Rattle.std.proofs.Common.{◌≡◌, true, ℕ, List, subst, sym, inl, inr, 
 use Rattle.railml_read.specs.declared.rows.ElemKind.TheVariants.{Begin}
 use Rattle.railml_topology.specs.Plans.{is_inner as passes_inner}
 use Rattle.railml_topology.proofs.PlaceLemmas.{inner_all}
-use Rattle.railml_topology.proofs.SiteLemmas.{kind_within}
+use Rattle.railml_topology.proofs.Family.{within_of_kind}
 use Rattle.railml_topology.proofs.BuildLemmas.{begin_kind, end_kind, begin_start, track_id}
 use Rattle.railml_topology.proofs.building.track_of.Goals as goal
 
 pub row_at-begin-requires : goal.row_at-begin-requires
-row_at-begin-requires c = kind_within c.args.site.now.rows.now Begin c.args.layout.now.begin (begin_kind c.args.site.now.rows.now c.args.layout.now c.requires.laid)
+row_at-begin-requires c = within_of_kind c.args.site.now.rows.now Begin c.args.layout.now.begin (begin_kind c.args.site.now.rows.now c.args.layout.now c.requires.laid)
 
 pub copied-requires : goal.copied-requires
 copied-requires c = track_id c.args.site.now.rows.now c.requires.ready.sound c.args.layout.now.track c.row_at-row.result.now c.requires.a_track c.row_at-row.ensures

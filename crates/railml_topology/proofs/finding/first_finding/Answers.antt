@@ -1,12 +1,11 @@
-use Rattle.std.proofs.Common.{Option, subst, arith}
-use Rattle.railml_topology.specs.declared.fault.TopologyWhat.TheVariants.{RepeatedId}
-use Rattle.railml_topology.specs.declared.finding.Finding.{Finding}
-use Rattle.railml_topology.specs.Telling.{HasNoneOf, FindsLowest}
-use Rattle.railml_topology.proofs.FaultLemmas.{ids_distinct}
+use Rattle.std.proofs.Common.{◌+◌}
+use Rattle.railml_topology.proofs.FaultLemmas.{none_yet, none_at_next, number_in_order}
 use Rattle.railml_topology.proofs.finding.first_finding.Goals as goal
 
-pub first_in_references-requires-clause-distinct : goal.first_in_references-requires-clause-distinct
-first_in_references-requires-clause-distinct c =
-    let rows = c.args.rows.now in
-    let lower : HasNoneOf rows 2 7 = subst (λ (found : Option Finding). FindsLowest rows 2 7 found) c.in_default.is c.in_ok-found.ensures in
-    ids_distinct rows (lower.none RepeatedId (omega arith) (omega arith))
+pub loop-what-init : goal.loop-what-init
+loop-what-init c = none_yet c.args.rows.now
+
+pub loop-what-preserved : goal.loop-what-preserved
+loop-what-preserved c =
+    let i = c.loop-what.what-index in
+    none_at_next c.args.rows.now _ c.in_ok-row.field-0 (c.in_ok-row.ensures) c.in_default.is (i + 1) (number_in_order i _ c.loop-what-test.true) c.loop-what.invariant
