@@ -28,6 +28,8 @@ pub mod TurnedNodes
 pub mod TurnedColumns
 pub mod TurnedStation
 pub mod TurnedFaults
+pub mod MirroredTopology
+pub mod MirroredGraph
 pub mod OneGraph
 pub mod TurnedTwice
 pub mod ResolvedTest

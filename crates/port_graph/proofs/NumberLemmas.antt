@@ -1,5 +1,5 @@
 -- Bounds on the numbers of edges.
-use Rattle.std.proofs.Common.{◌≡◌, ℕ, ◌+◌, ◌*◌, ◌<◌, ◌≤◌, true, false, cond, List, [], ◌∷◌, ◌++◌, length, take, Some, ap, arith, length-append}
+use Rattle.std.proofs.Common.{◌≡◌, ℕ, ◌+◌, ◌<◌, ◌≤◌, true, false, cond, List, [], ◌∷◌, ◌++◌, length, take, Some, ap, arith, length-append}
 use Rattle.std.specs.Prelude.{slice_get, sum_by, unwrap_or}
 use Rattle.std.specs.List.{flat_map}
 use Rattle.std.proofs.lemmas.List.Sums.{sum_by-take-drop, sum_by-cons, sum_by_more}
@@ -9,8 +9,6 @@ use Rattle.plan_core.specs.declared.limits.TheConstants.{MAX_EDGES}
 use Rattle.plan_core.specs.declared.topology.Topology.{Topology}
 use Rattle.plan_core.specs.declared.topology.Track.{Track}
 use Rattle.plan_core.specs.declared.topology.Inner.{Inner}
-use Rattle.plan_core.specs.declared.topology.InnerKind.{InnerKind}
-use Rattle.plan_core.specs.declared.topology.InnerKind.TheVariants.{Switch, Crossing}
 use Rattle.plan_core.specs.declared.topology.Conn.{Conn}
 use Rattle.plan_core.specs.Topology.{connections, conn_element, end_elements, inner_elements, track_elements, elements}
 use Rattle.port_graph.specs.declared.runs.Join.{Join}

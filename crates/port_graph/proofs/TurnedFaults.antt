@@ -48,7 +48,7 @@ IsFirstLevel-turned t e track mileage is = record {
   before = λ f r less run. forward-turned r (is.before f (turned_run r) less (IsRun-turned t f r run));
 }
 
-some_map : {X Y : Type 0} (f : X → Y) (o : Option X) → IsSome o → IsSome (option_map f o)
+pub some_map : {X Y : Type 0} (f : X → Y) (o : Option X) → IsSome o → IsSome (option_map f o)
 some_map f None is = is
 some_map f (Some x) is = refl
 

@@ -54,3 +54,23 @@ pub read_turned : {X Y A B : Type 0} (g : X → Y) (f : Y → Option B) (h : A �
 read_turned g f h f' same [] i = refl
 read_turned g f h f' same (x ∷ xs) zero = same x
 read_turned g f h f' same (x ∷ xs) (suc i) = read_turned g f h f' same xs i
+
+-- the same where what is made of each is as it was
+
+pub map_alike : {X Y B : Type 0} (g : X → Y) (f : Y → B) (f' : X → B) → ((x : X) → f (g x) ≡ f' x) → (xs : List X) → map f (map g xs) ≡ map f' xs
+map_alike g f f' same [] = refl
+map_alike {B = B} g f f' same (x ∷ xs) = ap (λ (b : B). b ∷ map f (map g xs)) (same x) ∙ ap (λ (bs : List B). f' x ∷ bs) (map_alike g f f' same xs)
+
+pub flat_equal : {X B : Type 0} (f f' : X → List B) → ((x : X) → f x ≡ f' x) → (xs : List X) → flat_map f xs ≡ flat_map f' xs
+flat_equal f f' same [] = refl
+flat_equal {B = B} f f' same (x ∷ xs) = ap (λ (bs : List B). bs ++ flat_map f xs) (same x) ∙ ap (λ (bs : List B). f' x ++ bs) (flat_equal f f' same xs)
+
+pub flat_alike : {X Y B : Type 0} (g : X → Y) (f : Y → List B) (f' : X → List B) → ((x : X) → f (g x) ≡ f' x) → (xs : List X) → flat_map f (map g xs) ≡ flat_map f' xs
+flat_alike g f f' same [] = refl
+flat_alike {B = B} g f f' same (x ∷ xs) =
+    ap (λ (bs : List B). bs ++ flat_map f (map g xs)) (same x) ∙ ap (λ (bs : List B). f' x ++ bs) (flat_alike g f f' same xs)
+
+pub option_alike : {X Y B : Type 0} (g : X → Y) (f : Y → B) (f' : X → B) → ((x : X) → f (g x) ≡ f' x) → (xs : List X) (i : ℕ) → option_map f (slice_get (map g xs) i) ≡ option_map f' (slice_get xs i)
+option_alike g f f' same [] i = refl
+option_alike {B = B} g f f' same (x ∷ xs) zero = ap (λ (b : B). Some b) (same x)
+option_alike g f f' same (x ∷ xs) (suc i) = option_alike g f f' same xs i

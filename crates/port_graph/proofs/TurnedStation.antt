@@ -19,16 +19,11 @@ use Rattle.port_graph.specs.StationGraph.{IsStationGraph}
 use Rattle.port_graph.specs.Turned.{turned_inner, turned_track, turned_topology, turned_ports, turned_node, turned_edge, turned_graph}
 use Rattle.port_graph.proofs.PortLemmas.{apart_moved}
 use Rattle.port_graph.proofs.MileLemmas.{neg_less}
-use Rattle.port_graph.proofs.TurnedLists.{map_turned, flat_turned}
+use Rattle.port_graph.proofs.TurnedLists.{map_turned, flat_turned, flat_alike}
 use Rattle.port_graph.proofs.TurnedNodes.{node-turned}
 use Rattle.port_graph.proofs.TurnedTopology.{connection-turned}
 
 -- ---- topologies
-
-flat_alike : {X Y A : Type 0} (g : X → Y) (f : Y → List A) (f' : X → List A) → ((x : X) → f (g x) ≡ f' x) → (xs : List X) → flat_map f (map g xs) ≡ flat_map f' xs
-flat_alike g f f' same [] = refl
-flat_alike {A = A} g f f' same (x ∷ xs) =
-    ap (λ (l : List A). l ++ flat_map f (map g xs)) (same x) ∙ ap (λ (l : List A). f' x ++ l) (flat_alike g f f' same xs)
 
 elements-turned : (t : Topology) → elements (turned_topology t) ≡ elements t
 elements-turned t =
@@ -136,7 +131,7 @@ module _ (g : Graph) (is : IsTrackGraph g) where
         subst (λ (x : Node). ArePortsOf (turned_graph g) n x.ports) (sym (node-turned g n here)) (ports-turned g n (node g n).ports (is.ports n here));
   }
 
-pairs_map : {X : Type 0} (R : X → X → Type 0) (f : X → X) (xs : List X) → AllPairs (λ (x y : X). R (f x) (f y)) xs → AllPairs R (map f xs)
+pub pairs_map : {X : Type 0} (R : X → X → Type 0) (f : X → X) (xs : List X) → AllPairs (λ (x y : X). R (f x) (f y)) xs → AllPairs R (map f xs)
 pairs_map {X} R f xs pairs i j d less within =
     let within' : j < length xs = subst (λ (n : ℕ). j < n) (length-map xs f) within in
     subst (λ (z : X). R z (get_or (map f xs) j d)) (sym (get_or-map f xs i d d (omega arith)))

@@ -12,4 +12,5 @@ pub mod PortRule
 pub mod TopologyGraph
 pub mod Ordered
 pub mod Turned
+pub mod Mirrored
 pub mod Examples

@@ -8,6 +8,7 @@ ghost use Rattle.port_graph.specs.declared.fault.GraphFault.{GraphFault as AFaul
 ghost use Rattle.port_graph.specs.StationGraph.{IsStationGraph};
 ghost use Rattle.port_graph.specs.Columns.{columns_of, AreColumns};
 ghost use Rattle.port_graph.specs.TopologyGraph.{IsGraphOf, IsStationGraphOf, IsGraphFault};
+ghost use Rattle.port_graph.specs.Mirrored.{mirrored_topology, mirrored_graph};
 ghost use Rattle.port_graph.specs.Turned.{turned_topology, turned_graph, turned_fault};
 
 /// A topology has at most one track graph. One that has a graph has no fault, and of the others each
@@ -44,4 +45,12 @@ pub fn seen_from_the_other_end()
 pub fn columns_count_from_the_other_end()
     ensures columns { (g : Graph) → columns_of (turned_graph g) ≡ reverse (map neg_ℤ (columns_of g)) }
     ensures node { (g : Graph) (n i : ℕ) → n < length g.nodes → slice_get (columns_of g) i ≡ Some (mileage g n) → slice_get (columns_of (turned_graph g)) (length (columns_of g) - 1 - i) ≡ Some (mileage (turned_graph g) n) }
+{}
+
+/// With every hand exchanged and mileages kept, a topology's graph has upper and lower exchanged, and no more; and its
+/// fault is the same.
+pub fn hands_exchanged()
+    ensures topology { (t : ATopology) → IsResolved t → IsResolved (mirrored_topology t) }
+    ensures graph { (t : ATopology) (g : Graph) → IsStationGraphOf t g → IsStationGraphOf (mirrored_topology t) (mirrored_graph g) }
+    ensures fault { (t : ATopology) (fault : AFault) → IsGraphFault t fault → IsGraphFault (mirrored_topology t) fault }
 {}

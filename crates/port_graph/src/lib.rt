@@ -35,8 +35,8 @@ pub use fault::GraphFault;
 pub use from_topology::build;
 pub use graph::PortGraph;
 pub use laws::{
-    columns_are_the_distinct_mileages, columns_count_from_the_other_end, one_graph_or_one_fault,
-    seen_from_the_other_end,
+    columns_are_the_distinct_mileages, columns_count_from_the_other_end, hands_exchanged,
+    one_graph_or_one_fault, seen_from_the_other_end,
 };
 pub use ports::{NodeKind, Ports};
 use runs::{Join, Run, Spot};
