@@ -6,7 +6,8 @@ use Rattle.std.proofs.lemmas.Int.Digits.{digits_value_more}
 use Rattle.std.proofs.lemmas.List.{length-take}
 use Rattle.std.specs.Str.Parse.{digits_value}
 use Rattle.std.specs.Char.{digit_value}
-use Rattle.rail_mileage.specs.Metres.{Passes, is_digit, size_of}
+use Rattle.railml_text.specs.Bytes.{Passes}
+use Rattle.rail_mileage.specs.Metres.{is_digit, size_of}
 
 is_digits_test : IsDigitsTest (Passes is_digit)
 is_digits_test = search rules

@@ -1,13 +1,14 @@
 -- A text is cut into the parts that spell it.
 use Rattle.std.proofs.Common.{◌≡◌, ℕ, ◌+◌, ◌≤◌, Bool, true, false, cond, Option, Some, None, List, [], ◌∷◌, ◌++◌, length, refl, sym, ap, ◌∙◌, arith}
-use Rattle.std.specs.Prelude.{◌&&◌, ◌==◌, IfSome}
+use Rattle.std.specs.Prelude.{◌==◌, IfSome}
 use Rattle.std.specs.List.{list_all}
 use Rattle.std.proofs.lemmas.Bool.Decides.{nat_tests}
-use Rattle.std.proofs.lemmas.Bool.{leb-true, le-leb}
+use Rattle.std.proofs.lemmas.Bool.{leb-true, le-leb, and_parts}
+use Rattle.railml_text.specs.Bytes.{Passes, is_blank, front, past}
 use Rattle.plan_core.specs.declared.numbers.Micro.{Micro}
-use Rattle.rail_mileage.specs.Metres.{Passes, is_blank, is_digit, Sign, unsigned, plus, minus, sign_text, fraction_text, fraction_digits, Parts, IsMetres, mileage}
-use Rattle.rail_mileage.specs.Reading.{front, past, sign_at, past_sign, fraction_at, past_fraction, past_start, past_whole, parts_of, are_metres, reading_of}
-use Rattle.rail_mileage.proofs.Runs.{front-past, front_passes}
+use Rattle.rail_mileage.specs.Metres.{is_digit, Sign, unsigned, plus, minus, sign_text, fraction_text, fraction_digits, Parts, IsMetres, mileage}
+use Rattle.rail_mileage.specs.Reading.{sign_at, past_sign, fraction_at, past_fraction, past_start, past_whole, parts_of, are_metres, reading_of}
+use Rattle.railml_text.proofs.RunLemmas.{front-past, front_passes}
 
 -- a run that passes stops here
 abbrev pub Stops : (ℕ → Bool) → List ℕ → Type 0
@@ -107,13 +108,9 @@ all_blank : (bytes : List ℕ) → Passes is_blank bytes → list_all is_blank b
 all_blank [] h = refl
 all_blank (b ∷ bytes) h = rw h.0 (all_blank bytes h.1)
 
-both : (a b : Bool) → (a && b) ≡ true → (a ≡ true) × (b ≡ true)
-both true b h = (refl, h)
-both false b h = absurd cc
-
 passes_all : (p : ℕ → Bool) (bytes : List ℕ) → list_all p bytes ≡ true → Passes p bytes
 passes_all p [] h = tt
-passes_all p (b ∷ bytes) h = let k = both (p b) (list_all p bytes) h in (k.0, passes_all p bytes k.1)
+passes_all p (b ∷ bytes) h = let k = and_parts (p b) (list_all p bytes) h in (k.0, passes_all p bytes k.1)
 
 pub accepted : (text : List ℕ) (parts : Parts) → IsMetres text parts → are_metres parts ≡ true
 accepted text parts m =
@@ -144,9 +141,9 @@ pub are_parts : (text : List ℕ) → are_metres (parts_of text) ≡ true → Is
 are_parts text h =
     let parts = parts_of text in
     let digits = fraction_digits parts.fraction in
-    let some = both _ _ h in
-    let short = both _ _ some.0 in
-    let few = both _ _ short.0 in
+    let some = and_parts _ _ h in
+    let short = and_parts _ _ some.0 in
+    let few = and_parts _ _ short.0 in
     record {
       blank_before = front_passes is_blank text;
       blank_after = passes_all is_blank parts.after few.0;

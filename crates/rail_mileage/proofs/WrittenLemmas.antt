@@ -6,8 +6,9 @@ use Rattle.std.specs.Char.{digit_value}
 use Rattle.std.proofs.lemmas.Bool.Decides.{nat_tests}
 use Rattle.std.proofs.lemmas.List.{append-nil}
 use Rattle.std.proofs.lemmas.Fmt.{digits_decimal, digits_value-decimal, length-decimal-le}
+use Rattle.railml_text.specs.Bytes.{Passes}
 use Rattle.plan_core.specs.declared.numbers.Micro.{Micro}
-use Rattle.rail_mileage.specs.Metres.{Passes, is_digit, Sign, unsigned, minus, Parts, IsMetres, mileage, size_of, sign_text}
+use Rattle.rail_mileage.specs.Metres.{is_digit, Sign, unsigned, minus, Parts, IsMetres, mileage, size_of, sign_text}
 use Rattle.rail_mileage.specs.MetresText.{last_digit, six_digits, size_text, metres_text}
 use Rattle.rail_mileage.specs.Reading.{parts_of, reading_of}
 use Rattle.rail_mileage.proofs.Digits.{own, digit_value_of}

@@ -1,20 +1,12 @@
 -- Which texts are a number of metres, and which mileage each is.
-use Rattle.std.specs.Prelude.{◌≡◌, ◌≤◌, ℕ, ◌+◌, ◌-◌, ◌*◌, ◌^◌, Bool, true, false, if◌then◌else◌, ◌||◌, ◌&&◌, nat_le, ◌==◌, codes, Option, Some, None, List, [], ◌++◌, length, ℤ, pos, neg_ℤ}
-use Rattle.std.specs.List.{AllByRecursion}
+use Rattle.std.specs.Prelude.{◌≡◌, ◌≤◌, ℕ, ◌+◌, ◌-◌, ◌*◌, ◌^◌, Bool, true, false, if◌then◌else◌, ◌&&◌, nat_le, codes, Option, Some, None, List, [], ◌++◌, length, ℤ, pos, neg_ℤ}
 use Rattle.std.specs.Str.Parse.{digits_value}
 use Rattle.plan_core.specs.declared.numbers.Micro.{Micro}
-
--- space, tab, line feed, carriage return
-abbrev pub is_blank : ℕ → Bool
-is_blank b = (b == 32) || (b == 9) || (b == 10) || (b == 13)
+use Rattle.railml_text.specs.Bytes.{is_blank, Passes}
 
 -- `0` to `9`
 abbrev pub is_digit : ℕ → Bool
 is_digit b = nat_le 48 b && nat_le b 57
-
--- each byte passes
-abbrev pub Passes : (ℕ → Bool) → List ℕ → Type 0
-Passes p bytes = AllByRecursion (λ b. p b ≡ true) bytes
 
 pub data Sign : Type 0 where
   unsigned : Sign

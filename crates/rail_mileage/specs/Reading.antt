@@ -2,16 +2,8 @@
 use Rattle.std.specs.Prelude.{ℕ, Bool, ◌&&◌, nat_le, nat_lt, ◌+◌, ◌==◌, if◌then◌else◌, Option, Some, None, List, [], ◌∷◌, length}
 use Rattle.std.specs.List.{list_all}
 use Rattle.plan_core.specs.declared.numbers.Micro.{Micro}
-use Rattle.rail_mileage.specs.Metres.{is_blank, is_digit, Sign, unsigned, plus, minus, Parts, fraction_digits, mileage}
-
--- the longest front of bytes that pass, and what follows it
-abbrev pub front : (ℕ → Bool) → List ℕ → List ℕ
-front p [] = []
-front p (b ∷ bytes) = if p b then b ∷ front p bytes else []
-
-abbrev pub past : (ℕ → Bool) → List ℕ → List ℕ
-past p [] = []
-past p (b ∷ bytes) = if p b then past p bytes else b ∷ bytes
+use Rattle.railml_text.specs.Bytes.{is_blank, front, past}
+use Rattle.rail_mileage.specs.Metres.{is_digit, Sign, unsigned, plus, minus, Parts, fraction_digits, mileage}
 
 abbrev pub sign_at : List ℕ → Sign
 sign_at [] = unsigned

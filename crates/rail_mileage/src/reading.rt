@@ -2,18 +2,14 @@
 ghost use Rattle.std.specs.Prelude.{◌≡◌, ◌≤◌, ◌<◌, ◌+◌, ◌*◌, ◌^◌, Some, Option, length, IfSome, ℤ, unsigned_abs};
 ghost use Rattle.std.specs.List.{list_all};
 ghost use Rattle.std.specs.Str.Parse.{digits_value};
-ghost use Rattle.rail_mileage.specs.Metres.{is_blank as blank, is_digit as digit, Passes, Parts, IsMetres, size_of, signed as with_sign, is_minus, fraction_digits, mileage};
+ghost use Rattle.railml_text.specs.Bytes.{is_blank as blank, Passes, front, past};
+ghost use Rattle.rail_mileage.specs.Metres.{is_digit as digit, Parts, IsMetres, size_of, signed as with_sign, is_minus, fraction_digits, mileage};
 ghost use Rattle.rail_mileage.specs.MetresText.{metres_text};
-ghost use Rattle.rail_mileage.specs.Reading.{front, past, sign_at, past_sign, fraction_at, past_fraction, parts_of, reading_of};
+ghost use Rattle.rail_mileage.specs.Reading.{sign_at, past_sign, fraction_at, past_fraction, parts_of, reading_of};
 
 use crate::METRE;
 use plan_core::Micro;
-
-fn is_blank(b: u8) -> bool
-    ensures { result ≡ blank b }
-{
-    b == b' ' || b == b'\t' || b == b'\n' || b == b'\r'
-}
+use railml_text::{is_blank, past_blanks};
 
 fn is_digit(b: u8) -> bool
     ensures { result ≡ digit b }
@@ -25,20 +21,6 @@ fn are_blanks(text: &[u8]) -> bool
     ensures { result ≡ list_all blank text.now }
 {
     text.iter().all(|b| is_blank(*b))
-}
-
-/// What follows the white space at the front.
-fn past_blanks(text: &[u8]) -> &[u8]
-    ensures { result.now ≡ past blank text.now }
-{
-    let mut rest = text;
-    while let [b, tail @ ..] = rest {
-        if !is_blank(*b) {
-            return rest;
-        }
-        rest = tail;
-    }
-    rest
 }
 
 /// What follows the digits at the front.
@@ -56,7 +38,7 @@ fn past_digits(text: &[u8]) -> &[u8]
 }
 
 /// The digits at the front, and what follows them.
-#[tactic(auto, using(crate::proofs::Runs::take_before_past, crate::proofs::Runs::past_no_longer, crate::proofs::Runs::front_passes))]
+#[tactic(auto, using(railml_text::proofs::RunLemmas::take_front, railml_text::proofs::RunLemmas::past_no_longer, railml_text::proofs::RunLemmas::front_passes))]
 fn split_digits(text: &[u8]) -> (&[u8], &[u8])
     ensures digits { result.0.now ≡ front digit text.now }
     ensures are_digits { Passes digit result.0.now }
@@ -148,7 +130,7 @@ fn read_parts(text: &[u8]) -> Option<Micro>
 pub fn read_metres(text: &[u8]) -> Option<Micro>
     ensures reads { (parts : Parts) → IsMetres text.now parts → result ≡ Some (mileage parts) }
     ensures only { IfSome result (λ m. (parts : Parts) × IsMetres text.now parts × (m ≡ mileage parts)) }
-    // What `write_metres` writes is read as the same mileage.
+    // What `write_metres` writes below ten whole digits is read as the same mileage.
     ensures written { (z : ℤ) → unsigned_abs z < 10 ^ 15 → text.now ≡ metres_text z → result ≡ Some (record { 0 = z }) }
 {
     read_parts(text)

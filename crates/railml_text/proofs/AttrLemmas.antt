@@ -6,6 +6,7 @@ use Rattle.std.specs.List.{list_any}
 use Rattle.std.proofs.lemmas.Bool.Decides.{nat_tests}
 use Rattle.std.proofs.lemmas.List.{take_more, get_or-map, length-map, take-append-drop}
 use Rattle.std.proofs.lemmas.Slice.Eq.{bytes_eq-Decides}
+use Rattle.std.proofs.lemmas.Bool.{both_ways}
 use Rattle.railml_text.specs.declared.written.WrittenAttr.{WrittenAttr}
 use Rattle.railml_text.specs.declared.item.Attr.{Attr}
 use Rattle.railml_text.specs.declared.fault.ItemFault.{ItemFault}
@@ -16,7 +17,6 @@ use Rattle.railml_text.specs.Items.{AreTextsOf}
 use Rattle.railml_text.specs.Faults.{HasRepeat, NamesOtherEncoding}
 use Rattle.railml_text.specs.Reading.{written_of, IsValueFault}
 use Rattle.railml_text.specs.Judging.{AnyLoose, AreUtf8, IsAttrsFault}
-use Rattle.railml_text.proofs.RunLemmas.{not_both}
 use Rattle.railml_text.proofs.ValueLemmas.{text_no_loose}
 
 -- ---- names
@@ -88,7 +88,7 @@ no_repeat_push attrs a none e r = elim (push_cases attrs a r.j r.name r.at_j) [
     | inr earlier ↦ let lt = r.earlier in absurd (omega (arith, earlier.0, later.0, lt))
   ]
   | inr later ↦ elim (push_cases attrs a r.i r.name r.at_i) [
-    | inl earlier ↦ not_both (has_name r.name attrs) (at_name r.name attrs r.i earlier.1) (subst (λ (n : List ℕ). has_name n attrs ≡ false) later.1 e)
+    | inl earlier ↦ both_ways (has_name r.name attrs) (subst (λ (n : List ℕ). has_name n attrs ≡ false) later.1 e) (at_name r.name attrs r.i earlier.1)
     | inr earlier ↦ let lt = r.earlier in absurd (omega (arith, earlier.0, later.0, lt))
   ]
 ]

@@ -3,9 +3,10 @@ use Rattle.std.proofs.Common.{◌≡◌, ℕ, ◌≤◌, Bool, true, false, cond
 use Rattle.std.specs.Prelude.{⊤}
 use Rattle.std.specs.List.{AllByRecursion}
 use Rattle.std.proofs.lemmas.List.{drop_at}
+use Rattle.std.proofs.lemmas.Bool.{both_ways, and_parts, false_from_ne_true}
 use Rattle.railml_text.specs.declared.miss.Miss.TheVariants.{Cut, Bad}
 use Rattle.railml_text.specs.Reading.{begins_with, past_first, cut_unless, bracket_at}
-use Rattle.railml_text.proofs.RunLemmas.{eq-same, same_if_eq, both_true, false_unless, not_both}
+use Rattle.railml_text.proofs.RunLemmas.{eq-same, same_if_eq}
 use Rattle.railml_text.proofs.LawLemmas.{Taken, Law, graph, Anything, done_rest}
 
 -- ---- what bytes begin with
@@ -18,14 +19,14 @@ pub begins_parts : (word bytes : List ℕ) → begins_with word bytes ≡ true �
 begins_parts [] bytes e = refl
 begins_parts (c ∷ word) [] e = absurd cc
 begins_parts (c ∷ word) (b ∷ bytes) e =
-    let a = both_true (b == c) (begins_with word bytes) e in
+    let a = and_parts (b == c) (begins_with word bytes) e in
     ap (λ (x : ℕ). x ∷ bytes) (same_if_eq b c a.0) ∙ ap (λ (t : List ℕ). c ∷ t) (begins_parts word bytes a.1)
 
 -- bytes that are long enough tell by themselves
 begins_within : (word bytes more : List ℕ) → length word ≤ length bytes → begins_with word (bytes ++ more) ≡ true → begins_with word bytes ≡ true
 begins_within [] bytes more l e = refl
 begins_within (c ∷ word) [] more l e = absurd (omega arith)
-begins_within (c ∷ word) (b ∷ bytes) more l e = let a = both_true (b == c) (begins_with word (bytes ++ more)) e in rw (a.0, begins_within word bytes more (omega arith) a.1) refl
+begins_within (c ∷ word) (b ∷ bytes) more l e = let a = and_parts (b == c) (begins_with word (bytes ++ more)) e in rw (a.0, begins_within word bytes more (omega arith) a.1) refl
 
 -- the byte isn't in the word
 abbrev pub Lacks : ℕ → List ℕ → Type 0
@@ -33,8 +34,8 @@ Lacks x word = AllByRecursion (λ c. (x == c) ≡ false) word
 
 begins_before : (x : ℕ) (word bytes more : List ℕ) → Lacks x word → begins_with word (bytes ++ x ∷ more) ≡ true → begins_with word bytes ≡ true
 begins_before x [] bytes more l e = refl
-begins_before x (c ∷ word) [] more l e = absurd (not_both (x == c) (both_true (x == c) (begins_with word more) e).0 l.0)
-begins_before x (c ∷ word) (b ∷ bytes) more l e = let a = both_true (b == c) (begins_with word (bytes ++ x ∷ more)) e in rw (a.0, begins_before x word bytes more l.1 a.1) refl
+begins_before x (c ∷ word) [] more l e = absurd (both_ways (x == c) l.0 (and_parts (x == c) (begins_with word more) e).0)
+begins_before x (c ∷ word) (b ∷ bytes) more l e = let a = and_parts (b == c) (begins_with word (bytes ++ x ∷ more)) e in rw (a.0, begins_before x word bytes more l.1 a.1) refl
 
 -- ---- up to the first
 
@@ -78,13 +79,13 @@ bracket_takes k c (b ∷ bytes) x rest e = choose (begins_with (k ∷ c) (b ∷ 
         first : (t : Taken (UpToFirst (k ∷ c)) bytes x rest) → b ∷ bytes ≡ (b ∷ (t.is.inner ++ k ∷ c)) ++ rest → (before after : List ℕ) → b ∷ (t.is.inner ++ k ∷ c) ≡ before ++ ((k ∷ c) ++ after) → after ≡ []
         first t whole [] after q =
             let e : b ∷ bytes ≡ (k ∷ c) ++ (after ++ rest) = whole ∙ ap (λ (u : List ℕ). u ++ rest) q ∙ append_assoc (k ∷ c) after rest in
-            absurd (not_both (begins_with (k ∷ c) (b ∷ bytes)) (ap (begins_with (k ∷ c)) e ∙ begins-append (k ∷ c) (after ++ rest)) p)
+            absurd (both_ways (begins_with (k ∷ c) (b ∷ bytes)) p (ap (begins_with (k ∷ c)) e ∙ begins-append (k ∷ c) (after ++ rest)))
         first t whole (z ∷ before) after q = t.is.first before after (ap (λ (u : List ℕ). drop 1 u) q)
 
 bracket_again : (k : ℕ) (c inner rest : List ℕ) → ((before after : List ℕ) → inner ++ k ∷ c ≡ before ++ ((k ∷ c) ++ after) → after ≡ []) → past_first (k ∷ c) ((inner ++ k ∷ c) ++ rest) ≡ Some rest
 bracket_again k c [] rest first = at_front k c rest
 bracket_again k c (b ∷ inner) rest first =
-    rw (false_unless (begins_with (k ∷ c) (b ∷ ((inner ++ k ∷ c) ++ rest))) earlier) (bracket_again k c inner rest (λ before after e. first (b ∷ before) after (ap (λ (u : List ℕ). b ∷ u) e)))
+    rw (false_from_ne_true (begins_with (k ∷ c) (b ∷ ((inner ++ k ∷ c) ++ rest))) earlier) (bracket_again k c inner rest (λ before after e. first (b ∷ before) after (ap (λ (u : List ℕ). b ∷ u) e)))
   where
     earlier : begins_with (k ∷ c) (b ∷ ((inner ++ k ∷ c) ++ rest)) ≡ true → ⊥
     earlier h =
@@ -106,7 +107,7 @@ bracket_cut x k c (b ∷ bytes) tail l e = choose (begins_with (k ∷ c) (b ∷ 
     choose true p h ih = absurd cc
     choose false p h ih =
         let later : begins_with (k ∷ c) (b ∷ (bytes ++ (x ∷ ((k ∷ c) ++ tail)))) ≡ false =
-        false_unless (begins_with (k ∷ c) (b ∷ (bytes ++ (x ∷ ((k ∷ c) ++ tail))))) (λ y. not_both (begins_with (k ∷ c) (b ∷ bytes)) (begins_before x (k ∷ c) (b ∷ bytes) ((k ∷ c) ++ tail) l y) p) in
+        false_from_ne_true (begins_with (k ∷ c) (b ∷ (bytes ++ (x ∷ ((k ∷ c) ++ tail))))) (λ y. both_ways (begins_with (k ∷ c) (b ∷ bytes)) p (begins_before x (k ∷ c) (b ∷ bytes) ((k ∷ c) ++ tail) l y)) in
         rw later (ih h)
 
 unless_ok : (o : Option (List ℕ)) (x : ⊤) (rest : List ℕ) → cut_unless o ≡ Ok (x, rest) → o ≡ Some rest

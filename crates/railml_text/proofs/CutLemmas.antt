@@ -4,6 +4,7 @@ use Rattle.std.specs.Prelude.{nat_eq}
 use Rattle.std.specs.List.{starts_with}
 use Rattle.std.specs.Str.{IsUtf8, IsCharBoundary}
 use Rattle.std.proofs.lemmas.Str.{IsUtf8-past_char, IsCharBoundary-at_seam, IsCharBoundary-start}
+use Rattle.std.proofs.lemmas.Bool.{both_ways, and_parts}
 use Rattle.railml_text.specs.declared.item.ItemKind.{ItemKind}
 use Rattle.railml_text.specs.declared.item.ItemKind.TheVariants as kinds
 use Rattle.railml_text.specs.declared.item.Attr.{Attr}
@@ -14,7 +15,7 @@ use Rattle.railml_text.specs.Items.{Shape, declaration, instruction, comment, cd
 use Rattle.railml_text.specs.Faults.{number_of, HasItemFault, IsLeastFault, HasSoundItem}
 use Rattle.railml_text.specs.Cutting.{Placed, Cuts, byte_order_mark, start_of, ComesTo, IsCutInto, is_first, FirstFault}
 use Rattle.std.proofs.lemmas.Bool.Decides.{nat_tests}
-use Rattle.railml_text.proofs.RunLemmas.{both_true, not_both, same_if_eq}
+use Rattle.railml_text.proofs.RunLemmas.{same_if_eq}
 use Rattle.railml_text.proofs.ValueLemmas.{one_text}
 use Rattle.railml_text.proofs.OneItem.{one_item, no_doctype}
 use Rattle.railml_text.proofs.PartLemmas.{item_some}
@@ -210,14 +211,14 @@ ComesTo-push bytes items at rest kind after next h w s n = record {
 -- what a file that begins with a mark is
 mark_parts : (bytes : List ℕ) → starts_with nat_eq bytes byte_order_mark ≡ true → bytes ≡ byte_order_mark ++ drop 3 bytes
 mark_parts [] e = absurd cc
-mark_parts (a ∷ []) e = let k = both_true (nat_eq 239 a) false e in absurd (not_both false k.1 refl)
+mark_parts (a ∷ []) e = let k = and_parts (nat_eq 239 a) false e in absurd (both_ways false refl k.1)
 mark_parts (a ∷ b ∷ []) e =
-    let k = both_true (nat_eq 239 a) (nat_eq 187 b && false) e in
-    let l = both_true (nat_eq 187 b) false k.1 in absurd (not_both false l.1 refl)
+    let k = and_parts (nat_eq 239 a) (nat_eq 187 b && false) e in
+    let l = and_parts (nat_eq 187 b) false k.1 in absurd (both_ways false refl l.1)
 mark_parts (a ∷ b ∷ c ∷ bytes) e =
-    let k = both_true (nat_eq 239 a) (nat_eq 187 b && (nat_eq 191 c && true)) e in
-    let l = both_true (nat_eq 187 b) (nat_eq 191 c && true) k.1 in
-    let m = both_true (nat_eq 191 c) true l.1 in
+    let k = and_parts (nat_eq 239 a) (nat_eq 187 b && (nat_eq 191 c && true)) e in
+    let l = and_parts (nat_eq 187 b) (nat_eq 191 c && true) k.1 in
+    let m = and_parts (nat_eq 191 c) true l.1 in
     rw (sym (same_if_eq 239 a k.0), sym (same_if_eq 187 b l.0), sym (same_if_eq 191 c m.0)) refl
 
 pub start_within : (bytes : List ℕ) → start_of bytes ≤ length bytes

@@ -1,6 +1,7 @@
 -- The faults of one item.
 use Rattle.std.proofs.Common.{◌≡◌, ℕ, ◌<◌, Bool, codes, Some, None, List, [], ◌∷◌, ◌++◌, Ok, Err, refl, sym, ◌∙◌, subst, arith, inl, inr}
 use Rattle.std.specs.Prelude.{⊤}
+use Rattle.plan_core.proofs.ListFacts.{same_heads}
 use Rattle.railml_text.specs.declared.item.ItemKind.{ItemKind}
 use Rattle.railml_text.specs.declared.item.ItemKind.TheVariants as kinds
 use Rattle.railml_text.specs.declared.item.Attr.{Attr}
@@ -18,7 +19,6 @@ use Rattle.railml_text.specs.Items.{Shape, declaration, instruction, comment, cd
 use Rattle.railml_text.specs.Faults.{number_of, NamesOtherEncoding, HasRepeat, attrs_of, HasItemFault, IsLeastFault, HasSoundItem}
 use Rattle.railml_text.specs.Reading.{Found, item, doctype, MarkupRead, Stopped}
 use Rattle.railml_text.specs.Judging.{AnyLoose, OwnFault, IsLeastOwn, IsSoundKind, IsFoundKind, IsFoundFault, refusal_of, IsFaultAt}
-use Rattle.railml_text.proofs.RunLemmas.{heads_same}
 use Rattle.railml_text.proofs.AttrLemmas.{texts_no_loose}
 use Rattle.railml_text.proofs.OneItem.{Sort, sort_of, one_item, no_doctype, read_item, read_doctype, miss_no_item, miss_no_doctype, cut_front, bad_no_front, heads_differ, markup_heads, not_in_text}
 
@@ -105,7 +105,7 @@ pub doctype_fault : (first : Bool) (bytes after : List ℕ) → MarkupRead first
 doctype_fault first bytes after h = let b = read_doctype first bytes after h in record { holds = b; least = least_doctype first (60 ∷ bytes) b }
 
 not_loose : (bytes : List ℕ) → BeginsLoose (60 ∷ bytes) → ⊥
-not_loose bytes l = let q = heads_same 60 38 bytes l.rest l.ampersand in absurd (omega (arith, q))
+not_loose bytes l = let q = same_heads 60 38 bytes l.rest l.ampersand in absurd (omega (arith, q))
 
 least_unfinished : (first : Bool) (bytes : List ℕ) → MarkupRead first bytes (Err Cut) → (other : TextWhat) → number_of other < 9 → HasItemFault first (60 ∷ bytes) other → ⊥
 least_unfinished first bytes h NotUtf8 lt f = f
@@ -191,8 +191,8 @@ quiet_sound shape kind q k = record { kind_is = k; sound = quiet shape q }
 least_loose : (first : Bool) (rest : List ℕ) → BeginsLoose rest → (other : TextWhat) → number_of other < 5 → HasItemFault first rest other → ⊥
 least_loose first rest l NotUtf8 lt f = f
 least_loose first rest l Encoding lt f = loose_no_item first rest (declaration f.attrs) f.after l f.item
-least_loose first rest l Doctype lt f = let q = heads_same 60 38 (codes "!DOCTYPE" ++ f.0) l.rest (sym f.1 ∙ l.ampersand) in absurd (omega (arith, q))
-least_loose first rest l Markup lt f = let q = heads_same 60 38 f.begins.0 l.rest (sym f.begins.1 ∙ l.ampersand) in absurd (omega (arith, q))
+least_loose first rest l Doctype lt f = let q = same_heads 60 38 (codes "!DOCTYPE" ++ f.0) l.rest (sym f.1 ∙ l.ampersand) in absurd (omega (arith, q))
+least_loose first rest l Markup lt f = let q = same_heads 60 38 f.begins.0 l.rest (sym f.begins.1 ∙ l.ampersand) in absurd (omega (arith, q))
 least_loose first rest l Entity lt f = absurd (omega arith)
 least_loose first rest l EndTag lt f = f
 least_loose first rest l RepeatedAttribute lt f = absurd (omega arith)

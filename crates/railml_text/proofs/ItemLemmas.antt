@@ -1,11 +1,13 @@
 -- The texts that the reading takes after `<` are those of the table of items.
 use Rattle.std.proofs.Common.{◌≡◌, ◌≢◌, ℕ, Bool, true, false, cond, codes, List, [], ◌∷◌, ◌++◌, drop, refl, sym, ap, ◌∙◌, subst, append_assoc, arith, inl, inr}
+use Rattle.std.proofs.lemmas.Bool.{both_ways}
+use Rattle.plan_core.proofs.ListFacts.{same_heads, same_tails}
 use Rattle.railml_text.specs.Bytes.{is_blank}
 use Rattle.railml_text.specs.Grammar.{AreBlanks, Written, IsDeclaration, IsStartTag, IsEndTag}
 use Rattle.railml_text.specs.References.{IsReference}
 use Rattle.railml_text.specs.Items.{declaration, instruction, comment, cdata, start_tag, end_tag, reference, chars, IsItem}
 use Rattle.railml_text.specs.Reading.{Found, item, doctype}
-use Rattle.railml_text.proofs.RunLemmas.{name_no_blank, not_both, heads_same, tails_same}
+use Rattle.railml_text.proofs.RunLemmas.{name_no_blank}
 use Rattle.railml_text.proofs.ReaderLemmas.{attr_begins}
 use Rattle.railml_text.proofs.ReferenceLemmas.{reference_first}
 use Rattle.railml_text.proofs.MarkupLemmas.{BangText, DeclarationText, QuestionText, StartText, MarkupText}
@@ -35,7 +37,7 @@ declaration_of thing after found b t w e text parts = subst (IsFound true text) 
         let a = attr_begins t.is_a.thing t.x t.is_a.is in
         let whole : b ∷ after ≡ a.head ∷ (a.tail ++ t.b) = sym e ∙ t.parts ∙ ap (λ (u : List ℕ). u ++ t.b) (t.is_a.parts ∙ ap (λ (u : List ℕ). u ++ t.is_a.thing) h ∙ a.parts) in
         let same : b ≡ a.head = cc in
-        not_both (is_blank a.head) (ap is_blank (sym same) ∙ w) (name_no_blank a.head a.begins)
+        both_ways (is_blank a.head) (name_no_blank a.head a.begins) (ap is_blank (sym same) ∙ w)
 
 question_found : (first : Bool) (text thing : List ℕ) (found : Found) → text ≡ 63 ∷ thing → QuestionText first thing found → IsFound first text found
 question_found first text thing found e (inl t) =
@@ -90,7 +92,7 @@ declaration_said text (attr ∷ attrs) i = gap i.attributes.0 refl i.attributes.
     tail = i.attributes.2 ++ (i.blanks ++ codes "?>")
 
     parts : text ≡ 63 ∷ (codes "xml" ++ (first_attr ++ tail))
-    parts = tails_same 60 60 text (63 ∷ (codes "xml" ++ (first_attr ++ tail))) (i.spelled ∙ rw i.attributes.7 (simp append_assoc))
+    parts = same_tails 60 60 text (63 ∷ (codes "xml" ++ (first_attr ++ tail))) (i.spelled ∙ rw i.attributes.7 (simp append_assoc))
 
     gap : (blanks : List ℕ) → i.attributes.0 ≡ blanks → blanks ≢ [] → AreBlanks blanks → MarkupText true text (item (declaration (attr ∷ attrs)))
     gap [] e n h = absurd (n refl)
@@ -125,24 +127,24 @@ start_said first text name attrs empty i =
       y = (attrs, empty);
       is_a = record { same = refl; named = i.named };
       is_b = record { between = i.between; blanks = i.blanks; close = close; attributes = i.attributes; blank = i.blank; closes = refl; parts = refl };
-      parts = tails_same 60 60 text (name ++ (i.between ++ (i.blanks ++ close))) (i.spelled ∙ simp append_assoc);
+      parts = same_tails 60 60 text (name ++ (i.between ++ (i.blanks ++ close))) (i.spelled ∙ simp append_assoc);
       made = refl;
     })))
 
 end_said : (first : Bool) (text name : List ℕ) → IsEndTag (60 ∷ text) name → MarkupText first text (item (end_tag name))
 end_said first text name i =
     let thing = name ++ i.blanks ++ codes ">" in
-    let parts : text ≡ 47 ∷ thing = tails_same 60 60 text (47 ∷ thing) i.spelled in
+    let parts : text ≡ 47 ∷ thing = same_tails 60 60 text (47 ∷ thing) i.spelled in
     inr (inl (record { thing = thing; is = record { read = name; is = subst (λ (u : List ℕ). IsEndTag (60 ∷ u) name) parts i; made = refl }; parts = parts }))
 
 not_reference : (text : List ℕ) (c : ℕ) → IsReference (60 ∷ text) c → ⊥
-not_reference text c r = let f = reference_first (60 ∷ text) c r in let h = heads_same 60 38 text f.0 f.1 in absurd (omega (arith, h))
+not_reference text c r = let f = reference_first (60 ∷ text) c r in let h = same_heads 60 38 text f.0 f.1 in absurd (omega (arith, h))
 
 pub said : (first : Bool) (text : List ℕ) (found : Found) → IsFound first text found → MarkupText first text found
 said first text (item (declaration attrs)) i = subst (λ (v : Bool). MarkupText v text (item (declaration attrs))) (sym i.0) (declaration_said text attrs i.1)
 said first text (item instruction) i =
     let inner = i.0.inner ++ codes "?>" in
-    let parts : text ≡ 63 ∷ inner = tails_same 60 60 text (63 ∷ inner) i.0.spelled in
+    let parts : text ≡ 63 ∷ inner = same_tails 60 60 text (63 ∷ inner) i.0.spelled in
     inl (record {
       thing = inner;
       is = inr (record {
@@ -161,7 +163,7 @@ said first text (item comment) i =
         is = record { a = codes "-"; b = inner; x = tt; y = tt; is_a = refl; is_b = record { inner = i.inner; parts = refl; first = i.first }; parts = refl; made = refl };
         parts = refl;
       });
-      parts = tails_same 60 60 text (33 ∷ 45 ∷ 45 ∷ inner) i.spelled;
+      parts = same_tails 60 60 text (33 ∷ 45 ∷ 45 ∷ inner) i.spelled;
     })))
 said first text (item cdata) i =
     let inner = i.inner ++ codes "]]>" in
@@ -172,7 +174,7 @@ said first text (item cdata) i =
         is = record { a = codes "CDATA["; b = inner; x = tt; y = tt; is_a = refl; is_b = record { inner = i.inner; parts = refl; first = i.first }; parts = refl; made = refl };
         parts = refl;
       }));
-      parts = tails_same 60 60 text (codes "![CDATA[" ++ inner) i.spelled;
+      parts = same_tails 60 60 text (codes "![CDATA[" ++ inner) i.spelled;
     })))
 said first text (item (start_tag name attrs empty)) i = start_said first text name attrs empty i
 said first text (item (end_tag name)) i = end_said first text name i
@@ -181,5 +183,5 @@ said first text (item (chars blank)) i = let h : false ≡ true = i.0.within.0 i
 said first text doctype e = inr (inr (inl (record {
   thing = codes "DOCTYPE";
   is = inr (inr (inl (record { thing = codes "OCTYPE"; is = record { read = tt; is = refl; made = refl }; parts = refl })));
-  parts = tails_same 60 60 text (codes "!DOCTYPE") e;
+  parts = same_tails 60 60 text (codes "!DOCTYPE") e;
 })))

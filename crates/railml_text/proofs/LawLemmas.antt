@@ -2,9 +2,9 @@
 use Rattle.std.proofs.Common.{◌≡◌, ◌⊎◌, ℕ, Bool, true, false, cond, ◌==◌, MatchBool, inl, inr, List, [], ◌∷◌, ◌++◌, Ok, Err, refl, sym, ap, ◌∙◌, subst, append_assoc}
 use Rattle.railml_text.specs.declared.miss.Miss.{Miss}
 use Rattle.railml_text.specs.declared.miss.Miss.TheVariants.{Cut, Bad}
-use Rattle.railml_text.specs.Bytes.{is_blank}
+use Rattle.railml_text.specs.Bytes.{is_blank, front, past}
 use Rattle.railml_text.specs.Grammar.{AreBlanks}
-use Rattle.railml_text.specs.Reading.{Read, done, front, past, begins_blank, mapped, in_turn, InTurn, past_gap, by_first, ByFirst, by_class, nothing_at}
+use Rattle.railml_text.specs.Reading.{Read, done, begins_blank, mapped, in_turn, InTurn, past_gap, by_first, ByFirst, by_class, nothing_at}
 use Rattle.railml_text.proofs.RunLemmas.{eq-same, same_if_eq, front-past, front_passes, past_run, past_more, past_all, blank-front, blank-run, blank-more}
 
 -- a front of the bytes is a text of what was read

@@ -1,13 +1,15 @@
 -- What stands after `<`: each kind of item that begins so, and all of them together.
 use Rattle.std.proofs.Common.{◌≡◌, ◌≢◌, ◌⊎◌, ℕ, Bool, true, false, ◌==◌, ◌&&◌, MatchBool, codes, List, [], ◌∷◌, ◌++◌, drop, Ok, Err, refl, sym, ap, ◌∙◌, subst, append_assoc, arith, inl, inr}
 use Rattle.std.specs.Prelude.{⊤}
+use Rattle.std.proofs.lemmas.Bool.{both_ways, and_parts, false_from_ne_true, and_from}
+use Rattle.plan_core.proofs.ListFacts.{same_heads}
 use Rattle.railml_text.specs.declared.miss.Miss.TheVariants.{Cut, Bad}
 use Rattle.railml_text.specs.declared.written.Closing.TheVariants.{Tag, Declaration}
 use Rattle.railml_text.specs.Bytes.{is_blank, begins_name, goes_on_name}
 use Rattle.railml_text.specs.Grammar.{AreBlanks, Written, IsAttr, AreAttrs}
 use Rattle.railml_text.specs.Items.{declaration, instruction, comment, cdata, start_tag, end_tag}
 use Rattle.railml_text.specs.Reading.{Read, begins_blank, mapped, InTurn, skip, by_first, ByFirst, nothing_at, word_at, name_at, attr_at, end_tag_at, Tail, bracket_at, Found, item, doctype, comment_at, cdata_at, doctype_at, bang_at, blank_after, goes_on_xml, declared, DeclarationRead, instruction_at, QuestionRead, started, StartRead, closing_tag_at, MarkupRead}
-use Rattle.railml_text.proofs.RunLemmas.{same_if_eq, both_true, false_unless, not_both, blank_no_name, name_no_blank, heads_same}
+use Rattle.railml_text.proofs.RunLemmas.{same_if_eq, blank_no_name, name_no_blank}
 use Rattle.railml_text.proofs.LawLemmas.{Taken, GoesOn, Law, graph, Anything, MappedText, mapped_err, Law-mapped, TurnText, SomeText, SomeText-turn, Law-turn, Law-in_turn, NoBlankFirst, OtherFirst, FirstText, Law-ByFirst, Law-by_first, NoText, Law-nothing}
 use Rattle.railml_text.proofs.ReaderLemmas.{IsWord, Law-word, SomeText-word, EndsName, IsNameText, Law-name, SkipText, Law-skip, blanks_end_name, Law-attr, name_begins, attr_begins, AfterSlash, Law-end_tag}
 use Rattle.railml_text.proofs.TagLemmas.{closing_begins, TailText, Law-tail, some_tail}
@@ -132,7 +134,7 @@ xml_before x bytes more p q r s b = cases bytes b.parts
     cases [] e = absurd (p (ap (λ (u : List ℕ). nth 0 u) e))
     cases (y ∷ []) e = absurd (q (ap (λ (u : List ℕ). nth 1 u) e))
     cases (y ∷ z ∷ []) e = absurd (r (ap (λ (u : List ℕ). nth 2 u) e))
-    cases (y ∷ z ∷ w ∷ []) e = let same : x ≡ b.blank = ap (λ (u : List ℕ). nth 3 u) e in absurd (not_both (is_blank x) (ap is_blank same ∙ b.is) s)
+    cases (y ∷ z ∷ w ∷ []) e = let same : x ≡ b.blank = ap (λ (u : List ℕ). nth 3 u) e in absurd (both_ways (is_blank x) s (ap is_blank same ∙ b.is))
     cases (y ∷ z ∷ w ∷ v ∷ ys) e =
         let first_is : y ≡ 120 = ap (λ (u : List ℕ). nth 0 u) e in
         let second_is : z ≡ 109 = ap (λ (u : List ℕ). nth 1 u) e in
@@ -183,9 +185,6 @@ decide : (v : Bool) → (v ≡ true) ⊎ (v ≡ false)
 decide true = inl refl
 decide false = inr refl
 
-and_true : (v w : Bool) → v ≡ true → w ≡ true → (v && w) ≡ true
-and_true v w e f = rw (e, f) refl
-
 pub Law-question : (first : Bool) → Law (QuestionRead first) (QuestionText first) Anything
 Law-question first = record {
   takes = takes;
@@ -208,13 +207,13 @@ Law-question first = record {
     of bytes r v e h = subst (λ (w : Bool). MatchBool w (DeclarationRead (drop 3 bytes) r) (instruction_at bytes ≡ r)) e h
 
     as_xml : (bytes : List ℕ) (r : Read Found) → first ≡ true → BeginsXml bytes → DeclarationRead (drop 3 bytes) r → QuestionRead first bytes r
-    as_xml bytes r f b h = at bytes r true (and_true first (goes_on_xml bytes) f (begins_xml bytes b)) h
+    as_xml bytes r f b h = at bytes r true (and_from first (goes_on_xml bytes) f (begins_xml bytes b)) h
 
     no_xml : (bytes : List ℕ) → (first && goes_on_xml bytes) ≡ false → first ≡ true → BeginsXml bytes → ⊥
-    no_xml bytes e f b = not_both (first && goes_on_xml bytes) (and_true first (goes_on_xml bytes) f (begins_xml bytes b)) e
+    no_xml bytes e f b = both_ways (first && goes_on_xml bytes) e (and_from first (goes_on_xml bytes) f (begins_xml bytes b))
 
     as_other : (bytes : List ℕ) (r : Read Found) → (first ≡ true → BeginsXml bytes → ⊥) → instruction_at bytes ≡ r → QuestionRead first bytes r
-    as_other bytes r never h = at bytes r false (false_unless (first && goes_on_xml bytes) (λ e. let b = both_true first (goes_on_xml bytes) e in never b.0 (xml_begins bytes b.1))) h
+    as_other bytes r never h = at bytes r false (false_from_ne_true (first && goes_on_xml bytes) (λ e. let b = and_parts first (goes_on_xml bytes) e in never b.0 (xml_begins bytes b.1))) h
 
     takes_xml : (bytes : List ℕ) (x : Found) (rest : List ℕ) → first ≡ true → BeginsXml bytes → DeclarationRead (drop 3 bytes) (Ok (x, rest)) → Taken (QuestionText first) bytes x rest
     takes_xml bytes x rest f b h =
@@ -222,7 +221,7 @@ Law-question first = record {
         let n = thing_begins t.text x t.is in
         let dropped : drop 3 bytes ≡ b.blank ∷ b.after = ap (λ (u : List ℕ). drop 3 u) b.parts in
         let heads : n.0 ∷ (n.1 ++ rest) ≡ b.blank ∷ b.after = sym (t.parts ∙ ap (λ (u : List ℕ). u ++ rest) n.2) ∙ dropped in
-        let same = heads_same n.0 b.blank (n.1 ++ rest) b.after heads in
+        let same = same_heads n.0 b.blank (n.1 ++ rest) b.after heads in
         record {
           text = codes "xml" ++ t.text;
           is = inl (record {
@@ -239,7 +238,7 @@ Law-question first = record {
     takes bytes x rest h = cases (decide (first && goes_on_xml bytes))
       where
         cases : ((first && goes_on_xml bytes) ≡ true) ⊎ ((first && goes_on_xml bytes) ≡ false) → Taken (QuestionText first) bytes x rest
-        cases (inl e) = let b = both_true first (goes_on_xml bytes) e in takes_xml bytes x rest b.0 (xml_begins bytes b.1) (of bytes (Ok (x, rest)) true e h)
+        cases (inl e) = let b = and_parts first (goes_on_xml bytes) e in takes_xml bytes x rest b.0 (xml_begins bytes b.1) (of bytes (Ok (x, rest)) true e h)
         cases (inr e) =
             let t = Law-instruction.takes bytes x rest (of bytes (Ok (x, rest)) false e h) in
             record {
@@ -270,7 +269,7 @@ Law-question first = record {
       where
         cases : ((first && goes_on_xml bytes) ≡ true) ⊎ ((first && goes_on_xml bytes) ≡ false) → QuestionRead first (bytes ++ after) (Err Bad)
         cases (inl e) =
-            let b = both_true first (goes_on_xml bytes) e in
+            let b = and_parts first (goes_on_xml bytes) e in
             let x = xml_begins bytes b.1 in
             as_xml (bytes ++ after) (Err Bad) b.0 (xml_more bytes after x)
             (subst (λ (u : List ℕ). DeclarationRead u (Err Bad)) (after_xml bytes after x) (Law-declaration.bad (drop 3 bytes) after (of bytes (Err Bad) true e h)))
@@ -281,7 +280,7 @@ Law-question first = record {
       where
         cases : ((first && goes_on_xml bytes) ≡ true) ⊎ ((first && goes_on_xml bytes) ≡ false) → GoesOn (QuestionRead first) Anything bytes
         cases (inl e) =
-            let b = both_true first (goes_on_xml bytes) e in
+            let b = and_parts first (goes_on_xml bytes) e in
             let x = xml_begins bytes b.1 in
             let g = Law-declaration.cut (drop 3 bytes) (of bytes (Err Cut) true e h) in
             record {
@@ -355,7 +354,7 @@ abbrev pub MarkupText : Bool → List ℕ → Found → Type 0
 MarkupText first = FirstText 63 (QuestionText first) (FirstText 47 ClosingTagText (FirstText 33 BangText StartText))
 
 name_other : (b c : ℕ) → begins_name b ≡ true → begins_name c ≡ false → (b == c) ≡ false
-name_other b c h k = false_unless (b == c) (λ e. not_both (begins_name c) (ap begins_name (sym (same_if_eq b c e)) ∙ h) k)
+name_other b c h k = false_from_ne_true (b == c) (λ e. both_ways (begins_name c) k (ap begins_name (sym (same_if_eq b c e)) ∙ h))
 
 start_others : (c : ℕ) → begins_name c ≡ false → (text : List ℕ) (found : Found) → StartText text found → OtherFirst c text
 start_others c k text found t =

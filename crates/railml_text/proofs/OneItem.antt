@@ -3,12 +3,13 @@ use Rattle.std.proofs.Common.{◌≡◌, ◌≢◌, ◌⊎◌, ℕ, Bool, true, 
 use Rattle.std.specs.Prelude.{⊤}
 use Rattle.std.specs.List.{list_all}
 use Rattle.std.proofs.lemmas.List.{append-nil}
+use Rattle.std.proofs.lemmas.Bool.{both_ways}
+use Rattle.plan_core.proofs.ListFacts.{same_heads, same_tails}
 use Rattle.railml_text.specs.declared.miss.Miss.{Miss}
 use Rattle.railml_text.specs.declared.miss.Miss.TheVariants.{Cut, Bad}
-use Rattle.railml_text.specs.Bytes.{is_blank, is_in_text, Passes, BeginsWith}
+use Rattle.railml_text.specs.Bytes.{is_blank, is_in_text, Passes, BeginsWith, front, past}
 use Rattle.railml_text.specs.Items.{Shape, declaration, instruction, comment, cdata, start_tag, end_tag, reference, chars, IsItem, IsLongest, HasItem, HasNoItem, IsFront}
-use Rattle.railml_text.specs.Reading.{done, front, past, Found, item, doctype, MarkupRead}
-use Rattle.railml_text.proofs.RunLemmas.{heads_same, tails_same, not_both}
+use Rattle.railml_text.specs.Reading.{done, Found, item, doctype, MarkupRead}
 use Rattle.railml_text.proofs.LawLemmas.{Taken, GoesOn, Law, Anything, done_rest, done_read, Law-spelled}
 use Rattle.railml_text.proofs.ReferenceLemmas.{reference_first, one_reference}
 use Rattle.railml_text.proofs.MarkupLemmas.{Law-markup}
@@ -61,8 +62,8 @@ item_read first bytes shape after h = cases h.text h.is h.parts
         none (inr (inl r)) = let k = subst (IsItem first []) r i in let t = reference_first [] k.0 k.1 in let q : [] ≡ 38 ∷ t.0 = t.1 in cc
         none (inr (inr c)) = let k = subst (IsItem first []) c.1 i in k.0.some refl
     cases (b ∷ text) i e =
-        let same : 60 ≡ b = heads_same 60 b bytes (text ++ after) e in
-        let rest : bytes ≡ text ++ after = tails_same 60 b bytes (text ++ after) e in
+        let same : 60 ≡ b = same_heads 60 b bytes (text ++ after) e in
+        let rest : bytes ≡ text ++ after = same_tails 60 b bytes (text ++ after) e in
         let found : IsFound first text (item shape) = subst (λ (c : ℕ). IsItem first (c ∷ text) shape) (sym same) i in
         subst (λ (u : List ℕ). MarkupRead first u (Ok (item shape, after))) (sym rest) ((Law-found first).again text (item shape) after found tt)
 
@@ -84,7 +85,7 @@ read_item first bytes shape after h =
 
 pub doctype_read : (first : Bool) (bytes : List ℕ) → BeginsWith (60 ∷ bytes) (codes "<!DOCTYPE") → (after : List ℕ) × MarkupRead first bytes (Ok (doctype, after))
 doctype_read first bytes b =
-    let rest : bytes ≡ codes "!DOCTYPE" ++ b.0 = tails_same 60 60 bytes (codes "!DOCTYPE" ++ b.0) b.1 in
+    let rest : bytes ≡ codes "!DOCTYPE" ++ b.0 = same_tails 60 60 bytes (codes "!DOCTYPE" ++ b.0) b.1 in
     (b.0, subst (λ (u : List ℕ). MarkupRead first u (Ok (doctype, b.0))) (sym rest) ((Law-found first).again (codes "!DOCTYPE") doctype b.0 refl tt))
 
 pub read_doctype : (first : Bool) (bytes after : List ℕ) → MarkupRead first bytes (Ok (doctype, after)) → BeginsWith (60 ∷ bytes) (codes "<!DOCTYPE")
@@ -175,7 +176,7 @@ abbrev pub Heads : ℕ → List ℕ → Type 0
 Heads b rest = (tail : List ℕ) × (rest ≡ b ∷ tail)
 
 pub heads_differ : (b c : ℕ) (rest : List ℕ) → Heads b rest → Heads c rest → b ≡ c
-heads_differ b c rest h k = heads_same b c h.0 k.0 (sym h.1 ∙ k.1)
+heads_differ b c rest h k = same_heads b c h.0 k.0 (sym h.1 ∙ k.1)
 
 pub markup_heads : (first : Bool) (rest : List ℕ) (shape : Shape) (after : List ℕ) → IsMarkupShape shape → HasItem first rest shape after → Heads 60 rest
 markup_heads first rest shape after m h = let t = markup_first first h.text shape m h.is in (t.0 ++ after, h.parts ∙ ap (λ (u : List ℕ). u ++ after) t.1)
@@ -194,7 +195,7 @@ pub not_in_text : (first : Bool) (rest after : List ℕ) (blank : Bool) (c : ℕ
 not_in_text first rest after blank c n h k =
     let t = chars_heads first rest after blank h in
     let same : t.0 ≡ c = heads_differ t.0 c rest t.1 k in
-    not_both (is_in_text c) (ap is_in_text (sym same) ∙ t.2) n
+    both_ways (is_in_text c) n (ap is_in_text (sym same) ∙ t.2)
 
 one_sort : (first : Bool) (rest : List ℕ) (s t : Shape) (a b : List ℕ) → HasItem first rest s a → HasItem first rest t b → Sort s → Sort t → (s ≡ t) × (a ≡ b)
 one_sort first rest s t a b h k (inl m) (inl n) =

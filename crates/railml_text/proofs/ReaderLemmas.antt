@@ -2,9 +2,9 @@
 use Rattle.std.proofs.Common.{◌≡◌, ◌⊎◌, ℕ, Bool, true, false, cond, ◌==◌, codes, List, [], ◌∷◌, ◌++◌, drop, Ok, Err, refl, sym, ap, ◌∙◌, subst, append_assoc, inl, inr}
 use Rattle.std.specs.Prelude.{⊤}
 use Rattle.railml_text.specs.declared.miss.Miss.TheVariants.{Cut, Bad}
-use Rattle.railml_text.specs.Bytes.{is_blank, begins_name, goes_on_name, is_in_value, Passes}
+use Rattle.railml_text.specs.Bytes.{is_blank, begins_name, goes_on_name, is_in_value, Passes, front, past}
 use Rattle.railml_text.specs.Grammar.{AreBlanks, IsXmlName, Written, IsAttr, IsEndTag}
-use Rattle.railml_text.specs.Reading.{Read, done, front, past, skip, by_first, nothing_at, word_at, ended, name_at, closed, value_at, quoted_at, written, last_of, first_of, equals_at, attr_at, end_tag_at}
+use Rattle.railml_text.specs.Reading.{Read, done, skip, by_first, nothing_at, word_at, ended, name_at, closed, value_at, quoted_at, written, last_of, first_of, equals_at, attr_at, end_tag_at}
 use Rattle.railml_text.proofs.RunLemmas.{eq-same, same_if_eq, blank_no_name, front-past, front_passes, front_run, past_run, past_more, front_more, passes_all}
 use Rattle.railml_text.proofs.LawLemmas.{Taken, GoesOn, Law, graph, Anything, done_rest, done_read, Law-spelled, TurnText, SomeText, SomeText-turn, Law-in_turn, NoBlankFirst, GapText, Law-gap, OtherFirst, AfterFirst, FirstText, Law-by_first, NoText, Law-nothing}
 

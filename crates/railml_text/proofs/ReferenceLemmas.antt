@@ -8,11 +8,12 @@ use Rattle.std.proofs.lemmas.Bool.Decides.{nat_tests}
 use Rattle.std.proofs.lemmas.List.Elements.{All-contains, All-from_recursion, Contains-append_left, Contains-append_right, Contains-push}
 use Rattle.std.proofs.lemmas.Int.Digits.{digits_value-lt, digits_value_more}
 use Rattle.std.proofs.Math.Nat.{pow-le-pow_left, pow-le-pow_right}
+use Rattle.std.proofs.lemmas.Bool.{and_parts, false_from_ne_true}
 use lib.Utf8.{scalar}
-use Rattle.railml_text.specs.Bytes.{Passes}
+use Rattle.railml_text.specs.Bytes.{Passes, front, past}
 use Rattle.railml_text.specs.References.{named, IsNumbered, IsReference}
-use Rattle.railml_text.specs.Reading.{Read, front, past, word_at, named_or, find_named, character_and, ended_number, number_at, number_or, or_else, by_number_at, reference_at}
-use Rattle.railml_text.proofs.RunLemmas.{same_if_eq, both_true, false_unless, front-past, front_passes, front_run, past_run}
+use Rattle.railml_text.specs.Reading.{Read, word_at, named_or, find_named, character_and, ended_number, number_at, number_or, or_else, by_number_at, reference_at}
+use Rattle.railml_text.proofs.RunLemmas.{same_if_eq, front-past, front_passes, front_run, past_run}
 use Rattle.railml_text.proofs.ReaderLemmas.{Law-word}
 
 -- what holds of each reference by name
@@ -130,7 +131,7 @@ number_takes base bytes c rest e = counted (nat_le 1 (length digits) && nat_le (
     character : (tail : List ℕ) → past (digit base) bytes ≡ 59 ∷ tail → (v : Bool) → (scalar n && not (n == 0)) ≡ v → cond {A = Option (ℕ × List ℕ)} v (Some (n, tail)) None ≡ Some (c, rest)
         → (1 ≤ length digits) × (length digits ≤ 8) → TakesNumber base bytes c rest
     character tail p true q k counts =
-        let b = both_true (scalar n) (not (n == 0)) q in
+        let b = and_parts (scalar n) (not (n == 0)) q in
         let same : n ≡ c = found_value n c tail rest k in
         let last : tail ≡ rest = found_rest n c tail rest k in
         record {
@@ -155,7 +156,7 @@ number_takes base bytes c rest e = counted (nat_le 1 (length digits) && nat_le (
 
     counted : (v : Bool) → (nat_le 1 (length digits) && nat_le (length digits) 8) ≡ v → cond {A = Option (ℕ × List ℕ)} v (ended_number n (past (digit base) bytes)) None ≡ Some (c, rest) → TakesNumber base bytes c rest
     counted true h k =
-        let b = both_true (nat_le 1 (length digits)) (nat_le (length digits) 8) h in
+        let b = and_parts (nat_le 1 (length digits)) (nat_le (length digits) 8) h in
         ended (past (digit base) bytes) refl k (le_true 1 (length digits) b.0, le_true (length digits) 8 b.1)
     counted false h k = absurd cc
 
@@ -174,7 +175,7 @@ numbered_parts base opening text c rest t = ap (λ (u : List ℕ). u ++ rest) t.
 
 -- no digit of the base ten is an `x`
 no_x : (d : ℕ) → digit_value d < 10 → (d == 120) ≡ false
-no_x d h = false_unless (d == 120) (λ e. let same : d ≡ 120 = same_if_eq d 120 e in let k : digit_value 120 < 10 = subst (λ (m : ℕ). digit_value m < 10) same h in absurd (omega (arith, k)))
+no_x d h = false_from_ne_true (d == 120) (λ e. let same : d ≡ 120 = same_if_eq d 120 e in let k : digit_value 120 < 10 = subst (λ (m : ℕ). digit_value m < 10) same h in absurd (omega (arith, k)))
 
 decimal_again : (digits rest : List ℕ) (c : ℕ) → 1 ≤ length digits → AllDigits 10 digits → number_at 10 (digits ++ 59 ∷ rest) ≡ Some (c, rest) → by_number_at (codes "&#" ++ (digits ++ 59 ∷ rest)) ≡ Some (c, rest)
 unfolding by_number_at
@@ -243,7 +244,7 @@ Passes-append p [] ys h k = k
 Passes-append p (x ∷ xs) ys h k = (h.0, Passes-append p xs ys h.1 k)
 
 digit_no_ampersand : (base d : ℕ) → base ≤ 16 → digit_value d < base → not (d == 38) ≡ true
-digit_no_ampersand base d l h = ap not (false_unless (d == 38) (λ e. let same : d ≡ 38 = same_if_eq d 38 e in let k : digit_value 38 < base = subst (λ (m : ℕ). digit_value m < base) same h in absurd (omega (arith, k, l))))
+digit_no_ampersand base d l h = ap not (false_from_ne_true (d == 38) (λ e. let same : d ≡ 38 = same_if_eq d 38 e in let k : digit_value 38 < base = subst (λ (m : ℕ). digit_value m < base) same h in absurd (omega (arith, k, l))))
 
 digits_no_ampersand : (base : ℕ) (digits : List ℕ) → base ≤ 16 → AllDigits base digits → Passes (λ b. not (b == 38)) digits
 digits_no_ampersand base [] l h = tt

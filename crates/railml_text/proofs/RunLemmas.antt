@@ -1,9 +1,9 @@
 -- Runs of a class of bytes, and tests of bytes.
-use Rattle.std.proofs.Common.{◌≡◌, ◌⊎◌, ℕ, ◌-◌, ◌≤◌, Bool, true, false, cond, ◌==◌, ◌&&◌, List, [], ◌∷◌, ◌++◌, length, take, refl, sym, ap, ◌∙◌, length-append, arith}
+use Rattle.std.proofs.Common.{◌≡◌, ◌⊎◌, ℕ, ◌-◌, ◌≤◌, Bool, true, false, cond, ◌==◌, List, [], ◌∷◌, ◌++◌, length, take, refl, sym, ap, ◌∙◌, length-append, arith}
 use Rattle.std.proofs.lemmas.Bool.Decides.{nat_tests}
 use Rattle.std.proofs.lemmas.List.{take_at}
-use Rattle.railml_text.specs.Bytes.{is_blank, begins_name, goes_on_name, Passes}
-use Rattle.railml_text.specs.Reading.{front, past, begins_blank}
+use Rattle.railml_text.specs.Bytes.{is_blank, begins_name, goes_on_name, Passes, front, past}
+use Rattle.railml_text.specs.Reading.{begins_blank}
 
 -- ---- tests
 
@@ -13,18 +13,6 @@ eq-same c = grind (arith, nat_tests)
 pub same_if_eq : (b c : ℕ) → (b == c) ≡ true → b ≡ c
 same_if_eq b c e = grind (arith, nat_tests)
 
-pub both_true : (a b : Bool) → (a && b) ≡ true → (a ≡ true) × (b ≡ true)
-both_true true true e = (refl, refl)
-both_true true false e = absurd cc
-both_true false b e = absurd cc
-
-pub false_unless : (v : Bool) → (v ≡ true → ⊥) → v ≡ false
-false_unless true h = absurd (h refl)
-false_unless false h = refl
-
-pub not_both : (v : Bool) → v ≡ true → v ≡ false → ⊥
-not_both v t f = let k : true ≡ false = sym t ∙ f in cc
-
 blank_is : (b : ℕ) → is_blank b ≡ true → (b ≡ 32) ⊎ (b ≡ 9) ⊎ (b ≡ 10) ⊎ (b ≡ 13)
 blank_is b e = grind (arith, nat_tests)
 
@@ -33,22 +21,6 @@ blank_no_name b e = grind (arith, nat_tests, blank_is b e)
 
 pub name_no_blank : (b : ℕ) → begins_name b ≡ true → is_blank b ≡ false
 name_no_blank b e = grind (arith, nat_tests)
-
--- ---- heads and tails
-
-abbrev head_or : List ℕ → ℕ
-head_or [] = 0
-head_or (b ∷ bytes) = b
-
-abbrev tail_or : List ℕ → List ℕ
-tail_or [] = []
-tail_or (b ∷ bytes) = bytes
-
-pub heads_same : (b c : ℕ) (bytes others : List ℕ) → b ∷ bytes ≡ c ∷ others → b ≡ c
-heads_same b c bytes others e = ap (λ (u : List ℕ). head_or u) e
-
-pub tails_same : (b c : ℕ) (bytes others : List ℕ) → b ∷ bytes ≡ c ∷ others → bytes ≡ others
-tails_same b c bytes others e = ap (λ (u : List ℕ). tail_or u) e
 
 -- ---- a run and what follows it
 

@@ -7,10 +7,10 @@ use Rattle.std.proofs.lemmas.Str.{IsUtf8-drop, IsCharBoundary-from_drop}
 use Rattle.railml_text.specs.declared.item.ItemKind.{ItemKind}
 use Rattle.railml_text.specs.declared.item.ItemKind.TheVariants as kinds
 use Rattle.railml_text.specs.declared.fault.TextWhat.TheVariants.{Entity}
-use Rattle.railml_text.specs.Bytes.{is_blank, is_in_text}
+use Rattle.railml_text.specs.Bytes.{is_blank, is_in_text, front, past}
 use Rattle.railml_text.specs.Items.{reference, chars, IsLongest}
 use Rattle.railml_text.specs.Faults.{IsLeastFault, HasSoundItem}
-use Rattle.railml_text.specs.Reading.{front, past, Found, item, doctype, MarkupRead, reference_at}
+use Rattle.railml_text.specs.Reading.{Found, item, doctype, MarkupRead, reference_at}
 use Rattle.railml_text.specs.Judging.{IsUtf8Found}
 use Rattle.railml_text.proofs.RunLemmas.{front-past, front_passes, take_front, past_ends}
 use Rattle.railml_text.proofs.ReferenceLemmas.{reference_takes, reference_again, found}

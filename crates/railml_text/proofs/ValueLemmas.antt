@@ -6,11 +6,13 @@ use Rattle.std.proofs.lemmas.Bool.Decides.{nat_tests}
 use Rattle.std.proofs.lemmas.List.{append-nil}
 use Rattle.std.proofs.lemmas.Str.{IsUtf8-append, IsUtf8-encode, IsUtf8-from_ascii}
 use Rattle.std.proofs.lemmas.Str.Ascii.{IsAscii-nil, IsAscii-cons}
+use Rattle.std.proofs.lemmas.Bool.{both_ways, false_from_ne_true}
+use Rattle.plan_core.proofs.ListFacts.{same_heads, same_tails}
 use Rattle.railml_text.specs.Bytes.{Passes}
 use Rattle.railml_text.specs.References.{IsReference, BeginsLoose}
 use Rattle.railml_text.specs.Values.{ValuePiece, plain, line_end, blank, reference, value_of, text_of, IsPiece, AreSpelled, IsValueText, HasLoose}
 use Rattle.railml_text.specs.Reading.{reference_at, past_line_feed, encoded, piece_at}
-use Rattle.railml_text.proofs.RunLemmas.{eq-same, same_if_eq, false_unless, not_both, heads_same, tails_same}
+use Rattle.railml_text.proofs.RunLemmas.{eq-same, same_if_eq}
 use Rattle.railml_text.proofs.ReferenceLemmas.{found, found_rest, found_value, reference_takes, reference_again, reference_shape}
 use Rattle.railml_text.proofs.TextLemmas.{text_before, text_after}
 
@@ -24,10 +26,10 @@ pub record TakesPiece (bytes text after : List ℕ) : Type 0 where
   pub made : text ≡ text_of piece
 
 eq_false : (b c : ℕ) → b ≢ c → (b == c) ≡ false
-eq_false b c n = false_unless (b == c) (λ e. n (same_if_eq b c e))
+eq_false b c n = false_from_ne_true (b == c) (λ e. n (same_if_eq b c e))
 
 false_ne : (b c : ℕ) → (b == c) ≡ false → b ≢ c
-false_ne b c e = λ h. not_both (b == c) (ap (λ (d : ℕ). b == d) (sym h) ∙ eq-same b) e
+false_ne b c e = λ h. both_ways (b == c) e (ap (λ (d : ℕ). b == d) (sym h) ∙ eq-same b)
 
 reference_piece : (bytes text after : List ℕ) (o : Option (ℕ × List ℕ)) → reference_at bytes ≡ o → encoded o ≡ Some (text, after) → TakesPiece bytes text after
 reference_piece bytes text after None h e = absurd cc
@@ -59,7 +61,7 @@ return_piece (b ∷ bytes) text after e = choose (b == 10) refl e
         let last : b ∷ bytes ≡ after = found_rest (32 ∷ []) text (b ∷ bytes) after k in
         record {
           piece = blank 13;
-          is = inr (refl, λ others q. false_ne b 10 h (heads_same b 10 bytes others (last ∙ q)));
+          is = inr (refl, λ others q. false_ne b 10 h (same_heads b 10 bytes others (last ∙ q)));
           parts = ap (λ (u : List ℕ). 13 ∷ u) last;
           made = sym (found_value (32 ∷ []) text (b ∷ bytes) after k);
         }
@@ -213,9 +215,9 @@ NoAmpersand bytes = Passes (λ b. not (b == 38)) bytes
 behind : (run after before rest : List ℕ) → NoAmpersand run → run ++ after ≡ before ++ 38 ∷ rest → (others : List ℕ) × (after ≡ others ++ 38 ∷ rest)
 behind [] after before rest n e = (before, e)
 behind (b ∷ run) after [] rest n e =
-    let same : b ≡ 38 = heads_same b 38 (run ++ after) rest e in
+    let same : b ≡ 38 = same_heads b 38 (run ++ after) rest e in
     let k : not (38 == 38) ≡ true = subst (λ (c : ℕ). not (c == 38) ≡ true) same n.0 in absurd cc
-behind (b ∷ run) after (x ∷ before) rest n e = behind run after before rest n.1 (tails_same b x (run ++ after) (before ++ 38 ∷ rest) e)
+behind (b ∷ run) after (x ∷ before) rest n e = behind run after before rest n.1 (same_tails b x (run ++ after) (before ++ 38 ∷ rest) e)
 
 -- the `&` stands behind the piece, or it is the piece
 beyond : (piece : ValuePiece) (after before rest : List ℕ) → IsPiece piece after → value_of piece ++ after ≡ before ++ 38 ∷ rest → BeginsLoose (38 ∷ rest) → (others : List ℕ) × (after ≡ others ++ 38 ∷ rest)
@@ -228,7 +230,7 @@ beyond (reference text c) after [] rest h e l = absurd (l.none text after c (sym
 beyond (reference text c) after (x ∷ before) rest h e l =
     let s = reference_shape text c h in
     let whole : 38 ∷ ((s.inner ++ 59 ∷ []) ++ after) ≡ x ∷ (before ++ 38 ∷ rest) = ap (λ (u : List ℕ). u ++ after) (sym s.spelled) ∙ e in
-    let tail : s.inner ++ 59 ∷ after ≡ before ++ 38 ∷ rest = sym (append_assoc s.inner (59 ∷ []) after) ∙ tails_same 38 x ((s.inner ++ 59 ∷ []) ++ after) (before ++ 38 ∷ rest) whole in
+    let tail : s.inner ++ 59 ∷ after ≡ before ++ 38 ∷ rest = sym (append_assoc s.inner (59 ∷ []) after) ∙ same_tails 38 x ((s.inner ++ 59 ∷ []) ++ after) (before ++ 38 ∷ rest) whole in
     let first = behind s.inner (59 ∷ after) before rest s.no_ampersand tail in
     behind (59 ∷ []) after first.0 rest (refl, tt) first.1
 

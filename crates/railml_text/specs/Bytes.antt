@@ -1,6 +1,6 @@
 -- The classes of bytes that the grammar names. In UTF-8 the bytes from 128 on are those of the
 -- characters from U+0080 on, and no other character has one.
-use Rattle.std.specs.Prelude.{◌≡◌, ℕ, Bool, true, not, ◌&&◌, ◌||◌, ◌==◌, nat_le, List, ◌++◌}
+use Rattle.std.specs.Prelude.{◌≡◌, ℕ, Bool, true, not, ◌&&◌, ◌||◌, ◌==◌, nat_le, if◌then◌else◌, List, [], ◌∷◌, ◌++◌}
 use Rattle.std.specs.Char.{is_ascii_alphabetic, is_ascii_digit}
 use Rattle.std.specs.List.{AllByRecursion}
 
@@ -27,6 +27,15 @@ is_in_text b = not (b == 60) && not (b == 38)
 -- each byte is of the class
 abbrev pub Passes : (ℕ → Bool) → List ℕ → Type 0
 Passes class bytes = AllByRecursion (λ b. class b ≡ true) bytes
+
+-- the longest front of bytes of the class, and what follows it
+abbrev pub front : (ℕ → Bool) → List ℕ → List ℕ
+front class [] = []
+front class (b ∷ bytes) = if class b then b ∷ front class bytes else []
+
+abbrev pub past : (ℕ → Bool) → List ℕ → List ℕ
+past class [] = []
+past class (b ∷ bytes) = if class b then past class bytes else b ∷ bytes
 
 -- the bytes begin with these
 abbrev pub BeginsWith : List ℕ → List ℕ → Type 0

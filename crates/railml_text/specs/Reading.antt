@@ -20,7 +20,7 @@ use Rattle.railml_text.specs.declared.values.Meaning.TheVariants as meanings
 use Rattle.railml_text.specs.declared.fault.TextWhat.TheVariants.{Entity}
 use Rattle.railml_text.specs.declared.fault.ItemFault.{ItemFault}
 use Rattle.railml_text.specs.declared.fault.ItemFault.TheVariants as answers
-use Rattle.railml_text.specs.Bytes.{is_blank, begins_name, goes_on_name, is_in_value}
+use Rattle.railml_text.specs.Bytes.{is_blank, begins_name, goes_on_name, is_in_value, front, past}
 use Rattle.railml_text.specs.References.{named}
 use Rattle.railml_text.specs.Values.{HasLoose}
 use Rattle.railml_text.specs.Grammar.{Written}
@@ -29,16 +29,7 @@ use Rattle.railml_text.specs.Items.{Shape, declaration, instruction, comment, cd
 abbrev pub Read : Type 0 → Type 0
 Read X = Result (X × List ℕ) Miss
 
--- ---- runs of a class of bytes
-
--- the longest front of bytes of the class, and what follows it
-abbrev pub front : (ℕ → Bool) → List ℕ → List ℕ
-front class [] = []
-front class (b ∷ bytes) = if class b then b ∷ front class bytes else []
-
-abbrev pub past : (ℕ → Bool) → List ℕ → List ℕ
-past class [] = []
-past class (b ∷ bytes) = if class b then past class bytes else b ∷ bytes
+-- ---- white space
 
 abbrev pub begins_blank : List ℕ → Bool
 begins_blank [] = false

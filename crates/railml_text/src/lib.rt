@@ -26,6 +26,7 @@ mod written;
 
 pub use fault::{ItemFault, TextWhat};
 pub use item::{Attr, AttrList, Item, ItemKind};
+pub use runs::{is_blank, past_blanks};
 pub use scanning::scan;
 
 #[cfg(test)]

@@ -3,7 +3,8 @@ ghost use Rattle.std.specs.Prelude.{◌≡◌, ◌≤◌, length, option_map};
 ghost use Rattle.std.specs.Char.{digit_value, is_digit as digit};
 ghost use Rattle.std.specs.Str.Parse.{AllDigits, digits_value};
 ghost use Rattle.railml_text.specs.References.{named};
-ghost use Rattle.railml_text.specs.Reading.{front, past, find_named, number_at as number, by_number_at as by_number, reference_at as reference};
+ghost use Rattle.railml_text.specs.Bytes.{front, past};
+ghost use Rattle.railml_text.specs.Reading.{find_named, number_at as number, by_number_at as by_number, reference_at as reference};
 
 use crate::reading::word_at;
 

@@ -1,9 +1,10 @@
 // Runs of a class of bytes.
 ghost use Rattle.std.specs.Prelude.{◌≡◌, ◌≤◌, length};
-ghost use Rattle.railml_text.specs.Bytes.{is_blank as blank, begins_name as begins, goes_on_name as goes_on, is_in_value as in_value, is_in_text as in_text};
-ghost use Rattle.railml_text.specs.Reading.{front, past, begins_blank as first_blank};
+ghost use Rattle.railml_text.specs.Bytes.{is_blank as blank, begins_name as begins, goes_on_name as goes_on, is_in_value as in_value, is_in_text as in_text, front, past};
+ghost use Rattle.railml_text.specs.Reading.{begins_blank as first_blank};
 
-pub(crate) fn is_blank(b: u8) -> bool
+/// Whether a byte is white space: a space, a tab, a line feed or a carriage return.
+pub fn is_blank(b: u8) -> bool
     ensures { result ≡ blank b }
 {
     b == b' ' || b == b'\t' || b == b'\n' || b == b'\r'
@@ -31,7 +32,7 @@ pub(crate) fn begins_blank(bytes: &[u8]) -> bool
 }
 
 /// What follows the white space at the front.
-pub(crate) fn past_blanks(bytes: &[u8]) -> &[u8]
+pub fn past_blanks(bytes: &[u8]) -> &[u8]
     ensures { result.now ≡ past blank bytes.now }
 {
     let mut rest = bytes;

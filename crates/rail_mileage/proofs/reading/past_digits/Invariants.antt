@@ -1,6 +1,6 @@
 use Rattle.std.proofs.Common.{◌≡◌, length}
+use Rattle.railml_text.specs.Bytes.{past}
 use Rattle.rail_mileage.specs.Metres.{is_digit}
-use Rattle.rail_mileage.specs.Reading.{past}
 use Rattle.rail_mileage.proofs.reading.past_digits.Given as goal
 
 abbrev pub invariant-loop-rest : goal.invariant-loop-rest

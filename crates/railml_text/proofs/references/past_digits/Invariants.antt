@@ -1,6 +1,6 @@
 use Rattle.std.proofs.Common.{◌≡◌, length}
 use Rattle.std.specs.Char.{is_digit}
-use Rattle.railml_text.specs.Reading.{past}
+use Rattle.railml_text.specs.Bytes.{past}
 use Rattle.railml_text.proofs.references.past_digits.Given as goal
 
 abbrev pub invariant-loop-rest : goal.invariant-loop-rest

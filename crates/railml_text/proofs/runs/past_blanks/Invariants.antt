@@ -1,6 +1,5 @@
 use Rattle.std.proofs.Common.{◌≡◌, length}
-use Rattle.railml_text.specs.Bytes.{is_blank}
-use Rattle.railml_text.specs.Reading.{past}
+use Rattle.railml_text.specs.Bytes.{is_blank, past}
 use Rattle.railml_text.proofs.runs.past_blanks.Given as goal
 
 abbrev pub invariant-loop-rest : goal.invariant-loop-rest

@@ -1,6 +1,5 @@
 use Rattle.std.proofs.Common.{◌≡◌, length}
-use Rattle.railml_text.specs.Bytes.{goes_on_name}
-use Rattle.railml_text.specs.Reading.{past}
+use Rattle.railml_text.specs.Bytes.{goes_on_name, past}
 use Rattle.railml_text.proofs.runs.past_name.Given as goal
 
 abbrev pub invariant-loop-rest : goal.invariant-loop-rest

@@ -1,6 +1,5 @@
 use Rattle.std.proofs.Common.{◌≡◌, ◌≤◌, length}
-use Rattle.railml_text.specs.Bytes.{is_in_text}
-use Rattle.railml_text.specs.Reading.{past}
+use Rattle.railml_text.specs.Bytes.{is_in_text, past}
 use Rattle.railml_text.proofs.runs.past_text.Given as goal
 
 abbrev pub invariant-loop-rest : goal.invariant-loop-rest
