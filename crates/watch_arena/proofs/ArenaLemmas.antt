@@ -1,0 +1,282 @@
+-- Arenas and trails.
+use Rattle.std.proofs.Common.{◌≡◌, ◌+◌, ◌*◌, ◌/◌, ◌<◌, ◌≤◌, ◌⊎◌, ℕ, zero, suc, List, [], ◌∷◌, ◌++◌, length, get_or, replicate, refl, sym, ◌∙◌, ap, subst, inl, inr, arith, cond, length-append, ◌%◌}
+use Rattle.std.specs.Prelude.{Contains, Option, Some, None, IfSome, Result, Ok, Err, IfOk, OnOk, OnErr, map, nat_lt, ◌^◌}
+use Rattle.std.proofs.lemmas.Bool.{cases_lt}
+use Rattle.std.proofs.lemmas.Bool.Decides.{leb_tells}
+use Rattle.std.proofs.lemmas.List.{length-replicate, get_or-replicate, get_or_default, get_or_append_left, get_or_past}
+use Rattle.std.proofs.lemmas.List.Elements.{Contains-push_cases, Contains-append_left}
+use Rattle.cnf_core.specs.declared.limits.TheConstants.{VARS, ROOM}
+use Rattle.cnf_core.specs.Lit.{Literal, IsWord, literal_at, has}
+use Rattle.cnf_core.specs.Clause.{AreThere, AreDistinct}
+use Rattle.cnf_core.specs.Propagation.{Falsifies, IsClosure}
+use Rattle.cnf_core.proofs.TrailLemmas.{distinct_push}
+use Rattle.cnf_core.proofs.GatherLemmas.{there_push}
+use Rattle.watch_arena.specs.declared.fault.ArenaFault.{ArenaFault}
+use Rattle.watch_arena.specs.declared.clause_ref.ClauseRef.{ClauseRef}
+use Rattle.watch_arena.specs.Words.{at, lit_of, IsStore, IsBlock}
+use Rattle.watch_arena.specs.Chains.{times, Path, HasChains}
+use Rattle.watch_arena.specs.Trail.{Marks, IsMarks, with_lit}
+use Rattle.watch_arena.specs.Walk.{lit_at, lits_upto, lits_at, IsWatched, IsAttached, IsMade, IsClash, Grows, Closes, Clashes, KeepsLits, AreRight, past_of}
+use Rattle.watch_arena.specs.Arena.{Attached, attached_of, clause_at, clauses_of, watch_at, IsArena, AreWatched, AreReasoned, AreAttached, IsSameText, IsMoreText, IsAdded, IsHeldBy, AreOpen, IsClashOf}
+use Rattle.watch_arena.proofs.WordLemmas.{lit_there, word_there, bounds}
+use Rattle.watch_arena.proofs.TextLemmas.{upto_in, text_of, same_lits, upto_length, upto_get, kept_lits, all_false}
+use Rattle.watch_arena.proofs.TrailLemmas.{get_padded}
+use Rattle.watch_arena.proofs.ReasonLemmas.{reasoned_more}
+use Rattle.watch_arena.proofs.LevelLemmas.{right_with, right_other, right_open, right_held, right_set, held_by_level, late_by_level}
+use Rattle.watch_arena.proofs.ViewLemmas.{right_quiet, quiet_right}
+
+pub arena_watched : (vars room : ℕ) (ws heads places : List ℕ) (visits : ℕ) (a : Attached) (m : Marks) → IsArena vars room ws heads places → attached_of vars room ws places visits ≡ a → m.vars ≡ a.vars → AreWatched a m → IsWatched m ws heads places (past_of m)
+arena_watched vars room ws heads places visits a m k e same w =
+    let v : AreWatched (attached_of vars room ws places visits) m = subst (λ (x : Attached). AreWatched x m) (sym e) w in
+    let is : m.vars ≡ vars = same ∙ sym (ap (λ (x : Attached). x.vars) e) in
+    subst (λ n. IsStore n ws places → length heads ≡ 2 * n + 2 → IsWatched m ws heads places (past_of m)) is (λ store size. record { store = store; size = size; chains = k.chains; quiet = right_quiet m ws places v.right }) k.store k.size
+
+not_in_none : (n : ℕ) → Contains [] n → ⊥
+not_in_none n c = let lt = c.1 in omega arith
+
+pub arena_new : (vars room : ℕ) → vars ≤ VARS → room ≤ ROOM → IsArena vars room (replicate 1 0) (replicate (2 * vars + 2) 0) []
+arena_new vars room v r = record {
+  vars_limit = v;
+  room_limit = r;
+  some = omega (arith, length-replicate {A = ℕ} 1 0);
+  store = record {
+    vars_limit = omega arith;
+    room_limit = omega (arith, length-replicate {A = ℕ} 1 0);
+    block = λ p c. absurd (not_in_none p c);
+    apart = λ p q c d lt. absurd (not_in_none p c);
+  };
+  size = length-replicate {A = ℕ} (2 * vars + 2) 0;
+  chains = record {
+    chains = λ w. [];
+    paths = λ w lt. get_or-replicate {A = ℕ} (2 * vars + 2) w 0 0 (omega (arith, length-replicate {A = ℕ} (2 * vars + 2) 0));
+    own = λ w s lt c. absurd (not_in_none s c);
+    once = λ s c. absurd (not_in_none (s / 2) c);
+  };
+}
+
+-- each clause is one of distinct variables in range
+upto_there : (vars : ℕ) (ws places : List ℕ) (p n : ℕ) → IsStore vars ws places → Contains places p → n ≤ at ws p → AreThere vars (lits_upto ws p n)
+upto_there vars ws places p zero h c le = tt
+upto_there vars ws places p (suc n) h c le = there_push vars (lits_upto ws p n) (lit_at ws (p + 3 + n)) (upto_there vars ws places p n h c (omega arith)) (lit_there vars ws places p n h c (omega arith))
+
+upto_distinct : (vars : ℕ) (ws : List ℕ) (p n : ℕ) → IsBlock vars ws p → n ≤ at ws p → AreDistinct (lits_upto ws p n)
+upto_distinct vars ws p zero b le = tt
+upto_distinct vars ws p (suc n) b le = distinct_push (lits_upto ws p n) (lit_at ws (p + 3 + n)) (upto_distinct vars ws p n b (omega arith)) (λ k among e.
+    let x = upto_in ws p n k among in
+    let lt = x.1 in
+    b.distinct x.0 n (omega arith) (omega arith) (omega arith) (ap (λ (l : Literal). l.var) x.2 ∙ e))
+
+pub are_attached : (vars room : ℕ) (ws heads places : List ℕ) (visits : ℕ) → IsArena vars room ws heads places → AreAttached (attached_of vars room ws places visits)
+are_attached vars room ws heads places visits k = λ p c.
+    let h = k.store in
+    let b = h.block p c in
+    let two = b.two in
+    record {
+      from = b.from;
+      two = omega (arith, upto_length ws p (at ws p));
+      there = upto_there vars ws places p (at ws p) h c (omega arith);
+      distinct = upto_distinct vars ws p (at ws p) b (omega arith);
+    }
+
+-- what propagation leaves
+pub record IsPropagated (old new : Attached) (m now : Marks) : Type 0 where
+  pub watched : AreWatched new now
+  pub reasoned : AreReasoned old m → AreReasoned new now
+  pub text : IsSameText old new
+  pub grows : Grows (clauses_of old) m.lits now.lits
+
+pub propagated : (old : Attached) (vars room visits after : ℕ) (ws places given_words given_places new got then : List ℕ) (m now : Marks) → attached_of vars room ws places visits ≡ old → given_words ≡ ws → given_places ≡ places → got ≡ new → length new ≡ length given_words →
+    IsMade m now given_words new given_places → IsWatched now new then given_places (past_of now) → IsPropagated old (attached_of vars room got places after) m now
+propagated old vars room visits after ws places given_words given_places new got then m now e words places_same items size made k =
+    subst (λ (o : Attached). IsPropagated o (attached_of vars room got places after) m now) e
+    (subst (λ (w : List ℕ). IsPropagated (attached_of vars room w places visits) (attached_of vars room got places after) m now) words
+    (subst (λ (p : List ℕ). IsPropagated (attached_of vars room given_words p visits) (attached_of vars room got p after) m now) places_same
+    (subst (λ (g : List ℕ). IsPropagated (attached_of vars room given_words given_places visits) (attached_of vars room g given_places after) m now) (sym items) base)))
+  where
+    base : IsPropagated (attached_of vars room given_words given_places visits) (attached_of vars room new given_places after) m now
+    base = record {
+      watched = record { right = quiet_right now new given_places k.quiet };
+      reasoned = made.reasoned;
+      text = record { vars = refl; room = refl; words = size; places = refl; lits = λ p c. same_lits given_words new given_places p made.text c };
+      grows = made.grows (map (lits_at given_words) given_places) (text_of given_words given_places);
+    }
+
+pub closes : (old : Attached) (vars room visits : ℕ) (ws places given_words given_places : List ℕ) (m now : Marks) → attached_of vars room ws places visits ≡ old → given_words ≡ ws → given_places ≡ places → Closes given_places given_words m.lits now.lits → IsClosure (clauses_of old) (has m.lits) (has now.lits)
+closes old vars room visits ws places given_words given_places m now e words places_same x =
+    subst (λ (o : Attached). IsClosure (clauses_of o) (has m.lits) (has now.lits)) e
+    (subst (λ (w : List ℕ). IsClosure (map (lits_at w) places) (has m.lits) (has now.lits)) words
+    (subst (λ (p : List ℕ). IsClosure (map (lits_at given_words) p) (has m.lits) (has now.lits)) places_same (x (map (lits_at given_words) given_places) (text_of given_words given_places))))
+
+pub falsifies : (old : Attached) (vars room visits : ℕ) (ws places given_words given_places : List ℕ) (m : Marks) → attached_of vars room ws places visits ≡ old → given_words ≡ ws → given_places ≡ places → Clashes given_places given_words m.lits → Falsifies (clauses_of old) (has m.lits)
+falsifies old vars room visits ws places given_words given_places m e words places_same x =
+    subst (λ (o : Attached). Falsifies (clauses_of o) (has m.lits)) e
+    (subst (λ (w : List ℕ). Falsifies (map (lits_at w) places) (has m.lits)) words
+    (subst (λ (p : List ℕ). Falsifies (map (lits_at given_words) p) (has m.lits)) places_same (x (map (lits_at given_words) given_places) (text_of given_words given_places))))
+
+pub clash_of : (vars room after : ℕ) (places given_places new got : List ℕ) (now : Marks) (p : ℕ) → given_places ≡ places → got ≡ new → IsClash new given_places (has now.lits) p → IsClashOf (attached_of vars room got places after) now p
+clash_of vars room after places given_places new got now p places_same items x =
+    subst (λ (q : List ℕ). IsClashOf (attached_of vars room got q after) now p) places_same
+    (subst (λ (g : List ℕ). IsClashOf (attached_of vars room g given_places after) now p) (sym items) (record { place = x.place; all_false = all_false new p (has now.lits) x.false_all }))
+
+pub some_weaker : (r : Option ClauseRef) {P Q : ClauseRef → Type 0} → ((c : ClauseRef) → P c → Q c) → IfSome r P → IfSome r Q
+some_weaker (Some c) f x = f c x
+some_weaker None f x = x
+
+-- a clause is attached, or nothing has changed
+pub arena_attached : (vars room : ℕ) (ws heads places new then now : List ℕ) (a : Attached) (visits : ℕ) (m : Marks) (r : Result ClauseRef ArenaFault) → IsArena vars room ws heads places → attached_of vars room ws places visits ≡ a → m.vars ≡ a.vars → length ws ≤ length new →
+    IfOk r (λ c. IsAttached m new then now c.0) → OnErr r (new ≡ ws) → OnErr r (then ≡ heads) → OnErr r (now ≡ places) → IsArena vars room new then now
+arena_attached vars room ws heads places new then now a visits m (Ok p) k e same longer attached x y z =
+    let is : m.vars ≡ vars = same ∙ sym (ap (λ (x : Attached). x.vars) e) in
+    let some = k.some in
+    let size = attached.size in
+    record { vars_limit = k.vars_limit; room_limit = k.room_limit; some = omega arith; store = subst (λ n. IsStore n new now) is attached.store; size = omega arith; chains = attached.chains }
+arena_attached vars room ws heads places new then now a visits m (Err f) k e same longer attached x y z =
+    subst (λ (n : List ℕ). IsArena vars room n then now) (sym x) (subst (λ (h : List ℕ). IsArena vars room ws h now) (sym y) (subst (λ (q : List ℕ). IsArena vars room ws heads q) (sym z) k))
+
+-- the watches of clauses by their literals
+watch_is : (a : Attached) (p i : ℕ) (d : Literal) → i < length (clause_at a p) → watch_at a p i ≡ get_or (clause_at a p) i d
+watch_is a p i d lt = sym (upto_get a.words p (at a.words p) i d (let size = upto_length a.words p (at a.words p) in omega arith))
+
+watch_same : (old new : Attached) (p i : ℕ) → i < length (clause_at old p) → clause_at new p ≡ clause_at old p → watch_at new p i ≡ watch_at old p i
+watch_same old new p i lt e =
+    let size = ap length e in
+    watch_is new p i (watch_at old p i) (omega arith) ∙ ap (λ (c : List Literal). get_or c i (watch_at old p i)) e ∙ sym (watch_is old p i (watch_at old p i) lt)
+
+module _ (old new : Attached) (m : Marks) (p : ℕ) (marks : IsMarks m) (watched : AreWatched old m) (attached : AreAttached old) (same : (q : ℕ) → Contains old.places q → clause_at new q ≡ clause_at old q) (places : new.places ≡ old.places ++ p ∷ []) where
+  -- all are watched on a trail where the old ones are, and the new one
+  all_watched : (now : Marks) → ((q : ℕ) → Contains old.places q → AreRight now (watch_at old q 0) (watch_at old q 1)) → AreRight now (watch_at new p 0) (watch_at new p 1) → AreWatched new now
+  all_watched now before here = record {
+    right = λ q c. elim (Contains-push_cases old.places p q (subst (λ (ps : List ℕ). Contains ps q) places c)) [
+      | inl is ↦
+          let x = attached q is in
+          let two = x.two in
+          subst (λ (a : Literal). AreRight now a (watch_at new q 1)) (sym (watch_same old new q 0 (omega arith) (same q is)))
+          (subst (λ (b : Literal). AreRight now (watch_at old q 0) b) (sym (watch_same old new q 1 (omega arith) (same q is))) (before q is))
+      | inr e ↦ subst (λ n. AreRight now (watch_at new n 0) (watch_at new n 1)) e here
+    ];
+  }
+
+  pub added : (lits : List Literal) → clause_at new p ≡ lits → IsAdded new m lits
+  added [] e = tt
+  added (k ∷ []) e = tt
+  added (k ∷ l ∷ lits) e = (
+    λ may. all_watched m watched.right (here m (by_case may)),
+    λ asserts reason. all_watched (with_lit m k reason) (λ q c. right_with m k (watch_at old q 0) (watch_at old q 1) reason marks (watched.right q c))
+        (here (with_lit m k reason) (right_set m k l reason marks asserts.first (late_by_level m l marks asserts.level))),
+  )
+    where
+      size : length (clause_at new p) ≡ length (k ∷ l ∷ lits)
+      size = ap length e
+
+      first_is : watch_at new p 0 ≡ k
+      first_is = watch_is new p 0 k (let n = size in omega arith) ∙ ap (λ (c : List Literal). get_or c 0 k) e
+
+      second_is : watch_at new p 1 ≡ l
+      second_is = watch_is new p 1 k (let n = size in omega arith) ∙ ap (λ (c : List Literal). get_or c 1 k) e
+
+      here : (now : Marks) → AreRight now k l → AreRight now (watch_at new p 0) (watch_at new p 1)
+      here now r = subst (λ (a : Literal). AreRight now a (watch_at new p 1)) (sym first_is) (subst (λ (b : Literal). AreRight now k b) (sym second_is) r)
+
+      by_case : AreOpen m k l ⊎ (IsHeldBy m k l ⊎ IsHeldBy m l k) → AreRight m k l
+      by_case (inl open_) = right_open m k l open_.first open_.second
+      by_case (inr (inl h)) = right_held m k l marks (held_by_level m k l marks h)
+      by_case (inr (inr h)) = right_other m k l (right_held m l k marks (held_by_level m l k marks h))
+
+-- what attaching leaves
+pub record IsAnswered (old new : Attached) (m : Marks) (lits : List Literal) (r : Result ClauseRef ArenaFault) : Type 0 where
+  pub others : IsMoreText old new
+  pub watched : OnOk r (IsAdded new m lits)
+  pub reasoned : AreReasoned old m → AreReasoned new m
+
+pub answered : (vars room visits : ℕ) (ws heads places new more : List ℕ) (m : Marks) (lits : List Literal) (r : Result ClauseRef ArenaFault) → IsArena vars room ws heads places → AreWatched (attached_of vars room ws places visits) m → IsMarks m →
+    OnOk r (KeepsLits places ws new) → IfOk r (λ c. more ≡ places ++ c.0 ∷ []) → IfOk r (λ c. lits_at new c.0 ≡ lits) → OnErr r (new ≡ ws) → OnErr r (more ≡ places) → IsAnswered (attached_of vars room ws places visits) (attached_of vars room new more visits) m lits r
+answered vars room visits ws heads places new more m lits (Ok c) k w marks kept placed clause x y = record {
+  others = record { vars = refl; room = refl; visits = refl; lits = λ q among. kept_lits places ws new q kept among };
+  watched = added (attached_of vars room ws places visits) (attached_of vars room new more visits) m c.0 marks w (are_attached vars room ws heads places visits k) (λ q among. kept_lits places ws new q kept among) placed lits clause;
+  reasoned = reasoned_more m ws new places more (λ q among. subst (λ (ps : List ℕ). Contains ps q) (sym placed) (Contains-append_left places (c.0 ∷ []) q among)) (λ q among. kept_lits places ws new q kept among);
+}
+answered vars room visits ws heads places new more m lits (Err f) k w marks kept placed clause x y =
+    subst (λ (n : List ℕ). IsAnswered (attached_of vars room ws places visits) (attached_of vars room n more visits) m lits (Err f)) (sym x)
+    (subst (λ (q : List ℕ). IsAnswered (attached_of vars room ws places visits) (attached_of vars room ws q visits) m lits (Err f)) (sym y) (record {
+      others = record { vars = refl; room = refl; visits = refl; lits = λ q among. refl };
+      watched = tt;
+      reasoned = λ r. r;
+    }))
+
+-- reading a clause
+pub place_in : (vars room : ℕ) (ws places : List ℕ) (visits : ℕ) (a : Attached) (p : ℕ) → attached_of vars room ws places visits ≡ a → Contains a.places p → Contains places p
+place_in vars room ws places visits a p e c = subst (λ (x : Attached). Contains x.places p) (sym e) c
+
+pub len_is : (vars room : ℕ) (ws places : List ℕ) (visits : ℕ) (a : Attached) (p n : ℕ) → attached_of vars room ws places visits ≡ a → p < length ws → n ≡ get_or ws p n → n ≡ length (clause_at a p)
+len_is vars room ws places visits a p n e lt is = is ∙ get_or_default ws p n 0 lt ∙ sym (upto_length ws p (at ws p)) ∙ ap (λ (x : Attached). length (clause_at x p)) e
+
+pub record IsInReach (ws : List ℕ) (p i : ℕ) : Type 0 where
+  pub within : p + 3 + i < length ws
+  pub limit : length ws < 2 ^ 30
+  pub word : IsWord (at ws (p + 3 + i))
+
+pub in_reach : (vars room : ℕ) (ws heads places : List ℕ) (visits : ℕ) (a : Attached) (p i : ℕ) → IsArena vars room ws heads places → attached_of vars room ws places visits ≡ a → Contains a.places p → i < length (clause_at a p) → IsInReach ws p i
+in_reach vars room ws heads places visits a p i k e c lt =
+    let h = k.store in
+    let here = place_in vars room ws places visits a p e c in
+    let b = bounds vars ws places p h here in
+    let size : length (clause_at a p) ≡ at ws p = ap (λ (x : Attached). length (clause_at x p)) (sym e) ∙ upto_length ws p (at ws p) in
+    let within = b.1 in
+    let limit = b.2 in
+    record { within = omega arith; limit = limit; word = word_there vars ws places p i h here (omega arith) }
+
+pub lit_is : (vars room : ℕ) (ws places : List ℕ) (visits : ℕ) (a : Attached) (p i n : ℕ) (l : Literal) → attached_of vars room ws places visits ≡ a → i < length (clause_at a p) → p + 3 + i < length ws → n ≡ get_or ws (p + 3 + i) n → l ≡ literal_at n → get_or (clause_at a p) i l ≡ l
+lit_is vars room ws places visits a p i n l e lt within is lit =
+    let size : length (clause_at a p) ≡ at ws p = ap (λ (x : Attached). length (clause_at x p)) (sym e) ∙ upto_length ws p (at ws p) in
+    ap (λ (x : Attached). get_or (clause_at x p) i l) (sym e) ∙ upto_get ws p (at ws p) i l (omega arith) ∙ ap literal_at (get_or_default ws (p + 3 + i) 0 n within ∙ sym is) ∙ sym lit
+
+-- further variables: their chains are empty
+chain_in : (w n : ℕ) (xs : List ℕ) → w < n → cond (nat_lt w n) xs [] ≡ xs
+chain_in w n xs lt = elim (leb_tells (suc w) n) [ inl a ↦ ap (λ b. cond b xs []) a.0 | inr a ↦ let x = a.1 in absurd (omega arith) ]
+
+chain_out : (w n : ℕ) (xs : List ℕ) → n ≤ w → cond (nat_lt w n) xs [] ≡ []
+chain_out w n xs le = elim (leb_tells (suc w) n) [ inl a ↦ let x = a.1 in absurd (omega arith) | inr a ↦ ap (λ b. cond b xs []) a.0 ]
+
+module _ (vars room n : ℕ) (ws heads places : List ℕ) (k : IsArena vars room ws heads places) where
+  spread_chains : HasChains ws heads places [] → HasChains ws (heads ++ replicate (2 * n) 0) places []
+  spread_chains c = record {
+    chains = λ w. cond (nat_lt w (length heads)) (c.chains w) [];
+    paths = λ w lt. elim (cases_lt w (length heads)) [
+      | inl l ↦ subst (λ (xs : List ℕ). Path ws (at (heads ++ replicate (2 * n) 0) w) xs) (sym (chain_in w (length heads) (c.chains w) l))
+          (subst (λ h. Path ws h (c.chains w)) (sym (get_or_append_left heads (replicate (2 * n) 0) 0 w l)) (c.paths w l))
+      | inr g ↦ subst (λ (xs : List ℕ). Path ws (at (heads ++ replicate (2 * n) 0) w) xs) (sym (chain_out w (length heads) (c.chains w) g))
+          (get_padded heads (2 * n) 0 w ∙ get_or_past heads w 0 g)
+    ];
+    own = λ w s lt among. elim (cases_lt w (length heads)) [
+      | inl l ↦ c.own w s l (subst (λ (xs : List ℕ). Contains xs s) (chain_in w (length heads) (c.chains w) l) among)
+      | inr g ↦ absurd (not_in_none s (subst (λ (xs : List ℕ). Contains xs s) (chain_out w (length heads) (c.chains w) g) among))
+    ];
+    once = λ s here.
+        let h = k.store in
+        let b = h.block (s / 2) here in
+        let two = b.two in
+        let word = b.lits (s % 2) (omega arith) in
+        let below = word.below in
+        let size = k.size in
+        let at_s : at ws (lit_of s) ≡ at ws (s / 2 + 3 + s % 2) = refl in
+        ap (λ (xs : List ℕ). times xs s + 0) (chain_in (at ws (lit_of s)) (length heads) (c.chains (at ws (lit_of s))) (omega arith)) ∙ c.once s here;
+  }
+
+  pub arena_spread : vars + n ≤ VARS → IsArena (vars + n) room ws (heads ++ replicate (2 * n) 0) places
+  arena_spread limit =
+      let h = k.store in
+      record {
+        vars_limit = limit;
+        room_limit = k.room_limit;
+        some = k.some;
+        store = record {
+          vars_limit = omega arith;
+          room_limit = h.room_limit;
+          block = λ p c.
+              let b = h.block p c in
+              record { from = b.from; two = b.two; within = b.within; lits = λ i lt. let w = b.lits i lt in let below = w.below in record { from = w.from; below = omega arith }; distinct = b.distinct };
+          apart = h.apart;
+        };
+        size = let old = k.size in omega (arith, length-append heads (replicate (2 * n) 0), length-replicate {A = ℕ} (2 * n) 0);
+        chains = spread_chains k.chains;
+      }

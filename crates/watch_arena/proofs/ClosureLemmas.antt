@@ -1,0 +1,137 @@
+-- What holds once all is propagated.
+use Rattle.std.proofs.Common.{◌≡◌, ◌≢◌, ℕ, ◌+◌, ◌*◌, ◌/◌, ◌<◌, ◌≤◌, ◌⊎◌, List, length, get_or, refl, sym, ◌∙◌, ap, subst, inl, inr, arith}
+use Rattle.std.specs.Prelude.{All, Contains}
+use Rattle.std.proofs.lemmas.List.{take_all, get_or-take}
+use Rattle.std.proofs.lemmas.List.Elements.{All-contains, All-contains_itself, All-weaker}
+use Rattle.cnf_core.specs.Lit.{Literal, literal_at, negate, has}
+use Rattle.cnf_core.specs.Clause.{Clauses}
+use Rattle.cnf_core.specs.Propagation.{LiteralSet, IsIn, IsUnit, IsClosed, Closure, IsConsistent}
+use Rattle.cnf_core.proofs.TrailLemmas.{distinct_consistent}
+use Rattle.watch_arena.specs.Words.{at, lit_of, other_of}
+use Rattle.watch_arena.specs.Trail.{Marks, IsMarks, IsLonger, advanced}
+use Rattle.watch_arena.specs.Walk.{lit_at, past_of, IsHeld, IsClauseAt, IsText, KeepsText, Grows, IsWatched, IsMade, IsClash, KeepsLits, Closes, Clashes, IsReasoned}
+use Rattle.watch_arena.proofs.ReasonLemmas.{text_kept, reasoned_text}
+use Rattle.watch_arena.proofs.GrowthLemmas.{grows_none, grows_more}
+use Rattle.watch_arena.proofs.WalkLemmas.{longer_none, longer_more}
+
+pub made_none : (m : Marks) (ws places : List ℕ) → IsMade m m ws ws places
+made_none m ws places = record { longer = longer_none m; grows = λ clauses t. grows_none clauses m.lits; text = λ p c d is. is; reasoned = λ r. r; reasons = λ i d lt. refl }
+
+pub made_more : (old mid new : Marks) (ws then now places : List ℕ) → IsMade old mid ws then places → IsMade mid new then now places → IsMade old new ws now places
+made_more old mid new ws then now places a b = record {
+  longer = longer_more old mid new a.longer b.longer;
+  grows = λ clauses t. grows_more clauses old.lits mid.lits new.lits (a.grows clauses t) (b.grows clauses (text_kept clauses ws then places a.text t));
+  text = λ p c d is. b.text p c d (a.text p c d is);
+  reasoned = λ r. b.reasoned (a.reasoned r);
+  reasons = λ i d lt.
+      let l = a.longer in
+      let longer = l.longer in
+      let at : get_or old.lits i d ≡ get_or mid.lits i d = ap (λ (ls : List Literal). get_or ls i d) (sym l.front) ∙ get_or-take (length old.lits) mid.lits i d lt in
+      ap (λ (m : Literal). get_or new.reasons m.var 0) at ∙ b.reasons i d (omega arith) ∙ ap (λ (m : Literal). get_or mid.reasons m.var 0) (sym at) ∙ a.reasons i d lt;
+}
+
+-- one clause of which each watch is true where the other is false
+module _ (set : LiteralSet) (ws : List ℕ) (p : ℕ) (c : List Literal) (is : IsClauseAt ws p c) (two : 2 ≤ at ws p) (differ : at ws (p + 3 + 0) / 2 ≢ at ws (p + 3 + 1) / 2) (consistent : IsConsistent set)
+    (first : IsIn set (negate (lit_at ws (p + 3 + 0))) → IsIn set (lit_at ws (p + 3 + 1))) (second : IsIn set (negate (lit_at ws (p + 3 + 1))) → IsIn set (lit_at ws (p + 3 + 0))) where
+  first_in : Contains c (lit_at ws (p + 3 + 0))
+  first_in = (is (lit_at ws (p + 3 + 0))).1 (0, omega arith, refl)
+
+  second_in : Contains c (lit_at ws (p + 3 + 1))
+  second_in = (is (lit_at ws (p + 3 + 1))).1 (1, omega arith, refl)
+
+  pub clause_closed : (l : Literal) → IsUnit set c l → IsIn set l
+  clause_closed l unit =
+      elim (All-contains (λ k. (k ≡ l) ⊎ IsIn set (negate k)) c (lit_at ws (p + 3 + 0)) unit.others first_in) [
+        | inl a ↦ elim (All-contains (λ k. (k ≡ l) ⊎ IsIn set (negate k)) c (lit_at ws (p + 3 + 1)) unit.others second_in) [
+          | inl b ↦ absurd (differ (ap (λ (k : Literal). k.var) (a ∙ sym b)))
+          | inr f ↦ subst (IsIn set) a (second f)
+        ]
+        | inr f ↦ elim (All-contains (λ k. (k ≡ l) ⊎ IsIn set (negate k)) c (lit_at ws (p + 3 + 1)) unit.others second_in) [
+          | inl b ↦ subst (IsIn set) b (first f)
+          | inr g ↦ absurd (consistent (lit_at ws (p + 3 + 1)) (first f) g)
+        ]
+      ]
+
+  pub clause_unfalsified : All (λ k. IsIn set (negate k)) c → ⊥
+  clause_unfalsified all =
+      consistent (lit_at ws (p + 3 + 1)) (first (All-contains (λ k. IsIn set (negate k)) c (lit_at ws (p + 3 + 0)) all first_in)) (All-contains (λ k. IsIn set (negate k)) c (lit_at ws (p + 3 + 1)) all second_in)
+
+module _ (m : Marks) (ws heads places : List ℕ) (marks : IsMarks m) (k : IsWatched m ws heads places (past_of m)) (all : m.front ≡ length m.lits) where
+  past_all : past_of m ≡ has m.lits
+  past_all = ap has (take_all m.front m.lits (omega arith))
+
+  first_true : (p : ℕ) → Contains places p → IsIn (has m.lits) (negate (lit_at ws (p + 3 + 0))) → IsIn (has m.lits) (lit_at ws (p + 3 + 1))
+  first_true p c f =
+      let lit : lit_of (2 * p) ≡ p + 3 + 0 = omega arith in
+      let other : other_of (2 * p) ≡ p + 3 + 1 = omega arith in
+      let here : Contains places ((2 * p) / 2) = subst (λ n. Contains places n) (omega arith) c in
+      let f2 : IsIn (past_of m) (negate (lit_at ws (lit_of (2 * p)))) = subst (λ (s : LiteralSet). IsIn s (negate (lit_at ws (lit_of (2 * p))))) (sym past_all) (subst (λ n. IsIn (has m.lits) (negate (lit_at ws n))) (sym lit) f) in
+      let held : IsHeld m (negate (lit_at ws (lit_of (2 * p)))) (lit_at ws (other_of (2 * p))) = k.quiet (2 * p) here refl f2 in
+      subst (λ n. IsIn (has m.lits) (lit_at ws n)) other held.now
+
+  second_true : (p : ℕ) → Contains places p → IsIn (has m.lits) (negate (lit_at ws (p + 3 + 1))) → IsIn (has m.lits) (lit_at ws (p + 3 + 0))
+  second_true p c f =
+      let lit : lit_of (2 * p + 1) ≡ p + 3 + 1 = omega arith in
+      let other : other_of (2 * p + 1) ≡ p + 3 + 0 = omega arith in
+      let here : Contains places ((2 * p + 1) / 2) = subst (λ n. Contains places n) (omega arith) c in
+      let f2 : IsIn (past_of m) (negate (lit_at ws (lit_of (2 * p + 1)))) = subst (λ (s : LiteralSet). IsIn s (negate (lit_at ws (lit_of (2 * p + 1))))) (sym past_all) (subst (λ n. IsIn (has m.lits) (negate (lit_at ws n))) (sym lit) f) in
+      let held : IsHeld m (negate (lit_at ws (lit_of (2 * p + 1)))) (lit_at ws (other_of (2 * p + 1))) = k.quiet (2 * p + 1) here refl f2 in
+      subst (λ n. IsIn (has m.lits) (lit_at ws n)) other held.now
+
+  pub watched_closed : (clauses : Clauses) → IsText clauses ws places → IsClosed clauses (has m.lits)
+  watched_closed clauses t = λ c among l unit.
+      let d = t.stored c among in
+      let h = k.store in
+      let b = h.block d.0 d.1 in
+      let two = b.two in
+      clause_closed (has m.lits) ws d.0 c d.2 two (b.distinct 0 1 (omega arith) (omega arith) (omega arith)) (distinct_consistent m.lits marks.distinct) (first_true d.0 d.1) (second_true d.0 d.1) l unit
+
+  pub watched_unfalsified : (clauses : Clauses) → IsText clauses ws places → (c : List Literal) → Contains clauses c → All (λ k. IsIn (has m.lits) (negate k)) c → ⊥
+  watched_unfalsified clauses t c among false_all =
+      let d = t.stored c among in
+      let h = k.store in
+      let b = h.block d.0 d.1 in
+      let two = b.two in
+      clause_unfalsified (has m.lits) ws d.0 c d.2 two (b.distinct 0 1 (omega arith) (omega arith) (omega arith)) (distinct_consistent m.lits marks.distinct) (first_true d.0 d.1) (second_true d.0 d.1) false_all
+
+pub watched_closes : (old new : Marks) (start ws heads places : List ℕ) → IsMarks new → IsMade old new start ws places → IsWatched new ws heads places (past_of new) → new.front ≡ length new.lits → Closes places start old.lits new.lits
+watched_closes old new start ws heads places marks made k all = λ clauses t.
+    let now = text_kept clauses start ws places made.text t in
+    let grown = made.grows clauses t in
+    let longer = made.longer in
+    record {
+      closed = watched_closed new ws heads places marks k all clauses now;
+      includes = longer.keeps;
+      within = grown.within;
+      unfalsified = watched_unfalsified new ws heads places marks k all clauses now;
+    }
+
+pub clash_clashes : (old new : Marks) (start ws places : List ℕ) (p : ℕ) → IsMade old new start ws places → IsClash ws places (has new.lits) p → Clashes places start old.lits
+clash_clashes old new start ws places p made clash = λ clauses t.
+    let now = text_kept clauses start ws places made.text t in
+    let grown : Grows clauses old.lits new.lits = made.grows clauses t in
+    let held = now.held p clash.place in
+    let c = held.0 in
+    let is : IsClauseAt ws p c = held.2 in
+    record {
+      clause = c;
+      among = held.1;
+      each = All-weaker (Contains c) (λ k. Closure clauses (has old.lits) (negate k)) (λ k among. grown.within (negate k) (falsified k ((is k).0 among))) c (All-contains_itself c);
+    }
+  where
+    falsified : (k : Literal) → (n : ℕ) × (n < at ws p) × (lit_at ws (p + 3 + n) ≡ k) → IsIn (has new.lits) (negate k)
+    falsified k n = subst (λ (l : Literal). IsIn (has new.lits) (negate l)) n.2 (clash.false_all n.0 n.1)
+
+pub made_text : (old new : Marks) (ws then now places : List ℕ) → IsMade old new ws then places → KeepsText places then now → IsMade old new ws now places
+made_text old new ws then now places a t = record { longer = a.longer; grows = a.grows; text = λ p c d is. t p c d (a.text p c d is); reasoned = λ r. reasoned_text new then now places t (a.reasoned r); reasons = a.reasons }
+
+pub made_advanced : (old new : Marks) (ws now places : List ℕ) → IsMade old new ws now places → IsMade old (advanced new) ws now places
+made_advanced old new ws now places a =
+    let l : IsLonger old new = a.longer in
+    record { longer = record { vars = l.vars; cuts = l.cuts; front = l.front; longer = l.longer; keeps = l.keeps }; grows = a.grows; text = a.text; reasoned = λ r. let x : IsReasoned new now places = a.reasoned r in record { reason = x.reason; decided = x.decided; begins = x.begins }; reasons = a.reasons }
+
+pub clash_kept : (ws now places : List ℕ) (set : LiteralSet) (p : ℕ) → IsClash ws places set p → KeepsLits places ws now → IsClash now places set p
+clash_kept ws now places set p x k = record {
+  place = x.place;
+  false_all = λ j lt. let size = k.size p x.place in let lt2 : j < at ws p = omega arith in subst (λ n. IsIn set (negate (literal_at n))) (sym (k.lits p j x.place lt2)) (x.false_all j lt2);
+}

@@ -1,0 +1,122 @@
+-- The arena as contracts see it, and what holds of it together with a trail.
+use Rattle.std.specs.Prelude.{◌≡◌, ◌≤◌, ◌⊎◌, ⊤, ℕ, ◌+◌, ◌*◌, Option, Some, None, List, [], ◌∷◌, All, Contains, length, map, slice_index}
+use Rattle.cnf_core.specs.declared.limits.TheConstants.{VARS, ROOM}
+use Rattle.cnf_core.specs.Lit.{Literal, negate, has}
+use Rattle.cnf_core.specs.Clause.{Clauses, AreDistinct, AreThere}
+use Rattle.cnf_core.specs.Propagation.{IsIn, SameLiterals}
+use Rattle.watch_arena.specs.declared.clause_ref.ClauseRef.{ClauseRef}
+use Rattle.watch_arena.specs.Words.{IsStore}
+use Rattle.watch_arena.specs.Chains.{HasChains}
+use Rattle.watch_arena.specs.Trail.{Marks, IsUnset, with_lit}
+use Rattle.watch_arena.specs.Walk.{lit_at, lits_at, AreRight, IsReasoned, IsReasonFor}
+
+-- the number of variables, the most words, the words of the clauses behind one that stands for
+-- none, the places of the clauses, and how many clauses were looked at
+pub record Attached : Type 0 where
+  pub vars : ℕ
+  pub room : ℕ
+  pub words : List ℕ
+  pub places : List ℕ
+  pub visits : ℕ
+
+abbrev pub attached_of : ℕ → ℕ → List ℕ → List ℕ → ℕ → Attached
+attached_of vars room words places visits = record { vars = vars; room = room; words = words; places = places; visits = visits }
+
+-- what each arena keeps: every watch of every clause stands once in the chain of its literal, and
+-- every chain ends
+pub record IsArena (vars room : ℕ) (words heads places : List ℕ) : Type 0 where
+  pub vars_limit : vars ≤ VARS
+  pub room_limit : room ≤ ROOM
+  pub some : 1 ≤ length words
+  pub store : IsStore vars words places
+  pub size : length heads ≡ 2 * vars + 2
+  pub chains : HasChains words heads places []
+
+-- the literals of the clause at a place, in their present order
+abbrev pub clause_at : Attached → ℕ → List Literal
+clause_at a p = lits_at a.words p
+
+abbrev pub clauses_of : Attached → Clauses
+clauses_of a = map (lits_at a.words) a.places
+
+-- a clause as each arena holds it
+pub record IsAttachedClause (vars : ℕ) (clause : List Literal) (p : ℕ) : Type 0 where
+  pub from : 1 ≤ p
+  pub two : 2 ≤ length clause
+  pub there : AreThere vars clause
+  pub distinct : AreDistinct clause
+
+abbrev pub AreAttached : Attached → Type 0
+AreAttached a = (p : ℕ) → Contains a.places p → IsAttachedClause a.vars (clause_at a p) p
+
+-- no clause came or went, and none has other literals than before; their order may differ
+pub record IsSameText (old new : Attached) : Type 0 where
+  pub vars : new.vars ≡ old.vars
+  pub room : new.room ≡ old.room
+  pub words : length new.words ≡ length old.words
+  pub places : new.places ≡ old.places
+  pub lits : (p : ℕ) → Contains old.places p → SameLiterals (clause_at old p) (clause_at new p)
+
+-- the first or second literal of a clause, which is watched
+abbrev pub watch_at : Attached → ℕ → ℕ → Literal
+watch_at a p i = lit_at a.words (p + 3 + i)
+
+-- the arena is watched on the trail: for each clause, a false watch is still to be propagated, or
+-- the other watch is true at no later level
+pub record AreWatched (a : Attached) (m : Marks) : Type 0 where
+  pub right : (p : ℕ) → Contains a.places p → AreRight m (watch_at a p 0) (watch_at a p 1)
+
+-- the trail is reasoned: each literal with a reason follows from it by literals in front, and each
+-- level above 0 begins with its one literal without a reason
+abbrev pub AreReasoned : Attached → Marks → Type 0
+AreReasoned a m = IsReasoned m a.words a.places
+
+-- a literal may be set for this reason: a clause of which all other literals are false, or none
+-- at level 0
+pub record IsReasonOf (a : Attached) (m : Marks) (l : Literal) (p : ℕ) : Type 0 where
+  pub from : 1 ≤ p
+  pub unit : IsReasonFor a.words a.places m.lits l p
+
+abbrev pub MayBeSet : Attached → Marks → Literal → Option ClauseRef → Type 0
+MayBeSet a m l None = length m.cuts ≡ 0
+MayBeSet a m l (Some c) = IsReasonOf a m l c.0
+
+-- all literals of an attached clause are false
+pub record IsClashOf (a : Attached) (m : Marks) (p : ℕ) : Type 0 where
+  pub place : Contains a.places p
+  pub all_false : All (λ k. IsIn (has m.lits) (negate k)) (clause_at a p)
+
+-- neither of the two is false
+pub record AreOpen (m : Marks) (a b : Literal) : Type 0 where
+  pub first : IsIn (has m.lits) (negate a) → ⊥
+  pub second : IsIn (has m.lits) (negate b) → ⊥
+
+-- the first is false, and the second true at no later level
+pub record IsHeldBy (m : Marks) (a b : Literal) : Type 0 where
+  pub first : IsIn (has m.lits) (negate a)
+  pub second : IsIn (has m.lits) b
+  pub level : slice_index m.levels b.var ≤ slice_index m.levels a.var
+
+-- the first is unset, and the second false and of the present level
+pub record IsAsserting (m : Marks) (a b : Literal) : Type 0 where
+  pub first : IsUnset m.lits a
+  pub second : IsIn (has m.lits) (negate b)
+  pub level : slice_index m.levels b.var ≡ length m.cuts
+
+-- a clause of these literals leaves the arena watched, where its first two literals may be watched;
+-- or as soon as its first literal is set, where that is what it asserts
+abbrev pub IsAdded : Attached → Marks → List Literal → Type 0
+IsAdded a m [] = ⊤
+IsAdded a m (k ∷ []) = ⊤
+IsAdded a m (k ∷ l ∷ lits) = (AreOpen m k l ⊎ (IsHeldBy m k l ⊎ IsHeldBy m l k) → AreWatched a m) × (IsAsserting m k l → (reason : ℕ) → AreWatched a (with_lit m k reason))
+
+-- what a clause that comes leaves as it was
+pub record IsMoreText (old new : Attached) : Type 0 where
+  pub vars : new.vars ≡ old.vars
+  pub room : new.room ≡ old.room
+  pub visits : new.visits ≡ old.visits
+  pub lits : (p : ℕ) → Contains old.places p → clause_at new p ≡ clause_at old p
+
+-- further variables are there
+abbrev pub spread : Attached → ℕ → Attached
+spread a n = record { vars = a.vars + n; room = a.room; words = a.words; places = a.places; visits = a.visits }

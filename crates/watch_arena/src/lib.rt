@@ -1,0 +1,29 @@
+//! The trail of literals that are true, and clauses that are watched in chains.
+//!
+//! `Trail` holds literals in the order in which they became true, with levels and reasons, and how
+//! many of them are propagated. `Arena` holds clauses in one vector of words, and its `propagate`
+//! puts what follows by unit propagation behind the trail, without taking memory, and looks at the
+//! clauses alone whose watch became false. `specs/` has the definitions: `Trail` (what a contract
+//! sees of a trail, and what each call makes of it), `Words` and `Chains` (where clauses and their
+//! links stand), `Walk` (what a walk of a chain keeps), `Arena` (what a contract sees of an arena;
+//! when it is watched on a trail, and when the trail is reasoned). `trail` has the trail, `tables`
+//! how its tables grow, `chains` the one write of a chain, `looks` and `visits` one step of a walk,
+//! `walks` a chain and the way to the closure, `attach` a further clause, `arena` the whole as one
+//! value. Learning from conflicts and the solver stand on it.
+#![tactic(auto)]
+
+mod arena;
+mod attach;
+mod chains;
+mod clause_ref;
+mod fault;
+mod looks;
+mod tables;
+mod trail;
+mod visits;
+mod walks;
+
+pub use arena::Arena;
+pub use clause_ref::ClauseRef;
+pub use fault::ArenaFault;
+pub use trail::Trail;
