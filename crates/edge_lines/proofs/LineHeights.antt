@@ -20,7 +20,7 @@ inner_cons y p c (suc n) x = elim (same_slope (step y c) (step y (c + 1))) as (�
   | false ↦ refl
 ]
 
-inner_before : (y : ℕ → ℕ) (c n x : ℕ) → x ≤ c → inner_of (points_behind y c n) x ≡ false
+pub inner_before : (y : ℕ → ℕ) (c n x : ℕ) → x ≤ c → inner_of (points_behind y c n) x ≡ false
 inner_before y c zero x le = refl
 inner_before y c (suc n) x le = elim (same_slope (step y c) (step y (c + 1))) as (λ (same : Bool). inner_of (rest_of same y c n) x ≡ false) [
   | true ↦ inner_before y (c + 1) n x (omega arith)
@@ -109,5 +109,5 @@ heights_again y w n c t f =
 pub heights_same : (y : ℕ → ℕ) (w n : ℕ) → IsTrack y w n → IsFlatOutside y w n → height (line_over y w n) ≡ y
 heights_same y w n t f = fun_ext (λ c. heights_again y w n c t f)
 
-point_is : (y : ℕ → ℕ) (c : ℕ) (p : Point) → c ≡ p.x → y c ≡ p.y → over y c ≡ p
+pub point_is : (y : ℕ → ℕ) (c : ℕ) (p : Point) → c ≡ p.x → y c ≡ p.y → over y c ≡ p
 point_is y c p e f = ap (λ k. let q : Point = record { x = k; y = y c } in q) e ∙ ap (λ k. let q : Point = record { x = p.x; y = k } in q) f

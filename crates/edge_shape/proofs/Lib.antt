@@ -1,0 +1,17 @@
+pub mod ColumnLemmas
+pub mod DiagonalCount
+pub mod EdgeHolds
+pub mod EdgeMeans
+pub mod FamilyLemmas
+pub mod HeightLemmas
+pub mod LineExtends
+pub mod LineMeans
+pub mod PlaceLemmas
+pub mod PutLemmas
+pub mod ReadLemmas
+pub mod RuleCode
+pub mod RuleLemmas
+pub mod SettingLemmas
+pub mod SizeLemmas
+pub mod WordLemmas
+pub mod AccessLemmas
