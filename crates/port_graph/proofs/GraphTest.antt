@@ -1,25 +1,33 @@
 -- A test by which a graph is shown to be that of an example.
-use Rattle.std.proofs.Common.{◌≡◌, ℕ, ◌≤◌, inl, inr, true, false, cond, List, [], ◌∷◌, ◌++◌, map, Some, refl, subst, arith, ltb-true, ltb-false, get_or}
-use Rattle.std.specs.Prelude.{nat_lt, All, AllPairs}
+use Rattle.std.proofs.Common.{◌≡◌, ℕ, ◌<◌, ◌≤◌, inl, inr, Bool, true, false, not, ◌||◌, cond, int_eq, length, None, ap, zero-add, List, [], ◌∷◌, ◌++◌, map, Some, refl, subst, arith, ltb-true, ltb-false, get_or}
+use Rattle.std.specs.Prelude.{nat_lt, nat_le, All, AllPairs, IsSome, slice_get, is_some}
+use Rattle.std.specs.List.{enumerate_from, list_all}
 use Rattle.std.specs.List.Sorted.{IsPermutation, IsNonDecreasingBy}
-use Rattle.std.proofs.lemmas.Bool.{cases_order}
-use Rattle.std.proofs.lemmas.List.Elements.{All-nil, All-cons, All-weaker}
+use Rattle.std.proofs.lemmas.Bool.{both_ways, cases_order, leb-true, lt-ltb, not-true, or_cases}
+use Rattle.std.proofs.lemmas.Bool.Decides.{Decides-int_eq}
+use Rattle.std.proofs.lemmas.List.Sums.{AllPass-from_list_all}
+use Rattle.std.proofs.lemmas.List.Elements.{All-nil, All-cons, All-contains, All-weaker}
 use Rattle.std.proofs.lemmas.List.Kept.{AllPairs-cons}
 use Rattle.std.proofs.lemmas.List.Sorted.{IsPermutation-refl, IsPermutation-cons, IsPermutation-trans, All-permutation}
 use Rattle.plan_core.specs.declared.topology.Topology.{Topology}
 use Rattle.plan_core.specs.Topology.{IsResolved}
-use Rattle.plan_core.specs.Graph.{Graph}
+use Rattle.plan_core.specs.Graph.{Graph, Edge}
+use Rattle.plan_core.specs.declared.limits.TheConstants.{MAX_NODES, MAX_EDGES}
+use Rattle.plan_core.specs.declared.numbers.Micro.{Micro}
+use Rattle.port_graph.specs.declared.fault.GraphFault.TheVariants.{NotForward, SideMismatch}
 use Rattle.port_graph.specs.declared.runs.Run.{Run}
 use Rattle.port_graph.specs.declared.runs.Join.{Join}
 use Rattle.port_graph.specs.declared.sites.Site.{Site}
-use Rattle.port_graph.specs.Runs.{pieces, joins}
+use Rattle.port_graph.specs.Runs.{pieces, joins, edge_count}
 use Rattle.port_graph.specs.Sites.{sites}
-use Rattle.port_graph.specs.TopologyGraph.{edge_of, IsGraphOf}
-use Rattle.port_graph.specs.Ordered.{nodes_among}
+use Rattle.port_graph.specs.TopologyGraph.{edge_of, side_at, IsForward, IsGraphOf, IsGraphFault}
+use Rattle.port_graph.specs.Ordered.{AreRunsOf, nodes_among}
+use Rattle.port_graph.specs.PortRule.{ports_of}
 use Rattle.port_graph.proofs.Sublists.{pairs-head, pairs-tail}
 use Rattle.port_graph.proofs.RunOrder.{runs_in_order}
-use Rattle.port_graph.proofs.GraphLemmas.{are_edges, is_graph}
-use Rattle.port_graph.proofs.ResolvedTest.{resolved_test, resolved_by_test}
+use Rattle.port_graph.proofs.GraphLemmas.{are_edges, all_forward, is_graph, mismatch_fault}
+use Rattle.port_graph.proofs.Membership.{In, contains_in}
+use Rattle.port_graph.proofs.ResolvedTest.{in_numbers, resolved_test, resolved_by_test}
 
 -- an element put where it belongs by a number, and a list put in order
 abbrev pub put_by : {A : Type 0} → (A → ℕ) → A → List A → List A
@@ -84,3 +92,61 @@ graph_by_test t g tested edges nodes =
           (record { same = order_same by_place (sites t); rise = order_up by_place (sites t) })
           nodes,
     )
+
+-- Tests by which a fault is shown to be that of an example.
+
+abbrev pub leads_forward : Run → Bool
+leads_forward r = not (int_eq r.from.mile.0 r.to.mile.0)
+
+forward_by_test : (runs : List Run) → list_all leads_forward runs ≡ true → All IsForward runs
+forward_by_test runs tested =
+    All-weaker (λ (r : Run). leads_forward r ≡ true) IsForward
+    (λ r passes same. both_ways (int_eq r.from.mile.0 r.to.mile.0) (not-true (int_eq r.from.mile.0 r.to.mile.0) passes) ((Decides-int_eq r.from.mile.0 r.to.mile.0).1 same))
+    runs (AllPass-from_list_all leads_forward runs tested)
+
+pub in_order_of : (t : Topology) → IsResolved t → AreRunsOf t (runs_of t)
+in_order_of t resolved = let by_at : Join → ℕ = λ j. j.at in runs_in_order t (in_order_by by_at (joins t)) resolved (order_same by_at (joins t)) (order_up by_at (joins t))
+
+-- the first run is level
+pub level_by_test : (t : Topology) (r : Run) → resolved_test t ≡ true → nat_le (length (sites t)) MAX_NODES ≡ true → nat_le (edge_count t) MAX_EDGES ≡ true → slice_get (runs_of t) 0 ≡ Some r → r.from.mile ≡ r.to.mile → IsResolved t × IsGraphFault t (NotForward (record { 0 = 0 }) r.track r.to.mile)
+level_by_test t r tested nodes edges first level =
+    let resolved = resolved_by_test t tested in
+    let runs = in_order_of t resolved in (
+      resolved,
+      (
+        leb-true (length (sites t)) MAX_NODES nodes,
+        leb-true (edge_count t) MAX_EDGES edges,
+        record {
+          run = r;
+          numbered = runs.only 0 r first;
+          named = refl;
+          from = ap (λ (m : Micro). m.0) level;
+          to = refl;
+          before = λ f q less run. absurd (omega arith);
+        },
+      ),
+    )
+
+-- at every site before number n the edges lie as they must
+abbrev pub lie_before : List Edge → List Site → ℕ → Bool
+lie_before edges ss n = list_all (λ (ns : ℕ × Site). not (nat_lt ns.0 n) || is_some (ports_of (side_at edges ns.0) ns.1.meets)) (enumerate_from 0 ss)
+
+before_by_test : (edges : List Edge) (ss : List Site) (n m : ℕ) (r : Site) → lie_before edges ss n ≡ true → m < n → slice_get ss m ≡ Some r → IsSome (ports_of (side_at edges m) r.meets)
+before_by_test edges ss n m r tested less there =
+    let lies : ℕ × Site → Bool = λ ns. not (nat_lt ns.0 n) || is_some (ports_of (side_at edges ns.0) ns.1.meets) in
+    let listed = contains_in {X = ℕ × Site} (enumerate_from 0 ss) (m, r) (subst (λ (k : ℕ). In {X = ℕ × Site} (k, r) (enumerate_from 0 ss)) (zero-add m) (in_numbers 0 ss m r there)) in
+    elim (or_cases (not (nat_lt m n)) (is_some (ports_of (side_at edges m) r.meets)) (All-contains (λ (ns : ℕ × Site). lies ns ≡ true) (enumerate_from 0 ss) (m, r) (AllPass-from_list_all lies (enumerate_from 0 ss) tested) listed)) [
+      | inl past ↦ absurd (both_ways (nat_lt m n) (not-true (nat_lt m n) past) (lt-ltb m n less))
+      | inr lie ↦ lie
+    ]
+
+pub mismatch_by_test : (t : Topology) (n : ℕ) (s : Site) → resolved_test t ≡ true → nat_le (length (sites t)) MAX_NODES ≡ true → nat_le (edge_count t) MAX_EDGES ≡ true → list_all leads_forward (runs_of t) ≡ true → slice_get (sites_of t) n ≡ Some s → ports_of (side_at (map (edge_of t) (runs_of t)) n) s.meets ≡ None → lie_before (map (edge_of t) (runs_of t)) (sites_of t) n ≡ true → IsResolved t × IsGraphFault t (SideMismatch (record { 0 = n }) s.id)
+mismatch_by_test t n s tested nodes edges forward there none before =
+    let resolved = resolved_by_test t tested in
+    let runs = in_order_of t resolved in
+    let made : List Edge = map (edge_of t) (runs_of t) in
+    let by_place : Site → ℕ = λ s. s.spot.at in
+    let fault = mismatch_fault t made (sites_of t) (SideMismatch (record { 0 = n }) s.id) resolved (leb-true (length (sites t)) MAX_NODES nodes) (leb-true (edge_count t) MAX_EDGES edges)
+    (all_forward t (runs_of t) runs (forward_by_test (runs_of t) forward)) (are_edges t (runs_of t) made runs refl) (record { same = order_same by_place (sites t); rise = order_up by_place (sites t) })
+    (s, record { there = there; mismatched = none; before = λ m r less at. before_by_test made (sites_of t) n m r before less at }, refl) in
+    (resolved, elim fault [ inl memory ↦ absurd cc | inr shown ↦ shown ])

@@ -152,7 +152,7 @@ in_end : (k : ℕ) (last : Bool) (e : TrackEnd) (o : Option Conn) (c : Conn) →
 in_end k last e None c is = absurd (let h : None ≡ Some c = is in cc)
 in_end k last e (Some d) c is = inl (ap (λ (x : Conn). (end_place k last, x)) (let h : d ≡ c = cc in h))
 
-in_numbers : {A : Type 0} (n : ℕ) (xs : List A) (i : ℕ) (x : A) → slice_get xs i ≡ Some x → In {X = ℕ × A} (n + i, x) (enumerate_from n xs)
+pub in_numbers : {A : Type 0} (n : ℕ) (xs : List A) (i : ℕ) (x : A) → slice_get xs i ≡ Some x → In {X = ℕ × A} (n + i, x) (enumerate_from n xs)
 in_numbers {A} n [] i x is = absurd (let h : None ≡ Some x = is in cc)
 in_numbers {A} n (y ∷ ys) zero x is = inl (let h : y ≡ x = cc in ap (λ z. (n, z)) h ∙ ap (λ k. (k, x)) (sym (add-zero n)))
 in_numbers {A} n (y ∷ ys) (suc i) x is = inr (subst (λ k. In (k, x) (enumerate_from (n + 1) ys)) (let h : n + 1 + i ≡ n + suc i = omega arith in h) (in_numbers (n + 1) ys i x is))

@@ -1,5 +1,5 @@
 -- The track graph of a topology, and why it may have none.
-use Rattle.std.specs.Prelude.{◌≡◌, ◌≢◌, ℕ, ◌≤◌, ◌<◌, ℤ, ◌⊎◌, nat_eq, int_lt, if◌then◌else◌, List, length, Contains, Some, None, IsSome, slice_get, slice_index_or}
+use Rattle.std.specs.Prelude.{◌≡◌, ◌≢◌, ℕ, ◌≤◌, ◌<◌, ℤ, ◌⊎◌, nat_eq, int_lt, if◌then◌else◌, List, [], codes, length, Contains, Some, None, IsSome, slice_get, slice_index_or}
 use Rattle.plan_core.specs.declared.limits.TheConstants.{MAX_NODES, MAX_EDGES}
 use Rattle.plan_core.specs.declared.sides.Compass.{Compass}
 use Rattle.plan_core.specs.declared.sides.Compass.TheVariants.{East, West}
@@ -107,3 +107,18 @@ IsGraphFault t (TooManyEdges n) = HasFewNodes t × (n ≡ edge_count t) × (MAX_
 IsGraphFault t (NotForward edge track mileage) = HasFewNodes t × HasFewEdges t × IsFirstLevel t edge.0 track mileage.0
 IsGraphFault t (SideMismatch node name) = HasFewNodes t × HasFewEdges t × AllForward t × IsFirstMismatch t node.0 name
 IsGraphFault t Memory = ⊥
+
+-- the number and the word by which a fault is told; want of memory has neither
+abbrev pub number_of : GraphFault → ℕ
+number_of (TooManyNodes n) = 1
+number_of (TooManyEdges n) = 2
+number_of (NotForward edge track mileage) = 3
+number_of (SideMismatch node name) = 4
+number_of Memory = 0
+
+abbrev pub word_of : GraphFault → List ℕ
+word_of (TooManyNodes n) = codes "TooManyNodes"
+word_of (TooManyEdges n) = codes "TooManyEdges"
+word_of (NotForward edge track mileage) = codes "NotForward"
+word_of (SideMismatch node name) = codes "SideMismatch"
+word_of Memory = []

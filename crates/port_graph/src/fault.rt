@@ -1,4 +1,7 @@
 // Why a topology has no track graph.
+ghost use Rattle.std.specs.Prelude.{◌≡◌};
+ghost use Rattle.port_graph.specs.TopologyGraph.{number_of, word_of};
+
 use plan_core::{EdgeNo, Micro, NodeNo, OutOfMemory, Text};
 use std::fmt;
 use thiserror::Error;
@@ -28,6 +31,34 @@ pub enum GraphFault {
     /// Memory couldn't be had.
     #[error("out of memory")]
     Memory,
+}
+
+impl GraphFault {
+    /// The number by which a fault line tells the fault; want of memory has no line, and 0.
+    pub fn number(&self) -> u8
+        ensures { result ≡ number_of self.now }
+    {
+        match self {
+            GraphFault::TooManyNodes(_) => 1,
+            GraphFault::TooManyEdges(_) => 2,
+            GraphFault::NotForward { .. } => 3,
+            GraphFault::SideMismatch { .. } => 4,
+            GraphFault::Memory => 0,
+        }
+    }
+
+    /// The word by which a fault line tells the fault; want of memory has none.
+    pub fn word(&self) -> &'static str
+        ensures { result.now ≡ word_of self.now }
+    {
+        match self {
+            GraphFault::TooManyNodes(_) => "TooManyNodes",
+            GraphFault::TooManyEdges(_) => "TooManyEdges",
+            GraphFault::NotForward { .. } => "NotForward",
+            GraphFault::SideMismatch { .. } => "SideMismatch",
+            GraphFault::Memory => "",
+        }
+    }
 }
 
 impl fmt::Debug for GraphFault {

@@ -1,5 +1,5 @@
 use Rattle.std.proofs.Common.{refl}
-use Rattle.port_graph.specs.Examples.{one_topology, loop_topology, back_topology, cross_topology, two_topology, scissors_topology, station_topology, joint_topology}
+use Rattle.port_graph.specs.Examples.{one_topology, loop_topology, back_topology, cross_topology, two_topology, scissors_topology, station_topology, joint_topology, left_topology, bent_topology}
 use Rattle.port_graph.proofs.GraphTest.{graph_by_test}
 use Rattle.port_graph.proofs.examples.worked_graphs.Goals as goal
 
@@ -23,6 +23,12 @@ returns-clause-scissors c = graph_by_test scissors_topology _ refl refl refl
 
 pub returns-clause-a_station : goal.returns-clause-a_station
 returns-clause-a_station c = graph_by_test station_topology _ refl refl refl
+
+pub returns-clause-a_crossing_to_the_left : goal.returns-clause-a_crossing_to_the_left
+returns-clause-a_crossing_to_the_left c = graph_by_test left_topology _ refl refl refl
+
+pub returns-clause-a_loop_that_goes_straight : goal.returns-clause-a_loop_that_goes_straight
+returns-clause-a_loop_that_goes_straight c = graph_by_test bent_topology _ refl refl refl
 
 pub returns-clause-a_joint : goal.returns-clause-a_joint
 returns-clause-a_joint c = graph_by_test joint_topology _ refl refl refl
