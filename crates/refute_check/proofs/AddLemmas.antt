@@ -8,16 +8,15 @@ use Rattle.std.proofs.lemmas.Bool.Decides.{eqb_tells}
 use Rattle.std.proofs.lemmas.List.Sums.{sum_by_more, sum_by-append}
 use Rattle.cnf_core.specs.Lit.{Literal, negate, word_of, has}
 use Rattle.cnf_core.specs.Clause.{Clauses, AreDistinct, AreThere, AllThere}
-use Rattle.cnf_core.specs.Propagation.{LiteralSet, IsIn, Closure, Falsifies}
-use Rattle.cnf_core.proofs.PropagationLemmas.{closure_again, closure_more, among_left}
+use Rattle.cnf_core.specs.Propagation.{LiteralSet, IsIn, Closure, Falsifies, HasReason, Falsified, nothing}
+use Rattle.cnf_core.proofs.PropagationLemmas.{closure_again, closure_more, among_left, reason_more}
 use Rattle.cnf_core.proofs.ClauseLemmas.{there_more}
+use Rattle.cnf_core.proofs.TrailLemmas.{word_once, has_last, has_front, same_literal_or, push_keeps, front_lacks, front_includes}
 use Rattle.refute_check.specs.declared.tables.Tables.{Tables}
-use Rattle.refute_check.specs.Tables.{marked, weight, false_count, IsTrail, IsCounted, AreCounts, AreQuiet, IsQuiet, IsUnset, HasReason, Falsified, Grows, Lists, AreOccurrences, places_from}
-use Rattle.refute_check.specs.Settled.{nothing, IsSettled, IsListed}
+use Rattle.refute_check.specs.Tables.{marked, weight, false_count, IsTrail, IsCounted, AreCounts, AreQuiet, IsQuiet, IsUnset, Grows, Lists, AreOccurrences, places_from}
+use Rattle.refute_check.specs.Settled.{IsSettled, IsListed}
 use Rattle.refute_check.proofs.ScanLemmas.{IsFalse}
-use Rattle.refute_check.proofs.TrailLemmas.{word_once, has_last, has_front, same_literal_or}
-use Rattle.refute_check.proofs.GrowthLemmas.{quiet_more, quiet_marked, grows_more, grows_unit, reason_more, push_keeps, all_same_set}
-use Rattle.refute_check.proofs.AdvanceLemmas.{front_lacks, front_includes}
+use Rattle.refute_check.proofs.GrowthLemmas.{quiet_more, quiet_marked, grows_more, grows_unit, all_same_set}
 
 -- counting false literals one after another
 pub false_step : (truth : List Bool) (c : List Literal) (i : ℕ) (l : Literal) (b : Bool) → i < length c → l ≡ get_or c i l → b ≡ marked truth (negate l) → false_count (marked truth) (take (i + 1) c) ≡ false_count (marked truth) (take i c) + weight b

@@ -1,31 +1,16 @@
 -- One more literal of the trail is counted.
-use Rattle.std.proofs.Common.{◌≡◌, ℕ, ◌+◌, ◌<◌, ◌≤◌, Bool, true, false, List, [], ◌∷◌, ◌++◌, length, take, drop, get_or, refl, sym, ◌∙◌, ap, subst, inl, inr, arith}
+use Rattle.std.proofs.Common.{◌≡◌, ℕ, ◌+◌, ◌<◌, ◌≤◌, Bool, true, false, List, [], ◌∷◌, ◌++◌, length, take, get_or, refl, sym, ◌∙◌, ap, subst, inl, inr, arith}
 use Rattle.std.specs.Prelude.{Contains}
-use Rattle.std.proofs.lemmas.List.{take_more, take-take, take-append-drop, get_or_default}
-use Rattle.std.proofs.lemmas.List.Elements.{All-contains, Contains-get_or, Contains-append_left}
+use Rattle.std.proofs.lemmas.List.{take-take, get_or_default}
+use Rattle.std.proofs.lemmas.List.Elements.{All-contains, Contains-get_or}
 use Rattle.cnf_core.specs.Lit.{Literal, negate, word_of, has}
 use Rattle.cnf_core.specs.Clause.{Clauses, AreDistinct, AreThere, AllDistinct, IsThere}
 use Rattle.cnf_core.specs.Propagation.{LiteralSet, IsIn, Includes}
-use Rattle.cnf_core.proofs.PropagationLemmas.{negate-negate, contains_from_has, has_from_contains}
+use Rattle.cnf_core.proofs.PropagationLemmas.{negate-negate, has_from_contains}
+use Rattle.cnf_core.proofs.TrailLemmas.{there_get, has_front, same_literal_or, word_below, front_includes, front_lacks, next_front}
 use Rattle.refute_check.specs.Tables.{CountedUp, places_from, AreCounts, AreOccurrences, IsTrail, IsCounted, IsQuiet, AreQuiet, IsQuietNow, AreQuietNow, Grows}
-use Rattle.refute_check.proofs.ScanLemmas.{front_differs, there_get}
-use Rattle.refute_check.proofs.TrailLemmas.{has_front, same_literal_or, word_below}
 use Rattle.refute_check.proofs.GrowthLemmas.{quiet_more, grows_none, grows_more}
 use Rattle.refute_check.proofs.FalseCountLemmas.{counts_up, named_by}
-
-pub front_includes : (trail : List Literal) (n : ℕ) → Includes (has trail) (has (take n trail))
-front_includes trail n = λ l h. has_from_contains trail l (subst (λ (ls : List Literal). Contains ls l) (take-append-drop n trail) (Contains-append_left (take n trail) (drop n trail) l (contains_from_has (take n trail) l h)))
-
-false_of : (b : Bool) → (b ≡ true → ⊥) → b ≡ false
-false_of true f = absurd (f refl)
-false_of false f = refl
-
--- the next literal isn't in the front
-pub front_lacks : (trail : List Literal) (front : ℕ) (l : Literal) → AreDistinct trail → front < length trail → get_or trail front l ≡ l → has (take front trail) l ≡ false
-front_lacks trail front l distinct within e = false_of (has (take front trail) l) (λ h. front_differs trail front l l distinct within (contains_from_has (take front trail) l h) e)
-
-pub next_front : (trail : List Literal) (front : ℕ) (l : Literal) → front < length trail → get_or trail front l ≡ l → take (front + 1) trail ≡ take front trail ++ l ∷ []
-next_front trail front l within e = take_more trail front l within ∙ ap (λ (k : Literal). take front trail ++ k ∷ []) e
 
 -- a grown trail has the same front
 pub same_front : (clauses : Clauses) (old new : List Literal) (n : ℕ) → Grows clauses old new → n ≤ length old → take n new ≡ take n old

@@ -7,10 +7,9 @@ use Rattle.cnf_core.specs.Lit.{Literal, negate, has}
 use Rattle.cnf_core.specs.Clause.{AreDistinct}
 use Rattle.cnf_core.specs.Propagation.{IsIn, Includes, negations}
 use Rattle.cnf_core.proofs.PropagationLemmas.{negate-negate, contains_from_has, has_from_contains}
+use Rattle.cnf_core.proofs.TrailLemmas.{has_last, has_front, same_literal_or, distinct_consistent, push_keeps}
 use Rattle.refute_check.specs.Tables.{marked, IsTrail, Assumes, Clashes}
 use Rattle.refute_check.proofs.ScanLemmas.{IsFalse}
-use Rattle.refute_check.proofs.TrailLemmas.{has_last, has_front, same_literal_or, distinct_consistent}
-use Rattle.refute_check.proofs.GrowthLemmas.{push_keeps}
 
 pub record Assumed (vars : ℕ) (lits old : List Literal) (truth : List Bool) (new : List Literal) (i : ℕ) : Type 0 where
   pub table : IsTrail vars truth new

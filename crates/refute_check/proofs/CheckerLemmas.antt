@@ -1,23 +1,23 @@
 -- What a checker answers, by what its tables are good for.
-use Rattle.std.proofs.Common.{◌≡◌, ℕ, zero, suc, ◌+◌, ◌-◌, ◌<◌, ◌≤◌, ◌⊎◌, max, List, [], ◌∷◌, ◌++◌, length, take, drop, get_or, refl, sym, ◌∙◌, ap, subst, inl, inr, arith, append-nil}
+use Rattle.std.proofs.Common.{◌≡◌, ℕ, ◌+◌, ◌-◌, ◌<◌, ◌≤◌, ◌⊎◌, max, List, [], ◌∷◌, ◌++◌, length, take, drop, get_or, refl, sym, ◌∙◌, ap, subst, inl, inr, arith, append-nil}
 use Rattle.std.specs.Prelude.{All, Contains, Option, MatchOption, Result, Ok, Err, OnOk, IfErr}
 use Rattle.std.proofs.lemmas.List.{take_all}
-use Rattle.std.proofs.lemmas.List.Elements.{All-weaker, All-nil, All-head, All-tail}
+use Rattle.std.proofs.lemmas.List.Elements.{All-weaker, All-nil}
 use Rattle.cnf_core.specs.Lit.{Literal, negate}
 use Rattle.cnf_core.specs.Clause.{Clauses, IsThere, AreThere, words_of}
 use Rattle.cnf_core.specs.Formula.{Cnf}
-use Rattle.cnf_core.specs.Propagation.{LiteralSet, Closure, Falsifies, Rup, negations, greatest_in, greatest_var}
-use Rattle.cnf_core.proofs.PropagationLemmas.{falsifies_again, new_includes_none}
+use Rattle.cnf_core.specs.Propagation.{LiteralSet, Closure, Falsifies, Rup, negations, greatest_in, greatest_var, nothing}
+use Rattle.cnf_core.proofs.PropagationLemmas.{falsifies_again}
 use Rattle.cnf_core.proofs.ClauseLemmas.{words_append}
+use Rattle.cnf_core.proofs.TrailLemmas.{there_all}
 use Rattle.refute_log.specs.declared.line.LogLine.{LogLine}
 use Rattle.refute_log.specs.declared.line.LogLine.TheVariants.{Formula, Learnt, Bound, Query, Refuted, Model}
+use Rattle.refute_log.proofs.LogLemmas.{there_below, new_includes_nothing}
 use Rattle.refute_check.specs.declared.fault.LineFault.{LineFault}
 use Rattle.refute_check.specs.declared.fault.LineFault.TheVariants.{NewVar, WrongQuery, Room, NotImplied, NotNew, Memory}
-use Rattle.refute_check.specs.Log.{Answers, IsNewClause, SaysMore}
-use Rattle.refute_check.specs.Settled.{nothing}
+use Rattle.refute_log.specs.Log.{Answers, IsNewClause, SaysMore}
 use Rattle.refute_check.specs.Standing.{IsContradicted}
-use Rattle.refute_check.specs.Kept.{Kept, kept_of, kept_after, with_clause, IsKnownClause, Accepts, AnswersWrongly, PassesRoom, IsUnproved, IsOld, NamesNew, IsAnswer, Includes, IncludesNone}
-use Rattle.refute_check.proofs.ScanLemmas.{there_all}
+use Rattle.refute_check.specs.Kept.{Kept, kept_of, kept_after, with_clause, IsKnownClause, Accepts, AnswersWrongly, PassesRoom, IsUnproved, IsOld, NamesNew, IsAnswer, IncludesNone}
 
 -- what is falsified without assumptions is so with any
 pub falsified_any : (clauses : Clauses) (start : LiteralSet) → Falsifies clauses nothing → Falsifies clauses start
@@ -48,10 +48,6 @@ pub named_line : (c lits : List Literal) (vars room : ℕ) (f : Cnf) (q : Option
 named_line c lits vars room f q rs kept e v k all =
     let n : vars ≡ kept.facts.greatest = v ∙ ap (λ (m : Kept). m.facts.greatest) k in
     subst (λ (ls : List Literal). All (λ l. l.var ≤ kept.facts.greatest) ls) e (subst (λ m. All (λ (l : Literal). l.var ≤ m) lits) n all)
-
-pub there_below : (m n : ℕ) (c : List Literal) → AreThere m c → All (λ l. l.var ≤ n) c → AreThere n c
-there_below m n [] h all = tt
-there_below m n (l ∷ c) h all = ((h.0.0, All-head (λ (k : Literal). k.var ≤ n) l c all), there_below m n c h.1 (All-tail (λ (k : Literal). k.var ≤ n) l c all))
 
 pub there_named : (m n : ℕ) (c lits : List Literal) → AreThere m c → lits ≡ c → All (λ l. l.var ≤ n) c → AreThere n lits
 there_named m n c lits h e all = subst (λ (ls : List Literal). AreThere n ls) (sym e) (there_below m n c h all)
@@ -208,20 +204,9 @@ answer_refused old new line (Err NotNew) a = λ _. a.1
 answer_refused old new line (Err Memory) a = λ ne. absurd (ne refl)
 
 -- an accepted Learnt line has all literals of no clause that was there
-first_or_later : (first l : Literal) (others : List Literal) → Contains (first ∷ others) l → (l ≡ first) ⊎ Contains others l
-first_or_later first l others m = at m.0 m.1 m.2
-  where
-    at : (i : ℕ) → i < length (first ∷ others) → get_or (first ∷ others) i l ≡ l → (l ≡ first) ⊎ Contains others l
-    at zero lt e = inl (sym e)
-    at (suc i) lt e = inr (i, omega arith, e)
-
-pub learnt_finite : (clauses : Clauses) (c d : List Literal) → IsNewClause clauses c → Contains clauses d → Includes c d → ⊥
-learnt_finite clauses [] d fresh among within = fresh
-learnt_finite clauses (first ∷ others) d fresh among within = new_includes_none clauses first others fresh d among (λ l m. first_or_later first l others (within l m))
-
 finite_line : (clauses : Clauses) (line : LogLine) → SaysMore clauses line → IncludesNone clauses line
 finite_line clauses (Formula c) h = tt
-finite_line clauses (Learnt c) h = λ d among within. learnt_finite clauses c d h among within
+finite_line clauses (Learnt c) h = λ d among within. new_includes_nothing clauses c d h among within
 finite_line clauses (Bound criterion k x) h = tt
 finite_line clauses (Query c) h = tt
 finite_line clauses (Refuted c) h = tt

@@ -7,10 +7,11 @@ use Rattle.std.proofs.lemmas.List.Sums.{sum_by-cons, count_by-le-length}
 use Rattle.cnf_core.specs.Lit.{Literal, negate, has}
 use Rattle.cnf_core.specs.Clause.{Clauses, Avoids, AreDistinct, AllDistinct, words_of}
 use Rattle.cnf_core.specs.Propagation.{LiteralSet}
-use Rattle.cnf_core.proofs.PropagationLemmas.{negate-negate, contains_from_has, has_from_contains}
+use Rattle.cnf_core.proofs.PropagationLemmas.{negate-negate, contains_from_has, has_from_contains, contains_later}
 use Rattle.cnf_core.proofs.ClauseLemmas.{distinct_at, words_at}
+use Rattle.cnf_core.proofs.TrailLemmas.{has_last, has_front, same_literal_or}
+use Rattle.plan_core.proofs.TruthFacts.{same_when}
 use Rattle.refute_check.specs.Tables.{times, CountedUp, places_from, false_count, AreCounts, weight}
-use Rattle.refute_check.proofs.TrailLemmas.{has_last, has_front, same_literal_or, same_true, contains_tail}
 
 abbrev one_at : ℕ → ℕ → ℕ
 one_at n m = cond (nat_eq m n) 1 0
@@ -95,9 +96,9 @@ tail_of k l c zero lt e ne = absurd (ne e)
 tail_of k l c (suc i) lt e ne = has_from_contains c l (i, omega arith, e)
 
 has_cons_other : (k l : Literal) (c : List Literal) → (k ≡ l → ⊥) → has (k ∷ c) l ≡ has c l
-has_cons_other k l c ne = same_true (has (k ∷ c) l) (has c l)
+has_cons_other k l c ne = same_when (has (k ∷ c) l) (has c l)
     (λ h. let m = contains_from_has (k ∷ c) l h in tail_of k l c m.0 m.1 m.2 ne)
-    (λ h. has_from_contains (k ∷ c) l (contains_tail k l c (contains_from_has c l h)))
+    (λ h. has_from_contains (k ∷ c) l (contains_later k l c (contains_from_has c l h)))
 
 pub false_more : (trail c : List Literal) (l : Literal) → AreDistinct c → has trail l ≡ false → false_count (has (trail ++ l ∷ [])) c ≡ false_count (has trail) c + one_has c (negate l)
 false_more trail [] l distinct none = refl

@@ -1,16 +1,17 @@
 -- What follows of literals that are marked one after another, and which clauses are quiet.
 use Rattle.std.proofs.Common.{◌≡◌, ◌≢◌, ℕ, ◌+◌, ◌<◌, ◌≤◌, ◌⊎◌, Bool, cond, List, [], ◌∷◌, ◌++◌, length, take, get_or, set, refl, sym, ◌∙◌, ap, subst, inl, inr, arith, length-append}
 use Rattle.std.specs.Prelude.{All, Contains}
+use Rattle.std.proofs.lemmas.Bool.{both_ways}
 use Rattle.std.proofs.lemmas.List.{take_at, take-take, take_all}
 use Rattle.std.proofs.lemmas.List.Elements.{All-contains, All-weaker, All-head, All-tail, All-more, All-nil, All-cons}
 use Rattle.std.proofs.lemmas.List.Sums.{sum_by-cons}
 use Rattle.cnf_core.specs.Lit.{Literal, negate, has}
 use Rattle.cnf_core.specs.Clause.{Clauses, Avoids, AreDistinct}
-use Rattle.cnf_core.specs.Propagation.{LiteralSet, IsIn, Includes, IsUnit, Closure}
-use Rattle.cnf_core.proofs.PropagationLemmas.{closure_start, closure_unit, closure_again}
-use Rattle.refute_check.specs.Tables.{marked, false_count, IsTrail, IsConsistent, IsQuiet, IsUnset, HasReason, Falsified, Grows, IsQuietNow, AreQuietNow}
+use Rattle.cnf_core.specs.Propagation.{LiteralSet, IsIn, Includes, IsUnit, Closure, IsConsistent, HasReason, Falsified}
+use Rattle.cnf_core.proofs.PropagationLemmas.{closure_start, closure_unit, closure_again, unit_more, reason_more}
+use Rattle.cnf_core.proofs.TrailLemmas.{has_last, has_front, same_literal_or, distinct_consistent, push_keeps}
+use Rattle.refute_check.specs.Tables.{marked, false_count, IsTrail, IsQuiet, IsUnset, Grows, IsQuietNow, AreQuietNow}
 use Rattle.refute_check.proofs.ScanLemmas.{IsFalse, IsLastOr}
-use Rattle.refute_check.proofs.TrailLemmas.{has_last, has_front, same_literal_or, distinct_consistent, not_both}
 
 -- sets that agree
 pub marks_false : (vars : ℕ) (truth : List Bool) (trail : List Literal) (l : Literal) → IsTrail vars truth trail → IsIn (marked truth) l → IsIn (has trail) l
@@ -18,16 +19,6 @@ marks_false vars truth trail l t h = sym (t.marks l) ∙ h
 
 pub trail_consistent : (vars : ℕ) (truth : List Bool) (trail : List Literal) → IsTrail vars truth trail → IsConsistent (marked truth)
 trail_consistent vars truth trail t = λ l h k. distinct_consistent trail t.distinct l (marks_false vars truth trail l t h) (marks_false vars truth trail (negate l) t k)
-
--- more literals, more units
-pub unit_more : (set more : LiteralSet) (c : List Literal) (l : Literal) → Includes more set → IsUnit set c l → IsUnit more c l
-unit_more set more c l within unit = record {
-  among = unit.among;
-  others = All-weaker (λ k. (k ≡ l) ⊎ IsIn set (negate k)) (λ k. (k ≡ l) ⊎ IsIn more (negate k)) (λ k h. elim h [ inl e ↦ inl e | inr f ↦ inr (within (negate k) f) ]) c unit.others;
-}
-
-pub reason_more : (clauses : Clauses) (set more : LiteralSet) (l : Literal) → Includes more set → HasReason clauses set l → HasReason clauses more l
-reason_more clauses set more l within r = record { reason = r.reason; among = r.among; unit = unit_more set more r.reason l within r.unit }
 
 pub quiet_more : (done set more : LiteralSet) (c : List Literal) → Includes more set → IsQuiet done set c → IsQuiet done more c
 quiet_more done set more c within q = record { closed = λ l unit. within l (q.closed l unit); unfalsified = q.unfalsified }
@@ -61,12 +52,6 @@ grows_more clauses old mid new a b = record {
   ];
 }
 
-pub push_keeps : (trail : List Literal) (l : Literal) → Includes (has (trail ++ l ∷ [])) (has trail)
-push_keeps trail l = λ k h. elim (same_literal_or k l) [
-  | inl e ↦ ap (has (trail ++ l ∷ [])) e ∙ has_last trail l
-  | inr ne ↦ has_front trail l k ne ∙ h
-]
-
 pub grows_unit : (clauses : Clauses) (trail : List Literal) (c : List Literal) (l : Literal) → Contains clauses c → IsUnit (has trail) c l → Grows clauses trail (trail ++ l ∷ [])
 grows_unit clauses trail c l among unit = record {
   front = take_at trail (l ∷ []) (length trail) refl;
@@ -87,9 +72,9 @@ pub quiet_marked : (trail : List Literal) (c : List Literal) (l : Literal) (done
 quiet_marked trail c l done u within = record {
   closed = λ m unit. elim (All-contains (λ k. (k ≡ m) ⊎ IsIn done (negate k)) c l unit.others u.unit.among) [
     | inl e ↦ subst (λ (k : Literal). IsIn (has (trail ++ l ∷ [])) k) e (has_last trail l)
-    | inr f ↦ absurd (not_both (has trail (negate l)) (within (negate l) f) u.not_false)
+    | inr f ↦ absurd (both_ways (has trail (negate l)) u.not_false (within (negate l) f))
   ];
-  unfalsified = λ all. not_both (has trail (negate l)) (within (negate l) (All-contains (IsFalse done) c l all u.unit.among)) u.not_false;
+  unfalsified = λ all. both_ways (has trail (negate l)) u.not_false (within (negate l) (All-contains (IsFalse done) c l all u.unit.among));
 }
 
 -- counting false literals

@@ -4,21 +4,17 @@ use Rattle.std.proofs.lemmas.List.{take_more}
 use Rattle.cnf_core.specs.Lit.{Literal}
 use Rattle.cnf_core.specs.Clause.{Clauses}
 use Rattle.cnf_core.specs.Formula.{Cnf}
-use Rattle.cnf_core.specs.Propagation.{greatest_in, greatest_var}
+use Rattle.cnf_core.specs.Propagation.{greatest_in, greatest_var, nothing}
 use Rattle.cnf_core.proofs.PropagationLemmas.{falsifies_more, among_left}
+use Rattle.cnf_core.proofs.GreatestLemmas.{greatest_in-append, greatest_var-append}
 use Rattle.refute_check.specs.declared.tables.Tables.{Tables}
-use Rattle.refute_check.specs.Settled.{nothing, IsSettled}
+use Rattle.refute_check.specs.Settled.{IsSettled}
 use Rattle.refute_check.specs.Standing.{IsContradicted}
-
--- the greatest variable of a list with one more literal
-pub greatest_push : (ls : List Literal) (l : Literal) → greatest_in (ls ++ l ∷ []) ≡ max (greatest_in ls) l.var
-greatest_push [] l = omega arith
-greatest_push (k ∷ ls) l = omega (arith, greatest_push ls l)
 
 pub greatest_step : (ls : List Literal) (i : ℕ) (l : Literal) (n v : ℕ) → i < length ls → l ≡ get_or ls i l → v ≡ l.var → n ≡ greatest_in (take i ls) → max n v ≡ greatest_in (take (i + 1) ls)
 greatest_step ls i l n v within at e h =
     let next : take (i + 1) ls ≡ take i ls ++ l ∷ [] = take_more ls i l within ∙ ap (λ (k : Literal). take i ls ++ k ∷ []) (sym at) in
-    omega (arith, greatest_push (take i ls) l, ap greatest_in next, h, e)
+    omega (arith, greatest_in-append (take i ls) (l ∷ []), ap greatest_in next, h, e)
 
 -- a formula with further variables
 abbrev with_vars : Cnf → ℕ → Cnf
@@ -62,9 +58,5 @@ kept_both old mid new c vars e d = d ∙ ap (λ (f : Cnf). with_clause f c) e
     with_clause : Cnf → List Literal → Cnf
     with_clause f c = record f { clauses = f.clauses ++ c ∷ [] }
 
-greatest_var_push : (cs : Clauses) (c : List Literal) → greatest_var (cs ++ c ∷ []) ≡ max (greatest_var cs) (greatest_in c)
-greatest_var_push [] c = omega arith
-greatest_var_push (d ∷ cs) c = omega (arith, greatest_var_push cs c)
-
 pub greatest_kept : (cs : Clauses) (c : List Literal) (vars more : ℕ) → vars ≤ greatest_var cs → more ≤ max vars (greatest_in c) → max vars more ≤ greatest_var (cs ++ c ∷ [])
-greatest_kept cs c vars more le named = omega (arith, greatest_var_push cs c)
+greatest_kept cs c vars more le named = omega (arith, greatest_var-append cs (c ∷ []))

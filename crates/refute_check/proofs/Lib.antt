@@ -13,4 +13,3 @@ pub mod JudgeLemmas
 pub mod WordLemmas
 pub mod CheckerLemmas
 pub mod VerdictLemmas
-pub mod LawLemmas

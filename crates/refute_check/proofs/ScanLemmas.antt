@@ -1,39 +1,21 @@
 -- A look at one clause, literal by literal.
-use Rattle.std.proofs.Common.{◌≡◌, ℕ, ◌+◌, ◌<◌, ◌≤◌, ◌⊎◌, Bool, true, false, zero, suc, List, [], ◌∷◌, None, Some, length, take, get_or, refl, sym, ◌∙◌, ap, subst, inl, inr, arith, length-take-le}
+use Rattle.std.proofs.Common.{◌≡◌, ℕ, ◌+◌, ◌<◌, ◌≤◌, ◌⊎◌, false, List, [], ◌∷◌, None, Some, length, take, get_or, refl, sym, ◌∙◌, subst, inl, inr, arith, length-take-le}
 use Rattle.std.specs.Prelude.{All, Contains}
+use Rattle.std.proofs.lemmas.Bool.{both_ways}
 use Rattle.std.proofs.lemmas.List.Elements.{All-contains, All-more, All-weaker, Contains-push, Contains-append_left}
-use Rattle.std.proofs.lemmas.List.{take_more, take_all, get_or-take, get_or_default}
+use Rattle.std.proofs.lemmas.List.{take_more, take_all, get_or-take}
 use Rattle.std.specs.declared.option.Option.{Option}
 use Rattle.cnf_core.specs.Lit.{Literal, negate}
-use Rattle.cnf_core.specs.Clause.{AreThere, AreDistinct, IsThere}
-use Rattle.cnf_core.specs.Propagation.{LiteralSet, IsIn}
-use Rattle.cnf_core.proofs.QuantifierLemmas.{pairs_from_distinct}
-use Rattle.refute_check.specs.Tables.{IsConsistent, IsQuiet, IsUnset}
+use Rattle.cnf_core.specs.Clause.{AreDistinct}
+use Rattle.cnf_core.specs.Propagation.{LiteralSet, IsIn, IsConsistent}
+use Rattle.cnf_core.proofs.TrailLemmas.{front_differs}
+use Rattle.refute_check.specs.Tables.{IsQuiet, IsUnset}
 
 abbrev pub IsFalse : LiteralSet → Literal → Type 0
 IsFalse set k = IsIn set (negate k)
 
 abbrev pub IsLastOr : LiteralSet → Literal → Literal → Type 0
 IsLastOr set u k = (k ≡ u) ⊎ IsFalse set k
-
--- each literal there is of a variable there
-pub there_get : (vars : ℕ) (c : List Literal) (i : ℕ) (d : Literal) → i < length c → AreThere vars c → IsThere vars (get_or c i d)
-there_get vars [] i d within h = absurd (omega arith)
-there_get vars (l ∷ c) zero d within h = h.0
-there_get vars (l ∷ c) (suc i) d within h = there_get vars c i d (omega arith) h.1
-
-pub there_all : (vars : ℕ) (c : List Literal) → AreThere vars c → All (IsThere vars) c
-there_all vars c h = λ i d within. there_get vars c i d within h
-
--- a literal of a front isn't the next one
-pub front_differs : (c : List Literal) (i : ℕ) (u d : Literal) → AreDistinct c → i < length c → Contains (take i c) u → get_or c i d ≡ u → ⊥
-front_differs c i u d distinct within among e =
-    let size : length (take i c) ≡ i = length-take-le i c (omega arith) in
-    let j = among.0 in
-    let below : j < i = let lt = among.1 in omega (arith, size, lt) in
-    let at : get_or c j u ≡ u = sym (get_or-take i c j u below) ∙ among.2 in
-    let same : get_or c i u ≡ u = get_or_default c i u d within ∙ e in
-    pairs_from_distinct c distinct j i u below within (ap (λ (l : Literal). l.var) at ∙ sym (ap (λ (l : Literal). l.var) same))
 
 -- what the literals so far leave
 pub record SeenOne (set : LiteralSet) (front : List Literal) (u : Literal) : Type 0 where
@@ -73,9 +55,6 @@ quiet_true set c i d consistent within h = record {
   unfalsified = λ all. consistent (get_or c i d) h (all i d within);
 }
 
-both_ways : (b : Bool) → b ≡ true → b ≡ false → ⊥
-both_ways b h k = cc
-
 -- two literals that aren't false
 pub quiet_two : (set : LiteralSet) (c : List Literal) (i : ℕ) (u d : Literal) → AreDistinct c → i < length c → SeenOne set (take i c) u → set (negate (get_or c i d)) ≡ false → IsQuiet set set c
 quiet_two set c i u d distinct within s not_false =
@@ -84,11 +63,11 @@ quiet_two set c i u d distinct within s not_false =
       closed = λ l unit. elim (All-contains (λ k. (k ≡ l) ⊎ IsIn set (negate k)) c u unit.others one) [
         | inl e ↦ elim (unit.others i d within) [
           | inl f ↦ absurd (front_differs c i u d distinct within s.among (f ∙ sym e))
-          | inr t ↦ absurd (both_ways (set (negate (get_or c i d))) t not_false)
+          | inr t ↦ absurd (both_ways (set (negate (get_or c i d))) not_false t)
         ]
-        | inr t ↦ absurd (both_ways (set (negate u)) t s.not_false)
+        | inr t ↦ absurd (both_ways (set (negate u)) s.not_false t)
       ];
-      unfalsified = λ all. both_ways (set (negate (get_or c i d))) (all i d within) not_false;
+      unfalsified = λ all. both_ways (set (negate (get_or c i d))) not_false (all i d within);
     }
   where
     size : length (take i c) ≡ i

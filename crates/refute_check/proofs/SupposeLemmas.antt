@@ -5,19 +5,15 @@ use Rattle.std.proofs.lemmas.List.{take_all, take_at, get_or_default}
 use Rattle.std.proofs.lemmas.List.Elements.{All-contains, All-weaker}
 use Rattle.cnf_core.specs.Lit.{Literal, negate, has, word_of}
 use Rattle.cnf_core.specs.Clause.{Clauses, IsThere}
-use Rattle.cnf_core.specs.Propagation.{LiteralSet, IsIn, Includes, IsUnit, IsClosed, Closure, Falsifies, negations}
-use Rattle.cnf_core.proofs.PropagationLemmas.{negate-negate, has_from_contains, closure_start, closure_again, closure_least}
+use Rattle.cnf_core.specs.Propagation.{IsIn, Includes, IsUnit, IsClosed, Closure, Falsifies, negations, HasReason, Falsified, IsClosure, nothing}
+use Rattle.cnf_core.proofs.PropagationLemmas.{negate-negate, has_from_contains, closure_start, closure_again, closure_any}
+use Rattle.cnf_core.proofs.TrailLemmas.{word_below}
 use Rattle.refute_check.specs.declared.tables.Tables.{Tables}
-use Rattle.refute_check.specs.Tables.{IsTrail, IsCounted, AreCounts, AreQuiet, IsQuiet, HasReason, Falsified, Grows, Assumes, Clashes, IsClosure}
-use Rattle.refute_check.specs.Settled.{nothing, IsSettled}
+use Rattle.refute_check.specs.Tables.{IsTrail, IsCounted, AreCounts, AreQuiet, IsQuiet, Grows, Assumes, Clashes}
+use Rattle.refute_check.specs.Settled.{IsSettled}
 use Rattle.refute_check.proofs.ScanLemmas.{IsFalse}
-use Rattle.refute_check.proofs.TrailLemmas.{word_below}
 use Rattle.refute_check.proofs.GrowthLemmas.{quiet_more}
 use Rattle.refute_check.proofs.AdvanceLemmas.{same_front}
-
--- what follows of nothing follows of anything
-pub closure_any : (clauses : Clauses) (start : LiteralSet) (l : Literal) → Closure clauses nothing l → Closure clauses start l
-closure_any clauses start l h = closure_again clauses start nothing l (λ k m. cc) h
 
 -- with the assumptions, and before propagation
 pub assumed_counted : (vars : ℕ) (clauses : Clauses) (truth then : List Bool) (old mid : List Literal) (counts : List ℕ) (lits : List Literal) → IsCounted vars clauses truth old counts (length old) → Assumes lits old mid → IsTrail vars then mid → IsCounted vars clauses then mid counts (length old)
@@ -79,13 +75,6 @@ supposed_closure clauses old mid new lits within a all g q = record {
 
 pub supposed_front : (clauses : Clauses) (old mid new lits : List Literal) → Assumes lits old mid → Grows clauses mid new → take (length old) new ≡ old
 supposed_front clauses old mid new lits a g = let longer = a.longer in same_front clauses mid new (length old) g longer ∙ a.front
-
--- a closure that falsifies no clause
-pub closure_unfalsified : (clauses : Clauses) (start set : LiteralSet) → IsClosure clauses start set → Falsifies clauses start → ⊥
-closure_unfalsified clauses start set c f = c.unfalsified f.clause f.among (All-weaker (λ k. Closure clauses start (negate k)) (λ k. IsIn set (negate k)) (λ k h. closure_least clauses start set (negate k) c.closed c.includes h) f.clause f.each)
-
-pub closure_in : (clauses : Clauses) (start set : LiteralSet) (l : Literal) → IsClosure clauses start set → Closure clauses start l → IsIn set l
-closure_in clauses start set l c h = closure_least clauses start set l c.closed c.includes h
 
 -- a vector whose slice was written
 pub written_back : (n : ℕ) (xs : List Bool) (ys : List Bool) → length xs ≡ n → take n (xs ++ ys) ≡ xs

@@ -4,9 +4,9 @@ use Rattle.std.specs.Prelude.{Option, None, option_to_list}
 use Rattle.std.proofs.lemmas.List.{take-take, take_all, take_at, get_or_push}
 use Rattle.cnf_core.specs.Lit.{Literal, negate, word_of, has}
 use Rattle.cnf_core.specs.Clause.{Clauses, AreDistinct, AreThere, IsThere}
+use Rattle.cnf_core.proofs.TrailLemmas.{there_last, front_lacks}
 use Rattle.refute_check.specs.Tables.{places_from, AreCounts, AreOccurrences, IsTrail, IsCounted}
-use Rattle.refute_check.proofs.TrailLemmas.{there_last}
-use Rattle.refute_check.proofs.AdvanceLemmas.{front_lacks, places_read}
+use Rattle.refute_check.proofs.AdvanceLemmas.{places_read}
 
 pub record Dropped (vars : ℕ) (old : List Literal) (truth : List Bool) (new : List Literal) (front : ℕ) : Type 0 where
   pub table : IsTrail vars truth new

@@ -1,12 +1,12 @@
 -- The words of a query's literals.
-use Rattle.std.proofs.Common.{◌≡◌, ◌≢◌, ℕ, ◌+◌, ◌<◌, ◌≤◌, Bool, true, false, List, [], ◌∷◌, ◌++◌, length, take, get_or, sym, ◌∙◌, ap, subst, arith, inl, inr}
+use Rattle.std.proofs.Common.{◌≡◌, ◌≢◌, ℕ, ◌+◌, ◌<◌, ◌≤◌, true, List, [], ◌∷◌, ◌++◌, length, take, get_or, sym, ◌∙◌, ap, subst, arith, inl, inr}
 use Rattle.std.specs.Ordering.{nat_cmp}
-use Rattle.std.specs.BTreeSet.{BTreeSet, contains, Updates, IsEmpty}
+use Rattle.std.specs.BTreeSet.{BTreeSet, contains, Updates}
 use Rattle.std.proofs.lemmas.Bool.Decides.{nat_tests}
 use Rattle.std.proofs.lemmas.List.{take_more, take_all}
 use Rattle.cnf_core.specs.Lit.{Literal, word_of, has}
+use Rattle.cnf_core.proofs.TrailLemmas.{word_once, has_last, has_front, same_literal_or}
 use Rattle.refute_check.specs.Words.{HasWords}
-use Rattle.refute_check.proofs.TrailLemmas.{word_once, has_last, has_front, same_literal_or}
 
 pub words_more : (old new : BTreeSet ℕ) (lits : List Literal) (i word : ℕ) (l : Literal) → i < length lits → l ≡ get_or lits i l → word ≡ word_of l → HasWords old (take i lits) → Updates nat_cmp old new word true → HasWords new (take (i + 1) lits)
 words_more old new lits i word l within at w has_old up = λ m.

@@ -1,15 +1,15 @@
 -- What a checker keeps of the lines that it accepted, and why it refuses a line.
 use Rattle.std.specs.Prelude.{◌≡◌, ◌≤◌, ◌<◌, ◌⊎◌, ℕ, max, ⊤, Result, Ok, Err, Option, List, [], ◌∷◌, ◌++◌, All, Any, Contains}
 use Rattle.cnf_core.specs.Lit.{Literal}
-use Rattle.cnf_core.specs.Clause.{Clauses, words_of}
+use Rattle.cnf_core.specs.Clause.{Clauses, HasAllOf, words_of}
 use Rattle.cnf_core.specs.Formula.{Cnf}
-use Rattle.cnf_core.specs.Propagation.{Falsifies, Closure, negations, greatest_in, greatest_var}
+use Rattle.cnf_core.specs.Propagation.{Falsifies, Closure, negations, greatest_in}
 use Rattle.cnf_core.specs.declared.limits.TheConstants.{VARS}
 use Rattle.refute_log.specs.declared.line.LogLine.{LogLine}
 use Rattle.refute_log.specs.declared.line.LogLine.TheVariants.{Formula, Learnt}
 use Rattle.refute_check.specs.declared.fault.LineFault.{LineFault}
 use Rattle.refute_check.specs.declared.fault.LineFault.TheVariants.{NewVar, WrongQuery, Room, NotImplied, NotNew, Memory}
-use Rattle.refute_check.specs.Log.{Facts, added, given, refuted, asked, bounded, Answers, IsImplied, StandsOn}
+use Rattle.refute_log.specs.Log.{Facts, facts_after, bounded, Answers, IsImplied, StandsOn}
 
 -- the room for words, and the facts of the accepted lines
 pub record Kept : Type 0 where
@@ -18,15 +18,6 @@ pub record Kept : Type 0 where
 
 abbrev pub kept_of : ℕ → Cnf → Option (List Literal) → Clauses → Kept
 kept_of room f query refuted = record { room = room; facts = record { greatest = f.vars; clauses = f.clauses; query = query; refuted = refuted } }
-
--- the facts with one more line
-abbrev pub facts_after : Facts → LogLine → Facts
-facts_after facts line = record {
-  greatest = max facts.greatest (greatest_var (given line));
-  clauses = facts.clauses ++ added line;
-  query = asked facts.query line;
-  refuted = facts.refuted ++ refuted line;
-}
 
 abbrev pub kept_after : Kept → LogLine → Kept
 kept_after kept line = record { room = kept.room; facts = facts_after kept.facts line }
@@ -104,15 +95,11 @@ with_clause kept c vars = record {
   };
 }
 
--- c has each literal of d
-abbrev pub Includes : List Literal → List Literal → Type 0
-Includes c d = (l : Literal) → Contains d l → Contains c l
-
 -- a Learnt line's clause has all the literals of none of the clauses
 abbrev pub IncludesNone : Clauses → LogLine → Type 0
-IncludesNone clauses (Learnt c) = (d : List Literal) → Contains clauses d → Includes c d → ⊥
+IncludesNone clauses (Learnt c) = (d : List Literal) → Contains clauses d → HasAllOf c d → ⊥
 IncludesNone clauses line = ⊤
 
 -- some Refuted line has only literals that are allowed
 abbrev pub Refutes : Kept → List Literal → Type 0
-Refutes kept allowed = Any (λ c. Includes allowed c) kept.facts.refuted
+Refutes kept allowed = Any (λ c. HasAllOf allowed c) kept.facts.refuted

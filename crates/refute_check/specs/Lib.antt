@@ -1,4 +1,3 @@
-pub mod Log
 pub mod Kept
 pub mod Tables
 pub mod Words

@@ -1,14 +1,10 @@
 -- Tables between two lines: what is true without assumptions.
-use Rattle.std.specs.Prelude.{◌≡◌, ◌⊎◌, ℕ, List, [], length, take, All, Contains}
+use Rattle.std.specs.Prelude.{◌≡◌, ◌⊎◌, ℕ, List, length, take, All, Contains}
 use Rattle.cnf_core.specs.Lit.{Literal, has}
 use Rattle.cnf_core.specs.Clause.{Clauses}
-use Rattle.cnf_core.specs.Propagation.{LiteralSet, IsIn, Closure, negations}
+use Rattle.cnf_core.specs.Propagation.{IsIn, nothing, HasReason, Closure}
 use Rattle.refute_check.specs.declared.tables.Tables.{Tables}
-use Rattle.refute_check.specs.Tables.{AreOccurrences, IsCounted, HasReason, AreQuiet, IsQuiet}
-
--- no literal
-abbrev pub nothing : LiteralSet
-nothing = negations []
+use Rattle.refute_check.specs.Tables.{AreOccurrences, IsCounted, AreQuiet, IsQuiet}
 
 -- the trail is the closure of nothing, each of its literals has a clause that makes it true, no
 -- clause is falsified, and all is counted

@@ -1,11 +1,11 @@
 -- What a checker's tables are good for.
 use Rattle.std.specs.Prelude.{◌≤◌, ⊤}
 use Rattle.cnf_core.specs.Formula.{Cnf}
-use Rattle.cnf_core.specs.Propagation.{Falsifies, greatest_var}
+use Rattle.cnf_core.specs.Propagation.{Falsifies, greatest_var, nothing}
 use Rattle.refute_check.specs.declared.tables.Tables.{Tables}
 use Rattle.refute_check.specs.declared.keeping.Standing.{Standing}
 use Rattle.refute_check.specs.declared.keeping.Standing.TheVariants.{Open, Contradiction, Lost}
-use Rattle.refute_check.specs.Settled.{nothing, IsSettled}
+use Rattle.refute_check.specs.Settled.{IsSettled}
 
 -- some clause is falsified without assumptions
 pub record IsContradicted (f : Cnf) : Type 0 where

@@ -3,7 +3,7 @@ use Rattle.std.specs.Prelude.{◌≡◌, ◌≤◌, ◌<◌, ◌⊎◌, ℕ, ◌
 use Rattle.std.specs.List.{sum_by, count_by}
 use Rattle.cnf_core.specs.Lit.{Literal, negate, word_of, has}
 use Rattle.cnf_core.specs.Clause.{Clauses, AreDistinct, AreThere}
-use Rattle.cnf_core.specs.Propagation.{LiteralSet, IsIn, Includes, IsUnit, IsClosed, Closure, negations}
+use Rattle.cnf_core.specs.Propagation.{LiteralSet, IsIn, Includes, IsUnit, HasReason, Closure, negations}
 
 -- how often a number stands in the list
 abbrev pub times : List ℕ → ℕ → ℕ
@@ -16,10 +16,6 @@ CountedUp ns old new = (n : ℕ) → slice_index new n ≡ slice_index old n + t
 -- the literals that a table by word marks
 abbrev pub marked : List Bool → LiteralSet
 marked truth l = slice_index_or truth (word_of l) false
-
--- no literal beside its negation
-abbrev pub IsConsistent : LiteralSet → Type 0
-IsConsistent set = (l : Literal) → IsIn set l → IsIn set (negate l) → ⊥
 
 abbrev pub weight : Bool → ℕ
 weight b = cond b 1 0
@@ -59,18 +55,6 @@ pub record IsUnset (set : LiteralSet) (c : List Literal) (l : Literal) : Type 0 
   pub unit : IsUnit set c l
   pub not_true : set l ≡ false
   pub not_false : set (negate l) ≡ false
-
--- some clause makes the literal true by itself
-pub record HasReason (clauses : Clauses) (set : LiteralSet) (l : Literal) : Type 0 where
-  pub reason : List Literal
-  pub among : Contains clauses reason
-  pub unit : IsUnit set reason l
-
--- the set has the negations of all literals of some clause
-pub record Falsified (clauses : Clauses) (set : LiteralSet) : Type 0 where
-  pub clause : List Literal
-  pub among : Contains clauses clause
-  pub each : All (λ k. IsIn set (negate k)) clause
 
 -- the list of each literal has the numbers of the clauses that have it
 pub record AreOccurrences (vars : ℕ) (clauses : Clauses) (lists : List (List ℕ)) : Type 0 where
@@ -114,13 +98,6 @@ pub record Clashes (lits trail : List Literal) : Type 0 where
   pub literal : Literal
   pub among : Contains lits literal
   pub true_now : IsIn (has trail) literal
-
--- the set is the closure of start, and falsifies no clause
-pub record IsClosure (clauses : Clauses) (start set : LiteralSet) : Type 0 where
-  pub closed : IsClosed clauses set
-  pub includes : Includes set start
-  pub within : (l : Literal) → IsIn set l → Closure clauses start l
-  pub unfalsified : (c : List Literal) → Contains clauses c → All (λ k. IsIn set (negate k)) c → ⊥
 
 -- the number stands behind the others in the list of each of the literals
 pub record Lists (lits : List Literal) (number : ℕ) (old new : List (List ℕ)) : Type 0 where

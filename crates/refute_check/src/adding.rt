@@ -2,9 +2,9 @@
 ghost use Rattle.std.specs.Prelude.{◌≡◌, ◌≤◌, ◌<◌, ◌+◌, ◌*◌, ◌^◌, [], ◌∷◌, ◌++◌, true, false, OnOk, IfOk, length, vec_len};
 ghost use Rattle.cnf_core.specs.Lit.{has, negate};
 ghost use Rattle.cnf_core.specs.Clause.{IsThere, AreThere, AllThere, AreDistinct};
-ghost use Rattle.cnf_core.specs.Propagation.{Falsifies};
-ghost use Rattle.refute_check.specs.Tables.{IsTrail, AreOccurrences, marked, false_count, Lists, IsUnset, IsCounted, AreQuiet, Grows, Falsified};
-ghost use Rattle.refute_check.specs.Settled.{nothing, IsSettled, IsListed};
+ghost use Rattle.cnf_core.specs.Propagation.{Falsifies, Falsified, nothing};
+ghost use Rattle.refute_check.specs.Tables.{IsTrail, AreOccurrences, marked, false_count, Lists, IsUnset, IsCounted, AreQuiet, Grows};
+ghost use Rattle.refute_check.specs.Settled.{IsSettled, IsListed};
 
 use crate::places::Places;
 use crate::propagation::propagate;

@@ -2,7 +2,7 @@
 ghost use Rattle.std.specs.Prelude.{◌≡◌, ◌≤◌, ◌<◌, ◌⊎◌, ◌↔◌, ◌+◌, ◌^◌, max, IsTrue, length, [], ◌∷◌, ◌++◌, None, true, false, All, Any, Contains, IfOk, OnOk, IfErr, IsErrOf};
 ghost use Rattle.cnf_core.specs.Clause.{IsThere, AreDistinct, AreThere, words_of};
 ghost use Rattle.cnf_core.specs.Propagation.{Closure, Falsifies, Rup, negations, greatest_in, greatest_var};
-ghost use Rattle.refute_check.specs.Log.{facts_of, IsNewClause};
+ghost use Rattle.refute_log.specs.Log.{facts_of, IsNewClause};
 ghost use Rattle.refute_check.specs.Kept.{with_clause, IsKnownClause, IsAnswer, Accepts, NamesNew, AnswersWrongly, PassesRoom, IsUnproved, IsOld, IncludesNone, Refutes};
 ghost use Rattle.refute_log.specs.Lines.{IsWellFormed};
 
@@ -30,7 +30,7 @@ pub struct Checker {
 }
 
 impl Model for Checker {
-    ghost use Rattle.refute_check.specs.Log.{Facts};
+    ghost use Rattle.refute_log.specs.Log.{Facts};
     ghost use Rattle.refute_check.specs.Kept.{Kept};
 
     ghost Value = { Kept };

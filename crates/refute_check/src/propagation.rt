@@ -1,7 +1,8 @@
 // Unit propagation by counts of false literals.
 ghost use Rattle.std.specs.Prelude.{◌≡◌, ◌≤◌, ◌<◌, ◌+◌, ◌*◌, true, false, length, All, OnOk, IfOk, slice_index, take};
 ghost use Rattle.cnf_core.specs.Lit.{has};
-ghost use Rattle.refute_check.specs.Tables.{IsTrail, IsCounted, AreOccurrences, AreQuiet, Grows, Falsified};
+ghost use Rattle.cnf_core.specs.Propagation.{Falsified};
+ghost use Rattle.refute_check.specs.Tables.{IsTrail, IsCounted, AreOccurrences, AreQuiet, Grows};
 
 use crate::counts::{count_down, count_up};
 use crate::looks::look_at_each;

@@ -2,7 +2,8 @@
 ghost use Rattle.std.specs.Prelude.{◌≡◌, ◌≤◌, ◌<◌, ◌+◌, ◌*◌, true, false, length};
 ghost use Rattle.cnf_core.specs.Lit.{negate};
 ghost use Rattle.cnf_core.specs.Clause.{AreThere, AreDistinct};
-ghost use Rattle.refute_check.specs.Tables.{marked, IsConsistent};
+ghost use Rattle.cnf_core.specs.Propagation.{IsConsistent};
+ghost use Rattle.refute_check.specs.Tables.{marked};
 ghost use Rattle.refute_check.specs.Scans.{IsScan, IsTruth};
 
 use cnf_core::Lit;

@@ -2,8 +2,8 @@
 ghost use Rattle.std.specs.Prelude.{◌≡◌, ◌≤◌, ◌<◌, ◌⊎◌, ◌+◌, ◌*◌, [], true, false, OnOk, IfOk, length, take};
 ghost use Rattle.cnf_core.specs.Lit.{has};
 ghost use Rattle.cnf_core.specs.Clause.{AreThere, AreDistinct, IsThere};
-ghost use Rattle.cnf_core.specs.Propagation.{Closure, Falsifies, Rup, negations};
-ghost use Rattle.refute_check.specs.Tables.{IsCounted, IsClosure, AreOccurrences};
+ghost use Rattle.cnf_core.specs.Propagation.{Closure, Falsifies, Rup, negations, IsClosure};
+ghost use Rattle.refute_check.specs.Tables.{IsCounted, AreOccurrences};
 ghost use Rattle.refute_check.specs.Settled.{IsSettled};
 
 use crate::assume::assume_false;

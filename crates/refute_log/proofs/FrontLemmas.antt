@@ -4,26 +4,27 @@ use Rattle.std.proofs.lemmas.List.{take-append-drop}
 use Rattle.std.specs.declared.option.Option.{Option}
 use Rattle.outside_io.specs.Contents.{Told, WhereTold, SameElsewhere, Sets, AppendsTo, MayAppendTo}
 use Rattle.refute_log.specs.declared.line.LogLine.{LogLine}
-use Rattle.refute_log.specs.Lines.{header, ended_text, IsWellFormed}
-use Rattle.refute_log.specs.OneText.{well_formed_more}
+use Rattle.refute_log.specs.Lines.{header, ended_text, MayBeTold}
+use Rattle.plan_core.proofs.ListFacts.{each_pushed}
+use Rattle.refute_log.specs.OneText.{formed_lines}
 use Rattle.refute_log.specs.Told.{Lines}
 use Rattle.refute_log.specs.FileLog.{TellsText, FileBeginsLog, KeepsText}
 use Rattle.refute_log.proofs.StartLemmas.{started}
 use Rattle.refute_log.proofs.TextLemmas.{text_gathered, text_appended}
 
 pub whole_begins : (told : Told) (name gathered : List ℕ) (lines : Lines) → TellsText false (Some told) name gathered lines → FileBeginsLog told name
-whole_begins told name gathered lines h = (h.1.0, h.1.1, record { lines = lines; more = gathered; formed = h.2; spelled = h.1.2 })
+whole_begins told name gathered lines h = (h.1.0, h.1.1, record { lines = lines; more = gathered; formed = formed_lines lines h.2; spelled = h.1.2 })
 
 pub kept_begins : (failed : Bool) (told : Told) (name gathered : List ℕ) → KeepsText failed told name gathered → FileBeginsLog told name
 kept_begins true told name gathered k = k
 kept_begins false told name gathered k = whole_begins told name gathered k.0 k.1
 
 -- one more line was gathered
-pub line_kept : (failed : Bool) (told : Told) (name gathered now : List ℕ) (line : LogLine) → failed ≡ false → IsWellFormed line → now ≡ gathered ++ ended_text line → KeepsText failed told name gathered → KeepsText false told name now
+pub line_kept : (failed : Bool) (told : Told) (name gathered now : List ℕ) (line : LogLine) → failed ≡ false → MayBeTold line → now ≡ gathered ++ ended_text line → KeepsText failed told name gathered → KeepsText false told name now
 line_kept failed told name gathered now line e f h kept =
     let P : Bool → Type 0 = λ (b : Bool). KeepsText b told name gathered in
     let k : KeepsText false told name gathered = subst P e kept in
-    (k.0 ++ line ∷ [], (refl, text_gathered (Some told) name gathered now k.0 line h k.1.1, well_formed_more k.0 line k.1.2 f))
+    (k.0 ++ line ∷ [], (refl, text_gathered (Some told) name gathered now k.0 line h k.1.1, each_pushed MayBeTold k.0 line k.1.2 f))
 
 -- what was gathered has gone into the file
 pub piece_kept : (old new : Told) (name gathered now : List ℕ) → now ≡ [] → AppendsTo name gathered old new → KeepsText false old name gathered → KeepsText false new name now
@@ -40,7 +41,7 @@ cut_begins old new name gathered w k =
       record {
         lines = k.0;
         more = drop grown.0 gathered;
-        formed = k.1.2;
+        formed = formed_lines k.0 k.1.2;
         spelled = append_assoc bytes (take grown.0 gathered) (drop grown.0 gathered) ∙ ap (λ (xs : List ℕ). bytes ++ xs) (take-append-drop grown.0 gathered) ∙ k.1.1.2;
       },
     )
@@ -63,18 +64,18 @@ failed_keeps None failed name gathered now = tt
 failed_keeps (Some x) failed name gathered now = λ k. kept_begins failed x name gathered k
 
 -- the gathered text couldn't be appended, or not as a whole
-pub cut_keeps : (a b : Option Told) (failed : Bool) (name gathered now : List ℕ) (line : LogLine) → failed ≡ false → IsWellFormed line → now ≡ gathered ++ ended_text line → WhereTold a b (MayAppendTo name now) → WhereTold a b (λ x y. KeepsText failed x name gathered → KeepsText true y name now)
+pub cut_keeps : (a b : Option Told) (failed : Bool) (name gathered now : List ℕ) (line : LogLine) → failed ≡ false → MayBeTold line → now ≡ gathered ++ ended_text line → WhereTold a b (MayAppendTo name now) → WhereTold a b (λ x y. KeepsText failed x name gathered → KeepsText true y name now)
 cut_keeps None b failed name gathered now line e f h w = tt
 cut_keeps (Some x) None failed name gathered now line e f h w = absurd w
 cut_keeps (Some x) (Some y) failed name gathered now line e f h w = λ k. cut_begins x y name now w (line_kept failed x name gathered now line e f h k)
 
 -- the line was gathered
-pub line_keeps : (c : Option Told) (failed : Bool) (name gathered now : List ℕ) (line : LogLine) → failed ≡ false → IsWellFormed line → now ≡ gathered ++ ended_text line → WhereTold c c (λ x y. KeepsText failed x name gathered → KeepsText failed y name now)
+pub line_keeps : (c : Option Told) (failed : Bool) (name gathered now : List ℕ) (line : LogLine) → failed ≡ false → MayBeTold line → now ≡ gathered ++ ended_text line → WhereTold c c (λ x y. KeepsText failed x name gathered → KeepsText failed y name now)
 line_keeps None failed name gathered now line e f h = tt
 line_keeps (Some x) failed name gathered now line e f h = λ k. let P : Bool → Type 0 = λ (b : Bool). KeepsText b x name now in subst P (sym e) (line_kept failed x name gathered now line e f h k)
 
 -- the gathered text was appended
-pub piece_keeps : (a b : Option Told) (failed : Bool) (name gathered now after : List ℕ) (line : LogLine) → failed ≡ false → IsWellFormed line → now ≡ gathered ++ ended_text line → after ≡ [] → WhereTold a b (AppendsTo name now) → WhereTold a b (λ x y. KeepsText failed x name gathered → KeepsText failed y name after)
+pub piece_keeps : (a b : Option Told) (failed : Bool) (name gathered now after : List ℕ) (line : LogLine) → failed ≡ false → MayBeTold line → now ≡ gathered ++ ended_text line → after ≡ [] → WhereTold a b (AppendsTo name now) → WhereTold a b (λ x y. KeepsText failed x name gathered → KeepsText failed y name after)
 piece_keeps None b failed name gathered now after line e f h z w = tt
 piece_keeps (Some x) None failed name gathered now after line e f h z w = absurd w
 piece_keeps (Some x) (Some y) failed name gathered now after line e f h z w = λ k. let P : Bool → Type 0 = λ (b : Bool). KeepsText b y name after in subst P (sym e) (piece_kept x y name now after z w (line_kept failed x name gathered now line e f h k))

@@ -14,10 +14,10 @@ use Rattle.refute_log.specs.declared.fault.LogWhat.{LogWhat}
 use Rattle.refute_log.specs.declared.fault.LogWhat.TheVariants.{Header, Form, Number, Twice}
 use Rattle.refute_log.specs.declared.fault.LineTextFault.{LineTextFault}
 use Rattle.refute_log.specs.declared.fault.LineTextFault.TheVariants.{Log, Memory}
-use Rattle.refute_log.specs.Lines.{last_var, literal_text, literals_text, line_text, header}
+use Rattle.refute_log.specs.Lines.{last_var, NamesOnce, literal_text, literals_text, line_text, header}
 use Rattle.refute_log.specs.LineForm.{Field, LineForm, IsNumber, AreNumbers, HasForm, form_text, spaced, fields_text, IsLiteral, HasRightNumbers}
 use Rattle.refute_log.specs.LineForm.LineForm.{FormulaForm, LearntForm, BoundForm, QueryForm, RefutedForm, ModelForm}
-use Rattle.refute_log.specs.LineText.{NamesOnce, Spells, IsTextOf, HasFault, IsFaultOf}
+use Rattle.refute_log.specs.LineText.{Spells, IsTextOf, HasFault, IsFaultOf}
 use Rattle.refute_log.specs.OneText.{criterion_once, is_decimal, log_text_once}
 use Rattle.refute_log.proofs.ReadingLemmas.{ahead, zero_is_one, same_cut, no_cut, number_is_one, regroup, spaced_literals}
 

@@ -6,3 +6,5 @@ pub mod ReadingLemmas
 pub mod StartLemmas
 pub mod TextLemmas
 pub mod TwiceLemmas
+pub mod LogLemmas
+pub mod FewLemmas

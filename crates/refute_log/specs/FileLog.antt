@@ -7,9 +7,10 @@ use Rattle.outside_io.specs.Counts.{Rose}
 use Rattle.refute_log.specs.declared.file_log.Gathered.{Gathered}
 use Rattle.refute_log.specs.declared.sink.LogSinkFault.{LogSinkFault}
 use Rattle.refute_log.specs.declared.sink.LogSinkFault.TheVariants.{Failed}
-use Rattle.refute_log.specs.Lines.{header, log_text, AreWellFormed}
-use Rattle.refute_log.specs.OneText.{log_text_once}
+use Rattle.refute_log.specs.Lines.{header, log_text, AreWellFormed, MayAllBeTold}
+use Rattle.refute_log.specs.OneText.{log_text_once, formed_lines}
 use Rattle.refute_log.specs.Told.{Lines}
+use Rattle.refute_log.specs.Log.{learnt_count}
 
 -- the contents are told
 abbrev pub IsTold : Option Told → Type 0
@@ -21,9 +22,9 @@ abbrev pub IsText : Option Told → List ℕ → List ℕ → Lines → Type 0
 IsText None name gathered lines = ⊥
 IsText (Some told) name gathered lines = (bytes : List ℕ) × (told name ≡ Some bytes) × (bytes ++ gathered ≡ log_text lines)
 
--- no call has failed, and the text is that of the lines
+-- no call has failed, and the text is that of the lines, each of which may be told
 abbrev pub TellsText : Bool → Option Told → List ℕ → List ℕ → Lines → Type 0
-TellsText failed contents name gathered lines = (failed ≡ false) × IsText contents name gathered lines × AreWellFormed lines
+TellsText failed contents name gathered lines = (failed ≡ false) × IsText contents name gathered lines × MayAllBeTold lines
 
 -- the file's name
 abbrev pub name_of : Gathered → List ℕ
@@ -33,9 +34,9 @@ name_of kept = string_bytes kept.name
 abbrev pub learnt_of : Gathered → ℕ
 learnt_of kept = kept.learnt
 
--- what a log keeps, with the files' contents, tells that these are its lines
+-- what a log keeps, with the files' contents, tells that these are its lines, and counts the Learnt ones
 abbrev pub TellsLines : Gathered → Option Told → Lines → Type 0
-TellsLines kept contents lines = TellsText kept.failed contents (name_of kept) kept.bytes.items lines
+TellsLines kept contents lines = TellsText kept.failed contents (name_of kept) kept.bytes.items lines × (kept.learnt ≡ learnt_count lines)
 
 -- the bytes begin the text of some log
 pub record BeginsLog (bytes : List ℕ) : Type 0 where
@@ -93,7 +94,7 @@ pub tells_once : (failed : Bool) (contents : Option Told) (name gathered : List 
 tells_once failed None name gathered a b h k = absurd h.1
 tells_once failed (Some told) name gathered a b h k =
     let same : h.1.0 ≡ k.1.0 = let e : Some h.1.0 ≡ Some k.1.0 = sym h.1.1 ∙ k.1.1 in cc in
-    log_text_once a b h.2 k.2 (sym h.1.2 ∙ ap (λ (xs : List ℕ). xs ++ gathered) same ∙ k.1.2)
+    log_text_once a b (formed_lines a h.2) (formed_lines b k.2) (sym h.1.2 ∙ ap (λ (xs : List ℕ). xs ++ gathered) same ∙ k.1.2)
 
 pub keeps_same : (c : Option Told) (kept : Gathered) → WhereTold c c (StillKeeps kept kept)
 keeps_same None kept = tt

@@ -1,6 +1,17 @@
--- The lines that a list of lines keeps.
-use Rattle.refute_log.specs.declared.line_list.LineList.{LineList}
+-- What a list of lines keeps: the number of its Learnt lines beside them.
+use Rattle.std.specs.Prelude.{◌≡◌, ℕ}
+use Rattle.std.proofs.Common.{subst, ap}
 use Rattle.refute_log.specs.Told.{Lines}
+use Rattle.refute_log.specs.Lines.{MayAllBeTold}
+use Rattle.refute_log.specs.Log.{learnt_count}
 
-abbrev pub lines_of : LineList → Lines
-lines_of list = list.lines.items
+pub record IsKept (lines : Lines) (learnt : ℕ) : Type 0 where
+  pub counted : learnt ≡ learnt_count lines
+  pub told : MayAllBeTold lines
+
+-- the same of a list that is these lines
+pub told_again : (lines same : Lines) → lines ≡ same → MayAllBeTold lines → MayAllBeTold same
+told_again lines same e h = subst MayAllBeTold e h
+
+pub counted_again : (lines same : Lines) → lines ≡ same → learnt_count lines ≡ learnt_count same
+counted_again lines same e = ap learnt_count e

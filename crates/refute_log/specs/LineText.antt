@@ -1,23 +1,12 @@
 -- Which line a text is, and which fault it has.
 use Rattle.std.specs.Prelude.{◌≡◌, ⊤, ℕ, List}
-use Rattle.cnf_core.specs.Clause.{AreDistinct}
 use Rattle.refute_log.specs.declared.line.LogLine.{LogLine}
-use Rattle.refute_log.specs.declared.line.LogLine.TheVariants.{Formula, Learnt, Bound, Query, Refuted, Model}
 use Rattle.refute_log.specs.declared.fault.LogWhat.{LogWhat}
 use Rattle.refute_log.specs.declared.fault.LogWhat.TheVariants.{Header, Form, Number, Twice}
 use Rattle.refute_log.specs.declared.fault.LineTextFault.{LineTextFault}
 use Rattle.refute_log.specs.declared.fault.LineTextFault.TheVariants.{Log, Memory}
-use Rattle.refute_log.specs.Lines.{IsWellFormed, line_text}
+use Rattle.refute_log.specs.Lines.{IsWellFormed, NamesOnce, line_text}
 use Rattle.refute_log.specs.LineForm.{LineForm, HasForm, HasRightNumbers}
-
--- no variable stands twice in the line
-abbrev pub NamesOnce : LogLine → Type 0
-NamesOnce (Formula c) = AreDistinct c
-NamesOnce (Learnt c) = AreDistinct c
-NamesOnce (Bound criterion k x) = ⊤
-NamesOnce (Query c) = AreDistinct c
-NamesOnce (Refuted c) = AreDistinct c
-NamesOnce Model = ⊤
 
 -- the text is that of a well-formed line
 pub record Spells (text : List ℕ) (line : LogLine) : Type 0 where

@@ -4,7 +4,7 @@ use Rattle.std.specs.List.{AllByRecursion}
 use Rattle.plan_core.specs.declared.criterion.Criterion.{Criterion}
 use Rattle.plan_core.specs.declared.criterion.Criterion.TheVariants.{Height, Bends, Diagonal, Width}
 use Rattle.cnf_core.specs.Lit.{Literal}
-use Rattle.cnf_core.specs.Clause.{AreThere}
+use Rattle.cnf_core.specs.Clause.{AreThere, AreDistinct}
 use Rattle.refute_log.specs.declared.line.LogLine.{LogLine}
 use Rattle.refute_log.specs.declared.line.LogLine.TheVariants.{Formula, Learnt, Bound, Query, Refuted, Model}
 
@@ -27,6 +27,23 @@ IsWellFormed Model = ⊤
 
 abbrev pub AreWellFormed : List LogLine → Type 0
 AreWellFormed lines = AllByRecursion IsWellFormed lines
+
+-- no variable stands twice in the line
+abbrev pub NamesOnce : LogLine → Type 0
+NamesOnce (Formula c) = AreDistinct c
+NamesOnce (Learnt c) = AreDistinct c
+NamesOnce (Bound criterion k x) = ⊤
+NamesOnce (Query c) = AreDistinct c
+NamesOnce (Refuted c) = AreDistinct c
+NamesOnce Model = ⊤
+
+-- a line that a log takes, and that is read again from its text
+pub record MayBeTold (line : LogLine) : Type 0 where
+  pub formed : IsWellFormed line
+  pub once : NamesOnce line
+
+abbrev pub MayAllBeTold : List LogLine → Type 0
+MayAllBeTold lines = AllByRecursion MayBeTold lines
 
 abbrev pub is_learnt : LogLine → Bool
 is_learnt (Formula c) = false

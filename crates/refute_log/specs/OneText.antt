@@ -12,7 +12,7 @@ use Rattle.cnf_core.specs.declared.literal.Var.{Var}
 use Rattle.cnf_core.specs.Clause.{AreThere}
 use Rattle.refute_log.specs.declared.line.LogLine.{LogLine}
 use Rattle.refute_log.specs.declared.line.LogLine.TheVariants.{Formula, Learnt, Bound, Query, Refuted, Model}
-use Rattle.refute_log.specs.Lines.{last_var, IsWellFormed, AreWellFormed, sign_text, literal_text, literals_text, criterion_text, ended_text, header, log_text}
+use Rattle.refute_log.specs.Lines.{last_var, IsWellFormed, AreWellFormed, sign_text, literal_text, literals_text, criterion_text, ended_text, header, log_text, MayAllBeTold}
 
 abbrev pub IsNoDigit : ℕ → Type 0
 IsNoDigit b = digit_value b < 10 → ⊥
@@ -187,6 +187,6 @@ lines_once (x ∷ xs) (y ∷ ys) h k e =
 pub log_text_once : (a b : List LogLine) → AreWellFormed a → AreWellFormed b → log_text a ≡ log_text b → a ≡ b
 log_text_once a b h k e = lines_once a b h k (append_cancel_left header (flat_map ended_text a) (flat_map ended_text b) e)
 
-pub well_formed_more : (lines : List LogLine) (line : LogLine) → AreWellFormed lines → IsWellFormed line → AreWellFormed (lines ++ line ∷ [])
-well_formed_more [] line h k = (k, tt)
-well_formed_more (x ∷ xs) line h k = (h.0, well_formed_more xs line h.1 k)
+pub formed_lines : (lines : List LogLine) → MayAllBeTold lines → AreWellFormed lines
+formed_lines [] h = tt
+formed_lines (x ∷ xs) h = let one = h.0 in (one.formed, formed_lines xs h.1)

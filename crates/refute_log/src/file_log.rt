@@ -15,7 +15,6 @@ const PIECE: usize = 65536;
 /// What a log in a file keeps beside the files that are lent to it.
 #[derive(Drop)]
 pub struct Gathered {
-    alloc: Global,
     name: String,
     bytes: Vec<u8>,
     learnt: u64,
@@ -49,6 +48,8 @@ fn begin<F: Files>(files: &mut F, name: &str) -> Result<(), FileFault>
     ensures err { OnErr result (WhereTold (F.contents files.old) (F.contents files.new) (MayStart name.now)) }
     ensures later { F.write_faults files.old ≤ F.write_faults files.new }
     ensures cause { IsErrOf result FileFault.Failed → Rose (F.write_faults files.old) (F.write_faults files.new) }
+    ensures read_faults { F.read_faults files.new ≡ F.read_faults files.old }
+    ensures reads { F.reads files.new ≡ F.reads files.old }
 {
     files.create(name)?;
     files.append(name, b"railplan-log 1\n")
@@ -60,11 +61,12 @@ fn prepare<F: Files>(alloc: Global, files: &mut F, name: &str) -> Result<Gathere
     ensures created { OnOk result (WhereTold (F.contents files.old) (F.contents files.new) (Sets name.now header)) }
     ensures err { IfErr result (λ e. StartFails F.contents F.write_faults name.now files.old e files.new) }
     ensures later { F.write_faults files.old ≤ F.write_faults files.new }
+    ensures read_faults { F.read_faults files.new ≡ F.read_faults files.old }
+    ensures reads { F.reads files.new ≡ F.reads files.old }
 {
     let copy = String::from_str(alloc, name)?;
     match begin(files, name) {
         Ok(()) => Ok(Gathered {
-            alloc,
             name: copy,
             bytes: Vec::new(alloc),
             learnt: 0,
@@ -97,6 +99,10 @@ impl<'a, F: Files> FileLog<'a, F> {
         ensures tells { IfOk result (λ s. IsTold (F.contents files.entry.now) → TellsLines s.kept (F.contents s.files.now) []) }
         ensures keeps { IfOk result (λ s. WhereTold (F.contents files.entry.now) (F.contents s.files.now) (λ _ now. KeepsLog s.kept now)) }
         ensures faults { IfOk result (λ s. F.write_faults files.entry.now ≤ F.write_faults s.files.now) }
+        ensures read_faults { IfOk result (λ s. F.read_faults s.files.now ≡ F.read_faults files.entry.now) }
+        ensures reads { IfOk result (λ s. F.reads s.files.now ≡ F.reads files.entry.now) }
+        ensures read_faults_err { IfErr result (λ e. F.read_faults e.1.now ≡ F.read_faults files.entry.now) }
+        ensures reads_err { IfErr result (λ e. F.reads e.1.now ≡ F.reads files.entry.now) }
         ensures err { IfErr result (λ e. StartFails F.contents F.write_faults name.now files.entry.now e.0 e.1.now) }
     {
         match prepare(alloc, files, name) {
@@ -116,6 +122,8 @@ impl<'a, F: Files> FileLog<'a, F> {
     /// `Memory`.
     pub fn finish(self) -> Result<(), LogSinkFault>
         ensures faults { F.write_faults self.entry.files.now ≤ F.write_faults self.exit.0.now }
+        ensures read_faults { F.read_faults self.exit.0.now ≡ F.read_faults self.entry.files.now }
+        ensures reads { F.reads self.exit.0.now ≡ F.reads self.entry.files.now }
         ensures others { WhereTold (F.contents self.entry.files.now) (F.contents self.exit.0.now) (SameElsewhere (name_of self.entry.kept)) }
         ensures cause { IsErrOf result Failed → Rose (F.write_faults self.entry.files.now) (F.write_faults self.exit.0.now) }
         ensures begins { WhereTold (F.contents self.entry.files.now) (F.contents self.exit.0.now) (λ before now. KeepsLog self.entry.kept before → FileBeginsLog now (name_of self.entry.kept)) }
@@ -146,13 +154,14 @@ impl<'a, F: Files> LogSink for FileLog<'a, F> {
 
     ghost is_later = { λ s t. (t.files.ghost_name ≡ s.files.ghost_name) × (name_of t.kept ≡ name_of s.kept)
         × WhereTold (F.contents s.files.now) (F.contents t.files.now) (SameElsewhere (name_of s.kept))
-        × WhereTold (F.contents s.files.now) (F.contents t.files.now) (StillKeeps s.kept t.kept) };
+        × WhereTold (F.contents s.files.now) (F.contents t.files.now) (StillKeeps s.kept t.kept)
+        × (F.read_faults t.files.now ≡ F.read_faults s.files.now) × (F.reads t.files.now ≡ F.reads s.files.now) };
 
     fn tell(&mut self, line: &LogLine) -> Result<(), LogSinkFault> {
         if self.kept.failed {
             return Err(LogSinkFault::Memory);
         }
-        if write_line(self.kept.alloc, line, &mut self.kept.bytes).is_err() {
+        if write_line(line, &mut self.kept.bytes).is_err() {
             self.kept.failed = true;
             return Err(LogSinkFault::Memory);
         }
@@ -169,9 +178,13 @@ impl<'a, F: Files> LogSink for FileLog<'a, F> {
         Ok(())
     }
 
-    ghost one_reading = { λ s a b h k. tells_once s.kept.failed (F.contents s.files.now) (name_of s.kept) s.kept.bytes.items a b h k };
+    ghost one_reading = { λ s a b h k. tells_once s.kept.failed (F.contents s.files.now) (name_of s.kept) s.kept.bytes.items a b h.0 k.0 };
 
-    ghost later_same = { λ s. (refl, refl, where_told_same (F.contents s.files.now) (name_of s.kept), keeps_same (F.contents s.files.now) s.kept) };
+    ghost told_lines = { λ s lines h. h.0.2 };
 
-    ghost later_more = { λ a b c h k. (k.0 ∙ h.0, k.1 ∙ h.1, where_told_more (F.contents a.files.now) (F.contents b.files.now) (F.contents c.files.now) (name_of a.kept) (name_of b.kept) h.1 h.2 k.2, keeps_more (F.contents a.files.now) (F.contents b.files.now) (F.contents c.files.now) a.kept b.kept c.kept h.3 k.3) };
+    ghost counted = { λ s lines h. h.1 };
+
+    ghost later_same = { λ s. (refl, refl, where_told_same (F.contents s.files.now) (name_of s.kept), keeps_same (F.contents s.files.now) s.kept, refl, refl) };
+
+    ghost later_more = { λ a b c h k. (k.0 ∙ h.0, k.1 ∙ h.1, where_told_more (F.contents a.files.now) (F.contents b.files.now) (F.contents c.files.now) (name_of a.kept) (name_of b.kept) h.1 h.2 k.2, keeps_more (F.contents a.files.now) (F.contents b.files.now) (F.contents c.files.now) a.kept b.kept c.kept h.3 k.3, k.4 ∙ h.4, k.5 ∙ h.5) };
 }

@@ -5,10 +5,10 @@
 //! to, `LineList` keeps them in memory, `NoLog` only counts, and `FileLog` writes them to a file of
 //! files that are lent. `write_line` writes a line's text, and `read_line` reads it.
 //!
-//! `specs/Lines` says which lines are well formed and the text of each, `specs/Told` what a log tells
-//! of its lines, `specs/LineForm` what a text's form is and which of its numbers are right, and
+//! `specs/Lines` says which lines may be told and the text of each, `specs/Told` what a log tells of
+//! its lines, `specs/Log` which lines stand after others and which logs derive, `specs/LineForm` what a text's form is and which of its numbers are right, and
 //! `specs/LineText` which line a text is and which fault it has. `specs/FieldText` is for private
-//! contracts alone; `laws` states what follows from the definitions. It is the base for the checker of
+//! contracts alone; `laws` and `log_laws` state what follows from the definitions. It is the base for the checker of
 //! logs and for all that searches.
 #![tactic(auto)]
 
@@ -19,6 +19,7 @@ mod laws;
 mod line;
 mod line_list;
 mod literals;
+mod log_laws;
 mod no_log;
 mod reading;
 mod sink;
@@ -31,6 +32,11 @@ pub use laws::{
 };
 pub use line::LogLine;
 pub use line_list::LineList;
+pub use log_laws::{
+    facts_come_line_by_line, learnt_lines_are_due_line_by_line, learnt_lines_are_few,
+    learnt_lines_say_more, logs_derive_line_by_line, what_a_log_derives_is_true,
+    words_are_of_formula_and_learnt_lines,
+};
 pub use no_log::NoLog;
 pub use reading::read_line;
 pub use sink::{LogSink, LogSinkFault};

@@ -1,10 +1,9 @@
 // A log in memory.
-ghost use Rattle.std.proofs.Common.{sym, ◌∙◌};
-ghost use Rattle.std.specs.Prelude.{◌≡◌, ◌<◌, [], ⊤, length, slice_get, Some, OnErr};
-ghost use Rattle.refute_log.specs.LineList.{lines_of};
+ghost use Rattle.std.specs.Prelude.{◌≡◌, ◌<◌, [], length, slice_get, Some};
 
 use crate::{LogLine, LogSink, LogSinkFault};
 use std::alloc::Global;
+use std::marker::Model;
 
 /// Keeps the lines that it is told, and never fails but for memory.
 #[derive(Drop)]
@@ -14,11 +13,21 @@ pub struct LineList {
     learnt: u64,
 }
 
+impl Model for LineList {
+    ghost use Rattle.refute_log.specs.Told.{Lines};
+    ghost use Rattle.refute_log.specs.LineList.{IsKept};
+
+    ghost Value = { Lines };
+
+    ghost view = { λ s. s.lines.items };
+
+    ghost invariant = { λ s. IsKept s.lines.items s.learnt };
+}
+
 impl LineList {
     /// No line was told.
     pub fn new(alloc: Global) -> Self
-        ensures lines { lines_of result ≡ [] }
-        ensures learnt { ⟦<LineList as LogSink>⟧.learnt result ≡ 0 }
+        ensures { result ≡ [] }
     {
         LineList {
             alloc,
@@ -29,26 +38,30 @@ impl LineList {
 
     /// The number of lines.
     pub fn len(&self) -> usize
-        ensures { result ≡ length (lines_of self.now) }
+        ensures { result ≡ length self.now }
     {
         self.lines.len()
     }
 
     /// The line at place `i`, counted from 0.
     pub fn get(&self, i: usize) -> &LogLine
-        requires { i < length (lines_of self.now) }
-        ensures { slice_get (lines_of self.now) i ≡ Some result.now }
+        requires { i < length self.now }
+        ensures { slice_get self.now i ≡ Some result.now }
     {
         &self.lines[i]
     }
 }
 
 impl LogSink for LineList {
-    ghost use Rattle.refute_log.specs.LineList.{lines_of};
+    ghost use Rattle.std.specs.Prelude.{◌≡◌, ⊤};
+    ghost use Rattle.std.proofs.Common.{refl, sym, ◌∙◌};
+    ghost use Rattle.refute_log.specs.Lines.{MayAllBeTold};
+    ghost use Rattle.refute_log.specs.Log.{learnt_count};
+    ghost use Rattle.refute_log.specs.LineList.{told_again, counted_again};
 
-    ghost tells = { λ s lines. lines_of s ≡ lines };
+    ghost tells = { λ s lines. (s ≡ lines) × MayAllBeTold s };
 
-    ghost learnt = { λ s. s.learnt };
+    ghost learnt = { λ s. learnt_count s };
 
     ghost faults = { λ _. 0 };
 
@@ -62,7 +75,11 @@ impl LogSink for LineList {
         Ok(())
     }
 
-    ghost one_reading = { λ s a b h k. sym h ∙ k };
+    ghost one_reading = { λ s a b h k. sym h.0 ∙ k.0 };
+
+    ghost told_lines = { λ s lines h. told_again s lines h.0 h.1 };
+
+    ghost counted = { λ s lines h. counted_again s lines h.0 };
 
     ghost later_same = { λ _. tt };
 

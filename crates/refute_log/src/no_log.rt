@@ -34,6 +34,10 @@ impl LogSink for NoLog {
 
     ghost one_reading = { λ s a b h k. absurd h };
 
+    ghost told_lines = { λ s lines h. absurd h };
+
+    ghost counted = { λ s lines h. absurd h };
+
     ghost later_same = { λ _. tt };
 
     ghost later_more = { λ _ _ _ _ _. tt };

@@ -2,8 +2,9 @@
 ghost use Rattle.std.specs.Prelude.{◌≡◌, ◌≤◌, ℕ, OnOk, OnErr, IsErrOf};
 ghost use Rattle.outside_io.specs.Counts.{Rose};
 ghost use Rattle.refute_log.specs.declared.sink.LogSinkFault.TheVariants.{Memory};
-ghost use Rattle.refute_log.specs.Lines.{IsWellFormed};
+ghost use Rattle.refute_log.specs.Lines.{MayBeTold, MayAllBeTold};
 ghost use Rattle.refute_log.specs.Told.{Lines, AddsLine, TellsNoMore, learnt_after};
+ghost use Rattle.refute_log.specs.Log.{learnt_count};
 
 use crate::LogLine;
 use plan_core::OutOfMemory;
@@ -62,7 +63,7 @@ pub trait LogSink {
 
     /// Tells the line. After an error the lines are as before, or aren't told any more.
     fn tell(&mut self, line: &LogLine) -> Result<(), LogSinkFault>
-        requires { IsWellFormed line.now }
+        requires { MayBeTold line.now }
         ensures ok { OnOk result (AddsLine (tells self.old) (tells self.new) line.now) }
         ensures err { OnErr result (TellsNoMore (tells self.old) (tells self.new)) }
         ensures learnt { OnOk result (learnt self.new ≡ learnt_after line.now (learnt self.old)) }
@@ -73,6 +74,12 @@ pub trait LogSink {
 
     /// A state tells one list at most.
     ghost one_reading: { (s : Self) (a b : Lines) → tells s a → tells s b → a ≡ b };
+
+    /// Each line of it may be told: it is well formed and names no variable twice.
+    ghost told_lines: { (s : Self) (lines : Lines) → tells s lines → MayAllBeTold lines };
+
+    /// The number of Learnt lines told is that of the list.
+    ghost counted: { (s : Self) (lines : Lines) → tells s lines → learnt s ≡ learnt_count lines };
 
     /// Each state is a later state of itself.
     ghost later_same: { (s : Self) → is_later s s };

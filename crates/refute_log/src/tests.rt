@@ -15,29 +15,17 @@ fn each_kind_of_line_has_its_text(rt: HostRuntime) -> Result<(), Fail> {
     let a = Lit::new(Var(1), true);
     let b = Lit::new(Var(20), false);
     let mut text = Vec::new(alloc);
-    write_line(
-        alloc,
-        &LogLine::Formula(Clause::new(alloc, &[a, b])?),
-        &mut text,
-    )?;
-    write_line(
-        alloc,
-        &LogLine::Learnt(Clause::new(alloc, &[b])?),
-        &mut text,
-    )?;
+    write_line(&LogLine::Formula(Clause::new(alloc, &[a, b])?), &mut text)?;
+    write_line(&LogLine::Learnt(Clause::new(alloc, &[b])?), &mut text)?;
     let bound = LogLine::Bound {
         criterion: Criterion::Diagonal,
         k: 3,
         var: Var(7),
     };
-    write_line(alloc, &bound, &mut text)?;
-    write_line(alloc, &LogLine::Query(Clause::new(alloc, &[a])?), &mut text)?;
-    write_line(
-        alloc,
-        &LogLine::Refuted(Clause::new(alloc, &[])?),
-        &mut text,
-    )?;
-    write_line(alloc, &LogLine::Model, &mut text)?;
+    write_line(&bound, &mut text)?;
+    write_line(&LogLine::Query(Clause::new(alloc, &[a])?), &mut text)?;
+    write_line(&LogLine::Refuted(Clause::new(alloc, &[])?), &mut text)?;
+    write_line(&LogLine::Model, &mut text)?;
     let want = b"f 1 -20 0\nl -20 0\nb diagonal 3 7\nq 1 0\nr 0\nm\n";
     assert_eq!(rt; text.as_slice(), want.as_slice());
     Ok(())

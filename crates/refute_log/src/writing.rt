@@ -1,5 +1,5 @@
 // The text of a line, written.
-ghost use Rattle.std.specs.Prelude.{◌≡◌, ◌++◌, codes, decimal, OnOk};
+ghost use Rattle.std.specs.Prelude.{◌≡◌, ◌++◌, codes, decimal, OnOk, OnErr};
 ghost use Rattle.outside_io.specs.Contents.{Begins};
 ghost use Rattle.refute_log.specs.Lines.{IsWellFormed, sign_text, literal_text, literals_text, clause_text, criterion_text, ended_text};
 
@@ -75,9 +75,8 @@ fn write_bound(
     write_number(variable, into)
 }
 
-/// Appends the line's text with its line feed. Where memory couldn't be had, `into` begins with what
-/// it held.
-pub fn write_line(alloc: Global, line: &LogLine, into: &mut Vec<u8>) -> Result<(), OutOfMemory>
+/// Appends the line's text with its line feed, or the front of it that memory was had for.
+fn append_line(line: &LogLine, into: &mut Vec<u8>) -> Result<(), AllocError>
     requires { IsWellFormed line.now }
     ensures ok { OnOk result (into.new.items ≡ into.old.items ++ ended_text line.now) }
     ensures begins { Begins into.old.items into.new.items }
@@ -90,6 +89,21 @@ pub fn write_line(alloc: Global, line: &LogLine, into: &mut Vec<u8>) -> Result<(
         LogLine::Refuted(c) => write_clause(b"r", c, into)?,
         LogLine::Model => into.extend_from_slice(b"m")?,
     }
-    into.extend_from_slice(b"\n")?;
-    Ok(())
+    into.extend_from_slice(b"\n")
+}
+
+/// Appends the line's text with its line feed. Where memory couldn't be had, `into` is as it was.
+pub fn write_line(line: &LogLine, into: &mut Vec<u8>) -> Result<(), OutOfMemory>
+    requires { IsWellFormed line.now }
+    ensures ok { OnOk result (into.new.items ≡ into.old.items ++ ended_text line.now) }
+    ensures err { OnErr result (into.new.items ≡ into.old.items) }
+{
+    let length = into.len();
+    match append_line(line, into) {
+        Ok(()) => Ok(()),
+        Err(_) => {
+            into.truncate(length);
+            Err(OutOfMemory)
+        }
+    }
 }

@@ -1,8 +1,7 @@
 use Rattle.std.proofs.Common.{◌<◌, arith, sym, subst, length}
 use Rattle.cnf_core.specs.Lit.{Literal, word_of}
 use Rattle.cnf_core.specs.Clause.{IsThere}
-use Rattle.refute_check.proofs.ScanLemmas.{there_get}
-use Rattle.refute_check.proofs.TrailLemmas.{word_below}
+use Rattle.cnf_core.proofs.TrailLemmas.{there_get, word_below}
 use Rattle.refute_check.proofs.AddLemmas.{lists_none, lists_more, lists_all}
 use Rattle.refute_check.proofs.adding.list_clause.Goals as goal
 

@@ -3,8 +3,8 @@ use Rattle.std.specs.Prelude.{Contains}
 use Rattle.std.proofs.lemmas.List.Elements.{All-contains, Contains-get_or}
 use Rattle.cnf_core.specs.Lit.{Literal, has}
 use Rattle.cnf_core.specs.Clause.{IsThere}
+use Rattle.cnf_core.proofs.TrailLemmas.{there_all}
 use Rattle.refute_check.specs.Tables.{IsUnset, IsQuietNow}
-use Rattle.refute_check.proofs.ScanLemmas.{there_all}
 use Rattle.refute_check.proofs.GrowthLemmas.{trail_consistent, grows_unit, unset_by_marks, few_now, marked_now}
 use Rattle.refute_check.proofs.looks.look_at.Goals as goal
 use Rattle.refute_check.proofs.looks.look_at.Goals.{In_ok-mark-in-Unit}

@@ -2,7 +2,8 @@ use Rattle.std.proofs.Common.{◌≢◌, List, subst, arith}
 use Rattle.std.specs.Prelude.{All}
 use Rattle.cnf_core.specs.Lit.{Literal}
 use Rattle.std.proofs.lemmas.List.Elements.{All-contains}
-use Rattle.refute_check.proofs.TrailLemmas.{distinct_push, there_push}
+use Rattle.cnf_core.proofs.TrailLemmas.{distinct_push}
+use Rattle.cnf_core.proofs.GatherLemmas.{there_push}
 use Rattle.refute_check.proofs.tests.add.Goals as goal
 
 pub returns-in_ok-push-clause-distinct : goal.returns-in_ok-push-clause-distinct

@@ -1,8 +1,8 @@
 use Rattle.std.proofs.Common.{arith, ◌≡◌, ◌≤◌, ◌<◌, ◌∷◌, [], ℕ, List, length, get_or, sym, ◌∙◌, ap, subst}
 use Rattle.std.specs.Prelude.{All}
 use Rattle.cnf_core.specs.Lit.{negate, word_of}
+use Rattle.cnf_core.proofs.TrailLemmas.{word_below}
 use Rattle.refute_check.specs.Tables.{times, CountedUp, places_from, IsTrail}
-use Rattle.refute_check.proofs.TrailLemmas.{word_below}
 use Rattle.refute_check.proofs.FalseCountLemmas.{places_there, down_enough, counts_down}
 use Rattle.refute_check.proofs.UndoLemmas.{counted_from, back_there, back_places, back_lacks, back_right, back_rest, back_some}
 use Rattle.refute_check.proofs.undo.step_back.Goals as goal

@@ -1,11 +1,11 @@
 use Rattle.std.proofs.Common.{rules}
-use Rattle.refute_check.specs.Kept.{Includes}
+use Rattle.cnf_core.specs.Clause.{HasAllOf}
 use Rattle.refute_check.proofs.JudgeLemmas.{all_more_at, all_end}
 use Rattle.refute_check.proofs.VerdictLemmas.{includes_from, includes_to, refutes_at, refutes_none}
 use Rattle.refute_check.proofs.checker.Checker.verdict.Goals as goal
 
 pub loop-clause-preserved : goal.loop-clause-preserved
-loop-clause-preserved c = all_more_at (λ d. Includes c.args.allowed.now d → ⊥) c.deref-clause-items.result.now c.loop-clause.clause-index c.clause-item.result c.loop-clause-test.true c.clause-item.is c.loop-clause.invariant
+loop-clause-preserved c = all_more_at (λ d. HasAllOf c.args.allowed.now d → ⊥) c.deref-clause-items.result.now c.loop-clause.clause-index c.clause-item.result c.loop-clause-test.true c.clause-item.is c.loop-clause.invariant
     (λ h. c.are_among.ensures.no c.if-are_among.false (includes_to c.args.allowed.now c.as_slice.result.now c.clause-item.result c.as_slice.ensures.value h))
 
 pub returns-then-are_among : goal.returns-then-are_among
@@ -19,5 +19,5 @@ pub returns : goal.returns
 returns c = (
   λ t. cc,
   λ r. absurd (refutes_none c.self.inside.room c.self.inside.formula c.self.inside.query c.self.inside.refuted.items c.deref-clause-items.result.now c.args.self.now c.args.allowed.now c.deref-clause-items.ensures.value c.self.view_is
-      (all_end (λ d. Includes c.args.allowed.now d → ⊥) c.deref-clause-items.result.now c.loop-clause.clause-index c.loop-clause-test.false c.loop-clause.invariant) r),
+      (all_end (λ d. HasAllOf c.args.allowed.now d → ⊥) c.deref-clause-items.result.now c.loop-clause.clause-index c.loop-clause-test.false c.loop-clause.invariant) r),
 )

@@ -1,7 +1,8 @@
 use Rattle.std.proofs.Common.{◌≡◌, ◌∙◌, arith, length}
 use Rattle.cnf_core.specs.Lit.{has}
 use Rattle.cnf_core.specs.Propagation.{negations}
-use Rattle.refute_check.proofs.SupposeLemmas.{settled_again, closure_unfalsified}
+use Rattle.cnf_core.proofs.PropagationLemmas.{closure_unfalsified}
+use Rattle.refute_check.proofs.SupposeLemmas.{settled_again}
 use Rattle.refute_check.proofs.tables.Tables.follows.Goals as goal
 
 pub returns-clause-settled : goal.returns-clause-settled

@@ -1,8 +1,9 @@
 use Rattle.std.proofs.Common.{◌≡◌, ◌∙◌, arith, length, inr}
+use Rattle.std.proofs.lemmas.Bool.{both_ways}
 use Rattle.cnf_core.specs.Lit.{has}
 use Rattle.cnf_core.specs.Propagation.{negations}
-use Rattle.refute_check.proofs.TrailLemmas.{not_both}
-use Rattle.refute_check.proofs.SupposeLemmas.{settled_again, closure_unfalsified, closure_in, marked_read}
+use Rattle.cnf_core.proofs.PropagationLemmas.{closure_unfalsified, closure_in}
+use Rattle.refute_check.proofs.SupposeLemmas.{settled_again, marked_read}
 use Rattle.refute_check.proofs.tables.Tables.knows.Goals as goal
 
 pub returns-then-falsified-clause-settled : goal.returns-then-falsified-clause-settled
@@ -32,4 +33,4 @@ returns-else-falsified-clause-unknown c = λ f h.
     let closure = c.in_ok-falsified.ensures.closed c.if-falsified.false in
     let table = c.in_ok-falsified.ensures.counted.table in
     let read = marked_read c.args.formula.now.vars c.suppose.new.self.truth.items c.suppose.new.self.trail.items c.args.first c.word.result c.index-marked.result.now table c.requires.first c.word.ensures.value c.index-marked.ensures in
-    not_both (has c.suppose.new.self.trail.items c.args.first) (closure_in c.args.formula.now.clauses (negations c.args.others.now) (has c.suppose.new.self.trail.items) c.args.first closure h) (read ∙ f)
+    both_ways (has c.suppose.new.self.trail.items c.args.first) (read ∙ f) (closure_in c.args.formula.now.clauses (negations c.args.others.now) (has c.suppose.new.self.trail.items) c.args.first closure h)

@@ -1,6 +1,6 @@
 use Rattle.std.proofs.lemmas.List.Elements.{All-contains}
 use Rattle.cnf_core.specs.Clause.{IsThere}
-use Rattle.refute_check.proofs.ScanLemmas.{there_all}
+use Rattle.cnf_core.proofs.TrailLemmas.{there_all}
 use Rattle.refute_check.proofs.GrowthLemmas.{unset_by_marks}
 use Rattle.refute_check.proofs.AddLemmas.{unit_quiet, settled_unit, falsified_unit}
 use Rattle.refute_check.proofs.tables.Tables.settle_unit.Goals as goal

@@ -1,7 +1,10 @@
-use Rattle.std.proofs.Common.{rules, ◌≡◌, ◌++◌, refl}
-use Rattle.refute_log.specs.Lines.{ended_text}
+use Rattle.std.proofs.Common.{rules, ◌≡◌, ◌++◌, [], ◌∷◌, refl, sym, ◌∙◌, ap}
+use Rattle.plan_core.proofs.ListFacts.{each_pushed}
+use Rattle.refute_log.specs.Lines.{ended_text, MayBeTold}
+use Rattle.refute_log.specs.Told.{learnt_after}
+use Rattle.refute_log.specs.Log.{learnt_count}
 use Rattle.refute_log.specs.FileLog.{where_told_same}
-use Rattle.refute_log.specs.OneText.{well_formed_more}
+use Rattle.refute_log.proofs.LogLemmas.{learnt_count_more}
 use Rattle.refute_log.proofs.FrontLemmas.{others_of_cut, others_of_piece, cut_keeps, line_keeps, piece_keeps}
 use Rattle.refute_log.proofs.TextLemmas.{text_gathered, text_appended}
 use Rattle.refute_log.proofs.file_log.FileLogLogSink.tell.Goals as goal
@@ -9,11 +12,12 @@ use Rattle.refute_log.proofs.file_log.FileLogLogSink.tell.Goals.{then-len-ge-PIE
 
 pub returns-clause-ok : goal.returns-clause-ok
 returns-clause-ok g c = λ lines h.
-    let gathered = text_gathered (g.F.Files.contents c.args.self.now.files.now) c.args.self.now.kept.name.bytes.items c.args.self.now.kept.bytes.items c.write_line.new.into.items lines c.args.line.now (search rules) h.1 in
-    let formed = well_formed_more lines c.args.line.now h.2 c.requires in
+    let gathered = text_gathered (g.F.Files.contents c.args.self.now.files.now) c.args.self.now.kept.name.bytes.items c.args.self.now.kept.bytes.items c.write_line.new.into.items lines c.args.line.now (search rules) h.0.1 in
+    let told = each_pushed MayBeTold lines c.args.line.now h.0.2 c.requires in
+    let count : learnt_after c.args.line.now c.args.self.now.kept.learnt ≡ learnt_count (lines ++ c.args.line.now ∷ []) = ap (learnt_after c.args.line.now) h.1 ∙ sym (learnt_count_more lines c.args.line.now) in
     elim c.if-len-ge-PIECE.branch [
-      | then-len-ge-PIECE+in-Ok w ↦ rw w.self-is (h.0, text_appended _ _ c.args.self.now.kept.name.bytes.items c.write_line.new.into.items _ _ w.clear.ensures.items (rw (w.as_str.ensures.value, w.deref.ensures.value) at w.in-Ok.ensures.ok) gathered, formed)
-      | else-len-ge-PIECE w ↦ rw w.self-is (h.0, gathered, formed)
+      | then-len-ge-PIECE+in-Ok w ↦ rw w.self-is ((h.0.0, text_appended _ _ c.args.self.now.kept.name.bytes.items c.write_line.new.into.items _ _ w.clear.ensures.items (rw (w.as_str.ensures.value, w.deref.ensures.value) at w.in-Ok.ensures.ok) gathered, told), (rw w.self-is at c.count_after-self.ensures) ∙ count)
+      | else-len-ge-PIECE w ↦ rw w.self-is ((h.0.0, gathered, told), (rw w.self-is at c.count_after-self.ensures) ∙ count)
     ]
 
 pub returns-in-Err-clause-later : goal.returns-in-Err-clause-later
@@ -23,7 +27,7 @@ returns-in-Err-clause-later g c =
     let kept = c.args.self.now.kept in
     let now = c.write_line.new.into.items in
     let w = rw (c.as_str.ensures.value, c.deref.ensures.value) at c.in-Err.ensures.err in
-    (refl, refl, others_of_cut before after kept.name.bytes.items now w, cut_keeps before after kept.failed kept.name.bytes.items kept.bytes.items now c.args.line.now c.if-self.false c.requires (search rules) w)
+    (refl, refl, others_of_cut before after kept.name.bytes.items now w, cut_keeps before after kept.failed kept.name.bytes.items kept.bytes.items now c.args.line.now c.if-self.false c.requires (search rules) w, c.append.ensures.read_faults, c.append.ensures.reads)
 
 pub returns-clause-later : goal.returns-clause-later
 returns-clause-later g c =
@@ -34,6 +38,6 @@ returns-clause-later g c =
     elim c.if-len-ge-PIECE.branch [
       | then-len-ge-PIECE+in-Ok w ↦
           let v = rw (w.as_str.ensures.value, w.deref.ensures.value) at w.in-Ok.ensures.ok in
-          rw w.self-is (refl, refl, others_of_piece before (g.F.Files.contents w.append.new.self) kept.name.bytes.items now v, piece_keeps before (g.F.Files.contents w.append.new.self) kept.failed kept.name.bytes.items kept.bytes.items now _ c.args.line.now c.if-self.false c.requires written w.clear.ensures.items v)
-      | else-len-ge-PIECE w ↦ rw w.self-is (refl, refl, where_told_same before kept.name.bytes.items, line_keeps before kept.failed kept.name.bytes.items kept.bytes.items now c.args.line.now c.if-self.false c.requires written)
+          rw w.self-is (refl, refl, others_of_piece before (g.F.Files.contents w.append.new.self) kept.name.bytes.items now v, piece_keeps before (g.F.Files.contents w.append.new.self) kept.failed kept.name.bytes.items kept.bytes.items now _ c.args.line.now c.if-self.false c.requires written w.clear.ensures.items v, w.append.ensures.read_faults, w.append.ensures.reads)
+      | else-len-ge-PIECE w ↦ rw w.self-is (refl, refl, where_told_same before kept.name.bytes.items, line_keeps before kept.failed kept.name.bytes.items kept.bytes.items now c.args.line.now c.if-self.false c.requires written, refl, refl)
     ]

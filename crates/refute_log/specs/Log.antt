@@ -1,5 +1,5 @@
 -- Logs: the clauses of their lines, which lines stand, and which logs derive.
-use Rattle.std.specs.Prelude.{◌≡◌, ◌≤◌, ℕ, ⊤, Option, Some, None, MatchOption, List, [], ◌∷◌, All, Contains, flat_map, fold, take, slice_get}
+use Rattle.std.specs.Prelude.{◌≡◌, ◌≤◌, ℕ, ◌-◌, ◌^◌, min, max, ⊤, Option, Some, None, MatchOption, List, [], ◌∷◌, ◌++◌, length, All, Contains, flat_map, fold, take, slice_get}
 use Rattle.cnf_core.specs.Lit.{Literal, negate, has}
 use Rattle.cnf_core.specs.Clause.{Clauses}
 use Rattle.cnf_core.specs.Propagation.{Falsifies, Rup, IsNew, greatest_var}
@@ -26,6 +26,10 @@ abbrev pub refuted : LogLine → Clauses
 refuted (Refuted c) = c ∷ []
 refuted line = []
 
+-- how many Learnt lines there are, up to 2^64 - 1
+abbrev pub learnt_count : Lines → ℕ
+learnt_count lines = min (length (flat_map learnt lines)) (2 ^ 64 - 1)
+
 -- the query after a line
 abbrev pub asked : Option (List Literal) → LogLine → Option (List Literal)
 asked query (Query c) = Some c
@@ -45,6 +49,15 @@ facts_of lines = record {
   clauses = flat_map added lines;
   query = fold asked None lines;
   refuted = flat_map refuted lines;
+}
+
+-- the facts with one more line
+abbrev pub facts_after : Facts → LogLine → Facts
+facts_after facts line = record {
+  greatest = max facts.greatest (greatest_var (given line));
+  clauses = facts.clauses ++ added line;
+  query = asked facts.query line;
+  refuted = facts.refuted ++ refuted line;
 }
 
 -- the literals of a line that may name no further variable

@@ -1,91 +1,32 @@
--- Logs line by line, and how many Learnt lines there can be.
-use Rattle.std.proofs.Common.{◌≡◌, ℕ, zero, suc, ◌+◌, ◌*◌, ◌^◌, ◌<◌, ◌≤◌, ◌⊎◌, max, Bool, true, false, cond, eqb, List, [], ◌∷◌, ◌++◌, length, take, drop, get_or, map, refl, sym, ◌∙◌, ap, subst, inl, inr, arith, append-nil, length-append, Some, None}
-use Rattle.std.specs.Prelude.{All, Any, Contains, Option, slice_get, flat_map, fold}
+-- How many Learnt lines a log can have.
+use Rattle.std.proofs.Common.{◌≡◌, ℕ, zero, suc, ◌+◌, ◌*◌, ◌^◌, ◌<◌, ◌≤◌, ◌⊎◌, Bool, true, false, cond, eqb, List, [], ◌∷◌, ◌++◌, length, take, drop, get_or, map, sym, ◌∙◌, ap, subst, inl, inr, arith, append-nil, refl}
+use Rattle.std.specs.Prelude.{All, Any, Contains, flat_map}
 use Rattle.std.specs.List.{IsDistinct, list_any}
 use Rattle.std.proofs.Math.Nat.{pow-suc}
 use Rattle.std.proofs.lemmas.Grind.{flat_map-append}
 use Rattle.std.proofs.lemmas.List.Concat.{flat_map-cons}
-use Rattle.std.proofs.lemmas.List.Sums.{fold_push}
 use Rattle.std.proofs.lemmas.Cmp.{nat_eq_equiv}
-use Rattle.std.proofs.lemmas.List.{length-map, map-append, take_all, take_at, take-append-le, take_more, take-append-drop, get_or_append_left, get_or_push, get_or-map}
+use Rattle.std.proofs.lemmas.Bool.{false_from_ne_true}
+use Rattle.std.proofs.lemmas.List.{length-map, map-append, take_all, take_more, take-append-drop, get_or-map}
 use Rattle.std.proofs.lemmas.List.Elements.{All-nil, All-push, All-from_recursion, All-contains, Contains-get_or, Contains-append_left, Contains-append_right, Contains-append_cases}
 use Rattle.std.proofs.lemmas.List.Folds.{Any-from_list_any}
-use Rattle.std.proofs.lemmas.Option.{slice_get_within, get_or_from_slice_get, slice_get_read, slice_get-get_or}
+use Rattle.std.proofs.lemmas.Option.{slice_get-get_or}
 use Rattle.std.proofs.lemmas.Map.Keys.{IsDistinct-push}
 use Rattle.std.proofs.lemmas.Map.Steps.{length-le_from_distinct_below}
 use Rattle.std.proofs.lemmas.Bool.Decides.{eqb_tells}
 use Rattle.cnf_core.specs.Lit.{Literal, positive_of, negative_of, has}
-use Rattle.cnf_core.specs.Clause.{Clauses, AreDistinct, AreThere, IsThere, AllDistinct}
+use Rattle.cnf_core.specs.Clause.{Clauses, AreDistinct, AreThere, IsThere, AllDistinct, HasAllOf}
 use Rattle.cnf_core.specs.Propagation.{greatest_var}
 use Rattle.cnf_core.proofs.PropagationLemmas.{literal_same, contains_from_has, has_from_contains}
 use Rattle.cnf_core.proofs.ClauseLemmas.{distinct_at}
+use Rattle.cnf_core.proofs.GreatestLemmas.{greatest_var-append}
+use Rattle.cnf_core.proofs.TrailLemmas.{distinct_consistent, there_all}
 use Rattle.refute_log.specs.declared.line.LogLine.{LogLine}
 use Rattle.refute_log.specs.declared.line.LogLine.TheVariants.{Formula, Learnt, Bound, Query, Refuted, Model}
 use Rattle.refute_log.specs.Told.{Lines}
 use Rattle.refute_log.specs.Lines.{IsWellFormed, AreWellFormed, last_var}
-use Rattle.refute_check.specs.Log.{Facts, facts_of, added, given, learnt, refuted, asked, IsNewClause, Stands, Derives}
-use Rattle.refute_check.specs.Kept.{facts_after, Includes}
-use Rattle.refute_check.proofs.ScanLemmas.{there_all}
-use Rattle.refute_check.proofs.TrailLemmas.{distinct_consistent}
-use Rattle.refute_check.proofs.CheckerLemmas.{there_below, learnt_finite}
-
--- the facts of one more line
-flat_map_last : {X A : Type 0} (f : X → List A) (xs : List X) (x : X) → flat_map f (xs ++ x ∷ []) ≡ flat_map f xs ++ f x
-flat_map_last {X} {A} f xs x = flat_map-append f xs (x ∷ []) ∙ ap (λ (l : List A). flat_map f xs ++ l) (flat_map-cons f x [] ∙ append-nil (f x))
-
-greatest_var_append : (cs ds : Clauses) → greatest_var (cs ++ ds) ≡ max (greatest_var cs) (greatest_var ds)
-greatest_var_append [] ds = omega arith
-greatest_var_append (c ∷ cs) ds = omega (arith, greatest_var_append cs ds)
-
-facts_with : ℕ → Clauses → Option (List Literal) → Clauses → Facts
-facts_with g cs q rs = record { greatest = g; clauses = cs; query = q; refuted = rs }
-
-pub facts_more : (lines : Lines) (line : LogLine) → facts_of (lines ++ line ∷ []) ≡ facts_after (facts_of lines) line
-unfolding facts_with
-facts_more lines line =
-    let now = lines ++ line ∷ [] in
-    let f = facts_of lines in
-    let a : greatest_var (flat_map given now) ≡ max f.greatest (greatest_var (given line)) = ap greatest_var (flat_map_last given lines line) ∙ greatest_var_append (flat_map given lines) (given line) in
-    let b : flat_map added now ≡ f.clauses ++ added line = flat_map_last added lines line in
-    let q : fold asked None now ≡ asked f.query line = fold_push asked None lines line in
-    let r : flat_map refuted now ≡ f.refuted ++ refuted line = flat_map_last refuted lines line in
-    ap (λ n. facts_with n (flat_map added now) (fold asked None now) (flat_map refuted now)) a
-    ∙ ap (λ (cs : Clauses). facts_with (max f.greatest (greatest_var (given line))) cs (fold asked None now) (flat_map refuted now)) b
-    ∙ ap (λ (o : Option (List Literal)). facts_with (max f.greatest (greatest_var (given line))) (f.clauses ++ added line) o (flat_map refuted now)) q
-    ∙ ap (λ (rs : Clauses). facts_with (max f.greatest (greatest_var (given line))) (f.clauses ++ added line) (asked f.query line) rs) r
-
--- deriving one more line
-pub derives_none : Derives []
-derives_none = λ i line e. absurd (let lt = slice_get_within [] i line e in omega (arith, lt))
-
-at_left : (lines : Lines) (line l : LogLine) (i : ℕ) → i < length lines → slice_get (lines ++ line ∷ []) i ≡ Some l → slice_get lines i ≡ Some l
-at_left lines line l i low e =
-    let read : get_or lines i l ≡ l = sym (get_or_append_left lines (line ∷ []) l i low) ∙ get_or_from_slice_get (lines ++ line ∷ []) i l l e in
-    slice_get_read lines (length lines) i l refl low (sym read)
-
-low_or_last : (lines : Lines) (line l : LogLine) (i : ℕ) → slice_get (lines ++ line ∷ []) i ≡ Some l → (i < length lines) ⊎ (i ≡ length lines)
-low_or_last lines line l i e = let lt = slice_get_within (lines ++ line ∷ []) i l e in let size = length-append lines (line ∷ []) in grind (arith, lt, size)
-
-pub derives_more : (lines : Lines) (line : LogLine) → Derives lines → Stands lines line → Derives (lines ++ line ∷ [])
-derives_more lines line d s = λ i l e. elim (low_or_last lines line l i e) [
-  | inl low ↦ subst (λ (ls : Lines). Stands ls l) (sym (take-append-le i lines (line ∷ []) (omega arith))) (d i l (at_left lines line l i low e))
-  | inr last ↦
-      let is : line ≡ l = sym (get_or_push lines line l i (sym last)) ∙ get_or_from_slice_get (lines ++ line ∷ []) i l l e in
-      subst (λ (ls : Lines). Stands ls l) (sym (take_at lines (line ∷ []) i (sym last))) (subst (λ (k : LogLine). Stands lines k) is s)
-]
-
-pub derives_front : (lines : Lines) (line : LogLine) → Derives (lines ++ line ∷ []) → Derives lines
-derives_front lines line d = λ i l e.
-    let low = slice_get_within lines i l e in
-    let read : get_or (lines ++ line ∷ []) i l ≡ l = get_or_append_left lines (line ∷ []) l i low ∙ get_or_from_slice_get lines i l l e in
-    let there : slice_get (lines ++ line ∷ []) i ≡ Some l = slice_get_read (lines ++ line ∷ []) (length (lines ++ line ∷ [])) i l refl (omega (arith, low, length-append lines (line ∷ []))) (sym read) in
-    subst (λ (ls : Lines). Stands ls l) (take-append-le i lines (line ∷ []) (omega arith)) (d i l there)
-
-pub derives_last : (lines : Lines) (line : LogLine) → Derives (lines ++ line ∷ []) → Stands lines line
-derives_last lines line d =
-    let read : get_or (lines ++ line ∷ []) (length lines) line ≡ line = get_or_push lines line line (length lines) refl in
-    let there : slice_get (lines ++ line ∷ []) (length lines) ≡ Some line = slice_get_read (lines ++ line ∷ []) (length (lines ++ line ∷ [])) (length lines) line refl (omega (arith, length-append lines (line ∷ []))) (sym read) in
-    subst (λ (ls : Lines). Stands ls line) (take_at lines (line ∷ []) (length lines) refl) (d (length lines) line there)
+use Rattle.refute_log.specs.Log.{facts_of, added, given, learnt, IsNewClause, Stands, Derives}
+use Rattle.refute_log.proofs.LogLemmas.{flat_map_last, there_below, new_includes_nothing}
 
 -- a clause over variables 1 to v as a number below 3^v
 abbrev ternary : Bool → Bool → ℕ
@@ -135,11 +76,7 @@ test_negative false false false true h k e = absurd (omega arith)
 test_negative p false true s h k e = absurd (cc)
 test_negative p false false false h k e = absurd (cc)
 
-false_of : (b : Bool) → (b ≡ true → ⊥) → b ≡ false
-false_of true f = absurd (f refl)
-false_of false f = refl
-
-same_includes : (v : ℕ) (c d : List Literal) → AreDistinct d → AreThere v d → code v c ≡ code v d → Includes c d
+same_includes : (v : ℕ) (c d : List Literal) → AreDistinct d → AreThere v d → code v c ≡ code v d → HasAllOf c d
 same_includes v c d distinct there e = λ l m. by_sign l m l.positive refl
   where
     by_sign : (l : Literal) → Contains d l → (p : Bool) → l.positive ≡ p → Contains c l
@@ -153,7 +90,7 @@ same_includes v c d distinct there e = λ l m. by_sign l m l.positive refl
         let within : IsThere v l = All-contains (IsThere v) d l (there_all v d there) m in
         let neg : l ≡ negative_of l.var = literal_same l (negative_of l.var) refl is in
         let h : has d (negative_of l.var) ≡ true = ap (has d) (sym neg) ∙ has_from_contains d l m in
-        let other : has d (positive_of l.var) ≡ false = false_of (has d (positive_of l.var)) (λ t. distinct_consistent d distinct (positive_of l.var) t h) in
+        let other : has d (positive_of l.var) ≡ false = false_from_ne_true (has d (positive_of l.var)) (λ t. distinct_consistent d distinct (positive_of l.var) t h) in
         let g : has c (negative_of l.var) ≡ true = test_negative (has c (positive_of l.var)) (has c (negative_of l.var)) (has d (positive_of l.var)) (has d (negative_of l.var)) h other (same_digit v c d e l.var within.0 within.1) in
         contains_from_has c l (ap (has c) neg ∙ g)
 
@@ -191,10 +128,10 @@ distinct_last (x ∷ xs) c h = distinct_last xs c h.1
 
 few_push : (v : ℕ) (cs clauses : Clauses) (c : List Literal) → Few v cs → ((d : List Literal) → Contains cs d → Contains clauses d) → AllDistinct cs → AreThere v c → IsNewClause clauses c → Few v (cs ++ c ∷ [])
 few_push v cs clauses c few among distinct there fresh = record {
-  codes = subst (λ (ns : List ℕ). IsDistinct eqb ns) (sym (map-append (code v) cs (c ∷ []))) (IsDistinct-push nat_eq_equiv (map (code v) cs) (code v c) few.codes (false_of (list_any (eqb (code v c)) (map (code v) cs)) (λ h.
+  codes = subst (λ (ns : List ℕ). IsDistinct eqb ns) (sym (map-append (code v) cs (c ∷ []))) (IsDistinct-push nat_eq_equiv (map (code v) cs) (code v c) few.codes (false_from_ne_true (list_any (eqb (code v c)) (map (code v) cs)) (λ h.
       let of = code_in v cs (code v c) h in
       let d = get_or cs of.at [] in
-      learnt_finite clauses c d fresh (among d (Contains-get_or cs of.at [] of.within)) (same_includes v c d (distinct_at cs of.at distinct) (few.there of.at [] of.within) of.is))));
+      new_includes_nothing clauses c d fresh (among d (Contains-get_or cs of.at [] of.within)) (same_includes v c d (distinct_at cs of.at distinct) (few.there of.at [] of.within) of.is))));
   there = All-push (AreThere v) cs c few.there there;
 }
 
@@ -244,7 +181,7 @@ few_at lines (suc n) le formed distinct d =
     let cut : flat_map learnt front ++ flat_map learnt (drop n lines) ≡ flat_map learnt lines = sym (flat_map-append learnt front (drop n lines)) ∙ ap (flat_map learnt) whole in
     let once : AllDistinct (flat_map learnt front) = distinct_left (flat_map learnt front) (flat_map learnt (drop n lines)) (subst (λ (cs : Clauses). AllDistinct cs) (sym cut) distinct) in
     let given_cut : flat_map given front ++ flat_map given (drop n lines) ≡ flat_map given lines = sym (flat_map-append given front (drop n lines)) ∙ ap (flat_map given) whole in
-    let most : (facts_of front).greatest ≤ v = omega (arith, greatest_var_append (flat_map given front) (flat_map given (drop n lines)), ap greatest_var given_cut) in
+    let most : (facts_of front).greatest ≤ v = omega (arith, greatest_var-append (flat_map given front) (flat_map given (drop n lines)), ap greatest_var given_cut) in
     let next : take (suc n) lines ≡ front ++ line ∷ [] = let more : suc n ≡ n + 1 = omega arith in ap (λ k. take k lines) more ∙ take_more lines n Model low in
     subst (λ (cs : Clauses). Few v cs) (sym (ap (flat_map learnt) next ∙ flat_map_last learnt front line)) (few_more v front line most well stands once before)
 

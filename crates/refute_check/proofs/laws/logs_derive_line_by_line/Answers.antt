@@ -1,5 +1,0 @@
-use Rattle.refute_check.proofs.LawLemmas.{derives_none, derives_more, derives_front, derives_last}
-use Rattle.refute_check.proofs.laws.logs_derive_line_by_line.Goals as goal
-
-pub returns : goal.returns
-returns c = record { none = derives_none; more = derives_more; front = derives_front; last = derives_last }
