@@ -1,17 +1,18 @@
 #!/bin/sh
-# Times the built program on files of 256 KB, 1 MB and 4 MB of three kinds, beside xmllint where that is
-# there, and prints the time per MB of each and the ratio of the largest file's to the smallest's. Each of
-# these files has a fault of its topology, so that its whole text is read.
+# Times the program on files of 256 KB, 1 MB and 4 MB of several kinds, beside xmllint where that is there. Prints
+# for each kind the processor time per MB of each size, the ratio of the largest file's to the smallest's, and the ratio of
+# the largest file's to that of the ordinary kind, the first, which is to be at most 2. Each of these files has a
+# fault of its topology or of its graph, so that its whole text is read. A program may be named in place of the built one.
 set -eu
 top=$(cd "$(dirname "$0")/.." && pwd)
-program=$top/crates/schematic_main/out/schematic_main
+program=${1-$top/crates/schematic_main/out/schematic_main}
 if [ ! -x "$program" ]; then
     echo "bench/reader.sh: the program isn't built; run ./railplan draw examples/one.xml first" >&2
     exit 1
 fi
 command -v python3 >/dev/null 2>&1 || { echo "bench/reader.sh: python3 is needed" >&2; exit 1; }
 exec python3 - "$program" <<'PYTHON'
-import os, shutil, subprocess, sys, tempfile, time
+import os, resource, shutil, subprocess, sys, tempfile
 
 program = sys.argv[1]
 lint = shutil.which("xmllint")
@@ -41,22 +42,64 @@ def station(size):
     return padded("<?xml version='1.0' encoding='UTF-8'?>\n<railml xmlns='http://www.railml.org/schemas/2013'><infrastructure><tracks>\n",
                   lambda i: TRACK.format(i, 1000 * i, 1000 * i + 812), "</tracks></infrastructure></railml>", size)
 
+SWITCH = ("<infrastructure><tracks><track><trackTopology><connections><switch>", "</switch></connections></trackTopology></track></tracks></infrastructure>")
+
+def connections(identity):
+    """one switch with a connection for each number, which is named and refers to a name"""
+    return lambda size: padded(SWITCH[0], lambda i: '<connection id="%s" ref="%s"/>' % (identity(i), identity(i + 1)), SWITCH[1], size)
+
+def one_hash(i):
+    """ids that the fixed hasher of the usual hash table takes for one"""
+    return "jC5yKyi9MHrXHT0n!{T8=Tkn%08x" % i
+
+ONE_TRACK = ('<infrastructure><tracks><track id="t"><trackTopology><trackBegin id="b" pos="0" absPos="0"><openEnd/></trackBegin>'
+             '<trackEnd id="e" pos="999999999" absPos="999999999"><openEnd/></trackEnd><connections>\n', "</connections></trackTopology></track></tracks></infrastructure>")
+TWO_SWITCHES = """<switch id="s{0}" pos="{2}"><connection id="{0}" ref="{1}" course="left" orientation="outgoing"/></switch>
+<switch id="s{1}" pos="{3}"><connection id="{1}" ref="{0}" course="left" orientation="incoming"/></switch>
+"""
+
+def switches(identity, place):
+    """one track with two switches at a time, each of which leads to the other: no fault but a graph's"""
+    return lambda size: padded(ONE_TRACK[0], lambda i: TWO_SWITCHES.format(identity(2 * i), identity(2 * i + 1), place(2 * i), place(2 * i + 1)), ONE_TRACK[1], size)
+
 def attributes(size):
     return padded("<infrastructure", lambda i: " a%d='%d'" % (i, i), "/>", size)
 
 def text(size):
     return padded("<infrastructure>", lambda i: "some words of line %d\n<!-- and a comment -->" % i, "</infrastructure>", size)
 
+def empty_elements(size):
+    return padded("<infrastructure><tracks>", lambda i: "<track/>", "</tracks></infrastructure>", size)
+
+KINDS = [
+    ("station", station),
+    ("one hash", connections(one_hash)),
+    ("rising ids", connections(lambda i: "%08d" % i)),
+    ("falling ids", connections(lambda i: "%08d" % (99999999 - i))),
+    ("short ids", connections(lambda i: "%x" % i)),
+    ("long ids", connections(lambda i: "x" * 2000 + "%08d" % i)),
+    ("switches", switches(one_hash, lambda i: i)),
+    ("mirrored", switches(lambda i: "%x" % i, lambda i: 999999999 - i)),
+    ("in one place", switches(lambda i: "%x" % i, lambda i: 1)),
+    ("tracks", empty_elements),
+    ("attributes", attributes),
+    ("text", text),
+    ("references", lambda size: padded("<infrastructure>", lambda i: "&#%d;" % (33 + i % 60), "</infrastructure>", size)),
+    ("less-than", lambda size: padded("<infrastructure>", lambda i: "<![CDATA[<]]>", "</infrastructure>", size)),
+    ("one comment", lambda size: padded("<infrastructure><!--", lambda i: "- ", "--></infrastructure>", size)),
+]
+
 def seconds(command):
-    """the best of three runs; nothing where one takes over 20 seconds"""
+    """processor seconds, the best of three runs; nothing where one takes over 20 seconds"""
     best = None
     for _ in range(3):
-        start = time.perf_counter()
+        before = resource.getrusage(resource.RUSAGE_CHILDREN)
         try:
             subprocess.run(command, stdout=subprocess.DEVNULL, stderr=subprocess.DEVNULL, timeout=20)
         except subprocess.TimeoutExpired:
             return None
-        took = time.perf_counter() - start
+        after = resource.getrusage(resource.RUSAGE_CHILDREN)
+        took = after.ru_utime - before.ru_utime + after.ru_stime - before.ru_stime
         best = took if best is None else min(best, took)
     return best
 
@@ -67,17 +110,19 @@ else:
     print("xmllint isn't there")
 
 with tempfile.TemporaryDirectory() as folder:
-    for kind, make in [("station", station), ("attributes", attributes), ("text", text)]:
+    ordinary = {}
+    for kind, make in KINDS:
         for reader, command in readers:
             per_mb = []
             for label, size in SIZES:
-                name = os.path.join(folder, "%s-%d.xml" % (kind, size))
+                name = os.path.join(folder, "%s-%d.xml" % (kind.replace(" ", "-"), size))
                 if not os.path.exists(name):
                     with open(name, "w", encoding="ascii", newline="\n") as file:
                         file.write(make(size))
                 took = seconds(command(name))
                 per_mb.append(None if took is None else took * (1 << 20) / size)
             shown = "  ".join("%s %s" % (label, "over 20 s" if t is None else "%.4f s/MB" % t) for (label, _), t in zip(SIZES, per_mb))
-            ratio = "" if None in per_mb else "  largest to smallest %.2f" % (per_mb[-1] / per_mb[0])
-            print("%-10s %-8s  %s%s" % (kind, reader, shown, ratio), flush=True)
+            ordinary.setdefault(reader, per_mb[-1])
+            ratio = "" if None in per_mb else "  largest to smallest %.2f, to the ordinary %.2f" % (per_mb[-1] / per_mb[0], per_mb[-1] / ordinary[reader])
+            print("%-12s %-8s  %s%s" % (kind, reader, shown, ratio), flush=True)
 PYTHON

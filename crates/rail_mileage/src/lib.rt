@@ -3,7 +3,8 @@
 //! `specs/Metres` says which texts are a number of metres and which mileage each is,
 //! `specs/MetresText` the one text that a mileage is written as. `read_metres` reads by the first,
 //! `write_metres` writes the second, and what is written is read again, as long as it has at most
-//! nine whole digits. `specs/Reading` is how the reader cuts a text, for its own clauses alone.
+//! nine whole digits. `specs/Reading` is how the reader cuts a text, for its own clauses alone. White space is that of
+//! a document, from `railml_text`.
 //!
 //! The reader of a file's topology reads positions and mileages with it, and the writers of the
 //! graph text and of fault lines print mileages with it.

@@ -3,6 +3,8 @@ use Rattle.std.proofs.Common.{◌≡◌, ◌≢◌, ◌⊎◌, ℕ, suc, zero, �
 use Rattle.std.specs.Prelude.{fold, ◌||◌, codes, Contains, bytes_eq, IsUtf8}
 use Rattle.std.proofs.lemmas.List.{append-nil}
 use Rattle.std.proofs.Math.Bool.{or-false}
+use Rattle.std.proofs.lemmas.Bool.Decides.{not_from_Decides}
+use Rattle.std.proofs.lemmas.Slice.Eq.{bytes_eq-Decides}
 use Rattle.railml_text.specs.declared.item.Attr.{Attr}
 use Rattle.railml_text.specs.declared.item.ItemKind.{ItemKind}
 use Rattle.railml_text.specs.declared.item.ItemKind.TheVariants as kinds
@@ -17,7 +19,7 @@ use Rattle.railml_read.specs.Places.{Role, content, role_of, tags_at, tags_in, o
 use Rattle.railml_read.specs.Document.{IsFreeOutside, Spells, EndsOpen, LacksInfrastructure, AreRows}
 use Rattle.railml_read.specs.Progress.{State, step, start, state_after, names_in, is_infrastructure}
 use Rattle.railml_read.specs.Passing.{IsReadThrough}
-use Rattle.railml_read.proofs.Ends.{bytes_eq_true, bytes_eq_false}
+use Rattle.railml_read.proofs.Ends.{bytes_eq_true}
 use Rattle.railml_read.proofs.TreeLemmas.{Fit, items_fit, spelled, rooted}
 use Rattle.railml_read.proofs.RowLemmas.{reached_in, gone_by}
 use Rattle.railml_read.proofs.KeptLemmas.{names_open}
@@ -118,7 +120,7 @@ railml_not_reached none = λ e h. omega (arith, h.1)
 railml_not_reached (element at name attrs children after) = elim (bytes_eq name (codes "infrastructure")) as (λ v. bytes_eq name (codes "infrastructure") ≡ v → (is_infrastructure (cond v Infrastructure Skipped) || reached_in (cond v Infrastructure Skipped) children || reached_in Railml after) ≡ false → Contains (name ∷ names_of after) (codes "infrastructure") → ⊥) [
   | true ↦ λ h e k. cc
   | false ↦ λ h e k. elim (contains_cons (codes "infrastructure") name (names_of after) k.0 k.1 k.2) [
-    | inl same ↦ bytes_eq_false name (codes "infrastructure") h same
+    | inl same ↦ not_from_Decides (bytes_eq name (codes "infrastructure")) (bytes_eq-Decides name (codes "infrastructure")) h same
     | inr later ↦ railml_not_reached after (rw (skipped children) at e) later
   ]
 ] refl

@@ -33,6 +33,3 @@ bytes_eq_refl a = (bytes_eq-Decides a a).1 refl
 
 pub bytes_eq_true : (a b : List ℕ) → bytes_eq a b ≡ true → a ≡ b
 bytes_eq_true a b = (bytes_eq-Decides a b).0
-
-pub bytes_eq_false : (a b : List ℕ) → bytes_eq a b ≡ false → a ≢ b
-bytes_eq_false a b e same = let yes = (bytes_eq-Decides a b).1 same in cc

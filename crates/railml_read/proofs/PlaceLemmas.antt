@@ -7,8 +7,9 @@ use Rattle.std.proofs.lemmas.Grind.{flat_map-append}
 use Rattle.std.proofs.lemmas.List.Sums.{fold-append}
 use Rattle.std.proofs.lemmas.List.Folds.{list_any-append}
 use Rattle.std.proofs.lemmas.Bool.{leb-true, le-leb}
-use Rattle.std.proofs.lemmas.Bool.Decides.{nat_tests}
+use Rattle.std.proofs.lemmas.Bool.Decides.{nat_tests, not_from_Decides}
 use Rattle.std.proofs.Math.Bool.{or-false}
+use Rattle.std.proofs.lemmas.Slice.Eq.{bytes_eq-Decides}
 use Rattle.railml_text.specs.declared.fault.TextWhat.{TextWhat}
 use Rattle.railml_text.specs.declared.fault.TextWhat.TheVariants.{Markup, EndTag, Root, AfterRoot, Depth}
 use Rattle.railml_text.specs.Faults.{number_of}
@@ -16,7 +17,7 @@ use Rattle.railml_text.specs.Cutting.{Placed}
 use Rattle.railml_read.specs.declared.progress.TheConstants.{MAX_DEPTH}
 use Rattle.railml_read.specs.Places.{Role, opening, closing, content, free, role_of, tags_at, tags_in, names_after, open_names, begins_element, has_root, innermost, IsRootName, IsMisplaced, AreInPlace}
 use Rattle.railml_read.specs.Progress.{is_root_name, is_innermost, fault_in}
-use Rattle.railml_read.proofs.Ends.{length_none, bytes_eq_true, bytes_eq_false}
+use Rattle.railml_read.proofs.Ends.{length_none, bytes_eq_true}
 
 -- ---- one item more
 
@@ -93,7 +94,7 @@ innermost_is (Some other) name h = ap (λ (n : List ℕ). Some n) (bytes_eq_true
 
 innermost_is_not : (o : Option (List ℕ)) (name : List ℕ) → option_map_or (λ other. bytes_eq other name) o false ≡ false → o ≢ Some name
 innermost_is_not None name h e = absurd cc
-innermost_is_not (Some other) name h e = let same : other ≡ name = cc in bytes_eq_false other name h same
+innermost_is_not (Some other) name h e = let same : other ≡ name = cc in not_from_Decides (bytes_eq other name) (bytes_eq-Decides other name) h same
 
 some_length : (names : List (List ℕ)) → (length names == 0) ≡ false → names ≢ []
 some_length names h e = let no : (length names == 0) ≡ true = rw e refl in cc

@@ -6,7 +6,7 @@
 //! faults, as far as it speaks of one item) and `Cutting` (a file cut into items). `Reading` and
 //! `Judging` follow the code and are cited by private contracts alone. `laws` says that what begins
 //! at a place, and how a file is cut, is one thing.
-//! It stands on `plan_core`; `railml_read` stands on it.
+//! It stands on `plan_core`; `railml_read` stands on it, and for white space `rail_mileage`.
 #![tactic(auto)]
 
 mod brackets;

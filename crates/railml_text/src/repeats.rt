@@ -14,10 +14,10 @@ pub(crate) fn has_repeat(alloc: Global, attrs: &[WrittenAttr]) -> Result<bool, A
 {
     let mut seen = BTreeMap::new(alloc);
     for attr in attrs {
-        if seen.contains_key(attr.name) {
+        let earlier = seen.insert(attr.name, ())?;
+        if earlier.is_some() {
             return Ok(true);
         }
-        seen.insert(attr.name, ())?;
     }
     Ok(false)
 }

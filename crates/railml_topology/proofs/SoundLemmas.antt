@@ -330,9 +330,6 @@ whole_stable rows i h =
     let end = single_stable (children rows topology.0 kinds.End) (λ none. h (λ w. none (w.end, ap (λ k. children rows k kinds.End) (sym (same w)) ∙ w.one_end))) in
     record { topology = topology.0; begin = begin.0; end = end.0; one_topology = topology.1; one_begin = begin.1; one_end = end.1 }
 
-second : (a b c d : ℕ) → a ∷ b ∷ [] ≡ c ∷ d ∷ [] → (a ≡ c) × (b ≡ d)
-second a b c d e = (cc, cc)
-
 ways_stable : (rows : List Elem) (i : ℕ) → Stable (HasTwoWays rows i)
 ways_stable rows i h = elim (pair (children rows i kinds.Connection)) [
   | inr none ↦ absurd (h (λ w. none w.one w.other w.two))
@@ -340,8 +337,10 @@ ways_stable rows i h = elim (pair (children rows i kinds.Connection)) [
     one = c;
     other = d;
     two = e;
-    differ = (λ alike. h (λ w. (let same = second c d w.one w.other (sym e ∙ w.two) in
-        w.differ (subst (λ n. AreOrientedAlike rows w.one n) same.1 (subst (λ n. AreOrientedAlike rows n d) same.0 alike)))));
+    differ = (λ alike. h (λ w. (let two : c ∷ d ∷ [] ≡ w.one ∷ w.other ∷ [] = sym e ∙ w.two in
+        let one : c ≡ w.one = same_heads c w.one (d ∷ []) (w.other ∷ []) two in
+        let other : d ≡ w.other = cc in
+        w.differ (subst (λ n. AreOrientedAlike rows w.one n) other (subst (λ n. AreOrientedAlike rows n d) one alike)))));
   }
 ]
 

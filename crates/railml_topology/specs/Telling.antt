@@ -33,12 +33,12 @@ FindsLowest rows None = HasNone rows
 FindsLowest rows (Some found) = IsLowest rows found.what found.row
 
 -- the text that is told first of a row with this fault
-abbrev pub first_of : List Elem → Elem → TopologyWhat → List ℕ
-first_of rows row NoTracks = []
-first_of rows row TooMany = []
-first_of rows row Missing = option_map_or name_of (slice_get (lacking rows row) 0) []
-first_of rows row Id = []
-first_of rows row what = id_of row
+abbrev pub first_told : List Elem → Elem → TopologyWhat → List ℕ
+first_told rows row NoTracks = []
+first_told rows row TooMany = []
+first_told rows row Missing = option_map_or name_of (slice_get (lacking rows row) 0) []
+first_told rows row Id = []
+first_told rows row what = id_of row
 
 -- the text that is told second
 abbrev pub IsSecond : Elem → TopologyWhat → List ℕ → Type 0

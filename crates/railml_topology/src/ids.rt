@@ -24,16 +24,16 @@ pub(crate) fn number_of(numbers: &IdNumbers<'_>, id: &str) -> Option<u32>
     numbers.get(id).copied()
 }
 
-/// Keeps an id with a number, in place of the one that it had.
+/// Keeps an id with a number, and answers the one that it had, if it had one.
 pub(crate) fn keep<'a>(
     numbers: &mut IdNumbers<'a>,
     id: &'a str,
     number: u32,
-) -> Result<(), OutOfMemory>
-    ensures { OnOk result (Numbers numbers.old numbers.new id.now number) }
+) -> Result<Option<u32>, OutOfMemory>
+    ensures had { IfOk result (λ had. had ≡ number_in numbers.old id.now) }
+    ensures kept { OnOk result (Numbers numbers.old numbers.new id.now number) }
 {
-    numbers.insert(id, number)?;
-    Ok(())
+    Ok(numbers.insert(id, number)?)
 }
 
 /// A row's id, if it has one that counts.
@@ -76,7 +76,7 @@ fn connection_id(row: &Elem) -> Option<&str>
     }
 }
 
-/// Keeps a row's own id with its number, unless it is kept already; answers whether it is.
+/// Keeps a row's own id with its number, and answers whether it was kept already.
 fn keep_own<'a>(
     numbers: &mut IdNumbers<'a>,
     row: &'a Elem,
@@ -87,13 +87,7 @@ fn keep_own<'a>(
     ensures added { IfOk result (λ again. again ≡ false → AddsId numbers.old numbers.new (id_of_row row.now) number) }
 {
     match own_id(row) {
-        Some(id) => {
-            if number_of(numbers, id).is_some() {
-                return Ok(true);
-            }
-            keep(numbers, id, number)?;
-            Ok(false)
-        }
+        Some(id) => Ok(keep(numbers, id, number)?.is_some()),
         None => Ok(false),
     }
 }
@@ -121,7 +115,10 @@ fn keep_connection<'a>(
     ensures { OnOk result (AddsId numbers.old numbers.new (id_of_connection row.now) number) }
 {
     match connection_id(row) {
-        Some(id) => keep(numbers, id, number),
+        Some(id) => {
+            let _ = keep(numbers, id, number)?;
+            Ok(())
+        }
         None => Ok(()),
     }
 }

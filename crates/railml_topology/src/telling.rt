@@ -3,7 +3,7 @@ ghost use Rattle.std.specs.Prelude.{◌≡◌, IfOk, MatchOption};
 ghost use Rattle.railml_read.specs.Formed.{AreFormed};
 ghost use Rattle.railml_topology.specs.Faults.{HasNoFault};
 ghost use Rattle.railml_topology.specs.Tables.{AreTablesOf};
-ghost use Rattle.railml_topology.specs.Telling.{first_of, IsSecond, IsFound, IsToldOf, IsFirstTold, TellsNoTracks};
+ghost use Rattle.railml_topology.specs.Telling.{first_told, IsSecond, IsFound, IsToldOf, IsFirstTold, TellsNoTracks};
 
 use crate::TopologyWhat;
 use crate::finding::{Finding, first_finding};
@@ -27,7 +27,7 @@ pub(crate) struct Told {
 
 /// The text that is told first of a row with this fault.
 fn first_text<'a>(rows: &[Elem], row: &'a Elem, what: TopologyWhat) -> &'a str
-    ensures { result.now ≡ first_of rows.now row.now what }
+    ensures { result.now ≡ first_told rows.now row.now what }
 {
     match what {
         TopologyWhat::NoTracks | TopologyWhat::TooMany | TopologyWhat::Id => "",
