@@ -1,219 +1,231 @@
--- From what each law's search found to the least broken law, or none.
-use Rattle.std.specs.Prelude.{◌≡◌, ℕ, ◌+◌, ◌<◌, Bool, true, Some, None, length, All}
-use Rattle.std.proofs.Common.{inl, inr, refl, sym, subst, arith}
+-- From what each law's search found to the least broken law, or none: one step for each law, in the order in which laws are named.
+use Rattle.std.specs.Prelude.{◌≡◌, ℕ, ◌+◌, ◌<◌, Bool, true, Option, Some, None, MatchOption, length, All}
+use Rattle.std.specs.Option.{option_map, option_or}
+use Rattle.std.proofs.Common.{inl, inr, refl, sym, ◌∙◌, subst, arith}
+use Rattle.plan_core.specs.declared.numbers.NodeNo.{NodeNo}
+use Rattle.plan_core.specs.declared.numbers.EdgeNo.{EdgeNo}
 use Rattle.plan_core.specs.Grid.{GridSize}
 use Rattle.plan_core.specs.Graph.{Graph}
 use Rattle.plan_core.specs.Line.{is_line}
 use Rattle.plan_core.specs.Drawing.{Drawing}
-use Rattle.plan_core.specs.Laws.{NodeIsOnGrid, LineIsOnGrid, NodesAreOrdered, LineJoinsItsNodes, NodeIsAligned, NodesAreApart, EdgeIsOver, EdgesAreParted}
-use Rattle.plan_core.specs.Lawful.{HasSizeOf, Instance, NodeOnGrid, LineOnGrid, Ordered, Joined, Aligned, Apart, Over, Parted, IsPair, IsAbovePair, IsOtherPair, IsInstance, Meets, Lawful}
-use Rattle.track_order.specs.Order.{IsEarlier}
-use Rattle.lawful_check.specs.Breaks.{rank, first_of, second_of, node_party, edge_party, law_break, IsLeastBreak}
-use Rattle.lawful_check.specs.Holding.{HoldsForAll, FailsFirst, HoldsForPairs, FailsFirstPair}
+use Rattle.plan_core.specs.Laws.{NodeIsOnGrid, LineIsOnGrid, NodesAreApart}
+use Rattle.plan_core.specs.Lawful.{HasSizeOf, Instance, NodeOnGrid, LineOnGrid, Ordered, Joined, Aligned, Apart, Over, Parted, IsPair, IsInstance, Meets, Lawful}
 use Rattle.plan_core.proofs.TruthFacts.{below_or_is}
+use Rattle.track_order.specs.Order.{IsEarlier}
+use Rattle.lawful_check.specs.declared.law_break.LawBreak.{LawBreak}
+use Rattle.lawful_check.specs.Breaks.{rank, first_of, second_of, node_party, edge_party, law_break, break_of, IsLeastBreak}
+use Rattle.lawful_check.specs.Holding.{HoldsForAll, FailsFirst, HoldsForPairs, FailsFirstPair}
 
--- all instances of a lower rank are met
-pub record MetBelow (g : Graph) (above : ℕ → ℕ → Bool) (grid : GridSize) (d : Drawing) (r : ℕ) : Type 0 where
-  pub each : (i : Instance) → rank i < r → IsInstance g above i → Meets g grid d i
+-- the drawing that is looked at, and what it is looked at for
+pub record Asked : Type 0 where
+  pub graph : Graph
+  pub above : ℕ → ℕ → Bool
+  pub grid : GridSize
+  pub drawing : Drawing
 
-pub none_below : (g : Graph) (above : ℕ → ℕ → Bool) (grid : GridSize) (d : Drawing) → MetBelow g above grid d 0
-none_below g above grid d = record { each = λ i less is. absurd (omega (arith, less)) }
+-- the law speaks of these parties, and its sentence holds for them
+abbrev pub Speaks : Asked → Instance → Type 0
+Speaks q i = IsInstance q.graph q.above i
 
-one_more : (g : Graph) (above : ℕ → ℕ → Bool) (grid : GridSize) (d : Drawing) (r : ℕ) → MetBelow g above grid d r →
-    ((i : Instance) → rank i ≡ r → IsInstance g above i → Meets g grid d i) → MetBelow g above grid d (r + 1)
-one_more g above grid d r below at = record { each = λ i less is. elim (below_or_is (rank i) r less) [ inl lower ↦ below.each i lower is | inr same ↦ at i same is ] }
+abbrev pub Holds : Asked → Instance → Type 0
+Holds q i = Meets q.graph q.grid q.drawing i
 
--- ---- node on grid
+-- all instances of a lower rank are met; all of this rank
+pub record MetBelow (q : Asked) (r : ℕ) : Type 0 where
+  pub each : (i : Instance) → rank i < r → Speaks q i → Holds q i
 
-at_node_on_grid : (g : Graph) (above : ℕ → ℕ → Bool) (grid : GridSize) (d : Drawing) → HasSizeOf g d → HoldsForAll (λ n. n < length d.places) (NodeIsOnGrid grid d) → (i : Instance) → rank i ≡ 0 → IsInstance g above i → Meets g grid d i
-at_node_on_grid g above grid d fit all (NodeOnGrid a) same is = (all.each a).met (subst (λ (count : ℕ). a < count) (sym fit.places) is)
-at_node_on_grid g above grid d fit all other same is = absurd (omega (arith, same))
+pub record MetAt (q : Asked) (r : ℕ) : Type 0 where
+  pub each : (i : Instance) → rank i ≡ r → Speaks q i → Holds q i
 
-pub met_node_on_grid : (g : Graph) (above : ℕ → ℕ → Bool) (grid : GridSize) (d : Drawing) → HasSizeOf g d → MetBelow g above grid d 0 → HoldsForAll (λ n. n < length d.places) (NodeIsOnGrid grid d) → MetBelow g above grid d 1
-met_node_on_grid g above grid d fit below all = one_more g above grid d 0 below (at_node_on_grid g above grid d fit all)
+-- this names the least broken instance of this rank
+pub record IsLeastAt (q : Asked) (r : ℕ) (b : LawBreak) : Type 0 where
+  pub instance : Instance
+  pub ranked : rank instance ≡ r
+  pub is : Speaks q instance
+  pub broken : Holds q instance → ⊥
+  pub before : (j : Instance) → rank j ≡ r → IsEarlier (first_of j) (second_of j) (first_of instance) (second_of instance) → Speaks q j → Holds q j
+  pub named : b ≡ break_of instance
 
-before_node_on_grid : (g : Graph) (above : ℕ → ℕ → Bool) (grid : GridSize) (d : Drawing) (x : ℕ) → HasSizeOf g d → FailsFirst (λ n. n < length d.places) (NodeIsOnGrid grid d) x → (i : Instance) → rank i ≡ 0 → IsEarlier (first_of i) (second_of i) x 0 → IsInstance g above i → Meets g grid d i
-before_node_on_grid g above grid d x fit first (NodeOnGrid a) same earlier is = elim earlier [ inl less ↦ (first.before.each a less).met (subst (λ (count : ℕ). a < count) (sym fit.places) is) | inr tie ↦ (let less = tie.1 in absurd (omega (arith, less))) ]
-before_node_on_grid g above grid d x fit first other same earlier is = absurd (omega (arith, same))
+-- what was found of one law, and of all laws up to one
+abbrev pub IsSearched : Asked → ℕ → Option LawBreak → Type 0
+IsSearched q r found = MatchOption found (MetAt q r) (IsLeastAt q r)
 
-pub least_node_on_grid : (g : Graph) (above : ℕ → ℕ → Bool) (grid : GridSize) (d : Drawing) (x : ℕ) → HasSizeOf g d → MetBelow g above grid d 0 → FailsFirst (λ n. n < length d.places) (NodeIsOnGrid grid d) x → IsLeastBreak g above grid d (law_break 1 (node_party x) None)
-least_node_on_grid g above grid d x fit below first = record {
-  instance = NodeOnGrid x;
-  least = record {
-    is = (subst (λ (count : ℕ). x < count) fit.places first.is);
-    broken = first.fails;
-    least = λ j is before. elim before [ inl lower ↦ below.each j lower is | inr tie ↦ before_node_on_grid g above grid d x fit first j tie.0 tie.1 is ];
-  };
-  named = refl;
-}
+abbrev pub IsJudged : Asked → ℕ → Option LawBreak → Type 0
+IsJudged q r found = MatchOption found (MetBelow q r) (IsLeastBreak q.graph q.above q.grid q.drawing)
 
--- ---- line on grid
+pub begins : (q : Asked) → IsJudged q 0 None
+begins q = record { each = λ i less is. absurd (omega (arith, less)) }
 
-at_line_on_grid : (g : Graph) (above : ℕ → ℕ → Bool) (grid : GridSize) (d : Drawing) → HasSizeOf g d → HoldsForAll (λ e. e < length d.lines) (LineIsOnGrid grid d) → (i : Instance) → rank i ≡ 1 → IsInstance g above i → Meets g grid d i
-at_line_on_grid g above grid d fit all (LineOnGrid a) same is = (all.each a).met (subst (λ (count : ℕ). a < count) (sym fit.lines) is)
-at_line_on_grid g above grid d fit all other same is = absurd (omega (arith, same))
+-- one law more
+pub next : (q : Asked) (r : ℕ) (found here after : Option LawBreak) → after ≡ option_or found here → IsJudged q r found → IsSearched q r here → IsJudged q (r + 1) after
+next q r found here after same judged searched = subst (IsJudged q (r + 1)) (sym same) (step found here judged searched)
+  where
+    step : (found here : Option LawBreak) → IsJudged q r found → IsSearched q r here → IsJudged q (r + 1) (option_or found here)
+    step (Some b) here judged searched = judged
+    step None None below at = record { each = λ i less is. elim (below_or_is (rank i) r less) [ inl lower ↦ below.each i lower is | inr same ↦ at.each i same is ] }
+    step None (Some b) below least = record {
+      instance = least.instance;
+      least = record {
+        is = least.is;
+        broken = least.broken;
+        least = λ j is before. elim before [
+          | inl lower ↦ below.each j (subst (λ (n : ℕ). rank j < n) least.ranked lower) is
+          | inr tie ↦ least.before j (tie.0 ∙ least.ranked) tie.1 is
+        ];
+      };
+      named = least.named;
+    }
 
-pub met_line_on_grid : (g : Graph) (above : ℕ → ℕ → Bool) (grid : GridSize) (d : Drawing) → HasSizeOf g d → MetBelow g above grid d 1 → HoldsForAll (λ e. e < length d.lines) (LineIsOnGrid grid d) → MetBelow g above grid d 2
-met_line_on_grid g above grid d fit below all = one_more g above grid d 1 below (at_line_on_grid g above grid d fit all)
+-- ---- laws of one party each
 
-before_line_on_grid : (g : Graph) (above : ℕ → ℕ → Bool) (grid : GridSize) (d : Drawing) (x : ℕ) → HasSizeOf g d → FailsFirst (λ e. e < length d.lines) (LineIsOnGrid grid d) x → (i : Instance) → rank i ≡ 1 → IsEarlier (first_of i) (second_of i) x 0 → IsInstance g above i → Meets g grid d i
-before_line_on_grid g above grid d x fit first (LineOnGrid a) same earlier is = elim earlier [ inl less ↦ (first.before.each a less).met (subst (λ (count : ℕ). a < count) (sym fit.lines) is) | inr tie ↦ (let less = tie.1 in absurd (omega (arith, less))) ]
-before_line_on_grid g above grid d x fit first other same earlier is = absurd (omega (arith, same))
+pub record IsOfOne (r : ℕ) (make : ℕ → Instance) : Type 0 where
+  pub only : (i : Instance) → rank i ≡ r → make (first_of i) ≡ i
+  pub ranked : (n : ℕ) → rank (make n) ≡ r
+  pub first : (n : ℕ) → first_of (make n) ≡ n
+  pub second : (n : ℕ) → second_of (make n) ≡ 0
 
-pub least_line_on_grid : (g : Graph) (above : ℕ → ℕ → Bool) (grid : GridSize) (d : Drawing) (x : ℕ) → HasSizeOf g d → MetBelow g above grid d 1 → FailsFirst (λ e. e < length d.lines) (LineIsOnGrid grid d) x → IsLeastBreak g above grid d (law_break 1 (edge_party x) None)
-least_line_on_grid g above grid d x fit below first = record {
-  instance = LineOnGrid x;
-  least = record {
-    is = (subst (λ (count : ℕ). x < count) fit.lines first.is);
-    broken = first.fails;
-    least = λ j is before. elim before [ inl lower ↦ below.each j lower is | inr tie ↦ before_line_on_grid g above grid d x fit first j tie.0 tie.1 is ];
-  };
-  named = refl;
-}
+module _ {X : Type 0} (q : Asked) (r : ℕ) (make : ℕ → Instance) (one : IsOfOne r make) (number : X → ℕ) (name : X → LawBreak) (named : (x : X) → name x ≡ break_of (make (number x))) where
+  pub searched_one : (found : Option X) (told : Option LawBreak) → told ≡ option_map name found → MatchOption found (HoldsForAll (λ n. Speaks q (make n)) (λ n. Holds q (make n))) (λ x. FailsFirst (λ n. Speaks q (make n)) (λ n. Holds q (make n)) (number x)) → IsSearched q r told
+  searched_one found told same h = subst (IsSearched q r) (sym same) (of found h)
+    where
+      of : (found : Option X) → MatchOption found (HoldsForAll (λ n. Speaks q (make n)) (λ n. Holds q (make n))) (λ x. FailsFirst (λ n. Speaks q (make n)) (λ n. Holds q (make n)) (number x)) → IsSearched q r (option_map name found)
+      of None all = record {
+        each = λ i same is. let here = one.only i same in subst (Holds q) here ((all.each (first_of i)).met (subst (Speaks q) (sym here) is));
+      }
+      of (Some x) first = record {
+        instance = make (number x);
+        ranked = one.ranked (number x);
+        is = first.is;
+        broken = first.fails;
+        before = λ j same earlier is.
+            let here = one.only j same in
+            elim earlier [
+              | inl less ↦ subst (Holds q) here ((first.before.each (first_of j) (subst (λ (n : ℕ). first_of j < n) (one.first (number x)) less)).met (subst (Speaks q) (sym here) is))
+              | inr tie ↦ (let less = tie.1 in let none = one.second (number x) in absurd (omega (arith, less, none)))
+            ];
+        named = named x;
+      }
 
--- ---- ordered
+-- ---- laws of two parties each
 
-at_ordered : (g : Graph) (above : ℕ → ℕ → Bool) (grid : GridSize) (d : Drawing) → HasSizeOf g d → HoldsForPairs (IsPair (length g.nodes)) (NodesAreOrdered g d) → (i : Instance) → rank i ≡ 2 → IsInstance g above i → Meets g grid d i
-at_ordered g above grid d fit all (Ordered a b) same is = (all.each a b).met is
-at_ordered g above grid d fit all other same is = absurd (omega (arith, same))
+pub record IsOfTwo (r : ℕ) (make : ℕ → ℕ → Instance) : Type 0 where
+  pub only : (i : Instance) → rank i ≡ r → make (first_of i) (second_of i) ≡ i
+  pub ranked : (a b : ℕ) → rank (make a b) ≡ r
+  pub first : (a b : ℕ) → first_of (make a b) ≡ a
+  pub second : (a b : ℕ) → second_of (make a b) ≡ b
 
-pub met_ordered : (g : Graph) (above : ℕ → ℕ → Bool) (grid : GridSize) (d : Drawing) → HasSizeOf g d → MetBelow g above grid d 2 → HoldsForPairs (IsPair (length g.nodes)) (NodesAreOrdered g d) → MetBelow g above grid d 3
-met_ordered g above grid d fit below all = one_more g above grid d 2 below (at_ordered g above grid d fit all)
+module _ {X : Type 0} (q : Asked) (r : ℕ) (make : ℕ → ℕ → Instance) (two : IsOfTwo r make) (first_no second_no : X → ℕ) (name : X → LawBreak) (named : (x : X) → name x ≡ break_of (make (first_no x) (second_no x))) where
+  pub searched_two : (found : Option X) (told : Option LawBreak) → told ≡ option_map name found → MatchOption found (HoldsForPairs (λ a b. Speaks q (make a b)) (λ a b. Holds q (make a b))) (λ x. FailsFirstPair (λ a b. Speaks q (make a b)) (λ a b. Holds q (make a b)) (first_no x) (second_no x)) → IsSearched q r told
+  searched_two found told same h = subst (IsSearched q r) (sym same) (of found h)
+    where
+      of : (found : Option X) → MatchOption found (HoldsForPairs (λ a b. Speaks q (make a b)) (λ a b. Holds q (make a b))) (λ x. FailsFirstPair (λ a b. Speaks q (make a b)) (λ a b. Holds q (make a b)) (first_no x) (second_no x)) → IsSearched q r (option_map name found)
+      of None all = record {
+        each = λ i same is. let here = two.only i same in subst (Holds q) here ((all.each (first_of i) (second_of i)).met (subst (Speaks q) (sym here) is));
+      }
+      of (Some x) first = record {
+        instance = make (first_no x) (second_no x);
+        ranked = two.ranked (first_no x) (second_no x);
+        is = first.is;
+        broken = first.fails;
+        before = λ j same earlier is.
+            let here = two.only j same in
+            let sooner : IsEarlier (first_of j) (second_of j) (first_no x) (second_no x) =
+            subst (λ (a : ℕ). IsEarlier (first_of j) (second_of j) a (second_no x)) (two.first (first_no x) (second_no x))
+            (subst (λ (b : ℕ). IsEarlier (first_of j) (second_of j) (first_of (make (first_no x) (second_no x))) b) (two.second (first_no x) (second_no x)) earlier) in
+            subst (Holds q) here ((first.before.each (first_of j) (second_of j) sooner).met (subst (Speaks q) (sym here) is));
+        named = named x;
+      }
 
-before_ordered : (g : Graph) (above : ℕ → ℕ → Bool) (grid : GridSize) (d : Drawing) (x y : ℕ) → HasSizeOf g d → FailsFirstPair (IsPair (length g.nodes)) (NodesAreOrdered g d) x y → (i : Instance) → rank i ≡ 2 → IsEarlier (first_of i) (second_of i) x y → IsInstance g above i → Meets g grid d i
-before_ordered g above grid d x y fit first (Ordered a b) same earlier is = (first.before.each a b earlier).met is
-before_ordered g above grid d x y fit first other same earlier is = absurd (omega (arith, same))
+-- ---- each law
 
-pub least_ordered : (g : Graph) (above : ℕ → ℕ → Bool) (grid : GridSize) (d : Drawing) (x y : ℕ) → HasSizeOf g d → MetBelow g above grid d 2 → FailsFirstPair (IsPair (length g.nodes)) (NodesAreOrdered g d) x y → IsLeastBreak g above grid d (law_break 2 (node_party x) (Some (node_party y)))
-least_ordered g above grid d x y fit below first = record {
-  instance = Ordered x y;
-  least = record {
-    is = first.is;
-    broken = first.fails;
-    least = λ j is before. elim before [ inl lower ↦ below.each j lower is | inr tie ↦ before_ordered g above grid d x y fit first j tie.0 tie.1 is ];
-  };
-  named = refl;
-}
+pub of_nodes_on_grid : IsOfOne 0 NodeOnGrid
+of_nodes_on_grid = record { only = only; ranked = λ n. refl; first = λ n. refl; second = λ n. refl }
+  where
+    only : (i : Instance) → rank i ≡ 0 → NodeOnGrid (first_of i) ≡ i
+    only (NodeOnGrid n) same = refl
+    only other same = absurd (omega (arith, same))
 
--- ---- joined
+pub of_lines_on_grid : IsOfOne 1 LineOnGrid
+of_lines_on_grid = record { only = only; ranked = λ n. refl; first = λ n. refl; second = λ n. refl }
+  where
+    only : (i : Instance) → rank i ≡ 1 → LineOnGrid (first_of i) ≡ i
+    only (LineOnGrid n) same = refl
+    only other same = absurd (omega (arith, same))
 
-at_joined : (g : Graph) (above : ℕ → ℕ → Bool) (grid : GridSize) (d : Drawing) → HasSizeOf g d → HoldsForAll (λ e. e < length g.edges) (LineJoinsItsNodes g grid d) → (i : Instance) → rank i ≡ 3 → IsInstance g above i → Meets g grid d i
-at_joined g above grid d fit all (Joined a) same is = (all.each a).met is
-at_joined g above grid d fit all other same is = absurd (omega (arith, same))
+pub of_ordered : IsOfTwo 2 Ordered
+of_ordered = record { only = only; ranked = λ a b. refl; first = λ a b. refl; second = λ a b. refl }
+  where
+    only : (i : Instance) → rank i ≡ 2 → Ordered (first_of i) (second_of i) ≡ i
+    only (Ordered u v) same = refl
+    only other same = absurd (omega (arith, same))
 
-pub met_joined : (g : Graph) (above : ℕ → ℕ → Bool) (grid : GridSize) (d : Drawing) → HasSizeOf g d → MetBelow g above grid d 3 → HoldsForAll (λ e. e < length g.edges) (LineJoinsItsNodes g grid d) → MetBelow g above grid d 4
-met_joined g above grid d fit below all = one_more g above grid d 3 below (at_joined g above grid d fit all)
+pub of_joined : IsOfOne 3 Joined
+of_joined = record { only = only; ranked = λ n. refl; first = λ n. refl; second = λ n. refl }
+  where
+    only : (i : Instance) → rank i ≡ 3 → Joined (first_of i) ≡ i
+    only (Joined e) same = refl
+    only other same = absurd (omega (arith, same))
 
-before_joined : (g : Graph) (above : ℕ → ℕ → Bool) (grid : GridSize) (d : Drawing) (x : ℕ) → HasSizeOf g d → FailsFirst (λ e. e < length g.edges) (LineJoinsItsNodes g grid d) x → (i : Instance) → rank i ≡ 3 → IsEarlier (first_of i) (second_of i) x 0 → IsInstance g above i → Meets g grid d i
-before_joined g above grid d x fit first (Joined a) same earlier is = elim earlier [ inl less ↦ (first.before.each a less).met is | inr tie ↦ (let less = tie.1 in absurd (omega (arith, less))) ]
-before_joined g above grid d x fit first other same earlier is = absurd (omega (arith, same))
+pub of_aligned : IsOfOne 4 Aligned
+of_aligned = record { only = only; ranked = λ n. refl; first = λ n. refl; second = λ n. refl }
+  where
+    only : (i : Instance) → rank i ≡ 4 → Aligned (first_of i) ≡ i
+    only (Aligned n) same = refl
+    only other same = absurd (omega (arith, same))
 
-pub least_joined : (g : Graph) (above : ℕ → ℕ → Bool) (grid : GridSize) (d : Drawing) (x : ℕ) → HasSizeOf g d → MetBelow g above grid d 3 → FailsFirst (λ e. e < length g.edges) (LineJoinsItsNodes g grid d) x → IsLeastBreak g above grid d (law_break 3 (edge_party x) None)
-least_joined g above grid d x fit below first = record {
-  instance = Joined x;
-  least = record {
-    is = first.is;
-    broken = first.fails;
-    least = λ j is before. elim before [ inl lower ↦ below.each j lower is | inr tie ↦ before_joined g above grid d x fit first j tie.0 tie.1 is ];
-  };
-  named = refl;
-}
+pub of_apart : IsOfTwo 5 Apart
+of_apart = record { only = only; ranked = λ a b. refl; first = λ a b. refl; second = λ a b. refl }
+  where
+    only : (i : Instance) → rank i ≡ 5 → Apart (first_of i) (second_of i) ≡ i
+    only (Apart u v) same = refl
+    only other same = absurd (omega (arith, same))
 
--- ---- aligned
+pub of_over : IsOfTwo 6 Over
+of_over = record { only = only; ranked = λ a b. refl; first = λ a b. refl; second = λ a b. refl }
+  where
+    only : (i : Instance) → rank i ≡ 6 → Over (first_of i) (second_of i) ≡ i
+    only (Over e f) same = refl
+    only other same = absurd (omega (arith, same))
 
-at_aligned : (g : Graph) (above : ℕ → ℕ → Bool) (grid : GridSize) (d : Drawing) → HasSizeOf g d → HoldsForAll (λ n. n < length g.nodes) (NodeIsAligned g d) → (i : Instance) → rank i ≡ 4 → IsInstance g above i → Meets g grid d i
-at_aligned g above grid d fit all (Aligned a) same is = (all.each a).met is
-at_aligned g above grid d fit all other same is = absurd (omega (arith, same))
+pub of_parted : IsOfTwo 7 Parted
+of_parted = record { only = only; ranked = λ a b. refl; first = λ a b. refl; second = λ a b. refl }
+  where
+    only : (i : Instance) → rank i ≡ 7 → Parted (first_of i) (second_of i) ≡ i
+    only (Parted e f) same = refl
+    only other same = absurd (omega (arith, same))
 
-pub met_aligned : (g : Graph) (above : ℕ → ℕ → Bool) (grid : GridSize) (d : Drawing) → HasSizeOf g d → MetBelow g above grid d 4 → HoldsForAll (λ n. n < length g.nodes) (NodeIsAligned g d) → MetBelow g above grid d 5
-met_aligned g above grid d fit below all = one_more g above grid d 4 below (at_aligned g above grid d fit all)
+-- a law of one node or one edge, and of two
 
-before_aligned : (g : Graph) (above : ℕ → ℕ → Bool) (grid : GridSize) (d : Drawing) (x : ℕ) → HasSizeOf g d → FailsFirst (λ n. n < length g.nodes) (NodeIsAligned g d) x → (i : Instance) → rank i ≡ 4 → IsEarlier (first_of i) (second_of i) x 0 → IsInstance g above i → Meets g grid d i
-before_aligned g above grid d x fit first (Aligned a) same earlier is = elim earlier [ inl less ↦ (first.before.each a less).met is | inr tie ↦ (let less = tie.1 in absurd (omega (arith, less))) ]
-before_aligned g above grid d x fit first other same earlier is = absurd (omega (arith, same))
+pub searched_node : (q : Asked) (r law : ℕ) (make : ℕ → Instance) → IsOfOne r make → ((n : ℕ) → law_break law (node_party n) None ≡ break_of (make n)) → (found : Option NodeNo) (told : Option LawBreak) → told ≡ option_map (λ (n : NodeNo). law_break law (node_party n.0) None) found → MatchOption found (HoldsForAll (λ n. Speaks q (make n)) (λ n. Holds q (make n))) (λ n. FailsFirst (λ m. Speaks q (make m)) (λ m. Holds q (make m)) n.0) → IsSearched q r told
+searched_node q r law make one named = searched_one q r make one (λ n. n.0) (λ (n : NodeNo). law_break law (node_party n.0) None) (λ n. named n.0)
 
-pub least_aligned : (g : Graph) (above : ℕ → ℕ → Bool) (grid : GridSize) (d : Drawing) (x : ℕ) → HasSizeOf g d → MetBelow g above grid d 4 → FailsFirst (λ n. n < length g.nodes) (NodeIsAligned g d) x → IsLeastBreak g above grid d (law_break 4 (node_party x) None)
-least_aligned g above grid d x fit below first = record {
-  instance = Aligned x;
-  least = record {
-    is = first.is;
-    broken = first.fails;
-    least = λ j is before. elim before [ inl lower ↦ below.each j lower is | inr tie ↦ before_aligned g above grid d x fit first j tie.0 tie.1 is ];
-  };
-  named = refl;
-}
+pub searched_edge : (q : Asked) (r law : ℕ) (make : ℕ → Instance) → IsOfOne r make → ((n : ℕ) → law_break law (edge_party n) None ≡ break_of (make n)) → (found : Option EdgeNo) (told : Option LawBreak) → told ≡ option_map (λ (e : EdgeNo). law_break law (edge_party e.0) None) found → MatchOption found (HoldsForAll (λ n. Speaks q (make n)) (λ n. Holds q (make n))) (λ e. FailsFirst (λ m. Speaks q (make m)) (λ m. Holds q (make m)) e.0) → IsSearched q r told
+searched_edge q r law make one named = searched_one q r make one (λ e. e.0) (λ (e : EdgeNo). law_break law (edge_party e.0) None) (λ e. named e.0)
 
--- ---- apart
+pub searched_nodes : (q : Asked) (r law : ℕ) (make : ℕ → ℕ → Instance) → IsOfTwo r make → ((a b : ℕ) → law_break law (node_party a) (Some (node_party b)) ≡ break_of (make a b)) → (found : Option (NodeNo × NodeNo)) (told : Option LawBreak) → told ≡ option_map (λ (p : NodeNo × NodeNo). law_break law (node_party p.0.0) (Some (node_party p.1.0))) found → MatchOption found (HoldsForPairs (λ a b. Speaks q (make a b)) (λ a b. Holds q (make a b))) (λ p. FailsFirstPair (λ a b. Speaks q (make a b)) (λ a b. Holds q (make a b)) p.0.0 p.1.0) → IsSearched q r told
+searched_nodes q r law make two named = searched_two q r make two (λ p. p.0.0) (λ p. p.1.0) (λ (p : NodeNo × NodeNo). law_break law (node_party p.0.0) (Some (node_party p.1.0))) (λ p. named p.0.0 p.1.0)
 
-at_apart : (g : Graph) (above : ℕ → ℕ → Bool) (grid : GridSize) (d : Drawing) → HasSizeOf g d → HoldsForPairs (IsPair (length d.places)) (NodesAreApart d) → (i : Instance) → rank i ≡ 5 → IsInstance g above i → Meets g grid d i
-at_apart g above grid d fit all (Apart a b) same is = (all.each a b).met (subst (λ (count : ℕ). IsPair count a b) (sym fit.places) is)
-at_apart g above grid d fit all other same is = absurd (omega (arith, same))
+pub searched_edges : (q : Asked) (r law : ℕ) (make : ℕ → ℕ → Instance) → IsOfTwo r make → ((a b : ℕ) → law_break law (edge_party a) (Some (edge_party b)) ≡ break_of (make a b)) → (found : Option (EdgeNo × EdgeNo)) (told : Option LawBreak) → told ≡ option_map (λ (p : EdgeNo × EdgeNo). law_break law (edge_party p.0.0) (Some (edge_party p.1.0))) found → MatchOption found (HoldsForPairs (λ a b. Speaks q (make a b)) (λ a b. Holds q (make a b))) (λ p. FailsFirstPair (λ a b. Speaks q (make a b)) (λ a b. Holds q (make a b)) p.0.0 p.1.0) → IsSearched q r told
+searched_edges q r law make two named = searched_two q r make two (λ p. p.0.0) (λ p. p.1.0) (λ (p : EdgeNo × EdgeNo). law_break law (edge_party p.0.0) (Some (edge_party p.1.0))) (λ p. named p.0.0 p.1.0)
 
-pub met_apart : (g : Graph) (above : ℕ → ℕ → Bool) (grid : GridSize) (d : Drawing) → HasSizeOf g d → MetBelow g above grid d 5 → HoldsForPairs (IsPair (length d.places)) (NodesAreApart d) → MetBelow g above grid d 6
-met_apart g above grid d fit below all = one_more g above grid d 5 below (at_apart g above grid d fit all)
+-- laws 1 and 5 are looked through by the drawing's points and lines, of which there are as many as nodes and edges
 
-before_apart : (g : Graph) (above : ℕ → ℕ → Bool) (grid : GridSize) (d : Drawing) (x y : ℕ) → HasSizeOf g d → FailsFirstPair (IsPair (length d.places)) (NodesAreApart d) x y → (i : Instance) → rank i ≡ 5 → IsEarlier (first_of i) (second_of i) x y → IsInstance g above i → Meets g grid d i
-before_apart g above grid d x y fit first (Apart a b) same earlier is = (first.before.each a b earlier).met (subst (λ (count : ℕ). IsPair count a b) (sym fit.places) is)
-before_apart g above grid d x y fit first other same earlier is = absurd (omega (arith, same))
+pub searched_on_grid : (q : Asked) → HasSizeOf q.graph q.drawing → (found : Option NodeNo) (told : Option LawBreak) → told ≡ option_map (λ (n : NodeNo). law_break 1 (node_party n.0) None) found → MatchOption found (HoldsForAll (λ n. n < length q.drawing.places) (NodeIsOnGrid q.grid q.drawing)) (λ n. FailsFirst (λ m. m < length q.drawing.places) (NodeIsOnGrid q.grid q.drawing) n.0) → IsSearched q 0 told
+searched_on_grid q size found told same h =
+    searched_node q 0 1 NodeOnGrid of_nodes_on_grid (λ n. refl) found told same
+    (subst (λ (count : ℕ). MatchOption found (HoldsForAll (λ n. n < count) (NodeIsOnGrid q.grid q.drawing)) (λ (n : NodeNo). FailsFirst (λ m. m < count) (NodeIsOnGrid q.grid q.drawing) n.0)) size.places h)
 
-pub least_apart : (g : Graph) (above : ℕ → ℕ → Bool) (grid : GridSize) (d : Drawing) (x y : ℕ) → HasSizeOf g d → MetBelow g above grid d 5 → FailsFirstPair (IsPair (length d.places)) (NodesAreApart d) x y → IsLeastBreak g above grid d (law_break 5 (node_party x) (Some (node_party y)))
-least_apart g above grid d x y fit below first = record {
-  instance = Apart x y;
-  least = record {
-    is = (subst (λ (count : ℕ). IsPair count x y) fit.places first.is);
-    broken = first.fails;
-    least = λ j is before. elim before [ inl lower ↦ below.each j lower is | inr tie ↦ before_apart g above grid d x y fit first j tie.0 tie.1 is ];
-  };
-  named = refl;
-}
+pub searched_lines : (q : Asked) → HasSizeOf q.graph q.drawing → (found : Option EdgeNo) (told : Option LawBreak) → told ≡ option_map (λ (e : EdgeNo). law_break 1 (edge_party e.0) None) found → MatchOption found (HoldsForAll (λ n. n < length q.drawing.lines) (LineIsOnGrid q.grid q.drawing)) (λ e. FailsFirst (λ m. m < length q.drawing.lines) (LineIsOnGrid q.grid q.drawing) e.0) → IsSearched q 1 told
+searched_lines q size found told same h =
+    searched_edge q 1 1 LineOnGrid of_lines_on_grid (λ n. refl) found told same
+    (subst (λ (count : ℕ). MatchOption found (HoldsForAll (λ n. n < count) (LineIsOnGrid q.grid q.drawing)) (λ (e : EdgeNo). FailsFirst (λ m. m < count) (LineIsOnGrid q.grid q.drawing) e.0)) size.lines h)
 
--- ---- over
+pub searched_apart : (q : Asked) → HasSizeOf q.graph q.drawing → (found : Option (NodeNo × NodeNo)) (told : Option LawBreak) → told ≡ option_map (λ (p : NodeNo × NodeNo). law_break 5 (node_party p.0.0) (Some (node_party p.1.0))) found → MatchOption found (HoldsForPairs (IsPair (length q.drawing.places)) (NodesAreApart q.drawing)) (λ p. FailsFirstPair (IsPair (length q.drawing.places)) (NodesAreApart q.drawing) p.0.0 p.1.0) → IsSearched q 5 told
+searched_apart q size found told same h =
+    searched_nodes q 5 5 Apart of_apart (λ a b. refl) found told same
+    (subst (λ (count : ℕ). MatchOption found (HoldsForPairs (IsPair count) (NodesAreApart q.drawing)) (λ (p : NodeNo × NodeNo). FailsFirstPair (IsPair count) (NodesAreApart q.drawing) p.0.0 p.1.0)) size.places h)
 
-at_over : (g : Graph) (above : ℕ → ℕ → Bool) (grid : GridSize) (d : Drawing) → HasSizeOf g d → HoldsForPairs (IsAbovePair g above) (EdgeIsOver g d) → (i : Instance) → rank i ≡ 6 → IsInstance g above i → Meets g grid d i
-at_over g above grid d fit all (Over a b) same is = (all.each a b).met is
-at_over g above grid d fit all other same is = absurd (omega (arith, same))
-
-pub met_over : (g : Graph) (above : ℕ → ℕ → Bool) (grid : GridSize) (d : Drawing) → HasSizeOf g d → MetBelow g above grid d 6 → HoldsForPairs (IsAbovePair g above) (EdgeIsOver g d) → MetBelow g above grid d 7
-met_over g above grid d fit below all = one_more g above grid d 6 below (at_over g above grid d fit all)
-
-before_over : (g : Graph) (above : ℕ → ℕ → Bool) (grid : GridSize) (d : Drawing) (x y : ℕ) → HasSizeOf g d → FailsFirstPair (IsAbovePair g above) (EdgeIsOver g d) x y → (i : Instance) → rank i ≡ 6 → IsEarlier (first_of i) (second_of i) x y → IsInstance g above i → Meets g grid d i
-before_over g above grid d x y fit first (Over a b) same earlier is = (first.before.each a b earlier).met is
-before_over g above grid d x y fit first other same earlier is = absurd (omega (arith, same))
-
-pub least_over : (g : Graph) (above : ℕ → ℕ → Bool) (grid : GridSize) (d : Drawing) (x y : ℕ) → HasSizeOf g d → MetBelow g above grid d 6 → FailsFirstPair (IsAbovePair g above) (EdgeIsOver g d) x y → IsLeastBreak g above grid d (law_break 6 (edge_party x) (Some (edge_party y)))
-least_over g above grid d x y fit below first = record {
-  instance = Over x y;
-  least = record {
-    is = first.is;
-    broken = first.fails;
-    least = λ j is before. elim before [ inl lower ↦ below.each j lower is | inr tie ↦ before_over g above grid d x y fit first j tie.0 tie.1 is ];
-  };
-  named = refl;
-}
-
--- ---- parted
-
-at_parted : (g : Graph) (above : ℕ → ℕ → Bool) (grid : GridSize) (d : Drawing) → HasSizeOf g d → HoldsForPairs (IsOtherPair g above) (EdgesAreParted g d) → (i : Instance) → rank i ≡ 7 → IsInstance g above i → Meets g grid d i
-at_parted g above grid d fit all (Parted a b) same is = (all.each a b).met is
-at_parted g above grid d fit all other same is = absurd (omega (arith, same))
-
-pub met_parted : (g : Graph) (above : ℕ → ℕ → Bool) (grid : GridSize) (d : Drawing) → HasSizeOf g d → MetBelow g above grid d 7 → HoldsForPairs (IsOtherPair g above) (EdgesAreParted g d) → MetBelow g above grid d 8
-met_parted g above grid d fit below all = one_more g above grid d 7 below (at_parted g above grid d fit all)
-
-before_parted : (g : Graph) (above : ℕ → ℕ → Bool) (grid : GridSize) (d : Drawing) (x y : ℕ) → HasSizeOf g d → FailsFirstPair (IsOtherPair g above) (EdgesAreParted g d) x y → (i : Instance) → rank i ≡ 7 → IsEarlier (first_of i) (second_of i) x y → IsInstance g above i → Meets g grid d i
-before_parted g above grid d x y fit first (Parted a b) same earlier is = (first.before.each a b earlier).met is
-before_parted g above grid d x y fit first other same earlier is = absurd (omega (arith, same))
-
-pub least_parted : (g : Graph) (above : ℕ → ℕ → Bool) (grid : GridSize) (d : Drawing) (x y : ℕ) → HasSizeOf g d → MetBelow g above grid d 7 → FailsFirstPair (IsOtherPair g above) (EdgesAreParted g d) x y → IsLeastBreak g above grid d (law_break 7 (edge_party x) (Some (edge_party y)))
-least_parted g above grid d x y fit below first = record {
-  instance = Parted x y;
-  least = record {
-    is = first.is;
-    broken = first.fails;
-    least = λ j is before. elim before [ inl lower ↦ below.each j lower is | inr tie ↦ before_parted g above grid d x y fit first j tie.0 tie.1 is ];
-  };
-  named = refl;
-}
+-- ---- all laws
 
 rank_below : (i : Instance) → rank i < 8
 rank_below (NodeOnGrid a) = omega arith
@@ -225,8 +237,6 @@ rank_below (Apart a b) = omega arith
 rank_below (Over a b) = omega arith
 rank_below (Parted a b) = omega arith
 
-pub lawful_is : (g : Graph) (above : ℕ → ℕ → Bool) (grid : GridSize) (d : Drawing) → HasSizeOf g d → All (λ l. is_line l ≡ true) d.lines → MetBelow g above grid d 8 → Lawful g above grid d
-lawful_is g above grid d fit are_lines below = record {
-  fits = record { size = fit; are_lines = are_lines };
-  laws = λ i is. below.each i (rank_below i) is;
-}
+pub all_judged : (q : Asked) (found : Option LawBreak) → HasSizeOf q.graph q.drawing → All (λ l. is_line l ≡ true) q.drawing.lines → IsJudged q 8 found → MatchOption found (Lawful q.graph q.above q.grid q.drawing) (IsLeastBreak q.graph q.above q.grid q.drawing)
+all_judged q None size are_lines below = record { fits = record { size = size; are_lines = are_lines }; laws = λ i is. below.each i (rank_below i) is }
+all_judged q (Some b) size are_lines least = least

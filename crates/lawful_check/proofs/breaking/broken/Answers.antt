@@ -1,30 +1,27 @@
+use Rattle.std.proofs.Common.{refl, None}
+use Rattle.plan_core.specs.Lawful.{Ordered, Joined, Aligned, Over, Parted}
 use Rattle.track_order.specs.Order.{is_above}
-use Rattle.lawful_check.proofs.BreakLemmas.{none_below, met_node_on_grid, met_line_on_grid, met_ordered, met_joined, met_aligned, met_apart, met_over, met_parted, least_node_on_grid, least_line_on_grid, least_ordered, least_joined, least_aligned, least_apart, least_over, least_parted, lawful_is}
+use Rattle.lawful_check.proofs.BreakLemmas.{Asked, begins, next, of_ordered, of_joined, of_aligned, of_over, of_parted, searched_on_grid, searched_lines, searched_nodes, searched_edge, searched_node, searched_apart, searched_edges, all_judged}
 use Rattle.lawful_check.proofs.breaking.broken.Goals as goal
 
-pub returns-in-Some : goal.returns-in-Some
-returns-in-Some c = least_node_on_grid c.args.g.now (is_above c.args.t.now) c.args.grid.now c.args.d.now c.in-Some.n.0 c.requires.fitting (none_below c.args.g.now (is_above c.args.t.now) c.args.grid.now c.args.d.now) c.in-Some.ensures
-
-pub returns-in-Some-line_off_grid : goal.returns-in-Some-line_off_grid
-returns-in-Some-line_off_grid c = least_line_on_grid c.args.g.now (is_above c.args.t.now) c.args.grid.now c.args.d.now c.in-Some-line_off_grid.e.0 c.requires.fitting (met_node_on_grid c.args.g.now (is_above c.args.t.now) c.args.grid.now c.args.d.now c.requires.fitting (none_below c.args.g.now (is_above c.args.t.now) c.args.grid.now c.args.d.now) c.in_default.ensures) c.in-Some-line_off_grid.ensures.first
-
-pub returns-in-Some-disordered : goal.returns-in-Some-disordered
-returns-in-Some-disordered c = least_ordered c.args.g.now (is_above c.args.t.now) c.args.grid.now c.args.d.now c.in-Some-disordered.u.0 c.in-Some-disordered.v.0 c.requires.fitting (met_line_on_grid c.args.g.now (is_above c.args.t.now) c.args.grid.now c.args.d.now c.requires.fitting (met_node_on_grid c.args.g.now (is_above c.args.t.now) c.args.grid.now c.args.d.now c.requires.fitting (none_below c.args.g.now (is_above c.args.t.now) c.args.grid.now c.args.d.now) c.in_default.ensures) c.in_default-line_off_grid.ensures.first) c.in-Some-disordered.ensures
-
-pub returns-in-Some-unjoined : goal.returns-in-Some-unjoined
-returns-in-Some-unjoined c = least_joined c.args.g.now (is_above c.args.t.now) c.args.grid.now c.args.d.now c.in-Some-unjoined.e.0 c.requires.fitting (met_ordered c.args.g.now (is_above c.args.t.now) c.args.grid.now c.args.d.now c.requires.fitting (met_line_on_grid c.args.g.now (is_above c.args.t.now) c.args.grid.now c.args.d.now c.requires.fitting (met_node_on_grid c.args.g.now (is_above c.args.t.now) c.args.grid.now c.args.d.now c.requires.fitting (none_below c.args.g.now (is_above c.args.t.now) c.args.grid.now c.args.d.now) c.in_default.ensures) c.in_default-line_off_grid.ensures.first) c.in_default-disordered.ensures) c.in-Some-unjoined.ensures
-
-pub returns-in-Some-unaligned : goal.returns-in-Some-unaligned
-returns-in-Some-unaligned c = least_aligned c.args.g.now (is_above c.args.t.now) c.args.grid.now c.args.d.now c.in-Some-unaligned.n.0 c.requires.fitting (met_joined c.args.g.now (is_above c.args.t.now) c.args.grid.now c.args.d.now c.requires.fitting (met_ordered c.args.g.now (is_above c.args.t.now) c.args.grid.now c.args.d.now c.requires.fitting (met_line_on_grid c.args.g.now (is_above c.args.t.now) c.args.grid.now c.args.d.now c.requires.fitting (met_node_on_grid c.args.g.now (is_above c.args.t.now) c.args.grid.now c.args.d.now c.requires.fitting (none_below c.args.g.now (is_above c.args.t.now) c.args.grid.now c.args.d.now) c.in_default.ensures) c.in_default-line_off_grid.ensures.first) c.in_default-disordered.ensures) c.in_default-unjoined.ensures) c.in-Some-unaligned.ensures
-
-pub returns-in-Some-meeting : goal.returns-in-Some-meeting
-returns-in-Some-meeting c = least_apart c.args.g.now (is_above c.args.t.now) c.args.grid.now c.args.d.now c.in-Some-meeting.u.0 c.in-Some-meeting.v.0 c.requires.fitting (met_aligned c.args.g.now (is_above c.args.t.now) c.args.grid.now c.args.d.now c.requires.fitting (met_joined c.args.g.now (is_above c.args.t.now) c.args.grid.now c.args.d.now c.requires.fitting (met_ordered c.args.g.now (is_above c.args.t.now) c.args.grid.now c.args.d.now c.requires.fitting (met_line_on_grid c.args.g.now (is_above c.args.t.now) c.args.grid.now c.args.d.now c.requires.fitting (met_node_on_grid c.args.g.now (is_above c.args.t.now) c.args.grid.now c.args.d.now c.requires.fitting (none_below c.args.g.now (is_above c.args.t.now) c.args.grid.now c.args.d.now) c.in_default.ensures) c.in_default-line_off_grid.ensures.first) c.in_default-disordered.ensures) c.in_default-unjoined.ensures) c.in_default-unaligned.ensures) c.in-Some-meeting.ensures
-
-pub returns-in-Some-least_not_over : goal.returns-in-Some-least_not_over
-returns-in-Some-least_not_over c = least_over c.args.g.now (is_above c.args.t.now) c.args.grid.now c.args.d.now c.in-Some-least_not_over.e.0 c.in-Some-least_not_over.f.0 c.requires.fitting (met_apart c.args.g.now (is_above c.args.t.now) c.args.grid.now c.args.d.now c.requires.fitting (met_aligned c.args.g.now (is_above c.args.t.now) c.args.grid.now c.args.d.now c.requires.fitting (met_joined c.args.g.now (is_above c.args.t.now) c.args.grid.now c.args.d.now c.requires.fitting (met_ordered c.args.g.now (is_above c.args.t.now) c.args.grid.now c.args.d.now c.requires.fitting (met_line_on_grid c.args.g.now (is_above c.args.t.now) c.args.grid.now c.args.d.now c.requires.fitting (met_node_on_grid c.args.g.now (is_above c.args.t.now) c.args.grid.now c.args.d.now c.requires.fitting (none_below c.args.g.now (is_above c.args.t.now) c.args.grid.now c.args.d.now) c.in_default.ensures) c.in_default-line_off_grid.ensures.first) c.in_default-disordered.ensures) c.in_default-unjoined.ensures) c.in_default-unaligned.ensures) c.in_default-meeting.ensures) c.in-Some-least_not_over.ensures
-
-pub returns-in-Some-least_not_parted : goal.returns-in-Some-least_not_parted
-returns-in-Some-least_not_parted c = least_parted c.args.g.now (is_above c.args.t.now) c.args.grid.now c.args.d.now c.in-Some-least_not_parted.e.0 c.in-Some-least_not_parted.f.0 c.requires.fitting (met_over c.args.g.now (is_above c.args.t.now) c.args.grid.now c.args.d.now c.requires.fitting (met_apart c.args.g.now (is_above c.args.t.now) c.args.grid.now c.args.d.now c.requires.fitting (met_aligned c.args.g.now (is_above c.args.t.now) c.args.grid.now c.args.d.now c.requires.fitting (met_joined c.args.g.now (is_above c.args.t.now) c.args.grid.now c.args.d.now c.requires.fitting (met_ordered c.args.g.now (is_above c.args.t.now) c.args.grid.now c.args.d.now c.requires.fitting (met_line_on_grid c.args.g.now (is_above c.args.t.now) c.args.grid.now c.args.d.now c.requires.fitting (met_node_on_grid c.args.g.now (is_above c.args.t.now) c.args.grid.now c.args.d.now c.requires.fitting (none_below c.args.g.now (is_above c.args.t.now) c.args.grid.now c.args.d.now) c.in_default.ensures) c.in_default-line_off_grid.ensures.first) c.in_default-disordered.ensures) c.in_default-unjoined.ensures) c.in_default-unaligned.ensures) c.in_default-meeting.ensures) c.in_default-least_not_over.ensures) c.in-Some-least_not_parted.ensures
-
 pub returns : goal.returns
-returns c = lawful_is c.args.g.now (is_above c.args.t.now) c.args.grid.now c.args.d.now c.requires.fitting c.in_default-line_off_grid.ensures.are_lines (met_parted c.args.g.now (is_above c.args.t.now) c.args.grid.now c.args.d.now c.requires.fitting (met_over c.args.g.now (is_above c.args.t.now) c.args.grid.now c.args.d.now c.requires.fitting (met_apart c.args.g.now (is_above c.args.t.now) c.args.grid.now c.args.d.now c.requires.fitting (met_aligned c.args.g.now (is_above c.args.t.now) c.args.grid.now c.args.d.now c.requires.fitting (met_joined c.args.g.now (is_above c.args.t.now) c.args.grid.now c.args.d.now c.requires.fitting (met_ordered c.args.g.now (is_above c.args.t.now) c.args.grid.now c.args.d.now c.requires.fitting (met_line_on_grid c.args.g.now (is_above c.args.t.now) c.args.grid.now c.args.d.now c.requires.fitting (met_node_on_grid c.args.g.now (is_above c.args.t.now) c.args.grid.now c.args.d.now c.requires.fitting (none_below c.args.g.now (is_above c.args.t.now) c.args.grid.now c.args.d.now) c.in_default.ensures) c.in_default-line_off_grid.ensures.first) c.in_default-disordered.ensures) c.in_default-unjoined.ensures) c.in_default-unaligned.ensures) c.in_default-meeting.ensures) c.in_default-least_not_over.ensures) c.in_default-least_not_parted.ensures)
+returns c =
+    let q : Asked = record { graph = c.args.g.now; above = is_above c.args.t.now; grid = c.args.grid.now; drawing = c.args.d.now } in
+    let size = c.requires.fitting in
+    all_judged q c.or-7.result size c.line_off_grid.ensures.are_lines
+    (next q 7 _ _ _ c.or-7.ensures
+    (next q 6 _ _ _ c.or-6.ensures
+    (next q 5 _ _ _ c.or-5.ensures
+    (next q 4 _ _ _ c.or-4.ensures
+    (next q 3 _ _ _ c.or-3.ensures
+    (next q 2 _ _ _ c.or-2.ensures
+    (next q 1 _ _ _ c.or.ensures
+    (next q 0 None _ _ refl (begins q)
+    (searched_on_grid q size _ _ c.for_node.ensures c.node_off_grid.ensures))
+    (searched_lines q size _ _ c.for_edge.ensures c.line_off_grid.ensures.first))
+    (searched_nodes q 2 2 Ordered of_ordered (λ a b. refl) _ _ c.for_nodes.ensures c.disordered.ensures))
+    (searched_edge q 3 3 Joined of_joined (λ n. refl) _ _ c.for_edge-2.ensures c.unjoined.ensures))
+    (searched_node q 4 4 Aligned of_aligned (λ n. refl) _ _ c.for_node-2.ensures c.unaligned.ensures))
+    (searched_apart q size _ _ c.for_nodes-2.ensures c.meeting.ensures))
+    (searched_edges q 6 6 Over of_over (λ a b. refl) _ _ c.for_edges.ensures c.least_not_over.ensures))
+    (searched_edges q 7 7 Parted of_parted (λ a b. refl) _ _ c.for_edges-2.ensures c.least_not_parted.ensures))
