@@ -6,6 +6,8 @@ use Rattle.std.specs.List.{AllByRecursion}
 use Rattle.std.specs.Str.Parse.{AllDigits}
 use Rattle.std.proofs.lemmas.List.{append-nil}
 use Rattle.std.proofs.lemmas.Str.Parse.{digit_from_value}
+use Rattle.plan_core.specs.Exactly.{AnswersExactly}
+use Rattle.plan_core.proofs.ExactlyLemmas.{answers_exactly}
 use Rattle.cnf_core.specs.Lit.{Literal}
 use Rattle.cnf_core.specs.Clause.{AreThere}
 use Rattle.refute_log.specs.declared.line.LogLine.{LogLine}
@@ -17,7 +19,7 @@ use Rattle.refute_log.specs.declared.fault.LineTextFault.TheVariants.{Log, Memor
 use Rattle.refute_log.specs.Lines.{last_var, NamesOnce, literal_text, literals_text, line_text, header}
 use Rattle.refute_log.specs.LineForm.{Field, LineForm, IsNumber, AreNumbers, HasForm, form_text, spaced, fields_text, IsLiteral, HasRightNumbers}
 use Rattle.refute_log.specs.LineForm.LineForm.{FormulaForm, LearntForm, BoundForm, QueryForm, RefutedForm, ModelForm}
-use Rattle.refute_log.specs.LineText.{Spells, IsTextOf, HasFault, IsFaultOf}
+use Rattle.refute_log.specs.LineText.{Spells, IsTextOf, HasLineFault, IsWantOrFault, IsLineFault}
 use Rattle.refute_log.specs.OneText.{criterion_once, is_decimal, log_text_once}
 use Rattle.refute_log.proofs.ReadingLemmas.{ahead, zero_is_one, same_cut, no_cut, number_is_one, regroup, spaced_literals}
 
@@ -103,21 +105,21 @@ line_form text (Refuted c) h = record { form = RefutedForm (map literal_text c);
 line_form text Model h = record { form = ModelForm; has = record { is_form = tt; spelled = sym h.spelled }; right = tt }
 
 -- faults exclude each other, and lines
-no_form_no_line : (text : List ℕ) (line : LogLine) → Spells text line → HasFault text Form → ⊥
+no_form_no_line : (text : List ℕ) (line : LogLine) → Spells text line → HasLineFault text Form → ⊥
 no_form_no_line text line s f = let r = line_form text line s in f r.form r.has
 
-wrong_number_no_line : (text : List ℕ) (line : LogLine) → Spells text line → HasFault text Number → ⊥
+wrong_number_no_line : (text : List ℕ) (line : LogLine) → Spells text line → HasLineFault text Number → ⊥
 wrong_number_no_line text line s f =
     let r = line_form text line s in
     f.2 (subst HasRightNumbers (form_once text r.form f.0 r.has f.1) r.right)
 
-pub line_no_fault : (text : List ℕ) (line : LogLine) (what : LogWhat) → IsTextOf text line → HasFault text what → ⊥
+pub line_no_fault : (text : List ℕ) (line : LogLine) (what : LogWhat) → IsTextOf text line → HasLineFault text what → ⊥
 line_no_fault text line Header t f = f
 line_no_fault text line Form t f = no_form_no_line text line t.spells f
 line_no_fault text line Number t f = wrong_number_no_line text line t.spells f
 line_no_fault text line Twice t f = f.2 (subst NamesOnce (line_once text line f.0 t.spells f.1) t.once)
 
-pub fault_once : (text : List ℕ) (a b : LogWhat) → HasFault text a → HasFault text b → a ≡ b
+pub fault_once : (text : List ℕ) (a b : LogWhat) → HasLineFault text a → HasLineFault text b → a ≡ b
 fault_once text Form Form f g = refl
 fault_once text Form Number f g = absurd (f g.0 g.1)
 fault_once text Form Twice f g = absurd (no_form_no_line text g.0 g.1 f)
@@ -133,17 +135,23 @@ fault_once text Number Header f g = absurd g
 fault_once text Twice Header f g = absurd g
 
 -- so an answer that is right is the only one
-pub told : (text : List ℕ) (number : ℕ) (r : Result LogLine LineTextFault) → IfOk r (IsTextOf text) → IfErr r (IsFaultOf text number) → (what : LogWhat) → HasFault text what → IsErrOf r (Log what number) ⊎ IsErrOf r Memory
-told text number (Ok line) ok err what f = absurd (line_no_fault text line what ok f)
-told text number (Err Memory) ok err what f = inr refl
-told text number (Err (Log other at)) ok err what f =
-    let same : other ≡ what = fault_once text other what err.1 f in
-    inl (cc (same, err.0))
+fault_at_once : (text : List ℕ) (number : ℕ) (e f : LineTextFault) → IsLineFault text number e → IsLineFault text number f → e ≡ f
+fault_at_once text number (Log a m) (Log b n) h k = let same : a ≡ b = fault_once text a b h.1 k.1 in cc (same, h.0, k.0)
+fault_at_once text number (Log a m) Memory h k = absurd k
+fault_at_once text number Memory f h k = absurd h
 
-pub read_again : (text : List ℕ) (number : ℕ) (r : Result LogLine LineTextFault) → IfOk r (IsTextOf text) → IfErr r (IsFaultOf text number) → (line : LogLine) → IsTextOf text line → MatchResult r (λ read. read ≡ line) (λ e. e ≡ Memory)
-read_again text number (Ok read) ok err line t = line_once text read line ok.spells t.spells
-read_again text number (Err Memory) ok err line t = refl
-read_again text number (Err (Log other at)) ok err line t = absurd (line_no_fault text line other t err.1)
+not_line_and_fault : (text : List ℕ) (number : ℕ) (line : LogLine) (f : LineTextFault) → IsTextOf text line → IsLineFault text number f → ⊥
+not_line_and_fault text number line (Log what n) t h = line_no_fault text line what t h.1
+not_line_and_fault text number line Memory t h = h
+
+want_or_fault : (text : List ℕ) (number : ℕ) (r : Result LogLine LineTextFault) → IfErr r (IsWantOrFault text number) → IfErr r (λ e. (e ≡ Memory) ⊎ IsLineFault text number e)
+want_or_fault text number (Ok line) h = tt
+want_or_fault text number (Err (Log what n)) h = inr h
+want_or_fault text number (Err Memory) h = inl refl
+
+pub read_exactly : (text : List ℕ) (number : ℕ) (r : Result LogLine LineTextFault) → IfOk r (IsTextOf text) → IfErr r (IsWantOrFault text number) → AnswersExactly r Memory (IsTextOf text) (IsLineFault text number)
+read_exactly text number r line fault = answers_exactly r Memory (IsTextOf text) (IsLineFault text number) line (want_or_fault text number r fault)
+    (λ a b h k. line_once text a b h.spells k.spells) (fault_at_once text number) (not_line_and_fault text number)
 
 -- a form whose numbers are right is that of a line
 record OfLiterals (fields : List Field) : Type 0 where

@@ -14,7 +14,7 @@ use Rattle.refute_log.specs.declared.fault.LineTextFault.TheVariants.{Log, Memor
 use Rattle.refute_log.specs.Lines.{last_bound, last_var, criterion_text}
 use Rattle.refute_log.specs.LineForm.{Field, spaced, fields_text, IsNumber, IsCounted}
 use Rattle.refute_log.specs.LineForm.LineForm.{FormulaForm, LearntForm, BoundForm, QueryForm, RefutedForm, ModelForm}
-use Rattle.refute_log.specs.LineText.{IsTextOf, HasFault, IsFaultWhere, IsFaultOf}
+use Rattle.refute_log.specs.LineText.{IsTextOf, HasLineFault, IsFaultWhere, IsWantOrFault}
 use Rattle.refute_log.specs.FieldText.{IsOneField, IsCut, HasBound, HasFields, HasLiterals, HasFieldsFault}
 use Rattle.refute_log.proofs.ReadingLemmas.{zero_is_one, SameCut, same_cut, no_cut, number_is_one, regroup}
 
@@ -41,37 +41,37 @@ pub learnt_is : (text : List ℕ) (c : List Literal) → (text ≡ 48 ∷ [] →
 learnt_is text c not h d = record { spells = record { formed = (h.there, some_literal text c not h); spelled = ap (λ (t : List ℕ). 108 ∷ 32 ∷ t) (sym h.spelled) }; once = d }
 
 -- and their faults
-formula_form : (text : List ℕ) → HasFieldsFault text Form → HasFault (102 ∷ 32 ∷ text) Form
+formula_form : (text : List ℕ) → HasFieldsFault text Form → HasLineFault (102 ∷ 32 ∷ text) Form
 formula_form text h (FormulaForm fields) k = h fields (record { numbers = k.is_form; spelled = let e = k.spelled in cc })
 formula_form text h form k = let z = ap (λ (t : List ℕ). get_or t 0 0) k.spelled in absurd (omega arith)
 
-formula_wrong : (text : List ℕ) (what : LogWhat) → HasFieldsFault text what → HasFault (102 ∷ 32 ∷ text) what
+formula_wrong : (text : List ℕ) (what : LogWhat) → HasFieldsFault text what → HasLineFault (102 ∷ 32 ∷ text) what
 formula_wrong text Header h = h
 formula_wrong text Form h = formula_form text h
 formula_wrong text Number h = (FormulaForm h.0, record { is_form = h.1.numbers; spelled = ap (λ (t : List ℕ). 102 ∷ 32 ∷ t) h.1.spelled }, h.2)
 formula_wrong text Twice h = (Formula h.0, record { formed = h.1.there; spelled = ap (λ (t : List ℕ). 102 ∷ 32 ∷ t) (sym h.1.spelled) }, h.2)
 
-query_form : (text : List ℕ) → HasFieldsFault text Form → HasFault (113 ∷ 32 ∷ text) Form
+query_form : (text : List ℕ) → HasFieldsFault text Form → HasLineFault (113 ∷ 32 ∷ text) Form
 query_form text h (QueryForm fields) k = h fields (record { numbers = k.is_form; spelled = let e = k.spelled in cc })
 query_form text h form k = let z = ap (λ (t : List ℕ). get_or t 0 0) k.spelled in absurd (omega arith)
 
-query_wrong : (text : List ℕ) (what : LogWhat) → HasFieldsFault text what → HasFault (113 ∷ 32 ∷ text) what
+query_wrong : (text : List ℕ) (what : LogWhat) → HasFieldsFault text what → HasLineFault (113 ∷ 32 ∷ text) what
 query_wrong text Header h = h
 query_wrong text Form h = query_form text h
 query_wrong text Number h = (QueryForm h.0, record { is_form = h.1.numbers; spelled = ap (λ (t : List ℕ). 113 ∷ 32 ∷ t) h.1.spelled }, h.2)
 query_wrong text Twice h = (Query h.0, record { formed = h.1.there; spelled = ap (λ (t : List ℕ). 113 ∷ 32 ∷ t) (sym h.1.spelled) }, h.2)
 
-refuted_form : (text : List ℕ) → HasFieldsFault text Form → HasFault (114 ∷ 32 ∷ text) Form
+refuted_form : (text : List ℕ) → HasFieldsFault text Form → HasLineFault (114 ∷ 32 ∷ text) Form
 refuted_form text h (RefutedForm fields) k = h fields (record { numbers = k.is_form; spelled = let e = k.spelled in cc })
 refuted_form text h form k = let z = ap (λ (t : List ℕ). get_or t 0 0) k.spelled in absurd (omega arith)
 
-refuted_wrong : (text : List ℕ) (what : LogWhat) → HasFieldsFault text what → HasFault (114 ∷ 32 ∷ text) what
+refuted_wrong : (text : List ℕ) (what : LogWhat) → HasFieldsFault text what → HasLineFault (114 ∷ 32 ∷ text) what
 refuted_wrong text Header h = h
 refuted_wrong text Form h = refuted_form text h
 refuted_wrong text Number h = (RefutedForm h.0, record { is_form = h.1.numbers; spelled = ap (λ (t : List ℕ). 114 ∷ 32 ∷ t) h.1.spelled }, h.2)
 refuted_wrong text Twice h = (Refuted h.0, record { formed = h.1.there; spelled = ap (λ (t : List ℕ). 114 ∷ 32 ∷ t) (sym h.1.spelled) }, h.2)
 
-learnt_form : (text : List ℕ) → HasFieldsFault text Form → HasFault (108 ∷ 32 ∷ text) Form
+learnt_form : (text : List ℕ) → HasFieldsFault text Form → HasLineFault (108 ∷ 32 ∷ text) Form
 learnt_form text h (LearntForm fields) k = h fields (record { numbers = k.is_form.0; spelled = let e = k.spelled in cc })
 learnt_form text h form k = let z = ap (λ (t : List ℕ). get_or t 0 0) k.spelled in absurd (omega arith)
 
@@ -79,33 +79,33 @@ some_field : (text : List ℕ) (fields : List Field) → (text ≡ 48 ∷ [] →
 some_field text [] not h = absurd (not h.spelled)
 some_field text (f ∷ fields) not h = omega arith
 
-learnt_wrong : (text : List ℕ) → (text ≡ 48 ∷ [] → ⊥) → (what : LogWhat) → HasFieldsFault text what → HasFault (108 ∷ 32 ∷ text) what
+learnt_wrong : (text : List ℕ) → (text ≡ 48 ∷ [] → ⊥) → (what : LogWhat) → HasFieldsFault text what → HasLineFault (108 ∷ 32 ∷ text) what
 learnt_wrong text not Header h = h
 learnt_wrong text not Form h = learnt_form text h
 learnt_wrong text not Number h = (LearntForm h.0, record { is_form = (h.1.numbers, some_field text h.0 not h.1); spelled = ap (λ (t : List ℕ). 108 ∷ 32 ∷ t) h.1.spelled }, h.2)
 learnt_wrong text not Twice h = (Learnt h.0, record { formed = (h.1.there, some_literal text h.0 not h.1); spelled = ap (λ (t : List ℕ). 108 ∷ 32 ∷ t) (sym h.1.spelled) }, h.2)
 
-pub formula_fault : (text : List ℕ) (line : ℕ) (fault : LineTextFault) → IsFaultWhere (HasFieldsFault text) line fault → IsFaultOf (102 ∷ 32 ∷ text) line fault
-formula_fault text line fault h = fault_as (HasFieldsFault text) (HasFault (102 ∷ 32 ∷ text)) (formula_wrong text) line fault h
+pub formula_fault : (text : List ℕ) (line : ℕ) (fault : LineTextFault) → IsFaultWhere (HasFieldsFault text) line fault → IsWantOrFault (102 ∷ 32 ∷ text) line fault
+formula_fault text line fault h = fault_as (HasFieldsFault text) (HasLineFault (102 ∷ 32 ∷ text)) (formula_wrong text) line fault h
 
-pub query_fault : (text : List ℕ) (line : ℕ) (fault : LineTextFault) → IsFaultWhere (HasFieldsFault text) line fault → IsFaultOf (113 ∷ 32 ∷ text) line fault
-query_fault text line fault h = fault_as (HasFieldsFault text) (HasFault (113 ∷ 32 ∷ text)) (query_wrong text) line fault h
+pub query_fault : (text : List ℕ) (line : ℕ) (fault : LineTextFault) → IsFaultWhere (HasFieldsFault text) line fault → IsWantOrFault (113 ∷ 32 ∷ text) line fault
+query_fault text line fault h = fault_as (HasFieldsFault text) (HasLineFault (113 ∷ 32 ∷ text)) (query_wrong text) line fault h
 
-pub refuted_fault : (text : List ℕ) (line : ℕ) (fault : LineTextFault) → IsFaultWhere (HasFieldsFault text) line fault → IsFaultOf (114 ∷ 32 ∷ text) line fault
-refuted_fault text line fault h = fault_as (HasFieldsFault text) (HasFault (114 ∷ 32 ∷ text)) (refuted_wrong text) line fault h
+pub refuted_fault : (text : List ℕ) (line : ℕ) (fault : LineTextFault) → IsFaultWhere (HasFieldsFault text) line fault → IsWantOrFault (114 ∷ 32 ∷ text) line fault
+refuted_fault text line fault h = fault_as (HasFieldsFault text) (HasLineFault (114 ∷ 32 ∷ text)) (refuted_wrong text) line fault h
 
-pub learnt_fault : (text : List ℕ) → (text ≡ 48 ∷ [] → ⊥) → (line : ℕ) (fault : LineTextFault) → IsFaultWhere (HasFieldsFault text) line fault → IsFaultOf (108 ∷ 32 ∷ text) line fault
-learnt_fault text not line fault h = fault_as (HasFieldsFault text) (HasFault (108 ∷ 32 ∷ text)) (learnt_wrong text not) line fault h
+pub learnt_fault : (text : List ℕ) → (text ≡ 48 ∷ [] → ⊥) → (line : ℕ) (fault : LineTextFault) → IsFaultWhere (HasFieldsFault text) line fault → IsWantOrFault (108 ∷ 32 ∷ text) line fault
+learnt_fault text not line fault h = fault_as (HasFieldsFault text) (HasLineFault (108 ∷ 32 ∷ text)) (learnt_wrong text not) line fault h
 
 -- a Learnt line has a literal
-pub no_learnt : (text : List ℕ) → text ≡ 48 ∷ [] → HasFault (108 ∷ 32 ∷ text) Form
+pub no_learnt : (text : List ℕ) → text ≡ 48 ∷ [] → HasLineFault (108 ∷ 32 ∷ text) Form
 no_learnt text e (LearntForm []) k = omega (arith, k.is_form.1)
 no_learnt text e (LearntForm (f ∷ fields)) k =
     no_cut (48 ∷ []) f (fields_text fields) zero_is_one (sym e ∙ (let s = k.spelled in cc) ∙ regroup f (spaced fields) (48 ∷ []))
 no_learnt text e form k = let z = ap (λ (t : List ℕ). get_or t 0 0) k.spelled in absurd (omega arith)
 
 -- the letter is that of no line
-pub no_letter : (letter : ℕ) (text : List ℕ) → letter ≢ 102 → letter ≢ 108 → letter ≢ 98 → letter ≢ 113 → letter ≢ 114 → HasFault (letter ∷ 32 ∷ text) Form
+pub no_letter : (letter : ℕ) (text : List ℕ) → letter ≢ 102 → letter ≢ 108 → letter ≢ 98 → letter ≢ 113 → letter ≢ 114 → HasLineFault (letter ∷ 32 ∷ text) Form
 no_letter letter text f l b q r (FormulaForm fields) k = f (let e = k.spelled in cc)
 no_letter letter text f l b q r (LearntForm fields) k = l (let e = k.spelled in cc)
 no_letter letter text f l b q r (BoundForm criterion k x) h = b (let e = h.spelled in cc)
@@ -114,7 +114,7 @@ no_letter letter text f l b q r (RefutedForm fields) k = r (let e = k.spelled in
 no_letter letter text f l b q r ModelForm k = let e = k.spelled in cc
 
 -- no letter and space stand in front
-pub no_front : (text : List ℕ) → ((letter : ℕ) (rest : List ℕ) → text ≢ letter ∷ 32 ∷ rest) → (text ≡ 109 ∷ [] → ⊥) → HasFault text Form
+pub no_front : (text : List ℕ) → ((letter : ℕ) (rest : List ℕ) → text ≢ letter ∷ 32 ∷ rest) → (text ≡ 109 ∷ [] → ⊥) → HasLineFault text Form
 no_front text h m (FormulaForm fields) k = h 102 (fields_text fields) k.spelled
 no_front text h m (LearntForm fields) k = h 108 (fields_text fields) k.spelled
 no_front text h m (BoundForm criterion k x) e = h 98 (criterion_text criterion ++ 32 ∷ (k ++ 32 ∷ x)) e.spelled
@@ -156,5 +156,5 @@ no_numbers text word rest k x cut second either = λ c l y h.
       | inr not ↦ not (subst IsNumber (sym same.rest) h.x_number)
     ]
 
-pub wrong_bound : (text : List ℕ) (c : Criterion) (k x : Field) → HasBound text c k x → (IsCounted last_bound k × IsCounted last_var x → ⊥) → HasFault (98 ∷ 32 ∷ text) Number
+pub wrong_bound : (text : List ℕ) (c : Criterion) (k x : Field) → HasBound text c k x → (IsCounted last_bound k × IsCounted last_var x → ⊥) → HasLineFault (98 ∷ 32 ∷ text) Number
 wrong_bound text c k x h not = (BoundForm c k x, record { is_form = (h.k_number, h.x_number); spelled = ap (λ (t : List ℕ). 98 ∷ 32 ∷ t) h.spelled }, not)

@@ -1,5 +1,6 @@
 pub mod Lines
 pub mod Told
+pub mod Faults
 pub mod Log
 pub mod LineList
 pub mod OneText

@@ -20,17 +20,22 @@ pub record IsTextOf (text : List ℕ) (line : LogLine) : Type 0 where
 
 -- no form has the text; a form has it, but some number isn't right; a line has it, but some variable
 -- stands twice
-abbrev pub HasFault : List ℕ → LogWhat → Type 0
-HasFault text Header = ⊥
-HasFault text Form = (form : LineForm) → HasForm text form → ⊥
-HasFault text Number = (form : LineForm) × HasForm text form × (HasRightNumbers form → ⊥)
-HasFault text Twice = (line : LogLine) × Spells text line × (NamesOnce line → ⊥)
+abbrev pub HasLineFault : List ℕ → LogWhat → Type 0
+HasLineFault text Header = ⊥
+HasLineFault text Form = (form : LineForm) → HasForm text form → ⊥
+HasLineFault text Number = (form : LineForm) × HasForm text form × (HasRightNumbers form → ⊥)
+HasLineFault text Twice = (line : LogLine) × Spells text line × (NamesOnce line → ⊥)
 
 -- want of memory, or such a fault at this line
 abbrev pub IsFaultWhere : (LogWhat → Type 0) → ℕ → LineTextFault → Type 0
 IsFaultWhere Has number (Log what line) = (line ≡ number) × Has what
 IsFaultWhere Has number Memory = ⊤
 
--- the fault is that of the text, and names the line by its number
-abbrev pub IsFaultOf : List ℕ → ℕ → LineTextFault → Type 0
-IsFaultOf text number fault = IsFaultWhere (HasFault text) number fault
+-- want of memory, or the fault of the text, which names the line by its number
+abbrev pub IsWantOrFault : List ℕ → ℕ → LineTextFault → Type 0
+IsWantOrFault text number fault = IsFaultWhere (HasLineFault text) number fault
+
+-- the fault of the text, which names the line by its number; want of memory is none
+abbrev pub IsLineFault : List ℕ → ℕ → LineTextFault → Type 0
+IsLineFault text number (Log what line) = (line ≡ number) × HasLineFault text what
+IsLineFault text number Memory = ⊥

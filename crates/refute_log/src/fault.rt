@@ -1,5 +1,6 @@
 // What can be wrong with the text of a log.
 ghost use Rattle.std.specs.Prelude.{◌≡◌};
+ghost use Rattle.refute_log.specs.Faults.{number_of, word_of};
 ghost use Rattle.refute_log.specs.declared.fault.LineTextFault.TheVariants.{Memory};
 
 use plan_core::OutOfMemory;
@@ -18,6 +19,32 @@ pub enum LogWhat {
     Number,
     /// A variable stands twice in the line.
     Twice,
+}
+
+impl LogWhat {
+    /// The fault's number, from 1 to 4.
+    pub fn number(&self) -> u8
+        ensures { result ≡ number_of self.now }
+    {
+        match self {
+            LogWhat::Header => 1,
+            LogWhat::Form => 2,
+            LogWhat::Number => 3,
+            LogWhat::Twice => 4,
+        }
+    }
+
+    /// The fault's word, as a fault line has it.
+    pub fn word(&self) -> &'static str
+        ensures { result.now ≡ word_of self.now }
+    {
+        match self {
+            LogWhat::Header => "Header",
+            LogWhat::Form => "Form",
+            LogWhat::Number => "Number",
+            LogWhat::Twice => "Twice",
+        }
+    }
 }
 
 /// Why a text isn't read as a line of a log.

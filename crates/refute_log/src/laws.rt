@@ -4,7 +4,7 @@ ghost use Rattle.refute_log.specs.declared.line.LogLine.{LogLine as Line};
 ghost use Rattle.refute_log.specs.declared.fault.LogWhat.{LogWhat as What};
 ghost use Rattle.refute_log.specs.Lines.{IsWellFormed, line_text};
 ghost use Rattle.refute_log.specs.LineForm.{LineForm, HasForm, HasRightNumbers};
-ghost use Rattle.refute_log.specs.LineText.{Spells, IsTextOf, HasFault};
+ghost use Rattle.refute_log.specs.LineText.{Spells, IsTextOf, HasLineFault};
 
 use crate::LogLine;
 
@@ -43,6 +43,6 @@ pub fn written_is_read_again(line: &LogLine)
 /// A text has one fault at most, and none where it is that of a line in which no variable stands
 /// twice.
 pub fn one_line_or_one_fault()
-    ensures fault { (text : List ℕ) (a b : What) → HasFault text a → HasFault text b → a ≡ b }
-    ensures line { (text : List ℕ) (line : Line) (what : What) → IsTextOf text line → HasFault text what → ⊥ }
+    ensures fault { (text : List ℕ) (a b : What) → HasLineFault text a → HasLineFault text b → a ≡ b }
+    ensures line { (text : List ℕ) (line : Line) (what : What) → IsTextOf text line → HasLineFault text what → ⊥ }
 {}

@@ -1,11 +1,10 @@
 // A line, read from its text.
 ghost use Rattle.std.specs.Prelude.{◌≡◌, ◌≢◌, ◌≤◌, ◌⊎◌, ◌↔◌, ◌++◌, ◌∷◌, ℕ, List, codes, decimal, MatchOption, MatchResult, IfOk, IfErr, IsErrOf, IsTrue};
+ghost use Rattle.plan_core.specs.Exactly.{AnswersExactly};
 ghost use Rattle.plan_core.specs.declared.criterion.Criterion.{Criterion as Bounded};
-ghost use Rattle.refute_log.specs.declared.line.LogLine.{LogLine as Line};
-ghost use Rattle.refute_log.specs.declared.fault.LogWhat.{LogWhat as What};
 ghost use Rattle.refute_log.specs.Lines.{last_bound, last_var, criterion_text};
 ghost use Rattle.refute_log.specs.LineForm.{Field, IsCounted};
-ghost use Rattle.refute_log.specs.LineText.{IsTextOf, HasFault, IsFaultOf};
+ghost use Rattle.refute_log.specs.LineText.{IsTextOf, IsWantOrFault, IsLineFault};
 ghost use Rattle.refute_log.specs.FieldText.{HasBound};
 
 use crate::fields::{cut, is_number, read_number};
@@ -56,7 +55,7 @@ fn read_bounded(k: &[u8], variable: &[u8]) -> Option<(u32, u32)>
 /// The Bound line of the text behind its letter.
 fn read_bound(text: &[u8], line: u32) -> Result<LogLine, LineTextFault>
     ensures line { IfOk result (IsTextOf (codes "b " ++ text.now)) }
-    ensures fault { IfErr result (IsFaultOf (codes "b " ++ text.now) line) }
+    ensures fault { IfErr result (IsWantOrFault (codes "b " ++ text.now) line) }
 {
     let Some((criterion, k, variable)) = split_bound(text) else {
         return Err(LineTextFault::Log {
@@ -80,7 +79,7 @@ fn read_bound(text: &[u8], line: u32) -> Result<LogLine, LineTextFault>
 /// The Learnt line of the text behind its letter.
 fn read_learnt(alloc: Global, text: &[u8], line: u32) -> Result<LogLine, LineTextFault>
     ensures line { IfOk result (IsTextOf (codes "l " ++ text.now)) }
-    ensures fault { IfErr result (IsFaultOf (codes "l " ++ text.now) line) }
+    ensures fault { IfErr result (IsWantOrFault (codes "l " ++ text.now) line) }
 {
     if is_end(text) {
         return Err(LineTextFault::Log {
@@ -99,7 +98,7 @@ fn read_lettered(
     line: u32,
 ) -> Result<LogLine, LineTextFault>
     ensures line { IfOk result (IsTextOf (letter ∷ (codes " " ++ text.now))) }
-    ensures fault { IfErr result (IsFaultOf (letter ∷ (codes " " ++ text.now)) line) }
+    ensures fault { IfErr result (IsWantOrFault (letter ∷ (codes " " ++ text.now)) line) }
 {
     match letter {
         b'f' => Ok(LogLine::Formula(read_clause(alloc, text, line)?)),
@@ -133,7 +132,7 @@ fn is_model(text: &[u8]) -> bool
 /// The line that the text is, or its fault.
 fn read_text(alloc: Global, text: &[u8], line: u32) -> Result<LogLine, LineTextFault>
     ensures line { IfOk result (IsTextOf text.now) }
-    ensures fault { IfErr result (IsFaultOf text.now line) }
+    ensures fault { IfErr result (IsWantOrFault text.now line) }
 {
     match split_letter(text) {
         Some((letter, rest)) => read_lettered(alloc, letter, rest, line),
@@ -154,14 +153,7 @@ fn read_text(alloc: Global, text: &[u8], line: u32) -> Result<LogLine, LineTextF
 /// number of the line in its log, which a fault names; the first line of a log's text is line 1.
 /// `Form` comes before `Number`, and `Number` before `Twice`; `Header` never comes.
 pub fn read_line(alloc: Global, text: &[u8], number: u32) -> Result<LogLine, LineTextFault>
-    ensures line { IfOk result (IsTextOf text.now) }
-    ensures fault { IfErr result (IsFaultOf text.now number) }
-    // A text with a fault is answered by that fault, and by nothing else.
-    ensures told { (what : What) → HasFault text.now what →
-        IsErrOf result (LineTextFault.Log what number) ⊎ IsErrOf result LineTextFault.Memory }
-    // The text of a line, as `write_line` writes it, is read as the same line.
-    ensures read_again { (line : Line) → IsTextOf text.now line →
-        MatchResult result (λ read. read ≡ line) (λ e. e ≡ LineTextFault.Memory) }
+    ensures { AnswersExactly result LineTextFault.Memory (IsTextOf text.now) (IsLineFault text.now number) }
 {
     read_text(alloc, text, number)
 }
