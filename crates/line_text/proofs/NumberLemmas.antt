@@ -1,5 +1,5 @@
 -- Numbers and their canonical decimals.
-use Rattle.std.proofs.Common.{◌≡◌, ◌≢◌, ◌⊎◌, inl, inr, ℕ, zero, suc, ◌<◌, ◌≤◌, ◌^◌, List, [], ◌∷◌, length, get_or, Result, Ok, Err, Option, Some, None, MatchOption, MatchResult, refl, sym, ◌∙◌, ap, subst, arith, lit<}
+use Rattle.std.proofs.Common.{◌≡◌, ◌≢◌, ◌⊎◌, inl, inr, ℕ, zero, suc, ◌<◌, ◌≤◌, ◌^◌, List, [], ◌∷◌, length, get_or, Result, Ok, Err, Option, MatchOption, refl, sym, ◌∙◌, ap, subst, arith, lit<}
 use Rattle.std.specs.Fmt.{decimal}
 use Rattle.std.specs.Result.{result_ok}
 use Rattle.std.specs.Str.{IsUtf8}
@@ -7,26 +7,9 @@ use Rattle.std.specs.Str.Parse.{AllDigits, ParsesUnsigned, digits_value}
 use Rattle.std.proofs.lemmas.Str.{IsUtf8-from_ascii}
 use Rattle.std.proofs.lemmas.Str.Parse.{IsNumeralModel, numerals_by_value, tells_digits, digit_from_value, parse_plain}
 use Rattle.std.proofs.lemmas.Fmt.{decimal_is_IsNumeral, decimal-digits_value, decimal_digit, parse-decimal, first_decimal, decimal_injective, IsAscii-decimal}
+use Rattle.plan_core.proofs.OptionFacts.{none_at, some_at}
 use Rattle.line_text.specs.Fields.{EndsField, IsOneField}
 use Rattle.line_text.specs.Numbers.{BeginsCanonical}
-
--- ---- options and results whose variant is known
-
-pub none_at : {A : Type 0} (o : Option A) (P : Type 0) (Q : A → Type 0) → o ≡ None → P → MatchOption o P Q
-none_at None P Q e h = h
-none_at (Some x) P Q e h = cc
-
-pub some_at : {A : Type 0} (o : Option A) (P : Type 0) (Q : A → Type 0) (x : A) → o ≡ Some x → Q x → MatchOption o P Q
-some_at {A} None P Q x e h = cc
-some_at {A} (Some y) P Q x e h = let same : x ≡ y = cc in subst Q same h
-
-pub from_err : {A E : Type 0} (r : Result A E) (o : Option A) (P : A → Type 0) (Q : E → Type 0) (R : Type 0) → MatchResult r P Q → o ≡ result_ok r → o ≡ None → ((e : E) → Q e → R) → R
-from_err (Ok x) o P Q R m e n f = cc
-from_err (Err x) o P Q R m e n f = f x m
-
-pub from_ok : {A E : Type 0} (r : Result A E) (o : Option A) (P : A → Type 0) (Q : E → Type 0) (x : A) → MatchResult r P Q → o ≡ result_ok r → o ≡ Some x → P x
-from_ok (Ok y) o P Q x m e s = let same : y ≡ x = cc in subst P same m
-from_ok (Err y) o P Q x m e s = cc
 
 result_cases : {A E : Type 0} (r : Result A E) → ((x : A) × (r ≡ Ok x)) ⊎ ((x : E) × (r ≡ Err x))
 result_cases (Ok x) = inl (x, refl)

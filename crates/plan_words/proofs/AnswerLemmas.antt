@@ -23,7 +23,7 @@ use Rattle.plan_words.specs.declared.fault.WordFault.TheVariants as answers
 use Rattle.plan_words.specs.OptionValues.{IsOrderText}
 use Rattle.plan_words.specs.Arguments.{arguments_from, files_in}
 use Rattle.plan_words.specs.WordFaults.{command_word, number_of, SomeHasWordFault, IsLeftmost, file_names, IsFirstRepeat, IsMissing, HasOneNameTwice, IsFaultOfArguments, IsFaultBehind, IsFaultOfWords}
-use Rattle.plan_words.specs.Words.{default_order, IsChosen, kind_of, HasParts, AreSoundArguments, IsCommandOf, IsWordFault}
+use Rattle.plan_words.specs.Words.{default_order, IsChosen, command_kind, HasParts, AreSoundArguments, IsCommandOf, IsWordFault}
 use Rattle.plan_words.proofs.OrderTextLemmas.{criteria_text_injective}
 
 -- ---- words of commands and numbers of faults are distinct
@@ -171,7 +171,7 @@ fault_of_command command rest what position sound (inr x) =
 pub command_or_fault : (list : List (List ℕ)) (command : Command) (what : WordWhat) (position : ℕ) → IsCommandOf list command → IsFaultOfWords list what position → ⊥
 command_or_fault list command what position x fault =
     let P : List (List ℕ) → Type 0 = λ all. IsFaultOfWords all what position in
-    fault_of_command (kind_of command) x.rest what position x.sound (subst P x.first fault)
+    fault_of_command (command_kind command) x.rest what position x.sound (subst P x.first fault)
 
 -- ---- one command
 
@@ -192,7 +192,7 @@ same_grid a b width height least =
     ∙ ap (λ (h : ℕ). grid_with b.width h a.least) height
     ∙ ap (λ (l : ℕ). grid_with b.width b.height l) least
 
-same_parts : (arguments : List Argument) (a b : Command) → kind_of a ≡ kind_of b → HasParts arguments a → HasParts arguments b → a ≡ b
+same_parts : (arguments : List Argument) (a b : Command) → command_kind a ≡ command_kind b → HasParts arguments a → HasParts arguments b → a ≡ b
 same_parts arguments (Draw i g o n s l) (Draw j h r m t k) word x y =
     let names : i ∷ [] ≡ j ∷ [] = sym x.names ∙ y.names in
     let input : i ≡ j = cc in
@@ -218,11 +218,11 @@ same_parts arguments a b word x y = cc word
 
 pub command_same : (list : List (List ℕ)) (a b : Command) → IsCommandOf list a → IsCommandOf list b → a ≡ b
 command_same list a b x y =
-    let e : command_word (kind_of a) ∷ x.rest ≡ command_word (kind_of b) ∷ y.rest = sym x.first ∙ y.first in
-    let word : command_word (kind_of a) ≡ command_word (kind_of b) = cc in
+    let e : command_word (command_kind a) ∷ x.rest ≡ command_word (command_kind b) ∷ y.rest = sym x.first ∙ y.first in
+    let word : command_word (command_kind a) ≡ command_word (command_kind b) = cc in
     let rest : x.rest ≡ y.rest = cc in
     let P : List (List ℕ) → Type 0 = λ r. HasParts (arguments_from 2 r) a in
-    same_parts (arguments_from 2 y.rest) a b (command_word_injective (kind_of a) (kind_of b) word) (subst P rest x.parts) y.parts
+    same_parts (arguments_from 2 y.rest) a b (command_word_injective (command_kind a) (command_kind b) word) (subst P rest x.parts) y.parts
 
 -- ---- an answer
 

@@ -8,7 +8,7 @@ use Rattle.plan_words.specs.declared.fault.WordWhat.{WordWhat}
 use Rattle.plan_words.specs.declared.fault.WordWhat.TheVariants.{NoCommand, UnknownCommand, MissingName, ExtraWord, UnknownOption, RepeatedOption, BadValue}
 use Rattle.plan_words.specs.Arguments.{is_option, arguments_from}
 use Rattle.plan_words.specs.WordFaults.{HasWordFault}
-use Rattle.plan_words.specs.Soundness.{place_of, next_place, StandFrom}
+use Rattle.plan_words.specs.Soundness.{argument_place, next_place, StandFrom}
 
 pub arguments_stand : (at : ℕ) (words : List (List ℕ)) → StandFrom at (arguments_from at words)
 arguments_stand at [] = tt
@@ -21,12 +21,12 @@ arguments_stand at (word ∷ next ∷ words) =
     ]
 
 -- an argument reaches over at least one word and at most two
-pub next_within : (argument : Argument) → (place_of argument < next_place argument) × (next_place argument ≤ place_of argument + 2)
+pub next_within : (argument : Argument) → (argument_place argument < next_place argument) × (next_place argument ≤ argument_place argument + 2)
 next_within (Name at word) = (omega arith, omega arith)
 next_within (Setting at word value) = (omega arith, omega arith)
 
 -- a later argument stands behind
-pub stands_behind : (at : ℕ) (before : List Argument) (argument : Argument) (after : List Argument) → StandFrom at (before ++ argument ∷ after) → at ≤ place_of argument
+pub stands_behind : (at : ℕ) (before : List Argument) (argument : Argument) (after : List Argument) → StandFrom at (before ++ argument ∷ after) → at ≤ argument_place argument
 stands_behind at [] argument after h = let e = h.0 in omega (arith, e)
 stands_behind at (first ∷ before) argument after h =
     let e = h.0 in
@@ -35,7 +35,7 @@ stands_behind at (first ∷ before) argument after h =
     omega (arith, e, later, within)
 
 -- and not far behind
-pub stands_near : (at : ℕ) (before : List Argument) (argument : Argument) (after : List Argument) → StandFrom at (before ++ argument ∷ after) → place_of argument ≤ at + 2 * length before
+pub stands_near : (at : ℕ) (before : List Argument) (argument : Argument) (after : List Argument) → StandFrom at (before ++ argument ∷ after) → argument_place argument ≤ at + 2 * length before
 stands_near at [] argument after h = let e = h.0 in omega (arith, e)
 stands_near at (first ∷ before) argument after h =
     let e = h.0 in
@@ -45,7 +45,7 @@ stands_near at (first ∷ before) argument after h =
 
 -- ---- faults stand at the argument's own words
 
-pub fault_from : (command : CommandWord) (before : List Argument) (argument : Argument) (what : WordWhat) (position : ℕ) → HasWordFault command before argument what position → place_of argument ≤ position
+pub fault_from : (command : CommandWord) (before : List Argument) (argument : Argument) (what : WordWhat) (position : ℕ) → HasWordFault command before argument what position → argument_place argument ≤ position
 fault_from command before (Name at name) NoCommand position h = absurd h
 fault_from command before (Name at name) UnknownCommand position h = absurd h
 fault_from command before (Name at name) MissingName position h = absurd h

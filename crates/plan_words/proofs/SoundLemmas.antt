@@ -19,7 +19,7 @@ use Rattle.plan_words.specs.declared.arguments.Argument.TheVariants.{Name, Setti
 use Rattle.plan_words.specs.declared.fault.WordWhat.{WordWhat}
 use Rattle.plan_words.specs.declared.fault.WordWhat.TheVariants.{NoCommand, UnknownCommand, MissingName, ExtraWord, UnknownOption, RepeatedOption, BadValue}
 use Rattle.plan_words.specs.OptionValues.{option_word, Takes}
-use Rattle.plan_words.specs.Arguments.{name_of, argument_names, option_of, options_in}
+use Rattle.plan_words.specs.Arguments.{argument_name, argument_names, option_of, options_in}
 use Rattle.plan_words.specs.WordFaults.{name_count, IsOptionOf, HasWordFault, IsLeftmost, HaveNoFault}
 use Rattle.plan_words.specs.Soundness.{next_place, StandFrom, IsNear, IsFirstWordFault, IsSoundBehind, SoundFrom}
 use Rattle.plan_words.proofs.WordLemmas.{cut_at}
@@ -87,8 +87,8 @@ few_options words apart known =
     let most = length-le_from_distinct_below (map rank words) 7 (IsDistinct-from_apart eqb (map rank words) distinct) (ranks_are_small words) in
     omega (arith, n, most)
 
-argument_names-push : (before : List Argument) (argument : Argument) → argument_names (before ++ argument ∷ []) ≡ argument_names before ++ name_of argument
-argument_names-push before argument = flat_map-append name_of before (argument ∷ []) ∙ ap (λ (ws : List (List ℕ)). argument_names before ++ ws) (append-nil (name_of argument))
+argument_names-push : (before : List Argument) (argument : Argument) → argument_names (before ++ argument ∷ []) ≡ argument_names before ++ argument_name argument
+argument_names-push before argument = flat_map-append argument_name before (argument ∷ []) ∙ ap (λ (ws : List (List ℕ)). argument_names before ++ ws) (append-nil (argument_name argument))
 
 options_in-push : (before : List Argument) (argument : Argument) → options_in (before ++ argument ∷ []) ≡ options_in before ++ option_of argument
 options_in-push before argument = flat_map-append option_of before (argument ∷ []) ∙ ap (λ (ws : List (List ℕ)). options_in before ++ ws) (append-nil (option_of argument))

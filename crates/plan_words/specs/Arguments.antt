@@ -32,13 +32,13 @@ first_word (word ∷ words) = Some word
 
 -- ---- parts of arguments
 
-abbrev pub name_of : Argument → List (List ℕ)
-name_of (Name at word) = word ∷ []
-name_of (Setting at word value) = []
+abbrev pub argument_name : Argument → List (List ℕ)
+argument_name (Name at word) = word ∷ []
+argument_name (Setting at word value) = []
 
 -- the names, in their order
 abbrev pub argument_names : List Argument → List (List ℕ)
-argument_names arguments = flat_map name_of arguments
+argument_names arguments = flat_map argument_name arguments
 
 abbrev pub option_of : Argument → List (List ℕ)
 option_of (Name at word) = []

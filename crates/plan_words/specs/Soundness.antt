@@ -10,9 +10,9 @@ use Rattle.plan_words.specs.Arguments.{argument_names, options_in}
 use Rattle.plan_words.specs.WordFaults.{number_of, name_count, TakesName, IsOptionOf, HasWordFault}
 
 -- where the argument stands, and where the next one does
-abbrev pub place_of : Argument → ℕ
-place_of (Name at word) = at
-place_of (Setting at word value) = at
+abbrev pub argument_place : Argument → ℕ
+argument_place (Name at word) = at
+argument_place (Setting at word value) = at
 
 abbrev pub next_place : Argument → ℕ
 next_place (Name at word) = at + 1
@@ -21,11 +21,11 @@ next_place (Setting at word value) = at + 2
 -- each argument stands where the one before it ends, and the first one here
 abbrev pub StandFrom : ℕ → List Argument → Type 0
 StandFrom at [] = ⊤
-StandFrom at (argument ∷ arguments) = (place_of argument ≡ at) × StandFrom (next_place argument) arguments
+StandFrom at (argument ∷ arguments) = (argument_place argument ≡ at) × StandFrom (next_place argument) arguments
 
 -- the positions of the argument's words fit
 abbrev pub IsNear : Argument → Type 0
-IsNear argument = place_of argument + 1 < 2 ^ 32
+IsNear argument = argument_place argument + 1 < 2 ^ 32
 
 -- this fault of the argument is its leftmost, and at its position that with the lowest number
 pub record IsFirstWordFault (command : CommandWord) (before : List Argument) (argument : Argument) (what : WordWhat) (position : ℕ) : Type 0 where

@@ -39,12 +39,12 @@ pub record IsDrawCommand (arguments : List Argument) (input : List ℕ) (grid : 
   pub svg_name : svg ≡ given_for options.Svg arguments
   pub log_name : log ≡ given_for options.Log arguments
 
-abbrev pub kind_of : Command → CommandWord
-kind_of (Draw input grid order budget svg log) = words.Draw
-kind_of (Verify input sheet) = words.Verify
-kind_of (Check input sheet log) = words.Check
-kind_of (Graph input) = words.Graph
-kind_of (Make n) = words.Make
+abbrev pub command_kind : Command → CommandWord
+command_kind (Draw input grid order budget svg log) = words.Draw
+command_kind (Verify input sheet) = words.Verify
+command_kind (Check input sheet log) = words.Check
+command_kind (Graph input) = words.Graph
+command_kind (Make n) = words.Make
 
 -- the command has the parts that its arguments give
 abbrev pub HasParts : List Argument → Command → Type 0
@@ -63,8 +63,8 @@ pub record AreSoundArguments (command : CommandWord) (arguments : List Argument)
 -- the words have no fault, and this is the command that they ask for
 pub record IsCommandOf (words : List (List ℕ)) (command : Command) : Type 0 where
   pub rest : List (List ℕ)
-  pub first : words ≡ command_word (kind_of command) ∷ rest
-  pub sound : AreSoundArguments (kind_of command) (arguments_from 2 rest)
+  pub first : words ≡ command_word (command_kind command) ∷ rest
+  pub sound : AreSoundArguments (command_kind command) (arguments_from 2 rest)
   pub parts : HasParts (arguments_from 2 rest) command
 
 -- the words have this fault, and it is the one that counts; want of memory is no fault of theirs

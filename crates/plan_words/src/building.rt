@@ -8,7 +8,7 @@ ghost use Rattle.plan_words.specs.OptionValues.{IsWidth, IsHeight, IsLeast, IsBu
 ghost use Rattle.plan_words.specs.Arguments.{argument_names};
 ghost use Rattle.plan_words.specs.WordFaults.{name_count};
 ghost use Rattle.plan_words.specs.Soundness.{SoundFrom};
-ghost use Rattle.plan_words.specs.Words.{default_order, IsChosen, given_for, IsDrawCommand, kind_of, HasParts};
+ghost use Rattle.plan_words.specs.Words.{default_order, IsChosen, given_for, IsDrawCommand, command_kind, HasParts};
 
 use crate::Command;
 use crate::arguments::Argument;
@@ -168,7 +168,7 @@ fn file_given(
 fn draw_of(alloc: Global, arguments: &[Argument]) -> Result<Command, OutOfMemory>
     requires sound { SoundFrom words.Draw [] arguments.now }
     requires enough { 1 ≤ length (argument_names arguments.now) }
-    ensures word { IfOk result (λ c. kind_of c ≡ words.Draw) }
+    ensures word { IfOk result (λ c. command_kind c ≡ words.Draw) }
     ensures parts { IfOk result (λ c. HasParts arguments.now c) }
 {
     Ok(Command::Draw {
@@ -207,7 +207,7 @@ pub(crate) fn command_of(
 ) -> Result<Command, OutOfMemory>
     requires sound { SoundFrom command [] arguments.now }
     requires enough { name_count command ≤ length (argument_names arguments.now) }
-    ensures word { IfOk result (λ c. kind_of c ≡ command) }
+    ensures word { IfOk result (λ c. command_kind c ≡ command) }
     ensures parts { IfOk result (λ c. HasParts arguments.now c) }
 {
     match command {

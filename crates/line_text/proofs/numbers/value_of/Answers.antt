@@ -1,4 +1,5 @@
-use Rattle.line_text.proofs.NumberLemmas.{none_at, from_err, from_ok, decimal_utf8, read_as_value}
+use Rattle.plan_core.proofs.OptionFacts.{none_at, from_err, from_ok}
+use Rattle.line_text.proofs.NumberLemmas.{decimal_utf8, read_as_value}
 use Rattle.line_text.proofs.numbers.value_of.Goals as goal
 
 pub returns-in_err-text : goal.returns-in_err-text
