@@ -73,19 +73,20 @@ occurrences_push vars clauses c old new o s = record {
       s.each l low ∙ ap (λ (ns : List ℕ). ns ++ cond (has c l) (length clauses ∷ []) []) (o.each l low) ∙ sym (places_push clauses c l 0 (length clauses) (omega arith));
 }
 
-counts_push : (clauses : Clauses) (c : List Literal) (set : LiteralSet) (counts : List ℕ) (n : ℕ) → AreCounts clauses set counts → n ≡ false_count set c → AreCounts (clauses ++ c ∷ []) set (counts ++ n ∷ [])
+counts_push : (clauses : Clauses) (c : List Literal) (set : LiteralSet) (counts : List ℕ) (n : ℕ) → AreCounts clauses set counts → n + false_count set c ≡ length c → AreCounts (clauses ++ c ∷ []) set (counts ++ n ∷ [])
 counts_push clauses c set counts n right e = record {
   size = omega (arith, length-append clauses (c ∷ []), length-append counts (n ∷ []), right.size);
   each = λ k within. elim (last_or_before k within) [
-    | inl low ↦
-        get_or_append_left counts (n ∷ []) 0 k (omega (arith, low, right.size)) ∙ right.each k low ∙ ap (false_count set) (sym (get_or_append_left clauses (c ∷ []) [] k low))
-    | inr last ↦
-        get_or_push counts n 0 k (omega (arith, last, right.size)) ∙ e ∙ ap (false_count set) (sym (get_or_push clauses c [] k (sym last)))
+    | inl low ↦ is_count (get_or_append_left clauses (c ∷ []) [] k low) (get_or_append_left counts (n ∷ []) 0 k (omega (arith, low, right.size))) (right.each k low)
+    | inr last ↦ is_count (get_or_push clauses c [] k (sym last)) (get_or_push counts n 0 k (omega (arith, last, right.size))) e
   ];
 }
   where
     last_or_before : (k : ℕ) → k < length (clauses ++ c ∷ []) → (k < length clauses) ⊎ (k ≡ length clauses)
     last_or_before k within = let size = length-append clauses (c ∷ []) in grind (arith, size)
+
+    is_count : {d now : List Literal} {m then : ℕ} → now ≡ d → then ≡ m → m + false_count set d ≡ length d → then + false_count set now ≡ length now
+    is_count {d} {now} {m} {then} is same h = subst (λ (x : List Literal). then + false_count set x ≡ length x) (sym is) (omega (arith, same, h))
 
 same_count : (vars : ℕ) (truth : List Bool) (trail c : List Literal) → IsTrail vars truth trail → false_count (marked truth) c ≡ false_count (has trail) c
 same_count vars truth trail [] t = refl
@@ -95,7 +96,7 @@ same_count vars truth trail (k ∷ c) t =
     let e : weight (marked truth (negate k)) ≡ weight (has trail (negate k)) = ap weight (t.marks (negate k)) in
     omega (arith, a, b, e, same_count vars truth trail c t)
 
-pub listed : (vars : ℕ) (clauses : Clauses) (c : List Literal) (n : ℕ) (old new : Tables) → IsSettled vars clauses old → Lists c (length clauses) old.occurrences.items new.occurrences.items → n ≡ false_count (marked old.truth.items) c → new.counts.items ≡ old.counts.items ++ n ∷ [] → new.truth.items ≡ old.truth.items → new.trail.items ≡ old.trail.items → IsListed vars (clauses ++ c ∷ []) c new
+pub listed : (vars : ℕ) (clauses : Clauses) (c : List Literal) (n : ℕ) (old new : Tables) → IsSettled vars clauses old → Lists c (length clauses) old.occurrences.items new.occurrences.items → n + false_count (marked old.truth.items) c ≡ length c → new.counts.items ≡ old.counts.items ++ n ∷ [] → new.truth.items ≡ old.truth.items → new.trail.items ≡ old.trail.items → IsListed vars (clauses ++ c ∷ []) c new
 listed vars clauses c n old new s lists count counts truth trail = record {
   among = Contains-push clauses c;
   occurrences = occurrences_push vars clauses c old.occurrences.items new.occurrences.items s.occurrences lists;
@@ -104,7 +105,7 @@ listed vars clauses c n old new s lists count counts truth trail = record {
       let table = k.table in
       let whole = take_all (length old.trail.items) old.trail.items (omega arith) in
       let right : AreCounts clauses (has old.trail.items) old.counts.items = subst (λ (ls : List Literal). AreCounts clauses (has ls) old.counts.items) whole k.right in
-      let more = counts_push clauses c (has old.trail.items) old.counts.items n right (count ∙ same_count vars old.truth.items old.trail.items c table) in
+      let more = counts_push clauses c (has old.trail.items) old.counts.items n right (omega (arith, count, same_count vars old.truth.items old.trail.items c table)) in
       rw (counts, truth, trail) (record {
         table = table;
         within = omega arith;

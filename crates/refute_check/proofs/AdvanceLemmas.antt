@@ -10,7 +10,7 @@ use Rattle.cnf_core.proofs.PropagationLemmas.{negate-negate, has_from_contains}
 use Rattle.cnf_core.proofs.TrailLemmas.{there_get, has_front, same_literal_or, word_below, front_includes, front_lacks, next_front}
 use Rattle.refute_check.specs.Tables.{CountedUp, places_from, AreCounts, AreOccurrences, IsTrail, IsCounted, IsQuiet, AreQuiet, IsQuietNow, AreQuietNow, Grows}
 use Rattle.refute_check.proofs.GrowthLemmas.{quiet_more, grows_none, grows_more}
-use Rattle.refute_check.proofs.FalseCountLemmas.{counts_up, named_by}
+use Rattle.refute_check.proofs.FalseCountLemmas.{counts_down, named_by}
 
 -- a grown trail has the same front
 pub same_front : (clauses : Clauses) (old new : List Literal) (n : ℕ) → Grows clauses old new → n ≤ length old → take n new ≡ take n old
@@ -58,16 +58,16 @@ quiet_next clauses trail new counts front l within e g quiet right looked =
     by_test n d there false h = at_default n d there (set_is (get_or clauses n [])
         (quiet_more (has (take front trail ++ l ∷ [])) (has trail) (has new) (get_or clauses n []) g.keeps (quiet_untouched (take front trail) (get_or clauses n []) (has trail) l h (quiet n [] there))))
 
-pub counted_next : (vars : ℕ) (clauses : Clauses) (truth then : List Bool) (trail new : List Literal) (old counts : List ℕ) (front : ℕ) (l : Literal) → front < length trail → get_or trail front l ≡ l → AllDistinct clauses → IsCounted vars clauses truth trail old front → Grows clauses trail new → IsTrail vars then new → length counts ≡ length old → CountedUp (places_from 0 clauses (negate l)) old counts → IsCounted vars clauses then new counts (front + 1)
+pub counted_next : (vars : ℕ) (clauses : Clauses) (truth then : List Bool) (trail new : List Literal) (old counts : List ℕ) (front : ℕ) (l : Literal) → front < length trail → get_or trail front l ≡ l → AllDistinct clauses → IsCounted vars clauses truth trail old front → Grows clauses trail new → IsTrail vars then new → length counts ≡ length old → CountedUp (places_from 0 clauses (negate l)) counts old → IsCounted vars clauses then new counts (front + 1)
 counted_next vars clauses truth then trail new old counts front l within e distinct counted g t same up = record {
   table = t;
   within = let longer = g.longer in omega arith;
   right = subst (λ (ls : List Literal). AreCounts clauses (has ls) counts) (sym (same_front clauses trail new (front + 1) g (omega arith) ∙ next_front trail front l within e))
-      (counts_up clauses (take front trail) l old counts distinct (front_lacks trail front l (let k = counted.table in k.distinct) within e) counted.right same up);
+      (counts_down clauses (take front trail) l old counts distinct (front_lacks trail front l (let k = counted.table in k.distinct) within e) counted.right same up);
 }
 
-pub right_next : (clauses : Clauses) (trail : List Literal) (old counts : List ℕ) (front : ℕ) (l : Literal) → front < length trail → get_or trail front l ≡ l → AllDistinct clauses → AreDistinct trail → AreCounts clauses (has (take front trail)) old → length counts ≡ length old → CountedUp (places_from 0 clauses (negate l)) old counts → AreCounts clauses (has (take front trail ++ l ∷ [])) counts
-right_next clauses trail old counts front l within e distinct once right same up = counts_up clauses (take front trail) l old counts distinct (front_lacks trail front l once within e) right same up
+pub right_next : (clauses : Clauses) (trail : List Literal) (old counts : List ℕ) (front : ℕ) (l : Literal) → front < length trail → get_or trail front l ≡ l → AllDistinct clauses → AreDistinct trail → AreCounts clauses (has (take front trail)) old → length counts ≡ length old → CountedUp (places_from 0 clauses (negate l)) counts old → AreCounts clauses (has (take front trail ++ l ∷ [])) counts
+right_next clauses trail old counts front l within e distinct once right same up = counts_down clauses (take front trail) l old counts distinct (front_lacks trail front l once within e) right same up
 
 -- the list of a literal, as it is read
 pub places_read : (vars : ℕ) (clauses : Clauses) (lists : List (List ℕ)) (l : Literal) (word : ℕ) (list shown : List ℕ) → AreOccurrences vars clauses lists → IsThere vars l → word ≡ word_of l → list ≡ get_or lists word list → shown ≡ list → shown ≡ places_from 0 clauses l

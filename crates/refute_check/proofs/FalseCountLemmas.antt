@@ -120,28 +120,28 @@ false_more trail (k ∷ c) l distinct none =
           omega (arith, now, was, rest, a, h)
     ]
 
-pub false_small : (set : LiteralSet) (clauses : Clauses) (n : ℕ) → false_count set (get_or clauses n []) ≤ words_of clauses
-false_small set clauses n = omega (arith, count_by-le-length (λ k. set (negate k)) (get_or clauses n []), words_at clauses n)
+pub false_small : (set : LiteralSet) (clauses : Clauses) (n : ℕ) → false_count set (get_or clauses n []) ≤ length (get_or clauses n [])
+false_small set clauses n = count_by-le-length (λ k. set (negate k)) (get_or clauses n [])
 
 -- what counting up and down needs and leaves
-pub up_small : (clauses : Clauses) (trail : List Literal) (l : Literal) (counts : List ℕ) → AllDistinct clauses → has trail l ≡ false → words_of clauses ≤ 268435456 → AreCounts clauses (has trail) counts → All (λ n. get_or counts n 0 + times (places_from 0 clauses (negate l)) n < 2 ^ 32) (places_from 0 clauses (negate l))
-up_small clauses trail l counts distinct none small right = All-weaker (IsBelow (length clauses)) (λ n. get_or counts n 0 + times (places_from 0 clauses (negate l)) n < 2 ^ 32)
+pub down_enough : (clauses : Clauses) (trail : List Literal) (l : Literal) (counts : List ℕ) → AllDistinct clauses → has trail l ≡ false → AreCounts clauses (has trail) counts → All (λ n. times (places_from 0 clauses (negate l)) n ≤ get_or counts n 0) (places_from 0 clauses (negate l))
+down_enough clauses trail l counts distinct none right = All-weaker (IsBelow (length clauses)) (λ n. times (places_from 0 clauses (negate l)) n ≤ get_or counts n 0)
     (λ n within. omega (arith, right.each n within, times_in clauses (negate l) n within, false_more trail (get_or clauses n []) l (distinct_at clauses n distinct) none, false_small (has (trail ++ l ∷ [])) clauses n))
     (places_from 0 clauses (negate l)) (places_there clauses (negate l))
 
-pub counts_up : (clauses : Clauses) (trail : List Literal) (l : Literal) (old new : List ℕ) → AllDistinct clauses → has trail l ≡ false → AreCounts clauses (has trail) old → length new ≡ length old → CountedUp (places_from 0 clauses (negate l)) old new → AreCounts clauses (has (trail ++ l ∷ [])) new
-counts_up clauses trail l old new distinct none right same up = record {
+pub counts_down : (clauses : Clauses) (trail : List Literal) (l : Literal) (old new : List ℕ) → AllDistinct clauses → has trail l ≡ false → AreCounts clauses (has trail) old → length new ≡ length old → CountedUp (places_from 0 clauses (negate l)) new old → AreCounts clauses (has (trail ++ l ∷ [])) new
+counts_down clauses trail l old new distinct none right same up = record {
   size = same ∙ right.size;
   each = λ n within. omega (arith, up n, right.each n within, times_in clauses (negate l) n within, false_more trail (get_or clauses n []) l (distinct_at clauses n distinct) none);
 }
 
-pub down_enough : (clauses : Clauses) (trail : List Literal) (l : Literal) (counts : List ℕ) → AllDistinct clauses → has trail l ≡ false → AreCounts clauses (has (trail ++ l ∷ [])) counts → All (λ n. times (places_from 0 clauses (negate l)) n ≤ get_or counts n 0) (places_from 0 clauses (negate l))
-down_enough clauses trail l counts distinct none right = All-weaker (IsBelow (length clauses)) (λ n. times (places_from 0 clauses (negate l)) n ≤ get_or counts n 0)
-    (λ n within. omega (arith, right.each n within, times_in clauses (negate l) n within, false_more trail (get_or clauses n []) l (distinct_at clauses n distinct) none))
+pub up_small : (clauses : Clauses) (trail : List Literal) (l : Literal) (counts : List ℕ) → AllDistinct clauses → has trail l ≡ false → words_of clauses ≤ 268435456 → AreCounts clauses (has (trail ++ l ∷ [])) counts → All (λ n. get_or counts n 0 + times (places_from 0 clauses (negate l)) n < 2 ^ 32) (places_from 0 clauses (negate l))
+up_small clauses trail l counts distinct none small right = All-weaker (IsBelow (length clauses)) (λ n. get_or counts n 0 + times (places_from 0 clauses (negate l)) n < 2 ^ 32)
+    (λ n within. omega (arith, right.each n within, times_in clauses (negate l) n within, false_more trail (get_or clauses n []) l (distinct_at clauses n distinct) none, words_at clauses n))
     (places_from 0 clauses (negate l)) (places_there clauses (negate l))
 
-pub counts_down : (clauses : Clauses) (trail : List Literal) (l : Literal) (old new : List ℕ) → AllDistinct clauses → has trail l ≡ false → AreCounts clauses (has (trail ++ l ∷ [])) old → length new ≡ length old → CountedUp (places_from 0 clauses (negate l)) new old → AreCounts clauses (has trail) new
-counts_down clauses trail l old new distinct none right same up = record {
+pub counts_up : (clauses : Clauses) (trail : List Literal) (l : Literal) (old new : List ℕ) → AllDistinct clauses → has trail l ≡ false → AreCounts clauses (has (trail ++ l ∷ [])) old → length new ≡ length old → CountedUp (places_from 0 clauses (negate l)) old new → AreCounts clauses (has trail) new
+counts_up clauses trail l old new distinct none right same up = record {
   size = same ∙ right.size;
   each = λ n within. omega (arith, up n, right.each n within, times_in clauses (negate l) n within, false_more trail (get_or clauses n []) l (distinct_at clauses n distinct) none);
 }

@@ -141,7 +141,7 @@ quiet_by_marks vars truth trail c t q = record {
 pub quiet_now : (clause : List Literal) (count : ℕ) (trail : List Literal) → IsQuiet (has trail) (has trail) clause → IsQuietNow clause count trail trail
 quiet_now clause count trail q = λ done within e. quiet_part done (has trail) clause within q
 
-pub few_now : (clause : List Literal) (count : ℕ) (trail : List Literal) → AreDistinct clause → count + 1 < length clause → IsQuietNow clause count trail trail
+pub few_now : (clause : List Literal) (count : ℕ) (trail : List Literal) → AreDistinct clause → 1 < count → IsQuietNow clause count trail trail
 few_now clause count trail distinct few = λ done within e. quiet_few done (has trail) clause distinct (omega arith)
 
 pub marked_now : (clause : List Literal) (count : ℕ) (trail : List Literal) (l : Literal) → IsUnset (has trail) clause l → IsQuietNow clause count trail (trail ++ l ∷ [])

@@ -1,4 +1,4 @@
--- Tables by clause and by literal, over which false literals are counted.
+-- Tables by clause and by literal, over which the literals are counted that aren't false.
 use Rattle.std.specs.Prelude.{◌≡◌, ◌≤◌, ◌<◌, ◌⊎◌, ℕ, ◌+◌, ◌*◌, Bool, false, cond, List, [], ◌∷◌, ◌++◌, All, Contains, length, slice_index, slice_index_or, take, nat_eq}
 use Rattle.std.specs.List.{sum_by, count_by}
 use Rattle.cnf_core.specs.Lit.{Literal, negate, word_of, has}
@@ -41,9 +41,10 @@ places_from n (c ∷ cs) l = cond (has c l) (n ∷ places_from (n + 1) cs l) (pl
 abbrev pub false_count : LiteralSet → List Literal → ℕ
 false_count set c = count_by (λ k. set (negate k)) c
 
+-- the count of each clause is how many of its literals aren't false: with the false ones, they are all
 pub record AreCounts (clauses : Clauses) (set : LiteralSet) (counts : List ℕ) : Type 0 where
   pub size : length counts ≡ length clauses
-  pub each : (n : ℕ) → n < length clauses → slice_index counts n ≡ false_count set (slice_index_or clauses n [])
+  pub each : (n : ℕ) → n < length clauses → slice_index counts n + false_count set (slice_index_or clauses n []) ≡ length (slice_index_or clauses n [])
 
 -- the set has each literal that is alone not false in done, and done falsifies the clause not
 pub record IsQuiet (done set : LiteralSet) (c : List Literal) : Type 0 where
@@ -69,7 +70,7 @@ pub record Grows (clauses : Clauses) (old new : List Literal) : Type 0 where
   pub within : (l : Literal) → IsIn (has new) l → Closure clauses (has old) l
   pub reason : (l : Literal) → IsIn (has new) l → IsIn (has old) l ⊎ HasReason clauses (has new) l
 
--- the false literals are counted for the front of the trail
+-- the literals that aren't false are counted for the front of the trail
 pub record IsCounted (vars : ℕ) (clauses : Clauses) (truth : List Bool) (trail : List Literal) (counts : List ℕ) (front : ℕ) : Type 0 where
   pub table : IsTrail vars truth trail
   pub within : front ≤ length trail
@@ -81,7 +82,7 @@ AreQuiet clauses trail front = All (IsQuiet (has (take front trail)) (has trail)
 
 -- whatever part of the old trail was counted, the clause is quiet there
 abbrev pub IsQuietNow : List Literal → ℕ → List Literal → List Literal → Type 0
-IsQuietNow clause count old new = (done : LiteralSet) → Includes (has old) done → count ≡ false_count done clause → IsQuiet done (has new) clause
+IsQuietNow clause count old new = (done : LiteralSet) → Includes (has old) done → count + false_count done clause ≡ length clause → IsQuiet done (has new) clause
 
 abbrev pub AreQuietNow : Clauses → List ℕ → List ℕ → List Literal → List Literal → Type 0
 AreQuietNow clauses numbers counts old new = All (λ n. IsQuietNow (slice_index_or clauses n []) (slice_index counts n) old new) numbers

@@ -24,16 +24,16 @@ fn is_marked(truth: &[bool], vars: u32, l: Lit) -> bool
     truth[l.word() as usize]
 }
 
-/// How many of the literals are false.
-fn count_false(lits: &[Lit], truth: &[bool], vars: u32) -> u32
+/// How many of the literals aren't false.
+fn count_open(lits: &[Lit], truth: &[bool], vars: u32) -> u32
     requires table { length truth.now ≡ 2 * vars + 2 }
     requires there { AreThere vars lits.now }
     requires small { length lits.now < 2 ^ 32 }
-    ensures { result ≡ false_count (marked truth.now) lits.now }
+    ensures { result + false_count (marked truth.now) lits.now ≡ length lits.now }
 {
     let mut count = 0;
     for l in lits {
-        if is_marked(truth, vars, l.negated()) {
+        if !is_marked(truth, vars, l.negated()) {
             count += 1;
         }
     }
@@ -68,7 +68,7 @@ impl Tables {
         requires small { length lits.now < 2 ^ 32 }
         ensures { OnOk result (IsListed formula.now.vars (formula.now.clauses ++ lits.now ∷ []) lits.now self.new) }
     {
-        let count = count_false(lits, &self.truth, formula.vars());
+        let count = count_open(lits, &self.truth, formula.vars());
         list_clause(
             &mut self.occurrences,
             lits,

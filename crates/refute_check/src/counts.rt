@@ -1,4 +1,4 @@
-// Counts of false literals by clause.
+// Counts by clause of the literals that aren't false.
 ghost use Rattle.std.specs.Prelude.{◌≡◌, ◌≤◌, ◌<◌, ◌+◌, ◌^◌, ℕ, All, length, slice_index};
 ghost use Rattle.refute_check.specs.Tables.{times, CountedUp};
 

@@ -28,14 +28,15 @@ pub(crate) fn look_at(
     ensures falsified { IfOk result (λ found. found ≡ true → Falsified formula.now.clauses (has trail.new.items)) }
     ensures quiet { IfOk result (λ found. found ≡ false → IsQuietNow (clause_at formula.now number) (slice_index counts.now number) trail.old.items trail.new.items) }
 {
-    let clause = formula.lits_of(ClauseNo(number));
-    if (counts[number as usize] as usize) + 1 < clause.len() {
+    let vars = formula.vars();
+    if counts[number as usize] > 1 {
         return Ok(false);
     }
-    match scan_clause(clause, truth, formula.vars()) {
+    let clause = formula.lits_of(ClauseNo(number));
+    match scan_clause(clause, truth, vars) {
         Scan::Falsified => Ok(true),
         Scan::Unit(l) => {
-            mark(truth, trail, formula.vars(), l)?;
+            mark(truth, trail, vars, l)?;
             Ok(false)
         }
         Scan::Quiet => Ok(false),

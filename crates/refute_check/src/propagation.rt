@@ -1,10 +1,10 @@
-// Unit propagation by counts of false literals.
+// Unit propagation by counts of the literals that aren't false.
 ghost use Rattle.std.specs.Prelude.{◌≡◌, ◌≤◌, ◌<◌, ◌+◌, ◌*◌, true, false, length, All, OnOk, IfOk, slice_index, take};
 ghost use Rattle.cnf_core.specs.Lit.{has};
 ghost use Rattle.cnf_core.specs.Propagation.{Falsified};
 ghost use Rattle.refute_check.specs.Tables.{IsTrail, IsCounted, AreOccurrences, AreQuiet, Grows};
 
-use crate::counts::{count_down, count_up};
+use crate::counts::count_down;
 use crate::looks::look_at_each;
 use crate::places::Places;
 use cnf_core::{Formula, Lit};
@@ -32,7 +32,7 @@ fn advance(
     let l = trail[front];
     let places = occurrences[l.negated().word() as usize].as_slice();
     let _formula = formula.vars();
-    count_up(places, counts);
+    count_down(places, counts);
     let found = look_at_each(formula, places, counts, truth, trail)?;
     Ok(found)
 }

@@ -14,12 +14,12 @@ use cnf_core::{Formula, Lit};
 use plan_core::OutOfMemory;
 use std::alloc::Global;
 
-/// What is true without assumptions, and the counts of false literals that belong to it.
+/// What is true without assumptions, and the counts that belong to it.
 #[derive(Drop)]
 pub(crate) struct Tables {
     /// By a literal's word, the clauses that have the literal.
     pub(crate) occurrences: Vec<Places>,
-    /// By clause, how many of its literals are false.
+    /// By clause, how many of its literals are not false.
     pub(crate) counts: Vec<u32>,
     /// By a literal's word, whether it is true.
     pub(crate) truth: Vec<bool>,

@@ -2,7 +2,7 @@
 ghost use Rattle.std.specs.Prelude.{◌≡◌, ◌≤◌, ◌<◌, ◌+◌, ◌*◌, length, take, option_to_list, ◌++◌, ◌∷◌, []};
 ghost use Rattle.refute_check.specs.Tables.{IsTrail, IsCounted, AreOccurrences};
 
-use crate::counts::count_down;
+use crate::counts::count_up;
 use crate::places::Places;
 use crate::trail::unmark_last;
 use cnf_core::{Formula, Lit};
@@ -36,7 +36,7 @@ fn step_back(
     let vars = formula.vars();
     if let Some(l) = unmark_last(truth, trail, vars) {
         let places = occurrences[l.negated().word() as usize].as_slice();
-        count_down(places, counts);
+        count_up(places, counts);
     }
 }
 

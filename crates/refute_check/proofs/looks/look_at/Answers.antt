@@ -3,17 +3,19 @@ use Rattle.std.specs.Prelude.{Contains}
 use Rattle.std.proofs.lemmas.List.Elements.{All-contains, Contains-get_or}
 use Rattle.cnf_core.specs.Lit.{Literal, has}
 use Rattle.cnf_core.specs.Clause.{IsThere}
+use Rattle.cnf_core.specs.Formula.{clause_at}
+use Rattle.cnf_core.proofs.ClauseLemmas.{distinct_at}
 use Rattle.cnf_core.proofs.TrailLemmas.{there_all}
 use Rattle.refute_check.specs.Tables.{IsUnset, IsQuietNow}
 use Rattle.refute_check.proofs.GrowthLemmas.{trail_consistent, grows_unit, unset_by_marks, few_now, marked_now}
 use Rattle.refute_check.proofs.looks.look_at.Goals as goal
 use Rattle.refute_check.proofs.looks.look_at.Goals.{In_ok-mark-in-Unit}
 
-pub returns-then-counts-number-clause-quiet : goal.returns-then-counts-number-clause-quiet
-returns-then-counts-number-clause-quiet c =
+pub returns-then-counts-number-gt1-clause-quiet : goal.returns-then-counts-number-gt1-clause-quiet
+returns-then-counts-number-gt1-clause-quiet c =
     let count = get_or c.args.counts.now c.args.number 0 in
     let trail = c.args.trail.now.items in
-    λ _. subst (λ (clause : List Literal). IsQuietNow clause count trail trail) c.lits_of-clause.ensures.value (few_now c.lits_of-clause.result.now count trail c.lits_of-clause.ensures.distinct c.if-counts-number.true)
+    λ _. few_now (clause_at c.args.formula.now c.args.number) count trail (distinct_at c.args.formula.now.clauses c.args.number c.vars-vars.ensures.formula.distinct) c.if-counts-number-gt1.true
 
 pub scan_clause-requires-clause-consistent : goal.scan_clause-requires-clause-consistent
 scan_clause-requires-clause-consistent c = trail_consistent _ c.args.truth.now c.args.trail.now.items c.requires.trail
@@ -23,7 +25,7 @@ mark-requires-clause-there c =
     let vars = c.args.formula.now.vars in
     let clause = c.lits_of-clause.result.now in
     let there : IsThere vars c.in-Unit.l = All-contains (IsThere vars) clause c.in-Unit.l (there_all vars clause c.lits_of-clause.ensures.there) c.in-Unit.ensures.unit.among in
-    subst (λ n. IsThere n c.in-Unit.l) (sym c.vars-in-Unit.ensures.value) there
+    subst (λ n. IsThere n c.in-Unit.l) (sym c.vars-vars.ensures.value) there
 
 among : (c : In_ok-mark-in-Unit) → Contains c.args.formula.now.clauses c.lits_of-clause.result.now
 among c = subst (λ (clause : List Literal). Contains c.args.formula.now.clauses clause) (sym c.lits_of-clause.ensures.value) (Contains-get_or c.args.formula.now.clauses c.args.number [] c.requires.there)

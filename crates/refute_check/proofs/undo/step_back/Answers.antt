@@ -1,9 +1,10 @@
-use Rattle.std.proofs.Common.{arith, ◌≡◌, ◌≤◌, ◌<◌, ◌∷◌, [], ℕ, List, length, get_or, sym, ◌∙◌, ap, subst}
+use Rattle.std.proofs.Common.{arith, ◌≡◌, ◌+◌, ◌≤◌, ◌<◌, ◌^◌, ◌∷◌, [], ℕ, List, length, get_or, sym, ◌∙◌, ap, subst}
 use Rattle.std.specs.Prelude.{All}
 use Rattle.cnf_core.specs.Lit.{negate, word_of}
+use Rattle.cnf_core.specs.Formula.{IsFormula}
 use Rattle.cnf_core.proofs.TrailLemmas.{word_below}
 use Rattle.refute_check.specs.Tables.{times, CountedUp, places_from, IsTrail}
-use Rattle.refute_check.proofs.FalseCountLemmas.{places_there, down_enough, counts_down}
+use Rattle.refute_check.proofs.FalseCountLemmas.{places_there, up_small, counts_up}
 use Rattle.refute_check.proofs.UndoLemmas.{counted_from, back_there, back_places, back_lacks, back_right, back_rest, back_some}
 use Rattle.refute_check.proofs.undo.step_back.Goals as goal
 
@@ -13,19 +14,22 @@ bounds-occurrences-word c =
     let is : c.word.result ≡ word_of (negate c.in-Some.l) = c.word.ensures.value ∙ ap word_of c.negated.ensures in
     omega (arith, is, word_below c.args.formula.now.vars (negate c.in-Some.l) there, c.requires.occurrences.size)
 
-pub count_down-requires-clause-there : goal.count_down-requires-clause-there
-count_down-requires-clause-there c =
+pub count_up-requires-clause-there : goal.count_up-requires-clause-there
+count_up-requires-clause-there c =
     let clauses = c.args.formula.now.clauses in
     let is = back_places c.args.formula.now.vars c.args.formula.now.clauses c.args.occurrences.now c.args.truth.now c.args.trail.now.items c.unmark_last.new.trail.items c.in-Some.l c.negated.result c.word.result c.index-occurrences-word.result c.as_slice-places.result.now c.requires.occurrences c.requires.counted.table c.in-Some.ensures.last c.negated.ensures c.word.ensures.value c.index-occurrences-word.is c.as_slice-places.ensures in
     subst (λ (ns : List ℕ). All (λ n. n < length c.args.counts.now) ns) (sym is) (subst (λ m. All (λ n. n < m) (places_from 0 clauses (negate c.in-Some.l))) (sym c.requires.counted.right.size) (places_there clauses (negate c.in-Some.l)))
 
-pub count_down-requires-clause-enough : goal.count_down-requires-clause-enough
-count_down-requires-clause-enough c =
+pub count_up-requires-clause-small : goal.count_up-requires-clause-small
+count_up-requires-clause-small c =
+    let f : IsFormula c.args.formula.now = c.vars-vars.ensures.formula in
+    let within = f.within_room in
+    let limit = f.room_limit in
     let is = back_places c.args.formula.now.vars c.args.formula.now.clauses c.args.occurrences.now c.args.truth.now c.args.trail.now.items c.unmark_last.new.trail.items c.in-Some.l c.negated.result c.word.result c.index-occurrences-word.result c.as_slice-places.result.now c.requires.occurrences c.requires.counted.table c.in-Some.ensures.last c.negated.ensures c.word.ensures.value c.index-occurrences-word.is c.as_slice-places.ensures in
     let right = back_right c.args.formula.now.vars c.args.formula.now.clauses c.args.truth.now c.args.trail.now.items c.unmark_last.new.trail.items c.in-Some.l c.args.counts.now c.requires.counted c.in-Some.ensures.last in
     let lacks = back_lacks c.args.formula.now.vars c.args.truth.now c.args.trail.now.items c.unmark_last.new.trail.items c.in-Some.l c.requires.counted.table c.in-Some.ensures.last in
-    subst (λ (ns : List ℕ). All (λ n. times ns n ≤ get_or c.args.counts.now n 0) ns) (sym is)
-    (down_enough c.args.formula.now.clauses c.unmark_last.new.trail.items c.in-Some.l c.args.counts.now c.vars-vars.ensures.formula.distinct lacks right)
+    subst (λ (ns : List ℕ). All (λ n. get_or c.args.counts.now n 0 + times ns n < 2 ^ 32) ns) (sym is)
+    (up_small c.args.formula.now.clauses c.unmark_last.new.trail.items c.in-Some.l c.args.counts.now f.distinct lacks (omega arith) right)
 
 pub returns-in-Some-clause-counted : goal.returns-in-Some-clause-counted
 returns-in-Some-clause-counted c =
@@ -34,9 +38,9 @@ returns-in-Some-clause-counted c =
     let right = back_right c.args.formula.now.vars clauses c.args.truth.now c.args.trail.now.items c.unmark_last.new.trail.items c.in-Some.l c.args.counts.now c.requires.counted c.in-Some.ensures.last in
     let lacks = back_lacks c.args.formula.now.vars c.args.truth.now c.args.trail.now.items c.unmark_last.new.trail.items c.in-Some.l c.requires.counted.table c.in-Some.ensures.last in
     let t = subst (λ vars. IsTrail vars c.unmark_last.new.truth c.unmark_last.new.trail.items) c.vars-vars.ensures.value c.in-Some.ensures.trail in
-    counted_from c.args.formula.now.vars clauses c.unmark_last.new.truth c.unmark_last.new.trail.items c.count_down.new.counts t
-    (counts_down clauses c.unmark_last.new.trail.items c.in-Some.l c.args.counts.now c.count_down.new.counts c.vars-vars.ensures.formula.distinct lacks right c.count_down.auto.counts
-    (subst (λ (ns : List ℕ). CountedUp ns c.count_down.new.counts c.args.counts.now) is c.count_down.ensures))
+    counted_from c.args.formula.now.vars clauses c.unmark_last.new.truth c.unmark_last.new.trail.items c.count_up.new.counts t
+    (counts_up clauses c.unmark_last.new.trail.items c.in-Some.l c.args.counts.now c.count_up.new.counts c.vars-vars.ensures.formula.distinct lacks right c.count_up.auto.counts
+    (subst (λ (ns : List ℕ). CountedUp ns c.args.counts.now c.count_up.new.counts) is c.count_up.ensures))
 
 pub returns-in-Some-clause-shorter : goal.returns-in-Some-clause-shorter
 returns-in-Some-clause-shorter c = omega (arith, c.requires.some, c.in-Some.ensures.less)

@@ -1,4 +1,4 @@
-use Rattle.std.proofs.Common.{◌∙◌, List, Bool, ap, subst, refl}
+use Rattle.std.proofs.Common.{◌≡◌, ◌+◌, List, Bool, length, subst, refl}
 use Rattle.refute_check.specs.Tables.{Lists, marked, false_count}
 use Rattle.refute_check.proofs.AddLemmas.{listed}
 use Rattle.refute_check.proofs.tables.Tables.list.Goals as goal
@@ -7,6 +7,6 @@ pub returns : goal.returns
 returns c =
     let clauses = c.args.formula.now.clauses in
     let lists = subst (λ n. Lists c.args.lits.now n c.args.self.now.occurrences.items c.list_clause.new.occurrences.items) c.clauses.ensures.value c.in_ok-list_clause.ensures in
-    let count = c.count_false-count.ensures ∙ ap (λ (bs : List Bool). false_count (marked bs) c.args.lits.now) c.deref.ensures.value in
-    listed c.args.formula.now.vars clauses c.args.lits.now c.count_false-count.result c.args.self.now (record { occurrences = c.list_clause.new.occurrences; counts = c.push.new.self; truth = c.args.self.now.truth; trail = c.args.self.now.trail })
+    let count = subst (λ (bs : List Bool). c.count_open-count.result + false_count (marked bs) c.args.lits.now ≡ length c.args.lits.now) c.deref.ensures.value c.count_open-count.ensures in
+    listed c.args.formula.now.vars clauses c.args.lits.now c.count_open-count.result c.args.self.now (record { occurrences = c.list_clause.new.occurrences; counts = c.push.new.self; truth = c.args.self.now.truth; trail = c.args.self.now.trail })
     c.requires.settled lists count c.in_ok-push.ensures.items refl refl
