@@ -3,7 +3,7 @@
 use Rattle.std.proofs.Common.{◌≡◌, ◌≢◌, ℕ, suc, ◌+◌, ◌<◌, ◌≤◌, Bool, true, false, cond, min, [], ◌∷◌, length, Option, Some, None, refl, sym, ap, ◌∙◌, subst, inl, inr, arith}
 use Rattle.std.specs.Prelude.{slice_get, unwrap_or, AllPairs}
 use Rattle.std.proofs.lemmas.Bool.{cases_lt}
-use Rattle.std.proofs.lemmas.Option.{slice_get_within}
+use Rattle.std.proofs.lemmas.Option.{slice_get_within, same_Some}
 use Rattle.std.proofs.lemmas.List.Elements.{All-nil, All-cons}
 use Rattle.std.proofs.lemmas.List.Kept.{AllPairs-cons}
 use Rattle.plan_core.specs.declared.sides.Hand.{Hand}
@@ -26,7 +26,7 @@ use Rattle.port_graph.specs.Sites.{end_meeting, inner_meeting, sites}
 use Rattle.port_graph.specs.Sides.{edges_met}
 use Rattle.port_graph.specs.TopologyGraph.{AllForward}
 use Rattle.port_graph.proofs.NumberLemmas.{piece_below}
-use Rattle.port_graph.proofs.Membership.{In, contains_in, some_same}
+use Rattle.port_graph.proofs.Membership.{In, contains_in}
 use Rattle.port_graph.proofs.RankLemmas.{one_rank}
 use Rattle.port_graph.proofs.Places.{Where, at_end, at_inner, end_of, end_part, inner_part, end_place, inner_place, where_is, end_connection, inner_connection, end_spot_at, inner_spot_at, end_is_end, inner_is_no_end, same_place, connections_apart}
 use Rattle.port_graph.proofs.RunLemmas.{one_place, spot_of_inner, spot_of_end, piece_at, join_from, join_there}
@@ -60,7 +60,7 @@ one_piece t forward k track here empty =
     (ap (λ (n : ℕ). slice_get (spots_along t track) (suc n)) (sym empty) ∙ spot_of_end t track)
 
 same_track : (t : Topology) (k k' : ℕ) (track track' : Track) → slice_get t.tracks k ≡ Some track → slice_get t.tracks k' ≡ Some track' → k ≡ k' → track ≡ track'
-same_track t k k' track track' here here' same = some_same track track' (sym here ∙ ap (λ (n : ℕ). slice_get t.tracks n) same ∙ here')
+same_track t k k' track track' here here' same = same_Some track track' (sym here ∙ ap (λ (n : ℕ). slice_get t.tracks n) same ∙ here')
 
 one_number : (t : Topology) (k k' i i' : ℕ) (track track' : Track) → slice_get t.tracks k ≡ Some track → slice_get t.tracks k' ≡ Some track' → i ≤ length track.inner → i' ≤ length track'.inner → piece_number t k i ≡ piece_number t k' i' → (k ≡ k') × (i ≡ i')
 one_number t k k' i i' track track' here here' within within' same =
@@ -196,7 +196,7 @@ no_loop t resolved forward k i m m' track x c c' here at_i at_m at_m' apart to =
     let from' : connection t p' ≡ Some c' = inner_connection t k track i m' x c' here at_i at_m' in
     let back = resolved.joins.back p c from in
     let there : connection t c.to ≡ Some c' = ap (connection t) to ∙ from' in
-    let other : back.0 ≡ c' = some_same back.0 c' (sym back.1 ∙ there) in
+    let other : back.0 ≡ c' = same_Some back.0 c' (sym back.1 ∙ there) in
     let to' : c'.to ≡ p = ap (λ (d : Conn). d.to) (sym other) ∙ back.2 in
     let differ : c.at ≢ c'.at = connections_apart t resolved p p' c c' from from' apart in
     let late : joined_at t c ≤ c.at = loop_begun t forward k i m m' track x c here at_i at_m to in
@@ -209,7 +209,7 @@ one_target : (t : Topology) → IsResolved t → (p p' : Place) (c c' : Conn) �
 one_target t resolved p p' c c' from from' same =
     let back = resolved.joins.back p c from in
     let back' = resolved.joins.back p' c' from' in
-    let one : back.0 ≡ back'.0 = some_same back.0 back'.0 (sym back.1 ∙ ap (connection t) same ∙ back'.1) in
+    let one : back.0 ≡ back'.0 = same_Some back.0 back'.0 (sym back.1 ∙ ap (connection t) same ∙ back'.1) in
     sym back.2 ∙ ap (λ (d : Conn). d.to) one ∙ back'.2
 
 joins_differ : (t : Topology) → IsResolved t → AllForward t → (k i m m' : ℕ) (track : Track) (x : Inner) (c c' : Conn) → slice_get t.tracks k ≡ Some track → slice_get track.inner i ≡ Some x → slice_get (connections x.what) m ≡ Some c → slice_get (connections x.what) m' ≡ Some c' → inner_place k x.what i m ≢ inner_place k x.what i m' → is_track_end c.to.part ≡ false → is_track_end c'.to.part ≡ false → join_of t c ≢ join_of t c'

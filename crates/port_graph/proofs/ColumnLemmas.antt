@@ -18,16 +18,17 @@ use Rattle.std.proofs.lemmas.List.Filters.{dedup_is}
 use Rattle.std.proofs.lemmas.List.Kept.{IsStrictlySortedBy-dedup}
 use Rattle.std.proofs.lemmas.List.Sorted.{list_any-IsPermutation, searchable_from_sorted}
 use Rattle.std.proofs.lemmas.Map.Keys.{Less-from_sorted}
-use Rattle.std.proofs.lemmas.Option.{slice_get-get_or, slice_get_within, get_or_from_slice_get}
+use Rattle.std.proofs.lemmas.Option.{slice_get-get_or, slice_get_within, get_or_from_slice_get, same_Some}
 use Rattle.plan_core.specs.declared.numbers.ColumnNo.{ColumnNo}
 use Rattle.plan_core.specs.Graph.{Graph, Node, Edge, Ports as PlainPorts, no_node, no_edge, node, edge, mileage, ArePortsOf}
+use Rattle.plan_core.proofs.TruthFacts.{same_when}
 use Rattle.port_graph.specs.declared.rows.NodeRow.{NodeRow}
 use Rattle.port_graph.specs.declared.rows.EdgeRow.{EdgeRow}
 use Rattle.port_graph.specs.StationGraph.{IsStationGraph}
 use Rattle.port_graph.specs.Plain.{plain_graph, plain_node, plain_edge, plain_ports, miles_of}
 use Rattle.port_graph.specs.Columns.{mileages, rising, columns_of, AreColumns}
 use Rattle.port_graph.specs.Kept.{ArePlaces, IsKept}
-use Rattle.port_graph.proofs.RisingLemmas.{Rises, is_in, rising_rises, is_in-rising, same_rising, all_in, or_again, rises_from_pairs, same_when, is_in_from, contains_from}
+use Rattle.port_graph.proofs.RisingLemmas.{Rises, is_in, rising_rises, is_in-rising, same_rising, all_in, or_again, rises_from_pairs, is_in_from, contains_from}
 
 -- ---- the list of columns
 
@@ -202,14 +203,11 @@ before_below columns i j m n rise less is is' =
     subst (λ (x : ℤ). x <ℤ n) (get_or_from_slice_get columns i m n is)
     (subst (λ (y : ℤ). get_or columns i n <ℤ y) (get_or_from_slice_get columns j n n is') (rise i j n less (slice_get_within columns j n is')))
 
-some_same : (m n : ℤ) → Some m ≡ Some n → m ≡ n
-some_same m n e = cc
-
 pub column_order : (columns : List ℤ) (i j : ℕ) (m n : ℤ) → AllPairs (λ (x y : ℤ). x <ℤ y) columns → slice_get columns i ≡ Some m → slice_get columns j ≡ Some n → nat_cmp i j ≡ int_cmp m n
 column_order columns i j m n rise is is' =
     elim (cases_order i j) [
       | inl same ↦
-          let one : m ≡ n = some_same m n (sym is ∙ ap (λ (k : ℕ). slice_get columns k) same ∙ is') in
+          let one : m ≡ n = same_Some m n (sym is ∙ ap (λ (k : ℕ). slice_get columns k) same ∙ is') in
           ap (λ (k : ℕ). nat_cmp k j) same ∙ tied_itself nat_cmp_total j
           ∙ sym (ap (λ (x : ℤ). int_cmp x n) one ∙ tied_itself int_cmp_total n)
       | inr (inl less) ↦ sym (nat_cmp_is i j Less less) ∙ int_cmp_is m n Less (before_below columns i j m n rise less is is')

@@ -1,7 +1,7 @@
 -- Nodes and joins are elements of the file, each of its own; so their names, file places and mileages are
 -- such as a file has.
-use Rattle.std.proofs.Common.{◌≡◌, ℕ, ℤ, ◌+◌, ◌<◌, ◌≤◌, Bool, true, false, cond, inl, inr, List, [], ◌∷◌, ◌++◌, length, map, refl, sym, ap, ◌∙◌, subst, length-append, get_or, drop, arith}
-use Rattle.std.specs.Prelude.{sum_by, unwrap_or, option_to_list}
+use Rattle.std.proofs.Common.{◌≡◌, ℕ, ℤ, ◌+◌, ◌<◌, ◌≤◌, Bool, true, false, cond, inl, inr, List, [], ◌∷◌, ◌++◌, length, map, refl, sym, ap, ◌∙◌, subst, length-append, get_or, drop, arith, ◌≢◌}
+use Rattle.std.specs.Prelude.{sum_by, unwrap_or, option_to_list, AllPairs}
 use Rattle.std.specs.List.{flat_map, enumerate_from}
 use Rattle.std.proofs.lemmas.List.{map-append, length-map, append-nil}
 use Rattle.std.proofs.lemmas.List.FromFn.{length-enumerate_from}
@@ -11,14 +11,14 @@ use Rattle.plan_core.specs.declared.topology.Track.{Track}
 use Rattle.plan_core.specs.declared.topology.End.{End as TrackEnd}
 use Rattle.plan_core.specs.declared.topology.Inner.{Inner}
 use Rattle.plan_core.specs.declared.topology.Conn.{Conn}
-use Rattle.plan_core.specs.Topology.{Element, end_elements, inner_elements, conn_element, connections, track_elements, elements, track_miles}
+use Rattle.plan_core.specs.Topology.{Element, end_elements, inner_elements, conn_element, connections, track_elements, elements, track_miles, IsResolved}
 use Rattle.port_graph.specs.declared.sites.Site.{Site}
 use Rattle.port_graph.specs.declared.runs.Join.{Join}
 use Rattle.port_graph.specs.Spots.{has_node, inner_spot, spot_at}
 use Rattle.port_graph.specs.Runs.{begins_join, begun_join, inner_joins, track_joins, joins, piece_number, last_piece}
 use Rattle.port_graph.specs.Sites.{end_meeting, end_sites, inner_site, inner_sites, track_sites, sites}
 use Rattle.port_graph.specs.Counts.{end_count, node_count}
-use Rattle.port_graph.proofs.Sublists.{IsSublist, sublist-nil, sublist-refl, sublist-append, sublist-after, sublist-flat_map, sublist-length}
+use Rattle.port_graph.proofs.Sublists.{IsSublist, sublist-nil, sublist-refl, sublist-append, sublist-after, sublist-flat_map, sublist-length, sublist-AllPairs, pairs_of_map}
 
 -- the element that becomes a node, and the one that names a join
 abbrev pub site_element : Site → Element
@@ -159,3 +159,15 @@ counted_more t tracks i total track within is so_far =
     let more = sum_by-drop_more (node_count t) tracks i track within in
     let same = ap (node_count t) is in
     omega (arith, more, same, sites_few t)
+
+-- nodes stand at places of their own, and joins begin at places of their own
+
+pub site_places_differ : (t : Topology) → IsResolved t → AllPairs (λ (s s' : Site). s.spot.at ≢ s'.spot.at) (sites t)
+site_places_differ t resolved =
+    pairs_of_map (λ (d e : Element). d.at ≢ e.at) site_element (sites t)
+    (sublist-AllPairs (λ (d e : Element). d.at ≢ e.at) (map site_element (sites t)) (elements t) (sites_from_file t) resolved.places_differ)
+
+pub join_places_differ : (t : Topology) → IsResolved t → AllPairs (λ (j j' : Join). j.at ≢ j'.at) (joins t)
+join_places_differ t resolved =
+    pairs_of_map (λ (d e : Element). d.at ≢ e.at) join_element (joins t)
+    (sublist-AllPairs (λ (d e : Element). d.at ≢ e.at) (map join_element (joins t)) (elements t) (joins_from_file t) resolved.places_differ)

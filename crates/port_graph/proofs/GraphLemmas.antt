@@ -1,6 +1,6 @@
 -- From the lists in order to the track graph of the topology, or its fault.
-use Rattle.std.proofs.Common.{◌≡◌, ◌⊎◌, inl, inr, ◌≢◌, ℕ, zero, suc, ◌+◌, List, [], ◌∷◌, length, map, Some, None, refl, sym, ap, ◌∙◌, subst, arith, add-zero, zero-add}
-use Rattle.std.specs.Prelude.{Option, slice_get, All, AllPairs, Contains}
+use Rattle.std.proofs.Common.{◌≡◌, ◌⊎◌, inl, inr, ℕ, zero, suc, ◌+◌, List, [], ◌∷◌, length, map, Some, None, refl, sym, ap, ◌∙◌, subst, arith, add-zero, zero-add}
+use Rattle.std.specs.Prelude.{Option, slice_get, All, Contains}
 use Rattle.std.specs.Option.{option_map}
 use Rattle.std.specs.List.{enumerate_from}
 use Rattle.std.specs.List.Sorted.{IsPermutation, IsNonDecreasingBy}
@@ -9,7 +9,7 @@ use Rattle.std.proofs.lemmas.List.{length-map}
 use Rattle.std.proofs.lemmas.List.FromFn.{length-enumerate_from}
 use Rattle.std.proofs.lemmas.List.Sorted.{Contains-permutation, IsPermutation-sym, length_permutation}
 use Rattle.plan_core.specs.declared.topology.Topology.{Topology}
-use Rattle.plan_core.specs.Topology.{Element, elements, IsResolved}
+use Rattle.plan_core.specs.Topology.{IsResolved}
 use Rattle.plan_core.specs.Graph.{Graph, Node, Edge, Ports, node, no_node}
 use Rattle.port_graph.specs.declared.runs.Run.{Run}
 use Rattle.port_graph.specs.declared.sites.Site.{Site}
@@ -19,10 +19,9 @@ use Rattle.port_graph.specs.Sites.{sites, node_number}
 use Rattle.port_graph.specs.PortRule.{ports_of}
 use Rattle.port_graph.specs.TopologyGraph.{edge_of, IsForward, AllForward, AreEdgesOf, IsNodeOf, IsGraphOf, HasFewNodes, HasFewEdges, IsGraphFault, edge_among, side_at}
 use Rattle.port_graph.specs.Ordered.{AreRunsOf, IsLevelFault, IsMismatchFault, node_among, nodes_among}
-use Rattle.port_graph.proofs.Sublists.{sublist-AllPairs}
-use Rattle.port_graph.proofs.FromFile.{site_element, sites_from_file}
+use Rattle.port_graph.proofs.FromFile.{site_places_differ}
 use Rattle.port_graph.proofs.ListPlaces.{place_of, contained, place_map, place_map_from}
-use Rattle.port_graph.proofs.Ranks.{pairs_of_image, place_in_order}
+use Rattle.port_graph.proofs.RankLemmas.{place_in_order}
 
 -- Edges.
 
@@ -59,12 +58,6 @@ level_fault t runs (SideMismatch n name) in_order nodes edges h = absurd h
 
 -- Nodes.
 
--- nodes stand at places of their own
-pub site_places : (t : Topology) → IsResolved t → AllPairs (λ (r s : Site). r.spot.at ≢ s.spot.at) (sites t)
-site_places t resolved =
-    pairs_of_image (λ (d e : Element). d.at ≢ e.at) site_element (sites t)
-    (sublist-AllPairs (λ (d e : Element). d.at ≢ e.at) (map site_element (sites t)) (elements t) (sites_from_file t) resolved.places_differ)
-
 -- the sites of a topology in the order of the file
 pub record AreInOrder (t : Topology) (ss : List Site) : Type 0 where
   pub same : IsPermutation (sites t) ss
@@ -72,7 +65,7 @@ pub record AreInOrder (t : Topology) (ss : List Site) : Type 0 where
 
 -- a site's place in order is its number
 pub site_number : (t : Topology) (ss : List Site) → IsResolved t → AreInOrder t ss → (n : ℕ) (s : Site) → slice_get ss n ≡ Some s → node_number t s.spot.at ≡ n
-site_number t ss resolved order n s there = place_in_order (λ (r : Site). r.spot.at) (sites t) ss order.same order.rise (site_places t resolved) n s there
+site_number t ss resolved order n s there = place_in_order (λ (r : Site). r.spot.at) (sites t) ss order.same order.rise (site_places_differ t resolved) n s there
 
 -- a site's number is its place in order
 pub site_place : (t : Topology) (ss : List Site) → IsResolved t → AreInOrder t ss → (s : Site) → Contains (sites t) s → slice_get ss (node_number t s.spot.at) ≡ Some s
@@ -125,9 +118,6 @@ with_ports s (Some ports) m is =
 
 becomes : (edges : List Edge) (n : ℕ) (s : Site) (m : Node) → node_among edges (n, s) ≡ Some m → Becomes edges n s m
 becomes edges n s m is = let h = with_ports s (ports_of (side_at edges n) s.meets) m is in record { name = h.0; mileage = h.1; ports = h.2 }
-
-some_same : {A : Type 0} (x y : A) → Some x ≡ Some y → x ≡ y
-some_same x y e = cc
 
 -- each site's node
 pub node_of_site : (edges : List Edge) (ss : List Site) (nodes : List Node) (n : ℕ) (s : Site) → map Some nodes ≡ nodes_among edges ss → slice_get ss n ≡ Some s → (m : Node) × (slice_get nodes n ≡ Some m) × Becomes edges n s m

@@ -14,6 +14,7 @@ use Rattle.plan_core.specs.Topology.{IsResolved}
 use Rattle.plan_core.specs.Graph.{Graph, Edge}
 use Rattle.plan_core.specs.declared.limits.TheConstants.{MAX_NODES, MAX_EDGES}
 use Rattle.plan_core.specs.declared.numbers.Micro.{Micro}
+use Rattle.plan_core.proofs.ListFacts.{pairs_head, pairs_tail}
 use Rattle.port_graph.specs.declared.fault.GraphFault.TheVariants.{NotForward, SideMismatch}
 use Rattle.port_graph.specs.declared.runs.Run.{Run}
 use Rattle.port_graph.specs.declared.runs.Join.{Join}
@@ -23,7 +24,6 @@ use Rattle.port_graph.specs.Sites.{sites}
 use Rattle.port_graph.specs.TopologyGraph.{edge_of, side_at, IsForward, IsGraphOf, IsGraphFault}
 use Rattle.port_graph.specs.Ordered.{AreRunsOf, nodes_among}
 use Rattle.port_graph.specs.PortRule.{ports_of}
-use Rattle.port_graph.proofs.Sublists.{pairs-head, pairs-tail}
 use Rattle.port_graph.proofs.RunOrder.{runs_in_order}
 use Rattle.port_graph.proofs.GraphLemmas.{are_edges, all_forward, is_graph, mismatch_fault}
 use Rattle.port_graph.proofs.Membership.{In, contains_in}
@@ -53,11 +53,11 @@ put_rises : {A : Type 0} (key : A → ℕ) (x : A) (ys : List A) → AllPairs (�
 put_rises {A} key x [] pairs = AllPairs-cons (λ (a b : A). key a ≤ key b) x [] (All-nil (λ (b : A). key x ≤ key b)) pairs
 put_rises {A} key x (y ∷ ys) pairs =
     let R : A → A → Type 0 = λ a b. key a ≤ key b in
-    let over : All (R y) ys = pairs-head R y ys pairs in
+    let over : All (R y) ys = pairs_head R y ys pairs in
     elim (nat_lt (key y) (key x)) as (λ b. nat_lt (key y) (key x) ≡ b → AllPairs R (cond b (y ∷ put_by key x ys) (x ∷ y ∷ ys))) [
       | true ↦ λ less.
           let le : key y ≤ key x = omega (arith, ltb-true (key y) (key x) less) in
-          AllPairs-cons R y (put_by key x ys) (All-permutation (R y) (x ∷ ys) (put_by key x ys) (put_same key x ys) (All-cons (R y) x ys le over)) (put_rises key x ys (pairs-tail R y ys pairs))
+          AllPairs-cons R y (put_by key x ys) (All-permutation (R y) (x ∷ ys) (put_by key x ys) (put_same key x ys) (All-cons (R y) x ys le over)) (put_rises key x ys (pairs_tail R y ys pairs))
       | false ↦ λ more.
           let le : key x ≤ key y = ltb-false (key y) (key x) more in
           AllPairs-cons R x (y ∷ ys) (All-cons (R x) y ys le (All-weaker (R y) (R x) (λ z h. let g : key y ≤ key z = h in omega arith) ys over)) pairs

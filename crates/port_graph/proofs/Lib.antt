@@ -10,7 +10,6 @@ pub mod FromFile
 pub mod EdgeLemmas
 pub mod NodeLemmas
 pub mod ListPlaces
-pub mod Ranks
 pub mod RunOrder
 pub mod GraphLemmas
 pub mod StationLemmas

@@ -1,17 +1,7 @@
 -- Elements of a list by their place.
-use Rattle.std.proofs.Common.{◌≡◌, ℕ, zero, suc, ◌+◌, ◌<◌, ◌⊎◌, inl, inr, List, [], ◌∷◌, ◌++◌, length, map, Some, None, refl, ap, ◌∙◌, arith, zero-add}
+use Rattle.std.proofs.Common.{◌≡◌, ℕ, zero, suc, ◌+◌, ◌⊎◌, inl, inr, List, [], ◌∷◌, ◌++◌, length, map, Some, None, refl, ap, ◌∙◌, arith, zero-add}
 use Rattle.std.specs.Prelude.{slice_get, Contains}
 use Rattle.std.proofs.lemmas.Option.{slice_get_within, get_or_from_slice_get, slice_get-get_or}
-
--- an element of the front, and one of the back
-pub place_front : {A : Type 0} (xs ys : List A) (i : ℕ) (x : A) → slice_get xs i ≡ Some x → slice_get (xs ++ ys) i ≡ Some x
-place_front {A} [] ys i x is = absurd (let e : None ≡ Some x = is in cc)
-place_front (z ∷ xs) ys zero x is = is
-place_front (z ∷ xs) ys (suc i) x is = place_front xs ys i x is
-
-pub place_back : {A : Type 0} (xs ys : List A) (i : ℕ) → slice_get (xs ++ ys) (length xs + i) ≡ slice_get ys i
-place_back [] ys i = ap (slice_get ys) (zero-add i)
-place_back (z ∷ xs) ys i = ap (slice_get (z ∷ (xs ++ ys))) (let e : length (z ∷ xs) + i ≡ suc (length xs + i) = omega arith in e) ∙ place_back xs ys i
 
 -- an element of two lists joined is one of the front or one of the back
 pub place_cases : {A : Type 0} (xs ys : List A) (i : ℕ) (x : A) → slice_get (xs ++ ys) i ≡ Some x → (slice_get xs i ≡ Some x) ⊎ ((n : ℕ) × (length xs + n ≡ i) × (slice_get ys n ≡ Some x))
@@ -41,7 +31,3 @@ place_map_from f (z ∷ xs) zero y is = (z, refl, (let e : Some (f z) ≡ Some y
 place_map_from f (z ∷ xs) (suc n) y is = place_map_from f xs n y is
 
 -- at each place of a list something stands
-pub place_within : {A : Type 0} (xs : List A) (i : ℕ) → i < length xs → (x : A) × (slice_get xs i ≡ Some x)
-place_within [] i within = absurd (omega arith)
-place_within (z ∷ xs) zero within = (z, refl)
-place_within (z ∷ xs) (suc i) within = place_within xs i (omega arith)

@@ -4,6 +4,7 @@ use Rattle.std.specs.Prelude.{nat_lt, slice_get, unwrap_or, option_and_then}
 use Rattle.std.specs.Option.{option_map_or}
 use Rattle.std.specs.List.{enumerate_from}
 use Rattle.std.proofs.lemmas.Bool.{false≢true, ltb-false, lt-ltb}
+use Rattle.std.proofs.lemmas.Option.{same_Some, none-some}
 use Rattle.plan_core.specs.declared.topology.Topology.{Topology}
 use Rattle.plan_core.specs.declared.topology.Track.{Track}
 use Rattle.plan_core.specs.declared.topology.End.{End as TrackEnd}
@@ -21,7 +22,7 @@ use Rattle.port_graph.specs.Spots.{end_spot, inner_spot, spot_at, is_track_end, 
 use Rattle.port_graph.specs.Runs.{piece_number, last_piece, join_of, edge_toward, edge_beyond}
 use Rattle.port_graph.specs.Sites.{end_meeting, end_sites, inner_meeting, inner_site, track_sites, sites}
 use Rattle.port_graph.specs.Sides.{edges_met}
-use Rattle.port_graph.proofs.Membership.{In, some_same, not_some, in_left, in_right, in_append, in_map, in_numbered, numbered_in}
+use Rattle.port_graph.proofs.Membership.{In, in_left, in_right, in_append, in_map, in_numbered, numbered_in}
 use Rattle.port_graph.proofs.Places.{Where, at_end, at_inner, end_of, end_part, end_place, where_is, end_connection, end_spot_at, inner_spot_at, end_is_end, same_place, ends_apart}
 
 -- ---- edges beyond connections
@@ -65,11 +66,11 @@ after_met t before after (Switch outgoing hand track_diverges conn) = inr (inl r
 after_met t before after (Crossing hand incoming outgoing) = inr (inl refl)
 
 pub connection_met : (t : Topology) (before after : ℕ) (what : InnerKind) (m : ℕ) (c : Conn) → slice_get (connections what) m ≡ Some c → In (edge_beyond t c) (edges_met (inner_meeting t before after what))
-connection_met t before after (Switch outgoing hand track_diverges conn) zero c is = inr (inr (inl (ap (edge_beyond t) (some_same conn c is))))
-connection_met t before after (Switch outgoing hand track_diverges conn) (suc m) c is = absurd (not_some c is)
-connection_met t before after (Crossing hand incoming outgoing) zero c is = inr (inr (inl (ap (edge_beyond t) (some_same incoming c is))))
-connection_met t before after (Crossing hand incoming outgoing) (suc zero) c is = inr (inr (inr (inl (ap (edge_beyond t) (some_same outgoing c is)))))
-connection_met t before after (Crossing hand incoming outgoing) (suc (suc m)) c is = absurd (not_some c is)
+connection_met t before after (Switch outgoing hand track_diverges conn) zero c is = inr (inr (inl (ap (edge_beyond t) (same_Some conn c is))))
+connection_met t before after (Switch outgoing hand track_diverges conn) (suc m) c is = absurd (none-some c is)
+connection_met t before after (Crossing hand incoming outgoing) zero c is = inr (inr (inl (ap (edge_beyond t) (same_Some incoming c is))))
+connection_met t before after (Crossing hand incoming outgoing) (suc zero) c is = inr (inr (inr (inl (ap (edge_beyond t) (same_Some outgoing c is)))))
+connection_met t before after (Crossing hand incoming outgoing) (suc (suc m)) c is = absurd (none-some c is)
 
 -- an edge at a switch or crossing is the piece before it, the piece after it, or beyond a connection
 pub data Met (t : Topology) (before after : ℕ) (what : InnerKind) (e : ℕ) : Type 0 where
@@ -94,8 +95,8 @@ abbrev pub site_of_end : Topology → TrackEnd → ℕ → Site
 site_of_end t e n = record { id = e.id; spot = end_spot e; meets = end_meeting t n e.joined }
 
 numbered_there : {X : Type 0} (n : ℕ) (xs : List X) (i : ℕ) (x : X) → slice_get xs i ≡ Some x → In (n + i, x) (enumerate_from n xs)
-numbered_there n [] i x is = absurd (not_some x is)
-numbered_there {X} n (y ∷ ys) zero x is = let F : ℕ → X → ℕ × X = λ k z. (k, z) in inl (ap (λ (k : ℕ). F k y) (omega arith) ∙ ap (F (n + 0)) (some_same y x is))
+numbered_there n [] i x is = absurd (none-some x is)
+numbered_there {X} n (y ∷ ys) zero x is = let F : ℕ → X → ℕ × X = λ k z. (k, z) in inl (ap (λ (k : ℕ). F k y) (omega arith) ∙ ap (F (n + 0)) (same_Some y x is))
 numbered_there {X} n (y ∷ ys) (suc i) x is = inr (subst (λ (k : ℕ). In (k, x) (enumerate_from (n + 1) ys)) (omega arith) (numbered_there (n + 1) ys i x is))
 
 there_numbered : {X : Type 0} (n : ℕ) (xs : List X) (ix : ℕ × X) → In ix (enumerate_from n xs) → (i : ℕ) × (slice_get xs i ≡ Some ix.1) × (ix.0 ≡ n + i)

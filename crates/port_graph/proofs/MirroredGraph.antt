@@ -18,6 +18,7 @@ use Rattle.plan_core.specs.declared.topology.Inner.{Inner}
 use Rattle.plan_core.specs.Graph.{Graph, Node, Edge, Ports, End, Joint, Switch, Crossing, node, edge, no_node, mileage, edges_of, AreAt, IsPortOf, ArePortsOf, IsTrackGraph}
 use Rattle.plan_core.specs.Topology.{Element, elements, track_element, end_elements, inner_element, inner_elements, track_elements, conn_element, track_miles, IsMileage, IsId, IsResolved}
 use Rattle.plan_core.specs.declared.topology.Conn.{Conn}
+use Rattle.plan_core.proofs.Listing.{Contains-map}
 use Rattle.port_graph.specs.declared.fault.GraphFault.{GraphFault}
 use Rattle.port_graph.specs.declared.fault.GraphFault.TheVariants.{TooManyNodes, TooManyEdges, NotForward, SideMismatch, Memory}
 use Rattle.port_graph.specs.declared.runs.Run.{Run}
@@ -30,7 +31,6 @@ use Rattle.port_graph.specs.Sites.{sites, node_number}
 use Rattle.port_graph.specs.StationGraph.{IsStationGraph}
 use Rattle.port_graph.specs.TopologyGraph.{west_of, east_of, edge_of, IsRun, AreEdgesOf, side_at, IsNodeOf, IsGraphOf, IsStationGraphOf, AllForward, IsFirstLevel, IsFirstMismatch, IsGraphFault}
 use Rattle.port_graph.specs.Mirrored.{other_hand, mirrored_inner, mirrored_track, mirrored_topology, mirrored_ports, mirrored_node, mirrored_graph}
-use Rattle.port_graph.proofs.Membership.{contains_map}
 use Rattle.port_graph.proofs.PortLemmas.{apart_moved}
 use Rattle.port_graph.proofs.TurnedGraph.{contains_back}
 use Rattle.port_graph.proofs.TurnedLists.{flat_alike, map_alike}
@@ -252,7 +252,7 @@ IsFirstMismatch-mirrored t n name is = record {
   edges = is.edges;
   built = AreEdgesOf-mirrored t is.edges is.built;
   site = mirrored_site is.site;
-  there = subst (λ (l : List Site). Contains l (mirrored_site is.site)) (sym (sites-mirrored t)) (contains_map mirrored_site (sites t) is.site is.there);
+  there = subst (λ (l : List Site). Contains l (mirrored_site is.site)) (sym (sites-mirrored t)) (Contains-map mirrored_site (sites t) is.site is.there);
   numbered = node_number-mirrored t is.site.spot.at ∙ is.numbered;
   named = is.named;
   mismatched = ports_of-mirrored (side_at is.edges n) is.site.meets ∙ ap (option_map mirrored_ports) is.mismatched;

@@ -24,9 +24,6 @@ node_over edges there next all ss i s within is so_far pushed =
 abbrev pub MatchBelow : List Edge → List Site → ℕ → Type 0
 MatchBelow edges ss i = (m : ℕ) (r : Site) → m < i → slice_get ss m ≡ Some r → IsSome (ports_of (side_at edges m) r.meets)
 
-same_some : {A : Type 0} (x y : A) → Some x ≡ Some y → x ≡ y
-same_some x y e = cc
-
 pub match_more : (edges : List Edge) (ss : List Site) (i : ℕ) (s : Site) → i < length ss → s ≡ get_or ss i s → MatchBelow edges ss i → IsSome (ports_of (side_at edges i) s.meets) → MatchBelow edges ss (i + 1)
 match_more edges ss i s within is below here m r less there =
     below_more (λ k. (q : Site) → slice_get ss k ≡ Some q → IsSome (ports_of (side_at edges k) q.meets)) i (λ k small q at. below k q small at)

@@ -2,7 +2,7 @@
 use Rattle.std.proofs.Common.{◌≡◌, ◌≢◌, ℕ, suc, ◌<◌, ◌≤◌, ℤ, List, [], ◌∷◌, length, Option, Some, None, Result, ◌⊎◌, refl, sym, ap, ◌∙◌, subst, inl, inr, arith}
 use Rattle.std.specs.Prelude.{slice_get, IsSome, IfOk, IfErr}
 use Rattle.std.proofs.lemmas.Bool.{cases_order, cases_eq, false≢true}
-use Rattle.std.proofs.lemmas.Option.{slice_get-get_or, slice_get_within}
+use Rattle.std.proofs.lemmas.Option.{slice_get-get_or, slice_get_within, same_Some, none-some}
 use Rattle.plan_core.specs.declared.topology.Topology.{Topology}
 use Rattle.plan_core.specs.Graph.{Graph, Node, Edge, Ports, node, no_node}
 use Rattle.plan_core.specs.Topology.{IsResolved}
@@ -17,10 +17,12 @@ use Rattle.port_graph.specs.Sites.{sites, node_number}
 use Rattle.port_graph.specs.TopologyGraph.{IsRun, AreEdgesOf, side_at, IsNodeOf, IsGraphOf, IsStationGraphOf, IsFirstLevel, IsFirstMismatch, IsGraphFault}
 use Rattle.plan_core.specs.Exactly.{AnswersExactly}
 use Rattle.plan_core.proofs.ExactlyLemmas.{answers_exactly}
-use Rattle.port_graph.proofs.Membership.{In, contains_in, in_contains, at_in, some_same, not_some, pairs_at}
+use Rattle.port_graph.proofs.Membership.{In, contains_in, in_contains, at_in, pairs_at}
 use Rattle.port_graph.proofs.RankLemmas.{one_rank}
-use Rattle.port_graph.proofs.TrackGraphLemmas.{join_places_differ, numbered_run, numbered_site, length-pieces}
+use Rattle.port_graph.proofs.TrackGraphLemmas.{numbered_run, numbered_site}
 use Rattle.port_graph.proofs.TurnedNodes.{one_site, all_forward_of}
+use Rattle.port_graph.proofs.FromFile.{join_places_differ}
+use Rattle.port_graph.proofs.RunLemmas.{length-pieces}
 
 -- lists of one length with the same elements are one
 same_lists : {X : Type 0} (xs ys : List X) → length xs ≡ length ys → ((i : ℕ) → i < length xs → slice_get xs i ≡ slice_get ys i) → xs ≡ ys
@@ -29,7 +31,7 @@ same_lists [] (y ∷ ys) long same = absurd (omega (arith, long))
 same_lists (x ∷ xs) [] long same = absurd (omega (arith, long))
 same_lists {X} (x ∷ xs) (y ∷ ys) long same =
     let rest : xs ≡ ys = same_lists xs ys (omega (arith, long)) (λ i within. same (suc i) (omega arith)) in
-    ap (λ (z : X). z ∷ xs) (some_same x y (same 0 (omega arith))) ∙ ap (λ (l : List X). y ∷ l) rest
+    ap (λ (z : X). z ∷ xs) (same_Some x y (same 0 (omega arith))) ∙ ap (λ (l : List X). y ∷ l) rest
 
 -- ---- the graph
 
@@ -49,7 +51,7 @@ node_at : (t : Topology) (g h : Graph) (s : Site) → g.edges ≡ h.edges → Is
 node_at t g h s edges is is' =
     let n : ℕ = node_number t s.spot.at in
     same_node (node g n) (node h n) (is.name ∙ sym is'.name) (is.mileage ∙ sym is'.mileage)
-    (some_same (node g n).ports (node h n).ports (sym is.ports ∙ ap (λ (l : List Edge). ports_of (side_at l n) s.meets) edges ∙ is'.ports))
+    (same_Some (node g n).ports (node h n).ports (sym is.ports ∙ ap (λ (l : List Edge). ports_of (side_at l n) s.meets) edges ∙ is'.ports))
 
 pub one_graph : (t : Topology) (g h : Graph) → IsResolved t → IsGraphOf t g → IsGraphOf t h → g ≡ h
 one_graph t g h resolved is is' =
@@ -67,7 +69,7 @@ one_graph t g h resolved is is' =
 -- ---- no fault beside a graph
 
 none_some : {X : Type 0} (o : Option X) (x : X) → o ≡ None → o ≡ Some x → ⊥
-none_some o x is is' = not_some x (sym is ∙ is')
+none_some o x is is' = none-some x (sym is ∙ is')
 
 mismatch_beside : (t : Topology) (g : Graph) (n : ℕ) (name : List ℕ) → IsResolved t → IsGraphOf t g → IsFirstMismatch t n name → ⊥
 mismatch_beside t g n name resolved is fault =
@@ -96,12 +98,12 @@ one_join t resolved j j' there there' same =
     let i = at_in (joins t) j there in
     let i' = at_in (joins t) j' there' in
     elim (cases_eq i.0 i'.0) [
-      | inl one ↦ some_same j j' (sym i.1 ∙ ap (slice_get (joins t)) one ∙ i'.1)
+      | inl one ↦ same_Some j j' (sym i.1 ∙ ap (slice_get (joins t)) one ∙ i'.1)
       | inr differ ↦ absurd (pairs_at (λ (a b : Join). a.at ≢ b.at) (λ a b apart e. apart (sym e)) (joins t) i.0 i'.0 j j' (join_places_differ t resolved) i.1 i'.1 differ same)
     ]
 
 pub one_run : (t : Topology) → IsResolved t → (e : ℕ) (r r' : Run) → IsRun t e r → IsRun t e r' → r ≡ r'
-one_run t resolved e r r' (inl piece) (inl piece') = some_same r r' (sym piece ∙ piece')
+one_run t resolved e r r' (inl piece) (inl piece') = same_Some r r' (sym piece ∙ piece')
 one_run t resolved e r r' (inl piece) (inr join) =
     let within = slice_get_within (pieces t) e r piece in
     let total = length-pieces t in
@@ -131,7 +133,7 @@ one_level t e e' track track' m m' resolved is is' =
 
 none_isnt_some : {X : Type 0} (o : Option X) → o ≡ None → IsSome o → ⊥
 none_isnt_some None is there = false≢true there
-none_isnt_some (Some x) is there = not_some x (sym is)
+none_isnt_some (Some x) is there = none-some x (sym is)
 
 earlier_mismatch : (t : Topology) (n n' : ℕ) (name name' : List ℕ) → IsResolved t → IsFirstMismatch t n name → IsFirstMismatch t n' name' → n' ≤ n
 earlier_mismatch t n n' name name' resolved is is' =

@@ -4,7 +4,7 @@ use Rattle.std.specs.Prelude.{AllPairs, slice_get, option_and_then, option_to_li
 use Rattle.std.specs.Option.{option_map}
 use Rattle.std.specs.List.{flat_map}
 use Rattle.std.proofs.lemmas.Bool.{cases_eq}
-use Rattle.std.proofs.lemmas.Option.{slice_get-map}
+use Rattle.std.proofs.lemmas.Option.{slice_get-map, same_Some, none-some}
 use Rattle.plan_core.specs.declared.topology.Topology.{Topology}
 use Rattle.plan_core.specs.declared.topology.Track.{Track}
 use Rattle.plan_core.specs.declared.topology.End.{End as TrackEnd}
@@ -16,8 +16,9 @@ use Rattle.plan_core.specs.declared.topology.Place.{Place}
 use Rattle.plan_core.specs.declared.topology.Part.{Part}
 use Rattle.plan_core.specs.declared.topology.Part.TheVariants.{Begin, End, Branch, Incoming, Outgoing}
 use Rattle.plan_core.specs.Topology.{Element, conn_element, end_element, inner_element, connections, end_elements, inner_elements, track_element, track_elements, branch_of, incoming_of, outgoing_of, connection_of, connection, IsResolved}
+use Rattle.plan_core.proofs.ListFacts.{pairs_tail}
 use Rattle.port_graph.specs.Spots.{end_spot, inner_spot, spot_on, spot_at, is_track_end}
-use Rattle.port_graph.proofs.Membership.{In, some_same, not_some, in_at, in_left, in_right, in_map, in_flat, bound, pairs_tail, pairs_across, pairs_left, pairs_right, pairs_at, pairs_apart, pairs_within}
+use Rattle.port_graph.proofs.Membership.{In, in_at, in_left, in_right, in_map, in_flat, bound, pairs_across, pairs_left, pairs_right, pairs_at, pairs_apart, pairs_within}
 
 -- ---- places
 
@@ -47,14 +48,14 @@ pub data Where (t : Topology) (p : Place) (c : Conn) : Type 0 where
 
 branch_there : (what : InnerKind) (i : ℕ) (c : Conn) → branch_of what ≡ Some c → (Branch i ≡ inner_part what i 0) × (slice_get (connections what) 0 ≡ Some c)
 branch_there (Switch outgoing hand track_diverges conn) i c is = (refl, is)
-branch_there (Crossing hand incoming outgoing) i c is = absurd (not_some c is)
+branch_there (Crossing hand incoming outgoing) i c is = absurd (none-some c is)
 
 incoming_there : (what : InnerKind) (i : ℕ) (c : Conn) → incoming_of what ≡ Some c → (Incoming i ≡ inner_part what i 0) × (slice_get (connections what) 0 ≡ Some c)
-incoming_there (Switch outgoing hand track_diverges conn) i c is = absurd (not_some c is)
+incoming_there (Switch outgoing hand track_diverges conn) i c is = absurd (none-some c is)
 incoming_there (Crossing hand incoming outgoing) i c is = (refl, is)
 
 outgoing_there : (what : InnerKind) (i : ℕ) (c : Conn) → outgoing_of what ≡ Some c → (Outgoing i ≡ inner_part what i 1) × (slice_get (connections what) 1 ≡ Some c)
-outgoing_there (Switch outgoing hand track_diverges conn) i c is = absurd (not_some c is)
+outgoing_there (Switch outgoing hand track_diverges conn) i c is = absurd (none-some c is)
 outgoing_there (Crossing hand incoming outgoing) i c is = (refl, is)
 
 where_on : (t : Topology) (p : Place) (c : Conn) (track : Track) (part : Part) → slice_get t.tracks p.track ≡ Some track → p.part ≡ part → connection_of track part ≡ Some c → Where t p c
@@ -87,12 +88,12 @@ end_connection t k track false here = ap (option_and_then (λ (track : Track). c
 inner_there : (track : Track) (i m : ℕ) (x : Inner) (what : InnerKind) (c : Conn) → x.what ≡ what → slice_get track.inner i ≡ Some x → slice_get (connections what) m ≡ Some c → connection_of track (inner_part what i m) ≡ Some c
 inner_there track i zero x (Switch outgoing hand track_diverges conn) c what at_i at_m =
     ap (option_and_then (λ (x : Inner). branch_of x.what)) at_i ∙ ap branch_of what ∙ at_m
-inner_there track i (suc m) x (Switch outgoing hand track_diverges conn) c what at_i at_m = absurd (not_some c at_m)
+inner_there track i (suc m) x (Switch outgoing hand track_diverges conn) c what at_i at_m = absurd (none-some c at_m)
 inner_there track i zero x (Crossing hand incoming outgoing) c what at_i at_m =
     ap (option_and_then (λ (x : Inner). incoming_of x.what)) at_i ∙ ap incoming_of what ∙ at_m
 inner_there track i (suc zero) x (Crossing hand incoming outgoing) c what at_i at_m =
     ap (option_and_then (λ (x : Inner). outgoing_of x.what)) at_i ∙ ap outgoing_of what ∙ at_m
-inner_there track i (suc (suc m)) x (Crossing hand incoming outgoing) c what at_i at_m = absurd (not_some c at_m)
+inner_there track i (suc (suc m)) x (Crossing hand incoming outgoing) c what at_i at_m = absurd (none-some c at_m)
 
 pub inner_connection : (t : Topology) (k : ℕ) (track : Track) (i m : ℕ) (x : Inner) (c : Conn) → slice_get t.tracks k ≡ Some track → slice_get track.inner i ≡ Some x → slice_get (connections x.what) m ≡ Some c → connection t (inner_place k x.what i m) ≡ Some c
 inner_connection t k track i m x c here at_i at_m =
@@ -201,7 +202,7 @@ ends_apart t resolved k k' track track' last last' here here' differ =
           tracks_apart t resolved k k' track track' (end_element (end_of track last)) (end_element (end_of track' last')) here here' other
           (in_end track last (end_element (end_of track last)) (inl refl)) (in_end track' last' (end_element (end_of track' last')) (inl refl))
       | inl same ↦
-          let one : track ≡ track' = some_same track track' (sym here ∙ ap (λ (n : ℕ). slice_get t.tracks n) same ∙ here') in
+          let one : track ≡ track' = same_Some track track' (sym here ∙ ap (λ (n : ℕ). slice_get t.tracks n) same ∙ here') in
           subst (λ (u : Track). (end_of track last).at ≢ (end_of u last').at) one
           (ends_of_one track last last' (end_element (end_of track last)) (end_element (end_of track last')) (parts_differ t resolved k track here)
           (λ e. differ (same_place (end_place k last) (end_place k' last') same (ap end_part e))) (inl refl) (inl refl))
@@ -229,7 +230,7 @@ apart_on track part part' c d pairs differ (on_inner i m x at_i on is) (on_inner
       | inr other ↦
           pairs_apart Differ flip inner_elements track.inner i j x y (conn_element c) (conn_element d) (inners_differ track pairs) at_i at_j other (connection_in x m c is) (connection_in y m' d is')
       | inl same ↦
-          let one : y ≡ x = some_same y x (sym at_j ∙ ap (slice_get track.inner) (sym same) ∙ at_i) in
+          let one : y ≡ x = same_Some y x (sym at_j ∙ ap (slice_get track.inner) (sym same) ∙ at_i) in
           one_inner track i m m' x part part' c d (pairs_within Differ inner_elements track.inner i x (inners_differ track pairs) at_i) differ on
           (on' ∙ ap (λ (n : ℕ). inner_part y.what n m') (sym same) ∙ ap (λ (z : Inner). inner_part z.what i m') one) is
           (subst (λ (z : Inner). slice_get (connections z.what) m' ≡ Some d) one is')
@@ -252,7 +253,7 @@ connections_apart t resolved p q c d is is' differ =
       | inr other ↦
           tracks_apart t resolved p.track q.track a.0 b.0 (conn_element c) (conn_element d) a.1 b.1 other (on_in a.0 p.part c a.2) (on_in b.0 q.part d b.2)
       | inl same ↦
-          let one : b.0 ≡ a.0 = some_same b.0 a.0 (sym b.1 ∙ ap (slice_get t.tracks) (sym same) ∙ a.1) in
+          let one : b.0 ≡ a.0 = same_Some b.0 a.0 (sym b.1 ∙ ap (slice_get t.tracks) (sym same) ∙ a.1) in
           apart_on a.0 p.part q.part c d (parts_differ t resolved p.track a.0 a.1) (λ e. differ (same_place p q same e)) a.2
           (subst (λ (u : Track). On u q.part d) one b.2)
     ]

@@ -3,7 +3,7 @@ use Rattle.std.proofs.Common.{◌≡◌, ◌≢◌, ℕ, ◌<◌, true, false, c
 use Rattle.std.specs.Prelude.{All, AllPairs, Contains}
 use Rattle.std.specs.List.Sorted.{IsPermutation}
 use Rattle.std.proofs.Common.{inl, inr}
-use Rattle.std.proofs.lemmas.Bool.{false≢true}
+use Rattle.std.proofs.lemmas.Bool.{false≢true, eqb-false, ne_eqb}
 use Rattle.std.proofs.lemmas.List.Sorted.{IsPermutation-refl, All-permutation, Contains-permutation}
 use Rattle.std.proofs.lemmas.Map.Keys.{IsDistinct-from_apart, IsDistinct-IsPermutation, apart_from_distinct}
 use Rattle.std.specs.Cmp.{nat_eq_equiv}
@@ -137,19 +137,12 @@ same_edges side (meeting.Switch false hand false before after branch) ports is =
 same_edges side (meeting.Crossing hand before after incoming outgoing) ports is =
     crossing_edges hand before.0 after.0 incoming.0 outgoing.0 _ _ _ _ ports is
 
-different : (a b : ℕ) → eqb a b ≡ false → a ≢ b
-different a b is same = false≢true (sym is ∙ eq-eqb a b same)
-
-apart : (a b : ℕ) → a ≢ b → eqb a b ≡ false
-apart a b differ =
-    elim (eqb a b) as (λ t. eqb a b ≡ t → t ≡ false) [ true ↦ λ is. absurd (differ (eqb-true a b is)) | false ↦ λ is. refl ] refl
-
 -- numbers that differ do so in another order too
 pub apart_moved : (xs ys : List ℕ) → IsPermutation xs ys → AllPairs (λ (e f : ℕ). e ≢ f) xs → AllPairs (λ (e f : ℕ). e ≢ f) ys
 apart_moved xs ys moved differ i j d less within =
-    different _ _
+    eqb-false _ _
     (apart_from_distinct eqb ys i j d
-    (IsDistinct-IsPermutation eqb nat_eq_equiv.symm xs ys moved (IsDistinct-from_apart eqb xs (λ i j d less within. apart _ _ (differ i j d less within))))
+    (IsDistinct-IsPermutation eqb nat_eq_equiv.symm xs ys moved (IsDistinct-from_apart eqb xs (λ i j d less within. ne_eqb _ _ (differ i j d less within))))
     less within)
 
 -- the ports of edges that are there, differ and have the node at one of their ends

@@ -5,7 +5,7 @@ use Rattle.std.specs.List.{flat_map, enumerate_from, list_all}
 use Rattle.std.specs.Cmp.{int_ranks}
 use Rattle.std.specs.Ordering.{int_cmp, MatchOrdering, is_lt}
 use Rattle.std.specs.declared.cmp.Ordering.TheVariants.{Less, Equal, Greater}
-use Rattle.std.proofs.lemmas.Bool.{false≢true, and_parts, cases_lt}
+use Rattle.std.proofs.lemmas.Bool.{false≢true, and_parts, cases_lt, eqb-false, not-true}
 use Rattle.std.proofs.Math.ListN.{get_or-eq_default}
 use Rattle.std.proofs.lemmas.List.Sums.{AllPass-from_list_all}
 use Rattle.std.proofs.lemmas.List.Elements.{All-weaker, All-contains}
@@ -13,6 +13,7 @@ use Rattle.std.proofs.lemmas.List.Kept.{AllPairs-cons}
 use Rattle.std.specs.Str.{IsAscii}
 use Rattle.std.proofs.lemmas.Str.{chars-IsAscii}
 use Rattle.std.proofs.lemmas.Slice.Eq.{bytes_eq-Decides}
+use Rattle.std.proofs.lemmas.Bool.Decides.{not_from_Decides}
 use Rattle.plan_core.specs.declared.topology.Topology.{Topology}
 use Rattle.plan_core.specs.declared.topology.Track.{Track}
 use Rattle.plan_core.specs.declared.topology.End.{End as TrackEnd}
@@ -56,16 +57,12 @@ abbrev pub apart_test : {A : Type 0} → (A → A → Bool) → List A → Bool
 apart_test same [] = true
 apart_test same (x ∷ xs) = list_all (λ y. not (same x y)) xs && apart_test same xs
 
-not_true : (b : Bool) → not b ≡ true → b ≡ false
-not_true true is = absurd (false≢true is)
-not_true false is = refl
-
 apart_sound : {A : Type 0} (same : A → A → Bool) (xs : List A) → apart_test same xs ≡ true → AllPairs (λ x y. same x y ≡ false) xs
 apart_sound same [] is = λ i j d less within. absurd (omega arith)
 apart_sound {A} same (x ∷ xs) is =
     let parts = and_parts (list_all (λ y. not (same x y)) xs) (apart_test same xs) is in
     AllPairs-cons (λ (y z : A). same y z ≡ false) x xs
-    (All-weaker (λ y. not (same x y) ≡ true) (λ y. same x y ≡ false) (λ y. not_true (same x y)) xs (AllPass-from_list_all (λ y. not (same x y)) xs parts.0))
+    (All-weaker (λ y. not (same x y) ≡ true) (λ y. same x y ≡ false) (λ y. not-true (same x y)) xs (AllPass-from_list_all (λ y. not (same x y)) xs parts.0))
     (apart_sound same xs parts.1)
 
 pairs_weaker : {A : Type 0} (R S : A → A → Type 0) (xs : List A) → ((x y : A) → R x y → S x y) → AllPairs R xs → AllPairs S xs
@@ -195,7 +192,7 @@ back_sound p to None is = absurd (false≢true is)
 back_sound p to (Some other) is =
     let parts = and_parts (same_place_test other.to p) (not (same_place_test to p)) is in (
       (other, refl, place_sound other.to p parts.0),
-      λ same. false≢true (sym (not_true (same_place_test to p) parts.1) ∙ ap (λ q. same_place_test to q) (sym same) ∙ place_refl to),
+      λ same. false≢true (sym (not-true (same_place_test to p) parts.1) ∙ ap (λ q. same_place_test to q) (sym same) ∙ place_refl to),
     )
 
 joins_sound : (t : Topology) → both_ways_test t ≡ true → LeadsBothWays t
@@ -217,12 +214,6 @@ resolved_test t =
     && (apart_test (λ (d e : Element). eqb d.at e.at) (elements t)
     && (both_ways_test t && list_all mile_test (flat_map track_miles t.tracks)))))
 
-other_texts : (a b : List ℕ) → bytes_eq a b ≡ false → a ≢ b
-other_texts a b is same = false≢true (sym is ∙ (bytes_eq-Decides a b).1 same)
-
-other_numbers : (a b : ℕ) → eqb a b ≡ false → a ≢ b
-other_numbers a b is same = false≢true (sym is ∙ eq-eqb a b same)
-
 pub resolved_by_test : (t : Topology) → resolved_test t ≡ true → IsResolved t
 resolved_by_test t is =
     let b = and_parts (nat_lt (length (elements t)) (2 ^ 32)) _ is in
@@ -233,8 +224,8 @@ resolved_by_test t is =
     record {
       few = ltb-true (length (elements t)) (2 ^ 32) b.0;
       ids = All-weaker (λ (x : Element). id_test x.id ≡ true) (λ (x : Element). IsId x.id) (λ x. id_sound x.id) (elements t) (AllPass-from_list_all _ (elements t) c.0);
-      ids_differ = pairs_weaker _ (λ (x y : Element). x.id ≢ y.id) (elements t) (λ x y. other_texts x.id y.id) (apart_sound (λ (x y : Element). bytes_eq x.id y.id) (elements t) d.0);
-      places_differ = pairs_weaker _ (λ (x y : Element). x.at ≢ y.at) (elements t) (λ x y. other_numbers x.at y.at) (apart_sound (λ (x y : Element). eqb x.at y.at) (elements t) e.0);
+      ids_differ = pairs_weaker _ (λ (x y : Element). x.id ≢ y.id) (elements t) (λ x y. not_from_Decides (bytes_eq x.id y.id) (bytes_eq-Decides x.id y.id)) (apart_sound (λ (x y : Element). bytes_eq x.id y.id) (elements t) d.0);
+      places_differ = pairs_weaker _ (λ (x y : Element). x.at ≢ y.at) (elements t) (λ x y. eqb-false x.at y.at) (apart_sound (λ (x y : Element). eqb x.at y.at) (elements t) e.0);
       joins = joins_sound t f.0;
       miles = All-weaker (λ m. mile_test m ≡ true) IsMileage mile_sound (flat_map track_miles t.tracks) (AllPass-from_list_all mile_test (flat_map track_miles t.tracks) f.1);
     }

@@ -2,8 +2,8 @@
 use Rattle.std.proofs.Common.{◌≡◌, ◌≢◌, ℕ, zero, suc, ◌+◌, ◌<◌, Bool, true, false, not, ◌&&◌, min, length, get_or, Option, Some, None, refl, sym, ap, ◌∙◌, subst, inl, inr, arith}
 use Rattle.std.specs.Prelude.{◌⊎◌, nat_lt, slice_get, unwrap_or}
 use Rattle.std.specs.Option.{option_map}
-use Rattle.std.proofs.lemmas.Bool.{false≢true, cases_lt, and_parts, ltb-true, lt-ltb, le-ltb}
-use Rattle.std.proofs.lemmas.Option.{slice_get_within, slice_get-get_or}
+use Rattle.std.proofs.lemmas.Bool.{false≢true, cases_lt, and_parts, ltb-true, lt-ltb, le-ltb, not-true}
+use Rattle.std.proofs.lemmas.Option.{slice_get_within, slice_get-get_or, same_Some}
 use Rattle.plan_core.specs.declared.topology.Topology.{Topology}
 use Rattle.plan_core.specs.declared.topology.Track.{Track}
 use Rattle.plan_core.specs.declared.topology.End.{End as TrackEnd}
@@ -20,21 +20,17 @@ use Rattle.port_graph.specs.Runs.{spots_along, piece_number, last_piece, joined_
 use Rattle.port_graph.specs.Sites.{end_meeting, sites}
 use Rattle.port_graph.specs.Sides.{edges_met}
 use Rattle.port_graph.specs.TopologyGraph.{IsRun}
-use Rattle.port_graph.proofs.Membership.{In, contains_in, in_contains, some_same}
+use Rattle.port_graph.proofs.Membership.{In, contains_in, in_contains}
 use Rattle.port_graph.proofs.Places.{Where, at_end, at_inner, end_of, end_part, inner_part, end_place, inner_place, where_is, end_connection, inner_connection, end_spot_at, inner_spot_at, end_is_end, inner_is_no_end, connections_apart}
 use Rattle.port_graph.proofs.RunLemmas.{spot_of_inner, spot_of_end, spot_cases, piece_at, piece_of, length-spots, join_from, IsJoin, join_of_list, join_there}
 use Rattle.port_graph.proofs.MeetingLemmas.{own, beyond_end, beyond_inner, last_is, Met, met_before, met_after, met_beyond, met_cases, before_met, after_met, connection_met, SiteOf, of_end, of_inner, site_of, node_beside_end, no_node_beside_inner, leads_own, leads_other, SiteWith, same_site_with, inner_with, leads_with}
 
 -- ---- what begins a join
 
-not_true : (b : Bool) → not b ≡ true → b ≡ false
-not_true true h = absurd (false≢true h)
-not_true false h = refl
-
 pub begins_parts : (t : Topology) (c : Conn) → begins_join t c ≡ true → (is_track_end c.to.part ≡ false) × (c.at < joined_at t c)
 begins_parts t c begins =
     let parts = and_parts (not (is_track_end c.to.part)) (nat_lt c.at (joined_at t c)) begins in
-    (not_true (is_track_end c.to.part) parts.0, ltb-true c.at (joined_at t c) parts.1)
+    (not-true (is_track_end c.to.part) parts.0, ltb-true c.at (joined_at t c) parts.1)
 
 pub begins_yes : (t : Topology) (c : Conn) → is_track_end c.to.part ≡ false → c.at < joined_at t c → begins_join t c ≡ true
 begins_yes t c inner less =
@@ -87,7 +83,7 @@ next_number t k i = ap (piece_number t k) (omega arith)
 
 piece_site_from : (t : Topology) → IsResolved t → (r : Run) (k i : ℕ) (track : Track) → slice_get t.tracks k ≡ Some track → slice_get (spots_along t track) i ≡ Some r.from → slice_get (spots_along t track) (suc i) ≡ Some r.to → SiteWith t r.from (piece_number t k i)
 piece_site_from t resolved r k zero track here from to =
-    same_site_with t (leads_to t track.begin) r.from (piece_number t k 0) (piece_number t k 0) (some_same (leads_to t track.begin) r.from from) refl
+    same_site_with t (leads_to t track.begin) r.from (piece_number t k 0) (piece_number t k 0) (same_Some (leads_to t track.begin) r.from from) refl
     (leads_with t resolved k track false here)
 piece_site_from t resolved r k (suc i) track here from to =
     elim (spot_cases t track i r.from from) [

@@ -5,7 +5,7 @@ use Rattle.std.specs.List.{flat_map}
 use Rattle.std.proofs.lemmas.Bool.{cases_lt}
 use Rattle.std.proofs.lemmas.List.{length-map, length-append}
 use Rattle.std.proofs.lemmas.List.Sums.{sum_by-cons}
-use Rattle.std.proofs.lemmas.Option.{slice_get_within}
+use Rattle.std.proofs.lemmas.Option.{slice_get_within, same_Some, none-some}
 use Rattle.plan_core.specs.declared.topology.Topology.{Topology}
 use Rattle.plan_core.specs.declared.topology.Track.{Track}
 use Rattle.plan_core.specs.declared.topology.Inner.{Inner}
@@ -16,7 +16,7 @@ use Rattle.port_graph.specs.declared.runs.Run.{Run}
 use Rattle.port_graph.specs.declared.runs.Join.{Join}
 use Rattle.port_graph.specs.Spots.{inner_spot, spot_at, leads_to}
 use Rattle.port_graph.specs.Runs.{spots_along, runs_between, track_pieces, pieces, piece_count, piece_number, begins_join, begun_join, inner_joins, track_joins, joins}
-use Rattle.port_graph.proofs.Membership.{In, some_same, not_some, in_at, in_flat, flat_in}
+use Rattle.port_graph.proofs.Membership.{In, in_at, in_flat, flat_in}
 
 -- ---- lists of parts, by numbers
 
@@ -33,9 +33,9 @@ append_right (x ∷ xs) ys (suc n) i is = append_right xs ys n i (omega arith)
 module _ {X Y : Type 0} (f : X → List Y) (g : X → ℕ) (long : (x : X) → length (f x) ≡ g x) where
   -- the i-th element of the k-th part
   pub flat_at : (xs : List X) (k i n : ℕ) (x : X) → slice_get xs k ≡ Some x → i < length (f x) → n ≡ sum_by g (take k xs) + i → slice_get (flat_map f xs) n ≡ slice_get (f x) i
-  flat_at [] k i n x here within is = absurd (not_some x here)
+  flat_at [] k i n x here within is = absurd (none-some x here)
   flat_at (z ∷ zs) zero i n x here within is =
-      let one : z ≡ x = some_same z x here in
+      let one : z ≡ x = same_Some z x here in
       let same : n ≡ i = omega arith in
       let within' : i < length (f z) = subst (λ (w : X). i < length (f w)) (sym one) within in
       ap (slice_get (f z ++ flat_map f zs)) same ∙ append_left (f z) (flat_map f zs) i within' ∙ ap (λ (w : X). slice_get (f w) i) one
@@ -46,7 +46,7 @@ module _ {X Y : Type 0} (f : X → List Y) (g : X → ℕ) (long : (x : X) → l
 
   -- the part in which the n-th element stands, and where
   pub at_flat : (xs : List X) (n : ℕ) (y : Y) → slice_get (flat_map f xs) n ≡ Some y → (k : ℕ) × (i : ℕ) × (x : X) × (slice_get xs k ≡ Some x) × (slice_get (f x) i ≡ Some y) × (n ≡ sum_by g (take k xs) + i)
-  at_flat [] n y is = absurd (not_some y is)
+  at_flat [] n y is = absurd (none-some y is)
   at_flat (z ∷ zs) n y is =
       elim (cases_lt n (length (f z))) [
         | inl within ↦ (0, n, z, refl, sym (append_left (f z) (flat_map f zs) n within) ∙ is, omega arith)
@@ -60,15 +60,15 @@ module _ {X Y : Type 0} (f : X → List Y) (g : X → ℕ) (long : (x : X) → l
 
 -- a number has one part and one place in it
 pub one_place : {X : Type 0} (g : X → ℕ) (xs : List X) (k k' i i' : ℕ) (x x' : X) → slice_get xs k ≡ Some x → slice_get xs k' ≡ Some x' → i < g x → i' < g x' → sum_by g (take k xs) + i ≡ sum_by g (take k' xs) + i' → (k ≡ k') × (i ≡ i')
-one_place g [] k k' i i' x x' here here' within within' is = absurd (not_some x here)
+one_place g [] k k' i i' x x' here here' within within' is = absurd (none-some x here)
 one_place g (z ∷ zs) zero zero i i' x x' here here' within within' is = (refl, omega arith)
 one_place g (z ∷ zs) zero (suc k') i i' x x' here here' within within' is =
     let total = sum_by-cons g z (take k' zs) in
-    let same : g z ≡ g x = ap g (some_same z x here) in
+    let same : g z ≡ g x = ap g (same_Some z x here) in
     absurd (omega (arith, total, same))
 one_place g (z ∷ zs) (suc k) zero i i' x x' here here' within within' is =
     let total = sum_by-cons g z (take k zs) in
-    let same : g z ≡ g x' = ap g (some_same z x' here') in
+    let same : g z ≡ g x' = ap g (same_Some z x' here') in
     absurd (omega (arith, total, same))
 one_place g (z ∷ zs) (suc k) (suc k') i i' x x' here here' within within' is =
     let total = sum_by-cons g z (take k zs) in
@@ -80,21 +80,21 @@ one_place g (z ∷ zs) (suc k) (suc k') i i' x x' here here' within within' is =
 
 -- the run i goes from the spot i to the next
 pub runs_spots : (name : List ℕ) (spots : List Spot) (i : ℕ) (r : Run) → slice_get (runs_between name spots) i ≡ Some r → (slice_get spots i ≡ Some r.from) × (slice_get spots (suc i) ≡ Some r.to)
-runs_spots name [] i r is = absurd (not_some r is)
-runs_spots name (a ∷ []) i r is = absurd (not_some r is)
+runs_spots name [] i r is = absurd (none-some r is)
+runs_spots name (a ∷ []) i r is = absurd (none-some r is)
 runs_spots name (a ∷ b ∷ rest) zero r is =
     let run : Run = record { track = name; from = a; to = b } in
-    let same : run ≡ r = some_same run r is in
+    let same : run ≡ r = same_Some run r is in
     (ap (λ (r : Run). Some r.from) same, ap (λ (r : Run). Some r.to) same)
 runs_spots name (a ∷ b ∷ rest) (suc i) r is = runs_spots name (b ∷ rest) i r is
 
 pub spots_run : (name : List ℕ) (spots : List Spot) (i : ℕ) (a b : Spot) → slice_get spots i ≡ Some a → slice_get spots (suc i) ≡ Some b → slice_get (runs_between name spots) i ≡ Some (record { track = name; from = a; to = b })
-spots_run name [] i a b is is' = absurd (not_some a is)
-spots_run name (c ∷ []) zero a b is is' = absurd (not_some b is')
-spots_run name (c ∷ []) (suc i) a b is is' = absurd (not_some a is)
+spots_run name [] i a b is is' = absurd (none-some a is)
+spots_run name (c ∷ []) zero a b is is' = absurd (none-some b is')
+spots_run name (c ∷ []) (suc i) a b is is' = absurd (none-some a is)
 spots_run name (c ∷ d ∷ rest) zero a b is is' =
     let F : Spot → Spot → Option Run = λ from to. Some (record { track = name; from = from; to = to }) in
-    ap (λ (s : Spot). F s d) (some_same c a is) ∙ ap (λ (s : Spot). F a s) (some_same d b is')
+    ap (λ (s : Spot). F s d) (same_Some c a is) ∙ ap (λ (s : Spot). F a s) (same_Some d b is')
 spots_run name (c ∷ d ∷ rest) (suc i) a b is is' = spots_run name (d ∷ rest) i a b is is'
 
 length-runs : (name : List ℕ) (a : Spot) (spots : List Spot) → length (runs_between name (a ∷ spots)) ≡ length spots
@@ -107,14 +107,24 @@ length-track_pieces t track =
     length-runs track.id (leads_to t track.begin) (map inner_spot track.inner ++ last)
     ∙ length-append (map inner_spot track.inner) last ∙ ap (λ (n : ℕ). n + 1) (length-map track.inner inner_spot)
 
+counts_from : (t : Topology) (tracks : List Track) → length (flat_map (track_pieces t) tracks) ≡ sum_by piece_count tracks
+counts_from t [] = refl
+counts_from t (track ∷ tracks) =
+    let all = length-append (track_pieces t track) (flat_map (track_pieces t) tracks) in
+    let sums = sum_by-cons piece_count track tracks in
+    omega (arith, all, sums, length-track_pieces t track, counts_from t tracks)
+
+pub length-pieces : (t : Topology) → length (pieces t) ≡ sum_by piece_count t.tracks
+length-pieces t = counts_from t t.tracks
+
 -- ---- the spots along a track
 
 pub spot_of_inner : (t : Topology) (track : Track) (i : ℕ) (x : Inner) → slice_get track.inner i ≡ Some x → slice_get (spots_along t track) (suc i) ≡ Some (inner_spot x)
 spot_of_inner t track i x is = mid track.inner i is
   where
     mid : (xs : List Inner) (i : ℕ) → slice_get xs i ≡ Some x → slice_get (map inner_spot xs ++ leads_to t track.end ∷ []) i ≡ Some (inner_spot x)
-    mid [] i is = absurd (not_some x is)
-    mid (y ∷ ys) zero is = ap (λ (z : Inner). Some (inner_spot z)) (some_same y x is)
+    mid [] i is = absurd (none-some x is)
+    mid (y ∷ ys) zero is = ap (λ (z : Inner). Some (inner_spot z)) (same_Some y x is)
     mid (y ∷ ys) (suc i) is = mid ys i is
 
 pub spot_of_end : (t : Topology) (track : Track) → slice_get (spots_along t track) (suc (length track.inner)) ≡ Some (leads_to t track.end)
@@ -129,9 +139,9 @@ pub spot_cases : (t : Topology) (track : Track) (i : ℕ) (s : Spot) → slice_g
 spot_cases t track i s is = mid track.inner i is
   where
     mid : (xs : List Inner) (i : ℕ) → slice_get (map inner_spot xs ++ leads_to t track.end ∷ []) i ≡ Some s → ((x : Inner) × (slice_get xs i ≡ Some x) × (inner_spot x ≡ s)) ⊎ ((i ≡ length xs) × (leads_to t track.end ≡ s))
-    mid [] zero is = inr (refl, some_same (leads_to t track.end) s is)
-    mid [] (suc i) is = absurd (not_some s is)
-    mid (y ∷ ys) zero is = inl (y, refl, some_same (inner_spot y) s is)
+    mid [] zero is = inr (refl, same_Some (leads_to t track.end) s is)
+    mid [] (suc i) is = absurd (none-some s is)
+    mid (y ∷ ys) zero is = inl (y, refl, same_Some (inner_spot y) s is)
     mid (y ∷ ys) (suc i) is = elim (mid ys i is) [ inl inner ↦ inl inner | inr end ↦ inr (ap suc end.0, end.1) ]
 
 -- ---- pieces

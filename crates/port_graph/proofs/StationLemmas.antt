@@ -3,7 +3,7 @@ use Rattle.std.proofs.Common.{◌≡◌, ◌≢◌, ℕ, ◌<◌, inl, inr, List
 use Rattle.std.specs.Prelude.{slice_get, All, AllPairs, Contains}
 use Rattle.std.specs.List.{flat_map}
 use Rattle.std.proofs.lemmas.Option.{slice_get_within, get_or_from_slice_get, slice_get-get_or}
-use Rattle.std.proofs.lemmas.List.{length-map, get_or-map, get_or_default, append-nil}
+use Rattle.std.proofs.lemmas.List.{length-map, get_or-map, get_or_default}
 use Rattle.std.proofs.lemmas.Bool.{cases_order}
 use Rattle.std.proofs.lemmas.List.Elements.{All-nil, All-cons, All-head, All-append, All-map, All-contains}
 use Rattle.std.proofs.lemmas.List.Sorted.{length_permutation}
@@ -11,6 +11,7 @@ use Rattle.plan_core.specs.declared.topology.Topology.{Topology}
 use Rattle.plan_core.specs.declared.topology.Track.{Track}
 use Rattle.plan_core.specs.Topology.{Element, elements, track_element, end_elements, inner_elements, track_elements, track_miles, IsId, IsMileage, IsResolved}
 use Rattle.plan_core.specs.Graph.{Graph, Node, Edge, IsTrackGraph}
+use Rattle.plan_core.proofs.ListFacts.{get_within, all_front, all_back}
 use Rattle.port_graph.specs.declared.runs.Spot.{Spot}
 use Rattle.port_graph.specs.declared.runs.Run.{Run}
 use Rattle.port_graph.specs.declared.runs.Join.{Join}
@@ -20,23 +21,14 @@ use Rattle.port_graph.specs.Runs.{runs_between, track_pieces, pieces, joins}
 use Rattle.port_graph.specs.Sites.{sites, node_number}
 use Rattle.port_graph.specs.TopologyGraph.{edge_of, IsRun, HasFewNodes, HasFewEdges}
 use Rattle.port_graph.specs.Ordered.{AreRunsOf, nodes_among}
-use Rattle.port_graph.proofs.Sublists.{IsSublist, sublist-nil, sublist-refl, sublist-append, sublist-after, sublist-All, sublist-AllPairs}
+use Rattle.port_graph.proofs.Sublists.{sublist-All, sublist-AllPairs, pairs_of_map}
 use Rattle.port_graph.proofs.FromFile.{site_element, site_mile, join_element, sites_from_file, miles_from_file, joins_from_file}
-use Rattle.port_graph.proofs.ListPlaces.{place_within}
-use Rattle.port_graph.proofs.Ranks.{pairs_of_image}
 use Rattle.port_graph.proofs.GraphLemmas.{AreInOrder, Becomes, node_of_site, nodes_count, site_number, site_there}
 
 -- what holds of an image holds of what it is the image of
 all_of_image : {A B : Type 0} (P : B → Type 0) (f : A → B) (xs : List A) → All P (map f xs) → All (λ x. P (f x)) xs
 all_of_image P f xs all i d within =
     subst P (get_or-map f xs i d (f d) within) (all i (f d) (let e = length-map xs f in omega (arith, e)))
-
-all_front : {A : Type 0} (P : A → Type 0) (xs ys : List A) → All P (xs ++ ys) → All P xs
-all_front P xs ys all =
-    sublist-All P xs (xs ++ ys) (subst (λ l. IsSublist l (xs ++ ys)) (append-nil xs) (sublist-append xs xs [] ys (sublist-refl xs) (sublist-nil ys))) all
-
-all_back : {A : Type 0} (P : A → Type 0) (xs ys : List A) → All P (xs ++ ys) → All P ys
-all_back P xs ys all = sublist-All P ys (xs ++ ys) (sublist-after xs ys ys (sublist-refl ys)) all
 
 -- Names of tracks.
 
@@ -75,7 +67,7 @@ edges_named t runs edges resolved in_order is =
 all_nodes : (P : Node → Type 0) (edges : List Edge) (ss : List Site) (nodes : List Node) → map Some nodes ≡ nodes_among edges ss → ((n : ℕ) (s : Site) (m : Node) → slice_get ss n ≡ Some s → Becomes edges n s m → P m) → All P nodes
 all_nodes P edges ss nodes all each i d within =
     let there : i < length ss = let e = nodes_count edges ss nodes all in omega (arith, e) in
-    let at = place_within ss i there in
+    let at = get_within ss i there in
     let found = node_of_site edges ss nodes i at.0 all at.1 in
     subst P (sym (get_or_from_slice_get nodes i found.0 d found.1)) (each i at.0 found.0 at.1 found.2)
 
@@ -89,7 +81,7 @@ site_miles t resolved =
 
 names_differ_apart : (t : Topology) → IsResolved t → AllPairs (λ (r s : Site). r.id ≢ s.id) (sites t)
 names_differ_apart t resolved =
-    pairs_of_image (λ (d e : Element). d.id ≢ e.id) site_element (sites t)
+    pairs_of_map (λ (d e : Element). d.id ≢ e.id) site_element (sites t)
     (sublist-AllPairs (λ (d e : Element). d.id ≢ e.id) (map site_element (sites t)) (elements t) (sites_from_file t) resolved.ids_differ)
 
 -- two sites of one name are one
@@ -108,8 +100,8 @@ one_name t resolved r s (i, within_i, is_r) (j, within_j, is_s) same =
 names_differ : (t : Topology) (ss : List Site) (edges : List Edge) (nodes : List Node) → IsResolved t → AreInOrder t ss → map Some nodes ≡ nodes_among edges ss → AllPairs (λ (m n : Node). m.name ≢ n.name) nodes
 names_differ t ss edges nodes resolved order all i j d less within same =
     let count = nodes_count edges ss nodes all in
-    let at = place_within ss i (omega (arith, count)) in
-    let bt = place_within ss j (omega (arith, count)) in
+    let at = get_within ss i (omega (arith, count)) in
+    let bt = get_within ss j (omega (arith, count)) in
     let m = node_of_site edges ss nodes i at.0 all at.1 in
     let n = node_of_site edges ss nodes j bt.0 all bt.1 in
     let name : Node → List ℕ = λ x. x.name in

@@ -1,9 +1,12 @@
 -- Lists whose elements stand in another list, in its order.
-use Rattle.std.proofs.Common.{◌≡◌, suc, ◌≤◌, ◌⊎◌, inl, inr, List, [], ◌∷◌, ◌++◌, length, refl, sym, ap, subst, arith}
+use Rattle.std.proofs.Common.{◌≡◌, ◌≤◌, ◌⊎◌, inl, inr, List, [], ◌∷◌, ◌++◌, length, refl, sym, ap, subst, arith, map, get_or}
 use Rattle.std.specs.Prelude.{All, AllPairs}
 use Rattle.std.specs.List.{flat_map}
 use Rattle.std.proofs.lemmas.List.Elements.{All-nil, All-cons, All-head, All-tail}
 use Rattle.std.proofs.lemmas.List.Kept.{AllPairs-cons}
+use Rattle.std.proofs.Math.ListN.{get_or-map}
+use Rattle.std.proofs.lemmas.List.{length-map}
+use Rattle.plan_core.proofs.ListFacts.{pairs_head, pairs_tail}
 
 -- xs has some of the elements of ys, in their order
 abbrev pub IsSublist : {A : Type 0} → List A → List A → Type 0
@@ -42,15 +45,15 @@ sublist-All P xs [] p all = subst (All P) (sym p) (All-nil P)
 sublist-All P xs (y ∷ ys) (inl p) all = sublist-All P xs ys p (All-tail P y ys all)
 sublist-All P xs (y ∷ ys) (inr (rest, is, p)) all = subst (All P) (sym is) (All-cons P y rest (All-head P y ys all) (sublist-All P rest ys p (All-tail P y ys all)))
 
-pub pairs-head : {A : Type 0} (R : A → A → Type 0) (y : A) (ys : List A) → AllPairs R (y ∷ ys) → All (R y) ys
-pairs-head R y ys pairs i d within = pairs 0 (suc i) d (omega arith) (omega arith)
-
-pub pairs-tail : {A : Type 0} (R : A → A → Type 0) (y : A) (ys : List A) → AllPairs R (y ∷ ys) → AllPairs R ys
-pairs-tail R y ys pairs i j d less within = pairs (suc i) (suc j) d (omega arith) (omega arith)
-
 -- what holds of each two elements holds of those
 pub sublist-AllPairs : {A : Type 0} (R : A → A → Type 0) (xs ys : List A) → IsSublist xs ys → AllPairs R ys → AllPairs R xs
 sublist-AllPairs R xs [] p pairs = λ i j d less within. absurd (let e = ap length p in omega (arith, e))
-sublist-AllPairs R xs (y ∷ ys) (inl p) pairs = sublist-AllPairs R xs ys p (pairs-tail R y ys pairs)
+sublist-AllPairs R xs (y ∷ ys) (inl p) pairs = sublist-AllPairs R xs ys p (pairs_tail R y ys pairs)
 sublist-AllPairs R xs (y ∷ ys) (inr (rest, is, p)) pairs =
-    subst (AllPairs R) (sym is) (AllPairs-cons R y rest (sublist-All (R y) rest ys p (pairs-head R y ys pairs)) (sublist-AllPairs R rest ys p (pairs-tail R y ys pairs)))
+    subst (AllPairs R) (sym is) (AllPairs-cons R y rest (sublist-All (R y) rest ys p (pairs_head R y ys pairs)) (sublist-AllPairs R rest ys p (pairs_tail R y ys pairs)))
+
+-- what holds of each two images holds of each two
+pub pairs_of_map : {X Y : Type 0} (R : Y → Y → Type 0) (f : X → Y) (xs : List X) → AllPairs R (map f xs) → AllPairs (λ (x y : X). R (f x) (f y)) xs
+pairs_of_map {Y = Y} R f xs pairs i j d less within =
+    subst (λ (z : Y). R z (f (get_or xs j d))) (get_or-map f xs i d)
+    (subst (λ (z : Y). R (get_or (map f xs) i (f d)) z) (get_or-map f xs j d) (pairs i j (f d) less (omega (arith, length-map xs f))))

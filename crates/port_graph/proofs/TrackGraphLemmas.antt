@@ -1,68 +1,42 @@
 -- The graph of a topology is a track graph, where each edge goes forward.
-use Rattle.std.proofs.Common.{◌≡◌, ◌≢◌, ℕ, zero, suc, ◌+◌, ◌-◌, ◌<◌, ℤ, Bool, true, false, cond, List, [], ◌∷◌, length, map, get_or, Some, refl, sym, ap, ◌∙◌, subst, inl, inr, arith}
-use Rattle.std.specs.Prelude.{◌⊎◌, ◌<ℤ◌, int_lt, slice_get, sum_by, All, AllPairs, Contains}
+use Rattle.std.proofs.Common.{◌≡◌, ℕ, ◌-◌, ◌<◌, ℤ, Bool, true, false, cond, List, length, get_or, refl, sym, ap, ◌∙◌, subst, inl, inr, arith}
+use Rattle.std.specs.Prelude.{◌⊎◌, ◌<ℤ◌, int_lt, sum_by, All, Contains}
 use Rattle.std.specs.Cmp.{int_ranks}
-use Rattle.std.specs.List.{fold}
 use Rattle.std.specs.Ordering.{int_cmp, MatchOrdering}
 use Rattle.std.specs.declared.cmp.Ordering.TheVariants.{Less, Equal, Greater}
 use Rattle.std.proofs.lemmas.Bool.{cases_lt}
-use Rattle.std.proofs.lemmas.List.Concat.{length-flat_map}
 use Rattle.std.proofs.lemmas.List.Elements.{Contains-get_or}
 use Rattle.std.proofs.lemmas.Option.{slice_get_within, get_or_from_slice_get}
 use Rattle.plan_core.specs.declared.topology.Topology.{Topology}
-use Rattle.plan_core.specs.declared.topology.Track.{Track}
 use Rattle.plan_core.specs.Graph.{Graph, Edge, node, edge, no_edge, mileage, IsEndOf, IsPortOf, ArePortsOf, IsTrackGraph}
-use Rattle.plan_core.specs.Topology.{elements, IsResolved}
+use Rattle.plan_core.specs.Topology.{IsResolved}
+use Rattle.plan_core.proofs.ListFacts.{get_within}
 use Rattle.port_graph.specs.declared.runs.Spot.{Spot}
 use Rattle.port_graph.specs.declared.runs.Run.{Run}
 use Rattle.port_graph.specs.declared.runs.Join.{Join}
 use Rattle.port_graph.specs.declared.sites.Site.{Site}
-use Rattle.port_graph.specs.Runs.{track_pieces, pieces, piece_count, joins, join_number, edge_count}
+use Rattle.port_graph.specs.Runs.{pieces, piece_count, joins, join_number, edge_count}
 use Rattle.port_graph.specs.Sides.{edges_met}
 use Rattle.port_graph.specs.Sites.{sites, node_number}
 use Rattle.port_graph.specs.TopologyGraph.{west_of, east_of, edge_of, IsRun, AreEdgesOf, side_at, IsNodeOf, IsGraphOf, IsForward, AllForward}
 use Rattle.port_graph.proofs.ApartLemmas.{met_apart}
-use Rattle.port_graph.proofs.FromFile.{site_element, join_element, sites_from_file, joins_from_file}
+use Rattle.port_graph.proofs.FromFile.{site_places_differ, join_places_differ}
 use Rattle.port_graph.proofs.MeetingLemmas.{SiteWith, same_site_with}
 use Rattle.port_graph.proofs.Membership.{In, contains_in, in_contains}
-use Rattle.port_graph.proofs.Places.{Differ}
 use Rattle.port_graph.proofs.PortLemmas.{are_ports, is_port}
-use Rattle.port_graph.proofs.RankLemmas.{rank_below, ranked, pairs_of_map}
+use Rattle.port_graph.proofs.RankLemmas.{rank_below, ranked}
 use Rattle.port_graph.proofs.RunEnds.{run_site_from, run_site_to, RunAt, met_run}
-use Rattle.port_graph.proofs.RunLemmas.{length-track_pieces}
-use Rattle.port_graph.proofs.Sublists.{sublist-AllPairs}
+use Rattle.port_graph.proofs.RunLemmas.{length-pieces}
 use Rattle.port_graph.proofs.MileLemmas.{less_true, less_false}
 
 -- ---- numbers
-
-pub site_places_differ : (t : Topology) → IsResolved t → AllPairs (λ (s s' : Site). s.spot.at ≢ s'.spot.at) (sites t)
-site_places_differ t resolved =
-    pairs_of_map Differ site_element (sites t) (sublist-AllPairs Differ (map site_element (sites t)) (elements t) (sites_from_file t) resolved.places_differ)
-
-pub join_places_differ : (t : Topology) → IsResolved t → AllPairs (λ (j j' : Join). j.at ≢ j'.at) (joins t)
-join_places_differ t resolved =
-    pairs_of_map Differ join_element (joins t) (sublist-AllPairs Differ (map join_element (joins t)) (elements t) (joins_from_file t) resolved.places_differ)
-
-some_at : {X : Type 0} (xs : List X) (n : ℕ) → n < length xs → (x : X) × (slice_get xs n ≡ Some x)
-some_at [] n within = absurd (omega arith)
-some_at (x ∷ xs) zero within = (x, refl)
-some_at (x ∷ xs) (suc n) within = some_at xs n (omega arith)
-
-sum_alike : {X : Type 0} (f g : X → ℕ) → ((x : X) → f x ≡ g x) → (n : ℕ) (xs : List X) → fold (λ (a : ℕ) (x : X). a + f x) n xs ≡ fold (λ (a : ℕ) (x : X). a + g x) n xs
-sum_alike f g same n [] = refl
-sum_alike {X} f g same n (x ∷ xs) = ap (λ (m : ℕ). fold (λ (a : ℕ) (x : X). a + f x) (n + m) xs) (same x) ∙ sum_alike f g same (n + g x) xs
-
-pub length-pieces : (t : Topology) → length (pieces t) ≡ sum_by piece_count t.tracks
-length-pieces t =
-    length-flat_map (track_pieces t) t.tracks
-    ∙ sum_alike (λ (track : Track). length (track_pieces t track)) piece_count (length-track_pieces t) 0 t.tracks
 
 -- each number below the count is that of a run
 pub numbered_run : (t : Topology) → IsResolved t → (e : ℕ) → e < edge_count t → (r : Run) × IsRun t e r
 numbered_run t resolved e within =
     let total = length-pieces t in
     elim (cases_lt e (sum_by piece_count t.tracks)) [
-      | inl less ↦ let r = some_at (pieces t) e (omega (arith, total)) in (r.0, inl r.1)
+      | inl less ↦ let r = get_within (pieces t) e (omega (arith, total)) in (r.0, inl r.1)
       | inr more ↦
           let j = ranked (λ (j : Join). j.at) (joins t) (join_places_differ t resolved) (e - sum_by piece_count t.tracks) (omega arith) in
           let is = j.2 in

@@ -8,10 +8,11 @@ use Rattle.std.proofs.lemmas.List.{length-map, get_or-map, get_or-reverse, lengt
 use Rattle.std.proofs.lemmas.List.Sorted.{IsPermutation-reverse, list_any-IsPermutation}
 use Rattle.std.proofs.lemmas.Option.{slice_get_within, slice_get-get_or, get_or_from_slice_get}
 use Rattle.plan_core.specs.Graph.{Graph, Node, mileage}
+use Rattle.plan_core.proofs.TruthFacts.{same_when}
 use Rattle.port_graph.specs.Columns.{mileages, rising, columns_of}
 use Rattle.port_graph.specs.Turned.{turned_node, turned_graph}
 use Rattle.port_graph.proofs.ColumnLemmas.{rising_pairs}
-use Rattle.port_graph.proofs.RisingLemmas.{rises_from_pairs, is_in, rising_rises, is_in-rising, same_rising, same_when}
+use Rattle.port_graph.proofs.RisingLemmas.{rises_from_pairs, is_in, rising_rises, is_in-rising, same_rising}
 use Rattle.port_graph.proofs.MileLemmas.{neg_less}
 use Rattle.port_graph.proofs.TurnedNodes.{node-turned}
 

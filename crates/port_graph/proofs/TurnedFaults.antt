@@ -7,6 +7,7 @@ use Rattle.std.proofs.lemmas.Option.{slice_get-map}
 use Rattle.plan_core.specs.declared.limits.TheConstants.{MAX_NODES, MAX_EDGES}
 use Rattle.plan_core.specs.declared.topology.Topology.{Topology}
 use Rattle.plan_core.specs.Topology.{IsResolved}
+use Rattle.plan_core.proofs.Listing.{Contains-map}
 use Rattle.port_graph.specs.declared.fault.GraphFault.{GraphFault}
 use Rattle.port_graph.specs.declared.fault.GraphFault.TheVariants.{TooManyNodes, TooManyEdges, NotForward, SideMismatch, Memory}
 use Rattle.port_graph.specs.declared.runs.Run.{Run}
@@ -17,7 +18,7 @@ use Rattle.port_graph.specs.Runs.{pieces, joins}
 use Rattle.port_graph.specs.Sites.{sites, node_number}
 use Rattle.port_graph.specs.TopologyGraph.{IsRun, side_at, IsForward, AllForward, IsFirstLevel, IsFirstMismatch, IsGraphFault}
 use Rattle.port_graph.specs.Turned.{turned_topology, turned_ports, turned_edge, turned_fault}
-use Rattle.port_graph.proofs.Membership.{in_contains, contains_map}
+use Rattle.port_graph.proofs.Membership.{in_contains}
 use Rattle.port_graph.proofs.TurnedGraph.{site_twice, contains_back, IsRun-turned, AreEdgesOf-turned}
 use Rattle.port_graph.proofs.TurnedNodes.{site_ports-turned}
 use Rattle.port_graph.proofs.TurnedTopology.{turned_run, turned_join, turned_site, pieces-turned, joins-turned, join_number-turned, edge_count-turned, sites-turned, node_number-turned}
@@ -30,7 +31,7 @@ IsRun-forth : (t : Topology) (e : ℕ) (r : Run) → IsRun t e r → IsRun (turn
 IsRun-forth t e r (inl piece) =
     inl (ap (λ (l : List Run). slice_get l e) (pieces-turned t) ∙ slice_get-map turned_run (pieces t) e ∙ ap (option_map turned_run) piece)
 IsRun-forth t e r (inr join) =
-    inr (turned_join join.0, subst (λ (l : List Join). Contains l (turned_join join.0)) (sym (joins-turned t)) (contains_map turned_join (joins t) join.0 join.1), join_number-turned t join.0.at ∙ join.2, ap turned_run join.3)
+    inr (turned_join join.0, subst (λ (l : List Join). Contains l (turned_join join.0)) (sym (joins-turned t)) (Contains-map turned_join (joins t) join.0 join.1), join_number-turned t join.0.at ∙ join.2, ap turned_run join.3)
 
 forward-turned : (r : Run) → IsForward (turned_run r) → IsForward r
 forward-turned r forward same = forward (ap neg_ℤ same)
@@ -59,7 +60,7 @@ IsFirstMismatch-turned t n name resolved forward is =
       edges = map turned_edge is.edges;
       built = AreEdgesOf-turned t is.edges forward is.built;
       site = turned_site is.site;
-      there = subst (λ (l : List Site). Contains l (turned_site is.site)) (sym (sites-turned t)) (contains_map turned_site (sites t) is.site is.there);
+      there = subst (λ (l : List Site). Contains l (turned_site is.site)) (sym (sites-turned t)) (Contains-map turned_site (sites t) is.site is.there);
       numbered = node_number-turned t is.site.spot.at ∙ is.numbered;
       named = is.named;
       mismatched =

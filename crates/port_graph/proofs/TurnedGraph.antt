@@ -8,7 +8,7 @@ use Rattle.std.specs.Cmp.{int_ranks}
 use Rattle.std.proofs.Math.IntN.{neg_ℤ-neg_ℤ}
 use Rattle.std.proofs.lemmas.Bool.{ne_eqb}
 use Rattle.std.proofs.lemmas.List.{length-map, get_or-map}
-use Rattle.std.proofs.lemmas.Option.{slice_get-map}
+use Rattle.std.proofs.lemmas.Option.{slice_get-map, same_Some}
 use Rattle.plan_core.specs.declared.numbers.Micro.{Micro}
 use Rattle.plan_core.specs.declared.sides.Compass.{Compass}
 use Rattle.plan_core.specs.declared.sides.Compass.TheVariants.{East, West}
@@ -70,12 +70,9 @@ contains_back {X} f twice xs x there =
     let read : f (get_or xs there.0 (f x)) ≡ x = sym (get_or-map f xs there.0 (f x) x within) ∙ there.2 in
     (there.0, within, sym (twice (get_or xs there.0 (f x))) ∙ ap f read)
 
-some_same : {X : Type 0} (x y : X) → Some x ≡ Some y → x ≡ y
-some_same x y e = cc
-
 pub some_back : {X : Type 0} (f : X → X) (twice : (x : X) → f (f x) ≡ x) (o : Option X) (y : X) → option_map f o ≡ Some y → o ≡ Some (f y)
 some_back f twice None y is = cc
-some_back {X} f twice (Some x) y is = ap (λ (z : X). Some z) (sym (twice x) ∙ ap f (some_same (f x) y is))
+some_back {X} f twice (Some x) y is = ap (λ (z : X). Some z) (sym (twice x) ∙ ap f (same_Some (f x) y is))
 
 -- ---- edges
 

@@ -15,13 +15,15 @@ use Rattle.port_graph.specs.Sides.{edges_met}
 use Rattle.port_graph.specs.Sites.{sites, node_number}
 use Rattle.port_graph.specs.TopologyGraph.{west_of, east_of, IsRun, AreEdgesOf, side_at, IsNodeOf, IsGraphOf, AllForward}
 use Rattle.port_graph.specs.Turned.{turned_topology, turned_ports, turned_node, turned_edge, turned_graph}
-use Rattle.port_graph.proofs.Membership.{In, contains_in, in_contains, at_in, some_same, pairs_at}
+use Rattle.port_graph.proofs.Membership.{In, contains_in, in_contains, at_in, pairs_at}
 use Rattle.port_graph.proofs.RankLemmas.{one_rank}
 use Rattle.port_graph.proofs.RunEnds.{met_run}
-use Rattle.port_graph.proofs.TrackGraphLemmas.{site_places_differ, number_within, edge_within, edge_is, west_cases, west_with, east_with, goes_east, end_at, all_of}
+use Rattle.port_graph.proofs.TrackGraphLemmas.{number_within, edge_within, edge_is, west_cases, west_with, east_with, goes_east, end_at, all_of}
 use Rattle.port_graph.proofs.TurnedGraph.{site_twice, contains_back, AreEdgesOf-turned, side-turned, ports_of-turned}
 use Rattle.port_graph.proofs.TurnedTopology.{turned_site, sites-turned, node_number-turned}
 use Rattle.std.proofs.lemmas.Bool.{cases_eq}
+use Rattle.std.proofs.lemmas.Option.{same_Some}
+use Rattle.port_graph.proofs.FromFile.{site_places_differ}
 
 -- ---- the two nodes of an edge differ
 
@@ -31,7 +33,7 @@ one_site t resolved s s' there there' same =
     let i = at_in (sites t) s there in
     let j = at_in (sites t) s' there' in
     elim (cases_eq i.0 j.0) [
-      | inl one ↦ some_same s s' (sym i.1 ∙ ap (λ (n : ℕ). at_place n) one ∙ j.1)
+      | inl one ↦ same_Some s s' (sym i.1 ∙ ap (λ (n : ℕ). at_place n) one ∙ j.1)
       | inr differ ↦ absurd (pairs_at (λ (a b : Site). a.spot.at ≢ b.spot.at) (λ a b apart e. apart (sym e)) (sites t) i.0 j.0 s s' (site_places_differ t resolved) i.1 j.1 differ same)
     ]
   where
