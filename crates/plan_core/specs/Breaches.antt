@@ -183,8 +183,8 @@ loose_graph = track_graph
     (joining 0 1 ∷ [])
 
 -- an end whose edge lies on the other side
-abbrev pub turned_graph : Graph
-turned_graph = track_graph
+abbrev pub misplaced_graph : Graph
+misplaced_graph = track_graph
     (node_at 0 (End 0 West) ∷ node_at 600 (End 0 West) ∷ [])
     (joining 0 1 ∷ [])
 

@@ -15,7 +15,7 @@ ghost use Rattle.plan_core.specs.Laws.{LineJoinsItsNodes};
 ghost use Rattle.plan_core.specs.Values.{values_of, value_of, limit_of, Better};
 ghost use Rattle.plan_core.specs.Readings.{MeetsItsNodes, IsLessAt, Interpolates, columns_off_level};
 ghost use Rattle.plan_core.specs.Examples.{at, longer, usual_grid, roomy_grid, roomy_drawing, measured, IsWorked, one_graph, none_above, one_drawing, loop_graph, loop_above, loop_drawing, back_graph, back_drawing, cross_graph, cross_above, cross_drawing, two_graph, two_drawing, scissors_graph, scissors_above, scissors_drawing, station_graph, station_above, station_drawing, farthest_drawing};
-ghost use Rattle.plan_core.specs.Breaches.{BreaksJust, meeting_graph, parted_graph, joined_graph, too_wide, too_high, uneven, swapped, short, exchanged, crowded, too_steep, bent_rising_path, bent_falling_path, bent_main, sloping, kinked, one_point, touching, begins_above, ends_below, touched, crossed, backwards_graph, flat_graph, loose_graph, turned_graph, stray_graph, one_legged_graph, idle_graph};
+ghost use Rattle.plan_core.specs.Breaches.{BreaksJust, meeting_graph, parted_graph, joined_graph, too_wide, too_high, uneven, swapped, short, exchanged, crowded, too_steep, bent_rising_path, bent_falling_path, bent_main, sloping, kinked, one_point, touching, begins_above, ends_below, touched, crossed, backwards_graph, flat_graph, loose_graph, misplaced_graph, stray_graph, one_legged_graph, idle_graph};
 
 // Each worked drawing is lawful, and measures height, bends, diagonal and width as stated.
 fn worked_drawings()
@@ -59,7 +59,7 @@ fn no_track_graphs()
     ensures an_edge_backwards { IsTrackGraph backwards_graph → ⊥ }
     ensures an_edge_of_no_length { IsTrackGraph flat_graph → ⊥ }
     ensures an_edge_to_nowhere { IsTrackGraph loose_graph → ⊥ }
-    ensures a_port_on_the_wrong_side { IsTrackGraph turned_graph → ⊥ }
+    ensures a_port_on_the_wrong_side { IsTrackGraph misplaced_graph → ⊥ }
     ensures an_edge_without_a_port { IsTrackGraph stray_graph → ⊥ }
     ensures one_leg_twice { IsTrackGraph one_legged_graph → ⊥ }
     ensures a_port_without_an_edge { IsTrackGraph idle_graph → ⊥ }

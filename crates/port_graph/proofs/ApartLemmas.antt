@@ -28,11 +28,12 @@ use Rattle.port_graph.specs.TopologyGraph.{AllForward}
 use Rattle.port_graph.proofs.NumberLemmas.{piece_below}
 use Rattle.port_graph.proofs.Membership.{In, contains_in}
 use Rattle.port_graph.proofs.RankLemmas.{one_rank}
-use Rattle.port_graph.proofs.Places.{Where, at_end, at_inner, end_of, end_part, inner_part, end_place, inner_place, where_is, end_connection, inner_connection, end_spot_at, inner_spot_at, end_is_end, inner_is_no_end, same_place, connections_apart}
+use Rattle.port_graph.proofs.Places.{Where, at_end, at_inner, end_of, end_part, inner_part, end_place, inner_place, where_is, end_connection, inner_connection, end_spot_at, inner_spot_at, end_is_end, inner_is_no_end, connections_apart}
 use Rattle.port_graph.proofs.RunLemmas.{one_place, spot_of_inner, spot_of_end, piece_at, join_from, join_there}
 use Rattle.port_graph.proofs.MeetingLemmas.{own, beyond_end, beyond_inner, last_is, SiteOf, of_end, of_inner, site_of, node_beside_end, no_node_beside_inner, leads_own, leads_other}
 use Rattle.port_graph.proofs.RunEnds.{begins_yes, joined_is}
 use Rattle.std.proofs.lemmas.Bool.{false≢true, ltb-true, le-ltb}
+use Rattle.plan_core.proofs.PlaceFacts.{same_place}
 
 -- ---- pieces
 

@@ -16,6 +16,7 @@ use Rattle.plan_core.specs.declared.topology.Place.{Place}
 use Rattle.plan_core.specs.declared.topology.Part.{Part}
 use Rattle.plan_core.specs.declared.topology.Part.TheVariants.{Begin, End, Branch, Incoming, Outgoing}
 use Rattle.plan_core.specs.Topology.{connections, connection, IsResolved}
+use Rattle.plan_core.proofs.PlaceFacts.{same_place}
 use Rattle.port_graph.specs.declared.runs.Spot.{Spot}
 use Rattle.port_graph.specs.declared.sites.Site.{Site}
 use Rattle.port_graph.specs.Spots.{end_spot, inner_spot, spot_at, is_track_end, is_listed_before, is_node, has_node, leads_to}
@@ -23,7 +24,7 @@ use Rattle.port_graph.specs.Runs.{piece_number, last_piece, join_of, edge_toward
 use Rattle.port_graph.specs.Sites.{end_meeting, end_sites, inner_meeting, inner_site, track_sites, sites}
 use Rattle.port_graph.specs.Sides.{edges_met}
 use Rattle.port_graph.proofs.Membership.{In, in_left, in_right, in_append, in_map, in_numbered, numbered_in}
-use Rattle.port_graph.proofs.Places.{Where, at_end, at_inner, end_of, end_part, end_place, where_is, end_connection, end_spot_at, inner_spot_at, end_is_end, same_place, ends_apart}
+use Rattle.port_graph.proofs.Places.{Where, at_end, at_inner, end_of, end_part, end_place, where_is, end_connection, end_spot_at, inner_spot_at, end_is_end, ends_apart}
 
 -- ---- edges beyond connections
 

@@ -17,6 +17,7 @@ use Rattle.plan_core.specs.declared.topology.Part.{Part}
 use Rattle.plan_core.specs.declared.topology.Part.TheVariants.{Begin, End, Branch, Incoming, Outgoing}
 use Rattle.plan_core.specs.Topology.{Element, conn_element, end_element, inner_element, connections, end_elements, inner_elements, track_element, track_elements, branch_of, incoming_of, outgoing_of, connection_of, connection, IsResolved}
 use Rattle.plan_core.proofs.ListFacts.{pairs_tail}
+use Rattle.plan_core.proofs.PlaceFacts.{same_place}
 use Rattle.port_graph.specs.Spots.{end_spot, inner_spot, spot_on, spot_at, is_track_end}
 use Rattle.port_graph.proofs.Membership.{In, in_at, in_left, in_right, in_map, in_flat, bound, pairs_across, pairs_left, pairs_right, pairs_at, pairs_apart, pairs_within}
 
@@ -124,11 +125,6 @@ pub inner_is_no_end : (what : InnerKind) (i m : ℕ) → is_track_end (inner_par
 inner_is_no_end (Switch outgoing hand track_diverges conn) i m = refl
 inner_is_no_end (Crossing hand incoming outgoing) i zero = refl
 inner_is_no_end (Crossing hand incoming outgoing) i (suc m) = refl
-
-pub same_place : (p q : Place) → p.track ≡ q.track → p.part ≡ q.part → p ≡ q
-same_place p q e f =
-    let F : ℕ → Part → Place = λ k part. record { track = k; part = part } in
-    ap (λ (k : ℕ). F k p.part) e ∙ ap (λ (part : Part). F q.track part) f
 
 -- ---- file places
 

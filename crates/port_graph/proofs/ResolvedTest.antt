@@ -23,8 +23,9 @@ use Rattle.plan_core.specs.declared.topology.Place.{Place}
 use Rattle.plan_core.specs.declared.topology.Part.{Part}
 use Rattle.plan_core.specs.declared.topology.Part.TheVariants.{Begin, End, Branch, Incoming, Outgoing}
 use Rattle.plan_core.specs.Topology.{Element, elements, track_miles, connections, connection, LeadsBothWays, farthest, IsMileage, IsIdCharacter, IsId, IsResolved}
+use Rattle.plan_core.proofs.PlaceFacts.{same_place}
 use Rattle.port_graph.proofs.Membership.{In, contains_in, in_left, in_right, in_map, in_numbered}
-use Rattle.port_graph.proofs.Places.{end_place, inner_place, Where, at_end, at_inner, where_is, same_place}
+use Rattle.port_graph.proofs.Places.{end_place, inner_place, Where, at_end, at_inner, where_is}
 
 -- Ids, and elements that differ.
 

@@ -3,11 +3,10 @@ ghost use Rattle.std.specs.Prelude.{◌≡◌};
 ghost use Rattle.port_graph.specs.TopologyGraph.{number_of, word_of};
 
 use plan_core::{EdgeNo, Micro, NodeNo, OutOfMemory, Text};
-use std::fmt;
 use thiserror::Error;
 
 /// Why a topology has no track graph: the first of these, in this order.
-#[derive(Drop, Error)]
+#[derive(Debug, Drop, Error)]
 pub enum GraphFault {
     /// There are more than 128 nodes; the number is how many.
     #[error("too many nodes")]
@@ -57,31 +56,6 @@ impl GraphFault {
             GraphFault::NotForward { .. } => "NotForward",
             GraphFault::SideMismatch { .. } => "SideMismatch",
             GraphFault::Memory => "",
-        }
-    }
-}
-
-impl fmt::Debug for GraphFault {
-    fn fmt<W: fmt::Write>(&self, f: &mut fmt::Formatter<W>) -> fmt::Result {
-        match self {
-            GraphFault::TooManyNodes(count) => write!(f, "TooManyNodes {count}"),
-            GraphFault::TooManyEdges(count) => write!(f, "TooManyEdges {count}"),
-            GraphFault::NotForward {
-                edge,
-                track,
-                mileage,
-            } => {
-                let edge = edge.0;
-                let track = track.as_str();
-                let mileage = mileage.0;
-                write!(f, "NotForward {edge} {track} at {mileage}")
-            }
-            GraphFault::SideMismatch { node, name } => {
-                let node = node.0;
-                let name = name.as_str();
-                write!(f, "SideMismatch {node} {name}")
-            }
-            GraphFault::Memory => write!(f, "Memory"),
         }
     }
 }

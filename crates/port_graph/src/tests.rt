@@ -117,7 +117,10 @@ fn a_crossover_has_a_switch_at_each_end(rt: HostRuntime) -> Result<(), Fail> {
 fn a_crossover_without_length_is_not_forward(rt: HostRuntime) -> Result<(), Fail> {
     let flat = topologies::crossover(rt.alloc(), Micro(200_000_000))?;
     let told = built(rt.alloc(), &flat)?;
-    assert_eq!(rt; told.as_str(), "NotForward 4 x at 200000000");
+    assert_eq!(rt;
+        told.as_str(),
+        "NotForward { edge: EdgeNo(4), track: Text { text: \"x\" }, mileage: Micro(200000000) }"
+    );
     Ok(())
 }
 
@@ -125,6 +128,9 @@ fn a_crossover_without_length_is_not_forward(rt: HostRuntime) -> Result<(), Fail
 fn two_tracks_that_end_in_one_joint_mismatch(rt: HostRuntime) -> Result<(), Fail> {
     let folded = topologies::folded(rt.alloc())?;
     let told = built(rt.alloc(), &folded)?;
-    assert_eq!(rt; told.as_str(), "SideMismatch 1 ae");
+    assert_eq!(rt;
+        told.as_str(),
+        "SideMismatch { node: NodeNo(1), name: Text { text: \"ae\" } }"
+    );
     Ok(())
 }

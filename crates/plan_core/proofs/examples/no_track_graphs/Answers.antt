@@ -1,4 +1,4 @@
-use Rattle.plan_core.proofs.NoGraphs.{backwards_graph_is_none, flat_graph_is_none, loose_graph_is_none, turned_graph_is_none, stray_graph_is_none, one_legged_graph_is_none, idle_graph_is_none}
+use Rattle.plan_core.proofs.NoGraphs.{backwards_graph_is_none, flat_graph_is_none, loose_graph_is_none, misplaced_graph_is_none, stray_graph_is_none, one_legged_graph_is_none, idle_graph_is_none}
 use Rattle.plan_core.proofs.examples.no_track_graphs.Goals as goal
 
 pub returns-clause-an_edge_backwards : goal.returns-clause-an_edge_backwards
@@ -11,7 +11,7 @@ pub returns-clause-an_edge_to_nowhere : goal.returns-clause-an_edge_to_nowhere
 returns-clause-an_edge_to_nowhere c = loose_graph_is_none
 
 pub returns-clause-a_port_on_the_wrong_side : goal.returns-clause-a_port_on_the_wrong_side
-returns-clause-a_port_on_the_wrong_side c = turned_graph_is_none
+returns-clause-a_port_on_the_wrong_side c = misplaced_graph_is_none
 
 pub returns-clause-an_edge_without_a_port : goal.returns-clause-an_edge_without_a_port
 returns-clause-an_edge_without_a_port c = stray_graph_is_none
