@@ -11,8 +11,8 @@
 //! and `GatherLemmas` on satisfaction, `StepLemmas` and `BlockLemmas` on calls that add clauses,
 //! `SettingLemmas` on blocks of variables that are set one after another, `PropagationLemmas`,
 //! `GreatestLemmas` on the greatest variable, and `TrailLemmas` on lists of distinct variables.
-//! It is the base for integers and sums, for the drawing's formula, the log, its checker and the
-//! solver.
+//! `lengthen` makes a table longer, whole or not at all. It is the base for integers and sums, for
+//! the drawing's formula, the log, its checker and the solver.
 #![tactic(auto)]
 
 mod clause;
@@ -22,6 +22,7 @@ mod gather;
 mod laws;
 mod limits;
 mod literal;
+mod tables;
 mod truths;
 mod unit_laws;
 
@@ -35,6 +36,7 @@ pub use laws::{
 };
 pub use limits::{LAST_VAR, ROOM, VARS};
 pub use literal::{Lit, LitOrTruth, Var};
+pub use tables::lengthen;
 pub use truths::Truths;
 pub use unit_laws::{
     closure_adds_nothing_again, closure_is_the_least_closed_set, forced_literals_add_nothing,

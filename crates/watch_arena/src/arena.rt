@@ -11,10 +11,9 @@ ghost use Rattle.watch_arena.specs.Arena.{AreWatched, AreReasoned, AreAttached, 
 use crate::attach::attach;
 use crate::clause_ref::ClauseRef;
 use crate::fault::ArenaFault;
-use crate::tables::lengthen;
 use crate::trail::Trail;
 use crate::walks::propagate;
-use cnf_core::{Lit, ROOM, VARS};
+use cnf_core::{Lit, ROOM, VARS, lengthen};
 use plan_core::OutOfMemory;
 use std::alloc::Global;
 use std::marker::Model;

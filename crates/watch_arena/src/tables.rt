@@ -1,27 +1,9 @@
-// Tables that grow.
+// The tables of a trail grow, all or none.
 ghost use Rattle.std.specs.Prelude.{◌≡◌, ◌*◌, ◌<◌, ◌^◌, ◌+◌, ◌++◌, length, replicate, true, OnOk, OnErr, take, false};
 ghost use Rattle.cnf_core.specs.Lit.{literal};
 
-use cnf_core::{Lit, Var};
+use cnf_core::{Lit, Var, lengthen};
 use plan_core::OutOfMemory;
-
-/// Puts `n` times the value behind the others, or leaves the table where memory fails.
-pub fn lengthen<T: Copy + Drop>(table: &mut Vec<T>, n: usize, value: T) -> Result<(), OutOfMemory>
-    ensures more { OnOk result (table.new.items ≡ table.old.items ++ replicate n value) }
-    ensures none { OnErr result (table.new.items ≡ table.old.items) }
-{
-    let before = table.len();
-    for i in 0..n {
-        match table.push(value) {
-            Ok(()) => {}
-            Err(_) => {
-                table.truncate(before);
-                return Err(OutOfMemory);
-            }
-        }
-    }
-    Ok(())
-}
 
 /// Makes the tables of a trail longer by `n` variables, or some of them where memory fails.
 fn lengthen_each(

@@ -1,5 +1,5 @@
 use Rattle.std.proofs.Common.{◌≡◌, ◌++◌, replicate}
-use Rattle.watch_arena.proofs.tables.lengthen.Given as goal
+use Rattle.cnf_core.proofs.tables.lengthen.Given as goal
 
 abbrev pub invariant-loop-i : goal.invariant-loop-i
 invariant-loop-i g l = l.table.items ≡ l.fn.table.items ++ replicate l.i l.value

@@ -1,0 +1,40 @@
+// The order in which variables are given.
+use crate::Heap;
+use cnf_core::Var;
+
+#[test]
+fn the_most_active_comes_first_and_of_equals_the_least(rt: HostRuntime) {
+    let mut heap = Heap::with_vars(rt.alloc(), 5).expect(&rt, "memory");
+    heap.add_vars(1).expect(&rt, "memory");
+    heap.bump(Var(4));
+    heap.bump(Var(6));
+    heap.bump(Var(6));
+    let first = heap.pop();
+    heap.put_back(Var(6));
+    heap.put_back(Var(6));
+    let order = [6, 4, 1, 2, 3, 5];
+    assert!(rt; first == Some(Var(6)));
+    for v in order {
+        let next = heap.pop();
+        assert!(rt; next == Some(Var(v)));
+    }
+    assert!(rt; heap.pop().is_none());
+}
+
+#[test]
+fn activities_are_halved_at_the_end_of_their_type(rt: HostRuntime) {
+    let mut heap = Heap::with_vars(rt.alloc(), 3).expect(&rt, "memory");
+    'both: for _ in 0..40_000 {
+        heap.bump(Var(1));
+        heap.bump(Var(3));
+    }
+    'one: for _ in 0..25_536 {
+        heap.bump(Var(3));
+    }
+    heap.bump(Var(2));
+    let order = [3, 1, 2];
+    for v in order {
+        let next = heap.pop();
+        assert!(rt; next == Some(Var(v)));
+    }
+}
