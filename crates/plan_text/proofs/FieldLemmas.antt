@@ -1,18 +1,19 @@
 -- Fields of a text, one after another.
-use Rattle.std.proofs.Common.{◌≡◌, ◌≢◌, ◌⊎◌, inl, inr, ℕ, ◌+◌, ◌<◌, ◌≤◌, ◌^◌, List, [], ◌∷◌, ◌++◌, map, length, get_or, Bool, true, ◌==◌, refl, sym, ◌∙◌, ap, subst, arith, append_assoc, length-append}
-use Rattle.std.specs.Prelude.{⊤}
+use Rattle.std.proofs.Common.{◌≡◌, ◌≢◌, ◌⊎◌, inl, inr, ℕ, ◌+◌, ◌<◌, ◌≤◌, ◌^◌, List, [], ◌∷◌, ◌++◌, map, length, Bool, true, false, ◌==◌, refl, sym, ◌∙◌, ap, subst, arith, append_assoc, length-append}
+use Rattle.std.specs.Prelude.{⊤, None, Some, IfSome}
+use Rattle.std.specs.declared.option.Option.{Option}
 use Rattle.std.specs.Fmt.{decimal}
 use Rattle.std.specs.List.{AllByRecursion}
 use Rattle.std.specs.Str.Parse.{AllDigits}
 use Rattle.std.proofs.lemmas.Fmt.{decimal_is_IsNumeral, decimal_injective}
-use Rattle.std.proofs.lemmas.Bool.{eqb-true}
-use Rattle.std.proofs.lemmas.List.{append-nil}
+use Rattle.std.proofs.lemmas.Bool.{eqb-true, false≢true}
+use Rattle.std.proofs.lemmas.List.{append-nil, append_cancel_left}
 use Rattle.std.proofs.lemmas.Str.Parse.{digit_from_value}
 use Rattle.plan_core.specs.declared.criterion.Criterion.{Criterion}
-use Rattle.plan_core.specs.declared.criterion.Criterion.TheVariants.{Height, Bends, Diagonal, Width}
-use Rattle.plan_text.specs.Fields.{spaced}
-use Rattle.plan_text.specs.SheetLine.{criterion_word, EndsField, IsOneField, IsSmall}
-use Rattle.plan_text.specs.SheetReading.{Ends}
+use Rattle.line_text.specs.Fields.{spaced, line_text, EndsField, IsOneField, Ends}
+use Rattle.line_text.specs.Criteria.{criterion_word}
+use Rattle.line_text.proofs.CriterionLemmas.{word_is_one, word_once}
+use Rattle.plan_text.specs.SheetLine.{field_told, IsName, IsSmall}
 
 -- ---- one field
 
@@ -153,10 +154,6 @@ read_more word text read rest after field left a so_far is cut same =
     ∙ ap (λ (t : List ℕ). words word read ++ t) (is ∙ ap (λ (t : List ℕ). 32 ∷ t) (cut ∙ ap (λ (t : List ℕ). t ++ left) same))
     ∙ words_more word read a left
 
-pub all_more : {A : Type 0} (P : A → Type 0) (xs : List A) (x : A) → AllByRecursion P xs → P x → AllByRecursion P (xs ++ x ∷ [])
-all_more P [] x h k = (k, tt)
-all_more P (y ∷ xs) x h k = (h.0, all_more P xs x h.1 k)
-
 -- ---- numbers and criteria
 
 digits_are_one : (ds : List ℕ) → AllDigits 10 ds → IsOneField ds
@@ -176,22 +173,75 @@ of_numbers = record {
 abbrev pub Any : Criterion → Type 0
 Any c = ⊤
 
-word_is_one : (c : Criterion) → IsOneField (criterion_word c)
-word_is_one Height = grind arith
-word_is_one Bends = grind arith
-word_is_one Diagonal = grind arith
-word_is_one Width = grind arith
-
-word_once : (c d : Criterion) → criterion_word c ≡ criterion_word d → c ≡ d
-word_once Height Height e = refl
-word_once Bends Bends e = refl
-word_once Diagonal Diagonal e = refl
-word_once Width Width e = refl
-word_once c d e = let z : get_or (criterion_word c) 0 0 ≡ get_or (criterion_word d) 0 0 = ap (λ (t : List ℕ). get_or t 0 0) e in absurd (omega arith)
-
 pub of_criteria : IsSpelling Criterion Any criterion_word
 of_criteria = record { one = λ c h. word_is_one c; once = λ c d h k e. word_once c d e }
 
 pub any_criteria : (cs : List Criterion) → AllByRecursion Any cs
 any_criteria [] = tt
 any_criteria (c ∷ cs) = (tt, any_criteria cs)
+
+-- ---- any fields
+
+of_fields : IsSpelling (List ℕ) IsOneField (λ field. field)
+of_fields = record { one = λ field is. is; once = λ a b h k e. e }
+
+map_same : (fields : List (List ℕ)) → map (λ field. field) fields ≡ fields
+map_same [] = refl
+map_same (f ∷ fields) = ap (λ (fs : List (List ℕ)). f ∷ fs) (map_same fields)
+
+pub line_front : (front : List ℕ) (fields : List (List ℕ)) (behind : List ℕ) → line_text front fields ++ behind ≡ front ++ (spaced fields ++ 10 ∷ behind)
+line_front front fields behind =
+    append_assoc (front ++ spaced fields) (10 ∷ []) behind ∙ append_assoc front (spaced fields) (10 ∷ behind)
+
+-- the fields of a line behind those that were read
+pub record FieldsLeft (read fields : List (List ℕ)) (rest behind : List ℕ) : Type 0 where
+  pub more : List (List ℕ)
+  pub split : fields ≡ read ++ more
+  pub left : rest ≡ spaced more ++ 10 ∷ behind
+
+pub fields_left : (read fields : List (List ℕ)) (rest behind : List ℕ) → AllByRecursion IsOneField read → AllByRecursion IsOneField fields → Ends rest → spaced read ++ rest ≡ spaced fields ++ 10 ∷ behind → FieldsLeft read fields rest behind
+fields_left read fields rest behind h k ends e =
+    let a = ahead of_fields read fields rest behind h k (inr ends)
+    (ap (λ (fs : List (List ℕ)). spaced fs ++ rest) (map_same read) ∙ e ∙ ap (λ (fs : List (List ℕ)). spaced fs ++ 10 ∷ behind) (sym (map_same fields))) in
+    record { more = a.more; split = a.split; left = a.left ∙ ap (λ (fs : List (List ℕ)). spaced fs ++ 10 ∷ behind) (map_same a.more) }
+
+-- a line is known by its text: its fields, and what stands behind it
+pub record SameFields (fields others : List (List ℕ)) (q r : List ℕ) : Type 0 where
+  pub fields_are : fields ≡ others
+  pub behind : q ≡ r
+
+pub fields_once : (front : List ℕ) (fields others : List (List ℕ)) (q r : List ℕ) → AllByRecursion IsOneField fields → AllByRecursion IsOneField others → line_text front fields ++ q ≡ line_text front others ++ r → SameFields fields others q r
+fields_once front fields others q r h k e =
+    let f : spaced fields ++ 10 ∷ q ≡ spaced others ++ 10 ∷ r =
+    append_cancel_left front (spaced fields ++ 10 ∷ q) (spaced others ++ 10 ∷ r) (sym (line_front front fields q) ∙ e ∙ line_front front others r) in
+    let same = words_once of_fields fields others q r h k
+    (ap (λ (fs : List (List ℕ)). spaced fs ++ 10 ∷ q) (map_same fields) ∙ f ∙ ap (λ (fs : List (List ℕ)). spaced fs ++ 10 ∷ r) (sym (map_same others))) in
+    record { fields_are = same.values; behind = same.behind }
+
+-- numbers are one field each, and known by their decimals
+pub decimals_are_one : (ns : List ℕ) → AllByRecursion IsSmall ns → AllByRecursion IsOneField (map decimal ns)
+decimals_are_one [] h = tt
+decimals_are_one (n ∷ ns) h = (of_numbers.one n h.0, decimals_are_one ns h.1)
+
+pub decimals_once : (ns ms : List ℕ) → AllByRecursion IsSmall ns → AllByRecursion IsSmall ms → map decimal ns ≡ map decimal ms → ns ≡ ms
+decimals_once [] [] h k e = refl
+decimals_once [] (m ∷ ms) h k e = cc
+decimals_once (n ∷ ns) [] h k e = cc
+decimals_once (n ∷ ns) (m ∷ ms) h k e =
+    let head : decimal n ≡ decimal m = cc in
+    let tail : map decimal ns ≡ map decimal ms = cc in
+    ap (λ (k : ℕ). k ∷ ns) (of_numbers.once n m h.0 k.0 head) ∙ ap (λ (ks : List ℕ). m ∷ ks) (decimals_once ns ms h.1 k.1 tail)
+
+-- a name that is told is one field
+pub name_is_one : (track : Option (List ℕ)) → IfSome track IsName → AllByRecursion IsOneField (field_told track)
+name_is_one None h = tt
+name_is_one (Some name) h = (h.one, tt)
+
+pub both_one : (a b : List (List ℕ)) → AllByRecursion IsOneField a → AllByRecursion IsOneField b → AllByRecursion IsOneField (a ++ b)
+both_one [] b h k = k
+both_one (f ∷ a) b h k = (h.0, both_one a b h.1 k)
+
+-- a text that isn't empty
+pub some_there : (text : List ℕ) (b : Bool) → b ≡ (length text == 0) → b ≡ false → 1 ≤ length text
+some_there [] b e f = absurd (false≢true (sym f ∙ e))
+some_there (x ∷ text) b e f = omega arith

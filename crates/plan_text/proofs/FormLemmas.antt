@@ -1,19 +1,26 @@
 -- What a text has where a line of a form was read, or none was.
-use Rattle.std.proofs.Common.{◌≡◌, ◌≢◌, inl, ℕ, ◌+◌, ◌<◌, ◌≤◌, Bool, true, false, ◌==◌, List, [], ◌∷◌, ◌++◌, map, length, Option, Some, None, MatchOption, refl, sym, ◌∙◌, ap, arith, length-append}
-use Rattle.std.specs.Prelude.{codes, flat_map}
+use Rattle.std.proofs.Common.{◌≡◌, ◌≢◌, inl, inr, ℕ, ◌+◌, ◌<◌, ◌≤◌, Bool, true, false, ◌==◌, List, [], ◌∷◌, ◌++◌, map, length, None, Some, MatchOption, refl, sym, ◌∙◌, ap, subst, arith, append_assoc, length-append}
+use Rattle.std.specs.Prelude.{codes, flat_map, IsTrue, ◌↔◌}
+use Rattle.std.specs.declared.option.Option.{Option}
 use Rattle.std.specs.Fmt.{decimal}
 use Rattle.std.proofs.lemmas.Bool.{eqb-true, false≢true}
+use Rattle.std.proofs.lemmas.Grind.{flat_map-append}
 use Rattle.std.proofs.lemmas.List.{append_cancel_left}
 use Rattle.plan_core.specs.declared.point.Point.{Point}
 use Rattle.plan_core.specs.declared.criterion.Criterion.{Criterion}
-use Rattle.plan_text.specs.Fields.{spaced, line_text}
+use Rattle.plan_core.specs.Grid.{GridSize, grid_with}
+use Rattle.line_text.specs.Fields.{spaced, line_text, IsOneField, Ends, IsFrontField}
+use Rattle.line_text.specs.Criteria.{criterion_word}
+use Rattle.plan_text.specs.declared.edition.Edition.{Edition}
+use Rattle.plan_text.specs.declared.edition.Edition.TheVariants.{First, Second}
 use Rattle.plan_text.specs.declared.ending.Ending.{Ending}
 use Rattle.plan_text.specs.declared.ending.Ending.TheVariants.{Best, NoDrawing, Conflicts, Room}
-use Rattle.plan_text.specs.SheetLine.{SheetLine, EndLine, text_of, criterion_word, coordinates, IsName, IsSmall, AreSmall, IsBetween, IsSmallEnding}
-use Rattle.plan_text.specs.SheetFaults.{OrderDue, NodeDue, EdgeDue, BeginsWith}
-use Rattle.plan_text.specs.SheetReading.{Ends, IsCut}
-use Rattle.plan_text.proofs.FieldLemmas.{SameField, same_field, words, words_once, of_numbers, of_criteria, any_criteria}
-use Rattle.plan_text.proofs.LineOnce.{line_front, numbers_once, tells_order, tells_node, TellsEdge, tells_edge, node_text, front_once, pairs}
+use Rattle.plan_text.specs.SheetLine.{SheetLine, GridLine, NodeLine, EdgeLine, EndLine, text_of, grid_numbers, coordinates, field_told, StandsForLeast, IsMileageText, IsSmall, AreSmall, IsBetween, IsSmallEnding}
+use Rattle.plan_text.specs.SheetFaults.{OrderDue, NodeDue, EdgeDue, IsToldIn, BeginsWith}
+use Rattle.plan_text.specs.SheetReading.{IsFieldAt, IsNumberAt, IsNameAt, IsPointAt, IsNamed, IsNumbered, IsNodeEnd, IsLineTo}
+use Rattle.plan_text.proofs.FieldLemmas.{SameField, same_field, words, words_once, of_numbers, of_criteria, any_criteria, line_front, fields_left, decimals_are_one, name_is_one, both_one, some_there}
+use Rattle.plan_text.proofs.MileageLemmas.{mileage_is_one}
+use Rattle.plan_text.proofs.LineOnce.{tells_order, TellsNode, tells_node, TellsEdge, tells_edge, same_told, pairs}
 
 pub option_both : {A : Type 0} (o : Option A) (P P' : Type 0) (Q Q' : A → Type 0) → (P → P') → ((x : A) → Q x → Q' x) → MatchOption o P Q → MatchOption o P' Q'
 option_both None P P' Q Q' f h m = f m
@@ -33,70 +40,220 @@ line_behind text front behind fields rest is e = is ∙ ap (λ (t : List ℕ). f
 no_length : (n : ℕ) (b : Bool) → b ≡ (n == 0) → b ≡ true → n ≡ 0
 no_length n b e h = eqb-true n 0 (sym e ∙ h)
 
-pub no_order : (text behind rest : List ℕ) (criteria : List Criterion) (b : Bool) → text ≡ codes "order" ++ behind → behind ≡ words criterion_word criteria ++ 10 ∷ rest → b ≡ (length criteria == 0) → b ≡ true → (needs_drawing : Bool) (line : SheetLine) → BeginsWith (OrderDue needs_drawing) text line → ⊥
-no_order text behind rest criteria b is told empty so needs_drawing line begins =
-    let t = tells_order text line begins in
+pub no_order : (text behind rest : List ℕ) (criteria : List Criterion) (b : Bool) → text ≡ codes "order" ++ behind → behind ≡ words criterion_word criteria ++ 10 ∷ rest → b ≡ (length criteria == 0) → b ≡ true → (edition : Edition) (needs_drawing : Bool) (line : SheetLine) → BeginsWith (OrderDue edition needs_drawing) text line → ⊥
+no_order text behind rest criteria b is told empty so edition needs_drawing line begins =
+    let t = tells_order edition needs_drawing text line begins in
     let same = words_once of_criteria criteria t.order rest t.behind (any_criteria criteria) (any_criteria t.order) (sym told ∙ fields_behind text (codes "order") behind (map criterion_word t.order) t.behind is t.spelled) in
     let none = no_length (length criteria) b empty so in
     let n : length criteria ≡ length t.order = ap length same.values in
     let some = t.form.from in
     omega (arith, none, n, some)
 
--- ---- the front of a node's line
+-- ---- the grid
 
-pub number_part : (text behind field left : List ℕ) → text ≡ codes "node " ++ behind → IsCut behind field left → (n : ℕ) (name rest : List ℕ) → IsSmall n → text ≡ codes "node " ++ (decimal n ++ 32 ∷ (name ++ rest)) → SameField field (decimal n) left (32 ∷ (name ++ rest))
-number_part text behind field left is cut n name rest small e =
-    let f : behind ≡ decimal n ++ 32 ∷ (name ++ rest) = append_cancel_left (codes "node ") behind (decimal n ++ 32 ∷ (name ++ rest)) (sym is ∙ e) in
-    same_field field (decimal n) left (32 ∷ (name ++ rest)) cut.one (of_numbers.one n small) cut.ends (inl refl) (sym cut.spelled ∙ f)
+pub few_grid_numbers : (edition : Edition) (grid : GridSize) → length (grid_numbers edition grid) ≤ 11
+few_grid_numbers First grid = omega arith
+few_grid_numbers Second grid = omega arith
 
-pub no_number : (text behind field left : List ℕ) → text ≡ codes "node " ++ behind → IsCut behind field left → ((n : ℕ) → IsSmall n → field ≢ decimal n) → (n : ℕ) (name rest : List ℕ) → IsSmall n → text ≡ codes "node " ++ (decimal n ++ 32 ∷ (name ++ rest)) → ⊥
-no_number text behind field left is cut none n name rest small e = none n small (number_part text behind field left is cut n name rest small e).field
+pub no_two_numbers : (edition : Edition) → edition ≡ First → (numbers : List ℕ) → ((x y : ℕ) → numbers ≢ x ∷ y ∷ []) → (grid : GridSize) → numbers ≢ grid_numbers edition grid
+no_two_numbers edition is numbers none grid e = none grid.width grid.height (e ∙ ap (λ (o : Edition). grid_numbers o grid) is)
 
-pub no_space : (text behind field left : List ℕ) → text ≡ codes "node " ++ behind → IsCut behind field left → ((more : List ℕ) → left ≢ codes " " ++ more) → (n : ℕ) (name rest : List ℕ) → IsSmall n → text ≡ codes "node " ++ (decimal n ++ 32 ∷ (name ++ rest)) → ⊥
-no_space text behind field left is cut none n name rest small e = none (name ++ rest) (number_part text behind field left is cut n name rest small e).rest
+pub two_numbers : (edition : Edition) → edition ≡ First → (numbers : List ℕ) (x y : ℕ) → numbers ≡ x ∷ y ∷ [] → (numbers ≡ grid_numbers edition (grid_with x y 1)) × StandsForLeast edition (grid_with x y 1)
+two_numbers edition is numbers x y e =
+    let least : StandsForLeast First (grid_with x y 1) = refl in
+    (e ∙ ap (λ (o : Edition). grid_numbers o (grid_with x y 1)) (sym is), subst (λ (o : Edition). StandsForLeast o (grid_with x y 1)) (sym is) least)
+
+pub no_three_numbers : (edition : Edition) → edition ≡ Second → (numbers : List ℕ) → ((x y z : ℕ) → numbers ≢ x ∷ y ∷ z ∷ []) → (grid : GridSize) → numbers ≢ grid_numbers edition grid
+no_three_numbers edition is numbers none grid e = none grid.width grid.height grid.least (e ∙ ap (λ (o : Edition). grid_numbers o grid) is)
+
+pub three_numbers : (edition : Edition) → edition ≡ Second → (numbers : List ℕ) (x y z : ℕ) → numbers ≡ x ∷ y ∷ z ∷ [] → (numbers ≡ grid_numbers edition (grid_with x y z)) × StandsForLeast edition (grid_with x y z)
+three_numbers edition is numbers x y z e =
+    let least : StandsForLeast Second (grid_with x y z) = tt in
+    (e ∙ ap (λ (o : Edition). grid_numbers o (grid_with x y z)) (sym is), subst (λ (o : Edition). StandsForLeast o (grid_with x y z)) (sym is) least)
+
+pub grid_read : (edition : Edition) (text rest numbers slice : List ℕ) (grid : GridSize) → AreSmall numbers → text ≡ line_text (codes "grid") (map decimal numbers) ++ rest → slice ≡ numbers → slice ≡ grid_numbers edition grid → StandsForLeast edition grid → IsLineTo text (GridLine edition grid) rest
+grid_read edition text rest numbers slice grid small told is numbers_are stands =
+    let same : numbers ≡ grid_numbers edition grid = sym is ∙ numbers_are in
+    record { form = (subst AreSmall same small, stands); spelled = told ∙ ap (λ (ns : List ℕ). line_text (codes "grid") (map decimal ns) ++ rest) same }
+
+-- ---- fields one by one
+
+regroup : (a b r : List ℕ) → (32 ∷ (a ++ b)) ++ r ≡ 32 ∷ (a ++ (b ++ r))
+regroup a b r = ap (λ (t : List ℕ). 32 ∷ t) (append_assoc a b r)
 
 second_of : (x y : List ℕ) → 32 ∷ x ≡ 32 ∷ y → x ≡ y
 second_of x y e = cc
 
-pub no_name : (text behind field left second other end : List ℕ) (b : Bool) → text ≡ codes "node " ++ behind → IsCut behind field left → left ≡ codes " " ++ second → IsCut second other end → b ≡ (length other == 0) → b ≡ true →
-    (n : ℕ) (name rest : List ℕ) → IsSmall n → IsName name → Ends rest → text ≡ codes "node " ++ (decimal n ++ 32 ∷ (name ++ rest)) → ⊥
-no_name text behind field left second other end b is cut spaced cut2 empty so n name rest small named ends e =
-    let part = number_part text behind field left is cut n name rest small e in
-    let f : second ≡ name ++ rest = second_of second (name ++ rest) (sym spaced ∙ part.rest) in
-    let same = same_field other name end rest cut2.one named.one cut2.ends ends (sym cut2.spelled ∙ f) in
-    let none = no_length (length other) b empty so in
-    let k : length other ≡ length name = ap length same.field in
-    let some = named.some in
+-- two fields in front of others
+two_fields : (a b : List ℕ) (more : List (List ℕ)) (t : List ℕ) → spaced (a ∷ b ∷ more) ++ t ≡ 32 ∷ (a ++ 32 ∷ (b ++ (spaced more ++ t)))
+two_fields a b more t = regroup a (spaced (b ∷ more)) t ∙ ap (λ (s : List ℕ). 32 ∷ (a ++ s)) (regroup b (spaced more) t)
+
+pub field_at : (text rest field left : List ℕ) → text ≡ codes " " ++ rest → IsFrontField rest field left → IsFieldAt text field left
+field_at text rest field left is cut = record { one = cut.one; ends = cut.ends; spelled = is ∙ ap (λ (t : List ℕ). 32 ∷ t) cut.spelled }
+
+field_once : (text field left other rest : List ℕ) → IsFieldAt text field left → IsOneField other → Ends rest → text ≡ 32 ∷ (other ++ rest) → SameField field other left rest
+field_once text field left other rest at one ends e = same_field field other left rest at.one one at.ends ends (second_of (field ++ left) (other ++ rest) (sym at.spelled ∙ e))
+
+-- a number in front
+pub number_at : (text field left : List ℕ) (n : ℕ) → IsFieldAt text field left → IsSmall n → field ≡ decimal n → IsNumberAt text n left
+number_at text field left n at small is = (small, at.ends, at.spelled ∙ ap (λ (f : List ℕ). 32 ∷ (f ++ left)) is)
+
+pub no_number : (text field left : List ℕ) → IsFieldAt text field left → ((n : ℕ) → IsSmall n → field ≢ decimal n) → (n : ℕ) (rest : List ℕ) → IsNumberAt text n rest → ⊥
+no_number text field left at none n rest h = none n h.0 (field_once text field left (decimal n) rest at (of_numbers.one n h.0) h.1 h.2).field
+
+record SameNumber (n m : ℕ) (r s : List ℕ) : Type 0 where
+  number : n ≡ m
+  rest : r ≡ s
+
+number_once : (text : List ℕ) (n m : ℕ) (r s : List ℕ) → IsNumberAt text n r → IsNumberAt text m s → SameNumber n m r s
+number_once text n m r s h k =
+    let same = same_field (decimal n) (decimal m) r s (of_numbers.one n h.0) (of_numbers.one m k.0) h.1 k.1 (second_of (decimal n ++ r) (decimal m ++ s) (sym h.2 ∙ k.2)) in
+    record { number = of_numbers.once n m h.0 k.0 same.field; rest = same.rest }
+
+-- a name in front
+pub no_name : (text field left : List ℕ) (b : Bool) → IsFieldAt text field left → b ≡ (length field == 0) → b ≡ true → (name rest : List ℕ) → IsNameAt text name rest → ⊥
+no_name text field left b at empty so name rest h =
+    let same = (field_once text field left name rest at h.0.one h.1 h.2).field in
+    let none = no_length (length field) b empty so in
+    let k : length field ≡ length name = ap length same in
+    let some = h.0.some in
     omega (arith, none, k, some)
 
--- ---- a node's place
+pub name_at : (text field left : List ℕ) (b : Bool) → IsFieldAt text field left → b ≡ (length field == 0) → b ≡ false → IsNameAt text field left
+name_at text field left b at empty so = (record { some = some_there field b empty so; one = at.one }, at.ends, at.spelled)
 
-abbrev pub IsNamed : List ℕ → ℕ → List ℕ → List ℕ → Type 0
-IsNamed text number name rest = IsSmall number × IsName name × Ends rest × (text ≡ codes "node " ++ (decimal number ++ 32 ∷ (name ++ rest)))
+-- two coordinates in front
+pub no_y : (text mid : List ℕ) (x : ℕ) → IsNumberAt text x mid → ((n : ℕ) (rest : List ℕ) → IsNumberAt mid n rest → ⊥) → (p : Point) (rest : List ℕ) → IsPointAt text p rest → ⊥
+no_y text mid x read none p rest h =
+    let same = number_once text x p.x mid (32 ∷ (decimal p.y ++ rest)) read (h.0, inl refl, h.3) in
+    none p.y rest (h.1, h.2, same.rest)
 
-record PlaceBehind (rest : List ℕ) : Type 0 where
-  place : Point
-  small : AreSmall (coordinates place)
-  behind : List ℕ
-  left : rest ≡ words decimal (coordinates place) ++ 10 ∷ behind
+pub no_x : (text : List ℕ) → ((n : ℕ) (rest : List ℕ) → IsNumberAt text n rest → ⊥) → (p : Point) (rest : List ℕ) → IsPointAt text p rest → ⊥
+no_x text none p rest h = none p.x (32 ∷ (decimal p.y ++ rest)) (h.0, inl refl, h.3)
 
-place_behind : (text : List ℕ) (number : ℕ) (name rest : List ℕ) → IsNamed text number name rest → (n : ℕ) (line : SheetLine) → BeginsWith (NodeDue n) text line → PlaceBehind rest
-place_behind text number name rest h n line begins =
-    let t = tells_node text n line begins in
-    let f = front_once number t.number name t.name rest (words decimal (coordinates t.place) ++ 10 ∷ t.behind) h.0 t.form.1.0 h.1 t.form.0 h.2 (inl refl)
-    (sym h.3 ∙ t.spelled ∙ node_text t.number t.name t.place t.behind) in
-    record { place = t.place; small = t.form.1.1; behind = t.behind; left = f.left }
+pub point_at : (text mid rest : List ℕ) (x y : ℕ) → IsNumberAt text x mid → IsNumberAt mid y rest → IsPointAt text (record { x = x; y = y }) rest
+point_at text mid rest x y h k = (h.0, k.0, k.1, h.2 ∙ ap (λ (t : List ℕ). 32 ∷ (decimal x ++ t)) k.2)
 
-pub no_place : (text : List ℕ) (number : ℕ) (name rest : List ℕ) → IsNamed text number name rest → ((ns behind : List ℕ) → AreSmall ns → length ns ≤ 11 → rest ≢ words decimal ns ++ 10 ∷ behind) → (n : ℕ) (line : SheetLine) → BeginsWith (NodeDue n) text line → ⊥
-no_place text number name rest h none n line begins =
-    let p = place_behind text number name rest h n line begins in
-    none (coordinates p.place) p.behind p.small (omega arith) p.left
+point_once : (text : List ℕ) (p q : Point) (r s : List ℕ) → IsPointAt text p r → IsPointAt text q s → r ≡ s
+point_once text p q r s h k =
+    let first = number_once text p.x q.x (32 ∷ (decimal p.y ++ r)) (32 ∷ (decimal q.y ++ s)) (h.0, inl refl, h.3) (k.0, inl refl, k.3) in
+    (number_once (32 ∷ (decimal p.y ++ r)) p.y q.y r s (h.1, h.2, refl) (k.1, k.2, first.rest)).rest
 
-pub no_pair : (text : List ℕ) (number : ℕ) (name rest : List ℕ) (numbers slice behind : List ℕ) → IsNamed text number name rest → AreSmall numbers → rest ≡ words decimal numbers ++ 10 ∷ behind → slice ≡ numbers → ((x y : ℕ) → slice ≢ x ∷ y ∷ []) → (n : ℕ) (line : SheetLine) → BeginsWith (NodeDue n) text line → ⊥
-no_pair text number name rest numbers slice behind h small told is none n line begins =
-    let p = place_behind text number name rest h n line begins in
-    let same = words_once of_numbers numbers (coordinates p.place) behind p.behind small p.small (sym told ∙ p.left) in
-    none p.place.x p.place.y (is ∙ same.values)
+-- ---- a number and a name behind a word
+
+named_front : (text word r : List ℕ) (n : ℕ) (name rest : List ℕ) → text ≡ word ++ r → IsNamed text word n name rest → IsNumberAt r n (32 ∷ (name ++ rest))
+named_front text word r n name rest is h = (h.0, inl refl, append_cancel_left word r (32 ∷ (decimal n ++ 32 ∷ (name ++ rest))) (sym is ∙ h.3))
+
+pub no_word : (text word : List ℕ) → ((rest : List ℕ) → text ≢ word ++ rest) → (n : ℕ) (name rest : List ℕ) → IsNamed text word n name rest → ⊥
+no_word text word none n name rest h = none (32 ∷ (decimal n ++ 32 ∷ (name ++ rest))) h.3
+
+pub no_number_named : (text word r : List ℕ) → text ≡ word ++ r → ((n : ℕ) (s : List ℕ) → IsNumberAt r n s → ⊥) → (n : ℕ) (name rest : List ℕ) → IsNamed text word n name rest → ⊥
+no_number_named text word r is none n name rest h = none n (32 ∷ (name ++ rest)) (named_front text word r n name rest is h)
+
+pub no_name_named : (text word r s : List ℕ) (m : ℕ) → text ≡ word ++ r → IsNumberAt r m s → ((name rest : List ℕ) → IsNameAt s name rest → ⊥) → (n : ℕ) (name rest : List ℕ) → IsNamed text word n name rest → ⊥
+no_name_named text word r s m is read none n name rest h =
+    none name rest (h.1, h.2, (number_once r m n s (32 ∷ (name ++ rest)) read (named_front text word r n name rest is h)).rest)
+
+pub is_named : (text word r s : List ℕ) (n : ℕ) (name rest : List ℕ) → text ≡ word ++ r → IsNumberAt r n s → IsNameAt s name rest → IsNamed text word n name rest
+is_named text word r s n name rest is h k =
+    (h.0, k.0, k.1, is ∙ ap (λ (t : List ℕ). word ++ t) (h.2 ∙ ap (λ (t : List ℕ). 32 ∷ (decimal n ++ t)) k.2))
+
+named_once : (text word : List ℕ) (n m : ℕ) (name other r s : List ℕ) → IsNamed text word n name r → IsNamed text word m other s → r ≡ s
+named_once text word n m name other r s h k =
+    let front = number_once (32 ∷ (decimal n ++ 32 ∷ (name ++ r))) n m (32 ∷ (name ++ r)) (32 ∷ (other ++ s)) (h.0, inl refl, refl) (named_front text word (32 ∷ (decimal n ++ 32 ∷ (name ++ r))) m other s h.3 k) in
+    (same_field name other r s h.1.one k.1.one h.2 k.2 (second_of (name ++ r) (other ++ s) front.rest)).rest
+
+-- ---- the end of a node's line
+
+pub mileage_false : (text : List ℕ) (b : Bool) → IsTrue b ↔ IsMileageText text → b ≡ false → IsMileageText text → ⊥
+mileage_false text b tests so is = false≢true (sym so ∙ tests.1 is)
+
+pub no_mileage : (text field left : List ℕ) → IsFieldAt text field left → (IsMileageText field → ⊥) → (mileage rest : List ℕ) → IsMileageText mileage → text ≢ 32 ∷ (mileage ++ 10 ∷ rest)
+no_mileage text field left at none mileage rest is e =
+    let same = (field_once text field left mileage (10 ∷ rest) at (mileage_is_one mileage is) (inr refl) e).field in
+    none (rw same is)
+
+pub no_feed_behind : (text field left : List ℕ) → IsFieldAt text field left → ((rest : List ℕ) → left ≢ codes "\n" ++ rest) → (mileage rest : List ℕ) → IsMileageText mileage → text ≢ 32 ∷ (mileage ++ 10 ∷ rest)
+no_feed_behind text field left at none mileage rest is e = none rest (field_once text field left mileage (10 ∷ rest) at (mileage_is_one mileage is) (inr refl) e).rest
+
+pub mileage_at : (text field left rest : List ℕ) → IsFieldAt text field left → left ≡ codes "\n" ++ rest → text ≡ 32 ∷ (field ++ 10 ∷ rest)
+mileage_at text field left rest at e = at.spelled ∙ ap (λ (t : List ℕ). 32 ∷ (field ++ t)) e
+
+pub no_plain_end : (edition : Edition) → edition ≡ First → (text : List ℕ) → ((rest : List ℕ) → text ≢ codes "\n" ++ rest) → (mileage : Option (List ℕ)) (rest : List ℕ) → IsNodeEnd edition text mileage rest → ⊥
+no_plain_end edition is text none mileage rest h = at mileage (subst (λ (o : Edition). IsNodeEnd o text mileage rest) is h)
+  where
+    at : (mileage : Option (List ℕ)) → IsNodeEnd First text mileage rest → ⊥
+    at None h = none rest h.2
+    at (Some field) h = h.0
+
+pub plain_end : (edition : Edition) → edition ≡ First → (text rest : List ℕ) → text ≡ codes "\n" ++ rest → IsNodeEnd edition text None rest
+plain_end edition is text rest e = let end : IsNodeEnd First text None rest = (tt, tt, e) in subst (λ (o : Edition). IsNodeEnd o text None rest) (sym is) end
+
+last_field : (field t : List ℕ) → spaced (field ∷ []) ++ t ≡ 32 ∷ (field ++ t)
+last_field field t = ap (λ (s : List ℕ). 32 ∷ s) (append_assoc field [] t)
+
+pub no_told_end : (edition : Edition) → edition ≡ Second → (text : List ℕ) → ((mileage rest : List ℕ) → IsMileageText mileage → text ≢ 32 ∷ (mileage ++ 10 ∷ rest)) → (mileage : Option (List ℕ)) (rest : List ℕ) → IsNodeEnd edition text mileage rest → ⊥
+no_told_end edition is text none mileage rest h = at mileage (subst (λ (o : Edition). IsNodeEnd o text mileage rest) is h)
+  where
+    at : (mileage : Option (List ℕ)) → IsNodeEnd Second text mileage rest → ⊥
+    at None h = h.0
+    at (Some field) h = none field rest h.1 (h.2 ∙ last_field field (10 ∷ rest))
+
+pub told_end : (edition : Edition) → edition ≡ Second → (text mileage rest : List ℕ) → IsMileageText mileage → text ≡ 32 ∷ (mileage ++ 10 ∷ rest) → IsNodeEnd edition text (Some mileage) rest
+told_end edition is text mileage rest form e =
+    let end : IsNodeEnd Second text (Some mileage) rest = (tt, form, e ∙ sym (last_field mileage (10 ∷ rest))) in
+    subst (λ (o : Edition). IsNodeEnd o text (Some mileage) rest) (sym is) end
+
+-- ---- a node's line
+
+told_ends : (mileage : Option (List ℕ)) (rest : List ℕ) → Ends (spaced (field_told mileage) ++ 10 ∷ rest)
+told_ends None rest = inr refl
+told_ends (Some field) rest = inl refl
+
+abbrev place_text : Point → Option (List ℕ) → List ℕ → List ℕ
+place_text p mileage behind = spaced (decimal p.x ∷ decimal p.y ∷ field_told mileage) ++ 10 ∷ behind
+
+node_text : (number : ℕ) (name : List ℕ) (p : Point) (mileage : Option (List ℕ)) (behind : List ℕ) → text_of (NodeLine number name p mileage) ++ behind ≡ codes "node" ++ 32 ∷ (decimal number ++ 32 ∷ (name ++ place_text p mileage behind))
+node_text number name p mileage behind =
+    line_front (codes "node") (decimal number ∷ name ∷ decimal p.x ∷ decimal p.y ∷ field_told mileage) behind
+    ∙ ap (λ (t : List ℕ). codes "node" ++ t) (two_fields (decimal number) name (decimal p.x ∷ decimal p.y ∷ field_told mileage) (10 ∷ behind))
+
+tells_named : (edition : Edition) (text : List ℕ) (t : TellsNode edition text) → IsNamed text (codes "node") t.number t.name (place_text t.place t.mileage t.behind)
+tells_named edition text t = (t.form.1.0, t.form.0, inl refl, t.spelled ∙ node_text t.number t.name t.place t.mileage t.behind)
+
+tells_point : (edition : Edition) (text : List ℕ) (t : TellsNode edition text) → IsPointAt (place_text t.place t.mileage t.behind) t.place (spaced (field_told t.mileage) ++ 10 ∷ t.behind)
+tells_point edition text t = (t.form.1.1.0, t.form.1.1.1.0, told_ends t.mileage t.behind, two_fields (decimal t.place.x) (decimal t.place.y) (field_told t.mileage) (10 ∷ t.behind))
+
+pub no_named : (edition : Edition) (text : List ℕ) → ((n : ℕ) (name rest : List ℕ) → IsNamed text (codes "node") n name rest → ⊥) → (n : ℕ) (line : SheetLine) → BeginsWith (NodeDue edition n) text line → ⊥
+no_named edition text none n line begins =
+    let t = tells_node edition text n line begins in
+    none t.number t.name (place_text t.place t.mileage t.behind) (tells_named edition text t)
+
+pub no_place : (edition : Edition) (text : List ℕ) (number : ℕ) (name r : List ℕ) → IsNamed text (codes "node") number name r → ((p : Point) (rest : List ℕ) → IsPointAt r p rest → ⊥) → (n : ℕ) (line : SheetLine) → BeginsWith (NodeDue edition n) text line → ⊥
+no_place edition text number name r h none n line begins =
+    let t = tells_node edition text n line begins in
+    let same : r ≡ place_text t.place t.mileage t.behind = named_once text (codes "node") number t.number name t.name r (place_text t.place t.mileage t.behind) h (tells_named edition text t) in
+    let at = tells_point edition text t in
+    none t.place (spaced (field_told t.mileage) ++ 10 ∷ t.behind) (at.0, at.1, at.2, same ∙ at.3)
+
+pub no_end_of_node : (edition : Edition) (text : List ℕ) (number : ℕ) (name r s : List ℕ) (p : Point) → IsNamed text (codes "node") number name r → IsPointAt r p s → ((mileage : Option (List ℕ)) (rest : List ℕ) → IsNodeEnd edition s mileage rest → ⊥) → (n : ℕ) (line : SheetLine) → BeginsWith (NodeDue edition n) text line → ⊥
+no_end_of_node edition text number name r s p h place none n line begins =
+    let t = tells_node edition text n line begins in
+    let same : r ≡ place_text t.place t.mileage t.behind = named_once text (codes "node") number t.number name t.name r (place_text t.place t.mileage t.behind) h (tells_named edition text t) in
+    let at = tells_point edition text t in
+    let left : s ≡ spaced (field_told t.mileage) ++ 10 ∷ t.behind = point_once r p t.place s (spaced (field_told t.mileage) ++ 10 ∷ t.behind) place (at.0, at.1, at.2, same ∙ at.3) in
+    none t.mileage t.behind (t.told, t.form.2, left)
+
+pub node_read : (edition : Edition) (text : List ℕ) (number : ℕ) (name r s : List ℕ) (p : Point) (mileage : Option (List ℕ)) (rest : List ℕ) → IsNamed text (codes "node") number name r → IsPointAt r p s → IsNodeEnd edition s mileage rest → IsToldIn edition mileage × IsLineTo text (NodeLine number name p mileage) rest
+node_read edition text number name r s p mileage rest h at end = (
+  end.0,
+  record {
+    form = (h.1, (h.0, (at.0, (at.1, tt))), end.1);
+    spelled = h.3
+        ∙ ap (λ (t : List ℕ). codes "node" ++ 32 ∷ (decimal number ++ 32 ∷ (name ++ t))) (at.3 ∙ ap (λ (t : List ℕ). 32 ∷ (decimal p.x ++ 32 ∷ (decimal p.y ++ t))) end.2 ∙ sym (two_fields (decimal p.x) (decimal p.y) (field_told mileage) (10 ∷ rest)))
+        ∙ sym (node_text number name p mileage rest);
+  },
+)
 
 -- ---- points
 
@@ -133,36 +290,112 @@ too_few numbers rest points b so_far empty so few ps some e =
     at none [] split f = let n = ap length split in let k = length-append points [] in omega (arith, n, k)
     at none (p ∷ more) split f = let n : length rest ≡ length (flat_map coordinates (p ∷ more)) = ap length f in omega (arith, none, n)
 
+-- ---- the number and the track of an edge
+
+-- where no track is told
+pub no_edge_word : (edition : Edition) (text : List ℕ) → ((rest : List ℕ) → text ≢ codes "edge" ++ rest) → (n : ℕ) (track : Option (List ℕ)) (rest : List ℕ) → IsNumbered edition text n track rest → ⊥
+no_edge_word edition text none n track rest h = none (spaced (decimal n ∷ field_told track) ++ rest) h.4
+
+pub no_edge_number : (edition : Edition) → edition ≡ First → (text r : List ℕ) → text ≡ codes "edge" ++ r → ((n : ℕ) (s : List ℕ) → IsNumberAt r n s → ⊥) → (n : ℕ) (track : Option (List ℕ)) (rest : List ℕ) → IsNumbered edition text n track rest → ⊥
+no_edge_number edition first text r is none n track rest h = at track (subst (λ (o : Edition). IsNumbered o text n track rest) first h)
+  where
+    at : (track : Option (List ℕ)) → IsNumbered First text n track rest → ⊥
+    at None h = none n rest (h.2, h.3, append_cancel_left (codes "edge") r (spaced (decimal n ∷ []) ++ rest) (sym is ∙ h.4) ∙ last_field (decimal n) rest)
+    at (Some name) h = h.0
+
+pub plain_number : (edition : Edition) → edition ≡ First → (text r : List ℕ) (n : ℕ) (rest : List ℕ) → text ≡ codes "edge" ++ r → IsNumberAt r n rest → IsNumbered edition text n None rest
+plain_number edition first text r n rest is h =
+    let told : IsNumbered First text n None rest = (tt, tt, h.0, h.1, is ∙ ap (λ (t : List ℕ). codes "edge" ++ t) (h.2 ∙ sym (last_field (decimal n) rest))) in
+    subst (λ (o : Edition). IsNumbered o text n None rest) (sym first) told
+
+-- where one is
+pub no_edge_named : (edition : Edition) → edition ≡ Second → (text : List ℕ) → ((n : ℕ) (name rest : List ℕ) → IsNamed text (codes "edge") n name rest → ⊥) → (n : ℕ) (track : Option (List ℕ)) (rest : List ℕ) → IsNumbered edition text n track rest → ⊥
+no_edge_named edition second text none n track rest h = at track (subst (λ (o : Edition). IsNumbered o text n track rest) second h)
+  where
+    at : (track : Option (List ℕ)) → IsNumbered Second text n track rest → ⊥
+    at None h = h.0
+    at (Some name) h = none n name rest (h.2, h.1, h.3, h.4 ∙ ap (λ (t : List ℕ). codes "edge" ++ t) (two_fields (decimal n) name [] rest))
+
+pub told_number : (edition : Edition) → edition ≡ Second → (text : List ℕ) (n : ℕ) (track rest : List ℕ) → IsNamed text (codes "edge") n track rest → IsNumbered edition text n (Some track) rest
+told_number edition second text n track rest h =
+    let told : IsNumbered Second text n (Some track) rest = (tt, h.1, h.0, h.2, h.3 ∙ ap (λ (t : List ℕ). codes "edge" ++ t) (sym (two_fields (decimal n) track [] rest))) in
+    subst (λ (o : Edition). IsNumbered o text n (Some track) rest) (sym second) told
+
 -- ---- an edge's line
 
 coordinates_length : (ps : List Point) → length (flat_map coordinates ps) ≡ length ps + length ps
 coordinates_length [] = refl
 coordinates_length (p ∷ ps) = let n = coordinates_length ps in omega (arith, n)
 
-pub no_numbers : (text : List ℕ) → ((ns rest : List ℕ) → AreSmall ns → length ns ≤ 11 → text ≢ line_text (codes "edge") (map decimal ns) ++ rest) → (e : ℕ) (line : SheetLine) → BeginsWith (EdgeDue e) text line → ⊥
-no_numbers text none e line begins =
-    let t = tells_edge text e line begins in
+abbrev numbers_of : ℕ → ℕ → List Point → List ℕ
+numbers_of west east points = west ∷ east ∷ flat_map coordinates points
+
+abbrev numbers_text : ℕ → ℕ → List Point → List ℕ → List ℕ
+numbers_text west east points behind = spaced (map decimal (numbers_of west east points)) ++ 10 ∷ behind
+
+-- the fields of an edge's line in two parts
+edge_text : (number : ℕ) (track : Option (List ℕ)) (west east : ℕ) (points : List Point) (behind : List ℕ) → text_of (EdgeLine number track west east points) ++ behind ≡ codes "edge" ++ (spaced (decimal number ∷ field_told track) ++ numbers_text west east points behind)
+edge_text number track west east points behind =
+    let front : List (List ℕ) = decimal number ∷ field_told track in
+    let others : List (List ℕ) = map decimal (numbers_of west east points) in
+    line_front (codes "edge") (front ++ others) behind
+    ∙ ap (λ (t : List ℕ). codes "edge" ++ t) (ap (λ (t : List ℕ). t ++ 10 ∷ behind) (flat_map-append (λ (field : List ℕ). 32 ∷ field) front others) ∙ append_assoc (spaced front) (spaced others) (10 ∷ behind))
+
+tells_numbered : (edition : Edition) (text : List ℕ) (t : TellsEdge edition text) → IsNumbered edition text t.number t.track (numbers_text t.west t.east t.points t.behind)
+tells_numbered edition text t = (t.told, t.form.2, t.form.1.0, inl refl, t.spelled ∙ edge_text t.number t.track t.west t.east t.points t.behind)
+
+-- what stands behind the number and the track is known
+numbered_left : (edition : Edition) (text : List ℕ) (number : ℕ) (track : Option (List ℕ)) (r : List ℕ) → IsNumbered edition text number track r → (t : TellsEdge edition text) → r ≡ numbers_text t.west t.east t.points t.behind
+numbered_left edition text number track r h t =
+    let read : List (List ℕ) = decimal number ∷ field_told track in
+    let front : List (List ℕ) = decimal t.number ∷ field_told t.track in
+    let others : List (List ℕ) = map decimal (numbers_of t.west t.east t.points) in
+    let whole : spaced read ++ r ≡ spaced (front ++ others) ++ 10 ∷ t.behind =
+    append_cancel_left (codes "edge") (spaced read ++ r) (spaced (front ++ others) ++ 10 ∷ t.behind) (sym h.4 ∙ t.spelled ∙ line_front (codes "edge") (front ++ others) t.behind) in
+    let left = fields_left read (front ++ others) r t.behind (of_numbers.one number h.2, name_is_one track h.1)
+    (of_numbers.one t.number t.form.1.0, both_one (field_told t.track) others (name_is_one t.track t.form.2) (decimals_are_one (numbers_of t.west t.east t.points) t.form.1.1)) h.3 whole in
+    let same = same_told edition t.track track t.told h.0 (decimal t.number) (decimal number) others left.more left.split in
+    left.left ∙ ap (λ (fs : List (List ℕ)). spaced fs ++ 10 ∷ t.behind) (sym same.others)
+
+pub no_numbered : (edition : Edition) (text : List ℕ) → ((n : ℕ) (track : Option (List ℕ)) (rest : List ℕ) → IsNumbered edition text n track rest → ⊥) → (e : ℕ) (line : SheetLine) → BeginsWith (EdgeDue edition e) text line → ⊥
+no_numbered edition text none e line begins =
+    let t = tells_edge edition text e line begins in
+    none t.number t.track (numbers_text t.west t.east t.points t.behind) (tells_numbered edition text t)
+
+pub no_numbers : (edition : Edition) (text : List ℕ) (number : ℕ) (track : Option (List ℕ)) (r : List ℕ) → IsNumbered edition text number track r → ((ns rest : List ℕ) → AreSmall ns → length ns ≤ 11 → r ≢ spaced (map decimal ns) ++ 10 ∷ rest) → (e : ℕ) (line : SheetLine) → BeginsWith (EdgeDue edition e) text line → ⊥
+no_numbers edition text number track r h none e line begins =
+    let t = tells_edge edition text e line begins in
     let n = coordinates_length t.points in
     let few = t.form.0.to in
-    none (t.number ∷ t.west ∷ t.east ∷ flat_map coordinates t.points) t.behind t.form.1 (omega (arith, n, few)) t.spelled
+    none (numbers_of t.west t.east t.points) t.behind t.form.1.1 (omega (arith, n, few)) (numbered_left edition text number track r h t)
 
-edge_numbers : (text numbers rest : List ℕ) → AreSmall numbers → text ≡ line_text (codes "edge") (map decimal numbers) ++ rest → (e : ℕ) (line : SheetLine) (t : TellsEdge text line) → numbers ≡ t.number ∷ t.west ∷ t.east ∷ flat_map coordinates t.points
-edge_numbers text numbers rest small told e line t =
-    (numbers_once (codes "edge") numbers (t.number ∷ t.west ∷ t.east ∷ flat_map coordinates t.points) rest t.behind small t.form.1 (sym told ∙ t.spelled)).values
+edge_numbers : (edition : Edition) (text : List ℕ) (number : ℕ) (track : Option (List ℕ)) (r numbers rest : List ℕ) → IsNumbered edition text number track r → AreSmall numbers → r ≡ spaced (map decimal numbers) ++ 10 ∷ rest → (t : TellsEdge edition text) → numbers ≡ numbers_of t.west t.east t.points
+edge_numbers edition text number track r numbers rest h small told t =
+    (words_once of_numbers numbers (numbers_of t.west t.east t.points) rest t.behind small t.form.1.1 (sym told ∙ numbered_left edition text number track r h t)).values
 
-pub no_three : (text numbers slice rest : List ℕ) → AreSmall numbers → text ≡ line_text (codes "edge") (map decimal numbers) ++ rest → slice ≡ numbers → ((x y z : ℕ) (more : List ℕ) → slice ≢ x ∷ y ∷ z ∷ more) → (e : ℕ) (line : SheetLine) → BeginsWith (EdgeDue e) text line → ⊥
-no_three text numbers slice rest small told is none e line begins =
-    let t = tells_edge text e line begins in
-    none t.number t.west t.east (flat_map coordinates t.points) (is ∙ edge_numbers text numbers rest small told e line t)
+pub no_two : (edition : Edition) (text : List ℕ) (number : ℕ) (track : Option (List ℕ)) (r numbers slice rest : List ℕ) → IsNumbered edition text number track r → AreSmall numbers → r ≡ spaced (map decimal numbers) ++ 10 ∷ rest → slice ≡ numbers → ((x y : ℕ) (more : List ℕ) → slice ≢ x ∷ y ∷ more) → (e : ℕ) (line : SheetLine) → BeginsWith (EdgeDue edition e) text line → ⊥
+no_two edition text number track r numbers slice rest h small told is none e line begins =
+    let t = tells_edge edition text e line begins in
+    none t.west t.east (flat_map coordinates t.points) (is ∙ edge_numbers edition text number track r numbers rest h small told t)
 
-pub no_points : (text numbers slice rest left : List ℕ) (x y z : ℕ) → AreSmall numbers → text ≡ line_text (codes "edge") (map decimal numbers) ++ rest → slice ≡ numbers → slice ≡ x ∷ y ∷ z ∷ left → ((ps : List Point) → IsBetween 2 4 (length ps) → left ≢ flat_map coordinates ps) → (e : ℕ) (line : SheetLine) → BeginsWith (EdgeDue e) text line → ⊥
-no_points text numbers slice rest left x y z small told is split none e line begins =
-    let t = tells_edge text e line begins in
-    let f : x ∷ y ∷ z ∷ left ≡ t.number ∷ t.west ∷ t.east ∷ flat_map coordinates t.points = sym split ∙ is ∙ edge_numbers text numbers rest small told e line t in
-    none t.points t.form.0 (fourth x y z t.number t.west t.east left (flat_map coordinates t.points) f)
-  where
-    fourth : (a b c d e f : ℕ) (xs ys : List ℕ) → a ∷ b ∷ c ∷ xs ≡ d ∷ e ∷ f ∷ ys → xs ≡ ys
-    fourth a b c d e f xs ys h = cc
+third : (a b d e : ℕ) (xs ys : List ℕ) → a ∷ b ∷ xs ≡ d ∷ e ∷ ys → xs ≡ ys
+third a b d e xs ys h = cc
+
+pub no_points : (edition : Edition) (text : List ℕ) (number : ℕ) (track : Option (List ℕ)) (r numbers slice rest left : List ℕ) (x y : ℕ) → IsNumbered edition text number track r → AreSmall numbers → r ≡ spaced (map decimal numbers) ++ 10 ∷ rest → slice ≡ numbers → slice ≡ x ∷ y ∷ left → ((ps : List Point) → IsBetween 2 4 (length ps) → left ≢ flat_map coordinates ps) → (e : ℕ) (line : SheetLine) → BeginsWith (EdgeDue edition e) text line → ⊥
+no_points edition text number track r numbers slice rest left x y h small told is split none e line begins =
+    let t = tells_edge edition text e line begins in
+    none t.points t.form.0 (third x y t.west t.east left (flat_map coordinates t.points) (sym split ∙ is ∙ edge_numbers edition text number track r numbers rest h small told t))
+
+pub edge_read : (edition : Edition) (text : List ℕ) (number : ℕ) (track : Option (List ℕ)) (r numbers slice rest left : List ℕ) (x y : ℕ) (points : List Point) → IsNumbered edition text number track r → AreSmall numbers → r ≡ spaced (map decimal numbers) ++ 10 ∷ rest → slice ≡ numbers → slice ≡ x ∷ y ∷ left → IsBetween 2 4 (length points) → left ≡ flat_map coordinates points →
+    IsToldIn edition track × IsLineTo text (EdgeLine number track x y points) rest
+edge_read edition text number track r numbers slice rest left x y points h small told is split between coords =
+    let all : numbers ≡ numbers_of x y points = sym is ∙ split ∙ ap (λ (ns : List ℕ). x ∷ y ∷ ns) coords in (
+      h.0,
+      record {
+        form = (between, (h.2, subst AreSmall all small), h.1);
+        spelled = h.4 ∙ ap (λ (t : List ℕ). codes "edge" ++ (spaced (decimal number ∷ field_told track) ++ t)) (told ∙ ap (λ (ns : List ℕ). spaced (map decimal ns) ++ 10 ∷ rest) all) ∙ sym (edge_text number track x y points rest);
+      },
+    )
 
 -- ---- the ending
 

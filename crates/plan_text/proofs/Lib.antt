@@ -1,7 +1,7 @@
 pub mod LineLemmas
 pub mod OrderWords
 pub mod SheetParts
-pub mod TextLemmas
+pub mod MileageLemmas
 pub mod FieldLemmas
 pub mod LineOnce
 pub mod FormLemmas

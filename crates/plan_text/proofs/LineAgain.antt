@@ -1,18 +1,24 @@
 -- A text begins with one line that is due, at most.
-use Rattle.std.proofs.Common.{◌≡◌, inl, ℕ, Bool, true, false, List, [], ◌∷◌, ◌++◌, get_or, refl, sym, ◌∙◌, ap, arith}
+use Rattle.std.proofs.Common.{◌≡◌, ℕ, Bool, true, false, List, [], ◌∷◌, ◌++◌, map, None, Some, get_or, refl, sym, ◌∙◌, ap, subst, arith}
 use Rattle.std.specs.Prelude.{codes, flat_map}
+use Rattle.std.specs.declared.option.Option.{Option}
 use Rattle.std.specs.Fmt.{decimal}
+use Rattle.std.specs.List.{AllByRecursion}
 use Rattle.std.proofs.lemmas.List.{append_cancel_left}
 use Rattle.plan_core.specs.declared.point.Point.{Point}
 use Rattle.plan_core.specs.declared.criterion.Values.{Values}
 use Rattle.plan_core.specs.declared.criterion.Criterion.{Criterion}
-use Rattle.plan_core.specs.Grid.{GridSize, grid_size}
+use Rattle.plan_core.specs.Grid.{GridSize, grid_with}
+use Rattle.line_text.specs.Fields.{IsOneField}
+use Rattle.plan_text.specs.declared.edition.Edition.{Edition}
+use Rattle.plan_text.specs.declared.edition.Edition.TheVariants.{First, Second}
 use Rattle.plan_text.specs.declared.ending.Ending.{Ending}
 use Rattle.plan_text.specs.declared.ending.Ending.TheVariants.{Best, NoDrawing, Conflicts, Room}
-use Rattle.plan_text.specs.SheetLine.{SheetLine, Title, GridLine, OrderLine, NodesLine, NodeLine, EdgesLine, EdgeLine, ValuesLine, EndLine, coordinates, text_of, IsForm}
-use Rattle.plan_text.specs.SheetFaults.{Due, TitleDue, GridDue, OrderDue, BodyDue, NodeDue, EdgesDue, EdgeDue, ValuesDue, EndDue, NoneDue, IsDue}
-use Rattle.plan_text.proofs.FieldLemmas.{words, words_once, of_numbers}
-use Rattle.plan_text.proofs.LineOnce.{numbers_once, criteria_once, points_once, node_text, front_once}
+use Rattle.plan_text.specs.SheetLine.{SheetLine, Title, GridLine, OrderLine, NodesLine, NodeLine, EdgesLine, EdgeLine, ValuesLine, EndLine, coordinates, field_told, fields_of, text_of, IsForm}
+use Rattle.plan_text.specs.SheetFaults.{Due, TitleDue, GridDue, OrderDue, BodyDue, NodeDue, EdgesDue, EdgeDue, ValuesDue, EndDue, NoneDue, IsToldIn, IsDue}
+use Rattle.plan_text.proofs.FieldLemmas.{of_numbers, fields_once, decimals_are_one, decimals_once, name_is_one, both_one}
+use Rattle.plan_text.proofs.MileageLemmas.{told_is_one}
+use Rattle.plan_text.proofs.LineOnce.{numbers_once, criteria_once, same_told, points_once}
 
 -- two lines are one, and so is what stands behind them
 pub record SameLine (l m : SheetLine) (q r : List ℕ) : Type 0 where
@@ -39,14 +45,27 @@ same_point p q e f = ap (λ (v : ℕ). record { x = v; y = p.y }) e ∙ ap (λ (
 
 -- ---- each kind of line
 
-title_once : IsOnce Title Title
-title_once q r h k e = record { line = refl; behind = append_cancel_left (text_of Title) q r e }
+title_once : (a b : Edition) → IsOnce (Title a) (Title b)
+title_once First First q r h k e = record { line = refl; behind = append_cancel_left (text_of (Title First)) q r e }
+title_once Second Second q r h k e = record { line = refl; behind = append_cancel_left (text_of (Title Second)) q r e }
+title_once First Second q r h k e = let z : 49 ≡ 50 = ap (λ (t : List ℕ). get_or t 9 0) e in absurd (omega (arith, z))
+title_once Second First q r h k e = let z : 50 ≡ 49 = ap (λ (t : List ℕ). get_or t 9 0) e in absurd (omega (arith, z))
 
-grid_once : (a b : GridSize) → IsOnce (GridLine a) (GridLine b)
-grid_once a b q r h k e =
-    let same = numbers_once (codes "grid") (a.width ∷ a.height ∷ []) (b.width ∷ b.height ∷ []) q r h k e in
+same_grid : (a b : GridSize) → a.width ≡ b.width → a.height ≡ b.height → a.least ≡ b.least → a ≡ b
+same_grid a b w h l =
+    ap (λ (n : ℕ). grid_with n a.height a.least) w
+    ∙ ap (λ (n : ℕ). grid_with b.width n a.least) h
+    ∙ ap (λ (n : ℕ). grid_with b.width b.height n) l
+
+grid_once : (edition : Edition) (a b : GridSize) → IsOnce (GridLine edition a) (GridLine edition b)
+grid_once First a b q r h k e =
+    let same = numbers_once (codes "grid") (a.width ∷ a.height ∷ []) (b.width ∷ b.height ∷ []) q r h.0 k.0 e in
     let two = two_once a.width a.height b.width b.height same.values in
-    record { line = ap (λ (w : ℕ). GridLine (grid_size w a.height)) two.0 ∙ ap (λ (h : ℕ). GridLine (grid_size b.width h)) two.1; behind = same.behind }
+    record { line = ap (λ (g : GridSize). GridLine First g) (same_grid a b two.0 two.1 (h.1 ∙ sym k.1)); behind = same.behind }
+grid_once Second a b q r h k e =
+    let same = numbers_once (codes "grid") (a.width ∷ a.height ∷ a.least ∷ []) (b.width ∷ b.height ∷ b.least ∷ []) q r h.0 k.0 e in
+    let three = three_once a.width a.height a.least b.width b.height b.least [] [] same.values in
+    record { line = ap (λ (g : GridSize). GridLine Second g) (same_grid a b three.0 three.1 three.2); behind = same.behind }
 
 order_once : (a b : List Criterion) → IsOnce (OrderLine a) (OrderLine b)
 order_once a b q r h k e =
@@ -66,25 +85,53 @@ edges_once a b q r h k e =
     let same = numbers_once (codes "edges") (a ∷ []) (b ∷ []) q r (h, tt) (k, tt) e in
     record { line = ap EdgesLine (one_once a b same.values); behind = same.behind }
 
-node_once : (n m : ℕ) (name other : List ℕ) (a b : Point) → IsOnce (NodeLine n name a) (NodeLine m other b)
-node_once n m name other a b q r h k e =
-    let front = front_once n m name other (words decimal (coordinates a) ++ 10 ∷ q) (words decimal (coordinates b) ++ 10 ∷ r) h.1.0 k.1.0 h.0 k.0 (inl refl) (inl refl)
-    (sym (node_text n name a q) ∙ e ∙ node_text m other b r) in
-    let same = words_once of_numbers (coordinates a) (coordinates b) q r h.1.1 k.1.1 front.left in
-    let two = two_once a.x a.y b.x b.y same.values in
+-- the fields of two nodes' lines
+four_fields : (a b c d e f g h : List ℕ) (xs ys : List (List ℕ)) → a ∷ b ∷ c ∷ d ∷ xs ≡ e ∷ f ∷ g ∷ h ∷ ys → (a ≡ e) × (b ≡ f) × (c ≡ g) × (d ≡ h) × (xs ≡ ys)
+four_fields a b c d e f g h xs ys s = (cc, cc, cc, cc, cc)
+
+told_once : (x y : Option (List ℕ)) → field_told x ≡ field_told y → x ≡ y
+told_once None None e = refl
+told_once (Some t) (Some u) e = let field : t ≡ u = cc in ap (λ (f : List ℕ). Some f) field
+told_once None (Some u) e = cc
+told_once (Some t) None e = cc
+
+node_fields_are_one : (n : ℕ) (name : List ℕ) (p : Point) (mileage : Option (List ℕ)) → IsForm (NodeLine n name p mileage) → AllByRecursion IsOneField (fields_of (NodeLine n name p mileage))
+node_fields_are_one n name p mileage h = (of_numbers.one n h.1.0, (h.0.one, (of_numbers.one p.x h.1.1.0, (of_numbers.one p.y h.1.1.1.0, told_is_one mileage h.2))))
+
+node_once : (n m : ℕ) (name other : List ℕ) (a b : Point) (x y : Option (List ℕ)) → IsOnce (NodeLine n name a x) (NodeLine m other b y)
+node_once n m name other a b x y q r h k e =
+    let same = fields_once (codes "node") (fields_of (NodeLine n name a x)) (fields_of (NodeLine m other b y)) q r (node_fields_are_one n name a x h) (node_fields_are_one m other b y k) e in
+    let four = four_fields (decimal n) name (decimal a.x) (decimal a.y) (decimal m) other (decimal b.x) (decimal b.y) (field_told x) (field_told y) same.fields_are in
+    let point = same_point a b (of_numbers.once a.x b.x h.1.1.0 k.1.1.0 four.2) (of_numbers.once a.y b.y h.1.1.1.0 k.1.1.1.0 four.3) in
     record {
-      line = ap (λ (i : ℕ). NodeLine i name a) front.number ∙ ap (λ (t : List ℕ). NodeLine m t a) front.name_is ∙ ap (NodeLine m other) (same_point a b two.0 two.1);
+      line = ap (λ (i : ℕ). NodeLine i name a x) (of_numbers.once n m h.1.0 k.1.0 four.0)
+          ∙ ap (λ (t : List ℕ). NodeLine m t a x) four.1
+          ∙ ap (λ (p : Point). NodeLine m other p x) point
+          ∙ ap (λ (t : Option (List ℕ)). NodeLine m other b t) (told_once x y four.4);
       behind = same.behind;
     }
 
-edge_once : (e f west east from to : ℕ) (ps qs : List Point) → IsOnce (EdgeLine e west east ps) (EdgeLine f from to qs)
-edge_once e f west east from to ps qs q r h k s =
-    let same = numbers_once (codes "edge") (e ∷ west ∷ east ∷ flat_map coordinates ps) (f ∷ from ∷ to ∷ flat_map coordinates qs) q r h.1 k.1 s in
-    let three = three_once e west east f from to (flat_map coordinates ps) (flat_map coordinates qs) same.values in
+edge_fields_are_one : (e : ℕ) (track : Option (List ℕ)) (west east : ℕ) (ps : List Point) → IsForm (EdgeLine e track west east ps) → AllByRecursion IsOneField (fields_of (EdgeLine e track west east ps))
+edge_fields_are_one e track west east ps h =
+    (of_numbers.one e h.1.0, both_one (field_told track) (map decimal (west ∷ east ∷ flat_map coordinates ps)) (name_is_one track h.2) (decimals_are_one (west ∷ east ∷ flat_map coordinates ps) h.1.1))
+
+edge_once : (edition : Edition) (e f west east from to : ℕ) (x y : Option (List ℕ)) (ps qs : List Point) → IsToldIn edition x → IsToldIn edition y → IsOnce (EdgeLine e x west east ps) (EdgeLine f y from to qs)
+edge_once edition e f west east from to x y ps qs tx ty q r h k s =
+    let same = fields_once (codes "edge") (fields_of (EdgeLine e x west east ps)) (fields_of (EdgeLine f y from to qs)) q r (edge_fields_are_one e x west east ps h) (edge_fields_are_one f y from to qs k) s in
+    let parts = same_told edition x y tx ty (decimal e) (decimal f) (map decimal (west ∷ east ∷ flat_map coordinates ps)) (map decimal (from ∷ to ∷ flat_map coordinates qs)) same.fields_are in
+    let numbers = decimals_once (west ∷ east ∷ flat_map coordinates ps) (from ∷ to ∷ flat_map coordinates qs) h.1.1 k.1.1 parts.others in
+    let two = first_two_once west east from to (flat_map coordinates ps) (flat_map coordinates qs) numbers in
     record {
-      line = ap (λ (i : ℕ). EdgeLine i west east ps) three.0 ∙ ap (λ (i : ℕ). EdgeLine f i east ps) three.1 ∙ ap (λ (i : ℕ). EdgeLine f from i ps) three.2 ∙ ap (EdgeLine f from to) (points_once ps qs three.3);
+      line = ap (λ (i : ℕ). EdgeLine i x west east ps) (of_numbers.once e f h.1.0 k.1.0 parts.number)
+          ∙ ap (λ (t : Option (List ℕ)). EdgeLine f t west east ps) parts.told
+          ∙ ap (λ (i : ℕ). EdgeLine f y i east ps) two.0
+          ∙ ap (λ (i : ℕ). EdgeLine f y from i ps) two.1
+          ∙ ap (λ (l : List Point). EdgeLine f y from to l) (points_once ps qs two.2);
       behind = same.behind;
     }
+  where
+    first_two_once : (a b d e : ℕ) (xs ys : List ℕ) → a ∷ b ∷ xs ≡ d ∷ e ∷ ys → (a ≡ d) × (b ≡ e) × (xs ≡ ys)
+    first_two_once a b d e xs ys s = (cc, cc, cc)
 
 values : ℕ → ℕ → ℕ → ℕ → Values
 values h b d w = record { height = h; bends = b; diagonal = d; width = w }
@@ -127,46 +174,47 @@ abbrev pub IsOnceDue : Due → Type 0
 IsOnceDue due = (l m : SheetLine) → IsDue due l → IsDue due m → IsOnce l m
 
 title_due : (needs_drawing : Bool) → IsOnceDue (TitleDue needs_drawing)
-title_due d Title Title is also = title_once
-title_due d Title m is also = absurd also
+title_due d (Title a) (Title b) is also = title_once a b
+title_due d (Title a) m is also = absurd also
 title_due d l m is also = absurd is
 
-grid_due : (needs_drawing : Bool) → IsOnceDue (GridDue needs_drawing)
-grid_due d (GridLine a) (GridLine b) is also = grid_once a b
-grid_due d (GridLine a) m is also = absurd also
-grid_due d l m is also = absurd is
+grid_due : (edition : Edition) (needs_drawing : Bool) → IsOnceDue (GridDue edition needs_drawing)
+grid_due edition d (GridLine x a) (GridLine y b) is also =
+    subst (λ (o : Edition). IsOnce (GridLine o a) (GridLine y b)) (sym is) (subst (λ (o : Edition). IsOnce (GridLine edition a) (GridLine o b)) (sym also) (grid_once edition a b))
+grid_due edition d (GridLine x a) m is also = absurd also
+grid_due edition d l m is also = absurd is
 
-order_due : (needs_drawing : Bool) → IsOnceDue (OrderDue needs_drawing)
-order_due d (OrderLine a) (OrderLine b) is also = order_once a b
-order_due d (OrderLine a) m is also = absurd also
-order_due d l m is also = absurd is
+order_due : (edition : Edition) (needs_drawing : Bool) → IsOnceDue (OrderDue edition needs_drawing)
+order_due edition d (OrderLine a) (OrderLine b) is also = order_once a b
+order_due edition d (OrderLine a) m is also = absurd also
+order_due edition d l m is also = absurd is
 
-body_due : (needs_drawing : Bool) → IsOnceDue (BodyDue needs_drawing)
-body_due true (NodesLine a) (NodesLine b) is also = nodes_once a b
-body_due true (NodesLine a) m is also = absurd also
-body_due true l m is also = absurd is
-body_due false (NodesLine a) (NodesLine b) is also = nodes_once a b
-body_due false (NodesLine a) (EndLine f) is also = λ q r h k e. absurd (no_count_at_end a f q r e)
-body_due false (NodesLine a) m is also = absurd also
-body_due false (EndLine e) (NodesLine b) is also = λ q r h k s. absurd (no_count_at_end b e r q (sym s))
-body_due false (EndLine e) (EndLine f) is also = end_once e f
-body_due false (EndLine e) m is also = absurd also
-body_due false l m is also = absurd is
+body_due : (edition : Edition) (needs_drawing : Bool) → IsOnceDue (BodyDue edition needs_drawing)
+body_due edition true (NodesLine a) (NodesLine b) is also = nodes_once a b
+body_due edition true (NodesLine a) m is also = absurd also
+body_due edition true l m is also = absurd is
+body_due edition false (NodesLine a) (NodesLine b) is also = nodes_once a b
+body_due edition false (NodesLine a) (EndLine f) is also = λ q r h k e. absurd (no_count_at_end a f q r e)
+body_due edition false (NodesLine a) m is also = absurd also
+body_due edition false (EndLine e) (NodesLine b) is also = λ q r h k s. absurd (no_count_at_end b e r q (sym s))
+body_due edition false (EndLine e) (EndLine f) is also = end_once e f
+body_due edition false (EndLine e) m is also = absurd also
+body_due edition false l m is also = absurd is
 
-node_due : (n : ℕ) → IsOnceDue (NodeDue n)
-node_due n (NodeLine a name p) (NodeLine b other s) is also = node_once a b name other p s
-node_due n (NodeLine a name p) m is also = absurd also
-node_due n l m is also = absurd is
+node_due : (edition : Edition) (n : ℕ) → IsOnceDue (NodeDue edition n)
+node_due edition n (NodeLine a name p x) (NodeLine b other s y) is also = node_once a b name other p s x y
+node_due edition n (NodeLine a name p x) m is also = absurd also
+node_due edition n l m is also = absurd is
 
-edges_due : IsOnceDue EdgesDue
-edges_due (EdgesLine a) (EdgesLine b) is also = edges_once a b
-edges_due (EdgesLine a) m is also = absurd also
-edges_due l m is also = absurd is
+edges_due : (edition : Edition) → IsOnceDue (EdgesDue edition)
+edges_due edition (EdgesLine a) (EdgesLine b) is also = edges_once a b
+edges_due edition (EdgesLine a) m is also = absurd also
+edges_due edition l m is also = absurd is
 
-edge_due : (e : ℕ) → IsOnceDue (EdgeDue e)
-edge_due e (EdgeLine a west east ps) (EdgeLine b from to qs) is also = edge_once a b west east from to ps qs
-edge_due e (EdgeLine a west east ps) m is also = absurd also
-edge_due e l m is also = absurd is
+edge_due : (edition : Edition) (e : ℕ) → IsOnceDue (EdgeDue edition e)
+edge_due edition e (EdgeLine a x west east ps) (EdgeLine b y from to qs) is also = edge_once edition a b west east from to x y ps qs is also
+edge_due edition e (EdgeLine a x west east ps) m is also = absurd also
+edge_due edition e l m is also = absurd is
 
 values_due : IsOnceDue ValuesDue
 values_due (ValuesLine a) (ValuesLine b) is also = values_once a b
@@ -179,17 +227,17 @@ end_due (EndLine e) m is also = absurd also
 end_due l m is also = absurd is
 
 pub none_due : (l : SheetLine) → IsDue NoneDue l → ⊥
-none_due Title is = is
+none_due (Title edition) is = is
 none_due l is = is
 
 pub once_due : (due : Due) → IsOnceDue due
 once_due (TitleDue needs_drawing) = title_due needs_drawing
-once_due (GridDue needs_drawing) = grid_due needs_drawing
-once_due (OrderDue needs_drawing) = order_due needs_drawing
-once_due (BodyDue needs_drawing) = body_due needs_drawing
-once_due (NodeDue n) = node_due n
-once_due EdgesDue = edges_due
-once_due (EdgeDue e) = edge_due e
+once_due (GridDue edition needs_drawing) = grid_due edition needs_drawing
+once_due (OrderDue edition needs_drawing) = order_due edition needs_drawing
+once_due (BodyDue edition needs_drawing) = body_due edition needs_drawing
+once_due (NodeDue edition n) = node_due edition n
+once_due (EdgesDue edition) = edges_due edition
+once_due (EdgeDue edition e) = edge_due edition e
 once_due ValuesDue = values_due
 once_due EndDue = end_due
 once_due NoneDue = λ l m is also. absurd (none_due l is)

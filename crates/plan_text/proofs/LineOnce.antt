@@ -1,23 +1,22 @@
--- A line of a sheet is known by its text.
-use Rattle.std.proofs.Common.{◌≡◌, inl, ℕ, Bool, List, [], ◌∷◌, ◌++◌, map, refl, sym, ◌∙◌, ap, append_assoc}
-use Rattle.std.specs.Prelude.{codes, flat_map}
+-- Which line begins a text, and points by their coordinates.
+use Rattle.std.proofs.Common.{◌≡◌, ℕ, Bool, List, [], ◌∷◌, ◌++◌, map, None, Some, refl, sym, ◌∙◌, ap, subst}
+use Rattle.std.specs.Prelude.{flat_map}
+use Rattle.std.specs.declared.option.Option.{Option}
 use Rattle.std.specs.Fmt.{decimal}
 use Rattle.std.proofs.lemmas.List.{append_cancel_left, append-nil}
 use Rattle.plan_core.specs.declared.point.Point.{Point}
 use Rattle.plan_core.specs.declared.criterion.Values.{Values}
 use Rattle.plan_core.specs.declared.criterion.Criterion.{Criterion}
 use Rattle.plan_core.specs.Grid.{GridSize}
-use Rattle.plan_text.specs.Fields.{spaced, line_text}
-use Rattle.plan_text.specs.SheetLine.{SheetLine, GridLine, OrderLine, NodeLine, EdgesLine, EdgeLine, ValuesLine, criterion_word, coordinates, text_of, IsName, IsSmall, AreSmall, IsForm}
-use Rattle.plan_text.specs.SheetFaults.{GridDue, OrderDue, NodeDue, EdgesDue, EdgeDue, ValuesDue, BeginsWith}
-use Rattle.plan_text.specs.SheetReading.{Ends}
-use Rattle.plan_text.proofs.FieldLemmas.{same_field, SameWords, words, words_once, of_numbers, of_criteria, any_criteria}
+use Rattle.line_text.specs.Fields.{line_text}
+use Rattle.line_text.specs.Criteria.{criterion_word}
+use Rattle.plan_text.specs.declared.edition.Edition.{Edition}
+use Rattle.plan_text.specs.declared.edition.Edition.TheVariants.{First, Second}
+use Rattle.plan_text.specs.SheetLine.{SheetLine, GridLine, OrderLine, NodeLine, EdgeLine, ValuesLine, coordinates, text_of, field_told, AreSmall, IsForm}
+use Rattle.plan_text.specs.SheetFaults.{GridDue, OrderDue, NodeDue, EdgeDue, ValuesDue, IsToldIn, BeginsWith}
+use Rattle.plan_text.proofs.FieldLemmas.{SameWords, words, words_once, of_numbers, of_criteria, any_criteria, line_front}
 
 -- ---- lines of numbers and of criteria
-
-pub line_front : (front : List ℕ) (fields : List (List ℕ)) (behind : List ℕ) → line_text front fields ++ behind ≡ front ++ (spaced fields ++ 10 ∷ behind)
-line_front front fields behind =
-    append_assoc (front ++ spaced fields) (10 ∷ []) behind ∙ append_assoc front (spaced fields) (10 ∷ behind)
 
 pub numbers_once : (front : List ℕ) (ns ms : List ℕ) (q r : List ℕ) → AreSmall ns → AreSmall ms → line_text front (map decimal ns) ++ q ≡ line_text front (map decimal ms) ++ r → SameWords ns ms q r
 numbers_once front ns ms q r h k e =
@@ -31,76 +30,85 @@ criteria_once front cs ds q r e =
 
 -- ---- which line begins the text
 
-pub record TellsGrid (text : List ℕ) (line : SheetLine) : Type 0 where
+pub record TellsGrid (edition : Edition) (text : List ℕ) : Type 0 where
   pub grid : GridSize
-  pub same : line ≡ GridLine grid
-  pub form : IsForm (GridLine grid)
+  pub form : IsForm (GridLine edition grid)
   pub behind : List ℕ
-  pub spelled : text ≡ text_of (GridLine grid) ++ behind
+  pub spelled : text ≡ text_of (GridLine edition grid) ++ behind
 
-pub tells_grid : {needs_drawing : Bool} (text : List ℕ) (line : SheetLine) → BeginsWith (GridDue needs_drawing) text line → TellsGrid text line
-tells_grid text (GridLine grid) b = record { grid = grid; same = refl; form = b.form; behind = b.behind; spelled = b.spelled }
-tells_grid text line b = absurd b.is_due
+pub tells_grid : (edition : Edition) (needs_drawing : Bool) (text : List ℕ) (line : SheetLine) → BeginsWith (GridDue edition needs_drawing) text line → TellsGrid edition text
+tells_grid edition needs_drawing text (GridLine other grid) b = record {
+  grid = grid;
+  form = subst (λ (o : Edition). IsForm (GridLine o grid)) b.is_due b.form;
+  behind = b.behind;
+  spelled = b.spelled ∙ ap (λ (o : Edition). text_of (GridLine o grid) ++ b.behind) b.is_due;
+}
+tells_grid edition needs_drawing text line b = absurd b.is_due
 
-pub record TellsOrder (text : List ℕ) (line : SheetLine) : Type 0 where
+pub record TellsOrder (text : List ℕ) : Type 0 where
   pub order : List Criterion
-  pub same : line ≡ OrderLine order
   pub form : IsForm (OrderLine order)
   pub behind : List ℕ
   pub spelled : text ≡ text_of (OrderLine order) ++ behind
 
-pub tells_order : {needs_drawing : Bool} (text : List ℕ) (line : SheetLine) → BeginsWith (OrderDue needs_drawing) text line → TellsOrder text line
-tells_order text (OrderLine order) b = record { order = order; same = refl; form = b.form; behind = b.behind; spelled = b.spelled }
-tells_order text line b = absurd b.is_due
+pub tells_order : (edition : Edition) (needs_drawing : Bool) (text : List ℕ) (line : SheetLine) → BeginsWith (OrderDue edition needs_drawing) text line → TellsOrder text
+tells_order edition needs_drawing text (OrderLine order) b = record { order = order; form = b.form; behind = b.behind; spelled = b.spelled }
+tells_order edition needs_drawing text line b = absurd b.is_due
 
-pub record TellsNode (text : List ℕ) (line : SheetLine) : Type 0 where
+pub record TellsNode (edition : Edition) (text : List ℕ) : Type 0 where
   pub number : ℕ
   pub name : List ℕ
   pub place : Point
-  pub same : line ≡ NodeLine number name place
-  pub form : IsForm (NodeLine number name place)
+  pub mileage : Option (List ℕ)
+  pub told : IsToldIn edition mileage
+  pub form : IsForm (NodeLine number name place mileage)
   pub behind : List ℕ
-  pub spelled : text ≡ text_of (NodeLine number name place) ++ behind
+  pub spelled : text ≡ text_of (NodeLine number name place mileage) ++ behind
 
-pub tells_node : (text : List ℕ) (n : ℕ) (line : SheetLine) → BeginsWith (NodeDue n) text line → TellsNode text line
-tells_node text n (NodeLine number name place) b = record { number = number; name = name; place = place; same = refl; form = b.form; behind = b.behind; spelled = b.spelled }
-tells_node text n line b = absurd b.is_due
+pub tells_node : (edition : Edition) (text : List ℕ) (n : ℕ) (line : SheetLine) → BeginsWith (NodeDue edition n) text line → TellsNode edition text
+tells_node edition text n (NodeLine number name place mileage) b = record { number = number; name = name; place = place; mileage = mileage; told = b.is_due; form = b.form; behind = b.behind; spelled = b.spelled }
+tells_node edition text n line b = absurd b.is_due
 
-pub record TellsEdges (text : List ℕ) (line : SheetLine) : Type 0 where
-  pub count : ℕ
-  pub same : line ≡ EdgesLine count
-  pub form : IsSmall count
-  pub behind : List ℕ
-  pub spelled : text ≡ text_of (EdgesLine count) ++ behind
-
-pub tells_edges : (text : List ℕ) (line : SheetLine) → BeginsWith EdgesDue text line → TellsEdges text line
-tells_edges text (EdgesLine count) b = record { count = count; same = refl; form = b.form; behind = b.behind; spelled = b.spelled }
-tells_edges text line b = absurd b.is_due
-
-pub record TellsEdge (text : List ℕ) (line : SheetLine) : Type 0 where
+pub record TellsEdge (edition : Edition) (text : List ℕ) : Type 0 where
   pub number : ℕ
+  pub track : Option (List ℕ)
   pub west : ℕ
   pub east : ℕ
   pub points : List Point
-  pub same : line ≡ EdgeLine number west east points
-  pub form : IsForm (EdgeLine number west east points)
+  pub told : IsToldIn edition track
+  pub form : IsForm (EdgeLine number track west east points)
   pub behind : List ℕ
-  pub spelled : text ≡ text_of (EdgeLine number west east points) ++ behind
+  pub spelled : text ≡ text_of (EdgeLine number track west east points) ++ behind
 
-pub tells_edge : (text : List ℕ) (e : ℕ) (line : SheetLine) → BeginsWith (EdgeDue e) text line → TellsEdge text line
-tells_edge text e (EdgeLine number west east points) b = record { number = number; west = west; east = east; points = points; same = refl; form = b.form; behind = b.behind; spelled = b.spelled }
-tells_edge text e line b = absurd b.is_due
+pub tells_edge : (edition : Edition) (text : List ℕ) (e : ℕ) (line : SheetLine) → BeginsWith (EdgeDue edition e) text line → TellsEdge edition text
+tells_edge edition text e (EdgeLine number track west east points) b = record { number = number; track = track; west = west; east = east; points = points; told = b.is_due; form = b.form; behind = b.behind; spelled = b.spelled }
+tells_edge edition text e line b = absurd b.is_due
 
-pub record TellsValues (text : List ℕ) (line : SheetLine) : Type 0 where
+pub record TellsValues (text : List ℕ) : Type 0 where
   pub values : Values
-  pub same : line ≡ ValuesLine values
   pub form : IsForm (ValuesLine values)
   pub behind : List ℕ
   pub spelled : text ≡ text_of (ValuesLine values) ++ behind
 
-pub tells_values : (text : List ℕ) (line : SheetLine) → BeginsWith ValuesDue text line → TellsValues text line
-tells_values text (ValuesLine values) b = record { values = values; same = refl; form = b.form; behind = b.behind; spelled = b.spelled }
+pub tells_values : (text : List ℕ) (line : SheetLine) → BeginsWith ValuesDue text line → TellsValues text
+tells_values text (ValuesLine values) b = record { values = values; form = b.form; behind = b.behind; spelled = b.spelled }
 tells_values text line b = absurd b.is_due
+
+-- ---- a field that the edition tells, or not
+
+-- a number's field and a told field, in front of other fields
+pub record SameTold (a b : List ℕ) (x y : Option (List ℕ)) (xs ys : List (List ℕ)) : Type 0 where
+  pub number : a ≡ b
+  pub told : x ≡ y
+  pub others : xs ≡ ys
+
+pub same_told : (edition : Edition) (x y : Option (List ℕ)) → IsToldIn edition x → IsToldIn edition y → (a b : List ℕ) (xs ys : List (List ℕ)) → a ∷ (field_told x ++ xs) ≡ b ∷ (field_told y ++ ys) → SameTold a b x y xs ys
+same_told First None None h k a b xs ys e = record { number = cc; told = refl; others = cc }
+same_told Second (Some t) (Some u) h k a b xs ys e = let field : t ≡ u = cc in record { number = cc; told = ap (λ (f : List ℕ). Some f) field; others = cc }
+same_told First (Some t) y h k a b xs ys e = absurd h
+same_told First x (Some u) h k a b xs ys e = absurd k
+same_told Second None y h k a b xs ys e = absurd h
+same_told Second x None h k a b xs ys e = absurd k
 
 -- ---- points and their coordinates
 
@@ -128,32 +136,3 @@ points_once ps qs e =
     end : (more : List Point) → qs ≡ ps ++ more → [] ≡ flat_map coordinates more → ps ≡ qs
     end [] split left = sym (split ∙ append-nil ps)
     end (p ∷ more) split left = cc
-
--- ---- a node's line
-
-pub node_text : (number : ℕ) (name : List ℕ) (place : Point) (behind : List ℕ) →
-    text_of (NodeLine number name place) ++ behind ≡ codes "node " ++ (decimal number ++ 32 ∷ (name ++ (words decimal (coordinates place) ++ 10 ∷ behind)))
-node_text number name place behind =
-    line_front (codes "node") (decimal number ∷ name ∷ map decimal (coordinates place)) behind
-    ∙ ap (λ (t : List ℕ). codes "node " ++ t) (
-    append_assoc (decimal number) (32 ∷ (name ++ words decimal (coordinates place))) (10 ∷ behind)
-    ∙ ap (λ (t : List ℕ). decimal number ++ 32 ∷ t) (append_assoc name (words decimal (coordinates place)) (10 ∷ behind)))
-
--- the number and the name in front of a node's line are known by their text
-pub record SameFront (n m : ℕ) (name other rest behind : List ℕ) : Type 0 where
-  pub number : n ≡ m
-  pub name_is : name ≡ other
-  pub left : rest ≡ behind
-
-pub front_once : (n m : ℕ) (name other rest behind : List ℕ) → IsSmall n → IsSmall m → IsName name → IsName other → Ends rest → Ends behind →
-    codes "node " ++ (decimal n ++ 32 ∷ (name ++ rest)) ≡ codes "node " ++ (decimal m ++ 32 ∷ (other ++ behind)) → SameFront n m name other rest behind
-front_once n m name other rest behind hn hm hname hother er eb e =
-    let f : decimal n ++ 32 ∷ (name ++ rest) ≡ decimal m ++ 32 ∷ (other ++ behind) =
-    append_cancel_left (codes "node ") (decimal n ++ 32 ∷ (name ++ rest)) (decimal m ++ 32 ∷ (other ++ behind)) e in
-    let one = same_field (decimal n) (decimal m) (32 ∷ (name ++ rest)) (32 ∷ (other ++ behind)) (of_numbers.one n hn) (of_numbers.one m hm) (inl refl) (inl refl) f in
-    let g : name ++ rest ≡ other ++ behind = tail_of (name ++ rest) (other ++ behind) one.rest in
-    let two = same_field name other rest behind hname.one hother.one er eb g in
-    record { number = of_numbers.once n m hn hm one.field; name_is = two.field; left = two.rest }
-  where
-    tail_of : (x y : List ℕ) → 32 ∷ x ≡ 32 ∷ y → x ≡ y
-    tail_of x y e = cc

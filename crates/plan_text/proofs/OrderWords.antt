@@ -4,8 +4,8 @@ use Rattle.std.specs.Prelude.{slice_get}
 use Rattle.std.proofs.lemmas.List.{at_drop_more}
 use Rattle.std.proofs.lemmas.Option.{get_or_from_slice_get}
 use Rattle.plan_core.specs.declared.criterion.Criterion.{Criterion}
-use Rattle.plan_text.specs.Fields.{spaced}
-use Rattle.plan_text.specs.SheetLine.{criterion_word}
+use Rattle.line_text.specs.Fields.{spaced}
+use Rattle.line_text.specs.Criteria.{criterion_word}
 
 pub one_word_more : (order : List Criterion) (i : ℕ) (c : Criterion) (before after whole : List ℕ) → i < length order → slice_get order i ≡ Some c → after ≡ before ++ (32 ∷ criterion_word c) → before ++ spaced (map criterion_word (drop i order)) ≡ whole → after ++ spaced (map criterion_word (drop (i + 1) order)) ≡ whole
 one_word_more order i c before after whole within is_c grown so_far =

@@ -13,13 +13,15 @@ use Rattle.plan_core.specs.Grid.{GridSize, IsGrid}
 use Rattle.plan_core.specs.Order.{IsOrder}
 use Rattle.plan_core.specs.Graph.{Graph, node, edge}
 use Rattle.plan_core.specs.Values.{values_of}
+use Rattle.plan_text.specs.declared.edition.Edition.{Edition}
+use Rattle.plan_text.specs.declared.edition.Edition.TheVariants.{First, Second}
 use Rattle.plan_text.specs.declared.ending.Ending.{Ending}
 use Rattle.plan_core.specs.Drawing.{Drawing, drawing}
 use Rattle.plan_text.specs.declared.sheet_fault.SheetFault.{SheetFault}
 use Rattle.plan_text.specs.declared.sheet_fault.SheetFault.TheVariants.{Sheet as SheetHas, Memory}
 use Rattle.plan_text.specs.SheetLine.{SheetLine, Title, GridLine, OrderLine, NodeLine, EdgeLine, ValuesLine, EndLine, text_of, MayEnd}
-use Rattle.plan_text.specs.SheetText.{StatesSettled}
-use Rattle.plan_text.specs.SheetFaults.{Due, TitleDue, GridDue, OrderDue, NodeDue, EdgesDue, EdgeDue, ValuesDue, EndDue, IsDue, node_due, edge_due, due_behind, due_after, criteria_told, place_told, line_told, order_told, drawing_told, IsInRange, IsOfGraph, HasShape, IsMeasured, AreRight, HasFault}
+use Rattle.plan_text.specs.SheetText.{StatesSettled, mileage_field, track_field}
+use Rattle.plan_text.specs.SheetFaults.{Due, TitleDue, GridDue, OrderDue, NodeDue, EdgesDue, EdgeDue, ValuesDue, EndDue, IsToldIn, IsDue, node_due, edge_due, due_behind, due_after, criteria_told, place_told, line_told, order_told, drawing_told, IsInRange, IsOfGraph, HasShape, IsMeasured, AreRight, HasWrongLine}
 use Rattle.plan_text.specs.SheetReading.{IsLineTo, head_lines, placed_lines, drawn_lines, AreReadTo, IsFaultHere, IsFaultFrom}
 
 -- ---- results
@@ -68,7 +70,7 @@ first_here g before due text number line (SheetHas what at) same h = record {
   rest = text;
   read = read_none g before due text;
   counted = h.0 ∙ same ∙ add_none number;
-  fault = subst (λ (lines : List SheetLine). HasFault g lines due text what) (sym (append-nil before)) h.1;
+  fault = subst (λ (lines : List SheetLine). HasWrongLine g lines due text what) (sym (append-nil before)) h.1;
 }
   where
     add_none : (n : ℕ) → n ≡ n + 0
@@ -81,8 +83,8 @@ first_later g before due text mid a number line (SheetHas what at) h same f = re
   rest = f.rest;
   read = read_append g before due text mid f.rest a f.lines h f.read;
   counted = counted_on at line number (length a) (length f.lines) (length (a ++ f.lines)) f.counted same (length-append a f.lines);
-  fault = subst (λ (lines : List SheetLine). HasFault g lines (due_after g due (a ++ f.lines)) f.rest what) (append_assoc before a f.lines)
-      (subst (λ (d : Due). HasFault g ((before ++ a) ++ f.lines) d f.rest what) (sym (due_append g due a f.lines)) f.fault);
+  fault = subst (λ (lines : List SheetLine). HasWrongLine g lines (due_after g due (a ++ f.lines)) f.rest what) (append_assoc before a f.lines)
+      (subst (λ (d : Due). HasWrongLine g ((before ++ a) ++ f.lines) d f.rest what) (sym (due_append g due a f.lines)) f.fault);
 }
   where
     counted_on : (at line number a b c : ℕ) → at ≡ line + b → line ≡ number + a → c ≡ a + b → at ≡ number + c
@@ -95,85 +97,93 @@ later_here g before due text mid a number line fault h same f =
 
 -- ---- the nodes and the edges, one by one
 
-pub node_due_at : (g : Graph) (n : ℕ) → n < length g.nodes → node_due g n ≡ NodeDue n
-node_due_at g n less = ap (λ (b : Bool). if b then NodeDue n else EdgesDue) (lt-ltb n (length g.nodes) less)
+pub mileage_told : (edition : Edition) (g : Graph) (n : ℕ) → IsToldIn edition (mileage_field edition g n)
+mileage_told First g n = tt
+mileage_told Second g n = tt
 
-pub edge_due_at : (g : Graph) (e : ℕ) → e < length g.edges → edge_due g e ≡ EdgeDue e
-edge_due_at g e less = ap (λ (b : Bool). if b then EdgeDue e else ValuesDue) (lt-ltb e (length g.edges) less)
+pub track_told : (edition : Edition) (g : Graph) (e : ℕ) → IsToldIn edition (track_field edition g e)
+track_told First g e = tt
+track_told Second g e = tt
 
-pub due_places : (g : Graph) (k : ℕ) (places : List Point) → k + length places ≤ length g.nodes → due_after g (node_due g k) (placed_lines g k places) ≡ node_due g (k + length places)
-due_places g k [] fits = ap (node_due g) (omega arith)
-due_places g k (p ∷ places) fits =
-    ap (λ (d : Due). due_after g (due_behind g d (NodeLine k (node g k).name p)) (placed_lines g (k + 1) places)) (node_due_at g k (omega (arith, fits)))
-    ∙ due_places g (k + 1) places (omega (arith, fits))
-    ∙ ap (node_due g) (omega arith)
+pub node_due_at : (edition : Edition) (g : Graph) (n : ℕ) → n < length g.nodes → node_due edition g n ≡ NodeDue edition n
+node_due_at edition g n less = ap (λ (b : Bool). if b then NodeDue edition n else EdgesDue edition) (lt-ltb n (length g.nodes) less)
 
-pub due_lines : (g : Graph) (k : ℕ) (lines : List (List Point)) → k + length lines ≤ length g.edges → due_after g (edge_due g k) (drawn_lines g k lines) ≡ edge_due g (k + length lines)
-due_lines g k [] fits = ap (edge_due g) (omega arith)
-due_lines g k (l ∷ lines) fits =
-    ap (λ (d : Due). due_after g (due_behind g d (EdgeLine k (edge g k).west (edge g k).east l)) (drawn_lines g (k + 1) lines)) (edge_due_at g k (omega (arith, fits)))
-    ∙ due_lines g (k + 1) lines (omega (arith, fits))
-    ∙ ap (edge_due g) (omega arith)
+pub edge_due_at : (edition : Edition) (g : Graph) (e : ℕ) → e < length g.edges → edge_due edition g e ≡ EdgeDue edition e
+edge_due_at edition g e less = ap (λ (b : Bool). if b then EdgeDue edition e else ValuesDue) (lt-ltb e (length g.edges) less)
 
-placed_more : (g : Graph) (k : ℕ) (places : List Point) (p : Point) → placed_lines g k (places ++ p ∷ []) ≡ placed_lines g k places ++ NodeLine (k + length places) (node g (k + length places)).name p ∷ []
-placed_more g k [] p = ap (λ (n : ℕ). NodeLine n (node g n).name p ∷ []) (omega arith)
-placed_more g k (q ∷ places) p = ap (λ (lines : List SheetLine). NodeLine k (node g k).name q ∷ lines) (placed_more g (k + 1) places p ∙ ap (λ (n : ℕ). placed_lines g (k + 1) places ++ NodeLine n (node g n).name p ∷ []) (omega arith))
+pub due_places : (edition : Edition) (g : Graph) (k : ℕ) (places : List Point) → k + length places ≤ length g.nodes → due_after g (node_due edition g k) (placed_lines edition g k places) ≡ node_due edition g (k + length places)
+due_places edition g k [] fits = ap (node_due edition g) (omega arith)
+due_places edition g k (p ∷ places) fits =
+    ap (λ (d : Due). due_after g (due_behind g d (NodeLine k (node g k).name p (mileage_field edition g k))) (placed_lines edition g (k + 1) places)) (node_due_at edition g k (omega (arith, fits)))
+    ∙ due_places edition g (k + 1) places (omega (arith, fits))
+    ∙ ap (node_due edition g) (omega arith)
 
-drawn_more : (g : Graph) (k : ℕ) (lines : List (List Point)) (l : List Point) → drawn_lines g k (lines ++ l ∷ []) ≡ drawn_lines g k lines ++ EdgeLine (k + length lines) (edge g (k + length lines)).west (edge g (k + length lines)).east l ∷ []
-drawn_more g k [] l = ap (λ (n : ℕ). EdgeLine n (edge g n).west (edge g n).east l ∷ []) (omega arith)
-drawn_more g k (m ∷ lines) l = ap (λ (more : List SheetLine). EdgeLine k (edge g k).west (edge g k).east m ∷ more) (drawn_more g (k + 1) lines l ∙ ap (λ (n : ℕ). drawn_lines g (k + 1) lines ++ EdgeLine n (edge g n).west (edge g n).east l ∷ []) (omega arith))
+pub due_lines : (edition : Edition) (g : Graph) (k : ℕ) (lines : List (List Point)) → k + length lines ≤ length g.edges → due_after g (edge_due edition g k) (drawn_lines edition g k lines) ≡ edge_due edition g (k + length lines)
+due_lines edition g k [] fits = ap (edge_due edition g) (omega arith)
+due_lines edition g k (l ∷ lines) fits =
+    ap (λ (d : Due). due_after g (due_behind g d (EdgeLine k (track_field edition g k) (edge g k).west (edge g k).east l)) (drawn_lines edition g (k + 1) lines)) (edge_due_at edition g k (omega (arith, fits)))
+    ∙ due_lines edition g (k + 1) lines (omega (arith, fits))
+    ∙ ap (edge_due edition g) (omega arith)
 
-pub placed_length : (g : Graph) (k : ℕ) (places : List Point) → length (placed_lines g k places) ≡ length places
-placed_length g k [] = refl
-placed_length g k (p ∷ places) = ap suc (placed_length g (k + 1) places)
+placed_more : (edition : Edition) (g : Graph) (k : ℕ) (places : List Point) (p : Point) → placed_lines edition g k (places ++ p ∷ []) ≡ placed_lines edition g k places ++ NodeLine (k + length places) (node g (k + length places)).name p (mileage_field edition g (k + length places)) ∷ []
+placed_more edition g k [] p = ap (λ (n : ℕ). NodeLine n (node g n).name p (mileage_field edition g n) ∷ []) (omega arith)
+placed_more edition g k (q ∷ places) p = ap (λ (lines : List SheetLine). NodeLine k (node g k).name q (mileage_field edition g k) ∷ lines) (placed_more edition g (k + 1) places p ∙ ap (λ (n : ℕ). placed_lines edition g (k + 1) places ++ NodeLine n (node g n).name p (mileage_field edition g n) ∷ []) (omega arith))
 
-pub drawn_length : (g : Graph) (k : ℕ) (lines : List (List Point)) → length (drawn_lines g k lines) ≡ length lines
-drawn_length g k [] = refl
-drawn_length g k (l ∷ lines) = ap suc (drawn_length g (k + 1) lines)
+drawn_more : (edition : Edition) (g : Graph) (k : ℕ) (lines : List (List Point)) (l : List Point) → drawn_lines edition g k (lines ++ l ∷ []) ≡ drawn_lines edition g k lines ++ EdgeLine (k + length lines) (track_field edition g (k + length lines)) (edge g (k + length lines)).west (edge g (k + length lines)).east l ∷ []
+drawn_more edition g k [] l = ap (λ (n : ℕ). EdgeLine n (track_field edition g n) (edge g n).west (edge g n).east l ∷ []) (omega arith)
+drawn_more edition g k (m ∷ lines) l = ap (λ (more : List SheetLine). EdgeLine k (track_field edition g k) (edge g k).west (edge g k).east m ∷ more) (drawn_more edition g (k + 1) lines l ∙ ap (λ (n : ℕ). drawn_lines edition g (k + 1) lines ++ EdgeLine n (track_field edition g n) (edge g n).west (edge g n).east l ∷ []) (omega arith))
+
+pub placed_length : (edition : Edition) (g : Graph) (k : ℕ) (places : List Point) → length (placed_lines edition g k places) ≡ length places
+placed_length edition g k [] = refl
+placed_length edition g k (p ∷ places) = ap suc (placed_length edition g (k + 1) places)
+
+pub drawn_length : (edition : Edition) (g : Graph) (k : ℕ) (lines : List (List Point)) → length (drawn_lines edition g k lines) ≡ length lines
+drawn_length edition g k [] = refl
+drawn_length edition g k (l ∷ lines) = ap suc (drawn_length edition g (k + 1) lines)
 
 -- what is due behind the first n nodes
-due_there : (g : Graph) (n : ℕ) (places : List Point) → n < length g.nodes → length places ≡ n → due_after g (node_due g 0) (placed_lines g 0 places) ≡ NodeDue n
-due_there g n places less count = let there : 0 + length places ≡ n = omega (arith, count) in due_places g 0 places (omega (arith, less, count)) ∙ ap (node_due g) there ∙ node_due_at g n less
+due_there : (edition : Edition) (g : Graph) (n : ℕ) (places : List Point) → n < length g.nodes → length places ≡ n → due_after g (node_due edition g 0) (placed_lines edition g 0 places) ≡ NodeDue edition n
+due_there edition g n places less count = let there : 0 + length places ≡ n = omega (arith, count) in due_places edition g 0 places (omega (arith, less, count)) ∙ ap (node_due edition g) there ∙ node_due_at edition g n less
 
-due_there_edge : (g : Graph) (e : ℕ) (lines : List (List Point)) → e < length g.edges → length lines ≡ e → due_after g (edge_due g 0) (drawn_lines g 0 lines) ≡ EdgeDue e
-due_there_edge g e lines less count = let there : 0 + length lines ≡ e = omega (arith, count) in due_lines g 0 lines (omega (arith, less, count)) ∙ ap (edge_due g) there ∙ edge_due_at g e less
+due_there_edge : (edition : Edition) (g : Graph) (e : ℕ) (lines : List (List Point)) → e < length g.edges → length lines ≡ e → due_after g (edge_due edition g 0) (drawn_lines edition g 0 lines) ≡ EdgeDue edition e
+due_there_edge edition g e lines less count = let there : 0 + length lines ≡ e = omega (arith, count) in due_lines edition g 0 lines (omega (arith, less, count)) ∙ ap (edge_due edition g) there ∙ edge_due_at edition g e less
 
-pub place_read : (g : Graph) (text mid rest : List ℕ) (n : ℕ) (places : List Point) (p : Point) → n < length g.nodes → length places ≡ n → ((before : List SheetLine) → AreReadTo g before (node_due g 0) text (placed_lines g 0 places) mid) →
-    IsLineTo mid (NodeLine n (node g n).name p) rest → (before : List SheetLine) → AreReadTo g before (node_due g 0) text (placed_lines g 0 (places ++ p ∷ [])) rest
-place_read g text mid rest n places p less count so_far to before =
-    let due = due_there g n places less count in
+pub place_read : (edition : Edition) (g : Graph) (text mid rest : List ℕ) (n : ℕ) (places : List Point) (p : Point) → n < length g.nodes → length places ≡ n → ((before : List SheetLine) → AreReadTo g before (node_due edition g 0) text (placed_lines edition g 0 places) mid) →
+    IsLineTo mid (NodeLine n (node g n).name p (mileage_field edition g n)) rest → (before : List SheetLine) → AreReadTo g before (node_due edition g 0) text (placed_lines edition g 0 (places ++ p ∷ [])) rest
+place_read edition g text mid rest n places p less count so_far to before =
+    let due = due_there edition g n places less count in
     let there : n ≡ 0 + length places = omega (arith, count) in
-    let one = read_one g (before ++ placed_lines g 0 places) (NodeDue n) mid rest (NodeLine n (node g n).name p) tt tt (refl, refl) tt tt to in
-    let grown = read_append g before (node_due g 0) text mid rest (placed_lines g 0 places) (NodeLine n (node g n).name p ∷ []) (so_far before)
-    (subst (λ (d : Due). AreReadTo g (before ++ placed_lines g 0 places) d mid (NodeLine n (node g n).name p ∷ []) rest) (sym due) one) in
-    subst (λ (lines : List SheetLine). AreReadTo g before (node_due g 0) text lines rest)
-    (ap (λ (k : ℕ). placed_lines g 0 places ++ NodeLine k (node g k).name p ∷ []) there ∙ sym (placed_more g 0 places p)) grown
+    let one = read_one g (before ++ placed_lines edition g 0 places) (NodeDue edition n) mid rest (NodeLine n (node g n).name p (mileage_field edition g n)) (mileage_told edition g n) tt (refl, refl, refl) tt tt to in
+    let grown = read_append g before (node_due edition g 0) text mid rest (placed_lines edition g 0 places) (NodeLine n (node g n).name p (mileage_field edition g n) ∷ []) (so_far before)
+    (subst (λ (d : Due). AreReadTo g (before ++ placed_lines edition g 0 places) d mid (NodeLine n (node g n).name p (mileage_field edition g n) ∷ []) rest) (sym due) one) in
+    subst (λ (lines : List SheetLine). AreReadTo g before (node_due edition g 0) text lines rest)
+    (ap (λ (k : ℕ). placed_lines edition g 0 places ++ NodeLine k (node g k).name p (mileage_field edition g k) ∷ []) there ∙ sym (placed_more edition g 0 places p)) grown
 
-pub place_fault : (g : Graph) (text mid : List ℕ) (n line : ℕ) (places : List Point) (fault : SheetFault) → n < length g.nodes → length places ≡ n → ((before : List SheetLine) → AreReadTo g before (node_due g 0) text (placed_lines g 0 places) mid) →
-    line ≡ 5 + n → ((before : List SheetLine) → IsFaultHere g before (NodeDue n) mid line fault) → (before : List SheetLine) → IsFaultFrom g before (node_due g 0) text 5 fault
-place_fault g text mid n line places fault less count so_far numbered h before =
-    let k = placed_length g 0 places in
-    later_here g before (node_due g 0) text mid (placed_lines g 0 places) 5 line fault (so_far before) (omega (arith, k, count, numbered))
-    (subst (λ (d : Due). IsFaultHere g (before ++ placed_lines g 0 places) d mid line fault) (sym (due_there g n places less count)) (h (before ++ placed_lines g 0 places)))
+pub place_fault : (edition : Edition) (g : Graph) (text mid : List ℕ) (n line : ℕ) (places : List Point) (fault : SheetFault) → n < length g.nodes → length places ≡ n → ((before : List SheetLine) → AreReadTo g before (node_due edition g 0) text (placed_lines edition g 0 places) mid) →
+    line ≡ 5 + n → ((before : List SheetLine) → IsFaultHere g before (NodeDue edition n) mid line fault) → (before : List SheetLine) → IsFaultFrom g before (node_due edition g 0) text 5 fault
+place_fault edition g text mid n line places fault less count so_far numbered h before =
+    let k = placed_length edition g 0 places in
+    later_here g before (node_due edition g 0) text mid (placed_lines edition g 0 places) 5 line fault (so_far before) (omega (arith, k, count, numbered))
+    (subst (λ (d : Due). IsFaultHere g (before ++ placed_lines edition g 0 places) d mid line fault) (sym (due_there edition g n places less count)) (h (before ++ placed_lines edition g 0 places)))
 
-pub line_read : (g : Graph) (text mid rest : List ℕ) (e : ℕ) (lines : List (List Point)) (l : List Point) → e < length g.edges → length lines ≡ e → ((before : List SheetLine) → AreReadTo g before (edge_due g 0) text (drawn_lines g 0 lines) mid) →
-    HasShape (EdgeLine e (edge g e).west (edge g e).east l) → IsLineTo mid (EdgeLine e (edge g e).west (edge g e).east l) rest → (before : List SheetLine) → AreReadTo g before (edge_due g 0) text (drawn_lines g 0 (lines ++ l ∷ [])) rest
-line_read g text mid rest e lines l less count so_far shape to before =
-    let due = due_there_edge g e lines less count in
+pub line_read : (edition : Edition) (g : Graph) (text mid rest : List ℕ) (e : ℕ) (lines : List (List Point)) (l : List Point) → e < length g.edges → length lines ≡ e → ((before : List SheetLine) → AreReadTo g before (edge_due edition g 0) text (drawn_lines edition g 0 lines) mid) →
+    HasShape (EdgeLine e (track_field edition g e) (edge g e).west (edge g e).east l) → IsLineTo mid (EdgeLine e (track_field edition g e) (edge g e).west (edge g e).east l) rest → (before : List SheetLine) → AreReadTo g before (edge_due edition g 0) text (drawn_lines edition g 0 (lines ++ l ∷ [])) rest
+line_read edition g text mid rest e lines l less count so_far shape to before =
+    let due = due_there_edge edition g e lines less count in
     let there : e ≡ 0 + length lines = omega (arith, count) in
-    let line : SheetLine = EdgeLine e (edge g e).west (edge g e).east l in
-    let one = read_one g (before ++ drawn_lines g 0 lines) (EdgeDue e) mid rest line tt tt (refl, refl, refl) shape tt to in
-    let grown = read_append g before (edge_due g 0) text mid rest (drawn_lines g 0 lines) (line ∷ []) (so_far before)
-    (subst (λ (d : Due). AreReadTo g (before ++ drawn_lines g 0 lines) d mid (line ∷ []) rest) (sym due) one) in
-    subst (λ (more : List SheetLine). AreReadTo g before (edge_due g 0) text more rest)
-    (ap (λ (k : ℕ). drawn_lines g 0 lines ++ EdgeLine k (edge g k).west (edge g k).east l ∷ []) there ∙ sym (drawn_more g 0 lines l)) grown
+    let line : SheetLine = EdgeLine e (track_field edition g e) (edge g e).west (edge g e).east l in
+    let one = read_one g (before ++ drawn_lines edition g 0 lines) (EdgeDue edition e) mid rest line (track_told edition g e) tt (refl, refl, refl, refl) shape tt to in
+    let grown = read_append g before (edge_due edition g 0) text mid rest (drawn_lines edition g 0 lines) (line ∷ []) (so_far before)
+    (subst (λ (d : Due). AreReadTo g (before ++ drawn_lines edition g 0 lines) d mid (line ∷ []) rest) (sym due) one) in
+    subst (λ (more : List SheetLine). AreReadTo g before (edge_due edition g 0) text more rest)
+    (ap (λ (k : ℕ). drawn_lines edition g 0 lines ++ EdgeLine k (track_field edition g k) (edge g k).west (edge g k).east l ∷ []) there ∙ sym (drawn_more edition g 0 lines l)) grown
 
-pub line_fault : (g : Graph) (text mid : List ℕ) (e line first : ℕ) (lines : List (List Point)) (fault : SheetFault) → e < length g.edges → length lines ≡ e → ((before : List SheetLine) → AreReadTo g before (edge_due g 0) text (drawn_lines g 0 lines) mid) →
-    line ≡ first + e → ((before : List SheetLine) → IsFaultHere g before (EdgeDue e) mid line fault) → (before : List SheetLine) → IsFaultFrom g before (edge_due g 0) text first fault
-line_fault g text mid e line first lines fault less count so_far numbered h before =
-    let k = drawn_length g 0 lines in
-    later_here g before (edge_due g 0) text mid (drawn_lines g 0 lines) first line fault (so_far before) (omega (arith, k, count, numbered))
-    (subst (λ (d : Due). IsFaultHere g (before ++ drawn_lines g 0 lines) d mid line fault) (sym (due_there_edge g e lines less count)) (h (before ++ drawn_lines g 0 lines)))
+pub line_fault : (edition : Edition) (g : Graph) (text mid : List ℕ) (e line first : ℕ) (lines : List (List Point)) (fault : SheetFault) → e < length g.edges → length lines ≡ e → ((before : List SheetLine) → AreReadTo g before (edge_due edition g 0) text (drawn_lines edition g 0 lines) mid) →
+    line ≡ first + e → ((before : List SheetLine) → IsFaultHere g before (EdgeDue edition e) mid line fault) → (before : List SheetLine) → IsFaultFrom g before (edge_due edition g 0) text first fault
+line_fault edition g text mid e line first lines fault less count so_far numbered h before =
+    let k = drawn_length edition g 0 lines in
+    later_here g before (edge_due edition g 0) text mid (drawn_lines edition g 0 lines) first line fault (so_far before) (omega (arith, k, count, numbered))
+    (subst (λ (d : Due). IsFaultHere g (before ++ drawn_lines edition g 0 lines) d mid line fault) (sym (due_there_edge edition g e lines less count)) (h (before ++ drawn_lines edition g 0 lines)))
 
 -- ---- one more of a list
 
@@ -182,19 +192,19 @@ count_more new old a n grown count = let e = ap length grown in let f = length-a
 
 -- ---- the head
 
-pub read_title : (g : Graph) (needs_drawing : Bool) (text rest : List ℕ) → IsLineTo text Title rest → AreReadTo g [] (TitleDue needs_drawing) text (Title ∷ []) rest
-read_title g needs_drawing text rest to = read_one g [] (TitleDue needs_drawing) text rest Title tt tt tt tt tt to
+pub read_title : (edition : Edition) (g : Graph) (needs_drawing : Bool) (text rest : List ℕ) → IsLineTo text (Title edition) rest → AreReadTo g [] (TitleDue needs_drawing) text (Title edition ∷ []) rest
+read_title edition g needs_drawing text rest to = read_one g [] (TitleDue needs_drawing) text rest (Title edition) tt tt tt tt tt to
 
-pub read_grid : (g : Graph) (needs_drawing : Bool) (text mid rest : List ℕ) (grid : GridSize) → IsLineTo text Title mid → IsGrid grid → IsLineTo mid (GridLine grid) rest → AreReadTo g [] (TitleDue needs_drawing) text (Title ∷ GridLine grid ∷ []) rest
-read_grid g needs_drawing text mid rest grid title is to =
-    read_append g [] (TitleDue needs_drawing) text mid rest (Title ∷ []) (GridLine grid ∷ []) (read_title g needs_drawing text mid title)
-    (read_one g (Title ∷ []) (GridDue needs_drawing) mid rest (GridLine grid) tt is tt tt tt to)
+pub read_grid : (edition : Edition) (g : Graph) (needs_drawing : Bool) (text mid rest : List ℕ) (grid : GridSize) → IsLineTo text (Title edition) mid → IsGrid grid → IsLineTo mid (GridLine edition grid) rest → AreReadTo g [] (TitleDue needs_drawing) text (Title edition ∷ GridLine edition grid ∷ []) rest
+read_grid edition g needs_drawing text mid rest grid title is to =
+    read_append g [] (TitleDue needs_drawing) text mid rest (Title edition ∷ []) (GridLine edition grid ∷ []) (read_title edition g needs_drawing text mid title)
+    (read_one g (Title edition ∷ []) (GridDue edition needs_drawing) mid rest (GridLine edition grid) refl is tt tt tt to)
 
-pub read_head : (g : Graph) (needs_drawing : Bool) (text one two rest : List ℕ) (grid : GridSize) (order : List Criterion) → IsLineTo text Title one → IsGrid grid → IsLineTo one (GridLine grid) two → IsOrder order → IsLineTo two (OrderLine order) rest →
-    AreReadTo g [] (TitleDue needs_drawing) text (head_lines grid order) rest
-read_head g needs_drawing text one two rest grid order title is grid_to is_order to =
-    read_append g [] (TitleDue needs_drawing) text two rest (Title ∷ GridLine grid ∷ []) (OrderLine order ∷ []) (read_grid g needs_drawing text one two grid title is grid_to)
-    (read_one g (Title ∷ GridLine grid ∷ []) (OrderDue needs_drawing) two rest (OrderLine order) tt is_order tt tt tt to)
+pub read_head : (edition : Edition) (g : Graph) (needs_drawing : Bool) (text one two rest : List ℕ) (grid : GridSize) (order : List Criterion) → IsLineTo text (Title edition) one → IsGrid grid → IsLineTo one (GridLine edition grid) two → IsOrder order → IsLineTo two (OrderLine order) rest →
+    AreReadTo g [] (TitleDue needs_drawing) text (head_lines edition grid order) rest
+read_head edition g needs_drawing text one two rest grid order title is grid_to is_order to =
+    read_append g [] (TitleDue needs_drawing) text two rest (Title edition ∷ GridLine edition grid ∷ []) (OrderLine order ∷ []) (read_grid edition g needs_drawing text one two grid title is grid_to)
+    (read_one g (Title edition ∷ GridLine edition grid ∷ []) (OrderDue edition needs_drawing) two rest (OrderLine order) tt is_order tt tt tt to)
 
 -- ---- what the lines tell
 

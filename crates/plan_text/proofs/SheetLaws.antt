@@ -1,5 +1,5 @@
 -- A text is that of one sheet, or has one first fault.
-use Rattle.std.proofs.Common.{◌≡◌, ℕ, ◌+◌, Bool, true, List, [], ◌∷◌, ◌++◌, Option, None, Some, IfSome, length, refl, sym, ◌∙◌, ap, subst, arith, append_assoc, length-append}
+use Rattle.std.proofs.Common.{◌≡◌, ◌⊎◌, ℕ, ◌+◌, Bool, true, Result, Ok, Err, MatchResult, List, [], ◌∷◌, ◌++◌, Option, None, Some, IfSome, length, refl, sym, ◌∙◌, ap, subst, arith, append_assoc, length-append}
 use Rattle.std.specs.Prelude.{flat_map}
 use Rattle.std.proofs.lemmas.Grind.{flat_map-append}
 use Rattle.std.proofs.lemmas.List.{append_cancel_left, append-nil}
@@ -10,12 +10,18 @@ use Rattle.plan_core.specs.Grid.{GridSize}
 use Rattle.plan_core.specs.Graph.{Graph}
 use Rattle.plan_core.specs.Drawing.{Drawing, drawing}
 use Rattle.plan_core.specs.Values.{values_of}
+use Rattle.plan_core.specs.Exactly.{AnswersExactly}
+use Rattle.plan_core.proofs.ExactlyLemmas.{answers_exactly}
+use Rattle.plan_text.specs.declared.edition.Edition.{Edition}
 use Rattle.plan_text.specs.declared.ending.Ending.{Ending}
 use Rattle.plan_text.specs.declared.sheet_fault.SheetWhat.{SheetWhat}
 use Rattle.plan_text.specs.declared.sheet_fault.SheetWhat.TheVariants as whats
+use Rattle.plan_text.specs.declared.sheet_fault.SheetFault.{SheetFault}
+use Rattle.plan_text.specs.declared.sheet_fault.SheetFault.TheVariants.{Sheet as SheetHas, Memory}
 use Rattle.plan_text.specs.SheetLine.{SheetLine, Title, GridLine, OrderLine, NodesLine, EdgeLine, ValuesLine, EndLine, text_of}
-use Rattle.plan_text.specs.SheetText.{Sheet, HasSizeOf, DrawsAll, picture_lines, drawing_lines, found_lines, sheet_lines}
-use Rattle.plan_text.specs.SheetFaults.{Due, TitleDue, BodyDue, NoneDue, due_behind, due_after, place_told, line_told, drawing_told, BeginsWith, IsMisformed, HasFault, IsInRange, IsOfGraph, HasShape, IsMeasured, IsRight, AreRight, IsTextOf, IsFirstFault}
+use Rattle.plan_core.specs.Lawful.{HasSizeOf}
+use Rattle.plan_text.specs.SheetText.{Sheet, DrawsAll, picture_lines, drawing_lines, found_lines, sheet_lines}
+use Rattle.plan_text.specs.SheetFaults.{Due, TitleDue, BodyDue, NoneDue, due_behind, due_after, place_told, line_told, drawing_told, BeginsWith, IsMisformed, HasWrongLine, IsInRange, IsOfGraph, HasShape, IsMeasured, IsRight, AreRight, IsTextOf, IsDrawingOf, HasSheetFault, IsSheetFault}
 use Rattle.plan_text.proofs.LineAgain.{once_due, none_due}
 use Rattle.plan_text.proofs.ReadingLemmas.{due_append}
 use Rattle.plan_text.proofs.SheetAgain.{parts_of, parts_are, parts_tell, due_parts}
@@ -38,7 +44,7 @@ misformed NoneDue text l h b = none_due l b.is_due
 misformed due text l h b = h l b
 
 -- where a line is right, no line has a fault
-right_or_fault : (g : Graph) (before : List SheetLine) (due : Due) (text rest : List ℕ) (l : SheetLine) (what : SheetWhat) → IsRight g before due l → text ≡ text_of l ++ rest → HasFault g before due text what → ⊥
+right_or_fault : (g : Graph) (before : List SheetLine) (due : Due) (text rest : List ℕ) (l : SheetLine) (what : SheetWhat) → IsRight g before due l → text ≡ text_of l ++ rest → HasWrongLine g before due text what → ⊥
 right_or_fault g before due text rest l whats.Form right e f = misformed due text l f (right_begins g before due text rest l right e)
 right_or_fault g before due text rest l whats.Range right e (m, b, not) =
     not (subst (IsInRange before due) (one_begin due text l m (right_begins g before due text rest l right e) b) right.range)
@@ -59,14 +65,14 @@ record Front (a b : List SheetLine) (q r : List ℕ) : Type 0 where
 
 -- nothing is right behind the lines in front of a fault
 up_to_fault : (g : Graph) (before : List SheetLine) (due : Due) (a b : List SheetLine) (q r : List ℕ) (what : SheetWhat) → AreRight g before due a → AreRight g before due b →
-    HasFault g (before ++ a) (due_after g due a) q what → texts a ++ q ≡ texts b ++ r → Front a b q r
+    HasWrongLine g (before ++ a) (due_after g due a) q what → texts a ++ q ≡ texts b ++ r → Front a b q r
 up_to_fault g before due a [] q r what h k f e = record { more = a; split = refl; left = sym e }
 up_to_fault g before due [] (m ∷ b) q r what h k f e =
-    absurd (right_or_fault g before due q (texts b ++ r) m what k.0 (e ∙ append_assoc (text_of m) (texts b) r) (subst (λ (lines : List SheetLine). HasFault g lines due q what) (append-nil before) f))
+    absurd (right_or_fault g before due q (texts b ++ r) m what k.0 (e ∙ append_assoc (text_of m) (texts b) r) (subst (λ (lines : List SheetLine). HasWrongLine g lines due q what) (append-nil before) f))
 up_to_fault g before due (l ∷ a) (m ∷ b) q r what h k f e =
     let same = once_due due l m h.0.is_due k.0.is_due (texts a ++ q) (texts b ++ r) h.0.form k.0.form (sym (append_assoc (text_of l) (texts a) q) ∙ e ∙ append_assoc (text_of m) (texts b) r) in
     let right : AreRight g (before ++ l ∷ []) (due_behind g due l) b = subst (λ (n : SheetLine). AreRight g (before ++ n ∷ []) (due_behind g due n) b) (sym same.line) k.1 in
-    let fault : HasFault g ((before ++ l ∷ []) ++ a) (due_after g (due_behind g due l) a) q what = subst (λ (lines : List SheetLine). HasFault g lines (due_after g (due_behind g due l) a) q what) (sym (append_assoc before (l ∷ []) a)) f in
+    let fault : HasWrongLine g ((before ++ l ∷ []) ++ a) (due_after g (due_behind g due l) a) q what = subst (λ (lines : List SheetLine). HasWrongLine g lines (due_after g (due_behind g due l) a) q what) (sym (append_assoc before (l ∷ []) a)) f in
     let later = up_to_fault g (before ++ l ∷ []) (due_behind g due l) a b q r what h.1 right fault same.behind in
     record {
       more = later.more;
@@ -77,24 +83,24 @@ up_to_fault g before due (l ∷ a) (m ∷ b) q r what h k f e =
 -- ---- a text with a fault is no sheet's
 
 -- the lines of a drawing and of an ending are those of its points and lines, its values and the ending
-pub lines_are : (g : Graph) (d : Drawing) (e : Ending) → HasSizeOf g d → drawing_lines g d ++ EndLine e ∷ [] ≡ parts_of g d ++ ValuesLine (values_of d) ∷ EndLine e ∷ []
-lines_are g d e size =
-    ap (λ (lines : List SheetLine). NodesLine (length g.nodes) ∷ lines) (append_assoc (picture_lines g d) (ValuesLine (values_of d) ∷ []) (EndLine e ∷ []))
-    ∙ ap (λ (lines : List SheetLine). lines ++ ValuesLine (values_of d) ∷ EndLine e ∷ []) (sym (parts_are g d size))
+pub lines_are : (edition : Edition) (g : Graph) (d : Drawing) (e : Ending) → HasSizeOf g d → drawing_lines edition g d ++ EndLine e ∷ [] ≡ parts_of edition g d ++ ValuesLine (values_of d) ∷ EndLine e ∷ []
+lines_are edition g d e size =
+    ap (λ (lines : List SheetLine). NodesLine (length g.nodes) ∷ lines) (append_assoc (picture_lines edition g d) (ValuesLine (values_of d) ∷ []) (EndLine e ∷ []))
+    ∙ ap (λ (lines : List SheetLine). lines ++ ValuesLine (values_of d) ∷ EndLine e ∷ []) (sym (parts_are edition g d size))
 
 -- nothing is due behind a sheet
-due_behind_found : (g : Graph) (needs_drawing : Bool) (found : Option Drawing) (e : Ending) → IfSome found (HasSizeOf g) → due_after g (BodyDue needs_drawing) (found_lines g found ++ EndLine e ∷ []) ≡ NoneDue
-due_behind_found g needs_drawing None e all = refl
-due_behind_found g needs_drawing (Some d) e all =
-    ap (due_after g (BodyDue true)) (lines_are g d e all)
-    ∙ due_append g (BodyDue true) (parts_of g d) (ValuesLine (values_of d) ∷ EndLine e ∷ [])
-    ∙ ap (λ (due : Due). due_after g due (ValuesLine (values_of d) ∷ EndLine e ∷ [])) (due_parts g d all)
+due_behind_found : (edition : Edition) (g : Graph) (needs_drawing : Bool) (found : Option Drawing) (e : Ending) → IfSome found (HasSizeOf g) → due_after g (BodyDue edition needs_drawing) (found_lines edition g found ++ EndLine e ∷ []) ≡ NoneDue
+due_behind_found edition g needs_drawing None e all = refl
+due_behind_found edition g needs_drawing (Some d) e all =
+    ap (due_after g (BodyDue edition true)) (lines_are edition g d e all)
+    ∙ due_append g (BodyDue edition true) (parts_of edition g d) (ValuesLine (values_of d) ∷ EndLine e ∷ [])
+    ∙ ap (λ (due : Due). due_after g due (ValuesLine (values_of d) ∷ EndLine e ∷ [])) (due_parts edition g d all)
 
-due_at_end : (g : Graph) (needs_drawing : Bool) (s : Sheet) → DrawsAll g s → due_after g (TitleDue needs_drawing) (sheet_lines g s) ≡ NoneDue
-due_at_end g needs_drawing s all = due_behind_found g needs_drawing s.found s.ending all
+due_at_end : (edition : Edition) (g : Graph) (needs_drawing : Bool) (s : Sheet) → DrawsAll g s → due_after g (TitleDue needs_drawing) (sheet_lines edition g s) ≡ NoneDue
+due_at_end edition g needs_drawing s all = due_behind_found edition g needs_drawing s.found s.ending all
 
 -- where no text is left and no line is due, there is no fault
-no_fault_left : (g : Graph) (before : List SheetLine) (text : List ℕ) (what : SheetWhat) → text ≡ [] → HasFault g before NoneDue text what → ⊥
+no_fault_left : (g : Graph) (before : List SheetLine) (text : List ℕ) (what : SheetWhat) → text ≡ [] → HasWrongLine g before NoneDue text what → ⊥
 no_fault_left g before text whats.Form none f = f none
 no_fault_left g before text whats.Range none (l, b, not) = none_due l b.is_due
 no_fault_left g before text whats.Graph none (l, b, not) = none_due l b.is_due
@@ -103,33 +109,33 @@ no_fault_left g before text whats.Values none (l, b, not) = none_due l b.is_due
 
 -- a line has a text
 some_text : (l : SheetLine) (rest : List ℕ) → [] ≡ text_of l ++ rest → ⊥
-some_text Title rest e = cc
+some_text (Title edition) rest e = cc
 some_text l rest e = cc
 
-pub sheet_or_fault : (g : Graph) (needs_drawing : Bool) (text : List ℕ) (s : Sheet) (what : SheetWhat) (line : ℕ) → IsTextOf g needs_drawing text s → IsFirstFault g needs_drawing text what line → ⊥
+pub sheet_or_fault : (g : Graph) (needs_drawing : Bool) (text : List ℕ) (s : Sheet) (what : SheetWhat) (line : ℕ) → IsTextOf g needs_drawing text s → HasSheetFault g needs_drawing text what line → ⊥
 sheet_or_fault g needs_drawing text s what line h f =
     let due = TitleDue needs_drawing in
-    let front = up_to_fault g [] due f.before (sheet_lines g s) f.rest [] what f.right h.right f.fault (sym f.spelled ∙ h.spelled ∙ sym (append-nil (texts (sheet_lines g s)))) in
+    let front = up_to_fault g [] due f.before (sheet_lines h.edition g s) f.rest [] what f.right h.right f.fault (sym f.spelled ∙ h.spelled ∙ sym (append-nil (texts (sheet_lines h.edition g s)))) in
     none_more front.more front.split front.left
   where
-    none_more : (more : List SheetLine) → f.before ≡ sheet_lines g s ++ more → [] ≡ texts more ++ f.rest → ⊥
+    none_more : (more : List SheetLine) → f.before ≡ sheet_lines h.edition g s ++ more → [] ≡ texts more ++ f.rest → ⊥
     none_more [] split left =
-        let whole : f.before ≡ sheet_lines g s = split ∙ append-nil (sheet_lines g s) in
+        let whole : f.before ≡ sheet_lines h.edition g s = split ∙ append-nil (sheet_lines h.edition g s) in
         no_fault_left g f.before f.rest what (sym left)
-        (subst (λ (due : Due). HasFault g f.before due f.rest what) (ap (due_after g (TitleDue needs_drawing)) whole ∙ due_at_end g needs_drawing s h.draws_all) f.fault)
+        (subst (λ (due : Due). HasWrongLine g f.before due f.rest what) (ap (due_after g (TitleDue needs_drawing)) whole ∙ due_at_end h.edition g needs_drawing s h.draws_all) f.fault)
     none_more (l ∷ more) split left = some_text l (texts more ++ f.rest) (left ∙ append_assoc (text_of l) (texts more) f.rest)
 
 -- ---- one first fault
 
 -- a line is of one kind, so that it can be out of range, of another graph or wrong in its values, but not two of these
 range_or_graph : (g : Graph) (before : List SheetLine) (due : Due) (l : SheetLine) → (IsInRange before due l → ⊥) → (IsOfGraph g due l → ⊥) → ⊥
-range_or_graph g before due (GridLine grid) h k = k tt
+range_or_graph g before due (GridLine edition grid) h k = k tt
 range_or_graph g before due (OrderLine order) h k = k tt
 range_or_graph g before due (EndLine e) h k = k tt
 range_or_graph g before due l h k = h tt
 
 range_or_shape : (before : List SheetLine) (due : Due) (l : SheetLine) → (IsInRange before due l → ⊥) → (HasShape l → ⊥) → ⊥
-range_or_shape before due (EdgeLine number west east points) h k = h tt
+range_or_shape before due (EdgeLine number track west east points) h k = h tt
 range_or_shape before due l h k = k tt
 
 range_or_values : (before : List SheetLine) (due : Due) (l : SheetLine) → (IsInRange before due l → ⊥) → (IsMeasured before l → ⊥) → ⊥
@@ -145,7 +151,7 @@ shape_or_values before (ValuesLine values) h k = h tt
 shape_or_values before l h k = k tt
 
 -- one text has one fault at its first line
-one_fault : (g : Graph) (before : List SheetLine) (due : Due) (text : List ℕ) (what other : SheetWhat) → HasFault g before due text what → HasFault g before due text other → what ≡ other
+one_fault : (g : Graph) (before : List SheetLine) (due : Due) (text : List ℕ) (what other : SheetWhat) → HasWrongLine g before due text what → HasWrongLine g before due text other → what ≡ other
 one_fault g before due text whats.Form whats.Form f h = refl
 one_fault g before due text whats.Form whats.Range f (m, b, not) = absurd (misformed due text m f b)
 one_fault g before due text whats.Form whats.Graph f (m, b, not) = absurd (misformed due text m f b)
@@ -199,22 +205,22 @@ both_fronts a b q r f h = ends f.more h.more f.split h.split f.left
         let m : length b ≡ length a + length rest = ap length other ∙ length-append a rest in
         absurd (omega (arith, n, m))
 
-same_first : (g : Graph) (needs_drawing : Bool) (text : List ℕ) (what other : SheetWhat) (line at : ℕ) (f : IsFirstFault g needs_drawing text what line) (h : IsFirstFault g needs_drawing text other at) → SameFirst f.before h.before f.rest h.rest
+same_first : (g : Graph) (needs_drawing : Bool) (text : List ℕ) (what other : SheetWhat) (line at : ℕ) (f : HasSheetFault g needs_drawing text what line) (h : HasSheetFault g needs_drawing text other at) → SameFirst f.before h.before f.rest h.rest
 same_first g needs_drawing text what other line at f h =
     let due = TitleDue needs_drawing in
     both_fronts f.before h.before f.rest h.rest
     (up_to_fault g [] due f.before h.before f.rest h.rest what f.right h.right f.fault (sym f.spelled ∙ h.spelled))
     (up_to_fault g [] due h.before f.before h.rest f.rest other h.right f.right h.fault (sym h.spelled ∙ f.spelled))
 
-pub one_kind : (g : Graph) (needs_drawing : Bool) (text : List ℕ) (what other : SheetWhat) (line at : ℕ) → IsFirstFault g needs_drawing text what line → IsFirstFault g needs_drawing text other at → what ≡ other
+pub one_kind : (g : Graph) (needs_drawing : Bool) (text : List ℕ) (what other : SheetWhat) (line at : ℕ) → HasSheetFault g needs_drawing text what line → HasSheetFault g needs_drawing text other at → what ≡ other
 one_kind g needs_drawing text what other line at f h =
     let same = same_first g needs_drawing text what other line at f h in
-    let there : HasFault g f.before (due_after g (TitleDue needs_drawing) f.before) f.rest other =
-    subst (λ (lines : List SheetLine). HasFault g lines (due_after g (TitleDue needs_drawing) lines) f.rest other) (sym same.lines)
-    (subst (λ (t : List ℕ). HasFault g h.before (due_after g (TitleDue needs_drawing) h.before) t other) (sym same.left) h.fault) in
+    let there : HasWrongLine g f.before (due_after g (TitleDue needs_drawing) f.before) f.rest other =
+    subst (λ (lines : List SheetLine). HasWrongLine g lines (due_after g (TitleDue needs_drawing) lines) f.rest other) (sym same.lines)
+    (subst (λ (t : List ℕ). HasWrongLine g h.before (due_after g (TitleDue needs_drawing) h.before) t other) (sym same.left) h.fault) in
     one_fault g f.before (due_after g (TitleDue needs_drawing) f.before) f.rest what other f.fault there
 
-pub one_line : (g : Graph) (needs_drawing : Bool) (text : List ℕ) (what other : SheetWhat) (line at : ℕ) → IsFirstFault g needs_drawing text what line → IsFirstFault g needs_drawing text other at → line ≡ at
+pub one_line : (g : Graph) (needs_drawing : Bool) (text : List ℕ) (what other : SheetWhat) (line at : ℕ) → HasSheetFault g needs_drawing text what line → HasSheetFault g needs_drawing text other at → line ≡ at
 one_line g needs_drawing text what other line at f h =
     f.counted
     ∙ ap (λ (lines : List SheetLine). length lines + 1) (same_first g needs_drawing text what other line at f h).lines
@@ -233,8 +239,11 @@ same_lines g before due (l ∷ a) (m ∷ b) h k e =
     ap (λ (lines : List SheetLine). l ∷ lines) (same_lines g (before ++ l ∷ []) (due_behind g due l) a b h.1 right same.behind)
     ∙ ap (λ (n : SheetLine). n ∷ b) same.line
 
-same_grid : (a b : GridSize) → GridLine a ≡ GridLine b → a ≡ b
-same_grid a b e = cc
+same_edition : (e f : Edition) → Title e ≡ Title f → e ≡ f
+same_edition e f s = cc
+
+same_grid : (e f : Edition) (a b : GridSize) → GridLine e a ≡ GridLine f b → a ≡ b
+same_grid e f a b s = cc
 
 same_order : (a b : List Criterion) → OrderLine a ≡ OrderLine b → a ≡ b
 same_order a b e = cc
@@ -254,27 +263,27 @@ nothing_told lines v e =
     ∙ ap (λ (ls : List (List Point)). drawing (flat_map place_told lines) ls) (flat_map-append line_told lines end ∙ append-nil (flat_map line_told lines))
 
 -- the lines of a drawing and an ending tell the drawing
-told : (g : Graph) (d : Drawing) (e : Ending) → HasSizeOf g d → drawing_told (found_lines g (Some d) ++ EndLine e ∷ []) ≡ d
-told g d e size = ap drawing_told (lines_are g d e size) ∙ nothing_told (parts_of g d) (values_of d) e ∙ parts_tell g d
+told : (edition : Edition) (g : Graph) (d : Drawing) (e : Ending) → HasSizeOf g d → drawing_told (found_lines edition g (Some d) ++ EndLine e ∷ []) ≡ d
+told edition g d e size = ap drawing_told (lines_are edition g d e size) ∙ nothing_told (parts_of edition g d) (values_of d) e ∙ parts_tell edition g d
 
 -- lines that tell one drawing and one ending
 record SameEnd (a b : Option Drawing) (e f : Ending) : Type 0 where
   found : a ≡ b
   ending : e ≡ f
 
-same_end : (g : Graph) (a b : Option Drawing) (e f : Ending) → IfSome a (HasSizeOf g) → IfSome b (HasSizeOf g) → found_lines g a ++ EndLine e ∷ [] ≡ found_lines g b ++ EndLine f ∷ [] → SameEnd a b e f
-same_end g None None e f h k s = record { found = refl; ending = same_ending e f s }
-same_end g None (Some d) e f h k s = absurd (no_ending (length g.nodes) ((picture_lines g d ++ ValuesLine (values_of d) ∷ []) ++ EndLine f ∷ []) e (sym s))
-same_end g (Some d) None e f h k s = absurd (no_ending (length g.nodes) ((picture_lines g d ++ ValuesLine (values_of d) ∷ []) ++ EndLine e ∷ []) f s)
-same_end g (Some c) (Some d) e f h k s =
-    let same : c ≡ d = sym (told g c e h) ∙ ap drawing_told s ∙ told g d f k in
+same_end : (edition : Edition) (g : Graph) (a b : Option Drawing) (e f : Ending) → IfSome a (HasSizeOf g) → IfSome b (HasSizeOf g) → found_lines edition g a ++ EndLine e ∷ [] ≡ found_lines edition g b ++ EndLine f ∷ [] → SameEnd a b e f
+same_end edition g None None e f h k s = record { found = refl; ending = same_ending e f s }
+same_end edition g None (Some d) e f h k s = absurd (no_ending (length g.nodes) ((picture_lines edition g d ++ ValuesLine (values_of d) ∷ []) ++ EndLine f ∷ []) e (sym s))
+same_end edition g (Some d) None e f h k s = absurd (no_ending (length g.nodes) ((picture_lines edition g d ++ ValuesLine (values_of d) ∷ []) ++ EndLine e ∷ []) f s)
+same_end edition g (Some c) (Some d) e f h k s =
+    let same : c ≡ d = sym (told edition g c e h) ∙ ap drawing_told s ∙ told edition g d f k in
     record {
       found = ap (λ (x : Drawing). Some x) same;
-      ending = same_ending e f (append_cancel_left (drawing_lines g d) (EndLine e ∷ []) (EndLine f ∷ []) (ap (λ (x : Drawing). drawing_lines g x ++ EndLine e ∷ []) (sym same) ∙ s));
+      ending = same_ending e f (append_cancel_left (drawing_lines edition g d) (EndLine e ∷ []) (EndLine f ∷ []) (ap (λ (x : Drawing). drawing_lines edition g x ++ EndLine e ∷ []) (sym same) ∙ s));
     }
 
-first_lines : (a b c d e f : SheetLine) (xs ys : List SheetLine) → a ∷ b ∷ c ∷ xs ≡ d ∷ e ∷ f ∷ ys → (b ≡ e) × (c ≡ f) × (xs ≡ ys)
-first_lines a b c d e f xs ys s = (cc, cc, cc)
+first_lines : (a b c d e f : SheetLine) (xs ys : List SheetLine) → a ∷ b ∷ c ∷ xs ≡ d ∷ e ∷ f ∷ ys → (a ≡ d) × (b ≡ e) × (c ≡ f) × (xs ≡ ys)
+first_lines a b c d e f xs ys s = (cc, cc, cc, cc)
 
 sheet : GridSize → List Criterion → Option Drawing → Ending → Sheet
 sheet grid order found ending = record { grid = grid; order = order; found = found; ending = ending }
@@ -287,9 +296,56 @@ same_sheet a b g o f e =
     ∙ ap (λ (x : Option Drawing). sheet b.grid b.order x a.ending) f
     ∙ ap (λ (x : Ending). sheet b.grid b.order b.found x) e
 
+end_lines : Edition → Graph → Sheet → List SheetLine
+end_lines edition g s = found_lines edition g s.found ++ EndLine s.ending ∷ []
+
 pub one_sheet : (g : Graph) (needs_drawing : Bool) (text : List ℕ) (a b : Sheet) → IsTextOf g needs_drawing text a → IsTextOf g needs_drawing text b → a ≡ b
+unfolding end_lines
 one_sheet g needs_drawing text a b h k =
-    let same : sheet_lines g a ≡ sheet_lines g b = same_lines g [] (TitleDue needs_drawing) (sheet_lines g a) (sheet_lines g b) h.right k.right (sym h.spelled ∙ k.spelled) in
-    let first = first_lines Title (GridLine a.grid) (OrderLine a.order) Title (GridLine b.grid) (OrderLine b.order) (found_lines g a.found ++ EndLine a.ending ∷ []) (found_lines g b.found ++ EndLine b.ending ∷ []) same in
-    let end = same_end g a.found b.found a.ending b.ending h.draws_all k.draws_all first.2 in
-    same_sheet a b (same_grid a.grid b.grid first.0) (same_order a.order b.order first.1) end.found end.ending
+    let e = h.edition in
+    let f = k.edition in
+    let same : sheet_lines e g a ≡ sheet_lines f g b = same_lines g [] (TitleDue needs_drawing) (sheet_lines e g a) (sheet_lines f g b) h.right k.right (sym h.spelled ∙ k.spelled) in
+    let first = first_lines (Title e) (GridLine e a.grid) (OrderLine a.order) (Title f) (GridLine f b.grid) (OrderLine b.order) (end_lines e g a) (end_lines f g b) same in
+    let left : end_lines e g a ≡ end_lines e g b = first.3 ∙ ap (λ (o : Edition). end_lines o g b) (sym (same_edition e f first.0)) in
+    let end = same_end e g a.found b.found a.ending b.ending h.draws_all k.draws_all left in
+    same_sheet a b (same_grid e f a.grid b.grid first.1) (same_order a.order b.order first.2) end.found end.ending
+
+-- ---- exactly one answer
+
+one_fault_of : (g : Graph) (needs_drawing : Bool) (text : List ℕ) (e f : SheetFault) → IsSheetFault g needs_drawing text e → IsSheetFault g needs_drawing text f → e ≡ f
+one_fault_of g needs_drawing text (SheetHas what line) (SheetHas other at) h k =
+    ap (λ (w : SheetWhat). SheetHas w line) (one_kind g needs_drawing text what other line at h k) ∙ ap (λ (n : ℕ). SheetHas other n) (one_line g needs_drawing text what other line at h k)
+one_fault_of g needs_drawing text Memory f h k = absurd h
+one_fault_of g needs_drawing text (SheetHas what line) Memory h k = absurd k
+
+no_fault_of : (g : Graph) (needs_drawing : Bool) (text : List ℕ) (s : Sheet) (f : SheetFault) → IsTextOf g needs_drawing text s → IsSheetFault g needs_drawing text f → ⊥
+no_fault_of g needs_drawing text s (SheetHas what line) h k = sheet_or_fault g needs_drawing text s what line h k
+no_fault_of g needs_drawing text s Memory h k = k
+
+pub sheet_exactly : (g : Graph) (needs_drawing : Bool) (text : List ℕ) (result : Result Sheet SheetFault) → MatchResult result (IsTextOf g needs_drawing text) (λ fault. (fault ≡ Memory) ⊎ IsSheetFault g needs_drawing text fault) → AnswersExactly result Memory (IsTextOf g needs_drawing text) (IsSheetFault g needs_drawing text)
+sheet_exactly g needs_drawing text (Ok s) h = answers_exactly (Ok s) Memory (IsTextOf g needs_drawing text) (IsSheetFault g needs_drawing text) h tt (one_sheet g needs_drawing text) (one_fault_of g needs_drawing text) (no_fault_of g needs_drawing text)
+sheet_exactly g needs_drawing text (Err e) h = answers_exactly (Err e) Memory (IsTextOf g needs_drawing text) (IsSheetFault g needs_drawing text) tt h (one_sheet g needs_drawing text) (one_fault_of g needs_drawing text) (no_fault_of g needs_drawing text)
+
+pair : GridSize → Drawing → GridSize × Drawing
+pair grid d = (grid, d)
+
+same_pair : (p q : GridSize × Drawing) → p.0 ≡ q.0 → p.1 ≡ q.1 → p ≡ q
+unfolding pair
+same_pair p q e f = ap (λ (x : GridSize). pair x p.1) e ∙ ap (λ (x : Drawing). pair q.0 x) f
+
+some_once : (c d : Drawing) → Some c ≡ Some d → c ≡ d
+some_once c d e = cc
+
+one_drawing : (g : Graph) (text : List ℕ) (p q : GridSize × Drawing) → IsDrawingOf g text p.0 p.1 → IsDrawingOf g text q.0 q.1 → p ≡ q
+one_drawing g text p q h k =
+    let same = one_sheet g true text h.sheet k.sheet h.told k.told in
+    same_pair p q
+    (sym h.on_grid ∙ ap (λ (s : Sheet). s.grid) same ∙ k.on_grid)
+    (some_once p.1 q.1 (sym h.found ∙ ap (λ (s : Sheet). s.found) same ∙ k.found))
+
+no_fault_drawn : (g : Graph) (text : List ℕ) (p : GridSize × Drawing) (f : SheetFault) → IsDrawingOf g text p.0 p.1 → IsSheetFault g true text f → ⊥
+no_fault_drawn g text p f h k = no_fault_of g true text h.sheet f h.told k
+
+pub drawing_exactly : (g : Graph) (text : List ℕ) (result : Result (GridSize × Drawing) SheetFault) → MatchResult result (λ p. IsDrawingOf g text p.0 p.1) (λ fault. (fault ≡ Memory) ⊎ IsSheetFault g true text fault) → AnswersExactly result Memory (λ p. IsDrawingOf g text p.0 p.1) (IsSheetFault g true text)
+drawing_exactly g text (Ok p) h = answers_exactly (Ok p) Memory (λ q. IsDrawingOf g text q.0 q.1) (IsSheetFault g true text) h tt (one_drawing g text) (one_fault_of g true text) (no_fault_drawn g text)
+drawing_exactly g text (Err e) h = answers_exactly (Err e) Memory (λ q. IsDrawingOf g text q.0 q.1) (IsSheetFault g true text) tt h (one_drawing g text) (one_fault_of g true text) (no_fault_drawn g text)

@@ -9,6 +9,7 @@ use Rattle.plan_core.specs.declared.criterion.Criterion.{Criterion}
 use Rattle.plan_core.specs.Grid.{GridSize}
 use Rattle.plan_core.specs.Graph.{Graph}
 use Rattle.plan_core.specs.Drawing.{Drawing}
+use Rattle.plan_text.specs.declared.edition.Edition.TheVariants.{Second}
 use Rattle.plan_text.specs.declared.ending.Ending.{Ending}
 use Rattle.plan_text.specs.SheetLine.{SheetLine, Title, GridLine, OrderLine, EndLine, text_of}
 use Rattle.plan_text.specs.SheetText.{Sheet, found_lines, sheet_text}
@@ -52,10 +53,10 @@ abbrev sheet_of : GridSize → List Criterion → Option Drawing → Ending → 
 sheet_of grid order found ending = record { grid = grid; order = order; found = found; ending = ending }
 
 pub sheet_appended : (g : Graph) (s : Sheet) (grid : GridSize) (order : List Criterion) (found : Option Drawing) (ending : Ending) (old one two three four five : List ℕ) →
-    sheet_of grid order found ending ≡ s → one ≡ old ++ text_of Title → two ≡ one ++ text_of (GridLine grid) → three ≡ two ++ text_of (OrderLine order) → four ≡ three ++ texts (found_lines g s.found) → five ≡ four ++ text_of (EndLine ending) →
+    sheet_of grid order found ending ≡ s → one ≡ old ++ text_of (Title Second) → two ≡ one ++ text_of (GridLine Second grid) → three ≡ two ++ text_of (OrderLine order) → four ≡ three ++ texts (found_lines Second g s.found) → five ≡ four ++ text_of (EndLine ending) →
     five ≡ old ++ sheet_text g s
 sheet_appended g s grid order found ending old one two three four five is a b c d e =
-    let head : List SheetLine = Title ∷ GridLine grid ∷ OrderLine order ∷ [] in
-    let begun : three ≡ old ++ texts head = parts_appended (Title ∷ []) (GridLine grid ∷ []) (OrderLine order ∷ []) old one two three (line_appended Title old one a) (line_appended (GridLine grid) one two b) (line_appended (OrderLine order) two three c) in
-    parts_appended head (found_lines g s.found) (EndLine ending ∷ []) old three four five begun d (line_appended (EndLine ending) four five e)
-    ∙ ap (λ (t : Sheet). old ++ texts (Title ∷ GridLine t.grid ∷ OrderLine t.order ∷ (found_lines g s.found ++ EndLine t.ending ∷ []))) is
+    let head : List SheetLine = Title Second ∷ GridLine Second grid ∷ OrderLine order ∷ [] in
+    let begun : three ≡ old ++ texts head = parts_appended (Title Second ∷ []) (GridLine Second grid ∷ []) (OrderLine order ∷ []) old one two three (line_appended (Title Second) old one a) (line_appended (GridLine Second grid) one two b) (line_appended (OrderLine order) two three c) in
+    parts_appended head (found_lines Second g s.found) (EndLine ending ∷ []) old three four five begun d (line_appended (EndLine ending) four five e)
+    ∙ ap (λ (t : Sheet). old ++ texts (Title Second ∷ GridLine Second t.grid ∷ OrderLine t.order ∷ (found_lines Second g s.found ++ EndLine t.ending ∷ []))) is

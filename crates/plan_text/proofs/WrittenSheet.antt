@@ -6,32 +6,38 @@ use Rattle.std.specs.Option.{is_some}
 use Rattle.std.specs.Str.{IsUtf8, chars, encode_utf8_all}
 use Rattle.std.proofs.lemmas.Bool.{false≢true}
 use Rattle.std.proofs.lemmas.List.{append-nil}
-use Rattle.std.proofs.lemmas.List.Elements.{All-nil, All-cons, All-head, All-tail, All-append, All-map, All-weaker, All-from_get_or, recursion_from_All}
+use Rattle.std.proofs.lemmas.List.Elements.{All-nil, All-cons, All-head, All-tail, All-append, All-map, All-weaker, All-get_or, All-from_get_or, recursion_from_All}
 use Rattle.std.proofs.lemmas.List.Sums.{sum_by-le}
 use Rattle.std.proofs.lemmas.Str.{inside_one, encodes-chars}
 use Rattle.plan_core.specs.declared.point.Point.{Point}
 use Rattle.plan_core.specs.declared.criterion.Criterion.{Criterion}
-use Rattle.plan_core.specs.Topology.{IsIdCharacter, IsId}
+use Rattle.plan_core.specs.Topology.{IsIdCharacter, IsId, IsMileage}
 use Rattle.plan_core.specs.Grid.{GridSize, IsGrid}
 use Rattle.plan_core.specs.Order.{IsOrder}
 use Rattle.plan_core.specs.Line.{is_line, last_from, bends, diagonal}
-use Rattle.plan_core.specs.Graph.{Graph, node, edge}
+use Rattle.plan_core.specs.Graph.{Graph, Node, no_node, node, edge}
 use Rattle.plan_core.specs.Drawing.{Drawing, all_points}
 use Rattle.plan_core.specs.Laws.{IsOnGrid}
 use Rattle.plan_core.specs.Values.{values_of}
+use Rattle.plan_core.proofs.ListFacts.{all_front, all_back}
 use Rattle.plan_core.proofs.LineLemmas.{line_length}
 use Rattle.plan_core.proofs.LimitLemmas.{maximum-le, diagonal-le}
 use Rattle.plan_core.proofs.OrderLemmas.{few_criteria}
 use Rattle.port_graph.specs.StationGraph.{IsStationGraph}
+use Rattle.plan_text.specs.declared.edition.Edition.{Edition}
+use Rattle.plan_text.specs.declared.edition.Edition.TheVariants.{First, Second}
 use Rattle.plan_text.specs.declared.ending.Ending.{Ending}
 use Rattle.plan_text.specs.declared.ending.Ending.TheVariants.{Best, NoDrawing, Conflicts, Room}
-use Rattle.plan_text.specs.SheetLine.{SheetLine, NodesLine, NodeLine, EdgesLine, EdgeLine, ValuesLine, EndLine, coordinates, EndsField, IsName, IsSmall, AreSmall, IsSmallEnding, MayEnd}
-use Rattle.plan_text.specs.SheetText.{Sheet, StatesSettled, HasSizeOf, DrawsAll, DrawsOnGrid, drawing_lines, found_lines, sheet_text}
+use Rattle.plan_text.specs.SheetLine.{SheetLine, GridLine, NodesLine, NodeLine, EdgesLine, EdgeLine, ValuesLine, EndLine, coordinates, IsName, IsMileageText, IsSmall, AreSmall, IsSmallEnding, StandsForLeast, IsForm, MayEnd}
+use Rattle.plan_core.specs.Lawful.{HasSizeOf}
+use Rattle.plan_text.specs.SheetText.{Sheet, StatesSettled, DrawsAll, DrawsOnGrid, mileage_field, track_field, drawing_lines, found_lines, text_in}
 use Rattle.plan_text.specs.SheetFaults.{Due, TitleDue, BodyDue, EdgesDue, ValuesDue, EndDue, IsDue, node_due, edge_due, order_told, drawing_told, IsRight, AreRight, IsTextOf}
 use Rattle.plan_text.specs.SheetReading.{head_lines, placed_lines, drawn_lines}
-use Rattle.plan_text.proofs.ReadingLemmas.{right_append, node_due_at, edge_due_at, order_kept, drawing_grown}
+use Rattle.plan_text.proofs.ReadingLemmas.{right_append, mileage_told, track_told, node_due_at, edge_due_at, order_kept, drawing_grown}
 use Rattle.plan_text.proofs.SheetAgain.{parts_of, no_criteria, parts_tell, due_nodes, due_parts, head_order}
+use Rattle.plan_text.proofs.MileageLemmas.{written_mileage}
 use Rattle.plan_text.proofs.SheetLaws.{lines_are}
+use Rattle.line_text.specs.Fields.{EndsField}
 
 -- ---- names
 
@@ -63,17 +69,9 @@ id_is_name name id utf8 = record {
 
 -- ---- lists
 
-All-front : {X : Type 0} (P : X → Type 0) (xs ys : List X) → All P (xs ++ ys) → All P xs
-All-front P [] ys h = All-nil P
-All-front P (x ∷ xs) ys h = All-cons P x xs (All-head P x (xs ++ ys) h) (All-front P xs ys (All-tail P x (xs ++ ys) h))
-
-All-back : {X : Type 0} (P : X → Type 0) (xs ys : List X) → All P (xs ++ ys) → All P ys
-All-back P [] ys h = h
-All-back P (x ∷ xs) ys h = All-back P xs ys (All-tail P x (xs ++ ys) h)
-
 All-lists : {X : Type 0} (P : X → Type 0) (lists : List (List X)) → All P (flat_map (λ l. l) lists) → All (All P) lists
 All-lists P [] h = All-nil (All P)
-All-lists P (l ∷ lists) h = All-cons (All P) l lists (All-front P l (flat_map (λ l. l) lists) h) (All-lists P lists (All-back P l (flat_map (λ l. l) lists) h))
+All-lists P (l ∷ lists) h = All-cons (All P) l lists (all_front P l (flat_map (λ l. l) lists) h) (All-lists P lists (all_back P l (flat_map (λ l. l) lists) h))
 
 All-both : {X : Type 0} (P Q : X → Type 0) (xs : List X) → All P xs → All Q xs → All (λ x. P x × Q x) xs
 All-both P Q xs h k i d less = (h i d less, k i d less)
@@ -112,7 +110,7 @@ few_rows grid (a ∷ rest) is line on =
 small_values : (g : Graph) (grid : GridSize) (d : Drawing) → IsStationGraph g → IsGrid grid → HasSizeOf g d → All (IsOnGrid grid) (all_points d) → All (λ l. is_line l ≡ true) d.lines →
     AreSmall ((values_of d).height ∷ (values_of d).bends ∷ (values_of d).diagonal ∷ (values_of d).width ∷ [])
 small_values g grid d station is size on lines =
-    let on_lines : All (All (IsOnGrid grid)) d.lines = All-lists (IsOnGrid grid) d.lines (All-back (IsOnGrid grid) d.places (flat_map (λ l. l) d.lines) on) in
+    let on_lines : All (All (IsOnGrid grid)) d.lines = All-lists (IsOnGrid grid) d.lines (all_back (IsOnGrid grid) d.places (flat_map (λ l. l) d.lines) on) in
     let w = is.width_limit in
     let h = is.height_limit in
     let few = station.few_edges in
@@ -134,28 +132,39 @@ small_ending order is_drawn (Room n) is h = let few = few_criteria order is.each
 abbrev HasNames : Graph → Type 0
 HasNames g = (n : ℕ) → n < length g.nodes → IsName (node g n).name
 
-right_nodes : (g : Graph) (grid : GridSize) (before : List SheetLine) (k : ℕ) (places : List Point) → IsStationGraph g → HasNames g → IsGrid grid → k + length places ≤ length g.nodes → All (IsOnGrid grid) places → AreRight g before (node_due g k) (placed_lines g k places)
-right_nodes g grid before k [] station names is fits on = tt
-right_nodes g grid before k (p ∷ places) station names is fits on =
+abbrev HasTracks : Graph → Type 0
+HasTracks g = (e : ℕ) → e < length g.edges → IsName (edge g e).track
+
+mileage_form : (edition : Edition) (g : Graph) (n : ℕ) → IsMileage (node g n).mileage → IfSome (mileage_field edition g n) IsMileageText
+mileage_form First g n near = tt
+mileage_form Second g n near = written_mileage (node g n).mileage near
+
+track_form : (edition : Edition) (g : Graph) (e : ℕ) → IsName (edge g e).track → IfSome (track_field edition g e) IsName
+track_form First g e is = tt
+track_form Second g e is = is
+
+right_nodes : (edition : Edition) (g : Graph) (grid : GridSize) (before : List SheetLine) (k : ℕ) (places : List Point) → IsStationGraph g → HasNames g → IsGrid grid → k + length places ≤ length g.nodes → All (IsOnGrid grid) places → AreRight g before (node_due edition g k) (placed_lines edition g k places)
+right_nodes edition g grid before k [] station names is fits on = tt
+right_nodes edition g grid before k (p ∷ places) station names is fits on =
     let less : k < length g.nodes = omega (arith, fits) in
     let few = station.few_nodes in
     let small : IsSmall k = omega (arith, less, few) in
-    let line : SheetLine = NodeLine k (node g k).name p in
-    subst (λ (due : Due). AreRight g before due (placed_lines g k (p ∷ places))) (sym (node_due_at g k less)) (
+    let line : SheetLine = NodeLine k (node g k).name p (mileage_field edition g k) in
+    subst (λ (due : Due). AreRight g before due (placed_lines edition g k (p ∷ places))) (sym (node_due_at edition g k less)) (
       record {
-        is_due = tt;
-        form = (names k less, (small, small_point grid p is (All-head (IsOnGrid grid) p places on)));
+        is_due = mileage_told edition g k;
+        form = (names k less, (small, small_point grid p is (All-head (IsOnGrid grid) p places on)), mileage_form edition g k (All-get_or (λ (n : Node). IsMileage n.mileage) g.nodes k no_node less station.mileages));
         range = tt;
-        of_graph = (refl, refl);
+        of_graph = (refl, refl, refl);
         shape = tt;
         measured = tt;
       },
-      right_nodes g grid (before ++ line ∷ []) (k + 1) places station names is (omega (arith, fits)) (All-tail (IsOnGrid grid) p places on),
+      right_nodes edition g grid (before ++ line ∷ []) (k + 1) places station names is (omega (arith, fits)) (All-tail (IsOnGrid grid) p places on),
     )
 
-right_edges : (g : Graph) (grid : GridSize) (before : List SheetLine) (k : ℕ) (lines : List (List Point)) → IsStationGraph g → IsGrid grid → k + length lines ≤ length g.edges → All (λ l. is_line l ≡ true) lines → All (All (IsOnGrid grid)) lines → AreRight g before (edge_due g k) (drawn_lines g k lines)
-right_edges g grid before k [] station is fits are on = tt
-right_edges g grid before k (l ∷ lines) station is fits are on =
+right_edges : (edition : Edition) (g : Graph) (grid : GridSize) (before : List SheetLine) (k : ℕ) (lines : List (List Point)) → IsStationGraph g → HasTracks g → IsGrid grid → k + length lines ≤ length g.edges → All (λ l. is_line l ≡ true) lines → All (All (IsOnGrid grid)) lines → AreRight g before (edge_due edition g k) (drawn_lines edition g k lines)
+right_edges edition g grid before k [] station tracks is fits are on = tt
+right_edges edition g grid before k (l ∷ lines) station tracks is fits are on =
     let less : k < length g.edges = omega (arith, fits) in
     let edges = station.few_edges in
     let nodes = station.few_nodes in
@@ -165,84 +174,87 @@ right_edges g grid before k (l ∷ lines) station is fits are on =
     let east : IsSmall (edge g k).east = let there = ends.1 in omega (arith, there, nodes) in
     let shape = All-head (λ l. is_line l ≡ true) l lines are in
     let points = line_length l shape in
-    let line : SheetLine = EdgeLine k (edge g k).west (edge g k).east l in
-    subst (λ (due : Due). AreRight g before due (drawn_lines g k (l ∷ lines))) (sym (edge_due_at g k less)) (
+    let line : SheetLine = EdgeLine k (track_field edition g k) (edge g k).west (edge g k).east l in
+    subst (λ (due : Due). AreRight g before due (drawn_lines edition g k (l ∷ lines))) (sym (edge_due_at edition g k less)) (
       record {
-        is_due = tt;
-        form = (record { from = points.0; to = points.1 }, (small, (west, (east, small_points grid l is (All-head (All (IsOnGrid grid)) l lines on)))));
+        is_due = track_told edition g k;
+        form = (record { from = points.0; to = points.1 }, (small, (west, (east, small_points grid l is (All-head (All (IsOnGrid grid)) l lines on)))), track_form edition g k (tracks k less));
         range = tt;
-        of_graph = (refl, refl, refl);
+        of_graph = (refl, refl, refl, refl);
         shape = shape;
         measured = tt;
       },
-      right_edges g grid (before ++ line ∷ []) (k + 1) lines station is (omega (arith, fits)) (All-tail (λ l. is_line l ≡ true) l lines are) (All-tail (All (IsOnGrid grid)) l lines on),
+      right_edges edition g grid (before ++ line ∷ []) (k + 1) lines station tracks is (omega (arith, fits)) (All-tail (λ l. is_line l ≡ true) l lines are) (All-tail (All (IsOnGrid grid)) l lines on),
     )
 
-count_due : (needs_drawing : Bool) (n : ℕ) → IsDue (BodyDue needs_drawing) (NodesLine n)
-count_due true n = tt
-count_due false n = tt
+count_due : (edition : Edition) (needs_drawing : Bool) (n : ℕ) → IsDue (BodyDue edition needs_drawing) (NodesLine n)
+count_due edition true n = tt
+count_due edition false n = tt
 
 -- what is known of a drawing that a sheet has
 record IsDrawn (g : Graph) (grid : GridSize) (d : Drawing) : Type 0 where
   station : IsStationGraph g
   names : HasNames g
+  tracks : HasTracks g
   is_grid : IsGrid grid
   size : HasSizeOf g d
   on_grid : All (IsOnGrid grid) (all_points d)
   are_lines : All (λ l. is_line l ≡ true) d.lines
 
-right_parts : (g : Graph) (needs_drawing : Bool) (grid : GridSize) (d : Drawing) (before : List SheetLine) → IsDrawn g grid d → AreRight g before (BodyDue needs_drawing) (parts_of g d)
-right_parts g needs_drawing grid d before h =
+right_parts : (edition : Edition) (g : Graph) (needs_drawing : Bool) (grid : GridSize) (d : Drawing) (before : List SheetLine) → IsDrawn g grid d → AreRight g before (BodyDue edition needs_drawing) (parts_of edition g d)
+right_parts edition g needs_drawing grid d before h =
     let n = length g.nodes in
     let e = length g.edges in
     let few_nodes = h.station.few_nodes in
     let few_edges = h.station.few_edges in
     let places = h.size.places in
     let lines = h.size.lines in
-    let placed = placed_lines g 0 d.places in
+    let placed = placed_lines edition g 0 d.places in
     let counted = before ++ NodesLine n ∷ [] in
-    let edges : AreRight g (counted ++ placed) EdgesDue (EdgesLine e ∷ drawn_lines g 0 d.lines) = (
+    let edges : AreRight g (counted ++ placed) (EdgesDue edition) (EdgesLine e ∷ drawn_lines edition g 0 d.lines) = (
       record { is_due = tt; form = omega (arith, few_edges); range = tt; of_graph = refl; shape = tt; measured = tt },
-      right_edges g grid ((counted ++ placed) ++ EdgesLine e ∷ []) 0 d.lines h.station h.is_grid (omega (arith, lines)) h.are_lines (All-lists (IsOnGrid grid) d.lines (All-back (IsOnGrid grid) d.places (flat_map (λ l. l) d.lines) h.on_grid)),
+      right_edges edition g grid ((counted ++ placed) ++ EdgesLine e ∷ []) 0 d.lines h.station h.tracks h.is_grid (omega (arith, lines)) h.are_lines (All-lists (IsOnGrid grid) d.lines (all_back (IsOnGrid grid) d.places (flat_map (λ l. l) d.lines) h.on_grid)),
     ) in (
-      record { is_due = count_due needs_drawing n; form = omega (arith, few_nodes); range = tt; of_graph = refl; shape = tt; measured = tt },
-      right_append g counted (node_due g 0) placed (EdgesLine e ∷ drawn_lines g 0 d.lines)
-          (right_nodes g grid counted 0 d.places h.station h.names h.is_grid (omega (arith, places)) (All-front (IsOnGrid grid) d.places (flat_map (λ l. l) d.lines) h.on_grid))
-          (subst (λ (due : Due). AreRight g (counted ++ placed) due (EdgesLine e ∷ drawn_lines g 0 d.lines)) (sym (due_nodes g d.places places)) edges),
+      record { is_due = count_due edition needs_drawing n; form = omega (arith, few_nodes); range = tt; of_graph = refl; shape = tt; measured = tt },
+      right_append g counted (node_due edition g 0) placed (EdgesLine e ∷ drawn_lines edition g 0 d.lines)
+          (right_nodes edition g grid counted 0 d.places h.station h.names h.is_grid (omega (arith, places)) (all_front (IsOnGrid grid) d.places (flat_map (λ l. l) d.lines) h.on_grid))
+          (subst (λ (due : Due). AreRight g (counted ++ placed) due (EdgesLine e ∷ drawn_lines edition g 0 d.lines)) (sym (due_nodes edition g d.places places)) edges),
     )
 
 -- with its values and the ending
-right_drawn : (g : Graph) (needs_drawing : Bool) (grid : GridSize) (order : List Criterion) (d : Drawing) (e : Ending) → IsDrawn g grid d → IsOrder order → MayEnd true e → StatesSettled order true e → AreRight g (head_lines grid order) (BodyDue needs_drawing) (drawing_lines g d ++ EndLine e ∷ [])
-right_drawn g needs_drawing grid order d e h is may settled =
-    let head = head_lines grid order in
-    let parts = parts_of g d in
+right_drawn : (edition : Edition) (g : Graph) (needs_drawing : Bool) (grid : GridSize) (order : List Criterion) (d : Drawing) (e : Ending) → IsDrawn g grid d → IsOrder order → MayEnd true e → StatesSettled order true e → AreRight g (head_lines edition grid order) (BodyDue edition needs_drawing) (drawing_lines edition g d ++ EndLine e ∷ [])
+right_drawn edition g needs_drawing grid order d e h is may settled =
+    let head = head_lines edition grid order in
+    let parts = parts_of edition g d in
     let before = head ++ parts in
-    let told : drawing_told before ≡ d = drawing_grown head parts d refl (parts_tell g d) in
-    let ordered : order_told before ≡ order = order_kept head parts order (no_criteria g d) (head_order grid order) in
+    let told : drawing_told before ≡ d = drawing_grown head parts d refl (parts_tell edition g d) in
+    let ordered : order_told before ≡ order = order_kept head parts order (no_criteria edition g d) (head_order edition grid order) in
     let last : order_told (before ++ ValuesLine (values_of d) ∷ []) ≡ order = order_kept before (ValuesLine (values_of d) ∷ []) order refl ordered in
     let values : IsRight g before ValuesDue (ValuesLine (values_of d)) =
     record { is_due = tt; form = small_values g grid d h.station h.is_grid h.size h.on_grid h.are_lines; range = tt; of_graph = tt; shape = tt; measured = ap values_of (sym told) } in
     let end : IsRight g (before ++ ValuesLine (values_of d) ∷ []) EndDue (EndLine e) =
     record { is_due = may; form = small_ending order true e is settled; range = subst (λ (o : List Criterion). StatesSettled o true e) (sym last) settled; of_graph = tt; shape = tt; measured = tt } in
-    subst (λ (lines : List SheetLine). AreRight g head (BodyDue needs_drawing) lines) (sym (lines_are g d e h.size))
-    (right_append g head (BodyDue needs_drawing) parts (ValuesLine (values_of d) ∷ EndLine e ∷ []) (right_parts g needs_drawing grid d head h)
-    (subst (λ (due : Due). AreRight g before due (ValuesLine (values_of d) ∷ EndLine e ∷ [])) (sym (due_parts g d h.size)) (values, (end, tt))))
+    subst (λ (lines : List SheetLine). AreRight g head (BodyDue edition needs_drawing) lines) (sym (lines_are edition g d e h.size))
+    (right_append g head (BodyDue edition needs_drawing) parts (ValuesLine (values_of d) ∷ EndLine e ∷ []) (right_parts edition g needs_drawing grid d head h)
+    (subst (λ (due : Due). AreRight g before due (ValuesLine (values_of d) ∷ EndLine e ∷ [])) (sym (due_parts edition g d h.size)) (values, (end, tt))))
 
 -- ---- the whole sheet
 
-right_head : (g : Graph) (needs_drawing : Bool) (grid : GridSize) (order : List Criterion) → IsGrid grid → IsOrder order → AreRight g [] (TitleDue needs_drawing) (head_lines grid order)
-right_head g needs_drawing grid order is_grid is_order =
-    let w = is_grid.width_limit in
-    let h = is_grid.height_limit in (
-      record { is_due = tt; form = tt; range = tt; of_graph = tt; shape = tt; measured = tt },
-      (
-        record { is_due = tt; form = (omega (arith, w), (omega (arith, h), tt)); range = is_grid; of_graph = tt; shape = tt; measured = tt },
-        (
-          record { is_due = tt; form = record { from = is_order.some; to = few_criteria order is_order.each_once }; range = is_order; of_graph = tt; shape = tt; measured = tt },
-          tt,
-        ),
-      ),
-    )
+grid_form : (edition : Edition) (grid : GridSize) → IsGrid grid → StandsForLeast edition grid → IsForm (GridLine edition grid)
+grid_form First grid is stands = let w = is.width_limit in let h = is.height_limit in ((omega (arith, w), (omega (arith, h), tt)), stands)
+grid_form Second grid is stands = let w = is.width_limit in let h = is.height_limit in let l = is.least_limit in ((omega (arith, w), (omega (arith, h), (omega (arith, l), tt))), tt)
+
+right_head : (edition : Edition) (g : Graph) (needs_drawing : Bool) (grid : GridSize) (order : List Criterion) → IsGrid grid → StandsForLeast edition grid → IsOrder order → AreRight g [] (TitleDue needs_drawing) (head_lines edition grid order)
+right_head edition g needs_drawing grid order is_grid stands is_order = (
+  record { is_due = tt; form = tt; range = tt; of_graph = tt; shape = tt; measured = tt },
+  (
+    record { is_due = refl; form = grid_form edition grid is_grid stands; range = is_grid; of_graph = tt; shape = tt; measured = tt },
+    (
+      record { is_due = tt; form = record { from = is_order.some; to = few_criteria order is_order.each_once }; range = is_order; of_graph = tt; shape = tt; measured = tt },
+      tt,
+    ),
+  ),
+)
 
 -- what every sheet keeps
 pub record IsKept (s : Sheet) : Type 0 where
@@ -255,17 +267,18 @@ pub record IsKept (s : Sheet) : Type 0 where
 pub record IsWritable (g : Graph) (s : Sheet) : Type 0 where
   pub station : IsStationGraph g
   pub names : (n : ℕ) → n < length g.nodes → IsName (node g n).name
+  pub tracks : (e : ℕ) → e < length g.edges → IsName (edge g e).track
   pub kept : IsKept s
   pub draws_all : DrawsAll g s
   pub on_grid : DrawsOnGrid s
   pub settled : StatesSettled s.order (is_some s.found) s.ending
 
-right_undrawn : (g : Graph) (grid : GridSize) (order : List Criterion) (e : Ending) → IsOrder order → MayEnd false e → StatesSettled order false e → AreRight g (head_lines grid order) (BodyDue false) (EndLine e ∷ [])
-right_undrawn g grid order e is may settled = (
+right_undrawn : (edition : Edition) (g : Graph) (grid : GridSize) (order : List Criterion) (e : Ending) → IsOrder order → MayEnd false e → StatesSettled order false e → AreRight g (head_lines edition grid order) (BodyDue edition false) (EndLine e ∷ [])
+right_undrawn edition g grid order e is may settled = (
   record {
     is_due = may;
     form = small_ending order false e is settled;
-    range = subst (λ (o : List Criterion). StatesSettled o false e) (sym (head_order grid order)) settled;
+    range = subst (λ (o : List Criterion). StatesSettled o false e) (sym (head_order edition grid order)) settled;
     of_graph = tt;
     shape = tt;
     measured = tt;
@@ -273,21 +286,22 @@ right_undrawn g grid order e is may settled = (
   tt,
 )
 
-right_found : (g : Graph) (s : Sheet) (needs_drawing : Bool) → IsWritable g s → (needs_drawing ≡ true → is_some s.found ≡ true) → AreRight g (head_lines s.grid s.order) (BodyDue needs_drawing) (found_lines g s.found ++ EndLine s.ending ∷ [])
-right_found g s needs_drawing h drawn = by_case needs_drawing s.found drawn h.draws_all h.on_grid h.kept.are_lines h.kept.may_end h.settled
+right_found : (edition : Edition) (g : Graph) (s : Sheet) (needs_drawing : Bool) → IsWritable g s → (needs_drawing ≡ true → is_some s.found ≡ true) → AreRight g (head_lines edition s.grid s.order) (BodyDue edition needs_drawing) (found_lines edition g s.found ++ EndLine s.ending ∷ [])
+right_found edition g s needs_drawing h drawn = by_case needs_drawing s.found drawn h.draws_all h.on_grid h.kept.are_lines h.kept.may_end h.settled
   where
     by_case : (needs_drawing : Bool) (found : Option Drawing) → (needs_drawing ≡ true → is_some found ≡ true) → IfSome found (HasSizeOf g) → IfSome found (λ d. All (IsOnGrid s.grid) (all_points d)) → IfSome found (λ d. All (λ l. is_line l ≡ true) d.lines) →
-        MayEnd (is_some found) s.ending → StatesSettled s.order (is_some found) s.ending → AreRight g (head_lines s.grid s.order) (BodyDue needs_drawing) (found_lines g found ++ EndLine s.ending ∷ [])
+        MayEnd (is_some found) s.ending → StatesSettled s.order (is_some found) s.ending → AreRight g (head_lines edition s.grid s.order) (BodyDue edition needs_drawing) (found_lines edition g found ++ EndLine s.ending ∷ [])
     by_case true None drawn size on are may settled = absurd (false≢true (drawn refl))
-    by_case false None drawn size on are may settled = right_undrawn g s.grid s.order s.ending h.kept.is_order may settled
+    by_case false None drawn size on are may settled = right_undrawn edition g s.grid s.order s.ending h.kept.is_order may settled
     by_case needs_drawing (Some d) drawn size on are may settled =
-        right_drawn g needs_drawing s.grid s.order d s.ending
-        (record { station = h.station; names = h.names; is_grid = h.kept.is_grid; size = size; on_grid = on; are_lines = are })
+        right_drawn edition g needs_drawing s.grid s.order d s.ending
+        (record { station = h.station; names = h.names; tracks = h.tracks; is_grid = h.kept.is_grid; size = size; on_grid = on; are_lines = are })
         h.kept.is_order may settled
 
-pub written : (g : Graph) (s : Sheet) (needs_drawing : Bool) → IsWritable g s → (needs_drawing ≡ true → is_some s.found ≡ true) → IsTextOf g needs_drawing (sheet_text g s) s
-written g s needs_drawing h drawn = record {
+pub written : (edition : Edition) (g : Graph) (s : Sheet) (needs_drawing : Bool) → StandsForLeast edition s.grid → IsWritable g s → (needs_drawing ≡ true → is_some s.found ≡ true) → IsTextOf g needs_drawing (text_in edition g s) s
+written edition g s needs_drawing stands h drawn = record {
+  edition = edition;
   draws_all = h.draws_all;
-  right = right_append g [] (TitleDue needs_drawing) (head_lines s.grid s.order) (found_lines g s.found ++ EndLine s.ending ∷ []) (right_head g needs_drawing s.grid s.order h.kept.is_grid h.kept.is_order) (right_found g s needs_drawing h drawn);
+  right = right_append g [] (TitleDue needs_drawing) (head_lines edition s.grid s.order) (found_lines edition g s.found ++ EndLine s.ending ∷ []) (right_head edition g needs_drawing s.grid s.order h.kept.is_grid stands h.kept.is_order) (right_found edition g s needs_drawing h drawn);
   spelled = refl;
 }

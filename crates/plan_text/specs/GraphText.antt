@@ -8,7 +8,7 @@ use Rattle.plan_core.specs.declared.sides.Side.{Side}
 use Rattle.plan_core.specs.declared.sides.Side.TheVariants.{Upper, Lower}
 use Rattle.plan_core.specs.Graph.{Graph, Ports, End, Joint, Switch, Crossing, node, edge}
 use Rattle.rail_mileage.specs.MetresText.{metres_text}
-use Rattle.plan_text.specs.Fields.{line_text}
+use Rattle.line_text.specs.Fields.{line_text}
 
 abbrev pub compass_word : Compass → List ℕ
 compass_word East = codes "east"

@@ -1,6 +1,6 @@
-pub mod Fields
 pub mod GraphText
 pub mod SheetLine
 pub mod SheetText
 pub mod SheetFaults
+pub mod SheetWhats
 pub mod SheetReading

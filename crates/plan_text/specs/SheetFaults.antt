@@ -1,5 +1,6 @@
 -- Which sheet a text is, and which fault it has.
-use Rattle.std.specs.Prelude.{◌≡◌, ◌≢◌, ℕ, ◌+◌, ⊤, Bool, true, false, if◌then◌else◌, nat_lt, List, [], ◌∷◌, ◌++◌, Some, length, flat_map}
+use Rattle.std.specs.Prelude.{◌≡◌, ◌≢◌, ℕ, ◌+◌, ⊤, Bool, true, false, if◌then◌else◌, nat_lt, List, [], ◌∷◌, ◌++◌, None, Some, length, flat_map}
+use Rattle.std.specs.declared.option.Option.{Option}
 use Rattle.plan_core.specs.declared.point.Point.{Point}
 use Rattle.plan_core.specs.declared.criterion.Criterion.{Criterion}
 use Rattle.plan_core.specs.Grid.{GridSize, IsGrid}
@@ -8,47 +9,51 @@ use Rattle.plan_core.specs.Line.{is_line}
 use Rattle.plan_core.specs.Graph.{Graph, node, edge}
 use Rattle.plan_core.specs.Drawing.{Drawing, drawing}
 use Rattle.plan_core.specs.Values.{values_of}
+use Rattle.plan_text.specs.declared.edition.Edition.{Edition}
+use Rattle.plan_text.specs.declared.edition.Edition.TheVariants.{First, Second}
 use Rattle.plan_text.specs.declared.sheet_fault.SheetWhat.{SheetWhat}
 use Rattle.plan_text.specs.declared.sheet_fault.SheetWhat.TheVariants as whats
 use Rattle.plan_text.specs.declared.sheet_fault.SheetFault.{SheetFault}
 use Rattle.plan_text.specs.declared.sheet_fault.SheetFault.TheVariants.{Sheet as SheetHas, Memory}
 use Rattle.plan_text.specs.SheetLine.{SheetLine, Title, GridLine, OrderLine, NodesLine, NodeLine, EdgesLine, EdgeLine, ValuesLine, EndLine, text_of, IsForm, MayEnd}
-use Rattle.plan_text.specs.SheetText.{Sheet, StatesSettled, DrawsAll, sheet_lines, sheet_text}
+use Rattle.plan_text.specs.SheetText.{Sheet, StatesSettled, DrawsAll, mileage_field, track_field, sheet_lines, text_in}
 
 -- ---- which line is due
 
--- the kind of line that is due, and its number where it has one. needs_drawing says that a sheet without a
+-- the kind of line that is due, and its number where it has one. The title says which edition the lines behind
+-- it are of, as long as the editions' lines differ. needs_drawing says that a sheet without a
 -- drawing isn't taken. Behind the order comes the body: the count of nodes, with which a drawing begins, or
 -- the ending of a sheet without one. Behind the ending comes no line
 pub data Due : Type 0 where
   TitleDue : (needs_drawing : Bool) → Due
-  GridDue : (needs_drawing : Bool) → Due
-  OrderDue : (needs_drawing : Bool) → Due
-  BodyDue : (needs_drawing : Bool) → Due
-  NodeDue : (number : ℕ) → Due
-  EdgesDue : Due
-  EdgeDue : (number : ℕ) → Due
+  GridDue : (edition : Edition) (needs_drawing : Bool) → Due
+  OrderDue : (edition : Edition) (needs_drawing : Bool) → Due
+  BodyDue : (edition : Edition) (needs_drawing : Bool) → Due
+  NodeDue : (edition : Edition) (number : ℕ) → Due
+  EdgesDue : (edition : Edition) → Due
+  EdgeDue : (edition : Edition) (number : ℕ) → Due
   ValuesDue : Due
   EndDue : Due
   NoneDue : Due
 
 -- the line of the next node, if there is one, or else the count of edges
-abbrev pub node_due : Graph → ℕ → Due
-node_due g n = (if nat_lt n (length g.nodes) then NodeDue n else EdgesDue)
+abbrev pub node_due : Edition → Graph → ℕ → Due
+node_due edition g n = (if nat_lt n (length g.nodes) then NodeDue edition n else EdgesDue edition)
 
-abbrev pub edge_due : Graph → ℕ → Due
-edge_due g e = (if nat_lt e (length g.edges) then EdgeDue e else ValuesDue)
+abbrev pub edge_due : Edition → Graph → ℕ → Due
+edge_due edition g e = (if nat_lt e (length g.edges) then EdgeDue edition e else ValuesDue)
 
 -- what is due behind a line of the kind that was due
 abbrev pub due_behind : Graph → Due → SheetLine → Due
-due_behind g (TitleDue needs_drawing) line = GridDue needs_drawing
-due_behind g (GridDue needs_drawing) line = OrderDue needs_drawing
-due_behind g (OrderDue needs_drawing) line = BodyDue needs_drawing
-due_behind g (BodyDue needs_drawing) (NodesLine count) = node_due g 0
-due_behind g (BodyDue needs_drawing) line = NoneDue
-due_behind g (NodeDue n) line = node_due g (n + 1)
-due_behind g EdgesDue line = edge_due g 0
-due_behind g (EdgeDue e) line = edge_due g (e + 1)
+due_behind g (TitleDue needs_drawing) (Title edition) = GridDue edition needs_drawing
+due_behind g (TitleDue needs_drawing) line = NoneDue
+due_behind g (GridDue edition needs_drawing) line = OrderDue edition needs_drawing
+due_behind g (OrderDue edition needs_drawing) line = BodyDue edition needs_drawing
+due_behind g (BodyDue edition needs_drawing) (NodesLine count) = node_due edition g 0
+due_behind g (BodyDue edition needs_drawing) line = NoneDue
+due_behind g (NodeDue edition n) line = node_due edition g (n + 1)
+due_behind g (EdgesDue edition) line = edge_due edition g 0
+due_behind g (EdgeDue edition e) line = edge_due edition g (e + 1)
 due_behind g ValuesDue line = EndDue
 due_behind g EndDue line = NoneDue
 due_behind g NoneDue line = NoneDue
@@ -58,16 +63,23 @@ abbrev pub due_after : Graph → Due → List SheetLine → Due
 due_after g due [] = due
 due_after g due (line ∷ lines) = due_after g (due_behind g due line) lines
 
+-- the edition tells the field, or it isn't told
+abbrev pub IsToldIn : Edition → Option (List ℕ) → Type 0
+IsToldIn First None = ⊤
+IsToldIn First (Some field) = ⊥
+IsToldIn Second None = ⊥
+IsToldIn Second (Some field) = ⊤
+
 -- the line is of the kind that is due
 abbrev pub IsDue : Due → SheetLine → Type 0
-IsDue (TitleDue needs_drawing) Title = ⊤
-IsDue (GridDue needs_drawing) (GridLine grid) = ⊤
-IsDue (OrderDue needs_drawing) (OrderLine order) = ⊤
-IsDue (BodyDue needs_drawing) (NodesLine count) = ⊤
-IsDue (BodyDue false) (EndLine ending) = MayEnd false ending
-IsDue (NodeDue n) (NodeLine number name place) = ⊤
-IsDue EdgesDue (EdgesLine count) = ⊤
-IsDue (EdgeDue e) (EdgeLine number west east points) = ⊤
+IsDue (TitleDue needs_drawing) (Title edition) = ⊤
+IsDue (GridDue edition needs_drawing) (GridLine other grid) = other ≡ edition
+IsDue (OrderDue edition needs_drawing) (OrderLine order) = ⊤
+IsDue (BodyDue edition needs_drawing) (NodesLine count) = ⊤
+IsDue (BodyDue edition false) (EndLine ending) = MayEnd false ending
+IsDue (NodeDue edition n) (NodeLine number name place mileage) = IsToldIn edition mileage
+IsDue (EdgesDue edition) (EdgesLine count) = ⊤
+IsDue (EdgeDue edition e) (EdgeLine number track west east points) = IsToldIn edition track
 IsDue ValuesDue (ValuesLine values) = ⊤
 IsDue EndDue (EndLine ending) = MayEnd true ending
 IsDue due line = ⊥
@@ -80,11 +92,11 @@ criteria_told (OrderLine order) = order
 criteria_told line = []
 
 abbrev pub place_told : SheetLine → List Point
-place_told (NodeLine number name place) = place ∷ []
+place_told (NodeLine number name place mileage) = place ∷ []
 place_told line = []
 
 abbrev pub line_told : SheetLine → List (List Point)
-line_told (EdgeLine number west east points) = points ∷ []
+line_told (EdgeLine number track west east points) = points ∷ []
 line_told line = []
 
 abbrev pub order_told : List SheetLine → List Criterion
@@ -93,25 +105,25 @@ order_told lines = flat_map criteria_told lines
 abbrev pub drawing_told : List SheetLine → Drawing
 drawing_told lines = drawing (flat_map place_told lines) (flat_map line_told lines)
 
--- width and height are a grid, the criteria an order, and no more criteria are settled than may be
+-- width, height and least length are a grid, the criteria an order, and no more criteria are settled than may be
 abbrev pub IsInRange : List SheetLine → Due → SheetLine → Type 0
-IsInRange before due (GridLine grid) = IsGrid grid
+IsInRange before due (GridLine edition grid) = IsGrid grid
 IsInRange before due (OrderLine order) = IsOrder order
 IsInRange before EndDue (EndLine ending) = StatesSettled (order_told before) true ending
 IsInRange before due (EndLine ending) = StatesSettled (order_told before) false ending
 IsInRange before due line = ⊤
 
--- the counts, a node's number and name, and an edge's number and ends are the graph's
+-- the counts, a node's number, name and mileage, and an edge's number, track and ends are the graph's
 abbrev pub IsOfGraph : Graph → Due → SheetLine → Type 0
 IsOfGraph g due (NodesLine count) = count ≡ length g.nodes
-IsOfGraph g (NodeDue n) (NodeLine number name place) = (number ≡ n) × (name ≡ (node g n).name)
+IsOfGraph g (NodeDue edition n) (NodeLine number name place mileage) = (number ≡ n) × (name ≡ (node g n).name) × (mileage ≡ mileage_field edition g n)
 IsOfGraph g due (EdgesLine count) = count ≡ length g.edges
-IsOfGraph g (EdgeDue e) (EdgeLine number west east points) = (number ≡ e) × (west ≡ (edge g e).west) × (east ≡ (edge g e).east)
+IsOfGraph g (EdgeDue edition e) (EdgeLine number track west east points) = (number ≡ e) × (track ≡ track_field edition g e) × (west ≡ (edge g e).west) × (east ≡ (edge g e).east)
 IsOfGraph g due line = ⊤
 
 -- an edge's points are a line
 abbrev pub HasShape : SheetLine → Type 0
-HasShape (EdgeLine number west east points) = is_line points ≡ true
+HasShape (EdgeLine number track west east points) = is_line points ≡ true
 HasShape line = ⊤
 
 -- the values are those of the drawing that the lines before tell
@@ -136,12 +148,12 @@ IsMisformed due text = (line : SheetLine) → BeginsWith due text line → ⊥
 
 -- the first line of the text has this fault, and none with a lower number: form, range, graph, shape,
 -- values. Where its form is right, only an edge's line can have two, of which the graph's comes first
-abbrev pub HasFault : Graph → List SheetLine → Due → List ℕ → SheetWhat → Type 0
-HasFault g before due text whats.Form = IsMisformed due text
-HasFault g before due text whats.Range = (line : SheetLine) × BeginsWith due text line × (IsInRange before due line → ⊥)
-HasFault g before due text whats.Graph = (line : SheetLine) × BeginsWith due text line × (IsOfGraph g due line → ⊥)
-HasFault g before due text whats.Shape = (line : SheetLine) × BeginsWith due text line × IsOfGraph g due line × (HasShape line → ⊥)
-HasFault g before due text whats.Values = (line : SheetLine) × BeginsWith due text line × (IsMeasured before line → ⊥)
+abbrev pub HasWrongLine : Graph → List SheetLine → Due → List ℕ → SheetWhat → Type 0
+HasWrongLine g before due text whats.Form = IsMisformed due text
+HasWrongLine g before due text whats.Range = (line : SheetLine) × BeginsWith due text line × (IsInRange before due line → ⊥)
+HasWrongLine g before due text whats.Graph = (line : SheetLine) × BeginsWith due text line × (IsOfGraph g due line → ⊥)
+HasWrongLine g before due text whats.Shape = (line : SheetLine) × BeginsWith due text line × IsOfGraph g due line × (HasShape line → ⊥)
+HasWrongLine g before due text whats.Values = (line : SheetLine) × BeginsWith due text line × (IsMeasured before line → ⊥)
 
 -- the line is due after the lines before, and has no fault
 pub record IsRight (g : Graph) (before : List SheetLine) (due : Due) (line : SheetLine) : Type 0 where
@@ -158,20 +170,21 @@ AreRight g before due [] = ⊤
 AreRight g before due (line ∷ lines) = IsRight g before due line × AreRight g (before ++ line ∷ []) (due_behind g due line) lines
 
 -- the first line of the text that has a fault has this one, and this number, counted from 1
-pub record IsFirstFault (g : Graph) (needs_drawing : Bool) (text : List ℕ) (what : SheetWhat) (number : ℕ) : Type 0 where
+pub record HasSheetFault (g : Graph) (needs_drawing : Bool) (text : List ℕ) (what : SheetWhat) (number : ℕ) : Type 0 where
   pub before : List SheetLine
   pub right : AreRight g [] (TitleDue needs_drawing) before
   pub rest : List ℕ
   pub spelled : text ≡ flat_map text_of before ++ rest
   pub counted : number ≡ length before + 1
-  pub fault : HasFault g before (due_after g (TitleDue needs_drawing) before) rest what
+  pub fault : HasWrongLine g before (due_after g (TitleDue needs_drawing) before) rest what
 
--- the text is that of the sheet, and each of its lines is right. The points needn't lie on the sheet's grid:
+-- the text is that of the sheet, of this edition, and each of its lines is right. The points needn't lie on the sheet's grid:
 -- where one doesn't, the drawing breaks a law
 pub record IsTextOf (g : Graph) (needs_drawing : Bool) (text : List ℕ) (s : Sheet) : Type 0 where
+  pub edition : Edition
   pub draws_all : DrawsAll g s
-  pub right : AreRight g [] (TitleDue needs_drawing) (sheet_lines g s)
-  pub spelled : text ≡ sheet_text g s
+  pub right : AreRight g [] (TitleDue needs_drawing) (sheet_lines edition g s)
+  pub spelled : text ≡ text_in edition g s
 
 -- the text is that of a sheet with this drawing on this grid
 pub record IsDrawingOf (g : Graph) (text : List ℕ) (grid : GridSize) (d : Drawing) : Type 0 where
@@ -180,7 +193,7 @@ pub record IsDrawingOf (g : Graph) (text : List ℕ) (grid : GridSize) (d : Draw
   pub found : sheet.found ≡ Some d
   pub told : IsTextOf g true text sheet
 
--- the fault is the first of the text, or want of memory
-abbrev pub IsFaultOf : Graph → (needs_drawing : Bool) → List ℕ → SheetFault → Type 0
-IsFaultOf g needs_drawing text (SheetHas what line) = IsFirstFault g needs_drawing text what line
-IsFaultOf g needs_drawing text Memory = ⊤
+-- the fault is the first of the text; want of memory is none of its faults
+abbrev pub IsSheetFault : Graph → (needs_drawing : Bool) → List ℕ → SheetFault → Type 0
+IsSheetFault g needs_drawing text (SheetHas what line) = HasSheetFault g needs_drawing text what line
+IsSheetFault g needs_drawing text Memory = ⊥

@@ -1,39 +1,50 @@
 -- The lines of a sheet: what each says, its fields, and its text.
-use Rattle.std.specs.Prelude.{◌≡◌, ◌⊎◌, ℕ, ◌≤◌, ⊤, Bool, true, false, List, [], ◌∷◌, codes, map, length, flat_map}
+use Rattle.std.specs.Prelude.{◌≡◌, ℕ, ◌≤◌, ⊤, Bool, true, false, List, [], ◌∷◌, ◌++◌, None, Some, IfSome, codes, map, length, get_or, flat_map}
+use Rattle.std.specs.declared.option.Option.{Option}
 use Rattle.std.specs.List.{AllByRecursion}
 use Rattle.std.specs.Fmt.{decimal}
 use Rattle.plan_core.specs.declared.point.Point.{Point}
 use Rattle.plan_core.specs.declared.criterion.Values.{Values}
 use Rattle.plan_core.specs.declared.criterion.Criterion.{Criterion}
-use Rattle.plan_core.specs.declared.criterion.Criterion.TheVariants.{Height, Bends, Diagonal, Width}
 use Rattle.plan_core.specs.Grid.{GridSize}
+use Rattle.line_text.specs.Fields.{line_text, IsOneField}
+use Rattle.line_text.specs.Criteria.{criterion_word}
+use Rattle.rail_mileage.specs.Metres.{is_digit}
+use Rattle.plan_text.specs.declared.edition.Edition.{Edition}
+use Rattle.plan_text.specs.declared.edition.Edition.TheVariants.{First, Second}
 use Rattle.plan_text.specs.declared.ending.Ending.{Ending}
 use Rattle.plan_text.specs.declared.ending.Ending.TheVariants.{Best, NoDrawing, Conflicts, Room}
-use Rattle.plan_text.specs.Fields.{line_text}
 
 -- the title, the grid, the order of criteria, how many nodes there are, a node, how many edges there are, an
--- edge, the values, and the ending
+-- edge, the values, and the ending. A node's mileage and an edge's track are told in the second edition alone
 pub data SheetLine : Type 0 where
-  Title : SheetLine
-  GridLine : (grid : GridSize) → SheetLine
+  Title : (edition : Edition) → SheetLine
+  GridLine : (edition : Edition) (grid : GridSize) → SheetLine
   OrderLine : (order : List Criterion) → SheetLine
   NodesLine : (count : ℕ) → SheetLine
-  NodeLine : (number : ℕ) (name : List ℕ) (place : Point) → SheetLine
+  NodeLine : (number : ℕ) (name : List ℕ) (place : Point) (mileage : Option (List ℕ)) → SheetLine
   EdgesLine : (count : ℕ) → SheetLine
-  EdgeLine : (number west east : ℕ) (points : List Point) → SheetLine
+  EdgeLine : (number : ℕ) (track : Option (List ℕ)) (west east : ℕ) (points : List Point) → SheetLine
   ValuesLine : (values : Values) → SheetLine
   EndLine : (ending : Ending) → SheetLine
 
 -- ---- the text of a line
 
-abbrev pub criterion_word : Criterion → List ℕ
-criterion_word Height = codes "height"
-criterion_word Bends = codes "bends"
-criterion_word Diagonal = codes "diagonal"
-criterion_word Width = codes "width"
+abbrev pub edition_number : Edition → List ℕ
+edition_number First = codes "1"
+edition_number Second = codes "2"
+
+abbrev pub grid_numbers : Edition → GridSize → List ℕ
+grid_numbers First grid = grid.width ∷ grid.height ∷ []
+grid_numbers Second grid = grid.width ∷ grid.height ∷ grid.least ∷ []
 
 abbrev pub coordinates : Point → List ℕ
 coordinates p = p.x ∷ p.y ∷ []
+
+-- the field, where it is told
+abbrev pub field_told : Option (List ℕ) → List (List ℕ)
+field_told None = []
+field_told (Some field) = field ∷ []
 
 abbrev pub ending_fields : Ending → List (List ℕ)
 ending_fields Best = codes "best" ∷ []
@@ -43,25 +54,25 @@ ending_fields (Room settled) = codes "room" ∷ decimal settled ∷ []
 
 -- its first field
 abbrev pub word_of : SheetLine → List ℕ
-word_of Title = codes "railplan"
-word_of (GridLine grid) = codes "grid"
+word_of (Title edition) = codes "railplan"
+word_of (GridLine edition grid) = codes "grid"
 word_of (OrderLine order) = codes "order"
 word_of (NodesLine count) = codes "nodes"
-word_of (NodeLine number name place) = codes "node"
+word_of (NodeLine number name place mileage) = codes "node"
 word_of (EdgesLine count) = codes "edges"
-word_of (EdgeLine number west east points) = codes "edge"
+word_of (EdgeLine number track west east points) = codes "edge"
 word_of (ValuesLine values) = codes "values"
 word_of (EndLine ending) = codes "end"
 
 -- its other fields
 abbrev pub fields_of : SheetLine → List (List ℕ)
-fields_of Title = codes "1" ∷ []
-fields_of (GridLine grid) = decimal grid.width ∷ decimal grid.height ∷ []
+fields_of (Title edition) = edition_number edition ∷ []
+fields_of (GridLine edition grid) = map decimal (grid_numbers edition grid)
 fields_of (OrderLine order) = map criterion_word order
 fields_of (NodesLine count) = decimal count ∷ []
-fields_of (NodeLine number name place) = decimal number ∷ name ∷ map decimal (coordinates place)
+fields_of (NodeLine number name place mileage) = decimal number ∷ name ∷ decimal place.x ∷ decimal place.y ∷ field_told mileage
 fields_of (EdgesLine count) = decimal count ∷ []
-fields_of (EdgeLine number west east points) = map decimal (number ∷ west ∷ east ∷ flat_map coordinates points)
+fields_of (EdgeLine number track west east points) = decimal number ∷ (field_told track ++ map decimal (west ∷ east ∷ flat_map coordinates points))
 fields_of (ValuesLine values) = map decimal (values.height ∷ values.bends ∷ values.diagonal ∷ values.width ∷ [])
 fields_of (EndLine ending) = ending_fields ending
 
@@ -77,17 +88,43 @@ IsSmall n = n ≤ 65535
 abbrev pub AreSmall : List ℕ → Type 0
 AreSmall numbers = AllByRecursion IsSmall numbers
 
--- a space or a line feed, before which a field ends
-abbrev pub EndsField : ℕ → Type 0
-EndsField b = (b ≡ 32) ⊎ (b ≡ 10)
-
--- no byte of it ends a field
-abbrev pub IsOneField : List ℕ → Type 0
-IsOneField text = AllByRecursion (λ b. EndsField b → ⊥) text
-
 pub record IsName (name : List ℕ) : Type 0 where
   pub some : 1 ≤ length name
   pub one : IsOneField name
+
+abbrev pub AreDigits : List ℕ → Type 0
+AreDigits bytes = AllByRecursion (λ b. is_digit b ≡ true) bytes
+
+-- whole metres: a number of at most ten digits, with a zero in front only where it is 0
+pub record IsWhole (digits : List ℕ) : Type 0 where
+  pub are_digits : AreDigits digits
+  pub some : 1 ≤ length digits
+  pub few : length digits ≤ 10
+  pub no_zero : get_or digits 0 0 ≡ 48 → length digits ≡ 1
+
+-- six digits behind the point
+pub record IsFraction (digits : List ℕ) : Type 0 where
+  pub are_digits : AreDigits digits
+  pub six : length digits ≡ 6
+
+-- whole metres, a point and six digits
+pub record IsSize (text : List ℕ) : Type 0 where
+  pub whole : List ℕ
+  pub fraction : List ℕ
+  pub is_whole : IsWhole whole
+  pub is_fraction : IsFraction fraction
+  pub spelled : text ≡ whole ++ 46 ∷ fraction
+
+abbrev pub sign_text : (is_negative : Bool) → List ℕ
+sign_text true = codes "-"
+sign_text false = []
+
+-- metres as a sheet may tell them, which needn't be those of a node
+pub record IsMileageText (text : List ℕ) : Type 0 where
+  pub is_negative : Bool
+  pub size : List ℕ
+  pub is_size : IsSize size
+  pub spelled : text ≡ sign_text is_negative ++ size
 
 -- there are from so many to so many
 pub record IsBetween (least most count : ℕ) : Type 0 where
@@ -100,16 +137,21 @@ IsSmallEnding NoDrawing = ⊤
 IsSmallEnding (Conflicts settled) = IsSmall settled
 IsSmallEnding (Room settled) = IsSmall settled
 
--- there are as many fields as there may be, no number is above 65,535, and a name is one field of a byte
--- or more
+-- the first edition tells no least length, and stands for 1
+abbrev pub StandsForLeast : Edition → GridSize → Type 0
+StandsForLeast First grid = grid.least ≡ 1
+StandsForLeast Second grid = ⊤
+
+-- there are as many fields as there may be, no number is above 65,535, a name is one field of a byte or more,
+-- and a mileage has its own form
 abbrev pub IsForm : SheetLine → Type 0
-IsForm Title = ⊤
-IsForm (GridLine grid) = AreSmall (grid.width ∷ grid.height ∷ [])
+IsForm (Title edition) = ⊤
+IsForm (GridLine edition grid) = AreSmall (grid_numbers edition grid) × StandsForLeast edition grid
 IsForm (OrderLine order) = IsBetween 1 4 (length order)
 IsForm (NodesLine count) = IsSmall count
-IsForm (NodeLine number name place) = IsName name × AreSmall (number ∷ coordinates place)
+IsForm (NodeLine number name place mileage) = IsName name × AreSmall (number ∷ coordinates place) × IfSome mileage IsMileageText
 IsForm (EdgesLine count) = IsSmall count
-IsForm (EdgeLine number west east points) = IsBetween 2 4 (length points) × AreSmall (number ∷ west ∷ east ∷ flat_map coordinates points)
+IsForm (EdgeLine number track west east points) = IsBetween 2 4 (length points) × AreSmall (number ∷ west ∷ east ∷ flat_map coordinates points) × IfSome track IsName
 IsForm (ValuesLine values) = AreSmall (values.height ∷ values.bends ∷ values.diagonal ∷ values.width ∷ [])
 IsForm (EndLine ending) = IsSmallEnding ending
 

@@ -7,7 +7,11 @@ use Rattle.plan_core.specs.Grid.{GridSize}
 use Rattle.plan_core.specs.Graph.{Graph, node, edge}
 use Rattle.plan_core.specs.Drawing.{Drawing, place, line, all_points}
 use Rattle.plan_core.specs.Laws.{IsOnGrid}
+use Rattle.plan_core.specs.Lawful.{HasSizeOf}
 use Rattle.plan_core.specs.Values.{values_of}
+use Rattle.rail_mileage.specs.MetresText.{metres_text}
+use Rattle.plan_text.specs.declared.edition.Edition.{Edition}
+use Rattle.plan_text.specs.declared.edition.Edition.TheVariants.{First, Second}
 use Rattle.plan_text.specs.declared.ending.Ending.{Ending}
 use Rattle.plan_text.specs.declared.ending.Ending.TheVariants.{Best, NoDrawing, Conflicts, Room}
 use Rattle.plan_text.specs.SheetLine.{SheetLine, Title, GridLine, OrderLine, NodesLine, NodeLine, EdgesLine, EdgeLine, ValuesLine, EndLine, text_of}
@@ -33,11 +37,7 @@ StatesSettled order is_drawn NoDrawing = ⊤
 StatesSettled order is_drawn (Conflicts settled) = MayBeSettled order is_drawn settled
 StatesSettled order is_drawn (Room settled) = MayBeSettled order is_drawn settled
 
--- a drawing with a point for each node of the graph and a line for each edge
-pub record HasSizeOf (g : Graph) (d : Drawing) : Type 0 where
-  pub places : length d.places ≡ length g.nodes
-  pub lines : length d.lines ≡ length g.edges
-
+-- a drawing in the sheet has a point for each node of the graph and a line for each edge
 abbrev pub DrawsAll : Graph → Sheet → Type 0
 DrawsAll g s = IfSome s.found (HasSizeOf g)
 
@@ -47,33 +47,50 @@ DrawsOnGrid s = IfSome s.found (λ d. All (IsOnGrid s.grid) (all_points d))
 
 -- ---- the text
 
-abbrev pub node_line : Graph → Drawing → ℕ → SheetLine
-node_line g d n = NodeLine n (node g n).name (place d n)
+-- a node's mileage and an edge's track, where the edition tells them
+abbrev pub mileage_field : Edition → Graph → ℕ → Option (List ℕ)
+mileage_field First g n = None
+mileage_field Second g n = Some (metres_text (node g n).mileage)
 
-abbrev pub edge_line : Graph → Drawing → ℕ → SheetLine
-edge_line g d e = EdgeLine e (edge g e).west (edge g e).east (line d e)
+abbrev pub track_field : Edition → Graph → ℕ → Option (List ℕ)
+track_field First g e = None
+track_field Second g e = Some (edge g e).track
+
+abbrev pub node_line : Edition → Graph → Drawing → ℕ → SheetLine
+node_line edition g d n = NodeLine n (node g n).name (place d n) (mileage_field edition g n)
+
+abbrev pub edge_line : Edition → Graph → Drawing → ℕ → SheetLine
+edge_line edition g d e = EdgeLine e (track_field edition g e) (edge g e).west (edge g e).east (line d e)
 
 -- each node with its point, and each edge with its line, by number
-abbrev pub node_lines : Graph → Drawing → List SheetLine
-node_lines g d = map (node_line g d) (range_with_len 0 (length g.nodes))
+abbrev pub node_lines : Edition → Graph → Drawing → List SheetLine
+node_lines edition g d = map (node_line edition g d) (range_with_len 0 (length g.nodes))
 
-abbrev pub edge_lines : Graph → Drawing → List SheetLine
-edge_lines g d = map (edge_line g d) (range_with_len 0 (length g.edges))
+abbrev pub edge_lines : Edition → Graph → Drawing → List SheetLine
+edge_lines edition g d = map (edge_line edition g d) (range_with_len 0 (length g.edges))
 
 -- each node, how many edges there are, and each edge
-abbrev pub picture_lines : Graph → Drawing → List SheetLine
-picture_lines g d = node_lines g d ++ EdgesLine (length g.edges) ∷ edge_lines g d
+abbrev pub picture_lines : Edition → Graph → Drawing → List SheetLine
+picture_lines edition g d = node_lines edition g d ++ EdgesLine (length g.edges) ∷ edge_lines edition g d
 
 -- how many nodes there are, the picture, and the drawing's own values
-abbrev pub drawing_lines : Graph → Drawing → List SheetLine
-drawing_lines g d = NodesLine (length g.nodes) ∷ (picture_lines g d ++ ValuesLine (values_of d) ∷ [])
+abbrev pub drawing_lines : Edition → Graph → Drawing → List SheetLine
+drawing_lines edition g d = NodesLine (length g.nodes) ∷ (picture_lines edition g d ++ ValuesLine (values_of d) ∷ [])
 
-abbrev pub found_lines : Graph → Option Drawing → List SheetLine
-found_lines g None = []
-found_lines g (Some d) = drawing_lines g d
+abbrev pub found_lines : Edition → Graph → Option Drawing → List SheetLine
+found_lines edition g None = []
+found_lines edition g (Some d) = drawing_lines edition g d
 
-abbrev pub sheet_lines : Graph → Sheet → List SheetLine
-sheet_lines g s = Title ∷ GridLine s.grid ∷ OrderLine s.order ∷ (found_lines g s.found ++ EndLine s.ending ∷ [])
+abbrev pub sheet_lines : Edition → Graph → Sheet → List SheetLine
+sheet_lines edition g s = Title edition ∷ GridLine edition s.grid ∷ OrderLine s.order ∷ (found_lines edition g s.found ++ EndLine s.ending ∷ [])
 
+abbrev pub text_in : Edition → Graph → Sheet → List ℕ
+text_in edition g s = flat_map text_of (sheet_lines edition g s)
+
+-- the text that is written
 abbrev pub sheet_text : Graph → Sheet → List ℕ
-sheet_text g s = flat_map text_of (sheet_lines g s)
+sheet_text g s = text_in Second g s
+
+-- the text of the first edition, of a sheet whose grid has least length 1
+abbrev pub first_sheet_text : Graph → Sheet → List ℕ
+first_sheet_text g s = text_in First g s

@@ -7,13 +7,13 @@ ghost use Rattle.plan_core.specs.Graph.{node, edge};
 ghost use Rattle.port_graph.specs.Plain.{plain_ports};
 ghost use Rattle.rail_mileage.specs.MetresText.{metres_text};
 ghost use Rattle.track_order.specs.Order.{is_above, IsOrderOf};
-ghost use Rattle.plan_text.specs.Fields.{spaced, line_text};
+ghost use Rattle.line_text.specs.Fields.{spaced, line_text};
 ghost use Rattle.plan_text.specs.GraphText.{compass_word, side_word, kind_fields, node_line, edge_line, above_line, above_lines, nodes_text, edges_text, order_text, graph_text};
 
-use crate::fields::{push_count_line, push_field, push_number, push_text};
-use plan_core::{Compass, EdgeNo, Micro, NodeNo, OutOfMemory, Side};
+use crate::line_parts::{push_count_line, push_mileage, push_named};
+use line_text::{push_field, push_number_field, push_text};
+use plan_core::{Compass, EdgeNo, NodeNo, OutOfMemory, Side};
 use port_graph::{PortGraph, Ports};
-use rail_mileage::write_metres;
 use std::alloc::Global;
 use track_order::TrackOrder;
 
@@ -56,25 +56,6 @@ fn push_kind(into: &mut Vec<u8>, ports: Ports) -> Result<(), OutOfMemory>
     }
 }
 
-/// Appends a space, a mileage, and the line feed.
-fn push_mileage(alloc: Global, into: &mut Vec<u8>, m: Micro) -> Result<(), OutOfMemory>
-    ensures ok { OnOk result (into.new.items ≡ into.old.items ++ (32 ∷ metres_text m.0) ++ codes "\n") }
-    ensures begins { Begins into.old.items into.new.items }
-{
-    push_text(into, b" ")?;
-    write_metres(alloc, m, into)?;
-    push_text(into, b"\n")
-}
-
-fn push_named(into: &mut Vec<u8>, word: &[u8], number: u16, name: &[u8]) -> Result<(), OutOfMemory>
-    ensures ok { OnOk result (into.new.items ≡ into.old.items ++ word.now ++ spaced (decimal number ∷ name.now ∷ [])) }
-    ensures begins { Begins into.old.items into.new.items }
-{
-    push_text(into, word)?;
-    push_number(into, u32::from(number))?;
-    push_field(into, name)
-}
-
 fn push_node_line(
     alloc: Global,
     g: &PortGraph,
@@ -96,8 +77,8 @@ fn push_two(into: &mut Vec<u8>, a: u16, b: u16) -> Result<(), OutOfMemory>
     ensures ok { OnOk result (into.new.items ≡ into.old.items ++ spaced (decimal a ∷ decimal b ∷ []) ++ codes "\n") }
     ensures begins { Begins into.old.items into.new.items }
 {
-    push_number(into, u32::from(a))?;
-    push_number(into, u32::from(b))?;
+    push_number_field(into, u32::from(a))?;
+    push_number_field(into, u32::from(b))?;
     push_text(into, b"\n")
 }
 

@@ -2,26 +2,26 @@
 ghost use Rattle.std.specs.Prelude.{◌≡◌, ◌<◌, ℕ, Bool, true, false, List, length, All, IfSome};
 ghost use Rattle.std.specs.Option.{is_some};
 ghost use Rattle.plan_core.specs.Line.{is_line};
-ghost use Rattle.plan_core.specs.Graph.{Graph, node};
+ghost use Rattle.plan_core.specs.Graph.{Graph, node, edge};
 ghost use Rattle.plan_text.specs.declared.sheet_fault.SheetWhat.{SheetWhat};
 ghost use Rattle.plan_text.specs.SheetLine.{IsName};
-ghost use Rattle.plan_text.specs.SheetText.{Sheet as PlainSheet, DrawsAll, DrawsOnGrid, StatesSettled, sheet_text};
-ghost use Rattle.plan_text.specs.SheetFaults.{IsFirstFault, IsTextOf};
+ghost use Rattle.plan_text.specs.SheetText.{Sheet as PlainSheet, DrawsAll, DrawsOnGrid, StatesSettled, sheet_text, first_sheet_text};
+ghost use Rattle.plan_text.specs.SheetFaults.{HasSheetFault, IsTextOf};
 
 use crate::Sheet;
-use plan_core::NodeNo;
+use plan_core::{EdgeNo, NodeNo};
 use plan_geometry::Drawing;
 use port_graph::PortGraph;
 
 /// A text that is a sheet's has no line with a fault.
 pub fn sheet_or_fault()
-    ensures { (g : Graph) (needs_drawing : Bool) (text : List ℕ) (s : PlainSheet) (what : SheetWhat) (line : ℕ) → IsTextOf g needs_drawing text s → IsFirstFault g needs_drawing text what line → ⊥ }
+    ensures { (g : Graph) (needs_drawing : Bool) (text : List ℕ) (s : PlainSheet) (what : SheetWhat) (line : ℕ) → IsTextOf g needs_drawing text s → HasSheetFault g needs_drawing text what line → ⊥ }
 {}
 
 /// A text has one first fault at most: of one kind, in one line.
 pub fn one_sheet_fault()
-    ensures kind { (g : Graph) (needs_drawing : Bool) (text : List ℕ) (what other : SheetWhat) (line at : ℕ) → IsFirstFault g needs_drawing text what line → IsFirstFault g needs_drawing text other at → what ≡ other }
-    ensures line { (g : Graph) (needs_drawing : Bool) (text : List ℕ) (what other : SheetWhat) (line at : ℕ) → IsFirstFault g needs_drawing text what line → IsFirstFault g needs_drawing text other at → line ≡ at }
+    ensures kind { (g : Graph) (needs_drawing : Bool) (text : List ℕ) (what other : SheetWhat) (line at : ℕ) → HasSheetFault g needs_drawing text what line → HasSheetFault g needs_drawing text other at → what ≡ other }
+    ensures line { (g : Graph) (needs_drawing : Bool) (text : List ℕ) (what other : SheetWhat) (line at : ℕ) → HasSheetFault g needs_drawing text what line → HasSheetFault g needs_drawing text other at → line ≡ at }
 {}
 
 /// A text is that of one sheet at most.
@@ -38,6 +38,15 @@ fn names(g: &PortGraph)
     }
 }
 
+/// Each edge has a track whose name is one field.
+fn tracks(g: &PortGraph)
+    ensures { (e : ℕ) → e < length g.now.edges → IsName (edge g.now e).track }
+{
+    for e in 0..g.edges() {
+        let _ = g.track(EdgeNo(e)).bytes();
+    }
+}
+
 /// Each line of the drawing, if there is one, has one of the shapes.
 fn lines(found: &Option<Drawing>)
     ensures { IfSome found.now (λ d. All (λ l. is_line l ≡ true) d.lines) }
@@ -47,17 +56,20 @@ fn lines(found: &Option<Drawing>)
     }
 }
 
-/// What `write_sheet` may write is read again as the same sheet: its text is that of the sheet, with a
-/// drawing also where one is due.
+/// What `write_sheet` may write is read again as the same sheet: its text, of either edition, is that of the
+/// sheet, with a drawing also where one is due. The first edition stands for least length 1.
 pub fn written_is_read(g: &PortGraph, s: &Sheet)
     requires draws_all { DrawsAll g.now s.now }
     requires on_grid { DrawsOnGrid s.now }
     requires settled { StatesSettled s.now.order (is_some s.now.found) s.now.ending }
     ensures text { IsTextOf g.now false (sheet_text g.now s.now) s.now }
     ensures drawn { is_some s.now.found ≡ true → IsTextOf g.now true (sheet_text g.now s.now) s.now }
+    ensures first { s.now.grid.least ≡ 1 → IsTextOf g.now false (first_sheet_text g.now s.now) s.now }
+    ensures first_drawn { s.now.grid.least ≡ 1 → is_some s.now.found ≡ true → IsTextOf g.now true (first_sheet_text g.now s.now) s.now }
 {
     // what the types keep
     names(g);
+    tracks(g);
     lines(&s.found);
     let _ = (g.nodes(), s.order.len(), s.grid.width());
 }

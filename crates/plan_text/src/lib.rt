@@ -2,19 +2,22 @@
 //!
 //! `write_graph` appends the text of a track graph and of the order of its edges, `write_sheet` that of a
 //! `Sheet`: the grid, the order of criteria, the drawing that was found, and how the search ended.
-//! `read_sheet` and `read_drawing` read a sheet again, or answer the first line with a fault; `laws` says
-//! that a text is that of one sheet or has one first fault, and that what is written is read again.
-//! `specs/Fields` says what a line of fields is, `specs/GraphText` and `specs/SheetText` have the texts,
-//! `specs/SheetLine` the forms of a sheet's lines, and `specs/SheetFaults` their faults.
-//! `fields` appends fields and lines; fault lines are written with it too.
-//! The crate stands on `plan_core`, `plan_geometry`, `port_graph`, `track_order` and `rail_mileage`, and on
-//! `outside_io` for what a list of bytes begins with; the top call stands on it.
+//! A sheet has two editions of text; `write_sheet` writes the second, and `read_sheet` and `read_drawing` read
+//! both again, or answer the first line with a fault. `laws` says that a text is that of one sheet or has one
+//! first fault, and that what is written is read again.
+//! `specs/GraphText` and `specs/SheetText` have the texts, `specs/SheetLine` the forms of a sheet's lines,
+//! `specs/SheetFaults` their faults and `specs/SheetWhats` the faults' numbers and words;
+//! `specs/SheetReading` is for private contracts.
+//! The crate stands on `line_text`, `plan_core`, `plan_geometry`, `port_graph`, `track_order` and
+//! `rail_mileage`, and on `outside_io` for what a list of bytes begins with; the top call stands on it.
 #![tactic(auto)]
 
+mod edition;
 mod ending;
-mod fields;
 mod graph_text;
 mod laws;
+mod line_parts;
+mod mileage_text;
 mod sheet;
 mod sheet_checks;
 mod sheet_fault;
@@ -23,8 +26,8 @@ mod sheet_lines;
 mod sheet_reading;
 mod sheet_text;
 
+pub use edition::Edition;
 pub use ending::Ending;
-pub use fields::{push_field, push_number, push_place, push_text};
 pub use graph_text::write_graph;
 pub use laws::{one_sheet, one_sheet_fault, sheet_or_fault, written_is_read};
 pub use sheet::Sheet;

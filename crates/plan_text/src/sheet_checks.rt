@@ -1,32 +1,40 @@
 // The lines of a sheet, each read and judged where it is due.
-ghost use Rattle.std.specs.Prelude.{◌≡◌, ◌<◌, ◌↔◌, true, Bool, List, length, IsTrue, MatchOption, MatchResult};
+ghost use Rattle.std.specs.Prelude.{◌≡◌, ◌<◌, ◌↔◌, true, Bool, List, length, IfOk, IsTrue, MatchOption, MatchResult};
+ghost use Rattle.std.specs.Option.{option_copied};
 ghost use Rattle.plan_core.specs.Grid.{IsGrid};
 ghost use Rattle.plan_core.specs.Order.{IsOrder};
 ghost use Rattle.plan_core.specs.Line.{is_line};
 ghost use Rattle.plan_core.specs.Graph.{Graph, node, edge};
 ghost use Rattle.plan_core.specs.Values.{values_of};
 ghost use Rattle.plan_text.specs.SheetLine.{SheetLine, Title, GridLine, OrderLine, NodesLine, NodeLine, EdgesLine, EdgeLine, ValuesLine, EndLine, MayEnd};
-ghost use Rattle.plan_text.specs.SheetText.{StatesSettled};
+ghost use Rattle.plan_text.specs.declared.edition.Edition.{Edition as Editions};
+ghost use Rattle.rail_mileage.specs.MetresText.{metres_text};
+ghost use Rattle.plan_text.specs.SheetText.{StatesSettled, mileage_field, track_field};
 ghost use Rattle.plan_text.specs.SheetFaults.{TitleDue, GridDue, OrderDue, BodyDue, NodeDue, EdgesDue, EdgeDue, ValuesDue, EndDue, order_told, drawing_told, IsOfGraph};
 ghost use Rattle.plan_text.specs.SheetReading.{IsLineTo, IsEndFault, IsFaultHere, ending_told};
 
-use crate::sheet_fields::behind;
 use crate::sheet_lines::{
     EdgeTold, EndTold, NodeTold, edge_line, end_line, grid_line, node_line, one_number, order_line,
     values_line,
 };
-use crate::{Ending, SheetFault, SheetWhat};
-use plan_core::{EdgeNo, Grid, NodeNo, Order, Point};
+use crate::{Edition, Ending, SheetFault, SheetWhat};
+use line_text::behind;
+use plan_core::{EdgeNo, Grid, NodeNo, Order, OutOfMemory, Point};
 use plan_geometry::{Drawing, Line, values};
 use port_graph::PortGraph;
+use rail_mileage::write_metres;
+use std::alloc::Global;
 
-/// What stands behind the title.
-pub(crate) fn title(text: &[u8]) -> Result<&[u8], SheetFault>
-    ensures { MatchResult result (λ rest. IsLineTo text.now Title rest.now)
+/// The edition that the title tells, and what stands behind it.
+pub(crate) fn title(text: &[u8]) -> Result<(Edition, &[u8]), SheetFault>
+    ensures { MatchResult result (λ p. IsLineTo text.now (Title p.0) p.1.now)
         (λ fault. (g : Graph) (before : List SheetLine) (needs_drawing : Bool) → IsFaultHere g before (TitleDue needs_drawing) text.now 1 fault) }
 {
-    match behind(text, b"railplan 1\n") {
-        Some(rest) => Ok(rest),
+    if let Some(rest) = behind(text, b"railplan 1\n") {
+        return Ok((Edition::First, rest));
+    }
+    match behind(text, b"railplan 2\n") {
+        Some(rest) => Ok((Edition::Second, rest)),
         None => Err(SheetFault::Sheet {
             what: SheetWhat::Form,
             line: 1,
@@ -35,17 +43,17 @@ pub(crate) fn title(text: &[u8]) -> Result<&[u8], SheetFault>
 }
 
 /// The grid, and what stands behind its line.
-pub(crate) fn grid(text: &[u8]) -> Result<(Grid, &[u8]), SheetFault>
-    ensures { MatchResult result (λ p. IsGrid p.0 × IsLineTo text.now (GridLine p.0) p.1.now)
-        (λ fault. (g : Graph) (before : List SheetLine) (needs_drawing : Bool) → IsFaultHere g before (GridDue needs_drawing) text.now 2 fault) }
+pub(crate) fn grid(edition: Edition, text: &[u8]) -> Result<(Grid, &[u8]), SheetFault>
+    ensures { MatchResult result (λ p. IsGrid p.0 × IsLineTo text.now (GridLine edition p.0) p.1.now)
+        (λ fault. (g : Graph) (before : List SheetLine) (needs_drawing : Bool) → IsFaultHere g before (GridDue edition needs_drawing) text.now 2 fault) }
 {
-    let Some((width, height, rest)) = grid_line(text) else {
+    let Some((width, height, least, rest)) = grid_line(edition, text) else {
         return Err(SheetFault::Sheet {
             what: SheetWhat::Form,
             line: 2,
         });
     };
-    match Grid::new(width, height) {
+    match Grid::with_least(width, height, least) {
         Some(grid) => Ok((grid, rest)),
         None => Err(SheetFault::Sheet {
             what: SheetWhat::Range,
@@ -57,7 +65,7 @@ pub(crate) fn grid(text: &[u8]) -> Result<(Grid, &[u8]), SheetFault>
 /// The order of criteria, and what stands behind its line.
 pub(crate) fn order(text: &[u8]) -> Result<(Order, &[u8]), SheetFault>
     ensures { MatchResult result (λ p. IsOrder p.0 × IsLineTo text.now (OrderLine p.0) p.1.now)
-        (λ fault. (g : Graph) (before : List SheetLine) (needs_drawing : Bool) → IsFaultHere g before (OrderDue needs_drawing) text.now 3 fault) }
+        (λ fault. (g : Graph) (before : List SheetLine) (edition : Editions) (needs_drawing : Bool) → IsFaultHere g before (OrderDue edition needs_drawing) text.now 3 fault) }
 {
     let Some((criteria, rest)) = order_line(text) else {
         return Err(SheetFault::Sheet {
@@ -77,7 +85,7 @@ pub(crate) fn order(text: &[u8]) -> Result<(Order, &[u8]), SheetFault>
 /// What stands behind the number of nodes.
 pub(crate) fn nodes<'a>(g: &PortGraph, text: &'a [u8]) -> Result<&'a [u8], SheetFault>
     ensures { MatchResult result (λ rest. IsLineTo text.now (NodesLine (length g.now.nodes)) rest.now)
-        (λ fault. (before : List SheetLine) → IsFaultHere g.now before (BodyDue true) text.now 4 fault) }
+        (λ fault. (edition : Editions) (before : List SheetLine) → IsFaultHere g.now before (BodyDue edition true) text.now 4 fault) }
 {
     let Some((count, rest)) = one_number(text, b"nodes") else {
         return Err(SheetFault::Sheet {
@@ -95,32 +103,75 @@ pub(crate) fn nodes<'a>(g: &PortGraph, text: &'a [u8]) -> Result<&'a [u8], Sheet
     }
 }
 
-/// Whether the line of a node tells the number and the name of this one.
-fn is_node(g: &PortGraph, n: u16, told: &NodeTold<'_>) -> bool
+/// The text of a node's mileage.
+fn mileage_of(alloc: Global, g: &PortGraph, n: u16) -> Result<Vec<u8>, OutOfMemory>
     requires { n < length g.now.nodes }
-    ensures { IsTrue result ↔ IsOfGraph g.now (NodeDue n) (NodeLine told.now.number told.now.name.now told.now.place) }
+    ensures { IfOk result (λ text. text.items ≡ metres_text (node g.now n).mileage) }
 {
-    told.number == n && told.name == g.name(NodeNo(n)).bytes()
+    let mut text = Vec::new(alloc);
+    write_metres(alloc, g.mileage(NodeNo(n)), &mut text)?;
+    Ok(text)
+}
+
+/// Whether this is the mileage of the node, where the edition tells it.
+fn is_mileage_of(
+    alloc: Global,
+    g: &PortGraph,
+    edition: Edition,
+    n: u16,
+    mileage: Option<&[u8]>,
+) -> Result<bool, OutOfMemory>
+    requires { n < length g.now.nodes }
+    ensures { IfOk result (λ b. IsTrue b ↔ (option_copied mileage.entry ≡ mileage_field edition g.now n)) }
+{
+    match edition {
+        Edition::First => Ok(mileage.is_none()),
+        Edition::Second => match mileage {
+            None => Ok(false),
+            Some(field) => {
+                let text = mileage_of(alloc, g, n)?;
+                Ok(field == text.as_slice())
+            }
+        },
+    }
+}
+
+/// Whether the line of a node tells the number, the name and the mileage of this one.
+fn is_node(
+    alloc: Global,
+    g: &PortGraph,
+    edition: Edition,
+    n: u16,
+    told: &NodeTold<'_>,
+) -> Result<bool, OutOfMemory>
+    requires { n < length g.now.nodes }
+    ensures { IfOk result (λ b. IsTrue b ↔ IsOfGraph g.now (NodeDue edition n) (NodeLine told.now.number told.now.name.now told.now.place (option_copied told.now.mileage))) }
+{
+    let is_mileage = is_mileage_of(alloc, g, edition, n, told.mileage)?;
+    Ok(told.number == n && told.name == g.name(NodeNo(n)).bytes() && is_mileage)
 }
 
 /// The point of a node, and what stands behind its line.
 pub(crate) fn node<'a>(
+    alloc: Global,
     g: &PortGraph,
+    edition: Edition,
     n: u16,
     text: &'a [u8],
     line: u32,
 ) -> Result<(Point, &'a [u8]), SheetFault>
     requires { n < length g.now.nodes }
-    ensures { MatchResult result (λ p. IsLineTo text.now (NodeLine n (node g.now n).name p.0) p.1.now)
-        (λ fault. (before : List SheetLine) → IsFaultHere g.now before (NodeDue n) text.now line fault) }
+    ensures { MatchResult result (λ p. IsLineTo text.now (NodeLine n (node g.now n).name p.0 (mileage_field edition g.now n)) p.1.now)
+        (λ fault. (before : List SheetLine) → IsFaultHere g.now before (NodeDue edition n) text.now line fault) }
 {
-    let Some((told, rest)) = node_line(text) else {
+    let Some((told, rest)) = node_line(edition, text) else {
         return Err(SheetFault::Sheet {
             what: SheetWhat::Form,
             line,
         });
     };
-    if is_node(g, n, &told) {
+    let is_its_line = is_node(alloc, g, edition, n, &told)?;
+    if is_its_line {
         Ok((told.place, rest))
     } else {
         Err(SheetFault::Sheet {
@@ -133,7 +184,7 @@ pub(crate) fn node<'a>(
 /// What stands behind the number of edges.
 pub(crate) fn edges<'a>(g: &PortGraph, text: &'a [u8], line: u32) -> Result<&'a [u8], SheetFault>
     ensures { MatchResult result (λ rest. IsLineTo text.now (EdgesLine (length g.now.edges)) rest.now)
-        (λ fault. (before : List SheetLine) → IsFaultHere g.now before EdgesDue text.now line fault) }
+        (λ fault. (edition : Editions) (before : List SheetLine) → IsFaultHere g.now before (EdgesDue edition) text.now line fault) }
 {
     let Some((count, rest)) = one_number(text, b"edges") else {
         return Err(SheetFault::Sheet {
@@ -151,32 +202,51 @@ pub(crate) fn edges<'a>(g: &PortGraph, text: &'a [u8], line: u32) -> Result<&'a 
     }
 }
 
-/// Whether the line of an edge tells the number and the nodes of this one.
-fn is_edge(g: &PortGraph, e: u16, told: &EdgeTold) -> bool
+/// Whether this is the track of the edge, where the edition tells it.
+fn is_track_of(g: &PortGraph, edition: Edition, e: u16, track: Option<&[u8]>) -> bool
     requires { e < length g.now.edges }
-    ensures { IsTrue result ↔ IsOfGraph g.now (EdgeDue e) (EdgeLine told.now.number told.now.west told.now.east told.now.points.items) }
+    ensures { IsTrue result ↔ (option_copied track.entry ≡ track_field edition g.now e) }
 {
-    told.number == e && told.west == g.west(EdgeNo(e)).0 && told.east == g.east(EdgeNo(e)).0
+    match edition {
+        Edition::First => track.is_none(),
+        Edition::Second => match track {
+            None => false,
+            Some(name) => name == g.track(EdgeNo(e)).bytes(),
+        },
+    }
+}
+
+/// Whether the line of an edge tells the number, the track and the nodes of this one.
+fn is_edge(g: &PortGraph, edition: Edition, e: u16, told: &EdgeTold<'_>) -> bool
+    requires { e < length g.now.edges }
+    ensures { IsTrue result ↔ IsOfGraph g.now (EdgeDue edition e) (EdgeLine told.now.number (option_copied told.now.track) told.now.west told.now.east told.now.points.items) }
+{
+    let is_track = is_track_of(g, edition, e, told.track);
+    told.number == e
+        && is_track
+        && told.west == g.west(EdgeNo(e)).0
+        && told.east == g.east(EdgeNo(e)).0
 }
 
 /// The line of an edge as it is drawn, and what stands behind the line of the sheet.
 pub(crate) fn edge<'a>(
     g: &PortGraph,
+    edition: Edition,
     e: u16,
     text: &'a [u8],
     line: u32,
 ) -> Result<(Line, &'a [u8]), SheetFault>
     requires { e < length g.now.edges }
-    ensures { MatchResult result (λ p. (is_line p.0 ≡ true) × IsLineTo text.now (EdgeLine e (edge g.now e).west (edge g.now e).east p.0) p.1.now)
-        (λ fault. (before : List SheetLine) → IsFaultHere g.now before (EdgeDue e) text.now line fault) }
+    ensures { MatchResult result (λ p. (is_line p.0 ≡ true) × IsLineTo text.now (EdgeLine e (track_field edition g.now e) (edge g.now e).west (edge g.now e).east p.0) p.1.now)
+        (λ fault. (before : List SheetLine) → IsFaultHere g.now before (EdgeDue edition e) text.now line fault) }
 {
-    let Some((told, rest)) = edge_line(text) else {
+    let Some((told, rest)) = edge_line(edition, text) else {
         return Err(SheetFault::Sheet {
             what: SheetWhat::Form,
             line,
         });
     };
-    if !is_edge(g, e, &told) {
+    if !is_edge(g, edition, e, &told) {
         return Err(SheetFault::Sheet {
             what: SheetWhat::Graph,
             line,

@@ -1,4 +1,7 @@
 // What can be wrong with the text of a sheet.
+ghost use Rattle.std.specs.Prelude.{◌≡◌};
+ghost use Rattle.plan_text.specs.SheetWhats.{number_of, word_of};
+
 use plan_core::OutOfMemory;
 use std::alloc::{AllocError, AllocFailed};
 use thiserror::Error;
@@ -8,16 +11,46 @@ use thiserror::Error;
 #[derive(Clone, Copy, Debug, PartialEq, Eq)]
 pub enum SheetWhat {
     /// The line isn't of the form that is due, or is missing, or has no line feed, or follows the ending;
-    /// or a number isn't canonical or is above 65,535.
+    /// or a number isn't canonical or is above 65,535; or a mileage isn't `-` or nothing, a canonical number
+    /// of at most ten digits, a point and six digits.
     Form,
-    /// Width and height are no grid, the criteria are no order, or more criteria are settled than may be.
+    /// Width, height and least length are no grid, the criteria are no order, or more criteria are settled
+    /// than may be.
     Range,
-    /// A count, a node's number or name, or an edge's number or ends aren't the graph's.
+    /// A count, a node's number, name or mileage, or an edge's number, track or ends aren't the graph's.
     Graph,
     /// An edge's points are none of the shapes of a line.
     Shape,
     /// The values aren't those of the drawing.
     Values,
+}
+
+impl SheetWhat {
+    /// Its number, 1 to 5.
+    pub fn number(self) -> u8
+        ensures { result ≡ number_of self }
+    {
+        match self {
+            SheetWhat::Form => 1,
+            SheetWhat::Range => 2,
+            SheetWhat::Graph => 3,
+            SheetWhat::Shape => 4,
+            SheetWhat::Values => 5,
+        }
+    }
+
+    /// Its word in a fault line.
+    pub fn word(self) -> &'static str
+        ensures { result.now ≡ word_of self }
+    {
+        match self {
+            SheetWhat::Form => "Form",
+            SheetWhat::Range => "Range",
+            SheetWhat::Graph => "Graph",
+            SheetWhat::Shape => "Shape",
+            SheetWhat::Values => "Values",
+        }
+    }
 }
 
 /// Why a text isn't read as a sheet.

@@ -1,52 +1,61 @@
 // The fields of a sheet's lines, read.
-ghost use Rattle.std.specs.Prelude.{◌≡◌, ◌≢◌, ◌↔◌, ◌≤◌, ◌++◌, ◌∷◌, [], ℕ, List, map, length, IsTrue, MatchOption};
+ghost use Rattle.std.specs.Prelude.{◌≡◌, ◌≢◌, ◌≤◌, ◌++◌, ◌∷◌, ℕ, List, map, length, MatchOption};
 ghost use Rattle.std.specs.Fmt.{decimal};
-ghost use Rattle.plan_core.specs.declared.criterion.Criterion.{Criterion as Told};
-ghost use Rattle.plan_text.specs.Fields.{spaced, line_text};
-ghost use Rattle.plan_text.specs.SheetLine.{criterion_word, EndsField, IsSmall, AreSmall};
-ghost use Rattle.plan_text.specs.SheetReading.{IsCut};
+ghost use Rattle.plan_core.specs.declared.criterion.Criterion.{Criterion as Measure};
+ghost use Rattle.plan_core.specs.declared.point.Point.{Point as Told};
+ghost use Rattle.line_text.specs.Criteria.{criterion_word};
+ghost use Rattle.line_text.specs.Fields.{spaced};
+ghost use Rattle.plan_text.specs.SheetLine.{IsSmall, AreSmall};
+ghost use Rattle.plan_text.specs.SheetReading.{IsFieldAt, IsNumberAt, IsNameAt, IsPointAt};
 
 use arrayvec::ArrayVec;
-use itoa::Buffer;
-use plan_core::Criterion;
+use line_text::{behind, front_field, read_criterion, read_number};
+use plan_core::{Criterion, Point};
 
-fn ends_field(b: u8) -> bool
-    ensures { IsTrue result ↔ EndsField b }
+/// The field in front of the text, after one space, and what stands behind it, if a space is in front.
+pub(crate) fn next_field(text: &[u8]) -> Option<(&[u8], &[u8])>
+    ensures { MatchOption result ((rest : List ℕ) → text.now ≢ 32 ∷ rest) (λ p. IsFieldAt text.now p.0.now p.1.now) }
 {
-    b == b' ' || b == b'\n'
-}
-
-/// The field at the front of the text, and what stands behind it.
-pub(crate) fn cut(text: &[u8]) -> (&[u8], &[u8])
-    ensures { IsCut text.now result.0.now result.1.now }
-{
-    for (end, b) in text.iter().enumerate() {
-        if ends_field(*b) {
-            return text.split_at(end);
-        }
-    }
-    (text, b"")
-}
-
-/// What stands behind this front of the text, if it has it.
-pub(crate) fn behind<'a>(text: &'a [u8], front: &[u8]) -> Option<&'a [u8]>
-    ensures { MatchOption result ((rest : List ℕ) → text.now ≢ front.now ++ rest) (λ rest. text.now ≡ front.now ++ rest.now) }
-{
-    text.strip_prefix(front)
+    let rest = behind(text, b" ")?;
+    Some(front_field(rest))
 }
 
 /// The number that the field is the canonical decimal of, if it is one of at most 65,535.
-pub(crate) fn number_of(field: &[u8]) -> Option<u16>
+fn number_of(field: &[u8]) -> Option<u16>
     ensures { MatchOption result ((n : ℕ) → IsSmall n → field.now ≢ decimal n) (λ n. IsSmall n × (field.now ≡ decimal n)) }
 {
-    let text = std::str::from_utf8(field).ok()?;
-    let number = text.parse::<u16>().ok()?;
-    let mut digits = Buffer::new();
-    if digits.format(number).as_bytes() == field {
-        Some(number)
-    } else {
-        None
+    let number = read_number(field, 0, 65_535)?;
+    Some(number as u16)
+}
+
+/// The number in front of the text, after one space, and what stands behind it, if one is in front.
+pub(crate) fn next_number(text: &[u8]) -> Option<(u16, &[u8])>
+    ensures { MatchOption result ((n : ℕ) (rest : List ℕ) → IsNumberAt text.now n rest → ⊥) (λ p. IsNumberAt text.now p.0 p.1.now) }
+{
+    let (field, rest) = next_field(text)?;
+    let number = number_of(field)?;
+    Some((number, rest))
+}
+
+/// The name in front of the text, after one space, and what stands behind it, if one is in front.
+pub(crate) fn next_name(text: &[u8]) -> Option<(&[u8], &[u8])>
+    ensures { MatchOption result ((name rest : List ℕ) → IsNameAt text.now name rest → ⊥) (λ p. IsNameAt text.now p.0.now p.1.now) }
+{
+    let (name, rest) = next_field(text)?;
+    if name.is_empty() {
+        return None;
     }
+    Some((name, rest))
+}
+
+/// The point whose coordinates are in front of the text, each after one space, and what stands behind them,
+/// if two numbers are in front.
+pub(crate) fn next_point(text: &[u8]) -> Option<(Point, &[u8])>
+    ensures { MatchOption result ((p : Told) (rest : List ℕ) → IsPointAt text.now p rest → ⊥) (λ p. IsPointAt text.now p.0 p.1.now) }
+{
+    let (x, rest) = next_number(text)?;
+    let (y, rest) = next_number(rest)?;
+    Some((Point { x, y }, rest))
 }
 
 /// The numbers up to the line feed, each after one space, and what stands behind it, if there are no more
@@ -58,7 +67,7 @@ pub(crate) fn numbers(text: &[u8]) -> Option<(ArrayVec<u16, 11>, &[u8])>
     let mut numbers = ArrayVec::new();
     let mut rest = text;
     while let Some(after) = behind(rest, b" ") {
-        let (field, left) = cut(after);
+        let (field, left) = front_field(after);
         let number = number_of(field)?;
         if numbers.is_full() {
             return None;
@@ -70,30 +79,17 @@ pub(crate) fn numbers(text: &[u8]) -> Option<(ArrayVec<u16, 11>, &[u8])>
     Some((numbers, left))
 }
 
-/// The criterion that the word names, if it names one.
-fn criterion_of(word: &[u8]) -> Option<Criterion>
-    ensures { MatchOption result ((c : Told) → word.now ≢ criterion_word c) (λ c. word.now ≡ criterion_word c) }
-{
-    match word {
-        b"height" => Some(Criterion::Height),
-        b"bends" => Some(Criterion::Bends),
-        b"diagonal" => Some(Criterion::Diagonal),
-        b"width" => Some(Criterion::Width),
-        _ => None,
-    }
-}
-
 /// The criteria up to the line feed, each after one space, and what stands behind it, if there are no more
 /// than four.
 pub(crate) fn criteria(text: &[u8]) -> Option<(ArrayVec<Criterion, 4>, &[u8])>
-    ensures { MatchOption result ((cs : List Told) (rest : List ℕ) → length cs ≤ 4 → text.now ≢ spaced (map criterion_word cs) ++ (10 ∷ rest))
+    ensures { MatchOption result ((cs : List Measure) (rest : List ℕ) → length cs ≤ 4 → text.now ≢ spaced (map criterion_word cs) ++ (10 ∷ rest))
         (λ p. text.now ≡ spaced (map criterion_word p.0.items) ++ (10 ∷ p.1.now)) }
 {
     let mut criteria = ArrayVec::new();
     let mut rest = text;
     while let Some(after) = behind(rest, b" ") {
-        let (word, left) = cut(after);
-        let criterion = criterion_of(word)?;
+        let (word, left) = front_field(after);
+        let criterion = read_criterion(word)?;
         if criteria.is_full() {
             return None;
         }

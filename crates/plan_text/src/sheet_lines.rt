@@ -1,30 +1,38 @@
 // The lines of a sheet, read by their form.
-ghost use Rattle.std.specs.Prelude.{◌≡◌, ◌≢◌, ◌≤◌, ◌++◌, ◌∷◌, [], ℕ, Bool, List, codes, map, length, flat_map, MatchOption};
+ghost use Rattle.std.specs.Prelude.{◌≡◌, ◌≢◌, ◌≤◌, ◌++◌, ◌∷◌, [], ℕ, Bool, List, map, length, flat_map, MatchOption};
 ghost use Rattle.std.specs.Fmt.{decimal};
+ghost use Rattle.std.specs.Option.{option_copied};
+ghost use Rattle.std.specs.declared.option.Option.{Option};
 ghost use Rattle.plan_core.specs.declared.point.Point.{Point as Told};
+ghost use Rattle.plan_core.specs.Grid.{GridSize, grid_with};
+ghost use Rattle.line_text.specs.Fields.{line_text};
+ghost use Rattle.plan_text.specs.declared.edition.Edition.{Edition as Editions};
 ghost use Rattle.plan_text.specs.declared.ending.Ending.{Ending};
-ghost use Rattle.plan_core.specs.Grid.{grid_size};
-ghost use Rattle.plan_text.specs.Fields.{line_text};
-ghost use Rattle.plan_text.specs.SheetLine.{SheetLine, GridLine, OrderLine, NodeLine, EdgeLine, ValuesLine, EndLine, coordinates, text_of, IsSmall, AreSmall, IsName, IsBetween, IsForm, IsSmallEnding};
-ghost use Rattle.plan_text.specs.SheetFaults.{GridDue, OrderDue, NodeDue, EdgeDue, ValuesDue, BeginsWith};
-ghost use Rattle.plan_text.specs.SheetReading.{Ends, ending_told};
+ghost use Rattle.plan_text.specs.SheetLine.{SheetLine, GridLine, OrderLine, NodeLine, EdgeLine, ValuesLine, EndLine, grid_numbers, coordinates, text_of, IsSmall, AreSmall, IsMileageText, StandsForLeast, IsBetween, IsForm, IsSmallEnding};
+ghost use Rattle.plan_text.specs.SheetFaults.{GridDue, OrderDue, NodeDue, EdgeDue, ValuesDue, IsToldIn, BeginsWith};
+ghost use Rattle.plan_text.specs.SheetReading.{IsNamed, IsNumbered, IsNodeEnd, IsLineTo, ending_told};
 
-use crate::sheet_fields::{behind, criteria, cut, number_of, numbers};
+use crate::Edition;
+use crate::mileage_text::is_mileage;
+use crate::sheet_fields::{criteria, next_field, next_name, next_number, next_point, numbers};
 use arrayvec::ArrayVec;
+use line_text::behind;
 use plan_core::{Criterion, Point, Values};
 
-/// What a node's line tells.
+/// What a node's line tells; the mileage in the second edition alone.
 #[derive(Clone, Copy)]
 pub(crate) struct NodeTold<'a> {
     pub number: u16,
     pub name: &'a [u8],
     pub place: Point,
+    pub mileage: Option<&'a [u8]>,
 }
 
-/// What an edge's line tells.
+/// What an edge's line tells; the track in the second edition alone.
 #[derive(Drop)]
-pub(crate) struct EdgeTold {
+pub(crate) struct EdgeTold<'a> {
     pub number: u16,
+    pub track: Option<&'a [u8]>,
     pub west: u16,
     pub east: u16,
     pub points: ArrayVec<Point, 4>,
@@ -65,6 +73,15 @@ fn only_two(numbers: &[u16]) -> Option<(u16, u16)>
     }
 }
 
+fn only_three(numbers: &[u16]) -> Option<(u16, u16, u16)>
+    ensures { MatchOption result ((x y z : ℕ) → numbers.now ≢ x ∷ y ∷ z ∷ []) (λ p. numbers.now ≡ p.0 ∷ p.1 ∷ p.2 ∷ []) }
+{
+    match numbers {
+        [x, y, z] => Some((*x, *y, *z)),
+        _ => None,
+    }
+}
+
 fn only_four(numbers: &[u16]) -> Option<[u16; 4]>
     ensures { MatchOption result ((x y z w : ℕ) → numbers.now ≢ x ∷ y ∷ z ∷ w ∷ []) (λ p. numbers.now ≡ p) }
 {
@@ -84,16 +101,6 @@ fn first_two(numbers: &[u16]) -> Option<(u16, u16, &[u16])>
     }
 }
 
-/// The first three numbers, and what follows.
-fn first_three(numbers: &[u16]) -> Option<(u16, u16, u16, &[u16])>
-    ensures { MatchOption result ((x y z : ℕ) (rest : List ℕ) → numbers.now ≢ x ∷ y ∷ z ∷ rest) (λ p. numbers.now ≡ p.0 ∷ p.1 ∷ p.2 ∷ p.3.now) }
-{
-    match numbers {
-        [x, y, z, rest @ ..] => Some((*x, *y, *z, rest)),
-        _ => None,
-    }
-}
-
 /// The one number of a line that begins so, and what stands behind the line.
 pub(crate) fn one_number<'a>(text: &'a [u8], front: &[u8]) -> Option<(u16, &'a [u8])>
     ensures { MatchOption result ((n : ℕ) (rest : List ℕ) → IsSmall n → text.now ≢ line_text front.now (decimal n ∷ []) ++ rest)
@@ -104,19 +111,33 @@ pub(crate) fn one_number<'a>(text: &'a [u8], front: &[u8]) -> Option<(u16, &'a [
     Some((n, rest))
 }
 
-/// The width and the height that the line of the grid tells, and what stands behind it.
-pub(crate) fn grid_line(text: &[u8]) -> Option<(u16, u16, &[u8])>
-    ensures { MatchOption result ((needs_drawing : Bool) (line : SheetLine) → BeginsWith (GridDue needs_drawing) text.now line → ⊥)
-        (λ p. IsForm (GridLine (grid_size p.0 p.1)) × (text.now ≡ text_of (GridLine (grid_size p.0 p.1)) ++ p.2.now)) }
+/// The width, height and least length of the grid that these numbers of its line tell.
+fn grid_of(edition: Edition, numbers: &[u16]) -> Option<(u16, u16, u16)>
+    ensures { MatchOption result ((grid : GridSize) → numbers.now ≢ grid_numbers edition grid)
+        (λ p. (numbers.now ≡ grid_numbers edition (grid_with p.0 p.1 p.2)) × StandsForLeast edition (grid_with p.0 p.1 p.2)) }
+{
+    match edition {
+        Edition::First => {
+            let (width, height) = only_two(numbers)?;
+            Some((width, height, 1))
+        }
+        Edition::Second => only_three(numbers),
+    }
+}
+
+/// The width, height and least length that the line of the grid tells, and what stands behind it.
+pub(crate) fn grid_line(edition: Edition, text: &[u8]) -> Option<(u16, u16, u16, &[u8])>
+    ensures { MatchOption result ((needs_drawing : Bool) (line : SheetLine) → BeginsWith (GridDue edition needs_drawing) text.now line → ⊥)
+        (λ p. IsLineTo text.now (GridLine edition (grid_with p.0 p.1 p.2)) p.3.now) }
 {
     let (numbers, rest) = numbered(text, b"grid")?;
-    let (width, height) = only_two(numbers.as_slice())?;
-    Some((width, height, rest))
+    let (width, height, least) = grid_of(edition, numbers.as_slice())?;
+    Some((width, height, least, rest))
 }
 
 /// The criteria that the line of the order tells, and what stands behind it.
 pub(crate) fn order_line(text: &[u8]) -> Option<(ArrayVec<Criterion, 4>, &[u8])>
-    ensures { MatchOption result ((needs_drawing : Bool) (line : SheetLine) → BeginsWith (OrderDue needs_drawing) text.now line → ⊥)
+    ensures { MatchOption result ((edition : Editions) (needs_drawing : Bool) (line : SheetLine) → BeginsWith (OrderDue edition needs_drawing) text.now line → ⊥)
         (λ p. IsBetween 1 4 (length p.0.items) × (text.now ≡ text_of (OrderLine p.0.items) ++ p.1.now)) }
 {
     let (criteria, rest) = criteria(behind(text, b"order")?)?;
@@ -126,32 +147,59 @@ pub(crate) fn order_line(text: &[u8]) -> Option<(ArrayVec<Criterion, 4>, &[u8])>
     Some((criteria, rest))
 }
 
-/// The number and the name in front of a node's line, and what stands behind them.
-fn named(text: &[u8]) -> Option<(u16, &[u8], &[u8])>
-    ensures { MatchOption result ((n : ℕ) (name rest : List ℕ) → IsSmall n → IsName name → Ends rest → text.now ≢ codes "node " ++ (decimal n ++ 32 ∷ (name ++ rest)))
-        (λ p. IsSmall p.0 × IsName p.1.now × Ends p.2.now × (text.now ≡ codes "node " ++ (decimal p.0 ++ 32 ∷ (p.1.now ++ p.2.now)))) }
+/// The number and the name behind this word, and what stands behind them.
+fn named<'a>(text: &'a [u8], word: &[u8]) -> Option<(u16, &'a [u8], &'a [u8])>
+    ensures { MatchOption result ((n : ℕ) (name rest : List ℕ) → IsNamed text.now word.now n name rest → ⊥) (λ p. IsNamed text.now word.now p.0 p.1.now p.2.now) }
 {
-    let (number, rest) = cut(behind(text, b"node ")?);
-    let number = number_of(number)?;
-    let (name, rest) = cut(behind(rest, b" ")?);
-    if name.is_empty() {
-        return None;
-    }
+    let rest = behind(text, word)?;
+    let (number, rest) = next_number(rest)?;
+    let (name, rest) = next_name(rest)?;
     Some((number, name, rest))
 }
 
-/// What the line of a node tells, and what stands behind it.
-pub(crate) fn node_line(text: &[u8]) -> Option<(NodeTold<'_>, &[u8])>
-    ensures { MatchOption result ((n : ℕ) (line : SheetLine) → BeginsWith (NodeDue n) text.now line → ⊥)
-        (λ p. IsForm (NodeLine p.0.number p.0.name.now p.0.place) × (text.now ≡ text_of (NodeLine p.0.number p.0.name.now p.0.place) ++ p.1.now)) }
+/// The mileage up to the line feed, after one space, and what stands behind it.
+fn mileage_end(text: &[u8]) -> Option<(&[u8], &[u8])>
+    ensures { MatchOption result ((mileage rest : List ℕ) → IsMileageText mileage → text.now ≢ 32 ∷ (mileage ++ 10 ∷ rest))
+        (λ p. IsMileageText p.0.now × (text.now ≡ 32 ∷ (p.0.now ++ 10 ∷ p.1.now))) }
 {
-    let (number, name, rest) = named(text)?;
-    let (numbers, rest) = numbers(rest)?;
-    let (x, y) = only_two(numbers.as_slice())?;
+    let (mileage, rest) = next_field(text)?;
+    if !is_mileage(mileage) {
+        return None;
+    }
+    let rest = behind(rest, b"\n")?;
+    Some((mileage, rest))
+}
+
+/// The mileage at the end of a node's line, if the edition tells it, and what stands behind the line.
+fn node_end(edition: Edition, text: &[u8]) -> Option<(Option<&[u8]>, &[u8])>
+    ensures { MatchOption result ((mileage : Option (List ℕ)) (rest : List ℕ) → IsNodeEnd edition text.now mileage rest → ⊥)
+        (λ p. IsNodeEnd edition text.now (option_copied p.0) p.1.now) }
+{
+    match edition {
+        Edition::First => {
+            let rest = behind(text, b"\n")?;
+            Some((None, rest))
+        }
+        Edition::Second => {
+            let (mileage, rest) = mileage_end(text)?;
+            Some((Some(mileage), rest))
+        }
+    }
+}
+
+/// What the line of a node tells, and what stands behind it.
+pub(crate) fn node_line(edition: Edition, text: &[u8]) -> Option<(NodeTold<'_>, &[u8])>
+    ensures { MatchOption result ((n : ℕ) (line : SheetLine) → BeginsWith (NodeDue edition n) text.now line → ⊥)
+        (λ p. IsToldIn edition (option_copied p.0.mileage) × IsLineTo text.now (NodeLine p.0.number p.0.name.now p.0.place (option_copied p.0.mileage)) p.1.now) }
+{
+    let (number, name, rest) = named(text, b"node")?;
+    let (place, rest) = next_point(rest)?;
+    let (mileage, rest) = node_end(edition, rest)?;
     let told = NodeTold {
         number,
         name,
-        place: Point { x, y },
+        place,
+        mileage,
     };
     Some((told, rest))
 }
@@ -179,16 +227,36 @@ fn points_of(numbers: &[u16]) -> Option<ArrayVec<Point, 4>>
     Some(points)
 }
 
-/// What the line of an edge tells, and what stands behind it.
-pub(crate) fn edge_line(text: &[u8]) -> Option<(EdgeTold, &[u8])>
-    ensures { MatchOption result ((e : ℕ) (line : SheetLine) → BeginsWith (EdgeDue e) text.now line → ⊥)
-        (λ p. IsForm (EdgeLine p.0.number p.0.west p.0.east p.0.points.items) × (text.now ≡ text_of (EdgeLine p.0.number p.0.west p.0.east p.0.points.items) ++ p.1.now)) }
+/// The number of an edge and its track, if the edition tells it, and what stands behind them.
+fn numbered_edge(edition: Edition, text: &[u8]) -> Option<(u16, Option<&[u8]>, &[u8])>
+    ensures { MatchOption result ((n : ℕ) (track : Option (List ℕ)) (rest : List ℕ) → IsNumbered edition text.now n track rest → ⊥)
+        (λ p. IsNumbered edition text.now p.0 (option_copied p.1) p.2.now) }
 {
-    let (numbers, rest) = numbered(text, b"edge")?;
-    let (number, west, east, coordinates) = first_three(numbers.as_slice())?;
+    match edition {
+        Edition::First => {
+            let rest = behind(text, b"edge")?;
+            let (number, rest) = next_number(rest)?;
+            Some((number, None, rest))
+        }
+        Edition::Second => {
+            let (number, track, rest) = named(text, b"edge")?;
+            Some((number, Some(track), rest))
+        }
+    }
+}
+
+/// What the line of an edge tells, and what stands behind it.
+pub(crate) fn edge_line(edition: Edition, text: &[u8]) -> Option<(EdgeTold<'_>, &[u8])>
+    ensures { MatchOption result ((e : ℕ) (line : SheetLine) → BeginsWith (EdgeDue edition e) text.now line → ⊥)
+        (λ p. IsToldIn edition (option_copied p.0.track) × IsLineTo text.now (EdgeLine p.0.number (option_copied p.0.track) p.0.west p.0.east p.0.points.items) p.1.now) }
+{
+    let (number, track, rest) = numbered_edge(edition, text)?;
+    let (numbers, rest) = numbers(rest)?;
+    let (west, east, coordinates) = first_two(numbers.as_slice())?;
     let points = points_of(coordinates)?;
     let told = EdgeTold {
         number,
+        track,
         west,
         east,
         points,

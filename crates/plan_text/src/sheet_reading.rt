@@ -1,35 +1,37 @@
 // A sheet, read.
-ghost use Rattle.std.specs.Prelude.{◌≡◌, ◌≢◌, ◌≤◌, ◌+◌, ◌++◌, ◌∷◌, [], ℕ, true, false, Bool, List, length, MatchOption, MatchResult};
+ghost use Rattle.std.specs.Prelude.{◌≡◌, ◌≤◌, ◌+◌, ◌++◌, [], true, false, Bool, List, length, MatchOption, MatchResult};
 ghost use Rattle.plan_core.specs.declared.criterion.Criterion.{Criterion};
+ghost use Rattle.plan_core.specs.declared.limits.TheConstants.{MAX_NODES, MAX_EDGES};
 ghost use Rattle.plan_core.specs.Order.{IsOrder};
 ghost use Rattle.plan_core.specs.Graph.{Graph};
 ghost use Rattle.plan_core.specs.Drawing.{drawing};
-ghost use Rattle.plan_core.specs.Values.{values_of};
-ghost use Rattle.plan_text.specs.declared.ending.Ending.{Ending as Ends};
+ghost use Rattle.plan_core.specs.Exactly.{AnswersExactly};
 ghost use Rattle.plan_text.specs.declared.sheet_fault.SheetWhat.TheVariants.{Range};
-ghost use Rattle.plan_text.specs.SheetLine.{SheetLine, NodesLine, EdgesLine, ValuesLine, EndLine, text_of, IsSmallEnding, MayEnd};
-ghost use Rattle.plan_text.specs.SheetText.{HasSizeOf, StatesSettled, picture_lines, drawing_lines};
-ghost use Rattle.plan_text.specs.SheetFaults.{TitleDue, BodyDue, EdgesDue, ValuesDue, NoneDue, node_due, edge_due, order_told, drawing_told, IsTextOf, IsDrawingOf, IsFaultOf};
-ghost use Rattle.plan_text.specs.SheetReading.{head_lines, placed_lines, drawn_lines, ending_told, AreReadTo, IsFaultHere, IsFaultFrom};
+ghost use Rattle.plan_text.specs.declared.sheet_fault.SheetFault.TheVariants.{Memory};
+ghost use Rattle.plan_text.specs.SheetLine.{SheetLine, EndLine, text_of, IsSmallEnding, MayEnd};
+ghost use Rattle.plan_core.specs.Lawful.{HasSizeOf};
+ghost use Rattle.plan_text.specs.SheetText.{StatesSettled};
+ghost use Rattle.plan_text.specs.SheetFaults.{TitleDue, BodyDue, EdgesDue, ValuesDue, NoneDue, node_due, edge_due, IsTextOf, IsDrawingOf, IsSheetFault};
+ghost use Rattle.plan_text.specs.SheetReading.{head_lines, ending_told, AreReadTo, IsFaultHere, IsFaultFrom, ArePlaced, AreDrawn, ArePlacesTo, AreLinesTo, IsPictureTo, IsFaultBehindAll, IsClosing, IsFaultBehind, IsBody, IsUndrawnEnding, IsNoUndrawnEnding, IsUndrawnFault};
 
 use crate::sheet_checks::{edge, edges, ending, grid, measured, node, nodes, order, title};
 use crate::sheet_lines::{EndTold, end_line};
-use crate::{Ending, Sheet, SheetFault, SheetWhat};
+use crate::{Edition, Ending, Sheet, SheetFault, SheetWhat};
 use plan_core::{Grid, Order, Point};
 use plan_geometry::{Drawing, Line};
 use port_graph::PortGraph;
 use std::alloc::Global;
 
-/// The grid and the order of criteria, and what stands behind their lines.
-fn head(text: &[u8]) -> Result<(Grid, Order, &[u8]), SheetFault>
+/// The edition, the grid and the order of criteria, and what stands behind their lines.
+fn head(text: &[u8]) -> Result<(Edition, Grid, Order, &[u8]), SheetFault>
     ensures { MatchResult result
-        (λ p. IsOrder p.1 × ((g : Graph) (needs_drawing : Bool) → AreReadTo g [] (TitleDue needs_drawing) text.now (head_lines p.0 p.1) p.2.now))
+        (λ p. IsOrder p.2 × ((g : Graph) (needs_drawing : Bool) → AreReadTo g [] (TitleDue needs_drawing) text.now (head_lines p.0 p.1 p.2) p.3.now))
         (λ fault. (g : Graph) (needs_drawing : Bool) → IsFaultFrom g [] (TitleDue needs_drawing) text.now 1 fault) }
 {
-    let rest = title(text)?;
-    match grid(rest) {
+    let (edition, rest) = title(text)?;
+    match grid(edition, rest) {
         Ok((grid, rest)) => match order(rest) {
-            Ok((order, rest)) => Ok((grid, order, rest)),
+            Ok((order, rest)) => Ok((edition, grid, order, rest)),
             Err(fault) => Err(fault),
         },
         Err(fault) => Err(fault),
@@ -40,16 +42,16 @@ fn head(text: &[u8]) -> Result<(Grid, Order, &[u8]), SheetFault>
 fn places<'a>(
     alloc: Global,
     g: &PortGraph,
+    edition: Edition,
     text: &'a [u8],
 ) -> Result<(Vec<Point>, &'a [u8]), SheetFault>
-    ensures { MatchResult result
-        (λ p. (length p.0.items ≡ length g.now.nodes) × (length p.0.items ≤ 128) × ((before : List SheetLine) → AreReadTo g.now before (node_due g.now 0) text.now (placed_lines g.now 0 p.0.items) p.1.now))
-        (λ fault. (before : List SheetLine) → IsFaultFrom g.now before (node_due g.now 0) text.now 5 fault) }
+    ensures { MatchResult result (λ p. (length p.0.items ≡ length g.now.nodes) × (length p.0.items ≤ MAX_NODES) × ArePlaced edition g.now text.now p.0.items p.1.now)
+        (IsFaultBehindAll g.now (node_due edition g.now 0) text.now 5) }
 {
     let mut places = Vec::new(alloc);
     let mut rest = text;
     for n in 0..g.nodes() {
-        let (place, left) = node(g, n, rest, 5 + u32::from(n))?;
+        let (place, left) = node(alloc, g, edition, n, rest, 5 + u32::from(n))?;
         places.push(place)?;
         rest = left;
     }
@@ -60,31 +62,31 @@ fn places<'a>(
 fn all_places<'a>(
     alloc: Global,
     g: &PortGraph,
+    edition: Edition,
     text: &'a [u8],
 ) -> Result<(Vec<Point>, &'a [u8]), SheetFault>
-    ensures { MatchResult result
-        (λ p. (length p.0.items ≡ length g.now.nodes) × (length p.0.items ≤ 128) × ((before : List SheetLine) → AreReadTo g.now before (BodyDue true) text.now (NodesLine (length g.now.nodes) ∷ placed_lines g.now 0 p.0.items) p.1.now))
-        (λ fault. (before : List SheetLine) → IsFaultFrom g.now before (BodyDue true) text.now 4 fault) }
+    ensures { MatchResult result (λ p. (length p.0.items ≡ length g.now.nodes) × (length p.0.items ≤ MAX_NODES) × ArePlacesTo edition g.now text.now p.0.items p.1.now)
+        (IsFaultBehindAll g.now (BodyDue edition true) text.now 4) }
 {
     let rest = nodes(g, text)?;
-    places(alloc, g, rest)
+    places(alloc, g, edition, rest)
 }
 
 /// The lines of the edges, and what stands behind the lines of the sheet.
 fn lines<'a>(
     alloc: Global,
     g: &PortGraph,
+    edition: Edition,
     text: &'a [u8],
 ) -> Result<(Vec<Line>, &'a [u8]), SheetFault>
-    ensures { MatchResult result
-        (λ p. (length p.0.items ≡ length g.now.edges) × (length p.0.items ≤ 160) × ((before : List SheetLine) → AreReadTo g.now before (edge_due g.now 0) text.now (drawn_lines g.now 0 p.0.items) p.1.now))
-        (λ fault. (before : List SheetLine) → IsFaultFrom g.now before (edge_due g.now 0) text.now (length g.now.nodes + 6) fault) }
+    ensures { MatchResult result (λ p. (length p.0.items ≡ length g.now.edges) × (length p.0.items ≤ MAX_EDGES) × AreDrawn edition g.now text.now p.0.items p.1.now)
+        (IsFaultBehindAll g.now (edge_due edition g.now 0) text.now (length g.now.nodes + 6)) }
 {
     let first = u32::from(g.nodes()) + 6;
     let mut lines = Vec::new(alloc);
     let mut rest = text;
     for e in 0..g.edges() {
-        let (line, left) = edge(g, e, rest, first + u32::from(e))?;
+        let (line, left) = edge(g, edition, e, rest, first + u32::from(e))?;
         lines.push(line)?;
         rest = left;
     }
@@ -95,28 +97,27 @@ fn lines<'a>(
 fn all_lines<'a>(
     alloc: Global,
     g: &PortGraph,
+    edition: Edition,
     text: &'a [u8],
 ) -> Result<(Vec<Line>, &'a [u8]), SheetFault>
-    ensures { MatchResult result
-        (λ p. (length p.0.items ≡ length g.now.edges) × (length p.0.items ≤ 160) × ((before : List SheetLine) → AreReadTo g.now before EdgesDue text.now (EdgesLine (length g.now.edges) ∷ drawn_lines g.now 0 p.0.items) p.1.now))
-        (λ fault. (before : List SheetLine) → IsFaultFrom g.now before EdgesDue text.now (length g.now.nodes + 5) fault) }
+    ensures { MatchResult result (λ p. (length p.0.items ≡ length g.now.edges) × (length p.0.items ≤ MAX_EDGES) × AreLinesTo edition g.now text.now p.0.items p.1.now)
+        (IsFaultBehindAll g.now (EdgesDue edition) text.now (length g.now.nodes + 5)) }
 {
     let rest = edges(g, text, u32::from(g.nodes()) + 5)?;
-    lines(alloc, g, rest)
+    lines(alloc, g, edition, rest)
 }
 
 /// The drawing, and what stands behind its points and lines.
 fn picture<'a>(
     alloc: Global,
     g: &PortGraph,
+    edition: Edition,
     text: &'a [u8],
 ) -> Result<(Drawing, &'a [u8]), SheetFault>
-    ensures { MatchResult result
-        (λ p. HasSizeOf g.now p.0 × ((before : List SheetLine) → AreReadTo g.now before (BodyDue true) text.now (NodesLine (length g.now.nodes) ∷ picture_lines g.now p.0) p.1.now))
-        (λ fault. (before : List SheetLine) → IsFaultFrom g.now before (BodyDue true) text.now 4 fault) }
+    ensures { MatchResult result (λ p. HasSizeOf g.now p.0 × IsPictureTo edition g.now text.now p.0 p.1.now) (IsFaultBehindAll g.now (BodyDue edition true) text.now 4) }
 {
-    let (places, rest) = all_places(alloc, g, text)?;
-    let (lines, rest) = all_lines(alloc, g, rest)?;
+    let (places, rest) = all_places(alloc, g, edition, text)?;
+    let (lines, rest) = all_lines(alloc, g, edition, rest)?;
     Ok((Drawing::new(alloc, &places, &lines)?, rest))
 }
 
@@ -136,9 +137,8 @@ fn nothing(text: &[u8], line: u32) -> Result<(), SheetFault>
 
 /// The ending of a sheet with this drawing, of which the lines from the values on stand here.
 fn closing(g: &PortGraph, order: &Order, d: &Drawing, text: &[u8]) -> Result<Ending, SheetFault>
-    ensures { MatchResult result
-        (λ e. MayEnd true e × ((before : List SheetLine) → order_told before ≡ order.now → drawing_told before ≡ d.now → AreReadTo g.now before ValuesDue text.now (ValuesLine (values_of d.now) ∷ EndLine e ∷ []) []))
-        (λ fault. (before : List SheetLine) → order_told before ≡ order.now → drawing_told before ≡ d.now → IsFaultFrom g.now before ValuesDue text.now (length g.now.nodes + length g.now.edges + 6) fault) }
+    ensures { MatchResult result (λ e. MayEnd true e × IsClosing g.now order.now d.now text.now e)
+        (IsFaultBehind g.now order.now d.now ValuesDue text.now (length g.now.nodes + length g.now.edges + 6)) }
 {
     let line = u32::from(g.nodes()) + u32::from(g.edges()) + 6;
     let rest = measured(d, text, line)?;
@@ -152,14 +152,14 @@ fn closing(g: &PortGraph, order: &Order, d: &Drawing, text: &[u8]) -> Result<End
 fn body(
     alloc: Global,
     g: &PortGraph,
+    edition: Edition,
     order: &Order,
     text: &[u8],
 ) -> Result<(Drawing, Ending), SheetFault>
-    ensures { MatchResult result
-        (λ p. HasSizeOf g.now p.0 × MayEnd true p.1 × ((before : List SheetLine) → order_told before ≡ order.now → drawing_told before ≡ drawing [] [] → AreReadTo g.now before (BodyDue true) text.now (drawing_lines g.now p.0 ++ EndLine p.1 ∷ []) []))
-        (λ fault. (before : List SheetLine) → order_told before ≡ order.now → drawing_told before ≡ drawing [] [] → IsFaultFrom g.now before (BodyDue true) text.now 4 fault) }
+    ensures { MatchResult result (λ p. HasSizeOf g.now p.0 × MayEnd true p.1 × IsBody edition g.now order.now text.now p.0 p.1)
+        (IsFaultBehind g.now order.now (drawing [] []) (BodyDue edition true) text.now 4) }
 {
-    let (d, rest) = picture(alloc, g, text)?;
+    let (d, rest) = picture(alloc, g, edition, text)?;
     let ending = closing(g, order, &d, rest)?;
     Ok((d, ending))
 }
@@ -171,16 +171,16 @@ pub fn read_drawing(
     g: &PortGraph,
     bytes: &[u8],
 ) -> Result<(Grid, Drawing), SheetFault>
-    ensures { MatchResult result (λ p. IsDrawingOf g.now bytes.now p.0 p.1) (λ fault. IsFaultOf g.now true bytes.now fault) }
+    ensures { AnswersExactly result Memory (λ p. IsDrawingOf g.now bytes.now p.0 p.1) (IsSheetFault g.now true bytes.now) }
 {
-    let (grid, order, rest) = head(bytes)?;
-    let (d, _) = body(alloc, g, &order, rest)?;
+    let (edition, grid, order, rest) = head(bytes)?;
+    let (d, _) = body(alloc, g, edition, &order, rest)?;
     Ok((grid, d))
 }
 
 /// The ending of a sheet without a drawing, and what stands behind its line, if it stands here.
 fn undrawn(text: &[u8]) -> Option<(EndTold, &[u8])>
-    ensures { MatchOption result ((e : Ends) (rest : List ℕ) → IsSmallEnding e → MayEnd false e → text.now ≢ text_of (EndLine e) ++ rest)
+    ensures { MatchOption result (IsNoUndrawnEnding text.now)
         (λ p. IsSmallEnding (ending_told p.0) × MayEnd false (ending_told p.0) × (text.now ≡ text_of (EndLine (ending_told p.0)) ++ p.1.now)) }
 {
     match end_line(text)? {
@@ -206,10 +206,7 @@ fn none_settled(told: EndTold) -> Result<Ending, SheetWhat>
 /// The ending of a sheet without a drawing, of which the last line stands here, or none if another line
 /// does.
 fn undrawn_ending(text: &[u8]) -> Result<Option<Ending>, SheetFault>
-    ensures { MatchResult result
-        (λ o. MatchOption o ((e : Ends) (rest : List ℕ) → IsSmallEnding e → MayEnd false e → text.now ≢ text_of (EndLine e) ++ rest)
-        (λ e. MayEnd false e × ((g : Graph) (before : List SheetLine) → 1 ≤ length (order_told before) → AreReadTo g before (BodyDue false) text.now (EndLine e ∷ []) [])))
-        (λ fault. (g : Graph) (before : List SheetLine) → 1 ≤ length (order_told before) → IsFaultFrom g before (BodyDue false) text.now 4 fault) }
+    ensures { MatchResult result (λ o. MatchOption o (IsNoUndrawnEnding text.now) (λ e. MayEnd false e × IsUndrawnEnding text.now e)) (IsUndrawnFault text.now) }
 {
     let Some((told, rest)) = undrawn(text) else {
         return Ok(None);
@@ -225,9 +222,9 @@ fn undrawn_ending(text: &[u8]) -> Result<Option<Ending>, SheetFault>
 
 /// Reads the sheet of a station with this graph, with a drawing or without one.
 pub fn read_sheet(alloc: Global, g: &PortGraph, bytes: &[u8]) -> Result<Sheet, SheetFault>
-    ensures { MatchResult result (λ s. IsTextOf g.now false bytes.now s) (λ fault. IsFaultOf g.now false bytes.now fault) }
+    ensures { AnswersExactly result Memory (IsTextOf g.now false bytes.now) (IsSheetFault g.now false bytes.now) }
 {
-    let (grid, order, rest) = head(bytes)?;
+    let (edition, grid, order, rest) = head(bytes)?;
     if let Some(ending) = undrawn_ending(rest)? {
         return Ok(Sheet {
             grid,
@@ -236,7 +233,7 @@ pub fn read_sheet(alloc: Global, g: &PortGraph, bytes: &[u8]) -> Result<Sheet, S
             ending,
         });
     }
-    let (d, ending) = body(alloc, g, &order, rest)?;
+    let (d, ending) = body(alloc, g, edition, &order, rest)?;
     Ok(Sheet {
         grid,
         order,

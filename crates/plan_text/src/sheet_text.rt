@@ -5,14 +5,18 @@ ghost use Rattle.std.specs.Fmt.{decimal};
 ghost use Rattle.outside_io.specs.Contents.{Begins};
 ghost use Rattle.plan_core.specs.Drawing.{place, line};
 ghost use Rattle.plan_core.specs.Graph.{node, edge};
-ghost use Rattle.plan_text.specs.Fields.{spaced, line_text};
+ghost use Rattle.line_text.specs.Fields.{spaced, line_text};
 ghost use Rattle.std.specs.Option.{is_some};
-ghost use Rattle.plan_text.specs.SheetLine.{Title, GridLine, OrderLine, NodesLine, EdgesLine, ValuesLine, EndLine, criterion_word, coordinates, text_of};
-ghost use Rattle.plan_text.specs.SheetText.{HasSizeOf, DrawsAll, DrawsOnGrid, StatesSettled, node_line, edge_line, node_lines, edge_lines, drawing_lines, found_lines, sheet_text};
+ghost use Rattle.line_text.specs.Criteria.{criterion_word as word_of_criterion};
+ghost use Rattle.plan_text.specs.declared.edition.Edition.TheVariants.{Second};
+ghost use Rattle.plan_text.specs.SheetLine.{GridLine, OrderLine, NodesLine, EdgesLine, ValuesLine, EndLine, coordinates, text_of};
+ghost use Rattle.plan_core.specs.Lawful.{HasSizeOf};
+ghost use Rattle.plan_text.specs.SheetText.{DrawsAll, DrawsOnGrid, StatesSettled, node_line, edge_line, node_lines, edge_lines, drawing_lines, found_lines, sheet_text};
 
-use crate::fields::{push_count_line, push_field, push_number, push_text};
+use crate::line_parts::{push_count_line, push_mileage, push_named};
 use crate::{Ending, Sheet};
-use plan_core::{Criterion, EdgeNo, Grid, NodeNo, Order, OutOfMemory, Point, Values};
+use line_text::{criterion_word, push_field, push_number_field, push_text};
+use plan_core::{EdgeNo, Grid, NodeNo, Order, OutOfMemory, Point, Values};
 use plan_geometry::{Drawing, values};
 use port_graph::PortGraph;
 use std::alloc::Global;
@@ -22,36 +26,26 @@ fn push_pair(a: u32, b: u32, into: &mut Vec<u8>) -> Result<(), OutOfMemory>
     ensures ok { OnOk result (into.new.items ≡ into.old.items ++ spaced (decimal a ∷ decimal b ∷ [])) }
     ensures begins { Begins into.old.items into.new.items }
 {
-    push_number(into, a)?;
-    push_number(into, b)
+    push_number_field(into, a)?;
+    push_number_field(into, b)
 }
 
 fn push_grid_line(grid: &Grid, into: &mut Vec<u8>) -> Result<(), OutOfMemory>
-    ensures ok { OnOk result (into.new.items ≡ into.old.items ++ text_of (GridLine grid.now)) }
+    ensures ok { OnOk result (into.new.items ≡ into.old.items ++ text_of (GridLine Second grid.now)) }
     ensures begins { Begins into.old.items into.new.items }
 {
     push_text(into, b"grid")?;
     push_pair(u32::from(grid.width()), u32::from(grid.height()), into)?;
+    push_number_field(into, u32::from(grid.least()))?;
     push_text(into, b"\n")
 }
 
-fn criterion_word(c: Criterion) -> &'static [u8]
-    ensures { result.now ≡ criterion_word c }
-{
-    match c {
-        Criterion::Height => b"height",
-        Criterion::Bends => b"bends",
-        Criterion::Diagonal => b"diagonal",
-        Criterion::Width => b"width",
-    }
-}
-
 fn push_criteria(order: &Order, into: &mut Vec<u8>) -> Result<(), OutOfMemory>
-    ensures ok { OnOk result (into.new.items ≡ into.old.items ++ spaced (map criterion_word order.now)) }
+    ensures ok { OnOk result (into.new.items ≡ into.old.items ++ spaced (map word_of_criterion order.now)) }
     ensures begins { Begins into.old.items into.new.items }
 {
     for i in 0..order.len() {
-        push_field(into, criterion_word(order.get(i)))?;
+        push_field(into, criterion_word(order.get(i)).as_bytes())?;
     }
     Ok(())
 }
@@ -83,27 +77,30 @@ fn push_points(points: &[Point], into: &mut Vec<u8>) -> Result<(), OutOfMemory>
     Ok(())
 }
 
-fn push_node_line(g: &PortGraph, d: &Drawing, n: u16, into: &mut Vec<u8>) -> Result<(), OutOfMemory>
+fn push_node_line(
+    alloc: Global,
+    g: &PortGraph,
+    d: &Drawing,
+    n: u16,
+    into: &mut Vec<u8>,
+) -> Result<(), OutOfMemory>
     requires there { n < length g.now.nodes }
     requires placed { n < length d.now.places }
-    ensures ok { OnOk result (into.new.items ≡ into.old.items ++ text_of (node_line g.now d.now n)) }
+    ensures ok { OnOk result (into.new.items ≡ into.old.items ++ text_of (node_line Second g.now d.now n)) }
     ensures begins { Begins into.old.items into.new.items }
 {
-    push_text(into, b"node")?;
-    push_number(into, u32::from(n))?;
-    push_field(into, g.name(NodeNo(n)).bytes())?;
+    push_named(into, b"node", n, g.name(NodeNo(n)).bytes())?;
     push_point(d.place(NodeNo(n)), into)?;
-    push_text(into, b"\n")
+    push_mileage(alloc, into, g.mileage(NodeNo(n)))
 }
 
-/// Appends the number of an edge and its nodes.
+/// Appends the number of an edge, its track and its nodes.
 fn push_edge_head(g: &PortGraph, e: u16, into: &mut Vec<u8>) -> Result<(), OutOfMemory>
     requires { e < length g.now.edges }
-    ensures ok { OnOk result (into.new.items ≡ into.old.items ++ (codes "edge" ++ spaced (decimal e ∷ decimal (edge g.now e).west ∷ decimal (edge g.now e).east ∷ []))) }
+    ensures ok { OnOk result (into.new.items ≡ into.old.items ++ (codes "edge" ++ spaced (decimal e ∷ (edge g.now e).track ∷ decimal (edge g.now e).west ∷ decimal (edge g.now e).east ∷ []))) }
     ensures begins { Begins into.old.items into.new.items }
 {
-    push_text(into, b"edge")?;
-    push_number(into, u32::from(e))?;
+    push_named(into, b"edge", e, g.track(EdgeNo(e)).bytes())?;
     let west = g.west(EdgeNo(e)).0;
     let east = g.east(EdgeNo(e)).0;
     push_pair(u32::from(west), u32::from(east), into)
@@ -112,7 +109,7 @@ fn push_edge_head(g: &PortGraph, e: u16, into: &mut Vec<u8>) -> Result<(), OutOf
 fn push_edge_line(g: &PortGraph, d: &Drawing, e: u16, into: &mut Vec<u8>) -> Result<(), OutOfMemory>
     requires there { e < length g.now.edges }
     requires drawn { e < length d.now.lines }
-    ensures ok { OnOk result (into.new.items ≡ into.old.items ++ text_of (edge_line g.now d.now e)) }
+    ensures ok { OnOk result (into.new.items ≡ into.old.items ++ text_of (edge_line Second g.now d.now e)) }
     ensures begins { Begins into.old.items into.new.items }
 {
     push_edge_head(g, e, into)?;
@@ -130,29 +127,39 @@ fn push_values_line(v: Values, into: &mut Vec<u8>) -> Result<(), OutOfMemory>
     push_text(into, b"\n")
 }
 
-fn push_node_lines(g: &PortGraph, d: &Drawing, into: &mut Vec<u8>) -> Result<(), OutOfMemory>
+fn push_node_lines(
+    alloc: Global,
+    g: &PortGraph,
+    d: &Drawing,
+    into: &mut Vec<u8>,
+) -> Result<(), OutOfMemory>
     requires { HasSizeOf g.now d.now }
-    ensures ok { OnOk result (into.new.items ≡ into.old.items ++ flat_map text_of (node_lines g.now d.now)) }
+    ensures ok { OnOk result (into.new.items ≡ into.old.items ++ flat_map text_of (node_lines Second g.now d.now)) }
     ensures begins { Begins into.old.items into.new.items }
 {
     for n in 0..g.nodes() {
-        push_node_line(g, d, n, into)?;
+        push_node_line(alloc, g, d, n, into)?;
     }
     Ok(())
 }
 
-fn push_places(g: &PortGraph, d: &Drawing, into: &mut Vec<u8>) -> Result<(), OutOfMemory>
+fn push_places(
+    alloc: Global,
+    g: &PortGraph,
+    d: &Drawing,
+    into: &mut Vec<u8>,
+) -> Result<(), OutOfMemory>
     requires { HasSizeOf g.now d.now }
-    ensures ok { OnOk result (into.new.items ≡ into.old.items ++ flat_map text_of (NodesLine (length g.now.nodes) ∷ node_lines g.now d.now)) }
+    ensures ok { OnOk result (into.new.items ≡ into.old.items ++ flat_map text_of (NodesLine (length g.now.nodes) ∷ node_lines Second g.now d.now)) }
     ensures begins { Begins into.old.items into.new.items }
 {
     push_count_line(into, b"nodes", u32::from(g.nodes()))?;
-    push_node_lines(g, d, into)
+    push_node_lines(alloc, g, d, into)
 }
 
 fn push_edge_lines(g: &PortGraph, d: &Drawing, into: &mut Vec<u8>) -> Result<(), OutOfMemory>
     requires { HasSizeOf g.now d.now }
-    ensures ok { OnOk result (into.new.items ≡ into.old.items ++ flat_map text_of (edge_lines g.now d.now)) }
+    ensures ok { OnOk result (into.new.items ≡ into.old.items ++ flat_map text_of (edge_lines Second g.now d.now)) }
     ensures begins { Begins into.old.items into.new.items }
 {
     for e in 0..g.edges() {
@@ -163,31 +170,41 @@ fn push_edge_lines(g: &PortGraph, d: &Drawing, into: &mut Vec<u8>) -> Result<(),
 
 fn push_lines(g: &PortGraph, d: &Drawing, into: &mut Vec<u8>) -> Result<(), OutOfMemory>
     requires { HasSizeOf g.now d.now }
-    ensures ok { OnOk result (into.new.items ≡ into.old.items ++ flat_map text_of (EdgesLine (length g.now.edges) ∷ edge_lines g.now d.now)) }
+    ensures ok { OnOk result (into.new.items ≡ into.old.items ++ flat_map text_of (EdgesLine (length g.now.edges) ∷ edge_lines Second g.now d.now)) }
     ensures begins { Begins into.old.items into.new.items }
 {
     push_count_line(into, b"edges", u32::from(g.edges()))?;
     push_edge_lines(g, d, into)
 }
 
-fn push_drawing(g: &PortGraph, d: &Drawing, into: &mut Vec<u8>) -> Result<(), OutOfMemory>
+fn push_drawing(
+    alloc: Global,
+    g: &PortGraph,
+    d: &Drawing,
+    into: &mut Vec<u8>,
+) -> Result<(), OutOfMemory>
     requires { HasSizeOf g.now d.now }
-    ensures ok { OnOk result (into.new.items ≡ into.old.items ++ flat_map text_of (drawing_lines g.now d.now)) }
+    ensures ok { OnOk result (into.new.items ≡ into.old.items ++ flat_map text_of (drawing_lines Second g.now d.now)) }
     ensures begins { Begins into.old.items into.new.items }
 {
-    push_places(g, d, into)?;
+    push_places(alloc, g, d, into)?;
     push_lines(g, d, into)?;
     push_values_line(values(d), into)
 }
 
 /// Appends the drawing, where there is one.
-fn push_found(g: &PortGraph, s: &Sheet, into: &mut Vec<u8>) -> Result<(), OutOfMemory>
+fn push_found(
+    alloc: Global,
+    g: &PortGraph,
+    s: &Sheet,
+    into: &mut Vec<u8>,
+) -> Result<(), OutOfMemory>
     requires { DrawsAll g.now s.now }
-    ensures ok { OnOk result (into.new.items ≡ into.old.items ++ flat_map text_of (found_lines g.now s.now.found)) }
+    ensures ok { OnOk result (into.new.items ≡ into.old.items ++ flat_map text_of (found_lines Second g.now s.now.found)) }
     ensures begins { Begins into.old.items into.new.items }
 {
     match &s.found {
-        Some(d) => push_drawing(g, d, into),
+        Some(d) => push_drawing(alloc, g, d, into),
         None => Ok(()),
     }
 }
@@ -198,7 +215,7 @@ fn push_settled(word: &[u8], settled: u8, into: &mut Vec<u8>) -> Result<(), OutO
 {
     push_text(into, b"end")?;
     push_field(into, word)?;
-    push_number(into, u32::from(settled))?;
+    push_number_field(into, u32::from(settled))?;
     push_text(into, b"\n")
 }
 
@@ -214,8 +231,9 @@ fn push_ending(ending: Ending, into: &mut Vec<u8>) -> Result<(), OutOfMemory>
     }
 }
 
-/// Appends the text of a sheet: its grid and order, the points of all nodes and the lines of all edges,
-/// both by number, what the drawing measures, and how the search ended.
+/// Appends the text of a sheet, of the second edition: its grid and order, the points and mileages of all
+/// nodes and the tracks and lines of all edges, both by number, what the drawing measures, and how the search
+/// ended.
 pub fn write_sheet(
     alloc: Global,
     g: &PortGraph,
@@ -228,9 +246,9 @@ pub fn write_sheet(
     ensures ok { OnOk result (into.new.items ≡ into.old.items ++ sheet_text g.now s.now) }
     ensures begins { Begins into.old.items into.new.items }
 {
-    push_text(into, b"railplan 1\n")?;
+    push_text(into, b"railplan 2\n")?;
     push_grid_line(&s.grid, into)?;
     push_order_line(&s.order, into)?;
-    push_found(g, s, into)?;
+    push_found(alloc, g, s, into)?;
     push_ending(s.ending, into)
 }

@@ -1,4 +1,4 @@
-use Rattle.plan_text.proofs.TextLemmas.{none_at}
+use Rattle.plan_core.proofs.OptionFacts.{none_at}
 use Rattle.plan_text.proofs.FormLemmas.{no_ending}
 use Rattle.plan_text.proofs.sheet_lines.end_line.Goals as goal
 

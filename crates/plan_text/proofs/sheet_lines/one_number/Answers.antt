@@ -1,5 +1,5 @@
 use Rattle.std.proofs.Common.{[], ◌∷◌, sym, ◌∙◌, arith}
-use Rattle.plan_text.proofs.TextLemmas.{none_at}
+use Rattle.plan_core.proofs.OptionFacts.{none_at}
 use Rattle.plan_text.proofs.LineOnce.{numbers_once}
 use Rattle.plan_text.proofs.sheet_lines.one_number.Goals as goal
 

@@ -1,6 +1,6 @@
 use Rattle.std.proofs.Common.{[], ◌∷◌, sym, ◌∙◌, arith}
 use Rattle.std.specs.Prelude.{codes}
-use Rattle.plan_text.proofs.TextLemmas.{none_at}
+use Rattle.plan_core.proofs.OptionFacts.{none_at}
 use Rattle.plan_text.proofs.LineOnce.{tells_values, numbers_once}
 use Rattle.plan_text.proofs.sheet_lines.values_line.Goals as goal
 

@@ -1,7 +1,7 @@
 use Rattle.std.proofs.Common.{◌≡◌, ◌++◌, drop, map}
 use Rattle.outside_io.specs.Contents.{Begins}
-use Rattle.plan_text.specs.Fields.{spaced}
-use Rattle.plan_text.specs.SheetLine.{criterion_word}
+use Rattle.line_text.specs.Fields.{spaced}
+use Rattle.line_text.specs.Criteria.{criterion_word}
 use Rattle.plan_text.proofs.sheet_text.push_criteria.Given as goal
 
 abbrev pub invariant-loop-i : goal.invariant-loop-i

@@ -2,7 +2,7 @@ use Rattle.std.proofs.Common.{◌≡◌, ◌++◌, drop, map}
 use Rattle.std.specs.Prelude.{flat_map}
 use Rattle.std.specs.Fmt.{decimal}
 use Rattle.outside_io.specs.Contents.{Begins}
-use Rattle.plan_text.specs.Fields.{spaced}
+use Rattle.line_text.specs.Fields.{spaced}
 use Rattle.plan_text.specs.SheetLine.{coordinates}
 use Rattle.plan_text.proofs.sheet_text.push_points.Given as goal
 
