@@ -1,13 +1,12 @@
 -- What follows of assumptions.
-use Rattle.std.proofs.Common.{◌≡◌, ℕ, ◌<◌, ◌⊎◌, Bool, false, List, ◌++◌, length, take, get_or, sym, ◌∙◌, ap, subst, inl, inr, arith}
+use Rattle.std.proofs.Common.{◌≡◌, ℕ, ◌⊎◌, Bool, List, ◌++◌, length, take, sym, ◌∙◌, ap, subst, inl, inr, arith}
 use Rattle.std.specs.Prelude.{All, Contains}
-use Rattle.std.proofs.lemmas.List.{take_all, take_at, get_or_default}
+use Rattle.std.proofs.lemmas.List.{take_all, take_at}
 use Rattle.std.proofs.lemmas.List.Elements.{All-contains, All-weaker}
-use Rattle.cnf_core.specs.Lit.{Literal, negate, has, word_of}
-use Rattle.cnf_core.specs.Clause.{Clauses, IsThere}
+use Rattle.cnf_core.specs.Lit.{Literal, negate, has}
+use Rattle.cnf_core.specs.Clause.{Clauses}
 use Rattle.cnf_core.specs.Propagation.{IsIn, Includes, IsUnit, IsClosed, Closure, Falsifies, negations, HasReason, Falsified, IsClosure, nothing}
 use Rattle.cnf_core.proofs.PropagationLemmas.{negate-negate, has_from_contains, closure_start, closure_again, closure_any}
-use Rattle.cnf_core.proofs.TrailLemmas.{word_below}
 use Rattle.refute_check.specs.declared.tables.Tables.{Tables}
 use Rattle.refute_check.specs.Tables.{IsTrail, IsCounted, AreCounts, AreQuiet, IsQuiet, Grows, Assumes, Clashes}
 use Rattle.refute_check.specs.Settled.{IsSettled}
@@ -79,12 +78,6 @@ supposed_front clauses old mid new lits a g = let longer = a.longer in same_fron
 -- a vector whose slice was written
 pub written_back : (n : ℕ) (xs : List Bool) (ys : List Bool) → length xs ≡ n → take n (xs ++ ys) ≡ xs
 written_back n xs ys e = take_at xs ys n e
-
--- a mark, as it is read
-pub marked_read : (vars : ℕ) (truth : List Bool) (trail : List Literal) (l : Literal) (word : ℕ) (b : Bool) → IsTrail vars truth trail → IsThere vars l → word ≡ word_of l → b ≡ get_or truth word b → has trail l ≡ b
-marked_read vars truth trail l word b t there w read =
-    let within : word_of l < length truth = omega (arith, t.size, word_below vars l there) in
-    sym (t.marks l) ∙ get_or_default truth (word_of l) false b within ∙ ap (λ n. get_or truth n b) (sym w) ∙ sym read
 
 -- the tables after assumptions were taken back
 pub settled_again : (vars : ℕ) (clauses : Clauses) (old new : Tables) (mid : List Literal) (level : ℕ) → level ≡ length old.trail.items → IsSettled vars clauses old → new.occurrences.items ≡ old.occurrences.items → IsCounted vars clauses new.truth.items new.trail.items new.counts.items level → new.trail.items ≡ take level mid → take (length old.trail.items) mid ≡ old.trail.items → IsSettled vars clauses new

@@ -5,3 +5,4 @@ pub mod Words
 pub mod Scans
 pub mod Settled
 pub mod Standing
+pub mod Novelty

@@ -104,3 +104,7 @@ pub record Clashes (lits trail : List Literal) : Type 0 where
 pub record Lists (lits : List Literal) (number : ℕ) (old new : List (List ℕ)) : Type 0 where
   pub size : length new ≡ length old
   pub each : (l : Literal) → word_of l < length old → slice_index_or new (word_of l) [] ≡ slice_index_or old (word_of l) [] ++ cond (has lits l) (number ∷ []) []
+
+-- each literal of the trail is the negation of one of these, or some clause makes it true
+abbrev pub AreReasoned : Clauses → List Literal → List Literal → Type 0
+AreReasoned clauses lits trail = (l : Literal) → IsIn (has trail) l → IsIn (negations lits) l ⊎ HasReason clauses (has trail) l

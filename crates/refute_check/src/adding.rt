@@ -109,7 +109,7 @@ impl Tables {
 
     /// Marks a literal that is neither true nor false, and what follows. The answer is whether some
     /// clause is falsified, and how far the trail was counted.
-    fn mark_and_propagate(
+    pub(crate) fn mark_and_propagate(
         &mut self,
         formula: &Formula,
         l: Lit,
@@ -121,6 +121,7 @@ impl Tables {
         requires not_true { marked self.old.truth.items l ≡ false }
         requires not_false { marked self.old.truth.items (negate l) ≡ false }
         ensures same { OnOk result (self.new.occurrences.items ≡ self.old.occurrences.items) }
+        ensures on { IfOk result (λ r. length self.old.trail.items ≤ r.1) }
         ensures counted { IfOk result (λ r. IsCounted formula.now.vars formula.now.clauses self.new.truth.items self.new.trail.items self.new.counts.items r.1) }
         ensures grows { OnOk result (Grows formula.now.clauses (self.old.trail.items ++ l ∷ []) self.new.trail.items) }
         ensures falsified { IfOk result (λ r. r.0 ≡ true → Falsified formula.now.clauses (has self.new.trail.items)) }

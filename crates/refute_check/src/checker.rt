@@ -4,11 +4,13 @@ ghost use Rattle.cnf_core.specs.Clause.{IsThere, AreDistinct, AreThere, words_of
 ghost use Rattle.cnf_core.specs.Propagation.{Closure, Falsifies, Rup, negations, greatest_in, greatest_var};
 ghost use Rattle.refute_log.specs.Log.{facts_of, IsNewClause};
 ghost use Rattle.refute_check.specs.Kept.{with_clause, IsKnownClause, IsAnswer, Accepts, NamesNew, AnswersWrongly, PassesRoom, IsUnproved, IsOld, IncludesNone, Refutes};
+ghost use Rattle.refute_check.specs.Novelty.{IsNovelty, HasNovelty};
 ghost use Rattle.refute_log.specs.Lines.{IsWellFormed};
 
 use crate::LineFault;
 use crate::judging::{answer, are_among, are_named};
 use crate::keeping::{Standing, greatest, keep};
+use crate::novelty::Novelty;
 use crate::question::Question;
 use crate::tables::Tables;
 use cnf_core::{Clause, Formula, LAST_VAR, Lit, ROOM, VARS};
@@ -83,26 +85,23 @@ impl Checker {
         }
     }
 
-    /// Whether the first literal follows already where the others are false, or these falsify some
-    /// clause.
-    fn knows(&mut self, first: Lit, others: &[Lit]) -> Result<bool, OutOfMemory>
+    /// What the clause of the first literal and the others is.
+    fn weigh(&mut self, first: Lit, others: &[Lit]) -> Result<Novelty, OutOfMemory>
         requires first { IsThere self.old.facts.greatest first }
         requires there { AreThere self.old.facts.greatest others.now }
-        requires distinct { AreDistinct others.now }
+        requires distinct { AreDistinct (first ∷ others.now) }
         ensures same { OnOk result (self.new ≡ self.old) }
-        ensures yes { IfOk result (λ b. b ≡ true → Falsifies self.old.facts.clauses (negations others.now) ⊎ Closure self.old.facts.clauses (negations others.now) first) }
-        ensures unfalsified { IfOk result (λ b. b ≡ false → Falsifies self.old.facts.clauses (negations others.now) → ⊥) }
-        ensures greatest { IfOk result (λ b. b ≡ false → self.old.facts.greatest ≤ greatest_var self.old.facts.clauses) }
-        ensures unknown { IfOk result (λ b. b ≡ false → Closure self.old.facts.clauses (negations others.now) first → ⊥) }
+        ensures novelty { IfOk result (IsNovelty self.old.facts.clauses first others.now) }
+        ensures greatest { IfOk result (λ n. n ≡ Novelty.New → self.old.facts.greatest ≤ greatest_var self.old.facts.clauses) }
     {
         match self.standing {
             Standing::Lost => Err(OutOfMemory),
-            Standing::Contradiction => Ok(true),
+            Standing::Contradiction => Ok(Novelty::Known),
             Standing::Open => {
                 self.standing = Standing::Lost;
-                let knows = self.tables.knows(&self.formula, first, others)?;
+                let novelty = self.tables.novelty_of(&self.formula, first, others)?;
                 self.standing = Standing::Open;
-                Ok(knows)
+                Ok(novelty)
             }
         }
     }
@@ -140,19 +139,18 @@ impl Checker {
         Ok(())
     }
 
-    /// Whether the first literal of a clause is known already.
-    fn repeats(&mut self, lits: &[Lit]) -> Result<bool, OutOfMemory>
+    /// What the clause of these literals is.
+    fn novelty_of(&mut self, lits: &[Lit]) -> Result<Novelty, OutOfMemory>
         requires some { 1 ≤ length lits.now }
         requires there { AreThere self.old.facts.greatest lits.now }
         requires distinct { AreDistinct lits.now }
         ensures same { OnOk result (self.new ≡ self.old) }
-        ensures yes { IfOk result (λ b. b ≡ true → IsKnownClause self.old.facts.clauses lits.now) }
-        ensures no { IfOk result (λ b. b ≡ false → IsNewClause self.old.facts.clauses lits.now) }
+        ensures novelty { IfOk result (HasNovelty self.old.facts.clauses lits.now) }
     {
         let first = lits[0];
         let others = &lits[1..];
-        let knows = self.knows(first, others)?;
-        Ok(knows)
+        let novelty = self.weigh(first, others)?;
+        Ok(novelty)
     }
 
     /// Accepts a Formula line, or says why not.
@@ -185,14 +183,15 @@ impl Checker {
         if self.lacks_room(lits.len()) {
             return Err(LineFault::Room);
         }
-        if !self.follows(lits)? {
-            return Err(LineFault::NotImplied);
+        let novelty = self.novelty_of(lits)?;
+        match novelty {
+            Novelty::Unproved => Err(LineFault::NotImplied),
+            Novelty::Known => Err(LineFault::NotNew),
+            Novelty::New => {
+                self.keep(lits, 0)?;
+                Ok(())
+            }
         }
-        if self.repeats(lits)? {
-            return Err(LineFault::NotNew);
-        }
-        self.keep(lits, 0)?;
-        Ok(())
     }
 
     /// Accepts a Query line, or says why not.

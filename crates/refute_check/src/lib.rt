@@ -18,6 +18,7 @@ mod fault;
 mod judging;
 mod keeping;
 mod looks;
+mod novelty;
 mod places;
 mod propagation;
 mod question;

@@ -1,9 +1,9 @@
 // The tables that propagation works on, between the lines of a log.
-ghost use Rattle.std.specs.Prelude.{◌≡◌, ◌≤◌, ◌<◌, ◌⊎◌, ◌+◌, ◌*◌, [], true, false, OnOk, IfOk, length, take};
+ghost use Rattle.std.specs.Prelude.{◌≡◌, ◌≤◌, ◌<◌, ◌+◌, ◌*◌, [], true, false, OnOk, IfOk, length, take};
 ghost use Rattle.cnf_core.specs.Lit.{has};
-ghost use Rattle.cnf_core.specs.Clause.{AreThere, AreDistinct, IsThere};
-ghost use Rattle.cnf_core.specs.Propagation.{Closure, Falsifies, Rup, negations, IsClosure};
-ghost use Rattle.refute_check.specs.Tables.{IsCounted, AreOccurrences};
+ghost use Rattle.cnf_core.specs.Clause.{AreThere, AreDistinct};
+ghost use Rattle.cnf_core.specs.Propagation.{Falsifies, Rup, negations, IsClosure};
+ghost use Rattle.refute_check.specs.Tables.{IsCounted, AreOccurrences, AreQuiet, AreReasoned};
 ghost use Rattle.refute_check.specs.Settled.{IsSettled};
 
 use crate::assume::assume_false;
@@ -48,7 +48,11 @@ impl Tables {
 
     /// Assumes that the literals are false, and marks what follows. The answer is whether some
     /// clause is falsified, and how far the trail was counted.
-    fn suppose(&mut self, formula: &Formula, lits: &[Lit]) -> Result<(bool, usize), OutOfMemory>
+    pub(crate) fn suppose(
+        &mut self,
+        formula: &Formula,
+        lits: &[Lit],
+    ) -> Result<(bool, usize), OutOfMemory>
         requires settled { IsSettled formula.now.vars formula.now.clauses self.old }
         requires there { AreThere formula.now.vars lits.now }
         requires distinct { AreDistinct lits.now }
@@ -58,6 +62,9 @@ impl Tables {
         ensures same { OnOk result (self.new.occurrences.items ≡ self.old.occurrences.items) }
         ensures falsified { IfOk result (λ r. r.0 ≡ true → Falsifies formula.now.clauses (negations lits.now)) }
         ensures closed { IfOk result (λ r. r.0 ≡ false → IsClosure formula.now.clauses (negations lits.now) (has self.new.trail.items)) }
+        ensures all { IfOk result (λ r. r.0 ≡ false → r.1 ≡ length self.new.trail.items) }
+        ensures quiet { IfOk result (λ r. r.0 ≡ false → AreQuiet formula.now.clauses self.new.trail.items (length self.new.trail.items)) }
+        ensures reasoned { IfOk result (λ r. r.0 ≡ false → AreReasoned formula.now.clauses lits.now self.new.trail.items) }
     {
         let level = self.trail.len();
         let clash = assume_false(&mut self.truth, &mut self.trail, formula.vars(), lits)?;
@@ -76,7 +83,7 @@ impl Tables {
     }
 
     /// Takes the trail back to its first `level` literals, of which `front` were counted.
-    fn take_back(&mut self, formula: &Formula, level: usize, front: usize)
+    pub(crate) fn take_back(&mut self, formula: &Formula, level: usize, front: usize)
         requires counted { IsCounted formula.now.vars formula.now.clauses self.old.truth.items self.old.trail.items self.old.counts.items front }
         requires level { level ≤ front }
         requires occurrences { AreOccurrences formula.now.vars formula.now.clauses self.old.occurrences.items }
@@ -108,29 +115,5 @@ impl Tables {
         let (falsified, front) = self.suppose(formula, lits)?;
         self.take_back(formula, level, front);
         Ok(falsified)
-    }
-
-    /// Whether the first literal follows already where the others are false, or these falsify some
-    /// clause.
-    pub(crate) fn knows(
-        &mut self,
-        formula: &Formula,
-        first: Lit,
-        others: &[Lit],
-    ) -> Result<bool, OutOfMemory>
-        requires settled { IsSettled formula.now.vars formula.now.clauses self.old }
-        requires first { IsThere formula.now.vars first }
-        requires there { AreThere formula.now.vars others.now }
-        requires distinct { AreDistinct others.now }
-        ensures settled { OnOk result (IsSettled formula.now.vars formula.now.clauses self.new) }
-        ensures yes { IfOk result (λ b. b ≡ true → Falsifies formula.now.clauses (negations others.now) ⊎ Closure formula.now.clauses (negations others.now) first) }
-        ensures unfalsified { IfOk result (λ b. b ≡ false → Falsifies formula.now.clauses (negations others.now) → ⊥) }
-        ensures unknown { IfOk result (λ b. b ≡ false → Closure formula.now.clauses (negations others.now) first → ⊥) }
-    {
-        let level = self.trail.len();
-        let (falsified, front) = self.suppose(formula, others)?;
-        let marked = self.truth[first.word() as usize];
-        self.take_back(formula, level, front);
-        Ok(falsified || marked)
     }
 }

@@ -1,5 +1,7 @@
-use Rattle.std.proofs.Common.{refl, ◌∙◌}
-use Rattle.refute_check.proofs.CheckerLemmas.{named_line, there_named, learnt_lacks, learnt_unproved, learnt_old, learnt_accepts, there_same, there_zero}
+use Rattle.std.proofs.Common.{refl}
+use Rattle.refute_check.specs.declared.novelty.Novelty.TheVariants.{Unproved, Known, New}
+use Rattle.refute_check.specs.Novelty.{HasNovelty}
+use Rattle.refute_check.proofs.CheckerLemmas.{named_line, there_named, learnt_lacks, learnt_unproved, learnt_old, learnt_accepts, there_zero}
 use Rattle.refute_check.proofs.checker.Checker.feed_learnt.Goals as goal
 
 pub returns-then-lacks_room : goal.returns-then-lacks_room
@@ -7,32 +9,30 @@ returns-then-lacks_room c =
     let named = named_line c.args.clause.now c.as_slice-lits.result.now c.vars.result c.self.inside.room c.self.inside.formula c.self.inside.query c.self.inside.refuted.items c.args.self.now c.as_slice-lits.ensures.value c.vars.ensures.value c.self.view_is (c.are_named.ensures.yes c.if-not-are_named.false) in
     (learnt_lacks c.args.self.now c.args.clause.now c.as_slice-lits.result.now c.as_slice-lits.ensures.value named (c.lacks_room.ensures.yes c.if-lacks_room.true), refl)
 
-pub follows-requires-clause-there : goal.follows-requires-clause-there
-follows-requires-clause-there c =
+pub novelty_of-requires-clause-there : goal.novelty_of-requires-clause-there
+novelty_of-requires-clause-there c =
     let named = named_line c.args.clause.now c.as_slice-lits.result.now c.vars.result c.self.inside.room c.self.inside.formula c.self.inside.query c.self.inside.refuted.items c.args.self.now c.as_slice-lits.ensures.value c.vars.ensures.value c.self.view_is (c.are_named.ensures.yes c.if-not-are_named.false) in
     there_named 1073741823 c.args.self.now.facts.greatest c.args.clause.now c.as_slice-lits.result.now c.requires.there c.as_slice-lits.ensures.value named
 
-pub returns-then-not-branch : goal.returns-then-not-branch
-returns-then-not-branch c =
+pub returns-in-Unproved : goal.returns-in-Unproved
+returns-in-Unproved c =
     let named = named_line c.args.clause.now c.as_slice-lits.result.now c.vars.result c.self.inside.room c.self.inside.formula c.self.inside.query c.self.inside.refuted.items c.args.self.now c.as_slice-lits.ensures.value c.vars.ensures.value c.self.view_is (c.are_named.ensures.yes c.if-not-are_named.false) in
-    (learnt_unproved c.args.self.now c.args.clause.now c.as_slice-lits.result.now c.as_slice-lits.ensures.value named (c.lacks_room.ensures.no c.if-lacks_room.false) (c.in_ok-follows.ensures.no c.if-not-branch.true), c.in_ok-follows.ensures.same)
+    let judged : HasNovelty c.args.self.now.facts.clauses c.as_slice-lits.result.now Unproved = rw c.in-Unproved.is at c.in_ok-novelty.ensures.novelty in
+    (learnt_unproved c.args.self.now c.args.clause.now c.as_slice-lits.result.now c.as_slice-lits.ensures.value named (c.lacks_room.ensures.no c.if-lacks_room.false) judged, c.in_ok-novelty.ensures.same)
 
-pub repeats-requires-clause-there : goal.repeats-requires-clause-there
-repeats-requires-clause-there c =
+pub returns-in-Known : goal.returns-in-Known
+returns-in-Known c =
     let named = named_line c.args.clause.now c.as_slice-lits.result.now c.vars.result c.self.inside.room c.self.inside.formula c.self.inside.query c.self.inside.refuted.items c.args.self.now c.as_slice-lits.ensures.value c.vars.ensures.value c.self.view_is (c.are_named.ensures.yes c.if-not-are_named.false) in
-    there_same c.args.self.now c.follows.new.self c.as_slice-lits.result.now c.in_ok-follows.ensures.same (there_named 1073741823 c.args.self.now.facts.greatest c.args.clause.now c.as_slice-lits.result.now c.requires.there c.as_slice-lits.ensures.value named)
-
-pub returns-then-branch : goal.returns-then-branch
-returns-then-branch c =
-    let named = named_line c.args.clause.now c.as_slice-lits.result.now c.vars.result c.self.inside.room c.self.inside.formula c.self.inside.query c.self.inside.refuted.items c.args.self.now c.as_slice-lits.ensures.value c.vars.ensures.value c.self.view_is (c.are_named.ensures.yes c.if-not-are_named.false) in
-    (learnt_old c.args.self.now c.follows.new.self c.args.clause.now c.as_slice-lits.result.now c.as_slice-lits.ensures.value c.in_ok-follows.ensures.same named (c.lacks_room.ensures.no c.if-lacks_room.false) (c.in_ok-follows.ensures.yes c.if-not-branch.false) (c.in_ok-repeats.ensures.yes c.if-branch.true), c.in_ok-repeats.ensures.same ∙ c.in_ok-follows.ensures.same)
+    let judged : HasNovelty c.args.self.now.facts.clauses c.as_slice-lits.result.now Known = rw c.in-Known.is at c.in_ok-novelty.ensures.novelty in
+    (learnt_old c.args.self.now c.args.self.now c.args.clause.now c.as_slice-lits.result.now c.as_slice-lits.ensures.value refl named (c.lacks_room.ensures.no c.if-lacks_room.false) judged.0 judged.1, c.in_ok-novelty.ensures.same)
 
 pub keep-requires-clause-there : goal.keep-requires-clause-there
 keep-requires-clause-there c =
     let named = named_line c.args.clause.now c.as_slice-lits.result.now c.vars.result c.self.inside.room c.self.inside.formula c.self.inside.query c.self.inside.refuted.items c.args.self.now c.as_slice-lits.ensures.value c.vars.ensures.value c.self.view_is (c.are_named.ensures.yes c.if-not-are_named.false) in
-    there_zero c.args.self.now c.repeats.new.self c.as_slice-lits.result.now (c.in_ok-repeats.ensures.same ∙ c.in_ok-follows.ensures.same) (there_named 1073741823 c.args.self.now.facts.greatest c.args.clause.now c.as_slice-lits.result.now c.requires.there c.as_slice-lits.ensures.value named)
+    there_zero c.args.self.now c.novelty_of.new.self c.as_slice-lits.result.now c.in_ok-novelty.ensures.same (there_named 1073741823 c.args.self.now.facts.greatest c.args.clause.now c.as_slice-lits.result.now c.requires.there c.as_slice-lits.ensures.value named)
 
-pub returns : goal.returns
-returns c =
+pub returns-in_ok-keep-in-New : goal.returns-in_ok-keep-in-New
+returns-in_ok-keep-in-New c =
     let named = named_line c.args.clause.now c.as_slice-lits.result.now c.vars.result c.self.inside.room c.self.inside.formula c.self.inside.query c.self.inside.refuted.items c.args.self.now c.as_slice-lits.ensures.value c.vars.ensures.value c.self.view_is (c.are_named.ensures.yes c.if-not-are_named.false) in
-    learnt_accepts c.args.self.now c.follows.new.self c.repeats.new.self c.keep.new.self c.args.clause.now c.as_slice-lits.result.now c.as_slice-lits.ensures.value c.in_ok-follows.ensures.same c.in_ok-repeats.ensures.same named (c.lacks_room.ensures.no c.if-lacks_room.false) (c.in_ok-follows.ensures.yes c.if-not-branch.false) (c.in_ok-repeats.ensures.no c.if-branch.false) c.in_ok-keep.ensures
+    let judged : HasNovelty c.args.self.now.facts.clauses c.as_slice-lits.result.now New = rw c.in-New.is at c.in_ok-novelty.ensures.novelty in
+    learnt_accepts c.args.self.now c.args.self.now c.novelty_of.new.self c.keep.new.self c.args.clause.now c.as_slice-lits.result.now c.as_slice-lits.ensures.value refl c.in_ok-novelty.ensures.same named (c.lacks_room.ensures.no c.if-lacks_room.false) judged.0 judged.1 c.in_ok-keep-in-New.ensures

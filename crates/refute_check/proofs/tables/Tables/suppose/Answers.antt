@@ -1,6 +1,7 @@
 use Rattle.std.proofs.Common.{◌≡◌, ◌∙◌, arith, length, subst, drop}
 use Rattle.refute_check.specs.Tables.{IsTrail}
 use Rattle.refute_check.proofs.SupposeLemmas.{assumed_counted, clash_falsifies, supposed_falsifies, supposed_closure, written_back}
+use Rattle.refute_check.proofs.NoveltyLemmas.{supposed_reasoned}
 use Rattle.refute_check.proofs.tables.Tables.suppose.Goals as goal
 
 pub propagate-requires-clause-counted : goal.propagate-requires-clause-counted
@@ -22,3 +23,6 @@ returns-clause-falsified c = λ t. supposed_falsifies c.args.formula.now.clauses
 
 pub returns-clause-closed : goal.returns-clause-closed
 returns-clause-closed c = λ f. supposed_closure c.args.formula.now.clauses c.args.self.now.trail.items c.assume_false.new.trail.items c.propagate.new.trail.items c.args.lits.now c.requires.settled.within c.in_ok-clash.ensures.assumes (c.in_ok-clash.ensures.all c.if-clash.false) c.in_ok-reached.ensures.grows (c.in_ok-reached.ensures.quiet f)
+
+pub returns-clause-reasoned : goal.returns-clause-reasoned
+returns-clause-reasoned c = λ _. supposed_reasoned c.args.formula.now.clauses c.args.self.now.trail.items c.assume_false.new.trail.items c.propagate.new.trail.items c.args.lits.now c.requires.settled.reasoned c.in_ok-clash.ensures.assumes c.in_ok-reached.ensures.grows
