@@ -11,9 +11,10 @@ use Rattle.plan_core.specs.declared.topology.Topology.{Topology}
 use Rattle.plan_core.specs.declared.topology.Track.{Track}
 use Rattle.plan_core.specs.declared.topology.Inner.{Inner}
 use Rattle.plan_core.specs.Topology.{Element, IsId, elements, IsMileage, track_miles, IsResolved}
+use Rattle.plan_core.specs.declared.limits.TheConstants.{MAX_TRACKS}
 use Rattle.railml_read.specs.declared.rows.Elem.{Elem}
 use Rattle.railml_topology.specs.declared.layout.Layout.{Layout}
-use Rattle.railml_topology.specs.Rows.{BearsId, ReadsMetres, HasPosition}
+use Rattle.railml_topology.specs.Rows.{BearsId, ReadsMetres, HasPosition, track_rows}
 use Rattle.railml_topology.specs.Resolved.{IsMeasuredFrom, HasMileage, IsInnerOf, IsTrackOf, IsTopologyOf}
 use Rattle.railml_topology.specs.Sound.{AreSoundRows}
 use Rattle.railml_topology.specs.Plans.{IsOfSize}
@@ -21,6 +22,7 @@ use Rattle.railml_topology.proofs.PositionLemmas.{number_within}
 use Rattle.railml_topology.proofs.Apart.{all_more, all_joined, all_mapped, pairs_from_stands, stands_mapped, apart_short, Covers}
 use Rattle.railml_topology.proofs.ElementLemmas.{Bears, element_of, element_is, covered}
 use Rattle.railml_topology.proofs.JoinLemmas.{both_ways}
+use Rattle.railml_topology.proofs.Zips.{zip_length}
 
 -- ---- elements
 
@@ -137,6 +139,16 @@ all_miles rows layouts (l ∷ ls) (track ∷ tracks) h =
     all_joined IsMileage (track_miles track) (flat_map track_miles tracks) (miles_of_track rows layouts l track h.0) (all_miles rows layouts ls tracks h.1)
 
 -- ---- all of it
+
+-- a topology has as many tracks as the rows
+pub few_tracks : (rows : List Elem) (t : Topology) → AreSoundRows rows → IsTopologyOf rows t → length t.tracks ≤ MAX_TRACKS
+few_tracks rows t s h =
+    let layouts : List Layout = h.layouts in
+    let one : length layouts ≡ length t.tracks = zip_length (IsTrackOf rows layouts) layouts t.tracks h.tracks in
+    let two : length (map (λ (l : Layout). l.track) layouts) ≡ length layouts = length-map layouts (λ (l : Layout). l.track) in
+    let three : length (map (λ (l : Layout). l.track) layouts) ≡ length (track_rows rows) = ap length h.laid_out.tracks in
+    let few = s.few in
+    omega arith
 
 pub resolved : (rows : List Elem) (t : Topology) → AreSoundRows rows → IsTopologyOf rows t → IsResolved t
 resolved rows t s h =

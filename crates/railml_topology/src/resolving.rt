@@ -1,5 +1,6 @@
 // The topology that rows resolve to, or the fault that they have.
-ghost use Rattle.std.specs.Prelude.{◌≡◌, ◌⊎◌, IfOk, IfErr, OnOk};
+ghost use Rattle.std.specs.Prelude.{◌≡◌, ◌≤◌, ◌⊎◌, length, IfOk, IfErr, OnOk};
+ghost use Rattle.plan_core.specs.declared.limits.TheConstants.{MAX_TRACKS};
 ghost use Rattle.plan_core.specs.Exactly.{AnswersExactly};
 ghost use Rattle.plan_core.specs.Topology.{IsResolved};
 ghost use Rattle.railml_read.specs.Formed.{AreFormed};
@@ -23,6 +24,7 @@ fn faultless(alloc: Global, rows: &[Elem], tables: &Tables) -> Result<Topology, 
     requires tables { AreTablesOf rows.now tables.now }
     ensures topology { IfOk result (λ t. IsTopologyOf rows.now t) }
     ensures resolved { IfOk result (λ t. IsResolved t) }
+    ensures few { IfOk result (λ t. length t.tracks ≤ MAX_TRACKS) }
 {
     topology_of(alloc, rows, tables)
 }
@@ -32,6 +34,7 @@ fn topology_or_fault(alloc: Global, rows: &[Elem]) -> Result<Topology, ResolveFa
     requires { AreFormed rows.now }
     ensures topology { IfOk result (λ t. IsTopologyOf rows.now t) }
     ensures resolved { IfOk result (λ t. IsResolved t) }
+    ensures few { IfOk result (λ t. length t.tracks ≤ MAX_TRACKS) }
     ensures faultless { OnOk result (HasNoFault rows.now) }
     ensures fault { IfErr result (λ e. (e ≡ ResolveFault.Memory) ⊎ IsResolveFault rows.now e) }
 {
@@ -62,6 +65,7 @@ pub fn resolve(alloc: Global, rows: &Records) -> Result<Topology, ResolveFault>
     ensures answers { AnswersExactly result ResolveFault.Memory (ResolvesTo rows.now) (IsResolveFault rows.now) }
     // What the layers above ask of a topology.
     ensures resolved { IfOk result (λ t. IsResolved t) }
+    ensures few { IfOk result (λ t. length t.tracks ≤ MAX_TRACKS) }
 {
     topology_or_fault(alloc, rows.as_slice())
 }
