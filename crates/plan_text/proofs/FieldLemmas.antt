@@ -4,14 +4,13 @@ use Rattle.std.specs.Prelude.{⊤, None, Some, IfSome}
 use Rattle.std.specs.declared.option.Option.{Option}
 use Rattle.std.specs.Fmt.{decimal}
 use Rattle.std.specs.List.{AllByRecursion}
-use Rattle.std.specs.Str.Parse.{AllDigits}
-use Rattle.std.proofs.lemmas.Fmt.{decimal_is_IsNumeral, decimal_injective}
+use Rattle.std.proofs.lemmas.Fmt.{decimal_injective}
 use Rattle.std.proofs.lemmas.Bool.{eqb-true, false≢true}
 use Rattle.std.proofs.lemmas.List.{append-nil, append_cancel_left}
-use Rattle.std.proofs.lemmas.Str.Parse.{digit_from_value}
 use Rattle.plan_core.specs.declared.criterion.Criterion.{Criterion}
 use Rattle.line_text.specs.Fields.{spaced, line_text, EndsField, IsOneField, Ends}
 use Rattle.line_text.specs.Criteria.{criterion_word}
+use Rattle.line_text.proofs.NumberLemmas.{decimal_is_one}
 use Rattle.line_text.proofs.CriterionLemmas.{word_is_one, word_once}
 use Rattle.plan_text.specs.SheetLine.{field_told, IsName, IsSmall}
 
@@ -49,7 +48,7 @@ pub record IsSpelling (A : Type 0) (P : A → Type 0) (word : A → List ℕ) : 
 abbrev pub words : {A : Type 0} → (A → List ℕ) → List A → List ℕ
 words word values = spaced (map word values)
 
-regroup : (a b r : List ℕ) → (32 ∷ (a ++ b)) ++ r ≡ 32 ∷ (a ++ (b ++ r))
+pub regroup : (a b r : List ℕ) → (32 ∷ (a ++ b)) ++ r ≡ 32 ∷ (a ++ (b ++ r))
 regroup a b r = ap (λ (t : List ℕ). 32 ∷ t) (append_assoc a b r)
 
 words_end : {A : Type 0} (word : A → List ℕ) (values : List A) (rest : List ℕ) → Ends rest → Ends (words word values ++ rest)
@@ -156,17 +155,9 @@ read_more word text read rest after field left a so_far is cut same =
 
 -- ---- numbers and criteria
 
-digits_are_one : (ds : List ℕ) → AllDigits 10 ds → IsOneField ds
-digits_are_one [] h = tt
-digits_are_one (d ∷ ds) h = let range = digit_from_value d h.0 in ((λ ends. no_end_digit d range.0 range.1 ends), digits_are_one ds h.1)
-  where
-    no_end_digit : (d : ℕ) → 48 ≤ d → d ≤ 57 → EndsField d → ⊥
-    no_end_digit d from to (inl e) = omega (arith, e)
-    no_end_digit d from to (inr e) = omega (arith, e)
-
 pub of_numbers : IsSpelling ℕ IsSmall decimal
 of_numbers = record {
-  one = λ n small. let big : n < 2 ^ 64 = omega arith in digits_are_one (decimal n) (decimal_is_IsNumeral n big).0.1;
+  one = λ n small. let big : n < 2 ^ 64 = omega arith in decimal_is_one n big;
   once = λ m n h k e. let hm : m < 2 ^ 64 = omega arith in let hn : n < 2 ^ 64 = omega arith in decimal_injective m n hm hn e;
 }
 

@@ -15,10 +15,10 @@ use Rattle.plan_text.specs.declared.edition.Edition.{Edition}
 use Rattle.plan_text.specs.declared.edition.Edition.TheVariants.{First, Second}
 use Rattle.plan_text.specs.declared.ending.Ending.{Ending}
 use Rattle.plan_text.specs.declared.ending.Ending.TheVariants.{Best, NoDrawing, Conflicts, Room}
-use Rattle.plan_text.specs.SheetLine.{SheetLine, GridLine, NodeLine, EdgeLine, EndLine, text_of, grid_numbers, coordinates, field_told, StandsForLeast, IsMileageText, IsSmall, AreSmall, IsBetween, IsSmallEnding}
-use Rattle.plan_text.specs.SheetFaults.{OrderDue, NodeDue, EdgeDue, IsToldIn, BeginsWith}
-use Rattle.plan_text.specs.SheetReading.{IsFieldAt, IsNumberAt, IsNameAt, IsPointAt, IsNamed, IsNumbered, IsNodeEnd, IsLineTo}
-use Rattle.plan_text.proofs.FieldLemmas.{SameField, same_field, words, words_once, of_numbers, of_criteria, any_criteria, line_front, fields_left, decimals_are_one, name_is_one, both_one, some_there}
+use Rattle.plan_text.specs.SheetLine.{SheetLine, GridLine, NodeLine, EdgeLine, EndLine, text_of_line, grid_numbers, coordinates, field_told, StandsForLeast, IsMileageText, IsSmall, AreSmall, IsBetween, IsSmallEnding}
+use Rattle.plan_text.specs.SheetFaults.{OrderDue, NodeDue, EdgeDue, IsToldIn, BeginsWithLine}
+use Rattle.plan_text.specs.SheetReading.{IsFieldAt, IsNumberAt, IsNameAt, IsPointAt, IsNamedAt, IsNumberedAt, IsNodeEnd, IsLineTo}
+use Rattle.plan_text.proofs.FieldLemmas.{SameField, same_field, words, words_once, of_numbers, of_criteria, any_criteria, line_front, fields_left, decimals_are_one, name_is_one, both_one, some_there, regroup}
 use Rattle.plan_text.proofs.MileageLemmas.{mileage_is_one}
 use Rattle.plan_text.proofs.LineOnce.{tells_order, TellsNode, tells_node, TellsEdge, tells_edge, same_told, pairs}
 
@@ -40,7 +40,7 @@ line_behind text front behind fields rest is e = is ∙ ap (λ (t : List ℕ). f
 no_length : (n : ℕ) (b : Bool) → b ≡ (n == 0) → b ≡ true → n ≡ 0
 no_length n b e h = eqb-true n 0 (sym e ∙ h)
 
-pub no_order : (text behind rest : List ℕ) (criteria : List Criterion) (b : Bool) → text ≡ codes "order" ++ behind → behind ≡ words criterion_word criteria ++ 10 ∷ rest → b ≡ (length criteria == 0) → b ≡ true → (edition : Edition) (needs_drawing : Bool) (line : SheetLine) → BeginsWith (OrderDue edition needs_drawing) text line → ⊥
+pub no_order : (text behind rest : List ℕ) (criteria : List Criterion) (b : Bool) → text ≡ codes "order" ++ behind → behind ≡ words criterion_word criteria ++ 10 ∷ rest → b ≡ (length criteria == 0) → b ≡ true → (edition : Edition) (needs_drawing : Bool) (line : SheetLine) → BeginsWithLine (OrderDue edition needs_drawing) text line → ⊥
 no_order text behind rest criteria b is told empty so edition needs_drawing line begins =
     let t = tells_order edition needs_drawing text line begins in
     let same = words_once of_criteria criteria t.order rest t.behind (any_criteria criteria) (any_criteria t.order) (sym told ∙ fields_behind text (codes "order") behind (map criterion_word t.order) t.behind is t.spelled) in
@@ -77,9 +77,6 @@ grid_read edition text rest numbers slice grid small told is numbers_are stands 
     record { form = (subst AreSmall same small, stands); spelled = told ∙ ap (λ (ns : List ℕ). line_text (codes "grid") (map decimal ns) ++ rest) same }
 
 -- ---- fields one by one
-
-regroup : (a b r : List ℕ) → (32 ∷ (a ++ b)) ++ r ≡ 32 ∷ (a ++ (b ++ r))
-regroup a b r = ap (λ (t : List ℕ). 32 ∷ t) (append_assoc a b r)
 
 second_of : (x y : List ℕ) → 32 ∷ x ≡ 32 ∷ y → x ≡ y
 second_of x y e = cc
@@ -141,24 +138,24 @@ point_once text p q r s h k =
 
 -- ---- a number and a name behind a word
 
-named_front : (text word r : List ℕ) (n : ℕ) (name rest : List ℕ) → text ≡ word ++ r → IsNamed text word n name rest → IsNumberAt r n (32 ∷ (name ++ rest))
+named_front : (text word r : List ℕ) (n : ℕ) (name rest : List ℕ) → text ≡ word ++ r → IsNamedAt text word n name rest → IsNumberAt r n (32 ∷ (name ++ rest))
 named_front text word r n name rest is h = (h.0, inl refl, append_cancel_left word r (32 ∷ (decimal n ++ 32 ∷ (name ++ rest))) (sym is ∙ h.3))
 
-pub no_word : (text word : List ℕ) → ((rest : List ℕ) → text ≢ word ++ rest) → (n : ℕ) (name rest : List ℕ) → IsNamed text word n name rest → ⊥
+pub no_word : (text word : List ℕ) → ((rest : List ℕ) → text ≢ word ++ rest) → (n : ℕ) (name rest : List ℕ) → IsNamedAt text word n name rest → ⊥
 no_word text word none n name rest h = none (32 ∷ (decimal n ++ 32 ∷ (name ++ rest))) h.3
 
-pub no_number_named : (text word r : List ℕ) → text ≡ word ++ r → ((n : ℕ) (s : List ℕ) → IsNumberAt r n s → ⊥) → (n : ℕ) (name rest : List ℕ) → IsNamed text word n name rest → ⊥
+pub no_number_named : (text word r : List ℕ) → text ≡ word ++ r → ((n : ℕ) (s : List ℕ) → IsNumberAt r n s → ⊥) → (n : ℕ) (name rest : List ℕ) → IsNamedAt text word n name rest → ⊥
 no_number_named text word r is none n name rest h = none n (32 ∷ (name ++ rest)) (named_front text word r n name rest is h)
 
-pub no_name_named : (text word r s : List ℕ) (m : ℕ) → text ≡ word ++ r → IsNumberAt r m s → ((name rest : List ℕ) → IsNameAt s name rest → ⊥) → (n : ℕ) (name rest : List ℕ) → IsNamed text word n name rest → ⊥
+pub no_name_named : (text word r s : List ℕ) (m : ℕ) → text ≡ word ++ r → IsNumberAt r m s → ((name rest : List ℕ) → IsNameAt s name rest → ⊥) → (n : ℕ) (name rest : List ℕ) → IsNamedAt text word n name rest → ⊥
 no_name_named text word r s m is read none n name rest h =
     none name rest (h.1, h.2, (number_once r m n s (32 ∷ (name ++ rest)) read (named_front text word r n name rest is h)).rest)
 
-pub is_named : (text word r s : List ℕ) (n : ℕ) (name rest : List ℕ) → text ≡ word ++ r → IsNumberAt r n s → IsNameAt s name rest → IsNamed text word n name rest
+pub is_named : (text word r s : List ℕ) (n : ℕ) (name rest : List ℕ) → text ≡ word ++ r → IsNumberAt r n s → IsNameAt s name rest → IsNamedAt text word n name rest
 is_named text word r s n name rest is h k =
     (h.0, k.0, k.1, is ∙ ap (λ (t : List ℕ). word ++ t) (h.2 ∙ ap (λ (t : List ℕ). 32 ∷ (decimal n ++ t)) k.2))
 
-named_once : (text word : List ℕ) (n m : ℕ) (name other r s : List ℕ) → IsNamed text word n name r → IsNamed text word m other s → r ≡ s
+named_once : (text word : List ℕ) (n m : ℕ) (name other r s : List ℕ) → IsNamedAt text word n name r → IsNamedAt text word m other s → r ≡ s
 named_once text word n m name other r s h k =
     let front = number_once (32 ∷ (decimal n ++ 32 ∷ (name ++ r))) n m (32 ∷ (name ++ r)) (32 ∷ (other ++ s)) (h.0, inl refl, refl) (named_front text word (32 ∷ (decimal n ++ 32 ∷ (name ++ r))) m other s h.3 k) in
     (same_field name other r s h.1.one k.1.one h.2 k.2 (second_of (name ++ r) (other ++ s) front.rest)).rest
@@ -213,30 +210,30 @@ told_ends (Some field) rest = inl refl
 abbrev place_text : Point → Option (List ℕ) → List ℕ → List ℕ
 place_text p mileage behind = spaced (decimal p.x ∷ decimal p.y ∷ field_told mileage) ++ 10 ∷ behind
 
-node_text : (number : ℕ) (name : List ℕ) (p : Point) (mileage : Option (List ℕ)) (behind : List ℕ) → text_of (NodeLine number name p mileage) ++ behind ≡ codes "node" ++ 32 ∷ (decimal number ++ 32 ∷ (name ++ place_text p mileage behind))
+node_text : (number : ℕ) (name : List ℕ) (p : Point) (mileage : Option (List ℕ)) (behind : List ℕ) → text_of_line (NodeLine number name p mileage) ++ behind ≡ codes "node" ++ 32 ∷ (decimal number ++ 32 ∷ (name ++ place_text p mileage behind))
 node_text number name p mileage behind =
     line_front (codes "node") (decimal number ∷ name ∷ decimal p.x ∷ decimal p.y ∷ field_told mileage) behind
     ∙ ap (λ (t : List ℕ). codes "node" ++ t) (two_fields (decimal number) name (decimal p.x ∷ decimal p.y ∷ field_told mileage) (10 ∷ behind))
 
-tells_named : (edition : Edition) (text : List ℕ) (t : TellsNode edition text) → IsNamed text (codes "node") t.number t.name (place_text t.place t.mileage t.behind)
+tells_named : (edition : Edition) (text : List ℕ) (t : TellsNode edition text) → IsNamedAt text (codes "node") t.number t.name (place_text t.place t.mileage t.behind)
 tells_named edition text t = (t.form.1.0, t.form.0, inl refl, t.spelled ∙ node_text t.number t.name t.place t.mileage t.behind)
 
 tells_point : (edition : Edition) (text : List ℕ) (t : TellsNode edition text) → IsPointAt (place_text t.place t.mileage t.behind) t.place (spaced (field_told t.mileage) ++ 10 ∷ t.behind)
 tells_point edition text t = (t.form.1.1.0, t.form.1.1.1.0, told_ends t.mileage t.behind, two_fields (decimal t.place.x) (decimal t.place.y) (field_told t.mileage) (10 ∷ t.behind))
 
-pub no_named : (edition : Edition) (text : List ℕ) → ((n : ℕ) (name rest : List ℕ) → IsNamed text (codes "node") n name rest → ⊥) → (n : ℕ) (line : SheetLine) → BeginsWith (NodeDue edition n) text line → ⊥
+pub no_named : (edition : Edition) (text : List ℕ) → ((n : ℕ) (name rest : List ℕ) → IsNamedAt text (codes "node") n name rest → ⊥) → (n : ℕ) (line : SheetLine) → BeginsWithLine (NodeDue edition n) text line → ⊥
 no_named edition text none n line begins =
     let t = tells_node edition text n line begins in
     none t.number t.name (place_text t.place t.mileage t.behind) (tells_named edition text t)
 
-pub no_place : (edition : Edition) (text : List ℕ) (number : ℕ) (name r : List ℕ) → IsNamed text (codes "node") number name r → ((p : Point) (rest : List ℕ) → IsPointAt r p rest → ⊥) → (n : ℕ) (line : SheetLine) → BeginsWith (NodeDue edition n) text line → ⊥
+pub no_place : (edition : Edition) (text : List ℕ) (number : ℕ) (name r : List ℕ) → IsNamedAt text (codes "node") number name r → ((p : Point) (rest : List ℕ) → IsPointAt r p rest → ⊥) → (n : ℕ) (line : SheetLine) → BeginsWithLine (NodeDue edition n) text line → ⊥
 no_place edition text number name r h none n line begins =
     let t = tells_node edition text n line begins in
     let same : r ≡ place_text t.place t.mileage t.behind = named_once text (codes "node") number t.number name t.name r (place_text t.place t.mileage t.behind) h (tells_named edition text t) in
     let at = tells_point edition text t in
     none t.place (spaced (field_told t.mileage) ++ 10 ∷ t.behind) (at.0, at.1, at.2, same ∙ at.3)
 
-pub no_end_of_node : (edition : Edition) (text : List ℕ) (number : ℕ) (name r s : List ℕ) (p : Point) → IsNamed text (codes "node") number name r → IsPointAt r p s → ((mileage : Option (List ℕ)) (rest : List ℕ) → IsNodeEnd edition s mileage rest → ⊥) → (n : ℕ) (line : SheetLine) → BeginsWith (NodeDue edition n) text line → ⊥
+pub no_end_of_node : (edition : Edition) (text : List ℕ) (number : ℕ) (name r s : List ℕ) (p : Point) → IsNamedAt text (codes "node") number name r → IsPointAt r p s → ((mileage : Option (List ℕ)) (rest : List ℕ) → IsNodeEnd edition s mileage rest → ⊥) → (n : ℕ) (line : SheetLine) → BeginsWithLine (NodeDue edition n) text line → ⊥
 no_end_of_node edition text number name r s p h place none n line begins =
     let t = tells_node edition text n line begins in
     let same : r ≡ place_text t.place t.mileage t.behind = named_once text (codes "node") number t.number name t.name r (place_text t.place t.mileage t.behind) h (tells_named edition text t) in
@@ -244,7 +241,7 @@ no_end_of_node edition text number name r s p h place none n line begins =
     let left : s ≡ spaced (field_told t.mileage) ++ 10 ∷ t.behind = point_once r p t.place s (spaced (field_told t.mileage) ++ 10 ∷ t.behind) place (at.0, at.1, at.2, same ∙ at.3) in
     none t.mileage t.behind (t.told, t.form.2, left)
 
-pub node_read : (edition : Edition) (text : List ℕ) (number : ℕ) (name r s : List ℕ) (p : Point) (mileage : Option (List ℕ)) (rest : List ℕ) → IsNamed text (codes "node") number name r → IsPointAt r p s → IsNodeEnd edition s mileage rest → IsToldIn edition mileage × IsLineTo text (NodeLine number name p mileage) rest
+pub node_read : (edition : Edition) (text : List ℕ) (number : ℕ) (name r s : List ℕ) (p : Point) (mileage : Option (List ℕ)) (rest : List ℕ) → IsNamedAt text (codes "node") number name r → IsPointAt r p s → IsNodeEnd edition s mileage rest → IsToldIn edition mileage × IsLineTo text (NodeLine number name p mileage) rest
 node_read edition text number name r s p mileage rest h at end = (
   end.0,
   record {
@@ -293,33 +290,33 @@ too_few numbers rest points b so_far empty so few ps some e =
 -- ---- the number and the track of an edge
 
 -- where no track is told
-pub no_edge_word : (edition : Edition) (text : List ℕ) → ((rest : List ℕ) → text ≢ codes "edge" ++ rest) → (n : ℕ) (track : Option (List ℕ)) (rest : List ℕ) → IsNumbered edition text n track rest → ⊥
+pub no_edge_word : (edition : Edition) (text : List ℕ) → ((rest : List ℕ) → text ≢ codes "edge" ++ rest) → (n : ℕ) (track : Option (List ℕ)) (rest : List ℕ) → IsNumberedAt edition text n track rest → ⊥
 no_edge_word edition text none n track rest h = none (spaced (decimal n ∷ field_told track) ++ rest) h.4
 
-pub no_edge_number : (edition : Edition) → edition ≡ First → (text r : List ℕ) → text ≡ codes "edge" ++ r → ((n : ℕ) (s : List ℕ) → IsNumberAt r n s → ⊥) → (n : ℕ) (track : Option (List ℕ)) (rest : List ℕ) → IsNumbered edition text n track rest → ⊥
-no_edge_number edition first text r is none n track rest h = at track (subst (λ (o : Edition). IsNumbered o text n track rest) first h)
+pub no_edge_number : (edition : Edition) → edition ≡ First → (text r : List ℕ) → text ≡ codes "edge" ++ r → ((n : ℕ) (s : List ℕ) → IsNumberAt r n s → ⊥) → (n : ℕ) (track : Option (List ℕ)) (rest : List ℕ) → IsNumberedAt edition text n track rest → ⊥
+no_edge_number edition first text r is none n track rest h = at track (subst (λ (o : Edition). IsNumberedAt o text n track rest) first h)
   where
-    at : (track : Option (List ℕ)) → IsNumbered First text n track rest → ⊥
+    at : (track : Option (List ℕ)) → IsNumberedAt First text n track rest → ⊥
     at None h = none n rest (h.2, h.3, append_cancel_left (codes "edge") r (spaced (decimal n ∷ []) ++ rest) (sym is ∙ h.4) ∙ last_field (decimal n) rest)
     at (Some name) h = h.0
 
-pub plain_number : (edition : Edition) → edition ≡ First → (text r : List ℕ) (n : ℕ) (rest : List ℕ) → text ≡ codes "edge" ++ r → IsNumberAt r n rest → IsNumbered edition text n None rest
+pub plain_number : (edition : Edition) → edition ≡ First → (text r : List ℕ) (n : ℕ) (rest : List ℕ) → text ≡ codes "edge" ++ r → IsNumberAt r n rest → IsNumberedAt edition text n None rest
 plain_number edition first text r n rest is h =
-    let told : IsNumbered First text n None rest = (tt, tt, h.0, h.1, is ∙ ap (λ (t : List ℕ). codes "edge" ++ t) (h.2 ∙ sym (last_field (decimal n) rest))) in
-    subst (λ (o : Edition). IsNumbered o text n None rest) (sym first) told
+    let told : IsNumberedAt First text n None rest = (tt, tt, h.0, h.1, is ∙ ap (λ (t : List ℕ). codes "edge" ++ t) (h.2 ∙ sym (last_field (decimal n) rest))) in
+    subst (λ (o : Edition). IsNumberedAt o text n None rest) (sym first) told
 
 -- where one is
-pub no_edge_named : (edition : Edition) → edition ≡ Second → (text : List ℕ) → ((n : ℕ) (name rest : List ℕ) → IsNamed text (codes "edge") n name rest → ⊥) → (n : ℕ) (track : Option (List ℕ)) (rest : List ℕ) → IsNumbered edition text n track rest → ⊥
-no_edge_named edition second text none n track rest h = at track (subst (λ (o : Edition). IsNumbered o text n track rest) second h)
+pub no_edge_named : (edition : Edition) → edition ≡ Second → (text : List ℕ) → ((n : ℕ) (name rest : List ℕ) → IsNamedAt text (codes "edge") n name rest → ⊥) → (n : ℕ) (track : Option (List ℕ)) (rest : List ℕ) → IsNumberedAt edition text n track rest → ⊥
+no_edge_named edition second text none n track rest h = at track (subst (λ (o : Edition). IsNumberedAt o text n track rest) second h)
   where
-    at : (track : Option (List ℕ)) → IsNumbered Second text n track rest → ⊥
+    at : (track : Option (List ℕ)) → IsNumberedAt Second text n track rest → ⊥
     at None h = h.0
     at (Some name) h = none n name rest (h.2, h.1, h.3, h.4 ∙ ap (λ (t : List ℕ). codes "edge" ++ t) (two_fields (decimal n) name [] rest))
 
-pub told_number : (edition : Edition) → edition ≡ Second → (text : List ℕ) (n : ℕ) (track rest : List ℕ) → IsNamed text (codes "edge") n track rest → IsNumbered edition text n (Some track) rest
+pub told_number : (edition : Edition) → edition ≡ Second → (text : List ℕ) (n : ℕ) (track rest : List ℕ) → IsNamedAt text (codes "edge") n track rest → IsNumberedAt edition text n (Some track) rest
 told_number edition second text n track rest h =
-    let told : IsNumbered Second text n (Some track) rest = (tt, h.1, h.0, h.2, h.3 ∙ ap (λ (t : List ℕ). codes "edge" ++ t) (sym (two_fields (decimal n) track [] rest))) in
-    subst (λ (o : Edition). IsNumbered o text n (Some track) rest) (sym second) told
+    let told : IsNumberedAt Second text n (Some track) rest = (tt, h.1, h.0, h.2, h.3 ∙ ap (λ (t : List ℕ). codes "edge" ++ t) (sym (two_fields (decimal n) track [] rest))) in
+    subst (λ (o : Edition). IsNumberedAt o text n (Some track) rest) (sym second) told
 
 -- ---- an edge's line
 
@@ -334,18 +331,18 @@ abbrev numbers_text : ℕ → ℕ → List Point → List ℕ → List ℕ
 numbers_text west east points behind = spaced (map decimal (numbers_of west east points)) ++ 10 ∷ behind
 
 -- the fields of an edge's line in two parts
-edge_text : (number : ℕ) (track : Option (List ℕ)) (west east : ℕ) (points : List Point) (behind : List ℕ) → text_of (EdgeLine number track west east points) ++ behind ≡ codes "edge" ++ (spaced (decimal number ∷ field_told track) ++ numbers_text west east points behind)
+edge_text : (number : ℕ) (track : Option (List ℕ)) (west east : ℕ) (points : List Point) (behind : List ℕ) → text_of_line (EdgeLine number track west east points) ++ behind ≡ codes "edge" ++ (spaced (decimal number ∷ field_told track) ++ numbers_text west east points behind)
 edge_text number track west east points behind =
     let front : List (List ℕ) = decimal number ∷ field_told track in
     let others : List (List ℕ) = map decimal (numbers_of west east points) in
     line_front (codes "edge") (front ++ others) behind
     ∙ ap (λ (t : List ℕ). codes "edge" ++ t) (ap (λ (t : List ℕ). t ++ 10 ∷ behind) (flat_map-append (λ (field : List ℕ). 32 ∷ field) front others) ∙ append_assoc (spaced front) (spaced others) (10 ∷ behind))
 
-tells_numbered : (edition : Edition) (text : List ℕ) (t : TellsEdge edition text) → IsNumbered edition text t.number t.track (numbers_text t.west t.east t.points t.behind)
+tells_numbered : (edition : Edition) (text : List ℕ) (t : TellsEdge edition text) → IsNumberedAt edition text t.number t.track (numbers_text t.west t.east t.points t.behind)
 tells_numbered edition text t = (t.told, t.form.2, t.form.1.0, inl refl, t.spelled ∙ edge_text t.number t.track t.west t.east t.points t.behind)
 
 -- what stands behind the number and the track is known
-numbered_left : (edition : Edition) (text : List ℕ) (number : ℕ) (track : Option (List ℕ)) (r : List ℕ) → IsNumbered edition text number track r → (t : TellsEdge edition text) → r ≡ numbers_text t.west t.east t.points t.behind
+numbered_left : (edition : Edition) (text : List ℕ) (number : ℕ) (track : Option (List ℕ)) (r : List ℕ) → IsNumberedAt edition text number track r → (t : TellsEdge edition text) → r ≡ numbers_text t.west t.east t.points t.behind
 numbered_left edition text number track r h t =
     let read : List (List ℕ) = decimal number ∷ field_told track in
     let front : List (List ℕ) = decimal t.number ∷ field_told t.track in
@@ -357,23 +354,23 @@ numbered_left edition text number track r h t =
     let same = same_told edition t.track track t.told h.0 (decimal t.number) (decimal number) others left.more left.split in
     left.left ∙ ap (λ (fs : List (List ℕ)). spaced fs ++ 10 ∷ t.behind) (sym same.others)
 
-pub no_numbered : (edition : Edition) (text : List ℕ) → ((n : ℕ) (track : Option (List ℕ)) (rest : List ℕ) → IsNumbered edition text n track rest → ⊥) → (e : ℕ) (line : SheetLine) → BeginsWith (EdgeDue edition e) text line → ⊥
+pub no_numbered : (edition : Edition) (text : List ℕ) → ((n : ℕ) (track : Option (List ℕ)) (rest : List ℕ) → IsNumberedAt edition text n track rest → ⊥) → (e : ℕ) (line : SheetLine) → BeginsWithLine (EdgeDue edition e) text line → ⊥
 no_numbered edition text none e line begins =
     let t = tells_edge edition text e line begins in
     none t.number t.track (numbers_text t.west t.east t.points t.behind) (tells_numbered edition text t)
 
-pub no_numbers : (edition : Edition) (text : List ℕ) (number : ℕ) (track : Option (List ℕ)) (r : List ℕ) → IsNumbered edition text number track r → ((ns rest : List ℕ) → AreSmall ns → length ns ≤ 11 → r ≢ spaced (map decimal ns) ++ 10 ∷ rest) → (e : ℕ) (line : SheetLine) → BeginsWith (EdgeDue edition e) text line → ⊥
+pub no_numbers : (edition : Edition) (text : List ℕ) (number : ℕ) (track : Option (List ℕ)) (r : List ℕ) → IsNumberedAt edition text number track r → ((ns rest : List ℕ) → AreSmall ns → length ns ≤ 11 → r ≢ spaced (map decimal ns) ++ 10 ∷ rest) → (e : ℕ) (line : SheetLine) → BeginsWithLine (EdgeDue edition e) text line → ⊥
 no_numbers edition text number track r h none e line begins =
     let t = tells_edge edition text e line begins in
     let n = coordinates_length t.points in
     let few = t.form.0.to in
     none (numbers_of t.west t.east t.points) t.behind t.form.1.1 (omega (arith, n, few)) (numbered_left edition text number track r h t)
 
-edge_numbers : (edition : Edition) (text : List ℕ) (number : ℕ) (track : Option (List ℕ)) (r numbers rest : List ℕ) → IsNumbered edition text number track r → AreSmall numbers → r ≡ spaced (map decimal numbers) ++ 10 ∷ rest → (t : TellsEdge edition text) → numbers ≡ numbers_of t.west t.east t.points
+edge_numbers : (edition : Edition) (text : List ℕ) (number : ℕ) (track : Option (List ℕ)) (r numbers rest : List ℕ) → IsNumberedAt edition text number track r → AreSmall numbers → r ≡ spaced (map decimal numbers) ++ 10 ∷ rest → (t : TellsEdge edition text) → numbers ≡ numbers_of t.west t.east t.points
 edge_numbers edition text number track r numbers rest h small told t =
     (words_once of_numbers numbers (numbers_of t.west t.east t.points) rest t.behind small t.form.1.1 (sym told ∙ numbered_left edition text number track r h t)).values
 
-pub no_two : (edition : Edition) (text : List ℕ) (number : ℕ) (track : Option (List ℕ)) (r numbers slice rest : List ℕ) → IsNumbered edition text number track r → AreSmall numbers → r ≡ spaced (map decimal numbers) ++ 10 ∷ rest → slice ≡ numbers → ((x y : ℕ) (more : List ℕ) → slice ≢ x ∷ y ∷ more) → (e : ℕ) (line : SheetLine) → BeginsWith (EdgeDue edition e) text line → ⊥
+pub no_two : (edition : Edition) (text : List ℕ) (number : ℕ) (track : Option (List ℕ)) (r numbers slice rest : List ℕ) → IsNumberedAt edition text number track r → AreSmall numbers → r ≡ spaced (map decimal numbers) ++ 10 ∷ rest → slice ≡ numbers → ((x y : ℕ) (more : List ℕ) → slice ≢ x ∷ y ∷ more) → (e : ℕ) (line : SheetLine) → BeginsWithLine (EdgeDue edition e) text line → ⊥
 no_two edition text number track r numbers slice rest h small told is none e line begins =
     let t = tells_edge edition text e line begins in
     none t.west t.east (flat_map coordinates t.points) (is ∙ edge_numbers edition text number track r numbers rest h small told t)
@@ -381,12 +378,12 @@ no_two edition text number track r numbers slice rest h small told is none e lin
 third : (a b d e : ℕ) (xs ys : List ℕ) → a ∷ b ∷ xs ≡ d ∷ e ∷ ys → xs ≡ ys
 third a b d e xs ys h = cc
 
-pub no_points : (edition : Edition) (text : List ℕ) (number : ℕ) (track : Option (List ℕ)) (r numbers slice rest left : List ℕ) (x y : ℕ) → IsNumbered edition text number track r → AreSmall numbers → r ≡ spaced (map decimal numbers) ++ 10 ∷ rest → slice ≡ numbers → slice ≡ x ∷ y ∷ left → ((ps : List Point) → IsBetween 2 4 (length ps) → left ≢ flat_map coordinates ps) → (e : ℕ) (line : SheetLine) → BeginsWith (EdgeDue edition e) text line → ⊥
+pub no_points : (edition : Edition) (text : List ℕ) (number : ℕ) (track : Option (List ℕ)) (r numbers slice rest left : List ℕ) (x y : ℕ) → IsNumberedAt edition text number track r → AreSmall numbers → r ≡ spaced (map decimal numbers) ++ 10 ∷ rest → slice ≡ numbers → slice ≡ x ∷ y ∷ left → ((ps : List Point) → IsBetween 2 4 (length ps) → left ≢ flat_map coordinates ps) → (e : ℕ) (line : SheetLine) → BeginsWithLine (EdgeDue edition e) text line → ⊥
 no_points edition text number track r numbers slice rest left x y h small told is split none e line begins =
     let t = tells_edge edition text e line begins in
     none t.points t.form.0 (third x y t.west t.east left (flat_map coordinates t.points) (sym split ∙ is ∙ edge_numbers edition text number track r numbers rest h small told t))
 
-pub edge_read : (edition : Edition) (text : List ℕ) (number : ℕ) (track : Option (List ℕ)) (r numbers slice rest left : List ℕ) (x y : ℕ) (points : List Point) → IsNumbered edition text number track r → AreSmall numbers → r ≡ spaced (map decimal numbers) ++ 10 ∷ rest → slice ≡ numbers → slice ≡ x ∷ y ∷ left → IsBetween 2 4 (length points) → left ≡ flat_map coordinates points →
+pub edge_read : (edition : Edition) (text : List ℕ) (number : ℕ) (track : Option (List ℕ)) (r numbers slice rest left : List ℕ) (x y : ℕ) (points : List Point) → IsNumberedAt edition text number track r → AreSmall numbers → r ≡ spaced (map decimal numbers) ++ 10 ∷ rest → slice ≡ numbers → slice ≡ x ∷ y ∷ left → IsBetween 2 4 (length points) → left ≡ flat_map coordinates points →
     IsToldIn edition track × IsLineTo text (EdgeLine number track x y points) rest
 edge_read edition text number track r numbers slice rest left x y points h small told is split between coords =
     let all : numbers ≡ numbers_of x y points = sym is ∙ split ∙ ap (λ (ns : List ℕ). x ∷ y ∷ ns) coords in (
@@ -401,7 +398,7 @@ edge_read edition text number track r numbers slice rest left x y points h small
 
 pub no_ending : (text : List ℕ) → ((rest : List ℕ) → text ≢ codes "end best\n" ++ rest) → ((rest : List ℕ) → text ≢ codes "end none\n" ++ rest) →
     ((n : ℕ) (rest : List ℕ) → IsSmall n → text ≢ line_text (codes "end conflicts") (decimal n ∷ []) ++ rest) → ((n : ℕ) (rest : List ℕ) → IsSmall n → text ≢ line_text (codes "end room") (decimal n ∷ []) ++ rest) →
-    (e : Ending) (rest : List ℕ) → IsSmallEnding e → text ≢ text_of (EndLine e) ++ rest
+    (e : Ending) (rest : List ℕ) → IsSmallEnding e → text ≢ text_of_line (EndLine e) ++ rest
 no_ending text best none conflicts room Best rest small e = best rest e
 no_ending text best none conflicts room NoDrawing rest small e = none rest e
 no_ending text best none conflicts room (Conflicts n) rest small e = conflicts n rest small e

@@ -14,8 +14,8 @@ use Rattle.plan_text.specs.declared.edition.Edition.{Edition}
 use Rattle.plan_text.specs.declared.edition.Edition.TheVariants.{First, Second}
 use Rattle.plan_text.specs.declared.ending.Ending.{Ending}
 use Rattle.plan_text.specs.declared.ending.Ending.TheVariants.{Best, NoDrawing, Conflicts, Room}
-use Rattle.plan_text.specs.SheetLine.{SheetLine, Title, GridLine, OrderLine, NodesLine, NodeLine, EdgesLine, EdgeLine, ValuesLine, EndLine, coordinates, field_told, fields_of, text_of, IsForm}
-use Rattle.plan_text.specs.SheetFaults.{Due, TitleDue, GridDue, OrderDue, BodyDue, NodeDue, EdgesDue, EdgeDue, ValuesDue, EndDue, NoneDue, IsToldIn, IsDue}
+use Rattle.plan_text.specs.SheetLine.{SheetLine, Title, GridLine, OrderLine, NodesLine, NodeLine, EdgesLine, EdgeLine, ValuesLine, EndLine, coordinates, field_told, other_fields, text_of_line, HasForm}
+use Rattle.plan_text.specs.SheetFaults.{LineDue, TitleDue, GridDue, OrderDue, BodyDue, NodeDue, EdgesDue, EdgeDue, ValuesDue, EndDue, NoneDue, IsToldIn, IsDue}
 use Rattle.plan_text.proofs.FieldLemmas.{of_numbers, fields_once, decimals_are_one, decimals_once, name_is_one, both_one}
 use Rattle.plan_text.proofs.MileageLemmas.{told_is_one}
 use Rattle.plan_text.proofs.LineOnce.{numbers_once, criteria_once, same_told, points_once}
@@ -27,7 +27,7 @@ pub record SameLine (l m : SheetLine) (q r : List ℕ) : Type 0 where
 
 -- two lines of one kind, of which one text is the front
 abbrev pub IsOnce : SheetLine → SheetLine → Type 0
-IsOnce l m = (q r : List ℕ) → IsForm l → IsForm m → text_of l ++ q ≡ text_of m ++ r → SameLine l m q r
+IsOnce l m = (q r : List ℕ) → HasForm l → HasForm m → text_of_line l ++ q ≡ text_of_line m ++ r → SameLine l m q r
 
 -- ---- numbers in their places
 
@@ -46,8 +46,8 @@ same_point p q e f = ap (λ (v : ℕ). record { x = v; y = p.y }) e ∙ ap (λ (
 -- ---- each kind of line
 
 title_once : (a b : Edition) → IsOnce (Title a) (Title b)
-title_once First First q r h k e = record { line = refl; behind = append_cancel_left (text_of (Title First)) q r e }
-title_once Second Second q r h k e = record { line = refl; behind = append_cancel_left (text_of (Title Second)) q r e }
+title_once First First q r h k e = record { line = refl; behind = append_cancel_left (text_of_line (Title First)) q r e }
+title_once Second Second q r h k e = record { line = refl; behind = append_cancel_left (text_of_line (Title Second)) q r e }
 title_once First Second q r h k e = let z : 49 ≡ 50 = ap (λ (t : List ℕ). get_or t 9 0) e in absurd (omega (arith, z))
 title_once Second First q r h k e = let z : 50 ≡ 49 = ap (λ (t : List ℕ). get_or t 9 0) e in absurd (omega (arith, z))
 
@@ -95,12 +95,12 @@ told_once (Some t) (Some u) e = let field : t ≡ u = cc in ap (λ (f : List ℕ
 told_once None (Some u) e = cc
 told_once (Some t) None e = cc
 
-node_fields_are_one : (n : ℕ) (name : List ℕ) (p : Point) (mileage : Option (List ℕ)) → IsForm (NodeLine n name p mileage) → AllByRecursion IsOneField (fields_of (NodeLine n name p mileage))
+node_fields_are_one : (n : ℕ) (name : List ℕ) (p : Point) (mileage : Option (List ℕ)) → HasForm (NodeLine n name p mileage) → AllByRecursion IsOneField (other_fields (NodeLine n name p mileage))
 node_fields_are_one n name p mileage h = (of_numbers.one n h.1.0, (h.0.one, (of_numbers.one p.x h.1.1.0, (of_numbers.one p.y h.1.1.1.0, told_is_one mileage h.2))))
 
 node_once : (n m : ℕ) (name other : List ℕ) (a b : Point) (x y : Option (List ℕ)) → IsOnce (NodeLine n name a x) (NodeLine m other b y)
 node_once n m name other a b x y q r h k e =
-    let same = fields_once (codes "node") (fields_of (NodeLine n name a x)) (fields_of (NodeLine m other b y)) q r (node_fields_are_one n name a x h) (node_fields_are_one m other b y k) e in
+    let same = fields_once (codes "node") (other_fields (NodeLine n name a x)) (other_fields (NodeLine m other b y)) q r (node_fields_are_one n name a x h) (node_fields_are_one m other b y k) e in
     let four = four_fields (decimal n) name (decimal a.x) (decimal a.y) (decimal m) other (decimal b.x) (decimal b.y) (field_told x) (field_told y) same.fields_are in
     let point = same_point a b (of_numbers.once a.x b.x h.1.1.0 k.1.1.0 four.2) (of_numbers.once a.y b.y h.1.1.1.0 k.1.1.1.0 four.3) in
     record {
@@ -111,13 +111,13 @@ node_once n m name other a b x y q r h k e =
       behind = same.behind;
     }
 
-edge_fields_are_one : (e : ℕ) (track : Option (List ℕ)) (west east : ℕ) (ps : List Point) → IsForm (EdgeLine e track west east ps) → AllByRecursion IsOneField (fields_of (EdgeLine e track west east ps))
+edge_fields_are_one : (e : ℕ) (track : Option (List ℕ)) (west east : ℕ) (ps : List Point) → HasForm (EdgeLine e track west east ps) → AllByRecursion IsOneField (other_fields (EdgeLine e track west east ps))
 edge_fields_are_one e track west east ps h =
     (of_numbers.one e h.1.0, both_one (field_told track) (map decimal (west ∷ east ∷ flat_map coordinates ps)) (name_is_one track h.2) (decimals_are_one (west ∷ east ∷ flat_map coordinates ps) h.1.1))
 
 edge_once : (edition : Edition) (e f west east from to : ℕ) (x y : Option (List ℕ)) (ps qs : List Point) → IsToldIn edition x → IsToldIn edition y → IsOnce (EdgeLine e x west east ps) (EdgeLine f y from to qs)
 edge_once edition e f west east from to x y ps qs tx ty q r h k s =
-    let same = fields_once (codes "edge") (fields_of (EdgeLine e x west east ps)) (fields_of (EdgeLine f y from to qs)) q r (edge_fields_are_one e x west east ps h) (edge_fields_are_one f y from to qs k) s in
+    let same = fields_once (codes "edge") (other_fields (EdgeLine e x west east ps)) (other_fields (EdgeLine f y from to qs)) q r (edge_fields_are_one e x west east ps h) (edge_fields_are_one f y from to qs k) s in
     let parts = same_told edition x y tx ty (decimal e) (decimal f) (map decimal (west ∷ east ∷ flat_map coordinates ps)) (map decimal (from ∷ to ∷ flat_map coordinates qs)) same.fields_are in
     let numbers = decimals_once (west ∷ east ∷ flat_map coordinates ps) (from ∷ to ∷ flat_map coordinates qs) h.1.1 k.1.1 parts.others in
     let two = first_two_once west east from to (flat_map coordinates ps) (flat_map coordinates qs) numbers in
@@ -154,23 +154,23 @@ values_once a b q r h k e =
 
 -- the fifth byte tells endings of two kinds apart
 end_once : (e f : Ending) → IsOnce (EndLine e) (EndLine f)
-end_once Best Best q r h k e = record { line = refl; behind = append_cancel_left (text_of (EndLine Best)) q r e }
-end_once NoDrawing NoDrawing q r h k e = record { line = refl; behind = append_cancel_left (text_of (EndLine NoDrawing)) q r e }
+end_once Best Best q r h k e = record { line = refl; behind = append_cancel_left (text_of_line (EndLine Best)) q r e }
+end_once NoDrawing NoDrawing q r h k e = record { line = refl; behind = append_cancel_left (text_of_line (EndLine NoDrawing)) q r e }
 end_once (Conflicts n) (Conflicts m) q r h k e =
     let same = numbers_once (codes "end conflicts") (n ∷ []) (m ∷ []) q r (h, tt) (k, tt) e in
     record { line = ap (λ (i : ℕ). EndLine (Conflicts i)) (one_once n m same.values); behind = same.behind }
 end_once (Room n) (Room m) q r h k e =
     let same = numbers_once (codes "end room") (n ∷ []) (m ∷ []) q r (h, tt) (k, tt) e in
     record { line = ap (λ (i : ℕ). EndLine (Room i)) (one_once n m same.values); behind = same.behind }
-end_once a b q r h k e = let z : get_or (text_of (EndLine a) ++ q) 4 0 ≡ get_or (text_of (EndLine b) ++ r) 4 0 = ap (λ (t : List ℕ). get_or t 4 0) e in absurd (omega arith)
+end_once a b q r h k e = let z : get_or (text_of_line (EndLine a) ++ q) 4 0 ≡ get_or (text_of_line (EndLine b) ++ r) 4 0 = ap (λ (t : List ℕ). get_or t 4 0) e in absurd (omega arith)
 
 -- ---- what is due
 
-no_count_at_end : (n : ℕ) (e : Ending) (q r : List ℕ) → text_of (NodesLine n) ++ q ≡ text_of (EndLine e) ++ r → ⊥
+no_count_at_end : (n : ℕ) (e : Ending) (q r : List ℕ) → text_of_line (NodesLine n) ++ q ≡ text_of_line (EndLine e) ++ r → ⊥
 no_count_at_end n e q r s = let z : 110 ≡ 101 = ap (λ (t : List ℕ). get_or t 0 0) s in absurd (omega (arith, z))
 
 -- of two lines that are due, of which one text is the front
-abbrev pub IsOnceDue : Due → Type 0
+abbrev pub IsOnceDue : LineDue → Type 0
 IsOnceDue due = (l m : SheetLine) → IsDue due l → IsDue due m → IsOnce l m
 
 title_due : (needs_drawing : Bool) → IsOnceDue (TitleDue needs_drawing)
@@ -230,7 +230,7 @@ pub none_due : (l : SheetLine) → IsDue NoneDue l → ⊥
 none_due (Title edition) is = is
 none_due l is = is
 
-pub once_due : (due : Due) → IsOnceDue due
+pub once_due : (due : LineDue) → IsOnceDue due
 once_due (TitleDue needs_drawing) = title_due needs_drawing
 once_due (GridDue edition needs_drawing) = grid_due edition needs_drawing
 once_due (OrderDue edition needs_drawing) = order_due edition needs_drawing

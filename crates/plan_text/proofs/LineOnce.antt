@@ -12,8 +12,8 @@ use Rattle.line_text.specs.Fields.{line_text}
 use Rattle.line_text.specs.Criteria.{criterion_word}
 use Rattle.plan_text.specs.declared.edition.Edition.{Edition}
 use Rattle.plan_text.specs.declared.edition.Edition.TheVariants.{First, Second}
-use Rattle.plan_text.specs.SheetLine.{SheetLine, GridLine, OrderLine, NodeLine, EdgeLine, ValuesLine, coordinates, text_of, field_told, AreSmall, IsForm}
-use Rattle.plan_text.specs.SheetFaults.{GridDue, OrderDue, NodeDue, EdgeDue, ValuesDue, IsToldIn, BeginsWith}
+use Rattle.plan_text.specs.SheetLine.{SheetLine, GridLine, OrderLine, NodeLine, EdgeLine, ValuesLine, coordinates, text_of_line, field_told, AreSmall, HasForm}
+use Rattle.plan_text.specs.SheetFaults.{GridDue, OrderDue, NodeDue, EdgeDue, ValuesDue, IsToldIn, BeginsWithLine}
 use Rattle.plan_text.proofs.FieldLemmas.{SameWords, words, words_once, of_numbers, of_criteria, any_criteria, line_front}
 
 -- ---- lines of numbers and of criteria
@@ -32,26 +32,26 @@ criteria_once front cs ds q r e =
 
 pub record TellsGrid (edition : Edition) (text : List ℕ) : Type 0 where
   pub grid : GridSize
-  pub form : IsForm (GridLine edition grid)
+  pub form : HasForm (GridLine edition grid)
   pub behind : List ℕ
-  pub spelled : text ≡ text_of (GridLine edition grid) ++ behind
+  pub spelled : text ≡ text_of_line (GridLine edition grid) ++ behind
 
-pub tells_grid : (edition : Edition) (needs_drawing : Bool) (text : List ℕ) (line : SheetLine) → BeginsWith (GridDue edition needs_drawing) text line → TellsGrid edition text
+pub tells_grid : (edition : Edition) (needs_drawing : Bool) (text : List ℕ) (line : SheetLine) → BeginsWithLine (GridDue edition needs_drawing) text line → TellsGrid edition text
 tells_grid edition needs_drawing text (GridLine other grid) b = record {
   grid = grid;
-  form = subst (λ (o : Edition). IsForm (GridLine o grid)) b.is_due b.form;
+  form = subst (λ (o : Edition). HasForm (GridLine o grid)) b.is_due b.form;
   behind = b.behind;
-  spelled = b.spelled ∙ ap (λ (o : Edition). text_of (GridLine o grid) ++ b.behind) b.is_due;
+  spelled = b.spelled ∙ ap (λ (o : Edition). text_of_line (GridLine o grid) ++ b.behind) b.is_due;
 }
 tells_grid edition needs_drawing text line b = absurd b.is_due
 
 pub record TellsOrder (text : List ℕ) : Type 0 where
   pub order : List Criterion
-  pub form : IsForm (OrderLine order)
+  pub form : HasForm (OrderLine order)
   pub behind : List ℕ
-  pub spelled : text ≡ text_of (OrderLine order) ++ behind
+  pub spelled : text ≡ text_of_line (OrderLine order) ++ behind
 
-pub tells_order : (edition : Edition) (needs_drawing : Bool) (text : List ℕ) (line : SheetLine) → BeginsWith (OrderDue edition needs_drawing) text line → TellsOrder text
+pub tells_order : (edition : Edition) (needs_drawing : Bool) (text : List ℕ) (line : SheetLine) → BeginsWithLine (OrderDue edition needs_drawing) text line → TellsOrder text
 tells_order edition needs_drawing text (OrderLine order) b = record { order = order; form = b.form; behind = b.behind; spelled = b.spelled }
 tells_order edition needs_drawing text line b = absurd b.is_due
 
@@ -61,11 +61,11 @@ pub record TellsNode (edition : Edition) (text : List ℕ) : Type 0 where
   pub place : Point
   pub mileage : Option (List ℕ)
   pub told : IsToldIn edition mileage
-  pub form : IsForm (NodeLine number name place mileage)
+  pub form : HasForm (NodeLine number name place mileage)
   pub behind : List ℕ
-  pub spelled : text ≡ text_of (NodeLine number name place mileage) ++ behind
+  pub spelled : text ≡ text_of_line (NodeLine number name place mileage) ++ behind
 
-pub tells_node : (edition : Edition) (text : List ℕ) (n : ℕ) (line : SheetLine) → BeginsWith (NodeDue edition n) text line → TellsNode edition text
+pub tells_node : (edition : Edition) (text : List ℕ) (n : ℕ) (line : SheetLine) → BeginsWithLine (NodeDue edition n) text line → TellsNode edition text
 tells_node edition text n (NodeLine number name place mileage) b = record { number = number; name = name; place = place; mileage = mileage; told = b.is_due; form = b.form; behind = b.behind; spelled = b.spelled }
 tells_node edition text n line b = absurd b.is_due
 
@@ -76,21 +76,21 @@ pub record TellsEdge (edition : Edition) (text : List ℕ) : Type 0 where
   pub east : ℕ
   pub points : List Point
   pub told : IsToldIn edition track
-  pub form : IsForm (EdgeLine number track west east points)
+  pub form : HasForm (EdgeLine number track west east points)
   pub behind : List ℕ
-  pub spelled : text ≡ text_of (EdgeLine number track west east points) ++ behind
+  pub spelled : text ≡ text_of_line (EdgeLine number track west east points) ++ behind
 
-pub tells_edge : (edition : Edition) (text : List ℕ) (e : ℕ) (line : SheetLine) → BeginsWith (EdgeDue edition e) text line → TellsEdge edition text
+pub tells_edge : (edition : Edition) (text : List ℕ) (e : ℕ) (line : SheetLine) → BeginsWithLine (EdgeDue edition e) text line → TellsEdge edition text
 tells_edge edition text e (EdgeLine number track west east points) b = record { number = number; track = track; west = west; east = east; points = points; told = b.is_due; form = b.form; behind = b.behind; spelled = b.spelled }
 tells_edge edition text e line b = absurd b.is_due
 
 pub record TellsValues (text : List ℕ) : Type 0 where
   pub values : Values
-  pub form : IsForm (ValuesLine values)
+  pub form : HasForm (ValuesLine values)
   pub behind : List ℕ
-  pub spelled : text ≡ text_of (ValuesLine values) ++ behind
+  pub spelled : text ≡ text_of_line (ValuesLine values) ++ behind
 
-pub tells_values : (text : List ℕ) (line : SheetLine) → BeginsWith ValuesDue text line → TellsValues text
+pub tells_values : (text : List ℕ) (line : SheetLine) → BeginsWithLine ValuesDue text line → TellsValues text
 tells_values text (ValuesLine values) b = record { values = values; form = b.form; behind = b.behind; spelled = b.spelled }
 tells_values text line b = absurd b.is_due
 

@@ -1,10 +1,10 @@
 -- Mileages as a sheet tells them.
 use Rattle.std.proofs.Common.{◌≡◌, ◌≢◌, inl, inr, ℕ, suc, ◌+◌, ◌/◌, ◌<◌, ◌≤◌, ◌^◌, Bool, true, false, List, [], ◌∷◌, ◌++◌, length, get_or, None, Some, IfSome, refl, sym, ◌∙◌, ap, subst, arith, append_assoc, length-append, length-drop, take, drop, ◌-◌, ◌*◌}
-use Rattle.std.specs.Prelude.{◌&&◌, IsTrue, ◌↔◌, ℤ, pos, negsuc, neg_ℤ, ◌<ℤ◌, codes}
+use Rattle.std.specs.Prelude.{IsTrue, ◌↔◌, ℤ, pos, negsuc, neg_ℤ, ◌<ℤ◌, codes}
 use Rattle.std.specs.declared.option.Option.{Option}
 use Rattle.std.specs.Fmt.{decimal}
 use Rattle.std.specs.List.{AllByRecursion, list_all}
-use Rattle.std.proofs.lemmas.Bool.{and_parts, false≢true}
+use Rattle.std.proofs.lemmas.Bool.{and_parts, and_from, false≢true}
 use Rattle.std.proofs.lemmas.Int.{ints}
 use Rattle.std.proofs.lemmas.Bool.Decides.{nat_tests}
 use Rattle.std.proofs.lemmas.List.{take-append-drop}
@@ -15,7 +15,7 @@ use Rattle.line_text.proofs.NumberLemmas.{decimal_begins}
 use Rattle.rail_mileage.specs.Metres.{is_digit}
 use Rattle.rail_mileage.specs.MetresText.{last_digit, six_digits, size_text, metres_text}
 use Rattle.rail_mileage.proofs.Digits.{own, digit_range}
-use Rattle.plan_text.specs.SheetLine.{AreDigits, IsWhole, IsFraction, IsSize, sign_text, IsMileageText, field_told}
+use Rattle.plan_text.specs.SheetLine.{AreDigits, IsWhole, IsFraction, IsSize, minus_text, IsMileageText, field_told}
 
 -- ---- digits, tested one by one
 
@@ -23,13 +23,9 @@ pub passes_all : (bytes : List ℕ) → list_all is_digit bytes ≡ true → Are
 passes_all [] e = tt
 passes_all (b ∷ bytes) e = let both = and_parts (is_digit b) (list_all is_digit bytes) e in (both.0, passes_all bytes both.1)
 
-and_true : (a b : Bool) → a ≡ true → b ≡ true → (a && b) ≡ true
-and_true true b e f = f
-and_true false b e f = e
-
 pub all_pass : (bytes : List ℕ) → AreDigits bytes → list_all is_digit bytes ≡ true
 all_pass [] h = refl
-all_pass (b ∷ bytes) h = and_true (is_digit b) (list_all is_digit bytes) h.0 (all_pass bytes h.1)
+all_pass (b ∷ bytes) h = and_from (is_digit b) (list_all is_digit bytes) h.0 (all_pass bytes h.1)
 
 -- ---- a size, cut in front of its last seven bytes
 
@@ -85,12 +81,12 @@ size_is_one text s =
     one_by (s.whole ++ 46 ∷ s.fraction) text s.spelled
     (joined s.whole (46 ∷ s.fraction) (digits_are_one s.whole s.is_whole.are_digits) ((λ e. no_end_at 46 (omega arith) e), digits_are_one s.fraction s.is_fraction.are_digits))
 
-sign_is_one : (is_negative : Bool) → IsOneField (sign_text is_negative)
+sign_is_one : (is_negative : Bool) → IsOneField (minus_text is_negative)
 sign_is_one true = ((λ e. no_end_at 45 (omega arith) e), tt)
 sign_is_one false = tt
 
 pub mileage_is_one : (text : List ℕ) → IsMileageText text → IsOneField text
-mileage_is_one text m = one_by (sign_text m.is_negative ++ m.size) text m.spelled (joined (sign_text m.is_negative) m.size (sign_is_one m.is_negative) (size_is_one m.size m.is_size))
+mileage_is_one text m = one_by (minus_text m.is_negative ++ m.size) text m.spelled (joined (minus_text m.is_negative) m.size (sign_is_one m.is_negative) (size_is_one m.size m.is_size))
 
 pub told_is_one : (mileage : Option (List ℕ)) → IfSome mileage IsMileageText → AllByRecursion IsOneField (field_told mileage)
 told_is_one None h = tt
@@ -118,7 +114,7 @@ second_of x y e = cc
 pub behind_minus : (text size : List ℕ) → text ≡ 45 ∷ size → IsMileageText text → IsSize size
 behind_minus text size is m = at m.is_negative m.spelled
   where
-    at : (negative : Bool) → text ≡ sign_text negative ++ m.size → IsSize size
+    at : (negative : Bool) → text ≡ minus_text negative ++ m.size → IsSize size
     at true e = let same : size ≡ m.size = second_of size m.size (sym is ∙ e) in rw same m.is_size
     at false e = let same : 45 ∷ size ≡ m.size = sym is ∙ e in absurd (no_minus_in_size size (rw same m.is_size))
 
@@ -126,7 +122,7 @@ behind_minus text size is m = at m.is_negative m.spelled
 pub without_minus : (text : List ℕ) → ((size : List ℕ) → text ≡ 45 ∷ size → ⊥) → IsMileageText text → IsSize text
 without_minus text none m = at m.is_negative m.spelled
   where
-    at : (negative : Bool) → text ≡ sign_text negative ++ m.size → IsSize text
+    at : (negative : Bool) → text ≡ minus_text negative ++ m.size → IsSize text
     at true e = absurd (none m.size e)
     at false e = rw e m.is_size
 

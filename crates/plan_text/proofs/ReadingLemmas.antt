@@ -19,9 +19,9 @@ use Rattle.plan_text.specs.declared.ending.Ending.{Ending}
 use Rattle.plan_core.specs.Drawing.{Drawing, drawing}
 use Rattle.plan_text.specs.declared.sheet_fault.SheetFault.{SheetFault}
 use Rattle.plan_text.specs.declared.sheet_fault.SheetFault.TheVariants.{Sheet as SheetHas, Memory}
-use Rattle.plan_text.specs.SheetLine.{SheetLine, Title, GridLine, OrderLine, NodeLine, EdgeLine, ValuesLine, EndLine, text_of, MayEnd}
+use Rattle.plan_text.specs.SheetLine.{SheetLine, Title, GridLine, OrderLine, NodeLine, EdgeLine, ValuesLine, EndLine, text_of_line, MayEnd}
 use Rattle.plan_text.specs.SheetText.{StatesSettled, mileage_field, track_field}
-use Rattle.plan_text.specs.SheetFaults.{Due, TitleDue, GridDue, OrderDue, NodeDue, EdgesDue, EdgeDue, ValuesDue, EndDue, IsToldIn, IsDue, node_due, edge_due, due_behind, due_after, criteria_told, place_told, line_told, order_told, drawing_told, IsInRange, IsOfGraph, HasShape, IsMeasured, AreRight, HasWrongLine}
+use Rattle.plan_text.specs.SheetFaults.{LineDue, TitleDue, GridDue, OrderDue, NodeDue, EdgesDue, EdgeDue, ValuesDue, EndDue, IsToldIn, IsDue, node_due, edge_due, due_behind, due_after, criteria_told, place_told, line_told, order_told, drawing_told, IsInRange, IsOfGraph, HasShape, IsMeasured, AreRightLines, HasWrongLine}
 use Rattle.plan_text.specs.SheetReading.{IsLineTo, head_lines, placed_lines, drawn_lines, AreReadTo, IsFaultHere, IsFaultFrom}
 
 -- ---- results
@@ -32,39 +32,39 @@ fails (Err e) P Q x is h = subst Q (sym is) h
 
 -- ---- lists of lines
 
-pub due_append : (g : Graph) (due : Due) (a b : List SheetLine) → due_after g due (a ++ b) ≡ due_after g (due_after g due a) b
+pub due_append : (g : Graph) (due : LineDue) (a b : List SheetLine) → due_after g due (a ++ b) ≡ due_after g (due_after g due a) b
 due_append g due [] b = refl
 due_append g due (l ∷ a) b = due_append g (due_behind g due l) a b
 
 regroup : (before a : List SheetLine) (l : SheetLine) → before ++ (l ∷ a) ≡ (before ++ l ∷ []) ++ a
 regroup before a l = sym (append_assoc before (l ∷ []) a)
 
-pub right_append : (g : Graph) (before : List SheetLine) (due : Due) (a b : List SheetLine) → AreRight g before due a → AreRight g (before ++ a) (due_after g due a) b → AreRight g before due (a ++ b)
-right_append g before due [] b h k = subst (λ (lines : List SheetLine). AreRight g lines due b) (append-nil before) k
+pub right_append : (g : Graph) (before : List SheetLine) (due : LineDue) (a b : List SheetLine) → AreRightLines g before due a → AreRightLines g (before ++ a) (due_after g due a) b → AreRightLines g before due (a ++ b)
+right_append g before due [] b h k = subst (λ (lines : List SheetLine). AreRightLines g lines due b) (append-nil before) k
 right_append g before due (l ∷ a) b h k =
-    (h.0, right_append g (before ++ l ∷ []) (due_behind g due l) a b h.1 (subst (λ (lines : List SheetLine). AreRight g lines (due_after g (due_behind g due l) a) b) (regroup before a l) k))
+    (h.0, right_append g (before ++ l ∷ []) (due_behind g due l) a b h.1 (subst (λ (lines : List SheetLine). AreRightLines g lines (due_after g (due_behind g due l) a) b) (regroup before a l) k))
 
-pub read_none : (g : Graph) (before : List SheetLine) (due : Due) (text : List ℕ) → AreReadTo g before due text [] text
+pub read_none : (g : Graph) (before : List SheetLine) (due : LineDue) (text : List ℕ) → AreReadTo g before due text [] text
 read_none g before due text = record { right = tt; spelled = refl }
 
-pub read_append : (g : Graph) (before : List SheetLine) (due : Due) (text mid rest : List ℕ) (a b : List SheetLine) → AreReadTo g before due text a mid → AreReadTo g (before ++ a) (due_after g due a) mid b rest → AreReadTo g before due text (a ++ b) rest
+pub read_append : (g : Graph) (before : List SheetLine) (due : LineDue) (text mid rest : List ℕ) (a b : List SheetLine) → AreReadTo g before due text a mid → AreReadTo g (before ++ a) (due_after g due a) mid b rest → AreReadTo g before due text (a ++ b) rest
 read_append g before due text mid rest a b h k = record {
   right = right_append g before due a b h.right k.right;
   spelled = h.spelled
-      ∙ ap (λ (t : List ℕ). flat_map text_of a ++ t) k.spelled
-      ∙ sym (append_assoc (flat_map text_of a) (flat_map text_of b) rest)
-      ∙ ap (λ (t : List ℕ). t ++ rest) (sym (flat_map-append text_of a b));
+      ∙ ap (λ (t : List ℕ). flat_map text_of_line a ++ t) k.spelled
+      ∙ sym (append_assoc (flat_map text_of_line a) (flat_map text_of_line b) rest)
+      ∙ ap (λ (t : List ℕ). t ++ rest) (sym (flat_map-append text_of_line a b));
 }
 
-pub read_one : (g : Graph) (before : List SheetLine) (due : Due) (text rest : List ℕ) (line : SheetLine) → IsDue due line → IsInRange before due line → IsOfGraph g due line → HasShape line → IsMeasured before line → IsLineTo text line rest → AreReadTo g before due text (line ∷ []) rest
+pub read_one : (g : Graph) (before : List SheetLine) (due : LineDue) (text rest : List ℕ) (line : SheetLine) → IsDue due line → IsInRange before due line → IsOfGraph g due line → HasShape line → IsMeasured before line → IsLineTo text line rest → AreReadTo g before due text (line ∷ []) rest
 read_one g before due text rest line is range of shape measured to = record {
   right = (record { is_due = is; form = to.form; range = range; of_graph = of; shape = shape; measured = measured }, tt);
-  spelled = to.spelled ∙ ap (λ (t : List ℕ). t ++ rest) (sym (append-nil (text_of line)));
+  spelled = to.spelled ∙ ap (λ (t : List ℕ). t ++ rest) (sym (append-nil (text_of_line line)));
 }
 
 -- ---- the first fault
 
-pub first_here : (g : Graph) (before : List SheetLine) (due : Due) (text : List ℕ) (number line : ℕ) (fault : SheetFault) → line ≡ number → IsFaultHere g before due text line fault → IsFaultFrom g before due text number fault
+pub first_here : (g : Graph) (before : List SheetLine) (due : LineDue) (text : List ℕ) (number line : ℕ) (fault : SheetFault) → line ≡ number → IsFaultHere g before due text line fault → IsFaultFrom g before due text number fault
 first_here g before due text number line (SheetHas what at) same h = record {
   lines = [];
   rest = text;
@@ -77,21 +77,21 @@ first_here g before due text number line (SheetHas what at) same h = record {
     add_none n = omega arith
 first_here g before due text number line Memory same h = tt
 
-pub first_later : (g : Graph) (before : List SheetLine) (due : Due) (text mid : List ℕ) (a : List SheetLine) (number line : ℕ) (fault : SheetFault) → AreReadTo g before due text a mid → line ≡ number + length a → IsFaultFrom g (before ++ a) (due_after g due a) mid line fault → IsFaultFrom g before due text number fault
+pub first_later : (g : Graph) (before : List SheetLine) (due : LineDue) (text mid : List ℕ) (a : List SheetLine) (number line : ℕ) (fault : SheetFault) → AreReadTo g before due text a mid → line ≡ number + length a → IsFaultFrom g (before ++ a) (due_after g due a) mid line fault → IsFaultFrom g before due text number fault
 first_later g before due text mid a number line (SheetHas what at) h same f = record {
   lines = a ++ f.lines;
   rest = f.rest;
   read = read_append g before due text mid f.rest a f.lines h f.read;
   counted = counted_on at line number (length a) (length f.lines) (length (a ++ f.lines)) f.counted same (length-append a f.lines);
   fault = subst (λ (lines : List SheetLine). HasWrongLine g lines (due_after g due (a ++ f.lines)) f.rest what) (append_assoc before a f.lines)
-      (subst (λ (d : Due). HasWrongLine g ((before ++ a) ++ f.lines) d f.rest what) (sym (due_append g due a f.lines)) f.fault);
+      (subst (λ (d : LineDue). HasWrongLine g ((before ++ a) ++ f.lines) d f.rest what) (sym (due_append g due a f.lines)) f.fault);
 }
   where
     counted_on : (at line number a b c : ℕ) → at ≡ line + b → line ≡ number + a → c ≡ a + b → at ≡ number + c
     counted_on at line number a b c e f h = omega (arith, e, f, h)
 first_later g before due text mid a number line Memory h same f = tt
 
-pub later_here : (g : Graph) (before : List SheetLine) (due : Due) (text mid : List ℕ) (a : List SheetLine) (number line : ℕ) (fault : SheetFault) → AreReadTo g before due text a mid → line ≡ number + length a → IsFaultHere g (before ++ a) (due_after g due a) mid line fault → IsFaultFrom g before due text number fault
+pub later_here : (g : Graph) (before : List SheetLine) (due : LineDue) (text mid : List ℕ) (a : List SheetLine) (number line : ℕ) (fault : SheetFault) → AreReadTo g before due text a mid → line ≡ number + length a → IsFaultHere g (before ++ a) (due_after g due a) mid line fault → IsFaultFrom g before due text number fault
 later_here g before due text mid a number line fault h same f =
     first_later g before due text mid a number line fault h same (first_here g (before ++ a) (due_after g due a) mid line line fault refl f)
 
@@ -114,14 +114,14 @@ edge_due_at edition g e less = ap (λ (b : Bool). if b then EdgeDue edition e el
 pub due_places : (edition : Edition) (g : Graph) (k : ℕ) (places : List Point) → k + length places ≤ length g.nodes → due_after g (node_due edition g k) (placed_lines edition g k places) ≡ node_due edition g (k + length places)
 due_places edition g k [] fits = ap (node_due edition g) (omega arith)
 due_places edition g k (p ∷ places) fits =
-    ap (λ (d : Due). due_after g (due_behind g d (NodeLine k (node g k).name p (mileage_field edition g k))) (placed_lines edition g (k + 1) places)) (node_due_at edition g k (omega (arith, fits)))
+    ap (λ (d : LineDue). due_after g (due_behind g d (NodeLine k (node g k).name p (mileage_field edition g k))) (placed_lines edition g (k + 1) places)) (node_due_at edition g k (omega (arith, fits)))
     ∙ due_places edition g (k + 1) places (omega (arith, fits))
     ∙ ap (node_due edition g) (omega arith)
 
 pub due_lines : (edition : Edition) (g : Graph) (k : ℕ) (lines : List (List Point)) → k + length lines ≤ length g.edges → due_after g (edge_due edition g k) (drawn_lines edition g k lines) ≡ edge_due edition g (k + length lines)
 due_lines edition g k [] fits = ap (edge_due edition g) (omega arith)
 due_lines edition g k (l ∷ lines) fits =
-    ap (λ (d : Due). due_after g (due_behind g d (EdgeLine k (track_field edition g k) (edge g k).west (edge g k).east l)) (drawn_lines edition g (k + 1) lines)) (edge_due_at edition g k (omega (arith, fits)))
+    ap (λ (d : LineDue). due_after g (due_behind g d (EdgeLine k (track_field edition g k) (edge g k).west (edge g k).east l)) (drawn_lines edition g (k + 1) lines)) (edge_due_at edition g k (omega (arith, fits)))
     ∙ due_lines edition g (k + 1) lines (omega (arith, fits))
     ∙ ap (edge_due edition g) (omega arith)
 
@@ -155,7 +155,7 @@ place_read edition g text mid rest n places p less count so_far to before =
     let there : n ≡ 0 + length places = omega (arith, count) in
     let one = read_one g (before ++ placed_lines edition g 0 places) (NodeDue edition n) mid rest (NodeLine n (node g n).name p (mileage_field edition g n)) (mileage_told edition g n) tt (refl, refl, refl) tt tt to in
     let grown = read_append g before (node_due edition g 0) text mid rest (placed_lines edition g 0 places) (NodeLine n (node g n).name p (mileage_field edition g n) ∷ []) (so_far before)
-    (subst (λ (d : Due). AreReadTo g (before ++ placed_lines edition g 0 places) d mid (NodeLine n (node g n).name p (mileage_field edition g n) ∷ []) rest) (sym due) one) in
+    (subst (λ (d : LineDue). AreReadTo g (before ++ placed_lines edition g 0 places) d mid (NodeLine n (node g n).name p (mileage_field edition g n) ∷ []) rest) (sym due) one) in
     subst (λ (lines : List SheetLine). AreReadTo g before (node_due edition g 0) text lines rest)
     (ap (λ (k : ℕ). placed_lines edition g 0 places ++ NodeLine k (node g k).name p (mileage_field edition g k) ∷ []) there ∙ sym (placed_more edition g 0 places p)) grown
 
@@ -164,7 +164,7 @@ pub place_fault : (edition : Edition) (g : Graph) (text mid : List ℕ) (n line 
 place_fault edition g text mid n line places fault less count so_far numbered h before =
     let k = placed_length edition g 0 places in
     later_here g before (node_due edition g 0) text mid (placed_lines edition g 0 places) 5 line fault (so_far before) (omega (arith, k, count, numbered))
-    (subst (λ (d : Due). IsFaultHere g (before ++ placed_lines edition g 0 places) d mid line fault) (sym (due_there edition g n places less count)) (h (before ++ placed_lines edition g 0 places)))
+    (subst (λ (d : LineDue). IsFaultHere g (before ++ placed_lines edition g 0 places) d mid line fault) (sym (due_there edition g n places less count)) (h (before ++ placed_lines edition g 0 places)))
 
 pub line_read : (edition : Edition) (g : Graph) (text mid rest : List ℕ) (e : ℕ) (lines : List (List Point)) (l : List Point) → e < length g.edges → length lines ≡ e → ((before : List SheetLine) → AreReadTo g before (edge_due edition g 0) text (drawn_lines edition g 0 lines) mid) →
     HasShape (EdgeLine e (track_field edition g e) (edge g e).west (edge g e).east l) → IsLineTo mid (EdgeLine e (track_field edition g e) (edge g e).west (edge g e).east l) rest → (before : List SheetLine) → AreReadTo g before (edge_due edition g 0) text (drawn_lines edition g 0 (lines ++ l ∷ [])) rest
@@ -174,7 +174,7 @@ line_read edition g text mid rest e lines l less count so_far shape to before =
     let line : SheetLine = EdgeLine e (track_field edition g e) (edge g e).west (edge g e).east l in
     let one = read_one g (before ++ drawn_lines edition g 0 lines) (EdgeDue edition e) mid rest line (track_told edition g e) tt (refl, refl, refl, refl) shape tt to in
     let grown = read_append g before (edge_due edition g 0) text mid rest (drawn_lines edition g 0 lines) (line ∷ []) (so_far before)
-    (subst (λ (d : Due). AreReadTo g (before ++ drawn_lines edition g 0 lines) d mid (line ∷ []) rest) (sym due) one) in
+    (subst (λ (d : LineDue). AreReadTo g (before ++ drawn_lines edition g 0 lines) d mid (line ∷ []) rest) (sym due) one) in
     subst (λ (more : List SheetLine). AreReadTo g before (edge_due edition g 0) text more rest)
     (ap (λ (k : ℕ). drawn_lines edition g 0 lines ++ EdgeLine k (track_field edition g k) (edge g k).west (edge g k).east l ∷ []) there ∙ sym (drawn_more edition g 0 lines l)) grown
 
@@ -183,7 +183,7 @@ pub line_fault : (edition : Edition) (g : Graph) (text mid : List ℕ) (e line f
 line_fault edition g text mid e line first lines fault less count so_far numbered h before =
     let k = drawn_length edition g 0 lines in
     later_here g before (edge_due edition g 0) text mid (drawn_lines edition g 0 lines) first line fault (so_far before) (omega (arith, k, count, numbered))
-    (subst (λ (d : Due). IsFaultHere g (before ++ drawn_lines edition g 0 lines) d mid line fault) (sym (due_there_edge edition g e lines less count)) (h (before ++ drawn_lines edition g 0 lines)))
+    (subst (λ (d : LineDue). IsFaultHere g (before ++ drawn_lines edition g 0 lines) d mid line fault) (sym (due_there_edge edition g e lines less count)) (h (before ++ drawn_lines edition g 0 lines)))
 
 -- ---- one more of a list
 

@@ -19,10 +19,10 @@ use Rattle.plan_text.specs.declared.sheet_fault.SheetFault.{SheetFault}
 use Rattle.plan_text.specs.declared.sheet_fault.SheetFault.TheVariants.{Sheet as SheetHas, Memory}
 use Rattle.plan_text.specs.declared.sheet_fault.SheetWhat.{SheetWhat}
 use Rattle.plan_text.specs.declared.sheet_fault.SheetWhat.TheVariants as whats
-use Rattle.plan_text.specs.SheetLine.{SheetLine, NodesLine, NodeLine, EdgesLine, EdgeLine, ValuesLine, EndLine, text_of, IsSmallEnding, MayEnd}
+use Rattle.plan_text.specs.SheetLine.{SheetLine, NodesLine, NodeLine, EdgesLine, EdgeLine, ValuesLine, EndLine, text_of_line, IsSmallEnding, MayEnd}
 use Rattle.plan_core.specs.Lawful.{HasSizeOf}
 use Rattle.plan_text.specs.SheetText.{StatesSettled, mileage_field, track_field, node_line, edge_line, node_lines, edge_lines, picture_lines, drawing_lines}
-use Rattle.plan_text.specs.SheetFaults.{Due, TitleDue, BodyDue, NodeDue, EdgesDue, EdgeDue, ValuesDue, BeginsWith, node_due, edge_due, due_after, criteria_told, place_told, line_told, order_told, drawing_told, HasWrongLine, IsTextOf, IsSheetFault}
+use Rattle.plan_text.specs.SheetFaults.{LineDue, TitleDue, BodyDue, NodeDue, EdgesDue, EdgeDue, ValuesDue, BeginsWithLine, node_due, edge_due, due_after, criteria_told, place_told, line_told, order_told, drawing_told, HasWrongLine, IsSheetText, IsSheetFault}
 use Rattle.plan_text.specs.SheetReading.{IsLineTo, head_lines, placed_lines, drawn_lines, AreReadTo, IsFirstFrom, IsFaultFrom, ArePlacesTo, AreLinesTo, IsPictureTo, IsClosing, IsNoUndrawnEnding}
 use Rattle.plan_text.proofs.ReadingLemmas.{due_append, read_append, read_one, first_later, due_places, due_lines, placed_length, drawn_length, order_kept, drawing_grown}
 
@@ -127,7 +127,7 @@ due_edges edition g lines size = let all : 0 + length lines ≡ length g.edges =
 pub due_parts : (edition : Edition) (g : Graph) (d : Drawing) → HasSizeOf g d → due_after g (BodyDue edition true) (parts_of edition g d) ≡ ValuesDue
 due_parts edition g d size =
     due_append g (node_due edition g 0) (placed_lines edition g 0 d.places) (EdgesLine (length g.edges) ∷ drawn_lines edition g 0 d.lines)
-    ∙ ap (λ (due : Due). due_after g due (EdgesLine (length g.edges) ∷ drawn_lines edition g 0 d.lines)) (due_nodes edition g d.places size.places)
+    ∙ ap (λ (due : LineDue). due_after g due (EdgesLine (length g.edges) ∷ drawn_lines edition g 0 d.lines)) (due_nodes edition g d.places size.places)
     ∙ due_edges edition g d.lines size.lines
 
 -- ---- the whole drawing
@@ -147,7 +147,7 @@ read_picture edition g text mid rest places some lines other d is p l nodes edge
       λ before. subst (λ (e : Drawing). AreReadTo g before (BodyDue edition true) text (NodesLine (length g.nodes) ∷ picture_lines edition g e) rest) same
           (subst (λ (all : List SheetLine). AreReadTo g before (BodyDue edition true) text all rest) (parts_are edition g (drawing places lines) size)
           (read_append g before (BodyDue edition true) text mid rest (NodesLine (length g.nodes) ∷ placed_lines edition g 0 places) (EdgesLine (length g.edges) ∷ drawn_lines edition g 0 lines) (h before)
-          (subst (λ (due : Due). AreReadTo g (before ++ NodesLine (length g.nodes) ∷ placed_lines edition g 0 places) due mid (EdgesLine (length g.edges) ∷ drawn_lines edition g 0 lines) rest) (sym (due_nodes edition g places nodes)) (k (before ++ NodesLine (length g.nodes) ∷ placed_lines edition g 0 places))))),
+          (subst (λ (due : LineDue). AreReadTo g (before ++ NodesLine (length g.nodes) ∷ placed_lines edition g 0 places) due mid (EdgesLine (length g.edges) ∷ drawn_lines edition g 0 lines) rest) (sym (due_nodes edition g places nodes)) (k (before ++ NodesLine (length g.nodes) ∷ placed_lines edition g 0 places))))),
     )
 
 pub edges_fault : (edition : Edition) (g : Graph) (text mid : List ℕ) (places : List Point) (fault : SheetFault) → length places ≡ length g.nodes → ArePlacesTo edition g text places mid → ((before : List SheetLine) → IsFaultFrom g before (EdgesDue edition) mid (length g.nodes + 5) fault) → (before : List SheetLine) → IsFaultFrom g before (BodyDue edition true) text 4 fault
@@ -155,7 +155,7 @@ edges_fault edition g text mid places fault nodes h k before =
     let all : List SheetLine = NodesLine (length g.nodes) ∷ placed_lines edition g 0 places in
     let n = placed_length edition g 0 places in
     first_later g before (BodyDue edition true) text mid all 4 (length g.nodes + 5) fault (h before) (omega (arith, n, nodes))
-    (subst (λ (due : Due). IsFaultFrom g (before ++ all) due mid (length g.nodes + 5) fault) (sym (due_nodes edition g places nodes)) (k (before ++ all)))
+    (subst (λ (due : LineDue). IsFaultFrom g (before ++ all) due mid (length g.nodes + 5) fault) (sym (due_nodes edition g places nodes)) (k (before ++ all)))
 
 -- ---- the whole sheet with a drawing
 
@@ -178,7 +178,7 @@ read_body edition g text mid order d e size h k before ordered none =
     let end : List SheetLine = ValuesLine (values_of d) ∷ EndLine e ∷ [] in
     let body : AreReadTo g before (BodyDue edition true) text (all ++ end) [] =
     read_append g before (BodyDue edition true) text mid [] all end (subst (λ (lines : List SheetLine). AreReadTo g before (BodyDue edition true) text lines mid) (sym (parts_are edition g d size)) (h before))
-    (subst (λ (due : Due). AreReadTo g (before ++ all) due mid end []) (sym (due_parts edition g d size)) (k (before ++ all) (behind_parts edition g before order d ordered) (drawing_grown before all d none (parts_tell edition g d)))) in
+    (subst (λ (due : LineDue). AreReadTo g (before ++ all) due mid end []) (sym (due_parts edition g d size)) (k (before ++ all) (behind_parts edition g before order d ordered) (drawing_grown before all d none (parts_tell edition g d)))) in
     subst (λ (lines : List SheetLine). AreReadTo g before (BodyDue edition true) text lines [])
     (ap (λ (lines : List SheetLine). lines ++ end) (parts_are edition g d size)
     ∙ ap (λ (lines : List SheetLine). NodesLine (length g.nodes) ∷ lines) (sym (append_assoc (picture_lines edition g d) (ValuesLine (values_of d) ∷ []) (EndLine e ∷ [])))) body
@@ -191,7 +191,7 @@ end_fault_later edition g text mid order d fault size h k before ordered none =
     let n = parts_length edition g d size in
     first_later g before (BodyDue edition true) text mid all 4 (length g.nodes + length g.edges + 6) fault
     (subst (λ (lines : List SheetLine). AreReadTo g before (BodyDue edition true) text lines mid) (sym (parts_are edition g d size)) (h before)) (omega (arith, n))
-    (subst (λ (due : Due). IsFaultFrom g (before ++ all) due mid (length g.nodes + length g.edges + 6) fault) (sym (due_parts edition g d size)) (k (before ++ all) (behind_parts edition g before order d ordered) (drawing_grown before all d none (parts_tell edition g d))))
+    (subst (λ (due : LineDue). IsFaultFrom g (before ++ all) due mid (length g.nodes + length g.edges + 6) fault) (sym (due_parts edition g d size)) (k (before ++ all) (behind_parts edition g before order d ordered) (drawing_grown before all d none (parts_tell edition g d))))
 
 -- ---- a text that has been read to its end
 
@@ -216,13 +216,13 @@ whole : (edition : Edition) (g : Graph) (needs_drawing : Bool) (text mid : List 
 whole edition g needs_drawing text mid grid order lines h k = read_append g [] (TitleDue needs_drawing) text mid [] (head_lines edition grid order) lines h k
 
 pub text_drawn : (edition : Edition) (g : Graph) (needs_drawing : Bool) (text mid : List ℕ) (grid : GridSize) (order : List Criterion) (d : Drawing) (e : Ending) → AreReadTo g [] (TitleDue needs_drawing) text (head_lines edition grid order) mid → HasSizeOf g d → AreReadTo g (head_lines edition grid order) (BodyDue edition needs_drawing) mid (drawing_lines edition g d ++ EndLine e ∷ []) [] →
-    IsTextOf g needs_drawing text (record { grid = grid; order = order; found = Some d; ending = e })
+    IsSheetText g needs_drawing text (record { grid = grid; order = order; found = Some d; ending = e })
 text_drawn edition g needs_drawing text mid grid order d e h size k =
     let all = whole edition g needs_drawing text mid grid order (drawing_lines edition g d ++ EndLine e ∷ []) h k in
     record { edition = edition; draws_all = size; right = all.right; spelled = all.spelled ∙ append-nil _ }
 
 pub text_undrawn : (edition : Edition) (g : Graph) (text mid : List ℕ) (grid : GridSize) (order : List Criterion) (e : Ending) → AreReadTo g [] (TitleDue false) text (head_lines edition grid order) mid → AreReadTo g (head_lines edition grid order) (BodyDue edition false) mid (EndLine e ∷ []) [] →
-    IsTextOf g false text (record { grid = grid; order = order; found = None; ending = e })
+    IsSheetText g false text (record { grid = grid; order = order; found = None; ending = e })
 text_undrawn edition g text mid grid order e h k =
     let all = whole edition g false text mid grid order (EndLine e ∷ []) h k in
     record { edition = edition; draws_all = tt; right = all.right; spelled = all.spelled ∙ append-nil _ }
@@ -235,7 +235,7 @@ body_read edition g before lines text rest count h = let first = h.right.0 in re
   spelled = h.spelled;
 }
 
-begins_so : (edition : Edition) (text rest : List ℕ) → text ≡ rest → (line : SheetLine) → BeginsWith (BodyDue edition false) rest line → IsNoUndrawnEnding text → ((line : SheetLine) → BeginsWith (BodyDue edition true) rest line → ⊥) → ⊥
+begins_so : (edition : Edition) (text rest : List ℕ) → text ≡ rest → (line : SheetLine) → BeginsWithLine (BodyDue edition false) rest line → IsNoUndrawnEnding text → ((line : SheetLine) → BeginsWithLine (BodyDue edition true) rest line → ⊥) → ⊥
 begins_so edition text rest same (NodesLine count) b none h = h (NodesLine count) (record { is_due = tt; form = b.form; behind = b.behind; spelled = b.spelled })
 begins_so edition text rest same (EndLine e) b none h = none e b.behind b.form b.is_due (same ∙ b.spelled)
 begins_so edition text rest same line b none h = b.is_due
@@ -287,16 +287,16 @@ fault_too edition g before text number Memory none f = tt
 
 -- ---- the ending alone
 
-end_line_to : (text rest : List ℕ) (e told : Ending) → e ≡ told → IsSmallEnding told → text ≡ text_of (EndLine told) ++ rest → IsLineTo text (EndLine e) rest
+end_line_to : (text rest : List ℕ) (e told : Ending) → e ≡ told → IsSmallEnding told → text ≡ text_of_line (EndLine told) ++ rest → IsLineTo text (EndLine e) rest
 end_line_to text rest e told same small is = record {
   form = subst IsSmallEnding (sym same) small;
-  spelled = is ∙ ap (λ (f : Ending). text_of (EndLine f) ++ rest) (sym same);
+  spelled = is ∙ ap (λ (f : Ending). text_of_line (EndLine f) ++ rest) (sym same);
 }
 
-pub read_undrawn : (edition : Edition) (g : Graph) (before : List SheetLine) (text rest : List ℕ) (e told : Ending) → e ≡ told → IsSmallEnding told → MayEnd false told → text ≡ text_of (EndLine told) ++ rest → StatesSettled (order_told before) false e → AreReadTo g before (BodyDue edition false) text (EndLine e ∷ []) rest
+pub read_undrawn : (edition : Edition) (g : Graph) (before : List SheetLine) (text rest : List ℕ) (e told : Ending) → e ≡ told → IsSmallEnding told → MayEnd false told → text ≡ text_of_line (EndLine told) ++ rest → StatesSettled (order_told before) false e → AreReadTo g before (BodyDue edition false) text (EndLine e ∷ []) rest
 read_undrawn edition g before text rest e told same small may is settled =
     read_one g before (BodyDue edition false) text rest (EndLine e) (subst (MayEnd false) (sym same) may) settled tt tt tt (end_line_to text rest e told same small is)
 
-pub settled_fault : (edition : Edition) (g : Graph) (before : List SheetLine) (text rest : List ℕ) (told : Ending) (what : SheetWhat) → IsSmallEnding told → MayEnd false told → text ≡ text_of (EndLine told) ++ rest → what ≡ whats.Range → ((order : List Criterion) → StatesSettled order false told → ⊥) → HasWrongLine g before (BodyDue edition false) text what
+pub settled_fault : (edition : Edition) (g : Graph) (before : List SheetLine) (text rest : List ℕ) (told : Ending) (what : SheetWhat) → IsSmallEnding told → MayEnd false told → text ≡ text_of_line (EndLine told) ++ rest → what ≡ whats.Range → ((order : List Criterion) → StatesSettled order false told → ⊥) → HasWrongLine g before (BodyDue edition false) text what
 settled_fault edition g before text rest told what small may is range out =
     subst (HasWrongLine g before (BodyDue edition false) text) (sym range) (EndLine told, record { is_due = may; form = small; behind = rest; spelled = is }, out (order_told before))

@@ -18,33 +18,33 @@ use Rattle.plan_text.specs.declared.sheet_fault.SheetWhat.{SheetWhat}
 use Rattle.plan_text.specs.declared.sheet_fault.SheetWhat.TheVariants as whats
 use Rattle.plan_text.specs.declared.sheet_fault.SheetFault.{SheetFault}
 use Rattle.plan_text.specs.declared.sheet_fault.SheetFault.TheVariants.{Sheet as SheetHas, Memory}
-use Rattle.plan_text.specs.SheetLine.{SheetLine, Title, GridLine, OrderLine, NodesLine, EdgeLine, ValuesLine, EndLine, text_of}
+use Rattle.plan_text.specs.SheetLine.{SheetLine, Title, GridLine, OrderLine, NodesLine, EdgeLine, ValuesLine, EndLine, text_of_line}
 use Rattle.plan_core.specs.Lawful.{HasSizeOf}
 use Rattle.plan_text.specs.SheetText.{Sheet, DrawsAll, picture_lines, drawing_lines, found_lines, sheet_lines}
-use Rattle.plan_text.specs.SheetFaults.{Due, TitleDue, BodyDue, NoneDue, due_behind, due_after, place_told, line_told, drawing_told, BeginsWith, IsMisformed, HasWrongLine, IsInRange, IsOfGraph, HasShape, IsMeasured, IsRight, AreRight, IsTextOf, IsDrawingOf, HasSheetFault, IsSheetFault}
+use Rattle.plan_text.specs.SheetFaults.{LineDue, TitleDue, BodyDue, NoneDue, due_behind, due_after, place_told, line_told, drawing_told, BeginsWithLine, IsMisformed, HasWrongLine, IsInRange, IsOfGraph, HasShape, IsMeasured, IsRight, AreRightLines, IsSheetText, IsDrawingOf, HasSheetFault, IsSheetFault}
 use Rattle.plan_text.proofs.LineAgain.{once_due, none_due}
 use Rattle.plan_text.proofs.ReadingLemmas.{due_append}
 use Rattle.plan_text.proofs.SheetAgain.{parts_of, parts_are, parts_tell, due_parts}
 
 abbrev texts : List SheetLine → List ℕ
-texts lines = flat_map text_of lines
+texts lines = flat_map text_of_line lines
 
 -- ---- the first line
 
 -- the lines that one text begins with are one
-one_begin : (due : Due) (text : List ℕ) (l m : SheetLine) → BeginsWith due text l → BeginsWith due text m → l ≡ m
+one_begin : (due : LineDue) (text : List ℕ) (l m : SheetLine) → BeginsWithLine due text l → BeginsWithLine due text m → l ≡ m
 one_begin due text l m a b = (once_due due l m a.is_due b.is_due a.behind b.behind a.form b.form (sym a.spelled ∙ b.spelled)).line
 
-right_begins : (g : Graph) (before : List SheetLine) (due : Due) (text rest : List ℕ) (l : SheetLine) → IsRight g before due l → text ≡ text_of l ++ rest → BeginsWith due text l
+right_begins : (g : Graph) (before : List SheetLine) (due : LineDue) (text rest : List ℕ) (l : SheetLine) → IsRight g before due l → text ≡ text_of_line l ++ rest → BeginsWithLine due text l
 right_begins g before due text rest l right e = record { is_due = right.is_due; form = right.form; behind = rest; spelled = e }
 
 -- nothing of the form that is due begins a text that is misformed
-misformed : (due : Due) (text : List ℕ) (l : SheetLine) → IsMisformed due text → BeginsWith due text l → ⊥
+misformed : (due : LineDue) (text : List ℕ) (l : SheetLine) → IsMisformed due text → BeginsWithLine due text l → ⊥
 misformed NoneDue text l h b = none_due l b.is_due
 misformed due text l h b = h l b
 
 -- where a line is right, no line has a fault
-right_or_fault : (g : Graph) (before : List SheetLine) (due : Due) (text rest : List ℕ) (l : SheetLine) (what : SheetWhat) → IsRight g before due l → text ≡ text_of l ++ rest → HasWrongLine g before due text what → ⊥
+right_or_fault : (g : Graph) (before : List SheetLine) (due : LineDue) (text rest : List ℕ) (l : SheetLine) (what : SheetWhat) → IsRight g before due l → text ≡ text_of_line l ++ rest → HasWrongLine g before due text what → ⊥
 right_or_fault g before due text rest l whats.Form right e f = misformed due text l f (right_begins g before due text rest l right e)
 right_or_fault g before due text rest l whats.Range right e (m, b, not) =
     not (subst (IsInRange before due) (one_begin due text l m (right_begins g before due text rest l right e) b) right.range)
@@ -64,14 +64,14 @@ record Front (a b : List SheetLine) (q r : List ℕ) : Type 0 where
   left : r ≡ texts more ++ q
 
 -- nothing is right behind the lines in front of a fault
-up_to_fault : (g : Graph) (before : List SheetLine) (due : Due) (a b : List SheetLine) (q r : List ℕ) (what : SheetWhat) → AreRight g before due a → AreRight g before due b →
+up_to_fault : (g : Graph) (before : List SheetLine) (due : LineDue) (a b : List SheetLine) (q r : List ℕ) (what : SheetWhat) → AreRightLines g before due a → AreRightLines g before due b →
     HasWrongLine g (before ++ a) (due_after g due a) q what → texts a ++ q ≡ texts b ++ r → Front a b q r
 up_to_fault g before due a [] q r what h k f e = record { more = a; split = refl; left = sym e }
 up_to_fault g before due [] (m ∷ b) q r what h k f e =
-    absurd (right_or_fault g before due q (texts b ++ r) m what k.0 (e ∙ append_assoc (text_of m) (texts b) r) (subst (λ (lines : List SheetLine). HasWrongLine g lines due q what) (append-nil before) f))
+    absurd (right_or_fault g before due q (texts b ++ r) m what k.0 (e ∙ append_assoc (text_of_line m) (texts b) r) (subst (λ (lines : List SheetLine). HasWrongLine g lines due q what) (append-nil before) f))
 up_to_fault g before due (l ∷ a) (m ∷ b) q r what h k f e =
-    let same = once_due due l m h.0.is_due k.0.is_due (texts a ++ q) (texts b ++ r) h.0.form k.0.form (sym (append_assoc (text_of l) (texts a) q) ∙ e ∙ append_assoc (text_of m) (texts b) r) in
-    let right : AreRight g (before ++ l ∷ []) (due_behind g due l) b = subst (λ (n : SheetLine). AreRight g (before ++ n ∷ []) (due_behind g due n) b) (sym same.line) k.1 in
+    let same = once_due due l m h.0.is_due k.0.is_due (texts a ++ q) (texts b ++ r) h.0.form k.0.form (sym (append_assoc (text_of_line l) (texts a) q) ∙ e ∙ append_assoc (text_of_line m) (texts b) r) in
+    let right : AreRightLines g (before ++ l ∷ []) (due_behind g due l) b = subst (λ (n : SheetLine). AreRightLines g (before ++ n ∷ []) (due_behind g due n) b) (sym same.line) k.1 in
     let fault : HasWrongLine g ((before ++ l ∷ []) ++ a) (due_after g (due_behind g due l) a) q what = subst (λ (lines : List SheetLine). HasWrongLine g lines (due_after g (due_behind g due l) a) q what) (sym (append_assoc before (l ∷ []) a)) f in
     let later = up_to_fault g (before ++ l ∷ []) (due_behind g due l) a b q r what h.1 right fault same.behind in
     record {
@@ -94,7 +94,7 @@ due_behind_found edition g needs_drawing None e all = refl
 due_behind_found edition g needs_drawing (Some d) e all =
     ap (due_after g (BodyDue edition true)) (lines_are edition g d e all)
     ∙ due_append g (BodyDue edition true) (parts_of edition g d) (ValuesLine (values_of d) ∷ EndLine e ∷ [])
-    ∙ ap (λ (due : Due). due_after g due (ValuesLine (values_of d) ∷ EndLine e ∷ [])) (due_parts edition g d all)
+    ∙ ap (λ (due : LineDue). due_after g due (ValuesLine (values_of d) ∷ EndLine e ∷ [])) (due_parts edition g d all)
 
 due_at_end : (edition : Edition) (g : Graph) (needs_drawing : Bool) (s : Sheet) → DrawsAll g s → due_after g (TitleDue needs_drawing) (sheet_lines edition g s) ≡ NoneDue
 due_at_end edition g needs_drawing s all = due_behind_found edition g needs_drawing s.found s.ending all
@@ -108,11 +108,11 @@ no_fault_left g before text whats.Shape none (l, b, of, not) = none_due l b.is_d
 no_fault_left g before text whats.Values none (l, b, not) = none_due l b.is_due
 
 -- a line has a text
-some_text : (l : SheetLine) (rest : List ℕ) → [] ≡ text_of l ++ rest → ⊥
+some_text : (l : SheetLine) (rest : List ℕ) → [] ≡ text_of_line l ++ rest → ⊥
 some_text (Title edition) rest e = cc
 some_text l rest e = cc
 
-pub sheet_or_fault : (g : Graph) (needs_drawing : Bool) (text : List ℕ) (s : Sheet) (what : SheetWhat) (line : ℕ) → IsTextOf g needs_drawing text s → HasSheetFault g needs_drawing text what line → ⊥
+pub sheet_or_fault : (g : Graph) (needs_drawing : Bool) (text : List ℕ) (s : Sheet) (what : SheetWhat) (line : ℕ) → IsSheetText g needs_drawing text s → HasSheetFault g needs_drawing text what line → ⊥
 sheet_or_fault g needs_drawing text s what line h f =
     let due = TitleDue needs_drawing in
     let front = up_to_fault g [] due f.before (sheet_lines h.edition g s) f.rest [] what f.right h.right f.fault (sym f.spelled ∙ h.spelled ∙ sym (append-nil (texts (sheet_lines h.edition g s)))) in
@@ -122,27 +122,27 @@ sheet_or_fault g needs_drawing text s what line h f =
     none_more [] split left =
         let whole : f.before ≡ sheet_lines h.edition g s = split ∙ append-nil (sheet_lines h.edition g s) in
         no_fault_left g f.before f.rest what (sym left)
-        (subst (λ (due : Due). HasWrongLine g f.before due f.rest what) (ap (due_after g (TitleDue needs_drawing)) whole ∙ due_at_end h.edition g needs_drawing s h.draws_all) f.fault)
-    none_more (l ∷ more) split left = some_text l (texts more ++ f.rest) (left ∙ append_assoc (text_of l) (texts more) f.rest)
+        (subst (λ (due : LineDue). HasWrongLine g f.before due f.rest what) (ap (due_after g (TitleDue needs_drawing)) whole ∙ due_at_end h.edition g needs_drawing s h.draws_all) f.fault)
+    none_more (l ∷ more) split left = some_text l (texts more ++ f.rest) (left ∙ append_assoc (text_of_line l) (texts more) f.rest)
 
 -- ---- one first fault
 
 -- a line is of one kind, so that it can be out of range, of another graph or wrong in its values, but not two of these
-range_or_graph : (g : Graph) (before : List SheetLine) (due : Due) (l : SheetLine) → (IsInRange before due l → ⊥) → (IsOfGraph g due l → ⊥) → ⊥
+range_or_graph : (g : Graph) (before : List SheetLine) (due : LineDue) (l : SheetLine) → (IsInRange before due l → ⊥) → (IsOfGraph g due l → ⊥) → ⊥
 range_or_graph g before due (GridLine edition grid) h k = k tt
 range_or_graph g before due (OrderLine order) h k = k tt
 range_or_graph g before due (EndLine e) h k = k tt
 range_or_graph g before due l h k = h tt
 
-range_or_shape : (before : List SheetLine) (due : Due) (l : SheetLine) → (IsInRange before due l → ⊥) → (HasShape l → ⊥) → ⊥
+range_or_shape : (before : List SheetLine) (due : LineDue) (l : SheetLine) → (IsInRange before due l → ⊥) → (HasShape l → ⊥) → ⊥
 range_or_shape before due (EdgeLine number track west east points) h k = h tt
 range_or_shape before due l h k = k tt
 
-range_or_values : (before : List SheetLine) (due : Due) (l : SheetLine) → (IsInRange before due l → ⊥) → (IsMeasured before l → ⊥) → ⊥
+range_or_values : (before : List SheetLine) (due : LineDue) (l : SheetLine) → (IsInRange before due l → ⊥) → (IsMeasured before l → ⊥) → ⊥
 range_or_values before due (ValuesLine values) h k = h tt
 range_or_values before due l h k = k tt
 
-graph_or_values : (g : Graph) (before : List SheetLine) (due : Due) (l : SheetLine) → (IsOfGraph g due l → ⊥) → (IsMeasured before l → ⊥) → ⊥
+graph_or_values : (g : Graph) (before : List SheetLine) (due : LineDue) (l : SheetLine) → (IsOfGraph g due l → ⊥) → (IsMeasured before l → ⊥) → ⊥
 graph_or_values g before due (ValuesLine values) h k = h tt
 graph_or_values g before due l h k = k tt
 
@@ -151,7 +151,7 @@ shape_or_values before (ValuesLine values) h k = h tt
 shape_or_values before l h k = k tt
 
 -- one text has one fault at its first line
-one_fault : (g : Graph) (before : List SheetLine) (due : Due) (text : List ℕ) (what other : SheetWhat) → HasWrongLine g before due text what → HasWrongLine g before due text other → what ≡ other
+one_fault : (g : Graph) (before : List SheetLine) (due : LineDue) (text : List ℕ) (what other : SheetWhat) → HasWrongLine g before due text what → HasWrongLine g before due text other → what ≡ other
 one_fault g before due text whats.Form whats.Form f h = refl
 one_fault g before due text whats.Form whats.Range f (m, b, not) = absurd (misformed due text m f b)
 one_fault g before due text whats.Form whats.Graph f (m, b, not) = absurd (misformed due text m f b)
@@ -229,13 +229,13 @@ one_line g needs_drawing text what other line at f h =
 -- ---- one sheet
 
 -- right lines of one text are the same
-same_lines : (g : Graph) (before : List SheetLine) (due : Due) (a b : List SheetLine) → AreRight g before due a → AreRight g before due b → texts a ≡ texts b → a ≡ b
+same_lines : (g : Graph) (before : List SheetLine) (due : LineDue) (a b : List SheetLine) → AreRightLines g before due a → AreRightLines g before due b → texts a ≡ texts b → a ≡ b
 same_lines g before due [] [] h k e = refl
 same_lines g before due [] (m ∷ b) h k e = absurd (some_text m (texts b) e)
 same_lines g before due (l ∷ a) [] h k e = absurd (some_text l (texts a) (sym e))
 same_lines g before due (l ∷ a) (m ∷ b) h k e =
     let same = once_due due l m h.0.is_due k.0.is_due (texts a) (texts b) h.0.form k.0.form e in
-    let right : AreRight g (before ++ l ∷ []) (due_behind g due l) b = subst (λ (n : SheetLine). AreRight g (before ++ n ∷ []) (due_behind g due n) b) (sym same.line) k.1 in
+    let right : AreRightLines g (before ++ l ∷ []) (due_behind g due l) b = subst (λ (n : SheetLine). AreRightLines g (before ++ n ∷ []) (due_behind g due n) b) (sym same.line) k.1 in
     ap (λ (lines : List SheetLine). l ∷ lines) (same_lines g (before ++ l ∷ []) (due_behind g due l) a b h.1 right same.behind)
     ∙ ap (λ (n : SheetLine). n ∷ b) same.line
 
@@ -299,7 +299,7 @@ same_sheet a b g o f e =
 end_lines : Edition → Graph → Sheet → List SheetLine
 end_lines edition g s = found_lines edition g s.found ++ EndLine s.ending ∷ []
 
-pub one_sheet : (g : Graph) (needs_drawing : Bool) (text : List ℕ) (a b : Sheet) → IsTextOf g needs_drawing text a → IsTextOf g needs_drawing text b → a ≡ b
+pub one_sheet : (g : Graph) (needs_drawing : Bool) (text : List ℕ) (a b : Sheet) → IsSheetText g needs_drawing text a → IsSheetText g needs_drawing text b → a ≡ b
 unfolding end_lines
 one_sheet g needs_drawing text a b h k =
     let e = h.edition in
@@ -318,13 +318,13 @@ one_fault_of g needs_drawing text (SheetHas what line) (SheetHas other at) h k =
 one_fault_of g needs_drawing text Memory f h k = absurd h
 one_fault_of g needs_drawing text (SheetHas what line) Memory h k = absurd k
 
-no_fault_of : (g : Graph) (needs_drawing : Bool) (text : List ℕ) (s : Sheet) (f : SheetFault) → IsTextOf g needs_drawing text s → IsSheetFault g needs_drawing text f → ⊥
+no_fault_of : (g : Graph) (needs_drawing : Bool) (text : List ℕ) (s : Sheet) (f : SheetFault) → IsSheetText g needs_drawing text s → IsSheetFault g needs_drawing text f → ⊥
 no_fault_of g needs_drawing text s (SheetHas what line) h k = sheet_or_fault g needs_drawing text s what line h k
 no_fault_of g needs_drawing text s Memory h k = k
 
-pub sheet_exactly : (g : Graph) (needs_drawing : Bool) (text : List ℕ) (result : Result Sheet SheetFault) → MatchResult result (IsTextOf g needs_drawing text) (λ fault. (fault ≡ Memory) ⊎ IsSheetFault g needs_drawing text fault) → AnswersExactly result Memory (IsTextOf g needs_drawing text) (IsSheetFault g needs_drawing text)
-sheet_exactly g needs_drawing text (Ok s) h = answers_exactly (Ok s) Memory (IsTextOf g needs_drawing text) (IsSheetFault g needs_drawing text) h tt (one_sheet g needs_drawing text) (one_fault_of g needs_drawing text) (no_fault_of g needs_drawing text)
-sheet_exactly g needs_drawing text (Err e) h = answers_exactly (Err e) Memory (IsTextOf g needs_drawing text) (IsSheetFault g needs_drawing text) tt h (one_sheet g needs_drawing text) (one_fault_of g needs_drawing text) (no_fault_of g needs_drawing text)
+pub sheet_exactly : (g : Graph) (needs_drawing : Bool) (text : List ℕ) (result : Result Sheet SheetFault) → MatchResult result (IsSheetText g needs_drawing text) (λ fault. (fault ≡ Memory) ⊎ IsSheetFault g needs_drawing text fault) → AnswersExactly result Memory (IsSheetText g needs_drawing text) (IsSheetFault g needs_drawing text)
+sheet_exactly g needs_drawing text (Ok s) h = answers_exactly (Ok s) Memory (IsSheetText g needs_drawing text) (IsSheetFault g needs_drawing text) h tt (one_sheet g needs_drawing text) (one_fault_of g needs_drawing text) (no_fault_of g needs_drawing text)
+sheet_exactly g needs_drawing text (Err e) h = answers_exactly (Err e) Memory (IsSheetText g needs_drawing text) (IsSheetFault g needs_drawing text) tt h (one_sheet g needs_drawing text) (one_fault_of g needs_drawing text) (no_fault_of g needs_drawing text)
 
 pair : GridSize → Drawing → GridSize × Drawing
 pair grid d = (grid, d)

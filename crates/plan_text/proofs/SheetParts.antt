@@ -11,22 +11,22 @@ use Rattle.plan_core.specs.Graph.{Graph}
 use Rattle.plan_core.specs.Drawing.{Drawing}
 use Rattle.plan_text.specs.declared.edition.Edition.TheVariants.{Second}
 use Rattle.plan_text.specs.declared.ending.Ending.{Ending}
-use Rattle.plan_text.specs.SheetLine.{SheetLine, Title, GridLine, OrderLine, EndLine, text_of}
+use Rattle.plan_text.specs.SheetLine.{SheetLine, Title, GridLine, OrderLine, EndLine, text_of_line}
 use Rattle.plan_text.specs.SheetText.{Sheet, found_lines, sheet_text}
-use Rattle.plan_text.proofs.LineLemmas.{line_more}
+use Rattle.line_text.proofs.LineLemmas.{line_more}
 
 abbrev texts : List SheetLine → List ℕ
-texts lines = flat_map text_of lines
+texts lines = flat_map text_of_line lines
 
 -- ---- one more line of a numbered list
 
-texts_numbered : (line : ℕ → SheetLine) (numbers : List ℕ) → texts (map line numbers) ≡ flat_map (λ (n : ℕ). text_of (line n)) numbers
+texts_numbered : (line : ℕ → SheetLine) (numbers : List ℕ) → texts (map line numbers) ≡ flat_map (λ (n : ℕ). text_of_line (line n)) numbers
 texts_numbered line [] = refl
-texts_numbered line (n ∷ numbers) = ap (λ (t : List ℕ). text_of (line n) ++ t) (texts_numbered line numbers)
+texts_numbered line (n ∷ numbers) = ap (λ (t : List ℕ). text_of_line (line n) ++ t) (texts_numbered line numbers)
 
-pub text_more : (line : ℕ → SheetLine) (old into new : List ℕ) (n : ℕ) → into ≡ old ++ texts (map line (range_with_len 0 n)) → new ≡ into ++ text_of (line n) → new ≡ old ++ texts (map line (range_with_len 0 (n + 1)))
+pub text_more : (line : ℕ → SheetLine) (old into new : List ℕ) (n : ℕ) → into ≡ old ++ texts (map line (range_with_len 0 n)) → new ≡ into ++ text_of_line (line n) → new ≡ old ++ texts (map line (range_with_len 0 (n + 1)))
 text_more line old into new n so_far now =
-    line_more (λ (k : ℕ). text_of (line k)) old into new n (so_far ∙ ap (λ (t : List ℕ). old ++ t) (texts_numbered line (range_with_len 0 n))) now
+    line_more (λ (k : ℕ). text_of_line (line k)) old into new n (so_far ∙ ap (λ (t : List ℕ). old ++ t) (texts_numbered line (range_with_len 0 n))) now
     ∙ ap (λ (t : List ℕ). old ++ t) (sym (texts_numbered line (range_with_len 0 (n + 1))))
 
 -- ---- parts one after another
@@ -38,22 +38,22 @@ parts_appended a b c old one two three e f g =
     ∙ append_assoc old (texts a ++ texts b) (texts c)
     ∙ ap (λ (t : List ℕ). old ++ t) (
     append_assoc (texts a) (texts b) (texts c)
-    ∙ ap (λ (t : List ℕ). texts a ++ t) (sym (flat_map-append text_of b c))
-    ∙ sym (flat_map-append text_of a (b ++ c)))
+    ∙ ap (λ (t : List ℕ). texts a ++ t) (sym (flat_map-append text_of_line b c))
+    ∙ sym (flat_map-append text_of_line a (b ++ c)))
 
 -- where the first two parts are one list
 pub parts_grouped : (l : SheetLine) (a b c : List SheetLine) (old three : List ℕ) → three ≡ old ++ texts (l ∷ (a ++ (b ++ c))) → three ≡ old ++ texts (l ∷ ((a ++ b) ++ c))
 parts_grouped l a b c old three e = e ∙ ap (λ (lines : List SheetLine). old ++ texts (l ∷ lines)) (sym (append_assoc a b c))
 
 -- a line is a part
-pub line_appended : (line : SheetLine) (into new : List ℕ) → new ≡ into ++ text_of line → new ≡ into ++ texts (line ∷ [])
-line_appended line into new e = e ∙ ap (λ (t : List ℕ). into ++ t) (sym (append-nil (text_of line)))
+pub line_appended : (line : SheetLine) (into new : List ℕ) → new ≡ into ++ text_of_line line → new ≡ into ++ texts (line ∷ [])
+line_appended line into new e = e ∙ ap (λ (t : List ℕ). into ++ t) (sym (append-nil (text_of_line line)))
 
 abbrev sheet_of : GridSize → List Criterion → Option Drawing → Ending → Sheet
 sheet_of grid order found ending = record { grid = grid; order = order; found = found; ending = ending }
 
 pub sheet_appended : (g : Graph) (s : Sheet) (grid : GridSize) (order : List Criterion) (found : Option Drawing) (ending : Ending) (old one two three four five : List ℕ) →
-    sheet_of grid order found ending ≡ s → one ≡ old ++ text_of (Title Second) → two ≡ one ++ text_of (GridLine Second grid) → three ≡ two ++ text_of (OrderLine order) → four ≡ three ++ texts (found_lines Second g s.found) → five ≡ four ++ text_of (EndLine ending) →
+    sheet_of grid order found ending ≡ s → one ≡ old ++ text_of_line (Title Second) → two ≡ one ++ text_of_line (GridLine Second grid) → three ≡ two ++ text_of_line (OrderLine order) → four ≡ three ++ texts (found_lines Second g s.found) → five ≡ four ++ text_of_line (EndLine ending) →
     five ≡ old ++ sheet_text g s
 sheet_appended g s grid order found ending old one two three four five is a b c d e =
     let head : List SheetLine = Title Second ∷ GridLine Second grid ∷ OrderLine order ∷ [] in

@@ -21,17 +21,17 @@ use Rattle.plan_core.specs.Laws.{IsOnGrid}
 use Rattle.plan_core.specs.Values.{values_of}
 use Rattle.plan_core.proofs.ListFacts.{all_front, all_back}
 use Rattle.plan_core.proofs.LineLemmas.{line_length}
-use Rattle.plan_core.proofs.LimitLemmas.{maximum-le, diagonal-le}
+use Rattle.plan_core.proofs.LimitLemmas.{maximum-le, bends-le, diagonal-le}
 use Rattle.plan_core.proofs.OrderLemmas.{few_criteria}
 use Rattle.port_graph.specs.StationGraph.{IsStationGraph}
 use Rattle.plan_text.specs.declared.edition.Edition.{Edition}
 use Rattle.plan_text.specs.declared.edition.Edition.TheVariants.{First, Second}
 use Rattle.plan_text.specs.declared.ending.Ending.{Ending}
 use Rattle.plan_text.specs.declared.ending.Ending.TheVariants.{Best, NoDrawing, Conflicts, Room}
-use Rattle.plan_text.specs.SheetLine.{SheetLine, GridLine, NodesLine, NodeLine, EdgesLine, EdgeLine, ValuesLine, EndLine, coordinates, IsName, IsMileageText, IsSmall, AreSmall, IsSmallEnding, StandsForLeast, IsForm, MayEnd}
+use Rattle.plan_text.specs.SheetLine.{SheetLine, GridLine, NodesLine, NodeLine, EdgesLine, EdgeLine, ValuesLine, EndLine, coordinates, IsName, IsMileageText, IsSmall, AreSmall, IsSmallEnding, StandsForLeast, HasForm, MayEnd}
 use Rattle.plan_core.specs.Lawful.{HasSizeOf}
 use Rattle.plan_text.specs.SheetText.{Sheet, StatesSettled, DrawsAll, DrawsOnGrid, mileage_field, track_field, drawing_lines, found_lines, text_in}
-use Rattle.plan_text.specs.SheetFaults.{Due, TitleDue, BodyDue, EdgesDue, ValuesDue, EndDue, IsDue, node_due, edge_due, order_told, drawing_told, IsRight, AreRight, IsTextOf}
+use Rattle.plan_text.specs.SheetFaults.{LineDue, TitleDue, BodyDue, EdgesDue, ValuesDue, EndDue, IsDue, node_due, edge_due, order_told, drawing_told, IsRight, AreRightLines, IsSheetText}
 use Rattle.plan_text.specs.SheetReading.{head_lines, placed_lines, drawn_lines}
 use Rattle.plan_text.proofs.ReadingLemmas.{right_append, mileage_told, track_told, node_due_at, edge_due_at, order_kept, drawing_grown}
 use Rattle.plan_text.proofs.SheetAgain.{parts_of, no_criteria, parts_tell, due_nodes, due_parts, head_order}
@@ -96,9 +96,6 @@ last_on : (grid : GridSize) (a : Point) (rest : List Point) → All (IsOnGrid gr
 last_on grid a [] on = All-head (IsOnGrid grid) a [] on
 last_on grid a (b ∷ rest) on = last_on grid b rest (All-tail (IsOnGrid grid) a (b ∷ rest) on)
 
-few_bends : (l : List Point) → is_line l ≡ true → bends l ≤ 2
-few_bends l is = let few = (line_length l is).1 in omega (arith, few)
-
 few_rows : (grid : GridSize) (l : List Point) → IsGrid grid → is_line l ≡ true → All (IsOnGrid grid) l → diagonal l ≤ 64
 few_rows grid [] is line on = omega arith
 few_rows grid (a ∷ rest) is line on =
@@ -117,7 +114,7 @@ small_values g grid d station is size on lines =
     let same = size.lines in
     let height = maximum-le (map (λ (p : Point). p.y) (all_points d)) 12 (All-map (λ x. x ≤ 12) (λ (p : Point). p.y) (all_points d) (All-weaker (IsOnGrid grid) (λ p. p.y ≤ 12) (λ p at. let y = at.in_height in omega (arith, y, h)) (all_points d) on)) in
     let width = maximum-le (map (λ (p : Point). p.x) (all_points d)) 64 (All-map (λ x. x ≤ 64) (λ (p : Point). p.x) (all_points d) (All-weaker (IsOnGrid grid) (λ p. p.x ≤ 64) (λ p at. let x = at.in_width in omega (arith, x, w)) (all_points d) on)) in
-    let bent = sum_by-le bends 2 d.lines (All-weaker (λ l. is_line l ≡ true) (λ l. bends l ≤ 2) few_bends d.lines lines) in
+    let bent = sum_by-le bends 2 d.lines (All-weaker (λ l. is_line l ≡ true) (λ l. bends l ≤ 2) bends-le d.lines lines) in
     let rows = sum_by-le diagonal 64 d.lines (All-weaker (λ l. (is_line l ≡ true) × All (IsOnGrid grid) l) (λ l. diagonal l ≤ 64) (λ l both. few_rows grid l is both.0 both.1) d.lines (All-both (λ l. is_line l ≡ true) (All (IsOnGrid grid)) d.lines lines on_lines)) in
     (omega (arith, height), (omega (arith, bent, few, same), (omega (arith, rows, few, same), (omega (arith, width), tt))))
 
@@ -143,14 +140,14 @@ track_form : (edition : Edition) (g : Graph) (e : ℕ) → IsName (edge g e).tra
 track_form First g e is = tt
 track_form Second g e is = is
 
-right_nodes : (edition : Edition) (g : Graph) (grid : GridSize) (before : List SheetLine) (k : ℕ) (places : List Point) → IsStationGraph g → HasNames g → IsGrid grid → k + length places ≤ length g.nodes → All (IsOnGrid grid) places → AreRight g before (node_due edition g k) (placed_lines edition g k places)
+right_nodes : (edition : Edition) (g : Graph) (grid : GridSize) (before : List SheetLine) (k : ℕ) (places : List Point) → IsStationGraph g → HasNames g → IsGrid grid → k + length places ≤ length g.nodes → All (IsOnGrid grid) places → AreRightLines g before (node_due edition g k) (placed_lines edition g k places)
 right_nodes edition g grid before k [] station names is fits on = tt
 right_nodes edition g grid before k (p ∷ places) station names is fits on =
     let less : k < length g.nodes = omega (arith, fits) in
     let few = station.few_nodes in
     let small : IsSmall k = omega (arith, less, few) in
     let line : SheetLine = NodeLine k (node g k).name p (mileage_field edition g k) in
-    subst (λ (due : Due). AreRight g before due (placed_lines edition g k (p ∷ places))) (sym (node_due_at edition g k less)) (
+    subst (λ (due : LineDue). AreRightLines g before due (placed_lines edition g k (p ∷ places))) (sym (node_due_at edition g k less)) (
       record {
         is_due = mileage_told edition g k;
         form = (names k less, (small, small_point grid p is (All-head (IsOnGrid grid) p places on)), mileage_form edition g k (All-get_or (λ (n : Node). IsMileage n.mileage) g.nodes k no_node less station.mileages));
@@ -162,7 +159,7 @@ right_nodes edition g grid before k (p ∷ places) station names is fits on =
       right_nodes edition g grid (before ++ line ∷ []) (k + 1) places station names is (omega (arith, fits)) (All-tail (IsOnGrid grid) p places on),
     )
 
-right_edges : (edition : Edition) (g : Graph) (grid : GridSize) (before : List SheetLine) (k : ℕ) (lines : List (List Point)) → IsStationGraph g → HasTracks g → IsGrid grid → k + length lines ≤ length g.edges → All (λ l. is_line l ≡ true) lines → All (All (IsOnGrid grid)) lines → AreRight g before (edge_due edition g k) (drawn_lines edition g k lines)
+right_edges : (edition : Edition) (g : Graph) (grid : GridSize) (before : List SheetLine) (k : ℕ) (lines : List (List Point)) → IsStationGraph g → HasTracks g → IsGrid grid → k + length lines ≤ length g.edges → All (λ l. is_line l ≡ true) lines → All (All (IsOnGrid grid)) lines → AreRightLines g before (edge_due edition g k) (drawn_lines edition g k lines)
 right_edges edition g grid before k [] station tracks is fits are on = tt
 right_edges edition g grid before k (l ∷ lines) station tracks is fits are on =
     let less : k < length g.edges = omega (arith, fits) in
@@ -175,7 +172,7 @@ right_edges edition g grid before k (l ∷ lines) station tracks is fits are on 
     let shape = All-head (λ l. is_line l ≡ true) l lines are in
     let points = line_length l shape in
     let line : SheetLine = EdgeLine k (track_field edition g k) (edge g k).west (edge g k).east l in
-    subst (λ (due : Due). AreRight g before due (drawn_lines edition g k (l ∷ lines))) (sym (edge_due_at edition g k less)) (
+    subst (λ (due : LineDue). AreRightLines g before due (drawn_lines edition g k (l ∷ lines))) (sym (edge_due_at edition g k less)) (
       record {
         is_due = track_told edition g k;
         form = (record { from = points.0; to = points.1 }, (small, (west, (east, small_points grid l is (All-head (All (IsOnGrid grid)) l lines on)))), track_form edition g k (tracks k less));
@@ -201,7 +198,7 @@ record IsDrawn (g : Graph) (grid : GridSize) (d : Drawing) : Type 0 where
   on_grid : All (IsOnGrid grid) (all_points d)
   are_lines : All (λ l. is_line l ≡ true) d.lines
 
-right_parts : (edition : Edition) (g : Graph) (needs_drawing : Bool) (grid : GridSize) (d : Drawing) (before : List SheetLine) → IsDrawn g grid d → AreRight g before (BodyDue edition needs_drawing) (parts_of edition g d)
+right_parts : (edition : Edition) (g : Graph) (needs_drawing : Bool) (grid : GridSize) (d : Drawing) (before : List SheetLine) → IsDrawn g grid d → AreRightLines g before (BodyDue edition needs_drawing) (parts_of edition g d)
 right_parts edition g needs_drawing grid d before h =
     let n = length g.nodes in
     let e = length g.edges in
@@ -211,18 +208,18 @@ right_parts edition g needs_drawing grid d before h =
     let lines = h.size.lines in
     let placed = placed_lines edition g 0 d.places in
     let counted = before ++ NodesLine n ∷ [] in
-    let edges : AreRight g (counted ++ placed) (EdgesDue edition) (EdgesLine e ∷ drawn_lines edition g 0 d.lines) = (
+    let edges : AreRightLines g (counted ++ placed) (EdgesDue edition) (EdgesLine e ∷ drawn_lines edition g 0 d.lines) = (
       record { is_due = tt; form = omega (arith, few_edges); range = tt; of_graph = refl; shape = tt; measured = tt },
       right_edges edition g grid ((counted ++ placed) ++ EdgesLine e ∷ []) 0 d.lines h.station h.tracks h.is_grid (omega (arith, lines)) h.are_lines (All-lists (IsOnGrid grid) d.lines (all_back (IsOnGrid grid) d.places (flat_map (λ l. l) d.lines) h.on_grid)),
     ) in (
       record { is_due = count_due edition needs_drawing n; form = omega (arith, few_nodes); range = tt; of_graph = refl; shape = tt; measured = tt },
       right_append g counted (node_due edition g 0) placed (EdgesLine e ∷ drawn_lines edition g 0 d.lines)
           (right_nodes edition g grid counted 0 d.places h.station h.names h.is_grid (omega (arith, places)) (all_front (IsOnGrid grid) d.places (flat_map (λ l. l) d.lines) h.on_grid))
-          (subst (λ (due : Due). AreRight g (counted ++ placed) due (EdgesLine e ∷ drawn_lines edition g 0 d.lines)) (sym (due_nodes edition g d.places places)) edges),
+          (subst (λ (due : LineDue). AreRightLines g (counted ++ placed) due (EdgesLine e ∷ drawn_lines edition g 0 d.lines)) (sym (due_nodes edition g d.places places)) edges),
     )
 
 -- with its values and the ending
-right_drawn : (edition : Edition) (g : Graph) (needs_drawing : Bool) (grid : GridSize) (order : List Criterion) (d : Drawing) (e : Ending) → IsDrawn g grid d → IsOrder order → MayEnd true e → StatesSettled order true e → AreRight g (head_lines edition grid order) (BodyDue edition needs_drawing) (drawing_lines edition g d ++ EndLine e ∷ [])
+right_drawn : (edition : Edition) (g : Graph) (needs_drawing : Bool) (grid : GridSize) (order : List Criterion) (d : Drawing) (e : Ending) → IsDrawn g grid d → IsOrder order → MayEnd true e → StatesSettled order true e → AreRightLines g (head_lines edition grid order) (BodyDue edition needs_drawing) (drawing_lines edition g d ++ EndLine e ∷ [])
 right_drawn edition g needs_drawing grid order d e h is may settled =
     let head = head_lines edition grid order in
     let parts = parts_of edition g d in
@@ -234,17 +231,17 @@ right_drawn edition g needs_drawing grid order d e h is may settled =
     record { is_due = tt; form = small_values g grid d h.station h.is_grid h.size h.on_grid h.are_lines; range = tt; of_graph = tt; shape = tt; measured = ap values_of (sym told) } in
     let end : IsRight g (before ++ ValuesLine (values_of d) ∷ []) EndDue (EndLine e) =
     record { is_due = may; form = small_ending order true e is settled; range = subst (λ (o : List Criterion). StatesSettled o true e) (sym last) settled; of_graph = tt; shape = tt; measured = tt } in
-    subst (λ (lines : List SheetLine). AreRight g head (BodyDue edition needs_drawing) lines) (sym (lines_are edition g d e h.size))
+    subst (λ (lines : List SheetLine). AreRightLines g head (BodyDue edition needs_drawing) lines) (sym (lines_are edition g d e h.size))
     (right_append g head (BodyDue edition needs_drawing) parts (ValuesLine (values_of d) ∷ EndLine e ∷ []) (right_parts edition g needs_drawing grid d head h)
-    (subst (λ (due : Due). AreRight g before due (ValuesLine (values_of d) ∷ EndLine e ∷ [])) (sym (due_parts edition g d h.size)) (values, (end, tt))))
+    (subst (λ (due : LineDue). AreRightLines g before due (ValuesLine (values_of d) ∷ EndLine e ∷ [])) (sym (due_parts edition g d h.size)) (values, (end, tt))))
 
 -- ---- the whole sheet
 
-grid_form : (edition : Edition) (grid : GridSize) → IsGrid grid → StandsForLeast edition grid → IsForm (GridLine edition grid)
+grid_form : (edition : Edition) (grid : GridSize) → IsGrid grid → StandsForLeast edition grid → HasForm (GridLine edition grid)
 grid_form First grid is stands = let w = is.width_limit in let h = is.height_limit in ((omega (arith, w), (omega (arith, h), tt)), stands)
 grid_form Second grid is stands = let w = is.width_limit in let h = is.height_limit in let l = is.least_limit in ((omega (arith, w), (omega (arith, h), (omega (arith, l), tt))), tt)
 
-right_head : (edition : Edition) (g : Graph) (needs_drawing : Bool) (grid : GridSize) (order : List Criterion) → IsGrid grid → StandsForLeast edition grid → IsOrder order → AreRight g [] (TitleDue needs_drawing) (head_lines edition grid order)
+right_head : (edition : Edition) (g : Graph) (needs_drawing : Bool) (grid : GridSize) (order : List Criterion) → IsGrid grid → StandsForLeast edition grid → IsOrder order → AreRightLines g [] (TitleDue needs_drawing) (head_lines edition grid order)
 right_head edition g needs_drawing grid order is_grid stands is_order = (
   record { is_due = tt; form = tt; range = tt; of_graph = tt; shape = tt; measured = tt },
   (
@@ -273,7 +270,7 @@ pub record IsWritable (g : Graph) (s : Sheet) : Type 0 where
   pub on_grid : DrawsOnGrid s
   pub settled : StatesSettled s.order (is_some s.found) s.ending
 
-right_undrawn : (edition : Edition) (g : Graph) (grid : GridSize) (order : List Criterion) (e : Ending) → IsOrder order → MayEnd false e → StatesSettled order false e → AreRight g (head_lines edition grid order) (BodyDue edition false) (EndLine e ∷ [])
+right_undrawn : (edition : Edition) (g : Graph) (grid : GridSize) (order : List Criterion) (e : Ending) → IsOrder order → MayEnd false e → StatesSettled order false e → AreRightLines g (head_lines edition grid order) (BodyDue edition false) (EndLine e ∷ [])
 right_undrawn edition g grid order e is may settled = (
   record {
     is_due = may;
@@ -286,11 +283,11 @@ right_undrawn edition g grid order e is may settled = (
   tt,
 )
 
-right_found : (edition : Edition) (g : Graph) (s : Sheet) (needs_drawing : Bool) → IsWritable g s → (needs_drawing ≡ true → is_some s.found ≡ true) → AreRight g (head_lines edition s.grid s.order) (BodyDue edition needs_drawing) (found_lines edition g s.found ++ EndLine s.ending ∷ [])
+right_found : (edition : Edition) (g : Graph) (s : Sheet) (needs_drawing : Bool) → IsWritable g s → (needs_drawing ≡ true → is_some s.found ≡ true) → AreRightLines g (head_lines edition s.grid s.order) (BodyDue edition needs_drawing) (found_lines edition g s.found ++ EndLine s.ending ∷ [])
 right_found edition g s needs_drawing h drawn = by_case needs_drawing s.found drawn h.draws_all h.on_grid h.kept.are_lines h.kept.may_end h.settled
   where
     by_case : (needs_drawing : Bool) (found : Option Drawing) → (needs_drawing ≡ true → is_some found ≡ true) → IfSome found (HasSizeOf g) → IfSome found (λ d. All (IsOnGrid s.grid) (all_points d)) → IfSome found (λ d. All (λ l. is_line l ≡ true) d.lines) →
-        MayEnd (is_some found) s.ending → StatesSettled s.order (is_some found) s.ending → AreRight g (head_lines edition s.grid s.order) (BodyDue edition needs_drawing) (found_lines edition g found ++ EndLine s.ending ∷ [])
+        MayEnd (is_some found) s.ending → StatesSettled s.order (is_some found) s.ending → AreRightLines g (head_lines edition s.grid s.order) (BodyDue edition needs_drawing) (found_lines edition g found ++ EndLine s.ending ∷ [])
     by_case true None drawn size on are may settled = absurd (false≢true (drawn refl))
     by_case false None drawn size on are may settled = right_undrawn edition g s.grid s.order s.ending h.kept.is_order may settled
     by_case needs_drawing (Some d) drawn size on are may settled =
@@ -298,7 +295,7 @@ right_found edition g s needs_drawing h drawn = by_case needs_drawing s.found dr
         (record { station = h.station; names = h.names; tracks = h.tracks; is_grid = h.kept.is_grid; size = size; on_grid = on; are_lines = are })
         h.kept.is_order may settled
 
-pub written : (edition : Edition) (g : Graph) (s : Sheet) (needs_drawing : Bool) → StandsForLeast edition s.grid → IsWritable g s → (needs_drawing ≡ true → is_some s.found ≡ true) → IsTextOf g needs_drawing (text_in edition g s) s
+pub written : (edition : Edition) (g : Graph) (s : Sheet) (needs_drawing : Bool) → StandsForLeast edition s.grid → IsWritable g s → (needs_drawing ≡ true → is_some s.found ≡ true) → IsSheetText g needs_drawing (text_in edition g s) s
 written edition g s needs_drawing stands h drawn = record {
   edition = edition;
   draws_all = h.draws_all;

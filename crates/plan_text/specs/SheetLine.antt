@@ -53,31 +53,31 @@ ending_fields (Conflicts settled) = codes "conflicts" ∷ decimal settled ∷ []
 ending_fields (Room settled) = codes "room" ∷ decimal settled ∷ []
 
 -- its first field
-abbrev pub word_of : SheetLine → List ℕ
-word_of (Title edition) = codes "railplan"
-word_of (GridLine edition grid) = codes "grid"
-word_of (OrderLine order) = codes "order"
-word_of (NodesLine count) = codes "nodes"
-word_of (NodeLine number name place mileage) = codes "node"
-word_of (EdgesLine count) = codes "edges"
-word_of (EdgeLine number track west east points) = codes "edge"
-word_of (ValuesLine values) = codes "values"
-word_of (EndLine ending) = codes "end"
+abbrev pub first_field : SheetLine → List ℕ
+first_field (Title edition) = codes "railplan"
+first_field (GridLine edition grid) = codes "grid"
+first_field (OrderLine order) = codes "order"
+first_field (NodesLine count) = codes "nodes"
+first_field (NodeLine number name place mileage) = codes "node"
+first_field (EdgesLine count) = codes "edges"
+first_field (EdgeLine number track west east points) = codes "edge"
+first_field (ValuesLine values) = codes "values"
+first_field (EndLine ending) = codes "end"
 
 -- its other fields
-abbrev pub fields_of : SheetLine → List (List ℕ)
-fields_of (Title edition) = edition_number edition ∷ []
-fields_of (GridLine edition grid) = map decimal (grid_numbers edition grid)
-fields_of (OrderLine order) = map criterion_word order
-fields_of (NodesLine count) = decimal count ∷ []
-fields_of (NodeLine number name place mileage) = decimal number ∷ name ∷ decimal place.x ∷ decimal place.y ∷ field_told mileage
-fields_of (EdgesLine count) = decimal count ∷ []
-fields_of (EdgeLine number track west east points) = decimal number ∷ (field_told track ++ map decimal (west ∷ east ∷ flat_map coordinates points))
-fields_of (ValuesLine values) = map decimal (values.height ∷ values.bends ∷ values.diagonal ∷ values.width ∷ [])
-fields_of (EndLine ending) = ending_fields ending
+abbrev pub other_fields : SheetLine → List (List ℕ)
+other_fields (Title edition) = edition_number edition ∷ []
+other_fields (GridLine edition grid) = map decimal (grid_numbers edition grid)
+other_fields (OrderLine order) = map criterion_word order
+other_fields (NodesLine count) = decimal count ∷ []
+other_fields (NodeLine number name place mileage) = decimal number ∷ name ∷ decimal place.x ∷ decimal place.y ∷ field_told mileage
+other_fields (EdgesLine count) = decimal count ∷ []
+other_fields (EdgeLine number track west east points) = decimal number ∷ (field_told track ++ map decimal (west ∷ east ∷ flat_map coordinates points))
+other_fields (ValuesLine values) = map decimal (values.height ∷ values.bends ∷ values.diagonal ∷ values.width ∷ [])
+other_fields (EndLine ending) = ending_fields ending
 
-abbrev pub text_of : SheetLine → List ℕ
-text_of line = line_text (word_of line) (fields_of line)
+abbrev pub text_of_line : SheetLine → List ℕ
+text_of_line line = line_text (first_field line) (other_fields line)
 
 -- ---- the form of a line
 
@@ -115,16 +115,16 @@ pub record IsSize (text : List ℕ) : Type 0 where
   pub is_fraction : IsFraction fraction
   pub spelled : text ≡ whole ++ 46 ∷ fraction
 
-abbrev pub sign_text : (is_negative : Bool) → List ℕ
-sign_text true = codes "-"
-sign_text false = []
+abbrev pub minus_text : (is_negative : Bool) → List ℕ
+minus_text true = codes "-"
+minus_text false = []
 
 -- metres as a sheet may tell them, which needn't be those of a node
 pub record IsMileageText (text : List ℕ) : Type 0 where
   pub is_negative : Bool
   pub size : List ℕ
   pub is_size : IsSize size
-  pub spelled : text ≡ sign_text is_negative ++ size
+  pub spelled : text ≡ minus_text is_negative ++ size
 
 -- there are from so many to so many
 pub record IsBetween (least most count : ℕ) : Type 0 where
@@ -144,16 +144,16 @@ StandsForLeast Second grid = ⊤
 
 -- there are as many fields as there may be, no number is above 65,535, a name is one field of a byte or more,
 -- and a mileage has its own form
-abbrev pub IsForm : SheetLine → Type 0
-IsForm (Title edition) = ⊤
-IsForm (GridLine edition grid) = AreSmall (grid_numbers edition grid) × StandsForLeast edition grid
-IsForm (OrderLine order) = IsBetween 1 4 (length order)
-IsForm (NodesLine count) = IsSmall count
-IsForm (NodeLine number name place mileage) = IsName name × AreSmall (number ∷ coordinates place) × IfSome mileage IsMileageText
-IsForm (EdgesLine count) = IsSmall count
-IsForm (EdgeLine number track west east points) = IsBetween 2 4 (length points) × AreSmall (number ∷ west ∷ east ∷ flat_map coordinates points) × IfSome track IsName
-IsForm (ValuesLine values) = AreSmall (values.height ∷ values.bends ∷ values.diagonal ∷ values.width ∷ [])
-IsForm (EndLine ending) = IsSmallEnding ending
+abbrev pub HasForm : SheetLine → Type 0
+HasForm (Title edition) = ⊤
+HasForm (GridLine edition grid) = AreSmall (grid_numbers edition grid) × StandsForLeast edition grid
+HasForm (OrderLine order) = IsBetween 1 4 (length order)
+HasForm (NodesLine count) = IsSmall count
+HasForm (NodeLine number name place mileage) = IsName name × AreSmall (number ∷ coordinates place) × IfSome mileage IsMileageText
+HasForm (EdgesLine count) = IsSmall count
+HasForm (EdgeLine number track west east points) = IsBetween 2 4 (length points) × AreSmall (number ∷ west ∷ east ∷ flat_map coordinates points) × IfSome track IsName
+HasForm (ValuesLine values) = AreSmall (values.height ∷ values.bends ∷ values.diagonal ∷ values.width ∷ [])
+HasForm (EndLine ending) = IsSmallEnding ending
 
 -- which endings a sheet with a drawing, or without one, may have: best only with one, none only without
 abbrev pub MayEnd : (is_drawn : Bool) → Ending → Type 0

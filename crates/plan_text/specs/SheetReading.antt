@@ -19,9 +19,9 @@ use Rattle.plan_text.specs.declared.sheet_lines.EndTold.TheVariants.{Best, NoDra
 use Rattle.line_text.specs.Fields.{spaced, Ends, IsOneField}
 use Rattle.line_text.specs.Criteria.{criterion_word}
 use Rattle.plan_text.specs.declared.edition.Edition.{Edition}
-use Rattle.plan_text.specs.SheetLine.{SheetLine, Title, GridLine, OrderLine, NodesLine, NodeLine, EdgesLine, EdgeLine, ValuesLine, EndLine, IsName, IsSmall, AreSmall, IsMileageText, field_told, IsForm, IsSmallEnding, MayEnd, text_of}
+use Rattle.plan_text.specs.SheetLine.{SheetLine, Title, GridLine, OrderLine, NodesLine, NodeLine, EdgesLine, EdgeLine, ValuesLine, EndLine, IsName, IsSmall, AreSmall, IsMileageText, field_told, HasForm, IsSmallEnding, MayEnd, text_of_line}
 use Rattle.plan_text.specs.SheetText.{StatesSettled, mileage_field, track_field, picture_lines, drawing_lines}
-use Rattle.plan_text.specs.SheetFaults.{Due, BodyDue, ValuesDue, EdgesDue, IsToldIn, node_due, edge_due, due_after, order_told, drawing_told, HasWrongLine, AreRight}
+use Rattle.plan_text.specs.SheetFaults.{LineDue, BodyDue, ValuesDue, EdgesDue, IsToldIn, node_due, edge_due, due_after, order_told, drawing_told, HasWrongLine, AreRightLines}
 
 -- ---- fields
 
@@ -44,12 +44,12 @@ abbrev pub IsNameAt : List ℕ → List ℕ → List ℕ → Type 0
 IsNameAt text name rest = IsName name × Ends rest × (text ≡ 32 ∷ (name ++ rest))
 
 -- behind this word, a number and a name do
-abbrev pub IsNamed : List ℕ → List ℕ → ℕ → List ℕ → List ℕ → Type 0
-IsNamed text word number name rest = IsSmall number × IsName name × Ends rest × (text ≡ word ++ 32 ∷ (decimal number ++ 32 ∷ (name ++ rest)))
+abbrev pub IsNamedAt : List ℕ → List ℕ → ℕ → List ℕ → List ℕ → Type 0
+IsNamedAt text word number name rest = IsSmall number × IsName name × Ends rest × (text ≡ word ++ 32 ∷ (decimal number ++ 32 ∷ (name ++ rest)))
 
 -- behind the word of an edge, its number does, and its track where the edition tells it
-abbrev pub IsNumbered : Edition → List ℕ → ℕ → Option (List ℕ) → List ℕ → Type 0
-IsNumbered edition text number track rest =
+abbrev pub IsNumberedAt : Edition → List ℕ → ℕ → Option (List ℕ) → List ℕ → Type 0
+IsNumberedAt edition text number track rest =
     IsToldIn edition track × IfSome track IsName × IsSmall number × Ends rest × (text ≡ codes "edge" ++ (spaced (decimal number ∷ field_told track) ++ rest))
 
 -- the end of a node's line stands here, with its mileage where the edition tells it
@@ -78,8 +78,8 @@ ending_told (Room settled) = endings.Room settled
 
 -- the line, of its form, stands in front of the text
 pub record IsLineTo (text : List ℕ) (line : SheetLine) (rest : List ℕ) : Type 0 where
-  pub form : IsForm line
-  pub spelled : text ≡ text_of line ++ rest
+  pub form : HasForm line
+  pub spelled : text ≡ text_of_line line ++ rest
 
 -- what is wrong with an ending that is of its form
 abbrev pub IsEndFault : List Criterion → (is_drawn : Bool) → Ending → SheetWhat → Type 0
@@ -104,24 +104,24 @@ drawn_lines edition g e [] = []
 drawn_lines edition g e (l ∷ lines) = EdgeLine e (track_field edition g e) (edge g e).west (edge g e).east l ∷ drawn_lines edition g (e + 1) lines
 
 -- the lines stand in front of the text, and are right after those before them
-pub record AreReadTo (g : Graph) (before : List SheetLine) (due : Due) (text : List ℕ) (lines : List SheetLine) (rest : List ℕ) : Type 0 where
-  pub right : AreRight g before due lines
-  pub spelled : text ≡ flat_map text_of lines ++ rest
+pub record AreReadTo (g : Graph) (before : List SheetLine) (due : LineDue) (text : List ℕ) (lines : List SheetLine) (rest : List ℕ) : Type 0 where
+  pub right : AreRightLines g before due lines
+  pub spelled : text ≡ flat_map text_of_line lines ++ rest
 
 -- the fault is of the first line, which has this number
-abbrev pub IsFaultHere : Graph → List SheetLine → Due → List ℕ → (number : ℕ) → SheetFault → Type 0
+abbrev pub IsFaultHere : Graph → List SheetLine → LineDue → List ℕ → (number : ℕ) → SheetFault → Type 0
 IsFaultHere g before due text number (SheetHas what line) = (line ≡ number) × HasWrongLine g before due text what
 IsFaultHere g before due text number Memory = ⊤
 
 -- the first line of the text has this number, and the first line with a fault has that one and this fault
-pub record IsFirstFrom (g : Graph) (before : List SheetLine) (due : Due) (text : List ℕ) (number : ℕ) (what : SheetWhat) (line : ℕ) : Type 0 where
+pub record IsFirstFrom (g : Graph) (before : List SheetLine) (due : LineDue) (text : List ℕ) (number : ℕ) (what : SheetWhat) (line : ℕ) : Type 0 where
   pub lines : List SheetLine
   pub rest : List ℕ
   pub read : AreReadTo g before due text lines rest
   pub counted : line ≡ number + length lines
   pub fault : HasWrongLine g (before ++ lines) (due_after g due lines) rest what
 
-abbrev pub IsFaultFrom : Graph → List SheetLine → Due → List ℕ → (number : ℕ) → SheetFault → Type 0
+abbrev pub IsFaultFrom : Graph → List SheetLine → LineDue → List ℕ → (number : ℕ) → SheetFault → Type 0
 IsFaultFrom g before due text number (SheetHas what line) = IsFirstFrom g before due text number what line
 IsFaultFrom g before due text number Memory = ⊤
 
@@ -150,8 +150,8 @@ IsPictureTo edition g text d rest =
     (before : List SheetLine) → AreReadTo g before (BodyDue edition true) text (NodesLine (length g.nodes) ∷ picture_lines edition g d) rest
 
 -- the first fault of these lines, whatever stands before them
-abbrev pub IsFaultBehindAll : Graph → Due → List ℕ → (number : ℕ) → SheetFault → Type 0
-IsFaultBehindAll g due text number fault = (before : List SheetLine) → IsFaultFrom g before due text number fault
+abbrev pub IsFaultAfterAny : Graph → LineDue → List ℕ → (number : ℕ) → SheetFault → Type 0
+IsFaultAfterAny g due text number fault = (before : List SheetLine) → IsFaultFrom g before due text number fault
 
 -- behind lines that tell this order and this drawing, the values and the ending stand here and nothing else
 abbrev pub IsClosing : Graph → List Criterion → Drawing → List ℕ → Ending → Type 0
@@ -159,8 +159,8 @@ IsClosing g order d text e =
     (before : List SheetLine) → order_told before ≡ order → drawing_told before ≡ d → AreReadTo g before ValuesDue text (ValuesLine (values_of d) ∷ EndLine e ∷ []) []
 
 -- the first fault of these lines behind lines that tell this order and this drawing
-abbrev pub IsFaultBehind : Graph → List Criterion → Drawing → Due → List ℕ → (number : ℕ) → SheetFault → Type 0
-IsFaultBehind g order d due text number fault =
+abbrev pub IsFaultAfter : Graph → List Criterion → Drawing → LineDue → List ℕ → (number : ℕ) → SheetFault → Type 0
+IsFaultAfter g order d due text number fault =
     (before : List SheetLine) → order_told before ≡ order → drawing_told before ≡ d → IsFaultFrom g before due text number fault
 
 -- behind lines that tell this order and no drawing, all lines of the drawing and the ending stand here
@@ -175,7 +175,7 @@ IsUndrawnEnding text e =
     (g : Graph) (edition : Edition) (before : List SheetLine) → 1 ≤ length (order_told before) → AreReadTo g before (BodyDue edition false) text (EndLine e ∷ []) []
 
 abbrev pub IsNoUndrawnEnding : List ℕ → Type 0
-IsNoUndrawnEnding text = (e : Ending) (rest : List ℕ) → IsSmallEnding e → MayEnd false e → text ≢ text_of (EndLine e) ++ rest
+IsNoUndrawnEnding text = (e : Ending) (rest : List ℕ) → IsSmallEnding e → MayEnd false e → text ≢ text_of_line (EndLine e) ++ rest
 
 abbrev pub IsUndrawnFault : List ℕ → SheetFault → Type 0
 IsUndrawnFault text fault =

@@ -14,7 +14,7 @@ use Rattle.plan_text.specs.declared.edition.Edition.{Edition}
 use Rattle.plan_text.specs.declared.edition.Edition.TheVariants.{First, Second}
 use Rattle.plan_text.specs.declared.ending.Ending.{Ending}
 use Rattle.plan_text.specs.declared.ending.Ending.TheVariants.{Best, NoDrawing, Conflicts, Room}
-use Rattle.plan_text.specs.SheetLine.{SheetLine, Title, GridLine, OrderLine, NodesLine, NodeLine, EdgesLine, EdgeLine, ValuesLine, EndLine, text_of}
+use Rattle.plan_text.specs.SheetLine.{SheetLine, Title, GridLine, OrderLine, NodesLine, NodeLine, EdgesLine, EdgeLine, ValuesLine, EndLine, text_of_line}
 
 -- a sheet, whatever it says; the program's has an ending that goes with its drawing
 pub record Sheet : Type 0 where
@@ -85,7 +85,7 @@ abbrev pub sheet_lines : Edition → Graph → Sheet → List SheetLine
 sheet_lines edition g s = Title edition ∷ GridLine edition s.grid ∷ OrderLine s.order ∷ (found_lines edition g s.found ++ EndLine s.ending ∷ [])
 
 abbrev pub text_in : Edition → Graph → Sheet → List ℕ
-text_in edition g s = flat_map text_of (sheet_lines edition g s)
+text_in edition g s = flat_map text_of_line (sheet_lines edition g s)
 
 -- the text that is written
 abbrev pub sheet_text : Graph → Sheet → List ℕ

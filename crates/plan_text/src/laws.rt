@@ -6,7 +6,7 @@ ghost use Rattle.plan_core.specs.Graph.{Graph, node, edge};
 ghost use Rattle.plan_text.specs.declared.sheet_fault.SheetWhat.{SheetWhat};
 ghost use Rattle.plan_text.specs.SheetLine.{IsName};
 ghost use Rattle.plan_text.specs.SheetText.{Sheet as PlainSheet, DrawsAll, DrawsOnGrid, StatesSettled, sheet_text, first_sheet_text};
-ghost use Rattle.plan_text.specs.SheetFaults.{HasSheetFault, IsTextOf};
+ghost use Rattle.plan_text.specs.SheetFaults.{HasSheetFault, IsSheetText};
 
 use crate::Sheet;
 use plan_core::{EdgeNo, NodeNo};
@@ -15,7 +15,7 @@ use port_graph::PortGraph;
 
 /// A text that is a sheet's has no line with a fault.
 pub fn sheet_or_fault()
-    ensures { (g : Graph) (needs_drawing : Bool) (text : List ℕ) (s : PlainSheet) (what : SheetWhat) (line : ℕ) → IsTextOf g needs_drawing text s → HasSheetFault g needs_drawing text what line → ⊥ }
+    ensures { (g : Graph) (needs_drawing : Bool) (text : List ℕ) (s : PlainSheet) (what : SheetWhat) (line : ℕ) → IsSheetText g needs_drawing text s → HasSheetFault g needs_drawing text what line → ⊥ }
 {}
 
 /// A text has one first fault at most: of one kind, in one line.
@@ -26,7 +26,7 @@ pub fn one_sheet_fault()
 
 /// A text is that of one sheet at most.
 pub fn one_sheet()
-    ensures { (g : Graph) (needs_drawing : Bool) (text : List ℕ) (a b : PlainSheet) → IsTextOf g needs_drawing text a → IsTextOf g needs_drawing text b → a ≡ b }
+    ensures { (g : Graph) (needs_drawing : Bool) (text : List ℕ) (a b : PlainSheet) → IsSheetText g needs_drawing text a → IsSheetText g needs_drawing text b → a ≡ b }
 {}
 
 /// Each node has a name that is one field.
@@ -62,10 +62,10 @@ pub fn written_is_read(g: &PortGraph, s: &Sheet)
     requires draws_all { DrawsAll g.now s.now }
     requires on_grid { DrawsOnGrid s.now }
     requires settled { StatesSettled s.now.order (is_some s.now.found) s.now.ending }
-    ensures text { IsTextOf g.now false (sheet_text g.now s.now) s.now }
-    ensures drawn { is_some s.now.found ≡ true → IsTextOf g.now true (sheet_text g.now s.now) s.now }
-    ensures first { s.now.grid.least ≡ 1 → IsTextOf g.now false (first_sheet_text g.now s.now) s.now }
-    ensures first_drawn { s.now.grid.least ≡ 1 → is_some s.now.found ≡ true → IsTextOf g.now true (first_sheet_text g.now s.now) s.now }
+    ensures text { IsSheetText g.now false (sheet_text g.now s.now) s.now }
+    ensures drawn { is_some s.now.found ≡ true → IsSheetText g.now true (sheet_text g.now s.now) s.now }
+    ensures first { s.now.grid.least ≡ 1 → IsSheetText g.now false (first_sheet_text g.now s.now) s.now }
+    ensures first_drawn { s.now.grid.least ≡ 1 → is_some s.now.found ≡ true → IsSheetText g.now true (first_sheet_text g.now s.now) s.now }
 {
     // what the types keep
     names(g);

@@ -8,9 +8,9 @@ ghost use Rattle.plan_core.specs.Grid.{GridSize, grid_with};
 ghost use Rattle.line_text.specs.Fields.{line_text};
 ghost use Rattle.plan_text.specs.declared.edition.Edition.{Edition as Editions};
 ghost use Rattle.plan_text.specs.declared.ending.Ending.{Ending};
-ghost use Rattle.plan_text.specs.SheetLine.{SheetLine, GridLine, OrderLine, NodeLine, EdgeLine, ValuesLine, EndLine, grid_numbers, coordinates, text_of, IsSmall, AreSmall, IsMileageText, StandsForLeast, IsBetween, IsForm, IsSmallEnding};
-ghost use Rattle.plan_text.specs.SheetFaults.{GridDue, OrderDue, NodeDue, EdgeDue, ValuesDue, IsToldIn, BeginsWith};
-ghost use Rattle.plan_text.specs.SheetReading.{IsNamed, IsNumbered, IsNodeEnd, IsLineTo, ending_told};
+ghost use Rattle.plan_text.specs.SheetLine.{SheetLine, GridLine, OrderLine, NodeLine, EdgeLine, ValuesLine, EndLine, grid_numbers, coordinates, text_of_line, IsSmall, AreSmall, IsMileageText, StandsForLeast, IsBetween, HasForm, IsSmallEnding};
+ghost use Rattle.plan_text.specs.SheetFaults.{GridDue, OrderDue, NodeDue, EdgeDue, ValuesDue, IsToldIn, BeginsWithLine};
+ghost use Rattle.plan_text.specs.SheetReading.{IsNamedAt, IsNumberedAt, IsNodeEnd, IsLineTo, ending_told};
 
 use crate::Edition;
 use crate::mileage_text::is_mileage;
@@ -127,7 +127,7 @@ fn grid_of(edition: Edition, numbers: &[u16]) -> Option<(u16, u16, u16)>
 
 /// The width, height and least length that the line of the grid tells, and what stands behind it.
 pub(crate) fn grid_line(edition: Edition, text: &[u8]) -> Option<(u16, u16, u16, &[u8])>
-    ensures { MatchOption result ((needs_drawing : Bool) (line : SheetLine) → BeginsWith (GridDue edition needs_drawing) text.now line → ⊥)
+    ensures { MatchOption result ((needs_drawing : Bool) (line : SheetLine) → BeginsWithLine (GridDue edition needs_drawing) text.now line → ⊥)
         (λ p. IsLineTo text.now (GridLine edition (grid_with p.0 p.1 p.2)) p.3.now) }
 {
     let (numbers, rest) = numbered(text, b"grid")?;
@@ -137,8 +137,8 @@ pub(crate) fn grid_line(edition: Edition, text: &[u8]) -> Option<(u16, u16, u16,
 
 /// The criteria that the line of the order tells, and what stands behind it.
 pub(crate) fn order_line(text: &[u8]) -> Option<(ArrayVec<Criterion, 4>, &[u8])>
-    ensures { MatchOption result ((edition : Editions) (needs_drawing : Bool) (line : SheetLine) → BeginsWith (OrderDue edition needs_drawing) text.now line → ⊥)
-        (λ p. IsBetween 1 4 (length p.0.items) × (text.now ≡ text_of (OrderLine p.0.items) ++ p.1.now)) }
+    ensures { MatchOption result ((edition : Editions) (needs_drawing : Bool) (line : SheetLine) → BeginsWithLine (OrderDue edition needs_drawing) text.now line → ⊥)
+        (λ p. IsBetween 1 4 (length p.0.items) × (text.now ≡ text_of_line (OrderLine p.0.items) ++ p.1.now)) }
 {
     let (criteria, rest) = criteria(behind(text, b"order")?)?;
     if criteria.is_empty() {
@@ -149,7 +149,7 @@ pub(crate) fn order_line(text: &[u8]) -> Option<(ArrayVec<Criterion, 4>, &[u8])>
 
 /// The number and the name behind this word, and what stands behind them.
 fn named<'a>(text: &'a [u8], word: &[u8]) -> Option<(u16, &'a [u8], &'a [u8])>
-    ensures { MatchOption result ((n : ℕ) (name rest : List ℕ) → IsNamed text.now word.now n name rest → ⊥) (λ p. IsNamed text.now word.now p.0 p.1.now p.2.now) }
+    ensures { MatchOption result ((n : ℕ) (name rest : List ℕ) → IsNamedAt text.now word.now n name rest → ⊥) (λ p. IsNamedAt text.now word.now p.0 p.1.now p.2.now) }
 {
     let rest = behind(text, word)?;
     let (number, rest) = next_number(rest)?;
@@ -189,7 +189,7 @@ fn node_end(edition: Edition, text: &[u8]) -> Option<(Option<&[u8]>, &[u8])>
 
 /// What the line of a node tells, and what stands behind it.
 pub(crate) fn node_line(edition: Edition, text: &[u8]) -> Option<(NodeTold<'_>, &[u8])>
-    ensures { MatchOption result ((n : ℕ) (line : SheetLine) → BeginsWith (NodeDue edition n) text.now line → ⊥)
+    ensures { MatchOption result ((n : ℕ) (line : SheetLine) → BeginsWithLine (NodeDue edition n) text.now line → ⊥)
         (λ p. IsToldIn edition (option_copied p.0.mileage) × IsLineTo text.now (NodeLine p.0.number p.0.name.now p.0.place (option_copied p.0.mileage)) p.1.now) }
 {
     let (number, name, rest) = named(text, b"node")?;
@@ -229,8 +229,8 @@ fn points_of(numbers: &[u16]) -> Option<ArrayVec<Point, 4>>
 
 /// The number of an edge and its track, if the edition tells it, and what stands behind them.
 fn numbered_edge(edition: Edition, text: &[u8]) -> Option<(u16, Option<&[u8]>, &[u8])>
-    ensures { MatchOption result ((n : ℕ) (track : Option (List ℕ)) (rest : List ℕ) → IsNumbered edition text.now n track rest → ⊥)
-        (λ p. IsNumbered edition text.now p.0 (option_copied p.1) p.2.now) }
+    ensures { MatchOption result ((n : ℕ) (track : Option (List ℕ)) (rest : List ℕ) → IsNumberedAt edition text.now n track rest → ⊥)
+        (λ p. IsNumberedAt edition text.now p.0 (option_copied p.1) p.2.now) }
 {
     match edition {
         Edition::First => {
@@ -247,7 +247,7 @@ fn numbered_edge(edition: Edition, text: &[u8]) -> Option<(u16, Option<&[u8]>, &
 
 /// What the line of an edge tells, and what stands behind it.
 pub(crate) fn edge_line(edition: Edition, text: &[u8]) -> Option<(EdgeTold<'_>, &[u8])>
-    ensures { MatchOption result ((e : ℕ) (line : SheetLine) → BeginsWith (EdgeDue edition e) text.now line → ⊥)
+    ensures { MatchOption result ((e : ℕ) (line : SheetLine) → BeginsWithLine (EdgeDue edition e) text.now line → ⊥)
         (λ p. IsToldIn edition (option_copied p.0.track) × IsLineTo text.now (EdgeLine p.0.number (option_copied p.0.track) p.0.west p.0.east p.0.points.items) p.1.now) }
 {
     let (number, track, rest) = numbered_edge(edition, text)?;
@@ -266,8 +266,8 @@ pub(crate) fn edge_line(edition: Edition, text: &[u8]) -> Option<(EdgeTold<'_>, 
 
 /// What the line of the values tells, and what stands behind it.
 pub(crate) fn values_line(text: &[u8]) -> Option<(Values, &[u8])>
-    ensures { MatchOption result ((line : SheetLine) → BeginsWith ValuesDue text.now line → ⊥)
-        (λ p. IsForm (ValuesLine p.0) × (text.now ≡ text_of (ValuesLine p.0) ++ p.1.now)) }
+    ensures { MatchOption result ((line : SheetLine) → BeginsWithLine ValuesDue text.now line → ⊥)
+        (λ p. HasForm (ValuesLine p.0) × (text.now ≡ text_of_line (ValuesLine p.0) ++ p.1.now)) }
 {
     let (numbers, rest) = numbered(text, b"values")?;
     let [height, bends, diagonal, width] = only_four(numbers.as_slice())?;
@@ -282,8 +282,8 @@ pub(crate) fn values_line(text: &[u8]) -> Option<(Values, &[u8])>
 
 /// The ending that the last line tells, and what stands behind it.
 pub(crate) fn end_line(text: &[u8]) -> Option<(EndTold, &[u8])>
-    ensures { MatchOption result ((e : Ending) (rest : List ℕ) → IsSmallEnding e → text.now ≢ text_of (EndLine e) ++ rest)
-        (λ p. IsSmallEnding (ending_told p.0) × (text.now ≡ text_of (EndLine (ending_told p.0)) ++ p.1.now)) }
+    ensures { MatchOption result ((e : Ending) (rest : List ℕ) → IsSmallEnding e → text.now ≢ text_of_line (EndLine e) ++ rest)
+        (λ p. IsSmallEnding (ending_told p.0) × (text.now ≡ text_of_line (EndLine (ending_told p.0)) ++ p.1.now)) }
 {
     if let Some(rest) = behind(text, b"end best\n") {
         return Some((EndTold::Best, rest));

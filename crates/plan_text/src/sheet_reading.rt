@@ -8,11 +8,11 @@ ghost use Rattle.plan_core.specs.Drawing.{drawing};
 ghost use Rattle.plan_core.specs.Exactly.{AnswersExactly};
 ghost use Rattle.plan_text.specs.declared.sheet_fault.SheetWhat.TheVariants.{Range};
 ghost use Rattle.plan_text.specs.declared.sheet_fault.SheetFault.TheVariants.{Memory};
-ghost use Rattle.plan_text.specs.SheetLine.{SheetLine, EndLine, text_of, IsSmallEnding, MayEnd};
+ghost use Rattle.plan_text.specs.SheetLine.{SheetLine, EndLine, text_of_line, IsSmallEnding, MayEnd};
 ghost use Rattle.plan_core.specs.Lawful.{HasSizeOf};
 ghost use Rattle.plan_text.specs.SheetText.{StatesSettled};
-ghost use Rattle.plan_text.specs.SheetFaults.{TitleDue, BodyDue, EdgesDue, ValuesDue, NoneDue, node_due, edge_due, IsTextOf, IsDrawingOf, IsSheetFault};
-ghost use Rattle.plan_text.specs.SheetReading.{head_lines, ending_told, AreReadTo, IsFaultHere, IsFaultFrom, ArePlaced, AreDrawn, ArePlacesTo, AreLinesTo, IsPictureTo, IsFaultBehindAll, IsClosing, IsFaultBehind, IsBody, IsUndrawnEnding, IsNoUndrawnEnding, IsUndrawnFault};
+ghost use Rattle.plan_text.specs.SheetFaults.{TitleDue, BodyDue, EdgesDue, ValuesDue, NoneDue, node_due, edge_due, IsSheetText, IsDrawingOf, IsSheetFault};
+ghost use Rattle.plan_text.specs.SheetReading.{head_lines, ending_told, AreReadTo, IsFaultHere, IsFaultFrom, ArePlaced, AreDrawn, ArePlacesTo, AreLinesTo, IsPictureTo, IsFaultAfterAny, IsClosing, IsFaultAfter, IsBody, IsUndrawnEnding, IsNoUndrawnEnding, IsUndrawnFault};
 
 use crate::sheet_checks::{edge, edges, ending, grid, measured, node, nodes, order, title};
 use crate::sheet_lines::{EndTold, end_line};
@@ -46,7 +46,7 @@ fn places<'a>(
     text: &'a [u8],
 ) -> Result<(Vec<Point>, &'a [u8]), SheetFault>
     ensures { MatchResult result (λ p. (length p.0.items ≡ length g.now.nodes) × (length p.0.items ≤ MAX_NODES) × ArePlaced edition g.now text.now p.0.items p.1.now)
-        (IsFaultBehindAll g.now (node_due edition g.now 0) text.now 5) }
+        (IsFaultAfterAny g.now (node_due edition g.now 0) text.now 5) }
 {
     let mut places = Vec::new(alloc);
     let mut rest = text;
@@ -66,7 +66,7 @@ fn all_places<'a>(
     text: &'a [u8],
 ) -> Result<(Vec<Point>, &'a [u8]), SheetFault>
     ensures { MatchResult result (λ p. (length p.0.items ≡ length g.now.nodes) × (length p.0.items ≤ MAX_NODES) × ArePlacesTo edition g.now text.now p.0.items p.1.now)
-        (IsFaultBehindAll g.now (BodyDue edition true) text.now 4) }
+        (IsFaultAfterAny g.now (BodyDue edition true) text.now 4) }
 {
     let rest = nodes(g, text)?;
     places(alloc, g, edition, rest)
@@ -80,7 +80,7 @@ fn lines<'a>(
     text: &'a [u8],
 ) -> Result<(Vec<Line>, &'a [u8]), SheetFault>
     ensures { MatchResult result (λ p. (length p.0.items ≡ length g.now.edges) × (length p.0.items ≤ MAX_EDGES) × AreDrawn edition g.now text.now p.0.items p.1.now)
-        (IsFaultBehindAll g.now (edge_due edition g.now 0) text.now (length g.now.nodes + 6)) }
+        (IsFaultAfterAny g.now (edge_due edition g.now 0) text.now (length g.now.nodes + 6)) }
 {
     let first = u32::from(g.nodes()) + 6;
     let mut lines = Vec::new(alloc);
@@ -101,7 +101,7 @@ fn all_lines<'a>(
     text: &'a [u8],
 ) -> Result<(Vec<Line>, &'a [u8]), SheetFault>
     ensures { MatchResult result (λ p. (length p.0.items ≡ length g.now.edges) × (length p.0.items ≤ MAX_EDGES) × AreLinesTo edition g.now text.now p.0.items p.1.now)
-        (IsFaultBehindAll g.now (EdgesDue edition) text.now (length g.now.nodes + 5)) }
+        (IsFaultAfterAny g.now (EdgesDue edition) text.now (length g.now.nodes + 5)) }
 {
     let rest = edges(g, text, u32::from(g.nodes()) + 5)?;
     lines(alloc, g, edition, rest)
@@ -114,7 +114,7 @@ fn picture<'a>(
     edition: Edition,
     text: &'a [u8],
 ) -> Result<(Drawing, &'a [u8]), SheetFault>
-    ensures { MatchResult result (λ p. HasSizeOf g.now p.0 × IsPictureTo edition g.now text.now p.0 p.1.now) (IsFaultBehindAll g.now (BodyDue edition true) text.now 4) }
+    ensures { MatchResult result (λ p. HasSizeOf g.now p.0 × IsPictureTo edition g.now text.now p.0 p.1.now) (IsFaultAfterAny g.now (BodyDue edition true) text.now 4) }
 {
     let (places, rest) = all_places(alloc, g, edition, text)?;
     let (lines, rest) = all_lines(alloc, g, edition, rest)?;
@@ -138,7 +138,7 @@ fn nothing(text: &[u8], line: u32) -> Result<(), SheetFault>
 /// The ending of a sheet with this drawing, of which the lines from the values on stand here.
 fn closing(g: &PortGraph, order: &Order, d: &Drawing, text: &[u8]) -> Result<Ending, SheetFault>
     ensures { MatchResult result (λ e. MayEnd true e × IsClosing g.now order.now d.now text.now e)
-        (IsFaultBehind g.now order.now d.now ValuesDue text.now (length g.now.nodes + length g.now.edges + 6)) }
+        (IsFaultAfter g.now order.now d.now ValuesDue text.now (length g.now.nodes + length g.now.edges + 6)) }
 {
     let line = u32::from(g.nodes()) + u32::from(g.edges()) + 6;
     let rest = measured(d, text, line)?;
@@ -157,7 +157,7 @@ fn body(
     text: &[u8],
 ) -> Result<(Drawing, Ending), SheetFault>
     ensures { MatchResult result (λ p. HasSizeOf g.now p.0 × MayEnd true p.1 × IsBody edition g.now order.now text.now p.0 p.1)
-        (IsFaultBehind g.now order.now (drawing [] []) (BodyDue edition true) text.now 4) }
+        (IsFaultAfter g.now order.now (drawing [] []) (BodyDue edition true) text.now 4) }
 {
     let (d, rest) = picture(alloc, g, edition, text)?;
     let ending = closing(g, order, &d, rest)?;
@@ -181,7 +181,7 @@ pub fn read_drawing(
 /// The ending of a sheet without a drawing, and what stands behind its line, if it stands here.
 fn undrawn(text: &[u8]) -> Option<(EndTold, &[u8])>
     ensures { MatchOption result (IsNoUndrawnEnding text.now)
-        (λ p. IsSmallEnding (ending_told p.0) × MayEnd false (ending_told p.0) × (text.now ≡ text_of (EndLine (ending_told p.0)) ++ p.1.now)) }
+        (λ p. IsSmallEnding (ending_told p.0) × MayEnd false (ending_told p.0) × (text.now ≡ text_of_line (EndLine (ending_told p.0)) ++ p.1.now)) }
 {
     match end_line(text)? {
         (EndTold::Best, _) => None,
@@ -222,7 +222,7 @@ fn undrawn_ending(text: &[u8]) -> Result<Option<Ending>, SheetFault>
 
 /// Reads the sheet of a station with this graph, with a drawing or without one.
 pub fn read_sheet(alloc: Global, g: &PortGraph, bytes: &[u8]) -> Result<Sheet, SheetFault>
-    ensures { AnswersExactly result Memory (IsTextOf g.now false bytes.now) (IsSheetFault g.now false bytes.now) }
+    ensures { AnswersExactly result Memory (IsSheetText g.now false bytes.now) (IsSheetFault g.now false bytes.now) }
 {
     let (edition, grid, order, rest) = head(bytes)?;
     if let Some(ending) = undrawn_ending(rest)? {

@@ -9,7 +9,7 @@ ghost use Rattle.line_text.specs.Fields.{spaced, line_text};
 ghost use Rattle.std.specs.Option.{is_some};
 ghost use Rattle.line_text.specs.Criteria.{criterion_word as word_of_criterion};
 ghost use Rattle.plan_text.specs.declared.edition.Edition.TheVariants.{Second};
-ghost use Rattle.plan_text.specs.SheetLine.{GridLine, OrderLine, NodesLine, EdgesLine, ValuesLine, EndLine, coordinates, text_of};
+ghost use Rattle.plan_text.specs.SheetLine.{GridLine, OrderLine, NodesLine, EdgesLine, ValuesLine, EndLine, coordinates, text_of_line};
 ghost use Rattle.plan_core.specs.Lawful.{HasSizeOf};
 ghost use Rattle.plan_text.specs.SheetText.{DrawsAll, DrawsOnGrid, StatesSettled, node_line, edge_line, node_lines, edge_lines, drawing_lines, found_lines, sheet_text};
 
@@ -31,7 +31,7 @@ fn push_pair(a: u32, b: u32, into: &mut Vec<u8>) -> Result<(), OutOfMemory>
 }
 
 fn push_grid_line(grid: &Grid, into: &mut Vec<u8>) -> Result<(), OutOfMemory>
-    ensures ok { OnOk result (into.new.items ≡ into.old.items ++ text_of (GridLine Second grid.now)) }
+    ensures ok { OnOk result (into.new.items ≡ into.old.items ++ text_of_line (GridLine Second grid.now)) }
     ensures begins { Begins into.old.items into.new.items }
 {
     push_text(into, b"grid")?;
@@ -51,7 +51,7 @@ fn push_criteria(order: &Order, into: &mut Vec<u8>) -> Result<(), OutOfMemory>
 }
 
 fn push_order_line(order: &Order, into: &mut Vec<u8>) -> Result<(), OutOfMemory>
-    ensures ok { OnOk result (into.new.items ≡ into.old.items ++ text_of (OrderLine order.now)) }
+    ensures ok { OnOk result (into.new.items ≡ into.old.items ++ text_of_line (OrderLine order.now)) }
     ensures begins { Begins into.old.items into.new.items }
 {
     push_text(into, b"order")?;
@@ -86,7 +86,7 @@ fn push_node_line(
 ) -> Result<(), OutOfMemory>
     requires there { n < length g.now.nodes }
     requires placed { n < length d.now.places }
-    ensures ok { OnOk result (into.new.items ≡ into.old.items ++ text_of (node_line Second g.now d.now n)) }
+    ensures ok { OnOk result (into.new.items ≡ into.old.items ++ text_of_line (node_line Second g.now d.now n)) }
     ensures begins { Begins into.old.items into.new.items }
 {
     push_named(into, b"node", n, g.name(NodeNo(n)).bytes())?;
@@ -109,7 +109,7 @@ fn push_edge_head(g: &PortGraph, e: u16, into: &mut Vec<u8>) -> Result<(), OutOf
 fn push_edge_line(g: &PortGraph, d: &Drawing, e: u16, into: &mut Vec<u8>) -> Result<(), OutOfMemory>
     requires there { e < length g.now.edges }
     requires drawn { e < length d.now.lines }
-    ensures ok { OnOk result (into.new.items ≡ into.old.items ++ text_of (edge_line Second g.now d.now e)) }
+    ensures ok { OnOk result (into.new.items ≡ into.old.items ++ text_of_line (edge_line Second g.now d.now e)) }
     ensures begins { Begins into.old.items into.new.items }
 {
     push_edge_head(g, e, into)?;
@@ -118,7 +118,7 @@ fn push_edge_line(g: &PortGraph, d: &Drawing, e: u16, into: &mut Vec<u8>) -> Res
 }
 
 fn push_values_line(v: Values, into: &mut Vec<u8>) -> Result<(), OutOfMemory>
-    ensures ok { OnOk result (into.new.items ≡ into.old.items ++ text_of (ValuesLine v)) }
+    ensures ok { OnOk result (into.new.items ≡ into.old.items ++ text_of_line (ValuesLine v)) }
     ensures begins { Begins into.old.items into.new.items }
 {
     push_text(into, b"values")?;
@@ -134,7 +134,7 @@ fn push_node_lines(
     into: &mut Vec<u8>,
 ) -> Result<(), OutOfMemory>
     requires { HasSizeOf g.now d.now }
-    ensures ok { OnOk result (into.new.items ≡ into.old.items ++ flat_map text_of (node_lines Second g.now d.now)) }
+    ensures ok { OnOk result (into.new.items ≡ into.old.items ++ flat_map text_of_line (node_lines Second g.now d.now)) }
     ensures begins { Begins into.old.items into.new.items }
 {
     for n in 0..g.nodes() {
@@ -150,7 +150,7 @@ fn push_places(
     into: &mut Vec<u8>,
 ) -> Result<(), OutOfMemory>
     requires { HasSizeOf g.now d.now }
-    ensures ok { OnOk result (into.new.items ≡ into.old.items ++ flat_map text_of (NodesLine (length g.now.nodes) ∷ node_lines Second g.now d.now)) }
+    ensures ok { OnOk result (into.new.items ≡ into.old.items ++ flat_map text_of_line (NodesLine (length g.now.nodes) ∷ node_lines Second g.now d.now)) }
     ensures begins { Begins into.old.items into.new.items }
 {
     push_count_line(into, b"nodes", u32::from(g.nodes()))?;
@@ -159,7 +159,7 @@ fn push_places(
 
 fn push_edge_lines(g: &PortGraph, d: &Drawing, into: &mut Vec<u8>) -> Result<(), OutOfMemory>
     requires { HasSizeOf g.now d.now }
-    ensures ok { OnOk result (into.new.items ≡ into.old.items ++ flat_map text_of (edge_lines Second g.now d.now)) }
+    ensures ok { OnOk result (into.new.items ≡ into.old.items ++ flat_map text_of_line (edge_lines Second g.now d.now)) }
     ensures begins { Begins into.old.items into.new.items }
 {
     for e in 0..g.edges() {
@@ -170,7 +170,7 @@ fn push_edge_lines(g: &PortGraph, d: &Drawing, into: &mut Vec<u8>) -> Result<(),
 
 fn push_lines(g: &PortGraph, d: &Drawing, into: &mut Vec<u8>) -> Result<(), OutOfMemory>
     requires { HasSizeOf g.now d.now }
-    ensures ok { OnOk result (into.new.items ≡ into.old.items ++ flat_map text_of (EdgesLine (length g.now.edges) ∷ edge_lines Second g.now d.now)) }
+    ensures ok { OnOk result (into.new.items ≡ into.old.items ++ flat_map text_of_line (EdgesLine (length g.now.edges) ∷ edge_lines Second g.now d.now)) }
     ensures begins { Begins into.old.items into.new.items }
 {
     push_count_line(into, b"edges", u32::from(g.edges()))?;
@@ -184,7 +184,7 @@ fn push_drawing(
     into: &mut Vec<u8>,
 ) -> Result<(), OutOfMemory>
     requires { HasSizeOf g.now d.now }
-    ensures ok { OnOk result (into.new.items ≡ into.old.items ++ flat_map text_of (drawing_lines Second g.now d.now)) }
+    ensures ok { OnOk result (into.new.items ≡ into.old.items ++ flat_map text_of_line (drawing_lines Second g.now d.now)) }
     ensures begins { Begins into.old.items into.new.items }
 {
     push_places(alloc, g, d, into)?;
@@ -200,7 +200,7 @@ fn push_found(
     into: &mut Vec<u8>,
 ) -> Result<(), OutOfMemory>
     requires { DrawsAll g.now s.now }
-    ensures ok { OnOk result (into.new.items ≡ into.old.items ++ flat_map text_of (found_lines Second g.now s.now.found)) }
+    ensures ok { OnOk result (into.new.items ≡ into.old.items ++ flat_map text_of_line (found_lines Second g.now s.now.found)) }
     ensures begins { Begins into.old.items into.new.items }
 {
     match &s.found {
@@ -220,7 +220,7 @@ fn push_settled(word: &[u8], settled: u8, into: &mut Vec<u8>) -> Result<(), OutO
 }
 
 fn push_ending(ending: Ending, into: &mut Vec<u8>) -> Result<(), OutOfMemory>
-    ensures ok { OnOk result (into.new.items ≡ into.old.items ++ text_of (EndLine ending)) }
+    ensures ok { OnOk result (into.new.items ≡ into.old.items ++ text_of_line (EndLine ending)) }
     ensures begins { Begins into.old.items into.new.items }
 {
     match ending {

@@ -1,6 +1,6 @@
 use Rattle.track_order.specs.Order.{is_above}
 use Rattle.plan_text.specs.GraphText.{above_line}
-use Rattle.plan_text.proofs.LineLemmas.{line_more}
+use Rattle.line_text.proofs.LineLemmas.{line_more}
 use Rattle.plan_text.proofs.graph_text.push_above.Goals as goal
 
 pub loop-f-preserved : goal.loop-f-preserved

@@ -1,5 +1,5 @@
 use Rattle.plan_text.specs.GraphText.{edge_line}
-use Rattle.plan_text.proofs.LineLemmas.{line_more}
+use Rattle.line_text.proofs.LineLemmas.{line_more}
 use Rattle.plan_text.proofs.graph_text.push_edge_lines.Goals as goal
 
 pub loop-e-preserved : goal.loop-e-preserved

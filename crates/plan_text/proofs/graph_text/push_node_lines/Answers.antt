@@ -1,5 +1,5 @@
 use Rattle.plan_text.specs.GraphText.{node_line}
-use Rattle.plan_text.proofs.LineLemmas.{line_more}
+use Rattle.line_text.proofs.LineLemmas.{line_more}
 use Rattle.plan_text.proofs.graph_text.push_node_lines.Goals as goal
 
 pub loop-n-preserved : goal.loop-n-preserved
