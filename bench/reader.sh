@@ -18,12 +18,14 @@ program = sys.argv[1]
 lint = shutil.which("xmllint")
 SIZES = [("256 KB", 1 << 18), ("1 MB", 1 << 20), ("4 MB", 1 << 22)]
 
-TRACK = """<track id="t{0}" name="main line {0}"><!-- surveyed --><trackTopology>
-<trackBegin id="b{0}" pos="0.000" absPos="{1}.250"><connection id="c{0}" ref="d{0}"/></trackBegin>
-<trackEnd id="e{0}" pos="812.500" absPos="{2}.750"><openEnd id="o{0}"/></trackEnd>
-<connections><switch id="s{0}" pos="100.5" absPos="{1}.750" model="EW 60-300-1:9">
-<connection id="f{0}" ref="g{0}" course="left" orientation="outgoing"/></switch></connections>
-</trackTopology><trackElements><speedChange id="v{0}" pos="10" vMax="80"/></trackElements></track>
+TRACK = ("""<track id="t{0}" name="main line {0}"><!-- surveyed --><trackTopology>
+<trackBegin id="b{0}" pos="0.000" absPos="{0}000.250"><bufferStop id="o{0}"/></trackBegin>
+<trackEnd id="e{0}" pos="99812.500"><openEnd id="p{0}"/></trackEnd><connections>
+""", """</connections></trackTopology><trackElements><speedChange id="v{0}" pos="10" vMax="80"/></trackElements></track>
+""")
+SWITCHES = """<switch id="s{0}_{1}" pos="{1}.500" absPos="{0}{1}.750" model="EW 60-300-1:9">
+<connection id="c{0}_{1}" ref="d{0}_{1}" course="left" orientation="outgoing"/></switch>
+<switch id="w{0}_{1}" pos="{1}.625"><connection id="d{0}_{1}" ref="c{0}_{1}" course="right" orientation="incoming"/></switch>
 """
 
 def padded(head, body, tail, size):
@@ -39,8 +41,14 @@ def padded(head, body, tail, size):
     return "".join(parts) + " " * (size - length) + tail
 
 def station(size):
-    return padded("<?xml version='1.0' encoding='UTF-8'?>\n<railml xmlns='http://www.railml.org/schemas/2013'><infrastructure><tracks>\n",
-                  lambda i: TRACK.format(i, 1000 * i, 1000 * i + 812), "</tracks></infrastructure></railml>", size)
+    """a hundred tracks with switches that lead to each other: no fault but a graph's"""
+    head, tail = "<?xml version='1.0' encoding='UTF-8'?>\n<railml xmlns='http://www.railml.org/schemas/2013'><infrastructure><tracks>\n", "</tracks></infrastructure></railml>"
+    room = (size - len(head) - len(tail)) // 100
+    def track(i):
+        begin, end = TRACK[0].format(i), TRACK[1].format(i)
+        return padded(begin, lambda j: SWITCHES.format(i, j), end, room)
+    text = head + "".join(track(i) for i in range(100))
+    return text + " " * (size - len(text) - len(tail)) + tail
 
 SWITCH = ("<infrastructure><tracks><track><trackTopology><connections><switch>", "</switch></connections></trackTopology></track></tracks></infrastructure>")
 
@@ -68,8 +76,9 @@ def attributes(size):
 def text(size):
     return padded("<infrastructure>", lambda i: "some words of line %d\n<!-- and a comment -->" % i, "</infrastructure>", size)
 
-def empty_elements(size):
-    return padded("<infrastructure><tracks>", lambda i: "<track/>", "</tracks></infrastructure>", size)
+def rows_in(head, row, tail):
+    """as many rows as there can be, without attributes"""
+    return lambda size: padded(head, lambda i: row, tail, size)
 
 KINDS = [
     ("station", station),
@@ -81,7 +90,9 @@ KINDS = [
     ("switches", switches(one_hash, lambda i: i)),
     ("mirrored", switches(lambda i: "%x" % i, lambda i: 999999999 - i)),
     ("in one place", switches(lambda i: "%x" % i, lambda i: 1)),
-    ("tracks", empty_elements),
+    ("bare tracks", rows_in("<infrastructure><tracks>", "<track/>", "</tracks></infrastructure>")),
+    ("bare ends", rows_in("<infrastructure><tracks><track id='t'><trackTopology><trackBegin id='b' pos='0' absPos='0'>", "<openEnd/>",
+                          "</trackBegin><trackEnd id='e' pos='1'><openEnd/></trackEnd></trackTopology></track></tracks></infrastructure>")),
     ("attributes", attributes),
     ("text", text),
     ("references", lambda size: padded("<infrastructure>", lambda i: "&#%d;" % (33 + i % 60), "</infrastructure>", size)),
