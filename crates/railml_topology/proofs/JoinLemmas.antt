@@ -4,6 +4,7 @@ use Rattle.std.specs.Prelude.{codes}
 use Rattle.std.specs.List.{AllByRecursion, AllZip, Contains}
 use Rattle.std.specs.Option.{option_map_or, option_map, option_and_then}
 use Rattle.std.proofs.lemmas.Option.{same_Some, option_and_then_some, slice_get-map}
+use Rattle.plan_core.proofs.PlaceFacts.{same_place}
 use Rattle.railml_topology.proofs.IdLemmas.{one_row}
 use Rattle.plan_core.specs.declared.topology.Topology.{Topology}
 use Rattle.plan_core.specs.declared.topology.Track.{Track as TrackOf}
@@ -306,11 +307,6 @@ one_part rows l k p q apart a b =
     let tags : tag p ≡ tag q = sym a.tagged ∙ b.tagged in
     sym (part_again l p) ∙ (ap (λ v. part_from v (slot l p)) tags ∙ (ap (λ v. part_from (tag q) v) slots ∙ part_again l q))
 
-pub place_is : (p q : Place) → p.track ≡ q.track → p.part ≡ q.part → p ≡ q
-place_is p q e f =
-    let F : ℕ → Part → Place = λ n part. record { track = n; part = part } in
-    ap (λ n. F n p.part) e ∙ ap (λ part. F q.track part) f
-
 pub one_place : (rows : List Elem) (layouts : List Layout) → AreSoundRows rows → AreLayouts rows layouts → (k : ℕ) (p q : Place) → IsAtPlace rows layouts k p → IsAtPlace rows layouts k q → p ≡ q
 one_place rows layouts s h k p q a b =
     let set_a : IsSet rows a.layout = all_at (IsSet rows) layouts p.track a.layout (all_laid rows layouts h) a.is in
@@ -323,7 +319,7 @@ one_place rows layouts s h k p q a b =
     let at_q : slice_get numbers q.track ≡ Some a.layout.track = slice_get-map (λ (l : Layout). l.track) layouts q.track ∙ (ap (λ (v : Option Layout). option_map (λ (l : Layout). l.track) v) b.is ∙ ap (λ (v : ℕ). Some v) homes) in
     let tracks : p.track ≡ q.track = apart_at numbers p.track q.track a.layout.track (layouts_apart rows layouts h) at_p at_q in
     let layout : b.layout ≡ a.layout = same_Some b.layout a.layout (sym b.is ∙ (ap (slice_get layouts) (sym tracks) ∙ a.is)) in
-    place_is p q tracks (one_part rows a.layout k p.part q.part (stands_apart rows a.layout set_a.laid_down set_a.ordered) held_a (subst (λ (v : Layout). IsHeld rows v k q.part) layout held_b))
+    same_place p q tracks (one_part rows a.layout k p.part q.part (stands_apart rows a.layout set_a.laid_down set_a.ordered) held_a (subst (λ (v : Layout). IsHeld rows v k q.part) layout held_b))
 
 -- ---- both ways
 

@@ -9,6 +9,7 @@ use Rattle.std.specs.Option.{option_map_or}
 use Rattle.std.specs.List.{Contains, All, AllByRecursion}
 use Rattle.std.proofs.lemmas.Bool.Decides.{eqb_tells}
 use Rattle.std.proofs.lemmas.Option.{same_Some, slice_get_within, slice_get_read, option_and_then_some}
+use Rattle.plan_core.proofs.PlaceFacts.{same_place}
 use Rattle.railml_topology.proofs.PartLemmas.{only_child_entry}
 use Rattle.railml_topology.proofs.IdLemmas.{one_row}
 use Rattle.plan_core.specs.declared.topology.Place.{Place}
@@ -32,7 +33,7 @@ use Rattle.railml_topology.specs.Plans.{is_inner}
 use Rattle.railml_topology.proofs.Family.{among_from_contains, contains_from_among, among_filtered, filtered_among, of_kind, is_of_its_kind, IsChild, child, has_child, only_child}
 use Rattle.railml_topology.proofs.ElementLemmas.{way_child, all_that_among}
 use Rattle.railml_topology.proofs.LayoutLemmas.{entry_child}
-use Rattle.railml_topology.proofs.JoinLemmas.{one_way, kinds_clash, place_is, one_number}
+use Rattle.railml_topology.proofs.JoinLemmas.{one_way, kinds_clash, one_number}
 use Rattle.railml_topology.proofs.TableLemmas.{entry_written, slice_get-set_other}
 
 -- ---- one entry
@@ -208,7 +209,7 @@ switch_places : (rows : List Elem) (track n inner branch : ℕ) → IsBranchOf r
 switch_places rows track n inner branch b i t parts.Begin e h = absurd h
 switch_places rows track n inner branch b i t parts.End e h = absurd h
 switch_places rows track n inner branch b i t (parts.Branch k) e h =
-    (one_number (children rows inner Connection) i branch h.1.only b.only, place_is (at_part t (parts.Branch k)) (at_part track (parts.Branch n)) e (ap (λ m. parts.Branch m) h.0))
+    (one_number (children rows inner Connection) i branch h.1.only b.only, same_place (at_part t (parts.Branch k)) (at_part track (parts.Branch n)) e (ap (λ m. parts.Branch m) h.0))
 switch_places rows track n inner branch b i t (parts.Incoming k) e h = absurd (kinds_clash rows inner b.a_switch h.1.a_crossing)
 switch_places rows track n inner branch b i t (parts.Outgoing k) e h = absurd (kinds_clash rows inner b.a_switch h.1.a_crossing)
 
@@ -227,9 +228,9 @@ crossing_places rows s track n inner coming leaving c l i t parts.Begin e h = ab
 crossing_places rows s track n inner coming leaving c l i t parts.End e h = absurd h
 crossing_places rows s track n inner coming leaving c l i t (parts.Branch k) e h = absurd (kinds_clash rows inner h.1.a_switch c.a_crossing)
 crossing_places rows s track n inner coming leaving c l i t (parts.Incoming k) e h =
-    inl (one_way rows s inner false i coming h.1 c, place_is (at_part t (parts.Incoming k)) (at_part track (parts.Incoming n)) e (ap (λ m. parts.Incoming m) h.0))
+    inl (one_way rows s inner false i coming h.1 c, same_place (at_part t (parts.Incoming k)) (at_part track (parts.Incoming n)) e (ap (λ m. parts.Incoming m) h.0))
 crossing_places rows s track n inner coming leaving c l i t (parts.Outgoing k) e h =
-    inr (one_way rows s inner true i leaving h.1 l, place_is (at_part t (parts.Outgoing k)) (at_part track (parts.Outgoing n)) e (ap (λ m. parts.Outgoing m) h.0))
+    inr (one_way rows s inner true i leaving h.1 l, same_place (at_part t (parts.Outgoing k)) (at_part track (parts.Outgoing n)) e (ap (λ m. parts.Outgoing m) h.0))
 
 pub crossing_put : (rows : List Elem) → AreSoundRows rows → (track n inner coming leaving : ℕ) (old middle new : List (Option Place)) → IsWayOf rows inner false coming → IsWayOf rows inner true leaving
     → Adds (λ i p. (i ≡ coming) × (p ≡ at_part track (parts.Incoming n))) old middle → Adds (λ i p. (i ≡ leaving) × (p ≡ at_part track (parts.Outgoing n))) middle new → Adds (IsOnInner rows track n inner) old new
@@ -283,8 +284,8 @@ entry_within rows t h holder i e =
 
 track_places : (rows : List Elem) (t : Tables) → AreTablesOf rows t → (track : ℕ) (l : Layout) → l.begin < length rows → l.end < length rows → (i : ℕ) (track' : ℕ) (part : Part) → track' ≡ track → IsAtPart rows l i part
     → (AtEnd t.connections.items l.begin (at_part track parts.Begin) i (at_part track' part) ⊎ AtEnd t.connections.items l.end (at_part track parts.End) i (at_part track' part)) ⊎ IsOnFirst rows track l.inner (length l.inner) i (at_part track' part)
-track_places rows t h track l begin end i u parts.Begin e a = inl (inl (only_child_entry rows Connection t.connections.items l.begin i h.connections begin a, place_is (at_part u parts.Begin) (at_part track parts.Begin) e refl))
-track_places rows t h track l begin end i u parts.End e a = inl (inr (only_child_entry rows Connection t.connections.items l.end i h.connections end a, place_is (at_part u parts.End) (at_part track parts.End) e refl))
+track_places rows t h track l begin end i u parts.Begin e a = inl (inl (only_child_entry rows Connection t.connections.items l.begin i h.connections begin a, same_place (at_part u parts.Begin) (at_part track parts.Begin) e refl))
+track_places rows t h track l begin end i u parts.End e a = inl (inr (only_child_entry rows Connection t.connections.items l.end i h.connections end a, same_place (at_part u parts.End) (at_part track parts.End) e refl))
 track_places rows t h track l begin end i u (parts.Branch k) e (row, is, b) = inr (record { number = k; below = slice_get_within l.inner k row is; row = row; is = is; on = record { on = e; here = (refl, b) } })
 track_places rows t h track l begin end i u (parts.Incoming k) e (row, is, b) = inr (record { number = k; below = slice_get_within l.inner k row is; row = row; is = is; on = record { on = e; here = (refl, b) } })
 track_places rows t h track l begin end i u (parts.Outgoing k) e (row, is, b) = inr (record { number = k; below = slice_get_within l.inner k row is; row = row; is = is; on = record { on = e; here = (refl, b) } })

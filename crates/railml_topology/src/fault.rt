@@ -5,7 +5,6 @@ ghost use Rattle.railml_topology.specs.declared.fault.ResolveFault.TheVariants.{
 
 use plan_core::{OutOfMemory, Text};
 use std::alloc::{AllocError, AllocFailed};
-use std::fmt;
 use thiserror::Error;
 
 /// The faults of a topology, in the order of their numbers from 1 to 13. Where rows have several, the
@@ -87,7 +86,7 @@ impl TopologyWhat {
 }
 
 /// Why rows give no topology.
-#[derive(Drop, Error)]
+#[derive(Debug, Drop, Error)]
 pub enum ResolveFault {
     /// The rows have a fault. `at` is the byte of the start tag that it is told of, 0 where there is no
     /// track, and the texts are those that its kind tells, empty where it tells none.
@@ -101,24 +100,6 @@ pub enum ResolveFault {
     /// Memory couldn't be had.
     #[error("out of memory")]
     Memory,
-}
-
-impl fmt::Debug for ResolveFault {
-    fn fmt<W: fmt::Write>(&self, f: &mut fmt::Formatter<W>) -> fmt::Result {
-        match self {
-            ResolveFault::Topology {
-                what,
-                at,
-                first,
-                second,
-            } => {
-                let first = first.as_str();
-                let second = second.as_str();
-                write!(f, "{what:?} at {at}: {first:?}, {second:?}")
-            }
-            ResolveFault::Memory => write!(f, "Memory"),
-        }
-    }
 }
 
 impl From<OutOfMemory> for ResolveFault {
