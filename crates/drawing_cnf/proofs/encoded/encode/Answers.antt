@@ -1,0 +1,16 @@
+use Rattle.track_order.specs.Order.{is_above, is_overlap}
+use Rattle.drawing_cnf.proofs.MainLemmas.{formula_sound, formula_covers, order_tables, few_variables}
+use Rattle.drawing_cnf.proofs.encoded.encode.Goals as goal
+
+pub returns-clause-sound : goal.returns-clause-sound
+returns-clause-sound c =
+    let g = c.args.g.now in
+    let t = c.args.t.now in
+    formula_sound g (is_above t) (is_overlap t) c.args.grid.now c.nodes.ensures.station.track_graph c.width.ensures.is_grid (order_tables g t c.requires.order)
+
+pub returns-clause-covers : goal.returns-clause-covers
+returns-clause-covers c =
+    let g = c.args.g.now in
+    let t = c.args.t.now in
+    let s = c.nodes.ensures.station in
+    formula_covers g (is_above t) (is_overlap t) c.args.grid.now s.track_graph c.width.ensures.is_grid (few_variables g c.args.grid.now c.width.ensures.is_grid s.few_nodes s.few_edges) (order_tables g t c.requires.order)

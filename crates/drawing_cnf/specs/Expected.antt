@@ -1,0 +1,113 @@
+-- The whole formula of a graph on a grid, and what it is to be: sound, and complete.
+use Rattle.std.specs.Prelude.{ℕ, zero, suc, ◌+◌, ◌*◌, ◌-◌, Bool, ◌||◌, not, cond, List, [], ◌∷◌, ◌++◌, length}
+use Rattle.plan_core.specs.Grid.{GridSize}
+use Rattle.plan_core.specs.Graph.{Graph, edge}
+use Rattle.plan_core.specs.Drawing.{Drawing}
+use Rattle.plan_core.specs.Lawful.{Instance, Ordered, Aligned, Apart, Over, Parted, Lawful}
+use Rattle.cnf_core.specs.Clause.{Clauses}
+use Rattle.cnf_core.specs.Assignment.{Assignment, SatisfiesAll}
+use Rattle.cnf_core.specs.Formula.{each}
+use Rattle.order_int.specs.IntVars.{int_vars}
+use Rattle.order_int.specs.OrderInt.{int_clauses}
+use Rattle.edge_shape.specs.EdgeVars.{NodeInts, node_ints, edge_lits, edge_size}
+use Rattle.edge_shape.specs.Edge.{edge_clauses}
+use Rattle.drawing_cnf.specs.Stands.{DrawingVars, Stands}
+use Rattle.drawing_cnf.specs.LawClauses.{laws_clauses, laws_size}
+
+-- Where the variables lie: nodes first, then edges, then the laws'.
+
+abbrev pub node_at : GridSize → ℕ → NodeInts
+node_at grid n =
+    node_ints (int_vars 0 grid.width (1 + n * (grid.height + grid.width) + grid.height)) (int_vars 0 grid.height (1 + n * (grid.height + grid.width)))
+
+abbrev pub edges_first : Graph → GridSize → ℕ
+edges_first g grid = 1 + length g.nodes * (grid.height + grid.width)
+
+abbrev pub edge_first : Graph → GridSize → ℕ → ℕ
+edge_first g grid e = edges_first g grid + e * edge_size grid.height grid.width
+
+abbrev pub drawing_vars : Graph → GridSize → DrawingVars
+drawing_vars g grid = record {
+  node = node_at grid;
+  edge = λ e. edge_lits (edge_first g grid e) grid.height grid.width;
+}
+
+abbrev pub laws_first : Graph → GridSize → ℕ
+laws_first g grid = edge_first g grid (length g.edges)
+
+-- The instances that have clauses: laws 2 and 5 for each two nodes, 4 for each node, 6 and 7 for each two
+-- edges, as the tables have them.
+
+-- the lists of f at first and the n - 1 numbers after it
+abbrev pub listed : (ℕ → List Instance) → ℕ → ℕ → List Instance
+listed f first zero = []
+listed f first (suc n) = f first ++ listed f (first + 1) n
+
+-- those of each two numbers below n, the smaller first
+abbrev pub row : ℕ → (ℕ → ℕ → List Instance) → ℕ → List Instance
+row n f a = listed (f a) (a + 1) (n - (a + 1))
+
+abbrev pub pairs : ℕ → (ℕ → ℕ → List Instance) → List Instance
+pairs n f = listed (row n f) 0 n
+
+-- of two edges, the smaller number first: which law they have
+abbrev pub below_by : Bool → Bool → Bool → ℕ → ℕ → List Instance
+below_by above below overlap e f = cond below (Over f e ∷ []) [] ++ cond (above || (below || not overlap)) [] (Parted e f ∷ [])
+
+abbrev pub pair_by : Bool → Bool → Bool → ℕ → ℕ → List Instance
+pair_by above below overlap e f = cond above (Over e f ∷ []) [] ++ below_by above below overlap e f
+
+abbrev pub edge_pair : (ℕ → ℕ → Bool) → (ℕ → ℕ → Bool) → ℕ → ℕ → List Instance
+edge_pair above overlap e f = pair_by (above e f) (above f e) (overlap e f) e f
+
+abbrev pub instances : Graph → (ℕ → ℕ → Bool) → (ℕ → ℕ → Bool) → List Instance
+instances g above overlap =
+    pairs (length g.nodes) (λ u v. Ordered u v ∷ []) ++ (listed (λ n. Aligned n ∷ []) 0 (length g.nodes)
+    ++ (pairs (length g.nodes) (λ u v. Apart u v ∷ []) ++ pairs (length g.edges) (edge_pair above overlap)))
+
+-- The parts.
+
+abbrev pub node_clauses : NodeInts → Clauses
+node_clauses n = int_clauses n.y ++ int_clauses n.x
+
+abbrev pub edge_part : Graph → DrawingVars → GridSize → ℕ → Clauses
+edge_part g x grid e = edge_clauses (x.edge e) (x.node (edge g e).west) (x.node (edge g e).east) grid.least grid.height grid.width
+
+abbrev pub base_clauses : Graph → DrawingVars → GridSize → Clauses
+base_clauses g x grid = each (λ n. node_clauses (x.node n)) 0 (length g.nodes) ++ each (edge_part g x grid) 0 (length g.edges)
+
+abbrev pub expected_clauses : Graph → GridSize → List Instance → Clauses
+expected_clauses g grid laws =
+    base_clauses g (drawing_vars g grid) grid ++ laws_clauses g (drawing_vars g grid) grid.width (laws_first g grid) laws
+
+-- how many variables it has
+abbrev pub expected_size : Graph → GridSize → List Instance → ℕ
+expected_size g grid laws = laws_first g grid + laws_size g laws - 1
+
+-- The formula of a graph whose tables say which edges are above which, and which overlap.
+
+abbrev pub formula_clauses : Graph → (ℕ → ℕ → Bool) → (ℕ → ℕ → Bool) → GridSize → Clauses
+formula_clauses g above overlap grid = expected_clauses g grid (instances g above overlap)
+
+abbrev pub formula_size : Graph → (ℕ → ℕ → Bool) → (ℕ → ℕ → Bool) → GridSize → ℕ
+formula_size g above overlap grid = expected_size g grid (instances g above overlap)
+
+-- What a list of clauses over these variables is to be.
+
+-- the assignment stands for a lawful drawing
+pub record StandsForLawful (v : Assignment) (g : Graph) (above : ℕ → ℕ → Bool) (grid : GridSize) (x : DrawingVars) : Type 0 where
+  pub drawing : Drawing
+  pub stands : Stands v g x drawing
+  pub lawful : Lawful g above grid drawing
+
+abbrev pub Sound : Graph → (ℕ → ℕ → Bool) → GridSize → DrawingVars → Clauses → Type 0
+Sound g above grid x clauses = (v : Assignment) → SatisfiesAll v clauses → StandsForLawful v g above grid x
+
+-- an assignment that satisfies the clauses and stands for the drawing
+pub record ModelOf (g : Graph) (x : DrawingVars) (clauses : Clauses) (d : Drawing) : Type 0 where
+  pub to : Assignment
+  pub satisfies : SatisfiesAll to clauses
+  pub stands : Stands to g x d
+
+abbrev pub Covers : Graph → (ℕ → ℕ → Bool) → GridSize → DrawingVars → Clauses → Type 0
+Covers g above grid x clauses = (d : Drawing) → Lawful g above grid d → ModelOf g x clauses d

@@ -1,0 +1,87 @@
+// Nodes and edges of the formula.
+ghost use Rattle.std.specs.Prelude.{◌≡◌, ◌≤◌, ◌<◌, ◌+◌, ◌-◌, ◌*◌, ◌++◌, length, IfOk};
+ghost use Rattle.cnf_core.specs.declared.limits.TheConstants.{VARS};
+ghost use Rattle.cnf_core.specs.Formula.{each};
+ghost use Rattle.cnf_core.specs.Added.{AddsClauses, AddsBlock};
+ghost use Rattle.edge_shape.specs.EdgeVars.{edge_size};
+ghost use Rattle.drawing_cnf.specs.Expected.{node_at, drawing_vars, edge_first, edges_first, node_clauses, edge_part, base_clauses};
+
+use crate::node_laws::node_vars;
+use cnf_core::{CnfFault, Formula};
+use edge_shape::add_edge;
+use order_int::add_int;
+use plan_core::{EdgeNo, Grid};
+use port_graph::PortGraph;
+
+/// The clauses of a node's integers.
+#[tactic(auto, using(cnf_core::proofs::StepLemmas::adds_longer))]
+fn add_node(f: &mut Formula, grid: &Grid, n: u16) -> Result<(), CnfFault>
+    requires limit { f.old.vars ≤ VARS }
+    requires n { n ≤ 128 }
+    requires there { 1 + n * (grid.now.height + grid.now.width) + grid.now.height + grid.now.width ≤ f.old.vars + 1 }
+    ensures { AddsClauses result f.old f.new (node_clauses (node_at grid.now n)) 2 }
+{
+    let vars = node_vars(grid, n);
+    add_int(f, &vars.y)?;
+    add_int(f, &vars.x)
+}
+
+/// The clauses of all nodes' integers.
+fn add_node_clauses(f: &mut Formula, grid: &Grid, count: u16) -> Result<(), CnfFault>
+    requires limit { f.old.vars ≤ VARS }
+    requires count { count ≤ 128 }
+    requires there { 1 + count * (grid.now.height + grid.now.width) ≤ f.old.vars + 1 }
+    ensures { AddsClauses result f.old f.new (each (λ n. node_clauses (node_at grid.now n)) 0 count) 2 }
+{
+    for n in 0..count {
+        add_node(f, grid, n)?;
+    }
+    Ok(())
+}
+
+/// All nodes.
+fn add_nodes(f: &mut Formula, grid: &Grid, count: u16) -> Result<(), CnfFault>
+    requires empty { f.old.vars ≡ 0 }
+    requires count { count ≤ 128 }
+    ensures { AddsBlock result f.old f.new (count * (grid.now.height + grid.now.width)) (each (λ n. node_clauses (node_at grid.now n)) 0 count) 7 }
+{
+    let high = u32::from(grid.height());
+    let width = u32::from(grid.width());
+    f.new_vars(u32::from(count) * (high + width))?;
+    add_node_clauses(f, grid, count)
+}
+
+/// An edge.
+fn add_edge_at(f: &mut Formula, g: &PortGraph, grid: &Grid, e: u16) -> Result<(), CnfFault>
+    requires there { f.old.vars + 1 ≡ edge_first g.now grid.now e }
+    requires e { e < length g.now.edges }
+    ensures { AddsBlock result f.old f.new (edge_size grid.now.height grid.now.width) (edge_part g.now (drawing_vars g.now grid.now) grid.now e) 7 }
+{
+    let _ = g.nodes();
+    let west = node_vars(grid, g.west(EdgeNo(e)).0);
+    let east = node_vars(grid, g.east(EdgeNo(e)).0);
+    add_edge(f, grid, &west, &east)?;
+    Ok(())
+}
+
+/// All edges.
+fn add_edges(f: &mut Formula, g: &PortGraph, grid: &Grid) -> Result<(), CnfFault>
+    requires there { f.old.vars + 1 ≡ edges_first g.now grid.now }
+    ensures { AddsBlock result f.old f.new (length g.now.edges * edge_size grid.now.height grid.now.width) (each (edge_part g.now (drawing_vars g.now grid.now) grid.now) 0 (length g.now.edges)) 7 }
+{
+    let end = g.edges();
+    for e in 0..end {
+        add_edge_at(f, g, grid, e)?;
+    }
+    Ok(())
+}
+
+/// Nodes and edges.
+pub(crate) fn add_base(f: &mut Formula, g: &PortGraph, grid: &Grid) -> Result<(), CnfFault>
+    requires empty { f.old.vars ≡ 0 }
+    ensures { AddsBlock result f.old f.new (length g.now.nodes * (grid.now.height + grid.now.width) + length g.now.edges * edge_size grid.now.height grid.now.width) (base_clauses g.now (drawing_vars g.now grid.now) grid.now) 7 }
+{
+    let count = g.nodes();
+    add_nodes(f, grid, count)?;
+    add_edges(f, g, grid)
+}
