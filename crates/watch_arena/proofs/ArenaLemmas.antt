@@ -54,6 +54,9 @@ arena_new vars room v r = record {
   };
 }
 
+pub none_watched : (a : Attached) (m : Marks) → a.places ≡ [] → AreWatched a m
+none_watched a m e = record { right = λ p c. absurd (not_in_none p (subst (λ (ps : List ℕ). Contains ps p) e c)) }
+
 -- each clause is one of distinct variables in range
 upto_there : (vars : ℕ) (ws places : List ℕ) (p n : ℕ) → IsStore vars ws places → Contains places p → n ≤ at ws p → AreThere vars (lits_upto ws p n)
 upto_there vars ws places p zero h c le = tt

@@ -51,6 +51,7 @@ impl Arena {
         ensures words { IfOk result (λ a. length a.words ≡ 1) }
         ensures places { IfOk result (λ a. a.places ≡ []) }
         ensures visits { IfOk result (λ a. a.visits ≡ 0) }
+        ensures watched { IfOk result (λ a. (m : Marks) → AreWatched a m) }
     {
         Ok(Arena {
             vars,

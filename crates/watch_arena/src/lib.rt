@@ -19,6 +19,8 @@ mod clause_ref;
 mod fault;
 mod looks;
 mod tables;
+#[cfg(test)]
+mod tests;
 mod trail;
 mod visits;
 mod walks;

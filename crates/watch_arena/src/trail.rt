@@ -46,6 +46,7 @@ impl Trail {
         ensures cuts { IfOk result (λ t. t.cuts ≡ []) }
         ensures front { IfOk result (λ t. t.front ≡ 0) }
         ensures marks { IfOk result (λ t. IsMarks t) }
+        ensures reasoned { IfOk result (λ t. (a : Attached) → AreReasoned a t) }
     {
         let literals = 2 * vars as usize + 2;
         Ok(Trail {
