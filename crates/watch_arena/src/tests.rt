@@ -109,3 +109,19 @@ fn one_clause_of_a_thousand_is_looked_at(rt: HostRuntime) {
     assert!(rt; trail.len() == 2);
     assert!(rt; arena.visits() <= 2);
 }
+
+#[test]
+fn further_variables_are_unset(rt: HostRuntime) {
+    let alloc = rt.alloc();
+    let mut trail = Trail::with_vars(alloc, 1).expect(&rt, "memory");
+    let mut arena = Arena::new(alloc, 1, 100).expect(&rt, "memory");
+    trail.add_vars(1).expect(&rt, "memory");
+    arena.add_vars(1).expect(&rt, "memory");
+    let two = Lit::new(Var(2), true);
+    assert!(rt; trail.value(two).is_none());
+    trail.decide(two);
+    let clash = arena.propagate(&mut trail);
+    assert!(rt; clash.is_none());
+    trail.undo_to(0);
+    assert!(rt; trail.len() == 0);
+}
