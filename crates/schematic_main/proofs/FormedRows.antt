@@ -13,7 +13,8 @@ use Rattle.railml_read.specs.Progress.{State, step, start}
 use Rattle.railml_read.specs.Formed.{AreFormed}
 use Rattle.railml_read.proofs.RowLemmas.{gone_by}
 use Rattle.railml_read.proofs.FormedLemmas.{IsFormedUpTo, formed_start, formed_later, formed_item, all_formed}
-use Rattle.schematic_main.specs.Input.{file_limit, HasRows}
+use Rattle.plan_core.specs.declared.limits.TheConstants.{MAX_FILE_BYTES}
+use Rattle.schematic_main.specs.Input.{HasRows}
 
 -- the rows of items are formed up to where the items end
 formed_through : (first : Bool) (at : ℕ) (bytes : List ℕ) (items : List Placed) (rest : List ℕ) (s : State) → Cuts first at bytes items rest → IsFormedUpTo s at → IsFormedUpTo (fold step s (tags_in items)) (at + length bytes)
@@ -32,17 +33,17 @@ formed_through first at bytes (item ∷ items) rest s cut formed =
 
 pub rows_formed : (bytes : List ℕ) (rows : List Elem) → HasRows bytes rows → AreFormed rows
 rows_formed bytes rows has =
-    let spells = has.are_rows.spells in
-    let root = root_of has.are_rows.tree in
+    let spells = has.gives.are_rows.spells in
+    let root = root_of has.gives.are_rows.tree in
     let begins = start_of bytes in
     let behind = drop begins bytes in
     let few = has.few in
     let within = start_within bytes in
-    let long : begins + length behind ≤ file_limit = omega (arith, length-drop begins bytes, within, few) in
+    let long : begins + length behind ≤ MAX_FILE_BYTES = omega (arith, length-drop begins bytes, within, few) in
     let formed = formed_through true begins behind spells.items [] start spells.cut.cut (formed_start begins) in
     let all = all_formed (fold step start (tags_in spells.items)) (begins + length behind) long formed in
     let made : (fold step start (tags_in spells.items)).rows ≡ rows =
     ap (λ (tags : List Tag). (fold step start tags).rows) (spells.tags ∙ sym (append-nil (tags_of root)))
     ∙ ap (λ (s : State). s.rows) (gone_by root start [])
-    ∙ sym has.are_rows.found in
+    ∙ sym has.gives.are_rows.found in
     subst AreFormed made all

@@ -21,11 +21,12 @@ use Rattle.plan_core.specs.declared.criterion.Criterion.TheVariants.{Height, Ben
 use Rattle.plan_core.specs.declared.sides.Compass.TheVariants.{East, West}
 use Rattle.plan_core.specs.Grid.{GridSize}
 use Rattle.plan_core.specs.Graph.{Graph, Ports, End, Joint, Switch, Crossing, node, edge, mileage, IsEndOf, ArePortsOf, IsTrackGraph}
-use Rattle.plan_core.specs.Line.{Piece, pieces_from, is_piece, is_shape, slope, run, is_line}
-use Rattle.plan_core.specs.Drawing.{Drawing, place, all_points}
+use Rattle.plan_core.specs.Line.{Piece, pieces_from, is_piece, is_shape, slope, run, is_line, west_end, east_end}
+use Rattle.plan_core.specs.Drawing.{Drawing, place, line, all_points}
 use Rattle.plan_core.specs.Laws.{InOrder, IsOnGrid, NodeIsOnGrid, LineIsOnGrid, NodesAreOrdered, LineJoinsItsNodes, PortsAreAligned, slope_at, NodeIsAligned, NodesAreApart}
 use Rattle.plan_core.specs.Lawful.{Instance, NodeOnGrid, LineOnGrid, Ordered, Joined, Aligned, Apart, Over, Parted, IsInstance, IsPair, Meets, Fits}
 use Rattle.plan_core.specs.Values.{maximum, values_of, value_of, Better, IsBest}
+use Rattle.plan_geometry.proofs.GreatestLemmas.{maximum-append}
 use Rattle.track_order.specs.Above.{Above}
 use Rattle.track_order.specs.Order.{EdgeOrder, is_above, IsOrderOf}
 use Rattle.plan_text.specs.SheetText.{Sheet, DrawsAll, DrawsOnGrid, StatesSettled}
@@ -165,10 +166,6 @@ as_small [] a b least h = h
 as_small (c ∷ rest) a b least (inl less) = let k = least c in absurd (omega (arith, less, k))
 as_small (c ∷ rest) a b least (inr same) = as_small rest a b least same.1
 
-maximum-append : (xs ys : List ℕ) → maximum (xs ++ ys) ≡ max (maximum xs) (maximum ys)
-maximum-append [] ys = omega arith
-maximum-append (x ∷ xs) ys = omega (arith, maximum-append xs ys)
-
 abbrev x_of : Point → ℕ
 x_of p = p.x
 
@@ -211,8 +208,8 @@ one_line : All (λ l. is_line l ≡ true) ((at_column 0 ∷ at_column 1 ∷ []) 
 one_line = All-cons (λ l. is_line l ≡ true) (at_column 0 ∷ at_column 1 ∷ []) [] refl (All-nil (λ l. is_line l ≡ true))
 
 its_fit : (g : Graph) (b : Bool) → IsPlain g b → Fits g (level_drawing b)
-its_fit g true s = record { places = sym s.two; lines = sym s.one; are_lines = one_line }
-its_fit g false s = record { places = sym s.two; lines = sym s.one; are_lines = one_line }
+its_fit g true s = record { size = record { places = sym s.two; lines = sym s.one }; are_lines = one_line }
+its_fit g false s = record { size = record { places = sym s.two; lines = sym s.one }; are_lines = one_line }
 
 on_row : (grid : GridSize) (x : ℕ) → x ≤ grid.width → IsOnGrid grid (at_column x)
 on_row grid x wide = record { in_width = wide; in_height = omega arith }
@@ -238,11 +235,22 @@ ordered g false s u v h =
     let P : Ordering → Type 0 = λ o. InOrder o 1 0 in
     pair_of_two (λ u v. NodesAreOrdered g (level_drawing false) u v) (subst P (int_cmp_is (mileage g 0) (mileage g 1) Greater s.forward) (omega arith)) u v h
 
-joined : (g : Graph) (grid : GridSize) (b : Bool) → IsPlain g b → (e : ℕ) → e < 1 → LineJoinsItsNodes g grid (level_drawing b) e
-joined g grid true s e h =
-    below_one (λ n. LineJoinsItsNodes g grid (level_drawing true) n) (record { begins = ap (λ (n : ℕ). place (level_drawing true) n) (sym s.west); ends = ap (λ (n : ℕ). place (level_drawing true) n) (sym s.east) }) e h
-joined g grid false s e h =
-    below_one (λ n. LineJoinsItsNodes g grid (level_drawing false) n) (record { begins = ap (λ (n : ℕ). place (level_drawing false) n) (sym s.west); ends = ap (λ (n : ℕ). place (level_drawing false) n) (sym s.east) }) e h
+-- the line of a level drawing whose nodes stand at these columns
+joined_at : (g : Graph) (grid : GridSize) (d : Drawing) → grid.least ≡ 1 → at_column 0 ≡ place d (edge g 0).west → at_column 1 ≡ place d (edge g 0).east → line d 0 ≡ at_column 0 ∷ at_column 1 ∷ [] → (e : ℕ) → e < 1 → LineJoinsItsNodes g grid d e
+joined_at g grid d short begins ends is e h =
+    let west : 0 ≡ (place d (edge g 0).west).x = ap x_of begins in
+    let east : 1 ≡ (place d (edge g 0).east).x = ap x_of ends in
+    below_one (λ n. LineJoinsItsNodes g grid d n) (record {
+      begins = ap west_end is ∙ begins;
+      ends = ap east_end is ∙ ends;
+      is_long = omega (arith, west, east, short);
+    }) e h
+
+joined : (g : Graph) (grid : GridSize) (b : Bool) → IsPlain g b → grid.least ≡ 1 → (e : ℕ) → e < 1 → LineJoinsItsNodes g grid (level_drawing b) e
+joined g grid true s short e h =
+    joined_at g grid (level_drawing true) short (ap (λ (n : ℕ). place (level_drawing true) n) (sym s.west)) (ap (λ (n : ℕ). place (level_drawing true) n) (sym s.east)) refl e h
+joined g grid false s short e h =
+    joined_at g grid (level_drawing false) short (ap (λ (n : ℕ). place (level_drawing false) n) (sym s.west)) (ap (λ (n : ℕ). place (level_drawing false) n) (sym s.east)) refl e h
 
 one_slope : (b : Bool) → (if b then Level else Level) ≡ Level
 one_slope true = refl
@@ -270,28 +278,28 @@ none_over above never zero zero first second h = never h
 none_over above never (suc e) f first second h = omega (arith, first)
 none_over above never e (suc f) first second h = omega (arith, second)
 
-its_laws : (g : Graph) (above : ℕ → ℕ → Bool) (grid : GridSize) (b : Bool) → IsPlain g b → (above 0 0 ≡ true → ⊥) → 1 ≤ grid.width → (i : Instance) → IsInstance g above i → Meets g grid (level_drawing b) i
-its_laws g above grid b s never wide (NodeOnGrid n) h = node_on_grid grid b wide n (subst (λ (k : ℕ). n < k) s.two h)
-its_laws g above grid b s never wide (LineOnGrid e) h = line_on_grid grid b wide e (subst (λ (k : ℕ). e < k) s.one h)
-its_laws g above grid b s never wide (Ordered u v) h = ordered g b s u v (subst (λ (k : ℕ). IsPair k u v) s.two h)
-its_laws g above grid b s never wide (Joined e) h = joined g grid b s e (subst (λ (k : ℕ). e < k) s.one h)
-its_laws g above grid b s never wide (Aligned n) h = aligned g b n (s.ends n h)
-its_laws g above grid b s never wide (Apart u v) h = places_apart b u v (subst (λ (k : ℕ). IsPair k u v) s.two h)
-its_laws g above grid b s never wide (Over e f) h =
+its_laws : (g : Graph) (above : ℕ → ℕ → Bool) (grid : GridSize) (b : Bool) → IsPlain g b → (above 0 0 ≡ true → ⊥) → 1 ≤ grid.width → grid.least ≡ 1 → (i : Instance) → IsInstance g above i → Meets g grid (level_drawing b) i
+its_laws g above grid b s never wide short (NodeOnGrid n) h = node_on_grid grid b wide n (subst (λ (k : ℕ). n < k) s.two h)
+its_laws g above grid b s never wide short (LineOnGrid e) h = line_on_grid grid b wide e (subst (λ (k : ℕ). e < k) s.one h)
+its_laws g above grid b s never wide short (Ordered u v) h = ordered g b s u v (subst (λ (k : ℕ). IsPair k u v) s.two h)
+its_laws g above grid b s never wide short (Joined e) h = joined g grid b s short e (subst (λ (k : ℕ). e < k) s.one h)
+its_laws g above grid b s never wide short (Aligned n) h = aligned g b n (s.ends n h)
+its_laws g above grid b s never wide short (Apart u v) h = places_apart b u v (subst (λ (k : ℕ). IsPair k u v) s.two h)
+its_laws g above grid b s never wide short (Over e f) h =
     absurd (none_over above never e f (subst (λ (k : ℕ). e < k) s.one h.first) (subst (λ (k : ℕ). f < k) s.one h.second) h.is_above)
-its_laws g above grid b s never wide (Parted e f) h = let one = s.one in let r = h.pair.rising in let w = h.pair.within in absurd (omega (arith, one, r, w))
+its_laws g above grid b s never wide short (Parted e f) h = let one = s.one in let r = h.pair.rising in let w = h.pair.within in absurd (omega (arith, one, r, w))
 
-is_best : (g : Graph) (above : ℕ → ℕ → Bool) (grid : GridSize) (order : List Criterion) (b : Bool) → IsPlain g b → (above 0 0 ≡ true → ⊥) → 1 ≤ grid.width → IsBest g above grid order (level_drawing b)
-is_best g above grid order b s never wide = record {
-  lawful = record { fits = its_fit g b s; laws = its_laws g above grid b s never wide };
-  none_better = λ other lawful. as_small order (values_of other) (values_of (level_drawing b)) (least_values other b (lawful.fits.lines ∙ s.one) lawful.fits.are_lines);
+is_best : (g : Graph) (above : ℕ → ℕ → Bool) (grid : GridSize) (order : List Criterion) (b : Bool) → IsPlain g b → (above 0 0 ≡ true → ⊥) → 1 ≤ grid.width → grid.least ≡ 1 → IsBest g above grid order (level_drawing b)
+is_best g above grid order b s never wide short = record {
+  lawful = record { fits = its_fit g b s; laws = its_laws g above grid b s never wide short };
+  none_better = λ other lawful. as_small order (values_of other) (values_of (level_drawing b)) (least_values other b (lawful.fits.size.lines ∙ s.one) lawful.fits.are_lines);
 }
 
-pub level_is_best : (g : Graph) (above : ℕ → ℕ → Bool) (grid : GridSize) (order : List Criterion) (b : Bool) (d : Drawing) → IsTrackGraph g → length g.edges ≡ 1 → (above 0 0 ≡ true → ⊥) → 1 ≤ grid.width →
+pub level_is_best : (g : Graph) (above : ℕ → ℕ → Bool) (grid : GridSize) (order : List Criterion) (b : Bool) (d : Drawing) → IsTrackGraph g → length g.edges ≡ 1 → (above 0 0 ≡ true → ⊥) → 1 ≤ grid.width → grid.least ≡ 1 →
     b ≡ ((edge g 0).west == 0) → d ≡ level_drawing b → IsBest g above grid order d
-level_is_best g above grid order b d t one never wide is_first drawn =
+level_is_best g above grid order b d t one never wide short is_first drawn =
     let plain_so : IsPlain g b = subst (λ (c : Bool). IsPlain g c) (sym is_first) (is_plain g t one) in
-    subst (λ (e : Drawing). IsBest g above grid order e) (sym drawn) (is_best g above grid order b plain_so never wide)
+    subst (λ (e : Drawing). IsBest g above grid order e) (sym drawn) (is_best g above grid order b plain_so never wide short)
 
 -- no edge is above itself
 pub not_above_itself : (g : Graph) (o : EdgeOrder) → IsOrderOf g o → length g.edges ≡ 1 → is_above o 0 0 ≡ true → ⊥

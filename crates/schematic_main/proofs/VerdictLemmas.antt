@@ -1,6 +1,7 @@
 -- There is one answer to a sheet, and to a file and a sheet; where the sheet has a drawing it is the verdict on it.
-use Rattle.std.proofs.Common.{◌≡◌, ◌↔◌, ℕ, ◌<◌, Bool, true, false, List, length, Some, refl, sym, ◌∙◌, ap, subst, inl, inr, arith}
+use Rattle.std.proofs.Common.{◌≡◌, ◌↔◌, ℕ, ◌<◌, true, List, length, Some, sym, ◌∙◌, ap, subst, inl, inr, arith}
 use Rattle.plan_core.specs.Grid.{GridSize}
+use Rattle.plan_core.proofs.TruthFacts.{same_when}
 use Rattle.plan_core.specs.Graph.{Graph}
 use Rattle.plan_core.specs.Drawing.{Drawing}
 use Rattle.plan_core.specs.Values.{values_of}
@@ -15,7 +16,7 @@ use Rattle.plan_text.specs.SheetFaults.{IsDrawingOf}
 use Rattle.plan_text.proofs.SheetLaws.{one_sheet, one_kind, one_line, sheet_or_fault}
 use Rattle.schematic_main.specs.declared.fault.RunFault.{RunFault}
 use Rattle.schematic_main.specs.declared.fault.RunFault.TheVariants.{Sheet}
-use Rattle.schematic_main.specs.Fault.{IsFault, fault_status, fault_line}
+use Rattle.schematic_main.specs.Fault.{IsFaultLine, fault_status, fault_line}
 use Rattle.schematic_main.specs.Input.{HasStation}
 use Rattle.schematic_main.specs.Verdict.{IsVerdict, IsSheetJudged, lawful_line, broken_line}
 use Rattle.schematic_main.specs.Answer.{IsVerified}
@@ -26,7 +27,7 @@ pub record SameAnswer (status other : ℕ) (text another : List ℕ) : Type 0 wh
   pub text_is : text ≡ another
 
 -- the answers of one fault are the same
-one_refusal : (fault found : RunFault) (status other : ℕ) (text another : List ℕ) → fault ≡ found → IsFault fault status text → IsFault found other another → SameAnswer status other text another
+one_refusal : (fault found : RunFault) (status other : ℕ) (text another : List ℕ) → fault ≡ found → IsFaultLine fault status text → IsFaultLine found other another → SameAnswer status other text another
 one_refusal fault found status other text another same a b = record {
   status_is = a.status_is ∙ ap fault_status same ∙ sym b.status_is;
   text_is = a.line_is ∙ ap fault_line same ∙ sym b.line_is;
@@ -115,17 +116,12 @@ lawful_has_line g o sheet grid d status text has judged lawful = verdict_line g 
 
 -- ---- the order of a graph, as far as it is asked
 
-same_truth : (a b : Bool) → (a ≡ true → b ≡ true) → (b ≡ true → a ≡ true) → a ≡ b
-same_truth true b there back = sym (there refl)
-same_truth false true there back = back refl
-same_truth false false there back = refl
-
 -- two orders of a graph say the same of its edges
 same_above : (g : Graph) (o p : EdgeOrder) (e f : ℕ) → IsOrderOf g o → IsOrderOf g p → e < length g.edges → f < length g.edges → is_above o e f ≡ is_above p e f
 same_above g o p e f first second less also =
     let a = first.above e f less also in
     let b = second.above e f less also in
-    same_truth (is_above o e f) (is_above p e f) (λ is. b.1 (a.0 is)) (λ is. a.1 (b.0 is))
+    same_when (is_above o e f) (is_above p e f) (λ is. b.1 (a.0 is)) (λ is. a.1 (b.0 is))
 
 -- so the laws speak of the same parties
 same_parties : (g : Graph) (o p : EdgeOrder) (i : Instance) → IsOrderOf g o → IsOrderOf g p → IsInstance g (is_above o) i → IsInstance g (is_above p) i

@@ -7,22 +7,22 @@ use Rattle.track_order.specs.Order.{EdgeOrder}
 use Rattle.schematic_main.specs.declared.fault.RunFault.TheVariants.{Long, ReadFailed}
 use Rattle.schematic_main.specs.declared.input.Refusal.{Refusal}
 use Rattle.schematic_main.specs.declared.input.Refusal.TheVariants as refusals
-use Rattle.schematic_main.specs.Input.{IsLong, IsShort, HasStation, HasFault}
+use Rattle.schematic_main.specs.Input.{IsLong, IsShort, HasStation, HasFileFault}
 
 -- the file of this name has this property, or contents aren't told and some bytes have it
 abbrev pub IsOfFile : (List ℕ → Type 0) → List ℕ → Option Told → Type 0
 IsOfFile P input contents = (bytes : List ℕ) × IsFileWhereTold contents input bytes × P bytes
 
--- these are the bytes of the file of this name, and they aren't too many
-pub record IsInput (name : List ℕ) (contents : Option Told) (bytes : List ℕ) : Type 0 where
+-- these are the bytes of the file of this name, and they aren't more than it may have
+pub record IsInput (limit : ℕ) (name : List ℕ) (contents : Option Told) (bytes : List ℕ) : Type 0 where
   pub is_file : IsFileWhereTold contents name bytes
-  pub short : IsShort bytes
+  pub short : IsShort limit bytes
 
 -- the input of this number, which is the file of this name, is too long, or it couldn't be read
-abbrev pub IsUnreadInput : (number : ℕ) → List ℕ → Option Told → (failed : Type 0) → Refusal → Type 0
-IsUnreadInput number name contents failed (refusals.Fault fault) =
-    (IsOfFile IsLong name contents × (fault ≡ Long number)) ⊎ (failed × (fault ≡ ReadFailed number))
-IsUnreadInput number name contents failed refusals.Memory = ⊤
+abbrev pub IsUnreadInput : (number limit : ℕ) → List ℕ → Option Told → (failed : Type 0) → Refusal → Type 0
+IsUnreadInput number limit name contents failed (refusals.Fault fault) =
+    (IsOfFile (IsLong limit) name contents × (fault ≡ Long number)) ⊎ (failed × (fault ≡ ReadFailed number))
+IsUnreadInput number limit name contents failed refusals.Memory = ⊤
 
 abbrev pub IsStationOf : List ℕ → Option Told → Graph → EdgeOrder → Type 0
 IsStationOf input contents g o = IsOfFile (λ bytes. HasStation bytes g o) input contents
@@ -30,5 +30,5 @@ IsStationOf input contents g o = IsOfFile (λ bytes. HasStation bytes g o) input
 -- the file has this fault, or it couldn't be read
 abbrev pub IsRefusalOf : List ℕ → Option Told → (ℕ → Type 0) → Refusal → Type 0
 IsRefusalOf input contents fails (refusals.Fault fault) =
-    IsOfFile (λ bytes. HasFault bytes fault) input contents ⊎ (fails 0 × (fault ≡ ReadFailed 1))
+    IsOfFile (λ bytes. HasFileFault bytes fault) input contents ⊎ (fails 0 × (fault ≡ ReadFailed 1))
 IsRefusalOf input contents fails refusals.Memory = ⊤

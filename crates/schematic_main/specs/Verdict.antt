@@ -14,11 +14,11 @@ use Rattle.lawful_check.specs.declared.law_break.LawBreak.{LawBreak}
 use Rattle.lawful_check.specs.declared.law_break.Party.{Party}
 use Rattle.lawful_check.specs.declared.law_break.Party.TheVariants as party
 use Rattle.lawful_check.specs.Breaks.{IsLeastBreak}
-use Rattle.plan_text.specs.Fields.{line_text}
+use Rattle.line_text.specs.Fields.{line_text}
 use Rattle.plan_text.specs.declared.sheet_fault.SheetWhat.{SheetWhat}
-use Rattle.plan_text.specs.SheetFaults.{IsDrawingOf, IsFirstFault}
+use Rattle.plan_text.specs.SheetFaults.{IsDrawingOf, HasSheetFault}
 use Rattle.schematic_main.specs.declared.fault.RunFault.TheVariants.{Sheet}
-use Rattle.schematic_main.specs.Fault.{IsFault}
+use Rattle.schematic_main.specs.Fault.{IsFaultLine}
 
 -- ---- the lines
 
@@ -70,12 +70,12 @@ pub record IsDrawingJudged (g : Graph) (o : EdgeOrder) (sheet : List ℕ) (statu
 pub record IsSheetRefused (g : Graph) (sheet : List ℕ) (status : ℕ) (text : List ℕ) : Type 0 where
   pub what : SheetWhat
   pub line : ℕ
-  pub first : IsFirstFault g true sheet what line
-  pub told : IsFault (Sheet what line) status text
+  pub first : HasSheetFault g true sheet what line
+  pub told : IsFaultLine (Sheet what line) status text
 
 abbrev pub IsSheetJudged : Graph → EdgeOrder → List ℕ → ℕ → List ℕ → Type 0
 IsSheetJudged g o sheet status text = IsDrawingJudged g o sheet status text ⊎ IsSheetRefused g sheet status text
 
 -- the sheet's text has no fault, a drawing being due
 pub record IsSoundSheet (g : Graph) (sheet : List ℕ) : Type 0 where
-  pub sound : (what : SheetWhat) (line : ℕ) → IsFirstFault g true sheet what line → ⊥
+  pub sound : (what : SheetWhat) (line : ℕ) → HasSheetFault g true sheet what line → ⊥

@@ -2,7 +2,7 @@
 ghost use Rattle.std.specs.Prelude.{◌≡◌, ◌≤◌, ◌⊎◌, [], IfOk, IsTrue, IsFalse, None, length};
 ghost use Rattle.outside_io.specs.Contents.{WhereTold, SameFiles};
 ghost use Rattle.track_order.specs.Order.{IsOrderOf};
-ghost use Rattle.schematic_main.specs.Answer.{IsUnbuilt, IsDrawing, IsPrinted, IsJudged, IsAnswerOn, IsAnswerTo, IsUnread, FailsIn, ReadFails, inputs_of};
+ghost use Rattle.schematic_main.specs.Answer.{IsUnbuilt, IsDrawAnswer, IsPrinted, IsFileJudged, IsAnswerOn, IsAnswerTo, IsUnread, FailsIn, ReadFails, inputs_of};
 
 use crate::fault::RunFault;
 use crate::input::{Refusal, Station};
@@ -11,19 +11,20 @@ use crate::reading::station_of;
 use crate::reply::{Reply, fault_reply};
 use crate::verify::verify;
 use outside_io::Files;
-use plan_core::{Grid, Order, OutOfMemory, Text};
+use plan_core::{Grid, MAX_FILE_BYTES, Order, OutOfMemory, Text};
 use plan_text::write_graph;
 use plan_words::Command;
 use port_graph::PortGraph;
 use std::alloc::Global;
 
-/// Whether the drawing of such a graph, with such files to write, isn't built yet.
-fn is_unbuilt(g: &PortGraph, svg: &Option<Text>, log: &Option<Text>) -> bool
-    ensures unbuilt { IsTrue result → IsUnbuilt g.now svg.now log.now }
-    ensures built { IsFalse result → IsUnbuilt g.now svg.now log.now → ⊥ }
+/// Whether the drawing of such a graph on such a grid, with such files to write, isn't built yet.
+fn is_unbuilt(g: &PortGraph, grid: &Grid, svg: &Option<Text>, log: &Option<Text>) -> bool
+    ensures unbuilt { IsTrue result → IsUnbuilt g.now grid.now svg.now log.now }
+    ensures built { IsFalse result → IsUnbuilt g.now grid.now svg.now log.now → ⊥ }
     ensures one { IsFalse result → length g.now.edges ≡ 1 }
+    ensures short { IsFalse result → grid.now.least ≡ 1 }
 {
-    g.edges() != 1 || svg.is_some() || log.is_some()
+    g.edges() != 1 || grid.least() != 1 || svg.is_some() || log.is_some()
 }
 
 /// What `draw` answers to a station.
@@ -36,10 +37,10 @@ fn draw_station(
     log: &Option<Text>,
 ) -> Result<Reply, OutOfMemory>
     requires { IsOrderOf station.now.graph station.now.order }
-    ensures answer { IfOk result (λ r. IsDrawing station.now.graph station.now.order grid.now order.now svg.now log.now r.status r.text.items) }
+    ensures answer { IfOk result (λ r. IsDrawAnswer station.now.graph station.now.order grid.now order.now svg.now log.now r.status r.text.items) }
     ensures statuses { IfOk result (λ r. (r.status ≡ 0) ⊎ (r.status ≡ 1)) }
 {
-    if is_unbuilt(&station.graph, svg, log) {
+    if is_unbuilt(&station.graph, grid, svg, log) {
         return fault_reply(alloc, RunFault::NotBuilt);
     }
     Ok(Reply {
@@ -69,7 +70,7 @@ fn draw<F: Files>(
     log: &Option<Text>,
     files: &mut F,
 ) -> Result<Reply, OutOfMemory>
-    ensures answer { IfOk result (λ r. IsAnswerOn 1 input.now (F.contents files.old) (ReadFails F.read_faults F.reads files.old files.new 0) (IsJudged (λ g o. IsDrawing g o grid.now order.now svg.now log.now)) r.status r.text.items) }
+    ensures answer { IfOk result (λ r. IsAnswerOn 1 MAX_FILE_BYTES input.now (F.contents files.old) (ReadFails F.read_faults F.reads files.old files.new 0) (IsFileJudged (λ g o. IsDrawAnswer g o grid.now order.now svg.now log.now)) r.status r.text.items) }
     ensures statuses { IfOk result (λ r. (r.status ≡ 0) ⊎ (r.status ≡ 1) ⊎ (r.status ≡ 5)) }
     ensures read_fault { IfOk result (λ r. r.status ≡ 5 → ReadFails F.read_faults F.reads files.old files.new 0) }
     ensures later { F.read_faults files.old ≤ F.read_faults files.new }
@@ -84,7 +85,7 @@ fn draw<F: Files>(
 
 /// What `graph` answers.
 fn print<F: Files>(alloc: Global, input: &Text, files: &mut F) -> Result<Reply, OutOfMemory>
-    ensures answer { IfOk result (λ r. IsAnswerOn 1 input.now (F.contents files.old) (ReadFails F.read_faults F.reads files.old files.new 0) (IsJudged IsPrinted) r.status r.text.items) }
+    ensures answer { IfOk result (λ r. IsAnswerOn 1 MAX_FILE_BYTES input.now (F.contents files.old) (ReadFails F.read_faults F.reads files.old files.new 0) (IsFileJudged IsPrinted) r.status r.text.items) }
     ensures statuses { IfOk result (λ r. (r.status ≡ 0) ⊎ (r.status ≡ 1) ⊎ (r.status ≡ 5)) }
     ensures read_fault { IfOk result (λ r. r.status ≡ 5 → ReadFails F.read_faults F.reads files.old files.new 0) }
     ensures later { F.read_faults files.old ≤ F.read_faults files.new }

@@ -1,20 +1,20 @@
-// Why a run ends with one fault line.
+// Why a run ends with one fault line. Each fault's number and word are those of its own crate; here a line is
+// put together from them and from what the fault tells.
 ghost use Rattle.std.specs.Prelude.{◌≡◌, ◌++◌, [], ◌∷◌, codes, IfOk, OnOk};
 ghost use Rattle.std.specs.Fmt.{decimal};
-ghost use Rattle.railml_text.specs.Faults as text_faults;
-ghost use Rattle.railml_topology.specs.Faults as topology_faults;
-ghost use Rattle.plan_text.specs.Fields.{line_text, spaced};
-ghost use Rattle.plan_words.specs.FaultLine as word_faults;
-ghost use Rattle.rail_mileage.specs.MetresText.{metres_text};
-ghost use Rattle.schematic_main.specs.Fault.{fault_line, graph_line, fault_status, found_fields, text_word as word_of_text, topology_word as word_of_topology, sheet_number as number_of_sheet, sheet_word as word_of_sheet, texts_told};
+ghost use Rattle.line_text.specs.Fields.{line_text, spaced};
+ghost use Rattle.schematic_main.specs.Fault.{fault_line, told_line, fault_status, at_place, texts_told, graph_told as told_of_graph, edges_told as told_of_edges};
 
-use plan_core::{EdgeNo, Micro, OutOfMemory, Text};
-use plan_text::{SheetWhat, push_field, push_number, push_place, push_text};
-use plan_words::{WordWhat, push_word_fault};
+use line_text::{push_field, push_number_field, push_place_field, push_text};
+use plan_core::{OutOfMemory, Text};
+use plan_text::SheetWhat;
+use plan_words::WordWhat;
+use port_graph::GraphFault;
 use rail_mileage::write_metres;
 use railml_text::TextWhat;
 use railml_topology::TopologyWhat;
 use std::alloc::Global;
+use track_order::OrderFault;
 
 /// A run's fault. Its line goes to the output, and its status ends the run.
 #[derive(Drop)]
@@ -41,21 +41,10 @@ pub enum RunFault {
         first: Text,
         second: Text,
     },
-    /// The track graph would have so many nodes, and may have 128.
-    TooManyNodes(u32),
-    /// The track graph would have so many edges, and may have 160.
-    TooManyEdges(u32),
-    /// An edge of this track has one mileage at both ends, in micrometres.
-    NotForward {
-        track: Text,
-        mileage: Micro,
-    },
-    /// The edges at the node of this name don't lie on the sides that its kind asks for.
-    SideMismatch {
-        name: Text,
-    },
-    /// Each of these two edges lies above the other.
-    Contradicts(EdgeNo, EdgeNo),
+    /// The topology has no track graph.
+    Graph(GraphFault),
+    /// The edges of the track graph have no order.
+    Order(OrderFault),
     /// The text of the sheet has a fault, in the line with this number, counted from 1.
     Sheet {
         what: SheetWhat,
@@ -65,120 +54,26 @@ pub enum RunFault {
     ReadFailed(u8),
 }
 
-fn text_number(what: TextWhat) -> u32
-    ensures { result ≡ text_faults.number_of what }
+/// The front of a fault's line: its table, its number there, and its word.
+fn begun_line(alloc: Global, table: &[u8], number: u8, word: &str) -> Result<Vec<u8>, OutOfMemory>
+    ensures { IfOk result (λ v. v.items ≡ table.now ++ spaced (decimal number ∷ word.now ∷ [])) }
 {
-    match what {
-        TextWhat::NotUtf8 => 1,
-        TextWhat::Encoding => 2,
-        TextWhat::Doctype => 3,
-        TextWhat::Markup => 4,
-        TextWhat::Entity => 5,
-        TextWhat::EndTag => 6,
-        TextWhat::RepeatedAttribute => 7,
-        TextWhat::Root => 8,
-        TextWhat::Unfinished => 9,
-        TextWhat::AfterRoot => 10,
-        TextWhat::Depth => 11,
-        TextWhat::NoInfrastructure => 12,
-    }
+    let mut line = Vec::from_slice(alloc, table)?;
+    push_number_field(&mut line, u32::from(number))?;
+    push_field(&mut line, word.as_bytes())?;
+    Ok(line)
 }
 
-fn text_word(what: TextWhat) -> &'static [u8]
-    ensures { result.now ≡ word_of_text what }
+/// Appends the place where a fault was found.
+fn push_place(into: &mut Vec<u8>, at: usize) -> Result<(), OutOfMemory>
+    ensures { OnOk result (into.new.items ≡ into.old.items ++ spaced (at_place at)) }
 {
-    match what {
-        TextWhat::NotUtf8 => b"NotUtf8",
-        TextWhat::Encoding => b"Encoding",
-        TextWhat::Doctype => b"Doctype",
-        TextWhat::Markup => b"Markup",
-        TextWhat::Entity => b"Entity",
-        TextWhat::EndTag => b"EndTag",
-        TextWhat::RepeatedAttribute => b"RepeatedAttribute",
-        TextWhat::Root => b"Root",
-        TextWhat::Unfinished => b"Unfinished",
-        TextWhat::AfterRoot => b"AfterRoot",
-        TextWhat::Depth => b"Depth",
-        TextWhat::NoInfrastructure => b"NoInfrastructure",
-    }
-}
-
-fn topology_number(what: TopologyWhat) -> u32
-    ensures { result ≡ topology_faults.number_of what }
-{
-    match what {
-        TopologyWhat::NoTracks => 1,
-        TopologyWhat::TooMany => 2,
-        TopologyWhat::Missing => 3,
-        TopologyWhat::Id => 4,
-        TopologyWhat::RepeatedId => 5,
-        TopologyWhat::Number => 6,
-        TopologyWhat::UnknownRef => 7,
-        TopologyWhat::NotMutual => 8,
-        TopologyWhat::SelfRef => 9,
-        TopologyWhat::EndKind => 10,
-        TopologyWhat::Course => 11,
-        TopologyWhat::Orientation => 12,
-        TopologyWhat::OutsideTrack => 13,
-    }
-}
-
-fn topology_word(what: TopologyWhat) -> &'static [u8]
-    ensures { result.now ≡ word_of_topology what }
-{
-    match what {
-        TopologyWhat::NoTracks => b"NoTracks",
-        TopologyWhat::TooMany => b"TooMany",
-        TopologyWhat::Missing => b"Missing",
-        TopologyWhat::Id => b"Id",
-        TopologyWhat::RepeatedId => b"RepeatedId",
-        TopologyWhat::Number => b"Number",
-        TopologyWhat::UnknownRef => b"UnknownRef",
-        TopologyWhat::NotMutual => b"NotMutual",
-        TopologyWhat::SelfRef => b"SelfRef",
-        TopologyWhat::EndKind => b"EndKind",
-        TopologyWhat::Course => b"Course",
-        TopologyWhat::Orientation => b"Orientation",
-        TopologyWhat::OutsideTrack => b"OutsideTrack",
-    }
-}
-
-fn sheet_number(what: SheetWhat) -> u32
-    ensures { result ≡ number_of_sheet what }
-{
-    match what {
-        SheetWhat::Form => 1,
-        SheetWhat::Range => 2,
-        SheetWhat::Graph => 3,
-        SheetWhat::Shape => 4,
-        SheetWhat::Values => 5,
-    }
-}
-
-fn sheet_word(what: SheetWhat) -> &'static [u8]
-    ensures { result.now ≡ word_of_sheet what }
-{
-    match what {
-        SheetWhat::Form => b"Form",
-        SheetWhat::Range => b"Range",
-        SheetWhat::Graph => b"Graph",
-        SheetWhat::Shape => b"Shape",
-        SheetWhat::Values => b"Values",
-    }
-}
-
-/// Appends the number and the word of a fault, and its place.
-fn push_found(into: &mut Vec<u8>, number: u32, word: &[u8], at: usize) -> Result<(), OutOfMemory>
-    ensures { OnOk result (into.new.items ≡ into.old.items ++ spaced (found_fields number word.now at)) }
-{
-    push_number(into, number)?;
-    push_field(into, word)?;
     push_field(into, b"at")?;
-    push_place(into, at)
+    push_place_field(into, at)
 }
 
 /// Appends the texts that a topology's fault of this kind tells.
-fn push_told(
+fn push_texts(
     into: &mut Vec<u8>,
     what: TopologyWhat,
     first: &Text,
@@ -192,25 +87,71 @@ fn push_told(
             push_field(into, first.bytes())?;
             push_field(into, second.bytes())
         }
-        _ => push_field(into, first.bytes()),
+        TopologyWhat::Missing
+        | TopologyWhat::RepeatedId
+        | TopologyWhat::UnknownRef
+        | TopologyWhat::SelfRef
+        | TopologyWhat::EndKind
+        | TopologyWhat::Course
+        | TopologyWhat::Orientation
+        | TopologyWhat::OutsideTrack => push_field(into, first.bytes()),
     }
 }
 
-/// A line of a word and the number of an input.
-fn input_line(alloc: Global, word: &[u8], input: u8) -> Result<Vec<u8>, OutOfMemory>
-    ensures { IfOk result (λ v. v.items ≡ line_text word.now (decimal input ∷ [])) }
+/// Appends what a graph's fault tells.
+fn push_graph(alloc: Global, into: &mut Vec<u8>, fault: &GraphFault) -> Result<(), OutOfMemory>
+    ensures { OnOk result (into.new.items ≡ into.old.items ++ spaced (told_of_graph fault.now)) }
 {
-    let mut line = Vec::from_slice(alloc, word)?;
-    push_number(&mut line, u32::from(input))?;
+    match fault {
+        GraphFault::TooManyNodes(count) => push_number_field(into, *count),
+        GraphFault::TooManyEdges(count) => push_number_field(into, *count),
+        GraphFault::NotForward { track, mileage, .. } => {
+            push_field(into, track.bytes())?;
+            push_text(into, b" ")?;
+            write_metres(alloc, *mileage, into)
+        }
+        GraphFault::SideMismatch { name, .. } => push_field(into, name.bytes()),
+        GraphFault::Memory => Ok(()),
+    }
+}
+
+/// Appends what a fault of the order tells.
+fn push_order(into: &mut Vec<u8>, fault: &OrderFault) -> Result<(), OutOfMemory>
+    ensures { OnOk result (into.new.items ≡ into.old.items ++ spaced (told_of_edges fault.now)) }
+{
+    match fault {
+        OrderFault::Contradicts(e, f) => {
+            push_number_field(into, u32::from(e.0))?;
+            push_number_field(into, u32::from(f.0))
+        }
+        OrderFault::Memory => Ok(()),
+    }
+}
+
+/// A line of words and the number of an input.
+fn input_line(alloc: Global, words: &[u8], input: u8) -> Result<Vec<u8>, OutOfMemory>
+    ensures { IfOk result (λ v. v.items ≡ line_text words.now (decimal input ∷ [])) }
+{
+    let mut line = Vec::from_slice(alloc, words)?;
+    push_number_field(&mut line, u32::from(input))?;
+    push_text(&mut line, b"\n")?;
+    Ok(line)
+}
+
+fn words_line(alloc: Global, what: WordWhat, position: u32) -> Result<Vec<u8>, OutOfMemory>
+    ensures { IfOk result (λ v. v.items ≡ fault_line (RunFault.Words what position)) }
+{
+    let mut line = begun_line(alloc, b"words", what.number(), what.word())?;
+    push_number_field(&mut line, position)?;
     push_text(&mut line, b"\n")?;
     Ok(line)
 }
 
 fn text_line(alloc: Global, what: TextWhat, at: usize) -> Result<Vec<u8>, OutOfMemory>
-    ensures { IfOk result (λ v. v.items ≡ line_text (codes "text") (found_fields (text_faults.number_of what) (word_of_text what) at)) }
+    ensures { IfOk result (λ v. v.items ≡ fault_line (RunFault.Text what at)) }
 {
-    let mut line = Vec::from_slice(alloc, b"text")?;
-    push_found(&mut line, text_number(what), text_word(what), at)?;
+    let mut line = begun_line(alloc, b"text", what.number(), what.word())?;
+    push_place(&mut line, at)?;
     push_text(&mut line, b"\n")?;
     Ok(line)
 }
@@ -222,75 +163,41 @@ fn topology_line(
     first: &Text,
     second: &Text,
 ) -> Result<Vec<u8>, OutOfMemory>
-    ensures { IfOk result (λ v. v.items ≡ line_text (codes "topology") (found_fields (topology_faults.number_of what) (word_of_topology what) at ++ texts_told what first.now second.now)) }
+    ensures { IfOk result (λ v. v.items ≡ fault_line (RunFault.Topology what at first.now second.now)) }
 {
-    let mut line = Vec::from_slice(alloc, b"topology")?;
-    push_found(&mut line, topology_number(what), topology_word(what), at)?;
-    push_told(&mut line, what, first, second)?;
+    let mut line = begun_line(alloc, b"topology", what.number(), what.word())?;
+    push_place(&mut line, at)?;
+    push_texts(&mut line, what, first, second)?;
     push_text(&mut line, b"\n")?;
     Ok(line)
 }
 
-fn words_line(alloc: Global, what: WordWhat, position: u32) -> Result<Vec<u8>, OutOfMemory>
-    ensures { IfOk result (λ v. v.items ≡ word_faults.fault_line what position) }
+fn graph_line(alloc: Global, fault: &GraphFault) -> Result<Vec<u8>, OutOfMemory>
+    ensures { IfOk result (λ v. v.items ≡ fault_line (RunFault.Graph fault.now)) }
 {
-    let mut line = Vec::new(alloc);
-    push_word_fault(&mut line, what, position)?;
-    Ok(line)
-}
-
-/// The line of too many nodes or edges.
-fn count_line(alloc: Global, number: &[u8], word: &[u8], count: u32) -> Result<Vec<u8>, OutOfMemory>
-    ensures { IfOk result (λ v. v.items ≡ graph_line number.now word.now (decimal count ∷ [])) }
-{
-    let mut line = Vec::from_slice(alloc, b"graph")?;
-    push_field(&mut line, number)?;
-    push_field(&mut line, word)?;
-    push_number(&mut line, count)?;
+    let mut line = begun_line(alloc, b"graph", fault.number(), fault.word())?;
+    push_graph(alloc, &mut line, fault)?;
     push_text(&mut line, b"\n")?;
     Ok(line)
 }
 
-fn level_line(alloc: Global, track: &Text, mileage: Micro) -> Result<Vec<u8>, OutOfMemory>
-    ensures { IfOk result (λ v. v.items ≡ graph_line (codes "3") (codes "NotForward") (track.now ∷ metres_text mileage.0 ∷ [])) }
+fn order_line(alloc: Global, fault: &OrderFault) -> Result<Vec<u8>, OutOfMemory>
+    ensures { IfOk result (λ v. v.items ≡ fault_line (RunFault.Order fault.now)) }
 {
-    let mut line = Vec::from_slice(alloc, b"graph 3 NotForward")?;
-    push_field(&mut line, track.bytes())?;
-    push_text(&mut line, b" ")?;
-    write_metres(alloc, mileage, &mut line)?;
+    let mut line = begun_line(alloc, b"order", fault.number(), fault.word())?;
+    push_order(&mut line, fault)?;
     push_text(&mut line, b"\n")?;
     Ok(line)
 }
 
-fn mismatch_line(alloc: Global, name: &Text) -> Result<Vec<u8>, OutOfMemory>
-    ensures { IfOk result (λ v. v.items ≡ graph_line (codes "4") (codes "SideMismatch") (name.now ∷ [])) }
+fn sheet_line(alloc: Global, what: SheetWhat, number: u32) -> Result<Vec<u8>, OutOfMemory>
+    ensures { IfOk result (λ v. v.items ≡ fault_line (RunFault.Sheet what number)) }
 {
-    let mut line = Vec::from_slice(alloc, b"graph 4 SideMismatch")?;
-    push_field(&mut line, name.bytes())?;
+    let mut line = begun_line(alloc, b"sheet", what.number(), what.word())?;
+    push_field(&mut line, b"line")?;
+    push_number_field(&mut line, number)?;
     push_text(&mut line, b"\n")?;
     Ok(line)
-}
-
-fn contradiction_line(alloc: Global, e: EdgeNo, f: EdgeNo) -> Result<Vec<u8>, OutOfMemory>
-    ensures { IfOk result (λ v. v.items ≡ line_text (codes "order") (codes "1" ∷ codes "Contradicts" ∷ decimal e.0 ∷ decimal f.0 ∷ [])) }
-{
-    let mut line = Vec::from_slice(alloc, b"order 1 Contradicts")?;
-    push_number(&mut line, u32::from(e.0))?;
-    push_number(&mut line, u32::from(f.0))?;
-    push_text(&mut line, b"\n")?;
-    Ok(line)
-}
-
-fn sheet_line(alloc: Global, what: SheetWhat, line: u32) -> Result<Vec<u8>, OutOfMemory>
-    ensures { IfOk result (λ v. v.items ≡ line_text (codes "sheet") (decimal (number_of_sheet what) ∷ word_of_sheet what ∷ codes "line" ∷ decimal line ∷ [])) }
-{
-    let mut text = Vec::from_slice(alloc, b"sheet")?;
-    push_number(&mut text, sheet_number(what))?;
-    push_field(&mut text, sheet_word(what))?;
-    push_text(&mut text, b" line")?;
-    push_number(&mut text, line)?;
-    push_text(&mut text, b"\n")?;
-    Ok(text)
 }
 
 impl RunFault {
@@ -301,7 +208,13 @@ impl RunFault {
         match self {
             RunFault::Words { .. } => 2,
             RunFault::ReadFailed(_) => 5,
-            _ => 1,
+            RunFault::NotBuilt
+            | RunFault::Long(_)
+            | RunFault::Text { .. }
+            | RunFault::Topology { .. }
+            | RunFault::Graph(_)
+            | RunFault::Order(_)
+            | RunFault::Sheet { .. } => 1,
         }
     }
 
@@ -311,6 +224,7 @@ impl RunFault {
     {
         match self {
             RunFault::NotBuilt => Ok(Vec::from_slice(alloc, b"not built\n")?),
+            RunFault::Words { what, position } => words_line(alloc, *what, *position),
             RunFault::Long(input) => input_line(alloc, b"long", *input),
             RunFault::Text { what, at } => text_line(alloc, *what, *at),
             RunFault::Topology {
@@ -319,12 +233,8 @@ impl RunFault {
                 first,
                 second,
             } => topology_line(alloc, *what, *at, first, second),
-            RunFault::Words { what, position } => words_line(alloc, *what, *position),
-            RunFault::TooManyNodes(count) => count_line(alloc, b"1", b"TooManyNodes", *count),
-            RunFault::TooManyEdges(count) => count_line(alloc, b"2", b"TooManyEdges", *count),
-            RunFault::NotForward { track, mileage } => level_line(alloc, track, *mileage),
-            RunFault::SideMismatch { name } => mismatch_line(alloc, name),
-            RunFault::Contradicts(e, f) => contradiction_line(alloc, *e, *f),
+            RunFault::Graph(fault) => graph_line(alloc, fault),
+            RunFault::Order(fault) => order_line(alloc, fault),
             RunFault::Sheet { what, line } => sheet_line(alloc, *what, *line),
             RunFault::ReadFailed(input) => input_line(alloc, b"read failed", *input),
         }

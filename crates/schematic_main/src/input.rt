@@ -6,15 +6,12 @@ ghost use Rattle.track_order.specs.Order.{IsOrderOf};
 ghost use Rattle.schematic_main.specs.Input.{HasRows, HasTopology, HasGraph, HasStation, IsRefusal};
 
 use crate::fault::RunFault;
-use plan_core::Topology;
+use plan_core::{MAX_FILE_BYTES, Topology};
 use port_graph::{GraphFault, PortGraph, build};
 use railml_read::{ReadFault, Records, read};
 use railml_topology::{ResolveFault, resolve};
 use std::alloc::Global;
 use track_order::{OrderFault, TrackOrder, derive};
-
-/// The greatest number of bytes that a railML file or a sheet may have.
-pub const FILE_LIMIT: usize = 4_194_304;
 
 /// Why bytes give no station.
 #[derive(Drop)]
@@ -27,7 +24,7 @@ pub enum Refusal {
 
 /// The rows of bytes that aren't too many, or the fault of their text.
 fn rows_in(alloc: Global, bytes: &[u8]) -> Result<Records, Refusal>
-    requires { length bytes.now ≤ FILE_LIMIT }
+    requires { length bytes.now ≤ MAX_FILE_BYTES }
     ensures rows { IfOk result (λ rows. HasRows bytes.now rows) }
     ensures formed { IfOk result (λ rows. AreFormed rows) }
     ensures refusal { IfErr result (λ r. IsRefusal bytes.now r) }
@@ -67,7 +64,7 @@ fn topology_from(alloc: Global, rows: &Records) -> Result<Topology, Refusal>
 
 /// The topology of bytes that aren't too many, or the first of their faults.
 fn topology_in(alloc: Global, bytes: &[u8]) -> Result<Topology, Refusal>
-    requires { length bytes.now ≤ FILE_LIMIT }
+    requires { length bytes.now ≤ MAX_FILE_BYTES }
     ensures topology { IfOk result (λ t. HasTopology bytes.now t) }
     ensures resolved { IfOk result (λ t. IsResolved t) }
     ensures refusal { IfErr result (λ r. IsRefusal bytes.now r) }
@@ -83,34 +80,15 @@ fn graph_from(alloc: Global, topology: &Topology) -> Result<PortGraph, Refusal>
     ensures refusal { (bytes : List ℕ) → HasTopology bytes topology.now → IfErr result (λ r. IsRefusal bytes r) }
 {
     match build(alloc, topology) {
-        Ok(graph) => {
-            let nodes = graph.nodes();
-            prove!(nodes <= 128);
-            Ok(graph)
-        }
-        Err(GraphFault::TooManyNodes(count)) => {
-            Err(Refusal::Fault(RunFault::TooManyNodes(count)))
-        }
-        Err(GraphFault::TooManyEdges(count)) => {
-            Err(Refusal::Fault(RunFault::TooManyEdges(count)))
-        }
-        Err(
-            GraphFault::NotForward {
-                edge: _,
-                track,
-                mileage,
-            },
-        ) => Err(Refusal::Fault(RunFault::NotForward { track, mileage })),
-        Err(GraphFault::SideMismatch { node: _, name }) => {
-            Err(Refusal::Fault(RunFault::SideMismatch { name }))
-        }
+        Ok(graph) => Ok(graph),
         Err(GraphFault::Memory) => Err(Refusal::Memory),
+        Err(fault) => Err(Refusal::Fault(RunFault::Graph(fault))),
     }
 }
 
 /// The track graph of bytes that aren't too many, or the first of their faults.
 fn graph_in(alloc: Global, bytes: &[u8]) -> Result<PortGraph, Refusal>
-    requires { length bytes.now ≤ FILE_LIMIT }
+    requires { length bytes.now ≤ MAX_FILE_BYTES }
     ensures graph { IfOk result (λ g. HasGraph bytes.now g) }
     ensures refusal { IfErr result (λ r. IsRefusal bytes.now r) }
 {
@@ -125,8 +103,8 @@ fn order_from(alloc: Global, graph: &PortGraph) -> Result<TrackOrder, Refusal>
 {
     match derive(alloc, graph) {
         Ok(order) => Ok(order),
-        Err(OrderFault::Contradicts(e, f)) => Err(Refusal::Fault(RunFault::Contradicts(e, f))),
         Err(OrderFault::Memory) => Err(Refusal::Memory),
+        Err(fault) => Err(Refusal::Fault(RunFault::Order(fault))),
     }
 }
 
@@ -139,7 +117,7 @@ pub struct Station {
 
 /// The station of bytes that aren't too many, or the first of their faults.
 pub fn station_in(alloc: Global, bytes: &[u8]) -> Result<Station, Refusal>
-    requires { length bytes.now ≤ FILE_LIMIT }
+    requires { length bytes.now ≤ MAX_FILE_BYTES }
     ensures station { IfOk result (λ s. HasStation bytes.now s.graph s.order) }
     ensures refusal { IfErr result (λ r. IsRefusal bytes.now r) }
 {

@@ -8,13 +8,13 @@ ghost use Rattle.plan_core.specs.Lawful.{Lawful};
 ghost use Rattle.plan_text.specs.SheetFaults.{IsDrawingOf};
 ghost use Rattle.track_order.specs.Order.{EdgeOrder, is_above};
 ghost use Rattle.schematic_main.specs.declared.fault.RunFault.{RunFault as Fault};
-ghost use Rattle.schematic_main.specs.Input.{HasGraph, HasStation, HasFault};
+ghost use Rattle.schematic_main.specs.Input.{HasGraph, HasStation, HasFileFault};
 ghost use Rattle.schematic_main.specs.Verdict.{lawful_line, IsSheetJudged};
 ghost use Rattle.schematic_main.specs.Answer.{IsVerified};
 
 /// A file that has a station has none of the faults.
 pub fn station_or_fault()
-    ensures { (bytes : List ℕ) (g : Graph) (o : EdgeOrder) (fault : Fault) → HasStation bytes g o → HasFault bytes fault → ⊥ }
+    ensures { (bytes : List ℕ) (g : Graph) (o : EdgeOrder) (fault : Fault) → HasStation bytes g o → HasFileFault bytes fault → ⊥ }
 {}
 
 /// A file has one track graph at most.
@@ -24,7 +24,7 @@ pub fn one_graph()
 
 /// A file has one fault at most.
 pub fn one_fault()
-    ensures { (bytes : List ℕ) (a b : Fault) → HasFault bytes a → HasFault bytes b → a ≡ b }
+    ensures { (bytes : List ℕ) (a b : Fault) → HasFileFault bytes a → HasFileFault bytes b → a ≡ b }
 {}
 
 /// A sheet has one answer at most for a station: one status, with one text.

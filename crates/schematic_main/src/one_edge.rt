@@ -70,7 +70,7 @@ fn level_sheet(
     })
 }
 
-/// The text of the best drawing of a graph with one edge, on this grid and in this order.
+/// The text of the best drawing of a graph with one edge, on this grid of least length 1 and in this order.
 pub fn best_sheet(
     alloc: Global,
     g: &PortGraph,
@@ -80,6 +80,7 @@ pub fn best_sheet(
 ) -> Result<Vec<u8>, OutOfMemory>
     requires order { IsOrderOf g.now t.now }
     requires one { length g.now.edges ≡ 1 }
+    requires least { grid.now.least ≡ 1 }
     ensures { IfOk result (λ text. IsBestSheet g.now (is_above t.now) grid.now order.now text.items) }
 {
     let nodes = g.nodes();

@@ -8,36 +8,38 @@ ghost use Rattle.schematic_main.specs.Input.{IsLong, IsShort};
 ghost use Rattle.schematic_main.specs.Reading.{IsInput, IsUnreadInput, IsStationOf, IsRefusalOf};
 
 use crate::fault::RunFault;
-use crate::input::{FILE_LIMIT, Refusal, Station, station_in};
+use crate::input::{Refusal, Station, station_in};
 use outside_io::{FileFault, Files};
-use plan_core::Text;
+use plan_core::{MAX_FILE_BYTES, MAX_LOG_BYTES, Text};
 use std::alloc::Global;
 
-/// Whether a file or a sheet has too many bytes.
-fn is_long(bytes: &[u8]) -> bool
-    ensures { MatchBool result (IsLong bytes.now) (IsShort bytes.now) }
+/// Whether an input has more bytes than it may have.
+fn is_long(bytes: &[u8], limit: usize) -> bool
+    ensures { MatchBool result (IsLong limit bytes.now) (IsShort limit bytes.now) }
 {
-    bytes.len() > FILE_LIMIT
+    bytes.len() > limit
 }
 
 /// The bytes of the input with this number, counted from 1, which is the file of this name; or that
-/// they are too many, or that they couldn't be read.
+/// they are more than `limit`, or that they couldn't be read.
 pub fn bytes_of<F: Files>(
     alloc: Global,
     number: u8,
+    limit: usize,
     name: &Text,
     files: &mut F,
 ) -> Result<Vec<u8>, Refusal>
-    ensures bytes { IfOk result (λ v. IsInput name.now (F.contents files.old) v.items) }
-    ensures refusal { IfErr result (λ r. IsUnreadInput number name.now (F.contents files.old) (ReadFails F.read_faults F.reads files.old files.new 0) r) }
+    requires { limit ≤ MAX_LOG_BYTES }
+    ensures bytes { IfOk result (λ v. IsInput limit name.now (F.contents files.old) v.items) }
+    ensures refusal { IfErr result (λ r. IsUnreadInput number limit name.now (F.contents files.old) (ReadFails F.read_faults F.reads files.old files.new 0) r) }
     ensures reads { OnOk result (F.reads files.new ≡ next_count (F.reads files.old)) }
     ensures later { F.read_faults files.old ≤ F.read_faults files.new }
     ensures same { WhereTold (F.contents files.old) (F.contents files.new) SameFiles }
 {
     let mut bytes = Vec::new(alloc);
-    match files.read_front(name.as_str(), FILE_LIMIT + 1, &mut bytes) {
+    match files.read_front(name.as_str(), limit + 1, &mut bytes) {
         Ok(()) => {
-            if is_long(&bytes) {
+            if is_long(&bytes, limit) {
                 return Err(Refusal::Fault(RunFault::Long(number)));
             }
             Ok(bytes)
@@ -55,7 +57,7 @@ pub fn station_of<F: Files>(alloc: Global, input: &Text, files: &mut F) -> Resul
     ensures later { F.read_faults files.old ≤ F.read_faults files.new }
     ensures same { WhereTold (F.contents files.old) (F.contents files.new) SameFiles }
 {
-    match bytes_of(alloc, 1, input, files) {
+    match bytes_of(alloc, 1, MAX_FILE_BYTES, input, files) {
         Ok(bytes) => station_in(alloc, &bytes),
         Err(refusal) => Err(refusal),
     }

@@ -1,6 +1,6 @@
 // What a run answers.
 ghost use Rattle.std.specs.Prelude.{IfOk};
-ghost use Rattle.schematic_main.specs.Fault.{IsFault};
+ghost use Rattle.schematic_main.specs.Fault.{IsFaultLine};
 
 use crate::fault::RunFault;
 use plan_core::OutOfMemory;
@@ -17,7 +17,7 @@ pub struct Reply {
 
 /// The answer that tells of a fault.
 pub fn fault_reply(alloc: Global, fault: RunFault) -> Result<Reply, OutOfMemory>
-    ensures { IfOk result (λ r. IsFault fault r.status r.text.items) }
+    ensures { IfOk result (λ r. IsFaultLine fault r.status r.text.items) }
 {
     Ok(Reply {
         status: fault.status(),

@@ -1,16 +1,16 @@
 // The verdict on a drawing.
 ghost use Rattle.std.specs.Prelude.{◌≡◌, ◌⊎◌, ◌++◌, IfOk, OnOk};
 ghost use Rattle.track_order.specs.Order.{IsOrderOf};
-ghost use Rattle.lawful_check.specs.Holding.{IsFitting};
-ghost use Rattle.plan_text.specs.Fields.{spaced};
+ghost use Rattle.plan_core.specs.Lawful.{HasSizeOf};
+ghost use Rattle.line_text.specs.Fields.{spaced};
 ghost use Rattle.schematic_main.specs.Verdict.{lawful_line, broken_line, party_fields, second_fields, IsVerdict};
 
 use crate::input::Station;
 use crate::reply::Reply;
 use lawful_check::{LawBreak, Party, broken};
+use line_text::{push_field, push_number_field, push_text};
 use plan_core::{Grid, OutOfMemory, Values};
 use plan_geometry::{Drawing, values};
-use plan_text::{push_field, push_number, push_text};
 use std::alloc::Global;
 
 /// The line of a lawful drawing.
@@ -18,10 +18,10 @@ fn lawful_line(alloc: Global, values: Values) -> Result<Vec<u8>, OutOfMemory>
     ensures { IfOk result (λ v. v.items ≡ lawful_line values) }
 {
     let mut line = Vec::from_slice(alloc, b"lawful")?;
-    push_number(&mut line, values.height)?;
-    push_number(&mut line, values.bends)?;
-    push_number(&mut line, values.diagonal)?;
-    push_number(&mut line, values.width)?;
+    push_number_field(&mut line, values.height)?;
+    push_number_field(&mut line, values.bends)?;
+    push_number_field(&mut line, values.diagonal)?;
+    push_number_field(&mut line, values.width)?;
     push_text(&mut line, b"\n")?;
     Ok(line)
 }
@@ -33,11 +33,11 @@ fn push_party(into: &mut Vec<u8>, party: Party) -> Result<(), OutOfMemory>
     match party {
         Party::Node(n) => {
             push_field(into, b"node")?;
-            push_number(into, u32::from(n.0))
+            push_number_field(into, u32::from(n.0))
         }
         Party::Edge(e) => {
             push_field(into, b"edge")?;
-            push_number(into, u32::from(e.0))
+            push_number_field(into, u32::from(e.0))
         }
     }
 }
@@ -57,7 +57,7 @@ fn broken_line(alloc: Global, found: LawBreak) -> Result<Vec<u8>, OutOfMemory>
     ensures { IfOk result (λ v. v.items ≡ broken_line found) }
 {
     let mut line = Vec::from_slice(alloc, b"broken law")?;
-    push_number(&mut line, u32::from(found.law))?;
+    push_number_field(&mut line, u32::from(found.law))?;
     push_party(&mut line, found.first)?;
     push_second(&mut line, found.second)?;
     push_text(&mut line, b"\n")?;
@@ -73,7 +73,7 @@ pub fn verdict(
     drawing: &Drawing,
 ) -> Result<Reply, OutOfMemory>
     requires order { IsOrderOf station.now.graph station.now.order }
-    requires fitting { IsFitting station.now.graph drawing.now }
+    requires fitting { HasSizeOf station.now.graph drawing.now }
     ensures verdict { IfOk result (λ r. IsVerdict station.now.graph station.now.order grid.now drawing.now r.status r.text.items) }
     ensures statuses { IfOk result (λ r. (r.status ≡ 0) ⊎ (r.status ≡ 8)) }
 {

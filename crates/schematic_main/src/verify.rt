@@ -7,12 +7,12 @@ ghost use Rattle.schematic_main.specs.Answer.{IsVerified, IsAnswerOn, IsAnswerTo
 ghost use Rattle.schematic_main.specs.Verdict.{IsSheetJudged};
 
 use crate::fault::RunFault;
-use crate::input::{FILE_LIMIT, Refusal, Station, station_in};
+use crate::input::{Refusal, Station, station_in};
 use crate::reading::bytes_of;
 use crate::reply::{Reply, fault_reply};
 use crate::verdict::verdict;
 use outside_io::Files;
-use plan_core::{OutOfMemory, Text};
+use plan_core::{MAX_FILE_BYTES, OutOfMemory, Text};
 use plan_text::{SheetFault, read_drawing};
 use std::alloc::Global;
 
@@ -33,7 +33,7 @@ fn judge_sheet(alloc: Global, station: &Station, sheet: &[u8]) -> Result<Reply, 
 
 /// What is answered to the bytes of a file and of a sheet.
 fn judge(alloc: Global, bytes: &[u8], sheet: &[u8]) -> Result<Reply, OutOfMemory>
-    requires { length bytes.now ≤ FILE_LIMIT }
+    requires { length bytes.now ≤ MAX_FILE_BYTES }
     ensures answer { IfOk result (λ r. IsVerified bytes.now sheet.now r.status r.text.items) }
     ensures statuses { IfOk result (λ r. (r.status ≡ 0) ⊎ (r.status ≡ 1) ⊎ (r.status ≡ 8)) }
 {
@@ -51,14 +51,14 @@ fn verify_bytes<F: Files>(
     sheet: &Text,
     files: &mut F,
 ) -> Result<Reply, OutOfMemory>
-    requires { length bytes.now ≤ FILE_LIMIT }
-    ensures answer { IfOk result (λ r. IsAnswerOn 2 sheet.now (F.contents files.old) (ReadFails F.read_faults F.reads files.old files.new 0) (IsVerified bytes.now) r.status r.text.items) }
+    requires { length bytes.now ≤ MAX_FILE_BYTES }
+    ensures answer { IfOk result (λ r. IsAnswerOn 2 MAX_FILE_BYTES sheet.now (F.contents files.old) (ReadFails F.read_faults F.reads files.old files.new 0) (IsVerified bytes.now) r.status r.text.items) }
     ensures statuses { IfOk result (λ r. (r.status ≡ 0) ⊎ (r.status ≡ 1) ⊎ (r.status ≡ 5) ⊎ (r.status ≡ 8)) }
     ensures read_fault { IfOk result (λ r. r.status ≡ 5 → ReadFails F.read_faults F.reads files.old files.new 0) }
     ensures later { F.read_faults files.old ≤ F.read_faults files.new }
     ensures same { WhereTold (F.contents files.old) (F.contents files.new) SameFiles }
 {
-    match bytes_of(alloc, 2, sheet, files) {
+    match bytes_of(alloc, 2, MAX_FILE_BYTES, sheet, files) {
         Ok(sheet) => judge(alloc, bytes, &sheet),
         Err(Refusal::Fault(fault)) => fault_reply(alloc, fault),
         Err(Refusal::Memory) => Err(OutOfMemory),
@@ -78,7 +78,7 @@ pub fn verify<F: Files>(
     ensures later { F.read_faults files.old ≤ F.read_faults files.new }
     ensures same { WhereTold (F.contents files.old) (F.contents files.new) SameFiles }
 {
-    match bytes_of(alloc, 1, input, files) {
+    match bytes_of(alloc, 1, MAX_FILE_BYTES, input, files) {
         Ok(bytes) => verify_bytes(alloc, &bytes, sheet, files),
         Err(Refusal::Fault(fault)) => fault_reply(alloc, fault),
         Err(Refusal::Memory) => Err(OutOfMemory),

@@ -58,7 +58,7 @@ one_contradiction g e f a b is also = elim (cases_order e a) [
   )
 ]
 
-one_fault : (g : Graph) (x y : OrderFault) → IsOrderFault g x → IsOrderFault g y → x ≡ y
+pub one_fault : (g : Graph) (x y : OrderFault) → IsOrderFault g x → IsOrderFault g y → x ≡ y
 one_fault g (Contradicts e f) (Contradicts a b) is also =
     let one = one_contradiction g e.0 f.0 a.0 b.0 is also in
     let told : ℕ → ℕ → OrderFault = λ m n. Contradicts (record { 0 = m }) (record { 0 = n }) in
@@ -66,7 +66,7 @@ one_fault g (Contradicts e f) (Contradicts a b) is also =
 one_fault g Memory y is also = absurd is
 one_fault g x Memory is also = absurd also
 
-never_both : (g : Graph) (o : EdgeOrder) (x : OrderFault) → IsOrderOf g o → IsOrderFault g x → ⊥
+pub never_both : (g : Graph) (o : EdgeOrder) (x : OrderFault) → IsOrderOf g o → IsOrderFault g x → ⊥
 never_both g o (Contradicts e f) is fault =
     let rising = fault.rising in
     let there = fault.there in

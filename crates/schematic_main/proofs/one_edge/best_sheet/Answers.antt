@@ -38,7 +38,7 @@ returns c =
       track_graph = station.track_graph;
       drawn = level_drawing b;
       best =
-          level_is_best g (is_above o) grid order b (level_drawing b) station.track_graph one (not_above_itself g o c.requires.order one) c.width-width.ensures.is_grid.some_width
+          level_is_best g (is_above o) grid order b (level_drawing b) station.track_graph one (not_above_itself g o c.requires.order one) c.width-width.ensures.is_grid.some_width c.requires.least
           c.is_west_first-is_west_first.ensures refl;
       spelled =
           c.in_ok-write_sheet.ensures.ok

@@ -2,7 +2,7 @@ use Rattle.std.specs.Prelude.{◌≡◌, ℕ, List, [], ◌∷◌, ◌++◌, cod
 use Rattle.std.specs.Fmt.{decimal}
 use Rattle.std.proofs.Common.{append_assoc}
 use Rattle.std.proofs.lemmas.List.{append-nil}
-use Rattle.plan_text.specs.Fields.{line_text}
+use Rattle.line_text.specs.Fields.{line_text}
 use Rattle.schematic_main.proofs.verdict.lawful_line.Goals as goal
 
 -- a line whose four fields are appended one after another
@@ -14,5 +14,5 @@ pub returns : goal.returns
 returns c =
     let v = c.args.values in
     four_fields (codes "lawful") (decimal v.height) (decimal v.bends) (decimal v.diagonal) (decimal v.width)
-    c.in_ok-line.line.items c.push_number.new.into.items c.push_number-2.new.into.items c.push_number-3.new.into.items c.push_number-4.new.into.items c.push_text.new.into.items
-    c.in_ok-line.ensures.items c.in_ok-push_number.ensures.ok c.in_ok-push_number-2.ensures.ok c.in_ok-push_number-3.ensures.ok c.in_ok-push_number-4.ensures.ok c.in_ok-push_text.ensures.ok
+    c.in_ok-line.line.items c.push_number_field.new.into.items c.push_number_field-2.new.into.items c.push_number_field-3.new.into.items c.push_number_field-4.new.into.items c.push_text.new.into.items
+    c.in_ok-line.ensures.items c.in_ok-push_number_field.ensures.ok c.in_ok-push_number_field-2.ensures.ok c.in_ok-push_number_field-3.ensures.ok c.in_ok-push_number_field-4.ensures.ok c.in_ok-push_text.ensures.ok

@@ -1,5 +1,6 @@
 use Rattle.std.proofs.Common.{List, ℕ, subst, arith}
 use Rattle.std.proofs.lemmas.Result.{IfOk-weaker}
+use Rattle.plan_core.specs.declared.limits.TheConstants.{MAX_FILE_BYTES}
 use Rattle.schematic_main.specs.Answer.{IsVerified, IsAnswerOn, ReadFails}
 use Rattle.schematic_main.proofs.AnswerLemmas.{read_on, answer_before, fails_later}
 use Rattle.schematic_main.proofs.verify.verify.Goals as goal
@@ -14,10 +15,10 @@ returns-in-Ok-clause-answer g c =
     let sheet = c.args.sheet.now in
     let fails = ReadFails {Self = g.row.F.Denot} g.F.Files.read_faults g.F.Files.reads in
     IfOk-weaker c.verify_bytes.result _ _ (λ r answer.
-    read_on 1 c.args.input.now (contents old) (fails old new 0) (λ bytes. IsAnswerOn 2 sheet (contents old) (fails old new 1) (IsVerified bytes)) bytes r.status r.text.items c.in-Ok.ensures.bytes
-    (answer_before 2 sheet (contents old) (contents mid) (fails mid new 0) (fails old new 1) (IsVerified bytes) r.status r.text.items c.in-Ok.ensures.same
+    read_on 1 MAX_FILE_BYTES c.args.input.now (contents old) (fails old new 0) (λ bytes. IsAnswerOn 2 MAX_FILE_BYTES sheet (contents old) (fails old new 1) (IsVerified bytes)) bytes r.status r.text.items c.in-Ok.ensures.bytes
+    (answer_before 2 MAX_FILE_BYTES sheet (contents old) (contents mid) (fails mid new 0) (fails old new 1) (IsVerified bytes) r.status r.text.items c.in-Ok.ensures.same
     (fails_later {Self = g.row.F.Denot} g.F.Files.read_faults g.F.Files.reads old mid new c.in-Ok.ensures.later c.in-Ok.ensures.reads)
-    (subst (λ (xs : List ℕ). IsAnswerOn 2 sheet (contents mid) (fails mid new 0) (IsVerified xs) r.status r.text.items) c.deref.ensures.value answer)))
+    (subst (λ (xs : List ℕ). IsAnswerOn 2 MAX_FILE_BYTES sheet (contents mid) (fails mid new 0) (IsVerified xs) r.status r.text.items) c.deref.ensures.value answer)))
     c.verify_bytes.ensures.answer
 
 pub returns-in-Ok-clause-read_fault : goal.returns-in-Ok-clause-read_fault

@@ -1,0 +1,30 @@
+//! The program `railplan`: it hands the words of the command line, the system's files and its output to
+//! `run`, and ends with the status that `run` answers, or with 10 where the words couldn't be had.
+//!
+//! It states nothing of its own: what a run owes is the contract of `run`, in `schematic_main`. The stored
+//! run (`args`, `data`, `stdout`) shows the program at work; the launcher `railplan` builds and runs it.
+//! Nothing stands on this crate.
+#![tactic(auto)]
+
+use outside_io::{HostFiles, HostOut};
+use schematic_main::run;
+use std::env;
+use std::process::ExitCode;
+
+/// The words of the command line, without the program's own name.
+fn command_line(rt: &HostRuntime) -> Option<Vec<String>> {
+    let mut words = env::args(rt).ok()?;
+    let _ = words.next();
+    words.collect(rt.alloc()).ok()
+}
+
+fn main(rt: HostRuntime) -> ExitCode {
+    match command_line(&rt) {
+        Some(words) => {
+            let mut files = HostFiles::new(&rt);
+            let mut out = HostOut::new(&rt);
+            ExitCode::from(run(rt.alloc(), &words, &mut files, &mut out))
+        }
+        None => ExitCode::from(10),
+    }
+}

@@ -1,0 +1,119 @@
+// Sheets of text 2: the least length, the mileage of each node and the track of each edge.
+use crate::cases::{Edited, wrong_edits};
+use crate::stations::LOOP;
+use std::test::Fail;
+
+/// The best drawing of the loop.
+const LOOP_SHEET: &str = "railplan 2
+grid 40 8 1
+order height bends diagonal width
+nodes 4
+node 0 mb 0 0 0.000000
+node 1 me 5 0 600.000000
+node 2 s1 1 0 100.000000
+node 3 s2 4 0 500.000000
+edges 4
+edge 0 m 0 2 0 0 1 0
+edge 1 m 2 3 1 0 4 0
+edge 2 m 3 1 4 0 5 0
+edge 3 l 2 3 1 0 2 1 3 1 4 0
+values 1 2 2 5
+end best
+";
+
+static LEAST_LENGTHS: [Edited; 6] = [
+    ("The least length of every line.", &[], "lawful 1 2 2 5"),
+    (
+        "Two columns at each edge.",
+        &[("grid 40 8 1", "grid 40 8 2")],
+        "broken law 3 edge 0",
+    ),
+    (
+        "No least length.",
+        &[("grid 40 8 1", "grid 40 8")],
+        "sheet 1 Form line 2",
+    ),
+    (
+        "A least length of 0.",
+        &[("grid 40 8 1", "grid 40 8 0")],
+        "sheet 2 Range line 2",
+    ),
+    (
+        "A least length above 16.",
+        &[("grid 40 8 1", "grid 40 8 17")],
+        "sheet 2 Range line 2",
+    ),
+    (
+        "Text 1 has none.",
+        &[("railplan 2", "railplan 1")],
+        "sheet 1 Form line 2",
+    ),
+];
+
+#[test]
+fn text_2_has_a_least_length(rt: HostRuntime) -> Result<(), Fail> {
+    let alloc = rt.alloc();
+    assert_eq!(rt;
+        wrong_edits(alloc, LOOP, LOOP_SHEET, &LEAST_LENGTHS)?.as_str(),
+        ""
+    );
+    Ok(())
+}
+
+static MILEAGES_AND_TRACKS: [Edited; 9] = [
+    (
+        "Another mileage.",
+        &[("0 0.000000", "0 0.000001")],
+        "sheet 3 Graph line 5",
+    ),
+    (
+        "A sign before zero.",
+        &[("0 0.000000", "0 -0.000000")],
+        "sheet 3 Graph line 5",
+    ),
+    (
+        "A mileage of five digits.",
+        &[("0 0.000000", "0 0.00000")],
+        "sheet 1 Form line 5",
+    ),
+    (
+        "A zero in front of a mileage.",
+        &[("5 0 600.", "5 0 0600.")],
+        "sheet 1 Form line 6",
+    ),
+    (
+        "Eleven digits before the point.",
+        &[("5 0 600.", "5 0 10000000600.")],
+        "sheet 1 Form line 6",
+    ),
+    (
+        "No mileage.",
+        &[("node 1 me 5 0 600.000000", "node 1 me 5 0")],
+        "sheet 1 Form line 6",
+    ),
+    (
+        "Another track.",
+        &[("edge 3 l", "edge 3 m")],
+        "sheet 3 Graph line 13",
+    ),
+    (
+        "No track.",
+        &[("edge 1 m", "edge 1")],
+        "sheet 1 Form line 11",
+    ),
+    (
+        "An empty track.",
+        &[("edge 1 m", "edge 1 ")],
+        "sheet 1 Form line 11",
+    ),
+];
+
+#[test]
+fn text_2_has_mileages_and_tracks(rt: HostRuntime) -> Result<(), Fail> {
+    let alloc = rt.alloc();
+    assert_eq!(rt;
+        wrong_edits(alloc, LOOP, LOOP_SHEET, &MILEAGES_AND_TRACKS)?.as_str(),
+        ""
+    );
+    Ok(())
+}
