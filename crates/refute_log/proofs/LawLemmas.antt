@@ -1,6 +1,6 @@
 -- A text has one form, is one line's, and has one fault or none where it is a line's.
-use Rattle.std.proofs.Common.{◌≡◌, ℕ, ◌≤◌, ◌⊎◌, ◌↔◌, inl, inr, true, List, [], ◌∷◌, ◌++◌, length, get_or, map, decimal, Result, Ok, Err, MatchResult, refl, sym, ◌∙◌, ap, subst, arith}
-use Rattle.std.specs.Prelude.{IfOk, IfErr, IsErrOf}
+use Rattle.std.proofs.Common.{◌≡◌, ℕ, ◌≤◌, ◌⊎◌, ◌↔◌, inl, inr, true, List, [], ◌∷◌, ◌++◌, length, get_or, map, decimal, Result, Ok, Err, refl, sym, ◌∙◌, ap, subst, arith}
+use Rattle.std.specs.Prelude.{IfOk, IfErr}
 use Rattle.std.specs.Char.{IsAsciiDigit}
 use Rattle.std.specs.List.{AllByRecursion}
 use Rattle.std.specs.Str.Parse.{AllDigits}
@@ -10,6 +10,7 @@ use Rattle.plan_core.specs.Exactly.{AnswersExactly}
 use Rattle.plan_core.proofs.ExactlyLemmas.{answers_exactly}
 use Rattle.cnf_core.specs.Lit.{Literal}
 use Rattle.cnf_core.specs.Clause.{AreThere}
+use Rattle.line_text.proofs.CriterionLemmas.{word_in_front}
 use Rattle.refute_log.specs.declared.line.LogLine.{LogLine}
 use Rattle.refute_log.specs.declared.line.LogLine.TheVariants.{Formula, Learnt, Bound, Query, Refuted, Model}
 use Rattle.refute_log.specs.declared.fault.LogWhat.{LogWhat}
@@ -20,7 +21,7 @@ use Rattle.refute_log.specs.Lines.{last_var, NamesOnce, literal_text, literals_t
 use Rattle.refute_log.specs.LineForm.{Field, LineForm, IsNumber, AreNumbers, HasForm, form_text, spaced, fields_text, IsLiteral, HasRightNumbers}
 use Rattle.refute_log.specs.LineForm.LineForm.{FormulaForm, LearntForm, BoundForm, QueryForm, RefutedForm, ModelForm}
 use Rattle.refute_log.specs.LineText.{Spells, IsTextOf, HasLineFault, IsWantOrFault, IsLineFault}
-use Rattle.refute_log.specs.OneText.{criterion_once, is_decimal, log_text_once}
+use Rattle.refute_log.specs.OneText.{is_decimal, log_text_once}
 use Rattle.refute_log.proofs.ReadingLemmas.{ahead, zero_is_one, same_cut, no_cut, number_is_one, regroup, spaced_literals}
 
 -- a text has one form
@@ -38,7 +39,7 @@ form_once text (FormulaForm fs) (FormulaForm gs) h k = let e = sym h.spelled ∙
 form_once text (LearntForm fs) (LearntForm gs) h k = let e = sym h.spelled ∙ k.spelled in ap LearntForm (fields_once fs gs h.is_form.0 k.is_form.0 cc)
 form_once text (BoundForm c k x) (BoundForm d l y) h i =
     let e = sym h.spelled ∙ i.spelled in
-    let one = criterion_once c d (32 ∷ (k ++ 32 ∷ x)) (32 ∷ (l ++ 32 ∷ y)) cc in
+    let one = word_in_front c d (32 ∷ (k ++ 32 ∷ x)) (32 ∷ (l ++ 32 ∷ y)) cc in
     let f : k ++ 32 ∷ x ≡ l ++ 32 ∷ y = cc (one.1) in
     let two = same_cut k l x y (number_is_one k h.is_form.0) (number_is_one l i.is_form.0) f in
     cc (one.0, two.field, two.rest)

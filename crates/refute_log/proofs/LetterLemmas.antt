@@ -6,16 +6,18 @@ use Rattle.plan_core.specs.declared.criterion.Criterion.{Criterion}
 use Rattle.plan_core.specs.declared.criterion.Criterion.TheVariants.{Height, Bends, Diagonal, Width}
 use Rattle.cnf_core.specs.Lit.{Literal}
 use Rattle.cnf_core.specs.Clause.{AreDistinct}
+use Rattle.line_text.specs.Criteria.{criterion_word}
+use Rattle.line_text.specs.Fields.{LacksByte, IsCutAt}
 use Rattle.refute_log.specs.declared.line.LogLine.TheVariants.{Formula, Learnt, Query, Refuted}
 use Rattle.refute_log.specs.declared.fault.LogWhat.{LogWhat}
 use Rattle.refute_log.specs.declared.fault.LogWhat.TheVariants.{Header, Form, Number, Twice}
 use Rattle.refute_log.specs.declared.fault.LineTextFault.{LineTextFault}
 use Rattle.refute_log.specs.declared.fault.LineTextFault.TheVariants.{Log, Memory}
-use Rattle.refute_log.specs.Lines.{last_bound, last_var, criterion_text}
+use Rattle.refute_log.specs.Lines.{last_bound, last_var}
 use Rattle.refute_log.specs.LineForm.{Field, spaced, fields_text, IsNumber, IsCounted}
 use Rattle.refute_log.specs.LineForm.LineForm.{FormulaForm, LearntForm, BoundForm, QueryForm, RefutedForm, ModelForm}
 use Rattle.refute_log.specs.LineText.{IsTextOf, HasLineFault, IsFaultWhere, IsWantOrFault}
-use Rattle.refute_log.specs.FieldText.{IsOneField, IsCut, HasBound, HasFields, HasLiterals, HasFieldsFault}
+use Rattle.refute_log.specs.FieldText.{HasBound, HasFields, HasLiterals, HasFieldsFault}
 use Rattle.refute_log.proofs.ReadingLemmas.{zero_is_one, SameCut, same_cut, no_cut, number_is_one, regroup}
 
 -- a fault of one kind is one of another
@@ -117,40 +119,40 @@ no_letter letter text f l b q r ModelForm k = let e = k.spelled in cc
 pub no_front : (text : List ℕ) → ((letter : ℕ) (rest : List ℕ) → text ≢ letter ∷ 32 ∷ rest) → (text ≡ 109 ∷ [] → ⊥) → HasLineFault text Form
 no_front text h m (FormulaForm fields) k = h 102 (fields_text fields) k.spelled
 no_front text h m (LearntForm fields) k = h 108 (fields_text fields) k.spelled
-no_front text h m (BoundForm criterion k x) e = h 98 (criterion_text criterion ++ 32 ∷ (k ++ 32 ∷ x)) e.spelled
+no_front text h m (BoundForm criterion k x) e = h 98 (criterion_word criterion ++ 32 ∷ (k ++ 32 ∷ x)) e.spelled
 no_front text h m (QueryForm fields) k = h 113 (fields_text fields) k.spelled
 no_front text h m (RefutedForm fields) k = h 114 (fields_text fields) k.spelled
 no_front text h m ModelForm k = m k.spelled
 
 -- Bound lines
-one_by_test : (bs : List ℕ) → list_all (λ b. not (eqb b 32)) bs ≡ true → IsOneField bs
+one_by_test : (bs : List ℕ) → list_all (λ b. not (eqb b 32)) bs ≡ true → LacksByte 32 bs
 one_by_test [] e = tt
 one_by_test (b ∷ bs) e = elim (eqb_tells b 32) [
   | inl is ↦ cc (rw is.0 at e)
   | inr other ↦ (other.1, one_by_test bs (rw other.0 at e))
 ]
 
-criterion_is_one : (c : Criterion) → IsOneField (criterion_text c)
-criterion_is_one Height = one_by_test (criterion_text Height) refl
-criterion_is_one Bends = one_by_test (criterion_text Bends) refl
-criterion_is_one Diagonal = one_by_test (criterion_text Diagonal) refl
-criterion_is_one Width = one_by_test (criterion_text Width) refl
+criterion_is_one : (c : Criterion) → LacksByte 32 (criterion_word c)
+criterion_is_one Height = one_by_test (criterion_word Height) refl
+criterion_is_one Bends = one_by_test (criterion_word Bends) refl
+criterion_is_one Diagonal = one_by_test (criterion_word Diagonal) refl
+criterion_is_one Width = one_by_test (criterion_word Width) refl
 
 abbrev pub LacksBound : List ℕ → Type 0
 LacksBound text = (c : Criterion) (k x : Field) → HasBound text c k x → ⊥
 
-bound_cut : (text word rest : List ℕ) (c : Criterion) (k x : Field) → IsCut text word rest → HasBound text c k x → SameCut word (criterion_text c) rest (k ++ 32 ∷ x)
-bound_cut text word rest c k x cut h = same_cut word (criterion_text c) rest (k ++ 32 ∷ x) cut.one (criterion_is_one c) (sym cut.spelled ∙ h.spelled)
+bound_cut : (text word rest : List ℕ) (c : Criterion) (k x : Field) → IsCutAt 32 text word rest → HasBound text c k x → SameCut word (criterion_word c) rest (k ++ 32 ∷ x)
+bound_cut text word rest c k x cut h = same_cut word (criterion_word c) rest (k ++ 32 ∷ x) cut.first (criterion_is_one c) (sym cut.spelled ∙ h.spelled)
 
-pub no_criterion : (text word rest : List ℕ) → IsCut text word rest → ((c : Criterion) → word ≡ criterion_text c → ⊥) → LacksBound text
+pub no_criterion : (text word rest : List ℕ) → IsCutAt 32 text word rest → ((c : Criterion) → word ≡ criterion_word c → ⊥) → LacksBound text
 no_criterion text word rest cut not = λ c k x h. not c (bound_cut text word rest c k x cut h).field
 
-pub no_second_field : (text word rest : List ℕ) → IsCut text word rest → IsOneField rest → LacksBound text
+pub no_second_field : (text word rest : List ℕ) → IsCutAt 32 text word rest → LacksByte 32 rest → LacksBound text
 no_second_field text word rest cut one = λ c k x h. no_cut rest k x one (bound_cut text word rest c k x cut h).rest
 
-pub no_numbers : (text word rest k x : List ℕ) → IsCut text word rest → IsCut rest k x → (IsNumber k → ⊥) ⊎ (IsNumber x → ⊥) → LacksBound text
+pub no_numbers : (text word rest k x : List ℕ) → IsCutAt 32 text word rest → IsCutAt 32 rest k x → (IsNumber k → ⊥) ⊎ (IsNumber x → ⊥) → LacksBound text
 no_numbers text word rest k x cut second either = λ c l y h.
-    let same = same_cut k l x y second.one (number_is_one l h.k_number) (sym second.spelled ∙ (bound_cut text word rest c l y cut h).rest) in
+    let same = same_cut k l x y second.first (number_is_one l h.k_number) (sym second.spelled ∙ (bound_cut text word rest c l y cut h).rest) in
     elim either [
       | inl not ↦ not (subst IsNumber (sym same.field) h.k_number)
       | inr not ↦ not (subst IsNumber (sym same.rest) h.x_number)

@@ -4,17 +4,18 @@ use Rattle.std.specs.Char.{IsAsciiDigit}
 use Rattle.std.specs.List.{AllByRecursion}
 use Rattle.cnf_core.specs.Lit.{Literal}
 use Rattle.cnf_core.specs.Clause.{IsThere, AreThere}
+use Rattle.line_text.specs.Fields.{LacksByte, IsCutAt}
 use Rattle.refute_log.specs.declared.fault.LogWhat.TheVariants.{Form, Number}
 use Rattle.refute_log.specs.Lines.{last_var, sign_text, literal_text, literals_text}
 use Rattle.refute_log.specs.LineForm.{Field, IsNumber, AreNumbers, spaced, fields_text, IsLiteral}
-use Rattle.refute_log.specs.FieldText.{IsOneField, IsCut, HasLiterals, AddsLiteral, AreRead, IsReadTo, HasFieldsFault}
+use Rattle.refute_log.specs.FieldText.{HasLiterals, AddsLiteral, AreRead, IsReadTo, HasFieldsFault}
 
 -- a field ends at its first space
 pub record SameCut (xs ys r s : List ℕ) : Type 0 where
   pub field : xs ≡ ys
   pub rest : r ≡ s
 
-pub same_cut : (xs ys r s : List ℕ) → IsOneField xs → IsOneField ys → xs ++ 32 ∷ r ≡ ys ++ 32 ∷ s → SameCut xs ys r s
+pub same_cut : (xs ys r s : List ℕ) → LacksByte 32 xs → LacksByte 32 ys → xs ++ 32 ∷ r ≡ ys ++ 32 ∷ s → SameCut xs ys r s
 same_cut [] [] r s h k e = record { field = refl; rest = cc }
 same_cut [] (y ∷ ys) r s h k e = let f : y ≡ 32 = cc in absurd (k.0 f)
 same_cut (x ∷ xs) [] r s h k e = let f : x ≡ 32 = cc in absurd (h.0 f)
@@ -24,22 +25,22 @@ same_cut (x ∷ xs) (y ∷ ys) r s h k e =
     let more = same_cut xs ys r s h.1 k.1 g in
     record { field = cc (f, more.field); rest = more.rest }
 
-pub no_cut : (text xs r : List ℕ) → IsOneField text → text ≡ xs ++ 32 ∷ r → ⊥
+pub no_cut : (text xs r : List ℕ) → LacksByte 32 text → text ≡ xs ++ 32 ∷ r → ⊥
 no_cut [] [] r h e = cc
 no_cut [] (x ∷ xs) r h e = cc
 no_cut (b ∷ text) [] r h e = let f : b ≡ 32 = cc in h.0 f
 no_cut (b ∷ text) (x ∷ xs) r h e = let f : text ≡ xs ++ 32 ∷ r = cc in no_cut text xs r h.1 f
 
-digits_are_one : (ds : List ℕ) → AllByRecursion IsAsciiDigit ds → IsOneField ds
+digits_are_one : (ds : List ℕ) → AllByRecursion IsAsciiDigit ds → LacksByte 32 ds
 digits_are_one [] h = tt
 digits_are_one (d ∷ ds) h = ((λ e. omega (arith, h.0)), digits_are_one ds h.1)
 
-signed_is_one : (p : Bool) (ds : List ℕ) → AllByRecursion IsAsciiDigit ds → IsOneField (sign_text p ++ ds)
+signed_is_one : (p : Bool) (ds : List ℕ) → AllByRecursion IsAsciiDigit ds → LacksByte 32 (sign_text p ++ ds)
 signed_is_one true ds h = digits_are_one ds h
 signed_is_one false ds h = ((λ e. omega arith), digits_are_one ds h)
 
-pub number_is_one : (field : Field) → IsNumber field → IsOneField field
-number_is_one field h = subst IsOneField (sym h.spelled) (signed_is_one h.positive h.digits h.only)
+pub number_is_one : (field : Field) → IsNumber field → LacksByte 32 field
+number_is_one field h = subst (LacksByte 32) (sym h.spelled) (signed_is_one h.positive h.digits h.only)
 
 -- how appended texts regroup
 pub regroup : (a c r : List ℕ) → ((a ++ 32 ∷ []) ++ c) ++ r ≡ a ++ 32 ∷ (c ++ r)
@@ -52,7 +53,7 @@ pub record Ahead (read fields : List Field) (rest : List ℕ) : Type 0 where
   pub numbers : AreNumbers more
   pub left : rest ≡ fields_text more
 
-pub zero_is_one : IsOneField (48 ∷ [])
+pub zero_is_one : LacksByte 32 (48 ∷ [])
 zero_is_one = ((λ e. omega arith), tt)
 
 pub ahead : (read fields : List Field) (rest : List ℕ) → AreNumbers read → AreNumbers fields → spaced read ++ rest ≡ fields_text fields → Ahead read fields rest
@@ -64,7 +65,7 @@ ahead (f ∷ read) (g ∷ fields) rest h k e =
     record { more = later.more; split = cc (cut.field, later.split); numbers = later.numbers; left = later.left }
 
 -- what is left where no further field is read
-pub no_form_at_end : (text rest : List ℕ) (right : Bool) (literals : List Literal) → IsReadTo text rest right literals → IsOneField rest → (rest ≡ 48 ∷ [] → ⊥) → HasFieldsFault text Form
+pub no_form_at_end : (text rest : List ℕ) (right : Bool) (literals : List Literal) → IsReadTo text rest right literals → LacksByte 32 rest → (rest ≡ 48 ∷ [] → ⊥) → HasFieldsFault text Form
 no_form_at_end text rest right literals h one not = λ fields k.
     let a = ahead h.fields fields rest h.numbers k.numbers (sym h.spelled ∙ k.spelled) in
     end a.more a.left
@@ -73,7 +74,7 @@ no_form_at_end text rest right literals h one not = λ fields k.
     end [] e = not e
     end (f ∷ more) e = no_cut rest f (fields_text more) one (e ∙ regroup f (spaced more) (48 ∷ []))
 
-pub no_form_at_field : (text rest field after : List ℕ) (right : Bool) (literals : List Literal) → IsReadTo text rest right literals → IsCut rest field after → (IsNumber field → ⊥) → HasFieldsFault text Form
+pub no_form_at_field : (text rest field after : List ℕ) (right : Bool) (literals : List Literal) → IsReadTo text rest right literals → IsCutAt 32 rest field after → (IsNumber field → ⊥) → HasFieldsFault text Form
 no_form_at_field text rest field after right literals h cut not = λ fields k.
     let a = ahead h.fields fields rest h.numbers k.numbers (sym h.spelled ∙ k.spelled) in
     at a.more a.numbers a.left
@@ -81,7 +82,7 @@ no_form_at_field text rest field after right literals h cut not = λ fields k.
     at : (more : List Field) → AreNumbers more → rest ≡ fields_text more → ⊥
     at [] n e = no_cut (48 ∷ []) field after zero_is_one (sym e ∙ cut.spelled)
     at (f ∷ more) n e =
-        let same = same_cut field f after (fields_text more) cut.one (number_is_one f n.0) (sym cut.spelled ∙ e ∙ regroup f (spaced more) (48 ∷ [])) in
+        let same = same_cut field f after (fields_text more) cut.first (number_is_one f n.0) (sym cut.spelled ∙ e ∙ regroup f (spaced more) (48 ∷ [])) in
         not (subst IsNumber (sym same.field) n.0)
 
 -- one more field
@@ -117,7 +118,7 @@ read_right true fields literals new field h a = (
 )
 read_right false fields literals new field h a = λ all. h (all_front IsLiteral fields field all)
 
-pub read_more : (text rest field after : List ℕ) (right : Bool) (literals new : List Literal) → IsReadTo text rest right literals → IsCut rest field after → IsNumber field → AddsLiteral literals new field → IsReadTo text after right new
+pub read_more : (text rest field after : List ℕ) (right : Bool) (literals new : List Literal) → IsReadTo text rest right literals → IsCutAt 32 rest field after → IsNumber field → AddsLiteral literals new field → IsReadTo text after right new
 read_more text rest field after right literals new h cut number a = record {
   fields = h.fields ++ field ∷ [];
   numbers = all_more IsNumber h.fields field h.numbers number;
@@ -125,7 +126,7 @@ read_more text rest field after right literals new h cut number a = record {
   read = read_right right h.fields literals new field h.read a;
 }
 
-pub read_wrong : (text rest field after : List ℕ) (right : Bool) (literals new : List Literal) → IsReadTo text rest right literals → IsCut rest field after → IsNumber field → (IsLiteral field → ⊥) → IsReadTo text after false new
+pub read_wrong : (text rest field after : List ℕ) (right : Bool) (literals new : List Literal) → IsReadTo text rest right literals → IsCutAt 32 rest field after → IsNumber field → (IsLiteral field → ⊥) → IsReadTo text after false new
 read_wrong text rest field after right literals new h cut number not = record {
   fields = h.fields ++ field ∷ [];
   numbers = all_more IsNumber h.fields field h.numbers number;

@@ -1,27 +1,14 @@
 -- What is known of a line's text while its fields are read, for private contracts alone.
-use Rattle.std.specs.Prelude.{◌≡◌, ◌≢◌, ◌<◌, ℕ, Bool, true, false, codes, map, List, [], ◌∷◌, ◌++◌, slice_index}
+use Rattle.std.specs.Prelude.{◌≡◌, ℕ, Bool, true, false, codes, map, List, [], ◌∷◌, ◌++◌}
 use Rattle.std.specs.List.{AllByRecursion}
 use Rattle.plan_core.specs.declared.criterion.Criterion.{Criterion}
 use Rattle.cnf_core.specs.Lit.{Literal}
 use Rattle.cnf_core.specs.Clause.{IsThere, AreThere, AreDistinct}
+use Rattle.line_text.specs.Criteria.{criterion_word}
 use Rattle.refute_log.specs.declared.fault.LogWhat.{LogWhat}
 use Rattle.refute_log.specs.declared.fault.LogWhat.TheVariants.{Header, Form, Number, Twice}
-use Rattle.refute_log.specs.Lines.{last_var, literal_text, literals_text, criterion_text}
+use Rattle.refute_log.specs.Lines.{last_var, literal_text, literals_text}
 use Rattle.refute_log.specs.LineForm.{Field, IsNumber, AreNumbers, spaced, fields_text, IsLiteral}
-
--- no space stands in the text
-abbrev pub IsOneField : List ℕ → Type 0
-IsOneField text = AllByRecursion (λ b. b ≢ 32) text
-
--- a field ends at the first space of the text, and the rest stands behind it
-pub record IsCut (text field rest : List ℕ) : Type 0 where
-  pub one : IsOneField field
-  pub spelled : text ≡ field ++ (codes " " ++ rest)
-
--- the field begins with a digit other than 0
-pub record BeginsCanonical (field : Field) : Type 0 where
-  pub above : 48 < slice_index field 0
-  pub below : slice_index field 0 < 58
 
 -- the text has these fields between the letter and the last `0`
 pub record HasFields (text : List ℕ) (fields : List Field) : Type 0 where
@@ -63,4 +50,4 @@ pub record IsReadTo (text rest : List ℕ) (right : Bool) (literals : List Liter
 pub record HasBound (text : List ℕ) (criterion : Criterion) (k x : Field) : Type 0 where
   pub k_number : IsNumber k
   pub x_number : IsNumber x
-  pub spelled : text ≡ criterion_text criterion ++ (codes " " ++ (k ++ (codes " " ++ x)))
+  pub spelled : text ≡ criterion_word criterion ++ (codes " " ++ (k ++ (codes " " ++ x)))

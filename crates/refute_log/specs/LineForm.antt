@@ -5,7 +5,8 @@ use Rattle.std.specs.List.{AllByRecursion}
 use Rattle.plan_core.specs.declared.criterion.Criterion.{Criterion}
 use Rattle.cnf_core.specs.Lit.{Literal}
 use Rattle.cnf_core.specs.Clause.{IsThere}
-use Rattle.refute_log.specs.Lines.{last_var, last_bound, sign_text, literal_text, criterion_text}
+use Rattle.line_text.specs.Criteria.{criterion_word}
+use Rattle.refute_log.specs.Lines.{last_var, last_bound, sign_text, literal_text}
 
 -- the bytes of a field where a number is due
 abbrev pub Field : Type 0
@@ -50,7 +51,7 @@ fields_text fields = spaced fields ++ codes "0"
 abbrev pub form_text : LineForm → List ℕ
 form_text (FormulaForm fields) = codes "f " ++ fields_text fields
 form_text (LearntForm fields) = codes "l " ++ fields_text fields
-form_text (BoundForm criterion k x) = codes "b " ++ (criterion_text criterion ++ (codes " " ++ (k ++ (codes " " ++ x))))
+form_text (BoundForm criterion k x) = codes "b " ++ (criterion_word criterion ++ (codes " " ++ (k ++ (codes " " ++ x))))
 form_text (QueryForm fields) = codes "q " ++ fields_text fields
 form_text (RefutedForm fields) = codes "r " ++ fields_text fields
 form_text ModelForm = codes "m"

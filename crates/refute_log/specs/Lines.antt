@@ -1,8 +1,7 @@
 -- Lines of a log: which are well formed, and the text of each.
 use Rattle.std.specs.Prelude.{◌≤◌, ℕ, Bool, true, false, ⊤, cond, codes, decimal, List, [], ◌++◌, length, flat_map}
 use Rattle.std.specs.List.{AllByRecursion}
-use Rattle.plan_core.specs.declared.criterion.Criterion.{Criterion}
-use Rattle.plan_core.specs.declared.criterion.Criterion.TheVariants.{Height, Bends, Diagonal, Width}
+use Rattle.line_text.specs.Criteria.{criterion_word}
 use Rattle.cnf_core.specs.Lit.{Literal}
 use Rattle.cnf_core.specs.Clause.{AreThere, AreDistinct}
 use Rattle.refute_log.specs.declared.line.LogLine.{LogLine}
@@ -68,17 +67,11 @@ literals_text ls = flat_map (λ l. literal_text l ++ codes " ") ls
 abbrev pub clause_text : List ℕ → List Literal → List ℕ
 clause_text letter ls = letter ++ codes " " ++ (literals_text ls ++ codes "0")
 
-abbrev pub criterion_text : Criterion → List ℕ
-criterion_text Height = codes "height"
-criterion_text Bends = codes "bends"
-criterion_text Diagonal = codes "diagonal"
-criterion_text Width = codes "width"
-
 -- the text of a line, without the line feed at its end
 abbrev pub line_text : LogLine → List ℕ
 line_text (Formula c) = clause_text (codes "f") c
 line_text (Learnt c) = clause_text (codes "l") c
-line_text (Bound criterion k x) = codes "b " ++ (criterion_text criterion ++ (codes " " ++ (decimal k ++ (codes " " ++ decimal x.0))))
+line_text (Bound criterion k x) = codes "b " ++ (criterion_word criterion ++ (codes " " ++ (decimal k ++ (codes " " ++ decimal x.0))))
 line_text (Query c) = clause_text (codes "q") c
 line_text (Refuted c) = clause_text (codes "r") c
 line_text Model = codes "m"

@@ -6,13 +6,14 @@ use Rattle.std.proofs.Common.{sym, ◌∙◌, ap, subst, arith, append_assoc, ge
 use Rattle.std.proofs.lemmas.Fmt.{decimal_injective, decimal_is_IsNumeral}
 use Rattle.std.proofs.lemmas.List.{append_cancel_left}
 use Rattle.plan_core.specs.declared.criterion.Criterion.{Criterion}
-use Rattle.plan_core.specs.declared.criterion.Criterion.TheVariants.{Height, Bends, Diagonal, Width}
 use Rattle.cnf_core.specs.Lit.{Literal}
 use Rattle.cnf_core.specs.declared.literal.Var.{Var}
 use Rattle.cnf_core.specs.Clause.{AreThere}
+use Rattle.line_text.specs.Criteria.{criterion_word}
+use Rattle.line_text.proofs.CriterionLemmas.{word_in_front}
 use Rattle.refute_log.specs.declared.line.LogLine.{LogLine}
 use Rattle.refute_log.specs.declared.line.LogLine.TheVariants.{Formula, Learnt, Bound, Query, Refuted, Model}
-use Rattle.refute_log.specs.Lines.{last_var, IsWellFormed, AreWellFormed, sign_text, literal_text, literals_text, criterion_text, ended_text, header, log_text, MayAllBeTold}
+use Rattle.refute_log.specs.Lines.{last_var, IsWellFormed, AreWellFormed, sign_text, literal_text, literals_text, ended_text, header, log_text, MayAllBeTold}
 
 abbrev pub IsNoDigit : ℕ → Type 0
 IsNoDigit b = digit_value b < 10 → ⊥
@@ -120,13 +121,6 @@ literals_once (l ∷ ls) (k ∷ ks) r s h i e =
 clause_once : (c d : List Literal) (r s : List ℕ) → AreThere last_var c → AreThere last_var d → ((literals_text c ++ 48 ∷ []) ++ 10 ∷ []) ++ r ≡ ((literals_text d ++ 48 ∷ []) ++ 10 ∷ []) ++ s → SameTail c d r s
 clause_once c d r s h k e = literals_once c d r s h k (sym (regroup_end (literals_text c) r 48 10) ∙ e ∙ regroup_end (literals_text d) s 48 10)
 
-pub criterion_once : (a b : Criterion) (r s : List ℕ) → criterion_text a ++ r ≡ criterion_text b ++ s → (a ≡ b) × (r ≡ s)
-criterion_once Height Height r s e = (refl, cc)
-criterion_once Bends Bends r s e = (refl, cc)
-criterion_once Diagonal Diagonal r s e = (refl, cc)
-criterion_once Width Width r s e = (refl, cc)
-criterion_once a b r s e = let z : get_or (criterion_text a ++ r) 0 0 ≡ get_or (criterion_text b ++ s) 0 0 = ap (λ (xs : List ℕ). get_or xs 0 0) e in absurd (omega arith)
-
 abbrev two_text : ℕ → ℕ → List ℕ → List ℕ
 two_text k x r = ((decimal k ++ 32 ∷ decimal x) ++ 10 ∷ []) ++ r
 
@@ -143,12 +137,12 @@ two_once k m x y r s hk hm hx hy e =
     record { bound = decimal_once k m hk hm one.front; variable = decimal_once x y hx hy two.front; rest = two.rest }
 
 abbrev bound_text : Criterion → ℕ → ℕ → List ℕ → List ℕ
-bound_text a k x r = ((criterion_text a ++ 32 ∷ (decimal k ++ 32 ∷ decimal x)) ++ 10 ∷ []) ++ r
+bound_text a k x r = ((criterion_word a ++ 32 ∷ (decimal k ++ 32 ∷ decimal x)) ++ 10 ∷ []) ++ r
 
 bound_once : (a b : Criterion) (k m : ℕ) (x y : Var) (r s : List ℕ) → IsWellFormed (Bound a k x) → IsWellFormed (Bound b m y) → bound_text a k x.0 r ≡ bound_text b m y.0 s → (Bound a k x ≡ Bound b m y) × (r ≡ s)
 bound_once a b k m x y r s h i e =
-    let f = sym (regroup_three (criterion_text a) (32 ∷ (decimal k ++ 32 ∷ decimal x.0)) (10 ∷ []) r) ∙ e ∙ regroup_three (criterion_text b) (32 ∷ (decimal m ++ 32 ∷ decimal y.0)) (10 ∷ []) s in
-    let one = criterion_once a b (32 ∷ two_text k x.0 r) (32 ∷ two_text m y.0 s) f in
+    let f = sym (regroup_three (criterion_word a) (32 ∷ (decimal k ++ 32 ∷ decimal x.0)) (10 ∷ []) r) ∙ e ∙ regroup_three (criterion_word b) (32 ∷ (decimal m ++ 32 ∷ decimal y.0)) (10 ∷ []) s in
+    let one = word_in_front a b (32 ∷ two_text k x.0 r) (32 ∷ two_text m y.0 s) f in
     let g : two_text k x.0 r ≡ two_text m y.0 s = cc (one.1) in
     let hk : k ≤ last_var = omega (arith, h.1) in
     let hm : m ≤ last_var = omega (arith, i.1) in

@@ -5,9 +5,10 @@ ghost use Rattle.refute_log.specs.LineForm.{IsLiteral};
 ghost use Rattle.refute_log.specs.LineText.{IsFaultWhere};
 ghost use Rattle.refute_log.specs.FieldText.{HasLiterals, AddsLiteral, HasFieldsFault};
 
-use crate::fields::{cut, is_number, read_literal};
+use crate::fields::{is_number, read_literal};
 use crate::{LineTextFault, LogWhat};
 use cnf_core::{Clause, Lit};
+use line_text::cut_field;
 use std::alloc::{AllocError, Global};
 
 /// Appends the literal that the field is the text of, and says whether it is one.
@@ -38,7 +39,7 @@ fn read_literals(alloc: Global, text: &[u8], line: u32) -> Result<Vec<Lit>, Line
     let mut literals = Vec::new(alloc);
     let mut right = true;
     let mut rest = text;
-    while let Some((field, after)) = cut(rest) {
+    while let Some((field, after)) = cut_field(rest) {
         if !is_number(field) {
             return Err(LineTextFault::Log {
                 what: LogWhat::Form,

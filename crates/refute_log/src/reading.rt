@@ -2,41 +2,29 @@
 ghost use Rattle.std.specs.Prelude.{◌≡◌, ◌≢◌, ◌≤◌, ◌⊎◌, ◌↔◌, ◌++◌, ◌∷◌, ℕ, List, codes, decimal, MatchOption, MatchResult, IfOk, IfErr, IsErrOf, IsTrue};
 ghost use Rattle.plan_core.specs.Exactly.{AnswersExactly};
 ghost use Rattle.plan_core.specs.declared.criterion.Criterion.{Criterion as Bounded};
-ghost use Rattle.refute_log.specs.Lines.{last_bound, last_var, criterion_text};
+ghost use Rattle.refute_log.specs.Lines.{last_bound, last_var};
 ghost use Rattle.refute_log.specs.LineForm.{Field, IsCounted};
 ghost use Rattle.refute_log.specs.LineText.{IsTextOf, IsWantOrFault, IsLineFault};
 ghost use Rattle.refute_log.specs.FieldText.{HasBound};
 
-use crate::fields::{cut, is_number, read_number};
+use crate::fields::{is_number, read_number};
 use crate::literals::{is_end, read_clause};
 use crate::{LineTextFault, LogLine, LogWhat};
 use cnf_core::{LAST_VAR, Var};
+use line_text::{cut_field, read_criterion};
 use plan_core::Criterion;
 use std::alloc::Global;
 
 /// The greatest value that a Bound line may speak of.
 const LAST_BOUND: u32 = 65535;
 
-/// The criterion that the word names, if it names one.
-fn criterion_of(word: &[u8]) -> Option<Criterion>
-    ensures { MatchOption result ((c : Bounded) → word.now ≡ criterion_text c → ⊥) (λ c. word.now ≡ criterion_text c) }
-{
-    match word {
-        b"height" => Some(Criterion::Height),
-        b"bends" => Some(Criterion::Bends),
-        b"diagonal" => Some(Criterion::Diagonal),
-        b"width" => Some(Criterion::Width),
-        _ => None,
-    }
-}
-
 /// The criterion and the two fields for numbers of the text behind the letter of a Bound line.
 fn split_bound(text: &[u8]) -> Option<(Criterion, &[u8], &[u8])>
     ensures { MatchOption result ((c : Bounded) (k x : Field) → HasBound text.now c k x → ⊥) (λ p. HasBound text.now p.0 p.1.now p.2.now) }
 {
-    let (word, rest) = cut(text)?;
-    let criterion = criterion_of(word)?;
-    let (k, variable) = cut(rest)?;
+    let (word, rest) = cut_field(text)?;
+    let criterion = read_criterion(word)?;
+    let (k, variable) = cut_field(rest)?;
     if !is_number(k) || !is_number(variable) {
         return None;
     }

@@ -1,4 +1,5 @@
-use Rattle.refute_log.proofs.FieldLemmas.{none_at, no_literal}
+use Rattle.plan_core.proofs.OptionFacts.{none_at}
+use Rattle.refute_log.proofs.FieldLemmas.{no_literal}
 use Rattle.refute_log.proofs.fields.read_literal.Goals as goal
 
 pub returns-in_err-variable : goal.returns-in_err-variable

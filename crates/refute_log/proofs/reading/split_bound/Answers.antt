@@ -1,6 +1,6 @@
 use Rattle.std.proofs.Common.{inl, inr}
 use Rattle.std.proofs.lemmas.Bool.{false≢true}
-use Rattle.refute_log.proofs.FieldLemmas.{none_at}
+use Rattle.plan_core.proofs.OptionFacts.{none_at}
 use Rattle.refute_log.proofs.LetterLemmas.{no_criterion, no_second_field, no_numbers}
 use Rattle.refute_log.proofs.reading.split_bound.Goals as goal
 use Rattle.refute_log.proofs.reading.split_bound.Goals.{then-not-is_number-via-then-not-is_number, then-not-is_number-via-else-not-is_number+then-not-is_number-2}
