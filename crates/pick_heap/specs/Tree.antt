@@ -1,6 +1,6 @@
 -- The tree of matches. Node k has the children 2 * k and 2 * k + 1; the nodes from leaves on are the
 -- leaves, one for each variable.
-use Rattle.std.specs.Prelude.{◌≡◌, ◌≢◌, ◌≤◌, ◌<◌, ◌⊎◌, ℕ, ◌+◌, ◌*◌, Bool, true, false, cond, nat_eq, List, length, slice_index, slice_index_or}
+use Rattle.std.specs.Prelude.{◌≡◌, ◌≢◌, ◌≤◌, ◌<◌, ◌⊎◌, ℕ, ◌+◌, ◌*◌, Bool, false, cond, nat_eq, List, length, slice_index, slice_index_or}
 use Rattle.cnf_core.specs.declared.limits.TheConstants.{VARS}
 
 abbrev pub at : List ℕ → ℕ → ℕ

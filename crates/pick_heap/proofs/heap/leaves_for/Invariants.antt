@@ -1,4 +1,4 @@
-use Rattle.std.proofs.Common.{◌≤◌, ◌<◌, ◌*◌, ◌-◌}
+use Rattle.std.proofs.Common.{◌≤◌, ◌*◌, ◌-◌}
 use Rattle.cnf_core.specs.declared.limits.TheConstants.{VARS}
 use Rattle.pick_heap.proofs.heap.leaves_for.Given as goal
 

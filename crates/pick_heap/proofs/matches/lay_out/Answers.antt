@@ -1,4 +1,4 @@
-use Rattle.std.proofs.Common.{arith, ◌+◌, ◌-◌, ◌<◌, ◌≤◌, ◌≡◌, ◌∙◌, ap, sym, length, set, subst, inl, inr}
+use Rattle.std.proofs.Common.{arith, ◌+◌, ◌-◌, ◌<◌, ◌≤◌, ◌∙◌, ap, sym, length, set, subst, inl, inr}
 use Rattle.std.proofs.lemmas.Bool.{cases_lt}
 use Rattle.pick_heap.proofs.MatchLemmas.{named_set, zero_named, zero_all, zero_set, free_past, word_below, kept_set, same_or_not}
 use Rattle.pick_heap.specs.Tree.{at, leaf_word}

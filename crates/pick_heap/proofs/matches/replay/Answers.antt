@@ -1,5 +1,4 @@
 use Rattle.std.proofs.Common.{arith, ◌*◌, ◌+◌, ◌/◌, ◌∙◌}
-use Rattle.pick_heap.specs.Tree.{at, IsWinner}
 use Rattle.pick_heap.proofs.MatchLemmas.{named_set, kept_set, won_up, won_same, winner_named}
 use Rattle.pick_heap.proofs.matches.replay.Goals as goal
 

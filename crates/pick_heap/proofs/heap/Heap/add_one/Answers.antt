@@ -1,4 +1,4 @@
-use Rattle.std.proofs.Common.{rules, arith, ◌≡◌, ◌∙◌, ◌<◌, ◌≤◌, ◌+◌, length, drop, set, sym, ap, subst, vec_len, List, ℕ}
+use Rattle.std.proofs.Common.{rules, ◌≡◌, ◌∙◌, ◌≤◌, ◌+◌, length, drop, sym, subst, vec_len}
 use Rattle.std.proofs.lemmas.List.{take_at}
 use Rattle.std.specs.Vec.{with_items}
 use Rattle.pick_heap.specs.Heap.{Ranked}

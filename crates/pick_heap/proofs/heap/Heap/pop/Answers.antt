@@ -1,4 +1,4 @@
-use Rattle.std.proofs.Common.{rules, arith, ◌≡◌, ◌∙◌, ◌<◌, ◌≤◌, ◌+◌, length, drop, sym, ap, subst, vec_len, List, ℕ, false}
+use Rattle.std.proofs.Common.{rules, arith, ◌≡◌, ◌∙◌, ◌<◌, ◌≤◌, length, drop, sym, subst, vec_len, false}
 use Rattle.std.proofs.lemmas.List.{take_at, get_or_default}
 use Rattle.std.specs.Vec.{with_items}
 use Rattle.pick_heap.specs.Heap.{Ranked, IsGreatest}
