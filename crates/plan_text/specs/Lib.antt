@@ -4,3 +4,4 @@ pub mod SheetText
 pub mod SheetFaults
 pub mod SheetWhats
 pub mod SheetReading
+pub mod SvgText

@@ -1,11 +1,12 @@
-//! The texts that tell what a station is and how it is drawn: the graph text and the sheet.
+//! The texts that tell what a station is and how it is drawn: the graph text, the sheet and the picture.
 //!
 //! `write_graph` appends the text of a track graph and of the order of its edges, `write_sheet` that of a
 //! `Sheet`: the grid, the order of criteria, the drawing that was found, and how the search ended.
 //! A sheet has two editions of text; `write_sheet` writes the second, and `read_sheet` and `read_drawing` read
 //! both again, or answer the first line with a fault. `laws` says that a text is that of one sheet or has one
 //! first fault, and that what is written is read again.
-//! `specs/GraphText` and `specs/SheetText` have the texts, `specs/SheetLine` the forms of a sheet's lines,
+//! `write_svg` appends the picture of a drawing.
+//! `specs/GraphText`, `specs/SheetText` and `specs/SvgText` have the texts, `specs/SheetLine` the forms of a sheet's lines,
 //! `specs/SheetFaults` their faults and `specs/SheetWhats` the faults' numbers and words;
 //! `specs/SheetReading` is for private contracts.
 //! The crate stands on `line_text`, `plan_core`, `plan_geometry`, `port_graph`, `track_order` and
@@ -25,6 +26,7 @@ mod sheet_fields;
 mod sheet_lines;
 mod sheet_reading;
 mod sheet_text;
+mod svg;
 
 pub use edition::Edition;
 pub use ending::Ending;
@@ -34,3 +36,7 @@ pub use sheet::Sheet;
 pub use sheet_fault::{SheetFault, SheetWhat};
 pub use sheet_reading::{read_drawing, read_sheet};
 pub use sheet_text::write_sheet;
+pub use svg::write_svg;
+
+#[cfg(test)]
+mod examples;
