@@ -1,13 +1,10 @@
 mod examples;
 
 use crate::{ReadFault, Records, TextWhat, read};
-use plan_core::Text;
+use plan_core::{MAX_FILE_BYTES, Text};
 use std::alloc::{AllocError, Global};
 use std::process::Abort;
 use std::test::Fail;
-
-/// The most bytes that a document may have.
-const LIMIT: usize = 4_194_304;
 
 fn add_attribute(line: &mut String, name: &str, text: &Option<Text>) -> Result<(), AllocError> {
     if let Some(text) = text {
@@ -61,7 +58,7 @@ fn each_selected_element_gives_a_row(rt: HostRuntime) -> Result<(), Fail> {
         (examples::NESTED, examples::NESTED_ROWS),
     ];
     for (document, want) in cases {
-        assert!(rt; document.len() <= LIMIT);
+        assert!(rt; document.len() <= MAX_FILE_BYTES);
         let rows = read(rt.alloc(), document.as_bytes())?;
         let lines = lines_of(rt.alloc(), &rows)?;
         assert_eq!(rt; lines.as_str(), want);
@@ -71,7 +68,7 @@ fn each_selected_element_gives_a_row(rt: HostRuntime) -> Result<(), Fail> {
 
 /// Checks that a document has this fault and no other.
 fn has_fault(rt: &(impl Abort + AllocGlobal), document: &[u8], what: TextWhat, at: usize) {
-    assert!(rt; document.len() <= LIMIT);
+    assert!(rt; document.len() <= MAX_FILE_BYTES);
     match read(rt.alloc(), document) {
         Err(
             ReadFault::Text {
@@ -213,8 +210,8 @@ fn elements_go_sixty_four_deep(rt: HostRuntime) -> Result<(), Fail> {
         document.extend_from_slice(b"</a>")?;
     }
     document.extend_from_slice(b"</infrastructure>")?;
-    document.resize(LIMIT, b'\n')?;
-    assert!(rt; document.len() <= LIMIT);
+    document.resize(MAX_FILE_BYTES, b'\n')?;
+    assert!(rt; document.len() <= MAX_FILE_BYTES);
     assert_eq!(rt; read(rt.alloc(), &document)?.len(), 0);
     Ok(())
 }

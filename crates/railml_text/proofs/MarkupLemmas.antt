@@ -1,7 +1,7 @@
 -- What stands after `<`: each kind of item that begins so, and all of them together.
 use Rattle.std.proofs.Common.{◌≡◌, ◌≢◌, ◌⊎◌, ℕ, Bool, true, false, ◌==◌, ◌&&◌, MatchBool, codes, List, [], ◌∷◌, ◌++◌, drop, Ok, Err, refl, sym, ap, ◌∙◌, subst, append_assoc, arith, inl, inr}
 use Rattle.std.specs.Prelude.{⊤}
-use Rattle.std.proofs.lemmas.Bool.{both_ways, and_parts, false_from_ne_true, and_from}
+use Rattle.std.proofs.lemmas.Bool.{both_ways, and_parts, false_from_ne_true, and_from, cases_Bool}
 use Rattle.plan_core.proofs.ListFacts.{same_heads}
 use Rattle.railml_text.specs.declared.miss.Miss.TheVariants.{Cut, Bad}
 use Rattle.railml_text.specs.declared.written.Closing.TheVariants.{Tag, Declaration}
@@ -181,10 +181,6 @@ instruction_cut : (bytes tail : List ℕ) → instruction_at bytes ≡ Err Cut �
 unfolding instruction_at
 instruction_cut bytes tail e = ap (mapped (λ _. item instruction)) (bracket_completed 46 63 (62 ∷ []) bytes tail (refl, (refl, tt)) (mapped_err (λ _. item instruction) (bracket_at (codes "?>") bytes) Cut e))
 
-decide : (v : Bool) → (v ≡ true) ⊎ (v ≡ false)
-decide true = inl refl
-decide false = inr refl
-
 pub Law-question : (first : Bool) → Law (QuestionRead first) (QuestionText first) Anything
 Law-question first = record {
   takes = takes;
@@ -235,7 +231,7 @@ Law-question first = record {
         }
 
     takes : (bytes : List ℕ) (x : Found) (rest : List ℕ) → QuestionRead first bytes (Ok (x, rest)) → Taken (QuestionText first) bytes x rest
-    takes bytes x rest h = cases (decide (first && goes_on_xml bytes))
+    takes bytes x rest h = cases (cases_Bool (first && goes_on_xml bytes))
       where
         cases : ((first && goes_on_xml bytes) ≡ true) ⊎ ((first && goes_on_xml bytes) ≡ false) → Taken (QuestionText first) bytes x rest
         cases (inl e) = let b = and_parts first (goes_on_xml bytes) e in takes_xml bytes x rest b.0 (xml_begins bytes b.1) (of bytes (Ok (x, rest)) true e h)
@@ -265,7 +261,7 @@ Law-question first = record {
     after_xml bytes after b = ap (λ (u : List ℕ). drop 3 u ++ after) b.parts ∙ sym (ap (λ (u : List ℕ). drop 3 (u ++ after)) b.parts)
 
     bad : (bytes after : List ℕ) → QuestionRead first bytes (Err Bad) → QuestionRead first (bytes ++ after) (Err Bad)
-    bad bytes after h = cases (decide (first && goes_on_xml bytes))
+    bad bytes after h = cases (cases_Bool (first && goes_on_xml bytes))
       where
         cases : ((first && goes_on_xml bytes) ≡ true) ⊎ ((first && goes_on_xml bytes) ≡ false) → QuestionRead first (bytes ++ after) (Err Bad)
         cases (inl e) =
@@ -276,7 +272,7 @@ Law-question first = record {
         cases (inr e) = absurd (never_bad bytes (of bytes (Err Bad) false e h))
 
     cut : (bytes : List ℕ) → QuestionRead first bytes (Err Cut) → GoesOn (QuestionRead first) Anything bytes
-    cut bytes h = cases (decide (first && goes_on_xml bytes))
+    cut bytes h = cases (cases_Bool (first && goes_on_xml bytes))
       where
         cases : ((first && goes_on_xml bytes) ≡ true) ⊎ ((first && goes_on_xml bytes) ≡ false) → GoesOn (QuestionRead first) Anything bytes
         cases (inl e) =
@@ -298,7 +294,7 @@ Law-question first = record {
         }
 
     once : (bytes : List ℕ) (r s : Read Found) → QuestionRead first bytes r → QuestionRead first bytes s → r ≡ s
-    once bytes r s h k = cases (decide (first && goes_on_xml bytes))
+    once bytes r s h k = cases (cases_Bool (first && goes_on_xml bytes))
       where
         cases : ((first && goes_on_xml bytes) ≡ true) ⊎ ((first && goes_on_xml bytes) ≡ false) → r ≡ s
         cases (inl e) = Law-declaration.once (drop 3 bytes) r s (of bytes r true e h) (of bytes s true e k)
