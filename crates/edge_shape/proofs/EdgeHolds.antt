@@ -70,7 +70,7 @@ whole_holds v e west east width w n y size rx rz r =
     (rules_hold v (bend_rules e.second_bend e.east_up e.east_down (e.seen (width - 1))) (bend_holds v e.second_bend e.east_up e.east_down (e.seen (width - 1))
     (r.second_bend ∙ sym (ap (λ b. (b || v e.east_down) && v (e.seen (width - 1))) r.east_up ∙ ap (λ b. (is_up (step y (w + n)) || b) && v (e.seen (width - 1))) r.east_down ∙ ap (λ b. b && v (e.seen (width - 1))) (diagonal_bool (step y (w + n))) ∙ ap (λ b. not (is_level (step y (w + n))) && b) level)))))
 
--- what P1 to P3 need
+-- what the families that follow from the others need
 through_up : (v : Assignment) (e : EdgeLits) (width w n c : ℕ) (y : ℕ → ℕ) → IsTrack y w n → IsFlatOutside y w n → ReadsTrack v e width y w n → c < width → Is (v (e.up c)) → Is (v e.west_up) ⊎ Is (v e.east_up)
 through_up v e width w n c y t f r lt h =
     let up = up_is (step y c) (sym (r.up c lt) ∙ h) in

@@ -11,7 +11,6 @@ use Rattle.edge_shape.specs.EdgeVars.{EdgeLits, before}
 use Rattle.edge_shape.specs.Edge.{range_rules, step_rules, seen_rules, shape_rules, end_rules, same_where, bend_rules, inner_rules, through_rules, level_rules, edge_rules}
 use Rattle.edge_lines.proofs.StepLemmas.{Is}
 
--- E3
 range_bool : (i a b : Bool) → (Is i × (Is a × ⊤) → ⊥) × ((Is i × ⊤ → Is b ⊎ ⊥) × ((Is b × ⊤ → Is a ⊎ (Is i ⊎ ⊥)) × ⊤)) → i ≡ (not a && b)
 range_bool i a b h = grind (arith, h.0, h.1.0, h.1.1.0)
 
@@ -30,7 +29,6 @@ range_holds v e x z c w m rx rz h =
     range_back (v (e.inside c)) (value v (at_least x (c + 1))) (value v (at_least z c))
     (h ∙ ap (λ a. a && nat_le c m) s ∙ ap (λ a. not a && nat_le c m) (sym (rx.each (c + 1))) ∙ ap (λ b. not (value v (at_least x (c + 1))) && b) (sym (rz.each c)))
 
--- E4
 pub record StepFacts (i j u d : Bool) : Type 0 where
   pub up_west : Is u → Is i
   pub up_east : Is u → Is j
@@ -54,7 +52,6 @@ step_means v e c h = record {
 pub step_holds : (v : Assignment) (e : EdgeLits) (c : ℕ) → StepFacts (v (e.inside c)) (v (e.inside (c + 1))) (v (e.up c)) (v (e.down c)) → Follows v (step_rules e c)
 step_holds v e c f = ((λ a. inl (f.up_west a.0)), ((λ a. inl (f.up_east a.0)), ((λ a. inl (f.down_west a.0)), ((λ a. inl (f.down_east a.0)), ((λ a. f.one a.0 a.1.0), tt)))))
 
--- E6
 pub seen_means : (v : Assignment) (e : EdgeLits) (c : ℕ) → Follows v (seen_rules e c) → v (e.seen c) ≡ (value v (before e.seen c) || (v (e.inside c) && (v (e.inside (c + 1)) && (not (v (e.up c)) && not (v (e.down c))))))
 seen_means v e c h = cases (value v (before e.seen c)) (v (e.inside c)) (v (e.inside (c + 1))) (v (e.up c)) (v (e.down c)) (v (e.seen c))
     (λ a b. h.0 (a, (b, tt))) (λ a. only (h.1.0 (a, tt))) (λ a. h.1.1.0 (a, tt)) (λ a. h.1.1.1.0 (a, tt)) (λ a b. only (h.1.1.1.1.0 (a, (b, tt)))) (λ a b. only (h.1.1.1.1.1.0 (a, (b, tt))))
@@ -83,7 +80,6 @@ seen_holds v e c h = cases (value v (before e.seen c)) (v (e.inside c)) (v (e.in
       ),
     )
 
--- E7 and E8
 pub record ShapeFacts (p q s j u d : Bool) : Type 0 where
   pub no_peak : Is p → Is d → ⊥
   pub no_dip : Is q → Is u → ⊥
@@ -101,7 +97,6 @@ shape_means v e c h = record {
 pub shape_holds : (v : Assignment) (e : EdgeLits) (c : ℕ) → ShapeFacts (value v (before e.up c)) (value v (before e.down c)) (value v (before e.seen c)) (v (e.inside (c + 1))) (v (e.up c)) (v (e.down c)) → Follows v (shape_rules e c)
 shape_holds v e c f = ((λ a. f.no_peak a.0 a.1.0), ((λ a. f.no_dip a.0 a.1.0), ((λ a. inl (f.rises_on a.0 a.1.0 a.1.1.0)), ((λ a. inl (f.falls_on a.0 a.1.0 a.1.1.0)), tt))))
 
--- E10
 pub same_means : (v : Assignment) (x : IntVars) (c a b n : ℕ) → Reads v x n → n ≡ c → Follows v (same_where x c a b) → v a ≡ v b
 same_means v x c a b n r is h =
     let at : nat_le c n ≡ true = grind (arith, nat_tests) in
@@ -127,7 +122,6 @@ same_holds v x c a b n r same = (
           inr (inl (sym (eq is) ∙ q))
     ]
 
--- E11
 pub bend_means : (v : Assignment) (b r f l : ℕ) → Follows v (bend_rules b r f l) → v b ≡ ((v r || v f) && v l)
 bend_means v b r f l h = cases (v b) (v r) (v f) (v l) (λ a. h.0 (a, tt)) (λ a. only (h.1.0 (a, tt))) (λ a g. only (h.1.1.0 (a, (g, tt)))) (λ a g. only (h.1.1.1.0 (a, (g, tt))))
   where
@@ -140,7 +134,6 @@ bend_holds v b r f l e = cases (v b) (v r) (v f) (v l) e
     cases : (b r f l : Bool) → b ≡ ((r || f) && l) → ((Is b × ⊤) → Is r ⊎ (Is f ⊎ ⊥)) × (((Is b × ⊤) → Is l ⊎ ⊥) × (((Is r × (Is l × ⊤)) → Is b ⊎ ⊥) × (((Is f × (Is l × ⊤)) → Is b ⊎ ⊥) × ⊤)))
     cases b r f l e = ((λ a. grind (arith, e, a.0)), ((λ a. inl (grind (arith, e, a.0))), ((λ a. inl (grind (arith, e, a.0, a.1.0))), ((λ a. inl (grind (arith, e, a.0, a.1.0))), tt))))
 
--- E12
 pub inner_means : (v : Assignment) (e : EdgeLits) (c : ℕ) → (Is (v (e.up c)) → Is (v (e.down c)) → ⊥) → (Is (v (e.up (c + 1))) → Is (v (e.down (c + 1))) → ⊥) → Follows v (inner_rules e c)
     → v (e.bend (c + 1)) ≡ (v (e.inside c) && (v (e.inside (c + 2)) && ((v (e.up c) && not (v (e.up (c + 1))) || v (e.up (c + 1)) && not (v (e.up c))) || (v (e.down c) && not (v (e.down (c + 1))) || v (e.down (c + 1)) && not (v (e.down c))))))
 inner_means v e c one two h = cases (v (e.bend (c + 1))) (v (e.inside c)) (v (e.inside (c + 2))) (v (e.up c)) (v (e.up (c + 1))) (v (e.down c)) (v (e.down (c + 1))) one two
@@ -187,11 +180,10 @@ inner_holds v e c one two h = cases (v (e.bend (c + 1))) (v (e.inside c)) (v (e.
       ),
     )
 
--- E9
 pub end_holds : (v : Assignment) (e : EdgeLits) → (Is (v e.west_up) → Is (v e.west_down) → ⊥) → (Is (v e.east_up) → Is (v e.east_down) → ⊥) → Follows v (end_rules e)
 end_holds v e one two = ((λ a. one a.0 a.1.0), ((λ a. two a.0 a.1.0), tt))
 
--- P1 to P3 are read in no proof: only that they hold
+-- the families that follow from the others are read in no proof: only that they hold
 pub through_holds : (v : Assignment) (e : EdgeLits) (c : ℕ) → (Is (v (e.up c)) → Is (v e.west_up) ⊎ Is (v e.east_up)) → (Is (v (e.down c)) → Is (v e.west_down) ⊎ Is (v e.east_down)) → Follows v (through_rules e c)
 through_holds v e c f g = ((λ a. two (f a.0)), ((λ a. two (g a.0)), tt))
   where

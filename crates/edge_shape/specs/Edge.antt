@@ -12,7 +12,7 @@ use Rattle.edge_shape.specs.Rules.{Rule, rule, rule_clauses}
 use Rattle.edge_shape.specs.EdgeVars.{NodeInts, EdgeLits, before}
 use Rattle.edge_lines.specs.Columns.{is_up, is_down, is_level, within, seen_by, turns_behind, has_level}
 
--- E3: which columns the line has
+-- which columns the line has
 abbrev pub range_rules : EdgeLits → IntVars → IntVars → ℕ → List Rule
 range_rules e west_x east_x c =
     rule (yes (e.inside c) ∷ at_least west_x (c + 1) ∷ []) []
@@ -20,7 +20,7 @@ range_rules e west_x east_x c =
     ∷ rule (at_least east_x c ∷ []) (at_least west_x (c + 1) ∷ yes (e.inside c) ∷ [])
     ∷ []
 
--- E4: a step lies between two columns of the line, and is one of three
+-- a step lies between two columns of the line, and is one of three
 abbrev pub step_rules : EdgeLits → ℕ → List Rule
 step_rules e c =
     rule (yes (e.up c) ∷ []) (yes (e.inside c) ∷ [])
@@ -37,7 +37,7 @@ near_clause a b k = clause_of [] (flip (at_least a (k + 1)) ∷ at_least b k ∷
 abbrev pub near_clauses : IntVars → IntVars → ℕ → Clauses
 near_clauses a b high = each (near_clause a b) 1 (high - 1)
 
--- E5: a height that doesn't fall stays at least as it is, one that doesn't rise at most
+-- a height that doesn't fall stays at least as it is, one that doesn't rise at most
 abbrev pub level_clauses : IntVars → IntVars → Literal → Literal → Clauses
 level_clauses a b up down = le_clauses a b 0 (down ∷ []) ++ le_clauses b a 0 (up ∷ [])
 
@@ -56,7 +56,7 @@ rise_clauses a b up down high = (level_clauses a b up down ++ diagonal_clauses a
 abbrev pub height_clauses : EdgeLits → ℕ → ℕ → Clauses
 height_clauses e high c = rise_clauses (e.height c) (e.height (c + 1)) (positive_of (e.up c)) (positive_of (e.down c)) high
 
--- E6: seen from the first level step on
+-- seen from the first level step on
 abbrev pub seen_rules : EdgeLits → ℕ → List Rule
 seen_rules e c =
     rule (yes (e.inside c) ∷ yes (e.inside (c + 1)) ∷ []) (yes (e.up c) ∷ yes (e.down c) ∷ yes (e.seen c) ∷ [])
@@ -67,7 +67,7 @@ seen_rules e c =
     ∷ rule (yes (e.seen c) ∷ yes (e.down c) ∷ []) (before e.seen c ∷ [])
     ∷ []
 
--- E7 and E8: a rise and a fall don't touch, and a diagonal step behind a level one goes on to the end
+-- a rise and a fall don't touch, and a diagonal step behind a level one goes on to the end
 abbrev pub shape_rules : EdgeLits → ℕ → List Rule
 shape_rules e c =
     rule (before e.up c ∷ yes (e.down c) ∷ []) []
@@ -76,7 +76,7 @@ shape_rules e c =
     ∷ rule (before e.seen c ∷ before e.down c ∷ yes (e.inside (c + 1)) ∷ []) (yes (e.down c) ∷ [])
     ∷ []
 
--- E9: the end slopes are two of three
+-- the end slopes are two of three
 abbrev pub end_rules : EdgeLits → List Rule
 end_rules e =
     rule (yes e.west_up ∷ yes e.west_down ∷ []) []
@@ -90,13 +90,13 @@ same_where x c a b =
     ∷ rule (at_least x c ∷ yes b ∷ []) (at_least x (c + 1) ∷ yes a ∷ [])
     ∷ []
 
--- E10: the end slopes are those of the first and the last step
+-- the end slopes are those of the first and the last step
 abbrev pub slope_rules : EdgeLits → IntVars → IntVars → ℕ → List Rule
 slope_rules e west_x east_x c =
     same_where west_x c e.west_up (e.up c) ++ same_where west_x c e.west_down (e.down c)
     ++ same_where east_x (c + 1) e.east_up (e.up c) ++ same_where east_x (c + 1) e.east_down (e.down c)
 
--- E11: bend equals (rises or falls) and level
+-- bend equals (rises or falls) and level
 abbrev pub bend_rules : ℕ → ℕ → ℕ → ℕ → List Rule
 bend_rules bend rises falls level =
     rule (yes bend ∷ []) (yes rises ∷ yes falls ∷ [])
@@ -105,7 +105,7 @@ bend_rules bend rises falls level =
     ∷ rule (yes falls ∷ yes level ∷ []) (yes bend ∷ [])
     ∷ []
 
--- E12: an inner point has the column behind c
+-- an inner point has the column behind c
 abbrev pub inner_rules : EdgeLits → ℕ → List Rule
 inner_rules e c =
     rule (yes (e.bend (c + 1)) ∷ []) (yes (e.inside c) ∷ [])
@@ -119,14 +119,14 @@ inner_rules e c =
     ∷ rule (yes (e.inside c) ∷ yes (e.inside (c + 2)) ∷ yes (e.down (c + 1)) ∷ []) (yes (e.down c) ∷ yes (e.bend (c + 1)) ∷ [])
     ∷ []
 
--- P1: a diagonal step is one of the first or of the last piece
+-- a diagonal step is one of the first or of the last piece
 abbrev pub through_rules : EdgeLits → ℕ → List Rule
 through_rules e c =
     rule (yes (e.up c) ∷ []) (yes e.west_up ∷ yes e.east_up ∷ [])
     ∷ rule (yes (e.down c) ∷ []) (yes e.west_down ∷ yes e.east_down ∷ [])
     ∷ []
 
--- P2: a line without a level piece is one diagonal piece
+-- a line without a level piece is one diagonal piece
 abbrev pub level_rules : EdgeLits → ℕ → List Rule
 level_rules e level =
     rule [] (yes e.west_up ∷ yes e.west_down ∷ yes level ∷ [])
@@ -137,7 +137,7 @@ level_rules e level =
     ∷ rule (yes e.east_down ∷ []) (yes e.west_down ∷ yes level ∷ [])
     ∷ []
 
--- P3: the height beside an end is on the grid
+-- the height beside an end is on the grid
 abbrev pub edge_rules : EdgeLits → IntVars → IntVars → ℕ → List Rule
 edge_rules e west_y east_y high =
     rule (yes e.west_down ∷ []) (at_least west_y 1 ∷ [])
