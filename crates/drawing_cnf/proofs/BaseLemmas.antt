@@ -1,5 +1,5 @@
 -- Nodes and edges: a model of their clauses reads a drawing with laws 1 and 3, and each such drawing is read.
-use Rattle.std.proofs.Common.{◌≡◌, ◌⊎◌, ℕ, suc, ◌+◌, ◌-◌, ◌*◌, ◌≤◌, ◌<◌, Bool, true, List, [], map, length, get_or, inl, inr, sym, ◌∙◌, ap, subst, arith}
+use Rattle.std.proofs.Common.{◌≡◌, ◌⊎◌, ℕ, suc, ◌+◌, ◌-◌, ◌*◌, ◌≤◌, ◌<◌, Bool, true, List, [], map, length, get_or, inl, inr, refl, sym, ◌∙◌, ap, subst, arith}
 use Rattle.std.specs.Prelude.{⊤}
 use Rattle.std.specs.List.{range_with_len}
 use Rattle.std.proofs.lemmas.Bool.Decides.{leb_tells}
@@ -17,7 +17,7 @@ use Rattle.cnf_core.specs.Clause.{AllThere}
 use Rattle.cnf_core.specs.Assignment.{Assignment, SatisfiesAll, Extends}
 use Rattle.cnf_core.specs.Formula.{each}
 use Rattle.cnf_core.proofs.ClauseLemmas.{satisfies_append, satisfies_left, satisfies_right, satisfies_each, satisfies_at, satisfies_all_same, all_there_append, all_there_each}
-use Rattle.cnf_core.proofs.SettingLemmas.{extends_both, extends_weaker, each_extends}
+use Rattle.cnf_core.proofs.SettingLemmas.{same_none, extends_both, extends_weaker, each_extends}
 use Rattle.order_int.specs.IntVars.{IntVars, size, IntIsThere}
 use Rattle.order_int.specs.OrderInt.{Reads, number, int_clauses}
 use Rattle.order_int.proofs.IntLemmas.{int_means, int_holds, int_extends, int_there, reads_same}
@@ -30,6 +30,8 @@ use Rattle.edge_shape.proofs.LineExtends.{rows_of, line_extends}
 use Rattle.edge_shape.proofs.PlaceLemmas.{blocks, inside_there, height_there, whole_literals}
 use Rattle.edge_shape.proofs.SizeLemmas.{edge_there}
 use Rattle.drawing_cnf.specs.Stands.{DrawingVars, ReadsPoint, ReadsShape, ReadsDrawing, IsLoose}
+use Rattle.drawing_cnf.specs.Rank.{rank}
+use Rattle.drawing_cnf.proofs.RankLemmas.{IsAtPlace, rank_below, rank_once, at_place}
 use Rattle.drawing_cnf.specs.Expected.{node_at, edges_first, edge_first, drawing_vars, laws_first, node_clauses, edge_part, base_clauses}
 use Rattle.drawing_cnf.proofs.ThereLemmas.{AreVars, EdgeThere, WholeThere}
 use Rattle.drawing_cnf.proofs.InstanceLemmas.{shape_stays}
@@ -112,7 +114,7 @@ base_means v g grid is size h = record {
     m = length g.edges
 
     node_reads : (k : ℕ) → k < n → ReadsPoint v (x.node k) (point_of v (x.node k))
-    node_reads k lt = node_means v grid k (satisfies_at v (λ j. node_clauses (x.node j)) 0 n (satisfies_left v (each (λ j. node_clauses (x.node j)) 0 n) (each (edge_part g x grid) 0 m) h) k (omega arith) (omega arith))
+    node_reads k lt = node_means v grid (rank g k) (satisfies_at v (λ j. node_clauses (x.node j)) 0 n (satisfies_left v (each (λ j. node_clauses (x.node j)) 0 n) (each (edge_part g x grid) 0 m) h) k (omega arith) (omega arith))
 
     edge_reads : (e : ℕ) → e < m → LineIsRead v (x.edge e) grid.width grid.height grid.least (point_of v (x.node (edge g e).west)) (point_of v (x.node (edge g e).east))
     edge_reads e lt =
@@ -170,8 +172,8 @@ edge_spot_in g grid e is few lt =
     let all = blocks (edge_size grid.height grid.width) (length g.edges) e lt in
     (record { spot = record { from = omega arith; rows = is.height_limit; some_columns = is.some_width; columns = is.width_limit }; to = omega arith }, omega arith)
 
-pub node_spot : (grid : GridSize) (n k : ℕ) → k < n → 1 + k * (grid.height + grid.width) + grid.height + grid.width ≤ 1 + n * (grid.height + grid.width)
-node_spot grid n k lt = let all = blocks (grid.height + grid.width) n k lt in omega arith
+pub node_spot : (g : Graph) (grid : GridSize) (n : ℕ) → n < length g.nodes → 1 + rank g n * (grid.height + grid.width) + grid.height + grid.width ≤ edges_first g grid
+node_spot g grid n lt = let all = blocks (grid.height + grid.width) (length g.nodes) (rank g n) (rank_below g n lt) in omega arith
 
 edge_literals : (first high width vars : ℕ) → IsPlaced first high width → first + edge_size high width ≤ vars + 1 → EdgeThere vars (edge_lits first high width) width
 edge_literals first high width vars p to =
@@ -184,8 +186,8 @@ edge_literals first high width vars p to =
 
 pub base_vars : (g : Graph) (grid : GridSize) → IsGrid grid → laws_first g grid ≤ VARS + 1 → AreVars (base_last g grid) g (drawing_vars g grid) grid.width
 base_vars g grid is few = record {
-  node_x = λ n lt. let s = node_spot grid (length g.nodes) n lt in record { from = omega arith; to = omega arith };
-  node_y = λ n lt. let s = node_spot grid (length g.nodes) n lt in record { from = omega arith; to = omega arith };
+  node_x = λ n lt. let s = node_spot g grid n lt in record { from = omega arith; to = omega arith };
+  node_y = λ n lt. let s = node_spot g grid n lt in record { from = omega arith; to = omega arith };
   edge = λ e lt. let s = edge_spot_in g grid e is few lt in let top = s.1 in edge_literals (edge_first g grid e) grid.height grid.width (base_last g grid) s.0 (omega arith);
 }
 
@@ -229,14 +231,14 @@ point_extends grid k p v wide high =
     (subst (λ count. Extends (node_place grid k + grid.height) count w (λ u. Reads u i.x p.x)) columns (int_extends w i.x p.x (omega arith) wide)))
 
 abbrev pub NodesAreRead : Graph → GridSize → Drawing → Assignment → Type 0
-NodesAreRead g grid d w = (n : ℕ) → n < length g.nodes → ReadsPoint w (node_at grid n) (place d n)
+NodesAreRead g grid d w = (n : ℕ) → n < length g.nodes → ReadsPoint w (node_at grid (rank g n)) (place d n)
 
 nodes_extend : (g : Graph) (grid : GridSize) (d : Drawing) (v : Assignment) → IsLoose g grid d → Extends 1 (length g.nodes * (grid.height + grid.width)) v (NodesAreRead g grid d)
 nodes_extend g grid d v loose =
     let zero_first : node_place grid 0 ≡ 1 = omega arith in
     subst (λ first. Extends first (n * step) v (NodesAreRead g grid d)) zero_first
-    (extends_weaker (node_place grid 0) (n * step) v (λ w. (k : ℕ) → k < n → Q k w) (NodesAreRead g grid d) (λ w same h k lt. h k lt lt)
-    (each_extends (node_place grid) (λ k. step) next (λ w. ⊤) (λ u w same h. tt) Q (λ k u w same h lt. point_kept grid k (place d k) u w same (h lt)) n (n * step) (omega arith) one v tt))
+    (extends_weaker (node_place grid 0) (n * step) v (λ w. (k : ℕ) → k < n → Q k w) (NodesAreRead g grid d) (λ w same h j lt. h (rank g j) (rank_below g j lt) j lt refl)
+    (each_extends (node_place grid) (λ k. step) next (λ w. ⊤) (λ u w same h. tt) Q keeps n (n * step) (omega arith) one v tt))
   where
     step : ℕ
     step = grid.height + grid.width
@@ -244,16 +246,31 @@ nodes_extend g grid d v loose =
     n : ℕ
     n = length g.nodes
 
+    -- the node at the place, if there is one, is read
     Q : ℕ → Assignment → Type 0
-    Q k w = k < n → ReadsPoint w (node_at grid k) (place d k)
+    Q k w = (j : ℕ) → j < n → rank g j ≡ k → ReadsPoint w (node_at grid (rank g j)) (place d j)
 
     next : (k : ℕ) → node_place grid (k + 1) ≡ node_place grid k + step
     next k = let more : (k + 1) * (grid.height + grid.width) ≡ k * (grid.height + grid.width) + (grid.height + grid.width) = omega arith in omega arith
 
+    keeps : (k : ℕ) (u w : Assignment) → ((y : ℕ) → y < node_place grid (k + 1) → w y ≡ u y) → Q k u → Q k w
+    keeps k u w same h j lt e = point_kept grid (rank g j) (place d j) u w (subst (λ i. (y : ℕ) → y < node_place grid (i + 1) → w y ≡ u y) (sym e) same) (h j lt e)
+
+    here : (k i j : ℕ) (w : Assignment) → IsAtPlace g k i → j < n → rank g j ≡ k → ReadsPoint w (node_at grid k) (place d i) → ReadsPoint w (node_at grid (rank g j)) (place d j)
+    here k i j w at lt e r =
+        subst (λ o. ReadsPoint w (node_at grid o) (place d j)) (sym e)
+        (subst (λ o. ReadsPoint w (node_at grid k) (place d o)) (rank_once g i j at.within lt (at.place ∙ sym e)) r)
+
     one : (k : ℕ) (u : Assignment) → k < n → ⊤ → Extends (node_place grid k) step u (Q k)
-    one k u lt h =
-        let on = loose.on_grid k lt in
-        extends_weaker (node_place grid k) step u (λ w. ReadsPoint w (node_at grid k) (place d k)) (Q k) (λ w same r few. r) (point_extends grid k (place d k) u on.in_width on.in_height)
+    one k u lt h = elim (at_place g k) [
+      | inl found ↦
+          let i = found.0 in
+          let at = found.1 in
+          let on = loose.on_grid i at.within in
+          extends_weaker (node_place grid k) step u (λ w. ReadsPoint w (node_at grid k) (place d i)) (Q k) (λ w same r j in_j e. here k i j w at in_j e r)
+          (point_extends grid k (place d i) u on.in_width on.in_height)
+      | inr none ↦ record { to = u; same = same_none (node_place grid k) step u; holds = λ j in_j e. absurd (none j in_j e) }
+    ]
 
 -- the line is read, and satisfies the edge's clauses
 pub record EdgeHolds (w : Assignment) (g : Graph) (grid : GridSize) (d : Drawing) (e : ℕ) : Type 0 where
@@ -264,8 +281,8 @@ pub record BaseHolds (w : Assignment) (g : Graph) (grid : GridSize) (d : Drawing
   pub reads : ReadsDrawing w g (drawing_vars g grid) grid.width d
   pub satisfies : SatisfiesAll w (base_clauses g (drawing_vars g grid) grid)
 
-before_edges : (g : Graph) (grid : GridSize) (k e : ℕ) → k < length g.nodes → LieBefore (edge_first g grid e) (node_at grid k)
-before_edges g grid k e lt = let s = node_spot grid (length g.nodes) k lt in record { x = omega arith; y = omega arith }
+before_edges : (g : Graph) (grid : GridSize) (k e : ℕ) → k < length g.nodes → LieBefore (edge_first g grid e) (node_at grid (rank g k))
+before_edges g grid k e lt = let s = node_spot g grid k lt in record { x = omega arith; y = omega arith }
 
 edges_extend : (g : Graph) (grid : GridSize) (d : Drawing) (v : Assignment) → IsTrackGraph g → IsGrid grid → laws_first g grid ≤ VARS + 1 → IsLoose g grid d → NodesAreRead g grid d v → Extends (edges_first g grid) (length g.edges * edge_size grid.height grid.width) v (λ w. (e : ℕ) → e < length g.edges → EdgeHolds w g grid d e)
 edges_extend g grid d v is size few loose nodes =
@@ -290,7 +307,7 @@ edges_extend g grid d v is size few loose nodes =
     next k = let more : (k + 1) * step ≡ k * step + step = omega arith in omega arith
 
     stays : (u w : Assignment) → ((y : ℕ) → y < edge_first g grid 0 → w y ≡ u y) → NodesAreRead g grid d u → NodesAreRead g grid d w
-    stays u w same h k lt = point_kept grid k (place d k) u w (λ y below. same y (let s = node_spot grid (length g.nodes) k lt in let more : (k + 1) * (grid.height + grid.width) ≡ k * (grid.height + grid.width) + (grid.height + grid.width) = omega arith in omega arith)) (h k lt)
+    stays u w same h k lt = point_kept grid (rank g k) (place d k) u w (λ y below. same y (let s = node_spot g grid k lt in let more : (rank g k + 1) * (grid.height + grid.width) ≡ rank g k * (grid.height + grid.width) + (grid.height + grid.width) = omega arith in omega arith)) (h k lt)
 
     keeps : (e : ℕ) (u w : Assignment) → ((y : ℕ) → y < edge_first g grid (e + 1) → w y ≡ u y) → Q e u → Q e w
     keeps e u w same h lt =
@@ -300,8 +317,8 @@ edges_extend g grid d v is size few loose nodes =
         let to : edge_first g grid e + edge_size grid.height grid.width ≤ last + 1 = omega arith in
         let below : (y : ℕ) → y ≤ last → w y ≡ u y = λ y le. same y (omega arith) in
         let ends = is.nodes e lt in
-        let a = node_spot grid (length g.nodes) (edge g e).west ends.0 in
-        let b = node_spot grid (length g.nodes) (edge g e).east ends.1 in
+        let a = node_spot g grid (edge g e).west ends.0 in
+        let b = node_spot g grid (edge g e).east ends.1 in
         let k = h lt in
         record {
           reads = shape_stays u w last (x.edge e) grid.width (line d e) (edge_literals (edge_first g grid e) grid.height grid.width last s.0 to) below k.reads;
@@ -328,7 +345,7 @@ base_extends g grid d v is size few loose =
     subst (λ t. Extends 1 t v (λ w. BaseHolds w g grid d)) total
     (extends_both 1 (n * (grid.height + grid.width)) (m * edge_size grid.height grid.width) v (NodesAreRead g grid d) (λ w. BaseHolds w g grid d) (nodes_extend g grid d v loose)
     (λ w same nodes. extends_weaker (edges_first g grid) (m * edge_size grid.height grid.width) w (λ u. (e : ℕ) → e < m → EdgeHolds u g grid d e) (λ u. BaseHolds u g grid d)
-    (λ u later edges. both u (λ k lt. point_kept grid k (place d k) w u (λ y below. later.below y (let s = node_spot grid n k lt in let more : (k + 1) * (grid.height + grid.width) ≡ k * (grid.height + grid.width) + (grid.height + grid.width) = omega arith in omega arith)) (nodes k lt)) edges)
+    (λ u later edges. both u (λ k lt. point_kept grid (rank g k) (place d k) w u (λ y below. later.below y (let s = node_spot g grid k lt in let more : (rank g k + 1) * (grid.height + grid.width) ≡ rank g k * (grid.height + grid.width) + (grid.height + grid.width) = omega arith in omega arith)) (nodes k lt)) edges)
     (edges_extend g grid d w is size few loose nodes)))
   where
     n : ℕ
@@ -355,7 +372,7 @@ edge_whole e vars p to = (edge_literals e.first e.high e.width vars p to).whole
 pub spot_within : (g : Graph) (grid : GridSize) (e : ℕ) → e < length g.edges → edge_first g grid e + edge_size grid.height grid.width ≤ laws_first g grid
 spot_within g grid e lt = let all = blocks (edge_size grid.height grid.width) (length g.edges) e lt in omega arith
 
-pub node_x_there : (g : Graph) (grid : GridSize) (n vars : ℕ) (i : IntVars) → n < length g.nodes → laws_first g grid ≤ vars + 1 → i ≡ (node_at grid n).x → IntIsThere vars i
+pub node_x_there : (g : Graph) (grid : GridSize) (n vars : ℕ) (i : IntVars) → n < length g.nodes → laws_first g grid ≤ vars + 1 → i ≡ (node_at grid (rank g n)).x → IntIsThere vars i
 node_x_there g grid n vars i lt few e =
-    let s = node_spot grid (length g.nodes) n lt in
+    let s = node_spot g grid n lt in
     subst (λ (k : IntVars). IntIsThere vars k) (sym e) (record { from = omega arith; to = omega arith })

@@ -11,14 +11,16 @@ use Rattle.order_int.specs.IntVars.{int_vars}
 use Rattle.order_int.specs.OrderInt.{int_clauses}
 use Rattle.edge_shape.specs.EdgeVars.{NodeInts, node_ints, edge_lits, edge_size}
 use Rattle.edge_shape.specs.Edge.{edge_clauses}
+use Rattle.drawing_cnf.specs.Rank.{rank}
 use Rattle.drawing_cnf.specs.Stands.{DrawingVars, Stands}
 use Rattle.drawing_cnf.specs.LawClauses.{laws_clauses, laws_size}
 
--- Where the variables lie: nodes first, then edges, then the laws'.
+-- Where the variables lie: nodes first, from west to east, then edges by number, then the laws'.
 
+-- the integers at a place of the row of nodes, y first
 abbrev pub node_at : GridSize → ℕ → NodeInts
-node_at grid n =
-    node_ints (int_vars 0 grid.width (1 + n * (grid.height + grid.width) + grid.height)) (int_vars 0 grid.height (1 + n * (grid.height + grid.width)))
+node_at grid k =
+    node_ints (int_vars 0 grid.width (1 + k * (grid.height + grid.width) + grid.height)) (int_vars 0 grid.height (1 + k * (grid.height + grid.width)))
 
 abbrev pub edges_first : Graph → GridSize → ℕ
 edges_first g grid = 1 + length g.nodes * (grid.height + grid.width)
@@ -28,7 +30,7 @@ edge_first g grid e = edges_first g grid + e * edge_size grid.height grid.width
 
 abbrev pub drawing_vars : Graph → GridSize → DrawingVars
 drawing_vars g grid = record {
-  node = node_at grid;
+  node = λ n. node_at grid (rank g n);
   edge = λ e. edge_lits (edge_first g grid e) grid.height grid.width;
 }
 

@@ -1,8 +1,8 @@
 //! The formula of a drawing: its models stand for exactly the lawful drawings of a track graph.
 //!
 //! `encode` makes the formula of a graph on a grid. Each node has two integers, its column and its
-//! row; each edge has the variables and clauses of `edge_shape`, which give the laws on the grid and
-//! on ends of lines; the laws on order, slopes, distinct points and edges above each other have
+//! row, with variables by the node's place from west to east (`rank`); each edge has the variables and
+//! clauses of `edge_shape`, which give the laws on the grid and on ends of lines; the laws on order, slopes, distinct points and edges above each other have
 //! clauses of their own, one function each (`order`, `aligned`, `over`), for one node or one pair,
 //! with literals of which one may be true instead. `specs/Expected` is the clause list, as one
 //! definition that computes, with `Sound` and `Covers`; `specs/Stands` says when an assignment stands
@@ -18,6 +18,7 @@ mod node_laws;
 mod nodes;
 mod order;
 mod over;
+mod rank;
 mod whole;
 
 pub use encoded::{Encoded, encode};

@@ -4,9 +4,10 @@ ghost use Rattle.cnf_core.specs.declared.limits.TheConstants.{VARS};
 ghost use Rattle.cnf_core.specs.Formula.{each};
 ghost use Rattle.cnf_core.specs.Added.{AddsClauses, AddsBlock};
 ghost use Rattle.edge_shape.specs.EdgeVars.{edge_size};
+ghost use Rattle.drawing_cnf.specs.Rank.{rank};
 ghost use Rattle.drawing_cnf.specs.Expected.{node_at, drawing_vars, edge_first, edges_first, node_clauses, edge_part, base_clauses};
 
-use crate::node_laws::node_vars;
+use crate::rank::node_vars;
 use cnf_core::{CnfFault, Formula};
 use edge_shape::add_edge;
 use order_int::add_int;
@@ -15,40 +16,41 @@ use port_graph::PortGraph;
 
 /// The clauses of a node's integers.
 #[tactic(auto, using(cnf_core::proofs::StepLemmas::adds_longer))]
-fn add_node(f: &mut Formula, grid: &Grid, n: u16) -> Result<(), CnfFault>
+fn add_node(f: &mut Formula, g: &PortGraph, grid: &Grid, n: u16) -> Result<(), CnfFault>
     requires limit { f.old.vars ≤ VARS }
-    requires n { n ≤ 128 }
-    requires there { 1 + n * (grid.now.height + grid.now.width) + grid.now.height + grid.now.width ≤ f.old.vars + 1 }
-    ensures { AddsClauses result f.old f.new (node_clauses (node_at grid.now n)) 2 }
+    requires n { n < length g.now.nodes }
+    requires there { edges_first g.now grid.now ≤ f.old.vars + 1 }
+    ensures { AddsClauses result f.old f.new (node_clauses (node_at grid.now (rank g.now n))) 2 }
 {
-    let vars = node_vars(grid, n);
+    let vars = node_vars(g, grid, n);
     add_int(f, &vars.y)?;
     add_int(f, &vars.x)
 }
 
 /// The clauses of all nodes' integers.
-fn add_node_clauses(f: &mut Formula, grid: &Grid, count: u16) -> Result<(), CnfFault>
+fn add_node_clauses(f: &mut Formula, g: &PortGraph, grid: &Grid, count: u16) -> Result<(), CnfFault>
     requires limit { f.old.vars ≤ VARS }
-    requires count { count ≤ 128 }
-    requires there { 1 + count * (grid.now.height + grid.now.width) ≤ f.old.vars + 1 }
-    ensures { AddsClauses result f.old f.new (each (λ n. node_clauses (node_at grid.now n)) 0 count) 2 }
+    requires count { count ≡ length g.now.nodes }
+    requires there { edges_first g.now grid.now ≤ f.old.vars + 1 }
+    ensures { AddsClauses result f.old f.new (each (λ n. node_clauses (node_at grid.now (rank g.now n))) 0 count) 2 }
 {
     for n in 0..count {
-        add_node(f, grid, n)?;
+        add_node(f, g, grid, n)?;
     }
     Ok(())
 }
 
 /// All nodes.
-fn add_nodes(f: &mut Formula, grid: &Grid, count: u16) -> Result<(), CnfFault>
+fn add_nodes(f: &mut Formula, g: &PortGraph, grid: &Grid, count: u16) -> Result<(), CnfFault>
     requires empty { f.old.vars ≡ 0 }
-    requires count { count ≤ 128 }
-    ensures { AddsBlock result f.old f.new (count * (grid.now.height + grid.now.width)) (each (λ n. node_clauses (node_at grid.now n)) 0 count) 7 }
+    requires count { count ≡ length g.now.nodes }
+    ensures { AddsBlock result f.old f.new (count * (grid.now.height + grid.now.width)) (each (λ n. node_clauses (node_at grid.now (rank g.now n))) 0 count) 7 }
 {
     let high = u32::from(grid.height());
     let width = u32::from(grid.width());
+    let _ = g.nodes();
     f.new_vars(u32::from(count) * (high + width))?;
-    add_node_clauses(f, grid, count)
+    add_node_clauses(f, g, grid, count)
 }
 
 /// An edge.
@@ -58,8 +60,8 @@ fn add_edge_at(f: &mut Formula, g: &PortGraph, grid: &Grid, e: u16) -> Result<()
     ensures { AddsBlock result f.old f.new (edge_size grid.now.height grid.now.width) (edge_part g.now (drawing_vars g.now grid.now) grid.now e) 7 }
 {
     let _ = g.nodes();
-    let west = node_vars(grid, g.west(EdgeNo(e)).0);
-    let east = node_vars(grid, g.east(EdgeNo(e)).0);
+    let west = node_vars(g, grid, g.west(EdgeNo(e)).0);
+    let east = node_vars(g, grid, g.east(EdgeNo(e)).0);
     add_edge(f, grid, &west, &east)?;
     Ok(())
 }
@@ -82,6 +84,6 @@ pub(crate) fn add_base(f: &mut Formula, g: &PortGraph, grid: &Grid) -> Result<()
     ensures { AddsBlock result f.old f.new (length g.now.nodes * (grid.now.height + grid.now.width) + length g.now.edges * edge_size grid.now.height grid.now.width) (base_clauses g.now (drawing_vars g.now grid.now) grid.now) 7 }
 {
     let count = g.nodes();
-    add_nodes(f, grid, count)?;
+    add_nodes(f, g, grid, count)?;
     add_edges(f, g, grid)
 }

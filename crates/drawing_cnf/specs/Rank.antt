@@ -1,0 +1,28 @@
+-- The nodes in a row from west to east.
+use Rattle.std.specs.Prelude.{ℕ, zero, suc, ◌+◌, Bool, true, false, nat_lt, length}
+use Rattle.std.specs.Ordering.{int_cmp}
+use Rattle.std.specs.declared.cmp.Ordering.{Ordering}
+use Rattle.std.specs.declared.cmp.Ordering.TheVariants.{Less, Equal, Greater}
+use Rattle.plan_core.specs.Graph.{Graph, mileage}
+
+-- the node of smaller mileage comes first; of two that have one mileage, the one of smaller number
+abbrev pub comes_by : Ordering → ℕ → ℕ → Bool
+comes_by Less u v = true
+comes_by Equal u v = nat_lt u v
+comes_by Greater u v = false
+
+abbrev pub comes_before : Graph → ℕ → ℕ → Bool
+comes_before g u v = comes_by (int_cmp (mileage g u) (mileage g v)) u v
+
+abbrev pub one_when : Bool → ℕ
+one_when true = 1
+one_when false = 0
+
+-- how many numbers below n pass the test
+abbrev pub count_below : (ℕ → Bool) → ℕ → ℕ
+count_below p zero = 0
+count_below p (suc n) = count_below p n + one_when (p n)
+
+-- a node's place in the row, from 0 in the west
+unfoldable pub rank : Graph → ℕ → ℕ
+rank g n = count_below (λ u. comes_before g u n) (length g.nodes)
