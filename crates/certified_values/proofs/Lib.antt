@@ -1,0 +1,5 @@
+pub mod CertifiedLemmas
+pub mod ExpectedLemmas
+pub mod MeetsLemmas
+pub mod CapsLemmas
+pub mod ExampleLemmas

@@ -1,0 +1,5 @@
+pub mod Bounds
+pub mod Certified
+pub mod Expected
+pub mod Full
+pub mod Examples

@@ -1,0 +1,70 @@
+// Laws of certified values. The functions do nothing: their contracts are the laws.
+ghost use Rattle.std.specs.Prelude.{◌≡◌, ◌≤◌, ◌+◌, ◌++◌, ℕ, Bool, List, Option, Some, length, take, slice_get, All};
+ghost use Rattle.plan_core.specs.declared.criterion.Values.{Values};
+ghost use Rattle.plan_core.specs.declared.criterion.Criterion.{Criterion};
+ghost use Rattle.plan_core.specs.Grid.{GridSize};
+ghost use Rattle.plan_core.specs.Graph.{Graph};
+ghost use Rattle.plan_core.specs.Drawing.{Drawing};
+ghost use Rattle.plan_core.specs.Lawful.{Lawful};
+ghost use Rattle.plan_core.specs.Values.{values_of, value_of, Better, IsBest};
+ghost use Rattle.refute_log.specs.Told.{Lines};
+ghost use Rattle.refute_log.specs.Log.{Derives};
+ghost use Rattle.certified_values.specs.Bounds.{MeetsLog, CoversDrawings};
+ghost use Rattle.certified_values.specs.Certified.{IsLeast, Certifies, CertifiesNone, Settled};
+
+/// Values that meet a log that derives are not better than those it certifies, on the criteria it
+/// certifies; and none meet one that certifies that there is no drawing. Two of them that are both
+/// certified are the same there.
+pub fn certified_values_are_least()
+    ensures least { (greatest : Criterion → ℕ) (lines : Lines) (order : List Criterion) (v w : Values) (s : ℕ) →
+        MeetsLog lines w → Derives lines → Certifies greatest lines order v s → Better (take s order) w v → ⊥ }
+    ensures none { (lines : Lines) (w : Values) → MeetsLog lines w → Derives lines → CertifiesNone lines → ⊥ }
+    ensures once { (greatest : Criterion → ℕ) (lines : Lines) (order : List Criterion) (v w : Values) (s : ℕ) →
+        MeetsLog lines v → MeetsLog lines w → Derives lines → Certifies greatest lines order v s → Certifies greatest lines order w s →
+        All (λ c. value_of v c ≡ value_of w c) (take s order) }
+{}
+
+/// Whoever wrote the log: where it covers the lawful drawings and derives, none of them is better on
+/// the criteria that it certifies, and there is none where it certifies that. A lawful drawing whose
+/// values it certifies on the whole order is best.
+pub fn certified_drawings_are_least()
+    ensures least { (g : Graph) (above : ℕ → ℕ → Bool) (grid : GridSize) (greatest : Criterion → ℕ) (lines : Lines) (order : List Criterion) (v : Values) (s : ℕ) →
+        CoversDrawings g above grid lines → Derives lines → Certifies greatest lines order v s →
+        (d : Drawing) → Lawful g above grid d → Better (take s order) (values_of d) v → ⊥ }
+    ensures none { (g : Graph) (above : ℕ → ℕ → Bool) (grid : GridSize) (lines : Lines) →
+        CoversDrawings g above grid lines → Derives lines → CertifiesNone lines → (d : Drawing) → Lawful g above grid d → ⊥ }
+    ensures best { (g : Graph) (above : ℕ → ℕ → Bool) (grid : GridSize) (greatest : Criterion → ℕ) (lines : Lines) (order : List Criterion) (d : Drawing) →
+        CoversDrawings g above grid lines → Derives lines → Lawful g above grid d → Certifies greatest lines order (values_of d) (length order) →
+        IsBest g above grid order d }
+{}
+
+/// A log certifies whatever a front of it certifies.
+pub fn more_lines_certify_more()
+    ensures values { (greatest : Criterion → ℕ) (lines more : Lines) (order : List Criterion) (v : Values) (s : ℕ) →
+        Certifies greatest lines order v s → Certifies greatest (lines ++ more) order v s }
+    ensures none { (lines more : Lines) → CertifiesNone lines → CertifiesNone (lines ++ more) }
+{}
+
+/// To depth 0 all values are certified; to one more those that are, where the next value is least;
+/// and to each smaller depth.
+pub fn values_are_certified_place_by_place()
+    ensures none { (greatest : Criterion → ℕ) (lines : Lines) (order : List Criterion) (v : Values) → Certifies greatest lines order v 0 }
+    ensures next { (greatest : Criterion → ℕ) (lines : Lines) (order : List Criterion) (v : Values) (i : ℕ) (c : Criterion) → slice_get order i ≡ Some c →
+        Certifies greatest lines order v i → IsLeast greatest lines (take i order) c v → Certifies greatest lines order v (i + 1) }
+    ensures last { (greatest : Criterion → ℕ) (lines : Lines) (order : List Criterion) (v : Values) (i : ℕ) (c : Criterion) → slice_get order i ≡ Some c →
+        Certifies greatest lines order v (i + 1) → IsLeast greatest lines (take i order) c v }
+    ensures fewer { (greatest : Criterion → ℕ) (lines : Lines) (order : List Criterion) (v : Values) (s t : ℕ) → t ≤ s →
+        Certifies greatest lines order v s → Certifies greatest lines order v t }
+{}
+
+/// To some depth only the values of the criteria before it count.
+pub fn equal_values_are_certified_alike()
+    ensures { (greatest : Criterion → ℕ) (lines : Lines) (order : List Criterion) (v w : Values) (s : ℕ) →
+        All (λ c. value_of v c ≡ value_of w c) (take s order) → Certifies greatest lines order v s → Certifies greatest lines order w s }
+{}
+
+/// One depth at most is settled.
+pub fn one_depth_is_settled()
+    ensures { (greatest : Criterion → ℕ) (lines : Lines) (order : List Criterion) (found : Option Values) (s t : ℕ) →
+        Settled greatest lines order found s → Settled greatest lines order found t → s ≡ t }
+{}
