@@ -27,7 +27,7 @@ use Rattle.edge_lines.specs.Joins.{JoinsPoints}
 use Rattle.edge_lines.proofs.GridLemmas.{on_grid_heights}
 use Rattle.edge_shape.proofs.LineMeans.{models_are_lines}
 use Rattle.edge_shape.proofs.LineExtends.{rows_of, line_extends}
-use Rattle.edge_shape.proofs.PlaceLemmas.{blocks, inside_there, height_there, whole_literals}
+use Rattle.edge_shape.proofs.PlaceLemmas.{blocks, column_there, inside_there, height_there, whole_literals}
 use Rattle.edge_shape.proofs.SizeLemmas.{edge_there}
 use Rattle.drawing_cnf.specs.Stands.{DrawingVars, ReadsPoint, ReadsShape, ReadsDrawing, IsLoose}
 use Rattle.drawing_cnf.specs.Rank.{rank}
@@ -40,6 +40,8 @@ use Rattle.drawing_cnf.proofs.InstanceLemmas.{shape_stays}
 pub shape_of : (v : Assignment) (e : EdgeLits) (width : ℕ) (l : List Point) → ReadsLine v e width l → ReadsShape v e width l
 shape_of v e width l r = record {
   inside = r.inside;
+  up = r.up;
+  down = r.down;
   height = r.height;
   west = record { rises = r.west_up; falls = r.west_down };
   east = record { rises = r.east_up; falls = r.east_down };
@@ -180,6 +182,8 @@ edge_literals first high width vars p to =
     let w = whole_literals first high width vars p.spot to in
     record {
       inside = λ c le. inside_there first high width vars c p.spot to le;
+      up = λ c lt. column_there first high width vars c 1 p.spot to lt (omega arith);
+      down = λ c lt. column_there first high width vars c 2 p.spot to lt (omega arith);
       height = λ c le. height_there first high width vars c p.spot to le;
       whole = record { west_up = w.west_up; west_down = w.west_down; east_up = w.east_up; east_down = w.east_down; first_bend = w.first_bend; second_bend = w.second_bend };
     }

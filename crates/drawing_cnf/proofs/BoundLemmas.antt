@@ -1,33 +1,27 @@
--- The bounds of bends and height are exact, and each drawing extends to them.
+-- Bounds by sums: a variable is as a literal, the sum's variables tell a value, and the edges from west to east are all edges.
 use Rattle.std.proofs.Common.{◌≡◌, ◌⊎◌, ℕ, zero, suc, ◌+◌, ◌-◌, ◌≤◌, ◌<◌, Bool, true, false, not, List, [], ◌∷◌, length, get_or, inl, inr, refl, sym, ◌∙◌, ap, subst, arith}
-use Rattle.std.specs.Prelude.{nat_le, ◌&&◌}
-use Rattle.std.specs.List.{sum_by}
+use Rattle.std.specs.Prelude.{nat_le, All}
+use Rattle.std.specs.List.{sum_by, range_with_len, insert}
 use Rattle.std.proofs.lemmas.List.Sums.{sum_by-cons}
+use Rattle.std.proofs.lemmas.List.Sorted.{sum_by-IsPermutation, IsPermutation-insert, All-permutation}
+use Rattle.std.proofs.lemmas.List.Elements.{All-nil, All-cons, All-weaker}
 use Rattle.plan_core.specs.declared.point.Point.{Point}
-use Rattle.plan_core.specs.Grid.{GridSize}
 use Rattle.plan_core.specs.Graph.{Graph}
-use Rattle.plan_core.specs.Line.{bends, slope_east}
-use Rattle.plan_core.specs.Drawing.{Drawing, line}
 use Rattle.cnf_core.specs.declared.literal.LitOrTruth.{LitOrTruth}
-use Rattle.cnf_core.specs.Clause.{AreThere}
-use Rattle.cnf_core.specs.Assignment.{Assignment, SatisfiesAll, Extends}
-use Rattle.cnf_core.specs.LitOrTruth.{yes, flip, value, SomeTrue, clause_of}
+use Rattle.cnf_core.specs.Lit.{Literal, same_sign}
+use Rattle.cnf_core.specs.Clause.{Clauses, AreThere, AllThere}
+use Rattle.cnf_core.specs.Assignment.{Assignment, truth, SatisfiesAll, Extends}
+use Rattle.cnf_core.specs.LitOrTruth.{yes, flip, value, SomeTrue, IsWithin, clause_of}
 use Rattle.cnf_core.specs.Formula.{each}
-use Rattle.cnf_core.proofs.ClauseLemmas.{satisfies_append, satisfies_left, satisfies_right, satisfies_each, satisfies_at}
-use Rattle.cnf_core.proofs.GatherLemmas.{value-flip, clause_says, clause_holds}
-use Rattle.cnf_core.proofs.SettingLemmas.{patch, patch_same, patch_at, extends_both, extends_weaker}
-use Rattle.unary_sum.specs.Sum.{sum_count, sum_clauses, count_true, at_least as sum_at_least}
-use Rattle.unary_sum.proofs.SumLemmas.{sum_means, sum_extends}
-use Rattle.edge_lines.specs.Columns.{is_level}
-use Rattle.edge_lines.specs.Columns.{has_level_piece}
+use Rattle.cnf_core.proofs.ClauseLemmas.{satisfies_append, satisfies_left, satisfies_right, satisfies_each, satisfies_at, all_there_append, all_there_each, all_there_more}
+use Rattle.cnf_core.proofs.GatherLemmas.{value-flip, flip_within, clause_says, clause_holds, clause_there}
+use Rattle.cnf_core.proofs.SettingLemmas.{patch, patch_at, extends_weaker}
+use Rattle.unary_sum.specs.Sum.{SumVars, sum_vars, sum_count, sum_clauses, count_true, top, tree_of, at_least as sum_at_least}
+use Rattle.unary_sum.proofs.JoinLemmas.{at_within}
+use Rattle.unary_sum.proofs.SumLemmas.{sum_means, sum_extends, sum_there, top_there, tree_there}
 use Rattle.edge_lines.proofs.RunLemmas.{one_if}
-use Rattle.edge_lines.proofs.BendLemmas.{bends_are}
-use Rattle.drawing_cnf.specs.Stands.{DrawingVars}
-use Rattle.drawing_cnf.specs.Bounds.{IsExact, same_as, bend_lits, bends_sum, bends_bound, bends_bound_size}
+use Rattle.drawing_cnf.specs.Bounds.{IsExact, same_as, sum_bound, not_east, first_edges, west_first}
 use Rattle.drawing_cnf.proofs.GuardLemmas.{Is}
-use Rattle.drawing_cnf.proofs.OverLemmas.{Read}
-use Rattle.drawing_cnf.proofs.ThereLemmas.{AreVars, vars_more}
-use Rattle.drawing_cnf.proofs.InstanceLemmas.{drawing_stays}
 
 -- a variable that is as a literal
 same_case : (b t : Bool) → (not b ≡ true) ⊎ (t ≡ true) → (not t ≡ true) ⊎ (b ≡ true) → b ≡ t
@@ -57,39 +51,10 @@ same_as_holds v b t e = cases (v b) refl
     cases true s = both (inr (inl (sym e ∙ s))) (inr (inl s))
     cases false s = both (inl (ap not s)) (inl (value-flip v t ∙ ap not (sym e ∙ s)))
 
--- BENDS
-line_bends : (v : Assignment) (g : Graph) (x : DrawingVars) (grid : GridSize) (d : Drawing) (e : ℕ) → Read v g x grid d → e < length g.edges → bends (line d e) ≡ one_if (v (x.edge e).first_bend) + one_if (v (x.edge e).second_bend)
-line_bends v g x grid d e r lt =
-    let l = line d e in
-    let s = r.reads.lines e lt in
-    bends_are l (r.loose.joins e lt).shape
-    ∙ ap (λ b. one_if b + one_if (not (is_level (slope_east l)) && has_level_piece l)) (sym s.first_bend)
-    ∙ ap (λ b. one_if (v (x.edge e).first_bend) + one_if b) (sym s.second_bend)
-
-sum_of_bends : (v : Assignment) (x : DrawingVars) (lines : List (List Point)) (a : ℕ) → ((i : ℕ) → i < length lines → bends (get_or lines i []) ≡ one_if (v (x.edge (a + i)).first_bend) + one_if (v (x.edge (a + i)).second_bend)) → count_true v (bend_lits x a (length lines)) ≡ sum_by bends lines
-sum_of_bends v x [] a h = refl
-sum_of_bends v x (l ∷ lines) a h =
-    let z : a + 0 ≡ a = omega arith in
-    let one : bends l ≡ one_if (v (x.edge a).first_bend) + one_if (v (x.edge a).second_bend) = subst (λ e. bends l ≡ one_if (v (x.edge e).first_bend) + one_if (v (x.edge e).second_bend)) z (h 0 (omega arith)) in
-    let rest = sum_of_bends v x lines (a + 1) (λ i lt. let s : a + suc i ≡ a + 1 + i = omega arith in subst (λ e. bends (get_or lines i []) ≡ one_if (v (x.edge e).first_bend) + one_if (v (x.edge e).second_bend)) s (h (suc i) (omega arith))) in
-    let cons = sum_by-cons bends l lines in
-    omega arith
-
-pub count_bends : (v : Assignment) (g : Graph) (x : DrawingVars) (grid : GridSize) (d : Drawing) → Read v g x grid d → count_true v (bend_lits x 0 (length g.edges)) ≡ sum_by bends d.lines
-count_bends v g x grid d r =
-    let m : length d.lines ≡ length g.edges = r.loose.fits.size.lines in
-    subst (λ n. count_true v (bend_lits x 0 n) ≡ sum_by bends d.lines) m
-    (sum_of_bends v x d.lines 0 (λ i lt. let z : i ≡ 0 + i = omega arith in subst (λ e. bends (line d i) ≡ one_if (v (x.edge e).first_bend) + one_if (v (x.edge e).second_bend)) z (line_bends v g x grid d i r (omega arith))))
-
--- exact
-pub bends_exact : (v : Assignment) (g : Graph) (x : DrawingVars) (grid : GridSize) (d : Drawing) (last cap : ℕ) → Read v g x grid d → SatisfiesAll v (bends_bound g x last cap) → IsExact v last cap (sum_by bends d.lines)
-bends_exact v g x grid d last cap r h k from to =
-    let s = bends_sum g x last cap in
-    let sums = sum_clauses s in
-    let bounds = each (λ k. same_as (last + k) (sum_at_least s k)) 1 cap in
-    same_as_means v (last + k) (sum_at_least s k) (satisfies_at v (λ k. same_as (last + k) (sum_at_least s k)) 1 cap (satisfies_right v sums bounds h) k from (omega arith))
-    ∙ sum_means v cap (last + cap) s.inputs (satisfies_left v sums bounds h) k to
-    ∙ ap (nat_le k) (count_bends v g x grid d r)
+pub same_as_there : (vars b : ℕ) (t : LitOrTruth) → 1 ≤ b → b ≤ vars → IsWithin vars t → AllThere vars (same_as b t)
+same_as_there vars b t from to w =
+    all_there_append vars (clause_of [] (flip (yes b) ∷ t ∷ [])) (clause_of [] (flip t ∷ yes b ∷ []))
+    (clause_there vars [] (flip (yes b) ∷ t ∷ []) tt ((from, to), (w, tt))) (clause_there vars [] (flip t ∷ yes b ∷ []) tt (flip_within vars t w, ((from, to), tt)))
 
 -- a block of bound variables that tell the value
 pub set_bound : (v : Assignment) (last cap n : ℕ) → IsExact (patch (last + 1) cap (λ k. nat_le (k + 1) n) v) last cap n
@@ -98,24 +63,96 @@ set_bound v last cap n k from to =
     let back : k - 1 + 1 ≡ k = omega arith in
     ap (patch (last + 1) cap (λ k. nat_le (k + 1) n) v) place ∙ patch_at (last + 1) cap (λ k. nat_le (k + 1) n) v (k - 1) (omega arith) ∙ ap (λ j. nat_le j n) back
 
-bends_there : (vars : ℕ) (g : Graph) (x : DrawingVars) (width : ℕ) (e n : ℕ) → AreVars vars g x width → e + n ≤ length g.edges → AreThere vars (bend_lits x e n)
-bends_there vars g x width e zero a le = tt
-bends_there vars g x width e (suc n) a le = let w = (a.edge e (omega arith)).whole in (w.first_bend, (w.second_bend, bends_there vars g x width (e + 1) n a (omega arith)))
+-- A BOUND BY A SUM
+abbrev pub bound_outputs : SumVars → ℕ → ℕ → Clauses
+bound_outputs s last k = same_as (last + k) (sum_at_least s k)
 
-pub bends_extend : (v : Assignment) (vars : ℕ) (g : Graph) (x : DrawingVars) (grid : GridSize) (d : Drawing) (last cap : ℕ) → AreVars vars g x grid.width → vars ≤ last → Read v g x grid d → Extends (last + 1) (bends_bound_size g x last cap) v (λ w. SatisfiesAll w (bends_bound g x last cap))
-bends_extend v vars g x grid d last cap a le r =
-    let s = bends_sum g x last cap in
-    let n = sum_by bends d.lines in
-    let f : ℕ → Bool = λ k. nat_le (k + 1) n in
-    let w = patch (last + 1) cap f v in
-    let same = patch_same (last + 1) cap f v in
-    let place : last + cap + 1 ≡ last + 1 + cap = omega arith in
-    let bounds = each (λ k. same_as (last + k) (sum_at_least s k)) 1 cap in
-    extends_both (last + 1) cap (sum_count s) v (λ u. (IsExact u last cap n) × Read u g x grid d) (λ u. SatisfiesAll u (bends_bound g x last cap))
-    (record { to = w; same = same; holds = (set_bound v last cap n, record { graph = r.graph; reads = drawing_stays v w vars g x grid.width d a (λ y low. same.below y (omega arith)) r.reads; loose = r.loose }) })
-    (λ u first h. subst (λ p. Extends p (sum_count s) u (λ z. SatisfiesAll z (bends_bound g x last cap))) place
-    (extends_weaker (last + cap + 1) (sum_count s) u (λ z. SatisfiesAll z (sum_clauses s)) (λ z. SatisfiesAll z (bends_bound g x last cap))
-    (λ z later k. let q : Read z g x grid d = record { graph = r.graph; reads = drawing_stays u z vars g x grid.width d a (λ y low. later.below y (omega arith)) h.1.reads; loose = r.loose } in
-    satisfies_append z (sum_clauses s) bounds k (satisfies_each z (λ k. same_as (last + k) (sum_at_least s k)) 1 cap (λ j from to.
-    same_as_holds z (last + j) (sum_at_least s j) (later.below (last + j) (omega arith) ∙ h.0 j from (omega arith) ∙ sym (sum_means z cap (last + cap) s.inputs k j (omega arith) ∙ ap (nat_le j) (count_bends z g x grid d q))))))
-    (sum_extends u cap (last + cap) s.inputs (bends_there (last + cap) g x grid.width 0 (length g.edges) (vars_more vars (last + cap) g x grid.width (omega arith) a) (omega arith)))))
+pub sum_bound_means : (v : Assignment) (inputs : List Literal) (last cap vars : ℕ) → SatisfiesAll v (sum_bound (sum_vars inputs cap vars) last) → IsExact v last cap (count_true v inputs)
+sum_bound_means v inputs last cap vars h k from to =
+    let s = sum_vars inputs cap vars in
+    let bounds = each (bound_outputs s last) 1 cap in
+    same_as_means v (last + k) (sum_at_least s k) (satisfies_at v (bound_outputs s last) 1 cap (satisfies_right v (sum_clauses s) bounds h) k from (omega arith))
+    ∙ sum_means v cap vars inputs (satisfies_left v (sum_clauses s) bounds h) k to
+
+pub count_same : (v w : Assignment) (vars : ℕ) (ls : List Literal) → AreThere vars ls → ((y : ℕ) → y ≤ vars → w y ≡ v y) → count_true w ls ≡ count_true v ls
+count_same v w vars [] there e = refl
+count_same v w vars (l ∷ ls) there e =
+    let one : one_if (truth w l) ≡ one_if (truth v l) = ap (λ (b : Bool). one_if (same_sign l.positive b)) (e l.var there.0.1) in
+    omega (arith, one, count_same v w vars ls there.1 e)
+
+-- the sum's variables can be set where the bound's variables are as it will say
+pub sum_bound_extends : (v : Assignment) (inputs : List Literal) (last cap vars : ℕ) → AreThere vars inputs → last + cap ≤ vars → IsExact v last cap (count_true v inputs) → Extends (vars + 1) (sum_count (sum_vars inputs cap vars)) v (λ w. SatisfiesAll w (sum_bound (sum_vars inputs cap vars) last))
+sum_bound_extends v inputs last cap vars there le exact =
+    let s = sum_vars inputs cap vars in
+    let bounds = each (bound_outputs s last) 1 cap in
+    extends_weaker (vars + 1) (sum_count s) v (λ w. SatisfiesAll w (sum_clauses s)) (λ w. SatisfiesAll w (sum_bound s last))
+    (λ w later h. satisfies_append w (sum_clauses s) bounds h (satisfies_each w (bound_outputs s last) 1 cap (λ k from to.
+    same_as_holds w (last + k) (sum_at_least s k) (later.below (last + k) (omega arith) ∙ exact k from (omega arith)
+    ∙ ap (nat_le k) (sym (count_same v w vars inputs there (λ y low. later.below y (omega arith)))) ∙ sym (sum_means w cap vars inputs h k (omega arith))))))
+    (sum_extends v cap vars inputs there)
+
+pub output_within : (inputs : List Literal) (most vars k : ℕ) → AreThere vars inputs → IsWithin (vars + sum_count (sum_vars inputs most vars)) (sum_at_least (sum_vars inputs most vars) k)
+output_within inputs most vars k there =
+    let t = tree_of (length inputs) inputs in
+    at_within (vars + sum_count (sum_vars inputs most vars)) (top most vars t) k (top_there most vars t (tree_there vars (length inputs) inputs there))
+
+pub sum_bound_there : (inputs : List Literal) (last cap vars : ℕ) → AreThere vars inputs → last + cap ≤ vars → AllThere (vars + sum_count (sum_vars inputs cap vars)) (sum_bound (sum_vars inputs cap vars) last)
+sum_bound_there inputs last cap vars there le =
+    let s = sum_vars inputs cap vars in
+    let all = vars + sum_count s in
+    all_there_append all (sum_clauses s) (each (bound_outputs s last) 1 cap) (sum_there cap vars inputs there)
+    (all_there_each all (bound_outputs s last) 1 cap (λ k from to. same_as_there all (last + k) (sum_at_least s k) (omega arith) (omega arith) (output_within inputs cap vars k there)))
+
+-- ALL EDGES, FROM WEST TO EAST
+pub record AreEdges (g : Graph) (edges : List ℕ) : Type 0 where
+  pub there : All (λ e. e < length g.edges) edges
+  pub sums : (f : ℕ → ℕ) → sum_by f edges ≡ sum_by f (range_with_len 0 (length g.edges))
+
+range_next : (f : ℕ → ℕ) (a n : ℕ) → sum_by f (range_with_len a (suc n)) ≡ sum_by f (range_with_len a n) + f (a + n)
+range_next f a zero =
+    let one = sum_by-cons f a [] in
+    let z : f (a + 0) ≡ f a = (let y : a + 0 ≡ a = omega arith in ap f y) in
+    omega (arith, one, z)
+range_next f a (suc n) =
+    let one = sum_by-cons f a (range_with_len (a + 1) (suc n)) in
+    let two = sum_by-cons f a (range_with_len (a + 1) n) in
+    let z : f (a + 1 + n) ≡ f (a + suc n) = (let y : a + 1 + n ≡ a + suc n = omega arith in ap f y) in
+    omega (arith, one, two, z, range_next f (a + 1) n)
+
+first_sums : (g : Graph) (n : ℕ) (f : ℕ → ℕ) → sum_by f (first_edges g n) ≡ sum_by f (range_with_len 0 n)
+first_sums g zero f = refl
+first_sums g (suc n) f =
+    let es = first_edges g n in
+    let i = not_east g n es in
+    let one = sum_by-IsPermutation f (n ∷ es) (insert es i n) (IsPermutation-insert es i n) in
+    let two = sum_by-cons f n es in
+    let z : f (0 + n) ≡ f n = (let y : 0 + n ≡ n = omega arith in ap f y) in
+    omega (arith, one, two, z, range_next f 0 n, first_sums g n f)
+
+first_there : (g : Graph) (n : ℕ) → All (λ e. e < n) (first_edges g n)
+first_there g zero = All-nil (λ e. e < 0)
+first_there g (suc n) =
+    let es = first_edges g n in
+    let i = not_east g n es in
+    All-permutation (λ e. e < suc n) (n ∷ es) (insert es i n) (IsPermutation-insert es i n)
+    (All-cons (λ e. e < suc n) n es (omega arith) (All-weaker (λ e. e < n) (λ e. e < suc n) (λ e lt. omega arith) es (first_there g n)))
+
+pub all_edges : (g : Graph) → AreEdges g (west_first g)
+all_edges g = record { there = first_there g (length g.edges); sums = first_sums g (length g.edges) }
+
+-- a sum over edges by number is one over their lines
+sum_places : (f : List Point → ℕ) (h : ℕ → ℕ) (lines : List (List Point)) (a : ℕ) → ((i : ℕ) → i < length lines → h (a + i) ≡ f (get_or lines i [])) → sum_by h (range_with_len a (length lines)) ≡ sum_by f lines
+sum_places f h [] a e = refl
+sum_places f h (l ∷ lines) a e =
+    let z : h a ≡ h (a + 0) = (let y : a ≡ a + 0 = omega arith in ap h y) in
+    let here : h a ≡ f l = z ∙ e 0 (omega arith) in
+    let one = sum_by-cons h a (range_with_len (a + 1) (length lines)) in
+    let two = sum_by-cons f l lines in
+    let rest = sum_places f h lines (a + 1) (λ i lt. let s : h (a + 1 + i) ≡ h (a + suc i) = (let y : a + 1 + i ≡ a + suc i = omega arith in ap h y) in s ∙ e (suc i) (omega arith)) in
+    omega (arith, here, one, two, rest)
+
+pub sum_over_lines : (g : Graph) (f : List Point → ℕ) (lines : List (List Point)) (edges : List ℕ) → length lines ≡ length g.edges → AreEdges g edges → sum_by (λ e. f (get_or lines e [])) edges ≡ sum_by f lines
+sum_over_lines g f lines edges same are =
+    are.sums (λ e. f (get_or lines e []))
+    ∙ ap (λ n. sum_by (λ e. f (get_or lines e [])) (range_with_len 0 n)) (sym same)
+    ∙ sum_places f (λ e. f (get_or lines e [])) lines 0 (λ i lt. let y : 0 + i ≡ i = omega arith in ap (λ e. f (get_or lines e [])) y)

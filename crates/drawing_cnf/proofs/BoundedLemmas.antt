@@ -1,26 +1,89 @@
--- Bounds behind the formula: each model reads a lawful drawing and tells its values, and each lawful drawing has
--- such a model.
-use Rattle.std.proofs.Common.{ℕ, ◌+◌, ◌≤◌, Bool, false, List, ◌++◌, arith}
+-- Bounds behind the formula: each model reads a lawful drawing and tells its values, and each lawful drawing has such a model.
+use Rattle.std.proofs.Common.{◌≡◌, ℕ, ◌+◌, ◌≤◌, Bool, true, false, List, [], ◌∷◌, ◌++◌, sym, refl, subst, arith, append_assoc, append-nil}
+use Rattle.std.specs.Prelude.{cond, nat_eq, All}
+use Rattle.std.proofs.lemmas.List.Elements.{All-nil, All-cons}
+use Rattle.plan_core.specs.declared.criterion.Criterion.{Criterion}
+use Rattle.plan_core.specs.declared.criterion.Criterion.TheVariants.{Height, Bends, Diagonal, Width}
 use Rattle.plan_core.specs.Grid.{GridSize, IsGrid}
 use Rattle.plan_core.specs.Graph.{Graph, IsTrackGraph}
 use Rattle.plan_core.specs.Drawing.{Drawing}
 use Rattle.plan_core.specs.Lawful.{Instance, Lawful}
-use Rattle.plan_core.specs.Values.{values_of}
+use Rattle.plan_core.specs.Values.{values_of, value_of}
 use Rattle.cnf_core.specs.declared.limits.TheConstants.{VARS}
 use Rattle.cnf_core.specs.Clause.{Clauses, AllThere}
 use Rattle.cnf_core.specs.Assignment.{Assignment, SatisfiesAll, Extends}
 use Rattle.cnf_core.proofs.ClauseLemmas.{satisfies_append, satisfies_left, satisfies_right, satisfies_all_same, all_there_append, all_there_more}
+use Rattle.drawing_cnf.specs.Stands.{DrawingVars, Stands}
 use Rattle.drawing_cnf.specs.LawClauses.{laws_clauses}
-use Rattle.drawing_cnf.specs.Expected.{drawing_vars, laws_first, base_clauses, expected_clauses, expected_size}
-use Rattle.drawing_cnf.specs.Bounds.{IsExact, bends_bound, height_bound}
+use Rattle.drawing_cnf.specs.Expected.{drawing_vars, laws_first, base_clauses, expected_clauses, expected_size, instances, ModelOf, Covers}
+use Rattle.drawing_cnf.specs.Bounds.{IsExact, bound_clauses, bound_size, west_first}
+use Rattle.drawing_cnf.specs.Bounded.{Bound, bound, clauses_of, size_of, bounds_clauses, bounds_from, expected_bounds, expected, AreBehind, Tells, StandsAndTells, SoundWith}
 use Rattle.drawing_cnf.proofs.ThereLemmas.{AreVars}
 use Rattle.drawing_cnf.proofs.OverLemmas.{Read}
 use Rattle.drawing_cnf.proofs.InstanceLemmas.{AreInstances, laws_there, read_stays}
 use Rattle.drawing_cnf.proofs.BaseLemmas.{base_means, base_last, base_vars, base_there, lawful_loose}
-use Rattle.drawing_cnf.proofs.MainLemmas.{ListsAll, each_law, full_model}
-use Rattle.drawing_cnf.proofs.BoundLemmas.{bends_exact}
-use Rattle.drawing_cnf.proofs.HeightBound.{height_exact, height_extends}
+use Rattle.drawing_cnf.proofs.MainLemmas.{ListsAll, AreTablesOf, all_listed, each_law, full_model, reads_stand}
+use Rattle.drawing_cnf.proofs.BoundLemmas.{all_edges}
+use Rattle.drawing_cnf.proofs.BendsBound.{bends_exact, bends_extend, bends_there}
+use Rattle.drawing_cnf.proofs.HeightBound.{height_exact, height_extends, height_there}
+use Rattle.drawing_cnf.proofs.WidthBound.{width_exact, width_extends, width_there}
+use Rattle.drawing_cnf.proofs.DiagonalBound.{diagonal_exact, diagonal_extends, diagonal_there}
 
+-- ANY CRITERION
+pub bound_exact : (v : Assignment) (g : Graph) (x : DrawingVars) (grid : GridSize) (d : Drawing) (last cap : ℕ) (c : Criterion) → Read v g x grid d → SatisfiesAll v (bound_clauses g x grid last cap c) → IsExact v last cap (value_of (values_of d) c)
+bound_exact v g x grid d last cap Height r h = height_exact v g x grid d last cap r h
+bound_exact v g x grid d last cap Bends r h = bends_exact v g x grid d (west_first g) last cap (all_edges g) r h
+bound_exact v g x grid d last cap Diagonal r h = diagonal_exact v g x grid d (west_first g) last cap (all_edges g) r h
+bound_exact v g x grid d last cap Width r h = width_exact v g x grid d last cap r h
+
+pub bound_extends : (v : Assignment) (vars : ℕ) (g : Graph) (x : DrawingVars) (grid : GridSize) (d : Drawing) (last cap : ℕ) (c : Criterion) → AreVars vars g x grid.width → vars ≤ last → Read v g x grid d → Extends (last + 1) (bound_size g x grid last cap c) v (λ w. SatisfiesAll w (bound_clauses g x grid last cap c))
+bound_extends v vars g x grid d last cap Height a le r = height_extends v vars g x grid d last cap a le r
+bound_extends v vars g x grid d last cap Bends a le r = bends_extend v vars g x grid d (west_first g) last cap (all_edges g) a le r
+bound_extends v vars g x grid d last cap Diagonal a le r = diagonal_extends v vars g x grid d (west_first g) last cap (all_edges g) a le r
+bound_extends v vars g x grid d last cap Width a le r = width_extends v vars g x grid d last cap a le r
+
+pub bound_there : (vars : ℕ) (g : Graph) (x : DrawingVars) (grid : GridSize) (last cap : ℕ) (c : Criterion) → IsTrackGraph g → AreVars vars g x grid.width → vars ≤ last → AllThere (last + bound_size g x grid last cap c) (bound_clauses g x grid last cap c)
+bound_there vars g x grid last cap Height is a le = height_there vars g x grid.width last cap is a le
+bound_there vars g x grid last cap Bends is a le = bends_there vars g x grid.width (west_first g) last cap (all_edges g) a le
+bound_there vars g x grid last cap Diagonal is a le = diagonal_there vars g x grid (west_first g) last cap (all_edges g) a le
+bound_there vars g x grid last cap Width is a le = width_there vars g x grid.width last cap a le
+
+-- A LIST OF BOUNDS
+bounds_tell : (v : Assignment) (g : Graph) (x : DrawingVars) (grid : GridSize) (d : Drawing) (bounds : List Bound) → Read v g x grid d → SatisfiesAll v (bounds_clauses g x grid bounds) → Tells v (values_of d) bounds
+bounds_tell v g x grid d [] r h = All-nil (λ (b : Bound). IsExact v b.last b.cap (value_of (values_of d) b.criterion))
+bounds_tell v g x grid d (b ∷ rest) r h =
+    All-cons (λ (b : Bound). IsExact v b.last b.cap (value_of (values_of d) b.criterion)) b rest
+    (bound_exact v g x grid d b.last b.cap b.criterion r (satisfies_left v (clauses_of g x grid b) (bounds_clauses g x grid rest) h))
+    (bounds_tell v g x grid d rest r (satisfies_right v (clauses_of g x grid b) (bounds_clauses g x grid rest) h))
+
+-- an assignment still reads the drawing, and satisfies these clauses too
+pub record StillReads (v : Assignment) (g : Graph) (x : DrawingVars) (grid : GridSize) (d : Drawing) (clauses : Clauses) : Type 0 where
+  pub to : Assignment
+  pub read : Read to g x grid d
+  pub satisfies : SatisfiesAll to clauses
+
+one_behind : (v : Assignment) (g : Graph) (x : DrawingVars) (grid : GridSize) (d : Drawing) (clauses : Clauses) (b : Bound) (vars last : ℕ) → AreVars vars g x grid.width → vars ≤ last → last ≤ b.last → AllThere last clauses → Read v g x grid d → SatisfiesAll v clauses → StillReads v g x grid d (clauses ++ clauses_of g x grid b)
+one_behind v g x grid d clauses b vars last a le behind there r h =
+    let e : Extends (b.last + 1) (size_of g x grid b) v (λ w. SatisfiesAll w (clauses_of g x grid b)) = bound_extends v vars g x grid d b.last b.cap b.criterion a (omega arith) r in
+    record {
+      to = e.to;
+      read = read_stays v e.to vars g x grid d a (λ y low. e.same.below y (omega arith)) r;
+      satisfies = satisfies_append e.to clauses (clauses_of g x grid b) (satisfies_all_same v e.to last clauses there (λ y low. e.same.below y (omega arith)) h) e.holds;
+    }
+
+bounds_behind : (v : Assignment) (g : Graph) (x : DrawingVars) (grid : GridSize) (d : Drawing) (clauses : Clauses) (bounds : List Bound) (vars last : ℕ) → IsTrackGraph g → AreVars vars g x grid.width → vars ≤ last → AreBehind g x grid last bounds → AllThere last clauses → Read v g x grid d → SatisfiesAll v clauses → StillReads v g x grid d (clauses ++ bounds_clauses g x grid bounds)
+bounds_behind v g x grid d clauses [] vars last is a le behind there r h = record { to = v; read = r; satisfies = subst (λ (cs : Clauses). SatisfiesAll v cs) (sym (append-nil clauses)) h }
+bounds_behind v g x grid d clauses (b ∷ rest) vars last is a le behind there r h =
+    let low = behind.0 in
+    let next = b.last + size_of g x grid b in
+    let one = clauses_of g x grid b in
+    let m = one_behind v g x grid d clauses b vars last a le low there r h in
+    let k = bounds_behind m.to g x grid d (clauses ++ one) rest vars next is a (omega arith) behind.1
+    (all_there_append next clauses one (all_there_more last next clauses (omega arith) there) (bound_there vars g x grid b.last b.cap b.criterion is a (omega arith)))
+    m.read m.satisfies in
+    record { to = k.to; read = k.read; satisfies = subst (λ (cs : Clauses). SatisfiesAll k.to cs) (append_assoc clauses one (bounds_clauses g x grid rest)) k.satisfies }
+
+-- BEHIND THE FORMULA
 -- a model of the formula, whatever stands behind it, reads a lawful drawing
 pub record ReadsLawful (v : Assignment) (g : Graph) (above : ℕ → ℕ → Bool) (grid : GridSize) : Type 0 where
   pub drawing : Drawing
@@ -40,39 +103,16 @@ models_read v g above grid laws is size l h =
       lawful = record { fits = b.loose.fits; laws = each_law v g above x grid b.drawing (laws_first g grid) laws l r (satisfies_right v base more h) };
     }
 
--- height and bends behind the formula: exact
-pub record TellsValues (v : Assignment) (g : Graph) (above : ℕ → ℕ → Bool) (grid : GridSize) (height_last height_cap bends_last bends_cap : ℕ) : Type 0 where
-  pub reads : ReadsLawful v g above grid
-  pub height : IsExact v height_last height_cap (values_of reads.drawing).height
-  pub bends : IsExact v bends_last bends_cap (values_of reads.drawing).bends
-
-pub bounds_exact : (v : Assignment) (g : Graph) (above : ℕ → ℕ → Bool) (grid : GridSize) (laws : List Instance) (a m b n : ℕ) → IsTrackGraph g → IsGrid grid → ListsAll g above laws
-    → SatisfiesAll v ((expected_clauses g grid laws ++ height_bound g (drawing_vars g grid) grid.width a m) ++ bends_bound g (drawing_vars g grid) b n) → TellsValues v g above grid a m b n
-bounds_exact v g above grid laws a m b n is size l h =
+pub sound_with : (g : Graph) (above : ℕ → ℕ → Bool) (grid : GridSize) (laws : List Instance) (bounds : List Bound) → IsTrackGraph g → IsGrid grid → ListsAll g above laws → SoundWith g above grid (drawing_vars g grid) (expected_clauses g grid laws ++ bounds_clauses g (drawing_vars g grid) grid bounds) bounds
+sound_with g above grid laws bounds is size l v h =
     let x = drawing_vars g grid in
     let all = expected_clauses g grid laws in
-    let high = height_bound g x grid.width a m in
-    let bent = bends_bound g x b n in
-    let first = satisfies_left v (all ++ high) bent h in
-    let r = models_read v g above grid laws is size l (satisfies_left v all high first) in
+    let m = models_read v g above grid laws is size l (satisfies_left v all (bounds_clauses g x grid bounds) h) in
     record {
-      reads = r;
-      height = height_exact v g x grid r.drawing a m r.read (satisfies_right v all high first);
-      bends = bends_exact v g x grid r.drawing b n r.read (satisfies_right v (all ++ high) bent h);
-    }
-
--- one more bound behind clauses that hold
-pub record StillReads (v : Assignment) (g : Graph) (grid : GridSize) (d : Drawing) (clauses : Clauses) : Type 0 where
-  pub to : Assignment
-  pub read : Read to g (drawing_vars g grid) grid d
-  pub satisfies : SatisfiesAll to clauses
-
-pub bound_behind : (v : Assignment) (g : Graph) (grid : GridSize) (d : Drawing) (clauses bound : Clauses) (vars last size : ℕ) → AreVars vars g (drawing_vars g grid) grid.width → vars ≤ last → AllThere last clauses → Read v g (drawing_vars g grid) grid d → SatisfiesAll v clauses → Extends (last + 1) size v (λ w. SatisfiesAll w bound) → StillReads v g grid d (clauses ++ bound)
-bound_behind v g grid d clauses bound vars last size a le there r h e =
-    record {
-      to = e.to;
-      read = read_stays v e.to vars g (drawing_vars g grid) grid d a (λ y low. e.same.below y (omega arith)) r;
-      satisfies = satisfies_append e.to clauses bound (satisfies_all_same v e.to last clauses there (λ y low. e.same.below y (omega arith)) h) e.holds;
+      drawing = m.drawing;
+      stands = reads_stand v g x grid m.drawing m.read.reads m.read.loose;
+      lawful = m.lawful;
+      tells = bounds_tell v g x grid m.drawing bounds m.read (satisfies_right v all (bounds_clauses g x grid bounds) h);
     }
 
 pub expected_there : (g : Graph) (above : ℕ → ℕ → Bool) (grid : GridSize) (laws : List Instance) → IsTrackGraph g → IsGrid grid → laws_first g grid ≤ VARS + 1 → AreInstances g above laws → AllThere (expected_size g grid laws) (expected_clauses g grid laws)
@@ -83,14 +123,28 @@ expected_there g above grid laws is size few are =
     (all_there_more (base_last g grid) last (base_clauses g x grid) (omega arith) (base_there g grid is size few))
     (laws_there (base_last g grid) last g above x grid (laws_first g grid) laws is (base_vars g grid size few) (omega arith) are (omega arith))
 
--- the height bound right behind the formula; the next ones go the same way, by bound_behind
-pub height_covers : (g : Graph) (above : ℕ → ℕ → Bool) (grid : GridSize) (laws : List Instance) (d : Drawing) (cap : ℕ) → IsTrackGraph g → IsGrid grid → laws_first g grid ≤ VARS + 1 → AreInstances g above laws → Lawful g above grid d → StillReads (λ y. false) g grid d (expected_clauses g grid laws ++ height_bound g (drawing_vars g grid) grid.width (expected_size g grid laws) cap)
-height_covers g above grid laws d cap is size few are h =
+pub covers_with : (g : Graph) (above : ℕ → ℕ → Bool) (grid : GridSize) (laws : List Instance) (bounds : List Bound) → IsTrackGraph g → IsGrid grid → laws_first g grid ≤ VARS + 1 → AreInstances g above laws → AreBehind g (drawing_vars g grid) grid (expected_size g grid laws) bounds → Covers g above grid (drawing_vars g grid) (expected_clauses g grid laws ++ bounds_clauses g (drawing_vars g grid) grid bounds)
+covers_with g above grid laws bounds is size few are behind d h =
     let x = drawing_vars g grid in
     let m = full_model g above grid laws d is size few are h in
     let a = base_vars g grid size few in
-    let last = expected_size g grid laws in
     let r : Read m.to g x grid d = record { graph = is; reads = m.reads; loose = lawful_loose g above grid d is h } in
-    let b = bound_behind m.to g grid d (expected_clauses g grid laws) (height_bound g x grid.width last cap) (base_last g grid) last cap a (omega arith) (expected_there g above grid laws is size few are) r m.satisfies
-    (height_extends m.to (base_last g grid) g x grid d last cap a (omega arith) r) in
-    record { to = b.to; read = b.read; satisfies = b.satisfies }
+    let k = bounds_behind m.to g x grid d (expected_clauses g grid laws) bounds (base_last g grid) (expected_size g grid laws) is a (omega arith) behind (expected_there g above grid laws is size few are) r m.satisfies in
+    record { to = k.to; satisfies = k.satisfies; stands = reads_stand k.to g x grid d k.read.reads k.read.loose }
+
+-- THE FORMULA OF AN ORDER WITH ITS CAPS
+from_behind : (g : Graph) (x : DrawingVars) (grid : GridSize) (caps : Criterion → ℕ) (last : ℕ) (order : List Criterion) → AreBehind g x grid last (bounds_from g x grid caps last order)
+from_behind g x grid caps last [] = tt
+from_behind g x grid caps last (c ∷ rest) = cases (nat_eq (caps c) 0) (from_behind g x grid caps last rest) (from_behind g x grid caps (last + bound_size g x grid last (caps c) c) rest)
+  where
+    cases : (b : Bool) → AreBehind g x grid last (bounds_from g x grid caps last rest) → AreBehind g x grid (last + bound_size g x grid last (caps c) c) (bounds_from g x grid caps (last + bound_size g x grid last (caps c) c) rest) →
+        AreBehind g x grid last (cond b (bounds_from g x grid caps last rest) (bound c last (caps c) ∷ bounds_from g x grid caps (last + bound_size g x grid last (caps c) c) rest))
+    cases true skip take = skip
+    cases false skip take = (omega arith, take)
+
+pub expected_sound : (g : Graph) (above overlap : ℕ → ℕ → Bool) (grid : GridSize) (order : List Criterion) (caps : Criterion → ℕ) → IsTrackGraph g → IsGrid grid → AreTablesOf g above overlap → SoundWith g above grid (drawing_vars g grid) (expected g above overlap grid order caps) (expected_bounds g above overlap grid order caps)
+expected_sound g above overlap grid order caps is size t = sound_with g above grid (instances g above overlap) (expected_bounds g above overlap grid order caps) is size (all_listed g above overlap t)
+
+pub expected_covers : (g : Graph) (above overlap : ℕ → ℕ → Bool) (grid : GridSize) (order : List Criterion) (caps : Criterion → ℕ) → IsTrackGraph g → IsGrid grid → laws_first g grid ≤ VARS + 1 → AreTablesOf g above overlap → Covers g above grid (drawing_vars g grid) (expected g above overlap grid order caps)
+expected_covers g above overlap grid order caps is size few t =
+    covers_with g above grid (instances g above overlap) (expected_bounds g above overlap grid order caps) is size few (all_listed g above overlap t).are (from_behind g (drawing_vars g grid) grid caps (expected_size g grid (instances g above overlap)) order)

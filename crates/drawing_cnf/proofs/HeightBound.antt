@@ -1,6 +1,6 @@
 -- The height bound is exact, and each drawing extends to it.
 use Rattle.std.proofs.Common.{◌≡◌, ◌⊎◌, ℕ, zero, suc, ◌+◌, ◌-◌, ◌≤◌, ◌<◌, Bool, true, false, not, List, [], ◌∷◌, ◌++◌, map, length, get_or, inl, inr, refl, sym, ◌∙◌, ap, subst, arith}
-use Rattle.std.specs.Prelude.{nat_le, All, max}
+use Rattle.std.specs.Prelude.{nat_le, nat_lt, All, max, cond}
 use Rattle.std.specs.List.{flat_map}
 use Rattle.std.proofs.lemmas.Bool.Decides.{nat_tests, leb_tells}
 use Rattle.std.proofs.lemmas.List.Elements.{All-nil, All-cons, All-head, All-tail, All-append, All-map, All-weaker, All-get_or, All-from_get_or}
@@ -9,27 +9,35 @@ use Rattle.plan_core.specs.declared.sides.Compass.TheVariants.{East, West}
 use Rattle.plan_core.specs.declared.point.Point.{Point}
 use Rattle.plan_core.specs.Grid.{GridSize, grid_size}
 use Rattle.plan_core.specs.Graph.{Graph, Ports, End, Joint, Switch, Crossing, node, edge, edges_of, IsEndOf, LiesOn, AreAt, opposite, IsTrackGraph}
-use Rattle.plan_core.specs.Line.{west_end, east_end, height, origin}
+use Rattle.plan_core.specs.declared.point.Slope.TheVariants.{Down, Level, Up}
+use Rattle.plan_core.specs.Line.{west_end, east_end, slope_west, slope_east, height, origin}
 use Rattle.plan_core.specs.Drawing.{Drawing, place, line, all_points}
 use Rattle.plan_core.specs.Laws.{IsOnGrid}
 use Rattle.plan_core.specs.Values.{maximum}
 use Rattle.plan_core.proofs.LimitLemmas.{maximum-le, All-flat_map}
-use Rattle.plan_core.proofs.LineLemmas.{height-west_end, height-east_end}
-use Rattle.cnf_core.specs.Clause.{Clauses}
+use Rattle.plan_core.proofs.LineLemmas.{ends_rise, height-west_end, height-east_end}
+use Rattle.cnf_core.specs.declared.literal.LitOrTruth.{LitOrTruth}
+use Rattle.cnf_core.specs.Clause.{Clauses, AllThere}
 use Rattle.cnf_core.specs.Assignment.{Assignment, SatisfiesAll, Extends}
-use Rattle.cnf_core.specs.LitOrTruth.{yes, flip, value, SomeTrue, clause_of}
+use Rattle.cnf_core.specs.LitOrTruth.{yes, flip, value, SomeTrue, AreWithin, clause_of}
 use Rattle.cnf_core.specs.Formula.{each}
-use Rattle.cnf_core.proofs.ClauseLemmas.{first_or_later, satisfies_append, satisfies_left, satisfies_right, satisfies_each, satisfies_at}
-use Rattle.cnf_core.proofs.GatherLemmas.{value-flip, clause_says, clause_holds}
+use Rattle.cnf_core.proofs.ClauseLemmas.{first_or_later, satisfies_append, satisfies_left, satisfies_right, satisfies_each, satisfies_at, all_there_append, all_there_each}
+use Rattle.cnf_core.proofs.GatherLemmas.{value-flip, flip_within, clause_says, clause_holds, clause_there}
 use Rattle.cnf_core.proofs.SettingLemmas.{patch, patch_same}
-use Rattle.order_int.specs.OrderInt.{at_least}
+use Rattle.order_int.specs.IntVars.{IntVars, IntIsThere}
+use Rattle.order_int.specs.OrderInt.{at_least, Reads}
+use Rattle.order_int.proofs.IntLemmas.{at_least_within}
+use Rattle.edge_lines.specs.Track.{slope_by}
+use Rattle.edge_lines.specs.Columns.{is_up, is_down}
+use Rattle.edge_lines.proofs.StepLemmas.{up_is, down_is}
+use Rattle.edge_lines.proofs.RunLemmas.{line_west_slope, line_east_slope}
 use Rattle.edge_lines.proofs.GridLemmas.{on_grid_heights, heights_on_grid}
 use Rattle.edge_lines.proofs.LineHeights.{height_behind}
 use Rattle.drawing_cnf.specs.Stands.{DrawingVars, IsLoose}
-use Rattle.drawing_cnf.specs.Bounds.{IsExact, column_heights, all_heights, height_gives, height_at, height_bound}
+use Rattle.drawing_cnf.specs.Bounds.{IsExact, column_heights, all_heights, some_height_clause, height_gives, height_beside, edge_height_gives, height_at, height_bound}
 use Rattle.drawing_cnf.proofs.GuardLemmas.{Is, some_from, some_to}
 use Rattle.drawing_cnf.proofs.OverLemmas.{Read}
-use Rattle.drawing_cnf.proofs.ThereLemmas.{AreVars}
+use Rattle.drawing_cnf.proofs.ThereLemmas.{AreVars, EdgeThere, vars_more}
 use Rattle.drawing_cnf.proofs.InstanceLemmas.{drawing_stays}
 use Rattle.drawing_cnf.proofs.BoundLemmas.{either_of, set_bound}
 
@@ -173,6 +181,13 @@ heights_or v x width k e (suc n) = elim (column_or v x k e 0 (width + 1)) [
   ]
 ]
 
+-- the long clause: one of the others is true, or the bound's variable is false
+pub off_or : (v : Assignment) (ts : List LitOrTruth) (b : ℕ) → SatisfiesAll v (clause_of [] (ts ++ flip (yes b) ∷ [])) → SomeTrue v ts ⊎ (not (v b) ≡ true)
+off_or v ts b h = elim (clause_says v [] (ts ++ flip (yes b) ∷ []) h) [
+  | inl u ↦ absurd u
+  | inr t ↦ elim (some_from v ts (flip (yes b) ∷ []) t) [ inl some ↦ inl some | inr (inl off) ↦ inr off | inr (inr other) ↦ absurd other ]
+]
+
 -- exact, for one k
 height_tells : (v : Assignment) (g : Graph) (x : DrawingVars) (grid : GridSize) (d : Drawing) (b k : ℕ) → Read v g x grid d → 1 ≤ k → SatisfiesAll v (height_at g x grid.width b k) → v b ≡ nat_le k (height_of d)
 height_tells v g x grid d b k r from h = cases (v b) refl
@@ -181,19 +196,18 @@ height_tells v g x grid d b k r from h = cases (v b) refl
     m = length g.edges
 
     given : Clauses
-    given = each (λ e. each (height_gives x b k e) 0 (grid.width + 1)) 0 m
+    given = each (edge_height_gives g x grid.width b k) 0 m
 
     long : Clauses
-    long = clause_of [] (flip (yes b) ∷ all_heights x grid.width k 0 m)
+    long = some_height_clause x grid.width m b k
 
     reads : (e c : ℕ) → e < m → c ≤ grid.width → value v (at_least ((x.edge e).height c) k) ≡ nat_le k (height (line d e) c)
     reads e c lt le = ((r.reads.lines e lt).height c le).each k
 
     cases : (s : Bool) → v b ≡ s → s ≡ nat_le k (height_of d)
-    cases true s = elim (clause_says v [] (flip (yes b) ∷ all_heights x grid.width k 0 m) (satisfies_right v given long h)) [
-      | inl u ↦ absurd u
-      | inr (inl off) ↦ absurd (cc (s, off))
-      | inr (inr some) ↦
+    cases true s = elim (off_or v (all_heights x grid.width k 0 m) b (satisfies_right v given long h)) [
+      | inr off ↦ absurd (cc (s, off))
+      | inl some ↦
           let t = some_height v g x grid.width k 0 m (omega arith) some in
           let high : nat_le k (height (line d t.edge) t.column) ≡ true = sym (reads t.edge t.column t.there t.within) ∙ t.high in
           elim (leb_tells k (height_of d)) [
@@ -210,7 +224,7 @@ height_tells v g x grid d b k r from h = cases (v b) refl
           let more = le.1 in
           let low = low_all g grid d (k - 1) r.graph r.loose (λ e c lt w. elim (leb_tells k (height (line d e) c)) [
             | inr gt ↦ let less = gt.1 in omega arith
-            | inl high ↦ absurd (elim (either_of v (flip (at_least ((x.edge e).height c) k)) (yes b) (satisfies_at v (height_gives x b k e) 0 (grid.width + 1) (satisfies_at v (λ e. each (height_gives x b k e) 0 (grid.width + 1)) 0 m (satisfies_left v given long h) e (omega arith) (omega arith)) c (omega arith) (omega arith))) [
+            | inl high ↦ absurd (elim (either_of v (flip (at_least ((x.edge e).height c) k)) (yes b) (satisfies_at v (height_gives x b k e) 0 (grid.width + 1) (satisfies_left v (each (height_gives x b k e) 0 (grid.width + 1)) (height_beside g x b k e) (satisfies_at v (edge_height_gives g x grid.width b k) 0 m (satisfies_left v given long h) e (omega arith) (omega arith))) c (omega arith) (omega arith))) [
               | inl off ↦ cc (sym (value-flip v (at_least ((x.edge e).height c) k)) ∙ off, reads e c lt w ∙ high.0)
               | inr on ↦ cc (s, on)
             ])
@@ -221,20 +235,94 @@ height_tells v g x grid d b k r from h = cases (v b) refl
 pub height_exact : (v : Assignment) (g : Graph) (x : DrawingVars) (grid : GridSize) (d : Drawing) (last cap : ℕ) → Read v g x grid d → SatisfiesAll v (height_bound g x grid.width last cap) → IsExact v last cap (height_of d)
 height_exact v g x grid d last cap r h k from to = height_tells v g x grid d (last + k) k r from (satisfies_at v (λ k. height_at g x grid.width (last + k) k) 1 cap h k from (omega arith))
 
+-- beside an end the height is one more where the line leaves upwards
+slope_up : (a b : ℕ) → slope_by a b ≡ Up → a < b
+slope_up a b h = elim (leb_tells (a + 1) b) [
+  | inl lt ↦ let less = lt.1 in omega arith
+  | inr ge ↦
+      let less = ge.1 in
+      let one : nat_lt a b ≡ false = grind (arith, nat_tests) in
+      absurd (level_or_down (nat_lt b a) (rw one at h))
+]
+  where
+    level_or_down : (t : Bool) → cond t Down Level ≡ Up → ⊥
+    level_or_down true e = cc
+    level_or_down false e = cc
+
+slope_down : (a b : ℕ) → slope_by a b ≡ Down → b < a
+slope_down a b h = elim (leb_tells (b + 1) a) [
+  | inl lt ↦ let less = lt.1 in omega arith
+  | inr ge ↦
+      let less = ge.1 in
+      let one : nat_lt b a ≡ false = grind (arith, nat_tests) in
+      absurd (up_or_level (nat_lt a b) (rw one at h))
+]
+  where
+    up_or_level : (t : Bool) → cond t Up Level ≡ Down → ⊥
+    up_or_level true e = cc
+    up_or_level false e = cc
+
+west_rise : (g : Graph) (grid : GridSize) (d : Drawing) (e : ℕ) → IsLoose g grid d → e < length g.edges → is_up (slope_west (line d e)) ≡ true → (place d (edge g e).west).y + 1 ≤ height_of d
+west_rise g grid d e loose lt up =
+    let l = line d e in
+    let j = loose.joins e lt in
+    let y : height l (west_end l).x ≡ (place d (edge g e).west).y = height-west_end l j.shape ∙ ap (λ (p : Point). p.y) j.begins in
+    let rise = slope_up (height l (west_end l).x) (height l ((west_end l).x + 1)) (line_west_slope l j.shape ∙ up_is (slope_west l) up) in
+    let low = all_low g grid d (height_of d) loose (omega arith) e ((west_end l).x + 1) lt in
+    omega arith
+
+east_rise : (g : Graph) (grid : GridSize) (d : Drawing) (e : ℕ) → IsLoose g grid d → e < length g.edges → is_down (slope_east (line d e)) ≡ true → (place d (edge g e).east).y + 1 ≤ height_of d
+east_rise g grid d e loose lt down =
+    let l = line d e in
+    let j = loose.joins e lt in
+    let some = ends_rise l j.shape in
+    let x = (east_end l).x - 1 in
+    let z : x + 1 ≡ (east_end l).x = omega arith in
+    let y : height l (x + 1) ≡ (place d (edge g e).east).y = ap (height l) z ∙ height-east_end l j.shape ∙ ap (λ (p : Point). p.y) j.ends in
+    let fall = slope_down (height l x) (height l (x + 1)) (line_east_slope l x j.shape z ∙ down_is (slope_east l) down) in
+    let low = all_low g grid d (height_of d) loose (omega arith) e x lt in
+    omega arith
+
+beside_or : (v : Assignment) (a b : ℕ) (i : IntVars) (k n most : ℕ) → Reads v i n → v b ≡ nat_le k most → (v a ≡ true → n + 1 ≤ most) → SomeTrue v (flip (yes a) ∷ flip (at_least i (k - 1)) ∷ yes b ∷ [])
+beside_or v a b i k n most r h rise = cases (v a) refl
+  where
+    cases : (s : Bool) → v a ≡ s → SomeTrue v (flip (yes a) ∷ flip (at_least i (k - 1)) ∷ yes b ∷ [])
+    cases false s = inl (ap not s)
+    cases true s =
+        let more = rise s in
+        elim (leb_tells (k - 1) n) [
+          | inl le ↦ let few = le.1 in let t : nat_le k most ≡ true = grind (arith, nat_tests) in inr (inr (inl (h ∙ t)))
+          | inr gt ↦ inr (inl (value-flip v (at_least i (k - 1)) ∙ ap not (r.each (k - 1) ∙ gt.0)))
+        ]
+
+beside_holds : (v : Assignment) (g : Graph) (x : DrawingVars) (grid : GridSize) (d : Drawing) (b k e : ℕ) → Read v g x grid d → e < length g.edges → v b ≡ nat_le k (height_of d) → SatisfiesAll v (height_beside g x b k e)
+beside_holds v g x grid d b k e r lt h =
+    let ends = r.graph.nodes e lt in
+    let s = r.reads.lines e lt in
+    let west = flip (yes (x.edge e).west_up) ∷ flip (at_least (x.node (edge g e).west).y (k - 1)) ∷ yes b ∷ [] in
+    let east = flip (yes (x.edge e).east_down) ∷ flip (at_least (x.node (edge g e).east).y (k - 1)) ∷ yes b ∷ [] in
+    satisfies_append v (clause_of [] west) (clause_of [] east)
+    (clause_holds v [] west (inr (beside_or v (x.edge e).west_up b (x.node (edge g e).west).y k (place d (edge g e).west).y (height_of d) (r.reads.points (edge g e).west ends.0).y h (λ up. west_rise g grid d e r.loose lt (sym s.west.rises ∙ up)))))
+    (clause_holds v [] east (inr (beside_or v (x.edge e).east_down b (x.node (edge g e).east).y k (place d (edge g e).east).y (height_of d) (r.reads.points (edge g e).east ends.1).y h (λ down. east_rise g grid d e r.loose lt (sym s.east.falls ∙ down)))))
+
 -- and back
 height_holds : (v : Assignment) (g : Graph) (x : DrawingVars) (grid : GridSize) (d : Drawing) (b k : ℕ) → Read v g x grid d → 1 ≤ k → v b ≡ nat_le k (height_of d) → SatisfiesAll v (height_at g x grid.width b k)
 height_holds v g x grid d b k r from h = satisfies_append v given long
-    (satisfies_each v (λ e. each (height_gives x b k e) 0 (grid.width + 1)) 0 m (λ e low high. satisfies_each v (height_gives x b k e) 0 (grid.width + 1) (λ c near far. give e c (omega arith) (omega arith))))
-    (clause_holds v [] (flip (yes b) ∷ all_heights x grid.width k 0 m) (inr (all_or (v b) refl)))
+    (satisfies_each v (edge_height_gives g x grid.width b k) 0 m (λ e low high.
+    let lt : e < m = omega arith in
+    satisfies_append v (each (height_gives x b k e) 0 (grid.width + 1)) (height_beside g x b k e)
+    (satisfies_each v (height_gives x b k e) 0 (grid.width + 1) (λ c near far. give e c lt (omega arith)))
+    (beside_holds v g x grid d b k e r lt h)))
+    (clause_holds v [] (all_heights x grid.width k 0 m ++ flip (yes b) ∷ []) (inr (some_to v (all_heights x grid.width k 0 m) (flip (yes b) ∷ []) (all_or (v b) refl))))
   where
     m : ℕ
     m = length g.edges
 
     given : Clauses
-    given = each (λ e. each (height_gives x b k e) 0 (grid.width + 1)) 0 m
+    given = each (edge_height_gives g x grid.width b k) 0 m
 
     long : Clauses
-    long = clause_of [] (flip (yes b) ∷ all_heights x grid.width k 0 m)
+    long = some_height_clause x grid.width m b k
 
     reads : (e c : ℕ) → e < m → c ≤ grid.width → value v (at_least ((x.edge e).height c) k) ≡ nat_le k (height (line d e) c)
     reads e c lt le = ((r.reads.lines e lt).height c le).each k
@@ -249,10 +337,10 @@ height_holds v g x grid d b k r from h = satisfies_append v given long
           inl (value-flip v (at_least ((x.edge e).height c) k) ∙ ap not (reads e c lt w ∙ t))
     ]))
 
-    all_or : (s : Bool) → v b ≡ s → SomeTrue v (flip (yes b) ∷ all_heights x grid.width k 0 m)
-    all_or false s = inl (ap not s)
+    all_or : (s : Bool) → v b ≡ s → SomeTrue v (all_heights x grid.width k 0 m) ⊎ SomeTrue v (flip (yes b) ∷ [])
+    all_or false s = inr (inl (ap not s))
     all_or true s = elim (heights_or v x grid.width k 0 m) [
-      | inl a ↦ inr a
+      | inl a ↦ inl a
       | inr f ↦
           let low = low_all g grid d (k - 1) r.graph r.loose (λ e c lt w.
           let t : nat_le k (height (line d e) c) ≡ false = sym (reads e c lt w) ∙ f e c (omega arith) (omega arith) w in
@@ -272,3 +360,47 @@ height_extends v vars g x grid d last cap a le r =
       same = same;
       holds = satisfies_each w (λ k. height_at g x grid.width (last + k) k) 1 cap (λ k from to. height_holds w g x grid d (last + k) k q from (set_bound v last cap (height_of d) k from (omega arith)));
     }
+
+-- where its variables lie
+column_within : (vars : ℕ) (x : DrawingVars) (width k e c n : ℕ) → EdgeThere vars (x.edge e) width → c + n ≤ width + 1 → AreWithin vars (column_heights x k e c n)
+column_within vars x width k e c zero t le = tt
+column_within vars x width k e c (suc n) t le = (at_least_within vars ((x.edge e).height c) k (t.height c (omega arith)), column_within vars x width k e (c + 1) n t (omega arith))
+
+pub both_within : (vars : ℕ) (ts us : List LitOrTruth) → AreWithin vars ts → AreWithin vars us → AreWithin vars (ts ++ us)
+both_within vars [] us h k = k
+both_within vars (t ∷ ts) us h k = (h.0, both_within vars ts us h.1 k)
+
+heights_within : (vars : ℕ) (g : Graph) (x : DrawingVars) (width k e n : ℕ) → AreVars vars g x width → e + n ≤ length g.edges → AreWithin vars (all_heights x width k e n)
+heights_within vars g x width k e zero a le = tt
+heights_within vars g x width k e (suc n) a le =
+    both_within vars (column_heights x k e 0 (width + 1)) (all_heights x width k (e + 1) n)
+    (column_within vars x width k e 0 (width + 1) (a.edge e (omega arith)) (omega arith)) (heights_within vars g x width k (e + 1) n a (omega arith))
+
+pub gives_there : (vars b k e c : ℕ) (g : Graph) (x : DrawingVars) (width : ℕ) → AreVars vars g x width → e < length g.edges → c ≤ width → 1 ≤ b → b ≤ vars → AreWithin vars (flip (at_least ((x.edge e).height c) k) ∷ yes b ∷ [])
+gives_there vars b k e c g x width a lt le from to =
+    (flip_within vars (at_least ((x.edge e).height c) k) (at_least_within vars ((x.edge e).height c) k ((a.edge e lt).height c le)), ((from, to), tt))
+
+pub beside_within : (vars b k : ℕ) (s : ℕ) (i : IntVars) → (1 ≤ s) × (s ≤ vars) → IntIsThere vars i → 1 ≤ b → b ≤ vars → AreWithin vars (flip (yes s) ∷ flip (at_least i (k - 1)) ∷ yes b ∷ [])
+beside_within vars b k s i w t from to = (w, (flip_within vars (at_least i (k - 1)) (at_least_within vars i (k - 1) t), ((from, to), tt)))
+
+height_at_there : (vars : ℕ) (g : Graph) (x : DrawingVars) (width b k : ℕ) → IsTrackGraph g → AreVars vars g x width → 1 ≤ b → b ≤ vars → AllThere vars (height_at g x width b k)
+height_at_there vars g x width b k is a from to =
+    let m = length g.edges in
+    all_there_append vars (each (edge_height_gives g x width b k) 0 m) (some_height_clause x width m b k)
+    (all_there_each vars (edge_height_gives g x width b k) 0 m (λ e low high.
+    let lt : e < m = omega arith in
+    let ends = is.nodes e lt in
+    let w = (a.edge e lt).whole in
+    let west = flip (yes (x.edge e).west_up) ∷ flip (at_least (x.node (edge g e).west).y (k - 1)) ∷ yes b ∷ [] in
+    let east = flip (yes (x.edge e).east_down) ∷ flip (at_least (x.node (edge g e).east).y (k - 1)) ∷ yes b ∷ [] in
+    all_there_append vars (each (height_gives x b k e) 0 (width + 1)) (height_beside g x b k e)
+    (all_there_each vars (height_gives x b k e) 0 (width + 1) (λ c near far. clause_there vars [] (flip (at_least ((x.edge e).height c) k) ∷ yes b ∷ []) tt (gives_there vars b k e c g x width a lt (omega arith) from to)))
+    (all_there_append vars (clause_of [] west) (clause_of [] east)
+    (clause_there vars [] west tt (beside_within vars b k (x.edge e).west_up (x.node (edge g e).west).y w.west_up (a.node_y (edge g e).west ends.0) from to))
+    (clause_there vars [] east tt (beside_within vars b k (x.edge e).east_down (x.node (edge g e).east).y w.east_down (a.node_y (edge g e).east ends.1) from to)))))
+    (clause_there vars [] (all_heights x width k 0 m ++ flip (yes b) ∷ []) tt (both_within vars (all_heights x width k 0 m) (flip (yes b) ∷ []) (heights_within vars g x width k 0 m a (omega arith)) ((from, to), tt)))
+
+pub height_there : (vars : ℕ) (g : Graph) (x : DrawingVars) (width last cap : ℕ) → IsTrackGraph g → AreVars vars g x width → vars ≤ last → AllThere (last + cap) (height_bound g x width last cap)
+height_there vars g x width last cap is a le =
+    all_there_each (last + cap) (λ k. height_at g x width (last + k) k) 1 cap (λ k from to.
+    height_at_there (last + cap) g x width (last + k) k is (vars_more vars (last + cap) g x width (omega arith) a) (omega arith) (omega arith))

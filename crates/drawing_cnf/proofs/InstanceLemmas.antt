@@ -37,6 +37,8 @@ shape_stays v w vars e width l a same r =
     let h = a.whole in
     record {
       inside = λ c le. same (e.inside c) (a.inside c le).1 ∙ r.inside c le;
+      up = λ c lt. same (e.up c) (a.up c lt).1 ∙ r.up c lt;
+      down = λ c lt. same (e.down c) (a.down c lt).1 ∙ r.down c lt;
       height = λ c le. int_stays v w vars (e.height c) (height l c) (a.height c le) same (r.height c le);
       west = record { rises = same e.west_up h.west_up.1 ∙ r.west.rises; falls = same e.west_down h.west_down.1 ∙ r.west.falls };
       east = record { rises = same e.east_up h.east_up.1 ∙ r.east.rises; falls = same e.east_down h.east_down.1 ∙ r.east.falls };

@@ -11,6 +11,7 @@ use Rattle.plan_core.specs.Lawful.{Fits}
 use Rattle.cnf_core.specs.Assignment.{Assignment}
 use Rattle.order_int.specs.OrderInt.{Reads}
 use Rattle.edge_shape.specs.EdgeVars.{NodeInts, EdgeLits}
+use Rattle.edge_lines.specs.Track.{step}
 use Rattle.edge_lines.specs.Columns.{is_up, is_down, is_level}
 use Rattle.edge_lines.specs.Joins.{JoinsPoints}
 use Rattle.edge_lines.specs.Columns.{has_level_piece}
@@ -53,9 +54,11 @@ pub record ReadsSlope (v : Assignment) (s : SlopeVars) (slope : Slope) : Type 0 
 abbrev pub slope_vars : Graph → DrawingVars → ℕ → ℕ → SlopeVars
 slope_vars g x n e = end_slope ((edge g e).west == n) (x.edge e)
 
--- what laws and bounds read of an edge's variables; steps and inner points they don't
+-- what laws and bounds read of an edge's variables; where a level piece was seen and inner points they don't
 pub record ReadsShape (v : Assignment) (e : EdgeLits) (width : ℕ) (l : List Point) : Type 0 where
   pub inside : (c : ℕ) → c ≤ width → v (e.inside c) ≡ (nat_le (west_end l).x c && nat_le c (east_end l).x)
+  pub up : (c : ℕ) → c < width → v (e.up c) ≡ is_up (step (height l) c)
+  pub down : (c : ℕ) → c < width → v (e.down c) ≡ is_down (step (height l) c)
   pub height : (c : ℕ) → c ≤ width → Reads v (e.height c) (height l c)
   pub west : ReadsSlope v (west_slope e) (slope_west l)
   pub east : ReadsSlope v (east_slope e) (slope_east l)

@@ -1,0 +1,70 @@
+-- The formula with bounds behind it: one list for a graph, a grid, and the criteria that are bounded in an order, each with its cap.
+use Rattle.std.specs.Prelude.{◌≤◌, ⊤, ℕ, ◌+◌, Bool, cond, nat_eq, List, [], ◌∷◌, ◌++◌, All}
+use Rattle.std.specs.List.{flat_map}
+use Rattle.plan_core.specs.declared.criterion.Criterion.{Criterion}
+use Rattle.plan_core.specs.declared.criterion.Values.{Values}
+use Rattle.plan_core.specs.Grid.{GridSize}
+use Rattle.plan_core.specs.Graph.{Graph}
+use Rattle.plan_core.specs.Drawing.{Drawing}
+use Rattle.plan_core.specs.Values.{values_of, value_of}
+use Rattle.plan_core.specs.Lawful.{Lawful}
+use Rattle.cnf_core.specs.Clause.{Clauses}
+use Rattle.cnf_core.specs.Assignment.{Assignment, SatisfiesAll}
+use Rattle.drawing_cnf.specs.Stands.{DrawingVars, Stands}
+use Rattle.drawing_cnf.specs.Expected.{drawing_vars, formula_clauses, formula_size}
+use Rattle.drawing_cnf.specs.Bounds.{IsExact, bound_clauses, bound_size}
+
+-- a criterion's bound: variable last + k says "at least k", for k from 1 to the cap
+pub record Bound : Type 0 where
+  pub criterion : Criterion
+  pub last : ℕ
+  pub cap : ℕ
+
+abbrev pub bound : Criterion → ℕ → ℕ → Bound
+bound criterion last cap = record { criterion = criterion; last = last; cap = cap }
+
+abbrev pub clauses_of : Graph → DrawingVars → GridSize → Bound → Clauses
+clauses_of g x grid b = bound_clauses g x grid b.last b.cap b.criterion
+
+abbrev pub size_of : Graph → DrawingVars → GridSize → Bound → ℕ
+size_of g x grid b = bound_size g x grid b.last b.cap b.criterion
+
+abbrev pub bounds_clauses : Graph → DrawingVars → GridSize → List Bound → Clauses
+bounds_clauses g x grid bounds = flat_map (clauses_of g x grid) bounds
+
+-- each stands behind the variables of number vars and of those before it
+abbrev pub AreBehind : Graph → DrawingVars → GridSize → ℕ → List Bound → Type 0
+AreBehind g x grid vars [] = ⊤
+AreBehind g x grid vars (b ∷ rest) = (vars ≤ b.last) × AreBehind g x grid (b.last + size_of g x grid b) rest
+
+-- the criteria of an order that have a cap above 0, one right behind another
+abbrev pub bounds_from : Graph → DrawingVars → GridSize → (Criterion → ℕ) → ℕ → List Criterion → List Bound
+bounds_from g x grid caps last [] = []
+bounds_from g x grid caps last (c ∷ rest) =
+    cond (nat_eq (caps c) 0) (bounds_from g x grid caps last rest)
+    (bound c last (caps c) ∷ bounds_from g x grid caps (last + bound_size g x grid last (caps c) c) rest)
+
+-- The clauses and variables that there are for an order with its caps.
+
+abbrev pub expected_bounds : Graph → (ℕ → ℕ → Bool) → (ℕ → ℕ → Bool) → GridSize → List Criterion → (Criterion → ℕ) → List Bound
+expected_bounds g above overlap grid order caps = bounds_from g (drawing_vars g grid) grid caps (formula_size g above overlap grid) order
+
+abbrev pub expected : Graph → (ℕ → ℕ → Bool) → (ℕ → ℕ → Bool) → GridSize → List Criterion → (Criterion → ℕ) → Clauses
+expected g above overlap grid order caps =
+    formula_clauses g above overlap grid ++ bounds_clauses g (drawing_vars g grid) grid (expected_bounds g above overlap grid order caps)
+
+-- What they are to be.
+
+-- each bound is exact
+abbrev pub Tells : Assignment → Values → List Bound → Type 0
+Tells v values bounds = All (λ (b : Bound). IsExact v b.last b.cap (value_of values b.criterion)) bounds
+
+-- the assignment stands for a lawful drawing, and the bounds tell its values
+pub record StandsAndTells (v : Assignment) (g : Graph) (above : ℕ → ℕ → Bool) (grid : GridSize) (x : DrawingVars) (bounds : List Bound) : Type 0 where
+  pub drawing : Drawing
+  pub stands : Stands v g x drawing
+  pub lawful : Lawful g above grid drawing
+  pub tells : Tells v (values_of drawing) bounds
+
+abbrev pub SoundWith : Graph → (ℕ → ℕ → Bool) → GridSize → DrawingVars → Clauses → List Bound → Type 0
+SoundWith g above grid x clauses bounds = (v : Assignment) → SatisfiesAll v clauses → StandsAndTells v g above grid x bounds
