@@ -94,6 +94,20 @@ formula_clauses g above overlap grid = expected_clauses g grid (instances g abov
 abbrev pub formula_size : Graph → (ℕ → ℕ → Bool) → (ℕ → ℕ → Bool) → GridSize → ℕ
 formula_size g above overlap grid = expected_size g grid (instances g above overlap)
 
+-- How many words and variables it has at most: the parts of a graph are its nodes and edges, the area of a grid its points.
+
+abbrev pub parts : Graph → ℕ
+parts g = length g.nodes + length g.edges
+
+abbrev pub area : GridSize → ℕ
+area grid = (grid.width + 1) * (grid.height + 1)
+
+abbrev pub most_words : Graph → GridSize → ℕ
+most_words g grid = 2000 * (parts g * area grid) + 100 * (parts g * parts g * area grid)
+
+abbrev pub most_variables : Graph → GridSize → ℕ
+most_variables g grid = 100 * (parts g * area grid) + 10 * (parts g * parts g * (grid.width + 1))
+
 -- What a list of clauses over these variables is to be.
 
 -- the assignment stands for a lawful drawing

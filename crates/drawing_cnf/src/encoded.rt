@@ -4,36 +4,61 @@ ghost use Rattle.cnf_core.specs.declared.limits.TheConstants.{VARS, ROOM};
 ghost use Rattle.cnf_core.specs.declared.fault.CnfFault.TheVariants.{Room};
 ghost use Rattle.cnf_core.specs.Clause.{words_of};
 ghost use Rattle.track_order.specs.Order.{is_above, is_overlap, IsOrderOf};
-ghost use Rattle.drawing_cnf.specs.Expected.{drawing_vars, formula_clauses, formula_size, Sound, Covers};
+ghost use Rattle.edge_shape.specs.EdgeVars.{lits_of};
+ghost use Rattle.drawing_cnf.specs.Expected.{drawing_vars, formula_clauses, formula_size, most_words, most_variables, Sound, Covers};
+ghost use Rattle.drawing_cnf.specs.Encoding.{vars_of};
 
+use crate::edge_laws::edge_vars;
+use crate::rank::node_vars;
 use crate::whole::fill;
 use cnf_core::{CnfFault, Formula};
-use plan_core::Grid;
+use edge_shape::{EdgeVars, NodeVars};
+use plan_core::{EdgeNo, Grid, NodeNo};
 use port_graph::PortGraph;
 use std::alloc::Global;
 use std::marker::Model;
 use track_order::TrackOrder;
 
-/// The formula of a graph on a grid: its models stand for the lawful drawings.
+/// The formula of a graph, whose edges have an order, on a grid: its models stand for the lawful drawings.
 #[derive(Drop)]
-pub struct Encoded {
+pub struct Encoded<'a> {
+    graph: &'a PortGraph,
+    order: &'a TrackOrder,
+    grid: &'a Grid,
     formula: Formula,
 }
 
-impl Model for Encoded {
-    ghost use Rattle.cnf_core.specs.Formula.{Cnf};
+impl<'a> Model for Encoded<'a> {
+    ghost use Rattle.drawing_cnf.specs.Encoding.{Encoding, encoding};
 
-    ghost Value = { Cnf };
+    ghost Value = { Encoding };
 
-    ghost view = { λ e. e.formula };
+    ghost view = { λ e. encoding e.graph.now e.order.now e.grid.now e.formula };
 }
 
-impl Encoded {
+impl<'a> Encoded<'a> {
     /// The variables and clauses.
     pub fn formula(&self) -> &Formula
-        ensures { result.now ≡ self.now }
+        ensures { result.now ≡ self.now.formula }
     {
         &self.formula
+    }
+
+    /// A node's column and row, in which `Stands` reads its point.
+    pub fn node(&self, n: NodeNo) -> NodeVars
+        requires { n.0 < length self.now.graph.nodes }
+        ensures x { result.x ≡ ((vars_of self.now).node n.0).x }
+        ensures y { result.y ≡ ((vars_of self.now).node n.0).y }
+    {
+        node_vars(self.graph, self.grid, n.0)
+    }
+
+    /// The variables of an edge, in whose heights `Stands` reads its line.
+    pub fn edge(&self, e: EdgeNo) -> EdgeVars
+        requires { e.0 < length self.now.graph.edges }
+        ensures { lits_of result ≡ (vars_of self.now).edge e.0 }
+    {
+        edge_vars(self.graph, self.grid, e)
     }
 }
 
@@ -41,22 +66,27 @@ impl Encoded {
 ///
 /// `Room` comes exactly where the words or the variables are more than there may be, want of memory
 /// aside. Every model stands for a lawful drawing, and every lawful drawing has a model.
-pub fn encode(
+pub fn encode<'a>(
     alloc: Global,
-    g: &PortGraph,
-    t: &TrackOrder,
-    grid: &Grid,
+    g: &'a PortGraph,
+    t: &'a TrackOrder,
+    grid: &'a Grid,
     room: u32,
-) -> Result<Encoded, CnfFault>
+) -> Result<Encoded<'a>, CnfFault>
     requires order { IsOrderOf g.now t.now }
     requires room { room ≤ ROOM }
-    ensures clauses { IfOk result (λ e. e.clauses ≡ formula_clauses g.now (is_above t.now) (is_overlap t.now) grid.now) }
-    ensures vars { IfOk result (λ e. e.vars ≡ formula_size g.now (is_above t.now) (is_overlap t.now) grid.now) }
-    ensures kept { IfOk result (λ e. e.room ≡ room) }
+    ensures graph { IfOk result (λ e. e.graph ≡ g.now) }
+    ensures order { IfOk result (λ e. e.order ≡ t.now) }
+    ensures grid { IfOk result (λ e. e.grid ≡ grid.now) }
+    ensures clauses { IfOk result (λ e. e.formula.clauses ≡ formula_clauses g.now (is_above t.now) (is_overlap t.now) grid.now) }
+    ensures vars { IfOk result (λ e. e.formula.vars ≡ formula_size g.now (is_above t.now) (is_overlap t.now) grid.now) }
+    ensures kept { IfOk result (λ e. e.formula.room ≡ room) }
     ensures words_fit { IsOk result → words_of (formula_clauses g.now (is_above t.now) (is_overlap t.now) grid.now) ≤ room }
     ensures vars_fit { IsOk result → formula_size g.now (is_above t.now) (is_overlap t.now) grid.now ≤ VARS }
     ensures full { IsErrOf result Room →
         (VARS < formula_size g.now (is_above t.now) (is_overlap t.now) grid.now) ⊎ (room < words_of (formula_clauses g.now (is_above t.now) (is_overlap t.now) grid.now)) }
+    ensures words_bounded { words_of (formula_clauses g.now (is_above t.now) (is_overlap t.now) grid.now) ≤ most_words g.now grid.now }
+    ensures vars_bounded { formula_size g.now (is_above t.now) (is_overlap t.now) grid.now ≤ most_variables g.now grid.now }
     ensures sound { Sound g.now (is_above t.now) grid.now (drawing_vars g.now grid.now) (formula_clauses g.now (is_above t.now) (is_overlap t.now) grid.now) }
     ensures covers { Covers g.now (is_above t.now) grid.now (drawing_vars g.now grid.now) (formula_clauses g.now (is_above t.now) (is_overlap t.now) grid.now) }
 {
@@ -64,18 +94,21 @@ pub fn encode(
     make_encoded(alloc, g, t, grid, room)
 }
 
-fn make_encoded(
+fn make_encoded<'a>(
     alloc: Global,
-    g: &PortGraph,
-    t: &TrackOrder,
-    grid: &Grid,
+    g: &'a PortGraph,
+    t: &'a TrackOrder,
+    grid: &'a Grid,
     room: u32,
-) -> Result<Encoded, CnfFault>
+) -> Result<Encoded<'a>, CnfFault>
     requires edges { t.now.edges ≡ length g.now.edges }
     requires room { room ≤ ROOM }
-    ensures clauses { IfOk result (λ e. e.clauses ≡ formula_clauses g.now (is_above t.now) (is_overlap t.now) grid.now) }
-    ensures vars { IfOk result (λ e. e.vars ≡ formula_size g.now (is_above t.now) (is_overlap t.now) grid.now) }
-    ensures kept { IfOk result (λ e. e.room ≡ room) }
+    ensures graph { IfOk result (λ e. e.graph ≡ g.now) }
+    ensures order { IfOk result (λ e. e.order ≡ t.now) }
+    ensures grid { IfOk result (λ e. e.grid ≡ grid.now) }
+    ensures clauses { IfOk result (λ e. e.formula.clauses ≡ formula_clauses g.now (is_above t.now) (is_overlap t.now) grid.now) }
+    ensures vars { IfOk result (λ e. e.formula.vars ≡ formula_size g.now (is_above t.now) (is_overlap t.now) grid.now) }
+    ensures kept { IfOk result (λ e. e.formula.room ≡ room) }
     ensures words_fit { IsOk result → words_of (formula_clauses g.now (is_above t.now) (is_overlap t.now) grid.now) ≤ room }
     ensures vars_fit { IsOk result → formula_size g.now (is_above t.now) (is_overlap t.now) grid.now ≤ VARS }
     ensures full { IsErrOf result Room →
@@ -83,5 +116,10 @@ fn make_encoded(
 {
     let mut formula = Formula::new(alloc, room)?;
     fill(&mut formula, g, t, grid)?;
-    Ok(Encoded { formula })
+    Ok(Encoded {
+        graph: g,
+        order: t,
+        grid,
+        formula,
+    })
 }

@@ -19,6 +19,8 @@ mod nodes;
 mod order;
 mod over;
 mod rank;
+mod values;
 mod whole;
 
 pub use encoded::{Encoded, encode};
+pub use values::greatest;

@@ -1,5 +1,5 @@
-use Rattle.std.proofs.Common.{◌≡◌, ◌∙◌, sym, ap, subst, ◌<◌, length, arith}
-use Rattle.drawing_cnf.specs.Rank.{comes_before, count_below, rank}
+use Rattle.std.proofs.Common.{arith}
+use Rattle.drawing_cnf.specs.Rank.{comes_before}
 use Rattle.drawing_cnf.proofs.RankLemmas.{count_next, count_few, rank_of_count, rank_below}
 use Rattle.drawing_cnf.proofs.rank.rank_of.Goals as goal
 

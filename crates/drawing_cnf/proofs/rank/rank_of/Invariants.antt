@@ -1,4 +1,4 @@
-use Rattle.std.specs.Prelude.{◌≡◌, ◌≤◌}
+use Rattle.std.specs.Prelude.{◌≡◌}
 use Rattle.drawing_cnf.specs.Rank.{comes_before, count_below}
 use Rattle.drawing_cnf.proofs.rank.rank_of.Given as goal
 

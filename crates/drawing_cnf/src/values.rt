@@ -1,0 +1,20 @@
+// The greatest value of each criterion.
+ghost use Rattle.std.specs.Prelude.{◌≡◌};
+ghost use Rattle.drawing_cnf.specs.Encoding.{greatest_value};
+
+use plan_core::{Criterion, Grid};
+use port_graph::PortGraph;
+
+/// The greatest value of a criterion that a drawing of the graph on the grid may have: the grid's height
+/// or width, two bends for each edge, or the grid's width for each edge.
+pub fn greatest(g: &PortGraph, grid: &Grid, c: Criterion) -> u32
+    ensures { result ≡ greatest_value g.now grid.now c }
+{
+    let edges = u32::from(g.edges());
+    match c {
+        Criterion::Height => u32::from(grid.height()),
+        Criterion::Bends => 2 * edges,
+        Criterion::Diagonal => edges * u32::from(grid.width()),
+        Criterion::Width => u32::from(grid.width()),
+    }
+}
