@@ -1,0 +1,12 @@
+pub mod LiteralLemmas
+pub mod CountLemmas
+pub mod CutLemmas
+pub mod RupLemmas
+pub mod LevelLemmas
+pub mod WorkLemmas
+pub mod WalkLemmas
+pub mod BackLemmas
+pub mod TraceLemmas
+pub mod ShorterLemmas
+pub mod SoundLemmas
+pub mod AnalysisLemmas

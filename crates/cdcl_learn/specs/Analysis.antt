@@ -1,0 +1,44 @@
+-- What the analyser leaves.
+use Rattle.std.specs.Prelude.{◌≡◌, ◌≢◌, ◌≤◌, ◌<◌, ◌⊎◌, ℕ, ◌+◌, Bool, cond, List, [], ◌∷◌, All, Contains, length, slice_index, take}
+use Rattle.cnf_core.specs.declared.limits.TheConstants.{VARS}
+use Rattle.cnf_core.specs.Lit.{Literal, negate, has}
+use Rattle.cnf_core.specs.Propagation.{IsIn}
+use Rattle.watch_arena.specs.Trail.{Marks}
+use Rattle.watch_arena.specs.Arena.{Attached}
+use Rattle.cdcl_learn.specs.Sight.{sight, level_of, reason_of, clauses_of}
+use Rattle.cdcl_learn.specs.Cut.{Cut, IsNamed}
+
+-- the number of variables, the clause that the latest call left, the level to jump back to with it,
+-- and the variables on the conflict side of the latest analysis
+pub record Analysis : Type 0 where
+  pub vars : ℕ
+  pub clause : List Literal
+  pub back : ℕ
+  pub seen : List ℕ
+
+abbrev pub analysis_of : Cut → Bool → Literal → ℕ → List ℕ → ℕ → Analysis
+analysis_of w some first back side len = record { vars = w.vars; clause = cond some (first ∷ w.rest) []; back = back; seen = take len side }
+
+-- the table has a place for each variable; the variables in front are distinct and in range
+pub record IsAnalyser (w : Cut) (side : List ℕ) (len : ℕ) : Type 0 where
+  pub limit : w.vars ≤ VARS
+  pub short : length w.rest ≤ w.vars + 1
+  pub size : w.vars + 1 ≤ length side
+  pub within : len ≤ w.vars + 1
+  pub there : (i : ℕ) → i < len → (1 ≤ slice_index side i) × (slice_index side i ≤ w.vars)
+  pub apart : (i j : ℕ) → i < j → j < len → slice_index side i ≢ slice_index side j
+
+-- distinct variables in range
+pub record AreVars (vars : ℕ) (seen : List ℕ) : Type 0 where
+  pub there : (i : ℕ) → i < length seen → (1 ≤ slice_index seen i) × (slice_index seen i ≤ vars)
+  pub apart : (i j : ℕ) → i < j → j < length seen → slice_index seen i ≢ slice_index seen j
+
+-- the seen variables stand in clauses of the arena; those of the clause are among them
+pub record AreSeen (a : Attached) (m : Marks) (clause : List Literal) (seen : List ℕ) : Type 0 where
+  pub named : All (IsNamed (clauses_of (sight a m))) seen
+  pub all : All (λ k. Contains seen k.var) clause
+
+-- false, and not decided
+pub record IsImplied (a : Attached) (m : Marks) (l : Literal) : Type 0 where
+  pub falsified : IsIn (has m.lits) (negate l)
+  pub undecided : (level_of (sight a m) l ≡ 0) ⊎ (1 ≤ reason_of (sight a m) l)

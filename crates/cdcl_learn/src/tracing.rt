@@ -1,0 +1,107 @@
+// A false literal, traced back to decisions.
+ghost use Rattle.std.specs.Prelude.{◌≡◌, ◌≤◌, ◌<◌, ◌+◌, Contains, length};
+ghost use Rattle.cnf_core.specs.Clause.{AreThere, IsThere};
+ghost use Rattle.cnf_core.specs.Lit.{negate, has};
+ghost use Rattle.cnf_core.specs.Propagation.{IsIn};
+ghost use Rattle.cdcl_learn.specs.Sight.{sight, clause_at, reason_of, IsSound};
+ghost use Rattle.watch_arena.specs.Arena.{AreReasoned};
+ghost use Rattle.cdcl_learn.specs.Analysis.{IsImplied};
+ghost use Rattle.cdcl_learn.specs.Trace.{touched, all_touched, IsTracing, IsTraced};
+
+use crate::conflict::var_at;
+use crate::work::Work;
+use cnf_core::Lit;
+use watch_arena::{Arena, ClauseRef, Trail};
+
+/// Sees one false literal.
+fn touch(work: &mut Work, arena: &Arena, trail: &Trail, k: Lit)
+    requires there { IsThere trail.now.vars k }
+    requires vars { work.old.vars ≡ trail.now.vars }
+    ensures { work.new ≡ touched (sight arena.now trail.now) work.old k }
+{
+    let v = k.var();
+    if work.is_seen(v) {
+        return;
+    }
+    if trail.level_of(v) == 0 {
+        return;
+    }
+    match trail.reason(v) {
+        None => work.add_lower(k),
+        Some(_) => work.add_open(k),
+    }
+}
+
+/// Sees all literals of a clause.
+fn touch_all(work: &mut Work, arena: &Arena, trail: &Trail, c: ClauseRef)
+    requires clause { Contains arena.now.places c.0 }
+    requires there { AreThere trail.now.vars (clause_at (sight arena.now trail.now) c.0) }
+    requires vars { work.old.vars ≡ trail.now.vars }
+    ensures value { work.new ≡ all_touched (sight arena.now trail.now) work.old (clause_at (sight arena.now trail.now) c.0) }
+    ensures vars { work.new.vars ≡ work.old.vars }
+{
+    for i in 0..arena.len_of(c) {
+        touch(work, arena, trail, arena.lit_of(c, i));
+    }
+}
+
+/// One place of the walk down the trail.
+fn step(work: &mut Work, arena: &Arena, trail: &Trail, l: Lit, i: u32)
+    requires sound { IsSound (sight arena.now trail.now) }
+    requires vars { work.old.vars ≡ trail.now.vars }
+    requires tracing { IsTracing (sight arena.now trail.now) work.old l (i + 1) }
+    ensures vars { work.new.vars ≡ work.old.vars }
+    ensures tracing { IsTracing (sight arena.now trail.now) work.new l i }
+{
+    let v = var_at(trail, i);
+    if work.is_seen(v) {
+        if let Some(c) = trail.reason(v) {
+            touch_all(work, arena, trail, c);
+        }
+    }
+}
+
+/// Walks down from a false literal that this clause made false.
+fn trace(work: &mut Work, arena: &Arena, trail: &Trail, l: Lit, reason: ClauseRef)
+    requires sound { IsSound (sight arena.now trail.now) }
+    requires vars { work.old.vars ≡ trail.now.vars }
+    requires there { IsThere trail.now.vars l }
+    requires falsified { IsIn (has trail.now.lits) (negate l) }
+    requires from { 1 ≤ reason.0 }
+    requires reason { reason_of (sight arena.now trail.now) l ≡ reason.0 }
+    ensures vars { work.new.vars ≡ work.old.vars }
+    ensures traced { IsTraced (sight arena.now trail.now) (negate l) work.new.rest }
+{
+    work.clear();
+    work.add_open(l);
+    touch_all(work, arena, trail, reason);
+    let mut end = trail.len();
+    while end > 0 {
+        end -= 1;
+        step(work, arena, trail, l, end);
+    }
+}
+
+/// Leaves the negations of the decided literals from which the negation of a false literal follows.
+pub fn trace_back(work: &mut Work, arena: &Arena, trail: &Trail, l: Lit)
+    requires reasoned { AreReasoned arena.now trail.now }
+    requires vars { work.old.vars ≡ trail.now.vars }
+    requires arena { arena.now.vars ≡ trail.now.vars }
+    requires there { IsThere trail.now.vars l }
+    requires implied { IsImplied arena.now trail.now l }
+    ensures vars { work.new.vars ≡ work.old.vars }
+    ensures traced { IsTraced (sight arena.now trail.now) (negate l) work.new.rest }
+{
+    let v = l.var();
+    if trail.level_of(v) == 0 {
+        work.clear();
+        return;
+    }
+    match trail.reason(v) {
+        None => work.clear(),
+        Some(c) => {
+            let _clauses = arena.len_of(c);
+            trace(work, arena, trail, l, c);
+        }
+    }
+}
