@@ -50,7 +50,7 @@ lits_there vars g x width (e ∷ es) a there =
     let w = (a.edge e (All-head (λ e. e < length g.edges) e es there)).whole in
     (w.first_bend, (w.second_bend, lits_there vars g x width es a (All-tail (λ e. e < length g.edges) e es there)))
 
-bends_lits_there : (vars : ℕ) (g : Graph) (x : DrawingVars) (width : ℕ) (edges : List ℕ) (most : ℕ) → vars ≤ most → AreEdges g edges → AreVars vars g x width → AreThere most (bend_lits x edges)
+pub bends_lits_there : (vars : ℕ) (g : Graph) (x : DrawingVars) (width : ℕ) (edges : List ℕ) (most : ℕ) → vars ≤ most → AreEdges g edges → AreVars vars g x width → AreThere most (bend_lits x edges)
 bends_lits_there vars g x width edges most le are a = lits_there most g x width edges (vars_more vars most g x width le a) are.there
 
 pub bends_extend : (v : Assignment) (vars : ℕ) (g : Graph) (x : DrawingVars) (grid : GridSize) (d : Drawing) (edges : List ℕ) (last cap : ℕ) → AreEdges g edges → AreVars vars g x grid.width → vars ≤ last → Read v g x grid d → Extends (last + 1) (bends_bound_size x edges last cap) v (λ w. SatisfiesAll w (bends_bound x edges last cap))

@@ -3,7 +3,7 @@ use Rattle.std.proofs.Common.{◌≡◌, ◌⊎◌, ℕ, zero, suc, ◌+◌, ◌
 use Rattle.std.specs.Prelude.{nat_le, All}
 use Rattle.std.specs.List.{sum_by, range_with_len, insert}
 use Rattle.std.proofs.lemmas.List.Sums.{sum_by-cons}
-use Rattle.std.proofs.lemmas.List.Sorted.{sum_by-IsPermutation, IsPermutation-insert, All-permutation}
+use Rattle.std.proofs.lemmas.List.Sorted.{sum_by-IsPermutation, IsPermutation-insert, All-permutation, length_permutation}
 use Rattle.std.proofs.lemmas.List.Elements.{All-nil, All-cons, All-weaker}
 use Rattle.plan_core.specs.declared.point.Point.{Point}
 use Rattle.plan_core.specs.Graph.{Graph}
@@ -129,7 +129,7 @@ first_sums g (suc n) f =
     let z : f (0 + n) ≡ f n = (let y : 0 + n ≡ n = omega arith in ap f y) in
     omega (arith, one, two, z, range_next f 0 n, first_sums g n f)
 
-first_there : (g : Graph) (n : ℕ) → All (λ e. e < n) (first_edges g n)
+pub first_there : (g : Graph) (n : ℕ) → All (λ e. e < n) (first_edges g n)
 first_there g zero = All-nil (λ e. e < 0)
 first_there g (suc n) =
     let es = first_edges g n in
@@ -156,3 +156,13 @@ sum_over_lines g f lines edges same are =
     are.sums (λ e. f (get_or lines e []))
     ∙ ap (λ n. sum_by (λ e. f (get_or lines e [])) (range_with_len 0 n)) (sym same)
     ∙ sum_places f (λ e. f (get_or lines e [])) lines 0 (λ i lt. let y : 0 + i ≡ i = omega arith in ap (λ e. f (get_or lines e [])) y)
+
+first_length : (g : Graph) (n : ℕ) → length (first_edges g n) ≡ n
+first_length g zero = refl
+first_length g (suc n) =
+    let es = first_edges g n in
+    let i = not_east g n es in
+    omega (arith, length_permutation (n ∷ es) (insert es i n) (IsPermutation-insert es i n), first_length g n)
+
+pub edges_length : (g : Graph) → length (west_first g) ≡ length g.edges
+edges_length g = first_length g (length g.edges)

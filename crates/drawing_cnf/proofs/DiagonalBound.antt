@@ -106,11 +106,13 @@ beside_holds v g x grid d e s r lt tells =
     let p3 = gives_output s (flip (yes i.east_up) ∷ []) 1 in
     let p4 = gives_output s (flip (yes i.east_down) ∷ []) 1 in
     let p5 = gives_output s (flip (yes i.first_bend) ∷ flip (yes i.second_bend) ∷ []) 2 in
-    satisfies_append v p1 (p2 ++ (p3 ++ (p4 ++ p5))) (one_output v s i.west_up n tells (λ b. west_diagonal l (up_diagonal (slope_west l) (sym reads.west.rises ∙ b))))
-    (satisfies_append v p2 (p3 ++ (p4 ++ p5)) (one_output v s i.west_down n tells (λ b. west_diagonal l (down_diagonal (slope_west l) (sym reads.west.falls ∙ b))))
-    (satisfies_append v p3 (p4 ++ p5) (one_output v s i.east_up n tells (λ b. east_diagonal l (up_diagonal (slope_east l) (sym reads.east.rises ∙ b))))
-    (satisfies_append v p4 p5 (one_output v s i.east_down n tells (λ b. east_diagonal l (down_diagonal (slope_east l) (sym reads.east.falls ∙ b))))
-    (two_output v s i.first_bend i.second_bend n tells (λ a b. bent_diagonal l (r.loose.joins e lt).shape (two_bends (v i.first_bend) (v i.second_bend) (bends l) (line_bends v g x grid d e r lt) a b))))))
+    satisfies_append v ((p1 ++ p2) ++ (p3 ++ p4)) p5
+    (satisfies_append v (p1 ++ p2) (p3 ++ p4)
+    (satisfies_append v p1 p2 (one_output v s i.west_up n tells (λ b. west_diagonal l (up_diagonal (slope_west l) (sym reads.west.rises ∙ b))))
+    (one_output v s i.west_down n tells (λ b. west_diagonal l (down_diagonal (slope_west l) (sym reads.west.falls ∙ b)))))
+    (satisfies_append v p3 p4 (one_output v s i.east_up n tells (λ b. east_diagonal l (up_diagonal (slope_east l) (sym reads.east.rises ∙ b))))
+    (one_output v s i.east_down n tells (λ b. east_diagonal l (down_diagonal (slope_east l) (sym reads.east.falls ∙ b))))))
+    (two_output v s i.first_bend i.second_bend n tells (λ a b. bent_diagonal l (r.loose.joins e lt).shape (two_bends (v i.first_bend) (v i.second_bend) (bends l) (line_bends v g x grid d e r lt) a b)))
 
 -- where the variables lie
 steps_there : (vars : ℕ) (e : EdgeLits) (width c n : ℕ) → EdgeThere vars e width → c + n ≤ width → AreThere vars (step_lits e c n)
@@ -143,11 +145,11 @@ edge_steps_there before vars e width most t le u =
     let p4 = gives_output s (flip (yes e.east_down) ∷ []) 1 in
     let p5 = gives_output s (flip (yes e.first_bend) ∷ flip (yes e.second_bend) ∷ []) 2 in
     all_there_append all (sum_clauses s) (steps_beside e s) (sum_there most vars (step_lits e 0 width) lits)
-    (all_there_append all p1 (p2 ++ (p3 ++ (p4 ++ p5))) (output_there all s (flip (yes e.west_up) ∷ []) 1 ((w.west_up.0, omega arith), out 1))
-    (all_there_append all p2 (p3 ++ (p4 ++ p5)) (output_there all s (flip (yes e.west_down) ∷ []) 1 ((w.west_down.0, omega arith), out 1))
-    (all_there_append all p3 (p4 ++ p5) (output_there all s (flip (yes e.east_up) ∷ []) 1 ((w.east_up.0, omega arith), out 1))
-    (all_there_append all p4 p5 (output_there all s (flip (yes e.east_down) ∷ []) 1 ((w.east_down.0, omega arith), out 1))
-    (output_there all s (flip (yes e.first_bend) ∷ flip (yes e.second_bend) ∷ []) 2 ((w.first_bend.0, omega arith), ((w.second_bend.0, omega arith), out 2)))))))
+    (all_there_append all ((p1 ++ p2) ++ (p3 ++ p4)) p5
+    (all_there_append all (p1 ++ p2) (p3 ++ p4)
+    (all_there_append all p1 p2 (output_there all s (flip (yes e.west_up) ∷ []) 1 ((w.west_up.0, omega arith), out 1)) (output_there all s (flip (yes e.west_down) ∷ []) 1 ((w.west_down.0, omega arith), out 1)))
+    (all_there_append all p3 p4 (output_there all s (flip (yes e.east_up) ∷ []) 1 ((w.east_up.0, omega arith), out 1)) (output_there all s (flip (yes e.east_down) ∷ []) 1 ((w.east_down.0, omega arith), out 1))))
+    (output_there all s (flip (yes e.first_bend) ∷ flip (yes e.second_bend) ∷ []) 2 ((w.first_bend.0, omega arith), ((w.second_bend.0, omega arith), out 2))))
 
 edge_steps_extend : (v : Assignment) (vars : ℕ) (g : Graph) (x : DrawingVars) (grid : GridSize) (d : Drawing) (e most : ℕ) → AreVars vars g x grid.width → Read v g x grid d → e < length g.edges → Extends (vars + 1) (sum_count (steps_sum (x.edge e) grid.width most vars)) v (λ w. SatisfiesAll w (edge_steps (x.edge e) (steps_sum (x.edge e) grid.width most vars)))
 edge_steps_extend v vars g x grid d e most a r lt =

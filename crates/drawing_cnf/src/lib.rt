@@ -7,20 +7,26 @@
 //! with literals of which one may be true instead. `specs/Expected` is the clause list, as one
 //! definition that computes, with `Sound` and `Covers`; `specs/Stands` says when an assignment stands
 //! for a drawing, `specs/LawClauses` has the clauses of each law, `specs/Guards` the order with guards
-//! that four of them share. The crate stands on `edge_shape`, `port_graph` and `track_order`.
+//! that four of them share. `specs/Bounds` has the clauses of the criteria's bounds, `specs/Bounded` the
+//! formula with them; `height_bound`, `width_bound` and `sum_bounds` add them, `west_first` has the
+//! order of the edges in a sum. The crate stands on `edge_shape`, `port_graph` and `track_order`.
 #![tactic(auto)]
 
 mod aligned;
 mod edge_laws;
 mod encoded;
 mod guards;
+mod height_bound;
 mod node_laws;
 mod nodes;
 mod order;
 mod over;
 mod rank;
+mod sum_bounds;
 mod values;
+mod west_first;
 mod whole;
+mod width_bound;
 
 pub use encoded::{Encoded, encode};
 pub use values::greatest;

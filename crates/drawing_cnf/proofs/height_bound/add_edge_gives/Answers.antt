@@ -1,0 +1,24 @@
+use Rattle.std.proofs.Common.{rules, length, arith, [], ◌∷◌, ◌++◌, ◌+◌, ◌*◌, ◌∙◌, ap}
+use Rattle.cnf_core.proofs.StepLemmas.{adds_refused, adds_after, adds_longer}
+use Rattle.cnf_core.specs.Formula.{each}
+use Rattle.edge_shape.specs.EdgeVars.{edge_spot}
+use Rattle.drawing_cnf.specs.Expected.{edge_first, drawing_vars}
+use Rattle.drawing_cnf.specs.Bounds.{height_gives, height_beside}
+use Rattle.drawing_cnf.proofs.BoundCode.{heights_adds}
+use Rattle.drawing_cnf.proofs.height_bound.add_edge_gives.Goals as goal
+
+pub returns-in_err-add_heights_give : goal.returns-in_err-add_heights_give
+returns-in_err-add_heights_give c =
+    let a = c.args in
+    let d = a.grid.now in
+    let x = drawing_vars a.g.now d in
+    let spot = edge_spot (edge_first a.g.now d a.e) d.height d.width in
+    adds_refused c.add_heights_give.result c.from_residual.result _ _ (each (height_gives x a.b a.k a.e) 0 (d.width + 1)) (height_beside a.g.now x a.b a.k a.e) 3 c.from_residual.ensures.0 (λ k. search (rules, k)) (heights_adds c.add_heights_give.result _ _ c.edge_vars-vars.result spot a.b a.k c.width.result d.width c.edge_vars-vars.ensures.edge c.width.ensures.value c.add_heights_give.ensures)
+
+pub returns : goal.returns
+returns c =
+    let a = c.args in
+    let d = a.grid.now in
+    let x = drawing_vars a.g.now d in
+    let spot = edge_spot (edge_first a.g.now d a.e) d.height d.width in
+    adds_after _ c.add_height_beside.result _ _ _ (each (height_gives x a.b a.k a.e) 0 (d.width + 1)) (height_beside a.g.now x a.b a.k a.e) 3 (heights_adds _ _ _ c.edge_vars-vars.result spot a.b a.k c.width.result d.width c.edge_vars-vars.ensures.edge c.width.ensures.value c.in_ok-add_heights_give.ensures) (c.add_height_beside.ensures)
