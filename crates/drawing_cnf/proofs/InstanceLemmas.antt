@@ -81,13 +81,13 @@ instance_means v g above x grid d (Parted e f) first unless r at on h =
     parted_means v g x grid d e f first unless r (omega arith) within on h
 
 -- LAW TO MODEL
-nothing_new : (v : Assignment) (first : ℕ) (P : Assignment → Type 0) → P v → Extends first 0 v P
+pub nothing_new : (v : Assignment) (first : ℕ) (P : Assignment → Type 0) → P v → Extends first 0 v P
 nothing_new v first P h = record { to = v; same = same_none first 0 v; holds = h }
 
 pub before_of : (vars first : ℕ) (n : NodeInts) → vars < first → IntIsThere vars n.x → IntIsThere vars n.y → LieBefore first n
 before_of vars first n lt a b = let p = a.to in let q = b.to in record { x = omega arith; y = omega arith }
 
-parted_extends : (v : Assignment) (vars : ℕ) (g : Graph) (x : DrawingVars) (grid : GridSize) (d : Drawing) (e f first : ℕ) (unless : List Literal) → AreVars vars g x grid.width → vars < first → Read v g x grid d → e < length g.edges → f < length g.edges → EdgesAreParted g d e f → Extends first 1 v (λ w. SatisfiesAll w (parted_clauses g x grid.width e f first unless))
+pub parted_extends : (v : Assignment) (vars : ℕ) (g : Graph) (x : DrawingVars) (grid : GridSize) (d : Drawing) (e f first : ℕ) (unless : List Literal) → AreVars vars g x grid.width → vars < first → Read v g x grid d → e < length g.edges → f < length g.edges → EdgesAreParted g d e f → Extends first 1 v (λ w. SatisfiesAll w (parted_clauses g x grid.width e f first unless))
 parted_extends v vars g x grid d e f first unless a before r le lf (inl over) =
     let w = patch first 1 (λ k. true) v in
     let same = patch_same first 1 (λ k. true) v in

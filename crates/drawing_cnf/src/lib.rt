@@ -19,6 +19,7 @@ mod guards;
 mod height_bound;
 mod node_laws;
 mod nodes;
+mod one_law;
 mod order;
 mod over;
 mod rank;
@@ -29,4 +30,5 @@ mod whole;
 mod width_bound;
 
 pub use encoded::{Encoded, encode};
+pub use one_law::{add_aligned_law, add_apart_law, add_ordered_law, add_over_law, add_parted_law};
 pub use values::greatest;
