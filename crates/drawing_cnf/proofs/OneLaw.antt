@@ -1,23 +1,21 @@
 -- The clauses of one law, both ways.
-use Rattle.std.proofs.Common.{◌≡◌, ◌⊎◌, ℕ, ◌+◌, ◌-◌, ◌≤◌, ◌<◌, List, length, inl, inr, refl, arith}
+use Rattle.std.proofs.Common.{ℕ, ◌+◌, ◌≤◌, ◌<◌, List, length, inl, inr, refl, arith}
 use Rattle.std.specs.Ordering.{int_cmp}
 use Rattle.plan_core.specs.Grid.{GridSize, IsGrid}
 use Rattle.plan_core.specs.Graph.{Graph, mileage, IsTrackGraph}
-use Rattle.plan_core.specs.Drawing.{Drawing, place}
+use Rattle.plan_core.specs.Drawing.{place}
 use Rattle.plan_core.specs.Laws.{NodesAreOrdered, NodeIsAligned, NodesAreApart, EdgeIsOver, EdgesAreParted}
 use Rattle.cnf_core.specs.declared.limits.TheConstants.{VARS}
 use Rattle.cnf_core.specs.declared.literal.LitOrTruth.TheVariants.{False}
 use Rattle.cnf_core.specs.Lit.{Literal}
-use Rattle.cnf_core.specs.Assignment.{Assignment, Satisfies, SatisfiesAll, Extends}
+use Rattle.cnf_core.specs.Assignment.{SatisfiesAll}
 use Rattle.cnf_core.proofs.SettingLemmas.{same_none}
-use Rattle.drawing_cnf.specs.Stands.{ReadsDrawing, IsLoose}
 use Rattle.drawing_cnf.specs.LawClauses.{ordered_clauses, aligned_clauses, anywhere_clauses, over_clauses, parted_clauses}
 use Rattle.drawing_cnf.specs.Expected.{drawing_vars, laws_first}
 use Rattle.drawing_cnf.specs.OneLaw.{SaysLaw, AllowsLaw}
 use Rattle.drawing_cnf.proofs.SlopeLemmas.{aligned_means, aligned_holds}
 use Rattle.drawing_cnf.proofs.ApartLemmas.{ordered_means, ordered_holds, anywhere_means, anywhere_extends}
 use Rattle.drawing_cnf.proofs.OverLemmas.{Read, over_means, over_holds, parted_means, parted_holds}
-use Rattle.drawing_cnf.proofs.ThereLemmas.{vars_more}
 use Rattle.drawing_cnf.proofs.InstanceLemmas.{nothing_new, before_of, parted_extends}
 use Rattle.drawing_cnf.proofs.BaseLemmas.{base_last, base_vars}
 

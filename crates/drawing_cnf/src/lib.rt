@@ -2,9 +2,10 @@
 //!
 //! `encode` makes the formula of a graph on a grid. Each node has two integers, its column and its
 //! row, with variables by the node's place from west to east (`rank`); each edge has the variables and
-//! clauses of `edge_shape`, which give the laws on the grid and on ends of lines; the laws on order, slopes, distinct points and edges above each other have
-//! clauses of their own, one function each (`order`, `aligned`, `over`), for one node or one pair,
-//! with literals of which one may be true instead. `specs/Expected` is the clause list, as one
+//! clauses of `edge_shape`, which give the laws on the grid and on ends of lines; the laws on order,
+//! slopes, distinct points and edges above each other have clauses of their own, one function each
+//! (`order`, `aligned`, `over`), for one node or one pair, with literals of which one may be true
+//! instead; `one_law` has a public call for each. `specs/Expected` is the clause list, as one
 //! definition that computes, with `Sound` and `Covers`; `specs/Stands` says when an assignment stands
 //! for a drawing, `specs/LawClauses` has the clauses of each law, `specs/Guards` the order with guards
 //! that four of them share. `specs/Bounds` has the clauses of the criteria's bounds, `specs/Bounded` the
