@@ -5,7 +5,7 @@
 # fault of its topology or of its graph, so that its whole text is read. A program may be named in place of the built one.
 set -eu
 top=$(cd "$(dirname "$0")/.." && pwd)
-program=${1-$top/crates/schematic_main/out/schematic_main}
+program=${1-$top/crates/railplan_main/out/railplan_main}
 if [ ! -x "$program" ]; then
     echo "bench/reader.sh: the program isn't built; run ./railplan draw examples/one.xml first" >&2
     exit 1
