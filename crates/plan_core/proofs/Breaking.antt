@@ -6,7 +6,7 @@ use Rattle.plan_core.specs.Graph.{Graph}
 use Rattle.plan_core.specs.Drawing.{Drawing}
 use Rattle.plan_core.specs.Lawful.{Instance, NodeOnGrid, LineOnGrid, Ordered, Joined, Aligned, Apart, Over, Parted}
 use Rattle.plan_core.specs.Examples.{usual_grid, roomy_grid, one_graph, none_above, loop_graph, loop_above, loop_drawing, two_graph, cross_graph, cross_above, scissors_graph, scissors_above}
-use Rattle.plan_core.specs.Breaches.{BreaksJust, meeting_graph, parted_graph, joined_graph, too_wide, too_high, uneven, swapped, short, exchanged, crowded, too_steep, bent_rising_path, bent_falling_path, bent_main, sloping, kinked, one_point, touching, begins_above, ends_below, touched, crossed}
+use Rattle.plan_core.specs.Breaches.{BreaksJust, meeting_graph, parted_graph, joined_graph, too_wide, too_high, uneven, swapped, short, exchanged, crowded, too_steep, bent_rising_path, bent_falling_path, bent_main, sloping, kinked, one_point, touching, begins_above, ends_below, touched_drawing, crossed_drawing}
 use Rattle.plan_core.proofs.Deciding.{shown}
 use Rattle.plan_core.proofs.LawfulTest.{fits, is_lawful, unlawful_by_test, broken, broken-has, broken-only}
 
@@ -71,8 +71,8 @@ begins_above_breaks = breaks_just cross_graph cross_above usual_grid begins_abov
 pub ends_below_breaks : BreaksJust cross_graph cross_above usual_grid ends_below (Over 3 1 ∷ [])
 ends_below_breaks = breaks_just cross_graph cross_above usual_grid ends_below (Over 3 1 ∷ []) refl refl refl
 
-pub touched_breaks : BreaksJust joined_graph none_above usual_grid touched (Parted 0 2 ∷ Parted 1 2 ∷ [])
-touched_breaks = breaks_just joined_graph none_above usual_grid touched (Parted 0 2 ∷ Parted 1 2 ∷ []) refl refl refl
+pub touched_breaks : BreaksJust joined_graph none_above usual_grid touched_drawing (Parted 0 2 ∷ Parted 1 2 ∷ [])
+touched_breaks = breaks_just joined_graph none_above usual_grid touched_drawing (Parted 0 2 ∷ Parted 1 2 ∷ []) refl refl refl
 
-pub crossed_breaks : BreaksJust joined_graph none_above usual_grid crossed (Parted 0 2 ∷ [])
-crossed_breaks = breaks_just joined_graph none_above usual_grid crossed (Parted 0 2 ∷ []) refl refl refl
+pub crossed_breaks : BreaksJust joined_graph none_above usual_grid crossed_drawing (Parted 0 2 ∷ [])
+crossed_breaks = breaks_just joined_graph none_above usual_grid crossed_drawing (Parted 0 2 ∷ []) refl refl refl

@@ -14,8 +14,8 @@ ghost use Rattle.plan_core.specs.Lawful.{Fits, Lawful, NodeOnGrid, LineOnGrid, O
 ghost use Rattle.plan_core.specs.Laws.{LineJoinsItsNodes};
 ghost use Rattle.plan_core.specs.Values.{values_of, value_of, limit_of, Better};
 ghost use Rattle.plan_core.specs.Readings.{MeetsItsNodes, IsLessAt, Interpolates, columns_off_level};
-ghost use Rattle.plan_core.specs.Examples.{at, longer, usual_grid, roomy_grid, roomy_drawing, measured, IsWorked, one_graph, none_above, one_drawing, loop_graph, loop_above, loop_drawing, back_graph, back_drawing, cross_graph, cross_above, cross_drawing, two_graph, two_drawing, scissors_graph, scissors_above, scissors_drawing, station_graph, station_above, station_drawing, farthest_drawing};
-ghost use Rattle.plan_core.specs.Breaches.{BreaksJust, meeting_graph, parted_graph, joined_graph, too_wide, too_high, uneven, swapped, short, exchanged, crowded, too_steep, bent_rising_path, bent_falling_path, bent_main, sloping, kinked, one_point, touching, begins_above, ends_below, touched, crossed, backwards_graph, flat_graph, loose_graph, misplaced_graph, stray_graph, one_legged_graph, idle_graph};
+ghost use Rattle.plan_core.specs.Examples.{point_at, longer, usual_grid, roomy_grid, roomy_drawing, measured, IsWorked, one_graph, none_above, one_drawing, loop_graph, loop_above, loop_drawing, back_graph, back_drawing, cross_graph, cross_above, cross_drawing, two_graph, two_drawing, scissors_graph, scissors_above, scissors_drawing, station_graph, station_above, station_drawing, farthest_drawing};
+ghost use Rattle.plan_core.specs.Breaches.{BreaksJust, meeting_graph, parted_graph, joined_graph, too_wide, too_high, uneven, swapped, short, exchanged, crowded, too_steep, bent_rising_path, bent_falling_path, bent_main, sloping, kinked, one_point, touching, begins_above, ends_below, touched_drawing, crossed_drawing, backwards_graph, flat_graph, loose_graph, misplaced_graph, stray_graph, one_legged_graph, idle_graph};
 
 // Each worked drawing is lawful, and measures height, bends, diagonal and width as stated.
 fn worked_drawings()
@@ -50,8 +50,8 @@ fn broken_drawings()
     ensures touching { BreaksJust parted_graph none_above usual_grid touching (Apart 1 2 ∷ []) }
     ensures begins_above { BreaksJust cross_graph cross_above usual_grid begins_above (Over 2 0 ∷ []) }
     ensures ends_below { BreaksJust cross_graph cross_above usual_grid ends_below (Over 3 1 ∷ []) }
-    ensures touched { BreaksJust joined_graph none_above usual_grid touched (Parted 0 2 ∷ Parted 1 2 ∷ []) }
-    ensures crossed { BreaksJust joined_graph none_above usual_grid crossed (Parted 0 2 ∷ []) }
+    ensures touched { BreaksJust joined_graph none_above usual_grid touched_drawing (Parted 0 2 ∷ Parted 1 2 ∷ []) }
+    ensures crossed { BreaksJust joined_graph none_above usual_grid crossed_drawing (Parted 0 2 ∷ []) }
 {}
 
 // None of these is a track graph; each has one thing wrong.
@@ -67,37 +67,37 @@ fn no_track_graphs()
 
 // Which lists of points are lines, and what a line measures.
 fn lines()
-    ensures a_diagonal { is_line (at 0 0 ∷ at 2 2 ∷ []) ≡ true }
-    ensures up_level_up { is_line (at 0 0 ∷ at 1 1 ∷ at 2 1 ∷ at 4 3 ∷ []) ≡ true }
-    ensures a_peak_without_a_level { is_line (at 0 0 ∷ at 1 1 ∷ at 2 0 ∷ []) ≡ false }
-    ensures level_up_level { is_line (at 0 0 ∷ at 1 0 ∷ at 2 1 ∷ at 3 1 ∷ []) ≡ false }
-    ensures level_twice { is_line (at 0 0 ∷ at 1 0 ∷ at 2 0 ∷ []) ≡ false }
-    ensures too_steep { is_line (at 0 0 ∷ at 1 2 ∷ []) ≡ false }
-    ensures too_flat { is_line (at 0 0 ∷ at 2 1 ∷ []) ≡ false }
-    ensures upright { is_line (at 0 0 ∷ at 0 1 ∷ []) ≡ false }
-    ensures westwards { is_line (at 2 0 ∷ at 0 0 ∷ []) ≡ false }
-    ensures a_point { is_line (at 0 0 ∷ []) ≡ false }
-    ensures five_points { is_line (at 0 0 ∷ at 1 1 ∷ at 2 1 ∷ at 3 2 ∷ at 4 2 ∷ []) ≡ false }
-    ensures its_bends { bends (at 0 0 ∷ at 1 1 ∷ at 2 1 ∷ at 4 3 ∷ []) ≡ 2 }
-    ensures its_diagonal { diagonal (at 0 0 ∷ at 1 1 ∷ at 2 1 ∷ at 4 3 ∷ []) ≡ 3 }
-    ensures its_height { height (at 0 0 ∷ at 1 1 ∷ at 2 1 ∷ at 4 3 ∷ []) 3 ≡ 2 }
-    ensures going_down { height (at 0 5 ∷ at 2 5 ∷ at 6 1 ∷ []) 4 ≡ 3 }
+    ensures a_diagonal { is_line (point_at 0 0 ∷ point_at 2 2 ∷ []) ≡ true }
+    ensures up_level_up { is_line (point_at 0 0 ∷ point_at 1 1 ∷ point_at 2 1 ∷ point_at 4 3 ∷ []) ≡ true }
+    ensures a_peak_without_a_level { is_line (point_at 0 0 ∷ point_at 1 1 ∷ point_at 2 0 ∷ []) ≡ false }
+    ensures level_up_level { is_line (point_at 0 0 ∷ point_at 1 0 ∷ point_at 2 1 ∷ point_at 3 1 ∷ []) ≡ false }
+    ensures level_twice { is_line (point_at 0 0 ∷ point_at 1 0 ∷ point_at 2 0 ∷ []) ≡ false }
+    ensures too_steep { is_line (point_at 0 0 ∷ point_at 1 2 ∷ []) ≡ false }
+    ensures too_flat { is_line (point_at 0 0 ∷ point_at 2 1 ∷ []) ≡ false }
+    ensures upright { is_line (point_at 0 0 ∷ point_at 0 1 ∷ []) ≡ false }
+    ensures westwards { is_line (point_at 2 0 ∷ point_at 0 0 ∷ []) ≡ false }
+    ensures a_point { is_line (point_at 0 0 ∷ []) ≡ false }
+    ensures five_points { is_line (point_at 0 0 ∷ point_at 1 1 ∷ point_at 2 1 ∷ point_at 3 2 ∷ point_at 4 2 ∷ []) ≡ false }
+    ensures its_bends { bends (point_at 0 0 ∷ point_at 1 1 ∷ point_at 2 1 ∷ point_at 4 3 ∷ []) ≡ 2 }
+    ensures its_diagonal { diagonal (point_at 0 0 ∷ point_at 1 1 ∷ point_at 2 1 ∷ point_at 4 3 ∷ []) ≡ 3 }
+    ensures its_height { height (point_at 0 0 ∷ point_at 1 1 ∷ point_at 2 1 ∷ point_at 4 3 ∷ []) 3 ≡ 2 }
+    ensures going_down { height (point_at 0 5 ∷ point_at 2 5 ∷ point_at 6 1 ∷ []) 4 ≡ 3 }
 {}
 
 // The eleven shapes: each of these lines has one, and so many lists of slopes are shapes in all.
 fn shapes()
     ensures each_is_one { list_all is_line
-        ((at 0 3 ∷ at 1 3 ∷ [])
-        ∷ (at 0 3 ∷ at 1 4 ∷ [])
-        ∷ (at 0 3 ∷ at 1 2 ∷ [])
-        ∷ (at 0 3 ∷ at 1 4 ∷ at 2 4 ∷ [])
-        ∷ (at 0 3 ∷ at 1 2 ∷ at 2 2 ∷ [])
-        ∷ (at 0 3 ∷ at 1 3 ∷ at 2 4 ∷ [])
-        ∷ (at 0 3 ∷ at 1 3 ∷ at 2 2 ∷ [])
-        ∷ (at 0 3 ∷ at 1 4 ∷ at 2 4 ∷ at 3 5 ∷ [])
-        ∷ (at 0 3 ∷ at 1 4 ∷ at 2 4 ∷ at 3 3 ∷ [])
-        ∷ (at 0 3 ∷ at 1 2 ∷ at 2 2 ∷ at 3 3 ∷ [])
-        ∷ (at 0 3 ∷ at 1 2 ∷ at 2 2 ∷ at 3 1 ∷ [])
+        ((point_at 0 3 ∷ point_at 1 3 ∷ [])
+        ∷ (point_at 0 3 ∷ point_at 1 4 ∷ [])
+        ∷ (point_at 0 3 ∷ point_at 1 2 ∷ [])
+        ∷ (point_at 0 3 ∷ point_at 1 4 ∷ point_at 2 4 ∷ [])
+        ∷ (point_at 0 3 ∷ point_at 1 2 ∷ point_at 2 2 ∷ [])
+        ∷ (point_at 0 3 ∷ point_at 1 3 ∷ point_at 2 4 ∷ [])
+        ∷ (point_at 0 3 ∷ point_at 1 3 ∷ point_at 2 2 ∷ [])
+        ∷ (point_at 0 3 ∷ point_at 1 4 ∷ point_at 2 4 ∷ point_at 3 5 ∷ [])
+        ∷ (point_at 0 3 ∷ point_at 1 4 ∷ point_at 2 4 ∷ point_at 3 3 ∷ [])
+        ∷ (point_at 0 3 ∷ point_at 1 2 ∷ point_at 2 2 ∷ point_at 3 3 ∷ [])
+        ∷ (point_at 0 3 ∷ point_at 1 2 ∷ point_at 2 2 ∷ point_at 3 1 ∷ [])
         ∷ [])
         ≡ true }
     ensures none_of_no_piece { is_shape [] ≡ false }
