@@ -4,7 +4,7 @@ use Rattle.std.specs.Prelude.{◌==◌, IfSome}
 use Rattle.std.specs.List.{list_all}
 use Rattle.std.proofs.lemmas.Bool.Decides.{nat_tests}
 use Rattle.std.proofs.lemmas.Bool.{leb-true, le-leb, and_parts}
-use Rattle.railml_text.specs.Bytes.{Passes, is_blank, front, past}
+use Rattle.railml_text.specs.Bytes.{AllOfClass, is_blank, front, past}
 use Rattle.plan_core.specs.declared.numbers.Micro.{Micro}
 use Rattle.rail_mileage.specs.Metres.{is_digit, Sign, unsigned, plus, minus, sign_text, fraction_text, fraction_digits, Parts, IsMetres, mileage}
 use Rattle.rail_mileage.specs.Reading.{sign_at, past_sign, fraction_at, past_fraction, past_start, past_whole, parts_of, are_metres, reading_of}
@@ -15,12 +15,12 @@ abbrev pub Stops : (ℕ → Bool) → List ℕ → Type 0
 Stops p [] = Unit {0}
 Stops p (b ∷ bytes) = p b ≡ false
 
-front_run : (p : ℕ → Bool) (run rest : List ℕ) → Passes p run → Stops p rest → front p (run ++ rest) ≡ run
+front_run : (p : ℕ → Bool) (run rest : List ℕ) → AllOfClass p run → Stops p rest → front p (run ++ rest) ≡ run
 front_run p [] [] h s = refl
 front_run p [] (b ∷ rest) h s = rw s refl
 front_run p (b ∷ run) rest h s = rw h.0 (ap (λ (t : List ℕ). b ∷ t) (front_run p run rest h.1 s))
 
-past_run : (p : ℕ → Bool) (run rest : List ℕ) → Passes p run → Stops p rest → past p (run ++ rest) ≡ rest
+past_run : (p : ℕ → Bool) (run rest : List ℕ) → AllOfClass p run → Stops p rest → past p (run ++ rest) ≡ rest
 past_run p [] [] h s = refl
 past_run p [] (b ∷ rest) h s = rw s refl
 past_run p (b ∷ run) rest h s = rw h.0 (past_run p run rest h.1 s)
@@ -42,7 +42,7 @@ blank_no_point b h = grind (arith, nat_tests)
 abbrev pub number_text : Sign → List ℕ → Option (List ℕ) → List ℕ → List ℕ
 number_text sign whole fraction after = sign_text sign ++ (whole ++ (fraction_text fraction ++ after))
 
-no_blank : (sign : Sign) (whole : List ℕ) (fraction : Option (List ℕ)) (after : List ℕ) → Passes is_digit whole → 1 ≤ length whole + length (fraction_digits fraction) → Stops is_blank (number_text sign whole fraction after)
+no_blank : (sign : Sign) (whole : List ℕ) (fraction : Option (List ℕ)) (after : List ℕ) → AllOfClass is_digit whole → 1 ≤ length whole + length (fraction_digits fraction) → Stops is_blank (number_text sign whole fraction after)
 no_blank plus whole fraction after h some = refl
 no_blank minus whole fraction after h some = refl
 no_blank unsigned (d ∷ whole) fraction after h some = digit_no_blank d h.0
@@ -54,7 +54,7 @@ abbrev pub NoSign : List ℕ → Type 0
 NoSign [] = Unit {0}
 NoSign (b ∷ bytes) = ((b == 43) ≡ false) × ((b == 45) ≡ false)
 
-no_sign : (whole : List ℕ) (fraction : Option (List ℕ)) (after : List ℕ) → Passes is_digit whole → 1 ≤ length whole + length (fraction_digits fraction) → NoSign (whole ++ (fraction_text fraction ++ after))
+no_sign : (whole : List ℕ) (fraction : Option (List ℕ)) (after : List ℕ) → AllOfClass is_digit whole → 1 ≤ length whole + length (fraction_digits fraction) → NoSign (whole ++ (fraction_text fraction ++ after))
 no_sign (d ∷ whole) fraction after h some = digit_no_sign d h.0
 no_sign [] (Some digits) after h some = (refl, refl)
 no_sign [] None after h some = absurd (omega arith)
@@ -65,12 +65,12 @@ sign_again minus rest h = (refl, refl)
 sign_again unsigned [] h = (refl, refl)
 sign_again unsigned (b ∷ rest) h = (rw (h.0, h.1) refl, rw (h.0, h.1) refl)
 
-no_digit : (fraction : Option (List ℕ)) (after : List ℕ) → Passes is_blank after → Stops is_digit (fraction_text fraction ++ after)
+no_digit : (fraction : Option (List ℕ)) (after : List ℕ) → AllOfClass is_blank after → Stops is_digit (fraction_text fraction ++ after)
 no_digit (Some digits) after h = refl
 no_digit None [] h = tt
 no_digit None (b ∷ after) h = blank_no_digit b h.0
 
-fraction_again : (fraction : Option (List ℕ)) (after : List ℕ) → Passes is_digit (fraction_digits fraction) → Passes is_blank after → (fraction_at (fraction_text fraction ++ after) ≡ fraction) × (past_fraction (fraction_text fraction ++ after) ≡ after)
+fraction_again : (fraction : Option (List ℕ)) (after : List ℕ) → AllOfClass is_digit (fraction_digits fraction) → AllOfClass is_blank after → (fraction_at (fraction_text fraction ++ after) ≡ fraction) × (past_fraction (fraction_text fraction ++ after) ≡ after)
 fraction_again (Some digits) after h k = let stop = no_digit None after k in (ap (λ (ds : List ℕ). Some ds) (front_run is_digit digits after h stop), past_run is_digit digits after h stop)
 fraction_again None [] h k = (refl, refl)
 fraction_again None (b ∷ after) h k = (rw (blank_no_point b k.0) refl, rw (blank_no_point b k.0) refl)
@@ -104,11 +104,11 @@ one_reading text a b h k = sym (parts_again text a h) ∙ parts_again text b k
 
 -- ---- the test of the parts
 
-all_blank : (bytes : List ℕ) → Passes is_blank bytes → list_all is_blank bytes ≡ true
+all_blank : (bytes : List ℕ) → AllOfClass is_blank bytes → list_all is_blank bytes ≡ true
 all_blank [] h = refl
 all_blank (b ∷ bytes) h = rw h.0 (all_blank bytes h.1)
 
-passes_all : (p : ℕ → Bool) (bytes : List ℕ) → list_all p bytes ≡ true → Passes p bytes
+passes_all : (p : ℕ → Bool) (bytes : List ℕ) → list_all p bytes ≡ true → AllOfClass p bytes
 passes_all p [] h = tt
 passes_all p (b ∷ bytes) h = let k = and_parts (p b) (list_all p bytes) h in (k.0, passes_all p bytes k.1)
 
@@ -130,9 +130,9 @@ fraction_whole (b ∷ text) = elim (b == 46) as (λ v. (b == 46) ≡ v → fract
   | false ↦ λ e. refl
 ] refl
 
-fraction_passes : (text : List ℕ) → Passes is_digit (fraction_digits (fraction_at text))
+fraction_passes : (text : List ℕ) → AllOfClass is_digit (fraction_digits (fraction_at text))
 fraction_passes [] = tt
-fraction_passes (b ∷ text) = elim (b == 46) as (λ v. Passes is_digit (fraction_digits (cond v (Some (front is_digit text)) None))) [
+fraction_passes (b ∷ text) = elim (b == 46) as (λ v. AllOfClass is_digit (fraction_digits (cond v (Some (front is_digit text)) None))) [
   | true ↦ front_passes is_digit text
   | false ↦ tt
 ]

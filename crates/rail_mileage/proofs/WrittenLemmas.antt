@@ -6,7 +6,7 @@ use Rattle.std.specs.Char.{digit_value}
 use Rattle.std.proofs.lemmas.Bool.Decides.{nat_tests}
 use Rattle.std.proofs.lemmas.List.{append-nil}
 use Rattle.std.proofs.lemmas.Fmt.{digits_decimal, digits_value-decimal, length-decimal-le}
-use Rattle.railml_text.specs.Bytes.{Passes}
+use Rattle.railml_text.specs.Bytes.{AllOfClass}
 use Rattle.plan_core.specs.declared.numbers.Micro.{Micro}
 use Rattle.rail_mileage.specs.Metres.{is_digit, Sign, unsigned, minus, Parts, IsMetres, mileage, size_of, sign_text}
 use Rattle.rail_mileage.specs.MetresText.{last_digit, six_digits, size_text, metres_text}
@@ -17,7 +17,7 @@ use Rattle.rail_mileage.proofs.PartsLemmas.{reads}
 last_digit_passes : (n : ℕ) → is_digit (last_digit n) ≡ true
 last_digit_passes n = grind (arith, nat_tests)
 
-six_pass : (n : ℕ) → Passes is_digit (six_digits n)
+six_pass : (n : ℕ) → AllOfClass is_digit (six_digits n)
 six_pass n = (last_digit_passes (n / 100000), (last_digit_passes (n / 10000), (last_digit_passes (n / 1000), (last_digit_passes (n / 100), (last_digit_passes (n / 10), (last_digit_passes n, tt))))))
 
 last_digit_value : (n : ℕ) → digit_value (last_digit n) ≡ n % 10

@@ -2,7 +2,7 @@
 use Rattle.std.specs.Prelude.{◌≡◌, ◌≤◌, ℕ, ◌+◌, ◌-◌, ◌*◌, ◌^◌, Bool, true, false, if◌then◌else◌, ◌&&◌, nat_le, codes, Option, Some, None, List, [], ◌++◌, length, ℤ, pos, neg_ℤ}
 use Rattle.std.specs.Str.Parse.{digits_value}
 use Rattle.plan_core.specs.declared.numbers.Micro.{Micro}
-use Rattle.railml_text.specs.Bytes.{is_blank, Passes}
+use Rattle.railml_text.specs.Bytes.{is_blank, AllOfClass}
 
 -- `0` to `9`
 abbrev pub is_digit : ℕ → Bool
@@ -37,10 +37,10 @@ fraction_digits (Some digits) = digits
 
 -- the text is a number of metres, and these are its parts
 pub record IsMetres (text : List ℕ) (parts : Parts) : Type 0 where
-  pub blank_before : Passes is_blank parts.before
-  pub blank_after : Passes is_blank parts.after
-  pub digits_before : Passes is_digit parts.whole
-  pub digits_after : Passes is_digit (fraction_digits parts.fraction)
+  pub blank_before : AllOfClass is_blank parts.before
+  pub blank_after : AllOfClass is_blank parts.after
+  pub digits_before : AllOfClass is_digit parts.whole
+  pub digits_after : AllOfClass is_digit (fraction_digits parts.fraction)
   pub whole_limit : length parts.whole ≤ 9
   pub fraction_limit : length (fraction_digits parts.fraction) ≤ 6
   pub some_digit : 1 ≤ length parts.whole + length (fraction_digits parts.fraction)

@@ -2,7 +2,7 @@
 ghost use Rattle.std.specs.Prelude.{◌≡◌, ◌≤◌, ◌<◌, ◌+◌, ◌*◌, ◌^◌, Some, Option, length, IfSome, ℤ, unsigned_abs};
 ghost use Rattle.std.specs.List.{list_all};
 ghost use Rattle.std.specs.Str.Parse.{digits_value};
-ghost use Rattle.railml_text.specs.Bytes.{is_blank as blank, Passes, front, past};
+ghost use Rattle.railml_text.specs.Bytes.{is_blank as blank, AllOfClass, front, past};
 ghost use Rattle.rail_mileage.specs.Metres.{is_digit as digit, Parts, IsMetres, size_of, signed as with_sign, is_minus, fraction_digits, mileage};
 ghost use Rattle.rail_mileage.specs.MetresText.{metres_text};
 ghost use Rattle.rail_mileage.specs.Reading.{sign_at, past_sign, fraction_at, past_fraction, parts_of, reading_of};
@@ -41,7 +41,7 @@ fn past_digits(text: &[u8]) -> &[u8]
 #[tactic(auto, using(railml_text::proofs::RunLemmas::take_front, railml_text::proofs::RunLemmas::past_no_longer, railml_text::proofs::RunLemmas::front_passes))]
 fn split_digits(text: &[u8]) -> (&[u8], &[u8])
     ensures digits { result.0.now ≡ front digit text.now }
-    ensures are_digits { Passes digit result.0.now }
+    ensures are_digits { AllOfClass digit result.0.now }
     ensures rest { result.1.now ≡ past digit text.now }
 {
     let rest = past_digits(text);
@@ -63,7 +63,7 @@ fn split_sign(text: &[u8]) -> (bool, &[u8])
 /// The digits after a point at the front, if there is one, and what follows them.
 fn split_fraction(text: &[u8]) -> (&[u8], &[u8])
     ensures digits { result.0.now ≡ fraction_digits (fraction_at text.now) }
-    ensures are_digits { Passes digit result.0.now }
+    ensures are_digits { AllOfClass digit result.0.now }
     ensures rest { result.1.now ≡ past_fraction text.now }
 {
     match text {
@@ -74,7 +74,7 @@ fn split_fraction(text: &[u8]) -> (&[u8], &[u8])
 
 /// The number that at most nine digits write.
 fn number_of(digits: &[u8]) -> u64
-    requires are_digits { Passes digit digits.now }
+    requires are_digits { AllOfClass digit digits.now }
     requires few { length digits.now ≤ 9 }
     ensures value { result ≡ digits_value 10 digits.now }
     ensures short { result < 10 ^ length digits.now }
@@ -88,8 +88,8 @@ fn number_of(digits: &[u8]) -> u64
 
 /// Micrometres of whole metres and of digits after the point.
 fn size_in(whole: &[u8], fraction: &[u8]) -> u64
-    requires whole_digits { Passes digit whole.now }
-    requires fraction_digits { Passes digit fraction.now }
+    requires whole_digits { AllOfClass digit whole.now }
+    requires fraction_digits { AllOfClass digit fraction.now }
     requires whole_limit { length whole.now ≤ 9 }
     requires fraction_limit { length fraction.now ≤ 6 }
     ensures value { result ≡ size_of whole.now fraction.now }

@@ -7,7 +7,7 @@ use Rattle.std.proofs.lemmas.Bool.{both_ways}
 use Rattle.plan_core.proofs.ListFacts.{same_heads, same_tails}
 use Rattle.railml_text.specs.declared.miss.Miss.{Miss}
 use Rattle.railml_text.specs.declared.miss.Miss.TheVariants.{Cut, Bad}
-use Rattle.railml_text.specs.Bytes.{is_blank, is_in_text, Passes, BeginsWith, front, past}
+use Rattle.railml_text.specs.Bytes.{is_blank, is_in_text, AllOfClass, BeginsWith, front, past}
 use Rattle.railml_text.specs.Items.{Shape, declaration, instruction, comment, cdata, start_tag, end_tag, reference, chars, IsItem, IsLongest, HasItem, HasNoItem, IsFront}
 use Rattle.railml_text.specs.Reading.{done, Found, item, doctype, MarkupRead}
 use Rattle.railml_text.proofs.LawLemmas.{Taken, GoesOn, Law, Anything, done_rest, done_read, Law-spelled}
@@ -166,7 +166,7 @@ bad_no_front first bytes h (inr f) = bad_no_text first bytes f.more doctype h (s
 
 -- ---- one item
 
-text_front : (text after : List ℕ) (blank : Bool) → Passes is_in_text text → IsLongest (chars blank) after → (front is_in_text (text ++ after) ≡ text) × (past is_in_text (text ++ after) ≡ after)
+text_front : (text after : List ℕ) (blank : Bool) → AllOfClass is_in_text text → IsLongest (chars blank) after → (front is_in_text (text ++ after) ≡ text) × (past is_in_text (text ++ after) ≡ after)
 text_front [] [] blank h e = (refl, refl)
 text_front [] (c ∷ after) blank h e = (rw e refl, rw e refl)
 text_front (b ∷ text) after blank h e = let k = text_front text after blank h.1 e in (rw h.0 (ap (λ (t : List ℕ). b ∷ t) k.0), rw h.0 k.1)
@@ -187,7 +187,7 @@ reference_heads first rest after h = let t = reference_first h.text h.is.0 h.is.
 pub chars_heads : (first : Bool) (rest after : List ℕ) (blank : Bool) → HasItem first rest (chars blank) after → (b : ℕ) × Heads b rest × (is_in_text b ≡ true)
 chars_heads first rest after blank h = cases h.text h.is.0.some h.is.0.within h.parts
   where
-    cases : (text : List ℕ) → text ≢ [] → Passes is_in_text text → rest ≡ text ++ after → (b : ℕ) × Heads b rest × (is_in_text b ≡ true)
+    cases : (text : List ℕ) → text ≢ [] → AllOfClass is_in_text text → rest ≡ text ++ after → (b : ℕ) × Heads b rest × (is_in_text b ≡ true)
     cases [] n p e = absurd (n refl)
     cases (b ∷ text) n p e = (b, (text ++ after, e), p.0)
 

@@ -2,9 +2,9 @@
 use Rattle.std.proofs.Common.{◌≡◌, ◌⊎◌, ℕ, Bool, true, false, cond, ◌==◌, codes, List, [], ◌∷◌, ◌++◌, drop, Ok, Err, refl, sym, ap, ◌∙◌, subst, append_assoc, inl, inr}
 use Rattle.std.specs.Prelude.{⊤}
 use Rattle.railml_text.specs.declared.miss.Miss.TheVariants.{Cut, Bad}
-use Rattle.railml_text.specs.Bytes.{is_blank, begins_name, goes_on_name, is_in_value, Passes, front, past}
+use Rattle.railml_text.specs.Bytes.{is_blank, begins_name, goes_on_name, is_in_value, AllOfClass, front, past}
 use Rattle.railml_text.specs.Grammar.{AreBlanks, IsXmlName, Written, IsAttr, IsEndTag}
-use Rattle.railml_text.specs.Reading.{Read, done, skip, by_first, nothing_at, word_at, ended, name_at, closed, value_at, quoted_at, written, last_of, first_of, equals_at, attr_at, end_tag_at}
+use Rattle.railml_text.specs.Reading.{Read, done, skip, by_first, nothing_at, word_at, ended, name_at, closed_value, value_at, quoted_at, written, last_of_two, first_of_two, equals_at, attr_at, end_tag_at}
 use Rattle.railml_text.proofs.RunLemmas.{eq-same, same_if_eq, blank_no_name, front-past, front_passes, front_run, past_run, past_more, front_more, passes_all}
 use Rattle.railml_text.proofs.LawLemmas.{Taken, GoesOn, Law, graph, Anything, done_rest, done_read, Law-spelled, TurnText, SomeText, SomeText-turn, Law-in_turn, NoBlankFirst, GapText, Law-gap, OtherFirst, AfterFirst, FirstText, Law-by_first, NoText, Law-nothing}
 
@@ -149,13 +149,13 @@ Law-name = record {
 -- ---- values
 
 pub record IsValueText (quote : ℕ) (text value : List ℕ) : Type 0 where
-  pub within : Passes (is_in_value quote) value
+  pub within : AllOfClass (is_in_value quote) value
   pub parts : text ≡ value ++ quote ∷ []
 
 quote_ends : (quote : ℕ) → is_in_value quote quote ≡ false
 quote_ends quote = rw (eq-same quote) refl
 
-value_again : (quote : ℕ) (value rest : List ℕ) → Passes (is_in_value quote) value → value_at quote (value ++ quote ∷ rest) ≡ Ok (value, rest)
+value_again : (quote : ℕ) (value rest : List ℕ) → AllOfClass (is_in_value quote) value → value_at quote (value ++ quote ∷ rest) ≡ Ok (value, rest)
 value_again quote value rest h =
     let p = is_in_value quote in
     rw (front_run p value quote rest h (quote_ends quote), past_run p value quote rest h (quote_ends quote), eq-same quote) refl
@@ -167,7 +167,7 @@ record IsClosed (quote : ℕ) (bytes value rest : List ℕ) : Type 0 where
 value_closed : (quote : ℕ) (bytes value rest : List ℕ) → value_at quote bytes ≡ Ok (value, rest) → IsClosed quote bytes value rest
 value_closed quote bytes value rest e = cases (past (is_in_value quote) bytes) refl e
   where
-    cases : (p : List ℕ) → past (is_in_value quote) bytes ≡ p → closed quote (front (is_in_value quote) bytes) p ≡ Ok (value, rest) → IsClosed quote bytes value rest
+    cases : (p : List ℕ) → past (is_in_value quote) bytes ≡ p → closed_value quote (front (is_in_value quote) bytes) p ≡ Ok (value, rest) → IsClosed quote bytes value rest
     cases [] p k = absurd cc
     cases (c ∷ r) p k = choose (c == quote) refl k
       where
@@ -183,14 +183,14 @@ value_takes quote bytes value rest e =
     let c = value_closed quote bytes value rest e in
     record {
       text = value ++ quote ∷ [];
-      is = record { within = subst (Passes (is_in_value quote)) c.is_value (front_passes (is_in_value quote) bytes); parts = refl };
+      is = record { within = subst (AllOfClass (is_in_value quote)) c.is_value (front_passes (is_in_value quote) bytes); parts = refl };
       parts = sym (front-past (is_in_value quote) bytes) ∙ ap (λ (u : List ℕ). front (is_in_value quote) bytes ++ u) c.ends ∙ ap (λ (u : List ℕ). u ++ quote ∷ rest) c.is_value ∙ sym (append_assoc value (quote ∷ []) rest);
     }
 
 value_bad : (quote : ℕ) (bytes after : List ℕ) → value_at quote bytes ≡ Err Bad → value_at quote (bytes ++ after) ≡ Err Bad
 value_bad quote bytes after e = cases (past (is_in_value quote) bytes) refl e
   where
-    cases : (p : List ℕ) → past (is_in_value quote) bytes ≡ p → closed quote (front (is_in_value quote) bytes) p ≡ Err Bad → value_at quote (bytes ++ after) ≡ Err Bad
+    cases : (p : List ℕ) → past (is_in_value quote) bytes ≡ p → closed_value quote (front (is_in_value quote) bytes) p ≡ Err Bad → value_at quote (bytes ++ after) ≡ Err Bad
     cases [] p k = absurd cc
     cases (c ∷ r) p k = rw (past_more (is_in_value quote) bytes c r after p) (choose (c == quote) k)
       where
@@ -202,7 +202,7 @@ value_bad quote bytes after e = cases (past (is_in_value quote) bytes) refl e
 value_cut : (quote : ℕ) (bytes : List ℕ) → value_at quote bytes ≡ Err Cut → GoesOn (graph (value_at quote)) Anything bytes
 value_cut quote bytes e = cases (past (is_in_value quote) bytes) refl e
   where
-    cases : (p : List ℕ) → past (is_in_value quote) bytes ≡ p → closed quote (front (is_in_value quote) bytes) p ≡ Err Cut → GoesOn (graph (value_at quote)) Anything bytes
+    cases : (p : List ℕ) → past (is_in_value quote) bytes ≡ p → closed_value quote (front (is_in_value quote) bytes) p ≡ Err Cut → GoesOn (graph (value_at quote)) Anything bytes
     cases [] p k = record { more = quote ∷ []; read = bytes; whole = λ tail f. value_again quote bytes tail (passes_all (is_in_value quote) bytes p) }
     cases (c ∷ r) p k = choose (c == quote) k
       where
@@ -228,7 +228,7 @@ Law-value quote = record {
 pub record IsQuoted (text value : List ℕ) : Type 0 where
   pub quote : ℕ
   pub is_quote : (quote ≡ 34) ⊎ (quote ≡ 39)
-  pub within : Passes (is_in_value quote) value
+  pub within : AllOfClass (is_in_value quote) value
   pub spelled : text ≡ quote ∷ (value ++ quote ∷ [])
 
 quoted_says : (text value : List ℕ) → FirstText 34 (IsValueText 34) (FirstText 39 (IsValueText 39) NoText) text value → IsQuoted text value
@@ -242,7 +242,7 @@ quoted_said text value t = cases t.is_quote
     of : (q : ℕ) → t.quote ≡ q → AfterFirst q (IsValueText q) text value
     of q e = record {
       thing = value ++ q ∷ [];
-      is = record { within = subst (λ (k : ℕ). Passes (is_in_value k) value) e t.within; parts = refl };
+      is = record { within = subst (λ (k : ℕ). AllOfClass (is_in_value k) value) e t.within; parts = refl };
       parts = t.spelled ∙ ap (λ (k : ℕ). k ∷ (value ++ k ∷ [])) e;
     }
 
@@ -294,11 +294,11 @@ blanks_end_name (b ∷ blanks) c rest h n = record { head = b; tail = blanks ++ 
 -- ---- attributes
 
 abbrev EqualsText : List ℕ → List ℕ → Type 0
-EqualsText = TurnText last_of (SkipText (IsWord (codes "="))) (SkipText IsQuoted)
+EqualsText = TurnText last_of_two (SkipText (IsWord (codes "="))) (SkipText IsQuoted)
 
 Law-equals : Law (graph equals_at) EqualsText Anything
 unfolding equals_at
-Law-equals = Law-in_turn last_of (skip (word_at (codes "="))) (skip quoted_at)
+Law-equals = Law-in_turn last_of_two (skip (word_at (codes "="))) (skip quoted_at)
     (Law-skip (word_at (codes "=")) (Law-word (codes "=")) refl (λ text x. word_begins 61 text x refl))
     (Law-skip quoted_at Law-quoted refl quoted_begins)
     (λ b y rest t g. tt)
@@ -353,7 +353,7 @@ equals_ends_name b value rest t =
     subst EndsName (sym e) (blanks_end_name t.is_a.blanks 61 (t.b ++ rest) t.is_a.blank refl)
 
 some_equals : SomeText EqualsText
-some_equals = SomeText-turn last_of (SomeText-skip (SomeText-word (codes "="))) (SomeText-skip SomeText-quoted)
+some_equals = SomeText-turn last_of_two (SomeText-skip (SomeText-word (codes "="))) (SomeText-skip SomeText-quoted)
 
 pub Law-attr : Law (graph attr_at) IsAttr Anything
 unfolding attr_at
@@ -382,7 +382,7 @@ AfterSlash text name = IsEndTag (60 ∷ 47 ∷ text) name
 end_parts : (text a b n g h : List ℕ) → text ≡ a ++ b → a ≡ n → b ≡ g ++ h → h ≡ codes ">" → 60 ∷ 47 ∷ text ≡ codes "</" ++ n ++ g ++ codes ">"
 end_parts text a b n g h t u w x = rw (t, u, w, x) (simp append_assoc)
 
-end_says : (text name : List ℕ) → TurnText first_of IsNameText (SkipText (IsWord (codes ">"))) text name → AfterSlash text name
+end_says : (text name : List ℕ) → TurnText first_of_two IsNameText (SkipText (IsWord (codes ">"))) text name → AfterSlash text name
 end_says text name t = subst (AfterSlash text) (sym t.made) (record {
   blanks = t.is_b.blanks;
   named = t.is_a.named;
@@ -390,7 +390,7 @@ end_says text name t = subst (AfterSlash text) (sym t.made) (record {
   spelled = end_parts text t.a t.b t.x t.is_b.blanks t.is_b.thing t.parts t.is_a.same t.is_b.parts t.is_b.is;
 })
 
-end_said : (text name : List ℕ) → AfterSlash text name → TurnText first_of IsNameText (SkipText (IsWord (codes ">"))) text name
+end_said : (text name : List ℕ) → AfterSlash text name → TurnText first_of_two IsNameText (SkipText (IsWord (codes ">"))) text name
 end_said text name i = record {
   a = name;
   b = i.blanks ++ codes ">";
@@ -409,5 +409,5 @@ close_ends_name b x rest t =
 
 pub Law-end_tag : Law (graph end_tag_at) AfterSlash Anything
 unfolding end_tag_at
-Law-end_tag = Law-spelled (Law-in_turn first_of name_at (skip (word_at (codes ">"))) Law-name (Law-skip (word_at (codes ">")) (Law-word (codes ">")) refl (λ text x. word_begins 62 text x refl))
+Law-end_tag = Law-spelled (Law-in_turn first_of_two name_at (skip (word_at (codes ">"))) Law-name (Law-skip (word_at (codes ">")) (Law-word (codes ">")) refl (λ text x. word_begins 62 text x refl))
     (λ b x rest t g. close_ends_name b x rest t) (SomeText-skip (SomeText-word (codes ">")))) end_says end_said

@@ -10,15 +10,15 @@ use Rattle.std.proofs.lemmas.Int.Digits.{digits_value-lt, digits_value_more}
 use Rattle.std.proofs.Math.Nat.{pow-le-pow_left, pow-le-pow_right}
 use Rattle.std.proofs.lemmas.Bool.{and_parts, false_from_ne_true}
 use lib.Utf8.{scalar}
-use Rattle.railml_text.specs.Bytes.{Passes, front, past}
-use Rattle.railml_text.specs.References.{named, IsNumbered, IsReference}
+use Rattle.railml_text.specs.Bytes.{AllOfClass, front, past}
+use Rattle.railml_text.specs.References.{named_references, IsNumbered, IsReference}
 use Rattle.railml_text.specs.Reading.{Read, word_at, named_or, find_named, character_and, ended_number, number_at, number_or, or_else, by_number_at, reference_at}
 use Rattle.railml_text.proofs.RunLemmas.{same_if_eq, front-past, front_passes, front_run, past_run}
 use Rattle.railml_text.proofs.ReaderLemmas.{Law-word}
 
 -- what holds of each reference by name
-named_each : (P : List ℕ × ℕ → Type 0) → AllByRecursion P named → (text : List ℕ) (c : ℕ) → Contains named (text, c) → P (text, c)
-named_each P h text c k = All-contains P named (text, c) (All-from_recursion P named h) k
+named_each : (P : List ℕ × ℕ → Type 0) → AllByRecursion P named_references → (text : List ℕ) (c : ℕ) → Contains named_references (text, c) → P (text, c)
+named_each P h text c k = All-contains P named_references (text, c) (All-from_recursion P named_references h) k
 
 -- a reference begins with `&`
 pub reference_first : (text : List ℕ) (c : ℕ) → IsReference text c → (rest : List ℕ) × (text ≡ 38 ∷ rest)
@@ -75,22 +75,22 @@ find_takes (entry ∷ table) bytes c rest e = cases (word_at entry.0 bytes) refl
         let t = ih k in
         record { text = t.text; among = Contains-append_right (entry ∷ []) table (t.text, c) t.among; parts = t.parts }
 
-find_again : (text : List ℕ) (c : ℕ) (rest : List ℕ) → Contains named (text, c) → find_named named (text ++ rest) ≡ Some (c, rest)
-find_again text c rest k = named_each (λ entry. (after : List ℕ) → find_named named (entry.0 ++ after) ≡ Some (entry.1, after)) ((λ after. refl), ((λ after. refl), ((λ after. refl), ((λ after. refl), ((λ after. refl), tt))))) text c k rest
+find_again : (text : List ℕ) (c : ℕ) (rest : List ℕ) → Contains named_references (text, c) → find_named named_references (text ++ rest) ≡ Some (c, rest)
+find_again text c rest k = named_each (λ entry. (after : List ℕ) → find_named named_references (entry.0 ++ after) ≡ Some (entry.1, after)) ((λ after. refl), ((λ after. refl), ((λ after. refl), ((λ after. refl), ((λ after. refl), tt))))) text c k rest
 
 -- ---- by number
 
 abbrev digit : ℕ → ℕ → Bool
 digit base b = is_digit b base
 
-digits_pass : (base : ℕ) (digits : List ℕ) → AllDigits base digits → Passes (digit base) digits
+digits_pass : (base : ℕ) (digits : List ℕ) → AllDigits base digits → AllOfClass (digit base) digits
 digits_pass base [] h = tt
 digits_pass base (d ∷ digits) h = (lt_true (digit_value d) base h.0, digits_pass base digits h.1)
   where
     lt_true : (a b : ℕ) → a < b → nat_lt a b ≡ true
     lt_true a b l = grind (arith, nat_tests)
 
-all_digits : (base : ℕ) (digits : List ℕ) → Passes (digit base) digits → AllDigits base digits
+all_digits : (base : ℕ) (digits : List ℕ) → AllOfClass (digit base) digits → AllDigits base digits
 all_digits base [] h = tt
 all_digits base (d ∷ digits) h = (true_lt (digit_value d) base h.0, all_digits base digits h.1)
   where
@@ -213,10 +213,10 @@ by_number_takes bytes c rest e = hexadecimal (word_at (codes "&#x") bytes) refl 
 
 pub reference_takes : (bytes : List ℕ) (c : ℕ) (rest : List ℕ) → reference_at bytes ≡ Some (c, rest) → TakesReference bytes c rest
 unfolding reference_at
-reference_takes bytes c rest e = cases (find_named named bytes) refl e
+reference_takes bytes c rest e = cases (find_named named_references bytes) refl e
   where
-    cases : (o : Option (ℕ × List ℕ)) → find_named named bytes ≡ o → or_else o (by_number_at bytes) ≡ Some (c, rest) → TakesReference bytes c rest
-    cases (Some x) h k = let t = find_takes named bytes c rest (h ∙ k) in record { text = t.text; is = inl t.among; parts = t.parts }
+    cases : (o : Option (ℕ × List ℕ)) → find_named named_references bytes ≡ o → or_else o (by_number_at bytes) ≡ Some (c, rest) → TakesReference bytes c rest
+    cases (Some x) h k = let t = find_takes named_references bytes c rest (h ∙ k) in record { text = t.text; is = inl t.among; parts = t.parts }
     cases None h k = by_number_takes bytes c rest k
 
 pub reference_again : (text : List ℕ) (c : ℕ) (rest : List ℕ) → IsReference text c → reference_at (text ++ rest) ≡ Some (c, rest)
@@ -236,17 +236,17 @@ one_reference text other c d rest tail r s e =
 pub record HasShape (text : List ℕ) (c : ℕ) : Type 0 where
   pub inner : List ℕ
   pub spelled : text ≡ 38 ∷ (inner ++ 59 ∷ [])
-  pub no_ampersand : Passes (λ b. not (b == 38)) inner
+  pub no_ampersand : AllOfClass (λ b. not (b == 38)) inner
   pub scalar : IsScalar c
 
-Passes-append : (p : ℕ → Bool) (xs ys : List ℕ) → Passes p xs → Passes p ys → Passes p (xs ++ ys)
+Passes-append : (p : ℕ → Bool) (xs ys : List ℕ) → AllOfClass p xs → AllOfClass p ys → AllOfClass p (xs ++ ys)
 Passes-append p [] ys h k = k
 Passes-append p (x ∷ xs) ys h k = (h.0, Passes-append p xs ys h.1 k)
 
 digit_no_ampersand : (base d : ℕ) → base ≤ 16 → digit_value d < base → not (d == 38) ≡ true
 digit_no_ampersand base d l h = ap not (false_from_ne_true (d == 38) (λ e. let same : d ≡ 38 = same_if_eq d 38 e in let k : digit_value 38 < base = subst (λ (m : ℕ). digit_value m < base) same h in absurd (omega (arith, k, l))))
 
-digits_no_ampersand : (base : ℕ) (digits : List ℕ) → base ≤ 16 → AllDigits base digits → Passes (λ b. not (b == 38)) digits
+digits_no_ampersand : (base : ℕ) (digits : List ℕ) → base ≤ 16 → AllDigits base digits → AllOfClass (λ b. not (b == 38)) digits
 digits_no_ampersand base [] l h = tt
 digits_no_ampersand base (d ∷ digits) l h = (digit_no_ampersand base d l h.0, digits_no_ampersand base digits l h.1)
 

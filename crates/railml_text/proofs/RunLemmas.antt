@@ -2,7 +2,7 @@
 use Rattle.std.proofs.Common.{◌≡◌, ◌⊎◌, ℕ, ◌-◌, ◌≤◌, Bool, true, false, cond, ◌==◌, List, [], ◌∷◌, ◌++◌, length, take, refl, sym, ap, ◌∙◌, length-append, arith}
 use Rattle.std.proofs.lemmas.Bool.Decides.{nat_tests}
 use Rattle.std.proofs.lemmas.List.{take_at}
-use Rattle.railml_text.specs.Bytes.{is_blank, begins_name, goes_on_name, Passes, front, past}
+use Rattle.railml_text.specs.Bytes.{is_blank, begins_name, goes_on_name, AllOfClass, front, past}
 use Rattle.railml_text.specs.Reading.{begins_blank}
 
 -- ---- tests
@@ -40,19 +40,19 @@ take_front p bytes =
 pub past_no_longer : (p : ℕ → Bool) (bytes : List ℕ) → length (past p bytes) ≤ length bytes
 past_no_longer p bytes = omega (arith, length-append (front p bytes) (past p bytes), ap length (front-past p bytes))
 
-pub front_passes : (p : ℕ → Bool) (bytes : List ℕ) → Passes p (front p bytes)
+pub front_passes : (p : ℕ → Bool) (bytes : List ℕ) → AllOfClass p (front p bytes)
 front_passes p [] = tt
-front_passes p (b ∷ bytes) = elim (p b) as (λ v. p b ≡ v → Passes p (cond v (b ∷ front p bytes) [])) [
+front_passes p (b ∷ bytes) = elim (p b) as (λ v. p b ≡ v → AllOfClass p (cond v (b ∷ front p bytes) [])) [
   | true ↦ λ e. (e, front_passes p bytes)
   | false ↦ λ e. tt
 ] refl
 
 -- a run, and a byte that ends it
-pub front_run : (p : ℕ → Bool) (run : List ℕ) (c : ℕ) (rest : List ℕ) → Passes p run → p c ≡ false → front p (run ++ c ∷ rest) ≡ run
+pub front_run : (p : ℕ → Bool) (run : List ℕ) (c : ℕ) (rest : List ℕ) → AllOfClass p run → p c ≡ false → front p (run ++ c ∷ rest) ≡ run
 front_run p [] c rest h n = rw n refl
 front_run p (b ∷ run) c rest h n = rw h.0 (ap (λ (t : List ℕ). b ∷ t) (front_run p run c rest h.1 n))
 
-pub past_run : (p : ℕ → Bool) (run : List ℕ) (c : ℕ) (rest : List ℕ) → Passes p run → p c ≡ false → past p (run ++ c ∷ rest) ≡ c ∷ rest
+pub past_run : (p : ℕ → Bool) (run : List ℕ) (c : ℕ) (rest : List ℕ) → AllOfClass p run → p c ≡ false → past p (run ++ c ∷ rest) ≡ c ∷ rest
 past_run p [] c rest h n = rw n refl
 past_run p (b ∷ run) c rest h n = rw h.0 (past_run p run c rest h.1 n)
 
@@ -81,9 +81,9 @@ past_all p (b ∷ bytes) more e = elim (p b) as (λ v. cond v (past p bytes) (b 
   | false ↦ λ h. absurd cc
 ] e
 
-pub passes_all : (p : ℕ → Bool) (bytes : List ℕ) → past p bytes ≡ [] → Passes p bytes
+pub passes_all : (p : ℕ → Bool) (bytes : List ℕ) → past p bytes ≡ [] → AllOfClass p bytes
 passes_all p [] e = tt
-passes_all p (b ∷ bytes) e = elim (p b) as (λ v. p b ≡ v → cond v (past p bytes) (b ∷ bytes) ≡ [] → Passes p (b ∷ bytes)) [
+passes_all p (b ∷ bytes) e = elim (p b) as (λ v. p b ≡ v → cond v (past p bytes) (b ∷ bytes) ≡ [] → AllOfClass p (b ∷ bytes)) [
   | true ↦ λ h k. (h, passes_all p bytes k)
   | false ↦ λ h k. absurd cc
 ] refl e

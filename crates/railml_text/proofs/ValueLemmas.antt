@@ -8,9 +8,9 @@ use Rattle.std.proofs.lemmas.Str.{IsUtf8-append, IsUtf8-encode, IsUtf8-from_asci
 use Rattle.std.proofs.lemmas.Str.Ascii.{IsAscii-nil, IsAscii-cons}
 use Rattle.std.proofs.lemmas.Bool.{both_ways, false_from_ne_true}
 use Rattle.plan_core.proofs.ListFacts.{same_heads, same_tails}
-use Rattle.railml_text.specs.Bytes.{Passes}
+use Rattle.railml_text.specs.Bytes.{AllOfClass}
 use Rattle.railml_text.specs.References.{IsReference, BeginsLoose}
-use Rattle.railml_text.specs.Values.{ValuePiece, plain, line_end, blank, reference, value_of, text_of, IsPiece, AreSpelled, IsValueText, HasLoose}
+use Rattle.railml_text.specs.Values.{ValuePiece, plain, line_end, blank, reference, piece_value, piece_text, IsPiece, AreSpelled, IsValueText, HasLoose}
 use Rattle.railml_text.specs.Reading.{reference_at, past_line_feed, encoded, piece_at}
 use Rattle.railml_text.proofs.RunLemmas.{eq-same, same_if_eq}
 use Rattle.railml_text.proofs.ReferenceLemmas.{found, found_rest, found_value, reference_takes, reference_again, reference_shape}
@@ -22,8 +22,8 @@ use Rattle.railml_text.proofs.TextLemmas.{text_before, text_after}
 pub record TakesPiece (bytes text after : List ℕ) : Type 0 where
   pub piece : ValuePiece
   pub is : IsPiece piece after
-  pub parts : bytes ≡ value_of piece ++ after
-  pub made : text ≡ text_of piece
+  pub parts : bytes ≡ piece_value piece ++ after
+  pub made : text ≡ piece_text piece
 
 eq_false : (b c : ℕ) → b ≢ c → (b == c) ≡ false
 eq_false b c n = false_from_ne_true (b == c) (λ e. n (same_if_eq b c e))
@@ -102,7 +102,7 @@ no_feed : (after : List ℕ) → ((bytes : List ℕ) → after ≢ 10 ∷ bytes)
 no_feed [] h = refl
 no_feed (b ∷ after) h = rw (eq_false b 10 (λ e. h after (ap (λ (c : ℕ). c ∷ after) e))) refl
 
-pub piece_again : (piece : ValuePiece) (after : List ℕ) → IsPiece piece after → piece_at (value_of piece ++ after) ≡ Some (text_of piece, after)
+pub piece_again : (piece : ValuePiece) (after : List ℕ) → IsPiece piece after → piece_at (piece_value piece ++ after) ≡ Some (piece_text piece, after)
 piece_again (plain b) after h = rw (eq_false b 38 h.0, eq_false b 13 h.3, neither_test b h.1 h.2) refl
 piece_again line_end after h = refl
 piece_again (blank b) after (inl (inl e)) = rw e refl
@@ -128,7 +128,7 @@ piece_none b bytes e = choose (b == 38) (b == 13) ((b == 9) || (b == 10)) refl e
     choose false false true p h = absurd cc
     choose false false false p h = absurd cc
 
-piece_some : (piece : ValuePiece) (after : List ℕ) → IsPiece piece after → (b : ℕ) × (rest : List ℕ) × (value_of piece ≡ b ∷ rest)
+piece_some : (piece : ValuePiece) (after : List ℕ) → IsPiece piece after → (b : ℕ) × (rest : List ℕ) × (piece_value piece ≡ b ∷ rest)
 piece_some (plain b) after h = (b, [], refl)
 piece_some line_end after h = (13, 10 ∷ [], refl)
 piece_some (blank b) after h = (b, [], refl)
@@ -140,12 +140,12 @@ piece_some (reference text c) after h = let s = reference_shape text c h in (38,
 abbrev pub SpelledTo : List ValuePiece → List ℕ → List ℕ → List ℕ → Type 0
 SpelledTo [] value text rest = (value ≡ rest) × (text ≡ [])
 SpelledTo (piece ∷ pieces) value text rest =
-    (after others : List ℕ) × IsPiece piece after × (value ≡ value_of piece ++ after) × (text ≡ text_of piece ++ others) × SpelledTo pieces after others rest
+    (after others : List ℕ) × IsPiece piece after × (value ≡ piece_value piece ++ after) × (text ≡ piece_text piece ++ others) × SpelledTo pieces after others rest
 
-pub SpelledTo-push : (pieces : List ValuePiece) (piece : ValuePiece) (value text rest after : List ℕ) → SpelledTo pieces value text rest → IsPiece piece after → rest ≡ value_of piece ++ after → SpelledTo (pieces ++ piece ∷ []) value (text ++ text_of piece) after
-SpelledTo-push [] piece value text rest after h is e = (after, [], is, h.0 ∙ e, ap (λ (u : List ℕ). u ++ text_of piece) h.1 ∙ sym (append-nil (text_of piece)), (refl, refl))
+pub SpelledTo-push : (pieces : List ValuePiece) (piece : ValuePiece) (value text rest after : List ℕ) → SpelledTo pieces value text rest → IsPiece piece after → rest ≡ piece_value piece ++ after → SpelledTo (pieces ++ piece ∷ []) value (text ++ piece_text piece) after
+SpelledTo-push [] piece value text rest after h is e = (after, [], is, h.0 ∙ e, ap (λ (u : List ℕ). u ++ piece_text piece) h.1 ∙ sym (append-nil (piece_text piece)), (refl, refl))
 SpelledTo-push (one ∷ pieces) piece value text rest after h is e =
-    (h.0, h.1 ++ text_of piece, h.2, h.3, ap (λ (u : List ℕ). u ++ text_of piece) h.4 ∙ append_assoc (text_of one) h.1 (text_of piece), SpelledTo-push pieces piece h.0 h.1 rest after h.5 is e)
+    (h.0, h.1 ++ piece_text piece, h.2, h.3, ap (λ (u : List ℕ). u ++ piece_text piece) h.4 ∙ append_assoc (piece_text one) h.1 (piece_text piece), SpelledTo-push pieces piece h.0 h.1 rest after h.5 is e)
 
 pub spelled_all : (pieces : List ValuePiece) (value text : List ℕ) → SpelledTo pieces value text [] → AreSpelled pieces value text
 spelled_all [] value text h = h
@@ -155,7 +155,7 @@ pub spelled_before : (pieces : List ValuePiece) (value text rest : List ℕ) →
 spelled_before [] value text rest h = ([], h.0)
 spelled_before (piece ∷ pieces) value text rest h =
     let b = spelled_before pieces h.0 h.1 rest h.5 in
-    (value_of piece ++ b.0, h.3 ∙ ap (λ (u : List ℕ). value_of piece ++ u) b.1 ∙ sym (append_assoc (value_of piece) b.0 rest))
+    (piece_value piece ++ b.0, h.3 ∙ ap (λ (u : List ℕ). piece_value piece ++ u) b.1 ∙ sym (append_assoc (piece_value piece) b.0 rest))
 
 -- so far: some pieces, and then the rest
 pub record SoFar (value text rest : List ℕ) : Type 0 where
@@ -187,7 +187,7 @@ pub piece_shorter : (bytes text after : List ℕ) → piece_at bytes ≡ Some (t
 piece_shorter bytes text after e =
     let t = piece_takes bytes text after e in
     let s = piece_some t.piece after t.is in
-    omega (arith, ap length t.parts, length-append (value_of t.piece) after, ap length s.2)
+    omega (arith, ap length t.parts, length-append (piece_value t.piece) after, ap length s.2)
 
 -- ---- one text
 
@@ -196,11 +196,11 @@ spelled_once [] [] value text other h k = h.1 ∙ sym k.1
 spelled_once [] (q ∷ others) value text other h k = let s = piece_some q k.0 k.2 in let e : [] ≡ s.0 ∷ (s.1 ++ k.0) = sym h.0 ∙ k.3 ∙ ap (λ (u : List ℕ). u ++ k.0) s.2 in absurd cc
 spelled_once (p ∷ pieces) [] value text other h k = let s = piece_some p h.0 h.2 in let e : [] ≡ s.0 ∷ (s.1 ++ h.0) = sym k.0 ∙ h.3 ∙ ap (λ (u : List ℕ). u ++ h.0) s.2 in absurd cc
 spelled_once (p ∷ pieces) (q ∷ others) value text other h k =
-    let both : found (text_of p) h.0 ≡ found (text_of q) k.0 = sym (piece_again p h.0 h.2) ∙ ap piece_at (sym h.3 ∙ k.3) ∙ piece_again q k.0 k.2 in
-    let same : text_of p ≡ text_of q = found_value (text_of p) (text_of q) h.0 k.0 both in
-    let last : h.0 ≡ k.0 = found_rest (text_of p) (text_of q) h.0 k.0 both in
+    let both : found (piece_text p) h.0 ≡ found (piece_text q) k.0 = sym (piece_again p h.0 h.2) ∙ ap piece_at (sym h.3 ∙ k.3) ∙ piece_again q k.0 k.2 in
+    let same : piece_text p ≡ piece_text q = found_value (piece_text p) (piece_text q) h.0 k.0 both in
+    let last : h.0 ≡ k.0 = found_rest (piece_text p) (piece_text q) h.0 k.0 both in
     let rest : h.1 ≡ k.1 = spelled_once pieces others h.0 h.1 k.1 h.5 (subst (λ (u : List ℕ). AreSpelled others u k.1) (sym last) k.5) in
-    h.4 ∙ ap (λ (u : List ℕ). u ++ h.1) same ∙ ap (λ (u : List ℕ). text_of q ++ u) rest ∙ sym k.4
+    h.4 ∙ ap (λ (u : List ℕ). u ++ h.1) same ∙ ap (λ (u : List ℕ). piece_text q ++ u) rest ∙ sym k.4
 
 -- a value has at most one text
 pub one_text : (value text other : List ℕ) → IsValueText value text → IsValueText value other → text ≡ other
@@ -209,7 +209,7 @@ one_text value text other h k = spelled_once h.0 k.0 value text other h.1 k.1
 -- ---- a value with a text has no loose `&`
 
 abbrev NoAmpersand : List ℕ → Type 0
-NoAmpersand bytes = Passes (λ b. not (b == 38)) bytes
+NoAmpersand bytes = AllOfClass (λ b. not (b == 38)) bytes
 
 -- an `&` behind bytes that are none
 behind : (run after before rest : List ℕ) → NoAmpersand run → run ++ after ≡ before ++ 38 ∷ rest → (others : List ℕ) × (after ≡ others ++ 38 ∷ rest)
@@ -220,7 +220,7 @@ behind (b ∷ run) after [] rest n e =
 behind (b ∷ run) after (x ∷ before) rest n e = behind run after before rest n.1 (same_tails b x (run ++ after) (before ++ 38 ∷ rest) e)
 
 -- the `&` stands behind the piece, or it is the piece
-beyond : (piece : ValuePiece) (after before rest : List ℕ) → IsPiece piece after → value_of piece ++ after ≡ before ++ 38 ∷ rest → BeginsLoose (38 ∷ rest) → (others : List ℕ) × (after ≡ others ++ 38 ∷ rest)
+beyond : (piece : ValuePiece) (after before rest : List ℕ) → IsPiece piece after → piece_value piece ++ after ≡ before ++ 38 ∷ rest → BeginsLoose (38 ∷ rest) → (others : List ℕ) × (after ≡ others ++ 38 ∷ rest)
 beyond (plain b) after before rest h e l = behind (b ∷ []) after before rest (ap not (eq_false b 38 h.0), tt) e
 beyond line_end after before rest h e l = behind (13 ∷ 10 ∷ []) after before rest (refl, (refl, tt)) e
 beyond (blank b) after before rest (inl (inl q)) e l = behind (b ∷ []) after before rest (rw q refl, tt) e

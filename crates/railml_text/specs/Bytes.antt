@@ -25,8 +25,8 @@ abbrev pub is_in_text : ℕ → Bool
 is_in_text b = not (b == 60) && not (b == 38)
 
 -- each byte is of the class
-abbrev pub Passes : (ℕ → Bool) → List ℕ → Type 0
-Passes class bytes = AllByRecursion (λ b. class b ≡ true) bytes
+abbrev pub AllOfClass : (ℕ → Bool) → List ℕ → Type 0
+AllOfClass class bytes = AllByRecursion (λ b. class b ≡ true) bytes
 
 -- the longest front of bytes of the class, and what follows it
 abbrev pub front : (ℕ → Bool) → List ℕ → List ℕ

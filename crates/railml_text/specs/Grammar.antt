@@ -1,14 +1,14 @@
 -- The shapes of items: each names its parts in their order.
 use Rattle.std.specs.Prelude.{◌≡◌, ◌≢◌, ◌⊎◌, ℕ, Bool, true, codes, if◌then◌else◌, List, [], ◌∷◌, ◌++◌}
-use Rattle.railml_text.specs.Bytes.{is_blank, begins_name, goes_on_name, is_in_value, is_in_text, Passes}
+use Rattle.railml_text.specs.Bytes.{is_blank, begins_name, goes_on_name, is_in_value, is_in_text, AllOfClass}
 
 abbrev pub IsXmlName : List ℕ → Type 0
 IsXmlName [] = ⊥
-IsXmlName (b ∷ bytes) = (begins_name b ≡ true) × Passes goes_on_name bytes
+IsXmlName (b ∷ bytes) = (begins_name b ≡ true) × AllOfClass goes_on_name bytes
 
 -- white space, or none
 abbrev pub AreBlanks : List ℕ → Type 0
-AreBlanks bytes = Passes is_blank bytes
+AreBlanks bytes = AllOfClass is_blank bytes
 
 -- an attribute as it is written, with the value between its quotes
 pub record Written : Type 0 where
@@ -25,7 +25,7 @@ pub record IsAttr (text : List ℕ) (attr : Written) : Type 0 where
   pub blank_before : AreBlanks before
   pub blank_after : AreBlanks after
   pub is_quote : (quote ≡ 34) ⊎ (quote ≡ 39)
-  pub within : Passes (is_in_value quote) attr.value
+  pub within : AllOfClass (is_in_value quote) attr.value
   pub spelled : text ≡ attr.name ++ before ++ codes "=" ++ after ++ quote ∷ [] ++ attr.value ++ quote ∷ []
 
 -- attributes, each after white space
@@ -68,4 +68,4 @@ pub record IsEndTag (text name : List ℕ) : Type 0 where
 -- one or more characters other than `<` and `&`
 pub record IsChars (text : List ℕ) : Type 0 where
   pub some : text ≢ []
-  pub within : Passes is_in_text text
+  pub within : AllOfClass is_in_text text

@@ -21,7 +21,7 @@ use Rattle.railml_text.specs.declared.fault.TextWhat.TheVariants.{Entity}
 use Rattle.railml_text.specs.declared.fault.ItemFault.{ItemFault}
 use Rattle.railml_text.specs.declared.fault.ItemFault.TheVariants as answers
 use Rattle.railml_text.specs.Bytes.{is_blank, begins_name, goes_on_name, is_in_value, front, past}
-use Rattle.railml_text.specs.References.{named}
+use Rattle.railml_text.specs.References.{named_references}
 use Rattle.railml_text.specs.Values.{HasLoose}
 use Rattle.railml_text.specs.Grammar.{Written}
 use Rattle.railml_text.specs.Items.{Shape, declaration, instruction, comment, cdata, start_tag, end_tag}
@@ -95,12 +95,12 @@ abbrev pub name_at : List ℕ → Read (List ℕ)
 name_at [] = Err Cut
 name_at (b ∷ bytes) = if begins_name b then ended (b ∷ front goes_on_name bytes) (past goes_on_name bytes) else Err Bad
 
-abbrev pub closed : ℕ → List ℕ → List ℕ → Read (List ℕ)
-closed quote value [] = Err Cut
-closed quote value (b ∷ bytes) = if b == quote then Ok (value, bytes) else Err Bad
+abbrev pub closed_value : ℕ → List ℕ → List ℕ → Read (List ℕ)
+closed_value quote value [] = Err Cut
+closed_value quote value (b ∷ bytes) = if b == quote then Ok (value, bytes) else Err Bad
 
 abbrev pub value_at : ℕ → List ℕ → Read (List ℕ)
-value_at quote bytes = closed quote (front (is_in_value quote) bytes) (past (is_in_value quote) bytes)
+value_at quote bytes = closed_value quote (front (is_in_value quote) bytes) (past (is_in_value quote) bytes)
 
 abbrev pub quoted_at : List ℕ → Read (List ℕ)
 quoted_at bytes = by_first 34 (value_at 34) (by_first 39 (value_at 39) nothing_at) bytes
@@ -108,21 +108,21 @@ quoted_at bytes = by_first 34 (value_at 34) (by_first 39 (value_at 39) nothing_a
 abbrev pub written : List ℕ → List ℕ → Written
 written name value = record { name = name; value = value }
 
-abbrev pub last_of : {X Y : Type 0} → X → Y → Y
-last_of x y = y
+abbrev pub last_of_two : {X Y : Type 0} → X → Y → Y
+last_of_two x y = y
 
-abbrev pub first_of : {X Y : Type 0} → X → Y → X
-first_of x y = x
+abbrev pub first_of_two : {X Y : Type 0} → X → Y → X
+first_of_two x y = x
 
 -- `=` and a value, each after white space or none
 unfoldable pub equals_at : List ℕ → Read (List ℕ)
-equals_at bytes = in_turn last_of (skip (word_at (codes "=")) bytes) (skip quoted_at)
+equals_at bytes = in_turn last_of_two (skip (word_at (codes "=")) bytes) (skip quoted_at)
 
 unfoldable pub attr_at : List ℕ → Read Written
 attr_at bytes = in_turn written (name_at bytes) equals_at
 
 unfoldable pub end_tag_at : List ℕ → Read (List ℕ)
-end_tag_at bytes = in_turn first_of (name_at bytes) (skip (word_at (codes ">")))
+end_tag_at bytes = in_turn first_of_two (name_at bytes) (skip (word_at (codes ">")))
 
 -- ---- the rest of a tag after its name
 
@@ -274,7 +274,7 @@ unfoldable pub by_number_at : List ℕ → Option (ℕ × List ℕ)
 by_number_at bytes = number_or (word_at (codes "&#x") bytes) 16 (number_or (word_at (codes "&#") bytes) 10 None)
 
 unfoldable pub reference_at : List ℕ → Option (ℕ × List ℕ)
-reference_at bytes = or_else (find_named named bytes) (by_number_at bytes)
+reference_at bytes = or_else (find_named named_references bytes) (by_number_at bytes)
 
 -- ---- the pieces of a value
 

@@ -9,18 +9,18 @@ pub data ValuePiece : Type 0 where
   blank : ℕ → ValuePiece  -- another tab, line feed or carriage return
   reference : (text : List ℕ) (character : ℕ) → ValuePiece
 
-abbrev pub value_of : ValuePiece → List ℕ
-value_of (plain b) = b ∷ []
-value_of line_end = 13 ∷ 10 ∷ []
-value_of (blank b) = b ∷ []
-value_of (reference text character) = text
+abbrev pub piece_value : ValuePiece → List ℕ
+piece_value (plain b) = b ∷ []
+piece_value line_end = 13 ∷ 10 ∷ []
+piece_value (blank b) = b ∷ []
+piece_value (reference text character) = text
 
 -- what a piece stands for: a line end is one space, and so is another blank
-abbrev pub text_of : ValuePiece → List ℕ
-text_of (plain b) = b ∷ []
-text_of line_end = 32 ∷ []
-text_of (blank b) = 32 ∷ []
-text_of (reference text character) = encode_utf8 character
+abbrev pub piece_text : ValuePiece → List ℕ
+piece_text (plain b) = b ∷ []
+piece_text line_end = 32 ∷ []
+piece_text (blank b) = 32 ∷ []
+piece_text (reference text character) = encode_utf8 character
 
 -- the piece may stand before these bytes: a carriage return alone has no line feed after it
 abbrev pub IsPiece : ValuePiece → List ℕ → Type 0
@@ -33,7 +33,7 @@ IsPiece (reference text character) after = IsReference text character
 abbrev pub AreSpelled : List ValuePiece → List ℕ → List ℕ → Type 0
 AreSpelled [] value text = (value ≡ []) × (text ≡ [])
 AreSpelled (piece ∷ pieces) value text =
-    (after rest : List ℕ) × IsPiece piece after × (value ≡ value_of piece ++ after) × (text ≡ text_of piece ++ rest) × AreSpelled pieces after rest
+    (after rest : List ℕ) × IsPiece piece after × (value ≡ piece_value piece ++ after) × (text ≡ piece_text piece ++ rest) × AreSpelled pieces after rest
 
 abbrev pub IsValueText : List ℕ → List ℕ → Type 0
 IsValueText value text = (pieces : List ValuePiece) × AreSpelled pieces value text

@@ -2,7 +2,7 @@
 ghost use Rattle.std.specs.Prelude.{◌≡◌, ◌≤◌, length, option_map};
 ghost use Rattle.std.specs.Char.{digit_value, is_digit as digit};
 ghost use Rattle.std.specs.Str.Parse.{AllDigits, digits_value};
-ghost use Rattle.railml_text.specs.References.{named};
+ghost use Rattle.railml_text.specs.References.{named_references};
 ghost use Rattle.railml_text.specs.Bytes.{front, past};
 ghost use Rattle.railml_text.specs.Reading.{find_named, number_at as number, by_number_at as by_number, reference_at as reference};
 
@@ -82,7 +82,7 @@ fn number_at(bytes: &[u8], base: u32) -> Option<(char, &[u8])>
 
 /// The character whose name is at the front, and what follows its `;`.
 fn named_at(bytes: &[u8]) -> Option<(char, &[u8])>
-    ensures { option_map (λ x. (x.0, x.1.now)) result ≡ find_named named bytes.now }
+    ensures { option_map (λ x. (x.0, x.1.now)) result ≡ find_named named_references bytes.now }
 {
     if let Ok(rest) = word_at(bytes, b"&lt;") {
         return Some(('<', rest));
