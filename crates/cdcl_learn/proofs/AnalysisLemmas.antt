@@ -7,23 +7,15 @@ use Rattle.cnf_core.specs.declared.limits.TheConstants.{VARS}
 use Rattle.cnf_core.specs.Lit.{Literal}
 use Rattle.watch_arena.specs.Trail.{Marks}
 use Rattle.watch_arena.specs.Arena.{Attached}
-use Rattle.cdcl_learn.specs.Sight.{Sight, sight, clauses_of, IsSound}
+use Rattle.watch_arena.proofs.TextLemmas.{map_contains}
+use Rattle.cdcl_learn.specs.Sight.{Sight, sight, clauses_in, IsSound}
 use Rattle.cdcl_learn.specs.Cut.{Cut, is_seen, IsSeen, IsNamed}
 use Rattle.cdcl_learn.specs.Analysis.{IsAnalyser, AreSeen}
 use Rattle.cdcl_learn.proofs.LiteralLemmas.{there_contains}
 
--- a clause of the list stands at some place
-text_from : (f : ℕ → List Literal) (ps : List ℕ) (c : List Literal) → Contains (map f ps) c → (p : ℕ) × Contains ps p × (f p ≡ c)
-text_from f ps c h = by_place ps h.0 h.1 h.2
-  where
-    by_place : (ps : List ℕ) (i : ℕ) → i < length (map f ps) → get_or (map f ps) i c ≡ c → (p : ℕ) × Contains ps p × (f p ≡ c)
-    by_place [] i lt e = absurd (omega arith)
-    by_place (q ∷ ps) zero lt e = (q, (0, omega arith, refl), e)
-    by_place (q ∷ ps) (suc i) lt e = let r = by_place ps i (omega arith) e in let at = r.1 in let l = at.1 in (r.0, (suc at.0, omega arith, at.2), r.2)
-
-pub named_there : (s : Sight) (v : ℕ) → IsSound s → IsNamed (clauses_of s) v → (1 ≤ v) × (v ≤ s.vars)
+pub named_there : (s : Sight) (v : ℕ) → IsSound s → IsNamed (clauses_in s) v → (1 ≤ v) × (v ≤ s.vars)
 named_there s v sound n =
-    let t = text_from s.text s.places n.clause n.among in
+    let t = map_contains s.text s.places n.clause n.among in
     subst (λ x. (1 ≤ x) × (x ≤ s.vars)) n.var (there_contains s.vars (s.text t.0) n.lit (sound.clauses t.0 t.1) (subst (λ (ls : List Literal). Contains ls n.lit) (sym t.2) n.inside))
 
 -- the seen variables stand in the working clause's list
@@ -31,7 +23,7 @@ abbrev pub AreMet : Cut → Type 0
 AreMet w = (i : ℕ) → i < length w.met → is_seen w.seen (get_or w.met i 0) ≡ true
 
 abbrev pub AreNamed : Sight → Cut → Type 0
-AreNamed s w = (v : ℕ) → IsSeen w v → IsNamed (clauses_of s) v
+AreNamed s w = (v : ℕ) → IsSeen w v → IsNamed (clauses_in s) v
 
 pub analyser_after : (s : Sight) (w : Cut) (side : List ℕ) (n : ℕ) → IsSound s → w.vars ≡ s.vars → w.vars ≤ VARS → length w.rest ≤ w.vars + 1 → w.vars + 1 ≤ length side → n ≤ w.vars + 1 → n ≡ length w.met → take n side ≡ w.met → AreNamed s w → AreMet w → ((i j : ℕ) → i < j → j < length w.met → get_or w.met i 0 ≡ get_or w.met j 0 → ⊥) → IsAnalyser w side n
 analyser_after s w side n sound vars limit short size within len same named met apart = record {
@@ -50,6 +42,6 @@ analyser_after s w side n sound vars limit short size within len same named met 
 
 pub seen_after : (a : Attached) (m : Marks) (w : Cut) (clause : List Literal) → AreNamed (sight a m) w → AreMet w → ((v : ℕ) → IsSeen w v → Contains w.met v) → All (λ k. IsSeen w k.var) clause → AreSeen a m clause w.met
 seen_after a m w clause named met all seen = record {
-  named = λ i d lt. subst (IsNamed (clauses_of (sight a m))) (get_or_default w.met i 0 d lt) (named (get_or w.met i 0) (met i lt));
+  named = λ i d lt. subst (IsNamed (clauses_in (sight a m))) (get_or_default w.met i 0 d lt) (named (get_or w.met i 0) (met i lt));
   all = All-weaker (λ k. IsSeen w k.var) (λ k. Contains w.met k.var) (λ k h. all k.var h) clause seen;
 }

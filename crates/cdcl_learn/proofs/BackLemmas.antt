@@ -7,11 +7,11 @@ use Rattle.std.proofs.lemmas.List.Elements.{All-contains, All-contains_itself, A
 use Rattle.cnf_core.specs.Lit.{Literal, negate, has}
 use Rattle.cnf_core.specs.Clause.{AreDistinct}
 use Rattle.cnf_core.specs.Propagation.{negations, IsIn}
-use Rattle.cnf_core.proofs.PropagationLemmas.{contains_from_has, has_from_contains, closure_start, falsifies_again}
+use Rattle.cnf_core.proofs.PropagationLemmas.{contains_from_has, has_from_contains, closure_start, falsifies_again, contains_first, contains_later}
 use Rattle.cnf_core.proofs.QuantifierLemmas.{pairs_from_distinct, distinct_from_pairs}
-use Rattle.cdcl_learn.specs.Sight.{Sight, level_of, clauses_of, known, IsSound}
+use Rattle.cdcl_learn.specs.Sight.{Sight, level_of, clauses_in, known, IsSound}
 use Rattle.cdcl_learn.specs.Cut.{IsLearnt, IsNamed, IsBack, IsShuffle, IsLatest}
-use Rattle.cdcl_learn.proofs.LiteralLemmas.{contains_head, contains_tail, avoids_all, there_contains}
+use Rattle.cdcl_learn.proofs.LiteralLemmas.{avoids_all, there_contains}
 
 -- the literals of one list stand in the other
 abbrev pub Within : List Literal → List Literal → Type 0
@@ -45,11 +45,11 @@ learnt_same s first old now into from distinct l = record {
         absurd (omega arith)),
     distinct,
   );
-  named = with_first (λ k. IsNamed (clauses_of s) k.var) l.named;
+  named = with_first (λ k. IsNamed (clauses_in s) k.var) l.named;
   rup = falsifies_again (known s) (negations (first ∷ now)) (negations (first ∷ old)) (λ k h. closure_start (known s) (negations (first ∷ now)) k
       (has_from_contains (first ∷ now) (negate k) (elim (contains_rest first (negate k) old (contains_from_has (first ∷ old) (negate k) h)) [
-        | inl e ↦ subst (λ (m : Literal). Contains (first ∷ now) m) e (contains_head first now)
-        | inr c ↦ contains_tail first (negate k) now (from (negate k) c)
+        | inl e ↦ subst (λ (m : Literal). Contains (first ∷ now) m) e (contains_first first now)
+        | inr c ↦ contains_later first (negate k) now (from (negate k) c)
       ]))) l.rup;
 }
   where

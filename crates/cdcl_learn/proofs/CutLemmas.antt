@@ -1,15 +1,16 @@
 -- The cut, with one more literal and with all of a clause.
 use Rattle.std.proofs.Common.{◌≡◌, ℕ, ◌+◌, ◌<◌, ◌≤◌, true, false, zero, suc, take, List, [], ◌∷◌, ◌++◌, length, get_or, set, refl, sym, ◌∙◌, ap, subst, inl, inr, arith, length-set}
 use Rattle.std.specs.Prelude.{All, Contains}
-use Rattle.std.proofs.lemmas.Bool.{cases_eq, cases_Bool, eq-eqb, ne_eqb}
+use Rattle.std.proofs.lemmas.Bool.{both_ways, cases_eq, cases_Bool, eq-eqb, ne_eqb}
 use Rattle.std.proofs.lemmas.List.Elements.{All-contains, All-weaker, All-nil, All-cons, All-head, All-tail, All-push, Contains-push, Contains-append_left}
 use Rattle.cnf_core.specs.Lit.{Literal, negate, has}
 use Rattle.cnf_core.specs.Clause.{AreThere, IsThere}
 use Rattle.cnf_core.specs.Propagation.{IsIn}
 use Rattle.cnf_core.proofs.PropagationLemmas.{negate-negate}
-use Rattle.cdcl_learn.specs.Sight.{Sight, nth, level_of, clauses_of, IsSound}
-use Rattle.cdcl_learn.specs.Cut.{Cut, is_seen, IsSeen, with_open, with_lower, added, gathered, open_below, IsLower, IsNamed, IsCut, IsReached, IsCovered}
-use Rattle.cdcl_learn.proofs.LiteralLemmas.{not_both, distinct_push, Placed, placed, placed_anywhere, front_in, same_lit}
+use Rattle.cdcl_learn.specs.Sight.{Sight, nth, level_of, clauses_in, IsSound}
+use Rattle.cdcl_learn.specs.Cut.{Cut, is_seen, IsSeen, with_open, with_lower, cut_with, cut_with_all, open_below, IsLower, IsNamed, IsCut, IsReached, IsCovered}
+use Rattle.cnf_core.proofs.TrailLemmas.{distinct_push}
+use Rattle.cdcl_learn.proofs.LiteralLemmas.{Placed, placed, placed_anywhere, front_in, same_lit}
 use Rattle.cdcl_learn.proofs.CountLemmas.{seen_same, seen_keeps, seen_cases, open_same, open_more}
 
 -- what is added, by case
@@ -19,7 +20,7 @@ pub record Cases (s : Sight) (w : Cut) (k : Literal) (P : Cut → Type 0) : Type
   pub present : is_seen w.seen k.var ≡ false → (level_of s k ≡ 0 → ⊥) → level_of s k ≡ s.level → P (with_open w k)
   pub lower : is_seen w.seen k.var ≡ false → (level_of s k ≡ 0 → ⊥) → (level_of s k ≡ s.level → ⊥) → P (with_lower w k)
 
-pub added_cases : (s : Sight) (w : Cut) (k : Literal) (P : Cut → Type 0) → Cases s w k P → P (added s w k)
+pub added_cases : (s : Sight) (w : Cut) (k : Literal) (P : Cut → Type 0) → Cases s w k P → P (cut_with s w k)
 added_cases s w k P c = elim (cases_Bool (is_seen w.seen k.var)) [
   | inl seen ↦ rw seen (c.old seen)
   | inr un ↦ elim (cases_eq (level_of s k) 0) [
@@ -34,7 +35,7 @@ added_cases s w k P c = elim (cases_Bool (is_seen w.seen k.var)) [
 lower_more : (s : Sight) (w : Cut) (v : ℕ) (met : List ℕ) (rest : List Literal) (pending : ℕ) (k : Literal) → v < length w.seen → IsLower s w k → IsLower s (record { vars = w.vars; seen = set w.seen v true; met = met; rest = rest; pending = pending }) k
 lower_more s w v met rest pending k lt l = record { falsified = l.falsified; above = l.above; below = l.below; seen = seen_keeps w.seen v k.var lt l.seen }
 
-module _ (s : Sight) (r : IsSound s) (w : Cut) (end : ℕ) (le : end ≤ length s.lits) (c : IsCut s w end) (k : Literal) (there : IsThere s.vars k) (un : is_seen w.seen k.var ≡ false) (front : IsIn (has (take end s.lits)) (negate k)) (named : IsNamed (clauses_of s) k.var) where
+module _ (s : Sight) (r : IsSound s) (w : Cut) (end : ℕ) (le : end ≤ length s.lits) (c : IsCut s w end) (k : Literal) (there : IsThere s.vars k) (un : is_seen w.seen k.var ≡ false) (front : IsIn (has (take end s.lits)) (negate k)) (named : IsNamed (clauses_in s) k.var) where
   var_within : k.var < length w.seen
   var_within = let t = there.1 in let size = c.size in omega arith
 
@@ -44,8 +45,8 @@ module _ (s : Sight) (r : IsSound s) (w : Cut) (end : ℕ) (le : end ≤ length 
   on_trail : IsIn (has s.lits) (negate k)
   on_trail = front_in s end (negate k) front
 
-  now_named : (v : ℕ) → is_seen (set w.seen k.var true) v ≡ true → IsNamed (clauses_of s) v
-  now_named v h = elim (seen_cases w.seen k.var v h) [ inl e ↦ subst (IsNamed (clauses_of s)) (sym e) named | inr old ↦ c.named v old ]
+  now_named : (v : ℕ) → is_seen (set w.seen k.var true) v ≡ true → IsNamed (clauses_in s) v
+  now_named v h = elim (seen_cases w.seen k.var v h) [ inl e ↦ subst (IsNamed (clauses_in s)) (sym e) named | inr old ↦ c.named v old ]
 
   pub cut_open : level_of s k ≡ s.level → IsCut s (with_open w k) end
   cut_open e = record {
@@ -83,7 +84,7 @@ module _ (s : Sight) (r : IsSound s) (w : Cut) (end : ℕ) (le : end ≤ length 
     ];
     distinct = distinct_push w.rest k c.distinct (λ m among same.
         let l : IsLower s w m = All-contains (IsLower s w) w.rest m c.lower among in
-        not_both (is_seen w.seen k.var) (ap (is_seen w.seen) (sym same) ∙ l.seen) un);
+        both_ways (is_seen w.seen k.var) un (ap (is_seen w.seen) (sym same) ∙ l.seen));
     count = c.count ∙ sym (open_same s w.seen k.var end (λ i before same lvl.
         let e : level_of s (nth s i) ≡ level_of s k = ap (λ v. get_or s.levels v 0) same in absurd (omega arith)));
     named = now_named;
@@ -97,7 +98,7 @@ module _ (s : Sight) (r : IsSound s) (w : Cut) (end : ℕ) (le : end ≤ length 
 pub level_limit : (s : Sight) (l : Literal) → IsSound s → IsIn (has s.lits) l → level_of s l ≤ s.level
 level_limit s l r on = let p = placed_anywhere s l on in subst (λ (m : Literal). level_of s m ≤ s.level) p.is (r.present p.place p.within)
 
-pub cut_added : (s : Sight) → IsSound s → (w : Cut) (end : ℕ) → end ≤ length s.lits → (k : Literal) → IsThere s.vars k → IsNamed (clauses_of s) k.var → IsReached s w end k → IsCut s w end → IsCut s (added s w k) end
+pub cut_added : (s : Sight) → IsSound s → (w : Cut) (end : ℕ) → end ≤ length s.lits → (k : Literal) → IsThere s.vars k → IsNamed (clauses_in s) k.var → IsReached s w end k → IsCut s w end → IsCut s (cut_with s w k) end
 cut_added s r w end le k there named reached c = added_cases s w k (λ x. IsCut s x end) (record {
   old = λ _. c;
   root = λ _ _. c;
@@ -106,44 +107,44 @@ cut_added s r w end le k there named reached c = added_cases s w k (λ x. IsCut 
 })
   where
     front : is_seen w.seen k.var ≡ false → IsIn (has (take end s.lits)) (negate k)
-    front un = elim reached [ inl seen ↦ absurd (not_both (is_seen w.seen k.var) seen un) | inr f ↦ f ]
+    front un = elim reached [ inl seen ↦ absurd (both_ways (is_seen w.seen k.var) un seen) | inr f ↦ f ]
 
     below : (a b : ℕ) → a ≤ b → (a ≡ b → ⊥) → a < b
     below a b le ne = elim (cases_eq a b) [ inl e ↦ absurd (ne e) | inr _ ↦ omega arith ]
 
 -- what was seen stays so, and the literal is of level 0 or seen
-pub added_size : (s : Sight) (w : Cut) (k : Literal) → length (added s w k).seen ≡ length w.seen
+pub added_size : (s : Sight) (w : Cut) (k : Literal) → length (cut_with s w k).seen ≡ length w.seen
 added_size s w k = added_cases s w k (λ x. length x.seen ≡ length w.seen) (record { old = λ _. refl; root = λ _ _. refl; present = λ _ _ _. length-set w.seen k.var true; lower = λ _ _ _. length-set w.seen k.var true })
 
-pub added_keeps : (s : Sight) (w : Cut) (k : Literal) (v : ℕ) → k.var < length w.seen → IsSeen w v → IsSeen (added s w k) v
+pub added_keeps : (s : Sight) (w : Cut) (k : Literal) (v : ℕ) → k.var < length w.seen → IsSeen w v → IsSeen (cut_with s w k) v
 added_keeps s w k v lt h = added_cases s w k (λ x. IsSeen x v) (record { old = λ _. h; root = λ _ _. h; present = λ _ _ _. seen_keeps w.seen k.var v lt h; lower = λ _ _ _. seen_keeps w.seen k.var v lt h })
 
-pub added_covers : (s : Sight) (w : Cut) (k : Literal) → k.var < length w.seen → IsCovered s (added s w k) k
+pub added_covers : (s : Sight) (w : Cut) (k : Literal) → k.var < length w.seen → IsCovered s (cut_with s w k) k
 added_covers s w k lt = added_cases s w k (λ x. IsCovered s x k) (record { old = λ h. inr h; root = λ _ z. inl z; present = λ _ _ _. inr (seen_same w.seen k.var lt); lower = λ _ _ _. inr (seen_same w.seen k.var lt) })
 
 -- all literals of a clause
-pub gathered_keeps : (s : Sight) (w : Cut) (ks : List Literal) (v : ℕ) → AreThere s.vars ks → length w.seen ≡ s.vars + 1 → IsSeen w v → IsSeen (gathered s w ks) v
+pub gathered_keeps : (s : Sight) (w : Cut) (ks : List Literal) (v : ℕ) → AreThere s.vars ks → length w.seen ≡ s.vars + 1 → IsSeen w v → IsSeen (cut_with_all s w ks) v
 gathered_keeps s w [] v there size h = h
-gathered_keeps s w (k ∷ ks) v there size h = let t = there.0.1 in gathered_keeps s (added s w k) ks v there.1 (added_size s w k ∙ size) (added_keeps s w k v (omega arith) h)
+gathered_keeps s w (k ∷ ks) v there size h = let t = there.0.1 in gathered_keeps s (cut_with s w k) ks v there.1 (added_size s w k ∙ size) (added_keeps s w k v (omega arith) h)
 
-pub gathered_covers : (s : Sight) (w : Cut) (ks : List Literal) → AreThere s.vars ks → length w.seen ≡ s.vars + 1 → All (IsCovered s (gathered s w ks)) ks
+pub gathered_covers : (s : Sight) (w : Cut) (ks : List Literal) → AreThere s.vars ks → length w.seen ≡ s.vars + 1 → All (IsCovered s (cut_with_all s w ks)) ks
 gathered_covers s w [] there size = All-nil (IsCovered s w)
 gathered_covers s w (k ∷ ks) there size =
     let t = there.0.1 in
     let size2 = added_size s w k ∙ size in
-    All-cons (IsCovered s (gathered s (added s w k) ks)) k ks
-    (elim (added_covers s w k (omega arith)) [ inl z ↦ inl z | inr h ↦ inr (gathered_keeps s (added s w k) ks k.var there.1 size2 h) ])
-    (gathered_covers s (added s w k) ks there.1 size2)
+    All-cons (IsCovered s (cut_with_all s (cut_with s w k) ks)) k ks
+    (elim (added_covers s w k (omega arith)) [ inl z ↦ inl z | inr h ↦ inr (gathered_keeps s (cut_with s w k) ks k.var there.1 size2 h) ])
+    (gathered_covers s (cut_with s w k) ks there.1 size2)
 
-pub cut_gathered : (s : Sight) → IsSound s → (w : Cut) (end : ℕ) → end ≤ length s.lits → (ks : List Literal) → AreThere s.vars ks → All (λ k. IsNamed (clauses_of s) k.var) ks → All (IsReached s w end) ks → IsCut s w end → IsCut s (gathered s w ks) end
+pub cut_gathered : (s : Sight) → IsSound s → (w : Cut) (end : ℕ) → end ≤ length s.lits → (ks : List Literal) → AreThere s.vars ks → All (λ k. IsNamed (clauses_in s) k.var) ks → All (IsReached s w end) ks → IsCut s w end → IsCut s (cut_with_all s w ks) end
 cut_gathered s r w end le [] there named reached c = c
 cut_gathered s r w end le (k ∷ ks) there named reached c =
     let t = there.0.1 in
     let size = c.size in
-    let names : All (λ m. IsNamed (clauses_of s) m.var) ks = All-tail (λ m. IsNamed (clauses_of s) m.var) k ks named in
-    cut_gathered s r (added s w k) end le ks there.1 names
-    (All-weaker (IsReached s w end) (IsReached s (added s w k) end) (λ m h. elim h [ inl seen ↦ inl (added_keeps s w k m.var (omega arith) seen) | inr f ↦ inr f ]) ks (All-tail (IsReached s w end) k ks reached))
-    (cut_added s r w end le k there.0 (All-head (λ m. IsNamed (clauses_of s) m.var) k ks named) (All-head (IsReached s w end) k ks reached) c)
+    let names : All (λ m. IsNamed (clauses_in s) m.var) ks = All-tail (λ m. IsNamed (clauses_in s) m.var) k ks named in
+    cut_gathered s r (cut_with s w k) end le ks there.1 names
+    (All-weaker (IsReached s w end) (IsReached s (cut_with s w k) end) (λ m h. elim h [ inl seen ↦ inl (added_keeps s w k m.var (omega arith) seen) | inr f ↦ inr f ]) ks (All-tail (IsReached s w end) k ks reached))
+    (cut_added s r w end le k there.0 (All-head (λ m. IsNamed (clauses_in s) m.var) k ks named) (All-head (IsReached s w end) k ks reached) c)
 
-pub added_vars : (s : Sight) (w : Cut) (k : Literal) → (added s w k).vars ≡ w.vars
+pub added_vars : (s : Sight) (w : Cut) (k : Literal) → (cut_with s w k).vars ≡ w.vars
 added_vars s w k = added_cases s w k (λ x. x.vars ≡ w.vars) (record { old = λ _. refl; root = λ _ _. refl; present = λ _ _ _. refl; lower = λ _ _ _. refl })

@@ -1,21 +1,21 @@
 -- The learnt clause follows by unit propagation, step by step of the walk down the trail.
 use Rattle.std.proofs.Common.{◌≡◌, ℕ, ◌+◌, ◌<◌, ◌≤◌, ◌⊎◌, Bool, true, false, cond, nat_eq, zero, suc, take, List, [], ◌∷◌, length, get_or, refl, sym, ◌∙◌, ap, subst, inl, inr, arith}
 use Rattle.std.specs.Prelude.{All, Contains, map}
-use Rattle.std.proofs.lemmas.Bool.{cases_eq, cases_lt, eq-eqb}
+use Rattle.std.proofs.lemmas.Bool.{both_ways, cases_eq, cases_lt, eq-eqb}
 use Rattle.std.proofs.lemmas.List.{take_all}
 use Rattle.std.proofs.lemmas.List.Elements.{All-contains, All-contains_itself, All-weaker, All-cons, Contains-append_left, Contains-append_right}
 use Rattle.cnf_core.specs.Lit.{Literal, negate, has}
 use Rattle.cnf_core.specs.Clause.{Clauses, AreDistinct, AreThere}
 use Rattle.cnf_core.specs.Propagation.{LiteralSet, IsIn, Closure, Falsifies, negations, Rup}
-use Rattle.cnf_core.proofs.PropagationLemmas.{negate-negate, contains_from_has, has_from_contains, closure_start, closure_unit, falsifies_again}
-use Rattle.cdcl_learn.specs.Sight.{Sight, nth, level_of, reason_of, clause_at, clauses_of, HasReason, IsSound, roots, known}
-use Rattle.cdcl_learn.specs.Cut.{Cut, is_seen, IsSeen, IsBlank, closed, gathered, open_below, weight_at, IsLower, IsNamed, IsCut, working, IsReached, IsCovered, IsLast, IsStage, IsReady, IsClash, IsLearnt}
-use Rattle.cdcl_learn.proofs.LiteralLemmas.{not_both, contains_head, contains_tail, avoids_all, placed, placed_anywhere, in_front, front_in, stands}
+use Rattle.cnf_core.proofs.PropagationLemmas.{negate-negate, contains_from_has, has_from_contains, closure_start, closure_unit, falsifies_again, contains_first, contains_later}
+use Rattle.cdcl_learn.specs.Sight.{Sight, nth, level_of, reason_of, clause_in, clauses_in, IsReasonAt, IsSound, roots, known}
+use Rattle.cdcl_learn.specs.Cut.{Cut, is_seen, IsSeen, IsBlank, with_resolved, cut_with_all, open_below, weight_at, IsLower, IsNamed, IsCut, working, IsReached, IsCovered, IsLast, IsStage, IsResolving, IsConflict, IsLearnt}
+use Rattle.cdcl_learn.proofs.LiteralLemmas.{avoids_all, placed, placed_anywhere, in_front, front_in, stands}
 use Rattle.cdcl_learn.proofs.CountLemmas.{weight_present, open_none, open_some, open_found, open_skip}
 use Rattle.cdcl_learn.proofs.CutLemmas.{level_limit, cut_gathered, gathered_keeps, gathered_covers}
 
 -- the clause at a place is one of the clauses
-pub text_among : (s : Sight) (p : ℕ) → Contains s.places p → Contains (clauses_of s) (clause_at s p)
+pub text_among : (s : Sight) (p : ℕ) → Contains s.places p → Contains (clauses_in s) (clause_in s p)
 text_among s p at = by_place s.places at.0 at.1 at.2
   where
     by_place : (ps : List ℕ) (i : ℕ) → i < length ps → get_or ps i p ≡ p → Contains (map s.text ps) (s.text p)
@@ -39,8 +39,8 @@ roots_has s ls l c z = by_place ls c.0 c.1 c.2
 pub root_follows : (s : Sight) (start : LiteralSet) (l : Literal) → IsIn (has s.lits) l → level_of s l ≡ 0 → Closure (known s) start l
 root_follows s start l on z =
     closure_unit (known s) start (l ∷ []) l
-    (Contains-append_right (clauses_of s) (roots s s.lits) (l ∷ []) (roots_has s s.lits l (contains_from_has s.lits l on) z))
-    (contains_head l [])
+    (Contains-append_right (clauses_in s) (roots s s.lits) (l ∷ []) (roots_has s s.lits l (contains_from_has s.lits l on) z))
+    (contains_first l [])
     (All-cons (λ k. (k ≡ l) ⊎ Closure (known s) start (negate k)) l [] (inl refl) (λ k d lt. absurd (omega arith)))
 
 pub in_working : (s : Sight) (w : Cut) (end : ℕ) (l : Literal) → IsIn (has (take end s.lits)) l → IsSeen w l.var → IsIn (working s w end) l
@@ -60,10 +60,10 @@ covered_follows s w end k front covered = elim covered [
 ]
 
 -- at first: the falsified clause
-pub rup_start : (s : Sight) (w : Cut) (c : List Literal) → Contains (clauses_of s) c → All (λ k. IsIn (has s.lits) (negate k)) c → All (IsCovered s w) c → Falsifies (known s) (working s w (length s.lits))
+pub rup_start : (s : Sight) (w : Cut) (c : List Literal) → Contains (clauses_in s) c → All (λ k. IsIn (has s.lits) (negate k)) c → All (IsCovered s w) c → Falsifies (known s) (working s w (length s.lits))
 rup_start s w c among false_all covered = record {
   clause = c;
-  among = Contains-append_left (clauses_of s) (roots s s.lits) c among;
+  among = Contains-append_left (clauses_in s) (roots s s.lits) c among;
   each = All-weaker (Contains c) (λ k. Closure (known s) (working s w (length s.lits)) (negate k)) (λ k inside.
       covered_follows s w (length s.lits) k
       (ap (λ (ls : List Literal). has ls (negate k)) (take_all (length s.lits) s.lits (omega arith)) ∙ All-contains (λ m. IsIn (has s.lits) (negate m)) c k false_all inside)
@@ -77,11 +77,11 @@ rup_skip s w i end le within none f = falsifies_again (known s) (working s w i) 
     let p = placed s end l within parts.0 in
     elim (cases_lt p.place i) [
       | inl front ↦ closure_start (known s) (working s w i) l (in_working s w i l (subst (λ (m : Literal). IsIn (has (take i s.lits)) m) p.is (in_front s i p.place front (omega arith))) parts.1)
-      | inr behind ↦ absurd (not_both (is_seen w.seen l.var) parts.1 (ap (λ (m : Literal). is_seen w.seen m.var) (sym p.is) ∙ none p.place behind p.below))
+      | inr behind ↦ absurd (both_ways (is_seen w.seen l.var) (ap (λ (m : Literal). is_seen w.seen m.var) (sym p.is) ∙ none p.place behind p.below) parts.1)
     ]) f
 
 -- a literal is resolved with its reason
-pub rup_resolve : (s : Sight) (w new : Cut) (i n : ℕ) → i < length s.lits → HasReason s i n → ((v : ℕ) → IsSeen w v → IsSeen new v) → All (IsCovered s new) (clause_at s n) → Falsifies (known s) (working s w (i + 1)) → Falsifies (known s) (working s new i)
+pub rup_resolve : (s : Sight) (w new : Cut) (i n : ℕ) → i < length s.lits → IsReasonAt s i n → ((v : ℕ) → IsSeen w v → IsSeen new v) → All (IsCovered s new) (clause_in s n) → Falsifies (known s) (working s w (i + 1)) → Falsifies (known s) (working s new i)
 rup_resolve s w new i n lt r keeps covered f = falsifies_again (known s) (working s new i) (working s w (i + 1)) (λ l h.
     let parts = from_working s w (i + 1) l h in
     let p = placed s (i + 1) l (omega arith) parts.0 in
@@ -94,24 +94,24 @@ rup_resolve s w new i n lt r keeps covered f = falsifies_again (known s) (workin
     ]) f
   where
     c : List Literal
-    c = clause_at s n
+    c = clause_in s n
 
     resolved : Closure (known s) (working s new i) (nth s i)
     resolved =
         let unit = r.unit in
-        closure_unit (known s) (working s new i) (clause_at s n) (nth s i) (Contains-append_left (clauses_of s) (roots s s.lits) (clause_at s n) (text_among s n r.place)) unit.among
-        (All-weaker (Contains (clause_at s n)) (λ k. (k ≡ nth s i) ⊎ Closure (known s) (working s new i) (negate k)) (λ k inside.
-        elim (All-contains (λ m. (m ≡ nth s i) ⊎ IsIn (has (take i s.lits)) (negate m)) (clause_at s n) k unit.others inside) [
+        closure_unit (known s) (working s new i) (clause_in s n) (nth s i) (Contains-append_left (clauses_in s) (roots s s.lits) (clause_in s n) (text_among s n r.place)) unit.among
+        (All-weaker (Contains (clause_in s n)) (λ k. (k ≡ nth s i) ⊎ Closure (known s) (working s new i) (negate k)) (λ k inside.
+        elim (All-contains (λ m. (m ≡ nth s i) ⊎ IsIn (has (take i s.lits)) (negate m)) (clause_in s n) k unit.others inside) [
           | inl e ↦ inl e
-          | inr front ↦ inr (covered_follows s new i k front (All-contains (IsCovered s new) (clause_at s n) k covered inside))
-        ]) (clause_at s n) (All-contains_itself (clause_at s n)))
+          | inr front ↦ inr (covered_follows s new i k front (All-contains (IsCovered s new) (clause_in s n) k covered inside))
+        ]) (clause_in s n) (All-contains_itself (clause_in s n)))
 
 -- the clauses' variables
-pub clause_there : (s : Sight) (p : ℕ) → IsSound s → Contains s.places p → AreThere s.vars (clause_at s p)
+pub clause_there : (s : Sight) (p : ℕ) → IsSound s → Contains s.places p → AreThere s.vars (clause_in s p)
 clause_there s p r at = r.clauses p at
 
-clause_named : (s : Sight) (n : ℕ) → Contains s.places n → All (λ k. IsNamed (clauses_of s) k.var) (clause_at s n)
-clause_named s n lt = All-weaker (Contains (clause_at s n)) (λ k. IsNamed (clauses_of s) k.var) (λ k inside. record { clause = clause_at s n; among = text_among s n lt; lit = k; inside = inside; var = refl }) (clause_at s n) (All-contains_itself (clause_at s n))
+clause_named : (s : Sight) (n : ℕ) → Contains s.places n → All (λ k. IsNamed (clauses_in s) k.var) (clause_in s n)
+clause_named s n lt = All-weaker (Contains (clause_in s n)) (λ k. IsNamed (clauses_in s) k.var) (λ k inside. record { clause = clause_in s n; among = text_among s n lt; lit = k; inside = inside; var = refl }) (clause_in s n) (All-contains_itself (clause_in s n))
 
 -- the cut before anything is seen
 open_blank : (s : Sight) (w : Cut) (end : ℕ) → IsBlank w → open_below s w.seen end ≡ 0
@@ -121,35 +121,35 @@ pub cut_blank : (s : Sight) (w : Cut) (end : ℕ) → length w.seen ≡ s.vars +
 cut_blank s w end size blank none zero_pending = record {
   size = size;
   lower = subst (λ (ls : List Literal). All (IsLower s w) ls) (sym none) (λ k d lt. absurd (omega arith));
-  all = λ l on seen below. absurd (not_both (is_seen w.seen l.var) seen (blank l.var));
+  all = λ l on seen below. absurd (both_ways (is_seen w.seen l.var) (blank l.var) seen);
   distinct = subst AreDistinct (sym none) tt;
   count = zero_pending ∙ sym (open_blank s w end blank);
-  named = λ v seen. absurd (not_both (is_seen w.seen v) seen (blank v));
+  named = λ v seen. absurd (both_ways (is_seen w.seen v) (blank v) seen);
 }
 
 -- the falsified clause is taken in
-pub ready_start : (s : Sight) (w : Cut) (n : ℕ) → IsSound s → IsClash s n → length w.seen ≡ s.vars + 1 → IsBlank w → w.rest ≡ [] → w.pending ≡ 0 → IsReady s (gathered s w (clause_at s n)) (length s.lits)
+pub ready_start : (s : Sight) (w : Cut) (n : ℕ) → IsSound s → IsConflict s n → length w.seen ≡ s.vars + 1 → IsBlank w → w.rest ≡ [] → w.pending ≡ 0 → IsResolving s (cut_with_all s w (clause_in s n)) (length s.lits)
 ready_start s w n r clash size blank none zero_pending =
     let there = clause_there s n r clash.place in
-    let covered = gathered_covers s w (clause_at s n) there size in
-    let cut : IsCut s (gathered s w (clause_at s n)) (length s.lits) = cut_gathered s r w (length s.lits) (omega arith) (clause_at s n) there (clause_named s n clash.place)
-    (All-weaker (λ k. IsIn (has s.lits) (negate k)) (IsReached s w (length s.lits)) (λ k h. inr (ap (λ (ls : List Literal). has ls (negate k)) (take_all (length s.lits) s.lits (omega arith)) ∙ h)) (clause_at s n) clash.falsified)
+    let covered = gathered_covers s w (clause_in s n) there size in
+    let cut : IsCut s (cut_with_all s w (clause_in s n)) (length s.lits) = cut_gathered s r w (length s.lits) (omega arith) (clause_in s n) there (clause_named s n clash.place)
+    (All-weaker (λ k. IsIn (has s.lits) (negate k)) (IsReached s w (length s.lits)) (λ k h. inr (ap (λ (ls : List Literal). has ls (negate k)) (take_all (length s.lits) s.lits (omega arith)) ∙ h)) (clause_in s n) clash.falsified)
     (cut_blank s w (length s.lits) size blank none zero_pending) in
     record {
       cut = cut;
       within = omega arith;
       some =
           let k = clash.lit in
-          let p = placed_anywhere s (negate k) (All-contains (λ m. IsIn (has s.lits) (negate m)) (clause_at s n) k clash.falsified clash.among) in
-          let seen : IsSeen (gathered s w (clause_at s n)) k.var = elim (All-contains (IsCovered s (gathered s w (clause_at s n))) (clause_at s n) k covered clash.among) [ inl z ↦ let e = clash.present in let a = clash.above in absurd (omega arith) | inr h ↦ h ] in
-          let more = open_some s (gathered s w (clause_at s n)).seen p.place (length s.lits) p.below (ap (level_of s) p.is ∙ clash.present) (ap (λ (m : Literal). is_seen (gathered s w (clause_at s n)).seen m.var) p.is ∙ seen) in
+          let p = placed_anywhere s (negate k) (All-contains (λ m. IsIn (has s.lits) (negate m)) (clause_in s n) k clash.falsified clash.among) in
+          let seen : IsSeen (cut_with_all s w (clause_in s n)) k.var = elim (All-contains (IsCovered s (cut_with_all s w (clause_in s n))) (clause_in s n) k covered clash.among) [ inl z ↦ let e = clash.present in let a = clash.above in absurd (omega arith) | inr h ↦ h ] in
+          let more = open_some s (cut_with_all s w (clause_in s n)).seen p.place (length s.lits) p.below (ap (level_of s) p.is ∙ clash.present) (ap (λ (m : Literal). is_seen (cut_with_all s w (clause_in s n)).seen m.var) p.is ∙ seen) in
           let count = cut.count in
           omega arith;
-      rup = rup_start s (gathered s w (clause_at s n)) (clause_at s n) (text_among s n clash.place) clash.falsified covered;
+      rup = rup_start s (cut_with_all s w (clause_in s n)) (clause_in s n) (text_among s n clash.place) clash.falsified covered;
     }
 
 -- the next literal of the working clause is found
-pub stage_from : (s : Sight) (w : Cut) (end i : ℕ) → IsSound s → IsReady s w end → IsLast s w end i → IsStage s w i
+pub stage_from : (s : Sight) (w : Cut) (end i : ℕ) → IsSound s → IsResolving s w end → IsLast s w end i → IsStage s w i
 stage_from s w end i r ready last =
     let cut = ready.cut in
     let below = last.below in
@@ -192,34 +192,34 @@ stage_reason s w i r above t more =
     r.decided f.place i f.below t.below (f.present ∙ sym e) (omega arith)
 
 -- and is resolved with it
-pub stage_resolve : (s : Sight) (w : Cut) (i n : ℕ) → IsSound s → IsStage s w i → 1 < w.pending → HasReason s i n → IsReady s (gathered s (closed w) (clause_at s n)) i
+pub stage_resolve : (s : Sight) (w : Cut) (i n : ℕ) → IsSound s → IsStage s w i → 1 < w.pending → IsReasonAt s i n → IsResolving s (cut_with_all s (with_resolved w) (clause_in s n)) i
 stage_resolve s w i n r t more reason =
     let cut = t.cut in
     let below = t.below in
     let count = stage_count s w i t in
     let unit = reason.unit in
-    let size : length (closed w).seen ≡ s.vars + 1 = cut.size in
+    let size : length (with_resolved w).seen ≡ s.vars + 1 = cut.size in
     let there = clause_there s n r reason.place in
-    let before : IsCut s (closed w) i = record {
+    let before : IsCut s (with_resolved w) i = record {
       size = cut.size;
-      lower = All-weaker (IsLower s w) (IsLower s (closed w)) (λ k l. record { falsified = l.falsified; above = l.above; below = l.below; seen = l.seen }) w.rest cut.lower;
+      lower = All-weaker (IsLower s w) (IsLower s (with_resolved w)) (λ k l. record { falsified = l.falsified; above = l.above; below = l.below; seen = l.seen }) w.rest cut.lower;
       all = cut.all;
       distinct = cut.distinct;
       count = omega arith;
       named = cut.named;
     } in
-    let reached : All (IsReached s (closed w) i) (clause_at s n) = All-weaker (λ k. (k ≡ nth s i) ⊎ IsIn (has (take i s.lits)) (negate k)) (IsReached s (closed w) i) (λ k h. elim h [ inl e ↦ inl (ap (λ (m : Literal). is_seen w.seen m.var) e ∙ t.seen) | inr front ↦ inr front ]) (clause_at s n) unit.others in
-    let now : IsCut s (gathered s (closed w) (clause_at s n)) i = cut_gathered s r (closed w) i (omega arith) (clause_at s n) there (clause_named s n reason.place) reached before in
-    let keeps : (v : ℕ) → IsSeen w v → IsSeen (gathered s (closed w) (clause_at s n)) v = λ v h. gathered_keeps s (closed w) (clause_at s n) v there size h in
+    let reached : All (IsReached s (with_resolved w) i) (clause_in s n) = All-weaker (λ k. (k ≡ nth s i) ⊎ IsIn (has (take i s.lits)) (negate k)) (IsReached s (with_resolved w) i) (λ k h. elim h [ inl e ↦ inl (ap (λ (m : Literal). is_seen w.seen m.var) e ∙ t.seen) | inr front ↦ inr front ]) (clause_in s n) unit.others in
+    let now : IsCut s (cut_with_all s (with_resolved w) (clause_in s n)) i = cut_gathered s r (with_resolved w) i (omega arith) (clause_in s n) there (clause_named s n reason.place) reached before in
+    let keeps : (v : ℕ) → IsSeen w v → IsSeen (cut_with_all s (with_resolved w) (clause_in s n)) v = λ v h. gathered_keeps s (with_resolved w) (clause_in s n) v there size h in
     record {
       cut = now;
       within = omega arith;
       some =
           let f = open_found s w.seen i (omega arith) in
-          let seen = open_some s (gathered s (closed w) (clause_at s n)).seen f.place i f.below f.present (keeps (nth s f.place).var f.marked) in
+          let seen = open_some s (cut_with_all s (with_resolved w) (clause_in s n)).seen f.place i f.below f.present (keeps (nth s f.place).var f.marked) in
           let total = now.count in
           omega arith;
-      rup = rup_resolve s w (gathered s (closed w) (clause_at s n)) i n below reason keeps (gathered_covers s (closed w) (clause_at s n) there size) t.rup;
+      rup = rup_resolve s w (cut_with_all s (with_resolved w) (clause_in s n)) i n below reason keeps (gathered_covers s (with_resolved w) (clause_in s n) there size) t.rup;
     }
 
 -- the first unique implication point
@@ -242,7 +242,7 @@ stage_learnt s w i r above t one =
             absurd (omega arith)),
         cut.distinct,
       );
-      named = All-cons (λ k. IsNamed (clauses_of s) k.var) (negate u) w.rest (cut.named u.var t.seen) (All-weaker (IsLower s w) (λ k. IsNamed (clauses_of s) k.var) (λ k l. cut.named k.var l.seen) w.rest cut.lower);
+      named = All-cons (λ k. IsNamed (clauses_in s) k.var) (negate u) w.rest (cut.named u.var t.seen) (All-weaker (IsLower s w) (λ k. IsNamed (clauses_in s) k.var) (λ k l. cut.named k.var l.seen) w.rest cut.lower);
       rup = falsifies_again (known s) (negations (negate u ∷ w.rest)) (working s w (i + 1)) (λ l h. closure_start (known s) (negations (negate u ∷ w.rest)) l (inside l h)) t.rup;
     }
   where
@@ -258,12 +258,12 @@ stage_learnt s w i r above t one =
             | inr ne ↦
                 let most = level_limit s l r (front_in s (i + 1) l parts.0) in
                 let cut = t.cut in
-                contains_tail (negate (nth s i)) (negate l) w.rest (cut.all l (front_in s (i + 1) l parts.0) parts.1 (lower_of (level_of s l) s.level most ne))
+                contains_later (negate (nth s i)) (negate l) w.rest (cut.all l (front_in s (i + 1) l parts.0) parts.1 (lower_of (level_of s l) s.level most ne))
           ]
           | inr behind ↦
               let pb = p.below in
               let same : i ≡ p.place = omega arith in
-              subst (λ (m : Literal). Contains (negate (nth s i) ∷ w.rest) (negate m)) (ap (nth s) same ∙ p.is) (contains_head (negate (nth s i)) w.rest)
+              subst (λ (m : Literal). Contains (negate (nth s i) ∷ w.rest) (negate m)) (ap (nth s) same ∙ p.is) (contains_first (negate (nth s i)) w.rest)
         ])
       where
         lower_of : (a b : ℕ) → a ≤ b → (a ≡ b → ⊥) → a < b
@@ -279,6 +279,6 @@ stage_seen s w i t =
 pub root_rup : (s : Sight) (l : Literal) → IsIn (has s.lits) l → level_of s l ≡ 0 → Rup (known s) (l ∷ [])
 root_rup s l on z = record {
   clause = l ∷ [];
-  among = Contains-append_right (clauses_of s) (roots s s.lits) (l ∷ []) (roots_has s s.lits l (contains_from_has s.lits l on) z);
-  each = All-cons (λ k. Closure (known s) (negations (l ∷ [])) (negate k)) l [] (closure_start (known s) (negations (l ∷ [])) (negate l) (has_from_contains (l ∷ []) (negate (negate l)) (subst (λ (m : Literal). Contains (l ∷ []) m) (sym (negate-negate l)) (contains_head l [])))) (λ k d lt. absurd (omega arith));
+  among = Contains-append_right (clauses_in s) (roots s s.lits) (l ∷ []) (roots_has s s.lits l (contains_from_has s.lits l on) z);
+  each = All-cons (λ k. Closure (known s) (negations (l ∷ [])) (negate k)) l [] (closure_start (known s) (negations (l ∷ [])) (negate l) (has_from_contains (l ∷ []) (negate (negate l)) (subst (λ (m : Literal). Contains (l ∷ []) m) (sym (negate-negate l)) (contains_first l [])))) (λ k d lt. absurd (omega arith));
 }

@@ -7,12 +7,13 @@ use Rattle.std.proofs.lemmas.List.Elements.{All-contains, All-contains_itself, A
 use Rattle.cnf_core.specs.Lit.{Literal, negate, has}
 use Rattle.cnf_core.specs.Clause.{AreDistinct}
 use Rattle.cnf_core.specs.Propagation.{LiteralSet, IsIn, Closure, negations}
-use Rattle.cnf_core.proofs.PropagationLemmas.{negate-negate, contains_from_has, has_from_contains, closure_start, closure_unit, falsifies_again}
+use Rattle.cnf_core.proofs.PropagationLemmas.{negate-negate, contains_from_has, has_from_contains, closure_start, closure_unit, falsifies_again, contains_first, contains_later}
 use Rattle.cnf_core.proofs.QuantifierLemmas.{pairs_from_distinct, distinct_from_pairs}
-use Rattle.cdcl_learn.specs.Sight.{Sight, nth, level_of, reason_of, clause_at, clauses_of, HasReason, IsSound, roots, known}
+use Rattle.cdcl_learn.specs.Sight.{Sight, nth, level_of, reason_of, clause_in, clauses_in, IsReasonAt, IsSound, roots, known}
 use Rattle.cdcl_learn.specs.Cut.{is_seen, IsLearnt, IsNamed}
 use Rattle.cdcl_learn.specs.Shorter.{IsRedundant, IsShortened, AreMarked}
-use Rattle.cdcl_learn.proofs.LiteralLemmas.{distinct_push, contains_head, contains_tail, avoids_all, Placed, placed, placed_anywhere, front_in, same_place}
+use Rattle.cnf_core.proofs.TrailLemmas.{distinct_push}
+use Rattle.cdcl_learn.proofs.LiteralLemmas.{avoids_all, Placed, placed, placed_anywhere, front_in, same_place}
 use Rattle.cdcl_learn.proofs.RupLemmas.{root_follows, text_among}
 use Rattle.cdcl_learn.proofs.BackLemmas.{contains_rest, all_within}
 
@@ -57,20 +58,20 @@ module _ (s : Sight) (r : IsSound s) (seen : List Bool) (first : Literal) (old n
   follows : (n : ℕ) (k : Literal) → Contains old k → (p : Placed s (length s.lits) (negate k)) → p.place < n → Closure (known s) (negations (first ∷ new)) (negate k)
   follows zero k c p lt = absurd (omega arith)
   follows (suc n) k c p lt = elim (short.dropped k c) [
-    | inl kept ↦ kept_follows k (contains_tail first k new kept)
+    | inl kept ↦ kept_follows k (contains_later first k new kept)
     | inr red ↦
-        let reason : HasReason s p.place red.place = r.reason p.place red.place p.within (ap (reason_of s) p.is ∙ red.reason) red.from in
+        let reason : IsReasonAt s p.place red.place = r.reason p.place red.place p.within (ap (reason_of s) p.is ∙ red.reason) red.from in
         let unit = reason.unit in
         subst (λ (x : Literal). Closure (known s) (negations (first ∷ new)) x) p.is
-        (closure_unit (known s) (negations (first ∷ new)) (clause_at s red.place) (nth s p.place) (Contains-append_left (clauses_of s) (roots s s.lits) (clause_at s red.place) (text_among s red.place reason.place)) unit.among
-        (All-weaker (Contains (clause_at s red.place)) (λ m. (m ≡ nth s p.place) ⊎ Closure (known s) (negations (first ∷ new)) (negate m)) (λ m inside.
-        elim (All-contains (λ x. (x ≡ nth s p.place) ⊎ IsIn (has (take p.place s.lits)) (negate x)) (clause_at s red.place) m unit.others inside) [
+        (closure_unit (known s) (negations (first ∷ new)) (clause_in s red.place) (nth s p.place) (Contains-append_left (clauses_in s) (roots s s.lits) (clause_in s red.place) (text_among s red.place reason.place)) unit.among
+        (All-weaker (Contains (clause_in s red.place)) (λ m. (m ≡ nth s p.place) ⊎ Closure (known s) (negations (first ∷ new)) (negate m)) (λ m inside.
+        elim (All-contains (λ x. (x ≡ nth s p.place) ⊎ IsIn (has (take p.place s.lits)) (negate x)) (clause_in s red.place) m unit.others inside) [
           | inl e ↦ inl e
           | inr front ↦
               let within = p.within in
               let q = placed s p.place (negate m) (omega arith) front in
               let before = q.below in
-              inr (elim (All-contains (λ x. (x.var ≡ k.var) ⊎ ((is_seen seen x.var ≡ true) ⊎ (level_of s x ≡ 0))) (clause_at s red.place) m red.others inside) [
+              inr (elim (All-contains (λ x. (x.var ≡ k.var) ⊎ ((is_seen seen x.var ≡ true) ⊎ (level_of s x ≡ 0))) (clause_in s red.place) m red.others inside) [
                 | inl same ↦
                     let one : q.place ≡ p.place = same_place s q.place p.place r.distinct q.within p.within (ap (λ (x : Literal). x.var) q.is ∙ same ∙ sym (ap (λ (x : Literal). x.var) p.is)) in
                     absurd (omega arith)
@@ -85,7 +86,7 @@ module _ (s : Sight) (r : IsSound s) (seen : List Bool) (first : Literal) (old n
                   | inr root ↦ root_follows s (negations (first ∷ new)) (negate m) (front_in s p.place (negate m) front) root
                 ]
               ])
-        ]) (clause_at s red.place) (All-contains_itself (clause_at s red.place))))
+        ]) (clause_in s red.place) (All-contains_itself (clause_in s red.place))))
   ]
 
   pub shortened_learnt : IsLearnt s first new
@@ -102,9 +103,9 @@ module _ (s : Sight) (r : IsSound s) (seen : List Bool) (first : Literal) (old n
           absurd (omega arith)),
       short.distinct,
     );
-    named = with_first (λ k. IsNamed (clauses_of s) k.var) learnt.named;
+    named = with_first (λ k. IsNamed (clauses_in s) k.var) learnt.named;
     rup = falsifies_again (known s) (negations (first ∷ new)) (negations (first ∷ old)) (λ x h. back x (elim (contains_rest first (negate x) old (contains_from_has (first ∷ old) (negate x) h)) [
-      | inl e ↦ subst (λ (y : Literal). Closure (known s) (negations (first ∷ new)) (negate y)) e (kept_follows first (contains_head first new))
+      | inl e ↦ subst (λ (y : Literal). Closure (known s) (negations (first ∷ new)) (negate y)) e (kept_follows first (contains_first first new))
       | inr c ↦ let p = placed_anywhere s (negate (negate x)) (lower_on (negate x) c) in follows (p.place + 1) (negate x) c p (omega arith)
     ])) learnt.rup;
   }
@@ -147,7 +148,7 @@ met_step s seen c v i m w lt e is here before j d below = elim (cases_lt j i) [
       subst (λ n. (n ≡ v) ⊎ ((is_seen seen n ≡ true) ⊎ (get_or s.levels n 0 ≡ 0))) read here
 ]
 
-pub redundant_from : (s : Sight) (seen : List Bool) (k : Literal) (v n i : ℕ) → v ≡ k.var → get_or s.reasons v 0 ≡ n → 1 ≤ n → length (clause_at s n) ≤ i → ((j : ℕ) (d : Literal) → j < i → ((get_or (clause_at s n) j d).var ≡ k.var) ⊎ ((is_seen seen (get_or (clause_at s n) j d).var ≡ true) ⊎ (level_of s (get_or (clause_at s n) j d) ≡ 0))) → IsRedundant s seen k
+pub redundant_from : (s : Sight) (seen : List Bool) (k : Literal) (v n i : ℕ) → v ≡ k.var → get_or s.reasons v 0 ≡ n → 1 ≤ n → length (clause_in s n) ≤ i → ((j : ℕ) (d : Literal) → j < i → ((get_or (clause_in s n) j d).var ≡ k.var) ⊎ ((is_seen seen (get_or (clause_in s n) j d).var ≡ true) ⊎ (level_of s (get_or (clause_in s n) j d) ≡ 0))) → IsRedundant s seen k
 redundant_from s seen k v n i var e some le h = record {
   place = n;
   from = some;

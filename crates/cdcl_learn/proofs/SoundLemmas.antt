@@ -8,8 +8,8 @@ use Rattle.cnf_core.specs.Lit.{Literal, literal, negate, has}
 use Rattle.cnf_core.specs.Clause.{AreThere}
 use Rattle.cnf_core.specs.Propagation.{IsIn, IsUnit}
 use Rattle.cnf_core.proofs.PropagationLemmas.{contains_from_has}
-use Rattle.watch_arena.specs.Trail.{Marks, IsMarks, level_at}
-use Rattle.watch_arena.specs.Arena.{Attached, AreAttached, AreReasoned, clause_at as attached_at}
+use Rattle.watch_arena.specs.Trail.{Marks, IsMarks, trail_level}
+use Rattle.watch_arena.specs.Arena.{Attached, AreAttached, AreReasoned, attached_at}
 use Rattle.watch_arena.proofs.CutLemmas.{level_most, level_rise, level_step, level_take}
 use Rattle.cdcl_learn.specs.Sight.{sight, IsSound}
 
@@ -17,7 +17,7 @@ not_zero : (p : ℕ) → 1 ≤ p → p ≡ 0 → ⊥
 not_zero p some z = absurd (omega arith)
 
 -- before the first level above 0
-level_zero : (cuts : List ℕ) (i : ℕ) → ((n : ℕ) → Contains cuts n → i < n) → level_at cuts i ≡ 0
+level_zero : (cuts : List ℕ) (i : ℕ) → ((n : ℕ) → Contains cuts n → i < n) → trail_level cuts i ≡ 0
 level_zero [] i h = refl
 level_zero (n ∷ cuts) i h = sym (level_take (n ∷ cuts) zero i (λ k _ lt. h (get_or (n ∷ cuts) k 0) (Contains-get_or (n ∷ cuts) k 0 lt)))
 
@@ -32,7 +32,7 @@ sound_sight a m vars attached marks reasoned = record {
   present = λ i lt. subst (λ n. n ≤ length m.cuts) (sym (marks.levels i (literal 0 true) lt)) (level_most m.cuts i);
   rise = λ i j lt within.
       subst (λ n. n ≤ get_or m.levels (get_or m.lits j (literal 0 true)).var 0) (sym (marks.levels i (literal 0 true) (omega arith)))
-      (subst (λ n. level_at m.cuts i ≤ n) (sym (marks.levels j (literal 0 true) within)) (level_rise m.cuts i j (omega arith)));
+      (subst (λ n. trail_level m.cuts i ≤ n) (sym (marks.levels j (literal 0 true) within)) (level_rise m.cuts i j (omega arith)));
   reason = λ i p lt e some.
       let r = reasoned.reason i (get_or m.lits i (literal 0 true)) lt (stands_there m i lt) (λ z. not_zero p some (sym e ∙ z)) in
       record {
@@ -47,8 +47,8 @@ sound_sight a m vars attached marks reasoned = record {
             let there = marks.levels j (literal 0 true) within in
             let z : get_or m.reasons (get_or m.lits j (literal 0 true)).var 0 ≡ 0 = omega arith in
             elim (reasoned.decided j (get_or m.lits j (literal 0 true)) within (stands_there m j within) z) [
-              | inl begins ↦ let up = level_step m.cuts j i j begins lt (omega arith) in absurd (differ (level_at m.cuts i) (level_at m.cuts j) up (sym here ∙ same ∙ there))
-              | inr later ↦ absurd (differ 0 (level_at m.cuts j) (subst (λ n. 0 < n) there above) (sym (level_zero m.cuts j later)))
+              | inl begins ↦ let up = level_step m.cuts j i j begins lt (omega arith) in absurd (differ (trail_level m.cuts i) (trail_level m.cuts j) up (sym here ∙ same ∙ there))
+              | inr later ↦ absurd (differ 0 (trail_level m.cuts j) (subst (λ n. 0 < n) there above) (sym (level_zero m.cuts j later)))
             ]
       ];
 }

@@ -1,17 +1,18 @@
 -- Tracing a false literal back.
 use Rattle.std.proofs.Common.{◌≡◌, ◌≢◌, ℕ, ◌+◌, ◌<◌, ◌≤◌, ◌⊎◌, Bool, true, false, cond, zero, suc, take, drop, List, [], ◌∷◌, ◌++◌, length, get_or, refl, sym, ◌∙◌, ap, subst, inl, inr, arith, length-set}
 use Rattle.std.specs.Prelude.{All, Contains}
-use Rattle.std.proofs.lemmas.Bool.{cases_eq, cases_lt, cases_Bool, eq-eqb, ne_eqb}
+use Rattle.std.proofs.lemmas.Bool.{both_ways, cases_eq, cases_lt, cases_Bool, eq-eqb, ne_eqb}
 use Rattle.std.proofs.lemmas.List.{take_all, drop_more}
 use Rattle.std.proofs.lemmas.List.Elements.{All-contains, All-contains_itself, All-weaker, All-nil, All-cons, All-head, All-tail, All-push, Contains-push, Contains-append_left}
 use Rattle.cnf_core.specs.Lit.{Literal, negate, has}
 use Rattle.cnf_core.specs.Clause.{AreDistinct, AreThere, IsThere}
 use Rattle.cnf_core.specs.Propagation.{IsIn, Closure, Falsifies, negations, Rup}
-use Rattle.cnf_core.proofs.PropagationLemmas.{negate-negate, contains_from_has, has_from_contains, closure_start, closure_unit, falsifies_again}
-use Rattle.cdcl_learn.specs.Sight.{Sight, nth, level_of, reason_of, clause_at, clauses_of, HasReason, IsSound, roots, known}
+use Rattle.cnf_core.proofs.PropagationLemmas.{negate-negate, contains_from_has, has_from_contains, closure_start, closure_unit, falsifies_again, contains_first, contains_later}
+use Rattle.cdcl_learn.specs.Sight.{Sight, nth, level_of, reason_of, clause_in, clauses_in, IsReasonAt, IsSound, roots, known}
 use Rattle.cdcl_learn.specs.Cut.{Cut, is_seen, IsSeen, IsBlank, with_open, with_lower, working, IsCovered}
-use Rattle.cdcl_learn.specs.Trace.{touched, all_touched, IsDecision, IsTrace, tracing, IsTracing, IsTraced, HasDecisions}
-use Rattle.cdcl_learn.proofs.LiteralLemmas.{not_both, distinct_push, contains_head, contains_tail, avoids_all, placed, placed_anywhere, in_front, front_in, stands, same_lit}
+use Rattle.cdcl_learn.specs.Trace.{trace_with, trace_with_all, IsDecision, IsTrace, tracing, IsTracing, IsTraced, HasDecisions}
+use Rattle.cnf_core.proofs.TrailLemmas.{distinct_push}
+use Rattle.cdcl_learn.proofs.LiteralLemmas.{avoids_all, placed, placed_anywhere, in_front, front_in, stands, same_lit}
 use Rattle.cdcl_learn.proofs.CountLemmas.{seen_same, seen_keeps, seen_cases}
 use Rattle.cdcl_learn.proofs.RupLemmas.{root_follows, root_rup, in_working, from_working, text_among, clause_there}
 
@@ -21,7 +22,7 @@ pub record Cases (s : Sight) (w : Cut) (k : Literal) (P : Cut → Type 0) : Type
   pub lower : is_seen w.seen k.var ≡ false → (level_of s k ≡ 0 → ⊥) → reason_of s k ≡ 0 → P (with_lower w k)
   pub open_ : is_seen w.seen k.var ≡ false → (level_of s k ≡ 0 → ⊥) → (reason_of s k ≡ 0 → ⊥) → P (with_open w k)
 
-pub touched_cases : (s : Sight) (w : Cut) (k : Literal) (P : Cut → Type 0) → Cases s w k P → P (touched s w k)
+pub touched_cases : (s : Sight) (w : Cut) (k : Literal) (P : Cut → Type 0) → Cases s w k P → P (trace_with s w k)
 touched_cases s w k P c = elim (cases_Bool (is_seen w.seen k.var)) [
   | inl seen ↦ rw seen (c.old seen)
   | inr un ↦ elim (cases_eq (level_of s k) 0) [
@@ -33,25 +34,25 @@ touched_cases s w k P c = elim (cases_Bool (is_seen w.seen k.var)) [
   ]
 ]
 
-pub touched_size : (s : Sight) (w : Cut) (k : Literal) → length (touched s w k).seen ≡ length w.seen
+pub touched_size : (s : Sight) (w : Cut) (k : Literal) → length (trace_with s w k).seen ≡ length w.seen
 touched_size s w k = touched_cases s w k (λ x. length x.seen ≡ length w.seen) (record { old = λ _. refl; root = λ _ _. refl; lower = λ _ _ _. length-set w.seen k.var true; open_ = λ _ _ _. length-set w.seen k.var true })
 
-pub touched_vars : (s : Sight) (w : Cut) (k : Literal) → (touched s w k).vars ≡ w.vars
+pub touched_vars : (s : Sight) (w : Cut) (k : Literal) → (trace_with s w k).vars ≡ w.vars
 touched_vars s w k = touched_cases s w k (λ x. x.vars ≡ w.vars) (record { old = λ _. refl; root = λ _ _. refl; lower = λ _ _ _. refl; open_ = λ _ _ _. refl })
 
-touched_keeps : (s : Sight) (w : Cut) (k : Literal) (v : ℕ) → k.var < length w.seen → IsSeen w v → IsSeen (touched s w k) v
+touched_keeps : (s : Sight) (w : Cut) (k : Literal) (v : ℕ) → k.var < length w.seen → IsSeen w v → IsSeen (trace_with s w k) v
 touched_keeps s w k v lt h = touched_cases s w k (λ x. IsSeen x v) (record { old = λ _. h; root = λ _ _. h; lower = λ _ _ _. seen_keeps w.seen k.var v lt h; open_ = λ _ _ _. seen_keeps w.seen k.var v lt h })
 
-touched_rest : (s : Sight) (w : Cut) (k m : Literal) → Contains w.rest m → Contains (touched s w k).rest m
+touched_rest : (s : Sight) (w : Cut) (k m : Literal) → Contains w.rest m → Contains (trace_with s w k).rest m
 touched_rest s w k m h = touched_cases s w k (λ x. Contains x.rest m) (record { old = λ _. h; root = λ _ _. h; lower = λ _ _ _. Contains-append_left w.rest (k ∷ []) m h; open_ = λ _ _ _. h })
 
-touched_covers : (s : Sight) (w : Cut) (k : Literal) → k.var < length w.seen → IsCovered s (touched s w k) k
+touched_covers : (s : Sight) (w : Cut) (k : Literal) → k.var < length w.seen → IsCovered s (trace_with s w k) k
 touched_covers s w k lt = touched_cases s w k (λ x. IsCovered s x k) (record { old = λ h. inr h; root = λ _ z. inl z; lower = λ _ _ _. inr (seen_same w.seen k.var lt); open_ = λ _ _ _. inr (seen_same w.seen k.var lt) })
 
 above_zero : (n : ℕ) → (n ≡ 0 → ⊥) → 0 < n
 above_zero n h = elim (cases_lt 0 n) [ inl lt ↦ lt | inr le ↦ absurd (h (omega arith)) ]
 
-trace_touched : (s : Sight) → IsSound s → (w : Cut) (l k : Literal) → IsThere s.vars k → (IsSeen w k.var ⊎ IsIn (has s.lits) (negate k)) → IsTrace s w l → IsTrace s (touched s w k) l
+trace_touched : (s : Sight) → IsSound s → (w : Cut) (l k : Literal) → IsThere s.vars k → (IsSeen w k.var ⊎ IsIn (has s.lits) (negate k)) → IsTrace s w l → IsTrace s (trace_with s w k) l
 trace_touched s r w l k there reached t =
     let size = t.size in
     let le = there.1 in
@@ -71,8 +72,8 @@ trace_touched s r w l k there reached t =
               subst (λ (x : Literal). Contains (w.rest ++ k ∷ []) x) flip (Contains-push w.rest k)
           | inr old ↦ Contains-append_left w.rest (k ∷ []) (negate m) (t.all m onm old dec)
         ];
-        distinct = distinct_push w.rest k t.distinct (λ m among same. not_both (is_seen w.seen k.var) (ap (is_seen w.seen) (sym same) ∙ All-contains (λ x. IsSeen w x.var) w.rest m t.marks among) un);
-        apart = All-push (λ m. l.var ≢ m.var) w.rest k t.apart (λ same. not_both (is_seen w.seen k.var) (ap (is_seen w.seen) (sym same) ∙ t.target) un);
+        distinct = distinct_push w.rest k t.distinct (λ m among same. both_ways (is_seen w.seen k.var) un (ap (is_seen w.seen) (sym same) ∙ All-contains (λ x. IsSeen w x.var) w.rest m t.marks among));
+        apart = All-push (λ m. l.var ≢ m.var) w.rest k t.apart (λ same. both_ways (is_seen w.seen k.var) un (ap (is_seen w.seen) (sym same) ∙ t.target));
       };
       open_ = λ un nz ne. record {
         size = length-set w.seen k.var true ∙ t.size;
@@ -89,33 +90,33 @@ trace_touched s r w l k there reached t =
     })
   where
     on : is_seen w.seen k.var ≡ false → IsIn (has s.lits) (negate k)
-    on un = elim reached [ inl seen ↦ absurd (not_both (is_seen w.seen k.var) seen un) | inr h ↦ h ]
+    on un = elim reached [ inl seen ↦ absurd (both_ways (is_seen w.seen k.var) un seen) | inr h ↦ h ]
 
 -- all of a clause
-pub all_keeps : (s : Sight) (w : Cut) (ks : List Literal) (v : ℕ) → AreThere s.vars ks → length w.seen ≡ s.vars + 1 → IsSeen w v → IsSeen (all_touched s w ks) v
+pub all_keeps : (s : Sight) (w : Cut) (ks : List Literal) (v : ℕ) → AreThere s.vars ks → length w.seen ≡ s.vars + 1 → IsSeen w v → IsSeen (trace_with_all s w ks) v
 all_keeps s w [] v there size h = h
-all_keeps s w (k ∷ ks) v there size h = let t = there.0.1 in all_keeps s (touched s w k) ks v there.1 (touched_size s w k ∙ size) (touched_keeps s w k v (omega arith) h)
+all_keeps s w (k ∷ ks) v there size h = let t = there.0.1 in all_keeps s (trace_with s w k) ks v there.1 (touched_size s w k ∙ size) (touched_keeps s w k v (omega arith) h)
 
-pub all_rest : (s : Sight) (w : Cut) (ks : List Literal) (m : Literal) → Contains w.rest m → Contains (all_touched s w ks).rest m
+pub all_rest : (s : Sight) (w : Cut) (ks : List Literal) (m : Literal) → Contains w.rest m → Contains (trace_with_all s w ks).rest m
 all_rest s w [] m h = h
-all_rest s w (k ∷ ks) m h = all_rest s (touched s w k) ks m (touched_rest s w k m h)
+all_rest s w (k ∷ ks) m h = all_rest s (trace_with s w k) ks m (touched_rest s w k m h)
 
-pub all_covers : (s : Sight) (w : Cut) (ks : List Literal) → AreThere s.vars ks → length w.seen ≡ s.vars + 1 → All (IsCovered s (all_touched s w ks)) ks
+pub all_covers : (s : Sight) (w : Cut) (ks : List Literal) → AreThere s.vars ks → length w.seen ≡ s.vars + 1 → All (IsCovered s (trace_with_all s w ks)) ks
 all_covers s w [] there size = All-nil (IsCovered s w)
 all_covers s w (k ∷ ks) there size =
     let t = there.0.1 in
     let size2 = touched_size s w k ∙ size in
-    All-cons (IsCovered s (all_touched s (touched s w k) ks)) k ks
-    (elim (touched_covers s w k (omega arith)) [ inl z ↦ inl z | inr h ↦ inr (all_keeps s (touched s w k) ks k.var there.1 size2 h) ])
-    (all_covers s (touched s w k) ks there.1 size2)
+    All-cons (IsCovered s (trace_with_all s (trace_with s w k) ks)) k ks
+    (elim (touched_covers s w k (omega arith)) [ inl z ↦ inl z | inr h ↦ inr (all_keeps s (trace_with s w k) ks k.var there.1 size2 h) ])
+    (all_covers s (trace_with s w k) ks there.1 size2)
 
-pub trace_all : (s : Sight) → IsSound s → (w : Cut) (l : Literal) (ks : List Literal) → AreThere s.vars ks → All (λ k. IsSeen w k.var ⊎ IsIn (has s.lits) (negate k)) ks → IsTrace s w l → IsTrace s (all_touched s w ks) l
+pub trace_all : (s : Sight) → IsSound s → (w : Cut) (l : Literal) (ks : List Literal) → AreThere s.vars ks → All (λ k. IsSeen w k.var ⊎ IsIn (has s.lits) (negate k)) ks → IsTrace s w l → IsTrace s (trace_with_all s w ks) l
 trace_all s r w l [] there reached t = t
 trace_all s r w l (k ∷ ks) there reached t =
     let le = there.0.1 in
     let size = t.size in
-    trace_all s r (touched s w k) l ks there.1
-    (All-weaker (λ m. IsSeen w m.var ⊎ IsIn (has s.lits) (negate m)) (λ m. IsSeen (touched s w k) m.var ⊎ IsIn (has s.lits) (negate m)) (λ m h. elim h [ inl seen ↦ inl (touched_keeps s w k m.var (omega arith) seen) | inr f ↦ inr f ]) ks (All-tail (λ m. IsSeen w m.var ⊎ IsIn (has s.lits) (negate m)) k ks reached))
+    trace_all s r (trace_with s w k) l ks there.1
+    (All-weaker (λ m. IsSeen w m.var ⊎ IsIn (has s.lits) (negate m)) (λ m. IsSeen (trace_with s w k) m.var ⊎ IsIn (has s.lits) (negate m)) (λ m h. elim h [ inl seen ↦ inl (touched_keeps s w k m.var (omega arith) seen) | inr f ↦ inr f ]) ks (All-tail (λ m. IsSeen w m.var ⊎ IsIn (has s.lits) (negate m)) k ks reached))
     (trace_touched s r w l k there.0 (All-head (λ m. IsSeen w m.var ⊎ IsIn (has s.lits) (negate m)) k ks reached) t)
 
 -- what follows
@@ -150,7 +151,7 @@ rest_more first x old now f c = by_place c.0 c.1 c.2
   where
     by_place : (i : ℕ) → i < length (first ∷ old) → get_or (first ∷ old) i x ≡ x → Contains (first ∷ now) x
     by_place zero lt e = (0, omega arith, e)
-    by_place (suc i) lt e = contains_tail first x now (f x (i, omega arith, e))
+    by_place (suc i) lt e = contains_later first x now (f x (i, omega arith, e))
 
 -- one place of the walk
 trup_step : (s : Sight) (w new : Cut) (l : Literal) (i : ℕ) → i < length s.lits → ((v : ℕ) → IsSeen w v → IsSeen new v) → ((m : Literal) → Contains w.rest m → Contains new.rest m) → (IsSeen w (nth s i).var → Closure (known s) (tracing s new l i) (nth s i)) → Falsifies (known s) (tracing s w l (i + 1)) → Falsifies (known s) (tracing s new l i)
@@ -169,24 +170,24 @@ trup_step s w new l i lt keeps rest here f = falsifies_again (known s) (tracing 
       ]
 ]) f
 
-clause_reached : (s : Sight) (w : Cut) (i n : ℕ) → IsSeen w (nth s i).var → HasReason s i n → All (λ k. IsSeen w k.var ⊎ IsIn (has s.lits) (negate k)) (clause_at s n)
+clause_reached : (s : Sight) (w : Cut) (i n : ℕ) → IsSeen w (nth s i).var → IsReasonAt s i n → All (λ k. IsSeen w k.var ⊎ IsIn (has s.lits) (negate k)) (clause_in s n)
 clause_reached s w i n seen reason =
     let unit = reason.unit in
-    All-weaker (λ k. (k ≡ nth s i) ⊎ IsIn (has (take i s.lits)) (negate k)) (λ k. IsSeen w k.var ⊎ IsIn (has s.lits) (negate k)) (λ k h. elim h [ inl e ↦ inl (ap (λ (y : Literal). is_seen w.seen y.var) e ∙ seen) | inr f ↦ inr (front_in s i (negate k) f) ]) (clause_at s n) unit.others
+    All-weaker (λ k. (k ≡ nth s i) ⊎ IsIn (has (take i s.lits)) (negate k)) (λ k. IsSeen w k.var ⊎ IsIn (has s.lits) (negate k)) (λ k h. elim h [ inl e ↦ inl (ap (λ (y : Literal). is_seen w.seen y.var) e ∙ seen) | inr f ↦ inr (front_in s i (negate k) f) ]) (clause_in s n) unit.others
 
-reason_covers : (s : Sight) (w : Cut) (l : Literal) (i n : ℕ) → HasReason s i n → All (IsCovered s w) (clause_at s n) → All (λ k. (k ≡ nth s i) ⊎ Closure (known s) (tracing s w l i) (negate k)) (clause_at s n)
+reason_covers : (s : Sight) (w : Cut) (l : Literal) (i n : ℕ) → IsReasonAt s i n → All (IsCovered s w) (clause_in s n) → All (λ k. (k ≡ nth s i) ⊎ Closure (known s) (tracing s w l i) (negate k)) (clause_in s n)
 reason_covers s w l i n reason covered =
     let unit = reason.unit in
-    All-weaker (Contains (clause_at s n)) (λ k. (k ≡ nth s i) ⊎ Closure (known s) (tracing s w l i) (negate k)) (λ k inside.
-    elim (All-contains (λ m. (m ≡ nth s i) ⊎ IsIn (has (take i s.lits)) (negate m)) (clause_at s n) k unit.others inside) [
+    All-weaker (Contains (clause_in s n)) (λ k. (k ≡ nth s i) ⊎ Closure (known s) (tracing s w l i) (negate k)) (λ k inside.
+    elim (All-contains (λ m. (m ≡ nth s i) ⊎ IsIn (has (take i s.lits)) (negate m)) (clause_in s n) k unit.others inside) [
       | inl e ↦ inl e
-      | inr front ↦ inr (covered_traced s w l i k front (All-contains (IsCovered s w) (clause_at s n) k covered inside))
-    ]) (clause_at s n) (All-contains_itself (clause_at s n))
+      | inr front ↦ inr (covered_traced s w l i k front (All-contains (IsCovered s w) (clause_in s n) k covered inside))
+    ]) (clause_in s n) (All-contains_itself (clause_in s n))
 
 pub step_unseen : (s : Sight) (w : Cut) (l : Literal) (i : ℕ) → IsTracing s w l (i + 1) → is_seen w.seen (nth s i).var ≡ false → IsTracing s w l i
 step_unseen s w l i t un =
     let within = t.within in
-    record { trace = t.trace; within = omega arith; rup = trup_step s w w l i (omega arith) (λ v h. h) (λ m h. h) (λ seen. absurd (not_both (is_seen w.seen (nth s i).var) seen un)) t.rup }
+    record { trace = t.trace; within = omega arith; rup = trup_step s w w l i (omega arith) (λ v h. h) (λ m h. h) (λ seen. absurd (both_ways (is_seen w.seen (nth s i).var) un seen)) t.rup }
 
 pub step_decided : (s : Sight) (w : Cut) (l : Literal) (i : ℕ) → IsTracing s w l (i + 1) → reason_of s (nth s i) ≡ 0 → IsTracing s w l i
 step_decided s w l i t none =
@@ -196,21 +197,21 @@ step_decided s w l i t none =
       trace = t.trace;
       within = omega arith;
       rup = trup_step s w w l i (omega arith) (λ v h. h) (λ m h. h) (λ seen. closure_start (known s) (tracing s w l i) (nth s i) (in_negations s w l i (nth s i)
-          (contains_tail (negate l) (negate (nth s i)) w.rest (trace.all (nth s i) (has_from_contains s.lits (nth s i) (stands s i (omega arith))) seen none)))) t.rup;
+          (contains_later (negate l) (negate (nth s i)) w.rest (trace.all (nth s i) (has_from_contains s.lits (nth s i) (stands s i (omega arith))) seen none)))) t.rup;
     }
 
-pub step_resolved : (s : Sight) (w : Cut) (l : Literal) (i n : ℕ) → IsSound s → IsTracing s w l (i + 1) → IsSeen w (nth s i).var → HasReason s i n → IsTracing s (all_touched s w (clause_at s n)) l i
+pub step_resolved : (s : Sight) (w : Cut) (l : Literal) (i n : ℕ) → IsSound s → IsTracing s w l (i + 1) → IsSeen w (nth s i).var → IsReasonAt s i n → IsTracing s (trace_with_all s w (clause_in s n)) l i
 step_resolved s w l i n r t seen reason =
     let within = t.within in
     let trace = t.trace in
     let unit = reason.unit in
     let there = clause_there s n r reason.place in
     record {
-      trace = trace_all s r w l (clause_at s n) there (clause_reached s w i n seen reason) t.trace;
+      trace = trace_all s r w l (clause_in s n) there (clause_reached s w i n seen reason) t.trace;
       within = omega arith;
-      rup = trup_step s w (all_touched s w (clause_at s n)) l i (omega arith) (λ v h. all_keeps s w (clause_at s n) v there trace.size h) (all_rest s w (clause_at s n)) (λ _.
-          closure_unit (known s) (tracing s (all_touched s w (clause_at s n)) l i) (clause_at s n) (nth s i) (Contains-append_left (clauses_of s) (roots s s.lits) (clause_at s n) (text_among s n reason.place)) unit.among
-          (reason_covers s (all_touched s w (clause_at s n)) l i n reason (all_covers s w (clause_at s n) there trace.size))) t.rup;
+      rup = trup_step s w (trace_with_all s w (clause_in s n)) l i (omega arith) (λ v h. all_keeps s w (clause_in s n) v there trace.size h) (all_rest s w (clause_in s n)) (λ _.
+          closure_unit (known s) (tracing s (trace_with_all s w (clause_in s n)) l i) (clause_in s n) (nth s i) (Contains-append_left (clauses_in s) (roots s s.lits) (clause_in s n) (text_among s n reason.place)) unit.among
+          (reason_covers s (trace_with_all s w (clause_in s n)) l i n reason (all_covers s w (clause_in s n) there trace.size))) t.rup;
     }
 
 -- at first: the reason of the negation
@@ -222,34 +223,34 @@ trace_begin s w l size le blank none has_one = record {
   marks = subst (λ (ls : List Literal). All (λ k. IsSeen (with_open w l) k.var) ls) (sym none) (All-nil (λ k. IsSeen (with_open w l) k.var));
   all = λ k on seen dec. elim (seen_cases w.seen l.var k.var seen) [
     | inl same ↦ absurd (has_one (ap (λ v. get_or s.reasons v 0) (sym same) ∙ dec))
-    | inr old ↦ absurd (not_both (is_seen w.seen k.var) old (blank k.var))
+    | inr old ↦ absurd (both_ways (is_seen w.seen k.var) (blank k.var) old)
   ];
   distinct = subst AreDistinct (sym none) tt;
   apart = subst (λ (ls : List Literal). All (λ k. l.var ≢ k.var) ls) (sym none) (All-nil (λ k. l.var ≢ k.var));
 }
 
-pub tracing_begin : (s : Sight) (w : Cut) (l : Literal) (n : ℕ) → IsSound s → IsTrace s w l → IsIn (has s.lits) (negate l) → reason_of s l ≡ n → 1 ≤ n → IsTracing s (all_touched s w (clause_at s n)) l (length s.lits)
+pub tracing_begin : (s : Sight) (w : Cut) (l : Literal) (n : ℕ) → IsSound s → IsTrace s w l → IsIn (has s.lits) (negate l) → reason_of s l ≡ n → 1 ≤ n → IsTracing s (trace_with_all s w (clause_in s n)) l (length s.lits)
 tracing_begin s w l n r trace on e some =
     let p = placed_anywhere s (negate l) on in
-    let reason : HasReason s p.place n = r.reason p.place n p.within (ap (reason_of s) p.is ∙ e) some in
+    let reason : IsReasonAt s p.place n = r.reason p.place n p.within (ap (reason_of s) p.is ∙ e) some in
     let there = clause_there s n r reason.place in
     let unit = reason.unit in
-    let new = all_touched s w (clause_at s n) in
-    let covered = all_covers s w (clause_at s n) there trace.size in
+    let new = trace_with_all s w (clause_in s n) in
+    let covered = all_covers s w (clause_in s n) there trace.size in
     record {
-      trace = trace_all s r w l (clause_at s n) there (clause_reached s w p.place n (ap (λ (y : Literal). is_seen w.seen y.var) p.is ∙ trace.target) reason) trace;
+      trace = trace_all s r w l (clause_in s n) there (clause_reached s w p.place n (ap (λ (y : Literal). is_seen w.seen y.var) p.is ∙ trace.target) reason) trace;
       within = omega arith;
       rup = record {
-        clause = clause_at s n;
-        among = Contains-append_left (clauses_of s) (roots s s.lits) (clause_at s n) (text_among s n reason.place);
-        each = All-weaker (Contains (clause_at s n)) (λ k. Closure (known s) (tracing s (all_touched s w (clause_at s n)) l (length s.lits)) (negate k)) (λ k inside.
-            elim (All-contains (λ m. (m ≡ nth s p.place) ⊎ IsIn (has (take p.place s.lits)) (negate m)) (clause_at s n) k unit.others inside) [
+        clause = clause_in s n;
+        among = Contains-append_left (clauses_in s) (roots s s.lits) (clause_in s n) (text_among s n reason.place);
+        each = All-weaker (Contains (clause_in s n)) (λ k. Closure (known s) (tracing s (trace_with_all s w (clause_in s n)) l (length s.lits)) (negate k)) (λ k inside.
+            elim (All-contains (λ m. (m ≡ nth s p.place) ⊎ IsIn (has (take p.place s.lits)) (negate m)) (clause_in s n) k unit.others inside) [
               | inl same ↦
                   let is : negate l ≡ k = sym (same ∙ p.is) in
-                  closure_start (known s) (tracing s (all_touched s w (clause_at s n)) l (length s.lits)) (negate k) (in_negations s (all_touched s w (clause_at s n)) l (length s.lits) (negate k)
-                  (subst (λ (m : Literal). Contains (negate l ∷ (all_touched s w (clause_at s n)).rest) m) (is ∙ sym (negate-negate k)) (contains_head (negate l) (all_touched s w (clause_at s n)).rest)))
-              | inr front ↦ covered_traced s (all_touched s w (clause_at s n)) l (length s.lits) k (ap (λ (ls : List Literal). has ls (negate k)) (take_all (length s.lits) s.lits (omega arith)) ∙ front_in s p.place (negate k) front) (All-contains (IsCovered s (all_touched s w (clause_at s n))) (clause_at s n) k covered inside)
-            ]) (clause_at s n) (All-contains_itself (clause_at s n));
+                  closure_start (known s) (tracing s (trace_with_all s w (clause_in s n)) l (length s.lits)) (negate k) (in_negations s (trace_with_all s w (clause_in s n)) l (length s.lits) (negate k)
+                  (subst (λ (m : Literal). Contains (negate l ∷ (trace_with_all s w (clause_in s n)).rest) m) (is ∙ sym (negate-negate k)) (contains_first (negate l) (trace_with_all s w (clause_in s n)).rest)))
+              | inr front ↦ covered_traced s (trace_with_all s w (clause_in s n)) l (length s.lits) k (ap (λ (ls : List Literal). has ls (negate k)) (take_all (length s.lits) s.lits (omega arith)) ∙ front_in s p.place (negate k) front) (All-contains (IsCovered s (trace_with_all s w (clause_in s n))) (clause_in s n) k covered inside)
+            ]) (clause_in s n) (All-contains_itself (clause_in s n));
       };
     }
 
@@ -274,15 +275,15 @@ traced_root s l rest on z none = subst (λ (ls : List Literal). IsTraced s (nega
   rup = root_rup s (negate l) on z;
 })
 
-pub touched_step : (s : Sight) (w : Cut) (c : List Literal) (i : ℕ) (k : Literal) → i < length c → get_or c i k ≡ k → all_touched s (touched s w k) (drop (i + 1) c) ≡ all_touched s w (drop i c)
+pub touched_step : (s : Sight) (w : Cut) (c : List Literal) (i : ℕ) (k : Literal) → i < length c → get_or c i k ≡ k → trace_with_all s (trace_with s w k) (drop (i + 1) c) ≡ trace_with_all s w (drop i c)
 touched_step s w c i k lt e =
     let at : drop i c ≡ k ∷ drop (i + 1) c = drop_more c i k lt ∙ ap (λ (m : Literal). m ∷ drop (i + 1) c) (e) in
-    sym (ap (all_touched s w) at)
+    sym (ap (trace_with_all s w) at)
 
 pub place_from_reason : (s : Sight) (l : Literal) (v n : ℕ) → IsSound s → IsIn (has s.lits) (negate l) → v ≡ l.var → get_or s.reasons v 0 ≡ n → 1 ≤ get_or s.reasons v 0 → Contains s.places n
 place_from_reason s l v n r on var e some =
     let p = placed_anywhere s (negate l) on in
-    let h : HasReason s p.place n = r.reason p.place n p.within (ap (reason_of s) p.is ∙ ap (λ x. get_or s.reasons x 0) (sym var) ∙ e) (subst (λ m. 1 ≤ m) e some) in
+    let h : IsReasonAt s p.place n = r.reason p.place n p.within (ap (reason_of s) p.is ∙ ap (λ x. get_or s.reasons x 0) (sym var) ∙ e) (subst (λ m. 1 ≤ m) e some) in
     h.place
 
 -- every literal of the trail follows from those that were decided
@@ -296,25 +297,25 @@ trail_follows s r c all (suc n) i lt within =
         | inl none ↦ closure_start (known s) (negations c) (nth s i) (has_from_contains c (negate (nth s i)) (all (nth s i) on none (above_zero (level_of s (nth s i)) nz)))
         | inr some ↦
             let above = above_zero (reason_of s (nth s i)) some in
-            let h : HasReason s i (reason_of s (nth s i)) = r.reason i (reason_of s (nth s i)) within refl above in
+            let h : IsReasonAt s i (reason_of s (nth s i)) = r.reason i (reason_of s (nth s i)) within refl above in
             let unit = h.unit in
-            closure_unit (known s) (negations c) (clause_at s (reason_of s (nth s i))) (nth s i) (Contains-append_left (clauses_of s) (roots s s.lits) (clause_at s (reason_of s (nth s i))) (text_among s (reason_of s (nth s i)) h.place)) unit.among
+            closure_unit (known s) (negations c) (clause_in s (reason_of s (nth s i))) (nth s i) (Contains-append_left (clauses_in s) (roots s s.lits) (clause_in s (reason_of s (nth s i))) (text_among s (reason_of s (nth s i)) h.place)) unit.among
             (All-weaker (λ k. (k ≡ nth s i) ⊎ IsIn (has (take i s.lits)) (negate k)) (λ k. (k ≡ nth s i) ⊎ Closure (known s) (negations c) (negate k)) (λ k o. elim o [
               | inl e ↦ inl e
               | inr front ↦
                   let p = placed s i (negate k) (omega arith) front in
                   let before = p.below in
                   inr (subst (λ (x : Literal). Closure (known s) (negations c) x) p.is (trail_follows s r c all n p.place (omega arith) p.within))
-            ]) (clause_at s (reason_of s (nth s i))) unit.others)
+            ]) (clause_in s (reason_of s (nth s i))) unit.others)
       ]
     ]
 
 -- a clause is falsified: the negations of the decided literals are a clause that follows
-pub decisions_rup : (s : Sight) → IsSound s → (c : List Literal) → HasDecisions s c → (n : ℕ) → Contains s.places n → All (λ k. IsIn (has s.lits) (negate k)) (clause_at s n) → Rup (known s) c
+pub decisions_rup : (s : Sight) → IsSound s → (c : List Literal) → HasDecisions s c → (n : ℕ) → Contains s.places n → All (λ k. IsIn (has s.lits) (negate k)) (clause_in s n) → Rup (known s) c
 decisions_rup s r c all n lt clash = record {
-  clause = clause_at s n;
-  among = Contains-append_left (clauses_of s) (roots s s.lits) (clause_at s n) (text_among s n lt);
+  clause = clause_in s n;
+  among = Contains-append_left (clauses_in s) (roots s s.lits) (clause_in s n) (text_among s n lt);
   each = All-weaker (λ k. IsIn (has s.lits) (negate k)) (λ k. Closure (known s) (negations c) (negate k)) (λ k on.
       let p = placed_anywhere s (negate k) on in
-      subst (λ (x : Literal). Closure (known s) (negations c) x) p.is (trail_follows s r c all (p.place + 1) p.place (omega arith) p.within)) (clause_at s n) clash;
+      subst (λ (x : Literal). Closure (known s) (negations c) x) p.is (trail_follows s r c all (p.place + 1) p.place (omega arith) p.within)) (clause_in s n) clash;
 }

@@ -4,13 +4,13 @@ use Rattle.std.specs.Prelude.{All, Contains}
 use Rattle.cnf_core.specs.declared.limits.TheConstants.{VARS}
 use Rattle.watch_arena.proofs.TrailLemmas.{get_padded}
 use Rattle.std.specs.List.{sum_by}
-use Rattle.std.proofs.lemmas.Bool.{cases_eq, cases_lt, cases_Bool}
+use Rattle.std.proofs.lemmas.Bool.{both_ways, cases_eq, cases_lt, cases_Bool}
 use Rattle.std.proofs.lemmas.List.{get_or_default, take_more_set, take-append-le, length-replicate, get_or-set_same, get_or-set_other, get_or-take}
 use Rattle.std.proofs.lemmas.List.Sums.{sum_by-set, sum_by-le, sum_by-cons, sum_by-append}
 use Rattle.std.proofs.lemmas.List.Folds.{sum_by-replicate}
 use Rattle.cnf_core.specs.Lit.{Literal}
-use Rattle.cdcl_learn.specs.Cut.{Cut, cut_of, is_seen, weight, IsWork, with_open, with_lower}
-use Rattle.cdcl_learn.proofs.LiteralLemmas.{not_both}
+use Rattle.cnf_core.specs.Trail.{weight}
+use Rattle.cdcl_learn.specs.Cut.{Cut, cut_of, is_seen, IsWork, with_open, with_lower}
 use Rattle.cdcl_learn.proofs.CountLemmas.{seen_cases, seen_keeps, seen_same}
 
 weight_small : (b : Bool) → weight b ≤ 1
@@ -63,7 +63,7 @@ work_more vars seen touched count rest len pending v now more some w le un size 
             | inr last ↦
                 let is : j ≡ count = omega arith in
                 let v_is : get_or (set touched count v) j 0 ≡ v = ap (λ n. get_or (set touched count v) n 0) is ∙ get_or-set_same touched count v 0 (omega arith) in
-                not_both (is_seen seen (get_or touched i 0)) (w.marked i (omega arith)) (ap (is_seen seen) (sym here ∙ e ∙ v_is) ∙ un)
+                both_ways (is_seen seen (get_or touched i 0)) (ap (is_seen seen) (sym here ∙ e ∙ v_is) ∙ un) (w.marked i (omega arith))
           ];
       short = short;
       few = few;
@@ -88,7 +88,7 @@ Marked seen touched i count = (v : ℕ) → is_seen seen v ≡ true → (j : ℕ
 
 pub unmark_step : (seen : List Bool) (touched : List ℕ) (i count t : ℕ) → t ≡ get_or touched i 0 → t < length seen → Marked seen touched i count → Marked (set seen t false) touched (i + 1) count
 unmark_step seen touched i count t is lt m v h = elim (cases_eq v t) [
-  | inl e ↦ absurd (not_both (is_seen (set seen t false) v) h (ap (is_seen (set seen t false)) e ∙ get_or-set_same seen t false false lt))
+  | inl e ↦ absurd (both_ways (is_seen (set seen t false) v) (ap (is_seen (set seen t false)) e ∙ get_or-set_same seen t false false lt) h)
   | inr ne ↦
       let old = m v (sym (get_or-set_other seen t v false false ne) ∙ h) in
       let from = old.1 in
@@ -118,7 +118,7 @@ work_clear vars seen now touched count rest len pending w size blank = record {
   touched_size = w.touched_size;
   rest_size = w.rest_size;
   marks = sym (marks_none now blank);
-  all = λ v h. absurd (not_both (is_seen now v) h (blank v));
+  all = λ v h. absurd (both_ways (is_seen now v) (blank v) h);
   within = λ i lt. absurd (omega arith);
   marked = λ i lt. absurd (omega arith);
   apart = λ i j lt within. absurd (omega arith);
@@ -216,7 +216,7 @@ work_new vars x limit = record {
   touched_size = length-replicate {A = ℕ} (vars + 1) 0;
   rest_size = length-replicate {A = Literal} (vars + 1) x;
   marks = let none : sum_by weight (replicate (vars + 1) false) ≡ (vars + 1) * 0 = sum_by-replicate weight (vars + 1) false in omega arith;
-  all = λ v h. absurd (not_both (is_seen (replicate (vars + 1) false) v) h (get_padded [] (vars + 1) false v));
+  all = λ v h. absurd (both_ways (is_seen (replicate (vars + 1) false) v) (get_padded [] (vars + 1) false v) h);
   within = λ i lt. absurd (omega arith);
   marked = λ i lt. absurd (omega arith);
   apart = λ i j lt within. absurd (omega arith);

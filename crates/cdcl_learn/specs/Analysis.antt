@@ -5,7 +5,7 @@ use Rattle.cnf_core.specs.Lit.{Literal, negate, has}
 use Rattle.cnf_core.specs.Propagation.{IsIn}
 use Rattle.watch_arena.specs.Trail.{Marks}
 use Rattle.watch_arena.specs.Arena.{Attached}
-use Rattle.cdcl_learn.specs.Sight.{sight, level_of, reason_of, clauses_of}
+use Rattle.cdcl_learn.specs.Sight.{sight, level_of, reason_of, clauses_in}
 use Rattle.cdcl_learn.specs.Cut.{Cut, IsNamed}
 
 -- the number of variables, the clause that the latest call left, the level to jump back to with it,
@@ -35,10 +35,10 @@ pub record AreVars (vars : ℕ) (seen : List ℕ) : Type 0 where
 
 -- the seen variables stand in clauses of the arena; those of the clause are among them
 pub record AreSeen (a : Attached) (m : Marks) (clause : List Literal) (seen : List ℕ) : Type 0 where
-  pub named : All (IsNamed (clauses_of (sight a m))) seen
+  pub named : All (IsNamed (clauses_in (sight a m))) seen
   pub all : All (λ k. Contains seen k.var) clause
 
 -- false, and not decided
-pub record IsImplied (a : Attached) (m : Marks) (l : Literal) : Type 0 where
+pub record IsImpliedFalse (a : Attached) (m : Marks) (l : Literal) : Type 0 where
   pub falsified : IsIn (has m.lits) (negate l)
   pub undecided : (level_of (sight a m) l ≡ 0) ⊎ (1 ≤ reason_of (sight a m) l)

@@ -4,8 +4,9 @@ use Rattle.std.specs.List.{sum_by}
 use Rattle.cnf_core.specs.Lit.{Literal, negate, has}
 use Rattle.cnf_core.specs.Clause.{Clauses, AreDistinct}
 use Rattle.cnf_core.specs.Propagation.{LiteralSet, IsIn, Falsifies, Rup}
+use Rattle.cnf_core.specs.Trail.{weight}
 use Rattle.cnf_core.specs.declared.limits.TheConstants.{VARS}
-use Rattle.cdcl_learn.specs.Sight.{Sight, nth, level_of, clause_at, clauses_of, known}
+use Rattle.cdcl_learn.specs.Sight.{Sight, nth, level_of, clause_in, clauses_in, known}
 
 -- which variables are seen, and these in order; the literals of lower levels so far, and how many
 -- literals of the present level are to be resolved
@@ -30,23 +31,23 @@ abbrev pub with_lower : Cut → Literal → Cut
 with_lower w k = record { vars = w.vars; seen = slice_set w.seen k.var true; met = w.met ++ k.var ∷ []; rest = w.rest ++ k ∷ []; pending = w.pending }
 
 -- one literal of the present level is resolved
-abbrev pub closed : Cut → Cut
-closed w = record { vars = w.vars; seen = w.seen; met = w.met; rest = w.rest; pending = w.pending - 1 }
+abbrev pub with_resolved : Cut → Cut
+with_resolved w = record { vars = w.vars; seen = w.seen; met = w.met; rest = w.rest; pending = w.pending - 1 }
 
 -- no variable is seen
 abbrev pub IsBlank : Cut → Type 0
 IsBlank w = (v : ℕ) → is_seen w.seen v ≡ false
 
 -- the cut with one more false literal
-abbrev pub added : Sight → Cut → Literal → Cut
-added s w k = cond (is_seen w.seen k.var) w
+abbrev pub cut_with : Sight → Cut → Literal → Cut
+cut_with s w k = cond (is_seen w.seen k.var) w
     (cond (nat_eq (level_of s k) 0) w
     (cond (nat_eq (level_of s k) s.level) (with_open w k) (with_lower w k)))
 
 -- and with all literals of a clause
-abbrev pub gathered : Sight → Cut → List Literal → Cut
-gathered s w [] = w
-gathered s w (k ∷ ks) = gathered s (added s w k) ks
+abbrev pub cut_with_all : Sight → Cut → List Literal → Cut
+cut_with_all s w [] = w
+cut_with_all s w (k ∷ ks) = cut_with_all s (cut_with s w k) ks
 
 -- 1 where the literal at this place is seen and of the present level
 abbrev pub weight_at : Sight → List Bool → ℕ → ℕ
@@ -79,7 +80,7 @@ pub record IsCut (s : Sight) (w : Cut) (end : ℕ) : Type 0 where
   pub all : (l : Literal) → IsIn (has s.lits) l → IsSeen w l.var → level_of s l < s.level → Contains w.rest (negate l)
   pub distinct : AreDistinct w.rest
   pub count : w.pending ≡ open_below s w.seen end
-  pub named : (v : ℕ) → IsSeen w v → IsNamed (clauses_of s) v
+  pub named : (v : ℕ) → IsSeen w v → IsNamed (clauses_in s) v
 
 -- those literals before a place whose variables are seen
 abbrev pub working : Sight → Cut → ℕ → LiteralSet
@@ -117,7 +118,7 @@ pub record IsLearnt (s : Sight) (first : Literal) (rest : List Literal) : Type 0
   pub present : level_of s first ≡ s.level
   pub lower : All (λ k. level_of s k < s.level) rest
   pub distinct : AreDistinct (first ∷ rest)
-  pub named : All (λ k. IsNamed (clauses_of s) k.var) (first ∷ rest)
+  pub named : All (λ k. IsNamed (clauses_in s) k.var) (first ∷ rest)
   pub rup : Rup (known s) (first ∷ rest)
 
 -- the latest level among the literals, which the first of them has; 0 where there is none
@@ -127,26 +128,23 @@ pub record IsBack (s : Sight) (rest : List Literal) (back : ℕ) : Type 0 where
   pub latest : All (λ k. level_of s k ≤ back) rest
 
 -- the working clause before this place; some of its literals are of the present level
-pub record IsReady (s : Sight) (w : Cut) (end : ℕ) : Type 0 where
+pub record IsResolving (s : Sight) (w : Cut) (end : ℕ) : Type 0 where
   pub cut : IsCut s w end
   pub within : end ≤ length s.lits
   pub some : 1 ≤ w.pending
   pub rup : Falsifies (known s) (working s w end)
 
 -- a clause all of whose literals are false, one of them at the present level
-pub record IsClash (s : Sight) (p : ℕ) : Type 0 where
+pub record IsConflict (s : Sight) (p : ℕ) : Type 0 where
   pub place : Contains s.places p
-  pub falsified : All (λ k. IsIn (has s.lits) (negate k)) (clause_at s p)
+  pub falsified : All (λ k. IsIn (has s.lits) (negate k)) (clause_in s p)
   pub lit : Literal
-  pub among : Contains (clause_at s p) lit
+  pub among : Contains (clause_in s p) lit
   pub present : level_of s lit ≡ s.level
   pub above : 0 < s.level
 
 abbrev pub cut_of : ℕ → List Bool → List ℕ → ℕ → List Literal → ℕ → ℕ → Cut
 cut_of vars seen touched count rest len pending = record { vars = vars; seen = seen; met = take count touched; rest = take len rest; pending = pending }
-
-abbrev pub weight : Bool → ℕ
-weight b = cond b 1 0
 
 -- each seen variable stands once among those that were touched
 pub record IsWork (vars : ℕ) (seen : List Bool) (touched : List ℕ) (count : ℕ) (rest : List Literal) (len pending : ℕ) : Type 0 where

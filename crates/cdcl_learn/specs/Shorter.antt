@@ -3,7 +3,7 @@ use Rattle.std.specs.Prelude.{◌≡◌, ◌≤◌, ◌<◌, ◌⊎◌, ℕ, Boo
 use Rattle.cnf_core.specs.Lit.{Literal, negate, has}
 use Rattle.cnf_core.specs.Clause.{AreDistinct}
 use Rattle.cnf_core.specs.Propagation.{IsIn}
-use Rattle.cdcl_learn.specs.Sight.{Sight, level_of, reason_of, clause_at}
+use Rattle.cdcl_learn.specs.Sight.{Sight, level_of, reason_of, clause_in}
 use Rattle.cdcl_learn.specs.Cut.{is_seen}
 
 -- the variable has a reason each of whose other literals is seen or of level 0
@@ -11,7 +11,7 @@ pub record IsRedundant (s : Sight) (seen : List Bool) (k : Literal) : Type 0 whe
   pub place : ℕ
   pub from : 1 ≤ place
   pub reason : reason_of s k ≡ place
-  pub others : All (λ m. (m.var ≡ k.var) ⊎ ((is_seen seen m.var ≡ true) ⊎ (level_of s m ≡ 0))) (clause_at s place)
+  pub others : All (λ m. (m.var ≡ k.var) ⊎ ((is_seen seen m.var ≡ true) ⊎ (level_of s m ≡ 0))) (clause_in s place)
 
 -- some literals that aren't needed were dropped
 pub record IsShortened (s : Sight) (seen : List Bool) (old new : List Literal) : Type 0 where

@@ -5,7 +5,7 @@ use Rattle.cnf_core.specs.Lit.{Literal, literal, has}
 use Rattle.cnf_core.specs.Clause.{Clauses, AreDistinct, AreThere}
 use Rattle.cnf_core.specs.Propagation.{IsUnit}
 use Rattle.watch_arena.specs.Trail.{Marks}
-use Rattle.watch_arena.specs.Arena.{Attached, clause_at as attached_at}
+use Rattle.watch_arena.specs.Arena.{Attached, attached_at}
 
 -- a reason is the place of a clause, or 0
 pub record Sight : Type 0 where
@@ -32,27 +32,27 @@ abbrev pub reason_of : Sight → Literal → ℕ
 reason_of s l = slice_index s.reasons l.var
 
 -- the clause at a place of the arena, and all clauses
-abbrev pub clause_at : Sight → ℕ → List Literal
-clause_at s p = s.text p
+abbrev pub clause_in : Sight → ℕ → List Literal
+clause_in s p = s.text p
 
-abbrev pub clauses_of : Sight → Clauses
-clauses_of s = map s.text s.places
+abbrev pub clauses_in : Sight → Clauses
+clauses_in s = map s.text s.places
 
 -- the clause at place p of the arena made the literal at place i of the trail true, by literals in
 -- front of it
-pub record HasReason (s : Sight) (i p : ℕ) : Type 0 where
+pub record IsReasonAt (s : Sight) (i p : ℕ) : Type 0 where
   pub place : Contains s.places p
-  pub unit : IsUnit (has (take i s.lits)) (clause_at s p) (nth s i)
+  pub unit : IsUnit (has (take i s.lits)) (clause_in s p) (nth s i)
 
 -- levels never fall; each level above 0 begins with its one decided literal, and every other literal
 -- of it has a reason
 pub record IsSound (s : Sight) : Type 0 where
   pub distinct : AreDistinct s.lits
   pub there : AreThere s.vars s.lits
-  pub clauses : (p : ℕ) → Contains s.places p → AreThere s.vars (clause_at s p)
+  pub clauses : (p : ℕ) → Contains s.places p → AreThere s.vars (clause_in s p)
   pub present : (i : ℕ) → i < length s.lits → level_of s (nth s i) ≤ s.level
   pub rise : (i j : ℕ) → i < j → j < length s.lits → level_of s (nth s i) ≤ level_of s (nth s j)
-  pub reason : (i p : ℕ) → i < length s.lits → reason_of s (nth s i) ≡ p → 1 ≤ p → HasReason s i p
+  pub reason : (i p : ℕ) → i < length s.lits → reason_of s (nth s i) ≡ p → 1 ≤ p → IsReasonAt s i p
   pub decided : (i j : ℕ) → i < j → j < length s.lits → level_of s (nth s i) ≡ level_of s (nth s j) → 0 < level_of s (nth s j) → 1 ≤ reason_of s (nth s j)
 
 -- the literals of level 0, each as a clause
@@ -62,4 +62,4 @@ roots s (l ∷ ls) = cond (nat_eq (level_of s l) 0) ((l ∷ []) ∷ roots s ls) 
 
 -- the clauses, and each literal of level 0 as one
 abbrev pub known : Sight → Clauses
-known s = clauses_of s ++ roots s s.lits
+known s = clauses_in s ++ roots s s.lits

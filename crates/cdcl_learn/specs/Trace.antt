@@ -7,14 +7,14 @@ use Rattle.cdcl_learn.specs.Sight.{Sight, level_of, reason_of, known}
 use Rattle.cdcl_learn.specs.Cut.{Cut, is_seen, IsSeen, with_open, with_lower, working}
 
 -- the cut with one more false literal: one that was decided is kept, another one is to be resolved
-abbrev pub touched : Sight → Cut → Literal → Cut
-touched s w k = cond (is_seen w.seen k.var) w
+abbrev pub trace_with : Sight → Cut → Literal → Cut
+trace_with s w k = cond (is_seen w.seen k.var) w
     (cond (nat_eq (level_of s k) 0) w
     (cond (nat_eq (reason_of s k) 0) (with_lower w k) (with_open w k)))
 
-abbrev pub all_touched : Sight → Cut → List Literal → Cut
-all_touched s w [] = w
-all_touched s w (k ∷ ks) = all_touched s (touched s w k) ks
+abbrev pub trace_with_all : Sight → Cut → List Literal → Cut
+trace_with_all s w [] = w
+trace_with_all s w (k ∷ ks) = trace_with_all s (trace_with s w k) ks
 
 -- the negation of a literal that was decided at a level above 0
 pub record IsDecision (s : Sight) (k : Literal) : Type 0 where

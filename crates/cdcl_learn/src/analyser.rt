@@ -3,9 +3,9 @@ ghost use Rattle.std.specs.Prelude.{◌≡◌, ◌≢◌, ◌≤◌, ◌<◌, �
 ghost use Rattle.cnf_core.specs.Clause.{IsThere};
 ghost use Rattle.watch_arena.specs.Arena.{AreReasoned};
 ghost use Rattle.cdcl_learn.specs.Sight.{sight};
-ghost use Rattle.cdcl_learn.specs.Cut.{is_seen, IsClash, IsLearntOf};
+ghost use Rattle.cdcl_learn.specs.Cut.{is_seen, IsConflict, IsLearntOf};
 ghost use Rattle.cdcl_learn.specs.Trace.{IsTracedOf};
-ghost use Rattle.cdcl_learn.specs.Analysis.{AreVars, AreSeen, IsImplied};
+ghost use Rattle.cdcl_learn.specs.Analysis.{AreVars, AreSeen, IsImpliedFalse};
 
 use crate::conflict::learn;
 use crate::tracing::trace_back;
@@ -92,7 +92,7 @@ impl Analyser {
         requires reasoned { AreReasoned arena.now trail.now }
         requires vars { self.old.vars ≡ trail.now.vars }
         requires arena { arena.now.vars ≡ trail.now.vars }
-        requires clash { IsClash (sight arena.now trail.now) clash.0 }
+        requires clash { IsConflict (sight arena.now trail.now) clash.0 }
         ensures vars { self.new.vars ≡ self.old.vars }
         ensures learnt { IsLearntOf (sight arena.now trail.now) self.new.clause self.new.back }
         ensures seen { AreSeen arena.now trail.now self.new.clause self.new.seen }
@@ -114,7 +114,7 @@ impl Analyser {
         requires vars { self.old.vars ≡ trail.now.vars }
         requires arena { arena.now.vars ≡ trail.now.vars }
         requires there { IsThere trail.now.vars l }
-        requires implied { IsImplied arena.now trail.now l }
+        requires implied { IsImpliedFalse arena.now trail.now l }
         ensures vars { self.new.vars ≡ self.old.vars }
         ensures traced { IsTracedOf (sight arena.now trail.now) l self.new.clause }
         ensures back { self.new.back ≡ 0 }

@@ -2,8 +2,8 @@
 ghost use Rattle.std.specs.Prelude.{◌≡◌, ◌≤◌, ◌<◌, ◌+◌, ℕ, ◌∷◌, All, Contains, length, slice_index_or, true};
 ghost use Rattle.cnf_core.specs.Clause.{AreThere, IsThere};
 ghost use Rattle.cnf_core.specs.Lit.{literal};
-ghost use Rattle.cdcl_learn.specs.Sight.{sight, clauses_of, clause_at, IsSound};
-ghost use Rattle.cdcl_learn.specs.Cut.{added, gathered, IsSeen, IsNamed, IsReady, IsStage, IsClash, IsLearnt, IsBack};
+ghost use Rattle.cdcl_learn.specs.Sight.{sight, clauses_in, clause_in, IsSound};
+ghost use Rattle.cdcl_learn.specs.Cut.{cut_with, cut_with_all, IsSeen, IsNamed, IsResolving, IsStage, IsConflict, IsLearnt, IsBack};
 ghost use Rattle.cdcl_learn.specs.Shorter.{AreMarked};
 
 use crate::work::Work;
@@ -23,7 +23,7 @@ pub fn var_at(trail: &Trail, i: u32) -> Var
 fn add(work: &mut Work, arena: &Arena, trail: &Trail, k: Lit)
     requires there { IsThere trail.now.vars k }
     requires vars { work.old.vars ≡ trail.now.vars }
-    ensures { work.new ≡ added (sight arena.now trail.now) work.old k }
+    ensures { work.new ≡ cut_with (sight arena.now trail.now) work.old k }
 {
     let v = k.var();
     if work.is_seen(v) {
@@ -43,9 +43,9 @@ fn add(work: &mut Work, arena: &Arena, trail: &Trail, k: Lit)
 /// Adds all literals of a clause.
 fn add_all(work: &mut Work, arena: &Arena, trail: &Trail, c: ClauseRef)
     requires clause { Contains arena.now.places c.0 }
-    requires there { AreThere trail.now.vars (clause_at (sight arena.now trail.now) c.0) }
+    requires there { AreThere trail.now.vars (clause_in (sight arena.now trail.now) c.0) }
     requires vars { work.old.vars ≡ trail.now.vars }
-    ensures value { work.new ≡ gathered (sight arena.now trail.now) work.old (clause_at (sight arena.now trail.now) c.0) }
+    ensures value { work.new ≡ cut_with_all (sight arena.now trail.now) work.old (clause_in (sight arena.now trail.now) c.0) }
     ensures vars { work.new.vars ≡ work.old.vars }
 {
     for i in 0..arena.len_of(c) {
@@ -57,7 +57,7 @@ fn add_all(work: &mut Work, arena: &Arena, trail: &Trail, c: ClauseRef)
 fn last_seen(work: &Work, arena: &Arena, trail: &Trail, end: u32) -> u32
     requires sound { IsSound (sight arena.now trail.now) }
     requires vars { work.now.vars ≡ trail.now.vars }
-    requires ready { IsReady (sight arena.now trail.now) work.now end }
+    requires ready { IsResolving (sight arena.now trail.now) work.now end }
     ensures below { result < end }
     ensures stage { IsStage (sight arena.now trail.now) work.now result }
 {
@@ -73,12 +73,12 @@ fn last_seen(work: &Work, arena: &Arena, trail: &Trail, end: u32) -> u32
 fn resolve(work: &mut Work, arena: &Arena, trail: &Trail, clash: ClauseRef) -> Lit
     requires sound { IsSound (sight arena.now trail.now) }
     requires vars { work.old.vars ≡ trail.now.vars }
-    requires clash { IsClash (sight arena.now trail.now) clash.0 }
+    requires clash { IsConflict (sight arena.now trail.now) clash.0 }
     ensures vars { work.new.vars ≡ work.old.vars }
     ensures learnt { IsLearnt (sight arena.now trail.now) result work.new.rest }
     ensures marks { AreMarked (sight arena.now trail.now) work.new.seen work.new.rest }
     ensures seen { All (λ k. IsSeen work.new k.var) (result ∷ work.new.rest) }
-    ensures named { (v : ℕ) → IsSeen work.new v → IsNamed (clauses_of (sight arena.now trail.now)) v }
+    ensures named { (v : ℕ) → IsSeen work.new v → IsNamed (clauses_in (sight arena.now trail.now)) v }
 {
     work.clear();
     add_all(work, arena, trail, clash);
@@ -108,12 +108,12 @@ pub struct Learnt {
 pub fn learn(work: &mut Work, arena: &Arena, trail: &Trail, clash: ClauseRef) -> Learnt
     requires sound { IsSound (sight arena.now trail.now) }
     requires vars { work.old.vars ≡ trail.now.vars }
-    requires clash { IsClash (sight arena.now trail.now) clash.0 }
+    requires clash { IsConflict (sight arena.now trail.now) clash.0 }
     ensures vars { work.new.vars ≡ work.old.vars }
     ensures learnt { IsLearnt (sight arena.now trail.now) result.first work.new.rest }
     ensures back { IsBack (sight arena.now trail.now) work.new.rest result.back }
     ensures seen { All (λ k. IsSeen work.new k.var) (result.first ∷ work.new.rest) }
-    ensures named { (v : ℕ) → IsSeen work.new v → IsNamed (clauses_of (sight arena.now trail.now)) v }
+    ensures named { (v : ℕ) → IsSeen work.new v → IsNamed (clauses_in (sight arena.now trail.now)) v }
 {
     let first = resolve(work, arena, trail, clash);
     work.shorten(arena, trail);

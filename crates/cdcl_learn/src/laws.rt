@@ -5,7 +5,7 @@ ghost use Rattle.cnf_core.specs.Clause.{Clauses, AreDistinct};
 ghost use Rattle.cnf_core.specs.Propagation.{LiteralSet, Includes, Falsifies, IsNew, greatest_var};
 ghost use Rattle.cdcl_learn.specs.Sight.{Sight};
 ghost use Rattle.cdcl_learn.specs.Cut.{IsLearnt, IsBack};
-ghost use Rattle.cdcl_learn.specs.Levels.{upto, IsQuiet, HasClosedLevels, SameUpto};
+ghost use Rattle.cdcl_learn.specs.Levels.{upto, IsStable, HasClosedLevels, SameUpto};
 
 /// Where the levels below the present one are closed, the learnt clause is new, and what starts within
 /// one of them falsifies nothing.
@@ -20,7 +20,7 @@ pub fn learnt_clauses_are_new()
 /// is opened once all is propagated, and where the learnt clause is kept after the jump back.
 pub fn closed_levels_stay()
     ensures same { (s t : Sight) (clauses : Clauses) → t.level ≤ s.level → SameUpto s t t.level → HasClosedLevels s clauses → HasClosedLevels t clauses }
-    ensures opened { (s t : Sight) (clauses : Clauses) → t.level ≡ s.level + 1 → SameUpto s t t.level → IsQuiet clauses (upto s s.level) →
+    ensures opened { (s t : Sight) (clauses : Clauses) → t.level ≡ s.level + 1 → SameUpto s t t.level → IsStable clauses (upto s s.level) →
         HasClosedLevels s clauses → HasClosedLevels t clauses }
     ensures learnt { (s t : Sight) (clauses : Clauses) (first : Literal) (rest : List Literal) (back : ℕ) → AreDistinct s.lits → IsLearnt s first rest →
         IsBack s rest back → t.level ≡ back → SameUpto s t t.level → HasClosedLevels s clauses → HasClosedLevels t (clauses ++ (first ∷ rest) ∷ []) }

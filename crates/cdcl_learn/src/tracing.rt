@@ -3,10 +3,10 @@ ghost use Rattle.std.specs.Prelude.{◌≡◌, ◌≤◌, ◌<◌, ◌+◌, Cont
 ghost use Rattle.cnf_core.specs.Clause.{AreThere, IsThere};
 ghost use Rattle.cnf_core.specs.Lit.{negate, has};
 ghost use Rattle.cnf_core.specs.Propagation.{IsIn};
-ghost use Rattle.cdcl_learn.specs.Sight.{sight, clause_at, reason_of, IsSound};
+ghost use Rattle.cdcl_learn.specs.Sight.{sight, clause_in, reason_of, IsSound};
 ghost use Rattle.watch_arena.specs.Arena.{AreReasoned};
-ghost use Rattle.cdcl_learn.specs.Analysis.{IsImplied};
-ghost use Rattle.cdcl_learn.specs.Trace.{touched, all_touched, IsTracing, IsTraced};
+ghost use Rattle.cdcl_learn.specs.Analysis.{IsImpliedFalse};
+ghost use Rattle.cdcl_learn.specs.Trace.{trace_with, trace_with_all, IsTracing, IsTraced};
 
 use crate::conflict::var_at;
 use crate::work::Work;
@@ -17,7 +17,7 @@ use watch_arena::{Arena, ClauseRef, Trail};
 fn touch(work: &mut Work, arena: &Arena, trail: &Trail, k: Lit)
     requires there { IsThere trail.now.vars k }
     requires vars { work.old.vars ≡ trail.now.vars }
-    ensures { work.new ≡ touched (sight arena.now trail.now) work.old k }
+    ensures { work.new ≡ trace_with (sight arena.now trail.now) work.old k }
 {
     let v = k.var();
     if work.is_seen(v) {
@@ -35,9 +35,9 @@ fn touch(work: &mut Work, arena: &Arena, trail: &Trail, k: Lit)
 /// Sees all literals of a clause.
 fn touch_all(work: &mut Work, arena: &Arena, trail: &Trail, c: ClauseRef)
     requires clause { Contains arena.now.places c.0 }
-    requires there { AreThere trail.now.vars (clause_at (sight arena.now trail.now) c.0) }
+    requires there { AreThere trail.now.vars (clause_in (sight arena.now trail.now) c.0) }
     requires vars { work.old.vars ≡ trail.now.vars }
-    ensures value { work.new ≡ all_touched (sight arena.now trail.now) work.old (clause_at (sight arena.now trail.now) c.0) }
+    ensures value { work.new ≡ trace_with_all (sight arena.now trail.now) work.old (clause_in (sight arena.now trail.now) c.0) }
     ensures vars { work.new.vars ≡ work.old.vars }
 {
     for i in 0..arena.len_of(c) {
@@ -88,7 +88,7 @@ pub fn trace_back(work: &mut Work, arena: &Arena, trail: &Trail, l: Lit)
     requires vars { work.old.vars ≡ trail.now.vars }
     requires arena { arena.now.vars ≡ trail.now.vars }
     requires there { IsThere trail.now.vars l }
-    requires implied { IsImplied arena.now trail.now l }
+    requires implied { IsImpliedFalse arena.now trail.now l }
     ensures vars { work.new.vars ≡ work.old.vars }
     ensures traced { IsTraced (sight arena.now trail.now) (negate l) work.new.rest }
 {

@@ -6,7 +6,7 @@ ghost use Rattle.cnf_core.specs.Propagation.{IsIn};
 ghost use Rattle.watch_arena.specs.Arena.{Attached};
 ghost use Rattle.cdcl_learn.specs.Sight.{sight, IsSound};
 ghost use Rattle.cdcl_learn.specs.Shorter.{IsShortened};
-ghost use Rattle.cdcl_learn.specs.Cut.{is_seen, with_open, with_lower, closed, IsBlank, IsBack, IsLatest, IsShuffle};
+ghost use Rattle.cdcl_learn.specs.Cut.{is_seen, with_open, with_lower, with_resolved, IsBlank, IsBack, IsLatest, IsShuffle};
 
 use crate::shorter::keep_needed;
 use crate::tables::lengthen_all;
@@ -236,7 +236,7 @@ impl Work {
     /// One literal of the present level is resolved.
     pub fn close(&mut self)
         requires { 1 ≤ self.old.pending }
-        ensures { self.new ≡ closed self.old }
+        ensures { self.new ≡ with_resolved self.old }
     {
         self.pending -= 1;
     }

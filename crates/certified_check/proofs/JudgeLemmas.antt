@@ -22,7 +22,7 @@ use Rattle.certified_values.specs.Bounds.{SaysAtLeast}
 use Rattle.certified_values.specs.Certified.{IsOutOfReach, IsLeast, Certifies}
 use Rattle.certified_values.proofs.CertifiedLemmas.{certifies_next, certifies_fewer, least_at}
 use Rattle.certified_check.specs.declared.told_bound.ToldBound.{ToldBound}
-use Rattle.certified_check.specs.Lacking.{told_bound, IsKnown, IsUnreached, IsFirstLacking}
+use Rattle.certified_check.specs.Lacking.{told_bound, KnowsLog, IsUnreached, IsFirstLacking}
 
 -- ---- the lines that bounds and clauses come from
 
@@ -94,14 +94,14 @@ out_of_reach greatest lines earlier c v l b h u =
       | inr now ↦ inr (subst (λ n. SaysAtLeast greatest lines c n l) now.1 (subst (λ d. SaysAtLeast greatest lines d b.k l) now.0 s))
     ]
 
-unreached_at : (greatest : Criterion → ℕ) (lines : Lines) (kept : Kept) (bounds : List ToldBound) (earlier : List Criterion) (c : Criterion) (v : Values) (l : Literal) (d : Criterion) (k : ℕ) → IsKnown lines kept bounds → SaysAtLeast greatest lines d k l →
+unreached_at : (greatest : Criterion → ℕ) (lines : Lines) (kept : Kept) (bounds : List ToldBound) (earlier : List Criterion) (c : Criterion) (v : Values) (l : Literal) (d : Criterion) (k : ℕ) → KnowsLog lines kept bounds → SaysAtLeast greatest lines d k l →
     ((Contains earlier d × (k ≡ value_of v d + 1)) ⊎ ((d ≡ c) × (k ≡ value_of v c))) → Any (IsUnreachedLiteral greatest earlier c v l) bounds
 unreached_at greatest lines kept bounds earlier c v l d k known s either =
     let b : ToldBound = record { criterion = d; k = k; literal = positive_of s.variable.0 } in
     let there : Contains bounds b = subst (λ (bs : List ToldBound). Contains bs b) (sym known.told) (line_bound lines d k s.variable s.told) in
     (there.0, b, there.1, there.2, (record { within = s.within; either = either }, sym s.is))
 
-unreached_is : (greatest : Criterion → ℕ) (lines : Lines) (kept : Kept) (bounds : List ToldBound) (earlier : List Criterion) (c : Criterion) (v : Values) (l : Literal) → IsKnown lines kept bounds →
+unreached_is : (greatest : Criterion → ℕ) (lines : Lines) (kept : Kept) (bounds : List ToldBound) (earlier : List Criterion) (c : Criterion) (v : Values) (l : Literal) → KnowsLog lines kept bounds →
     Any (IsUnreachedLiteral greatest earlier c v l) bounds ↔ IsOutOfReach greatest lines earlier c v l
 unreached_is greatest lines kept bounds earlier c v l known = (
   λ any. out_of_reach greatest lines earlier c v l any.1 (bound_line lines any.1 (subst (λ (bs : List ToldBound). Contains bs any.1) known.told (any.0, any.2, any.3))) any.4,
@@ -116,7 +116,7 @@ unreached_is greatest lines kept bounds earlier c v l known = (
 abbrev pub AreUnreached : (Criterion → ℕ) → List ToldBound → List Criterion → Criterion → Values → List Literal → Type 0
 AreUnreached greatest bounds earlier c v literals = (l : Literal) → Contains literals l ↔ Any (λ b. IsUnreached greatest earlier c v b × (b.literal ≡ l)) bounds
 
-pub verdict_is : (greatest : Criterion → ℕ) (lines : Lines) (kept : Kept) (bounds : List ToldBound) (earlier : List Criterion) (c : Criterion) (v : Values) (literals : List Literal) → IsKnown lines kept bounds →
+pub verdict_is : (greatest : Criterion → ℕ) (lines : Lines) (kept : Kept) (bounds : List ToldBound) (earlier : List Criterion) (c : Criterion) (v : Values) (literals : List Literal) → KnowsLog lines kept bounds →
     AreUnreached greatest bounds earlier c v literals → 1 ≤ value_of v c → Refutes kept literals ↔ IsLeast greatest lines earlier c v
 verdict_is greatest lines kept bounds earlier c v literals known are positive = (
   λ any. λ p.

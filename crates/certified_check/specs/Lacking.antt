@@ -18,7 +18,7 @@ told_bound (Bound c k x) = record { criterion = c; k = k; literal = positive_of 
 told_bound line = []
 
 -- the checker keeps the facts of these lines, and the bounds are those of their Bound lines, in their order
-pub record IsKnown (lines : Lines) (kept : Kept) (bounds : List ToldBound) : Type 0 where
+pub record KnowsLog (lines : Lines) (kept : Kept) (bounds : List ToldBound) : Type 0 where
   pub facts : kept.facts ≡ facts_of lines
   pub told : bounds ≡ flat_map told_bound lines
 

@@ -4,7 +4,7 @@ ghost use Rattle.plan_core.specs.Values.{value_of};
 ghost use Rattle.cnf_core.specs.Lit.{Literal};
 ghost use Rattle.refute_log.specs.Told.{Lines};
 ghost use Rattle.certified_values.specs.Certified.{IsLeast};
-ghost use Rattle.certified_check.specs.Lacking.{IsKnown, IsUnreached, IsFirstLacking};
+ghost use Rattle.certified_check.specs.Lacking.{KnowsLog, IsUnreached, IsFirstLacking};
 
 use crate::ToldBound;
 use cnf_core::Lit;
@@ -78,7 +78,7 @@ fn is_least(
     c: Criterion,
     v: &Values,
 ) -> Result<bool, OutOfMemory>
-    ensures { IfOk result (λ b. (lines : Lines) → IsKnown lines checker.now bounds.now → IsTrue b ↔ IsLeast (value_of greatest.now) lines earlier.now c v.now) }
+    ensures { IfOk result (λ b. (lines : Lines) → KnowsLog lines checker.now bounds.now → IsTrue b ↔ IsLeast (value_of greatest.now) lines earlier.now c v.now) }
 {
     if v.of(c) == 0 {
         return Ok(true);
@@ -100,7 +100,7 @@ pub fn first_lacking(
     s: usize,
 ) -> Result<Option<usize>, OutOfMemory>
     requires { s ≤ length order.now }
-    ensures { IfOk result (λ found. (lines : Lines) → IsKnown lines checker.now bounds.now → IsFirstLacking (value_of greatest.now) lines order.now v.now s found) }
+    ensures { IfOk result (λ found. (lines : Lines) → KnowsLog lines checker.now bounds.now → IsFirstLacking (value_of greatest.now) lines order.now v.now s found) }
 {
     let mut earlier = Vec::new(alloc);
     for i in 0..s {

@@ -8,7 +8,7 @@ use Rattle.cnf_core.specs.declared.literal.Var.{Var}
 use Rattle.cnf_core.specs.Clause.{Clauses}
 use Rattle.refute_log.specs.declared.line.LogLine.TheVariants.{Formula, Learnt, Bound, Query, Refuted, Model}
 use Rattle.refute_log.specs.Told.{Lines}
-use Rattle.certified_values.specs.Expected.{clause_lines, same_criterion, bound_var, bound_vars, bound_lines, caps, Encoding, HasAllBounds, sum_lines, vars_of, sums, expected}
+use Rattle.certified_values.specs.Expected.{clause_lines, same_criterion, bound_var, bound_vars, bound_lines, caps, Problem, HasAllBounds, sum_lines, sum_vars_of, sums, expected_lines}
 use Rattle.certified_values.proofs.ExpectedLemmas.{same_itself, same_tells}
 
 bounds_same : (c : Criterion) (k : ℕ) (xs : List Var) → bound_vars c (bound_lines c k xs) ≡ xs
@@ -23,14 +23,14 @@ formulas_none : (d : Criterion) (cs : Clauses) → bound_vars d (map Formula cs)
 formulas_none d [] = refl
 formulas_none d (c ∷ cs) = formulas_none d cs
 
-same_sum : (e : Encoding) → HasAllBounds e → (first : ℕ) (c : Criterion) (n : ℕ) → length (bound_vars c (sum_lines e first c n)) ≡ n
+same_sum : (e : Problem) → HasAllBounds e → (first : ℕ) (c : Criterion) (n : ℕ) → length (bound_vars c (sum_lines e first c n)) ≡ n
 same_sum e all first c zero = refl
 same_sum e all first c (suc n) =
     ap length (flat_map-append (bound_var c) (map Formula (e.sum first c (suc n))) (bound_lines c 1 (e.bounds first c (suc n)))
     ∙ ap (λ (ys : List Var). ys ++ bound_vars c (bound_lines c 1 (e.bounds first c (suc n)))) (formulas_none c (e.sum first c (suc n)))
     ∙ bounds_same c 1 (e.bounds first c (suc n))) ∙ all first c (suc n)
 
-other_sum : (e : Encoding) (first : ℕ) (d c : Criterion) (n : ℕ) → same_criterion d c ≡ false → bound_vars d (sum_lines e first c n) ≡ []
+other_sum : (e : Problem) (first : ℕ) (d c : Criterion) (n : ℕ) → same_criterion d c ≡ false → bound_vars d (sum_lines e first c n) ≡ []
 other_sum e first d c zero f = refl
 other_sum e first d c (suc n) f =
     flat_map-append (bound_var d) (map Formula (e.sum first c (suc n))) (bound_lines c 1 (e.bounds first c (suc n)))
@@ -44,23 +44,23 @@ differs d c ne = by (same_criterion d c) refl
     by true e = absurd (ne (same_tells d c e))
     by false e = refl
 
-pub sums_without : (e : Encoding) (first : ℕ) (xs : List Criterion) (cap : Criterion → ℕ) (d : Criterion) → All (λ c. d ≢ c) xs → bound_vars d (sums e first xs cap) ≡ []
+pub sums_without : (e : Problem) (first : ℕ) (xs : List Criterion) (cap : Criterion → ℕ) (d : Criterion) → All (λ c. d ≢ c) xs → bound_vars d (sums e first xs cap) ≡ []
 sums_without e first [] cap d out = refl
 sums_without e first (c ∷ xs) cap d out =
-    let next = first + vars_of e first c (cap c) in
+    let next = first + sum_vars_of e first c (cap c) in
     flat_map-append (bound_var d) (sum_lines e first c (cap c)) (sums e next xs cap)
     ∙ ap (λ (ys : List Var). ys ++ bound_vars d (sums e next xs cap)) (other_sum e first d c (cap c) (differs d c (All-head (λ c. d ≢ c) c xs out)))
     ∙ sums_without e next xs cap d (All-tail (λ c. d ≢ c) c xs out)
 
-pub sums_with : (e : Encoding) → HasAllBounds e → (first : ℕ) (before rest : List Criterion) (cap : Criterion → ℕ) (d : Criterion) → All (λ c. d ≢ c) before → All (λ c. d ≢ c) rest →
+pub sums_with : (e : Problem) → HasAllBounds e → (first : ℕ) (before rest : List Criterion) (cap : Criterion → ℕ) (d : Criterion) → All (λ c. d ≢ c) before → All (λ c. d ≢ c) rest →
     length (bound_vars d (sums e first (before ++ d ∷ rest) cap)) ≡ cap d
 sums_with e all first [] rest cap d out behind =
-    let next = first + vars_of e first d (cap d) in
+    let next = first + sum_vars_of e first d (cap d) in
     ap length (flat_map-append (bound_var d) (sum_lines e first d (cap d)) (sums e next rest cap)
     ∙ ap (λ (ys : List Var). bound_vars d (sum_lines e first d (cap d)) ++ ys) (sums_without e next rest cap d behind)
     ∙ append-nil (bound_vars d (sum_lines e first d (cap d)))) ∙ same_sum e all first d (cap d)
 sums_with e all first (c ∷ before) rest cap d out behind =
-    let next = first + vars_of e first c (cap c) in
+    let next = first + sum_vars_of e first c (cap c) in
     ap length (flat_map-append (bound_var d) (sum_lines e first c (cap c)) (sums e next (before ++ d ∷ rest) cap)
     ∙ ap (λ (ys : List Var). ys ++ bound_vars d (sums e next (before ++ d ∷ rest) cap)) (other_sum e first d c (cap c) (differs d c (All-head (λ c. d ≢ c) c before out))))
     ∙ sums_with e all next before rest cap d (All-tail (λ c. d ≢ c) c before out) behind
@@ -75,8 +75,8 @@ bounds_of_clauses d (Refuted c ∷ lines) = bounds_of_clauses d lines
 bounds_of_clauses d (Model ∷ lines) = bounds_of_clauses d lines
 
 -- lines whose clauses are what is expected for some caps have just these caps
-pub caps_told : (e : Encoding) → HasAllBounds e → (greatest cap : Criterion → ℕ) (before rest : List Criterion) (d : Criterion) (lines : Lines) → All (λ c. d ≢ c) before → All (λ c. d ≢ c) rest → cap d ≤ greatest d →
-    clause_lines lines ≡ expected e (before ++ d ∷ rest) cap → caps greatest lines d ≡ cap d
+pub caps_told : (e : Problem) → HasAllBounds e → (greatest cap : Criterion → ℕ) (before rest : List Criterion) (d : Criterion) (lines : Lines) → All (λ c. d ≢ c) before → All (λ c. d ≢ c) rest → cap d ≤ greatest d →
+    clause_lines lines ≡ expected_lines e (before ++ d ∷ rest) cap → caps greatest lines d ≡ cap d
 caps_told e all greatest cap before rest d lines out behind le told =
     let order = before ++ d ∷ rest in
     let count : length (bound_vars d lines) ≡ cap d =

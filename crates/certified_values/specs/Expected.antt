@@ -45,7 +45,7 @@ caps greatest lines c = min (length (bound_vars c lines)) (greatest c)
 -- the clause lists of a file: those of its drawings, and how many variables they have; and for each criterion
 -- and cap, behind so many variables, the clauses of its sum, how many variables they add, and the variables
 -- that say "at least k", for k from 1 to the cap
-pub record Encoding : Type 0 where
+pub record Problem : Type 0 where
   pub vars : ℕ
   pub clauses : Clauses
   pub sum : ℕ → Criterion → ℕ → Clauses
@@ -53,7 +53,7 @@ pub record Encoding : Type 0 where
   pub bounds : ℕ → Criterion → ℕ → List Var
 
 -- each sum has a variable for each number from 1 to its cap
-abbrev pub HasAllBounds : Encoding → Type 0
+abbrev pub HasAllBounds : Problem → Type 0
 HasAllBounds e = (before : ℕ) (c : Criterion) (cap : ℕ) → length (e.bounds before c cap) ≡ cap
 
 -- a Bound line for each variable, with the numbers from k on
@@ -63,31 +63,31 @@ bound_lines c k (x ∷ xs) = Bound c k x ∷ bound_lines c (k + 1) xs
 
 -- the lines of one criterion, behind so many variables: its sum's clauses and its Bound lines for 1 to the cap.
 -- With cap 0 the criterion is skipped
-abbrev pub sum_lines : Encoding → ℕ → Criterion → ℕ → Lines
+abbrev pub sum_lines : Problem → ℕ → Criterion → ℕ → Lines
 sum_lines e before c zero = []
 sum_lines e before c (suc cap) = map Formula (e.sum before c (suc cap)) ++ bound_lines c 1 (e.bounds before c (suc cap))
 
 -- how many variables they add
-abbrev pub vars_of : Encoding → ℕ → Criterion → ℕ → ℕ
-vars_of e before c zero = 0
-vars_of e before c (suc cap) = e.sum_vars before c (suc cap)
+abbrev pub sum_vars_of : Problem → ℕ → Criterion → ℕ → ℕ
+sum_vars_of e before c zero = 0
+sum_vars_of e before c (suc cap) = e.sum_vars before c (suc cap)
 
 -- the lines of the criteria, in their order, behind so many variables
-abbrev pub sums : Encoding → ℕ → List Criterion → (Criterion → ℕ) → Lines
+abbrev pub sums : Problem → ℕ → List Criterion → (Criterion → ℕ) → Lines
 sums e before [] cap = []
-sums e before (c ∷ rest) cap = sum_lines e before c (cap c) ++ sums e (before + vars_of e before c (cap c)) rest cap
+sums e before (c ∷ rest) cap = sum_lines e before c (cap c) ++ sums e (before + sum_vars_of e before c (cap c)) rest cap
 
 -- how many variables there are with them
-abbrev pub vars_after : Encoding → ℕ → List Criterion → (Criterion → ℕ) → ℕ
+abbrev pub vars_after : Problem → ℕ → List Criterion → (Criterion → ℕ) → ℕ
 vars_after e before [] cap = before
-vars_after e before (c ∷ rest) cap = vars_after e (before + vars_of e before c (cap c)) rest cap
+vars_after e before (c ∷ rest) cap = vars_after e (before + sum_vars_of e before c (cap c)) rest cap
 
 -- the file's clauses as Formula lines, and then the lines of each criterion of the order whose cap is positive
-abbrev pub expected : Encoding → List Criterion → (Criterion → ℕ) → Lines
-expected e order cap = map Formula e.clauses ++ sums e e.vars order cap
+abbrev pub expected_lines : Problem → List Criterion → (Criterion → ℕ) → Lines
+expected_lines e order cap = map Formula e.clauses ++ sums e e.vars order cap
 
 -- how many variables they name
-abbrev pub expected_vars : Encoding → List Criterion → (Criterion → ℕ) → ℕ
+abbrev pub expected_vars : Problem → List Criterion → (Criterion → ℕ) → ℕ
 expected_vars e order cap = vars_after e e.vars order cap
 
 -- ---- what is told, and what is expected
@@ -97,12 +97,12 @@ abbrev pub BeginsLines : Lines → Lines → Type 0
 BeginsLines front lines = (rest : Lines) × (lines ≡ front ++ rest)
 
 -- the log's Formula and Bound lines begin the list that is expected for their caps
-abbrev pub IsExpected : Encoding → (Criterion → ℕ) → List Criterion → Lines → Type 0
-IsExpected e greatest order lines = BeginsLines (clause_lines lines) (expected e order (caps greatest lines))
+abbrev pub IsExpected : Problem → (Criterion → ℕ) → List Criterion → Lines → Type 0
+IsExpected e greatest order lines = BeginsLines (clause_lines lines) (expected_lines e order (caps greatest lines))
 
 -- they are the whole of it
-abbrev pub IsWhole : Encoding → (Criterion → ℕ) → List Criterion → Lines → Type 0
-IsWhole e greatest order lines = clause_lines lines ≡ expected e order (caps greatest lines)
+abbrev pub IsAllExpected : Problem → (Criterion → ℕ) → List Criterion → Lines → Type 0
+IsAllExpected e greatest order lines = clause_lines lines ≡ expected_lines e order (caps greatest lines)
 
 -- the caps, but n for the criterion c
 abbrev pub with_cap : (Criterion → ℕ) → Criterion → ℕ → Criterion → ℕ

@@ -10,13 +10,13 @@ use Rattle.cnf_core.specs.Propagation.{Rup}
 use Rattle.refute_log.specs.Told.{Lines}
 use Rattle.refute_log.specs.Log.{added, given, learnt, IsNewClause}
 use Rattle.certified_values.specs.Certified.{Certifies}
-use Rattle.certified_values.specs.Expected.{Encoding, bound_vars, caps, expected, expected_vars, with_cap}
+use Rattle.certified_values.specs.Expected.{Problem, bound_vars, caps, expected_lines, expected_vars, with_cap}
 
 -- what is expected for these caps names more variables than there may be, or the words of its clauses and of
 -- the log's Learnt lines pass the room
-abbrev pub CapsPass : Encoding → List Criterion → Lines → ℕ → (Criterion → ℕ) → Type 0
+abbrev pub CapsPass : Problem → List Criterion → Lines → ℕ → (Criterion → ℕ) → Type 0
 CapsPass e order lines room cap = (VARS < expected_vars e order cap)
-    ⊎ (room < words_of (flat_map given (expected e order cap)) + words_of (flat_map learnt lines))
+    ⊎ (room < words_of (flat_map given (expected_lines e order cap)) + words_of (flat_map learnt lines))
 
 -- the criterion has no Bound line, and its value can be positive
 pub record AwaitsBounds (greatest : Criterion → ℕ) (lines : Lines) (c : Criterion) : Type 0 where
@@ -33,7 +33,7 @@ pub record IsNextSum (greatest : Criterion → ℕ) (order : List Criterion) (li
   pub certified : Certifies greatest lines order v place
 
 -- there is a next criterion, and what is expected with its bounds, up to one more than its value, passes
-pub record NextSumPasses (e : Encoding) (greatest : Criterion → ℕ) (order : List Criterion) (lines : Lines) (v : Values) (room : ℕ) : Type 0 where
+pub record NextSumPasses (e : Problem) (greatest : Criterion → ℕ) (order : List Criterion) (lines : Lines) (v : Values) (room : ℕ) : Type 0 where
   pub criterion : Criterion
   pub next : IsNextSum greatest order lines v criterion
   pub passes : CapsPass e order lines room (with_cap (caps greatest lines) criterion (min (value_of v criterion + 1) (greatest criterion)))
@@ -48,7 +48,7 @@ pub record NextClausePasses (lines : Lines) (room : ℕ) : Type 0 where
 
 -- one of three has no room: what is expected already; the bounds of the next criterion, where a drawing of these
 -- values was found; or one more clause
-abbrev pub Full : Encoding → (Criterion → ℕ) → List Criterion → Lines → Option Values → ℕ → Type 0
-Full e greatest order lines found room = CapsPass e order lines room (caps greatest lines)
+abbrev pub IsFullLog : Problem → (Criterion → ℕ) → List Criterion → Lines → Option Values → ℕ → Type 0
+IsFullLog e greatest order lines found room = CapsPass e order lines room (caps greatest lines)
     ⊎ ((v : Values) × (found ≡ Some v) × NextSumPasses e greatest order lines v room)
     ⊎ NextClausePasses lines room

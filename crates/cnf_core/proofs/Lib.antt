@@ -1,7 +1,11 @@
 pub mod BlockLemmas
 pub mod ClauseLemmas
+pub mod ForcedLemmas
 pub mod GatherLemmas
 pub mod GreatestLemmas
+pub mod GrowthLemmas
+pub mod MarkLemmas
+pub mod NumberLemmas
 pub mod PropagationLemmas
 pub mod QuantifierLemmas
 pub mod SettingLemmas

@@ -6,7 +6,7 @@ use Rattle.std.proofs.lemmas.List.Elements.{All-contains, All-weaker, All-nil, A
 use Rattle.cnf_core.specs.Lit.{Literal, literal, negate, same_sign, same_literal, has}
 use Rattle.cnf_core.specs.Clause.{Clauses}
 use Rattle.cnf_core.specs.Assignment.{Assignment, truth, Satisfies, SatisfiesAll}
-use Rattle.cnf_core.specs.Propagation.{LiteralSet, IsIn, nothing, Includes, IsUnit, HasReason, Falsified, IsClosed, Closure, IsClosure, IsForced, units, Falsifies, negations, Rup, IsNew, greatest_var, SameLiterals, AreAmong, IsWitness}
+use Rattle.cnf_core.specs.Propagation.{LiteralSet, IsIn, nothing, Includes, IsUnit, HasReason, Falsified, IsClosed, Closure, IsClosure, units, Falsifies, negations, Rup, IsNew, greatest_var, SameLiterals, AreAmong, IsWitness}
 use Rattle.cnf_core.proofs.GatherLemmas.{not_not, truth-negate, signs_same}
 use Rattle.cnf_core.proofs.QuantifierLemmas.{some_from_satisfies}
 use Rattle.cnf_core.proofs.GreatestLemmas.{greatest_among}
@@ -112,7 +112,11 @@ pub closure_in : (clauses : Clauses) (start set : LiteralSet) (l : Literal) → 
 closure_in clauses start set l c h = closure_least clauses start set l c.closed c.includes h
 
 pub closure_unfalsified : (clauses : Clauses) (start set : LiteralSet) → IsClosure clauses start set → Falsifies clauses start → ⊥
-closure_unfalsified clauses start set c f = c.unfalsified f.clause f.among (All-weaker (λ k. Closure clauses start (negate k)) (λ k. IsIn set (negate k)) (λ k h. closure_in clauses start set (negate k) c h) f.clause f.each)
+closure_unfalsified clauses start set c f = c.unfalsified (record {
+  clause = f.clause;
+  among = f.among;
+  each = All-weaker (λ k. Closure clauses start (negate k)) (λ k. IsIn set (negate k)) (λ k h. closure_in clauses start set (negate k) c h) f.clause f.each;
+})
 
 -- more clauses, more closure; the order of a clause's literals doesn't count
 pub all_same : (P : Literal → Type 0) (c d : List Literal) → SameLiterals c d → All P c → All P d
@@ -225,7 +229,11 @@ rup_sound v clauses clause rup h = elim (satisfies_or_false v clause) [
 -- a clause is new where a closed set shows it
 pub new_by_witness : (clauses : Clauses) (first : Literal) (others : List Literal) (set : LiteralSet) → IsWitness clauses first others set → (Falsifies clauses (negations others) → ⊥) × (Closure clauses (negations others) first → ⊥)
 new_by_witness clauses first others set w = (
-  λ f. w.unfalsified f.clause f.among (All-weaker (λ k. Closure clauses (negations others) (negate k)) (λ k. IsIn set (negate k)) (λ k h. h set w.closed w.includes) f.clause f.each),
+  λ f. w.unfalsified (record {
+    clause = f.clause;
+    among = f.among;
+    each = All-weaker (λ k. Closure clauses (negations others) (negate k)) (λ k. IsIn set (negate k)) (λ k h. h set w.closed w.includes) f.clause f.each;
+  }),
   λ h. w.lacks (h set w.closed w.includes),
 )
 
@@ -247,6 +255,13 @@ new_includes_none clauses first others new d among within =
   where
     negation_follows : (k : Literal) → Contains others k → Closure clauses (negations others) (negate k)
     negation_follows k m = closure_start clauses (negations others) (negate k) (ap (has others) (negate-negate k) ∙ has_from_contains others k m)
+
+-- some clause makes the literal true by what follows from the clauses alone
+pub record IsForced (clauses : Clauses) (l : Literal) : Type 0 where
+  pub clause : List Literal
+  pub among : Contains clauses clause
+  pub inside : Contains clause l
+  pub others : All (λ k. (k ≡ l) ⊎ Closure clauses nothing (negate k)) clause
 
 -- clauses of one literal that follow from the others add nothing
 pub forced_follows : (clauses : Clauses) (start : LiteralSet) (l : Literal) → IsForced clauses l → Closure clauses start l

@@ -5,4 +5,6 @@ pub mod LitOrTruth
 pub mod Formula
 pub mod Added
 pub mod Propagation
+pub mod Trail
+pub mod Times
 pub mod Truths

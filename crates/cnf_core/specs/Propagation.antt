@@ -51,14 +51,7 @@ pub record IsClosure (clauses : Clauses) (start set : LiteralSet) : Type 0 where
   pub closed : IsClosed clauses set
   pub includes : Includes set start
   pub within : (l : Literal) → IsIn set l → Closure clauses start l
-  pub unfalsified : (c : List Literal) → Contains clauses c → All (λ k. IsIn set (negate k)) c → ⊥
-
--- some clause makes the literal true by what follows from the clauses alone
-pub record IsForced (clauses : Clauses) (l : Literal) : Type 0 where
-  pub clause : List Literal
-  pub among : Contains clauses clause
-  pub inside : Contains clause l
-  pub others : All (λ k. (k ≡ l) ⊎ Closure clauses nothing (negate k)) clause
+  pub unfalsified : Falsified clauses set → ⊥
 
 -- a clause of one literal for each of them
 abbrev pub units : List Literal → Clauses
@@ -106,4 +99,4 @@ pub record IsWitness (clauses : Clauses) (first : Literal) (others : List Litera
   pub closed : IsClosed clauses set
   pub includes : Includes set (negations others)
   pub lacks : IsIn set first → ⊥
-  pub unfalsified : (c : List Literal) → Contains clauses c → All (λ k. IsIn set (negate k)) c → ⊥
+  pub unfalsified : Falsified clauses set → ⊥

@@ -5,12 +5,13 @@
 //! words, and `Truths` a truth value for each variable. `specs/` has the definitions: `Lit`,
 //! `Clause` (distinct variables, words), `Assignment` (satisfaction, and assignments that differ
 //! in a block of variables alone), `LitOrTruth` (the clause that literals and truth values make),
-//! `Formula`, `Added` (what a call that adds clauses leaves), `Truths`, and `Propagation` (the
-//! closure, reasons, falsified clauses, and clauses that follow or are new). `laws` and `unit_laws`
-//! state what follows from them. `proofs/` has the lemmas that the crates above cite: `ClauseLemmas`
-//! and `GatherLemmas` on satisfaction, `StepLemmas` and `BlockLemmas` on calls that add clauses,
-//! `SettingLemmas` on blocks of variables that are set one after another, `PropagationLemmas`,
-//! `GreatestLemmas` on the greatest variable, and `TrailLemmas` on lists of distinct variables.
+//! `Formula`, `Added` (what a call that adds clauses leaves), `Truths`, `Propagation` (the closure,
+//! reasons, falsified clauses, and clauses that follow or are new), and `Trail` (the table that marks
+//! a trail's literals, and how a trail grows). `laws` and `unit_laws` state what follows from them.
+//! `proofs/` has the lemmas that the crates above cite: `ClauseLemmas` and `GatherLemmas` on
+//! satisfaction, `StepLemmas` and `BlockLemmas` on calls that add clauses, `SettingLemmas` on blocks
+//! of variables that are set one after another, `PropagationLemmas`, `GreatestLemmas` on the greatest
+//! variable, `TrailLemmas` on lists of distinct variables, `MarkLemmas` and `GrowthLemmas` on trails.
 //! `lengthen` makes a table longer, whole or not at all. It is the base for integers and sums, for
 //! the drawing's formula, the log, its checker and the solver.
 #![tactic(auto)]
@@ -39,7 +40,7 @@ pub use literal::{Lit, LitOrTruth, Var};
 pub use tables::lengthen;
 pub use truths::Truths;
 pub use unit_laws::{
-    closure_adds_nothing_again, closure_is_the_least_closed_set, forced_literals_add_nothing,
+    closure_adds_nothing_again, closure_is_the_least_closed_set, known_literals_add_nothing,
     more_clauses_more_closure, new_by_a_closed_set, new_includes_no_clause,
     only_sets_of_literals_count, rup_is_sound,
 };

@@ -3,7 +3,7 @@ ghost use Rattle.std.specs.Prelude.{◌≡◌, ◌≤◌, ◌⊎◌, ◌∷◌, 
 ghost use Rattle.cnf_core.specs.Lit.{Literal, negate};
 ghost use Rattle.cnf_core.specs.Clause.{Clauses};
 ghost use Rattle.cnf_core.specs.Assignment.{Assignment, Satisfies, SatisfiesAll};
-ghost use Rattle.cnf_core.specs.Propagation.{LiteralSet, IsIn, Includes, IsClosed, Closure, IsForced, units, Falsifies, Rup, IsNew, SameLiterals, AreAmong, IsWitness, greatest_var};
+ghost use Rattle.cnf_core.specs.Propagation.{LiteralSet, IsIn, Includes, IsClosed, Closure, nothing, units, Falsifies, Rup, IsNew, SameLiterals, AreAmong, IsWitness, greatest_var};
 
 /// The closure has the literals of the start, is closed, and is within every such set.
 pub fn closure_is_the_least_closed_set()
@@ -37,13 +37,13 @@ pub fn only_sets_of_literals_count()
         SameLiterals others again → IsNew clauses first others → IsNew more first again }
 {}
 
-/// Literals that the clauses force, as clauses of their own, add nothing.
-pub fn forced_literals_add_nothing()
-    ensures closure { (clauses : Clauses) (forced : List Literal) (start : LiteralSet) (l : Literal) → All (IsForced clauses) forced →
-        Closure (clauses ++ units forced) start l → Closure clauses start l }
-    ensures falsifies { (clauses : Clauses) (forced : List Literal) (start : LiteralSet) → All (IsForced clauses) forced →
-        Falsifies (clauses ++ units forced) start → Falsifies clauses start }
-    ensures rup { (clauses : Clauses) (forced clause : List Literal) → All (IsForced clauses) forced → Rup (clauses ++ units forced) clause → Rup clauses clause }
+/// Literals that follow from the clauses alone, as clauses of their own, add nothing.
+pub fn known_literals_add_nothing()
+    ensures closure { (clauses : Clauses) (known : List Literal) (start : LiteralSet) (l : Literal) → All (Closure clauses nothing) known →
+        Closure (clauses ++ units known) start l → Closure clauses start l }
+    ensures falsifies { (clauses : Clauses) (known : List Literal) (start : LiteralSet) → All (Closure clauses nothing) known →
+        Falsifies (clauses ++ units known) start → Falsifies clauses start }
+    ensures rup { (clauses : Clauses) (known clause : List Literal) → All (Closure clauses nothing) known → Rup (clauses ++ units known) clause → Rup clauses clause }
 {}
 
 /// A clause that follows by unit propagation is satisfied by each assignment that satisfies the

@@ -5,19 +5,19 @@ use Rattle.std.proofs.lemmas.Bool.Decides.{eqb_tells}
 use Rattle.std.proofs.lemmas.List.{length-map, get_or-map}
 use Rattle.cnf_core.specs.declared.limits.TheConstants.{VARS}
 use Rattle.pick_heap.specs.Heap.{Ranked, ranked_of, IsGreatest, NoneHeld, activity, halved, roomy}
-use Rattle.pick_heap.specs.Tree.{at, IsNamed, IsWon, leaf_word, HasLeaves, KeepsLeaves, KeepsOthers, IsHeap}
+use Rattle.pick_heap.specs.Tree.{entry_at, HaveActivities, IsWon, leaf_word, HasLeaves, KeepsLeaves, KeepsOthers, IsHeap}
 use Rattle.pick_heap.proofs.MatchLemmas.{heap_set, heap_raised, heap_halved, won_raised, gone_from, root_greatest, root_none}
 
 -- the same with what calls were given, and what is left of a vector
-pub heap_set_at : (vars leaves : ℕ) (held : List Bool) (acts tree given_acts given_tree new got : List ℕ) (v : ℕ) (b : Bool) → IsHeap vars leaves held acts tree → given_acts ≡ acts → given_tree ≡ tree → got ≡ new → 1 ≤ v → v ≤ vars → length new ≡ length given_tree → IsNamed given_acts new → IsWon given_acts new leaves →
-    at new (leaves + v - 1) ≡ leaf_word (set held v b) v → KeepsOthers leaves given_tree new (leaves + v - 1) → IsHeap vars leaves (set held v b) acts got
+pub heap_set_at : (vars leaves : ℕ) (held : List Bool) (acts tree given_acts given_tree new got : List ℕ) (v : ℕ) (b : Bool) → IsHeap vars leaves held acts tree → given_acts ≡ acts → given_tree ≡ tree → got ≡ new → 1 ≤ v → v ≤ vars → length new ≡ length given_tree → HaveActivities given_acts new → IsWon given_acts new leaves →
+    entry_at new (leaves + v - 1) ≡ leaf_word (set held v b) v → KeepsOthers leaves given_tree new (leaves + v - 1) → IsHeap vars leaves (set held v b) acts got
 heap_set_at vars leaves held acts tree given_acts given_tree new got v b k ea et eg from to size named won leaf others =
-    subst (λ (g : List ℕ). IsHeap vars leaves (set held v b) acts g) (sym eg) (heap_set vars leaves held acts tree k v b new from to (size ∙ ap length et) (subst (λ (a : List ℕ). IsNamed a new) ea named) (subst (λ (a : List ℕ). IsWon a new leaves) ea won) leaf
+    subst (λ (g : List ℕ). IsHeap vars leaves (set held v b) acts g) (sym eg) (heap_set vars leaves held acts tree k v b new from to (size ∙ ap length et) (subst (λ (a : List ℕ). HaveActivities a new) ea named) (subst (λ (a : List ℕ). IsWon a new leaves) ea won) leaf
     (subst (λ (t : List ℕ). KeepsOthers leaves t new (leaves + v - 1)) et others))
 
 -- a variable's leaf is emptied, its activity rises, and its leaf is set again
 module _ (vars leaves : ℕ) (held : List Bool) (acts tree given_acts given_tree mid : List ℕ) (v : ℕ) (k : IsHeap vars leaves held acts tree) (ea : given_acts ≡ acts) (et : given_tree ≡ tree) (from : 1 ≤ v) (to : v ≤ vars) (size : length mid ≡ length given_tree)
-    (won : IsWon given_acts mid leaves) (empty : at mid (leaves + v - 1) ≡ 0) (others : KeepsOthers leaves given_tree mid (leaves + v - 1)) where
+    (won : IsWon given_acts mid leaves) (empty : entry_at mid (leaves + v - 1) ≡ 0) (others : KeepsOthers leaves given_tree mid (leaves + v - 1)) where
   others_old : KeepsOthers leaves tree mid (leaves + v - 1)
   others_old = subst (λ (t : List ℕ). KeepsOthers leaves t mid (leaves + v - 1)) et others
 
@@ -29,22 +29,22 @@ module _ (vars leaves : ℕ) (held : List Bool) (acts tree given_acts given_tree
       subst (λ (a : List ℕ). IsWon a given leaves) (sym em) (subst (λ (t : List ℕ). IsWon (set acts v n) t leaves) (sym eg)
       (won_raised vars leaves held acts tree k v n mid (omega arith) won_old (gone_from vars leaves held acts tree k v mid from to won_old empty others_old)))
 
-  pub heap_raised_at : (n word : ℕ) (more given new got : List ℕ) → more ≡ set acts v n → given ≡ mid → got ≡ new → length new ≡ length given → IsNamed more new → IsWon more new leaves → at new (leaves + v - 1) ≡ word → word ≡ leaf_word held v → KeepsOthers leaves given new (leaves + v - 1) →
+  pub heap_raised_at : (n word : ℕ) (more given new got : List ℕ) → more ≡ set acts v n → given ≡ mid → got ≡ new → length new ≡ length given → HaveActivities more new → IsWon more new leaves → entry_at new (leaves + v - 1) ≡ word → word ≡ leaf_word held v → KeepsOthers leaves given new (leaves + v - 1) →
       IsHeap vars leaves held (set acts v n) got
   heap_raised_at n word more given new got em eg en size2 named2 won2 leaf is others2 =
       subst (λ (g : List ℕ). IsHeap vars leaves held (set acts v n) g) (sym en)
-      (heap_raised vars leaves held acts tree k v n mid new from to (size ∙ ap length et) (size2 ∙ ap length eg) others_old (subst (λ (a : List ℕ). IsNamed a new) em named2) (subst (λ (a : List ℕ). IsWon a new leaves) em won2) (leaf ∙ is)
+      (heap_raised vars leaves held acts tree k v n mid new from to (size ∙ ap length et) (size2 ∙ ap length eg) others_old (subst (λ (a : List ℕ). HaveActivities a new) em named2) (subst (λ (a : List ℕ). IsWon a new leaves) em won2) (leaf ∙ is)
       (subst (λ (t : List ℕ). KeepsOthers leaves t new (leaves + v - 1)) eg others2))
 
 -- all activities are halved
-pub named_length : (acts less tree : List ℕ) → length less ≡ length acts → IsNamed acts tree → IsNamed less tree
+pub named_length : (acts less tree : List ℕ) → length less ≡ length acts → HaveActivities acts tree → HaveActivities less tree
 named_length acts less tree e named = λ k. let lt = named k in omega arith
 
-pub heap_halved_at : (vars leaves : ℕ) (held : List Bool) (acts tree less given_less given_tree new got_less got : List ℕ) → IsHeap vars leaves held acts tree → less ≡ map (λ a. a / 2) acts → got_less ≡ less → given_less ≡ less → given_tree ≡ tree → got ≡ new → length new ≡ length given_tree → IsNamed given_less new → IsWon given_less new leaves → KeepsLeaves leaves given_tree new →
+pub heap_halved_at : (vars leaves : ℕ) (held : List Bool) (acts tree less given_less given_tree new got_less got : List ℕ) → IsHeap vars leaves held acts tree → less ≡ map (λ a. a / 2) acts → got_less ≡ less → given_less ≡ less → given_tree ≡ tree → got ≡ new → length new ≡ length given_tree → HaveActivities given_less new → IsWon given_less new leaves → KeepsLeaves leaves given_tree new →
     IsHeap vars leaves held got_less got
 heap_halved_at vars leaves held acts tree less given_less given_tree new got_less got k el egl el2 et eg size named won kept =
     subst (λ (g : List ℕ). IsHeap vars leaves held got_less g) (sym eg) (subst (λ (a : List ℕ). IsHeap vars leaves held a new) (sym egl)
-    (heap_halved vars leaves held acts tree k less new (ap length el ∙ length-map acts (λ a. a / 2)) (size ∙ ap length et) (subst (λ (a : List ℕ). IsNamed a new) el2 named) (subst (λ (a : List ℕ). IsWon a new leaves) el2 won)
+    (heap_halved vars leaves held acts tree k less new (ap length el ∙ length-map acts (λ a. a / 2)) (size ∙ ap length et) (subst (λ (a : List ℕ). HaveActivities a new) el2 named) (subst (λ (a : List ℕ). IsWon a new leaves) el2 won)
     (subst (λ (t : List ℕ). KeepsLeaves leaves t new) et kept)))
 
 pub roomy_same : (h : Ranked) (v : ℕ) → activity h v < 65535 → roomy h v ≡ h
@@ -53,12 +53,12 @@ roomy_same h v lt = elim (eqb_tells (activity h v) 65535) [ inl a ↦ let e = a.
 pub roomy_halved : (h : Ranked) (v : ℕ) → activity h v ≡ 65535 → roomy h v ≡ halved h
 roomy_halved h v e = elim (eqb_tells (activity h v) 65535) [ inl a ↦ ap (λ b. cond b (halved h) h) a.0 | inr a ↦ absurd (a.1 e) ]
 
-pub half_below : (acts : List ℕ) (v : ℕ) → v < length acts → at acts v ≤ 65535 → at (map (λ a. a / 2) acts) v < 65535
-half_below acts v lt le = let e : at (map (λ a. a / 2) acts) v ≡ at acts v / 2 = get_or-map (λ a. a / 2) acts v 0 0 lt in omega arith
+pub half_below : (acts : List ℕ) (v : ℕ) → v < length acts → entry_at acts v ≤ 65535 → entry_at (map (λ a. a / 2) acts) v < 65535
+half_below acts v lt le = let e : entry_at (map (λ a. a / 2) acts) v ≡ entry_at acts v / 2 = get_or-map (λ a. a / 2) acts v 0 0 lt in omega arith
 
 -- a tree that was laid out
 pub heap_laid : (vars leaves : ℕ) (held : List Bool) (acts tree given_acts : List ℕ) (given_held : List Bool) (new : List ℕ) → vars ≤ VARS → 1 ≤ leaves → vars ≤ leaves → leaves ≤ 2 * VARS → length held ≡ vars + 1 → length acts ≡ vars + 1 → slice_index_or held 0 false ≡ false → 2 * leaves ≤ length tree →
-    given_acts ≡ acts → given_held ≡ held → tree ≡ new → IsNamed given_acts new → IsWon given_acts new leaves → HasLeaves leaves given_held new → IsHeap vars leaves held acts tree
+    given_acts ≡ acts → given_held ≡ held → tree ≡ new → HaveActivities given_acts new → IsWon given_acts new leaves → HasLeaves leaves given_held new → IsHeap vars leaves held acts tree
 heap_laid vars leaves held acts tree given_acts given_held new limit some fits leaves_limit held_size acts_size none size ea eh et named won leaf =
     subst (λ (t : List ℕ). 2 * leaves ≤ length t → IsHeap vars leaves held acts t) (sym et) (λ large. record {
       limit = limit;
@@ -69,14 +69,14 @@ heap_laid vars leaves held acts tree given_acts given_held new limit some fits l
       activities_size = acts_size;
       none = none;
       size = large;
-      named = subst (λ (a : List ℕ). IsNamed a new) ea named;
+      named = subst (λ (a : List ℕ). HaveActivities a new) ea named;
       won = subst (λ (a : List ℕ). IsWon a new leaves) ea won;
       leaf = subst (λ (h : List Bool). HasLeaves leaves h new) eh leaf;
     }) size
 
 -- the root, as the view has it
-pub greatest_at : (vars leaves : ℕ) (held : List Bool) (acts tree : List ℕ) (h : Ranked) (v : ℕ) → IsHeap vars leaves held acts tree → ranked_of vars held acts ≡ h → at tree 1 ≡ v → v ≢ 0 → IsGreatest h v
+pub greatest_at : (vars leaves : ℕ) (held : List Bool) (acts tree : List ℕ) (h : Ranked) (v : ℕ) → IsHeap vars leaves held acts tree → ranked_of vars held acts ≡ h → entry_at tree 1 ≡ v → v ≢ 0 → IsGreatest h v
 greatest_at vars leaves held acts tree h v k e is some = subst (λ (x : Ranked). IsGreatest x v) e (root_greatest vars leaves held acts tree k v is some)
 
-pub none_at : (vars leaves : ℕ) (held : List Bool) (acts tree : List ℕ) (h : Ranked) → IsHeap vars leaves held acts tree → ranked_of vars held acts ≡ h → at tree 1 ≡ 0 → NoneHeld h
+pub none_at : (vars leaves : ℕ) (held : List Bool) (acts tree : List ℕ) (h : Ranked) → IsHeap vars leaves held acts tree → ranked_of vars held acts ≡ h → entry_at tree 1 ≡ 0 → NoneHeld h
 none_at vars leaves held acts tree h k e is = subst (λ (x : Ranked). NoneHeld x) e (root_none vars leaves held acts tree k is)

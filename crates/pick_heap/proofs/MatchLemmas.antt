@@ -4,17 +4,15 @@ use Rattle.std.specs.Prelude.{slice_index_or}
 use Rattle.std.proofs.lemmas.Bool.{cases_lt}
 use Rattle.std.proofs.lemmas.Bool.Decides.{eqb_tells}
 use Rattle.std.proofs.lemmas.List.{get_or-set_other, get_or-set_same, get_or_past, get_or-replicate}
-use Rattle.pick_heap.specs.Tree.{at, rank, IsWinner, IsNamed, IsWonAt, IsWon, IsWonBut, leaf_word, KeepsLeaves, KeepsOthers, IsHeap}
+use Rattle.cnf_core.proofs.NumberLemmas.{same_or_not}
+use Rattle.pick_heap.specs.Tree.{entry_at, rank, IsWinner, HaveActivities, IsWonAt, IsWon, IsWonBut, leaf_word, KeepsLeaves, KeepsOthers, IsHeap}
 use Rattle.pick_heap.specs.Heap.{ranked_of, IsGreatest, NoneHeld}
 
-pub same_or_not : (a b : ℕ) → (a ≡ b) ⊎ (a ≢ b)
-same_or_not a b = elim (eqb_tells a b) [ inl e ↦ inl e.1 | inr e ↦ inr e.1 ]
-
 pub rank_none : (acts : List ℕ) (v : ℕ) → v ≡ 0 → rank acts v ≡ 0
-rank_none acts v e = elim (eqb_tells v 0) [ inl a ↦ ap (λ b. cond b 0 (at acts v + 1)) a.0 | inr a ↦ absurd (a.1 e) ]
+rank_none acts v e = elim (eqb_tells v 0) [ inl a ↦ ap (λ b. cond b 0 (entry_at acts v + 1)) a.0 | inr a ↦ absurd (a.1 e) ]
 
-pub rank_some : (acts : List ℕ) (v : ℕ) → v ≢ 0 → rank acts v ≡ at acts v + 1
-rank_some acts v ne = elim (eqb_tells v 0) [ inl a ↦ absurd (ne a.1) | inr a ↦ ap (λ b. cond b 0 (at acts v + 1)) a.0 ]
+pub rank_some : (acts : List ℕ) (v : ℕ) → v ≢ 0 → rank acts v ≡ entry_at acts v + 1
+rank_some acts v ne = elim (eqb_tells v 0) [ inl a ↦ absurd (ne a.1) | inr a ↦ ap (λ b. cond b 0 (entry_at acts v + 1)) a.0 ]
 
 -- a table that is longer by what it has past its end
 padded_none : (n i x : ℕ) → get_or (replicate n x) i x ≡ x
@@ -31,44 +29,44 @@ get_padded (y ∷ xs) n x (suc i) = get_padded xs n x i
 pub first_alone : (acts : List ℕ) (a b : ℕ) → b ≡ 0 → IsWinner acts a b a
 first_alone acts a b e = record { one = inl refl; first = omega arith; second = let none = rank_none acts b e in omega arith }
 
-pub second_wins : (acts : List ℕ) (a b : ℕ) → b ≢ 0 → (a ≡ 0) ⊎ (at acts a < at acts b) → IsWinner acts a b b
+pub second_wins : (acts : List ℕ) (a b : ℕ) → b ≢ 0 → (a ≡ 0) ⊎ (entry_at acts a < entry_at acts b) → IsWinner acts a b b
 second_wins acts a b ne why = record { one = inr refl; first = below why; second = omega arith }
   where
-    below : (a ≡ 0) ⊎ (at acts a < at acts b) → rank acts a ≤ rank acts b
+    below : (a ≡ 0) ⊎ (entry_at acts a < entry_at acts b) → rank acts a ≤ rank acts b
     below (inl e) = let none = rank_none acts a e in omega arith
     below (inr lt) = elim (same_or_not a 0) [
       | inl e ↦ let none = rank_none acts a e in omega arith
       | inr na ↦ let x = rank_some acts a na in let y = rank_some acts b ne in omega arith
     ]
 
-pub first_wins : (acts : List ℕ) (a b : ℕ) → a ≢ 0 → b ≢ 0 → at acts b ≤ at acts a → IsWinner acts a b a
+pub first_wins : (acts : List ℕ) (a b : ℕ) → a ≢ 0 → b ≢ 0 → entry_at acts b ≤ entry_at acts a → IsWinner acts a b a
 first_wins acts a b na nb le = record { one = inl refl; first = omega arith; second = let x = rank_some acts a na in let y = rank_some acts b nb in omega arith }
 
 -- a node is written
 module _ (acts tree : List ℕ) (leaves p w : ℕ) (within : p < length tree) where
-  pub named_set : IsNamed acts tree → w < length acts → IsNamed acts (set tree p w)
+  pub named_set : HaveActivities acts tree → w < length acts → HaveActivities acts (set tree p w)
   named_set named lt = λ k. elim (same_or_not p k) [
-    | inl e ↦ subst (λ n. n < length acts) (sym (ap (at (set tree p w)) (sym e) ∙ get_or-set_same tree p w 0 within)) lt
+    | inl e ↦ subst (λ n. n < length acts) (sym (ap (entry_at (set tree p w)) (sym e) ∙ get_or-set_same tree p w 0 within)) lt
     | inr ne ↦ subst (λ n. n < length acts) (sym (get_or-set_other tree p k w 0 (λ e. ne (sym e)))) (named k)
   ]
 
-  pub kept_set : (j : ℕ) → j ≢ p → at (set tree p w) j ≡ at tree j
+  pub kept_set : (j : ℕ) → j ≢ p → entry_at (set tree p w) j ≡ entry_at tree j
   kept_set j ne = get_or-set_other tree p j w 0 ne
 
   won_other : (j : ℕ) → j ≢ p → 2 * j ≢ p → 2 * j + 1 ≢ p → IsWonAt acts tree j → IsWonAt acts (set tree p w) j
   won_other j n0 n1 n2 won =
-      subst (λ x. IsWinner acts x (at (set tree p w) (2 * j + 1)) (at (set tree p w) j)) (sym (kept_set (2 * j) n1))
-      (subst (λ x. IsWinner acts (at tree (2 * j)) x (at (set tree p w) j)) (sym (kept_set (2 * j + 1) n2))
-      (subst (λ x. IsWinner acts (at tree (2 * j)) (at tree (2 * j + 1)) x) (sym (kept_set j n0)) won))
+      subst (λ x. IsWinner acts x (entry_at (set tree p w) (2 * j + 1)) (entry_at (set tree p w) j)) (sym (kept_set (2 * j) n1))
+      (subst (λ x. IsWinner acts (entry_at tree (2 * j)) x (entry_at (set tree p w) j)) (sym (kept_set (2 * j + 1) n2))
+      (subst (λ x. IsWinner acts (entry_at tree (2 * j)) (entry_at tree (2 * j + 1)) x) (sym (kept_set j n0)) won))
 
-  won_here : 1 ≤ p → IsWinner acts (at tree (2 * p)) (at tree (2 * p + 1)) w → IsWonAt acts (set tree p w) p
+  won_here : 1 ≤ p → IsWinner acts (entry_at tree (2 * p)) (entry_at tree (2 * p + 1)) w → IsWonAt acts (set tree p w) p
   won_here from won =
-      subst (λ x. IsWinner acts x (at (set tree p w) (2 * p + 1)) (at (set tree p w) p)) (sym (kept_set (2 * p) (omega arith)))
-      (subst (λ x. IsWinner acts (at tree (2 * p)) x (at (set tree p w) p)) (sym (kept_set (2 * p + 1) (omega arith)))
-      (subst (λ x. IsWinner acts (at tree (2 * p)) (at tree (2 * p + 1)) x) (sym (get_or-set_same tree p w 0 within)) won))
+      subst (λ x. IsWinner acts x (entry_at (set tree p w) (2 * p + 1)) (entry_at (set tree p w) p)) (sym (kept_set (2 * p) (omega arith)))
+      (subst (λ x. IsWinner acts (entry_at tree (2 * p)) x (entry_at (set tree p w) p)) (sym (kept_set (2 * p + 1) (omega arith)))
+      (subst (λ x. IsWinner acts (entry_at tree (2 * p)) (entry_at tree (2 * p + 1)) x) (sym (get_or-set_same tree p w 0 within)) won))
 
   -- by its own match: only the match above may be wrong
-  pub won_up : 1 ≤ p → IsWinner acts (at tree (2 * p)) (at tree (2 * p + 1)) w → IsWonBut acts tree leaves p → IsWonBut acts (set tree p w) leaves (p / 2)
+  pub won_up : 1 ≤ p → IsWinner acts (entry_at tree (2 * p)) (entry_at tree (2 * p + 1)) w → IsWonBut acts tree leaves p → IsWonBut acts (set tree p w) leaves (p / 2)
   won_up from here but = record {
     won = λ k from2 to ne. elim (same_or_not k p) [
       | inl e ↦ subst (λ n. IsWonAt acts (set tree p w) n) (sym e) (won_here from here)
@@ -81,17 +79,17 @@ module _ (acts tree : List ℕ) (leaves p w : ℕ) (within : p < length tree) wh
   won_leaf leaf all = record { won = λ k from to ne. won_other k (omega arith) (omega arith) (omega arith) (all.won k from to) }
 
   -- from the last to the first
-  pub won_down : 1 ≤ p → IsWinner acts (at tree (2 * p)) (at tree (2 * p + 1)) w → ((k : ℕ) → p < k → k < leaves → IsWonAt acts tree k) → (k : ℕ) → p ≤ k → k < leaves → IsWonAt acts (set tree p w) k
+  pub won_down : 1 ≤ p → IsWinner acts (entry_at tree (2 * p)) (entry_at tree (2 * p + 1)) w → ((k : ℕ) → p < k → k < leaves → IsWonAt acts tree k) → (k : ℕ) → p ≤ k → k < leaves → IsWonAt acts (set tree p w) k
   won_down from here above k from2 to = elim (same_or_not k p) [
     | inl e ↦ subst (λ n. IsWonAt acts (set tree p w) n) (sym e) (won_here from here)
     | inr other ↦ won_other k other (omega arith) (omega arith) (above k (omega arith) to)
   ]
 
 -- all matches but that of the node are right, and that one too
-pub won_same : (acts tree : List ℕ) (leaves p w : ℕ) → IsWinner acts (at tree (2 * p)) (at tree (2 * p + 1)) w → w ≡ at tree p → IsWonBut acts tree leaves p → IsWon acts tree leaves
+pub won_same : (acts tree : List ℕ) (leaves p w : ℕ) → IsWinner acts (entry_at tree (2 * p)) (entry_at tree (2 * p + 1)) w → w ≡ entry_at tree p → IsWonBut acts tree leaves p → IsWon acts tree leaves
 won_same acts tree leaves p w here e but = record {
   won = λ k from to. elim (same_or_not k p) [
-    | inl is ↦ subst (λ n. IsWonAt acts tree n) (sym is) (subst (λ x. IsWinner acts (at tree (2 * p)) (at tree (2 * p + 1)) x) e here)
+    | inl is ↦ subst (λ n. IsWonAt acts tree n) (sym is) (subst (λ x. IsWinner acts (entry_at tree (2 * p)) (entry_at tree (2 * p + 1)) x) e here)
     | inr other ↦ but.won k from to other
   ];
 }
@@ -101,24 +99,24 @@ won_all acts tree leaves but e b = record { won = λ k from to. b.won k from to 
 
 -- the root
 module _ (acts tree : List ℕ) (leaves : ℕ) (all : IsWon acts tree leaves) where
-  most_by : (fuel k : ℕ) → k ≤ fuel → 1 ≤ k → k < 2 * leaves → rank acts (at tree k) ≤ rank acts (at tree 1)
+  most_by : (fuel k : ℕ) → k ≤ fuel → 1 ≤ k → k < 2 * leaves → rank acts (entry_at tree k) ≤ rank acts (entry_at tree 1)
   most_by zero k le from to = absurd (omega arith)
   most_by (suc fuel) k le from to = elim (cases_lt k 2) [
-    | inl one ↦ let e : rank acts (at tree k) ≡ rank acts (at tree 1) = ap (λ n. rank acts (at tree n)) (omega arith) in omega arith
+    | inl one ↦ let e : rank acts (entry_at tree k) ≡ rank acts (entry_at tree 1) = ap (λ n. rank acts (entry_at tree n)) (omega arith) in omega arith
     | inr more ↦
         let above = most_by fuel (k / 2) (omega arith) (omega arith) (omega arith) in
         let won = all.won (k / 2) (omega arith) (omega arith) in
         elim (cases_lt (2 * (k / 2)) k) [
-          | inl odd ↦ let e : rank acts (at tree k) ≡ rank acts (at tree (2 * (k / 2) + 1)) = ap (λ n. rank acts (at tree n)) (omega arith) in let x = won.second in omega arith
-          | inr even ↦ let e : rank acts (at tree k) ≡ rank acts (at tree (2 * (k / 2))) = ap (λ n. rank acts (at tree n)) (omega arith) in let x = won.first in omega arith
+          | inl odd ↦ let e : rank acts (entry_at tree k) ≡ rank acts (entry_at tree (2 * (k / 2) + 1)) = ap (λ n. rank acts (entry_at tree n)) (omega arith) in let x = won.second in omega arith
+          | inr even ↦ let e : rank acts (entry_at tree k) ≡ rank acts (entry_at tree (2 * (k / 2))) = ap (λ n. rank acts (entry_at tree n)) (omega arith) in let x = won.first in omega arith
         ]
   ]
 
-  pub root_most : (k : ℕ) → 1 ≤ k → k < 2 * leaves → rank acts (at tree k) ≤ rank acts (at tree 1)
+  pub root_most : (k : ℕ) → 1 ≤ k → k < 2 * leaves → rank acts (entry_at tree k) ≤ rank acts (entry_at tree 1)
   root_most k from to = most_by k k (omega arith) from to
 
   -- each node's variable is that of a leaf
-  from_leaf_by : (fuel k : ℕ) → 2 * leaves ≤ k + fuel → 1 ≤ k → k < 2 * leaves → (i : ℕ) × (i < leaves) × (at tree (leaves + i) ≡ at tree k)
+  from_leaf_by : (fuel k : ℕ) → 2 * leaves ≤ k + fuel → 1 ≤ k → k < 2 * leaves → (i : ℕ) × (i < leaves) × (entry_at tree (leaves + i) ≡ entry_at tree k)
   from_leaf_by zero k le from to = absurd (omega arith)
   from_leaf_by (suc fuel) k le from to = elim (cases_lt k leaves) [
     | inl node ↦
@@ -127,10 +125,10 @@ module _ (acts tree : List ℕ) (leaves : ℕ) (all : IsWon acts tree leaves) wh
           | inl e ↦ let x = from_leaf_by fuel (2 * k) (omega arith) (omega arith) (omega arith) in (x.0, x.1, x.2 ∙ sym e)
           | inr e ↦ let x = from_leaf_by fuel (2 * k + 1) (omega arith) (omega arith) (omega arith) in (x.0, x.1, x.2 ∙ sym e)
         ]
-    | inr leaf ↦ (k - leaves, omega arith, ap (at tree) (omega arith))
+    | inr leaf ↦ (k - leaves, omega arith, ap (entry_at tree) (omega arith))
   ]
 
-  pub from_leaf : (k : ℕ) → 1 ≤ k → k < 2 * leaves → (i : ℕ) × (i < leaves) × (at tree (leaves + i) ≡ at tree k)
+  pub from_leaf : (k : ℕ) → 1 ≤ k → k < 2 * leaves → (i : ℕ) × (i < leaves) × (entry_at tree (leaves + i) ≡ entry_at tree k)
   from_leaf k from to = from_leaf_by (2 * leaves) k (omega arith) from to
 
 -- what is held and what isn't
@@ -157,7 +155,7 @@ module _ (vars leaves : ℕ) (held : List Bool) (acts tree : List ℕ) (k : IsHe
       clash : true ≡ false → ⊥
       clash e = cc
 
-  pub leaf_of : (w : ℕ) → slice_index_or held w false ≡ true → at tree (leaves + (w - 1)) ≡ w
+  pub leaf_of : (w : ℕ) → slice_index_or held w false ≡ true → entry_at tree (leaves + (w - 1)) ≡ w
   leaf_of w h =
       let b = held_within w h in
       let from = b.0 in
@@ -167,7 +165,7 @@ module _ (vars leaves : ℕ) (held : List Bool) (acts tree : List ℕ) (k : IsHe
       k.leaf (w - 1) (omega arith) ∙ ap (leaf_word held) next ∙ word_held held w h
 
   -- a node's variable is held
-  pub node_held : (j v : ℕ) → 1 ≤ j → j < 2 * leaves → at tree j ≡ v → v ≢ 0 → slice_index_or held v false ≡ true
+  pub node_held : (j v : ℕ) → 1 ≤ j → j < 2 * leaves → entry_at tree j ≡ v → v ≢ 0 → slice_index_or held v false ≡ true
   node_held j v from to is some =
       let x = from_leaf acts tree leaves k.won j from to in
       let word : leaf_word held (x.0 + 1) ≡ v = sym (k.leaf x.0 x.1) ∙ x.2 ∙ is in
@@ -176,7 +174,7 @@ module _ (vars leaves : ℕ) (held : List Bool) (acts tree : List ℕ) (k : IsHe
         | inr f ↦ absurd (some (sym word ∙ word_free held (x.0 + 1) f))
       ]
 
-  pub root_greatest : (v : ℕ) → at tree 1 ≡ v → v ≢ 0 → IsGreatest (ranked_of vars held acts) v
+  pub root_greatest : (v : ℕ) → entry_at tree 1 ≡ v → v ≢ 0 → IsGreatest (ranked_of vars held acts) v
   root_greatest v is some =
       let fits = k.some in
       let h = node_held 1 v (omega arith) (omega arith) is some in
@@ -191,24 +189,24 @@ module _ (vars leaves : ℕ) (held : List Bool) (acts tree : List ℕ) (k : IsHe
             let high = c.1 in
             let all = k.fits in
             let most = root_most acts tree leaves k.won (leaves + (w - 1)) (omega arith) (omega arith) in
-            let mine : rank acts (at tree (leaves + (w - 1))) ≡ at acts w + 1 = ap (rank acts) (leaf_of w hw) ∙ rank_some acts w (omega arith) in
-            let root : rank acts (at tree 1) ≡ at acts v + 1 = ap (rank acts) is ∙ rank_some acts v some in
+            let mine : rank acts (entry_at tree (leaves + (w - 1))) ≡ entry_at acts w + 1 = ap (rank acts) (leaf_of w hw) ∙ rank_some acts w (omega arith) in
+            let root : rank acts (entry_at tree 1) ≡ entry_at acts v + 1 = ap (rank acts) is ∙ rank_some acts v some in
             omega arith;
       }
 
-  pub root_none : at tree 1 ≡ 0 → NoneHeld (ranked_of vars held acts)
+  pub root_none : entry_at tree 1 ≡ 0 → NoneHeld (ranked_of vars held acts)
   root_none is = λ w hw.
       let c = held_within w hw in
       let low = c.0 in
       let high = c.1 in
       let all = k.fits in
       let most = root_most acts tree leaves k.won (leaves + (w - 1)) (omega arith) (omega arith) in
-      let mine : rank acts (at tree (leaves + (w - 1))) ≡ at acts w + 1 = ap (rank acts) (leaf_of w hw) ∙ rank_some acts w (omega arith) in
-      let root : rank acts (at tree 1) ≡ 0 = rank_none acts (at tree 1) is in
+      let mine : rank acts (entry_at tree (leaves + (w - 1))) ≡ entry_at acts w + 1 = ap (rank acts) (leaf_of w hw) ∙ rank_some acts w (omega arith) in
+      let root : rank acts (entry_at tree 1) ≡ 0 = rank_none acts (entry_at tree 1) is in
       omega arith
 
   -- the leaf of one variable has changed
-  pub heap_set : (v : ℕ) (b : Bool) (new : List ℕ) → 1 ≤ v → v ≤ vars → length new ≡ length tree → IsNamed acts new → IsWon acts new leaves → at new (leaves + v - 1) ≡ leaf_word (set held v b) v → KeepsOthers leaves tree new (leaves + v - 1) →
+  pub heap_set : (v : ℕ) (b : Bool) (new : List ℕ) → 1 ≤ v → v ≤ vars → length new ≡ length tree → HaveActivities acts new → IsWon acts new leaves → entry_at new (leaves + v - 1) ≡ leaf_word (set held v b) v → KeepsOthers leaves tree new (leaves + v - 1) →
       IsHeap vars leaves (set held v b) acts new
   heap_set v b new from to size named won leaf others = record {
     limit = k.limit;
@@ -222,19 +220,19 @@ module _ (vars leaves : ℕ) (held : List Bool) (acts tree : List ℕ) (k : IsHe
     named = named;
     won = won;
     leaf = λ i lt. elim (same_or_not (i + 1) v) [
-      | inl e ↦ ap (at new) (omega arith) ∙ leaf ∙ ap (leaf_word (set held v b)) (sym e)
+      | inl e ↦ ap (entry_at new) (omega arith) ∙ leaf ∙ ap (leaf_word (set held v b)) (sym e)
       | inr ne ↦ others (leaves + i) (omega arith) (omega arith) ∙ k.leaf i lt ∙ sym (ap (λ c. cond c (i + 1) 0) (get_or-set_other held v (i + 1) b false ne))
     ];
   }
 
   -- the activity of a variable that no node has
-  pub won_raised : (v n : ℕ) (mid : List ℕ) → v ≢ 0 → IsWon acts mid leaves → ((j : ℕ) → 1 ≤ j → j < 2 * leaves → at mid j ≢ v) → IsWon (set acts v n) mid leaves
+  pub won_raised : (v n : ℕ) (mid : List ℕ) → v ≢ 0 → IsWon acts mid leaves → ((j : ℕ) → 1 ≤ j → j < 2 * leaves → entry_at mid j ≢ v) → IsWon (set acts v n) mid leaves
   won_raised v n mid some won gone = record {
     won = λ j from to.
         let x = won.won j from to in
-        let a = same_rank (at mid (2 * j)) (gone (2 * j) (omega arith) (omega arith)) in
-        let b = same_rank (at mid (2 * j + 1)) (gone (2 * j + 1) (omega arith) (omega arith)) in
-        let c = same_rank (at mid j) (gone j (omega arith) (omega arith)) in
+        let a = same_rank (entry_at mid (2 * j)) (gone (2 * j) (omega arith) (omega arith)) in
+        let b = same_rank (entry_at mid (2 * j + 1)) (gone (2 * j + 1) (omega arith) (omega arith)) in
+        let c = same_rank (entry_at mid j) (gone j (omega arith) (omega arith)) in
         let first = x.first in
         let second = x.second in
         record { one = x.one; first = omega arith; second = omega arith };
@@ -247,12 +245,12 @@ module _ (vars leaves : ℕ) (held : List Bool) (acts tree : List ℕ) (k : IsHe
       ]
 
   -- which it is once its leaf is empty
-  pub gone_from : (v : ℕ) (mid : List ℕ) → 1 ≤ v → v ≤ vars → IsWon acts mid leaves → at mid (leaves + v - 1) ≡ 0 → KeepsOthers leaves tree mid (leaves + v - 1) → (j : ℕ) → 1 ≤ j → j < 2 * leaves → at mid j ≢ v
+  pub gone_from : (v : ℕ) (mid : List ℕ) → 1 ≤ v → v ≤ vars → IsWon acts mid leaves → entry_at mid (leaves + v - 1) ≡ 0 → KeepsOthers leaves tree mid (leaves + v - 1) → (j : ℕ) → 1 ≤ j → j < 2 * leaves → entry_at mid j ≢ v
   gone_from v mid from to won empty others = λ j one below is.
       let x = from_leaf acts mid leaves won j one below in
       let lt = x.1 in
       elim (same_or_not (leaves + x.0) (leaves + v - 1)) [
-        | inl e ↦ let z : v ≡ 0 = sym is ∙ sym x.2 ∙ ap (at mid) e ∙ empty in omega arith
+        | inl e ↦ let z : v ≡ 0 = sym is ∙ sym x.2 ∙ ap (entry_at mid) e ∙ empty in omega arith
         | inr ne ↦
             let word : leaf_word held (x.0 + 1) ≡ v = sym (k.leaf x.0 x.1) ∙ sym (others (leaves + x.0) (omega arith) ne) ∙ x.2 ∙ is in
             elim (held_or held (x.0 + 1)) [
@@ -262,7 +260,7 @@ module _ (vars leaves : ℕ) (held : List Bool) (acts tree : List ℕ) (k : IsHe
       ]
 
   pub heap_raised : (v n : ℕ) (mid new : List ℕ) → 1 ≤ v → v ≤ vars → length mid ≡ length tree → length new ≡ length mid → KeepsOthers leaves tree mid (leaves + v - 1) →
-      IsNamed (set acts v n) new → IsWon (set acts v n) new leaves → at new (leaves + v - 1) ≡ leaf_word held v → KeepsOthers leaves mid new (leaves + v - 1) → IsHeap vars leaves held (set acts v n) new
+      HaveActivities (set acts v n) new → IsWon (set acts v n) new leaves → entry_at new (leaves + v - 1) ≡ leaf_word held v → KeepsOthers leaves mid new (leaves + v - 1) → IsHeap vars leaves held (set acts v n) new
   heap_raised v n mid new from to size size2 others named won leaf others2 = record {
     limit = k.limit;
     some = k.some;
@@ -275,13 +273,13 @@ module _ (vars leaves : ℕ) (held : List Bool) (acts tree : List ℕ) (k : IsHe
     named = named;
     won = won;
     leaf = λ i lt. elim (same_or_not (i + 1) v) [
-      | inl e ↦ ap (at new) (omega arith) ∙ leaf ∙ ap (leaf_word held) (sym e)
+      | inl e ↦ ap (entry_at new) (omega arith) ∙ leaf ∙ ap (leaf_word held) (sym e)
       | inr ne ↦ others2 (leaves + i) (omega arith) (omega arith) ∙ others (leaves + i) (omega arith) (omega arith) ∙ k.leaf i lt
     ];
   }
 
   -- all activities are halved, and all matches played
-  pub heap_halved : (less : List ℕ) (new : List ℕ) → length less ≡ length acts → length new ≡ length tree → IsNamed less new → IsWon less new leaves → KeepsLeaves leaves tree new → IsHeap vars leaves held less new
+  pub heap_halved : (less : List ℕ) (new : List ℕ) → length less ≡ length acts → length new ≡ length tree → HaveActivities less new → IsWon less new leaves → KeepsLeaves leaves tree new → IsHeap vars leaves held less new
   heap_halved less new same size named won kept = record {
     limit = k.limit;
     some = k.some;
@@ -296,18 +294,18 @@ module _ (vars leaves : ℕ) (held : List Bool) (acts tree : List ℕ) (k : IsHe
     leaf = λ i lt. kept (leaves + i) (omega arith) ∙ k.leaf i lt;
   }
 
-pub winner_named : (acts tree : List ℕ) (a b w : ℕ) → IsNamed acts tree → IsWinner acts (at tree a) (at tree b) w → w < length acts
+pub winner_named : (acts tree : List ℕ) (a b w : ℕ) → HaveActivities acts tree → IsWinner acts (entry_at tree a) (entry_at tree b) w → w < length acts
 winner_named acts tree a b w named x = elim x.one [ inl e ↦ subst (λ n. n < length acts) (sym e) (named a) | inr e ↦ subst (λ n. n < length acts) (sym e) (named b) ]
 
-pub zero_named : (acts tree : List ℕ) → 1 ≤ length acts → ((k : ℕ) → k < length tree → at tree k ≡ 0) → IsNamed acts tree
+pub zero_named : (acts tree : List ℕ) → 1 ≤ length acts → ((k : ℕ) → k < length tree → entry_at tree k ≡ 0) → HaveActivities acts tree
 zero_named acts tree some zeros = λ k. elim (cases_lt k (length tree)) [ inl lt ↦ let z = zeros k lt in omega arith | inr ge ↦ let z = get_or_past tree k 0 ge in omega arith ]
 
-pub zero_all : (tree : List ℕ) (k : ℕ) → ((k : ℕ) → k < length tree → at tree k ≡ 0) → at tree k ≡ 0
+pub zero_all : (tree : List ℕ) (k : ℕ) → ((k : ℕ) → k < length tree → entry_at tree k ≡ 0) → entry_at tree k ≡ 0
 zero_all tree k zeros = elim (cases_lt k (length tree)) [ inl lt ↦ zeros k lt | inr ge ↦ get_or_past tree k 0 ge ]
 
-pub zero_set : (tree : List ℕ) (i k : ℕ) → i < length tree → ((k : ℕ) → k < i → at tree k ≡ 0) → k < i + 1 → at (set tree i 0) k ≡ 0
+pub zero_set : (tree : List ℕ) (i k : ℕ) → i < length tree → ((k : ℕ) → k < i → entry_at tree k ≡ 0) → k < i + 1 → entry_at (set tree i 0) k ≡ 0
 zero_set tree i k within zeros lt = elim (same_or_not k i) [
-  | inl e ↦ ap (at (set tree i 0)) e ∙ get_or-set_same tree i 0 0 within
+  | inl e ↦ ap (entry_at (set tree i 0)) e ∙ get_or-set_same tree i 0 0 within
   | inr ne ↦ get_or-set_other tree i k 0 0 ne ∙ zeros k (omega arith)
 ]
 
@@ -328,9 +326,9 @@ heap_longer vars leaves held acts tree more k = record {
   named = λ j. subst (λ n. n < length acts) (sym (get_padded tree more 0 j)) (k.named j);
   won = let w = k.won in record {
     won = λ j from to.
-        subst (λ x. IsWinner acts x (at (tree ++ replicate more 0) (2 * j + 1)) (at (tree ++ replicate more 0) j)) (sym (get_padded tree more 0 (2 * j)))
-        (subst (λ x. IsWinner acts (at tree (2 * j)) x (at (tree ++ replicate more 0) j)) (sym (get_padded tree more 0 (2 * j + 1)))
-        (subst (λ x. IsWinner acts (at tree (2 * j)) (at tree (2 * j + 1)) x) (sym (get_padded tree more 0 j)) (w.won j from to)));
+        subst (λ x. IsWinner acts x (entry_at (tree ++ replicate more 0) (2 * j + 1)) (entry_at (tree ++ replicate more 0) j)) (sym (get_padded tree more 0 (2 * j)))
+        (subst (λ x. IsWinner acts (entry_at tree (2 * j)) x (entry_at (tree ++ replicate more 0) j)) (sym (get_padded tree more 0 (2 * j + 1)))
+        (subst (λ x. IsWinner acts (entry_at tree (2 * j)) (entry_at tree (2 * j + 1)) x) (sym (get_padded tree more 0 j)) (w.won j from to)));
   };
   leaf = λ i lt. get_padded tree more 0 (leaves + i) ∙ k.leaf i lt;
 }

@@ -52,5 +52,5 @@ abbrev pub bumped : Ranked → ℕ → Ranked
 bumped h v = raised (roomy h v) v
 
 -- n further variables, held and not active
-abbrev pub widened : Ranked → ℕ → Ranked
-widened h n = record { vars = h.vars + n; held = h.held ++ replicate n true; activities = h.activities ++ replicate n 0 }
+abbrev pub with_fresh : Ranked → ℕ → Ranked
+with_fresh h n = record { vars = h.vars + n; held = h.held ++ replicate n true; activities = h.activities ++ replicate n 0 }

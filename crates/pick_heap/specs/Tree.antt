@@ -3,12 +3,12 @@
 use Rattle.std.specs.Prelude.{◌≡◌, ◌≢◌, ◌≤◌, ◌<◌, ◌⊎◌, ℕ, ◌+◌, ◌*◌, Bool, false, cond, nat_eq, List, length, slice_index, slice_index_or}
 use Rattle.cnf_core.specs.declared.limits.TheConstants.{VARS}
 
-abbrev pub at : List ℕ → ℕ → ℕ
-at xs i = slice_index xs i
+abbrev pub entry_at : List ℕ → ℕ → ℕ
+entry_at xs i = slice_index xs i
 
 -- how high a variable ranks: no variable, which is 0, is below all
 abbrev pub rank : List ℕ → ℕ → ℕ
-rank activities v = cond (nat_eq v 0) 0 (at activities v + 1)
+rank activities v = cond (nat_eq v 0) 0 (entry_at activities v + 1)
 
 -- w is one of the two, and ranks no lower than either
 pub record IsWinner (activities : List ℕ) (a b w : ℕ) : Type 0 where
@@ -17,11 +17,11 @@ pub record IsWinner (activities : List ℕ) (a b w : ℕ) : Type 0 where
   pub second : rank activities b ≤ rank activities w
 
 -- each entry of the tree has an activity
-abbrev pub IsNamed : List ℕ → List ℕ → Type 0
-IsNamed activities tree = (k : ℕ) → at tree k < length activities
+abbrev pub HaveActivities : List ℕ → List ℕ → Type 0
+HaveActivities activities tree = (k : ℕ) → entry_at tree k < length activities
 
 abbrev pub IsWonAt : List ℕ → List ℕ → ℕ → Type 0
-IsWonAt activities tree k = IsWinner activities (at tree (2 * k)) (at tree (2 * k + 1)) (at tree k)
+IsWonAt activities tree k = IsWinner activities (entry_at tree (2 * k)) (entry_at tree (2 * k + 1)) (entry_at tree k)
 
 -- each node has the winner of its children
 pub record IsWon (activities tree : List ℕ) (leaves : ℕ) : Type 0 where
@@ -36,13 +36,13 @@ leaf_word held v = cond (slice_index_or held v false) v 0
 
 -- the leaf of each variable has it, where it is held
 abbrev pub HasLeaves : ℕ → List Bool → List ℕ → Type 0
-HasLeaves leaves held tree = (i : ℕ) → i < leaves → at tree (leaves + i) ≡ leaf_word held (i + 1)
+HasLeaves leaves held tree = (i : ℕ) → i < leaves → entry_at tree (leaves + i) ≡ leaf_word held (i + 1)
 
 abbrev pub KeepsLeaves : ℕ → List ℕ → List ℕ → Type 0
-KeepsLeaves leaves old new = (j : ℕ) → leaves ≤ j → at new j ≡ at old j
+KeepsLeaves leaves old new = (j : ℕ) → leaves ≤ j → entry_at new j ≡ entry_at old j
 
 abbrev pub KeepsOthers : ℕ → List ℕ → List ℕ → ℕ → Type 0
-KeepsOthers leaves old new leaf = (j : ℕ) → leaves ≤ j → j ≢ leaf → at new j ≡ at old j
+KeepsOthers leaves old new leaf = (j : ℕ) → leaves ≤ j → j ≢ leaf → entry_at new j ≡ entry_at old j
 
 -- what each heap keeps
 pub record IsHeap (vars leaves : ℕ) (held : List Bool) (activities tree : List ℕ) : Type 0 where
@@ -54,6 +54,6 @@ pub record IsHeap (vars leaves : ℕ) (held : List Bool) (activities tree : List
   pub activities_size : length activities ≡ vars + 1
   pub none : slice_index_or held 0 false ≡ false
   pub size : 2 * leaves ≤ length tree
-  pub named : IsNamed activities tree
+  pub named : HaveActivities activities tree
   pub won : IsWon activities tree leaves
   pub leaf : HasLeaves leaves held tree

@@ -1,6 +1,6 @@
 // The heap of variables.
 ghost use Rattle.std.specs.Prelude.{◌≡◌, ◌≤◌, ◌<◌, ◌+◌, ◌*◌, ◌/◌, ◌-◌, ◌^◌, ℕ, length, map, MatchOption, IfOk, OnOk, OnErr, replicate, true};
-ghost use Rattle.pick_heap.specs.Heap.{AreFresh, IsGreatest, NoneHeld, activity, without, with_held, roomy, raised, bumped, widened};
+ghost use Rattle.pick_heap.specs.Heap.{AreFresh, IsGreatest, NoneHeld, activity, without, with_held, roomy, raised, bumped, with_fresh};
 
 use crate::matches::{lay_out, leaf_word, play_all, set_leaf};
 use cnf_core::{VARS, Var, lengthen};
@@ -78,7 +78,7 @@ impl Heap {
     /// Takes the next `n` variables, each held and of activity 0. It goes over all variables.
     pub fn add_vars(&mut self, n: u32) -> Result<(), OutOfMemory>
         requires { self.old.vars + n ≤ VARS }
-        ensures more { OnOk result (self.new ≡ widened self.old n) }
+        ensures more { OnOk result (self.new ≡ with_fresh self.old n) }
         ensures none { OnErr result (self.new ≡ self.old) }
     {
         let leaves = leaves_for(self.vars + n);

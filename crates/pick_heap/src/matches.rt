@@ -1,6 +1,6 @@
 // The tree of matches: each node has the winner of its two children, and each variable a leaf.
 ghost use Rattle.std.specs.Prelude.{◌≡◌, ◌≤◌, ◌<◌, ◌+◌, ◌*◌, ◌/◌, ◌-◌, ◌^◌, ℕ, length, slice_index, false};
-ghost use Rattle.pick_heap.specs.Tree.{at, IsWinner, IsNamed, IsWon, IsWonBut, HasLeaves, KeepsLeaves, KeepsOthers, leaf_word};
+ghost use Rattle.pick_heap.specs.Tree.{entry_at, IsWinner, HaveActivities, IsWon, IsWonBut, HasLeaves, KeepsLeaves, KeepsOthers, leaf_word};
 
 /// The more active of two variables, and of equal ones the first; 0 is none.
 pub fn better(activities: &[u16], a: u32, b: u32) -> u32
@@ -24,9 +24,9 @@ pub fn replay(tree: &mut [u32], activities: &[u16], leaves: u32, from: u32)
     requires to { from < 2 * leaves }
     requires limit { leaves < 2 ^ 30 }
     requires size { 2 * leaves ≤ length tree.old }
-    requires named { IsNamed activities.now tree.old }
+    requires named { HaveActivities activities.now tree.old }
     requires won { IsWonBut activities.now tree.old leaves (from / 2) }
-    ensures named { IsNamed activities.now tree.new }
+    ensures named { HaveActivities activities.now tree.new }
     ensures won { IsWon activities.now tree.new leaves }
     ensures kept { KeepsLeaves leaves tree.old tree.new }
 {
@@ -56,11 +56,11 @@ pub fn set_leaf(tree: &mut [u32], activities: &[u16], leaves: u32, v: u32, word:
     requires word { word < length activities.now }
     requires limit { leaves < 2 ^ 30 }
     requires size { 2 * leaves ≤ length tree.old }
-    requires named { IsNamed activities.now tree.old }
+    requires named { HaveActivities activities.now tree.old }
     requires won { IsWon activities.now tree.old leaves }
-    ensures named { IsNamed activities.now tree.new }
+    ensures named { HaveActivities activities.now tree.new }
     ensures won { IsWon activities.now tree.new leaves }
-    ensures leaf { at tree.new (leaves + v - 1) ≡ word }
+    ensures leaf { entry_at tree.new (leaves + v - 1) ≡ word }
     ensures others { KeepsOthers leaves tree.old tree.new (leaves + v - 1) }
 {
     tree[(leaves + v - 1) as usize] = word;
@@ -71,8 +71,8 @@ pub fn set_leaf(tree: &mut [u32], activities: &[u16], leaves: u32, v: u32, word:
 pub fn play_all(tree: &mut [u32], activities: &[u16], leaves: u32)
     requires limit { leaves < 2 ^ 30 }
     requires size { 2 * leaves ≤ length tree.old }
-    requires named { IsNamed activities.now tree.old }
-    ensures named { IsNamed activities.now tree.new }
+    requires named { HaveActivities activities.now tree.old }
+    ensures named { HaveActivities activities.now tree.new }
     ensures won { IsWon activities.now tree.new leaves }
     ensures kept { KeepsLeaves leaves tree.old tree.new }
 {
@@ -90,7 +90,7 @@ pub fn lay_out(tree: &mut [u32], activities: &[u16], held: &[bool], leaves: u32)
     requires tables { length held.now ≡ length activities.now }
     requires some { 1 ≤ length held.now }
     requires fits { length held.now ≤ leaves + 1 }
-    ensures named { IsNamed activities.now tree.new }
+    ensures named { HaveActivities activities.now tree.new }
     ensures won { IsWon activities.now tree.new leaves }
     ensures leaves { HasLeaves leaves held.now tree.new }
 {

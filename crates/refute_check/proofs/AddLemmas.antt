@@ -13,10 +13,12 @@ use Rattle.cnf_core.proofs.PropagationLemmas.{closure_again, closure_more, among
 use Rattle.cnf_core.proofs.ClauseLemmas.{there_more}
 use Rattle.cnf_core.proofs.TrailLemmas.{word_once, has_last, has_front, same_literal_or, push_keeps, front_lacks, front_includes}
 use Rattle.refute_check.specs.declared.tables.Tables.{Tables}
-use Rattle.refute_check.specs.Tables.{marked, weight, false_count, IsTrail, IsCounted, AreCounts, AreQuiet, IsQuiet, IsUnset, Grows, Lists, AreOccurrences, places_from}
-use Rattle.refute_check.specs.Settled.{IsSettled, IsListed}
+use Rattle.cnf_core.specs.Trail.{marked, weight, IsTrail, Grows}
+use Rattle.refute_check.specs.Tables.{false_count, IsCountedTo, AreCounts, AreQuiet, IsQuiet, IsUnsetUnit, Lists, AreOccurrences, places_from}
+use Rattle.refute_check.specs.Settled.{AreSettled, IsListed}
 use Rattle.refute_check.proofs.ScanLemmas.{IsFalse}
-use Rattle.refute_check.proofs.GrowthLemmas.{quiet_more, quiet_marked, grows_more, grows_unit, all_same_set}
+use Rattle.cnf_core.proofs.GrowthLemmas.{grows_more, grows_unit, grows_reason}
+use Rattle.refute_check.proofs.GrowthLemmas.{quiet_more, quiet_marked, all_same_set}
 
 -- counting false literals one after another
 pub false_step : (truth : List Bool) (c : List Literal) (i : ℕ) (l : Literal) (b : Bool) → i < length c → l ≡ get_or c i l → b ≡ marked truth (negate l) → false_count (marked truth) (take (i + 1) c) ≡ false_count (marked truth) (take i c) + weight b
@@ -96,7 +98,7 @@ same_count vars truth trail (k ∷ c) t =
     let e : weight (marked truth (negate k)) ≡ weight (has trail (negate k)) = ap weight (t.marks (negate k)) in
     omega (arith, a, b, e, same_count vars truth trail c t)
 
-pub listed : (vars : ℕ) (clauses : Clauses) (c : List Literal) (n : ℕ) (old new : Tables) → IsSettled vars clauses old → Lists c (length clauses) old.occurrences.items new.occurrences.items → n + false_count (marked old.truth.items) c ≡ length c → new.counts.items ≡ old.counts.items ++ n ∷ [] → new.truth.items ≡ old.truth.items → new.trail.items ≡ old.trail.items → IsListed vars (clauses ++ c ∷ []) c new
+pub listed : (vars : ℕ) (clauses : Clauses) (c : List Literal) (n : ℕ) (old new : Tables) → AreSettled vars clauses old → Lists c (length clauses) old.occurrences.items new.occurrences.items → n + false_count (marked old.truth.items) c ≡ length c → new.counts.items ≡ old.counts.items ++ n ∷ [] → new.truth.items ≡ old.truth.items → new.trail.items ≡ old.trail.items → IsListed vars (clauses ++ c ∷ []) c new
 listed vars clauses c n old new s lists count counts truth trail = record {
   among = Contains-push clauses c;
   occurrences = occurrences_push vars clauses c old.occurrences.items new.occurrences.items s.occurrences lists;
@@ -121,7 +123,7 @@ listed vars clauses c n old new s lists count counts truth trail = record {
 all_of : (clauses : Clauses) (c : List Literal) (P : List Literal → Type 0) → All (λ d. (d ≡ c) ⊎ P d) clauses → P c → All P clauses
 all_of clauses c P all here = All-weaker (λ d. (d ≡ c) ⊎ P d) P (λ d h. elim h [ inl e ↦ subst P (sym e) here | inr p ↦ p ]) clauses all
 
-pub settled_quiet : (vars : ℕ) (clauses : Clauses) (c : List Literal) (t : Tables) → IsListed vars clauses c t → IsQuiet (has t.trail.items) (has t.trail.items) c → IsSettled vars clauses t
+pub settled_quiet : (vars : ℕ) (clauses : Clauses) (c : List Literal) (t : Tables) → IsListed vars clauses c t → IsQuiet (has t.trail.items) (has t.trail.items) c → AreSettled vars clauses t
 settled_quiet vars clauses c t s q = record {
   occurrences = s.occurrences;
   counted = s.counted;
@@ -140,7 +142,7 @@ settled_falsified vars clauses c t s all = record {
 }
 
 -- the unit literal is marked, and the clause quiet then
-pub unit_quiet : (clauses : Clauses) (c trail : List Literal) (l : Literal) → All (λ d. (d ≡ c) ⊎ IsQuiet (has (take (length trail) trail)) (has trail) d) clauses → IsUnset (has trail) c l → AreQuiet clauses (trail ++ l ∷ []) (length trail)
+pub unit_quiet : (clauses : Clauses) (c trail : List Literal) (l : Literal) → All (λ d. (d ≡ c) ⊎ IsQuiet (has (take (length trail) trail)) (has trail) d) clauses → IsUnsetUnit (has trail) c l → AreQuiet clauses (trail ++ l ∷ []) (length trail)
 unit_quiet clauses c trail l quiet u =
     let front : take (length trail) (trail ++ l ∷ []) ≡ take (length trail) trail = take_at trail (l ∷ []) (length trail) refl ∙ sym (take_all (length trail) trail (omega arith)) in
     subst (λ (ls : List Literal). All (IsQuiet (has ls) (has (trail ++ l ∷ []))) clauses) (sym front)
@@ -149,7 +151,7 @@ unit_quiet clauses c trail l quiet u =
     (λ d h. elim h [ inl e ↦ inl e | inr q ↦ inr (quiet_more (has (take (length trail) trail)) (has trail) (has (trail ++ l ∷ [])) d (push_keeps trail l) q) ]) clauses quiet)
     (quiet_marked trail c l (has (take (length trail) trail)) u (front_includes trail (length trail))))
 
-pub unit_counted : (vars : ℕ) (clauses : Clauses) (truth then : List Bool) (trail : List Literal) (counts : List ℕ) (l : Literal) → IsCounted vars clauses truth trail counts (length trail) → IsTrail vars then (trail ++ l ∷ []) → IsCounted vars clauses then (trail ++ l ∷ []) counts (length trail)
+pub unit_counted : (vars : ℕ) (clauses : Clauses) (truth then : List Bool) (trail : List Literal) (counts : List ℕ) (l : Literal) → IsCountedTo vars clauses truth trail counts (length trail) → IsTrail vars then (trail ++ l ∷ []) → IsCountedTo vars clauses then (trail ++ l ∷ []) counts (length trail)
 unit_counted vars clauses truth then trail counts l c t = record {
   table = t;
   within = omega (arith, length-append trail (l ∷ []));
@@ -161,7 +163,7 @@ pub grown_within : (clauses : Clauses) (old new : List Literal) → ((l : Litera
 grown_within clauses old new within g l h = closure_again clauses nothing (has old) l within (g.within l h)
 
 pub grown_reasoned : (clauses : Clauses) (old new : List Literal) → ((l : Literal) → IsIn (has old) l → HasReason clauses (has old) l) → Grows clauses old new → (l : Literal) → IsIn (has new) l → HasReason clauses (has new) l
-grown_reasoned clauses old new reasoned g l h = elim (g.reason l h) [
+grown_reasoned clauses old new reasoned g l h = elim (grows_reason clauses old new g l h) [
   | inl o ↦ reason_more clauses (has old) (has new) l g.keeps (reasoned l o)
   | inr r ↦ r
 ]
@@ -206,7 +208,7 @@ two_empty [] (suc (suc i)) = refl
 two_empty (x ∷ xs) zero = refl
 two_empty (x ∷ xs) (suc i) = two_empty xs i
 
-pub var_added : (vars : ℕ) (clauses : Clauses) (old new : Tables) → AllThere vars clauses → IsSettled vars clauses old → new.occurrences.items ≡ old.occurrences.items ++ [] ∷ [] ∷ [] → new.truth.items ≡ old.truth.items ++ false ∷ false ∷ [] → new.trail.items ≡ old.trail.items → new.counts.items ≡ old.counts.items → IsSettled (vars + 1) clauses new
+pub var_added : (vars : ℕ) (clauses : Clauses) (old new : Tables) → AllThere vars clauses → AreSettled vars clauses old → new.occurrences.items ≡ old.occurrences.items ++ [] ∷ [] ∷ [] → new.truth.items ≡ old.truth.items ++ false ∷ false ∷ [] → new.trail.items ≡ old.trail.items → new.counts.items ≡ old.counts.items → AreSettled (vars + 1) clauses new
 var_added vars clauses old new there s occurrences truth trail counts = record {
   occurrences = rw occurrences (record {
     size = let o = s.occurrences in omega (arith, length-append old.occurrences.items ([] ∷ [] ∷ []), o.size);
@@ -239,18 +241,18 @@ var_added vars clauses old new there s occurrences truth trail counts = record {
     by_place l (inr high) = let o = s.occurrences in
         get_or_past old.occurrences.items (word_of l) [] high ∙ sym (places_none clauses l vars 0 there (high_var vars l (omega (arith, high, o.size))))
 
-pub settled_unit : (vars : ℕ) (clauses : Clauses) (c : List Literal) (l : Literal) (old new : Tables) (front : ℕ) → IsListed vars clauses c old → IsUnset (has old.trail.items) c l → new.occurrences.items ≡ old.occurrences.items → IsCounted vars clauses new.truth.items new.trail.items new.counts.items front → Grows clauses (old.trail.items ++ l ∷ []) new.trail.items → front ≡ length new.trail.items → AreQuiet clauses new.trail.items (length new.trail.items) → IsSettled vars clauses new
+pub settled_unit : (vars : ℕ) (clauses : Clauses) (c : List Literal) (l : Literal) (old new : Tables) (front : ℕ) → IsListed vars clauses c old → IsUnsetUnit (has old.trail.items) c l → new.occurrences.items ≡ old.occurrences.items → IsCountedTo vars clauses new.truth.items new.trail.items new.counts.items front → Grows clauses (old.trail.items ++ l ∷ []) new.trail.items → front ≡ length new.trail.items → AreQuiet clauses new.trail.items (length new.trail.items) → AreSettled vars clauses new
 settled_unit vars clauses c l old new front s u same counted g all quiet =
     let whole = grows_more clauses old.trail.items (old.trail.items ++ l ∷ []) new.trail.items (grows_unit clauses old.trail.items c l s.among u.unit) g in
     record {
       occurrences = rw same s.occurrences;
-      counted = subst (λ n. IsCounted vars clauses new.truth.items new.trail.items new.counts.items n) all counted;
+      counted = subst (λ n. IsCountedTo vars clauses new.truth.items new.trail.items new.counts.items n) all counted;
       within = grown_within clauses old.trail.items new.trail.items s.within whole;
       reasoned = grown_reasoned clauses old.trail.items new.trail.items s.reasoned whole;
       quiet = quiet;
     }
 
-pub falsified_unit : (vars : ℕ) (clauses : Clauses) (c : List Literal) (l : Literal) (old : Tables) (new : List Literal) → IsListed vars clauses c old → IsUnset (has old.trail.items) c l → Grows clauses (old.trail.items ++ l ∷ []) new → Falsified clauses (has new) → Falsifies clauses nothing
+pub falsified_unit : (vars : ℕ) (clauses : Clauses) (c : List Literal) (l : Literal) (old : Tables) (new : List Literal) → IsListed vars clauses c old → IsUnsetUnit (has old.trail.items) c l → Grows clauses (old.trail.items ++ l ∷ []) new → Falsified clauses (has new) → Falsifies clauses nothing
 falsified_unit vars clauses c l old new s u g f = grown_falsified clauses old.trail.items new s.within (grows_more clauses old.trail.items (old.trail.items ++ l ∷ []) new (grows_unit clauses old.trail.items c l s.among u.unit) g) f
 
 pub pushed_twice : {X : Type 0} (xs ys zs : List X) (a b e : X) → ys ≡ xs ++ a ∷ [] → zs ≡ ys ++ b ∷ [] → a ≡ e → b ≡ e → zs ≡ xs ++ e ∷ e ∷ []

@@ -8,8 +8,10 @@ use Rattle.cnf_core.specs.Clause.{Clauses, AreDistinct, AreThere, AllDistinct, I
 use Rattle.cnf_core.specs.Propagation.{LiteralSet, IsIn, Includes}
 use Rattle.cnf_core.proofs.PropagationLemmas.{negate-negate, has_from_contains}
 use Rattle.cnf_core.proofs.TrailLemmas.{there_get, has_front, same_literal_or, word_below, front_includes, front_lacks, next_front}
-use Rattle.refute_check.specs.Tables.{CountedUp, places_from, AreCounts, AreOccurrences, IsTrail, IsCounted, IsQuiet, AreQuiet, IsQuietNow, AreQuietNow, Grows}
-use Rattle.refute_check.proofs.GrowthLemmas.{quiet_more, grows_none, grows_more}
+use Rattle.cnf_core.specs.Trail.{IsTrail, Grows}
+use Rattle.refute_check.specs.Tables.{CountedUp, places_from, AreCounts, AreOccurrences, IsCountedTo, IsQuiet, AreQuiet, IsQuietNow, AreQuietNow}
+use Rattle.cnf_core.proofs.GrowthLemmas.{grows_none, grows_more}
+use Rattle.refute_check.proofs.GrowthLemmas.{quiet_more}
 use Rattle.refute_check.proofs.FalseCountLemmas.{counts_down, named_by}
 
 -- a grown trail has the same front
@@ -58,7 +60,7 @@ quiet_next clauses trail new counts front l within e g quiet right looked =
     by_test n d there false h = at_default n d there (set_is (get_or clauses n [])
         (quiet_more (has (take front trail ++ l ∷ [])) (has trail) (has new) (get_or clauses n []) g.keeps (quiet_untouched (take front trail) (get_or clauses n []) (has trail) l h (quiet n [] there))))
 
-pub counted_next : (vars : ℕ) (clauses : Clauses) (truth then : List Bool) (trail new : List Literal) (old counts : List ℕ) (front : ℕ) (l : Literal) → front < length trail → get_or trail front l ≡ l → AllDistinct clauses → IsCounted vars clauses truth trail old front → Grows clauses trail new → IsTrail vars then new → length counts ≡ length old → CountedUp (places_from 0 clauses (negate l)) counts old → IsCounted vars clauses then new counts (front + 1)
+pub counted_next : (vars : ℕ) (clauses : Clauses) (truth then : List Bool) (trail new : List Literal) (old counts : List ℕ) (front : ℕ) (l : Literal) → front < length trail → get_or trail front l ≡ l → AllDistinct clauses → IsCountedTo vars clauses truth trail old front → Grows clauses trail new → IsTrail vars then new → length counts ≡ length old → CountedUp (places_from 0 clauses (negate l)) counts old → IsCountedTo vars clauses then new counts (front + 1)
 counted_next vars clauses truth then trail new old counts front l within e distinct counted g t same up = record {
   table = t;
   within = let longer = g.longer in omega arith;
@@ -84,15 +86,15 @@ advance_places vars clauses lists trail front l n word list shown o there within
 
 -- how far propagation came
 pub record Propagated (vars : ℕ) (clauses : Clauses) (old : List Literal) (truth : List Bool) (new : List Literal) (counts : List ℕ) (from front : ℕ) : Type 0 where
-  pub counted : IsCounted vars clauses truth new counts front
+  pub counted : IsCountedTo vars clauses truth new counts front
   pub quiet : AreQuiet clauses new front
   pub grows : Grows clauses old new
   pub on : from ≤ front
 
-pub propagated_none : (vars : ℕ) (clauses : Clauses) (trail : List Literal) (truth : List Bool) (counts : List ℕ) (from : ℕ) → IsCounted vars clauses truth trail counts from → AreQuiet clauses trail from → Propagated vars clauses trail truth trail counts from from
+pub propagated_none : (vars : ℕ) (clauses : Clauses) (trail : List Literal) (truth : List Bool) (counts : List ℕ) (from : ℕ) → IsCountedTo vars clauses truth trail counts from → AreQuiet clauses trail from → Propagated vars clauses trail truth trail counts from from
 propagated_none vars clauses trail truth counts from counted quiet = record { counted = counted; quiet = quiet; grows = grows_none clauses trail; on = omega arith }
 
-pub propagated_more : (vars : ℕ) (clauses : Clauses) (old mid new : List Literal) (truth then : List Bool) (counts now : List ℕ) (from front : ℕ) → Propagated vars clauses old truth mid counts from front → IsCounted vars clauses then new now (front + 1) → AreQuiet clauses new (front + 1) → Grows clauses mid new → Propagated vars clauses old then new now from (front + 1)
+pub propagated_more : (vars : ℕ) (clauses : Clauses) (old mid new : List Literal) (truth then : List Bool) (counts now : List ℕ) (from front : ℕ) → Propagated vars clauses old truth mid counts from front → IsCountedTo vars clauses then new now (front + 1) → AreQuiet clauses new (front + 1) → Grows clauses mid new → Propagated vars clauses old then new now from (front + 1)
 propagated_more vars clauses old mid new truth then counts now from front p counted quiet g = record {
   counted = counted;
   quiet = quiet;

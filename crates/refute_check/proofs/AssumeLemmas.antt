@@ -8,7 +8,8 @@ use Rattle.cnf_core.specs.Clause.{AreDistinct}
 use Rattle.cnf_core.specs.Propagation.{IsIn, Includes, negations}
 use Rattle.cnf_core.proofs.PropagationLemmas.{negate-negate, contains_from_has, has_from_contains}
 use Rattle.cnf_core.proofs.TrailLemmas.{has_last, has_front, same_literal_or, distinct_consistent, push_keeps}
-use Rattle.refute_check.specs.Tables.{marked, IsTrail, Assumes, Clashes}
+use Rattle.cnf_core.specs.Trail.{marked, IsTrail}
+use Rattle.refute_check.specs.Tables.{Assumes, HasTrueLiteral}
 use Rattle.refute_check.proofs.ScanLemmas.{IsFalse}
 
 pub record Assumed (vars : ℕ) (lits old : List Literal) (truth : List Bool) (new : List Literal) (i : ℕ) : Type 0 where
@@ -61,7 +62,7 @@ assumed_more vars lits old truth then new now i l n within at s is t e =
     }
 
 -- a literal that is true was true before
-pub assumed_clash : (vars : ℕ) (lits old : List Literal) (truth : List Bool) (new : List Literal) (i : ℕ) (l : Literal) → AreDistinct lits → i < length lits → l ≡ get_or lits i l → Assumed vars lits old truth new i → IsIn (marked truth) l → Clashes lits old
+pub assumed_clash : (vars : ℕ) (lits old : List Literal) (truth : List Bool) (new : List Literal) (i : ℕ) (l : Literal) → AreDistinct lits → i < length lits → l ≡ get_or lits i l → Assumed vars lits old truth new i → IsIn (marked truth) l → HasTrueLiteral lits old
 assumed_clash vars lits old truth new i l distinct within at s h =
     let among : Contains lits l = subst (λ (m : Literal). Contains lits m) (sym at) (Contains-get_or lits i l within) in
     record {

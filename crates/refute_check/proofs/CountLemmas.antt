@@ -1,22 +1,30 @@
 -- Counts by number, and the numbers of the clauses that have a literal.
-use Rattle.std.proofs.Common.{◌≡◌, ◌≢◌, ℕ, ◌+◌, ◌-◌, ◌<◌, ◌≤◌, cond, nat_eq, List, length, take, get_or, set, refl, sym, ap, arith, inl, inr}
+use Rattle.std.proofs.Common.{◌≡◌, ◌≢◌, ℕ, ◌+◌, ◌-◌, ◌<◌, ◌≤◌, cond, nat_eq, List, [], ◌∷◌, length, take, get_or, set, refl, sym, ap, arith, inl, inr}
 use Rattle.std.proofs.lemmas.Bool.Decides.{eqb_tells}
 use Rattle.std.proofs.lemmas.List.{get_or-set_other}
 use Rattle.std.proofs.lemmas.Grind.{get_or-set_at}
-use Rattle.std.proofs.lemmas.List.Sums.{sum_by_more, sum_by_more_le}
-use Rattle.refute_check.specs.Tables.{times, CountedUp}
+use Rattle.std.proofs.lemmas.List.Sums.{sum_by-cons, sum_by_more, sum_by_more_le}
+use Rattle.std.specs.List.{sum_by}
+use Rattle.cnf_core.specs.Times.{times}
+use Rattle.refute_check.specs.Tables.{CountedUp}
 
 abbrev one_at : ℕ → ℕ → ℕ
 one_at n m = cond (nat_eq m n) 1 0
 
+times_sum : (ns : List ℕ) (n : ℕ) → times ns n ≡ sum_by (one_at n) ns
+times_sum [] n = refl
+times_sum (m ∷ ms) n = omega (arith, sum_by-cons (one_at n) m ms, times_sum ms n)
+
 times_more : (ns : List ℕ) (i m : ℕ) → i < length ns → times (take (i + 1) ns) m ≡ times (take i ns) m + one_at m (get_or ns i 0)
-times_more ns i m within = sum_by_more (one_at m) ns i 0 within
+times_more ns i m within = omega (arith, sum_by_more (one_at m) ns i 0 within, times_sum (take (i + 1) ns) m, times_sum (take i ns) m)
 
 pub times_at : (ns : List ℕ) (i : ℕ) → i < length ns → times (take i ns) (get_or ns i 0) + 1 ≤ times ns (get_or ns i 0)
-times_at ns i within = elim (eqb_tells (get_or ns i 0) (get_or ns i 0)) [
-  | inl e ↦ let one : one_at (get_or ns i 0) (get_or ns i 0) ≡ 1 = rw e.0 refl in omega (arith, sum_by_more_le (one_at (get_or ns i 0)) ns i 0 within, one)
-  | inr e ↦ absurd (e.1 refl)
-]
+times_at ns i within =
+    let it = get_or ns i 0 in
+    elim (eqb_tells it it) [
+      | inl e ↦ let one : one_at it it ≡ 1 = rw e.0 refl in omega (arith, sum_by_more_le (one_at it) ns i 0 within, times_sum (take i ns) it, times_sum ns it, one)
+      | inr e ↦ absurd (e.1 refl)
+    ]
 
 -- one more
 pub counted_more : (ns old now : List ℕ) (i : ℕ) → i < length ns → get_or ns i 0 < length now → CountedUp (take i ns) old now → CountedUp (take (i + 1) ns) old (set now (get_or ns i 0) (get_or now (get_or ns i 0) 0 + 1))

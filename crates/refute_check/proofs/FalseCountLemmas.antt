@@ -11,13 +11,15 @@ use Rattle.cnf_core.proofs.PropagationLemmas.{negate-negate, contains_from_has, 
 use Rattle.cnf_core.proofs.ClauseLemmas.{distinct_at, words_at}
 use Rattle.cnf_core.proofs.TrailLemmas.{has_last, has_front, same_literal_or}
 use Rattle.plan_core.proofs.TruthFacts.{same_when}
-use Rattle.refute_check.specs.Tables.{times, CountedUp, places_from, false_count, AreCounts, weight}
+use Rattle.cnf_core.specs.Trail.{weight}
+use Rattle.cnf_core.specs.Times.{times}
+use Rattle.refute_check.specs.Tables.{CountedUp, places_from, false_count, AreCounts}
 
 abbrev one_at : ℕ → ℕ → ℕ
 one_at n m = cond (nat_eq m n) 1 0
 
 times_cons : (m : ℕ) (ms : List ℕ) (n : ℕ) → times (m ∷ ms) n ≡ one_at n m + times ms n
-times_cons m ms n = sum_by-cons (one_at n) m ms
+times_cons m ms n = refl
 
 one_other : (n m : ℕ) → m ≢ n → one_at n m ≡ 0
 one_other n m ne = elim (eqb_tells m n) [ inl e ↦ absurd (ne e.1) | inr e ↦ rw e.0 refl ]

@@ -9,8 +9,10 @@ use Rattle.cnf_core.specs.Lit.{Literal, negate, has}
 use Rattle.cnf_core.specs.Clause.{Clauses, Avoids, AreDistinct}
 use Rattle.cnf_core.specs.Propagation.{LiteralSet, IsIn, Includes, IsUnit, Closure, IsConsistent, HasReason, Falsified}
 use Rattle.cnf_core.proofs.PropagationLemmas.{closure_start, closure_unit, closure_again, unit_more, reason_more}
+use Rattle.cnf_core.proofs.GrowthLemmas.{grows_none, grows_more}
 use Rattle.cnf_core.proofs.TrailLemmas.{has_last, has_front, same_literal_or, distinct_consistent, push_keeps}
-use Rattle.refute_check.specs.Tables.{marked, false_count, IsTrail, IsQuiet, IsUnset, Grows, IsQuietNow, AreQuietNow}
+use Rattle.cnf_core.specs.Trail.{marked, IsTrail, Grows}
+use Rattle.refute_check.specs.Tables.{false_count, IsQuiet, IsUnsetUnit, IsQuietNow, AreQuietNow}
 use Rattle.refute_check.proofs.ScanLemmas.{IsFalse, IsLastOr}
 
 -- sets that agree
@@ -30,45 +32,8 @@ quiet_part done set c within q = record {
   unfalsified = λ all. q.unfalsified (All-weaker (IsFalse done) (IsFalse set) (λ k h. within (negate k) h) c all);
 }
 
--- growing
-pub grows_none : (clauses : Clauses) (trail : List Literal) → Grows clauses trail trail
-grows_none clauses trail = record {
-  front = take_all (length trail) trail (omega arith);
-  longer = omega arith;
-  keeps = λ l h. h;
-  within = λ l h. closure_start clauses (has trail) l h;
-  reason = λ l h. inl h;
-}
-
-pub grows_more : (clauses : Clauses) (old mid new : List Literal) → Grows clauses old mid → Grows clauses mid new → Grows clauses old new
-grows_more clauses old mid new a b = record {
-  front = let longer = a.longer in sym (take-take (length old) (length mid) new longer) ∙ ap (take (length old)) b.front ∙ a.front;
-  longer = let x = a.longer in let y = b.longer in omega arith;
-  keeps = λ l h. b.keeps l (a.keeps l h);
-  within = λ l h. closure_again clauses (has old) (has mid) l a.within (b.within l h);
-  reason = λ l h. elim (b.reason l h) [
-    | inl m ↦ elim (a.reason l m) [ inl o ↦ inl o | inr r ↦ inr (reason_more clauses (has mid) (has new) l b.keeps r) ]
-    | inr r ↦ inr r
-  ];
-}
-
-pub grows_unit : (clauses : Clauses) (trail : List Literal) (c : List Literal) (l : Literal) → Contains clauses c → IsUnit (has trail) c l → Grows clauses trail (trail ++ l ∷ [])
-grows_unit clauses trail c l among unit = record {
-  front = take_at trail (l ∷ []) (length trail) refl;
-  longer = omega (arith, length-append trail (l ∷ []));
-  keeps = push_keeps trail l;
-  within = λ k h. elim (same_literal_or k l) [
-    | inl e ↦ subst (λ (m : Literal). Closure clauses (has trail) m) (sym e) (closure_unit clauses (has trail) c l among unit.among (All-weaker (IsLastOr (has trail) l) (λ m. (m ≡ l) ⊎ Closure clauses (has trail) (negate m)) (λ m o. elim o [ inl s ↦ inl s | inr f ↦ inr (closure_start clauses (has trail) (negate m) f) ]) c unit.others))
-    | inr ne ↦ closure_start clauses (has trail) k (sym (has_front trail l k ne) ∙ h)
-  ];
-  reason = λ k h. elim (same_literal_or k l) [
-    | inl e ↦ inr (subst (λ (m : Literal). HasReason clauses (has (trail ++ l ∷ [])) m) (sym e) (record { reason = c; among = among; unit = unit_more (has trail) (has (trail ++ l ∷ [])) c l (push_keeps trail l) unit }))
-    | inr ne ↦ inl (sym (has_front trail l k ne) ∙ h)
-  ];
-}
-
 -- the clause of the literal is quiet then
-pub quiet_marked : (trail : List Literal) (c : List Literal) (l : Literal) (done : LiteralSet) → IsUnset (has trail) c l → Includes (has trail) done → IsQuiet done (has (trail ++ l ∷ [])) c
+pub quiet_marked : (trail : List Literal) (c : List Literal) (l : Literal) (done : LiteralSet) → IsUnsetUnit (has trail) c l → Includes (has trail) done → IsQuiet done (has (trail ++ l ∷ [])) c
 quiet_marked trail c l done u within = record {
   closed = λ m unit. elim (All-contains (λ k. (k ≡ m) ⊎ IsIn done (negate k)) c l unit.others u.unit.among) [
     | inl e ↦ subst (λ (k : Literal). IsIn (has (trail ++ l ∷ [])) k) e (has_last trail l)
@@ -125,7 +90,7 @@ unit_same_set set other c l same unit = unit_more set other c l (λ k h. sym (sa
 pub falsified_by_marks : (vars : ℕ) (truth : List Bool) (trail : List Literal) (clauses : Clauses) (c : List Literal) → IsTrail vars truth trail → Contains clauses c → All (IsFalse (marked truth)) c → Falsified clauses (has trail)
 falsified_by_marks vars truth trail clauses c t among all = record { clause = c; among = among; each = all_same_set (marked truth) (has trail) c t.marks all }
 
-pub unset_by_marks : (vars : ℕ) (truth : List Bool) (trail : List Literal) (c : List Literal) (l : Literal) → IsTrail vars truth trail → IsUnset (marked truth) c l → IsUnset (has trail) c l
+pub unset_by_marks : (vars : ℕ) (truth : List Bool) (trail : List Literal) (c : List Literal) (l : Literal) → IsTrail vars truth trail → IsUnsetUnit (marked truth) c l → IsUnsetUnit (has trail) c l
 unset_by_marks vars truth trail c l t u = record {
   unit = unit_same_set (marked truth) (has trail) c l t.marks u.unit;
   not_true = sym (t.marks l) ∙ u.not_true;
@@ -144,7 +109,7 @@ quiet_now clause count trail q = λ done within e. quiet_part done (has trail) c
 pub few_now : (clause : List Literal) (count : ℕ) (trail : List Literal) → AreDistinct clause → 1 < count → IsQuietNow clause count trail trail
 few_now clause count trail distinct few = λ done within e. quiet_few done (has trail) clause distinct (omega arith)
 
-pub marked_now : (clause : List Literal) (count : ℕ) (trail : List Literal) (l : Literal) → IsUnset (has trail) clause l → IsQuietNow clause count trail (trail ++ l ∷ [])
+pub marked_now : (clause : List Literal) (count : ℕ) (trail : List Literal) (l : Literal) → IsUnsetUnit (has trail) clause l → IsQuietNow clause count trail (trail ++ l ∷ [])
 marked_now clause count trail l u = λ done within e. quiet_marked trail clause l done u within
 
 -- a clause is quiet still when more literals are marked, and where only a part was marked before

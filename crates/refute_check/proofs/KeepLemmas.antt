@@ -8,7 +8,7 @@ use Rattle.cnf_core.specs.Propagation.{greatest_in, greatest_var, nothing}
 use Rattle.cnf_core.proofs.PropagationLemmas.{falsifies_more, among_left}
 use Rattle.cnf_core.proofs.GreatestLemmas.{greatest_in-append, greatest_var-append}
 use Rattle.refute_check.specs.declared.tables.Tables.{Tables}
-use Rattle.refute_check.specs.Settled.{IsSettled}
+use Rattle.refute_check.specs.Settled.{AreSettled}
 use Rattle.refute_check.specs.Standing.{IsContradicted}
 
 pub greatest_step : (ls : List Literal) (i : ℕ) (l : Literal) (n v : ℕ) → i < length ls → l ≡ get_or ls i l → v ≡ l.var → n ≡ greatest_in (take i ls) → max n v ≡ greatest_in (take (i + 1) ls)
@@ -21,15 +21,15 @@ abbrev with_vars : Cnf → ℕ → Cnf
 with_vars f n = record f { vars = n }
 
 pub record Grown (old new : Cnf) (t : Tables) (vars : ℕ) : Type 0 where
-  pub settled : IsSettled new.vars new.clauses t
+  pub settled : AreSettled new.vars new.clauses t
   pub same : new ≡ record old { vars = new.vars }
   pub from : old.vars ≤ new.vars
   pub to : new.vars ≤ max old.vars vars
 
-pub grown_none : (f : Cnf) (t : Tables) (vars : ℕ) → IsSettled f.vars f.clauses t → Grown f f t vars
+pub grown_none : (f : Cnf) (t : Tables) (vars : ℕ) → AreSettled f.vars f.clauses t → Grown f f t vars
 grown_none f t vars s = record { settled = s; same = refl; from = omega arith; to = omega arith }
 
-pub grown_one : (old mid new : Cnf) (t u : Tables) (vars : ℕ) → mid.vars < vars → Grown old mid t vars → IsSettled (mid.vars + 1) mid.clauses u → new ≡ record mid { vars = mid.vars + 1 } → Grown old new u vars
+pub grown_one : (old mid new : Cnf) (t u : Tables) (vars : ℕ) → mid.vars < vars → Grown old mid t vars → AreSettled (mid.vars + 1) mid.clauses u → new ≡ record mid { vars = mid.vars + 1 } → Grown old new u vars
 grown_one old mid new t u vars low g s e =
     let n : new.vars ≡ mid.vars + 1 = ap (λ (f : Cnf). f.vars) e in
     let cs : new.clauses ≡ mid.clauses = ap (λ (f : Cnf). f.clauses) e in

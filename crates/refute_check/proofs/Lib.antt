@@ -1,6 +1,5 @@
 pub mod CountLemmas
 pub mod ScanLemmas
-pub mod TrailLemmas
 pub mod GrowthLemmas
 pub mod FalseCountLemmas
 pub mod AdvanceLemmas

@@ -11,8 +11,10 @@ use Rattle.cnf_core.proofs.PropagationLemmas.{negate-negate, contains_from_has, 
 use Rattle.cnf_core.proofs.TrailLemmas.{same_literal_or, same_place, negate_differs, has_last, has_front, push_keeps}
 use Rattle.refute_check.specs.declared.novelty.Novelty.{Novelty}
 use Rattle.refute_check.specs.declared.novelty.Novelty.TheVariants.{Unproved, Known, New}
-use Rattle.refute_check.specs.Tables.{AreQuiet, IsQuiet, Grows, Assumes, AreReasoned}
+use Rattle.cnf_core.specs.Trail.{Grows}
+use Rattle.refute_check.specs.Tables.{AreQuiet, IsQuiet, Assumes, AreExplained}
 use Rattle.refute_check.specs.Novelty.{IsNovelty, HasNovelty}
+use Rattle.cnf_core.proofs.GrowthLemmas.{grows_reason}
 use Rattle.refute_check.proofs.GrowthLemmas.{quiet_more}
 use Rattle.refute_check.proofs.AdvanceLemmas.{same_front}
 use Rattle.refute_check.proofs.SupposeLemmas.{closed_when_quiet, unfalsified_when_quiet}
@@ -43,7 +45,7 @@ pub known_by_clash : (clauses : Clauses) (first : Literal) (others : List Litera
 known_by_clash clauses first others f = (falsifies_start clauses (negations others) (negations (first ∷ others)) (others_negated first others) f, inl f)
 
 -- the first follows where the others are false
-pub known_by_closure : (clauses : Clauses) (first : Literal) (others trail : List Literal) → AreDistinct (first ∷ others) → IsClosure clauses (negations others) (has trail) → AreReasoned clauses others trail → IsIn (has trail) first → IsNovelty clauses first others Known
+pub known_by_closure : (clauses : Clauses) (first : Literal) (others trail : List Literal) → AreDistinct (first ∷ others) → IsClosure clauses (negations others) (has trail) → AreExplained clauses others trail → IsIn (has trail) first → IsNovelty clauses first others Known
 known_by_closure clauses first others trail distinct closure reasoned h = elim (reasoned first h) [
   | inl assumed ↦
       let all = first ∷ others in
@@ -109,8 +111,8 @@ pub denied_front : (clauses : Clauses) (trail new : List Literal) (l : Literal) 
 denied_front clauses trail new l g = same_front clauses (trail ++ l ∷ []) new (length trail) g (omega (arith, length-append trail (l ∷ []))) ∙ take_at trail (l ∷ []) (length trail) refl
 
 -- each literal of the trail was assumed, or some clause makes it true
-pub supposed_reasoned : (clauses : Clauses) (old mid new lits : List Literal) → ((l : Literal) → IsIn (has old) l → HasReason clauses (has old) l) → Assumes lits old mid → Grows clauses mid new → AreReasoned clauses lits new
-supposed_reasoned clauses old mid new lits reasoned a g = λ l h. elim (g.reason l h) [
+pub supposed_reasoned : (clauses : Clauses) (old mid new lits : List Literal) → ((l : Literal) → IsIn (has old) l → HasReason clauses (has old) l) → Assumes lits old mid → Grows clauses mid new → AreExplained clauses lits new
+supposed_reasoned clauses old mid new lits reasoned a g = λ l h. elim (grows_reason clauses mid new g l h) [
   | inl m ↦ elim (a.only l m) [
     | inl o ↦ inr (reason_more clauses (has old) (has new) l (λ k p. g.keeps k (a.keeps k p)) (reasoned l o))
     | inr n ↦ inl n

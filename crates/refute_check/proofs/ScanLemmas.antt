@@ -9,7 +9,7 @@ use Rattle.cnf_core.specs.Lit.{Literal, negate}
 use Rattle.cnf_core.specs.Clause.{AreDistinct}
 use Rattle.cnf_core.specs.Propagation.{LiteralSet, IsIn, IsConsistent}
 use Rattle.cnf_core.proofs.TrailLemmas.{front_differs}
-use Rattle.refute_check.specs.Tables.{IsQuiet, IsUnset}
+use Rattle.refute_check.specs.Tables.{IsQuiet, IsUnsetUnit}
 
 abbrev pub IsFalse : LiteralSet → Literal → Type 0
 IsFalse set k = IsIn set (negate k)
@@ -86,7 +86,7 @@ quiet_two set c i u d distinct within s not_false =
 pub seen_all : (set : LiteralSet) (c : List Literal) (i : ℕ) → length c ≤ i → Seen set (take i c) None → All (IsFalse set) c
 seen_all set c i end s = subst (λ (front : List Literal). All (IsFalse set) front) (take_all i c end) s
 
-pub unset_at_end : (set : LiteralSet) (c : List Literal) (i : ℕ) (u : Literal) → length c ≤ i → SeenOne set (take i c) u → IsUnset set c u
+pub unset_at_end : (set : LiteralSet) (c : List Literal) (i : ℕ) (u : Literal) → length c ≤ i → SeenOne set (take i c) u → IsUnsetUnit set c u
 unset_at_end set c i u end s =
     let one : SeenOne set c u = subst (λ (front : List Literal). SeenOne set front u) (take_all i c end) s in
     record {

@@ -8,14 +8,15 @@ use Rattle.cnf_core.specs.Clause.{Clauses}
 use Rattle.cnf_core.specs.Propagation.{IsIn, Includes, IsUnit, IsClosed, Closure, Falsifies, negations, HasReason, Falsified, IsClosure, nothing}
 use Rattle.cnf_core.proofs.PropagationLemmas.{negate-negate, has_from_contains, closure_start, closure_again, closure_any}
 use Rattle.refute_check.specs.declared.tables.Tables.{Tables}
-use Rattle.refute_check.specs.Tables.{IsTrail, IsCounted, AreCounts, AreQuiet, IsQuiet, Grows, Assumes, Clashes}
-use Rattle.refute_check.specs.Settled.{IsSettled}
+use Rattle.cnf_core.specs.Trail.{IsTrail, Grows}
+use Rattle.refute_check.specs.Tables.{IsCountedTo, AreCounts, AreQuiet, IsQuiet, Assumes, HasTrueLiteral}
+use Rattle.refute_check.specs.Settled.{AreSettled}
 use Rattle.refute_check.proofs.ScanLemmas.{IsFalse}
 use Rattle.refute_check.proofs.GrowthLemmas.{quiet_more}
 use Rattle.refute_check.proofs.AdvanceLemmas.{same_front}
 
 -- with the assumptions, and before propagation
-pub assumed_counted : (vars : ℕ) (clauses : Clauses) (truth then : List Bool) (old mid : List Literal) (counts : List ℕ) (lits : List Literal) → IsCounted vars clauses truth old counts (length old) → Assumes lits old mid → IsTrail vars then mid → IsCounted vars clauses then mid counts (length old)
+pub assumed_counted : (vars : ℕ) (clauses : Clauses) (truth then : List Bool) (old mid : List Literal) (counts : List ℕ) (lits : List Literal) → IsCountedTo vars clauses truth old counts (length old) → Assumes lits old mid → IsTrail vars then mid → IsCountedTo vars clauses then mid counts (length old)
 assumed_counted vars clauses truth then old mid counts lits c a t = record {
   table = t;
   within = a.longer;
@@ -28,7 +29,7 @@ assumed_quiet clauses old mid lits q a =
     (All-weaker (IsQuiet (has (take (length old) old)) (has old)) (IsQuiet (has (take (length old) old)) (has mid)) (λ c h. quiet_more (has (take (length old) old)) (has old) (has mid) c a.keeps h) clauses q)
 
 -- an assumption is false already
-pub clash_falsifies : (clauses : Clauses) (trail lits : List Literal) → ((l : Literal) → IsIn (has trail) l → Closure clauses nothing l) → ((l : Literal) → IsIn (has trail) l → HasReason clauses (has trail) l) → Clashes lits trail → Falsifies clauses (negations lits)
+pub clash_falsifies : (clauses : Clauses) (trail lits : List Literal) → ((l : Literal) → IsIn (has trail) l → Closure clauses nothing l) → ((l : Literal) → IsIn (has trail) l → HasReason clauses (has trail) l) → HasTrueLiteral lits trail → Falsifies clauses (negations lits)
 clash_falsifies clauses trail lits within reasoned clash =
     let r = reasoned clash.literal clash.true_now in
     record {
@@ -59,10 +60,10 @@ closed_when_quiet clauses trail q = λ c among l unit.
     let here : IsQuiet (has (take (length trail) trail)) (has trail) c = All-contains (IsQuiet (has (take (length trail) trail)) (has trail)) clauses c q among in
     here.closed l (subst (λ (ls : List Literal). IsUnit (has ls) c l) (sym (take_all (length trail) trail (omega arith))) unit)
 
-pub unfalsified_when_quiet : (clauses : Clauses) (trail : List Literal) → AreQuiet clauses trail (length trail) → (c : List Literal) → Contains clauses c → All (IsFalse (has trail)) c → ⊥
-unfalsified_when_quiet clauses trail q c among all =
-    let here : IsQuiet (has (take (length trail) trail)) (has trail) c = All-contains (IsQuiet (has (take (length trail) trail)) (has trail)) clauses c q among in
-    here.unfalsified (subst (λ (ls : List Literal). All (IsFalse (has ls)) c) (sym (take_all (length trail) trail (omega arith))) all)
+pub unfalsified_when_quiet : (clauses : Clauses) (trail : List Literal) → AreQuiet clauses trail (length trail) → Falsified clauses (has trail) → ⊥
+unfalsified_when_quiet clauses trail q f =
+    let here : IsQuiet (has (take (length trail) trail)) (has trail) f.clause = All-contains (IsQuiet (has (take (length trail) trail)) (has trail)) clauses f.clause q f.among in
+    here.unfalsified (subst (λ (ls : List Literal). All (IsFalse (has ls)) f.clause) (sym (take_all (length trail) trail (omega arith))) f.each)
 
 pub supposed_closure : (clauses : Clauses) (old mid new lits : List Literal) → ((l : Literal) → IsIn (has old) l → Closure clauses nothing l) → Assumes lits old mid → Includes (has mid) (negations lits) → Grows clauses mid new → AreQuiet clauses new (length new) → IsClosure clauses (negations lits) (has new)
 supposed_closure clauses old mid new lits within a all g q = record {
@@ -80,12 +81,12 @@ pub written_back : (n : ℕ) (xs : List Bool) (ys : List Bool) → length xs ≡
 written_back n xs ys e = take_at xs ys n e
 
 -- the tables after assumptions were taken back
-pub settled_again : (vars : ℕ) (clauses : Clauses) (old new : Tables) (mid : List Literal) (level : ℕ) → level ≡ length old.trail.items → IsSettled vars clauses old → new.occurrences.items ≡ old.occurrences.items → IsCounted vars clauses new.truth.items new.trail.items new.counts.items level → new.trail.items ≡ take level mid → take (length old.trail.items) mid ≡ old.trail.items → IsSettled vars clauses new
+pub settled_again : (vars : ℕ) (clauses : Clauses) (old new : Tables) (mid : List Literal) (level : ℕ) → level ≡ length old.trail.items → AreSettled vars clauses old → new.occurrences.items ≡ old.occurrences.items → IsCountedTo vars clauses new.truth.items new.trail.items new.counts.items level → new.trail.items ≡ take level mid → take (length old.trail.items) mid ≡ old.trail.items → AreSettled vars clauses new
 settled_again vars clauses old new mid level e s same counted rest front =
     let is : old.trail.items ≡ new.trail.items = sym (rest ∙ ap (λ n. take n mid) e ∙ front) in
     record {
       occurrences = rw same s.occurrences;
-      counted = subst (λ n. IsCounted vars clauses new.truth.items new.trail.items new.counts.items n) (e ∙ ap length is) counted;
+      counted = subst (λ n. IsCountedTo vars clauses new.truth.items new.trail.items new.counts.items n) (e ∙ ap length is) counted;
       within = subst (λ (ls : List Literal). (l : Literal) → IsIn (has ls) l → Closure clauses nothing l) is s.within;
       reasoned = subst (λ (ls : List Literal). (l : Literal) → IsIn (has ls) l → HasReason clauses (has ls) l) is s.reasoned;
       quiet = subst (λ (ls : List Literal). AreQuiet clauses ls (length ls)) is s.quiet;

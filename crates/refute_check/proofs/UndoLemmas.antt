@@ -5,7 +5,8 @@ use Rattle.std.proofs.lemmas.List.{take-take, take_all, take_at, get_or_push}
 use Rattle.cnf_core.specs.Lit.{Literal, negate, word_of, has}
 use Rattle.cnf_core.specs.Clause.{Clauses, AreDistinct, AreThere, IsThere}
 use Rattle.cnf_core.proofs.TrailLemmas.{there_last, front_lacks}
-use Rattle.refute_check.specs.Tables.{places_from, AreCounts, AreOccurrences, IsTrail, IsCounted}
+use Rattle.cnf_core.specs.Trail.{IsTrail}
+use Rattle.refute_check.specs.Tables.{places_from, AreCounts, AreOccurrences, IsCountedTo}
 use Rattle.refute_check.proofs.AdvanceLemmas.{places_read}
 
 pub record Dropped (vars : ℕ) (old : List Literal) (truth : List Bool) (new : List Literal) (front : ℕ) : Type 0 where
@@ -39,10 +40,10 @@ last_lacks trail l distinct =
     subst (λ (ls : List Literal). has ls l ≡ false) (take_at trail (l ∷ []) (length trail) refl)
     (front_lacks (trail ++ l ∷ []) (length trail) l distinct (omega (arith, length-append trail (l ∷ []))) (get_or_push trail l l (length trail) refl))
 
-pub counted_whole : (vars : ℕ) (clauses : Clauses) (truth : List Bool) (trail : List Literal) (counts : List ℕ) → IsCounted vars clauses truth trail counts (length trail) → AreCounts clauses (has trail) counts
+pub counted_whole : (vars : ℕ) (clauses : Clauses) (truth : List Bool) (trail : List Literal) (counts : List ℕ) → IsCountedTo vars clauses truth trail counts (length trail) → AreCounts clauses (has trail) counts
 counted_whole vars clauses truth trail counts c = subst (λ (ls : List Literal). AreCounts clauses (has ls) counts) (whole trail) c.right
 
-pub counted_from : (vars : ℕ) (clauses : Clauses) (truth : List Bool) (trail : List Literal) (counts : List ℕ) → IsTrail vars truth trail → AreCounts clauses (has trail) counts → IsCounted vars clauses truth trail counts (length trail)
+pub counted_from : (vars : ℕ) (clauses : Clauses) (truth : List Bool) (trail : List Literal) (counts : List ℕ) → IsTrail vars truth trail → AreCounts clauses (has trail) counts → IsCountedTo vars clauses truth trail counts (length trail)
 counted_from vars clauses truth trail counts t right = record {
   table = t;
   within = omega arith;
@@ -50,11 +51,11 @@ counted_from vars clauses truth trail counts t right = record {
 }
 
 pub record Retracted (vars : ℕ) (clauses : Clauses) (old : List Literal) (truth : List Bool) (new : List Literal) (counts : List ℕ) (level : ℕ) : Type 0 where
-  pub counted : IsCounted vars clauses truth new counts (length new)
+  pub counted : IsCountedTo vars clauses truth new counts (length new)
   pub same : take level new ≡ take level old
   pub long : level ≤ length new
 
-pub retracted_one : (vars : ℕ) (clauses : Clauses) (old mid new : List Literal) (truth then : List Bool) (counts now : List ℕ) (level : ℕ) → Retracted vars clauses old truth mid counts level → level < length mid → IsCounted vars clauses then new now (length new) → length new + 1 ≡ length mid → new ≡ take (length new) mid → Retracted vars clauses old then new now level
+pub retracted_one : (vars : ℕ) (clauses : Clauses) (old mid new : List Literal) (truth then : List Bool) (counts now : List ℕ) (level : ℕ) → Retracted vars clauses old truth mid counts level → level < length mid → IsCountedTo vars clauses then new now (length new) → length new + 1 ≡ length mid → new ≡ take (length new) mid → Retracted vars clauses old then new now level
 retracted_one vars clauses old mid new truth then counts now level r within counted shorter rest = record {
   counted = counted;
   same = ap (take level) rest ∙ take-take level (length new) mid (omega arith) ∙ r.same;
@@ -65,7 +66,7 @@ pub retracted_all : (vars : ℕ) (clauses : Clauses) (old new : List Literal) (t
 retracted_all vars clauses old new truth counts level r le = sym (take_all level new le) ∙ r.same
 
 -- what counting was done for the front is right where the front is all
-pub retracted_none : (vars : ℕ) (clauses : Clauses) (old mid : List Literal) (truth then : List Bool) (counts : List ℕ) (level front : ℕ) → IsCounted vars clauses truth old counts front → IsTrail vars then mid → mid ≡ take front old → level ≤ front → Retracted vars clauses old then mid counts level
+pub retracted_none : (vars : ℕ) (clauses : Clauses) (old mid : List Literal) (truth then : List Bool) (counts : List ℕ) (level front : ℕ) → IsCountedTo vars clauses truth old counts front → IsTrail vars then mid → mid ≡ take front old → level ≤ front → Retracted vars clauses old then mid counts level
 retracted_none vars clauses old mid truth then counts level front c t e le =
     let within = c.within in
     let size : length mid ≡ front = ap length e ∙ length-take-le front old within in
@@ -89,7 +90,7 @@ back_places vars clauses lists truth old rest l n word list shown o t e is w rea
 pub back_lacks : (vars : ℕ) (truth : List Bool) (old rest : List Literal) (l : Literal) → IsTrail vars truth old → Ends old rest l → has rest l ≡ false
 back_lacks vars truth old rest l t e = last_lacks rest l (subst (λ (ls : List Literal). AreDistinct ls) e t.distinct)
 
-pub back_right : (vars : ℕ) (clauses : Clauses) (truth : List Bool) (old rest : List Literal) (l : Literal) (counts : List ℕ) → IsCounted vars clauses truth old counts (length old) → Ends old rest l → AreCounts clauses (has (rest ++ l ∷ [])) counts
+pub back_right : (vars : ℕ) (clauses : Clauses) (truth : List Bool) (old rest : List Literal) (l : Literal) (counts : List ℕ) → IsCountedTo vars clauses truth old counts (length old) → Ends old rest l → AreCounts clauses (has (rest ++ l ∷ [])) counts
 back_right vars clauses truth old rest l counts c e = subst (λ (ls : List Literal). AreCounts clauses (has ls) counts) e (counted_whole vars clauses truth old counts c)
 
 pub back_rest : (old rest last : List Literal) → old ≡ rest ++ last → rest ≡ take (length rest) old

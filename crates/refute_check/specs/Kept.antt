@@ -26,8 +26,8 @@ kept_after kept line = record { room = kept.room; facts = facts_after kept.facts
 abbrev pub NamesNew : Facts → LogLine → Type 0
 NamesNew facts line = Any (λ l. facts.greatest < l.var) (bounded line)
 
-abbrev pub IsNamed : Facts → LogLine → Type 0
-IsNamed facts line = All (λ l. l.var ≤ facts.greatest) (bounded line)
+abbrev pub NamesNoNew : Facts → LogLine → Type 0
+NamesNoNew facts line = All (λ l. l.var ≤ facts.greatest) (bounded line)
 
 -- with the line's clause the words pass the room, or a Formula line names a variable above VARS
 abbrev pub LacksRoom : Kept → LogLine → Type 0
@@ -52,22 +52,22 @@ pub record Accepts (old new : Kept) (line : LogLine) : Type 0 where
 
 -- the causes of the refusals, each without those before it
 pub record AnswersWrongly (kept : Kept) (line : LogLine) : Type 0 where
-  pub named : IsNamed kept.facts line
+  pub named : NamesNoNew kept.facts line
   pub wrong : Answers kept.facts.query line → ⊥
 
 pub record PassesRoom (kept : Kept) (line : LogLine) : Type 0 where
-  pub named : IsNamed kept.facts line
+  pub named : NamesNoNew kept.facts line
   pub answers : Answers kept.facts.query line
   pub passes : LacksRoom kept line
 
 pub record IsUnproved (kept : Kept) (line : LogLine) : Type 0 where
-  pub named : IsNamed kept.facts line
+  pub named : NamesNoNew kept.facts line
   pub answers : Answers kept.facts.query line
   pub fits : LacksRoom kept line → ⊥
   pub unproved : IsImplied kept.facts.clauses line → ⊥
 
 pub record IsOld (kept : Kept) (line : LogLine) : Type 0 where
-  pub named : IsNamed kept.facts line
+  pub named : NamesNoNew kept.facts line
   pub answers : Answers kept.facts.query line
   pub fits : LacksRoom kept line → ⊥
   pub implied : IsImplied kept.facts.clauses line

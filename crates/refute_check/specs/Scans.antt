@@ -6,7 +6,7 @@ use Rattle.refute_check.specs.declared.scan.Scan.{Scan}
 use Rattle.refute_check.specs.declared.scan.Scan.TheVariants.{Falsified, Unit as UnitOf, Quiet}
 use Rattle.refute_check.specs.declared.scan.Truth.{Truth}
 use Rattle.refute_check.specs.declared.scan.Truth.TheVariants.{True, False, Unset}
-use Rattle.refute_check.specs.Tables.{IsQuiet, IsUnset}
+use Rattle.refute_check.specs.Tables.{IsQuiet, IsUnsetUnit}
 
 abbrev pub IsTruth : LiteralSet → Literal → Truth → Type 0
 IsTruth set l True = IsIn set l
@@ -15,5 +15,5 @@ IsTruth set l Unset = (set l ≡ false) × (set (negate l) ≡ false)
 
 abbrev pub IsScan : LiteralSet → List Literal → Scan → Type 0
 IsScan set clause Falsified = All (λ k. IsIn set (negate k)) clause
-IsScan set clause (UnitOf l) = IsUnset set clause l
+IsScan set clause (UnitOf l) = IsUnsetUnit set clause l
 IsScan set clause Quiet = IsQuiet set set clause

@@ -5,7 +5,7 @@ use Rattle.cnf_core.specs.Propagation.{Falsifies, greatest_var, nothing}
 use Rattle.refute_check.specs.declared.tables.Tables.{Tables}
 use Rattle.refute_check.specs.declared.keeping.Standing.{Standing}
 use Rattle.refute_check.specs.declared.keeping.Standing.TheVariants.{Open, Contradiction, Lost}
-use Rattle.refute_check.specs.Settled.{IsSettled}
+use Rattle.refute_check.specs.Settled.{AreSettled}
 
 -- some clause is falsified without assumptions
 pub record IsContradicted (f : Cnf) : Type 0 where
@@ -14,7 +14,7 @@ pub record IsContradicted (f : Cnf) : Type 0 where
 
 -- the tables are right, and no clause is
 pub record IsOpenChecker (f : Cnf) (t : Tables) : Type 0 where
-  pub settled : IsSettled f.vars f.clauses t
+  pub settled : AreSettled f.vars f.clauses t
   pub greatest : f.vars ≤ greatest_var f.clauses
 
 abbrev pub IsChecker : Cnf → Tables → Standing → Type 0

@@ -4,33 +4,12 @@ use Rattle.std.specs.List.{sum_by, count_by}
 use Rattle.cnf_core.specs.Lit.{Literal, negate, word_of, has}
 use Rattle.cnf_core.specs.Clause.{Clauses, AreDistinct, AreThere}
 use Rattle.cnf_core.specs.Propagation.{LiteralSet, IsIn, Includes, IsUnit, HasReason, Closure, negations}
-
--- how often a number stands in the list
-abbrev pub times : List ℕ → ℕ → ℕ
-times ns n = count_by (λ m. nat_eq m n) ns
+use Rattle.cnf_core.specs.Trail.{IsTrail}
+use Rattle.cnf_core.specs.Times.{times}
 
 -- each count grew by how often its number stands in the list
 abbrev pub CountedUp : List ℕ → List ℕ → List ℕ → Type 0
 CountedUp ns old new = (n : ℕ) → slice_index new n ≡ slice_index old n + times ns n
-
--- the literals that a table by word marks
-abbrev pub marked : List Bool → LiteralSet
-marked truth l = slice_index_or truth (word_of l) false
-
-abbrev pub weight : Bool → ℕ
-weight b = cond b 1 0
-
-abbrev pub mark_count : List Bool → ℕ
-mark_count truth = sum_by weight truth
-
--- the table of the variables 1 to vars marks exactly the literals of the trail, which are of
--- distinct variables
-pub record IsTrail (vars : ℕ) (truth : List Bool) (trail : List Literal) : Type 0 where
-  pub size : length truth ≡ 2 * vars + 2
-  pub marks : (l : Literal) → marked truth l ≡ has trail l
-  pub distinct : AreDistinct trail
-  pub there : AreThere vars trail
-  pub count : length trail ≡ mark_count truth
 
 -- the numbers of the clauses that have the literal, counted from n
 abbrev pub places_from : ℕ → Clauses → Literal → List ℕ
@@ -52,7 +31,7 @@ pub record IsQuiet (done set : LiteralSet) (c : List Literal) : Type 0 where
   pub unfalsified : All (λ k. IsIn done (negate k)) c → ⊥
 
 -- a literal that is alone not false in the clause, and neither true
-pub record IsUnset (set : LiteralSet) (c : List Literal) (l : Literal) : Type 0 where
+pub record IsUnsetUnit (set : LiteralSet) (c : List Literal) (l : Literal) : Type 0 where
   pub unit : IsUnit set c l
   pub not_true : set l ≡ false
   pub not_false : set (negate l) ≡ false
@@ -62,16 +41,8 @@ pub record AreOccurrences (vars : ℕ) (clauses : Clauses) (lists : List (List �
   pub size : length lists ≡ 2 * vars + 2
   pub each : (l : Literal) → word_of l < length lists → slice_index_or lists (word_of l) [] ≡ places_from 0 clauses l
 
--- the new trail is the old one and literals behind it that follow from it, each by some clause
-pub record Grows (clauses : Clauses) (old new : List Literal) : Type 0 where
-  pub front : take (length old) new ≡ old
-  pub longer : length old ≤ length new
-  pub keeps : Includes (has new) (has old)
-  pub within : (l : Literal) → IsIn (has new) l → Closure clauses (has old) l
-  pub reason : (l : Literal) → IsIn (has new) l → IsIn (has old) l ⊎ HasReason clauses (has new) l
-
 -- the literals that aren't false are counted for the front of the trail
-pub record IsCounted (vars : ℕ) (clauses : Clauses) (truth : List Bool) (trail : List Literal) (counts : List ℕ) (front : ℕ) : Type 0 where
+pub record IsCountedTo (vars : ℕ) (clauses : Clauses) (truth : List Bool) (trail : List Literal) (counts : List ℕ) (front : ℕ) : Type 0 where
   pub table : IsTrail vars truth trail
   pub within : front ≤ length trail
   pub right : AreCounts clauses (has (take front trail)) counts
@@ -95,7 +66,7 @@ pub record Assumes (lits old new : List Literal) : Type 0 where
   pub only : (l : Literal) → IsIn (has new) l → IsIn (has old) l ⊎ IsIn (negations lits) l
 
 -- one of the literals is on the trail
-pub record Clashes (lits trail : List Literal) : Type 0 where
+pub record HasTrueLiteral (lits trail : List Literal) : Type 0 where
   pub literal : Literal
   pub among : Contains lits literal
   pub true_now : IsIn (has trail) literal
@@ -106,5 +77,5 @@ pub record Lists (lits : List Literal) (number : ℕ) (old new : List (List ℕ)
   pub each : (l : Literal) → word_of l < length old → slice_index_or new (word_of l) [] ≡ slice_index_or old (word_of l) [] ++ cond (has lits l) (number ∷ []) []
 
 -- each literal of the trail is the negation of one of these, or some clause makes it true
-abbrev pub AreReasoned : Clauses → List Literal → List Literal → Type 0
-AreReasoned clauses lits trail = (l : Literal) → IsIn (has trail) l → IsIn (negations lits) l ⊎ HasReason clauses (has trail) l
+abbrev pub AreExplained : Clauses → List Literal → List Literal → Type 0
+AreExplained clauses lits trail = (l : Literal) → IsIn (has trail) l → IsIn (negations lits) l ⊎ HasReason clauses (has trail) l

@@ -3,8 +3,9 @@ ghost use Rattle.std.specs.Prelude.{◌≡◌, ◌≤◌, ◌<◌, ◌+◌, ◌*
 ghost use Rattle.cnf_core.specs.Lit.{has, negate};
 ghost use Rattle.cnf_core.specs.Clause.{IsThere, AreThere, AllThere, AreDistinct};
 ghost use Rattle.cnf_core.specs.Propagation.{Falsifies, Falsified, nothing};
-ghost use Rattle.refute_check.specs.Tables.{IsTrail, AreOccurrences, marked, false_count, Lists, IsUnset, IsCounted, AreQuiet, Grows};
-ghost use Rattle.refute_check.specs.Settled.{IsSettled, IsListed};
+ghost use Rattle.cnf_core.specs.Trail.{IsTrail, marked, Grows};
+ghost use Rattle.refute_check.specs.Tables.{AreOccurrences, false_count, Lists, IsUnsetUnit, IsCountedTo, AreQuiet};
+ghost use Rattle.refute_check.specs.Settled.{AreSettled, IsListed};
 
 use crate::places::Places;
 use crate::propagation::propagate;
@@ -62,7 +63,7 @@ fn list_clause(
 impl Tables {
     /// Lists the clause of these literals behind those of the formula. It isn't looked at yet.
     pub(crate) fn list(&mut self, formula: &Formula, lits: &[Lit]) -> Result<(), OutOfMemory>
-        requires settled { IsSettled formula.now.vars formula.now.clauses self.old }
+        requires settled { AreSettled formula.now.vars formula.now.clauses self.old }
         requires there { AreThere formula.now.vars lits.now }
         requires distinct { AreDistinct lits.now }
         requires small { length lits.now < 2 ^ 32 }
@@ -85,7 +86,7 @@ impl Tables {
         requires listed { IsListed formula.now.vars formula.now.clauses lits.now self.old }
         requires there { AreThere formula.now.vars lits.now }
         requires distinct { AreDistinct lits.now }
-        ensures settled { IfOk result (λ found. found ≡ false → IsSettled formula.now.vars formula.now.clauses self.new) }
+        ensures settled { IfOk result (λ found. found ≡ false → AreSettled formula.now.vars formula.now.clauses self.new) }
         ensures falsified { IfOk result (λ found. found ≡ true → Falsifies formula.now.clauses nothing) }
     {
         match scan_clause(lits, &self.truth, formula.vars()) {
@@ -99,8 +100,8 @@ impl Tables {
     fn settle_unit(&mut self, formula: &Formula, lits: &[Lit], l: Lit) -> Result<bool, OutOfMemory>
         requires listed { IsListed formula.now.vars formula.now.clauses lits.now self.old }
         requires there { AreThere formula.now.vars lits.now }
-        requires unset { IsUnset (marked self.old.truth.items) lits.now l }
-        ensures settled { IfOk result (λ found. found ≡ false → IsSettled formula.now.vars formula.now.clauses self.new) }
+        requires unset { IsUnsetUnit (marked self.old.truth.items) lits.now l }
+        ensures settled { IfOk result (λ found. found ≡ false → AreSettled formula.now.vars formula.now.clauses self.new) }
         ensures falsified { IfOk result (λ found. found ≡ true → Falsifies formula.now.clauses nothing) }
     {
         let reached = self.mark_and_propagate(formula, l)?;
@@ -115,14 +116,14 @@ impl Tables {
         l: Lit,
     ) -> Result<(bool, usize), OutOfMemory>
         requires occurrences { AreOccurrences formula.now.vars formula.now.clauses self.old.occurrences.items }
-        requires counted { IsCounted formula.now.vars formula.now.clauses self.old.truth.items self.old.trail.items self.old.counts.items (length self.old.trail.items) }
+        requires counted { IsCountedTo formula.now.vars formula.now.clauses self.old.truth.items self.old.trail.items self.old.counts.items (length self.old.trail.items) }
         requires quiet { AreQuiet formula.now.clauses (self.old.trail.items ++ l ∷ []) (length self.old.trail.items) }
         requires there { IsThere formula.now.vars l }
         requires not_true { marked self.old.truth.items l ≡ false }
         requires not_false { marked self.old.truth.items (negate l) ≡ false }
         ensures same { OnOk result (self.new.occurrences.items ≡ self.old.occurrences.items) }
         ensures on { IfOk result (λ r. length self.old.trail.items ≤ r.1) }
-        ensures counted { IfOk result (λ r. IsCounted formula.now.vars formula.now.clauses self.new.truth.items self.new.trail.items self.new.counts.items r.1) }
+        ensures counted { IfOk result (λ r. IsCountedTo formula.now.vars formula.now.clauses self.new.truth.items self.new.trail.items self.new.counts.items r.1) }
         ensures grows { OnOk result (Grows formula.now.clauses (self.old.trail.items ++ l ∷ []) self.new.trail.items) }
         ensures falsified { IfOk result (λ r. r.0 ≡ true → Falsified formula.now.clauses (has self.new.trail.items)) }
         ensures all { IfOk result (λ r. r.0 ≡ false → r.1 ≡ length self.new.trail.items) }
@@ -143,8 +144,8 @@ impl Tables {
 
     /// Makes room for one more variable.
     pub(crate) fn add_var(&mut self, alloc: Global, formula: &Formula) -> Result<(), OutOfMemory>
-        requires settled { IsSettled formula.now.vars formula.now.clauses self.old }
-        ensures { OnOk result (IsSettled (formula.now.vars + 1) formula.now.clauses self.new) }
+        requires settled { AreSettled formula.now.vars formula.now.clauses self.old }
+        ensures { OnOk result (AreSettled (formula.now.vars + 1) formula.now.clauses self.new) }
     {
         let _vars = formula.vars();
         self.occurrences.push(Places::new(alloc))?;

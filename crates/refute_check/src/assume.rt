@@ -3,7 +3,8 @@ ghost use Rattle.std.specs.Prelude.{◌≡◌, ◌≤◌, ◌<◌, ◌+◌, ◌*
 ghost use Rattle.cnf_core.specs.Lit.{has};
 ghost use Rattle.cnf_core.specs.Clause.{AreThere, AreDistinct};
 ghost use Rattle.cnf_core.specs.Propagation.{Includes, negations};
-ghost use Rattle.refute_check.specs.Tables.{IsTrail, Assumes, Clashes};
+ghost use Rattle.cnf_core.specs.Trail.{IsTrail};
+ghost use Rattle.refute_check.specs.Tables.{Assumes, HasTrueLiteral};
 
 use crate::scan::{Truth, truth_of};
 use crate::trail::mark;
@@ -24,7 +25,7 @@ pub(crate) fn assume_false(
     ensures trail { OnOk result (IsTrail vars truth.new trail.new.items) }
     ensures assumes { OnOk result (Assumes lits.now trail.old.items trail.new.items) }
     ensures all { IfOk result (λ clash. clash ≡ false → Includes (has trail.new.items) (negations lits.now)) }
-    ensures clash { IfOk result (λ clash. clash ≡ true → Clashes lits.now trail.old.items) }
+    ensures clash { IfOk result (λ clash. clash ≡ true → HasTrueLiteral lits.now trail.old.items) }
 {
     for l in lits {
         match truth_of(truth, vars, *l) {

@@ -1,6 +1,7 @@
 // Counts by clause of the literals that aren't false.
 ghost use Rattle.std.specs.Prelude.{◌≡◌, ◌≤◌, ◌<◌, ◌+◌, ◌^◌, ℕ, All, length, slice_index};
-ghost use Rattle.refute_check.specs.Tables.{times, CountedUp};
+ghost use Rattle.cnf_core.specs.Times.{times};
+ghost use Rattle.refute_check.specs.Tables.{CountedUp};
 
 /// Adds one to the count of each clause that the list names, once for each time.
 pub(crate) fn count_up(places: &[u32], counts: &mut [u32])

@@ -3,7 +3,7 @@ ghost use Rattle.std.specs.Prelude.{◌≡◌, ◌≤◌, ◌<◌, ◌+◌, ◌^
 ghost use Rattle.cnf_core.specs.Lit.{has};
 ghost use Rattle.cnf_core.specs.Clause.{AreThere, AreDistinct, words_of};
 ghost use Rattle.cnf_core.specs.Propagation.{greatest_in, greatest_var};
-ghost use Rattle.refute_check.specs.Settled.{IsSettled};
+ghost use Rattle.refute_check.specs.Settled.{AreSettled};
 ghost use Rattle.refute_check.specs.Standing.{IsChecker};
 
 use crate::tables::Tables;
@@ -69,8 +69,8 @@ fn grow(
     tables: &mut Tables,
     vars: u32,
 ) -> Result<(), OutOfMemory>
-    requires { IsSettled formula.old.vars formula.old.clauses tables.old }
-    ensures settled { OnOk result (IsSettled formula.new.vars formula.new.clauses tables.new) }
+    requires { AreSettled formula.old.vars formula.old.clauses tables.old }
+    ensures settled { OnOk result (AreSettled formula.new.vars formula.new.clauses tables.new) }
     ensures made { OnOk result (formula.new ≡ record formula.old { vars = max formula.old.vars vars }) }
 {
     while formula.vars() < vars {
@@ -98,7 +98,7 @@ fn add_open(
     tables: &mut Tables,
     lits: &[Lit],
 ) -> Result<Standing, OutOfMemory>
-    requires settled { IsSettled formula.old.vars formula.old.clauses tables.old }
+    requires settled { AreSettled formula.old.vars formula.old.clauses tables.old }
     requires distinct { AreDistinct lits.now }
     requires there { AreThere formula.old.vars lits.now }
     requires small { length lits.now < 2 ^ 32 }

@@ -4,7 +4,8 @@ ghost use Rattle.cnf_core.specs.Lit.{has};
 ghost use Rattle.cnf_core.specs.Clause.{AllDistinct};
 ghost use Rattle.cnf_core.specs.Formula.{clause_at};
 ghost use Rattle.cnf_core.specs.Propagation.{Falsified};
-ghost use Rattle.refute_check.specs.Tables.{IsTrail, Grows, IsQuietNow, AreQuietNow};
+ghost use Rattle.cnf_core.specs.Trail.{IsTrail, Grows};
+ghost use Rattle.refute_check.specs.Tables.{IsQuietNow, AreQuietNow};
 
 use crate::scan::{Scan, scan_clause};
 use crate::trail::mark;

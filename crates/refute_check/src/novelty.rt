@@ -3,8 +3,9 @@ ghost use Rattle.std.specs.Prelude.{◌≡◌, ◌≤◌, ◌∷◌, true, false
 ghost use Rattle.cnf_core.specs.Lit.{has, negate};
 ghost use Rattle.cnf_core.specs.Clause.{AreThere, AreDistinct, IsThere};
 ghost use Rattle.cnf_core.specs.Propagation.{negations, IsClosure};
-ghost use Rattle.refute_check.specs.Tables.{marked, IsCounted, AreOccurrences, AreQuiet, AreReasoned};
-ghost use Rattle.refute_check.specs.Settled.{IsSettled};
+ghost use Rattle.cnf_core.specs.Trail.{marked};
+ghost use Rattle.refute_check.specs.Tables.{IsCountedTo, AreOccurrences, AreQuiet, AreExplained};
+ghost use Rattle.refute_check.specs.Settled.{AreSettled};
 ghost use Rattle.refute_check.specs.Novelty.{IsNovelty};
 
 use crate::scan::{Truth, truth_of};
@@ -33,13 +34,13 @@ impl Tables {
         others: &[Lit],
     ) -> Result<(Novelty, usize), OutOfMemory>
         requires occurrences { AreOccurrences formula.now.vars formula.now.clauses self.old.occurrences.items }
-        requires counted { IsCounted formula.now.vars formula.now.clauses self.old.truth.items self.old.trail.items self.old.counts.items (length self.old.trail.items) }
+        requires counted { IsCountedTo formula.now.vars formula.now.clauses self.old.truth.items self.old.trail.items self.old.counts.items (length self.old.trail.items) }
         requires quiet { AreQuiet formula.now.clauses self.old.trail.items (length self.old.trail.items) }
         requires closure { IsClosure formula.now.clauses (negations others.now) (has self.old.trail.items) }
         requires there { IsThere formula.now.vars first }
         requires not_true { marked self.old.truth.items first ≡ false }
         requires not_false { marked self.old.truth.items (negate first) ≡ false }
-        ensures counted { IfOk result (λ r. IsCounted formula.now.vars formula.now.clauses self.new.truth.items self.new.trail.items self.new.counts.items r.1) }
+        ensures counted { IfOk result (λ r. IsCountedTo formula.now.vars formula.now.clauses self.new.truth.items self.new.trail.items self.new.counts.items r.1) }
         ensures on { IfOk result (λ r. length self.old.trail.items ≤ r.1) }
         ensures front { OnOk result (take (length self.old.trail.items) self.new.trail.items ≡ self.old.trail.items) }
         ensures same { OnOk result (self.new.occurrences.items ≡ self.old.occurrences.items) }
@@ -60,11 +61,11 @@ impl Tables {
         first: Lit,
         others: &[Lit],
     ) -> Result<(Novelty, usize), OutOfMemory>
-        requires settled { IsSettled formula.now.vars formula.now.clauses self.old }
+        requires settled { AreSettled formula.now.vars formula.now.clauses self.old }
         requires first { IsThere formula.now.vars first }
         requires there { AreThere formula.now.vars others.now }
         requires distinct { AreDistinct (first ∷ others.now) }
-        ensures counted { IfOk result (λ r. IsCounted formula.now.vars formula.now.clauses self.new.truth.items self.new.trail.items self.new.counts.items r.1) }
+        ensures counted { IfOk result (λ r. IsCountedTo formula.now.vars formula.now.clauses self.new.truth.items self.new.trail.items self.new.counts.items r.1) }
         ensures on { IfOk result (λ r. length self.old.trail.items ≤ r.1) }
         ensures front { OnOk result (take (length self.old.trail.items) self.new.trail.items ≡ self.old.trail.items) }
         ensures same { OnOk result (self.new.occurrences.items ≡ self.old.occurrences.items) }
@@ -91,11 +92,11 @@ impl Tables {
         first: Lit,
         others: &[Lit],
     ) -> Result<Novelty, OutOfMemory>
-        requires settled { IsSettled formula.now.vars formula.now.clauses self.old }
+        requires settled { AreSettled formula.now.vars formula.now.clauses self.old }
         requires first { IsThere formula.now.vars first }
         requires there { AreThere formula.now.vars others.now }
         requires distinct { AreDistinct (first ∷ others.now) }
-        ensures settled { OnOk result (IsSettled formula.now.vars formula.now.clauses self.new) }
+        ensures settled { OnOk result (AreSettled formula.now.vars formula.now.clauses self.new) }
         ensures novelty { IfOk result (IsNovelty formula.now.clauses first others.now) }
     {
         let level = self.trail.len();

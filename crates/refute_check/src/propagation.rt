@@ -2,7 +2,8 @@
 ghost use Rattle.std.specs.Prelude.{◌≡◌, ◌≤◌, ◌<◌, ◌+◌, ◌*◌, true, false, length, All, OnOk, IfOk, slice_index, take};
 ghost use Rattle.cnf_core.specs.Lit.{has};
 ghost use Rattle.cnf_core.specs.Propagation.{Falsified};
-ghost use Rattle.refute_check.specs.Tables.{IsTrail, IsCounted, AreOccurrences, AreQuiet, Grows};
+ghost use Rattle.cnf_core.specs.Trail.{IsTrail, Grows};
+ghost use Rattle.refute_check.specs.Tables.{IsCountedTo, AreOccurrences, AreQuiet};
 
 use crate::counts::count_down;
 use crate::looks::look_at_each;
@@ -21,10 +22,10 @@ fn advance(
     front: usize,
 ) -> Result<bool, OutOfMemory>
     requires occurrences { AreOccurrences formula.now.vars formula.now.clauses occurrences.now }
-    requires counted { IsCounted formula.now.vars formula.now.clauses truth.old trail.old.items counts.old front }
+    requires counted { IsCountedTo formula.now.vars formula.now.clauses truth.old trail.old.items counts.old front }
     requires quiet { AreQuiet formula.now.clauses trail.old.items front }
     requires there { front < length trail.old.items }
-    ensures counted { OnOk result (IsCounted formula.now.vars formula.now.clauses truth.new trail.new.items counts.new (front + 1)) }
+    ensures counted { OnOk result (IsCountedTo formula.now.vars formula.now.clauses truth.new trail.new.items counts.new (front + 1)) }
     ensures grows { OnOk result (Grows formula.now.clauses trail.old.items trail.new.items) }
     ensures falsified { IfOk result (λ found. found ≡ true → Falsified formula.now.clauses (has trail.new.items)) }
     ensures quiet { IfOk result (λ found. found ≡ false → AreQuiet formula.now.clauses trail.new.items (front + 1)) }
@@ -49,9 +50,9 @@ pub(crate) fn propagate(
     from: usize,
 ) -> Result<(bool, usize), OutOfMemory>
     requires occurrences { AreOccurrences formula.now.vars formula.now.clauses occurrences.now }
-    requires counted { IsCounted formula.now.vars formula.now.clauses truth.old trail.old.items counts.old from }
+    requires counted { IsCountedTo formula.now.vars formula.now.clauses truth.old trail.old.items counts.old from }
     requires quiet { AreQuiet formula.now.clauses trail.old.items from }
-    ensures counted { IfOk result (λ r. IsCounted formula.now.vars formula.now.clauses truth.new trail.new.items counts.new r.1) }
+    ensures counted { IfOk result (λ r. IsCountedTo formula.now.vars formula.now.clauses truth.new trail.new.items counts.new r.1) }
     ensures on { IfOk result (λ r. from ≤ r.1) }
     ensures grows { OnOk result (Grows formula.now.clauses trail.old.items trail.new.items) }
     ensures falsified { IfOk result (λ r. r.0 ≡ true → Falsified formula.now.clauses (has trail.new.items)) }

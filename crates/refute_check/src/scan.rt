@@ -3,7 +3,7 @@ ghost use Rattle.std.specs.Prelude.{◌≡◌, ◌≤◌, ◌<◌, ◌+◌, ◌*
 ghost use Rattle.cnf_core.specs.Lit.{negate};
 ghost use Rattle.cnf_core.specs.Clause.{AreThere, AreDistinct};
 ghost use Rattle.cnf_core.specs.Propagation.{IsConsistent};
-ghost use Rattle.refute_check.specs.Tables.{marked};
+ghost use Rattle.cnf_core.specs.Trail.{marked};
 ghost use Rattle.refute_check.specs.Scans.{IsScan, IsTruth};
 
 use cnf_core::Lit;

@@ -3,8 +3,8 @@ ghost use Rattle.std.specs.Prelude.{◌≡◌, ◌≤◌, ◌<◌, ◌+◌, ◌*
 ghost use Rattle.cnf_core.specs.Lit.{has};
 ghost use Rattle.cnf_core.specs.Clause.{AreThere, AreDistinct};
 ghost use Rattle.cnf_core.specs.Propagation.{Falsifies, Rup, negations, IsClosure};
-ghost use Rattle.refute_check.specs.Tables.{IsCounted, AreOccurrences, AreQuiet, AreReasoned};
-ghost use Rattle.refute_check.specs.Settled.{IsSettled};
+ghost use Rattle.refute_check.specs.Tables.{IsCountedTo, AreOccurrences, AreQuiet, AreExplained};
+ghost use Rattle.refute_check.specs.Settled.{AreSettled};
 
 use crate::assume::assume_false;
 use crate::places::Places;
@@ -30,7 +30,7 @@ pub(crate) struct Tables {
 impl Tables {
     /// No variable, and no clause.
     pub(crate) fn new(alloc: Global) -> Result<Tables, OutOfMemory>
-        ensures { IfOk result (λ t. IsSettled 0 [] t) }
+        ensures { IfOk result (λ t. AreSettled 0 [] t) }
     {
         let mut occurrences = Vec::new(alloc);
         occurrences.push(Places::new(alloc))?;
@@ -53,10 +53,10 @@ impl Tables {
         formula: &Formula,
         lits: &[Lit],
     ) -> Result<(bool, usize), OutOfMemory>
-        requires settled { IsSettled formula.now.vars formula.now.clauses self.old }
+        requires settled { AreSettled formula.now.vars formula.now.clauses self.old }
         requires there { AreThere formula.now.vars lits.now }
         requires distinct { AreDistinct lits.now }
-        ensures counted { IfOk result (λ r. IsCounted formula.now.vars formula.now.clauses self.new.truth.items self.new.trail.items self.new.counts.items r.1) }
+        ensures counted { IfOk result (λ r. IsCountedTo formula.now.vars formula.now.clauses self.new.truth.items self.new.trail.items self.new.counts.items r.1) }
         ensures on { IfOk result (λ r. length self.old.trail.items ≤ r.1) }
         ensures front { OnOk result (take (length self.old.trail.items) self.new.trail.items ≡ self.old.trail.items) }
         ensures same { OnOk result (self.new.occurrences.items ≡ self.old.occurrences.items) }
@@ -64,7 +64,7 @@ impl Tables {
         ensures closed { IfOk result (λ r. r.0 ≡ false → IsClosure formula.now.clauses (negations lits.now) (has self.new.trail.items)) }
         ensures all { IfOk result (λ r. r.0 ≡ false → r.1 ≡ length self.new.trail.items) }
         ensures quiet { IfOk result (λ r. r.0 ≡ false → AreQuiet formula.now.clauses self.new.trail.items (length self.new.trail.items)) }
-        ensures reasoned { IfOk result (λ r. r.0 ≡ false → AreReasoned formula.now.clauses lits.now self.new.trail.items) }
+        ensures reasoned { IfOk result (λ r. r.0 ≡ false → AreExplained formula.now.clauses lits.now self.new.trail.items) }
     {
         let level = self.trail.len();
         let clash = assume_false(&mut self.truth, &mut self.trail, formula.vars(), lits)?;
@@ -84,10 +84,10 @@ impl Tables {
 
     /// Takes the trail back to its first `level` literals, of which `front` were counted.
     pub(crate) fn take_back(&mut self, formula: &Formula, level: usize, front: usize)
-        requires counted { IsCounted formula.now.vars formula.now.clauses self.old.truth.items self.old.trail.items self.old.counts.items front }
+        requires counted { IsCountedTo formula.now.vars formula.now.clauses self.old.truth.items self.old.trail.items self.old.counts.items front }
         requires level { level ≤ front }
         requires occurrences { AreOccurrences formula.now.vars formula.now.clauses self.old.occurrences.items }
-        ensures counted { IsCounted formula.now.vars formula.now.clauses self.new.truth.items self.new.trail.items self.new.counts.items level }
+        ensures counted { IsCountedTo formula.now.vars formula.now.clauses self.new.truth.items self.new.trail.items self.new.counts.items level }
         ensures rest { self.new.trail.items ≡ take level self.old.trail.items }
         ensures same { self.new.occurrences.items ≡ self.old.occurrences.items }
     {
@@ -104,10 +104,10 @@ impl Tables {
 
     /// Whether the clause of these literals follows by unit propagation.
     pub(crate) fn follows(&mut self, formula: &Formula, lits: &[Lit]) -> Result<bool, OutOfMemory>
-        requires settled { IsSettled formula.now.vars formula.now.clauses self.old }
+        requires settled { AreSettled formula.now.vars formula.now.clauses self.old }
         requires there { AreThere formula.now.vars lits.now }
         requires distinct { AreDistinct lits.now }
-        ensures settled { OnOk result (IsSettled formula.now.vars formula.now.clauses self.new) }
+        ensures settled { OnOk result (AreSettled formula.now.vars formula.now.clauses self.new) }
         ensures yes { IfOk result (λ b. b ≡ true → Rup formula.now.clauses lits.now) }
         ensures no { IfOk result (λ b. b ≡ false → Rup formula.now.clauses lits.now → ⊥) }
     {

@@ -2,7 +2,7 @@
 ghost use Rattle.std.specs.Prelude.{◌≡◌, ◌≤◌, ◌<◌, ◌+◌, ◌-◌, ◌*◌, [], ◌∷◌, ◌++◌, true, false, length, OnOk, option_to_list};
 ghost use Rattle.cnf_core.specs.Lit.{negate};
 ghost use Rattle.cnf_core.specs.Clause.{IsThere};
-ghost use Rattle.refute_check.specs.Tables.{marked, IsTrail};
+ghost use Rattle.cnf_core.specs.Trail.{marked, IsTrail};
 
 use cnf_core::Lit;
 use plan_core::OutOfMemory;

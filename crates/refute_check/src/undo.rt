@@ -1,6 +1,7 @@
 // Taking assumptions back.
 ghost use Rattle.std.specs.Prelude.{◌≡◌, ◌≤◌, ◌<◌, ◌+◌, ◌*◌, length, take, option_to_list, ◌++◌, ◌∷◌, []};
-ghost use Rattle.refute_check.specs.Tables.{IsTrail, IsCounted, AreOccurrences};
+ghost use Rattle.cnf_core.specs.Trail.{IsTrail};
+ghost use Rattle.refute_check.specs.Tables.{IsCountedTo, AreOccurrences};
 
 use crate::counts::count_up;
 use crate::places::Places;
@@ -27,9 +28,9 @@ fn step_back(
     trail: &mut Vec<Lit>,
 )
     requires occurrences { AreOccurrences formula.now.vars formula.now.clauses occurrences.now }
-    requires counted { IsCounted formula.now.vars formula.now.clauses truth.old trail.old.items counts.old (length trail.old.items) }
+    requires counted { IsCountedTo formula.now.vars formula.now.clauses truth.old trail.old.items counts.old (length trail.old.items) }
     requires some { 1 ≤ length trail.old.items }
-    ensures counted { IsCounted formula.now.vars formula.now.clauses truth.new trail.new.items counts.new (length trail.new.items) }
+    ensures counted { IsCountedTo formula.now.vars formula.now.clauses truth.new trail.new.items counts.new (length trail.new.items) }
     ensures shorter { length trail.new.items + 1 ≡ length trail.old.items }
     ensures rest { trail.new.items ≡ take (length trail.new.items) trail.old.items }
 {
@@ -52,9 +53,9 @@ pub(crate) fn undo(
     front: usize,
 )
     requires occurrences { AreOccurrences formula.now.vars formula.now.clauses occurrences.now }
-    requires counted { IsCounted formula.now.vars formula.now.clauses truth.old trail.old.items counts.old front }
+    requires counted { IsCountedTo formula.now.vars formula.now.clauses truth.old trail.old.items counts.old front }
     requires level { level ≤ front }
-    ensures counted { IsCounted formula.now.vars formula.now.clauses truth.new trail.new.items counts.new level }
+    ensures counted { IsCountedTo formula.now.vars formula.now.clauses truth.new trail.new.items counts.new level }
     ensures rest { trail.new.items ≡ take level trail.old.items }
 {
     drop_uncounted(truth, trail, formula.vars(), front);

@@ -13,11 +13,13 @@ use Rattle.cnf_core.proofs.TrailLemmas.{distinct_push}
 use Rattle.cnf_core.proofs.GatherLemmas.{there_push}
 use Rattle.watch_arena.specs.declared.fault.ArenaFault.{ArenaFault}
 use Rattle.watch_arena.specs.declared.clause_ref.ClauseRef.{ClauseRef}
-use Rattle.watch_arena.specs.Words.{at, lit_of, IsStore, IsBlock}
-use Rattle.watch_arena.specs.Chains.{times, Path, HasChains}
+use Rattle.watch_arena.specs.Words.{word_at, lit_of, IsStore, IsBlock}
+use Rattle.cnf_core.specs.Times.{times}
+use Rattle.watch_arena.specs.Chains.{Path, HasChains}
 use Rattle.watch_arena.specs.Trail.{Marks, IsMarks, with_lit}
-use Rattle.watch_arena.specs.Walk.{lit_at, lits_upto, lits_at, IsWatched, IsAttached, IsMade, IsClash, Grows, Closes, Clashes, KeepsLits, AreRight, past_of}
-use Rattle.watch_arena.specs.Arena.{Attached, attached_of, clause_at, clauses_of, watch_at, IsArena, AreWatched, AreReasoned, AreAttached, IsSameText, IsMoreText, IsAdded, IsHeldBy, AreOpen, IsClashOf}
+use Rattle.cnf_core.specs.Trail.{Grows}
+use Rattle.watch_arena.specs.Walk.{lit_at, lits_upto, lits_at, IsWatched, IsAttached, IsMade, IsClash, Closes, Clashes, KeepsLits, AreRight, past_of}
+use Rattle.watch_arena.specs.Arena.{Attached, attached_of, attached_at, attached_clauses, watch_at, IsArena, AreWatched, AreReasoned, AreAttached, IsSameText, IsMoreText, IsAdded, IsHeldBy, AreOpen, IsClashOf}
 use Rattle.watch_arena.proofs.WordLemmas.{lit_there, word_there, bounds}
 use Rattle.watch_arena.proofs.TextLemmas.{upto_in, text_of, same_lits, upto_length, upto_get, kept_lits, all_false}
 use Rattle.watch_arena.proofs.TrailLemmas.{get_padded}
@@ -58,11 +60,11 @@ pub none_watched : (a : Attached) (m : Marks) → a.places ≡ [] → AreWatched
 none_watched a m e = record { right = λ p c. absurd (not_in_none p (subst (λ (ps : List ℕ). Contains ps p) e c)) }
 
 -- each clause is one of distinct variables in range
-upto_there : (vars : ℕ) (ws places : List ℕ) (p n : ℕ) → IsStore vars ws places → Contains places p → n ≤ at ws p → AreThere vars (lits_upto ws p n)
+upto_there : (vars : ℕ) (ws places : List ℕ) (p n : ℕ) → IsStore vars ws places → Contains places p → n ≤ word_at ws p → AreThere vars (lits_upto ws p n)
 upto_there vars ws places p zero h c le = tt
 upto_there vars ws places p (suc n) h c le = there_push vars (lits_upto ws p n) (lit_at ws (p + 3 + n)) (upto_there vars ws places p n h c (omega arith)) (lit_there vars ws places p n h c (omega arith))
 
-upto_distinct : (vars : ℕ) (ws : List ℕ) (p n : ℕ) → IsBlock vars ws p → n ≤ at ws p → AreDistinct (lits_upto ws p n)
+upto_distinct : (vars : ℕ) (ws : List ℕ) (p n : ℕ) → IsBlock vars ws p → n ≤ word_at ws p → AreDistinct (lits_upto ws p n)
 upto_distinct vars ws p zero b le = tt
 upto_distinct vars ws p (suc n) b le = distinct_push (lits_upto ws p n) (lit_at ws (p + 3 + n)) (upto_distinct vars ws p n b (omega arith)) (λ k among e.
     let x = upto_in ws p n k among in
@@ -76,9 +78,9 @@ are_attached vars room ws heads places visits k = λ p c.
     let two = b.two in
     record {
       from = b.from;
-      two = omega (arith, upto_length ws p (at ws p));
-      there = upto_there vars ws places p (at ws p) h c (omega arith);
-      distinct = upto_distinct vars ws p (at ws p) b (omega arith);
+      two = omega (arith, upto_length ws p (word_at ws p));
+      there = upto_there vars ws places p (word_at ws p) h c (omega arith);
+      distinct = upto_distinct vars ws p (word_at ws p) b (omega arith);
     }
 
 -- what propagation leaves
@@ -86,7 +88,7 @@ pub record IsPropagated (old new : Attached) (m now : Marks) : Type 0 where
   pub watched : AreWatched new now
   pub reasoned : AreReasoned old m → AreReasoned new now
   pub text : IsSameText old new
-  pub grows : Grows (clauses_of old) m.lits now.lits
+  pub grows : Grows (attached_clauses old) m.lits now.lits
 
 pub propagated : (old : Attached) (vars room visits after : ℕ) (ws places given_words given_places new got then : List ℕ) (m now : Marks) → attached_of vars room ws places visits ≡ old → given_words ≡ ws → given_places ≡ places → got ≡ new → length new ≡ length given_words →
     IsMade m now given_words new given_places → IsWatched now new then given_places (past_of now) → IsPropagated old (attached_of vars room got places after) m now
@@ -104,15 +106,15 @@ propagated old vars room visits after ws places given_words given_places new got
       grows = made.grows (map (lits_at given_words) given_places) (text_of given_words given_places);
     }
 
-pub closes : (old : Attached) (vars room visits : ℕ) (ws places given_words given_places : List ℕ) (m now : Marks) → attached_of vars room ws places visits ≡ old → given_words ≡ ws → given_places ≡ places → Closes given_places given_words m.lits now.lits → IsClosure (clauses_of old) (has m.lits) (has now.lits)
+pub closes : (old : Attached) (vars room visits : ℕ) (ws places given_words given_places : List ℕ) (m now : Marks) → attached_of vars room ws places visits ≡ old → given_words ≡ ws → given_places ≡ places → Closes given_places given_words m.lits now.lits → IsClosure (attached_clauses old) (has m.lits) (has now.lits)
 closes old vars room visits ws places given_words given_places m now e words places_same x =
-    subst (λ (o : Attached). IsClosure (clauses_of o) (has m.lits) (has now.lits)) e
+    subst (λ (o : Attached). IsClosure (attached_clauses o) (has m.lits) (has now.lits)) e
     (subst (λ (w : List ℕ). IsClosure (map (lits_at w) places) (has m.lits) (has now.lits)) words
     (subst (λ (p : List ℕ). IsClosure (map (lits_at given_words) p) (has m.lits) (has now.lits)) places_same (x (map (lits_at given_words) given_places) (text_of given_words given_places))))
 
-pub falsifies : (old : Attached) (vars room visits : ℕ) (ws places given_words given_places : List ℕ) (m : Marks) → attached_of vars room ws places visits ≡ old → given_words ≡ ws → given_places ≡ places → Clashes given_places given_words m.lits → Falsifies (clauses_of old) (has m.lits)
+pub falsifies : (old : Attached) (vars room visits : ℕ) (ws places given_words given_places : List ℕ) (m : Marks) → attached_of vars room ws places visits ≡ old → given_words ≡ ws → given_places ≡ places → Clashes given_places given_words m.lits → Falsifies (attached_clauses old) (has m.lits)
 falsifies old vars room visits ws places given_words given_places m e words places_same x =
-    subst (λ (o : Attached). Falsifies (clauses_of o) (has m.lits)) e
+    subst (λ (o : Attached). Falsifies (attached_clauses o) (has m.lits)) e
     (subst (λ (w : List ℕ). Falsifies (map (lits_at w) places) (has m.lits)) words
     (subst (λ (p : List ℕ). Falsifies (map (lits_at given_words) p) (has m.lits)) places_same (x (map (lits_at given_words) given_places) (text_of given_words given_places))))
 
@@ -137,15 +139,15 @@ arena_attached vars room ws heads places new then now a visits m (Err f) k e sam
     subst (λ (n : List ℕ). IsArena vars room n then now) (sym x) (subst (λ (h : List ℕ). IsArena vars room ws h now) (sym y) (subst (λ (q : List ℕ). IsArena vars room ws heads q) (sym z) k))
 
 -- the watches of clauses by their literals
-watch_is : (a : Attached) (p i : ℕ) (d : Literal) → i < length (clause_at a p) → watch_at a p i ≡ get_or (clause_at a p) i d
-watch_is a p i d lt = sym (upto_get a.words p (at a.words p) i d (let size = upto_length a.words p (at a.words p) in omega arith))
+watch_is : (a : Attached) (p i : ℕ) (d : Literal) → i < length (attached_at a p) → watch_at a p i ≡ get_or (attached_at a p) i d
+watch_is a p i d lt = sym (upto_get a.words p (word_at a.words p) i d (let size = upto_length a.words p (word_at a.words p) in omega arith))
 
-watch_same : (old new : Attached) (p i : ℕ) → i < length (clause_at old p) → clause_at new p ≡ clause_at old p → watch_at new p i ≡ watch_at old p i
+watch_same : (old new : Attached) (p i : ℕ) → i < length (attached_at old p) → attached_at new p ≡ attached_at old p → watch_at new p i ≡ watch_at old p i
 watch_same old new p i lt e =
     let size = ap length e in
     watch_is new p i (watch_at old p i) (omega arith) ∙ ap (λ (c : List Literal). get_or c i (watch_at old p i)) e ∙ sym (watch_is old p i (watch_at old p i) lt)
 
-module _ (old new : Attached) (m : Marks) (p : ℕ) (marks : IsMarks m) (watched : AreWatched old m) (attached : AreAttached old) (same : (q : ℕ) → Contains old.places q → clause_at new q ≡ clause_at old q) (places : new.places ≡ old.places ++ p ∷ []) where
+module _ (old new : Attached) (m : Marks) (p : ℕ) (marks : IsMarks m) (watched : AreWatched old m) (attached : AreAttached old) (same : (q : ℕ) → Contains old.places q → attached_at new q ≡ attached_at old q) (places : new.places ≡ old.places ++ p ∷ []) where
   -- all are watched on a trail where the old ones are, and the new one
   all_watched : (now : Marks) → ((q : ℕ) → Contains old.places q → AreRight now (watch_at old q 0) (watch_at old q 1)) → AreRight now (watch_at new p 0) (watch_at new p 1) → AreWatched new now
   all_watched now before here = record {
@@ -159,7 +161,7 @@ module _ (old new : Attached) (m : Marks) (p : ℕ) (marks : IsMarks m) (watched
     ];
   }
 
-  pub added : (lits : List Literal) → clause_at new p ≡ lits → IsAdded new m lits
+  pub added : (lits : List Literal) → attached_at new p ≡ lits → IsAdded new m lits
   added [] e = tt
   added (k ∷ []) e = tt
   added (k ∷ l ∷ lits) e = (
@@ -168,7 +170,7 @@ module _ (old new : Attached) (m : Marks) (p : ℕ) (marks : IsMarks m) (watched
         (here (with_lit m k reason) (right_set m k l reason marks asserts.first (late_by_level m l marks asserts.level))),
   )
     where
-      size : length (clause_at new p) ≡ length (k ∷ l ∷ lits)
+      size : length (attached_at new p) ≡ length (k ∷ l ∷ lits)
       size = ap length e
 
       first_is : watch_at new p 0 ≡ k
@@ -210,28 +212,28 @@ answered vars room visits ws heads places new more m lits (Err f) k w marks kept
 pub place_in : (vars room : ℕ) (ws places : List ℕ) (visits : ℕ) (a : Attached) (p : ℕ) → attached_of vars room ws places visits ≡ a → Contains a.places p → Contains places p
 place_in vars room ws places visits a p e c = subst (λ (x : Attached). Contains x.places p) (sym e) c
 
-pub len_is : (vars room : ℕ) (ws places : List ℕ) (visits : ℕ) (a : Attached) (p n : ℕ) → attached_of vars room ws places visits ≡ a → p < length ws → n ≡ get_or ws p n → n ≡ length (clause_at a p)
-len_is vars room ws places visits a p n e lt is = is ∙ get_or_default ws p n 0 lt ∙ sym (upto_length ws p (at ws p)) ∙ ap (λ (x : Attached). length (clause_at x p)) e
+pub len_is : (vars room : ℕ) (ws places : List ℕ) (visits : ℕ) (a : Attached) (p n : ℕ) → attached_of vars room ws places visits ≡ a → p < length ws → n ≡ get_or ws p n → n ≡ length (attached_at a p)
+len_is vars room ws places visits a p n e lt is = is ∙ get_or_default ws p n 0 lt ∙ sym (upto_length ws p (word_at ws p)) ∙ ap (λ (x : Attached). length (attached_at x p)) e
 
 pub record IsInReach (ws : List ℕ) (p i : ℕ) : Type 0 where
   pub within : p + 3 + i < length ws
   pub limit : length ws < 2 ^ 30
-  pub word : IsWord (at ws (p + 3 + i))
+  pub word : IsWord (word_at ws (p + 3 + i))
 
-pub in_reach : (vars room : ℕ) (ws heads places : List ℕ) (visits : ℕ) (a : Attached) (p i : ℕ) → IsArena vars room ws heads places → attached_of vars room ws places visits ≡ a → Contains a.places p → i < length (clause_at a p) → IsInReach ws p i
+pub in_reach : (vars room : ℕ) (ws heads places : List ℕ) (visits : ℕ) (a : Attached) (p i : ℕ) → IsArena vars room ws heads places → attached_of vars room ws places visits ≡ a → Contains a.places p → i < length (attached_at a p) → IsInReach ws p i
 in_reach vars room ws heads places visits a p i k e c lt =
     let h = k.store in
     let here = place_in vars room ws places visits a p e c in
     let b = bounds vars ws places p h here in
-    let size : length (clause_at a p) ≡ at ws p = ap (λ (x : Attached). length (clause_at x p)) (sym e) ∙ upto_length ws p (at ws p) in
+    let size : length (attached_at a p) ≡ word_at ws p = ap (λ (x : Attached). length (attached_at x p)) (sym e) ∙ upto_length ws p (word_at ws p) in
     let within = b.1 in
     let limit = b.2 in
     record { within = omega arith; limit = limit; word = word_there vars ws places p i h here (omega arith) }
 
-pub lit_is : (vars room : ℕ) (ws places : List ℕ) (visits : ℕ) (a : Attached) (p i n : ℕ) (l : Literal) → attached_of vars room ws places visits ≡ a → i < length (clause_at a p) → p + 3 + i < length ws → n ≡ get_or ws (p + 3 + i) n → l ≡ literal_at n → get_or (clause_at a p) i l ≡ l
+pub lit_is : (vars room : ℕ) (ws places : List ℕ) (visits : ℕ) (a : Attached) (p i n : ℕ) (l : Literal) → attached_of vars room ws places visits ≡ a → i < length (attached_at a p) → p + 3 + i < length ws → n ≡ get_or ws (p + 3 + i) n → l ≡ literal_at n → get_or (attached_at a p) i l ≡ l
 lit_is vars room ws places visits a p i n l e lt within is lit =
-    let size : length (clause_at a p) ≡ at ws p = ap (λ (x : Attached). length (clause_at x p)) (sym e) ∙ upto_length ws p (at ws p) in
-    ap (λ (x : Attached). get_or (clause_at x p) i l) (sym e) ∙ upto_get ws p (at ws p) i l (omega arith) ∙ ap literal_at (get_or_default ws (p + 3 + i) 0 n within ∙ sym is) ∙ sym lit
+    let size : length (attached_at a p) ≡ word_at ws p = ap (λ (x : Attached). length (attached_at x p)) (sym e) ∙ upto_length ws p (word_at ws p) in
+    ap (λ (x : Attached). get_or (attached_at x p) i l) (sym e) ∙ upto_get ws p (word_at ws p) i l (omega arith) ∙ ap literal_at (get_or_default ws (p + 3 + i) 0 n within ∙ sym is) ∙ sym lit
 
 -- further variables: their chains are empty
 chain_in : (w n : ℕ) (xs : List ℕ) → w < n → cond (nat_lt w n) xs [] ≡ xs
@@ -245,9 +247,9 @@ module _ (vars room n : ℕ) (ws heads places : List ℕ) (k : IsArena vars room
   spread_chains c = record {
     chains = λ w. cond (nat_lt w (length heads)) (c.chains w) [];
     paths = λ w lt. elim (cases_lt w (length heads)) [
-      | inl l ↦ subst (λ (xs : List ℕ). Path ws (at (heads ++ replicate (2 * n) 0) w) xs) (sym (chain_in w (length heads) (c.chains w) l))
+      | inl l ↦ subst (λ (xs : List ℕ). Path ws (word_at (heads ++ replicate (2 * n) 0) w) xs) (sym (chain_in w (length heads) (c.chains w) l))
           (subst (λ h. Path ws h (c.chains w)) (sym (get_or_append_left heads (replicate (2 * n) 0) 0 w l)) (c.paths w l))
-      | inr g ↦ subst (λ (xs : List ℕ). Path ws (at (heads ++ replicate (2 * n) 0) w) xs) (sym (chain_out w (length heads) (c.chains w) g))
+      | inr g ↦ subst (λ (xs : List ℕ). Path ws (word_at (heads ++ replicate (2 * n) 0) w) xs) (sym (chain_out w (length heads) (c.chains w) g))
           (get_padded heads (2 * n) 0 w ∙ get_or_past heads w 0 g)
     ];
     own = λ w s lt among. elim (cases_lt w (length heads)) [
@@ -261,8 +263,8 @@ module _ (vars room n : ℕ) (ws heads places : List ℕ) (k : IsArena vars room
         let word = b.lits (s % 2) (omega arith) in
         let below = word.below in
         let size = k.size in
-        let at_s : at ws (lit_of s) ≡ at ws (s / 2 + 3 + s % 2) = refl in
-        ap (λ (xs : List ℕ). times xs s + 0) (chain_in (at ws (lit_of s)) (length heads) (c.chains (at ws (lit_of s))) (omega arith)) ∙ c.once s here;
+        let at_s : word_at ws (lit_of s) ≡ word_at ws (s / 2 + 3 + s % 2) = refl in
+        ap (λ (xs : List ℕ). times xs s + 0) (chain_in (word_at ws (lit_of s)) (length heads) (c.chains (word_at ws (lit_of s))) (omega arith)) ∙ c.once s here;
   }
 
   pub arena_spread : vars + n ≤ VARS → IsArena (vars + n) room ws (heads ++ replicate (2 * n) 0) places

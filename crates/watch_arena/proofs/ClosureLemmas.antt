@@ -5,13 +5,14 @@ use Rattle.std.proofs.lemmas.List.{take_all, get_or-take}
 use Rattle.std.proofs.lemmas.List.Elements.{All-contains, All-contains_itself, All-weaker}
 use Rattle.cnf_core.specs.Lit.{Literal, literal_at, negate, has}
 use Rattle.cnf_core.specs.Clause.{Clauses}
-use Rattle.cnf_core.specs.Propagation.{LiteralSet, IsIn, IsUnit, IsClosed, Closure, IsConsistent}
+use Rattle.cnf_core.specs.Propagation.{LiteralSet, IsIn, IsUnit, IsClosed, Closure, IsConsistent, Falsified}
 use Rattle.cnf_core.proofs.TrailLemmas.{distinct_consistent}
-use Rattle.watch_arena.specs.Words.{at, lit_of, other_of}
+use Rattle.watch_arena.specs.Words.{word_at, lit_of, other_of}
 use Rattle.watch_arena.specs.Trail.{Marks, IsMarks, IsLonger, advanced}
-use Rattle.watch_arena.specs.Walk.{lit_at, past_of, IsHeld, IsClauseAt, IsText, KeepsText, Grows, IsWatched, IsMade, IsClash, KeepsLits, Closes, Clashes, IsReasoned}
+use Rattle.cnf_core.specs.Trail.{Grows}
+use Rattle.watch_arena.specs.Walk.{lit_at, past_of, IsTrueNoLater, IsClauseAt, HoldsClauses, KeepsClauses, IsWatched, IsMade, IsClash, KeepsLits, Closes, Clashes, IsReasoned}
 use Rattle.watch_arena.proofs.ReasonLemmas.{text_kept, reasoned_text}
-use Rattle.watch_arena.proofs.GrowthLemmas.{grows_none, grows_more}
+use Rattle.cnf_core.proofs.GrowthLemmas.{grows_none, grows_more}
 use Rattle.watch_arena.proofs.WalkLemmas.{longer_none, longer_more}
 
 pub made_none : (m : Marks) (ws places : List ℕ) → IsMade m m ws ws places
@@ -31,7 +32,7 @@ made_more old mid new ws then now places a b = record {
 }
 
 -- one clause of which each watch is true where the other is false
-module _ (set : LiteralSet) (ws : List ℕ) (p : ℕ) (c : List Literal) (is : IsClauseAt ws p c) (two : 2 ≤ at ws p) (differ : at ws (p + 3 + 0) / 2 ≢ at ws (p + 3 + 1) / 2) (consistent : IsConsistent set)
+module _ (set : LiteralSet) (ws : List ℕ) (p : ℕ) (c : List Literal) (is : IsClauseAt ws p c) (two : 2 ≤ word_at ws p) (differ : word_at ws (p + 3 + 0) / 2 ≢ word_at ws (p + 3 + 1) / 2) (consistent : IsConsistent set)
     (first : IsIn set (negate (lit_at ws (p + 3 + 0))) → IsIn set (lit_at ws (p + 3 + 1))) (second : IsIn set (negate (lit_at ws (p + 3 + 1))) → IsIn set (lit_at ws (p + 3 + 0))) where
   first_in : Contains c (lit_at ws (p + 3 + 0))
   first_in = (is (lit_at ws (p + 3 + 0))).1 (0, omega arith, refl)
@@ -66,7 +67,7 @@ module _ (m : Marks) (ws heads places : List ℕ) (marks : IsMarks m) (k : IsWat
       let other : other_of (2 * p) ≡ p + 3 + 1 = omega arith in
       let here : Contains places ((2 * p) / 2) = subst (λ n. Contains places n) (omega arith) c in
       let f2 : IsIn (past_of m) (negate (lit_at ws (lit_of (2 * p)))) = subst (λ (s : LiteralSet). IsIn s (negate (lit_at ws (lit_of (2 * p))))) (sym past_all) (subst (λ n. IsIn (has m.lits) (negate (lit_at ws n))) (sym lit) f) in
-      let held : IsHeld m (negate (lit_at ws (lit_of (2 * p)))) (lit_at ws (other_of (2 * p))) = k.quiet (2 * p) here refl f2 in
+      let held : IsTrueNoLater m (negate (lit_at ws (lit_of (2 * p)))) (lit_at ws (other_of (2 * p))) = k.quiet (2 * p) here refl f2 in
       subst (λ n. IsIn (has m.lits) (lit_at ws n)) other held.now
 
   second_true : (p : ℕ) → Contains places p → IsIn (has m.lits) (negate (lit_at ws (p + 3 + 1))) → IsIn (has m.lits) (lit_at ws (p + 3 + 0))
@@ -75,10 +76,10 @@ module _ (m : Marks) (ws heads places : List ℕ) (marks : IsMarks m) (k : IsWat
       let other : other_of (2 * p + 1) ≡ p + 3 + 0 = omega arith in
       let here : Contains places ((2 * p + 1) / 2) = subst (λ n. Contains places n) (omega arith) c in
       let f2 : IsIn (past_of m) (negate (lit_at ws (lit_of (2 * p + 1)))) = subst (λ (s : LiteralSet). IsIn s (negate (lit_at ws (lit_of (2 * p + 1))))) (sym past_all) (subst (λ n. IsIn (has m.lits) (negate (lit_at ws n))) (sym lit) f) in
-      let held : IsHeld m (negate (lit_at ws (lit_of (2 * p + 1)))) (lit_at ws (other_of (2 * p + 1))) = k.quiet (2 * p + 1) here refl f2 in
+      let held : IsTrueNoLater m (negate (lit_at ws (lit_of (2 * p + 1)))) (lit_at ws (other_of (2 * p + 1))) = k.quiet (2 * p + 1) here refl f2 in
       subst (λ n. IsIn (has m.lits) (lit_at ws n)) other held.now
 
-  pub watched_closed : (clauses : Clauses) → IsText clauses ws places → IsClosed clauses (has m.lits)
+  pub watched_closed : (clauses : Clauses) → HoldsClauses clauses ws places → IsClosed clauses (has m.lits)
   watched_closed clauses t = λ c among l unit.
       let d = t.stored c among in
       let h = k.store in
@@ -86,13 +87,13 @@ module _ (m : Marks) (ws heads places : List ℕ) (marks : IsMarks m) (k : IsWat
       let two = b.two in
       clause_closed (has m.lits) ws d.0 c d.2 two (b.distinct 0 1 (omega arith) (omega arith) (omega arith)) (distinct_consistent m.lits marks.distinct) (first_true d.0 d.1) (second_true d.0 d.1) l unit
 
-  pub watched_unfalsified : (clauses : Clauses) → IsText clauses ws places → (c : List Literal) → Contains clauses c → All (λ k. IsIn (has m.lits) (negate k)) c → ⊥
-  watched_unfalsified clauses t c among false_all =
-      let d = t.stored c among in
+  pub watched_unfalsified : (clauses : Clauses) → HoldsClauses clauses ws places → Falsified clauses (has m.lits) → ⊥
+  watched_unfalsified clauses t f =
+      let d = t.stored f.clause f.among in
       let h = k.store in
       let b = h.block d.0 d.1 in
       let two = b.two in
-      clause_unfalsified (has m.lits) ws d.0 c d.2 two (b.distinct 0 1 (omega arith) (omega arith) (omega arith)) (distinct_consistent m.lits marks.distinct) (first_true d.0 d.1) (second_true d.0 d.1) false_all
+      clause_unfalsified (has m.lits) ws d.0 f.clause d.2 two (b.distinct 0 1 (omega arith) (omega arith) (omega arith)) (distinct_consistent m.lits marks.distinct) (first_true d.0 d.1) (second_true d.0 d.1) f.each
 
 pub watched_closes : (old new : Marks) (start ws heads places : List ℕ) → IsMarks new → IsMade old new start ws places → IsWatched new ws heads places (past_of new) → new.front ≡ length new.lits → Closes places start old.lits new.lits
 watched_closes old new start ws heads places marks made k all = λ clauses t.
@@ -119,10 +120,10 @@ clash_clashes old new start ws places p made clash = λ clauses t.
       each = All-weaker (Contains c) (λ k. Closure clauses (has old.lits) (negate k)) (λ k among. grown.within (negate k) (falsified k ((is k).0 among))) c (All-contains_itself c);
     }
   where
-    falsified : (k : Literal) → (n : ℕ) × (n < at ws p) × (lit_at ws (p + 3 + n) ≡ k) → IsIn (has new.lits) (negate k)
+    falsified : (k : Literal) → (n : ℕ) × (n < word_at ws p) × (lit_at ws (p + 3 + n) ≡ k) → IsIn (has new.lits) (negate k)
     falsified k n = subst (λ (l : Literal). IsIn (has new.lits) (negate l)) n.2 (clash.false_all n.0 n.1)
 
-pub made_text : (old new : Marks) (ws then now places : List ℕ) → IsMade old new ws then places → KeepsText places then now → IsMade old new ws now places
+pub made_text : (old new : Marks) (ws then now places : List ℕ) → IsMade old new ws then places → KeepsClauses places then now → IsMade old new ws now places
 made_text old new ws then now places a t = record { longer = a.longer; grows = a.grows; text = λ p c d is. t p c d (a.text p c d is); reasoned = λ r. reasoned_text new then now places t (a.reasoned r); reasons = a.reasons }
 
 pub made_advanced : (old new : Marks) (ws now places : List ℕ) → IsMade old new ws now places → IsMade old (advanced new) ws now places
@@ -133,5 +134,5 @@ made_advanced old new ws now places a =
 pub clash_kept : (ws now places : List ℕ) (set : LiteralSet) (p : ℕ) → IsClash ws places set p → KeepsLits places ws now → IsClash now places set p
 clash_kept ws now places set p x k = record {
   place = x.place;
-  false_all = λ j lt. let size = k.size p x.place in let lt2 : j < at ws p = omega arith in subst (λ n. IsIn set (negate (literal_at n))) (sym (k.lits p j x.place lt2)) (x.false_all j lt2);
+  false_all = λ j lt. let size = k.size p x.place in let lt2 : j < word_at ws p = omega arith in subst (λ n. IsIn set (negate (literal_at n))) (sym (k.lits p j x.place lt2)) (x.false_all j lt2);
 }

@@ -2,22 +2,22 @@
 use Rattle.std.proofs.Common.{◌≡◌, ℕ, ◌<◌, ◌≤◌, ◌⊎◌, List, [], ◌∷◌, ◌++◌, length, take, get_or, refl, sym, ◌∙◌, ap, subst, inl, inr, arith, length-take-le}
 use Rattle.std.specs.Prelude.{Contains, min, Option, Some, None}
 use Rattle.cnf_core.specs.Clause.{IsThere}
-use Rattle.std.proofs.lemmas.Bool.{cases_lt}
+use Rattle.std.proofs.lemmas.Bool.{both_ways, cases_lt}
 use Rattle.std.proofs.lemmas.List.{take-take, take_all, get_or_default, get_or-take, get_or_past, take-append-le}
 use Rattle.std.proofs.lemmas.List.Elements.{Contains-push_cases}
 use Rattle.cnf_core.specs.Lit.{Literal, negate, has}
 use Rattle.cnf_core.specs.Propagation.{LiteralSet, IsIn}
 use Rattle.cnf_core.proofs.PropagationLemmas.{contains_from_has, has_from_contains}
 use Rattle.cnf_core.proofs.TrailLemmas.{front_includes, push_keeps, distinct_consistent, has_last}
-use Rattle.watch_arena.specs.Trail.{Marks, IsMarks, opened, end_of, undone, widened, with_lit, level_at, place_of, IsUnset}
-use Rattle.watch_arena.specs.Walk.{past_of, IsHeld, IsReasonFor, IsReasoned, AreRight}
+use Rattle.watch_arena.specs.Trail.{Marks, IsMarks, opened, level_end, undone, widened, with_lit, trail_level, place_of, IsUnset}
+use Rattle.watch_arena.specs.Walk.{past_of, IsTrueNoLater, IsReasonFor, IsReasoned, AreRight}
 use Rattle.watch_arena.specs.declared.clause_ref.ClauseRef.{ClauseRef}
 use Rattle.watch_arena.specs.Arena.{Attached, AreWatched, AreReasoned, MayBeSet, IsHeldBy, watch_at}
-use Rattle.watch_arena.proofs.WordLemmas.{same_or_not}
+use Rattle.cnf_core.proofs.NumberLemmas.{same_or_not}
 use Rattle.watch_arena.proofs.CutLemmas.{level_step, level_most}
 use Rattle.watch_arena.proofs.WalkLemmas.{held_more}
 use Rattle.watch_arena.proofs.ReasonLemmas.{reasoned_root, reasoned_unit}
-use Rattle.watch_arena.proofs.TrailLemmas.{not_both, get_padded}
+use Rattle.watch_arena.proofs.TrailLemmas.{get_padded}
 
 -- levels are undone
 contains_front : (cuts : List ℕ) (level n : ℕ) → level ≤ length cuts → Contains (take level cuts) n → (j : ℕ) × (j < level) × (get_or cuts j n ≡ n)
@@ -27,28 +27,28 @@ contains_front cuts level n le c =
     (c.0, omega arith, sym (get_or-take level cuts c.0 n (omega arith)) ∙ c.2)
 
 module _ (m : Marks) (level : ℕ) (marks : IsMarks m) (le : level ≤ length m.cuts) where
-  end_within : end_of m level ≤ length m.lits
+  end_within : level_end m level ≤ length m.lits
   end_within = elim (cases_lt level (length m.cuts)) [
     | inl lt ↦
         let cuts = marks.cuts in
         let below = cuts.below level lt in
         let same : get_or m.cuts level (length m.lits) ≡ get_or m.cuts level 0 = get_or_default m.cuts level (length m.lits) 0 lt in
         omega arith
-    | inr ge ↦ let e : end_of m level ≡ length m.lits = get_or_past m.cuts level (length m.lits) ge in omega arith
+    | inr ge ↦ let e : level_end m level ≡ length m.lits = get_or_past m.cuts level (length m.lits) ge in omega arith
   ]
 
-  pub end_or : (end_of m level ≡ length m.lits) ⊎ (Contains m.cuts (end_of m level) × (end_of m level ≤ m.front))
+  pub end_or : (level_end m level ≡ length m.lits) ⊎ (Contains m.cuts (level_end m level) × (level_end m level ≤ m.front))
   end_or = elim (cases_lt level (length m.cuts)) [
     | inl lt ↦
         let cuts = marks.cuts in
         let before = cuts.propagated level lt in
         let same : get_or m.cuts level (length m.lits) ≡ get_or m.cuts level 0 = get_or_default m.cuts level (length m.lits) 0 lt in
-        inr ((level, lt, get_or_default m.cuts level (end_of m level) (length m.lits) lt), omega arith)
+        inr ((level, lt, get_or_default m.cuts level (level_end m level) (length m.lits) lt), omega arith)
     | inr ge ↦ inl (get_or_past m.cuts level (length m.lits) ge)
   ]
 
   -- the places where the levels that are left begin
-  cuts_before : (n : ℕ) → Contains (take level m.cuts) n → Contains m.cuts n × (n < end_of m level)
+  cuts_before : (n : ℕ) → Contains (take level m.cuts) n → Contains m.cuts n × (n < level_end m level)
   cuts_before n c =
       let j = contains_front m.cuts level n le c in
       let lt = j.1 in
@@ -63,7 +63,7 @@ module _ (m : Marks) (level : ℕ) (marks : IsMarks m) (le : level ≤ length m.
               omega arith
           | inr ge ↦
               let below = cuts.below j.0 lj in
-              let e : end_of m level ≡ length m.lits = get_or_past m.cuts level (length m.lits) ge in
+              let e : level_end m level ≡ length m.lits = get_or_past m.cuts level (length m.lits) ge in
               omega arith
         ],
       )
@@ -77,24 +77,24 @@ module _ (m : Marks) (level : ℕ) (marks : IsMarks m) (le : level ≤ length m.
       -- what is left of the propagated literals was propagated
       was_past : (l : Literal) → IsIn (past_of (undone m level)) l → IsIn (past_of m) l
       was_past l f =
-          let least : min m.front (end_of m level) ≤ end_of m level = omega arith in
-          let cut : take (min m.front (end_of m level)) (take (end_of m level) m.lits) ≡ take (min m.front (end_of m level)) m.lits = take-take (min m.front (end_of m level)) (end_of m level) m.lits least in
-          let g : IsIn (has (take (min m.front (end_of m level)) m.lits)) l = subst (λ (ls : List Literal). IsIn (has ls) l) cut f in
-          front_includes (take m.front m.lits) (min m.front (end_of m level)) l (subst (λ (ls : List Literal). IsIn (has ls) l) (sym (take-take (min m.front (end_of m level)) m.front m.lits (omega arith))) g)
+          let least : min m.front (level_end m level) ≤ level_end m level = omega arith in
+          let cut : take (min m.front (level_end m level)) (take (level_end m level) m.lits) ≡ take (min m.front (level_end m level)) m.lits = take-take (min m.front (level_end m level)) (level_end m level) m.lits least in
+          let g : IsIn (has (take (min m.front (level_end m level)) m.lits)) l = subst (λ (ls : List Literal). IsIn (has ls) l) cut f in
+          front_includes (take m.front m.lits) (min m.front (level_end m level)) l (subst (λ (ls : List Literal). IsIn (has ls) l) (sym (take-take (min m.front (level_end m level)) m.front m.lits (omega arith))) g)
 
-      is_left : (l : Literal) → IsIn (past_of (undone m level)) l → IsIn (has (take (end_of m level) m.lits)) l
-      is_left l f = front_includes (take (end_of m level) m.lits) (min m.front (end_of m level)) l f
+      is_left : (l : Literal) → IsIn (past_of (undone m level)) l → IsIn (has (take (level_end m level) m.lits)) l
+      is_left l f = front_includes (take (level_end m level) m.lits) (min m.front (level_end m level)) l f
 
-      held : (f o : Literal) → IsHeld m f o → IsIn (past_of (undone m level)) f → IsHeld (undone m level) f o
+      held : (f o : Literal) → IsTrueNoLater m f o → IsIn (past_of (undone m level)) f → IsTrueNoLater (undone m level) f o
       held f o h g = record {
         now = elim end_or [
-          | inl e ↦ subst (λ (ls : List Literal). IsIn (has ls) o) (sym (take_all (end_of m level) m.lits (omega arith))) h.now
-          | inr c ↦ h.back (end_of m level) c.0 (is_left f g)
+          | inl e ↦ subst (λ (ls : List Literal). IsIn (has ls) o) (sym (take_all (level_end m level) m.lits (omega arith))) h.now
+          | inr c ↦ h.back (level_end m level) c.0 (is_left f g)
         ];
         back = λ j c i.
             let b = cuts_before j c in
             let lt2 = b.1 in
-            let same : take j (take (end_of m level) m.lits) ≡ take j m.lits = take-take j (end_of m level) m.lits (omega arith) in
+            let same : take j (take (level_end m level) m.lits) ≡ take j m.lits = take-take j (level_end m level) m.lits (omega arith) in
             subst (λ (ls : List Literal). IsIn (has ls) o) (sym same) (h.back j b.0 (subst (λ (ls : List Literal). IsIn (has ls) f) same i));
       }
 
@@ -104,8 +104,8 @@ module _ (m : Marks) (level : ℕ) (marks : IsMarks m) (le : level ≤ length m.
   reasoned_undone ws places r = record {
     reason = λ i k lt is some.
         let x = r.reason i k (old_place i lt) (old_lit i k lt ∙ is) some in
-        let size = length-take-le (end_of m level) m.lits (end_within m level marks le) in
-        subst (λ (ls : List Literal). IsReasonFor ws places ls k (get_or m.reasons k.var 0)) (sym (take-take i (end_of m level) m.lits (omega arith))) x;
+        let size = length-take-le (level_end m level) m.lits (end_within m level marks le) in
+        subst (λ (ls : List Literal). IsReasonFor ws places ls k (get_or m.reasons k.var 0)) (sym (take-take i (level_end m level) m.lits (omega arith))) x;
     decided = λ i k lt is none. elim (r.decided i k (old_place i lt) (old_lit i k lt ∙ is) none) [
       | inl c ↦ still i lt c
       | inr first ↦ inr (λ n c. let b = cuts_before m level marks le n c in first n b.0)
@@ -113,16 +113,16 @@ module _ (m : Marks) (level : ℕ) (marks : IsMarks m) (le : level ≤ length m.
     begins = λ n k c is.
         let b = cuts_before m level marks le n c in
         let lt2 = b.1 in
-        r.begins n k b.0 (sym (get_or-take (end_of m level) m.lits n k lt2) ∙ is);
+        r.begins n k b.0 (sym (get_or-take (level_end m level) m.lits n k lt2) ∙ is);
   }
     where
-      old_place : (i : ℕ) → i < length (take (end_of m level) m.lits) → i < length m.lits
-      old_place i lt = let size = length-take-le (end_of m level) m.lits (end_within m level marks le) in let e = end_within m level marks le in omega arith
+      old_place : (i : ℕ) → i < length (take (level_end m level) m.lits) → i < length m.lits
+      old_place i lt = let size = length-take-le (level_end m level) m.lits (end_within m level marks le) in let e = end_within m level marks le in omega arith
 
-      old_lit : (i : ℕ) (k : Literal) → i < length (take (end_of m level) m.lits) → get_or m.lits i k ≡ get_or (take (end_of m level) m.lits) i k
-      old_lit i k lt = let size = length-take-le (end_of m level) m.lits (end_within m level marks le) in sym (get_or-take (end_of m level) m.lits i k (omega arith))
+      old_lit : (i : ℕ) (k : Literal) → i < length (take (level_end m level) m.lits) → get_or m.lits i k ≡ get_or (take (level_end m level) m.lits) i k
+      old_lit i k lt = let size = length-take-le (level_end m level) m.lits (end_within m level marks le) in sym (get_or-take (level_end m level) m.lits i k (omega arith))
 
-      still : (i : ℕ) → i < length (take (end_of m level) m.lits) → Contains m.cuts i → Contains (take level m.cuts) i ⊎ ((n : ℕ) → Contains (take level m.cuts) n → i < n)
+      still : (i : ℕ) → i < length (take (level_end m level) m.lits) → Contains m.cuts i → Contains (take level m.cuts) i ⊎ ((n : ℕ) → Contains (take level m.cuts) n → i < n)
       still i lt c = elim (cases_lt c.0 level) [
         | inl small ↦
             let size = length-take-le level m.cuts le in
@@ -131,7 +131,7 @@ module _ (m : Marks) (level : ℕ) (marks : IsMarks m) (le : level ≤ length m.
             let lj = c.1 in
             let cuts = marks.cuts in
             let at_i : get_or m.cuts c.0 0 ≡ i = get_or_default m.cuts c.0 0 i c.1 ∙ c.2 in
-            let size = length-take-le (end_of m level) m.lits (end_within m level marks le) in
+            let size = length-take-le (level_end m level) m.lits (end_within m level marks le) in
             let l : level < length m.cuts = omega arith in
             let same : get_or m.cuts level (length m.lits) ≡ get_or m.cuts level 0 = get_or_default m.cuts level (length m.lits) 0 l in
             elim (same_or_not c.0 level) [
@@ -158,13 +158,13 @@ pub right_open : (m : Marks) (a b : Literal) → (IsIn (has m.lits) (negate a) �
 right_open m a b na nb = record { first = λ f. absurd (na (past_within m (negate a) f)); second = λ f. absurd (nb (past_within m (negate b) f)) }
 
 -- the first is false, and the second true at no later level;
-pub right_held : (m : Marks) (a b : Literal) → IsMarks m → IsHeld m (negate a) b → AreRight m a b
+pub right_held : (m : Marks) (a b : Literal) → IsMarks m → IsTrueNoLater m (negate a) b → AreRight m a b
 right_held m a b marks h = record { first = λ _. h; second = λ f. absurd (distinct_consistent m.lits marks.distinct b h.now (past_within m (negate b) f)) }
 
 -- the first is unset and set at once, and the second is false since the present level began
 pub right_set : (m : Marks) (a b : Literal) (reason : ℕ) → IsMarks m → IsUnset m.lits a → ((n : ℕ) → Contains m.cuts n → IsIn (has (take n m.lits)) (negate b) → ⊥) → AreRight (with_lit m a reason) a b
 right_set m a b reason marks unset late = record {
-  first = λ f. let g : IsIn (has m.lits) (negate a) = past_within m (negate a) (subst (λ (s : LiteralSet). IsIn s (negate a)) (past_with m a reason marks) f) in absurd (not_both (has m.lits (negate a)) g unset.1);
+  first = λ f. let g : IsIn (has m.lits) (negate a) = past_within m (negate a) (subst (λ (s : LiteralSet). IsIn s (negate a)) (past_with m a reason marks) f) in absurd (both_ways (has m.lits (negate a)) unset.1 g);
   second = λ _. record {
     now = has_last m.lits a;
     back = λ n c g.
@@ -183,7 +183,7 @@ right_decided m l a b marks r = record {
   second = λ f. held (negate b) a (r.second (subst (λ (s : LiteralSet). IsIn s (negate b)) (past_with m l 0 marks) f));
 }
   where
-    held : (f o : Literal) → IsHeld m f o → IsHeld (with_lit (opened m) l 0) f o
+    held : (f o : Literal) → IsTrueNoLater m f o → IsTrueNoLater (with_lit (opened m) l 0) f o
     held f o h = record {
       now = push_keeps m.lits l o h.now;
       back = λ n c g. elim (Contains-push_cases m.cuts (length m.lits) n c) [
@@ -210,7 +210,7 @@ right_widened m n a b r = record {
 pub right_other : (m : Marks) (a b : Literal) → AreRight m b a → AreRight m a b
 right_other m a b r = record { first = r.second; second = r.first }
 
-pub held_by_level : (m : Marks) (a b : Literal) → IsMarks m → IsHeldBy m a b → IsHeld m (negate a) b
+pub held_by_level : (m : Marks) (a b : Literal) → IsMarks m → IsHeldBy m a b → IsTrueNoLater m (negate a) b
 held_by_level m a b marks h = record { now = h.second; back = λ n c g. back n c (contains_from_has (take n m.lits) (negate a) g) (contains_from_has m.lits b h.second) }
   where
     back : (n : ℕ) → Contains m.cuts n → Contains (take n m.lits) (negate a) → Contains m.lits b → IsIn (has (take n m.lits)) b
@@ -222,8 +222,8 @@ held_by_level m a b marks h = record { now = h.second; back = λ n c g. back n c
         let lt = x.1 in
         let ltb = y.1 in
         let at_a : get_or m.lits x.0 (negate a) ≡ negate a = sym (get_or-take n m.lits x.0 (negate a) (omega arith)) ∙ x.2 in
-        let of_a : get_or m.levels a.var 0 ≡ level_at m.cuts x.0 = ap (λ (l : Literal). get_or m.levels l.var 0) (sym at_a) ∙ marks.levels x.0 (negate a) (omega arith) in
-        let of_b : get_or m.levels b.var 0 ≡ level_at m.cuts y.0 = ap (λ (l : Literal). get_or m.levels l.var 0) (sym y.2) ∙ marks.levels y.0 b ltb in
+        let of_a : get_or m.levels a.var 0 ≡ trail_level m.cuts x.0 = ap (λ (l : Literal). get_or m.levels l.var 0) (sym at_a) ∙ marks.levels x.0 (negate a) (omega arith) in
+        let of_b : get_or m.levels b.var 0 ≡ trail_level m.cuts y.0 = ap (λ (l : Literal). get_or m.levels l.var 0) (sym y.2) ∙ marks.levels y.0 b ltb in
         elim (cases_lt y.0 n) [
           | inl small ↦ has_from_contains (take n m.lits) b (y.0, omega arith, get_or-take n m.lits y.0 b small ∙ y.2)
           | inr big ↦ let rise = level_step m.cuts n x.0 y.0 c (omega arith) big in let le = h.level in absurd (omega arith)
@@ -239,7 +239,7 @@ late_by_level m b marks level n c g =
     let size = length-take-le n m.lits (omega arith) in
     let lt = x.1 in
     let at_b : get_or m.lits x.0 (negate b) ≡ negate b = sym (get_or-take n m.lits x.0 (negate b) (omega arith)) ∙ x.2 in
-    let of_b : get_or m.levels b.var 0 ≡ level_at m.cuts x.0 = ap (λ (l : Literal). get_or m.levels l.var 0) (sym at_b) ∙ marks.levels x.0 (negate b) (omega arith) in
+    let of_b : get_or m.levels b.var 0 ≡ trail_level m.cuts x.0 = ap (λ (l : Literal). get_or m.levels l.var 0) (sym at_b) ∙ marks.levels x.0 (negate b) (omega arith) in
     let rise = level_step m.cuts n x.0 n c (omega arith) (omega arith) in
     let most = level_most m.cuts n in
     omega arith

@@ -4,7 +4,6 @@ pub mod TextLemmas
 pub mod CutLemmas
 pub mod TrailLemmas
 pub mod MoveLemmas
-pub mod GrowthLemmas
 pub mod StepLemmas
 pub mod WalkLemmas
 pub mod ChainWalkLemmas

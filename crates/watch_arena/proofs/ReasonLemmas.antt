@@ -7,21 +7,21 @@ use Rattle.std.proofs.lemmas.List.Elements.{Contains-push_cases, Contains-push, 
 use Rattle.cnf_core.specs.Lit.{Literal, literal_at, negate, has}
 use Rattle.cnf_core.specs.Clause.{Clauses, IsThere}
 use Rattle.cnf_core.specs.Propagation.{IsIn, IsUnit}
-use Rattle.watch_arena.specs.Words.{at, lit_of}
+use Rattle.watch_arena.specs.Words.{word_at, lit_of}
 use Rattle.watch_arena.specs.Trail.{Marks, IsMarks, IsUnset, with_lit, opened}
-use Rattle.watch_arena.specs.Walk.{IsText, KeepsText, IsReasonFor, IsReasoned, IsAlone, lits_at}
+use Rattle.watch_arena.specs.Walk.{HoldsClauses, KeepsClauses, IsReasonFor, IsReasoned, IsAlone, lits_at}
 use Rattle.watch_arena.proofs.TextLemmas.{is_clause, unit_kept}
 use Rattle.watch_arena.proofs.TrailLemmas.{other_var}
 use Rattle.watch_arena.proofs.WalkLemmas.{alone_unit}
 
 -- the clauses that the words hold stay
-pub text_kept : (clauses : Clauses) (old new places : List ℕ) → KeepsText places old new → IsText clauses old places → IsText clauses new places
+pub text_kept : (clauses : Clauses) (old new places : List ℕ) → KeepsClauses places old new → HoldsClauses clauses old places → HoldsClauses clauses new places
 text_kept clauses old new places k t = record {
   held = λ p c. let d = t.held p c in (d.0, d.1, k p d.0 c d.2);
   stored = λ c among. let d = t.stored c among in (d.0, d.1, k d.0 c d.1 d.2);
 }
 
-pub reasoned_text : (m : Marks) (old new places : List ℕ) → KeepsText places old new → IsReasoned m old places → IsReasoned m new places
+pub reasoned_text : (m : Marks) (old new places : List ℕ) → KeepsClauses places old new → IsReasoned m old places → IsReasoned m new places
 reasoned_text m old new places k r = record {
   reason = λ i l lt is some. let x = r.reason i l lt is some in record { place = x.place; unit = unit_kept old new places (get_or m.reasons l.var 0) (has (take i m.lits)) l k x.place x.unit };
   decided = r.decided;
@@ -125,7 +125,7 @@ module _ (m : Marks) (l : Literal) (p : ℕ) (marks : IsMarks m) (there : IsTher
     }
 
 -- the reason that a look finds
-pub alone_reason : (ws places : List ℕ) (lits : List Literal) (w s : ℕ) (l : Literal) → Contains places (s / 2) → 2 ≤ at ws (s / 2) → at ws (lit_of s) ≡ w → IsIn (has lits) (negate (literal_at w)) → IsAlone ws lits s l → IsReasonFor ws places lits l (s / 2)
+pub alone_reason : (ws places : List ℕ) (lits : List Literal) (w s : ℕ) (l : Literal) → Contains places (s / 2) → 2 ≤ word_at ws (s / 2) → word_at ws (lit_of s) ≡ w → IsIn (has lits) (negate (literal_at w)) → IsAlone ws lits s l → IsReasonFor ws places lits l (s / 2)
 alone_reason ws places lits w s l place two lit false_now a = record { place = place; unit = alone_unit ws lits w s l (lits_at ws (s / 2)) (is_clause ws (s / 2)) two lit false_now a }
 
 -- a trail without literals

@@ -1,7 +1,7 @@
 -- Trails: tables that mark the literals of a list.
 use Rattle.std.proofs.Common.{◌≡◌, ◌≢◌, ℕ, ◌+◌, ◌*◌, ◌<◌, ◌≤◌, Bool, true, false, zero, suc, take, List, [], ◌∷◌, ◌++◌, length, get_or, set, replicate, refl, sym, ◌∙◌, ap, subst, inl, inr, arith, length-set, length-append, length-take-le}
 use Rattle.std.specs.Prelude.{Contains}
-use Rattle.std.proofs.lemmas.Bool.{cases_lt}
+use Rattle.std.proofs.lemmas.Bool.{both_ways, cases_lt}
 use Rattle.std.proofs.lemmas.List.{take-append-le, length-replicate, get_or-set_other, get_or-set_same, get_or_append_left, get_or_push, get_or-take}
 use Rattle.std.proofs.lemmas.List.Elements.{Contains-get_or}
 use Rattle.std.proofs.lemmas.Grind.{get_or-set_at, take-set_at}
@@ -13,87 +13,12 @@ use Rattle.cnf_core.specs.Lit.{Literal, negate, word_of, has}
 use Rattle.cnf_core.specs.Clause.{AreThere, IsThere}
 use Rattle.cnf_core.proofs.PropagationLemmas.{contains_from_has, has_from_contains}
 use Rattle.cnf_core.proofs.QuantifierLemmas.{pairs_from_distinct}
+use Rattle.cnf_core.proofs.MarkLemmas.{trail_more, trail_short}
 use Rattle.cnf_core.proofs.TrailLemmas.{word_once, word_below, same_literal_or, same_or_negated, has_last, has_front, distinct_push, distinct_front, there_front, there_last, there_get}
 use Rattle.cnf_core.proofs.GatherLemmas.{there_push}
-use Rattle.watch_arena.specs.Trail.{marked, weight, IsTrail, IsKept, IsUnset, AreCuts, HasLevels, level_at, IsMarks, Marks, marks_of, with_lit, opened, widened}
+use Rattle.cnf_core.specs.Trail.{marked, weight, IsTrail}
+use Rattle.watch_arena.specs.Trail.{IsStoredTrail, IsUnset, AreCuts, HasLevels, trail_level, IsMarks, Marks, marks_of, with_lit, opened, widened}
 use Rattle.watch_arena.proofs.CutLemmas.{level_past, level_push_before, level_of_new}
-
-pub not_both : (b : Bool) → b ≡ true → b ≡ false → ⊥
-not_both b h k = cc
-
--- marks after a write
-pub marked_same : (truth : List Bool) (l k : Literal) (b : Bool) → word_of l < length truth → k ≡ l → marked (set truth (word_of l) b) k ≡ b
-marked_same truth l k b within e = get_or-set_at truth (word_of l) (word_of k) b false (ap word_of e) within
-
-pub marked_other : (truth : List Bool) (l k : Literal) (b : Bool) → (k ≡ l → ⊥) → marked (set truth (word_of l) b) k ≡ marked truth k
-marked_other truth l k b ne = get_or-set_other truth (word_of l) (word_of k) b false (λ e. ne (word_once k l e))
-
-unmarked_var : (vars : ℕ) (truth : List Bool) (trail : List Literal) (l : Literal) → IsTrail vars truth trail → marked truth l ≡ false → marked truth (negate l) ≡ false → (k : Literal) → Contains trail k → k.var ≢ l.var
-unmarked_var vars truth trail l t h n = λ k among e. elim (same_or_negated k l e) [
-  | inl same ↦ not_both (marked truth l) (t.marks l ∙ has_from_contains trail l (subst (λ (m : Literal). Contains trail m) same among)) h
-  | inr same ↦ not_both (marked truth (negate l)) (t.marks (negate l) ∙ has_from_contains trail (negate l) (subst (λ (m : Literal). Contains trail m) same among)) n
-]
-
--- one more mark
-pub trail_more : (vars : ℕ) (truth : List Bool) (trail : List Literal) (l : Literal) → IsTrail vars truth trail → IsThere vars l → marked truth l ≡ false → marked truth (negate l) ≡ false → IsTrail vars (set truth (word_of l) true) (trail ++ l ∷ [])
-trail_more vars truth trail l t there h n =
-    let within : word_of l < length truth = omega (arith, t.size, word_below vars l there) in
-    record {
-      size = length-set truth (word_of l) true ∙ t.size;
-      marks = λ k. elim (same_literal_or k l) [
-        | inl e ↦ marked_same truth l k true within e ∙ sym (has_last trail l) ∙ ap (has (trail ++ l ∷ [])) (sym e)
-        | inr ne ↦ marked_other truth l k true ne ∙ t.marks k ∙ sym (has_front trail l k ne)
-      ];
-      distinct = distinct_push trail l t.distinct (unmarked_var vars truth trail l t h n);
-      there = there_push vars trail l t.there there;
-      count =
-          let now = sum_by-set weight truth (word_of l) true false within in
-          let was : weight (get_or truth (word_of l) false) ≡ 0 = ap weight h in
-          let one : weight true ≡ 1 = refl in
-          omega (arith, now, was, one, t.count, length-append trail (l ∷ []));
-    }
-
--- one mark less
-pub trail_less : (vars : ℕ) (truth : List Bool) (trail : List Literal) (l : Literal) → IsTrail vars truth (trail ++ l ∷ []) → IsTrail vars (set truth (word_of l) false) trail
-trail_less vars truth trail l t =
-    let there = there_last vars trail l t.there in
-    let within : word_of l < length truth = omega (arith, t.size, word_below vars l there) in
-    record {
-      size = length-set truth (word_of l) false ∙ t.size;
-      marks = λ k. elim (same_literal_or k l) [
-        | inl e ↦ marked_same truth l k false within e ∙ sym (last_once e)
-        | inr ne ↦ marked_other truth l k false ne ∙ t.marks k ∙ has_front trail l k ne
-      ];
-      distinct = distinct_front trail l t.distinct;
-      there = there_front vars trail l t.there;
-      count =
-          let now = sum_by-set weight truth (word_of l) false false within in
-          let was : weight (get_or truth (word_of l) false) ≡ 1 = ap weight (t.marks l ∙ has_last trail l) in
-          let none : weight false ≡ 0 = refl in
-          omega (arith, now, was, none, t.count, length-append trail (l ∷ []));
-    }
-  where
-    gone : has trail l ≡ true → ⊥
-    gone h =
-        let among = contains_from_has trail l h in
-        let there : get_or (trail ++ l ∷ []) among.0 l ≡ l = get_or_append_left trail (l ∷ []) l among.0 among.1 ∙ among.2 in
-        let last : get_or (trail ++ l ∷ []) (length trail) l ≡ l = get_or_push trail l l (length trail) refl in
-        pairs_from_distinct (trail ++ l ∷ []) t.distinct among.0 (length trail) l among.1 (omega (arith, length-append trail (l ∷ []))) (ap (λ (m : Literal). m.var) there ∙ sym (ap (λ (m : Literal). m.var) last))
-
-    false_of : (b : Bool) → (b ≡ true → ⊥) → b ≡ false
-    false_of true f = absurd (f refl)
-    false_of false f = refl
-
-    last_once : {k : Literal} → k ≡ l → has trail k ≡ false
-    last_once {k} e = ap (has trail) e ∙ false_of (has trail l) gone
-
-weight_small : (b : Bool) → weight b ≤ 1
-weight_small true = omega arith
-weight_small false = omega arith
-
--- a trail is no longer than its table
-pub trail_short : (vars : ℕ) (truth : List Bool) (trail : List Literal) → IsTrail vars truth trail → length trail ≤ 2 * vars + 2
-trail_short vars truth trail t = omega (arith, t.count, t.size, sum_by-le weight 1 truth (λ k d within. weight_small (get_or truth k d)))
 
 -- one more level
 pub cuts_more : (cuts : List ℕ) (len front : ℕ) → AreCuts cuts len front → front ≡ len → AreCuts (cuts ++ len ∷ []) (len + 1) front
@@ -117,12 +42,12 @@ cuts_more cuts len front a e =
 -- no literal of the trail has the variable of one that is unset
 pub other_var : (lits : List Literal) (l k : Literal) → IsUnset lits l → Contains lits k → k.var ≢ l.var
 other_var lits l k unset among e = elim (same_or_negated k l e) [
-  | inl same ↦ not_both (has lits l) (subst (λ (u : Literal). has lits u ≡ true) same (has_from_contains lits k among)) unset.0
-  | inr same ↦ not_both (has lits (negate l)) (subst (λ (u : Literal). has lits u ≡ true) same (has_from_contains lits k among)) unset.1
+  | inl same ↦ both_ways (has lits l) unset.0 (subst (λ (u : Literal). has lits u ≡ true) same (has_from_contains lits k among))
+  | inr same ↦ both_ways (has lits (negate l)) unset.1 (subst (λ (u : Literal). has lits u ≡ true) same (has_from_contains lits k among))
 ]
 
 -- levels of one more literal
-levels_more : (vars : ℕ) (cuts : List ℕ) (lits : List Literal) (levels : List ℕ) (l : Literal) (n : ℕ) → HasLevels cuts lits levels → length levels ≡ vars + 1 → IsThere vars l → IsUnset lits l → n ≡ level_at cuts (length lits) → HasLevels cuts (lits ++ l ∷ []) (set levels l.var n)
+levels_more : (vars : ℕ) (cuts : List ℕ) (lits : List Literal) (levels : List ℕ) (l : Literal) (n : ℕ) → HasLevels cuts lits levels → length levels ≡ vars + 1 → IsThere vars l → IsUnset lits l → n ≡ trail_level cuts (length lits) → HasLevels cuts (lits ++ l ∷ []) (set levels l.var n)
 levels_more vars cuts lits levels l n h size there unset e = λ i d lt. elim (cases_lt i (length lits)) [
   | inl small ↦
       let at : get_or (lits ++ l ∷ []) i d ≡ get_or lits i d = get_or_append_left lits (l ∷ []) d i small in
@@ -133,7 +58,7 @@ levels_more vars cuts lits levels l n h size there unset e = λ i d lt. elim (ca
       let is : length lits ≡ i = omega (arith, length-append lits (l ∷ [])) in
       let at : get_or (lits ++ l ∷ []) i d ≡ l = get_or_push lits l d i is in
       let high = there.1 in
-      ap (λ (m : Literal). get_or (set levels l.var n) m.var 0) at ∙ get_or-set_same levels l.var n 0 (omega arith) ∙ e ∙ ap (level_at cuts) is
+      ap (λ (m : Literal). get_or (set levels l.var n) m.var 0) at ∙ get_or-set_same levels l.var n 0 (omega arith) ∙ e ∙ ap (trail_level cuts) is
 ]
 
 -- a table that is longer by what it has past its end
@@ -173,7 +98,7 @@ marks_same vars a b f g c d r s t u e h i j k =
     ∙ ap (λ (x : List ℕ). let m : Marks = record { vars = vars; lits = b; front = g; cuts = d; reasons = s; levels = x } in m) k
 
 -- the front of a table is the trail
-module _ (vars : ℕ) (truth : List Bool) (order : List Literal) (len front : ℕ) (starts : List ℕ) (level : ℕ) (reasons levels : List ℕ) (k : IsKept vars truth order len front starts level reasons levels) where
+module _ (vars : ℕ) (truth : List Bool) (order : List Literal) (len front : ℕ) (starts : List ℕ) (level : ℕ) (reasons levels : List ℕ) (k : IsStoredTrail vars truth order len front starts level reasons levels) where
   pub kept_short : (l : Literal) → IsThere vars l → IsUnset (take len order) l → len < length order
   kept_short l there unset =
       let table = k.table in
@@ -186,12 +111,12 @@ module _ (vars : ℕ) (truth : List Bool) (order : List Literal) (len front : �
   kept_lits l there unset = take-set_at order len (len + 1) l refl (kept_short l there unset)
 
   -- a literal that is set now is of the present level
-  kept_level_is : level_at (take level starts) (length (take len order)) ≡ level
+  kept_level_is : trail_level (take level starts) (length (take len order)) ≡ level
   kept_level_is =
       let size = length-take-le len order k.within in
       level_past (take level starts) (length (take len order)) (λ j lt. let cuts = k.cuts in let b = cuts.below j lt in omega arith) ∙ length-take-le level starts k.level_within
 
-  pub kept_set : (l : Literal) (reason : ℕ) → IsThere vars l → IsUnset (take len order) l → IsKept vars (set truth (word_of l) true) (set order len l) (len + 1) front starts level (set reasons l.var reason) (set levels l.var level)
+  pub kept_set : (l : Literal) (reason : ℕ) → IsThere vars l → IsUnset (take len order) l → IsStoredTrail vars (set truth (word_of l) true) (set order len l) (len + 1) front starts level (set reasons l.var reason) (set levels l.var level)
   kept_set l reason there unset =
       let table = k.table in
       let short = kept_short l there unset in
@@ -255,12 +180,12 @@ module _ (vars : ℕ) (truth : List Bool) (order : List Literal) (len front : �
   kept_starts lt = take-set_at starts level (level + 1) len refl lt
 
   -- a literal of a further level
-  kept_next_is : level < length starts → level_at (take level starts ++ len ∷ []) (length (take len order)) ≡ level + 1
+  kept_next_is : level < length starts → trail_level (take level starts ++ len ∷ []) (length (take len order)) ≡ level + 1
   kept_next_is lt =
       let size = length-take-le len order k.within in
       level_of_new (take level starts) len (length (take len order)) (omega arith) ∙ ap (λ n. n + 1) kept_level_is
 
-  pub kept_decide : (l : Literal) (reason : ℕ) → front ≡ len → IsThere vars l → IsUnset (take len order) l → IsKept vars (set truth (word_of l) true) (set order len l) (len + 1) front (set starts level len) (level + 1) (set reasons l.var reason) (set levels l.var (level + 1))
+  pub kept_decide : (l : Literal) (reason : ℕ) → front ≡ len → IsThere vars l → IsUnset (take len order) l → IsStoredTrail vars (set truth (word_of l) true) (set order len l) (len + 1) front (set starts level len) (level + 1) (set reasons l.var reason) (set levels l.var (level + 1))
   kept_decide l reason e there unset =
       let s = kept_set l reason there unset in
       let lt = kept_level l there unset in
@@ -290,7 +215,7 @@ module _ (vars : ℕ) (truth : List Bool) (order : List Literal) (len front : �
       ∙ ap (λ (n : Marks). with_lit (opened n) l reason) e
 
   -- further variables
-  pub kept_widened : (n : ℕ) (x : Literal) → vars + n ≤ VARS → IsKept (vars + n) (truth ++ replicate (2 * n) false) (order ++ replicate (2 * n) x) len front (starts ++ replicate (2 * n) 0) level (reasons ++ replicate n 0) (levels ++ replicate n 0)
+  pub kept_widened : (n : ℕ) (x : Literal) → vars + n ≤ VARS → IsStoredTrail (vars + n) (truth ++ replicate (2 * n) false) (order ++ replicate (2 * n) x) len front (starts ++ replicate (2 * n) 0) level (reasons ++ replicate n 0) (levels ++ replicate n 0)
   kept_widened n x limit =
       let within = k.within in
       let level_in = k.level_within in

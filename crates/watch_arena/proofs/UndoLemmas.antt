@@ -5,10 +5,12 @@ use Rattle.std.proofs.lemmas.List.{take-take, take_all, take_more, get_or-take, 
 use Rattle.cnf_core.specs.Lit.{Literal, word_of}
 use Rattle.cnf_core.specs.Clause.{AreThere}
 use Rattle.cnf_core.proofs.TrailLemmas.{there_last, word_below}
-use Rattle.watch_arena.specs.Trail.{IsTrail, IsKept, AreCuts, HasLevels, level_at, IsMarks, Marks, marks_of, end_of, undone}
-use Rattle.watch_arena.proofs.WordLemmas.{same_or_not}
+use Rattle.cnf_core.specs.Trail.{IsTrail}
+use Rattle.watch_arena.specs.Trail.{IsStoredTrail, AreCuts, HasLevels, trail_level, IsMarks, Marks, marks_of, level_end, undone}
+use Rattle.cnf_core.proofs.NumberLemmas.{same_or_not}
 use Rattle.watch_arena.proofs.CutLemmas.{level_take}
-use Rattle.watch_arena.proofs.TrailLemmas.{trail_less, marks_same}
+use Rattle.cnf_core.proofs.MarkLemmas.{trail_less}
+use Rattle.watch_arena.proofs.TrailLemmas.{marks_same}
 
 pub cuts_lowered : (cuts : List ℕ) (len front level end n : ℕ) → AreCuts cuts len front → level < length cuts → get_or cuts level 0 ≡ end → end ≤ n → AreCuts (take level cuts) n (min front end)
 cuts_lowered cuts len front level end n a lt is le =
@@ -25,7 +27,7 @@ cuts_lowered cuts len front level end n a lt is le =
     same : (k : ℕ) → k < level → get_or (take level cuts) k 0 ≡ get_or cuts k 0
     same k l = get_or-take level cuts k 0 l
 
-module _ (vars : ℕ) (truth : List Bool) (order : List Literal) (len front : ℕ) (starts : List ℕ) (level : ℕ) (reasons levels : List ℕ) (k : IsKept vars truth order len front starts level reasons levels) where
+module _ (vars : ℕ) (truth : List Bool) (order : List Literal) (len front : ℕ) (starts : List ℕ) (level : ℕ) (reasons levels : List ℕ) (k : IsStoredTrail vars truth order len front starts level reasons levels) where
   module _ (to end : ℕ) (lt : to < level) (is : get_or starts to 0 ≡ end) where
     -- where the first level that is taken back begins
     start_is : get_or (take level starts) to 0 ≡ end
@@ -51,7 +53,7 @@ module _ (vars : ℕ) (truth : List Bool) (order : List Literal) (len front : �
         let at : get_or (take end order) i d ≡ get_or (take len order) i d = get_or-take end order i d (omega arith) ∙ sym (get_or-take len order i d (omega arith)) in
         ap (λ (m : Literal). get_or levels m.var 0) at ∙ k.level_of i d (omega arith)
         ∙ sym (level_take (take level starts) to i (λ j from below2. after j from below2 (omega arith)))
-        ∙ ap (λ (cs : List ℕ). level_at cs i) cuts_same
+        ∙ ap (λ (cs : List ℕ). trail_level cs i) cuts_same
       where
         after : (j : ℕ) → to ≤ j → j < length (take level starts) → {i : ℕ} → i < end → i < get_or (take level starts) j 0
         after j from below {i} small = elim (same_or_not to j) [
@@ -59,7 +61,7 @@ module _ (vars : ℕ) (truth : List Bool) (order : List Literal) (len front : �
           | inr ne ↦ let cuts = k.cuts in let x = cuts.rise to j (omega arith) below in let y = start_is in omega arith
         ]
 
-    pub kept_undone : (new : List Bool) → IsTrail vars new (take end order) → IsKept vars new order end (min front end) starts to reasons levels
+    pub kept_undone : (new : List Bool) → IsTrail vars new (take end order) → IsStoredTrail vars new order end (min front end) starts to reasons levels
     kept_undone new table =
         let within = k.within in
         let below = end_below in
@@ -102,7 +104,7 @@ last_unset vars truth order l n lt is t = trail_less vars truth (take n order) l
 
 pub undone_none : (m : Marks) (level : ℕ) → IsMarks m → length m.cuts ≤ level → m ≡ undone m level
 undone_none m level marks ge =
-    let e : end_of m level ≡ length m.lits = get_or_past m.cuts level (length m.lits) ge in
+    let e : level_end m level ≡ length m.lits = get_or_past m.cuts level (length m.lits) ge in
     let front = marks.front in
-    marks_same m.vars m.lits (take (end_of m level) m.lits) m.front (min m.front (end_of m level)) m.cuts (take level m.cuts) m.reasons m.reasons m.levels m.levels
-    (sym (take_all (end_of m level) m.lits (omega arith))) (omega arith) (sym (take_all level m.cuts ge)) refl refl
+    marks_same m.vars m.lits (take (level_end m level) m.lits) m.front (min m.front (level_end m level)) m.cuts (take level m.cuts) m.reasons m.reasons m.levels m.levels
+    (sym (take_all (level_end m level) m.lits (omega arith))) (omega arith) (sym (take_all level m.cuts ge)) refl refl

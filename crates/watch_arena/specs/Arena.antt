@@ -33,11 +33,11 @@ pub record IsArena (vars room : ℕ) (words heads places : List ℕ) : Type 0 wh
   pub chains : HasChains words heads places []
 
 -- the literals of the clause at a place, in their present order
-abbrev pub clause_at : Attached → ℕ → List Literal
-clause_at a p = lits_at a.words p
+abbrev pub attached_at : Attached → ℕ → List Literal
+attached_at a p = lits_at a.words p
 
-abbrev pub clauses_of : Attached → Clauses
-clauses_of a = map (lits_at a.words) a.places
+abbrev pub attached_clauses : Attached → Clauses
+attached_clauses a = map (lits_at a.words) a.places
 
 -- a clause as each arena holds it
 pub record IsAttachedClause (vars : ℕ) (clause : List Literal) (p : ℕ) : Type 0 where
@@ -47,7 +47,7 @@ pub record IsAttachedClause (vars : ℕ) (clause : List Literal) (p : ℕ) : Typ
   pub distinct : AreDistinct clause
 
 abbrev pub AreAttached : Attached → Type 0
-AreAttached a = (p : ℕ) → Contains a.places p → IsAttachedClause a.vars (clause_at a p) p
+AreAttached a = (p : ℕ) → Contains a.places p → IsAttachedClause a.vars (attached_at a p) p
 
 -- no clause came or went, and none has other literals than before; their order may differ
 pub record IsSameText (old new : Attached) : Type 0 where
@@ -55,7 +55,7 @@ pub record IsSameText (old new : Attached) : Type 0 where
   pub room : new.room ≡ old.room
   pub words : length new.words ≡ length old.words
   pub places : new.places ≡ old.places
-  pub lits : (p : ℕ) → Contains old.places p → SameLiterals (clause_at old p) (clause_at new p)
+  pub lits : (p : ℕ) → Contains old.places p → SameLiterals (attached_at old p) (attached_at new p)
 
 -- the first or second literal of a clause, which is watched
 abbrev pub watch_at : Attached → ℕ → ℕ → Literal
@@ -84,7 +84,7 @@ MayBeSet a m l (Some c) = IsReasonOf a m l c.0
 -- all literals of an attached clause are false
 pub record IsClashOf (a : Attached) (m : Marks) (p : ℕ) : Type 0 where
   pub place : Contains a.places p
-  pub all_false : All (λ k. IsIn (has m.lits) (negate k)) (clause_at a p)
+  pub all_false : All (λ k. IsIn (has m.lits) (negate k)) (attached_at a p)
 
 -- neither of the two is false
 pub record AreOpen (m : Marks) (a b : Literal) : Type 0 where
@@ -115,7 +115,7 @@ pub record IsMoreText (old new : Attached) : Type 0 where
   pub vars : new.vars ≡ old.vars
   pub room : new.room ≡ old.room
   pub visits : new.visits ≡ old.visits
-  pub lits : (p : ℕ) → Contains old.places p → clause_at new p ≡ clause_at old p
+  pub lits : (p : ℕ) → Contains old.places p → attached_at new p ≡ attached_at old p
 
 -- further variables are there
 abbrev pub spread : Attached → ℕ → Attached

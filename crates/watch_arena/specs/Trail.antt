@@ -6,25 +6,7 @@ use Rattle.watch_arena.specs.declared.clause_ref.ClauseRef.{ClauseRef}
 use Rattle.cnf_core.specs.Lit.{Literal, negate, word_of, has}
 use Rattle.cnf_core.specs.Clause.{AreDistinct, AreThere}
 use Rattle.cnf_core.specs.Propagation.{LiteralSet, IsIn, Includes}
-
--- the literals that a table by word marks
-abbrev pub marked : List Bool → LiteralSet
-marked truth l = slice_index_or truth (word_of l) false
-
-abbrev pub weight : Bool → ℕ
-weight b = cond b 1 0
-
-abbrev pub mark_count : List Bool → ℕ
-mark_count truth = sum_by weight truth
-
--- the table of the variables 1 to vars marks exactly the literals of the trail, which are of
--- distinct variables
-pub record IsTrail (vars : ℕ) (truth : List Bool) (trail : List Literal) : Type 0 where
-  pub size : length truth ≡ 2 * vars + 2
-  pub marks : (l : Literal) → marked truth l ≡ has trail l
-  pub distinct : AreDistinct trail
-  pub there : AreThere vars trail
-  pub count : length trail ≡ mark_count truth
+use Rattle.cnf_core.specs.Trail.{IsTrail}
 
 -- what a contract sees: the variables, the literals, how many of them are propagated, where levels
 -- above 0 begin, and by variable the place of the clause that set it, or 0, and its level
@@ -44,13 +26,13 @@ abbrev pub begun : ℕ → ℕ → ℕ
 begun n i = cond (nat_le n i) 1 0
 
 -- the level of a place on the trail: how many levels above 0 begin there or before
-abbrev pub level_at : List ℕ → ℕ → ℕ
-level_at [] i = 0
-level_at (n ∷ cuts) i = begun n i + level_at cuts i
+abbrev pub trail_level : List ℕ → ℕ → ℕ
+trail_level [] i = 0
+trail_level (n ∷ cuts) i = begun n i + trail_level cuts i
 
 -- the table has the level of each literal's variable
 abbrev pub HasLevels : List ℕ → List Literal → List ℕ → Type 0
-HasLevels cuts lits levels = (i : ℕ) (d : Literal) → i < length lits → slice_index levels (slice_index_or lits i d).var ≡ level_at cuts i
+HasLevels cuts lits levels = (i : ℕ) (d : Literal) → i < length lits → slice_index levels (slice_index_or lits i d).var ≡ trail_level cuts i
 
 -- the places where levels begin rise, and each level has a literal
 pub record AreCuts (cuts : List ℕ) (len front : ℕ) : Type 0 where
@@ -60,7 +42,7 @@ pub record AreCuts (cuts : List ℕ) (len front : ℕ) : Type 0 where
   pub propagated : (k : ℕ) → k < length cuts → slice_index cuts k ≤ front
   pub rise : (j k : ℕ) → j < k → k < length cuts → slice_index cuts j < slice_index cuts k
 
-pub record IsKept (vars : ℕ) (truth : List Bool) (order : List Literal) (len front : ℕ) (starts : List ℕ) (level : ℕ) (reasons levels : List ℕ) : Type 0 where
+pub record IsStoredTrail (vars : ℕ) (truth : List Bool) (order : List Literal) (len front : ℕ) (starts : List ℕ) (level : ℕ) (reasons levels : List ℕ) : Type 0 where
   pub limit : vars ≤ VARS
   pub table : IsTrail vars truth (take len order)
   pub size : length order ≡ 2 * vars + 2
@@ -98,12 +80,12 @@ abbrev pub opened : Marks → Marks
 opened m = record { vars = m.vars; lits = m.lits; front = m.front; cuts = m.cuts ++ length m.lits ∷ []; reasons = m.reasons; levels = m.levels }
 
 -- where the level after this one begins, or the end
-abbrev pub end_of : Marks → ℕ → ℕ
-end_of m level = slice_index_or m.cuts level (length m.lits)
+abbrev pub level_end : Marks → ℕ → ℕ
+level_end m level = slice_index_or m.cuts level (length m.lits)
 
 -- the literals of levels up to this one are left
 abbrev pub undone : Marks → ℕ → Marks
-undone m level = record { vars = m.vars; lits = take (end_of m level) m.lits; front = min m.front (end_of m level); cuts = take level m.cuts; reasons = m.reasons; levels = m.levels }
+undone m level = record { vars = m.vars; lits = take (level_end m level) m.lits; front = min m.front (level_end m level); cuts = take level m.cuts; reasons = m.reasons; levels = m.levels }
 
 -- further variables are there, unset
 abbrev pub widened : Marks → ℕ → Marks

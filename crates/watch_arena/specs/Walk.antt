@@ -3,14 +3,16 @@ use Rattle.std.specs.Prelude.{◌≡◌, ◌≢◌, ◌≤◌, ◌<◌, ◌⊎�
 use Rattle.cnf_core.specs.Lit.{Literal, negate, literal_at, has}
 use Rattle.cnf_core.specs.Clause.{Clauses}
 use Rattle.cnf_core.specs.Propagation.{LiteralSet, IsIn, Includes, IsUnit, HasReason, Closure, Falsifies, IsClosure}
-use Rattle.watch_arena.specs.Words.{at, link_of, lit_of, other_of, IsStore}
-use Rattle.watch_arena.specs.Chains.{times, steps, Path, IsWatch, HasChains}
+use Rattle.cnf_core.specs.Trail.{Grows}
+use Rattle.watch_arena.specs.Words.{word_at, link_of, lit_of, other_of, IsStore}
+use Rattle.cnf_core.specs.Times.{times}
+use Rattle.watch_arena.specs.Chains.{steps, Path, IsWatch, HasChains}
 use Rattle.watch_arena.specs.Trail.{IsUnset, Marks, IsLonger}
 use Rattle.watch_arena.specs.declared.looks.Look.{Look}
 use Rattle.watch_arena.specs.declared.looks.Look.TheVariants.{True, Move, Unit as Alone, Falsified}
 
 abbrev pub lit_at : List ℕ → ℕ → Literal
-lit_at ws i = literal_at (at ws i)
+lit_at ws i = literal_at (word_at ws i)
 
 -- the first n literals of the clause at a place, and all of them, in their present order
 abbrev pub lits_upto : List ℕ → ℕ → ℕ → List Literal
@@ -18,21 +20,21 @@ lits_upto ws p zero = []
 lits_upto ws p (suc n) = lits_upto ws p n ++ lit_at ws (p + 3 + n) ∷ []
 
 abbrev pub lits_at : List ℕ → ℕ → List Literal
-lits_at ws p = lits_upto ws p (at ws p)
+lits_at ws p = lits_upto ws p (word_at ws p)
 
 -- all literals of the clause behind its two watches are false
 abbrev pub RestFalse : List ℕ → LiteralSet → ℕ → Type 0
-RestFalse ws set p = (k : ℕ) → 2 ≤ k → k < at ws p → IsIn set (negate (lit_at ws (p + 3 + k)))
+RestFalse ws set p = (k : ℕ) → 2 ≤ k → k < word_at ws p → IsIn set (negate (lit_at ws (p + 3 + k)))
 
 -- the clause's literal at this place isn't false, and is no watch
 pub record IsMove (ws : List ℕ) (set : LiteralSet) (p k : ℕ) : Type 0 where
   pub from : 2 ≤ k
-  pub below : k < at ws p
+  pub below : k < word_at ws p
   pub open_ : IsIn set (negate (lit_at ws (p + 3 + k))) → ⊥
 
-abbrev pub IsFound : List ℕ → LiteralSet → ℕ → Option ℕ → Type 0
-IsFound ws set p (Some k) = IsMove ws set p k
-IsFound ws set p None = RestFalse ws set p
+abbrev pub FindsMove : List ℕ → LiteralSet → ℕ → Option ℕ → Type 0
+FindsMove ws set p (Some k) = IsMove ws set p k
+FindsMove ws set p None = RestFalse ws set p
 
 pub record IsAlone (ws : List ℕ) (lits : List Literal) (s : ℕ) (l : Literal) : Type 0 where
   pub is : l ≡ lit_at ws (other_of s)
@@ -50,26 +52,26 @@ IsLook ws lits s (Alone l) = IsAlone ws lits s l
 IsLook ws lits s Falsified = IsFalsified ws (has lits) s
 
 -- the second literal is true, and was so at each time at which the first was, where a level began
-pub record IsHeld (m : Marks) (f l : Literal) : Type 0 where
+pub record IsTrueNoLater (m : Marks) (f l : Literal) : Type 0 where
   pub now : IsIn (has m.lits) l
   pub back : (n : ℕ) → Contains m.cuts n → IsIn (has (take n m.lits)) f → IsIn (has (take n m.lits)) l
 
 -- for each watch that isn't out: where it is false already, the other one is true at no later level
-abbrev pub AreQuiet : List ℕ → List ℕ → LiteralSet → Marks → List ℕ → Type 0
-AreQuiet ws places done m out = (s : ℕ) → Contains places (s / 2) → times out s ≡ 0 → IsIn done (negate (lit_at ws (lit_of s))) → IsHeld m (negate (lit_at ws (lit_of s))) (lit_at ws (other_of s))
+abbrev pub AreGuarded : List ℕ → List ℕ → LiteralSet → Marks → List ℕ → Type 0
+AreGuarded ws places done m out = (s : ℕ) → Contains places (s / 2) → times out s ≡ 0 → IsIn done (negate (lit_at ws (lit_of s))) → IsTrueNoLater m (negate (lit_at ws (lit_of s))) (lit_at ws (other_of s))
 
 -- the literals of the clause at a place, in any order
 abbrev pub IsClauseAt : List ℕ → ℕ → List Literal → Type 0
-IsClauseAt ws p c = (l : Literal) → Contains c l ↔ ((k : ℕ) × (k < at ws p) × (lit_at ws (p + 3 + k) ≡ l))
+IsClauseAt ws p c = (l : Literal) → Contains c l ↔ ((k : ℕ) × (k < word_at ws p) × (lit_at ws (p + 3 + k) ≡ l))
 
 -- the words hold these clauses and no others
-pub record IsText (clauses : Clauses) (ws places : List ℕ) : Type 0 where
+pub record HoldsClauses (clauses : Clauses) (ws places : List ℕ) : Type 0 where
   pub held : (p : ℕ) → Contains places p → (c : List Literal) × Contains clauses c × IsClauseAt ws p c
   pub stored : (c : List Literal) → Contains clauses c → (p : ℕ) × Contains places p × IsClauseAt ws p c
 
 -- each clause's literals are the same, in any order
-abbrev pub KeepsText : List ℕ → List ℕ → List ℕ → Type 0
-KeepsText places old new = (p : ℕ) (c : List Literal) → Contains places p → IsClauseAt old p c → IsClauseAt new p c
+abbrev pub KeepsClauses : List ℕ → List ℕ → List ℕ → Type 0
+KeepsClauses places old new = (p : ℕ) (c : List Literal) → Contains places p → IsClauseAt old p c → IsClauseAt new p c
 
 -- the clause at the place holds the literal, and its others were false before
 pub record IsReasonFor (ws places : List ℕ) (before : List Literal) (l : Literal) (p : ℕ) : Type 0 where
@@ -83,16 +85,8 @@ pub record IsReasoned (m : Marks) (ws places : List ℕ) : Type 0 where
   pub decided : (i : ℕ) (l : Literal) → i < length m.lits → slice_index_or m.lits i l ≡ l → slice_index m.reasons l.var ≡ 0 → Contains m.cuts i ⊎ ((n : ℕ) → Contains m.cuts n → i < n)
   pub begins : (n : ℕ) (l : Literal) → Contains m.cuts n → slice_index_or m.lits n l ≡ l → slice_index m.reasons l.var ≡ 0
 
--- the new trail is the old one and literals behind it that follow from it, each by some clause and the literals in front of it
-pub record Grows (clauses : Clauses) (old new : List Literal) : Type 0 where
-  pub front : take (length old) new ≡ old
-  pub longer : length old ≤ length new
-  pub keeps : Includes (has new) (has old)
-  pub within : (l : Literal) → IsIn (has new) l → Closure clauses (has old) l
-  pub reason : (i : ℕ) (d : Literal) → length old ≤ i → i < length new → HasReason clauses (has (take i new)) (slice_index_or new i d)
-
 abbrev pub GrowsBy : List ℕ → List ℕ → List Literal → List Literal → Type 0
-GrowsBy places ws old new = (clauses : Clauses) → IsText clauses ws places → Grows clauses old new
+GrowsBy places ws old new = (clauses : Clauses) → HoldsClauses clauses ws places → Grows clauses old new
 
 -- the literals that are propagated once the next one is
 abbrev pub done_of : Marks → LiteralSet
@@ -110,17 +104,17 @@ pub record IsWalking (m : Marks) (ws heads places : List ℕ) (done : LiteralSet
   pub chains : HasChains ws heads places rest
   pub path : Path ws next rest
   pub own : (s : ℕ) → Contains rest s → IsWatch ws places w s
-  pub quiet : AreQuiet ws places done m rest
+  pub quiet : AreGuarded ws places done m rest
 
 -- the first of those watches is taken, and these are left
 pub record IsOpened (m : Marks) (ws heads places : List ℕ) (done : LiteralSet) (w s : ℕ) (rest : List ℕ) : Type 0 where
   pub store : IsStore m.vars ws places
   pub size : length heads ≡ 2 * m.vars + 2
   pub chains : HasChains ws heads places (s ∷ rest)
-  pub path : Path ws (at ws (link_of s)) rest
+  pub path : Path ws (word_at ws (link_of s)) rest
   pub place : Contains places (s / 2)
   pub own : (t : ℕ) → Contains rest t → IsWatch ws places w t
-  pub quiet : AreQuiet ws places done m (s ∷ rest)
+  pub quiet : AreGuarded ws places done m (s ∷ rest)
 
 -- a step was made: one watch less is left
 pub record IsStepped (m : Marks) (ws new then places : List ℕ) (done : LiteralSet) (w s next : ℕ) : Type 0 where
@@ -133,7 +127,7 @@ pub record IsWatched (m : Marks) (ws heads places : List ℕ) (done : LiteralSet
   pub store : IsStore m.vars ws places
   pub size : length heads ≡ 2 * m.vars + 2
   pub chains : HasChains ws heads places []
-  pub quiet : AreQuiet ws places done m []
+  pub quiet : AreGuarded ws places done m []
 
 -- the reasons of the old trail's variables stay
 abbrev pub KeepsReasons : Marks → Marks → Type 0
@@ -143,18 +137,18 @@ KeepsReasons old new = (i : ℕ) (d : Literal) → i < length old.lits → slice
 pub record IsMade (old new : Marks) (ws now places : List ℕ) : Type 0 where
   pub longer : IsLonger old new
   pub grows : GrowsBy places ws old.lits new.lits
-  pub text : KeepsText places ws now
+  pub text : KeepsClauses places ws now
   pub reasoned : IsReasoned old ws places → IsReasoned new now places
   pub reasons : KeepsReasons old new
 
 -- all literals of the clause at the place are false
 abbrev pub AreFalse : List ℕ → LiteralSet → ℕ → Type 0
-AreFalse ws set p = (k : ℕ) → k < at ws p → IsIn set (negate (lit_at ws (p + 3 + k)))
+AreFalse ws set p = (k : ℕ) → k < word_at ws p → IsIn set (negate (lit_at ws (p + 3 + k)))
 
 -- the clauses' literals stand where they stood
 pub record KeepsLits (places old new : List ℕ) : Type 0 where
-  pub size : (p : ℕ) → Contains places p → at new p ≡ at old p
-  pub lits : (p k : ℕ) → Contains places p → k < at old p → at new (p + 3 + k) ≡ at old (p + 3 + k)
+  pub size : (p : ℕ) → Contains places p → word_at new p ≡ word_at old p
+  pub lits : (p k : ℕ) → Contains places p → k < word_at old p → word_at new (p + 3 + k) ≡ word_at old (p + 3 + k)
 
 -- an attached clause all of whose literals are false
 pub record IsClash (ws places : List ℕ) (set : LiteralSet) (p : ℕ) : Type 0 where
@@ -163,11 +157,11 @@ pub record IsClash (ws places : List ℕ) (set : LiteralSet) (p : ℕ) : Type 0 
 
 -- of whichever clauses the words hold, the new literals are the closure of the old ones
 abbrev pub Closes : List ℕ → List ℕ → List Literal → List Literal → Type 0
-Closes places ws old new = (clauses : Clauses) → IsText clauses ws places → IsClosure clauses (has old) (has new)
+Closes places ws old new = (clauses : Clauses) → HoldsClauses clauses ws places → IsClosure clauses (has old) (has new)
 
 -- of whichever clauses the words hold, one is falsified by what follows
 abbrev pub Clashes : List ℕ → List ℕ → List Literal → Type 0
-Clashes places ws old = (clauses : Clauses) → IsText clauses ws places → Falsifies clauses (has old)
+Clashes places ws old = (clauses : Clauses) → HoldsClauses clauses ws places → Falsifies clauses (has old)
 
 -- of the clause at the place the two watches may not be right yet
 pub record IsAttached (m : Marks) (ws heads places : List ℕ) (p : ℕ) : Type 0 where
@@ -175,12 +169,12 @@ pub record IsAttached (m : Marks) (ws heads places : List ℕ) (p : ℕ) : Type 
   pub size : length heads ≡ 2 * m.vars + 2
   pub chains : HasChains ws heads places []
   pub place : Contains places p
-  pub quiet : AreQuiet ws places (past_of m) m ((2 * p) ∷ (2 * p + 1) ∷ [])
+  pub quiet : AreGuarded ws places (past_of m) m ((2 * p) ∷ (2 * p + 1) ∷ [])
 
 -- where one of the two literals is false already, the other one is true at no later level
 pub record AreRight (m : Marks) (a b : Literal) : Type 0 where
-  pub first : IsIn (past_of m) (negate a) → IsHeld m (negate a) b
-  pub second : IsIn (past_of m) (negate b) → IsHeld m (negate b) a
+  pub first : IsIn (past_of m) (negate a) → IsTrueNoLater m (negate a) b
+  pub second : IsIn (past_of m) (negate b) → IsTrueNoLater m (negate b) a
 
 -- the same before its two watches are in their chains
 pub record IsUnlinked (m : Marks) (ws heads places : List ℕ) (p a b : ℕ) : Type 0 where
@@ -188,6 +182,6 @@ pub record IsUnlinked (m : Marks) (ws heads places : List ℕ) (p a b : ℕ) : T
   pub size : length heads ≡ 2 * m.vars + 2
   pub chains : HasChains ws heads places ((2 * p) ∷ (2 * p + 1) ∷ [])
   pub place : Contains places p
-  pub quiet : AreQuiet ws places (past_of m) m ((2 * p) ∷ (2 * p + 1) ∷ [])
-  pub first : at ws (p + 3 + 0) ≡ a
-  pub second : at ws (p + 3 + 1) ≡ b
+  pub quiet : AreGuarded ws places (past_of m) m ((2 * p) ∷ (2 * p + 1) ∷ [])
+  pub first : word_at ws (p + 3 + 0) ≡ a
+  pub second : word_at ws (p + 3 + 1) ≡ b

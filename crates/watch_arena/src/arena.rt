@@ -5,8 +5,9 @@ ghost use Rattle.cnf_core.specs.Lit.{has};
 ghost use Rattle.cnf_core.specs.Propagation.{Falsifies, IsClosure};
 ghost use Rattle.watch_arena.specs.declared.fault.ArenaFault.TheVariants.{Room};
 ghost use Rattle.watch_arena.specs.Trail.{Marks, IsMarks, IsLonger};
-ghost use Rattle.watch_arena.specs.Walk.{Grows, KeepsReasons};
-ghost use Rattle.watch_arena.specs.Arena.{AreWatched, AreReasoned, AreAttached, IsSameText, IsMoreText, IsAdded, IsClashOf, clause_at, clauses_of, spread};
+ghost use Rattle.cnf_core.specs.Trail.{Grows};
+ghost use Rattle.watch_arena.specs.Walk.{KeepsReasons};
+ghost use Rattle.watch_arena.specs.Arena.{AreWatched, AreReasoned, AreAttached, IsSameText, IsMoreText, IsAdded, IsClashOf, attached_at, attached_clauses, spread};
 
 use crate::attach::attach;
 use crate::clause_ref::ClauseRef;
@@ -79,7 +80,7 @@ impl Arena {
     /// The number of literals of a clause.
     pub fn len_of(&self, clause: ClauseRef) -> u32
         requires { Contains self.now.places clause.0 }
-        ensures value { result ≡ length (clause_at self.now clause.0) }
+        ensures value { result ≡ length (attached_at self.now clause.0) }
         ensures attached { AreAttached self.now }
     {
         self.words[clause.0 as usize]
@@ -88,8 +89,8 @@ impl Arena {
     /// The literal of a clause at place `i` of it, in the present order.
     pub fn lit_of(&self, clause: ClauseRef, i: u32) -> Lit
         requires clause { Contains self.now.places clause.0 }
-        requires below { i < length (clause_at self.now clause.0) }
-        ensures { slice_index_or (clause_at self.now clause.0) i result ≡ result }
+        requires below { i < length (attached_at self.now clause.0) }
+        ensures { slice_index_or (attached_at self.now clause.0) i result ≡ result }
     {
         Lit::from_word(self.words[(clause.0 + 3 + i) as usize])
     }
@@ -111,12 +112,12 @@ impl Arena {
         ensures reasoned { AreReasoned self.old trail.old → AreReasoned self.new trail.new }
         ensures text { IsSameText self.old self.new }
         ensures longer { IsLonger trail.old trail.new }
-        ensures grows { Grows (clauses_of self.old) trail.old.lits trail.new.lits }
+        ensures grows { Grows (attached_clauses self.old) trail.old.lits trail.new.lits }
         ensures reasons { KeepsReasons trail.old trail.new }
         ensures all { result ≡ None → trail.new.front ≡ length trail.new.lits }
-        ensures closes { result ≡ None → IsClosure (clauses_of self.old) (has trail.old.lits) (has trail.new.lits) }
+        ensures closes { result ≡ None → IsClosure (attached_clauses self.old) (has trail.old.lits) (has trail.new.lits) }
         ensures clash { IfSome result (λ c. IsClashOf self.new trail.new c.0) }
-        ensures falsifies { IfSome result (λ _. Falsifies (clauses_of self.old) (has trail.old.lits)) }
+        ensures falsifies { IfSome result (λ _. Falsifies (attached_clauses self.old) (has trail.old.lits)) }
         ensures visits { self.old.visits ≤ self.new.visits }
     {
         propagate(
@@ -137,7 +138,7 @@ impl Arena {
         requires there { AreThere self.old.vars lits.now }
         requires distinct { AreDistinct lits.now }
         ensures places { IfOk result (λ c. self.new.places ≡ self.old.places ++ c.0 ∷ []) }
-        ensures clause { IfOk result (λ c. clause_at self.new c.0 ≡ lits.now) }
+        ensures clause { IfOk result (λ c. attached_at self.new c.0 ≡ lits.now) }
         ensures words { OnOk result (length self.new.words ≡ length self.old.words + length lits.now + 3) }
         ensures others { IsMoreText self.old self.new }
         ensures watched { OnOk result (IsAdded self.new trail.now lits.now) }

@@ -2,7 +2,8 @@
 ghost use Rattle.std.specs.Prelude.{◌≡◌, ◌≢◌, ◌≤◌, ◌<◌, ◌+◌, ◌*◌, ℕ, [], ◌∷◌, ◌++◌, length, slice_index, slice_index_or, take, IfOk, OnOk, OnErr, MatchOption};
 ghost use Rattle.cnf_core.specs.Lit.{negate, has};
 ghost use Rattle.cnf_core.specs.Clause.{IsThere};
-ghost use Rattle.watch_arena.specs.Trail.{IsTrail, IsMarks, IsUnset, IsValue, IsReason, with_lit, advanced, opened, undone, widened, place_of};
+ghost use Rattle.cnf_core.specs.Trail.{IsTrail};
+ghost use Rattle.watch_arena.specs.Trail.{IsMarks, IsUnset, IsValue, IsReason, with_lit, advanced, opened, undone, widened, place_of};
 ghost use Rattle.watch_arena.specs.Arena.{Attached, AreWatched, AreReasoned, MayBeSet};
 
 use crate::clause_ref::{ClauseRef, place_of};
@@ -28,13 +29,13 @@ pub struct Trail {
 }
 
 impl Model for Trail {
-    ghost use Rattle.watch_arena.specs.Trail.{Marks, marks_of, IsKept};
+    ghost use Rattle.watch_arena.specs.Trail.{Marks, marks_of, IsStoredTrail};
 
     ghost Value = { Marks };
 
     ghost view = { λ t. marks_of t.vars t.order.items t.len t.front t.starts.items t.level t.reasons.items t.levels.items };
 
-    ghost invariant = { λ t. IsKept t.vars t.truth.items t.order.items t.len t.front t.starts.items t.level t.reasons.items t.levels.items };
+    ghost invariant = { λ t. IsStoredTrail t.vars t.truth.items t.order.items t.len t.front t.starts.items t.level t.reasons.items t.levels.items };
 }
 
 impl Trail {

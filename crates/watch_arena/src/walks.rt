@@ -2,7 +2,7 @@
 ghost use Rattle.std.specs.Prelude.{◌≡◌, ◌≢◌, ◌≤◌, ◌<◌, ◌+◌, ◌*◌, ◌/◌, length, IfSome, false};
 ghost use Rattle.cnf_core.specs.Lit.{negate, literal_at, has};
 ghost use Rattle.watch_arena.specs.Trail.{IsMarks};
-ghost use Rattle.watch_arena.specs.Walk.{IsWalking, IsWatched, IsMade, IsClash, KeepsText, KeepsLits, Closes, Clashes, done_of, past_of};
+ghost use Rattle.watch_arena.specs.Walk.{IsWalking, IsWatched, IsMade, IsClash, KeepsClauses, KeepsLits, Closes, Clashes, done_of, past_of};
 
 use crate::chains::push;
 use crate::clause_ref::ClauseRef;
@@ -14,7 +14,7 @@ pub fn put_back(words: &mut [u32], heads: &mut [u32], places: &[u32], trail: &Tr
     requires walking { IsWalking trail.now words.old heads.old places.now (done_of trail.now) w s }
     requires fresh { past_of trail.now (negate (literal_at w)) ≡ false }
     ensures watched { IsWatched trail.now words.new heads.new places.now (past_of trail.now) }
-    ensures text { KeepsText places.now words.old words.new }
+    ensures text { KeepsClauses places.now words.old words.new }
     ensures lits { KeepsLits places.now words.old words.new }
 {
     let mut at = s;

@@ -1,8 +1,8 @@
 use Rattle.std.proofs.Common.{◌≡◌, ◌<◌, ◌≤◌, ◌∙◌, sym, ap, arith, ◌+◌, subst}
 use Rattle.std.specs.Prelude.{◌∷◌, All}
 use Rattle.cnf_core.specs.Lit.{Literal, negate}
-use Rattle.cdcl_learn.specs.Sight.{sight, nth, clause_at}
-use Rattle.cdcl_learn.specs.Cut.{Cut, gathered, IsSeen, IsReady, IsLearnt}
+use Rattle.cdcl_learn.specs.Sight.{sight, nth, clause_in}
+use Rattle.cdcl_learn.specs.Cut.{Cut, cut_with_all, IsSeen, IsResolving, IsLearnt}
 use Rattle.cdcl_learn.proofs.LiteralLemmas.{at_place}
 use Rattle.cdcl_learn.proofs.RupLemmas.{clause_there, ready_start, stage_resolve, stage_learnt, stage_seen}
 use Rattle.cdcl_learn.proofs.WalkLemmas.{reason_at, reason_none}
@@ -33,7 +33,7 @@ last_seen-i-requires-in-loop-work-clause-ready c =
           let h = reason_at (sight c.args.arena.now c.args.trail.now) c.loop-work.i c.var_at.result.0 w.in-Some.c.0 c.requires.sound c.loop-work.invariant.stage.below c.var_at.ensures.value w.in-Some.ensures.value.0 w.in-Some.ensures.value.1 in
           let more : 1 < c.loop-work.work.pending = omega arith in
           let ready = stage_resolve (sight c.args.arena.now c.args.trail.now) c.loop-work.work c.loop-work.i w.in-Some.c.0 c.requires.sound c.loop-work.invariant.stage more h in
-          subst (λ (x : Cut). IsReady (sight c.args.arena.now c.args.trail.now) x c.loop-work.i) (sym (w.work-is ∙ w.add_all-in-Some.ensures.value ∙ ap (λ (x : Cut). gathered (sight c.args.arena.now c.args.trail.now) x (clause_at (sight c.args.arena.now c.args.trail.now) w.in-Some.c.0)) c.close.ensures)) ready
+          subst (λ (x : Cut). IsResolving (sight c.args.arena.now c.args.trail.now) x c.loop-work.i) (sym (w.work-is ∙ w.add_all-in-Some.ensures.value ∙ ap (λ (x : Cut). cut_with_all (sight c.args.arena.now c.args.trail.now) x (clause_in (sight c.args.arena.now c.args.trail.now) w.in-Some.c.0)) c.close.ensures)) ready
       | in_default w ↦
           let more : 1 < c.loop-work.work.pending = omega arith in
           absurd (reason_none (sight c.args.arena.now c.args.trail.now) c.loop-work.work c.loop-work.i c.var_at.result.0 c.requires.sound above c.loop-work.invariant.stage more c.var_at.ensures.value w.in_default.ensures.value)

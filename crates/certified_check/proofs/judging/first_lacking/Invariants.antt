@@ -2,11 +2,11 @@ use Rattle.std.proofs.Common.{◌≡◌, take}
 use Rattle.plan_core.specs.Values.{value_of}
 use Rattle.refute_log.specs.Told.{Lines}
 use Rattle.certified_values.specs.Certified.{Certifies}
-use Rattle.certified_check.specs.Lacking.{IsKnown}
+use Rattle.certified_check.specs.Lacking.{KnowsLog}
 use Rattle.certified_check.proofs.judging.first_lacking.Given as goal
 
 abbrev pub invariant-loop-i : goal.invariant-loop-i
 invariant-loop-i l = record {
   held : l.earlier.items ≡ take l.i l.order;
-  certified : (lines : Lines) → IsKnown lines l.checker l.bounds → Certifies (value_of l.greatest) lines l.order l.v l.i;
+  certified : (lines : Lines) → KnowsLog lines l.checker l.bounds → Certifies (value_of l.greatest) lines l.order l.v l.i;
 }

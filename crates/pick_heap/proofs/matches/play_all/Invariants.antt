@@ -1,11 +1,11 @@
 use Rattle.std.proofs.Common.{ℕ, ◌≤◌, ◌<◌}
-use Rattle.pick_heap.specs.Tree.{IsNamed, IsWonAt, KeepsLeaves}
+use Rattle.pick_heap.specs.Tree.{HaveActivities, IsWonAt, KeepsLeaves}
 use Rattle.pick_heap.proofs.matches.play_all.Given as goal
 
 abbrev pub invariant-loop-k : goal.invariant-loop-k
 invariant-loop-k l = record {
   to : l.k ≤ l.leaves;
-  named : IsNamed l.activities l.tree;
+  named : HaveActivities l.activities l.tree;
   won : (j : ℕ) → l.k ≤ j → j < l.leaves → IsWonAt l.activities l.tree j;
   kept : KeepsLeaves l.leaves l.fn.tree l.tree;
 }

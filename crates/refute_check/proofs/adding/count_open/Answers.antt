@@ -2,7 +2,7 @@ use Rattle.std.proofs.Common.{◌≡◌, ◌∙◌, arith, sym, ap, subst}
 use Rattle.cnf_core.specs.Lit.{Literal, negate}
 use Rattle.cnf_core.specs.Clause.{IsThere}
 use Rattle.cnf_core.proofs.TrailLemmas.{there_get}
-use Rattle.refute_check.specs.Tables.{marked, weight}
+use Rattle.cnf_core.specs.Trail.{marked, weight}
 use Rattle.refute_check.proofs.AddLemmas.{false_step}
 use Rattle.refute_check.proofs.adding.count_open.Goals as goal
 use Rattle.refute_check.proofs.adding.count_open.Goals.{then-not-is_marked, else-not-is_marked}

@@ -1,5 +1,6 @@
 use Rattle.std.proofs.Common.{◌≡◌, ◌+◌, take}
-use Rattle.refute_check.specs.Tables.{marked, false_count}
+use Rattle.cnf_core.specs.Trail.{marked}
+use Rattle.refute_check.specs.Tables.{false_count}
 use Rattle.refute_check.proofs.adding.count_open.Given as goal
 
 abbrev pub invariant-loop-l : goal.invariant-loop-l

@@ -3,7 +3,7 @@ use Rattle.cnf_core.specs.Lit.{Literal, negate}
 use Rattle.cnf_core.specs.Clause.{IsThere}
 use Rattle.cnf_core.proofs.PropagationLemmas.{negate-negate}
 use Rattle.cnf_core.proofs.TrailLemmas.{there_get}
-use Rattle.refute_check.specs.Tables.{marked}
+use Rattle.cnf_core.specs.Trail.{marked}
 use Rattle.refute_check.proofs.AssumeLemmas.{assumed_none, assumed_false, assumed_more, assumed_clash, assumed_all}
 use Rattle.refute_check.proofs.assume.assume_false.Goals as goal
 use Rattle.refute_check.proofs.assume.assume_false.Goals.{in-False, in-Unset+in_ok-mark-in-Unset}

@@ -6,8 +6,9 @@ use Rattle.cnf_core.specs.Clause.{IsThere}
 use Rattle.cnf_core.specs.Formula.{clause_at}
 use Rattle.cnf_core.proofs.ClauseLemmas.{distinct_at}
 use Rattle.cnf_core.proofs.TrailLemmas.{there_all}
-use Rattle.refute_check.specs.Tables.{IsUnset, IsQuietNow}
-use Rattle.refute_check.proofs.GrowthLemmas.{trail_consistent, grows_unit, unset_by_marks, few_now, marked_now}
+use Rattle.refute_check.specs.Tables.{IsUnsetUnit, IsQuietNow}
+use Rattle.cnf_core.proofs.GrowthLemmas.{grows_unit}
+use Rattle.refute_check.proofs.GrowthLemmas.{trail_consistent, unset_by_marks, few_now, marked_now}
 use Rattle.refute_check.proofs.looks.look_at.Goals as goal
 use Rattle.refute_check.proofs.looks.look_at.Goals.{In_ok-mark-in-Unit}
 
@@ -30,7 +31,7 @@ mark-requires-clause-there c =
 among : (c : In_ok-mark-in-Unit) → Contains c.args.formula.now.clauses c.lits_of-clause.result.now
 among c = subst (λ (clause : List Literal). Contains c.args.formula.now.clauses clause) (sym c.lits_of-clause.ensures.value) (Contains-get_or c.args.formula.now.clauses c.args.number [] c.requires.there)
 
-unset : (c : In_ok-mark-in-Unit) → IsUnset (has c.args.trail.now.items) c.lits_of-clause.result.now c.in-Unit.l
+unset : (c : In_ok-mark-in-Unit) → IsUnsetUnit (has c.args.trail.now.items) c.lits_of-clause.result.now c.in-Unit.l
 unset c = unset_by_marks c.args.formula.now.vars c.args.truth.now c.args.trail.now.items c.lits_of-clause.result.now c.in-Unit.l c.requires.trail c.in-Unit.ensures
 
 pub returns-in_ok-mark-in-Unit-clause-grows : goal.returns-in_ok-mark-in-Unit-clause-grows

@@ -1,4 +1,5 @@
-use Rattle.refute_check.proofs.GrowthLemmas.{looked_none, looked_one, grows_more}
+use Rattle.cnf_core.proofs.GrowthLemmas.{grows_more}
+use Rattle.refute_check.proofs.GrowthLemmas.{looked_none, looked_one}
 use Rattle.refute_check.proofs.looks.look_at_each.Goals as goal
 
 pub loop-n-init : goal.loop-n-init

@@ -3,7 +3,8 @@ use Rattle.std.specs.Prelude.{All}
 use Rattle.cnf_core.specs.Lit.{negate, word_of}
 use Rattle.cnf_core.specs.Clause.{IsThere}
 use Rattle.cnf_core.proofs.TrailLemmas.{word_below, front_lacks}
-use Rattle.refute_check.specs.Tables.{times, CountedUp, places_from, AreQuietNow}
+use Rattle.cnf_core.specs.Times.{times}
+use Rattle.refute_check.specs.Tables.{CountedUp, places_from, AreQuietNow}
 use Rattle.refute_check.proofs.AdvanceLemmas.{counted_next, quiet_next, right_next, advance_places, negated_there}
 use Rattle.refute_check.proofs.FalseCountLemmas.{down_enough, places_there}
 use Rattle.refute_check.proofs.propagation.advance.Goals as goal

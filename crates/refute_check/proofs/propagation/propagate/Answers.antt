@@ -1,6 +1,6 @@
 use Rattle.std.proofs.Common.{arith}
-use Rattle.refute_check.proofs.TrailLemmas.{trail_short}
-use Rattle.refute_check.proofs.GrowthLemmas.{grows_more}
+use Rattle.cnf_core.proofs.MarkLemmas.{trail_short}
+use Rattle.cnf_core.proofs.GrowthLemmas.{grows_more}
 use Rattle.refute_check.proofs.AdvanceLemmas.{propagated_none, propagated_more}
 use Rattle.refute_check.proofs.propagation.propagate.Goals as goal
 

@@ -2,7 +2,7 @@ use Rattle.std.proofs.Common.{◌≡◌, ◌≤◌, ◌+◌, false, None, sym, s
 use Rattle.cnf_core.specs.Lit.{Literal, negate}
 use Rattle.cnf_core.specs.Propagation.{IsIn}
 use Rattle.cnf_core.proofs.TrailLemmas.{there_get}
-use Rattle.refute_check.specs.Tables.{marked}
+use Rattle.cnf_core.specs.Trail.{marked}
 use Rattle.refute_check.proofs.ScanLemmas.{Seen, SeenOne, seen_false, seen_unset, quiet_two, seen_all}
 use Rattle.refute_check.proofs.scan.scan_clause.Goals as goal
 use Rattle.refute_check.proofs.scan.scan_clause.Goals.{in-False, in-Unset+in-None}

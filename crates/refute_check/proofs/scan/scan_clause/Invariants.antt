@@ -1,5 +1,5 @@
 use Rattle.std.proofs.Common.{take}
-use Rattle.refute_check.specs.Tables.{marked}
+use Rattle.cnf_core.specs.Trail.{marked}
 use Rattle.refute_check.proofs.ScanLemmas.{Seen}
 use Rattle.refute_check.proofs.scan.scan_clause.Given as goal
 

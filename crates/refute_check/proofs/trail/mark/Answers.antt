@@ -1,4 +1,4 @@
-use Rattle.refute_check.proofs.TrailLemmas.{trail_more}
+use Rattle.cnf_core.proofs.MarkLemmas.{trail_more}
 use Rattle.refute_check.proofs.trail.mark.Goals as goal
 
 pub returns-clause-trail : goal.returns-clause-trail

@@ -1,8 +1,8 @@
 use Rattle.std.proofs.Common.{◌++◌, ◌∷◌, [], List, arith, subst}
 use Rattle.cnf_core.specs.Lit.{Literal}
 use Rattle.cnf_core.proofs.TrailLemmas.{there_last, word_below}
-use Rattle.refute_check.specs.Tables.{IsTrail}
-use Rattle.refute_check.proofs.TrailLemmas.{trail_less}
+use Rattle.cnf_core.specs.Trail.{IsTrail}
+use Rattle.cnf_core.proofs.MarkLemmas.{trail_less}
 use Rattle.refute_check.proofs.trail.unmark_last.Goals as goal
 use Rattle.refute_check.proofs.trail.unmark_last.Goals.{After-word}
 

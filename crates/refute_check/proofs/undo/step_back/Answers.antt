@@ -3,7 +3,9 @@ use Rattle.std.specs.Prelude.{All}
 use Rattle.cnf_core.specs.Lit.{negate, word_of}
 use Rattle.cnf_core.specs.Formula.{IsFormula}
 use Rattle.cnf_core.proofs.TrailLemmas.{word_below}
-use Rattle.refute_check.specs.Tables.{times, CountedUp, places_from, IsTrail}
+use Rattle.cnf_core.specs.Trail.{IsTrail}
+use Rattle.cnf_core.specs.Times.{times}
+use Rattle.refute_check.specs.Tables.{CountedUp, places_from}
 use Rattle.refute_check.proofs.FalseCountLemmas.{places_there, up_small, counts_up}
 use Rattle.refute_check.proofs.UndoLemmas.{counted_from, back_there, back_places, back_lacks, back_right, back_rest, back_some}
 use Rattle.refute_check.proofs.undo.step_back.Goals as goal

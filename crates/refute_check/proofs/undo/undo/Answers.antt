@@ -1,5 +1,6 @@
 use Rattle.std.proofs.Common.{arith, ◌≡◌, ◌≤◌, ◌<◌, length, subst}
-use Rattle.refute_check.specs.Tables.{IsTrail, IsCounted}
+use Rattle.cnf_core.specs.Trail.{IsTrail}
+use Rattle.refute_check.specs.Tables.{IsCountedTo}
 use Rattle.refute_check.proofs.UndoLemmas.{retracted_none, retracted_one, retracted_all}
 use Rattle.refute_check.proofs.undo.undo.Goals as goal
 
@@ -18,7 +19,7 @@ pub returns-clause-counted : goal.returns-clause-counted
 returns-clause-counted c =
     let long = c.loop-counts.invariant.long in
     let is : length c.loop-counts.trail.items ≡ c.args.level = omega (arith, c.len.ensures, c.loop-counts-test.false, long) in
-    subst (λ n. IsCounted c.args.formula.now.vars c.args.formula.now.clauses c.loop-counts.truth c.loop-counts.trail.items c.loop-counts.counts n) is c.loop-counts.invariant.counted
+    subst (λ n. IsCountedTo c.args.formula.now.vars c.args.formula.now.clauses c.loop-counts.truth c.loop-counts.trail.items c.loop-counts.counts n) is c.loop-counts.invariant.counted
 
 pub returns-clause-rest : goal.returns-clause-rest
 returns-clause-rest c =

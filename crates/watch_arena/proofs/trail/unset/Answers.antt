@@ -1,5 +1,5 @@
 use Rattle.std.proofs.Common.{arith, ◌≡◌, ◌+◌, ◌-◌, sym, subst, take, set, false}
-use Rattle.watch_arena.specs.Trail.{IsTrail}
+use Rattle.cnf_core.specs.Trail.{IsTrail}
 use Rattle.watch_arena.proofs.UndoLemmas.{last_there, last_unset}
 use Rattle.watch_arena.proofs.trail.unset.Goals as goal
 

@@ -1,5 +1,5 @@
 use Rattle.std.proofs.Common.{ℕ, ◌≤◌, ◌-◌, take}
-use Rattle.watch_arena.specs.Trail.{IsTrail}
+use Rattle.cnf_core.specs.Trail.{IsTrail}
 use Rattle.watch_arena.proofs.trail.unset.Given as goal
 
 abbrev pub invariant-loop-len : goal.invariant-loop-len

@@ -1,14 +1,14 @@
 use Rattle.std.proofs.Common.{arith, ◌/◌, ◌+◌, ◌-◌, ◌%◌, ◌≡◌, subst, sym, ◌∙◌, ap, refl}
 use Rattle.cnf_core.specs.Lit.{Literal}
 use Rattle.cnf_core.specs.Clause.{IsThere}
-use Rattle.watch_arena.specs.Words.{at}
+use Rattle.watch_arena.specs.Words.{word_at}
 use Rattle.watch_arena.specs.Trail.{Marks, IsMarks, with_lit}
-use Rattle.watch_arena.specs.Walk.{KeepsText, IsMade, IsStepped, done_of, lit_at}
+use Rattle.watch_arena.specs.Walk.{KeepsClauses, IsMade, IsStepped, done_of, lit_at}
 use Rattle.watch_arena.proofs.WordLemmas.{lit_there}
 use Rattle.watch_arena.proofs.MoveLemmas.{link_text, swap_text, swap_store}
 use Rattle.watch_arena.proofs.ReasonLemmas.{reasoned_text}
 use Rattle.watch_arena.proofs.ReasonWalkLemmas.{visited_reasoned}
-use Rattle.watch_arena.proofs.GrowthLemmas.{grows_none}
+use Rattle.cnf_core.proofs.GrowthLemmas.{grows_none}
 use Rattle.watch_arena.proofs.WalkLemmas.{ready, watch_below, visited_true, visited_move, visited_unit, visited_grows, longer_unit, longer_none, unit_keeps}
 use Rattle.watch_arena.proofs.visits.visit.Goals as goal
 
@@ -80,7 +80,7 @@ returns-in-Move-clause-made c =
     let two = r.two in
     let store = swap_store _ c.args.words.now c.swap.new.words c.args.places.now (c.args.s / 2) (c.args.s % 2) c.in-Move.k c.requires.walking.store r.place (omega arith) c.in-Move.ensures.below c.swap.ensures in
     let one = swap_text _ c.args.words.now c.swap.new.words c.args.places.now (c.args.s / 2) (c.args.s % 2) c.in-Move.k c.requires.walking.store r.place (omega arith) c.in-Move.ensures.below c.swap.ensures in
-    let two_steps : KeepsText c.args.places.now c.args.words.now c.push-in-Move.new.words = λ q d e is. link_text _ c.swap.new.words c.push-in-Move.new.words c.args.places.now _ _ store r.place c.push-in-Move.ensures.link q d e (one q d e is) in
+    let two_steps : KeepsClauses c.args.places.now c.args.words.now c.push-in-Move.new.words = λ q d e is. link_text _ c.swap.new.words c.push-in-Move.new.words c.args.places.now _ _ store r.place c.push-in-Move.ensures.link q d e (one q d e is) in
     record {
       longer = longer_none c.args.trail.now;
       grows = λ clauses text. grows_none clauses c.args.trail.now.lits;
@@ -110,5 +110,5 @@ returns-in-Unit-clause-made c =
 pub returns-in-Unit-clause-stepped : goal.returns-in-Unit-clause-stepped
 returns-in-Unit-clause-stepped c =
     let more : IsMarks (with_lit c.args.trail.now c.in-Unit.l (c.args.s / 2)) = subst IsMarks c.set.ensures.value c.set.ensures.marks in
-    subst (λ (m : Marks). IsStepped m c.args.words.now c.push-in-Unit.new.words c.push-in-Unit.new.heads c.args.places.now (done_of m) c.args.w c.args.s (at c.args.words.now (c.args.s / 2 + 1 + c.args.s % 2))) (sym c.set.ensures.value)
+    subst (λ (m : Marks). IsStepped m c.args.words.now c.push-in-Unit.new.words c.push-in-Unit.new.heads c.args.places.now (done_of m) c.args.w c.args.s (word_at c.args.words.now (c.args.s / 2 + 1 + c.args.s % 2))) (sym c.set.ensures.value)
     (visited_unit c.args.trail.now _ _ _ _ _ c.requires.walking c.requires.some c.requires.false_now c.requires.fresh c.len-trail.ensures.marks _ _ c.in-Unit.l (c.args.s / 2) c.requires.front more c.in-Unit.ensures c.push-in-Unit.ensures)

@@ -2,7 +2,7 @@ use Rattle.std.proofs.Common.{rules, arith, ◌≡◌, ◌∙◌, ◌<◌, ◌�
 use Rattle.std.proofs.lemmas.List.{take_at, get_or_default}
 use Rattle.std.specs.Vec.{with_items}
 use Rattle.pick_heap.specs.Heap.{Ranked, IsGreatest}
-use Rattle.pick_heap.specs.Tree.{at}
+use Rattle.pick_heap.specs.Tree.{entry_at}
 use Rattle.pick_heap.proofs.MatchLemmas.{set_free}
 use Rattle.pick_heap.proofs.HeapLemmas.{greatest_at, none_at, heap_set_at}
 use Rattle.pick_heap.proofs.heap.Heap.pop.Goals as goal
@@ -12,7 +12,7 @@ returns-then-v-eq0-clause-greatest c =
     let some = c.self.invariant.some in
     let size = c.self.invariant.size in
     let lt : 1 < length c.self.inside.tree.items = omega arith in
-    let root : at c.self.inside.tree.items 1 ≡ c.index-v.result.now = get_or_default c.self.inside.tree.items 1 0 c.index-v.result.now lt ∙ sym c.index-v.ensures in
+    let root : entry_at c.self.inside.tree.items 1 ≡ c.index-v.result.now = get_or_default c.self.inside.tree.items 1 0 c.index-v.result.now lt ∙ sym c.index-v.ensures in
     none_at _ _ _ _ _ c.args.self.now c.self.invariant c.self.view_is (root ∙ c.if-v-eq0.true)
 
 pub returns-clause-greatest : goal.returns-clause-greatest
@@ -20,7 +20,7 @@ returns-clause-greatest c =
     let some = c.self.invariant.some in
     let size = c.self.invariant.size in
     let lt : 1 < length c.self.inside.tree.items = omega arith in
-    let root : at c.self.inside.tree.items 1 ≡ c.index-v.result.now = get_or_default c.self.inside.tree.items 1 0 c.index-v.result.now lt ∙ sym c.index-v.ensures in
+    let root : entry_at c.self.inside.tree.items 1 ≡ c.index-v.result.now = get_or_default c.self.inside.tree.items 1 0 c.index-v.result.now lt ∙ sym c.index-v.ensures in
     greatest_at _ _ _ _ _ c.args.self.now c.index-v.result.now c.self.invariant c.self.view_is root c.if-v-eq0.false
 
 pub invariant_of-self : goal.invariant_of-self
@@ -28,7 +28,7 @@ invariant_of-self c =
     let some = c.self.invariant.some in
     let size = c.self.invariant.size in
     let lt : 1 < length c.self.inside.tree.items = omega arith in
-    let root : at c.self.inside.tree.items 1 ≡ c.index-v.result.now = get_or_default c.self.inside.tree.items 1 0 c.index-v.result.now lt ∙ sym c.index-v.ensures in
+    let root : entry_at c.self.inside.tree.items 1 ≡ c.index-v.result.now = get_or_default c.self.inside.tree.items 1 0 c.index-v.result.now lt ∙ sym c.index-v.ensures in
     let g : IsGreatest c.args.self.now c.index-v.result.now = greatest_at _ _ _ _ _ c.args.self.now c.index-v.result.now c.self.invariant c.self.view_is root c.if-v-eq0.false in
     let vars : c.index-v.result.now ≤ c.self.inside.vars = subst (λ (h : Ranked). c.index-v.result.now ≤ h.vars) (sym c.self.view_is) g.to in
     let held = c.self.invariant.held_size in

@@ -2,7 +2,7 @@ use Rattle.std.proofs.Common.{◌∙◌, ◌++◌, ◌∷◌, [], sym, ap, subst
 use Rattle.cnf_core.specs.Lit.{Literal, negate}
 use Rattle.cnf_core.specs.Clause.{IsThere}
 use Rattle.cnf_core.proofs.PropagationLemmas.{negate-negate}
-use Rattle.refute_check.specs.Tables.{marked, Grows}
+use Rattle.cnf_core.specs.Trail.{marked, Grows}
 use Rattle.refute_check.proofs.NoveltyLemmas.{pushed_quiet, denied_new, denied_unproved, denied_front}
 use Rattle.refute_check.proofs.tables.Tables.deny_first.Goals as goal
 

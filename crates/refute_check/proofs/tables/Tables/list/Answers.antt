@@ -1,5 +1,6 @@
 use Rattle.std.proofs.Common.{◌≡◌, ◌+◌, List, Bool, length, subst, refl}
-use Rattle.refute_check.specs.Tables.{Lists, marked, false_count}
+use Rattle.cnf_core.specs.Trail.{marked}
+use Rattle.refute_check.specs.Tables.{Lists, false_count}
 use Rattle.refute_check.proofs.AddLemmas.{listed}
 use Rattle.refute_check.proofs.tables.Tables.list.Goals as goal
 

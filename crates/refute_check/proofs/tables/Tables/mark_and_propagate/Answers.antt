@@ -1,6 +1,6 @@
 use Rattle.std.proofs.Common.{◌≡◌, ◌∙◌, List, arith, length, subst, drop}
 use Rattle.cnf_core.specs.Lit.{Literal}
-use Rattle.refute_check.specs.Tables.{IsTrail, Grows}
+use Rattle.cnf_core.specs.Trail.{IsTrail, Grows}
 use Rattle.refute_check.proofs.SupposeLemmas.{written_back}
 use Rattle.refute_check.proofs.AddLemmas.{unit_counted}
 use Rattle.refute_check.proofs.tables.Tables.mark_and_propagate.Goals as goal

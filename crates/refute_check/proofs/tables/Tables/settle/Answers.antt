@@ -2,7 +2,8 @@ use Rattle.std.proofs.Common.{List, Bool, subst}
 use Rattle.std.specs.Prelude.{All}
 use Rattle.cnf_core.specs.Lit.{negate}
 use Rattle.cnf_core.specs.Propagation.{IsIn}
-use Rattle.refute_check.specs.Tables.{marked, IsQuiet}
+use Rattle.cnf_core.specs.Trail.{marked}
+use Rattle.refute_check.specs.Tables.{IsQuiet}
 use Rattle.refute_check.proofs.GrowthLemmas.{trail_consistent, quiet_by_marks}
 use Rattle.refute_check.proofs.AddLemmas.{settled_quiet, settled_falsified}
 use Rattle.refute_check.proofs.tables.Tables.settle.Goals as goal

@@ -1,5 +1,5 @@
 use Rattle.std.proofs.Common.{◌≡◌, ◌∙◌, arith, length, subst, drop}
-use Rattle.refute_check.specs.Tables.{IsTrail}
+use Rattle.cnf_core.specs.Trail.{IsTrail}
 use Rattle.refute_check.proofs.SupposeLemmas.{assumed_counted, clash_falsifies, supposed_falsifies, supposed_closure, written_back}
 use Rattle.refute_check.proofs.NoveltyLemmas.{supposed_reasoned}
 use Rattle.refute_check.proofs.tables.Tables.suppose.Goals as goal

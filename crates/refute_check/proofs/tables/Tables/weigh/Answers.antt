@@ -1,6 +1,6 @@
 use Rattle.std.proofs.Common.{◌≡◌, ◌∙◌, Bool, List, true, sym, subst}
 use Rattle.cnf_core.specs.Lit.{negate}
-use Rattle.refute_check.specs.Tables.{marked}
+use Rattle.cnf_core.specs.Trail.{marked}
 use Rattle.refute_check.proofs.NoveltyLemmas.{known_by_clash, known_by_closure, unproved_by_closure}
 use Rattle.refute_check.proofs.tables.Tables.weigh.Goals as goal
 

@@ -1,7 +1,7 @@
 use Rattle.std.proofs.Common.{◌≤◌, ◌+◌, ◌++◌, ◌*◌, ◌∙◌, List, ℕ, Bool, false, true, replicate, take, refl, sym, subst, ap}
 use Rattle.cnf_core.specs.declared.limits.TheConstants.{VARS}
 use Rattle.cnf_core.specs.Lit.{Literal, literal}
-use Rattle.watch_arena.specs.Trail.{Marks, IsKept}
+use Rattle.watch_arena.specs.Trail.{Marks, IsStoredTrail}
 use Rattle.watch_arena.specs.Arena.{AreWatched, AreReasoned}
 use Rattle.watch_arena.proofs.TrailLemmas.{kept_widened, widened_view, marks_kept, marks_same}
 use Rattle.watch_arena.proofs.LevelLemmas.{watched_widened, reasoned_widened}
@@ -14,11 +14,11 @@ invariant_of-self-2 c =
     let new = c.lengthen_all.new in
     let e = c.in_ok-lengthen_all.ensures in
     let k = kept_widened _ _ _ _ _ _ _ _ _ c.self.invariant n (literal 1 true) (subst (λ (m : Marks). m.vars + n ≤ VARS) (sym c.self.view_is) c.requires) in
-    subst (λ (t : List Bool). IsKept (s.vars + n) t new.order.items s.len s.front new.starts.items s.level new.reasons.items new.levels.items) (sym e.truth)
-    (subst (λ (o : List Literal). IsKept (s.vars + n) (s.truth.items ++ replicate (2 * n) false) o s.len s.front new.starts.items s.level new.reasons.items new.levels.items) (sym e.order)
-    (subst (λ (t : List ℕ). IsKept (s.vars + n) (s.truth.items ++ replicate (2 * n) false) (s.order.items ++ replicate (2 * n) (literal 1 true)) s.len s.front t s.level new.reasons.items new.levels.items) (sym e.starts)
-    (subst (λ (t : List ℕ). IsKept (s.vars + n) (s.truth.items ++ replicate (2 * n) false) (s.order.items ++ replicate (2 * n) (literal 1 true)) s.len s.front (s.starts.items ++ replicate (2 * n) 0) s.level t new.levels.items) (sym e.reasons)
-    (subst (λ (t : List ℕ). IsKept (s.vars + n) (s.truth.items ++ replicate (2 * n) false) (s.order.items ++ replicate (2 * n) (literal 1 true)) s.len s.front (s.starts.items ++ replicate (2 * n) 0) s.level (s.reasons.items ++ replicate n 0) t) (sym e.levels) k))))
+    subst (λ (t : List Bool). IsStoredTrail (s.vars + n) t new.order.items s.len s.front new.starts.items s.level new.reasons.items new.levels.items) (sym e.truth)
+    (subst (λ (o : List Literal). IsStoredTrail (s.vars + n) (s.truth.items ++ replicate (2 * n) false) o s.len s.front new.starts.items s.level new.reasons.items new.levels.items) (sym e.order)
+    (subst (λ (t : List ℕ). IsStoredTrail (s.vars + n) (s.truth.items ++ replicate (2 * n) false) (s.order.items ++ replicate (2 * n) (literal 1 true)) s.len s.front t s.level new.reasons.items new.levels.items) (sym e.starts)
+    (subst (λ (t : List ℕ). IsStoredTrail (s.vars + n) (s.truth.items ++ replicate (2 * n) false) (s.order.items ++ replicate (2 * n) (literal 1 true)) s.len s.front (s.starts.items ++ replicate (2 * n) 0) s.level t new.levels.items) (sym e.reasons)
+    (subst (λ (t : List ℕ). IsStoredTrail (s.vars + n) (s.truth.items ++ replicate (2 * n) false) (s.order.items ++ replicate (2 * n) (literal 1 true)) s.len s.front (s.starts.items ++ replicate (2 * n) 0) s.level (s.reasons.items ++ replicate n 0) t) (sym e.levels) k))))
 
 pub returns-clause-more : goal.returns-clause-more
 returns-clause-more c =

@@ -2,7 +2,8 @@ use Rattle.std.proofs.Common.{rules, arith, ◌≡◌, ◌∙◌, ◌<◌, lengt
 use Rattle.std.specs.Vec.{with_items}
 use Rattle.std.proofs.lemmas.List.{take_at, get_or_default}
 use Rattle.cnf_core.specs.Lit.{Literal}
-use Rattle.watch_arena.specs.Trail.{IsTrail, IsKept, Marks, IsMarks, marks_of}
+use Rattle.cnf_core.specs.Trail.{IsTrail}
+use Rattle.watch_arena.specs.Trail.{IsStoredTrail, Marks, IsMarks, marks_of}
 use Rattle.watch_arena.specs.Arena.{AreWatched, AreReasoned}
 use Rattle.watch_arena.proofs.LevelLemmas.{watched_undone, reasoned_undone}
 use Rattle.watch_arena.proofs.TrailLemmas.{marks_kept}
@@ -39,8 +40,8 @@ invariant_of-self c =
     let table : IsTrail c.self.inside.vars c.unset.new.truth (take c.index-end.result.now c.self.inside.order.items) =
     subst (λ (o : List Literal). IsTrail c.self.inside.vars c.unset.new.truth (take c.index-end.result.now o)) c.deref.ensures.value (c.unset.ensures c.self.inside.vars start) in
     let k = kept_undone _ _ _ _ _ _ _ _ _ c.self.invariant c.args.level c.index-end.result.now lt is c.unset.new.truth table in
-    subst (λ (t : List Bool). IsKept c.self.inside.vars t c.self.inside.order.items c.index-end.result.now c.min-self-inside.result c.self.inside.starts.items c.args.level c.self.inside.reasons.items c.self.inside.levels.items) (sym items)
-    (subst (λ n. IsKept c.self.inside.vars c.unset.new.truth c.self.inside.order.items c.index-end.result.now n c.self.inside.starts.items c.args.level c.self.inside.reasons.items c.self.inside.levels.items) (sym c.min-self-inside.ensures) k)
+    subst (λ (t : List Bool). IsStoredTrail c.self.inside.vars t c.self.inside.order.items c.index-end.result.now c.min-self-inside.result c.self.inside.starts.items c.args.level c.self.inside.reasons.items c.self.inside.levels.items) (sym items)
+    (subst (λ n. IsStoredTrail c.self.inside.vars c.unset.new.truth c.self.inside.order.items c.index-end.result.now n c.self.inside.starts.items c.args.level c.self.inside.reasons.items c.self.inside.levels.items) (sym c.min-self-inside.ensures) k)
 
 pub returns-then-level-self-clause-value : goal.returns-then-level-self-clause-value
 returns-then-level-self-clause-value c =

@@ -1,4 +1,4 @@
--- Trails: tables that mark the literals of a list.
+-- Tables that mark the literals of a trail.
 use Rattle.std.proofs.Common.{◌≡◌, ◌≢◌, ℕ, ◌+◌, ◌*◌, ◌<◌, ◌≤◌, Bool, true, false, List, [], ◌∷◌, ◌++◌, length, get_or, set, refl, sym, ◌∙◌, ap, subst, inl, inr, arith, length-set, length-append}
 use Rattle.std.specs.Prelude.{Contains}
 use Rattle.std.proofs.lemmas.Bool.{both_ways, false_from_ne_true}
@@ -7,11 +7,11 @@ use Rattle.std.proofs.lemmas.Grind.{get_or-set_at}
 use Rattle.std.proofs.lemmas.List.Sums.{sum_by-set, sum_by-le}
 use Rattle.cnf_core.specs.Lit.{Literal, negate, word_of, has}
 use Rattle.cnf_core.specs.Clause.{IsThere}
+use Rattle.cnf_core.specs.Trail.{marked, weight, IsTrail}
 use Rattle.cnf_core.proofs.PropagationLemmas.{contains_from_has, has_from_contains}
 use Rattle.cnf_core.proofs.QuantifierLemmas.{pairs_from_distinct}
 use Rattle.cnf_core.proofs.GatherLemmas.{there_push}
 use Rattle.cnf_core.proofs.TrailLemmas.{word_once, word_below, same_literal_or, same_or_negated, has_last, has_front, distinct_push, distinct_front, there_front, there_last}
-use Rattle.refute_check.specs.Tables.{marked, weight, IsTrail}
 
 -- marks after a write
 pub marked_same : (truth : List Bool) (l k : Literal) (b : Bool) → word_of l < length truth → k ≡ l → marked (set truth (word_of l) b) k ≡ b
@@ -20,7 +20,7 @@ marked_same truth l k b within e = get_or-set_at truth (word_of l) (word_of k) b
 pub marked_other : (truth : List Bool) (l k : Literal) (b : Bool) → (k ≡ l → ⊥) → marked (set truth (word_of l) b) k ≡ marked truth k
 marked_other truth l k b ne = get_or-set_other truth (word_of l) (word_of k) b false (λ e. ne (word_once k l e))
 
-unmarked_var : (vars : ℕ) (truth : List Bool) (trail : List Literal) (l : Literal) → IsTrail vars truth trail → marked truth l ≡ false → marked truth (negate l) ≡ false → (k : Literal) → Contains trail k → k.var ≢ l.var
+pub unmarked_var : (vars : ℕ) (truth : List Bool) (trail : List Literal) (l : Literal) → IsTrail vars truth trail → marked truth l ≡ false → marked truth (negate l) ≡ false → (k : Literal) → Contains trail k → k.var ≢ l.var
 unmarked_var vars truth trail l t h n = λ k among e. elim (same_or_negated k l e) [
   | inl same ↦ both_ways (marked truth l) h (t.marks l ∙ has_from_contains trail l (subst (λ (m : Literal). Contains trail m) same among))
   | inr same ↦ both_ways (marked truth (negate l)) n (t.marks (negate l) ∙ has_from_contains trail (negate l) (subst (λ (m : Literal). Contains trail m) same among))

@@ -7,9 +7,9 @@ use Rattle.std.proofs.lemmas.List.Elements.{All-weaker}
 use Rattle.cnf_core.specs.Lit.{Literal, negate, has}
 use Rattle.cnf_core.specs.Clause.{Clauses}
 use Rattle.cnf_core.specs.Propagation.{IsIn, IsUnit, Closure, HasReason}
-use Rattle.cnf_core.proofs.PropagationLemmas.{closure_start, closure_unit, closure_again}
-use Rattle.cnf_core.proofs.TrailLemmas.{has_front, same_literal_or, push_keeps}
-use Rattle.watch_arena.specs.Walk.{Grows}
+use Rattle.cnf_core.specs.Trail.{Grows}
+use Rattle.cnf_core.proofs.PropagationLemmas.{closure_start, closure_unit, closure_again, contains_from_has, has_from_contains, reason_more}
+use Rattle.cnf_core.proofs.TrailLemmas.{has_front, same_literal_or, push_keeps, front_includes}
 
 pub grows_none : (clauses : Clauses) (trail : List Literal) → Grows clauses trail trail
 grows_none clauses trail = record {
@@ -49,3 +49,14 @@ grows_unit clauses trail c l among unit = record {
       let is : length trail ≡ i = omega arith in
       subst (λ (m : Literal). HasReason clauses (has (take i (trail ++ l ∷ []))) m) (sym (get_or_push trail l d i is)) (subst (λ (ls : List Literal). HasReason clauses (has ls) l) (sym (take_at trail (l ∷ []) i is)) (record { reason = c; among = among; unit = unit }));
 }
+
+-- a literal of the new trail is an old one, or some clause makes it true by the others
+pub grows_reason : (clauses : Clauses) (old new : List Literal) → Grows clauses old new → (l : Literal) → IsIn (has new) l → IsIn (has old) l ⊎ HasReason clauses (has new) l
+grows_reason clauses old new g l h =
+    let c = contains_from_has new l h in
+    elim (cases_lt c.0 (length old)) [
+      | inl front ↦
+          let same : get_or old c.0 l ≡ l = ap (λ (ls : List Literal). get_or ls c.0 l) (sym g.front) ∙ get_or-take (length old) new c.0 l front ∙ c.2 in
+          inl (has_from_contains old l (c.0, front, same))
+      | inr behind ↦ inr (reason_more clauses (has (take c.0 new)) (has new) l (front_includes new c.0) (subst (HasReason clauses (has (take c.0 new))) c.2 (g.reason c.0 l behind c.1)))
+    ]
