@@ -7,7 +7,7 @@ use Rattle.railml_text.specs.declared.fault.TextWhat.{TextWhat}
 use Rattle.railml_read.specs.declared.faults.ReadFault.{ReadFault}
 use Rattle.railml_read.specs.declared.faults.ReadFault.TheVariants as answers
 use Rattle.railml_read.specs.declared.rows.Elem.{Elem}
-use Rattle.railml_read.specs.Tree.{Tree}
+use Rattle.railml_read.specs.Tree.{XmlTree}
 use Rattle.railml_read.specs.Rows.{rows_of}
 use Rattle.railml_read.specs.Document.{AreRows, GivesRows, IsTextFault, IsReadFault}
 use Rattle.railml_read.proofs.FaultLemmas.{one_tree, one_fault}
@@ -17,7 +17,7 @@ module _ (bytes : List ℕ) where
   one_list rows others g h =
       let a = g.are_rows in
       let b = h.are_rows in
-      a.found ∙ ap (λ (t : Tree). rows_of t) (one_tree bytes a.tree b.tree a.spells b.spells) ∙ sym b.found
+      a.found ∙ ap (λ (t : XmlTree). rows_of t) (one_tree bytes a.tree b.tree a.spells b.spells) ∙ sym b.found
 
   one_read_fault : (e f : ReadFault) → IsReadFault bytes e → IsReadFault bytes f → e ≡ f
   one_read_fault (answers.Text what at) (answers.Text other place) h k =

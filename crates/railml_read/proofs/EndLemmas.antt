@@ -13,11 +13,11 @@ use Rattle.railml_text.specs.declared.fault.TextWhat.TheVariants.{Markup, AfterR
 use Rattle.railml_text.specs.Cutting.{Placed, IsCutInto}
 use Rattle.railml_read.specs.declared.progress.Frame.{Frame}
 use Rattle.railml_read.specs.declared.contexts.Context.TheVariants.{Outside, Railml, Infrastructure, Skipped}
-use Rattle.railml_read.specs.Tree.{Elements, none, element, Tree, root_of, Tag, opens, closes, tags_of, names_of}
+use Rattle.railml_read.specs.Tree.{Elements, none, element, XmlTree, root_of, Tag, opens, closes, tags_of, names_of}
 use Rattle.railml_read.specs.Rows.{rows_of}
 use Rattle.railml_read.specs.Places.{Role, content, role_of, tags_at, tags_in, open_names, begins_element, has_root, IsRootName, IsMisplaced, AreInPlace}
-use Rattle.railml_read.specs.Document.{IsFreeOutside, Spells, EndsOpen, LacksInfrastructure, AreRows}
-use Rattle.railml_read.specs.Progress.{State, step, start, state_after, names_in, is_infrastructure}
+use Rattle.railml_read.specs.Document.{IsFreeOutside, SpellsTree, EndsOpen, LacksInfrastructure, AreRows}
+use Rattle.railml_read.specs.Progress.{State, after_tag, start, state_after, names_in, is_infrastructure}
 use Rattle.railml_read.specs.Passing.{IsReadThrough}
 use Rattle.railml_read.proofs.Ends.{bytes_eq_true}
 use Rattle.railml_read.proofs.TreeLemmas.{Fit, items_fit, spelled, rooted}
@@ -67,12 +67,12 @@ closes_first (item ∷ items) t tags h e =
       | inr later ↦ closes_first items t tags parts.1 later
     ]
 
-pub rooted_tags : (items : List Placed) (tree : Tree) → tags_in items ≡ tags_of (root_of tree) → has_root items ≡ false → ⊥
+pub rooted_tags : (items : List Placed) (tree : XmlTree) → tags_in items ≡ tags_of (root_of tree) → has_root items ≡ false → ⊥
 rooted_tags items tree e h = closes_first items _ _ h e
 
 pub record IsTreeOf (bytes : List ℕ) (items : List Placed) : Type 0 where
-  pub tree : Tree
-  pub spells : Spells bytes tree
+  pub tree : XmlTree
+  pub spells : SpellsTree bytes tree
   pub items_are : spells.items ≡ items
   pub named : IsRootName tree.name
 
@@ -92,8 +92,8 @@ tree_of_items bytes items cut sound root closed =
 
 -- ---- its rows
 
-pub tree_state : (tree : Tree) → fold step start (tags_of (root_of tree)) ≡ record { stack = []; rows = rows_of tree; reached = reached_in Outside (root_of tree) }
-tree_state tree = ap (λ (t : List Tag). fold step start t) (sym (append-nil (tags_of (root_of tree)))) ∙ gone_by (root_of tree) start []
+pub tree_state : (tree : XmlTree) → fold after_tag start (tags_of (root_of tree)) ≡ record { stack = []; rows = rows_of tree; reached = reached_in Outside (root_of tree) }
+tree_state tree = ap (λ (t : List Tag). fold after_tag start t) (sym (append-nil (tags_of (root_of tree)))) ∙ gone_by (root_of tree) start []
 
 -- ---- an infrastructure
 
@@ -131,17 +131,17 @@ root_railml at name attrs children e = ap (λ (n : List ℕ). reached_in Outside
 root_infrastructure : (at : ℕ) (name : List ℕ) (attrs : List Attr) (children : Elements) → name ≡ codes "infrastructure" → reached_in Outside (element at name attrs children none) ≡ true
 root_infrastructure at name attrs children e = ap (λ (n : List ℕ). reached_in Outside (element at n attrs children none)) e
 
-pub record IsLacking (tree : Tree) : Type 0 where
+pub record IsLacking (tree : XmlTree) : Type 0 where
   pub named : tree.name ≡ codes "railml"
   pub lacks : Contains (names_of tree.children) (codes "infrastructure") → ⊥
 
-pub lacking : (tree : Tree) → IsRootName tree.name → reached_in Outside (root_of tree) ≡ false → IsLacking tree
+pub lacking : (tree : XmlTree) → IsRootName tree.name → reached_in Outside (root_of tree) ≡ false → IsLacking tree
 lacking tree named e = elim named [
   | inl railml ↦ record { named = railml; lacks = railml_not_reached tree.children (sym (root_railml tree.at tree.name tree.attrs tree.children railml) ∙ e) }
   | inr infrastructure ↦ let yes = root_infrastructure tree.at tree.name tree.attrs tree.children infrastructure in absurd cc
 ]
 
-pub not_lacking : (tree : Tree) → reached_in Outside (root_of tree) ≡ true → IsLacking tree → ⊥
+pub not_lacking : (tree : XmlTree) → reached_in Outside (root_of tree) ≡ true → IsLacking tree → ⊥
 not_lacking tree e l = l.lacks (railml_reached tree.children (sym (root_railml tree.at tree.name tree.attrs tree.children l.named) ∙ e))
 
 -- ---- the answers at the end
@@ -174,7 +174,7 @@ pub read_tree : (bytes : List ℕ) (state : State) (root : Bool) (r : IsReadThro
 read_tree bytes state root r rooted closed = tree_of_items bytes r.items r.cut r.sound (sym r.root_is ∙ rooted) (names_closed bytes state root r closed)
 
 pub state_is : (bytes : List ℕ) (state : State) (root : Bool) (r : IsReadThrough bytes state root) (t : IsTreeOf bytes r.items) → state ≡ record { stack = []; rows = rows_of t.tree; reached = reached_in Outside (root_of t.tree) }
-state_is bytes state root r t = r.state_is ∙ ap state_after (sym t.items_are) ∙ ap (λ (tags : List Tag). fold step start tags) t.spells.tags ∙ tree_state t.tree
+state_is bytes state root r t = r.state_is ∙ ap state_after (sym t.items_are) ∙ ap (λ (tags : List Tag). fold after_tag start tags) t.spells.tags ∙ tree_state t.tree
 
 pub lacks_infrastructure : (bytes : List ℕ) (state : State) (root : Bool) → IsUtf8 bytes → IsReadThrough bytes state root → root ≡ true → state.stack ≡ [] → state.reached ≡ false → LacksInfrastructure bytes (length bytes)
 lacks_infrastructure bytes state root utf8 r rooted closed reached =

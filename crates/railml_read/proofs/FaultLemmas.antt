@@ -9,9 +9,9 @@ use Rattle.railml_text.specs.Faults.{number_of, HasSoundItem}
 use Rattle.railml_text.specs.Cutting.{Placed, IsCutInto, start_of, is_first}
 use Rattle.railml_read.specs.declared.contexts.Context.TheVariants.{Outside}
 use Rattle.railml_read.proofs.RowLemmas.{reached_in}
-use Rattle.railml_read.specs.Tree.{Elements, none, element, Tree, root_of, Tag, tags_of}
+use Rattle.railml_read.specs.Tree.{Elements, none, element, XmlTree, root_of, Tag, tags_of}
 use Rattle.railml_read.specs.Places.{Role, names_after, role_of, role_of_shape, tags_in, open_names, has_root, IsMisplaced, AreInPlace}
-use Rattle.railml_read.specs.Document.{Spells, HasFaultBehind, IsFirstTextFault, EndsOpen, LacksInfrastructure, IsTextFault}
+use Rattle.railml_read.specs.Document.{SpellsTree, HasFaultBehind, IsFirstTextFault, EndsOpen, LacksInfrastructure, IsTextFault}
 use Rattle.railml_read.specs.Progress.{State}
 use Rattle.railml_read.specs.Passing.{IsReadThrough}
 use Rattle.railml_text.proofs.OneItem.{one_item}
@@ -43,13 +43,13 @@ no_fault items rest others last what g sound fault =
 ended : (items others : List Placed) (last : List ℕ) → GoesOn true items [] others last → ⊥
 ended items others last g = Stops-end (first_after true items) g.item.kind g.after g.sound
 
-pub one_tree : (bytes : List ℕ) (a b : Tree) → Spells bytes a → Spells bytes b → a ≡ b
+pub one_tree : (bytes : List ℕ) (a b : XmlTree) → SpellsTree bytes a → SpellsTree bytes b → a ≡ b
 one_tree bytes a b h k =
     let items : h.items ≡ k.items = one_cut bytes h.items k.items h.cut k.cut in
     let same : element a.at a.name a.attrs a.children none ≡ element b.at b.name b.attrs b.children none = one_spelled (root_of a) (root_of b) (sym h.tags ∙ ap tags_in items ∙ k.tags) in
     ap tree_in same
   where
-    tree_in : Elements → Tree
+    tree_in : Elements → XmlTree
     tree_in none = a
     tree_in (element at name attrs children after) = record { at = at; name = name; attrs = attrs; children = children }
 
@@ -106,10 +106,10 @@ first_ones bytes a b m n f g = elim (compared true (start_of bytes) (drop (start
 ]
 
 -- the items of a tree leave no element open
-tree_closed : (tree : Tree) → fold names_after [] (tags_of (root_of tree)) ≡ []
+tree_closed : (tree : XmlTree) → fold names_after [] (tags_of (root_of tree)) ≡ []
 tree_closed tree = ap (λ (t : List Tag). fold names_after [] t) (sym (append-nil (tags_of (root_of tree)))) ∙ left_open (root_of tree) [] []
 
-closed_and_open : (bytes : List ℕ) (tree : Tree) (at : ℕ) → EndsOpen bytes at → Spells bytes tree → ⊥
+closed_and_open : (bytes : List ℕ) (tree : XmlTree) (at : ℕ) → EndsOpen bytes at → SpellsTree bytes tree → ⊥
 closed_and_open bytes tree at f spells =
     let items : f.items ≡ spells.items = one_cut bytes f.items spells.items f.cut spells.cut in
     let tags : tags_in f.items ≡ tags_of (root_of tree) = ap tags_in items ∙ spells.tags in
@@ -153,4 +153,4 @@ no_text_fault bytes state root r utf8 rooted closed reached what at fault = none
     none (open_end e f) = closed_and_open bytes tree.tree at f tree.spells
     none (lacks e f) =
         let same : tree.tree ≡ f.tree = one_tree bytes tree.tree f.tree tree.spells f.spells in
-        not_lacking f.tree (sym (ap (λ (t : Tree). reached_in Outside (root_of t)) same) ∙ sym (ap (λ (s : State). s.reached) (state_is bytes state root r tree)) ∙ reached) (record { named = f.named; lacks = f.lacks })
+        not_lacking f.tree (sym (ap (λ (t : XmlTree). reached_in Outside (root_of t)) same) ∙ sym (ap (λ (s : State). s.reached) (state_is bytes state root r tree)) ∙ reached) (record { named = f.named; lacks = f.lacks })

@@ -17,9 +17,9 @@ use Rattle.railml_read.specs.declared.progress.Frame.{Frame}
 use Rattle.railml_read.specs.Contexts.{below, below_selected, below_end}
 use Rattle.railml_read.specs.Tree.{opens, closes}
 use Rattle.railml_read.specs.Rows.{own_row, nearest, attrs_read}
-use Rattle.railml_read.specs.Formed.{may_hold, HasParent, IsPlaced, AreFormed}
+use Rattle.railml_read.specs.Formed.{may_hold, HasParent, IsRowPlaced, AreFormed}
 use Rattle.railml_read.specs.Places.{tags_at}
-use Rattle.railml_read.specs.Progress.{State, top, context_in, row_in, is_infrastructure, step, start}
+use Rattle.railml_read.specs.Progress.{State, top_frame, context_in, row_in, is_infrastructure, after_tag, start}
 
 -- ---- what is at a place
 
@@ -100,7 +100,7 @@ fits_more rows more context row h = h
 
 pub record IsFormedUpTo (s : State) (at : ℕ) : Type 0 where
   pub rising : (i j : ℕ) (a b : Elem) → i < j → slice_get s.rows i ≡ Some a → slice_get s.rows j ≡ Some b → a.at < b.at
-  pub parents : (i : ℕ) (row : Elem) → slice_get s.rows i ≡ Some row → IsPlaced s.rows i row row.kind
+  pub parents : (i : ℕ) (row : Elem) → slice_get s.rows i ≡ Some row → IsRowPlaced s.rows i row row.kind
   pub before : (i : ℕ) (row : Elem) → slice_get s.rows i ≡ Some row → row.at < at
   pub few : length s.rows ≤ at
   pub frames : (i : ℕ) (frame : Frame) → slice_get s.stack i ≡ Some frame → FitsIn s.rows frame.context frame.row
@@ -125,7 +125,7 @@ formed_later s at next le h = record {
 
 -- ---- one tag more
 
-placed_more : (rows more : List Elem) (i : ℕ) (row : Elem) (kind : ElemKind) → IsPlaced rows i row kind → IsPlaced (rows ++ more) i row kind
+placed_more : (rows more : List Elem) (i : ℕ) (row : Elem) (kind : ElemKind) → IsRowPlaced rows i row kind → IsRowPlaced (rows ++ more) i row kind
 placed_more rows more i row Track h = h
 placed_more rows more i row kind h = record { number = h.number; parent = h.parent; is = h.is; earlier = h.earlier; at = get_front rows more h.number h.parent h.at; holds = h.holds }
 
@@ -142,7 +142,7 @@ has_parent rows more row kind same h = record {
   holds = rw (h.1.kind_is, same) h.2;
 }
 
-new_placed : (rows : List Elem) (at : ℕ) (row : Option ℕ) (attrs : List Attr) (kind : ElemKind) → FitsAbove rows (Selected kind) row → IsPlaced (rows ++ row_of kind at row attrs ∷ []) (length rows) (row_of kind at row attrs) kind
+new_placed : (rows : List Elem) (at : ℕ) (row : Option ℕ) (attrs : List Attr) (kind : ElemKind) → FitsAbove rows (Selected kind) row → IsRowPlaced (rows ++ row_of kind at row attrs ∷ []) (length rows) (row_of kind at row attrs) kind
 unfolding row_of
 new_placed rows at row attrs Track h = h
 new_placed rows at row attrs kind h = has_parent rows (row_of kind at row attrs ∷ []) (row_of kind at row attrs) kind refl h
@@ -167,7 +167,7 @@ formed_row s at kind row name attrs reached h above =
       ];
       parents = λ i r e. elim (get_pushed s.rows new i r e) [
         | inl old ↦ placed_more s.rows (new ∷ []) i r r.kind (h.parents i r old)
-        | inr last ↦ subst (λ (x : Elem). IsPlaced (s.rows ++ new ∷ []) i x x.kind) last.1 (subst (λ (k : ℕ). IsPlaced (s.rows ++ new ∷ []) k new kind) (sym last.0) (new_placed s.rows at row attrs kind above))
+        | inr last ↦ subst (λ (x : Elem). IsRowPlaced (s.rows ++ new ∷ []) i x x.kind) last.1 (subst (λ (k : ℕ). IsRowPlaced (s.rows ++ new ∷ []) k new kind) (sym last.0) (new_placed s.rows at row attrs kind above))
       ];
       before = λ i r e. elim (get_pushed s.rows new i r e) [
         | inl old ↦ let low = h.before i r old in omega arith
@@ -203,17 +203,17 @@ formed_here s at Connections row name attrs reached h above = formed_frame s at 
 formed_here s at Skipped row name attrs reached h above = formed_frame s at (record { name = name; context = Skipped; row = row }) reached h tt
 formed_here s at here row name attrs reached h above = formed_frame s at (record { name = name; context = here; row = row }) reached h above
 
-top_fits : (s : State) (at : ℕ) (o : Option Frame) → top s.stack ≡ o → IsFormedUpTo s at → FitsIn s.rows (context_in o) (row_in o)
+top_fits : (s : State) (at : ℕ) (o : Option Frame) → top_frame s.stack ≡ o → IsFormedUpTo s at → FitsIn s.rows (context_in o) (row_in o)
 top_fits s at None e h = refl
 top_fits s at (Some frame) e h = h.frames (length s.stack - 1) frame e
 
-formed_opening : (s : State) (at : ℕ) (name : List ℕ) (attrs : List Attr) → IsFormedUpTo s at → IsFormedUpTo (step s (opens at name attrs)) (suc at)
+formed_opening : (s : State) (at : ℕ) (name : List ℕ) (attrs : List Attr) → IsFormedUpTo s at → IsFormedUpTo (after_tag s (opens at name attrs)) (suc at)
 formed_opening s at name attrs h =
-    let context = context_in (top s.stack) in
-    let row = row_in (top s.stack) in
-    formed_here s at (below context name) row name attrs (s.reached || is_infrastructure (below context name)) h (below_fits s.rows row name context (top_fits s at (top s.stack) refl h))
+    let context = context_in (top_frame s.stack) in
+    let row = row_in (top_frame s.stack) in
+    formed_here s at (below context name) row name attrs (s.reached || is_infrastructure (below context name)) h (below_fits s.rows row name context (top_fits s at (top_frame s.stack) refl h))
 
-formed_closing : (s : State) (at : ℕ) (name : List ℕ) → IsFormedUpTo s at → IsFormedUpTo (step s (closes name)) at
+formed_closing : (s : State) (at : ℕ) (name : List ℕ) → IsFormedUpTo s at → IsFormedUpTo (after_tag s (closes name)) at
 formed_closing s at name h = record {
   rising = h.rising;
   parents = h.parents;
@@ -222,8 +222,8 @@ formed_closing s at name h = record {
   frames = λ i f e. h.frames i f (get_taken (length s.stack - 1) s.stack i f e);
 }
 
-pub formed_item : (s : State) (at next : ℕ) (kind : ItemKind) → at < next → IsFormedUpTo s at → IsFormedUpTo (fold step s (tags_at at kind)) next
-formed_item s at next (kinds.Start name attrs true) lt h = formed_later _ (suc at) next lt (formed_closing (step s (opens at name attrs)) (suc at) name (formed_opening s at name attrs h))
+pub formed_item : (s : State) (at next : ℕ) (kind : ItemKind) → at < next → IsFormedUpTo s at → IsFormedUpTo (fold after_tag s (tags_at at kind)) next
+formed_item s at next (kinds.Start name attrs true) lt h = formed_later _ (suc at) next lt (formed_closing (after_tag s (opens at name attrs)) (suc at) name (formed_opening s at name attrs h))
 formed_item s at next (kinds.Start name attrs false) lt h = formed_later _ (suc at) next lt (formed_opening s at name attrs h)
 formed_item s at next (kinds.EndTag name) lt h = formed_later _ at next (omega arith) (formed_closing s at name h)
 formed_item s at next kind lt h = formed_later s at next (omega arith) h

@@ -20,7 +20,7 @@ use Rattle.railml_read.specs.Places.{Role, opening, closing, content, free, role
 use Rattle.railml_read.specs.Document.{IsFirstTextFault, IsTextFault, IsReadFault}
 use Rattle.railml_read.specs.declared.progress.Frame.{Frame}
 use Rattle.railml_read.specs.declared.rows.Elem.{Elem}
-use Rattle.railml_read.specs.Progress.{State, step, start, state_after, names_in, fault_in}
+use Rattle.railml_read.specs.Progress.{State, after_tag, start, state_after, names_in, fault_in}
 use Rattle.railml_read.specs.Passing.{IsReadThrough, fault_at}
 use Rattle.railml_text.proofs.OneItem.{one_item}
 use Rattle.railml_text.proofs.CutLemmas.{ComesTo-push, ComesTo-none, start_within, start_boundary}
@@ -68,19 +68,19 @@ not_first (i ∷ items) item = refl
 pub names_open : (items : List Placed) (state : State) → state ≡ state_after items → names_in state.stack ≡ open_names items
 names_open items state e = ap (λ (s : State). names_in s.stack) e ∙ names_kept (tags_in items) start
 
-pub kept_next : (bytes : List ℕ) (at next : ℕ) (first : Bool) (state after : State) (rooted root : Bool) (kind : ItemKind) → Kept bytes at first state rooted → HasSoundItem first (drop at bytes) kind (drop next bytes) → at < next → next ≤ length bytes → IsCharBoundary bytes next → None ≡ fault_in (names_in state.stack) rooted (role_of kind) → after ≡ fold step state (tags_at at kind) → root ≡ (rooted || begins_element kind) → Kept bytes next false after root
+pub kept_next : (bytes : List ℕ) (at next : ℕ) (first : Bool) (state after : State) (rooted root : Bool) (kind : ItemKind) → Kept bytes at first state rooted → HasSoundItem first (drop at bytes) kind (drop next bytes) → at < next → next ≤ length bytes → IsCharBoundary bytes next → None ≡ fault_in (names_in state.stack) rooted (role_of kind) → after ≡ fold after_tag state (tags_at at kind) → root ≡ (rooted || begins_element kind) → Kept bytes next false after root
 kept_next bytes at next first state after rooted root kind k sound lt within boundary free_of s r =
     let item : Placed = record { at = at; kind = kind } in
     let items = k.items ++ item ∷ [] in
     let here : FaultIs (names_in state.stack) rooted (role_of kind) None = subst (FaultIs (names_in state.stack) rooted (role_of kind)) (sym free_of) (fault_is (names_in state.stack) rooted (role_of kind)) in
     let names : names_in state.stack ≡ open_names k.items = names_open k.items state k.state_is in
-    let tags : state_after items ≡ fold step (state_after k.items) (tags_at at kind) = ap (λ t. fold step start t) (tags_push k.items item) ∙ fold-append step start (tags_in k.items) (tags_at at kind) in
+    let tags : state_after items ≡ fold after_tag (state_after k.items) (tags_at at kind) = ap (λ t. fold after_tag start t) (tags_push k.items item) ∙ fold-append after_tag start (tags_in k.items) (tags_at at kind) in
     record {
       items = items;
       comes_to = ComesTo-push bytes k.items at (drop at bytes) kind (drop next bytes) next k.comes_to (start_within bytes) (subst (λ (b : Bool). HasSoundItem b (drop at bytes) kind (drop next bytes)) k.first_is sound) (omega (arith, length-drop next bytes));
       first_is = not_first k.items item;
       sound = place_push [] k.items item k.sound (λ what m. here what (subst (λ (ns : List (List ℕ)). IsMisplaced ns rooted (role_of kind) what) (sym names) (subst (λ (b : Bool). IsMisplaced (open_names k.items) b (role_of kind) what) (sym k.root_is) m)));
-      state_is = s ∙ ap (λ (x : State). fold step x (tags_at at kind)) k.state_is ∙ sym tags;
+      state_is = s ∙ ap (λ (x : State). fold after_tag x (tags_at at kind)) k.state_is ∙ sym tags;
       root_is = r ∙ ap (λ (b : Bool). b || begins_element kind) k.root_is ∙ sym (root_push k.items item);
       formed = rw s (formed_item state at next kind lt k.formed);
       within = within;

@@ -9,7 +9,7 @@ use Rattle.railml_text.specs.declared.item.ItemKind.TheVariants as kinds
 use Rattle.railml_text.specs.declared.fault.TextWhat.{TextWhat}
 use Rattle.railml_text.specs.declared.fault.TextWhat.TheVariants.{EndTag, Root, AfterRoot}
 use Rattle.railml_text.specs.Cutting.{Placed}
-use Rattle.railml_read.specs.Tree.{Elements, none, element, Tree, root_of, Tag, opens, closes, tags_of}
+use Rattle.railml_read.specs.Tree.{Elements, none, element, XmlTree, root_of, Tag, opens, closes, tags_of}
 use Rattle.railml_read.specs.Places.{role_of, tags_at, tags_in, names_after, open_names, begins_element, has_root, innermost, IsRootName, IsMisplaced, AreInPlace}
 use Rattle.railml_read.proofs.Ends.{last_push, front_push, none_pushed, same_or_not}
 use Rattle.railml_read.proofs.PlaceLemmas.{names_push, root_push}
@@ -93,7 +93,7 @@ no_second none fit = refl
 no_second (element at name attrs children after) fit = let no : true ≡ false = fit.1 refl in absurd cc
 
 pub record IsRooted (elements : Elements) : Type 0 where
-  pub tree : Tree
+  pub tree : XmlTree
   pub is : elements ≡ root_of tree
   pub named : IsRootName tree.name
 

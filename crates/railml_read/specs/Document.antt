@@ -6,7 +6,7 @@ use Rattle.railml_text.specs.declared.fault.TextWhat.TheVariants.{NotUtf8, Unfin
 use Rattle.railml_text.specs.Items.{Shape, HasItem}
 use Rattle.railml_text.specs.Faults.{number_of, HasItemFault}
 use Rattle.railml_text.specs.Cutting.{Placed, ComesTo, IsCutInto, is_first}
-use Rattle.railml_read.specs.Tree.{Tree, root_of, tags_of, names_of}
+use Rattle.railml_read.specs.Tree.{XmlTree, root_of, tags_of, names_of}
 use Rattle.railml_read.specs.Rows.{rows_of}
 use Rattle.railml_read.specs.Places.{content, role_of, role_of_shape, tags_in, open_names, has_root, IsMisplaced, AreInPlace}
 use Rattle.railml_read.specs.declared.faults.ReadFault.{ReadFault}
@@ -20,7 +20,7 @@ IsFreeOutside before (item ∷ items) = (open_names before ≡ [] → role_of it
 
 -- The bytes are the items of the tree in the order of the document, with only items between them that
 -- are passed over: their tags are those of the tree, and no content stands outside of the root.
-pub record Spells (bytes : List ℕ) (tree : Tree) : Type 0 where
+pub record SpellsTree (bytes : List ℕ) (tree : XmlTree) : Type 0 where
   pub items : List Placed
   pub cut : IsCutInto bytes items
   pub tags : tags_in items ≡ tags_of (root_of tree)
@@ -62,8 +62,8 @@ pub record EndsOpen (bytes : List ℕ) (at : ℕ) : Type 0 where
 -- no item has a fault, and the root is `railml` and has no child `infrastructure`
 pub record LacksInfrastructure (bytes : List ℕ) (at : ℕ) : Type 0 where
   pub utf8 : IsUtf8 bytes
-  pub tree : Tree
-  pub spells : Spells bytes tree
+  pub tree : XmlTree
+  pub spells : SpellsTree bytes tree
   pub sound : AreInPlace [] spells.items
   pub named : tree.name ≡ codes "railml"
   pub lacks : Contains (names_of tree.children) (codes "infrastructure") → ⊥
@@ -81,8 +81,8 @@ IsTextFault bytes what at = IsFirstTextFault bytes what at
 
 -- the rows of a tree that the bytes spell
 pub record AreRows (bytes : List ℕ) (rows : List Elem) : Type 0 where
-  pub tree : Tree
-  pub spells : Spells bytes tree
+  pub tree : XmlTree
+  pub spells : SpellsTree bytes tree
   pub found : rows ≡ rows_of tree
 
 -- the text has no fault, and these are the rows of its tree

@@ -32,13 +32,13 @@ pub record HasParent (rows : List Elem) (i : ℕ) (row : Elem) : Type 0 where
   pub at : slice_get rows number ≡ Some parent
   pub holds : may_hold parent.kind row.kind ≡ true
 
-abbrev pub IsPlaced : List Elem → ℕ → Elem → ElemKind → Type 0
-IsPlaced rows i row Track = row.parent ≡ None
-IsPlaced rows i row kind = HasParent rows i row
+abbrev pub IsRowPlaced : List Elem → ℕ → Elem → ElemKind → Type 0
+IsRowPlaced rows i row Track = row.parent ≡ None
+IsRowPlaced rows i row kind = HasParent rows i row
 
 -- rows as they are read: their places rise, each has the parent that its kind asks for, and there
 -- are fewer than 2 ^ 32
 pub record AreFormed (rows : List Elem) : Type 0 where
   pub rising : (i j : ℕ) (a b : Elem) → i < j → slice_get rows i ≡ Some a → slice_get rows j ≡ Some b → a.at < b.at
-  pub parents : (i : ℕ) (row : Elem) → slice_get rows i ≡ Some row → IsPlaced rows i row row.kind
+  pub parents : (i : ℕ) (row : Elem) → slice_get rows i ≡ Some row → IsRowPlaced rows i row row.kind
   pub few : length rows < 2 ^ 32

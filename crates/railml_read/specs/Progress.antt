@@ -24,8 +24,8 @@ pub record State : Type 0 where
 abbrev pub state_of : Kept → State
 state_of kept = record { stack = kept.stack.items; rows = kept.rows.items; reached = kept.has_infrastructure }
 
-abbrev pub top : List Frame → Option Frame
-top stack = slice_get stack (length stack - 1)
+abbrev pub top_frame : List Frame → Option Frame
+top_frame stack = slice_get stack (length stack - 1)
 
 abbrev pub context_in : Option Frame → Context
 context_in None = Outside
@@ -43,25 +43,25 @@ is_infrastructure context = false
 -- number n
 abbrev pub frame_in : List Frame → List ℕ → ℕ → Frame
 frame_in stack name n =
-    let here = below (context_in (top stack)) name in
-    record { name = name; context = here; row = nearest here n (row_in (top stack)) }
+    let here = below (context_in (top_frame stack)) name in
+    record { name = name; context = here; row = nearest here n (row_in (top_frame stack)) }
 
-abbrev pub step : State → Tag → State
-step s (opens at name attrs) =
+abbrev pub after_tag : State → Tag → State
+after_tag s (opens at name attrs) =
     let frame = frame_in s.stack name (length s.rows) in
     record {
       stack = s.stack ++ frame ∷ [];
-      rows = s.rows ++ own_row frame.context at attrs (row_in (top s.stack));
+      rows = s.rows ++ own_row frame.context at attrs (row_in (top_frame s.stack));
       reached = s.reached || is_infrastructure frame.context;
     }
-step s (closes name) = record { stack = take (length s.stack - 1) s.stack; rows = s.rows; reached = s.reached }
+after_tag s (closes name) = record { stack = take (length s.stack - 1) s.stack; rows = s.rows; reached = s.reached }
 
 abbrev pub start : State
 start = record { stack = []; rows = []; reached = false }
 
 -- after the tags of these items
 abbrev pub state_after : List Placed → State
-state_after items = fold step start (tags_in items)
+state_after items = fold after_tag start (tags_in items)
 
 -- ---- where the next item stands
 

@@ -6,7 +6,7 @@ use Rattle.railml_read.specs.declared.rows.Elem.{Elem}
 use Rattle.railml_read.specs.declared.contexts.Context.{Context}
 use Rattle.railml_read.specs.declared.contexts.Context.TheVariants.{Outside, Selected}
 use Rattle.railml_read.specs.Contexts.{below}
-use Rattle.railml_read.specs.Tree.{Elements, none, element, Tree, root_of}
+use Rattle.railml_read.specs.Tree.{Elements, none, element, XmlTree, root_of}
 
 -- the text of the attribute of this name, if there is one
 abbrev pub text_named : List ℕ → List Attr → Option (List ℕ)
@@ -48,5 +48,5 @@ rows_from context parent n (element at name attrs children after) =
     own ++ (inside ++ rows_from context parent (n + length own + length inside) after)
 
 -- the selected elements of a tree, numbered from 0
-abbrev pub rows_of : Tree → List Elem
+abbrev pub rows_of : XmlTree → List Elem
 rows_of tree = rows_from Outside None 0 (root_of tree)

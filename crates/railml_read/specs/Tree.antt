@@ -9,13 +9,13 @@ pub data Elements : Type 0 where
   element : (at : ℕ) (name : List ℕ) (attrs : List Attr) (children after : Elements) → Elements
 
 -- a tree is its root
-pub record Tree : Type 0 where
+pub record XmlTree : Type 0 where
   pub at : ℕ
   pub name : List ℕ
   pub attrs : List Attr
   pub children : Elements
 
-abbrev pub root_of : Tree → Elements
+abbrev pub root_of : XmlTree → Elements
 root_of tree = element tree.at tree.name tree.attrs tree.children none
 
 pub data Tag : Type 0 where

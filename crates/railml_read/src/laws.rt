@@ -1,12 +1,12 @@
 // What holds of the definitions alone.
 ghost use Rattle.std.specs.Prelude.{◌≡◌, ℕ, List};
 ghost use Rattle.railml_text.specs.declared.fault.TextWhat.{TextWhat};
-ghost use Rattle.railml_read.specs.Tree.{Tree};
-ghost use Rattle.railml_read.specs.Document.{Spells, IsTextFault};
+ghost use Rattle.railml_read.specs.Tree.{XmlTree};
+ghost use Rattle.railml_read.specs.Document.{SpellsTree, IsTextFault};
 
 /// A document spells one tree at most.
 pub fn one_tree()
-    ensures { (bytes : List ℕ) (a b : Tree) → Spells bytes a → Spells bytes b → a ≡ b }
+    ensures { (bytes : List ℕ) (a b : XmlTree) → SpellsTree bytes a → SpellsTree bytes b → a ≡ b }
 {}
 
 /// A text has one fault at most.

@@ -3,7 +3,7 @@ ghost use Rattle.std.specs.Prelude.{◌≡◌, ◌<◌, ◌^◌, ◌-◌, ◌++�
 ghost use Rattle.railml_read.specs.Rows.{own_row, text_named as named_text, attrs_read};
 ghost use Rattle.railml_read.specs.Tree.{opens};
 ghost use Rattle.railml_read.specs.Places.{role_of, tags_at, begins_element};
-ghost use Rattle.railml_read.specs.Progress.{top, context_in, row_in, frame_in as frame_inside, is_innermost as innermost_is, fault_in, names_in, is_infrastructure, is_root_name as root_name, state_of, step};
+ghost use Rattle.railml_read.specs.Progress.{top_frame, context_in, row_in, frame_in as frame_inside, is_innermost as innermost_is, fault_in, names_in, is_infrastructure, is_root_name as root_name, state_of, after_tag};
 
 use crate::contexts::{Context, below};
 use crate::{Attrs, Elem, Records};
@@ -40,8 +40,8 @@ fn is_root_name(name: &str) -> bool
 
 /// Where the innermost open element stands, and the nearest row at or above it.
 fn innermost(stack: &[Frame]) -> (Context, Option<u32>)
-    ensures context { result.0 ≡ context_in (top stack.now) }
-    ensures row { result.1 ≡ row_in (top stack.now) }
+    ensures context { result.0 ≡ context_in (top_frame stack.now) }
+    ensures row { result.1 ≡ row_in (top_frame stack.now) }
 {
     match stack {
         [] => (Context::Outside, None),
@@ -184,7 +184,7 @@ impl Progress {
         attrs: &[Attr],
     ) -> Result<(), OutOfMemory>
         requires { length self.old.rows.items < 2 ^ 32 }
-        ensures state { OnOk result (state_of self.new ≡ step (state_of self.old) (opens at name attrs.now)) }
+        ensures state { OnOk result (state_of self.new ≡ after_tag (state_of self.old) (opens at name attrs.now)) }
         ensures root { OnOk result (self.new.has_root ≡ true) }
     {
         let (_, parent) = innermost(&self.stack);
@@ -213,7 +213,7 @@ impl Progress {
         kind: ItemKind,
     ) -> Result<(), OutOfMemory>
         requires { length self.old.rows.items < 2 ^ 32 }
-        ensures state { OnOk result (state_of self.new ≡ fold step (state_of self.old) (tags_at at kind)) }
+        ensures state { OnOk result (state_of self.new ≡ fold after_tag (state_of self.old) (tags_at at kind)) }
         ensures root { OnOk result (self.new.has_root ≡ (self.old.has_root || begins_element kind)) }
     {
         match kind {

@@ -13,7 +13,7 @@ use Rattle.std.specs.declared.alloc.Global.{Global}
 use Rattle.railml_read.specs.declared.rows.Elem.{Elem}
 use Rattle.railml_read.specs.declared.rows.ElemKind.{ElemKind}
 use Rattle.railml_read.specs.declared.rows.ElemKind.TheVariants.{Track, Topology, Begin, End, Switch, Crossing, Connection, OpenEnd, BufferStop, MacroNode}
-use Rattle.railml_read.specs.Formed.{AreFormed, HasParent, IsPlaced}
+use Rattle.railml_read.specs.Formed.{AreFormed, HasParent, IsRowPlaced}
 use Rattle.railml_topology.specs.Rows.{numbers_from, is_child_of, is_of_kind, children}
 use Rattle.railml_topology.specs.Tables.{only_of, AddsChild, ListsChildren}
 
@@ -109,7 +109,7 @@ parent_earlier rows i row p formed at has = by row.kind (formed.parents i row at
     held : HasParent rows i row → p < i
     held h = let same : p ≡ h.number = same_Some p h.number (sym has ∙ h.is) in let before : h.number < i = h.earlier in omega arith
 
-    by : (kind : ElemKind) → IsPlaced rows i row kind → p < i
+    by : (kind : ElemKind) → IsRowPlaced rows i row kind → p < i
     by Track h = absurd (none-some p (sym h ∙ has))
     by Topology h = held h
     by Begin h = held h

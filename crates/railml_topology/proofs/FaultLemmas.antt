@@ -13,7 +13,7 @@ use Rattle.railml_topology.specs.declared.attributes.Attribute.{Attribute}
 use Rattle.railml_topology.specs.declared.fault.TopologyWhat.{TopologyWhat}
 use Rattle.railml_topology.specs.declared.fault.TopologyWhat.TheVariants.{NoTracks, TooMany, Missing, Id, RepeatedId, Number, UnknownRef, NotMutual, SelfRef, EndKind, Course, Orientation, OutsideTrack}
 use Rattle.railml_topology.specs.declared.finding.TheConstants.{IN_ORDER}
-use Rattle.railml_topology.specs.Rows.{same_kind, numbers_from, track_rows, name_of, id_of}
+use Rattle.railml_topology.specs.Rows.{same_kind, numbers_from, track_rows, attribute_name, id_of}
 use Rattle.railml_topology.specs.Faults.{Lacks, HasBadId, Repeats, HasNoNumber, RefersToNone, IsNotReferredBack, RefersToItself, LacksItsParts, HasBadCourse, HasBadOrientation, LiesOutside, number_of, AreIdsDistinct}
 use Rattle.railml_topology.specs.Searching.{NoneBefore, FindsFirst}
 use Rattle.railml_topology.specs.Telling.{HasKind, HasNoneBelow, HasNone}
@@ -128,7 +128,7 @@ module _ {P Q : ℕ → Elem → Type 0} (to : (i : ℕ) (row : Elem) → P i ro
 
 module _ (rows : List Elem) (r : Option ℕ) where
   pub finds_missing : FindsFirst (λ _ row. (a : Attribute) × Lacks rows row a) rows r → FindsFirst (HasKind rows Missing) rows r
-  finds_missing = finds_as {P = λ _ row. (a : Attribute) × Lacks rows row a} {Q = HasKind rows Missing} (λ i row h. (name_of h.0, [], (h.0, h.1, refl, refl))) (λ i row h. (h.2.0, h.2.1)) rows r
+  finds_missing = finds_as {P = λ _ row. (a : Attribute) × Lacks rows row a} {Q = HasKind rows Missing} (λ i row h. (attribute_name h.0, [], (h.0, h.1, refl, refl))) (λ i row h. (h.2.0, h.2.1)) rows r
 
   pub finds_bad_id : FindsFirst (λ _ row. HasBadId row) rows r → FindsFirst (HasKind rows Id) rows r
   finds_bad_id = finds_as {P = λ _ row. HasBadId row} {Q = HasKind rows Id} (λ i row h. ([], [], (h, refl, refl))) (λ i row h. h.2.0) rows r
@@ -137,7 +137,7 @@ module _ (rows : List Elem) (r : Option ℕ) where
   finds_repeated = finds_as {P = λ i _. Repeats rows i} {Q = HasKind rows RepeatedId} (λ i row h. (h.0, [], (h.1, refl))) (λ i row h. (h.0, h.2.0)) rows r
 
   pub finds_bad_number : FindsFirst (λ _ row. (a : Attribute) × HasNoNumber row a) rows r → FindsFirst (HasKind rows Number) rows r
-  finds_bad_number = finds_as {P = λ _ row. (a : Attribute) × HasNoNumber row a} {Q = HasKind rows Number} (λ i row h. (id_of row, name_of h.0, (h.0, h.1, refl, refl))) (λ i row h. (h.2.0, h.2.1)) rows r
+  finds_bad_number = finds_as {P = λ _ row. (a : Attribute) × HasNoNumber row a} {Q = HasKind rows Number} (λ i row h. (id_of row, attribute_name h.0, (h.0, h.1, refl, refl))) (λ i row h. (h.2.0, h.2.1)) rows r
 
   pub finds_unknown_ref : FindsFirst (λ _ row. RefersToNone rows row) rows r → FindsFirst (HasKind rows UnknownRef) rows r
   finds_unknown_ref = finds_as {P = λ _ row. RefersToNone rows row} {Q = HasKind rows UnknownRef} (λ i row h. (id_of row, [], (h, refl, refl))) (λ i row h. h.2.0) rows r

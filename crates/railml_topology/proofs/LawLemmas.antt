@@ -8,7 +8,7 @@ use Rattle.railml_topology.specs.declared.attributes.Attribute.{Attribute}
 use Rattle.railml_topology.specs.declared.attributes.Attribute.TheVariants as attributes
 use Rattle.railml_topology.specs.declared.fault.TopologyWhat.{TopologyWhat}
 use Rattle.railml_topology.specs.declared.fault.TopologyWhat.TheVariants.{NoTracks, TooMany, Missing, Id, RepeatedId, Number, UnknownRef, NotMutual, SelfRef, EndKind, Course, Orientation, OutsideTrack}
-use Rattle.railml_topology.specs.Rows.{name_of, BearsId}
+use Rattle.railml_topology.specs.Rows.{attribute_name, BearsId}
 use Rattle.railml_topology.specs.Faults.{HasNoNumber, HasTopologyFault, HasFaultAt, HasNoTracks, IsTopologyFault, IsFirstTopologyFault, number_of}
 use Rattle.railml_topology.proofs.IdLemmas.{one_row}
 use Rattle.railml_topology.proofs.FaultLemmas.{one_kind}
@@ -48,10 +48,10 @@ module _ (rows : List Elem) (i : ℕ) (row : Elem) (first second one other : Lis
   one_telling TooMany h k = both h.1 h.2 k.1 k.2
   one_telling Missing h k =
       let same : h.0 ≡ k.0 = same_Some h.0 k.0 (sym h.1 ∙ k.1) in
-      (h.2 ∙ (ap name_of same ∙ sym k.2), h.3 ∙ sym k.3)
+      (h.2 ∙ (ap attribute_name same ∙ sym k.2), h.3 ∙ sym k.3)
   one_telling Id h k = both h.1 h.2 k.1 k.2
   one_telling RepeatedId h k = (one_id rows i first one h.0.here k.0.here, h.1 ∙ sym k.1)
-  one_telling Number h k = (h.2 ∙ sym k.2, h.3 ∙ (ap name_of (one_attribute row h.0 k.0 h.1 k.1) ∙ sym k.3))
+  one_telling Number h k = (h.2 ∙ sym k.2, h.3 ∙ (ap attribute_name (one_attribute row h.0 k.0 h.1 k.1) ∙ sym k.3))
   one_telling UnknownRef h k = both h.1 h.2 k.1 k.2
   one_telling NotMutual h k = (h.1 ∙ sym k.1, same_Some second other (sym h.0.refers.refers ∙ k.0.refers.refers))
   one_telling SelfRef h k = both h.1 h.2 k.1 k.2

@@ -14,7 +14,7 @@ use Rattle.railml_read.specs.declared.rows.ElemKind.TheVariants.{Topology, Begin
 use Rattle.railml_topology.specs.declared.tables.Tables.{Tables}
 use Rattle.railml_topology.specs.Rows.{all_children, children, is_of_kind}
 use Rattle.railml_topology.specs.Faults.{IsWholeTrack, HasTwoWays, HasItsParts}
-use Rattle.railml_topology.specs.Tables.{only_of, pair_of, HasEntries, HasOnlyChildren, ListsChildren, AreTablesOf, entry_in, IsWholeBy, IsListAt, HasTwoWaysAmong}
+use Rattle.railml_topology.specs.Tables.{only_of, only_pair_of, HasEntries, HasOnlyChildren, ListsChildren, AreTablesOf, entry_in, IsWholeBy, IsListAt, HasTwoWaysAmong}
 
 pub some_of : {X : Type 0} (o : Option X) → is_some o ≡ true → (x : X) × (o ≡ Some x)
 some_of None h = absurd (true≢false (sym h))
@@ -118,7 +118,7 @@ one_connection_part rows t i b tables within is = (
 )
 
 -- a list with just two entries
-pub pair_some : (list : List ℕ) (c d : ℕ) → pair_of list ≡ Some (c, d) → list ≡ c ∷ d ∷ []
+pub pair_some : (list : List ℕ) (c d : ℕ) → only_pair_of list ≡ Some (c, d) → list ≡ c ∷ d ∷ []
 pair_some [] c d h = let pair : ℕ × ℕ = (c, d) in absurd (none-some pair h)
 pair_some (e ∷ list) c d h = by (only_of list) refl h
   where
@@ -130,7 +130,7 @@ pub two_ways : (rows : List Elem) (i : ℕ) (list : List ℕ) → list ≡ all_c
 two_ways rows i list is w = record {
   one = w.one;
   other = w.other;
-  two = pair_some (children rows i Connection) w.one w.other (subst (λ l. pair_of (filter (is_of_kind rows Connection) l) ≡ Some (w.one, w.other)) is w.two);
+  two = pair_some (children rows i Connection) w.one w.other (subst (λ l. only_pair_of (filter (is_of_kind rows Connection) l) ≡ Some (w.one, w.other)) is w.two);
   differ = w.differ;
 }
 
@@ -138,7 +138,7 @@ pub two_ways_among : (rows : List Elem) (i : ℕ) (list : List ℕ) → list ≡
 two_ways_among rows i list is w = record {
   one = w.one;
   other = w.other;
-  two = ap (λ l. pair_of (filter (is_of_kind rows Connection) l)) is ∙ ap pair_of w.two;
+  two = ap (λ l. only_pair_of (filter (is_of_kind rows Connection) l)) is ∙ ap only_pair_of w.two;
   differ = w.differ;
 }
 

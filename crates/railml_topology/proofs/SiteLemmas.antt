@@ -10,7 +10,7 @@ use Rattle.plan_core.specs.declared.topology.Part.TheVariants as parts
 use Rattle.railml_read.specs.declared.rows.Elem.{Elem}
 use Rattle.railml_read.specs.declared.rows.ElemKind.{ElemKind}
 use Rattle.railml_read.specs.declared.rows.ElemKind.TheVariants as kinds
-use Rattle.railml_read.specs.Formed.{may_hold, HasParent, IsPlaced, AreFormed}
+use Rattle.railml_read.specs.Formed.{may_hold, HasParent, IsRowPlaced, AreFormed}
 use Rattle.railml_topology.specs.declared.layout.Layout.{Layout}
 use Rattle.railml_topology.specs.declared.tables.Tables.{Tables}
 use Rattle.railml_topology.specs.Rows.{same_kind, track_rows, is_of_kind, all_children, children, bears_id}
@@ -32,7 +32,7 @@ use Rattle.railml_topology.proofs.PlaceLemmas.{way_of_child}
 parent_of_row : (rows : List Elem) → AreFormed rows → (k : ℕ) (row : Elem) → slice_get rows k ≡ Some row → same_kind row.kind kinds.Track ≡ false → HasParent rows k row
 parent_of_row rows f k row is other = choose row.kind refl other (f.parents k row is)
   where
-    choose : (v : ElemKind) → row.kind ≡ v → same_kind v kinds.Track ≡ false → IsPlaced rows k row v → HasParent rows k row
+    choose : (v : ElemKind) → row.kind ≡ v → same_kind v kinds.Track ≡ false → IsRowPlaced rows k row v → HasParent rows k row
     choose kinds.Track e h p = absurd cc
     choose kinds.Topology e h p = p
     choose kinds.Begin e h p = p

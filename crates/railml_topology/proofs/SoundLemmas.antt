@@ -22,7 +22,7 @@ use Rattle.railml_read.specs.Formed.{AreFormed}
 use Rattle.railml_topology.specs.declared.attributes.Attribute.{Attribute}
 use Rattle.railml_topology.specs.declared.attributes.Attribute.TheVariants as attributes
 use Rattle.railml_topology.specs.declared.fault.TopologyWhat.TheVariants.{TooMany, Missing, Id, RepeatedId, Number, UnknownRef, NotMutual, SelfRef, EndKind, Course, Orientation}
-use Rattle.railml_topology.specs.Rows.{same_kind, track_rows, all_children, children, parent_of, bears_id, bears_position, id_of, BearsId, IsConnectionNamed, text_of, name_of, is_word, required_of, required, lacking, ReadsMetres, HasPosition}
+use Rattle.railml_topology.specs.Rows.{same_kind, track_rows, all_children, children, parent_of, bears_id, bears_position, id_of, BearsId, IsConnectionNamed, attribute_text, attribute_name, is_word, required_of, required, lacking, ReadsMetres, HasPosition}
 use Rattle.railml_topology.specs.Faults.{IsNoNumber, HasNoNumber, RefersTo, IsWholeTrack, AreOrientedAlike, HasTwoWays, HasItsParts, IsHand, IsStraight, IsCourseAt, IsConnectionOf, IsWay, HasNoFault}
 use Rattle.railml_topology.specs.Resolved.{way_word, hand_word, HasAbsPos, IsCourseOf}
 use Rattle.railml_topology.specs.Sound.{HasGoodId, IsMutual, IsConnectionOfInner, AreSoundRows}
@@ -139,10 +139,10 @@ some_text None e = absurd cc
 some_text (Some text) e = (text, refl)
 
 -- a required attribute is there
-there_is : (rows : List Elem) → HasNoFault rows → (i : ℕ) (row : Elem) → slice_get rows i ≡ Some row → (a : Attribute) → In (required rows row) a → (text : List ℕ) × (text_of a row.attrs ≡ Some text)
+there_is : (rows : List Elem) → HasNoFault rows → (i : ℕ) (row : Elem) → slice_get rows i ≡ Some row → (a : Attribute) → In (required rows row) a → (text : List ℕ) × (attribute_text a row.attrs ≡ Some text)
 there_is rows h i row is a required_a =
-    let nothing : lacking rows row ≡ [] = nothing_at (lacking rows row) (λ b lacks. h Missing row.at (name_of b) [] (record { number = i; row = row; is = is; place = refl; fault = (b, lacks, refl, refl) })) in
-    some_text (text_of a row.attrs) (none_filtered (λ (b : Attribute). is_none (text_of b row.attrs)) (required rows row) a nothing required_a)
+    let nothing : lacking rows row ≡ [] = nothing_at (lacking rows row) (λ b lacks. h Missing row.at (attribute_name b) [] (record { number = i; row = row; is = is; place = refl; fault = (b, lacks, refl, refl) })) in
+    some_text (attribute_text a row.attrs) (none_filtered (λ (b : Attribute). is_none (attribute_text b row.attrs)) (required rows row) a nothing required_a)
 
 first_in : (a : Attribute) (rest : List Attribute) → In (a ∷ rest) a
 first_in a rest = inl refl
@@ -191,11 +191,11 @@ hand_required : In (required_of kinds.Connection (Some kinds.Crossing) (Some (co
 hand_required = inr (inr (inr (inl refl)))
 
 -- what is required of a row of this kind
-require : (rows : List Elem) → HasNoFault rows → (i : ℕ) (row : Elem) → slice_get rows i ≡ Some row → (k : ElemKind) → row.kind ≡ k → (a : Attribute) → In (required_of k (option_map (λ (p : Elem). p.kind) (parent_of rows row)) row.attrs.orientation) a → (text : List ℕ) × (text_of a row.attrs ≡ Some text)
+require : (rows : List Elem) → HasNoFault rows → (i : ℕ) (row : Elem) → slice_get rows i ≡ Some row → (k : ElemKind) → row.kind ≡ k → (a : Attribute) → In (required_of k (option_map (λ (p : Elem). p.kind) (parent_of rows row)) row.attrs.orientation) a → (text : List ℕ) × (attribute_text a row.attrs ≡ Some text)
 require rows h i row is k e a required_a = there_is rows h i row is a (rw e required_a)
 
 -- what is required of a connection below a row of this kind
-require_below : (rows : List Elem) → HasNoFault rows → (i : ℕ) (row parent : Elem) (k : ElemKind) → slice_get rows i ≡ Some row → IsConnectionOf rows row k parent → (a : Attribute) → In (required_of kinds.Connection (Some k) row.attrs.orientation) a → (text : List ℕ) × (text_of a row.attrs ≡ Some text)
+require_below : (rows : List Elem) → HasNoFault rows → (i : ℕ) (row parent : Elem) (k : ElemKind) → slice_get rows i ≡ Some row → IsConnectionOf rows row k parent → (a : Attribute) → In (required_of kinds.Connection (Some k) row.attrs.orientation) a → (text : List ℕ) × (attribute_text a row.attrs ≡ Some text)
 require_below rows h i row parent k is of a required_a =
     let kind : option_map (λ (p : Elem). p.kind) (parent_of rows row) ≡ Some k = ap (λ (v : Option Elem). option_map (λ (p : Elem). p.kind) v) of.holds ∙ ap (λ (v : ElemKind). Some v) of.of_kind in
     require rows h i row is kinds.Connection of.connection a (subst (λ (v : Option ElemKind). In (required_of kinds.Connection v row.attrs.orientation) a) (sym kind) required_a)
@@ -234,7 +234,7 @@ ids_apart rows h i j id a b =
     ]
 
 no_bad_number : (rows : List Elem) → HasNoFault rows → (i : ℕ) (row : Elem) → slice_get rows i ≡ Some row → (a : Attribute) → HasNoNumber row a → ⊥
-no_bad_number rows h i row is a bad = h Number row.at (id_of row) (name_of a) (record { number = i; row = row; is = is; place = refl; fault = (a, bad, refl, refl) })
+no_bad_number rows h i row is a bad = h Number row.at (id_of row) (attribute_name a) (record { number = i; row = row; is = is; place = refl; fault = (a, bad, refl, refl) })
 
 position_of_row : (rows : List Elem) → HasNoFault rows → (i : ℕ) (row : Elem) → slice_get rows i ≡ Some row → bears_position row.kind ≡ true → (z : ℤ) × HasPosition row z
 position_of_row rows h i row is bears =

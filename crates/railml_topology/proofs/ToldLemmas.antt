@@ -9,9 +9,9 @@ use Rattle.railml_topology.specs.declared.fault.TopologyWhat.{TopologyWhat}
 use Rattle.railml_topology.specs.declared.fault.TopologyWhat.TheVariants.{NoTracks, TooMany, Missing, Id, RepeatedId, Number, UnknownRef, NotMutual, SelfRef, EndKind, Course, Orientation, OutsideTrack}
 use Rattle.railml_topology.specs.declared.finding.Finding.{Finding}
 use Rattle.railml_topology.specs.declared.telling.Told.{Told}
-use Rattle.railml_topology.specs.Rows.{track_rows, name_of, id_of}
+use Rattle.railml_topology.specs.Rows.{track_rows, attribute_name, id_of}
 use Rattle.railml_topology.specs.Faults.{RepeatsId, IsNotReferredBack, HasTopologyFault, HasFaultAt, HasNoTracks, IsTopologyFault, IsFirstTopologyFault, HasNoFault, number_of}
-use Rattle.railml_topology.specs.Telling.{HasKind, HasNone, IsLowest, first_told, IsSecond, IsFound, IsToldOf, IsFirstTold, TellsNoTracks}
+use Rattle.railml_topology.specs.Telling.{HasKind, HasNone, IsLowest, first_told, IsSecond, IsFindingOf, IsToldOf, IsFirstTold, TellsNoTracks}
 use Rattle.railml_topology.proofs.IdLemmas.{one_row, row_at}
 use Rattle.railml_topology.proofs.FaultLemmas.{numbers_from_one}
 
@@ -25,7 +25,7 @@ module _ (rows : List Elem) (i : ℕ) (row : Elem) (at : slice_get rows i ≡ So
   pub told_texts : (what : TopologyWhat) → HasKind rows what i row → first ≡ first_told rows row what → IsSecond row what second → HasTopologyFault rows what i row first second
   told_texts NoTracks h f s = absurd h.2
   told_texts TooMany h f s = (h.2.0, f, s)
-  told_texts Missing h f s = (h.2.0, h.2.1, f ∙ ap (λ o. option_map_or name_of o []) h.2.1, s)
+  told_texts Missing h f s = (h.2.0, h.2.1, f ∙ ap (λ o. option_map_or attribute_name o []) h.2.1, s)
   told_texts Id h f s = (h.2.0, f, s)
   told_texts RepeatedId h f s = (repeated h.0 h.2.0 f, s)
   told_texts Number h f s = (h.2.0, h.2.1, f, s h.2.0 h.2.1)
@@ -124,7 +124,7 @@ no_fault rows some none = λ what at first second h. by what at first second (fa
 
 -- ---- what the code knows
 
-pub told_is : (rows : List Elem) (found : Finding) (row : Elem) (first second : List ℕ) → IsFound rows found → row ≡ get_or rows found.row row → first ≡ first_told rows row found.what → IsSecond row found.what second
+pub told_is : (rows : List Elem) (found : Finding) (row : Elem) (first second : List ℕ) → IsFindingOf rows found → row ≡ get_or rows found.row row → first ≡ first_told rows row found.what → IsSecond row found.what second
     → IsToldOf rows found (record { what = found.what; at = row.at; first = first; second = second })
 told_is rows found row first second h is f s =
     let at : slice_get rows found.row ≡ Some row = row_at rows found.row row (slice_get_within rows found.row h.0 h.1) is in

@@ -11,7 +11,7 @@ use Rattle.railml_topology.specs.declared.attributes.Attribute.{Attribute}
 use Rattle.railml_topology.specs.declared.attributes.Attribute.TheVariants as attributes
 use Rattle.railml_topology.specs.declared.fault.TopologyWhat.{TopologyWhat}
 use Rattle.railml_topology.specs.declared.fault.TopologyWhat.TheVariants.{NoTracks, TooMany, Missing, Id, RepeatedId, Number, UnknownRef, NotMutual, SelfRef, EndKind, Course, Orientation, OutsideTrack}
-use Rattle.railml_topology.specs.Rows.{track_rows, all_children, children, parent_of, bears_id, bears_position, id_of, BearsId, IsConnectionNamed, name_of, lacking, ComesBefore, IsBeginBeside, IsEndBeside}
+use Rattle.railml_topology.specs.Rows.{track_rows, all_children, children, parent_of, bears_id, bears_position, id_of, BearsId, IsConnectionNamed, attribute_name, lacking, ComesBefore, IsBeginBeside, IsEndBeside}
 
 -- 3: this is the first of the required attributes that the row lacks
 abbrev pub Lacks : List Elem → Elem → Attribute → Type 0
@@ -186,10 +186,10 @@ IsUntold text = text ≡ []
 abbrev pub HasTopologyFault : List Elem → TopologyWhat → ℕ → Elem → List ℕ → List ℕ → Type 0
 HasTopologyFault rows NoTracks i row first second = ⊥
 HasTopologyFault rows TooMany i row first second = (slice_get (track_rows rows) MAX_TRACKS ≡ Some i) × IsUntold first × IsUntold second
-HasTopologyFault rows Missing i row first second = (attribute : Attribute) × Lacks rows row attribute × (first ≡ name_of attribute) × IsUntold second
+HasTopologyFault rows Missing i row first second = (attribute : Attribute) × Lacks rows row attribute × (first ≡ attribute_name attribute) × IsUntold second
 HasTopologyFault rows Id i row first second = HasBadId row × IsUntold first × IsUntold second
 HasTopologyFault rows RepeatedId i row first second = RepeatsId rows i first × IsUntold second
-HasTopologyFault rows Number i row first second = (attribute : Attribute) × HasNoNumber row attribute × (first ≡ id_of row) × (second ≡ name_of attribute)
+HasTopologyFault rows Number i row first second = (attribute : Attribute) × HasNoNumber row attribute × (first ≡ id_of row) × (second ≡ attribute_name attribute)
 HasTopologyFault rows UnknownRef i row first second = RefersToNone rows row × (first ≡ id_of row) × IsUntold second
 HasTopologyFault rows NotMutual i row first second = IsNotReferredBack rows row second × (first ≡ id_of row)
 HasTopologyFault rows SelfRef i row first second = RefersToItself row × (first ≡ id_of row) × IsUntold second

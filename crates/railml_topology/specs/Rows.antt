@@ -82,21 +82,21 @@ pub record IsConnectionNamed (rows : List Elem) (j : ℕ) (id : List ℕ) (row :
   pub connection : row.kind ≡ Connection
   pub has : row.attrs.id ≡ Some id
 
-abbrev pub text_of : Attribute → Attrs → Option (List ℕ)
-text_of Id attrs = attrs.id
-text_of Pos attrs = attrs.pos
-text_of AbsPos attrs = attrs.abs_pos
-text_of Ref attrs = attrs.reference
-text_of Orientation attrs = attrs.orientation
-text_of Course attrs = attrs.course
+abbrev pub attribute_text : Attribute → Attrs → Option (List ℕ)
+attribute_text Id attrs = attrs.id
+attribute_text Pos attrs = attrs.pos
+attribute_text AbsPos attrs = attrs.abs_pos
+attribute_text Ref attrs = attrs.reference
+attribute_text Orientation attrs = attrs.orientation
+attribute_text Course attrs = attrs.course
 
-abbrev pub name_of : Attribute → List ℕ
-name_of Id = codes "id"
-name_of Pos = codes "pos"
-name_of AbsPos = codes "absPos"
-name_of Ref = codes "ref"
-name_of Orientation = codes "orientation"
-name_of Course = codes "course"
+abbrev pub attribute_name : Attribute → List ℕ
+attribute_name Id = codes "id"
+attribute_name Pos = codes "pos"
+attribute_name AbsPos = codes "absPos"
+attribute_name Ref = codes "ref"
+attribute_name Orientation = codes "orientation"
+attribute_name Course = codes "course"
 
 abbrev pub is_word : List ℕ → Option (List ℕ) → Bool
 is_word word text = option_map_or (λ other. bytes_eq other word) text false
@@ -120,7 +120,7 @@ required rows row = required_of row.kind (option_map (λ parent. parent.kind) (p
 
 -- the required attributes that a row lacks, in their order
 abbrev pub lacking : List Elem → Elem → List Attribute
-lacking rows row = filter (λ attribute. is_none (text_of attribute row.attrs)) (required rows row)
+lacking rows row = filter (λ attribute. is_none (attribute_text attribute row.attrs)) (required rows row)
 
 -- ---- positions, in micrometres
 

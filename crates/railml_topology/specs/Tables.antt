@@ -31,9 +31,9 @@ abbrev pub HasOnlyChildren : List Elem → ElemKind → List (Option ℕ) → Ty
 HasOnlyChildren rows kind table = HasEntries (λ i (only : Option ℕ). only ≡ only_of (children rows i kind)) rows table
 
 -- the two entries of a list that has just two
-abbrev pub pair_of : List ℕ → Option (ℕ × ℕ)
-pair_of [] = None
-pair_of (c ∷ list) = option_map (λ d. (c, d)) (only_of list)
+abbrev pub only_pair_of : List ℕ → Option (ℕ × ℕ)
+only_pair_of [] = None
+only_pair_of (c ∷ list) = option_map (λ d. (c, d)) (only_of list)
 
 -- an entry of a table, if it is there and isn't empty
 abbrev pub entry_in : {X : Type 0} → List (Option X) → ℕ → Option X
@@ -130,5 +130,5 @@ AreSameWords a b = (word : List ℕ) × (a ≡ Some word) × (b ≡ Some word)
 pub record HasTwoWaysAmong (rows : List Elem) (list : List ℕ) : Type 0 where
   pub one : ℕ
   pub other : ℕ
-  pub two : pair_of (filter (is_of_kind rows Connection) list) ≡ Some (one, other)
+  pub two : only_pair_of (filter (is_of_kind rows Connection) list) ≡ Some (one, other)
   pub differ : AreOrientedAlike rows one other → ⊥

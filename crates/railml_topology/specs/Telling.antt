@@ -7,7 +7,7 @@ use Rattle.railml_topology.specs.declared.fault.TopologyWhat.{TopologyWhat}
 use Rattle.railml_topology.specs.declared.fault.TopologyWhat.TheVariants.{NoTracks, TooMany, Missing, Id, Number, NotMutual}
 use Rattle.railml_topology.specs.declared.finding.Finding.{Finding}
 use Rattle.railml_topology.specs.declared.telling.Told.{Told}
-use Rattle.railml_topology.specs.Rows.{lacking, name_of, id_of}
+use Rattle.railml_topology.specs.Rows.{lacking, attribute_name, id_of}
 use Rattle.railml_topology.specs.Faults.{HasTopologyFault, HasNoNumber, IsFirstTopologyFault, number_of}
 use Rattle.railml_topology.specs.Searching.{NoneBefore, IsFirst}
 
@@ -36,13 +36,13 @@ FindsLowest rows (Some found) = IsLowest rows found.what found.row
 abbrev pub first_told : List Elem → Elem → TopologyWhat → List ℕ
 first_told rows row NoTracks = []
 first_told rows row TooMany = []
-first_told rows row Missing = option_map_or name_of (slice_get (lacking rows row) 0) []
+first_told rows row Missing = option_map_or attribute_name (slice_get (lacking rows row) 0) []
 first_told rows row Id = []
 first_told rows row what = id_of row
 
 -- the text that is told second
 abbrev pub IsSecond : Elem → TopologyWhat → List ℕ → Type 0
-IsSecond row Number second = (attribute : Attribute) → HasNoNumber row attribute → second ≡ name_of attribute
+IsSecond row Number second = (attribute : Attribute) → HasNoNumber row attribute → second ≡ attribute_name attribute
 IsSecond row NotMutual second = (name : List ℕ) → row.attrs.reference ≡ Some name → second ≡ name
 IsSecond row what second = second ≡ []
 
@@ -55,8 +55,8 @@ pub record IsToldOf (rows : List Elem) (found : Finding) (told : Told) : Type 0 
   pub fault : HasTopologyFault rows found.what found.row row told.first told.second
 
 -- the row that a fault is told of has it
-abbrev pub IsFound : List Elem → Finding → Type 0
-IsFound rows found = (row : Elem) × (slice_get rows found.row ≡ Some row) × HasKind rows found.what found.row row
+abbrev pub IsFindingOf : List Elem → Finding → Type 0
+IsFindingOf rows found = (row : Elem) × (slice_get rows found.row ≡ Some row) × HasKind rows found.what found.row row
 
 -- the first fault of rows
 abbrev pub IsFirstTold : List Elem → Told → Type 0

@@ -2,7 +2,7 @@
 ghost use Rattle.std.specs.Prelude.{◌≡◌, ◌≢◌, ◌<◌, ◌^◌, ℕ, [], ◌∷◌, ◌++◌, IfOk, OnOk, Some, slice_get, vec_len, filter};
 ghost use Rattle.railml_read.specs.Formed.{AreFormed};
 ghost use Rattle.railml_topology.specs.Rows.{is_of_kind as of_kind};
-ghost use Rattle.railml_topology.specs.Tables.{only_of, pair_of, HasOnlyChildren, ListsChildren, AddsChild};
+ghost use Rattle.railml_topology.specs.Tables.{only_of, only_pair_of, HasOnlyChildren, ListsChildren, AddsChild};
 
 use crate::rows::is_of_kind;
 use plan_core::OutOfMemory;
@@ -63,7 +63,7 @@ pub(crate) fn only_of_kind(rows: &[Elem], numbers: &[u32], kind: ElemKind) -> Op
 
 /// The only two of these rows that are of a kind, if there are just two.
 pub(crate) fn two_of_kind(rows: &[Elem], numbers: &[u32], kind: ElemKind) -> Option<(u32, u32)>
-    ensures { result ≡ pair_of (filter (of_kind rows.now kind) numbers.now) }
+    ensures { result ≡ only_pair_of (filter (of_kind rows.now kind) numbers.now) }
 {
     for (i, number) in numbers.iter().enumerate() {
         if is_of_kind(rows, *number, kind) {

@@ -1,7 +1,7 @@
 // Required attributes that are missing.
 ghost use Rattle.std.specs.Prelude.{◌≡◌, slice_get, length, filter};
 ghost use Rattle.std.specs.Option.{option_copied, option_map, is_none};
-ghost use Rattle.railml_topology.specs.Rows.{text_of as attribute_text, name_of as attribute_name, required_of, lacking};
+ghost use Rattle.railml_topology.specs.Rows.{attribute_text, attribute_name, required_of, lacking};
 ghost use Rattle.railml_topology.specs.Faults.{Lacks};
 ghost use Rattle.railml_topology.specs.Searching.{FindsFirst};
 ghost use Rattle.railml_topology.specs.declared.attributes.Attribute.{Attribute as Named};

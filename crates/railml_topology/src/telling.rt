@@ -3,7 +3,7 @@ ghost use Rattle.std.specs.Prelude.{◌≡◌, IfOk, MatchOption};
 ghost use Rattle.railml_read.specs.Formed.{AreFormed};
 ghost use Rattle.railml_topology.specs.Faults.{HasNoFault};
 ghost use Rattle.railml_topology.specs.Tables.{AreTablesOf};
-ghost use Rattle.railml_topology.specs.Telling.{first_told, IsSecond, IsFound, IsToldOf, IsFirstTold, TellsNoTracks};
+ghost use Rattle.railml_topology.specs.Telling.{first_told, IsSecond, IsFindingOf, IsToldOf, IsFirstTold, TellsNoTracks};
 
 use crate::TopologyWhat;
 use crate::finding::{Finding, first_finding};
@@ -65,7 +65,7 @@ fn copy(alloc: Global, text: &str) -> Result<Text, OutOfMemory>
 
 /// What is told of a fault that was found.
 fn tell(alloc: Global, rows: &[Elem], found: Finding) -> Result<Told, OutOfMemory>
-    requires { IsFound rows.now found }
+    requires { IsFindingOf rows.now found }
     ensures { IfOk result (λ told. IsToldOf rows.now found told) }
 {
     let row = &rows[found.row];

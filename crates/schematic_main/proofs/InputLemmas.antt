@@ -6,7 +6,7 @@ use Rattle.plan_core.specs.declared.limits.TheConstants.{MAX_FILE_BYTES}
 use Rattle.plan_core.specs.Graph.{Graph as TrackGraph}
 use Rattle.railml_text.specs.declared.fault.TextWhat.{TextWhat}
 use Rattle.railml_read.specs.declared.rows.Elem.{Elem}
-use Rattle.railml_read.specs.Tree.{Tree}
+use Rattle.railml_read.specs.Tree.{XmlTree}
 use Rattle.railml_read.specs.Rows.{rows_of}
 use Rattle.railml_read.specs.Document.{IsTextFault}
 use Rattle.railml_read.proofs.FaultLemmas.{one_tree, one_fault as one_text_fault}
@@ -33,7 +33,7 @@ one_rows : (bytes : List ℕ) (a b : List Elem) → HasRows bytes a → HasRows 
 one_rows bytes a b p q =
     let one = p.gives.are_rows in
     let other = q.gives.are_rows in
-    one.found ∙ ap (λ (t : Tree). rows_of t) (one_tree bytes one.tree other.tree one.spells other.spells) ∙ sym other.found
+    one.found ∙ ap (λ (t : XmlTree). rows_of t) (one_tree bytes one.tree other.tree one.spells other.spells) ∙ sym other.found
 
 one_topology : (bytes : List ℕ) (t u : Tracks) → HasTopology bytes t → HasTopology bytes u → t ≡ u
 one_topology bytes t u a b =
