@@ -21,7 +21,7 @@ use Rattle.cnf_core.proofs.SettingLemmas.{same_none, extends_both, extends_weake
 use Rattle.order_int.specs.IntVars.{IntVars, size, IntIsThere}
 use Rattle.order_int.specs.OrderInt.{Reads, number, int_clauses}
 use Rattle.order_int.proofs.IntLemmas.{int_means, int_holds, int_extends, int_there, reads_same}
-use Rattle.edge_shape.specs.EdgeVars.{NodeInts, EdgeLits, EdgeSpot, lits_of, edge_lits, edge_size, IsPlaced, LieBefore}
+use Rattle.edge_shape.specs.EdgeVars.{NodeInts, EdgeLits, EdgeSpot, lits_of, edge_lits, edge_size, EdgeIsPlaced, LieBefore}
 use Rattle.edge_shape.specs.ReadsLine.{ReadsLine, LineIsRead}
 use Rattle.edge_lines.specs.Joins.{JoinsPoints}
 use Rattle.edge_lines.proofs.GridLemmas.{on_grid_heights}
@@ -30,9 +30,9 @@ use Rattle.edge_shape.proofs.LineExtends.{rows_of, line_extends}
 use Rattle.edge_shape.proofs.PlaceLemmas.{blocks, column_there, inside_there, height_there, whole_literals}
 use Rattle.edge_shape.proofs.SizeLemmas.{edge_there}
 use Rattle.drawing_cnf.specs.Stands.{DrawingVars, ReadsPoint, ReadsShape, ReadsDrawing, IsLoose}
-use Rattle.drawing_cnf.specs.Rank.{rank}
+use Rattle.drawing_cnf.specs.Rank.{west_rank}
 use Rattle.drawing_cnf.proofs.RankLemmas.{IsAtPlace, rank_below, rank_once, at_place}
-use Rattle.drawing_cnf.specs.Expected.{node_at, edges_first, edge_first, drawing_vars, laws_first, node_clauses, edge_part, base_clauses}
+use Rattle.drawing_cnf.specs.Expected.{row_ints, edges_first, edge_first, drawing_vars, laws_first, node_clauses, edge_part, base_clauses}
 use Rattle.drawing_cnf.proofs.ThereLemmas.{AreVars, EdgeThere, WholeThere}
 use Rattle.drawing_cnf.proofs.InstanceLemmas.{shape_stays}
 
@@ -53,9 +53,9 @@ shape_of v e width l r = record {
 abbrev pub point_of : Assignment → NodeInts → Point
 point_of v n = record { x = number v n.x; y = number v n.y }
 
-node_means : (v : Assignment) (grid : GridSize) (n : ℕ) → SatisfiesAll v (node_clauses (node_at grid n)) → ReadsPoint v (node_at grid n) (point_of v (node_at grid n))
+node_means : (v : Assignment) (grid : GridSize) (n : ℕ) → SatisfiesAll v (node_clauses (row_ints grid n)) → ReadsPoint v (row_ints grid n) (point_of v (row_ints grid n))
 node_means v grid n h =
-    let i = node_at grid n in
+    let i = row_ints grid n in
     record {
       x = int_means v i.x (omega arith) (satisfies_right v (int_clauses i.y) (int_clauses i.x) h);
       y = int_means v i.y (omega arith) (satisfies_left v (int_clauses i.y) (int_clauses i.x) h);
@@ -116,7 +116,7 @@ base_means v g grid is size h = record {
     m = length g.edges
 
     node_reads : (k : ℕ) → k < n → ReadsPoint v (x.node k) (point_of v (x.node k))
-    node_reads k lt = node_means v grid (rank g k) (satisfies_at v (λ j. node_clauses (x.node j)) 0 n (satisfies_left v (each (λ j. node_clauses (x.node j)) 0 n) (each (edge_part g x grid) 0 m) h) k (omega arith) (omega arith))
+    node_reads k lt = node_means v grid (west_rank g k) (satisfies_at v (λ j. node_clauses (x.node j)) 0 n (satisfies_left v (each (λ j. node_clauses (x.node j)) 0 n) (each (edge_part g x grid) 0 m) h) k (omega arith) (omega arith))
 
     edge_reads : (e : ℕ) → e < m → LineIsRead v (x.edge e) grid.width grid.height grid.least (point_of v (x.node (edge g e).west)) (point_of v (x.node (edge g e).east))
     edge_reads e lt =
@@ -169,15 +169,15 @@ lawful_loose g above grid d is h = record {
 abbrev pub base_last : Graph → GridSize → ℕ
 base_last g grid = laws_first g grid - 1
 
-pub edge_spot_in : (g : Graph) (grid : GridSize) (e : ℕ) → IsGrid grid → laws_first g grid ≤ VARS + 1 → e < length g.edges → IsPlaced (edge_first g grid e) grid.height grid.width × (edge_first g grid e + edge_size grid.height grid.width ≤ laws_first g grid)
+pub edge_spot_in : (g : Graph) (grid : GridSize) (e : ℕ) → IsGrid grid → laws_first g grid ≤ VARS + 1 → e < length g.edges → EdgeIsPlaced (edge_first g grid e) grid.height grid.width × (edge_first g grid e + edge_size grid.height grid.width ≤ laws_first g grid)
 edge_spot_in g grid e is few lt =
     let all = blocks (edge_size grid.height grid.width) (length g.edges) e lt in
     (record { spot = record { from = omega arith; rows = is.height_limit; some_columns = is.some_width; columns = is.width_limit }; to = omega arith }, omega arith)
 
-pub node_spot : (g : Graph) (grid : GridSize) (n : ℕ) → n < length g.nodes → 1 + rank g n * (grid.height + grid.width) + grid.height + grid.width ≤ edges_first g grid
-node_spot g grid n lt = let all = blocks (grid.height + grid.width) (length g.nodes) (rank g n) (rank_below g n lt) in omega arith
+pub node_spot : (g : Graph) (grid : GridSize) (n : ℕ) → n < length g.nodes → 1 + west_rank g n * (grid.height + grid.width) + grid.height + grid.width ≤ edges_first g grid
+node_spot g grid n lt = let all = blocks (grid.height + grid.width) (length g.nodes) (west_rank g n) (rank_below g n lt) in omega arith
 
-edge_literals : (first high width vars : ℕ) → IsPlaced first high width → first + edge_size high width ≤ vars + 1 → EdgeThere vars (edge_lits first high width) width
+edge_literals : (first high width vars : ℕ) → EdgeIsPlaced first high width → first + edge_size high width ≤ vars + 1 → EdgeThere vars (edge_lits first high width) width
 edge_literals first high width vars p to =
     let w = whole_literals first high width vars p.spot to in
     record {
@@ -215,17 +215,17 @@ base_there g grid is size few =
 abbrev pub node_place : GridSize → ℕ → ℕ
 node_place grid k = 1 + k * (grid.height + grid.width)
 
-point_kept : (grid : GridSize) (k : ℕ) (p : Point) (v w : Assignment) → ((y : ℕ) → y < node_place grid (k + 1) → w y ≡ v y) → ReadsPoint v (node_at grid k) p → ReadsPoint w (node_at grid k) p
+point_kept : (grid : GridSize) (k : ℕ) (p : Point) (v w : Assignment) → ((y : ℕ) → y < node_place grid (k + 1) → w y ≡ v y) → ReadsPoint v (row_ints grid k) p → ReadsPoint w (row_ints grid k) p
 point_kept grid k p v w same r =
     let one : (k + 1) * (grid.height + grid.width) ≡ k * (grid.height + grid.width) + (grid.height + grid.width) = omega arith in
     record {
-      x = reads_same v w (node_at grid k).x p.x (λ y from to. same y (omega arith)) r.x;
-      y = reads_same v w (node_at grid k).y p.y (λ y from to. same y (omega arith)) r.y;
+      x = reads_same v w (row_ints grid k).x p.x (λ y from to. same y (omega arith)) r.x;
+      y = reads_same v w (row_ints grid k).y p.y (λ y from to. same y (omega arith)) r.y;
     }
 
-point_extends : (grid : GridSize) (k : ℕ) (p : Point) (v : Assignment) → p.x ≤ grid.width → p.y ≤ grid.height → Extends (node_place grid k) (grid.height + grid.width) v (λ w. ReadsPoint w (node_at grid k) p)
+point_extends : (grid : GridSize) (k : ℕ) (p : Point) (v : Assignment) → p.x ≤ grid.width → p.y ≤ grid.height → Extends (node_place grid k) (grid.height + grid.width) v (λ w. ReadsPoint w (row_ints grid k) p)
 point_extends grid k p v wide high =
-    let i = node_at grid k in
+    let i = row_ints grid k in
     let rows : size i.y ≡ grid.height = omega arith in
     let columns : size i.x ≡ grid.width = omega arith in
     extends_both (node_place grid k) grid.height grid.width v (λ w. Reads w i.y p.y) (λ w. ReadsPoint w i p)
@@ -235,13 +235,13 @@ point_extends grid k p v wide high =
     (subst (λ count. Extends (node_place grid k + grid.height) count w (λ u. Reads u i.x p.x)) columns (int_extends w i.x p.x (omega arith) wide)))
 
 abbrev pub NodesAreRead : Graph → GridSize → Drawing → Assignment → Type 0
-NodesAreRead g grid d w = (n : ℕ) → n < length g.nodes → ReadsPoint w (node_at grid (rank g n)) (place d n)
+NodesAreRead g grid d w = (n : ℕ) → n < length g.nodes → ReadsPoint w (row_ints grid (west_rank g n)) (place d n)
 
 nodes_extend : (g : Graph) (grid : GridSize) (d : Drawing) (v : Assignment) → IsLoose g grid d → Extends 1 (length g.nodes * (grid.height + grid.width)) v (NodesAreRead g grid d)
 nodes_extend g grid d v loose =
     let zero_first : node_place grid 0 ≡ 1 = omega arith in
     subst (λ first. Extends first (n * step) v (NodesAreRead g grid d)) zero_first
-    (extends_weaker (node_place grid 0) (n * step) v (λ w. (k : ℕ) → k < n → Q k w) (NodesAreRead g grid d) (λ w same h j lt. h (rank g j) (rank_below g j lt) j lt refl)
+    (extends_weaker (node_place grid 0) (n * step) v (λ w. (k : ℕ) → k < n → Q k w) (NodesAreRead g grid d) (λ w same h j lt. h (west_rank g j) (rank_below g j lt) j lt refl)
     (each_extends (node_place grid) (λ k. step) next (λ w. ⊤) (λ u w same h. tt) Q keeps n (n * step) (omega arith) one v tt))
   where
     step : ℕ
@@ -252,18 +252,18 @@ nodes_extend g grid d v loose =
 
     -- the node at the place, if there is one, is read
     Q : ℕ → Assignment → Type 0
-    Q k w = (j : ℕ) → j < n → rank g j ≡ k → ReadsPoint w (node_at grid (rank g j)) (place d j)
+    Q k w = (j : ℕ) → j < n → west_rank g j ≡ k → ReadsPoint w (row_ints grid (west_rank g j)) (place d j)
 
     next : (k : ℕ) → node_place grid (k + 1) ≡ node_place grid k + step
     next k = let more : (k + 1) * (grid.height + grid.width) ≡ k * (grid.height + grid.width) + (grid.height + grid.width) = omega arith in omega arith
 
     keeps : (k : ℕ) (u w : Assignment) → ((y : ℕ) → y < node_place grid (k + 1) → w y ≡ u y) → Q k u → Q k w
-    keeps k u w same h j lt e = point_kept grid (rank g j) (place d j) u w (subst (λ i. (y : ℕ) → y < node_place grid (i + 1) → w y ≡ u y) (sym e) same) (h j lt e)
+    keeps k u w same h j lt e = point_kept grid (west_rank g j) (place d j) u w (subst (λ i. (y : ℕ) → y < node_place grid (i + 1) → w y ≡ u y) (sym e) same) (h j lt e)
 
-    here : (k i j : ℕ) (w : Assignment) → IsAtPlace g k i → j < n → rank g j ≡ k → ReadsPoint w (node_at grid k) (place d i) → ReadsPoint w (node_at grid (rank g j)) (place d j)
+    here : (k i j : ℕ) (w : Assignment) → IsAtPlace g k i → j < n → west_rank g j ≡ k → ReadsPoint w (row_ints grid k) (place d i) → ReadsPoint w (row_ints grid (west_rank g j)) (place d j)
     here k i j w at lt e r =
-        subst (λ o. ReadsPoint w (node_at grid o) (place d j)) (sym e)
-        (subst (λ o. ReadsPoint w (node_at grid k) (place d o)) (rank_once g i j at.within lt (at.place ∙ sym e)) r)
+        subst (λ o. ReadsPoint w (row_ints grid o) (place d j)) (sym e)
+        (subst (λ o. ReadsPoint w (row_ints grid k) (place d o)) (rank_once g i j at.within lt (at.place ∙ sym e)) r)
 
     one : (k : ℕ) (u : Assignment) → k < n → ⊤ → Extends (node_place grid k) step u (Q k)
     one k u lt h = elim (at_place g k) [
@@ -271,7 +271,7 @@ nodes_extend g grid d v loose =
           let i = found.0 in
           let at = found.1 in
           let on = loose.on_grid i at.within in
-          extends_weaker (node_place grid k) step u (λ w. ReadsPoint w (node_at grid k) (place d i)) (Q k) (λ w same r j in_j e. here k i j w at in_j e r)
+          extends_weaker (node_place grid k) step u (λ w. ReadsPoint w (row_ints grid k) (place d i)) (Q k) (λ w same r j in_j e. here k i j w at in_j e r)
           (point_extends grid k (place d i) u on.in_width on.in_height)
       | inr none ↦ record { to = u; same = same_none (node_place grid k) step u; holds = λ j in_j e. absurd (none j in_j e) }
     ]
@@ -285,7 +285,7 @@ pub record BaseHolds (w : Assignment) (g : Graph) (grid : GridSize) (d : Drawing
   pub reads : ReadsDrawing w g (drawing_vars g grid) grid.width d
   pub satisfies : SatisfiesAll w (base_clauses g (drawing_vars g grid) grid)
 
-before_edges : (g : Graph) (grid : GridSize) (k e : ℕ) → k < length g.nodes → LieBefore (edge_first g grid e) (node_at grid (rank g k))
+before_edges : (g : Graph) (grid : GridSize) (k e : ℕ) → k < length g.nodes → LieBefore (edge_first g grid e) (row_ints grid (west_rank g k))
 before_edges g grid k e lt = let s = node_spot g grid k lt in record { x = omega arith; y = omega arith }
 
 edges_extend : (g : Graph) (grid : GridSize) (d : Drawing) (v : Assignment) → IsTrackGraph g → IsGrid grid → laws_first g grid ≤ VARS + 1 → IsLoose g grid d → NodesAreRead g grid d v → Extends (edges_first g grid) (length g.edges * edge_size grid.height grid.width) v (λ w. (e : ℕ) → e < length g.edges → EdgeHolds w g grid d e)
@@ -311,7 +311,7 @@ edges_extend g grid d v is size few loose nodes =
     next k = let more : (k + 1) * step ≡ k * step + step = omega arith in omega arith
 
     stays : (u w : Assignment) → ((y : ℕ) → y < edge_first g grid 0 → w y ≡ u y) → NodesAreRead g grid d u → NodesAreRead g grid d w
-    stays u w same h k lt = point_kept grid (rank g k) (place d k) u w (λ y below. same y (let s = node_spot g grid k lt in let more : (rank g k + 1) * (grid.height + grid.width) ≡ rank g k * (grid.height + grid.width) + (grid.height + grid.width) = omega arith in omega arith)) (h k lt)
+    stays u w same h k lt = point_kept grid (west_rank g k) (place d k) u w (λ y below. same y (let s = node_spot g grid k lt in let more : (west_rank g k + 1) * (grid.height + grid.width) ≡ west_rank g k * (grid.height + grid.width) + (grid.height + grid.width) = omega arith in omega arith)) (h k lt)
 
     keeps : (e : ℕ) (u w : Assignment) → ((y : ℕ) → y < edge_first g grid (e + 1) → w y ≡ u y) → Q e u → Q e w
     keeps e u w same h lt =
@@ -349,7 +349,7 @@ base_extends g grid d v is size few loose =
     subst (λ t. Extends 1 t v (λ w. BaseHolds w g grid d)) total
     (extends_both 1 (n * (grid.height + grid.width)) (m * edge_size grid.height grid.width) v (NodesAreRead g grid d) (λ w. BaseHolds w g grid d) (nodes_extend g grid d v loose)
     (λ w same nodes. extends_weaker (edges_first g grid) (m * edge_size grid.height grid.width) w (λ u. (e : ℕ) → e < m → EdgeHolds u g grid d e) (λ u. BaseHolds u g grid d)
-    (λ u later edges. both u (λ k lt. point_kept grid (rank g k) (place d k) w u (λ y below. later.below y (let s = node_spot g grid k lt in let more : (rank g k + 1) * (grid.height + grid.width) ≡ rank g k * (grid.height + grid.width) + (grid.height + grid.width) = omega arith in omega arith)) (nodes k lt)) edges)
+    (λ u later edges. both u (λ k lt. point_kept grid (west_rank g k) (place d k) w u (λ y below. later.below y (let s = node_spot g grid k lt in let more : (west_rank g k + 1) * (grid.height + grid.width) ≡ west_rank g k * (grid.height + grid.width) + (grid.height + grid.width) = omega arith in omega arith)) (nodes k lt)) edges)
     (edges_extend g grid d w is size few loose nodes)))
   where
     n : ℕ
@@ -370,13 +370,13 @@ base_extends g grid d v is size few loose =
     }
 
 -- the six variables of the whole line are there
-pub edge_whole : (e : EdgeSpot) (vars : ℕ) → IsPlaced e.first e.high e.width → e.first + edge_size e.high e.width ≤ vars + 1 → WholeThere vars (lits_of e)
+pub edge_whole : (e : EdgeSpot) (vars : ℕ) → EdgeIsPlaced e.first e.high e.width → e.first + edge_size e.high e.width ≤ vars + 1 → WholeThere vars (lits_of e)
 edge_whole e vars p to = (edge_literals e.first e.high e.width vars p to).whole
 
 pub spot_within : (g : Graph) (grid : GridSize) (e : ℕ) → e < length g.edges → edge_first g grid e + edge_size grid.height grid.width ≤ laws_first g grid
 spot_within g grid e lt = let all = blocks (edge_size grid.height grid.width) (length g.edges) e lt in omega arith
 
-pub node_x_there : (g : Graph) (grid : GridSize) (n vars : ℕ) (i : IntVars) → n < length g.nodes → laws_first g grid ≤ vars + 1 → i ≡ (node_at grid (rank g n)).x → IntIsThere vars i
+pub node_x_there : (g : Graph) (grid : GridSize) (n vars : ℕ) (i : IntVars) → n < length g.nodes → laws_first g grid ≤ vars + 1 → i ≡ (row_ints grid (west_rank g n)).x → IntIsThere vars i
 node_x_there g grid n vars i lt few e =
     let s = node_spot g grid n lt in
     subst (λ (k : IntVars). IntIsThere vars k) (sym e) (record { from = omega arith; to = omega arith })

@@ -16,7 +16,7 @@ use Rattle.cnf_core.specs.Formula.{each}
 use Rattle.cnf_core.proofs.ClauseLemmas.{satisfies_append, satisfies_left, satisfies_right, satisfies_each, satisfies_at, all_there_append, all_there_each, all_there_more}
 use Rattle.cnf_core.proofs.GatherLemmas.{value-flip, flip_within, clause_says, clause_holds, clause_there}
 use Rattle.cnf_core.proofs.SettingLemmas.{patch, patch_at, extends_weaker}
-use Rattle.unary_sum.specs.Sum.{SumVars, sum_vars, sum_count, sum_clauses, count_true, top, tree_of, at_least as sum_at_least}
+use Rattle.unary_sum.specs.Sum.{SumVars, sum_vars, sum_count, sum_clauses, count_true, tree_top, tree_of, sum_at_least as sum_at_least}
 use Rattle.unary_sum.proofs.JoinLemmas.{at_within}
 use Rattle.unary_sum.proofs.SumLemmas.{sum_means, sum_extends, sum_there, top_there, tree_there}
 use Rattle.edge_lines.proofs.RunLemmas.{one_if}
@@ -94,7 +94,7 @@ sum_bound_extends v inputs last cap vars there le exact =
 pub output_within : (inputs : List Literal) (most vars k : ℕ) → AreThere vars inputs → IsWithin (vars + sum_count (sum_vars inputs most vars)) (sum_at_least (sum_vars inputs most vars) k)
 output_within inputs most vars k there =
     let t = tree_of (length inputs) inputs in
-    at_within (vars + sum_count (sum_vars inputs most vars)) (top most vars t) k (top_there most vars t (tree_there vars (length inputs) inputs there))
+    at_within (vars + sum_count (sum_vars inputs most vars)) (tree_top most vars t) k (top_there most vars t (tree_there vars (length inputs) inputs there))
 
 pub sum_bound_there : (inputs : List Literal) (last cap vars : ℕ) → AreThere vars inputs → last + cap ≤ vars → AllThere (vars + sum_count (sum_vars inputs cap vars)) (sum_bound (sum_vars inputs cap vars) last)
 sum_bound_there inputs last cap vars there le =

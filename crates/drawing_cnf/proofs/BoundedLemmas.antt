@@ -13,11 +13,11 @@ use Rattle.cnf_core.specs.declared.limits.TheConstants.{VARS}
 use Rattle.cnf_core.specs.Clause.{Clauses, AllThere}
 use Rattle.cnf_core.specs.Assignment.{Assignment, SatisfiesAll, Extends}
 use Rattle.cnf_core.proofs.ClauseLemmas.{satisfies_append, satisfies_left, satisfies_right, satisfies_all_same, all_there_append, all_there_more}
-use Rattle.drawing_cnf.specs.Stands.{DrawingVars, Stands}
+use Rattle.drawing_cnf.specs.Stands.{DrawingVars, StandsFor}
 use Rattle.drawing_cnf.specs.LawClauses.{laws_clauses}
 use Rattle.drawing_cnf.specs.Expected.{drawing_vars, laws_first, base_clauses, expected_clauses, expected_size, instances, ModelOf, Covers}
 use Rattle.drawing_cnf.specs.Bounds.{IsExact, bound_clauses, bound_size, west_first}
-use Rattle.drawing_cnf.specs.Bounded.{Bound, bound, clauses_of, size_of, bounds_clauses, bounds_from, expected_bounds, expected, AreBehind, Tells, StandsAndTells, SoundWith}
+use Rattle.drawing_cnf.specs.Bounded.{Bound, bound, clauses_of_bound, size_of_bound, bounds_clauses, bounds_from, expected_bounds, expected, AreBehind, Tells, StandsAndTells, SoundWith}
 use Rattle.drawing_cnf.proofs.ThereLemmas.{AreVars}
 use Rattle.drawing_cnf.proofs.OverLemmas.{Read}
 use Rattle.drawing_cnf.proofs.InstanceLemmas.{AreInstances, laws_there, read_stays}
@@ -53,8 +53,8 @@ bounds_tell : (v : Assignment) (g : Graph) (x : DrawingVars) (grid : GridSize) (
 bounds_tell v g x grid d [] r h = All-nil (λ (b : Bound). IsExact v b.last b.cap (value_of (values_of d) b.criterion))
 bounds_tell v g x grid d (b ∷ rest) r h =
     All-cons (λ (b : Bound). IsExact v b.last b.cap (value_of (values_of d) b.criterion)) b rest
-    (bound_exact v g x grid d b.last b.cap b.criterion r (satisfies_left v (clauses_of g x grid b) (bounds_clauses g x grid rest) h))
-    (bounds_tell v g x grid d rest r (satisfies_right v (clauses_of g x grid b) (bounds_clauses g x grid rest) h))
+    (bound_exact v g x grid d b.last b.cap b.criterion r (satisfies_left v (clauses_of_bound g x grid b) (bounds_clauses g x grid rest) h))
+    (bounds_tell v g x grid d rest r (satisfies_right v (clauses_of_bound g x grid b) (bounds_clauses g x grid rest) h))
 
 -- an assignment still reads the drawing, and satisfies these clauses too
 pub record StillReads (v : Assignment) (g : Graph) (x : DrawingVars) (grid : GridSize) (d : Drawing) (clauses : Clauses) : Type 0 where
@@ -62,21 +62,21 @@ pub record StillReads (v : Assignment) (g : Graph) (x : DrawingVars) (grid : Gri
   pub read : Read to g x grid d
   pub satisfies : SatisfiesAll to clauses
 
-one_behind : (v : Assignment) (g : Graph) (x : DrawingVars) (grid : GridSize) (d : Drawing) (clauses : Clauses) (b : Bound) (vars last : ℕ) → AreVars vars g x grid.width → vars ≤ last → last ≤ b.last → AllThere last clauses → Read v g x grid d → SatisfiesAll v clauses → StillReads v g x grid d (clauses ++ clauses_of g x grid b)
+one_behind : (v : Assignment) (g : Graph) (x : DrawingVars) (grid : GridSize) (d : Drawing) (clauses : Clauses) (b : Bound) (vars last : ℕ) → AreVars vars g x grid.width → vars ≤ last → last ≤ b.last → AllThere last clauses → Read v g x grid d → SatisfiesAll v clauses → StillReads v g x grid d (clauses ++ clauses_of_bound g x grid b)
 one_behind v g x grid d clauses b vars last a le behind there r h =
-    let e : Extends (b.last + 1) (size_of g x grid b) v (λ w. SatisfiesAll w (clauses_of g x grid b)) = bound_extends v vars g x grid d b.last b.cap b.criterion a (omega arith) r in
+    let e : Extends (b.last + 1) (size_of_bound g x grid b) v (λ w. SatisfiesAll w (clauses_of_bound g x grid b)) = bound_extends v vars g x grid d b.last b.cap b.criterion a (omega arith) r in
     record {
       to = e.to;
       read = read_stays v e.to vars g x grid d a (λ y low. e.same.below y (omega arith)) r;
-      satisfies = satisfies_append e.to clauses (clauses_of g x grid b) (satisfies_all_same v e.to last clauses there (λ y low. e.same.below y (omega arith)) h) e.holds;
+      satisfies = satisfies_append e.to clauses (clauses_of_bound g x grid b) (satisfies_all_same v e.to last clauses there (λ y low. e.same.below y (omega arith)) h) e.holds;
     }
 
 bounds_behind : (v : Assignment) (g : Graph) (x : DrawingVars) (grid : GridSize) (d : Drawing) (clauses : Clauses) (bounds : List Bound) (vars last : ℕ) → IsTrackGraph g → AreVars vars g x grid.width → vars ≤ last → AreBehind g x grid last bounds → AllThere last clauses → Read v g x grid d → SatisfiesAll v clauses → StillReads v g x grid d (clauses ++ bounds_clauses g x grid bounds)
 bounds_behind v g x grid d clauses [] vars last is a le behind there r h = record { to = v; read = r; satisfies = subst (λ (cs : Clauses). SatisfiesAll v cs) (sym (append-nil clauses)) h }
 bounds_behind v g x grid d clauses (b ∷ rest) vars last is a le behind there r h =
     let low = behind.0 in
-    let next = b.last + size_of g x grid b in
-    let one = clauses_of g x grid b in
+    let next = b.last + size_of_bound g x grid b in
+    let one = clauses_of_bound g x grid b in
     let m = one_behind v g x grid d clauses b vars last a le low there r h in
     let k = bounds_behind m.to g x grid d (clauses ++ one) rest vars next is a (omega arith) behind.1
     (all_there_append next clauses one (all_there_more last next clauses (omega arith) there) (bound_there vars g x grid b.last b.cap b.criterion is a (omega arith)))

@@ -20,7 +20,7 @@ use Rattle.cnf_core.specs.LitOrTruth.{yes, flip, value, SomeTrue, AreWithin, cla
 use Rattle.cnf_core.proofs.ClauseLemmas.{satisfies_append, satisfies_left, satisfies_right, there_more, all_there_append, all_there_more}
 use Rattle.cnf_core.proofs.GatherLemmas.{clause_holds, clause_there}
 use Rattle.cnf_core.proofs.SettingLemmas.{same_none, patch, patch_same, extends_both, extends_weaker, extends_clauses}
-use Rattle.unary_sum.specs.Sum.{SumVars, sum_vars, sum_count, sum_clauses, sum_outputs, count_true, at_least as sum_at_least}
+use Rattle.unary_sum.specs.Sum.{SumVars, sum_vars, sum_count, sum_clauses, sum_outputs, count_true, sum_at_least as sum_at_least}
 use Rattle.unary_sum.proofs.SumLemmas.{sum_means, sum_extends, sum_there}
 use Rattle.unary_sum.proofs.OutputLemmas.{sum_outputs_true, sum_outputs_there}
 use Rattle.edge_lines.specs.Columns.{is_up, is_down}

@@ -12,7 +12,7 @@ use Rattle.plan_core.specs.Line.{Piece, pieces_from, slope, slope_west, slope_ea
 use Rattle.plan_core.proofs.LineLemmas.{line_length}
 use Rattle.cnf_core.specs.Assignment.{Assignment}
 use Rattle.unary_sum.specs.Sum.{count_true}
-use Rattle.edge_lines.specs.Track.{step}
+use Rattle.edge_lines.specs.Track.{step_slope}
 use Rattle.edge_lines.specs.Columns.{is_up, is_down}
 use Rattle.edge_lines.proofs.RunLemmas.{one_if}
 use Rattle.edge_lines.proofs.LineTrackLemmas.{three_slopes, shape_of}
@@ -125,13 +125,13 @@ step_bits Down = refl
 step_bits Level = refl
 step_bits Up = refl
 
-pub count_steps : (v : Assignment) (e : EdgeLits) (y : ℕ → ℕ) (c n : ℕ) → ((j : ℕ) → c ≤ j → j < c + n → v (e.up j) ≡ is_up (step y j)) → ((j : ℕ) → c ≤ j → j < c + n → v (e.down j) ≡ is_down (step y j))
-    → count_true v (step_lits e c n) ≡ count_by (λ j. is_up (step y j) || is_down (step y j)) (range_with_len c n)
+pub count_steps : (v : Assignment) (e : EdgeLits) (y : ℕ → ℕ) (c n : ℕ) → ((j : ℕ) → c ≤ j → j < c + n → v (e.up j) ≡ is_up (step_slope y j)) → ((j : ℕ) → c ≤ j → j < c + n → v (e.down j) ≡ is_down (step_slope y j))
+    → count_true v (step_lits e c n) ≡ count_by (λ j. is_up (step_slope y j) || is_down (step_slope y j)) (range_with_len c n)
 count_steps v e y c zero up down = refl
 count_steps v e y c (suc n) up down =
-    let cons = sum_by-cons (λ j. one_if (is_up (step y j) || is_down (step y j))) c (range_with_len (c + 1) n) in
-    let one : one_if (v (e.up c)) ≡ one_if (is_up (step y c)) = ap one_if (up c (omega arith) (omega arith)) in
-    let two : one_if (v (e.down c)) ≡ one_if (is_down (step y c)) = ap one_if (down c (omega arith) (omega arith)) in
-    let both = step_bits (step y c) in
+    let cons = sum_by-cons (λ j. one_if (is_up (step_slope y j) || is_down (step_slope y j))) c (range_with_len (c + 1) n) in
+    let one : one_if (v (e.up c)) ≡ one_if (is_up (step_slope y c)) = ap one_if (up c (omega arith) (omega arith)) in
+    let two : one_if (v (e.down c)) ≡ one_if (is_down (step_slope y c)) = ap one_if (down c (omega arith) (omega arith)) in
+    let both = step_bits (step_slope y c) in
     let rest = count_steps v e y (c + 1) n (λ j from to. up j (omega arith) (omega arith)) (λ j from to. down j (omega arith) (omega arith)) in
     omega (arith, cons, one, two, both, rest)

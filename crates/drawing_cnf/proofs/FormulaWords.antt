@@ -26,10 +26,10 @@ use Rattle.order_int.proofs.IntLemmas.{chain_words}
 use Rattle.edge_shape.specs.EdgeVars.{edge_size}
 use Rattle.edge_shape.specs.Rules.{Rule}
 use Rattle.edge_shape.proofs.WordLemmas.{edge_words, edge_vars_few}
-use Rattle.drawing_cnf.specs.Guards.{pair_of, pair_clauses, unless_rules}
+use Rattle.drawing_cnf.specs.Guards.{pair_literals, pair_clauses, unless_rules}
 use Rattle.drawing_cnf.specs.Stands.{DrawingVars, SlopeVars, slope_vars}
 use Rattle.drawing_cnf.specs.LawClauses.{flat_rules, same_rules, one_more_rules, greater_rules, diverge_rules, ports_rules, apart_size, over_clauses, higher_of, instance_clauses, laws_size, laws_clauses}
-use Rattle.drawing_cnf.specs.Expected.{drawing_vars, edge_first, laws_first, listed, row, pairs, below_by, pair_by, edge_pair, instances, node_clauses, edge_part, base_clauses, formula_clauses, formula_size, area, most_words, most_variables}
+use Rattle.drawing_cnf.specs.Expected.{drawing_vars, edge_first, laws_first, instances_from, instance_row, instance_pairs, below_by, pair_by, edge_pair, instances, node_clauses, edge_part, base_clauses, formula_clauses, formula_size, area, most_words, most_variables}
 use Rattle.drawing_cnf.proofs.LawCode.{size_append, laws_append}
 use Rattle.drawing_cnf.proofs.LawWords.{ordered_words, apart_words, higher_words, listed_words, all_pairs_words}
 use Rattle.drawing_cnf.proofs.BaseLemmas.{base_last, base_vars, edge_spot_in}
@@ -37,13 +37,13 @@ use Rattle.drawing_cnf.proofs.BaseLemmas.{base_last, base_vars, edge_spot_in}
 -- THE LAW ON SLOPES: eleven rules of two literals at most
 abbrev pub AreShort : List Rule → Type 0
 AreShort [] = ⊤
-AreShort (r ∷ rs) = (length (pair_of r) ≤ 2) × AreShort rs
+AreShort (r ∷ rs) = (length (pair_literals r) ≤ 2) × AreShort rs
 
 rules_words : (rs : List Rule) → AreShort rs → words_of (unless_rules [] rs) ≤ length rs * 5
 rules_words [] h = omega arith
 rules_words (r ∷ rs) h =
     let short = h.0 in
-    omega (arith, clause_words [] (pair_of r), words_append (clause_of [] (pair_of r)) (pair_clauses [] (map pair_of rs)), rules_words rs h.1)
+    omega (arith, clause_words [] (pair_literals r), words_append (clause_of [] (pair_literals r)) (pair_clauses [] (map pair_literals rs)), rules_words rs h.1)
 
 flat_short : (s : SlopeVars) → AreShort (flat_rules s)
 flat_short s = (omega arith, (omega arith, tt))
@@ -78,8 +78,8 @@ diverge_words West Lower s t = one_more_words s t
 both_words : (rs ss : List Rule) → words_of (unless_rules [] (rs ++ ss)) ≡ words_of (unless_rules [] rs) + words_of (unless_rules [] ss)
 both_words [] ss = omega arith
 both_words (r ∷ rs) ss =
-    let one = words_append (clause_of [] (pair_of r)) (pair_clauses [] (map pair_of rs)) in
-    let all = words_append (clause_of [] (pair_of r)) (pair_clauses [] (map pair_of (rs ++ ss))) in
+    let one = words_append (clause_of [] (pair_literals r)) (pair_clauses [] (map pair_literals rs)) in
+    let all = words_append (clause_of [] (pair_literals r)) (pair_clauses [] (map pair_literals (rs ++ ss))) in
     omega (arith, one, all, both_words rs ss)
 
 ports_words : (at : ℕ → SlopeVars) (ports : Ports) → words_of (unless_rules [] (ports_rules at ports)) ≤ 55
@@ -165,10 +165,10 @@ laws_few : (g : Graph) (grid : GridSize) (above overlap : ℕ → ℕ → Bool) 
 laws_few g grid above overlap first =
     let x = drawing_vars g grid in
     let w = grid.width in
-    let ordered = pairs (length g.nodes) (λ u v. Ordered u v ∷ []) in
-    let aligned = listed (λ k. Aligned k ∷ []) 0 (length g.nodes) in
-    let apart = pairs (length g.nodes) (λ u v. Apart u v ∷ []) in
-    let edges = pairs (length g.edges) (edge_pair above overlap) in
+    let ordered = instance_pairs (length g.nodes) (λ u v. Ordered u v ∷ []) in
+    let aligned = instances_from (λ k. Aligned k ∷ []) 0 (length g.nodes) in
+    let apart = instance_pairs (length g.nodes) (λ u v. Apart u v ∷ []) in
+    let edges = instance_pairs (length g.edges) (edge_pair above overlap) in
     let second = first + laws_size g ordered in
     let third = second + laws_size g aligned in
     let fourth = third + laws_size g apart in
@@ -227,14 +227,14 @@ formula_words g above overlap grid is size few =
     (base_few g grid is size few) (laws_few g grid above overlap (laws_first g grid))
 
 -- VARIABLES
-listed_size : (g : Graph) (most : ℕ) (f : ℕ → List Instance) → ((k : ℕ) → laws_size g (f k) ≤ most) → (a n : ℕ) → laws_size g (listed f a n) ≤ n * most
+listed_size : (g : Graph) (most : ℕ) (f : ℕ → List Instance) → ((k : ℕ) → laws_size g (f k) ≤ most) → (a n : ℕ) → laws_size g (instances_from f a n) ≤ n * most
 listed_size g most f h a zero = omega arith
 listed_size g most f h a (suc n) =
     let one : suc n * most ≡ n * most + most = omega arith in
-    omega (arith, size_append g (f a) (listed f (a + 1) n), h a, listed_size g most f h (a + 1) n)
+    omega (arith, size_append g (f a) (instances_from f (a + 1) n), h a, listed_size g most f h (a + 1) n)
 
-all_pairs_size : (g : Graph) (most n : ℕ) (f : ℕ → ℕ → List Instance) → ((a b : ℕ) → laws_size g (f a b) ≤ most) → laws_size g (pairs n f) ≤ n * (n * most)
-all_pairs_size g most n f h = listed_size g (n * most) (row n f) (λ a.
+all_pairs_size : (g : Graph) (most n : ℕ) (f : ℕ → ℕ → List Instance) → ((a b : ℕ) → laws_size g (f a b) ≤ most) → laws_size g (instance_pairs n f) ≤ n * (n * most)
+all_pairs_size g most n f h = listed_size g (n * most) (instance_row n f) (λ a.
     let here = listed_size g most (f a) (h a) (a + 1) (n - (a + 1)) in
     let fewer : (n - (a + 1)) * most ≤ n * most = mul-le-mul_right most (omega arith) in
     omega arith) 0 n
@@ -258,10 +258,10 @@ laws_size_few : (g : Graph) (above overlap : ℕ → ℕ → Bool) → laws_size
 laws_size_few g above overlap =
     let n = length g.nodes in
     let m = length g.edges in
-    let ordered = pairs n (λ u v. Ordered u v ∷ []) in
-    let aligned = listed (λ k. Aligned k ∷ []) 0 n in
-    let apart = pairs n (λ u v. Apart u v ∷ []) in
-    let edges = pairs m (edge_pair above overlap) in
+    let ordered = instance_pairs n (λ u v. Ordered u v ∷ []) in
+    let aligned = instances_from (λ k. Aligned k ∷ []) 0 n in
+    let apart = instance_pairs n (λ u v. Apart u v ∷ []) in
+    let edges = instance_pairs m (edge_pair above overlap) in
     added (laws_size g (instances g above overlap)) (laws_size g ordered) (laws_size g (aligned ++ (apart ++ edges))) (laws_size g aligned) (laws_size g (apart ++ edges)) (laws_size g apart) (laws_size g edges)
     (n * (n * 0)) (n * 0) (n * (n * 2)) (m * (m * 1))
     (size_append g ordered (aligned ++ (apart ++ edges))) (size_append g aligned (apart ++ edges)) (size_append g apart edges)

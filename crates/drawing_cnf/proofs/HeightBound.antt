@@ -14,6 +14,7 @@ use Rattle.plan_core.specs.Line.{west_end, east_end, slope_west, slope_east, hei
 use Rattle.plan_core.specs.Drawing.{Drawing, place, line, all_points}
 use Rattle.plan_core.specs.Laws.{IsOnGrid}
 use Rattle.plan_core.specs.Values.{maximum}
+use Rattle.plan_core.proofs.ListFacts.{all_front, all_back}
 use Rattle.plan_core.proofs.LimitLemmas.{maximum-le, All-flat_map}
 use Rattle.plan_core.proofs.LineLemmas.{ends_rise, height-west_end, height-east_end}
 use Rattle.cnf_core.specs.declared.literal.LitOrTruth.{LitOrTruth}
@@ -25,7 +26,7 @@ use Rattle.cnf_core.proofs.ClauseLemmas.{first_or_later, satisfies_append, satis
 use Rattle.cnf_core.proofs.GatherLemmas.{value-flip, flip_within, clause_says, clause_holds, clause_there}
 use Rattle.cnf_core.proofs.SettingLemmas.{patch, patch_same}
 use Rattle.order_int.specs.IntVars.{IntVars, IntIsThere}
-use Rattle.order_int.specs.OrderInt.{at_least, Reads}
+use Rattle.order_int.specs.OrderInt.{int_at_least, Reads}
 use Rattle.order_int.proofs.IntLemmas.{at_least_within}
 use Rattle.edge_lines.specs.Track.{slope_by}
 use Rattle.edge_lines.specs.Columns.{is_up, is_down}
@@ -45,18 +46,10 @@ abbrev pub height_of : Drawing → ℕ
 height_of d = maximum (map (λ (p : Point). p.y) (all_points d))
 
 -- parts of a list
-all_left : {X : Type 0} (P : X → Type 0) (xs ys : List X) → All P (xs ++ ys) → All P xs
-all_left P [] ys h = All-nil P
-all_left P (x ∷ xs) ys h = All-cons P x xs (All-head P x (xs ++ ys) h) (all_left P xs ys (All-tail P x (xs ++ ys) h))
-
-all_right : {X : Type 0} (P : X → Type 0) (xs ys : List X) → All P (xs ++ ys) → All P ys
-all_right P [] ys h = h
-all_right P (x ∷ xs) ys h = all_right P xs ys (All-tail P x (xs ++ ys) h)
-
 all_of_list : {X : Type 0} (P : X → Type 0) (lists : List (List X)) (e : ℕ) → e < length lists → All P (flat_map (λ l. l) lists) → All P (get_or lists e [])
 all_of_list P [] e lt h = absurd (omega arith)
-all_of_list P (l ∷ lists) zero lt h = all_left P l (flat_map (λ l. l) lists) h
-all_of_list P (l ∷ lists) (suc e) lt h = all_of_list P lists e (omega arith) (all_right P l (flat_map (λ l. l) lists) h)
+all_of_list P (l ∷ lists) zero lt h = all_front P l (flat_map (λ l. l) lists) h
+all_of_list P (l ∷ lists) (suc e) lt h = all_of_list P lists e (omega arith) (all_back P l (flat_map (λ l. l) lists) h)
 
 all_under : (ps : List Point) → All (λ (p : Point). p.y ≤ maximum (map (λ (p : Point). p.y) ps)) ps
 all_under [] = All-nil (λ (p : Point). p.y ≤ 0)
@@ -86,7 +79,7 @@ node_ends g n is lt = port_ends g n (node g n).ports (is.ports n lt).there (is.p
 -- the drawing isn't higher than h exactly where no line is at a column of the grid
 pub all_low : (g : Graph) (grid : GridSize) (d : Drawing) (h : ℕ) → IsLoose g grid d → height_of d ≤ h → (e c : ℕ) → e < length g.edges → height (line d e) c ≤ h
 all_low g grid d h loose low e c lt =
-    let under = all_of_list (λ (p : Point). p.y ≤ height_of d) d.lines e (let z = loose.fits.size.lines in omega arith) (all_right (λ (p : Point). p.y ≤ height_of d) d.places (flat_map (λ l. l) d.lines) (all_under (all_points d))) in
+    let under = all_of_list (λ (p : Point). p.y ≤ height_of d) d.lines e (let z = loose.fits.size.lines in omega arith) (all_back (λ (p : Point). p.y ≤ height_of d) d.places (flat_map (λ l. l) d.lines) (all_under (all_points d))) in
     let j = loose.joins e lt in
     let on = heights_on_grid grid (line d e) j.shape j.in_height (let w = j.in_width in let z = ap (λ (p : Point). p.x) j.ends in omega arith) in
     on_grid_heights (grid_size grid.width h) (line d e) c j.shape
@@ -141,7 +134,7 @@ pub record SomeHeight (v : Assignment) (g : Graph) (x : DrawingVars) (width k : 
   pub column : ℕ
   pub there : edge < length g.edges
   pub within : column ≤ width
-  pub high : Is (value v (at_least ((x.edge edge).height column) k))
+  pub high : Is (value v (int_at_least ((x.edge edge).height column) k))
 
 some_column : (v : Assignment) (g : Graph) (x : DrawingVars) (width k e c n : ℕ) → e < length g.edges → c + n ≤ width + 1 → SomeTrue v (column_heights x k e c n) → SomeHeight v g x width k
 some_column v g x width k e c zero lt le h = absurd h
@@ -156,26 +149,26 @@ some_height v g x width k e (suc n) le h = elim (some_from v (column_heights x k
 ]
 
 -- either one is, or all are lower
-column_or : (v : Assignment) (x : DrawingVars) (k e c n : ℕ) → SomeTrue v (column_heights x k e c n) ⊎ ((j : ℕ) → c ≤ j → j < c + n → value v (at_least ((x.edge e).height j) k) ≡ false)
+column_or : (v : Assignment) (x : DrawingVars) (k e c n : ℕ) → SomeTrue v (column_heights x k e c n) ⊎ ((j : ℕ) → c ≤ j → j < c + n → value v (int_at_least ((x.edge e).height j) k) ≡ false)
 column_or v x k e c zero = inr (λ j from to. absurd (omega arith))
-column_or v x k e c (suc n) = cases (value v (at_least ((x.edge e).height c) k)) refl (column_or v x k e (c + 1) n)
+column_or v x k e c (suc n) = cases (value v (int_at_least ((x.edge e).height c) k)) refl (column_or v x k e (c + 1) n)
   where
-    cases : (b : Bool) → value v (at_least ((x.edge e).height c) k) ≡ b → (SomeTrue v (column_heights x k e (c + 1) n) ⊎ ((j : ℕ) → c + 1 ≤ j → j < c + 1 + n → value v (at_least ((x.edge e).height j) k) ≡ false)) → SomeTrue v (column_heights x k e c (suc n)) ⊎ ((j : ℕ) → c ≤ j → j < c + suc n → value v (at_least ((x.edge e).height j) k) ≡ false)
+    cases : (b : Bool) → value v (int_at_least ((x.edge e).height c) k) ≡ b → (SomeTrue v (column_heights x k e (c + 1) n) ⊎ ((j : ℕ) → c + 1 ≤ j → j < c + 1 + n → value v (int_at_least ((x.edge e).height j) k) ≡ false)) → SomeTrue v (column_heights x k e c (suc n)) ⊎ ((j : ℕ) → c ≤ j → j < c + suc n → value v (int_at_least ((x.edge e).height j) k) ≡ false)
     cases true s rest = inl (inl s)
     cases false s (inl a) = inl (inr a)
     cases false s (inr f) = inr (λ j from to. elim (first_or_later c j from) [
-      | inl same ↦ subst (λ i. value v (at_least ((x.edge e).height i) k) ≡ false) same s
+      | inl same ↦ subst (λ i. value v (int_at_least ((x.edge e).height i) k) ≡ false) same s
       | inr more ↦ f j more (omega arith)
     ])
 
-heights_or : (v : Assignment) (x : DrawingVars) (width k e n : ℕ) → SomeTrue v (all_heights x width k e n) ⊎ ((i j : ℕ) → e ≤ i → i < e + n → j ≤ width → value v (at_least ((x.edge i).height j) k) ≡ false)
+heights_or : (v : Assignment) (x : DrawingVars) (width k e n : ℕ) → SomeTrue v (all_heights x width k e n) ⊎ ((i j : ℕ) → e ≤ i → i < e + n → j ≤ width → value v (int_at_least ((x.edge i).height j) k) ≡ false)
 heights_or v x width k e zero = inr (λ i j from to w. absurd (omega arith))
 heights_or v x width k e (suc n) = elim (column_or v x k e 0 (width + 1)) [
   | inl a ↦ inl (some_to v (column_heights x k e 0 (width + 1)) (all_heights x width k (e + 1) n) (inl a))
   | inr f ↦ elim (heights_or v x width k (e + 1) n) [
     | inl a ↦ inl (some_to v (column_heights x k e 0 (width + 1)) (all_heights x width k (e + 1) n) (inr a))
     | inr g ↦ inr (λ i j from to w. elim (first_or_later e i from) [
-      | inl same ↦ subst (λ m. value v (at_least ((x.edge m).height j) k) ≡ false) same (f j (omega arith) (omega arith))
+      | inl same ↦ subst (λ m. value v (int_at_least ((x.edge m).height j) k) ≡ false) same (f j (omega arith) (omega arith))
       | inr more ↦ g i j more (omega arith) w
     ])
   ]
@@ -201,7 +194,7 @@ height_tells v g x grid d b k r from h = cases (v b) refl
     long : Clauses
     long = some_height_clause x grid.width m b k
 
-    reads : (e c : ℕ) → e < m → c ≤ grid.width → value v (at_least ((x.edge e).height c) k) ≡ nat_le k (height (line d e) c)
+    reads : (e c : ℕ) → e < m → c ≤ grid.width → value v (int_at_least ((x.edge e).height c) k) ≡ nat_le k (height (line d e) c)
     reads e c lt le = ((r.reads.lines e lt).height c le).each k
 
     cases : (s : Bool) → v b ≡ s → s ≡ nat_le k (height_of d)
@@ -224,8 +217,8 @@ height_tells v g x grid d b k r from h = cases (v b) refl
           let more = le.1 in
           let low = low_all g grid d (k - 1) r.graph r.loose (λ e c lt w. elim (leb_tells k (height (line d e) c)) [
             | inr gt ↦ let less = gt.1 in omega arith
-            | inl high ↦ absurd (elim (either_of v (flip (at_least ((x.edge e).height c) k)) (yes b) (satisfies_at v (height_gives x b k e) 0 (grid.width + 1) (satisfies_left v (each (height_gives x b k e) 0 (grid.width + 1)) (height_beside g x b k e) (satisfies_at v (edge_height_gives g x grid.width b k) 0 m (satisfies_left v given long h) e (omega arith) (omega arith))) c (omega arith) (omega arith))) [
-              | inl off ↦ cc (sym (value-flip v (at_least ((x.edge e).height c) k)) ∙ off, reads e c lt w ∙ high.0)
+            | inl high ↦ absurd (elim (either_of v (flip (int_at_least ((x.edge e).height c) k)) (yes b) (satisfies_at v (height_gives x b k e) 0 (grid.width + 1) (satisfies_left v (each (height_gives x b k e) 0 (grid.width + 1)) (height_beside g x b k e) (satisfies_at v (edge_height_gives g x grid.width b k) 0 m (satisfies_left v given long h) e (omega arith) (omega arith))) c (omega arith) (omega arith))) [
+              | inl off ↦ cc (sym (value-flip v (int_at_least ((x.edge e).height c) k)) ∙ off, reads e c lt w ∙ high.0)
               | inr on ↦ cc (s, on)
             ])
           ]) in
@@ -283,24 +276,24 @@ east_rise g grid d e loose lt down =
     let low = all_low g grid d (height_of d) loose (omega arith) e x lt in
     omega arith
 
-beside_or : (v : Assignment) (a b : ℕ) (i : IntVars) (k n most : ℕ) → Reads v i n → v b ≡ nat_le k most → (v a ≡ true → n + 1 ≤ most) → SomeTrue v (flip (yes a) ∷ flip (at_least i (k - 1)) ∷ yes b ∷ [])
+beside_or : (v : Assignment) (a b : ℕ) (i : IntVars) (k n most : ℕ) → Reads v i n → v b ≡ nat_le k most → (v a ≡ true → n + 1 ≤ most) → SomeTrue v (flip (yes a) ∷ flip (int_at_least i (k - 1)) ∷ yes b ∷ [])
 beside_or v a b i k n most r h rise = cases (v a) refl
   where
-    cases : (s : Bool) → v a ≡ s → SomeTrue v (flip (yes a) ∷ flip (at_least i (k - 1)) ∷ yes b ∷ [])
+    cases : (s : Bool) → v a ≡ s → SomeTrue v (flip (yes a) ∷ flip (int_at_least i (k - 1)) ∷ yes b ∷ [])
     cases false s = inl (ap not s)
     cases true s =
         let more = rise s in
         elim (leb_tells (k - 1) n) [
           | inl le ↦ let few = le.1 in let t : nat_le k most ≡ true = grind (arith, nat_tests) in inr (inr (inl (h ∙ t)))
-          | inr gt ↦ inr (inl (value-flip v (at_least i (k - 1)) ∙ ap not (r.each (k - 1) ∙ gt.0)))
+          | inr gt ↦ inr (inl (value-flip v (int_at_least i (k - 1)) ∙ ap not (r.each (k - 1) ∙ gt.0)))
         ]
 
 beside_holds : (v : Assignment) (g : Graph) (x : DrawingVars) (grid : GridSize) (d : Drawing) (b k e : ℕ) → Read v g x grid d → e < length g.edges → v b ≡ nat_le k (height_of d) → SatisfiesAll v (height_beside g x b k e)
 beside_holds v g x grid d b k e r lt h =
     let ends = r.graph.nodes e lt in
     let s = r.reads.lines e lt in
-    let west = flip (yes (x.edge e).west_up) ∷ flip (at_least (x.node (edge g e).west).y (k - 1)) ∷ yes b ∷ [] in
-    let east = flip (yes (x.edge e).east_down) ∷ flip (at_least (x.node (edge g e).east).y (k - 1)) ∷ yes b ∷ [] in
+    let west = flip (yes (x.edge e).west_up) ∷ flip (int_at_least (x.node (edge g e).west).y (k - 1)) ∷ yes b ∷ [] in
+    let east = flip (yes (x.edge e).east_down) ∷ flip (int_at_least (x.node (edge g e).east).y (k - 1)) ∷ yes b ∷ [] in
     satisfies_append v (clause_of [] west) (clause_of [] east)
     (clause_holds v [] west (inr (beside_or v (x.edge e).west_up b (x.node (edge g e).west).y k (place d (edge g e).west).y (height_of d) (r.reads.points (edge g e).west ends.0).y h (λ up. west_rise g grid d e r.loose lt (sym s.west.rises ∙ up)))))
     (clause_holds v [] east (inr (beside_or v (x.edge e).east_down b (x.node (edge g e).east).y k (place d (edge g e).east).y (height_of d) (r.reads.points (edge g e).east ends.1).y h (λ down. east_rise g grid d e r.loose lt (sym s.east.falls ∙ down)))))
@@ -324,17 +317,17 @@ height_holds v g x grid d b k r from h = satisfies_append v given long
     long : Clauses
     long = some_height_clause x grid.width m b k
 
-    reads : (e c : ℕ) → e < m → c ≤ grid.width → value v (at_least ((x.edge e).height c) k) ≡ nat_le k (height (line d e) c)
+    reads : (e c : ℕ) → e < m → c ≤ grid.width → value v (int_at_least ((x.edge e).height c) k) ≡ nat_le k (height (line d e) c)
     reads e c lt le = ((r.reads.lines e lt).height c le).each k
 
     give : (e c : ℕ) → e < m → c ≤ grid.width → SatisfiesAll v (height_gives x b k e c)
-    give e c lt w = clause_holds v [] (flip (at_least ((x.edge e).height c) k) ∷ yes b ∷ []) (inr (elim (leb_tells k (height_of d)) [
+    give e c lt w = clause_holds v [] (flip (int_at_least ((x.edge e).height c) k) ∷ yes b ∷ []) (inr (elim (leb_tells k (height_of d)) [
       | inl le ↦ inr (inl (h ∙ le.0))
       | inr gt ↦
           let less = gt.1 in
           let low = all_low g grid d (k - 1) r.loose (omega arith) e c lt in
           let t : nat_le k (height (line d e) c) ≡ false = grind (arith, nat_tests, low, from) in
-          inl (value-flip v (at_least ((x.edge e).height c) k) ∙ ap not (reads e c lt w ∙ t))
+          inl (value-flip v (int_at_least ((x.edge e).height c) k) ∙ ap not (reads e c lt w ∙ t))
     ]))
 
     all_or : (s : Bool) → v b ≡ s → SomeTrue v (all_heights x grid.width k 0 m) ⊎ SomeTrue v (flip (yes b) ∷ [])
@@ -376,12 +369,12 @@ heights_within vars g x width k e (suc n) a le =
     both_within vars (column_heights x k e 0 (width + 1)) (all_heights x width k (e + 1) n)
     (column_within vars x width k e 0 (width + 1) (a.edge e (omega arith)) (omega arith)) (heights_within vars g x width k (e + 1) n a (omega arith))
 
-pub gives_there : (vars b k e c : ℕ) (g : Graph) (x : DrawingVars) (width : ℕ) → AreVars vars g x width → e < length g.edges → c ≤ width → 1 ≤ b → b ≤ vars → AreWithin vars (flip (at_least ((x.edge e).height c) k) ∷ yes b ∷ [])
+pub gives_there : (vars b k e c : ℕ) (g : Graph) (x : DrawingVars) (width : ℕ) → AreVars vars g x width → e < length g.edges → c ≤ width → 1 ≤ b → b ≤ vars → AreWithin vars (flip (int_at_least ((x.edge e).height c) k) ∷ yes b ∷ [])
 gives_there vars b k e c g x width a lt le from to =
-    (flip_within vars (at_least ((x.edge e).height c) k) (at_least_within vars ((x.edge e).height c) k ((a.edge e lt).height c le)), ((from, to), tt))
+    (flip_within vars (int_at_least ((x.edge e).height c) k) (at_least_within vars ((x.edge e).height c) k ((a.edge e lt).height c le)), ((from, to), tt))
 
-pub beside_within : (vars b k : ℕ) (s : ℕ) (i : IntVars) → (1 ≤ s) × (s ≤ vars) → IntIsThere vars i → 1 ≤ b → b ≤ vars → AreWithin vars (flip (yes s) ∷ flip (at_least i (k - 1)) ∷ yes b ∷ [])
-beside_within vars b k s i w t from to = (w, (flip_within vars (at_least i (k - 1)) (at_least_within vars i (k - 1) t), ((from, to), tt)))
+pub beside_within : (vars b k : ℕ) (s : ℕ) (i : IntVars) → (1 ≤ s) × (s ≤ vars) → IntIsThere vars i → 1 ≤ b → b ≤ vars → AreWithin vars (flip (yes s) ∷ flip (int_at_least i (k - 1)) ∷ yes b ∷ [])
+beside_within vars b k s i w t from to = (w, (flip_within vars (int_at_least i (k - 1)) (at_least_within vars i (k - 1) t), ((from, to), tt)))
 
 height_at_there : (vars : ℕ) (g : Graph) (x : DrawingVars) (width b k : ℕ) → IsTrackGraph g → AreVars vars g x width → 1 ≤ b → b ≤ vars → AllThere vars (height_at g x width b k)
 height_at_there vars g x width b k is a from to =
@@ -391,10 +384,10 @@ height_at_there vars g x width b k is a from to =
     let lt : e < m = omega arith in
     let ends = is.nodes e lt in
     let w = (a.edge e lt).whole in
-    let west = flip (yes (x.edge e).west_up) ∷ flip (at_least (x.node (edge g e).west).y (k - 1)) ∷ yes b ∷ [] in
-    let east = flip (yes (x.edge e).east_down) ∷ flip (at_least (x.node (edge g e).east).y (k - 1)) ∷ yes b ∷ [] in
+    let west = flip (yes (x.edge e).west_up) ∷ flip (int_at_least (x.node (edge g e).west).y (k - 1)) ∷ yes b ∷ [] in
+    let east = flip (yes (x.edge e).east_down) ∷ flip (int_at_least (x.node (edge g e).east).y (k - 1)) ∷ yes b ∷ [] in
     all_there_append vars (each (height_gives x b k e) 0 (width + 1)) (height_beside g x b k e)
-    (all_there_each vars (height_gives x b k e) 0 (width + 1) (λ c near far. clause_there vars [] (flip (at_least ((x.edge e).height c) k) ∷ yes b ∷ []) tt (gives_there vars b k e c g x width a lt (omega arith) from to)))
+    (all_there_each vars (height_gives x b k e) 0 (width + 1) (λ c near far. clause_there vars [] (flip (int_at_least ((x.edge e).height c) k) ∷ yes b ∷ []) tt (gives_there vars b k e c g x width a lt (omega arith) from to)))
     (all_there_append vars (clause_of [] west) (clause_of [] east)
     (clause_there vars [] west tt (beside_within vars b k (x.edge e).west_up (x.node (edge g e).west).y w.west_up (a.node_y (edge g e).west ends.0) from to))
     (clause_there vars [] east tt (beside_within vars b k (x.edge e).east_down (x.node (edge g e).east).y w.east_down (a.node_y (edge g e).east ends.1) from to)))))

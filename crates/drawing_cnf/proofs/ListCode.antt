@@ -15,7 +15,7 @@ use Rattle.cnf_core.specs.LitOrTruth.{yes, flip, AreWithin, clause_of}
 use Rattle.cnf_core.proofs.GatherLemmas.{clause_of_literals}
 use Rattle.cnf_core.proofs.TrailLemmas.{rising_append, rising_push, rising_distinct, rising_there}
 use Rattle.order_int.specs.IntVars.{int_vars}
-use Rattle.order_int.specs.OrderInt.{at_least}
+use Rattle.order_int.specs.OrderInt.{int_at_least}
 use Rattle.edge_shape.specs.EdgeVars.{EdgeLits, edge_lits, edge_size, height_first}
 use Rattle.edge_shape.proofs.PlaceLemmas.{blocks}
 use Rattle.drawing_cnf.specs.Stands.{DrawingVars}
@@ -78,7 +78,7 @@ pub steps_done : (e : EdgeLits) (c width : ℕ) (front whole : List Literal) →
 steps_done e c width front whole le h = let z : width - c ≡ 0 = omega arith in sym (append-nil front) ∙ ap (λ n. front ++ step_lits e c n) (sym z) ∙ h
 
 -- "at least k" is a literal, where k is above 0 and on the grid
-pub at_least_is : (high first k : ℕ) → 1 ≤ k → k ≤ high → at_least (int_vars 0 high first) k ≡ yes (first + (k - 1))
+pub at_least_is : (high first k : ℕ) → 1 ≤ k → k ≤ high → int_at_least (int_vars 0 high first) k ≡ yes (first + (k - 1))
 at_least_is high first k from to =
     let a : nat_le k 0 ≡ false = grind (arith, nat_tests) in
     let b : nat_lt high k ≡ false = grind (arith, nat_tests) in
@@ -88,9 +88,9 @@ at_least_is high first k from to =
 columns_are : (first high width k c n : ℕ) → 1 ≤ k → k ≤ high → (x : DrawingVars) (e : ℕ) → x.edge e ≡ edge_lits first high width → map OfLit (column_lits (edge_lits first high width) k c n) ≡ column_heights x k e c n
 columns_are first high width k c zero from to x e is = refl
 columns_are first high width k c (suc n) from to x e is =
-    let here : at_least ((x.edge e).height c) k ≡ yes (height_first first high width c + (k - 1)) = ap (λ (i : EdgeLits). at_least (i.height c) k) is ∙ at_least_is high (height_first first high width c) k from to in
+    let here : int_at_least ((x.edge e).height c) k ≡ yes (height_first first high width c + (k - 1)) = ap (λ (i : EdgeLits). int_at_least (i.height c) k) is ∙ at_least_is high (height_first first high width c) k from to in
     ap (λ (t : LitOrTruth). t ∷ map OfLit (column_lits (edge_lits first high width) k (c + 1) n)) (sym here)
-    ∙ ap (λ (ts : List LitOrTruth). at_least ((x.edge e).height c) k ∷ ts) (columns_are first high width k (c + 1) n from to x e is)
+    ∙ ap (λ (ts : List LitOrTruth). int_at_least ((x.edge e).height c) k ∷ ts) (columns_are first high width k (c + 1) n from to x e is)
 
 heights_are : (g : Graph) (grid : GridSize) (k e n : ℕ) → 1 ≤ k → k ≤ grid.height → map OfLit (height_lits (drawing_vars g grid) grid.width k e n) ≡ all_heights (drawing_vars g grid) grid.width k e n
 heights_are g grid k e zero from to = refl
@@ -193,11 +193,11 @@ bends_inputs g grid edges inputs old vars is there limit more few same at =
     }
 
 -- the literals or truth values of the nodes' columns
-pub nodes_next : (x : DrawingVars) (k n end : ℕ) (front one whole : List LitOrTruth) → n < end → one ≡ front ++ at_least (x.node n).x k ∷ [] → front ++ node_columns x k n (end - n) ≡ whole → one ++ node_columns x k (n + 1) (end - (n + 1)) ≡ whole
+pub nodes_next : (x : DrawingVars) (k n end : ℕ) (front one whole : List LitOrTruth) → n < end → one ≡ front ++ int_at_least (x.node n).x k ∷ [] → front ++ node_columns x k n (end - n) ≡ whole → one ++ node_columns x k (n + 1) (end - (n + 1)) ≡ whole
 nodes_next x k n end front one whole lt a h =
     let left : end - n ≡ suc (end - (n + 1)) = omega arith in
     ap (λ (ts : List LitOrTruth). ts ++ node_columns x k (n + 1) (end - (n + 1))) a
-    ∙ sym (one_more front (at_least (x.node n).x k) (node_columns x k (n + 1) (end - (n + 1))))
+    ∙ sym (one_more front (int_at_least (x.node n).x k) (node_columns x k (n + 1) (end - (n + 1))))
     ∙ ap (λ j. front ++ node_columns x k n j) (sym left) ∙ h
 
 pub some_column_within : (g : Graph) (grid : GridSize) (vars b k : ℕ) (ts : List LitOrTruth) → IsGrid grid → laws_first g grid ≤ vars + 1 → vars ≤ VARS → 1 ≤ b → b ≤ vars → ts ≡ node_columns (drawing_vars g grid) k 0 (length g.nodes) ++ flip (yes b) ∷ [] → AreWithin vars ts

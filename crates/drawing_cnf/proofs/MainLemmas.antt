@@ -7,6 +7,7 @@ use Rattle.std.proofs.lemmas.Bool.Decides.{leb_tells}
 use Rattle.std.proofs.Math.Nat.{mul-le-mul_right}
 use Rattle.edge_shape.specs.EdgeVars.{edge_size}
 use Rattle.plan_core.specs.declared.point.Point.{Point}
+use Rattle.plan_core.specs.declared.limits.TheConstants.{MAX_NODES, MAX_EDGES}
 use Rattle.plan_core.specs.Grid.{GridSize, IsGrid}
 use Rattle.plan_core.specs.Graph.{Graph, edge, Overlap, IsTrackGraph}
 use Rattle.plan_core.specs.Line.{east_end}
@@ -17,15 +18,15 @@ use Rattle.cnf_core.specs.declared.limits.TheConstants.{VARS}
 use Rattle.cnf_core.specs.Assignment.{Assignment, SatisfiesAll, Extends}
 use Rattle.cnf_core.proofs.ClauseLemmas.{first_or_later, satisfies_append, satisfies_left, satisfies_right, satisfies_all_same}
 use Rattle.track_order.specs.Order.{EdgeOrder, is_above, is_overlap, IsOrderOf}
-use Rattle.drawing_cnf.specs.Stands.{DrawingVars, Stands, ReadsDrawing, IsLoose}
+use Rattle.drawing_cnf.specs.Stands.{DrawingVars, StandsFor, ReadsDrawing, IsLoose}
 use Rattle.drawing_cnf.specs.LawClauses.{laws_clauses, laws_size}
-use Rattle.drawing_cnf.specs.Expected.{drawing_vars, laws_first, base_clauses, expected_clauses, listed, row, pairs, edge_pair, instances, Sound, Covers}
+use Rattle.drawing_cnf.specs.Expected.{drawing_vars, laws_first, base_clauses, expected_clauses, instances_from, instance_row, instance_pairs, edge_pair, instances, Sound, Covers}
 use Rattle.drawing_cnf.proofs.OverLemmas.{Read}
 use Rattle.drawing_cnf.proofs.InstanceLemmas.{AreInstances, instance_means, laws_mean, laws_extend, drawing_stays}
 use Rattle.drawing_cnf.proofs.BaseLemmas.{base_means, lawful_loose, base_last, base_vars, base_there, BaseHolds, base_extends}
 
 -- what is read stands for the drawing
-pub reads_stand : (v : Assignment) (g : Graph) (x : DrawingVars) (grid : GridSize) (d : Drawing) → ReadsDrawing v g x grid.width d → IsLoose g grid d → Stands v g x d
+pub reads_stand : (v : Assignment) (g : Graph) (x : DrawingVars) (grid : GridSize) (d : Drawing) → ReadsDrawing v g x grid.width d → IsLoose g grid d → StandsFor v g x d
 reads_stand v g x grid d r loose = record {
   columns = λ n lt. (r.points n lt).x;
   rows = λ n lt. (r.points n lt).y;
@@ -106,22 +107,22 @@ are_both : (g : Graph) (above : ℕ → ℕ → Bool) (xs ys : List Instance) �
 are_both g above [] ys h k = k
 are_both g above (i ∷ xs) ys h k = (h.0, are_both g above xs ys h.1 k)
 
-are_listed : (g : Graph) (above : ℕ → ℕ → Bool) (f : ℕ → List Instance) (first n : ℕ) → ((k : ℕ) → first ≤ k → k < first + n → AreInstances g above (f k)) → AreInstances g above (listed f first n)
+are_listed : (g : Graph) (above : ℕ → ℕ → Bool) (f : ℕ → List Instance) (first n : ℕ) → ((k : ℕ) → first ≤ k → k < first + n → AreInstances g above (f k)) → AreInstances g above (instances_from f first n)
 are_listed g above f first zero h = tt
-are_listed g above f first (suc n) h = are_both g above (f first) (listed f (first + 1) n) (h first (omega arith) (omega arith)) (are_listed g above f (first + 1) n (λ k from to. h k (omega arith) (omega arith)))
+are_listed g above f first (suc n) h = are_both g above (f first) (instances_from f (first + 1) n) (h first (omega arith) (omega arith)) (are_listed g above f (first + 1) n (λ k from to. h k (omega arith) (omega arith)))
 
-are_pairs : (g : Graph) (above : ℕ → ℕ → Bool) (f : ℕ → ℕ → List Instance) (n : ℕ) → ((a b : ℕ) → a < b → b < n → AreInstances g above (f a b)) → AreInstances g above (pairs n f)
-are_pairs g above f n h = are_listed g above (row n f) 0 n (λ a from to. are_listed g above (f a) (a + 1) (n - (a + 1)) (λ b low high. h a b (omega arith) (omega arith)))
+are_pairs : (g : Graph) (above : ℕ → ℕ → Bool) (f : ℕ → ℕ → List Instance) (n : ℕ) → ((a b : ℕ) → a < b → b < n → AreInstances g above (f a b)) → AreInstances g above (instance_pairs n f)
+are_pairs g above f n h = are_listed g above (instance_row n f) 0 n (λ a from to. are_listed g above (f a) (a + 1) (n - (a + 1)) (λ b low high. h a b (omega arith) (omega arith)))
 
-in_listed : (f : ℕ → List Instance) (i : Instance) (first n k : ℕ) → first ≤ k → k < first + n → Contains (f k) i → Contains (listed f first n) i
+in_listed : (f : ℕ → List Instance) (i : Instance) (first n k : ℕ) → first ≤ k → k < first + n → Contains (f k) i → Contains (instances_from f first n) i
 in_listed f i first zero k from to h = absurd (omega arith)
 in_listed f i first (suc n) k from to h = elim (first_or_later first k from) [
-  | inl e ↦ Contains-append_left (f first) (listed f (first + 1) n) i (subst (λ j. Contains (f j) i) (sym e) h)
-  | inr more ↦ Contains-append_right (f first) (listed f (first + 1) n) i (in_listed f i (first + 1) n k more (omega arith) h)
+  | inl e ↦ Contains-append_left (f first) (instances_from f (first + 1) n) i (subst (λ j. Contains (f j) i) (sym e) h)
+  | inr more ↦ Contains-append_right (f first) (instances_from f (first + 1) n) i (in_listed f i (first + 1) n k more (omega arith) h)
 ]
 
-in_pairs : (f : ℕ → ℕ → List Instance) (i : Instance) (n a b : ℕ) → a < b → b < n → Contains (f a b) i → Contains (pairs n f) i
-in_pairs f i n a b rising within h = in_listed (row n f) i 0 n a (omega arith) (omega arith) (in_listed (f a) i (a + 1) (n - (a + 1)) b (omega arith) (omega arith) h)
+in_pairs : (f : ℕ → ℕ → List Instance) (i : Instance) (n a b : ℕ) → a < b → b < n → Contains (f a b) i → Contains (instance_pairs n f) i
+in_pairs f i n a b rising within h = in_listed (instance_row n f) i 0 n a (omega arith) (omega arith) (in_listed (f a) i (a + 1) (n - (a + 1)) b (omega arith) (omega arith) h)
 
 -- the tables say which edges are above which, and which overlap
 pub record AreTablesOf (g : Graph) (above overlap : ℕ → ℕ → Bool) : Type 0 where
@@ -173,16 +174,16 @@ all_listed g above overlap t = record {
     m = length g.edges
 
     one : List Instance
-    one = pairs n (λ u v. Ordered u v ∷ [])
+    one = instance_pairs n (λ u v. Ordered u v ∷ [])
 
     two : List Instance
-    two = listed (λ k. Aligned k ∷ []) 0 n
+    two = instances_from (λ k. Aligned k ∷ []) 0 n
 
     three : List Instance
-    three = pairs n (λ u v. Apart u v ∷ [])
+    three = instance_pairs n (λ u v. Apart u v ∷ [])
 
     four : List Instance
-    four = pairs m (edge_pair above overlap)
+    four = instance_pairs m (edge_pair above overlap)
 
     last : (i : Instance) → Contains four i → Contains (one ++ (two ++ (three ++ four))) i
     last i h = Contains-append_right one (two ++ (three ++ four)) i (Contains-append_right two (three ++ four) i (Contains-append_right three four i h))
@@ -227,7 +228,7 @@ order_tables g o h = record {
     cases e lt true s = let a = (h.above e e lt lt).0 s in absurd (h.one_way e e lt lt (record { over = a; under = a }))
 
 -- the graph's limits keep the variables few
-pub few_variables : (g : Graph) (grid : GridSize) → IsGrid grid → length g.nodes ≤ 128 → length g.edges ≤ 160 → laws_first g grid ≤ VARS + 1
+pub few_variables : (g : Graph) (grid : GridSize) → IsGrid grid → length g.nodes ≤ MAX_NODES → length g.edges ≤ MAX_EDGES → laws_first g grid ≤ VARS + 1
 few_variables g grid is nodes edges =
     let rows = is.height_limit in
     let columns = is.width_limit in

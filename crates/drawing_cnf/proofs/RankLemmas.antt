@@ -8,7 +8,7 @@ use Rattle.std.specs.declared.cmp.Ordering.TheVariants.{Less, Equal, Greater}
 use Rattle.std.proofs.lemmas.Bool.Decides.{nat_tests, leb_tells, eqb_tells}
 use Rattle.std.proofs.lemmas.Int.{ints}
 use Rattle.plan_core.specs.Graph.{Graph, mileage}
-use Rattle.drawing_cnf.specs.Rank.{comes_by, comes_before, one_when, count_below, rank}
+use Rattle.drawing_cnf.specs.Rank.{comes_by, comes_before, one_when, count_below, west_rank}
 
 -- COUNTS
 pub count_next : (p : ℕ → Bool) (n : ℕ) → count_below p (n + 1) ≡ count_below p n + one_when (p n)
@@ -99,22 +99,22 @@ by_total Equal a b u v r ne = elim (leb_tells u v) [
 by_total Greater a b u v r ne = inr (inl r)
 
 -- RANKS
-pub rank_below : (g : Graph) (n : ℕ) → n < length g.nodes → rank g n < length g.nodes
-unfolding rank
+pub rank_below : (g : Graph) (n : ℕ) → n < length g.nodes → west_rank g n < length g.nodes
+unfolding west_rank
 rank_below g n lt = count_fewer (λ u. comes_before g u n) (length g.nodes) n lt (never_before_itself g n (comes_before g n n) refl)
 
 -- a count over all nodes
-pub rank_of_count : (g : Graph) (n u count end : ℕ) → end ≤ u → u ≤ end → end ≡ length g.nodes → count ≡ count_below (λ k. comes_before g k n) u → count ≡ rank g n
-unfolding rank
+pub rank_of_count : (g : Graph) (n u count end : ℕ) → end ≤ u → u ≤ end → end ≡ length g.nodes → count ≡ count_below (λ k. comes_before g k n) u → count ≡ west_rank g n
+unfolding west_rank
 rank_of_count g n u count end from to e h = let z : u ≡ length g.nodes = omega arith in h ∙ ap (count_below (λ k. comes_before g k n)) z
 
-rank_rises : (g : Graph) (u v : ℕ) → u < length g.nodes → Comes (mileage g u) (mileage g v) u v → rank g u < rank g v
-unfolding rank
+rank_rises : (g : Graph) (u v : ℕ) → u < length g.nodes → Comes (mileage g u) (mileage g v) u v → west_rank g u < west_rank g v
+unfolding west_rank
 rank_rises g u v lt h = count_one_more (λ k. comes_before g k u) (λ k. comes_before g k v) (length g.nodes) u
     (λ k before. comes_says g k v (comes_through (mileage g k) (mileage g u) (mileage g v) k u v (comes_tells g k u before) h))
     lt (never_before_itself g u (comes_before g u u) refl) (comes_says g u v h)
 
-pub rank_once : (g : Graph) (u v : ℕ) → u < length g.nodes → v < length g.nodes → rank g u ≡ rank g v → u ≡ v
+pub rank_once : (g : Graph) (u v : ℕ) → u < length g.nodes → v < length g.nodes → west_rank g u ≡ west_rank g v → u ≡ v
 rank_once g u v in_u in_v e = elim (eqb_tells u v) [
   | inl same ↦ same.1
   | inr other ↦ elim (by_total (int_cmp (mileage g u) (mileage g v)) (mileage g u) (mileage g v) u v (int_ranks (mileage g u) (mileage g v)) other.1) [
@@ -126,20 +126,20 @@ rank_once g u v in_u in_v e = elim (eqb_tells u v) [
 -- the node at a place, if there is one
 pub record IsAtPlace (g : Graph) (k n : ℕ) : Type 0 where
   pub within : n < length g.nodes
-  pub place : rank g n ≡ k
+  pub place : west_rank g n ≡ k
 
-seek : (g : Graph) (k count : ℕ) → count ≤ length g.nodes → ((n : ℕ) × IsAtPlace g k n) ⊎ ((n : ℕ) → n < count → rank g n ≡ k → ⊥)
+seek : (g : Graph) (k count : ℕ) → count ≤ length g.nodes → ((n : ℕ) × IsAtPlace g k n) ⊎ ((n : ℕ) → n < count → west_rank g n ≡ k → ⊥)
 seek g k zero few = inr (λ n lt e. omega arith)
-seek g k (suc count) few = elim (eqb_tells (rank g count) k) [
+seek g k (suc count) few = elim (eqb_tells (west_rank g count) k) [
   | inl here ↦ inl (count, record { within = omega arith; place = here.1 })
   | inr other ↦ elim (seek g k count (omega arith)) [
     | inl found ↦ inl found
     | inr none ↦ inr (λ n lt e. elim (eqb_tells n count) [
-      | inl same ↦ other.1 (subst (λ j. rank g j ≡ k) same.1 e)
+      | inl same ↦ other.1 (subst (λ j. west_rank g j ≡ k) same.1 e)
       | inr less ↦ let ne = less.1 in none n (omega arith) e
     ])
   ]
 ]
 
-pub at_place : (g : Graph) (k : ℕ) → ((n : ℕ) × IsAtPlace g k n) ⊎ ((n : ℕ) → n < length g.nodes → rank g n ≡ k → ⊥)
+pub at_place : (g : Graph) (k : ℕ) → ((n : ℕ) × IsAtPlace g k n) ⊎ ((n : ℕ) → n < length g.nodes → west_rank g n ≡ k → ⊥)
 at_place g k = seek g k (length g.nodes) (omega arith)

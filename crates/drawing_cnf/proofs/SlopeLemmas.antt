@@ -14,7 +14,7 @@ use Rattle.plan_core.specs.Laws.{steepness, IsOneMore, Diverges, PortsAreAligned
 use Rattle.plan_core.proofs.Deciding.{decides_smaller}
 use Rattle.cnf_core.specs.Lit.{Literal}
 use Rattle.cnf_core.specs.Assignment.{Assignment, Satisfies, SatisfiesAll}
-use Rattle.edge_shape.specs.Rules.{Follows}
+use Rattle.edge_shape.specs.Rules.{FollowsRules}
 use Rattle.edge_lines.specs.Columns.{is_up, is_down}
 use Rattle.drawing_cnf.specs.Stands.{DrawingVars, SlopeVars, west_slope, east_slope, slope_vars, ReadsSlope, ReadsDrawing}
 use Rattle.drawing_cnf.specs.LawClauses.{flat_rules, same_rules, one_more_rules, greater_rules, diverge_rules, ports_rules, aligned_clauses}
@@ -49,19 +49,19 @@ flat_case Down f g = absurd (g refl)
 flat_case Level f g = refl
 flat_case Up f g = absurd (f refl)
 
-flat_mean : (v : Assignment) (a : SlopeVars) (s : Slope) → ReadsSlope v a s → Follows v (flat_rules a) → s ≡ Level
+flat_mean : (v : Assignment) (a : SlopeVars) (s : Slope) → ReadsSlope v a s → FollowsRules v (flat_rules a) → s ≡ Level
 flat_mean v a s r h = flat_case s (λ e. h.0 (r.rises ∙ e, tt)) (λ e. h.1.0 (r.falls ∙ e, tt))
 
-flat_hold : (v : Assignment) (a : SlopeVars) (s : Slope) → ReadsSlope v a s → s ≡ Level → Follows v (flat_rules a)
+flat_hold : (v : Assignment) (a : SlopeVars) (s : Slope) → ReadsSlope v a s → s ≡ Level → FollowsRules v (flat_rules a)
 flat_hold v a s r e = ((λ x. not_so (v a.rises) (is_up s) r.rises (ap is_up e) x.0), ((λ x. not_so (v a.falls) (is_down s) r.falls (ap is_down e) x.0), tt))
 
 -- one slope
-same_mean : (v : Assignment) (a b : SlopeVars) (s t : Slope) → ReadsSlope v a s → ReadsSlope v b t → Follows v (same_rules a b) → s ≡ t
+same_mean : (v : Assignment) (a b : SlopeVars) (s t : Slope) → ReadsSlope v a s → ReadsSlope v b t → FollowsRules v (same_rules a b) → s ≡ t
 same_mean v a b s t r q h = slope_by_bits s t
     (sym r.rises ∙ bool_same (v a.rises) (v b.rises) (λ e. only (h.0 (e, tt))) (λ e. only (h.1.0 (e, tt))) ∙ q.rises)
     (sym r.falls ∙ bool_same (v a.falls) (v b.falls) (λ e. only (h.1.1.0 (e, tt))) (λ e. only (h.1.1.1.0 (e, tt))) ∙ q.falls)
 
-same_hold : (v : Assignment) (a b : SlopeVars) (s t : Slope) → ReadsSlope v a s → ReadsSlope v b t → s ≡ t → Follows v (same_rules a b)
+same_hold : (v : Assignment) (a b : SlopeVars) (s t : Slope) → ReadsSlope v a s → ReadsSlope v b t → s ≡ t → FollowsRules v (same_rules a b)
 same_hold v a b s t r q e =
     let rises : v a.rises ≡ v b.rises = r.rises ∙ ap is_up e ∙ sym q.rises in
     let falls : v a.falls ≡ v b.falls = r.falls ∙ ap is_down e ∙ sym q.falls in
@@ -96,12 +96,12 @@ one_more_facts Up Down e = cc
 one_more_facts Up Level e = cc
 one_more_facts Up Up e = cc
 
-one_more_mean : (v : Assignment) (a b : SlopeVars) (s t : Slope) → ReadsSlope v a s → ReadsSlope v b t → Follows v (one_more_rules a b) → IsOneMore s t
+one_more_mean : (v : Assignment) (a b : SlopeVars) (s t : Slope) → ReadsSlope v a s → ReadsSlope v b t → FollowsRules v (one_more_rules a b) → IsOneMore s t
 one_more_mean v a b s t r q h = one_more_case s t (λ e. h.0 (r.rises ∙ e, tt)) (λ e. h.1.0 (q.falls ∙ e, tt))
     (elim (h.1.1.0 tt) [ inl x ↦ inl (sym r.falls ∙ x) | inr (inl x) ↦ inr (sym q.rises ∙ x) | inr (inr x) ↦ absurd x ])
     (λ x y. h.1.1.1.0 (r.falls ∙ x, (q.rises ∙ y, tt)))
 
-one_more_hold : (v : Assignment) (a b : SlopeVars) (s t : Slope) → ReadsSlope v a s → ReadsSlope v b t → IsOneMore s t → Follows v (one_more_rules a b)
+one_more_hold : (v : Assignment) (a b : SlopeVars) (s t : Slope) → ReadsSlope v a s → ReadsSlope v b t → IsOneMore s t → FollowsRules v (one_more_rules a b)
 one_more_hold v a b s t r q e =
     let f = one_more_facts s t e in (
       (λ x. not_so (v a.rises) (is_up s) r.rises f.not_up x.0),
@@ -143,11 +143,11 @@ greater_facts Up Down h = not_less Up Down h refl
 greater_facts Up Level h = not_less Up Level h refl
 greater_facts Up Up h = not_less Up Up h refl
 
-greater_mean : (v : Assignment) (a b : SlopeVars) (s t : Slope) → ReadsSlope v a s → ReadsSlope v b t → Follows v (greater_rules a b) → steepness s <ℤ steepness t
+greater_mean : (v : Assignment) (a b : SlopeVars) (s t : Slope) → ReadsSlope v a s → ReadsSlope v b t → FollowsRules v (greater_rules a b) → steepness s <ℤ steepness t
 greater_mean v a b s t r q h = greater_case s t (λ e. h.0 (q.falls ∙ e, tt)) (λ e. h.1.0 (r.rises ∙ e, tt))
     (elim (h.1.1.0 tt) [ inl x ↦ inl (sym q.rises ∙ x) | inr (inl x) ↦ inr (sym r.falls ∙ x) | inr (inr x) ↦ absurd x ])
 
-greater_hold : (v : Assignment) (a b : SlopeVars) (s t : Slope) → ReadsSlope v a s → ReadsSlope v b t → steepness s <ℤ steepness t → Follows v (greater_rules a b)
+greater_hold : (v : Assignment) (a b : SlopeVars) (s t : Slope) → ReadsSlope v a s → ReadsSlope v b t → steepness s <ℤ steepness t → FollowsRules v (greater_rules a b)
 greater_hold v a b s t r q h =
     let f = greater_facts s t h in (
       (λ x. not_so (v b.falls) (is_down t) q.falls f.not_down x.0),
@@ -158,20 +158,20 @@ greater_hold v a b s t r q h =
     )
 
 -- the diverging leg
-diverge_mean : (v : Assignment) (legs : Compass) (branch : Side) (a b : SlopeVars) (s t : Slope) → ReadsSlope v a s → ReadsSlope v b t → Follows v (diverge_rules legs branch a b) → Diverges legs branch s t
+diverge_mean : (v : Assignment) (legs : Compass) (branch : Side) (a b : SlopeVars) (s t : Slope) → ReadsSlope v a s → ReadsSlope v b t → FollowsRules v (diverge_rules legs branch a b) → Diverges legs branch s t
 diverge_mean v East Upper a b s t r q h = one_more_mean v a b s t r q h
 diverge_mean v East Lower a b s t r q h = one_more_mean v b a t s q r h
 diverge_mean v West Upper a b s t r q h = one_more_mean v b a t s q r h
 diverge_mean v West Lower a b s t r q h = one_more_mean v a b s t r q h
 
-diverge_hold : (v : Assignment) (legs : Compass) (branch : Side) (a b : SlopeVars) (s t : Slope) → ReadsSlope v a s → ReadsSlope v b t → Diverges legs branch s t → Follows v (diverge_rules legs branch a b)
+diverge_hold : (v : Assignment) (legs : Compass) (branch : Side) (a b : SlopeVars) (s t : Slope) → ReadsSlope v a s → ReadsSlope v b t → Diverges legs branch s t → FollowsRules v (diverge_rules legs branch a b)
 diverge_hold v East Upper a b s t r q h = one_more_hold v a b s t r q h
 diverge_hold v East Lower a b s t r q h = one_more_hold v b a t s q r h
 diverge_hold v West Upper a b s t r q h = one_more_hold v b a t s q r h
 diverge_hold v West Lower a b s t r q h = one_more_hold v a b s t r q h
 
 -- all kinds of nodes
-pub ports_mean : (v : Assignment) (at : ℕ → SlopeVars) (slopes : ℕ → Slope) (m : ℕ) (ports : Ports) → ((e : ℕ) → e < m → ReadsSlope v (at e) (slopes e)) → All (λ e. e < m) (edges_of ports) → Follows v (ports_rules at ports) → PortsAreAligned slopes ports
+pub ports_mean : (v : Assignment) (at : ℕ → SlopeVars) (slopes : ℕ → Slope) (m : ℕ) (ports : Ports) → ((e : ℕ) → e < m → ReadsSlope v (at e) (slopes e)) → All (λ e. e < m) (edges_of ports) → FollowsRules v (ports_rules at ports) → PortsAreAligned slopes ports
 ports_mean v at slopes m (End e side) r there h = flat_mean v (at e) (slopes e) (r e (there 0 e (omega arith))) h
 ports_mean v at slopes m (Joint a b) r there h = same_mean v (at a) (at b) (slopes a) (slopes b) (r a (there 0 a (omega arith))) (r b (there 1 a (omega arith))) h
 ports_mean v at slopes m (Switch legs branch t s d) r there h =
@@ -199,7 +199,7 @@ ports_mean v at slopes m (Crossing wu wl eu el) r there h =
       rising_is_greater = greater_mean v (at wu) (at wl) (slopes wu) (slopes wl) a b (follows_right v two three rest);
     }
 
-pub ports_hold : (v : Assignment) (at : ℕ → SlopeVars) (slopes : ℕ → Slope) (m : ℕ) (ports : Ports) → ((e : ℕ) → e < m → ReadsSlope v (at e) (slopes e)) → All (λ e. e < m) (edges_of ports) → PortsAreAligned slopes ports → Follows v (ports_rules at ports)
+pub ports_hold : (v : Assignment) (at : ℕ → SlopeVars) (slopes : ℕ → Slope) (m : ℕ) (ports : Ports) → ((e : ℕ) → e < m → ReadsSlope v (at e) (slopes e)) → All (λ e. e < m) (edges_of ports) → PortsAreAligned slopes ports → FollowsRules v (ports_rules at ports)
 ports_hold v at slopes m (End e side) r there h = flat_hold v (at e) (slopes e) (r e (there 0 e (omega arith))) h
 ports_hold v at slopes m (Joint a b) r there h = same_hold v (at a) (at b) (slopes a) (slopes b) (r a (there 0 a (omega arith))) (r b (there 1 a (omega arith))) h
 ports_hold v at slopes m (Switch legs branch t s d) r there h =

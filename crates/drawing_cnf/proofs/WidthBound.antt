@@ -20,7 +20,7 @@ use Rattle.cnf_core.specs.Formula.{each}
 use Rattle.cnf_core.proofs.ClauseLemmas.{first_or_later, satisfies_append, satisfies_left, satisfies_right, satisfies_each, satisfies_at, all_there_append, all_there_each}
 use Rattle.cnf_core.proofs.GatherLemmas.{value-flip, flip_within, clause_holds, clause_there}
 use Rattle.cnf_core.proofs.SettingLemmas.{patch, patch_same}
-use Rattle.order_int.specs.OrderInt.{at_least}
+use Rattle.order_int.specs.OrderInt.{int_at_least}
 use Rattle.order_int.proofs.IntLemmas.{at_least_within}
 use Rattle.edge_lines.proofs.GridLemmas.{heights_on_grid}
 use Rattle.drawing_cnf.specs.Stands.{DrawingVars, IsLoose}
@@ -59,7 +59,7 @@ width_low g grid d w is loose low = maximum-le (map (λ (p : Point). p.x) (all_p
         All-weaker (IsOnGrid (grid_size w grid.height)) (λ (p : Point). p.x ≤ w) (λ p on. on.in_width) (line d e)
         (heights_on_grid (grid_size w grid.height) (line d e) j.shape j.in_height (omega arith))
 
-some_node : (v : Assignment) (x : DrawingVars) (k n rest most : ℕ) → n + rest ≤ most → SomeTrue v (node_columns x k n rest) → (i : ℕ) × (i < most) × Is (value v (at_least (x.node i).x k))
+some_node : (v : Assignment) (x : DrawingVars) (k n rest most : ℕ) → n + rest ≤ most → SomeTrue v (node_columns x k n rest) → (i : ℕ) × (i < most) × Is (value v (int_at_least (x.node i).x k))
 some_node v x k n zero most le h = absurd h
 some_node v x k n (suc rest) most le (inl h) = (n, omega arith, h)
 some_node v x k n (suc rest) most le (inr h) = some_node v x k (n + 1) rest most (omega arith) h
@@ -76,7 +76,7 @@ width_tells v g x grid d b k r from h = cases (v b) refl
     long : Clauses
     long = some_column_clause x m b k
 
-    reads : (n : ℕ) → n < m → value v (at_least (x.node n).x k) ≡ nat_le k (place d n).x
+    reads : (n : ℕ) → n < m → value v (int_at_least (x.node n).x k) ≡ nat_le k (place d n).x
     reads n lt = (r.reads.points n lt).x.each k
 
     cases : (s : Bool) → v b ≡ s → s ≡ nat_le k (width_of d)
@@ -94,8 +94,8 @@ width_tells v g x grid d b k r from h = cases (v b) refl
           let more = le.1 in
           let low = width_low g grid d (k - 1) r.graph r.loose (λ n lt. elim (leb_tells k (place d n).x) [
             | inr gt ↦ let less = gt.1 in omega arith
-            | inl high ↦ absurd (elim (either_of v (flip (at_least (x.node n).x k)) (yes b) (satisfies_at v (column_gives x b k) 0 m (satisfies_left v given long h) n (omega arith) (omega arith))) [
-              | inl off ↦ cc (sym (value-flip v (at_least (x.node n).x k)) ∙ off, reads n lt ∙ high.0)
+            | inl high ↦ absurd (elim (either_of v (flip (int_at_least (x.node n).x k)) (yes b) (satisfies_at v (column_gives x b k) 0 m (satisfies_left v given long h) n (omega arith) (omega arith))) [
+              | inl off ↦ cc (sym (value-flip v (int_at_least (x.node n).x k)) ∙ off, reads n lt ∙ high.0)
               | inr on ↦ cc (s, on)
             ])
           ]) in
@@ -106,15 +106,15 @@ pub width_exact : (v : Assignment) (g : Graph) (x : DrawingVars) (grid : GridSiz
 width_exact v g x grid d last cap r h k from to = width_tells v g x grid d (last + k) k r from (satisfies_at v (λ k. width_at g x (last + k) k) 1 cap h k from (omega arith))
 
 -- either one is at least k, or all are less
-columns_or : (v : Assignment) (x : DrawingVars) (k n rest : ℕ) → SomeTrue v (node_columns x k n rest) ⊎ ((i : ℕ) → n ≤ i → i < n + rest → value v (at_least (x.node i).x k) ≡ false)
+columns_or : (v : Assignment) (x : DrawingVars) (k n rest : ℕ) → SomeTrue v (node_columns x k n rest) ⊎ ((i : ℕ) → n ≤ i → i < n + rest → value v (int_at_least (x.node i).x k) ≡ false)
 columns_or v x k n zero = inr (λ i from to. absurd (omega arith))
-columns_or v x k n (suc rest) = cases (value v (at_least (x.node n).x k)) refl (columns_or v x k (n + 1) rest)
+columns_or v x k n (suc rest) = cases (value v (int_at_least (x.node n).x k)) refl (columns_or v x k (n + 1) rest)
   where
-    cases : (b : Bool) → value v (at_least (x.node n).x k) ≡ b → (SomeTrue v (node_columns x k (n + 1) rest) ⊎ ((i : ℕ) → n + 1 ≤ i → i < n + 1 + rest → value v (at_least (x.node i).x k) ≡ false)) → SomeTrue v (node_columns x k n (suc rest)) ⊎ ((i : ℕ) → n ≤ i → i < n + suc rest → value v (at_least (x.node i).x k) ≡ false)
+    cases : (b : Bool) → value v (int_at_least (x.node n).x k) ≡ b → (SomeTrue v (node_columns x k (n + 1) rest) ⊎ ((i : ℕ) → n + 1 ≤ i → i < n + 1 + rest → value v (int_at_least (x.node i).x k) ≡ false)) → SomeTrue v (node_columns x k n (suc rest)) ⊎ ((i : ℕ) → n ≤ i → i < n + suc rest → value v (int_at_least (x.node i).x k) ≡ false)
     cases true s other = inl (inl s)
     cases false s (inl a) = inl (inr a)
     cases false s (inr f) = inr (λ i from to. elim (first_or_later n i from) [
-      | inl same ↦ subst (λ j. value v (at_least (x.node j).x k) ≡ false) same s
+      | inl same ↦ subst (λ j. value v (int_at_least (x.node j).x k) ≡ false) same s
       | inr more ↦ f i more (omega arith)
     ])
 
@@ -127,17 +127,17 @@ width_holds v g x grid d b k r from h = satisfies_append v (each (column_gives x
     m : ℕ
     m = length g.nodes
 
-    reads : (n : ℕ) → n < m → value v (at_least (x.node n).x k) ≡ nat_le k (place d n).x
+    reads : (n : ℕ) → n < m → value v (int_at_least (x.node n).x k) ≡ nat_le k (place d n).x
     reads n lt = (r.reads.points n lt).x.each k
 
     give : (n : ℕ) → n < m → SatisfiesAll v (column_gives x b k n)
-    give n lt = clause_holds v [] (flip (at_least (x.node n).x k) ∷ yes b ∷ []) (inr (elim (leb_tells k (width_of d)) [
+    give n lt = clause_holds v [] (flip (int_at_least (x.node n).x k) ∷ yes b ∷ []) (inr (elim (leb_tells k (width_of d)) [
       | inl le ↦ inr (inl (h ∙ le.0))
       | inr gt ↦
           let less = gt.1 in
           let low = place_low g grid d n r.loose lt in
           let t : nat_le k (place d n).x ≡ false = grind (arith, nat_tests, low, less) in
-          inl (value-flip v (at_least (x.node n).x k) ∙ ap not (reads n lt ∙ t))
+          inl (value-flip v (int_at_least (x.node n).x k) ∙ ap not (reads n lt ∙ t))
     ]))
 
     all_or : (s : Bool) → v b ≡ s → SomeTrue v (node_columns x k 0 m) ⊎ SomeTrue v (flip (yes b) ∷ [])
@@ -173,7 +173,7 @@ width_at_there : (vars : ℕ) (g : Graph) (x : DrawingVars) (width b k : ℕ) �
 width_at_there vars g x width b k a from to =
     let m = length g.nodes in
     all_there_append vars (each (column_gives x b k) 0 m) (some_column_clause x m b k)
-    (all_there_each vars (column_gives x b k) 0 m (λ n low high. clause_there vars [] (flip (at_least (x.node n).x k) ∷ yes b ∷ []) tt (flip_within vars (at_least (x.node n).x k) (at_least_within vars (x.node n).x k (a.node_x n (omega arith))), ((from, to), tt))))
+    (all_there_each vars (column_gives x b k) 0 m (λ n low high. clause_there vars [] (flip (int_at_least (x.node n).x k) ∷ yes b ∷ []) tt (flip_within vars (int_at_least (x.node n).x k) (at_least_within vars (x.node n).x k (a.node_x n (omega arith))), ((from, to), tt))))
     (clause_there vars [] (node_columns x k 0 m ++ flip (yes b) ∷ []) tt (both_within vars (node_columns x k 0 m) (flip (yes b) ∷ []) (columns_within vars g x width k 0 m a (omega arith)) ((from, to), tt)))
 
 pub width_there : (vars : ℕ) (g : Graph) (x : DrawingVars) (width last cap : ℕ) → AreVars vars g x width → vars ≤ last → AllThere (last + cap) (width_bound g x last cap)

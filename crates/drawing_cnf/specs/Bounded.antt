@@ -10,7 +10,7 @@ use Rattle.plan_core.specs.Values.{values_of, value_of}
 use Rattle.plan_core.specs.Lawful.{Lawful}
 use Rattle.cnf_core.specs.Clause.{Clauses}
 use Rattle.cnf_core.specs.Assignment.{Assignment, SatisfiesAll}
-use Rattle.drawing_cnf.specs.Stands.{DrawingVars, Stands}
+use Rattle.drawing_cnf.specs.Stands.{DrawingVars, StandsFor}
 use Rattle.drawing_cnf.specs.Expected.{drawing_vars, formula_clauses, formula_size}
 use Rattle.drawing_cnf.specs.Bounds.{IsExact, bound_clauses, bound_size}
 
@@ -23,19 +23,19 @@ pub record Bound : Type 0 where
 abbrev pub bound : Criterion → ℕ → ℕ → Bound
 bound criterion last cap = record { criterion = criterion; last = last; cap = cap }
 
-abbrev pub clauses_of : Graph → DrawingVars → GridSize → Bound → Clauses
-clauses_of g x grid b = bound_clauses g x grid b.last b.cap b.criterion
+abbrev pub clauses_of_bound : Graph → DrawingVars → GridSize → Bound → Clauses
+clauses_of_bound g x grid b = bound_clauses g x grid b.last b.cap b.criterion
 
-abbrev pub size_of : Graph → DrawingVars → GridSize → Bound → ℕ
-size_of g x grid b = bound_size g x grid b.last b.cap b.criterion
+abbrev pub size_of_bound : Graph → DrawingVars → GridSize → Bound → ℕ
+size_of_bound g x grid b = bound_size g x grid b.last b.cap b.criterion
 
 abbrev pub bounds_clauses : Graph → DrawingVars → GridSize → List Bound → Clauses
-bounds_clauses g x grid bounds = flat_map (clauses_of g x grid) bounds
+bounds_clauses g x grid bounds = flat_map (clauses_of_bound g x grid) bounds
 
 -- each stands behind the variables of number vars and of those before it
 abbrev pub AreBehind : Graph → DrawingVars → GridSize → ℕ → List Bound → Type 0
 AreBehind g x grid vars [] = ⊤
-AreBehind g x grid vars (b ∷ rest) = (vars ≤ b.last) × AreBehind g x grid (b.last + size_of g x grid b) rest
+AreBehind g x grid vars (b ∷ rest) = (vars ≤ b.last) × AreBehind g x grid (b.last + size_of_bound g x grid b) rest
 
 -- the criteria of an order that have a cap above 0, one right behind another
 abbrev pub bounds_from : Graph → DrawingVars → GridSize → (Criterion → ℕ) → ℕ → List Criterion → List Bound
@@ -62,7 +62,7 @@ Tells v values bounds = All (λ (b : Bound). IsExact v b.last b.cap (value_of va
 -- the assignment stands for a lawful drawing, and the bounds tell its values
 pub record StandsAndTells (v : Assignment) (g : Graph) (above : ℕ → ℕ → Bool) (grid : GridSize) (x : DrawingVars) (bounds : List Bound) : Type 0 where
   pub drawing : Drawing
-  pub stands : Stands v g x drawing
+  pub stands : StandsFor v g x drawing
   pub lawful : Lawful g above grid drawing
   pub tells : Tells v (values_of drawing) bounds
 

@@ -11,15 +11,15 @@ use Rattle.order_int.specs.IntVars.{int_vars}
 use Rattle.order_int.specs.OrderInt.{int_clauses}
 use Rattle.edge_shape.specs.EdgeVars.{NodeInts, node_ints, edge_lits, edge_size}
 use Rattle.edge_shape.specs.Edge.{edge_clauses}
-use Rattle.drawing_cnf.specs.Rank.{rank}
-use Rattle.drawing_cnf.specs.Stands.{DrawingVars, Stands}
+use Rattle.drawing_cnf.specs.Rank.{west_rank}
+use Rattle.drawing_cnf.specs.Stands.{DrawingVars, StandsFor}
 use Rattle.drawing_cnf.specs.LawClauses.{laws_clauses, laws_size}
 
 -- Where the variables lie: nodes first, from west to east, then edges by number, then the laws'.
 
 -- the integers at a place of the row of nodes, y first
-abbrev pub node_at : GridSize → ℕ → NodeInts
-node_at grid k =
+abbrev pub row_ints : GridSize → ℕ → NodeInts
+row_ints grid k =
     node_ints (int_vars 0 grid.width (1 + k * (grid.height + grid.width) + grid.height)) (int_vars 0 grid.height (1 + k * (grid.height + grid.width)))
 
 abbrev pub edges_first : Graph → GridSize → ℕ
@@ -30,7 +30,7 @@ edge_first g grid e = edges_first g grid + e * edge_size grid.height grid.width
 
 abbrev pub drawing_vars : Graph → GridSize → DrawingVars
 drawing_vars g grid = record {
-  node = λ n. node_at grid (rank g n);
+  node = λ n. row_ints grid (west_rank g n);
   edge = λ e. edge_lits (edge_first g grid e) grid.height grid.width;
 }
 
@@ -41,16 +41,16 @@ laws_first g grid = edge_first g grid (length g.edges)
 -- edges, as the tables have them.
 
 -- the lists of f at first and the n - 1 numbers after it
-abbrev pub listed : (ℕ → List Instance) → ℕ → ℕ → List Instance
-listed f first zero = []
-listed f first (suc n) = f first ++ listed f (first + 1) n
+abbrev pub instances_from : (ℕ → List Instance) → ℕ → ℕ → List Instance
+instances_from f first zero = []
+instances_from f first (suc n) = f first ++ instances_from f (first + 1) n
 
 -- those of each two numbers below n, the smaller first
-abbrev pub row : ℕ → (ℕ → ℕ → List Instance) → ℕ → List Instance
-row n f a = listed (f a) (a + 1) (n - (a + 1))
+abbrev pub instance_row : ℕ → (ℕ → ℕ → List Instance) → ℕ → List Instance
+instance_row n f a = instances_from (f a) (a + 1) (n - (a + 1))
 
-abbrev pub pairs : ℕ → (ℕ → ℕ → List Instance) → List Instance
-pairs n f = listed (row n f) 0 n
+abbrev pub instance_pairs : ℕ → (ℕ → ℕ → List Instance) → List Instance
+instance_pairs n f = instances_from (instance_row n f) 0 n
 
 -- of two edges, the smaller number first: which law they have
 abbrev pub below_by : Bool → Bool → Bool → ℕ → ℕ → List Instance
@@ -64,8 +64,8 @@ edge_pair above overlap e f = pair_by (above e f) (above f e) (overlap e f) e f
 
 abbrev pub instances : Graph → (ℕ → ℕ → Bool) → (ℕ → ℕ → Bool) → List Instance
 instances g above overlap =
-    pairs (length g.nodes) (λ u v. Ordered u v ∷ []) ++ (listed (λ n. Aligned n ∷ []) 0 (length g.nodes)
-    ++ (pairs (length g.nodes) (λ u v. Apart u v ∷ []) ++ pairs (length g.edges) (edge_pair above overlap)))
+    instance_pairs (length g.nodes) (λ u v. Ordered u v ∷ []) ++ (instances_from (λ n. Aligned n ∷ []) 0 (length g.nodes)
+    ++ (instance_pairs (length g.nodes) (λ u v. Apart u v ∷ []) ++ instance_pairs (length g.edges) (edge_pair above overlap)))
 
 -- The parts.
 
@@ -113,7 +113,7 @@ most_variables g grid = 100 * (parts g * area grid) + 10 * (parts g * parts g * 
 -- the assignment stands for a lawful drawing
 pub record StandsForLawful (v : Assignment) (g : Graph) (above : ℕ → ℕ → Bool) (grid : GridSize) (x : DrawingVars) : Type 0 where
   pub drawing : Drawing
-  pub stands : Stands v g x drawing
+  pub stands : StandsFor v g x drawing
   pub lawful : Lawful g above grid drawing
 
 abbrev pub Sound : Graph → (ℕ → ℕ → Bool) → GridSize → DrawingVars → Clauses → Type 0
@@ -123,7 +123,7 @@ Sound g above grid x clauses = (v : Assignment) → SatisfiesAll v clauses → S
 pub record ModelOf (g : Graph) (x : DrawingVars) (clauses : Clauses) (d : Drawing) : Type 0 where
   pub to : Assignment
   pub satisfies : SatisfiesAll to clauses
-  pub stands : Stands to g x d
+  pub stands : StandsFor to g x d
 
 abbrev pub Covers : Graph → (ℕ → ℕ → Bool) → GridSize → DrawingVars → Clauses → Type 0
 Covers g above grid x clauses = (d : Drawing) → Lawful g above grid d → ModelOf g x clauses d

@@ -24,5 +24,5 @@ count_below p zero = 0
 count_below p (suc n) = count_below p n + one_when (p n)
 
 -- a node's place in the row, from 0 in the west
-unfoldable pub rank : Graph → ℕ → ℕ
-rank g n = count_below (λ u. comes_before g u n) (length g.nodes)
+unfoldable pub west_rank : Graph → ℕ → ℕ
+west_rank g n = count_below (λ u. comes_before g u n) (length g.nodes)

@@ -11,7 +11,7 @@ use Rattle.plan_core.specs.Lawful.{Fits}
 use Rattle.cnf_core.specs.Assignment.{Assignment}
 use Rattle.order_int.specs.OrderInt.{Reads}
 use Rattle.edge_shape.specs.EdgeVars.{NodeInts, EdgeLits}
-use Rattle.edge_lines.specs.Track.{step}
+use Rattle.edge_lines.specs.Track.{step_slope}
 use Rattle.edge_lines.specs.Columns.{is_up, is_down, is_level}
 use Rattle.edge_lines.specs.Joins.{JoinsPoints}
 use Rattle.edge_lines.specs.Columns.{has_level_piece}
@@ -22,7 +22,7 @@ pub record DrawingVars : Type 0 where
   pub edge : ℕ → EdgeLits
 
 -- the nodes' integers give the drawing's points, and the edges' heights its lines
-pub record Stands (v : Assignment) (g : Graph) (x : DrawingVars) (d : Drawing) : Type 0 where
+pub record StandsFor (v : Assignment) (g : Graph) (x : DrawingVars) (d : Drawing) : Type 0 where
   pub columns : (n : ℕ) → n < length g.nodes → Reads v (x.node n).x (place d n).x
   pub rows : (n : ℕ) → n < length g.nodes → Reads v (x.node n).y (place d n).y
   pub heights : (e : ℕ) → e < length g.edges → (c : ℕ) → HasColumn (line d e) c → Reads v ((x.edge e).height c) (height (line d e) c)
@@ -57,8 +57,8 @@ slope_vars g x n e = end_slope ((edge g e).west == n) (x.edge e)
 -- what laws and bounds read of an edge's variables; where a level piece was seen and inner points they don't
 pub record ReadsShape (v : Assignment) (e : EdgeLits) (width : ℕ) (l : List Point) : Type 0 where
   pub inside : (c : ℕ) → c ≤ width → v (e.inside c) ≡ (nat_le (west_end l).x c && nat_le c (east_end l).x)
-  pub up : (c : ℕ) → c < width → v (e.up c) ≡ is_up (step (height l) c)
-  pub down : (c : ℕ) → c < width → v (e.down c) ≡ is_down (step (height l) c)
+  pub up : (c : ℕ) → c < width → v (e.up c) ≡ is_up (step_slope (height l) c)
+  pub down : (c : ℕ) → c < width → v (e.down c) ≡ is_down (step_slope (height l) c)
   pub height : (c : ℕ) → c ≤ width → Reads v (e.height c) (height l c)
   pub west : ReadsSlope v (west_slope e) (slope_west l)
   pub east : ReadsSlope v (east_slope e) (slope_east l)

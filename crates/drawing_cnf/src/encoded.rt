@@ -6,7 +6,7 @@ ghost use Rattle.cnf_core.specs.Clause.{words_of};
 ghost use Rattle.track_order.specs.Order.{is_above, is_overlap, IsOrderOf};
 ghost use Rattle.edge_shape.specs.EdgeVars.{lits_of};
 ghost use Rattle.drawing_cnf.specs.Expected.{drawing_vars, formula_clauses, formula_size, most_words, most_variables, Sound, Covers};
-ghost use Rattle.drawing_cnf.specs.Encoding.{vars_of};
+ghost use Rattle.drawing_cnf.specs.Encoding.{encoded_vars};
 
 use crate::edge_laws::edge_vars;
 use crate::rank::node_vars;
@@ -47,8 +47,8 @@ impl<'a> Encoded<'a> {
     /// A node's column and row, in which `Stands` reads its point.
     pub fn node(&self, n: NodeNo) -> NodeVars
         requires { n.0 < length self.now.graph.nodes }
-        ensures x { result.x ≡ ((vars_of self.now).node n.0).x }
-        ensures y { result.y ≡ ((vars_of self.now).node n.0).y }
+        ensures x { result.x ≡ ((encoded_vars self.now).node n.0).x }
+        ensures y { result.y ≡ ((encoded_vars self.now).node n.0).y }
     {
         node_vars(self.graph, self.grid, n.0)
     }
@@ -56,7 +56,7 @@ impl<'a> Encoded<'a> {
     /// The variables of an edge, in whose heights `Stands` reads its line.
     pub fn edge(&self, e: EdgeNo) -> EdgeVars
         requires { e.0 < length self.now.graph.edges }
-        ensures { lits_of result ≡ (vars_of self.now).edge e.0 }
+        ensures { lits_of result ≡ (encoded_vars self.now).edge e.0 }
     {
         edge_vars(self.graph, self.grid, e)
     }

@@ -1,5 +1,6 @@
 // The bound of height.
 ghost use Rattle.std.specs.Prelude.{◌≡◌, ◌≤◌, ◌<◌, ◌+◌, ◌*◌, ◌++◌, length, IfOk, OnOk};
+ghost use Rattle.plan_core.specs.declared.limits.TheConstants.{MAX_WIDTH};
 ghost use Rattle.cnf_core.specs.declared.limits.TheConstants.{VARS};
 ghost use Rattle.cnf_core.specs.LitOrTruth.{IsWithin};
 ghost use Rattle.cnf_core.specs.Formula.{each};
@@ -41,7 +42,7 @@ fn add_heights_give(
 ) -> Result<(), CnfFault>
     requires limit { f.old.vars ≤ VARS }
     requires width { width ≡ e.now.width }
-    requires columns { width ≤ 64 }
+    requires columns { width ≤ MAX_WIDTH }
     requires edge { e.now.first + edge_size e.now.high e.now.width ≤ f.old.vars + 1 }
     requires from { 1 ≤ b }
     requires to { b ≤ f.old.vars }
@@ -148,7 +149,7 @@ fn add_edges_give(
 /// Puts the literals "the height is at least k" of an edge behind the others.
 fn push_heights(lits: &mut Vec<Lit>, e: &EdgeVars, width: u16, k: u32) -> Result<(), AllocError>
     requires width { width ≡ e.now.width }
-    requires columns { width ≤ 64 }
+    requires columns { width ≤ MAX_WIDTH }
     requires from { 1 ≤ k }
     requires to { k ≤ e.now.high }
     ensures { OnOk result (lits.new.items ≡ lits.old.items ++ column_lits (lits_of e.now) k 0 (width + 1)) }

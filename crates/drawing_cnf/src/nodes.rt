@@ -4,8 +4,8 @@ ghost use Rattle.cnf_core.specs.declared.limits.TheConstants.{VARS};
 ghost use Rattle.cnf_core.specs.Formula.{each};
 ghost use Rattle.cnf_core.specs.Added.{AddsClauses, AddsBlock};
 ghost use Rattle.edge_shape.specs.EdgeVars.{edge_size};
-ghost use Rattle.drawing_cnf.specs.Rank.{rank};
-ghost use Rattle.drawing_cnf.specs.Expected.{node_at, drawing_vars, edge_first, edges_first, node_clauses, edge_part, base_clauses};
+ghost use Rattle.drawing_cnf.specs.Rank.{west_rank};
+ghost use Rattle.drawing_cnf.specs.Expected.{row_ints, drawing_vars, edge_first, edges_first, node_clauses, edge_part, base_clauses};
 
 use crate::rank::node_vars;
 use cnf_core::{CnfFault, Formula};
@@ -20,7 +20,7 @@ fn add_node(f: &mut Formula, g: &PortGraph, grid: &Grid, n: u16) -> Result<(), C
     requires limit { f.old.vars ≤ VARS }
     requires n { n < length g.now.nodes }
     requires there { edges_first g.now grid.now ≤ f.old.vars + 1 }
-    ensures { AddsClauses result f.old f.new (node_clauses (node_at grid.now (rank g.now n))) 2 }
+    ensures { AddsClauses result f.old f.new (node_clauses (row_ints grid.now (west_rank g.now n))) 2 }
 {
     let vars = node_vars(g, grid, n);
     add_int(f, &vars.y)?;
@@ -32,7 +32,7 @@ fn add_node_clauses(f: &mut Formula, g: &PortGraph, grid: &Grid, count: u16) -> 
     requires limit { f.old.vars ≤ VARS }
     requires count { count ≡ length g.now.nodes }
     requires there { edges_first g.now grid.now ≤ f.old.vars + 1 }
-    ensures { AddsClauses result f.old f.new (each (λ n. node_clauses (node_at grid.now (rank g.now n))) 0 count) 2 }
+    ensures { AddsClauses result f.old f.new (each (λ n. node_clauses (row_ints grid.now (west_rank g.now n))) 0 count) 2 }
 {
     for n in 0..count {
         add_node(f, g, grid, n)?;
@@ -44,7 +44,8 @@ fn add_node_clauses(f: &mut Formula, g: &PortGraph, grid: &Grid, count: u16) -> 
 fn add_nodes(f: &mut Formula, g: &PortGraph, grid: &Grid, count: u16) -> Result<(), CnfFault>
     requires empty { f.old.vars ≡ 0 }
     requires count { count ≡ length g.now.nodes }
-    ensures { AddsBlock result f.old f.new (count * (grid.now.height + grid.now.width)) (each (λ n. node_clauses (node_at grid.now (rank g.now n))) 0 count) 7 }
+    ensures { AddsBlock result f.old f.new (count * (grid.now.height + grid.now.width))
+        (each (λ n. node_clauses (row_ints grid.now (west_rank g.now n))) 0 count) 7 }
 {
     let high = u32::from(grid.height());
     let width = u32::from(grid.width());

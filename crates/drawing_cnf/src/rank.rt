@@ -1,8 +1,9 @@
 // The nodes' integers, numbered from west to east.
 ghost use Rattle.std.specs.Prelude.{◌≡◌, ◌≤◌, ◌<◌, ◌+◌, ◌*◌, length};
+ghost use Rattle.plan_core.specs.declared.limits.TheConstants.{MAX_NODES};
 ghost use Rattle.plan_core.specs.Grid.{IsGrid};
-ghost use Rattle.drawing_cnf.specs.Rank.{comes_before, one_when, rank};
-ghost use Rattle.drawing_cnf.specs.Expected.{node_at, edges_first};
+ghost use Rattle.drawing_cnf.specs.Rank.{comes_before, one_when, west_rank};
+ghost use Rattle.drawing_cnf.specs.Expected.{row_ints, edges_first};
 
 use cnf_core::Var;
 use edge_shape::NodeVars;
@@ -28,7 +29,7 @@ fn one_before(g: &PortGraph, u: u16, v: u16) -> u16
 /// A node's place in the row from west to east: how many nodes come before it.
 fn rank_of(g: &PortGraph, n: u16) -> u16
     requires { n < length g.now.nodes }
-    ensures value { result ≡ rank g.now n }
+    ensures value { result ≡ west_rank g.now n }
     ensures within { result < length g.now.nodes }
 {
     let end = g.nodes();
@@ -41,9 +42,9 @@ fn rank_of(g: &PortGraph, n: u16) -> u16
 
 /// The integers at a place of that row.
 fn node_vars_at(grid: &Grid, place: u16) -> NodeVars
-    requires { place ≤ 128 }
-    ensures x { result.x ≡ (node_at grid.now place).x }
-    ensures y { result.y ≡ (node_at grid.now place).y }
+    requires { place ≤ MAX_NODES }
+    ensures x { result.x ≡ (row_ints grid.now place).x }
+    ensures y { result.y ≡ (row_ints grid.now place).y }
     ensures grid { IsGrid grid.now }
 {
     let high = u32::from(grid.height());
@@ -66,10 +67,11 @@ fn node_vars_at(grid: &Grid, place: u16) -> NodeVars
 /// The integers of a node.
 pub(crate) fn node_vars(g: &PortGraph, grid: &Grid, n: u16) -> NodeVars
     requires { n < length g.now.nodes }
-    ensures x { result.x ≡ (node_at grid.now (rank g.now n)).x }
-    ensures y { result.y ≡ (node_at grid.now (rank g.now n)).y }
+    ensures x { result.x ≡ (row_ints grid.now (west_rank g.now n)).x }
+    ensures y { result.y ≡ (row_ints grid.now (west_rank g.now n)).y }
     ensures grid { IsGrid grid.now }
-    ensures within { 1 + rank g.now n * (grid.now.height + grid.now.width) + grid.now.height + grid.now.width ≤ edges_first g.now grid.now }
+    ensures within { 1 + west_rank g.now n * (grid.now.height + grid.now.width) + grid.now.height + grid.now.width
+        ≤ edges_first g.now grid.now }
 {
     let _ = g.nodes();
     node_vars_at(grid, rank_of(g, n))

@@ -7,7 +7,7 @@ ghost use Rattle.cnf_core.specs.LitOrTruth.{yes, flip, clause_of, IsWithin};
 ghost use Rattle.cnf_core.specs.Formula.{each};
 ghost use Rattle.cnf_core.specs.Added.{AddsClauses, AddsBlock};
 ghost use Rattle.unary_sum.specs.Part.{IsLit};
-ghost use Rattle.unary_sum.specs.Sum.{sum_vars, sum_count, at_least as sum_at_least};
+ghost use Rattle.unary_sum.specs.Sum.{sum_vars, sum_count, sum_at_least};
 ghost use Rattle.drawing_cnf.specs.Expected.{drawing_vars, laws_first};
 ghost use Rattle.drawing_cnf.specs.Bounds.{same_as, sum_bound, bend_lits, bends_bound, bends_bound_size, west_first};
 

@@ -1,6 +1,6 @@
 // The greatest value of each criterion.
 ghost use Rattle.std.specs.Prelude.{◌≡◌};
-ghost use Rattle.drawing_cnf.specs.Encoding.{greatest_value};
+ghost use Rattle.plan_core.specs.Values.{limit_of};
 
 use plan_core::{Criterion, Grid};
 use port_graph::PortGraph;
@@ -8,7 +8,7 @@ use port_graph::PortGraph;
 /// The greatest value of a criterion that a drawing of the graph on the grid may have: the grid's height
 /// or width, two bends for each edge, or the grid's width for each edge.
 pub fn greatest(g: &PortGraph, grid: &Grid, c: Criterion) -> u32
-    ensures { result ≡ greatest_value g.now grid.now c }
+    ensures { result ≡ limit_of g.now grid.now c }
 {
     let edges = u32::from(g.edges());
     match c {

@@ -8,7 +8,7 @@ use Rattle.std.specs.List.{count_by, range_with_len}
 use Rattle.std.proofs.lemmas.Bool.Decides.{nat_tests}
 use Rattle.std.proofs.lemmas.List.Sums.{sum_by-cons}
 use Rattle.plan_core.proofs.DiagonalLemmas.{turns, turns_in, turns_in-append, diagonal_by_columns}
-use Rattle.edge_lines.specs.Track.{step, slope_by}
+use Rattle.edge_lines.specs.Track.{step_slope, slope_by}
 use Rattle.edge_lines.specs.Columns.{is_up, is_down}
 use Rattle.edge_lines.proofs.LineHeights.{line_is_flat, steps_are}
 
@@ -35,7 +35,7 @@ count_none f from (suc n) h =
 level_turns : (h : ℕ → ℕ) (c : ℕ) → h c ≡ h (c + 1) → turns h c ≡ false
 level_turns h c e = grind (arith, nat_tests)
 
-step_turns : (h : ℕ → ℕ) (c : ℕ) → turns h c ≡ (is_up (step h c) || is_down (step h c))
+step_turns : (h : ℕ → ℕ) (c : ℕ) → turns h c ≡ (is_up (step_slope h c) || is_down (step_slope h c))
 step_turns h c = cases (h c) (h (c + 1)) (nat_lt (h c) (h (c + 1))) (nat_lt (h (c + 1)) (h c)) refl refl
   where
     cases : (a b : ℕ) (p q : Bool) → nat_lt a b ≡ p → nat_lt b a ≡ q → not (a == b) ≡ (is_up (slope_by a b) || is_down (slope_by a b))
@@ -43,7 +43,7 @@ step_turns h c = cases (h c) (h (c + 1)) (nat_lt (h c) (h (c + 1))) (nat_lt (h (
     cases a b false true e f = rw (e, f) (grind (arith, nat_tests, f))
     cases a b false false e f = rw (e, f) (grind (arith, nat_tests, e, f))
 
-pub diagonal_steps : (line : List Point) (width : ℕ) → is_line line ≡ true → (east_end line).x ≤ width → diagonal line ≡ count_by (λ c. is_up (step (height line) c) || is_down (step (height line) c)) (range_with_len 0 width)
+pub diagonal_steps : (line : List Point) (width : ℕ) → is_line line ≡ true → (east_end line).x ≤ width → diagonal line ≡ count_by (λ c. is_up (step_slope (height line) c) || is_down (step_slope (height line) c)) (range_with_len 0 width)
 diagonal_steps line width h size =
     let y = height line in
     let w = (west_end line).x in
@@ -59,4 +59,4 @@ diagonal_steps line width h size =
     let behind : turns_in y (0 + (w + (z - w))) (width - z) ≡ 0 = count_none (turns y) (0 + (w + (z - w))) (width - z) (λ c low high. level_turns y c (flat.east c (omega arith) ∙ sym (flat.east (c + 1) (omega arith)))) in
     let middle : turns_in y (0 + w) (z - w) ≡ turns_in y w (z - w) = (let k : 0 + w ≡ w = omega arith in ap (λ x. turns_in y x (z - w)) k) in
     let all : turns_in y 0 width ≡ turns_in y w (z - w) = omega (arith, whole, front, before, behind, middle) in
-    diagonal_by_columns line h ∙ sym all ∙ count_same (turns y) (λ c. is_up (step y c) || is_down (step y c)) 0 width (λ c low high. step_turns y c)
+    diagonal_by_columns line h ∙ sym all ∙ count_same (turns y) (λ c. is_up (step_slope y c) || is_down (step_slope y c)) 0 width (λ c low high. step_turns y c)

@@ -8,21 +8,21 @@ use Rattle.plan_core.specs.declared.point.Point.{Point}
 use Rattle.plan_core.specs.Line.{slope, is_line, reached, height_from, height, last_from, west_end, east_end}
 use Rattle.plan_core.proofs.PieceLemmas.{piece, ArePieces, reached-none, height_from-past, height_from-first}
 use Rattle.plan_core.proofs.LineLemmas.{pieces_of, last_is_east, ends_rise, height-west_end, height-east_end}
-use Rattle.edge_lines.specs.Track.{step, same_slope, over, points_behind, line_over, IsTrack, IsFlatOutside}
+use Rattle.edge_lines.specs.Track.{step_slope, same_slope, over, points_behind, line_over, IsTrack, IsFlatOutside}
 use Rattle.edge_lines.specs.Columns.{inner_of, turns_behind, steps_of}
 use Rattle.edge_lines.proofs.ShapeLemmas.{rest_of, track_is_line, track_east, track_height}
 
 -- the points of a track over a column
 inner_cons : (y : ℕ → ℕ) (p : Point) (c n x : ℕ) → inner_of (p ∷ points_behind y c n) x ≡ (nat_eq p.x x || inner_of (points_behind y c n) x)
 inner_cons y p c zero x = refl
-inner_cons y p c (suc n) x = elim (same_slope (step y c) (step y (c + 1))) as (λ (same : Bool). inner_of (p ∷ rest_of same y c n) x ≡ (nat_eq p.x x || inner_of (rest_of same y c n) x)) [
+inner_cons y p c (suc n) x = elim (same_slope (step_slope y c) (step_slope y (c + 1))) as (λ (same : Bool). inner_of (p ∷ rest_of same y c n) x ≡ (nat_eq p.x x || inner_of (rest_of same y c n) x)) [
   | true ↦ inner_cons y p (c + 1) n x
   | false ↦ refl
 ]
 
 pub inner_before : (y : ℕ → ℕ) (c n x : ℕ) → x ≤ c → inner_of (points_behind y c n) x ≡ false
 inner_before y c zero x le = refl
-inner_before y c (suc n) x le = elim (same_slope (step y c) (step y (c + 1))) as (λ (same : Bool). inner_of (rest_of same y c n) x ≡ false) [
+inner_before y c (suc n) x le = elim (same_slope (step_slope y c) (step_slope y (c + 1))) as (λ (same : Bool). inner_of (rest_of same y c n) x ≡ false) [
   | true ↦ inner_before y (c + 1) n x (omega arith)
   | false ↦ let e : nat_eq (c + 1) x ≡ false = grind (arith, nat_tests) in inner_cons y (over y (c + 1)) (c + 1) n x ∙ rw e (inner_before y (c + 1) n x (omega arith))
 ]
@@ -31,7 +31,7 @@ turns_first : (y : ℕ → ℕ) (c n : ℕ) → inner_of (points_behind y c (suc
 turns_first y c n =
     let p : nat_le c c ≡ true = grind (arith, nat_tests) in
     let q : nat_lt c (c + suc n) ≡ true = grind (arith, nat_tests) in
-    elim (same_slope (step y c) (step y (c + 1))) as (λ (same : Bool). inner_of (rest_of same y c n) (c + 1) ≡ (nat_le c c && (nat_lt c (c + suc n) && not same))) [
+    elim (same_slope (step_slope y c) (step_slope y (c + 1))) as (λ (same : Bool). inner_of (rest_of same y c n) (c + 1) ≡ (nat_le c c && (nat_lt c (c + suc n) && not same))) [
       | true ↦ rw (p, q) (inner_before y (c + 1) n (c + 1) (omega arith))
       | false ↦ let e : nat_eq (c + 1) (c + 1) ≡ true = grind (arith, nat_tests) in rw (p, q) (inner_cons y (over y (c + 1)) (c + 1) n (c + 1) ∙ rw e refl)
     ]
@@ -52,7 +52,7 @@ inner_turns y c (suc n) k = elim (eqb_tells k c) [
   | inr other ↦
       let ne = other.1 in
       let z = turns_later y c n k ne in
-      elim (same_slope (step y c) (step y (c + 1))) as (λ (same : Bool). inner_of (rest_of same y c n) (k + 1) ≡ turns_behind y c (suc n) k) [
+      elim (same_slope (step_slope y c) (step_slope y (c + 1))) as (λ (same : Bool). inner_of (rest_of same y c n) (k + 1) ≡ turns_behind y c (suc n) k) [
         | true ↦ inner_turns y (c + 1) n k ∙ z
         | false ↦
             let e : nat_eq (c + 1) (k + 1) ≡ false = grind (arith, nat_tests, ne) in

@@ -9,11 +9,11 @@ use Rattle.plan_core.specs.declared.point.Slope.TheVariants.{Down, Level, Up}
 use Rattle.plan_core.specs.Line.{pieces, is_piece, slope, is_shape, is_line, height_from, height, last_from, west_end, east_end}
 use Rattle.plan_core.proofs.PieceLemmas.{piece, ArePieces, height_from-west, height_from-past, height_from-step}
 use Rattle.plan_core.proofs.LineLemmas.{pieces_of, last_is_east, line_length}
-use Rattle.edge_lines.specs.Track.{slope_by, step, same_slope, over, points_behind, line_over}
+use Rattle.edge_lines.specs.Track.{slope_by, step_slope, same_slope, over, points_behind, line_over}
 use Rattle.edge_lines.proofs.TrackLemmas.{slope_by_reaches, same_is, same_self}
 
 -- steps of one slope have no point between them
-points_skip : (y : ℕ → ℕ) (c m n : ℕ) → ((k : ℕ) → c ≤ k → k < c + m → step y (k + 1) ≡ step y k) → points_behind y c (m + n) ≡ points_behind y (c + m) n
+points_skip : (y : ℕ → ℕ) (c m n : ℕ) → ((k : ℕ) → c ≤ k → k < c + m → step_slope y (k + 1) ≡ step_slope y k) → points_behind y c (m + n) ≡ points_behind y (c + m) n
 points_skip y c zero n h =
     let z : 0 + n ≡ n = omega arith in
     let s : c ≡ c + zero = omega arith in
@@ -21,21 +21,21 @@ points_skip y c zero n h =
 points_skip y c (suc m) n h =
     let z : suc m + n ≡ suc (m + n) = omega arith in
     let s : c + 1 + m ≡ c + suc m = omega arith in
-    let same : same_slope (step y c) (step y (c + 1)) ≡ true = ap (same_slope (step y c)) (h c (omega arith) (omega arith)) ∙ same_self (step y c) in
+    let same : same_slope (step_slope y c) (step_slope y (c + 1)) ≡ true = ap (same_slope (step_slope y c)) (h c (omega arith) (omega arith)) ∙ same_self (step_slope y c) in
     ap (points_behind y c) z ∙ rw same (points_skip y (c + 1) m n (λ k from to. h k (omega arith) (omega arith)) ∙ ap (λ x. points_behind y x n) s)
 
 differ : (s t : Slope) → s ≢ t → same_slope s t ≡ false
 differ s t ne = elim (same_slope s t) as (λ b. same_slope s t ≡ b → b ≡ false) [ true ↦ λ e. absurd (ne (same_is s t e)) | false ↦ λ e. refl ] refl
 
-point_at_turn : (y : ℕ → ℕ) (c n : ℕ) → step y c ≢ step y (c + 1) → points_behind y c (suc n) ≡ over y (c + 1) ∷ points_behind y (c + 1) n
-point_at_turn y c n ne = rw (differ (step y c) (step y (c + 1)) ne) refl
+point_at_turn : (y : ℕ → ℕ) (c n : ℕ) → step_slope y c ≢ step_slope y (c + 1) → points_behind y c (suc n) ≡ over y (c + 1) ∷ points_behind y (c + 1) n
+point_at_turn y c n ne = rw (differ (step_slope y c) (step_slope y (c + 1)) ne) refl
 
 -- each piece has another slope than the one before it
 abbrev pub Alternate : Point → Point → List Point → Type 0
 Alternate a b [] = ⊤
 Alternate a b (c ∷ rest) = (slope (piece a b) ≢ slope (piece b c)) × Alternate b c rest
 
-pub step_over : (y : ℕ → ℕ) (a b : Point) (rest : List Point) (k : ℕ) → ArePieces a (b ∷ rest) → ((j : ℕ) → a.x ≤ j → y j ≡ height_from a (b ∷ rest) j) → a.x ≤ k → k < b.x → step y k ≡ slope (piece a b)
+pub step_over : (y : ℕ → ℕ) (a b : Point) (rest : List Point) (k : ℕ) → ArePieces a (b ∷ rest) → ((j : ℕ) → a.x ≤ j → y j ≡ height_from a (b ∷ rest) j) → a.x ≤ k → k < b.x → step_slope y k ≡ slope (piece a b)
 step_over y a b rest k h same from to =
     ap (λ z. slope_by z (y (k + 1))) (same k from)
     ∙ ap (slope_by (height_from a (b ∷ rest) k)) (same (k + 1) (omega arith))
@@ -51,7 +51,7 @@ over_end y a b rest h same =
     let e : y b.x ≡ b.y = later_same y a b rest h same b.x (omega arith) ∙ height_from-west b rest h.1 in
     ap (λ z. let p : Point = record { x = b.x; y = z } in p) e
 
-one_slope_run : (y : ℕ → ℕ) (a b : Point) (rest : List Point) (m : ℕ) → ArePieces a (b ∷ rest) → ((j : ℕ) → a.x ≤ j → y j ≡ height_from a (b ∷ rest) j) → a.x + m + 1 ≡ b.x → (k : ℕ) → a.x ≤ k → k < a.x + m → step y (k + 1) ≡ step y k
+one_slope_run : (y : ℕ → ℕ) (a b : Point) (rest : List Point) (m : ℕ) → ArePieces a (b ∷ rest) → ((j : ℕ) → a.x ≤ j → y j ≡ height_from a (b ∷ rest) j) → a.x + m + 1 ≡ b.x → (k : ℕ) → a.x ≤ k → k < a.x + m → step_slope y (k + 1) ≡ step_slope y k
 one_slope_run y a b rest m h same is k from to =
     step_over y a b rest (k + 1) h same (omega arith) (omega arith) ∙ sym (step_over y a b rest k h same from (omega arith))
 
@@ -71,8 +71,8 @@ points_again y a b (c ∷ rest) n h alt same is =
     let there : q + 1 ≡ b.x = omega arith in
     let cut : n ≡ m + suc left = omega arith in
     let later = later_same y a b (c ∷ rest) h same in
-    let s : step y q ≡ slope (piece a b) = step_over y a b (c ∷ rest) q h same (omega arith) (omega arith) in
-    let t : step y (q + 1) ≡ slope (piece b c) = ap (step y) there ∙ step_over y b c rest b.x h.1 later (omega arith) next in
+    let s : step_slope y q ≡ slope (piece a b) = step_over y a b (c ∷ rest) q h same (omega arith) (omega arith) in
+    let t : step_slope y (q + 1) ≡ slope (piece b c) = ap (step_slope y) there ∙ step_over y b c rest b.x h.1 later (omega arith) next in
     ap (points_behind y a.x) cut
     ∙ points_skip y a.x m (suc left) (one_slope_run y a b (c ∷ rest) m h same there)
     ∙ point_at_turn y q left (λ e. alt.0 (sym s ∙ e ∙ t))

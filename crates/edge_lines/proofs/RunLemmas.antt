@@ -9,7 +9,7 @@ use Rattle.plan_core.specs.declared.point.Slope.TheVariants.{Down, Level, Up}
 use Rattle.plan_core.specs.Line.{slope, is_line, height_from, height, last_from, west_end, east_end, slope_west, slope_east, bends}
 use Rattle.plan_core.proofs.PieceLemmas.{Reaches, piece, ArePieces, height_from-step, past_first}
 use Rattle.plan_core.proofs.LineLemmas.{pieces_of, line_length, step_from_west, step_to_east}
-use Rattle.edge_lines.specs.Track.{slope_by, step, IsTrack}
+use Rattle.edge_lines.specs.Track.{slope_by, step_slope, IsTrack}
 use Rattle.edge_lines.proofs.TrackLemmas.{slope_by_reaches, reaches_by_slope}
 use Rattle.edge_lines.proofs.LineTrackLemmas.{step_over, later_same, two_slopes, three_slopes, shape_of}
 
@@ -18,9 +18,9 @@ pub record AreRuns (y : ℕ → ℕ) (w first last e : ℕ) (s t : Slope) : Type
   pub west : w ≤ first
   pub middle : first ≤ last
   pub east : last ≤ e
-  pub to_first : (k : ℕ) → w ≤ k → k < first → step y k ≡ s
-  pub level : (k : ℕ) → first ≤ k → k < last → step y k ≡ Level
-  pub from_last : (k : ℕ) → last ≤ k → k < e → step y k ≡ t
+  pub to_first : (k : ℕ) → w ≤ k → k < first → step_slope y k ≡ s
+  pub level : (k : ℕ) → first ≤ k → k < last → step_slope y k ≡ Level
+  pub from_last : (k : ℕ) → last ≤ k → k < e → step_slope y k ≡ t
   pub west_slope : s ≢ Level
   pub east_slope : t ≢ Level
   pub parted : (first < last) ⊎ (first ≡ e)
@@ -33,7 +33,7 @@ pub record HasRuns (y : ℕ → ℕ) (w e : ℕ) : Type 0 where
   pub runs : AreRuns y w first last e s t
 
 -- two diagonal steps beside each other are alike
-alike : (y : ℕ → ℕ) (w first last e : ℕ) (s t : Slope) → AreRuns y w first last e s t → (c : ℕ) → w ≤ c → c + 1 < e → step y c ≢ Level → step y (c + 1) ≢ Level → step y (c + 1) ≡ step y c
+alike : (y : ℕ → ℕ) (w first last e : ℕ) (s t : Slope) → AreRuns y w first last e s t → (c : ℕ) → w ≤ c → c + 1 < e → step_slope y c ≢ Level → step_slope y (c + 1) ≢ Level → step_slope y (c + 1) ≡ step_slope y c
 alike y w first last e s t r c from to ne next =
     elim (leb_tells (suc (c + 1)) first) [
       | inl a ↦ let h = a.1 in r.to_first (c + 1) (omega arith) (omega arith) ∙ sym (r.to_first c from (omega arith))
@@ -50,7 +50,7 @@ alike y w first last e s t r c from to ne next =
     ]
 
 -- behind a level step
-on : (y : ℕ → ℕ) (w first last e : ℕ) (s t : Slope) → AreRuns y w first last e s t → (d c : ℕ) → w ≤ d → d ≤ c → c + 1 < e → step y d ≡ Level → step y c ≢ Level → step y (c + 1) ≡ step y c
+on : (y : ℕ → ℕ) (w first last e : ℕ) (s t : Slope) → AreRuns y w first last e s t → (d c : ℕ) → w ≤ d → d ≤ c → c + 1 < e → step_slope y d ≡ Level → step_slope y c ≢ Level → step_slope y (c + 1) ≡ step_slope y c
 on y w first last e s t r d c low from to level ne =
     elim (leb_tells first d) [
       | inl a ↦ let h = a.1 in elim (leb_tells last c) [
@@ -62,7 +62,7 @@ on y w first last e s t r d c low from to level ne =
 
 -- each step is by a slope
 pub record HasSteps (y : ℕ → ℕ) (w e : ℕ) : Type 0 where
-  pub each : (k : ℕ) → w ≤ k → k < e → Reaches (step y k) 1 (y k) (y (k + 1))
+  pub each : (k : ℕ) → w ≤ k → k < e → Reaches (step_slope y k) 1 (y k) (y (k + 1))
 
 by_one_row : (s : Slope) (a b : ℕ) → Reaches s 1 a b → (b ≤ a + 1) × (a ≤ b + 1)
 by_one_row Down a b h = (omega arith, omega arith)
@@ -71,8 +71,8 @@ by_one_row Up a b h = (omega arith, omega arith)
 
 pub runs_are_a_track : (y : ℕ → ℕ) (w n e : ℕ) → w + n + 1 ≡ e → HasSteps y w e → HasRuns y w e → IsTrack y w n
 runs_are_a_track y w n e is h r = record {
-  rises = λ c from to. (by_one_row (step y c) (y c) (y (c + 1)) (h.each c from (omega arith))).0;
-  falls = λ c from to. (by_one_row (step y c) (y c) (y (c + 1)) (h.each c from (omega arith))).1;
+  rises = λ c from to. (by_one_row (step_slope y c) (y c) (y (c + 1)) (h.each c from (omega arith))).0;
+  falls = λ c from to. (by_one_row (step_slope y c) (y c) (y (c + 1)) (h.each c from (omega arith))).1;
   no_peak = λ c from to up down. let x : Down ≡ Up = sym down ∙ alike y w r.first r.last e r.s r.t r.runs c from (omega arith) (λ l. let z : Up ≡ Level = sym up ∙ l in cc) (λ l. let z : Down ≡ Level = sym down ∙ l in cc) ∙ up in cc;
   no_dip = λ c from to down up. let x : Up ≡ Down = sym up ∙ alike y w r.first r.last e r.s r.t r.runs c from (omega arith) (λ l. let z : Down ≡ Level = sym down ∙ l in cc) (λ l. let z : Up ≡ Level = sym up ∙ l in cc) ∙ down in cc;
   goes_on = λ d c low from to level ne. on y w r.first r.last e r.s r.t r.runs d c low from (omega arith) level ne;
@@ -89,7 +89,7 @@ up_is_diagonal e = cc
 
 -- from first on the step of each column is that of the piece over it
 abbrev pub StepsBy : (ℕ → ℕ) → Slope → ℕ → ℕ → Type 0
-StepsBy y s from to = (k : ℕ) → from ≤ k → k < to → step y k ≡ s
+StepsBy y s from to = (k : ℕ) → from ≤ k → k < to → step_slope y k ≡ s
 
 one_run : (y : ℕ → ℕ) (w e : ℕ) (s : Slope) → w ≤ e → StepsBy y s w e → HasRuns y w e
 one_run y w e s le h = elim (level_or_not s) [
@@ -249,12 +249,12 @@ pub line_is_track : (line : List Point) (n : ℕ) → is_line line ≡ true → 
 line_is_track line n h is = runs_are_a_track (height line) (west_end line).x n (east_end line).x is (line_steps line h) (line_runs line h)
 
 -- the slopes of a line at its ends are those of its first and last step
-pub line_west_slope : (line : List Point) → is_line line ≡ true → step (height line) (west_end line).x ≡ slope_west line
+pub line_west_slope : (line : List Point) → is_line line ≡ true → step_slope (height line) (west_end line).x ≡ slope_west line
 line_west_slope line h =
     let x = (west_end line).x in
     slope_by_reaches (slope_west line) 1 (height line x) (height line (x + 1)) (omega arith) (step_from_west line h)
 
-pub line_east_slope : (line : List Point) (x : ℕ) → is_line line ≡ true → x + 1 ≡ (east_end line).x → step (height line) x ≡ slope_east line
+pub line_east_slope : (line : List Point) (x : ℕ) → is_line line ≡ true → x + 1 ≡ (east_end line).x → step_slope (height line) x ≡ slope_east line
 line_east_slope line x h is = slope_by_reaches (slope_east line) 1 (height line x) (height line (x + 1)) (omega arith) (step_to_east line x h is)
 
 -- the bends of a line, where some step is level, and where none is
@@ -274,7 +274,7 @@ diagonal_one Up ne = refl
 level_none : (s : Slope) → s ≡ Level → one_if (is_diagonal s) ≡ 0
 level_none s e = ap (λ t. one_if (is_diagonal t)) e
 
-pub bends_by_slopes : (line : List Point) (d : ℕ) → is_line line ≡ true → (west_end line).x ≤ d → d < (east_end line).x → step (height line) d ≡ Level → bends line ≡ one_if (is_diagonal (slope_west line)) + one_if (is_diagonal (slope_east line))
+pub bends_by_slopes : (line : List Point) (d : ℕ) → is_line line ≡ true → (west_end line).x ≤ d → d < (east_end line).x → step_slope (height line) d ≡ Level → bends line ≡ one_if (is_diagonal (slope_west line)) + one_if (is_diagonal (slope_east line))
 bends_by_slopes [] d h from to level = absurd (false≢true h)
 bends_by_slopes (a ∷ []) d h from to level = absurd (false≢true h)
 bends_by_slopes (a ∷ b ∷ []) d h from to level =
@@ -294,7 +294,7 @@ bends_by_slopes (a ∷ b ∷ c ∷ d1 ∷ []) d h from to level =
     omega arith
 bends_by_slopes (a ∷ b ∷ c ∷ d1 ∷ e ∷ rest) d h from to level = let few = (line_length (a ∷ b ∷ c ∷ d1 ∷ e ∷ rest) h).1 in absurd (omega (arith, few))
 
-pub no_bends : (line : List Point) → is_line line ≡ true → ((d : ℕ) → (west_end line).x ≤ d → d < (east_end line).x → step (height line) d ≢ Level) → bends line ≡ 0
+pub no_bends : (line : List Point) → is_line line ≡ true → ((d : ℕ) → (west_end line).x ≤ d → d < (east_end line).x → step_slope (height line) d ≢ Level) → bends line ≡ 0
 no_bends [] h none = absurd (false≢true h)
 no_bends (a ∷ []) h none = absurd (false≢true h)
 no_bends (a ∷ b ∷ []) h none = refl

@@ -8,17 +8,17 @@ use Rattle.plan_core.specs.declared.point.Slope.{Slope}
 use Rattle.plan_core.specs.declared.point.Slope.TheVariants.{Down, Level, Up}
 use Rattle.plan_core.specs.Line.{pieces_from, is_piece, slope, is_shape, is_line, height_from, height, last_from, west_end, east_end}
 use Rattle.plan_core.proofs.PieceLemmas.{Reaches}
-use Rattle.edge_lines.specs.Track.{step, same_slope, over, points_behind, line_over, IsTrack}
+use Rattle.edge_lines.specs.Track.{step_slope, same_slope, over, points_behind, line_over, IsTrack}
 use Rattle.edge_lines.proofs.TrackLemmas.{reaches_by_slope, same_is, same_self, IsRun, run_more, run_one, run_slope, run_piece, run_height}
 
 -- the slopes of the pieces, with n steps left behind that from column c
 abbrev pub slopes_from : (ℕ → ℕ) → ℕ → ℕ → List Slope
-slopes_from y c zero = step y c ∷ []
-slopes_from y c (suc n) = cond (same_slope (step y c) (step y (c + 1))) [] (step y c ∷ []) ++ slopes_from y (c + 1) n
+slopes_from y c zero = step_slope y c ∷ []
+slopes_from y c (suc n) = cond (same_slope (step_slope y c) (step_slope y (c + 1))) [] (step_slope y c ∷ []) ++ slopes_from y (c + 1) n
 
 -- each of n + 1 steps from c on is by one row at most
 pub record AreSteps (y : ℕ → ℕ) (c n : ℕ) : Type 0 where
-  pub each : (k : ℕ) → c ≤ k → k ≤ c + n → Reaches (step y k) 1 (y k) (y (k + 1))
+  pub each : (k : ℕ) → c ≤ k → k ≤ c + n → Reaches (step_slope y k) 1 (y k) (y (k + 1))
 
 later_steps : (y : ℕ → ℕ) (c n : ℕ) → AreSteps y c (suc n) → AreSteps y (c + 1) n
 later_steps y c n h = record { each = λ k from to. h.each k (omega arith) (omega arith) }
@@ -27,50 +27,50 @@ pub track_steps : (y : ℕ → ℕ) (w n : ℕ) → IsTrack y w n → AreSteps y
 track_steps y w n t = record { each = λ k from to. reaches_by_slope (y k) (y (k + 1)) (t.rises k from to) (t.falls k from to) }
 
 -- a run goes on over a step of the same slope
-goes_further : (y : ℕ → ℕ) (b c : ℕ) → b ≤ c → IsRun y (step y c) b (c + 1) → same_slope (step y c) (step y (c + 1)) ≡ true → Reaches (step y (c + 1)) 1 (y (c + 1)) (y (c + 1 + 1)) → IsRun y (step y (c + 1)) b (c + 1 + 1)
+goes_further : (y : ℕ → ℕ) (b c : ℕ) → b ≤ c → IsRun y (step_slope y c) b (c + 1) → same_slope (step_slope y c) (step_slope y (c + 1)) ≡ true → Reaches (step_slope y (c + 1)) 1 (y (c + 1)) (y (c + 1 + 1)) → IsRun y (step_slope y (c + 1)) b (c + 1 + 1)
 goes_further y b c le r same h =
-    run_more y (step y (c + 1)) b (c + 1) (omega arith) (subst (λ s. IsRun y s b (c + 1)) (same_is (step y c) (step y (c + 1)) same) r) h
+    run_more y (step_slope y (c + 1)) b (c + 1) (omega arith) (subst (λ s. IsRun y s b (c + 1)) (same_is (step_slope y c) (step_slope y (c + 1)) same) r) h
 
 abbrev pub rest_of : Bool → (ℕ → ℕ) → ℕ → ℕ → List Point
 rest_of same y c n = cond same [] (over y (c + 1) ∷ []) ++ points_behind y (c + 1) n
 
 -- each part from point to point is a piece, and these are their slopes
-pub pieces_over : (y : ℕ → ℕ) (b c n : ℕ) → b ≤ c → AreSteps y c n → IsRun y (step y c) b (c + 1) → list_all is_piece (pieces_from (over y b) (points_behind y c n)) ≡ true
-pieces_over y b c zero le h r = rw (run_piece y (step y c) b (c + 1) (omega arith) r) refl
+pub pieces_over : (y : ℕ → ℕ) (b c n : ℕ) → b ≤ c → AreSteps y c n → IsRun y (step_slope y c) b (c + 1) → list_all is_piece (pieces_from (over y b) (points_behind y c n)) ≡ true
+pieces_over y b c zero le h r = rw (run_piece y (step_slope y c) b (c + 1) (omega arith) r) refl
 pieces_over y b c (suc n) le h r =
     let later = later_steps y c n h in
     let next = later.each (c + 1) (omega arith) (omega arith) in
-    elim (same_slope (step y c) (step y (c + 1))) as (λ same. same_slope (step y c) (step y (c + 1)) ≡ same → list_all is_piece (pieces_from (over y b) (rest_of same y c n)) ≡ true) [
+    elim (same_slope (step_slope y c) (step_slope y (c + 1))) as (λ same. same_slope (step_slope y c) (step_slope y (c + 1)) ≡ same → list_all is_piece (pieces_from (over y b) (rest_of same y c n)) ≡ true) [
       | true ↦ λ e. pieces_over y b (c + 1) n (omega arith) later (goes_further y b c le r e next)
-      | false ↦ λ e. rw (run_piece y (step y c) b (c + 1) (omega arith) r) (pieces_over y (c + 1) (c + 1) n (omega arith) later (run_one y (step y (c + 1)) (c + 1) next))
+      | false ↦ λ e. rw (run_piece y (step_slope y c) b (c + 1) (omega arith) r) (pieces_over y (c + 1) (c + 1) n (omega arith) later (run_one y (step_slope y (c + 1)) (c + 1) next))
     ] refl
 
-pub slopes_over : (y : ℕ → ℕ) (b c n : ℕ) → b ≤ c → AreSteps y c n → IsRun y (step y c) b (c + 1) → map slope (pieces_from (over y b) (points_behind y c n)) ≡ slopes_from y c n
-slopes_over y b c zero le h r = ap (λ s. s ∷ []) (run_slope y (step y c) b (c + 1) (omega arith) r)
+pub slopes_over : (y : ℕ → ℕ) (b c n : ℕ) → b ≤ c → AreSteps y c n → IsRun y (step_slope y c) b (c + 1) → map slope (pieces_from (over y b) (points_behind y c n)) ≡ slopes_from y c n
+slopes_over y b c zero le h r = ap (λ s. s ∷ []) (run_slope y (step_slope y c) b (c + 1) (omega arith) r)
 slopes_over y b c (suc n) le h r =
     let later = later_steps y c n h in
     let next = later.each (c + 1) (omega arith) (omega arith) in
-    elim (same_slope (step y c) (step y (c + 1))) as (λ same. same_slope (step y c) (step y (c + 1)) ≡ same → map slope (pieces_from (over y b) (rest_of same y c n)) ≡ cond same [] (step y c ∷ []) ++ slopes_from y (c + 1) n) [
+    elim (same_slope (step_slope y c) (step_slope y (c + 1))) as (λ same. same_slope (step_slope y c) (step_slope y (c + 1)) ≡ same → map slope (pieces_from (over y b) (rest_of same y c n)) ≡ cond same [] (step_slope y c ∷ []) ++ slopes_from y (c + 1) n) [
       | true ↦ λ e. slopes_over y b (c + 1) n (omega arith) later (goes_further y b c le r e next)
       | false ↦ λ e.
-          let first = run_slope y (step y c) b (c + 1) (omega arith) r in
-          let more = slopes_over y (c + 1) (c + 1) n (omega arith) later (run_one y (step y (c + 1)) (c + 1) next) in
-          ap (λ s. s ∷ map slope (pieces_from (over y (c + 1)) (points_behind y (c + 1) n))) first ∙ ap (λ ss. step y c ∷ ss) more
+          let first = run_slope y (step_slope y c) b (c + 1) (omega arith) r in
+          let more = slopes_over y (c + 1) (c + 1) n (omega arith) later (run_one y (step_slope y (c + 1)) (c + 1) next) in
+          ap (λ s. s ∷ map slope (pieces_from (over y (c + 1)) (points_behind y (c + 1) n))) first ∙ ap (λ ss. step_slope y c ∷ ss) more
     ] refl
 
 -- the heights are those of the track
-pub height_over : (y : ℕ → ℕ) (b c n k : ℕ) → b ≤ c → AreSteps y c n → IsRun y (step y c) b (c + 1) → b ≤ k → k ≤ c + n + 1 → height_from (over y b) (points_behind y c n) k ≡ y k
+pub height_over : (y : ℕ → ℕ) (b c n k : ℕ) → b ≤ c → AreSteps y c n → IsRun y (step_slope y c) b (c + 1) → b ≤ k → k ≤ c + n + 1 → height_from (over y b) (points_behind y c n) k ≡ y k
 height_over y b c zero k le h r from to =
     let near : k ≤ c + 1 = omega arith in
-    rw (le-leb k (c + 1) near) (run_height y (step y c) b (c + 1) k (omega arith) r from near)
+    rw (le-leb k (c + 1) near) (run_height y (step_slope y c) b (c + 1) k (omega arith) r from near)
 height_over y b c (suc n) k le h r from to =
     let later = later_steps y c n h in
     let next = later.each (c + 1) (omega arith) (omega arith) in
-    elim (same_slope (step y c) (step y (c + 1))) as (λ same. same_slope (step y c) (step y (c + 1)) ≡ same → height_from (over y b) (rest_of same y c n) k ≡ y k) [
+    elim (same_slope (step_slope y c) (step_slope y (c + 1))) as (λ same. same_slope (step_slope y c) (step_slope y (c + 1)) ≡ same → height_from (over y b) (rest_of same y c n) k ≡ y k) [
       | true ↦ λ e. height_over y b (c + 1) n k (omega arith) later (goes_further y b c le r e next) from (omega arith)
       | false ↦ λ e. elim (leb_tells k (c + 1)) [
-        | inl near ↦ rw near.0 (run_height y (step y c) b (c + 1) k (omega arith) r from near.1)
-        | inr far ↦ let past = far.1 in rw far.0 (height_over y (c + 1) (c + 1) n k (omega arith) later (run_one y (step y (c + 1)) (c + 1) next) (omega arith) (omega arith))
+        | inl near ↦ rw near.0 (run_height y (step_slope y c) b (c + 1) k (omega arith) r from near.1)
+        | inr far ↦ let past = far.1 in rw far.0 (height_over y (c + 1) (c + 1) n k (omega arith) later (run_one y (step_slope y (c + 1)) (c + 1) next) (omega arith) (omega arith))
       ]
     ] refl
 
@@ -79,7 +79,7 @@ pub last_over : (y : ℕ → ℕ) (b : Point) (c n : ℕ) → last_from b (point
 last_over y b c zero = let z : c + 1 ≡ c + zero + 1 = omega arith in ap (over y) z
 last_over y b c (suc n) =
     let z : c + 1 + n + 1 ≡ c + suc n + 1 = omega arith in
-    elim (same_slope (step y c) (step y (c + 1))) as (λ same. last_from b (rest_of same y c n) ≡ over y (c + suc n + 1)) [
+    elim (same_slope (step_slope y c) (step_slope y (c + 1))) as (λ same. last_from b (rest_of same y c n) ≡ over y (c + suc n + 1)) [
       | true ↦ last_over y b (c + 1) n ∙ ap (over y) z
       | false ↦ last_over y (over y (c + 1)) (c + 1) n ∙ ap (over y) z
     ]
@@ -87,11 +87,11 @@ last_over y b c (suc n) =
 -- the shape, from east to west: a last run, a level run before it, and a run before that
 
 -- each step from c on has the slope of the one before
-pub slopes-last : (y : ℕ → ℕ) (c n : ℕ) → ((k : ℕ) → c ≤ k → k < c + n → step y (k + 1) ≡ step y k) → slopes_from y c n ≡ step y c ∷ []
+pub slopes-last : (y : ℕ → ℕ) (c n : ℕ) → ((k : ℕ) → c ≤ k → k < c + n → step_slope y (k + 1) ≡ step_slope y k) → slopes_from y c n ≡ step_slope y c ∷ []
 slopes-last y c zero h = refl
 slopes-last y c (suc n) h =
     let e = h c (omega arith) (omega arith) in
-    let s : same_slope (step y c) (step y (c + 1)) ≡ true = ap (same_slope (step y c)) e ∙ same_self (step y c) in
+    let s : same_slope (step_slope y c) (step_slope y (c + 1)) ≡ true = ap (same_slope (step_slope y c)) e ∙ same_self (step_slope y c) in
     rw s (slopes-last y (c + 1) n (λ k from to. h k (omega arith) (omega arith)) ∙ ap (λ t. t ∷ []) e)
 
 abbrev pub is_tail : List Slope → Bool
@@ -102,16 +102,16 @@ is_tail other = false
 
 -- behind a level step a diagonal one goes on to the end
 pub record GoesOn (y : ℕ → ℕ) (c n : ℕ) : Type 0 where
-  pub each : (k : ℕ) → c ≤ k → k < c + n → step y k ≢ Level → step y (k + 1) ≡ step y k
+  pub each : (k : ℕ) → c ≤ k → k < c + n → step_slope y k ≢ Level → step_slope y (k + 1) ≡ step_slope y k
 
-same_to_end : (y : ℕ → ℕ) (c n : ℕ) → GoesOn y c n → step y c ≢ Level → (m k : ℕ) → k ≡ c + m → k ≤ c + n → step y k ≡ step y c
-same_to_end y c n g ne zero k is to = let z : k ≡ c = omega arith in ap (step y) z
+same_to_end : (y : ℕ → ℕ) (c n : ℕ) → GoesOn y c n → step_slope y c ≢ Level → (m k : ℕ) → k ≡ c + m → k ≤ c + n → step_slope y k ≡ step_slope y c
+same_to_end y c n g ne zero k is to = let z : k ≡ c = omega arith in ap (step_slope y) z
 same_to_end y c n g ne (suc m) k is to =
     let before = same_to_end y c n g ne m (c + m) refl (omega arith) in
     let z : k ≡ c + m + 1 = omega arith in
-    ap (step y) z ∙ g.each (c + m) (omega arith) (omega arith) (λ e. ne (sym before ∙ e)) ∙ before
+    ap (step_slope y) z ∙ g.each (c + m) (omega arith) (omega arith) (λ e. ne (sym before ∙ e)) ∙ before
 
-diagonal_end : (y : ℕ → ℕ) (c n : ℕ) → GoesOn y c n → step y c ≢ Level → slopes_from y c n ≡ step y c ∷ []
+diagonal_end : (y : ℕ → ℕ) (c n : ℕ) → GoesOn y c n → step_slope y c ≢ Level → slopes_from y c n ≡ step_slope y c ∷ []
 diagonal_end y c n g ne = slopes-last y c n (λ k from to.
     let m = k - c in
     same_to_end y c n g ne (m + 1) (k + 1) (omega arith) (omega arith) ∙ sym (same_to_end y c n g ne m k (omega arith) (omega arith)))
@@ -125,11 +125,11 @@ up≢level e = cc
 down≢level : Down ≢ Level
 down≢level e = cc
 
-slopes-level : (y : ℕ → ℕ) (c n : ℕ) → GoesOn y c n → step y c ≡ Level → is_tail (slopes_from y c n) ≡ true
+slopes-level : (y : ℕ → ℕ) (c n : ℕ) → GoesOn y c n → step_slope y c ≡ Level → is_tail (slopes_from y c n) ≡ true
 slopes-level y c zero g level = rw level refl
 slopes-level y c (suc n) g level =
     let later = later_goes_on y c n g in
-    elim (step y (c + 1)) as (λ s. step y (c + 1) ≡ s → is_tail (cond (same_slope (step y c) s) [] (step y c ∷ []) ++ slopes_from y (c + 1) n) ≡ true) [
+    elim (step_slope y (c + 1)) as (λ s. step_slope y (c + 1) ≡ s → is_tail (cond (same_slope (step_slope y c) s) [] (step_slope y c ∷ []) ++ slopes_from y (c + 1) n) ≡ true) [
       | Down ↦ λ e. rw (level, diagonal_end y (c + 1) n later (λ l. down≢level (sym e ∙ l)), e) refl
       | Level ↦ λ e. rw level (slopes-level y (c + 1) n later e)
       | Up ↦ λ e. rw (level, diagonal_end y (c + 1) n later (λ l. up≢level (sym e ∙ l)), e) refl
@@ -161,7 +161,7 @@ later_track y c n t = record {
   goes_on = λ d k low from to. t.goes_on d k (omega arith) from (omega arith);
 }
 
-level_goes_on : (y : ℕ → ℕ) (c n : ℕ) → IsTrack y c n → step y c ≡ Level → GoesOn y c n
+level_goes_on : (y : ℕ → ℕ) (c n : ℕ) → IsTrack y c n → step_slope y c ≡ Level → GoesOn y c n
 level_goes_on y c n t level = record { each = λ k from to ne. t.goes_on c k (omega arith) from to level ne }
 
 one_shape : (s : Slope) → is_shape (s ∷ []) ≡ true
@@ -171,27 +171,27 @@ one_shape Up = refl
 
 -- the slopes of a track are one of the eleven shapes
 pub track_shape : (y : ℕ → ℕ) (c n : ℕ) → IsTrack y c n → is_shape (slopes_from y c n) ≡ true
-track_shape y c zero t = one_shape (step y c)
+track_shape y c zero t = one_shape (step_slope y c)
 track_shape y c (suc n) t =
     let later = later_track y c n t in
     let peak = t.no_peak c (omega arith) (omega arith) in
     let dip = t.no_dip c (omega arith) (omega arith) in
-    elim (step y c) as (λ r. step y c ≡ r → is_shape (cond (same_slope r (step y (c + 1))) [] (r ∷ []) ++ slopes_from y (c + 1) n) ≡ true) [
-      | Level ↦ λ e. subst (λ r. is_shape (cond (same_slope r (step y (c + 1))) [] (r ∷ []) ++ slopes_from y (c + 1) n) ≡ true) e (shape_is_tail (slopes_from y c (suc n)) (slopes-level y c (suc n) (level_goes_on y c (suc n) t e) e))
-      | Up ↦ λ e. elim (step y (c + 1)) as (λ s. step y (c + 1) ≡ s → is_shape (cond (same_slope Up s) [] (Up ∷ []) ++ slopes_from y (c + 1) n) ≡ true) [
+    elim (step_slope y c) as (λ r. step_slope y c ≡ r → is_shape (cond (same_slope r (step_slope y (c + 1))) [] (r ∷ []) ++ slopes_from y (c + 1) n) ≡ true) [
+      | Level ↦ λ e. subst (λ r. is_shape (cond (same_slope r (step_slope y (c + 1))) [] (r ∷ []) ++ slopes_from y (c + 1) n) ≡ true) e (shape_is_tail (slopes_from y c (suc n)) (slopes-level y c (suc n) (level_goes_on y c (suc n) t e) e))
+      | Up ↦ λ e. elim (step_slope y (c + 1)) as (λ s. step_slope y (c + 1) ≡ s → is_shape (cond (same_slope Up s) [] (Up ∷ []) ++ slopes_from y (c + 1) n) ≡ true) [
         | Up ↦ λ f. track_shape y (c + 1) n later
         | Level ↦ λ f. shape_of_tail Up (slopes_from y (c + 1) n) up≢level (slopes-level y (c + 1) n (level_goes_on y (c + 1) n later f) f)
         | Down ↦ λ f. absurd (peak e f)
       ] refl
-      | Down ↦ λ e. elim (step y (c + 1)) as (λ s. step y (c + 1) ≡ s → is_shape (cond (same_slope Down s) [] (Down ∷ []) ++ slopes_from y (c + 1) n) ≡ true) [
+      | Down ↦ λ e. elim (step_slope y (c + 1)) as (λ s. step_slope y (c + 1) ≡ s → is_shape (cond (same_slope Down s) [] (Down ∷ []) ++ slopes_from y (c + 1) n) ≡ true) [
         | Down ↦ λ f. track_shape y (c + 1) n later
         | Level ↦ λ f. shape_of_tail Down (slopes_from y (c + 1) n) down≢level (slopes-level y (c + 1) n (level_goes_on y (c + 1) n later f) f)
         | Up ↦ λ f. absurd (dip e f)
       ] refl
     ] refl
 
-first_run : (y : ℕ → ℕ) (w n : ℕ) → IsTrack y w n → IsRun y (step y w) w (w + 1)
-first_run y w n t = run_one y (step y w) w ((track_steps y w n t).each w (omega arith) (omega arith))
+first_run : (y : ℕ → ℕ) (w n : ℕ) → IsTrack y w n → IsRun y (step_slope y w) w (w + 1)
+first_run y w n t = run_one y (step_slope y w) w ((track_steps y w n t).each w (omega arith) (omega arith))
 
 -- THE FIRST DIRECTION: the points over a track are a line from end to end, with the track's heights
 

@@ -6,8 +6,8 @@ use Rattle.std.proofs.lemmas.Bool.{or_cases, and_parts}
 use Rattle.plan_core.specs.declared.point.Slope.{Slope}
 use Rattle.plan_core.specs.declared.point.Slope.TheVariants.{Down, Level, Up}
 use Rattle.plan_core.proofs.PieceLemmas.{Reaches}
-use Rattle.edge_lines.specs.Track.{step, same_slope, IsTrack, IsFlatOutside}
-use Rattle.edge_lines.specs.Columns.{within, is_up, is_down, is_level, level_at, seen_by, has_level, turns_behind}
+use Rattle.edge_lines.specs.Track.{step_slope, same_slope, IsTrack, IsFlatOutside}
+use Rattle.edge_lines.specs.Columns.{within, is_up, is_down, is_level, is_level_step, seen_by, has_level, turns_behind}
 use Rattle.edge_lines.proofs.TrackLemmas.{slope_by_reaches, reaches_by_slope}
 
 abbrev pub Is : Bool → Type 0
@@ -71,26 +71,26 @@ or_left : (a b : Bool) → Is a → Is (a || b)
 or_left true b h = refl
 or_left false b h = cc
 
-pub level_true : (y : ℕ → ℕ) (w n d : ℕ) → w ≤ d → d ≤ w + n → step y d ≡ Level → Is (level_at y w n d)
+pub level_true : (y : ℕ → ℕ) (w n d : ℕ) → w ≤ d → d ≤ w + n → step_slope y d ≡ Level → Is (is_level_step y w n d)
 level_true y w n d from to level =
     let p : nat_le w d ≡ true = grind (arith, nat_tests) in
     let q : nat_le d (w + n) ≡ true = grind (arith, nat_tests) in
     rw (p, q) (ap is_level level)
 
 -- what was seen stays so
-pub seen_true : (y : ℕ → ℕ) (w n d : ℕ) → Is (level_at y w n d) → (m c : ℕ) → d + m ≡ c → Is (seen_by y w n c)
-seen_true y w n d h zero zero is = let z : d ≡ 0 = omega arith in subst (λ k. Is (level_at y w n k)) z h
-seen_true y w n d h zero (suc c) is = let z : d ≡ suc c = omega arith in or_right (seen_by y w n c) (level_at y w n (suc c)) (subst (λ k. Is (level_at y w n k)) z h)
+pub seen_true : (y : ℕ → ℕ) (w n d : ℕ) → Is (is_level_step y w n d) → (m c : ℕ) → d + m ≡ c → Is (seen_by y w n c)
+seen_true y w n d h zero zero is = let z : d ≡ 0 = omega arith in subst (λ k. Is (is_level_step y w n k)) z h
+seen_true y w n d h zero (suc c) is = let z : d ≡ suc c = omega arith in or_right (seen_by y w n c) (is_level_step y w n (suc c)) (subst (λ k. Is (is_level_step y w n k)) z h)
 seen_true y w n d h (suc m) zero is = absurd (omega arith)
-seen_true y w n d h (suc m) (suc c) is = or_left (seen_by y w n c) (level_at y w n (suc c)) (seen_true y w n d h m c (omega arith))
+seen_true y w n d h (suc m) (suc c) is = or_left (seen_by y w n c) (is_level_step y w n (suc c)) (seen_true y w n d h m c (omega arith))
 
 -- a step outside the line is level
-pub level_outside : (y : ℕ → ℕ) (w n c : ℕ) → IsFlatOutside y w n → (c < w) ⊎ (w + n < c) → step y c ≡ Level
+pub level_outside : (y : ℕ → ℕ) (w n c : ℕ) → IsFlatOutside y w n → (c < w) ⊎ (w + n < c) → step_slope y c ≡ Level
 level_outside y w n c f (inl less) = slope_by_reaches Level 1 (y c) (y (c + 1)) (omega arith) (f.west (c + 1) (omega arith) ∙ sym (f.west c (omega arith)))
 level_outside y w n c f (inr past) = slope_by_reaches Level 1 (y c) (y (c + 1)) (omega arith) (f.east (c + 1) (omega arith) ∙ sym (f.east c (omega arith)))
 
 -- so a diagonal one is one of the line's
-pub diagonal_inside : (y : ℕ → ℕ) (w n c : ℕ) → IsFlatOutside y w n → step y c ≢ Level → (w ≤ c) × (c ≤ w + n)
+pub diagonal_inside : (y : ℕ → ℕ) (w n c : ℕ) → IsFlatOutside y w n → step_slope y c ≢ Level → (w ≤ c) × (c ≤ w + n)
 diagonal_inside y w n c f ne = elim (leb_tells w c) [
   | inr x ↦ let low = x.1 in absurd (ne (level_outside y w n c f (inl (omega arith))))
   | inl x ↦ elim (leb_tells c (w + n)) [
@@ -114,7 +114,7 @@ up_not_down Down h k = cc
 up_not_down Level h k = cc
 up_not_down Up h k = cc
 
-pub track_reaches : (y : ℕ → ℕ) (w n c : ℕ) → IsTrack y w n → IsFlatOutside y w n → Reaches (step y c) 1 (y c) (y (c + 1))
+pub track_reaches : (y : ℕ → ℕ) (w n c : ℕ) → IsTrack y w n → IsFlatOutside y w n → Reaches (step_slope y c) 1 (y c) (y (c + 1))
 track_reaches y w n c t f = elim (leb_tells w c) [
   | inr x ↦ let low = x.1 in let e : y (c + 1) ≡ y c = f.west (c + 1) (omega arith) ∙ sym (f.west c (omega arith)) in reaches_by_slope (y c) (y (c + 1)) (omega arith) (omega arith)
   | inl x ↦ elim (leb_tells c (w + n)) [
@@ -124,51 +124,51 @@ track_reaches y w n c t f = elim (leb_tells w c) [
 ]
 
 -- what was seen is there
-pub seen_some : (y : ℕ → ℕ) (w n c : ℕ) → Is (seen_by y w n c) → (d : ℕ) × (d ≤ c) × Is (level_at y w n d)
+pub seen_some : (y : ℕ → ℕ) (w n c : ℕ) → Is (seen_by y w n c) → (d : ℕ) × (d ≤ c) × Is (is_level_step y w n d)
 seen_some y w n zero h = (0, omega arith, h)
-seen_some y w n (suc c) h = elim (or_cases (seen_by y w n c) (level_at y w n (suc c)) h) [
+seen_some y w n (suc c) h = elim (or_cases (seen_by y w n c) (is_level_step y w n (suc c)) h) [
   | inl a ↦ let s = seen_some y w n c a in let le = s.1 in (s.0, omega arith, s.2)
   | inr a ↦ (suc c, omega arith, a)
 ]
 
-pub level_parts : (y : ℕ → ℕ) (w n d : ℕ) → Is (level_at y w n d) → (w ≤ d) × ((d ≤ w + n) × (step y d ≡ Level))
+pub level_parts : (y : ℕ → ℕ) (w n d : ℕ) → Is (is_level_step y w n d) → (w ≤ d) × ((d ≤ w + n) × (step_slope y d ≡ Level))
 level_parts y w n d h =
-    let a = and_parts (nat_le w d) (nat_le d (w + n) && is_level (step y d)) h in
-    let b = and_parts (nat_le d (w + n)) (is_level (step y d)) a.1 in
+    let a = and_parts (nat_le w d) (nat_le d (w + n) && is_level (step_slope y d)) h in
+    let b = and_parts (nat_le d (w + n)) (is_level (step_slope y d)) a.1 in
     let p = a.0 in
     let q = b.0 in
-    (grind (arith, nat_tests, p), (grind (arith, nat_tests, q), level_is (step y d) b.1))
+    (grind (arith, nat_tests, p), (grind (arith, nat_tests, q), level_is (step_slope y d) b.1))
 
 -- behind a level step a diagonal one goes on to the end
-to_end : (y : ℕ → ℕ) (w n : ℕ) → IsTrack y w n → (d c m k : ℕ) → w ≤ d → d ≤ c → step y d ≡ Level → step y c ≢ Level → c + m ≡ k → k ≤ w + n → step y k ≡ step y c
-to_end y w n t d c zero k low le level ne is to = let z : k ≡ c = omega arith in ap (step y) z
+to_end : (y : ℕ → ℕ) (w n : ℕ) → IsTrack y w n → (d c m k : ℕ) → w ≤ d → d ≤ c → step_slope y d ≡ Level → step_slope y c ≢ Level → c + m ≡ k → k ≤ w + n → step_slope y k ≡ step_slope y c
+to_end y w n t d c zero k low le level ne is to = let z : k ≡ c = omega arith in ap (step_slope y) z
 to_end y w n t d c (suc m) k low le level ne is to =
     let before = to_end y w n t d c m (c + m) low le level ne refl (omega arith) in
     let z : k ≡ c + m + 1 = omega arith in
-    ap (step y) z ∙ t.goes_on d (c + m) low (omega arith) (omega arith) level (λ l. ne (sym before ∙ l)) ∙ before
+    ap (step_slope y) z ∙ t.goes_on d (c + m) low (omega arith) (omega arith) level (λ l. ne (sym before ∙ l)) ∙ before
 
-alike : (y : ℕ → ℕ) (w n c : ℕ) → IsTrack y w n → w ≤ c → c < w + n → step y c ≢ Level → step y (c + 1) ≢ Level → step y (c + 1) ≡ step y c
-alike y w n c t from to ne next = elim (step y c) as (λ s. step y c ≡ s → step y (c + 1) ≡ s) [
+alike : (y : ℕ → ℕ) (w n c : ℕ) → IsTrack y w n → w ≤ c → c < w + n → step_slope y c ≢ Level → step_slope y (c + 1) ≢ Level → step_slope y (c + 1) ≡ step_slope y c
+alike y w n c t from to ne next = elim (step_slope y c) as (λ s. step_slope y c ≡ s → step_slope y (c + 1) ≡ s) [
   | Level ↦ λ e. absurd (ne e)
-  | Up ↦ λ e. elim (step y (c + 1)) as (λ s. step y (c + 1) ≡ s → s ≡ Up) [ Up ↦ λ g. refl | Level ↦ λ g. absurd (next g) | Down ↦ λ g. absurd (t.no_peak c from to e g) ] refl
-  | Down ↦ λ e. elim (step y (c + 1)) as (λ s. step y (c + 1) ≡ s → s ≡ Down) [ Down ↦ λ g. refl | Level ↦ λ g. absurd (next g) | Up ↦ λ g. absurd (t.no_dip c from to e g) ] refl
+  | Up ↦ λ e. elim (step_slope y (c + 1)) as (λ s. step_slope y (c + 1) ≡ s → s ≡ Up) [ Up ↦ λ g. refl | Level ↦ λ g. absurd (next g) | Down ↦ λ g. absurd (t.no_peak c from to e g) ] refl
+  | Down ↦ λ e. elim (step_slope y (c + 1)) as (λ s. step_slope y (c + 1) ≡ s → s ≡ Down) [ Down ↦ λ g. refl | Level ↦ λ g. absurd (next g) | Up ↦ λ g. absurd (t.no_dip c from to e g) ] refl
 ] refl
 
 -- without a level step all are alike
-from_west : (y : ℕ → ℕ) (w n c : ℕ) → IsTrack y w n → c ≤ w + n → ((d : ℕ) → w ≤ d → d ≤ c → step y d ≢ Level) → (m k : ℕ) → w + m ≡ k → k ≤ c → step y k ≡ step y w
-from_west y w n c t le none zero k is to = let z : k ≡ w = omega arith in ap (step y) z
+from_west : (y : ℕ → ℕ) (w n c : ℕ) → IsTrack y w n → c ≤ w + n → ((d : ℕ) → w ≤ d → d ≤ c → step_slope y d ≢ Level) → (m k : ℕ) → w + m ≡ k → k ≤ c → step_slope y k ≡ step_slope y w
+from_west y w n c t le none zero k is to = let z : k ≡ w = omega arith in ap (step_slope y) z
 from_west y w n c t le none (suc m) k is to =
     let z : k ≡ w + m + 1 = omega arith in
-    ap (step y) z
+    ap (step_slope y) z
     ∙ alike y w n (w + m) t (omega arith) (omega arith) (none (w + m) (omega arith) (omega arith)) (none (w + m + 1) (omega arith) (omega arith))
     ∙ from_west y w n c t le none m (w + m) refl (omega arith)
 
-pub not_seen : (y : ℕ → ℕ) (w n c : ℕ) → c ≤ w + n → seen_by y w n c ≡ false → (d : ℕ) → w ≤ d → d ≤ c → step y d ≢ Level
+pub not_seen : (y : ℕ → ℕ) (w n c : ℕ) → c ≤ w + n → seen_by y w n c ≡ false → (d : ℕ) → w ≤ d → d ≤ c → step_slope y d ≢ Level
 not_seen y w n c le h d from to level = let z : Is (seen_by y w n c) = seen_true y w n d (level_true y w n d from (omega arith) level) (c - d) c (omega arith) in cc
 
 -- a diagonal step is one of the first or the last piece
-pub through : (y : ℕ → ℕ) (w n c : ℕ) → IsTrack y w n → w ≤ c → c ≤ w + n → step y c ≢ Level → (step y w ≡ step y c) ⊎ (step y (w + n) ≡ step y c)
-through y w n c t from to ne = elim (seen_by y w n c) as (λ b. seen_by y w n c ≡ b → (step y w ≡ step y c) ⊎ (step y (w + n) ≡ step y c)) [
+pub through : (y : ℕ → ℕ) (w n c : ℕ) → IsTrack y w n → w ≤ c → c ≤ w + n → step_slope y c ≢ Level → (step_slope y w ≡ step_slope y c) ⊎ (step_slope y (w + n) ≡ step_slope y c)
+through y w n c t from to ne = elim (seen_by y w n c) as (λ b. seen_by y w n c ≡ b → (step_slope y w ≡ step_slope y c) ⊎ (step_slope y (w + n) ≡ step_slope y c)) [
   | true ↦ λ h.
       let d = seen_some y w n c h in
       let parts = level_parts y w n d.0 d.2 in
@@ -176,7 +176,7 @@ through y w n c t from to ne = elim (seen_by y w n c) as (λ b. seen_by y w n c 
   | false ↦ λ h. inl (sym (from_west y w n c t to (not_seen y w n c to h) (c - w) c (omega arith) (omega arith)))
 ] refl
 
-pub one_slope_all : (y : ℕ → ℕ) (w n : ℕ) → IsTrack y w n → has_level y w n ≡ false → (step y w ≢ Level) × (step y (w + n) ≡ step y w)
+pub one_slope_all : (y : ℕ → ℕ) (w n : ℕ) → IsTrack y w n → has_level y w n ≡ false → (step_slope y w ≢ Level) × (step_slope y (w + n) ≡ step_slope y w)
 one_slope_all y w n t h =
     let none = not_seen y w n (w + n) (omega arith) h in
     (none w (omega arith) (omega arith), from_west y w n (w + n) t (omega arith) none n (w + n) refl (omega arith))
@@ -187,8 +187,8 @@ seen_to_end y w n zero c is = let z : c ≡ w + n = omega arith in ap (seen_by y
 seen_to_end y w n (suc m) zero is = absurd (omega arith)
 seen_to_end y w n (suc m) (suc c) is =
     let past : nat_le (suc c) (w + n) ≡ false = grind (arith, nat_tests) in
-    let none : level_at y w n (suc c) ≡ false = elim (nat_le w (suc c)) as (λ (b : Bool). (b && (nat_le (suc c) (w + n) && is_level (step y (suc c)))) ≡ false) [ true ↦ rw past refl | false ↦ refl ] in
-    let same : (seen_by y w n c || level_at y w n (suc c)) ≡ seen_by y w n c = elim (seen_by y w n c) as (λ (b : Bool). (b || level_at y w n (suc c)) ≡ b) [ true ↦ refl | false ↦ none ] in
+    let none : is_level_step y w n (suc c) ≡ false = elim (nat_le w (suc c)) as (λ (b : Bool). (b && (nat_le (suc c) (w + n) && is_level (step_slope y (suc c)))) ≡ false) [ true ↦ rw past refl | false ↦ refl ] in
+    let same : (seen_by y w n c || is_level_step y w n (suc c)) ≡ seen_by y w n c = elim (seen_by y w n c) as (λ (b : Bool). (b || is_level_step y w n (suc c)) ≡ b) [ true ↦ refl | false ↦ none ] in
     same ∙ seen_to_end y w n m c (omega arith)
 
 -- a turn behind column c
@@ -229,17 +229,17 @@ turn_within w n c b = elim (leb_tells w c) [
 ]
 
 -- with the truth values of the two steps
-pub turns_are : (y : ℕ → ℕ) (w n c : ℕ) (i k u p d q : Bool) → i ≡ within w n c → k ≡ within w n (c + 2) → u ≡ is_up (step y c) → p ≡ is_up (step y (c + 1)) → d ≡ is_down (step y c) → q ≡ is_down (step y (c + 1))
+pub turns_are : (y : ℕ → ℕ) (w n c : ℕ) (i k u p d q : Bool) → i ≡ within w n c → k ≡ within w n (c + 2) → u ≡ is_up (step_slope y c) → p ≡ is_up (step_slope y (c + 1)) → d ≡ is_down (step_slope y c) → q ≡ is_down (step_slope y (c + 1))
     → (i && (k && ((u && not p || p && not u) || (d && not q || q && not d)))) ≡ turns_behind y w n c
 turns_are y w n c i k u p d q ei ek eu ep ed eq =
     ap (λ x. x && (k && ((u && not p || p && not u) || (d && not q || q && not d)))) ei
     ∙ ap (λ x. within w n c && (x && ((u && not p || p && not u) || (d && not q || q && not d)))) ek
     ∙ ap (λ x. within w n c && (within w n (c + 2) && ((x && not p || p && not x) || (d && not q || q && not d)))) eu
-    ∙ ap (λ x. within w n c && (within w n (c + 2) && ((is_up (step y c) && not x || x && not (is_up (step y c))) || (d && not q || q && not d)))) ep
-    ∙ ap (λ x. within w n c && (within w n (c + 2) && ((is_up (step y c) && not (is_up (step y (c + 1))) || is_up (step y (c + 1)) && not (is_up (step y c))) || (x && not q || q && not x)))) ed
-    ∙ ap (λ x. within w n c && (within w n (c + 2) && ((is_up (step y c) && not (is_up (step y (c + 1))) || is_up (step y (c + 1)) && not (is_up (step y c))) || (is_down (step y c) && not x || x && not (is_down (step y c)))))) eq
-    ∙ ap (λ b. within w n c && (within w n (c + 2) && b)) (turn_bool (step y c) (step y (c + 1)))
-    ∙ turn_within w n c (not (same_slope (step y c) (step y (c + 1))))
+    ∙ ap (λ x. within w n c && (within w n (c + 2) && ((is_up (step_slope y c) && not x || x && not (is_up (step_slope y c))) || (d && not q || q && not d)))) ep
+    ∙ ap (λ x. within w n c && (within w n (c + 2) && ((is_up (step_slope y c) && not (is_up (step_slope y (c + 1))) || is_up (step_slope y (c + 1)) && not (is_up (step_slope y c))) || (x && not q || q && not x)))) ed
+    ∙ ap (λ x. within w n c && (within w n (c + 2) && ((is_up (step_slope y c) && not (is_up (step_slope y (c + 1))) || is_up (step_slope y (c + 1)) && not (is_up (step_slope y c))) || (is_down (step_slope y c) && not x || x && not (is_down (step_slope y c)))))) eq
+    ∙ ap (λ b. within w n c && (within w n (c + 2) && b)) (turn_bool (step_slope y c) (step_slope y (c + 1)))
+    ∙ turn_within w n c (not (same_slope (step_slope y c) (step_slope y (c + 1))))
 
 pub diagonal_bool : (s : Slope) → (is_up s || is_down s) ≡ not (is_level s)
 diagonal_bool Down = refl

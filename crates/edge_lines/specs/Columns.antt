@@ -4,7 +4,7 @@ use Rattle.plan_core.specs.declared.point.Point.{Point}
 use Rattle.plan_core.specs.declared.point.Slope.{Slope}
 use Rattle.plan_core.specs.declared.point.Slope.TheVariants.{Down, Level, Up}
 use Rattle.plan_core.specs.Line.{west_end, east_end, height}
-use Rattle.edge_lines.specs.Track.{step, same_slope}
+use Rattle.edge_lines.specs.Track.{step_slope, same_slope}
 
 abbrev pub is_up : Slope → Bool
 is_up Up = true
@@ -23,17 +23,17 @@ abbrev pub within : ℕ → ℕ → ℕ → Bool
 within w n c = nat_le w c && nat_le c (w + n + 1)
 
 -- the step from column c is one of the line, and level
-abbrev pub level_at : (ℕ → ℕ) → ℕ → ℕ → ℕ → Bool
-level_at y w n c = nat_le w c && (nat_le c (w + n) && is_level (step y c))
+abbrev pub is_level_step : (ℕ → ℕ) → ℕ → ℕ → ℕ → Bool
+is_level_step y w n c = nat_le w c && (nat_le c (w + n) && is_level (step_slope y c))
 
 -- one of those from column c or before it is
 abbrev pub seen_by : (ℕ → ℕ) → ℕ → ℕ → ℕ → Bool
-seen_by y w n zero = level_at y w n 0
-seen_by y w n (suc c) = seen_by y w n c || level_at y w n (suc c)
+seen_by y w n zero = is_level_step y w n 0
+seen_by y w n (suc c) = seen_by y w n c || is_level_step y w n (suc c)
 
 -- the column behind c is an inner one of the line, and the slope turns there
 abbrev pub turns_behind : (ℕ → ℕ) → ℕ → ℕ → ℕ → Bool
-turns_behind y w n c = nat_le w c && (nat_lt c (w + n) && not (same_slope (step y c) (step y (c + 1))))
+turns_behind y w n c = nat_le w c && (nat_lt c (w + n) && not (same_slope (step_slope y c) (step_slope y (c + 1))))
 
 -- some step of the line is level
 abbrev pub has_level : (ℕ → ℕ) → ℕ → ℕ → Bool
@@ -66,5 +66,5 @@ abbrev pub has_level_piece : List Point → Bool
 has_level_piece line = line_is_level_from line ((west_end line).x + steps_of line)
 
 -- the heights of a list, one for each column
-abbrev pub listed : List ℕ → ℕ → ℕ
-listed heights c = slice_index_or heights c 0
+abbrev pub listed_height : List ℕ → ℕ → ℕ
+listed_height heights c = slice_index_or heights c 0

@@ -9,8 +9,8 @@ abbrev pub slope_by : ℕ → ℕ → Slope
 slope_by a b = (if nat_lt a b then Up else (if nat_lt b a then Down else Level))
 
 -- the slope of the step from column c to the next
-abbrev pub step : (ℕ → ℕ) → ℕ → Slope
-step y c = slope_by (y c) (y (c + 1))
+abbrev pub step_slope : (ℕ → ℕ) → ℕ → Slope
+step_slope y c = slope_by (y c) (y (c + 1))
 
 abbrev pub same_slope : Slope → Slope → Bool
 same_slope Down Down = true
@@ -24,7 +24,7 @@ over y c = record { x = c; y = y c }
 
 -- the point over the column behind c, where the slope turns there
 abbrev pub turn : (ℕ → ℕ) → ℕ → List Point
-turn y c = cond (same_slope (step y c) (step y (c + 1))) [] (over y (c + 1) ∷ [])
+turn y c = cond (same_slope (step_slope y c) (step_slope y (c + 1))) [] (over y (c + 1) ∷ [])
 
 -- the points behind column c, with n steps left behind the one from c
 abbrev pub points_behind : (ℕ → ℕ) → ℕ → ℕ → List Point
@@ -40,9 +40,10 @@ line_over y w n = over y w ∷ points_behind y w n
 pub record IsTrack (y : ℕ → ℕ) (w n : ℕ) : Type 0 where
   pub rises : (c : ℕ) → w ≤ c → c ≤ w + n → y (c + 1) ≤ y c + 1
   pub falls : (c : ℕ) → w ≤ c → c ≤ w + n → y c ≤ y (c + 1) + 1
-  pub no_peak : (c : ℕ) → w ≤ c → c < w + n → step y c ≡ Up → step y (c + 1) ≢ Down
-  pub no_dip : (c : ℕ) → w ≤ c → c < w + n → step y c ≡ Down → step y (c + 1) ≢ Up
-  pub goes_on : (d c : ℕ) → w ≤ d → d ≤ c → c < w + n → step y d ≡ Level → step y c ≢ Level → step y (c + 1) ≡ step y c
+  pub no_peak : (c : ℕ) → w ≤ c → c < w + n → step_slope y c ≡ Up → step_slope y (c + 1) ≢ Down
+  pub no_dip : (c : ℕ) → w ≤ c → c < w + n → step_slope y c ≡ Down → step_slope y (c + 1) ≢ Up
+  pub goes_on : (d c : ℕ) → w ≤ d → d ≤ c → c < w + n →
+      step_slope y d ≡ Level → step_slope y c ≢ Level → step_slope y (c + 1) ≡ step_slope y c
 
 -- heights go on level outside the steps
 pub record IsFlatOutside (y : ℕ → ℕ) (w n : ℕ) : Type 0 where

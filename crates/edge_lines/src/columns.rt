@@ -1,8 +1,8 @@
 // What a line is at a column.
 ghost use Rattle.std.specs.Prelude.{◌≡◌, ◌<◌};
 ghost use Rattle.plan_core.specs.Line.{height as height_of, west_end as west_end_of};
-ghost use Rattle.edge_lines.specs.Track.{step};
-ghost use Rattle.edge_lines.specs.Columns.{level_at, steps_of, line_is_level_from, has_level_piece, has_inner as has_inner_of};
+ghost use Rattle.edge_lines.specs.Track.{step_slope};
+ghost use Rattle.edge_lines.specs.Columns.{is_level_step, steps_of, line_is_level_from, has_level_piece, has_inner as has_inner_of};
 
 use plan_core::Slope;
 use plan_geometry::Line;
@@ -27,7 +27,7 @@ pub fn height_over(line: &Line, x: u16) -> u16
 /// The slope of the step from a column to the next, level outside the line.
 pub fn step_over(line: &Line, c: u16) -> Slope
     requires { c < 65535 }
-    ensures { result ≡ step (height_of line.now) c }
+    ensures { result ≡ step_slope (height_of line.now) c }
 {
     let here = height_over(line, c);
     let next = height_over(line, c + 1);
@@ -54,7 +54,7 @@ pub fn has_inner(line: &Line, x: u16) -> bool
 /// Whether the step from a column is one of the line's, and level.
 fn is_level_at(line: &Line, c: u16) -> bool
     requires { c < 65535 }
-    ensures { result ≡ level_at (height_of line.now) (west_end_of line.now).x (steps_of line.now) c }
+    ensures { result ≡ is_level_step (height_of line.now) (west_end_of line.now).x (steps_of line.now) c }
 {
     let _points = line.points();
     if c < line.west_end().x {

@@ -5,7 +5,7 @@ ghost use Rattle.plan_core.specs.declared.point.Point.{Point};
 ghost use Rattle.plan_core.specs.Grid.{GridSize};
 ghost use Rattle.plan_core.specs.Laws.{IsOnGrid};
 ghost use Rattle.plan_core.specs.Line.{is_line, west_end, east_end, slope_west, slope_east, height, bends, diagonal};
-ghost use Rattle.edge_lines.specs.Track.{step, over, line_over, IsTrack, IsFlatOutside};
+ghost use Rattle.edge_lines.specs.Track.{step_slope, over, line_over, IsTrack, IsFlatOutside};
 ghost use Rattle.edge_lines.specs.Columns.{is_up, is_down, is_level, has_inner, has_level_piece, turns_behind, steps_of};
 
 /// The points over a track are a line: its ends are those of the track, its heights are the track's,
@@ -24,8 +24,9 @@ pub fn a_line_is_a_track()
     ensures track { (line : List Point) → is_line line ≡ true → IsTrack (height line) (west_end line).x (steps_of line) }
     ensures flat { (line : List Point) → is_line line ≡ true → IsFlatOutside (height line) (west_end line).x (steps_of line) }
     ensures again { (line : List Point) → is_line line ≡ true → line_over (height line) (west_end line).x (steps_of line) ≡ line }
-    ensures west { (line : List Point) → is_line line ≡ true → step (height line) (west_end line).x ≡ slope_west line }
-    ensures east { (line : List Point) → is_line line ≡ true → step (height line) ((west_end line).x + steps_of line) ≡ slope_east line }
+    ensures west { (line : List Point) → is_line line ≡ true → step_slope (height line) (west_end line).x ≡ slope_west line }
+    ensures east { (line : List Point) → is_line line ≡ true →
+        step_slope (height line) ((west_end line).x + steps_of line) ≡ slope_east line }
 {}
 
 /// Two lines over the same columns with the same heights are the same line.
@@ -44,7 +45,8 @@ pub fn bends_by_end_slopes()
 /// The diagonal of a line is the number of columns from which it rises or falls.
 pub fn diagonal_by_steps()
     ensures { (line : List Point) (width : ℕ) → is_line line ≡ true → (east_end line).x ≤ width →
-        diagonal line ≡ count_by (λ c. is_up (step (height line) c) || is_down (step (height line) c)) (range_with_len 0 width) }
+        diagonal line
+        ≡ count_by (λ c. is_up (step_slope (height line) c) || is_down (step_slope (height line) c)) (range_with_len 0 width) }
 {}
 
 /// All points of a line are on the grid exactly where its heights and its east end are.

@@ -1,7 +1,7 @@
 // The line of heights.
 ghost use Rattle.std.specs.Prelude.{◌≡◌, ◌<◌, ◌-◌, ℕ, not, length, List};
 ghost use Rattle.edge_lines.specs.Track.{slope_by, same_slope, line_over, IsTrack};
-ghost use Rattle.edge_lines.specs.Columns.{listed};
+ghost use Rattle.edge_lines.specs.Columns.{listed_height};
 
 use arrayvec::ArrayVec;
 use plan_core::Point;
@@ -19,8 +19,8 @@ fn turns(a: u16, b: u16, c: u16) -> bool
 pub fn trace(heights: &[u16], west: u16, east: u16) -> Line
     requires order { west < east }
     requires there { east < length heights.now }
-    requires track { IsTrack (listed heights.now) west (east - west - 1) }
-    ensures { result ≡ line_over (listed heights.now) west (east - west - 1) }
+    requires track { IsTrack (listed_height heights.now) west (east - west - 1) }
+    ensures { result ≡ line_over (listed_height heights.now) west (east - west - 1) }
 {
     let mut points = ArrayVec::<Point, 4>::new();
     points.push(Point {

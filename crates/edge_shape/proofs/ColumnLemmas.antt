@@ -4,9 +4,9 @@ use Rattle.std.specs.Prelude.{◌&&◌, ◌||◌}
 use Rattle.plan_core.specs.declared.point.Slope.TheVariants.{Down, Level, Up}
 use Rattle.cnf_core.specs.Assignment.{Assignment}
 use Rattle.cnf_core.specs.LitOrTruth.{value}
-use Rattle.edge_lines.specs.Track.{slope_by, step, IsTrack}
+use Rattle.edge_lines.specs.Track.{slope_by, step_slope, IsTrack}
 use Rattle.edge_shape.specs.EdgeVars.{EdgeLits, before}
-use Rattle.edge_lines.specs.Columns.{within, is_up, is_down, is_level, level_at, seen_by}
+use Rattle.edge_lines.specs.Columns.{within, is_up, is_down, is_level, is_level_step, seen_by}
 use Rattle.edge_lines.proofs.TrackLemmas.{slope_by_reaches}
 use Rattle.edge_lines.proofs.StepLemmas.{Is, up_is, down_is, is_level_by, within_true, within_parts, level_by, level_true, seen_true}
 use Rattle.edge_shape.proofs.FamilyLemmas.{StepFacts, ShapeFacts}
@@ -31,41 +31,41 @@ slope_of false true m n one g = let s : slope_by m n ≡ Down = slope_by_reaches
 slope_of false false m n one g = let s : slope_by m n ≡ Level = slope_by_reaches Level 1 m n (omega arith) (g.level refl refl) in rw s (refl, refl)
 
 -- the truth values of a step are those of its slope
-pub columns-up : (v : Assignment) (e : EdgeLits) (width : ℕ) (y : ℕ → ℕ) (w n : ℕ) → AreColumns v e width y w n → (c : ℕ) → c < width → v (e.up c) ≡ is_up (step y c)
+pub columns-up : (v : Assignment) (e : EdgeLits) (width : ℕ) (y : ℕ → ℕ) (w n : ℕ) → AreColumns v e width y w n → (c : ℕ) → c < width → v (e.up c) ≡ is_up (step_slope y c)
 columns-up v e width y w n a c lt = (slope_of (v (e.up c)) (v (e.down c)) (y c) (y (c + 1)) (a.steps c lt).one (a.goes c lt)).0
 
-pub columns-down : (v : Assignment) (e : EdgeLits) (width : ℕ) (y : ℕ → ℕ) (w n : ℕ) → AreColumns v e width y w n → (c : ℕ) → c < width → v (e.down c) ≡ is_down (step y c)
+pub columns-down : (v : Assignment) (e : EdgeLits) (width : ℕ) (y : ℕ → ℕ) (w n : ℕ) → AreColumns v e width y w n → (c : ℕ) → c < width → v (e.down c) ≡ is_down (step_slope y c)
 columns-down v e width y w n a c lt = (slope_of (v (e.up c)) (v (e.down c)) (y c) (y (c + 1)) (a.steps c lt).one (a.goes c lt)).1
 
 -- seen from the first level step on
-seen_step : (v : Assignment) (e : EdgeLits) (width : ℕ) (y : ℕ → ℕ) (w n : ℕ) → AreColumns v e width y w n → (c : ℕ) → c < width → v (e.seen c) ≡ (value v (before e.seen c) || level_at y w n c)
+seen_step : (v : Assignment) (e : EdgeLits) (width : ℕ) (y : ℕ → ℕ) (w n : ℕ) → AreColumns v e width y w n → (c : ℕ) → c < width → v (e.seen c) ≡ (value v (before e.seen c) || is_level_step y w n c)
 seen_step v e width y w n a c lt =
     a.seen c lt
     ∙ ap (λ i. value v (before e.seen c) || (i && (v (e.inside (c + 1)) && (not (v (e.up c)) && not (v (e.down c)))))) (a.inside c (omega arith))
     ∙ ap (λ j. value v (before e.seen c) || (within w n c && (j && (not (v (e.up c)) && not (v (e.down c)))))) (a.inside (c + 1) (omega arith))
     ∙ ap (λ u. value v (before e.seen c) || (within w n c && (within w n (c + 1) && (not u && not (v (e.down c)))))) (columns-up v e width y w n a c lt)
-    ∙ ap (λ d. value v (before e.seen c) || (within w n c && (within w n (c + 1) && (not (is_up (step y c)) && not d)))) (columns-down v e width y w n a c lt)
-    ∙ ap (λ l. value v (before e.seen c) || (within w n c && (within w n (c + 1) && l))) (is_level_by (step y c))
-    ∙ ap (λ l. value v (before e.seen c) || l) (level_by w n c (is_level (step y c)))
+    ∙ ap (λ d. value v (before e.seen c) || (within w n c && (within w n (c + 1) && (not (is_up (step_slope y c)) && not d)))) (columns-down v e width y w n a c lt)
+    ∙ ap (λ l. value v (before e.seen c) || (within w n c && (within w n (c + 1) && l))) (is_level_by (step_slope y c))
+    ∙ ap (λ l. value v (before e.seen c) || l) (level_by w n c (is_level (step_slope y c)))
 
 pub columns-seen : (v : Assignment) (e : EdgeLits) (width : ℕ) (y : ℕ → ℕ) (w n : ℕ) → AreColumns v e width y w n → (c : ℕ) → c < width → v (e.seen c) ≡ seen_by y w n c
 columns-seen v e width y w n a zero lt = seen_step v e width y w n a zero lt
-columns-seen v e width y w n a (suc c) lt = seen_step v e width y w n a (suc c) lt ∙ ap (λ b. b || level_at y w n (suc c)) (columns-seen v e width y w n a c (omega arith))
+columns-seen v e width y w n a (suc c) lt = seen_step v e width y w n a (suc c) lt ∙ ap (λ b. b || is_level_step y w n (suc c)) (columns-seen v e width y w n a c (omega arith))
 
-goes_on_up : (v : Assignment) (e : EdgeLits) (width : ℕ) (y : ℕ → ℕ) (w n : ℕ) → w + n + 1 ≤ width → AreColumns v e width y w n → (d c : ℕ) → w ≤ d → d ≤ c → c < w + n → step y d ≡ Level → step y c ≢ Level → step y (c + 1) ≡ step y c
+goes_on_up : (v : Assignment) (e : EdgeLits) (width : ℕ) (y : ℕ → ℕ) (w n : ℕ) → w + n + 1 ≤ width → AreColumns v e width y w n → (d c : ℕ) → w ≤ d → d ≤ c → c < w + n → step_slope y d ≡ Level → step_slope y c ≢ Level → step_slope y (c + 1) ≡ step_slope y c
 goes_on_up v e width y w n size a d c low from to level ne =
     let s = a.shape (c + 1) (omega arith) in
     let seen : Is (v (e.seen c)) = columns-seen v e width y w n a c (omega arith) ∙ seen_true y w n d (level_true y w n d low (omega arith) level) (c - d) c (omega arith) in
     let seen_before : Is (value v (before e.seen (c + 1))) = before-next v e.seen c ∙ seen in
     let there : Is (v (e.inside (c + 1 + 1))) = a.inside (c + 1 + 1) (omega arith) ∙ within_true w n (c + 1 + 1) (omega arith) (omega arith) in
-    elim (step y c) as (λ t. step y c ≡ t → step y (c + 1) ≡ t) [
+    elim (step_slope y c) as (λ t. step_slope y c ≡ t → step_slope y (c + 1) ≡ t) [
       | Level ↦ λ is. absurd (ne is)
       | Up ↦ λ is.
           let up : Is (value v (before e.up (c + 1))) = before-next v e.up c ∙ columns-up v e width y w n a c (omega arith) ∙ ap is_up is in
-          up_is (step y (c + 1)) (sym (columns-up v e width y w n a (c + 1) (omega arith)) ∙ s.rises_on seen_before up there)
+          up_is (step_slope y (c + 1)) (sym (columns-up v e width y w n a (c + 1) (omega arith)) ∙ s.rises_on seen_before up there)
       | Down ↦ λ is.
           let down : Is (value v (before e.down (c + 1))) = before-next v e.down c ∙ columns-down v e width y w n a c (omega arith) ∙ ap is_down is in
-          down_is (step y (c + 1)) (sym (columns-down v e width y w n a (c + 1) (omega arith)) ∙ s.falls_on seen_before down there)
+          down_is (step_slope y (c + 1)) (sym (columns-down v e width y w n a (c + 1) (omega arith)) ∙ s.falls_on seen_before down there)
     ] refl
 
 -- the columns are a track

@@ -5,7 +5,7 @@ use Rattle.std.specs.List.{count_by, range_with_len}
 use Rattle.plan_core.specs.declared.point.Point.{Point}
 use Rattle.plan_core.specs.Line.{is_line, east_end, height, diagonal}
 use Rattle.cnf_core.specs.Assignment.{Assignment}
-use Rattle.edge_lines.specs.Track.{step}
+use Rattle.edge_lines.specs.Track.{step_slope}
 use Rattle.edge_shape.specs.EdgeVars.{EdgeLits}
 use Rattle.edge_lines.specs.Columns.{is_up, is_down}
 use Rattle.edge_shape.specs.ReadsLine.{ReadsLine}
@@ -15,4 +15,4 @@ pub diagonal_read : (v : Assignment) (e : EdgeLits) (width : ℕ) (line : List P
 diagonal_read v e width line h size r =
     let y = height line in
     diagonal_steps line width h size
-    ∙ count_same (λ c. is_up (step y c) || is_down (step y c)) (λ c. v (e.up c) || v (e.down c)) 0 width (λ c low high. ap (λ b. b || is_down (step y c)) (sym (r.up c (omega arith))) ∙ ap (λ b. v (e.up c) || b) (sym (r.down c (omega arith))))
+    ∙ count_same (λ c. is_up (step_slope y c) || is_down (step_slope y c)) (λ c. v (e.up c) || v (e.down c)) 0 width (λ c low high. ap (λ b. b || is_down (step_slope y c)) (sym (r.up c (omega arith))) ∙ ap (λ b. v (e.up c) || b) (sym (r.down c (omega arith))))

@@ -11,8 +11,8 @@ use Rattle.order_int.specs.IntVars.{IntVars}
 use Rattle.order_int.specs.OrderInt.{int_clauses, Reads, le_clauses, equal_clauses}
 use Rattle.order_int.proofs.IntLemmas.{int_holds}
 use Rattle.order_int.proofs.OrderLemmas.{le_holds, equal_holds}
-use Rattle.edge_lines.specs.Track.{step, IsTrack, IsFlatOutside}
-use Rattle.edge_shape.specs.Rules.{rule_clauses, Follows}
+use Rattle.edge_lines.specs.Track.{step_slope, IsTrack, IsFlatOutside}
+use Rattle.edge_shape.specs.Rules.{rule_clauses, FollowsRules}
 use Rattle.edge_shape.specs.EdgeVars.{NodeInts, EdgeLits}
 use Rattle.edge_shape.specs.Edge.{range_rules, step_rules, height_clauses, seen_rules, shape_rules, end_rules, same_where, slope_rules, bend_rules, inner_rules, through_rules, level_rules, edge_rules, step_clauses, end_clauses, column_clauses, whole_clauses, further_clauses, edge_clauses, ReadsTrack}
 use Rattle.edge_lines.specs.Columns.{is_up, is_down, is_level, has_level}
@@ -46,7 +46,7 @@ columns_hold v e west east high width w n y rx rz ry a =
     (height_holds v e high c (y c) (y (c + 1)) (ry c (omega arith)) (ry (c + 1) (omega arith)) (a.goes c (omega arith))))
     (satisfies_append v C D (rules_hold v (seen_rules e c) (seen_holds v e c (a.seen c (omega arith)))) (rules_hold v (shape_rules e c) (shape_holds v e c (a.shape c (omega arith)))))))
 
-append_follows : (v : Assignment) (x z : IntVars) (e : EdgeLits) (c : ℕ) → Follows v (same_where x c e.west_up (e.up c)) → Follows v (same_where x c e.west_down (e.down c)) → Follows v (same_where z (c + 1) e.east_up (e.up c)) → Follows v (same_where z (c + 1) e.east_down (e.down c)) → Follows v (slope_rules e x z c)
+append_follows : (v : Assignment) (x z : IntVars) (e : EdgeLits) (c : ℕ) → FollowsRules v (same_where x c e.west_up (e.up c)) → FollowsRules v (same_where x c e.west_down (e.down c)) → FollowsRules v (same_where z (c + 1) e.east_up (e.up c)) → FollowsRules v (same_where z (c + 1) e.east_down (e.down c)) → FollowsRules v (slope_rules e x z c)
 append_follows v x z e c f g h k = (f.0, (f.1.0, (g.0, (g.1.0, (h.0, (h.1.0, (k.0, (k.1.0, tt))))))))
 
 whole_holds : (v : Assignment) (e : EdgeLits) (west east : NodeInts) (width w n : ℕ) (y : ℕ → ℕ) → w + n + 1 ≤ width → Reads v west.x w → Reads v east.x (w + n + 1) → ReadsTrack v e width y w n → SatisfiesAll v (whole_clauses e west east width)
@@ -58,23 +58,23 @@ whole_holds v e west east width w n y size rx rz r =
     let D = rule_clauses (bend_rules e.second_bend e.east_up e.east_down (e.seen (width - 1))) in
     satisfies_append v (A ++ B) (C ++ D)
     (satisfies_append v A B
-    (rules_hold v (end_rules e) (end_holds v e (λ a b. up_not_down (step y w) (sym r.west_up ∙ a) (sym r.west_down ∙ b)) (λ a b. up_not_down (step y (w + n)) (sym r.east_up ∙ a) (sym r.east_down ∙ b))))
+    (rules_hold v (end_rules e) (end_holds v e (λ a b. up_not_down (step_slope y w) (sym r.west_up ∙ a) (sym r.west_down ∙ b)) (λ a b. up_not_down (step_slope y (w + n)) (sym r.east_up ∙ a) (sym r.east_down ∙ b))))
     (satisfies_each v (λ c. rule_clauses (slope_rules e west.x east.x c)) 0 width (λ c from to. rules_hold v (slope_rules e west.x east.x c) (append_follows v west.x east.x e c
-    (same_holds v west.x c e.west_up (e.up c) w rx (λ is. r.west_up ∙ ap (λ k. is_up (step y k)) is ∙ sym (r.up c (omega arith))))
-    (same_holds v west.x c e.west_down (e.down c) w rx (λ is. r.west_down ∙ ap (λ k. is_down (step y k)) is ∙ sym (r.down c (omega arith))))
-    (same_holds v east.x (c + 1) e.east_up (e.up c) (w + n + 1) rz (λ is. let z : w + n ≡ c = omega arith in r.east_up ∙ ap (λ k. is_up (step y k)) z ∙ sym (r.up c (omega arith))))
-    (same_holds v east.x (c + 1) e.east_down (e.down c) (w + n + 1) rz (λ is. let z : w + n ≡ c = omega arith in r.east_down ∙ ap (λ k. is_down (step y k)) z ∙ sym (r.down c (omega arith))))))))
+    (same_holds v west.x c e.west_up (e.up c) w rx (λ is. r.west_up ∙ ap (λ k. is_up (step_slope y k)) is ∙ sym (r.up c (omega arith))))
+    (same_holds v west.x c e.west_down (e.down c) w rx (λ is. r.west_down ∙ ap (λ k. is_down (step_slope y k)) is ∙ sym (r.down c (omega arith))))
+    (same_holds v east.x (c + 1) e.east_up (e.up c) (w + n + 1) rz (λ is. let z : w + n ≡ c = omega arith in r.east_up ∙ ap (λ k. is_up (step_slope y k)) z ∙ sym (r.up c (omega arith))))
+    (same_holds v east.x (c + 1) e.east_down (e.down c) (w + n + 1) rz (λ is. let z : w + n ≡ c = omega arith in r.east_down ∙ ap (λ k. is_down (step_slope y k)) z ∙ sym (r.down c (omega arith))))))))
     (satisfies_append v C D
     (rules_hold v (bend_rules e.first_bend e.west_up e.west_down (e.seen (width - 1))) (bend_holds v e.first_bend e.west_up e.west_down (e.seen (width - 1))
-    (r.first_bend ∙ sym (ap (λ b. (b || v e.west_down) && v (e.seen (width - 1))) r.west_up ∙ ap (λ b. (is_up (step y w) || b) && v (e.seen (width - 1))) r.west_down ∙ ap (λ b. b && v (e.seen (width - 1))) (diagonal_bool (step y w)) ∙ ap (λ b. not (is_level (step y w)) && b) level))))
+    (r.first_bend ∙ sym (ap (λ b. (b || v e.west_down) && v (e.seen (width - 1))) r.west_up ∙ ap (λ b. (is_up (step_slope y w) || b) && v (e.seen (width - 1))) r.west_down ∙ ap (λ b. b && v (e.seen (width - 1))) (diagonal_bool (step_slope y w)) ∙ ap (λ b. not (is_level (step_slope y w)) && b) level))))
     (rules_hold v (bend_rules e.second_bend e.east_up e.east_down (e.seen (width - 1))) (bend_holds v e.second_bend e.east_up e.east_down (e.seen (width - 1))
-    (r.second_bend ∙ sym (ap (λ b. (b || v e.east_down) && v (e.seen (width - 1))) r.east_up ∙ ap (λ b. (is_up (step y (w + n)) || b) && v (e.seen (width - 1))) r.east_down ∙ ap (λ b. b && v (e.seen (width - 1))) (diagonal_bool (step y (w + n))) ∙ ap (λ b. not (is_level (step y (w + n))) && b) level)))))
+    (r.second_bend ∙ sym (ap (λ b. (b || v e.east_down) && v (e.seen (width - 1))) r.east_up ∙ ap (λ b. (is_up (step_slope y (w + n)) || b) && v (e.seen (width - 1))) r.east_down ∙ ap (λ b. b && v (e.seen (width - 1))) (diagonal_bool (step_slope y (w + n))) ∙ ap (λ b. not (is_level (step_slope y (w + n))) && b) level)))))
 
 -- what the families that follow from the others need
 through_up : (v : Assignment) (e : EdgeLits) (width w n c : ℕ) (y : ℕ → ℕ) → IsTrack y w n → IsFlatOutside y w n → ReadsTrack v e width y w n → c < width → Is (v (e.up c)) → Is (v e.west_up) ⊎ Is (v e.east_up)
 through_up v e width w n c y t f r lt h =
-    let up = up_is (step y c) (sym (r.up c lt) ∙ h) in
-    let ne : step y c ≢ Level = up_diagonal (step y c) (sym (r.up c lt) ∙ h) in
+    let up = up_is (step_slope y c) (sym (r.up c lt) ∙ h) in
+    let ne : step_slope y c ≢ Level = up_diagonal (step_slope y c) (sym (r.up c lt) ∙ h) in
     let at = diagonal_inside y w n c f ne in
     elim (through y w n c t at.0 at.1 ne) [
       | inl a ↦ inl (r.west_up ∙ ap is_up (a ∙ up))
@@ -83,8 +83,8 @@ through_up v e width w n c y t f r lt h =
 
 through_down : (v : Assignment) (e : EdgeLits) (width w n c : ℕ) (y : ℕ → ℕ) → IsTrack y w n → IsFlatOutside y w n → ReadsTrack v e width y w n → c < width → Is (v (e.down c)) → Is (v e.west_down) ⊎ Is (v e.east_down)
 through_down v e width w n c y t f r lt h =
-    let down = down_is (step y c) (sym (r.down c lt) ∙ h) in
-    let ne : step y c ≢ Level = down_diagonal (step y c) (sym (r.down c lt) ∙ h) in
+    let down = down_is (step_slope y c) (sym (r.down c lt) ∙ h) in
+    let ne : step_slope y c ≢ Level = down_diagonal (step_slope y c) (sym (r.down c lt) ∙ h) in
     let at = diagonal_inside y w n c f ne in
     elim (through y w n c t at.0 at.1 ne) [
       | inl a ↦ inl (r.west_down ∙ ap is_down (a ∙ down))
@@ -104,7 +104,7 @@ level_or_one v e width w n y size t r =
       | false ↦ λ h.
           let one = one_slope_all y w n t h in
           inr (
-            elim (up_or_down (step y w) one.0) [ inl u ↦ inl (r.west_up ∙ u) | inr d ↦ inr (r.west_down ∙ d) ],
+            elim (up_or_down (step_slope y w) one.0) [ inl u ↦ inl (r.west_up ∙ u) | inr d ↦ inr (r.west_down ∙ d) ],
             (r.west_up ∙ sym (ap is_up one.1) ∙ sym r.east_up, r.west_down ∙ sym (ap is_down one.1) ∙ sym r.east_down),
           )
     ] refl
@@ -136,10 +136,10 @@ further_holds v e west east high width w n a b y rows size ra rb t f is_a is_b c
     (satisfies_append v H K
     (rules_hold v (level_rules e (e.seen (width - 1))) (level_holds v e (e.seen (width - 1)) (level_or_one v e width w n y size t r)))
     (rules_hold v (edge_rules e west.y east.y high) (edge_holds v e west.y east.y a b high ra rb
-    (λ h. let k = by_down (step y w) (y w) (y (w + 1)) first (sym r.west_down ∙ h) in omega arith)
-    (λ h. let k = by_up (step y w) (y w) (y (w + 1)) first (sym r.west_up ∙ h) in let top = bound (w + 1) (omega arith) in omega arith)
-    (λ h. let k = by_up (step y (w + n)) (y (w + n)) (y (w + n + 1)) last (sym r.east_up ∙ h) in omega arith)
-    (λ h. let k = by_down (step y (w + n)) (y (w + n)) (y (w + n + 1)) last (sym r.east_down ∙ h) in let top = bound (w + n) (omega arith) in omega arith))))
+    (λ h. let k = by_down (step_slope y w) (y w) (y (w + 1)) first (sym r.west_down ∙ h) in omega arith)
+    (λ h. let k = by_up (step_slope y w) (y w) (y (w + 1)) first (sym r.west_up ∙ h) in let top = bound (w + 1) (omega arith) in omega arith)
+    (λ h. let k = by_up (step_slope y (w + n)) (y (w + n)) (y (w + n + 1)) last (sym r.east_up ∙ h) in omega arith)
+    (λ h. let k = by_down (step_slope y (w + n)) (y (w + n)) (y (w + n + 1)) last (sym r.east_down ∙ h) in let top = bound (w + n) (omega arith) in omega arith))))
 
 -- A TRACK MAKES THE CLAUSES HOLD
 pub edge_clauses_hold : (v : Assignment) (e : EdgeLits) (west east : NodeInts) (least high width w n a b : ℕ) (y : ℕ → ℕ) → HasRows e high width → w + n + 1 ≤ width → least ≤ n + 1 → Reads v west.x w → Reads v west.y a → Reads v east.x (w + n + 1) → Reads v east.y b → IsTrack y w n → IsFlatOutside y w n → y w ≡ a → y (w + n + 1) ≡ b → ReadsTrack v e width y w n → SatisfiesAll v (edge_clauses e west east least high width)

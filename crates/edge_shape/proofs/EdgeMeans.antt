@@ -8,8 +8,8 @@ use Rattle.order_int.specs.IntVars.{IntVars}
 use Rattle.order_int.specs.OrderInt.{int_clauses, Reads, number, le_clauses, equal_clauses}
 use Rattle.order_int.proofs.IntLemmas.{int_means}
 use Rattle.order_int.proofs.OrderLemmas.{le_means, equal_means}
-use Rattle.edge_lines.specs.Track.{step, IsTrack, IsFlatOutside}
-use Rattle.edge_shape.specs.Rules.{rule_clauses, Follows}
+use Rattle.edge_lines.specs.Track.{step_slope, IsTrack, IsFlatOutside}
+use Rattle.edge_shape.specs.Rules.{rule_clauses, FollowsRules}
 use Rattle.edge_shape.specs.EdgeVars.{NodeInts, EdgeLits}
 use Rattle.edge_shape.specs.Edge.{range_rules, step_rules, height_clauses, seen_rules, shape_rules, end_rules, same_where, slope_rules, bend_rules, inner_rules, through_rules, level_rules, edge_rules, step_clauses, end_clauses, column_clauses, whole_clauses, further_clauses, edge_clauses, ReadsTrack}
 use Rattle.edge_lines.specs.Columns.{is_up, is_down, is_level, has_level}
@@ -38,7 +38,7 @@ none : {A : Type 0} → ⊥ ⊎ A → A
 none (inl x) = absurd x
 none (inr a) = a
 
-step_part : (v : Assignment) (e : EdgeLits) (high c : ℕ) → SatisfiesAll v (step_clauses e high c) → (Follows v (step_rules e c) × SatisfiesAll v (height_clauses e high c)) × (Follows v (seen_rules e c) × Follows v (shape_rules e c))
+step_part : (v : Assignment) (e : EdgeLits) (high c : ℕ) → SatisfiesAll v (step_clauses e high c) → (FollowsRules v (step_rules e c) × SatisfiesAll v (height_clauses e high c)) × (FollowsRules v (seen_rules e c) × FollowsRules v (shape_rules e c))
 step_part v e high c h =
     let A = rule_clauses (step_rules e c) in
     let B = height_clauses e high c in
@@ -70,7 +70,7 @@ columns_say v e west east high width w n y rows rw rz ry h =
     }
 
 -- the four slopes
-slope_part : (v : Assignment) (e : EdgeLits) (x z : IntVars) (c : ℕ) → Follows v (slope_rules e x z c) → (Follows v (same_where x c e.west_up (e.up c)) × Follows v (same_where x c e.west_down (e.down c))) × (Follows v (same_where z (c + 1) e.east_up (e.up c)) × Follows v (same_where z (c + 1) e.east_down (e.down c)))
+slope_part : (v : Assignment) (e : EdgeLits) (x z : IntVars) (c : ℕ) → FollowsRules v (slope_rules e x z c) → (FollowsRules v (same_where x c e.west_up (e.up c)) × FollowsRules v (same_where x c e.west_down (e.down c))) × (FollowsRules v (same_where z (c + 1) e.east_up (e.up c)) × FollowsRules v (same_where z (c + 1) e.east_down (e.down c)))
 slope_part v e x z c h = (((h.0, (h.1.0, tt)), (h.1.1.0, (h.1.1.1.0, tt))), ((h.1.1.1.1.0, (h.1.1.1.1.1.0, tt)), (h.1.1.1.1.1.1.0, (h.1.1.1.1.1.1.1.0, tt))))
 
 -- the columns, the whole line and the bends
@@ -83,15 +83,15 @@ edge_reads v e west east high width w n y size rx rz ry a h inner =
     let D = rule_clauses (bend_rules e.second_bend e.east_up e.east_down (e.seen (width - 1))) in
     let slopes = satisfies_right v A B (satisfies_left v (A ++ B) (C ++ D) h) in
     let bends = satisfies_right v (A ++ B) (C ++ D) h in
-    let at : (c : ℕ) → c < width → Follows v (slope_rules e west.x east.x c) = λ c lt. rules_say v (slope_rules e west.x east.x c) (satisfies_at v (λ k. rule_clauses (slope_rules e west.x east.x k)) 0 width slopes c (omega arith) (omega arith)) in
+    let at : (c : ℕ) → c < width → FollowsRules v (slope_rules e west.x east.x c) = λ c lt. rules_say v (slope_rules e west.x east.x c) (satisfies_at v (λ k. rule_clauses (slope_rules e west.x east.x k)) 0 width slopes c (omega arith) (omega arith)) in
     let up = columns-up v e width y w n a in
     let down = columns-down v e width y w n a in
     let first = slope_part v e west.x east.x w (at w (omega arith)) in
     let last = slope_part v e west.x east.x (w + n) (at (w + n) (omega arith)) in
-    let wu : v e.west_up ≡ is_up (step y w) = same_means v west.x w e.west_up (e.up w) w rx refl first.0.0 ∙ up w (omega arith) in
-    let wd : v e.west_down ≡ is_down (step y w) = same_means v west.x w e.west_down (e.down w) w rx refl first.0.1 ∙ down w (omega arith) in
-    let eu : v e.east_up ≡ is_up (step y (w + n)) = same_means v east.x (w + n + 1) e.east_up (e.up (w + n)) (w + n + 1) rz refl last.1.0 ∙ up (w + n) (omega arith) in
-    let ed : v e.east_down ≡ is_down (step y (w + n)) = same_means v east.x (w + n + 1) e.east_down (e.down (w + n)) (w + n + 1) rz refl last.1.1 ∙ down (w + n) (omega arith) in
+    let wu : v e.west_up ≡ is_up (step_slope y w) = same_means v west.x w e.west_up (e.up w) w rx refl first.0.0 ∙ up w (omega arith) in
+    let wd : v e.west_down ≡ is_down (step_slope y w) = same_means v west.x w e.west_down (e.down w) w rx refl first.0.1 ∙ down w (omega arith) in
+    let eu : v e.east_up ≡ is_up (step_slope y (w + n)) = same_means v east.x (w + n + 1) e.east_up (e.up (w + n)) (w + n + 1) rz refl last.1.0 ∙ up (w + n) (omega arith) in
+    let ed : v e.east_down ≡ is_down (step_slope y (w + n)) = same_means v east.x (w + n + 1) e.east_down (e.down (w + n)) (w + n + 1) rz refl last.1.1 ∙ down (w + n) (omega arith) in
     let level : v (e.seen (width - 1)) ≡ has_level y w n = columns-seen v e width y w n a (width - 1) (omega arith) ∙ seen_to_end y w n (width - 1 - (w + n)) (width - 1) (omega arith) in
     record {
       inside = a.inside;
@@ -107,9 +107,9 @@ edge_reads v e west east high width w n y size rx rz ry a h inner =
       east_up = eu;
       east_down = ed;
       first_bend = bend_means v e.first_bend e.west_up e.west_down (e.seen (width - 1)) (rules_say v (bend_rules e.first_bend e.west_up e.west_down (e.seen (width - 1))) (satisfies_left v C D bends))
-          ∙ ap (λ b. (b || v e.west_down) && v (e.seen (width - 1))) wu ∙ ap (λ b. (is_up (step y w) || b) && v (e.seen (width - 1))) wd ∙ ap (λ b. b && v (e.seen (width - 1))) (diagonal_bool (step y w)) ∙ ap (λ b. not (is_level (step y w)) && b) level;
+          ∙ ap (λ b. (b || v e.west_down) && v (e.seen (width - 1))) wu ∙ ap (λ b. (is_up (step_slope y w) || b) && v (e.seen (width - 1))) wd ∙ ap (λ b. b && v (e.seen (width - 1))) (diagonal_bool (step_slope y w)) ∙ ap (λ b. not (is_level (step_slope y w)) && b) level;
       second_bend = bend_means v e.second_bend e.east_up e.east_down (e.seen (width - 1)) (rules_say v (bend_rules e.second_bend e.east_up e.east_down (e.seen (width - 1))) (satisfies_right v C D bends))
-          ∙ ap (λ b. (b || v e.east_down) && v (e.seen (width - 1))) eu ∙ ap (λ b. (is_up (step y (w + n)) || b) && v (e.seen (width - 1))) ed ∙ ap (λ b. b && v (e.seen (width - 1))) (diagonal_bool (step y (w + n))) ∙ ap (λ b. not (is_level (step y (w + n))) && b) level;
+          ∙ ap (λ b. (b || v e.east_down) && v (e.seen (width - 1))) eu ∙ ap (λ b. (is_up (step_slope y (w + n)) || b) && v (e.seen (width - 1))) ed ∙ ap (λ b. b && v (e.seen (width - 1))) (diagonal_bool (step_slope y (w + n))) ∙ ap (λ b. not (is_level (step_slope y (w + n))) && b) level;
     }
 
 -- the two ends

@@ -8,7 +8,7 @@ use Rattle.cnf_core.specs.LitOrTruth.{flip}
 use Rattle.cnf_core.proofs.ClauseLemmas.{satisfies_append, satisfies_left, satisfies_right, satisfies_each, satisfies_at}
 use Rattle.cnf_core.proofs.GatherLemmas.{value-flip, clause_says, clause_holds}
 use Rattle.order_int.specs.IntVars.{IntVars}
-use Rattle.order_int.specs.OrderInt.{at_least, Reads, le_clauses}
+use Rattle.order_int.specs.OrderInt.{int_at_least, Reads, le_clauses}
 use Rattle.order_int.proofs.OrderLemmas.{le_means, le_holds}
 use Rattle.edge_shape.specs.EdgeVars.{EdgeLits}
 use Rattle.edge_shape.specs.Edge.{near_clause, near_clauses, height_clauses}
@@ -20,9 +20,9 @@ near_means v a b m n high ra rb to h = elim (leb_tells 2 m) [
   | inl two ↦
       let more = two.1 in
       let one = satisfies_at v (near_clause a b) 1 (high - 1) h (m - 1) (omega arith) (omega arith) in
-      elim (clause_says v [] (flip (at_least a (m - 1 + 1)) ∷ at_least b (m - 1) ∷ []) one) [
+      elim (clause_says v [] (flip (int_at_least a (m - 1 + 1)) ∷ int_at_least b (m - 1) ∷ []) one) [
         | inl x ↦ absurd x
-        | inr (inl s) ↦ let t : not (nat_le (m - 1 + 1) m) ≡ true = sym (ap not (ra.each (m - 1 + 1))) ∙ sym (value-flip v (at_least a (m - 1 + 1))) ∙ s in let e : nat_le (m - 1 + 1) m ≡ true = grind (arith, nat_tests) in absurd (cc (rw e at t))
+        | inr (inl s) ↦ let t : not (nat_le (m - 1 + 1) m) ≡ true = sym (ap not (ra.each (m - 1 + 1))) ∙ sym (value-flip v (int_at_least a (m - 1 + 1))) ∙ s in let e : nat_le (m - 1 + 1) m ≡ true = grind (arith, nat_tests) in absurd (cc (rw e at t))
         | inr (inr (inl s)) ↦ let t : nat_le (m - 1) n ≡ true = sym (rb.each (m - 1)) ∙ s in grind (arith, nat_tests, t)
         | inr (inr (inr s)) ↦ absurd s
       ]
@@ -31,9 +31,9 @@ near_means v a b m n high ra rb to h = elim (leb_tells 2 m) [
 
 pub near_holds : (v : Assignment) (a b : IntVars) (m n high : ℕ) → Reads v a m → Reads v b n → m ≤ n + 1 → SatisfiesAll v (near_clauses a b high)
 near_holds v a b m n high ra rb h = satisfies_each v (near_clause a b) 1 (high - 1) (λ k from to.
-    clause_holds v [] (flip (at_least a (k + 1)) ∷ at_least b k ∷ []) (inr (elim (leb_tells (k + 1) m) [
+    clause_holds v [] (flip (int_at_least a (k + 1)) ∷ int_at_least b k ∷ []) (inr (elim (leb_tells (k + 1) m) [
       | inl le ↦ let less = le.1 in inr (inl (rb.each k ∙ grind (arith, nat_tests)))
-      | inr gt ↦ inl (value-flip v (at_least a (k + 1)) ∙ ap not (ra.each (k + 1) ∙ gt.0))
+      | inr gt ↦ inl (value-flip v (int_at_least a (k + 1)) ∙ ap not (ra.each (k + 1) ∙ gt.0))
     ])))
 
 -- a step goes up by one, down by one, or stays

@@ -8,7 +8,7 @@ use Rattle.cnf_core.specs.Clause.{IsThere}
 use Rattle.cnf_core.specs.LitOrTruth.{IsWithin, AreWithin, flip}
 use Rattle.cnf_core.proofs.GatherLemmas.{flip_within}
 use Rattle.order_int.specs.IntVars.{IntVars, IntIsThere}
-use Rattle.order_int.specs.OrderInt.{at_least}
+use Rattle.order_int.specs.OrderInt.{int_at_least}
 use Rattle.order_int.proofs.IntLemmas.{at_least_within}
 use Rattle.edge_shape.specs.EdgeVars.{EdgeLits, before, column, edge_lits, edge_size, IsSpot}
 use Rattle.edge_shape.specs.Rules.{literals_of, AllWithin}
@@ -74,8 +74,8 @@ shape_within vars e c s =
     (((u, (s.down, (tt, (tt, (tt, tt))))), omega arith), (((d, (s.up, (tt, (tt, (tt, tt))))), omega arith), (((n, (u, (s.next, (s.up, (tt, tt))))), omega arith), (((n, (d, (s.next, (s.down, (tt, tt))))), omega arith), tt))))
 
 -- the two literals of a near clause
-pub near_within : (vars : ℕ) (a b : IntVars) (k : ℕ) → IntIsThere vars a → IntIsThere vars b → AreWithin vars (flip (at_least a (k + 1)) ∷ at_least b k ∷ [])
-near_within vars a b k ta tb = (flip_within vars (at_least a (k + 1)) (at_least_within vars a (k + 1) ta), (at_least_within vars b k tb, tt))
+pub near_within : (vars : ℕ) (a b : IntVars) (k : ℕ) → IntIsThere vars a → IntIsThere vars b → AreWithin vars (flip (int_at_least a (k + 1)) ∷ int_at_least b k ∷ [])
+near_within vars a b k ta tb = (flip_within vars (int_at_least a (k + 1)) (at_least_within vars a (k + 1) ta), (at_least_within vars b k tb, tt))
 
 pub height_there : (first high width vars c : ℕ) → IsSpot first high width → first + edge_size high width ≤ vars + 1 → c ≤ width → IntIsThere vars ((edge_lits first high width).height c)
 height_there first high width vars c p there le = elim (eqb_tells c width) [
@@ -106,7 +106,7 @@ pub range_within : (vars : ℕ) (e : EdgeLits) (x z : IntVars) (c : ℕ) → IsT
 range_within vars e x z c i tx tz =
     let a = at_least_within vars x (c + 1) tx in
     let b = at_least_within vars z c tz in
-    (((i, (flip_within vars (at_least x (c + 1)) a, (tt, (tt, (tt, tt))))), omega arith), (((i, (b, (tt, (tt, (tt, tt))))), omega arith), (((flip_within vars (at_least z c) b, (a, (i, (tt, (tt, tt))))), omega arith), tt)))
+    (((i, (flip_within vars (int_at_least x (c + 1)) a, (tt, (tt, (tt, tt))))), omega arith), (((i, (b, (tt, (tt, (tt, tt))))), omega arith), (((flip_within vars (int_at_least z c) b, (a, (i, (tt, (tt, tt))))), omega arith), tt)))
 
 pub inner_within : (vars : ℕ) (e : EdgeLits) (c : ℕ) → IsThere vars (positive_of (e.bend (c + 1))) → IsThere vars (positive_of (e.inside c)) → IsThere vars (positive_of (e.inside (c + 2))) → IsThere vars (positive_of (e.up c)) → IsThere vars (positive_of (e.up (c + 1))) → IsThere vars (positive_of (e.down c)) → IsThere vars (positive_of (e.down (c + 1))) → AllWithin vars (map literals_of (inner_rules e c))
 inner_within vars e c b i k u p d q = (
@@ -134,9 +134,9 @@ end_within vars e w = (((w.west_up, (w.west_down, (tt, (tt, (tt, tt))))), omega 
 
 pub slope_within : (vars : ℕ) (e : EdgeLits) (x z : IntVars) (c : ℕ) → WholeWithin vars e → StepWithin vars e c → IntIsThere vars x → IntIsThere vars z → AllWithin vars (map literals_of (slope_rules e x z c))
 slope_within vars e x z c w s tx tz =
-    let a = flip_within vars (at_least x c) (at_least_within vars x c tx) in
+    let a = flip_within vars (int_at_least x c) (at_least_within vars x c tx) in
     let b = at_least_within vars x (c + 1) tx in
-    let f = flip_within vars (at_least z (c + 1)) (at_least_within vars z (c + 1) tz) in
+    let f = flip_within vars (int_at_least z (c + 1)) (at_least_within vars z (c + 1) tz) in
     let g = at_least_within vars z (c + 1 + 1) tz in (
       ((a, (w.west_up, (b, (s.up, (tt, tt))))), omega arith),
       (
@@ -161,7 +161,7 @@ pub edge_within : (vars : ℕ) (e : EdgeLits) (a b : IntVars) (high : ℕ) → W
 edge_within vars e a b high w ta tb = (
   ((w.west_down, (at_least_within vars a 1 ta, (tt, (tt, (tt, tt))))), omega arith),
   (
-    ((w.west_up, (flip_within vars (at_least a high) (at_least_within vars a high ta), (tt, (tt, (tt, tt))))), omega arith),
-    (((w.east_up, (at_least_within vars b 1 tb, (tt, (tt, (tt, tt))))), omega arith), (((w.east_down, (flip_within vars (at_least b high) (at_least_within vars b high tb), (tt, (tt, (tt, tt))))), omega arith), tt)),
+    ((w.west_up, (flip_within vars (int_at_least a high) (at_least_within vars a high ta), (tt, (tt, (tt, tt))))), omega arith),
+    (((w.east_up, (at_least_within vars b 1 tb, (tt, (tt, (tt, tt))))), omega arith), (((w.east_down, (flip_within vars (int_at_least b high) (at_least_within vars b high tb), (tt, (tt, (tt, tt))))), omega arith), tt)),
   ),
 )

@@ -9,7 +9,7 @@ use Rattle.cnf_core.specs.LitOrTruth.{flip, clause_of}
 use Rattle.cnf_core.proofs.ClauseLemmas.{all_there_append, all_there_each, words_append}
 use Rattle.cnf_core.proofs.GatherLemmas.{clause_there, clause_words}
 use Rattle.order_int.specs.IntVars.{IntVars, IntIsThere}
-use Rattle.order_int.specs.OrderInt.{at_least, int_clauses, le_clauses, equal_clauses}
+use Rattle.order_int.specs.OrderInt.{int_at_least, int_clauses, le_clauses, equal_clauses}
 use Rattle.order_int.proofs.IntLemmas.{int_there}
 use Rattle.order_int.proofs.OrderLemmas.{le_there, equal_there}
 use Rattle.edge_shape.specs.Rules.{list_clauses, AllWithin, literals_of, rule_clauses}
@@ -27,7 +27,7 @@ lists_words vars [] h = omega arith
 lists_words vars (ts ∷ ls) h = let few = h.0.1 in omega (arith, clause_words [] ts, words_append (clause_of [] ts) (list_clauses ls), lists_words vars ls h.1)
 
 near_there : (vars high : ℕ) (a b : IntVars) → IntIsThere vars a → IntIsThere vars b → AllThere vars (near_clauses a b high)
-near_there vars high a b ta tb = all_there_each vars (near_clause a b) 1 (high - 1) (λ k from to. clause_there vars [] (flip (at_least a (k + 1)) ∷ at_least b k ∷ []) tt (near_within vars a b k ta tb))
+near_there vars high a b ta tb = all_there_each vars (near_clause a b) 1 (high - 1) (λ k from to. clause_there vars [] (flip (int_at_least a (k + 1)) ∷ int_at_least b k ∷ []) tt (near_within vars a b k ta tb))
 
 pub rise_there : (vars high : ℕ) (a b : IntVars) (u d : Literal) → IntIsThere vars a → IntIsThere vars b → IsThere vars u → IsThere vars d → AllThere vars (rise_clauses a b u d high)
 rise_there vars high a b u d ta tb tu td =

@@ -10,7 +10,7 @@ use Rattle.cnf_core.specs.LitOrTruth.{flip}
 use Rattle.cnf_core.proofs.ClauseLemmas.{words_append, words_each}
 use Rattle.cnf_core.proofs.GatherLemmas.{clause_words}
 use Rattle.order_int.specs.IntVars.{IntVars, size, IntIsThere}
-use Rattle.order_int.specs.OrderInt.{at_least, int_clauses, le_clauses, equal_clauses}
+use Rattle.order_int.specs.OrderInt.{int_at_least, int_clauses, le_clauses, equal_clauses}
 use Rattle.order_int.proofs.IntLemmas.{chain_words}
 use Rattle.order_int.proofs.OrderLemmas.{le_words, equal_words}
 use Rattle.edge_shape.specs.Rules.{literals_of, rule_clauses}
@@ -20,7 +20,7 @@ use Rattle.edge_shape.proofs.SizeLemmas.{lists_words}
 use Rattle.edge_shape.specs.Edge.{near_clause, near_clauses, level_clauses, diagonal_clauses, rows_clauses, rise_clauses, step_rules, seen_rules, shape_rules, height_clauses, step_clauses, range_rules, end_rules, slope_rules, bend_rules, inner_rules, through_rules, level_rules, edge_rules, end_clauses, column_clauses, whole_clauses, further_clauses, edge_clauses}
 
 near_words : (a b : IntVars) (high : ℕ) → words_of (near_clauses a b high) ≤ (high - 1) * 5
-near_words a b high = words_each 5 (near_clause a b) 1 (high - 1) (λ k from to. omega (arith, clause_words [] (flip (at_least a (k + 1)) ∷ at_least b k ∷ [])))
+near_words a b high = words_each 5 (near_clause a b) 1 (high - 1) (λ k from to. omega (arith, clause_words [] (flip (int_at_least a (k + 1)) ∷ int_at_least b k ∷ [])))
 
 both_words : (xs ys : Clauses) (m n : ℕ) → words_of xs ≤ m → words_of ys ≤ n → words_of (xs ++ ys) ≤ m + n
 both_words xs ys m n a b = omega (arith, words_append xs ys)

@@ -6,8 +6,8 @@ use Rattle.cnf_core.specs.Assignment.{Assignment}
 use Rattle.cnf_core.specs.LitOrTruth.{yes, flip, clause_of}
 use Rattle.cnf_core.specs.Formula.{each}
 use Rattle.order_int.specs.IntVars.{IntVars}
-use Rattle.order_int.specs.OrderInt.{at_least, int_clauses, Reads, le_clauses, equal_clauses}
-use Rattle.edge_lines.specs.Track.{step}
+use Rattle.order_int.specs.OrderInt.{int_at_least, int_clauses, Reads, le_clauses, equal_clauses}
+use Rattle.edge_lines.specs.Track.{step_slope}
 use Rattle.edge_shape.specs.Rules.{Rule, rule, rule_clauses}
 use Rattle.edge_shape.specs.EdgeVars.{NodeInts, EdgeLits, before}
 use Rattle.edge_lines.specs.Columns.{is_up, is_down, is_level, within, seen_by, turns_behind, has_level}
@@ -15,9 +15,9 @@ use Rattle.edge_lines.specs.Columns.{is_up, is_down, is_level, within, seen_by, 
 -- which columns the line has
 abbrev pub range_rules : EdgeLits → IntVars → IntVars → ℕ → List Rule
 range_rules e west_x east_x c =
-    rule (yes (e.inside c) ∷ at_least west_x (c + 1) ∷ []) []
-    ∷ rule (yes (e.inside c) ∷ []) (at_least east_x c ∷ [])
-    ∷ rule (at_least east_x c ∷ []) (at_least west_x (c + 1) ∷ yes (e.inside c) ∷ [])
+    rule (yes (e.inside c) ∷ int_at_least west_x (c + 1) ∷ []) []
+    ∷ rule (yes (e.inside c) ∷ []) (int_at_least east_x c ∷ [])
+    ∷ rule (int_at_least east_x c ∷ []) (int_at_least west_x (c + 1) ∷ yes (e.inside c) ∷ [])
     ∷ []
 
 -- a step lies between two columns of the line, and is one of three
@@ -32,7 +32,7 @@ step_rules e c =
 
 -- a is at most b and 1
 abbrev pub near_clause : IntVars → IntVars → ℕ → Clauses
-near_clause a b k = clause_of [] (flip (at_least a (k + 1)) ∷ at_least b k ∷ [])
+near_clause a b k = clause_of [] (flip (int_at_least a (k + 1)) ∷ int_at_least b k ∷ [])
 
 abbrev pub near_clauses : IntVars → IntVars → ℕ → Clauses
 near_clauses a b high = each (near_clause a b) 1 (high - 1)
@@ -86,8 +86,8 @@ end_rules e =
 -- where x is c, a equals b
 abbrev pub same_where : IntVars → ℕ → ℕ → ℕ → List Rule
 same_where x c a b =
-    rule (at_least x c ∷ yes a ∷ []) (at_least x (c + 1) ∷ yes b ∷ [])
-    ∷ rule (at_least x c ∷ yes b ∷ []) (at_least x (c + 1) ∷ yes a ∷ [])
+    rule (int_at_least x c ∷ yes a ∷ []) (int_at_least x (c + 1) ∷ yes b ∷ [])
+    ∷ rule (int_at_least x c ∷ yes b ∷ []) (int_at_least x (c + 1) ∷ yes a ∷ [])
     ∷ []
 
 -- the end slopes are those of the first and the last step
@@ -140,10 +140,10 @@ level_rules e level =
 -- the height beside an end is on the grid
 abbrev pub edge_rules : EdgeLits → IntVars → IntVars → ℕ → List Rule
 edge_rules e west_y east_y high =
-    rule (yes e.west_down ∷ []) (at_least west_y 1 ∷ [])
-    ∷ rule (yes e.west_up ∷ at_least west_y high ∷ []) []
-    ∷ rule (yes e.east_up ∷ []) (at_least east_y 1 ∷ [])
-    ∷ rule (yes e.east_down ∷ at_least east_y high ∷ []) []
+    rule (yes e.west_down ∷ []) (int_at_least west_y 1 ∷ [])
+    ∷ rule (yes e.west_up ∷ int_at_least west_y high ∷ []) []
+    ∷ rule (yes e.east_up ∷ []) (int_at_least east_y 1 ∷ [])
+    ∷ rule (yes e.east_down ∷ int_at_least east_y high ∷ []) []
     ∷ []
 
 -- all clauses of the step from column c
@@ -153,17 +153,17 @@ step_clauses e high c = (rule_clauses (step_rules e c) ++ height_clauses e high 
 -- what the assignment gives the variables: the steps from column w to w + n + 1 of the heights y
 pub record ReadsTrack (v : Assignment) (e : EdgeLits) (width : ℕ) (y : ℕ → ℕ) (w n : ℕ) : Type 0 where
   pub inside : (c : ℕ) → c ≤ width → v (e.inside c) ≡ within w n c
-  pub up : (c : ℕ) → c < width → v (e.up c) ≡ is_up (step y c)
-  pub down : (c : ℕ) → c < width → v (e.down c) ≡ is_down (step y c)
+  pub up : (c : ℕ) → c < width → v (e.up c) ≡ is_up (step_slope y c)
+  pub down : (c : ℕ) → c < width → v (e.down c) ≡ is_down (step_slope y c)
   pub seen : (c : ℕ) → c < width → v (e.seen c) ≡ seen_by y w n c
   pub bend : (c : ℕ) → c + 1 < width → v (e.bend (c + 1)) ≡ turns_behind y w n c
   pub height : (c : ℕ) → c ≤ width → Reads v (e.height c) (y c)
-  pub west_up : v e.west_up ≡ is_up (step y w)
-  pub west_down : v e.west_down ≡ is_down (step y w)
-  pub east_up : v e.east_up ≡ is_up (step y (w + n))
-  pub east_down : v e.east_down ≡ is_down (step y (w + n))
-  pub first_bend : v e.first_bend ≡ (not (is_level (step y w)) && has_level y w n)
-  pub second_bend : v e.second_bend ≡ (not (is_level (step y (w + n))) && has_level y w n)
+  pub west_up : v e.west_up ≡ is_up (step_slope y w)
+  pub west_down : v e.west_down ≡ is_down (step_slope y w)
+  pub east_up : v e.east_up ≡ is_up (step_slope y (w + n))
+  pub east_down : v e.east_down ≡ is_down (step_slope y (w + n))
+  pub first_bend : v e.first_bend ≡ (not (is_level (step_slope y w)) && has_level y w n)
+  pub second_bend : v e.second_bend ≡ (not (is_level (step_slope y (w + n))) && has_level y w n)
 
 -- the clauses of a line of least columns at least, from the west node's point to the east node's
 abbrev pub end_clauses : EdgeLits → NodeInts → NodeInts → ℕ → ℕ → Clauses

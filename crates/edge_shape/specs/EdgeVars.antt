@@ -1,6 +1,7 @@
 -- The variables of one edge, and their numbers.
 use Rattle.std.specs.Prelude.{◌≤◌, ℕ, zero, suc, ◌+◌, ◌*◌, cond, nat_eq, nat_lt, ◌&&◌, ◌≡◌}
 use Rattle.cnf_core.specs.declared.limits.TheConstants.{VARS}
+use Rattle.plan_core.specs.declared.limits.TheConstants.{MAX_WIDTH, MAX_HEIGHT}
 use Rattle.cnf_core.specs.declared.literal.LitOrTruth.{LitOrTruth}
 use Rattle.cnf_core.specs.declared.literal.LitOrTruth.TheVariants.{False}
 use Rattle.cnf_core.specs.LitOrTruth.{yes}
@@ -66,12 +67,12 @@ edge_size high width = 6 + high + width * (high + 5)
 -- a first variable, on a grid that there is
 pub record IsSpot (first high width : ℕ) : Type 0 where
   pub from : 1 ≤ first
-  pub rows : high ≤ 12
+  pub rows : high ≤ MAX_HEIGHT
   pub some_columns : 1 ≤ width
-  pub columns : width ≤ 64
+  pub columns : width ≤ MAX_WIDTH
 
 -- and all of the edge's variables are numbers of variables
-pub record IsPlaced (first high width : ℕ) : Type 0 where
+pub record EdgeIsPlaced (first high width : ℕ) : Type 0 where
   pub spot : IsSpot first high width
   pub to : first + edge_size high width ≤ VARS + 1
 

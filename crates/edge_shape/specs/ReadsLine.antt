@@ -5,7 +5,7 @@ use Rattle.plan_core.specs.declared.point.Point.{Point}
 use Rattle.plan_core.specs.Line.{west_end, east_end, slope_west, slope_east, height}
 use Rattle.cnf_core.specs.Assignment.{Assignment}
 use Rattle.order_int.specs.OrderInt.{Reads}
-use Rattle.edge_lines.specs.Track.{step}
+use Rattle.edge_lines.specs.Track.{step_slope}
 use Rattle.edge_lines.specs.Columns.{has_inner, is_up, is_down, is_level, line_is_level_from, has_level_piece}
 use Rattle.edge_shape.specs.EdgeVars.{EdgeLits}
 use Rattle.edge_lines.specs.Joins.{JoinsPoints}
@@ -13,8 +13,8 @@ use Rattle.edge_lines.specs.Joins.{JoinsPoints}
 -- each variable has the truth value that its name says of the line
 pub record ReadsLine (v : Assignment) (e : EdgeLits) (width : ℕ) (line : List Point) : Type 0 where
   pub inside : (c : ℕ) → c ≤ width → v (e.inside c) ≡ (nat_le (west_end line).x c && nat_le c (east_end line).x)
-  pub up : (c : ℕ) → c < width → v (e.up c) ≡ is_up (step (height line) c)
-  pub down : (c : ℕ) → c < width → v (e.down c) ≡ is_down (step (height line) c)
+  pub up : (c : ℕ) → c < width → v (e.up c) ≡ is_up (step_slope (height line) c)
+  pub down : (c : ℕ) → c < width → v (e.down c) ≡ is_down (step_slope (height line) c)
   pub seen : (c : ℕ) → c < width → v (e.seen c) ≡ line_is_level_from line c
   pub bend : (c : ℕ) → c + 1 < width → v (e.bend (c + 1)) ≡ has_inner line (c + 1)
   pub height : (c : ℕ) → c ≤ width → Reads v (e.height c) (height line c)
@@ -38,8 +38,8 @@ whole_bits line (suc (suc (suc (suc (suc k))))) = not (is_level (slope_east line
 abbrev pub line_bits : List Point → EdgeBits
 line_bits line = record {
   inside = λ c. nat_le (west_end line).x c && nat_le c (east_end line).x;
-  up = λ c. is_up (step (height line) c);
-  down = λ c. is_down (step (height line) c);
+  up = λ c. is_up (step_slope (height line) c);
+  down = λ c. is_down (step_slope (height line) c);
   seen = line_is_level_from line;
   bend = λ c. has_inner line (c + 1);
   height = height line;

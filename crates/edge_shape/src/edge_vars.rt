@@ -12,7 +12,7 @@ ghost use Rattle.cnf_core.specs.Truths.{assignment};
 ghost use Rattle.order_int.specs.IntVars.{IntIsThere};
 ghost use Rattle.order_int.specs.OrderInt.{Reads};
 ghost use Rattle.edge_lines.specs.Joins.{JoinsPoints};
-ghost use Rattle.edge_shape.specs.EdgeVars.{NodeInts, edge_lits, edge_size, edge_spot, lits_of, node_ints, up_at, down_at, bend_at, LieBefore, IsPlaced, IsNode};
+ghost use Rattle.edge_shape.specs.EdgeVars.{NodeInts, edge_lits, edge_size, edge_spot, lits_of, node_ints, up_at, down_at, bend_at, LieBefore, EdgeIsPlaced, IsNode};
 ghost use Rattle.edge_shape.specs.Edge.{edge_clauses};
 ghost use Rattle.edge_shape.specs.ReadsLine.{ReadsLine, LineIsRead};
 
@@ -39,13 +39,13 @@ pub struct EdgeVars {
 }
 
 impl Model for EdgeVars {
-    ghost use Rattle.edge_shape.specs.EdgeVars.{EdgeSpot, edge_spot, IsPlaced};
+    ghost use Rattle.edge_shape.specs.EdgeVars.{EdgeSpot, edge_spot, EdgeIsPlaced};
 
     ghost Value = { EdgeSpot };
 
     ghost view = { λ e. edge_spot e.places.first e.places.high e.places.width };
 
-    ghost invariant = { λ e. IsPlaced e.places.first e.places.high e.places.width };
+    ghost invariant = { λ e. EdgeIsPlaced e.places.first e.places.high e.places.width };
 }
 
 impl EdgeVars {
@@ -68,7 +68,7 @@ impl EdgeVars {
     pub fn in_range(&self, x: u16) -> LitOrTruth
         requires { x ≤ self.now.width }
         ensures value { result ≡ yes ((lits_of self.now).inside x) }
-        ensures placed { IsPlaced self.now.first self.now.high self.now.width }
+        ensures placed { EdgeIsPlaced self.now.first self.now.high self.now.width }
     {
         self.places.inside(u32::from(x))
     }
@@ -77,7 +77,7 @@ impl EdgeVars {
     pub fn up(&self, x: u16) -> LitOrTruth
         requires { x ≤ self.now.width }
         ensures value { result ≡ up_at self.now x }
-        ensures placed { IsPlaced self.now.first self.now.high self.now.width }
+        ensures placed { EdgeIsPlaced self.now.first self.now.high self.now.width }
     {
         let c = u32::from(x);
         if c < self.places.width {
@@ -91,7 +91,7 @@ impl EdgeVars {
     pub fn down(&self, x: u16) -> LitOrTruth
         requires { x ≤ self.now.width }
         ensures value { result ≡ down_at self.now x }
-        ensures placed { IsPlaced self.now.first self.now.high self.now.width }
+        ensures placed { EdgeIsPlaced self.now.first self.now.high self.now.width }
     {
         let c = u32::from(x);
         if c < self.places.width {
@@ -105,7 +105,7 @@ impl EdgeVars {
     pub fn bend_at(&self, x: u16) -> LitOrTruth
         requires { x ≤ self.now.width }
         ensures value { result ≡ bend_at self.now x }
-        ensures placed { IsPlaced self.now.first self.now.high self.now.width }
+        ensures placed { EdgeIsPlaced self.now.first self.now.high self.now.width }
     {
         let c = u32::from(x);
         if 0 < c && c < self.places.width {
@@ -119,7 +119,7 @@ impl EdgeVars {
     pub fn height(&self, x: u16) -> OrderInt
         requires { x ≤ self.now.width }
         ensures value { result ≡ (lits_of self.now).height x }
-        ensures placed { IsPlaced self.now.first self.now.high self.now.width }
+        ensures placed { EdgeIsPlaced self.now.first self.now.high self.now.width }
     {
         self.places.height(u32::from(x))
     }
@@ -127,7 +127,7 @@ impl EdgeVars {
     /// "The first piece rises."
     pub fn west_up(&self) -> LitOrTruth
         ensures value { result ≡ yes (lits_of self.now).west_up }
-        ensures placed { IsPlaced self.now.first self.now.high self.now.width }
+        ensures placed { EdgeIsPlaced self.now.first self.now.high self.now.width }
     {
         self.places.west_up()
     }
@@ -135,7 +135,7 @@ impl EdgeVars {
     /// "The first piece falls."
     pub fn west_down(&self) -> LitOrTruth
         ensures value { result ≡ yes (lits_of self.now).west_down }
-        ensures placed { IsPlaced self.now.first self.now.high self.now.width }
+        ensures placed { EdgeIsPlaced self.now.first self.now.high self.now.width }
     {
         self.places.west_down()
     }
@@ -143,7 +143,7 @@ impl EdgeVars {
     /// "The last piece rises."
     pub fn east_up(&self) -> LitOrTruth
         ensures value { result ≡ yes (lits_of self.now).east_up }
-        ensures placed { IsPlaced self.now.first self.now.high self.now.width }
+        ensures placed { EdgeIsPlaced self.now.first self.now.high self.now.width }
     {
         self.places.east_up()
     }
@@ -151,7 +151,7 @@ impl EdgeVars {
     /// "The last piece falls."
     pub fn east_down(&self) -> LitOrTruth
         ensures value { result ≡ yes (lits_of self.now).east_down }
-        ensures placed { IsPlaced self.now.first self.now.high self.now.width }
+        ensures placed { EdgeIsPlaced self.now.first self.now.high self.now.width }
     {
         self.places.east_down()
     }
@@ -159,7 +159,7 @@ impl EdgeVars {
     /// "The first piece is diagonal, and there is a level one."
     pub fn first_bend(&self) -> LitOrTruth
         ensures value { result ≡ yes (lits_of self.now).first_bend }
-        ensures placed { IsPlaced self.now.first self.now.high self.now.width }
+        ensures placed { EdgeIsPlaced self.now.first self.now.high self.now.width }
     {
         self.places.first_bend()
     }
@@ -167,7 +167,7 @@ impl EdgeVars {
     /// "The last piece is diagonal, and there is a level one."
     pub fn second_bend(&self) -> LitOrTruth
         ensures value { result ≡ yes (lits_of self.now).second_bend }
-        ensures placed { IsPlaced self.now.first self.now.high self.now.width }
+        ensures placed { EdgeIsPlaced self.now.first self.now.high self.now.width }
     {
         self.places.second_bend()
     }

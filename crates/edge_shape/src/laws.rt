@@ -6,7 +6,7 @@ ghost use Rattle.plan_core.specs.Line.{is_line, west_end, east_end, height, bend
 ghost use Rattle.cnf_core.specs.Assignment.{Assignment};
 ghost use Rattle.cnf_core.specs.LitOrTruth.{yes, value};
 ghost use Rattle.order_int.specs.OrderInt.{Reads};
-ghost use Rattle.edge_lines.specs.Track.{step};
+ghost use Rattle.edge_lines.specs.Track.{step_slope};
 ghost use Rattle.edge_lines.specs.Columns.{is_up, is_down, has_inner};
 ghost use Rattle.edge_lines.specs.Joins.{JoinsPoints};
 ghost use Rattle.edge_shape.specs.EdgeVars.{EdgeLits, EdgeSpot, lits_of, up_at, down_at, bend_at};
@@ -18,9 +18,9 @@ pub fn accessors_read_the_line()
     ensures in_range { (v : Assignment) (e : EdgeSpot) (line : List Point) (x : ℕ) → ReadsLine v (lits_of e) e.width line → x ≤ e.width →
         value v (yes ((lits_of e).inside x)) ≡ (nat_le (west_end line).x x && nat_le x (east_end line).x) }
     ensures up { (v : Assignment) (e : EdgeSpot) (line : List Point) (x : ℕ) → is_line line ≡ true → (east_end line).x ≤ e.width → ReadsLine v (lits_of e) e.width line → x ≤ e.width →
-        value v (up_at e x) ≡ is_up (step (height line) x) }
+        value v (up_at e x) ≡ is_up (step_slope (height line) x) }
     ensures down { (v : Assignment) (e : EdgeSpot) (line : List Point) (x : ℕ) → is_line line ≡ true → (east_end line).x ≤ e.width → ReadsLine v (lits_of e) e.width line → x ≤ e.width →
-        value v (down_at e x) ≡ is_down (step (height line) x) }
+        value v (down_at e x) ≡ is_down (step_slope (height line) x) }
     ensures bend { (v : Assignment) (e : EdgeSpot) (line : List Point) (x : ℕ) → is_line line ≡ true → (east_end line).x ≤ e.width → ReadsLine v (lits_of e) e.width line → x ≤ e.width →
         value v (bend_at e x) ≡ has_inner line x }
     ensures height { (v : Assignment) (e : EdgeSpot) (line : List Point) (x : ℕ) → ReadsLine v (lits_of e) e.width line → x ≤ e.width →

@@ -2,7 +2,7 @@
 ghost use Rattle.std.specs.Prelude.{◌≡◌, ◌≢◌, ◌≤◌, ◌<◌, ℕ, ◌+◌, ◌*◌, length};
 ghost use Rattle.cnf_core.specs.declared.limits.TheConstants.{VARS};
 ghost use Rattle.cnf_core.specs.Truths.{assignment};
-ghost use Rattle.edge_shape.specs.EdgeVars.{edge_size, IsPlaced};
+ghost use Rattle.edge_shape.specs.EdgeVars.{edge_size, EdgeIsPlaced};
 ghost use Rattle.edge_shape.specs.ReadsLine.{whole_bits, line_bits};
 ghost use Rattle.edge_shape.specs.Setting.{bits, flags, setting, set_edge};
 
@@ -41,7 +41,7 @@ fn whole_bit(line: &Line, k: u32) -> bool
 
 /// The truth value of a column's variable, by its place among the column's.
 fn column_bit(e: &Places, line: &Line, c: u32, k: u32) -> bool
-    requires placed { IsPlaced e.now.first e.now.high e.now.width }
+    requires placed { EdgeIsPlaced e.now.first e.now.high e.now.width }
     requires c { c ≤ e.now.width }
     ensures { result ≡ bits (flags (line_bits line.now) e.now.width c) ((line_bits line.now).height c) k }
 {
@@ -71,7 +71,7 @@ fn column_bit(e: &Places, line: &Line, c: u32, k: u32) -> bool
 
 /// The truth value of an edge's variable.
 fn bit(e: &Places, line: &Line, x: u32) -> bool
-    requires placed { IsPlaced e.now.first e.now.high e.now.width }
+    requires placed { EdgeIsPlaced e.now.first e.now.high e.now.width }
     requires from { e.now.first ≤ x }
     requires to { x < e.now.first + edge_size e.now.high e.now.width }
     ensures { result ≡ setting (line_bits line.now) e.now.first e.now.high e.now.width e.now.width x }
@@ -92,7 +92,7 @@ fn bit(e: &Places, line: &Line, x: u32) -> bool
 
 /// Gives each of the edge's variables its truth value for the line, and changes no other.
 pub(crate) fn put_line(e: &Places, line: &Line, m: &mut Truths)
-    requires placed { IsPlaced e.now.first e.now.high e.now.width }
+    requires placed { EdgeIsPlaced e.now.first e.now.high e.now.width }
     requires there { e.now.first + edge_size e.now.high e.now.width ≤ length m.old + 1 }
     ensures set { assignment m.new ≡ set_edge (line_bits line.now) e.now.first e.now.high e.now.width (assignment m.old) }
     ensures vars { length m.new ≡ length m.old }

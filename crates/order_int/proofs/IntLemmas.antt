@@ -10,7 +10,7 @@ use Rattle.cnf_core.proofs.ClauseLemmas.{satisfies_left, satisfies_right, satisf
 use Rattle.cnf_core.proofs.GatherLemmas.{not_not}
 use Rattle.cnf_core.proofs.SettingLemmas.{patch, patch_same, patch_at, extends_weaker}
 use Rattle.order_int.specs.IntVars.{IntVars, size, IsInt, IntIsThere}
-use Rattle.order_int.specs.OrderInt.{at_least, link, chain, int_clauses, leading, number, Reads}
+use Rattle.order_int.specs.OrderInt.{int_at_least, link, chain, int_clauses, leading, number, Reads}
 
 -- the first m of the n variables from first on are true, and the others false
 abbrev pub Steps : Assignment → ℕ → ℕ → ℕ → Type 0
@@ -128,7 +128,7 @@ reads_once v i m n a b =
     grind (arith, nat_tests)
 
 -- where its variables lie, and how many words its clauses have
-pub at_least_within : (vars : ℕ) (i : IntVars) (k : ℕ) → IntIsThere vars i → IsWithin vars (at_least i k)
+pub at_least_within : (vars : ℕ) (i : IntVars) (k : ℕ) → IntIsThere vars i → IsWithin vars (int_at_least i k)
 at_least_within vars i k h = elim (leb_tells k i.low) [
   | inl a ↦ rw a.0 tt
   | inr a ↦ elim (leb_tells (suc i.high) k) [

@@ -10,24 +10,24 @@ use Rattle.cnf_core.specs.LitOrTruth.{flip, AreWithin}
 use Rattle.cnf_core.proofs.ClauseLemmas.{satisfies_append, satisfies_left, satisfies_right, satisfies_each, satisfies_at, all_there_append, all_there_each, words_append, words_each}
 use Rattle.cnf_core.proofs.GatherLemmas.{value-flip, flip_within, clause_says, clause_holds, clause_there, clause_words}
 use Rattle.order_int.specs.IntVars.{IntVars, size, IntIsThere}
-use Rattle.order_int.specs.OrderInt.{at_least, Reads, le_clause, le_count, le_clauses, equal_clauses}
+use Rattle.order_int.specs.OrderInt.{int_at_least, Reads, le_clause, le_count, le_clauses, equal_clauses}
 use Rattle.order_int.proofs.IntLemmas.{at_least_within}
 
 -- one clause
 pub le_says : (v : Assignment) (a b : IntVars) (m n plus : ℕ) (unless : List Literal) (k : ℕ) → Reads v a m → Reads v b n → SatisfiesAll v (le_clause a b plus unless k) → Satisfies v unless ⊎ (k ≤ m → k + plus ≤ n)
-le_says v a b m n plus unless k ra rb h = elim (clause_says v unless (flip (at_least a k) ∷ at_least b (k + plus) ∷ []) h) [
+le_says v a b m n plus unless k ra rb h = elim (clause_says v unless (flip (int_at_least a k) ∷ int_at_least b (k + plus) ∷ []) h) [
   | inl u ↦ inl u
-  | inr (inl s) ↦ inr (λ le. let t : not (nat_le k m) ≡ true = sym (ap not (ra.each k)) ∙ sym (value-flip v (at_least a k)) ∙ s in let e : nat_le k m ≡ true = grind (arith, nat_tests) in absurd (cc (rw e at t)))
+  | inr (inl s) ↦ inr (λ le. let t : not (nat_le k m) ≡ true = sym (ap not (ra.each k)) ∙ sym (value-flip v (int_at_least a k)) ∙ s in let e : nat_le k m ≡ true = grind (arith, nat_tests) in absurd (cc (rw e at t)))
   | inr (inr (inl s)) ↦ inr (λ le. let t : nat_le (k + plus) n ≡ true = sym (rb.each (k + plus)) ∙ s in grind (arith, nat_tests, t))
   | inr (inr (inr s)) ↦ absurd s
 ]
 
 pub le_true : (v : Assignment) (a b : IntVars) (m n plus : ℕ) (unless : List Literal) (k : ℕ) → Reads v a m → Reads v b n → Satisfies v unless ⊎ (k ≤ m → k + plus ≤ n) → SatisfiesAll v (le_clause a b plus unless k)
-le_true v a b m n plus unless k ra rb h = clause_holds v unless (flip (at_least a k) ∷ at_least b (k + plus) ∷ []) (elim h [
+le_true v a b m n plus unless k ra rb h = clause_holds v unless (flip (int_at_least a k) ∷ int_at_least b (k + plus) ∷ []) (elim h [
   | inl u ↦ inl u
   | inr f ↦ inr (elim (leb_tells k m) [
     | inl le ↦ inr (inl (rb.each (k + plus) ∙ (let g = f le.1 in grind (arith, nat_tests, g))))
-    | inr gt ↦ inl (value-flip v (at_least a k) ∙ ap not (ra.each k ∙ gt.0))
+    | inr gt ↦ inl (value-flip v (int_at_least a k) ∙ ap not (ra.each k ∙ gt.0))
   ])
 ])
 
@@ -63,11 +63,11 @@ equal_holds v a b m n unless ra rb h = satisfies_append v (le_clauses a b 0 unle
     (le_holds v b a n m 0 unless rb ra (elim h [ inl u ↦ inl u | inr e ↦ inr (omega arith) ]))
 
 -- where the variables lie
-pub le_within : (vars : ℕ) (a b : IntVars) (k j : ℕ) → IntIsThere vars a → IntIsThere vars b → AreWithin vars (flip (at_least a k) ∷ at_least b j ∷ [])
-le_within vars a b k j ta tb = (flip_within vars (at_least a k) (at_least_within vars a k ta), (at_least_within vars b j tb, tt))
+pub le_within : (vars : ℕ) (a b : IntVars) (k j : ℕ) → IntIsThere vars a → IntIsThere vars b → AreWithin vars (flip (int_at_least a k) ∷ int_at_least b j ∷ [])
+le_within vars a b k j ta tb = (flip_within vars (int_at_least a k) (at_least_within vars a k ta), (at_least_within vars b j tb, tt))
 
 pub le_there : (vars : ℕ) (a b : IntVars) (plus : ℕ) (unless : List Literal) → IntIsThere vars a → IntIsThere vars b → AreThere vars unless → AllThere vars (le_clauses a b plus unless)
-le_there vars a b plus unless ta tb u = all_there_each vars (le_clause a b plus unless) a.low (le_count a b plus) (λ k from to. clause_there vars unless (flip (at_least a k) ∷ at_least b (k + plus) ∷ []) u (le_within vars a b k (k + plus) ta tb))
+le_there vars a b plus unless ta tb u = all_there_each vars (le_clause a b plus unless) a.low (le_count a b plus) (λ k from to. clause_there vars unless (flip (int_at_least a k) ∷ int_at_least b (k + plus) ∷ []) u (le_within vars a b k (k + plus) ta tb))
 
 pub equal_there : (vars : ℕ) (a b : IntVars) (unless : List Literal) → IntIsThere vars a → IntIsThere vars b → AreThere vars unless → AllThere vars (equal_clauses a b unless)
 equal_there vars a b unless ta tb u = all_there_append vars (le_clauses a b 0 unless) (le_clauses b a 0 unless) (le_there vars a b 0 unless ta tb u) (le_there vars b a 0 unless tb ta u)
@@ -78,7 +78,7 @@ times_more n m most h = omega (arith, mul_comm n most, mul-le-mul_left most h)
 
 pub le_words : (a b : IntVars) (plus : ℕ) (unless : List Literal) → words_of (le_clauses a b plus unless) ≤ (length unless + 5) * (a.high - a.low + 2)
 le_words a b plus unless =
-    let each_one = words_each (length unless + 5) (le_clause a b plus unless) a.low (le_count a b plus) (λ k from to. omega (arith, clause_words unless (flip (at_least a k) ∷ at_least b (k + plus) ∷ []))) in
+    let each_one = words_each (length unless + 5) (le_clause a b plus unless) a.low (le_count a b plus) (λ k from to. omega (arith, clause_words unless (flip (int_at_least a k) ∷ int_at_least b (k + plus) ∷ []))) in
     let all = times_more (le_count a b plus) (a.high - a.low + 2) (length unless + 5) (omega arith) in
     omega (arith, each_one, all)
 

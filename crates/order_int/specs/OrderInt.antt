@@ -10,8 +10,8 @@ use Rattle.cnf_core.specs.Formula.{each}
 use Rattle.order_int.specs.IntVars.{IntVars, size}
 
 -- "the integer is at least k"
-abbrev pub at_least : IntVars → ℕ → LitOrTruth
-at_least i k = cond (nat_le k i.low) True (cond (nat_lt i.high k) False (yes (i.first + (k - (i.low + 1)))))
+abbrev pub int_at_least : IntVars → ℕ → LitOrTruth
+int_at_least i k = cond (nat_le k i.low) True (cond (nat_lt i.high k) False (yes (i.first + (k - (i.low + 1)))))
 
 -- the variable behind x is true only where x is
 abbrev pub link : ℕ → Clauses
@@ -30,7 +30,7 @@ int_clauses i = chain i.first (size i)
 pub record Reads (v : Assignment) (i : IntVars) (n : ℕ) : Type 0 where
   pub low : i.low ≤ n
   pub high : n ≤ i.high
-  pub each : (k : ℕ) → value v (at_least i k) ≡ nat_le k n
+  pub each : (k : ℕ) → value v (int_at_least i k) ≡ nat_le k n
 
 -- how many of the n variables from first on are true before the first that is false
 abbrev pub leading : Assignment → ℕ → ℕ → ℕ
@@ -43,7 +43,7 @@ number v i = i.low + leading v i.first (size i)
 
 -- one of unless is true, or where a is at least k, b is at least k + plus
 abbrev pub le_clause : IntVars → IntVars → ℕ → List Literal → ℕ → Clauses
-le_clause a b plus unless k = clause_of unless (flip (at_least a k) ∷ at_least b (k + plus) ∷ [])
+le_clause a b plus unless k = clause_of unless (flip (int_at_least a k) ∷ int_at_least b (k + plus) ∷ [])
 
 -- how many of a's numbers, from the least on, there are up to the first that with plus is above b's
 -- greatest: what its clause says of it holds of all after it

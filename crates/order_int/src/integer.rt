@@ -7,7 +7,7 @@ ghost use Rattle.cnf_core.specs.Formula.{each};
 ghost use Rattle.cnf_core.specs.Added.{AddsClauses, AddsBlock};
 ghost use Rattle.cnf_core.specs.Truths.{assignment};
 ghost use Rattle.order_int.specs.IntVars.{int_vars, size, IntIsThere, IntIsIn};
-ghost use Rattle.order_int.specs.OrderInt.{at_least as at_least_of, link, chain, int_clauses, Reads, number};
+ghost use Rattle.order_int.specs.OrderInt.{int_at_least, link, chain, int_clauses, Reads, number};
 
 use cnf_core::{CnfFault, Formula, Lit, LitOrTruth, Truths, Var};
 use std::marker::Model;
@@ -36,7 +36,7 @@ impl Model for OrderInt {
 impl OrderInt {
     /// "The integer is at least k": a truth value outside its range, else its variable.
     pub fn at_least(&self, k: u32) -> LitOrTruth
-        ensures { result ≡ at_least_of self.now k }
+        ensures { result ≡ int_at_least self.now k }
     {
         if k <= self.low {
             LitOrTruth::True

@@ -9,7 +9,7 @@ use Rattle.cnf_core.specs.Assignment.{Assignment, truth, SatisfiesAll}
 use Rattle.unary_sum.specs.declared.joins.Part.{Part}
 use Rattle.unary_sum.specs.declared.joins.Part.TheVariants.{Input, Outputs}
 use Rattle.unary_sum.specs.Part.{part_size, PartIsThere, Counts, block, outputs_of}
-use Rattle.unary_sum.specs.Sum.{count_true, tree_of, tree_count, top, tree_clauses}
+use Rattle.unary_sum.specs.Sum.{count_true, tree_of, tree_count, tree_top, tree_clauses}
 use Rattle.unary_sum.proofs.JoinLemmas.{counts_to}
 use Rattle.unary_sum.proofs.SumLemmas.{part_size-top, top_there, tree_there, there_take, sum_means}
 use Rattle.unary_sum.proofs.SizeLemmas.{size_bound}
@@ -79,24 +79,24 @@ outputs_true v most (Outputs first count) n some small c =
     (rw t at (c (suc k) (omega arith))) ∙ u) in
     omega (arith, all, enough)
 
-pub sum_outputs_true : (v : Assignment) (most vars : ℕ) (ls : List Literal) → SatisfiesAll v (tree_clauses most vars (tree_of (length ls) ls)) → count_true v (take most (outputs_of (top most vars (tree_of (length ls) ls)))) ≡ min (count_true v ls) most
+pub sum_outputs_true : (v : Assignment) (most vars : ℕ) (ls : List Literal) → SatisfiesAll v (tree_clauses most vars (tree_of (length ls) ls)) → count_true v (take most (outputs_of (tree_top most vars (tree_of (length ls) ls)))) ≡ min (count_true v ls) most
 sum_outputs_true v zero vars ls h = omega arith
 sum_outputs_true v (suc m) vars ls h =
     let most = suc m in
-    let p = top most vars (tree_of (length ls) ls) in
+    let p = tree_top most vars (tree_of (length ls) ls) in
     let size = part_size-top most vars (tree_of (length ls) ls) in
     let bound = size_bound most (length ls) ls (omega arith) in
     let whole : take most (outputs_of p) ≡ outputs_of p = take_all most (outputs_of p) (omega (arith, length-outputs p, size, bound)) in
     ap (count_true v) whole ∙ outputs_true v most p (count_true v ls) (omega arith) (omega (arith, size, bound)) (sum_means v most vars ls h)
 
-pub sum_outputs_whole : (most vars : ℕ) (ls : List Literal) → 1 ≤ most → take most (outputs_of (top most vars (tree_of (length ls) ls))) ≡ outputs_of (top most vars (tree_of (length ls) ls))
+pub sum_outputs_whole : (most vars : ℕ) (ls : List Literal) → 1 ≤ most → take most (outputs_of (tree_top most vars (tree_of (length ls) ls))) ≡ outputs_of (tree_top most vars (tree_of (length ls) ls))
 sum_outputs_whole most vars ls some =
-    let p = top most vars (tree_of (length ls) ls) in
+    let p = tree_top most vars (tree_of (length ls) ls) in
     let size = part_size-top most vars (tree_of (length ls) ls) in
     let bound = size_bound most (length ls) ls (omega arith) in
     take_all most (outputs_of p) (omega (arith, length-outputs p, size, bound))
 
-pub sum_outputs_there : (most vars : ℕ) (ls : List Literal) → AreThere vars ls → AreThere (vars + tree_count most (tree_of (length ls) ls)) (take most (outputs_of (top most vars (tree_of (length ls) ls))))
+pub sum_outputs_there : (most vars : ℕ) (ls : List Literal) → AreThere vars ls → AreThere (vars + tree_count most (tree_of (length ls) ls)) (take most (outputs_of (tree_top most vars (tree_of (length ls) ls))))
 sum_outputs_there most vars ls h =
     let t = tree_of (length ls) ls in
-    there_take (vars + tree_count most t) most (outputs_of (top most vars t)) (outputs_there (vars + tree_count most t) (top most vars t) (top_there most vars t (tree_there vars (length ls) ls h)))
+    there_take (vars + tree_count most t) most (outputs_of (tree_top most vars t)) (outputs_there (vars + tree_count most t) (tree_top most vars t) (top_there most vars t (tree_there vars (length ls) ls h)))

@@ -7,7 +7,7 @@ use Rattle.cnf_core.specs.Lit.{Literal}
 use Rattle.cnf_core.specs.Clause.{words_of}
 use Rattle.cnf_core.proofs.ClauseLemmas.{words_append}
 use Rattle.unary_sum.specs.Part.{part_size, join_clauses}
-use Rattle.unary_sum.specs.Sum.{Tree, tree_of, tree_size, tree_count, top, tree_clauses}
+use Rattle.unary_sum.specs.Sum.{InputTree, tree_of, tree_size, tree_count, tree_top, tree_clauses}
 use Rattle.unary_sum.proofs.JoinLemmas.{join_words}
 use Rattle.unary_sum.proofs.SumLemmas.{part_size-top, node_join}
 
@@ -119,12 +119,12 @@ words_step c s t w x y a b h = elim (leb_tells s c) [
 one_input : (m : ℕ) → m ≡ 1 → 0 + 48 * (m * m) ≤ 96 * (1 * m)
 one_input m e = rw e (omega arith)
 
-node_words : (most vars : ℕ) (a b : Tree) (m n : ℕ) → tree_size most a ≤ m → tree_size most b ≤ n → 1 ≤ m → 1 ≤ n → words_of (join_clauses (node_join most vars a b)) ≤ 48 * (m * n)
+node_words : (most vars : ℕ) (a b : InputTree) (m n : ℕ) → tree_size most a ≤ m → tree_size most b ≤ n → 1 ≤ m → 1 ≤ n → words_of (join_clauses (node_join most vars a b)) ≤ 48 * (m * n)
 node_words most vars a b m n ha hb one two =
     let sa = part_size-top most vars a in
     let sb = part_size-top most (vars + tree_count most a) b in
     let words = join_words (node_join most vars a b) in
-    let pairs = pairs_bound (part_size (top most vars a)) (part_size (top most (vars + tree_count most a) b)) m n (omega arith) (omega arith) one two in
+    let pairs = pairs_bound (part_size (tree_top most vars a)) (part_size (tree_top most (vars + tree_count most a) b)) m n (omega arith) (omega arith) one two in
     omega arith
 
 pub words_bound : (most vars depth : ℕ) (ls : List Literal) → length ls ≤ 1 + depth → 1 ≤ length ls →

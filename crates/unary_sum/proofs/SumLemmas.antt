@@ -12,22 +12,22 @@ use Rattle.unary_sum.specs.declared.joins.Part.{Part}
 use Rattle.unary_sum.specs.declared.joins.Part.TheVariants.{Input, Outputs}
 use Rattle.unary_sum.specs.declared.joins.Join.{Join}
 use Rattle.unary_sum.specs.Part.{part_size, PartIsThere, Counts, join_clauses}
-use Rattle.unary_sum.specs.Sum.{count_true, Tree, Empty, Leaf, Node, tree_of, tree_size, tree_count, top, join_of, tree_clauses}
+use Rattle.unary_sum.specs.Sum.{count_true, InputTree, Empty, Leaf, Node, tree_of, tree_size, tree_count, tree_top, sides_join, tree_clauses}
 use Rattle.unary_sum.proofs.JoinLemmas.{join_means, join_holds, join_there, outputs_count}
 
 -- how many of a tree's inputs are true
-abbrev pub tree_true : Assignment → Tree → ℕ
+abbrev pub tree_true : Assignment → InputTree → ℕ
 tree_true v Empty = 0
 tree_true v (Leaf l) = cond (truth v l) 1 0
 tree_true v (Node a b) = tree_true v a + tree_true v b
 
 -- the inputs are of the variables 1 to vars
-abbrev pub TreeIsThere : ℕ → Tree → Type 0
+abbrev pub TreeIsThere : ℕ → InputTree → Type 0
 TreeIsThere vars Empty = Unit {0}
 TreeIsThere vars (Leaf l) = (1 ≤ l.var) × (l.var ≤ vars)
 TreeIsThere vars (Node a b) = TreeIsThere vars a × TreeIsThere vars b
 
-pub tree_there_more : (m n : ℕ) (t : Tree) → m ≤ n → TreeIsThere m t → TreeIsThere n t
+pub tree_there_more : (m n : ℕ) (t : InputTree) → m ≤ n → TreeIsThere m t → TreeIsThere n t
 tree_there_more m n Empty le h = tt
 tree_there_more m n (Leaf l) le h = (h.0, omega (arith, h.1))
 tree_there_more m n (Node a b) le h = (tree_there_more m n a le h.0, tree_there_more m n b le h.1)
@@ -71,44 +71,44 @@ tree_there vars (suc depth) (k ∷ l ∷ ls) h =
     (tree_there vars depth (take (length all / 2) all) (there_take vars (length all / 2) all h), tree_there vars depth (drop (length all / 2) all) (there_drop vars (length all / 2) all h))
 
 -- sizes and places
-pub part_size-top : (most vars : ℕ) (t : Tree) → part_size (top most vars t) ≡ tree_size most t
+pub part_size-top : (most vars : ℕ) (t : InputTree) → part_size (tree_top most vars t) ≡ tree_size most t
 part_size-top most vars Empty = refl
 part_size-top most vars (Leaf l) = refl
 part_size-top most vars (Node a b) = refl
 
-pub top_there : (most vars : ℕ) (t : Tree) → TreeIsThere vars t → PartIsThere (vars + tree_count most t) (top most vars t)
+pub top_there : (most vars : ℕ) (t : InputTree) → TreeIsThere vars t → PartIsThere (vars + tree_count most t) (tree_top most vars t)
 top_there most vars Empty h = (omega arith, omega arith)
 top_there most vars (Leaf l) h = (h.0, omega (arith, h.1))
 top_there most vars (Node a b) h = (omega arith, omega arith)
 
 -- the join of a node
-abbrev pub node_join : ℕ → ℕ → Tree → Tree → Join
-node_join most vars a b = join_of (top most vars a) (top most (vars + tree_count most a) b) (vars + (tree_count most a + tree_count most b)) (min (tree_size most a + tree_size most b) most)
+abbrev pub node_join : ℕ → ℕ → InputTree → InputTree → Join
+node_join most vars a b = sides_join (tree_top most vars a) (tree_top most (vars + tree_count most a) b) (vars + (tree_count most a + tree_count most b)) (min (tree_size most a + tree_size most b) most)
 
-node_count : (most vars : ℕ) (a b : Tree) → (node_join most vars a b).count ≡ min (part_size (node_join most vars a b).left + part_size (node_join most vars a b).right) most
+node_count : (most vars : ℕ) (a b : InputTree) → (node_join most vars a b).count ≡ min (part_size (node_join most vars a b).left + part_size (node_join most vars a b).right) most
 node_count most vars a b = let x = part_size-top most vars a in let y = part_size-top most (vars + tree_count most a) b in omega arith
 
 pub part_there_more : (m n : ℕ) (p : Part) → m ≤ n → PartIsThere m p → PartIsThere n p
 part_there_more m n (Input l) le h = (h.0, omega (arith, h.1))
 part_there_more m n (Outputs first count) le h = (h.0, omega (arith, h.1))
 
-left_there : (most vars more : ℕ) (a b : Tree) → TreeIsThere vars (Node a b) → PartIsThere (vars + (tree_count most a + tree_count most b) + more) (top most vars a)
-left_there most vars more a b h = part_there_more (vars + tree_count most a) (vars + (tree_count most a + tree_count most b) + more) (top most vars a) (omega arith) (top_there most vars a h.0)
+left_there : (most vars more : ℕ) (a b : InputTree) → TreeIsThere vars (Node a b) → PartIsThere (vars + (tree_count most a + tree_count most b) + more) (tree_top most vars a)
+left_there most vars more a b h = part_there_more (vars + tree_count most a) (vars + (tree_count most a + tree_count most b) + more) (tree_top most vars a) (omega arith) (top_there most vars a h.0)
 
-right_there : (most vars more : ℕ) (a b : Tree) → TreeIsThere vars (Node a b) → PartIsThere (vars + (tree_count most a + tree_count most b) + more) (top most (vars + tree_count most a) b)
-right_there most vars more a b h = part_there_more (vars + tree_count most a + tree_count most b) (vars + (tree_count most a + tree_count most b) + more) (top most (vars + tree_count most a) b) (omega arith) (top_there most (vars + tree_count most a) b (tree_there_more vars (vars + tree_count most a) b (omega arith) h.1))
+right_there : (most vars more : ℕ) (a b : InputTree) → TreeIsThere vars (Node a b) → PartIsThere (vars + (tree_count most a + tree_count most b) + more) (tree_top most (vars + tree_count most a) b)
+right_there most vars more a b h = part_there_more (vars + tree_count most a + tree_count most b) (vars + (tree_count most a + tree_count most b) + more) (tree_top most (vars + tree_count most a) b) (omega arith) (top_there most (vars + tree_count most a) b (tree_there_more vars (vars + tree_count most a) b (omega arith) h.1))
 
 -- the clauses make the top count the inputs
-leaf_counts : (v : Assignment) (most vars : ℕ) (l : Literal) → Counts v most (top most vars (Leaf l)) (tree_true v (Leaf l))
+leaf_counts : (v : Assignment) (most vars : ℕ) (l : Literal) → Counts v most (tree_top most vars (Leaf l)) (tree_true v (Leaf l))
 leaf_counts v most vars l zero le = sym (grind (arith, nat_tests))
 leaf_counts v most vars l (suc zero) le = elim (truth v l) as (λ b. b ≡ nat_le 1 (cond b 1 0)) [ true ↦ sym (grind (arith, nat_tests)) | false ↦ sym (grind (arith, nat_tests)) ]
 leaf_counts v most vars l (suc (suc k)) le = elim (truth v l) as (λ b. false ≡ nat_le (suc (suc k)) (cond b 1 0)) [ true ↦ sym (grind (arith, nat_tests)) | false ↦ sym (grind (arith, nat_tests)) ]
 
-empty_counts : (v : Assignment) (most vars : ℕ) → Counts v most (top most vars Empty) 0
+empty_counts : (v : Assignment) (most vars : ℕ) → Counts v most (tree_top most vars Empty) 0
 empty_counts v most vars zero le = sym (grind (arith, nat_tests))
 empty_counts v most vars (suc k) le = let t : nat_lt k 0 ≡ false = grind (arith, nat_tests) in rw t refl
 
-pub tree_means : (v : Assignment) (most vars : ℕ) (t : Tree) → SatisfiesAll v (tree_clauses most vars t) → Counts v most (top most vars t) (tree_true v t)
+pub tree_means : (v : Assignment) (most vars : ℕ) (t : InputTree) → SatisfiesAll v (tree_clauses most vars t) → Counts v most (tree_top most vars t) (tree_true v t)
 tree_means v most vars Empty h = empty_counts v most vars
 tree_means v most vars (Leaf l) h = leaf_counts v most vars l
 tree_means v most vars (Node a b) h =
@@ -122,7 +122,7 @@ tree_means v most vars (Node a b) h =
     (satisfies_right v (xs ++ ys) (join_clauses m) h)
 
 -- where the variables of the clauses lie
-pub tree_clauses_there : (most vars : ℕ) (t : Tree) → TreeIsThere vars t → AllThere (vars + tree_count most t) (tree_clauses most vars t)
+pub tree_clauses_there : (most vars : ℕ) (t : InputTree) → TreeIsThere vars t → AllThere (vars + tree_count most t) (tree_clauses most vars t)
 tree_clauses_there most vars Empty h = tt
 tree_clauses_there most vars (Leaf l) h = tt
 tree_clauses_there most vars (Node a b) h =
@@ -140,13 +140,13 @@ tree_clauses_there most vars (Node a b) h =
     (omega arith, omega arith))
 
 -- the inputs count the same where their variables do
-pub tree_true_same : (v w : Assignment) (vars : ℕ) (t : Tree) → TreeIsThere vars t → ((x : ℕ) → x ≤ vars → w x ≡ v x) → tree_true w t ≡ tree_true v t
+pub tree_true_same : (v w : Assignment) (vars : ℕ) (t : InputTree) → TreeIsThere vars t → ((x : ℕ) → x ≤ vars → w x ≡ v x) → tree_true w t ≡ tree_true v t
 tree_true_same v w vars Empty there e = refl
 tree_true_same v w vars (Leaf l) there e = ap (λ x. cond (same_sign l.positive x) 1 0) (e l.var there.1)
 tree_true_same v w vars (Node a b) there e = let x = tree_true_same v w vars a there.0 e in let y = tree_true_same v w vars b there.1 e in omega arith
 
 -- outputs of which as many are true as inputs satisfy the clauses of a node
-pub node_holds : (w : Assignment) (most vars : ℕ) (a b : Tree) → SatisfiesAll w (tree_clauses most vars a) → SatisfiesAll w (tree_clauses most (vars + tree_count most a) b) →
+pub node_holds : (w : Assignment) (most vars : ℕ) (a b : InputTree) → SatisfiesAll w (tree_clauses most vars a) → SatisfiesAll w (tree_clauses most (vars + tree_count most a) b) →
     ((k : ℕ) → k < min (tree_size most a + tree_size most b) most → w (vars + (tree_count most a + tree_count most b) + 1 + k) ≡ nat_lt k (tree_true w a + tree_true w b)) →
     SatisfiesAll w (tree_clauses most vars (Node a b))
 node_holds w most vars a b ha hb set =
@@ -159,7 +159,7 @@ node_holds w most vars a b ha hb set =
     (join_holds w most m (tree_true w a) (tree_true w b) (omega arith) ca cb (outputs_count w most m (tree_true w a) (tree_true w b) (node_count most vars a b) ca cb set))
 
 -- each assignment of the inputs extends to the variables of the tree
-node_extends : (v : Assignment) (most vars : ℕ) (a b : Tree) → TreeIsThere vars (Node a b) → SatisfiesAll v (tree_clauses most vars a ++ tree_clauses most (vars + tree_count most a) b) →
+node_extends : (v : Assignment) (most vars : ℕ) (a b : InputTree) → TreeIsThere vars (Node a b) → SatisfiesAll v (tree_clauses most vars a ++ tree_clauses most (vars + tree_count most a) b) →
     Extends (vars + 1 + (tree_count most a + tree_count most b)) (min (tree_size most a + tree_size most b) most) v (λ w. SatisfiesAll w (join_clauses (node_join most vars a b)))
 node_extends v most vars a b there h =
     let first = vars + 1 + (tree_count most a + tree_count most b) in
@@ -188,7 +188,7 @@ node_extends v most vars a b there h =
           ap w z ∙ patch_at first count f v k lt ∙ ap (λ x. nat_lt k x) n));
     }
 
-pub tree_extends : (v : Assignment) (most vars : ℕ) (t : Tree) → TreeIsThere vars t → Extends (vars + 1) (tree_count most t) v (λ w. SatisfiesAll w (tree_clauses most vars t))
+pub tree_extends : (v : Assignment) (most vars : ℕ) (t : InputTree) → TreeIsThere vars t → Extends (vars + 1) (tree_count most t) v (λ w. SatisfiesAll w (tree_clauses most vars t))
 tree_extends v most vars Empty there = record { to = v; same = same_none (vars + 1) 0 v; holds = tt }
 tree_extends v most vars (Leaf l) there = record { to = v; same = same_none (vars + 1) 0 v; holds = tt }
 tree_extends v most vars (Node a b) there =
@@ -230,8 +230,8 @@ size_small most zero (k ∷ l ∷ ls) h = omega arith
 size_small most (suc depth) (k ∷ l ∷ ls) h = omega arith
 
 -- the whole sum
-pub sum_means : (v : Assignment) (most vars : ℕ) (ls : List Literal) → SatisfiesAll v (tree_clauses most vars (tree_of (length ls) ls)) → Counts v most (top most vars (tree_of (length ls) ls)) (count_true v ls)
-sum_means v most vars ls h = subst (Counts v most (top most vars (tree_of (length ls) ls))) (tree_true-of v (length ls) ls (omega arith)) (tree_means v most vars (tree_of (length ls) ls) h)
+pub sum_means : (v : Assignment) (most vars : ℕ) (ls : List Literal) → SatisfiesAll v (tree_clauses most vars (tree_of (length ls) ls)) → Counts v most (tree_top most vars (tree_of (length ls) ls)) (count_true v ls)
+sum_means v most vars ls h = subst (Counts v most (tree_top most vars (tree_of (length ls) ls))) (tree_true-of v (length ls) ls (omega arith)) (tree_means v most vars (tree_of (length ls) ls) h)
 
 pub sum_extends : (v : Assignment) (most vars : ℕ) (ls : List Literal) → AreThere vars ls → Extends (vars + 1) (tree_count most (tree_of (length ls) ls)) v (λ w. SatisfiesAll w (tree_clauses most vars (tree_of (length ls) ls)))
 sum_extends v most vars ls there = tree_extends v most vars (tree_of (length ls) ls) (tree_there vars (length ls) ls there)
@@ -240,7 +240,7 @@ pub sum_there : (most vars : ℕ) (ls : List Literal) → AreThere vars ls → A
 sum_there most vars ls there = tree_clauses_there most vars (tree_of (length ls) ls) (tree_there vars (length ls) ls there)
 
 -- a node whose two sides are set, and then its outputs
-pub node_put : (v left right w : Assignment) (most vars from last : ℕ) (a b : Tree) → TreeIsThere vars (Node a b) → from ≡ vars + tree_count most a → last ≡ from + tree_count most b →
+pub node_put : (v left right w : Assignment) (most vars from last : ℕ) (a b : InputTree) → TreeIsThere vars (Node a b) → from ≡ vars + tree_count most a → last ≡ from + tree_count most b →
     SameOutside (vars + 1) (tree_count most a) v left → SatisfiesAll left (tree_clauses most vars a) →
     SameOutside (from + 1) (tree_count most b) left right → SatisfiesAll right (tree_clauses most from b) →
     SameOutside (last + 1) (min (tree_size most a + tree_size most b) most) right w →

@@ -4,17 +4,17 @@ use Rattle.std.specs.Prelude.{◌/◌, nat_lt, min}
 use Rattle.std.proofs.lemmas.Bool.Decides.{nat_tests}
 use Rattle.cnf_core.specs.declared.literal.LitOrTruth.TheVariants.{False}
 use Rattle.cnf_core.specs.Lit.{Literal}
-use Rattle.unary_sum.specs.Part.{at, IsLit}
-use Rattle.unary_sum.specs.Sum.{tree_of, tree_size, top}
+use Rattle.unary_sum.specs.Part.{part_at_least, IsLit}
+use Rattle.unary_sum.specs.Sum.{tree_of, tree_size, tree_top}
 use Rattle.unary_sum.proofs.JoinLemmas.{at_above}
 use Rattle.unary_sum.proofs.SumLemmas.{part_size-top}
 use Rattle.unary_sum.proofs.SizeLemmas.{halves, depths, size_bound}
 
-pub top_above : (most vars k : ℕ) (ls : List Literal) → length ls < k → at (top most vars (tree_of (length ls) ls)) k ≡ False
+pub top_above : (most vars k : ℕ) (ls : List Literal) → length ls < k → part_at_least (tree_top most vars (tree_of (length ls) ls)) k ≡ False
 top_above most vars k ls h =
     let is = part_size-top most vars (tree_of (length ls) ls) in
     let size = size_bound most (length ls) ls (omega arith) in
-    at_above (top most vars (tree_of (length ls) ls)) k (omega arith)
+    at_above (tree_top most vars (tree_of (length ls) ls)) k (omega arith)
 
 -- there are as many outputs as inputs, up to the cap
 size_enough : (most depth : ℕ) (ls : List Literal) → length ls ≤ 1 + depth → min (length ls) most ≤ tree_size most (tree_of depth ls)
@@ -30,7 +30,7 @@ size_enough most (suc depth) (k ∷ l ∷ ls) h =
     let b = size_enough most depth (drop (length all / 2) all) deep.1 in
     omega arith
 
-pub top_between : (most vars depth k : ℕ) (ls : List Literal) → length ls ≤ 1 + depth → 1 ≤ k → k ≤ most → k ≤ length ls → IsLit (at (top most vars (tree_of depth ls)) k)
+pub top_between : (most vars depth k : ℕ) (ls : List Literal) → length ls ≤ 1 + depth → 1 ≤ k → k ≤ most → k ≤ length ls → IsLit (part_at_least (tree_top most vars (tree_of depth ls)) k)
 top_between most vars depth zero ls h some le within = absurd (omega arith)
 top_between most vars depth (suc j) [] h some le within = absurd (omega arith)
 top_between most vars depth (suc zero) (l ∷ []) h some le within = tt

@@ -17,11 +17,11 @@ part_size (Input l) = 1
 part_size (Outputs first count) = count
 
 -- "at least k of its inputs are true"
-abbrev pub at : Part → ℕ → LitOrTruth
-at part zero = True
-at (Input l) (suc zero) = OfLit l
-at (Input l) (suc (suc k)) = False
-at (Outputs first count) (suc k) = cond (nat_lt k count) (yes (first + k)) False
+abbrev pub part_at_least : Part → ℕ → LitOrTruth
+part_at_least part zero = True
+part_at_least (Input l) (suc zero) = OfLit l
+part_at_least (Input l) (suc (suc k)) = False
+part_at_least (Outputs first count) (suc k) = cond (nat_lt k count) (yes (first + k)) False
 
 -- count variables from first on, as literals
 abbrev pub block : ℕ → ℕ → List Literal
@@ -46,31 +46,35 @@ PartIsThere vars (Outputs first count) = (1 ≤ first) × (first + count ≤ var
 
 -- up to the cap it says of the number n whether it is at least k
 abbrev pub Counts : Assignment → ℕ → Part → ℕ → Type 0
-Counts v cap part n = (k : ℕ) → k ≤ cap → value v (at part k) ≡ nat_le k n
+Counts v cap part n = (k : ℕ) → k ≤ cap → value v (part_at_least part k) ≡ nat_le k n
 
 abbrev pub sum_of : Join → Part
 sum_of m = Outputs m.first m.count
 
 -- where i are true on the left and j on the right, the sum is at least i + j
-abbrev pub up : Join → ℕ → ℕ → Clauses
-up m i j = cond (nat_le (i + j) m.count) (clause_of [] (flip (at m.left i) ∷ flip (at m.right j) ∷ at (sum_of m) (i + j) ∷ [])) []
+abbrev pub join_up : Join → ℕ → ℕ → Clauses
+join_up m i j =
+    cond (nat_le (i + j) m.count)
+    (clause_of [] (flip (part_at_least m.left i) ∷ flip (part_at_least m.right j) ∷ part_at_least (sum_of m) (i + j) ∷ [])) []
 
 -- where at most i are true on the left and at most j on the right, the sum is at most i + j
-abbrev pub down : Join → ℕ → ℕ → Clauses
-down m i j = cond (nat_lt (i + j) m.count) (clause_of [] (at m.left (i + 1) ∷ at m.right (j + 1) ∷ flip (at (sum_of m) (i + j + 1)) ∷ [])) []
+abbrev pub join_down : Join → ℕ → ℕ → Clauses
+join_down m i j =
+    cond (nat_lt (i + j) m.count)
+    (clause_of [] (part_at_least m.left (i + 1) ∷ part_at_least m.right (j + 1) ∷ flip (part_at_least (sum_of m) (i + j + 1)) ∷ [])) []
 
-abbrev pub cell : Join → ℕ → ℕ → Clauses
-cell m i j = up m i j ++ down m i j
+abbrev pub join_cell : Join → ℕ → ℕ → Clauses
+join_cell m i j = join_up m i j ++ join_down m i j
 
-abbrev pub row : Join → ℕ → Clauses
-row m i = each (cell m i) 0 (part_size m.right + 1)
+abbrev pub join_row : Join → ℕ → Clauses
+join_row m i = each (join_cell m i) 0 (part_size m.right + 1)
 
 -- the outputs of a join count what the two sides count together
 abbrev pub join_clauses : Join → Clauses
-join_clauses m = each (row m) 0 (part_size m.left + 1)
+join_clauses m = each (join_row m) 0 (part_size m.left + 1)
 
 -- the variables of a join are among 1 to vars, and its sides are small
-pub record IsReady (vars : ℕ) (m : Join) : Type 0 where
+pub record JoinIsReady (vars : ℕ) (m : Join) : Type 0 where
   pub left : PartIsThere vars m.left
   pub right : PartIsThere vars m.right
   pub there : PartIsThere vars (sum_of m)

@@ -8,20 +8,20 @@ use Rattle.cnf_core.specs.Assignment.{Assignment, truth}
 use Rattle.unary_sum.specs.declared.joins.Part.{Part}
 use Rattle.unary_sum.specs.declared.joins.Part.TheVariants.{Input, Outputs}
 use Rattle.unary_sum.specs.declared.joins.Join.{Join}
-use Rattle.unary_sum.specs.Part.{at, outputs_of, join_clauses}
+use Rattle.unary_sum.specs.Part.{part_at_least, outputs_of, join_clauses}
 
 -- how many of the literals are true
 abbrev pub count_true : Assignment → List Literal → ℕ
 count_true v [] = 0
 count_true v (l ∷ ls) = cond (truth v l) 1 0 + count_true v ls
 
-pub data Tree : Type 0 where
-  Empty : Tree
-  Leaf : Literal → Tree
-  Node : Tree → Tree → Tree
+pub data InputTree : Type 0 where
+  Empty : InputTree
+  Leaf : Literal → InputTree
+  Node : InputTree → InputTree → InputTree
 
 -- a balanced tree over the literals, in their order; the depth is at least one less than their number
-abbrev pub tree_of : ℕ → List Literal → Tree
+abbrev pub tree_of : ℕ → List Literal → InputTree
 tree_of depth [] = Empty
 tree_of depth (l ∷ []) = Leaf l
 tree_of zero (k ∷ l ∷ ls) = Empty
@@ -30,33 +30,35 @@ tree_of (suc depth) (k ∷ l ∷ ls) = Node
     (tree_of depth (drop (length (k ∷ l ∷ ls) / 2) (k ∷ l ∷ ls)))
 
 -- how many outputs tell of a tree's inputs: one for each, up to the cap
-abbrev pub tree_size : ℕ → Tree → ℕ
+abbrev pub tree_size : ℕ → InputTree → ℕ
 tree_size most Empty = 0
 tree_size most (Leaf l) = 1
 tree_size most (Node a b) = min (tree_size most a + tree_size most b) most
 
 -- how many variables its joins have
-abbrev pub tree_count : ℕ → Tree → ℕ
+abbrev pub tree_count : ℕ → InputTree → ℕ
 tree_count most Empty = 0
 tree_count most (Leaf l) = 0
 tree_count most (Node a b) = tree_count most a + tree_count most b + min (tree_size most a + tree_size most b) most
 
 -- what counts a tree's inputs, where its variables follow the variable of number vars:
 -- those of the left side, then those of the right side, then the outputs that join them
-abbrev pub top : ℕ → ℕ → Tree → Part
-top most vars Empty = Outputs (vars + 1) 0
-top most vars (Leaf l) = Input l
-top most vars (Node a b) = Outputs (vars + (tree_count most a + tree_count most b) + 1) (min (tree_size most a + tree_size most b) most)
+abbrev pub tree_top : ℕ → ℕ → InputTree → Part
+tree_top most vars Empty = Outputs (vars + 1) 0
+tree_top most vars (Leaf l) = Input l
+tree_top most vars (Node a b) =
+    Outputs (vars + (tree_count most a + tree_count most b) + 1) (min (tree_size most a + tree_size most b) most)
 
-abbrev pub join_of : Part → Part → ℕ → ℕ → Join
-join_of left right vars count = record { left = left; right = right; first = vars + 1; count = count }
+abbrev pub sides_join : Part → Part → ℕ → ℕ → Join
+sides_join left right vars count = record { left = left; right = right; first = vars + 1; count = count }
 
-abbrev pub tree_clauses : ℕ → ℕ → Tree → Clauses
+abbrev pub tree_clauses : ℕ → ℕ → InputTree → Clauses
 tree_clauses most vars Empty = []
 tree_clauses most vars (Leaf l) = []
 tree_clauses most vars (Node a b) =
     tree_clauses most vars a ++ tree_clauses most (vars + tree_count most a) b
-    ++ join_clauses (join_of (top most vars a) (top most (vars + tree_count most a) b) (vars + (tree_count most a + tree_count most b)) (min (tree_size most a + tree_size most b) most))
+    ++ join_clauses (sides_join (tree_top most vars a) (tree_top most (vars + tree_count most a) b)
+    (vars + (tree_count most a + tree_count most b)) (min (tree_size most a + tree_size most b) most))
 
 -- a sum of inputs, up to a cap, whose variables follow the variable of number vars
 pub record SumVars : Type 0 where
@@ -67,7 +69,7 @@ pub record SumVars : Type 0 where
 abbrev pub sum_vars : List Literal → ℕ → ℕ → SumVars
 sum_vars inputs most vars = record { inputs = inputs; most = most; vars = vars }
 
-abbrev pub sum_tree : SumVars → Tree
+abbrev pub sum_tree : SumVars → InputTree
 sum_tree s = tree_of (length s.inputs) s.inputs
 
 abbrev pub sum_count : SumVars → ℕ
@@ -77,12 +79,12 @@ abbrev pub sum_clauses : SumVars → Clauses
 sum_clauses s = tree_clauses s.most s.vars (sum_tree s)
 
 -- "at least k inputs are true", for k up to the cap
-abbrev pub at_least : SumVars → ℕ → LitOrTruth
-at_least s k = at (top s.most s.vars (sum_tree s)) k
+abbrev pub sum_at_least : SumVars → ℕ → LitOrTruth
+sum_at_least s k = part_at_least (tree_top s.most s.vars (sum_tree s)) k
 
 -- "at least 1", "at least 2" and so on, up to the cap or the number of inputs
 abbrev pub sum_outputs : SumVars → List Literal
-sum_outputs s = take s.most (outputs_of (top s.most s.vars (sum_tree s)))
+sum_outputs s = take s.most (outputs_of (tree_top s.most s.vars (sum_tree s)))
 
 -- what each sum keeps
 pub record IsSum (s : SumVars) : Type 0 where
@@ -93,4 +95,4 @@ pub record IsSum (s : SumVars) : Type 0 where
 
 pub record IsBuilt (s : SumVars) (built : Part) : Type 0 where
   pub sum : IsSum s
-  pub is_top : built ≡ top s.most s.vars (sum_tree s)
+  pub is_top : built ≡ tree_top s.most s.vars (sum_tree s)

@@ -2,7 +2,7 @@
 ghost use Rattle.std.specs.Prelude.{◌≡◌, ◌+◌, ◌<◌, ◌≤◌, IfOk};
 ghost use Rattle.cnf_core.specs.declared.limits.TheConstants.{VARS};
 ghost use Rattle.cnf_core.specs.Added.{AddsClauses};
-ghost use Rattle.unary_sum.specs.Part.{part_size, at as at_least_of, block, outputs_of, PartIsThere, IsReady, join_clauses, row, cell, up, down};
+ghost use Rattle.unary_sum.specs.Part.{part_size, part_at_least, block, outputs_of, PartIsThere, JoinIsReady, join_clauses, join_row, join_cell, join_up, join_down};
 
 use cnf_core::{CnfFault, Formula, Lit, LitOrTruth, Var};
 use plan_core::OutOfMemory;
@@ -31,7 +31,7 @@ impl Part {
     /// "At least k of its inputs are true."
     pub(crate) fn at(&self, k: u32) -> LitOrTruth
         requires { PartIsThere VARS self.now }
-        ensures { result ≡ at_least_of self.now k }
+        ensures { result ≡ part_at_least self.now k }
     {
         if k == 0 {
             return LitOrTruth::True;
@@ -92,9 +92,9 @@ pub(crate) struct Join {
 #[tactic(auto, using(crate::proofs::JoinLemmas::up_within))]
 fn add_up(f: &mut Formula, m: &Join, i: u32, j: u32) -> Result<(), CnfFault>
     requires limit { f.old.vars ≤ VARS }
-    requires ready { IsReady f.old.vars m.now }
+    requires ready { JoinIsReady f.old.vars m.now }
     requires small { i + j ≤ 131070 }
-    ensures { AddsClauses result f.old f.new (up m.now i j) 3 }
+    ensures { AddsClauses result f.old f.new (join_up m.now i j) 3 }
 {
     if i + j > m.count {
         return Ok(());
@@ -114,9 +114,9 @@ fn add_up(f: &mut Formula, m: &Join, i: u32, j: u32) -> Result<(), CnfFault>
 #[tactic(auto, using(crate::proofs::JoinLemmas::down_within))]
 fn add_down(f: &mut Formula, m: &Join, i: u32, j: u32) -> Result<(), CnfFault>
     requires limit { f.old.vars ≤ VARS }
-    requires ready { IsReady f.old.vars m.now }
+    requires ready { JoinIsReady f.old.vars m.now }
     requires small { i + j ≤ 131070 }
-    ensures { AddsClauses result f.old f.new (down m.now i j) 3 }
+    ensures { AddsClauses result f.old f.new (join_down m.now i j) 3 }
 {
     if i + j >= m.count {
         return Ok(());
@@ -135,9 +135,9 @@ fn add_down(f: &mut Formula, m: &Join, i: u32, j: u32) -> Result<(), CnfFault>
 /// Both for i on the left and j on the right.
 fn add_cell(f: &mut Formula, m: &Join, i: u32, j: u32) -> Result<(), CnfFault>
     requires limit { f.old.vars ≤ VARS }
-    requires ready { IsReady f.old.vars m.now }
+    requires ready { JoinIsReady f.old.vars m.now }
     requires small { i + j ≤ 131070 }
-    ensures { AddsClauses result f.old f.new (cell m.now i j) 3 }
+    ensures { AddsClauses result f.old f.new (join_cell m.now i j) 3 }
 {
     add_up(f, m, i, j)?;
     add_down(f, m, i, j)
@@ -146,9 +146,9 @@ fn add_cell(f: &mut Formula, m: &Join, i: u32, j: u32) -> Result<(), CnfFault>
 /// Both for i on the left and each number on the right.
 fn add_row(f: &mut Formula, m: &Join, i: u32) -> Result<(), CnfFault>
     requires limit { f.old.vars ≤ VARS }
-    requires ready { IsReady f.old.vars m.now }
+    requires ready { JoinIsReady f.old.vars m.now }
     requires small { i ≤ 65535 }
-    ensures { AddsClauses result f.old f.new (row m.now i) 3 }
+    ensures { AddsClauses result f.old f.new (join_row m.now i) 3 }
 {
     let end = m.right.size() + 1;
     for j in 0..end {
@@ -160,7 +160,7 @@ fn add_row(f: &mut Formula, m: &Join, i: u32) -> Result<(), CnfFault>
 /// Makes the outputs of a join count what the two sides count together.
 pub(crate) fn add_join(f: &mut Formula, m: &Join) -> Result<(), CnfFault>
     requires limit { f.old.vars ≤ VARS }
-    requires ready { IsReady f.old.vars m.now }
+    requires ready { JoinIsReady f.old.vars m.now }
     ensures { AddsClauses result f.old f.new (join_clauses m.now) 3 }
 {
     let end = m.left.size() + 1;

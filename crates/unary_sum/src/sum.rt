@@ -8,7 +8,7 @@ ghost use Rattle.cnf_core.specs.Added.{AddsBlock};
 ghost use Rattle.cnf_core.specs.Truths.{assignment};
 ghost use Rattle.unary_sum.specs.declared.joins.Part.TheVariants.{Outputs};
 ghost use Rattle.unary_sum.specs.Part.{IsLit, part_size, PartIsThere, join_clauses};
-ghost use Rattle.unary_sum.specs.Sum.{count_true, tree_of, tree_size, tree_count, top as top_of, join_of, tree_clauses, sum_vars, sum_count, sum_clauses, sum_outputs, at_least as at_least_of};
+ghost use Rattle.unary_sum.specs.Sum.{count_true, tree_of, tree_size, tree_count, tree_top, sides_join, tree_clauses, sum_vars, sum_count, sum_clauses, sum_outputs, sum_at_least};
 
 use crate::joins::{Join, Part, add_join};
 use crate::put::put_tree;
@@ -49,7 +49,8 @@ impl Sum {
         ensures words { words_of f.new.clauses ≤ words_of f.old.clauses + 100 * (length inputs.now + 1) * (cap + 2) }
         ensures vars { f.new.vars ≤ f.old.vars + 10 * (length inputs.now + 1) * (cap + 2) }
         ensures means { let s = sum_vars inputs.now cap f.old.vars in
-            (v : Assignment) → SatisfiesAll v (sum_clauses s) → (k : ℕ) → k ≤ cap → value v (at_least_of s k) ≡ nat_le k (count_true v inputs.now) }
+            (v : Assignment) → SatisfiesAll v (sum_clauses s) → (k : ℕ) → k ≤ cap →
+            value v (sum_at_least s k) ≡ nat_le k (count_true v inputs.now) }
         ensures extends { let s = sum_vars inputs.now cap f.old.vars in
             (v : Assignment) → Extends (f.old.vars + 1) (sum_count s) v (λ w. SatisfiesAll w (sum_clauses s)) }
     {
@@ -60,7 +61,7 @@ impl Sum {
     /// and a literal between them.
     pub fn at_least(&self, k: u32) -> LitOrTruth
         requires { k ≤ self.now.most }
-        ensures value { result ≡ at_least_of self.now k }
+        ensures value { result ≡ sum_at_least self.now k }
         ensures at_zero { k ≡ 0 → result ≡ LitOrTruth.True }
         ensures above { length self.now.inputs < k → result ≡ LitOrTruth.False }
         ensures between { 1 ≤ k → k ≤ length self.now.inputs → IsLit result }
@@ -119,7 +120,7 @@ fn make_sum(alloc: Global, f: &mut Formula, inputs: &[Lit], cap: u32) -> Result<
 fn leaf_of(vars: u32, inputs: &[Lit]) -> Part
     requires limit { vars ≤ VARS }
     requires few { length inputs.now ≤ 1 }
-    ensures { (most depth : ℕ) → result ≡ top_of most vars (tree_of depth inputs.now) }
+    ensures { (most depth : ℕ) → result ≡ tree_top most vars (tree_of depth inputs.now) }
 {
     match inputs {
         [] => Part::Outputs(vars + 1, 0),
@@ -136,7 +137,7 @@ fn join_parts(f: &mut Formula, left: Part, right: Part, cap: u32) -> Result<Part
     requires right_small { part_size right ≤ 65535 }
     ensures part { IfOk result (λ p. p ≡ Outputs (f.old.vars + 1) (min (part_size left + part_size right) cap)) }
     ensures adds { let count = min (part_size left + part_size right) cap in
-        AddsBlock result f.old f.new count (join_clauses (join_of left right f.old.vars count)) 3 }
+        AddsBlock result f.old f.new count (join_clauses (sides_join left right f.old.vars count)) 3 }
     ensures limit { OnOk result (f.new.vars ≤ VARS) }
 {
     let count = (left.size() + right.size()).min(cap);
@@ -157,7 +158,7 @@ fn build_tree(f: &mut Formula, depth: u32, inputs: &[Lit], cap: u32) -> Result<P
     requires depth { length inputs.now ≤ 1 + depth }
     requires inputs { AreThere f.old.vars inputs.now }
     requires cap { cap ≤ 65535 }
-    ensures part { IfOk result (λ p. p ≡ top_of cap f.old.vars (tree_of depth inputs.now)) }
+    ensures part { IfOk result (λ p. p ≡ tree_top cap f.old.vars (tree_of depth inputs.now)) }
     ensures adds { AddsBlock result f.old f.new (tree_count cap (tree_of depth inputs.now)) (tree_clauses cap f.old.vars (tree_of depth inputs.now)) 3 }
     ensures limit { OnOk result (f.new.vars ≤ VARS) }
 {

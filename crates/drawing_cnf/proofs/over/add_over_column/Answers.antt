@@ -2,7 +2,7 @@ use Rattle.std.proofs.Common.{sym, subst, ◌∙◌, ap}
 use Rattle.cnf_core.specs.declared.literal.LitOrTruth.{LitOrTruth}
 use Rattle.cnf_core.specs.LitOrTruth.{flip, IsWithin}
 use Rattle.order_int.specs.IntVars.{IntVars, IntIsThere}
-use Rattle.edge_shape.specs.EdgeVars.{IsPlaced}
+use Rattle.edge_shape.specs.EdgeVars.{EdgeIsPlaced}
 use Rattle.edge_shape.proofs.PlaceLemmas.{inside_there, height_there}
 use Rattle.drawing_cnf.proofs.ThereLemmas.{at_west_within, at_east_within}
 use Rattle.drawing_cnf.proofs.over.add_over_column.Goals as goal
@@ -11,7 +11,7 @@ pub add_guarded-requires-clause-a : goal.add_guarded-requires-clause-a
 add_guarded-requires-clause-a c =
     let e = c.args.g.now in
     let vars = c.args.f.now.vars in
-    let placed : IsPlaced e.first e.high e.width = c.height-low.ensures.placed in
+    let placed : EdgeIsPlaced e.first e.high e.width = c.height-low.ensures.placed in
     subst (λ (i : IntVars). IntIsThere vars i) (sym c.height-low.ensures.value) (height_there e.first e.high e.width vars c.args.c placed.spot c.requires.g_there c.requires.g_column)
 
 pub add_guarded-requires-clause-guards : goal.add_guarded-requires-clause-guards
@@ -19,8 +19,8 @@ add_guarded-requires-clause-guards c =
     let e = c.args.e.now.edge.now in
     let g = c.args.g.now in
     let vars = c.args.f.now.vars in
-    let p : IsPlaced e.first e.high e.width = c.in_range.ensures.placed in
-    let q : IsPlaced g.first g.high g.width = c.in_range-2.ensures.placed in (
+    let p : EdgeIsPlaced e.first e.high e.width = c.in_range.ensures.placed in
+    let q : EdgeIsPlaced g.first g.high g.width = c.in_range-2.ensures.placed in (
       subst (λ (t : LitOrTruth). IsWithin vars t) (sym (c.negated.ensures ∙ ap flip c.in_range.ensures.value)) (inside_there e.first e.high e.width vars c.args.c p.spot c.requires.e_there c.requires.e_column),
       (
         subst (λ (t : LitOrTruth). IsWithin vars t) (sym (c.negated-2.ensures ∙ ap flip c.in_range-2.ensures.value)) (inside_there g.first g.high g.width vars c.args.c q.spot c.requires.g_there c.requires.g_column),

@@ -1,6 +1,6 @@
 use Rattle.std.proofs.Common.{rules, ◌+◌}
 use Rattle.cnf_core.proofs.StepLemmas.{adding_first, adding_more, adding_done, adding_refused}
-use Rattle.unary_sum.specs.Sum.{at_least as sum_at_least}
+use Rattle.unary_sum.specs.Sum.{sum_at_least as sum_at_least}
 use Rattle.drawing_cnf.proofs.BoundCode.{same_adds}
 use Rattle.drawing_cnf.proofs.sum_bounds.add_outputs.Goals as goal
 

@@ -1,7 +1,7 @@
 use Rattle.std.specs.Prelude.{◌+◌, length}
 use Rattle.cnf_core.specs.Formula.{each}
 use Rattle.cnf_core.proofs.StepLemmas.{IsAdding}
-use Rattle.unary_sum.specs.Sum.{at_least as sum_at_least}
+use Rattle.unary_sum.specs.Sum.{sum_at_least as sum_at_least}
 use Rattle.drawing_cnf.specs.Bounds.{same_as}
 use Rattle.drawing_cnf.proofs.sum_bounds.add_outputs.Given as goal
 

@@ -1,7 +1,7 @@
 use Rattle.std.proofs.Common.{rules, ◌+◌, subst}
 use Rattle.cnf_core.specs.Formula.{each}
 use Rattle.cnf_core.specs.Added.{AddsClauses}
-use Rattle.unary_sum.specs.Sum.{SumVars, sum_vars, at_least as sum_at_least}
+use Rattle.unary_sum.specs.Sum.{SumVars, sum_vars, sum_at_least as sum_at_least}
 use Rattle.drawing_cnf.specs.Bounds.{same_as}
 use Rattle.drawing_cnf.proofs.BoundCode.{sum_refused, sum_after}
 use Rattle.drawing_cnf.proofs.sum_bounds.add_sum_bound.Goals as goal

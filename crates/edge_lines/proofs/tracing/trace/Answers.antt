@@ -2,18 +2,18 @@ use Rattle.std.proofs.Common.{◌≡◌, ◌+◌, ◌-◌, ◌<◌, List, [], �
 use Rattle.plan_core.specs.declared.point.Point.{Point}
 use Rattle.plan_core.specs.Line.{is_line}
 use Rattle.edge_lines.specs.Track.{over, line_over}
-use Rattle.edge_lines.specs.Columns.{listed}
+use Rattle.edge_lines.specs.Columns.{listed_height}
 use Rattle.edge_lines.proofs.ShapeLemmas.{track_is_line}
 use Rattle.edge_lines.proofs.TraceLemmas.{IsTracing, tracing_turn, tracing_straight, tracing_last, tracing_room}
 use Rattle.edge_lines.proofs.tracing.trace.Goals.{then-turns, else-turns}
 use Rattle.edge_lines.proofs.tracing.trace.Goals as goal
 
 pub push-requires-then-turns : goal.push-requires-then-turns
-push-requires-then-turns c = (lit< tt, tracing_room (listed c.args.heights.now) c.args.west (c.args.east - c.args.west - 1) c.loop-c.c c.loop-c.points.items c.requires.track c.loop-c.invariant)
+push-requires-then-turns c = (lit< tt, tracing_room (listed_height c.args.heights.now) c.args.west (c.args.east - c.args.west - 1) c.loop-c.c c.loop-c.points.items c.requires.track c.loop-c.invariant)
 
 pub loop-c-preserved : goal.loop-c-preserved
 loop-c-preserved c =
-    let y = listed c.args.heights.now in
+    let y = listed_height c.args.heights.now in
     let w = c.args.west in
     let n = c.args.east - c.args.west - 1 in
     let to : c.loop-c.c < w + n = omega arith in
@@ -27,11 +27,11 @@ loop-c-preserved c =
     ]
 
 pub push-requires-2 : goal.push-requires-2
-push-requires-2 c = (lit< tt, tracing_room (listed c.args.heights.now) c.args.west (c.args.east - c.args.west - 1) c.loop-c.c c.loop-c.points.items c.requires.track c.loop-c.invariant)
+push-requires-2 c = (lit< tt, tracing_room (listed_height c.args.heights.now) c.args.west (c.args.east - c.args.west - 1) c.loop-c.c c.loop-c.points.items c.requires.track c.loop-c.invariant)
 
 pub unreachable-requires : goal.unreachable-requires
 unreachable-requires c =
-    let y = listed c.args.heights.now in
+    let y = listed_height c.args.heights.now in
     let w = c.args.west in
     let n = c.args.east - c.args.west - 1 in
     let end : c.loop-c.c ≡ w + n = omega arith in

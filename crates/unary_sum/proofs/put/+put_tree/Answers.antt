@@ -3,7 +3,7 @@ use Rattle.std.specs.Prelude.{min, nat_lt}
 use Rattle.cnf_core.specs.Assignment.{SatisfiesAll, SameOutside}
 use Rattle.cnf_core.specs.Truths.{assignment}
 use Rattle.cnf_core.proofs.ClauseLemmas.{there_more}
-use Rattle.unary_sum.specs.Sum.{Tree, Node, tree_of, tree_size, tree_count, tree_clauses}
+use Rattle.unary_sum.specs.Sum.{InputTree, Node, tree_of, tree_size, tree_count, tree_clauses}
 use Rattle.unary_sum.proofs.SumLemmas.{TreeIsThere, tree_true, tree_true-of, tree_of-node, there_take, there_drop, tree_there, size_small, node_put}
 use Rattle.unary_sum.proofs.put.+put_tree.Goals as goal
 use Rattle.unary_sum.proofs.put.+put_tree.Goals.{After-put_outputs}
@@ -88,7 +88,7 @@ is_put t c =
     let there : TreeIsThere vars (Node a b) = subst (TreeIsThere vars) is (tree_there vars c.args.depth ls c.requires.inputs) in
     let size : c.min-size.result ≡ min (tree_size most a + tree_size most b) most = let l = c.put_tree-left.ensures.size in let r = c.put_tree-right.ensures.size in omega (arith, c.min-size.ensures) in
     let n : c.count_of-n.result ≡ tree_true right (Node a b) = c.count_of-n.ensures ∙ sym (tree_true-of right c.args.depth ls c.requires.depth) ∙ ap (tree_true right) is in
-    subst (λ (u : Tree). SameOutside (vars + 1) (tree_count most u) old new × SatisfiesAll new (tree_clauses most vars u)) (sym is)
+    subst (λ (u : InputTree). SameOutside (vars + 1) (tree_count most u) old new × SatisfiesAll new (tree_clauses most vars u)) (sym is)
     (node_put old left right new most vars c.put_tree-left.result.end c.put_tree-right.result.end a b there c.put_tree-left.ensures.end c.put_tree-right.ensures.end
     c.put_tree-left.ensures.same c.put_tree-left.ensures.model c.put_tree-right.ensures.same c.put_tree-right.ensures.model
     (subst (λ k. SameOutside (c.put_tree-right.result.end + 1) k right new) size c.put_outputs.ensures.same)

@@ -6,7 +6,7 @@ use Rattle.cnf_core.specs.Added.{AddsBlock}
 use Rattle.cnf_core.proofs.ClauseLemmas.{there_more}
 use Rattle.unary_sum.specs.declared.joins.Part.{Part}
 use Rattle.unary_sum.specs.Part.{PartIsThere}
-use Rattle.unary_sum.specs.Sum.{Tree, tree_of, tree_count, top, tree_clauses}
+use Rattle.unary_sum.specs.Sum.{InputTree, tree_of, tree_count, tree_top, tree_clauses}
 use Rattle.unary_sum.proofs.SumLemmas.{TreeIsThere, tree_of-node, there_take, there_drop, tree_there, tree_there_more, top_there, part_there_more}
 use Rattle.unary_sum.proofs.NodeLemmas.{node_left_refused, node_right_refused, node_adds, node_top}
 use Rattle.unary_sum.proofs.sum.+build_tree.Goals as goal
@@ -32,7 +32,7 @@ returns-in_err-left-clause-adds t c =
     let depth = c.args.depth - 1 in
     let old = c.args.f.now in
     let r = c.from_residual.result in
-    subst (λ (n : Tree). AddsBlock r old c.build_tree.new.f (tree_count c.args.cap n) (tree_clauses c.args.cap old.vars n) 3) (sym (tree_of-node c.args.depth ls c.if-depth-eq0.false c.if-inputs-le1.false))
+    subst (λ (n : InputTree). AddsBlock r old c.build_tree.new.f (tree_count c.args.cap n) (tree_clauses c.args.cap old.vars n) 3) (sym (tree_of-node c.args.depth ls c.if-depth-eq0.false c.if-inputs-le1.false))
     (node_left_refused c.build_tree.result r old c.build_tree.new.f c.args.cap (tree_of depth (take half ls)) (tree_of depth (take (length ls - half) (drop half ls))) c.from_residual.ensures.0 (λ k. search (rules, k)) c.build_tree.ensures.adds)
 
 pub build_tree-requires-2 : goal.build_tree-requires-2
@@ -57,7 +57,7 @@ returns-in_err-right-clause-adds t c =
     let old = c.args.f.now in
     let new = c.build_tree-2.new.f in
     let r = c.from_residual-in_err-right.result in
-    subst (λ (n : Tree). AddsBlock r old new (tree_count c.args.cap n) (tree_clauses c.args.cap old.vars n) 3) (sym (tree_of-node c.args.depth ls c.if-depth-eq0.false c.if-inputs-le1.false))
+    subst (λ (n : InputTree). AddsBlock r old new (tree_count c.args.cap n) (tree_clauses c.args.cap old.vars n) 3) (sym (tree_of-node c.args.depth ls c.if-depth-eq0.false c.if-inputs-le1.false))
     (node_right_refused c.in_ok-left.left c.build_tree-2.result r old c.build_tree.new.f new c.args.cap (tree_of depth (take half ls)) (tree_of depth (take (length ls - half) (drop half ls))) c.from_residual-in_err-right.ensures.0 (λ k. search (rules, k)) c.in_ok-left.ensures.adds c.build_tree-2.ensures.adds)
 
 pub join_parts-requires-clause-left : goal.join_parts-requires-clause-left
@@ -70,7 +70,7 @@ join_parts-requires-clause-left t c =
     let from = c.build_tree-2.ensures.adds.from in
     let there = tree_there vars depth (take half ls) (there_take vars half ls c.requires.inputs) in
     subst (λ (p : Part). PartIsThere c.build_tree-2.new.f.vars p) (sym c.in_ok-left.ensures.part)
-    (part_there_more (vars + tree_count c.args.cap (tree_of depth (take half ls))) c.build_tree-2.new.f.vars (top c.args.cap vars (tree_of depth (take half ls))) (omega arith) (top_there c.args.cap vars (tree_of depth (take half ls)) there))
+    (part_there_more (vars + tree_count c.args.cap (tree_of depth (take half ls))) c.build_tree-2.new.f.vars (tree_top c.args.cap vars (tree_of depth (take half ls))) (omega arith) (top_there c.args.cap vars (tree_of depth (take half ls)) there))
 
 pub join_parts-requires-clause-right : goal.join_parts-requires-clause-right
 join_parts-requires-clause-right t c =
@@ -83,7 +83,7 @@ join_parts-requires-clause-right t c =
     let side = tree_of depth (take (length ls - half) (drop half ls)) in
     let there : TreeIsThere vars side = tree_there_more c.args.f.now.vars vars side from (tree_there_part c.args.f.now.vars depth half (length ls - half) ls c.requires.inputs) in
     subst (λ (p : Part). PartIsThere c.build_tree-2.new.f.vars p) (sym c.in_ok-right.ensures.part)
-    (part_there_more (vars + tree_count c.args.cap side) c.build_tree-2.new.f.vars (top c.args.cap vars side) (omega arith) (top_there c.args.cap vars side there))
+    (part_there_more (vars + tree_count c.args.cap side) c.build_tree-2.new.f.vars (tree_top c.args.cap vars side) (omega arith) (top_there c.args.cap vars side there))
 
 pub returns-clause-part : goal.returns-clause-part
 returns-clause-part t c =
@@ -93,7 +93,7 @@ returns-clause-part t c =
     let old = c.args.f.now in
     IfOk-weaker c.join_parts.result _ _
     (λ p e. node_top old c.build_tree.new.f c.build_tree-2.new.f c.args.cap (tree_of depth (take half ls)) (tree_of depth (take (length ls - half) (drop half ls))) c.in_ok-left.left c.in_ok-right.right p c.in_ok-left.ensures.part c.in_ok-right.ensures.part c.in_ok-left.ensures.adds.made c.in_ok-right.ensures.adds.made e
-    ∙ ap (λ (n : Tree). top c.args.cap old.vars n) (sym (tree_of-node c.args.depth ls c.if-depth-eq0.false c.if-inputs-le1.false)))
+    ∙ ap (λ (n : InputTree). tree_top c.args.cap old.vars n) (sym (tree_of-node c.args.depth ls c.if-depth-eq0.false c.if-inputs-le1.false)))
     c.join_parts.ensures.part
 
 pub returns-clause-adds : goal.returns-clause-adds
@@ -103,5 +103,5 @@ returns-clause-adds t c =
     let depth = c.args.depth - 1 in
     let old = c.args.f.now in
     let new = c.join_parts.new.f in
-    subst (λ (n : Tree). AddsBlock c.join_parts.result old new (tree_count c.args.cap n) (tree_clauses c.args.cap old.vars n) 3) (sym (tree_of-node c.args.depth ls c.if-depth-eq0.false c.if-inputs-le1.false))
+    subst (λ (n : InputTree). AddsBlock c.join_parts.result old new (tree_count c.args.cap n) (tree_clauses c.args.cap old.vars n) 3) (sym (tree_of-node c.args.depth ls c.if-depth-eq0.false c.if-inputs-le1.false))
     (node_adds c.in_ok-left.left c.in_ok-right.right c.join_parts.result old c.build_tree.new.f c.build_tree-2.new.f new c.args.cap (tree_of depth (take half ls)) (tree_of depth (take (length ls - half) (drop half ls))) c.in_ok-left.left c.in_ok-right.right c.in_ok-left.ensures.part c.in_ok-right.ensures.part c.in_ok-left.ensures.adds c.in_ok-right.ensures.adds c.join_parts.ensures.adds)
