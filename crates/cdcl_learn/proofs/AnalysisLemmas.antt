@@ -1,6 +1,6 @@
 -- The analyser's own tables.
-use Rattle.std.proofs.Common.{◌≡◌, ℕ, ◌+◌, ◌<◌, ◌≤◌, ◌∙◌, true, zero, suc, List, [], ◌∷◌, length, take, get_or, refl, sym, ap, subst, arith}
-use Rattle.std.specs.Prelude.{All, Contains, map}
+use Rattle.std.proofs.Common.{◌≡◌, ℕ, ◌+◌, ◌<◌, ◌≤◌, ◌∙◌, true, List, length, take, get_or, sym, ap, subst, arith}
+use Rattle.std.specs.Prelude.{All, Contains}
 use Rattle.std.proofs.lemmas.List.{get_or_default, get_or-take}
 use Rattle.std.proofs.lemmas.List.Elements.{All-weaker}
 use Rattle.cnf_core.specs.declared.limits.TheConstants.{VARS}

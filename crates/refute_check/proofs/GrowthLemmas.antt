@@ -1,16 +1,15 @@
 -- What follows of literals that are marked one after another, and which clauses are quiet.
-use Rattle.std.proofs.Common.{◌≡◌, ◌≢◌, ℕ, ◌+◌, ◌<◌, ◌≤◌, ◌⊎◌, Bool, cond, List, [], ◌∷◌, ◌++◌, length, take, get_or, set, refl, sym, ◌∙◌, ap, subst, inl, inr, arith, length-append}
+use Rattle.std.proofs.Common.{◌≡◌, ◌≢◌, ℕ, ◌+◌, ◌<◌, ◌≤◌, ◌⊎◌, Bool, cond, List, [], ◌∷◌, ◌++◌, length, take, get_or, set, sym, ◌∙◌, ap, subst, inl, inr, arith}
 use Rattle.std.specs.Prelude.{All, Contains}
 use Rattle.std.proofs.lemmas.Bool.{both_ways}
-use Rattle.std.proofs.lemmas.List.{take_at, take-take, take_all}
 use Rattle.std.proofs.lemmas.List.Elements.{All-contains, All-weaker, All-head, All-tail, All-more, All-nil, All-cons}
 use Rattle.std.proofs.lemmas.List.Sums.{sum_by-cons}
 use Rattle.cnf_core.specs.Lit.{Literal, negate, has}
 use Rattle.cnf_core.specs.Clause.{Clauses, Avoids, AreDistinct}
-use Rattle.cnf_core.specs.Propagation.{LiteralSet, IsIn, Includes, IsUnit, Closure, IsConsistent, HasReason, Falsified}
-use Rattle.cnf_core.proofs.PropagationLemmas.{closure_start, closure_unit, closure_again, unit_more, reason_more}
+use Rattle.cnf_core.specs.Propagation.{LiteralSet, IsIn, Includes, IsUnit, IsConsistent, Falsified}
+use Rattle.cnf_core.proofs.PropagationLemmas.{unit_more}
 use Rattle.cnf_core.proofs.GrowthLemmas.{grows_none, grows_more}
-use Rattle.cnf_core.proofs.TrailLemmas.{has_last, has_front, same_literal_or, distinct_consistent, push_keeps}
+use Rattle.cnf_core.proofs.TrailLemmas.{has_last, distinct_consistent}
 use Rattle.cnf_core.specs.Trail.{marked, IsTrail, Grows}
 use Rattle.refute_check.specs.Tables.{false_count, IsQuiet, IsUnsetUnit, IsQuietNow, AreQuietNow}
 use Rattle.refute_check.proofs.ScanLemmas.{IsFalse, IsLastOr}

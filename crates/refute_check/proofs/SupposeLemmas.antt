@@ -1,6 +1,6 @@
 -- What follows of assumptions.
 use Rattle.std.proofs.Common.{◌≡◌, ℕ, ◌⊎◌, Bool, List, ◌++◌, length, take, sym, ◌∙◌, ap, subst, inl, inr, arith}
-use Rattle.std.specs.Prelude.{All, Contains}
+use Rattle.std.specs.Prelude.{All}
 use Rattle.std.proofs.lemmas.List.{take_all, take_at}
 use Rattle.std.proofs.lemmas.List.Elements.{All-contains, All-weaker}
 use Rattle.cnf_core.specs.Lit.{Literal, negate, has}

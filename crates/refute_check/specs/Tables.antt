@@ -1,9 +1,9 @@
 -- Tables by clause and by literal, over which the literals are counted that aren't false.
-use Rattle.std.specs.Prelude.{◌≡◌, ◌≤◌, ◌<◌, ◌⊎◌, ℕ, ◌+◌, ◌*◌, Bool, false, cond, List, [], ◌∷◌, ◌++◌, All, Contains, length, slice_index, slice_index_or, take, nat_eq}
-use Rattle.std.specs.List.{sum_by, count_by}
+use Rattle.std.specs.Prelude.{◌≡◌, ◌≤◌, ◌<◌, ◌⊎◌, ℕ, ◌+◌, ◌*◌, Bool, false, cond, List, [], ◌∷◌, ◌++◌, All, Contains, length, slice_index, slice_index_or, take}
+use Rattle.std.specs.List.{count_by}
 use Rattle.cnf_core.specs.Lit.{Literal, negate, word_of, has}
-use Rattle.cnf_core.specs.Clause.{Clauses, AreDistinct, AreThere}
-use Rattle.cnf_core.specs.Propagation.{LiteralSet, IsIn, Includes, IsUnit, HasReason, Closure, negations}
+use Rattle.cnf_core.specs.Clause.{Clauses}
+use Rattle.cnf_core.specs.Propagation.{LiteralSet, IsIn, Includes, IsUnit, HasReason, negations}
 use Rattle.cnf_core.specs.Trail.{IsTrail}
 use Rattle.cnf_core.specs.Times.{times}
 

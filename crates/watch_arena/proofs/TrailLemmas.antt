@@ -4,19 +4,17 @@ use Rattle.std.specs.Prelude.{Contains}
 use Rattle.std.proofs.lemmas.Bool.{both_ways, cases_lt}
 use Rattle.std.proofs.lemmas.List.{take-append-le, length-replicate, get_or-set_other, get_or-set_same, get_or_append_left, get_or_push, get_or-take}
 use Rattle.std.proofs.lemmas.List.Elements.{Contains-get_or}
-use Rattle.std.proofs.lemmas.Grind.{get_or-set_at, take-set_at}
-use Rattle.std.proofs.lemmas.List.Sums.{sum_by-set, sum_by-le, sum_by-append}
+use Rattle.std.proofs.lemmas.Grind.{take-set_at}
+use Rattle.std.proofs.lemmas.List.Sums.{sum_by-append}
 use Rattle.std.proofs.lemmas.List.Folds.{sum_by-replicate}
 use Rattle.std.specs.List.{sum_by}
 use Rattle.cnf_core.specs.declared.limits.TheConstants.{VARS}
 use Rattle.cnf_core.specs.Lit.{Literal, negate, word_of, has}
 use Rattle.cnf_core.specs.Clause.{AreThere, IsThere}
-use Rattle.cnf_core.proofs.PropagationLemmas.{contains_from_has, has_from_contains}
-use Rattle.cnf_core.proofs.QuantifierLemmas.{pairs_from_distinct}
+use Rattle.cnf_core.proofs.PropagationLemmas.{has_from_contains}
 use Rattle.cnf_core.proofs.MarkLemmas.{trail_more, trail_short}
-use Rattle.cnf_core.proofs.TrailLemmas.{word_once, word_below, same_literal_or, same_or_negated, has_last, has_front, distinct_push, distinct_front, there_front, there_last, there_get}
-use Rattle.cnf_core.proofs.GatherLemmas.{there_push}
-use Rattle.cnf_core.specs.Trail.{marked, weight, IsTrail}
+use Rattle.cnf_core.proofs.TrailLemmas.{same_or_negated, there_get}
+use Rattle.cnf_core.specs.Trail.{weight, IsTrail}
 use Rattle.watch_arena.specs.Trail.{IsStoredTrail, IsUnset, AreCuts, HasLevels, trail_level, IsMarks, Marks, marks_of, with_lit, opened, widened}
 use Rattle.watch_arena.proofs.CutLemmas.{level_past, level_push_before, level_of_new}
 

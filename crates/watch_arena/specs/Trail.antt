@@ -1,11 +1,10 @@
 -- Trails: the literals that are true, in the order in which they became so.
 use Rattle.std.specs.Prelude.{◌≡◌, ◌≤◌, ◌<◌, ℕ, ◌+◌, ◌*◌, min, nat_le, Bool, true, false, cond, Option, Some, None, List, [], ◌∷◌, ◌++◌, length, slice_index, slice_index_or, slice_set, take, replicate}
-use Rattle.std.specs.List.{sum_by}
 use Rattle.cnf_core.specs.declared.limits.TheConstants.{VARS}
 use Rattle.watch_arena.specs.declared.clause_ref.ClauseRef.{ClauseRef}
-use Rattle.cnf_core.specs.Lit.{Literal, negate, word_of, has}
+use Rattle.cnf_core.specs.Lit.{Literal, negate, has}
 use Rattle.cnf_core.specs.Clause.{AreDistinct, AreThere}
-use Rattle.cnf_core.specs.Propagation.{LiteralSet, IsIn, Includes}
+use Rattle.cnf_core.specs.Propagation.{IsIn, Includes}
 use Rattle.cnf_core.specs.Trail.{IsTrail}
 
 -- what a contract sees: the variables, the literals, how many of them are propagated, where levels

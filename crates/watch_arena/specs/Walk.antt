@@ -2,7 +2,7 @@
 use Rattle.std.specs.Prelude.{◌≡◌, ◌≢◌, ◌≤◌, ◌<◌, ◌⊎◌, ◌↔◌, take, ℕ, zero, suc, ◌+◌, ◌*◌, ◌/◌, Option, Some, None, List, [], ◌∷◌, ◌++◌, Contains, length, slice_index, slice_index_or}
 use Rattle.cnf_core.specs.Lit.{Literal, negate, literal_at, has}
 use Rattle.cnf_core.specs.Clause.{Clauses}
-use Rattle.cnf_core.specs.Propagation.{LiteralSet, IsIn, Includes, IsUnit, HasReason, Closure, Falsifies, IsClosure}
+use Rattle.cnf_core.specs.Propagation.{LiteralSet, IsIn, IsUnit, Falsifies, IsClosure}
 use Rattle.cnf_core.specs.Trail.{Grows}
 use Rattle.watch_arena.specs.Words.{word_at, link_of, lit_of, other_of, IsStore}
 use Rattle.cnf_core.specs.Times.{times}
