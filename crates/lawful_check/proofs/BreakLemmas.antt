@@ -13,7 +13,7 @@ use Rattle.plan_core.specs.Lawful.{HasSizeOf, Instance, NodeOnGrid, LineOnGrid, 
 use Rattle.plan_core.proofs.TruthFacts.{below_or_is}
 use Rattle.track_order.specs.Order.{IsEarlier}
 use Rattle.lawful_check.specs.declared.law_break.LawBreak.{LawBreak}
-use Rattle.lawful_check.specs.Breaks.{rank, first_of, second_of, node_party, edge_party, law_break, break_of, IsLeastBreak}
+use Rattle.lawful_check.specs.Breaks.{law_rank, first_of, second_of, node_party, edge_party, law_break, break_of, IsLeastBreak}
 use Rattle.lawful_check.specs.Holding.{HoldsForAll, FailsFirst, HoldsForPairs, FailsFirstPair}
 
 -- the drawing that is looked at, and what it is looked at for
@@ -32,18 +32,18 @@ Holds q i = Meets q.graph q.grid q.drawing i
 
 -- all instances of a lower rank are met; all of this rank
 pub record MetBelow (q : Asked) (r : ℕ) : Type 0 where
-  pub each : (i : Instance) → rank i < r → Speaks q i → Holds q i
+  pub each : (i : Instance) → law_rank i < r → Speaks q i → Holds q i
 
 pub record MetAt (q : Asked) (r : ℕ) : Type 0 where
-  pub each : (i : Instance) → rank i ≡ r → Speaks q i → Holds q i
+  pub each : (i : Instance) → law_rank i ≡ r → Speaks q i → Holds q i
 
 -- this names the least broken instance of this rank
 pub record IsLeastAt (q : Asked) (r : ℕ) (b : LawBreak) : Type 0 where
   pub instance : Instance
-  pub ranked : rank instance ≡ r
+  pub ranked : law_rank instance ≡ r
   pub is : Speaks q instance
   pub broken : Holds q instance → ⊥
-  pub before : (j : Instance) → rank j ≡ r → IsEarlier (first_of j) (second_of j) (first_of instance) (second_of instance) → Speaks q j → Holds q j
+  pub before : (j : Instance) → law_rank j ≡ r → IsEarlier (first_of j) (second_of j) (first_of instance) (second_of instance) → Speaks q j → Holds q j
   pub named : b ≡ break_of instance
 
 -- what was found of one law, and of all laws up to one
@@ -62,14 +62,14 @@ next q r found here after same judged searched = subst (IsJudged q (r + 1)) (sym
   where
     step : (found here : Option LawBreak) → IsJudged q r found → IsSearched q r here → IsJudged q (r + 1) (option_or found here)
     step (Some b) here judged searched = judged
-    step None None below at = record { each = λ i less is. elim (below_or_is (rank i) r less) [ inl lower ↦ below.each i lower is | inr same ↦ at.each i same is ] }
+    step None None below at = record { each = λ i less is. elim (below_or_is (law_rank i) r less) [ inl lower ↦ below.each i lower is | inr same ↦ at.each i same is ] }
     step None (Some b) below least = record {
       instance = least.instance;
       least = record {
         is = least.is;
         broken = least.broken;
         least = λ j is before. elim before [
-          | inl lower ↦ below.each j (subst (λ (n : ℕ). rank j < n) least.ranked lower) is
+          | inl lower ↦ below.each j (subst (λ (n : ℕ). law_rank j < n) least.ranked lower) is
           | inr tie ↦ least.before j (tie.0 ∙ least.ranked) tie.1 is
         ];
       };
@@ -79,8 +79,8 @@ next q r found here after same judged searched = subst (IsJudged q (r + 1)) (sym
 -- ---- laws of one party each
 
 pub record IsOfOne (r : ℕ) (make : ℕ → Instance) : Type 0 where
-  pub only : (i : Instance) → rank i ≡ r → make (first_of i) ≡ i
-  pub ranked : (n : ℕ) → rank (make n) ≡ r
+  pub only : (i : Instance) → law_rank i ≡ r → make (first_of i) ≡ i
+  pub ranked : (n : ℕ) → law_rank (make n) ≡ r
   pub first : (n : ℕ) → first_of (make n) ≡ n
   pub second : (n : ℕ) → second_of (make n) ≡ 0
 
@@ -109,8 +109,8 @@ module _ {X : Type 0} (q : Asked) (r : ℕ) (make : ℕ → Instance) (one : IsO
 -- ---- laws of two parties each
 
 pub record IsOfTwo (r : ℕ) (make : ℕ → ℕ → Instance) : Type 0 where
-  pub only : (i : Instance) → rank i ≡ r → make (first_of i) (second_of i) ≡ i
-  pub ranked : (a b : ℕ) → rank (make a b) ≡ r
+  pub only : (i : Instance) → law_rank i ≡ r → make (first_of i) (second_of i) ≡ i
+  pub ranked : (a b : ℕ) → law_rank (make a b) ≡ r
   pub first : (a b : ℕ) → first_of (make a b) ≡ a
   pub second : (a b : ℕ) → second_of (make a b) ≡ b
 
@@ -141,56 +141,56 @@ module _ {X : Type 0} (q : Asked) (r : ℕ) (make : ℕ → ℕ → Instance) (t
 pub of_nodes_on_grid : IsOfOne 0 NodeOnGrid
 of_nodes_on_grid = record { only = only; ranked = λ n. refl; first = λ n. refl; second = λ n. refl }
   where
-    only : (i : Instance) → rank i ≡ 0 → NodeOnGrid (first_of i) ≡ i
+    only : (i : Instance) → law_rank i ≡ 0 → NodeOnGrid (first_of i) ≡ i
     only (NodeOnGrid n) same = refl
     only other same = absurd (omega (arith, same))
 
 pub of_lines_on_grid : IsOfOne 1 LineOnGrid
 of_lines_on_grid = record { only = only; ranked = λ n. refl; first = λ n. refl; second = λ n. refl }
   where
-    only : (i : Instance) → rank i ≡ 1 → LineOnGrid (first_of i) ≡ i
+    only : (i : Instance) → law_rank i ≡ 1 → LineOnGrid (first_of i) ≡ i
     only (LineOnGrid n) same = refl
     only other same = absurd (omega (arith, same))
 
 pub of_ordered : IsOfTwo 2 Ordered
 of_ordered = record { only = only; ranked = λ a b. refl; first = λ a b. refl; second = λ a b. refl }
   where
-    only : (i : Instance) → rank i ≡ 2 → Ordered (first_of i) (second_of i) ≡ i
+    only : (i : Instance) → law_rank i ≡ 2 → Ordered (first_of i) (second_of i) ≡ i
     only (Ordered u v) same = refl
     only other same = absurd (omega (arith, same))
 
 pub of_joined : IsOfOne 3 Joined
 of_joined = record { only = only; ranked = λ n. refl; first = λ n. refl; second = λ n. refl }
   where
-    only : (i : Instance) → rank i ≡ 3 → Joined (first_of i) ≡ i
+    only : (i : Instance) → law_rank i ≡ 3 → Joined (first_of i) ≡ i
     only (Joined e) same = refl
     only other same = absurd (omega (arith, same))
 
 pub of_aligned : IsOfOne 4 Aligned
 of_aligned = record { only = only; ranked = λ n. refl; first = λ n. refl; second = λ n. refl }
   where
-    only : (i : Instance) → rank i ≡ 4 → Aligned (first_of i) ≡ i
+    only : (i : Instance) → law_rank i ≡ 4 → Aligned (first_of i) ≡ i
     only (Aligned n) same = refl
     only other same = absurd (omega (arith, same))
 
 pub of_apart : IsOfTwo 5 Apart
 of_apart = record { only = only; ranked = λ a b. refl; first = λ a b. refl; second = λ a b. refl }
   where
-    only : (i : Instance) → rank i ≡ 5 → Apart (first_of i) (second_of i) ≡ i
+    only : (i : Instance) → law_rank i ≡ 5 → Apart (first_of i) (second_of i) ≡ i
     only (Apart u v) same = refl
     only other same = absurd (omega (arith, same))
 
 pub of_over : IsOfTwo 6 Over
 of_over = record { only = only; ranked = λ a b. refl; first = λ a b. refl; second = λ a b. refl }
   where
-    only : (i : Instance) → rank i ≡ 6 → Over (first_of i) (second_of i) ≡ i
+    only : (i : Instance) → law_rank i ≡ 6 → Over (first_of i) (second_of i) ≡ i
     only (Over e f) same = refl
     only other same = absurd (omega (arith, same))
 
 pub of_parted : IsOfTwo 7 Parted
 of_parted = record { only = only; ranked = λ a b. refl; first = λ a b. refl; second = λ a b. refl }
   where
-    only : (i : Instance) → rank i ≡ 7 → Parted (first_of i) (second_of i) ≡ i
+    only : (i : Instance) → law_rank i ≡ 7 → Parted (first_of i) (second_of i) ≡ i
     only (Parted e f) same = refl
     only other same = absurd (omega (arith, same))
 
@@ -227,7 +227,7 @@ searched_apart q size found told same h =
 
 -- ---- all laws
 
-rank_below : (i : Instance) → rank i < 8
+rank_below : (i : Instance) → law_rank i < 8
 rank_below (NodeOnGrid a) = omega arith
 rank_below (LineOnGrid a) = omega arith
 rank_below (Ordered a b) = omega arith

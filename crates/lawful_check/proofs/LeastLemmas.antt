@@ -6,12 +6,12 @@ use Rattle.plan_core.specs.Graph.{Graph}
 use Rattle.plan_core.specs.Drawing.{Drawing}
 use Rattle.plan_core.specs.Lawful.{Instance, NodeOnGrid, LineOnGrid, Ordered, Joined, Aligned, Apart, Over, Parted, Lawful}
 use Rattle.lawful_check.specs.declared.law_break.LawBreak.{LawBreak}
-use Rattle.lawful_check.specs.Breaks.{rank, first_of, second_of, IsBefore, break_of, IsLeastBroken, IsLeastBreak}
+use Rattle.lawful_check.specs.Breaks.{law_rank, first_of, second_of, IsBefore, break_of, IsLeastBroken, IsLeastBreak}
 
 pub lawful_breaks_none : (g : Graph) (above : ℕ → ℕ → Bool) (grid : GridSize) (d : Drawing) (b : LawBreak) → Lawful g above grid d → IsLeastBreak g above grid d b → ⊥
 lawful_breaks_none g above grid d b lawful broken = broken.least.broken (lawful.laws broken.instance broken.least.is)
 
-same_instance : (i j : Instance) → rank i ≡ rank j → first_of i ≡ first_of j → second_of i ≡ second_of j → i ≡ j
+same_instance : (i j : Instance) → law_rank i ≡ law_rank j → first_of i ≡ first_of j → second_of i ≡ second_of j → i ≡ j
 same_instance (NodeOnGrid n) (NodeOnGrid m) r f s = ap NodeOnGrid f
 same_instance (LineOnGrid n) (LineOnGrid m) r f s = ap LineOnGrid f
 same_instance (Ordered u v) (Ordered n m) r f s = ap (λ (a : ℕ). Ordered a v) f ∙ ap (λ (b : ℕ). Ordered n b) s
@@ -27,17 +27,17 @@ pub data Compared (i j : Instance) : Type 0 where
   Second : IsBefore j i → Compared i j
   Same : i ≡ j → Compared i j
 
-by_second : (i j : Instance) → rank i ≡ rank j → first_of i ≡ first_of j → (second_of i ≡ second_of j) ⊎ ((second_of i < second_of j) ⊎ (second_of j < second_of i)) → Compared i j
+by_second : (i j : Instance) → law_rank i ≡ law_rank j → first_of i ≡ first_of j → (second_of i ≡ second_of j) ⊎ ((second_of i < second_of j) ⊎ (second_of j < second_of i)) → Compared i j
 by_second i j r f (inl s) = Same (same_instance i j r f s)
 by_second i j r f (inr (inl less)) = First (inr (r, inr (f, less)))
 by_second i j r f (inr (inr less)) = Second (inr (sym r, inr (sym f, less)))
 
-by_first : (i j : Instance) → rank i ≡ rank j → (first_of i ≡ first_of j) ⊎ ((first_of i < first_of j) ⊎ (first_of j < first_of i)) → Compared i j
+by_first : (i j : Instance) → law_rank i ≡ law_rank j → (first_of i ≡ first_of j) ⊎ ((first_of i < first_of j) ⊎ (first_of j < first_of i)) → Compared i j
 by_first i j r (inr (inl less)) = First (inr (r, inl less))
 by_first i j r (inr (inr less)) = Second (inr (sym r, inl less))
 by_first i j r (inl f) = by_second i j r f (cases_order (second_of i) (second_of j))
 
-by_rank : (i j : Instance) → (rank i ≡ rank j) ⊎ ((rank i < rank j) ⊎ (rank j < rank i)) → Compared i j
+by_rank : (i j : Instance) → (law_rank i ≡ law_rank j) ⊎ ((law_rank i < law_rank j) ⊎ (law_rank j < law_rank i)) → Compared i j
 by_rank i j (inr (inl less)) = First (inl less)
 by_rank i j (inr (inr less)) = Second (inl less)
 by_rank i j (inl r) = by_first i j r (cases_order (first_of i) (first_of j))
@@ -51,4 +51,4 @@ pub one_least : (g : Graph) (above : ℕ → ℕ → Bool) (grid : GridSize) (d 
 one_least g above grid d b c h k =
     let i = h.instance in
     let j = k.instance in
-    h.named ∙ ap break_of (one_instance g above grid d i j h.least k.least (by_rank i j (cases_order (rank i) (rank j)))) ∙ sym k.named
+    h.named ∙ ap break_of (one_instance g above grid d i j h.least k.least (by_rank i j (cases_order (law_rank i) (law_rank j)))) ∙ sym k.named

@@ -10,15 +10,15 @@ use Rattle.lawful_check.specs.declared.law_break.Party.{Party}
 use Rattle.lawful_check.specs.declared.law_break.Party.TheVariants as party
 
 -- a place for each law; law 1 has two, for it is of nodes first and then of lines
-abbrev pub rank : Instance → ℕ
-rank (NodeOnGrid n) = 0
-rank (LineOnGrid e) = 1
-rank (Ordered u v) = 2
-rank (Joined e) = 3
-rank (Aligned n) = 4
-rank (Apart u v) = 5
-rank (Over e f) = 6
-rank (Parted e f) = 7
+abbrev pub law_rank : Instance → ℕ
+law_rank (NodeOnGrid n) = 0
+law_rank (LineOnGrid e) = 1
+law_rank (Ordered u v) = 2
+law_rank (Joined e) = 3
+law_rank (Aligned n) = 4
+law_rank (Apart u v) = 5
+law_rank (Over e f) = 6
+law_rank (Parted e f) = 7
 
 abbrev pub first_of : Instance → ℕ
 first_of (NodeOnGrid n) = n
@@ -42,7 +42,7 @@ second_of (Over e f) = f
 second_of (Parted e f) = f
 
 abbrev pub IsBefore : Instance → Instance → Type 0
-IsBefore i j = (rank i < rank j) ⊎ ((rank i ≡ rank j) × IsEarlier (first_of i) (second_of i) (first_of j) (second_of j))
+IsBefore i j = (law_rank i < law_rank j) ⊎ ((law_rank i ≡ law_rank j) × IsEarlier (first_of i) (second_of i) (first_of j) (second_of j))
 
 abbrev pub node_party : ℕ → Party
 node_party n = party.Node (record { 0 = n })

@@ -21,7 +21,7 @@ use Rattle.port_graph.specs.declared.runs.Spot.{Spot}
 use Rattle.port_graph.specs.declared.runs.Join.{Join}
 use Rattle.port_graph.specs.declared.sites.Site.{Site}
 use Rattle.port_graph.specs.Spots.{end_spot, inner_spot, spot_at, is_track_end, has_node, leads_to}
-use Rattle.port_graph.specs.Runs.{spots_along, piece_count, piece_number, joined_at, joins, join_number, join_of, edge_beyond}
+use Rattle.port_graph.specs.Runs.{spots_along, piece_count, piece_number, joined_at, joins, join_number, join_of_connection, edge_beyond}
 use Rattle.port_graph.specs.Sites.{end_meeting, inner_meeting, sites}
 use Rattle.port_graph.specs.Sides.{edges_met}
 use Rattle.port_graph.specs.TopologyGraph.{AllForward}
@@ -213,7 +213,7 @@ one_target t resolved p p' c c' from from' same =
     let one : back.0 ≡ back'.0 = same_Some back.0 back'.0 (sym back.1 ∙ ap (connection t) same ∙ back'.1) in
     sym back.2 ∙ ap (λ (d : Conn). d.to) one ∙ back'.2
 
-joins_differ : (t : Topology) → IsResolved t → AllForward t → (k i m m' : ℕ) (track : Track) (x : Inner) (c c' : Conn) → slice_get t.tracks k ≡ Some track → slice_get track.inner i ≡ Some x → slice_get (connections x.what) m ≡ Some c → slice_get (connections x.what) m' ≡ Some c' → inner_place k x.what i m ≢ inner_place k x.what i m' → is_track_end c.to.part ≡ false → is_track_end c'.to.part ≡ false → join_of t c ≢ join_of t c'
+joins_differ : (t : Topology) → IsResolved t → AllForward t → (k i m m' : ℕ) (track : Track) (x : Inner) (c c' : Conn) → slice_get t.tracks k ≡ Some track → slice_get track.inner i ≡ Some x → slice_get (connections x.what) m ≡ Some c → slice_get (connections x.what) m' ≡ Some c' → inner_place k x.what i m ≢ inner_place k x.what i m' → is_track_end c.to.part ≡ false → is_track_end c'.to.part ≡ false → join_of_connection t c ≢ join_of_connection t c'
 joins_differ t resolved forward k i m m' track x c c' here at_i at_m at_m' apart inner inner' same =
     let p : Place = inner_place k x.what i m in
     let p' : Place = inner_place k x.what i m' in

@@ -27,7 +27,7 @@ use Rattle.port_graph.specs.declared.rows.EdgeRow.{EdgeRow}
 use Rattle.port_graph.specs.StationGraph.{IsStationGraph}
 use Rattle.port_graph.specs.Plain.{plain_graph, plain_node, plain_edge, plain_ports, miles_of}
 use Rattle.port_graph.specs.Columns.{mileages, rising, columns_of, AreColumns}
-use Rattle.port_graph.specs.Kept.{ArePlaces, IsKept}
+use Rattle.port_graph.specs.Kept.{ArePlaces, IsKeptGraph}
 use Rattle.port_graph.proofs.RisingLemmas.{Rises, is_in, rising_rises, is_in-rising, same_rising, all_in, or_again, rises_from_pairs, is_in_from, contains_from}
 
 -- ---- the list of columns
@@ -155,7 +155,7 @@ pub columns_of_rows : (nodes : List NodeRow) (edges : List EdgeRow) → columns_
 unfolding columns_of
 columns_of_rows nodes edges = ap rising (sym (miles_plain nodes edges))
 
-pub rows_kept : (nodes : List NodeRow) (edges : List EdgeRow) (columns : ℕ) (numbers : List ColumnNo) → IsStationGraph (plain_graph nodes edges) → columns ≡ length (rising (miles_of nodes)) → ArePlaces (rising (miles_of nodes)) (miles_of nodes) numbers → IsKept (plain_graph nodes edges) columns numbers
+pub rows_kept : (nodes : List NodeRow) (edges : List EdgeRow) (columns : ℕ) (numbers : List ColumnNo) → IsStationGraph (plain_graph nodes edges) → columns ≡ length (rising (miles_of nodes)) → ArePlaces (rising (miles_of nodes)) (miles_of nodes) numbers → IsKeptGraph (plain_graph nodes edges) columns numbers
 rows_kept nodes edges columns numbers station count places = record {
   station = station;
   count = count ∙ ap (λ (l : List ℤ). length l) (sym (columns_of_rows nodes edges));

@@ -19,7 +19,7 @@ use Rattle.port_graph.specs.declared.fault.GraphFault.TheVariants.{NotForward, S
 use Rattle.port_graph.specs.declared.runs.Run.{Run}
 use Rattle.port_graph.specs.declared.runs.Join.{Join}
 use Rattle.port_graph.specs.declared.sites.Site.{Site}
-use Rattle.port_graph.specs.Runs.{pieces, joins, edge_count}
+use Rattle.port_graph.specs.Runs.{pieces_of_tracks, joins, edge_count}
 use Rattle.port_graph.specs.Sites.{sites}
 use Rattle.port_graph.specs.TopologyGraph.{edge_of, side_at, IsForward, IsGraphOf, IsGraphFault}
 use Rattle.port_graph.specs.Ordered.{AreRunsOf, nodes_among}
@@ -76,7 +76,7 @@ order_up {A} key xs i j d le within = elim (cases_order i j) [
 
 -- runs and sites in order
 abbrev pub runs_of : Topology → List Run
-runs_of t = pieces t ++ map (λ (j : Join). j.run) (in_order_by (λ (j : Join). j.at) (joins t))
+runs_of t = pieces_of_tracks t ++ map (λ (j : Join). j.run) (in_order_by (λ (j : Join). j.at) (joins t))
 
 abbrev pub sites_of : Topology → List Site
 sites_of t = in_order_by (λ (s : Site). s.spot.at) (sites t)

@@ -31,5 +31,6 @@ pub mod MirroredTopology
 pub mod MirroredGraph
 pub mod OneGraph
 pub mod TurnedTwice
+pub mod MirroredTwice
 pub mod ResolvedTest
 pub mod GraphTest

@@ -20,7 +20,7 @@ use Rattle.plan_core.proofs.PlaceFacts.{same_place}
 use Rattle.port_graph.specs.declared.runs.Spot.{Spot}
 use Rattle.port_graph.specs.declared.sites.Site.{Site}
 use Rattle.port_graph.specs.Spots.{end_spot, inner_spot, spot_at, is_track_end, is_listed_before, is_node, has_node, leads_to}
-use Rattle.port_graph.specs.Runs.{piece_number, last_piece, join_of, edge_toward, edge_beyond}
+use Rattle.port_graph.specs.Runs.{piece_number, last_piece, join_of_connection, edge_toward, edge_beyond}
 use Rattle.port_graph.specs.Sites.{end_meeting, end_sites, inner_meeting, inner_site, track_sites, sites}
 use Rattle.port_graph.specs.Sides.{edges_met}
 use Rattle.port_graph.proofs.Membership.{In, in_left, in_right, in_append, in_map, in_numbered, numbered_in}
@@ -39,14 +39,14 @@ toward_end t c k false = refl
 pub beyond_end : (t : Topology) (c : Conn) (k : ℕ) (last : Bool) → c.to.track ≡ k → c.to.part ≡ end_part last → edge_beyond t c ≡ own t k last
 beyond_end t c k last at_k on = ap (λ (n : ℕ). edge_toward t c n c.to.part) at_k ∙ ap (edge_toward t c k) on ∙ toward_end t c k last
 
-toward_inner : (t : Topology) (c : Conn) (k : ℕ) (part : Part) → is_track_end part ≡ false → edge_toward t c k part ≡ join_of t c
+toward_inner : (t : Topology) (c : Conn) (k : ℕ) (part : Part) → is_track_end part ≡ false → edge_toward t c k part ≡ join_of_connection t c
 toward_inner t c k Begin is = absurd (false≢true (sym is))
 toward_inner t c k End is = absurd (false≢true (sym is))
 toward_inner t c k (Branch i) is = refl
 toward_inner t c k (Incoming i) is = refl
 toward_inner t c k (Outgoing i) is = refl
 
-pub beyond_inner : (t : Topology) (c : Conn) → is_track_end c.to.part ≡ false → edge_beyond t c ≡ join_of t c
+pub beyond_inner : (t : Topology) (c : Conn) → is_track_end c.to.part ≡ false → edge_beyond t c ≡ join_of_connection t c
 beyond_inner t c is = toward_inner t c c.to.track c.to.part is
 
 pub last_is : (t : Topology) (k : ℕ) (track : Track) → slice_get t.tracks k ≡ Some track → last_piece t k ≡ piece_number t k (length track.inner)

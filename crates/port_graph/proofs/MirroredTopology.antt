@@ -21,7 +21,7 @@ use Rattle.port_graph.specs.declared.sites.Site.{Site}
 use Rattle.port_graph.specs.declared.sites.Meeting.{Meeting}
 use Rattle.port_graph.specs.declared.sites.Meeting.TheVariants as meeting
 use Rattle.port_graph.specs.Spots.{end_spot, inner_spot, spot_on, spot_at, is_track_end, is_listed_before, is_node, has_node, joined_spot, leads_to}
-use Rattle.port_graph.specs.Runs.{spots_along, runs_between, track_pieces, pieces, piece_count, piece_number, joined_at, begins_join, begun_join, inner_joins, track_joins, joins, join_number, edge_count, last_piece, join_of, edge_toward, edge_beyond}
+use Rattle.port_graph.specs.Runs.{spots_along, runs_between, track_pieces, pieces_of_tracks, piece_count, piece_number, joined_at, begins_join, begun_join, inner_joins, track_joins, joins, join_number, edge_count, last_piece, join_of_connection, edge_toward, edge_beyond}
 use Rattle.port_graph.specs.Sites.{edge_no, end_meeting, end_sites, inner_meeting, inner_site, track_sites, sites, node_number}
 use Rattle.port_graph.specs.Mirrored.{other_hand, mirrored_kind, mirrored_inner, mirrored_track, mirrored_topology}
 use Rattle.port_graph.proofs.TurnedLists.{map_turned, flat_turned, flat_alike, flat_equal, map_alike, sum_turned, count_turned, enumerate_turned, option_alike, read_alike}
@@ -104,7 +104,7 @@ spots_along-mirrored t track =
     ∙ ap (λ (l : List Spot). leads_to t track.begin ∷ (l ++ leads_to (mirrored_topology t) track.end ∷ [])) (map_alike mirrored_inner inner_spot inner_spot (λ x. refl) track.inner)
     ∙ ap (λ (s : Spot). leads_to t track.begin ∷ (map inner_spot track.inner ++ s ∷ [])) (leads_to-mirrored t track.end)
 
-pub pieces-mirrored : (t : Topology) → pieces (mirrored_topology t) ≡ pieces t
+pub pieces-mirrored : (t : Topology) → pieces_of_tracks (mirrored_topology t) ≡ pieces_of_tracks t
 pieces-mirrored t =
     flat_alike mirrored_track (track_pieces (mirrored_topology t)) (track_pieces t) (λ track. ap (runs_between track.id) (spots_along-mirrored t track)) t.tracks
 
@@ -168,7 +168,7 @@ last_piece-mirrored t k =
     inner_count (track ∷ tracks) zero = length-map track.inner mirrored_inner
     inner_count (track ∷ tracks) (suc k) = inner_count tracks k
 
-join_of-mirrored : (t : Topology) (c : Conn) → join_of (mirrored_topology t) c ≡ join_of t c
+join_of-mirrored : (t : Topology) (c : Conn) → join_of_connection (mirrored_topology t) c ≡ join_of_connection t c
 join_of-mirrored t c =
     join_number-mirrored t (min c.at (joined_at (mirrored_topology t) c)) ∙ ap (λ (n : ℕ). join_number t (min c.at n)) (joined_at-mirrored t c)
 

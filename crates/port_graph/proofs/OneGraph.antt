@@ -12,7 +12,7 @@ use Rattle.port_graph.specs.declared.runs.Run.{Run}
 use Rattle.port_graph.specs.declared.runs.Join.{Join}
 use Rattle.port_graph.specs.declared.sites.Site.{Site}
 use Rattle.port_graph.specs.PortRule.{ports_of}
-use Rattle.port_graph.specs.Runs.{pieces, joins, join_number}
+use Rattle.port_graph.specs.Runs.{pieces_of_tracks, joins, join_number}
 use Rattle.port_graph.specs.Sites.{sites, node_number}
 use Rattle.port_graph.specs.TopologyGraph.{IsRun, AreEdgesOf, side_at, IsNodeOf, IsGraphOf, IsStationGraphOf, IsFirstLevel, IsFirstMismatch, IsGraphFault}
 use Rattle.plan_core.specs.Exactly.{AnswersExactly}
@@ -105,12 +105,12 @@ one_join t resolved j j' there there' same =
 pub one_run : (t : Topology) → IsResolved t → (e : ℕ) (r r' : Run) → IsRun t e r → IsRun t e r' → r ≡ r'
 one_run t resolved e r r' (inl piece) (inl piece') = same_Some r r' (sym piece ∙ piece')
 one_run t resolved e r r' (inl piece) (inr join) =
-    let within = slice_get_within (pieces t) e r piece in
+    let within = slice_get_within (pieces_of_tracks t) e r piece in
     let total = length-pieces t in
     let number : join_number t join.0.at ≡ e = join.2 in
     absurd (omega (arith, within, total, number))
 one_run t resolved e r r' (inr join) (inl piece) =
-    let within = slice_get_within (pieces t) e r' piece in
+    let within = slice_get_within (pieces_of_tracks t) e r' piece in
     let total = length-pieces t in
     let number : join_number t join.0.at ≡ e = join.2 in
     absurd (omega (arith, within, total, number))

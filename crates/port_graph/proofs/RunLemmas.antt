@@ -15,7 +15,7 @@ use Rattle.port_graph.specs.declared.runs.Spot.{Spot}
 use Rattle.port_graph.specs.declared.runs.Run.{Run}
 use Rattle.port_graph.specs.declared.runs.Join.{Join}
 use Rattle.port_graph.specs.Spots.{inner_spot, spot_at, leads_to}
-use Rattle.port_graph.specs.Runs.{spots_along, runs_between, track_pieces, pieces, piece_count, piece_number, begins_join, begun_join, inner_joins, track_joins, joins}
+use Rattle.port_graph.specs.Runs.{spots_along, runs_between, track_pieces, pieces_of_tracks, piece_count, piece_number, begins_join, begun_join, inner_joins, track_joins, joins}
 use Rattle.port_graph.proofs.Membership.{In, in_at, in_flat, flat_in}
 
 -- ---- lists of parts, by numbers
@@ -114,7 +114,7 @@ counts_from t (track ∷ tracks) =
     let sums = sum_by-cons piece_count track tracks in
     omega (arith, all, sums, length-track_pieces t track, counts_from t tracks)
 
-pub length-pieces : (t : Topology) → length (pieces t) ≡ sum_by piece_count t.tracks
+pub length-pieces : (t : Topology) → length (pieces_of_tracks t) ≡ sum_by piece_count t.tracks
 length-pieces t = counts_from t t.tracks
 
 -- ---- the spots along a track
@@ -146,7 +146,7 @@ spot_cases t track i s is = mid track.inner i is
 
 -- ---- pieces
 
-pub piece_at : (t : Topology) (k i : ℕ) (track : Track) (a b : Spot) → slice_get t.tracks k ≡ Some track → slice_get (spots_along t track) i ≡ Some a → slice_get (spots_along t track) (suc i) ≡ Some b → slice_get (pieces t) (piece_number t k i) ≡ Some (record { track = track.id; from = a; to = b })
+pub piece_at : (t : Topology) (k i : ℕ) (track : Track) (a b : Spot) → slice_get t.tracks k ≡ Some track → slice_get (spots_along t track) i ≡ Some a → slice_get (spots_along t track) (suc i) ≡ Some b → slice_get (pieces_of_tracks t) (piece_number t k i) ≡ Some (record { track = track.id; from = a; to = b })
 piece_at t k i track a b here is is' =
     let run = spots_run track.id (spots_along t track) i a b is is' in
     flat_at (track_pieces t) piece_count (length-track_pieces t) t.tracks k i (piece_number t k i) track here (slice_get_within (track_pieces t track) i (record { track = track.id; from = a; to = b }) run) refl ∙ run
@@ -161,7 +161,7 @@ pub record IsPiece (t : Topology) (e : ℕ) (r : Run) : Type 0 where
   pub from : slice_get (spots_along t track) i ≡ Some r.from
   pub to : slice_get (spots_along t track) (suc i) ≡ Some r.to
 
-pub piece_of : (t : Topology) (e : ℕ) (r : Run) → slice_get (pieces t) e ≡ Some r → IsPiece t e r
+pub piece_of : (t : Topology) (e : ℕ) (r : Run) → slice_get (pieces_of_tracks t) e ≡ Some r → IsPiece t e r
 piece_of t e r is =
     let p = at_flat (track_pieces t) piece_count (length-track_pieces t) t.tracks e r is in
     let spots = runs_spots p.2.id (spots_along t p.2) p.1 r p.4 in

@@ -17,7 +17,7 @@ use Rattle.port_graph.specs.declared.runs.Run.{Run}
 use Rattle.port_graph.specs.declared.runs.Join.{Join}
 use Rattle.port_graph.specs.declared.sites.Site.{Site}
 use Rattle.port_graph.specs.StationGraph.{IsStationGraph}
-use Rattle.port_graph.specs.Runs.{runs_between, track_pieces, pieces, joins}
+use Rattle.port_graph.specs.Runs.{runs_between, track_pieces, pieces_of_tracks, joins}
 use Rattle.port_graph.specs.Sites.{sites, node_number}
 use Rattle.port_graph.specs.TopologyGraph.{edge_of, IsRun, HasFewNodes, HasFewEdges}
 use Rattle.port_graph.specs.Ordered.{AreRunsOf, nodes_among}
@@ -50,7 +50,7 @@ joins_named t resolved =
 
 run_named : (t : Topology) → IsResolved t → (e : ℕ) (r : Run) → IsRun t e r → IsId r.track
 run_named t resolved e r (inl piece) =
-    subst (λ (q : Run). IsId q.track) (get_or_from_slice_get (pieces t) e r r piece) (pieces_named t t.tracks resolved.ids e r (slice_get_within (pieces t) e r piece))
+    subst (λ (q : Run). IsId q.track) (get_or_from_slice_get (pieces_of_tracks t) e r r piece) (pieces_named t t.tracks resolved.ids e r (slice_get_within (pieces_of_tracks t) e r piece))
 run_named t resolved e r (inr (j, there, number, run)) =
     subst (λ (q : Run). IsId q.track) (ap (λ (i : Join). i.run) there.2 ∙ run) (joins_named t resolved there.0 j there.1)
 

@@ -15,7 +15,7 @@ use Rattle.port_graph.specs.declared.runs.Spot.{Spot}
 use Rattle.port_graph.specs.declared.runs.Run.{Run}
 use Rattle.port_graph.specs.declared.runs.Join.{Join}
 use Rattle.port_graph.specs.declared.sites.Site.{Site}
-use Rattle.port_graph.specs.Runs.{pieces, piece_count, joins, join_number, edge_count}
+use Rattle.port_graph.specs.Runs.{pieces_of_tracks, piece_count, joins, join_number, edge_count}
 use Rattle.port_graph.specs.Sides.{edges_met}
 use Rattle.port_graph.specs.Sites.{sites, node_number}
 use Rattle.port_graph.specs.TopologyGraph.{west_of, east_of, edge_of, IsRun, AreEdgesOf, side_at, IsNodeOf, IsGraphOf, IsForward, AllForward}
@@ -36,7 +36,7 @@ pub numbered_run : (t : Topology) → IsResolved t → (e : ℕ) → e < edge_co
 numbered_run t resolved e within =
     let total = length-pieces t in
     elim (cases_lt e (sum_by piece_count t.tracks)) [
-      | inl less ↦ let r = get_within (pieces t) e (omega (arith, total)) in (r.0, inl r.1)
+      | inl less ↦ let r = get_within (pieces_of_tracks t) e (omega (arith, total)) in (r.0, inl r.1)
       | inr more ↦
           let j = ranked (λ (j : Join). j.at) (joins t) (join_places_differ t resolved) (e - sum_by piece_count t.tracks) (omega arith) in
           let is = j.2 in
@@ -46,7 +46,7 @@ numbered_run t resolved e within =
 
 pub run_within : (t : Topology) (e : ℕ) (r : Run) → IsRun t e r → e < edge_count t
 run_within t e r (inl piece) =
-    let within = slice_get_within (pieces t) e r piece in
+    let within = slice_get_within (pieces_of_tracks t) e r piece in
     let total = length-pieces t in
     omega (arith, within, total)
 run_within t e r (inr join) =

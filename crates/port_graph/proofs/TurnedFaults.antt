@@ -14,7 +14,7 @@ use Rattle.port_graph.specs.declared.runs.Run.{Run}
 use Rattle.port_graph.specs.declared.runs.Join.{Join}
 use Rattle.port_graph.specs.declared.sites.Site.{Site}
 use Rattle.port_graph.specs.PortRule.{ports_of}
-use Rattle.port_graph.specs.Runs.{pieces, joins}
+use Rattle.port_graph.specs.Runs.{pieces_of_tracks, joins}
 use Rattle.port_graph.specs.Sites.{sites, node_number}
 use Rattle.port_graph.specs.TopologyGraph.{IsRun, side_at, IsForward, AllForward, IsFirstLevel, IsFirstMismatch, IsGraphFault}
 use Rattle.port_graph.specs.Turned.{turned_topology, turned_ports, turned_edge, turned_fault}
@@ -29,7 +29,7 @@ length-sites t = ap (λ (l : List Site). length l) (sites-turned t) ∙ length-m
 -- each run of the topology is, turned, a run of the turned one, of the same number
 IsRun-forth : (t : Topology) (e : ℕ) (r : Run) → IsRun t e r → IsRun (turned_topology t) e (turned_run r)
 IsRun-forth t e r (inl piece) =
-    inl (ap (λ (l : List Run). slice_get l e) (pieces-turned t) ∙ slice_get-map turned_run (pieces t) e ∙ ap (option_map turned_run) piece)
+    inl (ap (λ (l : List Run). slice_get l e) (pieces-turned t) ∙ slice_get-map turned_run (pieces_of_tracks t) e ∙ ap (option_map turned_run) piece)
 IsRun-forth t e r (inr join) =
     inr (turned_join join.0, subst (λ (l : List Join). Contains l (turned_join join.0)) (sym (joins-turned t)) (Contains-map turned_join (joins t) join.0 join.1), join_number-turned t join.0.at ∙ join.2, ap turned_run join.3)
 

@@ -22,7 +22,7 @@ use Rattle.port_graph.specs.declared.runs.Join.{Join}
 use Rattle.port_graph.specs.declared.sites.Site.{Site}
 use Rattle.port_graph.specs.declared.sites.Meeting.{Meeting}
 use Rattle.port_graph.specs.declared.sites.Meeting.TheVariants as meeting
-use Rattle.port_graph.specs.Runs.{pieces, joins}
+use Rattle.port_graph.specs.Runs.{pieces_of_tracks, joins}
 use Rattle.port_graph.specs.Sites.{node_number}
 use Rattle.port_graph.specs.PortRule.{ports_of, joint_ports, side_of_hand, switch_ports, crossing_ports}
 use Rattle.port_graph.specs.Sides.{edges_met}
@@ -117,8 +117,8 @@ edge_of-turned t r forward =
 -- a run of the turned topology is, turned, a run of the topology, of the same number
 pub IsRun-turned : (t : Topology) (e : ℕ) (r : Run) → IsRun (turned_topology t) e r → IsRun t e (turned_run r)
 IsRun-turned t e r (inl piece) =
-    inl (some_back turned_run run_twice (slice_get (pieces t) e) r
-    (sym (slice_get-map turned_run (pieces t) e) ∙ ap (λ (l : List Run). slice_get l e) (sym (pieces-turned t)) ∙ piece))
+    inl (some_back turned_run run_twice (slice_get (pieces_of_tracks t) e) r
+    (sym (slice_get-map turned_run (pieces_of_tracks t) e) ∙ ap (λ (l : List Run). slice_get l e) (sym (pieces-turned t)) ∙ piece))
 IsRun-turned t e r (inr join) =
     let there = contains_back turned_join join_twice (joins t) join.0 (subst (λ (l : List Join). Contains l join.0) (joins-turned t) join.1) in
     inr (turned_join join.0, there, sym (join_number-turned t join.0.at) ∙ join.2, ap turned_run join.3)

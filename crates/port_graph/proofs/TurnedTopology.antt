@@ -22,7 +22,7 @@ use Rattle.port_graph.specs.declared.sites.Site.{Site}
 use Rattle.port_graph.specs.declared.sites.Meeting.{Meeting}
 use Rattle.port_graph.specs.declared.sites.Meeting.TheVariants as meeting
 use Rattle.port_graph.specs.Spots.{end_spot, inner_spot, spot_on, spot_at, is_track_end, is_listed_before, is_node, has_node, joined_spot, leads_to}
-use Rattle.port_graph.specs.Runs.{spots_along, runs_between, track_pieces, pieces, piece_count, piece_number, joined_at, begins_join, begun_join, inner_joins, track_joins, joins, join_number, edge_count, last_piece, join_of, edge_toward, edge_beyond}
+use Rattle.port_graph.specs.Runs.{spots_along, runs_between, track_pieces, pieces_of_tracks, piece_count, piece_number, joined_at, begins_join, begun_join, inner_joins, track_joins, joins, join_number, edge_count, last_piece, join_of_connection, edge_toward, edge_beyond}
 use Rattle.port_graph.specs.Sites.{edge_no, end_meeting, end_sites, inner_meeting, inner_site, track_sites, sites, node_number}
 use Rattle.port_graph.specs.Turned.{turned_mile, turned_end, turned_inner, turned_track, turned_topology}
 use Rattle.port_graph.proofs.TurnedLists.{map_turned, flat_turned, flat_same, sum_turned, count_turned, enumerate_turned, option_turned, read_alike, read_turned}
@@ -117,7 +117,7 @@ runs_between-turned name (from ∷ []) = refl
 runs_between-turned name (from ∷ to ∷ rest) =
     ap (λ (l : List Run). record { track = name; from = turned_spot from; to = turned_spot to } ∷ l) (runs_between-turned name (to ∷ rest))
 
-pub pieces-turned : (t : Topology) → pieces (turned_topology t) ≡ map turned_run (pieces t)
+pub pieces-turned : (t : Topology) → pieces_of_tracks (turned_topology t) ≡ map turned_run (pieces_of_tracks t)
 pieces-turned t =
     flat_turned turned_track (track_pieces (turned_topology t)) turned_run (track_pieces t)
     (λ track. ap (runs_between track.id) (spots_along-turned t track) ∙ runs_between-turned track.id (spots_along t track)) t.tracks
@@ -188,7 +188,7 @@ last_piece-turned t k =
     inner_count (track ∷ tracks) zero = length-map track.inner turned_inner
     inner_count (track ∷ tracks) (suc k) = inner_count tracks k
 
-join_of-turned : (t : Topology) (c : Conn) → join_of (turned_topology t) c ≡ join_of t c
+join_of-turned : (t : Topology) (c : Conn) → join_of_connection (turned_topology t) c ≡ join_of_connection t c
 join_of-turned t c =
     join_number-turned t (min c.at (joined_at (turned_topology t) c)) ∙ ap (λ (n : ℕ). join_number t (min c.at n)) (joined_at-turned t c)
 

@@ -14,7 +14,7 @@ use Rattle.plan_core.specs.Graph.{Graph, Node, Edge, Ports, End, Joint, Switch, 
 use Rattle.port_graph.specs.Turned.{turned_end, turned_inner, turned_track, turned_topology, other_side, turned_ports, turned_node, turned_edge, turned_graph}
 use Rattle.port_graph.proofs.TurnedGraph.{mile_twice}
 
-map_twice : {X : Type 0} (f : X → X) → ((x : X) → f (f x) ≡ x) → (xs : List X) → map f (map f xs) ≡ xs
+pub map_twice : {X : Type 0} (f : X → X) → ((x : X) → f (f x) ≡ x) → (xs : List X) → map f (map f xs) ≡ xs
 map_twice f twice [] = refl
 map_twice {X} f twice (x ∷ xs) = ap (λ (y : X). y ∷ map f (map f xs)) (twice x) ∙ ap (λ (ys : List X). x ∷ ys) (map_twice f twice xs)
 
@@ -38,7 +38,7 @@ opposite_twice : (c : Compass) → opposite (opposite c) ≡ c
 opposite_twice East = refl
 opposite_twice West = refl
 
-side_twice : (s : Side) → other_side (other_side s) ≡ s
+pub side_twice : (s : Side) → other_side (other_side s) ≡ s
 side_twice Upper = refl
 side_twice Lower = refl
 

@@ -50,8 +50,8 @@ abbrev pub topology : List Track → Topology
 topology tracks = record { tracks = tracks }
 
 -- the graph with these names of nodes and of tracks
-abbrev pub named : List (List ℕ) → List (List ℕ) → Graph → Graph
-named nodes tracks g = record {
+abbrev pub with_names : List (List ℕ) → List (List ℕ) → Graph → Graph
+with_names nodes tracks g = record {
   nodes = map (λ (x : List ℕ × Node). record x.1 { name = x.0 }) (zip nodes g.nodes);
   edges = map (λ (x : List ℕ × Edge). record x.1 { track = x.0 }) (zip tracks g.edges);
 }
@@ -258,5 +258,5 @@ loop_tracks (suc n) k =
     (joined_end [] (20003 + 5 * k) (at_mile ((2 * k + 2) * 1000000000)) (conn [] (20004 + 5 * k) 0 (Branch (2 * k + 1)))) []
     ∷ loop_tracks n (k + 1)
 
-abbrev pub loops : ℕ → List Track
-loops n = track [] 0 (open_end [] 1 (at_mile 0)) (open_end [] 2 (at_mile 900000000000)) (loop_switches n 0) ∷ loop_tracks n 0
+abbrev pub tracks_with_loops : ℕ → List Track
+tracks_with_loops n = track [] 0 (open_end [] 1 (at_mile 0)) (open_end [] 2 (at_mile 900000000000)) (loop_switches n 0) ∷ loop_tracks n 0

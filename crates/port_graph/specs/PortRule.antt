@@ -31,14 +31,14 @@ switch_ports hand trunk straight diverging East West West = Some (Switch West (s
 switch_ports hand trunk straight diverging _ _ _ = None
 
 -- two paths that cross, each by its west and its east edge
-abbrev pub crossed : (rising_west rising_east falling_west falling_east : ℕ) → Ports
-crossed rising_west rising_east falling_west falling_east = Crossing falling_west rising_west rising_east falling_east
+abbrev pub ports_of_paths : (rising_west rising_east falling_west falling_east : ℕ) → Ports
+ports_of_paths rising_west rising_east falling_west falling_east = Crossing falling_west rising_west rising_east falling_east
 
 -- where the other path leaves a crossing's own track to the left it is the rising one, to the right its
 -- own track is; of each path the west edge stands before the east one
 abbrev pub paths_crossed : Hand → (own_west own_east other_west other_east : ℕ) → Ports
-paths_crossed Left own_west own_east other_west other_east = crossed other_west other_east own_west own_east
-paths_crossed Right own_west own_east other_west other_east = crossed own_west own_east other_west other_east
+paths_crossed Left own_west own_east other_west other_east = ports_of_paths other_west other_east own_west own_east
+paths_crossed Right own_west own_east other_west other_east = ports_of_paths own_west own_east other_west other_east
 
 -- each path of a crossing has an edge on each side, and the outgoing edge lies on the side of the
 -- track's piece after the crossing

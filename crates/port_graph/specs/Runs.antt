@@ -30,8 +30,8 @@ abbrev pub track_pieces : Topology → Track → List Run
 track_pieces t track = runs_between track.id (spots_along t track)
 
 -- the pieces track by track, each from begin to end; this is the order of their numbers
-abbrev pub pieces : Topology → List Run
-pieces t = flat_map (track_pieces t) t.tracks
+abbrev pub pieces_of_tracks : Topology → List Run
+pieces_of_tracks t = flat_map (track_pieces t) t.tracks
 
 -- how many pieces a track has: one more than its switches and crossings
 abbrev pub piece_count : Track → ℕ
@@ -88,15 +88,15 @@ abbrev pub last_piece : Topology → ℕ → ℕ
 last_piece t k = piece_number t k (option_map_or (λ (track : Track). length track.inner) (slice_get t.tracks k) 0)
 
 -- the number of the join that a connection begins or ends
-abbrev pub join_of : Topology → Conn → ℕ
-join_of t c = join_number t (min c.at (joined_at t c))
+abbrev pub join_of_connection : Topology → Conn → ℕ
+join_of_connection t c = join_number t (min c.at (joined_at t c))
 
 abbrev pub edge_toward : Topology → Conn → ℕ → Part → ℕ
 edge_toward t c track Begin = piece_number t track 0
 edge_toward t c track End = last_piece t track
-edge_toward t c track (Branch i) = join_of t c
-edge_toward t c track (Incoming i) = join_of t c
-edge_toward t c track (Outgoing i) = join_of t c
+edge_toward t c track (Branch i) = join_of_connection t c
+edge_toward t c track (Incoming i) = join_of_connection t c
+edge_toward t c track (Outgoing i) = join_of_connection t c
 
 -- the edge along which a connection leads away from its switch, its crossing or its track's end
 abbrev pub edge_beyond : Topology → Conn → ℕ

@@ -11,7 +11,7 @@ use Rattle.port_graph.specs.declared.runs.Join.{Join}
 use Rattle.port_graph.specs.declared.sites.Site.{Site}
 use Rattle.port_graph.specs.declared.fault.GraphFault.{GraphFault}
 use Rattle.port_graph.specs.declared.fault.GraphFault.TheVariants.{TooManyNodes, TooManyEdges, NotForward, SideMismatch, Memory}
-use Rattle.port_graph.specs.Runs.{pieces, joins, join_number, edge_count}
+use Rattle.port_graph.specs.Runs.{pieces_of_tracks, joins, join_number, edge_count}
 use Rattle.port_graph.specs.Sites.{sites, number_among, node_number}
 use Rattle.port_graph.specs.PortRule.{ports_of}
 use Rattle.port_graph.specs.StationGraph.{IsStationGraph}
@@ -32,7 +32,7 @@ edge_of t r = edge_among (sites t) r
 
 -- the run that becomes the edge of this number
 abbrev pub IsRun : Topology → ℕ → Run → Type 0
-IsRun t e r = (slice_get (pieces t) e ≡ Some r) ⊎ ((j : Join) × Contains (joins t) j × (join_number t j.at ≡ e) × (j.run ≡ r))
+IsRun t e r = (slice_get (pieces_of_tracks t) e ≡ Some r) ⊎ ((j : Join) × Contains (joins t) j × (join_number t j.at ≡ e) × (j.run ≡ r))
 
 -- the list has an edge for each piece and each join, at its number
 pub record AreEdgesOf (t : Topology) (edges : List Edge) : Type 0 where

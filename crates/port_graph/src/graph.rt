@@ -28,11 +28,11 @@ impl Model for PortGraph {
     ghost Value = { Graph };
 
     ghost use Rattle.port_graph.specs.Plain.{plain_graph};
-    ghost use Rattle.port_graph.specs.Kept.{IsKept};
+    ghost use Rattle.port_graph.specs.Kept.{IsKeptGraph};
 
     ghost view = { λ g. plain_graph g.nodes.items g.edges.items };
 
-    ghost invariant = { λ g. IsKept (plain_graph g.nodes.items g.edges.items) g.columns g.numbers.items };
+    ghost invariant = { λ g. IsKeptGraph (plain_graph g.nodes.items g.edges.items) g.columns g.numbers.items };
 }
 
 impl PortGraph {

@@ -48,9 +48,11 @@ pub fn columns_count_from_the_other_end()
 {}
 
 /// With every hand exchanged and mileages kept, a topology's graph has upper and lower exchanged, and no more; and its
-/// fault is the same.
+/// fault is the same. With every hand exchanged twice, a station is as it was.
 pub fn hands_exchanged()
     ensures topology { (t : ATopology) → IsResolved t → IsResolved (mirrored_topology t) }
     ensures graph { (t : ATopology) (g : Graph) → IsStationGraphOf t g → IsStationGraphOf (mirrored_topology t) (mirrored_graph g) }
     ensures fault { (t : ATopology) (fault : AFault) → IsGraphFault t fault → IsGraphFault (mirrored_topology t) fault }
+    ensures topology_twice { (t : ATopology) → mirrored_topology (mirrored_topology t) ≡ t }
+    ensures graph_twice { (g : Graph) → mirrored_graph (mirrored_graph g) ≡ g }
 {}

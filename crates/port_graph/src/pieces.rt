@@ -1,7 +1,7 @@
 // The pieces into which nodes cut the tracks.
 ghost use Rattle.std.specs.Prelude.{◌≡◌, ℕ, ◌<◌, ◌∷◌, ◌++◌, [], map, length, OnOk, IfOk};
 ghost use Rattle.port_graph.specs.Spots.{inner_spot as spot_of_inner, leads_to as node_of};
-ghost use Rattle.port_graph.specs.Runs.{runs_between, track_pieces as pieces_on, pieces as all_pieces};
+ghost use Rattle.port_graph.specs.Runs.{runs_between, track_pieces as pieces_on, pieces_of_tracks as all_pieces};
 
 use crate::spots::{inner_spot, leads_to};
 use crate::{Run, Spot};

@@ -8,7 +8,7 @@ use Rattle.std.proofs.Math.ListN.{get_or-eq_default}
 use Rattle.std.proofs.Math.Seq.{take-suc}
 use Rattle.plan_core.specs.Graph.{Graph}
 use Rattle.plan_core.specs.declared.sides.Compass.{Compass}
-use Rattle.track_order.specs.Reach.{Follows, IsWalk, Reaches, begin_of, end_of}
+use Rattle.track_order.specs.Reach.{EdgeFollows, IsWalk, Reaches, begin_of_edge, end_of_edge}
 use Rattle.track_order.specs.Tables.{is_marked, IsMarked}
 use Rattle.track_order.specs.Filling.{IsBehind, IsReachRow, IsWalkOrder, IsFilling}
 use Rattle.track_order.proofs.ReachLemmas.{reaches_self, reaches_on}
@@ -16,13 +16,13 @@ use Rattle.track_order.proofs.ReachLemmas.{reaches_self, reaches_on}
 -- how a walk comes to its last edge
 pub data Arrives (g : Graph) (way : Compass) (e f : ℕ) : Type 0 where
   At : e ≡ f → Arrives g way e f
-  From : (h : ℕ) → h < length g.edges → Reaches g way e h → Follows g way h f → Arrives g way e f
+  From : (h : ℕ) → h < length g.edges → Reaches g way e h → EdgeFollows g way h f → Arrives g way e f
 
 arrives_by : (g : Graph) (way : Compass) (e f : ℕ) (edges : List ℕ) → e < length g.edges → IsWalk g way e edges f → Arrives g way e f
 arrives_by g way e f [] lt w = At w
 arrives_by g way e f (next ∷ rest) lt w =
     elim (arrives_by g way next f rest w.0 w.2) [
-      | At same ↦ From e lt (reaches_self g way e) (subst (λ (x : ℕ). Follows g way e x) same w.1)
+      | At same ↦ From e lt (reaches_self g way e) (subst (λ (x : ℕ). EdgeFollows g way e x) same w.1)
       | From h there r follows ↦ From h there (record { edges = next ∷ r.edges; walk = (w.0, w.1, r.walk) }) follows
     ]
 
@@ -40,12 +40,12 @@ pub marked_before : (marks : List Bool) (i j : ℕ) → i < length marks → IsM
 marked_before marks i j lt marked = grind (arith, get_or-set_other)
 
 -- the row as it is before the first edge is done
-pub filling_begins : (g : Graph) (way : Compass) (start : ℕ) (edges nodes : List Bool) → start < length g.edges → end_of g way start < length g.nodes →
+pub filling_begins : (g : Graph) (way : Compass) (start : ℕ) (edges nodes : List Bool) → start < length g.edges → end_of_edge g way start < length g.nodes →
     length edges ≡ length g.edges → length nodes ≡ length g.nodes → ((i : ℕ) → is_marked edges i ≡ false) → ((i : ℕ) → is_marked nodes i ≡ false) →
-    IsFilling g way start [] (slice_set edges start true) (slice_set nodes (end_of g way start) true)
+    IsFilling g way start [] (slice_set edges start true) (slice_set nodes (end_of_edge g way start) true)
 filling_begins g way start edges nodes lt node_lt edge_size node_size no_edge no_node =
     let edge_there : start < length edges = omega arith in
-    let node_there : end_of g way start < length nodes = omega arith in
+    let node_there : end_of_edge g way start < length nodes = omega arith in
     let only : (f : ℕ) → IsMarked (slice_set edges start true) f → start ≡ f =
     (λ f marked. elim (marked_before edges start f edge_there marked) [ inl same ↦ same | inr was ↦ absurd (grind (arith, no_edge f)) ]) in
     record {
@@ -54,8 +54,8 @@ filling_begins g way start edges nodes lt node_lt edge_size node_size no_edge no
       begun = marked_here edges start edge_there;
       sound = λ f _ marked. subst (λ (x : ℕ). Reaches g way start x) (only f marked) (reaches_self g way start);
       full = λ f among r. absurd (search rules);
-      ends = λ f _ marked. subst (λ (x : ℕ). IsMarked (slice_set nodes (end_of g way start) true) (end_of g way x)) (only f marked) (marked_here nodes (end_of g way start) node_there);
-      cause = λ n marked. elim (marked_before nodes (end_of g way start) n node_there marked) [
+      ends = λ f _ marked. subst (λ (x : ℕ). IsMarked (slice_set nodes (end_of_edge g way start) true) (end_of_edge g way x)) (only f marked) (marked_here nodes (end_of_edge g way start) node_there);
+      cause = λ n marked. elim (marked_before nodes (end_of_edge g way start) n node_there marked) [
         | inl same ↦ (start, lt, marked_here edges start edge_there, same)
         | inr was ↦ absurd (grind (arith, no_node n))
       ];
@@ -63,12 +63,12 @@ filling_begins g way start edges nodes lt node_lt edge_size node_size no_edge no
 
 -- an edge that begins where a marked one ends is marked too
 pub filling_goes_on : (g : Graph) (way : Compass) (start : ℕ) (done : List ℕ) (edges nodes : List Bool) (e : ℕ) →
-    e < length g.edges → end_of g way e < length g.nodes → IsFilling g way start done edges nodes → IsMarked nodes (begin_of g way e) →
-    IsFilling g way start (done ++ e ∷ []) (slice_set edges e true) (slice_set nodes (end_of g way e) true)
+    e < length g.edges → end_of_edge g way e < length g.nodes → IsFilling g way start done edges nodes → IsMarked nodes (begin_of_edge g way e) →
+    IsFilling g way start (done ++ e ∷ []) (slice_set edges e true) (slice_set nodes (end_of_edge g way e) true)
 filling_goes_on g way start done edges nodes e lt node_lt so_far marked =
     let edge_there : e < length edges = omega (arith, so_far.edge_size) in
-    let node_there : end_of g way e < length nodes = omega (arith, so_far.node_size) in
-    let before = so_far.cause (begin_of g way e) marked in
+    let node_there : end_of_edge g way e < length nodes = omega (arith, so_far.node_size) in
+    let before = so_far.cause (begin_of_edge g way e) marked in
     let reached : Reaches g way start e = reaches_on g way start before.0 e (so_far.sound before.0 before.1 before.2) lt (sym before.3) in
     record {
       edge_size = grind (arith, length-set, so_far.edge_size);
@@ -83,10 +83,10 @@ filling_goes_on g way start done edges nodes e lt node_lt so_far marked =
         | inr new ↦ (let same : e ≡ f = search rules in subst (λ (x : ℕ). IsMarked (slice_set edges e true) x) same (marked_here edges e edge_there))
       ];
       ends = λ f there now. elim (marked_before edges e f edge_there now) [
-        | inl same ↦ subst (λ (x : ℕ). IsMarked (slice_set nodes (end_of g way e) true) (end_of g way x)) same (marked_here nodes (end_of g way e) node_there)
-        | inr was ↦ marked_still nodes (end_of g way e) (end_of g way f) node_there (so_far.ends f there was)
+        | inl same ↦ subst (λ (x : ℕ). IsMarked (slice_set nodes (end_of_edge g way e) true) (end_of_edge g way x)) same (marked_here nodes (end_of_edge g way e) node_there)
+        | inr was ↦ marked_still nodes (end_of_edge g way e) (end_of_edge g way f) node_there (so_far.ends f there was)
       ];
-      cause = λ n now. elim (marked_before nodes (end_of g way e) n node_there now) [
+      cause = λ n now. elim (marked_before nodes (end_of_edge g way e) n node_there now) [
         | inl same ↦ (e, lt, marked_here edges e edge_there, same)
         | inr was ↦ (let old = so_far.cause n was in (old.0, old.1, marked_still edges e old.0 edge_there old.2, old.3))
       ];
@@ -95,7 +95,7 @@ filling_goes_on g way start done edges nodes e lt node_lt so_far marked =
 -- one that doesn't isn't reached, unless the row began with it
 pub filling_passes_over : (g : Graph) (way : Compass) (start : ℕ) (done : List ℕ) (edges nodes : List Bool) (e : ℕ) →
     start < length g.edges → IsBehind g way done e →
-    IsFilling g way start done edges nodes → (IsMarked nodes (begin_of g way e) → ⊥) →
+    IsFilling g way start done edges nodes → (IsMarked nodes (begin_of_edge g way e) → ⊥) →
     IsFilling g way start (done ++ e ∷ []) edges nodes
 filling_passes_over g way start done edges nodes e lt behind so_far unmarked =
     let at_e : Reaches g way start e → IsMarked edges e =
@@ -143,19 +143,19 @@ none_marked n i = elim (within_or_past n i) [
     within_or_past n i = search (rules, arith)
 
 -- the same, with the node at which the edge ends by another name
-pub filling_steps : (g : Graph) (way : Compass) (start : ℕ) (done : List ℕ) (edges nodes : List Bool) (e end : ℕ) → end ≡ end_of g way e →
-    e < length g.edges → end < length g.nodes → IsFilling g way start done edges nodes → IsMarked nodes (begin_of g way e) →
+pub filling_steps : (g : Graph) (way : Compass) (start : ℕ) (done : List ℕ) (edges nodes : List Bool) (e end : ℕ) → end ≡ end_of_edge g way e →
+    e < length g.edges → end < length g.nodes → IsFilling g way start done edges nodes → IsMarked nodes (begin_of_edge g way e) →
     IsFilling g way start (done ++ e ∷ []) (slice_set edges e true) (slice_set nodes end true)
 filling_steps g way start done edges nodes e end is lt node_lt so_far marked =
     subst (λ (n : ℕ). IsFilling g way start (done ++ e ∷ []) (slice_set edges e true) (slice_set nodes n true)) (sym is)
     (filling_goes_on g way start done edges nodes e lt (subst (λ (n : ℕ). n < length g.nodes) is node_lt) so_far marked)
 
-pub filling_starts : (g : Graph) (way : Compass) (start end : ℕ) (edges nodes : List Bool) → end ≡ end_of g way start → start < length g.edges → end < length g.nodes →
+pub filling_starts : (g : Graph) (way : Compass) (start end : ℕ) (edges nodes : List Bool) → end ≡ end_of_edge g way start → start < length g.edges → end < length g.nodes →
     edges ≡ replicate (length g.edges) false → nodes ≡ replicate (length g.nodes) false → IsFilling g way start [] (slice_set edges start true) (slice_set nodes end true)
 filling_starts g way start end edges nodes is lt node_lt edges_are nodes_are =
     subst (λ (n : ℕ). IsFilling g way start [] (slice_set edges start true) (slice_set nodes n true)) (sym is)
-    (subst (λ (xs : List Bool). IsFilling g way start [] (slice_set xs start true) (slice_set nodes (end_of g way start) true)) (sym edges_are)
-    (subst (λ (xs : List Bool). IsFilling g way start [] (slice_set (replicate (length g.edges) false) start true) (slice_set xs (end_of g way start) true)) (sym nodes_are)
+    (subst (λ (xs : List Bool). IsFilling g way start [] (slice_set xs start true) (slice_set nodes (end_of_edge g way start) true)) (sym edges_are)
+    (subst (λ (xs : List Bool). IsFilling g way start [] (slice_set (replicate (length g.edges) false) start true) (slice_set xs (end_of_edge g way start) true)) (sym nodes_are)
     (filling_begins g way start (replicate (length g.edges) false) (replicate (length g.nodes) false) lt (subst (λ (n : ℕ). n < length g.nodes) is node_lt)
     (length-replicate (length g.edges) false) (length-replicate (length g.nodes) false) (none_marked (length g.edges)) (none_marked (length g.nodes)))))
 

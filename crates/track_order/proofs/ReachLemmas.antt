@@ -3,17 +3,17 @@ use Rattle.std.specs.Prelude.{◌≡◌, ℕ, Bool, true, ◌<◌, List, [], ◌
 use Rattle.std.proofs.Common.{refl, sym, subst}
 use Rattle.plan_core.specs.Graph.{Graph}
 use Rattle.plan_core.specs.declared.sides.Compass.{Compass}
-use Rattle.track_order.specs.Reach.{Follows, IsWalk, Reaches, IsOnward}
+use Rattle.track_order.specs.Reach.{EdgeFollows, IsWalk, Reaches, IsOnward}
 
 -- a walk and one edge more
-pub walk_on : (g : Graph) (way : Compass) (e f h : ℕ) (edges : List ℕ) → IsWalk g way e edges f → h < length g.edges → Follows g way f h → IsWalk g way e (edges ++ h ∷ []) h
-walk_on g way e f h [] w lt follows = (lt, subst (λ (x : ℕ). Follows g way x h) (sym w) follows, refl)
+pub walk_on : (g : Graph) (way : Compass) (e f h : ℕ) (edges : List ℕ) → IsWalk g way e edges f → h < length g.edges → EdgeFollows g way f h → IsWalk g way e (edges ++ h ∷ []) h
+walk_on g way e f h [] w lt follows = (lt, subst (λ (x : ℕ). EdgeFollows g way x h) (sym w) follows, refl)
 walk_on g way e f h (next ∷ rest) w lt follows = (w.0, w.1, walk_on g way next f h rest w.2 lt follows)
 
 pub reaches_self : (g : Graph) (way : Compass) (e : ℕ) → Reaches g way e e
 reaches_self g way e = record { edges = []; walk = refl }
 
-pub reaches_on : (g : Graph) (way : Compass) (e f h : ℕ) → Reaches g way e f → h < length g.edges → Follows g way f h → Reaches g way e h
+pub reaches_on : (g : Graph) (way : Compass) (e f h : ℕ) → Reaches g way e f → h < length g.edges → EdgeFollows g way f h → Reaches g way e h
 reaches_on g way e f h r lt follows = record { edges = r.edges ++ h ∷ []; walk = walk_on g way e f h r.edges r.walk lt follows }
 
 -- what goes on holds along a walk

@@ -7,7 +7,7 @@ use Rattle.std.proofs.Math.Seq.{take-length}
 use Rattle.plan_core.proofs.Listing.{Contains-flat_map}
 use Rattle.plan_core.specs.Graph.{Graph, Node, node, no_node, Overlap}
 use Rattle.track_order.specs.declared.splitting.Split.{Split}
-use Rattle.track_order.specs.Above.{Fork, forks, Parts, Above}
+use Rattle.track_order.specs.Above.{Fork, forks, ForkParts, Above}
 use Rattle.track_order.specs.Splits.{IsSplit, AreSplits, forks_before, IsFitting, IsSplitBy}
 
 pub splits_begin : (g : Graph) → AreSplits g [] []
@@ -39,7 +39,7 @@ splits_fit g of splits e f are e_there f_there k d less =
     let found = are.no_other (get_or splits k d) (k, less, get_or_default splits k (get_or splits k d) d less) in
     split_fits g found.0 (get_or splits k d) e f found.2 e_there f_there
 
-pub split_parts : (g : Graph) (k : Fork) (s : Split) (e f : ℕ) → IsSplit g k s → e < length g.edges → f < length g.edges → Overlap g e f → IsSplitBy s e f ↔ Parts g k e f
+pub split_parts : (g : Graph) (k : Fork) (s : Split) (e f : ℕ) → IsSplit g k s → e < length g.edges → f < length g.edges → Overlap g e f → IsSplitBy s e f ↔ ForkParts g k e f
 split_parts g k s e f is e_there f_there overlap = (
   (λ by. record {
     first = record { reached = (is.upper.exact e e_there).0 by.e_upper; alone = λ r. by.e_lower ((is.lower.exact e e_there).1 r) };

@@ -14,7 +14,7 @@ use Rattle.port_graph.proofs.MileLemmas.{neg_less}
 use Rattle.port_graph.proofs.TurnedNodes.{node-turned}
 use Rattle.port_graph.proofs.TurnedTwice.{graph_twice}
 use Rattle.port_graph.specs.Turned.{turned_ports, turned_node, turned_edge, turned_graph}
-use Rattle.track_order.specs.Reach.{begin_of, end_of, IsWalk}
+use Rattle.track_order.specs.Reach.{begin_of_edge, end_of_edge, IsWalk}
 use Rattle.track_order.specs.Above.{Fork, fork, forks, IsReachedAlone, Above}
 
 -- ---- mileages
@@ -35,11 +35,11 @@ edges_turned g = length-map g.edges turned_edge
 
 -- ---- walks
 
-begin_turned : (g : Graph) (way : Compass) (e : ℕ) → begin_of (turned_graph g) (opposite way) e ≡ begin_of g way e
+begin_turned : (g : Graph) (way : Compass) (e : ℕ) → begin_of_edge (turned_graph g) (opposite way) e ≡ begin_of_edge g way e
 begin_turned g East e = ap (λ (x : Edge). x.east) (edge_turned g e)
 begin_turned g West e = ap (λ (x : Edge). x.west) (edge_turned g e)
 
-end_turned : (g : Graph) (way : Compass) (e : ℕ) → end_of (turned_graph g) (opposite way) e ≡ end_of g way e
+end_turned : (g : Graph) (way : Compass) (e : ℕ) → end_of_edge (turned_graph g) (opposite way) e ≡ end_of_edge g way e
 end_turned g East e = ap (λ (x : Edge). x.west) (edge_turned g e)
 end_turned g West e = ap (λ (x : Edge). x.east) (edge_turned g e)
 

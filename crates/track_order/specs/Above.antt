@@ -38,7 +38,7 @@ pub record IsReachedAlone (g : Graph) (way : Compass) (one other e : ℕ) : Type
   pub alone : Reaches g way other e → ⊥
 
 -- the fork parts e from f, and they overlap
-pub record Parts (g : Graph) (k : Fork) (e f : ℕ) : Type 0 where
+pub record ForkParts (g : Graph) (k : Fork) (e f : ℕ) : Type 0 where
   pub first : IsReachedAlone g k.way k.upper k.lower e
   pub second : IsReachedAlone g k.way k.lower k.upper f
   pub overlap : Overlap g e f
@@ -49,7 +49,7 @@ pub record Above (g : Graph) (e f : ℕ) : Type 0 where
   pub there : at < length g.nodes
   pub fork : Fork
   pub among : Contains (forks (node g at).ports) fork
-  pub parts : Parts g fork e f
+  pub parts : ForkParts g fork e f
 
 -- each is above the other, so no drawing can be lawful
 pub record Contradicts (g : Graph) (e f : ℕ) : Type 0 where
