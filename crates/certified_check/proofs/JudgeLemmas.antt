@@ -2,6 +2,7 @@
 use Rattle.std.proofs.Common.{◌≡◌, ℕ, ◌+◌, ◌<◌, ◌≤◌, ◌⊎◌, List, [], ◌∷◌, ◌++◌, length, take, get_or, refl, sym, ◌∙◌, ap, subst, inl, inr, arith, add-one}
 use Rattle.std.specs.Prelude.{Any, Contains, Some, None, Option, slice_get, flat_map, ◌↔◌}
 use Rattle.std.proofs.Math.Seq.{take-suc}
+use Rattle.std.proofs.lemmas.Bool.{cases_order}
 use Rattle.std.proofs.lemmas.List.{take_more}
 use Rattle.std.proofs.lemmas.Option.{slice_get_within, get_or_from_slice_get, slice_get-get_or, same_Some}
 use Rattle.std.proofs.lemmas.List.Elements.{All-contains, Contains-get_or, Contains-append_left, Contains-append_right, Contains-append_cases, Contains-push_cases}
@@ -19,7 +20,7 @@ use Rattle.refute_log.specs.Told.{Lines}
 use Rattle.refute_log.specs.Log.{refuted}
 use Rattle.refute_check.specs.Kept.{Kept, Refutes}
 use Rattle.certified_values.specs.Bounds.{SaysAtLeast}
-use Rattle.certified_values.specs.Certified.{IsOutOfReach, IsLeast, Certifies}
+use Rattle.certified_values.specs.Certified.{IsOutOfReach, IsCertifiedLeast, Certifies}
 use Rattle.certified_values.proofs.CertifiedLemmas.{certifies_next, certifies_fewer, least_at}
 use Rattle.certified_check.specs.declared.told_bound.ToldBound.{ToldBound}
 use Rattle.certified_check.specs.Lacking.{told_bound, KnowsLog, IsUnreached, IsFirstLacking}
@@ -117,7 +118,7 @@ abbrev pub AreUnreached : (Criterion → ℕ) → List ToldBound → List Criter
 AreUnreached greatest bounds earlier c v literals = (l : Literal) → Contains literals l ↔ Any (λ b. IsUnreached greatest earlier c v b × (b.literal ≡ l)) bounds
 
 pub verdict_is : (greatest : Criterion → ℕ) (lines : Lines) (kept : Kept) (bounds : List ToldBound) (earlier : List Criterion) (c : Criterion) (v : Values) (literals : List Literal) → KnowsLog lines kept bounds →
-    AreUnreached greatest bounds earlier c v literals → 1 ≤ value_of v c → Refutes kept literals ↔ IsLeast greatest lines earlier c v
+    AreUnreached greatest bounds earlier c v literals → 1 ≤ value_of v c → Refutes kept literals ↔ IsCertifiedLeast greatest lines earlier c v
 verdict_is greatest lines kept bounds earlier c v literals known are positive = (
   λ any. λ p.
       let there : Contains (flat_map refuted lines) any.1 = subst (λ (cs : Clauses). Contains cs any.1) (ap (λ f. f.refuted) known.facts) (any.0, any.2, any.3) in
@@ -186,15 +187,15 @@ bounds_next bounds i b low is = take_more bounds i b low ∙ ap (λ (d : ToldBou
 
 -- ---- the places one by one
 
-pub next_certified : (greatest : Criterion → ℕ) (lines : Lines) (order earlier : List Criterion) (v : Values) (i : ℕ) (c : Criterion) → slice_get order i ≡ Some c → earlier ≡ take i order → IsLeast greatest lines earlier c v →
+pub next_certified : (greatest : Criterion → ℕ) (lines : Lines) (order earlier : List Criterion) (v : Values) (i : ℕ) (c : Criterion) → slice_get order i ≡ Some c → earlier ≡ take i order → IsCertifiedLeast greatest lines earlier c v →
     Certifies greatest lines order v i → Certifies greatest lines order v (i + 1)
-next_certified greatest lines order earlier v i c at is least h = certifies_next greatest lines order v i c at h (subst (λ (cs : List Criterion). IsLeast greatest lines cs c v) is least)
+next_certified greatest lines order earlier v i c at is least h = certifies_next greatest lines order v i c at h (subst (λ (cs : List Criterion). IsCertifiedLeast greatest lines cs c v) is least)
 
-pub lacking_here : (greatest : Criterion → ℕ) (lines : Lines) (order earlier : List Criterion) (v : Values) (i : ℕ) (c : Criterion) → slice_get order i ≡ Some c → earlier ≡ take i order → (IsLeast greatest lines earlier c v → ⊥) →
-    (d : Criterion) → slice_get order i ≡ Some d → IsLeast greatest lines (take i order) d v → ⊥
+pub lacking_here : (greatest : Criterion → ℕ) (lines : Lines) (order earlier : List Criterion) (v : Values) (i : ℕ) (c : Criterion) → slice_get order i ≡ Some c → earlier ≡ take i order → (IsCertifiedLeast greatest lines earlier c v → ⊥) →
+    (d : Criterion) → slice_get order i ≡ Some d → IsCertifiedLeast greatest lines (take i order) d v → ⊥
 lacking_here greatest lines order earlier v i c at is none d there least =
     let same : d ≡ c = same_Some d c (sym there ∙ at) in
-    none (subst (λ (cs : List Criterion). IsLeast greatest lines cs c v) (sym is) (subst (λ b. IsLeast greatest lines (take i order) b v) same least))
+    none (subst (λ (cs : List Criterion). IsCertifiedLeast greatest lines cs c v) (sym is) (subst (λ b. IsCertifiedLeast greatest lines (take i order) b v) same least))
 
 pub take_next : (order : List Criterion) (i : ℕ) (c : Criterion) (earlier then : List Criterion) → slice_get order i ≡ Some c → earlier ≡ take i order → then ≡ earlier ++ c ∷ [] → then ≡ take (i + 1) order
 take_next order i c earlier then at is more =
@@ -214,15 +215,12 @@ none_lacking greatest lines order v s (Some i) within certified h =
 pub lacking_once : (greatest : Criterion → ℕ) (lines : Lines) (order : List Criterion) (v : Values) (s : ℕ) (found other : Option ℕ) → s ≤ length order → IsFirstLacking greatest lines order v s found → IsFirstLacking greatest lines order v s other → found ≡ other
 lacking_once greatest lines order v s None other within h k = sym (none_lacking greatest lines order v s other within h k)
 lacking_once greatest lines order v s (Some i) None within h k = none_lacking greatest lines order v s (Some i) within k h
-lacking_once greatest lines order v s (Some i) (Some j) within h k = elim (compared i j) [
-  | inl less ↦ absurd (first i j h k less)
-  | inr (inl more) ↦ absurd (first j i k h more)
-  | inr (inr e) ↦ ap (λ (n : ℕ). Some n) e
+lacking_once greatest lines order v s (Some i) (Some j) within h k = elim (cases_order i j) [
+  | inl e ↦ ap (λ (n : ℕ). Some n) e
+  | inr (inl less) ↦ absurd (first i j h k less)
+  | inr (inr more) ↦ absurd (first j i k h more)
 ]
   where
-    compared : (i j : ℕ) → (i < j) ⊎ (j < i) ⊎ (i ≡ j)
-    compared i j = grind arith
-
     first : (i j : ℕ) → IsFirstLacking greatest lines order v s (Some i) → IsFirstLacking greatest lines order v s (Some j) → i < j → ⊥
     first i j h k less =
         let c : Criterion = get_or order i Height in

@@ -9,7 +9,7 @@ use Rattle.refute_log.specs.declared.line.LogLine.TheVariants.{Bound}
 use Rattle.refute_log.specs.Told.{Lines}
 use Rattle.refute_log.specs.Log.{facts_of}
 use Rattle.refute_check.specs.Kept.{Kept}
-use Rattle.certified_values.specs.Certified.{IsLeast, Certifies}
+use Rattle.certified_values.specs.Certified.{IsCertifiedLeast, Certifies}
 use Rattle.certified_check.specs.declared.told_bound.ToldBound.{ToldBound}
 
 -- the bound of the line, where it is a Bound line
@@ -32,4 +32,4 @@ pub record IsUnreached (greatest : Criterion → ℕ) (earlier : List Criterion)
 abbrev pub IsFirstLacking : (Criterion → ℕ) → Lines → List Criterion → Values → ℕ → Option ℕ → Type 0
 IsFirstLacking greatest lines order v s None = Certifies greatest lines order v s
 IsFirstLacking greatest lines order v s (Some i) =
-    (i < s) × Certifies greatest lines order v i × ((c : Criterion) → slice_get order i ≡ Some c → IsLeast greatest lines (take i order) c v → ⊥)
+    (i < s) × Certifies greatest lines order v i × ((c : Criterion) → slice_get order i ≡ Some c → IsCertifiedLeast greatest lines (take i order) c v → ⊥)

@@ -3,7 +3,7 @@ ghost use Rattle.std.specs.Prelude.{◌≡◌, ◌≤◌, ◌+◌, ◌↔◌, If
 ghost use Rattle.plan_core.specs.Values.{value_of};
 ghost use Rattle.cnf_core.specs.Lit.{Literal};
 ghost use Rattle.refute_log.specs.Told.{Lines};
-ghost use Rattle.certified_values.specs.Certified.{IsLeast};
+ghost use Rattle.certified_values.specs.Certified.{IsCertifiedLeast};
 ghost use Rattle.certified_check.specs.Lacking.{KnowsLog, IsUnreached, IsFirstLacking};
 
 use crate::ToldBound;
@@ -78,7 +78,7 @@ fn is_least(
     c: Criterion,
     v: &Values,
 ) -> Result<bool, OutOfMemory>
-    ensures { IfOk result (λ b. (lines : Lines) → KnowsLog lines checker.now bounds.now → IsTrue b ↔ IsLeast (value_of greatest.now) lines earlier.now c v.now) }
+    ensures { IfOk result (λ b. (lines : Lines) → KnowsLog lines checker.now bounds.now → IsTrue b ↔ IsCertifiedLeast (value_of greatest.now) lines earlier.now c v.now) }
 {
     if v.of(c) == 0 {
         return Ok(true);

@@ -1,6 +1,7 @@
 -- What certified values say of values that meet the log, and how they are certified place by place.
 use Rattle.std.proofs.Common.{◌≡◌, ℕ, zero, suc, ◌+◌, ◌<◌, ◌≤◌, ◌⊎◌, true, List, [], ◌∷◌, ◌++◌, take, refl, sym, ◌∙◌, ap, subst, inl, inr, arith, append-nil, append_assoc}
 use Rattle.std.specs.Prelude.{All, Contains, Option, Some, None, slice_get, flat_map}
+use Rattle.std.proofs.lemmas.Bool.{cases_order}
 use Rattle.std.proofs.lemmas.Option.{none-some, same_Some}
 use Rattle.std.proofs.lemmas.List.Elements.{All-nil, All-push, All-cons, All-head, All-tail, All-contains, All-weaker, Contains-append_left}
 use Rattle.plan_core.specs.declared.criterion.Values.{Values}
@@ -16,7 +17,7 @@ use Rattle.refute_log.specs.Told.{Lines}
 use Rattle.refute_log.specs.Log.{given, refuted, Derives}
 use Rattle.refute_log.proofs.LogLemmas.{derived_hold}
 use Rattle.certified_values.specs.Bounds.{SaysAtLeast, MeetsLog}
-use Rattle.certified_values.specs.Certified.{IsOutOfReach, IsLeast, Certifies, CertifiesNone, Settled}
+use Rattle.certified_values.specs.Certified.{IsOutOfReach, IsCertifiedLeast, Certifies, CertifiesNone, Settled}
 
 -- ---- values that meet a log that derives
 
@@ -43,20 +44,20 @@ out_of_reach greatest lines v w m earlier c l same less (inl any) t =
 out_of_reach greatest lines v w m earlier c l same less (inr s) t = let k = reached greatest lines w m c (value_of v c) l s t in omega arith
 
 none_less : (greatest : Criterion → ℕ) (lines : Lines) (v w : Values) → MeetsLog lines w → Derives lines → (earlier : List Criterion) (c : Criterion) →
-    All (λ b. value_of w b ≡ value_of v b) earlier → IsLeast greatest lines earlier c v → value_of w c < value_of v c → ⊥
+    All (λ b. value_of w b ≡ value_of v b) earlier → IsCertifiedLeast greatest lines earlier c v → value_of w c < value_of v c → ⊥
 none_less greatest lines v w m derives earlier c same least less =
     let r = least (omega arith) in
     let some = some_from_satisfies m.assignment r.clause (refuted_holds m.assignment lines derives m.formula r.clause r.among) in
     out_of_reach greatest lines v w m earlier c some.1 same less (All-contains (IsOutOfReach greatest lines earlier c v) r.clause some.1 r.each (some.0, some.2, some.3)) some.4
 
 none_better_behind : (greatest : Criterion → ℕ) (lines : Lines) (v w : Values) → MeetsLog lines w → Derives lines → (earlier rest : List Criterion) →
-    ((i : ℕ) (c : Criterion) → slice_get rest i ≡ Some c → IsLeast greatest lines (earlier ++ take i rest) c v) → All (λ b. value_of w b ≡ value_of v b) earlier → Better rest w v → ⊥
+    ((i : ℕ) (c : Criterion) → slice_get rest i ≡ Some c → IsCertifiedLeast greatest lines (earlier ++ take i rest) c v) → All (λ b. value_of w b ≡ value_of v b) earlier → Better rest w v → ⊥
 none_better_behind greatest lines v w m derives earlier [] least same b = b
 none_better_behind greatest lines v w m derives earlier (c ∷ rest) least same (inl less) =
-    none_less greatest lines v w m derives earlier c same (subst (λ (cs : List Criterion). IsLeast greatest lines cs c v) (append-nil earlier) (least 0 c refl)) less
+    none_less greatest lines v w m derives earlier c same (subst (λ (cs : List Criterion). IsCertifiedLeast greatest lines cs c v) (append-nil earlier) (least 0 c refl)) less
 none_better_behind greatest lines v w m derives earlier (c ∷ rest) least same (inr b) =
     none_better_behind greatest lines v w m derives (earlier ++ c ∷ []) rest
-    (λ i d at. subst (λ (cs : List Criterion). IsLeast greatest lines cs d v) (sym (append_assoc earlier (c ∷ []) (take i rest))) (least (suc i) d at))
+    (λ i d at. subst (λ (cs : List Criterion). IsCertifiedLeast greatest lines cs d v) (sym (append_assoc earlier (c ∷ []) (take i rest))) (least (suc i) d at))
     (All-push (λ b. value_of w b ≡ value_of v b) earlier c same b.0) b.1
 
 -- a place of the first s places
@@ -77,7 +78,7 @@ of_front (d ∷ order) (suc s) (suc i) c e =
 pub none_better : (greatest : Criterion → ℕ) (lines : Lines) (order : List Criterion) (v w : Values) (s : ℕ) → MeetsLog lines w → Derives lines → Certifies greatest lines order v s → Better (take s order) w v → ⊥
 none_better greatest lines order v w s m derives certified b =
     none_better_behind greatest lines v w m derives [] (take s order)
-    (λ i c e. let f = of_front order s i c e in subst (λ (cs : List Criterion). IsLeast greatest lines cs c v) (sym f.same) (certified i c f.low f.at))
+    (λ i c e. let f = of_front order s i c e in subst (λ (cs : List Criterion). IsCertifiedLeast greatest lines cs c v) (sym f.same) (certified i c f.low f.at))
     (All-nil (λ b. value_of w b ≡ value_of v b)) b
 
 pub none_meets : (lines : Lines) (w : Values) → MeetsLog lines w → Derives lines → CertifiesNone lines → ⊥
@@ -85,19 +86,16 @@ none_meets lines w m derives none = refuted_holds m.assignment lines derives m.f
 
 -- ---- two values that are both certified
 
-compared : (m n : ℕ) → (m < n) ⊎ (n < m) ⊎ (m ≡ n)
-compared m n = grind arith
-
 better_or_same : (order : List Criterion) (v w : Values) → Better order v w ⊎ Better order w v ⊎ All (λ c. value_of v c ≡ value_of w c) order
 better_or_same [] v w = inr (inr (All-nil (λ c. value_of v c ≡ value_of w c)))
-better_or_same (c ∷ order) v w = elim (compared (value_of v c) (value_of w c)) [
-  | inl less ↦ inl (inl less)
-  | inr (inl more) ↦ inr (inl (inl more))
-  | inr (inr e) ↦ elim (better_or_same order v w) [
+better_or_same (c ∷ order) v w = elim (cases_order (value_of v c) (value_of w c)) [
+  | inl e ↦ elim (better_or_same order v w) [
     | inl h ↦ inl (inr (e, h))
     | inr (inl h) ↦ inr (inl (inr (sym e, h)))
     | inr (inr h) ↦ inr (inr (All-cons (λ c. value_of v c ≡ value_of w c) c order e h))
   ]
+  | inr (inl less) ↦ inl (inl less)
+  | inr (inr more) ↦ inr (inl (inl more))
 ]
 
 pub same_twice : (greatest : Criterion → ℕ) (lines : Lines) (order : List Criterion) (v w : Values) (s : ℕ) → MeetsLog lines v → MeetsLog lines w → Derives lines →
@@ -117,7 +115,7 @@ out_of_reach_more : (greatest : Criterion → ℕ) (lines more : Lines) (earlier
 out_of_reach_more greatest lines more earlier c v l (inl any) = inl (any.0, any.1, any.2, any.3, says_more greatest lines more any.1 (value_of v any.1 + 1) l any.4)
 out_of_reach_more greatest lines more earlier c v l (inr s) = inr (says_more greatest lines more c (value_of v c) l s)
 
-least_more : (greatest : Criterion → ℕ) (lines more : Lines) (earlier : List Criterion) (c : Criterion) (v : Values) → IsLeast greatest lines earlier c v → IsLeast greatest (lines ++ more) earlier c v
+least_more : (greatest : Criterion → ℕ) (lines more : Lines) (earlier : List Criterion) (c : Criterion) (v : Values) → IsCertifiedLeast greatest lines earlier c v → IsCertifiedLeast greatest (lines ++ more) earlier c v
 least_more greatest lines more earlier c v h = λ p. let r = h p in record {
   clause = r.clause;
   among = Contains-append_left lines more (Refuted r.clause) r.among;
@@ -136,17 +134,17 @@ pub certifies_nothing : (greatest : Criterion → ℕ) (lines : Lines) (order : 
 certifies_nothing greatest lines order v = λ i c low at. absurd (omega (arith, low))
 
 pub certifies_next : (greatest : Criterion → ℕ) (lines : Lines) (order : List Criterion) (v : Values) (i : ℕ) (c : Criterion) → slice_get order i ≡ Some c →
-    Certifies greatest lines order v i → IsLeast greatest lines (take i order) c v → Certifies greatest lines order v (i + 1)
+    Certifies greatest lines order v i → IsCertifiedLeast greatest lines (take i order) c v → Certifies greatest lines order v (i + 1)
 certifies_next greatest lines order v i c here h least = λ j d low at. elim (below_or_is j i low) [
   | inl less ↦ h j d less at
   | inr e ↦
       let there : slice_get order i ≡ Some d = ap (slice_get order) (sym e) ∙ at in
       let same : c ≡ d = same_Some c d (sym here ∙ there) in
-      subst (λ n. IsLeast greatest lines (take n order) d v) (sym e) (subst (λ b. IsLeast greatest lines (take i order) b v) same least)
+      subst (λ n. IsCertifiedLeast greatest lines (take n order) d v) (sym e) (subst (λ b. IsCertifiedLeast greatest lines (take i order) b v) same least)
 ]
 
 pub least_at : (greatest : Criterion → ℕ) (lines : Lines) (order : List Criterion) (v : Values) (i : ℕ) (c : Criterion) → slice_get order i ≡ Some c →
-    Certifies greatest lines order v (i + 1) → IsLeast greatest lines (take i order) c v
+    Certifies greatest lines order v (i + 1) → IsCertifiedLeast greatest lines (take i order) c v
 least_at greatest lines order v i c here h = h i c (omega arith) here
 
 pub certifies_fewer : (greatest : Criterion → ℕ) (lines : Lines) (order : List Criterion) (v : Values) (s t : ℕ) → t ≤ s → Certifies greatest lines order v s → Certifies greatest lines order v t
@@ -182,7 +180,7 @@ out_of_reach_same greatest lines earlier c v w l same e (inl any) =
 out_of_reach_same greatest lines earlier c v w l same e (inr s) = inr (subst (λ n. SaysAtLeast greatest lines c n l) e s)
 
 least_same : (greatest : Criterion → ℕ) (lines : Lines) (earlier : List Criterion) (c : Criterion) (v w : Values) → All (λ b. value_of v b ≡ value_of w b) earlier → value_of v c ≡ value_of w c →
-    IsLeast greatest lines earlier c v → IsLeast greatest lines earlier c w
+    IsCertifiedLeast greatest lines earlier c v → IsCertifiedLeast greatest lines earlier c w
 least_same greatest lines earlier c v w same e h = λ p. let r = h (omega (arith, e, p)) in record {
   clause = r.clause;
   among = r.among;

@@ -19,7 +19,7 @@ use Rattle.refute_log.specs.Told.{Lines}
 use Rattle.refute_log.specs.Log.{added, Derives}
 use Rattle.refute_log.proofs.LogLemmas.{derives_none, derives_more}
 use Rattle.certified_values.specs.Bounds.{SaysAtLeast, MeetsLog}
-use Rattle.certified_values.specs.Certified.{IsOutOfReach, IsLeast, Certifies, CertifiesNone, IsSettled}
+use Rattle.certified_values.specs.Certified.{IsOutOfReach, IsCertifiedLeast, Certifies, CertifiesNone, IsSettled}
 use Rattle.certified_values.specs.Examples.{variable, height_up_to, height_then_width, width_then_height, all_four, short_log}
 
 -- ---- what stands in the log
@@ -159,14 +159,14 @@ says : (greatest : Criterion → ℕ) (c : Criterion) (k x : ℕ) → k ≤ grea
 says greatest c k x within told = record { within = within; variable = variable x; told = told; is = refl }
 
 pub height_then_width_certified : Certifies (height_up_to 9) short_log height_then_width (measured 1 0 0 3) 2
-height_then_width_certified zero c low at = subst (λ b. IsLeast (height_up_to 9) short_log [] b (measured 1 0 0 3)) (same_Some Height c at) (λ positive. record {
+height_then_width_certified zero c low at = subst (λ b. IsCertifiedLeast (height_up_to 9) short_log [] b (measured 1 0 0 3)) (same_Some Height c at) (λ positive. record {
   clause = positive_of 1 ∷ [];
   among = (6, omega arith, refl);
   each =
       let P : Literal → Type 0 = IsOutOfReach (height_up_to 9) short_log [] Height (measured 1 0 0 3) in
       All-cons P (positive_of 1) [] (inr (says (height_up_to 9) Height 1 1 (omega arith) (2, omega arith, refl))) (All-nil P);
 })
-height_then_width_certified (suc zero) c low at = subst (λ b. IsLeast (height_up_to 9) short_log (Height ∷ []) b (measured 1 0 0 3)) (same_Some Width c at) (λ positive. record {
+height_then_width_certified (suc zero) c low at = subst (λ b. IsCertifiedLeast (height_up_to 9) short_log (Height ∷ []) b (measured 1 0 0 3)) (same_Some Width c at) (λ positive. record {
   clause = positive_of 2 ∷ positive_of 3 ∷ [];
   among = (8, omega arith, refl);
   each =

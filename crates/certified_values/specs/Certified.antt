@@ -21,13 +21,13 @@ pub record RefutesLess (greatest : Criterion → ℕ) (lines : Lines) (earlier :
   pub each : All (IsOutOfReach greatest lines earlier c v) clause
 
 -- where the value of c is positive there is such a line; a value of 0 can't be less
-abbrev pub IsLeast : (Criterion → ℕ) → Lines → List Criterion → Criterion → Values → Type 0
-IsLeast greatest lines earlier c v = 1 ≤ value_of v c → RefutesLess greatest lines earlier c v
+abbrev pub IsCertifiedLeast : (Criterion → ℕ) → Lines → List Criterion → Criterion → Values → Type 0
+IsCertifiedLeast greatest lines earlier c v = 1 ≤ value_of v c → RefutesLess greatest lines earlier c v
 
 -- the log certifies the first s values of the order: at each place below s the value is least
 abbrev pub Certifies : (Criterion → ℕ) → Lines → List Criterion → Values → ℕ → Type 0
 Certifies greatest lines order v s =
-    (i : ℕ) (c : Criterion) → i < s → slice_get order i ≡ Some c → IsLeast greatest lines (take i order) c v
+    (i : ℕ) (c : Criterion) → i < s → slice_get order i ≡ Some c → IsCertifiedLeast greatest lines (take i order) c v
 
 -- the log certifies that there is no drawing: it has a Refuted line without literals
 abbrev pub CertifiesNone : Lines → Type 0

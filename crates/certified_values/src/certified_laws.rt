@@ -10,7 +10,7 @@ ghost use Rattle.plan_core.specs.Values.{values_of, value_of, Better, IsBest};
 ghost use Rattle.refute_log.specs.Told.{Lines};
 ghost use Rattle.refute_log.specs.Log.{Derives};
 ghost use Rattle.certified_values.specs.Bounds.{MeetsLog, CoversDrawings};
-ghost use Rattle.certified_values.specs.Certified.{IsLeast, Certifies, CertifiesNone, Settled};
+ghost use Rattle.certified_values.specs.Certified.{IsCertifiedLeast, Certifies, CertifiesNone, Settled};
 
 /// Values that meet a log that derives are not better than those it certifies, on the criteria it
 /// certifies; and none meet one that certifies that there is no drawing. Two of them that are both
@@ -50,9 +50,9 @@ pub fn more_lines_certify_more()
 pub fn values_are_certified_place_by_place()
     ensures none { (greatest : Criterion → ℕ) (lines : Lines) (order : List Criterion) (v : Values) → Certifies greatest lines order v 0 }
     ensures next { (greatest : Criterion → ℕ) (lines : Lines) (order : List Criterion) (v : Values) (i : ℕ) (c : Criterion) → slice_get order i ≡ Some c →
-        Certifies greatest lines order v i → IsLeast greatest lines (take i order) c v → Certifies greatest lines order v (i + 1) }
+        Certifies greatest lines order v i → IsCertifiedLeast greatest lines (take i order) c v → Certifies greatest lines order v (i + 1) }
     ensures last { (greatest : Criterion → ℕ) (lines : Lines) (order : List Criterion) (v : Values) (i : ℕ) (c : Criterion) → slice_get order i ≡ Some c →
-        Certifies greatest lines order v (i + 1) → IsLeast greatest lines (take i order) c v }
+        Certifies greatest lines order v (i + 1) → IsCertifiedLeast greatest lines (take i order) c v }
     ensures fewer { (greatest : Criterion → ℕ) (lines : Lines) (order : List Criterion) (v : Values) (s t : ℕ) → t ≤ s →
         Certifies greatest lines order v s → Certifies greatest lines order v t }
 {}

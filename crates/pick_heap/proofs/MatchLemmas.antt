@@ -5,13 +5,13 @@ use Rattle.std.proofs.lemmas.Bool.{cases_lt}
 use Rattle.std.proofs.lemmas.Bool.Decides.{eqb_tells}
 use Rattle.std.proofs.lemmas.List.{get_or-set_other, get_or-set_same, get_or_past, get_or-replicate}
 use Rattle.cnf_core.proofs.NumberLemmas.{same_or_not}
-use Rattle.pick_heap.specs.Tree.{entry_at, rank, IsWinner, HaveActivities, IsWonAt, IsWon, IsWonBut, leaf_word, KeepsLeaves, KeepsOthers, IsHeap}
+use Rattle.pick_heap.specs.Tree.{entry_at, rank_of, IsWinner, HaveActivities, IsWonAt, IsWon, IsWonBut, leaf_word, KeepsLeaves, KeepsOthers, IsHeap}
 use Rattle.pick_heap.specs.Heap.{ranked_of, IsGreatest, NoneHeld}
 
-pub rank_none : (acts : List ℕ) (v : ℕ) → v ≡ 0 → rank acts v ≡ 0
+pub rank_none : (acts : List ℕ) (v : ℕ) → v ≡ 0 → rank_of acts v ≡ 0
 rank_none acts v e = elim (eqb_tells v 0) [ inl a ↦ ap (λ b. cond b 0 (entry_at acts v + 1)) a.0 | inr a ↦ absurd (a.1 e) ]
 
-pub rank_some : (acts : List ℕ) (v : ℕ) → v ≢ 0 → rank acts v ≡ entry_at acts v + 1
+pub rank_some : (acts : List ℕ) (v : ℕ) → v ≢ 0 → rank_of acts v ≡ entry_at acts v + 1
 rank_some acts v ne = elim (eqb_tells v 0) [ inl a ↦ absurd (ne a.1) | inr a ↦ ap (λ b. cond b 0 (entry_at acts v + 1)) a.0 ]
 
 -- a table that is longer by what it has past its end
@@ -32,7 +32,7 @@ first_alone acts a b e = record { one = inl refl; first = omega arith; second = 
 pub second_wins : (acts : List ℕ) (a b : ℕ) → b ≢ 0 → (a ≡ 0) ⊎ (entry_at acts a < entry_at acts b) → IsWinner acts a b b
 second_wins acts a b ne why = record { one = inr refl; first = below why; second = omega arith }
   where
-    below : (a ≡ 0) ⊎ (entry_at acts a < entry_at acts b) → rank acts a ≤ rank acts b
+    below : (a ≡ 0) ⊎ (entry_at acts a < entry_at acts b) → rank_of acts a ≤ rank_of acts b
     below (inl e) = let none = rank_none acts a e in omega arith
     below (inr lt) = elim (same_or_not a 0) [
       | inl e ↦ let none = rank_none acts a e in omega arith
@@ -99,20 +99,20 @@ won_all acts tree leaves but e b = record { won = λ k from to. b.won k from to 
 
 -- the root
 module _ (acts tree : List ℕ) (leaves : ℕ) (all : IsWon acts tree leaves) where
-  most_by : (fuel k : ℕ) → k ≤ fuel → 1 ≤ k → k < 2 * leaves → rank acts (entry_at tree k) ≤ rank acts (entry_at tree 1)
+  most_by : (fuel k : ℕ) → k ≤ fuel → 1 ≤ k → k < 2 * leaves → rank_of acts (entry_at tree k) ≤ rank_of acts (entry_at tree 1)
   most_by zero k le from to = absurd (omega arith)
   most_by (suc fuel) k le from to = elim (cases_lt k 2) [
-    | inl one ↦ let e : rank acts (entry_at tree k) ≡ rank acts (entry_at tree 1) = ap (λ n. rank acts (entry_at tree n)) (omega arith) in omega arith
+    | inl one ↦ let e : rank_of acts (entry_at tree k) ≡ rank_of acts (entry_at tree 1) = ap (λ n. rank_of acts (entry_at tree n)) (omega arith) in omega arith
     | inr more ↦
         let above = most_by fuel (k / 2) (omega arith) (omega arith) (omega arith) in
         let won = all.won (k / 2) (omega arith) (omega arith) in
         elim (cases_lt (2 * (k / 2)) k) [
-          | inl odd ↦ let e : rank acts (entry_at tree k) ≡ rank acts (entry_at tree (2 * (k / 2) + 1)) = ap (λ n. rank acts (entry_at tree n)) (omega arith) in let x = won.second in omega arith
-          | inr even ↦ let e : rank acts (entry_at tree k) ≡ rank acts (entry_at tree (2 * (k / 2))) = ap (λ n. rank acts (entry_at tree n)) (omega arith) in let x = won.first in omega arith
+          | inl odd ↦ let e : rank_of acts (entry_at tree k) ≡ rank_of acts (entry_at tree (2 * (k / 2) + 1)) = ap (λ n. rank_of acts (entry_at tree n)) (omega arith) in let x = won.second in omega arith
+          | inr even ↦ let e : rank_of acts (entry_at tree k) ≡ rank_of acts (entry_at tree (2 * (k / 2))) = ap (λ n. rank_of acts (entry_at tree n)) (omega arith) in let x = won.first in omega arith
         ]
   ]
 
-  pub root_most : (k : ℕ) → 1 ≤ k → k < 2 * leaves → rank acts (entry_at tree k) ≤ rank acts (entry_at tree 1)
+  pub root_most : (k : ℕ) → 1 ≤ k → k < 2 * leaves → rank_of acts (entry_at tree k) ≤ rank_of acts (entry_at tree 1)
   root_most k from to = most_by k k (omega arith) from to
 
   -- each node's variable is that of a leaf
@@ -189,8 +189,8 @@ module _ (vars leaves : ℕ) (held : List Bool) (acts tree : List ℕ) (k : IsHe
             let high = c.1 in
             let all = k.fits in
             let most = root_most acts tree leaves k.won (leaves + (w - 1)) (omega arith) (omega arith) in
-            let mine : rank acts (entry_at tree (leaves + (w - 1))) ≡ entry_at acts w + 1 = ap (rank acts) (leaf_of w hw) ∙ rank_some acts w (omega arith) in
-            let root : rank acts (entry_at tree 1) ≡ entry_at acts v + 1 = ap (rank acts) is ∙ rank_some acts v some in
+            let mine : rank_of acts (entry_at tree (leaves + (w - 1))) ≡ entry_at acts w + 1 = ap (rank_of acts) (leaf_of w hw) ∙ rank_some acts w (omega arith) in
+            let root : rank_of acts (entry_at tree 1) ≡ entry_at acts v + 1 = ap (rank_of acts) is ∙ rank_some acts v some in
             omega arith;
       }
 
@@ -201,8 +201,8 @@ module _ (vars leaves : ℕ) (held : List Bool) (acts tree : List ℕ) (k : IsHe
       let high = c.1 in
       let all = k.fits in
       let most = root_most acts tree leaves k.won (leaves + (w - 1)) (omega arith) (omega arith) in
-      let mine : rank acts (entry_at tree (leaves + (w - 1))) ≡ entry_at acts w + 1 = ap (rank acts) (leaf_of w hw) ∙ rank_some acts w (omega arith) in
-      let root : rank acts (entry_at tree 1) ≡ 0 = rank_none acts (entry_at tree 1) is in
+      let mine : rank_of acts (entry_at tree (leaves + (w - 1))) ≡ entry_at acts w + 1 = ap (rank_of acts) (leaf_of w hw) ∙ rank_some acts w (omega arith) in
+      let root : rank_of acts (entry_at tree 1) ≡ 0 = rank_none acts (entry_at tree 1) is in
       omega arith
 
   -- the leaf of one variable has changed
@@ -238,7 +238,7 @@ module _ (vars leaves : ℕ) (held : List Bool) (acts tree : List ℕ) (k : IsHe
         record { one = x.one; first = omega arith; second = omega arith };
   }
     where
-      same_rank : (w : ℕ) → w ≢ v → rank (set acts v n) w ≡ rank acts w
+      same_rank : (w : ℕ) → w ≢ v → rank_of (set acts v n) w ≡ rank_of acts w
       same_rank w ne = elim (same_or_not w 0) [
         | inl e ↦ rank_none (set acts v n) w e ∙ sym (rank_none acts w e)
         | inr some2 ↦ rank_some (set acts v n) w some2 ∙ ap (λ a. a + 1) (get_or-set_other acts v w n 0 ne) ∙ sym (rank_some acts w some2)

@@ -7,14 +7,14 @@ abbrev pub entry_at : List ℕ → ℕ → ℕ
 entry_at xs i = slice_index xs i
 
 -- how high a variable ranks: no variable, which is 0, is below all
-abbrev pub rank : List ℕ → ℕ → ℕ
-rank activities v = cond (nat_eq v 0) 0 (entry_at activities v + 1)
+abbrev pub rank_of : List ℕ → ℕ → ℕ
+rank_of activities v = cond (nat_eq v 0) 0 (entry_at activities v + 1)
 
 -- w is one of the two, and ranks no lower than either
 pub record IsWinner (activities : List ℕ) (a b w : ℕ) : Type 0 where
   pub one : (w ≡ a) ⊎ (w ≡ b)
-  pub first : rank activities a ≤ rank activities w
-  pub second : rank activities b ≤ rank activities w
+  pub first : rank_of activities a ≤ rank_of activities w
+  pub second : rank_of activities b ≤ rank_of activities w
 
 -- each entry of the tree has an activity
 abbrev pub HaveActivities : List ℕ → List ℕ → Type 0

@@ -13,7 +13,7 @@ use Rattle.cnf_core.proofs.TrailLemmas.{distinct_push}
 use Rattle.cnf_core.proofs.GatherLemmas.{there_push}
 use Rattle.watch_arena.specs.declared.fault.ArenaFault.{ArenaFault}
 use Rattle.watch_arena.specs.declared.clause_ref.ClauseRef.{ClauseRef}
-use Rattle.watch_arena.specs.Words.{word_at, lit_of, IsStore, IsBlock}
+use Rattle.watch_arena.specs.Words.{arena_word, lit_of, IsStore, IsBlock}
 use Rattle.cnf_core.specs.Times.{times}
 use Rattle.watch_arena.specs.Chains.{Path, HasChains}
 use Rattle.watch_arena.specs.Trail.{Marks, IsMarks, with_lit}
@@ -60,11 +60,11 @@ pub none_watched : (a : Attached) (m : Marks) → a.places ≡ [] → AreWatched
 none_watched a m e = record { right = λ p c. absurd (not_in_none p (subst (λ (ps : List ℕ). Contains ps p) e c)) }
 
 -- each clause is one of distinct variables in range
-upto_there : (vars : ℕ) (ws places : List ℕ) (p n : ℕ) → IsStore vars ws places → Contains places p → n ≤ word_at ws p → AreThere vars (lits_upto ws p n)
+upto_there : (vars : ℕ) (ws places : List ℕ) (p n : ℕ) → IsStore vars ws places → Contains places p → n ≤ arena_word ws p → AreThere vars (lits_upto ws p n)
 upto_there vars ws places p zero h c le = tt
 upto_there vars ws places p (suc n) h c le = there_push vars (lits_upto ws p n) (lit_at ws (p + 3 + n)) (upto_there vars ws places p n h c (omega arith)) (lit_there vars ws places p n h c (omega arith))
 
-upto_distinct : (vars : ℕ) (ws : List ℕ) (p n : ℕ) → IsBlock vars ws p → n ≤ word_at ws p → AreDistinct (lits_upto ws p n)
+upto_distinct : (vars : ℕ) (ws : List ℕ) (p n : ℕ) → IsBlock vars ws p → n ≤ arena_word ws p → AreDistinct (lits_upto ws p n)
 upto_distinct vars ws p zero b le = tt
 upto_distinct vars ws p (suc n) b le = distinct_push (lits_upto ws p n) (lit_at ws (p + 3 + n)) (upto_distinct vars ws p n b (omega arith)) (λ k among e.
     let x = upto_in ws p n k among in
@@ -78,9 +78,9 @@ are_attached vars room ws heads places visits k = λ p c.
     let two = b.two in
     record {
       from = b.from;
-      two = omega (arith, upto_length ws p (word_at ws p));
-      there = upto_there vars ws places p (word_at ws p) h c (omega arith);
-      distinct = upto_distinct vars ws p (word_at ws p) b (omega arith);
+      two = omega (arith, upto_length ws p (arena_word ws p));
+      there = upto_there vars ws places p (arena_word ws p) h c (omega arith);
+      distinct = upto_distinct vars ws p (arena_word ws p) b (omega arith);
     }
 
 -- what propagation leaves
@@ -140,7 +140,7 @@ arena_attached vars room ws heads places new then now a visits m (Err f) k e sam
 
 -- the watches of clauses by their literals
 watch_is : (a : Attached) (p i : ℕ) (d : Literal) → i < length (attached_at a p) → watch_at a p i ≡ get_or (attached_at a p) i d
-watch_is a p i d lt = sym (upto_get a.words p (word_at a.words p) i d (let size = upto_length a.words p (word_at a.words p) in omega arith))
+watch_is a p i d lt = sym (upto_get a.words p (arena_word a.words p) i d (let size = upto_length a.words p (arena_word a.words p) in omega arith))
 
 watch_same : (old new : Attached) (p i : ℕ) → i < length (attached_at old p) → attached_at new p ≡ attached_at old p → watch_at new p i ≡ watch_at old p i
 watch_same old new p i lt e =
@@ -213,27 +213,27 @@ pub place_in : (vars room : ℕ) (ws places : List ℕ) (visits : ℕ) (a : Atta
 place_in vars room ws places visits a p e c = subst (λ (x : Attached). Contains x.places p) (sym e) c
 
 pub len_is : (vars room : ℕ) (ws places : List ℕ) (visits : ℕ) (a : Attached) (p n : ℕ) → attached_of vars room ws places visits ≡ a → p < length ws → n ≡ get_or ws p n → n ≡ length (attached_at a p)
-len_is vars room ws places visits a p n e lt is = is ∙ get_or_default ws p n 0 lt ∙ sym (upto_length ws p (word_at ws p)) ∙ ap (λ (x : Attached). length (attached_at x p)) e
+len_is vars room ws places visits a p n e lt is = is ∙ get_or_default ws p n 0 lt ∙ sym (upto_length ws p (arena_word ws p)) ∙ ap (λ (x : Attached). length (attached_at x p)) e
 
 pub record IsInReach (ws : List ℕ) (p i : ℕ) : Type 0 where
   pub within : p + 3 + i < length ws
   pub limit : length ws < 2 ^ 30
-  pub word : IsWord (word_at ws (p + 3 + i))
+  pub word : IsWord (arena_word ws (p + 3 + i))
 
 pub in_reach : (vars room : ℕ) (ws heads places : List ℕ) (visits : ℕ) (a : Attached) (p i : ℕ) → IsArena vars room ws heads places → attached_of vars room ws places visits ≡ a → Contains a.places p → i < length (attached_at a p) → IsInReach ws p i
 in_reach vars room ws heads places visits a p i k e c lt =
     let h = k.store in
     let here = place_in vars room ws places visits a p e c in
     let b = bounds vars ws places p h here in
-    let size : length (attached_at a p) ≡ word_at ws p = ap (λ (x : Attached). length (attached_at x p)) (sym e) ∙ upto_length ws p (word_at ws p) in
+    let size : length (attached_at a p) ≡ arena_word ws p = ap (λ (x : Attached). length (attached_at x p)) (sym e) ∙ upto_length ws p (arena_word ws p) in
     let within = b.1 in
     let limit = b.2 in
     record { within = omega arith; limit = limit; word = word_there vars ws places p i h here (omega arith) }
 
 pub lit_is : (vars room : ℕ) (ws places : List ℕ) (visits : ℕ) (a : Attached) (p i n : ℕ) (l : Literal) → attached_of vars room ws places visits ≡ a → i < length (attached_at a p) → p + 3 + i < length ws → n ≡ get_or ws (p + 3 + i) n → l ≡ literal_at n → get_or (attached_at a p) i l ≡ l
 lit_is vars room ws places visits a p i n l e lt within is lit =
-    let size : length (attached_at a p) ≡ word_at ws p = ap (λ (x : Attached). length (attached_at x p)) (sym e) ∙ upto_length ws p (word_at ws p) in
-    ap (λ (x : Attached). get_or (attached_at x p) i l) (sym e) ∙ upto_get ws p (word_at ws p) i l (omega arith) ∙ ap literal_at (get_or_default ws (p + 3 + i) 0 n within ∙ sym is) ∙ sym lit
+    let size : length (attached_at a p) ≡ arena_word ws p = ap (λ (x : Attached). length (attached_at x p)) (sym e) ∙ upto_length ws p (arena_word ws p) in
+    ap (λ (x : Attached). get_or (attached_at x p) i l) (sym e) ∙ upto_get ws p (arena_word ws p) i l (omega arith) ∙ ap literal_at (get_or_default ws (p + 3 + i) 0 n within ∙ sym is) ∙ sym lit
 
 -- further variables: their chains are empty
 chain_in : (w n : ℕ) (xs : List ℕ) → w < n → cond (nat_lt w n) xs [] ≡ xs
@@ -247,9 +247,9 @@ module _ (vars room n : ℕ) (ws heads places : List ℕ) (k : IsArena vars room
   spread_chains c = record {
     chains = λ w. cond (nat_lt w (length heads)) (c.chains w) [];
     paths = λ w lt. elim (cases_lt w (length heads)) [
-      | inl l ↦ subst (λ (xs : List ℕ). Path ws (word_at (heads ++ replicate (2 * n) 0) w) xs) (sym (chain_in w (length heads) (c.chains w) l))
+      | inl l ↦ subst (λ (xs : List ℕ). Path ws (arena_word (heads ++ replicate (2 * n) 0) w) xs) (sym (chain_in w (length heads) (c.chains w) l))
           (subst (λ h. Path ws h (c.chains w)) (sym (get_or_append_left heads (replicate (2 * n) 0) 0 w l)) (c.paths w l))
-      | inr g ↦ subst (λ (xs : List ℕ). Path ws (word_at (heads ++ replicate (2 * n) 0) w) xs) (sym (chain_out w (length heads) (c.chains w) g))
+      | inr g ↦ subst (λ (xs : List ℕ). Path ws (arena_word (heads ++ replicate (2 * n) 0) w) xs) (sym (chain_out w (length heads) (c.chains w) g))
           (get_padded heads (2 * n) 0 w ∙ get_or_past heads w 0 g)
     ];
     own = λ w s lt among. elim (cases_lt w (length heads)) [
@@ -263,8 +263,8 @@ module _ (vars room n : ℕ) (ws heads places : List ℕ) (k : IsArena vars room
         let word = b.lits (s % 2) (omega arith) in
         let below = word.below in
         let size = k.size in
-        let at_s : word_at ws (lit_of s) ≡ word_at ws (s / 2 + 3 + s % 2) = refl in
-        ap (λ (xs : List ℕ). times xs s + 0) (chain_in (word_at ws (lit_of s)) (length heads) (c.chains (word_at ws (lit_of s))) (omega arith)) ∙ c.once s here;
+        let at_s : arena_word ws (lit_of s) ≡ arena_word ws (s / 2 + 3 + s % 2) = refl in
+        ap (λ (xs : List ℕ). times xs s + 0) (chain_in (arena_word ws (lit_of s)) (length heads) (c.chains (arena_word ws (lit_of s))) (omega arith)) ∙ c.once s here;
   }
 
   pub arena_spread : vars + n ≤ VARS → IsArena (vars + n) room ws (heads ++ replicate (2 * n) 0) places

@@ -9,7 +9,7 @@ use Rattle.cnf_core.specs.Clause.{AreDistinct, AreThere}
 use Rattle.cnf_core.specs.Propagation.{LiteralSet, IsIn}
 use Rattle.cnf_core.proofs.QuantifierLemmas.{pairs_from_distinct}
 use Rattle.cnf_core.proofs.TrailLemmas.{there_get, word_below}
-use Rattle.watch_arena.specs.Words.{word_at, link_of, lit_of, other_of, block_of, IsLitWord, IsBlock, IsStore, Wrote}
+use Rattle.watch_arena.specs.Words.{arena_word, link_of, lit_of, other_of, block_of, IsLitWord, IsBlock, IsStore, Wrote}
 use Rattle.cnf_core.specs.Times.{times}
 use Rattle.watch_arena.specs.Chains.{HasChains, Pushed}
 use Rattle.watch_arena.specs.Trail.{Marks}
@@ -30,13 +30,13 @@ both_of t p e = elim (same_or_not (2 * p) t) [
 pub not_both_of : (t p : ℕ) → t / 2 ≢ p → times ((2 * p) ∷ (2 * p + 1) ∷ []) t ≡ 0
 not_both_of t p ne = times_tail (2 * p) t ((2 * p + 1) ∷ []) (λ e. ne (omega arith)) ∙ times_tail (2 * p + 1) t [] (λ e. ne (omega arith))
 
-module _ (vars : ℕ) (ws new heads places : List ℕ) (p : ℕ) (h : IsStore vars ws places) (is : p ≡ length ws) (small : length new < 2 ^ 30) (same : (i : ℕ) → i < length ws → word_at new i ≡ word_at ws i) (longer : length ws ≤ length new) (block : IsBlock vars new p) (size : length heads ≡ 2 * vars + 2) where
+module _ (vars : ℕ) (ws new heads places : List ℕ) (p : ℕ) (h : IsStore vars ws places) (is : p ≡ length ws) (small : length new < 2 ^ 30) (same : (i : ℕ) → i < length ws → arena_word new i ≡ arena_word ws i) (longer : length ws ≤ length new) (block : IsBlock vars new p) (size : length heads ≡ 2 * vars + 2) where
   old_block : (q : ℕ) → Contains places q → IsBlock vars new q
   old_block q c =
       let b = h.block q c in
       let two = b.two in
       let within = b.within in
-      let len : word_at new q ≡ word_at ws q = same q (omega arith) in
+      let len : arena_word new q ≡ arena_word ws q = same q (omega arith) in
       record {
         from = b.from;
         two = omega arith;
@@ -55,7 +55,7 @@ module _ (vars : ℕ) (ws new heads places : List ℕ) (p : ℕ) (h : IsStore va
           let b = h.block q old in
           let two = b.two in
           let within = b.within in
-          let len : word_at new q ≡ word_at ws q = same q (omega arith) in
+          let len : arena_word new q ≡ arena_word ws q = same q (omega arith) in
           elim (Contains-push_cases places p r d) [
             | inl other ↦ let a = h.apart q r old other lt in omega arith
             | inr e ↦ omega arith
@@ -67,7 +67,7 @@ module _ (vars : ℕ) (ws new heads places : List ℕ) (p : ℕ) (h : IsStore va
     ];
   }
 
-  old_lit : (t : ℕ) → Contains places (t / 2) → (word_at new (lit_of t) ≡ word_at ws (lit_of t)) × (word_at new (link_of t) ≡ word_at ws (link_of t)) × (word_at new (other_of t) ≡ word_at ws (other_of t)) × (t / 2 < p)
+  old_lit : (t : ℕ) → Contains places (t / 2) → (arena_word new (lit_of t) ≡ arena_word ws (lit_of t)) × (arena_word new (link_of t) ≡ arena_word ws (link_of t)) × (arena_word new (other_of t) ≡ arena_word ws (other_of t)) × (t / 2 < p)
   old_lit t c =
       let b = h.block (t / 2) c in
       let two = b.two in
@@ -77,7 +77,7 @@ module _ (vars : ℕ) (ws new heads places : List ℕ) (p : ℕ) (h : IsStore va
   pub attach_chains : HasChains ws heads places [] → HasChains new heads (places ++ p ∷ []) ((2 * p) ∷ (2 * p + 1) ∷ [])
   attach_chains c = record {
     chains = c.chains;
-    paths = λ w l. path_stays ws new (word_at heads w) (c.chains w) (λ t m. let x = c.own w t l m in let o = old_lit t x.place in o.1) (c.paths w l);
+    paths = λ w l. path_stays ws new (arena_word heads w) (c.chains w) (λ t m. let x = c.own w t l m in let o = old_lit t x.place in o.1) (c.paths w l);
     own = λ w t l m. let x = c.own w t l m in let o = old_lit t x.place in record { place = Contains-append_left places (p ∷ []) (t / 2) x.place; lit = o.0 ∙ x.lit };
     once = λ t m. elim (Contains-push_cases places p (t / 2) m) [
       | inl old ↦
@@ -89,17 +89,17 @@ module _ (vars : ℕ) (ws new heads places : List ℕ) (p : ℕ) (h : IsStore va
     ];
   }
     where
-      gone : (t : ℕ) → p ≡ t / 2 → times (c.chains (word_at new (lit_of t))) t ≡ 0
-      gone t e = gone_by (cases_lt (word_at new (lit_of t)) (length heads)) (cases_lt 0 (times (c.chains (word_at new (lit_of t))) t))
+      gone : (t : ℕ) → p ≡ t / 2 → times (c.chains (arena_word new (lit_of t))) t ≡ 0
+      gone t e = gone_by (cases_lt (arena_word new (lit_of t)) (length heads)) (cases_lt 0 (times (c.chains (arena_word new (lit_of t))) t))
         where
-          gone_by : (word_at new (lit_of t) < length heads) ⊎ (length heads ≤ word_at new (lit_of t)) → (0 < times (c.chains (word_at new (lit_of t))) t) ⊎ (times (c.chains (word_at new (lit_of t))) t ≤ 0) → times (c.chains (word_at new (lit_of t))) t ≡ 0
+          gone_by : (arena_word new (lit_of t) < length heads) ⊎ (length heads ≤ arena_word new (lit_of t)) → (0 < times (c.chains (arena_word new (lit_of t))) t) ⊎ (times (c.chains (arena_word new (lit_of t))) t ≤ 0) → times (c.chains (arena_word new (lit_of t))) t ≡ 0
           gone_by l (inr z) = omega arith
-          gone_by (inl l) (inl some) = let x = c.own (word_at new (lit_of t)) t l (in_times (c.chains (word_at new (lit_of t))) t (omega arith)) in let o = old_lit t x.place in let lt = o.3 in absurd (omega arith)
+          gone_by (inl l) (inl some) = let x = c.own (arena_word new (lit_of t)) t l (in_times (c.chains (arena_word new (lit_of t))) t (omega arith)) in let o = old_lit t x.place in let lt = o.3 in absurd (omega arith)
           gone_by (inr g) (inl some) =
               let two = block.two in
               let l = block.lits (t % 2) (omega arith) in
               let b = l.below in
-              let here : word_at new (lit_of t) ≡ word_at new (p + 3 + t % 2) = ap (word_at new) (omega arith) in
+              let here : arena_word new (lit_of t) ≡ arena_word new (p + 3 + t % 2) = ap (arena_word new) (omega arith) in
               absurd (omega arith)
 
   pub attach_quiet : (done : LiteralSet) (m : Marks) → AreGuarded ws places done m [] → AreGuarded new (places ++ p ∷ []) done m ((2 * p) ∷ (2 * p + 1) ∷ [])
@@ -115,9 +115,9 @@ pub quiet_linked : (m : Marks) (ws new places out : List ℕ) (done : LiteralSet
 quiet_linked m ws new places out done s v h p link q = λ t c none f.
     let b = h.block (t / 2) c in
     let two = b.two in
-    let lit : word_at new (lit_of t) ≡ word_at ws (lit_of t) = link_lit m.vars ws new places s v h p link (t / 2) (t % 2) c (omega arith) in
+    let lit : arena_word new (lit_of t) ≡ arena_word ws (lit_of t) = link_lit m.vars ws new places s v h p link (t / 2) (t % 2) c (omega arith) in
     let is : other_of t ≡ t / 2 + 3 + (1 - t % 2) = omega arith in
-    let other : word_at new (other_of t) ≡ word_at ws (other_of t) = ap (word_at new) is ∙ link_lit m.vars ws new places s v h p link (t / 2) (1 - t % 2) c (omega arith) ∙ ap (word_at ws) (sym is) in
+    let other : arena_word new (other_of t) ≡ arena_word ws (other_of t) = ap (arena_word new) is ∙ link_lit m.vars ws new places s v h p link (t / 2) (1 - t % 2) c (omega arith) ∙ ap (arena_word ws) (sym is) in
     subst (λ n. IsTrueNoLater m (negate (literal_at n)) (lit_at new (other_of t))) (sym lit) (subst (λ n. IsTrueNoLater m (negate (lit_at ws (lit_of t))) (literal_at n)) (sym other) (q t c none (subst (λ n. IsIn done (negate (literal_at n))) lit f)))
 
 -- the words behind
@@ -136,16 +136,16 @@ word_from l from = by_sign l.var l.positive from
     by_sign x false h = omega arith
 
 module _ (vars : ℕ) (ws : List ℕ) (lits : List Literal) (from : 1 ≤ length ws) (two : 2 ≤ length lits) (there : AreThere vars lits) (distinct : AreDistinct lits) where
-  pub behind : (i : ℕ) → word_at (ws ++ block_of lits) (length ws + i) ≡ word_at (block_of lits) i
-  behind i = get_or-append_right ws (block_of lits) (length ws) (length ws + i) 0 refl (omega arith) ∙ ap (word_at (block_of lits)) (omega arith)
+  pub behind : (i : ℕ) → arena_word (ws ++ block_of lits) (length ws + i) ≡ arena_word (block_of lits) i
+  behind i = get_or-append_right ws (block_of lits) (length ws) (length ws + i) 0 refl (omega arith) ∙ ap (arena_word (block_of lits)) (omega arith)
 
-  pub before : (i : ℕ) → i < length ws → word_at (ws ++ block_of lits) i ≡ word_at ws i
+  pub before : (i : ℕ) → i < length ws → arena_word (ws ++ block_of lits) i ≡ arena_word ws i
   before i lt = get_or_append_left ws (block_of lits) 0 i lt
 
-  pub behind_lit : (k : ℕ) (d : Literal) → k < length lits → word_at (ws ++ block_of lits) (length ws + 3 + k) ≡ word_of (get_or lits k d)
-  behind_lit k d lt = ap (word_at (ws ++ block_of lits)) (omega arith) ∙ behind (3 + k) ∙ of_block k d lt
+  pub behind_lit : (k : ℕ) (d : Literal) → k < length lits → arena_word (ws ++ block_of lits) (length ws + 3 + k) ≡ word_of (get_or lits k d)
+  behind_lit k d lt = ap (arena_word (ws ++ block_of lits)) (omega arith) ∙ behind (3 + k) ∙ of_block k d lt
     where
-      of_block : (k : ℕ) (d : Literal) → k < length lits → word_at (block_of lits) (3 + k) ≡ word_of (get_or lits k d)
+      of_block : (k : ℕ) (d : Literal) → k < length lits → arena_word (block_of lits) (3 + k) ≡ word_of (get_or lits k d)
       of_block k d lt = rw (add_three k) (mapped lits k d lt)
         where
           add_three : (k : ℕ) → 3 + k ≡ suc (suc (suc k))
@@ -161,7 +161,7 @@ module _ (vars : ℕ) (ws : List ℕ) (lits : List Literal) (from : 1 ≤ length
 
   pub behind_block : IsBlock vars (ws ++ block_of lits) (length ws)
   behind_block =
-      let len : word_at (ws ++ block_of lits) (length ws) ≡ length lits = ap (word_at (ws ++ block_of lits)) (omega arith) ∙ behind 0 in
+      let len : arena_word (ws ++ block_of lits) (length ws) ≡ length lits = ap (arena_word (ws ++ block_of lits)) (omega arith) ∙ behind 0 in
       let size = behind_length in
       record {
         from = from;
@@ -182,20 +182,20 @@ module _ (vars : ℕ) (ws : List ℕ) (lits : List Literal) (from : 1 ≤ length
 
 -- both watches are put into their chains
 pub linked : (m : Marks) (ws mid new heads next then places : List ℕ) (p a b : ℕ) → IsStore m.vars ws places → Contains places p → length heads ≡ 2 * m.vars + 2 → HasChains ws heads places ((2 * p) ∷ (2 * p + 1) ∷ []) →
-    AreGuarded ws places (past_of m) m ((2 * p) ∷ (2 * p + 1) ∷ []) → word_at ws (p + 3 + 0) ≡ a → word_at ws (p + 3 + 1) ≡ b → Pushed ws mid heads next (2 * p) a → Pushed mid new next then (2 * p + 1) b → IsAttached m new then places p
+    AreGuarded ws places (past_of m) m ((2 * p) ∷ (2 * p + 1) ∷ []) → arena_word ws (p + 3 + 0) ≡ a → arena_word ws (p + 3 + 1) ≡ b → Pushed ws mid heads next (2 * p) a → Pushed mid new next then (2 * p + 1) b → IsAttached m new then places p
 linked m ws mid new heads next then places p a b h place size c q ea eb d e =
     let here : Contains places ((2 * p) / 2) = subst (λ n. Contains places n) (omega arith) place in
     let here2 : Contains places ((2 * p + 1) / 2) = subst (λ n. Contains places n) (omega arith) place in
     let block = h.block p place in
     let two = block.two in
-    let link : Wrote ws mid (link_of (2 * p)) (word_at heads a) = d.link in
-    let link2 : Wrote mid new (link_of (2 * p + 1)) (word_at next b) = e.link in
+    let link : Wrote ws mid (link_of (2 * p)) (arena_word heads a) = d.link in
+    let link2 : Wrote mid new (link_of (2 * p + 1)) (arena_word next b) = e.link in
     let head : Wrote heads next a (2 * p) = d.head in
     let head2 : Wrote next then b (2 * p + 1) = e.head in
-    let la : word_at ws (lit_of (2 * p)) ≡ a = ap (word_at ws) (omega arith) ∙ ea in
-    let h2 = link_store m.vars ws mid places (2 * p) (word_at heads a) h here link in
-    let lb0 : word_at mid (p + 3 + 1) ≡ b = link_lit m.vars ws mid places (2 * p) (word_at heads a) h here link p 1 place (omega arith) ∙ eb in
-    let lb : word_at mid (lit_of (2 * p + 1)) ≡ b = ap (word_at mid) (omega arith) ∙ lb0 in
+    let la : arena_word ws (lit_of (2 * p)) ≡ a = ap (arena_word ws) (omega arith) ∙ ea in
+    let h2 = link_store m.vars ws mid places (2 * p) (arena_word heads a) h here link in
+    let lb0 : arena_word mid (p + 3 + 1) ≡ b = link_lit m.vars ws mid places (2 * p) (arena_word heads a) h here link p 1 place (omega arith) ∙ eb in
+    let lb : arena_word mid (lit_of (2 * p + 1)) ≡ b = ap (arena_word mid) (omega arith) ∙ lb0 in
     let wa = block.lits 0 (omega arith) in
     let wb = block.lits 1 (omega arith) in
     let below_a = wa.below in
@@ -203,12 +203,12 @@ linked m ws mid new heads next then places p a b h place size c q ea eb d e =
     let size2 = head.size in
     let size3 = head2.size in
     record {
-      store = link_store m.vars mid new places (2 * p + 1) (word_at next b) h2 here2 link2;
+      store = link_store m.vars mid new places (2 * p + 1) (arena_word next b) h2 here2 link2;
       size = omega arith;
       chains = push_chains m.vars mid new next then places [] (2 * p + 1) b h2 here2 lb (omega arith) (push_chains m.vars ws mid heads next places ((2 * p + 1) ∷ []) (2 * p) a h here la (omega arith) c d) e;
       place = place;
-      quiet = quiet_linked m mid new places ((2 * p) ∷ (2 * p + 1) ∷ []) (past_of m) (2 * p + 1) (word_at next b) h2 here2 link2
-          (quiet_linked m ws mid places ((2 * p) ∷ (2 * p + 1) ∷ []) (past_of m) (2 * p) (word_at heads a) h here link q);
+      quiet = quiet_linked m mid new places ((2 * p) ∷ (2 * p + 1) ∷ []) (past_of m) (2 * p + 1) (arena_word next b) h2 here2 link2
+          (quiet_linked m ws mid places ((2 * p) ∷ (2 * p + 1) ∷ []) (past_of m) (2 * p) (arena_word heads a) h here link q);
     }
 
 -- what the writes of its links need
@@ -256,17 +256,17 @@ linked_lits m ws mid new heads next then places p a b k d e =
     let place = k.place in
     let here : Contains places ((2 * p) / 2) = subst (λ n. Contains places n) (omega arith) place in
     let here2 : Contains places ((2 * p + 1) / 2) = subst (λ n. Contains places n) (omega arith) place in
-    let link : Wrote ws mid (link_of (2 * p)) (word_at heads a) = d.link in
-    let link2 : Wrote mid new (link_of (2 * p + 1)) (word_at next b) = e.link in
-    let h2 = link_store m.vars ws mid places (2 * p) (word_at heads a) k.store here link in
-    keeps_lits_push m.vars ws mid new places (2 * p + 1) (word_at next b) h2 here2 link2 (keeps_lits_push m.vars ws ws mid places (2 * p) (word_at heads a) k.store here link (keeps_lits_none places ws))
+    let link : Wrote ws mid (link_of (2 * p)) (arena_word heads a) = d.link in
+    let link2 : Wrote mid new (link_of (2 * p + 1)) (arena_word next b) = e.link in
+    let h2 = link_store m.vars ws mid places (2 * p) (arena_word heads a) k.store here link in
+    keeps_lits_push m.vars ws mid new places (2 * p + 1) (arena_word next b) h2 here2 link2 (keeps_lits_push m.vars ws ws mid places (2 * p) (arena_word heads a) k.store here link (keeps_lits_none places ws))
 
 -- the words behind the others hold the clause, and the others hold what they held
 pub behind_lits : (vars : ℕ) (ws : List ℕ) (lits : List Literal) (from : 1 ≤ length ws) (two : 2 ≤ length lits) (there : AreThere vars lits) (distinct : AreDistinct lits) → lits_at (ws ++ block_of lits) (length ws) ≡ lits
 behind_lits vars ws lits from two there distinct = lits_are (ws ++ block_of lits) (length ws) lits len (λ k d lt. ap literal_at (behind_lit vars ws lits from two there distinct k d lt) ∙ literal_word (get_or lits k d))
   where
-    len : word_at (ws ++ block_of lits) (length ws) ≡ length lits
-    len = ap (word_at (ws ++ block_of lits)) (omega arith) ∙ behind vars ws lits from two there distinct 0
+    len : arena_word (ws ++ block_of lits) (length ws) ≡ length lits
+    len = ap (arena_word (ws ++ block_of lits)) (omega arith) ∙ behind vars ws lits from two there distinct 0
 
 pub before_lits : (vars : ℕ) (ws places : List ℕ) (lits : List Literal) (from : 1 ≤ length ws) (two : 2 ≤ length lits) (there : AreThere vars lits) (distinct : AreDistinct lits) → IsStore vars ws places → KeepsLits places ws (ws ++ block_of lits)
 before_lits vars ws places lits from two there distinct h = record {

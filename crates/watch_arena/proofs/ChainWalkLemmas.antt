@@ -9,7 +9,7 @@ use Rattle.cnf_core.specs.Clause.{IsThere}
 use Rattle.cnf_core.specs.Propagation.{LiteralSet, IsIn, Includes}
 use Rattle.cnf_core.proofs.PropagationLemmas.{negate-negate, has_from_contains, contains_from_has}
 use Rattle.cnf_core.proofs.TrailLemmas.{front_includes, has_front, same_literal_or, word_below, front_differs}
-use Rattle.watch_arena.specs.Words.{word_at, link_of, lit_of, other_of, IsStore, Wrote}
+use Rattle.watch_arena.specs.Words.{arena_word, link_of, lit_of, other_of, IsStore, Wrote}
 use Rattle.cnf_core.specs.Times.{times}
 use Rattle.watch_arena.specs.Chains.{Path, IsWatch, HasChains, Pushed}
 use Rattle.watch_arena.specs.Trail.{Marks, IsMarks, IsLonger, advanced}
@@ -51,12 +51,12 @@ finished m ws heads places done w s k e = by_rest k.rest k.chains k.path k.own k
         absurd (omega arith)
 
 -- a step that puts a watch back
-pub back_step : (m : Marks) (ws new heads then places : List ℕ) (w s : ℕ) → IsWalking m ws heads places (past_of m) w s → s ≢ 0 → past_of m (negate (literal_at w)) ≡ false → Pushed ws new heads then s w → IsStepped m ws new then places (past_of m) w s (word_at ws (link_of s))
+pub back_step : (m : Marks) (ws new heads then places : List ℕ) (w s : ℕ) → IsWalking m ws heads places (past_of m) w s → s ≢ 0 → past_of m (negate (literal_at w)) ≡ false → Pushed ws new heads then s w → IsStepped m ws new then places (past_of m) w s (arena_word ws (link_of s))
 back_step m ws new heads then places w s k some fresh d =
     let r = ready m ws heads places (past_of m) w s k some in
     let o = walking_first m ws heads places (past_of m) w s k some in
     let x : IsOpened m ws heads places (past_of m) w s o.0 = o.1 in
-    visited m ws new heads then places (past_of m) w s (word_at ws (link_of s)) o.0 ws x x.path (opened_steps m ws heads places (past_of m) w s o.0 x) w r.lit r.head d
+    visited m ws new heads then places (past_of m) w s (arena_word ws (link_of s)) o.0 ws x x.path (opened_steps m ws heads places (past_of m) w s o.0 x) w r.lit r.head d
     (λ f. let g : IsIn (past_of m) (negate (literal_at w)) = subst (λ n. IsIn (past_of m) (negate (literal_at n))) r.lit f in absurd (cc (g, fresh)))
 
 pub past_done : (m : Marks) → Includes (done_of m) (past_of m)
@@ -107,7 +107,7 @@ module _ (m : Marks) (l : Literal) (w : ℕ) (marks : IsMarks m) (lt : m.front <
   next_done = ap has (take_more m.lits m.front l lt ∙ ap (λ (k : Literal). take m.front m.lits ++ k ∷ []) is)
 
   -- the chain of its negation is taken off its head
-  pub starting : (ws heads then places : List ℕ) → IsWatched m ws heads places (past_of m) → w < length heads → Wrote heads then w 0 → IsWalking m ws then places (done_of m) w (word_at heads w)
+  pub starting : (ws heads then places : List ℕ) → IsWatched m ws heads places (past_of m) → w < length heads → Wrote heads then w 0 → IsWalking m ws then places (done_of m) w (arena_word heads w)
   starting ws heads then places k lh d = record {
     rest = chains.chains w;
     store = k.store;
@@ -115,18 +115,18 @@ module _ (m : Marks) (l : Literal) (w : ℕ) (marks : IsMarks m) (lt : m.front <
     chains = record {
       chains = after;
       paths = λ v lv. elim (same_or_not v w) [
-        | inl e ↦ subst (λ u. Path ws (word_at then u) (after u)) (sym e) (subst (λ (ss : List ℕ). Path ws (word_at then w) ss) (sym after_here) d.here)
-        | inr ne ↦ subst (λ (ss : List ℕ). Path ws (word_at then v) ss) (sym (after_there v ne)) (subst (λ n. Path ws n (chains.chains v)) (sym (d.other v ne)) (chains.paths v (let size = d.size in omega arith)))
+        | inl e ↦ subst (λ u. Path ws (arena_word then u) (after u)) (sym e) (subst (λ (ss : List ℕ). Path ws (arena_word then w) ss) (sym after_here) d.here)
+        | inr ne ↦ subst (λ (ss : List ℕ). Path ws (arena_word then v) ss) (sym (after_there v ne)) (subst (λ n. Path ws n (chains.chains v)) (sym (d.other v ne)) (chains.paths v (let size = d.size in omega arith)))
       ];
       own = λ v t lv among. elim (same_or_not v w) [
         | inl e ↦ absurd (no_member t (subst (λ (ss : List ℕ). Contains ss t) (ap after e ∙ after_here) among))
         | inr ne ↦ chains.own v t (let size = d.size in omega arith) (subst (λ (ss : List ℕ). Contains ss t) (after_there v ne) among)
       ];
-      once = λ t c. once t c (word_at ws (lit_of t)) refl;
+      once = λ t c. once t c (arena_word ws (lit_of t)) refl;
     };
     path = chains.paths w lh;
     own = λ t among. chains.own w t lh among;
-    quiet = λ t c none f. elim (same_or_not (word_at ws (lit_of t)) w) [
+    quiet = λ t c none f. elim (same_or_not (arena_word ws (lit_of t)) w) [
       | inl e ↦ absurd (lost t c e none)
       | inr ne ↦ k.quiet t c refl (was_past t ne f)
     ];
@@ -147,12 +147,12 @@ module _ (m : Marks) (l : Literal) (w : ℕ) (marks : IsMarks m) (lt : m.front <
       no_member : (t : ℕ) → Contains [] t → ⊥
       no_member t c = let lt = c.1 in omega arith
 
-      lost : (t : ℕ) → Contains places (t / 2) → word_at ws (lit_of t) ≡ w → times (chains.chains w) t ≡ 0 → ⊥
+      lost : (t : ℕ) → Contains places (t / 2) → arena_word ws (lit_of t) ≡ w → times (chains.chains w) t ≡ 0 → ⊥
       lost t c e none =
           let one : times (chains.chains w) t + 0 ≡ 1 = subst (λ u. times (chains.chains u) t + 0 ≡ 1) e (chains.once t c) in
           omega arith
 
-      once : (t : ℕ) → Contains places (t / 2) → (v : ℕ) → word_at ws (lit_of t) ≡ v → times (after v) t + times (chains.chains w) t ≡ 1
+      once : (t : ℕ) → Contains places (t / 2) → (v : ℕ) → arena_word ws (lit_of t) ≡ v → times (after v) t + times (chains.chains w) t ≡ 1
       once t c v e = elim (same_or_not v w) [
         | inl same ↦
             let one : times (chains.chains w) t + 0 ≡ 1 = subst (λ u. times (chains.chains u) t + 0 ≡ 1) (e ∙ same) (chains.once t c) in
@@ -168,19 +168,19 @@ module _ (m : Marks) (l : Literal) (w : ℕ) (marks : IsMarks m) (lt : m.front <
             omega arith
       ]
 
-      was_past : (t : ℕ) → word_at ws (lit_of t) ≢ w → IsIn (done_of m) (negate (lit_at ws (lit_of t))) → IsIn (past_of m) (negate (lit_at ws (lit_of t)))
+      was_past : (t : ℕ) → arena_word ws (lit_of t) ≢ w → IsIn (done_of m) (negate (lit_at ws (lit_of t))) → IsIn (past_of m) (negate (lit_at ws (lit_of t)))
       was_past t ne f =
           let g : IsIn (has (take m.front m.lits ++ l ∷ [])) (negate (lit_at ws (lit_of t))) = subst (λ (set : LiteralSet). IsIn set (negate (lit_at ws (lit_of t)))) next_done f in
           elim (same_literal_or (negate (lit_at ws (lit_of t))) l) [
-            | inl e ↦ absurd (ne (words_same (word_at ws (lit_of t)) w (sym (negate-negate (lit_at ws (lit_of t))) ∙ ap negate (e ∙ sym next_is) ∙ negate-negate (literal_at w))))
+            | inl e ↦ absurd (ne (words_same (arena_word ws (lit_of t)) w (sym (negate-negate (lit_at ws (lit_of t))) ∙ ap negate (e ∙ sym next_is) ∙ negate-negate (literal_at w))))
             | inr other ↦ sym (has_front (take m.front m.lits) l (negate (lit_at ws (lit_of t))) other) ∙ g
           ]
 
 -- a clause all of whose literals are false
-pub all_false : (ws : List ℕ) (set : LiteralSet) (w s : ℕ) → word_at ws (lit_of s) ≡ w → IsIn set (negate (literal_at w)) → IsFalsified ws set s → AreFalse ws set (s / 2)
+pub all_false : (ws : List ℕ) (set : LiteralSet) (w s : ℕ) → arena_word ws (lit_of s) ≡ w → IsIn set (negate (literal_at w)) → IsFalsified ws set s → AreFalse ws set (s / 2)
 all_false ws set w s lit false_now x = λ k lt. elim (cases_lt k 2) [
   | inl small ↦ elim (same_or_not k (s % 2)) [
-    | inl e ↦ subst (λ n. IsIn set (negate (literal_at n))) (sym lit ∙ ap (λ j. word_at ws (s / 2 + 3 + j)) (sym e)) false_now
+    | inl e ↦ subst (λ n. IsIn set (negate (literal_at n))) (sym lit ∙ ap (λ j. arena_word ws (s / 2 + 3 + j)) (sym e)) false_now
     | inr ne ↦ subst (λ n. IsIn set (negate (lit_at ws n))) (omega arith) x.other
   ]
   | inr big ↦ x.rest k big lt

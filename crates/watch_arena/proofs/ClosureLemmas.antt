@@ -7,7 +7,7 @@ use Rattle.cnf_core.specs.Lit.{Literal, literal_at, negate, has}
 use Rattle.cnf_core.specs.Clause.{Clauses}
 use Rattle.cnf_core.specs.Propagation.{LiteralSet, IsIn, IsUnit, IsClosed, Closure, IsConsistent, Falsified}
 use Rattle.cnf_core.proofs.TrailLemmas.{distinct_consistent}
-use Rattle.watch_arena.specs.Words.{word_at, lit_of, other_of}
+use Rattle.watch_arena.specs.Words.{arena_word, lit_of, other_of}
 use Rattle.watch_arena.specs.Trail.{Marks, IsMarks, IsLonger, advanced}
 use Rattle.cnf_core.specs.Trail.{Grows}
 use Rattle.watch_arena.specs.Walk.{lit_at, past_of, IsTrueNoLater, IsClauseAt, HoldsClauses, KeepsClauses, IsWatched, IsMade, IsClash, KeepsLits, Closes, Clashes, IsReasoned}
@@ -32,7 +32,7 @@ made_more old mid new ws then now places a b = record {
 }
 
 -- one clause of which each watch is true where the other is false
-module _ (set : LiteralSet) (ws : List ℕ) (p : ℕ) (c : List Literal) (is : IsClauseAt ws p c) (two : 2 ≤ word_at ws p) (differ : word_at ws (p + 3 + 0) / 2 ≢ word_at ws (p + 3 + 1) / 2) (consistent : IsConsistent set)
+module _ (set : LiteralSet) (ws : List ℕ) (p : ℕ) (c : List Literal) (is : IsClauseAt ws p c) (two : 2 ≤ arena_word ws p) (differ : arena_word ws (p + 3 + 0) / 2 ≢ arena_word ws (p + 3 + 1) / 2) (consistent : IsConsistent set)
     (first : IsIn set (negate (lit_at ws (p + 3 + 0))) → IsIn set (lit_at ws (p + 3 + 1))) (second : IsIn set (negate (lit_at ws (p + 3 + 1))) → IsIn set (lit_at ws (p + 3 + 0))) where
   first_in : Contains c (lit_at ws (p + 3 + 0))
   first_in = (is (lit_at ws (p + 3 + 0))).1 (0, omega arith, refl)
@@ -120,7 +120,7 @@ clash_clashes old new start ws places p made clash = λ clauses t.
       each = All-weaker (Contains c) (λ k. Closure clauses (has old.lits) (negate k)) (λ k among. grown.within (negate k) (falsified k ((is k).0 among))) c (All-contains_itself c);
     }
   where
-    falsified : (k : Literal) → (n : ℕ) × (n < word_at ws p) × (lit_at ws (p + 3 + n) ≡ k) → IsIn (has new.lits) (negate k)
+    falsified : (k : Literal) → (n : ℕ) × (n < arena_word ws p) × (lit_at ws (p + 3 + n) ≡ k) → IsIn (has new.lits) (negate k)
     falsified k n = subst (λ (l : Literal). IsIn (has new.lits) (negate l)) n.2 (clash.false_all n.0 n.1)
 
 pub made_text : (old new : Marks) (ws then now places : List ℕ) → IsMade old new ws then places → KeepsClauses places then now → IsMade old new ws now places
@@ -134,5 +134,5 @@ made_advanced old new ws now places a =
 pub clash_kept : (ws now places : List ℕ) (set : LiteralSet) (p : ℕ) → IsClash ws places set p → KeepsLits places ws now → IsClash now places set p
 clash_kept ws now places set p x k = record {
   place = x.place;
-  false_all = λ j lt. let size = k.size p x.place in let lt2 : j < word_at ws p = omega arith in subst (λ n. IsIn set (negate (literal_at n))) (sym (k.lits p j x.place lt2)) (x.false_all j lt2);
+  false_all = λ j lt. let size = k.size p x.place in let lt2 : j < arena_word ws p = omega arith in subst (λ n. IsIn set (negate (literal_at n))) (sym (k.lits p j x.place lt2)) (x.false_all j lt2);
 }

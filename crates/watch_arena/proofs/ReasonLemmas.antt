@@ -7,7 +7,7 @@ use Rattle.std.proofs.lemmas.List.Elements.{Contains-push_cases, Contains-push, 
 use Rattle.cnf_core.specs.Lit.{Literal, literal_at, negate, has}
 use Rattle.cnf_core.specs.Clause.{Clauses, IsThere}
 use Rattle.cnf_core.specs.Propagation.{IsIn, IsUnit}
-use Rattle.watch_arena.specs.Words.{word_at, lit_of}
+use Rattle.watch_arena.specs.Words.{arena_word, lit_of}
 use Rattle.watch_arena.specs.Trail.{Marks, IsMarks, IsUnset, with_lit, opened}
 use Rattle.watch_arena.specs.Walk.{HoldsClauses, KeepsClauses, IsReasonFor, IsReasoned, IsAlone, lits_at}
 use Rattle.watch_arena.proofs.TextLemmas.{is_clause, unit_kept}
@@ -125,7 +125,7 @@ module _ (m : Marks) (l : Literal) (p : ℕ) (marks : IsMarks m) (there : IsTher
     }
 
 -- the reason that a look finds
-pub alone_reason : (ws places : List ℕ) (lits : List Literal) (w s : ℕ) (l : Literal) → Contains places (s / 2) → 2 ≤ word_at ws (s / 2) → word_at ws (lit_of s) ≡ w → IsIn (has lits) (negate (literal_at w)) → IsAlone ws lits s l → IsReasonFor ws places lits l (s / 2)
+pub alone_reason : (ws places : List ℕ) (lits : List Literal) (w s : ℕ) (l : Literal) → Contains places (s / 2) → 2 ≤ arena_word ws (s / 2) → arena_word ws (lit_of s) ≡ w → IsIn (has lits) (negate (literal_at w)) → IsAlone ws lits s l → IsReasonFor ws places lits l (s / 2)
 alone_reason ws places lits w s l place two lit false_now a = record { place = place; unit = alone_unit ws lits w s l (lits_at ws (s / 2)) (is_clause ws (s / 2)) two lit false_now a }
 
 -- a trail without literals

@@ -5,7 +5,7 @@ use Rattle.std.proofs.lemmas.List.{take_all, take_more, get_or_append_left, get_
 use Rattle.std.proofs.lemmas.List.Elements.{All-contains, All-contains_itself, All-weaker, Contains-push_cases, Contains-push, Contains-append_left}
 use Rattle.cnf_core.specs.Lit.{Literal, literal_at, negate}
 use Rattle.cnf_core.specs.Propagation.{LiteralSet, IsIn, IsUnit, SameLiterals}
-use Rattle.watch_arena.specs.Words.{word_at}
+use Rattle.watch_arena.specs.Words.{arena_word}
 use Rattle.watch_arena.specs.Walk.{lit_at, lits_upto, lits_at, IsClauseAt, HoldsClauses, KeepsClauses, KeepsLits, AreFalse}
 use Rattle.cnf_core.proofs.NumberLemmas.{same_or_not}
 
@@ -24,7 +24,7 @@ in_upto ws p (suc n) k lt = elim (same_or_not k n) [
 ]
 
 pub is_clause : (ws : List ℕ) (p : ℕ) → IsClauseAt ws p (lits_at ws p)
-is_clause ws p = λ l. (λ c. upto_in ws p (word_at ws p) l c, λ k. subst (λ (u : Literal). Contains (lits_at ws p) u) k.2 (in_upto ws p (word_at ws p) k.0 k.1))
+is_clause ws p = λ l. (λ c. upto_in ws p (arena_word ws p) l c, λ k. subst (λ (u : Literal). Contains (lits_at ws p) u) k.2 (in_upto ws p (arena_word ws p) k.0 k.1))
 
 contains_map : (f : ℕ → List Literal) (ps : List ℕ) (p : ℕ) → Contains ps p → Contains (map f ps) (f p)
 contains_map f ps p c = at_place f ps p c.0 c.1 c.2
@@ -75,8 +75,8 @@ upto_same ws new p (suc n) same =
     ap (λ (ls : List Literal). ls ++ lit_at new (p + 3 + n) ∷ []) (upto_same ws new p n (λ k lt. same k (omega arith)))
     ∙ ap (λ (l : Literal). lits_upto ws p n ++ l ∷ []) (same n (omega arith))
 
-pub lits_same : (ws new : List ℕ) (p : ℕ) → word_at new p ≡ word_at ws p → ((k : ℕ) → k < word_at ws p → lit_at new (p + 3 + k) ≡ lit_at ws (p + 3 + k)) → lits_at new p ≡ lits_at ws p
-lits_same ws new p size same = ap (lits_upto new p) size ∙ upto_same ws new p (word_at ws p) same
+pub lits_same : (ws new : List ℕ) (p : ℕ) → arena_word new p ≡ arena_word ws p → ((k : ℕ) → k < arena_word ws p → lit_at new (p + 3 + k) ≡ lit_at ws (p + 3 + k)) → lits_at new p ≡ lits_at ws p
+lits_same ws new p size same = ap (lits_upto new p) size ∙ upto_same ws new p (arena_word ws p) same
 
 pub kept_lits : (places old new : List ℕ) (p : ℕ) → KeepsLits places old new → Contains places p → lits_at new p ≡ lits_at old p
 kept_lits places old new p k c = lits_same old new p (k.size p c) (λ j lt. ap literal_at (k.lits p j c lt))
@@ -90,7 +90,7 @@ upto_take ws p lits (suc n) le same =
     ∙ ap (λ (l : Literal). take n lits ++ l ∷ []) (same n (lit_at ws (p + 3 + n)) (omega arith))
     ∙ sym (take_more lits n (lit_at ws (p + 3 + n)) (omega arith)) ∙ ap (λ i. take i lits) next
 
-pub lits_are : (ws : List ℕ) (p : ℕ) (lits : List Literal) → word_at ws p ≡ length lits → ((k : ℕ) (d : Literal) → k < length lits → lit_at ws (p + 3 + k) ≡ get_or lits k d) → lits_at ws p ≡ lits
+pub lits_are : (ws : List ℕ) (p : ℕ) (lits : List Literal) → arena_word ws p ≡ length lits → ((k : ℕ) (d : Literal) → k < length lits → lit_at ws (p + 3 + k) ≡ get_or lits k d) → lits_at ws p ≡ lits
 lits_are ws p lits size same = ap (lits_upto ws p) size ∙ upto_take ws p lits (length lits) (omega arith) same ∙ take_all (length lits) lits (omega arith)
 
 -- a clause by its places
@@ -108,5 +108,5 @@ upto_get ws p (suc n) k d lt = elim (same_or_not k n) [
 pub all_false : (ws : List ℕ) (p : ℕ) (set : LiteralSet) → AreFalse ws set p → All (λ k. IsIn set (negate k)) (lits_at ws p)
 all_false ws p set f = All-weaker (Contains (lits_at ws p)) (λ k. IsIn set (negate k)) (λ k among. by_place k ((is_clause ws p k).0 among)) (lits_at ws p) (All-contains_itself (lits_at ws p))
   where
-    by_place : (k : Literal) → (n : ℕ) × (n < word_at ws p) × (lit_at ws (p + 3 + n) ≡ k) → IsIn set (negate k)
+    by_place : (k : Literal) → (n : ℕ) × (n < arena_word ws p) × (lit_at ws (p + 3 + n) ≡ k) → IsIn set (negate k)
     by_place k n = subst (λ (l : Literal). IsIn set (negate l)) n.2 (f n.0 n.1)

@@ -4,7 +4,7 @@ use Rattle.cnf_core.specs.Lit.{Literal, negate, literal_at, has}
 use Rattle.cnf_core.specs.Clause.{Clauses}
 use Rattle.cnf_core.specs.Propagation.{LiteralSet, IsIn, IsUnit, Falsifies, IsClosure}
 use Rattle.cnf_core.specs.Trail.{Grows}
-use Rattle.watch_arena.specs.Words.{word_at, link_of, lit_of, other_of, IsStore}
+use Rattle.watch_arena.specs.Words.{arena_word, link_of, lit_of, other_of, IsStore}
 use Rattle.cnf_core.specs.Times.{times}
 use Rattle.watch_arena.specs.Chains.{steps, Path, IsWatch, HasChains}
 use Rattle.watch_arena.specs.Trail.{IsUnset, Marks, IsLonger}
@@ -12,7 +12,7 @@ use Rattle.watch_arena.specs.declared.looks.Look.{Look}
 use Rattle.watch_arena.specs.declared.looks.Look.TheVariants.{True, Move, Unit as Alone, Falsified}
 
 abbrev pub lit_at : List ℕ → ℕ → Literal
-lit_at ws i = literal_at (word_at ws i)
+lit_at ws i = literal_at (arena_word ws i)
 
 -- the first n literals of the clause at a place, and all of them, in their present order
 abbrev pub lits_upto : List ℕ → ℕ → ℕ → List Literal
@@ -20,16 +20,16 @@ lits_upto ws p zero = []
 lits_upto ws p (suc n) = lits_upto ws p n ++ lit_at ws (p + 3 + n) ∷ []
 
 abbrev pub lits_at : List ℕ → ℕ → List Literal
-lits_at ws p = lits_upto ws p (word_at ws p)
+lits_at ws p = lits_upto ws p (arena_word ws p)
 
 -- all literals of the clause behind its two watches are false
 abbrev pub RestFalse : List ℕ → LiteralSet → ℕ → Type 0
-RestFalse ws set p = (k : ℕ) → 2 ≤ k → k < word_at ws p → IsIn set (negate (lit_at ws (p + 3 + k)))
+RestFalse ws set p = (k : ℕ) → 2 ≤ k → k < arena_word ws p → IsIn set (negate (lit_at ws (p + 3 + k)))
 
 -- the clause's literal at this place isn't false, and is no watch
 pub record IsMove (ws : List ℕ) (set : LiteralSet) (p k : ℕ) : Type 0 where
   pub from : 2 ≤ k
-  pub below : k < word_at ws p
+  pub below : k < arena_word ws p
   pub open_ : IsIn set (negate (lit_at ws (p + 3 + k))) → ⊥
 
 abbrev pub FindsMove : List ℕ → LiteralSet → ℕ → Option ℕ → Type 0
@@ -62,7 +62,7 @@ AreGuarded ws places done m out = (s : ℕ) → Contains places (s / 2) → time
 
 -- the literals of the clause at a place, in any order
 abbrev pub IsClauseAt : List ℕ → ℕ → List Literal → Type 0
-IsClauseAt ws p c = (l : Literal) → Contains c l ↔ ((k : ℕ) × (k < word_at ws p) × (lit_at ws (p + 3 + k) ≡ l))
+IsClauseAt ws p c = (l : Literal) → Contains c l ↔ ((k : ℕ) × (k < arena_word ws p) × (lit_at ws (p + 3 + k) ≡ l))
 
 -- the words hold these clauses and no others
 pub record HoldsClauses (clauses : Clauses) (ws places : List ℕ) : Type 0 where
@@ -111,7 +111,7 @@ pub record IsOpened (m : Marks) (ws heads places : List ℕ) (done : LiteralSet)
   pub store : IsStore m.vars ws places
   pub size : length heads ≡ 2 * m.vars + 2
   pub chains : HasChains ws heads places (s ∷ rest)
-  pub path : Path ws (word_at ws (link_of s)) rest
+  pub path : Path ws (arena_word ws (link_of s)) rest
   pub place : Contains places (s / 2)
   pub own : (t : ℕ) → Contains rest t → IsWatch ws places w t
   pub quiet : AreGuarded ws places done m (s ∷ rest)
@@ -143,12 +143,12 @@ pub record IsMade (old new : Marks) (ws now places : List ℕ) : Type 0 where
 
 -- all literals of the clause at the place are false
 abbrev pub AreFalse : List ℕ → LiteralSet → ℕ → Type 0
-AreFalse ws set p = (k : ℕ) → k < word_at ws p → IsIn set (negate (lit_at ws (p + 3 + k)))
+AreFalse ws set p = (k : ℕ) → k < arena_word ws p → IsIn set (negate (lit_at ws (p + 3 + k)))
 
 -- the clauses' literals stand where they stood
 pub record KeepsLits (places old new : List ℕ) : Type 0 where
-  pub size : (p : ℕ) → Contains places p → word_at new p ≡ word_at old p
-  pub lits : (p k : ℕ) → Contains places p → k < word_at old p → word_at new (p + 3 + k) ≡ word_at old (p + 3 + k)
+  pub size : (p : ℕ) → Contains places p → arena_word new p ≡ arena_word old p
+  pub lits : (p k : ℕ) → Contains places p → k < arena_word old p → arena_word new (p + 3 + k) ≡ arena_word old (p + 3 + k)
 
 -- an attached clause all of whose literals are false
 pub record IsClash (ws places : List ℕ) (set : LiteralSet) (p : ℕ) : Type 0 where
@@ -183,5 +183,5 @@ pub record IsUnlinked (m : Marks) (ws heads places : List ℕ) (p a b : ℕ) : T
   pub chains : HasChains ws heads places ((2 * p) ∷ (2 * p + 1) ∷ [])
   pub place : Contains places p
   pub quiet : AreGuarded ws places (past_of m) m ((2 * p) ∷ (2 * p + 1) ∷ [])
-  pub first : word_at ws (p + 3 + 0) ≡ a
-  pub second : word_at ws (p + 3 + 1) ≡ b
+  pub first : arena_word ws (p + 3 + 0) ≡ a
+  pub second : arena_word ws (p + 3 + 1) ≡ b

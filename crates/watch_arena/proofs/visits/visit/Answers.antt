@@ -1,7 +1,7 @@
 use Rattle.std.proofs.Common.{arith, ◌/◌, ◌+◌, ◌-◌, ◌%◌, ◌≡◌, subst, sym, ◌∙◌, ap, refl}
 use Rattle.cnf_core.specs.Lit.{Literal}
 use Rattle.cnf_core.specs.Clause.{IsThere}
-use Rattle.watch_arena.specs.Words.{word_at}
+use Rattle.watch_arena.specs.Words.{arena_word}
 use Rattle.watch_arena.specs.Trail.{Marks, IsMarks, with_lit}
 use Rattle.watch_arena.specs.Walk.{KeepsClauses, IsMade, IsStepped, done_of, lit_at}
 use Rattle.watch_arena.proofs.WordLemmas.{lit_there}
@@ -110,5 +110,5 @@ returns-in-Unit-clause-made c =
 pub returns-in-Unit-clause-stepped : goal.returns-in-Unit-clause-stepped
 returns-in-Unit-clause-stepped c =
     let more : IsMarks (with_lit c.args.trail.now c.in-Unit.l (c.args.s / 2)) = subst IsMarks c.set.ensures.value c.set.ensures.marks in
-    subst (λ (m : Marks). IsStepped m c.args.words.now c.push-in-Unit.new.words c.push-in-Unit.new.heads c.args.places.now (done_of m) c.args.w c.args.s (word_at c.args.words.now (c.args.s / 2 + 1 + c.args.s % 2))) (sym c.set.ensures.value)
+    subst (λ (m : Marks). IsStepped m c.args.words.now c.push-in-Unit.new.words c.push-in-Unit.new.heads c.args.places.now (done_of m) c.args.w c.args.s (arena_word c.args.words.now (c.args.s / 2 + 1 + c.args.s % 2))) (sym c.set.ensures.value)
     (visited_unit c.args.trail.now _ _ _ _ _ c.requires.walking c.requires.some c.requires.false_now c.requires.fresh c.len-trail.ensures.marks _ _ c.in-Unit.l (c.args.s / 2) c.requires.front more c.in-Unit.ensures c.push-in-Unit.ensures)
