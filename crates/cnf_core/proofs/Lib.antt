@@ -5,7 +5,6 @@ pub mod GatherLemmas
 pub mod GreatestLemmas
 pub mod GrowthLemmas
 pub mod MarkLemmas
-pub mod NumberLemmas
 pub mod PropagationLemmas
 pub mod QuantifierLemmas
 pub mod SettingLemmas

@@ -1,10 +1,9 @@
 -- Matches: what the writes of a tree leave, and what its root is.
 use Rattle.std.proofs.Common.{◌≡◌, ◌≢◌, ℕ, ◌+◌, ◌-◌, ◌*◌, ◌/◌, ◌<◌, ◌≤◌, ◌⊎◌, Bool, true, false, cond, zero, suc, List, [], ◌∷◌, ◌++◌, replicate, length, get_or, set, refl, sym, ◌∙◌, ap, subst, inl, inr, arith, length-set, length-append}
 use Rattle.std.specs.Prelude.{slice_index_or}
-use Rattle.std.proofs.lemmas.Bool.{cases_lt}
+use Rattle.std.proofs.lemmas.Bool.{cases_lt, cases_eq}
 use Rattle.std.proofs.lemmas.Bool.Decides.{eqb_tells}
 use Rattle.std.proofs.lemmas.List.{get_or-set_other, get_or-set_same, get_or_past, get_or-replicate}
-use Rattle.cnf_core.proofs.NumberLemmas.{same_or_not}
 use Rattle.pick_heap.specs.Tree.{entry_at, rank_of, IsWinner, HaveActivities, IsWonAt, IsWon, IsWonBut, leaf_word, KeepsLeaves, KeepsOthers, IsHeap}
 use Rattle.pick_heap.specs.Heap.{ranked_of, IsGreatest, NoneHeld}
 
@@ -34,7 +33,7 @@ second_wins acts a b ne why = record { one = inr refl; first = below why; second
   where
     below : (a ≡ 0) ⊎ (entry_at acts a < entry_at acts b) → rank_of acts a ≤ rank_of acts b
     below (inl e) = let none = rank_none acts a e in omega arith
-    below (inr lt) = elim (same_or_not a 0) [
+    below (inr lt) = elim (cases_eq a 0) [
       | inl e ↦ let none = rank_none acts a e in omega arith
       | inr na ↦ let x = rank_some acts a na in let y = rank_some acts b ne in omega arith
     ]
@@ -45,7 +44,7 @@ first_wins acts a b na nb le = record { one = inl refl; first = omega arith; sec
 -- a node is written
 module _ (acts tree : List ℕ) (leaves p w : ℕ) (within : p < length tree) where
   pub named_set : HaveActivities acts tree → w < length acts → HaveActivities acts (set tree p w)
-  named_set named lt = λ k. elim (same_or_not p k) [
+  named_set named lt = λ k. elim (cases_eq p k) [
     | inl e ↦ subst (λ n. n < length acts) (sym (ap (entry_at (set tree p w)) (sym e) ∙ get_or-set_same tree p w 0 within)) lt
     | inr ne ↦ subst (λ n. n < length acts) (sym (get_or-set_other tree p k w 0 (λ e. ne (sym e)))) (named k)
   ]
@@ -68,7 +67,7 @@ module _ (acts tree : List ℕ) (leaves p w : ℕ) (within : p < length tree) wh
   -- by its own match: only the match above may be wrong
   pub won_up : 1 ≤ p → IsWinner acts (entry_at tree (2 * p)) (entry_at tree (2 * p + 1)) w → IsWonBut acts tree leaves p → IsWonBut acts (set tree p w) leaves (p / 2)
   won_up from here but = record {
-    won = λ k from2 to ne. elim (same_or_not k p) [
+    won = λ k from2 to ne. elim (cases_eq k p) [
       | inl e ↦ subst (λ n. IsWonAt acts (set tree p w) n) (sym e) (won_here from here)
       | inr other ↦ won_other k other (omega arith) (omega arith) (but.won k from2 to other)
     ];
@@ -80,7 +79,7 @@ module _ (acts tree : List ℕ) (leaves p w : ℕ) (within : p < length tree) wh
 
   -- from the last to the first
   pub won_down : 1 ≤ p → IsWinner acts (entry_at tree (2 * p)) (entry_at tree (2 * p + 1)) w → ((k : ℕ) → p < k → k < leaves → IsWonAt acts tree k) → (k : ℕ) → p ≤ k → k < leaves → IsWonAt acts (set tree p w) k
-  won_down from here above k from2 to = elim (same_or_not k p) [
+  won_down from here above k from2 to = elim (cases_eq k p) [
     | inl e ↦ subst (λ n. IsWonAt acts (set tree p w) n) (sym e) (won_here from here)
     | inr other ↦ won_other k other (omega arith) (omega arith) (above k (omega arith) to)
   ]
@@ -88,7 +87,7 @@ module _ (acts tree : List ℕ) (leaves p w : ℕ) (within : p < length tree) wh
 -- all matches but that of the node are right, and that one too
 pub won_same : (acts tree : List ℕ) (leaves p w : ℕ) → IsWinner acts (entry_at tree (2 * p)) (entry_at tree (2 * p + 1)) w → w ≡ entry_at tree p → IsWonBut acts tree leaves p → IsWon acts tree leaves
 won_same acts tree leaves p w here e but = record {
-  won = λ k from to. elim (same_or_not k p) [
+  won = λ k from to. elim (cases_eq k p) [
     | inl is ↦ subst (λ n. IsWonAt acts tree n) (sym is) (subst (λ x. IsWinner acts (entry_at tree (2 * p)) (entry_at tree (2 * p + 1)) x) e here)
     | inr other ↦ but.won k from to other
   ];
@@ -219,7 +218,7 @@ module _ (vars leaves : ℕ) (held : List Bool) (acts tree : List ℕ) (k : IsHe
     size = let old = k.size in omega arith;
     named = named;
     won = won;
-    leaf = λ i lt. elim (same_or_not (i + 1) v) [
+    leaf = λ i lt. elim (cases_eq (i + 1) v) [
       | inl e ↦ ap (entry_at new) (omega arith) ∙ leaf ∙ ap (leaf_word (set held v b)) (sym e)
       | inr ne ↦ others (leaves + i) (omega arith) (omega arith) ∙ k.leaf i lt ∙ sym (ap (λ c. cond c (i + 1) 0) (get_or-set_other held v (i + 1) b false ne))
     ];
@@ -239,7 +238,7 @@ module _ (vars leaves : ℕ) (held : List Bool) (acts tree : List ℕ) (k : IsHe
   }
     where
       same_rank : (w : ℕ) → w ≢ v → rank_of (set acts v n) w ≡ rank_of acts w
-      same_rank w ne = elim (same_or_not w 0) [
+      same_rank w ne = elim (cases_eq w 0) [
         | inl e ↦ rank_none (set acts v n) w e ∙ sym (rank_none acts w e)
         | inr some2 ↦ rank_some (set acts v n) w some2 ∙ ap (λ a. a + 1) (get_or-set_other acts v w n 0 ne) ∙ sym (rank_some acts w some2)
       ]
@@ -249,7 +248,7 @@ module _ (vars leaves : ℕ) (held : List Bool) (acts tree : List ℕ) (k : IsHe
   gone_from v mid from to won empty others = λ j one below is.
       let x = from_leaf acts mid leaves won j one below in
       let lt = x.1 in
-      elim (same_or_not (leaves + x.0) (leaves + v - 1)) [
+      elim (cases_eq (leaves + x.0) (leaves + v - 1)) [
         | inl e ↦ let z : v ≡ 0 = sym is ∙ sym x.2 ∙ ap (entry_at mid) e ∙ empty in omega arith
         | inr ne ↦
             let word : leaf_word held (x.0 + 1) ≡ v = sym (k.leaf x.0 x.1) ∙ sym (others (leaves + x.0) (omega arith) ne) ∙ x.2 ∙ is in
@@ -272,7 +271,7 @@ module _ (vars leaves : ℕ) (held : List Bool) (acts tree : List ℕ) (k : IsHe
     size = let old = k.size in omega arith;
     named = named;
     won = won;
-    leaf = λ i lt. elim (same_or_not (i + 1) v) [
+    leaf = λ i lt. elim (cases_eq (i + 1) v) [
       | inl e ↦ ap (entry_at new) (omega arith) ∙ leaf ∙ ap (leaf_word held) (sym e)
       | inr ne ↦ others2 (leaves + i) (omega arith) (omega arith) ∙ others (leaves + i) (omega arith) (omega arith) ∙ k.leaf i lt
     ];
@@ -304,7 +303,7 @@ pub zero_all : (tree : List ℕ) (k : ℕ) → ((k : ℕ) → k < length tree �
 zero_all tree k zeros = elim (cases_lt k (length tree)) [ inl lt ↦ zeros k lt | inr ge ↦ get_or_past tree k 0 ge ]
 
 pub zero_set : (tree : List ℕ) (i k : ℕ) → i < length tree → ((k : ℕ) → k < i → entry_at tree k ≡ 0) → k < i + 1 → entry_at (set tree i 0) k ≡ 0
-zero_set tree i k within zeros lt = elim (same_or_not k i) [
+zero_set tree i k within zeros lt = elim (cases_eq k i) [
   | inl e ↦ ap (entry_at (set tree i 0)) e ∙ get_or-set_same tree i 0 0 within
   | inr ne ↦ get_or-set_other tree i k 0 0 ne ∙ zeros k (omega arith)
 ]

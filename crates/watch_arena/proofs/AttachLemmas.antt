@@ -1,7 +1,7 @@
 -- One more clause behind the words.
 use Rattle.std.proofs.Common.{◌≡◌, ◌≢◌, ℕ, ◌+◌, ◌-◌, ◌*◌, ◌/◌, ◌%◌, ◌<◌, ◌≤◌, ◌⊎◌, Bool, true, false, zero, suc, List, [], ◌∷◌, ◌++◌, length, get_or, refl, sym, ◌∙◌, ap, subst, inl, inr, arith, length-append}
 use Rattle.std.specs.Prelude.{Contains, ◌^◌, map}
-use Rattle.std.proofs.lemmas.Bool.{cases_lt}
+use Rattle.std.proofs.lemmas.Bool.{cases_lt, cases_eq}
 use Rattle.std.proofs.lemmas.List.{get_or_append_left, get_or-append_right, length-map}
 use Rattle.std.proofs.lemmas.List.Elements.{Contains-push_cases, Contains-push, Contains-append_left}
 use Rattle.cnf_core.specs.Lit.{Literal, literal, literal_at, word_of, negate}
@@ -14,7 +14,6 @@ use Rattle.cnf_core.specs.Times.{times}
 use Rattle.watch_arena.specs.Chains.{HasChains, Pushed}
 use Rattle.watch_arena.specs.Trail.{Marks}
 use Rattle.watch_arena.specs.Walk.{lit_at, past_of, IsTrueNoLater, AreGuarded, IsWatched, IsAttached, IsUnlinked, KeepsLits, lits_at}
-use Rattle.cnf_core.proofs.NumberLemmas.{same_or_not}
 use Rattle.watch_arena.proofs.ChainLemmas.{times_head, times_tail, in_times, path_stays, push_chains}
 use Rattle.watch_arena.proofs.MoveLemmas.{link_lit, link_store}
 use Rattle.watch_arena.proofs.ChainWalkLemmas.{literal_word, keeps_lits_none, keeps_lits_push}
@@ -22,7 +21,7 @@ use Rattle.watch_arena.proofs.TextLemmas.{lits_are}
 
 -- the two watches of a clause
 pub both_of : (t p : ℕ) → t / 2 ≡ p → times ((2 * p) ∷ (2 * p + 1) ∷ []) t ≡ 1
-both_of t p e = elim (same_or_not (2 * p) t) [
+both_of t p e = elim (cases_eq (2 * p) t) [
   | inl a ↦ times_head (2 * p) t ((2 * p + 1) ∷ []) a ∙ ap (λ n. 1 + n) (times_tail (2 * p + 1) t [] (omega arith))
   | inr na ↦ times_tail (2 * p) t ((2 * p + 1) ∷ []) na ∙ times_head (2 * p + 1) t [] (omega arith)
 ]

@@ -1,7 +1,7 @@
 -- The walk of one chain: its start, its end, and what is put back.
 use Rattle.std.proofs.Common.{◌≡◌, ◌≢◌, ℕ, ◌+◌, ◌*◌, ◌/◌, ◌%◌, ◌<◌, Bool, true, false, cond, List, [], ◌∷◌, ◌++◌, length, take, get_or, set, refl, sym, ◌∙◌, ap, subst, inl, inr, arith}
 use Rattle.std.specs.Prelude.{Contains, nat_eq}
-use Rattle.std.proofs.lemmas.Bool.{cases_lt}
+use Rattle.std.proofs.lemmas.Bool.{cases_lt, cases_eq}
 use Rattle.std.proofs.lemmas.Bool.Decides.{eqb_tells}
 use Rattle.std.proofs.lemmas.List.{take-take, take_more}
 use Rattle.cnf_core.specs.Lit.{Literal, literal, literal_at, word_of, negate, has}
@@ -14,7 +14,6 @@ use Rattle.cnf_core.specs.Times.{times}
 use Rattle.watch_arena.specs.Chains.{Path, IsWatch, HasChains, Pushed}
 use Rattle.watch_arena.specs.Trail.{Marks, IsMarks, IsLonger, advanced}
 use Rattle.watch_arena.specs.Walk.{lit_at, done_of, past_of, IsTrueNoLater, IsFalsified, AreFalse, AreGuarded, IsWalking, IsOpened, IsStepped, IsWatched, KeepsLits}
-use Rattle.cnf_core.proofs.NumberLemmas.{same_or_not}
 use Rattle.watch_arena.proofs.ChainLemmas.{contains_head, in_times}
 use Rattle.watch_arena.proofs.MoveLemmas.{link_length, link_lit}
 use Rattle.watch_arena.proofs.WalkLemmas.{walking_first, ready, visited, opened_steps}
@@ -114,11 +113,11 @@ module _ (m : Marks) (l : Literal) (w : ℕ) (marks : IsMarks m) (lt : m.front <
     size = d.size ∙ k.size;
     chains = record {
       chains = after;
-      paths = λ v lv. elim (same_or_not v w) [
+      paths = λ v lv. elim (cases_eq v w) [
         | inl e ↦ subst (λ u. Path ws (arena_word then u) (after u)) (sym e) (subst (λ (ss : List ℕ). Path ws (arena_word then w) ss) (sym after_here) d.here)
         | inr ne ↦ subst (λ (ss : List ℕ). Path ws (arena_word then v) ss) (sym (after_there v ne)) (subst (λ n. Path ws n (chains.chains v)) (sym (d.other v ne)) (chains.paths v (let size = d.size in omega arith)))
       ];
-      own = λ v t lv among. elim (same_or_not v w) [
+      own = λ v t lv among. elim (cases_eq v w) [
         | inl e ↦ absurd (no_member t (subst (λ (ss : List ℕ). Contains ss t) (ap after e ∙ after_here) among))
         | inr ne ↦ chains.own v t (let size = d.size in omega arith) (subst (λ (ss : List ℕ). Contains ss t) (after_there v ne) among)
       ];
@@ -126,7 +125,7 @@ module _ (m : Marks) (l : Literal) (w : ℕ) (marks : IsMarks m) (lt : m.front <
     };
     path = chains.paths w lh;
     own = λ t among. chains.own w t lh among;
-    quiet = λ t c none f. elim (same_or_not (arena_word ws (lit_of t)) w) [
+    quiet = λ t c none f. elim (cases_eq (arena_word ws (lit_of t)) w) [
       | inl e ↦ absurd (lost t c e none)
       | inr ne ↦ k.quiet t c refl (was_past t ne f)
     ];
@@ -153,7 +152,7 @@ module _ (m : Marks) (l : Literal) (w : ℕ) (marks : IsMarks m) (lt : m.front <
           omega arith
 
       once : (t : ℕ) → Contains places (t / 2) → (v : ℕ) → arena_word ws (lit_of t) ≡ v → times (after v) t + times (chains.chains w) t ≡ 1
-      once t c v e = elim (same_or_not v w) [
+      once t c v e = elim (cases_eq v w) [
         | inl same ↦
             let one : times (chains.chains w) t + 0 ≡ 1 = subst (λ u. times (chains.chains u) t + 0 ≡ 1) (e ∙ same) (chains.once t c) in
             let gone : times (after v) t ≡ 0 = ap (λ (ss : List ℕ). times ss t) (ap after same ∙ after_here) in
@@ -179,7 +178,7 @@ module _ (m : Marks) (l : Literal) (w : ℕ) (marks : IsMarks m) (lt : m.front <
 -- a clause all of whose literals are false
 pub all_false : (ws : List ℕ) (set : LiteralSet) (w s : ℕ) → arena_word ws (lit_of s) ≡ w → IsIn set (negate (literal_at w)) → IsFalsified ws set s → AreFalse ws set (s / 2)
 all_false ws set w s lit false_now x = λ k lt. elim (cases_lt k 2) [
-  | inl small ↦ elim (same_or_not k (s % 2)) [
+  | inl small ↦ elim (cases_eq k (s % 2)) [
     | inl e ↦ subst (λ n. IsIn set (negate (literal_at n))) (sym lit ∙ ap (λ j. arena_word ws (s / 2 + 3 + j)) (sym e)) false_now
     | inr ne ↦ subst (λ n. IsIn set (negate (lit_at ws n))) (omega arith) x.other
   ]

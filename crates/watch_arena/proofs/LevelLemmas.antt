@@ -2,7 +2,7 @@
 use Rattle.std.proofs.Common.{◌≡◌, ℕ, ◌<◌, ◌≤◌, ◌⊎◌, List, [], ◌∷◌, ◌++◌, length, take, get_or, refl, sym, ◌∙◌, ap, subst, inl, inr, arith, length-take-le}
 use Rattle.std.specs.Prelude.{Contains, min, Option, Some, None}
 use Rattle.cnf_core.specs.Clause.{IsThere}
-use Rattle.std.proofs.lemmas.Bool.{both_ways, cases_lt}
+use Rattle.std.proofs.lemmas.Bool.{both_ways, cases_lt, cases_eq}
 use Rattle.std.proofs.lemmas.List.{take-take, take_all, get_or_default, get_or-take, get_or_past, take-append-le}
 use Rattle.std.proofs.lemmas.List.Elements.{Contains-push_cases}
 use Rattle.cnf_core.specs.Lit.{Literal, negate, has}
@@ -13,7 +13,6 @@ use Rattle.watch_arena.specs.Trail.{Marks, IsMarks, opened, level_end, undone, w
 use Rattle.watch_arena.specs.Walk.{past_of, IsTrueNoLater, IsReasonFor, IsReasoned, AreRight}
 use Rattle.watch_arena.specs.declared.clause_ref.ClauseRef.{ClauseRef}
 use Rattle.watch_arena.specs.Arena.{Attached, AreWatched, AreReasoned, MayBeSet, IsHeldBy, watch_at}
-use Rattle.cnf_core.proofs.NumberLemmas.{same_or_not}
 use Rattle.watch_arena.proofs.CutLemmas.{level_step, level_most}
 use Rattle.watch_arena.proofs.WalkLemmas.{held_more}
 use Rattle.watch_arena.proofs.ReasonLemmas.{reasoned_root, reasoned_unit}
@@ -134,7 +133,7 @@ module _ (m : Marks) (level : ℕ) (marks : IsMarks m) (le : level ≤ length m.
             let size = length-take-le (level_end m level) m.lits (end_within m level marks le) in
             let l : level < length m.cuts = omega arith in
             let same : get_or m.cuts level (length m.lits) ≡ get_or m.cuts level 0 = get_or_default m.cuts level (length m.lits) 0 l in
-            elim (same_or_not c.0 level) [
+            elim (cases_eq c.0 level) [
               | inl e ↦ let x : get_or m.cuts c.0 0 ≡ get_or m.cuts level 0 = ap (λ n. get_or m.cuts n 0) e in absurd (omega arith)
               | inr ne ↦ let x = cuts.rise level c.0 (omega arith) c.1 in absurd (omega arith)
             ]

@@ -1,5 +1,6 @@
 -- The literals of clauses, as lists.
 use Rattle.std.proofs.Common.{◌≡◌, ℕ, zero, suc, ◌+◌, ◌<◌, ◌≤◌, ◌⊎◌, List, [], ◌∷◌, ◌++◌, length, take, get_or, refl, sym, ◌∙◌, ap, subst, inl, inr, arith, length-append}
+use Rattle.std.proofs.lemmas.Bool.{cases_eq}
 use Rattle.std.specs.Prelude.{All, Contains, map}
 use Rattle.std.proofs.lemmas.List.{take_all, take_more, get_or_append_left, get_or_push}
 use Rattle.std.proofs.lemmas.List.Elements.{All-contains, All-contains_itself, All-weaker, Contains-push_cases, Contains-push, Contains-append_left}
@@ -7,7 +8,6 @@ use Rattle.cnf_core.specs.Lit.{Literal, literal_at, negate}
 use Rattle.cnf_core.specs.Propagation.{LiteralSet, IsIn, IsUnit, SameLiterals}
 use Rattle.watch_arena.specs.Words.{arena_word}
 use Rattle.watch_arena.specs.Walk.{lit_at, lits_upto, lits_at, IsClauseAt, HoldsClauses, KeepsClauses, KeepsLits, AreFalse}
-use Rattle.cnf_core.proofs.NumberLemmas.{same_or_not}
 
 pub upto_in : (ws : List ℕ) (p n : ℕ) (l : Literal) → Contains (lits_upto ws p n) l → (k : ℕ) × (k < n) × (lit_at ws (p + 3 + k) ≡ l)
 upto_in ws p zero l c = let lt = c.1 in absurd (omega arith)
@@ -18,7 +18,7 @@ upto_in ws p (suc n) l c = elim (Contains-push_cases (lits_upto ws p n) (lit_at 
 
 in_upto : (ws : List ℕ) (p n k : ℕ) → k < n → Contains (lits_upto ws p n) (lit_at ws (p + 3 + k))
 in_upto ws p zero k lt = absurd (omega arith)
-in_upto ws p (suc n) k lt = elim (same_or_not k n) [
+in_upto ws p (suc n) k lt = elim (cases_eq k n) [
   | inl e ↦ subst (λ j. Contains (lits_upto ws p n ++ lit_at ws (p + 3 + n) ∷ []) (lit_at ws (p + 3 + j))) (sym e) (Contains-push (lits_upto ws p n) (lit_at ws (p + 3 + n)))
   | inr ne ↦ Contains-append_left (lits_upto ws p n) (lit_at ws (p + 3 + n) ∷ []) (lit_at ws (p + 3 + k)) (in_upto ws p n k (omega arith))
 ]
@@ -100,7 +100,7 @@ upto_length ws p (suc n) = omega (arith, length-append (lits_upto ws p n) (lit_a
 
 pub upto_get : (ws : List ℕ) (p n k : ℕ) (d : Literal) → k < n → get_or (lits_upto ws p n) k d ≡ lit_at ws (p + 3 + k)
 upto_get ws p zero k d lt = absurd (omega arith)
-upto_get ws p (suc n) k d lt = elim (same_or_not k n) [
+upto_get ws p (suc n) k d lt = elim (cases_eq k n) [
   | inl e ↦ get_or_push (lits_upto ws p n) (lit_at ws (p + 3 + n)) d k (upto_length ws p n ∙ sym e) ∙ ap (λ j. lit_at ws (p + 3 + j)) (sym e)
   | inr ne ↦ let size = upto_length ws p n in get_or_append_left (lits_upto ws p n) (lit_at ws (p + 3 + n) ∷ []) d k (omega arith) ∙ upto_get ws p n k d (omega arith)
 ]

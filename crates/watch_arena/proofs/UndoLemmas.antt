@@ -1,5 +1,6 @@
 -- Levels that are taken back.
 use Rattle.std.proofs.Common.{◌≡◌, ℕ, ◌+◌, ◌<◌, ◌≤◌, Bool, false, take, List, [], ◌∷◌, ◌++◌, length, get_or, set, refl, sym, ◌∙◌, ap, subst, inl, inr, arith, length-take-le}
+use Rattle.std.proofs.lemmas.Bool.{cases_eq}
 use Rattle.std.specs.Prelude.{min}
 use Rattle.std.proofs.lemmas.List.{take-take, take_all, take_more, get_or-take, get_or_past, get_or_default}
 use Rattle.cnf_core.specs.Lit.{Literal, word_of}
@@ -7,7 +8,6 @@ use Rattle.cnf_core.specs.Clause.{AreThere}
 use Rattle.cnf_core.proofs.TrailLemmas.{there_last, word_below}
 use Rattle.cnf_core.specs.Trail.{IsTrail}
 use Rattle.watch_arena.specs.Trail.{IsStoredTrail, AreCuts, HasLevels, trail_level, IsMarks, Marks, marks_of, level_end, undone}
-use Rattle.cnf_core.proofs.NumberLemmas.{same_or_not}
 use Rattle.watch_arena.proofs.CutLemmas.{level_take}
 use Rattle.cnf_core.proofs.MarkLemmas.{trail_less}
 use Rattle.watch_arena.proofs.TrailLemmas.{marks_same}
@@ -56,7 +56,7 @@ module _ (vars : ℕ) (truth : List Bool) (order : List Literal) (len front : �
         ∙ ap (λ (cs : List ℕ). trail_level cs i) cuts_same
       where
         after : (j : ℕ) → to ≤ j → j < length (take level starts) → {i : ℕ} → i < end → i < get_or (take level starts) j 0
-        after j from below {i} small = elim (same_or_not to j) [
+        after j from below {i} small = elim (cases_eq to j) [
           | inl e ↦ let x : get_or (take level starts) j 0 ≡ get_or (take level starts) to 0 = ap (λ n. get_or (take level starts) n 0) (sym e) in let y = start_is in omega arith
           | inr ne ↦ let cuts = k.cuts in let x = cuts.rise to j (omega arith) below in let y = start_is in omega arith
         ]

@@ -1,16 +1,16 @@
 -- Watches, and the first two literals of each clause.
 use Rattle.std.proofs.Common.{◌≡◌, ℕ, ◌+◌, ◌*◌, ◌/◌, ◌%◌, List, [], refl, sym, subst, inl, inr, arith}
+use Rattle.std.proofs.lemmas.Bool.{cases_eq}
 use Rattle.std.specs.Prelude.{Contains}
 use Rattle.cnf_core.specs.Lit.{negate}
 use Rattle.cnf_core.specs.Propagation.{IsIn}
 use Rattle.watch_arena.specs.Words.{lit_of, other_of}
 use Rattle.watch_arena.specs.Trail.{Marks}
 use Rattle.watch_arena.specs.Walk.{lit_at, past_of, IsTrueNoLater, AreGuarded, AreRight}
-use Rattle.cnf_core.proofs.NumberLemmas.{same_or_not}
 
 -- all clauses' first two literals are right exactly where all watches are quiet
 pub right_quiet : (m : Marks) (ws places : List ℕ) → ((p : ℕ) → Contains places p → AreRight m (lit_at ws (p + 3 + 0)) (lit_at ws (p + 3 + 1))) → AreGuarded ws places (past_of m) m []
-right_quiet m ws places right = λ s c none f. elim (same_or_not (s % 2) 0) [
+right_quiet m ws places right = λ s c none f. elim (cases_eq (s % 2) 0) [
   | inl e ↦
       let r = right (s / 2) c in
       let lit : lit_of s ≡ s / 2 + 3 + 0 = omega arith in

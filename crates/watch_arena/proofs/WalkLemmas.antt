@@ -1,7 +1,7 @@
 -- One step of the walk of a chain.
 use Rattle.std.proofs.Common.{◌≡◌, ◌≢◌, ℕ, ◌+◌, ◌-◌, ◌*◌, ◌/◌, ◌%◌, ◌<◌, ◌≤◌, ◌⊎◌, true, false, suc, List, [], ◌∷◌, ◌++◌, length, take, get_or, refl, sym, ◌∙◌, ap, subst, inl, inr, arith, length-append}
 use Rattle.std.specs.Prelude.{Contains, ◌^◌}
-use Rattle.std.proofs.lemmas.Bool.{both_ways, cases_lt}
+use Rattle.std.proofs.lemmas.Bool.{both_ways, cases_lt, cases_eq}
 use Rattle.std.proofs.lemmas.List.{take_at, take-take, take_all, take-append-le, get_or_default, get_or-set_other}
 use Rattle.std.proofs.lemmas.List.Elements.{All-contains_itself, All-weaker, Contains-get_or}
 use Rattle.cnf_core.specs.Lit.{Literal, literal_at, negate, has}
@@ -13,7 +13,6 @@ use Rattle.cnf_core.specs.Times.{times}
 use Rattle.watch_arena.specs.Chains.{steps, Path, IsWatch, HasChains, Pushed}
 use Rattle.watch_arena.specs.Trail.{IsUnset, Marks, IsMarks, IsLonger, with_lit}
 use Rattle.watch_arena.specs.Walk.{lit_at, done_of, IsTrueNoLater, IsMove, IsAlone, AreGuarded, IsClauseAt, GrowsBy, IsWalking, IsOpened, IsStepped, KeepsReasons}
-use Rattle.cnf_core.proofs.NumberLemmas.{same_or_not}
 use Rattle.watch_arena.proofs.ChainLemmas.{contains_head, contains_tail, contains_cases, times_head, times_tail, none_in, out_once, push_rest, push_chains}
 use Rattle.watch_arena.proofs.MoveLemmas.{link_lit, link_store, swap_store, turned_lit, turned_other, turned_link, turned_watch, turned_path, turned_chains, turned_below}
 use Rattle.watch_arena.proofs.StepLemmas.{walk_steps}
@@ -55,7 +54,7 @@ quiet_pushed m ws new places out done s v h p link q mine = λ t c none f.
     let lit : lit_at new (lit_of t) ≡ lit_at ws (lit_of t) = ap literal_at (link_lit m.vars ws new places s v h p link (t / 2) (t % 2) c (omega arith)) in
     let other : lit_at new (other_of t) ≡ lit_at ws (other_of t) = ap literal_at (other_word t c) in
     let f2 : IsIn done (negate (lit_at ws (lit_of t))) = subst (λ (l : Literal). IsIn done (negate l)) lit f in
-    subst (λ (l : Literal). IsTrueNoLater m (negate l) (lit_at new (other_of t))) (sym lit) (subst (λ (l : Literal). IsTrueNoLater m (negate (lit_at ws (lit_of t))) l) (sym other) (elim (same_or_not s t) [
+    subst (λ (l : Literal). IsTrueNoLater m (negate l) (lit_at new (other_of t))) (sym lit) (subst (λ (l : Literal). IsTrueNoLater m (negate (lit_at ws (lit_of t))) l) (sym other) (elim (cases_eq s t) [
       | inl e ↦ subst (λ u. IsTrueNoLater m (negate (lit_at ws (lit_of u))) (lit_at ws (other_of u))) e (mine (subst (λ u. IsIn done (negate (lit_at ws (lit_of u)))) (sym e) f2))
       | inr ne ↦ q t c (omega (arith, times_tail s t out ne)) f2
     ]))
@@ -114,7 +113,7 @@ alone_unit ws lits w s l c is two lit false_now a =
   where
     by_place : (k : Literal) → (n : ℕ) × (n < arena_word ws (s / 2)) × (lit_at ws (s / 2 + 3 + n) ≡ k) → lit_at ws (s / 2 + 3 + (1 - s % 2)) ≡ l → (k ≡ l) ⊎ IsIn (has lits) (negate k)
     by_place k n at_other = elim (cases_lt n.0 2) [
-      | inl small ↦ elim (same_or_not n.0 (s % 2)) [
+      | inl small ↦ elim (cases_eq n.0 (s % 2)) [
         | inl e ↦ inr (subst (λ (u : Literal). IsIn (has lits) (negate u)) (sym (ap literal_at (ap (λ j. arena_word ws (s / 2 + 3 + j)) e ∙ lit)) ∙ n.2) false_now)
         | inr ne ↦ inl (sym n.2 ∙ ap (λ j. lit_at ws (s / 2 + 3 + j)) (omega arith) ∙ at_other)
       ]

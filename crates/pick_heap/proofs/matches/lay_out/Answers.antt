@@ -1,6 +1,5 @@
 use Rattle.std.proofs.Common.{arith, ◌+◌, ◌-◌, ◌<◌, ◌≤◌, ◌∙◌, ap, sym, length, set, subst, inl, inr}
-use Rattle.std.proofs.lemmas.Bool.{cases_lt}
-use Rattle.cnf_core.proofs.NumberLemmas.{same_or_not}
+use Rattle.std.proofs.lemmas.Bool.{cases_lt, cases_eq}
 use Rattle.pick_heap.proofs.MatchLemmas.{named_set, zero_named, zero_all, zero_set, free_past, word_below, kept_set}
 use Rattle.pick_heap.specs.Tree.{entry_at, leaf_word}
 use Rattle.std.proofs.lemmas.List.{get_or-set_same}
@@ -26,7 +25,7 @@ loop-v-preserved c =
     let word = c.leaf_word.ensures in
     record {
       named = named_set acts tree c.args.leaves place c.leaf_word.result within c.loop-v.invariant.named (subst (λ n. n < length acts) (sym word) (word_below c.args.held.now c.loop-v.v (length acts) (let test = c.loop-v-test.true in let same = c.requires.tables in omega arith)));
-      laid = λ i lt. elim (same_or_not (i + 1) c.loop-v.v) [
+      laid = λ i lt. elim (cases_eq (i + 1) c.loop-v.v) [
         | inl e ↦ ap (entry_at (set tree place c.leaf_word.result)) (omega arith) ∙ get_or-set_same tree place c.leaf_word.result 0 within ∙ word ∙ ap (leaf_word c.args.held.now) (sym e)
         | inr ne ↦ kept_set acts tree c.args.leaves place c.leaf_word.result within (c.args.leaves + i) (omega arith) ∙ c.loop-v.invariant.laid i (omega arith)
       ];
