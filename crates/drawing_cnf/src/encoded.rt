@@ -1,5 +1,5 @@
 // The formula of a drawing.
-ghost use Rattle.std.specs.Prelude.{◌≡◌, ◌≤◌, ◌<◌, ◌⊎◌, length, IsOk, IfOk, IsErrOf};
+ghost use Rattle.std.specs.Prelude.{◌≡◌, ◌≤◌, ◌<◌, ◌⊎◌, [], length, IsOk, IfOk, IsErrOf};
 ghost use Rattle.cnf_core.specs.declared.limits.TheConstants.{VARS, ROOM};
 ghost use Rattle.cnf_core.specs.declared.fault.CnfFault.TheVariants.{Room};
 ghost use Rattle.cnf_core.specs.Clause.{words_of};
@@ -7,8 +7,10 @@ ghost use Rattle.track_order.specs.Order.{is_above, is_overlap, IsOrderOf};
 ghost use Rattle.edge_shape.specs.EdgeVars.{lits_of};
 ghost use Rattle.drawing_cnf.specs.Expected.{drawing_vars, formula_clauses, formula_size, most_words, most_variables, Sound, Covers};
 ghost use Rattle.drawing_cnf.specs.Encoding.{encoded_vars};
+ghost use Rattle.drawing_cnf.specs.Whole.{IsWhole};
 
 use crate::edge_laws::edge_vars;
+use crate::kept_bound::KeptBound;
 use crate::rank::node_vars;
 use crate::whole::fill;
 use cnf_core::{CnfFault, Formula};
@@ -22,21 +24,47 @@ use track_order::TrackOrder;
 /// The formula of a graph, whose edges have an order, on a grid: its models stand for the lawful drawings.
 #[derive(Drop)]
 pub struct Encoded<'a> {
-    graph: &'a PortGraph,
-    order: &'a TrackOrder,
-    grid: &'a Grid,
-    formula: Formula,
+    pub(crate) graph: &'a PortGraph,
+    pub(crate) order: &'a TrackOrder,
+    pub(crate) grid: &'a Grid,
+    pub(crate) formula: Formula,
+    pub(crate) bounds: Vec<KeptBound>,
 }
 
 impl<'a> Model for Encoded<'a> {
+    ghost use Rattle.std.specs.Prelude.{map};
     ghost use Rattle.drawing_cnf.specs.Encoding.{Encoding, encoding};
+    ghost use Rattle.drawing_cnf.specs.Kept.{bound_of, AreKept};
 
     ghost Value = { Encoding };
 
-    ghost view = { λ e. encoding e.graph.now e.order.now e.grid.now e.formula };
+    ghost view = { λ e. encoding e.graph.now e.order.now e.grid.now e.formula (map bound_of e.bounds.items) };
+
+    ghost invariant = { λ e. AreKept e.graph.now e.grid.now e.bounds.items };
 }
 
 impl<'a> Encoded<'a> {
+    /// The graph whose drawings the models stand for.
+    pub fn graph(&self) -> &PortGraph
+        ensures { result.now ≡ self.now.graph }
+    {
+        self.graph
+    }
+
+    /// The order of the graph's edges.
+    pub fn order(&self) -> &TrackOrder
+        ensures { result.now ≡ self.now.order }
+    {
+        self.order
+    }
+
+    /// The grid on which the drawings stand.
+    pub fn grid(&self) -> &Grid
+        ensures { result.now ≡ self.now.grid }
+    {
+        self.grid
+    }
+
     /// The variables and clauses.
     pub fn formula(&self) -> &Formula
         ensures { result.now ≡ self.now.formula }
@@ -81,12 +109,14 @@ pub fn encode<'a>(
     ensures clauses { IfOk result (λ e. e.formula.clauses ≡ formula_clauses g.now (is_above t.now) (is_overlap t.now) grid.now) }
     ensures vars { IfOk result (λ e. e.formula.vars ≡ formula_size g.now (is_above t.now) (is_overlap t.now) grid.now) }
     ensures kept { IfOk result (λ e. e.formula.room ≡ room) }
+    ensures bounds { IfOk result (λ e. e.bounds ≡ []) }
     ensures words_fit { IsOk result → words_of (formula_clauses g.now (is_above t.now) (is_overlap t.now) grid.now) ≤ room }
     ensures vars_fit { IsOk result → formula_size g.now (is_above t.now) (is_overlap t.now) grid.now ≤ VARS }
     ensures full { IsErrOf result Room →
         (VARS < formula_size g.now (is_above t.now) (is_overlap t.now) grid.now) ⊎ (room < words_of (formula_clauses g.now (is_above t.now) (is_overlap t.now) grid.now)) }
     ensures words_bounded { words_of (formula_clauses g.now (is_above t.now) (is_overlap t.now) grid.now) ≤ most_words g.now grid.now }
     ensures vars_bounded { formula_size g.now (is_above t.now) (is_overlap t.now) grid.now ≤ most_variables g.now grid.now }
+    ensures whole { IfOk result (λ e. IsWhole e) }
     ensures sound { Sound g.now (is_above t.now) grid.now (drawing_vars g.now grid.now) (formula_clauses g.now (is_above t.now) (is_overlap t.now) grid.now) }
     ensures covers { Covers g.now (is_above t.now) grid.now (drawing_vars g.now grid.now) (formula_clauses g.now (is_above t.now) (is_overlap t.now) grid.now) }
 {
@@ -109,6 +139,7 @@ fn make_encoded<'a>(
     ensures clauses { IfOk result (λ e. e.formula.clauses ≡ formula_clauses g.now (is_above t.now) (is_overlap t.now) grid.now) }
     ensures vars { IfOk result (λ e. e.formula.vars ≡ formula_size g.now (is_above t.now) (is_overlap t.now) grid.now) }
     ensures kept { IfOk result (λ e. e.formula.room ≡ room) }
+    ensures bounds { IfOk result (λ e. e.bounds ≡ []) }
     ensures words_fit { IsOk result → words_of (formula_clauses g.now (is_above t.now) (is_overlap t.now) grid.now) ≤ room }
     ensures vars_fit { IsOk result → formula_size g.now (is_above t.now) (is_overlap t.now) grid.now ≤ VARS }
     ensures full { IsErrOf result Room →
@@ -121,5 +152,6 @@ fn make_encoded<'a>(
         order: t,
         grid,
         formula,
+        bounds: Vec::new(alloc),
     })
 }

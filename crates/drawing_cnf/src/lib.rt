@@ -18,6 +18,7 @@ mod edge_laws;
 mod encoded;
 mod guards;
 mod height_bound;
+mod kept_bound;
 mod node_laws;
 mod nodes;
 mod one_law;

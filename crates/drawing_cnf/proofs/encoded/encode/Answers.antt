@@ -1,6 +1,7 @@
 use Rattle.track_order.specs.Order.{is_above, is_overlap}
 use Rattle.drawing_cnf.proofs.MainLemmas.{formula_sound, formula_covers, order_tables, few_variables}
 use Rattle.drawing_cnf.proofs.FormulaWords.{formula_words, formula_variables}
+use Rattle.drawing_cnf.proofs.WholeLemmas.{whole_made}
 use Rattle.drawing_cnf.proofs.encoded.encode.Goals as goal
 
 pub returns-clause-sound : goal.returns-clause-sound
@@ -25,3 +26,8 @@ returns-clause-words_bounded c =
 
 pub returns-clause-vars_bounded : goal.returns-clause-vars_bounded
 returns-clause-vars_bounded c = formula_variables c.args.g.now (is_above c.args.t.now) (is_overlap c.args.t.now) c.args.grid.now
+
+pub returns-clause-whole : goal.returns-clause-whole
+returns-clause-whole c =
+    let e = c.make_encoded.ensures in
+    whole_made c.make_encoded.result c.args.g.now c.args.t.now c.args.grid.now c.requires.order e.graph e.order e.grid e.clauses e.vars e.bounds
