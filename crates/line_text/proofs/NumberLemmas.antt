@@ -38,33 +38,29 @@ field_begins field n small e = subst BeginsCanonical (sym e) (decimal_begins n s
 
 -- ---- what `parse` reads
 
-pub decimal_utf8 : (field : List ℕ) (n : ℕ) → n < 2 ^ 32 → field ≡ decimal n → IsUtf8 field
-decimal_utf8 field n small e =
-    let big : n < 2 ^ 64 = omega arith in
-    subst IsUtf8 (sym e) (IsUtf8-from_ascii (decimal n) (IsAscii-decimal n big))
+pub decimal_utf8 : (field : List ℕ) (n : ℕ) → n < 2 ^ 64 → field ≡ decimal n → IsUtf8 field
+decimal_utf8 field n small e = subst IsUtf8 (sym e) (IsUtf8-from_ascii (decimal n) (IsAscii-decimal n small))
 
 own : IsNumeralModel (AllDigits 10) (digits_value 10)
 own = numerals_by_value (AllDigits 10) tells_digits
 
 abbrev pub IsDecimal : List ℕ → ℕ → Type 0
-IsDecimal field n = (n < 2 ^ 32) × (field ≡ decimal n)
+IsDecimal field n = (n < 2 ^ 64) × (field ≡ decimal n)
 
-value_is : {E : Type 0} (field : List ℕ) (r : Result ℕ E) (n : ℕ) → BeginsCanonical field → ParsesUnsigned 32 10 field r → r ≡ Ok n → IsDecimal field n
+value_is : {E : Type 0} (field : List ℕ) (r : Result ℕ E) (n : ℕ) → BeginsCanonical field → ParsesUnsigned 64 10 field r → r ≡ Ok n → IsDecimal field n
 value_is {E} field r n h p e =
     let first : get_or field 0 0 ≢ 43 = omega arith in
-    let m = rw e at (parse_plain own {E = E} 32 field r p first) in
-    let small : digits_value 10 field < 2 ^ 32 = m.0.2 in
-    let big : digits_value 10 field < 2 ^ 64 = omega arith in
-    (omega (arith, m.1), sym (ap decimal m.1 ∙ decimal-digits_value own field m.0.0 m.0.1 h.alone big))
+    let m = rw e at (parse_plain own {E = E} 64 field r p first) in
+    let small : digits_value 10 field < 2 ^ 64 = m.0.2 in
+    (omega (arith, m.1), sym (ap decimal m.1 ∙ decimal-digits_value own field m.0.0 m.0.1 h.alone small))
 
-value_not : {E : Type 0} (field : List ℕ) (r : Result ℕ E) (x : E) → ParsesUnsigned 32 10 field r → r ≡ Err x → (n : ℕ) → n < 2 ^ 32 → field ≡ decimal n → ⊥
+value_not : {E : Type 0} (field : List ℕ) (r : Result ℕ E) (x : E) → ParsesUnsigned 64 10 field r → r ≡ Err x → (n : ℕ) → n < 2 ^ 64 → field ≡ decimal n → ⊥
 value_not {E} field r x p e n small is =
-    let big : n < 2 ^ 64 = omega arith in
-    let read : r ≡ Ok n = parse-decimal {E = E} 32 n field r small big is p in cc
+    let read : r ≡ Ok n = parse-decimal {E = E} 64 n field r small small is p in cc
 
-pub read_as_value : {E : Type 0} (field text : List ℕ) (r : Result ℕ E) (o : Option ℕ) → BeginsCanonical field → text ≡ field → ParsesUnsigned 32 10 text r → o ≡ result_ok r → MatchOption o ((n : ℕ) → n < 2 ^ 32 → field ≡ decimal n → ⊥) (IsDecimal field)
+pub read_as_value : {E : Type 0} (field text : List ℕ) (r : Result ℕ E) (o : Option ℕ) → BeginsCanonical field → text ≡ field → ParsesUnsigned 64 10 text r → o ≡ result_ok r → MatchOption o ((n : ℕ) → n < 2 ^ 64 → field ≡ decimal n → ⊥) (IsDecimal field)
 read_as_value {E} field text r o h same p e =
-    let P : List ℕ → Type 0 = λ f. ParsesUnsigned 32 10 f r in
+    let P : List ℕ → Type 0 = λ f. ParsesUnsigned 64 10 f r in
     let k = subst P same p in
     elim (result_cases r) [
       | inl ok ↦ some_at o _ (IsDecimal field) ok.0 (e ∙ ap result_ok ok.1) (value_is field r ok.0 h k ok.1)

@@ -8,9 +8,13 @@ use Rattle.std.specs.List.{AllByRecursion}
 abbrev pub spaced : List (List ℕ) → List ℕ
 spaced fields = flat_map (λ field. 32 ∷ field) fields
 
--- a line: its first field, the others each after one space, and a line feed
+-- the fields of a line: the first, and the others each after one space
+abbrev pub unended_text : List ℕ → List (List ℕ) → List ℕ
+unended_text first others = first ++ spaced others
+
+-- a line: its fields, and a line feed
 abbrev pub line_text : List ℕ → List (List ℕ) → List ℕ
-line_text first others = first ++ spaced others ++ codes "\n"
+line_text first others = unended_text first others ++ codes "\n"
 
 -- ---- cut
 

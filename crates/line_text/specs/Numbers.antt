@@ -8,6 +8,10 @@ pub record IsNumberIn (least greatest : ℕ) (field : List ℕ) (n : ℕ) : Type
   pub from : least ≤ n
   pub to : n ≤ greatest
 
+-- the field is a number within the limits
+abbrev pub IsNumberField : ℕ → ℕ → List ℕ → Type 0
+IsNumberField least greatest field = (n : ℕ) × IsNumberIn least greatest field n
+
 -- a digit is in front, and a 0 only where nothing follows it; for private contracts alone
 pub record BeginsCanonical (field : List ℕ) : Type 0 where
   pub above : 48 ≤ slice_index field 0

@@ -16,4 +16,6 @@ mod numbers;
 pub use appending::{push_field, push_text};
 pub use criteria::{criterion_word, read_criterion};
 pub use cutting::{behind, cut_field, cut_line, front_field};
-pub use numbers::{push_number, push_number_field, push_place_field, read_number};
+pub use numbers::{
+    MAX_NUMBER, push_number, push_number_field, push_place_field, read_long_number, read_number,
+};

@@ -8,6 +8,9 @@ use crate::{push_field, push_text};
 use itoa::Buffer;
 use plan_core::OutOfMemory;
 
+/// The greatest number that a sheet tells, and the greatest value of which a log's Bound line speaks.
+pub const MAX_NUMBER: u32 = 65_535;
+
 /// Whether a digit is in front, and a 0 only where nothing follows it.
 fn begins_canonical(field: &[u8]) -> bool
     ensures { IsTrue result ↔ BeginsCanonical field.now }
@@ -20,17 +23,17 @@ fn begins_canonical(field: &[u8]) -> bool
 }
 
 /// The number that the field is the decimal of, if it is one that fits.
-fn value_of(field: &[u8]) -> Option<u32>
+fn value_of(field: &[u8]) -> Option<u64>
     requires { BeginsCanonical field.now }
-    ensures { MatchOption result ((n : ℕ) → n < 2 ^ 32 → field.now ≡ decimal n → ⊥) (λ n. (n < 2 ^ 32) × (field.now ≡ decimal n)) }
+    ensures { MatchOption result ((n : ℕ) → n < 2 ^ 64 → field.now ≡ decimal n → ⊥) (λ n. (n < 2 ^ 64) × (field.now ≡ decimal n)) }
 {
     let text = std::str::from_utf8(field).ok()?;
-    text.parse::<u32>().ok()
+    text.parse::<u64>().ok()
 }
 
 /// The number that the field is the decimal of, without a sign and without a zero in front, if it is one
 /// from `least` to `greatest`.
-pub fn read_number(field: &[u8], least: u32, greatest: u32) -> Option<u32>
+pub fn read_long_number(field: &[u8], least: u64, greatest: u64) -> Option<u64>
     ensures { MatchOption result ((n : ℕ) → IsNumberIn least greatest field.now n → ⊥) (IsNumberIn least greatest field.now) }
 {
     if !begins_canonical(field) {
@@ -44,8 +47,18 @@ pub fn read_number(field: &[u8], least: u32, greatest: u32) -> Option<u32>
     }
 }
 
+/// The same for a number of 32 bits.
+pub fn read_number(field: &[u8], least: u32, greatest: u32) -> Option<u32>
+    ensures { MatchOption result ((n : ℕ) → IsNumberIn least greatest field.now n → ⊥) (IsNumberIn least greatest field.now) }
+{
+    match read_long_number(field, u64::from(least), u64::from(greatest)) {
+        Some(number) => Some(number as u32),
+        None => None,
+    }
+}
+
 /// Appends a number. Where memory couldn't be had, `into` begins with what it held.
-pub fn push_number(into: &mut Vec<u8>, n: u32) -> Result<(), OutOfMemory>
+pub fn push_number(into: &mut Vec<u8>, n: u64) -> Result<(), OutOfMemory>
     ensures ok { OnOk result (into.new.items ≡ into.old.items ++ decimal n) }
     ensures begins { Begins into.old.items into.new.items }
 {
@@ -93,10 +106,18 @@ mod tests {
             (b"1 ", None),
         ];
         for (field, number) in cases {
-            assert_eq!(rt; read_number(field, 1, 65_535), number);
+            assert_eq!(rt; read_number(field, 1, MAX_NUMBER), number);
         }
         assert_eq!(rt; read_number(b"0", 0, u32::MAX), Some(0));
         assert_eq!(rt; read_number(b"00", 0, u32::MAX), None);
         assert_eq!(rt; read_number(b"4294967295", 0, u32::MAX), Some(u32::MAX));
+        assert_eq!(rt;
+            read_long_number(b"18446744073709551615", 0, u64::MAX),
+            Some(u64::MAX)
+        );
+        assert_eq!(rt;
+            read_long_number(b"18446744073709551616", 0, u64::MAX),
+            None
+        );
     }
 }

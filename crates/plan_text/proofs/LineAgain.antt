@@ -51,21 +51,18 @@ title_once Second Second q r h k e = record { line = refl; behind = append_cance
 title_once First Second q r h k e = let z : 49 ≡ 50 = ap (λ (t : List ℕ). get_or t 9 0) e in absurd (omega (arith, z))
 title_once Second First q r h k e = let z : 50 ≡ 49 = ap (λ (t : List ℕ). get_or t 9 0) e in absurd (omega (arith, z))
 
-same_grid : (a b : GridSize) → a.width ≡ b.width → a.height ≡ b.height → a.least ≡ b.least → a ≡ b
-same_grid a b w h l =
-    ap (λ (n : ℕ). grid_with n a.height a.least) w
-    ∙ ap (λ (n : ℕ). grid_with b.width n a.least) h
-    ∙ ap (λ (n : ℕ). grid_with b.width b.height n) l
-
 grid_once : (edition : Edition) (a b : GridSize) → IsOnce (GridLine edition a) (GridLine edition b)
 grid_once First a b q r h k e =
     let same = numbers_once (codes "grid") (a.width ∷ a.height ∷ []) (b.width ∷ b.height ∷ []) q r h.0 k.0 e in
     let two = two_once a.width a.height b.width b.height same.values in
-    record { line = ap (λ (g : GridSize). GridLine First g) (same_grid a b two.0 two.1 (h.1 ∙ sym k.1)); behind = same.behind }
+    let least : a.least ≡ b.least = h.1 ∙ sym k.1 in
+    let grid : grid_with a.width a.height a.least ≡ grid_with b.width b.height b.least = cc in
+    record { line = ap (λ (g : GridSize). GridLine First g) grid; behind = same.behind }
 grid_once Second a b q r h k e =
     let same = numbers_once (codes "grid") (a.width ∷ a.height ∷ a.least ∷ []) (b.width ∷ b.height ∷ b.least ∷ []) q r h.0 k.0 e in
     let three = three_once a.width a.height a.least b.width b.height b.least [] [] same.values in
-    record { line = ap (λ (g : GridSize). GridLine Second g) (same_grid a b three.0 three.1 three.2); behind = same.behind }
+    let grid : grid_with a.width a.height a.least ≡ grid_with b.width b.height b.least = cc in
+    record { line = ap (λ (g : GridSize). GridLine Second g) grid; behind = same.behind }
 
 order_once : (a b : List Criterion) → IsOnce (OrderLine a) (OrderLine b)
 order_once a b q r h k e =

@@ -1,31 +1,20 @@
 -- Mileages as a sheet tells them.
-use Rattle.std.proofs.Common.{◌≡◌, ◌≢◌, inl, inr, ℕ, suc, ◌+◌, ◌/◌, ◌<◌, ◌≤◌, ◌^◌, Bool, true, false, List, [], ◌∷◌, ◌++◌, length, get_or, None, Some, IfSome, refl, sym, ◌∙◌, ap, subst, arith, append_assoc, length-append, length-drop, take, drop, ◌-◌, ◌*◌}
+use Rattle.std.proofs.Common.{◌≡◌, ◌≢◌, inl, inr, ℕ, suc, ◌+◌, ◌/◌, ◌<◌, ◌≤◌, ◌^◌, Bool, true, false, List, [], ◌∷◌, ◌++◌, length, None, Some, IfSome, MatchOption, is_some, refl, sym, ◌∙◌, ap, subst, arith, append_assoc, length-append, length-drop, take, drop, ◌-◌, ◌*◌}
 use Rattle.std.specs.Prelude.{IsTrue, ◌↔◌, ℤ, pos, negsuc, neg_ℤ, ◌<ℤ◌, codes}
 use Rattle.std.specs.declared.option.Option.{Option}
 use Rattle.std.specs.Fmt.{decimal}
-use Rattle.std.specs.List.{AllByRecursion, list_all}
-use Rattle.std.proofs.lemmas.Bool.{and_parts, and_from, false≢true}
+use Rattle.std.specs.List.{AllByRecursion}
+use Rattle.std.proofs.lemmas.Bool.{false≢true}
 use Rattle.std.proofs.lemmas.Int.{ints}
-use Rattle.std.proofs.lemmas.Bool.Decides.{nat_tests}
 use Rattle.std.proofs.lemmas.List.{take-append-drop}
-use Rattle.std.proofs.lemmas.Fmt.{digits_decimal, decimal_nonempty, length-decimal-le}
 use Rattle.plan_core.specs.Topology.{IsMileage}
 use Rattle.line_text.specs.Fields.{EndsField, IsOneField}
-use Rattle.line_text.proofs.NumberLemmas.{decimal_begins}
-use Rattle.rail_mileage.specs.Metres.{is_digit}
-use Rattle.rail_mileage.specs.MetresText.{last_digit, six_digits, size_text, metres_text}
-use Rattle.rail_mileage.proofs.Digits.{own, digit_range}
-use Rattle.plan_text.specs.SheetLine.{AreDigits, IsWhole, IsFraction, IsSize, minus_text, IsMileageText, field_told}
-
--- ---- digits, tested one by one
-
-pub passes_all : (bytes : List ℕ) → list_all is_digit bytes ≡ true → AreDigits bytes
-passes_all [] e = tt
-passes_all (b ∷ bytes) e = let both = and_parts (is_digit b) (list_all is_digit bytes) e in (both.0, passes_all bytes both.1)
-
-pub all_pass : (bytes : List ℕ) → AreDigits bytes → list_all is_digit bytes ≡ true
-all_pass [] h = refl
-all_pass (b ∷ bytes) h = and_from (is_digit b) (list_all is_digit bytes) h.0 (all_pass bytes h.1)
+use Rattle.line_text.specs.Numbers.{IsNumberIn, BeginsCanonical}
+use Rattle.line_text.proofs.NumberLemmas.{field_begins, decimal_is_one}
+use Rattle.rail_mileage.specs.MetresText.{six_digits, size_text, metres_text}
+use Rattle.rail_mileage.proofs.WrittenLemmas.{six_are_digits}
+use Rattle.plan_text.specs.declared.mileage_text.TheConstants.{MAX_METRES}
+use Rattle.plan_text.specs.SheetLine.{AreDigits, IsWholeMetres, IsFraction, IsSize, minus_text, IsMileageText, field_told}
 
 -- ---- a size, cut in front of its last seven bytes
 
@@ -57,18 +46,6 @@ size_cut text whole behind cut seven s =
 
 -- ---- a mileage is one field
 
-digits_are_one : (digits : List ℕ) → AreDigits digits → IsOneField digits
-digits_are_one [] h = tt
-digits_are_one (d ∷ digits) h = let range = digit_range d h.0 in ((λ ends. no_digit d range.0 range.1 ends), digits_are_one digits h.1)
-  where
-    no_digit : (d : ℕ) → 48 ≤ d → d ≤ 57 → EndsField d → ⊥
-    no_digit d from to (inl e) = omega (arith, e)
-    no_digit d from to (inr e) = omega (arith, e)
-
-joined : (a b : List ℕ) → IsOneField a → IsOneField b → IsOneField (a ++ b)
-joined [] b h k = k
-joined (x ∷ a) b h k = (h.0, joined a b h.1 k)
-
 no_end_at : (b : ℕ) → 33 ≤ b → EndsField b → ⊥
 no_end_at b large (inl e) = omega (arith, large, e)
 no_end_at b large (inr e) = omega (arith, large, e)
@@ -76,10 +53,25 @@ no_end_at b large (inr e) = omega (arith, large, e)
 one_by : (a b : List ℕ) → b ≡ a → IsOneField a → IsOneField b
 one_by a b e h = rw e h
 
+digits_are_one : (digits : List ℕ) → AreDigits digits → IsOneField digits
+digits_are_one [] h = tt
+digits_are_one (d ∷ digits) h = ((λ ends. no_end_at d (omega (arith, h.0)) ends), digits_are_one digits h.1)
+
+-- whole metres are the decimal of a number of 64 bits
+whole_small : (n : ℕ) → n ≤ MAX_METRES → n < 2 ^ 64
+whole_small n to = omega arith
+
+whole_is_one : (whole : List ℕ) → IsWholeMetres whole → IsOneField whole
+whole_is_one whole w = one_by (decimal w.0) whole w.1.written (decimal_is_one w.0 (whole_small w.0 w.1.to))
+
+joined : (a b : List ℕ) → IsOneField a → IsOneField b → IsOneField (a ++ b)
+joined [] b h k = k
+joined (x ∷ a) b h k = (h.0, joined a b h.1 k)
+
 size_is_one : (text : List ℕ) → IsSize text → IsOneField text
 size_is_one text s =
     one_by (s.whole ++ 46 ∷ s.fraction) text s.spelled
-    (joined s.whole (46 ∷ s.fraction) (digits_are_one s.whole s.is_whole.are_digits) ((λ e. no_end_at 46 (omega arith) e), digits_are_one s.fraction s.is_fraction.are_digits))
+    (joined s.whole (46 ∷ s.fraction) (whole_is_one s.whole s.is_whole) ((λ e. no_end_at 46 (omega arith) e), digits_are_one s.fraction s.is_fraction.are_digits))
 
 sign_is_one : (is_negative : Bool) → IsOneField (minus_text is_negative)
 sign_is_one true = ((λ e. no_end_at 45 (omega arith) e), tt)
@@ -95,17 +87,17 @@ told_is_one (Some text) h = (mileage_is_one text h, tt)
 -- ---- the sign in front
 
 -- a size begins with a digit
-minus_or_size : (size : List ℕ) (s : IsSize (45 ∷ size)) → (w : List ℕ) → s.whole ≡ w → 1 ≤ length w → ⊥
-minus_or_size size s [] e some = omega (arith, some)
-minus_or_size size s (d ∷ w) e some =
-    let spelled : 45 ∷ size ≡ d ∷ (w ++ 46 ∷ s.fraction) = s.spelled ∙ ap (λ (t : List ℕ). t ++ 46 ∷ s.fraction) e in
+minus_or_digit : (size behind whole : List ℕ) → BeginsCanonical whole → 45 ∷ size ≡ whole ++ behind → ⊥
+minus_or_digit size behind [] begins e = let digit = begins.above in omega (arith, digit)
+minus_or_digit size behind (d ∷ whole) begins e =
     let first : 45 ≡ d = cc in
-    let digits : AreDigits (d ∷ w) = subst (AreDigits) e s.is_whole.are_digits in
-    let range = digit_range d digits.0 in
-    omega (arith, first, range)
+    let digit = begins.above in
+    omega (arith, first, digit)
 
 pub no_minus_in_size : (size : List ℕ) → IsSize (45 ∷ size) → ⊥
-no_minus_in_size size s = minus_or_size size s s.whole refl s.is_whole.some
+no_minus_in_size size s =
+    let whole = s.is_whole.1 in
+    minus_or_digit size (46 ∷ s.fraction) s.whole (field_begins s.whole s.is_whole.0 (whole_small s.is_whole.0 whole.to) whole.written) s.spelled
 
 second_of : (x y : List ℕ) → 45 ∷ x ≡ 45 ∷ y → x ≡ y
 second_of x y e = cc
@@ -128,26 +120,15 @@ without_minus text none m = at m.is_negative m.spelled
 
 -- ---- what is written has the form
 
-last_digit_passes : (n : ℕ) → is_digit (last_digit n) ≡ true
-last_digit_passes n = grind (arith, nat_tests)
-
-six_pass : (n : ℕ) → AreDigits (six_digits n)
-six_pass n = (last_digit_passes (n / 100000), (last_digit_passes (n / 10000), (last_digit_passes (n / 1000), (last_digit_passes (n / 100), (last_digit_passes (n / 10), (last_digit_passes n, tt))))))
-
-whole_is : (k : ℕ) → k < 10 ^ 10 → IsWhole (decimal k)
-whole_is k small = record {
-  are_digits = digits_decimal own k (omega (arith, small));
-  some = let n = decimal_nonempty k (omega (arith, small)) in omega (arith, n);
-  few = length-decimal-le 10 k (omega arith) small (omega (arith, small));
-  no_zero = (decimal_begins k (omega (arith, small))).alone;
-}
+whole_is : (k : ℕ) → k < 10 ^ 10 → IsWholeMetres (decimal k)
+whole_is k small = (k, record { written = refl; from = omega arith; to = omega (arith, small) })
 
 size_is : (n : ℕ) → n < 10 ^ 16 → IsSize (size_text n)
 size_is n small = record {
   whole = decimal (n / 1000000);
   fraction = six_digits n;
   is_whole = whole_is (n / 1000000) (omega (arith, small));
-  is_fraction = record { are_digits = six_pass n; six = refl };
+  is_fraction = record { are_digits = six_are_digits n; six = refl };
   spelled = append_assoc (decimal (n / 1000000)) (46 ∷ []) (six_digits n);
 }
 
@@ -163,11 +144,12 @@ written_mileage (negsuc n) near = let small = below_neg n (3000000000 * 1000000)
 
 -- ---- the tests
 
-pub whole_iff : (text : List ℕ) (b : Bool) → 1 ≤ length text → length text ≤ 10 → (get_or text 0 0 ≡ 48 → length text ≡ 1) → b ≡ list_all is_digit text → IsTrue b ↔ IsWhole text
-whole_iff text b some few zero e = (λ t. record { are_digits = passes_all text (sym e ∙ t); some = some; few = few; no_zero = zero }, λ w. e ∙ all_pass text w.are_digits)
+pub whole_iff : (text : List ℕ) (o : Option ℕ) (b : Bool) → MatchOption o ((n : ℕ) → IsNumberIn 0 MAX_METRES text n → ⊥) (IsNumberIn 0 MAX_METRES text) → b ≡ is_some o → IsTrue b ↔ IsWholeMetres text
+whole_iff text None b h e = (λ t. absurd (false≢true (sym e ∙ t)), λ w. absurd (h w.0 w.1))
+whole_iff text (Some n) b h e = (λ t. (n, h), λ w. e)
 
-pub fraction_iff : (text : List ℕ) (b : Bool) → length text ≡ 6 → b ≡ list_all is_digit text → IsTrue b ↔ IsFraction text
-fraction_iff text b six e = (λ t. record { are_digits = passes_all text (sym e ∙ t); six = six }, λ f. e ∙ all_pass text f.are_digits)
+pub fraction_iff : (text : List ℕ) (b : Bool) → length text ≡ 6 → IsTrue b ↔ AreDigits text → IsTrue b ↔ IsFraction text
+fraction_iff text b six e = (λ t. record { are_digits = e.0 t; six = six }, λ f. e.1 f.are_digits)
 
 pub never : (b : Bool) (P : Type 0) → b ≡ false → (P → ⊥) → IsTrue b ↔ P
 never b P so none = (λ t. absurd (false≢true (sym so ∙ t)), λ p. absurd (none p))
@@ -188,15 +170,15 @@ cut_seven text whole rest long front back = record {
 pub no_point : (text whole rest : List ℕ) → text ≡ whole ++ rest → length rest ≡ 7 → ((fraction : List ℕ) → rest ≢ codes "." ++ fraction) → IsSize text → ⊥
 no_point text whole rest cut seven none s = none s.fraction (size_cut text whole rest cut seven s).behind_is
 
-pub no_whole : (text whole rest : List ℕ) (b : Bool) → text ≡ whole ++ rest → length rest ≡ 7 → IsTrue b ↔ IsWhole whole → b ≡ false → IsSize text → ⊥
+pub no_whole : (text whole rest : List ℕ) (b : Bool) → text ≡ whole ++ rest → length rest ≡ 7 → IsTrue b ↔ IsWholeMetres whole → b ≡ false → IsSize text → ⊥
 no_whole text whole rest b cut seven tests so s =
     let same = (size_cut text whole rest cut seven s).whole_is in
-    false≢true (sym so ∙ tests.1 (subst IsWhole (sym same) s.is_whole))
+    false≢true (sym so ∙ tests.1 (subst IsWholeMetres (sym same) s.is_whole))
 
 third_of : (x y : List ℕ) → 46 ∷ x ≡ 46 ∷ y → x ≡ y
 third_of x y e = cc
 
-pub size_iff : (text whole rest fraction : List ℕ) (b c : Bool) → text ≡ whole ++ rest → length rest ≡ 7 → rest ≡ codes "." ++ fraction → IsTrue b ↔ IsWhole whole → b ≡ true → IsTrue c ↔ IsFraction fraction → IsTrue c ↔ IsSize text
+pub size_iff : (text whole rest fraction : List ℕ) (b c : Bool) → text ≡ whole ++ rest → length rest ≡ 7 → rest ≡ codes "." ++ fraction → IsTrue b ↔ IsWholeMetres whole → b ≡ true → IsTrue c ↔ IsFraction fraction → IsTrue c ↔ IsSize text
 size_iff text whole rest fraction b c cut seven point tests so last = (
   λ t. record { whole = whole; fraction = fraction; is_whole = tests.0 so; is_fraction = last.0 t; spelled = cut ∙ ap (λ (r : List ℕ). whole ++ r) point },
   λ s. let parts = size_cut text whole rest cut seven s in last.1 (subst IsFraction (sym (third_of fraction s.fraction (sym point ∙ parts.behind_is))) s.is_fraction),

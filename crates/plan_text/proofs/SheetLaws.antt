@@ -3,6 +3,7 @@ use Rattle.std.proofs.Common.{◌≡◌, ◌⊎◌, ℕ, ◌+◌, Bool, true, Re
 use Rattle.std.specs.Prelude.{flat_map}
 use Rattle.std.proofs.lemmas.Grind.{flat_map-append}
 use Rattle.std.proofs.lemmas.List.{append_cancel_left, append-nil}
+use Rattle.std.proofs.lemmas.Option.{same_Some}
 use Rattle.plan_core.specs.declared.point.Point.{Point}
 use Rattle.plan_core.specs.declared.criterion.Criterion.{Criterion}
 use Rattle.plan_core.specs.declared.criterion.Values.{Values}
@@ -333,15 +334,12 @@ same_pair : (p q : GridSize × Drawing) → p.0 ≡ q.0 → p.1 ≡ q.1 → p �
 unfolding pair
 same_pair p q e f = ap (λ (x : GridSize). pair x p.1) e ∙ ap (λ (x : Drawing). pair q.0 x) f
 
-some_once : (c d : Drawing) → Some c ≡ Some d → c ≡ d
-some_once c d e = cc
-
 one_drawing : (g : Graph) (text : List ℕ) (p q : GridSize × Drawing) → IsDrawingOf g text p.0 p.1 → IsDrawingOf g text q.0 q.1 → p ≡ q
 one_drawing g text p q h k =
     let same = one_sheet g true text h.sheet k.sheet h.told k.told in
     same_pair p q
     (sym h.on_grid ∙ ap (λ (s : Sheet). s.grid) same ∙ k.on_grid)
-    (some_once p.1 q.1 (sym h.found ∙ ap (λ (s : Sheet). s.found) same ∙ k.found))
+    (same_Some p.1 q.1 (sym h.found ∙ ap (λ (s : Sheet). s.found) same ∙ k.found))
 
 no_fault_drawn : (g : Graph) (text : List ℕ) (p : GridSize × Drawing) (f : SheetFault) → IsDrawingOf g text p.0 p.1 → IsSheetFault g true text f → ⊥
 no_fault_drawn g text p f h k = no_fault_of g true text h.sheet f h.told k

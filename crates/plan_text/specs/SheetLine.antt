@@ -1,6 +1,7 @@
 -- The lines of a sheet: what each says, its fields, and its text.
 use Rattle.std.specs.Prelude.{◌≡◌, ℕ, ◌≤◌, ⊤, Bool, true, false, List, [], ◌∷◌, ◌++◌, None, Some, IfSome, codes, map, length, get_or, flat_map}
 use Rattle.std.specs.declared.option.Option.{Option}
+use Rattle.std.specs.Char.{IsAsciiDigit}
 use Rattle.std.specs.List.{AllByRecursion}
 use Rattle.std.specs.Fmt.{decimal}
 use Rattle.plan_core.specs.declared.point.Point.{Point}
@@ -9,7 +10,9 @@ use Rattle.plan_core.specs.declared.criterion.Criterion.{Criterion}
 use Rattle.plan_core.specs.Grid.{GridSize}
 use Rattle.line_text.specs.Fields.{line_text, IsOneField}
 use Rattle.line_text.specs.Criteria.{criterion_word}
-use Rattle.rail_mileage.specs.Metres.{is_digit}
+use Rattle.line_text.specs.Numbers.{IsNumberField}
+use Rattle.line_text.specs.declared.numbers.TheConstants.{MAX_NUMBER}
+use Rattle.plan_text.specs.declared.mileage_text.TheConstants.{MAX_METRES}
 use Rattle.plan_text.specs.declared.edition.Edition.{Edition}
 use Rattle.plan_text.specs.declared.edition.Edition.TheVariants.{First, Second}
 use Rattle.plan_text.specs.declared.ending.Ending.{Ending}
@@ -83,7 +86,7 @@ text_of_line line = line_text (first_field line) (other_fields line)
 
 -- a number that a sheet may tell
 abbrev pub IsSmall : ℕ → Type 0
-IsSmall n = n ≤ 65535
+IsSmall n = n ≤ MAX_NUMBER
 
 abbrev pub AreSmall : List ℕ → Type 0
 AreSmall numbers = AllByRecursion IsSmall numbers
@@ -93,14 +96,11 @@ pub record IsName (name : List ℕ) : Type 0 where
   pub one : IsOneField name
 
 abbrev pub AreDigits : List ℕ → Type 0
-AreDigits bytes = AllByRecursion (λ b. is_digit b ≡ true) bytes
+AreDigits bytes = AllByRecursion IsAsciiDigit bytes
 
--- whole metres: a number of at most ten digits, with a zero in front only where it is 0
-pub record IsWhole (digits : List ℕ) : Type 0 where
-  pub are_digits : AreDigits digits
-  pub some : 1 ≤ length digits
-  pub few : length digits ≤ 10
-  pub no_zero : get_or digits 0 0 ≡ 48 → length digits ≡ 1
+-- whole metres: the canonical decimal of a number of at most ten digits
+abbrev pub IsWholeMetres : List ℕ → Type 0
+IsWholeMetres digits = IsNumberField 0 MAX_METRES digits
 
 -- six digits behind the point
 pub record IsFraction (digits : List ℕ) : Type 0 where
@@ -111,7 +111,7 @@ pub record IsFraction (digits : List ℕ) : Type 0 where
 pub record IsSize (text : List ℕ) : Type 0 where
   pub whole : List ℕ
   pub fraction : List ℕ
-  pub is_whole : IsWhole whole
+  pub is_whole : IsWholeMetres whole
   pub is_fraction : IsFraction fraction
   pub spelled : text ≡ whole ++ 46 ∷ fraction
 

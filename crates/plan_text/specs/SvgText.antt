@@ -10,12 +10,12 @@ use Rattle.plan_core.specs.Values.{values_of}
 -- ---- where a point lies on the picture, in pixels
 
 -- from the left, column by column
-abbrev pub across : ℕ → ℕ
-across x = 20 + 40 * x
+abbrev pub pixels_across : ℕ → ℕ
+pixels_across x = 20 + 40 * x
 
 -- from above, row by row: in a drawing of this height the greatest row lies above all others
-abbrev pub down : ℕ → ℕ → ℕ
-down height y = 20 + 40 * (height - y)
+abbrev pub pixels_down : ℕ → ℕ → ℕ
+pixels_down height y = 20 + 40 * (height - y)
 
 -- the picture's extent for as many columns or rows
 abbrev pub extent : ℕ → ℕ
@@ -33,7 +33,7 @@ escaped name = flat_map escaped_byte name
 -- ---- elements
 
 abbrev pub point_text : ℕ → Point → List ℕ
-point_text height p = decimal (across p.x) ++ codes "," ++ decimal (down height p.y)
+point_text height p = decimal (pixels_across p.x) ++ codes "," ++ decimal (pixels_down height p.y)
 
 -- points, parted by one space
 abbrev pub points_text : ℕ → List Point → List ℕ
@@ -46,7 +46,7 @@ polyline height points = codes "<polyline points=\"" ++ points_text height point
 
 -- where a name begins: above its node's point
 abbrev pub label_begin : ℕ → Point → List ℕ
-label_begin height p = codes "<text x=\"" ++ decimal (across p.x) ++ codes "\" y=\"" ++ decimal (down height p.y - 6) ++ codes "\">"
+label_begin height p = codes "<text x=\"" ++ decimal (pixels_across p.x) ++ codes "\" y=\"" ++ decimal (pixels_down height p.y - 6) ++ codes "\">"
 
 -- the name of a node
 abbrev pub label : Graph → Drawing → ℕ → List ℕ

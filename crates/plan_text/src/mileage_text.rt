@@ -1,34 +1,23 @@
 // A mileage's field, judged by its form.
-ghost use Rattle.std.specs.Prelude.{◌≡◌, ◌↔◌, IsTrue};
-ghost use Rattle.std.specs.List.{list_all};
-ghost use Rattle.rail_mileage.specs.Metres.{is_digit as digit};
-ghost use Rattle.plan_text.specs.SheetLine.{IsWhole, IsFraction, IsSize, IsMileageText};
+ghost use Rattle.std.specs.Prelude.{◌↔◌, IsTrue};
+ghost use Rattle.plan_text.specs.SheetLine.{AreDigits, IsWholeMetres, IsFraction, IsSize, IsMileageText};
 
-use line_text::behind;
+use line_text::{behind, read_long_number};
 
-fn is_digit(b: u8) -> bool
-    ensures { result ≡ digit b }
-{
-    b'0' <= b && b <= b'9'
-}
+/// The most whole metres that a sheet may tell: ten digits.
+pub(crate) const MAX_METRES: u64 = 9_999_999_999;
 
 fn are_digits(text: &[u8]) -> bool
-    ensures { result ≡ list_all digit text.now }
+    ensures { IsTrue result ↔ AreDigits text.now }
 {
-    text.iter().all(|b| is_digit(*b))
+    text.iter().all(|b| b.is_ascii_digit())
 }
 
-/// Whether the text is a number of at most ten digits, with a zero in front only where it is 0.
+/// Whether the text is the canonical decimal of so many metres as a sheet may tell.
 fn is_whole(text: &[u8]) -> bool
-    ensures { IsTrue result ↔ IsWhole text.now }
+    ensures { IsTrue result ↔ IsWholeMetres text.now }
 {
-    if text.is_empty() || text.len() > 10 {
-        return false;
-    }
-    if text[0] == b'0' && text.len() > 1 {
-        return false;
-    }
-    are_digits(text)
+    read_long_number(text, 0, MAX_METRES).is_some()
 }
 
 fn is_fraction(text: &[u8]) -> bool

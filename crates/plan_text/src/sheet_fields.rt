@@ -9,7 +9,7 @@ ghost use Rattle.plan_text.specs.SheetLine.{IsSmall, AreSmall};
 ghost use Rattle.plan_text.specs.SheetReading.{IsFieldAt, IsNumberAt, IsNameAt, IsPointAt};
 
 use arrayvec::ArrayVec;
-use line_text::{behind, front_field, read_criterion, read_number};
+use line_text::{MAX_NUMBER, behind, front_field, read_criterion, read_number};
 use plan_core::{Criterion, Point};
 
 /// The field in front of the text, after one space, and what stands behind it, if a space is in front.
@@ -24,7 +24,7 @@ pub(crate) fn next_field(text: &[u8]) -> Option<(&[u8], &[u8])>
 fn number_of(field: &[u8]) -> Option<u16>
     ensures { MatchOption result ((n : ℕ) → IsSmall n → field.now ≢ decimal n) (λ n. IsSmall n × (field.now ≡ decimal n)) }
 {
-    let number = read_number(field, 0, 65_535)?;
+    let number = read_number(field, 0, MAX_NUMBER)?;
     Some(number as u16)
 }
 

@@ -1,26 +1,24 @@
 // The picture of a drawing, written.
 ghost use Rattle.std.specs.Prelude.{◌≡◌, ◌<◌, ◌-◌, ◌++◌, ◌∷◌, codes, length, flat_map, OnOk};
 ghost use Rattle.std.specs.List.{range_with_len};
-ghost use Rattle.std.specs.Fmt.{decimal};
 ghost use Rattle.outside_io.specs.Contents.{Begins};
 ghost use Rattle.plan_core.specs.Lawful.{HasSizeOf};
 ghost use Rattle.plan_core.specs.Values.{values_of};
-ghost use Rattle.plan_text.specs.SvgText.{across, down, extent, escaped_byte, escaped, point_text, points_text, polyline, label_begin, label, picture_begin, svg_text};
+ghost use Rattle.plan_text.specs.SvgText.{pixels_across, pixels_down, extent, escaped_byte, escaped, point_text, points_text, polyline, label_begin, label, picture_begin, svg_text};
 
-use itoa::Buffer;
-use line_text::push_text;
+use line_text::{push_number, push_text};
 use plan_core::{NodeNo, OutOfMemory, Point};
 use plan_geometry::{Drawing, Line, values};
 use port_graph::PortGraph;
 
-fn across(x: u16) -> u64
-    ensures { result ≡ across x }
+fn pixels_across(x: u16) -> u64
+    ensures { result ≡ pixels_across x }
 {
     20 + 40 * u64::from(x)
 }
 
-fn down(height: u32, y: u16) -> u64
-    ensures { result ≡ down height y }
+fn pixels_down(height: u32, y: u16) -> u64
+    ensures { result ≡ pixels_down height y }
 {
     20 + 40 * u64::from(height.saturating_sub(u32::from(y)))
 }
@@ -29,14 +27,6 @@ fn extent(n: u32) -> u64
     ensures { result ≡ extent n }
 {
     40 * u64::from(n) + 40
-}
-
-fn push_pixels(n: u64, into: &mut Vec<u8>) -> Result<(), OutOfMemory>
-    ensures ok { OnOk result (into.new.items ≡ into.old.items ++ decimal n) }
-    ensures begins { Begins into.old.items into.new.items }
-{
-    let mut digits = Buffer::new();
-    push_text(into, digits.format(n).as_bytes())
 }
 
 fn push_escaped_byte(b: u8, into: &mut Vec<u8>) -> Result<(), OutOfMemory>
@@ -65,9 +55,9 @@ fn push_point(height: u32, p: Point, into: &mut Vec<u8>) -> Result<(), OutOfMemo
     ensures ok { OnOk result (into.new.items ≡ into.old.items ++ point_text height p) }
     ensures begins { Begins into.old.items into.new.items }
 {
-    push_pixels(across(p.x), into)?;
+    push_number(into, pixels_across(p.x))?;
     push_text(into, b",")?;
-    push_pixels(down(height, p.y), into)
+    push_number(into, pixels_down(height, p.y))
 }
 
 fn push_further_point(height: u32, p: Point, into: &mut Vec<u8>) -> Result<(), OutOfMemory>
@@ -125,9 +115,9 @@ fn push_label_begin(height: u32, p: Point, into: &mut Vec<u8>) -> Result<(), Out
     ensures begins { Begins into.old.items into.new.items }
 {
     push_text(into, b"<text x=\"")?;
-    push_pixels(across(p.x), into)?;
+    push_number(into, pixels_across(p.x))?;
     push_text(into, b"\" y=\"")?;
-    push_pixels(down(height, p.y) - 6, into)?;
+    push_number(into, pixels_down(height, p.y) - 6)?;
     push_text(into, b"\">")
 }
 
@@ -174,9 +164,9 @@ fn push_picture_begin(width: u32, height: u32, into: &mut Vec<u8>) -> Result<(),
         into,
         b"<svg xmlns=\"http://www.w3.org/2000/svg\" viewBox=\"0 0 ",
     )?;
-    push_pixels(extent(width), into)?;
+    push_number(into, extent(width))?;
     push_text(into, b" ")?;
-    push_pixels(extent(height), into)?;
+    push_number(into, extent(height))?;
     push_text(into, b"\">\n")
 }
 

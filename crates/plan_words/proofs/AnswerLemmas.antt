@@ -186,12 +186,6 @@ chosen_order : (value : Option (List ℕ)) (a b : List Criterion) → IsChosen v
 chosen_order None a b x y = x ∙ sym y
 chosen_order (Some text) a b x y = criteria_text_injective a b (sym x.written ∙ y.written)
 
-same_grid : (a b : GridSize) → a.width ≡ b.width → a.height ≡ b.height → a.least ≡ b.least → a ≡ b
-same_grid a b width height least =
-    ap (λ (w : ℕ). grid_with w a.height a.least) width
-    ∙ ap (λ (h : ℕ). grid_with b.width h a.least) height
-    ∙ ap (λ (l : ℕ). grid_with b.width b.height l) least
-
 same_parts : (arguments : List Argument) (a b : Command) → command_kind a ≡ command_kind b → HasParts arguments a → HasParts arguments b → a ≡ b
 same_parts arguments (Draw i g o n s l) (Draw j h r m t k) word x y =
     let names : i ∷ [] ≡ j ∷ [] = sym x.names ∙ y.names in
@@ -199,7 +193,7 @@ same_parts arguments (Draw i g o n s l) (Draw j h r m t k) word x y =
     let width = chosen_number _ 1 MAX_WIDTH 40 g.width h.width (omega arith) x.width y.width in
     let height = chosen_number _ 0 MAX_HEIGHT 8 g.height h.height (omega arith) x.height y.height in
     let least = chosen_number _ 1 MAX_LEAST 1 g.least h.least (omega arith) x.least y.least in
-    let grid : g ≡ h = same_grid g h width height least in
+    let grid : grid_with g.width g.height g.least ≡ grid_with h.width h.height h.least = cc in
     let order : o ≡ r = chosen_order _ o r x.criteria y.criteria in
     let budget : n ≡ m = chosen_number _ 1 MAX_BUDGET 50000 n m (omega arith) x.conflicts y.conflicts in
     let svg : s ≡ t = x.svg_name ∙ sym y.svg_name in

@@ -6,6 +6,7 @@ use Rattle.plan_core.specs.declared.limits.TheConstants.{MAX_WIDTH, MAX_HEIGHT, 
 use Rattle.plan_core.specs.Order.{IsOrder}
 use Rattle.line_text.specs.Numbers.{IsNumberIn}
 use Rattle.line_text.specs.Criteria.{criterion_word}
+use Rattle.plan_words.specs.declared.option_values.TheConstants.{MAX_SEED}
 use Rattle.plan_words.specs.declared.option_values.OptionWord.{OptionWord}
 use Rattle.plan_words.specs.declared.option_values.OptionWord.TheVariants.{Width, Height, Least, Criteria, Conflicts, Svg, Log}
 
@@ -35,20 +36,20 @@ IsWidth = IsNumberIn 1 MAX_WIDTH
 abbrev pub IsHeight : List ℕ → ℕ → Type 0
 IsHeight = IsNumberIn 0 MAX_HEIGHT
 
-abbrev pub IsLeast : List ℕ → ℕ → Type 0
-IsLeast = IsNumberIn 1 MAX_LEAST
+abbrev pub IsLeastLength : List ℕ → ℕ → Type 0
+IsLeastLength = IsNumberIn 1 MAX_LEAST
 
 abbrev pub IsBudget : List ℕ → ℕ → Type 0
 IsBudget = IsNumberIn 1 MAX_BUDGET
 
 abbrev pub IsSeed : List ℕ → ℕ → Type 0
-IsSeed = IsNumberIn 0 4294967295
+IsSeed = IsNumberIn 0 MAX_SEED
 
 -- the option takes this value
 abbrev pub Takes : OptionWord → List ℕ → Type 0
 Takes Width value = (n : ℕ) × IsWidth value n
 Takes Height value = (n : ℕ) × IsHeight value n
-Takes Least value = (n : ℕ) × IsLeast value n
+Takes Least value = (n : ℕ) × IsLeastLength value n
 Takes Criteria value = (order : List Criterion) × IsOrderText value order
 Takes Conflicts value = (n : ℕ) × IsBudget value n
 Takes Svg value = value ≢ []

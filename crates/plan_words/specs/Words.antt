@@ -12,7 +12,7 @@ use Rattle.plan_words.specs.declared.option_values.OptionWord.TheVariants as opt
 use Rattle.plan_words.specs.declared.arguments.Argument.{Argument}
 use Rattle.plan_words.specs.declared.fault.WordFault.{WordFault}
 use Rattle.plan_words.specs.declared.fault.WordFault.TheVariants as answers
-use Rattle.plan_words.specs.OptionValues.{option_word, IsWidth, IsHeight, IsLeast, IsBudget, IsSeed, IsOrderText}
+use Rattle.plan_words.specs.OptionValues.{option_word, IsWidth, IsHeight, IsLeastLength, IsBudget, IsSeed, IsOrderText}
 use Rattle.plan_words.specs.Arguments.{arguments_from, argument_names, files_in, option_value}
 use Rattle.plan_words.specs.WordFaults.{command_word, name_count, HaveNoFault, file_names, IsFaultOfWords}
 
@@ -33,7 +33,7 @@ pub record IsDrawCommand (arguments : List Argument) (input : List ℕ) (grid : 
   pub names : argument_names arguments ≡ input ∷ []
   pub width : IsChosen (given_for options.Width arguments) IsWidth 40 grid.width
   pub height : IsChosen (given_for options.Height arguments) IsHeight 8 grid.height
-  pub least : IsChosen (given_for options.Least arguments) IsLeast 1 grid.least
+  pub least : IsChosen (given_for options.Least arguments) IsLeastLength 1 grid.least
   pub criteria : IsChosen (given_for options.Criteria arguments) IsOrderText default_order order
   pub conflicts : IsChosen (given_for options.Conflicts arguments) IsBudget 50000 budget
   pub svg_name : svg ≡ given_for options.Svg arguments

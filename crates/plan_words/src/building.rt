@@ -4,7 +4,7 @@ ghost use Rattle.std.specs.Option.{option_copied};
 ghost use Rattle.plan_words.specs.declared.command.CommandWord.TheVariants as words;
 ghost use Rattle.plan_words.specs.declared.option_values.OptionWord.TheVariants as options;
 ghost use Rattle.line_text.specs.Numbers.{IsNumberIn};
-ghost use Rattle.plan_words.specs.OptionValues.{IsWidth, IsHeight, IsLeast, IsBudget, IsSeed, IsOrderText};
+ghost use Rattle.plan_words.specs.OptionValues.{IsWidth, IsHeight, IsLeastLength, IsBudget, IsSeed, IsOrderText};
 ghost use Rattle.plan_words.specs.Arguments.{argument_names};
 ghost use Rattle.plan_words.specs.WordFaults.{name_count};
 ghost use Rattle.plan_words.specs.Soundness.{SoundFrom};
@@ -14,7 +14,7 @@ use crate::Command;
 use crate::arguments::Argument;
 use crate::command::CommandWord;
 use crate::files::copy_of;
-use crate::option_values::{OptionWord, number_in, order_in};
+use crate::option_values::{MAX_SEED, OptionWord, number_in, order_in};
 use plan_core::{
     Criterion, Grid, MAX_BUDGET, MAX_HEIGHT, MAX_LEAST, MAX_WIDTH, Order, OutOfMemory, Text,
 };
@@ -99,7 +99,7 @@ fn grid_given(arguments: &[Argument]) -> Grid
     requires { SoundFrom words.Draw [] arguments.now }
     ensures width { IsChosen (given_for options.Width arguments.now) IsWidth 40 result.width }
     ensures height { IsChosen (given_for options.Height arguments.now) IsHeight 8 result.height }
-    ensures least { IsChosen (given_for options.Least arguments.now) IsLeast 1 result.least }
+    ensures least { IsChosen (given_for options.Least arguments.now) IsLeastLength 1 result.least }
 {
     let width = number_given(
         arguments,
@@ -193,7 +193,7 @@ fn seed_of(arguments: &[Argument]) -> u32
     requires enough { 1 ≤ length (argument_names arguments.now) }
     ensures { (name : List ℕ) × (argument_names arguments.now ≡ name ∷ []) × IsSeed name result }
 {
-    match number_in(name_at(arguments, 0).as_str(), 0, u32::MAX) {
+    match number_in(name_at(arguments, 0).as_str(), 0, MAX_SEED) {
         Some(number) => number,
         None => unreachable!(),
     }

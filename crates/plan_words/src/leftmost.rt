@@ -10,7 +10,7 @@ ghost use Rattle.plan_words.specs.Soundness.{StandFrom, IsNear, IsFirstWordFault
 use crate::WordWhat;
 use crate::arguments::Argument;
 use crate::command::CommandWord;
-use crate::option_values::{OptionWord, number_in};
+use crate::option_values::{MAX_SEED, OptionWord, number_in};
 use plan_core::Text;
 
 /// A fault, and the position of its word, counted from 1 at the command.
@@ -62,7 +62,7 @@ fn takes_name(command: CommandWord, name: &str) -> bool
     ensures { MatchBool result (TakesName command name.now) (TakesName command name.now → ⊥) }
 {
     match command {
-        CommandWord::Make => number_in(name, 0, u32::MAX).is_some(),
+        CommandWord::Make => number_in(name, 0, MAX_SEED).is_some(),
         CommandWord::Draw | CommandWord::Verify | CommandWord::Check | CommandWord::Graph => {
             !name.is_empty()
         }

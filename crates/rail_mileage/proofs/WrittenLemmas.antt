@@ -8,17 +8,27 @@ use Rattle.std.proofs.lemmas.List.{append-nil}
 use Rattle.std.proofs.lemmas.Fmt.{digits_decimal, digits_value-decimal, length-decimal-le}
 use Rattle.railml_text.specs.Bytes.{AllOfClass}
 use Rattle.plan_core.specs.declared.numbers.Micro.{Micro}
-use Rattle.rail_mileage.specs.Metres.{is_digit, Sign, unsigned, minus, Parts, IsMetres, mileage, size_of, sign_text}
+use Rattle.std.specs.Char.{is_ascii_digit, IsAsciiDigit}
+use Rattle.std.specs.List.{AllByRecursion}
+use Rattle.rail_mileage.specs.Metres.{Sign, unsigned, minus, MetresParts, IsMetres, mileage_told, micrometres, sign_text}
 use Rattle.rail_mileage.specs.MetresText.{last_digit, six_digits, size_text, metres_text}
 use Rattle.rail_mileage.specs.Reading.{parts_of, reading_of}
-use Rattle.rail_mileage.proofs.Digits.{own, digit_value_of}
+use Rattle.rail_mileage.proofs.Digits.{own, digit_value_of, digit_range}
 use Rattle.rail_mileage.proofs.PartsLemmas.{reads}
 
-last_digit_passes : (n : ℕ) → is_digit (last_digit n) ≡ true
+last_digit_passes : (n : ℕ) → is_ascii_digit (last_digit n) ≡ true
 last_digit_passes n = grind (arith, nat_tests)
 
-six_pass : (n : ℕ) → AllOfClass is_digit (six_digits n)
+six_pass : (n : ℕ) → AllOfClass is_ascii_digit (six_digits n)
 six_pass n = (last_digit_passes (n / 100000), (last_digit_passes (n / 10000), (last_digit_passes (n / 1000), (last_digit_passes (n / 100), (last_digit_passes (n / 10), (last_digit_passes n, tt))))))
+
+-- the same without a test
+pub six_are_digits : (n : ℕ) → AllByRecursion IsAsciiDigit (six_digits n)
+six_are_digits n = all_digits (six_digits n) (six_pass n)
+  where
+    all_digits : (bytes : List ℕ) → AllOfClass is_ascii_digit bytes → AllByRecursion IsAsciiDigit bytes
+    all_digits [] h = tt
+    all_digits (b ∷ bytes) h = (digit_range b h.0, all_digits bytes h.1)
 
 last_digit_value : (n : ℕ) → digit_value (last_digit n) ≡ n % 10
 last_digit_value n = digit_value_of (last_digit n) (last_digit_passes n) ∙ omega arith
@@ -42,10 +52,10 @@ last_six n = omega arith
 six_value : (n : ℕ) → digits_value 10 (six_digits n) ≡ n % 1000000
 six_value n = rw (last_digit_value (n / 100000), last_digit_value (n / 10000), last_digit_value (n / 1000), last_digit_value (n / 100), last_digit_value (n / 10), last_digit_value n) (omega (arith, last_two n, last_three n, last_four n, last_five n, last_six n))
 
-abbrev written_parts : Sign → ℕ → Parts
+abbrev written_parts : Sign → ℕ → MetresParts
 written_parts sign n = record { before = []; sign = sign; whole = decimal (n / 1000000); fraction = Some (six_digits n); after = [] }
 
-size_is : (n : ℕ) → n < 10 ^ 15 → size_of (decimal (n / 1000000)) (six_digits n) ≡ n
+size_is : (n : ℕ) → n < 10 ^ 15 → micrometres (decimal (n / 1000000)) (six_digits n) ≡ n
 size_is n small =
     let whole : digits_value 10 (decimal (n / 1000000)) ≡ n / 1000000 = digits_value-decimal own (n / 1000000) (omega arith) in
     let rest = six_value n in
@@ -63,7 +73,7 @@ written_is_metres sign n small = record {
   spelled = ap (λ (t : List ℕ). sign_text sign ++ t) (append_assoc (decimal (n / 1000000)) (46 ∷ []) (six_digits n) ∙ ap (λ (t : List ℕ). decimal (n / 1000000) ++ (46 ∷ t)) (sym (append-nil (six_digits n))));
 }
 
-pub written_is_read : (z : ℤ) → unsigned_abs z < 10 ^ 15 → (parts : Parts) × IsMetres (metres_text z) parts × (mileage parts ≡ record { 0 = z })
+pub written_is_read : (z : ℤ) → unsigned_abs z < 10 ^ 15 → (parts : MetresParts) × IsMetres (metres_text z) parts × (mileage_told parts ≡ record { 0 = z })
 written_is_read (pos n) small = (written_parts unsigned n, written_is_metres unsigned n small, ap (λ (k : ℕ). record { 0 = pos k }) (size_is n small))
 written_is_read (negsuc n) small = (written_parts minus (suc n), written_is_metres minus (suc n) small, ap (λ (k : ℕ). record { 0 = neg_ℤ (pos k) }) (size_is (suc n) small))
 

@@ -1,12 +1,9 @@
 -- Which texts are a number of metres, and which mileage each is.
-use Rattle.std.specs.Prelude.{◌≡◌, ◌≤◌, ℕ, ◌+◌, ◌-◌, ◌*◌, ◌^◌, Bool, true, false, if◌then◌else◌, ◌&&◌, nat_le, codes, Option, Some, None, List, [], ◌++◌, length, ℤ, pos, neg_ℤ}
+use Rattle.std.specs.Prelude.{◌≡◌, ◌≤◌, ℕ, ◌+◌, ◌-◌, ◌*◌, ◌^◌, Bool, true, false, if◌then◌else◌, codes, Option, Some, None, List, [], ◌++◌, length, ℤ, pos, neg_ℤ}
+use Rattle.std.specs.Char.{is_ascii_digit}
 use Rattle.std.specs.Str.Parse.{digits_value}
 use Rattle.plan_core.specs.declared.numbers.Micro.{Micro}
 use Rattle.railml_text.specs.Bytes.{is_blank, AllOfClass}
-
--- `0` to `9`
-abbrev pub is_digit : ℕ → Bool
-is_digit b = nat_le 48 b && nat_le b 57
 
 pub data Sign : Type 0 where
   unsigned : Sign
@@ -20,7 +17,7 @@ sign_text minus = codes "-"
 
 -- the parts of a number's text: white space, a sign, the digits before the point, the digits after
 -- it where there is a point, and white space
-pub record Parts : Type 0 where
+pub record MetresParts : Type 0 where
   pub before : List ℕ
   pub sign : Sign
   pub whole : List ℕ
@@ -36,11 +33,11 @@ fraction_digits None = []
 fraction_digits (Some digits) = digits
 
 -- the text is a number of metres, and these are its parts
-pub record IsMetres (text : List ℕ) (parts : Parts) : Type 0 where
+pub record IsMetres (text : List ℕ) (parts : MetresParts) : Type 0 where
   pub blank_before : AllOfClass is_blank parts.before
   pub blank_after : AllOfClass is_blank parts.after
-  pub digits_before : AllOfClass is_digit parts.whole
-  pub digits_after : AllOfClass is_digit (fraction_digits parts.fraction)
+  pub digits_before : AllOfClass is_ascii_digit parts.whole
+  pub digits_after : AllOfClass is_ascii_digit (fraction_digits parts.fraction)
   pub whole_limit : length parts.whole ≤ 9
   pub fraction_limit : length (fraction_digits parts.fraction) ≤ 6
   pub some_digit : 1 ≤ length parts.whole + length (fraction_digits parts.fraction)
@@ -48,8 +45,8 @@ pub record IsMetres (text : List ℕ) (parts : Parts) : Type 0 where
 
 -- micrometres without the sign: a metre has a million, and the last of k digits after the point
 -- stands for 10 ^ (6 - k)
-abbrev pub size_of : List ℕ → List ℕ → ℕ
-size_of whole fraction = digits_value 10 whole * 1000000 + digits_value 10 fraction * 10 ^ (6 - length fraction)
+abbrev pub micrometres : List ℕ → List ℕ → ℕ
+micrometres whole fraction = digits_value 10 whole * 1000000 + digits_value 10 fraction * 10 ^ (6 - length fraction)
 
 abbrev pub is_minus : Sign → Bool
 is_minus unsigned = false
@@ -60,5 +57,5 @@ abbrev pub signed : Bool → ℕ → ℤ
 signed negative n = if negative then neg_ℤ (pos n) else pos n
 
 -- the mileage that a text of these parts is
-abbrev pub mileage : Parts → Micro
-mileage parts = record { 0 = signed (is_minus parts.sign) (size_of parts.whole (fraction_digits parts.fraction)) }
+abbrev pub mileage_told : MetresParts → Micro
+mileage_told parts = record { 0 = signed (is_minus parts.sign) (micrometres parts.whole (fraction_digits parts.fraction)) }

@@ -1,21 +1,16 @@
 // A number of metres, read from left to right.
 ghost use Rattle.std.specs.Prelude.{◌≡◌, ◌≤◌, ◌<◌, ◌+◌, ◌*◌, ◌^◌, Some, Option, length, IfSome, ℤ, unsigned_abs};
 ghost use Rattle.std.specs.List.{list_all};
+ghost use Rattle.std.specs.Char.{is_ascii_digit as digit};
 ghost use Rattle.std.specs.Str.Parse.{digits_value};
 ghost use Rattle.railml_text.specs.Bytes.{is_blank as blank, AllOfClass, front, past};
-ghost use Rattle.rail_mileage.specs.Metres.{is_digit as digit, Parts, IsMetres, size_of, signed as with_sign, is_minus, fraction_digits, mileage};
+ghost use Rattle.rail_mileage.specs.Metres.{MetresParts, IsMetres, micrometres, signed as with_sign, is_minus, fraction_digits, mileage_told};
 ghost use Rattle.rail_mileage.specs.MetresText.{metres_text};
 ghost use Rattle.rail_mileage.specs.Reading.{sign_at, past_sign, fraction_at, past_fraction, parts_of, reading_of};
 
 use crate::METRE;
 use plan_core::Micro;
 use railml_text::{is_blank, past_blanks};
-
-fn is_digit(b: u8) -> bool
-    ensures { result ≡ digit b }
-{
-    b'0' <= b && b <= b'9'
-}
 
 fn are_blanks(text: &[u8]) -> bool
     ensures { result ≡ list_all blank text.now }
@@ -29,7 +24,7 @@ fn past_digits(text: &[u8]) -> &[u8]
 {
     let mut rest = text;
     while let [b, tail @ ..] = rest {
-        if !is_digit(*b) {
+        if !b.is_ascii_digit() {
             return rest;
         }
         rest = tail;
@@ -92,7 +87,7 @@ fn size_in(whole: &[u8], fraction: &[u8]) -> u64
     requires fraction_digits { AllOfClass digit fraction.now }
     requires whole_limit { length whole.now ≤ 9 }
     requires fraction_limit { length fraction.now ≤ 6 }
-    ensures value { result ≡ size_of whole.now fraction.now }
+    ensures value { result ≡ micrometres whole.now fraction.now }
     ensures short { result < 10 ^ 15 }
 {
     let unit = 10u64.pow(6 - fraction.len() as u32);
@@ -128,8 +123,8 @@ fn read_parts(text: &[u8]) -> Option<Micro>
 /// number of metres: white space around it, a sign or none, up to nine digits, and a point with up to
 /// six digits or none, with at least one digit in all. It takes no memory.
 pub fn read_metres(text: &[u8]) -> Option<Micro>
-    ensures reads { (parts : Parts) → IsMetres text.now parts → result ≡ Some (mileage parts) }
-    ensures only { IfSome result (λ m. (parts : Parts) × IsMetres text.now parts × (m ≡ mileage parts)) }
+    ensures reads { (parts : MetresParts) → IsMetres text.now parts → result ≡ Some (mileage_told parts) }
+    ensures only { IfSome result (λ m. (parts : MetresParts) × IsMetres text.now parts × (m ≡ mileage_told parts)) }
     // What `write_metres` writes below ten whole digits is read as the same mileage.
     ensures written { (z : ℤ) → unsigned_abs z < 10 ^ 15 → text.now ≡ metres_text z → result ≡ Some (record { 0 = z }) }
 {

@@ -5,7 +5,7 @@ use Rattle.std.specs.Prelude.{◌^◌, ◌||◌, Some, Bool, true, false, ℤ, �
 use Rattle.std.proofs.lemmas.Int.{ints, to_z-of_z}
 use Rattle.std.proofs.lemmas.Option.{same_Some, slice_get_within, slice_get_read}
 use Rattle.plan_core.specs.declared.numbers.Micro.{Micro}
-use Rattle.rail_mileage.specs.Metres.{Parts, IsMetres, mileage, size_of, signed, is_minus, fraction_digits}
+use Rattle.rail_mileage.specs.Metres.{MetresParts, IsMetres, mileage_told, micrometres, signed, is_minus, fraction_digits}
 use Rattle.rail_mileage.proofs.Digits.{size_below}
 use Rattle.rail_mileage.proofs.PartsLemmas.{one_reading}
 use Rattle.railml_read.specs.declared.rows.Elem.{Elem}
@@ -17,7 +17,7 @@ use Rattle.railml_topology.specs.Sound.{AreSoundRows}
 use Rattle.railml_topology.proofs.Family.{of_kind}
 
 pub one_number : (text : List ℕ) (z w : ℤ) → ReadsMetres text z → ReadsMetres text w → z ≡ w
-one_number text z w a b = sym a.is ∙ (ap (λ (p : Parts). (mileage p).0) (one_reading text a.parts b.parts a.metres b.metres) ∙ b.is)
+one_number text z w a b = sym a.is ∙ (ap (λ (p : MetresParts). (mileage_told p).0) (one_reading text a.parts b.parts a.metres b.metres) ∙ b.is)
 
 pub one_position : (row : Elem) (z w : ℤ) → HasPosition row z → HasPosition row w → z ≡ w
 one_position row z w a b =
@@ -46,11 +46,11 @@ pub number_within : (text : List ℕ) (z : ℤ) → ReadsMetres text z → IsOfS
 number_within text z r =
     let m = r.metres in
     let p = r.parts in
-    subst (IsOfSize (10 ^ 15)) r.is (signed_within (10 ^ 15) (size_of p.whole (fraction_digits p.fraction)) (is_minus p.sign)
+    subst (IsOfSize (10 ^ 15)) r.is (signed_within (10 ^ 15) (micrometres p.whole (fraction_digits p.fraction)) (is_minus p.sign)
     (size_below p.whole (fraction_digits p.fraction) m.digits_before m.digits_after m.whole_limit m.fraction_limit))
 
 -- the same of what a reader of metres says
-pub metres_within : (text : List ℕ) (m : Micro) → (parts : Parts) × IsMetres text parts × (m ≡ mileage parts) → IsOfSize (10 ^ 15) m.0
+pub metres_within : (text : List ℕ) (m : Micro) → (parts : MetresParts) × IsMetres text parts × (m ≡ mileage_told parts) → IsOfSize (10 ^ 15) m.0
 metres_within text m (parts, metres, is) = number_within text m.0 (record { parts = parts; metres = metres; is = ap (λ (v : Micro). v.0) (sym is) })
 
 fits_64 : (z : ℤ) → IsOfSize (10 ^ 15) z → FitsSigned w64 z

@@ -11,7 +11,7 @@ use Rattle.plan_core.proofs.ListFacts.{same_heads}
 use Rattle.plan_core.specs.declared.sides.Hand.{Hand}
 use Rattle.plan_core.specs.declared.sides.Hand.TheVariants.{Left, Right}
 use Rattle.plan_core.specs.Topology.{IsId, IsIdCharacter}
-use Rattle.rail_mileage.specs.Metres.{Parts, IsMetres, mileage}
+use Rattle.rail_mileage.specs.Metres.{MetresParts, IsMetres, mileage_told}
 use Rattle.rail_mileage.specs.Reading.{parts_of, are_metres}
 use Rattle.rail_mileage.proofs.PartsLemmas.{parts_again, accepted, are_parts}
 use Rattle.plan_core.specs.declared.limits.TheConstants.{MAX_TRACKS}
@@ -102,16 +102,16 @@ known_id id = elim (known_le 1 (length id)) [
 -- ---- numbers
 
 -- a text is a number of metres or none
-metres_known : (text : List ℕ) → ((parts : Parts) × IsMetres text parts) ⊎ ((parts : Parts) → IsMetres text parts → ⊥)
+metres_known : (text : List ℕ) → ((parts : MetresParts) × IsMetres text parts) ⊎ ((parts : MetresParts) → IsMetres text parts → ⊥)
 metres_known text = choose (are_metres (parts_of text)) refl
   where
-    choose : (v : Bool) → are_metres (parts_of text) ≡ v → ((parts : Parts) × IsMetres text parts) ⊎ ((parts : Parts) → IsMetres text parts → ⊥)
+    choose : (v : Bool) → are_metres (parts_of text) ≡ v → ((parts : MetresParts) × IsMetres text parts) ⊎ ((parts : MetresParts) → IsMetres text parts → ⊥)
     choose true e = inl (parts_of text, are_parts text e)
     choose false e = inr (λ parts m. (let t = accepted text parts m in let same = ap are_metres (parts_again text parts m) in cc))
 
-reads_unless : (text : List ℕ) → (((parts : Parts) → IsMetres text parts → ⊥) → ⊥) → (z : ℤ) × ReadsMetres text z
+reads_unless : (text : List ℕ) → (((parts : MetresParts) → IsMetres text parts → ⊥) → ⊥) → (z : ℤ) × ReadsMetres text z
 reads_unless text h = elim (metres_known text) [
-  | inl m ↦ ((mileage m.0).0, record { parts = m.0; metres = m.1; is = refl })
+  | inl m ↦ ((mileage_told m.0).0, record { parts = m.0; metres = m.1; is = refl })
   | inr none ↦ absurd (h none)
 ]
 

@@ -6,7 +6,7 @@ use Rattle.plan_core.specs.Topology.{IsId}
 use Rattle.railml_read.specs.declared.rows.Elem.{Elem}
 use Rattle.railml_read.specs.declared.rows.ElemKind.{ElemKind}
 use Rattle.railml_read.specs.declared.rows.ElemKind.TheVariants as kinds
-use Rattle.rail_mileage.specs.Metres.{Parts, IsMetres}
+use Rattle.rail_mileage.specs.Metres.{MetresParts, IsMetres}
 use Rattle.railml_topology.specs.declared.attributes.Attribute.{Attribute}
 use Rattle.railml_topology.specs.declared.attributes.Attribute.TheVariants as attributes
 use Rattle.railml_topology.specs.declared.fault.TopologyWhat.{TopologyWhat}
@@ -42,7 +42,7 @@ AreIdsDistinct rows = (i : ℕ) → Repeats rows i → ⊥
 -- a text that is there and is no number of metres
 abbrev pub IsNoNumber : Option (List ℕ) → Type 0
 IsNoNumber None = ⊥
-IsNoNumber (Some text) = (parts : Parts) → IsMetres text parts → ⊥
+IsNoNumber (Some text) = (parts : MetresParts) → IsMetres text parts → ⊥
 
 -- 6: this attribute of an element with a position is no number, `pos` being told first
 abbrev pub HasNoNumber : Elem → Attribute → Type 0

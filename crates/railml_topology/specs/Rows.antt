@@ -7,7 +7,7 @@ use Rattle.railml_read.specs.declared.rows.Attrs.{Attrs}
 use Rattle.railml_read.specs.declared.rows.Elem.{Elem}
 use Rattle.railml_read.specs.declared.rows.ElemKind.{ElemKind}
 use Rattle.railml_read.specs.declared.rows.ElemKind.TheVariants.{Track, Topology, Begin, End, Switch, Crossing, Connection, OpenEnd, BufferStop, MacroNode}
-use Rattle.rail_mileage.specs.Metres.{Parts, IsMetres, mileage}
+use Rattle.rail_mileage.specs.Metres.{MetresParts, IsMetres, mileage_told}
 use Rattle.railml_topology.specs.declared.attributes.Attribute.{Attribute}
 use Rattle.railml_topology.specs.declared.attributes.Attribute.TheVariants.{Id, Pos, AbsPos, Ref, Orientation, Course}
 
@@ -134,9 +134,9 @@ bears_position kind = false
 
 -- a text is a number of metres, and this is it
 pub record ReadsMetres (text : List ℕ) (z : ℤ) : Type 0 where
-  pub parts : Parts
+  pub parts : MetresParts
   pub metres : IsMetres text parts
-  pub is : (mileage parts).0 ≡ z
+  pub is : (mileage_told parts).0 ≡ z
 
 -- a row's `pos` is this number
 pub record HasPosition (row : Elem) (z : ℤ) : Type 0 where

@@ -24,7 +24,8 @@ use Rattle.cnf_core.proofs.TrailLemmas.{distinct_consistent, there_all}
 use Rattle.refute_log.specs.declared.line.LogLine.{LogLine}
 use Rattle.refute_log.specs.declared.line.LogLine.TheVariants.{Formula, Learnt, Bound, Query, Refuted, Model}
 use Rattle.refute_log.specs.Told.{Lines}
-use Rattle.refute_log.specs.Lines.{IsWellFormed, AreWellFormed, last_var}
+use Rattle.cnf_core.specs.declared.limits.TheConstants.{LAST_VAR}
+use Rattle.refute_log.specs.Lines.{IsWellFormed, AreWellFormed}
 use Rattle.refute_log.specs.Log.{facts_of, added, given, learnt, IsNewClause, Stands, Derives}
 use Rattle.refute_log.proofs.LogLemmas.{flat_map_last, there_below, new_includes_nothing}
 
@@ -156,7 +157,7 @@ learnt_added (line ∷ lines) d m =
 few_more : (v : ℕ) (lines : Lines) (line : LogLine) → (facts_of lines).greatest ≤ v → IsWellFormed line → Stands lines line → AllDistinct (flat_map learnt lines) → Few v (flat_map learnt lines) → Few v (flat_map learnt lines ++ learnt line)
 few_more v lines (Learnt c) le formed s distinct few =
     few_push v (flat_map learnt lines) (flat_map added lines) c few (learnt_added lines) distinct
-    (there_below last_var v c formed.0 (λ i d within. let low = s.named i d within in omega (arith, low, le))) s.says_more
+    (there_below LAST_VAR v c formed.0 (λ i d within. let low = s.named i d within in omega (arith, low, le))) s.says_more
 few_more v lines (Formula c) le formed s distinct few = rw (append-nil (flat_map learnt lines)) few
 few_more v lines (Bound criterion k x) le formed s distinct few = rw (append-nil (flat_map learnt lines)) few
 few_more v lines (Query c) le formed s distinct few = rw (append-nil (flat_map learnt lines)) few

@@ -1,16 +1,10 @@
 -- What stands in a log's file once it has been started, or couldn't be.
 use Rattle.std.proofs.Common.{◌≡◌, ℕ, Bool, false, List, [], ◌++◌, take, None, Some, ◌∙◌, ap, inl, inr}
-use Rattle.std.specs.Prelude.{Ok, Err, OnErr, ◌⊎◌}
+use Rattle.std.specs.Prelude.{◌⊎◌}
 use Rattle.std.specs.declared.option.Option.{Option}
-use Rattle.std.specs.declared.result.Result.{Result}
 use Rattle.outside_io.specs.Contents.{Told, WhereTold, Creates, MayCreate, AppendsTo, MayAppendTo, Sets}
 use Rattle.refute_log.specs.Lines.{header}
 use Rattle.refute_log.specs.FileLog.{IsTold, TellsText, MayStart}
-
--- a fact that holds anyway holds at an error
-pub on_err_anyway : {T E : Type 0} (r : Result T E) (P : Type 0) → P → OnErr r P
-on_err_anyway (Ok x) P fact = tt
-on_err_anyway (Err e) P fact = fact
 
 -- the file is created, and the first line is appended
 pub first_line : (a b c : Option Told) (name : List ℕ) → WhereTold a b (Creates name) → WhereTold b c (AppendsTo name header) → WhereTold a c (Sets name header)

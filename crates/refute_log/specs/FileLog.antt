@@ -18,13 +18,13 @@ IsTold None = ⊥
 IsTold (Some told) = ⊤
 
 -- the contents are told, and the file's bytes, with those that are gathered, are the text of the lines
-abbrev pub IsText : Option Told → List ℕ → List ℕ → Lines → Type 0
-IsText None name gathered lines = ⊥
-IsText (Some told) name gathered lines = (bytes : List ℕ) × (told name ≡ Some bytes) × (bytes ++ gathered ≡ log_text lines)
+abbrev pub IsLogText : Option Told → List ℕ → List ℕ → Lines → Type 0
+IsLogText None name gathered lines = ⊥
+IsLogText (Some told) name gathered lines = (bytes : List ℕ) × (told name ≡ Some bytes) × (bytes ++ gathered ≡ log_text lines)
 
 -- no call has failed, and the text is that of the lines, each of which may be told
 abbrev pub TellsText : Bool → Option Told → List ℕ → List ℕ → Lines → Type 0
-TellsText failed contents name gathered lines = (failed ≡ false) × IsText contents name gathered lines × MayAllBeTold lines
+TellsText failed contents name gathered lines = (failed ≡ false) × IsLogText contents name gathered lines × MayAllBeTold lines
 
 -- the file's name
 abbrev pub name_of : Gathered → List ℕ
@@ -51,12 +51,12 @@ FileBeginsLog told name = (bytes : List ℕ) × (told name ≡ Some bytes) × Be
 
 -- as long as no call has failed, the file's bytes with those that are gathered are the text of a log;
 -- from then on the file's bytes begin one
-abbrev pub KeepsText : Bool → Told → List ℕ → List ℕ → Type 0
-KeepsText true told name gathered = FileBeginsLog told name
-KeepsText false told name gathered = (lines : Lines) × TellsText false (Some told) name gathered lines
+abbrev pub KeepsLogText : Bool → Told → List ℕ → List ℕ → Type 0
+KeepsLogText true told name gathered = FileBeginsLog told name
+KeepsLogText false told name gathered = (lines : Lines) × TellsText false (Some told) name gathered lines
 
 abbrev pub KeepsLog : Gathered → Told → Type 0
-KeepsLog kept told = KeepsText kept.failed told (name_of kept) kept.bytes.items
+KeepsLog kept told = KeepsLogText kept.failed told (name_of kept) kept.bytes.items
 
 -- where the first kept the text of a log with these contents, the second does with those
 abbrev pub StillKeeps : Gathered → Gathered → Told → Told → Type 0

@@ -5,26 +5,26 @@ use Rattle.refute_log.specs.declared.fault.LogWhat.{LogWhat}
 use Rattle.refute_log.specs.declared.fault.LogWhat.TheVariants.{Header, Form, Number, Twice}
 use Rattle.refute_log.specs.declared.fault.LineTextFault.{LineTextFault}
 use Rattle.refute_log.specs.declared.fault.LineTextFault.TheVariants.{Log, Memory}
-use Rattle.refute_log.specs.Lines.{IsWellFormed, NamesOnce, line_text}
-use Rattle.refute_log.specs.LineForm.{LineForm, HasForm, HasRightNumbers}
+use Rattle.refute_log.specs.Lines.{IsWellFormed, NamesOnce, log_line_text}
+use Rattle.refute_log.specs.LineForm.{LineForm, IsOfForm, HasRightNumbers}
 
 -- the text is that of a well-formed line
-pub record Spells (text : List ℕ) (line : LogLine) : Type 0 where
+pub record SpellsLine (text : List ℕ) (line : LogLine) : Type 0 where
   pub formed : IsWellFormed line
-  pub spelled : line_text line ≡ text
+  pub spelled : log_line_text line ≡ text
 
 -- the text is that of this line, in which no variable stands twice
 pub record IsTextOf (text : List ℕ) (line : LogLine) : Type 0 where
-  pub spells : Spells text line
+  pub spells : SpellsLine text line
   pub once : NamesOnce line
 
 -- no form has the text; a form has it, but some number isn't right; a line has it, but some variable
 -- stands twice
 abbrev pub HasLineFault : List ℕ → LogWhat → Type 0
 HasLineFault text Header = ⊥
-HasLineFault text Form = (form : LineForm) → HasForm text form → ⊥
-HasLineFault text Number = (form : LineForm) × HasForm text form × (HasRightNumbers form → ⊥)
-HasLineFault text Twice = (line : LogLine) × Spells text line × (NamesOnce line → ⊥)
+HasLineFault text Form = (form : LineForm) → IsOfForm text form → ⊥
+HasLineFault text Number = (form : LineForm) × IsOfForm text form × (HasRightNumbers form → ⊥)
+HasLineFault text Twice = (line : LogLine) × SpellsLine text line × (NamesOnce line → ⊥)
 
 -- want of memory, or such a fault at this line
 abbrev pub IsFaultWhere : (LogWhat → Type 0) → ℕ → LineTextFault → Type 0

@@ -1,27 +1,22 @@
 -- Lines of a log: which are well formed, and the text of each.
-use Rattle.std.specs.Prelude.{◌≤◌, ℕ, Bool, true, false, ⊤, cond, codes, decimal, List, [], ◌++◌, length, flat_map}
+use Rattle.std.specs.Prelude.{◌≤◌, ℕ, Bool, true, false, ⊤, cond, codes, decimal, map, List, [], ◌∷◌, ◌++◌, length, flat_map}
 use Rattle.std.specs.List.{AllByRecursion}
 use Rattle.line_text.specs.Criteria.{criterion_word}
+use Rattle.line_text.specs.Fields.{unended_text, line_text}
+use Rattle.line_text.specs.declared.numbers.TheConstants.{MAX_NUMBER}
+use Rattle.cnf_core.specs.declared.limits.TheConstants.{LAST_VAR}
 use Rattle.cnf_core.specs.Lit.{Literal}
 use Rattle.cnf_core.specs.Clause.{AreThere, AreDistinct}
 use Rattle.refute_log.specs.declared.line.LogLine.{LogLine}
 use Rattle.refute_log.specs.declared.line.LogLine.TheVariants.{Formula, Learnt, Bound, Query, Refuted, Model}
 
--- the greatest number of a variable that a log may name
-abbrev pub last_var : ℕ
-last_var = 1073741823
-
--- the greatest value that a Bound line may speak of
-abbrev pub last_bound : ℕ
-last_bound = 65535
-
--- a Learnt clause has a literal, and each number is within its limits
+-- a Learnt clause has a literal, each variable is one that a log may name, and a Bound line's value is none too great
 abbrev pub IsWellFormed : LogLine → Type 0
-IsWellFormed (Formula c) = AreThere last_var c
-IsWellFormed (Learnt c) = AreThere last_var c × (1 ≤ length c)
-IsWellFormed (Bound criterion k x) = (1 ≤ k) × (k ≤ last_bound) × (1 ≤ x.0) × (x.0 ≤ last_var)
-IsWellFormed (Query c) = AreThere last_var c
-IsWellFormed (Refuted c) = AreThere last_var c
+IsWellFormed (Formula c) = AreThere LAST_VAR c
+IsWellFormed (Learnt c) = AreThere LAST_VAR c × (1 ≤ length c)
+IsWellFormed (Bound criterion k x) = (1 ≤ k) × (k ≤ MAX_NUMBER) × (1 ≤ x.0) × (x.0 ≤ LAST_VAR)
+IsWellFormed (Query c) = AreThere LAST_VAR c
+IsWellFormed (Refuted c) = AreThere LAST_VAR c
 IsWellFormed Model = ⊤
 
 abbrev pub AreWellFormed : List LogLine → Type 0
@@ -52,32 +47,45 @@ is_learnt (Query c) = false
 is_learnt (Refuted c) = false
 is_learnt Model = false
 
-abbrev pub sign_text : Bool → List ℕ
-sign_text positive = cond positive [] (codes "-")
+-- nothing in front of a positive literal's number
+abbrev pub literal_sign : Bool → List ℕ
+literal_sign positive = cond positive [] (codes "-")
 
 -- the variable's number, with `-` in front where the literal is negative
 abbrev pub literal_text : Literal → List ℕ
-literal_text l = sign_text l.positive ++ decimal l.var
+literal_text l = literal_sign l.positive ++ decimal l.var
 
--- each literal, and a space behind each
-abbrev pub literals_text : List Literal → List ℕ
-literals_text ls = flat_map (λ l. literal_text l ++ codes " ") ls
+-- fields, and `0` as the last one
+abbrev pub with_zero : List (List ℕ) → List (List ℕ)
+with_zero fields = fields ++ codes "0" ∷ []
 
--- a letter, the literals, and `0`, parted by one space each
-abbrev pub clause_text : List ℕ → List Literal → List ℕ
-clause_text letter ls = letter ++ codes " " ++ (literals_text ls ++ codes "0")
+-- the fields of a clause: each literal, and `0`
+abbrev pub clause_fields : List Literal → List (List ℕ)
+clause_fields ls = with_zero (map literal_text ls)
 
--- the text of a line, without the line feed at its end
-abbrev pub line_text : LogLine → List ℕ
-line_text (Formula c) = clause_text (codes "f") c
-line_text (Learnt c) = clause_text (codes "l") c
-line_text (Bound criterion k x) = codes "b " ++ (criterion_word criterion ++ (codes " " ++ (decimal k ++ (codes " " ++ decimal x.0))))
-line_text (Query c) = clause_text (codes "q") c
-line_text (Refuted c) = clause_text (codes "r") c
-line_text Model = codes "m"
+-- the first field of a line, a letter, and its other fields
+abbrev pub line_letter : LogLine → List ℕ
+line_letter (Formula c) = codes "f"
+line_letter (Learnt c) = codes "l"
+line_letter (Bound criterion k x) = codes "b"
+line_letter (Query c) = codes "q"
+line_letter (Refuted c) = codes "r"
+line_letter Model = codes "m"
+
+abbrev pub line_fields : LogLine → List (List ℕ)
+line_fields (Formula c) = clause_fields c
+line_fields (Learnt c) = clause_fields c
+line_fields (Bound criterion k x) = criterion_word criterion ∷ decimal k ∷ decimal x.0 ∷ []
+line_fields (Query c) = clause_fields c
+line_fields (Refuted c) = clause_fields c
+line_fields Model = []
+
+-- the text of a line, without the line feed at its end, and with it
+abbrev pub log_line_text : LogLine → List ℕ
+log_line_text line = unended_text (line_letter line) (line_fields line)
 
 abbrev pub ended_text : LogLine → List ℕ
-ended_text line = line_text line ++ codes "\n"
+ended_text line = line_text (line_letter line) (line_fields line)
 
 -- the first line of every log's text
 abbrev pub header : List ℕ

@@ -1,5 +1,6 @@
 -- Logs: the clauses of their lines, which lines stand, and which logs derive.
-use Rattle.std.specs.Prelude.{◌≡◌, ◌≤◌, ℕ, ◌-◌, ◌^◌, min, max, ⊤, Option, Some, None, MatchOption, List, [], ◌∷◌, ◌++◌, length, All, Contains, flat_map, fold, take, slice_get}
+use Rattle.std.specs.Prelude.{◌≡◌, ◌≤◌, ℕ, min, max, ⊤, Option, Some, None, MatchOption, List, [], ◌∷◌, ◌++◌, length, All, Contains, flat_map, fold, take, slice_get}
+use Rattle.outside_io.specs.Counts.{last_count}
 use Rattle.cnf_core.specs.Lit.{Literal, negate, has}
 use Rattle.cnf_core.specs.Clause.{Clauses}
 use Rattle.cnf_core.specs.Propagation.{Falsifies, Rup, IsNew, greatest_var}
@@ -26,9 +27,9 @@ abbrev pub refuted : LogLine → Clauses
 refuted (Refuted c) = c ∷ []
 refuted line = []
 
--- how many Learnt lines there are, up to 2^64 - 1
+-- how many Learnt lines there are, up to where every count ends
 abbrev pub learnt_count : Lines → ℕ
-learnt_count lines = min (length (flat_map learnt lines)) (2 ^ 64 - 1)
+learnt_count lines = min (length (flat_map learnt lines)) last_count
 
 -- the query after a line
 abbrev pub asked : Option (List Literal) → LogLine → Option (List Literal)

@@ -3,14 +3,15 @@ ghost use Rattle.std.specs.Prelude.{◌≡◌, ◌≢◌, ◌≤◌, ◌++◌, �
 ghost use Rattle.std.specs.Char.{IsAsciiDigit};
 ghost use Rattle.std.specs.List.{AllByRecursion};
 ghost use Rattle.cnf_core.specs.Clause.{IsThere};
-ghost use Rattle.refute_log.specs.Lines.{last_var, sign_text, literal_text};
-ghost use Rattle.refute_log.specs.LineForm.{IsNumber, IsCounted, IsLiteral};
+ghost use Rattle.refute_log.specs.Lines.{literal_sign, literal_text};
+ghost use Rattle.refute_log.specs.LineForm.{IsNumber, IsLiteral};
+ghost use Rattle.line_text.specs.Numbers.{IsNumberIn, IsNumberField};
 
 use cnf_core::{LAST_VAR, Lit, Var};
 
 /// Whether the field has no `-` in front, and what follows the `-`.
 fn split_sign(field: &[u8]) -> (bool, &[u8])
-    ensures spelled { field.now ≡ sign_text result.0 ++ result.1.now }
+    ensures spelled { field.now ≡ literal_sign result.0 ++ result.1.now }
     ensures positive { IsTrue result.0 → (rest : List ℕ) → field.now ≢ codes "-" ++ rest }
 {
     match field {
@@ -35,14 +36,14 @@ pub(crate) fn is_number(field: &[u8]) -> bool
 
 /// The number from 1 to the greatest that the field is the canonical decimal of, if it is one.
 pub(crate) fn read_number(field: &[u8], greatest: u32) -> Option<u32>
-    ensures { MatchOption result (IsCounted greatest field.now → ⊥) (λ n. (1 ≤ n) × (n ≤ greatest) × (field.now ≡ decimal n)) }
+    ensures { MatchOption result (IsNumberField 1 greatest field.now → ⊥) (IsNumberIn 1 greatest field.now) }
 {
     line_text::read_number(field, 1, greatest)
 }
 
 /// The literal that the field is the text of, if it is one.
 pub(crate) fn read_literal(field: &[u8]) -> Option<Lit>
-    ensures { MatchOption result (IsLiteral field.now → ⊥) (λ l. IsThere last_var l × (field.now ≡ literal_text l)) }
+    ensures { MatchOption result (IsLiteral field.now → ⊥) (λ l. IsThere LAST_VAR l × (field.now ≡ literal_text l)) }
 {
     let (positive, digits) = split_sign(field);
     let variable = read_number(digits, LAST_VAR)?;

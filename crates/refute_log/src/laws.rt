@@ -2,32 +2,32 @@
 ghost use Rattle.std.specs.Prelude.{◌≡◌, ◌↔◌, ℕ, List};
 ghost use Rattle.refute_log.specs.declared.line.LogLine.{LogLine as Line};
 ghost use Rattle.refute_log.specs.declared.fault.LogWhat.{LogWhat as What};
-ghost use Rattle.refute_log.specs.Lines.{IsWellFormed, line_text};
-ghost use Rattle.refute_log.specs.LineForm.{LineForm, HasForm, HasRightNumbers};
-ghost use Rattle.refute_log.specs.LineText.{Spells, IsTextOf, HasLineFault};
+ghost use Rattle.refute_log.specs.Lines.{IsWellFormed, log_line_text};
+ghost use Rattle.refute_log.specs.LineForm.{LineForm, IsOfForm, HasRightNumbers};
+ghost use Rattle.refute_log.specs.LineText.{SpellsLine, IsTextOf, HasLineFault};
 
 use crate::LogLine;
 
 /// A text has one form at most.
 pub fn one_form()
-    ensures { (text : List ℕ) (a b : LineForm) → HasForm text a → HasForm text b → a ≡ b }
+    ensures { (text : List ℕ) (a b : LineForm) → IsOfForm text a → IsOfForm text b → a ≡ b }
 {}
 
 /// A text is that of one line at most.
 pub fn one_line()
-    ensures { (text : List ℕ) (a b : Line) → Spells text a → Spells text b → a ≡ b }
+    ensures { (text : List ℕ) (a b : Line) → SpellsLine text a → SpellsLine text b → a ≡ b }
 {}
 
 /// A text is that of a well-formed line exactly where it has a form whose numbers are right.
 pub fn right_numbers_make_a_line()
-    ensures { (text : List ℕ) → ((form : LineForm) × HasForm text form × HasRightNumbers form) ↔ ((line : Line) × Spells text line) }
+    ensures { (text : List ℕ) → ((form : LineForm) × IsOfForm text form × HasRightNumbers form) ↔ ((line : Line) × SpellsLine text line) }
 {}
 
 /// The text of a well-formed line, as `write_line` writes it, is the text of this line, so it is read
 /// as the same line again.
 pub fn written_is_read_again(line: &LogLine)
     requires { IsWellFormed line.now }
-    ensures { IsTextOf (line_text line.now) line.now }
+    ensures { IsTextOf (log_line_text line.now) line.now }
 {
     match line {
         LogLine::Formula(clause)

@@ -1,9 +1,9 @@
 // A line, read from its text.
-ghost use Rattle.std.specs.Prelude.{◌≡◌, ◌≢◌, ◌≤◌, ◌⊎◌, ◌↔◌, ◌++◌, ◌∷◌, ℕ, List, codes, decimal, MatchOption, MatchResult, IfOk, IfErr, IsErrOf, IsTrue};
+ghost use Rattle.std.specs.Prelude.{◌≡◌, ◌≢◌, ◌≤◌, ◌⊎◌, ◌↔◌, ◌++◌, ◌∷◌, ℕ, List, codes, MatchOption, MatchResult, IfOk, IfErr, IsErrOf, IsTrue};
 ghost use Rattle.plan_core.specs.Exactly.{AnswersExactly};
 ghost use Rattle.plan_core.specs.declared.criterion.Criterion.{Criterion as Bounded};
-ghost use Rattle.refute_log.specs.Lines.{last_bound, last_var};
-ghost use Rattle.refute_log.specs.LineForm.{Field, IsCounted};
+ghost use Rattle.line_text.specs.Numbers.{IsNumberIn, IsNumberField};
+ghost use Rattle.refute_log.specs.LineForm.{Field};
 ghost use Rattle.refute_log.specs.LineText.{IsTextOf, IsWantOrFault, IsLineFault};
 ghost use Rattle.refute_log.specs.FieldText.{HasBound};
 
@@ -11,12 +11,9 @@ use crate::fields::{is_number, read_number};
 use crate::literals::{is_end, read_clause};
 use crate::{LineTextFault, LogLine, LogWhat};
 use cnf_core::{LAST_VAR, Var};
-use line_text::{cut_field, read_criterion};
+use line_text::{MAX_NUMBER, cut_field, read_criterion};
 use plan_core::Criterion;
 use std::alloc::Global;
-
-/// The greatest value that a Bound line may speak of.
-const LAST_BOUND: u32 = 65535;
 
 /// The criterion and the two fields for numbers of the text behind the letter of a Bound line.
 fn split_bound(text: &[u8]) -> Option<(Criterion, &[u8], &[u8])>
@@ -33,9 +30,9 @@ fn split_bound(text: &[u8]) -> Option<(Criterion, &[u8], &[u8])>
 
 /// The value and the variable's number that the two fields are the canonical decimals of.
 fn read_bounded(k: &[u8], variable: &[u8]) -> Option<(u32, u32)>
-    ensures { MatchOption result (IsCounted last_bound k.now × IsCounted last_var variable.now → ⊥) (λ p. (1 ≤ p.0) × (p.0 ≤ last_bound) × (k.now ≡ decimal p.0) × (1 ≤ p.1) × (p.1 ≤ last_var) × (variable.now ≡ decimal p.1)) }
+    ensures { MatchOption result (IsNumberField 1 MAX_NUMBER k.now × IsNumberField 1 LAST_VAR variable.now → ⊥) (λ p. IsNumberIn 1 MAX_NUMBER k.now p.0 × IsNumberIn 1 LAST_VAR variable.now p.1) }
 {
-    let k = read_number(k, LAST_BOUND)?;
+    let k = read_number(k, MAX_NUMBER)?;
     let variable = read_number(variable, LAST_VAR)?;
     Some((k, variable))
 }

@@ -1,8 +1,9 @@
 // The text of a line, written.
-ghost use Rattle.std.specs.Prelude.{◌≡◌, ◌++◌, codes, decimal, OnOk, OnErr};
+ghost use Rattle.std.specs.Prelude.{◌≡◌, ◌++◌, ◌∷◌, [], codes, decimal, map, OnOk, OnErr};
 ghost use Rattle.outside_io.specs.Contents.{Begins};
 ghost use Rattle.line_text.specs.Criteria.{criterion_word as word_of};
-ghost use Rattle.refute_log.specs.Lines.{IsWellFormed, sign_text, literal_text, literals_text, clause_text, ended_text};
+ghost use Rattle.line_text.specs.Fields.{spaced, unended_text};
+ghost use Rattle.refute_log.specs.Lines.{IsWellFormed, literal_sign, literal_text, clause_fields, ended_text};
 
 use crate::LogLine;
 use cnf_core::{Clause, Lit};
@@ -15,28 +16,35 @@ fn write_literal(literal: Lit, into: &mut Vec<u8>) -> Result<(), OutOfMemory>
 {
     let sign: &[u8] = if literal.positive() { b"" } else { b"-" };
     push_text(into, sign)?;
-    push_number(into, literal.var().0)
+    push_number(into, u64::from(literal.var().0))
+}
+
+/// Appends a space and a literal.
+fn write_literal_field(literal: Lit, into: &mut Vec<u8>) -> Result<(), OutOfMemory>
+    ensures ok { OnOk result (into.new.items ≡ into.old.items ++ (32 ∷ literal_text literal)) }
+    ensures begins { Begins into.old.items into.new.items }
+{
+    push_text(into, b" ")?;
+    write_literal(literal, into)
 }
 
 fn write_literals(literals: &[Lit], into: &mut Vec<u8>) -> Result<(), OutOfMemory>
-    ensures ok { OnOk result (into.new.items ≡ into.old.items ++ literals_text literals.now) }
+    ensures ok { OnOk result (into.new.items ≡ into.old.items ++ spaced (map literal_text literals.now)) }
     ensures begins { Begins into.old.items into.new.items }
 {
     for literal in literals {
-        write_literal(*literal, into)?;
-        push_text(into, b" ")?;
+        write_literal_field(*literal, into)?;
     }
     Ok(())
 }
 
 fn write_clause(letter: &[u8], clause: &Clause, into: &mut Vec<u8>) -> Result<(), OutOfMemory>
-    ensures ok { OnOk result (into.new.items ≡ into.old.items ++ clause_text letter.now clause.now) }
+    ensures ok { OnOk result (into.new.items ≡ into.old.items ++ unended_text letter.now (clause_fields clause.now)) }
     ensures begins { Begins into.old.items into.new.items }
 {
     push_text(into, letter)?;
-    push_text(into, b" ")?;
     write_literals(clause.as_slice(), into)?;
-    push_text(into, b"0")
+    push_field(into, b"0")
 }
 
 fn write_bound(
@@ -45,7 +53,7 @@ fn write_bound(
     variable: u32,
     into: &mut Vec<u8>,
 ) -> Result<(), OutOfMemory>
-    ensures ok { OnOk result (into.new.items ≡ into.old.items ++ (codes "b " ++ (word_of criterion ++ (codes " " ++ (decimal k ++ (codes " " ++ decimal variable)))))) }
+    ensures ok { OnOk result (into.new.items ≡ into.old.items ++ unended_text (codes "b") (word_of criterion ∷ decimal k ∷ decimal variable ∷ [])) }
     ensures begins { Begins into.old.items into.new.items }
 {
     push_text(into, b"b")?;

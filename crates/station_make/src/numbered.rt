@@ -10,5 +10,5 @@ pub fn push_numbered(into: &mut Vec<u8>, text: &[u8], n: u32) -> Result<(), OutO
     ensures { OnOk result (into.new.items ≡ into.old.items ++ numbered text.now n) }
 {
     push_text(into, text)?;
-    push_number(into, n)
+    push_number(into, u64::from(n))
 }

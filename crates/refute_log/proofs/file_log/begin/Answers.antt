@@ -1,5 +1,6 @@
 use Rattle.std.proofs.lemmas.Result.{on_ok_weaker, on_err_weaker}
-use Rattle.refute_log.proofs.StartLemmas.{on_err_anyway, first_line, not_created, not_whole}
+use Rattle.outside_io.proofs.Results.{on_err_anyway}
+use Rattle.refute_log.proofs.StartLemmas.{first_line, not_created, not_whole}
 use Rattle.refute_log.proofs.file_log.begin.Goals as goal
 
 pub returns-in_err-create-clause-err : goal.returns-in_err-create-clause-err

@@ -1,4 +1,5 @@
-use Rattle.std.proofs.Common.{◌≡◌, ℕ, List, [], ◌∷◌, ◌++◌, decimal, ◌∙◌, ap, append_assoc}
+use Rattle.std.proofs.Common.{◌≡◌, ℕ, List, [], ◌∷◌, ◌++◌, decimal, ◌∙◌, ap, sym, append_assoc}
+use Rattle.std.proofs.lemmas.List.{append-nil}
 use Rattle.std.proofs.lemmas.Result.{on_ok_weaker}
 use Rattle.line_text.specs.Criteria.{criterion_word as word_of}
 use Rattle.refute_log.proofs.writing.write_bound.Goals as goal
@@ -17,7 +18,7 @@ written c =
 
 pub returns-clause-ok : goal.returns-clause-ok
 returns-clause-ok c =
-    on_ok_weaker c.push_number_field-2.result (λ e. e ∙ ap (λ (xs : List ℕ). xs ++ 32 ∷ decimal c.args.variable) (written c) ∙ front c.args.into.now.items (word_of c.args.criterion) (decimal c.args.k) (32 ∷ decimal c.args.variable)) c.push_number_field-2.ensures.ok
+    on_ok_weaker c.push_number_field-2.result (λ e. e ∙ ap (λ (xs : List ℕ). xs ++ 32 ∷ decimal c.args.variable) (written c) ∙ front c.args.into.now.items (word_of c.args.criterion) (decimal c.args.k) (32 ∷ decimal c.args.variable) ∙ ap (λ (xs : List ℕ). c.args.into.now.items ++ (98 ∷ 32 ∷ (word_of c.args.criterion ++ 32 ∷ (decimal c.args.k ++ 32 ∷ xs)))) (sym (append-nil (decimal c.args.variable)))) c.push_number_field-2.ensures.ok
 
 pub returns-clause-begins : goal.returns-clause-begins
 returns-clause-begins c =
