@@ -68,7 +68,7 @@ IsResolved-mirrored t resolved = record {
 
 -- ---- exchanged twice, a thing is as it was
 
-hand_twice : (hand : Hand) → other_hand (other_hand hand) ≡ hand
+pub hand_twice : (hand : Hand) → other_hand (other_hand hand) ≡ hand
 hand_twice Left = refl
 hand_twice Right = refl
 

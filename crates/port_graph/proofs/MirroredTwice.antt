@@ -1,7 +1,6 @@
 -- With every hand exchanged twice, a station is as it was.
 use Rattle.std.proofs.Common.{◌≡◌, List, refl, ap}
 use Rattle.plan_core.specs.declared.sides.Hand.{Hand}
-use Rattle.plan_core.specs.declared.sides.Hand.TheVariants.{Left, Right}
 use Rattle.plan_core.specs.declared.sides.Side.{Side}
 use Rattle.plan_core.specs.declared.topology.Topology.{Topology}
 use Rattle.plan_core.specs.declared.topology.Track.{Track}
@@ -9,12 +8,9 @@ use Rattle.plan_core.specs.declared.topology.Inner.{Inner}
 use Rattle.plan_core.specs.declared.topology.InnerKind.{InnerKind}
 use Rattle.plan_core.specs.declared.topology.InnerKind.TheVariants as kind
 use Rattle.plan_core.specs.Graph.{Graph, Node, Ports, End, Joint, Switch, Crossing}
-use Rattle.port_graph.specs.Mirrored.{other_hand, mirrored_kind, mirrored_inner, mirrored_track, mirrored_topology, mirrored_ports, mirrored_node, mirrored_graph}
+use Rattle.port_graph.specs.Mirrored.{mirrored_kind, mirrored_inner, mirrored_track, mirrored_topology, mirrored_ports, mirrored_node, mirrored_graph}
 use Rattle.port_graph.proofs.TurnedTwice.{map_twice, side_twice}
-
-hand_twice : (h : Hand) → other_hand (other_hand h) ≡ h
-hand_twice Left = refl
-hand_twice Right = refl
+use Rattle.port_graph.proofs.MirroredGraph.{hand_twice}
 
 kind_twice : (what : InnerKind) → mirrored_kind (mirrored_kind what) ≡ what
 kind_twice (kind.Switch outgoing hand track_diverges conn) = ap (λ (h : Hand). kind.Switch outgoing h track_diverges conn) (hand_twice hand)
