@@ -1,12 +1,12 @@
 // The file of a station.
-ghost use Rattle.std.specs.Prelude.{◌≡◌, ◌++◌, OnOk, IfOk};
+ghost use Rattle.std.specs.Prelude.{◌≡◌, ◌≤◌, ◌++◌, length, OnOk, IfOk};
 ghost use Rattle.station_make.specs.StationText.{byte_order_mark, file_begin, file_end, station_text};
 
 use crate::loop_track::push_loop_tracks;
 use crate::main_track::push_main_track;
 use crate::numbered::push_numbered;
 use line_text::push_text;
-use plan_core::OutOfMemory;
+use plan_core::{MAX_FILE_BYTES, OutOfMemory};
 use std::alloc::Global;
 
 fn push_byte_order_mark(into: &mut Vec<u8>) -> Result<(), OutOfMemory>
@@ -38,8 +38,7 @@ fn push_file_end(into: &mut Vec<u8>) -> Result<(), OutOfMemory>
     push_text(into, b"</tracks></infrastructure></railml>\n")
 }
 
-/// The file of the station of this number: a railML file with a byte order mark.
-pub fn make(alloc: Global, n: u32) -> Result<Vec<u8>, OutOfMemory>
+fn file_of(alloc: Global, n: u32) -> Result<Vec<u8>, OutOfMemory>
     ensures { IfOk result (λ file. file.items ≡ station_text n) }
 {
     let mut file = Vec::new(alloc);
@@ -49,4 +48,13 @@ pub fn make(alloc: Global, n: u32) -> Result<Vec<u8>, OutOfMemory>
     push_loop_tracks(n, &mut file)?;
     push_file_end(&mut file)?;
     Ok(file)
+}
+
+/// The file of the station of this number: a railML file with a byte order mark, which a reader of railML
+/// files takes by its length.
+pub fn make(alloc: Global, n: u32) -> Result<Vec<u8>, OutOfMemory>
+    ensures text { IfOk result (λ file. file.items ≡ station_text n) }
+    ensures length { IfOk result (λ file. length file.items ≤ MAX_FILE_BYTES) }
+{
+    file_of(alloc, n)
 }
