@@ -1,5 +1,5 @@
 -- A whole formula: when it is one, and what its models say.
-use Rattle.std.proofs.Common.{◌≡◌, ℕ, ◌≤◌, ◌<◌, List, [], ◌++◌, length, get_or, refl, sym, ◌∙◌, ap, subst, append-nil, arith, Ok, Err}
+use Rattle.std.proofs.Common.{◌≡◌, ℕ, ◌≤◌, ◌<◌, List, [], ◌∷◌, ◌+◌, ◌++◌, length, get_or, refl, sym, ◌∙◌, ap, subst, append-nil, arith, Ok, Err}
 use Rattle.std.specs.Prelude.{Result, IfOk, Bool, true}
 use Rattle.std.proofs.lemmas.List.{same_lists, get_or_default}
 use Rattle.plan_core.specs.declared.point.Point.{Point}
@@ -19,7 +19,7 @@ use Rattle.edge_lines.proofs.UniqueLemmas.{same_heights_same_line}
 use Rattle.track_order.specs.Order.{EdgeOrder, is_above, is_overlap, IsOrderOf}
 use Rattle.drawing_cnf.specs.Stands.{DrawingVars, StandsFor}
 use Rattle.drawing_cnf.specs.Expected.{drawing_vars, instances, formula_clauses, formula_size}
-use Rattle.drawing_cnf.specs.Bounded.{Bound, bounds_clauses, AreBehind, Tells, SoundWith}
+use Rattle.drawing_cnf.specs.Bounded.{Bound, size_of_bound, bounds_clauses, AreBehind, Tells, SoundWith}
 use Rattle.drawing_cnf.specs.Encoding.{Encoding, encoded_vars}
 use Rattle.drawing_cnf.specs.Whole.{drawing_clauses, drawing_last, bounds_last, IsWhole}
 use Rattle.drawing_cnf.proofs.BaseLemmas.{lawful_loose}
@@ -45,6 +45,11 @@ whole_of e g o grid eg eo ed h clauses vars none =
 pub whole_made : (r : Result Encoding CnfFault) (g : Graph) (o : EdgeOrder) (grid : GridSize) → IsOrderOf g o → IfOk r (λ e. e.graph ≡ g) → IfOk r (λ e. e.order ≡ o) → IfOk r (λ e. e.grid ≡ grid) → IfOk r (λ e. e.formula.clauses ≡ formula_clauses g (is_above o) (is_overlap o) grid) → IfOk r (λ e. e.formula.vars ≡ formula_size g (is_above o) (is_overlap o) grid) → IfOk r (λ e. e.bounds ≡ []) → IfOk r (λ e. IsWhole e)
 whole_made (Ok e) g o grid h eg eo ed clauses vars none = whole_of e g o grid eg eo ed h clauses vars none
 whole_made (Err x) g o grid h eg eo ed clauses vars none = tt
+
+-- bounds lie behind the variable behind which the first one does
+pub last_rises : (g : Graph) (x : DrawingVars) (grid : GridSize) (vars : ℕ) (bounds : List Bound) → AreBehind g x grid vars bounds → vars ≤ bounds_last g x grid vars bounds
+last_rises g x grid vars [] h = omega arith
+last_rises g x grid vars (b ∷ rest) h = let low = h.0 in omega (arith, last_rises g x grid (b.last + size_of_bound g x grid b) rest h.1)
 
 -- ONE DRAWING
 -- lawful drawings for which an assignment stands are one

@@ -4,8 +4,8 @@ ghost use Rattle.cnf_core.specs.declared.limits.TheConstants.{VARS, ROOM};
 ghost use Rattle.cnf_core.specs.declared.fault.CnfFault.TheVariants.{Room};
 ghost use Rattle.cnf_core.specs.Clause.{words_of};
 ghost use Rattle.track_order.specs.Order.{is_above, is_overlap, IsOrderOf};
-ghost use Rattle.edge_shape.specs.EdgeVars.{lits_of};
-ghost use Rattle.drawing_cnf.specs.Expected.{drawing_vars, formula_clauses, formula_size, most_words, most_variables, Sound, Covers};
+ghost use Rattle.edge_shape.specs.EdgeVars.{edge_spot, lits_of};
+ghost use Rattle.drawing_cnf.specs.Expected.{drawing_vars, edge_first, formula_clauses, formula_size, most_words, most_variables, Sound, Covers};
 ghost use Rattle.drawing_cnf.specs.Encoding.{encoded_vars};
 ghost use Rattle.drawing_cnf.specs.Whole.{IsWhole};
 
@@ -84,7 +84,8 @@ impl<'a> Encoded<'a> {
     /// The variables of an edge, in whose heights `Stands` reads its line.
     pub fn edge(&self, e: EdgeNo) -> EdgeVars
         requires { e.0 < length self.now.graph.edges }
-        ensures { lits_of result ≡ (encoded_vars self.now).edge e.0 }
+        ensures lits { lits_of result ≡ (encoded_vars self.now).edge e.0 }
+        ensures spot { result ≡ edge_spot (edge_first self.now.graph self.now.grid e.0) self.now.grid.height self.now.grid.width }
     {
         edge_vars(self.graph, self.grid, e)
     }

@@ -1,0 +1,2 @@
+pub mod TracedLemmas
+pub mod DecodeLemmas

@@ -1,0 +1,164 @@
+// The drawing of a model.
+ghost use Rattle.std.specs.Prelude.{◌≡◌, ◌≤◌, ◌<◌, ℕ, ◌+◌, length, IfOk};
+ghost use Rattle.plan_core.specs.Graph.{edge};
+ghost use Rattle.plan_core.specs.Drawing.{Drawing as PlainDrawing, place, line};
+ghost use Rattle.plan_core.specs.Lawful.{Lawful};
+ghost use Rattle.plan_core.specs.Values.{values_of};
+ghost use Rattle.cnf_core.specs.Assignment.{SatisfiesAll};
+ghost use Rattle.cnf_core.specs.Truths.{assignment};
+ghost use Rattle.order_int.specs.IntVars.{IntIsIn};
+ghost use Rattle.order_int.specs.OrderInt.{int_clauses, Reads};
+ghost use Rattle.edge_lines.specs.Columns.{listed_height as by_column};
+ghost use Rattle.edge_shape.specs.EdgeVars.{lits_of};
+ghost use Rattle.track_order.specs.Order.{is_above};
+ghost use Rattle.drawing_cnf.specs.Stands.{StandsFor};
+ghost use Rattle.drawing_cnf.specs.Expected.{laws_first};
+ghost use Rattle.drawing_cnf.specs.Encoding.{encoded_vars};
+ghost use Rattle.drawing_cnf.specs.Bounded.{Tells};
+ghost use Rattle.drawing_cnf.specs.Whole.{IsWhole};
+ghost use Rattle.model_decode.specs.Decoded.{IsRead, IsReadAs};
+
+use arrayvec::ArrayVec;
+use cnf_core::Truths;
+use drawing_cnf::Encoded;
+use edge_lines::trace;
+use edge_shape::{EdgeVars, NodeVars};
+use order_int::OrderInt;
+use plan_core::{EdgeNo, NodeNo, OutOfMemory, Point};
+use plan_geometry::{Drawing, Line};
+use std::alloc::Global;
+
+/// The number of an integer of a small range in a model.
+fn number_of(i: &OrderInt, m: &Truths) -> u16
+    requires there { IntIsIn (length m.now) i.now }
+    requires model { SatisfiesAll (assignment m.now) (int_clauses i.now) }
+    requires small { i.now.high ≤ 65535 }
+    ensures { Reads (assignment m.now) i.now result }
+{
+    i.value_of(m) as u16
+}
+
+/// The point of a node in a model.
+fn point_of(vars: &NodeVars, m: &Truths) -> Point
+    requires x_there { IntIsIn (length m.now) vars.now.x }
+    requires x_model { SatisfiesAll (assignment m.now) (int_clauses vars.now.x) }
+    requires x_small { vars.now.x.high ≤ 65535 }
+    requires y_there { IntIsIn (length m.now) vars.now.y }
+    requires y_model { SatisfiesAll (assignment m.now) (int_clauses vars.now.y) }
+    requires y_small { vars.now.y.high ≤ 65535 }
+    ensures x { Reads (assignment m.now) vars.now.x result.x }
+    ensures y { Reads (assignment m.now) vars.now.y result.y }
+{
+    Point {
+        x: number_of(&vars.x, m),
+        y: number_of(&vars.y, m),
+    }
+}
+
+/// The place of a node in the drawing that is read.
+fn place_of(e: &Encoded, n: u16, m: &Truths) -> Point
+    requires n { n < length e.now.graph.nodes }
+    requires read { IsRead e.now (assignment m.now) }
+    requires there { laws_first e.now.graph e.now.grid ≤ length m.now + 1 }
+    ensures { (d : PlainDrawing) → IsReadAs e.now (assignment m.now) d → result ≡ place d n }
+{
+    point_of(&e.node(NodeNo(n)), m)
+}
+
+/// The places of all nodes.
+fn places_of(alloc: Global, e: &Encoded, m: &Truths) -> Result<Vec<Point>, OutOfMemory>
+    requires read { IsRead e.now (assignment m.now) }
+    requires there { laws_first e.now.graph e.now.grid ≤ length m.now + 1 }
+    ensures { IfOk result (λ v. (d : PlainDrawing) → IsReadAs e.now (assignment m.now) d → v.items ≡ d.places) }
+{
+    let mut places = Vec::new(alloc);
+    let end = e.graph().nodes();
+    for n in 0..end {
+        places.push(place_of(e, n, m))?;
+    }
+    Ok(places)
+}
+
+/// The heights of an edge in a model, one for each column of the grid.
+fn heights_of(vars: &EdgeVars, width: u16, m: &Truths) -> ArrayVec<u16, 65>
+    requires width { width ≡ vars.now.width }
+    requires few { width ≤ 64 }
+    requires high { vars.now.high ≤ 65535 }
+    requires there { (c : ℕ) → c ≤ width → IntIsIn (length m.now) ((lits_of vars.now).height c) }
+    requires model { (c : ℕ) → c ≤ width → SatisfiesAll (assignment m.now) (int_clauses ((lits_of vars.now).height c)) }
+    ensures count { length result.items ≡ width + 1 }
+    ensures each { (c : ℕ) → c ≤ width → Reads (assignment m.now) ((lits_of vars.now).height c) (by_column result.items c) }
+{
+    let mut heights = ArrayVec::<u16, 65>::new();
+    let end = width + 1;
+    for c in 0..end {
+        heights.push(number_of(&vars.height(c), m));
+    }
+    heights
+}
+
+/// The line of an edge in the drawing that is read, between these columns.
+fn line_between(e: &Encoded, k: u16, west: u16, east: u16, m: &Truths) -> Line
+    requires k { k < length e.now.graph.edges }
+    requires read { IsRead e.now (assignment m.now) }
+    requires there { laws_first e.now.graph e.now.grid ≤ length m.now + 1 }
+    requires west { (d : PlainDrawing) → IsReadAs e.now (assignment m.now) d → west ≡ (place d (edge e.now.graph k).west).x }
+    requires east { (d : PlainDrawing) → IsReadAs e.now (assignment m.now) d → east ≡ (place d (edge e.now.graph k).east).x }
+    ensures { (d : PlainDrawing) → IsReadAs e.now (assignment m.now) d → result ≡ line d k }
+{
+    let width = e.grid().width();
+    let heights = heights_of(&e.edge(EdgeNo(k)), width, m);
+    trace(heights.as_slice(), west, east)
+}
+
+/// The line of an edge in the drawing that is read.
+fn line_of(e: &Encoded, k: u16, m: &Truths) -> Line
+    requires k { k < length e.now.graph.edges }
+    requires read { IsRead e.now (assignment m.now) }
+    requires there { laws_first e.now.graph e.now.grid ≤ length m.now + 1 }
+    ensures { (d : PlainDrawing) → IsReadAs e.now (assignment m.now) d → result ≡ line d k }
+{
+    let west = place_of(e, e.graph().west(EdgeNo(k)).0, m).x;
+    let east = place_of(e, e.graph().east(EdgeNo(k)).0, m).x;
+    line_between(e, k, west, east, m)
+}
+
+/// The lines of all edges.
+fn lines_of(alloc: Global, e: &Encoded, m: &Truths) -> Result<Vec<Line>, OutOfMemory>
+    requires read { IsRead e.now (assignment m.now) }
+    requires there { laws_first e.now.graph e.now.grid ≤ length m.now + 1 }
+    ensures { IfOk result (λ v. (d : PlainDrawing) → IsReadAs e.now (assignment m.now) d → v.items ≡ d.lines) }
+{
+    let mut lines = Vec::new(alloc);
+    let end = e.graph().edges();
+    for k in 0..end {
+        lines.push(line_of(e, k, m))?;
+    }
+    Ok(lines)
+}
+
+/// The drawing that is read.
+fn read_drawing(alloc: Global, e: &Encoded, m: &Truths) -> Result<Drawing, OutOfMemory>
+    requires read { IsRead e.now (assignment m.now) }
+    requires there { laws_first e.now.graph e.now.grid ≤ length m.now + 1 }
+    ensures { IfOk result (λ b. (d : PlainDrawing) → IsReadAs e.now (assignment m.now) d → b ≡ d) }
+{
+    let _ = (e.graph().nodes(), e.graph().edges());
+    let places = places_of(alloc, e, m)?;
+    let lines = lines_of(alloc, e, m)?;
+    Drawing::new(alloc, &places, &lines)
+}
+
+/// The drawing that a model of the formula stands for.
+pub fn decode(alloc: Global, e: &Encoded, m: &Truths) -> Result<Drawing, OutOfMemory>
+    requires whole { IsWhole e.now }
+    requires vars { e.now.formula.vars ≤ length m.now }
+    requires model { SatisfiesAll (assignment m.now) e.now.formula.clauses }
+    ensures stands { IfOk result (λ d. StandsFor (assignment m.now) e.now.graph (encoded_vars e.now) d) }
+    ensures lawful { IfOk result (λ d. Lawful e.now.graph (is_above e.now.order) e.now.grid d) }
+    ensures tells { IfOk result (λ d. Tells (assignment m.now) (values_of d) e.now.bounds) }
+    ensures alone { IfOk result (λ d. (other : PlainDrawing) → Lawful e.now.graph (is_above e.now.order) e.now.grid other → StandsFor (assignment m.now) e.now.graph (encoded_vars e.now) other → other ≡ d) }
+{
+    let _ = (e.graph().nodes(), e.grid().width(), e.formula().vars());
+    read_drawing(alloc, e, m)
+}
