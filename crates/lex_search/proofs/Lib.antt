@@ -1,0 +1,9 @@
+pub mod ReachLemmas
+pub mod StepLemmas
+pub mod LowerLemmas
+pub mod RunLemmas
+pub mod BuildLemmas
+pub mod AdvanceLemmas
+pub mod FinalLemmas
+pub mod OutcomeLemmas
+pub mod BeforeLemmas

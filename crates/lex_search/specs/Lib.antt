@@ -1,0 +1,7 @@
+pub mod Task
+pub mod Steps
+pub mod Asked
+pub mod Reached
+pub mod Built
+pub mod State
+pub mod Outcome

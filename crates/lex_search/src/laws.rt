@@ -1,0 +1,25 @@
+// Laws of outcomes. The function does nothing: its contract is the law.
+ghost use Rattle.std.specs.Prelude.{◌≡◌, ℕ, List, Option, length, flat_map};
+ghost use Rattle.plan_core.specs.declared.criterion.Criterion.{Criterion};
+ghost use Rattle.plan_core.specs.Drawing.{Drawing};
+ghost use Rattle.refute_log.specs.Told.{Lines};
+ghost use Rattle.refute_log.specs.Log.{learnt, Open};
+ghost use Rattle.certified_values.specs.Certified.{Settled};
+ghost use Rattle.certified_values.specs.Full.{IsFullLog};
+ghost use Rattle.lex_search.specs.declared.oracle.Stop.{Stop as Cause};
+ghost use Rattle.lex_search.specs.declared.oracle.Stop.TheVariants.{BudgetSpent, RoomFull};
+ghost use Rattle.lex_search.specs.Task.{Task, greatest_of};
+ghost use Rattle.lex_search.specs.Outcome.{IsStoppedEnd, values_found};
+
+/// Where a search stopped, the criteria that it calls settled are those that are. Where it stopped for want of room the
+/// log is full. Where it stopped for its budget, so many clauses were learnt, and the last query is open.
+pub fn what_unfinished_searches_are()
+    ensures settled { (p : Task) (order : List Criterion) (s : ℕ) (stop : Cause) (found : Option Drawing) (lines : Lines) →
+        IsStoppedEnd p order s stop found lines → Settled (greatest_of p) lines order (values_found found) s }
+    ensures full { (p : Task) (order : List Criterion) (s : ℕ) (found : Option Drawing) (lines : Lines) →
+        IsStoppedEnd p order s RoomFull found lines → IsFullLog p.encoding (greatest_of p) order lines (values_found found) p.room }
+    ensures spent { (p : Task) (order : List Criterion) (s : ℕ) (found : Option Drawing) (lines : Lines) →
+        IsStoppedEnd p order s BudgetSpent found lines → length (flat_map learnt lines) ≡ p.budget }
+    ensures still_open { (p : Task) (order : List Criterion) (s : ℕ) (found : Option Drawing) (lines : Lines) →
+        IsStoppedEnd p order s BudgetSpent found lines → Open lines }
+{}
