@@ -1,5 +1,6 @@
 //! The program `railplan`: it hands the words of the command line, the system's files and its output to
-//! `run`, and ends with the status that `run` answers, or with 10 where the words couldn't be had.
+//! `run`, with a trace that keeps no line, and ends with the status that `run` answers, or with 10 where the
+//! words couldn't be had.
 //!
 //! It states nothing of its own: what a run owes is the contract of `run`, in `schematic_main`. The stored
 //! run (`args`, `data`, `stdout`) shows the program at work; the launcher `railplan` builds and runs it.
@@ -7,6 +8,7 @@
 #![tactic(auto)]
 
 use outside_io::{HostFiles, HostOut};
+use refute_log::NoLog;
 use schematic_main::run;
 use std::env;
 use std::process::ExitCode;
@@ -23,7 +25,8 @@ fn main(rt: HostRuntime) -> ExitCode {
         Some(words) => {
             let mut files = HostFiles::new(&rt);
             let mut out = HostOut::new(&rt);
-            ExitCode::from(run(rt.alloc(), &words, &mut files, &mut out))
+            let mut trace = NoLog::new();
+            ExitCode::from(run(rt.alloc(), &words, &mut files, &mut out, &mut trace))
         }
         None => ExitCode::from(10),
     }

@@ -1,11 +1,10 @@
 // What runs answer by their words and one file.
-use crate::cases::words_from;
+use crate::cases::{run_untraced, words_from};
 use crate::stations::{
     BACK, BACK_GRAPH, CROSS, CROSS_GRAPH, LOOP, LOOP_GRAPH, MUTUAL, ONE, ONE_GRAPH, SCISSORS,
     SCISSORS_GRAPH, STATION, STATION_GRAPH, TWO, TWO_GRAPH,
 };
 use outside_io::{MemoryFiles, SureFiles, SureSink};
-use schematic_main::run;
 use std::alloc::Global;
 use std::test::Fail;
 
@@ -242,7 +241,7 @@ fn answers_by_words_and_file(rt: HostRuntime) -> Result<(), Fail> {
         let mut out = SureSink::new(alloc);
         let words = words_from(alloc, words)?;
         assert_eq!(rt;
-            run(alloc, &words, &mut files, &mut out),
+            run_untraced(alloc, &words, &mut files, &mut out),
             status,
             "{words:?} {file}"
         );
@@ -402,7 +401,7 @@ fn answer_to_edit(alloc: Global, edit: &Edit) -> Result<(u8, Vec<u8>), Fail> {
     let mut files = MemoryFiles::new(alloc, &[])?;
     files.add("one.xml", &file)?;
     let mut out = SureSink::new(alloc);
-    let status = run(alloc, &words, &mut files, &mut out);
+    let status = run_untraced(alloc, &words, &mut files, &mut out);
     Ok((status, Vec::from_slice(alloc, out.bytes())?))
 }
 
@@ -443,7 +442,11 @@ fn prints_the_graph_of_each_worked_station(rt: HostRuntime) -> Result<(), Fail> 
         let mut files = SureFiles::new(alloc);
         files.add("one.xml", file.as_bytes())?;
         let mut out = SureSink::new(alloc);
-        assert_eq!(rt; run(alloc, &words, &mut files, &mut out), 0, "{file}");
+        assert_eq!(rt;
+            run_untraced(alloc, &words, &mut files, &mut out),
+            0,
+            "{file}"
+        );
         assert_eq!(rt; out.bytes(), text.as_bytes(), "{file}");
     }
     Ok(())
@@ -466,7 +469,7 @@ fn tells_of_an_edge_between_equal_mileages(rt: HostRuntime) -> Result<(), Fail> 
     let mut files = SureFiles::new(alloc);
     files.add("one.xml", file.as_bytes())?;
     let mut out = SureSink::new(alloc);
-    assert_eq!(rt; run(alloc, &words, &mut files, &mut out), 1);
+    assert_eq!(rt; run_untraced(alloc, &words, &mut files, &mut out), 1);
     assert_eq!(rt;
         out.bytes(),
         b"graph 3 NotForward x 200.000000\n".as_slice()

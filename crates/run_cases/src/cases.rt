@@ -1,5 +1,6 @@
 // Cases of `verify`: a picture of a file's station with edits, and the line that answers its sheet.
-use outside_io::{MemoryFiles, SureSink};
+use outside_io::{Files, MemoryFiles, Sink, SureSink};
+use refute_log::NoLog;
 use schematic_main::run;
 use std::alloc::{AllocError, Global};
 use std::test::Fail;
@@ -50,6 +51,17 @@ fn edited(alloc: Global, sheet: &str, edits: &[(&str, &str)]) -> Result<String, 
     Ok(sheet)
 }
 
+/// The status of a run whose trace keeps no line.
+pub fn run_untraced<F: Files, O: Sink>(
+    alloc: Global,
+    words: &[String],
+    files: &mut F,
+    out: &mut O,
+) -> u8 {
+    let mut trace = NoLog::new();
+    run(alloc, words, files, out, &mut trace)
+}
+
 /// What `verify` answers to a file and a sheet.
 pub fn answer(alloc: Global, file: &str, sheet: &[u8]) -> Result<(u8, Vec<u8>), Fail> {
     let words = words_from(alloc, &["verify", "station.xml", "sheet"])?;
@@ -57,7 +69,7 @@ pub fn answer(alloc: Global, file: &str, sheet: &[u8]) -> Result<(u8, Vec<u8>), 
     files.add("station.xml", file.as_bytes())?;
     files.add("sheet", sheet)?;
     let mut out = SureSink::new(alloc);
-    let status = run(alloc, &words, &mut files, &mut out);
+    let status = run_untraced(alloc, &words, &mut files, &mut out);
     Ok((status, Vec::from_slice(alloc, out.bytes())?))
 }
 

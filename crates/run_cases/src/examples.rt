@@ -1,7 +1,6 @@
 // The station of `examples/`, as README shows it.
-use crate::cases::{Case, words_from, wrong_answers};
+use crate::cases::{Case, run_untraced, words_from, wrong_answers};
 use outside_io::{SureFiles, SureSink};
-use schematic_main::run;
 use std::test::Fail;
 
 const FILE: &str = "<?xml version=\"1.0\" encoding=\"UTF-8\"?>
@@ -90,7 +89,7 @@ fn prints_the_graph_of_the_example(rt: HostRuntime) -> Result<(), Fail> {
     let mut files = SureFiles::new(alloc);
     files.add("station.xml", FILE.as_bytes())?;
     let mut out = SureSink::new(alloc);
-    assert_eq!(rt; run(alloc, &words, &mut files, &mut out), 0);
+    assert_eq!(rt; run_untraced(alloc, &words, &mut files, &mut out), 0);
     assert_eq!(rt; out.bytes(), GRAPH.as_bytes());
     Ok(())
 }

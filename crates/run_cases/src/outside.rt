@@ -1,10 +1,9 @@
 // What runs take from outside and give to it: how long an input may be, how often it is read, and what
 // answers a fault.
 use crate::answers::ONE_SHEET;
-use crate::cases::words_from;
+use crate::cases::{run_untraced, words_from};
 use crate::stations::ONE;
 use outside_io::{Files, MemoryFiles, MemorySink, SureFiles, SureSink};
-use schematic_main::run;
 use std::alloc::{AllocError, Global};
 use std::test::Fail;
 
@@ -26,7 +25,11 @@ fn draws_a_file_at_the_limit_and_none_past_it(rt: HostRuntime) -> Result<(), Fai
         let mut files = SureFiles::new(alloc);
         files.add("one.xml", &padded(alloc, size)?)?;
         let mut out = SureSink::new(alloc);
-        assert_eq!(rt; run(alloc, &words, &mut files, &mut out), status, "{size}");
+        assert_eq!(rt;
+            run_untraced(alloc, &words, &mut files, &mut out),
+            status,
+            "{size}"
+        );
         assert_eq!(rt; out.bytes(), text.as_bytes(), "{size}");
     }
     Ok(())
@@ -51,7 +54,11 @@ fn verifies_nothing_past_the_limit(rt: HostRuntime) -> Result<(), Fail> {
         files.add("one.xml", &padded(alloc, size)?)?;
         files.add("-", b"")?;
         let mut out = SureSink::new(alloc);
-        assert_eq!(rt; run(alloc, &words, &mut files, &mut out), 1, "{text}");
+        assert_eq!(rt;
+            run_untraced(alloc, &words, &mut files, &mut out),
+            1,
+            "{text}"
+        );
         assert_eq!(rt; out.bytes(), text.as_bytes(), "{text}");
     }
     Ok(())
@@ -76,7 +83,11 @@ fn reads_each_input_once_and_no_sheet_in_vain(rt: HostRuntime) -> Result<(), Fai
         files.add("sheet", ONE_SHEET.as_bytes())?;
         files.add("long.xml", &padded(alloc, 4_194_305)?)?;
         let mut out = SureSink::new(alloc);
-        assert_eq!(rt; run(alloc, &words, &mut files, &mut out), status, "{next}");
+        assert_eq!(rt;
+            run_untraced(alloc, &words, &mut files, &mut out),
+            status,
+            "{next}"
+        );
         let mut bytes = Vec::new(alloc);
         assert!(rt; files.read_front("one.xml", 1, &mut bytes).is_err());
     }
@@ -91,7 +102,7 @@ fn answers_faults_from_outside(rt: HostRuntime) -> Result<(), Fail> {
     let mut files = MemoryFiles::new(alloc, &[1])?;
     files.add("one.xml", ONE.as_bytes())?;
     let mut out = SureSink::new(alloc);
-    assert_eq!(rt; run(alloc, &words, &mut files, &mut out), 5);
+    assert_eq!(rt; run_untraced(alloc, &words, &mut files, &mut out), 5);
     assert_eq!(rt; out.bytes(), b"read failed 1\n".as_slice());
     assert_eq!(rt; files.get("one.xml"), Some(ONE.as_bytes()));
 
@@ -99,13 +110,13 @@ fn answers_faults_from_outside(rt: HostRuntime) -> Result<(), Fail> {
     let mut files = MemoryFiles::new(alloc, &[2])?;
     files.add("one.xml", ONE.as_bytes())?;
     let mut out = SureSink::new(alloc);
-    assert_eq!(rt; run(alloc, &verify, &mut files, &mut out), 5);
+    assert_eq!(rt; run_untraced(alloc, &verify, &mut files, &mut out), 5);
     assert_eq!(rt; out.bytes(), b"read failed 2\n".as_slice());
 
     let mut files = SureFiles::new(alloc);
     files.add("one.xml", ONE.as_bytes())?;
     let mut out = MemorySink::new(alloc, &[1])?;
-    assert_eq!(rt; run(alloc, &words, &mut files, &mut out), 6);
+    assert_eq!(rt; run_untraced(alloc, &words, &mut files, &mut out), 6);
     assert!(rt; ONE_SHEET.as_bytes().starts_with(out.bytes()));
     Ok(())
 }

@@ -16,18 +16,20 @@ use Rattle.plan_text.specs.SheetFaults.{IsDrawingOf}
 use Rattle.plan_text.proofs.SheetLaws.{one_sheet, one_kind, one_line, sheet_or_fault}
 use Rattle.schematic_main.specs.declared.fault.RunFault.{RunFault}
 use Rattle.schematic_main.specs.declared.fault.RunFault.TheVariants.{Sheet}
+use Rattle.schematic_main.specs.declared.status.Status.{Status}
+use Rattle.schematic_main.specs.declared.status.Status.TheVariants.{Done, Broken}
 use Rattle.schematic_main.specs.Fault.{IsFaultLine, fault_status, fault_line}
 use Rattle.schematic_main.specs.Input.{HasStation}
 use Rattle.schematic_main.specs.Verdict.{IsVerdict, IsSheetJudged, lawful_line, broken_line}
 use Rattle.schematic_main.specs.Answer.{IsVerified}
 use Rattle.schematic_main.proofs.InputLemmas.{one_graph, one_fault, station_or_fault}
 
-pub record SameAnswer (status other : ℕ) (text another : List ℕ) : Type 0 where
+pub record SameAnswer (status other : Status) (text another : List ℕ) : Type 0 where
   pub status_is : status ≡ other
   pub text_is : text ≡ another
 
 -- the answers of one fault are the same
-one_refusal : (fault found : RunFault) (status other : ℕ) (text another : List ℕ) → fault ≡ found → IsFaultLine fault status text → IsFaultLine found other another → SameAnswer status other text another
+one_refusal : (fault found : RunFault) (status other : Status) (text another : List ℕ) → fault ≡ found → IsFaultLine fault status text → IsFaultLine found other another → SameAnswer status other text another
 one_refusal fault found status other text another same a b = record {
   status_is = a.status_is ∙ ap fault_status same ∙ sym b.status_is;
   text_is = a.line_is ∙ ap fault_line same ∙ sym b.line_is;
@@ -53,7 +55,7 @@ one_drawing g sheet grid other d e a b =
 
 -- ---- the verdict
 
-one_verdict : (g : Graph) (o : EdgeOrder) (grid : GridSize) (d : Drawing) (status other : ℕ) (text another : List ℕ) → IsVerdict g o grid d status text → IsVerdict g o grid d other another → SameAnswer status other text another
+one_verdict : (g : Graph) (o : EdgeOrder) (grid : GridSize) (d : Drawing) (status other : Status) (text another : List ℕ) → IsVerdict g o grid d status text → IsVerdict g o grid d other another → SameAnswer status other text another
 one_verdict g o grid d status other text another (inl a) (inl b) = record { status_is = a.status_is ∙ sym b.status_is; text_is = a.line_is ∙ sym b.line_is }
 one_verdict g o grid d status other text another (inl a) (inr b) = absurd (lawful_breaks_none g (is_above o) grid d b.broken a.lawful b.least)
 one_verdict g o grid d status other text another (inr a) (inl b) = absurd (lawful_breaks_none g (is_above o) grid d a.broken b.lawful a.least)
@@ -63,7 +65,7 @@ one_verdict g o grid d status other text another (inr a) (inr b) = record {
 }
 
 -- an answer to a sheet with a drawing is the verdict on it
-verdict_on : (g : Graph) (o : EdgeOrder) (sheet : List ℕ) (grid : GridSize) (d : Drawing) (status : ℕ) (text : List ℕ) → IsDrawingOf g sheet grid d → IsSheetJudged g o sheet status text → IsVerdict g o grid d status text
+verdict_on : (g : Graph) (o : EdgeOrder) (sheet : List ℕ) (grid : GridSize) (d : Drawing) (status : Status) (text : List ℕ) → IsDrawingOf g sheet grid d → IsSheetJudged g o sheet status text → IsVerdict g o grid d status text
 verdict_on g o sheet grid d status text has (inl judged) =
     let same = one_drawing g sheet judged.grid grid judged.drawn d judged.has has in
     subst (λ (e : Drawing). IsVerdict g o grid e status text) same.drawn_is
@@ -72,7 +74,7 @@ verdict_on g o sheet grid d status text has (inr refused) = absurd (sheet_or_fau
 
 -- ---- one answer to a sheet
 
-one_answer : (g : Graph) (o : EdgeOrder) (sheet : List ℕ) (status other : ℕ) (text another : List ℕ) → IsSheetJudged g o sheet status text → IsSheetJudged g o sheet other another → SameAnswer status other text another
+one_answer : (g : Graph) (o : EdgeOrder) (sheet : List ℕ) (status other : Status) (text another : List ℕ) → IsSheetJudged g o sheet status text → IsSheetJudged g o sheet other another → SameAnswer status other text another
 one_answer g o sheet status other text another (inl a) b =
     one_verdict g o a.grid a.drawn status other text another a.verdict (verdict_on g o sheet a.grid a.drawn other another a.has b)
 one_answer g o sheet status other text another (inr a) (inl b) = absurd (sheet_or_fault g true sheet b.has.sheet a.what a.line b.has.told a.first)
@@ -82,36 +84,36 @@ one_answer g o sheet status other text another (inr a) (inr b) =
     let same = ap (λ (what : SheetWhat). Sheet what a.line) kind ∙ ap (λ (line : ℕ). Sheet b.what line) place in
     one_refusal (Sheet a.what a.line) (Sheet b.what b.line) status other text another same a.told b.told
 
-pub one_status : (g : Graph) (o : EdgeOrder) (sheet : List ℕ) (status other : ℕ) (text another : List ℕ) → IsSheetJudged g o sheet status text → IsSheetJudged g o sheet other another → status ≡ other
+pub one_status : (g : Graph) (o : EdgeOrder) (sheet : List ℕ) (status other : Status) (text another : List ℕ) → IsSheetJudged g o sheet status text → IsSheetJudged g o sheet other another → status ≡ other
 one_status g o sheet status other text another a b = (one_answer g o sheet status other text another a b).status_is
 
-pub one_text : (g : Graph) (o : EdgeOrder) (sheet : List ℕ) (status other : ℕ) (text another : List ℕ) → IsSheetJudged g o sheet status text → IsSheetJudged g o sheet other another → text ≡ another
+pub one_text : (g : Graph) (o : EdgeOrder) (sheet : List ℕ) (status other : Status) (text another : List ℕ) → IsSheetJudged g o sheet status text → IsSheetJudged g o sheet other another → text ≡ another
 one_text g o sheet status other text another a b = (one_answer g o sheet status other text another a b).text_is
 
 -- ---- what a sheet with a drawing is answered with
 
-not_0 : (n : ℕ) → n ≡ 8 → n ≡ 0 → ⊥
-not_0 n is zero = omega (arith, is, zero)
+not_both : (status : Status) → status ≡ Broken → status ≡ Done → ⊥
+not_both status broken done = cc
 
-lawful_verdict : (g : Graph) (o : EdgeOrder) (grid : GridSize) (d : Drawing) (status : ℕ) (text : List ℕ) → IsVerdict g o grid d status text → (status ≡ 0) ↔ Lawful g (is_above o) grid d
-lawful_verdict g o grid d status text (inl a) = (λ zero. a.lawful, λ lawful. a.status_is)
-lawful_verdict g o grid d status text (inr b) = (λ zero. absurd (not_0 status b.status_is zero), λ lawful. absurd (lawful_breaks_none g (is_above o) grid d b.broken lawful b.least))
+lawful_verdict : (g : Graph) (o : EdgeOrder) (grid : GridSize) (d : Drawing) (status : Status) (text : List ℕ) → IsVerdict g o grid d status text → (status ≡ Done) ↔ Lawful g (is_above o) grid d
+lawful_verdict g o grid d status text (inl a) = (λ done. a.lawful, λ lawful. a.status_is)
+lawful_verdict g o grid d status text (inr b) = (λ done. absurd (not_both status b.status_is done), λ lawful. absurd (lawful_breaks_none g (is_above o) grid d b.broken lawful b.least))
 
-broken_verdict : (g : Graph) (o : EdgeOrder) (grid : GridSize) (d : Drawing) (status : ℕ) (text : List ℕ) → IsVerdict g o grid d status text → (status ≡ 8) ↔ (Lawful g (is_above o) grid d → ⊥)
-broken_verdict g o grid d status text (inl a) = (λ eight. absurd (not_0 status eight a.status_is), λ unlawful. absurd (unlawful a.lawful))
-broken_verdict g o grid d status text (inr b) = (λ eight. λ lawful. lawful_breaks_none g (is_above o) grid d b.broken lawful b.least, λ unlawful. b.status_is)
+broken_verdict : (g : Graph) (o : EdgeOrder) (grid : GridSize) (d : Drawing) (status : Status) (text : List ℕ) → IsVerdict g o grid d status text → (status ≡ Broken) ↔ (Lawful g (is_above o) grid d → ⊥)
+broken_verdict g o grid d status text (inl a) = (λ broken. absurd (not_both status broken a.status_is), λ unlawful. absurd (unlawful a.lawful))
+broken_verdict g o grid d status text (inr b) = (λ broken. λ lawful. lawful_breaks_none g (is_above o) grid d b.broken lawful b.least, λ unlawful. b.status_is)
 
-verdict_line : (g : Graph) (o : EdgeOrder) (grid : GridSize) (d : Drawing) (status : ℕ) (text : List ℕ) → Lawful g (is_above o) grid d → IsVerdict g o grid d status text → text ≡ lawful_line (values_of d)
+verdict_line : (g : Graph) (o : EdgeOrder) (grid : GridSize) (d : Drawing) (status : Status) (text : List ℕ) → Lawful g (is_above o) grid d → IsVerdict g o grid d status text → text ≡ lawful_line (values_of d)
 verdict_line g o grid d status text lawful (inl a) = a.line_is
 verdict_line g o grid d status text lawful (inr b) = absurd (lawful_breaks_none g (is_above o) grid d b.broken lawful b.least)
 
-pub lawful_is_0 : (g : Graph) (o : EdgeOrder) (sheet : List ℕ) (grid : GridSize) (d : Drawing) (status : ℕ) (text : List ℕ) → IsDrawingOf g sheet grid d → IsSheetJudged g o sheet status text → (status ≡ 0) ↔ Lawful g (is_above o) grid d
+pub lawful_is_0 : (g : Graph) (o : EdgeOrder) (sheet : List ℕ) (grid : GridSize) (d : Drawing) (status : Status) (text : List ℕ) → IsDrawingOf g sheet grid d → IsSheetJudged g o sheet status text → (status ≡ Done) ↔ Lawful g (is_above o) grid d
 lawful_is_0 g o sheet grid d status text has judged = lawful_verdict g o grid d status text (verdict_on g o sheet grid d status text has judged)
 
-pub broken_is_8 : (g : Graph) (o : EdgeOrder) (sheet : List ℕ) (grid : GridSize) (d : Drawing) (status : ℕ) (text : List ℕ) → IsDrawingOf g sheet grid d → IsSheetJudged g o sheet status text → (status ≡ 8) ↔ (Lawful g (is_above o) grid d → ⊥)
+pub broken_is_8 : (g : Graph) (o : EdgeOrder) (sheet : List ℕ) (grid : GridSize) (d : Drawing) (status : Status) (text : List ℕ) → IsDrawingOf g sheet grid d → IsSheetJudged g o sheet status text → (status ≡ Broken) ↔ (Lawful g (is_above o) grid d → ⊥)
 broken_is_8 g o sheet grid d status text has judged = broken_verdict g o grid d status text (verdict_on g o sheet grid d status text has judged)
 
-pub lawful_has_line : (g : Graph) (o : EdgeOrder) (sheet : List ℕ) (grid : GridSize) (d : Drawing) (status : ℕ) (text : List ℕ) → IsDrawingOf g sheet grid d → IsSheetJudged g o sheet status text → Lawful g (is_above o) grid d → text ≡ lawful_line (values_of d)
+pub lawful_has_line : (g : Graph) (o : EdgeOrder) (sheet : List ℕ) (grid : GridSize) (d : Drawing) (status : Status) (text : List ℕ) → IsDrawingOf g sheet grid d → IsSheetJudged g o sheet status text → Lawful g (is_above o) grid d → text ≡ lawful_line (values_of d)
 lawful_has_line g o sheet grid d status text has judged lawful = verdict_line g o grid d status text lawful (verdict_on g o sheet grid d status text has judged)
 
 -- ---- the order of a graph, as far as it is asked
@@ -156,13 +158,13 @@ same_least g o p grid d b first second found = record {
   named = found.named;
 }
 
-same_verdict : (g : Graph) (o p : EdgeOrder) (grid : GridSize) (d : Drawing) (status : ℕ) (text : List ℕ) → IsOrderOf g o → IsOrderOf g p → IsVerdict g o grid d status text → IsVerdict g p grid d status text
+same_verdict : (g : Graph) (o p : EdgeOrder) (grid : GridSize) (d : Drawing) (status : Status) (text : List ℕ) → IsOrderOf g o → IsOrderOf g p → IsVerdict g o grid d status text → IsVerdict g p grid d status text
 same_verdict g o p grid d status text first second (inl a) = inl (record { lawful = same_lawful g o p grid d first second a.lawful; status_is = a.status_is; line_is = a.line_is })
 same_verdict g o p grid d status text first second (inr b) =
     inr (record { broken = b.broken; least = same_least g o p grid d b.broken first second b.least; status_is = b.status_is; line_is = b.line_is })
 
 -- and a sheet is answered the same
-same_judged : (g : Graph) (o p : EdgeOrder) (sheet : List ℕ) (status : ℕ) (text : List ℕ) → IsOrderOf g o → IsOrderOf g p → IsSheetJudged g o sheet status text → IsSheetJudged g p sheet status text
+same_judged : (g : Graph) (o p : EdgeOrder) (sheet : List ℕ) (status : Status) (text : List ℕ) → IsOrderOf g o → IsOrderOf g p → IsSheetJudged g o sheet status text → IsSheetJudged g p sheet status text
 same_judged g o p sheet status text first second (inl judged) =
     inl (record { grid = judged.grid; drawn = judged.drawn; has = judged.has; verdict = same_verdict g o p judged.grid judged.drawn status text first second judged.verdict })
 same_judged g o p sheet status text first second (inr refused) = inr refused
@@ -170,7 +172,7 @@ same_judged g o p sheet status text first second (inr refused) = inr refused
 -- ---- one answer to a file and a sheet
 
 -- two answers to the stations of one file, which have one graph
-one_to_station : (bytes sheet : List ℕ) (g h : Graph) (o p : EdgeOrder) (status other : ℕ) (text another : List ℕ) → HasStation bytes g o → HasStation bytes h p →
+one_to_station : (bytes sheet : List ℕ) (g h : Graph) (o p : EdgeOrder) (status other : Status) (text another : List ℕ) → HasStation bytes g o → HasStation bytes h p →
     IsSheetJudged g o sheet status text → IsSheetJudged h p sheet other another → SameAnswer status other text another
 one_to_station bytes sheet g h o p status other text another has also a b =
     let same : h ≡ g = one_graph bytes h g also.has_graph has.has_graph in
@@ -178,14 +180,14 @@ one_to_station bytes sheet g h o p status other text another has also a b =
     let judged : IsSheetJudged g p sheet other another = subst (λ (x : Graph). IsSheetJudged x p sheet other another) same b in
     one_answer g o sheet status other text another a (same_judged g p o sheet other another order has.order judged)
 
-one_verified : (bytes sheet : List ℕ) (status other : ℕ) (text another : List ℕ) → IsVerified bytes sheet status text → IsVerified bytes sheet other another → SameAnswer status other text another
+one_verified : (bytes sheet : List ℕ) (status other : Status) (text another : List ℕ) → IsVerified bytes sheet status text → IsVerified bytes sheet other another → SameAnswer status other text another
 one_verified bytes sheet status other text another (inl (g, o, has, a)) (inl (h, p, also, b)) = one_to_station bytes sheet g h o p status other text another has also a b
 one_verified bytes sheet status other text another (inl (g, o, has, a)) (inr b) = absurd (station_or_fault bytes g o b.fault has b.has)
 one_verified bytes sheet status other text another (inr a) (inl (h, p, also, b)) = absurd (station_or_fault bytes h p a.fault also a.has)
 one_verified bytes sheet status other text another (inr a) (inr b) = one_refusal a.fault b.fault status other text another (one_fault bytes a.fault b.fault a.has b.has) a.told b.told
 
-pub one_file_status : (bytes sheet : List ℕ) (status other : ℕ) (text another : List ℕ) → IsVerified bytes sheet status text → IsVerified bytes sheet other another → status ≡ other
+pub one_file_status : (bytes sheet : List ℕ) (status other : Status) (text another : List ℕ) → IsVerified bytes sheet status text → IsVerified bytes sheet other another → status ≡ other
 one_file_status bytes sheet status other text another a b = (one_verified bytes sheet status other text another a b).status_is
 
-pub one_file_text : (bytes sheet : List ℕ) (status other : ℕ) (text another : List ℕ) → IsVerified bytes sheet status text → IsVerified bytes sheet other another → text ≡ another
+pub one_file_text : (bytes sheet : List ℕ) (status other : Status) (text another : List ℕ) → IsVerified bytes sheet status text → IsVerified bytes sheet other another → text ≡ another
 one_file_text bytes sheet status other text another a b = (one_verified bytes sheet status other text another a b).text_is

@@ -16,6 +16,8 @@ use Rattle.track_order.specs.declared.fault.OrderFault.{OrderFault}
 use Rattle.track_order.specs.declared.fault.OrderFault.TheVariants as orders
 use Rattle.track_order.specs.Causes as order_faults
 use Rattle.plan_text.specs.SheetWhats as sheet_faults
+use Rattle.schematic_main.specs.declared.status.Status.{Status}
+use Rattle.schematic_main.specs.declared.status.Status.TheVariants.{Refused, WordsRefused, Unread}
 use Rattle.schematic_main.specs.declared.fault.RunFault.{RunFault}
 use Rattle.schematic_main.specs.declared.fault.RunFault.TheVariants.{NotBuilt, Words, Long, Text, Topology, Graph, Order, Sheet, ReadFailed}
 
@@ -74,18 +76,18 @@ fault_line (ReadFailed input) = line_text (codes "read failed") (decimal input �
 
 -- ---- the status
 
-abbrev pub fault_status : RunFault → ℕ
-fault_status NotBuilt = 1
-fault_status (Words what position) = 2
-fault_status (Long input) = 1
-fault_status (Text what at) = 1
-fault_status (Topology what at first second) = 1
-fault_status (Graph fault) = 1
-fault_status (Order fault) = 1
-fault_status (Sheet what line) = 1
-fault_status (ReadFailed input) = 5
+abbrev pub fault_status : RunFault → Status
+fault_status NotBuilt = Refused
+fault_status (Words what position) = WordsRefused
+fault_status (Long input) = Refused
+fault_status (Text what at) = Refused
+fault_status (Topology what at first second) = Refused
+fault_status (Graph fault) = Refused
+fault_status (Order fault) = Refused
+fault_status (Sheet what line) = Refused
+fault_status (ReadFailed input) = Unread
 
 -- the fault's status and its line
-pub record IsFaultLine (fault : RunFault) (status : ℕ) (text : List ℕ) : Type 0 where
+pub record IsFaultLine (fault : RunFault) (status : Status) (text : List ℕ) : Type 0 where
   pub status_is : status ≡ fault_status fault
   pub line_is : text ≡ fault_line fault

@@ -1,6 +1,10 @@
 pub mod OneEdge
+pub mod Status
+pub mod Met
 pub mod Fault
 pub mod Input
 pub mod Verdict
 pub mod Answer
+pub mod Commands
+pub mod Run
 pub mod Reading

@@ -8,27 +8,30 @@ use Rattle.schematic_main.specs.declared.fault.RunFault.TheVariants.{Long, ReadF
 use Rattle.schematic_main.specs.declared.input.Refusal.{Refusal}
 use Rattle.schematic_main.specs.declared.input.Refusal.TheVariants as refusals
 use Rattle.schematic_main.specs.Input.{IsLong, IsShort, HasStation, HasFileFault}
+use Rattle.schematic_main.specs.Met.{Met, ReadFails}
+use Rattle.schematic_main.specs.Answer.{InputFile}
 
 -- the file of this name has this property, or contents aren't told and some bytes have it
 abbrev pub IsOfFile : (List ℕ → Type 0) → List ℕ → Option Told → Type 0
-IsOfFile P input contents = (bytes : List ℕ) × IsFileWhereTold contents input bytes × P bytes
+IsOfFile P name contents = (bytes : List ℕ) × IsFileWhereTold contents name bytes × P bytes
 
--- these are the bytes of the file of this name, and they aren't more than it may have
-pub record IsInput (limit : ℕ) (name : List ℕ) (contents : Option Told) (bytes : List ℕ) : Type 0 where
-  pub is_file : IsFileWhereTold contents name bytes
-  pub short : IsShort limit bytes
+-- these are the bytes of the input, and they aren't more than it may have
+pub record IsInput (input : InputFile) (contents : Option Told) (bytes : List ℕ) : Type 0 where
+  pub is_file : IsFileWhereTold contents input.name bytes
+  pub short : IsShort input.limit bytes
 
--- the input of this number, which is the file of this name, is too long, or it couldn't be read
-abbrev pub IsUnreadInput : (number limit : ℕ) → List ℕ → Option Told → (failed : Type 0) → Refusal → Type 0
-IsUnreadInput number limit name contents failed (refusals.Fault fault) =
-    (IsOfFile (IsLong limit) name contents × (fault ≡ Long number)) ⊎ (failed × (fault ≡ ReadFailed number))
-IsUnreadInput number limit name contents failed refusals.Memory = ⊤
+-- the input is too long, or it couldn't be read
+abbrev pub IsUnreadInput : InputFile → Met → Refusal → Type 0
+IsUnreadInput input met (refusals.Fault fault) =
+    (IsOfFile (IsLong input.limit) input.name met.before.contents × (fault ≡ Long input.number))
+    ⊎ (ReadFails met 0 × (fault ≡ ReadFailed input.number))
+IsUnreadInput input met refusals.Memory = ⊤
 
 abbrev pub IsStationOf : List ℕ → Option Told → Graph → EdgeOrder → Type 0
-IsStationOf input contents g o = IsOfFile (λ bytes. HasStation bytes g o) input contents
+IsStationOf name contents g o = IsOfFile (λ bytes. HasStation bytes g o) name contents
 
 -- the file has this fault, or it couldn't be read
-abbrev pub IsRefusalOf : List ℕ → Option Told → (ℕ → Type 0) → Refusal → Type 0
-IsRefusalOf input contents fails (refusals.Fault fault) =
-    IsOfFile (λ bytes. HasFileFault bytes fault) input contents ⊎ (fails 0 × (fault ≡ ReadFailed 1))
-IsRefusalOf input contents fails refusals.Memory = ⊤
+abbrev pub IsRefusalOf : List ℕ → Met → Refusal → Type 0
+IsRefusalOf name met (refusals.Fault fault) =
+    IsOfFile (λ bytes. HasFileFault bytes fault) name met.before.contents ⊎ (ReadFails met 0 × (fault ≡ ReadFailed 1))
+IsRefusalOf name met refusals.Memory = ⊤

@@ -18,6 +18,8 @@ use Rattle.line_text.specs.Fields.{line_text}
 use Rattle.plan_text.specs.declared.sheet_fault.SheetWhat.{SheetWhat}
 use Rattle.plan_text.specs.SheetFaults.{IsDrawingOf, HasSheetFault}
 use Rattle.schematic_main.specs.declared.fault.RunFault.TheVariants.{Sheet}
+use Rattle.schematic_main.specs.declared.status.Status.{Status}
+use Rattle.schematic_main.specs.declared.status.Status.TheVariants.{Done, Broken}
 use Rattle.schematic_main.specs.Fault.{IsFaultLine}
 
 -- ---- the lines
@@ -42,38 +44,38 @@ broken_line b = line_text (codes "broken law") (decimal b.law ∷ party_fields b
 -- ---- the verdict on a drawing
 
 -- the drawing is lawful, and the answer says what it measures
-pub record IsLawfulAnswer (g : Graph) (o : EdgeOrder) (grid : GridSize) (d : Drawing) (status : ℕ) (text : List ℕ) : Type 0 where
+pub record IsLawfulAnswer (g : Graph) (o : EdgeOrder) (grid : GridSize) (d : Drawing) (status : Status) (text : List ℕ) : Type 0 where
   pub lawful : Lawful g (is_above o) grid d
-  pub status_is : status ≡ 0
+  pub status_is : status ≡ Done
   pub line_is : text ≡ lawful_line (values_of d)
 
 -- the drawing breaks a law, and the answer names the least one with its least parties
-pub record IsBrokenAnswer (g : Graph) (o : EdgeOrder) (grid : GridSize) (d : Drawing) (status : ℕ) (text : List ℕ) : Type 0 where
+pub record IsBrokenAnswer (g : Graph) (o : EdgeOrder) (grid : GridSize) (d : Drawing) (status : Status) (text : List ℕ) : Type 0 where
   pub broken : LawBreak
   pub least : IsLeastBreak g (is_above o) grid d broken
-  pub status_is : status ≡ 8
+  pub status_is : status ≡ Broken
   pub line_is : text ≡ broken_line broken
 
-abbrev pub IsVerdict : Graph → EdgeOrder → GridSize → Drawing → ℕ → List ℕ → Type 0
+abbrev pub IsVerdict : Graph → EdgeOrder → GridSize → Drawing → Status → List ℕ → Type 0
 IsVerdict g o grid d status text = IsLawfulAnswer g o grid d status text ⊎ IsBrokenAnswer g o grid d status text
 
 -- ---- the answer to a sheet
 
 -- the sheet's text is that of a drawing on a grid, and the answer is the verdict on it
-pub record IsDrawingJudged (g : Graph) (o : EdgeOrder) (sheet : List ℕ) (status : ℕ) (text : List ℕ) : Type 0 where
+pub record IsDrawingJudged (g : Graph) (o : EdgeOrder) (sheet : List ℕ) (status : Status) (text : List ℕ) : Type 0 where
   pub grid : GridSize
   pub drawn : Drawing
   pub has : IsDrawingOf g sheet grid drawn
   pub verdict : IsVerdict g o grid drawn status text
 
 -- a drawing is due, the sheet's text has this fault first, and this is its line
-pub record IsSheetRefused (g : Graph) (sheet : List ℕ) (status : ℕ) (text : List ℕ) : Type 0 where
+pub record IsSheetRefused (g : Graph) (sheet : List ℕ) (status : Status) (text : List ℕ) : Type 0 where
   pub what : SheetWhat
   pub line : ℕ
   pub first : HasSheetFault g true sheet what line
   pub told : IsFaultLine (Sheet what line) status text
 
-abbrev pub IsSheetJudged : Graph → EdgeOrder → List ℕ → ℕ → List ℕ → Type 0
+abbrev pub IsSheetJudged : Graph → EdgeOrder → List ℕ → Status → List ℕ → Type 0
 IsSheetJudged g o sheet status text = IsDrawingJudged g o sheet status text ⊎ IsSheetRefused g sheet status text
 
 -- the sheet's text has no fault, a drawing being due

@@ -1,17 +1,21 @@
 // What each command answers.
-ghost use Rattle.std.specs.Prelude.{◌≡◌, ◌≤◌, ◌⊎◌, [], IfOk, IsTrue, IsFalse, None, length};
+ghost use Rattle.std.specs.Prelude.{◌≡◌, ◌≤◌, ◌⊎◌, [], IfOk, IsOkAnd, IsTrue, IsFalse, None, length};
 ghost use Rattle.outside_io.specs.Contents.{WhereTold, SameFiles};
 ghost use Rattle.track_order.specs.Order.{IsOrderOf};
-ghost use Rattle.schematic_main.specs.Answer.{IsUnbuilt, IsDrawAnswer, IsPrinted, IsFileJudged, IsAnswerOn, IsAnswerTo, IsUnread, FailsIn, ReadFails, inputs_of};
+ghost use Rattle.schematic_main.specs.Status.{IsAnswered};
+ghost use Rattle.schematic_main.specs.Met.{met_on, ReadsInputs, IsUnread, IsUnwritten};
+ghost use Rattle.schematic_main.specs.Answer.{IsUnbuilt, job, IsDrawAnswer, IsPrinted, IsFileJudged, text_input, IsAnswerOn};
+ghost use Rattle.schematic_main.specs.Commands.{inputs_of, Owes};
 
 use crate::fault::RunFault;
 use crate::input::{Refusal, Station};
 use crate::one_edge::best_sheet;
 use crate::reading::station_of;
 use crate::reply::{Reply, fault_reply};
+use crate::status::Status;
 use crate::verify::verify;
 use outside_io::Files;
-use plan_core::{Grid, MAX_FILE_BYTES, Order, OutOfMemory, Text};
+use plan_core::{Grid, Order, OutOfMemory, Text};
 use plan_text::write_graph;
 use plan_words::Command;
 use port_graph::PortGraph;
@@ -37,14 +41,13 @@ fn draw_station(
     log: &Option<Text>,
 ) -> Result<Reply, OutOfMemory>
     requires { IsOrderOf station.now.graph station.now.order }
-    ensures answer { IfOk result (λ r. IsDrawAnswer station.now.graph station.now.order grid.now order.now svg.now log.now r.status r.text.items) }
-    ensures statuses { IfOk result (λ r. (r.status ≡ 0) ⊎ (r.status ≡ 1)) }
+    ensures { IfOk result (λ r. IsDrawAnswer (job grid.now order.now svg.now log.now) station.now.graph station.now.order r.status r.text.items) }
 {
     if is_unbuilt(&station.graph, grid, svg, log) {
         return fault_reply(alloc, RunFault::NotBuilt);
     }
     Ok(Reply {
-        status: 0,
+        status: Status::Done,
         text: best_sheet(alloc, &station.graph, &station.order, grid, order)?,
     })
 }
@@ -52,12 +55,14 @@ fn draw_station(
 /// What `graph` answers to a station.
 fn print_station(alloc: Global, station: &Station) -> Result<Reply, OutOfMemory>
     requires { IsOrderOf station.now.graph station.now.order }
-    ensures answer { IfOk result (λ r. IsPrinted station.now.graph station.now.order r.status r.text.items) }
-    ensures statuses { IfOk result (λ r. r.status ≡ 0) }
+    ensures { IfOk result (λ r. IsPrinted station.now.graph station.now.order r.status r.text.items) }
 {
     let mut text = Vec::new(alloc);
     write_graph(alloc, &station.graph, &station.order, &mut text)?;
-    Ok(Reply { status: 0, text })
+    Ok(Reply {
+        status: Status::Done,
+        text,
+    })
 }
 
 /// What `draw` answers.
@@ -70,9 +75,9 @@ fn draw<F: Files>(
     log: &Option<Text>,
     files: &mut F,
 ) -> Result<Reply, OutOfMemory>
-    ensures answer { IfOk result (λ r. IsAnswerOn 1 MAX_FILE_BYTES input.now (F.contents files.old) (ReadFails F.read_faults F.reads files.old files.new 0) (IsFileJudged (λ g o. IsDrawAnswer g o grid.now order.now svg.now log.now)) r.status r.text.items) }
-    ensures statuses { IfOk result (λ r. (r.status ≡ 0) ⊎ (r.status ≡ 1) ⊎ (r.status ≡ 5)) }
-    ensures read_fault { IfOk result (λ r. r.status ≡ 5 → ReadFails F.read_faults F.reads files.old files.new 0) }
+    ensures answer { IfOk result (λ r. IsAnswerOn (text_input 1 input.now) 0 (met_on F.contents F.read_faults F.write_faults F.reads files.old files.new) (IsFileJudged (IsDrawAnswer (job grid.now order.now svg.now log.now))) r.status r.text.items) }
+    ensures reads { ReadsInputs 1 (IsOkAnd result (λ r. IsAnswered r.status)) (met_on F.contents F.read_faults F.write_faults F.reads files.old files.new) }
+    ensures unwritten { IsUnwritten (met_on F.contents F.read_faults F.write_faults F.reads files.old files.new) }
     ensures later { F.read_faults files.old ≤ F.read_faults files.new }
     ensures same { WhereTold (F.contents files.old) (F.contents files.new) SameFiles }
 {
@@ -85,9 +90,9 @@ fn draw<F: Files>(
 
 /// What `graph` answers.
 fn print<F: Files>(alloc: Global, input: &Text, files: &mut F) -> Result<Reply, OutOfMemory>
-    ensures answer { IfOk result (λ r. IsAnswerOn 1 MAX_FILE_BYTES input.now (F.contents files.old) (ReadFails F.read_faults F.reads files.old files.new 0) (IsFileJudged IsPrinted) r.status r.text.items) }
-    ensures statuses { IfOk result (λ r. (r.status ≡ 0) ⊎ (r.status ≡ 1) ⊎ (r.status ≡ 5)) }
-    ensures read_fault { IfOk result (λ r. r.status ≡ 5 → ReadFails F.read_faults F.reads files.old files.new 0) }
+    ensures answer { IfOk result (λ r. IsAnswerOn (text_input 1 input.now) 0 (met_on F.contents F.read_faults F.write_faults F.reads files.old files.new) (IsFileJudged IsPrinted) r.status r.text.items) }
+    ensures reads { ReadsInputs 1 (IsOkAnd result (λ r. IsAnswered r.status)) (met_on F.contents F.read_faults F.write_faults F.reads files.old files.new) }
+    ensures unwritten { IsUnwritten (met_on F.contents F.read_faults F.write_faults F.reads files.old files.new) }
     ensures later { F.read_faults files.old ≤ F.read_faults files.new }
     ensures same { WhereTold (F.contents files.old) (F.contents files.new) SameFiles }
 {
@@ -104,10 +109,10 @@ pub fn answer_to<F: Files>(
     command: &Command,
     files: &mut F,
 ) -> Result<Reply, OutOfMemory>
-    ensures answer { IfOk result (λ r. IsAnswerTo command.now (F.contents files.old) (ReadFails F.read_faults F.reads files.old files.new) r.status r.text.items) }
-    ensures statuses { IfOk result (λ r. (r.status ≡ 0) ⊎ (r.status ≡ 1) ⊎ (r.status ≡ 5) ⊎ (r.status ≡ 8)) }
-    ensures read_fault { IfOk result (λ r. r.status ≡ 5 → FailsIn command.now (ReadFails F.read_faults F.reads files.old files.new)) }
-    ensures unread { inputs_of command.now ≡ [] → IsUnread F.read_faults F.reads files.old files.new }
+    ensures answer { IfOk result (λ r. Owes command.now (met_on F.contents F.read_faults F.write_faults F.reads files.old files.new) r.status r.text.items) }
+    ensures reads { ReadsInputs (length (inputs_of command.now)) (IsOkAnd result (λ r. IsAnswered r.status)) (met_on F.contents F.read_faults F.write_faults F.reads files.old files.new) }
+    ensures unread { inputs_of command.now ≡ [] → IsUnread (met_on F.contents F.read_faults F.write_faults F.reads files.old files.new) }
+    ensures unwritten { IsUnwritten (met_on F.contents F.read_faults F.write_faults F.reads files.old files.new) }
     ensures later { F.read_faults files.old ≤ F.read_faults files.new }
     ensures same { WhereTold (F.contents files.old) (F.contents files.new) SameFiles }
 {

@@ -5,6 +5,7 @@ ghost use Rattle.std.specs.Fmt.{decimal};
 ghost use Rattle.line_text.specs.Fields.{line_text, spaced};
 ghost use Rattle.schematic_main.specs.Fault.{fault_line, told_line, fault_status, at_place, texts_told, graph_told as told_of_graph, edges_told as told_of_edges};
 
+use crate::status::Status;
 use line_text::{push_field, push_number_field, push_place_field, push_text};
 use plan_core::{OutOfMemory, Text};
 use plan_text::SheetWhat;
@@ -202,19 +203,19 @@ fn sheet_line(alloc: Global, what: SheetWhat, number: u32) -> Result<Vec<u8>, Ou
 
 impl RunFault {
     /// The status that the run ends with.
-    pub fn status(&self) -> u8
+    pub fn status(&self) -> Status
         ensures { result ≡ fault_status self.now }
     {
         match self {
-            RunFault::Words { .. } => 2,
-            RunFault::ReadFailed(_) => 5,
+            RunFault::Words { .. } => Status::WordsRefused,
+            RunFault::ReadFailed(_) => Status::Unread,
             RunFault::NotBuilt
             | RunFault::Long(_)
             | RunFault::Text { .. }
             | RunFault::Topology { .. }
             | RunFault::Graph(_)
             | RunFault::Order(_)
-            | RunFault::Sheet { .. } => 1,
+            | RunFault::Sheet { .. } => Status::Refused,
         }
     }
 

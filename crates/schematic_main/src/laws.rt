@@ -8,6 +8,9 @@ ghost use Rattle.plan_core.specs.Lawful.{Lawful};
 ghost use Rattle.plan_text.specs.SheetFaults.{IsDrawingOf};
 ghost use Rattle.track_order.specs.Order.{EdgeOrder, is_above};
 ghost use Rattle.schematic_main.specs.declared.fault.RunFault.{RunFault as Fault};
+ghost use Rattle.schematic_main.specs.declared.status.Status.{Status};
+ghost use Rattle.schematic_main.specs.declared.status.Status.TheVariants.{Done, Broken};
+ghost use Rattle.schematic_main.specs.Status.{number_of};
 ghost use Rattle.schematic_main.specs.Input.{HasGraph, HasStation, HasFileFault};
 ghost use Rattle.schematic_main.specs.Verdict.{lawful_line, IsSheetJudged};
 ghost use Rattle.schematic_main.specs.Answer.{IsVerified};
@@ -29,20 +32,25 @@ pub fn one_fault()
 
 /// A sheet has one answer at most for a station: one status, with one text.
 pub fn one_sheet_answer()
-    ensures status { (g : Graph) (o : EdgeOrder) (sheet : List ℕ) (status other : ℕ) (text another : List ℕ) → IsSheetJudged g o sheet status text → IsSheetJudged g o sheet other another → status ≡ other }
-    ensures text { (g : Graph) (o : EdgeOrder) (sheet : List ℕ) (status other : ℕ) (text another : List ℕ) → IsSheetJudged g o sheet status text → IsSheetJudged g o sheet other another → text ≡ another }
+    ensures status { (g : Graph) (o : EdgeOrder) (sheet : List ℕ) (status other : Status) (text another : List ℕ) → IsSheetJudged g o sheet status text → IsSheetJudged g o sheet other another → status ≡ other }
+    ensures text { (g : Graph) (o : EdgeOrder) (sheet : List ℕ) (status other : Status) (text another : List ℕ) → IsSheetJudged g o sheet status text → IsSheetJudged g o sheet other another → text ≡ another }
 {}
 
-/// Where a sheet's text is that of a drawing, its answer has status 0 exactly where the drawing is lawful,
-/// and then the line of what it measures, and status 8 exactly where it isn't.
+/// Where a sheet's text is that of a drawing, its answer has the status 0 exactly where the drawing is lawful,
+/// and then the line of what it measures, and 8 exactly where it isn't.
 pub fn verdict_of_drawing()
-    ensures lawful { (g : Graph) (o : EdgeOrder) (sheet : List ℕ) (grid : GridSize) (d : Drawing) (status : ℕ) (text : List ℕ) → IsDrawingOf g sheet grid d → IsSheetJudged g o sheet status text → (status ≡ 0) ↔ Lawful g (is_above o) grid d }
-    ensures line { (g : Graph) (o : EdgeOrder) (sheet : List ℕ) (grid : GridSize) (d : Drawing) (status : ℕ) (text : List ℕ) → IsDrawingOf g sheet grid d → IsSheetJudged g o sheet status text → Lawful g (is_above o) grid d → text ≡ lawful_line (values_of d) }
-    ensures broken { (g : Graph) (o : EdgeOrder) (sheet : List ℕ) (grid : GridSize) (d : Drawing) (status : ℕ) (text : List ℕ) → IsDrawingOf g sheet grid d → IsSheetJudged g o sheet status text → (status ≡ 8) ↔ (Lawful g (is_above o) grid d → ⊥) }
+    ensures lawful { (g : Graph) (o : EdgeOrder) (sheet : List ℕ) (grid : GridSize) (d : Drawing) (status : Status) (text : List ℕ) → IsDrawingOf g sheet grid d → IsSheetJudged g o sheet status text → (status ≡ Done) ↔ Lawful g (is_above o) grid d }
+    ensures line { (g : Graph) (o : EdgeOrder) (sheet : List ℕ) (grid : GridSize) (d : Drawing) (status : Status) (text : List ℕ) → IsDrawingOf g sheet grid d → IsSheetJudged g o sheet status text → Lawful g (is_above o) grid d → text ≡ lawful_line (values_of d) }
+    ensures broken { (g : Graph) (o : EdgeOrder) (sheet : List ℕ) (grid : GridSize) (d : Drawing) (status : Status) (text : List ℕ) → IsDrawingOf g sheet grid d → IsSheetJudged g o sheet status text → (status ≡ Broken) ↔ (Lawful g (is_above o) grid d → ⊥) }
 {}
 
 /// A file and a sheet have one answer at most: one status, with one text.
 pub fn one_answer_to_a_file()
-    ensures status { (bytes sheet : List ℕ) (status other : ℕ) (text another : List ℕ) → IsVerified bytes sheet status text → IsVerified bytes sheet other another → status ≡ other }
-    ensures text { (bytes sheet : List ℕ) (status other : ℕ) (text another : List ℕ) → IsVerified bytes sheet status text → IsVerified bytes sheet other another → text ≡ another }
+    ensures status { (bytes sheet : List ℕ) (status other : Status) (text another : List ℕ) → IsVerified bytes sheet status text → IsVerified bytes sheet other another → status ≡ other }
+    ensures text { (bytes sheet : List ℕ) (status other : Status) (text another : List ℕ) → IsVerified bytes sheet status text → IsVerified bytes sheet other another → text ≡ another }
+{}
+
+/// A number is that of one status at most.
+pub fn one_status_to_a_number()
+    ensures { (a b : Status) → number_of a ≡ number_of b → a ≡ b }
 {}

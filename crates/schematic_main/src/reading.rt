@@ -1,10 +1,11 @@
 // Reading the inputs of a command.
-ghost use Rattle.std.specs.Prelude.{◌≡◌, ◌≤◌, IfOk, IfErr, OnOk, MatchBool};
+ghost use Rattle.std.specs.Prelude.{◌≡◌, ◌≤◌, IfOk, IfErr, OnOk, OnErr, MatchBool};
 ghost use Rattle.outside_io.specs.Contents.{WhereTold, SameFiles};
 ghost use Rattle.outside_io.specs.Counts.{next_count};
 ghost use Rattle.track_order.specs.Order.{IsOrderOf};
-ghost use Rattle.schematic_main.specs.Answer.{ReadFails};
+ghost use Rattle.schematic_main.specs.Answer.{input_file};
 ghost use Rattle.schematic_main.specs.Input.{IsLong, IsShort};
+ghost use Rattle.schematic_main.specs.Met.{met_on, ReadsInputs, IsUnwritten};
 ghost use Rattle.schematic_main.specs.Reading.{IsInput, IsUnreadInput, IsStationOf, IsRefusalOf};
 
 use crate::fault::RunFault;
@@ -30,9 +31,11 @@ pub fn bytes_of<F: Files>(
     files: &mut F,
 ) -> Result<Vec<u8>, Refusal>
     requires { limit ≤ MAX_LOG_BYTES }
-    ensures bytes { IfOk result (λ v. IsInput limit name.now (F.contents files.old) v.items) }
-    ensures refusal { IfErr result (λ r. IsUnreadInput number limit name.now (F.contents files.old) (ReadFails F.read_faults F.reads files.old files.new 0) r) }
+    ensures bytes { IfOk result (λ v. IsInput (input_file number name.now limit) (F.contents files.old) v.items) }
+    ensures refusal { IfErr result (λ r. IsUnreadInput (input_file number name.now limit) (met_on F.contents F.read_faults F.write_faults F.reads files.old files.new) r) }
     ensures reads { OnOk result (F.reads files.new ≡ next_count (F.reads files.old)) }
+    ensures reads_err { OnErr result (ReadsInputs 1 ⊥ (met_on F.contents F.read_faults F.write_faults F.reads files.old files.new)) }
+    ensures unwritten { IsUnwritten (met_on F.contents F.read_faults F.write_faults F.reads files.old files.new) }
     ensures later { F.read_faults files.old ≤ F.read_faults files.new }
     ensures same { WhereTold (F.contents files.old) (F.contents files.new) SameFiles }
 {
@@ -53,7 +56,10 @@ pub fn bytes_of<F: Files>(
 pub fn station_of<F: Files>(alloc: Global, input: &Text, files: &mut F) -> Result<Station, Refusal>
     ensures station { IfOk result (λ s. IsStationOf input.now (F.contents files.old) s.graph s.order) }
     ensures order { IfOk result (λ s. IsOrderOf s.graph s.order) }
-    ensures refusal { IfErr result (λ r. IsRefusalOf input.now (F.contents files.old) (ReadFails F.read_faults F.reads files.old files.new) r) }
+    ensures refusal { IfErr result (λ r. IsRefusalOf input.now (met_on F.contents F.read_faults F.write_faults F.reads files.old files.new) r) }
+    ensures reads { OnOk result (F.reads files.new ≡ next_count (F.reads files.old)) }
+    ensures reads_err { OnErr result (ReadsInputs 1 ⊥ (met_on F.contents F.read_faults F.write_faults F.reads files.old files.new)) }
+    ensures unwritten { IsUnwritten (met_on F.contents F.read_faults F.write_faults F.reads files.old files.new) }
     ensures later { F.read_faults files.old ≤ F.read_faults files.new }
     ensures same { WhereTold (F.contents files.old) (F.contents files.new) SameFiles }
 {

@@ -1,25 +1,29 @@
 // The top call.
-ghost use Rattle.std.specs.Prelude.{◌≡◌, ◌≢◌, ℕ, ◌≤◌, ◌⊎◌, IfOk, Some, None};
+ghost use Rattle.std.specs.Prelude.{◌≡◌, ◌⊎◌, ◌≤◌, ℕ, length, IfOk, IsOkAnd};
 ghost use Rattle.outside_io.specs.Counts.{Rose};
 ghost use Rattle.outside_io.specs.Contents.{WhereTold, SameFiles};
 ghost use Rattle.plan_words.specs.Arguments.{texts_of};
-ghost use Rattle.schematic_main.specs.Answer.{IsRunAnswer, ReadsNothing, AsksForSoundFile, AsksForSoundSheet, IsUnread, ReadFails, FailsToRead, GivenAll, GivenPrefix};
+ghost use Rattle.schematic_main.specs.Status.{IsAnswered, IsRefused, IsCutShort, EndsAs};
+ghost use Rattle.schematic_main.specs.Met.{met_on, ReadsInputs, IsUnread, IsUnwritten};
+ghost use Rattle.schematic_main.specs.Commands.{inputs_of, AreSound, ends_of};
+ghost use Rattle.schematic_main.specs.Run.{Asks, WhereAsked, IsDue, GivenAll, GivenPrefix, ReadsNothing, FailsIn, WritesNothing, Leaves, WriteFails, TellsNothing};
 
 use crate::answers::answer_to;
 use crate::fault::RunFault;
 use crate::reply::{Reply, fault_reply};
+use crate::status::Status;
 use outside_io::{Files, Sink, SinkFault};
 use plan_core::OutOfMemory;
 use plan_words::{WordFault, read_words};
+use refute_log::LogSink;
 use std::alloc::Global;
 
 /// What the words are answered with.
 fn reply_to<F: Files>(alloc: Global, words: &[String], files: &mut F) -> Result<Reply, OutOfMemory>
-    ensures answer { IfOk result (λ r. IsRunAnswer (texts_of words.now) (F.contents files.old) (ReadFails F.read_faults F.reads files.old files.new) r.status r.text.items) }
-    ensures statuses { IfOk result (λ r. (r.status ≡ 0) ⊎ (r.status ≡ 1) ⊎ (r.status ≡ 2) ⊎ (r.status ≡ 5) ⊎ (r.status ≡ 8)) }
-    ensures read_fault { IfOk result (λ r. r.status ≡ 5 → FailsToRead (texts_of words.now) (ReadFails F.read_faults F.reads files.old files.new)) }
-    ensures unread { ReadsNothing (texts_of words.now) → IsUnread F.read_faults F.reads files.old files.new }
-    ensures later { F.read_faults files.old ≤ F.read_faults files.new }
+    ensures answer { IfOk result (λ r. IsDue (texts_of words.now) (met_on F.contents F.read_faults F.write_faults F.reads files.old files.new) r.status r.text.items) }
+    ensures reads { WhereAsked (texts_of words.now) (λ command. ReadsInputs (length (inputs_of command)) (IsOkAnd result (λ r. IsAnswered r.status)) (met_on F.contents F.read_faults F.write_faults F.reads files.old files.new)) }
+    ensures unread { ReadsNothing (texts_of words.now) → IsUnread (met_on F.contents F.read_faults F.write_faults F.reads files.old files.new) }
+    ensures unwritten { IsUnwritten (met_on F.contents F.read_faults F.write_faults F.reads files.old files.new) }
     ensures same { WhereTold (F.contents files.old) (F.contents files.new) SameFiles }
 {
     match read_words(alloc, words) {
@@ -31,34 +35,64 @@ fn reply_to<F: Files>(alloc: Global, words: &[String], files: &mut F) -> Result<
     }
 }
 
-/// Carries out the command that the words ask for, over files and a sink that are handed in, and
-/// answers the status that the program ends with:
-/// 0 where the command's text was put, 1 where an input has a fault or the words ask for what isn't
-/// built, 2 where the words have a fault, 5 where a file couldn't be read, 6 where the sink failed, 7
-/// for want of memory, and 8 where the drawing that is verified breaks a law.
-pub fn run<F: Files, O: Sink>(alloc: Global, words: &[String], files: &mut F, out: &mut O) -> u8
-    // Every run that isn't cut short has put a whole text: what its command owes with its status.
-    ensures answer { result ≢ 6 → result ≢ 7 → GivenAll (O.given out.old) (O.given out.new) (IsRunAnswer (texts_of words.now) (F.contents files.old) (ReadFails F.read_faults F.reads files.old files.new) result) }
-    // One that is cut short has put nothing, or a prefix of a text that this run may answer.
-    ensures cut_short { (result ≡ 6) ⊎ (result ≡ 7) → GivenPrefix (O.given out.old) (O.given out.new) (λ text. (status : ℕ) × IsRunAnswer (texts_of words.now) (F.contents files.old) (ReadFails F.read_faults F.reads files.old files.new) status text) }
-    ensures statuses { (result ≡ 0) ⊎ (result ≡ 1) ⊎ (result ≡ 2) ⊎ (result ≡ 5) ⊎ (result ≡ 6) ⊎ (result ≡ 7) ⊎ (result ≡ 8) }
-
-    // The causes of the faults from outside, and what follows where there is none.
-    ensures read_fault { result ≡ 5 → FailsToRead (texts_of words.now) (ReadFails F.read_faults F.reads files.old files.new) }
-    ensures write_fault { result ≡ 6 → Rose (O.faults out.old) (O.faults out.new) }
-    ensures completes { AsksForSoundFile (texts_of words.now) (F.contents files.old) → ¬ Rose (F.read_faults files.old) (F.read_faults files.new) → ¬ Rose (O.faults out.old) (O.faults out.new) → (result ≡ 0) ⊎ (result ≡ 7) }
-    ensures verifies { AsksForSoundSheet (texts_of words.now) (F.contents files.old) → ¬ Rose (F.read_faults files.old) (F.read_faults files.new) → ¬ Rose (O.faults out.old) (O.faults out.new) → (result ≡ 0) ⊎ (result ≡ 8) ⊎ (result ≡ 7) }
-
-    // Nothing is read where the words ask for no command that reads a file, and no file is changed.
-    ensures unread { ReadsNothing (texts_of words.now) → IsUnread F.read_faults F.reads files.old files.new }
-    ensures files { WhereTold (F.contents files.old) (F.contents files.new) SameFiles }
+/// Answers the words: puts what they are answered with.
+fn carry_out<F: Files, O: Sink>(
+    alloc: Global,
+    words: &[String],
+    files: &mut F,
+    out: &mut O,
+) -> Status
+    ensures answer { (IsCutShort result → ⊥) → GivenAll (O.given out.old) (O.given out.new) (IsDue (texts_of words.now) (met_on F.contents F.read_faults F.write_faults F.reads files.old files.new) result) }
+    ensures cut_short { IsCutShort result → GivenPrefix (O.given out.old) (O.given out.new) (λ text. (status : Status) × IsDue (texts_of words.now) (met_on F.contents F.read_faults F.write_faults F.reads files.old files.new) status text) }
+    ensures read_fault { result ≡ Status.Unread → Asks (texts_of words.now) (λ command. FailsIn command (met_on F.contents F.read_faults F.write_faults F.reads files.old files.new)) }
+    ensures put_fault { result ≡ Status.Unwritten → Rose (O.faults out.old) (O.faults out.new) }
+    ensures completes { WhereAsked (texts_of words.now) (λ command. AreSound command (F.contents files.old) → ¬ FailsIn command (met_on F.contents F.read_faults F.write_faults F.reads files.old files.new) → ¬ Rose (O.faults out.old) (O.faults out.new) → ends_of command result ⊎ (result ≡ Status.NoMemory)) }
+    ensures reads { WhereAsked (texts_of words.now) (λ command. ReadsInputs (length (inputs_of command)) (IsAnswered result) (met_on F.contents F.read_faults F.write_faults F.reads files.old files.new)) }
+    ensures unread { ReadsNothing (texts_of words.now) → IsUnread (met_on F.contents F.read_faults F.write_faults F.reads files.old files.new) }
+    ensures unwritten { IsUnwritten (met_on F.contents F.read_faults F.write_faults F.reads files.old files.new) }
+    ensures same { WhereTold (F.contents files.old) (F.contents files.new) SameFiles }
 {
     match reply_to(alloc, words, files) {
         Ok(reply) => match out.put(&reply.text) {
             Ok(()) => reply.status,
-            Err(SinkFault::Failed) => 6,
-            Err(SinkFault::Memory) => 7,
+            Err(SinkFault::Failed) => Status::Unwritten,
+            Err(SinkFault::Memory) => Status::NoMemory,
         },
-        Err(_) => 7,
+        Err(_) => Status::NoMemory,
     }
+}
+
+/// Carries out the command that the words ask for, over files, a sink and a log that are handed in,
+/// and answers the number of the status that the program ends with. A search tells its lines to
+/// `trace` where the words name no file for them.
+pub fn run<F: Files, O: Sink, T: LogSink>(
+    alloc: Global,
+    words: &[String],
+    files: &mut F,
+    out: &mut O,
+    trace: &mut T,
+) -> u8
+    // Every run that isn't cut short has put a whole text: what its command owes with its status.
+    ensures answer { EndsAs result (λ status. (IsCutShort status → ⊥) → GivenAll (O.given out.old) (O.given out.new) (IsDue (texts_of words.now) (met_on F.contents F.read_faults F.write_faults F.reads files.old files.new) status)) }
+    // One that is cut short has put nothing, or a prefix of a text that this run may answer.
+    ensures cut_short { EndsAs result (λ status. IsCutShort status → GivenPrefix (O.given out.old) (O.given out.new) (λ text. (due : Status) × IsDue (texts_of words.now) (met_on F.contents F.read_faults F.write_faults F.reads files.old files.new) due text)) }
+
+    // The causes of the faults from outside, and how a run ends where there is none.
+    ensures read_fault { EndsAs result (λ status. status ≡ Status.Unread → Asks (texts_of words.now) (λ command. FailsIn command (met_on F.contents F.read_faults F.write_faults F.reads files.old files.new))) }
+    ensures write_fault { EndsAs result (λ status. status ≡ Status.Unwritten → WriteFails (texts_of words.now) (met_on F.contents F.read_faults F.write_faults F.reads files.old files.new) (Rose (O.faults out.old) (O.faults out.new)) (Rose (T.faults trace.old) (T.faults trace.new))) }
+    ensures completes { EndsAs result (λ status. WhereAsked (texts_of words.now) (λ command. AreSound command (F.contents files.old) → ¬ FailsIn command (met_on F.contents F.read_faults F.write_faults F.reads files.old files.new) → ¬ WriteFails (texts_of words.now) (met_on F.contents F.read_faults F.write_faults F.reads files.old files.new) (Rose (O.faults out.old) (O.faults out.new)) (Rose (T.faults trace.old) (T.faults trace.new)) → ends_of command status ⊎ (status ≡ Status.NoMemory))) }
+
+    // Each input is read once, in turn, and nothing where the words ask for no command that reads a file.
+    ensures reads { EndsAs result (λ status. WhereAsked (texts_of words.now) (λ command. ReadsInputs (length (inputs_of command)) (IsAnswered status) (met_on F.contents F.read_faults F.write_faults F.reads files.old files.new))) }
+    ensures unread { ReadsNothing (texts_of words.now) → IsUnread (met_on F.contents F.read_faults F.write_faults F.reads files.old files.new) }
+
+    // No file is written but those that the words name for it, and none by a run that is refused.
+    ensures unwritten { EndsAs result (λ status. IsRefused status ⊎ WritesNothing (texts_of words.now) → IsUnwritten (met_on F.contents F.read_faults F.write_faults F.reads files.old files.new)) }
+    ensures leaves { EndsAs result (λ status. WhereTold (F.contents files.old) (F.contents files.new) (Leaves (texts_of words.now) status)) }
+
+    // The trace goes on from what it was told before, and is told nothing but by a search.
+    ensures traced { T.is_later trace.old trace.new }
+    ensures untold { EndsAs result (λ status. IsRefused status ⊎ TellsNothing (texts_of words.now) → trace.new ≡ trace.old) }
+{
+    carry_out(alloc, words, files, out).number()
 }

@@ -1,5 +1,5 @@
 // The verdict on a drawing.
-ghost use Rattle.std.specs.Prelude.{◌≡◌, ◌⊎◌, ◌++◌, IfOk, OnOk};
+ghost use Rattle.std.specs.Prelude.{◌≡◌, ◌++◌, IfOk, OnOk};
 ghost use Rattle.track_order.specs.Order.{IsOrderOf};
 ghost use Rattle.plan_core.specs.Lawful.{HasSizeOf};
 ghost use Rattle.line_text.specs.Fields.{spaced};
@@ -7,6 +7,7 @@ ghost use Rattle.schematic_main.specs.Verdict.{lawful_line, broken_line, party_f
 
 use crate::input::Station;
 use crate::reply::Reply;
+use crate::status::Status;
 use lawful_check::{LawBreak, Party, broken};
 use line_text::{push_field, push_number_field, push_text};
 use plan_core::{Grid, OutOfMemory, Values};
@@ -74,16 +75,15 @@ pub fn verdict(
 ) -> Result<Reply, OutOfMemory>
     requires order { IsOrderOf station.now.graph station.now.order }
     requires fitting { HasSizeOf station.now.graph drawing.now }
-    ensures verdict { IfOk result (λ r. IsVerdict station.now.graph station.now.order grid.now drawing.now r.status r.text.items) }
-    ensures statuses { IfOk result (λ r. (r.status ≡ 0) ⊎ (r.status ≡ 8)) }
+    ensures { IfOk result (λ r. IsVerdict station.now.graph station.now.order grid.now drawing.now r.status r.text.items) }
 {
     match broken(&station.graph, &station.order, grid, drawing) {
         None => Ok(Reply {
-            status: 0,
+            status: Status::Done,
             text: lawful_line(alloc, values(drawing))?,
         }),
         Some(found) => Ok(Reply {
-            status: 8,
+            status: Status::Broken,
             text: broken_line(alloc, found)?,
         }),
     }

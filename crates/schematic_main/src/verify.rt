@@ -1,9 +1,12 @@
 // What `verify` answers.
-ghost use Rattle.std.specs.Prelude.{◌≡◌, ◌≤◌, ◌⊎◌, length, IfOk};
+ghost use Rattle.std.specs.Prelude.{◌≡◌, ◌≤◌, length, IfOk, IsOkAnd};
 ghost use Rattle.outside_io.specs.Contents.{WhereTold, SameFiles};
 ghost use Rattle.plan_words.specs.declared.command.Command.TheVariants.{Verify};
 ghost use Rattle.track_order.specs.Order.{IsOrderOf};
-ghost use Rattle.schematic_main.specs.Answer.{IsVerified, IsAnswerOn, IsAnswerTo, FailsIn, ReadFails};
+ghost use Rattle.schematic_main.specs.Status.{IsAnswered};
+ghost use Rattle.schematic_main.specs.Met.{met_on, ReadsInputs, IsUnwritten};
+ghost use Rattle.schematic_main.specs.Answer.{IsVerified, text_input, IsAnswerOn};
+ghost use Rattle.schematic_main.specs.Commands.{Owes};
 ghost use Rattle.schematic_main.specs.Verdict.{IsSheetJudged};
 
 use crate::fault::RunFault;
@@ -19,8 +22,7 @@ use std::alloc::Global;
 /// What is answered to a station and the bytes of a sheet.
 fn judge_sheet(alloc: Global, station: &Station, sheet: &[u8]) -> Result<Reply, OutOfMemory>
     requires { IsOrderOf station.now.graph station.now.order }
-    ensures answer { IfOk result (λ r. IsSheetJudged station.now.graph station.now.order sheet.now r.status r.text.items) }
-    ensures statuses { IfOk result (λ r. (r.status ≡ 0) ⊎ (r.status ≡ 1) ⊎ (r.status ≡ 8)) }
+    ensures { IfOk result (λ r. IsSheetJudged station.now.graph station.now.order sheet.now r.status r.text.items) }
 {
     match read_drawing(alloc, &station.graph, sheet) {
         Ok((grid, drawing)) => verdict(alloc, station, &grid, &drawing),
@@ -34,8 +36,7 @@ fn judge_sheet(alloc: Global, station: &Station, sheet: &[u8]) -> Result<Reply, 
 /// What is answered to the bytes of a file and of a sheet.
 fn judge(alloc: Global, bytes: &[u8], sheet: &[u8]) -> Result<Reply, OutOfMemory>
     requires { length bytes.now ≤ MAX_FILE_BYTES }
-    ensures answer { IfOk result (λ r. IsVerified bytes.now sheet.now r.status r.text.items) }
-    ensures statuses { IfOk result (λ r. (r.status ≡ 0) ⊎ (r.status ≡ 1) ⊎ (r.status ≡ 8)) }
+    ensures { IfOk result (λ r. IsVerified bytes.now sheet.now r.status r.text.items) }
 {
     match station_in(alloc, bytes) {
         Ok(station) => judge_sheet(alloc, &station, sheet),
@@ -52,9 +53,9 @@ fn verify_bytes<F: Files>(
     files: &mut F,
 ) -> Result<Reply, OutOfMemory>
     requires { length bytes.now ≤ MAX_FILE_BYTES }
-    ensures answer { IfOk result (λ r. IsAnswerOn 2 MAX_FILE_BYTES sheet.now (F.contents files.old) (ReadFails F.read_faults F.reads files.old files.new 0) (IsVerified bytes.now) r.status r.text.items) }
-    ensures statuses { IfOk result (λ r. (r.status ≡ 0) ⊎ (r.status ≡ 1) ⊎ (r.status ≡ 5) ⊎ (r.status ≡ 8)) }
-    ensures read_fault { IfOk result (λ r. r.status ≡ 5 → ReadFails F.read_faults F.reads files.old files.new 0) }
+    ensures answer { IfOk result (λ r. IsAnswerOn (text_input 2 sheet.now) 0 (met_on F.contents F.read_faults F.write_faults F.reads files.old files.new) (IsVerified bytes.now) r.status r.text.items) }
+    ensures reads { ReadsInputs 1 (IsOkAnd result (λ r. IsAnswered r.status)) (met_on F.contents F.read_faults F.write_faults F.reads files.old files.new) }
+    ensures unwritten { IsUnwritten (met_on F.contents F.read_faults F.write_faults F.reads files.old files.new) }
     ensures later { F.read_faults files.old ≤ F.read_faults files.new }
     ensures same { WhereTold (F.contents files.old) (F.contents files.new) SameFiles }
 {
@@ -72,9 +73,9 @@ pub fn verify<F: Files>(
     sheet: &Text,
     files: &mut F,
 ) -> Result<Reply, OutOfMemory>
-    ensures answer { IfOk result (λ r. IsAnswerTo (Verify input.now sheet.now) (F.contents files.old) (ReadFails F.read_faults F.reads files.old files.new) r.status r.text.items) }
-    ensures statuses { IfOk result (λ r. (r.status ≡ 0) ⊎ (r.status ≡ 1) ⊎ (r.status ≡ 5) ⊎ (r.status ≡ 8)) }
-    ensures read_fault { IfOk result (λ r. r.status ≡ 5 → FailsIn (Verify input.now sheet.now) (ReadFails F.read_faults F.reads files.old files.new)) }
+    ensures answer { IfOk result (λ r. Owes (Verify input.now sheet.now) (met_on F.contents F.read_faults F.write_faults F.reads files.old files.new) r.status r.text.items) }
+    ensures reads { ReadsInputs 2 (IsOkAnd result (λ r. IsAnswered r.status)) (met_on F.contents F.read_faults F.write_faults F.reads files.old files.new) }
+    ensures unwritten { IsUnwritten (met_on F.contents F.read_faults F.write_faults F.reads files.old files.new) }
     ensures later { F.read_faults files.old ≤ F.read_faults files.new }
     ensures same { WhereTold (F.contents files.old) (F.contents files.new) SameFiles }
 {

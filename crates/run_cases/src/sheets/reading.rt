@@ -1,10 +1,9 @@
 // What is read of a file and of a sheet, in which order, and what is put.
 
 use crate::answers::ONE_SHEET;
-use crate::cases::{answer, words_from};
+use crate::cases::{answer, run_untraced, words_from};
 use crate::stations::{MUTUAL, ONE};
 use outside_io::{MemoryFiles, MemorySink, SureFiles, SureSink};
-use schematic_main::run;
 use std::alloc::{AllocError, Global};
 use std::test::Fail;
 
@@ -53,7 +52,11 @@ fn a_sheet_past_the_limit_is_too_long(rt: HostRuntime) -> Result<(), Fail> {
         files.add("station.xml", ONE.as_bytes())?;
         files.add("sheet", &padded_sheet(alloc, size)?)?;
         let mut out = SureSink::new(alloc);
-        assert_eq!(rt; run(alloc, &words, &mut files, &mut out), 1, "{size}");
+        assert_eq!(rt;
+            run_untraced(alloc, &words, &mut files, &mut out),
+            1,
+            "{size}"
+        );
         assert_eq!(rt; out.bytes(), line.as_bytes(), "{size}");
     }
     Ok(())
@@ -168,7 +171,7 @@ fn faults_of_reading_and_of_the_station_come_first(rt: HostRuntime) -> Result<()
         files.add("sheet", b"")?;
         files.add("best", ONE_SHEET.as_bytes())?;
         let mut out = SureSink::new(alloc);
-        let status = run(alloc, &words, &mut files, &mut out);
+        let status = run_untraced(alloc, &words, &mut files, &mut out);
         assert_eq!(rt; status, case.status, "{station} {sheet} {}", case.fail);
         assert_eq!(rt;
             out.bytes(),
@@ -192,7 +195,11 @@ fn a_verdict_that_is_not_put_ends_with_6(rt: HostRuntime) -> Result<(), Fail> {
         files.add("station.xml", ONE.as_bytes())?;
         files.add("sheet", sheet.as_bytes())?;
         let mut out = MemorySink::new(alloc, &[1])?;
-        assert_eq!(rt; run(alloc, &words, &mut files, &mut out), 6, "{due}");
+        assert_eq!(rt;
+            run_untraced(alloc, &words, &mut files, &mut out),
+            6,
+            "{due}"
+        );
         assert!(rt; due.as_bytes().starts_with(out.bytes()));
     }
     Ok(())

@@ -1,31 +1,33 @@
 use Rattle.std.proofs.Common.{List, ℕ, subst, arith}
 use Rattle.std.proofs.lemmas.Result.{IfOk-weaker}
-use Rattle.plan_core.specs.declared.limits.TheConstants.{MAX_FILE_BYTES}
-use Rattle.schematic_main.specs.Answer.{IsVerified, IsAnswerOn, ReadFails}
-use Rattle.schematic_main.proofs.AnswerLemmas.{read_on, answer_before, fails_later}
+use Rattle.schematic_main.specs.Met.{files_at, between}
+use Rattle.schematic_main.specs.Answer.{IsVerified, text_input, IsAnswerOn}
+use Rattle.schematic_main.proofs.AnswerLemmas.{read_on, answer_before}
+use Rattle.schematic_main.proofs.MetLemmas.{reads_more, reads_some}
+use Rattle.schematic_main.proofs.StatusLemmas.{refused_reply}
 use Rattle.schematic_main.proofs.verify.verify.Goals as goal
 
 pub returns-in-Ok-clause-answer : goal.returns-in-Ok-clause-answer
 returns-in-Ok-clause-answer g c =
-    let old = c.args.files.now in
-    let mid = c.bytes_of.new.files in
-    let new = c.verify_bytes.new.files in
-    let contents = g.F.Files.contents in
+    let at = files_at {Self = g.row.F.Denot} g.F.Files.contents g.F.Files.read_faults g.F.Files.write_faults g.F.Files.reads in
+    let old = at c.args.files.now in
+    let mid = at c.bytes_of.new.files in
+    let new = at c.verify_bytes.new.files in
     let bytes = c.in-Ok.bytes.items in
-    let sheet = c.args.sheet.now in
-    let fails = ReadFails {Self = g.row.F.Denot} g.F.Files.read_faults g.F.Files.reads in
+    let sheet = text_input 2 c.args.sheet.now in
     IfOk-weaker c.verify_bytes.result _ _ (λ r answer.
-    read_on 1 MAX_FILE_BYTES c.args.input.now (contents old) (fails old new 0) (λ bytes. IsAnswerOn 2 MAX_FILE_BYTES sheet (contents old) (fails old new 1) (IsVerified bytes)) bytes r.status r.text.items c.in-Ok.ensures.bytes
-    (answer_before 2 MAX_FILE_BYTES sheet (contents old) (contents mid) (fails mid new 0) (fails old new 1) (IsVerified bytes) r.status r.text.items c.in-Ok.ensures.same
-    (fails_later {Self = g.row.F.Denot} g.F.Files.read_faults g.F.Files.reads old mid new c.in-Ok.ensures.later c.in-Ok.ensures.reads)
-    (subst (λ (xs : List ℕ). IsAnswerOn 2 MAX_FILE_BYTES sheet (contents mid) (fails mid new 0) (IsVerified xs) r.status r.text.items) c.deref.ensures.value answer)))
+    read_on (text_input 1 c.args.input.now) 0 (between old new) (λ bytes. IsAnswerOn sheet 1 (between old new) (IsVerified bytes)) bytes r.status r.text.items c.in-Ok.ensures.bytes
+    (answer_before sheet old mid new (IsVerified bytes) r.status r.text.items c.in-Ok.ensures.same c.in-Ok.ensures.later c.in-Ok.ensures.reads
+    (subst (λ (xs : List ℕ). IsAnswerOn sheet 0 (between mid new) (IsVerified xs) r.status r.text.items) c.deref.ensures.value answer)))
     c.verify_bytes.ensures.answer
 
-pub returns-in-Ok-clause-read_fault : goal.returns-in-Ok-clause-read_fault
-returns-in-Ok-clause-read_fault g c =
-    IfOk-weaker c.verify_bytes.result _ _ (λ r fails. λ is_5. (
-      1,
-      omega arith,
-      fails_later {Self = g.row.F.Denot} g.F.Files.read_faults g.F.Files.reads c.args.files.now c.bytes_of.new.files c.verify_bytes.new.files c.in-Ok.ensures.later c.in-Ok.ensures.reads (fails is_5),
-    ))
-    c.verify_bytes.ensures.read_fault
+pub returns-in-Ok-clause-reads : goal.returns-in-Ok-clause-reads
+returns-in-Ok-clause-reads g c =
+    let at = files_at {Self = g.row.F.Denot} g.F.Files.contents g.F.Files.read_faults g.F.Files.write_faults g.F.Files.reads in
+    reads_more 1 _ (at c.args.files.now) (at c.bytes_of.new.files) (at c.verify_bytes.new.files) c.in-Ok.ensures.reads c.verify_bytes.ensures.reads
+
+pub returns-in-Err-Fault-clause-reads : goal.returns-in-Err-Fault-clause-reads
+returns-in-Err-Fault-clause-reads g c = reads_some 1 2 _ _ (omega arith) (refused_reply c.fault_reply.result c.fault_reply.ensures.refused) c.in-Err-Fault.ensures.reads_err
+
+pub returns-in-Err-Memory-clause-reads : goal.returns-in-Err-Memory-clause-reads
+returns-in-Err-Memory-clause-reads g c = reads_some 1 2 _ _ (omega arith) (λ h. h) c.in-Err-Memory.ensures.reads_err

@@ -1,0 +1,42 @@
+-- Statuses have different numbers, and none is both refused and answered.
+use Rattle.std.proofs.Common.{◌≡◌, ℕ, zero, suc, Ok, Err, refl, sym, ◌∙◌, ap}
+use Rattle.std.specs.Prelude.{Result, IfOk, IsOkAnd}
+use Rattle.schematic_main.specs.declared.reply.Reply.{Reply}
+use Rattle.schematic_main.specs.declared.status.Status.{Status}
+use Rattle.schematic_main.specs.declared.status.Status.TheVariants.{Done, Refused, WordsRefused, Unread, Unwritten, NoMemory, Broken}
+use Rattle.schematic_main.specs.Status.{number_of, IsAnswered, IsRefused}
+
+abbrev status_at : ℕ → Status
+status_at zero = Done
+status_at (suc zero) = Refused
+status_at (suc (suc zero)) = WordsRefused
+status_at (suc (suc (suc (suc (suc zero))))) = Unread
+status_at (suc (suc (suc (suc (suc (suc zero)))))) = Unwritten
+status_at (suc (suc (suc (suc (suc (suc (suc zero))))))) = NoMemory
+status_at other = Broken
+
+status_at-number : (status : Status) → status_at (number_of status) ≡ status
+status_at-number Done = refl
+status_at-number Refused = refl
+status_at-number WordsRefused = refl
+status_at-number Unread = refl
+status_at-number Unwritten = refl
+status_at-number NoMemory = refl
+status_at-number Broken = refl
+
+pub one_status : (a b : Status) → number_of a ≡ number_of b → a ≡ b
+one_status a b same = sym (status_at-number a) ∙ ap status_at same ∙ status_at-number b
+
+pub refused_unanswered : (status : Status) → IsRefused status → IsAnswered status → ⊥
+refused_unanswered Done refused answered = refused
+refused_unanswered Refused refused answered = answered
+refused_unanswered WordsRefused refused answered = answered
+refused_unanswered Unread refused answered = answered
+refused_unanswered Unwritten refused answered = answered
+refused_unanswered NoMemory refused answered = answered
+refused_unanswered Broken refused answered = refused
+
+-- an answer that tells of a fault isn't the command's
+pub refused_reply : {E : Type 0} (r : Result Reply E) → IfOk r (λ x. IsRefused x.status) → IsOkAnd r (λ x. IsAnswered x.status) → ⊥
+refused_reply (Ok x) refused answered = refused_unanswered x.status refused answered
+refused_reply (Err e) refused answered = answered

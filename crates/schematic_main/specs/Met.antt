@@ -1,0 +1,52 @@
+-- What a run meets outside: its files, as it begins and as it ends. The counts are told of all files, also of
+-- those whose contents aren't.
+use Rattle.std.specs.Prelude.{◌≡◌, ℕ, ◌≤◌}
+use Rattle.std.specs.declared.option.Option.{Option}
+use Rattle.outside_io.specs.Contents.{Told}
+use Rattle.outside_io.specs.Counts.{Rose, rose_by}
+
+-- the files at one moment
+pub record FilesAt : Type 0 where
+  pub contents : Option Told
+  pub read_faults : ℕ
+  pub write_faults : ℕ
+  pub reads : ℕ
+
+-- the files at two moments, the second not before the first
+pub record Met : Type 0 where
+  pub before : FilesAt
+  pub after : FilesAt
+
+-- the files at one moment, by their meanings
+abbrev pub files_at : {Self : Type 0} → (contents : Self → Option Told) → (read_faults write_faults reads : Self → ℕ) → Self → FilesAt
+files_at contents read_faults write_faults reads files =
+    record { contents = contents files; read_faults = read_faults files; write_faults = write_faults files; reads = reads files }
+
+abbrev pub between : FilesAt → FilesAt → Met
+between before after = record { before = before; after = after }
+
+-- what was met on files
+abbrev pub met_on : {Self : Type 0} → (contents : Self → Option Told) → (read_faults write_faults reads : Self → ℕ) → (old new : Self) → Met
+met_on contents read_faults write_faults reads old new =
+    between (files_at contents read_faults write_faults reads old) (files_at contents read_faults write_faults reads new)
+
+-- a read failed: the count of read faults rose, and so many reads had been done before
+pub record ReadFails (met : Met) (done : ℕ) : Type 0 where
+  pub rose : Rose met.before.read_faults met.after.read_faults
+  pub reads_done : met.after.reads ≡ rose_by done met.before.reads
+
+-- nothing was read: neither the number of reads done nor the count of their faults rose
+pub record IsUnread (met : Met) : Type 0 where
+  pub same_faults : met.after.read_faults ≡ met.before.read_faults
+  pub same_reads : met.after.reads ≡ met.before.reads
+
+-- of so many inputs the first ones were read, each once; and all of them where this holds
+pub record ReadsInputs (inputs : ℕ) (All : Type 0) (met : Met) : Type 0 where
+  pub number : ℕ
+  pub within : number ≤ inputs
+  pub once : met.after.reads ≡ rose_by number met.before.reads
+  pub all : All → number ≡ inputs
+
+-- no create and no append was tried: neither promises to leave the count of their faults as it was
+abbrev pub IsUnwritten : Met → Type 0
+IsUnwritten met = met.after.write_faults ≡ met.before.write_faults

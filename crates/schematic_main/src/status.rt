@@ -1,0 +1,39 @@
+// How a run ends.
+ghost use Rattle.std.specs.Prelude.{◌≡◌};
+ghost use Rattle.schematic_main.specs.Status.{number_of};
+
+/// How a run ends. The program's own status is its number.
+#[derive(Clone, Copy, Debug, PartialEq, Eq)]
+pub enum Status {
+    /// The command's text was put.
+    Done,
+    /// An input has a fault, or the words ask for what isn't built yet.
+    Refused,
+    /// The words have a fault.
+    WordsRefused,
+    /// A file couldn't be read.
+    Unread,
+    /// What was due couldn't be written.
+    Unwritten,
+    /// Memory couldn't be had.
+    NoMemory,
+    /// The drawing that is verified breaks a law.
+    Broken,
+}
+
+impl Status {
+    /// The number that the program ends with.
+    pub fn number(self) -> u8
+        ensures { result ≡ number_of self }
+    {
+        match self {
+            Status::Done => 0,
+            Status::Refused => 1,
+            Status::WordsRefused => 2,
+            Status::Unread => 5,
+            Status::Unwritten => 6,
+            Status::NoMemory => 7,
+            Status::Broken => 8,
+        }
+    }
+}
