@@ -1,5 +1,6 @@
 // What runs answer by their words and one file.
 use crate::cases::{run_untraced, words_from};
+use crate::small_stations::JOINED;
 use crate::stations::{
     BACK, BACK_GRAPH, CROSS, CROSS_GRAPH, LOOP, LOOP_GRAPH, MUTUAL, ONE, ONE_GRAPH, SCISSORS,
     SCISSORS_GRAPH, STATION, STATION_GRAPH, TWO, TWO_GRAPH,
@@ -259,7 +260,7 @@ struct Edit {
     line: &'static str,
 }
 
-static EDITS: [Edit; 21] = [
+static EDITS: [Edit; 24] = [
     Edit {
         file: ONE,
         old: "absPos=\"600\"",
@@ -385,6 +386,27 @@ static EDITS: [Edit; 21] = [
         old: "ref=\"d1\"",
         new: "ref=\"c1\"",
         line: "topology 8 NotMutual at 561 d1 c1\n",
+    },
+    // both tracks come to the joint from the west
+    Edit {
+        file: JOINED,
+        old: "absPos=\"600\"",
+        new: "absPos=\"0\"",
+        line: "graph 4 SideMismatch ae\n",
+    },
+    // the trunk and the branch lie east of the switch
+    Edit {
+        file: LOOP,
+        old: "orientation=\"outgoing\"",
+        new: "orientation=\"incoming\"",
+        line: "graph 4 SideMismatch s1\n",
+    },
+    // the path goes out to the west, where the track's piece behind the crossing doesn't lie
+    Edit {
+        file: SCISSORS,
+        old: "ref=\"ca2\" orientation=\"incoming\"/><connection id=\"ko\" ref=\"cb1\" course=\"right\" orientation=\"outgoing\"/>",
+        new: "ref=\"ca2\" course=\"right\" orientation=\"outgoing\"/><connection id=\"ko\" ref=\"cb1\" orientation=\"incoming\"/>",
+        line: "graph 4 SideMismatch k\n",
     },
 ];
 
