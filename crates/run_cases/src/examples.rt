@@ -1,5 +1,5 @@
 // The station of `examples/`, as README shows it.
-use crate::cases::{Case, run_untraced, words_from, wrong_answers};
+use crate::cases::{Case, answer, run_untraced, words_from, wrong_answers};
 use outside_io::{SureFiles, SureSink};
 use std::test::Fail;
 
@@ -94,6 +94,31 @@ fn prints_the_graph_of_the_example(rt: HostRuntime) -> Result<(), Fail> {
     Ok(())
 }
 
+const SHEET: &str = "railplan 2
+grid 40 8 1
+order height bends diagonal width
+nodes 8
+node 0 A1 0 0 12000.000000
+node 1 B1 7 0 13250.000000
+node 2 W1 1 0 12310.000000
+node 3 A2 0 1 12000.000000
+node 4 B2 7 1 13250.000000
+node 5 W2 2 1 12402.500000
+node 6 W3 3 1 12520.000000
+node 7 W4 6 1 13090.000000
+edges 8
+edge 0 track1 0 2 0 0 1 0
+edge 1 track1 2 1 1 0 7 0
+edge 2 track2 3 5 0 1 2 1
+edge 3 track2 5 6 2 1 3 1
+edge 4 track2 6 7 3 1 6 1
+edge 5 track2 7 4 6 1 7 1
+edge 6 track3 6 7 3 1 4 2 5 2 6 1
+edge 7 track4 2 5 1 0 2 1
+values 2 2 3 7
+end conflicts 0
+";
+
 static VERDICTS: [Case; 2] = [
     Case {
         shows: "The drawing as it is on paper.",
@@ -118,5 +143,15 @@ static VERDICTS: [Case; 2] = [
 fn verifies_the_sheet_of_the_example(rt: HostRuntime) -> Result<(), Fail> {
     let alloc = rt.alloc();
     assert_eq!(rt; wrong_answers(alloc, &VERDICTS)?.as_str(), "");
+    Ok(())
+}
+
+/// As it stands in `examples/station.sheet`, with the mileage of each node and the track of each edge.
+#[test]
+fn verifies_the_sheet_that_is_shown(rt: HostRuntime) -> Result<(), Fail> {
+    let alloc = rt.alloc();
+    let (status, text) = answer(alloc, FILE, SHEET.as_bytes())?;
+    assert_eq!(rt; status, 0);
+    assert_eq!(rt; std::str::from_utf8(&text)?, "lawful 2 2 3 7\n");
     Ok(())
 }
