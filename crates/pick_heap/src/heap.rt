@@ -1,6 +1,6 @@
 // The heap of variables.
 ghost use Rattle.std.specs.Prelude.{◌≡◌, ◌≤◌, ◌<◌, ◌+◌, ◌*◌, ◌/◌, ◌-◌, ◌^◌, ℕ, length, map, MatchOption, IfOk, OnOk, OnErr, replicate, true};
-ghost use Rattle.pick_heap.specs.Heap.{AreFresh, IsGreatest, NoneHeld, activity, without, with_held, roomy, raised, bumped, with_fresh};
+ghost use Rattle.pick_heap.specs.Heap.{AreFresh, IsGreatest, IsHeld, NoneHeld, activity, without, with_held, roomy, raised, bumped, with_fresh};
 
 use crate::matches::{lay_out, leaf_word, play_all, set_leaf};
 use cnf_core::{VARS, Var, lengthen};
@@ -80,6 +80,7 @@ impl Heap {
         requires { self.old.vars + n ≤ VARS }
         ensures more { OnOk result (self.new ≡ with_fresh self.old n) }
         ensures none { OnErr result (self.new ≡ self.old) }
+        ensures held { OnOk result ((v : ℕ) → self.old.vars < v → v ≤ self.new.vars → IsHeld self.new v) }
     {
         let leaves = leaves_for(self.vars + n);
         if self.tree.len() < 2 * leaves as usize {
@@ -156,7 +157,8 @@ impl Heap {
     pub fn put_back(&mut self, v: Var)
         requires from { 1 ≤ v.0 }
         requires to { v.0 ≤ self.old.vars }
-        ensures { self.new ≡ with_held self.old v.0 }
+        ensures value { self.new ≡ with_held self.old v.0 }
+        ensures held { IsHeld self.new v.0 }
     {
         self.held[v.0 as usize] = true;
         set_leaf(&mut self.tree, &self.activities, self.leaves, v.0, v.0);
