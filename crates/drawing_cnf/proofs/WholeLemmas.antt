@@ -1,13 +1,13 @@
 -- A whole formula: when it is one, and what its models say.
-use Rattle.std.proofs.Common.{◌≡◌, ℕ, ◌≤◌, ◌<◌, List, [], ◌∷◌, ◌+◌, ◌++◌, length, get_or, refl, sym, ◌∙◌, ap, subst, append-nil, arith, Ok, Err}
-use Rattle.std.specs.Prelude.{Result, IfOk, Bool, true}
+use Rattle.std.proofs.Common.{◌≡◌, ℕ, ◌≤◌, ◌<◌, List, [], ◌∷◌, ◌+◌, ◌++◌, length, sym, ◌∙◌, ap, subst, append-nil, arith, Ok, Err}
+use Rattle.std.specs.Prelude.{Result, IfOk, Bool}
 use Rattle.std.proofs.lemmas.List.{same_lists, get_or_default}
 use Rattle.plan_core.specs.declared.point.Point.{Point}
 use Rattle.plan_core.specs.Grid.{GridSize, IsGrid}
 use Rattle.plan_core.specs.Graph.{Graph, edge, IsTrackGraph}
-use Rattle.plan_core.specs.Line.{is_line, west_end, east_end, origin, height}
+use Rattle.plan_core.specs.Line.{west_end, east_end, origin, height}
 use Rattle.plan_core.specs.Drawing.{Drawing, drawing, place, line}
-use Rattle.plan_core.specs.Lawful.{Instance, Lawful}
+use Rattle.plan_core.specs.Lawful.{Lawful}
 use Rattle.plan_core.specs.Values.{values_of}
 use Rattle.cnf_core.specs.declared.fault.CnfFault.{CnfFault}
 use Rattle.cnf_core.specs.Clause.{Clauses}
@@ -18,7 +18,7 @@ use Rattle.edge_lines.proofs.LineHeights.{point_is}
 use Rattle.edge_lines.proofs.UniqueLemmas.{same_heights_same_line}
 use Rattle.track_order.specs.Order.{EdgeOrder, is_above, is_overlap, IsOrderOf}
 use Rattle.drawing_cnf.specs.Stands.{DrawingVars, StandsFor}
-use Rattle.drawing_cnf.specs.Expected.{drawing_vars, instances, formula_clauses, formula_size}
+use Rattle.drawing_cnf.specs.Expected.{instances, formula_clauses, formula_size}
 use Rattle.drawing_cnf.specs.Bounded.{Bound, size_of_bound, bounds_clauses, AreBehind, Tells, SoundWith}
 use Rattle.drawing_cnf.specs.Encoding.{Encoding, encoded_vars}
 use Rattle.drawing_cnf.specs.Whole.{drawing_clauses, drawing_last, bounds_last, IsWhole}

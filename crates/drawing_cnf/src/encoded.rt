@@ -72,7 +72,7 @@ impl<'a> Encoded<'a> {
         &self.formula
     }
 
-    /// A node's column and row, in which `Stands` reads its point.
+    /// A node's column and row, in which `StandsFor` reads its point.
     pub fn node(&self, n: NodeNo) -> NodeVars
         requires { n.0 < length self.now.graph.nodes }
         ensures x { result.x ≡ ((encoded_vars self.now).node n.0).x }
@@ -81,7 +81,7 @@ impl<'a> Encoded<'a> {
         node_vars(self.graph, self.grid, n.0)
     }
 
-    /// The variables of an edge, in whose heights `Stands` reads its line.
+    /// The variables of an edge, in whose heights `StandsFor` reads its line.
     pub fn edge(&self, e: EdgeNo) -> EdgeVars
         requires { e.0 < length self.now.graph.edges }
         ensures lits { lits_of result ≡ (encoded_vars self.now).edge e.0 }

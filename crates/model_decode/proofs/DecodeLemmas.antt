@@ -4,8 +4,8 @@ use Rattle.std.proofs.Math.Seq.{take-suc}
 use Rattle.std.proofs.lemmas.List.{take_all, get_or_append_left, get_or_push}
 use Rattle.std.proofs.lemmas.Bool.Decides.{eqb_tells}
 use Rattle.plan_core.specs.declared.point.Point.{Point}
-use Rattle.plan_core.specs.Grid.{GridSize, IsGrid}
-use Rattle.plan_core.specs.Graph.{Graph, edge, IsTrackGraph}
+use Rattle.plan_core.specs.Grid.{IsGrid}
+use Rattle.plan_core.specs.Graph.{edge, IsTrackGraph}
 use Rattle.plan_core.specs.Line.{west_end, east_end, height}
 use Rattle.plan_core.specs.Drawing.{Drawing, drawing, place, line}
 use Rattle.plan_core.specs.Lawful.{Lawful}
@@ -19,15 +19,13 @@ use Rattle.edge_lines.specs.Columns.{listed_height}
 use Rattle.edge_lines.proofs.LineHeights.{point_is}
 use Rattle.track_order.specs.Order.{is_above}
 use Rattle.edge_shape.specs.EdgeVars.{EdgeSpot, edge_spot, lits_of}
-use Rattle.drawing_cnf.specs.Rank.{west_rank}
 use Rattle.drawing_cnf.specs.Stands.{StandsFor}
-use Rattle.drawing_cnf.specs.Expected.{row_ints, edge_first, laws_first}
+use Rattle.drawing_cnf.specs.Expected.{edge_first, laws_first}
 use Rattle.drawing_cnf.specs.Encoding.{Encoding, encoded_vars}
 use Rattle.drawing_cnf.specs.Bounded.{Tells}
 use Rattle.drawing_cnf.specs.Whole.{drawing_last, IsWhole}
 use Rattle.drawing_cnf.proofs.BaseLemmas.{node_spot, base_last, base_vars}
 use Rattle.drawing_cnf.proofs.ThereLemmas.{vars_more}
-use Rattle.drawing_cnf.proofs.BoundedLemmas.{ReadsLawful}
 use Rattle.drawing_cnf.proofs.MainLemmas.{reads_stand}
 use Rattle.drawing_cnf.proofs.WholeLemmas.{last_rises, one_drawing, whole_reads, whole_tells}
 use Rattle.model_decode.specs.Decoded.{IsRead, IsReadAs}

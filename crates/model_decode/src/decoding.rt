@@ -149,7 +149,7 @@ fn read_drawing(alloc: Global, e: &Encoded, m: &Truths) -> Result<Drawing, OutOf
     Drawing::new(alloc, &places, &lines)
 }
 
-/// The drawing that a model of the formula stands for.
+/// The one lawful drawing for which a model of the formula stands. Its values are what the formula's bounds say.
 pub fn decode(alloc: Global, e: &Encoded, m: &Truths) -> Result<Drawing, OutOfMemory>
     requires whole { IsWhole e.now }
     requires vars { e.now.formula.vars ≤ length m.now }

@@ -1,5 +1,4 @@
-use Rattle.std.proofs.Common.{◌≡◌, ◌≤◌, ◌<◌, ◌+◌, ◌-◌, ℕ, List, length, sym, ◌∙◌, ap, subst, arith}
-use Rattle.plan_core.specs.declared.point.Point.{Point}
+use Rattle.std.proofs.Common.{◌≡◌, ◌-◌, ℕ, List, length, sym, ◌∙◌, ap, subst, arith}
 use Rattle.plan_core.specs.Grid.{GridSize}
 use Rattle.plan_core.specs.Drawing.{line}
 use Rattle.cnf_core.specs.Truths.{assignment}

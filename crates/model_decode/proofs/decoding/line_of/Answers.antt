@@ -1,4 +1,4 @@
-use Rattle.std.proofs.Common.{◌≡◌, sym, ◌∙◌, ap, subst, length, ◌<◌}
+use Rattle.std.proofs.Common.{◌∙◌, ap}
 use Rattle.plan_core.specs.declared.point.Point.{Point}
 use Rattle.plan_core.specs.Graph.{Graph, edge}
 use Rattle.plan_core.specs.Drawing.{place}

@@ -1,7 +1,6 @@
-use Rattle.std.proofs.Common.{◌≡◌, ◌≤◌, ◌<◌, [], length, refl, ◌∙◌, ap, arith}
+use Rattle.std.proofs.Common.{length, ◌∙◌, ap, arith}
 use Rattle.plan_core.specs.Graph.{Graph}
 use Rattle.plan_core.specs.Line.{origin}
-use Rattle.cnf_core.specs.Truths.{assignment}
 use Rattle.model_decode.proofs.DecodeLemmas.{one_taken, all_taken}
 use Rattle.model_decode.proofs.decoding.places_of.Goals as goal
 
