@@ -1,6 +1,6 @@
 -- Calls that add a bound: its variables, then its clauses.
-use Rattle.std.proofs.Common.{◌≡◌, ◌⊎◌, ℕ, zero, suc, ◌+◌, ◌*◌, ◌≤◌, ◌<◌, List, [], ◌∷◌, ◌++◌, length, inl, inr, refl, sym, ◌∙◌, ap, subst, arith, append-nil, length-append, Ok, Err}
-use Rattle.std.specs.Prelude.{Result, IsErr, IsErrOf, OnOk, OnErr, ◌↔◌}
+use Rattle.std.proofs.Common.{◌≡◌, ℕ, zero, suc, ◌+◌, ◌*◌, ◌≤◌, ◌<◌, List, [], ◌∷◌, ◌++◌, length, inl, refl, sym, ◌∙◌, ap, subst, arith, append-nil, length-append, Ok, Err}
+use Rattle.std.specs.Prelude.{Result, IsErr, IsErrOf, OnOk, OnErr}
 use Rattle.plan_core.specs.Grid.{GridSize}
 use Rattle.plan_core.specs.Graph.{Graph}
 use Rattle.cnf_core.specs.declared.fault.CnfFault.{CnfFault}

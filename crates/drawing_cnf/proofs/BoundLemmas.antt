@@ -1,5 +1,5 @@
 -- Bounds by sums: a variable is as a literal, the sum's variables tell a value, and the edges from west to east are all edges.
-use Rattle.std.proofs.Common.{◌≡◌, ◌⊎◌, ℕ, zero, suc, ◌+◌, ◌-◌, ◌≤◌, ◌<◌, Bool, true, false, not, List, [], ◌∷◌, length, get_or, inl, inr, refl, sym, ◌∙◌, ap, subst, arith}
+use Rattle.std.proofs.Common.{◌≡◌, ◌⊎◌, ℕ, zero, suc, ◌+◌, ◌-◌, ◌≤◌, ◌<◌, Bool, true, false, not, List, [], ◌∷◌, length, get_or, inl, inr, refl, sym, ◌∙◌, ap, arith}
 use Rattle.std.specs.Prelude.{nat_le, All}
 use Rattle.std.specs.List.{sum_by, range_with_len, insert}
 use Rattle.std.proofs.lemmas.List.Sums.{sum_by-cons}
@@ -13,7 +13,7 @@ use Rattle.cnf_core.specs.Clause.{Clauses, AreThere, AllThere}
 use Rattle.cnf_core.specs.Assignment.{Assignment, truth, SatisfiesAll, Extends}
 use Rattle.cnf_core.specs.LitOrTruth.{yes, flip, value, SomeTrue, IsWithin, clause_of}
 use Rattle.cnf_core.specs.Formula.{each}
-use Rattle.cnf_core.proofs.ClauseLemmas.{satisfies_append, satisfies_left, satisfies_right, satisfies_each, satisfies_at, all_there_append, all_there_each, all_there_more}
+use Rattle.cnf_core.proofs.ClauseLemmas.{satisfies_append, satisfies_left, satisfies_right, satisfies_each, satisfies_at, all_there_append, all_there_each}
 use Rattle.cnf_core.proofs.GatherLemmas.{value-flip, flip_within, clause_says, clause_holds, clause_there}
 use Rattle.cnf_core.proofs.SettingLemmas.{patch, patch_at, extends_weaker}
 use Rattle.unary_sum.specs.Sum.{SumVars, sum_vars, sum_count, sum_clauses, count_true, tree_top, tree_of, sum_at_least as sum_at_least}

@@ -1,6 +1,6 @@
 -- Bounds behind the formula: each model reads a lawful drawing and tells its values, and each lawful drawing has such a model.
-use Rattle.std.proofs.Common.{◌≡◌, ℕ, ◌+◌, ◌≤◌, Bool, true, false, List, [], ◌∷◌, ◌++◌, sym, refl, subst, arith, append_assoc, append-nil}
-use Rattle.std.specs.Prelude.{cond, nat_eq, All}
+use Rattle.std.proofs.Common.{ℕ, ◌+◌, ◌≤◌, Bool, true, false, List, [], ◌∷◌, ◌++◌, sym, subst, arith, append_assoc, append-nil}
+use Rattle.std.specs.Prelude.{cond, nat_eq}
 use Rattle.std.proofs.lemmas.List.Elements.{All-nil, All-cons}
 use Rattle.plan_core.specs.declared.criterion.Criterion.{Criterion}
 use Rattle.plan_core.specs.declared.criterion.Criterion.TheVariants.{Height, Bends, Diagonal, Width}
@@ -13,11 +13,11 @@ use Rattle.cnf_core.specs.declared.limits.TheConstants.{VARS}
 use Rattle.cnf_core.specs.Clause.{Clauses, AllThere}
 use Rattle.cnf_core.specs.Assignment.{Assignment, SatisfiesAll, Extends}
 use Rattle.cnf_core.proofs.ClauseLemmas.{satisfies_append, satisfies_left, satisfies_right, satisfies_all_same, all_there_append, all_there_more}
-use Rattle.drawing_cnf.specs.Stands.{DrawingVars, StandsFor}
+use Rattle.drawing_cnf.specs.Stands.{DrawingVars}
 use Rattle.drawing_cnf.specs.LawClauses.{laws_clauses}
-use Rattle.drawing_cnf.specs.Expected.{drawing_vars, laws_first, base_clauses, expected_clauses, expected_size, instances, ModelOf, Covers}
+use Rattle.drawing_cnf.specs.Expected.{drawing_vars, laws_first, base_clauses, expected_clauses, expected_size, instances, Covers}
 use Rattle.drawing_cnf.specs.Bounds.{IsExact, bound_clauses, bound_size, west_first}
-use Rattle.drawing_cnf.specs.Bounded.{Bound, bound, clauses_of_bound, size_of_bound, bounds_clauses, bounds_from, expected_bounds, expected, AreBehind, Tells, StandsAndTells, SoundWith}
+use Rattle.drawing_cnf.specs.Bounded.{Bound, bound, clauses_of_bound, size_of_bound, bounds_clauses, bounds_from, expected_bounds, expected, AreBehind, Tells, SoundWith}
 use Rattle.drawing_cnf.proofs.ThereLemmas.{AreVars}
 use Rattle.drawing_cnf.proofs.OverLemmas.{Read}
 use Rattle.drawing_cnf.proofs.InstanceLemmas.{AreInstances, laws_there, read_stays}

@@ -1,12 +1,11 @@
 -- The bound of the diagonal is exact, and each drawing extends to it.
-use Rattle.std.proofs.Common.{◌≡◌, ◌⊎◌, ◌≢◌, ℕ, zero, suc, ◌+◌, ◌*◌, ◌≤◌, ◌<◌, Bool, true, false, not, List, [], ◌∷◌, ◌++◌, length, inl, inr, refl, sym, ◌∙◌, ap, subst, arith}
-use Rattle.std.specs.Prelude.{nat_le, min, cond, ◌&&◌, All}
-use Rattle.std.specs.List.{sum_by, range_with_len}
+use Rattle.std.proofs.Common.{◌≡◌, ◌⊎◌, ℕ, zero, suc, ◌+◌, ◌*◌, ◌≤◌, ◌<◌, Bool, true, false, not, List, [], ◌∷◌, ◌++◌, length, inl, inr, refl, sym, ◌∙◌, ap, subst, arith}
+use Rattle.std.specs.Prelude.{nat_le, min, cond, All}
+use Rattle.std.specs.List.{sum_by}
 use Rattle.std.proofs.lemmas.Bool.Decides.{nat_tests, leb_tells}
 use Rattle.std.proofs.lemmas.List.Sums.{sum_by-cons}
 use Rattle.std.proofs.lemmas.List.Elements.{All-nil, All-cons, All-head, All-tail, All-weaker}
 use Rattle.plan_core.specs.declared.point.Point.{Point}
-use Rattle.plan_core.specs.declared.point.Slope.TheVariants.{Level}
 use Rattle.plan_core.specs.Grid.{GridSize}
 use Rattle.plan_core.specs.Graph.{Graph, edge}
 use Rattle.plan_core.specs.Line.{east_end, slope_west, slope_east, bends, diagonal, height}
@@ -20,10 +19,9 @@ use Rattle.cnf_core.specs.LitOrTruth.{yes, flip, value, SomeTrue, AreWithin, cla
 use Rattle.cnf_core.proofs.ClauseLemmas.{satisfies_append, satisfies_left, satisfies_right, there_more, all_there_append, all_there_more}
 use Rattle.cnf_core.proofs.GatherLemmas.{clause_holds, clause_there}
 use Rattle.cnf_core.proofs.SettingLemmas.{same_none, patch, patch_same, extends_both, extends_weaker, extends_clauses}
-use Rattle.unary_sum.specs.Sum.{SumVars, sum_vars, sum_count, sum_clauses, sum_outputs, count_true, sum_at_least as sum_at_least}
+use Rattle.unary_sum.specs.Sum.{SumVars, sum_count, sum_clauses, sum_outputs, count_true, sum_at_least as sum_at_least}
 use Rattle.unary_sum.proofs.SumLemmas.{sum_means, sum_extends, sum_there}
 use Rattle.unary_sum.proofs.OutputLemmas.{sum_outputs_true, sum_outputs_there}
-use Rattle.edge_lines.specs.Columns.{is_up, is_down}
 use Rattle.edge_lines.proofs.StepLemmas.{up_diagonal, down_diagonal}
 use Rattle.edge_lines.proofs.GridLemmas.{heights_on_grid}
 use Rattle.edge_lines.proofs.RunLemmas.{one_if}
@@ -31,13 +29,12 @@ use Rattle.edge_lines.proofs.DiagonalSteps.{diagonal_steps}
 use Rattle.edge_shape.specs.EdgeVars.{EdgeLits}
 use Rattle.drawing_cnf.specs.Stands.{DrawingVars, IsLoose}
 use Rattle.drawing_cnf.specs.Bounds.{IsExact, step_lits, steps_sum, gives_output, steps_beside, edge_steps, edges_steps, edges_outputs, edges_count, edge_most, sum_bound, diagonal_sum, diagonal_bound, diagonal_bound_size}
-use Rattle.drawing_cnf.proofs.GuardLemmas.{Is, some_to}
+use Rattle.drawing_cnf.proofs.GuardLemmas.{some_to}
 use Rattle.drawing_cnf.proofs.OverLemmas.{Read}
 use Rattle.drawing_cnf.proofs.ThereLemmas.{AreVars, EdgeThere, vars_more}
 use Rattle.drawing_cnf.proofs.InstanceLemmas.{read_stays}
 use Rattle.drawing_cnf.proofs.BoundLemmas.{set_bound, sum_bound_means, sum_bound_extends, sum_bound_there, output_within, AreEdges, sum_over_lines}
 use Rattle.drawing_cnf.proofs.BendsBound.{line_bends}
-use Rattle.drawing_cnf.proofs.HeightBound.{both_within}
 use Rattle.drawing_cnf.proofs.DiagonalLines.{west_diagonal, east_diagonal, bent_diagonal, low_diagonal, count_steps}
 
 -- ONE EDGE
@@ -115,7 +112,7 @@ beside_holds v g x grid d e s r lt tells =
     (two_output v s i.first_bend i.second_bend n tells (λ a b. bent_diagonal l (r.loose.joins e lt).shape (two_bends (v i.first_bend) (v i.second_bend) (bends l) (line_bends v g x grid d e r lt) a b)))
 
 -- where the variables lie
-steps_there : (vars : ℕ) (e : EdgeLits) (width c n : ℕ) → EdgeThere vars e width → c + n ≤ width → AreThere vars (step_lits e c n)
+pub steps_there : (vars : ℕ) (e : EdgeLits) (width c n : ℕ) → EdgeThere vars e width → c + n ≤ width → AreThere vars (step_lits e c n)
 steps_there vars e width c zero t le = tt
 steps_there vars e width c (suc n) t le = (t.up c (omega arith), (t.down c (omega arith), steps_there vars e width (c + 1) n t (omega arith)))
 
@@ -189,7 +186,7 @@ outputs_true v g x grid d most vars (e ∷ es) r there h =
     let rest = outputs_true v g x grid d most next es r (All-tail (λ e. e < length g.edges) e es there) (satisfies_right v one more h) in
     omega (arith, cons, here, rest, true_append v (sum_outputs s) (edges_outputs x grid.width most next es))
 
-outputs_there : (vars : ℕ) (g : Graph) (x : DrawingVars) (width most : ℕ) (es : List ℕ) → AreVars vars g x width → All (λ e. e < length g.edges) es → AreThere (vars + edges_count x width most vars es) (edges_outputs x width most vars es)
+pub outputs_there : (vars : ℕ) (g : Graph) (x : DrawingVars) (width most : ℕ) (es : List ℕ) → AreVars vars g x width → All (λ e. e < length g.edges) es → AreThere (vars + edges_count x width most vars es) (edges_outputs x width most vars es)
 outputs_there vars g x width most [] a there = tt
 outputs_there vars g x width most (e ∷ es) a there =
     let s = steps_sum (x.edge e) width most vars in

@@ -1,6 +1,6 @@
 -- Lists of literals as they grow, and the long clause of height as the literals that it is.
-use Rattle.std.proofs.Common.{◌≡◌, ℕ, zero, suc, ◌+◌, ◌-◌, ◌*◌, ◌≤◌, ◌<◌, true, false, List, [], ◌∷◌, ◌++◌, map, length, get_or, drop, inl, inr, refl, sym, ◌∙◌, ap, subst, arith, append_assoc, append-nil, length-append}
-use Rattle.std.specs.Prelude.{nat_eq, nat_le, nat_lt}
+use Rattle.std.proofs.Common.{◌≡◌, ℕ, zero, suc, ◌+◌, ◌-◌, ◌*◌, ◌≤◌, ◌<◌, false, List, [], ◌∷◌, ◌++◌, map, length, get_or, drop, inl, inr, refl, sym, ◌∙◌, ap, subst, arith, append_assoc, append-nil, length-append}
+use Rattle.std.specs.Prelude.{nat_le, nat_lt}
 use Rattle.std.proofs.Math.Seq.{drop-cons}
 use Rattle.std.proofs.lemmas.Bool.Decides.{nat_tests, eqb_tells}
 use Rattle.std.proofs.lemmas.List.{map-append}
@@ -19,7 +19,7 @@ use Rattle.order_int.specs.OrderInt.{int_at_least}
 use Rattle.edge_shape.specs.EdgeVars.{EdgeLits, edge_lits, edge_size, height_first}
 use Rattle.edge_shape.proofs.PlaceLemmas.{blocks}
 use Rattle.drawing_cnf.specs.Stands.{DrawingVars}
-use Rattle.drawing_cnf.specs.Expected.{drawing_vars, edge_first, edges_first, laws_first}
+use Rattle.drawing_cnf.specs.Expected.{drawing_vars, edge_first, laws_first}
 use Rattle.drawing_cnf.proofs.BaseLemmas.{base_last, base_vars}
 use Rattle.drawing_cnf.proofs.BoundLemmas.{all_edges, edges_length}
 use Rattle.drawing_cnf.proofs.ThereLemmas.{vars_more}

@@ -13,9 +13,8 @@ use Rattle.plan_core.specs.Laws.{IsOnGrid}
 use Rattle.plan_core.specs.Values.{maximum}
 use Rattle.plan_core.proofs.LimitLemmas.{maximum-le, All-flat_map}
 use Rattle.cnf_core.specs.Clause.{Clauses, AllThere}
-use Rattle.cnf_core.specs.declared.literal.LitOrTruth.{LitOrTruth}
 use Rattle.cnf_core.specs.Assignment.{Assignment, SatisfiesAll, Extends}
-use Rattle.cnf_core.specs.LitOrTruth.{yes, flip, value, SomeTrue, AreWithin, clause_of}
+use Rattle.cnf_core.specs.LitOrTruth.{yes, flip, value, SomeTrue, AreWithin}
 use Rattle.cnf_core.specs.Formula.{each}
 use Rattle.cnf_core.proofs.ClauseLemmas.{first_or_later, satisfies_append, satisfies_left, satisfies_right, satisfies_each, satisfies_at, all_there_append, all_there_each}
 use Rattle.cnf_core.proofs.GatherLemmas.{value-flip, flip_within, clause_holds, clause_there}

@@ -1,5 +1,5 @@
 -- The formula with bounds behind it: one list for a graph, a grid, and the criteria that are bounded in an order, each with its cap.
-use Rattle.std.specs.Prelude.{◌≤◌, ⊤, ℕ, ◌+◌, Bool, cond, nat_eq, List, [], ◌∷◌, ◌++◌, All}
+use Rattle.std.specs.Prelude.{◌≡◌, ◌≤◌, ⊤, ℕ, ◌+◌, Bool, cond, nat_eq, List, [], ◌∷◌, ◌++◌, All, Contains}
 use Rattle.std.specs.List.{flat_map}
 use Rattle.plan_core.specs.declared.criterion.Criterion.{Criterion}
 use Rattle.plan_core.specs.declared.criterion.Values.{Values}
@@ -8,6 +8,7 @@ use Rattle.plan_core.specs.Graph.{Graph}
 use Rattle.plan_core.specs.Drawing.{Drawing}
 use Rattle.plan_core.specs.Values.{values_of, value_of}
 use Rattle.plan_core.specs.Lawful.{Lawful}
+use Rattle.cnf_core.specs.Lit.{Literal}
 use Rattle.cnf_core.specs.Clause.{Clauses}
 use Rattle.cnf_core.specs.Assignment.{Assignment, SatisfiesAll}
 use Rattle.drawing_cnf.specs.Stands.{DrawingVars, StandsFor}
@@ -68,3 +69,21 @@ pub record StandsAndTells (v : Assignment) (g : Graph) (above : ℕ → ℕ → 
 
 abbrev pub SoundWith : Graph → (ℕ → ℕ → Bool) → GridSize → DrawingVars → Clauses → List Bound → Type 0
 SoundWith g above grid x clauses bounds = (v : Assignment) → SatisfiesAll v clauses → StandsAndTells v g above grid x bounds
+
+-- an assignment that satisfies the clauses and stands for the drawing, and whose bounds tell its values
+pub record TellingModel (g : Graph) (x : DrawingVars) (clauses : Clauses) (bounds : List Bound) (d : Drawing) : Type 0 where
+  pub to : Assignment
+  pub satisfies : SatisfiesAll to clauses
+  pub stands : StandsFor to g x d
+  pub tells : Tells to (values_of d) bounds
+
+abbrev pub CoversWith : Graph → (ℕ → ℕ → Bool) → GridSize → DrawingVars → Clauses → List Bound → Type 0
+CoversWith g above grid x clauses bounds = (d : Drawing) → Lawful g above grid d → TellingModel g x clauses bounds d
+
+-- the variable stands in one of the clauses
+pub record StandsIn (clauses : Clauses) (x : ℕ) : Type 0 where
+  pub clause : List Literal
+  pub among : Contains clauses clause
+  pub literal : Literal
+  pub inside : Contains clause literal
+  pub variable : literal.var ≡ x

@@ -1,7 +1,7 @@
 //! The formula of a drawing: its models stand for exactly the lawful drawings of a track graph.
 //!
 //! `encode` makes the formula of a graph on a grid. Each node has two integers, its column and its
-//! row, with variables by the node's place from west to east (`rank`); each edge has the variables and
+//! row, with variables by the node's place from west to east (`west_rank`); each edge has the variables and
 //! clauses of `edge_shape`, which give the laws on the grid and on ends of lines; the laws on order,
 //! slopes, distinct points and edges above each other have clauses of their own, one function each
 //! (`order`, `aligned`, `over`), for one node or one pair, with literals of which one may be true
@@ -9,11 +9,15 @@
 //! definition that computes, with `Sound` and `Covers`; `specs/Stands` says when an assignment stands
 //! for a drawing, `specs/LawClauses` has the clauses of each law, `specs/Guards` the order with guards
 //! that four of them share. `specs/Bounds` has the clauses of the criteria's bounds, `specs/Bounded` the
-//! formula with them; `height_bound`, `width_bound` and `sum_bounds` add them, `west_first` has the
-//! order of the edges in a sum. The crate stands on `edge_shape`, `port_graph` and `track_order`.
+//! formula with them; `criterion_bound` (`adding`) adds one behind a whole formula (`specs/Whole`), by
+//! `bounds` and the file of each criterion: `height_bound`, `width_bound`, `sum_bounds` and
+//! `diagonal_bound`. `west_first` has the order of the edges in a sum. The crate stands on `edge_shape`, `port_graph` and `track_order`.
 #![tactic(auto)]
 
+mod adding;
 mod aligned;
+mod bounds;
+mod diagonal_bound;
 mod edge_laws;
 mod encoded;
 mod guards;
@@ -31,6 +35,7 @@ mod west_first;
 mod whole;
 mod width_bound;
 
+pub use adding::{Bounds, criterion_bound};
 pub use encoded::{Encoded, encode};
 pub use one_law::{add_aligned_law, add_apart_law, add_ordered_law, add_over_law, add_parted_law};
 pub use values::greatest;

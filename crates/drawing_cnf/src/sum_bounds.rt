@@ -9,7 +9,7 @@ ghost use Rattle.cnf_core.specs.Added.{AddsClauses, AddsBlock};
 ghost use Rattle.unary_sum.specs.Part.{IsLit};
 ghost use Rattle.unary_sum.specs.Sum.{sum_vars, sum_count, sum_at_least};
 ghost use Rattle.drawing_cnf.specs.Expected.{drawing_vars, laws_first};
-ghost use Rattle.drawing_cnf.specs.Bounds.{same_as, sum_bound, bend_lits, bends_bound, bends_bound_size, west_first};
+ghost use Rattle.drawing_cnf.specs.Bounds.{same_as, sum_bound, bend_lits, bends_sum, bends_bound, bends_bound_size, west_first};
 
 use crate::edge_laws::edge_vars;
 use crate::guards::same;
@@ -81,24 +81,26 @@ fn add_outputs(f: &mut Formula, s: &Sum, cap: u32, last: u32) -> Result<(), CnfF
     Ok(())
 }
 
-/// A sum, and the bound's variables as its outputs.
-fn add_sum_bound(
+/// A sum, and the bound's variables as its outputs; answers the sum.
+pub(crate) fn add_sum_bound(
     alloc: Global,
     f: &mut Formula,
     inputs: &[Lit],
     cap: u32,
     last: u32,
-) -> Result<(), CnfFault>
+) -> Result<Sum, CnfFault>
     requires limit { f.old.vars ≤ VARS }
     requires inputs { AreThere f.old.vars inputs.now }
     requires few { length inputs.now ≤ 65535 }
     requires cap { cap ≤ 65535 }
     requires before { last + cap ≤ f.old.vars }
-    ensures { let s = sum_vars inputs.now cap f.old.vars in AddsBlock result f.old f.new (sum_count s) (sum_bound s last) 3 }
+    ensures sum { IfOk result (λ s. s ≡ sum_vars inputs.now cap f.old.vars) }
+    ensures adds { let s = sum_vars inputs.now cap f.old.vars in AddsBlock result f.old f.new (sum_count s) (sum_bound s last) 3 }
 {
     let sum = Sum::build(alloc, f, inputs, cap)?;
     let _ = f.vars();
-    add_outputs(f, &sum, cap, last)
+    add_outputs(f, &sum, cap, last)?;
+    Ok(sum)
 }
 
 /// The bend literals of edges.
@@ -120,7 +122,7 @@ fn bend_literals(
     Ok(lits)
 }
 
-/// The bound of bends, whose variables are those behind the last one.
+/// The bound of bends, whose variables are those behind the last one; answers its sum.
 pub(crate) fn add_bends_bound(
     alloc: Global,
     f: &mut Formula,
@@ -128,11 +130,12 @@ pub(crate) fn add_bends_bound(
     grid: &Grid,
     edges: &[u16],
     cap: u32,
-) -> Result<(), CnfFault>
+) -> Result<Sum, CnfFault>
     requires there { laws_first g.now grid.now ≤ f.old.vars + 1 }
     requires edges { edges.now ≡ west_first g.now }
     requires cap { cap ≤ 65535 }
-    ensures { AddsBlock result f.old f.new (bends_bound_size (drawing_vars g.now grid.now) edges.now f.old.vars cap) (bends_bound (drawing_vars g.now grid.now) edges.now f.old.vars cap) 3 }
+    ensures sum { IfOk result (λ s. s ≡ bends_sum (drawing_vars g.now grid.now) edges.now f.old.vars cap) }
+    ensures adds { AddsBlock result f.old f.new (bends_bound_size (drawing_vars g.now grid.now) edges.now f.old.vars cap) (bends_bound (drawing_vars g.now grid.now) edges.now f.old.vars cap) 3 }
 {
     let _ = (g.nodes(), grid.width());
     let last = f.vars();

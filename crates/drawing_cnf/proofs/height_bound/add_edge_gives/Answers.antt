@@ -1,5 +1,5 @@
-use Rattle.std.proofs.Common.{rules, length, arith, [], ◌∷◌, ◌++◌, ◌+◌, ◌*◌, ◌∙◌, ap}
-use Rattle.cnf_core.proofs.StepLemmas.{adds_refused, adds_after, adds_longer}
+use Rattle.std.proofs.Common.{rules, ◌+◌}
+use Rattle.cnf_core.proofs.StepLemmas.{adds_refused, adds_after}
 use Rattle.cnf_core.specs.Formula.{each}
 use Rattle.edge_shape.specs.EdgeVars.{edge_spot}
 use Rattle.drawing_cnf.specs.Expected.{edge_first, drawing_vars}

@@ -1,5 +1,5 @@
-use Rattle.std.proofs.Common.{rules, length, arith, [], ◌∷◌, ◌++◌, ◌+◌, ◌*◌, ◌∙◌, ap}
-use Rattle.cnf_core.proofs.StepLemmas.{adds_refused, adds_after, adds_longer}
+use Rattle.std.proofs.Common.{rules, ◌∙◌, ap}
+use Rattle.cnf_core.proofs.StepLemmas.{adds_refused, adds_after}
 use Rattle.cnf_core.specs.LitOrTruth.{yes}
 use Rattle.edge_shape.specs.EdgeVars.{EdgeSpot, lits_of}
 use Rattle.plan_core.specs.Graph.{edge}

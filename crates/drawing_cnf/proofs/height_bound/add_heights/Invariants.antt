@@ -1,4 +1,4 @@
-use Rattle.std.specs.Prelude.{◌+◌, length}
+use Rattle.std.specs.Prelude.{◌+◌}
 use Rattle.cnf_core.specs.Formula.{each}
 use Rattle.cnf_core.proofs.StepLemmas.{IsAdding}
 use Rattle.drawing_cnf.specs.Expected.{drawing_vars}

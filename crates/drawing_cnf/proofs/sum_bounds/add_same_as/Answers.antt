@@ -1,5 +1,5 @@
-use Rattle.std.proofs.Common.{rules, length, arith, [], ◌∷◌, ◌++◌, ◌+◌, ◌*◌, ◌∙◌, ap}
-use Rattle.cnf_core.proofs.StepLemmas.{adds_refused, adds_after, adds_longer}
+use Rattle.std.proofs.Common.{rules, [], ◌∷◌}
+use Rattle.cnf_core.proofs.StepLemmas.{adds_refused, adds_after}
 use Rattle.cnf_core.specs.LitOrTruth.{yes, flip, clause_of}
 use Rattle.drawing_cnf.proofs.sum_bounds.add_same_as.Goals as goal
 

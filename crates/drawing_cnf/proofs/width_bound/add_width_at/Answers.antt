@@ -1,4 +1,4 @@
-use Rattle.std.proofs.Common.{rules, length, arith, [], ◌∷◌, ◌++◌, ◌+◌, ◌*◌, ◌∙◌, ap}
+use Rattle.std.proofs.Common.{rules, length, arith, ◌+◌}
 use Rattle.cnf_core.proofs.StepLemmas.{adds_refused, adds_after, adds_longer}
 use Rattle.cnf_core.specs.Formula.{each}
 use Rattle.drawing_cnf.specs.Expected.{drawing_vars}
