@@ -15,9 +15,9 @@ use Rattle.schematic_main.specs.Fault.{IsFaultLine}
 use Rattle.schematic_main.specs.Input.{IsLong, IsShort, HasFileFault}
 use Rattle.schematic_main.specs.Met.{FilesAt, Met, between}
 use Rattle.schematic_main.specs.Reading.{IsOfFile, IsInput, IsRefusalOf}
-use Rattle.schematic_main.specs.Answer.{InputFile, text_input, IsFileJudged, IsAnswerOn}
+use Rattle.schematic_main.specs.Answer.{InputFile, text_input, IsFileJudged, IsAnswerAfter, IsAnswerOn}
 use Rattle.schematic_main.proofs.InputLemmas.{short_or_long}
-use Rattle.schematic_main.proofs.MetLemmas.{fails_later}
+use Rattle.schematic_main.proofs.MetLemmas.{read_later, fails_later}
 
 -- ---- what was read
 
@@ -50,12 +50,12 @@ read_on input done met Answers bytes status text is answer = inl (bytes, is.is_f
 
 -- the first input, with a fault or one that couldn't be read, is answered with that
 pub refused_on : (Answers : Graph → EdgeOrder → Status → List ℕ → Type 0) (name : List ℕ) (met : Met) (r : Refusal) (fault : RunFault) (status : Status) (text : List ℕ) →
-    IsRefusalOf name met r → r ≡ refusals.Fault fault → IsFaultLine fault status text → IsAnswerOn (text_input 1 name) 0 met (IsFileJudged Answers) status text
-refused_on Answers name met (refusals.Fault other) fault status text (inl (bytes, is, has)) same told =
+    IsRefusalOf name met r → r ≡ refusals.Fault fault → IsFaultLine fault status text → IsAnswerOn (text_input 1 name) 0 met (IsAnswerAfter 1 met (IsFileJudged Answers)) status text
+refused_on Answers name met (refusals.Fault other) fault status text (inl ((bytes, is, has), read)) same told =
     let here : HasFileFault bytes fault = subst (λ (f : RunFault). HasFileFault bytes f) (cc) has in
     elim (short_or_long bytes fault here) [
-      | inl (long, named) ↦ inl (bytes, is, inl (long, subst (λ (f : RunFault). IsFaultLine f status text) named told))
-      | inr short ↦ inl (bytes, is, inr (short, inr (record { fault = fault; has = here; told = told })))
+      | inl (long, named) ↦ inl (bytes, is, inl (long, read, subst (λ (f : RunFault). IsFaultLine f status text) named told))
+      | inr short ↦ inl (bytes, is, inr (short, (read, inr (record { fault = fault; has = here; told = told }))))
     ]
 refused_on Answers name met (refusals.Fault other) fault status text (inr (failed, named)) same told =
     let here : fault ≡ ReadFailed 1 = cc in
@@ -73,6 +73,9 @@ told_before (Some before) (Some after) name bytes same is = sym (same name) ∙ 
 -- so what is answered on the files after a read is answered on those before it
 pub answer_before : (input : InputFile) (old mid new : FilesAt) (Answers : List ℕ → Status → List ℕ → Type 0) (status : Status) (text : List ℕ) →
     WhereTold old.contents mid.contents SameFiles → old.read_faults ≤ mid.read_faults → mid.reads ≡ next_count old.reads →
-    IsAnswerOn input 0 (between mid new) Answers status text → IsAnswerOn input 1 (between old new) Answers status text
-answer_before input old mid new Answers status text same later one (inl (bytes, is, answer)) = inl (bytes, told_before old.contents mid.contents input.name bytes same is, answer)
+    IsAnswerOn input 0 (between mid new) (IsAnswerAfter 1 (between mid new) Answers) status text → IsAnswerOn input 1 (between old new) (IsAnswerAfter 2 (between old new) Answers) status text
+answer_before input old mid new Answers status text same later one (inl (bytes, is, inl (long, read, told))) =
+    inl (bytes, told_before old.contents mid.contents input.name bytes same is, inl (long, read_later 1 old mid new one read, told))
+answer_before input old mid new Answers status text same later one (inl (bytes, is, inr (short, (read, answer)))) =
+    inl (bytes, told_before old.contents mid.contents input.name bytes same is, inr (short, (read_later 1 old mid new one read, answer)))
 answer_before input old mid new Answers status text same later one (inr (fails, told)) = inr (fails_later old mid new later one fails, told)

@@ -21,7 +21,7 @@ use Rattle.schematic_main.specs.Fault.{fault_status}
 use Rattle.schematic_main.specs.Input.{IsLong, IsShort, HasStation, HasFileFault}
 use Rattle.schematic_main.specs.Met.{Met, ReadFails}
 use Rattle.schematic_main.specs.Verdict.{IsVerdict, IsSheetJudged, IsSoundSheet}
-use Rattle.schematic_main.specs.Answer.{InputFile, text_input, Job, job, IsBuilt, IsDrawAnswer, IsPrinted, IsFileJudged, IsVerified, IsAnswerOn}
+use Rattle.schematic_main.specs.Answer.{InputFile, text_input, Job, job, IsBuilt, IsDrawAnswer, IsPrinted, IsFileJudged, IsVerified, IsAnswerAfter, IsAnswerOn}
 use Rattle.schematic_main.specs.Commands.{Owes, ends_of, HasSoundFile, AreSound}
 use Rattle.schematic_main.specs.Run.{Asks, IsDue, FailsIn, Leaves}
 
@@ -40,7 +40,7 @@ file_fault_status bytes (ReadFailed input) has = absurd has
 
 on_input : (P : Status → Type 0) (input : InputFile) (done : ℕ) (met : Met) (Answers : List ℕ → Status → List ℕ → Type 0) (status : Status) (text : List ℕ) →
     P Refused → (ReadFails met done → P Unread) → ((bytes : List ℕ) → Answers bytes status text → P status) → IsAnswerOn input done met Answers status text → P status
-on_input P input done met Answers status text refused unread answers (inl (bytes, is, inl (long, told))) = subst P (sym told.status_is) refused
+on_input P input done met Answers status text refused unread answers (inl (bytes, is, inl (long, read, told))) = subst P (sym told.status_is) refused
 on_input P input done met Answers status text refused unread answers (inl (bytes, is, inr (short, answer))) = answers bytes answer
 on_input P input done met Answers status text refused unread answers (inr (fails, told)) = subst P (sym told.status_is) (unread fails)
 
@@ -64,17 +64,17 @@ on_sheet P g o sheet status text done broken refused (inr r) = subst P (sym r.to
 on_command : (P : Status → Type 0) (command : Command) (met : Met) (status : Status) (text : List ℕ) → P Done → P Broken → P Refused → (FailsIn command met → P Unread) → Owes command met status text → P status
 on_command P (Draw input grid order budget svg log) met status text done broken refused unread owes =
     let asked = job grid order svg log in
-    on_input P (text_input 1 input) 0 met (IsFileJudged (IsDrawAnswer asked)) status text refused (λ fails. unread (0, lit< tt, fails))
-    (λ bytes. on_file P (IsDrawAnswer asked) bytes status text refused (λ g o. on_drawing P asked g o status text done refused))
+    on_input P (text_input 1 input) 0 met (IsAnswerAfter 1 met (IsFileJudged (IsDrawAnswer asked))) status text refused (λ fails. unread (0, lit< tt, fails))
+    (λ bytes answer. on_file P (IsDrawAnswer asked) bytes status text refused (λ g o. on_drawing P asked g o status text done refused) answer.1)
     owes
 on_command P (PrintGraph input) met status text done broken refused unread owes =
-    on_input P (text_input 1 input) 0 met (IsFileJudged IsPrinted) status text refused (λ fails. unread (0, lit< tt, fails))
-    (λ bytes. on_file P IsPrinted bytes status text refused (λ g o printed. subst P (sym printed.status_is) done))
+    on_input P (text_input 1 input) 0 met (IsAnswerAfter 1 met (IsFileJudged IsPrinted)) status text refused (λ fails. unread (0, lit< tt, fails))
+    (λ bytes answer. on_file P IsPrinted bytes status text refused (λ g o printed. subst P (sym printed.status_is) done) answer.1)
     owes
 on_command P (Verify input sheet) met status text done broken refused unread owes =
-    on_input P (text_input 1 input) 0 met (λ bytes. IsAnswerOn (text_input 2 sheet) 1 met (IsVerified bytes)) status text refused (λ fails. unread (0, lit< tt, fails))
-    (λ bytes. on_input P (text_input 2 sheet) 1 met (IsVerified bytes) status text refused (λ fails. unread (1, lit< tt, fails))
-    (λ drawn. on_file P (λ g o. IsSheetJudged g o drawn) bytes status text refused (λ g o. on_sheet P g o drawn status text done broken refused)))
+    on_input P (text_input 1 input) 0 met (λ bytes. IsAnswerOn (text_input 2 sheet) 1 met (IsAnswerAfter 2 met (IsVerified bytes))) status text refused (λ fails. unread (0, lit< tt, fails))
+    (λ bytes. on_input P (text_input 2 sheet) 1 met (IsAnswerAfter 2 met (IsVerified bytes)) status text refused (λ fails. unread (1, lit< tt, fails))
+    (λ drawn answer. on_file P (λ g o. IsSheetJudged g o drawn) bytes status text refused (λ g o. on_sheet P g o drawn status text done broken refused) answer.1))
     owes
 on_command P (Check input sheet log) met status text done broken refused unread told = subst P (sym told.status_is) refused
 on_command P (Make n) met status text done broken refused unread told = subst P (sym told.status_is) refused
@@ -106,7 +106,7 @@ too_long limit bytes short long = omega (arith, short, long)
 -- an answer on an input that was read and isn't too long is one to its bytes
 within_on : (input : InputFile) (done : ℕ) (met : Met) (bytes : List ℕ) (Answers : List ℕ → Status → List ℕ → Type 0) (status : Status) (text : List ℕ) →
     TellsAt met.before.contents input.name (Some bytes) → (IsLong input.limit bytes → ⊥) → (ReadFails met done → ⊥) → IsAnswerOn input done met Answers status text → Answers bytes status text
-within_on input done met bytes Answers status text there few read (inl (others, is, inl (long, told))) =
+within_on input done met bytes Answers status text there few read (inl (others, is, inl (long, done_all, told))) =
     absurd (few (subst (IsLong input.limit) (told_once met.before.contents input.name bytes others there is) long))
 within_on input done met bytes Answers status text there few read (inl (others, is, inr (short, answer))) =
     subst (λ (xs : List ℕ). Answers xs status text) (told_once met.before.contents input.name bytes others there is) answer
@@ -140,18 +140,18 @@ sheet_status g o sheet status text sound (inr refused) = absurd (sound.sound ref
 sound_ends : (command : Command) (met : Met) (status : Status) (text : List ℕ) → AreSound command met.before.contents → (FailsIn command met → ⊥) → Owes command met status text → ends_of command status
 sound_ends (Draw input grid order budget svg log) met status text (file, built) read owes =
     let asked = job grid order svg log in
-    let judged = first_on input met file (IsFileJudged (IsDrawAnswer asked)) status text (λ fails. read (0, lit< tt, fails)) owes in
-    let found = sound_judged (IsDrawAnswer asked) file.bytes status text file.sound judged in
+    let judged = first_on input met file (IsAnswerAfter 1 met (IsFileJudged (IsDrawAnswer asked))) status text (λ fails. read (0, lit< tt, fails)) owes in
+    let found = sound_judged (IsDrawAnswer asked) file.bytes status text file.sound judged.1 in
     drawn_is_done found.0 found.1 asked status text (built found.0 found.1 found.2) found.3
 sound_ends (PrintGraph input) met status text file read owes =
-    let judged = first_on input met file (IsFileJudged IsPrinted) status text (λ fails. read (0, lit< tt, fails)) owes in
-    let found = sound_judged IsPrinted file.bytes status text file.sound judged in
+    let judged = first_on input met file (IsAnswerAfter 1 met (IsFileJudged IsPrinted)) status text (λ fails. read (0, lit< tt, fails)) owes in
+    let found = sound_judged IsPrinted file.bytes status text file.sound judged.1 in
     found.3.status_is
 sound_ends (Verify input sheet) met status text (file, drawn) read owes =
-    let both = first_on input met file (λ bytes. IsAnswerOn (text_input 2 sheet) 1 met (IsVerified bytes)) status text (λ fails. read (0, lit< tt, fails)) owes in
+    let both = first_on input met file (λ bytes. IsAnswerOn (text_input 2 sheet) 1 met (IsAnswerAfter 2 met (IsVerified bytes))) status text (λ fails. read (0, lit< tt, fails)) owes in
     let verified =
-    within_on (text_input 2 sheet) 1 met drawn.bytes (IsVerified file.bytes) status text drawn.there (too_long MAX_FILE_BYTES drawn.bytes drawn.short) (λ fails. read (1, lit< tt, fails)) both in
-    let found = sound_judged (λ g o. IsSheetJudged g o drawn.bytes) file.bytes status text file.sound verified in
+    within_on (text_input 2 sheet) 1 met drawn.bytes (IsAnswerAfter 2 met (IsVerified file.bytes)) status text drawn.there (too_long MAX_FILE_BYTES drawn.bytes drawn.short) (λ fails. read (1, lit< tt, fails)) both in
+    let found = sound_judged (λ g o. IsSheetJudged g o drawn.bytes) file.bytes status text file.sound verified.1 in
     sheet_status found.0 found.1 drawn.bytes status text (drawn.sound found.0 (found.1, found.2)) found.3
 sound_ends (Check input sheet log) met status text sound read owes = absurd sound
 sound_ends (Make n) met status text sound read owes = absurd sound

@@ -2,7 +2,7 @@
 use Rattle.std.proofs.Common.{◌≡◌, ℕ, zero, suc, ◌≤◌, refl, ◌∙◌, ap, arith}
 use Rattle.std.specs.Prelude.{Result, Ok, Err, OnOk, OnErr}
 use Rattle.outside_io.specs.Counts.{next_count, rose_by}
-use Rattle.schematic_main.specs.Met.{FilesAt, Met, between, ReadFails, ReadsInputs}
+use Rattle.schematic_main.specs.Met.{FilesAt, Met, between, HasRead, ReadFails, ReadsInputs}
 
 rose_by-next : (more n : ℕ) → rose_by more (next_count n) ≡ next_count (rose_by more n)
 rose_by-next zero n = refl
@@ -35,6 +35,10 @@ reads_some most inputs All met few not_all reads =
 pub reads_less : (inputs : ℕ) (All Fewer : Type 0) (met : Met) → (Fewer → All) → ReadsInputs inputs All met → ReadsInputs inputs Fewer met
 reads_less inputs All Fewer met weaker reads = record { number = reads.number; within = reads.within; once = reads.once; all = λ h. reads.all (weaker h) }
 
+-- the reads after another one
+pub read_later : (done : ℕ) (old mid new : FilesAt) → mid.reads ≡ next_count old.reads → HasRead (between mid new) done → HasRead (between old new) (suc done)
+read_later done old mid new one read = read ∙ ap (λ (n : ℕ). rose_by done n) one ∙ rose_by-next done old.reads
+
 -- an input was read before the others
 pub reads_more : (inputs : ℕ) (All : Type 0) (old mid new : FilesAt) → mid.reads ≡ next_count old.reads → ReadsInputs inputs All (between mid new) → ReadsInputs (suc inputs) All (between old new)
 reads_more inputs All old mid new one reads =
@@ -42,7 +46,7 @@ reads_more inputs All old mid new one reads =
     record {
       number = suc reads.number;
       within = omega (arith, within);
-      once = reads.once ∙ ap (λ (n : ℕ). rose_by reads.number n) one ∙ rose_by-next reads.number old.reads;
+      once = read_later reads.number old mid new one reads.once;
       all = λ h. ap suc (reads.all h);
     }
 

@@ -1,6 +1,6 @@
 -- What is answered to an input, to a station and to a sheet: the status and the text that goes with it.
 -- specs/Commands says which of it each command owes.
-use Rattle.std.specs.Prelude.{◌≡◌, ◌≢◌, ℕ, ◌⊎◌, Bool, List, length, None, Some}
+use Rattle.std.specs.Prelude.{◌≡◌, ◌≢◌, ℕ, suc, ◌⊎◌, Bool, List, length, None, Some}
 use Rattle.std.specs.declared.option.Option.{Option}
 use Rattle.outside_io.specs.Contents.{IsFileWhereTold}
 use Rattle.plan_core.specs.declared.criterion.Criterion.{Criterion}
@@ -19,7 +19,7 @@ use Rattle.schematic_main.specs.declared.status.Status.{Status}
 use Rattle.schematic_main.specs.declared.status.Status.TheVariants.{Done}
 use Rattle.schematic_main.specs.Fault.{IsFaultLine}
 use Rattle.schematic_main.specs.Input.{IsLong, IsShort, HasStation, HasFileFault}
-use Rattle.schematic_main.specs.Met.{Met, ReadFails}
+use Rattle.schematic_main.specs.Met.{Met, HasRead, ReadFails}
 use Rattle.schematic_main.specs.Verdict.{IsSheetJudged}
 
 -- the text is the sheet of a drawing of this track graph that is lawful, with the drawing's own values,
@@ -108,14 +108,20 @@ input_file number name limit = record { number = number; name = name; limit = li
 abbrev pub text_input : (number : ℕ) → List ℕ → InputFile
 text_input number name = input_file number name MAX_FILE_BYTES
 
--- the input has more bytes than it may have and its line says so, or its bytes are answered like this
-abbrev pub IsAnswerWithin : InputFile → (List ℕ → Status → List ℕ → Type 0) → List ℕ → Status → List ℕ → Type 0
-IsAnswerWithin input Answers bytes status text =
-    (IsLong input.limit bytes × IsFaultLine (Long input.number) status text) ⊎ (IsShort input.limit bytes × Answers bytes status text)
+-- so many reads were done in all, and the bytes are answered like this
+abbrev pub IsAnswerAfter : (done : ℕ) → Met → (List ℕ → Status → List ℕ → Type 0) → List ℕ → Status → List ℕ → Type 0
+IsAnswerAfter done met Answers bytes status text = HasRead met done × Answers bytes status text
+
+-- the input, which is read after so many reads, has more bytes than it may have, its line says so and nothing is
+-- read after it; or its bytes are answered like this
+abbrev pub IsAnswerWithin : InputFile → (done : ℕ) → Met → (List ℕ → Status → List ℕ → Type 0) → List ℕ → Status → List ℕ → Type 0
+IsAnswerWithin input done met Answers bytes status text =
+    (IsLong input.limit bytes × HasRead met (suc done) × IsFaultLine (Long input.number) status text)
+    ⊎ (IsShort input.limit bytes × Answers bytes status text)
 
 -- so is the input answered, which is read after so many reads: as the file is that stands under its name, or the
 -- read failed
 abbrev pub IsAnswerOn : InputFile → (done : ℕ) → Met → (List ℕ → Status → List ℕ → Type 0) → Status → List ℕ → Type 0
 IsAnswerOn input done met Answers status text =
-    ((bytes : List ℕ) × IsFileWhereTold met.before.contents input.name bytes × IsAnswerWithin input Answers bytes status text)
+    ((bytes : List ℕ) × IsFileWhereTold met.before.contents input.name bytes × IsAnswerWithin input done met Answers bytes status text)
     ⊎ (ReadFails met done × IsFaultLine (ReadFailed input.number) status text)

@@ -16,7 +16,7 @@ use Rattle.schematic_main.specs.Fault.{IsFaultLine}
 use Rattle.schematic_main.specs.Input.{IsShort, HasStation, HasFileFault}
 use Rattle.schematic_main.specs.Verdict.{IsSoundSheet}
 use Rattle.schematic_main.specs.Met.{Met}
-use Rattle.schematic_main.specs.Answer.{InputFile, text_input, job, IsBuilt, IsDrawAnswer, IsPrinted, IsFileJudged, IsVerified, IsAnswerOn}
+use Rattle.schematic_main.specs.Answer.{InputFile, text_input, job, IsBuilt, IsDrawAnswer, IsPrinted, IsFileJudged, IsVerified, IsAnswerAfter, IsAnswerOn}
 
 -- the inputs that a command reads, in this order; check isn't built yet and reads none
 abbrev pub inputs_of : Command → List InputFile
@@ -43,13 +43,14 @@ TellsTrace (Check input sheet log) = ⊥
 TellsTrace (Make n) = ⊥
 
 -- what a command owes: with what it met, the status that it ends with and the text that it puts. verify reads
--- the file, and then the sheet, before it judges what they say. check and make aren't built yet
+-- the file, and then the sheet, before it judges what they say; draw and graph read the file alone. check and
+-- make aren't built yet
 abbrev pub Owes : Command → Met → Status → List ℕ → Type 0
 Owes (Draw input grid order budget svg log) met status text =
-    IsAnswerOn (text_input 1 input) 0 met (IsFileJudged (IsDrawAnswer (job grid order svg log))) status text
-Owes (PrintGraph input) met status text = IsAnswerOn (text_input 1 input) 0 met (IsFileJudged IsPrinted) status text
+    IsAnswerOn (text_input 1 input) 0 met (IsAnswerAfter 1 met (IsFileJudged (IsDrawAnswer (job grid order svg log)))) status text
+Owes (PrintGraph input) met status text = IsAnswerOn (text_input 1 input) 0 met (IsAnswerAfter 1 met (IsFileJudged IsPrinted)) status text
 Owes (Verify input sheet) met status text =
-    IsAnswerOn (text_input 1 input) 0 met (λ bytes. IsAnswerOn (text_input 2 sheet) 1 met (IsVerified bytes)) status text
+    IsAnswerOn (text_input 1 input) 0 met (λ bytes. IsAnswerOn (text_input 2 sheet) 1 met (IsAnswerAfter 2 met (IsVerified bytes))) status text
 Owes (Check input sheet log) met status text = IsFaultLine NotBuilt status text
 Owes (Make n) met status text = IsFaultLine NotBuilt status text
 

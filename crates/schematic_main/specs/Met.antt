@@ -30,21 +30,25 @@ abbrev pub met_on : {Self : Type 0} → (contents : Self → Option Told) → (r
 met_on contents read_faults write_faults reads old new =
     between (files_at contents read_faults write_faults reads old) (files_at contents read_faults write_faults reads new)
 
--- a read failed: the count of read faults rose, and so many reads had been done before
+-- so many reads were done
+abbrev pub HasRead : Met → ℕ → Type 0
+HasRead met done = met.after.reads ≡ rose_by done met.before.reads
+
+-- a read failed: the count of read faults rose, and so many reads were done
 pub record ReadFails (met : Met) (done : ℕ) : Type 0 where
   pub rose : Rose met.before.read_faults met.after.read_faults
-  pub reads_done : met.after.reads ≡ rose_by done met.before.reads
+  pub reads_done : HasRead met done
 
 -- nothing was read: neither the number of reads done nor the count of their faults rose
 pub record IsUnread (met : Met) : Type 0 where
   pub same_faults : met.after.read_faults ≡ met.before.read_faults
   pub same_reads : met.after.reads ≡ met.before.reads
 
--- of so many inputs the first ones were read, each once; and all of them where this holds
+-- no more reads were done than there are inputs, and so many where this holds
 pub record ReadsInputs (inputs : ℕ) (All : Type 0) (met : Met) : Type 0 where
   pub number : ℕ
   pub within : number ≤ inputs
-  pub once : met.after.reads ≡ rose_by number met.before.reads
+  pub once : HasRead met number
   pub all : All → number ≡ inputs
 
 -- no create and no append was tried: neither promises to leave the count of their faults as it was

@@ -8,7 +8,7 @@ use Rattle.schematic_main.specs.declared.fault.RunFault.TheVariants.{Long, ReadF
 use Rattle.schematic_main.specs.declared.input.Refusal.{Refusal}
 use Rattle.schematic_main.specs.declared.input.Refusal.TheVariants as refusals
 use Rattle.schematic_main.specs.Input.{IsLong, IsShort, HasStation, HasFileFault}
-use Rattle.schematic_main.specs.Met.{Met, ReadFails}
+use Rattle.schematic_main.specs.Met.{Met, HasRead, ReadFails}
 use Rattle.schematic_main.specs.Answer.{InputFile}
 
 -- the file of this name has this property, or contents aren't told and some bytes have it
@@ -20,18 +20,18 @@ pub record IsInput (input : InputFile) (contents : Option Told) (bytes : List �
   pub is_file : IsFileWhereTold contents input.name bytes
   pub short : IsShort input.limit bytes
 
--- the input is too long, or it couldn't be read
+-- the input was read and is too long, or it couldn't be read
 abbrev pub IsUnreadInput : InputFile → Met → Refusal → Type 0
 IsUnreadInput input met (refusals.Fault fault) =
-    (IsOfFile (IsLong input.limit) input.name met.before.contents × (fault ≡ Long input.number))
+    (IsOfFile (IsLong input.limit) input.name met.before.contents × HasRead met 1 × (fault ≡ Long input.number))
     ⊎ (ReadFails met 0 × (fault ≡ ReadFailed input.number))
 IsUnreadInput input met refusals.Memory = ⊤
 
 abbrev pub IsStationOf : List ℕ → Option Told → Graph → EdgeOrder → Type 0
 IsStationOf name contents g o = IsOfFile (λ bytes. HasStation bytes g o) name contents
 
--- the file has this fault, or it couldn't be read
+-- the file was read and has this fault, or it couldn't be read
 abbrev pub IsRefusalOf : List ℕ → Met → Refusal → Type 0
 IsRefusalOf name met (refusals.Fault fault) =
-    IsOfFile (λ bytes. HasFileFault bytes fault) name met.before.contents ⊎ (ReadFails met 0 × (fault ≡ ReadFailed 1))
+    (IsOfFile (λ bytes. HasFileFault bytes fault) name met.before.contents × HasRead met 1) ⊎ (ReadFails met 0 × (fault ≡ ReadFailed 1))
 IsRefusalOf name met refusals.Memory = ⊤

@@ -4,7 +4,7 @@ ghost use Rattle.outside_io.specs.Contents.{WhereTold, SameFiles};
 ghost use Rattle.track_order.specs.Order.{IsOrderOf};
 ghost use Rattle.schematic_main.specs.Status.{IsAnswered};
 ghost use Rattle.schematic_main.specs.Met.{met_on, ReadsInputs, IsUnread, IsUnwritten};
-ghost use Rattle.schematic_main.specs.Answer.{IsUnbuilt, job, IsDrawAnswer, IsPrinted, IsFileJudged, text_input, IsAnswerOn};
+ghost use Rattle.schematic_main.specs.Answer.{IsUnbuilt, job, IsDrawAnswer, IsPrinted, IsFileJudged, text_input, IsAnswerAfter, IsAnswerOn};
 ghost use Rattle.schematic_main.specs.Commands.{inputs_of, Owes};
 
 use crate::fault::RunFault;
@@ -75,7 +75,7 @@ fn draw<F: Files>(
     log: &Option<Text>,
     files: &mut F,
 ) -> Result<Reply, OutOfMemory>
-    ensures answer { IfOk result (λ r. IsAnswerOn (text_input 1 input.now) 0 (met_on F.contents F.read_faults F.write_faults F.reads files.old files.new) (IsFileJudged (IsDrawAnswer (job grid.now order.now svg.now log.now))) r.status r.text.items) }
+    ensures answer { IfOk result (λ r. IsAnswerOn (text_input 1 input.now) 0 (met_on F.contents F.read_faults F.write_faults F.reads files.old files.new) (IsAnswerAfter 1 (met_on F.contents F.read_faults F.write_faults F.reads files.old files.new) (IsFileJudged (IsDrawAnswer (job grid.now order.now svg.now log.now)))) r.status r.text.items) }
     ensures reads { ReadsInputs 1 (IsOkAnd result (λ r. IsAnswered r.status)) (met_on F.contents F.read_faults F.write_faults F.reads files.old files.new) }
     ensures unwritten { IsUnwritten (met_on F.contents F.read_faults F.write_faults F.reads files.old files.new) }
     ensures later { F.read_faults files.old ≤ F.read_faults files.new }
@@ -90,7 +90,7 @@ fn draw<F: Files>(
 
 /// What `graph` answers.
 fn print<F: Files>(alloc: Global, input: &Text, files: &mut F) -> Result<Reply, OutOfMemory>
-    ensures answer { IfOk result (λ r. IsAnswerOn (text_input 1 input.now) 0 (met_on F.contents F.read_faults F.write_faults F.reads files.old files.new) (IsFileJudged IsPrinted) r.status r.text.items) }
+    ensures answer { IfOk result (λ r. IsAnswerOn (text_input 1 input.now) 0 (met_on F.contents F.read_faults F.write_faults F.reads files.old files.new) (IsAnswerAfter 1 (met_on F.contents F.read_faults F.write_faults F.reads files.old files.new) (IsFileJudged IsPrinted)) r.status r.text.items) }
     ensures reads { ReadsInputs 1 (IsOkAnd result (λ r. IsAnswered r.status)) (met_on F.contents F.read_faults F.write_faults F.reads files.old files.new) }
     ensures unwritten { IsUnwritten (met_on F.contents F.read_faults F.write_faults F.reads files.old files.new) }
     ensures later { F.read_faults files.old ≤ F.read_faults files.new }

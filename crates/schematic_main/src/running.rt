@@ -82,7 +82,8 @@ pub fn run<F: Files, O: Sink, T: LogSink>(
     ensures write_fault { EndsAs result (λ status. status ≡ Status.Unwritten → WriteFails (texts_of words.now) (met_on F.contents F.read_faults F.write_faults F.reads files.old files.new) (Rose (O.faults out.old) (O.faults out.new)) (Rose (T.faults trace.old) (T.faults trace.new))) }
     ensures completes { EndsAs result (λ status. WhereAsked (texts_of words.now) (λ command. AreSound command (F.contents files.old) → ¬ FailsIn command (met_on F.contents F.read_faults F.write_faults F.reads files.old files.new) → ¬ WriteFails (texts_of words.now) (met_on F.contents F.read_faults F.write_faults F.reads files.old files.new) (Rose (O.faults out.old) (O.faults out.new)) (Rose (T.faults trace.old) (T.faults trace.new)) → ends_of command status ⊎ (status ≡ Status.NoMemory))) }
 
-    // Each input is read once, in turn, and nothing where the words ask for no command that reads a file.
+    // No run reads more often than its command has inputs, and nothing is read where the words ask for no command
+    // that reads a file. How many reads each answer comes after, `answer` says.
     ensures reads { EndsAs result (λ status. WhereAsked (texts_of words.now) (λ command. ReadsInputs (length (inputs_of command)) (IsAnswered status) (met_on F.contents F.read_faults F.write_faults F.reads files.old files.new))) }
     ensures unread { ReadsNothing (texts_of words.now) → IsUnread (met_on F.contents F.read_faults F.write_faults F.reads files.old files.new) }
 

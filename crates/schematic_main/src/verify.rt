@@ -5,7 +5,7 @@ ghost use Rattle.plan_words.specs.declared.command.Command.TheVariants.{Verify};
 ghost use Rattle.track_order.specs.Order.{IsOrderOf};
 ghost use Rattle.schematic_main.specs.Status.{IsAnswered};
 ghost use Rattle.schematic_main.specs.Met.{met_on, ReadsInputs, IsUnwritten};
-ghost use Rattle.schematic_main.specs.Answer.{IsVerified, text_input, IsAnswerOn};
+ghost use Rattle.schematic_main.specs.Answer.{IsVerified, text_input, IsAnswerAfter, IsAnswerOn};
 ghost use Rattle.schematic_main.specs.Commands.{Owes};
 ghost use Rattle.schematic_main.specs.Verdict.{IsSheetJudged};
 
@@ -53,7 +53,7 @@ fn verify_bytes<F: Files>(
     files: &mut F,
 ) -> Result<Reply, OutOfMemory>
     requires { length bytes.now ≤ MAX_FILE_BYTES }
-    ensures answer { IfOk result (λ r. IsAnswerOn (text_input 2 sheet.now) 0 (met_on F.contents F.read_faults F.write_faults F.reads files.old files.new) (IsVerified bytes.now) r.status r.text.items) }
+    ensures answer { IfOk result (λ r. IsAnswerOn (text_input 2 sheet.now) 0 (met_on F.contents F.read_faults F.write_faults F.reads files.old files.new) (IsAnswerAfter 1 (met_on F.contents F.read_faults F.write_faults F.reads files.old files.new) (IsVerified bytes.now)) r.status r.text.items) }
     ensures reads { ReadsInputs 1 (IsOkAnd result (λ r. IsAnswered r.status)) (met_on F.contents F.read_faults F.write_faults F.reads files.old files.new) }
     ensures unwritten { IsUnwritten (met_on F.contents F.read_faults F.write_faults F.reads files.old files.new) }
     ensures later { F.read_faults files.old ≤ F.read_faults files.new }

@@ -73,7 +73,7 @@ struct Run {
     line: &'static str,
 }
 
-static RUNS: [Run; 12] = [
+static RUNS: [Run; 13] = [
     Run {
         station: ONE,
         names: ["station.xml", "best"],
@@ -120,6 +120,13 @@ static RUNS: [Run; 12] = [
         station: MUTUAL,
         names: ["station.xml", "none"],
         fail: 0,
+        status: 5,
+        line: "read failed 2\n",
+    },
+    Run {
+        station: MUTUAL,
+        names: ["station.xml", "station.xml"],
+        fail: 2,
         status: 5,
         line: "read failed 2\n",
     },

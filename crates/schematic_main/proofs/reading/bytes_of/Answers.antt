@@ -14,6 +14,7 @@ returns-then-is_long-clause-refusal g c =
     inl (
       subst (λ (name : List ℕ). IsOfFile (IsLong c.args.limit) name contents) c.as_str.ensures
           (long_of_front (input_file c.args.number c.as_str.result.now c.args.limit) contents c.new-bytes.result.items bytes (c.args.limit + 1) c.new-bytes.ensures.items c.in-Ok.ensures.ok long),
+      c.in-Ok.ensures.reads_ok,
       refl,
     )
 
