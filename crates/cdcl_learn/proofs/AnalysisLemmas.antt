@@ -3,13 +3,14 @@ use Rattle.std.proofs.Common.{◌≡◌, ℕ, ◌+◌, ◌<◌, ◌≤◌, ◌�
 use Rattle.std.specs.Prelude.{All, Contains}
 use Rattle.std.proofs.lemmas.List.{get_or_default, get_or-take}
 use Rattle.std.proofs.lemmas.List.Elements.{All-weaker}
+use Rattle.cnf_core.specs.Clause.{IsNamed}
 use Rattle.cnf_core.specs.declared.limits.TheConstants.{VARS}
 use Rattle.cnf_core.specs.Lit.{Literal}
 use Rattle.watch_arena.specs.Trail.{Marks}
 use Rattle.watch_arena.specs.Arena.{Attached}
 use Rattle.watch_arena.proofs.TextLemmas.{map_contains}
-use Rattle.cdcl_learn.specs.Sight.{Sight, sight, clauses_in, IsSound}
-use Rattle.cdcl_learn.specs.Cut.{Cut, is_seen, IsSeen, IsNamed}
+use Rattle.cdcl_learn.specs.Sight.{Sight, sight, clauses_in, IsSetAbove, IsSound}
+use Rattle.cdcl_learn.specs.Cut.{Cut, is_seen, IsSeen}
 use Rattle.cdcl_learn.specs.Analysis.{IsAnalyser, AreSeen}
 use Rattle.cdcl_learn.proofs.LiteralLemmas.{there_contains}
 
@@ -40,8 +41,9 @@ analyser_after s w side n sound vars limit short size within len same named met 
     read : (i : ℕ) → i < n → get_or side i 0 ≡ get_or w.met i 0
     read i lt = sym (get_or-take n side i 0 lt) ∙ ap (λ (ns : List ℕ). get_or ns i 0) same
 
-pub seen_after : (a : Attached) (m : Marks) (w : Cut) (clause : List Literal) → AreNamed (sight a m) w → AreMet w → ((v : ℕ) → IsSeen w v → Contains w.met v) → All (λ k. IsSeen w k.var) clause → AreSeen a m clause w.met
-seen_after a m w clause named met all seen = record {
+pub seen_after : (a : Attached) (m : Marks) (w : Cut) (clause : List Literal) → AreNamed (sight a m) w → ((v : ℕ) → IsSeen w v → IsSetAbove (sight a m) v) → AreMet w → ((v : ℕ) → IsSeen w v → Contains w.met v) → All (λ k. IsSeen w k.var) clause → AreSeen a m clause w.met
+seen_after a m w clause named above met all seen = record {
   named = λ i d lt. subst (IsNamed (clauses_in (sight a m))) (get_or_default w.met i 0 d lt) (named (get_or w.met i 0) (met i lt));
+  above = λ i d lt. subst (IsSetAbove (sight a m)) (get_or_default w.met i 0 d lt) (above (get_or w.met i 0) (met i lt));
   all = All-weaker (λ k. IsSeen w k.var) (λ k. Contains w.met k.var) (λ k h. all k.var h) clause seen;
 }

@@ -5,12 +5,12 @@ use Rattle.std.proofs.lemmas.Bool.{cases_eq, cases_order, eq-eqb, ne_eqb}
 use Rattle.std.proofs.lemmas.List.{get_or_default, get_or-set_same, get_or-set_other, get_or-take}
 use Rattle.std.proofs.lemmas.List.Elements.{All-contains, All-contains_itself, All-weaker, All-cons, All-head, All-tail}
 use Rattle.cnf_core.specs.Lit.{Literal, negate, has}
-use Rattle.cnf_core.specs.Clause.{AreDistinct}
+use Rattle.cnf_core.specs.Clause.{AreDistinct, IsNamed}
 use Rattle.cnf_core.specs.Propagation.{negations, IsIn}
 use Rattle.cnf_core.proofs.PropagationLemmas.{contains_from_has, has_from_contains, closure_start, falsifies_again, contains_first, contains_later}
 use Rattle.cnf_core.proofs.QuantifierLemmas.{pairs_from_distinct, distinct_from_pairs}
 use Rattle.cdcl_learn.specs.Sight.{Sight, level_of, clauses_in, known, IsSound}
-use Rattle.cdcl_learn.specs.Cut.{IsLearnt, IsNamed, IsBack, IsShuffle, IsLatest}
+use Rattle.cdcl_learn.specs.Cut.{IsLearnt, IsBack, IsShuffle, IsLatest}
 use Rattle.cdcl_learn.proofs.LiteralLemmas.{avoids_all, there_contains}
 
 -- the literals of one list stand in the other

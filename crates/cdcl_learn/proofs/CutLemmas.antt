@@ -4,11 +4,11 @@ use Rattle.std.specs.Prelude.{All, Contains}
 use Rattle.std.proofs.lemmas.Bool.{both_ways, cases_eq, cases_Bool, eq-eqb, ne_eqb}
 use Rattle.std.proofs.lemmas.List.Elements.{All-contains, All-weaker, All-nil, All-cons, All-head, All-tail, All-push, Contains-push, Contains-append_left}
 use Rattle.cnf_core.specs.Lit.{Literal, negate, has}
-use Rattle.cnf_core.specs.Clause.{AreThere, IsThere}
+use Rattle.cnf_core.specs.Clause.{AreThere, IsThere, IsNamed}
 use Rattle.cnf_core.specs.Propagation.{IsIn}
 use Rattle.cnf_core.proofs.PropagationLemmas.{negate-negate}
-use Rattle.cdcl_learn.specs.Sight.{Sight, nth, level_of, clauses_in, IsSound}
-use Rattle.cdcl_learn.specs.Cut.{Cut, is_seen, IsSeen, with_open, with_lower, cut_with, cut_with_all, open_below, IsLower, IsNamed, IsCut, IsReached, IsCovered}
+use Rattle.cdcl_learn.specs.Sight.{Sight, nth, level_of, clauses_in, IsSetAbove, IsSound}
+use Rattle.cdcl_learn.specs.Cut.{Cut, is_seen, IsSeen, with_open, with_lower, cut_with, cut_with_all, open_below, IsLower, IsCut, IsReached, IsCovered}
 use Rattle.cnf_core.proofs.TrailLemmas.{distinct_push}
 use Rattle.cdcl_learn.proofs.LiteralLemmas.{Placed, placed, placed_anywhere, front_in, same_lit}
 use Rattle.cdcl_learn.proofs.CountLemmas.{seen_same, seen_keeps, seen_cases, open_same, open_more}
@@ -48,8 +48,15 @@ module _ (s : Sight) (r : IsSound s) (w : Cut) (end : ℕ) (le : end ≤ length 
   now_named : (v : ℕ) → is_seen (set w.seen k.var true) v ≡ true → IsNamed (clauses_in s) v
   now_named v h = elim (seen_cases w.seen k.var v h) [ inl e ↦ subst (IsNamed (clauses_in s)) (sym e) named | inr old ↦ c.named v old ]
 
-  pub cut_open : level_of s k ≡ s.level → IsCut s (with_open w k) end
-  cut_open e = record {
+  above_zero : (n : ℕ) → (n ≡ 0 → ⊥) → 0 < n
+  above_zero zero h = absurd (h refl)
+  above_zero (suc n) h = omega arith
+
+  now_above : (level_of s k ≡ 0 → ⊥) → (v : ℕ) → is_seen (set w.seen k.var true) v ≡ true → IsSetAbove s v
+  now_above nz v h = elim (seen_cases w.seen k.var v h) [ inl e ↦ record { lit = negate k; var = sym e; on = on_trail; above = above_zero (level_of s k) nz } | inr old ↦ c.above v old ]
+
+  pub cut_open : (level_of s k ≡ 0 → ⊥) → level_of s k ≡ s.level → IsCut s (with_open w k) end
+  cut_open nz e = record {
     size = length-set w.seen k.var true ∙ c.size;
     lower = All-weaker (IsLower s w) (IsLower s (with_open w k)) (λ m l. lower_more s w k.var (w.met ++ k.var ∷ []) w.rest (w.pending + 1) m var_within l) w.rest c.lower;
     all = λ l on seen below. elim (seen_cases w.seen k.var l.var seen) [
@@ -67,6 +74,7 @@ module _ (s : Sight) (r : IsSound s) (w : Cut) (end : ℕ) (le : end ≤ length 
         let old = c.count in
         omega arith;
     named = now_named;
+    above = now_above nz;
   }
 
   pub cut_lower : (level_of s k ≡ 0 → ⊥) → level_of s k < s.level → IsCut s (with_lower w k) end
@@ -74,7 +82,7 @@ module _ (s : Sight) (r : IsSound s) (w : Cut) (end : ℕ) (le : end ≤ length 
     size = length-set w.seen k.var true ∙ c.size;
     lower = All-push (IsLower s (with_lower w k)) w.rest k
         (All-weaker (IsLower s w) (IsLower s (with_lower w k)) (λ m l. lower_more s w k.var (w.met ++ k.var ∷ []) (w.rest ++ k ∷ []) w.pending m var_within l) w.rest c.lower)
-        (record { falsified = on_trail; above = above (level_of s k) nz; below = lt; seen = seen_same w.seen k.var var_within });
+        (record { falsified = on_trail; above = above_zero (level_of s k) nz; below = lt; seen = seen_same w.seen k.var var_within });
     all = λ l on seen below. elim (seen_cases w.seen k.var l.var seen) [
       | inl same ↦
           let is : negate k ≡ l = same_lit s (negate k) l r.distinct on_trail on (sym same) in
@@ -88,11 +96,8 @@ module _ (s : Sight) (r : IsSound s) (w : Cut) (end : ℕ) (le : end ≤ length 
     count = c.count ∙ sym (open_same s w.seen k.var end (λ i before same lvl.
         let e : level_of s (nth s i) ≡ level_of s k = ap (λ v. get_or s.levels v 0) same in absurd (omega arith)));
     named = now_named;
+    above = now_above nz;
   }
-    where
-      above : (n : ℕ) → (n ≡ 0 → ⊥) → 0 < n
-      above zero h = absurd (h refl)
-      above (suc n) h = omega arith
 
 -- one more literal
 pub level_limit : (s : Sight) (l : Literal) → IsSound s → IsIn (has s.lits) l → level_of s l ≤ s.level
@@ -102,7 +107,7 @@ pub cut_added : (s : Sight) → IsSound s → (w : Cut) (end : ℕ) → end ≤ 
 cut_added s r w end le k there named reached c = added_cases s w k (λ x. IsCut s x end) (record {
   old = λ _. c;
   root = λ _ _. c;
-  present = λ un nz e. cut_open s r w end le c k there un (front un) named e;
+  present = λ un nz e. cut_open s r w end le c k there un (front un) named nz e;
   lower = λ un nz ne. cut_lower s r w end le c k there un (front un) named nz (below (level_of s k) s.level (level_limit s (negate k) r (front_in s end (negate k) (front un))) ne);
 })
   where

@@ -5,11 +5,11 @@ use Rattle.std.proofs.lemmas.Bool.{both_ways, cases_eq, cases_lt, eq-eqb}
 use Rattle.std.proofs.lemmas.List.{take_all}
 use Rattle.std.proofs.lemmas.List.Elements.{All-contains, All-contains_itself, All-weaker, All-cons, Contains-append_left, Contains-append_right}
 use Rattle.cnf_core.specs.Lit.{Literal, negate, has}
-use Rattle.cnf_core.specs.Clause.{Clauses, AreDistinct, AreThere}
+use Rattle.cnf_core.specs.Clause.{Clauses, AreDistinct, AreThere, IsNamed}
 use Rattle.cnf_core.specs.Propagation.{LiteralSet, IsIn, Closure, Falsifies, negations, Rup}
 use Rattle.cnf_core.proofs.PropagationLemmas.{negate-negate, contains_from_has, has_from_contains, closure_start, closure_unit, falsifies_again, contains_first, contains_later}
 use Rattle.cdcl_learn.specs.Sight.{Sight, nth, level_of, reason_of, clause_in, clauses_in, IsReasonAt, IsSound, roots, known}
-use Rattle.cdcl_learn.specs.Cut.{Cut, is_seen, IsSeen, IsBlank, with_resolved, cut_with_all, open_below, weight_at, IsLower, IsNamed, IsCut, working, IsReached, IsCovered, IsLast, IsStage, IsResolving, IsConflict, IsLearnt}
+use Rattle.cdcl_learn.specs.Cut.{Cut, is_seen, IsSeen, IsBlank, with_resolved, cut_with_all, open_below, weight_at, IsLower, IsCut, working, IsReached, IsCovered, IsLast, IsStage, IsResolving, IsConflict, IsLearnt}
 use Rattle.cdcl_learn.proofs.LiteralLemmas.{avoids_all, placed, placed_anywhere, in_front, front_in, stands}
 use Rattle.cdcl_learn.proofs.CountLemmas.{weight_present, open_none, open_some, open_found, open_skip}
 use Rattle.cdcl_learn.proofs.CutLemmas.{level_limit, cut_gathered, gathered_keeps, gathered_covers}
@@ -125,6 +125,7 @@ cut_blank s w end size blank none zero_pending = record {
   distinct = subst AreDistinct (sym none) tt;
   count = zero_pending ∙ sym (open_blank s w end blank);
   named = λ v seen. absurd (both_ways (is_seen w.seen v) (blank v) seen);
+  above = λ v seen. absurd (both_ways (is_seen w.seen v) (blank v) seen);
 }
 
 -- the falsified clause is taken in
@@ -160,7 +161,7 @@ stage_from s w end i r ready last =
     let count = cut.count in
     let found = open_found s w.seen (i + 1) (omega arith) in
     record {
-      cut = record { size = cut.size; lower = cut.lower; all = cut.all; distinct = cut.distinct; count = cut.count ∙ skip; named = cut.named };
+      cut = record { size = cut.size; lower = cut.lower; all = cut.all; distinct = cut.distinct; count = cut.count ∙ skip; named = cut.named; above = cut.above };
       below = omega arith;
       seen = last.seen;
       present =
@@ -207,6 +208,7 @@ stage_resolve s w i n r t more reason =
       distinct = cut.distinct;
       count = omega arith;
       named = cut.named;
+      above = cut.above;
     } in
     let reached : All (IsReached s (with_resolved w) i) (clause_in s n) = All-weaker (λ k. (k ≡ nth s i) ⊎ IsIn (has (take i s.lits)) (negate k)) (IsReached s (with_resolved w) i) (λ k h. elim h [ inl e ↦ inl (ap (λ (m : Literal). is_seen w.seen m.var) e ∙ t.seen) | inr front ↦ inr front ]) (clause_in s n) unit.others in
     let now : IsCut s (cut_with_all s (with_resolved w) (clause_in s n)) i = cut_gathered s r (with_resolved w) i (omega arith) (clause_in s n) there (clause_named s n reason.place) reached before in

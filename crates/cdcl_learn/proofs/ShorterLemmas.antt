@@ -5,12 +5,12 @@ use Rattle.std.proofs.lemmas.Bool.{cases_lt}
 use Rattle.std.proofs.lemmas.List.{get_or_default, take_more, take_more_set, get_or_append_left, get_or_push, get_or-set_other, get_or-take, take-take, length-take}
 use Rattle.std.proofs.lemmas.List.Elements.{All-contains, All-contains_itself, All-weaker, All-cons, All-head, All-tail, Contains-push, Contains-push_cases, Contains-append_left}
 use Rattle.cnf_core.specs.Lit.{Literal, negate, has}
-use Rattle.cnf_core.specs.Clause.{AreDistinct}
+use Rattle.cnf_core.specs.Clause.{AreDistinct, IsNamed}
 use Rattle.cnf_core.specs.Propagation.{LiteralSet, IsIn, Closure, negations}
 use Rattle.cnf_core.proofs.PropagationLemmas.{negate-negate, contains_from_has, has_from_contains, closure_start, closure_unit, falsifies_again, contains_first, contains_later}
 use Rattle.cnf_core.proofs.QuantifierLemmas.{pairs_from_distinct, distinct_from_pairs}
 use Rattle.cdcl_learn.specs.Sight.{Sight, nth, level_of, reason_of, clause_in, clauses_in, IsReasonAt, IsSound, roots, known}
-use Rattle.cdcl_learn.specs.Cut.{is_seen, IsLearnt, IsNamed}
+use Rattle.cdcl_learn.specs.Cut.{is_seen, IsLearnt}
 use Rattle.cdcl_learn.specs.Shorter.{IsRedundant, IsShortened, AreMarked}
 use Rattle.cnf_core.proofs.TrailLemmas.{distinct_push}
 use Rattle.cdcl_learn.proofs.LiteralLemmas.{avoids_all, Placed, placed, placed_anywhere, front_in, same_place}

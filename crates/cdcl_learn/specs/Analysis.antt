@@ -1,12 +1,13 @@
 -- What the analyser leaves.
 use Rattle.std.specs.Prelude.{◌≡◌, ◌≢◌, ◌≤◌, ◌<◌, ◌⊎◌, ℕ, ◌+◌, Bool, cond, List, [], ◌∷◌, All, Contains, length, slice_index, take}
+use Rattle.cnf_core.specs.Clause.{IsNamed}
 use Rattle.cnf_core.specs.declared.limits.TheConstants.{VARS}
 use Rattle.cnf_core.specs.Lit.{Literal, negate, has}
 use Rattle.cnf_core.specs.Propagation.{IsIn}
 use Rattle.watch_arena.specs.Trail.{Marks}
 use Rattle.watch_arena.specs.Arena.{Attached}
-use Rattle.cdcl_learn.specs.Sight.{sight, level_of, reason_of, clauses_in}
-use Rattle.cdcl_learn.specs.Cut.{Cut, IsNamed}
+use Rattle.cdcl_learn.specs.Sight.{sight, level_of, reason_of, clauses_in, IsSetAbove}
+use Rattle.cdcl_learn.specs.Cut.{Cut}
 
 -- the number of variables, the clause that the latest call left, the level to jump back to with it,
 -- and the variables on the conflict side of the latest analysis
@@ -33,9 +34,11 @@ pub record AreVars (vars : ℕ) (seen : List ℕ) : Type 0 where
   pub there : (i : ℕ) → i < length seen → (1 ≤ slice_index seen i) × (slice_index seen i ≤ vars)
   pub apart : (i j : ℕ) → i < j → j < length seen → slice_index seen i ≢ slice_index seen j
 
--- the seen variables stand in clauses of the arena; those of the clause are among them
+-- the seen variables stand in clauses of the arena and are set at levels above 0; those of the clause
+-- are among them
 pub record AreSeen (a : Attached) (m : Marks) (clause : List Literal) (seen : List ℕ) : Type 0 where
   pub named : All (IsNamed (clauses_in (sight a m))) seen
+  pub above : All (IsSetAbove (sight a m)) seen
   pub all : All (λ k. Contains seen k.var) clause
 
 -- false, and not decided

@@ -2,11 +2,11 @@
 use Rattle.std.specs.Prelude.{◌≡◌, ◌≢◌, ◌≤◌, ◌<◌, ◌⊎◌, ℕ, zero, suc, ◌+◌, ◌-◌, slice_index, Bool, true, false, cond, nat_eq, List, [], ◌∷◌, ◌++◌, All, Contains, length, slice_index_or, slice_set, take}
 use Rattle.std.specs.List.{sum_by}
 use Rattle.cnf_core.specs.Lit.{Literal, negate, has}
-use Rattle.cnf_core.specs.Clause.{Clauses, AreDistinct}
+use Rattle.cnf_core.specs.Clause.{AreDistinct, IsNamed}
 use Rattle.cnf_core.specs.Propagation.{LiteralSet, IsIn, Falsifies, Rup}
 use Rattle.cnf_core.specs.Trail.{weight}
 use Rattle.cnf_core.specs.declared.limits.TheConstants.{VARS}
-use Rattle.cdcl_learn.specs.Sight.{Sight, nth, level_of, clause_in, clauses_in, known}
+use Rattle.cdcl_learn.specs.Sight.{Sight, nth, level_of, clause_in, clauses_in, known, IsSetAbove}
 
 -- which variables are seen, and these in order; the literals of lower levels so far, and how many
 -- literals of the present level are to be resolved
@@ -65,14 +65,6 @@ pub record IsLower (s : Sight) (w : Cut) (k : Literal) : Type 0 where
   pub below : level_of s k < s.level
   pub seen : IsSeen w k.var
 
--- the variable stands in one of the clauses
-pub record IsNamed (clauses : Clauses) (v : ℕ) : Type 0 where
-  pub clause : List Literal
-  pub among : Contains clauses clause
-  pub lit : Literal
-  pub inside : Contains clause lit
-  pub var : lit.var ≡ v
-
 -- the cut fits the trail; the literals before this place are still to be looked at
 pub record IsCut (s : Sight) (w : Cut) (end : ℕ) : Type 0 where
   pub size : length w.seen ≡ s.vars + 1
@@ -81,6 +73,7 @@ pub record IsCut (s : Sight) (w : Cut) (end : ℕ) : Type 0 where
   pub distinct : AreDistinct w.rest
   pub count : w.pending ≡ open_below s w.seen end
   pub named : (v : ℕ) → IsSeen w v → IsNamed (clauses_in s) v
+  pub above : (v : ℕ) → IsSeen w v → IsSetAbove s v
 
 -- those literals before a place whose variables are seen
 abbrev pub working : Sight → Cut → ℕ → LiteralSet

@@ -3,7 +3,7 @@
 use Rattle.std.specs.Prelude.{◌≡◌, ◌≤◌, ◌<◌, ℕ, true, cond, nat_eq, List, [], ◌∷◌, ◌++◌, Contains, length, map, slice_index, slice_index_or, take}
 use Rattle.cnf_core.specs.Lit.{Literal, literal, has}
 use Rattle.cnf_core.specs.Clause.{Clauses, AreDistinct, AreThere}
-use Rattle.cnf_core.specs.Propagation.{IsUnit}
+use Rattle.cnf_core.specs.Propagation.{IsIn, IsUnit}
 use Rattle.watch_arena.specs.Trail.{Marks}
 use Rattle.watch_arena.specs.Arena.{Attached, attached_at}
 
@@ -44,8 +44,15 @@ pub record IsReasonAt (s : Sight) (i p : ℕ) : Type 0 where
   pub place : Contains s.places p
   pub unit : IsUnit (has (take i s.lits)) (clause_in s p) (nth s i)
 
--- levels never fall; each level above 0 begins with its one decided literal, and every other literal
--- of it has a reason
+-- the variable is set, at a level above 0
+pub record IsSetAbove (s : Sight) (v : ℕ) : Type 0 where
+  pub lit : Literal
+  pub var : lit.var ≡ v
+  pub on : IsIn (has s.lits) lit
+  pub above : 0 < level_of s lit
+
+-- what the proofs of learning use of a reasoned trail (`AreReasoned`): levels never fall, and of two
+-- literals of one level above 0 the later one has a reason
 pub record IsSound (s : Sight) : Type 0 where
   pub distinct : AreDistinct s.lits
   pub there : AreThere s.vars s.lits

@@ -97,9 +97,11 @@ impl Analyser {
         ensures learnt { IsLearntOf (sight arena.now trail.now) self.new.clause self.new.back }
         ensures seen { AreSeen arena.now trail.now self.new.clause self.new.seen }
     {
+        // what the types keep
         let _level = trail.level();
         let _literals = arena.len_of(clash);
         let learnt = learn(&mut self.work, arena, trail, clash);
+        // what the types keep
         let _short = self.work.len();
         self.some = true;
         self.first = learnt.first;
@@ -121,6 +123,7 @@ impl Analyser {
         ensures seen { self.new.seen ≡ self.old.seen }
     {
         trace_back(&mut self.work, arena, trail, l);
+        // what the types keep
         let _short = self.work.len();
         self.some = true;
         self.first = l.negated();

@@ -1,9 +1,9 @@
 // The first unique implication point.
 ghost use Rattle.std.specs.Prelude.{◌≡◌, ◌≤◌, ◌<◌, ◌+◌, ℕ, ◌∷◌, All, Contains, length, slice_index_or, true};
-ghost use Rattle.cnf_core.specs.Clause.{AreThere, IsThere};
+ghost use Rattle.cnf_core.specs.Clause.{AreThere, IsThere, IsNamed};
 ghost use Rattle.cnf_core.specs.Lit.{literal};
-ghost use Rattle.cdcl_learn.specs.Sight.{sight, clauses_in, clause_in, IsSound};
-ghost use Rattle.cdcl_learn.specs.Cut.{cut_with, cut_with_all, IsSeen, IsNamed, IsResolving, IsStage, IsConflict, IsLearnt, IsBack};
+ghost use Rattle.cdcl_learn.specs.Sight.{sight, clauses_in, clause_in, IsSetAbove, IsSound};
+ghost use Rattle.cdcl_learn.specs.Cut.{cut_with, cut_with_all, IsSeen, IsResolving, IsStage, IsConflict, IsLearnt, IsBack};
 ghost use Rattle.cdcl_learn.specs.Shorter.{AreMarked};
 
 use crate::work::Work;
@@ -79,6 +79,7 @@ fn resolve(work: &mut Work, arena: &Arena, trail: &Trail, clash: ClauseRef) -> L
     ensures marks { AreMarked (sight arena.now trail.now) work.new.seen work.new.rest }
     ensures seen { All (λ k. IsSeen work.new k.var) (result ∷ work.new.rest) }
     ensures named { (v : ℕ) → IsSeen work.new v → IsNamed (clauses_in (sight arena.now trail.now)) v }
+    ensures above { (v : ℕ) → IsSeen work.new v → IsSetAbove (sight arena.now trail.now) v }
 {
     work.clear();
     add_all(work, arena, trail, clash);
@@ -114,6 +115,7 @@ pub fn learn(work: &mut Work, arena: &Arena, trail: &Trail, clash: ClauseRef) ->
     ensures back { IsBack (sight arena.now trail.now) work.new.rest result.back }
     ensures seen { All (λ k. IsSeen work.new k.var) (result.first ∷ work.new.rest) }
     ensures named { (v : ℕ) → IsSeen work.new v → IsNamed (clauses_in (sight arena.now trail.now)) v }
+    ensures above { (v : ℕ) → IsSeen work.new v → IsSetAbove (sight arena.now trail.now) v }
 {
     let first = resolve(work, arena, trail, clash);
     work.shorten(arena, trail);

@@ -17,6 +17,8 @@ mod conflict;
 mod laws;
 mod shorter;
 mod tables;
+#[cfg(test)]
+mod tests;
 mod tracing;
 mod work;
 

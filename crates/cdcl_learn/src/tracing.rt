@@ -100,6 +100,7 @@ pub fn trace_back(work: &mut Work, arena: &Arena, trail: &Trail, l: Lit)
     match trail.reason(v) {
         None => work.clear(),
         Some(c) => {
+            // what the types keep
             let _clauses = arena.len_of(c);
             trace(work, arena, trail, l, c);
         }

@@ -1,5 +1,5 @@
 -- Clauses: lists of literals of distinct variables, and the words that they take.
-use Rattle.std.specs.Prelude.{◌≢◌, ◌≤◌, ◌<◌, ⊤, ℕ, ◌+◌, List, [], ◌∷◌, length, Contains}
+use Rattle.std.specs.Prelude.{◌≡◌, ◌≢◌, ◌≤◌, ◌<◌, ⊤, ℕ, ◌+◌, List, [], ◌∷◌, length, Contains}
 use Rattle.cnf_core.specs.Lit.{Literal}
 
 abbrev pub Clauses : Type 0
@@ -39,6 +39,14 @@ AllThere vars (c ∷ cs) = AreThere vars c × AllThere vars cs
 abbrev pub AllDistinct : Clauses → Type 0
 AllDistinct [] = ⊤
 AllDistinct (c ∷ cs) = AreDistinct c × AllDistinct cs
+
+-- the variable stands in one of the clauses
+pub record IsNamed (clauses : Clauses) (v : ℕ) : Type 0 where
+  pub clause : List Literal
+  pub among : Contains clauses clause
+  pub lit : Literal
+  pub inside : Contains clause lit
+  pub var : lit.var ≡ v
 
 -- a clause of n literals has n + 3 words
 abbrev pub words_of : Clauses → ℕ

@@ -107,7 +107,8 @@ impl Heap {
     pub fn bump(&mut self, v: Var)
         requires from { 1 ≤ v.0 }
         requires to { v.0 ≤ self.old.vars }
-        ensures { self.new ≡ bumped self.old v.0 }
+        ensures value { self.new ≡ bumped self.old v.0 }
+        ensures risen { activity self.new v.0 ≡ activity (roomy self.old v.0) v.0 + 1 }
     {
         self.make_room(v.0);
         self.add_one(v.0);
@@ -131,7 +132,8 @@ impl Heap {
         requires from { 1 ≤ v }
         requires to { v ≤ self.old.vars }
         requires room { activity self.old v < 2 ^ 16 - 1 }
-        ensures { self.new ≡ raised self.old v }
+        ensures value { self.new ≡ raised self.old v }
+        ensures risen { activity self.new v ≡ activity self.old v + 1 }
     {
         let word = leaf_word(&self.held, v);
         set_leaf(&mut self.tree, &self.activities, self.leaves, v, 0);

@@ -21,9 +21,11 @@ fn the_most_active_comes_first_and_of_equals_the_least(rt: HostRuntime) {
     assert!(rt; heap.pop().is_none());
 }
 
+/// 1 is bumped 40,000 times, 3 so often that all are halved once, 2 and 4 then more often than half of
+/// 40,000.
 #[test]
 fn activities_are_halved_at_the_end_of_their_type(rt: HostRuntime) {
-    let mut heap = Heap::with_vars(rt.alloc(), 3).expect(&rt, "memory");
+    let mut heap = Heap::with_vars(rt.alloc(), 4).expect(&rt, "memory");
     'both: for _ in 0..40_000 {
         heap.bump(Var(1));
         heap.bump(Var(3));
@@ -31,8 +33,11 @@ fn activities_are_halved_at_the_end_of_their_type(rt: HostRuntime) {
     'one: for _ in 0..25_536 {
         heap.bump(Var(3));
     }
-    heap.bump(Var(2));
-    let order = [3, 1, 2];
+    'two: for _ in 0..20_001 {
+        heap.bump(Var(2));
+        heap.bump(Var(4));
+    }
+    let order = [3, 2, 4, 1];
     for v in order {
         let next = heap.pop();
         assert!(rt; next == Some(Var(v)));

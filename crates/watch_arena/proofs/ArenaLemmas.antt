@@ -1,5 +1,5 @@
 -- Arenas and trails.
-use Rattle.std.proofs.Common.{◌≡◌, ◌+◌, ◌*◌, ◌/◌, ◌<◌, ◌≤◌, ◌⊎◌, ℕ, zero, suc, List, [], ◌∷◌, ◌++◌, length, get_or, replicate, refl, sym, ◌∙◌, ap, subst, inl, inr, arith, cond, length-append, ◌%◌}
+use Rattle.std.proofs.Common.{◌≡◌, ◌+◌, ◌*◌, ◌/◌, ◌<◌, ◌≤◌, ℕ, zero, suc, List, [], ◌∷◌, ◌++◌, length, get_or, replicate, refl, sym, ◌∙◌, ap, subst, inl, inr, arith, cond, length-append, ◌%◌}
 use Rattle.std.specs.Prelude.{Contains, Option, Some, None, IfSome, Result, Ok, Err, IfOk, OnOk, OnErr, map, nat_lt, ◌^◌}
 use Rattle.std.proofs.lemmas.Bool.{cases_lt}
 use Rattle.std.proofs.lemmas.Bool.Decides.{leb_tells}
@@ -16,15 +16,14 @@ use Rattle.watch_arena.specs.declared.clause_ref.ClauseRef.{ClauseRef}
 use Rattle.watch_arena.specs.Words.{arena_word, lit_of, IsStore, IsBlock}
 use Rattle.cnf_core.specs.Times.{times}
 use Rattle.watch_arena.specs.Chains.{Path, HasChains}
-use Rattle.watch_arena.specs.Trail.{Marks, IsMarks, with_lit}
+use Rattle.watch_arena.specs.Trail.{Marks}
 use Rattle.cnf_core.specs.Trail.{Grows}
-use Rattle.watch_arena.specs.Walk.{lit_at, lits_upto, lits_at, IsWatched, IsAttached, IsMade, IsClash, Closes, Clashes, KeepsLits, AreRight, past_of}
-use Rattle.watch_arena.specs.Arena.{Attached, attached_of, attached_at, attached_clauses, watch_at, IsArena, AreWatched, AreReasoned, AreAttached, IsSameText, IsMoreText, IsAdded, IsHeldBy, AreOpen, IsClashOf}
+use Rattle.watch_arena.specs.Walk.{lit_at, lits_upto, lits_at, IsWatched, IsLinked, IsMade, IsClash, Closes, Clashes, KeepsLits, AreRight, past_of}
+use Rattle.watch_arena.specs.Arena.{Attached, attached_of, attached_at, attached_clauses, watch_at, IsArena, AreWatched, AreReasoned, AreBecause, AreAttached, IsSameText, IsMoreText, MayBeWatched, IsClashOf}
 use Rattle.watch_arena.proofs.WordLemmas.{lit_there, word_there, bounds}
 use Rattle.watch_arena.proofs.TextLemmas.{upto_in, text_of, same_lits, upto_length, upto_get, kept_lits, all_false}
 use Rattle.watch_arena.proofs.TrailLemmas.{get_padded}
 use Rattle.watch_arena.proofs.ReasonLemmas.{reasoned_more}
-use Rattle.watch_arena.proofs.LevelLemmas.{right_with, right_other, right_open, right_held, right_set, held_by_level, late_by_level}
 use Rattle.watch_arena.proofs.ViewLemmas.{right_quiet, quiet_right}
 
 pub arena_watched : (vars room : ℕ) (ws heads places : List ℕ) (visits : ℕ) (a : Attached) (m : Marks) → IsArena vars room ws heads places → attached_of vars room ws places visits ≡ a → m.vars ≡ a.vars → AreWatched a m → IsWatched m ws heads places (past_of m)
@@ -32,6 +31,11 @@ arena_watched vars room ws heads places visits a m k e same w =
     let v : AreWatched (attached_of vars room ws places visits) m = subst (λ (x : Attached). AreWatched x m) (sym e) w in
     let is : m.vars ≡ vars = same ∙ sym (ap (λ (x : Attached). x.vars) e) in
     subst (λ n. IsStore n ws places → length heads ≡ 2 * n + 2 → IsWatched m ws heads places (past_of m)) is (λ store size. record { store = store; size = size; chains = k.chains; quiet = right_quiet m ws places v.right }) k.store k.size
+
+pub arena_linked : (vars room : ℕ) (ws heads places : List ℕ) (visits n : ℕ) (a : Attached) → IsArena vars room ws heads places → attached_of vars room ws places visits ≡ a → n ≡ a.vars → IsLinked n ws heads places
+arena_linked vars room ws heads places visits n a k e same =
+    let is : n ≡ vars = same ∙ sym (ap (λ (x : Attached). x.vars) e) in
+    subst (λ v. IsLinked v ws heads places) (sym is) (record { store = k.store; size = k.size; chains = k.chains })
 
 not_in_none : (n : ℕ) → Contains [] n → ⊥
 not_in_none n c = let lt = c.1 in omega arith
@@ -87,6 +91,7 @@ are_attached vars room ws heads places visits k = λ p c.
 pub record IsPropagated (old new : Attached) (m now : Marks) : Type 0 where
   pub watched : AreWatched new now
   pub reasoned : AreReasoned old m → AreReasoned new now
+  pub because : AreBecause new m now
   pub text : IsSameText old new
   pub grows : Grows (attached_clauses old) m.lits now.lits
 
@@ -102,6 +107,7 @@ propagated old vars room visits after ws places given_words given_places new got
     base = record {
       watched = record { right = quiet_right now new given_places k.quiet };
       reasoned = made.reasoned;
+      because = made.because;
       text = record { vars = refl; room = refl; words = size; places = refl; lits = λ p c. same_lits given_words new given_places p made.text c };
       grows = made.grows (map (lits_at given_words) given_places) (text_of given_words given_places);
     }
@@ -128,14 +134,14 @@ some_weaker (Some c) f x = f c x
 some_weaker None f x = x
 
 -- a clause is attached, or nothing has changed
-pub arena_attached : (vars room : ℕ) (ws heads places new then now : List ℕ) (a : Attached) (visits : ℕ) (m : Marks) (r : Result ClauseRef ArenaFault) → IsArena vars room ws heads places → attached_of vars room ws places visits ≡ a → m.vars ≡ a.vars → length ws ≤ length new →
-    IfOk r (λ c. IsAttached m new then now c.0) → OnErr r (new ≡ ws) → OnErr r (then ≡ heads) → OnErr r (now ≡ places) → IsArena vars room new then now
-arena_attached vars room ws heads places new then now a visits m (Ok p) k e same longer attached x y z =
-    let is : m.vars ≡ vars = same ∙ sym (ap (λ (x : Attached). x.vars) e) in
+pub arena_attached : (vars room : ℕ) (ws heads places new then now : List ℕ) (a : Attached) (visits n : ℕ) (r : Result ClauseRef ArenaFault) → IsArena vars room ws heads places → attached_of vars room ws places visits ≡ a → n ≡ a.vars → length ws ≤ length new →
+    OnOk r (IsLinked n new then now) → OnErr r (new ≡ ws) → OnErr r (then ≡ heads) → OnErr r (now ≡ places) → IsArena vars room new then now
+arena_attached vars room ws heads places new then now a visits n (Ok p) k e same longer linked x y z =
+    let is : n ≡ vars = same ∙ sym (ap (λ (x : Attached). x.vars) e) in
     let some = k.some in
-    let size = attached.size in
-    record { vars_limit = k.vars_limit; room_limit = k.room_limit; some = omega arith; store = subst (λ n. IsStore n new now) is attached.store; size = omega arith; chains = attached.chains }
-arena_attached vars room ws heads places new then now a visits m (Err f) k e same longer attached x y z =
+    let l : IsLinked vars new then now = subst (λ v. IsLinked v new then now) is linked in
+    record { vars_limit = k.vars_limit; room_limit = k.room_limit; some = omega arith; store = l.store; size = l.size; chains = l.chains }
+arena_attached vars room ws heads places new then now a visits n (Err f) k e same longer linked x y z =
     subst (λ (n : List ℕ). IsArena vars room n then now) (sym x) (subst (λ (h : List ℕ). IsArena vars room ws h now) (sym y) (subst (λ (q : List ℕ). IsArena vars room ws heads q) (sym z) k))
 
 -- the watches of clauses by their literals
@@ -147,28 +153,25 @@ watch_same old new p i lt e =
     let size = ap length e in
     watch_is new p i (watch_at old p i) (omega arith) ∙ ap (λ (c : List Literal). get_or c i (watch_at old p i)) e ∙ sym (watch_is old p i (watch_at old p i) lt)
 
-module _ (old new : Attached) (m : Marks) (p : ℕ) (marks : IsMarks m) (watched : AreWatched old m) (attached : AreAttached old) (same : (q : ℕ) → Contains old.places q → attached_at new q ≡ attached_at old q) (places : new.places ≡ old.places ++ p ∷ []) where
+module _ (old new : Attached) (p : ℕ) (attached : AreAttached old) (same : (q : ℕ) → Contains old.places q → attached_at new q ≡ attached_at old q) (places : new.places ≡ old.places ++ p ∷ []) where
   -- all are watched on a trail where the old ones are, and the new one
-  all_watched : (now : Marks) → ((q : ℕ) → Contains old.places q → AreRight now (watch_at old q 0) (watch_at old q 1)) → AreRight now (watch_at new p 0) (watch_at new p 1) → AreWatched new now
-  all_watched now before here = record {
+  all_watched : (m : Marks) → AreWatched old m → AreRight m (watch_at new p 0) (watch_at new p 1) → AreWatched new m
+  all_watched m before here = record {
     right = λ q c. elim (Contains-push_cases old.places p q (subst (λ (ps : List ℕ). Contains ps q) places c)) [
       | inl is ↦
           let x = attached q is in
           let two = x.two in
-          subst (λ (a : Literal). AreRight now a (watch_at new q 1)) (sym (watch_same old new q 0 (omega arith) (same q is)))
-          (subst (λ (b : Literal). AreRight now (watch_at old q 0) b) (sym (watch_same old new q 1 (omega arith) (same q is))) (before q is))
-      | inr e ↦ subst (λ n. AreRight now (watch_at new n 0) (watch_at new n 1)) e here
+          subst (λ (a : Literal). AreRight m a (watch_at new q 1)) (sym (watch_same old new q 0 (omega arith) (same q is)))
+          (subst (λ (b : Literal). AreRight m (watch_at old q 0) b) (sym (watch_same old new q 1 (omega arith) (same q is))) (before.right q is))
+      | inr e ↦ subst (λ n. AreRight m (watch_at new n 0) (watch_at new n 1)) e here
     ];
   }
 
-  pub added : (lits : List Literal) → attached_at new p ≡ lits → IsAdded new m lits
-  added [] e = tt
-  added (k ∷ []) e = tt
-  added (k ∷ l ∷ lits) e = (
-    λ may. all_watched m watched.right (here m (by_case may)),
-    λ asserts reason. all_watched (with_lit m k reason) (λ q c. right_with m k (watch_at old q 0) (watch_at old q 1) reason marks (watched.right q c))
-        (here (with_lit m k reason) (right_set m k l reason marks asserts.first (late_by_level m l marks asserts.level))),
-  )
+  pub added : (lits : List Literal) → attached_at new p ≡ lits → (m : Marks) → AreWatched old m → MayBeWatched m lits → AreWatched new m
+  added [] e m before may = absurd may
+  added (k ∷ []) e m before may = absurd may
+  added (k ∷ l ∷ lits) e m before may =
+      all_watched m before (subst (λ (a : Literal). AreRight m a (watch_at new p 1)) (sym first_is) (subst (λ (b : Literal). AreRight m k b) (sym second_is) may))
     where
       size : length (attached_at new p) ≡ length (k ∷ l ∷ lits)
       size = ap length e
@@ -179,33 +182,25 @@ module _ (old new : Attached) (m : Marks) (p : ℕ) (marks : IsMarks m) (watched
       second_is : watch_at new p 1 ≡ l
       second_is = watch_is new p 1 k (let n = size in omega arith) ∙ ap (λ (c : List Literal). get_or c 1 k) e
 
-      here : (now : Marks) → AreRight now k l → AreRight now (watch_at new p 0) (watch_at new p 1)
-      here now r = subst (λ (a : Literal). AreRight now a (watch_at new p 1)) (sym first_is) (subst (λ (b : Literal). AreRight now k b) (sym second_is) r)
-
-      by_case : AreOpen m k l ⊎ (IsHeldBy m k l ⊎ IsHeldBy m l k) → AreRight m k l
-      by_case (inl open_) = right_open m k l open_.first open_.second
-      by_case (inr (inl h)) = right_held m k l marks (held_by_level m k l marks h)
-      by_case (inr (inr h)) = right_other m k l (right_held m l k marks (held_by_level m l k marks h))
-
 -- what attaching leaves
-pub record IsAnswered (old new : Attached) (m : Marks) (lits : List Literal) (r : Result ClauseRef ArenaFault) : Type 0 where
+pub record IsAnswered (old new : Attached) (lits : List Literal) (r : Result ClauseRef ArenaFault) : Type 0 where
   pub others : IsMoreText old new
-  pub watched : OnOk r (IsAdded new m lits)
-  pub reasoned : AreReasoned old m → AreReasoned new m
+  pub watched : OnOk r ((m : Marks) → AreWatched old m → MayBeWatched m lits → AreWatched new m)
+  pub reasoned : (m : Marks) → AreReasoned old m → AreReasoned new m
 
-pub answered : (vars room visits : ℕ) (ws heads places new more : List ℕ) (m : Marks) (lits : List Literal) (r : Result ClauseRef ArenaFault) → IsArena vars room ws heads places → AreWatched (attached_of vars room ws places visits) m → IsMarks m →
-    OnOk r (KeepsLits places ws new) → IfOk r (λ c. more ≡ places ++ c.0 ∷ []) → IfOk r (λ c. lits_at new c.0 ≡ lits) → OnErr r (new ≡ ws) → OnErr r (more ≡ places) → IsAnswered (attached_of vars room ws places visits) (attached_of vars room new more visits) m lits r
-answered vars room visits ws heads places new more m lits (Ok c) k w marks kept placed clause x y = record {
+pub answered : (vars room visits : ℕ) (ws heads places new more : List ℕ) (lits : List Literal) (r : Result ClauseRef ArenaFault) → IsArena vars room ws heads places →
+    OnOk r (KeepsLits places ws new) → IfOk r (λ c. more ≡ places ++ c.0 ∷ []) → IfOk r (λ c. lits_at new c.0 ≡ lits) → OnErr r (new ≡ ws) → OnErr r (more ≡ places) → IsAnswered (attached_of vars room ws places visits) (attached_of vars room new more visits) lits r
+answered vars room visits ws heads places new more lits (Ok c) k kept placed clause x y = record {
   others = record { vars = refl; room = refl; visits = refl; lits = λ q among. kept_lits places ws new q kept among };
-  watched = added (attached_of vars room ws places visits) (attached_of vars room new more visits) m c.0 marks w (are_attached vars room ws heads places visits k) (λ q among. kept_lits places ws new q kept among) placed lits clause;
-  reasoned = reasoned_more m ws new places more (λ q among. subst (λ (ps : List ℕ). Contains ps q) (sym placed) (Contains-append_left places (c.0 ∷ []) q among)) (λ q among. kept_lits places ws new q kept among);
+  watched = added (attached_of vars room ws places visits) (attached_of vars room new more visits) c.0 (are_attached vars room ws heads places visits k) (λ q among. kept_lits places ws new q kept among) placed lits clause;
+  reasoned = λ m. reasoned_more m ws new places more (λ q among. subst (λ (ps : List ℕ). Contains ps q) (sym placed) (Contains-append_left places (c.0 ∷ []) q among)) (λ q among. kept_lits places ws new q kept among);
 }
-answered vars room visits ws heads places new more m lits (Err f) k w marks kept placed clause x y =
-    subst (λ (n : List ℕ). IsAnswered (attached_of vars room ws places visits) (attached_of vars room n more visits) m lits (Err f)) (sym x)
-    (subst (λ (q : List ℕ). IsAnswered (attached_of vars room ws places visits) (attached_of vars room ws q visits) m lits (Err f)) (sym y) (record {
+answered vars room visits ws heads places new more lits (Err f) k kept placed clause x y =
+    subst (λ (n : List ℕ). IsAnswered (attached_of vars room ws places visits) (attached_of vars room n more visits) lits (Err f)) (sym x)
+    (subst (λ (q : List ℕ). IsAnswered (attached_of vars room ws places visits) (attached_of vars room ws q visits) lits (Err f)) (sym y) (record {
       others = record { vars = refl; room = refl; visits = refl; lits = λ q among. refl };
       watched = tt;
-      reasoned = λ r. r;
+      reasoned = λ m r. r;
     }))
 
 -- reading a clause

@@ -1,19 +1,17 @@
 -- One more clause behind the words.
-use Rattle.std.proofs.Common.{◌≡◌, ◌≢◌, ℕ, ◌+◌, ◌-◌, ◌*◌, ◌/◌, ◌%◌, ◌<◌, ◌≤◌, ◌⊎◌, Bool, true, false, zero, suc, List, [], ◌∷◌, ◌++◌, length, get_or, refl, sym, ◌∙◌, ap, subst, inl, inr, arith, length-append}
+use Rattle.std.proofs.Common.{◌≡◌, ◌≢◌, ℕ, ◌+◌, ◌*◌, ◌/◌, ◌%◌, ◌<◌, ◌≤◌, ◌⊎◌, Bool, true, false, zero, suc, List, [], ◌∷◌, ◌++◌, length, get_or, refl, sym, ◌∙◌, ap, subst, inl, inr, arith, length-append}
 use Rattle.std.specs.Prelude.{Contains, ◌^◌, map}
 use Rattle.std.proofs.lemmas.Bool.{cases_lt, cases_eq}
 use Rattle.std.proofs.lemmas.List.{get_or_append_left, get_or-append_right, length-map}
 use Rattle.std.proofs.lemmas.List.Elements.{Contains-push_cases, Contains-push, Contains-append_left}
-use Rattle.cnf_core.specs.Lit.{Literal, literal, literal_at, word_of, negate}
+use Rattle.cnf_core.specs.Lit.{Literal, literal, literal_at, word_of}
 use Rattle.cnf_core.specs.Clause.{AreDistinct, AreThere}
-use Rattle.cnf_core.specs.Propagation.{LiteralSet, IsIn}
 use Rattle.cnf_core.proofs.QuantifierLemmas.{pairs_from_distinct}
 use Rattle.cnf_core.proofs.TrailLemmas.{there_get, word_below}
 use Rattle.watch_arena.specs.Words.{arena_word, link_of, lit_of, other_of, block_of, IsLitWord, IsBlock, IsStore, Wrote}
 use Rattle.cnf_core.specs.Times.{times}
 use Rattle.watch_arena.specs.Chains.{HasChains, Pushed}
-use Rattle.watch_arena.specs.Trail.{Marks}
-use Rattle.watch_arena.specs.Walk.{lit_at, past_of, IsTrueNoLater, AreGuarded, IsWatched, IsAttached, IsUnlinked, KeepsLits, lits_at}
+use Rattle.watch_arena.specs.Walk.{IsLinked, IsUnlinked, KeepsLits, lits_at}
 use Rattle.watch_arena.proofs.ChainLemmas.{times_head, times_tail, in_times, path_stays, push_chains}
 use Rattle.watch_arena.proofs.MoveLemmas.{link_lit, link_store}
 use Rattle.watch_arena.proofs.ChainWalkLemmas.{literal_word, keeps_lits_none, keeps_lits_push}
@@ -101,24 +99,6 @@ module _ (vars : ℕ) (ws new heads places : List ℕ) (p : ℕ) (h : IsStore va
               let here : arena_word new (lit_of t) ≡ arena_word new (p + 3 + t % 2) = ap (arena_word new) (omega arith) in
               absurd (omega arith)
 
-  pub attach_quiet : (done : LiteralSet) (m : Marks) → AreGuarded ws places done m [] → AreGuarded new (places ++ p ∷ []) done m ((2 * p) ∷ (2 * p + 1) ∷ [])
-  attach_quiet done m q = λ t c none f. elim (Contains-push_cases places p (t / 2) c) [
-    | inl old ↦
-        let o = old_lit t old in
-        subst (λ n. IsTrueNoLater m (negate (literal_at n)) (lit_at new (other_of t))) (sym o.0) (subst (λ n. IsTrueNoLater m (negate (lit_at ws (lit_of t))) (literal_at n)) (sym o.2) (q t old refl (subst (λ n. IsIn done (negate (literal_at n))) o.0 f)))
-    | inr e ↦ absurd (omega (arith, both_of t p (sym e)))
-  ]
-
--- a link is written
-pub quiet_linked : (m : Marks) (ws new places out : List ℕ) (done : LiteralSet) (s v : ℕ) → IsStore m.vars ws places → Contains places (s / 2) → Wrote ws new (link_of s) v → AreGuarded ws places done m out → AreGuarded new places done m out
-quiet_linked m ws new places out done s v h p link q = λ t c none f.
-    let b = h.block (t / 2) c in
-    let two = b.two in
-    let lit : arena_word new (lit_of t) ≡ arena_word ws (lit_of t) = link_lit m.vars ws new places s v h p link (t / 2) (t % 2) c (omega arith) in
-    let is : other_of t ≡ t / 2 + 3 + (1 - t % 2) = omega arith in
-    let other : arena_word new (other_of t) ≡ arena_word ws (other_of t) = ap (arena_word new) is ∙ link_lit m.vars ws new places s v h p link (t / 2) (1 - t % 2) c (omega arith) ∙ ap (arena_word ws) (sym is) in
-    subst (λ n. IsTrueNoLater m (negate (literal_at n)) (lit_at new (other_of t))) (sym lit) (subst (λ n. IsTrueNoLater m (negate (lit_at ws (lit_of t))) (literal_at n)) (sym other) (q t c none (subst (λ n. IsIn done (negate (literal_at n))) lit f)))
-
 -- the words behind
 half : (l : Literal) → word_of l / 2 ≡ l.var
 half l = by_sign l.var l.positive
@@ -180,9 +160,11 @@ module _ (vars : ℕ) (ws : List ℕ) (lits : List Literal) (from : 1 ≤ length
       }
 
 -- both watches are put into their chains
-pub linked : (m : Marks) (ws mid new heads next then places : List ℕ) (p a b : ℕ) → IsStore m.vars ws places → Contains places p → length heads ≡ 2 * m.vars + 2 → HasChains ws heads places ((2 * p) ∷ (2 * p + 1) ∷ []) →
-    AreGuarded ws places (past_of m) m ((2 * p) ∷ (2 * p + 1) ∷ []) → arena_word ws (p + 3 + 0) ≡ a → arena_word ws (p + 3 + 1) ≡ b → Pushed ws mid heads next (2 * p) a → Pushed mid new next then (2 * p + 1) b → IsAttached m new then places p
-linked m ws mid new heads next then places p a b h place size c q ea eb d e =
+pub linked : (vars : ℕ) (ws mid new heads next then places : List ℕ) (p a b : ℕ) → IsUnlinked vars ws heads places p a b → Pushed ws mid heads next (2 * p) a → Pushed mid new next then (2 * p + 1) b → IsLinked vars new then places
+linked vars ws mid new heads next then places p a b k d e =
+    let h = k.store in
+    let place = k.place in
+    let size = k.size in
     let here : Contains places ((2 * p) / 2) = subst (λ n. Contains places n) (omega arith) place in
     let here2 : Contains places ((2 * p + 1) / 2) = subst (λ n. Contains places n) (omega arith) place in
     let block = h.block p place in
@@ -191,23 +173,22 @@ linked m ws mid new heads next then places p a b h place size c q ea eb d e =
     let link2 : Wrote mid new (link_of (2 * p + 1)) (arena_word next b) = e.link in
     let head : Wrote heads next a (2 * p) = d.head in
     let head2 : Wrote next then b (2 * p + 1) = e.head in
-    let la : arena_word ws (lit_of (2 * p)) ≡ a = ap (arena_word ws) (omega arith) ∙ ea in
-    let h2 = link_store m.vars ws mid places (2 * p) (arena_word heads a) h here link in
-    let lb0 : arena_word mid (p + 3 + 1) ≡ b = link_lit m.vars ws mid places (2 * p) (arena_word heads a) h here link p 1 place (omega arith) ∙ eb in
+    let la : arena_word ws (lit_of (2 * p)) ≡ a = ap (arena_word ws) (omega arith) ∙ k.first in
+    let h2 = link_store vars ws mid places (2 * p) (arena_word heads a) h here link in
+    let lb0 : arena_word mid (p + 3 + 1) ≡ b = link_lit vars ws mid places (2 * p) (arena_word heads a) h here link p 1 place (omega arith) ∙ k.second in
     let lb : arena_word mid (lit_of (2 * p + 1)) ≡ b = ap (arena_word mid) (omega arith) ∙ lb0 in
     let wa = block.lits 0 (omega arith) in
     let wb = block.lits 1 (omega arith) in
+    let first = k.first in
+    let second = k.second in
     let below_a = wa.below in
     let below_b = wb.below in
     let size2 = head.size in
     let size3 = head2.size in
     record {
-      store = link_store m.vars mid new places (2 * p + 1) (arena_word next b) h2 here2 link2;
+      store = link_store vars mid new places (2 * p + 1) (arena_word next b) h2 here2 link2;
       size = omega arith;
-      chains = push_chains m.vars mid new next then places [] (2 * p + 1) b h2 here2 lb (omega arith) (push_chains m.vars ws mid heads next places ((2 * p + 1) ∷ []) (2 * p) a h here la (omega arith) c d) e;
-      place = place;
-      quiet = quiet_linked m mid new places ((2 * p) ∷ (2 * p + 1) ∷ []) (past_of m) (2 * p + 1) (arena_word next b) h2 here2 link2
-          (quiet_linked m ws mid places ((2 * p) ∷ (2 * p + 1) ∷ []) (past_of m) (2 * p) (arena_word heads a) h here link q);
+      chains = push_chains vars mid new next then places [] (2 * p + 1) b h2 here2 lb (omega arith) (push_chains vars ws mid heads next places ((2 * p + 1) ∷ []) (2 * p) a h here la (omega arith) k.chains d) e;
     }
 
 -- what the writes of its links need
@@ -217,8 +198,8 @@ pub record IsBothReady (ws heads : List ℕ) (p a b : ℕ) : Type 0 where
   pub first : a < length heads
   pub second : b < length heads
 
-pub both_ready : (m : Marks) (ws heads places : List ℕ) (p a b : ℕ) → IsUnlinked m ws heads places p a b → IsBothReady ws heads p a b
-both_ready m ws heads places p a b k =
+pub both_ready : (vars : ℕ) (ws heads places : List ℕ) (p a b : ℕ) → IsUnlinked vars ws heads places p a b → IsBothReady ws heads p a b
+both_ready vars ws heads places p a b k =
     let h = k.store in
     let block = h.block p k.place in
     let two = block.two in
@@ -232,33 +213,32 @@ both_ready m ws heads places p a b k =
     let second = k.second in
     record { within = omega arith; limit = h.room_limit; first = omega arith; second = omega arith }
 
-pub unlinked : (m : Marks) (ws heads places : List ℕ) (lits : List Literal) → IsWatched m ws heads places (past_of m) → 1 ≤ length ws → length ws + 3 + length lits < 2 ^ 30 → 2 ≤ length lits → AreThere m.vars lits → AreDistinct lits →
-    (x y : Literal) → get_or lits 0 x ≡ x → get_or lits 1 y ≡ y → IsUnlinked m (ws ++ block_of lits) heads (places ++ length ws ∷ []) (length ws) (word_of x) (word_of y)
-unlinked m ws heads places lits k from small two there distinct x y ex ey =
+pub unlinked : (vars : ℕ) (ws heads places : List ℕ) (lits : List Literal) → IsLinked vars ws heads places → 1 ≤ length ws → length ws + 3 + length lits < 2 ^ 30 → 2 ≤ length lits → AreThere vars lits → AreDistinct lits →
+    (x y : Literal) → get_or lits 0 x ≡ x → get_or lits 1 y ≡ y → IsUnlinked vars (ws ++ block_of lits) heads (places ++ length ws ∷ []) (length ws) (word_of x) (word_of y)
+unlinked vars ws heads places lits k from small two there distinct x y ex ey =
     let h = k.store in
-    let size = behind_length m.vars ws lits from two there distinct in
-    let block = behind_block m.vars ws lits from two there distinct in
-    let same = before m.vars ws lits from two there distinct in
+    let size = behind_length vars ws lits from two there distinct in
+    let block = behind_block vars ws lits from two there distinct in
+    let same = before vars ws lits from two there distinct in
     record {
-      store = attach_store m.vars ws (ws ++ block_of lits) heads places (length ws) h refl (omega arith) same (omega arith) block k.size;
+      store = attach_store vars ws (ws ++ block_of lits) heads places (length ws) h refl (omega arith) same (omega arith) block k.size;
       size = k.size;
-      chains = attach_chains m.vars ws (ws ++ block_of lits) heads places (length ws) h refl (omega arith) same (omega arith) block k.size k.chains;
+      chains = attach_chains vars ws (ws ++ block_of lits) heads places (length ws) h refl (omega arith) same (omega arith) block k.size k.chains;
       place = Contains-push places (length ws);
-      quiet = attach_quiet m.vars ws (ws ++ block_of lits) heads places (length ws) h refl (omega arith) same (omega arith) block k.size (past_of m) m k.quiet;
-      first = behind_lit m.vars ws lits from two there distinct 0 x (omega arith) ∙ ap word_of ex;
-      second = behind_lit m.vars ws lits from two there distinct 1 y (omega arith) ∙ ap word_of ey;
+      first = behind_lit vars ws lits from two there distinct 0 x (omega arith) ∙ ap word_of ex;
+      second = behind_lit vars ws lits from two there distinct 1 y (omega arith) ∙ ap word_of ey;
     }
 
 -- the links of a new clause change no literal
-pub linked_lits : (m : Marks) (ws mid new heads next then places : List ℕ) (p a b : ℕ) → IsUnlinked m ws heads places p a b → Pushed ws mid heads next (2 * p) a → Pushed mid new next then (2 * p + 1) b → KeepsLits places ws new
-linked_lits m ws mid new heads next then places p a b k d e =
+pub linked_lits : (vars : ℕ) (ws mid new heads next then places : List ℕ) (p a b : ℕ) → IsUnlinked vars ws heads places p a b → Pushed ws mid heads next (2 * p) a → Pushed mid new next then (2 * p + 1) b → KeepsLits places ws new
+linked_lits vars ws mid new heads next then places p a b k d e =
     let place = k.place in
     let here : Contains places ((2 * p) / 2) = subst (λ n. Contains places n) (omega arith) place in
     let here2 : Contains places ((2 * p + 1) / 2) = subst (λ n. Contains places n) (omega arith) place in
     let link : Wrote ws mid (link_of (2 * p)) (arena_word heads a) = d.link in
     let link2 : Wrote mid new (link_of (2 * p + 1)) (arena_word next b) = e.link in
-    let h2 = link_store m.vars ws mid places (2 * p) (arena_word heads a) k.store here link in
-    keeps_lits_push m.vars ws mid new places (2 * p + 1) (arena_word next b) h2 here2 link2 (keeps_lits_push m.vars ws ws mid places (2 * p) (arena_word heads a) k.store here link (keeps_lits_none places ws))
+    let h2 = link_store vars ws mid places (2 * p) (arena_word heads a) k.store here link in
+    keeps_lits_push vars ws mid new places (2 * p + 1) (arena_word next b) h2 here2 link2 (keeps_lits_push vars ws ws mid places (2 * p) (arena_word heads a) k.store here link (keeps_lits_none places ws))
 
 -- the words behind the others hold the clause, and the others hold what they held
 pub behind_lits : (vars : ℕ) (ws : List ℕ) (lits : List Literal) (from : 1 ≤ length ws) (two : 2 ≤ length lits) (there : AreThere vars lits) (distinct : AreDistinct lits) → lits_at (ws ++ block_of lits) (length ws) ≡ lits

@@ -1,6 +1,7 @@
 -- What holds once all is propagated.
-use Rattle.std.proofs.Common.{◌≡◌, ◌≢◌, ℕ, ◌+◌, ◌*◌, ◌/◌, ◌<◌, ◌≤◌, ◌⊎◌, List, length, get_or, refl, sym, ◌∙◌, ap, subst, inl, inr, arith}
+use Rattle.std.proofs.Common.{◌≡◌, ◌≢◌, ℕ, ◌+◌, ◌*◌, ◌/◌, ◌<◌, ◌≤◌, ◌⊎◌, List, length, take, get_or, refl, sym, ◌∙◌, ap, subst, inl, inr, arith}
 use Rattle.std.specs.Prelude.{All, Contains}
+use Rattle.std.proofs.lemmas.Bool.{cases_lt}
 use Rattle.std.proofs.lemmas.List.{take_all, get_or-take}
 use Rattle.std.proofs.lemmas.List.Elements.{All-contains, All-contains_itself, All-weaker}
 use Rattle.cnf_core.specs.Lit.{Literal, literal_at, negate, has}
@@ -11,16 +12,21 @@ use Rattle.watch_arena.specs.Words.{arena_word, lit_of, other_of}
 use Rattle.watch_arena.specs.Trail.{Marks, IsMarks, IsLonger, advanced}
 use Rattle.cnf_core.specs.Trail.{Grows}
 use Rattle.watch_arena.specs.Walk.{lit_at, past_of, IsTrueNoLater, IsClauseAt, HoldsClauses, KeepsClauses, IsWatched, IsMade, IsClash, KeepsLits, Closes, Clashes, IsReasoned}
-use Rattle.watch_arena.proofs.ReasonLemmas.{text_kept, reasoned_text}
+use Rattle.watch_arena.proofs.ReasonLemmas.{text_kept, reasoned_text, reason_kept, reason_grown, none_because}
 use Rattle.cnf_core.proofs.GrowthLemmas.{grows_none, grows_more}
 use Rattle.watch_arena.proofs.WalkLemmas.{longer_none, longer_more}
 
 pub made_none : (m : Marks) (ws places : List ℕ) → IsMade m m ws ws places
-made_none m ws places = record { longer = longer_none m; grows = λ clauses t. grows_none clauses m.lits; text = λ p c d is. is; reasoned = λ r. r; reasons = λ i d lt. refl }
+made_none m ws places = record { longer = longer_none m; propagated = omega arith; because = none_because m ws places; grows = λ clauses t. grows_none clauses m.lits; text = λ p c d is. is; reasoned = λ r. r; reasons = λ i d lt. refl }
 
 pub made_more : (old mid new : Marks) (ws then now places : List ℕ) → IsMade old mid ws then places → IsMade mid new then now places → IsMade old new ws now places
 made_more old mid new ws then now places a b = record {
   longer = longer_more old mid new a.longer b.longer;
+  propagated = let x = a.propagated in let y = b.propagated in omega arith;
+  because = λ i d from lt. elim (cases_lt i (length mid.lits)) [
+    | inl small ↦ let l = b.longer in reason_grown mid new then now places i d small l.front b.text b.reasons (a.because i d from small)
+    | inr big ↦ b.because i d big lt
+  ];
   grows = λ clauses t. grows_more clauses old.lits mid.lits new.lits (a.grows clauses t) (b.grows clauses (text_kept clauses ws then places a.text t));
   text = λ p c d is. b.text p c d (a.text p c d is);
   reasoned = λ r. b.reasoned (a.reasoned r);
@@ -124,12 +130,20 @@ clash_clashes old new start ws places p made clash = λ clauses t.
     falsified k n = subst (λ (l : Literal). IsIn (has new.lits) (negate l)) n.2 (clash.false_all n.0 n.1)
 
 pub made_text : (old new : Marks) (ws then now places : List ℕ) → IsMade old new ws then places → KeepsClauses places then now → IsMade old new ws now places
-made_text old new ws then now places a t = record { longer = a.longer; grows = a.grows; text = λ p c d is. t p c d (a.text p c d is); reasoned = λ r. reasoned_text new then now places t (a.reasoned r); reasons = a.reasons }
+made_text old new ws then now places a t = record {
+  longer = a.longer;
+  propagated = a.propagated;
+  because = λ i d from lt. reason_kept then now places (take i new.lits) (get_or new.lits i d) (get_or new.reasons (get_or new.lits i d).var 0) t (a.because i d from lt);
+  grows = a.grows;
+  text = λ p c d is. t p c d (a.text p c d is);
+  reasoned = λ r. reasoned_text new then now places t (a.reasoned r);
+  reasons = a.reasons;
+}
 
 pub made_advanced : (old new : Marks) (ws now places : List ℕ) → IsMade old new ws now places → IsMade old (advanced new) ws now places
 made_advanced old new ws now places a =
     let l : IsLonger old new = a.longer in
-    record { longer = record { vars = l.vars; cuts = l.cuts; front = l.front; longer = l.longer; keeps = l.keeps }; grows = a.grows; text = a.text; reasoned = λ r. let x : IsReasoned new now places = a.reasoned r in record { reason = x.reason; decided = x.decided; begins = x.begins }; reasons = a.reasons }
+    record { longer = record { vars = l.vars; cuts = l.cuts; front = l.front; longer = l.longer; keeps = l.keeps }; propagated = let x = a.propagated in omega arith; because = a.because; grows = a.grows; text = a.text; reasoned = λ r. let x : IsReasoned new now places = a.reasoned r in record { reason = x.reason; decided = x.decided; begins = x.begins }; reasons = a.reasons }
 
 pub clash_kept : (ws now places : List ℕ) (set : LiteralSet) (p : ℕ) → IsClash ws places set p → KeepsLits places ws now → IsClash now places set p
 clash_kept ws now places set p x k = record {

@@ -26,7 +26,7 @@ contains_front cuts level n le c =
     (c.0, omega arith, sym (get_or-take level cuts c.0 n (omega arith)) ∙ c.2)
 
 module _ (m : Marks) (level : ℕ) (marks : IsMarks m) (le : level ≤ length m.cuts) where
-  end_within : level_end m level ≤ length m.lits
+  pub end_within : level_end m level ≤ length m.lits
   end_within = elim (cases_lt level (length m.cuts)) [
     | inl lt ↦
         let cuts = marks.cuts in

@@ -15,3 +15,4 @@ pub mod UndoLemmas
 pub mod AttachLemmas
 pub mod ViewLemmas
 pub mod ArenaLemmas
+pub mod LawLemmas

@@ -2,14 +2,14 @@
 use Rattle.std.proofs.Common.{◌≡◌, ◌≢◌, ℕ, ◌/◌, ◌<◌, ◌≤◌, ◌⊎◌, List, [], ◌∷◌, ◌++◌, length, take, get_or, set, sym, ◌∙◌, ap, subst, inl, inr, arith, length-append}
 use Rattle.std.specs.Prelude.{Contains}
 use Rattle.std.proofs.lemmas.Bool.{cases_lt}
-use Rattle.std.proofs.lemmas.List.{take_at, take-append-le, get_or_append_left, get_or_push, get_or-set_other, get_or-set_same, get_or_default}
+use Rattle.std.proofs.lemmas.List.{take_at, take-take, get_or-take, take-append-le, get_or_append_left, get_or_push, get_or-set_other, get_or-set_same, get_or_default}
 use Rattle.std.proofs.lemmas.List.Elements.{Contains-push_cases, Contains-push, Contains-append_left}
 use Rattle.cnf_core.specs.Lit.{Literal, literal_at, negate, has}
 use Rattle.cnf_core.specs.Clause.{Clauses, IsThere}
 use Rattle.cnf_core.specs.Propagation.{IsIn, IsUnit}
 use Rattle.watch_arena.specs.Words.{arena_word, lit_of}
 use Rattle.watch_arena.specs.Trail.{Marks, IsMarks, IsUnset, with_lit, opened}
-use Rattle.watch_arena.specs.Walk.{HoldsClauses, KeepsClauses, IsReasonFor, IsReasoned, IsAlone, lits_at}
+use Rattle.watch_arena.specs.Walk.{HoldsClauses, KeepsClauses, KeepsReasons, IsReasonFor, IsReasoned, AddsReasons, IsAlone, lits_at}
 use Rattle.watch_arena.proofs.TextLemmas.{is_clause, unit_kept}
 use Rattle.watch_arena.proofs.TrailLemmas.{other_var}
 use Rattle.watch_arena.proofs.WalkLemmas.{alone_unit}
@@ -20,6 +20,24 @@ text_kept clauses old new places k t = record {
   held = λ p c. let d = t.held p c in (d.0, d.1, k p d.0 c d.2);
   stored = λ c among. let d = t.stored c among in (d.0, d.1, k d.0 c d.1 d.2);
 }
+
+pub reason_kept : (old new places : List ℕ) (before : List Literal) (l : Literal) (p : ℕ) → KeepsClauses places old new → IsReasonFor old places before l p → IsReasonFor new places before l p
+reason_kept old new places before l p k x = record { place = x.place; unit = unit_kept old new places p (has before) l k x.place x.unit }
+
+-- no literal came
+pub none_because : (m : Marks) (ws places : List ℕ) → AddsReasons m m ws places
+none_because m ws places = λ i d from lt. absurd (omega arith)
+
+-- the reason of a literal that stands on both trails
+pub reason_grown : (mid new : Marks) (then now places : List ℕ) (i : ℕ) (d : Literal) → i < length mid.lits → take (length mid.lits) new.lits ≡ mid.lits → KeepsClauses places then now → KeepsReasons mid new →
+    IsReasonFor then places (take i mid.lits) (get_or mid.lits i d) (get_or mid.reasons (get_or mid.lits i d).var 0) → IsReasonFor now places (take i new.lits) (get_or new.lits i d) (get_or new.reasons (get_or new.lits i d).var 0)
+reason_grown mid new then now places i d lt front k same x =
+    let at : get_or mid.lits i d ≡ get_or new.lits i d = ap (λ (ls : List Literal). get_or ls i d) (sym front) ∙ get_or-take (length mid.lits) new.lits i d lt in
+    let fronts : take i mid.lits ≡ take i new.lits = ap (take i) (sym front) ∙ take-take i (length mid.lits) new.lits (omega arith) in
+    let y : IsReasonFor now places (take i mid.lits) (get_or mid.lits i d) (get_or mid.reasons (get_or mid.lits i d).var 0) = reason_kept then now places (take i mid.lits) (get_or mid.lits i d) (get_or mid.reasons (get_or mid.lits i d).var 0) k x in
+    let z : IsReasonFor now places (take i mid.lits) (get_or mid.lits i d) (get_or new.reasons (get_or mid.lits i d).var 0) = subst (λ n. IsReasonFor now places (take i mid.lits) (get_or mid.lits i d) n) (sym (same i d lt)) y in
+    subst (λ (ls : List Literal). IsReasonFor now places ls (get_or new.lits i d) (get_or new.reasons (get_or new.lits i d).var 0)) fronts
+    (subst (λ (l : Literal). IsReasonFor now places (take i mid.lits) l (get_or new.reasons l.var 0)) at z)
 
 pub reasoned_text : (m : Marks) (old new places : List ℕ) → KeepsClauses places old new → IsReasoned m old places → IsReasoned m new places
 reasoned_text m old new places k r = record {
@@ -52,6 +70,17 @@ module _ (m : Marks) (l : Literal) (p : ℕ) (marks : IsMarks m) (there : IsTher
 
   new_reason : (k : Literal) → k ≡ l → get_or (set m.reasons l.var p) k.var 0 ≡ p
   new_reason k e = ap (λ (u : Literal). get_or (set m.reasons l.var p) u.var 0) e ∙ get_or-set_same m.reasons l.var p 0 (let size = marks.reasons in let below = there.1 in omega arith)
+
+  -- the reason of the literal that came
+  pub unit_because : (ws places : List ℕ) → IsReasonFor ws places m.lits l p → AddsReasons m (with_lit m l p) ws places
+  unit_because ws places why = λ i d from lt.
+      let last : length m.lits ≡ i = omega (arith, length-append m.lits (l ∷ [])) in
+      let is : get_or (m.lits ++ l ∷ []) i d ≡ l = get_or_push m.lits l d i last in
+      let fronts : take i (m.lits ++ l ∷ []) ≡ m.lits = take_at m.lits (l ∷ []) i last in
+      let read : get_or (set m.reasons l.var p) (get_or (m.lits ++ l ∷ []) i d).var 0 ≡ p = new_reason (get_or (m.lits ++ l ∷ []) i d) is in
+      subst (λ n. IsReasonFor ws places (take i (m.lits ++ l ∷ [])) (get_or (m.lits ++ l ∷ []) i d) n) (sym read)
+      (subst (λ (u : Literal). IsReasonFor ws places (take i (m.lits ++ l ∷ [])) u p) (sym is)
+      (subst (λ (ls : List Literal). IsReasonFor ws places ls l p) (sym fronts) why))
 
   module _ (ws places : List ℕ) (r : IsReasoned m ws places) where
     -- the reasons of the literals in front

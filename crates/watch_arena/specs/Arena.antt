@@ -1,5 +1,5 @@
 -- The arena as contracts see it, and what holds of it together with a trail.
-use Rattle.std.specs.Prelude.{◌≡◌, ◌≤◌, ◌⊎◌, ⊤, ℕ, ◌+◌, ◌*◌, Option, Some, None, List, [], ◌∷◌, All, Contains, length, map, slice_index}
+use Rattle.std.specs.Prelude.{◌≡◌, ◌≤◌, ℕ, ◌+◌, ◌*◌, Option, Some, None, List, [], ◌∷◌, All, Contains, length, map, slice_index}
 use Rattle.cnf_core.specs.declared.limits.TheConstants.{VARS, ROOM}
 use Rattle.cnf_core.specs.Lit.{Literal, negate, has}
 use Rattle.cnf_core.specs.Clause.{Clauses, AreDistinct, AreThere}
@@ -7,8 +7,8 @@ use Rattle.cnf_core.specs.Propagation.{IsIn, SameLiterals}
 use Rattle.watch_arena.specs.declared.clause_ref.ClauseRef.{ClauseRef}
 use Rattle.watch_arena.specs.Words.{IsStore}
 use Rattle.watch_arena.specs.Chains.{HasChains}
-use Rattle.watch_arena.specs.Trail.{Marks, IsUnset, with_lit}
-use Rattle.watch_arena.specs.Walk.{lit_at, lits_at, AreRight, IsReasoned, IsReasonFor}
+use Rattle.watch_arena.specs.Trail.{Marks, IsUnset}
+use Rattle.watch_arena.specs.Walk.{lit_at, lits_at, AreRight, IsReasoned, IsReasonFor, AddsReasons}
 
 -- the number of variables, the most words, the words of the clauses behind one that stands for
 -- none, the places of the clauses, and how many clauses were looked at
@@ -71,6 +71,10 @@ pub record AreWatched (a : Attached) (m : Marks) : Type 0 where
 abbrev pub AreReasoned : Attached → Marks → Type 0
 AreReasoned a m = IsReasoned m a.words a.places
 
+-- each further literal of the new trail has a clause as reason, which made it true
+abbrev pub AreBecause : Attached → Marks → Marks → Type 0
+AreBecause a old new = AddsReasons old new a.words a.places
+
 -- a literal may be set for this reason: a clause of which all other literals are false, or none
 -- at level 0
 pub record IsReasonOf (a : Attached) (m : Marks) (l : Literal) (p : ℕ) : Type 0 where
@@ -103,12 +107,11 @@ pub record IsAsserting (m : Marks) (a b : Literal) : Type 0 where
   pub second : IsIn (has m.lits) (negate b)
   pub level : slice_index m.levels b.var ≡ length m.cuts
 
--- a clause of these literals leaves the arena watched, where its first two literals may be watched;
--- or as soon as its first literal is set, where that is what it asserts
-abbrev pub IsAdded : Attached → Marks → List Literal → Type 0
-IsAdded a m [] = ⊤
-IsAdded a m (k ∷ []) = ⊤
-IsAdded a m (k ∷ l ∷ lits) = (AreOpen m k l ⊎ (IsHeldBy m k l ⊎ IsHeldBy m l k) → AreWatched a m) × (IsAsserting m k l → (reason : ℕ) → AreWatched a (with_lit m k reason))
+-- the first two literals of a clause may be watched
+abbrev pub MayBeWatched : Marks → List Literal → Type 0
+MayBeWatched m [] = ⊥
+MayBeWatched m (k ∷ []) = ⊥
+MayBeWatched m (k ∷ l ∷ lits) = AreRight m k l
 
 -- what a clause that comes leaves as it was
 pub record IsMoreText (old new : Attached) : Type 0 where

@@ -56,7 +56,8 @@ pub record IsTrueNoLater (m : Marks) (f l : Literal) : Type 0 where
   pub now : IsIn (has m.lits) l
   pub back : (n : ℕ) → Contains m.cuts n → IsIn (has (take n m.lits)) f → IsIn (has (take n m.lits)) l
 
--- for each watch that isn't out: where it is false already, the other one is true at no later level
+-- for each watch that isn't out: where it is false by the literals that are done, the other one is
+-- true at no later level
 abbrev pub AreGuarded : List ℕ → List ℕ → LiteralSet → Marks → List ℕ → Type 0
 AreGuarded ws places done m out = (s : ℕ) → Contains places (s / 2) → times out s ≡ 0 → IsIn done (negate (lit_at ws (lit_of s))) → IsTrueNoLater m (negate (lit_at ws (lit_of s))) (lit_at ws (other_of s))
 
@@ -133,9 +134,16 @@ pub record IsWatched (m : Marks) (ws heads places : List ℕ) (done : LiteralSet
 abbrev pub KeepsReasons : Marks → Marks → Type 0
 KeepsReasons old new = (i : ℕ) (d : Literal) → i < length old.lits → slice_index new.reasons (slice_index_or old.lits i d).var ≡ slice_index old.reasons (slice_index_or old.lits i d).var
 
+-- the clause that the table has as reason of each further literal holds it, and its others were false
+-- before
+abbrev pub AddsReasons : Marks → Marks → List ℕ → List ℕ → Type 0
+AddsReasons old new ws places = (i : ℕ) (d : Literal) → length old.lits ≤ i → i < length new.lits → IsReasonFor ws places (take i new.lits) (slice_index_or new.lits i d) (slice_index new.reasons (slice_index_or new.lits i d).var)
+
 -- what a walk adds to the trail, and leaves of the words
 pub record IsMade (old new : Marks) (ws now places : List ℕ) : Type 0 where
   pub longer : IsLonger old new
+  pub propagated : old.front ≤ new.front
+  pub because : AddsReasons old new now places
   pub grows : GrowsBy places ws old.lits new.lits
   pub text : KeepsClauses places ws now
   pub reasoned : IsReasoned old ws places → IsReasoned new now places
@@ -163,25 +171,23 @@ Closes places ws old new = (clauses : Clauses) → HoldsClauses clauses ws place
 abbrev pub Clashes : List ℕ → List ℕ → List Literal → Type 0
 Clashes places ws old = (clauses : Clauses) → HoldsClauses clauses ws places → Falsifies clauses (has old)
 
--- of the clause at the place the two watches may not be right yet
-pub record IsAttached (m : Marks) (ws heads places : List ℕ) (p : ℕ) : Type 0 where
-  pub store : IsStore m.vars ws places
-  pub size : length heads ≡ 2 * m.vars + 2
+-- every watch stands in the chain of its literal
+pub record IsLinked (vars : ℕ) (ws heads places : List ℕ) : Type 0 where
+  pub store : IsStore vars ws places
+  pub size : length heads ≡ 2 * vars + 2
   pub chains : HasChains ws heads places []
-  pub place : Contains places p
-  pub quiet : AreGuarded ws places (past_of m) m ((2 * p) ∷ (2 * p + 1) ∷ [])
 
--- where one of the two literals is false already, the other one is true at no later level
+-- two literals may be watched: where one is false and propagated, the other one is true at no later
+-- level; contracts say it of each clause, and walks of each watch (`AreGuarded`)
 pub record AreRight (m : Marks) (a b : Literal) : Type 0 where
   pub first : IsIn (past_of m) (negate a) → IsTrueNoLater m (negate a) b
   pub second : IsIn (past_of m) (negate b) → IsTrueNoLater m (negate b) a
 
--- the same before its two watches are in their chains
-pub record IsUnlinked (m : Marks) (ws heads places : List ℕ) (p a b : ℕ) : Type 0 where
-  pub store : IsStore m.vars ws places
-  pub size : length heads ≡ 2 * m.vars + 2
+-- the same but for the two watches of the clause at a place, which has these words as first literals
+pub record IsUnlinked (vars : ℕ) (ws heads places : List ℕ) (p a b : ℕ) : Type 0 where
+  pub store : IsStore vars ws places
+  pub size : length heads ≡ 2 * vars + 2
   pub chains : HasChains ws heads places ((2 * p) ∷ (2 * p + 1) ∷ [])
   pub place : Contains places p
-  pub quiet : AreGuarded ws places (past_of m) m ((2 * p) ∷ (2 * p + 1) ∷ [])
   pub first : arena_word ws (p + 3 + 0) ≡ a
   pub second : arena_word ws (p + 3 + 1) ≡ b

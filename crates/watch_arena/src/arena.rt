@@ -7,7 +7,7 @@ ghost use Rattle.watch_arena.specs.declared.fault.ArenaFault.TheVariants.{Room};
 ghost use Rattle.watch_arena.specs.Trail.{Marks, IsMarks, IsLonger};
 ghost use Rattle.cnf_core.specs.Trail.{Grows};
 ghost use Rattle.watch_arena.specs.Walk.{KeepsReasons};
-ghost use Rattle.watch_arena.specs.Arena.{AreWatched, AreReasoned, AreAttached, IsSameText, IsMoreText, IsAdded, IsClashOf, attached_at, attached_clauses, spread};
+ghost use Rattle.watch_arena.specs.Arena.{AreWatched, AreReasoned, AreBecause, AreAttached, IsSameText, IsMoreText, MayBeWatched, IsClashOf, attached_at, attached_clauses, spread};
 
 use crate::attach::attach;
 use crate::clause_ref::ClauseRef;
@@ -103,7 +103,8 @@ impl Arena {
     }
 
     /// Puts what follows by unit propagation behind the trail. None: the trail's literals are the
-    /// closure of what they were. Else the answer is a clause all of whose literals are false.
+    /// closure of what they were. Else the answer is a clause all of whose literals are false. Each
+    /// further literal has the clause as reason that made it true.
     pub fn propagate(&mut self, trail: &mut Trail) -> Option<ClauseRef>
         requires vars { trail.old.vars ≡ self.old.vars }
         requires watched { AreWatched self.old trail.old }
@@ -114,6 +115,8 @@ impl Arena {
         ensures longer { IsLonger trail.old trail.new }
         ensures grows { Grows (attached_clauses self.old) trail.old.lits trail.new.lits }
         ensures reasons { KeepsReasons trail.old trail.new }
+        ensures because { AreBecause self.new trail.old trail.new }
+        ensures front { trail.old.front ≤ trail.new.front }
         ensures all { result ≡ None → trail.new.front ≡ length trail.new.lits }
         ensures closes { result ≡ None → IsClosure (attached_clauses self.old) (has trail.old.lits) (has trail.new.lits) }
         ensures clash { IfSome result (λ c. IsClashOf self.new trail.new c.0) }
@@ -130,10 +133,10 @@ impl Arena {
     }
 
     /// Attaches a clause of distinct variables, and watches its first two literals. `Room` comes
-    /// exactly where the words so far, the literals and 3 pass the room.
+    /// exactly where the words so far, the literals and 3 pass the room. On whichever trail the arena was
+    /// watched, it is so with the clause, where its first two literals may be watched.
     pub fn attach(&mut self, lits: &[Lit], trail: &Trail) -> Result<ClauseRef, ArenaFault>
         requires vars { trail.now.vars ≡ self.old.vars }
-        requires watched { AreWatched self.old trail.now }
         requires two { 2 ≤ length lits.now }
         requires there { AreThere self.old.vars lits.now }
         requires distinct { AreDistinct lits.now }
@@ -141,13 +144,12 @@ impl Arena {
         ensures clause { IfOk result (λ c. attached_at self.new c.0 ≡ lits.now) }
         ensures words { OnOk result (length self.new.words ≡ length self.old.words + length lits.now + 3) }
         ensures others { IsMoreText self.old self.new }
-        ensures watched { OnOk result (IsAdded self.new trail.now lits.now) }
-        ensures reasoned { AreReasoned self.old trail.now → AreReasoned self.new trail.now }
+        ensures watched { OnOk result ((m : Marks) → AreWatched self.old m → MayBeWatched m lits.now → AreWatched self.new m) }
+        ensures reasoned { (m : Marks) → AreReasoned self.old m → AreReasoned self.new m }
         ensures attached { AreAttached self.new }
         ensures none { OnErr result (self.new ≡ self.old) }
         ensures room { IsErrOf result Room ↔ self.old.room + 1 < length self.old.words + length lits.now + 3 }
     {
-        let _trail = trail.vars();
         attach(
             &mut self.words,
             &mut self.heads,

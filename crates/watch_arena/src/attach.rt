@@ -3,7 +3,7 @@ ghost use Rattle.std.specs.Prelude.{◌≡◌, ◌≤◌, ◌<◌, ◌+◌, ◌*
 ghost use Rattle.cnf_core.specs.Clause.{AreDistinct, AreThere};
 ghost use Rattle.watch_arena.specs.Words.{block_of};
 ghost use Rattle.watch_arena.specs.declared.fault.ArenaFault.TheVariants.{Room};
-ghost use Rattle.watch_arena.specs.Walk.{IsWatched, IsUnlinked, IsAttached, KeepsLits, lits_at, past_of};
+ghost use Rattle.watch_arena.specs.Walk.{IsLinked, IsUnlinked, KeepsLits, lits_at};
 
 use crate::chains::push;
 use crate::clause_ref::ClauseRef;
@@ -53,8 +53,8 @@ fn link_both(
     a: u32,
     b: u32,
 )
-    requires { IsUnlinked trail.now words.old heads.old places.now p a b }
-    ensures attached { IsAttached trail.now words.new heads.new places.now p }
+    requires { IsUnlinked trail.now.vars words.old heads.old places.now p a b }
+    ensures linked { IsLinked trail.now.vars words.new heads.new places.now }
     ensures lits { KeepsLits places.now words.old words.new }
 {
     push(words, heads, 2 * p, a);
@@ -71,13 +71,13 @@ pub fn attach(
     lits: &[Lit],
     room: u32,
 ) -> Result<ClauseRef, ArenaFault>
-    requires watched { IsWatched trail.now words.old.items heads.old places.old.items (past_of trail.now) }
+    requires linked { IsLinked trail.now.vars words.old.items heads.old places.old.items }
     requires some { 1 ≤ length words.old.items }
     requires room { room < 2 ^ 28 + 1 }
     requires two { 2 ≤ length lits.now }
     requires there { AreThere trail.now.vars lits.now }
     requires distinct { AreDistinct lits.now }
-    ensures attached { IfOk result (λ c. IsAttached trail.now words.new.items heads.new places.new.items c.0) }
+    ensures linked { OnOk result (IsLinked trail.now.vars words.new.items heads.new places.new.items) }
     ensures clause { IfOk result (λ c. lits_at words.new.items c.0 ≡ lits.now) }
     ensures others { OnOk result (KeepsLits places.old.items words.old.items words.new.items) }
     ensures size { OnOk result (length words.new.items ≡ length words.old.items + length lits.now + 3) }

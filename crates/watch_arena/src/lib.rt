@@ -9,7 +9,8 @@
 //! when it is watched on a trail, and when the trail is reasoned). `trail` has the trail, `tables`
 //! how its tables grow, `chains` the one write of a chain, `looks` and `visits` one step of a walk,
 //! `walks` a chain and the way to the closure, `attach` a further clause, `arena` the whole as one
-//! value. Learning from conflicts and the solver stand on it.
+//! value, `laws` what its levels say of a trail, and which literals may
+//! be watched. Learning from conflicts and the solver stand on it.
 #![tactic(auto)]
 
 mod arena;
@@ -17,6 +18,7 @@ mod attach;
 mod chains;
 mod clause_ref;
 mod fault;
+mod laws;
 mod looks;
 mod tables;
 #[cfg(test)]
@@ -28,4 +30,5 @@ mod walks;
 pub use arena::Arena;
 pub use clause_ref::ClauseRef;
 pub use fault::ArenaFault;
+pub use laws::{levels_never_fall, two_literals_may_be_watched, undone_leaves_levels_up_to};
 pub use trail::Trail;

@@ -33,6 +33,7 @@ pub fn visit(
     ensures falsified { result ≡ None → IsFalsified words.new (has trail.new.lits) s }
     ensures walking { result ≡ None → IsWalking trail.new words.new heads.new places.now (done_of trail.new) w s }
 {
+    // what the types keep
     let _trail = trail.len();
     let next = words[(s / 2 + 1 + s % 2) as usize];
     match look_at(words, places, trail, s) {

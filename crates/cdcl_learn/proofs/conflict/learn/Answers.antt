@@ -37,3 +37,8 @@ pub returns-clause-named : goal.returns-clause-named
 returns-clause-named c = λ v h.
     let e : c.put_latest_first-back.new.self.seen ≡ c.resolve-first.new.work.seen = c.put_latest_first-back.ensures.seen ∙ c.shorten.ensures.seen in
     c.resolve-first.ensures.named v (subst (λ (bs : List Bool). is_seen bs v ≡ true) e h)
+
+pub returns-clause-above : goal.returns-clause-above
+returns-clause-above c = λ v h.
+    let e : c.put_latest_first-back.new.self.seen ≡ c.resolve-first.new.work.seen = c.put_latest_first-back.ensures.seen ∙ c.shorten.ensures.seen in
+    c.resolve-first.ensures.above v (subst (λ (bs : List Bool). is_seen bs v ≡ true) e h)

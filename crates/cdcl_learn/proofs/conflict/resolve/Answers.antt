@@ -55,3 +55,6 @@ returns-clause-seen c =
 
 pub returns-clause-named : goal.returns-clause-named
 returns-clause-named c = c.loop-work.invariant.stage.cut.named
+
+pub returns-clause-above : goal.returns-clause-above
+returns-clause-above c = c.loop-work.invariant.stage.cut.above

@@ -14,19 +14,19 @@ use Rattle.watch_arena.proofs.attach.attach.Goals as goal
 
 pub link_both-requires : goal.link_both-requires
 link_both-requires c =
-    let m = c.args.trail.now in
+    let vars = c.args.trail.now.vars in
     let lits = c.args.lits.now in
     let old = c.args.words.now.items in
     let n : c.len-before.result ≡ length old = search rules in
     let ws : c.deref_mut.result.now ≡ old ++ block_of lits = c.deref_mut.ensures.value ∙ c.in_ok-append.ensures.all in
     let places : c.deref.result.now ≡ c.args.places.now.items ++ length old ∷ [] = c.deref.ensures.value ∙ c.in-Ok.ensures.items ∙ ap (λ k. c.args.places.now.items ++ k ∷ []) n in
-    let u : IsUnlinked m (old ++ block_of lits) c.args.heads.now (c.args.places.now.items ++ length old ∷ []) (length old) (word_of c.index-lits-0.result) (word_of c.index-lits-1.result) =
-    unlinked m old c.args.heads.now c.args.places.now.items lits c.requires.watched c.requires.some (omega arith) c.requires.two c.requires.there c.requires.distinct c.index-lits-0.result c.index-lits-1.result (sym c.index-lits-0.is) (sym c.index-lits-1.is) in
-    subst (λ (w : List ℕ). IsUnlinked m w c.args.heads.now c.deref.result.now c.len-before.result c.word.result c.word-2.result) (sym ws)
-    (subst (λ (p : List ℕ). IsUnlinked m (old ++ block_of lits) c.args.heads.now p c.len-before.result c.word.result c.word-2.result) (sym places)
-    (subst (λ k. IsUnlinked m (old ++ block_of lits) c.args.heads.now (c.args.places.now.items ++ length old ∷ []) k c.word.result c.word-2.result) (sym n)
-    (subst (λ a. IsUnlinked m (old ++ block_of lits) c.args.heads.now (c.args.places.now.items ++ length old ∷ []) (length old) a c.word-2.result) (sym c.word.ensures.value)
-    (subst (λ b. IsUnlinked m (old ++ block_of lits) c.args.heads.now (c.args.places.now.items ++ length old ∷ []) (length old) (word_of c.index-lits-0.result) b) (sym c.word-2.ensures.value) u))))
+    let u : IsUnlinked vars (old ++ block_of lits) c.args.heads.now (c.args.places.now.items ++ length old ∷ []) (length old) (word_of c.index-lits-0.result) (word_of c.index-lits-1.result) =
+    unlinked vars old c.args.heads.now c.args.places.now.items lits c.requires.linked c.requires.some (omega arith) c.requires.two c.requires.there c.requires.distinct c.index-lits-0.result c.index-lits-1.result (sym c.index-lits-0.is) (sym c.index-lits-1.is) in
+    subst (λ (w : List ℕ). IsUnlinked vars w c.args.heads.now c.deref.result.now c.len-before.result c.word.result c.word-2.result) (sym ws)
+    (subst (λ (p : List ℕ). IsUnlinked vars (old ++ block_of lits) c.args.heads.now p c.len-before.result c.word.result c.word-2.result) (sym places)
+    (subst (λ k. IsUnlinked vars (old ++ block_of lits) c.args.heads.now (c.args.places.now.items ++ length old ∷ []) k c.word.result c.word-2.result) (sym n)
+    (subst (λ a. IsUnlinked vars (old ++ block_of lits) c.args.heads.now (c.args.places.now.items ++ length old ∷ []) (length old) a c.word-2.result) (sym c.word.ensures.value)
+    (subst (λ b. IsUnlinked vars (old ++ block_of lits) c.args.heads.now (c.args.places.now.items ++ length old ∷ []) (length old) (word_of c.index-lits-0.result) b) (sym c.word-2.ensures.value) u))))
 
 pub returns-clause-others : goal.returns-clause-others
 returns-clause-others c =
@@ -40,7 +40,7 @@ returns-clause-others c =
     let places : c.deref.result.now ≡ c.args.places.now.items ++ c.len-before.result ∷ [] = c.deref.ensures.value ∙ c.in-Ok.ensures.items in
     subst (λ (w : List ℕ). KeepsLits c.args.places.now.items old w) (sym items) (keeps_lits_more c.args.places.now.items c.deref.result.now old (old ++ block_of lits) c.link_both.new.words
     (λ q among. subst (λ (ps : List ℕ). Contains ps q) (sym places) (Contains-append_left c.args.places.now.items (c.len-before.result ∷ []) q among))
-    (before_lits c.args.trail.now.vars old c.args.places.now.items lits c.requires.some c.requires.two c.requires.there c.requires.distinct c.requires.watched.store)
+    (before_lits c.args.trail.now.vars old c.args.places.now.items lits c.requires.some c.requires.two c.requires.there c.requires.distinct c.requires.linked.store)
     (subst (λ (w : List ℕ). KeepsLits c.deref.result.now w c.link_both.new.words) ws c.link_both.ensures.lits))
 
 pub returns-clause-clause : goal.returns-clause-clause

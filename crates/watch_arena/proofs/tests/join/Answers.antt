@@ -5,7 +5,8 @@ use Rattle.watch_arena.specs.declared.fault.ArenaFault.{ArenaFault}
 use Rattle.cnf_core.specs.Lit.{Literal, negate, has}
 use Rattle.cnf_core.specs.Propagation.{IsIn}
 use Rattle.watch_arena.specs.Trail.{Marks}
-use Rattle.watch_arena.specs.Arena.{Attached, AreWatched, AreOpen, IsAdded}
+use Rattle.watch_arena.specs.Arena.{AreWatched, MayBeWatched}
+use Rattle.watch_arena.proofs.LawLemmas.{may_open}
 use Rattle.watch_arena.proofs.tests.join.Goals as goal
 
 -- on a trail without literals no literal is false
@@ -15,11 +16,13 @@ none_false lits l e h = clash (subst (λ (ls : List Literal). has ls l ≡ true)
     clash : false ≡ true → ⊥
     clash x = cc
 
-open_watched : (a : Attached) (m : Marks) (lits : List Literal) → m.lits ≡ [] → 2 ≤ length lits → IsAdded a m lits → AreWatched a m
-open_watched a m [] e two x = absurd (omega arith)
-open_watched a m (k ∷ []) e two x = absurd (omega arith)
-open_watched a m (k ∷ l ∷ lits) e two x = x.0 (inl (record { first = none_false m.lits (negate k) e; second = none_false m.lits (negate l) e }))
+open_watched : (m : Marks) (lits : List Literal) → m.lits ≡ [] → 2 ≤ length lits → MayBeWatched m lits
+open_watched m [] e two = absurd (omega arith)
+open_watched m (k ∷ []) e two = absurd (omega arith)
+open_watched m (k ∷ l ∷ lits) e two = may_open m k l (record { first = none_false m.lits (negate k) e; second = none_false m.lits (negate l) e })
 
 pub returns-clause-watched : goal.returns-clause-watched
-returns-clause-watched g c = open_watched c.attach.new.self c.args.trail.now c.args.lits.now c.requires.empty c.requires.two
-    (subst (λ (r : Result ClauseRef ArenaFault). OnOk r (IsAdded c.attach.new.self c.args.trail.now c.args.lits.now)) c.expect-clause.ensures c.attach.ensures.watched)
+returns-clause-watched g c =
+    let watched : (m : Marks) → AreWatched c.args.arena.now m → MayBeWatched m c.args.lits.now → AreWatched c.attach.new.self m =
+    subst (λ (r : Result ClauseRef ArenaFault). OnOk r ((m : Marks) → AreWatched c.args.arena.now m → MayBeWatched m c.args.lits.now → AreWatched c.attach.new.self m)) c.expect-clause.ensures c.attach.ensures.watched in
+    watched c.args.trail.now c.requires.watched (open_watched c.args.trail.now c.args.lits.now c.requires.empty c.requires.two)

@@ -6,8 +6,8 @@ use Rattle.watch_arena.specs.Trail.{Marks, IsMarks, with_lit}
 use Rattle.watch_arena.specs.Walk.{KeepsClauses, IsMade, IsStepped, done_of, lit_at}
 use Rattle.watch_arena.proofs.WordLemmas.{lit_there}
 use Rattle.watch_arena.proofs.MoveLemmas.{link_text, swap_text, swap_store}
-use Rattle.watch_arena.proofs.ReasonLemmas.{reasoned_text}
-use Rattle.watch_arena.proofs.ReasonWalkLemmas.{visited_reasoned}
+use Rattle.watch_arena.proofs.ReasonLemmas.{reasoned_text, none_because}
+use Rattle.watch_arena.proofs.ReasonWalkLemmas.{visited_reasoned, visited_because}
 use Rattle.cnf_core.proofs.GrowthLemmas.{grows_none}
 use Rattle.watch_arena.proofs.WalkLemmas.{ready, watch_below, visited_true, visited_move, visited_unit, visited_grows, longer_unit, longer_none, unit_keeps}
 use Rattle.watch_arena.proofs.visits.visit.Goals as goal
@@ -65,6 +65,8 @@ returns-in-True-clause-made c =
     let r = ready _ _ _ _ _ _ _ c.requires.walking c.requires.some in
     record {
       longer = longer_none c.args.trail.now;
+      propagated = omega arith;
+      because = none_because c.args.trail.now _ _;
       grows = λ clauses text. grows_none clauses c.args.trail.now.lits;
       text = link_text _ _ _ _ _ _ c.requires.walking.store r.place c.push.ensures.link;
       reasoned = reasoned_text c.args.trail.now _ _ _ (link_text _ _ _ _ _ _ c.requires.walking.store r.place c.push.ensures.link);
@@ -83,6 +85,8 @@ returns-in-Move-clause-made c =
     let two_steps : KeepsClauses c.args.places.now c.args.words.now c.push-in-Move.new.words = λ q d e is. link_text _ c.swap.new.words c.push-in-Move.new.words c.args.places.now _ _ store r.place c.push-in-Move.ensures.link q d e (one q d e is) in
     record {
       longer = longer_none c.args.trail.now;
+      propagated = omega arith;
+      because = none_because c.args.trail.now _ _;
       grows = λ clauses text. grows_none clauses c.args.trail.now.lits;
       text = two_steps;
       reasoned = reasoned_text c.args.trail.now _ _ _ two_steps;
@@ -100,6 +104,9 @@ returns-in-Unit-clause-made c =
     let there : IsThere c.args.trail.now.vars c.in-Unit.l = subst (λ (l : Literal). IsThere c.args.trail.now.vars l) is (lit_there c.args.trail.now.vars c.args.words.now c.args.places.now (c.args.s / 2) (1 - c.args.s % 2) c.requires.walking.store r.place (omega arith)) in
     subst (λ (m : Marks). IsMade c.args.trail.now m c.args.words.now c.push-in-Unit.new.words c.args.places.now) (sym c.set.ensures.value) (record {
       longer = longer_unit c.args.trail.now c.in-Unit.l (c.args.s / 2);
+      propagated = omega arith;
+      because = visited_because c.args.trail.now c.args.words.now c.args.heads.now c.args.places.now _ _ c.requires.walking c.requires.some c.requires.false_now c.len-trail.ensures.marks c.in-Unit.l there c.in-Unit.ensures c.push-in-Unit.new.words
+          (link_text _ _ _ _ _ _ c.requires.walking.store r.place c.push-in-Unit.ensures.link);
       grows = visited_grows c.args.trail.now c.args.words.now c.args.heads.now c.args.places.now _ _ c.requires.walking c.requires.some c.requires.false_now c.requires.fresh c.len-trail.ensures.marks c.in-Unit.l c.in-Unit.ensures;
       text = link_text _ _ _ _ _ _ c.requires.walking.store r.place c.push-in-Unit.ensures.link;
       reasoned = λ x. reasoned_text (with_lit c.args.trail.now c.in-Unit.l (c.args.s / 2)) _ _ _ (link_text _ _ _ _ _ _ c.requires.walking.store r.place c.push-in-Unit.ensures.link)

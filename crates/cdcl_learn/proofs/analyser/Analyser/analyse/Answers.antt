@@ -27,4 +27,4 @@ returns-clause-seen c =
     let len : length c.copy_met-self-inside.new.side ≡ c.self.inside.side.len = c.copy_met-self-inside.auto.side ∙ c.deref_mut.ensures.len in
     subst (λ (ns : List ℕ). AreSeen c.args.arena.now c.args.trail.now (c.learn-learnt.result.first ∷ c.learn-learnt.new.work.rest) ns)
     (sym (ap (take c.copy_met-self-inside.result) (take_at c.copy_met-self-inside.new.side (drop (length c.copy_met-self-inside.new.side) c.self.inside.side.items) c.self.inside.side.len len) ∙ c.copy_met-self-inside.ensures.same))
-    (seen_after c.args.arena.now c.args.trail.now c.learn-learnt.new.work (c.learn-learnt.result.first ∷ c.learn-learnt.new.work.rest) c.learn-learnt.ensures.named c.copy_met-self-inside.ensures.marked c.copy_met-self-inside.ensures.all c.learn-learnt.ensures.seen)
+    (seen_after c.args.arena.now c.args.trail.now c.learn-learnt.new.work (c.learn-learnt.result.first ∷ c.learn-learnt.new.work.rest) c.learn-learnt.ensures.named c.learn-learnt.ensures.above c.copy_met-self-inside.ensures.marked c.copy_met-self-inside.ensures.all c.learn-learnt.ensures.seen)

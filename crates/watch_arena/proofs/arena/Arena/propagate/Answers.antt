@@ -33,6 +33,16 @@ returns-clause-reasoned c =
     c.self.view_is c.deref_mut.ensures.value c.deref.ensures.value items size c.propagate.ensures.made c.propagate.ensures.watched in
     x.reasoned
 
+pub returns-clause-because : goal.returns-clause-because
+returns-clause-because c =
+    let size : length c.propagate.new.words ≡ length c.deref_mut.result.now = c.propagate.auto.words in
+    let len : length c.deref_mut.result.now ≡ vec_len c.self.inside.words = search rules in
+    let words = with_items c.self.inside.words c.propagate.new.words in
+    let items : words.items ≡ c.propagate.new.words = take_at c.propagate.new.words (drop (length c.propagate.new.words) c.self.inside.words.items) (vec_len c.self.inside.words) (size ∙ len) in
+    let x = propagated c.args.self.now c.self.inside.vars c.self.inside.room c.self.inside.visits c.propagate.new.visits c.self.inside.words.items c.self.inside.places.items c.deref_mut.result.now c.deref.result.now c.propagate.new.words words.items c.propagate.new.heads c.args.trail.now c.propagate.new.trail
+    c.self.view_is c.deref_mut.ensures.value c.deref.ensures.value items size c.propagate.ensures.made c.propagate.ensures.watched in
+    x.because
+
 pub returns-clause-text : goal.returns-clause-text
 returns-clause-text c =
     let size : length c.propagate.new.words ≡ length c.deref_mut.result.now = c.propagate.auto.words in
