@@ -13,15 +13,15 @@ use Rattle.plan_core.specs.Values.{value_of}
 use Rattle.plan_core.proofs.Listing.{Contains-head, Contains-tail, Contains-flat_map}
 use Rattle.cnf_core.specs.declared.literal.Var.{Var}
 use Rattle.cnf_core.specs.Lit.{Literal, positive_of}
-use Rattle.cnf_core.specs.Clause.{Clauses}
+use Rattle.cnf_core.specs.Clause.{Clauses, HasAllOf}
 use Rattle.refute_log.specs.declared.line.LogLine.{LogLine}
 use Rattle.refute_log.specs.declared.line.LogLine.TheVariants.{Formula, Learnt, Bound, Query, Refuted, Model}
 use Rattle.refute_log.specs.Told.{Lines}
 use Rattle.refute_log.specs.Log.{refuted}
 use Rattle.refute_check.specs.Kept.{Kept, Refutes}
 use Rattle.certified_values.specs.Bounds.{SaysAtLeast}
-use Rattle.certified_values.specs.Certified.{IsOutOfReach, IsCertifiedLeast, Certifies}
-use Rattle.certified_values.proofs.CertifiedLemmas.{certifies_next, certifies_fewer, least_at}
+use Rattle.certified_values.specs.Certified.{IsOutOfReach, IsCertifiedLeast, Certifies, CertifiesNone}
+use Rattle.certified_values.proofs.CertifiedLemmas.{certifies_next, certifies_fewer, certifies_under, least_at, least_under}
 use Rattle.certified_check.specs.declared.told_bound.ToldBound.{ToldBound}
 use Rattle.certified_check.specs.Lacking.{told_bound, KnowsLog, IsUnreached, IsFirstLacking}
 
@@ -227,3 +227,30 @@ lacking_once greatest lines order v s (Some i) (Some j) within h k = elim (cases
         let low : i < s = h.0 in
         let at : slice_get order i ≡ Some c = slice_get-get_or order i Height (omega arith) in
         h.2 c at (least_at greatest lines order v i c at (certifies_fewer greatest lines order v j (i + 1) (omega arith) k.1))
+
+-- ---- that there is no drawing
+
+no_literals : (c : List Literal) → HasAllOf [] c → c ≡ []
+no_literals [] h = refl
+no_literals (l ∷ ls) h = nothing l (l ∷ ls ≡ []) (h l (Contains-head l ls))
+
+pub none_is : (lines : Lines) (kept : Kept) (bounds : List ToldBound) → KnowsLog lines kept bounds → Refutes kept [] ↔ CertifiesNone lines
+none_is lines kept bounds known = (
+  λ any.
+      let there : Contains (flat_map refuted lines) any.1 = subst (λ (cs : Clauses). Contains cs any.1) (ap (λ f. f.refuted) known.facts) (any.0, any.2, any.3) in
+      subst (λ (c : List Literal). Contains lines (Refuted c)) (no_literals any.1 any.4) (refuted_line lines any.1 there),
+  λ none.
+      let there : Contains kept.facts.refuted [] = subst (λ (cs : Clauses). Contains cs []) (sym (ap (λ f. f.refuted) known.facts)) (line_refuted lines [] none) in
+      (there.0, [], there.1, there.2, λ l among. among),
+)
+
+-- ---- other greatest values that are the same
+
+pub lacking_under : (greatest other : Criterion → ℕ) (lines : Lines) (order : List Criterion) (v : Values) (s : ℕ) (found : Option ℕ) → ((b : Criterion) → greatest b ≡ other b) →
+    IsFirstLacking greatest lines order v s found → IsFirstLacking other lines order v s found
+lacking_under greatest other lines order v s None same h = certifies_under greatest other lines order v s same h
+lacking_under greatest other lines order v s (Some i) same h = (
+  h.0,
+  certifies_under greatest other lines order v i same h.1,
+  λ c at least. h.2 c at (least_under other greatest lines (take i order) c v (λ b. sym (same b)) least),
+)

@@ -22,9 +22,11 @@ pub record KnowsLog (lines : Lines) (kept : Kept) (bounds : List ToldBound) : Ty
   pub facts : kept.facts ≡ facts_of lines
   pub told : bounds ≡ flat_map told_bound lines
 
--- values that are less than in v at c and the same before it don't reach the bound: it is at most the greatest
--- value, and one more than that of an earlier criterion, or that of c
-pub record IsUnreached (greatest : Criterion → ℕ) (earlier : List Criterion) (c : Criterion) (v : Values) (b : ToldBound) : Type 0 where
+-- values that are less than in v at c and the same before it don't reach the bound: its number is within reach of its
+-- criterion, and it asks one more than v of an earlier criterion, or just v's value of c. A bound is unreached where its
+-- literal is out of reach (IsOutOfReach): one notion, of bounds and of literals
+pub record IsUnreached (greatest : Criterion → ℕ) (earlier : List Criterion) (c : Criterion) (v : Values) (b : ToldBound)
+    : Type 0 where
   pub within : b.k ≤ greatest b.criterion
   pub either : (Contains earlier b.criterion × (b.k ≡ value_of v b.criterion + 1)) ⊎ ((b.criterion ≡ c) × (b.k ≡ value_of v c))
 
@@ -32,4 +34,5 @@ pub record IsUnreached (greatest : Criterion → ℕ) (earlier : List Criterion)
 abbrev pub IsFirstLacking : (Criterion → ℕ) → Lines → List Criterion → Values → ℕ → Option ℕ → Type 0
 IsFirstLacking greatest lines order v s None = Certifies greatest lines order v s
 IsFirstLacking greatest lines order v s (Some i) =
-    (i < s) × Certifies greatest lines order v i × ((c : Criterion) → slice_get order i ≡ Some c → IsCertifiedLeast greatest lines (take i order) c v → ⊥)
+    (i < s) × Certifies greatest lines order v i
+    × ((c : Criterion) → slice_get order i ≡ Some c → IsCertifiedLeast greatest lines (take i order) c v → ⊥)

@@ -1,9 +1,10 @@
-// The places of an order, one after another.
-ghost use Rattle.std.specs.Prelude.{◌≡◌, ◌≤◌, ◌+◌, ◌↔◌, IfOk, IsTrue, Any, Contains, length};
+// That there is no drawing, and the places of an order, one after another.
+ghost use Rattle.std.specs.Prelude.{◌≡◌, ◌≤◌, ◌+◌, ◌↔◌, IfOk, IsTrue, List, Any, Contains, length};
 ghost use Rattle.plan_core.specs.Values.{value_of};
 ghost use Rattle.cnf_core.specs.Lit.{Literal};
 ghost use Rattle.refute_log.specs.Told.{Lines};
-ghost use Rattle.certified_values.specs.Certified.{IsCertifiedLeast};
+ghost use Rattle.certified_values.specs.Certified.{IsCertifiedLeast, CertifiesNone};
+ghost use Rattle.certified_check.specs.declared.told_bound.ToldBound.{ToldBound as Told};
 ghost use Rattle.certified_check.specs.Lacking.{KnowsLog, IsUnreached, IsFirstLacking};
 
 use crate::ToldBound;
@@ -57,7 +58,8 @@ fn unreached(
     c: Criterion,
     v: &Values,
 ) -> Result<Vec<Lit>, OutOfMemory>
-    ensures { IfOk result (λ ls. (l : Literal) → Contains ls.items l ↔ Any (λ b. IsUnreached (value_of greatest.now) earlier.now c v.now b × (b.literal ≡ l)) bounds.now) }
+    ensures { IfOk result (λ ls. (l : Literal) → Contains ls.items l ↔
+        Any (λ b. IsUnreached (value_of greatest.now) earlier.now c v.now b × (b.literal ≡ l)) bounds.now) }
 {
     let mut literals = Vec::new(alloc);
     for bound in bounds {
@@ -78,13 +80,22 @@ fn is_least(
     c: Criterion,
     v: &Values,
 ) -> Result<bool, OutOfMemory>
-    ensures { IfOk result (λ b. (lines : Lines) → KnowsLog lines checker.now bounds.now → IsTrue b ↔ IsCertifiedLeast (value_of greatest.now) lines earlier.now c v.now) }
+    ensures { IfOk result (λ b. (lines : Lines) → KnowsLog lines checker.now bounds.now → IsTrue b ↔
+        IsCertifiedLeast (value_of greatest.now) lines earlier.now c v.now) }
 {
     if v.of(c) == 0 {
         return Ok(true);
     }
     let literals = unreached(alloc, bounds, greatest, earlier, c, v)?;
     Ok(checker.verdict(&literals))
+}
+
+/// Whether the log certifies that there is no drawing. The checker accepted the log's lines, and the
+/// bounds are those of its Bound lines, if there are any.
+pub fn none_certified(checker: &Checker) -> bool
+    ensures { (lines : Lines) (bounds : List Told) → KnowsLog lines checker.now bounds → IsTrue result ↔ CertifiesNone lines }
+{
+    checker.verdict(&[])
 }
 
 /// The first of the first `s` places of the order, counted from 0, that a log doesn't certify for
@@ -100,7 +111,8 @@ pub fn first_lacking(
     s: usize,
 ) -> Result<Option<usize>, OutOfMemory>
     requires { s ≤ length order.now }
-    ensures { IfOk result (λ found. (lines : Lines) → KnowsLog lines checker.now bounds.now → IsFirstLacking (value_of greatest.now) lines order.now v.now s found) }
+    ensures { IfOk result (λ found. (lines : Lines) → KnowsLog lines checker.now bounds.now →
+        IsFirstLacking (value_of greatest.now) lines order.now v.now s found) }
 {
     let mut earlier = Vec::new(alloc);
     for i in 0..s {

@@ -1,15 +1,31 @@
-// Laws of lacking places. The function does nothing: its contract is the law.
-ghost use Rattle.std.specs.Prelude.{◌≡◌, ◌≤◌, ℕ, List, Option, None, length};
+// Laws of verdicts. The functions do nothing: their contracts are the laws.
+ghost use Rattle.std.specs.Prelude.{◌≡◌, ◌≤◌, ◌↔◌, [], ℕ, List, Option, None, length};
 ghost use Rattle.plan_core.specs.declared.criterion.Values.{Values};
 ghost use Rattle.plan_core.specs.declared.criterion.Criterion.{Criterion};
 ghost use Rattle.refute_log.specs.Told.{Lines};
-ghost use Rattle.certified_values.specs.Certified.{Certifies};
-ghost use Rattle.certified_check.specs.Lacking.{IsFirstLacking};
+ghost use Rattle.refute_check.specs.Kept.{Kept, Refutes};
+ghost use Rattle.certified_values.specs.Certified.{Certifies, CertifiesNone};
+ghost use Rattle.certified_check.specs.declared.told_bound.ToldBound.{ToldBound};
+ghost use Rattle.certified_check.specs.Lacking.{KnowsLog, IsFirstLacking};
 
 /// No place lacks where the values are certified, and one place at most is the first that lacks.
 pub fn one_place_lacks_first()
-    ensures none { (greatest : Criterion → ℕ) (lines : Lines) (order : List Criterion) (v : Values) (s : ℕ) (found : Option ℕ) → s ≤ length order →
-        Certifies greatest lines order v s → IsFirstLacking greatest lines order v s found → found ≡ None }
-    ensures once { (greatest : Criterion → ℕ) (lines : Lines) (order : List Criterion) (v : Values) (s : ℕ) (found other : Option ℕ) → s ≤ length order →
+    ensures none { (greatest : Criterion → ℕ) (lines : Lines) (order : List Criterion) (v : Values) (s : ℕ) (found : Option ℕ) →
+        s ≤ length order → Certifies greatest lines order v s → IsFirstLacking greatest lines order v s found → found ≡ None }
+    ensures once { (greatest : Criterion → ℕ) (lines : Lines) (order : List Criterion) (v : Values) (s : ℕ)
+        (found other : Option ℕ) → s ≤ length order →
         IsFirstLacking greatest lines order v s found → IsFirstLacking greatest lines order v s other → found ≡ other }
+{}
+
+/// Whatever gives the greatest values, only they count.
+pub fn only_greatest_values_lack()
+    ensures { (greatest other : Criterion → ℕ) (lines : Lines) (order : List Criterion) (v : Values) (s : ℕ) (found : Option ℕ) →
+        ((b : Criterion) → greatest b ≡ other b) →
+        IsFirstLacking greatest lines order v s found → IsFirstLacking other lines order v s found }
+{}
+
+/// The verdict on no literals is the one on there being no drawing.
+pub fn no_literals_certify_none()
+    ensures { (lines : Lines) (kept : Kept) (bounds : List ToldBound) → KnowsLog lines kept bounds →
+        Refutes kept [] ↔ CertifiesNone lines }
 {}

@@ -11,15 +11,15 @@ use Rattle.refute_log.specs.Told.{Lines}
 use Rattle.certified_values.specs.Expected.{clause_lines, same_criterion, bound_var, bound_vars, bound_lines, caps, Problem, HasAllBounds, sum_lines, sum_vars_of, sums, expected_lines}
 use Rattle.certified_values.proofs.ExpectedLemmas.{same_itself, same_tells}
 
-bounds_same : (c : Criterion) (k : ℕ) (xs : List Var) → bound_vars c (bound_lines c k xs) ≡ xs
+pub bounds_same : (c : Criterion) (k : ℕ) (xs : List Var) → bound_vars c (bound_lines c k xs) ≡ xs
 bounds_same c k [] = refl
 bounds_same c k (x ∷ xs) = ap (λ b. cond b (x ∷ []) [] ++ bound_vars c (bound_lines c (k + 1) xs)) (same_itself c) ∙ ap (λ (ys : List Var). x ∷ ys) (bounds_same c (k + 1) xs)
 
-bounds_other : (d c : Criterion) (k : ℕ) (xs : List Var) → same_criterion d c ≡ false → bound_vars d (bound_lines c k xs) ≡ []
+pub bounds_other : (d c : Criterion) (k : ℕ) (xs : List Var) → same_criterion d c ≡ false → bound_vars d (bound_lines c k xs) ≡ []
 bounds_other d c k [] f = refl
 bounds_other d c k (x ∷ xs) f = ap (λ b. cond b (x ∷ []) [] ++ bound_vars d (bound_lines c (k + 1) xs)) f ∙ bounds_other d c (k + 1) xs f
 
-formulas_none : (d : Criterion) (cs : Clauses) → bound_vars d (map Formula cs) ≡ []
+pub formulas_none : (d : Criterion) (cs : Clauses) → bound_vars d (map Formula cs) ≡ []
 formulas_none d [] = refl
 formulas_none d (c ∷ cs) = formulas_none d cs
 
@@ -37,7 +37,7 @@ other_sum e first d c (suc n) f =
     ∙ ap (λ (ys : List Var). ys ++ bound_vars d (bound_lines c 1 (e.bounds first c (suc n)))) (formulas_none d (e.sum first c (suc n)))
     ∙ bounds_other d c 1 (e.bounds first c (suc n)) f
 
-differs : (d c : Criterion) → d ≢ c → same_criterion d c ≡ false
+pub differs : (d c : Criterion) → d ≢ c → same_criterion d c ≡ false
 differs d c ne = by (same_criterion d c) refl
   where
     by : (b : Bool) → same_criterion d c ≡ b → b ≡ false
@@ -65,7 +65,7 @@ sums_with e all first (c ∷ before) rest cap d out behind =
     ∙ ap (λ (ys : List Var). ys ++ bound_vars d (sums e next (before ++ d ∷ rest) cap)) (other_sum e first d c (cap c) (differs d c (All-head (λ c. d ≢ c) c before out))))
     ∙ sums_with e all next before rest cap d (All-tail (λ c. d ≢ c) c before out) behind
 
-bounds_of_clauses : (d : Criterion) (lines : Lines) → bound_vars d (clause_lines lines) ≡ bound_vars d lines
+pub bounds_of_clauses : (d : Criterion) (lines : Lines) → bound_vars d (clause_lines lines) ≡ bound_vars d lines
 bounds_of_clauses d [] = refl
 bounds_of_clauses d (Formula c ∷ lines) = bounds_of_clauses d lines
 bounds_of_clauses d (Bound c k x ∷ lines) = ap (λ (ys : List Var). bound_var d (Bound c k x) ++ ys) (bounds_of_clauses d lines)

@@ -21,12 +21,12 @@ use Rattle.certified_values.specs.Certified.{IsOutOfReach, IsCertifiedLeast, Cer
 
 -- ---- values that meet a log that derives
 
-refuted_holds : (a : Assignment) (lines : Lines) → Derives lines → SatisfiesAll a (flat_map given lines) → (c : List Literal) → Contains lines (Refuted c) → Satisfies a c
+pub refuted_holds : (a : Assignment) (lines : Lines) → Derives lines → SatisfiesAll a (flat_map given lines) → (c : List Literal) → Contains lines (Refuted c) → Satisfies a c
 refuted_holds a lines derives formula c there =
     All-contains (Satisfies a) (flat_map refuted lines) c (each_from_satisfies a (flat_map refuted lines) (derived_hold a lines derives formula).1)
     (Contains-flat_map refuted lines (Refuted c) c there (0, omega arith, refl))
 
-reached : (greatest : Criterion → ℕ) (lines : Lines) (w : Values) (m : MeetsLog lines w) (c : Criterion) (k : ℕ) (l : Literal) → SaysAtLeast greatest lines c k l → truth m.assignment l ≡ true → k ≤ value_of w c
+pub reached : (greatest : Criterion → ℕ) (lines : Lines) (w : Values) (m : MeetsLog lines w) (c : Criterion) (k : ℕ) (l : Literal) → SaysAtLeast greatest lines c k l → truth m.assignment l ≡ true → k ≤ value_of w c
 reached greatest lines w m c k l s t =
     let e : truth m.assignment (positive_of s.variable.0) ≡ true = ap (truth m.assignment) (sym s.is) ∙ t in
     (m.bounds c k s.variable s.told).0 e
@@ -111,7 +111,7 @@ same_twice greatest lines order v w s mv mw derives cv cw = elim (better_or_same
 says_more : (greatest : Criterion → ℕ) (lines more : Lines) (c : Criterion) (k : ℕ) (l : Literal) → SaysAtLeast greatest lines c k l → SaysAtLeast greatest (lines ++ more) c k l
 says_more greatest lines more c k l s = record { within = s.within; variable = s.variable; told = Contains-append_left lines more (Bound c k s.variable) s.told; is = s.is }
 
-out_of_reach_more : (greatest : Criterion → ℕ) (lines more : Lines) (earlier : List Criterion) (c : Criterion) (v : Values) (l : Literal) → IsOutOfReach greatest lines earlier c v l → IsOutOfReach greatest (lines ++ more) earlier c v l
+pub out_of_reach_more : (greatest : Criterion → ℕ) (lines more : Lines) (earlier : List Criterion) (c : Criterion) (v : Values) (l : Literal) → IsOutOfReach greatest lines earlier c v l → IsOutOfReach greatest (lines ++ more) earlier c v l
 out_of_reach_more greatest lines more earlier c v l (inl any) = inl (any.0, any.1, any.2, any.3, says_more greatest lines more any.1 (value_of v any.1 + 1) l any.4)
 out_of_reach_more greatest lines more earlier c v l (inr s) = inr (says_more greatest lines more c (value_of v c) l s)
 
@@ -172,7 +172,7 @@ taken_at P (d ∷ order) zero i c low at h = absurd (omega arith)
 taken_at P (d ∷ order) (suc s) zero c low at h = subst P (same_Some d c at) (All-head P d (take s order) h)
 taken_at P (d ∷ order) (suc s) (suc i) c low at h = taken_at P order s i c (omega arith) at (All-tail P d (take s order) h)
 
-out_of_reach_same : (greatest : Criterion → ℕ) (lines : Lines) (earlier : List Criterion) (c : Criterion) (v w : Values) (l : Literal) → All (λ b. value_of v b ≡ value_of w b) earlier → value_of v c ≡ value_of w c →
+pub out_of_reach_same : (greatest : Criterion → ℕ) (lines : Lines) (earlier : List Criterion) (c : Criterion) (v w : Values) (l : Literal) → All (λ b. value_of v b ≡ value_of w b) earlier → value_of v c ≡ value_of w c →
     IsOutOfReach greatest lines earlier c v l → IsOutOfReach greatest lines earlier c w l
 out_of_reach_same greatest lines earlier c v w l same e (inl any) =
     let eb : value_of v any.1 ≡ value_of w any.1 = same_value v w earlier any.1 same (any.0, any.2, any.3) in
@@ -192,3 +192,26 @@ pub certifies_same : (greatest : Criterion → ℕ) (lines : Lines) (order : Lis
 certifies_same greatest lines order v w s same h = λ i c low at.
     let P : Criterion → Type 0 = λ b. value_of v b ≡ value_of w b in
     least_same greatest lines (take i order) c v w (each_taken P order s i (omega (arith, low)) same) (taken_at P order s i c low at same) (h i c low at)
+
+-- ---- other greatest values that are the same
+
+says_under : (greatest other : Criterion → ℕ) (lines : Lines) (c : Criterion) (k : ℕ) (l : Literal) → greatest c ≡ other c → SaysAtLeast greatest lines c k l → SaysAtLeast other lines c k l
+says_under greatest other lines c k l e s = record { within = subst (λ n. k ≤ n) e s.within; variable = s.variable; told = s.told; is = s.is }
+
+out_of_reach_under : (greatest other : Criterion → ℕ) (lines : Lines) (earlier : List Criterion) (c : Criterion) (v : Values) (l : Literal) → ((b : Criterion) → greatest b ≡ other b) →
+    IsOutOfReach greatest lines earlier c v l → IsOutOfReach other lines earlier c v l
+out_of_reach_under greatest other lines earlier c v l same (inl any) =
+    inl (any.0, any.1, any.2, any.3, says_under greatest other lines any.1 (value_of v any.1 + 1) l (same any.1) any.4)
+out_of_reach_under greatest other lines earlier c v l same (inr s) = inr (says_under greatest other lines c (value_of v c) l (same c) s)
+
+pub least_under : (greatest other : Criterion → ℕ) (lines : Lines) (earlier : List Criterion) (c : Criterion) (v : Values) → ((b : Criterion) → greatest b ≡ other b) →
+    IsCertifiedLeast greatest lines earlier c v → IsCertifiedLeast other lines earlier c v
+least_under greatest other lines earlier c v same h = λ p. let r = h p in record {
+  clause = r.clause;
+  among = r.among;
+  each = All-weaker (IsOutOfReach greatest lines earlier c v) (IsOutOfReach other lines earlier c v) (λ l. out_of_reach_under greatest other lines earlier c v l same) r.clause r.each;
+}
+
+pub certifies_under : (greatest other : Criterion → ℕ) (lines : Lines) (order : List Criterion) (v : Values) (s : ℕ) → ((b : Criterion) → greatest b ≡ other b) →
+    Certifies greatest lines order v s → Certifies other lines order v s
+certifies_under greatest other lines order v s same h = λ i c low at. least_under greatest other lines (take i order) c v same (h i c low at)

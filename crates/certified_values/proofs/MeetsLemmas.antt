@@ -15,7 +15,7 @@ use Rattle.certified_values.specs.Bounds.{MeetsLog}
 use Rattle.certified_values.specs.Expected.{clause_line, clause_lines, caps, BeginsLines}
 use Rattle.cnf_core.proofs.ClauseLemmas.{satisfies_left}
 
-given_of_clauses : (lines : Lines) → flat_map given (clause_lines lines) ≡ flat_map given lines
+pub given_of_clauses : (lines : Lines) → flat_map given (clause_lines lines) ≡ flat_map given lines
 given_of_clauses [] = refl
 given_of_clauses (Formula c ∷ lines) = ap (λ (cs : Clauses). c ∷ cs) (given_of_clauses lines)
 given_of_clauses (Bound c k x ∷ lines) = given_of_clauses lines

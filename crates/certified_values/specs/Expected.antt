@@ -86,7 +86,7 @@ vars_after e before (c ∷ rest) cap = vars_after e (before + sum_vars_of e befo
 abbrev pub expected_lines : Problem → List Criterion → (Criterion → ℕ) → Lines
 expected_lines e order cap = map Formula e.clauses ++ sums e e.vars order cap
 
--- how many variables they name
+-- how many variables there are with them
 abbrev pub expected_vars : Problem → List Criterion → (Criterion → ℕ) → ℕ
 expected_vars e order cap = vars_after e e.vars order cap
 

@@ -7,13 +7,15 @@ use Rattle.cnf_core.specs.declared.limits.TheConstants.{VARS}
 use Rattle.cnf_core.specs.Lit.{Literal}
 use Rattle.cnf_core.specs.Clause.{words_of}
 use Rattle.cnf_core.specs.Propagation.{Rup}
+use Rattle.refute_log.specs.declared.line.LogLine.TheVariants.{Learnt}
+use Rattle.refute_log.specs.Lines.{MayBeTold}
 use Rattle.refute_log.specs.Told.{Lines}
 use Rattle.refute_log.specs.Log.{added, given, learnt, IsNewClause}
 use Rattle.certified_values.specs.Certified.{Certifies}
 use Rattle.certified_values.specs.Expected.{Problem, bound_vars, caps, expected_lines, expected_vars, with_cap}
 
--- what is expected for these caps names more variables than there may be, or the words of its clauses and of
--- the log's Learnt lines pass the room
+-- what is expected for these caps has more variables than there may be, or the words of its clauses and of the log's
+-- Learnt lines pass the room
 abbrev pub CapsPass : Problem → List Criterion → Lines → ℕ → (Criterion → ℕ) → Type 0
 CapsPass e order lines room cap = (VARS < expected_vars e order cap)
     ⊎ (room < words_of (flat_map given (expected_lines e order cap)) + words_of (flat_map learnt lines))
@@ -38,10 +40,11 @@ pub record NextSumPasses (e : Problem) (greatest : Criterion → ℕ) (order : L
   pub next : IsNextSum greatest order lines v criterion
   pub passes : CapsPass e order lines room (with_cap (caps greatest lines) criterion (min (value_of v criterion + 1) (greatest criterion)))
 
--- a clause follows by unit propagation and is new, and with it the words of the Formula and Learnt lines pass
--- the room
+-- a clause that may be told follows by unit propagation and is new, and with it the words of the Formula and
+-- Learnt lines pass the room
 pub record NextClausePasses (lines : Lines) (room : ℕ) : Type 0 where
   pub clause : List Literal
+  pub formed : MayBeTold (Learnt clause)
   pub follows : Rup (flat_map added lines) clause
   pub new : IsNewClause (flat_map added lines) clause
   pub passes : room < words_of (flat_map added lines) + (length clause + 3)

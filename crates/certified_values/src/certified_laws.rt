@@ -11,6 +11,7 @@ ghost use Rattle.refute_log.specs.Told.{Lines};
 ghost use Rattle.refute_log.specs.Log.{Derives};
 ghost use Rattle.certified_values.specs.Bounds.{MeetsLog, CoversDrawings};
 ghost use Rattle.certified_values.specs.Certified.{IsCertifiedLeast, Certifies, CertifiesNone, Settled};
+ghost use Rattle.certified_values.specs.Expected.{caps};
 
 /// Values that meet a log that derives are not better than those it certifies, on the criteria it
 /// certifies; and none meet one that certifies that there is no drawing. Two of them that are both
@@ -61,6 +62,15 @@ pub fn values_are_certified_place_by_place()
 pub fn equal_values_are_certified_alike()
     ensures { (greatest : Criterion → ℕ) (lines : Lines) (order : List Criterion) (v w : Values) (s : ℕ) →
         All (λ c. value_of v c ≡ value_of w c) (take s order) → Certifies greatest lines order v s → Certifies greatest lines order w s }
+{}
+
+/// Of what the greatest values come from nothing counts but the values themselves.
+pub fn only_the_greatest_values_count()
+    ensures least { (greatest other : Criterion → ℕ) (lines : Lines) (earlier : List Criterion) (c : Criterion) (v : Values) → ((b : Criterion) → greatest b ≡ other b) →
+        IsCertifiedLeast greatest lines earlier c v → IsCertifiedLeast other lines earlier c v }
+    ensures values { (greatest other : Criterion → ℕ) (lines : Lines) (order : List Criterion) (v : Values) (s : ℕ) → ((b : Criterion) → greatest b ≡ other b) →
+        Certifies greatest lines order v s → Certifies other lines order v s }
+    ensures counts { (greatest other : Criterion → ℕ) (lines : Lines) (c : Criterion) → greatest c ≡ other c → caps greatest lines c ≡ caps other lines c }
 {}
 
 /// One depth at most is settled.

@@ -15,7 +15,8 @@ mod expected_laws;
 
 pub use certified_laws::{
     certified_drawings_are_least, certified_values_are_least, equal_values_are_certified_alike,
-    more_lines_certify_more, one_depth_is_settled, values_are_certified_place_by_place,
+    more_lines_certify_more, one_depth_is_settled, only_the_greatest_values_count,
+    values_are_certified_place_by_place,
 };
 pub use expected_laws::{
     caps_are_those_told, certified_over_expected_lines_is_least, expected_lines_come_sum_by_sum,

@@ -20,7 +20,6 @@ use Rattle.refute_log.specs.declared.fault.LineTextFault.TheVariants.{Log, Memor
 use Rattle.cnf_core.specs.declared.limits.TheConstants.{LAST_VAR}
 use Rattle.refute_log.specs.Lines.{NamesOnce, literal_text, with_zero, clause_fields, log_line_text, header}
 use Rattle.line_text.specs.Fields.{spaced}
-use Rattle.line_text.specs.Numbers.{IsNumberIn}
 use Rattle.refute_log.specs.FieldText.{trailed, fields_left}
 use Rattle.refute_log.specs.LineForm.{Field, LineForm, IsNumber, AreNumbers, IsOfForm, form_text, IsLiteral, HasRightNumbers}
 use Rattle.refute_log.specs.LineForm.LineForm.{FormulaForm, LearntForm, BoundForm, QueryForm, RefutedForm, ModelForm}

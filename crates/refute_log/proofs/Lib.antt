@@ -1,3 +1,4 @@
+pub mod FeedLemmas
 pub mod FieldLemmas
 pub mod FrontLemmas
 pub mod LawLemmas

@@ -2,6 +2,7 @@ pub mod Lines
 pub mod Told
 pub mod Faults
 pub mod Log
+pub mod ToldTo
 pub mod LineList
 pub mod OneText
 pub mod FileLog

@@ -11,6 +11,10 @@ Lines = List LogLine
 abbrev pub AddsLine : (Lines → Type 0) → (Lines → Type 0) → LogLine → Type 0
 AddsLine old new line = (lines : Lines) → old lines → new (lines ++ line ∷ [])
 
+-- whatever list was told, is told with these lines at its end
+abbrev pub AddsAll : (Lines → Type 0) → (Lines → Type 0) → Lines → Type 0
+AddsAll old new more = (lines : Lines) → old lines → new (lines ++ more)
+
 -- what is told now was told before
 abbrev pub TellsNoMore : (Lines → Type 0) → (Lines → Type 0) → Type 0
 TellsNoMore old new = (lines : Lines) → new lines → old lines

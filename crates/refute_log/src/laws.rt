@@ -1,8 +1,9 @@
 // Laws of lines and their texts. The functions change nothing: their contracts are the laws.
-ghost use Rattle.std.specs.Prelude.{◌≡◌, ◌↔◌, ℕ, List};
+ghost use Rattle.std.specs.Prelude.{◌≡◌, ◌↔◌, ◌++◌, ℕ, List, codes};
+ghost use Rattle.line_text.specs.Fields.{LacksByte};
 ghost use Rattle.refute_log.specs.declared.line.LogLine.{LogLine as Line};
 ghost use Rattle.refute_log.specs.declared.fault.LogWhat.{LogWhat as What};
-ghost use Rattle.refute_log.specs.Lines.{IsWellFormed, log_line_text};
+ghost use Rattle.refute_log.specs.Lines.{IsWellFormed, MayBeTold, log_line_text, ended_text};
 ghost use Rattle.refute_log.specs.LineForm.{LineForm, IsOfForm, HasRightNumbers};
 ghost use Rattle.refute_log.specs.LineText.{SpellsLine, IsTextOf, HasLineFault};
 
@@ -39,6 +40,14 @@ pub fn written_is_read_again(line: &LogLine)
         LogLine::Bound { .. } | LogLine::Model => {}
     }
 }
+
+/// The text of a line that may be told is the text of this line alone, and has no line feed but the one
+/// that ends it.
+pub fn told_lines_are_read_alone()
+    ensures read { (line : Line) → MayBeTold line → IsTextOf (log_line_text line) line }
+    ensures one_line { (line : Line) → MayBeTold line → LacksByte 10 (log_line_text line) }
+    ensures ended { (line : Line) → ended_text line ≡ log_line_text line ++ codes "\n" }
+{}
 
 /// A text has one fault at most, and none where it is that of a line in which no variable stands
 /// twice.

@@ -5,7 +5,9 @@ ghost use Rattle.cnf_core.specs.Clause.{AllDistinct, HasAllOf, words_of};
 ghost use Rattle.cnf_core.specs.Assignment.{Assignment, SatisfiesAll};
 ghost use Rattle.refute_log.specs.declared.line.LogLine.{LogLine as Line};
 ghost use Rattle.refute_log.specs.declared.line.LogLine.TheVariants.{Learnt as LearntLine};
+ghost use Rattle.outside_io.specs.Counts.{rose_by};
 ghost use Rattle.refute_log.specs.Told.{Lines};
+ghost use Rattle.refute_log.specs.ToldTo.{told_to};
 ghost use Rattle.refute_log.specs.Lines.{AreWellFormed};
 ghost use Rattle.refute_log.specs.Log.{Facts, facts_of, facts_after, added, given, learnt, refuted, Stands, Derives, Open, Due};
 
@@ -54,4 +56,10 @@ pub fn learnt_lines_are_few()
 /// The words of a log's clauses are those of its Formula clauses and those of its Learnt clauses.
 pub fn words_are_of_formula_and_learnt_lines()
     ensures { (lines : Lines) → words_of (facts_of lines).clauses ≡ words_of (flat_map given lines) + words_of (flat_map learnt lines) }
+{}
+
+/// A log that keeps its lines keeps those that it was told behind those that it had.
+pub fn lines_are_told_behind_those_before()
+    ensures { (count : Lines → ℕ) (old new lines : Lines) → told_to (λ kept told. told ≡ kept) count old new lines →
+        (new ≡ old ++ lines) × (count new ≡ rose_by (length (flat_map learnt lines)) (count old)) }
 {}
