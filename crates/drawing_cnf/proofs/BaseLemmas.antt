@@ -29,10 +29,10 @@ use Rattle.edge_shape.proofs.LineMeans.{models_are_lines}
 use Rattle.edge_shape.proofs.LineExtends.{rows_of, line_extends}
 use Rattle.edge_shape.proofs.PlaceLemmas.{blocks, column_there, inside_there, height_there, whole_literals}
 use Rattle.edge_shape.proofs.SizeLemmas.{edge_there}
-use Rattle.drawing_cnf.specs.Stands.{DrawingVars, ReadsPoint, ReadsShape, ReadsDrawing, IsLoose}
+use Rattle.drawing_cnf.specs.Stands.{DrawingVars, ReadsPoint, ReadsShape, ReadsDrawing, IsJoinedOnGrid}
 use Rattle.drawing_cnf.specs.Rank.{west_rank}
 use Rattle.drawing_cnf.proofs.RankLemmas.{IsAtPlace, rank_below, rank_once, at_place}
-use Rattle.drawing_cnf.specs.Expected.{row_ints, edges_first, edge_first, drawing_vars, laws_first, node_clauses, edge_part, base_clauses}
+use Rattle.drawing_cnf.specs.Expected.{ints_at_place, edges_first, edge_first, drawing_vars, laws_first, node_clauses, edge_part, base_clauses}
 use Rattle.drawing_cnf.proofs.ThereLemmas.{AreVars, EdgeThere, WholeThere}
 use Rattle.drawing_cnf.proofs.InstanceLemmas.{shape_stays}
 
@@ -53,9 +53,9 @@ shape_of v e width l r = record {
 abbrev pub point_of : Assignment → NodeInts → Point
 point_of v n = record { x = number v n.x; y = number v n.y }
 
-node_means : (v : Assignment) (grid : GridSize) (n : ℕ) → SatisfiesAll v (node_clauses (row_ints grid n)) → ReadsPoint v (row_ints grid n) (point_of v (row_ints grid n))
+node_means : (v : Assignment) (grid : GridSize) (n : ℕ) → SatisfiesAll v (node_clauses (ints_at_place grid n)) → ReadsPoint v (ints_at_place grid n) (point_of v (ints_at_place grid n))
 node_means v grid n h =
-    let i = row_ints grid n in
+    let i = ints_at_place grid n in
     record {
       x = int_means v i.x (omega arith) (satisfies_right v (int_clauses i.y) (int_clauses i.x) h);
       y = int_means v i.y (omega arith) (satisfies_left v (int_clauses i.y) (int_clauses i.x) h);
@@ -76,7 +76,7 @@ chosen_is f P (inr b) h none = absurd (none b)
 pub record BaseIsRead (v : Assignment) (g : Graph) (grid : GridSize) : Type 0 where
   pub drawing : Drawing
   pub reads : ReadsDrawing v g (drawing_vars g grid) grid.width drawing
-  pub loose : IsLoose g grid drawing
+  pub loose : IsJoinedOnGrid g grid drawing
 
 pub base_means : (v : Assignment) (g : Graph) (grid : GridSize) → IsTrackGraph g → IsGrid grid → SatisfiesAll v (base_clauses g (drawing_vars g grid) grid) → BaseIsRead v g grid
 base_means v g grid is size h = record {
@@ -145,7 +145,7 @@ base_means v g grid is size h = record {
     line_is e lt = get_or-map-range_with_len line_at 0 m e e [] lt (omega arith)
 
 -- a lawful drawing has laws 1 and 3
-pub lawful_loose : (g : Graph) (above : ℕ → ℕ → Bool) (grid : GridSize) (d : Drawing) → IsTrackGraph g → Lawful g above grid d → IsLoose g grid d
+pub lawful_loose : (g : Graph) (above : ℕ → ℕ → Bool) (grid : GridSize) (d : Drawing) → IsTrackGraph g → Lawful g above grid d → IsJoinedOnGrid g grid d
 lawful_loose g above grid d is h = record {
   fits = h.fits;
   on_grid = λ n lt. h.laws (NodeOnGrid n) lt;
@@ -177,7 +177,7 @@ edge_spot_in g grid e is few lt =
 pub node_spot : (g : Graph) (grid : GridSize) (n : ℕ) → n < length g.nodes → 1 + west_rank g n * (grid.height + grid.width) + grid.height + grid.width ≤ edges_first g grid
 node_spot g grid n lt = let all = blocks (grid.height + grid.width) (length g.nodes) (west_rank g n) (rank_below g n lt) in omega arith
 
-edge_literals : (first high width vars : ℕ) → EdgeIsPlaced first high width → first + edge_size high width ≤ vars + 1 → EdgeThere vars (edge_lits first high width) width
+pub edge_literals : (first high width vars : ℕ) → EdgeIsPlaced first high width → first + edge_size high width ≤ vars + 1 → EdgeThere vars (edge_lits first high width) width
 edge_literals first high width vars p to =
     let w = whole_literals first high width vars p.spot to in
     record {
@@ -215,17 +215,17 @@ base_there g grid is size few =
 abbrev pub node_place : GridSize → ℕ → ℕ
 node_place grid k = 1 + k * (grid.height + grid.width)
 
-point_kept : (grid : GridSize) (k : ℕ) (p : Point) (v w : Assignment) → ((y : ℕ) → y < node_place grid (k + 1) → w y ≡ v y) → ReadsPoint v (row_ints grid k) p → ReadsPoint w (row_ints grid k) p
+point_kept : (grid : GridSize) (k : ℕ) (p : Point) (v w : Assignment) → ((y : ℕ) → y < node_place grid (k + 1) → w y ≡ v y) → ReadsPoint v (ints_at_place grid k) p → ReadsPoint w (ints_at_place grid k) p
 point_kept grid k p v w same r =
     let one : (k + 1) * (grid.height + grid.width) ≡ k * (grid.height + grid.width) + (grid.height + grid.width) = omega arith in
     record {
-      x = reads_same v w (row_ints grid k).x p.x (λ y from to. same y (omega arith)) r.x;
-      y = reads_same v w (row_ints grid k).y p.y (λ y from to. same y (omega arith)) r.y;
+      x = reads_same v w (ints_at_place grid k).x p.x (λ y from to. same y (omega arith)) r.x;
+      y = reads_same v w (ints_at_place grid k).y p.y (λ y from to. same y (omega arith)) r.y;
     }
 
-point_extends : (grid : GridSize) (k : ℕ) (p : Point) (v : Assignment) → p.x ≤ grid.width → p.y ≤ grid.height → Extends (node_place grid k) (grid.height + grid.width) v (λ w. ReadsPoint w (row_ints grid k) p)
+point_extends : (grid : GridSize) (k : ℕ) (p : Point) (v : Assignment) → p.x ≤ grid.width → p.y ≤ grid.height → Extends (node_place grid k) (grid.height + grid.width) v (λ w. ReadsPoint w (ints_at_place grid k) p)
 point_extends grid k p v wide high =
-    let i = row_ints grid k in
+    let i = ints_at_place grid k in
     let rows : size i.y ≡ grid.height = omega arith in
     let columns : size i.x ≡ grid.width = omega arith in
     extends_both (node_place grid k) grid.height grid.width v (λ w. Reads w i.y p.y) (λ w. ReadsPoint w i p)
@@ -235,9 +235,9 @@ point_extends grid k p v wide high =
     (subst (λ count. Extends (node_place grid k + grid.height) count w (λ u. Reads u i.x p.x)) columns (int_extends w i.x p.x (omega arith) wide)))
 
 abbrev pub NodesAreRead : Graph → GridSize → Drawing → Assignment → Type 0
-NodesAreRead g grid d w = (n : ℕ) → n < length g.nodes → ReadsPoint w (row_ints grid (west_rank g n)) (place d n)
+NodesAreRead g grid d w = (n : ℕ) → n < length g.nodes → ReadsPoint w (ints_at_place grid (west_rank g n)) (place d n)
 
-nodes_extend : (g : Graph) (grid : GridSize) (d : Drawing) (v : Assignment) → IsLoose g grid d → Extends 1 (length g.nodes * (grid.height + grid.width)) v (NodesAreRead g grid d)
+nodes_extend : (g : Graph) (grid : GridSize) (d : Drawing) (v : Assignment) → IsJoinedOnGrid g grid d → Extends 1 (length g.nodes * (grid.height + grid.width)) v (NodesAreRead g grid d)
 nodes_extend g grid d v loose =
     let zero_first : node_place grid 0 ≡ 1 = omega arith in
     subst (λ first. Extends first (n * step) v (NodesAreRead g grid d)) zero_first
@@ -252,7 +252,7 @@ nodes_extend g grid d v loose =
 
     -- the node at the place, if there is one, is read
     Q : ℕ → Assignment → Type 0
-    Q k w = (j : ℕ) → j < n → west_rank g j ≡ k → ReadsPoint w (row_ints grid (west_rank g j)) (place d j)
+    Q k w = (j : ℕ) → j < n → west_rank g j ≡ k → ReadsPoint w (ints_at_place grid (west_rank g j)) (place d j)
 
     next : (k : ℕ) → node_place grid (k + 1) ≡ node_place grid k + step
     next k = let more : (k + 1) * (grid.height + grid.width) ≡ k * (grid.height + grid.width) + (grid.height + grid.width) = omega arith in omega arith
@@ -260,10 +260,10 @@ nodes_extend g grid d v loose =
     keeps : (k : ℕ) (u w : Assignment) → ((y : ℕ) → y < node_place grid (k + 1) → w y ≡ u y) → Q k u → Q k w
     keeps k u w same h j lt e = point_kept grid (west_rank g j) (place d j) u w (subst (λ i. (y : ℕ) → y < node_place grid (i + 1) → w y ≡ u y) (sym e) same) (h j lt e)
 
-    here : (k i j : ℕ) (w : Assignment) → IsAtPlace g k i → j < n → west_rank g j ≡ k → ReadsPoint w (row_ints grid k) (place d i) → ReadsPoint w (row_ints grid (west_rank g j)) (place d j)
+    here : (k i j : ℕ) (w : Assignment) → IsAtPlace g k i → j < n → west_rank g j ≡ k → ReadsPoint w (ints_at_place grid k) (place d i) → ReadsPoint w (ints_at_place grid (west_rank g j)) (place d j)
     here k i j w at lt e r =
-        subst (λ o. ReadsPoint w (row_ints grid o) (place d j)) (sym e)
-        (subst (λ o. ReadsPoint w (row_ints grid k) (place d o)) (rank_once g i j at.within lt (at.place ∙ sym e)) r)
+        subst (λ o. ReadsPoint w (ints_at_place grid o) (place d j)) (sym e)
+        (subst (λ o. ReadsPoint w (ints_at_place grid k) (place d o)) (rank_once g i j at.within lt (at.place ∙ sym e)) r)
 
     one : (k : ℕ) (u : Assignment) → k < n → ⊤ → Extends (node_place grid k) step u (Q k)
     one k u lt h = elim (at_place g k) [
@@ -271,7 +271,7 @@ nodes_extend g grid d v loose =
           let i = found.0 in
           let at = found.1 in
           let on = loose.on_grid i at.within in
-          extends_weaker (node_place grid k) step u (λ w. ReadsPoint w (row_ints grid k) (place d i)) (Q k) (λ w same r j in_j e. here k i j w at in_j e r)
+          extends_weaker (node_place grid k) step u (λ w. ReadsPoint w (ints_at_place grid k) (place d i)) (Q k) (λ w same r j in_j e. here k i j w at in_j e r)
           (point_extends grid k (place d i) u on.in_width on.in_height)
       | inr none ↦ record { to = u; same = same_none (node_place grid k) step u; holds = λ j in_j e. absurd (none j in_j e) }
     ]
@@ -285,10 +285,10 @@ pub record BaseHolds (w : Assignment) (g : Graph) (grid : GridSize) (d : Drawing
   pub reads : ReadsDrawing w g (drawing_vars g grid) grid.width d
   pub satisfies : SatisfiesAll w (base_clauses g (drawing_vars g grid) grid)
 
-before_edges : (g : Graph) (grid : GridSize) (k e : ℕ) → k < length g.nodes → LieBefore (edge_first g grid e) (row_ints grid (west_rank g k))
+before_edges : (g : Graph) (grid : GridSize) (k e : ℕ) → k < length g.nodes → LieBefore (edge_first g grid e) (ints_at_place grid (west_rank g k))
 before_edges g grid k e lt = let s = node_spot g grid k lt in record { x = omega arith; y = omega arith }
 
-edges_extend : (g : Graph) (grid : GridSize) (d : Drawing) (v : Assignment) → IsTrackGraph g → IsGrid grid → laws_first g grid ≤ VARS + 1 → IsLoose g grid d → NodesAreRead g grid d v → Extends (edges_first g grid) (length g.edges * edge_size grid.height grid.width) v (λ w. (e : ℕ) → e < length g.edges → EdgeHolds w g grid d e)
+edges_extend : (g : Graph) (grid : GridSize) (d : Drawing) (v : Assignment) → IsTrackGraph g → IsGrid grid → laws_first g grid ≤ VARS + 1 → IsJoinedOnGrid g grid d → NodesAreRead g grid d v → Extends (edges_first g grid) (length g.edges * edge_size grid.height grid.width) v (λ w. (e : ℕ) → e < length g.edges → EdgeHolds w g grid d e)
 edges_extend g grid d v is size few loose nodes =
     let zero_first : edge_first g grid 0 ≡ edges_first g grid = omega arith in
     subst (λ first. Extends first (m * step) v (λ w. (e : ℕ) → e < m → EdgeHolds w g grid d e)) zero_first
@@ -343,7 +343,7 @@ edges_extend g grid d v is size few loose nodes =
         (line_extends u first grid.height grid.width grid.least (x.node (edge g e).west) (x.node (edge g e).east) (place d (edge g e).west) (place d (edge g e).east) (line d e)
         (before_edges g grid (edge g e).west e ends.0) (before_edges g grid (edge g e).east e ends.1) west.x west.y east.x east.y (loose.joins e lt))
 
-pub base_extends : (g : Graph) (grid : GridSize) (d : Drawing) (v : Assignment) → IsTrackGraph g → IsGrid grid → laws_first g grid ≤ VARS + 1 → IsLoose g grid d → Extends 1 (base_last g grid) v (λ w. BaseHolds w g grid d)
+pub base_extends : (g : Graph) (grid : GridSize) (d : Drawing) (v : Assignment) → IsTrackGraph g → IsGrid grid → laws_first g grid ≤ VARS + 1 → IsJoinedOnGrid g grid d → Extends 1 (base_last g grid) v (λ w. BaseHolds w g grid d)
 base_extends g grid d v is size few loose =
     let total : n * (grid.height + grid.width) + m * edge_size grid.height grid.width ≡ base_last g grid = omega arith in
     subst (λ t. Extends 1 t v (λ w. BaseHolds w g grid d)) total
@@ -376,7 +376,7 @@ edge_whole e vars p to = (edge_literals e.first e.high e.width vars p to).whole
 pub spot_within : (g : Graph) (grid : GridSize) (e : ℕ) → e < length g.edges → edge_first g grid e + edge_size grid.height grid.width ≤ laws_first g grid
 spot_within g grid e lt = let all = blocks (edge_size grid.height grid.width) (length g.edges) e lt in omega arith
 
-pub node_x_there : (g : Graph) (grid : GridSize) (n vars : ℕ) (i : IntVars) → n < length g.nodes → laws_first g grid ≤ vars + 1 → i ≡ (row_ints grid (west_rank g n)).x → IntIsThere vars i
+pub node_x_there : (g : Graph) (grid : GridSize) (n vars : ℕ) (i : IntVars) → n < length g.nodes → laws_first g grid ≤ vars + 1 → i ≡ (ints_at_place grid (west_rank g n)).x → IntIsThere vars i
 node_x_there g grid n vars i lt few e =
     let s = node_spot g grid n lt in
     subst (λ (k : IntVars). IntIsThere vars k) (sym e) (record { from = omega arith; to = omega arith })

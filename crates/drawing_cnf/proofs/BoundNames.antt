@@ -1,6 +1,6 @@
 -- Each variable of a bound stands in one of the bound's clauses.
 use Rattle.std.proofs.Common.{◌≡◌, ◌≢◌, ◌⊎◌, ℕ, zero, suc, ◌+◌, ◌-◌, ◌≤◌, ◌<◌, Bool, true, false, List, [], ◌∷◌, ◌++◌, length, take, drop, inl, inr, refl, sym, ◌∙◌, ap, subst, arith}
-use Rattle.std.specs.Prelude.{⊤, nat_le, nat_lt, min, cond, All, ◌/◌}
+use Rattle.std.specs.Prelude.{⊤, Contains, nat_le, nat_lt, min, cond, All, ◌/◌}
 use Rattle.std.proofs.lemmas.Bool.Decides.{nat_tests}
 use Rattle.std.proofs.lemmas.List.Elements.{All-head, All-tail, Contains-append_left, Contains-append_right}
 use Rattle.plan_core.specs.declared.criterion.Criterion.{Criterion}
@@ -13,7 +13,7 @@ use Rattle.cnf_core.specs.declared.limits.TheConstants.{VARS}
 use Rattle.cnf_core.specs.declared.literal.LitOrTruth.{LitOrTruth}
 use Rattle.cnf_core.specs.declared.literal.LitOrTruth.TheVariants.{Lit as OfLit, True, False}
 use Rattle.cnf_core.specs.Lit.{Literal, positive_of, negative_of}
-use Rattle.cnf_core.specs.Clause.{Clauses, Avoids, AreThere}
+use Rattle.cnf_core.specs.Clause.{Clauses, Avoids, AreThere, IsNamed}
 use Rattle.cnf_core.specs.LitOrTruth.{yes, flip, clause_of}
 use Rattle.cnf_core.specs.Formula.{each}
 use Rattle.cnf_core.proofs.GatherLemmas.{clause_of_literals}
@@ -25,7 +25,6 @@ use Rattle.unary_sum.specs.Sum.{SumVars, sum_count, sum_clauses, sum_outputs, su
 use Rattle.drawing_cnf.specs.Stands.{DrawingVars}
 use Rattle.drawing_cnf.specs.Expected.{drawing_vars, laws_first}
 use Rattle.drawing_cnf.specs.Bounds.{same_as, sum_bound, west_first, bends_sum, some_height_clause, edge_height_gives, height_at, height_lits, gives_bound, some_column_clause, column_gives, width_at, step_lits, steps_sum, edges_steps, edges_outputs, edge_most, diagonal_sum, bound_clauses}
-use Rattle.drawing_cnf.specs.Bounded.{StandsIn}
 use Rattle.drawing_cnf.proofs.BoundLemmas.{bound_outputs, all_edges}
 use Rattle.drawing_cnf.proofs.BaseLemmas.{base_last, base_vars}
 use Rattle.drawing_cnf.proofs.ThereLemmas.{AreVars}
@@ -34,17 +33,17 @@ use Rattle.drawing_cnf.proofs.DiagonalBound.{steps_there}
 use Rattle.drawing_cnf.proofs.ListCode.{long_is}
 
 -- A CLAUSE AMONG OTHERS
-in_front : (xs ys : Clauses) (x : ℕ) → StandsIn xs x → StandsIn (xs ++ ys) x
-in_front xs ys x h = record { clause = h.clause; among = Contains-append_left xs ys h.clause h.among; literal = h.literal; inside = h.inside; variable = h.variable }
+in_front : (xs ys : Clauses) (x : ℕ) → IsNamed xs x → IsNamed (xs ++ ys) x
+in_front xs ys x h = record { clause = h.clause; among = Contains-append_left xs ys h.clause h.among; lit = h.lit; inside = h.inside; var = h.var }
 
-behind : (xs ys : Clauses) (x : ℕ) → StandsIn ys x → StandsIn (xs ++ ys) x
-behind xs ys x h = record { clause = h.clause; among = Contains-append_right xs ys h.clause h.among; literal = h.literal; inside = h.inside; variable = h.variable }
+behind : (xs ys : Clauses) (x : ℕ) → IsNamed ys x → IsNamed (xs ++ ys) x
+behind xs ys x h = record { clause = h.clause; among = Contains-append_right xs ys h.clause h.among; lit = h.lit; inside = h.inside; var = h.var }
 
-among_each : (f : ℕ → Clauses) (first n k x : ℕ) → first ≤ k → k < first + n → StandsIn (f k) x → StandsIn (each f first n) x
-among_each f first zero k x from to h = absurd (omega arith)
-among_each f first (suc n) k x from to h = elim (nat_cases first k) [
-  | inl same ↦ in_front (f first) (each f (first + 1) n) x (subst (λ (j : ℕ). StandsIn (f j) x) (sym same) h)
-  | inr other ↦ behind (f first) (each f (first + 1) n) x (among_each f (first + 1) n k x (omega arith) (omega arith) h)
+pub among_each : (f : ℕ → Clauses) (first n k : ℕ) (c : List Literal) → first ≤ k → k < first + n → Contains (f k) c → Contains (each f first n) c
+among_each f first zero k c from to h = absurd (omega arith)
+among_each f first (suc n) k c from to h = elim (nat_cases first k) [
+  | inl same ↦ Contains-append_left (f first) (each f (first + 1) n) c (subst (λ (j : ℕ). Contains (f j) c) (sym same) h)
+  | inr other ↦ Contains-append_right (f first) (each f (first + 1) n) c (among_each f (first + 1) n k c (omega arith) (omega arith) h)
 ]
   where
     nat_cases : (i j : ℕ) → (i ≡ j) ⊎ (i ≢ j)
@@ -53,14 +52,17 @@ among_each f first (suc n) k x from to h = elim (nat_cases first k) [
     nat_cases (suc i) zero = inr (λ e. cc)
     nat_cases (suc i) (suc j) = elim (nat_cases i j) [ inl e ↦ inl (ap suc e) | inr n ↦ inr (λ e. n (omega arith)) ]
 
-first_of_two : (k l : Literal) → StandsIn ((k ∷ l ∷ []) ∷ []) k.var
-first_of_two k l = record { clause = k ∷ l ∷ []; among = Contains-head (k ∷ l ∷ []) []; literal = k; inside = Contains-head k (l ∷ []); variable = refl }
+named_each : (f : ℕ → Clauses) (first n k x : ℕ) → first ≤ k → k < first + n → IsNamed (f k) x → IsNamed (each f first n) x
+named_each f first n k x from to h = record { clause = h.clause; among = among_each f first n k h.clause from to h.among; lit = h.lit; inside = h.inside; var = h.var }
 
-second_of_two : (k l : Literal) → StandsIn ((k ∷ l ∷ []) ∷ []) l.var
-second_of_two k l = record { clause = k ∷ l ∷ []; among = Contains-head (k ∷ l ∷ []) []; literal = l; inside = Contains-tail k (l ∷ []) l (Contains-head l []); variable = refl }
+first_of_two : (k l : Literal) → IsNamed ((k ∷ l ∷ []) ∷ []) k.var
+first_of_two k l = record { clause = k ∷ l ∷ []; among = Contains-head (k ∷ l ∷ []) []; lit = k; inside = Contains-head k (l ∷ []); var = refl }
 
-alone : (l : Literal) → StandsIn ((l ∷ []) ∷ []) l.var
-alone l = record { clause = l ∷ []; among = Contains-head (l ∷ []) []; literal = l; inside = Contains-head l []; variable = refl }
+second_of_two : (k l : Literal) → IsNamed ((k ∷ l ∷ []) ∷ []) l.var
+second_of_two k l = record { clause = k ∷ l ∷ []; among = Contains-head (k ∷ l ∷ []) []; lit = l; inside = Contains-tail k (l ∷ []) l (Contains-head l []); var = refl }
+
+alone : (l : Literal) → IsNamed ((l ∷ []) ∷ []) l.var
+alone l = record { clause = l ∷ []; among = Contains-head (l ∷ []) []; lit = l; inside = Contains-head l []; var = refl }
 
 two_is : (k l : Literal) → k.var ≢ l.var → clause_of [] (OfLit k ∷ OfLit l ∷ []) ≡ (k ∷ l ∷ []) ∷ []
 two_is k l differ = clause_of_literals [] (k ∷ l ∷ []) ((differ, tt), (tt, tt))
@@ -72,12 +74,12 @@ IsOther b (OfLit l) = b ≢ l.var
 IsOther b True = ⊤
 IsOther b False = ⊤
 
-same_named : (b : ℕ) (t : LitOrTruth) → IsOther b t → StandsIn (same_as b t) b
+same_named : (b : ℕ) (t : LitOrTruth) → IsOther b t → IsNamed (same_as b t) b
 same_named b True h = alone (positive_of b)
 same_named b False h = alone (negative_of b)
 same_named b (OfLit l) h =
     in_front (clause_of [] (flip (yes b) ∷ OfLit l ∷ [])) (clause_of [] (flip (OfLit l) ∷ yes b ∷ [])) b
-    (subst (λ (cs : Clauses). StandsIn cs b) (sym (two_is (negative_of b) l h)) (first_of_two (negative_of b) l))
+    (subst (λ (cs : Clauses). IsNamed cs b) (sym (two_is (negative_of b) l h)) (first_of_two (negative_of b) l))
 
 -- A SUM, WHOSE INPUTS HAVE OTHER VARIABLES
 outputs_other : (first count b k : ℕ) → b < first → IsOther b (part_at_least (Outputs first count) k)
@@ -100,10 +102,10 @@ tree_other most vars b k (suc depth) (l ∷ m ∷ ls) le deep h =
     let right = tree_of depth (drop (length all / 2) all) in
     outputs_other (vars + (tree_count most left + tree_count most right) + 1) (min (tree_size most left + tree_size most right) most) b k (omega arith)
 
-sum_bound_named : (s : SumVars) (last k : ℕ) → 1 ≤ k → k ≤ s.most → last + k ≤ s.vars → Avoids (last + k) s.inputs → StandsIn (sum_bound s last) (last + k)
+sum_bound_named : (s : SumVars) (last k : ℕ) → 1 ≤ k → k ≤ s.most → last + k ≤ s.vars → Avoids (last + k) s.inputs → IsNamed (sum_bound s last) (last + k)
 sum_bound_named s last k from to le h =
     behind (sum_clauses s) (each (bound_outputs s last) 1 s.most) (last + k)
-    (among_each (bound_outputs s last) 1 s.most k (last + k) from (omega arith)
+    (named_each (bound_outputs s last) 1 s.most k (last + k) from (omega arith)
     (same_named (last + k) (sum_at_least s k) (tree_other s.most s.vars (last + k) k (length s.inputs) s.inputs le (omega arith) h)))
 
 -- LISTS THAT HAVE OTHER VARIABLES
@@ -145,28 +147,28 @@ outputs_avoid b low vars g x width most (e ∷ es) a lt le there =
     (outputs_avoid b low next g x width most es a lt (omega arith) (All-tail (λ e. e < length g.edges) e es there))
 
 -- EACH CRITERION
-long_named : (heights : List Literal) (b : ℕ) → StandsIn ((heights ++ negative_of b ∷ []) ∷ []) b
+long_named : (heights : List Literal) (b : ℕ) → IsNamed ((heights ++ negative_of b ∷ []) ∷ []) b
 long_named heights b =
     let c = heights ++ negative_of b ∷ [] in
-    record { clause = c; among = Contains-head c []; literal = negative_of b; inside = Contains-append_right heights (negative_of b ∷ []) (negative_of b) (Contains-head (negative_of b) []); variable = refl }
+    record { clause = c; among = Contains-head c []; lit = negative_of b; inside = Contains-append_right heights (negative_of b ∷ []) (negative_of b) (Contains-head (negative_of b) []); var = refl }
 
-height_named : (g : Graph) (grid : GridSize) (last cap k : ℕ) → laws_first g grid ≤ last + 1 → cap ≤ grid.height → 1 ≤ k → k ≤ cap → StandsIn (bound_clauses g (drawing_vars g grid) grid last cap Height) (last + k)
+height_named : (g : Graph) (grid : GridSize) (last cap k : ℕ) → laws_first g grid ≤ last + 1 → cap ≤ grid.height → 1 ≤ k → k ≤ cap → IsNamed (bound_clauses g (drawing_vars g grid) grid last cap Height) (last + k)
 height_named g grid last cap k there most from to =
     let x = drawing_vars g grid in
     let b = last + k in
     let m = length g.edges in
-    among_each (λ j. height_at g x grid.width (last + j) j) 1 cap k b from (omega arith)
+    named_each (λ j. height_at g x grid.width (last + j) j) 1 cap k b from (omega arith)
     (behind (each (edge_height_gives g x grid.width b k) 0 m) (some_height_clause x grid.width m b k) b
-    (subst (λ (cs : Clauses). StandsIn cs b) (sym (long_is g grid b k from (omega arith) (omega arith))) (long_named (height_lits x grid.width k 0 m) b)))
+    (subst (λ (cs : Clauses). IsNamed cs b) (sym (long_is g grid b k from (omega arith) (omega arith))) (long_named (height_lits x grid.width k 0 m) b)))
 
-bends_named : (g : Graph) (grid : GridSize) (last cap k : ℕ) → IsGrid grid → laws_first g grid ≤ last + 1 → last ≤ VARS → 1 ≤ k → k ≤ cap → StandsIn (bound_clauses g (drawing_vars g grid) grid last cap Bends) (last + k)
+bends_named : (g : Graph) (grid : GridSize) (last cap k : ℕ) → IsGrid grid → laws_first g grid ≤ last + 1 → last ≤ VARS → 1 ≤ k → k ≤ cap → IsNamed (bound_clauses g (drawing_vars g grid) grid last cap Bends) (last + k)
 bends_named g grid last cap k is there limit from to =
     let x = drawing_vars g grid in
     let s = bends_sum x (west_first g) last cap in
     sum_bound_named s last k from to (omega arith)
     (there_avoids last (last + k) s.inputs (omega arith) (bends_lits_there (base_last g grid) g x grid.width (west_first g) last (omega arith) (all_edges g) (base_vars g grid is (omega arith))))
 
-diagonal_named : (g : Graph) (grid : GridSize) (last cap k : ℕ) → IsGrid grid → laws_first g grid ≤ last + 1 → last ≤ VARS → 1 ≤ k → k ≤ cap → StandsIn (bound_clauses g (drawing_vars g grid) grid last cap Diagonal) (last + k)
+diagonal_named : (g : Graph) (grid : GridSize) (last cap k : ℕ) → IsGrid grid → laws_first g grid ≤ last + 1 → last ≤ VARS → 1 ≤ k → k ≤ cap → IsNamed (bound_clauses g (drawing_vars g grid) grid last cap Diagonal) (last + k)
 diagonal_named g grid last cap k is there limit from to =
     let x = drawing_vars g grid in
     let most = edge_most grid cap in
@@ -176,30 +178,30 @@ diagonal_named g grid last cap k is there limit from to =
     (outputs_avoid (last + k) (base_last g grid) (last + cap) g x grid.width most (west_first g) (base_vars g grid is (omega arith)) (omega arith) (omega arith) (all_edges g).there))
 
 -- a node's column that is at least k gives the variable
-gives_named : (i : IntVars) (b k : ℕ) → i.low < k → k ≤ i.high → i.first + size i ≤ b → StandsIn (gives_bound i b k) b
+gives_named : (i : IntVars) (b k : ℕ) → i.low < k → k ≤ i.high → i.first + size i ≤ b → IsNamed (gives_bound i b k) b
 gives_named i b k low high le =
     let v = i.first + (k - (i.low + 1)) in
     let one : nat_le k i.low ≡ false = grind (arith, nat_tests) in
     let two : nat_lt i.high k ≡ false = grind (arith, nat_tests) in
     let is : int_at_least i k ≡ yes v = ap (λ c. cond c True (cond (nat_lt i.high k) False (yes v))) one ∙ ap (λ c. cond c False (yes v)) two in
-    subst (λ (t : LitOrTruth). StandsIn (clause_of [] (flip t ∷ yes b ∷ [])) b) (sym is)
-    (subst (λ (cs : Clauses). StandsIn cs b) (sym (two_is (negative_of v) (positive_of b) (λ e. omega arith))) (second_of_two (negative_of v) (positive_of b)))
+    subst (λ (t : LitOrTruth). IsNamed (clause_of [] (flip t ∷ yes b ∷ [])) b) (sym is)
+    (subst (λ (cs : Clauses). IsNamed cs b) (sym (two_is (negative_of v) (positive_of b) (λ e. omega arith))) (second_of_two (negative_of v) (positive_of b)))
 
-columns_named : (x : DrawingVars) (b k n : ℕ) → (0 < n → StandsIn (column_gives x b k 0) b) → StandsIn (each (column_gives x b k) 0 n ++ some_column_clause x n b k) b
+columns_named : (x : DrawingVars) (b k n : ℕ) → (0 < n → IsNamed (column_gives x b k 0) b) → IsNamed (each (column_gives x b k) 0 n ++ some_column_clause x n b k) b
 columns_named x b k zero h = alone (negative_of b)
 columns_named x b k (suc n) h =
     in_front (each (column_gives x b k) 0 (suc n)) (some_column_clause x (suc n) b k) b
     (in_front (column_gives x b k 0) (each (column_gives x b k) 1 n) b (h (omega arith)))
 
-width_named : (g : Graph) (grid : GridSize) (last cap k : ℕ) → IsGrid grid → laws_first g grid ≤ last + 1 → last ≤ VARS → cap ≤ grid.width → 1 ≤ k → k ≤ cap → StandsIn (bound_clauses g (drawing_vars g grid) grid last cap Width) (last + k)
+width_named : (g : Graph) (grid : GridSize) (last cap k : ℕ) → IsGrid grid → laws_first g grid ≤ last + 1 → last ≤ VARS → cap ≤ grid.width → 1 ≤ k → k ≤ cap → IsNamed (bound_clauses g (drawing_vars g grid) grid last cap Width) (last + k)
 width_named g grid last cap k is there limit most from to =
     let x = drawing_vars g grid in
     let b = last + k in
     let a = base_vars g grid is (omega arith) in
-    among_each (λ j. width_at g x (last + j) j) 1 cap k b from (omega arith)
+    named_each (λ j. width_at g x (last + j) j) 1 cap k b from (omega arith)
     (columns_named x b k (length g.nodes) (λ some. let i = (a.node_x 0 some).to in gives_named (x.node 0).x b k (omega arith) (omega arith) (omega arith)))
 
-pub bound_named : (g : Graph) (grid : GridSize) (last cap : ℕ) (c : Criterion) (k : ℕ) → IsGrid grid → laws_first g grid ≤ last + 1 → last ≤ VARS → cap ≤ limit_of g grid c → 1 ≤ k → k ≤ cap → StandsIn (bound_clauses g (drawing_vars g grid) grid last cap c) (last + k)
+pub bound_named : (g : Graph) (grid : GridSize) (last cap : ℕ) (c : Criterion) (k : ℕ) → IsGrid grid → laws_first g grid ≤ last + 1 → last ≤ VARS → cap ≤ limit_of g grid c → 1 ≤ k → k ≤ cap → IsNamed (bound_clauses g (drawing_vars g grid) grid last cap c) (last + k)
 bound_named g grid last cap Height k is there limit most from to = height_named g grid last cap k there most from to
 bound_named g grid last cap Bends k is there limit most from to = bends_named g grid last cap k is there limit from to
 bound_named g grid last cap Diagonal k is there limit most from to = diagonal_named g grid last cap k is there limit from to

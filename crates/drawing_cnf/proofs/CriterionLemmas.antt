@@ -20,7 +20,7 @@ use Rattle.drawing_cnf.specs.declared.kept_bound.KeptBound.{KeptBound}
 use Rattle.drawing_cnf.specs.Kept.{AreKept, HasSums}
 use Rattle.drawing_cnf.specs.Whole.{drawing_clauses, drawing_last, bounds_last, IsWhole}
 use Rattle.drawing_cnf.proofs.MainLemmas.{few_variables, all_listed, order_tables}
-use Rattle.drawing_cnf.proofs.WholeLemmas.{whole_sound, whole_tells}
+use Rattle.drawing_cnf.proofs.WholeLemmas.{last_rises, whole_sound, whole_tells}
 use Rattle.drawing_cnf.proofs.BoundedLemmas.{covers_with}
 
 behind_more : (g : Graph) (x : DrawingVars) (grid : GridSize) (vars : ℕ) (bounds : List Bound) (b : Bound) → AreBehind g x grid vars bounds → bounds_last g x grid vars bounds ≤ b.last → AreBehind g x grid vars (bounds ++ b ∷ [])
@@ -34,10 +34,6 @@ last_more g x grid vars (a ∷ rest) b = last_more g x grid (a.last + size_of_bo
 clauses_more : (g : Graph) (x : DrawingVars) (grid : GridSize) (bounds : List Bound) (b : Bound) → bounds_clauses g x grid (bounds ++ b ∷ []) ≡ bounds_clauses g x grid bounds ++ clauses_of_bound g x grid b
 clauses_more g x grid [] b = append-nil (clauses_of_bound g x grid b)
 clauses_more g x grid (a ∷ rest) b = ap (λ (cs : Clauses). clauses_of_bound g x grid a ++ cs) (clauses_more g x grid rest b) ∙ sym (append_assoc (clauses_of_bound g x grid a) (bounds_clauses g x grid rest) (clauses_of_bound g x grid b))
-
-last_rises : (g : Graph) (x : DrawingVars) (grid : GridSize) (vars : ℕ) (bounds : List Bound) → AreBehind g x grid vars bounds → vars ≤ bounds_last g x grid vars bounds
-last_rises g x grid vars [] h = omega arith
-last_rises g x grid vars (a ∷ rest) h = let from = h.0 in let more = last_rises g x grid (a.last + size_of_bound g x grid a) rest h.1 in omega arith
 
 -- the variables of nodes and edges lie before the last one
 pub whole_there : (e : Encoding) → IsWhole e → laws_first e.graph e.grid ≤ e.formula.vars + 1
@@ -82,6 +78,11 @@ cap_fits g x grid last cap Height = omega arith
 cap_fits g x grid last cap Bends = omega arith
 cap_fits g x grid last cap Diagonal = omega arith
 cap_fits g x grid last cap Width = omega arith
+
+-- they are there where the bound was added
+pub there_after : {T : Type 0} (r : Result T CnfFault) (g : Graph) (x : DrawingVars) (grid : GridSize) (last new cap : ℕ) (c : Criterion) → OnOk r (new ≡ last + bound_size g x grid last cap c) → OnOk r (last + cap ≤ new)
+there_after (Ok y) g x grid last new cap c made = let fits = cap_fits g x grid last cap c in omega arith
+there_after (Err y) g x grid last new cap c made = tt
 
 -- each lawful drawing has a model that tells its values
 pub whole_covers : (e : Encoding) → IsTrackGraph e.graph → IsGrid e.grid → laws_first e.graph e.grid ≤ VARS + 1 → IsWhole e → CoversWith e.graph (is_above e.order) e.grid (encoded_vars e) e.formula.clauses e.bounds

@@ -27,7 +27,7 @@ use Rattle.edge_lines.proofs.GridLemmas.{heights_on_grid}
 use Rattle.edge_lines.proofs.RunLemmas.{one_if}
 use Rattle.edge_lines.proofs.DiagonalSteps.{diagonal_steps}
 use Rattle.edge_shape.specs.EdgeVars.{EdgeLits}
-use Rattle.drawing_cnf.specs.Stands.{DrawingVars, IsLoose}
+use Rattle.drawing_cnf.specs.Stands.{DrawingVars, IsJoinedOnGrid}
 use Rattle.drawing_cnf.specs.Bounds.{IsExact, step_lits, steps_sum, gives_output, steps_beside, edge_steps, edges_steps, edges_outputs, edges_count, edge_most, sum_bound, diagonal_sum, diagonal_bound, diagonal_bound_size}
 use Rattle.drawing_cnf.proofs.GuardLemmas.{some_to}
 use Rattle.drawing_cnf.proofs.OverLemmas.{Read}
@@ -38,7 +38,7 @@ use Rattle.drawing_cnf.proofs.BendsBound.{line_bends}
 use Rattle.drawing_cnf.proofs.DiagonalLines.{west_diagonal, east_diagonal, bent_diagonal, low_diagonal, count_steps}
 
 -- ONE EDGE
-edge_diagonal : (v : Assignment) (g : Graph) (x : DrawingVars) (grid : GridSize) (d : Drawing) (e : ℕ) → Read v g x grid d → e < length g.edges → count_true v (step_lits (x.edge e) 0 grid.width) ≡ diagonal (line d e)
+pub edge_diagonal : (v : Assignment) (g : Graph) (x : DrawingVars) (grid : GridSize) (d : Drawing) (e : ℕ) → Read v g x grid d → e < length g.edges → count_true v (step_lits (x.edge e) 0 grid.width) ≡ diagonal (line d e)
 edge_diagonal v g x grid d e r lt =
     let l = line d e in
     let s = r.reads.lines e lt in
@@ -48,7 +48,7 @@ edge_diagonal v g x grid d e r lt =
     count_steps v (x.edge e) (height l) 0 grid.width (λ c from to. s.up c (omega arith)) (λ c from to. s.down c (omega arith))
     ∙ sym (diagonal_steps l grid.width j.shape (omega arith))
 
-edge_low : (g : Graph) (grid : GridSize) (d : Drawing) (e : ℕ) → IsLoose g grid d → e < length g.edges → diagonal (line d e) ≤ 2 * grid.height
+edge_low : (g : Graph) (grid : GridSize) (d : Drawing) (e : ℕ) → IsJoinedOnGrid g grid d → e < length g.edges → diagonal (line d e) ≤ 2 * grid.height
 edge_low g grid d e loose lt =
     let l = line d e in
     let j = loose.joins e lt in
@@ -92,7 +92,7 @@ two_bends true true n e f g = e
 two_bends true false n e f g = cc
 two_bends false q n e f g = cc
 
-beside_holds : (v : Assignment) (g : Graph) (x : DrawingVars) (grid : GridSize) (d : Drawing) (e : ℕ) (s : SumVars) → Read v g x grid d → e < length g.edges → Tells v s (diagonal (line d e)) → SatisfiesAll v (steps_beside (x.edge e) s)
+pub beside_holds : (v : Assignment) (g : Graph) (x : DrawingVars) (grid : GridSize) (d : Drawing) (e : ℕ) (s : SumVars) → Read v g x grid d → e < length g.edges → Tells v s (diagonal (line d e)) → SatisfiesAll v (steps_beside (x.edge e) s)
 beside_holds v g x grid d e s r lt tells =
     let l = line d e in
     let n = diagonal l in
@@ -248,12 +248,12 @@ same_up_to k cap m n le e = elim (leb_tells k m) [
     no_le : (i j : ℕ) → j < i → nat_le i j ≡ false
     no_le i j h = grind (arith, nat_tests)
 
-lows : (g : Graph) (grid : GridSize) (d : Drawing) (es : List ℕ) → IsLoose g grid d → All (λ e. e < length g.edges) es → All (λ e. diagonal (line d e) ≤ 2 * grid.height) es
+lows : (g : Graph) (grid : GridSize) (d : Drawing) (es : List ℕ) → IsJoinedOnGrid g grid d → All (λ e. e < length g.edges) es → All (λ e. diagonal (line d e) ≤ 2 * grid.height) es
 lows g grid d [] loose there = All-nil (λ e. diagonal (line d e) ≤ 2 * grid.height)
 lows g grid d (e ∷ es) loose there = All-cons (λ e. diagonal (line d e) ≤ 2 * grid.height) e es (edge_low g grid d e loose (All-head (λ e. e < length g.edges) e es there)) (lows g grid d es loose (All-tail (λ e. e < length g.edges) e es there))
 
 -- the outputs tell the diagonal up to the cap
-outputs_tell : (v : Assignment) (g : Graph) (x : DrawingVars) (grid : GridSize) (d : Drawing) (edges : List ℕ) (cap vars k : ℕ) → AreEdges g edges → Read v g x grid d → SatisfiesAll v (edges_steps x grid.width (edge_most grid cap) vars edges) → k ≤ cap → nat_le k (count_true v (edges_outputs x grid.width (edge_most grid cap) vars edges)) ≡ nat_le k (sum_by diagonal d.lines)
+pub outputs_tell : (v : Assignment) (g : Graph) (x : DrawingVars) (grid : GridSize) (d : Drawing) (edges : List ℕ) (cap vars k : ℕ) → AreEdges g edges → Read v g x grid d → SatisfiesAll v (edges_steps x grid.width (edge_most grid cap) vars edges) → k ≤ cap → nat_le k (count_true v (edges_outputs x grid.width (edge_most grid cap) vars edges)) ≡ nat_le k (sum_by diagonal d.lines)
 outputs_tell v g x grid d edges cap vars k are r h le =
     ap (nat_le k) (outputs_true v g x grid d (edge_most grid cap) vars edges r are.there h)
     ∙ same_up_to k cap (sum_by (capped d (edge_most grid cap)) edges) (sum_by (λ e. diagonal (line d e)) edges) le (cut_sum (λ e. diagonal (line d e)) cap (2 * grid.height) edges (lows g grid d edges r.loose are.there))

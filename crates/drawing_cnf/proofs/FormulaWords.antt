@@ -29,7 +29,7 @@ use Rattle.edge_shape.proofs.WordLemmas.{edge_words, edge_vars_few}
 use Rattle.drawing_cnf.specs.Guards.{pair_literals, pair_clauses, unless_rules}
 use Rattle.drawing_cnf.specs.Stands.{DrawingVars, SlopeVars, slope_vars}
 use Rattle.drawing_cnf.specs.LawClauses.{flat_rules, same_rules, one_more_rules, greater_rules, diverge_rules, ports_rules, apart_size, over_clauses, higher_of, instance_clauses, laws_size, laws_clauses}
-use Rattle.drawing_cnf.specs.Expected.{drawing_vars, edge_first, laws_first, instances_from, instance_row, instance_pairs, below_by, pair_by, edge_pair, instances, node_clauses, edge_part, base_clauses, formula_clauses, formula_size, area, most_words, most_variables}
+use Rattle.drawing_cnf.specs.Expected.{drawing_vars, edge_first, laws_first, instances_from, pairs_from, instance_pairs, below_by, pair_by, edge_pair, instances, node_clauses, edge_part, base_clauses, formula_clauses, formula_size, area, most_words, most_variables}
 use Rattle.drawing_cnf.proofs.LawCode.{size_append, laws_append}
 use Rattle.drawing_cnf.proofs.LawWords.{ordered_words, apart_words, higher_words, listed_words, all_pairs_words}
 use Rattle.drawing_cnf.proofs.BaseLemmas.{base_last, base_vars, edge_spot_in}
@@ -234,7 +234,7 @@ listed_size g most f h a (suc n) =
     omega (arith, size_append g (f a) (instances_from f (a + 1) n), h a, listed_size g most f h (a + 1) n)
 
 all_pairs_size : (g : Graph) (most n : ℕ) (f : ℕ → ℕ → List Instance) → ((a b : ℕ) → laws_size g (f a b) ≤ most) → laws_size g (instance_pairs n f) ≤ n * (n * most)
-all_pairs_size g most n f h = listed_size g (n * most) (instance_row n f) (λ a.
+all_pairs_size g most n f h = listed_size g (n * most) (pairs_from n f) (λ a.
     let here = listed_size g most (f a) (h a) (a + 1) (n - (a + 1)) in
     let fewer : (n - (a + 1)) * most ≤ n * most = mul-le-mul_right most (omega arith) in
     omega arith) 0 n

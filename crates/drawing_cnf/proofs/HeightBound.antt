@@ -34,7 +34,7 @@ use Rattle.edge_lines.proofs.StepLemmas.{up_is, down_is}
 use Rattle.edge_lines.proofs.RunLemmas.{line_west_slope, line_east_slope}
 use Rattle.edge_lines.proofs.GridLemmas.{on_grid_heights, heights_on_grid}
 use Rattle.edge_lines.proofs.LineHeights.{height_behind}
-use Rattle.drawing_cnf.specs.Stands.{DrawingVars, IsLoose}
+use Rattle.drawing_cnf.specs.Stands.{DrawingVars, IsJoinedOnGrid}
 use Rattle.drawing_cnf.specs.Bounds.{IsExact, column_heights, all_heights, some_height_clause, height_gives, height_beside, edge_height_gives, height_at, height_bound}
 use Rattle.drawing_cnf.proofs.GuardLemmas.{Is, some_from, some_to}
 use Rattle.drawing_cnf.proofs.OverLemmas.{Read}
@@ -77,7 +77,7 @@ pub node_ends : (g : Graph) (n : ℕ) → IsTrackGraph g → n < length g.nodes 
 node_ends g n is lt = port_ends g n (node g n).ports (is.ports n lt).there (is.ports n lt).placed
 
 -- the drawing isn't higher than h exactly where no line is at a column of the grid
-pub all_low : (g : Graph) (grid : GridSize) (d : Drawing) (h : ℕ) → IsLoose g grid d → height_of d ≤ h → (e c : ℕ) → e < length g.edges → height (line d e) c ≤ h
+pub all_low : (g : Graph) (grid : GridSize) (d : Drawing) (h : ℕ) → IsJoinedOnGrid g grid d → height_of d ≤ h → (e c : ℕ) → e < length g.edges → height (line d e) c ≤ h
 all_low g grid d h loose low e c lt =
     let under = all_of_list (λ (p : Point). p.y ≤ height_of d) d.lines e (let z = loose.fits.size.lines in omega arith) (all_back (λ (p : Point). p.y ≤ height_of d) d.places (flat_map (λ l. l) d.lines) (all_under (all_points d))) in
     let j = loose.joins e lt in
@@ -88,7 +88,7 @@ all_low g grid d h loose low e c lt =
     let b = All-get_or (λ (p : Point). p.y ≤ height_of d) (line d e) i origin within under in
     record { in_width = a; in_height = omega arith }))
 
-pub low_all : (g : Graph) (grid : GridSize) (d : Drawing) (h : ℕ) → IsTrackGraph g → IsLoose g grid d → ((e c : ℕ) → e < length g.edges → c ≤ grid.width → height (line d e) c ≤ h) → height_of d ≤ h
+pub low_all : (g : Graph) (grid : GridSize) (d : Drawing) (h : ℕ) → IsTrackGraph g → IsJoinedOnGrid g grid d → ((e c : ℕ) → e < length g.edges → c ≤ grid.width → height (line d e) c ≤ h) → height_of d ≤ h
 low_all g grid d h is loose low = maximum-le (map (λ (p : Point). p.y) (all_points d)) h
     (All-map (λ k. k ≤ h) (λ (p : Point). p.y) (all_points d) (All-append (λ (p : Point). p.y ≤ h) d.places (flat_map (λ l. l) d.lines)
     (All-from_get_or (λ (p : Point). p.y ≤ h) d.places origin (λ n within. let z = loose.fits.size.places in node_low n (omega arith)))
@@ -255,7 +255,7 @@ slope_down a b h = elim (leb_tells (b + 1) a) [
     up_or_level true e = cc
     up_or_level false e = cc
 
-west_rise : (g : Graph) (grid : GridSize) (d : Drawing) (e : ℕ) → IsLoose g grid d → e < length g.edges → is_up (slope_west (line d e)) ≡ true → (place d (edge g e).west).y + 1 ≤ height_of d
+west_rise : (g : Graph) (grid : GridSize) (d : Drawing) (e : ℕ) → IsJoinedOnGrid g grid d → e < length g.edges → is_up (slope_west (line d e)) ≡ true → (place d (edge g e).west).y + 1 ≤ height_of d
 west_rise g grid d e loose lt up =
     let l = line d e in
     let j = loose.joins e lt in
@@ -264,7 +264,7 @@ west_rise g grid d e loose lt up =
     let low = all_low g grid d (height_of d) loose (omega arith) e ((west_end l).x + 1) lt in
     omega arith
 
-east_rise : (g : Graph) (grid : GridSize) (d : Drawing) (e : ℕ) → IsLoose g grid d → e < length g.edges → is_down (slope_east (line d e)) ≡ true → (place d (edge g e).east).y + 1 ≤ height_of d
+east_rise : (g : Graph) (grid : GridSize) (d : Drawing) (e : ℕ) → IsJoinedOnGrid g grid d → e < length g.edges → is_down (slope_east (line d e)) ≡ true → (place d (edge g e).east).y + 1 ≤ height_of d
 east_rise g grid d e loose lt down =
     let l = line d e in
     let j = loose.joins e lt in
@@ -299,7 +299,7 @@ beside_holds v g x grid d b k e r lt h =
     (clause_holds v [] east (inr (beside_or v (x.edge e).east_down b (x.node (edge g e).east).y k (place d (edge g e).east).y (height_of d) (r.reads.points (edge g e).east ends.1).y h (λ down. east_rise g grid d e r.loose lt (sym s.east.falls ∙ down)))))
 
 -- and back
-height_holds : (v : Assignment) (g : Graph) (x : DrawingVars) (grid : GridSize) (d : Drawing) (b k : ℕ) → Read v g x grid d → 1 ≤ k → v b ≡ nat_le k (height_of d) → SatisfiesAll v (height_at g x grid.width b k)
+pub height_holds : (v : Assignment) (g : Graph) (x : DrawingVars) (grid : GridSize) (d : Drawing) (b k : ℕ) → Read v g x grid d → 1 ≤ k → v b ≡ nat_le k (height_of d) → SatisfiesAll v (height_at g x grid.width b k)
 height_holds v g x grid d b k r from h = satisfies_append v given long
     (satisfies_each v (edge_height_gives g x grid.width b k) 0 m (λ e low high.
     let lt : e < m = omega arith in

@@ -18,16 +18,17 @@ use Rattle.cnf_core.specs.declared.limits.TheConstants.{VARS}
 use Rattle.cnf_core.specs.Assignment.{Assignment, SatisfiesAll, Extends}
 use Rattle.cnf_core.proofs.ClauseLemmas.{first_or_later, satisfies_append, satisfies_left, satisfies_right, satisfies_all_same}
 use Rattle.track_order.specs.Order.{EdgeOrder, is_above, is_overlap, IsOrderOf}
-use Rattle.drawing_cnf.specs.Stands.{DrawingVars, StandsFor, ReadsDrawing, IsLoose}
+use Rattle.drawing_cnf.specs.Stands.{DrawingVars, StandsFor, ReadsDrawing, IsJoinedOnGrid}
 use Rattle.drawing_cnf.specs.LawClauses.{laws_clauses, laws_size}
-use Rattle.drawing_cnf.specs.Expected.{drawing_vars, laws_first, base_clauses, expected_clauses, instances_from, instance_row, instance_pairs, edge_pair, instances, Sound, Covers}
+use Rattle.drawing_cnf.specs.Expected.{drawing_vars, laws_first, base_clauses, expected_clauses, instances_from, pairs_from, instance_pairs, edge_pair, instances, Sound, Covers}
 use Rattle.drawing_cnf.proofs.OverLemmas.{Read}
 use Rattle.drawing_cnf.proofs.InstanceLemmas.{AreInstances, instance_means, laws_mean, laws_extend, drawing_stays}
 use Rattle.drawing_cnf.proofs.BaseLemmas.{base_means, lawful_loose, base_last, base_vars, base_there, BaseHolds, base_extends}
 
 -- what is read stands for the drawing
-pub reads_stand : (v : Assignment) (g : Graph) (x : DrawingVars) (grid : GridSize) (d : Drawing) → ReadsDrawing v g x grid.width d → IsLoose g grid d → StandsFor v g x d
+pub reads_stand : (v : Assignment) (g : Graph) (x : DrawingVars) (grid : GridSize) (d : Drawing) → ReadsDrawing v g x grid.width d → IsJoinedOnGrid g grid d → StandsFor v g x d
 reads_stand v g x grid d r loose = record {
+  fits = loose.fits;
   columns = λ n lt. (r.points n lt).x;
   rows = λ n lt. (r.points n lt).y;
   heights = λ e lt c h.
@@ -112,7 +113,7 @@ are_listed g above f first zero h = tt
 are_listed g above f first (suc n) h = are_both g above (f first) (instances_from f (first + 1) n) (h first (omega arith) (omega arith)) (are_listed g above f (first + 1) n (λ k from to. h k (omega arith) (omega arith)))
 
 are_pairs : (g : Graph) (above : ℕ → ℕ → Bool) (f : ℕ → ℕ → List Instance) (n : ℕ) → ((a b : ℕ) → a < b → b < n → AreInstances g above (f a b)) → AreInstances g above (instance_pairs n f)
-are_pairs g above f n h = are_listed g above (instance_row n f) 0 n (λ a from to. are_listed g above (f a) (a + 1) (n - (a + 1)) (λ b low high. h a b (omega arith) (omega arith)))
+are_pairs g above f n h = are_listed g above (pairs_from n f) 0 n (λ a from to. are_listed g above (f a) (a + 1) (n - (a + 1)) (λ b low high. h a b (omega arith) (omega arith)))
 
 in_listed : (f : ℕ → List Instance) (i : Instance) (first n k : ℕ) → first ≤ k → k < first + n → Contains (f k) i → Contains (instances_from f first n) i
 in_listed f i first zero k from to h = absurd (omega arith)
@@ -122,7 +123,7 @@ in_listed f i first (suc n) k from to h = elim (first_or_later first k from) [
 ]
 
 in_pairs : (f : ℕ → ℕ → List Instance) (i : Instance) (n a b : ℕ) → a < b → b < n → Contains (f a b) i → Contains (instance_pairs n f) i
-in_pairs f i n a b rising within h = in_listed (instance_row n f) i 0 n a (omega arith) (omega arith) (in_listed (f a) i (a + 1) (n - (a + 1)) b (omega arith) (omega arith) h)
+in_pairs f i n a b rising within h = in_listed (pairs_from n f) i 0 n a (omega arith) (omega arith) (in_listed (f a) i (a + 1) (n - (a + 1)) b (omega arith) (omega arith) h)
 
 -- the tables say which edges are above which, and which overlap
 pub record AreTablesOf (g : Graph) (above overlap : ℕ → ℕ → Bool) : Type 0 where

@@ -108,7 +108,7 @@ pub rank_of_count : (g : Graph) (n u count end : ℕ) → end ≤ u → u ≤ en
 unfolding west_rank
 rank_of_count g n u count end from to e h = let z : u ≡ length g.nodes = omega arith in h ∙ ap (count_below (λ k. comes_before g k n)) z
 
-rank_rises : (g : Graph) (u v : ℕ) → u < length g.nodes → Comes (mileage g u) (mileage g v) u v → west_rank g u < west_rank g v
+pub rank_rises : (g : Graph) (u v : ℕ) → u < length g.nodes → Comes (mileage g u) (mileage g v) u v → west_rank g u < west_rank g v
 unfolding west_rank
 rank_rises g u v lt h = count_one_more (λ k. comes_before g k u) (λ k. comes_before g k v) (length g.nodes) u
     (λ k before. comes_says g k v (comes_through (mileage g k) (mileage g u) (mileage g v) k u v (comes_tells g k u before) h))

@@ -22,7 +22,7 @@ use Rattle.cnf_core.proofs.SettingLemmas.{patch, patch_same}
 use Rattle.order_int.specs.OrderInt.{int_at_least}
 use Rattle.order_int.proofs.IntLemmas.{at_least_within}
 use Rattle.edge_lines.proofs.GridLemmas.{heights_on_grid}
-use Rattle.drawing_cnf.specs.Stands.{DrawingVars, IsLoose}
+use Rattle.drawing_cnf.specs.Stands.{DrawingVars, IsJoinedOnGrid}
 use Rattle.drawing_cnf.specs.Bounds.{IsExact, node_columns, some_column_clause, column_gives, width_at, width_bound}
 use Rattle.drawing_cnf.proofs.GuardLemmas.{Is, some_to}
 use Rattle.drawing_cnf.proofs.OverLemmas.{Read}
@@ -41,10 +41,10 @@ all_west (q ∷ ps) qs =
     All-cons (λ (p : Point). p.x ≤ max q.x m) q ps (omega arith) (All-weaker (λ (p : Point). p.x ≤ m) (λ (p : Point). p.x ≤ max q.x m) (λ p le. omega arith) ps (all_west ps qs))
 
 -- the nodes' columns are those of all points
-pub place_low : (g : Graph) (grid : GridSize) (d : Drawing) (n : ℕ) → IsLoose g grid d → n < length g.nodes → (place d n).x ≤ width_of d
+pub place_low : (g : Graph) (grid : GridSize) (d : Drawing) (n : ℕ) → IsJoinedOnGrid g grid d → n < length g.nodes → (place d n).x ≤ width_of d
 place_low g grid d n loose lt = All-get_or (λ (p : Point). p.x ≤ width_of d) d.places n origin (let z = loose.fits.size.places in omega arith) (all_west d.places (flat_map (λ l. l) d.lines))
 
-pub width_low : (g : Graph) (grid : GridSize) (d : Drawing) (w : ℕ) → IsTrackGraph g → IsLoose g grid d → ((n : ℕ) → n < length g.nodes → (place d n).x ≤ w) → width_of d ≤ w
+pub width_low : (g : Graph) (grid : GridSize) (d : Drawing) (w : ℕ) → IsTrackGraph g → IsJoinedOnGrid g grid d → ((n : ℕ) → n < length g.nodes → (place d n).x ≤ w) → width_of d ≤ w
 width_low g grid d w is loose low = maximum-le (map (λ (p : Point). p.x) (all_points d)) w
     (All-map (λ k. k ≤ w) (λ (p : Point). p.x) (all_points d) (All-append (λ (p : Point). p.x ≤ w) d.places (flat_map (λ l. l) d.lines)
     (All-from_get_or (λ (p : Point). p.x ≤ w) d.places origin (λ n within. let z = loose.fits.size.places in low n (omega arith)))
@@ -118,7 +118,7 @@ columns_or v x k n (suc rest) = cases (value v (int_at_least (x.node n).x k)) re
     ])
 
 -- and back
-width_holds : (v : Assignment) (g : Graph) (x : DrawingVars) (grid : GridSize) (d : Drawing) (b k : ℕ) → Read v g x grid d → 1 ≤ k → v b ≡ nat_le k (width_of d) → SatisfiesAll v (width_at g x b k)
+pub width_holds : (v : Assignment) (g : Graph) (x : DrawingVars) (grid : GridSize) (d : Drawing) (b k : ℕ) → Read v g x grid d → 1 ≤ k → v b ≡ nat_le k (width_of d) → SatisfiesAll v (width_at g x b k)
 width_holds v g x grid d b k r from h = satisfies_append v (each (column_gives x b k) 0 m) (some_column_clause x m b k)
     (satisfies_each v (column_gives x b k) 0 m (λ n low high. give n (omega arith)))
     (clause_holds v [] (node_columns x k 0 m ++ flip (yes b) ∷ []) (inr (some_to v (node_columns x k 0 m) (flip (yes b) ∷ []) (all_or (v b) refl))))

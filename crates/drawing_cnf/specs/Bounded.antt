@@ -1,5 +1,6 @@
--- The formula with bounds behind it: one list for a graph, a grid, and the criteria that are bounded in an order, each with its cap.
-use Rattle.std.specs.Prelude.{◌≡◌, ◌≤◌, ⊤, ℕ, ◌+◌, Bool, cond, nat_eq, List, [], ◌∷◌, ◌++◌, All, Contains}
+-- The formula with bounds behind it: one list for a graph, a grid, and the criteria that are bounded in an order, each
+-- with its cap.
+use Rattle.std.specs.Prelude.{◌≤◌, ⊤, ℕ, ◌+◌, Bool, cond, nat_eq, List, [], ◌∷◌, ◌++◌, All}
 use Rattle.std.specs.List.{flat_map}
 use Rattle.plan_core.specs.declared.criterion.Criterion.{Criterion}
 use Rattle.plan_core.specs.declared.criterion.Values.{Values}
@@ -8,7 +9,6 @@ use Rattle.plan_core.specs.Graph.{Graph}
 use Rattle.plan_core.specs.Drawing.{Drawing}
 use Rattle.plan_core.specs.Values.{values_of, value_of}
 use Rattle.plan_core.specs.Lawful.{Lawful}
-use Rattle.cnf_core.specs.Lit.{Literal}
 use Rattle.cnf_core.specs.Clause.{Clauses}
 use Rattle.cnf_core.specs.Assignment.{Assignment, SatisfiesAll}
 use Rattle.drawing_cnf.specs.Stands.{DrawingVars, StandsFor}
@@ -48,11 +48,13 @@ bounds_from g x grid caps last (c ∷ rest) =
 -- The clauses and variables that there are for an order with its caps.
 
 abbrev pub expected_bounds : Graph → (ℕ → ℕ → Bool) → (ℕ → ℕ → Bool) → GridSize → List Criterion → (Criterion → ℕ) → List Bound
-expected_bounds g above overlap grid order caps = bounds_from g (drawing_vars g grid) grid caps (formula_size g above overlap grid) order
+expected_bounds g above overlap grid order caps =
+    bounds_from g (drawing_vars g grid) grid caps (formula_size g above overlap grid) order
 
 abbrev pub expected : Graph → (ℕ → ℕ → Bool) → (ℕ → ℕ → Bool) → GridSize → List Criterion → (Criterion → ℕ) → Clauses
 expected g above overlap grid order caps =
-    formula_clauses g above overlap grid ++ bounds_clauses g (drawing_vars g grid) grid (expected_bounds g above overlap grid order caps)
+    formula_clauses g above overlap grid
+    ++ bounds_clauses g (drawing_vars g grid) grid (expected_bounds g above overlap grid order caps)
 
 -- What they are to be.
 
@@ -61,7 +63,8 @@ abbrev pub Tells : Assignment → Values → List Bound → Type 0
 Tells v values bounds = All (λ (b : Bound). IsExact v b.last b.cap (value_of values b.criterion)) bounds
 
 -- the assignment stands for a lawful drawing, and the bounds tell its values
-pub record StandsAndTells (v : Assignment) (g : Graph) (above : ℕ → ℕ → Bool) (grid : GridSize) (x : DrawingVars) (bounds : List Bound) : Type 0 where
+pub record StandsAndTells (v : Assignment) (g : Graph) (above : ℕ → ℕ → Bool) (grid : GridSize) (x : DrawingVars)
+    (bounds : List Bound) : Type 0 where
   pub drawing : Drawing
   pub stands : StandsFor v g x drawing
   pub lawful : Lawful g above grid drawing
@@ -79,11 +82,3 @@ pub record TellingModel (g : Graph) (x : DrawingVars) (clauses : Clauses) (bound
 
 abbrev pub CoversWith : Graph → (ℕ → ℕ → Bool) → GridSize → DrawingVars → Clauses → List Bound → Type 0
 CoversWith g above grid x clauses bounds = (d : Drawing) → Lawful g above grid d → TellingModel g x clauses bounds d
-
--- the variable stands in one of the clauses
-pub record StandsIn (clauses : Clauses) (x : ℕ) : Type 0 where
-  pub clause : List Literal
-  pub among : Contains clauses clause
-  pub literal : Literal
-  pub inside : Contains clause literal
-  pub variable : literal.var ≡ x

@@ -18,7 +18,8 @@ pub record Encoding : Type 0 where
   pub bounds : List Bound
 
 abbrev pub encoding : Graph → EdgeOrder → GridSize → Cnf → List Bound → Encoding
-encoding graph order grid formula bounds = record { graph = graph; order = order; grid = grid; formula = formula; bounds = bounds }
+encoding graph order grid formula bounds =
+    record { graph = graph; order = order; grid = grid; formula = formula; bounds = bounds }
 
 -- the variables of each node and of each edge
 abbrev pub encoded_vars : Encoding → DrawingVars

@@ -18,9 +18,10 @@ use Rattle.drawing_cnf.specs.LawClauses.{laws_clauses, laws_size}
 -- Where the variables lie: nodes first, from west to east, then edges by number, then the laws'.
 
 -- the integers at a place of the row of nodes, y first
-abbrev pub row_ints : GridSize → ℕ → NodeInts
-row_ints grid k =
-    node_ints (int_vars 0 grid.width (1 + k * (grid.height + grid.width) + grid.height)) (int_vars 0 grid.height (1 + k * (grid.height + grid.width)))
+abbrev pub ints_at_place : GridSize → ℕ → NodeInts
+ints_at_place grid k =
+    node_ints (int_vars 0 grid.width (1 + k * (grid.height + grid.width) + grid.height))
+    (int_vars 0 grid.height (1 + k * (grid.height + grid.width)))
 
 abbrev pub edges_first : Graph → GridSize → ℕ
 edges_first g grid = 1 + length g.nodes * (grid.height + grid.width)
@@ -30,7 +31,7 @@ edge_first g grid e = edges_first g grid + e * edge_size grid.height grid.width
 
 abbrev pub drawing_vars : Graph → GridSize → DrawingVars
 drawing_vars g grid = record {
-  node = λ n. row_ints grid (west_rank g n);
+  node = λ n. ints_at_place grid (west_rank g n);
   edge = λ e. edge_lits (edge_first g grid e) grid.height grid.width;
 }
 
@@ -46,11 +47,11 @@ instances_from f first zero = []
 instances_from f first (suc n) = f first ++ instances_from f (first + 1) n
 
 -- those of each two numbers below n, the smaller first
-abbrev pub instance_row : ℕ → (ℕ → ℕ → List Instance) → ℕ → List Instance
-instance_row n f a = instances_from (f a) (a + 1) (n - (a + 1))
+abbrev pub pairs_from : ℕ → (ℕ → ℕ → List Instance) → ℕ → List Instance
+pairs_from n f a = instances_from (f a) (a + 1) (n - (a + 1))
 
 abbrev pub instance_pairs : ℕ → (ℕ → ℕ → List Instance) → List Instance
-instance_pairs n f = instances_from (instance_row n f) 0 n
+instance_pairs n f = instances_from (pairs_from n f) 0 n
 
 -- of two edges, the smaller number first: which law they have
 abbrev pub below_by : Bool → Bool → Bool → ℕ → ℕ → List Instance

@@ -6,16 +6,18 @@ use Rattle.plan_core.specs.Drawing.{Drawing}
 use Rattle.cnf_core.specs.Lit.{Literal}
 use Rattle.cnf_core.specs.Clause.{Clauses}
 use Rattle.cnf_core.specs.Assignment.{Assignment, Satisfies, SatisfiesAll, Extends}
-use Rattle.drawing_cnf.specs.Stands.{ReadsDrawing, IsLoose}
+use Rattle.drawing_cnf.specs.Stands.{ReadsDrawing, IsJoinedOnGrid}
 use Rattle.drawing_cnf.specs.Expected.{drawing_vars}
 
 -- where a model reads a drawing and none of the literals is true, the sentence holds
 abbrev pub SaysLaw : Graph → GridSize → List Literal → Clauses → (Drawing → Type 0) → Type 0
 SaysLaw g grid unless clauses sentence =
-    (v : Assignment) (d : Drawing) → ReadsDrawing v g (drawing_vars g grid) grid.width d → IsLoose g grid d → (Satisfies v unless → ⊥) → SatisfiesAll v clauses → sentence d
+    (v : Assignment) (d : Drawing) → ReadsDrawing v g (drawing_vars g grid) grid.width d → IsJoinedOnGrid g grid d →
+    (Satisfies v unless → ⊥) → SatisfiesAll v clauses → sentence d
 
 -- where the sentence holds, or one of the literals is true, the count variables from first on can be given truth values so
 -- that the clauses hold
 abbrev pub AllowsLaw : Graph → GridSize → List Literal → ℕ → ℕ → Clauses → (Drawing → Type 0) → Type 0
 AllowsLaw g grid unless first count clauses sentence =
-    (v : Assignment) (d : Drawing) → ReadsDrawing v g (drawing_vars g grid) grid.width d → IsLoose g grid d → Satisfies v unless ⊎ sentence d → Extends first count v (λ w. SatisfiesAll w clauses)
+    (v : Assignment) (d : Drawing) → ReadsDrawing v g (drawing_vars g grid) grid.width d → IsJoinedOnGrid g grid d →
+    Satisfies v unless ⊎ sentence d → Extends first count v (λ w. SatisfiesAll w clauses)

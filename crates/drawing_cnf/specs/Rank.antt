@@ -1,5 +1,5 @@
 -- The nodes in a row from west to east.
-use Rattle.std.specs.Prelude.{ℕ, zero, suc, ◌+◌, Bool, true, false, nat_lt, length}
+use Rattle.std.specs.Prelude.{◌≡◌, ◌<◌, ◌<ℤ◌, ◌⊎◌, ℕ, zero, suc, ◌+◌, Bool, true, false, nat_lt, length}
 use Rattle.std.specs.Ordering.{int_cmp}
 use Rattle.std.specs.declared.cmp.Ordering.{Ordering}
 use Rattle.std.specs.declared.cmp.Ordering.TheVariants.{Less, Equal, Greater}
@@ -10,6 +10,10 @@ abbrev pub comes_by : Ordering → ℕ → ℕ → Bool
 comes_by Less u v = true
 comes_by Equal u v = nat_lt u v
 comes_by Greater u v = false
+
+-- u has the smaller mileage, or both have one mileage and u the smaller number
+abbrev pub LiesBefore : Graph → ℕ → ℕ → Type 0
+LiesBefore g u v = (mileage g u <ℤ mileage g v) ⊎ ((mileage g u ≡ mileage g v) × (u < v))
 
 abbrev pub comes_before : Graph → ℕ → ℕ → Bool
 comes_before g u v = comes_by (int_cmp (mileage g u) (mileage g v)) u v

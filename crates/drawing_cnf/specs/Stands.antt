@@ -21,11 +21,13 @@ pub record DrawingVars : Type 0 where
   pub node : ℕ → NodeInts
   pub edge : ℕ → EdgeLits
 
--- the nodes' integers give the drawing's points, and the edges' heights its lines
+-- the drawing fits the graph; the nodes' integers give its points, and the edges' heights its lines
 pub record StandsFor (v : Assignment) (g : Graph) (x : DrawingVars) (d : Drawing) : Type 0 where
+  pub fits : Fits g d
   pub columns : (n : ℕ) → n < length g.nodes → Reads v (x.node n).x (place d n).x
   pub rows : (n : ℕ) → n < length g.nodes → Reads v (x.node n).y (place d n).y
-  pub heights : (e : ℕ) → e < length g.edges → (c : ℕ) → HasColumn (line d e) c → Reads v ((x.edge e).height c) (height (line d e) c)
+  pub heights : (e : ℕ) → e < length g.edges → (c : ℕ) → HasColumn (line d e) c →
+      Reads v ((x.edge e).height c) (height (line d e) c)
 
 pub record ReadsPoint (v : Assignment) (n : NodeInts) (p : Point) : Type 0 where
   pub x : Reads v n.x p.x
@@ -71,7 +73,8 @@ pub record ReadsDrawing (v : Assignment) (g : Graph) (x : DrawingVars) (width : 
   pub lines : (e : ℕ) → e < length g.edges → ReadsShape v (x.edge e) width (line d e)
 
 -- laws 1 and 3 hold, and the drawing fits the graph
-pub record IsLoose (g : Graph) (grid : GridSize) (d : Drawing) : Type 0 where
+pub record IsJoinedOnGrid (g : Graph) (grid : GridSize) (d : Drawing) : Type 0 where
   pub fits : Fits g d
   pub on_grid : (n : ℕ) → n < length g.nodes → NodeIsOnGrid grid d n
-  pub joins : (e : ℕ) → e < length g.edges → JoinsPoints grid.width grid.height grid.least (place d (edge g e).west) (place d (edge g e).east) (line d e)
+  pub joins : (e : ℕ) → e < length g.edges →
+      JoinsPoints grid.width grid.height grid.least (place d (edge g e).west) (place d (edge g e).east) (line d e)

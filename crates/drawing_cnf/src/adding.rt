@@ -1,13 +1,15 @@
 // A criterion's bound behind a formula.
-ghost use Rattle.std.specs.Prelude.{◌≡◌, ◌≤◌, ◌<◌, ◌⊎◌, ◌+◌, ◌*◌, ◌++◌, ℕ, [], ◌∷◌, length, IsOk, IfOk, OnOk, IsErrOf};
+ghost use Rattle.std.specs.Prelude.{◌≡◌, ◌≤◌, ◌<◌, ◌⊎◌, ◌+◌, ◌*◌, ◌++◌, ℕ, [], ◌∷◌, length, Contains, IsOk, IfOk, OnOk, IsErrOf};
 ghost use Rattle.plan_core.specs.Values.{limit_of};
 ghost use Rattle.cnf_core.specs.declared.limits.TheConstants.{VARS};
 ghost use Rattle.cnf_core.specs.declared.fault.CnfFault.TheVariants.{Room};
-ghost use Rattle.cnf_core.specs.Clause.{words_of};
+ghost use Rattle.cnf_core.specs.Lit.{negative_of};
+ghost use Rattle.cnf_core.specs.Clause.{words_of, IsNamed};
 ghost use Rattle.cnf_core.specs.Added.{AddsBlock};
 ghost use Rattle.track_order.specs.Order.{is_above};
 ghost use Rattle.drawing_cnf.specs.Expected.{laws_first, parts};
-ghost use Rattle.drawing_cnf.specs.Bounded.{bound, clauses_of_bound, size_of_bound, SoundWith, CoversWith, StandsIn};
+ghost use Rattle.drawing_cnf.specs.Bounds.{reach_of};
+ghost use Rattle.drawing_cnf.specs.Bounded.{bound, clauses_of_bound, size_of_bound, SoundWith, CoversWith};
 ghost use Rattle.drawing_cnf.specs.Encoding.{encoded_vars};
 ghost use Rattle.drawing_cnf.specs.Whole.{IsWhole};
 
@@ -43,18 +45,34 @@ impl Model for Bounds {
 }
 
 impl Bounds {
+    /// The criterion whose value is bounded.
+    pub fn criterion(&self) -> Criterion
+        ensures { result ≡ self.now.criterion }
+    {
+        self.criterion
+    }
+
+    /// The greatest number that has a variable.
+    pub fn cap(&self) -> u32
+        ensures { result ≡ self.now.cap }
+    {
+        self.cap
+    }
+
     /// "The value is at least k."
     pub fn var(&self, k: u32) -> Var
         requires from { 1 ≤ k }
         requires to { k ≤ self.now.cap }
-        ensures { result.0 ≡ self.now.last + k }
+        ensures value { result.0 ≡ self.now.last + k }
+        ensures there { result.0 ≤ VARS }
     {
         Var(self.last + k)
     }
 }
 
 /// Adds a criterion's bound up to a cap, from 1 to the criterion's greatest value: variables right behind the last
-/// one, and clauses that make them say of the drawing's value whether it is at least 1, at least 2 and so on.
+/// one, and clauses that make them say of the drawing's value whether it is at least 1, at least 2 and so on. Where
+/// the value can't go so far, a clause of one literal makes the variable false.
 ///
 /// `Room` comes exactly where the words or the variables are more than there may be, want of memory aside. After
 /// an error the formula isn't used further.
@@ -78,24 +96,36 @@ pub fn criterion_bound<'a>(
         e.old.formula.clauses ++ clauses_of_bound e.old.graph (encoded_vars e.old) e.old.grid (bound c e.old.formula.vars cap)) }
     ensures vars { OnOk result (e.new.formula.vars ≡
         e.old.formula.vars + size_of_bound e.old.graph (encoded_vars e.old) e.old.grid (bound c e.old.formula.vars cap)) }
-    ensures words_fit { let all = e.old.formula.clauses ++ clauses_of_bound e.old.graph (encoded_vars e.old) e.old.grid (bound c e.old.formula.vars cap) in
+    ensures there { OnOk result (e.old.formula.vars + cap ≤ e.new.formula.vars) }
+    ensures words_fit { let all = e.old.formula.clauses
+        ++ clauses_of_bound e.old.graph (encoded_vars e.old) e.old.grid (bound c e.old.formula.vars cap) in
         OnOk result (words_of all ≤ e.old.formula.room) }
     ensures vars_fit { let size = size_of_bound e.old.graph (encoded_vars e.old) e.old.grid (bound c e.old.formula.vars cap) in
         OnOk result (e.old.formula.vars + size ≤ VARS) }
     ensures full { let b = bound c e.old.formula.vars cap in
         let all = e.old.formula.clauses ++ clauses_of_bound e.old.graph (encoded_vars e.old) e.old.grid b in
-        IsErrOf result Room → (VARS < e.old.formula.vars + size_of_bound e.old.graph (encoded_vars e.old) e.old.grid b) ⊎ (e.old.formula.room < words_of all) }
+        IsErrOf result Room →
+        (VARS < e.old.formula.vars + size_of_bound e.old.graph (encoded_vars e.old) e.old.grid b)
+        ⊎ (e.old.formula.room < words_of all) }
     ensures words_bounded { let most = parts e.old.graph * (e.old.grid.width + 1) * (cap + 2) in
         1 ≤ parts e.old.graph → words_of e.new.formula.clauses ≤ words_of e.old.formula.clauses + 400 * most }
     ensures vars_bounded { let most = parts e.old.graph * (e.old.grid.width + 1) * (cap + 2) in
         1 ≤ parts e.old.graph → e.new.formula.vars ≤ e.old.formula.vars + 40 * most }
     ensures named { let clauses = clauses_of_bound e.old.graph (encoded_vars e.old) e.old.grid (bound c e.old.formula.vars cap) in
-        (k : ℕ) → 1 ≤ k → k ≤ cap → StandsIn clauses (e.old.formula.vars + k) }
-    ensures sound { OnOk result (SoundWith e.new.graph (is_above e.new.order) e.new.grid (encoded_vars e.new) e.new.formula.clauses e.new.bounds) }
-    ensures covers { OnOk result (CoversWith e.new.graph (is_above e.new.order) e.new.grid (encoded_vars e.new) e.new.formula.clauses e.new.bounds) }
+        (k : ℕ) → 1 ≤ k → k ≤ cap → IsNamed clauses (e.old.formula.vars + k) }
+    ensures forced { let clauses = clauses_of_bound e.old.graph (encoded_vars e.old) e.old.grid
+        (bound c e.old.formula.vars cap) in
+        (k : ℕ) → 1 ≤ k → k ≤ cap → reach_of e.old.graph e.old.grid c < k →
+        Contains clauses (negative_of (e.old.formula.vars + k) ∷ []) }
+    ensures sound { OnOk result
+        (SoundWith e.new.graph (is_above e.new.order) e.new.grid (encoded_vars e.new) e.new.formula.clauses e.new.bounds) }
+    ensures covers { OnOk result
+        (CoversWith e.new.graph (is_above e.new.order) e.new.grid (encoded_vars e.new) e.new.formula.clauses e.new.bounds) }
 {
+    // what the types keep
     let _ = (e.graph.nodes(), e.grid.width(), e.formula.vars());
     let outcome = add_kept(alloc, e, c, cap);
+    // what the types keep
     let _ = e.formula.words();
     outcome
 }
@@ -116,10 +146,12 @@ fn add_kept<'a>(
     ensures bounds { OnOk result (e.new.bounds ≡ e.old.bounds ++ bound c e.old.formula.vars cap ∷ []) }
     ensures adds { let b = bound c e.old.formula.vars cap in
         AddsBlock result e.old.formula e.new.formula (size_of_bound e.old.graph (encoded_vars e.old) e.old.grid b)
-        (clauses_of_bound e.old.graph (encoded_vars e.old) e.old.grid b) (length e.old.graph.edges * (e.old.grid.width + 1) + length e.old.graph.nodes + 3) }
+        (clauses_of_bound e.old.graph (encoded_vars e.old) e.old.grid b)
+        (length e.old.graph.edges * (e.old.grid.width + 1) + length e.old.graph.nodes + 3) }
 {
     let last = e.formula.vars();
     let sums = add_bound(alloc, &mut e.formula, e.graph, e.grid, c, cap)?;
+    // what the types keep
     let _ = e.formula.vars();
     e.bounds.push(KeptBound {
         criterion: c,

@@ -37,7 +37,8 @@ fn add_height(
     requires there { laws_first g.now grid.now ≤ f.old.vars + 1 }
     requires cap { cap ≤ grid.now.height }
     ensures adds { AddsBlock result f.old f.new (bound_size g.now (drawing_vars g.now grid.now) grid.now f.old.vars cap Height)
-        (bound_clauses g.now (drawing_vars g.now grid.now) grid.now f.old.vars cap Height) (length g.now.edges * (grid.now.width + 1) + length g.now.nodes + 3) }
+        (bound_clauses g.now (drawing_vars g.now grid.now) grid.now f.old.vars cap Height)
+        (length g.now.edges * (grid.now.width + 1) + length g.now.nodes + 3) }
     ensures sums { IfOk result (λ v. v.items ≡ bound_sums g.now (drawing_vars g.now grid.now) grid.now f.old.vars cap Height) }
 {
     add_height_bound(alloc, f, g, grid, cap)?;
@@ -55,9 +56,11 @@ fn add_width(
     requires there { laws_first g.now grid.now ≤ f.old.vars + 1 }
     requires cap { cap ≤ grid.now.width }
     ensures adds { AddsBlock result f.old f.new (bound_size g.now (drawing_vars g.now grid.now) grid.now f.old.vars cap Width)
-        (bound_clauses g.now (drawing_vars g.now grid.now) grid.now f.old.vars cap Width) (length g.now.edges * (grid.now.width + 1) + length g.now.nodes + 3) }
+        (bound_clauses g.now (drawing_vars g.now grid.now) grid.now f.old.vars cap Width)
+        (length g.now.edges * (grid.now.width + 1) + length g.now.nodes + 3) }
     ensures sums { IfOk result (λ v. v.items ≡ bound_sums g.now (drawing_vars g.now grid.now) grid.now f.old.vars cap Width) }
 {
+    // what the types keep
     let _ = grid.width();
     add_width_bound(alloc, f, g, grid, cap)?;
     Ok(Vec::new(alloc))
@@ -74,7 +77,8 @@ fn add_bends(
     requires there { laws_first g.now grid.now ≤ f.old.vars + 1 }
     requires cap { cap ≤ 65535 }
     ensures adds { AddsBlock result f.old f.new (bound_size g.now (drawing_vars g.now grid.now) grid.now f.old.vars cap Bends)
-        (bound_clauses g.now (drawing_vars g.now grid.now) grid.now f.old.vars cap Bends) (length g.now.edges * (grid.now.width + 1) + length g.now.nodes + 3) }
+        (bound_clauses g.now (drawing_vars g.now grid.now) grid.now f.old.vars cap Bends)
+        (length g.now.edges * (grid.now.width + 1) + length g.now.nodes + 3) }
     ensures sums { IfOk result (λ v. v.items ≡ bound_sums g.now (drawing_vars g.now grid.now) grid.now f.old.vars cap Bends) }
 {
     let edges = edges_west_first(alloc, g)?;
@@ -93,7 +97,8 @@ fn add_diagonal(
     requires there { laws_first g.now grid.now ≤ f.old.vars + 1 }
     requires cap { cap ≤ 65535 }
     ensures adds { AddsBlock result f.old f.new (bound_size g.now (drawing_vars g.now grid.now) grid.now f.old.vars cap Diagonal)
-        (bound_clauses g.now (drawing_vars g.now grid.now) grid.now f.old.vars cap Diagonal) (length g.now.edges * (grid.now.width + 1) + length g.now.nodes + 3) }
+        (bound_clauses g.now (drawing_vars g.now grid.now) grid.now f.old.vars cap Diagonal)
+        (length g.now.edges * (grid.now.width + 1) + length g.now.nodes + 3) }
     ensures sums { IfOk result (λ v. v.items ≡ bound_sums g.now (drawing_vars g.now grid.now) grid.now f.old.vars cap Diagonal) }
 {
     let edges = edges_west_first(alloc, g)?;
@@ -112,9 +117,11 @@ pub(crate) fn add_bound(
     requires there { laws_first g.now grid.now ≤ f.old.vars + 1 }
     requires cap { cap ≤ limit_of g.now grid.now c }
     ensures adds { AddsBlock result f.old f.new (bound_size g.now (drawing_vars g.now grid.now) grid.now f.old.vars cap c)
-        (bound_clauses g.now (drawing_vars g.now grid.now) grid.now f.old.vars cap c) (length g.now.edges * (grid.now.width + 1) + length g.now.nodes + 3) }
+        (bound_clauses g.now (drawing_vars g.now grid.now) grid.now f.old.vars cap c)
+        (length g.now.edges * (grid.now.width + 1) + length g.now.nodes + 3) }
     ensures sums { IfOk result (λ v. v.items ≡ bound_sums g.now (drawing_vars g.now grid.now) grid.now f.old.vars cap c) }
 {
+    // what the types keep
     let _ = (g.nodes(), grid.width());
     match c {
         Criterion::Height => add_height(alloc, f, g, grid, cap),

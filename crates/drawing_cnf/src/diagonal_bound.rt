@@ -9,7 +9,9 @@ ghost use Rattle.cnf_core.specs.Added.{AddsClauses, AddsBlock};
 ghost use Rattle.unary_sum.specs.Sum.{sum_vars, sum_count, sum_outputs};
 ghost use Rattle.edge_shape.specs.EdgeVars.{lits_of, edge_size, EdgeIsPlaced};
 ghost use Rattle.drawing_cnf.specs.Expected.{drawing_vars, laws_first};
-ghost use Rattle.drawing_cnf.specs.Bounds.{west_first, step_lits, gives_output, end_outputs, steps_beside, edge_steps, steps_sum, edges_steps, edges_sums, edges_count, edge_most, sum_bound, diagonal_sum, diagonal_sums, diagonal_bound, diagonal_bound_size};
+ghost use Rattle.drawing_cnf.specs.Bounds.{west_first, step_lits, gives_output, end_outputs, steps_beside, edge_steps, steps_sum};
+ghost use Rattle.drawing_cnf.specs.Bounds.{edges_steps, edges_sums, edges_count, edge_most, sum_bound, diagonal_sum};
+ghost use Rattle.drawing_cnf.specs.Bounds.{diagonal_sums, diagonal_bound, diagonal_bound_size};
 
 use crate::edge_laws::edge_vars;
 use crate::sum_bounds::{add_sum_bound, literal_of};
@@ -91,7 +93,8 @@ fn add_slope_outputs(
     requires there { s.now.vars + sum_count s.now ≡ f.old.vars }
     requires rises { IsWithin f.old.vars rises.now }
     requires falls { IsWithin f.old.vars falls.now }
-    ensures { AddsClauses result f.old f.new (gives_output s.now (flip rises.now ∷ []) 1 ++ gives_output s.now (flip falls.now ∷ []) 1) 3 }
+    ensures { AddsClauses result f.old f.new
+        (gives_output s.now (flip rises.now ∷ []) 1 ++ gives_output s.now (flip falls.now ∷ []) 1) 3 }
 {
     add_one_output(f, s, most, rises)?;
     add_one_output(f, s, most, falls)
@@ -138,10 +141,12 @@ fn add_edge_sum(
     requires placed { EdgeIsPlaced e.now.first e.now.high e.now.width }
     requires edge { e.now.first + edge_size e.now.high e.now.width ≤ f.old.vars + 1 }
     ensures sum { IfOk result (λ s. s ≡ steps_sum (lits_of e.now) width most f.old.vars) }
-    ensures adds { let s = steps_sum (lits_of e.now) width most f.old.vars in AddsBlock result f.old f.new (sum_count s) (edge_steps (lits_of e.now) s) 3 }
+    ensures adds { let s = steps_sum (lits_of e.now) width most f.old.vars in
+        AddsBlock result f.old f.new (sum_count s) (edge_steps (lits_of e.now) s) 3 }
 {
     let inputs = step_literals(alloc, e, width)?;
     let sum = Sum::build(alloc, f, &inputs, most)?;
+    // what the types keep
     let _ = f.vars();
     add_steps_beside(f, e, &sum, most)?;
     Ok(sum)
@@ -163,6 +168,7 @@ fn add_sum_of(
     ensures adds { let s = steps_sum ((drawing_vars g.now grid.now).edge e) grid.now.width most f.old.vars in
         AddsBlock result f.old f.new (sum_count s) (edge_steps ((drawing_vars g.now grid.now).edge e) s) 3 }
 {
+    // what the types keep
     let _ = f.vars();
     let vars = edge_vars(g, grid, EdgeNo(e));
     add_edge_sum(alloc, f, &vars, grid.width(), most)
@@ -183,7 +189,9 @@ fn add_next_sum(
     requires most { most ≤ 65535 }
     ensures adds { let s = steps_sum ((drawing_vars g.now grid.now).edge e) grid.now.width most f.old.vars in
         AddsBlock result f.old f.new (sum_count s) (edge_steps ((drawing_vars g.now grid.now).edge e) s) 3 }
-    ensures sums { OnOk result (sums.new.items ≡ sums.old.items ++ steps_sum ((drawing_vars g.now grid.now).edge e) grid.now.width most f.old.vars ∷ []) }
+    ensures sums { OnOk result
+        (sums.new.items ≡ sums.old.items
+        ++ steps_sum ((drawing_vars g.now grid.now).edge e) grid.now.width most f.old.vars ∷ []) }
 {
     let sum = add_sum_of(alloc, f, g, grid, most, e)?;
     sums.push(sum)?;
@@ -203,9 +211,11 @@ fn add_edges_steps(
     requires there { laws_first g.now grid.now ≤ f.old.vars + 1 }
     requires edges { All (λ e. e < length g.now.edges) edges.now }
     requires most { most ≤ 65535 }
-    ensures adds { AddsBlock result f.old f.new (edges_count (drawing_vars g.now grid.now) grid.now.width most f.old.vars edges.now)
+    ensures adds { AddsBlock result f.old f.new
+        (edges_count (drawing_vars g.now grid.now) grid.now.width most f.old.vars edges.now)
         (edges_steps (drawing_vars g.now grid.now) grid.now.width most f.old.vars edges.now) 3 }
-    ensures sums { OnOk result (sums.new.items ≡ sums.old.items ++ edges_sums (drawing_vars g.now grid.now) grid.now.width most f.old.vars edges.now) }
+    ensures sums { OnOk result
+        (sums.new.items ≡ sums.old.items ++ edges_sums (drawing_vars g.now grid.now) grid.now.width most f.old.vars edges.now) }
 {
     for e in edges {
         add_next_sum(alloc, f, g, grid, most, *e, sums)?;
@@ -238,8 +248,10 @@ fn add_top_sum(
     requires few { length (flat_map sum_outputs sums.old.items) ≤ 65535 }
     requires cap { cap ≤ 65535 }
     requires before { last + cap ≤ f.old.vars }
-    ensures adds { let s = sum_vars (flat_map sum_outputs sums.old.items) cap f.old.vars in AddsBlock result f.old f.new (sum_count s) (sum_bound s last) 3 }
-    ensures sums { OnOk result (sums.new.items ≡ sums.old.items ++ sum_vars (flat_map sum_outputs sums.old.items) cap f.old.vars ∷ []) }
+    ensures adds { let s = sum_vars (flat_map sum_outputs sums.old.items) cap f.old.vars in
+        AddsBlock result f.old f.new (sum_count s) (sum_bound s last) 3 }
+    ensures sums { OnOk result
+        (sums.new.items ≡ sums.old.items ++ sum_vars (flat_map sum_outputs sums.old.items) cap f.old.vars ∷ []) }
 {
     let outputs = outputs_of(alloc, sums)?;
     let sum = add_sum_bound(alloc, f, &outputs, cap, last)?;
@@ -266,10 +278,12 @@ fn add_diagonal_sums(
         (edges_steps x grid.now.width (edge_most grid.now cap) (last + cap) edges.now ++ sum_bound s last) 3 }
     ensures sums { IfOk result (λ v. v.items ≡ diagonal_sums (drawing_vars g.now grid.now) grid.now edges.now last cap) }
 {
+    // what the types keep
     let _ = (g.nodes(), grid.width(), f.vars());
     let most = most_of_an_edge(grid, cap);
     let mut sums = Vec::new(alloc);
     add_edges_steps(alloc, f, g, grid, most, edges, &mut sums)?;
+    // what the types keep
     let _ = f.vars();
     add_top_sum(alloc, f, cap, last, &mut sums)?;
     Ok(sums)
@@ -287,7 +301,8 @@ pub(crate) fn add_diagonal_bound(
     requires there { laws_first g.now grid.now ≤ f.old.vars + 1 }
     requires edges { edges.now ≡ west_first g.now }
     requires cap { cap ≤ 65535 }
-    ensures adds { AddsBlock result f.old f.new (diagonal_bound_size (drawing_vars g.now grid.now) grid.now edges.now f.old.vars cap)
+    ensures adds { AddsBlock result f.old f.new
+        (diagonal_bound_size (drawing_vars g.now grid.now) grid.now edges.now f.old.vars cap)
         (diagonal_bound (drawing_vars g.now grid.now) grid.now edges.now f.old.vars cap) 3 }
     ensures sums { IfOk result (λ v. v.items ≡ diagonal_sums (drawing_vars g.now grid.now) grid.now edges.now f.old.vars cap) }
 {

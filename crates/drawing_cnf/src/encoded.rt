@@ -5,7 +5,8 @@ ghost use Rattle.cnf_core.specs.declared.fault.CnfFault.TheVariants.{Room};
 ghost use Rattle.cnf_core.specs.Clause.{words_of};
 ghost use Rattle.track_order.specs.Order.{is_above, is_overlap, IsOrderOf};
 ghost use Rattle.edge_shape.specs.EdgeVars.{edge_spot, lits_of};
-ghost use Rattle.drawing_cnf.specs.Expected.{drawing_vars, edge_first, formula_clauses, formula_size, most_words, most_variables, Sound, Covers};
+ghost use Rattle.drawing_cnf.specs.Expected.{drawing_vars, edge_first, formula_clauses, formula_size, most_words, most_variables};
+ghost use Rattle.drawing_cnf.specs.Expected.{Sound, Covers};
 ghost use Rattle.drawing_cnf.specs.Encoding.{encoded_vars};
 ghost use Rattle.drawing_cnf.specs.Whole.{IsWhole};
 
@@ -114,13 +115,18 @@ pub fn encode<'a>(
     ensures words_fit { IsOk result → words_of (formula_clauses g.now (is_above t.now) (is_overlap t.now) grid.now) ≤ room }
     ensures vars_fit { IsOk result → formula_size g.now (is_above t.now) (is_overlap t.now) grid.now ≤ VARS }
     ensures full { IsErrOf result Room →
-        (VARS < formula_size g.now (is_above t.now) (is_overlap t.now) grid.now) ⊎ (room < words_of (formula_clauses g.now (is_above t.now) (is_overlap t.now) grid.now)) }
-    ensures words_bounded { words_of (formula_clauses g.now (is_above t.now) (is_overlap t.now) grid.now) ≤ most_words g.now grid.now }
+        (VARS < formula_size g.now (is_above t.now) (is_overlap t.now) grid.now)
+        ⊎ (room < words_of (formula_clauses g.now (is_above t.now) (is_overlap t.now) grid.now)) }
+    ensures words_bounded { words_of (formula_clauses g.now (is_above t.now) (is_overlap t.now) grid.now)
+        ≤ most_words g.now grid.now }
     ensures vars_bounded { formula_size g.now (is_above t.now) (is_overlap t.now) grid.now ≤ most_variables g.now grid.now }
     ensures whole { IfOk result (λ e. IsWhole e) }
-    ensures sound { Sound g.now (is_above t.now) grid.now (drawing_vars g.now grid.now) (formula_clauses g.now (is_above t.now) (is_overlap t.now) grid.now) }
-    ensures covers { Covers g.now (is_above t.now) grid.now (drawing_vars g.now grid.now) (formula_clauses g.now (is_above t.now) (is_overlap t.now) grid.now) }
+    ensures sound { Sound g.now (is_above t.now) grid.now (drawing_vars g.now grid.now)
+        (formula_clauses g.now (is_above t.now) (is_overlap t.now) grid.now) }
+    ensures covers { Covers g.now (is_above t.now) grid.now (drawing_vars g.now grid.now)
+        (formula_clauses g.now (is_above t.now) (is_overlap t.now) grid.now) }
 {
+    // what the types keep
     let _ = (g.nodes(), grid.width());
     make_encoded(alloc, g, t, grid, room)
 }
@@ -144,7 +150,8 @@ fn make_encoded<'a>(
     ensures words_fit { IsOk result → words_of (formula_clauses g.now (is_above t.now) (is_overlap t.now) grid.now) ≤ room }
     ensures vars_fit { IsOk result → formula_size g.now (is_above t.now) (is_overlap t.now) grid.now ≤ VARS }
     ensures full { IsErrOf result Room →
-        (VARS < formula_size g.now (is_above t.now) (is_overlap t.now) grid.now) ⊎ (room < words_of (formula_clauses g.now (is_above t.now) (is_overlap t.now) grid.now)) }
+        (VARS < formula_size g.now (is_above t.now) (is_overlap t.now) grid.now)
+        ⊎ (room < words_of (formula_clauses g.now (is_above t.now) (is_overlap t.now) grid.now)) }
 {
     let mut formula = Formula::new(alloc, room)?;
     fill(&mut formula, g, t, grid)?;

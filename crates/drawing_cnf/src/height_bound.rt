@@ -8,7 +8,8 @@ ghost use Rattle.cnf_core.specs.Added.{AddsClauses, AddsBlock};
 ghost use Rattle.order_int.specs.IntVars.{IntIsThere};
 ghost use Rattle.edge_shape.specs.EdgeVars.{lits_of, edge_size};
 ghost use Rattle.drawing_cnf.specs.Expected.{drawing_vars, laws_first};
-ghost use Rattle.drawing_cnf.specs.Bounds.{gives_bound, column_gives_bound, beside_clause, height_beside, edge_height_gives, some_height_clause, height_at, height_bound, column_lits, height_lits};
+ghost use Rattle.drawing_cnf.specs.Bounds.{gives_bound, column_gives_bound, beside_clause, height_beside, edge_height_gives};
+ghost use Rattle.drawing_cnf.specs.Bounds.{some_height_clause, height_at, height_bound, column_lits, height_lits};
 
 use crate::edge_laws::edge_vars;
 use crate::order::yes_var;
@@ -94,6 +95,7 @@ fn add_height_beside(
     requires some { 1 ≤ k }
     ensures { AddsClauses result f.old f.new (height_beside g.now (drawing_vars g.now grid.now) b k e) 3 }
 {
+    // what the types keep
     let _ = g.nodes();
     let vars = edge_vars(g, grid, EdgeNo(e));
     let west = node_vars(g, grid, g.west(EdgeNo(e)).0);
@@ -137,7 +139,8 @@ fn add_edges_give(
     requires from { 1 ≤ b }
     requires to { b ≤ f.old.vars }
     requires some { 1 ≤ k }
-    ensures { AddsClauses result f.old f.new (each (edge_height_gives g.now (drawing_vars g.now grid.now) grid.now.width b k) 0 (length g.now.edges)) 3 }
+    ensures { AddsClauses result f.old f.new
+        (each (edge_height_gives g.now (drawing_vars g.now grid.now) grid.now.width b k) 0 (length g.now.edges)) 3 }
 {
     let end = g.edges();
     for e in 0..end {
@@ -195,8 +198,11 @@ fn add_some_height(
     requires to { b ≤ f.old.vars }
     requires some { 1 ≤ k }
     requires few { k ≤ grid.now.height }
-    ensures { AddsClauses result f.old f.new (some_height_clause (drawing_vars g.now grid.now) grid.now.width (length g.now.edges) b k) (length g.now.edges * (grid.now.width + 1) + 3) }
+    ensures { AddsClauses result f.old f.new
+        (some_height_clause (drawing_vars g.now grid.now) grid.now.width (length g.now.edges) b k)
+        (length g.now.edges * (grid.now.width + 1) + 3) }
 {
+    // what the types keep
     let _ = (g.nodes(), grid.width());
     let mut lits = height_literals(alloc, g, grid, k)?;
     lits.push(Lit::new(Var(b), false))?;
@@ -218,7 +224,8 @@ fn add_height_at(
     requires to { b ≤ f.old.vars }
     requires some { 1 ≤ k }
     requires few { k ≤ grid.now.height }
-    ensures { AddsClauses result f.old f.new (height_at g.now (drawing_vars g.now grid.now) grid.now.width b k) (length g.now.edges * (grid.now.width + 1) + 3) }
+    ensures { AddsClauses result f.old f.new (height_at g.now (drawing_vars g.now grid.now) grid.now.width b k)
+        (length g.now.edges * (grid.now.width + 1) + 3) }
 {
     add_edges_give(f, g, grid, b, k)?;
     add_some_height(alloc, f, g, grid, b, k)
@@ -237,7 +244,8 @@ fn add_heights(
     requires there { laws_first g.now grid.now ≤ last + 1 }
     requires to { last + cap ≤ f.old.vars }
     requires few { cap ≤ grid.now.height }
-    ensures { AddsClauses result f.old f.new (height_bound g.now (drawing_vars g.now grid.now) grid.now.width last cap) (length g.now.edges * (grid.now.width + 1) + 3) }
+    ensures { AddsClauses result f.old f.new (height_bound g.now (drawing_vars g.now grid.now) grid.now.width last cap)
+        (length g.now.edges * (grid.now.width + 1) + 3) }
 {
     let end = 1 + cap;
     for k in 1..end {
@@ -256,7 +264,8 @@ pub(crate) fn add_height_bound(
 ) -> Result<(), CnfFault>
     requires there { laws_first g.now grid.now ≤ f.old.vars + 1 }
     requires few { cap ≤ grid.now.height }
-    ensures { AddsBlock result f.old f.new cap (height_bound g.now (drawing_vars g.now grid.now) grid.now.width f.old.vars cap) (length g.now.edges * (grid.now.width + 1) + 3) }
+    ensures { AddsBlock result f.old f.new cap (height_bound g.now (drawing_vars g.now grid.now) grid.now.width f.old.vars cap)
+        (length g.now.edges * (grid.now.width + 1) + 3) }
 {
     let last = f.vars();
     f.new_vars(cap)?;

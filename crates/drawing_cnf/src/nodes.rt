@@ -5,7 +5,8 @@ ghost use Rattle.cnf_core.specs.Formula.{each};
 ghost use Rattle.cnf_core.specs.Added.{AddsClauses, AddsBlock};
 ghost use Rattle.edge_shape.specs.EdgeVars.{edge_size};
 ghost use Rattle.drawing_cnf.specs.Rank.{west_rank};
-ghost use Rattle.drawing_cnf.specs.Expected.{row_ints, drawing_vars, edge_first, edges_first, node_clauses, edge_part, base_clauses};
+ghost use Rattle.drawing_cnf.specs.Expected.{ints_at_place, drawing_vars, edge_first, edges_first, node_clauses, edge_part};
+ghost use Rattle.drawing_cnf.specs.Expected.{base_clauses};
 
 use crate::rank::node_vars;
 use cnf_core::{CnfFault, Formula};
@@ -20,7 +21,7 @@ fn add_node(f: &mut Formula, g: &PortGraph, grid: &Grid, n: u16) -> Result<(), C
     requires limit { f.old.vars ≤ VARS }
     requires n { n < length g.now.nodes }
     requires there { edges_first g.now grid.now ≤ f.old.vars + 1 }
-    ensures { AddsClauses result f.old f.new (node_clauses (row_ints grid.now (west_rank g.now n))) 2 }
+    ensures { AddsClauses result f.old f.new (node_clauses (ints_at_place grid.now (west_rank g.now n))) 2 }
 {
     let vars = node_vars(g, grid, n);
     add_int(f, &vars.y)?;
@@ -32,7 +33,7 @@ fn add_node_clauses(f: &mut Formula, g: &PortGraph, grid: &Grid, count: u16) -> 
     requires limit { f.old.vars ≤ VARS }
     requires count { count ≡ length g.now.nodes }
     requires there { edges_first g.now grid.now ≤ f.old.vars + 1 }
-    ensures { AddsClauses result f.old f.new (each (λ n. node_clauses (row_ints grid.now (west_rank g.now n))) 0 count) 2 }
+    ensures { AddsClauses result f.old f.new (each (λ n. node_clauses (ints_at_place grid.now (west_rank g.now n))) 0 count) 2 }
 {
     for n in 0..count {
         add_node(f, g, grid, n)?;
@@ -45,10 +46,11 @@ fn add_nodes(f: &mut Formula, g: &PortGraph, grid: &Grid, count: u16) -> Result<
     requires empty { f.old.vars ≡ 0 }
     requires count { count ≡ length g.now.nodes }
     ensures { AddsBlock result f.old f.new (count * (grid.now.height + grid.now.width))
-        (each (λ n. node_clauses (row_ints grid.now (west_rank g.now n))) 0 count) 7 }
+        (each (λ n. node_clauses (ints_at_place grid.now (west_rank g.now n))) 0 count) 7 }
 {
     let high = u32::from(grid.height());
     let width = u32::from(grid.width());
+    // what the types keep
     let _ = g.nodes();
     f.new_vars(u32::from(count) * (high + width))?;
     add_node_clauses(f, g, grid, count)
@@ -58,8 +60,10 @@ fn add_nodes(f: &mut Formula, g: &PortGraph, grid: &Grid, count: u16) -> Result<
 fn add_edge_at(f: &mut Formula, g: &PortGraph, grid: &Grid, e: u16) -> Result<(), CnfFault>
     requires there { f.old.vars + 1 ≡ edge_first g.now grid.now e }
     requires e { e < length g.now.edges }
-    ensures { AddsBlock result f.old f.new (edge_size grid.now.height grid.now.width) (edge_part g.now (drawing_vars g.now grid.now) grid.now e) 7 }
+    ensures { AddsBlock result f.old f.new (edge_size grid.now.height grid.now.width)
+        (edge_part g.now (drawing_vars g.now grid.now) grid.now e) 7 }
 {
+    // what the types keep
     let _ = g.nodes();
     let west = node_vars(g, grid, g.west(EdgeNo(e)).0);
     let east = node_vars(g, grid, g.east(EdgeNo(e)).0);
@@ -70,7 +74,8 @@ fn add_edge_at(f: &mut Formula, g: &PortGraph, grid: &Grid, e: u16) -> Result<()
 /// All edges.
 fn add_edges(f: &mut Formula, g: &PortGraph, grid: &Grid) -> Result<(), CnfFault>
     requires there { f.old.vars + 1 ≡ edges_first g.now grid.now }
-    ensures { AddsBlock result f.old f.new (length g.now.edges * edge_size grid.now.height grid.now.width) (each (edge_part g.now (drawing_vars g.now grid.now) grid.now) 0 (length g.now.edges)) 7 }
+    ensures { AddsBlock result f.old f.new (length g.now.edges * edge_size grid.now.height grid.now.width)
+        (each (edge_part g.now (drawing_vars g.now grid.now) grid.now) 0 (length g.now.edges)) 7 }
 {
     let end = g.edges();
     for e in 0..end {
@@ -82,7 +87,9 @@ fn add_edges(f: &mut Formula, g: &PortGraph, grid: &Grid) -> Result<(), CnfFault
 /// Nodes and edges.
 pub(crate) fn add_base(f: &mut Formula, g: &PortGraph, grid: &Grid) -> Result<(), CnfFault>
     requires empty { f.old.vars ≡ 0 }
-    ensures { AddsBlock result f.old f.new (length g.now.nodes * (grid.now.height + grid.now.width) + length g.now.edges * edge_size grid.now.height grid.now.width) (base_clauses g.now (drawing_vars g.now grid.now) grid.now) 7 }
+    ensures { AddsBlock result f.old f.new
+        (length g.now.nodes * (grid.now.height + grid.now.width) + length g.now.edges * edge_size grid.now.height grid.now.width)
+        (base_clauses g.now (drawing_vars g.now grid.now) grid.now) 7 }
 {
     let count = g.nodes();
     add_nodes(f, g, grid, count)?;

@@ -32,11 +32,17 @@ pub fn add_ordered_law(
     requires u { u.0 < length g.now.nodes }
     requires v { v.0 < length g.now.nodes }
     requires unless { AreThere f.old.vars unless.now }
-    ensures adds { let x = drawing_vars g.now grid.now in let clauses = ordered_clauses (int_cmp (mileage g.now u.0) (mileage g.now v.0)) (x.node u.0).x (x.node v.0).x unless.now in
+    ensures adds { let x = drawing_vars g.now grid.now in
+        let clauses = ordered_clauses (int_cmp (mileage g.now u.0) (mileage g.now v.0)) (x.node u.0).x (x.node v.0).x
+        unless.now in
         AddsClauses result f.old f.new clauses (length unless.now + 7) }
-    ensures says { let x = drawing_vars g.now grid.now in let clauses = ordered_clauses (int_cmp (mileage g.now u.0) (mileage g.now v.0)) (x.node u.0).x (x.node v.0).x unless.now in
+    ensures says { let x = drawing_vars g.now grid.now in
+        let clauses = ordered_clauses (int_cmp (mileage g.now u.0) (mileage g.now v.0)) (x.node u.0).x (x.node v.0).x
+        unless.now in
         SaysLaw g.now grid.now unless.now clauses (λ d. NodesAreOrdered g.now d u.0 v.0) }
-    ensures allows { let x = drawing_vars g.now grid.now in let clauses = ordered_clauses (int_cmp (mileage g.now u.0) (mileage g.now v.0)) (x.node u.0).x (x.node v.0).x unless.now in
+    ensures allows { let x = drawing_vars g.now grid.now in
+        let clauses = ordered_clauses (int_cmp (mileage g.now u.0) (mileage g.now v.0)) (x.node u.0).x (x.node v.0).x
+        unless.now in
         AllowsLaw g.now grid.now unless.now (f.old.vars + 1) 0 clauses (λ d. NodesAreOrdered g.now d u.0 v.0) }
 {
     add_ordered_between(f, g, grid, u, v, unless)
@@ -53,10 +59,14 @@ pub fn add_aligned_law(
     requires there { laws_first g.now grid.now ≤ f.old.vars + 1 }
     requires n { n.0 < length g.now.nodes }
     requires unless { AreThere f.old.vars unless.now }
-    ensures adds { AddsClauses result f.old f.new (aligned_clauses g.now (drawing_vars g.now grid.now) n.0 unless.now) (length unless.now + 2) }
-    ensures says { SaysLaw g.now grid.now unless.now (aligned_clauses g.now (drawing_vars g.now grid.now) n.0 unless.now) (λ d. NodeIsAligned g.now d n.0) }
-    ensures allows { AllowsLaw g.now grid.now unless.now (f.old.vars + 1) 0 (aligned_clauses g.now (drawing_vars g.now grid.now) n.0 unless.now) (λ d. NodeIsAligned g.now d n.0) }
+    ensures adds { AddsClauses result f.old f.new (aligned_clauses g.now (drawing_vars g.now grid.now) n.0 unless.now)
+        (length unless.now + 2) }
+    ensures says { SaysLaw g.now grid.now unless.now (aligned_clauses g.now (drawing_vars g.now grid.now) n.0 unless.now)
+        (λ d. NodeIsAligned g.now d n.0) }
+    ensures allows { AllowsLaw g.now grid.now unless.now (f.old.vars + 1) 0
+        (aligned_clauses g.now (drawing_vars g.now grid.now) n.0 unless.now) (λ d. NodeIsAligned g.now d n.0) }
 {
+    // what the types keep
     let _ = g.nodes();
     add_ports(f, g, grid, n, unless)
 }
@@ -77,12 +87,16 @@ pub fn add_apart_law(
     requires v { v.0 < length g.now.nodes }
     requires unless { AreThere f.old.vars unless.now }
     ensures adds { let x = drawing_vars g.now grid.now in
-        AddsBlock result f.old f.new 2 (anywhere_clauses (f.old.vars + 1) (x.node u.0) (x.node v.0) unless.now) (length unless.now + 7) }
+        AddsBlock result f.old f.new 2 (anywhere_clauses (f.old.vars + 1) (x.node u.0) (x.node v.0) unless.now)
+        (length unless.now + 7) }
     ensures says { let x = drawing_vars g.now grid.now in
-        SaysLaw g.now grid.now unless.now (anywhere_clauses (f.old.vars + 1) (x.node u.0) (x.node v.0) unless.now) (λ d. NodesAreApart d u.0 v.0) }
+        SaysLaw g.now grid.now unless.now (anywhere_clauses (f.old.vars + 1) (x.node u.0) (x.node v.0) unless.now)
+        (λ d. NodesAreApart d u.0 v.0) }
     ensures allows { let x = drawing_vars g.now grid.now in
-        AllowsLaw g.now grid.now unless.now (f.old.vars + 1) 2 (anywhere_clauses (f.old.vars + 1) (x.node u.0) (x.node v.0) unless.now) (λ d. NodesAreApart d u.0 v.0) }
+        AllowsLaw g.now grid.now unless.now (f.old.vars + 1) 2
+        (anywhere_clauses (f.old.vars + 1) (x.node u.0) (x.node v.0) unless.now) (λ d. NodesAreApart d u.0 v.0) }
 {
+    // what the types keep
     let _ = (g.nodes(), grid.width());
     add_anywhere_between(f, g, grid, u, v, unless)
 }
@@ -100,10 +114,16 @@ pub fn add_over_law(
     requires e { e.0 < length g.now.edges }
     requires h { h.0 < length g.now.edges }
     requires unless { AreThere f.old.vars unless.now }
-    ensures adds { AddsClauses result f.old f.new (over_clauses g.now (drawing_vars g.now grid.now) grid.now.width e.0 h.0 False unless.now) (length unless.now + 7) }
-    ensures says { SaysLaw g.now grid.now unless.now (over_clauses g.now (drawing_vars g.now grid.now) grid.now.width e.0 h.0 False unless.now) (λ d. EdgeIsOver g.now d e.0 h.0) }
-    ensures allows { AllowsLaw g.now grid.now unless.now (f.old.vars + 1) 0 (over_clauses g.now (drawing_vars g.now grid.now) grid.now.width e.0 h.0 False unless.now) (λ d. EdgeIsOver g.now d e.0 h.0) }
+    ensures adds { AddsClauses result f.old f.new
+        (over_clauses g.now (drawing_vars g.now grid.now) grid.now.width e.0 h.0 False unless.now) (length unless.now + 7) }
+    ensures says { SaysLaw g.now grid.now unless.now
+        (over_clauses g.now (drawing_vars g.now grid.now) grid.now.width e.0 h.0 False unless.now)
+        (λ d. EdgeIsOver g.now d e.0 h.0) }
+    ensures allows { AllowsLaw g.now grid.now unless.now (f.old.vars + 1) 0
+        (over_clauses g.now (drawing_vars g.now grid.now) grid.now.width e.0 h.0 False unless.now)
+        (λ d. EdgeIsOver g.now d e.0 h.0) }
 {
+    // what the types keep
     let _ = g.nodes();
     add_over_between(f, g, grid, e, h, unless)
 }
@@ -121,10 +141,17 @@ pub fn add_parted_law(
     requires e { e.0 < length g.now.edges }
     requires h { h.0 < length g.now.edges }
     requires unless { AreThere f.old.vars unless.now }
-    ensures adds { AddsBlock result f.old f.new 1 (parted_clauses g.now (drawing_vars g.now grid.now) grid.now.width e.0 h.0 (f.old.vars + 1) unless.now) (length unless.now + 7) }
-    ensures says { SaysLaw g.now grid.now unless.now (parted_clauses g.now (drawing_vars g.now grid.now) grid.now.width e.0 h.0 (f.old.vars + 1) unless.now) (λ d. EdgesAreParted g.now d e.0 h.0) }
-    ensures allows { AllowsLaw g.now grid.now unless.now (f.old.vars + 1) 1 (parted_clauses g.now (drawing_vars g.now grid.now) grid.now.width e.0 h.0 (f.old.vars + 1) unless.now) (λ d. EdgesAreParted g.now d e.0 h.0) }
+    ensures adds { AddsBlock result f.old f.new 1
+        (parted_clauses g.now (drawing_vars g.now grid.now) grid.now.width e.0 h.0 (f.old.vars + 1) unless.now)
+        (length unless.now + 7) }
+    ensures says { SaysLaw g.now grid.now unless.now
+        (parted_clauses g.now (drawing_vars g.now grid.now) grid.now.width e.0 h.0 (f.old.vars + 1) unless.now)
+        (λ d. EdgesAreParted g.now d e.0 h.0) }
+    ensures allows { AllowsLaw g.now grid.now unless.now (f.old.vars + 1) 1
+        (parted_clauses g.now (drawing_vars g.now grid.now) grid.now.width e.0 h.0 (f.old.vars + 1) unless.now)
+        (λ d. EdgesAreParted g.now d e.0 h.0) }
 {
+    // what the types keep
     let _ = (g.nodes(), grid.width());
     add_parted_between(f, g, grid, e, h, unless)
 }

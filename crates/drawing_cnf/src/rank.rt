@@ -3,7 +3,7 @@ ghost use Rattle.std.specs.Prelude.{◌≡◌, ◌≤◌, ◌<◌, ◌+◌, ◌*
 ghost use Rattle.plan_core.specs.declared.limits.TheConstants.{MAX_NODES};
 ghost use Rattle.plan_core.specs.Grid.{IsGrid};
 ghost use Rattle.drawing_cnf.specs.Rank.{comes_before, one_when, west_rank};
-ghost use Rattle.drawing_cnf.specs.Expected.{row_ints, edges_first};
+ghost use Rattle.drawing_cnf.specs.Expected.{ints_at_place, edges_first};
 
 use cnf_core::Var;
 use edge_shape::NodeVars;
@@ -43,8 +43,8 @@ fn rank_of(g: &PortGraph, n: u16) -> u16
 /// The integers at a place of that row.
 fn node_vars_at(grid: &Grid, place: u16) -> NodeVars
     requires { place ≤ MAX_NODES }
-    ensures x { result.x ≡ (row_ints grid.now place).x }
-    ensures y { result.y ≡ (row_ints grid.now place).y }
+    ensures x { result.x ≡ (ints_at_place grid.now place).x }
+    ensures y { result.y ≡ (ints_at_place grid.now place).y }
     ensures grid { IsGrid grid.now }
 {
     let high = u32::from(grid.height());
@@ -67,12 +67,13 @@ fn node_vars_at(grid: &Grid, place: u16) -> NodeVars
 /// The integers of a node.
 pub(crate) fn node_vars(g: &PortGraph, grid: &Grid, n: u16) -> NodeVars
     requires { n < length g.now.nodes }
-    ensures x { result.x ≡ (row_ints grid.now (west_rank g.now n)).x }
-    ensures y { result.y ≡ (row_ints grid.now (west_rank g.now n)).y }
+    ensures x { result.x ≡ (ints_at_place grid.now (west_rank g.now n)).x }
+    ensures y { result.y ≡ (ints_at_place grid.now (west_rank g.now n)).y }
     ensures grid { IsGrid grid.now }
     ensures within { 1 + west_rank g.now n * (grid.now.height + grid.now.width) + grid.now.height + grid.now.width
         ≤ edges_first g.now grid.now }
 {
+    // what the types keep
     let _ = g.nodes();
     node_vars_at(grid, rank_of(g, n))
 }

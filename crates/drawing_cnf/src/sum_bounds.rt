@@ -20,7 +20,7 @@ use port_graph::PortGraph;
 use std::alloc::Global;
 use unary_sum::Sum;
 
-/// The literal that it is.
+/// The literal that it is. A truth value is never asked for.
 pub(crate) fn literal_of(t: LitOrTruth) -> Lit
     requires { IsLit t }
     ensures { (x : ℕ) → t ≡ yes x → result ≡ positive_of x }
@@ -98,6 +98,7 @@ pub(crate) fn add_sum_bound(
     ensures adds { let s = sum_vars inputs.now cap f.old.vars in AddsBlock result f.old f.new (sum_count s) (sum_bound s last) 3 }
 {
     let sum = Sum::build(alloc, f, inputs, cap)?;
+    // what the types keep
     let _ = f.vars();
     add_outputs(f, &sum, cap, last)?;
     Ok(sum)
@@ -135,8 +136,10 @@ pub(crate) fn add_bends_bound(
     requires edges { edges.now ≡ west_first g.now }
     requires cap { cap ≤ 65535 }
     ensures sum { IfOk result (λ s. s ≡ bends_sum (drawing_vars g.now grid.now) edges.now f.old.vars cap) }
-    ensures adds { AddsBlock result f.old f.new (bends_bound_size (drawing_vars g.now grid.now) edges.now f.old.vars cap) (bends_bound (drawing_vars g.now grid.now) edges.now f.old.vars cap) 3 }
+    ensures adds { AddsBlock result f.old f.new (bends_bound_size (drawing_vars g.now grid.now) edges.now f.old.vars cap)
+        (bends_bound (drawing_vars g.now grid.now) edges.now f.old.vars cap) 3 }
 {
+    // what the types keep
     let _ = (g.nodes(), grid.width());
     let last = f.vars();
     let inputs = bend_literals(alloc, g, grid, edges)?;

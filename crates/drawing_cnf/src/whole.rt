@@ -5,7 +5,8 @@ ghost use Rattle.cnf_core.specs.declared.limits.TheConstants.{VARS};
 ghost use Rattle.cnf_core.specs.Clause.{words_of};
 ghost use Rattle.cnf_core.specs.Added.{AddsBlock};
 ghost use Rattle.track_order.specs.Order.{is_above, is_overlap};
-ghost use Rattle.drawing_cnf.specs.Expected.{drawing_vars, laws_first, instances_from, instance_pairs, edge_pair, instances, expected_clauses, expected_size, formula_clauses, formula_size};
+ghost use Rattle.drawing_cnf.specs.Expected.{drawing_vars, laws_first, instances_from, instance_pairs, edge_pair, instances};
+ghost use Rattle.drawing_cnf.specs.Expected.{expected_clauses, expected_size, formula_clauses, formula_size};
 ghost use Rattle.drawing_cnf.specs.AddsLaws.{AddsLaws};
 
 use crate::edge_laws::{add_aligned_nodes, add_edge_pairs};
@@ -26,7 +27,8 @@ fn add_last_laws(
     requires there { laws_first g.now grid.now ≤ f.old.vars + 1 }
     requires edges { t.now.edges ≡ length g.now.edges }
     ensures { AddsLaws result f.old f.new g.now (drawing_vars g.now grid.now) grid.now.width
-        (instance_pairs (length g.now.nodes) (λ u v. Apart u v ∷ []) ++ instance_pairs (length g.now.edges) (edge_pair (is_above t.now) (is_overlap t.now))) 7 }
+        (instance_pairs (length g.now.nodes) (λ u v. Apart u v ∷ [])
+        ++ instance_pairs (length g.now.edges) (edge_pair (is_above t.now) (is_overlap t.now))) 7 }
 {
     add_apart_pairs(f, g, grid)?;
     add_edge_pairs(f, g, grid, t)
@@ -43,7 +45,8 @@ fn add_later_laws(
     requires edges { t.now.edges ≡ length g.now.edges }
     ensures { AddsLaws result f.old f.new g.now (drawing_vars g.now grid.now) grid.now.width
         (instances_from (λ n. Aligned n ∷ []) 0 (length g.now.nodes)
-        ++ (instance_pairs (length g.now.nodes) (λ u v. Apart u v ∷ []) ++ instance_pairs (length g.now.edges) (edge_pair (is_above t.now) (is_overlap t.now)))) 7 }
+        ++ (instance_pairs (length g.now.nodes) (λ u v. Apart u v ∷ [])
+        ++ instance_pairs (length g.now.edges) (edge_pair (is_above t.now) (is_overlap t.now)))) 7 }
 {
     add_aligned_nodes(f, g, grid)?;
     add_last_laws(f, g, t, grid)
@@ -53,7 +56,8 @@ fn add_later_laws(
 fn add_laws(f: &mut Formula, g: &PortGraph, t: &TrackOrder, grid: &Grid) -> Result<(), CnfFault>
     requires there { laws_first g.now grid.now ≤ f.old.vars + 1 }
     requires edges { t.now.edges ≡ length g.now.edges }
-    ensures { AddsLaws result f.old f.new g.now (drawing_vars g.now grid.now) grid.now.width (instances g.now (is_above t.now) (is_overlap t.now)) 7 }
+    ensures { AddsLaws result f.old f.new g.now (drawing_vars g.now grid.now) grid.now.width
+        (instances g.now (is_above t.now) (is_overlap t.now)) 7 }
 {
     add_ordered_pairs(f, g, grid)?;
     add_later_laws(f, g, t, grid)
@@ -79,11 +83,14 @@ pub(crate) fn fill(
 ) -> Result<(), CnfFault>
     requires empty { f.old.vars ≡ 0 }
     requires edges { t.now.edges ≡ length g.now.edges }
-    ensures adds { AddsBlock result f.old f.new (formula_size g.now (is_above t.now) (is_overlap t.now) grid.now) (formula_clauses g.now (is_above t.now) (is_overlap t.now) grid.now) 7 }
-    ensures fits { OnOk result (words_of (f.old.clauses ++ formula_clauses g.now (is_above t.now) (is_overlap t.now) grid.now) ≤ f.old.room) }
+    ensures adds { AddsBlock result f.old f.new (formula_size g.now (is_above t.now) (is_overlap t.now) grid.now)
+        (formula_clauses g.now (is_above t.now) (is_overlap t.now) grid.now) 7 }
+    ensures fits { OnOk result
+        (words_of (f.old.clauses ++ formula_clauses g.now (is_above t.now) (is_overlap t.now) grid.now) ≤ f.old.room) }
     ensures few { OnOk result (formula_size g.now (is_above t.now) (is_overlap t.now) grid.now ≤ VARS) }
 {
     let outcome = add_formula(f, g, t, grid);
+    // what the types keep
     let _ = f.words();
     outcome
 }

@@ -65,8 +65,10 @@ fn add_some_column(
     requires there { laws_first g.now grid.now ≤ f.old.vars + 1 }
     requires from { 1 ≤ b }
     requires to { b ≤ f.old.vars }
-    ensures { AddsClauses result f.old f.new (some_column_clause (drawing_vars g.now grid.now) (length g.now.nodes) b k) (length g.now.nodes + 3) }
+    ensures { AddsClauses result f.old f.new (some_column_clause (drawing_vars g.now grid.now) (length g.now.nodes) b k)
+        (length g.now.nodes + 3) }
 {
+    // what the types keep
     let _ = grid.width();
     let mut some = columns_at_least(alloc, g, grid, k)?;
     some.push(yes_var(b).negated())?;
@@ -124,7 +126,8 @@ pub(crate) fn add_width_bound(
 ) -> Result<(), CnfFault>
     requires there { laws_first g.now grid.now ≤ f.old.vars + 1 }
     requires few { cap ≤ 65535 }
-    ensures { AddsBlock result f.old f.new cap (width_bound g.now (drawing_vars g.now grid.now) f.old.vars cap) (length g.now.nodes + 3) }
+    ensures { AddsBlock result f.old f.new cap (width_bound g.now (drawing_vars g.now grid.now) f.old.vars cap)
+        (length g.now.nodes + 3) }
 {
     let last = f.vars();
     f.new_vars(cap)?;

@@ -14,7 +14,7 @@ use Rattle.order_int.proofs.OrderLemmas.{le_holds, equal_holds}
 use Rattle.edge_lines.specs.Track.{step_slope, IsTrack, IsFlatOutside}
 use Rattle.edge_shape.specs.Rules.{rule_clauses, FollowsRules}
 use Rattle.edge_shape.specs.EdgeVars.{NodeInts, EdgeLits}
-use Rattle.edge_shape.specs.Edge.{range_rules, step_rules, height_clauses, seen_rules, shape_rules, end_rules, same_where, slope_rules, bend_rules, inner_rules, through_rules, level_rules, edge_rules, step_clauses, end_clauses, column_clauses, whole_clauses, further_clauses, edge_clauses, ReadsTrack}
+use Rattle.edge_shape.specs.Edge.{range_rules, step_rules, height_clauses, seen_rules, shape_rules, end_rules, same_where, slope_rules, bend_rules, inner_rules, end_piece_rules, level_rules, beside_end_rules, step_clauses, end_clauses, column_clauses, whole_clauses, further_clauses, edge_clauses, ReadsTrack}
 use Rattle.edge_lines.specs.Columns.{is_up, is_down, is_level, has_level}
 use Rattle.edge_shape.proofs.RuleLemmas.{rules_hold}
 use Rattle.edge_lines.proofs.StepLemmas.{Is, up_is, down_is, turns_are, diagonal_bool, seen_to_end, track_reaches, through, one_slope_all, diagonal_inside, up_diagonal, down_diagonal, up_not_down}
@@ -122,9 +122,9 @@ by_down Up m n h u = cc
 further_holds : (v : Assignment) (e : EdgeLits) (west east : NodeInts) (high width w n a b : ℕ) (y : ℕ → ℕ) → HasRows e high width → w + n + 1 ≤ width → Reads v west.y a → Reads v east.y b → IsTrack y w n → IsFlatOutside y w n → y w ≡ a → y (w + n + 1) ≡ b → AreColumns v e width y w n → ReadsTrack v e width y w n → SatisfiesAll v (further_clauses e west east high width)
 further_holds v e west east high width w n a b y rows size ra rb t f is_a is_b columns r =
     let F = each (λ c. rule_clauses (inner_rules e c)) 0 (width - 1) in
-    let G = each (λ c. rule_clauses (through_rules e c)) 0 width in
+    let G = each (λ c. rule_clauses (end_piece_rules e c)) 0 width in
     let H = rule_clauses (level_rules e (e.seen (width - 1))) in
-    let K = rule_clauses (edge_rules e west.y east.y high) in
+    let K = rule_clauses (beside_end_rules e west.y east.y high) in
     let bound : (c : ℕ) → c ≤ width → y c ≤ high = λ c le. let one = r.height c le in let top = one.high in let is = rows.highest c le in omega arith in
     let first = track_reaches y w n w t f in
     let last = track_reaches y w n (w + n) t f in
@@ -132,10 +132,10 @@ further_holds v e west east high width w n a b y rows size ra rb t f is_a is_b c
     (satisfies_append v F G
     (satisfies_each v (λ c. rule_clauses (inner_rules e c)) 0 (width - 1) (λ c from to. rules_hold v (inner_rules e c) (inner_holds v e c (columns.steps c (omega arith)).one (columns.steps (c + 1) (omega arith)).one
     (r.bend c (omega arith) ∙ sym (turns_are y w n c (v (e.inside c)) (v (e.inside (c + 2))) (v (e.up c)) (v (e.up (c + 1))) (v (e.down c)) (v (e.down (c + 1))) (r.inside c (omega arith)) (r.inside (c + 2) (omega arith)) (r.up c (omega arith)) (r.up (c + 1) (omega arith)) (r.down c (omega arith)) (r.down (c + 1) (omega arith)))))))
-    (satisfies_each v (λ c. rule_clauses (through_rules e c)) 0 width (λ c from to. rules_hold v (through_rules e c) (through_holds v e c (through_up v e width w n c y t f r (omega arith)) (through_down v e width w n c y t f r (omega arith))))))
+    (satisfies_each v (λ c. rule_clauses (end_piece_rules e c)) 0 width (λ c from to. rules_hold v (end_piece_rules e c) (through_holds v e c (through_up v e width w n c y t f r (omega arith)) (through_down v e width w n c y t f r (omega arith))))))
     (satisfies_append v H K
     (rules_hold v (level_rules e (e.seen (width - 1))) (level_holds v e (e.seen (width - 1)) (level_or_one v e width w n y size t r)))
-    (rules_hold v (edge_rules e west.y east.y high) (edge_holds v e west.y east.y a b high ra rb
+    (rules_hold v (beside_end_rules e west.y east.y high) (edge_holds v e west.y east.y a b high ra rb
     (λ h. let k = by_down (step_slope y w) (y w) (y (w + 1)) first (sym r.west_down ∙ h) in omega arith)
     (λ h. let k = by_up (step_slope y w) (y w) (y (w + 1)) first (sym r.west_up ∙ h) in let top = bound (w + 1) (omega arith) in omega arith)
     (λ h. let k = by_up (step_slope y (w + n)) (y (w + n)) (y (w + n + 1)) last (sym r.east_up ∙ h) in omega arith)

@@ -11,7 +11,7 @@ use Rattle.order_int.proofs.OrderLemmas.{le_means, equal_means}
 use Rattle.edge_lines.specs.Track.{step_slope, IsTrack, IsFlatOutside}
 use Rattle.edge_shape.specs.Rules.{rule_clauses, FollowsRules}
 use Rattle.edge_shape.specs.EdgeVars.{NodeInts, EdgeLits}
-use Rattle.edge_shape.specs.Edge.{range_rules, step_rules, height_clauses, seen_rules, shape_rules, end_rules, same_where, slope_rules, bend_rules, inner_rules, through_rules, level_rules, edge_rules, step_clauses, end_clauses, column_clauses, whole_clauses, further_clauses, edge_clauses, ReadsTrack}
+use Rattle.edge_shape.specs.Edge.{range_rules, step_rules, height_clauses, seen_rules, shape_rules, end_rules, same_where, slope_rules, bend_rules, inner_rules, end_piece_rules, level_rules, beside_end_rules, step_clauses, end_clauses, column_clauses, whole_clauses, further_clauses, edge_clauses, ReadsTrack}
 use Rattle.edge_lines.specs.Columns.{is_up, is_down, is_level, has_level}
 use Rattle.edge_shape.proofs.RuleLemmas.{rules_say}
 use Rattle.edge_shape.proofs.FamilyLemmas.{StepFacts, range_means, step_means, seen_means, shape_means, same_means, bend_means, inner_means}
@@ -170,8 +170,8 @@ edge_means v e west east least high width w z a b rows some size rx ra rz rb h =
     let columns = columns_say v e west east high width w n y rows rx rz' ry parts.1.0 in
     let fits : w + n + 1 ≤ width = omega arith in
     let F = each (λ c. rule_clauses (inner_rules e c)) 0 (width - 1) in
-    let G = each (λ c. rule_clauses (through_rules e c)) 0 width in
-    let H = rule_clauses (level_rules e (e.seen (width - 1))) ++ rule_clauses (edge_rules e west.y east.y high) in
+    let G = each (λ c. rule_clauses (end_piece_rules e c)) 0 width in
+    let H = rule_clauses (level_rules e (e.seen (width - 1))) ++ rule_clauses (beside_end_rules e west.y east.y high) in
     let inner = satisfies_left v F G (satisfies_left v (F ++ G) H parts.1.1.1) in
     let behind : y width ≡ y (w + n + 1) = flat_east v e width y w n columns (width - (w + n + 1)) width (omega arith) (omega arith) in
     record {

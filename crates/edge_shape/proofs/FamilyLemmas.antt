@@ -8,7 +8,7 @@ use Rattle.order_int.specs.IntVars.{IntVars}
 use Rattle.order_int.specs.OrderInt.{int_at_least, Reads}
 use Rattle.edge_shape.specs.Rules.{FollowsRules}
 use Rattle.edge_shape.specs.EdgeVars.{EdgeLits, before}
-use Rattle.edge_shape.specs.Edge.{range_rules, step_rules, seen_rules, shape_rules, end_rules, same_where, bend_rules, inner_rules, through_rules, level_rules, edge_rules}
+use Rattle.edge_shape.specs.Edge.{range_rules, step_rules, seen_rules, shape_rules, end_rules, same_where, bend_rules, inner_rules, end_piece_rules, level_rules, beside_end_rules}
 use Rattle.edge_lines.proofs.StepLemmas.{Is}
 
 range_bool : (i a b : Bool) → (Is i × (Is a × ⊤) → ⊥) × ((Is i × ⊤ → Is b ⊎ ⊥) × ((Is b × ⊤ → Is a ⊎ (Is i ⊎ ⊥)) × ⊤)) → i ≡ (not a && b)
@@ -184,7 +184,7 @@ pub end_holds : (v : Assignment) (e : EdgeLits) → (Is (v e.west_up) → Is (v 
 end_holds v e one two = ((λ a. one a.0 a.1.0), ((λ a. two a.0 a.1.0), tt))
 
 -- the families that follow from the others are read in no proof: only that they hold
-pub through_holds : (v : Assignment) (e : EdgeLits) (c : ℕ) → (Is (v (e.up c)) → Is (v e.west_up) ⊎ Is (v e.east_up)) → (Is (v (e.down c)) → Is (v e.west_down) ⊎ Is (v e.east_down)) → FollowsRules v (through_rules e c)
+pub through_holds : (v : Assignment) (e : EdgeLits) (c : ℕ) → (Is (v (e.up c)) → Is (v e.west_up) ⊎ Is (v e.east_up)) → (Is (v (e.down c)) → Is (v e.west_down) ⊎ Is (v e.east_down)) → FollowsRules v (end_piece_rules e c)
 through_holds v e c f g = ((λ a. two (f a.0)), ((λ a. two (g a.0)), tt))
   where
     two : {A B : Type 0} → A ⊎ B → A ⊎ (B ⊎ ⊥)
@@ -207,7 +207,7 @@ level_holds v e level h = cases (v e.west_up) (v e.west_down) (v e.east_up) (v e
           ),
         )
 
-pub edge_holds : (v : Assignment) (e : EdgeLits) (a b : IntVars) (m n high : ℕ) → Reads v a m → Reads v b n → (Is (v e.west_down) → 1 ≤ m) → (Is (v e.west_up) → m < high) → (Is (v e.east_up) → 1 ≤ n) → (Is (v e.east_down) → n < high) → FollowsRules v (edge_rules e a b high)
+pub edge_holds : (v : Assignment) (e : EdgeLits) (a b : IntVars) (m n high : ℕ) → Reads v a m → Reads v b n → (Is (v e.west_down) → 1 ≤ m) → (Is (v e.west_up) → m < high) → (Is (v e.east_up) → 1 ≤ n) → (Is (v e.east_down) → n < high) → FollowsRules v (beside_end_rules e a b high)
 edge_holds v e a b m n high ra rb f1 f2 f3 f4 = (
   (λ p. inl (ra.each 1 ∙ (let h = f1 p.0 in grind (arith, nat_tests)))),
   (

@@ -12,7 +12,7 @@ use Rattle.order_int.specs.OrderInt.{int_at_least}
 use Rattle.order_int.proofs.IntLemmas.{at_least_within}
 use Rattle.edge_shape.specs.EdgeVars.{EdgeLits, before, column, edge_lits, edge_size, IsSpot}
 use Rattle.edge_shape.specs.Rules.{literals_of, AllWithin}
-use Rattle.edge_shape.specs.Edge.{range_rules, step_rules, seen_rules, shape_rules, end_rules, slope_rules, inner_rules, through_rules, bend_rules, level_rules, edge_rules}
+use Rattle.edge_shape.specs.Edge.{range_rules, step_rules, seen_rules, shape_rules, end_rules, slope_rules, inner_rules, end_piece_rules, bend_rules, level_rules, beside_end_rules}
 
 -- c blocks of k variables and one more are among width of them
 pub blocks : (k width c : ℕ) → c < width → c * k + k ≤ width * k
@@ -126,7 +126,7 @@ inner_within vars e c b i k u p d q = (
   ),
 )
 
-pub through_within : (vars : ℕ) (e : EdgeLits) (c : ℕ) → WholeWithin vars e → StepWithin vars e c → AllWithin vars (map literals_of (through_rules e c))
+pub through_within : (vars : ℕ) (e : EdgeLits) (c : ℕ) → WholeWithin vars e → StepWithin vars e c → AllWithin vars (map literals_of (end_piece_rules e c))
 through_within vars e c w s = (((s.up, (w.west_up, (w.east_up, (tt, (tt, tt))))), omega arith), (((s.down, (w.west_down, (w.east_down, (tt, (tt, tt))))), omega arith), tt))
 
 pub end_within : (vars : ℕ) (e : EdgeLits) → WholeWithin vars e → AllWithin vars (map literals_of (end_rules e))
@@ -157,7 +157,7 @@ bend_within vars b r f l tb tr tf tl = (((tb, (tr, (tf, (tt, (tt, tt))))), omega
 pub level_within : (vars : ℕ) (e : EdgeLits) (l : ℕ) → WholeWithin vars e → IsThere vars (positive_of l) → AllWithin vars (map literals_of (level_rules e l))
 level_within vars e l w s = (((w.west_up, (w.west_down, (s, (tt, (tt, tt))))), omega arith), (((w.east_up, (w.east_down, (s, (tt, (tt, tt))))), omega arith), (((w.west_up, (w.east_up, (s, (tt, (tt, tt))))), omega arith), (((w.west_down, (w.east_down, (s, (tt, (tt, tt))))), omega arith), (((w.east_up, (w.west_up, (s, (tt, (tt, tt))))), omega arith), (((w.east_down, (w.west_down, (s, (tt, (tt, tt))))), omega arith), tt))))))
 
-pub edge_within : (vars : ℕ) (e : EdgeLits) (a b : IntVars) (high : ℕ) → WholeWithin vars e → IntIsThere vars a → IntIsThere vars b → AllWithin vars (map literals_of (edge_rules e a b high))
+pub edge_within : (vars : ℕ) (e : EdgeLits) (a b : IntVars) (high : ℕ) → WholeWithin vars e → IntIsThere vars a → IntIsThere vars b → AllWithin vars (map literals_of (beside_end_rules e a b high))
 edge_within vars e a b high w ta tb = (
   ((w.west_down, (at_least_within vars a 1 ta, (tt, (tt, (tt, tt))))), omega arith),
   (

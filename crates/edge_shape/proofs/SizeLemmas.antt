@@ -14,7 +14,7 @@ use Rattle.order_int.proofs.IntLemmas.{int_there}
 use Rattle.order_int.proofs.OrderLemmas.{le_there, equal_there}
 use Rattle.edge_shape.specs.Rules.{list_clauses, AllWithin, literals_of, rule_clauses}
 use Rattle.edge_shape.specs.EdgeVars.{NodeInts, edge_lits, edge_size, IsSpot}
-use Rattle.edge_shape.specs.Edge.{near_clause, near_clauses, level_clauses, diagonal_clauses, rows_clauses, rise_clauses, step_rules, seen_rules, shape_rules, height_clauses, step_clauses, range_rules, end_rules, slope_rules, bend_rules, inner_rules, through_rules, level_rules, edge_rules, end_clauses, column_clauses, whole_clauses, further_clauses, edge_clauses}
+use Rattle.edge_shape.specs.Edge.{near_clause, near_clauses, level_clauses, diagonal_clauses, rows_clauses, rise_clauses, step_rules, seen_rules, shape_rules, height_clauses, step_clauses, range_rules, end_rules, slope_rules, bend_rules, inner_rules, end_piece_rules, level_rules, beside_end_rules, end_clauses, column_clauses, whole_clauses, further_clauses, edge_clauses}
 use Rattle.edge_shape.proofs.PlaceLemmas.{StepWithin, near_within, height_there, inside_there, column_there, step_literals, whole_literals, step_within, seen_within, shape_within, range_within, inner_within, through_within, end_within, slope_within, bend_within, level_within, edge_within}
 
 pub lists_there : (vars : ℕ) (ls : List (List LitOrTruth)) → AllWithin vars ls → AllThere vars (list_clauses ls)
@@ -75,10 +75,10 @@ edge_there first high width vars least west east p there wx wy ex ey =
     let here = at c (omega arith) in
     let next = at (c + 1) (omega arith) in
     lists_there vars (map literals_of (inner_rules e c)) (inner_within vars e c (column_there first high width vars (c + 1) 4 p there (omega arith) (omega arith)) here.here (inside_there first high width vars (c + 2) p there (omega arith)) here.up next.up here.down next.down)) in
-    let through = all_there_each vars (λ c. rule_clauses (through_rules e c)) 0 width (λ c from to. lists_there vars (map literals_of (through_rules e c)) (through_within vars e c w (at c (omega arith)))) in
-    let further = all_there_append vars (each (λ c. rule_clauses (inner_rules e c)) 0 (width - 1) ++ each (λ c. rule_clauses (through_rules e c)) 0 width) (rule_clauses (level_rules e (e.seen (width - 1))) ++ rule_clauses (edge_rules e west.y east.y high))
-    (all_there_append vars (each (λ c. rule_clauses (inner_rules e c)) 0 (width - 1)) (each (λ c. rule_clauses (through_rules e c)) 0 width) inner through)
-    (all_there_append vars (rule_clauses (level_rules e (e.seen (width - 1)))) (rule_clauses (edge_rules e west.y east.y high)) (lists_there vars (map literals_of (level_rules e (e.seen (width - 1)))) (level_within vars e (e.seen (width - 1)) w level)) (lists_there vars (map literals_of (edge_rules e west.y east.y high)) (edge_within vars e west.y east.y high w wy ey))) in
+    let through = all_there_each vars (λ c. rule_clauses (end_piece_rules e c)) 0 width (λ c from to. lists_there vars (map literals_of (end_piece_rules e c)) (through_within vars e c w (at c (omega arith)))) in
+    let further = all_there_append vars (each (λ c. rule_clauses (inner_rules e c)) 0 (width - 1) ++ each (λ c. rule_clauses (end_piece_rules e c)) 0 width) (rule_clauses (level_rules e (e.seen (width - 1))) ++ rule_clauses (beside_end_rules e west.y east.y high))
+    (all_there_append vars (each (λ c. rule_clauses (inner_rules e c)) 0 (width - 1)) (each (λ c. rule_clauses (end_piece_rules e c)) 0 width) inner through)
+    (all_there_append vars (rule_clauses (level_rules e (e.seen (width - 1)))) (rule_clauses (beside_end_rules e west.y east.y high)) (lists_there vars (map literals_of (level_rules e (e.seen (width - 1)))) (level_within vars e (e.seen (width - 1)) w level)) (lists_there vars (map literals_of (beside_end_rules e west.y east.y high)) (edge_within vars e west.y east.y high w wy ey))) in
     all_there_append vars (each (λ c. int_clauses (e.height c)) 0 (width + 1) ++ end_clauses e west east least width) (column_clauses e west east high width ++ (whole_clauses e west east width ++ further_clauses e west east high width))
     (all_there_append vars (each (λ c. int_clauses (e.height c)) 0 (width + 1)) (end_clauses e west east least width) (heights_there first high width vars p there) ends)
     (all_there_append vars (column_clauses e west east high width) (whole_clauses e west east width ++ further_clauses e west east high width) columns

@@ -17,7 +17,7 @@ use Rattle.edge_shape.specs.Rules.{literals_of, rule_clauses}
 use Rattle.edge_shape.specs.EdgeVars.{NodeInts, edge_lits, edge_size, IsSpot}
 use Rattle.edge_shape.proofs.PlaceLemmas.{StepWithin, inside_there, column_there, step_literals, whole_literals, step_within, seen_within, shape_within, range_within, inner_within, through_within, end_within, slope_within, bend_within, level_within, edge_within}
 use Rattle.edge_shape.proofs.SizeLemmas.{lists_words}
-use Rattle.edge_shape.specs.Edge.{near_clause, near_clauses, level_clauses, diagonal_clauses, rows_clauses, rise_clauses, step_rules, seen_rules, shape_rules, height_clauses, step_clauses, range_rules, end_rules, slope_rules, bend_rules, inner_rules, through_rules, level_rules, edge_rules, end_clauses, column_clauses, whole_clauses, further_clauses, edge_clauses}
+use Rattle.edge_shape.specs.Edge.{near_clause, near_clauses, level_clauses, diagonal_clauses, rows_clauses, rise_clauses, step_rules, seen_rules, shape_rules, height_clauses, step_clauses, range_rules, end_rules, slope_rules, bend_rules, inner_rules, end_piece_rules, level_rules, beside_end_rules, end_clauses, column_clauses, whole_clauses, further_clauses, edge_clauses}
 
 near_words : (a b : IntVars) (high : ℕ) → words_of (near_clauses a b high) ≤ (high - 1) * 5
 near_words a b high = words_each 5 (near_clause a b) 1 (high - 1) (λ k from to. omega (arith, clause_words [] (flip (int_at_least a (k + 1)) ∷ int_at_least b k ∷ [])))
@@ -78,12 +78,12 @@ edge_words first high width vars least west east p there wx wy ex ey sx sy sz =
     let next = at (c + 1) (omega arith) in
     let k = lists_words vars (map literals_of (inner_rules e c)) (inner_within vars e c (column_there first high width vars (c + 1) 4 p there (omega arith) (omega arith)) here.here (inside_there first high width vars (c + 2) p there (omega arith)) here.up next.up here.down next.down) in
     omega arith) in
-    let through = each_area (λ c. rule_clauses (through_rules e c)) 0 width width high 16 (omega arith) (λ c from to. let k = lists_words vars (map literals_of (through_rules e c)) (through_within vars e c w (at c (omega arith))) in omega arith) in
+    let through = each_area (λ c. rule_clauses (end_piece_rules e c)) 0 width width high 16 (omega arith) (λ c from to. let k = lists_words vars (map literals_of (end_piece_rules e c)) (through_within vars e c w (at c (omega arith))) in omega arith) in
     let end = lists_words vars (map literals_of (end_rules e)) (end_within vars e w) in
     let b1 = lists_words vars (map literals_of (bend_rules e.first_bend e.west_up e.west_down (e.seen (width - 1)))) (bend_within vars e.first_bend e.west_up e.west_down (e.seen (width - 1)) w.first_bend w.west_up w.west_down level) in
     let b2 = lists_words vars (map literals_of (bend_rules e.second_bend e.east_up e.east_down (e.seen (width - 1)))) (bend_within vars e.second_bend e.east_up e.east_down (e.seen (width - 1)) w.second_bend w.east_up w.east_down level) in
     let lv = lists_words vars (map literals_of (level_rules e (e.seen (width - 1)))) (level_within vars e (e.seen (width - 1)) w level) in
-    let ed = lists_words vars (map literals_of (edge_rules e west.y east.y high)) (edge_within vars e west.y east.y high w wy ey) in
+    let ed = lists_words vars (map literals_of (beside_end_rules e west.y east.y high)) (edge_within vars e west.y east.y high w wy ey) in
     let le = le_words west.x east.x least [] in
     let q1 = equal_words (e.height 0) west.y [] in
     let q2 = equal_words (e.height width) east.y [] in
@@ -95,9 +95,9 @@ edge_words first high width vars least west east p there wx wy ex ey sx sy sz =
     let es = both_words (rule_clauses (end_rules e)) (each (λ c. rule_clauses (slope_rules e west.x east.x c)) 0 width) 16 (64 * A) end slopes in
     let bs = both_words (rule_clauses (bend_rules e.first_bend e.west_up e.west_down (e.seen (width - 1)))) (rule_clauses (bend_rules e.second_bend e.east_up e.east_down (e.seen (width - 1)))) 32 32 b1 b2 in
     let whole = both_words (rule_clauses (end_rules e) ++ each (λ c. rule_clauses (slope_rules e west.x east.x c)) 0 width) (rule_clauses (bend_rules e.first_bend e.west_up e.west_down (e.seen (width - 1))) ++ rule_clauses (bend_rules e.second_bend e.east_up e.east_down (e.seen (width - 1)))) (16 + 64 * A) (32 + 32) es bs in
-    let it = both_words (each (λ c. rule_clauses (inner_rules e c)) 0 (width - 1)) (each (λ c. rule_clauses (through_rules e c)) 0 width) (72 * A) (16 * A) inner through in
-    let le2 = both_words (rule_clauses (level_rules e (e.seen (width - 1)))) (rule_clauses (edge_rules e west.y east.y high)) 48 32 lv ed in
-    let further = both_words (each (λ c. rule_clauses (inner_rules e c)) 0 (width - 1) ++ each (λ c. rule_clauses (through_rules e c)) 0 width) (rule_clauses (level_rules e (e.seen (width - 1))) ++ rule_clauses (edge_rules e west.y east.y high)) (72 * A + 16 * A) (48 + 32) it le2 in
+    let it = both_words (each (λ c. rule_clauses (inner_rules e c)) 0 (width - 1)) (each (λ c. rule_clauses (end_piece_rules e c)) 0 width) (72 * A) (16 * A) inner through in
+    let le2 = both_words (rule_clauses (level_rules e (e.seen (width - 1)))) (rule_clauses (beside_end_rules e west.y east.y high)) 48 32 lv ed in
+    let further = both_words (each (λ c. rule_clauses (inner_rules e c)) 0 (width - 1) ++ each (λ c. rule_clauses (end_piece_rules e c)) 0 width) (rule_clauses (level_rules e (e.seen (width - 1))) ++ rule_clauses (beside_end_rules e west.y east.y high)) (72 * A + 16 * A) (48 + 32) it le2 in
     let line = both_words (whole_clauses e west east width) (further_clauses e west east high width) (16 + 64 * A + (32 + 32)) (72 * A + 16 * A + (48 + 32)) whole further in
     let shape = both_words (column_clauses e west east high width) (whole_clauses e west east width ++ further_clauses e west east high width) (24 * A + 168 * A) (16 + 64 * A + (32 + 32) + (72 * A + 16 * A + (48 + 32))) columns line in
     let all = both_words (each (λ c. int_clauses (e.height c)) 0 (width + 1) ++ end_clauses e west east least width) (column_clauses e west east high width ++ (whole_clauses e west east width ++ further_clauses e west east high width)) (5 * A + 80 * A) (24 * A + 168 * A + (16 + 64 * A + (32 + 32) + (72 * A + 16 * A + (48 + 32)))) front shape in

@@ -30,7 +30,7 @@ step_rules e c =
     ∷ rule (yes (e.up c) ∷ yes (e.down c) ∷ []) []
     ∷ []
 
--- a is at most b and 1
+-- a is at most one above b
 abbrev pub near_clause : IntVars → IntVars → ℕ → Clauses
 near_clause a b k = clause_of [] (flip (int_at_least a (k + 1)) ∷ int_at_least b k ∷ [])
 
@@ -120,8 +120,8 @@ inner_rules e c =
     ∷ []
 
 -- a diagonal step is one of the first or of the last piece
-abbrev pub through_rules : EdgeLits → ℕ → List Rule
-through_rules e c =
+abbrev pub end_piece_rules : EdgeLits → ℕ → List Rule
+end_piece_rules e c =
     rule (yes (e.up c) ∷ []) (yes e.west_up ∷ yes e.east_up ∷ [])
     ∷ rule (yes (e.down c) ∷ []) (yes e.west_down ∷ yes e.east_down ∷ [])
     ∷ []
@@ -138,8 +138,8 @@ level_rules e level =
     ∷ []
 
 -- the height beside an end is on the grid
-abbrev pub edge_rules : EdgeLits → IntVars → IntVars → ℕ → List Rule
-edge_rules e west_y east_y high =
+abbrev pub beside_end_rules : EdgeLits → IntVars → IntVars → ℕ → List Rule
+beside_end_rules e west_y east_y high =
     rule (yes e.west_down ∷ []) (int_at_least west_y 1 ∷ [])
     ∷ rule (yes e.west_up ∷ int_at_least west_y high ∷ []) []
     ∷ rule (yes e.east_up ∷ []) (int_at_least east_y 1 ∷ [])
@@ -148,7 +148,9 @@ edge_rules e west_y east_y high =
 
 -- all clauses of the step from column c
 abbrev pub step_clauses : EdgeLits → ℕ → ℕ → Clauses
-step_clauses e high c = (rule_clauses (step_rules e c) ++ height_clauses e high c) ++ (rule_clauses (seen_rules e c) ++ rule_clauses (shape_rules e c))
+step_clauses e high c =
+    (rule_clauses (step_rules e c) ++ height_clauses e high c)
+    ++ (rule_clauses (seen_rules e c) ++ rule_clauses (shape_rules e c))
 
 -- what the assignment gives the variables: the steps from column w to w + n + 1 of the heights y
 pub record ReadsTrack (v : Assignment) (e : EdgeLits) (width : ℕ) (y : ℕ → ℕ) (w n : ℕ) : Type 0 where
@@ -182,8 +184,8 @@ whole_clauses e west east width =
 
 abbrev pub further_clauses : EdgeLits → NodeInts → NodeInts → ℕ → ℕ → Clauses
 further_clauses e west east high width =
-    (each (λ c. rule_clauses (inner_rules e c)) 0 (width - 1) ++ each (λ c. rule_clauses (through_rules e c)) 0 width)
-    ++ (rule_clauses (level_rules e (e.seen (width - 1))) ++ rule_clauses (edge_rules e west.y east.y high))
+    (each (λ c. rule_clauses (inner_rules e c)) 0 (width - 1) ++ each (λ c. rule_clauses (end_piece_rules e c)) 0 width)
+    ++ (rule_clauses (level_rules e (e.seen (width - 1))) ++ rule_clauses (beside_end_rules e west.y east.y high))
 
 abbrev pub edge_clauses : EdgeLits → NodeInts → NodeInts → ℕ → ℕ → ℕ → Clauses
 edge_clauses e west east least high width =

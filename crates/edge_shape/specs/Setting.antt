@@ -29,9 +29,13 @@ flags b width c = cond (nat_eq c width) (b.inside c ∷ []) (b.inside c ∷ b.up
 
 -- the truth value of variable x, by the last of the columns up to c that begins at x or before it
 abbrev pub setting : EdgeBits → ℕ → ℕ → ℕ → ℕ → ℕ → Bool
-setting b first high width zero x = cond (nat_le (column first high 0) x) (bits (flags b width 0) (b.height 0) (x - column first high 0)) (b.whole (x - first))
-setting b first high width (suc c) x = cond (nat_le (column first high (suc c)) x) (bits (flags b width (suc c)) (b.height (suc c)) (x - column first high (suc c))) (setting b first high width c x)
+setting b first high width zero x =
+    cond (nat_le (column first high 0) x) (bits (flags b width 0) (b.height 0) (x - column first high 0)) (b.whole (x - first))
+setting b first high width (suc c) x =
+    cond (nat_le (column first high (suc c)) x) (bits (flags b width (suc c)) (b.height (suc c)) (x - column first high (suc c)))
+    (setting b first high width c x)
 
 -- the assignment with these truth values in the edge's variables
 abbrev pub set_edge : EdgeBits → ℕ → ℕ → ℕ → Assignment → Assignment
-set_edge b first high width v x = cond (nat_le first x && nat_lt x (first + edge_size high width)) (setting b first high width width x) (v x)
+set_edge b first high width v x =
+    cond (nat_le first x && nat_lt x (first + edge_size high width)) (setting b first high width width x) (v x)

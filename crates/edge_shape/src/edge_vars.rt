@@ -12,7 +12,8 @@ ghost use Rattle.cnf_core.specs.Truths.{assignment};
 ghost use Rattle.order_int.specs.IntVars.{IntIsThere};
 ghost use Rattle.order_int.specs.OrderInt.{Reads};
 ghost use Rattle.edge_lines.specs.Joins.{JoinsPoints};
-ghost use Rattle.edge_shape.specs.EdgeVars.{NodeInts, edge_lits, edge_size, edge_spot, lits_of, node_ints, up_at, down_at, bend_at, LieBefore, EdgeIsPlaced, IsNode};
+ghost use Rattle.edge_shape.specs.EdgeVars.{NodeInts, edge_lits, edge_size, edge_spot, lits_of, node_ints, up_at, down_at};
+ghost use Rattle.edge_shape.specs.EdgeVars.{bend_at, LieBefore, EdgeIsPlaced, IsNode};
 ghost use Rattle.edge_shape.specs.Edge.{edge_clauses};
 ghost use Rattle.edge_shape.specs.ReadsLine.{ReadsLine, LineIsRead};
 
@@ -210,20 +211,24 @@ pub fn add_edge(
     ensures edge { IfOk result (λ e. e ≡ edge_spot (f.old.vars + 1) grid.now.height grid.now.width) }
     ensures adds { let g = grid.now in
         AddsBlock result f.old f.new (edge_size g.height g.width)
-        (edge_clauses (edge_lits (f.old.vars + 1) g.height g.width) (node_ints west.now.x west.now.y) (node_ints east.now.x east.now.y) g.least g.height g.width) 5 }
+        (edge_clauses (edge_lits (f.old.vars + 1) g.height g.width) (node_ints west.now.x west.now.y)
+        (node_ints east.now.x east.now.y) g.least g.height g.width) 5 }
     ensures words { words_of f.new.clauses ≤ words_of f.old.clauses + 2000 * ((grid.now.width + 1) * (grid.now.height + 1)) }
     ensures vars { f.new.vars ≤ f.old.vars + 100 * ((grid.now.width + 1) * (grid.now.height + 1)) }
     ensures models { let g = grid.now in let e = edge_lits (f.old.vars + 1) g.height g.width in
         (v : Assignment) (p q : PointValue) →
         Reads v west.now.x p.x → Reads v west.now.y p.y → Reads v east.now.x q.x → Reads v east.now.y q.y →
-        SatisfiesAll v (edge_clauses e (node_ints west.now.x west.now.y) (node_ints east.now.x east.now.y) g.least g.height g.width) →
+        SatisfiesAll v (edge_clauses e (node_ints west.now.x west.now.y) (node_ints east.now.x east.now.y) g.least g.height
+        g.width) →
         LineIsRead v e g.width g.height g.least p q }
     ensures lines { let g = grid.now in let e = edge_lits (f.old.vars + 1) g.height g.width in
         (v : Assignment) (p q : PointValue) (line : List PointValue) →
         Reads v west.now.x p.x → Reads v west.now.y p.y → Reads v east.now.x q.x → Reads v east.now.y q.y →
         JoinsPoints g.width g.height g.least p q line →
         Extends (f.old.vars + 1) (edge_size g.height g.width) v
-        (λ w. ReadsLine w e g.width line × SatisfiesAll w (edge_clauses e (node_ints west.now.x west.now.y) (node_ints east.now.x east.now.y) g.least g.height g.width)) }
+        (λ w. ReadsLine w e g.width line
+        × SatisfiesAll w (edge_clauses e (node_ints west.now.x west.now.y) (node_ints east.now.x east.now.y) g.least g.height
+        g.width)) }
 {
     make_edge(f, grid, west, east)
 }
@@ -241,7 +246,8 @@ fn make_edge(
     ensures edge { IfOk result (λ e. e ≡ edge_spot (f.old.vars + 1) grid.now.height grid.now.width) }
     ensures adds { let g = grid.now in
         AddsBlock result f.old f.new (edge_size g.height g.width)
-        (edge_clauses (edge_lits (f.old.vars + 1) g.height g.width) (node_ints west.now.x west.now.y) (node_ints east.now.x east.now.y) g.least g.height g.width) 5 }
+        (edge_clauses (edge_lits (f.old.vars + 1) g.height g.width) (node_ints west.now.x west.now.y)
+        (node_ints east.now.x east.now.y) g.least g.height g.width) 5 }
     ensures is_grid { IsGrid grid.now }
 {
     let high = u32::from(grid.height());

@@ -45,7 +45,7 @@ fn is_higher_at(g: &PortGraph, d: &Drawing, e: EdgeNo, f: EdgeNo, x: u16) -> boo
 }
 
 /// Whether `e` is the higher at each column that is compared.
-fn is_over(g: &PortGraph, d: &Drawing, e: EdgeNo, f: EdgeNo) -> bool
+pub fn is_over(g: &PortGraph, d: &Drawing, e: EdgeNo, f: EdgeNo) -> bool
     requires fitting { HasSizeOf g.now d.now }
     requires first { e.0 < length g.now.edges }
     requires second { f.0 < length g.now.edges }

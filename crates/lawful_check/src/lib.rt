@@ -17,5 +17,6 @@ mod line_laws;
 mod node_laws;
 
 pub use breaking::broken;
+pub use edge_laws::is_over;
 pub use law_break::{LawBreak, Party};
 pub use laws::{lawful_or_broken, one_least_break};

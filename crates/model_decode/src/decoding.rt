@@ -143,6 +143,7 @@ fn read_drawing(alloc: Global, e: &Encoded, m: &Truths) -> Result<Drawing, OutOf
     requires there { laws_first e.now.graph e.now.grid ≤ length m.now + 1 }
     ensures { IfOk result (λ b. (d : PlainDrawing) → IsReadAs e.now (assignment m.now) d → b ≡ d) }
 {
+    // what the types keep
     let _ = (e.graph().nodes(), e.graph().edges());
     let places = places_of(alloc, e, m)?;
     let lines = lines_of(alloc, e, m)?;
@@ -157,8 +158,11 @@ pub fn decode(alloc: Global, e: &Encoded, m: &Truths) -> Result<Drawing, OutOfMe
     ensures stands { IfOk result (λ d. StandsFor (assignment m.now) e.now.graph (encoded_vars e.now) d) }
     ensures lawful { IfOk result (λ d. Lawful e.now.graph (is_above e.now.order) e.now.grid d) }
     ensures tells { IfOk result (λ d. Tells (assignment m.now) (values_of d) e.now.bounds) }
-    ensures alone { IfOk result (λ d. (other : PlainDrawing) → Lawful e.now.graph (is_above e.now.order) e.now.grid other → StandsFor (assignment m.now) e.now.graph (encoded_vars e.now) other → other ≡ d) }
+    ensures alone { IfOk result
+        (λ d. (other : PlainDrawing) → Lawful e.now.graph (is_above e.now.order) e.now.grid other →
+        StandsFor (assignment m.now) e.now.graph (encoded_vars e.now) other → other ≡ d) }
 {
+    // what the types keep
     let _ = (e.graph().nodes(), e.grid().width(), e.formula().vars());
     read_drawing(alloc, e, m)
 }

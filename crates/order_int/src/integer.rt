@@ -88,7 +88,8 @@ pub fn new_int(f: &mut Formula, low: u32, high: u32) -> Result<OrderInt, CnfFaul
     ensures means { let i = int_vars low high (f.old.vars + 1) in
         (v : Assignment) → SatisfiesAll v (int_clauses i) → Reads v i (number v i) }
     ensures extends { let i = int_vars low high (f.old.vars + 1) in
-        (v : Assignment) (n : ℕ) → low ≤ n → n ≤ high → Extends i.first (size i) v (λ w. Reads w i n × SatisfiesAll w (int_clauses i)) }
+        (v : Assignment) (n : ℕ) → low ≤ n → n ≤ high →
+        Extends i.first (size i) v (λ w. Reads w i n × SatisfiesAll w (int_clauses i)) }
 {
     make_int(f, low, high)
 }

@@ -23,5 +23,6 @@ pub fn one_setting()
 
 /// Of an assignment only the integer's variables count.
 pub fn other_variables_are_free()
-    ensures { (v w : Assignment) (i : IntVars) (n : ℕ) → ((x : ℕ) → i.first ≤ x → x < i.first + size i → w x ≡ v x) → Reads v i n → Reads w i n }
+    ensures { (v w : Assignment) (i : IntVars) (n : ℕ) → ((x : ℕ) → i.first ≤ x → x < i.first + size i → w x ≡ v x) →
+        Reads v i n → Reads w i n }
 {}

@@ -89,7 +89,8 @@ pub fn equal(f: &mut Formula, a: &OrderInt, b: &OrderInt, unless: &[Lit]) -> Res
     requires b { IntIsThere f.old.vars b.now }
     requires unless { AreThere f.old.vars unless.now }
     ensures adds { AddsClauses result f.old f.new (equal_clauses a.now b.now unless.now) (length unless.now + 2) }
-    ensures size { words_of f.new.clauses ≤ words_of f.old.clauses + (length unless.now + 5) * (a.now.high - a.now.low + (b.now.high - b.now.low) + 4) }
+    ensures size { words_of f.new.clauses
+        ≤ words_of f.old.clauses + (length unless.now + 5) * (a.now.high - a.now.low + (b.now.high - b.now.low) + 4) }
     ensures means { (v : Assignment) (m n : ℕ) → Reads v a.now m → Reads v b.now n →
         (SatisfiesAll v (equal_clauses a.now b.now unless.now) ↔ (Satisfies v unless.now ⊎ (m ≡ n))) }
 {

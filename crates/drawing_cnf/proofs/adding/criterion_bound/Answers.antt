@@ -4,7 +4,8 @@ use Rattle.cnf_core.specs.declared.limits.TheConstants.{VARS}
 use Rattle.drawing_cnf.specs.Encoding.{Encoding, encoded_vars}
 use Rattle.drawing_cnf.proofs.BoundWords.{bound_words, bound_variables}
 use Rattle.drawing_cnf.proofs.BoundNames.{bound_named}
-use Rattle.drawing_cnf.proofs.CriterionLemmas.{whole_there, whole_after, sound_after, covers_after}
+use Rattle.drawing_cnf.proofs.BoundForced.{bound_forced}
+use Rattle.drawing_cnf.proofs.CriterionLemmas.{whole_there, there_after, whole_after, sound_after, covers_after}
 use Rattle.drawing_cnf.proofs.adding.criterion_bound.Goals as goal
 
 pub add_kept-outcome-requires-clause-there : goal.add_kept-outcome-requires-clause-there
@@ -15,6 +16,11 @@ returns-clause-clauses c = c.add_kept-outcome.ensures.adds.added
 
 pub returns-clause-vars : goal.returns-clause-vars
 returns-clause-vars c = c.add_kept-outcome.ensures.adds.made
+
+pub returns-clause-there : goal.returns-clause-there
+returns-clause-there c =
+    let e = c.args.e.now in
+    there_after c.add_kept-outcome.result e.graph (encoded_vars e) e.grid e.formula.vars c.add_kept-outcome.new.e.formula.vars c.args.cap c.args.c c.add_kept-outcome.ensures.adds.made
 
 pub returns-clause-kept : goal.returns-clause-kept
 returns-clause-kept c = c.add_kept-outcome.ensures.adds.room
@@ -38,6 +44,11 @@ returns-clause-named c = λ k from to.
     let size = subst (λ (d : GridSize). IsGrid d) (ap (λ (z : Encoding). z.grid) c.e.view_is) c.width.ensures.is_grid in
     let limit = subst (λ n. n ≤ VARS) (ap (λ (z : Encoding). z.formula.vars) c.e.view_is) c.vars.ensures.formula.vars_limit in
     bound_named e.graph e.grid e.formula.vars c.args.cap c.args.c k size (whole_there e c.requires.whole) limit c.requires.to from to
+
+pub returns-clause-forced : goal.returns-clause-forced
+returns-clause-forced c = λ k from to past.
+    let e = c.args.e.now in
+    bound_forced e.graph (encoded_vars e) e.grid e.formula.vars c.args.cap c.args.c k c.requires.to from to past
 
 pub returns-clause-whole : goal.returns-clause-whole
 returns-clause-whole c =

@@ -1,4 +1,4 @@
-use Rattle.std.proofs.Common.{◌≤◌, ◌<◌, ℕ, List, length, sym, subst, lit<, arith}
+use Rattle.std.proofs.Common.{◌≤◌, ℕ, List, length, sym, subst, lit<, arith}
 use Rattle.cnf_core.specs.Assignment.{SatisfiesAll}
 use Rattle.cnf_core.specs.Truths.{assignment}
 use Rattle.order_int.specs.IntVars.{IntVars, IntIsIn}

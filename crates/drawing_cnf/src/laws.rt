@@ -1,0 +1,69 @@
+// Laws of the definitions that compute: where nodes and edges stand, and bounds behind a formula. Each function does
+// nothing: its contract is the law.
+ghost use Rattle.std.specs.Prelude.{◌≡◌, ◌≤◌, ◌<◌, ℕ, Bool, List, [], ◌∷◌, ◌++◌, length, All, AllPairs, Contains};
+ghost use Rattle.plan_core.specs.declared.criterion.Criterion.{Criterion};
+ghost use Rattle.plan_core.specs.Grid.{GridSize};
+ghost use Rattle.plan_core.specs.Graph.{Graph};
+ghost use Rattle.cnf_core.specs.Clause.{words_of};
+ghost use Rattle.track_order.specs.Order.{is_above, is_overlap};
+ghost use Rattle.drawing_cnf.specs.Rank.{LiesBefore, west_rank};
+ghost use Rattle.drawing_cnf.specs.Bounds.{west_first, BeginsBefore};
+ghost use Rattle.drawing_cnf.specs.Expected.{formula_clauses, formula_size};
+ghost use Rattle.drawing_cnf.specs.Bounded.{bound, expected_bounds, expected};
+ghost use Rattle.drawing_cnf.specs.Encoding.{Encoding};
+ghost use Rattle.drawing_cnf.specs.Whole.{expected_last, IsWhole};
+
+/// Each node has a place of its own in the row, and the nodes lie there from west to east.
+pub fn nodes_lie_from_west_to_east()
+    ensures within { (g : Graph) (n : ℕ) → n < length g.nodes → west_rank g n < length g.nodes }
+    ensures once { (g : Graph) (u v : ℕ) → u < length g.nodes → v < length g.nodes → west_rank g u ≡ west_rank g v → u ≡ v }
+    ensures rising { (g : Graph) (u v : ℕ) → u < length g.nodes → LiesBefore g u v → west_rank g u < west_rank g v }
+{}
+
+/// The edges' list has each edge, once, and they begin there from west to east.
+pub fn edges_begin_from_west_to_east()
+    ensures there { (g : Graph) → All (λ e. e < length g.edges) (west_first g) }
+    ensures each { (g : Graph) (e : ℕ) → e < length g.edges → Contains (west_first g) e }
+    ensures once { (g : Graph) → length (west_first g) ≡ length g.edges }
+    ensures rising { (g : Graph) → AllPairs (BeginsBefore g) (west_first g) }
+{}
+
+/// With one criterion more, there is a bound more right behind the last variable; none, where its cap is 0. So the
+/// calls of `criterion_bound` for the criteria of an order, one after another, make the bounds of the order.
+pub fn one_criterion_more()
+    ensures added { (g : Graph) (above overlap : ℕ → ℕ → Bool) (grid : GridSize) (order : List Criterion) (caps : Criterion → ℕ)
+        (c : Criterion) → 0 < caps c →
+        expected_bounds g above overlap grid (order ++ c ∷ []) caps
+        ≡ expected_bounds g above overlap grid order caps
+        ++ bound c (expected_last g above overlap grid order caps) (caps c) ∷ [] }
+    ensures skipped { (g : Graph) (above overlap : ℕ → ℕ → Bool) (grid : GridSize) (order : List Criterion) (caps : Criterion → ℕ)
+        (c : Criterion) → caps c ≡ 0 →
+        expected_bounds g above overlap grid (order ++ c ∷ []) caps ≡ expected_bounds g above overlap grid order caps }
+{}
+
+/// A whole formula with the bounds of an order has just the clauses and variables that there are for the order.
+pub fn whole_is_expected()
+    ensures clauses { (e : Encoding) (order : List Criterion) (caps : Criterion → ℕ) → IsWhole e →
+        e.bounds ≡ expected_bounds e.graph (is_above e.order) (is_overlap e.order) e.grid order caps →
+        e.formula.clauses ≡ expected e.graph (is_above e.order) (is_overlap e.order) e.grid order caps }
+    ensures vars { (e : Encoding) (order : List Criterion) (caps : Criterion → ℕ) → IsWhole e →
+        e.bounds ≡ expected_bounds e.graph (is_above e.order) (is_overlap e.order) e.grid order caps →
+        e.formula.vars ≡ expected_last e.graph (is_above e.order) (is_overlap e.order) e.grid order caps }
+{}
+
+/// The drawing's clauses with the bounds of an order's front have no more words and no more variables than with the
+/// bounds of the whole order. So where those so far are more than there may be, those of the whole are.
+pub fn no_more_in_front()
+    ensures words { (g : Graph) (above overlap : ℕ → ℕ → Bool) (grid : GridSize) (front rest : List Criterion)
+        (caps : Criterion → ℕ) →
+        words_of (expected g above overlap grid front caps) ≤ words_of (expected g above overlap grid (front ++ rest) caps) }
+    ensures vars { (g : Graph) (above overlap : ℕ → ℕ → Bool) (grid : GridSize) (front rest : List Criterion)
+        (caps : Criterion → ℕ) →
+        expected_last g above overlap grid front caps ≤ expected_last g above overlap grid (front ++ rest) caps }
+    ensures drawing_words { (g : Graph) (above overlap : ℕ → ℕ → Bool) (grid : GridSize) (order : List Criterion)
+        (caps : Criterion → ℕ) →
+        words_of (formula_clauses g above overlap grid) ≤ words_of (expected g above overlap grid order caps) }
+    ensures drawing_size { (g : Graph) (above overlap : ℕ → ℕ → Bool) (grid : GridSize) (order : List Criterion)
+        (caps : Criterion → ℕ) →
+        formula_size g above overlap grid ≤ expected_last g above overlap grid order caps }
+{}
