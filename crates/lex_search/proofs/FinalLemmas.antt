@@ -15,8 +15,7 @@ use Rattle.refute_log.specs.Told.{Lines}
 use Rattle.refute_log.specs.Log.{Derives}
 use Rattle.certified_values.specs.Bounds.{SaysAtLeast, MeetsLog, CoversDrawings}
 use Rattle.certified_values.specs.Certified.{Certifies, IsOutOfReach, RefutesLess, IsSettled, Settled}
-use Rattle.certified_values.proofs.CertifiedLemmas.{certifies_fewer, least_at}
-use Rattle.lex_search.proofs.ReachLemmas.{refuted_holds, reached}
+use Rattle.certified_values.proofs.CertifiedLemmas.{refuted_holds, reached, certifies_fewer, least_at}
 use Rattle.lex_search.specs.declared.oracle.Below.{Below}
 use Rattle.refute_log.specs.Log.{learnt, Open}
 use Rattle.certified_values.specs.Expected.{caps}

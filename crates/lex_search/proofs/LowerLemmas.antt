@@ -14,8 +14,7 @@ use Rattle.refute_log.specs.Told.{Lines}
 use Rattle.refute_log.specs.Log.{Derives}
 use Rattle.certified_values.specs.Bounds.{SaysAtLeast, CoversDrawings}
 use Rattle.certified_values.specs.Certified.{Certifies, IsOutOfReach, IsCertifiedLeast}
-use Rattle.certified_values.proofs.CertifiedLemmas.{none_better, certifies_more, certifies_same, certifies_next}
-use Rattle.lex_search.proofs.ReachLemmas.{out_of_reach_more, out_of_reach_same}
+use Rattle.certified_values.proofs.CertifiedLemmas.{none_better, certifies_more, certifies_same, certifies_next, out_of_reach_more, out_of_reach_same}
 use Rattle.lex_search.specs.declared.oracle.Below.{Below}
 use Rattle.lex_search.specs.Task.{Task, IsLawful, greatest_of}
 use Rattle.lex_search.specs.Asked.{below_limit, AreMet, IsAsked, AreAgainst}

@@ -1,6 +1,6 @@
 -- The outcomes.
 use Rattle.std.proofs.Common.{◌≡◌, ℕ, ◌+◌, ◌<◌, ◌≤◌, ◌⊎◌, List, [], ◌∷◌, ◌++◌, length, map, get_or, refl, sym, ◌∙◌, ap, subst, inl, inr, arith, append-nil, append_assoc}
-use Rattle.std.specs.Prelude.{All, Contains, Some, None, Option, slice_get}
+use Rattle.std.specs.Prelude.{All, Contains, Some, None, Option, slice_get, flat_map}
 use Rattle.std.proofs.Math.Seq.{take-length}
 use Rattle.std.proofs.lemmas.Option.{slice_get-get_or}
 use Rattle.std.proofs.lemmas.List.Elements.{All-nil, All-cons, All-map, All-append, All-contains, Contains-append_cases}
@@ -10,16 +10,18 @@ use Rattle.plan_core.specs.Values.{values_of, value_of, Better}
 use Rattle.plan_core.specs.Drawing.{Drawing}
 use Rattle.plan_core.specs.Order.{IsOrder}
 use Rattle.cnf_core.specs.Lit.{Literal}
-use Rattle.cnf_core.specs.Clause.{Clauses}
+use Rattle.cnf_core.specs.declared.limits.TheConstants.{VARS}
+use Rattle.cnf_core.specs.Clause.{words_of}
 use Rattle.refute_log.specs.declared.line.LogLine.{LogLine}
 use Rattle.refute_log.specs.declared.line.LogLine.TheVariants.{Formula, Learnt, Query, Refuted, Model}
+use Rattle.refute_log.specs.Lines.{MayAllBeTold}
 use Rattle.refute_log.specs.Told.{Lines}
-use Rattle.refute_log.specs.Log.{Derives, Due}
+use Rattle.refute_log.specs.Log.{added, learnt, Derives, Due}
 use Rattle.certified_values.specs.Bounds.{CoversDrawings}
 use Rattle.certified_values.specs.Certified.{Certifies, CertifiesNone}
-use Rattle.certified_values.specs.Expected.{clause_lines, caps, expected_lines, IsAllExpected}
+use Rattle.certified_values.specs.Expected.{clause_lines, caps, expected_lines, expected_vars, IsAllExpected}
 use Rattle.certified_values.proofs.CertifiedLemmas.{none_better, none_meets, certifies_nothing}
-use Rattle.certified_values.proofs.ExpectedLemmas.{expected_none, expected_vars_none, expected_same}
+use Rattle.certified_values.proofs.ExpectedLemmas.{expected_none, expected_vars_none, expected_same, expected_vars_same}
 use Rattle.lex_search.specs.declared.oracle.Below.{Below}
 use Rattle.lex_search.specs.declared.oracle.Stop.{Stop}
 use Rattle.lex_search.specs.declared.oracle.Reply.{Reply}
@@ -37,20 +39,33 @@ use Rattle.lex_search.proofs.BuildLemmas.{formulas_are_clauses}
 use Rattle.lex_search.proofs.FinalLemmas.{settled_here, not_whole, meets_query}
 
 -- what the lines that are known to an oracle have
-pub record Known (p : Task) (cap : Criterion → ℕ) (lines : Lines) : Type 0 where
+pub record Known (p : Task) (order : List Criterion) (cap : Criterion → ℕ) (lines : Lines) : Type 0 where
   pub covers : CoversDrawings p.graph p.above p.grid lines
+  pub formed : MayAllBeTold lines
   pub derives : Derives lines
   pub due : Due lines
   pub apart : AreApart lines
+  pub fits : words_of (flat_map added lines) ≤ p.room
+  pub within : length (flat_map learnt lines) ≤ p.budget
+  pub few : expected_vars p.encoding order cap ≤ VARS
   pub counted : (c : Criterion) → caps (greatest_of p) lines c ≡ cap c
 
-whole_from : (p : Task) (order : List Criterion) (cap : Criterion → ℕ) (lines : Lines) → Known p cap lines → clause_lines lines ≡ expected_lines p.encoding order cap → IsAllExpected p.encoding (greatest_of p) order lines
+whole_from : (p : Task) (order : List Criterion) (cap : Criterion → ℕ) (lines : Lines) → Known p order cap lines → clause_lines lines ≡ expected_lines p.encoding order cap → IsAllExpected p.encoding (greatest_of p) order lines
 whole_from p order cap lines k told = told ∙ sym (expected_same p.encoding order (caps (greatest_of p) lines) cap k.counted)
 
-searched : (p : Task) (order : List Criterion) (cap : Criterion → ℕ) (lines : Lines) → Known p cap lines → IsAllExpected p.encoding (greatest_of p) order lines → IsSearched p order lines
-searched p order cap lines k whole = record { derives = k.derives; due = k.due; covers = k.covers; front = ([], sym whole ∙ sym (append-nil (clause_lines lines))) }
+searched : (p : Task) (order : List Criterion) (cap : Criterion → ℕ) (lines : Lines) → Known p order cap lines → IsAllExpected p.encoding (greatest_of p) order lines → IsSearched p order lines
+searched p order cap lines k whole = record {
+  formed = k.formed;
+  derives = k.derives;
+  due = k.due;
+  covers = k.covers;
+  front = ([], sym whole ∙ sym (append-nil (clause_lines lines)));
+  fits = k.fits;
+  within = k.within;
+  few = λ some. let same = expected_vars_same p.encoding order (caps (greatest_of p) lines) cap k.counted in omega (arith, same, k.few);
+}
 
-pub best_end : (p : Task) (order : List Criterion) (n : ℕ) (held : List Below) (d : Drawing) (cap : Criterion → ℕ) (lines : Lines) → Known p cap lines → n ≡ length order → SearchState p order n held d cap lines → IsBestEnd p order d lines
+pub best_end : (p : Task) (order : List Criterion) (n : ℕ) (held : List Below) (d : Drawing) (cap : Criterion → ℕ) (lines : Lines) → Known p order cap lines → n ≡ length order → SearchState p order n held d cap lines → IsBestEnd p order d lines
 best_end p order n held d cap lines k is s =
     let cert : Certifies (greatest_of p) lines order (values_of d) (length order) = subst (Certifies (greatest_of p) lines order (values_of d)) is s.reached.certified in
     record {
@@ -62,7 +77,7 @@ best_end p order n held d cap lines k is s =
       certified = cert;
     }
 
-pub unfinished_end : (p : Task) (order : List Criterion) (s : ℕ) (stop : Stop) (d : Drawing) (cap : Criterion → ℕ) (lines : Lines) → IsOrder order → Known p cap lines → StoppedAt p order s stop d lines → IsUnfinishedEnd p order s stop d lines
+pub unfinished_end : (p : Task) (order : List Criterion) (s : ℕ) (stop : Stop) (d : Drawing) (cap : Criterion → ℕ) (lines : Lines) → IsOrder order → Known p order cap lines → StoppedAt p order s stop d lines → IsUnfinishedEnd p order s stop d lines
 unfinished_end p order s stop d cap lines is k e =
     let c : Criterion = get_or order s Height in
     let at : slice_get order s ≡ Some c = slice_get-get_or order s Height e.within in
@@ -87,6 +102,10 @@ zero_counted p order cap vars f = record {
   unbuilt = λ k c le at. f.none c;
   vars_are = f.vars_are ∙ sym (expected_vars_none p.encoding order cap (λ k d lt. f.none (get_or order k d)));
 }
+
+-- with the same caps and as many variables
+pub fresh_still : (p : Task) (cap now : Criterion → ℕ) (vars many : ℕ) → now ≡ cap → many ≡ vars → IsFresh p cap vars → IsFresh p now many
+fresh_still p cap now vars many same is f = record { none = λ c. ap (λ (h : Criterion → ℕ). h c) same ∙ f.none c; vars_are = is ∙ f.vars_are }
 
 only_formulas : (p : Task) (line : LogLine) → ((c : List Literal) → Formula c ≡ line → ⊥) → Contains (first_lines p) line → ⊥
 only_formulas p line differs there = All-contains (λ (l : LogLine). l ≡ line → ⊥) (first_lines p) line (All-map (λ (l : LogLine). l ≡ line → ⊥) Formula p.encoding.clauses (λ k d lt. differs (get_or p.encoding.clauses k d))) there refl
@@ -115,7 +134,7 @@ no_literal : (p : Task) (lines : Lines) (clause : List Literal) → AreAgainst (
 no_literal p lines [] h = refl
 no_literal p lines (l ∷ ls) h = absurd (let any = h 0 l (omega arith) in let lt = any.2 in omega arith)
 
-pub none_end : (p : Task) (order : List Criterion) (cap : Criterion → ℕ) (clause : List Literal) (more : Lines) → ((c : Criterion) → cap c ≡ 0) → Known p cap (first_lines p ++ more) → AreAgainst (greatest_of p) (first_lines p) [] clause → IsAsked (first_lines p) [] (Refuted clause ∷ []) more →
+pub none_end : (p : Task) (order : List Criterion) (cap : Criterion → ℕ) (clause : List Literal) (more : Lines) → ((c : Criterion) → cap c ≡ 0) → Known p order cap (first_lines p ++ more) → AreAgainst (greatest_of p) (first_lines p) [] clause → IsAsked (first_lines p) [] (Refuted clause ∷ []) more →
     IsNoneEnd p order (first_lines p ++ more)
 none_end p order cap clause more z k against asked =
     let lines = first_lines p ++ more in
@@ -141,7 +160,7 @@ no_model_in p more asked there = elim (Contains-append_cases (first_lines p) mor
       All-contains P more Model (subst (All P) (sym asked.is) all) h refl
 ]
 
-pub unfound_end : (p : Task) (order : List Criterion) (stop : Stop) (cap : Criterion → ℕ) (more : Lines) → ((c : Criterion) → cap c ≡ 0) → Known p cap (first_lines p ++ more) → IsAsked (first_lines p) [] [] more → IsCause p stop (first_lines p ++ more) →
+pub unfound_end : (p : Task) (order : List Criterion) (stop : Stop) (cap : Criterion → ℕ) (more : Lines) → ((c : Criterion) → cap c ≡ 0) → Known p order cap (first_lines p ++ more) → IsAsked (first_lines p) [] [] more → IsCause p stop (first_lines p ++ more) →
     IsUnfoundEnd p order 0 stop (first_lines p ++ more)
 unfound_end p order stop cap more z k asked cause =
     let lines = first_lines p ++ more in
@@ -163,8 +182,8 @@ outcome_stopped p order o RoomFull best settled lines is e = subst (λ (x : Outc
 -- ---- calls
 
 -- the laws of an oracle's lines, by the task at the beginning
-pub record Laws {S : Type 0} (knows : S → Lines → Type 0) (s : S) (p : Task) (cap : Criterion → ℕ) : Type 0 where
-  pub known : (lines : Lines) → knows s lines → Known p cap lines
+pub record Laws {S : Type 0} (knows : S → Lines → Type 0) (s : S) (p : Task) (order : List Criterion) (cap : Criterion → ℕ) : Type 0 where
+  pub known : (lines : Lines) → knows s lines → Known p order cap lines
 
 pub state_none : {S : Type 0} (knows log : S → Lines → Type 0) (count : S → ℕ) (s : S) (p : Task) (order : List Criterion) (d : Drawing) (cap : Criterion → ℕ) (held : List Below) → held ≡ [] →
     Continues knows log count s s (λ lines more. SearchState p order 0 [] d cap lines → SearchState p order 0 held d cap (lines ++ more))
@@ -181,14 +200,14 @@ state_then knows log count a b e q p order i held then first d next f h k stop s
     before (subst (λ (x : Task). Continues knows log count b e (λ lines more. SearchState x order i held d h lines → Advances x order i then stop s next k (lines ++ more))) same step)
     (λ lines xs ys ka kb ke one two start. subst (Advances p order i then stop s next k) (append_assoc lines xs ys) (two (one start)))
 
-pub ends_best : {S : Type 0} (knows log : S → Lines → Type 0) (count : S → ℕ) (a b : S) (p : Task) (order : List Criterion) (n : ℕ) (held : List Below) (first d : Drawing) (f h : Criterion → ℕ) → Laws knows b p h → n ≡ length order →
+pub ends_best : {S : Type 0} (knows log : S → Lines → Type 0) (count : S → ℕ) (a b : S) (p : Task) (order : List Criterion) (n : ℕ) (held : List Below) (first d : Drawing) (f h : Criterion → ℕ) → Laws knows b p order h → n ≡ length order →
     Continues knows log count a b (λ lines more. SearchState p order 0 [] first f lines → SearchState p order n held d h (lines ++ more)) →
     Continues knows log count a b (λ lines more. SearchState p order 0 [] first f lines → IsBestEnd p order d (lines ++ more))
 ends_best knows log count a b p order n held first d f h laws is run =
     becomes knows log count a b (λ lines more. SearchState p order 0 [] first f lines → SearchState p order n held d h (lines ++ more)) (λ lines more. SearchState p order 0 [] first f lines → IsBestEnd p order d (lines ++ more)) run
     (λ lines xs ka kb so_far start. best_end p order n held d h (lines ++ xs) (laws.known (lines ++ xs) kb) is (so_far start))
 
-pub ends_unfinished : {S : Type 0} (knows log : S → Lines → Type 0) (count : S → ℕ) (a b : S) (p : Task) (order : List Criterion) (i : ℕ) (held : List Below) (first d : Drawing) (f h : Criterion → ℕ) (stop : Option Stop) (why : Stop) (s : ℕ) (o : Outcome) → IsOrder order → Laws knows b p h → stop ≡ Some why →
+pub ends_unfinished : {S : Type 0} (knows log : S → Lines → Type 0) (count : S → ℕ) (a b : S) (p : Task) (order : List Criterion) (i : ℕ) (held : List Below) (first d : Drawing) (f h : Criterion → ℕ) (stop : Option Stop) (why : Stop) (s : ℕ) (o : Outcome) → IsOrder order → Laws knows b p order h → stop ≡ Some why →
     o ≡ stopped_with why (Some d) s →
     Continues knows log count a b (λ lines more. SearchState p order 0 [] first f lines → Advances p order i held stop s d h (lines ++ more)) →
     Continues knows log count a b (λ lines more. SearchState p order 0 [] first f lines → IsOutcome p order o (lines ++ more))
@@ -198,15 +217,20 @@ ends_unfinished knows log count a b p order i held first d f h stop why s o is l
     let end : StoppedAt p order s why d (lines ++ xs) = subst (λ (x : Option Stop). Advances p order i held x s d h (lines ++ xs)) stopped (so_far start) in
     outcome_stopped p order o why (Some d) s (lines ++ xs) outcome (unfinished_end p order s why d h (lines ++ xs) is (laws.known (lines ++ xs) kb) end))
 
-pub laws_at : {S : Type 0} (knows : S → Lines → Type 0) (s : S) (q p : Task) (cap : Criterion → ℕ) → q ≡ p →
-    ((lines : Lines) → knows s lines → CoversDrawings q.graph q.above q.grid lines) → ((lines : Lines) → knows s lines → Derives lines) → ((lines : Lines) → knows s lines → Due lines) → ((lines : Lines) → knows s lines → AreApart lines) →
-    ((lines : Lines) (c : Criterion) → knows s lines → caps (greatest_of q) lines c ≡ cap c) → Laws knows s p cap
-laws_at knows s q p cap same covers derives due apart counted = record {
+pub laws_at : {S : Type 0} (knows : S → Lines → Type 0) (s : S) (q p : Task) (order : List Criterion) (cap : Criterion → ℕ) (vars : ℕ) → q ≡ p → vars ≡ expected_vars p.encoding order cap →
+    ((lines : Lines) → knows s lines → CoversDrawings q.graph q.above q.grid lines) → ((lines : Lines) → knows s lines → MayAllBeTold lines) → ((lines : Lines) → knows s lines → Derives lines) → ((lines : Lines) → knows s lines → Due lines) → ((lines : Lines) → knows s lines → AreApart lines) →
+    ((lines : Lines) → knows s lines → words_of (flat_map added lines) ≤ q.room) → ((lines : Lines) → knows s lines → length (flat_map learnt lines) ≤ q.budget) → ((lines : Lines) → knows s lines → vars ≤ VARS) →
+    ((lines : Lines) (c : Criterion) → knows s lines → caps (greatest_of q) lines c ≡ cap c) → Laws knows s p order cap
+laws_at knows s q p order cap vars same is covers formed derives due apart fits within few counted = record {
   known = λ lines k. record {
     covers = subst (λ (x : Task). CoversDrawings x.graph x.above x.grid lines) same (covers lines k);
+    formed = formed lines k;
     derives = derives lines k;
     due = due lines k;
     apart = apart lines k;
+    fits = subst (λ (x : Task). words_of (flat_map added lines) ≤ x.room) same (fits lines k);
+    within = subst (λ (x : Task). length (flat_map learnt lines) ≤ x.budget) same (within lines k);
+    few = subst (λ n. n ≤ VARS) is (few lines k);
     counted = λ c. subst (λ (x : Task). caps (greatest_of x) lines c ≡ cap c) same (counted lines c k);
   };
 }
@@ -225,23 +249,23 @@ first_found knows log count a b e q p order d reply bounds o f same z none was f
     let state : SearchState p order 0 [] d f (lines ++ xs) = subst (λ (ls : Lines). SearchState p order 0 [] d f (ls ++ xs)) (sym start) (first_state p order d f xs z got.0 question) in
     subst (IsOutcome p order o) (append_assoc lines xs ys) (then state))
 
-pub first_refuted : {S : Type 0} (knows log : S → Lines → Type 0) (count : S → ℕ) (a b : S) (p : Task) (order : List Criterion) (reply : Reply) (bounds : List Below) (f : Criterion → ℕ) → ((c : Criterion) → f c ≡ 0) → Laws knows b p f → bounds ≡ [] → reply ≡ Refuted_ →
+pub first_refuted : {S : Type 0} (knows log : S → Lines → Type 0) (count : S → ℕ) (a b : S) (p : Task) (order : List Criterion) (reply : Reply) (bounds : List Below) (f : Criterion → ℕ) → ((c : Criterion) → f c ≡ 0) → Laws knows b p order f → bounds ≡ [] → reply ≡ Refuted_ →
     Continues knows log count a b (λ lines more. IsReply p lines bounds reply more) → Continues knows log count a b (λ lines more. lines ≡ first_lines p → IsNoneEnd p order (lines ++ more))
 first_refuted knows log count a b p order reply bounds f z laws none was asked =
     becomes knows log count a b (λ lines more. IsReply p lines bounds reply more) (λ lines more. lines ≡ first_lines p → IsNoneEnd p order (lines ++ more)) asked
     (λ lines xs ka kb answer start.
     let got : IsReply p (first_lines p) [] Refuted_ xs = subst (λ (ls : Lines). IsReply p ls [] Refuted_ xs) start (subst (λ (bs : List Below). IsReply p lines bs Refuted_ xs) none (subst (λ r. IsReply p lines bounds r xs) was answer)) in
-    let known : Known p f (first_lines p ++ xs) = subst (λ (ls : Lines). Known p f (ls ++ xs)) start (laws.known (lines ++ xs) kb) in
+    let known : Known p order f (first_lines p ++ xs) = subst (λ (ls : Lines). Known p order f (ls ++ xs)) start (laws.known (lines ++ xs) kb) in
     subst (λ (ls : Lines). IsNoneEnd p order (ls ++ xs)) (sym start) (none_end p order f got.0 xs z known got.1 got.2))
 
-pub first_stopped : {S : Type 0} (knows log : S → Lines → Type 0) (count : S → ℕ) (a b : S) (p : Task) (order : List Criterion) (stop : Stop) (reply : Reply) (bounds : List Below) (o : Outcome) (f : Criterion → ℕ) → ((c : Criterion) → f c ≡ 0) → Laws knows b p f → bounds ≡ [] → reply ≡ Stopped_ stop →
+pub first_stopped : {S : Type 0} (knows log : S → Lines → Type 0) (count : S → ℕ) (a b : S) (p : Task) (order : List Criterion) (stop : Stop) (reply : Reply) (bounds : List Below) (o : Outcome) (f : Criterion → ℕ) → ((c : Criterion) → f c ≡ 0) → Laws knows b p order f → bounds ≡ [] → reply ≡ Stopped_ stop →
     o ≡ stopped_with stop None 0 →
     Continues knows log count a b (λ lines more. IsReply p lines bounds reply more) → Continues knows log count a b (λ lines more. lines ≡ first_lines p → IsOutcome p order o (lines ++ more))
 first_stopped knows log count a b p order stop reply bounds o f z laws none was outcome asked =
     becomes knows log count a b (λ lines more. IsReply p lines bounds reply more) (λ lines more. lines ≡ first_lines p → IsOutcome p order o (lines ++ more)) asked
     (λ lines xs ka kb answer start.
     let got : IsReply p (first_lines p) [] (Stopped_ stop) xs = subst (λ (ls : Lines). IsReply p ls [] (Stopped_ stop) xs) start (subst (λ (bs : List Below). IsReply p lines bs (Stopped_ stop) xs) none (subst (λ r. IsReply p lines bounds r xs) was answer)) in
-    let known : Known p f (first_lines p ++ xs) = subst (λ (ls : Lines). Known p f (ls ++ xs)) start (laws.known (lines ++ xs) kb) in
+    let known : Known p order f (first_lines p ++ xs) = subst (λ (ls : Lines). Known p order f (ls ++ xs)) start (laws.known (lines ++ xs) kb) in
     subst (λ (ls : Lines). IsOutcome p order o (ls ++ xs)) (sym start) (outcome_stopped p order o stop None 0 (first_lines p ++ xs) outcome (unfound_end p order stop f xs z known got.0 got.1)))
 
 -- ---- what every outcome says of drawings

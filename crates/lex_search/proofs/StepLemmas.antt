@@ -25,11 +25,11 @@ rose_later a b c le rose = grind (arith, le, rose)
 pub rose_still : (a b c : ℕ) → Rose a b → b ≤ c → Rose a c
 rose_still a b c rose le = grind (arith, le, rose)
 
-rose_both : (m n k : ℕ) → rose_by n (rose_by m k) ≡ rose_by (m + n) k
+pub rose_both : (m n k : ℕ) → rose_by n (rose_by m k) ≡ rose_by (m + n) k
 rose_both m zero k = ap (λ a. rose_by a k) (let e : m ≡ m + 0 = omega arith in e)
 rose_both m (suc n) k = ap next_count (rose_both m n k) ∙ ap (λ a. rose_by a k) (let e : suc (m + n) ≡ m + suc n = omega arith in e)
 
-count_more : (xs ys : Lines) → length (flat_map learnt (xs ++ ys)) ≡ length (flat_map learnt xs) + length (flat_map learnt ys)
+pub count_more : (xs ys : Lines) → length (flat_map learnt (xs ++ ys)) ≡ length (flat_map learnt xs) + length (flat_map learnt ys)
 count_more xs ys = ap length (flat_map-append learnt xs ys) ∙ length-append (flat_map learnt xs) (flat_map learnt ys)
 
 -- ---- calls

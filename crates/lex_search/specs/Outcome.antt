@@ -1,15 +1,18 @@
 -- The outcome of a search, and what its lines are then.
-use Rattle.std.specs.Prelude.{◌≡◌, ◌⊎◌, ℕ, List, [], Contains, map, take, length, Option, None, Some}
+use Rattle.std.specs.Prelude.{◌≡◌, ◌≢◌, ◌≤◌, ◌⊎◌, ℕ, List, [], Contains, map, flat_map, take, length, Option, None, Some}
 use Rattle.plan_core.specs.declared.criterion.Values.{Values}
 use Rattle.plan_core.specs.declared.criterion.Criterion.{Criterion}
 use Rattle.plan_core.specs.Values.{values_of, Better, IsBest}
 use Rattle.plan_core.specs.Drawing.{Drawing}
+use Rattle.cnf_core.specs.declared.limits.TheConstants.{VARS}
+use Rattle.cnf_core.specs.Clause.{words_of}
 use Rattle.refute_log.specs.declared.line.LogLine.TheVariants.{Formula, Model}
+use Rattle.refute_log.specs.Lines.{MayAllBeTold}
 use Rattle.refute_log.specs.Told.{Lines}
-use Rattle.refute_log.specs.Log.{Derives, Due}
+use Rattle.refute_log.specs.Log.{added, learnt, Derives, Due}
 use Rattle.certified_values.specs.Bounds.{CoversDrawings}
 use Rattle.certified_values.specs.Certified.{Certifies, CertifiesNone, IsSettled}
-use Rattle.certified_values.specs.Expected.{clause_lines, caps, IsExpected, IsAllExpected}
+use Rattle.certified_values.specs.Expected.{clause_lines, caps, expected_vars, IsExpected, IsAllExpected}
 use Rattle.certified_values.specs.Full.{CapsPass, NextSumPasses}
 use Rattle.lex_search.specs.declared.oracle.Stop.{Stop}
 use Rattle.lex_search.specs.declared.oracle.Stop.TheVariants.{BudgetSpent, RoomFull}
@@ -18,15 +21,21 @@ use Rattle.lex_search.specs.declared.outcome.Outcome.TheVariants.{Best, NoDrawin
 use Rattle.lex_search.specs.Task.{Task, IsLawful, greatest_of}
 use Rattle.lex_search.specs.Asked.{IsCause, MeetsQuery}
 
--- what the lines of every search are: they derive, each Learnt line is due, they cover the lawful drawings, and their
--- Formula and Bound lines begin what is expected_lines for their caps
+-- what the lines of every search are: they may be told and derive, each Learnt line is due, they cover the lawful
+-- drawings, their Formula and Bound lines begin what is expected for their caps, their clauses have room, there are no
+-- more Learnt lines than the budget allows, and what is expected has no more variables than there may be, where there is
+-- such a line
 pub record IsSearched (p : Task) (order : List Criterion) (lines : Lines) : Type 0 where
+  pub formed : MayAllBeTold lines
   pub derives : Derives lines
   pub due : Due lines
   pub covers : CoversDrawings p.graph p.above p.grid lines
   pub front : IsExpected p.encoding (greatest_of p) order lines
+  pub fits : words_of (flat_map added lines) ≤ p.room
+  pub within : length (flat_map learnt lines) ≤ p.budget
+  pub few : clause_lines lines ≢ [] → expected_vars p.encoding order (caps (greatest_of p) lines) ≤ VARS
 
--- the Formula and Bound lines are the whole of what is expected_lines, and the drawing's values are certified on the whole
+-- the Formula and Bound lines are the whole of what is expected, and the drawing's values are certified on the whole
 -- order
 pub record IsBestEnd (p : Task) (order : List Criterion) (d : Drawing) (lines : Lines) : Type 0 where
   pub searched : IsSearched p order lines

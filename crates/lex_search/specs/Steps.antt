@@ -1,12 +1,8 @@
 -- Lines that a call tells: one list for every log, also for one that keeps none.
 use Rattle.std.specs.Prelude.{◌≡◌, ℕ, ◌++◌, length, flat_map}
 use Rattle.outside_io.specs.Counts.{rose_by}
-use Rattle.refute_log.specs.Told.{Lines}
+use Rattle.refute_log.specs.Told.{Lines, AddsAll}
 use Rattle.refute_log.specs.Log.{learnt}
-
--- whatever list was told, is told with these lines at its end
-abbrev pub AddsAll : (Lines → Type 0) → (Lines → Type 0) → Lines → Type 0
-AddsAll old new more = (lines : Lines) → old lines → new (lines ++ more)
 
 -- so many lines were told behind these: what was known is known with them, the log was told them and counted the
 -- Learnt ones, and R holds of them

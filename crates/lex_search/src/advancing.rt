@@ -4,6 +4,7 @@ ghost use Rattle.outside_io.specs.Counts.{Rose};
 ghost use Rattle.plan_core.specs.declared.criterion.Criterion.{Criterion as Measure};
 ghost use Rattle.plan_core.specs.Values.{values_of, value_of};
 ghost use Rattle.plan_core.specs.Order.{IsOrder};
+ghost use Rattle.certified_values.specs.Expected.{expected_vars};
 ghost use Rattle.lex_search.specs.Task.{IsLawful};
 ghost use Rattle.lex_search.specs.Asked.{HasBound};
 ghost use Rattle.lex_search.specs.Steps.{Continues};
@@ -86,6 +87,7 @@ fn bounded<O: Oracle>(
         Counted (O.task oracle.old) order.now (i + 1) (O.caps oracle.new) (O.vars oracle.new)) }
     ensures held { IfOk result (λ r. r.stop ≡ None → All (HasBound (O.caps oracle.new)) held.now) }
     ensures capped { IfOk result (λ r. r.stop ≡ None → (c : Measure) → slice_get order.now i ≡ Some c → O.caps oracle.new c ≡ cap) }
+    ensures vars { OnOk result (O.vars oracle.new ≡ expected_vars (O.task oracle.old).encoding order.now (O.caps oracle.new)) }
     ensures settled { IfOk result (λ r. r.settled ≤ length order.now) }
     ensures lines { IfOk result (λ r. Continues O.knows O.log O.learnt oracle.old oracle.new (λ lines more.
         SearchState (O.task oracle.old) order.now i held.now best (O.caps oracle.old) lines →
@@ -136,6 +138,7 @@ pub(crate) fn advance<O: Oracle>(
         Counted (O.task oracle.old) order.now (i + 1) (O.caps oracle.new) (O.vars oracle.new)) }
     ensures held { IfOk result (λ r. r.stop ≡ None → All (HasBound (O.caps oracle.new)) held.new.items) }
     ensures before { OnOk result (AreBefore order.now (i + 1) held.new.items) }
+    ensures vars { OnOk result (O.vars oracle.new ≡ expected_vars (O.task oracle.old).encoding order.now (O.caps oracle.new)) }
     ensures settled { IfOk result (λ r. r.settled ≤ length order.now) }
     ensures lines { IfOk result (λ r. Continues O.knows O.log O.learnt oracle.old oracle.new (λ lines more.
         SearchState (O.task oracle.old) order.now i held.old.items best (O.caps oracle.old) lines →

@@ -1,9 +1,12 @@
 // What is asked: the drawings' clauses, a solver and a log, as one thing.
-ghost use Rattle.std.specs.Prelude.{◌≡◌, ◌≤◌, ⊤, ℕ, All, OnOk, IfOk, IsErrOf, MatchOption};
+ghost use Rattle.std.specs.Prelude.{◌≡◌, ◌≤◌, ⊤, ℕ, All, OnOk, IfOk, IsErrOf, MatchOption, flat_map, length};
 ghost use Rattle.outside_io.specs.Counts.{Rose};
 ghost use Rattle.plan_core.specs.declared.criterion.Criterion.{Criterion as Measure};
+ghost use Rattle.cnf_core.specs.declared.limits.TheConstants.{VARS};
+ghost use Rattle.cnf_core.specs.Clause.{words_of};
+ghost use Rattle.refute_log.specs.Lines.{MayAllBeTold};
 ghost use Rattle.refute_log.specs.Told.{Lines};
-ghost use Rattle.refute_log.specs.Log.{Derives, Due};
+ghost use Rattle.refute_log.specs.Log.{added, learnt as learnt_of, Derives, Due};
 ghost use Rattle.certified_values.specs.Bounds.{CoversDrawings};
 ghost use Rattle.certified_values.specs.Expected.{caps as caps_of};
 ghost use Rattle.lex_search.specs.Task.{Task, IsLawful, greatest_of};
@@ -123,11 +126,23 @@ pub trait Oracle {
     /// The lines cover the lawful drawings.
     ghost covers: { (s : Self) (lines : Lines) → knows s lines → CoversDrawings (task s).graph (task s).above (task s).grid lines };
 
+    /// They may be told.
+    ghost formed: { (s : Self) (lines : Lines) → knows s lines → MayAllBeTold lines };
+
     /// They derive.
     ghost derives: { (s : Self) (lines : Lines) → knows s lines → Derives lines };
 
     /// Each Learnt line is due.
     ghost due: { (s : Self) (lines : Lines) → knows s lines → Due lines };
+
+    /// Their clauses have room.
+    ghost fits: { (s : Self) (lines : Lines) → knows s lines → words_of (flat_map added lines) ≤ (task s).room };
+
+    /// There are no more Learnt lines than the budget allows.
+    ghost within: { (s : Self) (lines : Lines) → knows s lines → length (flat_map learnt_of lines) ≤ (task s).budget };
+
+    /// With them there are no more variables than there may be.
+    ghost few: { (s : Self) (lines : Lines) → knows s lines → vars s ≤ VARS };
 
     /// They have just these bounds.
     ghost counted: { (s : Self) (lines : Lines) (c : Measure) → knows s lines → caps_of (greatest_of (task s)) lines c ≡ caps s c };

@@ -19,7 +19,7 @@ pub enum Outcome {
         /// How many criteria, from the first, have their least values.
         settled: u8,
     },
-    /// There is no room for further clauses.
+    /// There is no room for what comes next: too many words or variables.
     Room {
         /// The best drawing so far, if one was found.
         best: Option<Drawing>,

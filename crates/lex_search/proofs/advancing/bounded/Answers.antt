@@ -1,14 +1,14 @@
 use Rattle.std.proofs.Common.{◌≡◌, ◌+◌, sym, ◌∙◌, subst, arith, ℕ}
 use Rattle.plan_core.specs.declared.criterion.Criterion.{Criterion}
 use Rattle.plan_core.specs.Values.{values_of}
-use Rattle.certified_values.specs.Expected.{caps, with_cap}
+use Rattle.certified_values.specs.Expected.{caps, sum_vars_of, with_cap}
 use Rattle.lex_search.specs.declared.oracle.Built.{Built}
-use Rattle.lex_search.specs.declared.oracle.Built.TheVariants.{Whole}
+use Rattle.lex_search.specs.declared.oracle.Built.TheVariants.{Whole, NoRoom}
 use Rattle.lex_search.specs.Task.{Task, greatest_of}
 use Rattle.lex_search.specs.Steps.{Continues}
 use Rattle.lex_search.specs.Built.{AreBuiltTo, IsBuild}
 use Rattle.lex_search.specs.State.{IsCapOf, Counted}
-use Rattle.lex_search.proofs.BuildLemmas.{counted_built}
+use Rattle.lex_search.proofs.BuildLemmas.{counted_built, vars_same}
 use Rattle.lex_search.proofs.AdvanceLemmas.{bounded_whole, bounded_no_room, value_bounded}
 use Rattle.lex_search.proofs.advancing.bounded.Goals as goal
 
@@ -54,3 +54,22 @@ lower-requires-clause-bound g c = λ m there. let o = g.O.Oracle in
     let p = o.task a in
     let state : AreBuiltTo p (o.caps a) (o.vars a) c.get-c.result c.args.cap Whole (o.caps c.build.new.self) (o.vars c.build.new.self) = subst (λ (b : Built). AreBuiltTo p (o.caps a) (o.vars a) c.get-c.result c.args.cap b (o.caps c.build.new.self) (o.vars c.build.new.self)) c.in-Whole.is c.in_ok-build.ensures.built in
     value_bounded p c.args.order.now c.args.i c.get-c.result m c.args.cap c.args.best (o.caps a) (o.caps c.build.new.self) c.requires.lawful c.get-c.ensures (c.requires.cap c.get-c.result c.get-c.ensures) state.0 there
+
+pub returns-in-NoRoom-clause-vars : goal.returns-in-NoRoom-clause-vars
+returns-in-NoRoom-clause-vars g c = let o = g.O.Oracle in
+    let a = c.args.oracle.now in
+    let p = o.task a in
+    let e = c.build.new.self in
+    let state : AreBuiltTo p (o.caps a) (o.vars a) c.get-c.result c.args.cap NoRoom (o.caps e) (o.vars e) = subst (λ (b : Built). AreBuiltTo p (o.caps a) (o.vars a) c.get-c.result c.args.cap b (o.caps e) (o.vars e)) c.in-NoRoom.is c.in_ok-build.ensures.built in
+    vars_same p c.args.order.now (o.caps a) (o.caps e) (o.vars a) (o.vars e) state.0 state.1 c.requires.counted.vars_are
+
+pub returns-in_ok-lowered-in-Whole-clause-vars : goal.returns-in_ok-lowered-in-Whole-clause-vars
+returns-in_ok-lowered-in-Whole-clause-vars g c = let o = g.O.Oracle in
+    let a = c.args.oracle.now in
+    let p = o.task a in
+    let e = c.build.new.self in
+    let l = c.lower.new.oracle in
+    let state : AreBuiltTo p (o.caps a) (o.vars a) c.get-c.result c.args.cap Whole (o.caps e) (o.vars e) = subst (λ (b : Built). AreBuiltTo p (o.caps a) (o.vars a) c.get-c.result c.args.cap b (o.caps e) (o.vars e)) c.in-Whole.is c.in_ok-build.ensures.built in
+    let built = counted_built p c.args.order.now c.args.i c.get-c.result c.args.cap (o.caps a) (o.vars a) c.requires.order c.get-c.ensures c.requires.counted in
+    vars_same p c.args.order.now (with_cap (o.caps a) c.get-c.result c.args.cap) (o.caps l) (o.vars a + sum_vars_of p.encoding (o.vars a) c.get-c.result c.args.cap) (o.vars l)
+    (c.in_ok-lowered-in-Whole.ensures.caps ∙ state.0) (c.in_ok-lowered-in-Whole.ensures.vars ∙ state.1) built.vars_are

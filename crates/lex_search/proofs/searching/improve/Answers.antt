@@ -2,6 +2,7 @@ use Rattle.std.proofs.Common.{◌≡◌, ◌+◌, ◌++◌, [], refl, sym, ◌�
 use Rattle.std.specs.Prelude.{All, Option}
 use Rattle.lex_search.specs.declared.oracle.Stop.{Stop}
 use Rattle.std.proofs.lemmas.List.Elements.{All-nil}
+use Rattle.certified_values.specs.Expected.{expected_vars}
 use Rattle.lex_search.specs.declared.oracle.Below.{Below}
 use Rattle.lex_search.specs.Task.{Task, IsLawful}
 use Rattle.lex_search.specs.Asked.{HasBound}
@@ -50,7 +51,9 @@ returns-in-Some-clause-lines g c = let o = g.O.Oracle in
     let r = c.in_ok-advanced.advanced in
     let same : o.task e ≡ o.task a = c.in_ok-advanced.ensures.task ∙ c.loop-i.invariant.task in
     ends_unfinished o.knows o.log o.learnt a e (o.task a) c.args.wanted.now c.loop-i.i c.advance.new.held.items c.args.first r.best (o.caps a) (o.caps e) r.stop c.in-Some.stop r.settled c.stopped_with.result c.requires.order
-    (laws_at o.knows e (o.task e) (o.task a) (o.caps e) same (g.met.O.Oracle.covers e) (g.met.O.Oracle.derives e) (g.met.O.Oracle.due e) (g.met.O.Oracle.apart e) (g.met.O.Oracle.counted e))
+    (laws_at o.knows e (o.task e) (o.task a) c.args.wanted.now (o.caps e) (o.vars e) same
+    (subst (λ (x : Task). o.vars e ≡ expected_vars x.encoding c.args.wanted.now (o.caps e)) c.loop-i.invariant.task c.in_ok-advanced.ensures.vars)
+    (g.met.O.Oracle.covers e) (g.met.O.Oracle.formed e) (g.met.O.Oracle.derives e) (g.met.O.Oracle.due e) (g.met.O.Oracle.apart e) (g.met.O.Oracle.fits e) (g.met.O.Oracle.within e) (g.met.O.Oracle.few e) (g.met.O.Oracle.counted e))
     c.in-Some.is c.stopped_with.ensures
     (state_then o.knows o.log o.learnt a b e (o.task b) (o.task a) c.args.wanted.now c.loop-i.i c.loop-i.held.items c.advance.new.held.items c.args.first c.loop-i.best r.best (o.caps a) (o.caps b) (o.caps e) r.stop r.settled
     c.loop-i.invariant.task c.loop-i.invariant.lines c.in_ok-advanced.ensures.lines)
@@ -60,7 +63,9 @@ returns-clause-lines g c = let o = g.O.Oracle in
     let a = c.args.oracle.now in
     let s = c.loop-i.oracle in
     ends_best o.knows o.log o.learnt a s (o.task a) c.args.wanted.now c.loop-i.i c.loop-i.held.items c.args.first c.loop-i.best (o.caps a) (o.caps s)
-    (laws_at o.knows s (o.task s) (o.task a) (o.caps s) c.loop-i.invariant.task (g.met.O.Oracle.covers s) (g.met.O.Oracle.derives s) (g.met.O.Oracle.due s) (g.met.O.Oracle.apart s) (g.met.O.Oracle.counted s))
+    (laws_at o.knows s (o.task s) (o.task a) c.args.wanted.now (o.caps s) (o.vars s) c.loop-i.invariant.task
+    (subst (λ (x : Task). o.vars s ≡ expected_vars x.encoding c.args.wanted.now (o.caps s)) c.loop-i.invariant.task c.loop-i.invariant.counted.vars_are)
+    (g.met.O.Oracle.covers s) (g.met.O.Oracle.formed s) (g.met.O.Oracle.derives s) (g.met.O.Oracle.due s) (g.met.O.Oracle.apart s) (g.met.O.Oracle.fits s) (g.met.O.Oracle.within s) (g.met.O.Oracle.few s) (g.met.O.Oracle.counted s))
     (let e = c.requires.places in omega arith) c.loop-i.invariant.lines
 
 pub loop-i-preserved : goal.loop-i-preserved

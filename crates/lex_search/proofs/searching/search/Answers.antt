@@ -5,7 +5,7 @@ use Rattle.lex_search.specs.Task.{Task}
 use Rattle.lex_search.specs.Steps.{Continues}
 use Rattle.lex_search.specs.State.{Counted, SearchState}
 use Rattle.lex_search.specs.Outcome.{IsOutcome, first_lines}
-use Rattle.lex_search.proofs.OutcomeLemmas.{zero_counted, first_found, first_refuted, first_stopped, laws_at}
+use Rattle.lex_search.proofs.OutcomeLemmas.{zero_counted, fresh_still, first_found, first_refuted, first_stopped, laws_at}
 use Rattle.lex_search.proofs.searching.search.Goals as goal
 
 pub improve-requires-clause-counted : goal.improve-requires-clause-counted
@@ -22,7 +22,9 @@ returns-in-Refuted-clause-lines g c = let o = g.O.Oracle in
     let a = c.args.oracle.now in
     let e = c.ask.new.self in
     first_refuted o.knows o.log o.learnt a e (o.task a) c.args.wanted.now c.in_ok-first.field-0 [] (o.caps e) (λ m. ap (λ (f : Criterion → ℕ). f m) c.in_ok-first.ensures.caps ∙ c.requires.fresh.none m)
-    (laws_at o.knows e (o.task e) (o.task a) (o.caps e) c.in_ok-first.ensures.task (g.met.O.Oracle.covers e) (g.met.O.Oracle.derives e) (g.met.O.Oracle.due e) (g.met.O.Oracle.apart e) (g.met.O.Oracle.counted e))
+    (laws_at o.knows e (o.task e) (o.task a) c.args.wanted.now (o.caps e) (o.vars e) c.in_ok-first.ensures.task
+    (zero_counted (o.task a) c.args.wanted.now (o.caps e) (o.vars e) (fresh_still (o.task a) (o.caps a) (o.caps e) (o.vars a) (o.vars e) c.in_ok-first.ensures.caps c.in_ok-first.ensures.vars c.requires.fresh)).vars_are
+    (g.met.O.Oracle.covers e) (g.met.O.Oracle.formed e) (g.met.O.Oracle.derives e) (g.met.O.Oracle.due e) (g.met.O.Oracle.apart e) (g.met.O.Oracle.fits e) (g.met.O.Oracle.within e) (g.met.O.Oracle.few e) (g.met.O.Oracle.counted e))
     refl c.in-Refuted.is c.in_ok-first.ensures.lines
 
 pub returns-in-Stopped-clause-lines : goal.returns-in-Stopped-clause-lines
@@ -30,7 +32,9 @@ returns-in-Stopped-clause-lines g c = let o = g.O.Oracle in
     let a = c.args.oracle.now in
     let e = c.ask.new.self in
     first_stopped o.knows o.log o.learnt a e (o.task a) c.args.wanted.now c.in-Stopped.stop c.in_ok-first.field-0 [] c.stopped_with.result (o.caps e) (λ m. ap (λ (f : Criterion → ℕ). f m) c.in_ok-first.ensures.caps ∙ c.requires.fresh.none m)
-    (laws_at o.knows e (o.task e) (o.task a) (o.caps e) c.in_ok-first.ensures.task (g.met.O.Oracle.covers e) (g.met.O.Oracle.derives e) (g.met.O.Oracle.due e) (g.met.O.Oracle.apart e) (g.met.O.Oracle.counted e))
+    (laws_at o.knows e (o.task e) (o.task a) c.args.wanted.now (o.caps e) (o.vars e) c.in_ok-first.ensures.task
+    (zero_counted (o.task a) c.args.wanted.now (o.caps e) (o.vars e) (fresh_still (o.task a) (o.caps a) (o.caps e) (o.vars a) (o.vars e) c.in_ok-first.ensures.caps c.in_ok-first.ensures.vars c.requires.fresh)).vars_are
+    (g.met.O.Oracle.covers e) (g.met.O.Oracle.formed e) (g.met.O.Oracle.derives e) (g.met.O.Oracle.due e) (g.met.O.Oracle.apart e) (g.met.O.Oracle.fits e) (g.met.O.Oracle.within e) (g.met.O.Oracle.few e) (g.met.O.Oracle.counted e))
     refl c.in-Stopped.is c.stopped_with.ensures c.in_ok-first.ensures.lines
 
 pub returns-in-Found-clause-lines : goal.returns-in-Found-clause-lines
