@@ -1,0 +1,17 @@
+pub mod SetLemmas
+pub mod MoveLemmas
+pub mod RootLemmas
+pub mod AskLemmas
+pub mod SolvingLemmas
+pub mod HeapLemmas
+pub mod StoreLemmas
+pub mod LogLemmas
+pub mod LearnLemmas
+pub mod KeepLemmas
+pub mod ConflictLemmas
+pub mod GivenLemmas
+pub mod RefuteLemmas
+pub mod RoundLemmas
+pub mod ModelLemmas
+pub mod WideLemmas
+pub mod ViewLemmas

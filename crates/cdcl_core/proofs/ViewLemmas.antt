@@ -1,0 +1,113 @@
+-- The solver as one value.
+use Rattle.std.proofs.Common.{◌≡◌, ◌≤◌, ℕ, Bool, false, List, [], ◌∷◌, ◌++◌, refl, sym, ◌∙◌, ap, subst, None}
+use Rattle.std.specs.Prelude.{Option, All}
+use Rattle.cnf_core.specs.declared.limits.TheConstants.{ROOM}
+use Rattle.cnf_core.specs.Lit.{Literal}
+use Rattle.cnf_core.specs.Clause.{Clauses, IsNamed}
+use Rattle.refute_log.specs.declared.line.LogLine.TheVariants.{Formula}
+use Rattle.refute_log.specs.Lines.{MayBeTold}
+use Rattle.refute_log.specs.Told.{Lines}
+use Rattle.cdcl_core.specs.declared.search.Search.{Search}
+use Rattle.cdcl_core.specs.declared.answer.Answer.{Answer}
+use Rattle.cdcl_core.specs.Kept.{Kept, blank, widened, AreGiven, IsGivenOne, IsTrueAnswer, HasModelOnly}
+use Rattle.cdcl_core.specs.Belongs.{Belongs, BelongsTo, StillDerives, IsSearched}
+use Rattle.cdcl_core.specs.Search.{clauses, seen, kept_of, IsIdle, IsSolver, IsKeptOne}
+use Rattle.cdcl_core.proofs.SetLemmas.{among_itself}
+use Rattle.cdcl_core.proofs.LogLemmas.{belongs_none, belongs_given}
+use Rattle.cdcl_core.proofs.RoundLemmas.{given_added}
+
+-- a new solver
+pub new_given : (k : Kept) (room : ℕ) → k ≡ blank room → AreGiven [] k.clauses
+new_given k room e = subst (λ (x : Kept). AreGiven [] x.clauses) (sym e) (record { kept = among_itself []; follow = λ v h. h })
+
+pub new_belongs : (k : Kept) (room : ℕ) → k ≡ blank room → Belongs [] k
+new_belongs k room e = subst (Belongs []) (sym e) belongs_none
+
+-- whether the solver has failed, as its fields say
+pub failed_field : (s : Search) (model : Option (List Bool)) (failed : Bool) (k : Kept) → kept_of s model failed ≡ k → k.failed ≡ false → failed ≡ false
+failed_field s model failed k view e = ap (λ (x : Kept). x.failed) view ∙ e
+
+pub idle_now : (s : Search) (model : Option (List Bool)) (failed : Bool) (k : Kept) → IsSolver s failed → kept_of s model failed ≡ k → k.failed ≡ false → IsIdle s
+idle_now s model failed k invariant view e = invariant (failed_field s model failed k view e)
+
+-- the words of a solver that hasn't failed are within its room, and that within the greatest one
+pub words_view : (s : Search) (model : Option (List Bool)) (failed : Bool) (k : Kept) → IsSolver s failed → kept_of s model failed ≡ k → k.failed ≡ false → k.words ≤ k.room
+words_view s model failed k invariant view e = subst (λ (x : Kept). x.words ≤ x.room) view (idle_now s model failed k invariant view e).search.fitted.within
+
+pub room_view : (s : Search) (model : Option (List Bool)) (failed : Bool) (k : Kept) → IsSolver s failed → kept_of s model failed ≡ k → k.failed ≡ false → k.room ≤ ROOM
+room_view s model failed k invariant view e = subst (λ (x : Kept). x.room ≤ ROOM) view (idle_now s model failed k invariant view e).search.fitted.room_limit
+
+-- further variables
+pub wide_view : (s t : Search) (model : Option (List Bool)) (failed : Bool) (k : Kept) (n : ℕ) → kept_of s model failed ≡ k → k.failed ≡ false → kept_of t None false ≡ widened (kept_of s None false) n → kept_of t None failed ≡ widened k n
+wide_view s t model failed k n view e more =
+    let f = failed_field s model failed k view e in
+    ap (kept_of t None) f ∙ more ∙ ap (λ b. widened (kept_of s model b) n) (sym f) ∙ ap (λ (x : Kept). widened x n) view
+
+pub wide_given : (k now : Kept) (n : ℕ) → now ≡ widened k n → (given : Clauses) → AreGiven given k.clauses → AreGiven given now.clauses
+wide_given k now n e given g = subst (λ (x : Kept). AreGiven given x.clauses) (sym e) g
+
+pub wide_belongs : (k now : Kept) (n : ℕ) → now ≡ widened k n → (lines : Lines) → Belongs lines k → Belongs lines now
+wide_belongs k now n e lines b = subst (Belongs lines) (sym e) b
+
+-- a clause was given
+pub given_view : (s t : Search) (model : Option (List Bool)) (failed : Bool) (k : Kept) (c : List Literal) → kept_of s model failed ≡ k → k.failed ≡ false → IsKeptOne s t c → t.learnt ≡ s.learnt → IsGivenOne k (kept_of t None failed) c
+given_view s t model failed k c view e kept learnt = subst (λ (x : Kept). IsGivenOne x (kept_of t None failed) c) view (record {
+  clauses = kept.clauses;
+  words = kept.words;
+  room = kept.room;
+  vars = kept.vars;
+  learnt = learnt;
+  visits = kept.visits;
+  model = refl;
+  failed = failed_field s model failed k view e;
+})
+
+pub given_now : (k now : Kept) (c : List Literal) → IsGivenOne k now c → (given : Clauses) → AreGiven given k.clauses → AreGiven (given ++ c ∷ []) now.clauses
+given_now k now c one given g = given_added given k.clauses now.clauses c one.clauses g
+
+pub belongs_now : (k now : Kept) (c : List Literal) → MayBeTold (Formula c) → IsGivenOne k now c → (lines : Lines) → Belongs lines k → Belongs (lines ++ Formula c ∷ []) now
+belongs_now k now c formed one lines b = subst (BelongsTo (lines ++ Formula c ∷ []) now.clauses) (sym one.words) (belongs_given lines k.clauses now.clauses k.words c formed one.clauses b)
+
+-- what stands of a log after an error
+pub still_view : (before now : Lines → Type 0) (s : Search) (model : Option (List Bool)) (failed : Bool) (k : Kept) → kept_of s model failed ≡ k → StillDerives before now (seen s) → StillDerives before now k
+still_view before now s model failed k view d = subst (StillDerives before now) view (λ lines told b more m. d lines told b more m)
+
+pub named_view : (s : Search) (model : Option (List Bool)) (failed : Bool) (k : Kept) (query : List Literal) → kept_of s model failed ≡ k → All (λ l. IsNamed k.clauses l.var) query → All (λ l. IsNamed (clauses s) l.var) query
+named_view s model failed k query view h = subst (λ (x : Kept). All (λ l. IsNamed x.clauses l.var) query) (sym view) h
+
+-- the same with another model
+abbrev with_model : Kept → Option (List Bool) → Bool → Kept
+with_model k model failed = record { room = k.room; vars = k.vars; clauses = k.clauses; words = k.words; learnt = k.learnt; visits = k.visits; model = model; failed = failed }
+
+-- an answer
+pub answer_view : (s t : Search) (model new : Option (List Bool)) (failed : Bool) (k : Kept) (query : List Literal) (a : Answer) → kept_of s model failed ≡ k → k.failed ≡ false → ((given : Clauses) → AreGiven given (clauses s) → IsTrueAnswer a given query (kept_of t new false)) → (given : Clauses) → AreGiven given k.clauses → IsTrueAnswer a given query (kept_of t new failed)
+answer_view s t model new failed k query a view e h given g = subst (λ b. IsTrueAnswer a given query (kept_of t new b)) (sym (failed_field s model failed k view e)) (h given (subst (λ (x : Kept). AreGiven given x.clauses) (sym view) g))
+
+pub model_view : (s t : Search) (model new : Option (List Bool)) (failed : Bool) (k : Kept) (a : Answer) → kept_of s model failed ≡ k → k.failed ≡ false → HasModelOnly a (kept_of t new false) → HasModelOnly a (kept_of t new failed)
+model_view s t model new failed k a view e h = subst (λ b. HasModelOnly a (kept_of t new b)) (sym (failed_field s model failed k view e)) h
+
+pub solved_given : (s t : Search) (model : Option (List Bool)) (failed : Bool) (k : Kept) → kept_of s model failed ≡ k → ((given : Clauses) → AreGiven given (clauses s) → AreGiven given (clauses t)) → (given : Clauses) → AreGiven given k.clauses → AreGiven given (clauses t)
+solved_given s t model failed k view h given g = h given (subst (λ (x : Kept). AreGiven given x.clauses) (sym view) g)
+
+pub searched_view : (before now : Lines → Type 0) (query : List Literal) (s t : Search) (model new : Option (List Bool)) (failed : Bool) (k : Kept) (a : Answer) (budget count after : ℕ) → kept_of s model failed ≡ k → k.failed ≡ false → IsSearched before now query (seen s) (seen t) a budget count after → IsSearched before now query k (kept_of t new failed) a budget count after
+searched_view before now query s t model new failed k a budget count after view e h = subst (λ (x : Kept). IsSearched before now query x (kept_of t new failed) a budget count after) view (record {
+  learnt = h.learnt;
+  ending = h.ending;
+  kept = record {
+    clauses = h.kept.clauses;
+    words = h.kept.words;
+    room = h.kept.room;
+    vars = h.kept.vars;
+    learnt = h.kept.learnt;
+    visits = h.kept.visits;
+    failed = failed_field s model failed k view e;
+  };
+  spent = h.spent;
+  counted = h.counted;
+  ends = h.ends;
+  told = h.told;
+  belongs = λ lines b. h.belongs lines b;
+})
+
+pub suggest_view : (s t : Search) (model : Option (List Bool)) (failed : Bool) (k : Kept) → kept_of s model failed ≡ k → k.failed ≡ false → kept_of t None false ≡ kept_of s None false → kept_of t model failed ≡ k
+suggest_view s t model failed k view e same = ap (λ (x : Kept). with_model x model failed) same ∙ view

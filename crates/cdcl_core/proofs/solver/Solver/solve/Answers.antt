@@ -1,0 +1,14 @@
+use Rattle.cdcl_core.proofs.ViewLemmas.{idle_now, named_view, solved_given, still_view}
+use Rattle.cdcl_core.proofs.solver.Solver.solve.Goals as goal
+
+pub solve-requires-clause-idle : goal.solve-requires-clause-idle
+solve-requires-clause-idle g c = idle_now c.self.inside.search c.self.inside.model c.self.inside.failed c.args.self.now c.self.invariant c.self.view_is c.requires.working
+
+pub solve-requires-clause-named : goal.solve-requires-clause-named
+solve-requires-clause-named g c = named_view c.self.inside.search c.self.inside.model c.self.inside.failed c.args.self.now c.args.assume.now c.self.view_is c.requires.named
+
+pub returns-in-Ok-clause-given : goal.returns-in-Ok-clause-given
+returns-in-Ok-clause-given g c = solved_given c.self.inside.search c.solve.new.self c.self.inside.model c.self.inside.failed c.args.self.now c.self.view_is c.in-Ok.ensures.given
+
+pub returns-in-Err-clause-derives : goal.returns-in-Err-clause-derives
+returns-in-Err-clause-derives g c = still_view (g.L.LogSink.tells c.args.log.now) (g.L.LogSink.tells c.solve.new.log) c.self.inside.search c.self.inside.model c.self.inside.failed c.args.self.now c.self.view_is c.in-Err.ensures.derives
