@@ -1,0 +1,40 @@
+use Rattle.std.proofs.Common.{◌-◌, length, subst, arith}
+use Rattle.cdcl_core.specs.Belongs.{HasSpent, IsSearched}
+use Rattle.drawing_problem.specs.Layout.{layout_of}
+use Rattle.lex_minimise.proofs.AskLemmas.{are_distinct}
+use Rattle.lex_minimise.proofs.QueryLemmas.{all_named, ready_after, search_goes}
+use Rattle.lex_minimise.proofs.asking.query.Goals as goal
+
+pub solve-requires-clause-distinct : goal.solve-requires-clause-distinct
+solve-requires-clause-distinct g c = let k = c.args.known.now in
+    are_distinct (layout_of k.encoded) k.told.items c.args.bounds.now c.args.assume.now c.requires.ready.facts c.requires.once c.requires.assumed
+
+pub solve-requires-clause-named : goal.solve-requires-clause-named
+solve-requires-clause-named g c = let k = c.args.known.now in
+    all_named k.encoded k.told.items k.budget k.room c.args.solver.now c.args.bounds.now c.args.assume.now c.requires.ready c.requires.assumed
+
+pub returns-in-Ok-clause-answer : goal.returns-in-Ok-clause-answer
+returns-in-Ok-clause-answer g c = c.in-Ok.ensures.answer c.args.known.now.encoded.formula.clauses c.requires.ready.given
+
+pub returns-in-Ok-clause-ready : goal.returns-in-Ok-clause-ready
+returns-in-Ok-clause-ready g c =
+    let k = c.args.known.now in
+    let s = c.in-Ok.ensures.searched in
+    ready_after k.encoded k.told.items k.budget k.room c.args.solver.now c.solve.new.self c.in-Ok.answer s.learnt (omega arith) c.requires.ready s.kept
+    (subst (λ n. HasSpent c.in-Ok.answer (k.budget - n) (length s.learnt)) c.learnt.ensures s.spent) (c.in-Ok.ensures.given k.encoded.formula.clauses c.requires.ready.given)
+
+pub returns-in-Ok-clause-lines : goal.returns-in-Ok-clause-lines
+returns-in-Ok-clause-lines g c =
+    let k = c.args.known.now in
+    let l = g.L.LogSink in
+    let old = c.args.solver.now in
+    let new = c.solve.new.self in
+    let s = subst (λ n. IsSearched (l.tells c.args.log.now) (l.tells c.solve.new.log) c.args.assume.now old new c.in-Ok.answer (k.budget - n) (l.learnt c.args.log.now) (l.learnt c.solve.new.log))
+    c.learnt.ensures c.in-Ok.ensures.searched in
+    let limit = c.words.ensures.limit s.kept.failed in
+    let same = s.kept.room in
+    let is = c.requires.ready.room_is in
+    let vars = c.vars.ensures.limit in
+    let value = c.vars.ensures.value in
+    search_goes k.encoded k.told.items k.budget k.room old new c.args.bounds.now c.args.assume.now c.in-Ok.answer (l.tells c.args.log.now) (l.tells c.solve.new.log) (l.learnt c.args.log.now) (l.learnt c.solve.new.log)
+    (omega arith) c.requires.ready c.requires.assumed s (c.in-Ok.ensures.answer k.encoded.formula.clauses c.requires.ready.given) (omega (arith, limit, same, is)) (omega (arith, vars, value))

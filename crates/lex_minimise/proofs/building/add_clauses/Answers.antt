@@ -1,0 +1,12 @@
+use Rattle.std.proofs.Common.{◌≡◌, map, drop}
+use Rattle.refute_log.specs.declared.line.LogLine.TheVariants.{Formula}
+use Rattle.cdcl_core.specs.Belongs.{Belongs}
+use Rattle.lex_minimise.proofs.TellLemmas.{ok_from, goes_from}
+use Rattle.lex_minimise.proofs.building.add_clauses.Goals as goal
+
+pub returns-in-Ok-clause-lines : goal.returns-in-Ok-clause-lines
+returns-in-Ok-clause-lines g c =
+    let k = g.L.LogSink in
+    ok_from c.tell_clauses.result _ _ c.tell_clauses.ensures.lines
+    (goes_from (λ ls. Belongs ls c.args.solver.now) (λ ls. Belongs ls c.add_vars.new.self) (λ ls. Belongs ls c.tell_clauses.new.solver) (k.tells c.args.log.now) (k.tells c.tell_clauses.new.log)
+    (k.learnt c.args.log.now) (k.learnt c.tell_clauses.new.log) (λ lines more. more ≡ map Formula (drop c.args.from c.args.formula.now.clauses)) c.in-Ok.ensures.belongs)

@@ -1,0 +1,5 @@
+pub mod Task
+pub mod Known
+pub mod Told
+pub mod Asking
+pub mod Grown

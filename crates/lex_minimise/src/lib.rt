@@ -1,0 +1,23 @@
+//! Least values in order, with the solver: the search for a best drawing of a graph, and the log that certifies it.
+//!
+//! `minimise` gives the drawings' clauses to a solver and searches as `lex_search` says; `minimise_with` does so with a
+//! solver that a caller hands in. `search` makes one thing that is asked of the formula, the solver and the log:
+//! `asking` turns a question into assumptions and an answer into a drawing, `building` tells a criterion's clauses and
+//! bounds whole or not at all, `telling` tells clauses and Bound lines one after another.
+//!
+//! `specs/Task` says what is searched, `specs/Told` what a solver and a log are told together, `specs/Known` when the
+//! search can be asked and which lines are known then, `specs/Asking` what a question is to the solver, and
+//! `specs/Grown` what is so between a criterion's clauses in the formula and in the solver. The outcome is that of
+//! `lex_search`; the clause lists are those of `drawing_problem`.
+#![tactic(auto)]
+
+mod asking;
+mod building;
+mod limits;
+mod minimising;
+mod search;
+mod telling;
+
+pub use lex_search::{MinFault, Outcome};
+pub use limits::Limits;
+pub use minimising::{minimise, minimise_with};

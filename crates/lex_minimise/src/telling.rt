@@ -1,0 +1,104 @@
+// Clauses and bounds, told one after another.
+ghost use Rattle.std.specs.Prelude.{◌≡◌, ◌≤◌, ◌<◌, ◌+◌, ◌++◌, ◌∷◌, [], false, OnOk, IsErrOf, length, map, drop};
+ghost use Rattle.outside_io.specs.Counts.{Rose};
+ghost use Rattle.cnf_core.specs.Clause.{words_of};
+ghost use Rattle.cnf_core.specs.Formula.{clause_at};
+ghost use Rattle.refute_log.specs.declared.line.LogLine.TheVariants.{Formula as FormulaLine};
+ghost use Rattle.line_text.specs.declared.numbers.TheConstants.{MAX_NUMBER};
+ghost use Rattle.refute_log.specs.Told.{AddsAll};
+ghost use Rattle.certified_values.specs.Expected.{bound_lines};
+ghost use Rattle.cdcl_core.specs.Belongs.{Belongs};
+ghost use Rattle.drawing_problem.specs.Lists.{variables_behind};
+ghost use Rattle.lex_minimise.specs.Told.{GoesOn, HasTaken};
+
+use cdcl_core::{AddFault, Solver};
+use cnf_core::{ClauseNo, Formula};
+use drawing_cnf::Bounds;
+use lex_search::MinFault;
+use refute_log::{LogLine, LogSink, LogSinkFault};
+
+/// Adds one clause of the formula to the solver, which tells it.
+fn tell_clause<L: LogSink>(
+    formula: &Formula,
+    no: u32,
+    solver: &mut Solver,
+    log: &mut L,
+) -> Result<(), MinFault>
+    requires there { no < length formula.now.clauses }
+    requires working { solver.old.failed ≡ false }
+    requires vars { solver.old.vars ≡ formula.now.vars }
+    requires fits { solver.old.words + words_of (clause_at formula.now no ∷ []) ≤ solver.old.room }
+    ensures taken { OnOk result (HasTaken solver.old solver.new (clause_at formula.now no ∷ [])) }
+    ensures lines { OnOk result (GoesOn (λ ls. Belongs ls solver.old) (λ ls. Belongs ls solver.new)
+        (L.tells log.old) (L.tells log.new) (L.learnt log.old) (L.learnt log.new)
+        (λ lines more. more ≡ FormulaLine (clause_at formula.now no) ∷ [])) }
+    ensures later { L.is_later log.old log.new }
+    ensures faults { L.faults log.old ≤ L.faults log.new }
+    ensures cause { IsErrOf result MinFault.Log → Rose (L.faults log.old) (L.faults log.new) }
+{
+    match solver.add_clause(formula.lits_of(ClauseNo(no)), log) {
+        Ok(()) => Ok(()),
+        Err(AddFault::Log) => Err(MinFault::Log),
+        Err(AddFault::Memory) => Err(MinFault::Memory),
+        Err(AddFault::Room) => unreachable!(),
+    }
+}
+
+/// Adds the formula's clauses from this number on.
+pub(crate) fn tell_clauses<L: LogSink>(
+    formula: &Formula,
+    from: u32,
+    solver: &mut Solver,
+    log: &mut L,
+) -> Result<(), MinFault>
+    requires from { from ≤ length formula.now.clauses }
+    requires working { solver.old.failed ≡ false }
+    requires vars { solver.old.vars ≡ formula.now.vars }
+    requires fits { solver.old.words + words_of (drop from formula.now.clauses) ≤ solver.old.room }
+    ensures taken { OnOk result (HasTaken solver.old solver.new (drop from formula.now.clauses)) }
+    ensures lines { OnOk result (GoesOn (λ ls. Belongs ls solver.old) (λ ls. Belongs ls solver.new)
+        (L.tells log.old) (L.tells log.new) (L.learnt log.old) (L.learnt log.new)
+        (λ lines more. more ≡ map FormulaLine (drop from formula.now.clauses))) }
+    ensures later { L.is_later log.old log.new }
+    ensures faults { L.faults log.old ≤ L.faults log.new }
+    ensures cause { IsErrOf result MinFault.Log → Rose (L.faults log.old) (L.faults log.new) }
+{
+    let end = formula.clauses();
+    for number in from..end {
+        tell_clause(formula, number, solver, log)?;
+    }
+    Ok(())
+}
+
+fn fault_of(fault: LogSinkFault) -> MinFault
+    ensures { result ≡ MinFault.Log → fault ≡ LogSinkFault.Failed }
+{
+    match fault {
+        LogSinkFault::Failed => MinFault::Log,
+        LogSinkFault::Memory => MinFault::Memory,
+    }
+}
+
+/// Tells a Bound line for each number from 1 to the cap. The solver doesn't see them.
+pub(crate) fn tell_bounds<L: LogSink>(bounds: &Bounds, log: &mut L) -> Result<(), MinFault>
+    requires small { bounds.now.cap ≤ MAX_NUMBER }
+    ensures lines { OnOk result (AddsAll (L.tells log.old) (L.tells log.new)
+        (bound_lines bounds.now.criterion 1 (variables_behind bounds.now.last bounds.now.cap))) }
+    ensures learnt { L.learnt log.new ≡ L.learnt log.old }
+    ensures later { L.is_later log.old log.new }
+    ensures faults { L.faults log.old ≤ L.faults log.new }
+    ensures cause { IsErrOf result MinFault.Log → Rose (L.faults log.old) (L.faults log.new) }
+{
+    let end = bounds.cap();
+    for i in 0..end {
+        match log.tell(&LogLine::Bound {
+            criterion: bounds.criterion(),
+            k: i + 1,
+            var: bounds.var(i + 1),
+        }) {
+            Ok(()) => {}
+            Err(fault) => return Err(fault_of(fault)),
+        }
+    }
+    Ok(())
+}
