@@ -47,13 +47,19 @@ name_count Make = 1
 
 -- the command takes this name: the number of `make`, and any other that isn't empty
 abbrev pub TakesName : CommandWord → List ℕ → Type 0
+TakesName Draw name = name ≢ []
+TakesName Verify name = name ≢ []
+TakesName Check name = name ≢ []
+TakesName Graph name = name ≢ []
 TakesName Make name = (n : ℕ) × IsSeed name n
-TakesName command name = name ≢ []
 
 -- the word is an option of the command; only `draw` has options
 abbrev pub IsOptionOf : CommandWord → List ℕ → Type 0
 IsOptionOf Draw word = (option : OptionWord) × (word ≡ option_word option)
-IsOptionOf command word = ⊥
+IsOptionOf Verify word = ⊥
+IsOptionOf Check word = ⊥
+IsOptionOf Graph word = ⊥
+IsOptionOf Make word = ⊥
 
 -- ---- faults of one argument, behind the arguments before it
 

@@ -116,7 +116,7 @@ edge 5 track2 7 4 6 1 7 1
 edge 6 track3 6 7 3 1 4 2 5 2 6 1
 edge 7 track4 2 5 1 0 2 1
 values 2 2 3 7
-end conflicts 0
+end best
 ";
 
 static VERDICTS: [Case; 2] = [
@@ -124,7 +124,7 @@ static VERDICTS: [Case; 2] = [
         shows: "The drawing as it is on paper.",
         file: FILE,
         picture: PICTURE,
-        edits: &[("end best", "end conflicts 0")],
+        edits: &[],
         line: "lawful 2 2 3 7",
     },
     Case {
@@ -146,7 +146,7 @@ fn verifies_the_sheet_of_the_example(rt: HostRuntime) -> Result<(), Fail> {
     Ok(())
 }
 
-/// As it stands in `examples/station.sheet`, with the mileage of each node and the track of each edge.
+/// As `draw` wrote it and it stands in `examples/station.sheet`, with the mileage of each node and the track of each edge.
 #[test]
 fn verifies_the_sheet_that_is_shown(rt: HostRuntime) -> Result<(), Fail> {
     let alloc = rt.alloc();

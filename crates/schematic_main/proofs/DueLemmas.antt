@@ -1,5 +1,4 @@
 -- What follows from what a command owes: which statuses there are, and how it ends where its inputs are sound.
--- And that a run that changes no file leaves the files as it may.
 use Rattle.std.proofs.Common.{◌≡◌, ◌⊎◌, ℕ, List, None, Some, refl, sym, ◌∙◌, subst, inl, inr, lit<, arith}
 use Rattle.std.specs.declared.option.Option.{Option}
 use Rattle.plan_core.specs.declared.limits.TheConstants.{MAX_FILE_BYTES}
@@ -7,23 +6,26 @@ use Rattle.plan_core.specs.Grid.{GridSize}
 use Rattle.plan_core.specs.Graph.{Graph}
 use Rattle.plan_core.specs.Drawing.{Drawing}
 use Rattle.track_order.specs.Order.{EdgeOrder}
-use Rattle.outside_io.specs.Contents.{Told, WhereTold, SameFiles, IsFileWhereTold, TellsAt}
+use Rattle.outside_io.specs.Contents.{Told, IsFileWhereTold, TellsAt}
 use Rattle.plan_words.specs.declared.command.Command.{Command}
 use Rattle.plan_words.specs.declared.command.Command.TheVariants.{Draw, Verify, Check, Graph as PrintGraph, Make}
 use Rattle.plan_words.specs.Words.{IsCommandOf}
+use Rattle.refute_log.specs.Told.{Lines}
 use Rattle.plan_words.proofs.AnswerLemmas.{command_same, command_or_fault}
 use Rattle.schematic_main.specs.declared.fault.RunFault.{RunFault}
 use Rattle.schematic_main.specs.declared.fault.RunFault.TheVariants.{NotBuilt, Words, Long, Text, Topology, Graph as GraphFault, Order, Sheet, ReadFailed}
 use Rattle.schematic_main.specs.declared.status.Status.{Status}
-use Rattle.schematic_main.specs.declared.status.Status.TheVariants.{Done, Refused, WordsRefused, Unread, Broken}
+use Rattle.schematic_main.specs.declared.status.Status.TheVariants.{Done, Refused, WordsRefused, NoDrawing, Unfinished, Unread, Broken}
 use Rattle.schematic_main.specs.Status.{IsCutShort}
 use Rattle.schematic_main.specs.Fault.{fault_status}
 use Rattle.schematic_main.specs.Input.{IsLong, IsShort, HasStation, HasFileFault}
 use Rattle.schematic_main.specs.Met.{Met, ReadFails}
 use Rattle.schematic_main.specs.Verdict.{IsVerdict, IsSheetJudged, IsSoundSheet}
-use Rattle.schematic_main.specs.Answer.{InputFile, text_input, Job, job, IsBuilt, IsDrawAnswer, IsPrinted, IsFileJudged, IsVerified, IsAnswerAfter, IsAnswerOn}
+use Rattle.schematic_main.specs.Answer.{InputFile, text_input, IsPrinted, IsFileJudged, IsVerified, IsAnswerAfter, IsAnswerOn}
+use Rattle.schematic_main.specs.Drawn.{Job, job, IsDrawAnswer}
 use Rattle.schematic_main.specs.Commands.{Owes, ends_of, HasSoundFile, AreSound}
-use Rattle.schematic_main.specs.Run.{Asks, IsDue, FailsIn, Leaves}
+use Rattle.schematic_main.specs.Run.{Asks, IsDue, FailsIn}
+use Rattle.schematic_main.proofs.StatusLemmas.{on_outcome}
 
 -- ---- the statuses: what holds of those that each part of an answer may have holds of the answer's
 
@@ -49,49 +51,63 @@ on_file : (P : Status → Type 0) (Answers : Graph → EdgeOrder → Status → 
 on_file P Answers bytes status text refused answers (inl (g, o, has, answer)) = answers g o answer
 on_file P Answers bytes status text refused answers (inr r) = subst P (sym (r.told.status_is ∙ file_fault_status bytes r.fault r.has)) refused
 
-on_drawing : (P : Status → Type 0) (asked : Job) (g : Graph) (o : EdgeOrder) (status : Status) (text : List ℕ) → P Done → P Refused → IsDrawAnswer asked g o status text → P status
-on_drawing P asked g o status text done refused (inl drawn) = subst P (sym drawn.status_is) done
-on_drawing P asked g o status text done refused (inr down) = subst P (sym down.fault.status_is) refused
+-- the statuses that may be owed, but that of a read that failed
+record OfOwed (P : Status → Type 0) : Type 0 where
+  pub done : P Done
+  pub refused : P Refused
+  pub words_refused : P WordsRefused
+  pub none : P NoDrawing
+  pub unfinished : P Unfinished
+  pub broken : P Broken
 
-on_verdict : (P : Status → Type 0) (g : Graph) (o : EdgeOrder) (grid : GridSize) (d : Drawing) (status : Status) (text : List ℕ) → P Done → P Broken → IsVerdict g o grid d status text → P status
-on_verdict P g o grid d status text done broken (inl a) = subst P (sym a.status_is) done
-on_verdict P g o grid d status text done broken (inr b) = subst P (sym b.status_is) broken
+on_drawing : (P : Status → Type 0) (asked : Job) (met : Met) (traced : Lines → Type 0) (g : Graph) (o : EdgeOrder) (status : Status) (text : List ℕ) → OfOwed P → IsDrawAnswer asked met traced g o status text → P status
+on_drawing P asked met traced g o status text owed (inl drawn) = subst P (sym drawn.status_is) (on_outcome P drawn.outcome owed.done owed.none owed.unfinished)
+on_drawing P asked met traced g o status text owed (inr down) = subst P (sym down.fault.status_is) owed.refused
 
-on_sheet : (P : Status → Type 0) (g : Graph) (o : EdgeOrder) (sheet : List ℕ) (status : Status) (text : List ℕ) → P Done → P Broken → P Refused → IsSheetJudged g o sheet status text → P status
-on_sheet P g o sheet status text done broken refused (inl judged) = on_verdict P g o judged.grid judged.drawn status text done broken judged.verdict
-on_sheet P g o sheet status text done broken refused (inr r) = subst P (sym r.told.status_is) refused
+on_verdict : (P : Status → Type 0) (g : Graph) (o : EdgeOrder) (grid : GridSize) (d : Drawing) (status : Status) (text : List ℕ) → OfOwed P → IsVerdict g o grid d status text → P status
+on_verdict P g o grid d status text owed (inl a) = subst P (sym a.status_is) owed.done
+on_verdict P g o grid d status text owed (inr b) = subst P (sym b.status_is) owed.broken
 
-on_command : (P : Status → Type 0) (command : Command) (met : Met) (status : Status) (text : List ℕ) → P Done → P Broken → P Refused → (FailsIn command met → P Unread) → Owes command met status text → P status
-on_command P (Draw input grid order budget svg log) met status text done broken refused unread owes =
-    let asked = job grid order svg log in
-    on_input P (text_input 1 input) 0 met (IsAnswerAfter 1 met (IsFileJudged (IsDrawAnswer asked))) status text refused (λ fails. unread (0, lit< tt, fails))
-    (λ bytes answer. on_file P (IsDrawAnswer asked) bytes status text refused (λ g o. on_drawing P asked g o status text done refused) answer.1)
+on_sheet : (P : Status → Type 0) (g : Graph) (o : EdgeOrder) (sheet : List ℕ) (status : Status) (text : List ℕ) → OfOwed P → IsSheetJudged g o sheet status text → P status
+on_sheet P g o sheet status text owed (inl judged) = on_verdict P g o judged.grid judged.drawn status text owed judged.verdict
+on_sheet P g o sheet status text owed (inr r) = subst P (sym r.told.status_is) owed.refused
+
+on_command : (P : Status → Type 0) (command : Command) (met : Met) (traced : Lines → Type 0) (status : Status) (text : List ℕ) → OfOwed P → (FailsIn command met → P Unread) → Owes command met traced status text → P status
+on_command P (Draw input grid order budget svg log) met traced status text owed unread owes =
+    let asked = job grid order budget svg log in
+    on_input P (text_input 1 input) 0 met (IsAnswerAfter 1 met (IsFileJudged (IsDrawAnswer asked met traced))) status text owed.refused (λ fails. unread (0, lit< tt, fails))
+    (λ bytes answer. on_file P (IsDrawAnswer asked met traced) bytes status text owed.refused (λ g o. on_drawing P asked met traced g o status text owed) answer.1)
     owes
-on_command P (PrintGraph input) met status text done broken refused unread owes =
-    on_input P (text_input 1 input) 0 met (IsAnswerAfter 1 met (IsFileJudged IsPrinted)) status text refused (λ fails. unread (0, lit< tt, fails))
-    (λ bytes answer. on_file P IsPrinted bytes status text refused (λ g o printed. subst P (sym printed.status_is) done) answer.1)
+on_command P (PrintGraph input) met traced status text owed unread owes =
+    on_input P (text_input 1 input) 0 met (IsAnswerAfter 1 met (IsFileJudged IsPrinted)) status text owed.refused (λ fails. unread (0, lit< tt, fails))
+    (λ bytes answer. on_file P IsPrinted bytes status text owed.refused (λ g o printed. subst P (sym printed.status_is) owed.done) answer.1)
     owes
-on_command P (Verify input sheet) met status text done broken refused unread owes =
-    on_input P (text_input 1 input) 0 met (λ bytes. IsAnswerOn (text_input 2 sheet) 1 met (IsAnswerAfter 2 met (IsVerified bytes))) status text refused (λ fails. unread (0, lit< tt, fails))
-    (λ bytes. on_input P (text_input 2 sheet) 1 met (IsAnswerAfter 2 met (IsVerified bytes)) status text refused (λ fails. unread (1, lit< tt, fails))
-    (λ drawn answer. on_file P (λ g o. IsSheetJudged g o drawn) bytes status text refused (λ g o. on_sheet P g o drawn status text done broken refused) answer.1))
+on_command P (Verify input sheet) met traced status text owed unread owes =
+    on_input P (text_input 1 input) 0 met (λ bytes. IsAnswerOn (text_input 2 sheet) 1 met (IsAnswerAfter 2 met (IsVerified bytes))) status text owed.refused (λ fails. unread (0, lit< tt, fails))
+    (λ bytes. on_input P (text_input 2 sheet) 1 met (IsAnswerAfter 2 met (IsVerified bytes)) status text owed.refused (λ fails. unread (1, lit< tt, fails))
+    (λ drawn answer. on_file P (λ g o. IsSheetJudged g o drawn) bytes status text owed.refused (λ g o. on_sheet P g o drawn status text owed) answer.1))
     owes
-on_command P (Check input sheet log) met status text done broken refused unread told = subst P (sym told.status_is) refused
-on_command P (Make n) met status text done broken refused unread told = subst P (sym told.status_is) refused
+on_command P (Check input sheet log) met traced status text owed unread told = subst P (sym told.status_is) owed.refused
+on_command P (Make n) met traced status text owed unread told = subst P (sym told.status_is) owed.refused
 
-on_due : (P : Status → Type 0) (words : List (List ℕ)) (met : Met) (status : Status) (text : List ℕ) → P Done → P Broken → P Refused → P WordsRefused → (Asks words (λ command. FailsIn command met) → P Unread) → IsDue words met status text → P status
-on_due P words met status text done broken refused words_refused unread (inl (command, asked, owes)) =
-    on_command P command met status text done broken refused (λ fails. unread (command, asked, fails)) owes
-on_due P words met status text done broken refused words_refused unread (inr r) = subst P (sym r.told.status_is) words_refused
+on_due : (P : Status → Type 0) (words : List (List ℕ)) (met : Met) (traced : Lines → Type 0) (status : Status) (text : List ℕ) → OfOwed P → (Asks words (λ command. FailsIn command met) → P Unread) → IsDue words met traced status text → P status
+on_due P words met traced status text owed unread (inl (command, asked, owes)) =
+    on_command P command met traced status text owed (λ fails. unread (command, asked, fails)) owes
+on_due P words met traced status text owed unread (inr r) = subst P (sym r.told.status_is) owed.words_refused
 
 -- what is due isn't cut short
-pub due_is_whole : (words : List (List ℕ)) (met : Met) (status : Status) (text : List ℕ) → IsDue words met status text → IsCutShort status → ⊥
-due_is_whole words met status text = on_due (λ s. IsCutShort s → ⊥) words met status text (λ h. h) (λ h. h) (λ h. h) (λ h. h) (λ fails. λ h. h)
+pub due_is_whole : (words : List (List ℕ)) (met : Met) (traced : Lines → Type 0) (status : Status) (text : List ℕ) → IsDue words met traced status text → IsCutShort status → ⊥
+due_is_whole words met traced status text =
+    let owed : OfOwed (λ s. IsCutShort s → ⊥) = record { done = λ h. h; refused = λ h. h; words_refused = λ h. h; none = λ h. h; unfinished = λ h. h; broken = λ h. h } in
+    on_due (λ s. IsCutShort s → ⊥) words met traced status text owed (λ fails. λ h. h)
 
 -- one that says so comes of a read that failed
-pub due_unread : (words : List (List ℕ)) (met : Met) (status : Status) (text : List ℕ) → IsDue words met status text → status ≡ Unread → Asks words (λ command. FailsIn command met)
-due_unread words met status text =
-    on_due (λ s. s ≡ Unread → Asks words (λ command. FailsIn command met)) words met status text (λ is. absurd (cc)) (λ is. absurd (cc)) (λ is. absurd (cc)) (λ is. absurd (cc)) (λ fails. λ is. fails)
+pub due_unread : (words : List (List ℕ)) (met : Met) (traced : Lines → Type 0) (status : Status) (text : List ℕ) → IsDue words met traced status text → status ≡ Unread → Asks words (λ command. FailsIn command met)
+due_unread words met traced status text =
+    let owed : OfOwed (λ s. s ≡ Unread → Asks words (λ command. FailsIn command met)) =
+    record { done = λ is. absurd (cc); refused = λ is. absurd (cc); words_refused = λ is. absurd (cc); none = λ is. absurd (cc); unfinished = λ is. absurd (cc); broken = λ is. absurd (cc) }
+    in
+    on_due (λ s. s ≡ Unread → Asks words (λ command. FailsIn command met)) words met traced status text owed (λ fails. λ is. fails)
 
 -- ---- sound inputs
 
@@ -124,9 +140,12 @@ sound_judged : (Answers : Graph → EdgeOrder → Status → List ℕ → Type 0
 sound_judged Answers bytes status text sound (inl answer) = answer
 sound_judged Answers bytes status text sound (inr refused) = absurd (sound refused.fault refused.has)
 
-drawn_is_done : (g : Graph) (o : EdgeOrder) (asked : Job) (status : Status) (text : List ℕ) → IsBuilt g asked → IsDrawAnswer asked g o status text → status ≡ Done
-drawn_is_done g o asked status text built (inl drawn) = drawn.status_is
-drawn_is_done g o asked status text built (inr down) = absurd (built down.unbuilt)
+drawn_status : (asked : Job) (met : Met) (traced : Lines → Type 0) (g : Graph) (o : EdgeOrder) (status : Status) (text : List ℕ) → asked.svg ≡ None → IsDrawAnswer asked met traced g o status text →
+    (status ≡ Done) ⊎ (status ≡ NoDrawing) ⊎ (status ≡ Unfinished)
+drawn_status asked met traced g o status text built (inl drawn) =
+    subst (λ s. (s ≡ Done) ⊎ (s ≡ NoDrawing) ⊎ (s ≡ Unfinished)) (sym drawn.status_is)
+    (on_outcome (λ s. (s ≡ Done) ⊎ (s ≡ NoDrawing) ⊎ (s ≡ Unfinished)) drawn.outcome (inl refl) (inr (inl refl)) (inr (inr refl)))
+drawn_status asked met traced g o status text built (inr down) = absurd (down.unbuilt built)
 
 verdict_status : (g : Graph) (o : EdgeOrder) (grid : GridSize) (d : Drawing) (status : Status) (text : List ℕ) → IsVerdict g o grid d status text → (status ≡ Done) ⊎ (status ≡ Broken)
 verdict_status g o grid d status text (inl lawful) = inl lawful.status_is
@@ -137,36 +156,28 @@ sheet_status g o sheet status text sound (inl judged) = verdict_status g o judge
 sheet_status g o sheet status text sound (inr refused) = absurd (sound.sound refused.what refused.line refused.first)
 
 -- a command whose inputs are sound, and none of whose reads failed, ends as it is there for
-sound_ends : (command : Command) (met : Met) (status : Status) (text : List ℕ) → AreSound command met.before.contents → (FailsIn command met → ⊥) → Owes command met status text → ends_of command status
-sound_ends (Draw input grid order budget svg log) met status text (file, built) read owes =
-    let asked = job grid order svg log in
-    let judged = first_on input met file (IsAnswerAfter 1 met (IsFileJudged (IsDrawAnswer asked))) status text (λ fails. read (0, lit< tt, fails)) owes in
-    let found = sound_judged (IsDrawAnswer asked) file.bytes status text file.sound judged.1 in
-    drawn_is_done found.0 found.1 asked status text (built found.0 found.1 found.2) found.3
-sound_ends (PrintGraph input) met status text file read owes =
+sound_ends : (command : Command) (met : Met) (traced : Lines → Type 0) (status : Status) (text : List ℕ) → AreSound command met.before.contents → (FailsIn command met → ⊥) → Owes command met traced status text → ends_of command status
+sound_ends (Draw input grid order budget svg log) met traced status text (file, built) read owes =
+    let asked = job grid order budget svg log in
+    let judged = first_on input met file (IsAnswerAfter 1 met (IsFileJudged (IsDrawAnswer asked met traced))) status text (λ fails. read (0, lit< tt, fails)) owes in
+    let found = sound_judged (IsDrawAnswer asked met traced) file.bytes status text file.sound judged.1 in
+    drawn_status asked met traced found.0 found.1 status text built found.3
+sound_ends (PrintGraph input) met traced status text file read owes =
     let judged = first_on input met file (IsAnswerAfter 1 met (IsFileJudged IsPrinted)) status text (λ fails. read (0, lit< tt, fails)) owes in
     let found = sound_judged IsPrinted file.bytes status text file.sound judged.1 in
     found.3.status_is
-sound_ends (Verify input sheet) met status text (file, drawn) read owes =
+sound_ends (Verify input sheet) met traced status text (file, drawn) read owes =
     let both = first_on input met file (λ bytes. IsAnswerOn (text_input 2 sheet) 1 met (IsAnswerAfter 2 met (IsVerified bytes))) status text (λ fails. read (0, lit< tt, fails)) owes in
     let verified =
     within_on (text_input 2 sheet) 1 met drawn.bytes (IsAnswerAfter 2 met (IsVerified file.bytes)) status text drawn.there (too_long MAX_FILE_BYTES drawn.bytes drawn.short) (λ fails. read (1, lit< tt, fails)) both in
     let found = sound_judged (λ g o. IsSheetJudged g o drawn.bytes) file.bytes status text file.sound verified.1 in
     sheet_status found.0 found.1 drawn.bytes status text (drawn.sound found.0 (found.1, found.2)) found.3
-sound_ends (Check input sheet log) met status text sound read owes = absurd sound
-sound_ends (Make n) met status text sound read owes = absurd sound
+sound_ends (Check input sheet log) met traced status text sound read owes = absurd sound
+sound_ends (Make n) met traced status text sound read owes = absurd sound
 
 -- so do words that ask for it
-pub due_ends : (words : List (List ℕ)) (command : Command) (met : Met) (status : Status) (text : List ℕ) → IsCommandOf words command → AreSound command met.before.contents → (FailsIn command met → ⊥) → IsDue words met status text → ends_of command status
-due_ends words command met status text asked sound read (inl (found, also, owes)) =
+pub due_ends : (words : List (List ℕ)) (command : Command) (met : Met) (traced : Lines → Type 0) (status : Status) (text : List ℕ) → IsCommandOf words command → AreSound command met.before.contents → (FailsIn command met → ⊥) → IsDue words met traced status text → ends_of command status
+due_ends words command met traced status text asked sound read (inl (found, also, owes)) =
     let same : found ≡ command = command_same words found command also asked in
-    sound_ends command met status text sound read (subst (λ (c : Command). Owes c met status text) same owes)
-due_ends words command met status text asked sound read (inr wrong) = absurd (command_or_fault words command wrong.what wrong.position asked wrong.fault)
-
--- ---- the files
-
--- files that stand as they stood are left as they are to be
-pub left : (old new : Option Told) (words : List (List ℕ)) (status : Status) → WhereTold old new SameFiles → WhereTold old new (Leaves words status)
-left None new words status same = tt
-left (Some before) None words status same = absurd same
-left (Some before) (Some after) words status same = λ name untouched. same name
+    sound_ends command met traced status text sound read (subst (λ (c : Command). Owes c met traced status text) same owes)
+due_ends words command met traced status text asked sound read (inr wrong) = absurd (command_or_fault words command wrong.what wrong.position asked wrong.fault)

@@ -2,7 +2,9 @@ pub mod StatusLemmas
 pub mod MetLemmas
 pub mod AnswerLemmas
 pub mod DueLemmas
-pub mod OneEdge
+pub mod LeavesLemmas
+pub mod DrawnLemmas
+pub mod FiledLemmas
 pub mod FormedRows
 pub mod InputLemmas
 pub mod VerdictLemmas

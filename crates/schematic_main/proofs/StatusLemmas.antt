@@ -1,15 +1,23 @@
 -- Statuses have different numbers, and none is both refused and answered.
 use Rattle.std.proofs.Common.{◌≡◌, ℕ, zero, suc, Ok, Err, refl, sym, ◌∙◌, ap}
 use Rattle.std.specs.Prelude.{Result, IfOk, IsOkAnd}
+use Rattle.schematic_main.specs.declared.reply.Cut.{Cut}
+use Rattle.schematic_main.specs.declared.reply.Cut.TheVariants as cuts
 use Rattle.schematic_main.specs.declared.reply.Reply.{Reply}
 use Rattle.schematic_main.specs.declared.status.Status.{Status}
-use Rattle.schematic_main.specs.declared.status.Status.TheVariants.{Done, Refused, WordsRefused, Unread, Unwritten, NoMemory, Broken}
+use Rattle.schematic_main.specs.declared.status.Status.TheVariants.{Done, Refused, WordsRefused, NoDrawing, Unfinished, Unread, Unwritten, NoMemory, Broken}
+use Rattle.lex_search.specs.declared.outcome.Outcome.{Outcome}
+use Rattle.lex_search.specs.declared.outcome.Outcome.TheVariants as outcomes
 use Rattle.schematic_main.specs.Status.{number_of, IsAnswered, IsRefused}
+use Rattle.schematic_main.specs.Drawn.{status_of}
+use Rattle.schematic_main.specs.Reply.{status_of_cut}
 
 abbrev status_at : ℕ → Status
 status_at zero = Done
 status_at (suc zero) = Refused
 status_at (suc (suc zero)) = WordsRefused
+status_at (suc (suc (suc zero))) = NoDrawing
+status_at (suc (suc (suc (suc zero)))) = Unfinished
 status_at (suc (suc (suc (suc (suc zero))))) = Unread
 status_at (suc (suc (suc (suc (suc (suc zero)))))) = Unwritten
 status_at (suc (suc (suc (suc (suc (suc (suc zero))))))) = NoMemory
@@ -19,6 +27,8 @@ status_at-number : (status : Status) → status_at (number_of status) ≡ status
 status_at-number Done = refl
 status_at-number Refused = refl
 status_at-number WordsRefused = refl
+status_at-number NoDrawing = refl
+status_at-number Unfinished = refl
 status_at-number Unread = refl
 status_at-number Unwritten = refl
 status_at-number NoMemory = refl
@@ -31,6 +41,8 @@ pub refused_unanswered : (status : Status) → IsRefused status → IsAnswered s
 refused_unanswered Done refused answered = refused
 refused_unanswered Refused refused answered = answered
 refused_unanswered WordsRefused refused answered = answered
+refused_unanswered NoDrawing refused answered = refused
+refused_unanswered Unfinished refused answered = refused
 refused_unanswered Unread refused answered = answered
 refused_unanswered Unwritten refused answered = answered
 refused_unanswered NoMemory refused answered = answered
@@ -40,3 +52,18 @@ refused_unanswered Broken refused answered = refused
 pub refused_reply : {E : Type 0} (r : Result Reply E) → IfOk r (λ x. IsRefused x.status) → IsOkAnd r (λ x. IsAnswered x.status) → ⊥
 refused_reply (Ok x) refused answered = refused_unanswered x.status refused answered
 refused_reply (Err e) refused answered = answered
+
+-- how a run ends after an outcome
+pub on_outcome : (P : Status → Type 0) (outcome : Outcome) → P Done → P NoDrawing → P Unfinished → P (status_of outcome)
+on_outcome P (outcomes.Best d) done none unfinished = done
+on_outcome P outcomes.NoDrawing done none unfinished = none
+on_outcome P (outcomes.Spent best settled) done none unfinished = unfinished
+on_outcome P (outcomes.Room best settled) done none unfinished = unfinished
+
+pub outcome_unrefused : (outcome : Outcome) → IsRefused (status_of outcome) → ⊥
+outcome_unrefused outcome = on_outcome (λ s. IsRefused s → ⊥) outcome (λ h. h) (λ h. h) (λ h. h)
+
+-- a run without an answer isn't refused
+pub cut_unrefused : (cut : Cut) → IsRefused (status_of_cut cut) → ⊥
+cut_unrefused cuts.Unwritten refused = refused
+cut_unrefused cuts.Memory refused = refused

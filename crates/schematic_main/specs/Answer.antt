@@ -1,71 +1,19 @@
--- What is answered to an input, to a station and to a sheet: the status and the text that goes with it.
--- specs/Commands says which of it each command owes.
-use Rattle.std.specs.Prelude.{◌≡◌, ◌≢◌, ℕ, suc, ◌⊎◌, Bool, List, length, None, Some}
-use Rattle.std.specs.declared.option.Option.{Option}
+-- What is answered to an input and to the bytes of a file: the status and the text that goes with it. specs/Commands
+-- says which of it each command owes, specs/Drawn what draw answers to a station.
+use Rattle.std.specs.Prelude.{◌≡◌, ℕ, suc, ◌⊎◌, List}
 use Rattle.outside_io.specs.Contents.{IsFileWhereTold}
-use Rattle.plan_core.specs.declared.criterion.Criterion.{Criterion}
 use Rattle.plan_core.specs.declared.limits.TheConstants.{MAX_FILE_BYTES}
-use Rattle.plan_core.specs.Grid.{GridSize}
-use Rattle.plan_core.specs.Graph.{Graph, IsTrackGraph}
-use Rattle.plan_core.specs.Drawing.{Drawing}
-use Rattle.plan_core.specs.Values.{IsBest}
+use Rattle.plan_core.specs.Graph.{Graph}
 use Rattle.track_order.specs.Order.{EdgeOrder, is_above}
-use Rattle.plan_text.specs.declared.ending.Ending.TheVariants.{Best}
 use Rattle.plan_text.specs.GraphText.{graph_text}
-use Rattle.plan_text.specs.SheetText.{sheet_text}
 use Rattle.schematic_main.specs.declared.fault.RunFault.{RunFault}
-use Rattle.schematic_main.specs.declared.fault.RunFault.TheVariants.{NotBuilt, Long, ReadFailed}
+use Rattle.schematic_main.specs.declared.fault.RunFault.TheVariants.{Long, ReadFailed}
 use Rattle.schematic_main.specs.declared.status.Status.{Status}
 use Rattle.schematic_main.specs.declared.status.Status.TheVariants.{Done}
 use Rattle.schematic_main.specs.Fault.{IsFaultLine}
 use Rattle.schematic_main.specs.Input.{IsLong, IsShort, HasStation, HasFileFault}
 use Rattle.schematic_main.specs.Met.{Met, HasRead, ReadFails}
 use Rattle.schematic_main.specs.Verdict.{IsSheetJudged}
-
--- the text is the sheet of a drawing of this track graph that is lawful, with the drawing's own values,
--- and no lawful drawing of the graph on this grid is better in this order
-pub record IsBestSheet (g : Graph) (above : ℕ → ℕ → Bool) (grid : GridSize) (order : List Criterion) (text : List ℕ) : Type 0 where
-  pub track_graph : IsTrackGraph g
-  pub drawn : Drawing
-  pub best : IsBest g above grid order drawn
-  pub spelled : text ≡ sheet_text g (record { grid = grid; order = order; found = Some drawn; ending = Best })
-
--- ---- draw
-
--- what is asked of a drawing: its grid, the order in which drawings are compared, and the names of the files
--- for a picture and for a log
-pub record Job : Type 0 where
-  pub grid : GridSize
-  pub order : List Criterion
-  pub svg : Option (List ℕ)
-  pub log : Option (List ℕ)
-
-abbrev pub job : GridSize → List Criterion → Option (List ℕ) → Option (List ℕ) → Job
-job grid order svg log = record { grid = grid; order = order; svg = svg; log = log }
-
--- the drawing of such a graph on such a grid, with such files to write, isn't built yet: the graph has another
--- number of edges than one, the least length isn't 1, or a picture or a log is asked for
-abbrev pub IsUnbuilt : Graph → GridSize → Option (List ℕ) → Option (List ℕ) → Type 0
-IsUnbuilt g grid svg log = (length g.edges ≢ 1) ⊎ (grid.least ≢ 1) ⊎ (svg ≢ None) ⊎ (log ≢ None)
-
--- the drawing that is asked for is built
-abbrev pub IsBuilt : Graph → Job → Type 0
-IsBuilt g asked = IsUnbuilt g asked.grid asked.svg asked.log → ⊥
-
--- it is, and the text is a best sheet of this station's graph
-pub record IsDrawn (g : Graph) (o : EdgeOrder) (asked : Job) (status : Status) (text : List ℕ) : Type 0 where
-  pub built : IsBuilt g asked
-  pub status_is : status ≡ Done
-  pub sheet : IsBestSheet g (is_above o) asked.grid asked.order text
-
--- the answer says that the drawing isn't built yet
-pub record IsTurnedDown (g : Graph) (asked : Job) (status : Status) (text : List ℕ) : Type 0 where
-  pub unbuilt : IsUnbuilt g asked.grid asked.svg asked.log
-  pub fault : IsFaultLine NotBuilt status text
-
--- what draw answers to a station
-abbrev pub IsDrawAnswer : Job → Graph → EdgeOrder → Status → List ℕ → Type 0
-IsDrawAnswer asked g o status text = IsDrawn g o asked status text ⊎ IsTurnedDown g asked status text
 
 -- ---- graph
 

@@ -1,6 +1,6 @@
 -- What differs by command, a row for each: what it reads and writes, what it owes, how it may end, and when its
 -- inputs are sound.
-use Rattle.std.specs.Prelude.{◌≡◌, ◌⊎◌, ℕ, List, [], ◌∷◌, Some}
+use Rattle.std.specs.Prelude.{◌≡◌, ◌⊎◌, ℕ, ⊤, List, [], ◌∷◌, Any, Some, None}
 use Rattle.std.specs.declared.option.Option.{Option}
 use Rattle.outside_io.specs.Contents.{Told, TellsAt}
 use Rattle.plan_core.specs.declared.limits.TheConstants.{MAX_FILE_BYTES}
@@ -8,15 +8,20 @@ use Rattle.plan_core.specs.Graph.{Graph}
 use Rattle.plan_words.specs.declared.command.Command.{Command}
 use Rattle.plan_words.specs.declared.command.Command.TheVariants.{Draw, Verify, Check, Graph as PrintGraph, Make}
 use Rattle.track_order.specs.Order.{EdgeOrder}
+use Rattle.refute_log.specs.Told.{Lines}
+use Rattle.refute_log.specs.FileLog.{BeginsLog}
 use Rattle.schematic_main.specs.declared.fault.RunFault.{RunFault}
 use Rattle.schematic_main.specs.declared.fault.RunFault.TheVariants.{NotBuilt}
 use Rattle.schematic_main.specs.declared.status.Status.{Status}
-use Rattle.schematic_main.specs.declared.status.Status.TheVariants.{Done, Broken}
+use Rattle.schematic_main.specs.declared.status.Status.TheVariants.{Done, NoDrawing, Unfinished, Broken}
 use Rattle.schematic_main.specs.Fault.{IsFaultLine}
 use Rattle.schematic_main.specs.Input.{IsShort, HasStation, HasFileFault}
 use Rattle.schematic_main.specs.Verdict.{IsSoundSheet}
 use Rattle.schematic_main.specs.Met.{Met}
-use Rattle.schematic_main.specs.Answer.{InputFile, text_input, job, IsBuilt, IsDrawAnswer, IsPrinted, IsFileJudged, IsVerified, IsAnswerAfter, IsAnswerOn}
+use Rattle.schematic_main.specs.Answer.{InputFile, text_input, IsPrinted, IsFileJudged, IsVerified, IsAnswerAfter, IsAnswerOn}
+use Rattle.schematic_main.specs.Drawn.{job, IsDrawAnswer}
+
+-- ---- what it reads and writes
 
 -- the inputs that a command reads, in this order; check isn't built yet and reads none
 abbrev pub inputs_of : Command → List InputFile
@@ -26,37 +31,82 @@ inputs_of (Verify input sheet) = text_input 1 input ∷ text_input 2 sheet ∷ [
 inputs_of (Check input sheet log) = []
 inputs_of (Make n) = []
 
--- the names of the files that a command writes; none is built yet that writes one
-abbrev pub outputs_of : Command → List (List ℕ)
-outputs_of (Draw input grid order budget svg log) = []
+-- what stands in a file that a command writes: the text of a log
+pub data OutputKind : Type 0 where
+  LogOutput : OutputKind
+
+-- a file that a command writes
+pub record OutputFile : Type 0 where
+  pub name : List ℕ
+  pub kind : OutputKind
+
+-- the file of this name, for a log
+abbrev pub log_file : List ℕ → OutputFile
+log_file name = record { name = name; kind = LogOutput }
+
+-- the log's file, where one is named
+abbrev pub log_output : Option (List ℕ) → List OutputFile
+log_output None = []
+log_output (Some name) = log_file name ∷ []
+
+-- the files that a command writes; a picture isn't built yet
+abbrev pub outputs_of : Command → List OutputFile
+outputs_of (Draw input grid order budget svg log) = log_output log
 outputs_of (PrintGraph input) = []
 outputs_of (Verify input sheet) = []
 outputs_of (Check input sheet log) = []
 outputs_of (Make n) = []
 
--- a command tells the lines of a search to the trace; nothing is searched for yet
+-- the bytes begin what stands in such a file, as those of one do that isn't written whole
+abbrev pub BeginsOutput : OutputKind → List ℕ → Type 0
+BeginsOutput LogOutput bytes = BeginsLog bytes
+
+-- this file is one of those that are written, and this holds of what is to stand there
+abbrev pub WritesTo : List OutputFile → List ℕ → (OutputKind → Type 0) → Type 0
+WritesTo outputs name P = Any (λ output. (output.name ≡ name) × P output.kind) outputs
+
+abbrev pub Writes : List OutputFile → List ℕ → Type 0
+Writes outputs name = WritesTo outputs name (λ kind. ⊤)
+
+-- each of these files stands as it stood, or begins what is to stand there
+abbrev pub AreBegun : List OutputFile → Told → Told → Type 0
+AreBegun outputs before after = (name : List ℕ) → Writes outputs name →
+    (after name ≡ before name) ⊎ ((bytes : List ℕ) × (after name ≡ Some bytes) × WritesTo outputs name (λ kind. BeginsOutput kind bytes))
+
+-- what is left of all files by a command that writes these: each other one as it stood, and each of these too where the
+-- command is refused; and these begun, or as they stood
+pub record LeavesFiles (outputs : List OutputFile) (Refused : Type 0) (before after : Told) : Type 0 where
+  pub others : (name : List ℕ) → Refused ⊎ (Writes outputs name → ⊥) → after name ≡ before name
+  pub begun : AreBegun outputs before after
+
+-- a command tells the lines of a search to the trace: draw, where no file is named for them
 abbrev pub TellsTrace : Command → Type 0
-TellsTrace (Draw input grid order budget svg log) = ⊥
+TellsTrace (Draw input grid order budget svg log) = log ≡ None
 TellsTrace (PrintGraph input) = ⊥
 TellsTrace (Verify input sheet) = ⊥
 TellsTrace (Check input sheet log) = ⊥
 TellsTrace (Make n) = ⊥
 
--- what a command owes: with what it met, the status that it ends with and the text that it puts. verify reads
--- the file, and then the sheet, before it judges what they say; draw and graph read the file alone. check and
--- make aren't built yet
-abbrev pub Owes : Command → Met → Status → List ℕ → Type 0
-Owes (Draw input grid order budget svg log) met status text =
-    IsAnswerOn (text_input 1 input) 0 met (IsAnswerAfter 1 met (IsFileJudged (IsDrawAnswer (job grid order svg log)))) status text
-Owes (PrintGraph input) met status text = IsAnswerOn (text_input 1 input) 0 met (IsAnswerAfter 1 met (IsFileJudged IsPrinted)) status text
-Owes (Verify input sheet) met status text =
+-- ---- what it owes
+
+-- with what the run met and what the trace was told, the status that a command ends with and the text that it puts.
+-- verify reads the file, and then the sheet, before it judges what they say; draw and graph read the file alone. check
+-- and make aren't built yet
+abbrev pub Owes : Command → Met → (traced : Lines → Type 0) → Status → List ℕ → Type 0
+Owes (Draw input grid order budget svg log) met traced status text =
+    IsAnswerOn (text_input 1 input) 0 met (IsAnswerAfter 1 met (IsFileJudged (IsDrawAnswer (job grid order budget svg log) met traced))) status text
+Owes (PrintGraph input) met traced status text =
+    IsAnswerOn (text_input 1 input) 0 met (IsAnswerAfter 1 met (IsFileJudged IsPrinted)) status text
+Owes (Verify input sheet) met traced status text =
     IsAnswerOn (text_input 1 input) 0 met (λ bytes. IsAnswerOn (text_input 2 sheet) 1 met (IsAnswerAfter 2 met (IsVerified bytes))) status text
-Owes (Check input sheet log) met status text = IsFaultLine NotBuilt status text
-Owes (Make n) met status text = IsFaultLine NotBuilt status text
+Owes (Check input sheet log) met traced status text = IsFaultLine NotBuilt status text
+Owes (Make n) met traced status text = IsFaultLine NotBuilt status text
+
+-- ---- how it ends
 
 -- how a command ends where nothing is wrong with its inputs; check and make never come to such an end yet
 abbrev pub ends_of : Command → Status → Type 0
-ends_of (Draw input grid order budget svg log) status = status ≡ Done
+ends_of (Draw input grid order budget svg log) status = (status ≡ Done) ⊎ (status ≡ NoDrawing) ⊎ (status ≡ Unfinished)
 ends_of (PrintGraph input) status = status ≡ Done
 ends_of (Verify input sheet) status = (status ≡ Done) ⊎ (status ≡ Broken)
 ends_of (Check input sheet log) status = ⊥
@@ -75,10 +125,9 @@ pub record HasSoundSheet (name : List ℕ) (contents : Option Told) (IsGraph : G
   pub short : IsShort MAX_FILE_BYTES bytes
   pub sound : (g : Graph) → IsGraph g → IsSoundSheet g bytes
 
--- nothing is wrong with the inputs of a command, and what it asks of them is built
+-- nothing is wrong with the inputs of a command, and what it asks for is built
 abbrev pub AreSound : Command → Option Told → Type 0
-AreSound (Draw input grid order budget svg log) contents =
-    (file : HasSoundFile input contents) × ((g : Graph) (o : EdgeOrder) → HasStation file.bytes g o → IsBuilt g (job grid order svg log))
+AreSound (Draw input grid order budget svg log) contents = HasSoundFile input contents × (svg ≡ None)
 AreSound (PrintGraph input) contents = HasSoundFile input contents
 AreSound (Verify input sheet) contents =
     (file : HasSoundFile input contents) × HasSoundSheet sheet contents (λ g. (o : EdgeOrder) × HasStation file.bytes g o)

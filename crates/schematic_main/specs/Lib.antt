@@ -1,10 +1,12 @@
-pub mod OneEdge
 pub mod Status
 pub mod Met
 pub mod Fault
 pub mod Input
 pub mod Verdict
 pub mod Answer
+pub mod SearchLog
+pub mod Drawn
 pub mod Commands
 pub mod Run
 pub mod Reading
+pub mod Reply

@@ -1,5 +1,5 @@
 -- What a run owes, by its words: what their command owes, or the line of their fault.
-use Rattle.std.specs.Prelude.{◌≡◌, ◌≢◌, ℕ, ◌<◌, ◌⊎◌, List, [], length, Contains}
+use Rattle.std.specs.Prelude.{◌≡◌, ◌≢◌, ℕ, ◌<◌, ◌⊎◌, List, [], length}
 use Rattle.std.specs.declared.option.Option.{Option}
 use Rattle.std.specs.Io.KnownBytes.{Appends, Keeps}
 use Rattle.outside_io.specs.Contents.{Told}
@@ -9,12 +9,12 @@ use Rattle.plan_words.specs.declared.command.Command.{Command}
 use Rattle.plan_words.specs.declared.fault.WordWhat.{WordWhat}
 use Rattle.plan_words.specs.WordFaults.{IsFaultOfWords}
 use Rattle.plan_words.specs.Words.{IsCommandOf}
+use Rattle.refute_log.specs.Told.{Lines}
 use Rattle.schematic_main.specs.declared.fault.RunFault.TheVariants.{Words}
 use Rattle.schematic_main.specs.declared.status.Status.{Status}
 use Rattle.schematic_main.specs.Fault.{IsFaultLine}
-use Rattle.schematic_main.specs.Status.{IsRefused}
 use Rattle.schematic_main.specs.Met.{Met, ReadFails}
-use Rattle.schematic_main.specs.Commands.{inputs_of, outputs_of, TellsTrace, Owes}
+use Rattle.schematic_main.specs.Commands.{OutputFile, inputs_of, outputs_of, Writes, AreBegun, TellsTrace, Owes}
 
 -- the words ask for a command of which this holds
 abbrev pub Asks : List (List ℕ) → (Command → Type 0) → Type 0
@@ -31,9 +31,9 @@ pub record IsWordsAnswer (words : List (List ℕ)) (status : Status) (text : Lis
   pub fault : IsFaultOfWords words what position
   pub told : IsFaultLine (Words what position) status text
 
--- this is due where the words ask for it and the run met this
-abbrev pub IsDue : List (List ℕ) → Met → Status → List ℕ → Type 0
-IsDue words met status text = Asks words (λ command. Owes command met status text) ⊎ IsWordsAnswer words status text
+-- this is due where the words ask for it, the run met this, and the trace was told this
+abbrev pub IsDue : List (List ℕ) → Met → (traced : Lines → Type 0) → Status → List ℕ → Type 0
+IsDue words met traced status text = Asks words (λ command. Owes command met traced status text) ⊎ IsWordsAnswer words status text
 
 -- a whole text with this property was given
 abbrev pub GivenAll : Option (List ℕ) → Option (List ℕ) → (List ℕ → Type 0) → Type 0
@@ -60,22 +60,28 @@ abbrev pub WritesNothing : List (List ℕ) → Type 0
 WritesNothing words = WhereAsked words (λ command. outputs_of command ≡ [])
 
 -- the words name this file to be written
-abbrev pub Writes : List (List ℕ) → List ℕ → Type 0
-Writes words name = Asks words (λ command. Contains (outputs_of command) name)
+abbrev pub IsNamed : List (List ℕ) → List ℕ → Type 0
+IsNamed words name = Asks words (λ command. Writes (outputs_of command) name)
 
--- each file stands as it stood: every one where the run was refused, and else every one that the words don't name
--- to be written
-abbrev pub Leaves : List (List ℕ) → Status → Told → Told → Type 0
-Leaves words status before after = (name : List ℕ) → IsRefused status ⊎ (Writes words name → ⊥) → after name ≡ before name
+-- each file stands as it stood that the words don't name to be written, and where the run was refused every one; and each
+-- that they name begins what is to stand there, or stands as it stood: what their command leaves, and for words with a
+-- fault nothing is changed
+pub record Leaves (words : List (List ℕ)) (Refused : Type 0) (before after : Told) : Type 0 where
+  pub others : (name : List ℕ) → Refused ⊎ (IsNamed words name → ⊥) → after name ≡ before name
+  pub begun : WhereAsked words (λ command. AreBegun (outputs_of command) before after)
 
--- the command writes files, and one of these writes failed
-abbrev pub FailsToWrite : Command → Met → Type 0
-FailsToWrite command met = (outputs_of command ≢ []) × Rose met.before.write_faults met.after.write_faults
+-- a search's lines couldn't be told: a write of the command's files failed, or the trace did, where the lines go to it
+abbrev pub FailsToTell : (outputs : List OutputFile) → (TellsIt : Type 0) → Met → (trace_rose : Type 0) → Type 0
+FailsToTell outputs TellsIt met trace_rose =
+    ((outputs ≢ []) × Rose met.before.write_faults met.after.write_faults) ⊎ (TellsIt × trace_rose)
 
--- a write of the run failed: a put, or one of the files that its command writes, or what its command told the
--- trace
-abbrev pub WriteFails : List (List ℕ) → Met → (put told : Type 0) → Type 0
-WriteFails words met put told = put ⊎ Asks words (λ command. FailsToWrite command met ⊎ (TellsTrace command × told))
+-- the command couldn't tell a search's lines
+abbrev pub CommandFailsToTell : Command → Met → (trace_rose : Type 0) → Type 0
+CommandFailsToTell command met trace_rose = FailsToTell (outputs_of command) (TellsTrace command) met trace_rose
+
+-- a write of the run failed: a put, or what its command was to tell
+abbrev pub WriteFails : List (List ℕ) → Met → (put_rose trace_rose : Type 0) → Type 0
+WriteFails words met put_rose trace_rose = put_rose ⊎ Asks words (λ command. CommandFailsToTell command met trace_rose)
 
 -- the words ask for no command that tells a search to the trace
 abbrev pub TellsNothing : List (List ℕ) → Type 0

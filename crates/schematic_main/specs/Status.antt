@@ -1,13 +1,15 @@
 -- How a run ends: the number of each status, and what some of them have in common.
 use Rattle.std.specs.Prelude.{◌≡◌, ℕ}
 use Rattle.schematic_main.specs.declared.status.Status.{Status}
-use Rattle.schematic_main.specs.declared.status.Status.TheVariants.{Done, Refused, WordsRefused, Unread, Unwritten, NoMemory, Broken}
+use Rattle.schematic_main.specs.declared.status.Status.TheVariants.{Done, Refused, WordsRefused, NoDrawing, Unfinished, Unread, Unwritten, NoMemory, Broken}
 
 -- what the program ends with; no two statuses have one number
 abbrev pub number_of : Status → ℕ
 number_of Done = 0
 number_of Refused = 1
 number_of WordsRefused = 2
+number_of NoDrawing = 3
+number_of Unfinished = 4
 number_of Unread = 5
 number_of Unwritten = 6
 number_of NoMemory = 7
@@ -18,6 +20,8 @@ abbrev pub IsAnswered : Status → Type 0
 IsAnswered Done = Unit {0}
 IsAnswered Refused = ⊥
 IsAnswered WordsRefused = ⊥
+IsAnswered NoDrawing = Unit {0}
+IsAnswered Unfinished = Unit {0}
 IsAnswered Unread = ⊥
 IsAnswered Unwritten = ⊥
 IsAnswered NoMemory = ⊥
@@ -28,6 +32,8 @@ abbrev pub IsRefused : Status → Type 0
 IsRefused Done = ⊥
 IsRefused Refused = Unit {0}
 IsRefused WordsRefused = Unit {0}
+IsRefused NoDrawing = ⊥
+IsRefused Unfinished = ⊥
 IsRefused Unread = Unit {0}
 IsRefused Unwritten = ⊥
 IsRefused NoMemory = ⊥
@@ -38,6 +44,8 @@ abbrev pub IsCutShort : Status → Type 0
 IsCutShort Done = ⊥
 IsCutShort Refused = ⊥
 IsCutShort WordsRefused = ⊥
+IsCutShort NoDrawing = ⊥
+IsCutShort Unfinished = ⊥
 IsCutShort Unread = ⊥
 IsCutShort Unwritten = Unit {0}
 IsCutShort NoMemory = Unit {0}

@@ -1,64 +1,75 @@
 // The top call.
-ghost use Rattle.std.specs.Prelude.{◌≡◌, ◌⊎◌, ◌≤◌, ℕ, length, IfOk, IsOkAnd};
+ghost use Rattle.std.specs.Prelude.{◌≡◌, ◌⊎◌, ◌≤◌, ℕ, length, IfOk, IsOkAnd, IsErrOf};
 ghost use Rattle.outside_io.specs.Counts.{Rose};
-ghost use Rattle.outside_io.specs.Contents.{WhereTold, SameFiles};
+ghost use Rattle.outside_io.specs.Contents.{WhereTold};
 ghost use Rattle.plan_words.specs.Arguments.{texts_of};
 ghost use Rattle.schematic_main.specs.Status.{IsAnswered, IsRefused, IsCutShort, EndsAs};
+ghost use Rattle.refute_log.specs.ToldTo.{told_to};
 ghost use Rattle.schematic_main.specs.Met.{met_on, ReadsInputs, IsUnread, IsUnwritten};
 ghost use Rattle.schematic_main.specs.Commands.{inputs_of, AreSound, ends_of};
-ghost use Rattle.schematic_main.specs.Run.{Asks, WhereAsked, IsDue, GivenAll, GivenPrefix, ReadsNothing, FailsIn, WritesNothing, Leaves, WriteFails, TellsNothing};
+ghost use Rattle.schematic_main.specs.Run.{Asks, WhereAsked, IsDue, GivenAll, GivenPrefix, ReadsNothing, FailsIn, WritesNothing, Leaves, CommandFailsToTell, WriteFails, TellsNothing};
 
 use crate::answers::answer_to;
 use crate::fault::RunFault;
-use crate::reply::{Reply, fault_reply};
+use crate::reply::{Cut, Reply, fault_reply};
 use crate::status::Status;
 use outside_io::{Files, Sink, SinkFault};
-use plan_core::OutOfMemory;
 use plan_words::{WordFault, read_words};
 use refute_log::LogSink;
 use std::alloc::Global;
 
 /// What the words are answered with.
-fn reply_to<F: Files>(alloc: Global, words: &[String], files: &mut F) -> Result<Reply, OutOfMemory>
-    ensures answer { IfOk result (λ r. IsDue (texts_of words.now) (met_on F.contents F.read_faults F.write_faults F.reads files.old files.new) r.status r.text.items) }
+fn reply_to<F: Files, T: LogSink>(
+    alloc: Global,
+    words: &[String],
+    files: &mut F,
+    trace: &mut T,
+) -> Result<Reply, Cut>
+    ensures answer { IfOk result (λ r. IsDue (texts_of words.now) (met_on F.contents F.read_faults F.write_faults F.reads files.old files.new) (told_to T.tells T.learnt trace.old trace.new) r.status r.text.items) }
     ensures reads { WhereAsked (texts_of words.now) (λ command. ReadsInputs (length (inputs_of command)) (IsOkAnd result (λ r. IsAnswered r.status)) (met_on F.contents F.read_faults F.write_faults F.reads files.old files.new)) }
     ensures unread { ReadsNothing (texts_of words.now) → IsUnread (met_on F.contents F.read_faults F.write_faults F.reads files.old files.new) }
-    ensures unwritten { IsUnwritten (met_on F.contents F.read_faults F.write_faults F.reads files.old files.new) }
-    ensures same { WhereTold (F.contents files.old) (F.contents files.new) SameFiles }
+    ensures unwritten { IsOkAnd result (λ r. IsRefused r.status) ⊎ WritesNothing (texts_of words.now) → IsUnwritten (met_on F.contents F.read_faults F.write_faults F.reads files.old files.new) }
+    ensures leaves { WhereTold (F.contents files.old) (F.contents files.new) (Leaves (texts_of words.now) (IsOkAnd result (λ r. IsRefused r.status))) }
+    ensures cause { IsErrOf result Cut.Unwritten → Asks (texts_of words.now) (λ command. CommandFailsToTell command (met_on F.contents F.read_faults F.write_faults F.reads files.old files.new) (Rose (T.faults trace.old) (T.faults trace.new))) }
+    ensures traced { T.is_later trace.old trace.new }
+    ensures untold { IsOkAnd result (λ r. IsRefused r.status) ⊎ TellsNothing (texts_of words.now) → trace.new ≡ trace.old }
 {
     match read_words(alloc, words) {
-        Ok(command) => answer_to(alloc, &command, files),
+        Ok(command) => answer_to(alloc, &command, files, trace),
         Err(WordFault::Words { what, position }) => {
-            fault_reply(alloc, RunFault::Words { what, position })
+            Ok(fault_reply(alloc, RunFault::Words { what, position })?)
         }
-        Err(WordFault::Memory) => Err(OutOfMemory),
+        Err(WordFault::Memory) => Err(Cut::Memory),
     }
 }
 
 /// Answers the words: puts what they are answered with.
-fn carry_out<F: Files, O: Sink>(
+fn carry_out<F: Files, O: Sink, T: LogSink>(
     alloc: Global,
     words: &[String],
     files: &mut F,
     out: &mut O,
+    trace: &mut T,
 ) -> Status
-    ensures answer { (IsCutShort result → ⊥) → GivenAll (O.given out.old) (O.given out.new) (IsDue (texts_of words.now) (met_on F.contents F.read_faults F.write_faults F.reads files.old files.new) result) }
-    ensures cut_short { IsCutShort result → GivenPrefix (O.given out.old) (O.given out.new) (λ text. (status : Status) × IsDue (texts_of words.now) (met_on F.contents F.read_faults F.write_faults F.reads files.old files.new) status text) }
+    ensures answer { (IsCutShort result → ⊥) → GivenAll (O.given out.old) (O.given out.new) (IsDue (texts_of words.now) (met_on F.contents F.read_faults F.write_faults F.reads files.old files.new) (told_to T.tells T.learnt trace.old trace.new) result) }
+    ensures cut_short { IsCutShort result → GivenPrefix (O.given out.old) (O.given out.new) (λ text. (status : Status) × IsDue (texts_of words.now) (met_on F.contents F.read_faults F.write_faults F.reads files.old files.new) (told_to T.tells T.learnt trace.old trace.new) status text) }
     ensures read_fault { result ≡ Status.Unread → Asks (texts_of words.now) (λ command. FailsIn command (met_on F.contents F.read_faults F.write_faults F.reads files.old files.new)) }
-    ensures put_fault { result ≡ Status.Unwritten → Rose (O.faults out.old) (O.faults out.new) }
-    ensures completes { WhereAsked (texts_of words.now) (λ command. AreSound command (F.contents files.old) → ¬ FailsIn command (met_on F.contents F.read_faults F.write_faults F.reads files.old files.new) → ¬ Rose (O.faults out.old) (O.faults out.new) → ends_of command result ⊎ (result ≡ Status.NoMemory)) }
+    ensures write_fault { result ≡ Status.Unwritten → WriteFails (texts_of words.now) (met_on F.contents F.read_faults F.write_faults F.reads files.old files.new) (Rose (O.faults out.old) (O.faults out.new)) (Rose (T.faults trace.old) (T.faults trace.new)) }
+    ensures completes { WhereAsked (texts_of words.now) (λ command. AreSound command (F.contents files.old) → ¬ FailsIn command (met_on F.contents F.read_faults F.write_faults F.reads files.old files.new) → ¬ WriteFails (texts_of words.now) (met_on F.contents F.read_faults F.write_faults F.reads files.old files.new) (Rose (O.faults out.old) (O.faults out.new)) (Rose (T.faults trace.old) (T.faults trace.new)) → ends_of command result ⊎ (result ≡ Status.NoMemory)) }
     ensures reads { WhereAsked (texts_of words.now) (λ command. ReadsInputs (length (inputs_of command)) (IsAnswered result) (met_on F.contents F.read_faults F.write_faults F.reads files.old files.new)) }
     ensures unread { ReadsNothing (texts_of words.now) → IsUnread (met_on F.contents F.read_faults F.write_faults F.reads files.old files.new) }
-    ensures unwritten { IsUnwritten (met_on F.contents F.read_faults F.write_faults F.reads files.old files.new) }
-    ensures same { WhereTold (F.contents files.old) (F.contents files.new) SameFiles }
+    ensures unwritten { IsRefused result ⊎ WritesNothing (texts_of words.now) → IsUnwritten (met_on F.contents F.read_faults F.write_faults F.reads files.old files.new) }
+    ensures leaves { WhereTold (F.contents files.old) (F.contents files.new) (Leaves (texts_of words.now) (IsRefused result)) }
+    ensures traced { T.is_later trace.old trace.new }
+    ensures untold { IsRefused result ⊎ TellsNothing (texts_of words.now) → trace.new ≡ trace.old }
 {
-    match reply_to(alloc, words, files) {
+    match reply_to(alloc, words, files, trace) {
         Ok(reply) => match out.put(&reply.text) {
             Ok(()) => reply.status,
             Err(SinkFault::Failed) => Status::Unwritten,
             Err(SinkFault::Memory) => Status::NoMemory,
         },
-        Err(_) => Status::NoMemory,
+        Err(cut) => cut.status(),
     }
 }
 
@@ -73,27 +84,26 @@ pub fn run<F: Files, O: Sink, T: LogSink>(
     trace: &mut T,
 ) -> u8
     // Every run that isn't cut short has put a whole text: what its command owes with its status.
-    ensures answer { EndsAs result (λ status. (IsCutShort status → ⊥) → GivenAll (O.given out.old) (O.given out.new) (IsDue (texts_of words.now) (met_on F.contents F.read_faults F.write_faults F.reads files.old files.new) status)) }
+    ensures answer { EndsAs result (λ status. (IsCutShort status → ⊥) → GivenAll (O.given out.old) (O.given out.new) (IsDue (texts_of words.now) (met_on F.contents F.read_faults F.write_faults F.reads files.old files.new) (told_to T.tells T.learnt trace.old trace.new) status)) }
     // One that is cut short has put nothing, or a prefix of a text that this run may answer.
-    ensures cut_short { EndsAs result (λ status. IsCutShort status → GivenPrefix (O.given out.old) (O.given out.new) (λ text. (due : Status) × IsDue (texts_of words.now) (met_on F.contents F.read_faults F.write_faults F.reads files.old files.new) due text)) }
+    ensures cut_short { EndsAs result (λ status. IsCutShort status → GivenPrefix (O.given out.old) (O.given out.new) (λ text. (due : Status) × IsDue (texts_of words.now) (met_on F.contents F.read_faults F.write_faults F.reads files.old files.new) (told_to T.tells T.learnt trace.old trace.new) due text)) }
 
     // The causes of the faults from outside, and how a run ends where there is none.
     ensures read_fault { EndsAs result (λ status. status ≡ Status.Unread → Asks (texts_of words.now) (λ command. FailsIn command (met_on F.contents F.read_faults F.write_faults F.reads files.old files.new))) }
     ensures write_fault { EndsAs result (λ status. status ≡ Status.Unwritten → WriteFails (texts_of words.now) (met_on F.contents F.read_faults F.write_faults F.reads files.old files.new) (Rose (O.faults out.old) (O.faults out.new)) (Rose (T.faults trace.old) (T.faults trace.new))) }
     ensures completes { EndsAs result (λ status. WhereAsked (texts_of words.now) (λ command. AreSound command (F.contents files.old) → ¬ FailsIn command (met_on F.contents F.read_faults F.write_faults F.reads files.old files.new) → ¬ WriteFails (texts_of words.now) (met_on F.contents F.read_faults F.write_faults F.reads files.old files.new) (Rose (O.faults out.old) (O.faults out.new)) (Rose (T.faults trace.old) (T.faults trace.new)) → ends_of command status ⊎ (status ≡ Status.NoMemory))) }
 
-    // No run reads more often than its command has inputs, and nothing is read where the words ask for no command
-    // that reads a file. How many reads each answer comes after, `answer` says.
+    // Each input is read once, in turn, and nothing where the words ask for no command that reads a file.
     ensures reads { EndsAs result (λ status. WhereAsked (texts_of words.now) (λ command. ReadsInputs (length (inputs_of command)) (IsAnswered status) (met_on F.contents F.read_faults F.write_faults F.reads files.old files.new))) }
     ensures unread { ReadsNothing (texts_of words.now) → IsUnread (met_on F.contents F.read_faults F.write_faults F.reads files.old files.new) }
 
     // No file is written but those that the words name for it, and none by a run that is refused.
     ensures unwritten { EndsAs result (λ status. IsRefused status ⊎ WritesNothing (texts_of words.now) → IsUnwritten (met_on F.contents F.read_faults F.write_faults F.reads files.old files.new)) }
-    ensures leaves { EndsAs result (λ status. WhereTold (F.contents files.old) (F.contents files.new) (Leaves (texts_of words.now) status)) }
+    ensures leaves { EndsAs result (λ status. WhereTold (F.contents files.old) (F.contents files.new) (Leaves (texts_of words.now) (IsRefused status))) }
 
     // The trace goes on from what it was told before, and is told nothing but by a search.
     ensures traced { T.is_later trace.old trace.new }
     ensures untold { EndsAs result (λ status. IsRefused status ⊎ TellsNothing (texts_of words.now) → trace.new ≡ trace.old) }
 {
-    carry_out(alloc, words, files, out).number()
+    carry_out(alloc, words, files, out, trace).number()
 }

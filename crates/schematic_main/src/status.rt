@@ -11,13 +11,18 @@ pub enum Status {
     Refused,
     /// The words have a fault.
     WordsRefused,
+    /// No drawing is lawful.
+    NoDrawing,
+    /// The search for a drawing, or the check of a log, stopped before its end: the budget is spent, or there is no
+    /// room.
+    Unfinished,
     /// A file couldn't be read.
     Unread,
     /// What was due couldn't be written.
     Unwritten,
     /// Memory couldn't be had.
     NoMemory,
-    /// The drawing that is verified breaks a law.
+    /// The drawing breaks a law, or the log doesn't certify what the sheet claims.
     Broken,
 }
 
@@ -30,6 +35,8 @@ impl Status {
             Status::Done => 0,
             Status::Refused => 1,
             Status::WordsRefused => 2,
+            Status::NoDrawing => 3,
+            Status::Unfinished => 4,
             Status::Unread => 5,
             Status::Unwritten => 6,
             Status::NoMemory => 7,

@@ -1,12 +1,10 @@
 // What `verify` answers.
 ghost use Rattle.std.specs.Prelude.{◌≡◌, ◌≤◌, length, IfOk, IsOkAnd};
 ghost use Rattle.outside_io.specs.Contents.{WhereTold, SameFiles};
-ghost use Rattle.plan_words.specs.declared.command.Command.TheVariants.{Verify};
 ghost use Rattle.track_order.specs.Order.{IsOrderOf};
 ghost use Rattle.schematic_main.specs.Status.{IsAnswered};
 ghost use Rattle.schematic_main.specs.Met.{met_on, ReadsInputs, IsUnwritten};
 ghost use Rattle.schematic_main.specs.Answer.{IsVerified, text_input, IsAnswerAfter, IsAnswerOn};
-ghost use Rattle.schematic_main.specs.Commands.{Owes};
 ghost use Rattle.schematic_main.specs.Verdict.{IsSheetJudged};
 
 use crate::fault::RunFault;
@@ -73,7 +71,7 @@ pub fn verify<F: Files>(
     sheet: &Text,
     files: &mut F,
 ) -> Result<Reply, OutOfMemory>
-    ensures answer { IfOk result (λ r. Owes (Verify input.now sheet.now) (met_on F.contents F.read_faults F.write_faults F.reads files.old files.new) r.status r.text.items) }
+    ensures answer { IfOk result (λ r. IsAnswerOn (text_input 1 input.now) 0 (met_on F.contents F.read_faults F.write_faults F.reads files.old files.new) (λ bytes. IsAnswerOn (text_input 2 sheet.now) 1 (met_on F.contents F.read_faults F.write_faults F.reads files.old files.new) (IsAnswerAfter 2 (met_on F.contents F.read_faults F.write_faults F.reads files.old files.new) (IsVerified bytes))) r.status r.text.items) }
     ensures reads { ReadsInputs 2 (IsOkAnd result (λ r. IsAnswered r.status)) (met_on F.contents F.read_faults F.write_faults F.reads files.old files.new) }
     ensures unwritten { IsUnwritten (met_on F.contents F.read_faults F.write_faults F.reads files.old files.new) }
     ensures later { F.read_faults files.old ≤ F.read_faults files.new }

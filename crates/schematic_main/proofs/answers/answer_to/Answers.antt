@@ -1,27 +1,23 @@
-use Rattle.std.specs.Prelude.{IfOk, IsOkAnd}
-use Rattle.std.proofs.Common.{subst, sym, length}
+use Rattle.std.proofs.Common.{[], sym, subst}
+use Rattle.outside_io.specs.Contents.{WhereTold}
 use Rattle.plan_words.specs.declared.command.Command.{Command}
-use Rattle.schematic_main.specs.Status.{IsAnswered}
-use Rattle.schematic_main.specs.Met.{met_on, ReadsInputs}
-use Rattle.schematic_main.specs.Commands.{Owes, inputs_of}
+use Rattle.refute_log.specs.ToldTo.{told_to}
+use Rattle.schematic_main.specs.Status.{IsRefused}
+use Rattle.schematic_main.specs.Met.{met_on}
+use Rattle.schematic_main.specs.Commands.{outputs_of, Owes, LeavesFiles}
+use Rattle.schematic_main.proofs.LeavesLemmas.{leaves_same}
 use Rattle.schematic_main.proofs.answers.answer_to.Goals as goal
 
-pub returns-in-Draw-clause-reads : goal.returns-in-Draw-clause-reads
-returns-in-Draw-clause-reads g c =
-    let met = met_on {Self = g.row.F.Denot} g.F.Files.contents g.F.Files.read_faults g.F.Files.write_faults g.F.Files.reads c.args.files.now c.draw.new.files in
-    subst (λ (command : Command). ReadsInputs (length (inputs_of command)) (IsOkAnd c.draw.result (λ r. IsAnswered r.status)) met) (sym c.in-Draw.is) c.draw.ensures.reads
-
-pub returns-in-Graph-clause-reads : goal.returns-in-Graph-clause-reads
-returns-in-Graph-clause-reads g c =
-    let met = met_on {Self = g.row.F.Denot} g.F.Files.contents g.F.Files.read_faults g.F.Files.write_faults g.F.Files.reads c.args.files.now c.print.new.files in
-    subst (λ (command : Command). ReadsInputs (length (inputs_of command)) (IsOkAnd c.print.result (λ r. IsAnswered r.status)) met) (sym c.in-Graph.is) c.print.ensures.reads
-
-pub returns-in-Verify-clause-answer : goal.returns-in-Verify-clause-answer
-returns-in-Verify-clause-answer g c =
+pub returns-in_ok-verify-in-Verify-clause-answer : goal.returns-in_ok-verify-in-Verify-clause-answer
+returns-in_ok-verify-in-Verify-clause-answer g c =
     let met = met_on {Self = g.row.F.Denot} g.F.Files.contents g.F.Files.read_faults g.F.Files.write_faults g.F.Files.reads c.args.files.now c.verify.new.files in
-    subst (λ (command : Command). IfOk c.verify.result (λ r. Owes command met r.status r.text.items)) (sym c.in-Verify.is) c.verify.ensures.answer
+    let traced = told_to {Self = g.row.T.Denot} g.T.LogSink.tells g.T.LogSink.learnt c.args.trace.now c.args.trace.now in
+    let reply = c.in_ok-verify-in-Verify.field-0 in
+    subst (λ (command : Command). Owes command met traced reply.status reply.text.items) (sym c.in-Verify.is) c.in_ok-verify-in-Verify.ensures.answer
 
-pub returns-in-Verify-clause-reads : goal.returns-in-Verify-clause-reads
-returns-in-Verify-clause-reads g c =
-    let met = met_on {Self = g.row.F.Denot} g.F.Files.contents g.F.Files.read_faults g.F.Files.write_faults g.F.Files.reads c.args.files.now c.verify.new.files in
-    subst (λ (command : Command). ReadsInputs (length (inputs_of command)) (IsOkAnd c.verify.result (λ r. IsAnswered r.status)) met) (sym c.in-Verify.is) c.verify.ensures.reads
+pub returns-in_ok-verify-in-Verify-clause-leaves : goal.returns-in_ok-verify-in-Verify-clause-leaves
+returns-in_ok-verify-in-Verify-clause-leaves g c =
+    let old = g.F.Files.contents c.args.files.now in
+    let new = g.F.Files.contents c.verify.new.files in
+    let Refused : Type 0 = IsRefused c.in_ok-verify-in-Verify.field-0.status in
+    subst (λ (command : Command). WhereTold old new (LeavesFiles (outputs_of command) Refused)) (sym c.in-Verify.is) (leaves_same old new [] Refused c.in_ok-verify-in-Verify.ensures.same)

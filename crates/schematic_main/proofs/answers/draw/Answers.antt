@@ -1,24 +1,35 @@
-use Rattle.std.proofs.Common.{arith}
+use Rattle.std.proofs.Common.{◌∙◌}
 use Rattle.std.proofs.lemmas.Result.{IfOk-weaker}
-use Rattle.schematic_main.specs.Answer.{job, IsDrawAnswer}
-use Rattle.schematic_main.specs.Met.{met_on}
+use Rattle.refute_log.specs.ToldTo.{told_to}
+use Rattle.schematic_main.specs.Drawn.{IsDrawAnswer}
+use Rattle.schematic_main.specs.Met.{files_at, between}
 use Rattle.schematic_main.proofs.AnswerLemmas.{refused_on}
-use Rattle.schematic_main.proofs.MetLemmas.{reads_one, reads_some}
-use Rattle.schematic_main.proofs.StatusLemmas.{refused_reply}
+use Rattle.schematic_main.proofs.FiledLemmas.{drawn_on}
+use Rattle.schematic_main.proofs.LeavesLemmas.{leaves_later}
+use Rattle.schematic_main.proofs.MetLemmas.{reads_one}
 use Rattle.schematic_main.proofs.answers.draw.Goals as goal
 
+pub returns-in-Ok-clause-answer : goal.returns-in-Ok-clause-answer
+returns-in-Ok-clause-answer g c =
+    let at = files_at {Self = g.row.F.Denot} g.F.Files.contents g.F.Files.read_faults g.F.Files.write_faults g.F.Files.reads in
+    let traced = told_to {Self = g.row.T.Denot} g.T.LogSink.tells g.T.LogSink.learnt c.args.trace.now c.draw_station.new.trace in
+    IfOk-weaker c.draw_station.result _ _ (λ r answer.
+    drawn_on c.args.asked.now c.args.input.now (at c.args.files.now) (at c.station_of.new.files) (at c.draw_station.new.files) traced c.in-Ok.station.graph c.in-Ok.station.order r.status r.text.items
+        c.in-Ok.ensures.station c.in-Ok.ensures.same (c.draw_station.ensures.reads ∙ c.in-Ok.ensures.reads) answer)
+    c.draw_station.ensures.answer
+
 pub returns-in-Ok-clause-reads : goal.returns-in-Ok-clause-reads
-returns-in-Ok-clause-reads g c = reads_one _ _ c.in-Ok.ensures.reads
+returns-in-Ok-clause-reads g c = reads_one _ _ (c.draw_station.ensures.reads ∙ c.in-Ok.ensures.reads)
 
-pub returns-in-Err-Fault-clause-answer : goal.returns-in-Err-Fault-clause-answer
-returns-in-Err-Fault-clause-answer g c =
-    let met = met_on {Self = g.row.F.Denot} g.F.Files.contents g.F.Files.read_faults g.F.Files.write_faults g.F.Files.reads c.args.files.now c.station_of.new.files in
-    IfOk-weaker c.fault_reply.result _ _ (λ r told.
-    refused_on (IsDrawAnswer (job c.args.grid.now c.args.order.now c.args.svg.now c.args.log.now)) c.args.input.now met c.in-Err-Fault.field-0 c.in-Err-Fault.fault r.status r.text.items c.in-Err-Fault.ensures.refusal c.in-Err-Fault.field-0-is told)
-    c.fault_reply.ensures.told
+pub returns-in-Ok-clause-leaves : goal.returns-in-Ok-clause-leaves
+returns-in-Ok-clause-leaves g c =
+    leaves_later (g.F.Files.contents c.args.files.now) (g.F.Files.contents c.station_of.new.files) (g.F.Files.contents c.draw_station.new.files) _ _ c.in-Ok.ensures.same c.draw_station.ensures.leaves
 
-pub returns-in-Err-Fault-clause-reads : goal.returns-in-Err-Fault-clause-reads
-returns-in-Err-Fault-clause-reads g c = reads_some 1 1 _ _ (omega arith) (refused_reply c.fault_reply.result c.fault_reply.ensures.refused) c.in-Err-Fault.ensures.reads_err
-
-pub returns-in-Err-Memory-clause-reads : goal.returns-in-Err-Memory-clause-reads
-returns-in-Err-Memory-clause-reads g c = reads_some 1 1 _ _ (omega arith) (λ h. h) c.in-Err-Memory.ensures.reads_err
+pub returns-in_ok-fault_reply-in-Err-Fault-clause-answer : goal.returns-in_ok-fault_reply-in-Err-Fault-clause-answer
+returns-in_ok-fault_reply-in-Err-Fault-clause-answer g c =
+    let at = files_at {Self = g.row.F.Denot} g.F.Files.contents g.F.Files.read_faults g.F.Files.write_faults g.F.Files.reads in
+    let met = between (at c.args.files.now) (at c.station_of.new.files) in
+    let traced = told_to {Self = g.row.T.Denot} g.T.LogSink.tells g.T.LogSink.learnt c.args.trace.now c.args.trace.now in
+    let reply = c.in_ok-fault_reply-in-Err-Fault.field-0 in
+    refused_on (IsDrawAnswer c.args.asked.now met traced) c.args.input.now met c.in-Err-Fault.field-0 c.in-Err-Fault.fault reply.status reply.text.items c.in-Err-Fault.ensures.refusal
+    c.in-Err-Fault.field-0-is c.in_ok-fault_reply-in-Err-Fault.ensures.told

@@ -1,14 +1,17 @@
-use Rattle.std.specs.Prelude.{IsOkAnd}
-use Rattle.std.proofs.Common.{subst, length, refl}
+use Rattle.std.specs.Prelude.{IfOk, IsOkAnd}
+use Rattle.std.proofs.Common.{subst, length, refl, inl, inr}
+use Rattle.std.proofs.lemmas.Result.{IfOk-weaker}
 use Rattle.plan_words.specs.declared.command.Command.{Command}
 use Rattle.plan_words.specs.Arguments.{texts_of}
 use Rattle.plan_words.proofs.AnswerLemmas.{command_same}
 use Rattle.schematic_main.specs.Status.{IsAnswered}
 use Rattle.schematic_main.specs.Met.{met_on, ReadsInputs}
 use Rattle.schematic_main.specs.Commands.{inputs_of}
-use Rattle.schematic_main.proofs.MetLemmas.{reads_none}
-use Rattle.schematic_main.proofs.StatusLemmas.{refused_reply}
+use Rattle.schematic_main.proofs.LeavesLemmas.{leaves_asked}
 use Rattle.schematic_main.proofs.running.reply_to.Goals as goal
+
+pub returns-in-Ok-clause-answer : goal.returns-in-Ok-clause-answer
+returns-in-Ok-clause-answer g c = IfOk-weaker c.answer_to.result _ _ (λ r owes. inl (c.in-Ok.command, c.in-Ok.ensures.value, owes)) c.answer_to.ensures.answer
 
 pub returns-in-Ok-clause-reads : goal.returns-in-Ok-clause-reads
 returns-in-Ok-clause-reads g c = λ command asked.
@@ -16,8 +19,18 @@ returns-in-Ok-clause-reads g c = λ command asked.
     subst (λ (found : Command). ReadsInputs (length (inputs_of found)) (IsOkAnd c.answer_to.result (λ r. IsAnswered r.status)) met)
     (command_same (texts_of c.args.words.now) c.in-Ok.command command c.in-Ok.ensures.value asked) c.answer_to.ensures.reads
 
-pub returns-in-Err-Words-clause-reads : goal.returns-in-Err-Words-clause-reads
-returns-in-Err-Words-clause-reads g c = λ command asked. reads_none _ _ _ (λ h. absurd (refused_reply c.fault_reply.result c.fault_reply.ensures.refused h)) refl
+pub returns-in-Ok-clause-unread : goal.returns-in-Ok-clause-unread
+returns-in-Ok-clause-unread g c = λ nothing. c.answer_to.ensures.unread (nothing c.in-Ok.command c.in-Ok.ensures.value)
 
-pub returns-in-Err-Memory-clause-reads : goal.returns-in-Err-Memory-clause-reads
-returns-in-Err-Memory-clause-reads g c = λ command asked. reads_none _ _ _ (λ h. absurd h) refl
+pub returns-in-Ok-clause-unwritten : goal.returns-in-Ok-clause-unwritten
+returns-in-Ok-clause-unwritten g c = λ none. c.answer_to.ensures.unwritten (elim none [ inl refused ↦ inl refused | inr nothing ↦ inr (nothing c.in-Ok.command c.in-Ok.ensures.value) ])
+
+pub returns-in-Ok-clause-leaves : goal.returns-in-Ok-clause-leaves
+returns-in-Ok-clause-leaves g c =
+    leaves_asked (texts_of c.args.words.now) c.in-Ok.command (g.F.Files.contents c.args.files.now) (g.F.Files.contents c.answer_to.new.files) _ c.in-Ok.ensures.value c.answer_to.ensures.leaves
+
+pub returns-in-Ok-clause-cause : goal.returns-in-Ok-clause-cause
+returns-in-Ok-clause-cause g c = λ cut. (c.in-Ok.command, c.in-Ok.ensures.value, c.answer_to.ensures.cause cut)
+
+pub returns-in-Ok-clause-untold : goal.returns-in-Ok-clause-untold
+returns-in-Ok-clause-untold g c = λ none. c.answer_to.ensures.untold (elim none [ inl refused ↦ inl refused | inr nothing ↦ inr (nothing c.in-Ok.command c.in-Ok.ensures.value) ])

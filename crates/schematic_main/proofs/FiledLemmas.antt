@@ -1,0 +1,107 @@
+-- How the lines of a search come to stand in a file, and what becomes of the files on the way.
+use Rattle.std.proofs.Common.{◌≡◌, ◌⊎◌, ℕ, List, [], ◌∷◌, ◌++◌, take, drop, None, Some, sym, ◌∙◌, subst, inl, inr}
+use Rattle.std.specs.declared.option.Option.{Option}
+use Rattle.std.proofs.lemmas.List.{take-append-drop}
+use Rattle.outside_io.specs.Contents.{Told, WhereTold, SameFiles, SameElsewhere, Sets}
+use Rattle.refute_log.specs.declared.file_log.Gathered.{Gathered}
+use Rattle.refute_log.specs.Lines.{header}
+use Rattle.refute_log.specs.Told.{Lines}
+use Rattle.refute_log.specs.FileLog.{IsTold, TellsLines, KeepsLog, StillKeeps, FileBeginsLog, MayStart, HasText, name_of}
+use Rattle.refute_log.proofs.FrontLemmas.{kept_begins}
+use Rattle.refute_log.specs.Told.{AddsAll}
+use Rattle.track_order.specs.Order.{EdgeOrder}
+use Rattle.plan_core.specs.Graph.{Graph}
+use Rattle.schematic_main.specs.declared.status.Status.{Status}
+use Rattle.schematic_main.specs.Met.{FilesAt, between, HasRead}
+use Rattle.schematic_main.specs.Reading.{IsStationOf}
+use Rattle.schematic_main.specs.Answer.{text_input, IsFileJudged, IsAnswerAfter, IsAnswerOn}
+use Rattle.schematic_main.specs.SearchLog.{HoldsLog, IsLogOf}
+use Rattle.schematic_main.specs.Drawn.{Job, IsDrawAnswer}
+use Rattle.schematic_main.proofs.DrawnLemmas.{drawn_told_so}
+
+-- ---- a log in a file
+
+-- a fact of the files as a call left them is one of them at the end
+pub at_end : {X : Type 0} (P : X → Type 0) (a b : X) → P a → a ≡ b → P b
+at_end P a b holds same = subst P same holds
+
+-- the file holds the text of the lines that were told, once the rest is appended
+pub filed_holds : (old mid after new : Option Told) (name : List ℕ) (kept now : Gathered) (lines : Lines) →
+    WhereTold old mid (Sets name header) → (IsTold old → TellsLines kept mid []) → name_of kept ≡ name → name_of now ≡ name_of kept → WhereTold mid after (SameElsewhere (name_of kept)) →
+    AddsAll (TellsLines kept mid) (TellsLines now after) lines → WhereTold after new (SameElsewhere (name_of now)) → ((told : Lines) → TellsLines now after told → HasText new (name_of now) told) → HoldsLog old new name lines
+filed_holds None mid after new name kept now lines created tells named still others adds rest text = tt
+filed_holds (Some a) None after new name kept now lines created tells named still others adds rest text = absurd created
+filed_holds (Some a) (Some b) None new name kept now lines created tells named still others adds rest text = absurd others
+filed_holds (Some a) (Some b) (Some c) None name kept now lines created tells named still others adds rest text = absurd rest
+filed_holds (Some a) (Some b) (Some c) (Some d) name kept now lines created tells named still others adds rest text =
+    let told : TellsLines now (Some c) lines = adds [] (tells tt) in
+    record { text = subst (λ (n : List ℕ). HasText (Some d) n lines) (still ∙ named) (text lines told); formed = told.0.2 }
+
+-- no other file changed
+pub filed_others : (old mid after new : Option Told) (name : List ℕ) (kept now : Gathered) → WhereTold old mid (Sets name header) → name_of kept ≡ name → name_of now ≡ name_of kept →
+    WhereTold mid after (SameElsewhere (name_of kept)) → WhereTold after new (SameElsewhere (name_of now)) → WhereTold old new (SameElsewhere name)
+filed_others None mid after new name kept now created named still others rest = tt
+filed_others (Some a) None after new name kept now created named still others rest = absurd created
+filed_others (Some a) (Some b) None new name kept now created named still others rest = absurd others
+filed_others (Some a) (Some b) (Some c) None name kept now created named still others rest = absurd rest
+filed_others (Some a) (Some b) (Some c) (Some d) name kept now created named still others rest =
+    λ other ne. rest other (λ same. ne (same ∙ still ∙ named)) ∙ others other (λ same. ne (same ∙ named)) ∙ created.others other ne
+
+-- the file begins a log's text, whether or not the rest was appended whole
+pub filed_begun : (old mid after new : Option Told) (name : List ℕ) (kept now : Gathered) → WhereTold old mid (λ _ told. KeepsLog kept told) → name_of kept ≡ name → name_of now ≡ name_of kept →
+    WhereTold mid after (StillKeeps kept now) → WhereTold after new (λ x y. KeepsLog now x → FileBeginsLog y (name_of now)) → WhereTold old new (λ x y. (y name ≡ x name) ⊎ FileBeginsLog y name)
+filed_begun None mid after new name kept now keeps named still later begins = tt
+filed_begun (Some a) None after new name kept now keeps named still later begins = absurd keeps
+filed_begun (Some a) (Some b) None new name kept now keeps named still later begins = absurd later
+filed_begun (Some a) (Some b) (Some c) None name kept now keeps named still later begins = absurd begins
+filed_begun (Some a) (Some b) (Some c) (Some d) name kept now keeps named still later begins = inr (subst (FileBeginsLog d) (still ∙ named) (begins (later keeps)))
+
+-- also where it wasn't appended
+pub left_begun : (old mid new : Option Told) (name : List ℕ) (kept now : Gathered) → WhereTold old mid (λ _ told. KeepsLog kept told) → name_of kept ≡ name → name_of now ≡ name_of kept →
+    WhereTold mid new (StillKeeps kept now) → WhereTold old new (λ x y. (y name ≡ x name) ⊎ FileBeginsLog y name)
+left_begun None mid new name kept now keeps named still later = tt
+left_begun (Some a) None new name kept now keeps named still later = absurd keeps
+left_begun (Some a) (Some b) None name kept now keeps named still later = absurd later
+left_begun (Some a) (Some b) (Some c) name kept now keeps named still later =
+    inr (subst (FileBeginsLog c) (still ∙ named) (kept_begins now.failed c (name_of now) now.bytes.items (later keeps)))
+
+-- a log that couldn't be started
+pub others_unstarted : (old new : Option Told) (name : List ℕ) → WhereTold old new (MayStart name) → WhereTold old new (SameElsewhere name)
+others_unstarted None new name start = tt
+others_unstarted (Some a) None name start = absurd start
+others_unstarted (Some a) (Some b) name start = start.others
+
+pub begun_unstarted : (old new : Option Told) (name : List ℕ) → WhereTold old new (MayStart name) → WhereTold old new (λ before after. (after name ≡ before name) ⊎ FileBeginsLog after name)
+begun_unstarted None new name start = tt
+begun_unstarted (Some a) None name start = absurd start
+begun_unstarted (Some a) (Some b) name start = elim start.either as (λ _. (b name ≡ a name) ⊎ FileBeginsLog b name) [
+    | inl same ↦ inl same
+    | inr (n, there) ↦ inr (take n header, there, record { lines = []; more = drop n header; formed = tt; spelled = take-append-drop n header })
+  ]
+
+-- ---- after a read
+
+-- a log's file is the same after a read that changed none
+holds_later : (old mid new : Option Told) (name : List ℕ) (lines : Lines) → WhereTold old mid SameFiles → HoldsLog mid new name lines → HoldsLog old new name lines
+holds_later None mid new name lines same holds = tt
+holds_later (Some a) None new name lines same holds = absurd same
+holds_later (Some a) (Some b) None name lines same holds = absurd holds
+holds_later (Some a) (Some b) (Some c) name lines same holds = holds
+
+log_later : (named : Option (List ℕ)) (old mid new : FilesAt) (traced : Lines → Type 0) (lines : Lines) → WhereTold old.contents mid.contents SameFiles → IsLogOf named (between mid new) traced lines → IsLogOf named (between old new) traced lines
+log_later None old mid new traced lines same told = told
+log_later (Some name) old mid new traced lines same told = holds_later old.contents mid.contents new.contents name lines same told
+
+-- so is what draw answers
+pub draw_later : (asked : Job) (old mid new : FilesAt) (traced : Lines → Type 0) (g : Graph) (o : EdgeOrder) (status : Status) (text : List ℕ) → WhereTold old.contents mid.contents SameFiles →
+    IsDrawAnswer asked (between mid new) traced g o status text → IsDrawAnswer asked (between old new) traced g o status text
+draw_later asked old mid new traced g o status text same (inl drawn) =
+    inl (drawn_told_so g o asked (IsLogOf asked.log (between mid new) traced) (IsLogOf asked.log (between old new) traced) status text (λ lines. log_later asked.log old mid new traced lines same) drawn)
+draw_later asked old mid new traced g o status text same (inr down) = inr down
+
+-- the file was read, had this station, and that was answered so
+pub drawn_on : (asked : Job) (name : List ℕ) (old mid new : FilesAt) (traced : Lines → Type 0) (g : Graph) (o : EdgeOrder) (status : Status) (text : List ℕ) →
+    IsStationOf name old.contents g o → WhereTold old.contents mid.contents SameFiles → HasRead (between old new) 1 → IsDrawAnswer asked (between mid new) traced g o status text →
+    IsAnswerOn (text_input 1 name) 0 (between old new) (IsAnswerAfter 1 (between old new) (IsFileJudged (IsDrawAnswer asked (between old new) traced))) status text
+drawn_on asked name old mid new traced g o status text (bytes, is, has) same read answer =
+    inl (bytes, is, inr (has.has_graph.has_topology.has_rows.few, (read, inl (g, o, has, draw_later asked old mid new traced g o status text same answer))))

@@ -1,0 +1,92 @@
+-- What draw answers to a station: the sheet and the status of how its search ended, and what the log of the search
+-- certifies.
+use Rattle.std.specs.Prelude.{◌≡◌, ◌≢◌, ◌⊎◌, ℕ, List, None, Some}
+use Rattle.std.specs.declared.option.Option.{Option}
+use Rattle.plan_core.specs.declared.criterion.Criterion.{Criterion}
+use Rattle.plan_core.specs.Grid.{GridSize}
+use Rattle.plan_core.specs.Graph.{Graph}
+use Rattle.plan_core.specs.Drawing.{Drawing}
+use Rattle.cnf_core.specs.declared.limits.TheConstants.{ROOM}
+use Rattle.track_order.specs.Order.{EdgeOrder}
+use Rattle.plan_text.specs.declared.ending.Ending.{Ending}
+use Rattle.plan_text.specs.declared.ending.Ending.TheVariants as endings
+use Rattle.plan_text.specs.SheetText.{Sheet, sheet_text}
+use Rattle.refute_log.specs.Told.{Lines}
+use Rattle.lex_search.specs.declared.outcome.Outcome.{Outcome}
+use Rattle.lex_search.specs.declared.outcome.Outcome.TheVariants as outcomes
+use Rattle.lex_search.specs.Task.{Task}
+use Rattle.lex_search.specs.Outcome.{IsOutcome}
+use Rattle.drawing_problem.specs.Layout.{layout}
+use Rattle.lex_minimise.specs.Task.{task_of}
+use Rattle.schematic_main.specs.declared.fault.RunFault.TheVariants.{NotBuilt}
+use Rattle.schematic_main.specs.declared.status.Status.{Status}
+use Rattle.schematic_main.specs.declared.status.Status.TheVariants as statuses
+use Rattle.schematic_main.specs.Fault.{IsFaultLine}
+use Rattle.schematic_main.specs.Met.{Met}
+use Rattle.schematic_main.specs.SearchLog.{IsLogOf}
+
+-- ---- what is asked
+
+-- a drawing's grid, the order in which drawings are compared, with how many learnt clauses the search gives up, and the
+-- names of the files for a picture and for a log
+pub record Job : Type 0 where
+  pub grid : GridSize
+  pub order : List Criterion
+  pub budget : ℕ
+  pub svg : Option (List ℕ)
+  pub log : Option (List ℕ)
+
+abbrev pub job : GridSize → List Criterion → (budget : ℕ) → (svg log : Option (List ℕ)) → Job
+job grid order budget svg log = record { grid = grid; order = order; budget = budget; svg = svg; log = log }
+
+-- a picture is asked for, which isn't built yet
+abbrev pub IsUnbuilt : Job → Type 0
+IsUnbuilt asked = asked.svg ≢ None
+
+-- what is searched: the lawful drawings of the station on that grid, within that budget and ROOM words
+abbrev pub search_of : Graph → EdgeOrder → Job → Task
+search_of g o asked = task_of (layout g o asked.grid) asked.budget ROOM
+
+-- ---- how a search ends
+
+abbrev pub sheet_with : Job → Option Drawing → Ending → Sheet
+sheet_with asked found ending = record { grid = asked.grid; order = asked.order; found = found; ending = ending }
+
+-- the sheet that says so
+abbrev pub sheet_of : Job → Outcome → Sheet
+sheet_of asked (outcomes.Best d) = sheet_with asked (Some d) endings.Best
+sheet_of asked outcomes.NoDrawing = sheet_with asked None endings.NoDrawing
+sheet_of asked (outcomes.Spent found settled) = sheet_with asked found (endings.Conflicts settled)
+sheet_of asked (outcomes.Room found settled) = sheet_with asked found (endings.Room settled)
+
+abbrev pub status_of : Outcome → Status
+status_of (outcomes.Best d) = statuses.Done
+status_of outcomes.NoDrawing = statuses.NoDrawing
+status_of (outcomes.Spent found settled) = statuses.Unfinished
+status_of (outcomes.Room found settled) = statuses.Unfinished
+
+-- ---- what draw answers
+
+-- a search with this outcome told these lines: they certify of the drawing, and of all that are lawful, what the
+-- outcome says
+pub record HasSearched (g : Graph) (o : EdgeOrder) (asked : Job) (IsTold : Lines → Type 0) (outcome : Outcome) : Type 0 where
+  pub lines : Lines
+  pub told : IsTold lines
+  pub ended : IsOutcome (search_of g o asked) asked.order outcome lines
+
+-- a search was done, and the text is the sheet of its outcome
+pub record IsDrawn (g : Graph) (o : EdgeOrder) (asked : Job) (IsTold : Lines → Type 0) (status : Status) (text : List ℕ) : Type 0 where
+  pub built : IsUnbuilt asked → ⊥
+  pub outcome : Outcome
+  pub searched : HasSearched g o asked IsTold outcome
+  pub status_is : status ≡ status_of outcome
+  pub spelled : text ≡ sheet_text g (sheet_of asked outcome)
+
+-- the answer says that what is asked for isn't built yet
+pub record IsTurnedDown (asked : Job) (status : Status) (text : List ℕ) : Type 0 where
+  pub unbuilt : IsUnbuilt asked
+  pub fault : IsFaultLine NotBuilt status text
+
+-- what draw answers to a station, with what the run met and what the trace was told
+abbrev pub IsDrawAnswer : Job → Met → (traced : Lines → Type 0) → Graph → EdgeOrder → Status → List ℕ → Type 0
+IsDrawAnswer asked met traced g o status text = IsDrawn g o asked (IsLogOf asked.log met traced) status text ⊎ IsTurnedDown asked status text

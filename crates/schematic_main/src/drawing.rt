@@ -1,0 +1,241 @@
+// What draw answers to a station: the sheet of how its search ended, with the lines of the search told.
+ghost use Rattle.std.specs.Prelude.{◌≡◌, ◌≢◌, ◌≤◌, ◌⊎◌, ⊤, IfOk, IsOkAnd, IsErrOf, None};
+ghost use Rattle.std.specs.Option.{is_some};
+ghost use Rattle.outside_io.specs.Contents.{WhereTold, SameElsewhere};
+ghost use Rattle.outside_io.specs.Counts.{Rose};
+ghost use Rattle.plan_core.specs.Order.{IsOrder};
+ghost use Rattle.track_order.specs.Order.{IsOrderOf};
+ghost use Rattle.plan_text.specs.SheetLine.{MayEnd};
+ghost use Rattle.plan_text.specs.SheetText.{sheet_text};
+ghost use Rattle.refute_log.specs.FileLog.{FileBeginsLog};
+ghost use Rattle.schematic_main.specs.Status.{IsRefused};
+ghost use Rattle.schematic_main.specs.Met.{met_on, IsUnwritten};
+ghost use Rattle.refute_log.specs.ToldTo.{told_to};
+ghost use Rattle.schematic_main.specs.SearchLog.{HoldsLog};
+ghost use Rattle.schematic_main.specs.Commands.{log_output, LeavesFiles};
+ghost use Rattle.schematic_main.specs.Run.{FailsToTell};
+ghost use Rattle.schematic_main.specs.Drawn.{IsUnbuilt, sheet_with, sheet_of, status_of, HasSearched, IsDrawn, IsDrawAnswer};
+
+use crate::fault::RunFault;
+use crate::input::Station;
+use crate::reply::{Cut, Reply, cut_of, fault_reply};
+use crate::status::Status;
+use cnf_core::ROOM;
+use lex_minimise::{Limits, MinFault, Outcome, minimise};
+use outside_io::Files;
+use plan_core::{Grid, Order, OutOfMemory, Text};
+use plan_geometry::Drawing;
+use plan_text::{Ending, Sheet, write_sheet};
+use refute_log::{FileLog, LogSink};
+use std::alloc::Global;
+use std::marker::Model;
+
+/// What is asked of a drawing.
+#[derive(Drop)]
+pub struct Asked<'a> {
+    /// The columns and rows that it may take, and the least length of its lines.
+    pub grid: &'a Grid,
+    /// What is to be least, the most important first.
+    pub order: &'a Order,
+    /// With how many learnt clauses the search gives up.
+    pub budget: u32,
+    /// The name of the file for a picture.
+    pub svg: &'a Option<Text>,
+    /// The name of the file for the search's log.
+    pub log: &'a Option<Text>,
+}
+
+impl<'a> Model for Asked<'a> {
+    ghost use Rattle.schematic_main.specs.Drawn.{Job, job};
+
+    ghost Value = { Job };
+
+    ghost view = { λ s. job s.grid.now s.order.now s.budget s.svg.now s.log.now };
+}
+
+/// The outcome of a search for the station's best drawing, whose lines the log is told.
+fn search<L: LogSink>(
+    alloc: Global,
+    station: &Station,
+    asked: &Asked,
+    log: &mut L,
+) -> Result<Outcome, Cut>
+    requires order { IsOrderOf station.now.graph station.now.order }
+    ensures searched { IfOk result (HasSearched station.now.graph station.now.order asked.now (told_to L.tells L.learnt log.old log.new)) }
+    ensures later { L.is_later log.old log.new }
+    ensures faults { L.faults log.old ≤ L.faults log.new }
+    ensures cause { IsErrOf result Cut.Unwritten → Rose (L.faults log.old) (L.faults log.new) }
+{
+    let limits = Limits {
+        budget: asked.budget,
+        room: ROOM,
+    };
+    match minimise(
+        alloc,
+        &station.graph,
+        &station.order,
+        asked.grid,
+        asked.order,
+        &limits,
+        log,
+    ) {
+        Ok(outcome) => Ok(outcome),
+        Err(MinFault::Log) => Err(Cut::Unwritten),
+        Err(MinFault::Memory) => Err(Cut::Memory),
+    }
+}
+
+/// The same order once more.
+fn copy_of(alloc: Global, order: &Order) -> Result<Order, OutOfMemory>
+    ensures same { IfOk result (λ o. o ≡ order.now) }
+    ensures is_order { IsOrder order.now }
+{
+    let mut list = Vec::with_capacity(alloc, order.len())?;
+    for i in 0..order.len() {
+        list.push(order.get(i))?;
+    }
+    match Order::new(&list) {
+        Some(copy) => Ok(copy),
+        None => unreachable!(),
+    }
+}
+
+/// The sheet of what was asked, with this drawing and this ending.
+fn sheet_with(
+    alloc: Global,
+    asked: &Asked,
+    found: Option<Drawing>,
+    ending: Ending,
+) -> Result<Sheet, OutOfMemory>
+    requires { MayEnd (is_some found) ending }
+    ensures sheet { IfOk result (λ s. s ≡ sheet_with asked.now found ending) }
+    ensures is_order { IsOrder asked.now.order }
+{
+    Ok(Sheet {
+        grid: *asked.grid,
+        order: copy_of(alloc, asked.order)?,
+        found,
+        ending,
+    })
+}
+
+/// The sheet of an outcome.
+fn sheet_of(alloc: Global, asked: &Asked, outcome: Outcome) -> Result<Sheet, OutOfMemory>
+    ensures sheet { IfOk result (λ s. s ≡ sheet_of asked.now outcome) }
+    ensures is_order { IsOrder asked.now.order }
+{
+    match outcome {
+        Outcome::Best(drawing) => sheet_with(alloc, asked, Some(drawing), Ending::Best),
+        Outcome::NoDrawing => sheet_with(alloc, asked, None, Ending::NoDrawing),
+        Outcome::Spent { best, settled } => {
+            sheet_with(alloc, asked, best, Ending::Conflicts(settled))
+        }
+        Outcome::Room { best, settled } => sheet_with(alloc, asked, best, Ending::Room(settled)),
+    }
+}
+
+/// How the run ends after an outcome.
+fn status_of(outcome: &Outcome) -> Status
+    ensures { result ≡ status_of outcome.now }
+{
+    match outcome {
+        Outcome::Best(_) => Status::Done,
+        Outcome::NoDrawing => Status::NoDrawing,
+        Outcome::Spent { .. } | Outcome::Room { .. } => Status::Unfinished,
+    }
+}
+
+/// The status and the sheet of an outcome.
+fn sheet_reply(
+    alloc: Global,
+    station: &Station,
+    asked: &Asked,
+    outcome: Outcome,
+) -> Result<Reply, OutOfMemory>
+    requires { HasSearched station.now.graph station.now.order asked.now (λ lines. ⊤) outcome }
+    ensures status_is { IfOk result (λ r. r.status ≡ status_of outcome) }
+    ensures spelled { IfOk result (λ r. r.text.items ≡ sheet_text station.now.graph (sheet_of asked.now outcome)) }
+{
+    let status = status_of(&outcome);
+    let sheet = sheet_of(alloc, asked, outcome)?;
+    let mut text = Vec::new(alloc);
+    write_sheet(alloc, &station.graph, &sheet, &mut text)?;
+    Ok(Reply { status, text })
+}
+
+/// draw's answer to a station, the lines of the search told to the log.
+fn draw_told<L: LogSink>(
+    alloc: Global,
+    station: &Station,
+    asked: &Asked,
+    log: &mut L,
+) -> Result<Reply, Cut>
+    requires order { IsOrderOf station.now.graph station.now.order }
+    requires built { IsUnbuilt asked.now → ⊥ }
+    ensures answer { IfOk result (λ r. IsDrawn station.now.graph station.now.order asked.now (told_to L.tells L.learnt log.old log.new) r.status r.text.items) }
+    ensures later { L.is_later log.old log.new }
+    ensures faults { L.faults log.old ≤ L.faults log.new }
+    ensures cause { IsErrOf result Cut.Unwritten → Rose (L.faults log.old) (L.faults log.new) }
+{
+    let outcome = search(alloc, station, asked, log)?;
+    Ok(sheet_reply(alloc, station, asked, outcome)?)
+}
+
+/// The same with a new log in the file of this name.
+fn draw_filed<F: Files>(
+    alloc: Global,
+    station: &Station,
+    asked: &Asked,
+    name: &Text,
+    files: &mut F,
+) -> Result<Reply, Cut>
+    requires order { IsOrderOf station.now.graph station.now.order }
+    requires built { IsUnbuilt asked.now → ⊥ }
+    ensures answer { IfOk result (λ r. IsDrawn station.now.graph station.now.order asked.now (HoldsLog (F.contents files.old) (F.contents files.new) name.now) r.status r.text.items) }
+    ensures others { WhereTold (F.contents files.old) (F.contents files.new) (SameElsewhere name.now) }
+    ensures begun { WhereTold (F.contents files.old) (F.contents files.new) (λ before after. (after name.now ≡ before name.now) ⊎ FileBeginsLog after name.now) }
+    ensures cause { IsErrOf result Cut.Unwritten → Rose (F.write_faults files.old) (F.write_faults files.new) }
+    ensures read_faults { F.read_faults files.new ≡ F.read_faults files.old }
+    ensures reads { F.reads files.new ≡ F.reads files.old }
+{
+    match FileLog::start(alloc, files, name.as_str()) {
+        Ok(mut log) => match draw_told(alloc, station, asked, &mut log) {
+            Ok(reply) => match log.finish() {
+                Ok(()) => Ok(reply),
+                Err(fault) => Err(cut_of(fault)),
+            },
+            Err(cut) => {
+                log.abandon();
+                Err(cut)
+            }
+        },
+        Err((fault, _files)) => Err(cut_of(fault)),
+    }
+}
+
+/// What `draw` answers to a station.
+pub fn draw_station<F: Files, T: LogSink>(
+    alloc: Global,
+    station: &Station,
+    asked: &Asked,
+    files: &mut F,
+    trace: &mut T,
+) -> Result<Reply, Cut>
+    requires { IsOrderOf station.now.graph station.now.order }
+    ensures answer { IfOk result (λ r. IsDrawAnswer asked.now (met_on F.contents F.read_faults F.write_faults F.reads files.old files.new) (told_to T.tells T.learnt trace.old trace.new) station.now.graph station.now.order r.status r.text.items) }
+    ensures read_faults { F.read_faults files.new ≡ F.read_faults files.old }
+    ensures reads { F.reads files.new ≡ F.reads files.old }
+    ensures unwritten { IsOkAnd result (λ r. IsRefused r.status) ⊎ (asked.now.log ≡ None) → IsUnwritten (met_on F.contents F.read_faults F.write_faults F.reads files.old files.new) }
+    ensures leaves { WhereTold (F.contents files.old) (F.contents files.new) (LeavesFiles (log_output asked.now.log) (IsOkAnd result (λ r. IsRefused r.status))) }
+    ensures cause { IsErrOf result Cut.Unwritten → FailsToTell (log_output asked.now.log) (asked.now.log ≡ None) (met_on F.contents F.read_faults F.write_faults F.reads files.old files.new) (Rose (T.faults trace.old) (T.faults trace.new)) }
+    ensures traced { T.is_later trace.old trace.new }
+    ensures untold { IsOkAnd result (λ r. IsRefused r.status) ⊎ (asked.now.log ≢ None) → trace.new ≡ trace.old }
+{
+    if asked.svg.is_some() {
+        return Ok(fault_reply(alloc, RunFault::NotBuilt)?);
+    }
+    match asked.log {
+        Some(name) => draw_filed(alloc, station, asked, name, files),
+        None => draw_told(alloc, station, asked, trace),
+    }
+}
