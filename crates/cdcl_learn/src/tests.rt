@@ -108,10 +108,20 @@ fn the_clause_of_the_first_unique_implication_point(rt: HostRuntime) {
     let three = Lit::new(Var(3), true);
     let four = Lit::new(Var(4), true);
     let five = Lit::new(Var(5), true);
-    join(&rt, &mut arena, &trail, &[one.negated(), two.negated(), three]);
+    join(
+        &rt,
+        &mut arena,
+        &trail,
+        &[one.negated(), two.negated(), three],
+    );
     join(&rt, &mut arena, &trail, &[three.negated(), four]);
     join(&rt, &mut arena, &trail, &[three.negated(), five]);
-    join(&rt, &mut arena, &trail, &[one.negated(), four.negated(), five.negated()]);
+    join(
+        &rt,
+        &mut arena,
+        &trail,
+        &[one.negated(), four.negated(), five.negated()],
+    );
     let none = decide(&rt, &mut arena, &mut trail, one);
     assert!(rt; none.is_none());
     match decide(&rt, &mut arena, &mut trail, two) {
@@ -164,7 +174,12 @@ fn a_false_literal_is_traced_back_to_decisions(rt: HostRuntime) {
     let three = Lit::new(Var(3), true);
     let four = Lit::new(Var(4), true);
     join(&rt, &mut arena, &trail, &[one.negated(), two]);
-    join(&rt, &mut arena, &trail, &[two.negated(), three.negated(), four]);
+    join(
+        &rt,
+        &mut arena,
+        &trail,
+        &[two.negated(), three.negated(), four],
+    );
     let none = decide(&rt, &mut arena, &mut trail, one);
     assert!(rt; none.is_none());
     let none = decide(&rt, &mut arena, &mut trail, three);

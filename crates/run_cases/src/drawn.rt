@@ -39,7 +39,11 @@ end best
 ";
 
 /// What `draw` answers to a file with these options: the status and the text.
-fn drawn(alloc: Global, options: &[&'static str], file: &'static str) -> Result<(u8, Vec<u8>), Fail> {
+fn drawn(
+    alloc: Global,
+    options: &[&'static str],
+    file: &'static str,
+) -> Result<(u8, Vec<u8>), Fail> {
     let mut words = words_from(alloc, &["draw", "station.xml"])?;
     for option in options {
         words.push(String::from_str(alloc, option)?)?;

@@ -75,9 +75,9 @@ pub begun_unstarted : (old new : Option Told) (name : List ℕ) → WhereTold ol
 begun_unstarted None new name start = tt
 begun_unstarted (Some a) None name start = absurd start
 begun_unstarted (Some a) (Some b) name start = elim start.either as (λ _. (b name ≡ a name) ⊎ FileBeginsLog b name) [
-    | inl same ↦ inl same
-    | inr (n, there) ↦ inr (take n header, there, record { lines = []; more = drop n header; formed = tt; spelled = take-append-drop n header })
-  ]
+  | inl same ↦ inl same
+  | inr (n, there) ↦ inr (take n header, there, record { lines = []; more = drop n header; formed = tt; spelled = take-append-drop n header })
+]
 
 -- ---- after a read
 

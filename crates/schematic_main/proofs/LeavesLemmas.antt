@@ -51,9 +51,9 @@ leaves_filed (Some a) (Some b) name Refused answered others begun =
     let outputs = log_output (Some name) in
     record {
       others = λ other untouched. elim untouched [
-          | inl refused ↦ absurd (answered refused)
-          | inr unnamed ↦ others other (λ same. unnamed (written (λ kind. ⊤) name tt other (sym same)))
-        ];
+        | inl refused ↦ absurd (answered refused)
+        | inr unnamed ↦ others other (λ same. unnamed (written (λ kind. ⊤) name tt other (sym same)))
+      ];
       begun = λ other names.
           let same : name ≡ other = (any_one (λ (output : OutputFile). (output.name ≡ other) × ⊤) file names).0 in
           subst (λ (n : List ℕ). (b n ≡ a n) ⊎ ((bytes : List ℕ) × (b n ≡ Some bytes) × WritesTo outputs n (λ kind. BeginsOutput kind bytes))) same

@@ -15,7 +15,7 @@ returns-in-Ok-clause-answer g c =
     let traced = told_to {Self = g.row.T.Denot} g.T.LogSink.tells g.T.LogSink.learnt c.args.trace.now c.draw_station.new.trace in
     IfOk-weaker c.draw_station.result _ _ (λ r answer.
     drawn_on c.args.asked.now c.args.input.now (at c.args.files.now) (at c.station_of.new.files) (at c.draw_station.new.files) traced c.in-Ok.station.graph c.in-Ok.station.order r.status r.text.items
-        c.in-Ok.ensures.station c.in-Ok.ensures.same (c.draw_station.ensures.reads ∙ c.in-Ok.ensures.reads) answer)
+    c.in-Ok.ensures.station c.in-Ok.ensures.same (c.draw_station.ensures.reads ∙ c.in-Ok.ensures.reads) answer)
     c.draw_station.ensures.answer
 
 pub returns-in-Ok-clause-reads : goal.returns-in-Ok-clause-reads

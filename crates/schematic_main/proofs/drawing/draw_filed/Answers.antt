@@ -20,9 +20,9 @@ returns-in-Ok-finish-clause-answer g c =
     drawn_told_so c.args.station.now.graph c.args.station.now.order c.args.asked.now _ _ c.in-Ok-draw_told.reply.status c.in-Ok-draw_told.reply.text.items
     (λ (lines : Lines) told.
     at_end {X = g.row.F.Denot} (λ s. HoldsLog old (at s) name lines) c.finish.new.self.0 _
-        (filed_holds old mid after (at c.finish.new.self.0) name c.in-Ok.log.kept c.draw_told.new.log.kept lines created c.in-Ok.ensures.tells (c.in-Ok.ensures.name ∙ c.as_str.ensures) later.1 later.2
-            told.behind c.finish.ensures.others c.in-Ok-finish.ensures.text)
-        (search rules))
+    (filed_holds old mid after (at c.finish.new.self.0) name c.in-Ok.log.kept c.draw_told.new.log.kept lines created c.in-Ok.ensures.tells (c.in-Ok.ensures.name ∙ c.as_str.ensures) later.1 later.2
+    told.behind c.finish.ensures.others c.in-Ok-finish.ensures.text)
+    (search rules))
     c.in-Ok-draw_told.ensures.answer
 
 pub returns-in-Ok-finish-clause-others : goal.returns-in-Ok-finish-clause-others
@@ -34,7 +34,7 @@ returns-in-Ok-finish-clause-others g c =
     let created = subst (λ (n : List ℕ). WhereTold old mid (Sets n header)) c.as_str.ensures c.in-Ok.ensures.created in
     at_end {X = g.row.F.Denot} (λ s. WhereTold old (at s) (SameElsewhere c.args.name.now)) c.finish.new.self.0 _
     (filed_others old mid (at c.draw_told.new.log.files.now) (at c.finish.new.self.0) c.args.name.now c.in-Ok.log.kept c.draw_told.new.log.kept created (c.in-Ok.ensures.name ∙ c.as_str.ensures) later.1
-        later.2 c.finish.ensures.others)
+    later.2 c.finish.ensures.others)
     (search rules)
 
 pub returns-in-Ok-finish-clause-begun : goal.returns-in-Ok-finish-clause-begun
@@ -45,7 +45,7 @@ returns-in-Ok-finish-clause-begun g c =
     let later = c.draw_told.ensures.later in
     at_end {X = g.row.F.Denot} (λ s. WhereTold old (at s) (λ x y. (y name ≡ x name) ⊎ FileBeginsLog y name)) c.finish.new.self.0 _
     (filed_begun old (at c.in-Ok.log.files.now) (at c.draw_told.new.log.files.now) (at c.finish.new.self.0) name c.in-Ok.log.kept c.draw_told.new.log.kept c.in-Ok.ensures.keeps
-        (c.in-Ok.ensures.name ∙ c.as_str.ensures) later.1 later.3 c.finish.ensures.begins)
+    (c.in-Ok.ensures.name ∙ c.as_str.ensures) later.1 later.3 c.finish.ensures.begins)
     (search rules)
 
 pub returns-in-Err-finish-clause-others : goal.returns-in-Err-finish-clause-others
@@ -57,7 +57,7 @@ returns-in-Err-finish-clause-others g c =
     let created = subst (λ (n : List ℕ). WhereTold old mid (Sets n header)) c.as_str.ensures c.in-Ok.ensures.created in
     at_end {X = g.row.F.Denot} (λ s. WhereTold old (at s) (SameElsewhere c.args.name.now)) c.finish.new.self.0 _
     (filed_others old mid (at c.draw_told.new.log.files.now) (at c.finish.new.self.0) c.args.name.now c.in-Ok.log.kept c.draw_told.new.log.kept created (c.in-Ok.ensures.name ∙ c.as_str.ensures) later.1
-        later.2 c.finish.ensures.others)
+    later.2 c.finish.ensures.others)
     (search rules)
 
 pub returns-in-Err-finish-clause-begun : goal.returns-in-Err-finish-clause-begun
@@ -68,7 +68,7 @@ returns-in-Err-finish-clause-begun g c =
     let later = c.draw_told.ensures.later in
     at_end {X = g.row.F.Denot} (λ s. WhereTold old (at s) (λ x y. (y name ≡ x name) ⊎ FileBeginsLog y name)) c.finish.new.self.0 _
     (filed_begun old (at c.in-Ok.log.files.now) (at c.draw_told.new.log.files.now) (at c.finish.new.self.0) name c.in-Ok.log.kept c.draw_told.new.log.kept c.in-Ok.ensures.keeps
-        (c.in-Ok.ensures.name ∙ c.as_str.ensures) later.1 later.3 c.finish.ensures.begins)
+    (c.in-Ok.ensures.name ∙ c.as_str.ensures) later.1 later.3 c.finish.ensures.begins)
     (search rules)
 
 pub returns-in-Err-draw_told-clause-begun : goal.returns-in-Err-draw_told-clause-begun
@@ -79,7 +79,7 @@ returns-in-Err-draw_told-clause-begun g c =
     let later = c.draw_told.ensures.later in
     at_end {X = g.row.F.Denot} (λ s. WhereTold old (at s) (λ x y. (y name ≡ x name) ⊎ FileBeginsLog y name)) c.draw_told.new.log.files.now _
     (left_begun old (at c.in-Ok.log.files.now) (at c.draw_told.new.log.files.now) name c.in-Ok.log.kept c.draw_told.new.log.kept c.in-Ok.ensures.keeps (c.in-Ok.ensures.name ∙ c.as_str.ensures) later.1
-        later.3)
+    later.3)
     (search rules)
 
 pub returns-in-Err-clause-others : goal.returns-in-Err-clause-others
