@@ -1,0 +1,9 @@
+pub mod AwaitedLemmas
+pub mod ExpectingLemmas
+pub mod CountingLemmas
+pub mod ReadingLemmas
+pub mod AcceptingLemmas
+pub mod JudgingLemmas
+pub mod CutLemmas
+pub mod CauseLemmas
+pub mod VerdictLemmas

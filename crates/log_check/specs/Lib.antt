@@ -1,0 +1,10 @@
+pub mod Faultless
+pub mod Expectation
+pub mod Accepted
+pub mod Refused
+pub mod Claimed
+pub mod Judged
+pub mod Counted
+pub mod Awaited
+pub mod Expecting
+pub mod Progress

@@ -1,0 +1,40 @@
+-- Why a line of a log is refused after lines that are accepted.
+use Rattle.std.specs.Prelude.{◌≡◌, ◌≢◌, ◌⊎◌, [], ◌∷◌, ◌++◌}
+use Rattle.cnf_core.specs.declared.limits.TheConstants.{ROOM}
+use Rattle.refute_log.specs.declared.line.LogLine.{LogLine}
+use Rattle.refute_log.specs.Told.{Lines}
+use Rattle.refute_log.specs.Log.{facts_of}
+use Rattle.refute_check.specs.Kept.{Kept, NamesNew, AnswersWrongly, PassesRoom, IsUnproved, IsOld}
+use Rattle.certified_values.specs.Expected.{clause_line, clause_lines, BeginsLines}
+use Rattle.log_check.specs.declared.verdict.Refusal.{Refusal}
+use Rattle.log_check.specs.declared.verdict.Refusal.TheVariants.{Room, Differs, NewVar, WrongQuery, NotImplied, NotNew}
+use Rattle.log_check.specs.Expectation.{Expectation, PassesLimits}
+
+-- it is the first Formula or Bound line, and what is expected passes the limits
+pub record IsOverLimits (e : Expectation) (before : Lines) (line : LogLine) : Type 0 where
+  pub compared : clause_line line ≢ []
+  pub first : clause_lines before ≡ []
+  pub passes : PassesLimits e
+
+-- with it the Formula and Bound lines still begin what is expected
+abbrev pub IsNextExpected : Expectation → Lines → LogLine → Type 0
+IsNextExpected e before line = BeginsLines (clause_lines (before ++ line ∷ [])) e.lines
+
+-- neither is wrong with it, so that the checker judges it
+pub record IsComparedLine (e : Expectation) (before : Lines) (line : LogLine) : Type 0 where
+  pub within : IsOverLimits e before line → ⊥
+  pub expected : IsNextExpected e before line
+
+-- what a checker of ROOM words keeps of lines that it accepted
+abbrev pub kept_of_lines : Lines → Kept
+kept_of_lines lines = record { room = ROOM; facts = facts_of lines }
+
+-- where there are several causes, the first of them is the one
+abbrev pub IsRefusedFor : Expectation → Lines → LogLine → Refusal → Type 0
+IsRefusedFor e before line Room =
+    IsOverLimits e before line ⊎ (IsComparedLine e before line × PassesRoom (kept_of_lines before) line)
+IsRefusedFor e before line Differs = (IsOverLimits e before line → ⊥) × (IsNextExpected e before line → ⊥)
+IsRefusedFor e before line NewVar = IsComparedLine e before line × NamesNew (facts_of before) line
+IsRefusedFor e before line WrongQuery = IsComparedLine e before line × AnswersWrongly (kept_of_lines before) line
+IsRefusedFor e before line NotImplied = IsComparedLine e before line × IsUnproved (kept_of_lines before) line
+IsRefusedFor e before line NotNew = IsComparedLine e before line × IsOld (kept_of_lines before) line

@@ -1,0 +1,151 @@
+// What is expected of a log, as a formula and the parts of its lines.
+ghost use Rattle.std.specs.Prelude.{◌≡◌, ◌≤◌, ◌<◌, ◌⊎◌, ◌+◌, ◌++◌, ℕ, [], ◌∷◌, IfOk, OnOk, IsErrOf, length, take};
+ghost use Rattle.plan_core.specs.declared.criterion.Criterion.{Criterion as Measured};
+ghost use Rattle.plan_core.specs.Values.{value_of, limit_of};
+ghost use Rattle.cnf_core.specs.declared.limits.TheConstants.{VARS};
+ghost use Rattle.cnf_core.specs.declared.fault.CnfFault.TheVariants.{Room};
+ghost use Rattle.cnf_core.specs.Clause.{words_of};
+ghost use Rattle.track_order.specs.Order.{IsOrderOf};
+ghost use Rattle.drawing_cnf.specs.Encoding.{encoded_vars};
+ghost use Rattle.drawing_cnf.specs.Bounded.{bound, clauses_of_bound, size_of_bound};
+ghost use Rattle.drawing_cnf.specs.Whole.{IsWhole};
+ghost use Rattle.drawing_problem.specs.Layout.{layout, layout_of};
+ghost use Rattle.log_check.specs.declared.awaited.Part.TheVariants.{ClausesTo as Clauses, Bounds as BoundsOf};
+ghost use Rattle.log_check.specs.Expectation.{expectation, PassesLimits};
+ghost use Rattle.log_check.specs.Expecting.{IsExpecting};
+
+use crate::awaited::Part;
+use cnf_core::{CnfFault, ROOM};
+use drawing_cnf::{Encoded, criterion_bound, encode};
+use plan_core::{Criterion, Grid, Order, Values};
+use port_graph::PortGraph;
+use std::alloc::Global;
+use track_order::TrackOrder;
+
+/// The clauses that are expected, and the parts of the lines that tell them and their bounds.
+#[derive(Drop)]
+pub(crate) struct Expected<'a> {
+    pub(crate) encoded: Encoded<'a>,
+    pub(crate) parts: Vec<Part>,
+}
+
+/// What is expected without bounds.
+fn begun<'a>(
+    alloc: Global,
+    g: &'a PortGraph,
+    t: &'a TrackOrder,
+    grid: &'a Grid,
+) -> Result<Expected<'a>, CnfFault>
+    requires { IsOrderOf g.now t.now }
+    ensures so_far { IfOk result (λ e. (cap : Measured → ℕ) →
+        IsExpecting (layout g.now t.now grid.now) [] cap e.encoded e.parts.items) }
+    ensures full { IsErrOf result Room → (cap : Measured → ℕ) → PassesLimits (expectation (layout g.now t.now grid.now) [] cap) }
+{
+    let encoded = encode(alloc, g, t, grid, ROOM)?;
+    let mut parts = Vec::new(alloc);
+    parts.push(Part::ClausesTo(encoded.formula().clauses()))?;
+    Ok(Expected { encoded, parts })
+}
+
+/// Adds a criterion's clauses and bounds, up to a cap.
+fn add_bounds<'a>(
+    alloc: Global,
+    e: &mut Expected<'a>,
+    c: Criterion,
+    cap: u32,
+) -> Result<(), CnfFault>
+    requires whole { IsWhole e.old.encoded }
+    requires from { 1 ≤ cap }
+    requires to { cap ≤ limit_of e.old.encoded.graph e.old.encoded.grid c }
+    ensures graph { e.new.encoded.graph ≡ e.old.encoded.graph }
+    ensures order { e.new.encoded.order ≡ e.old.encoded.order }
+    ensures grid { e.new.encoded.grid ≡ e.old.encoded.grid }
+    ensures room { e.new.encoded.formula.room ≡ e.old.encoded.formula.room }
+    ensures whole { OnOk result (IsWhole e.new.encoded) }
+    ensures clauses { let b = bound c e.old.encoded.formula.vars cap in OnOk result (e.new.encoded.formula.clauses ≡
+        e.old.encoded.formula.clauses ++ clauses_of_bound e.old.encoded.graph (encoded_vars e.old.encoded) e.old.encoded.grid b) }
+    ensures vars { let b = bound c e.old.encoded.formula.vars cap in OnOk result (e.new.encoded.formula.vars ≡
+        e.old.encoded.formula.vars + size_of_bound e.old.encoded.graph (encoded_vars e.old.encoded) e.old.encoded.grid b) }
+    ensures few { OnOk result (e.old.encoded.formula.vars + cap ≤ VARS) }
+    ensures parts { OnOk result (e.new.parts.items ≡
+        e.old.parts.items ++ Clauses (length e.new.encoded.formula.clauses) ∷ BoundsOf c e.old.encoded.formula.vars cap ∷ []) }
+    ensures full { let b = bound c e.old.encoded.formula.vars cap in
+        let more = clauses_of_bound e.old.encoded.graph (encoded_vars e.old.encoded) e.old.encoded.grid b in
+        let size = size_of_bound e.old.encoded.graph (encoded_vars e.old.encoded) e.old.encoded.grid b in IsErrOf result Room →
+        (VARS < e.old.encoded.formula.vars + size) ⊎ (e.old.encoded.formula.room < words_of (e.old.encoded.formula.clauses ++ more)) }
+{
+    let last = e.encoded.formula().vars();
+    criterion_bound(alloc, &mut e.encoded, c, cap)?;
+    let end = e.encoded.formula().clauses();
+    e.parts.push(Part::ClausesTo(end))?;
+    e.parts.push(Part::Bounds {
+        criterion: c,
+        last,
+        cap,
+    })?;
+    Ok(())
+}
+
+/// Adds the lines of the criterion at a place of an order, behind those of the places before it.
+fn add_place<'a>(
+    alloc: Global,
+    e: &mut Expected<'a>,
+    order: &Order,
+    caps: &Values,
+    i: usize,
+) -> Result<(), CnfFault>
+    requires place { i < length order.now }
+    requires within { (c : Measured) → value_of caps.now c ≤ limit_of e.old.encoded.graph e.old.encoded.grid c }
+    requires so_far { IsExpecting (layout_of e.old.encoded) (take i order.now) (value_of caps.now) e.old.encoded e.old.parts.items }
+    ensures so_far { OnOk result
+        (IsExpecting (layout_of e.old.encoded) (take (i + 1) order.now) (value_of caps.now) e.new.encoded e.new.parts.items) }
+    ensures full { IsErrOf result Room → PassesLimits (expectation (layout_of e.old.encoded) (take (i + 1) order.now) (value_of caps.now)) }
+{
+    let c = order.get(i);
+    let cap = caps.of(c);
+    if cap == 0 {
+        return Ok(());
+    }
+    add_bounds(alloc, e, c, cap)
+}
+
+/// Adds the lines of all criteria of an order.
+fn add_places<'a>(
+    alloc: Global,
+    e: &mut Expected<'a>,
+    order: &Order,
+    caps: &Values,
+) -> Result<(), CnfFault>
+    requires within { (c : Measured) → value_of caps.now c ≤ limit_of e.old.encoded.graph e.old.encoded.grid c }
+    requires so_far { IsExpecting (layout_of e.old.encoded) [] (value_of caps.now) e.old.encoded e.old.parts.items }
+    ensures so_far { OnOk result
+        (IsExpecting (layout_of e.old.encoded) order.now (value_of caps.now) e.new.encoded e.new.parts.items) }
+    ensures full { IsErrOf result Room → PassesLimits (expectation (layout_of e.old.encoded) order.now (value_of caps.now)) }
+{
+    for i in 0..order.len() {
+        add_place(alloc, e, order, caps, i)?;
+    }
+    Ok(())
+}
+
+/// What is expected of a log of the drawings' clauses, with so many bounds of each criterion of an order. `Room`
+/// comes exactly where it passes the limits, want of memory aside.
+pub(crate) fn expected_of<'a>(
+    alloc: Global,
+    g: &'a PortGraph,
+    t: &'a TrackOrder,
+    grid: &'a Grid,
+    order: &Order,
+    caps: &Values,
+) -> Result<Expected<'a>, CnfFault>
+    requires order { IsOrderOf g.now t.now }
+    requires within { (c : Measured) → value_of caps.now c ≤ limit_of g.now grid.now c }
+    ensures so_far { IfOk result (λ e. IsExpecting (layout g.now t.now grid.now) order.now (value_of caps.now) e.encoded e.parts.items) }
+    ensures fits { OnOk result (PassesLimits (expectation (layout g.now t.now grid.now) order.now (value_of caps.now)) → ⊥) }
+    ensures full { IsErrOf result Room → PassesLimits (expectation (layout g.now t.now grid.now) order.now (value_of caps.now)) }
+{
+    let mut e = begun(alloc, g, t, grid)?;
+    add_places(alloc, &mut e, order, caps)?;
+    let _ = e.encoded.formula().words();
+    Ok(e)
+}
