@@ -1,7 +1,8 @@
 // What is answered to a log.
 use refute_log::LogWhat;
 
-/// Why a line of a log is refused. Where several causes hold, the first of this list is answered.
+/// Why a line of a log is refused. Where several causes hold, the first of these is answered: no room for what is expected,
+/// `Differs`, `NewVar`, `WrongQuery`, no room for the line's clause, `NotImplied`, `NotNew`.
 #[derive(Clone, Copy, Debug, PartialEq, Eq)]
 pub enum Refusal {
     /// There is no room for what is expected of the log, or for the line's clause.
@@ -10,7 +11,7 @@ pub enum Refusal {
     Differs,
     /// The line names a variable that no Formula line before it reaches.
     NewVar,
-    /// The Refuted line has a literal that isn't the negation of one of the latest query.
+    /// The Refuted line has a literal that isn't the negation of one of the latest query, or no query stands before it.
     WrongQuery,
     /// The clause doesn't follow by unit propagation from those before it.
     NotImplied,
