@@ -170,7 +170,7 @@ fn answers_by_words_and_file(rt: HostRuntime) -> Result<(), Fail> {
             1,
             "topology 8 NotMutual at 174 c1 c2\n",
         ),
-        (&["check", "none.xml", "b", "c"], ONE, 1, NOT_BUILT),
+        (&["check", "none.xml", "b", "c"], ONE, 5, "read failed 1\n"),
         (&["make", "5"], ONE, 1, NOT_BUILT),
         (&["draw"], ONE, 2, "words 3 MissingName 2\n"),
         (&[], ONE, 2, "words 1 NoCommand 1\n"),

@@ -9,7 +9,7 @@ use std::alloc::Global;
 use std::test::Fail;
 
 /// Each point of it is forced.
-const LOOP_SHEET: &str = "railplan 2
+pub const LOOP_SHEET: &str = "railplan 2
 grid 40 8 1
 order height bends diagonal width
 nodes 4
@@ -161,7 +161,7 @@ fn stops_when_its_budget_is_spent(rt: HostRuntime) -> Result<(), Fail> {
 }
 
 /// The log of a file's search, as it stands in the file, and the sheet.
-fn logged(alloc: Global, order: &str, file: &str) -> Result<(String, String), Fail> {
+pub fn logged(alloc: Global, order: &str, file: &str) -> Result<(String, String), Fail> {
     let words = words_from(
         alloc,
         &["draw", "station.xml", "--order", order, "--log", "l"],

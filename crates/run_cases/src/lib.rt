@@ -1,8 +1,8 @@
 //! Whole runs of the program, over files and a sink in memory, and what answers each of them.
 //!
 //! The crate has nothing but tests. `cases` builds a run of `verify` from a picture and its edits; `answers`
-//! has runs by their words and one file, `drawn` what `draw` draws and logs, `great_stations` graphs at
-//! their limits, `outside` long inputs, reads and faults from outside, `sheets` the sheets that have a
+//! has runs by their words and one file, `drawn` what `draw` draws and logs, `checked` what `check` answers to
+//! logs, `great_stations` graphs at their limits, `outside` long inputs, reads and faults from outside, `sheets` the sheets that have a
 //! fault, `verdicts` the drawings that keep the laws or break one, and `examples` the station that README
 //! shows. `stations` and `small_stations` have the files, `pictures` the drawings. A new case of a run goes
 //! here. The crate stands on `schematic_main`, so that a change of a case proves no part of the program
@@ -13,6 +13,8 @@
 mod answers;
 #[cfg(test)]
 mod cases;
+#[cfg(test)]
+mod checked;
 #[cfg(test)]
 mod drawn;
 #[cfg(test)]

@@ -68,19 +68,22 @@ fn verifies_nothing_past_the_limit(rt: HostRuntime) -> Result<(), Fail> {
 #[test]
 fn reads_each_input_once_and_no_sheet_in_vain(rt: HostRuntime) -> Result<(), Fail> {
     let alloc = rt.alloc();
-    let cases: [(&[&str], u32, u8); 6] = [
+    let cases: [(&[&str], u32, u8); 8] = [
         (&["draw", "one.xml"], 2, 0),
         (&["graph", "one.xml"], 2, 0),
         (&["verify", "one.xml", "sheet"], 3, 0),
         (&["verify", "long.xml", "sheet"], 2, 1),
         (&["verify", "one.xml", "long.xml"], 3, 1),
-        (&["check", "one.xml", "sheet", "log"], 1, 1),
+        (&["check", "one.xml", "sheet", "log"], 4, 8),
+        (&["check", "long.xml", "sheet", "log"], 2, 1),
+        (&["check", "one.xml", "long.xml", "log"], 3, 1),
     ];
     for (words, next, status) in cases {
         let words = words_from(alloc, words)?;
         let mut files = MemoryFiles::new(alloc, &[next])?;
         files.add("one.xml", ONE.as_bytes())?;
         files.add("sheet", ONE_SHEET.as_bytes())?;
+        files.add("log", b"railplan-log 1\n")?;
         files.add("long.xml", &padded(alloc, 4_194_305)?)?;
         let mut out = SureSink::new(alloc);
         assert_eq!(rt;

@@ -1,5 +1,5 @@
 -- What was read of a file is answered as the file is.
-use Rattle.std.proofs.Common.{◌≡◌, ℕ, ◌<◌, ◌≤◌, List, [], ◌++◌, None, Some, length, take, sym, ◌∙◌, ap, subst, inl, inr, arith}
+use Rattle.std.proofs.Common.{◌≡◌, ℕ, suc, ◌<◌, ◌≤◌, List, [], ◌++◌, None, Some, length, take, sym, ◌∙◌, ap, subst, inl, inr, arith}
 use Rattle.std.specs.declared.option.Option.{Option}
 use Rattle.std.proofs.lemmas.List.{take_all, length-take}
 use Rattle.plan_core.specs.Graph.{Graph}
@@ -70,12 +70,22 @@ told_before None mid name bytes same is = tt
 told_before (Some before) None name bytes same is = absurd same
 told_before (Some before) (Some after) name bytes same is = sym (same name) ∙ is
 
--- so what is answered on the files after a read is answered on those before it
-pub answer_before : (input : InputFile) (old mid new : FilesAt) (Answers : List ℕ → Status → List ℕ → Type 0) (status : Status) (text : List ℕ) →
-    WhereTold old.contents mid.contents SameFiles → old.read_faults ≤ mid.read_faults → mid.reads ≡ next_count old.reads →
-    IsAnswerOn input 0 (between mid new) (IsAnswerAfter 1 (between mid new) Answers) status text → IsAnswerOn input 1 (between old new) (IsAnswerAfter 2 (between old new) Answers) status text
-answer_before input old mid new Answers status text same later one (inl (bytes, is, inl (long, read, told))) =
-    inl (bytes, told_before old.contents mid.contents input.name bytes same is, inl (long, read_later 1 old mid new one read, told))
-answer_before input old mid new Answers status text same later one (inl (bytes, is, inr (short, (read, answer)))) =
-    inl (bytes, told_before old.contents mid.contents input.name bytes same is, inr (short, (read_later 1 old mid new one read, answer)))
-answer_before input old mid new Answers status text same later one (inr (fails, told)) = inr (fails_later old mid new later one fails, told)
+-- a read of an input that is the same to other files, and counted once
+pub record IsRead (old mid : FilesAt) : Type 0 where
+  pub same : WhereTold old.contents mid.contents SameFiles
+  pub later : old.read_faults ≤ mid.read_faults
+  pub one : mid.reads ≡ next_count old.reads
+
+-- what is answered on the files after a read is answered on those before it
+pub answer_before : (input : InputFile) (done : ℕ) (old mid new : FilesAt) (Answers Others : List ℕ → Status → List ℕ → Type 0) (status : Status) (text : List ℕ) → IsRead old mid →
+    ((bytes : List ℕ) → Answers bytes status text → Others bytes status text) → IsAnswerOn input done (between mid new) Answers status text → IsAnswerOn input (suc done) (between old new) Others status text
+answer_before input done old mid new Answers Others status text read others (inl (bytes, is, inl (long, done_all, told))) =
+    inl (bytes, told_before old.contents mid.contents input.name bytes read.same is, inl (long, read_later (suc done) old mid new read.one done_all, told))
+answer_before input done old mid new Answers Others status text read others (inl (bytes, is, inr (short, answer))) =
+    inl (bytes, told_before old.contents mid.contents input.name bytes read.same is, inr (short, others bytes answer))
+answer_before input done old mid new Answers Others status text read others (inr (fails, told)) = inr (fails_later done old mid new read.later read.one fails, told)
+
+-- and after so many reads
+pub after_before : (done : ℕ) (old mid new : FilesAt) (Answers : List ℕ → Status → List ℕ → Type 0) (bytes : List ℕ) (status : Status) (text : List ℕ) → IsRead old mid →
+    IsAnswerAfter done (between mid new) Answers bytes status text → IsAnswerAfter (suc done) (between old new) Answers bytes status text
+after_before done old mid new Answers bytes status text read (done_all, answer) = (read_later done old mid new read.one done_all, answer)

@@ -1,6 +1,7 @@
 -- What the outcome of a search says of the sheet that is written.
-use Rattle.std.proofs.Common.{◌≡◌, ℕ, ◌+◌, ◌<◌, Bool, true, false, List, [], ◌∷◌, ◌++◌, length, take, None, Some, sym, ◌∙◌, ap, subst, arith}
+use Rattle.std.proofs.Common.{◌≡◌, ℕ, ◌+◌, ◌<◌, Bool, true, false, List, [], ◌∷◌, ◌++◌, length, take, None, Some, sym, ◌∙◌, ap, subst, inl, arith}
 use Rattle.std.specs.Prelude.{⊤, slice_get, Result, Ok, Err, IfOk, IsOkAnd}
+use Rattle.std.specs.declared.option.Option.{Option}
 use Rattle.std.specs.Option.{is_some}
 use Rattle.std.proofs.lemmas.List.{take_more}
 use Rattle.std.proofs.lemmas.Option.{get_or_from_slice_get}
@@ -20,7 +21,9 @@ use Rattle.schematic_main.specs.declared.reply.Reply.{Reply}
 use Rattle.schematic_main.specs.declared.status.Status.{Status}
 use Rattle.schematic_main.specs.Status.{IsRefused}
 use Rattle.schematic_main.proofs.StatusLemmas.{outcome_unrefused}
-use Rattle.schematic_main.specs.Drawn.{Job, search_of, sheet_of, HasSearched, IsDrawn}
+use Rattle.schematic_main.specs.Met.{Met}
+use Rattle.schematic_main.specs.SearchLog.{IsLogOf}
+use Rattle.schematic_main.specs.Drawn.{Job, search_of, sheet_of, HasSearched, IsDrawn, IsDrawAnswer}
 
 -- ---- an order, criterion by criterion
 
@@ -92,6 +95,7 @@ drawn_told_so g o asked P Q status text more drawn = record {
   built = drawn.built;
   outcome = drawn.outcome;
   searched = record { lines = drawn.searched.lines; told = more drawn.searched.lines drawn.searched.told; ended = drawn.searched.ended };
+  passes = drawn.passes;
   status_is = drawn.status_is;
   spelled = drawn.spelled;
 }
@@ -100,3 +104,9 @@ drawn_told_so g o asked P Q status text more drawn = record {
 pub drawn_unrefused : {E : Type 0} (g : Graph) (o : EdgeOrder) (asked : Job) (P : Lines → Type 0) (r : Result Reply E) → IfOk r (λ x. IsDrawn g o asked P x.status x.text.items) → IsOkAnd r (λ x. IsRefused x.status) → ⊥
 drawn_unrefused g o asked P (Ok x) drawn refused = outcome_unrefused drawn.outcome (subst (λ (s : Status). IsRefused s) drawn.status_is refused)
 drawn_unrefused g o asked P (Err e) drawn refused = refused
+
+-- what is drawn with the lines told to such a log is an answer of draw, where that log is asked for
+pub drawn_answer : {E : Type 0} (g : Graph) (o : EdgeOrder) (asked : Job) (met : Met) (traced : Lines → Type 0) (named : Option (List ℕ)) (r : Result Reply E) → asked.log ≡ named →
+    IfOk r (λ x. IsDrawn g o asked (IsLogOf named met traced) x.status x.text.items) → IfOk r (λ x. IsDrawAnswer asked met traced g o x.status x.text.items)
+drawn_answer g o asked met traced named (Ok x) is drawn = inl (subst (λ (log : Option (List ℕ)). IsDrawn g o asked (IsLogOf log met traced) x.status x.text.items) (sym is) drawn)
+drawn_answer g o asked met traced named (Err e) is drawn = tt

@@ -1,7 +1,8 @@
 -- What follows from what a command owes: which statuses there are, and how it ends where its inputs are sound.
-use Rattle.std.proofs.Common.{◌≡◌, ◌⊎◌, ℕ, List, None, Some, refl, sym, ◌∙◌, subst, inl, inr, lit<, arith}
+use Rattle.std.proofs.Common.{◌≡◌, ◌⊎◌, ℕ, true, false, List, None, Some, refl, sym, ◌∙◌, subst, inl, inr, lit<, arith}
 use Rattle.std.specs.declared.option.Option.{Option}
-use Rattle.plan_core.specs.declared.limits.TheConstants.{MAX_FILE_BYTES}
+use Rattle.plan_core.specs.declared.limits.TheConstants.{MAX_FILE_BYTES, MAX_LOG_BYTES}
+use Rattle.plan_core.specs.declared.criterion.Criterion.{Criterion}
 use Rattle.plan_core.specs.Grid.{GridSize}
 use Rattle.plan_core.specs.Graph.{Graph}
 use Rattle.plan_core.specs.Drawing.{Drawing}
@@ -10,10 +11,19 @@ use Rattle.outside_io.specs.Contents.{Told, IsFileWhereTold, TellsAt}
 use Rattle.plan_words.specs.declared.command.Command.{Command}
 use Rattle.plan_words.specs.declared.command.Command.TheVariants.{Draw, Verify, Check, Graph as PrintGraph, Make}
 use Rattle.plan_words.specs.Words.{IsCommandOf}
+use Rattle.plan_text.specs.SheetText.{Sheet as PlainSheet}
+use Rattle.refute_log.specs.Lines.{log_text, MayAllBeTold}
 use Rattle.refute_log.specs.Told.{Lines}
+use Rattle.drawing_problem.specs.Layout.{Layout, layout}
+use Rattle.log_check.specs.declared.claim.Claim.{Claim}
+use Rattle.log_check.specs.declared.verdict.Refusal.{Refusal}
+use Rattle.log_check.specs.declared.verdict.Refusal.TheVariants as refusals
+use Rattle.log_check.specs.declared.verdict.Verdict.{Verdict}
+use Rattle.log_check.specs.declared.verdict.Verdict.TheVariants as verdicts
+use Rattle.log_check.specs.Judged.{IsLogJudged}
 use Rattle.plan_words.proofs.AnswerLemmas.{command_same, command_or_fault}
 use Rattle.schematic_main.specs.declared.fault.RunFault.{RunFault}
-use Rattle.schematic_main.specs.declared.fault.RunFault.TheVariants.{NotBuilt, Words, Long, Text, Topology, Graph as GraphFault, Order, Sheet, ReadFailed}
+use Rattle.schematic_main.specs.declared.fault.RunFault.TheVariants.{NotBuilt, Words, Long, Text, Topology, Graph as GraphFault, Order, Sheet, Log, ReadFailed}
 use Rattle.schematic_main.specs.declared.status.Status.{Status}
 use Rattle.schematic_main.specs.declared.status.Status.TheVariants.{Done, Refused, WordsRefused, NoDrawing, Unfinished, Unread, Broken}
 use Rattle.schematic_main.specs.Status.{IsCutShort}
@@ -21,15 +31,18 @@ use Rattle.schematic_main.specs.Fault.{fault_status}
 use Rattle.schematic_main.specs.Input.{IsLong, IsShort, HasStation, HasFileFault}
 use Rattle.schematic_main.specs.Met.{Met, ReadFails}
 use Rattle.schematic_main.specs.Verdict.{IsVerdict, IsSheetJudged, IsSoundSheet}
-use Rattle.schematic_main.specs.Answer.{InputFile, text_input, IsPrinted, IsFileJudged, IsVerified, IsAnswerAfter, IsAnswerOn}
+use Rattle.schematic_main.specs.Answer.{InputFile, text_input, log_input, IsPrinted, IsFileJudged, IsVerified, IsAnswerAfter, IsAnswerOn}
+use Rattle.schematic_main.specs.CheckLine.{claim_of, refusal_status, verdict_status}
+use Rattle.schematic_main.specs.Checked.{IsFoundBroken, IsClaimJudged, IsChecked}
 use Rattle.schematic_main.specs.Drawn.{Job, job, IsDrawAnswer}
 use Rattle.schematic_main.specs.Commands.{Owes, ends_of, HasSoundFile, AreSound}
 use Rattle.schematic_main.specs.Run.{Asks, IsDue, FailsIn}
 use Rattle.schematic_main.proofs.StatusLemmas.{on_outcome}
+use Rattle.schematic_main.proofs.SoundLog.{sound_log}
 
 -- ---- the statuses: what holds of those that each part of an answer may have holds of the answer's
 
-file_fault_status : (bytes : List ℕ) (fault : RunFault) → HasFileFault bytes fault → fault_status fault ≡ Refused
+pub file_fault_status : (bytes : List ℕ) (fault : RunFault) → HasFileFault bytes fault → fault_status fault ≡ Refused
 file_fault_status bytes (Long input) has = refl
 file_fault_status bytes (Text what at) has = refl
 file_fault_status bytes (Topology what at first second) has = refl
@@ -38,6 +51,7 @@ file_fault_status bytes (Order fault) has = refl
 file_fault_status bytes NotBuilt has = absurd has
 file_fault_status bytes (Words what position) has = absurd has
 file_fault_status bytes (Sheet what line) has = absurd has
+file_fault_status bytes (Log what line) has = absurd has
 file_fault_status bytes (ReadFailed input) has = absurd has
 
 on_input : (P : Status → Type 0) (input : InputFile) (done : ℕ) (met : Met) (Answers : List ℕ → Status → List ℕ → Type 0) (status : Status) (text : List ℕ) →
@@ -72,6 +86,31 @@ on_sheet : (P : Status → Type 0) (g : Graph) (o : EdgeOrder) (sheet : List ℕ
 on_sheet P g o sheet status text owed (inl judged) = on_verdict P g o judged.grid judged.drawn status text owed judged.verdict
 on_sheet P g o sheet status text owed (inr r) = subst P (sym r.told.status_is) owed.refused
 
+on_refusal : (P : Status → Type 0) (why : Refusal) → OfOwed P → P (refusal_status why)
+on_refusal P refusals.Room owed = owed.unfinished
+on_refusal P refusals.Differs owed = owed.broken
+on_refusal P refusals.NewVar owed = owed.broken
+on_refusal P refusals.WrongQuery owed = owed.broken
+on_refusal P refusals.NotImplied owed = owed.broken
+on_refusal P refusals.NotNew owed = owed.broken
+
+on_log : (P : Status → Type 0) (verdict : Verdict) → OfOwed P → P (verdict_status verdict)
+on_log P verdicts.Certified owed = owed.done
+on_log P (verdicts.Lacks place) owed = owed.broken
+on_log P (verdicts.Refused why line) owed = on_refusal P why owed
+on_log P (verdicts.Faulty what line) owed = owed.refused
+
+on_found : (P : Status → Type 0) (g : Graph) (o : EdgeOrder) (said : PlainSheet) (found : Option Drawing) (status : Status) (text : List ℕ) → OfOwed P → IsFoundBroken g o said found status text → P status
+on_found P g o said None status text owed broken = absurd broken
+on_found P g o said (Some d) status text owed broken = subst P (sym broken.status_is) owed.broken
+
+on_claim : (P : Status → Type 0) (g : Graph) (o : EdgeOrder) (sheet log : List ℕ) (status : Status) (text : List ℕ) → OfOwed P → IsClaimJudged g o sheet log status text → P status
+on_claim P g o sheet log status text owed (inl checked) = elim checked.answer [
+  | inl broken ↦ on_found P g o checked.said checked.said.found status text owed broken
+  | inr claim ↦ subst P (sym claim.told.status_is) (on_log P claim.verdict owed)
+]
+on_claim P g o sheet log status text owed (inr r) = subst P (sym r.told.status_is) owed.refused
+
 on_command : (P : Status → Type 0) (command : Command) (met : Met) (traced : Lines → Type 0) (status : Status) (text : List ℕ) → OfOwed P → (FailsIn command met → P Unread) → Owes command met traced status text → P status
 on_command P (Draw input grid order budget svg log) met traced status text owed unread owes =
     let asked = job grid order budget svg log in
@@ -87,7 +126,12 @@ on_command P (Verify input sheet) met traced status text owed unread owes =
     (λ bytes. on_input P (text_input 2 sheet) 1 met (IsAnswerAfter 2 met (IsVerified bytes)) status text owed.refused (λ fails. unread (1, lit< tt, fails))
     (λ drawn answer. on_file P (λ g o. IsSheetJudged g o drawn) bytes status text owed.refused (λ g o. on_sheet P g o drawn status text owed) answer.1))
     owes
-on_command P (Check input sheet log) met traced status text owed unread told = subst P (sym told.status_is) owed.refused
+on_command P (Check input sheet log) met traced status text owed unread owes =
+    on_input P (text_input 1 input) 0 met (λ bytes. IsAnswerOn (text_input 2 sheet) 1 met (λ said. IsAnswerOn (log_input 3 log) 2 met (IsAnswerAfter 3 met (IsChecked bytes said)))) status text owed.refused (λ fails. unread (0, lit< tt, fails))
+    (λ bytes. on_input P (text_input 2 sheet) 1 met (λ said. IsAnswerOn (log_input 3 log) 2 met (IsAnswerAfter 3 met (IsChecked bytes said))) status text owed.refused (λ fails. unread (1, lit< tt, fails))
+    (λ said. on_input P (log_input 3 log) 2 met (IsAnswerAfter 3 met (IsChecked bytes said)) status text owed.refused (λ fails. unread (2, lit< tt, fails))
+    (λ told answer. on_file P (λ g o. IsClaimJudged g o said told) bytes status text owed.refused (λ g o. on_claim P g o said told status text owed) answer.1)))
+    owes
 on_command P (Make n) met traced status text owed unread told = subst P (sym told.status_is) owed.refused
 
 on_due : (P : Status → Type 0) (words : List (List ℕ)) (met : Met) (traced : Lines → Type 0) (status : Status) (text : List ℕ) → OfOwed P → (Asks words (λ command. FailsIn command met) → P Unread) → IsDue words met traced status text → P status
@@ -147,13 +191,41 @@ drawn_status asked met traced g o status text built (inl drawn) =
     (on_outcome (λ s. (s ≡ Done) ⊎ (s ≡ NoDrawing) ⊎ (s ≡ Unfinished)) drawn.outcome (inl refl) (inr (inl refl)) (inr (inr refl)))
 drawn_status asked met traced g o status text built (inr down) = absurd (down.unbuilt built)
 
-verdict_status : (g : Graph) (o : EdgeOrder) (grid : GridSize) (d : Drawing) (status : Status) (text : List ℕ) → IsVerdict g o grid d status text → (status ≡ Done) ⊎ (status ≡ Broken)
-verdict_status g o grid d status text (inl lawful) = inl lawful.status_is
-verdict_status g o grid d status text (inr broken) = inr broken.status_is
+drawing_status : (g : Graph) (o : EdgeOrder) (grid : GridSize) (d : Drawing) (status : Status) (text : List ℕ) → IsVerdict g o grid d status text → (status ≡ Done) ⊎ (status ≡ Broken)
+drawing_status g o grid d status text (inl lawful) = inl lawful.status_is
+drawing_status g o grid d status text (inr broken) = inr broken.status_is
 
-sheet_status : (g : Graph) (o : EdgeOrder) (sheet : List ℕ) (status : Status) (text : List ℕ) → IsSoundSheet g sheet → IsSheetJudged g o sheet status text → (status ≡ Done) ⊎ (status ≡ Broken)
-sheet_status g o sheet status text sound (inl judged) = verdict_status g o judged.grid judged.drawn status text judged.verdict
+sheet_status : (g : Graph) (o : EdgeOrder) (sheet : List ℕ) (status : Status) (text : List ℕ) → IsSoundSheet g true sheet → IsSheetJudged g o sheet status text → (status ≡ Done) ⊎ (status ≡ Broken)
+sheet_status g o sheet status text sound (inl judged) = drawing_status g o judged.grid judged.drawn status text judged.verdict
 sheet_status g o sheet status text sound (inr refused) = absurd (sound.sound refused.what refused.line refused.first)
+
+found_status : (g : Graph) (o : EdgeOrder) (said : PlainSheet) (found : Option Drawing) (status : Status) (text : List ℕ) → IsFoundBroken g o said found status text → status ≡ Broken
+found_status g o said None status text broken = absurd broken
+found_status g o said (Some d) status text broken = broken.status_is
+
+-- a sound log has no fault: it is judged to a verdict on lines
+log_status : (y : Layout) (order : List Criterion) (claim : Claim) (lines : Lines) (verdict : Verdict) → MayAllBeTold lines → IsLogJudged y order claim (log_text lines) verdict →
+    (verdict_status verdict ≡ Done) ⊎ (verdict_status verdict ≡ Unfinished) ⊎ (verdict_status verdict ≡ Broken)
+log_status y order claim lines verdicts.Certified formed judged = inl refl
+log_status y order claim lines (verdicts.Lacks place) formed judged = inr (inr refl)
+log_status y order claim lines (verdicts.Refused refusals.Room line) formed judged = inr (inl refl)
+log_status y order claim lines (verdicts.Refused refusals.Differs line) formed judged = inr (inr refl)
+log_status y order claim lines (verdicts.Refused refusals.NewVar line) formed judged = inr (inr refl)
+log_status y order claim lines (verdicts.Refused refusals.WrongQuery line) formed judged = inr (inr refl)
+log_status y order claim lines (verdicts.Refused refusals.NotImplied line) formed judged = inr (inr refl)
+log_status y order claim lines (verdicts.Refused refusals.NotNew line) formed judged = inr (inr refl)
+log_status y order claim lines (verdicts.Faulty what line) formed judged = absurd (sound_log y order claim lines what line formed judged)
+
+-- a sheet and a log without a fault are judged
+checked_status : (g : Graph) (o : EdgeOrder) (sheet : List ℕ) (lines : Lines) (status : Status) (text : List ℕ) → IsSoundSheet g false sheet → MayAllBeTold lines → IsClaimJudged g o sheet (log_text lines) status text →
+    (status ≡ Done) ⊎ (status ≡ Unfinished) ⊎ (status ≡ Broken)
+checked_status g o sheet lines status text sound formed (inl checked) = elim checked.answer [
+  | inl broken ↦ inr (inr (found_status g o checked.said checked.said.found status text broken))
+  | inr claim ↦
+      subst (λ s. (s ≡ Done) ⊎ (s ≡ Unfinished) ⊎ (s ≡ Broken)) (sym claim.told.status_is)
+      (log_status (layout g o checked.said.grid) checked.said.order (claim_of checked.said.order checked.said.found checked.said.ending) lines claim.verdict formed claim.judged)
+]
+checked_status g o sheet lines status text sound formed (inr refused) = absurd (sound.sound refused.what refused.line refused.first)
 
 -- a command whose inputs are sound, and none of whose reads failed, ends as it is there for
 sound_ends : (command : Command) (met : Met) (traced : Lines → Type 0) (status : Status) (text : List ℕ) → AreSound command met.before.contents → (FailsIn command met → ⊥) → Owes command met traced status text → ends_of command status
@@ -172,7 +244,16 @@ sound_ends (Verify input sheet) met traced status text (file, drawn) read owes =
     within_on (text_input 2 sheet) 1 met drawn.bytes (IsAnswerAfter 2 met (IsVerified file.bytes)) status text drawn.there (too_long MAX_FILE_BYTES drawn.bytes drawn.short) (λ fails. read (1, lit< tt, fails)) both in
     let found = sound_judged (λ g o. IsSheetJudged g o drawn.bytes) file.bytes status text file.sound verified.1 in
     sheet_status found.0 found.1 drawn.bytes status text (drawn.sound found.0 (found.1, found.2)) found.3
-sound_ends (Check input sheet log) met traced status text sound read owes = absurd sound
+sound_ends (Check input sheet log) met traced status text (file, said, log_file) read owes =
+    let told = log_text log_file.lines in
+    let first =
+    first_on input met file (λ bytes. IsAnswerOn (text_input 2 sheet) 1 met (λ sheet_bytes. IsAnswerOn (log_input 3 log) 2 met (IsAnswerAfter 3 met (IsChecked bytes sheet_bytes)))) status text (λ fails. read (0, lit< tt, fails)) owes in
+    let second =
+    within_on (text_input 2 sheet) 1 met said.bytes (λ sheet_bytes. IsAnswerOn (log_input 3 log) 2 met (IsAnswerAfter 3 met (IsChecked file.bytes sheet_bytes))) status text said.there (too_long MAX_FILE_BYTES said.bytes said.short) (λ fails. read (1, lit< tt, fails)) first in
+    let third =
+    within_on (log_input 3 log) 2 met told (IsAnswerAfter 3 met (IsChecked file.bytes said.bytes)) status text log_file.there (too_long MAX_LOG_BYTES told log_file.short) (λ fails. read (2, lit< tt, fails)) second in
+    let found = sound_judged (λ g o. IsClaimJudged g o said.bytes told) file.bytes status text file.sound third.1 in
+    checked_status found.0 found.1 said.bytes log_file.lines status text (said.sound found.0 (found.1, found.2)) log_file.formed found.3
 sound_ends (Make n) met traced status text sound read owes = absurd sound
 
 -- so do words that ask for it

@@ -1,9 +1,13 @@
 -- How the lines of a search come to stand in a file, and what becomes of the files on the way.
-use Rattle.std.proofs.Common.{◌≡◌, ◌⊎◌, ℕ, List, [], ◌∷◌, ◌++◌, take, drop, None, Some, sym, ◌∙◌, subst, inl, inr}
+use Rattle.std.proofs.Common.{◌≡◌, ◌⊎◌, ℕ, List, [], ◌∷◌, ◌++◌, take, drop, None, Some, ◌≤◌, refl, sym, ◌∙◌, ap, subst, inl, inr, arith}
+use Rattle.std.specs.Prelude.{Result, Ok, Err, IsErrOf}
 use Rattle.std.specs.declared.option.Option.{Option}
 use Rattle.std.proofs.lemmas.List.{take-append-drop}
 use Rattle.outside_io.specs.Contents.{Told, WhereTold, SameFiles, SameElsewhere, Sets}
+use Rattle.outside_io.specs.Counts.{Rose}
 use Rattle.refute_log.specs.declared.file_log.Gathered.{Gathered}
+use Rattle.refute_log.specs.declared.sink.LogSinkFault.{LogSinkFault}
+use Rattle.refute_log.specs.declared.sink.LogSinkFault.TheVariants as faults
 use Rattle.refute_log.specs.Lines.{header}
 use Rattle.refute_log.specs.Told.{Lines}
 use Rattle.refute_log.specs.FileLog.{IsTold, TellsLines, KeepsLog, StillKeeps, FileBeginsLog, MayStart, HasText, name_of}
@@ -11,9 +15,12 @@ use Rattle.refute_log.proofs.FrontLemmas.{kept_begins}
 use Rattle.refute_log.specs.Told.{AddsAll}
 use Rattle.track_order.specs.Order.{EdgeOrder}
 use Rattle.plan_core.specs.Graph.{Graph}
+use Rattle.schematic_main.specs.declared.reply.Cut.{Cut}
+use Rattle.schematic_main.specs.declared.reply.Cut.TheVariants as cuts
 use Rattle.schematic_main.specs.declared.status.Status.{Status}
 use Rattle.schematic_main.specs.Met.{FilesAt, between, HasRead}
 use Rattle.schematic_main.specs.Reading.{IsStationOf}
+use Rattle.schematic_main.specs.Reply.{cut_of}
 use Rattle.schematic_main.specs.Answer.{text_input, IsFileJudged, IsAnswerAfter, IsAnswerOn}
 use Rattle.schematic_main.specs.SearchLog.{HoldsLog, IsLogOf}
 use Rattle.schematic_main.specs.Drawn.{Job, IsDrawAnswer}
@@ -105,3 +112,14 @@ pub drawn_on : (asked : Job) (name : List ℕ) (old mid new : FilesAt) (traced :
     IsAnswerOn (text_input 1 name) 0 (between old new) (IsAnswerAfter 1 (between old new) (IsFileJudged (IsDrawAnswer asked (between old new) traced))) status text
 drawn_on asked name old mid new traced g o status text (bytes, is, has) same read answer =
     inl (bytes, is, inr (has.has_graph.has_topology.has_rows.few, (read, inl (g, o, has, draw_later asked old mid new traced g o status text same answer))))
+
+-- why there is no answer, where there is none
+abbrev cut_told : {A : Type 0} → Result A Cut → Cut
+cut_told (Ok reply) = cuts.Memory
+cut_told (Err cut) = cut
+
+-- a rest that couldn't be appended is a fault of writing, counted from before the search
+pub filed_cause : {A B : Type 0} (fault : LogSinkFault) (cut : Cut) (old mid after new : ℕ) → cut ≡ cut_of fault → IsErrOf {T = A} (Err cut) cuts.Unwritten → old ≤ mid → mid ≤ after →
+    (IsErrOf {T = B} (Err fault) faults.Failed → Rose after new) → Rose old new
+filed_cause faults.Failed cut old mid after new is unwritten begun told cause = let rose : Rose after new = cause refl in omega (arith, begun, told, rose)
+filed_cause faults.Memory cut old mid after new is unwritten begun told cause = let same : cuts.Memory ≡ cuts.Unwritten = sym is ∙ ap cut_told unwritten in absurd (cc)

@@ -1,10 +1,15 @@
 pub mod StatusLemmas
 pub mod MetLemmas
 pub mod AnswerLemmas
+pub mod SoundLog
+pub mod SettledLemmas
 pub mod DueLemmas
 pub mod LeavesLemmas
 pub mod DrawnLemmas
+pub mod OwnLog
+pub mod PassesLemmas
 pub mod FiledLemmas
 pub mod FormedRows
 pub mod InputLemmas
 pub mod VerdictLemmas
+pub mod CheckedLemmas

@@ -51,5 +51,5 @@ reads_more inputs All old mid new one reads =
     }
 
 -- a read that failed after another one
-pub fails_later : (old mid new : FilesAt) → old.read_faults ≤ mid.read_faults → mid.reads ≡ next_count old.reads → ReadFails (between mid new) 0 → ReadFails (between old new) 1
-fails_later old mid new later one fails = let rose = fails.rose in record { rose = omega (arith, later, rose); reads_done = fails.reads_done ∙ one }
+pub fails_later : (done : ℕ) (old mid new : FilesAt) → old.read_faults ≤ mid.read_faults → mid.reads ≡ next_count old.reads → ReadFails (between mid new) done → ReadFails (between old new) (suc done)
+fails_later done old mid new later one fails = let rose = fails.rose in record { rose = omega (arith, later, rose); reads_done = read_later done old mid new one fails.reads_done }

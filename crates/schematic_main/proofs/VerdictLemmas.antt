@@ -1,5 +1,5 @@
 -- There is one answer to a sheet, and to a file and a sheet; where the sheet has a drawing it is the verdict on it.
-use Rattle.std.proofs.Common.{◌≡◌, ◌↔◌, ℕ, ◌<◌, true, List, length, Some, sym, ◌∙◌, ap, subst, inl, inr, arith}
+use Rattle.std.proofs.Common.{◌≡◌, ◌↔◌, ℕ, ◌<◌, Bool, true, List, length, Some, sym, ◌∙◌, ap, subst, inl, inr, arith}
 use Rattle.plan_core.specs.Grid.{GridSize}
 use Rattle.plan_core.proofs.TruthFacts.{same_when}
 use Rattle.plan_core.specs.Graph.{Graph}
@@ -20,7 +20,7 @@ use Rattle.schematic_main.specs.declared.status.Status.{Status}
 use Rattle.schematic_main.specs.declared.status.Status.TheVariants.{Done, Broken}
 use Rattle.schematic_main.specs.Fault.{IsFaultLine, fault_status, fault_line}
 use Rattle.schematic_main.specs.Input.{HasStation}
-use Rattle.schematic_main.specs.Verdict.{IsVerdict, IsSheetJudged, lawful_line, broken_line}
+use Rattle.schematic_main.specs.Verdict.{IsVerdict, IsSheetRefused, IsSheetJudged, lawful_line, broken_line}
 use Rattle.schematic_main.specs.Answer.{IsVerified}
 use Rattle.schematic_main.proofs.InputLemmas.{one_graph, one_fault, station_or_fault}
 
@@ -29,7 +29,7 @@ pub record SameAnswer (status other : Status) (text another : List ℕ) : Type 0
   pub text_is : text ≡ another
 
 -- the answers of one fault are the same
-one_refusal : (fault found : RunFault) (status other : Status) (text another : List ℕ) → fault ≡ found → IsFaultLine fault status text → IsFaultLine found other another → SameAnswer status other text another
+pub one_refusal : (fault found : RunFault) (status other : Status) (text another : List ℕ) → fault ≡ found → IsFaultLine fault status text → IsFaultLine found other another → SameAnswer status other text another
 one_refusal fault found status other text another same a b = record {
   status_is = a.status_is ∙ ap fault_status same ∙ sym b.status_is;
   text_is = a.line_is ∙ ap fault_line same ∙ sym b.line_is;
@@ -55,7 +55,7 @@ one_drawing g sheet grid other d e a b =
 
 -- ---- the verdict
 
-one_verdict : (g : Graph) (o : EdgeOrder) (grid : GridSize) (d : Drawing) (status other : Status) (text another : List ℕ) → IsVerdict g o grid d status text → IsVerdict g o grid d other another → SameAnswer status other text another
+pub one_verdict : (g : Graph) (o : EdgeOrder) (grid : GridSize) (d : Drawing) (status other : Status) (text another : List ℕ) → IsVerdict g o grid d status text → IsVerdict g o grid d other another → SameAnswer status other text another
 one_verdict g o grid d status other text another (inl a) (inl b) = record { status_is = a.status_is ∙ sym b.status_is; text_is = a.line_is ∙ sym b.line_is }
 one_verdict g o grid d status other text another (inl a) (inr b) = absurd (lawful_breaks_none g (is_above o) grid d b.broken a.lawful b.least)
 one_verdict g o grid d status other text another (inr a) (inl b) = absurd (lawful_breaks_none g (is_above o) grid d a.broken b.lawful a.least)
@@ -74,15 +74,19 @@ verdict_on g o sheet grid d status text has (inr refused) = absurd (sheet_or_fau
 
 -- ---- one answer to a sheet
 
+-- the answers to a sheet with a fault are the same, a drawing being due or not
+pub one_sheet_refusal : (g : Graph) (needs_drawing : Bool) (sheet : List ℕ) (status other : Status) (text another : List ℕ) → IsSheetRefused g needs_drawing sheet status text → IsSheetRefused g needs_drawing sheet other another → SameAnswer status other text another
+one_sheet_refusal g needs_drawing sheet status other text another a b =
+    let kind = one_kind g needs_drawing sheet a.what b.what a.line b.line a.first b.first in
+    let place = one_line g needs_drawing sheet a.what b.what a.line b.line a.first b.first in
+    let same = ap (λ (what : SheetWhat). Sheet what a.line) kind ∙ ap (λ (line : ℕ). Sheet b.what line) place in
+    one_refusal (Sheet a.what a.line) (Sheet b.what b.line) status other text another same a.told b.told
+
 one_answer : (g : Graph) (o : EdgeOrder) (sheet : List ℕ) (status other : Status) (text another : List ℕ) → IsSheetJudged g o sheet status text → IsSheetJudged g o sheet other another → SameAnswer status other text another
 one_answer g o sheet status other text another (inl a) b =
     one_verdict g o a.grid a.drawn status other text another a.verdict (verdict_on g o sheet a.grid a.drawn other another a.has b)
 one_answer g o sheet status other text another (inr a) (inl b) = absurd (sheet_or_fault g true sheet b.has.sheet a.what a.line b.has.told a.first)
-one_answer g o sheet status other text another (inr a) (inr b) =
-    let kind = one_kind g true sheet a.what b.what a.line b.line a.first b.first in
-    let place = one_line g true sheet a.what b.what a.line b.line a.first b.first in
-    let same = ap (λ (what : SheetWhat). Sheet what a.line) kind ∙ ap (λ (line : ℕ). Sheet b.what line) place in
-    one_refusal (Sheet a.what a.line) (Sheet b.what b.line) status other text another same a.told b.told
+one_answer g o sheet status other text another (inr a) (inr b) = one_sheet_refusal g true sheet status other text another a b
 
 pub one_status : (g : Graph) (o : EdgeOrder) (sheet : List ℕ) (status other : Status) (text another : List ℕ) → IsSheetJudged g o sheet status text → IsSheetJudged g o sheet other another → status ≡ other
 one_status g o sheet status other text another a b = (one_answer g o sheet status other text another a b).status_is

@@ -1,8 +1,8 @@
 -- What is answered to an input and to the bytes of a file: the status and the text that goes with it. specs/Commands
--- says which of it each command owes, specs/Drawn what draw answers to a station.
+-- says which of it each command owes, specs/Drawn what draw answers to a station, specs/Checked what check does.
 use Rattle.std.specs.Prelude.{◌≡◌, ℕ, suc, ◌⊎◌, List}
 use Rattle.outside_io.specs.Contents.{IsFileWhereTold}
-use Rattle.plan_core.specs.declared.limits.TheConstants.{MAX_FILE_BYTES}
+use Rattle.plan_core.specs.declared.limits.TheConstants.{MAX_FILE_BYTES, MAX_LOG_BYTES}
 use Rattle.plan_core.specs.Graph.{Graph}
 use Rattle.track_order.specs.Order.{EdgeOrder, is_above}
 use Rattle.plan_text.specs.GraphText.{graph_text}
@@ -55,6 +55,10 @@ input_file number name limit = record { number = number; name = name; limit = li
 -- a railML file, or the text of a drawing
 abbrev pub text_input : (number : ℕ) → List ℕ → InputFile
 text_input number name = input_file number name MAX_FILE_BYTES
+
+-- the text of a log
+abbrev pub log_input : (number : ℕ) → List ℕ → InputFile
+log_input number name = input_file number name MAX_LOG_BYTES
 
 -- so many reads were done in all, and the bytes are answered like this
 abbrev pub IsAnswerAfter : (done : ℕ) → Met → (List ℕ → Status → List ℕ → Type 0) → List ℕ → Status → List ℕ → Type 0

@@ -1,13 +1,14 @@
 -- What differs by command, a row for each: what it reads and writes, what it owes, how it may end, and when its
 -- inputs are sound.
-use Rattle.std.specs.Prelude.{◌≡◌, ◌⊎◌, ℕ, ⊤, List, [], ◌∷◌, Any, Some, None}
+use Rattle.std.specs.Prelude.{◌≡◌, ◌⊎◌, ℕ, ⊤, Bool, false, true, List, [], ◌∷◌, Any, Some, None}
 use Rattle.std.specs.declared.option.Option.{Option}
 use Rattle.outside_io.specs.Contents.{Told, TellsAt}
-use Rattle.plan_core.specs.declared.limits.TheConstants.{MAX_FILE_BYTES}
+use Rattle.plan_core.specs.declared.limits.TheConstants.{MAX_FILE_BYTES, MAX_LOG_BYTES}
 use Rattle.plan_core.specs.Graph.{Graph}
 use Rattle.plan_words.specs.declared.command.Command.{Command}
 use Rattle.plan_words.specs.declared.command.Command.TheVariants.{Draw, Verify, Check, Graph as PrintGraph, Make}
 use Rattle.track_order.specs.Order.{EdgeOrder}
+use Rattle.refute_log.specs.Lines.{log_text, MayAllBeTold}
 use Rattle.refute_log.specs.Told.{Lines}
 use Rattle.refute_log.specs.FileLog.{BeginsLog}
 use Rattle.schematic_main.specs.declared.fault.RunFault.{RunFault}
@@ -18,17 +19,18 @@ use Rattle.schematic_main.specs.Fault.{IsFaultLine}
 use Rattle.schematic_main.specs.Input.{IsShort, HasStation, HasFileFault}
 use Rattle.schematic_main.specs.Verdict.{IsSoundSheet}
 use Rattle.schematic_main.specs.Met.{Met}
-use Rattle.schematic_main.specs.Answer.{InputFile, text_input, IsPrinted, IsFileJudged, IsVerified, IsAnswerAfter, IsAnswerOn}
+use Rattle.schematic_main.specs.Answer.{InputFile, text_input, log_input, IsPrinted, IsFileJudged, IsVerified, IsAnswerAfter, IsAnswerOn}
 use Rattle.schematic_main.specs.Drawn.{job, IsDrawAnswer}
+use Rattle.schematic_main.specs.Checked.{IsChecked}
 
 -- ---- what it reads and writes
 
--- the inputs that a command reads, in this order; check isn't built yet and reads none
+-- the inputs that a command reads, in this order
 abbrev pub inputs_of : Command → List InputFile
 inputs_of (Draw input grid order budget svg log) = text_input 1 input ∷ []
 inputs_of (PrintGraph input) = text_input 1 input ∷ []
 inputs_of (Verify input sheet) = text_input 1 input ∷ text_input 2 sheet ∷ []
-inputs_of (Check input sheet log) = []
+inputs_of (Check input sheet log) = text_input 1 input ∷ text_input 2 sheet ∷ log_input 3 log ∷ []
 inputs_of (Make n) = []
 
 -- what stands in a file that a command writes: the text of a log
@@ -90,8 +92,8 @@ TellsTrace (Make n) = ⊥
 -- ---- what it owes
 
 -- with what the run met and what the trace was told, the status that a command ends with and the text that it puts.
--- verify reads the file, and then the sheet, before it judges what they say; draw and graph read the file alone. check
--- and make aren't built yet
+-- verify reads the file, and then the sheet, before it judges what they say, and check so the log too; draw and graph
+-- read the file alone. make isn't built yet
 abbrev pub Owes : Command → Met → (traced : Lines → Type 0) → Status → List ℕ → Type 0
 Owes (Draw input grid order budget svg log) met traced status text =
     IsAnswerOn (text_input 1 input) 0 met (IsAnswerAfter 1 met (IsFileJudged (IsDrawAnswer (job grid order budget svg log) met traced))) status text
@@ -99,17 +101,18 @@ Owes (PrintGraph input) met traced status text =
     IsAnswerOn (text_input 1 input) 0 met (IsAnswerAfter 1 met (IsFileJudged IsPrinted)) status text
 Owes (Verify input sheet) met traced status text =
     IsAnswerOn (text_input 1 input) 0 met (λ bytes. IsAnswerOn (text_input 2 sheet) 1 met (IsAnswerAfter 2 met (IsVerified bytes))) status text
-Owes (Check input sheet log) met traced status text = IsFaultLine NotBuilt status text
+Owes (Check input sheet log) met traced status text =
+    IsAnswerOn (text_input 1 input) 0 met (λ bytes. IsAnswerOn (text_input 2 sheet) 1 met (λ said. IsAnswerOn (log_input 3 log) 2 met (IsAnswerAfter 3 met (IsChecked bytes said)))) status text
 Owes (Make n) met traced status text = IsFaultLine NotBuilt status text
 
 -- ---- how it ends
 
--- how a command ends where nothing is wrong with its inputs; check and make never come to such an end yet
+-- how a command ends where nothing is wrong with its inputs; make never comes to such an end yet
 abbrev pub ends_of : Command → Status → Type 0
 ends_of (Draw input grid order budget svg log) status = (status ≡ Done) ⊎ (status ≡ NoDrawing) ⊎ (status ≡ Unfinished)
 ends_of (PrintGraph input) status = status ≡ Done
 ends_of (Verify input sheet) status = (status ≡ Done) ⊎ (status ≡ Broken)
-ends_of (Check input sheet log) status = ⊥
+ends_of (Check input sheet log) status = (status ≡ Done) ⊎ (status ≡ Unfinished) ⊎ (status ≡ Broken)
 ends_of (Make n) status = ⊥
 
 -- the file of this name is told, and its bytes have none of the faults
@@ -118,18 +121,30 @@ pub record HasSoundFile (name : List ℕ) (contents : Option Told) : Type 0 wher
   pub there : TellsAt contents name (Some bytes)
   pub sound : (fault : RunFault) → HasFileFault bytes fault → ⊥
 
--- the sheet of this name is told, isn't too long, and has no fault as one of such a graph with a drawing
-pub record HasSoundSheet (name : List ℕ) (contents : Option Told) (IsGraph : Graph → Type 0) : Type 0 where
+-- the sheet of this name is told, isn't too long, and has no fault as one of such a graph, a drawing being due or not
+pub record HasSoundSheet (name : List ℕ) (contents : Option Told) (needs_drawing : Bool) (IsGraph : Graph → Type 0) : Type 0 where
   pub bytes : List ℕ
   pub there : TellsAt contents name (Some bytes)
   pub short : IsShort MAX_FILE_BYTES bytes
-  pub sound : (g : Graph) → IsGraph g → IsSoundSheet g bytes
+  pub sound : (g : Graph) → IsGraph g → IsSoundSheet g needs_drawing bytes
+
+-- the log of this name is told, isn't too long, and is the text of some lines
+pub record HasSoundLog (name : List ℕ) (contents : Option Told) : Type 0 where
+  pub lines : Lines
+  pub formed : MayAllBeTold lines
+  pub there : TellsAt contents name (Some (log_text lines))
+  pub short : IsShort MAX_LOG_BYTES (log_text lines)
+
+-- the bytes have a station with this graph
+abbrev pub HasStationGraph : List ℕ → Graph → Type 0
+HasStationGraph bytes g = (o : EdgeOrder) × HasStation bytes g o
 
 -- nothing is wrong with the inputs of a command, and what it asks for is built
 abbrev pub AreSound : Command → Option Told → Type 0
 AreSound (Draw input grid order budget svg log) contents = HasSoundFile input contents × (svg ≡ None)
 AreSound (PrintGraph input) contents = HasSoundFile input contents
 AreSound (Verify input sheet) contents =
-    (file : HasSoundFile input contents) × HasSoundSheet sheet contents (λ g. (o : EdgeOrder) × HasStation file.bytes g o)
-AreSound (Check input sheet log) contents = ⊥
+    (file : HasSoundFile input contents) × HasSoundSheet sheet contents true (HasStationGraph file.bytes)
+AreSound (Check input sheet log) contents =
+    (file : HasSoundFile input contents) × HasSoundSheet sheet contents false (HasStationGraph file.bytes) × HasSoundLog log contents
 AreSound (Make n) contents = ⊥

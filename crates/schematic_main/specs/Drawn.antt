@@ -11,12 +11,14 @@ use Rattle.track_order.specs.Order.{EdgeOrder}
 use Rattle.plan_text.specs.declared.ending.Ending.{Ending}
 use Rattle.plan_text.specs.declared.ending.Ending.TheVariants as endings
 use Rattle.plan_text.specs.SheetText.{Sheet, sheet_text}
+use Rattle.refute_log.specs.Lines.{log_text}
 use Rattle.refute_log.specs.Told.{Lines}
 use Rattle.lex_search.specs.declared.outcome.Outcome.{Outcome}
 use Rattle.lex_search.specs.declared.outcome.Outcome.TheVariants as outcomes
 use Rattle.lex_search.specs.Task.{Task}
 use Rattle.lex_search.specs.Outcome.{IsOutcome}
 use Rattle.drawing_problem.specs.Layout.{layout}
+use Rattle.log_check.specs.declared.verdict.Verdict.TheVariants as verdicts
 use Rattle.lex_minimise.specs.Task.{task_of}
 use Rattle.schematic_main.specs.declared.fault.RunFault.TheVariants.{NotBuilt}
 use Rattle.schematic_main.specs.declared.status.Status.{Status}
@@ -24,6 +26,8 @@ use Rattle.schematic_main.specs.declared.status.Status.TheVariants as statuses
 use Rattle.schematic_main.specs.Fault.{IsFaultLine}
 use Rattle.schematic_main.specs.Met.{Met}
 use Rattle.schematic_main.specs.SearchLog.{IsLogOf}
+use Rattle.schematic_main.specs.CheckLine.{claimed, verdict_line}
+use Rattle.schematic_main.specs.Checked.{IsClaimJudged}
 
 -- ---- what is asked
 
@@ -67,6 +71,11 @@ status_of (outcomes.Room found settled) = statuses.Unfinished
 
 -- ---- what draw answers
 
+-- check of this sheet and this log ends with 0
+abbrev pub PassesCheck : Graph → EdgeOrder → Sheet → Lines → Type 0
+PassesCheck g o s lines =
+    IsClaimJudged g o (sheet_text g s) (log_text lines) statuses.Done (verdict_line (claimed s.order s.ending) verdicts.Certified)
+
 -- a search with this outcome told these lines: they certify of the drawing, and of all that are lawful, what the
 -- outcome says
 pub record HasSearched (g : Graph) (o : EdgeOrder) (asked : Job) (IsTold : Lines → Type 0) (outcome : Outcome) : Type 0 where
@@ -74,11 +83,13 @@ pub record HasSearched (g : Graph) (o : EdgeOrder) (asked : Job) (IsTold : Lines
   pub told : IsTold lines
   pub ended : IsOutcome (search_of g o asked) asked.order outcome lines
 
--- a search was done, and the text is the sheet of its outcome
+-- a search was done, the text is the sheet of its outcome, and with the log of its lines it passes check, as far as the
+-- log isn't too long to be read
 pub record IsDrawn (g : Graph) (o : EdgeOrder) (asked : Job) (IsTold : Lines → Type 0) (status : Status) (text : List ℕ) : Type 0 where
   pub built : IsUnbuilt asked → ⊥
   pub outcome : Outcome
   pub searched : HasSearched g o asked IsTold outcome
+  pub passes : PassesCheck g o (sheet_of asked outcome) searched.lines
   pub status_is : status ≡ status_of outcome
   pub spelled : text ≡ sheet_text g (sheet_of asked outcome)
 

@@ -16,10 +16,11 @@ use Rattle.track_order.specs.declared.fault.OrderFault.{OrderFault}
 use Rattle.track_order.specs.declared.fault.OrderFault.TheVariants as orders
 use Rattle.track_order.specs.Causes as order_faults
 use Rattle.plan_text.specs.SheetWhats as sheet_faults
+use Rattle.refute_log.specs.Faults as log_faults
 use Rattle.schematic_main.specs.declared.status.Status.{Status}
 use Rattle.schematic_main.specs.declared.status.Status.TheVariants.{Refused, WordsRefused, Unread}
 use Rattle.schematic_main.specs.declared.fault.RunFault.{RunFault}
-use Rattle.schematic_main.specs.declared.fault.RunFault.TheVariants.{NotBuilt, Words, Long, Text, Topology, Graph, Order, Sheet, ReadFailed}
+use Rattle.schematic_main.specs.declared.fault.RunFault.TheVariants.{NotBuilt, Words, Long, Text, Topology, Graph, Order, Sheet, Log, ReadFailed}
 
 -- ---- what a fault tells
 
@@ -72,6 +73,7 @@ fault_line (Topology what at first second) =
 fault_line (Graph fault) = told_line (codes "graph") (graph_faults.number_of fault) (graph_faults.word_of fault) (graph_told fault)
 fault_line (Order fault) = told_line (codes "order") (order_faults.number_of fault) (order_faults.word_of fault) (edges_told fault)
 fault_line (Sheet what line) = told_line (codes "sheet") (sheet_faults.number_of what) (sheet_faults.word_of what) (codes "line" ∷ decimal line ∷ [])
+fault_line (Log what line) = told_line (codes "log") (log_faults.number_of what) (log_faults.word_of what) (codes "line" ∷ decimal line ∷ [])
 fault_line (ReadFailed input) = line_text (codes "read failed") (decimal input ∷ [])
 
 -- ---- the status
@@ -85,6 +87,7 @@ fault_status (Topology what at first second) = Refused
 fault_status (Graph fault) = Refused
 fault_status (Order fault) = Refused
 fault_status (Sheet what line) = Refused
+fault_status (Log what line) = Refused
 fault_status (ReadFailed input) = Unread
 
 -- the fault's status and its line

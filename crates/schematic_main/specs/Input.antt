@@ -13,7 +13,7 @@ use Rattle.railml_read.specs.Document.{GivesRows, IsTextFault}
 use Rattle.railml_topology.specs.Faults.{IsFirstTopologyFault}
 use Rattle.railml_topology.specs.Answers.{ResolvesTo}
 use Rattle.schematic_main.specs.declared.fault.RunFault.{RunFault}
-use Rattle.schematic_main.specs.declared.fault.RunFault.TheVariants.{NotBuilt, Words, Long, Text, Topology, Graph, Order, Sheet, ReadFailed}
+use Rattle.schematic_main.specs.declared.fault.RunFault.TheVariants.{NotBuilt, Words, Long, Text, Topology, Graph, Order, Sheet, Log, ReadFailed}
 use Rattle.schematic_main.specs.declared.input.Refusal.{Refusal}
 use Rattle.schematic_main.specs.declared.input.Refusal.TheVariants as refusals
 
@@ -56,6 +56,7 @@ HasFileFault bytes (Order fault) = (g : TrackGraph) × HasGraph bytes g × IsOrd
 HasFileFault bytes NotBuilt = ⊥
 HasFileFault bytes (Words what position) = ⊥
 HasFileFault bytes (Sheet what line) = ⊥
+HasFileFault bytes (Log what line) = ⊥
 HasFileFault bytes (ReadFailed input) = ⊥
 
 -- what an answer without a station says of the bytes

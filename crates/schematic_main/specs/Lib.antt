@@ -5,8 +5,11 @@ pub mod Input
 pub mod Verdict
 pub mod Answer
 pub mod SearchLog
+pub mod CheckLine
+pub mod Checked
 pub mod Drawn
 pub mod Commands
 pub mod Run
 pub mod Reading
 pub mod Reply
+pub mod CertifiedSheet

@@ -1,6 +1,6 @@
 -- What `verify` answers to a station and the bytes of a sheet: the verdict on the sheet's drawing, or the
 -- sheet's fault.
-use Rattle.std.specs.Prelude.{◌≡◌, ◌⊎◌, ℕ, List, [], ◌∷◌, ◌++◌, None, Some, true, map, codes}
+use Rattle.std.specs.Prelude.{◌≡◌, ◌⊎◌, ℕ, Bool, List, [], ◌∷◌, ◌++◌, None, Some, true, map, codes}
 use Rattle.std.specs.declared.option.Option.{Option}
 use Rattle.std.specs.Fmt.{decimal}
 use Rattle.plan_core.specs.declared.criterion.Values.{Values}
@@ -68,16 +68,17 @@ pub record IsDrawingJudged (g : Graph) (o : EdgeOrder) (sheet : List ℕ) (statu
   pub has : IsDrawingOf g sheet grid drawn
   pub verdict : IsVerdict g o grid drawn status text
 
--- a drawing is due, the sheet's text has this fault first, and this is its line
-pub record IsSheetRefused (g : Graph) (sheet : List ℕ) (status : Status) (text : List ℕ) : Type 0 where
+-- the sheet's text has this fault first, a drawing being due or not, and this is its line
+pub record IsSheetRefused (g : Graph) (needs_drawing : Bool) (sheet : List ℕ) (status : Status) (text : List ℕ) : Type 0 where
   pub what : SheetWhat
   pub line : ℕ
-  pub first : HasSheetFault g true sheet what line
+  pub first : HasSheetFault g needs_drawing sheet what line
   pub told : IsFaultLine (Sheet what line) status text
 
+-- what is answered where a drawing is due
 abbrev pub IsSheetJudged : Graph → EdgeOrder → List ℕ → Status → List ℕ → Type 0
-IsSheetJudged g o sheet status text = IsDrawingJudged g o sheet status text ⊎ IsSheetRefused g sheet status text
+IsSheetJudged g o sheet status text = IsDrawingJudged g o sheet status text ⊎ IsSheetRefused g true sheet status text
 
--- the sheet's text has no fault, a drawing being due
-pub record IsSoundSheet (g : Graph) (sheet : List ℕ) : Type 0 where
-  pub sound : (what : SheetWhat) (line : ℕ) → HasSheetFault g true sheet what line → ⊥
+-- the sheet's text has no fault, a drawing being due or not
+pub record IsSoundSheet (g : Graph) (needs_drawing : Bool) (sheet : List ℕ) : Type 0 where
+  pub sound : (what : SheetWhat) (line : ℕ) → HasSheetFault g needs_drawing sheet what line → ⊥

@@ -11,6 +11,7 @@ ghost use Rattle.schematic_main.specs.Drawn.{IsDrawAnswer};
 ghost use Rattle.schematic_main.specs.Commands.{inputs_of, outputs_of, log_output, TellsTrace, Owes, LeavesFiles};
 ghost use Rattle.schematic_main.specs.Run.{FailsToTell, CommandFailsToTell};
 
+use crate::checking::check;
 use crate::drawing::{Asked, draw_station};
 use crate::fault::RunFault;
 use crate::input::{Refusal, Station};
@@ -114,8 +115,7 @@ pub fn answer_to<F: Files, T: LogSink>(
         }
         Command::Graph { input } => Ok(print(alloc, input, files)?),
         Command::Verify { input, sheet } => Ok(verify(alloc, input, sheet, files)?),
-        Command::Check { .. } | Command::Make { .. } => {
-            Ok(fault_reply(alloc, RunFault::NotBuilt)?)
-        }
+        Command::Check { input, sheet, log } => Ok(check(alloc, input, sheet, log, files)?),
+        Command::Make { .. } => Ok(fault_reply(alloc, RunFault::NotBuilt)?),
     }
 }

@@ -1,5 +1,5 @@
 // What draw answers to a station: the sheet of how its search ended, with the lines of the search told.
-ghost use Rattle.std.specs.Prelude.{◌≡◌, ◌≢◌, ◌≤◌, ◌⊎◌, ⊤, IfOk, IsOkAnd, IsErrOf, None};
+ghost use Rattle.std.specs.Prelude.{◌≡◌, ◌≢◌, ◌≤◌, ◌⊎◌, ⊤, false, IfOk, OnOk, IsOkAnd, IsErrOf, None};
 ghost use Rattle.std.specs.Option.{is_some};
 ghost use Rattle.outside_io.specs.Contents.{WhereTold, SameElsewhere};
 ghost use Rattle.outside_io.specs.Counts.{Rose};
@@ -7,6 +7,7 @@ ghost use Rattle.plan_core.specs.Order.{IsOrder};
 ghost use Rattle.track_order.specs.Order.{IsOrderOf};
 ghost use Rattle.plan_text.specs.SheetLine.{MayEnd};
 ghost use Rattle.plan_text.specs.SheetText.{sheet_text};
+ghost use Rattle.plan_text.specs.SheetFaults.{IsSheetText};
 ghost use Rattle.refute_log.specs.FileLog.{FileBeginsLog};
 ghost use Rattle.schematic_main.specs.Status.{IsRefused};
 ghost use Rattle.schematic_main.specs.Met.{met_on, IsUnwritten};
@@ -25,7 +26,7 @@ use lex_minimise::{Limits, MinFault, Outcome, minimise};
 use outside_io::Files;
 use plan_core::{Grid, Order, OutOfMemory, Text};
 use plan_geometry::Drawing;
-use plan_text::{Ending, Sheet, write_sheet};
+use plan_text::{Ending, Sheet, write_sheet, written_is_read};
 use refute_log::{FileLog, LogSink};
 use std::alloc::Global;
 use std::marker::Model;
@@ -155,9 +156,12 @@ fn sheet_reply(
     requires { HasSearched station.now.graph station.now.order asked.now (λ lines. ⊤) outcome }
     ensures status_is { IfOk result (λ r. r.status ≡ status_of outcome) }
     ensures spelled { IfOk result (λ r. r.text.items ≡ sheet_text station.now.graph (sheet_of asked.now outcome)) }
+    ensures read { OnOk result (IsSheetText station.now.graph false (sheet_text station.now.graph (sheet_of asked.now outcome)) (sheet_of asked.now outcome)) }
 {
     let status = status_of(&outcome);
     let sheet = sheet_of(alloc, asked, outcome)?;
+    // what is written is read again
+    written_is_read(&station.graph, &sheet);
     let mut text = Vec::new(alloc);
     write_sheet(alloc, &station.graph, &sheet, &mut text)?;
     Ok(Reply { status, text })

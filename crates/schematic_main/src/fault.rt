@@ -14,6 +14,7 @@ use port_graph::GraphFault;
 use rail_mileage::write_metres;
 use railml_text::TextWhat;
 use railml_topology::TopologyWhat;
+use refute_log::LogWhat;
 use std::alloc::Global;
 use track_order::OrderFault;
 
@@ -49,6 +50,11 @@ pub enum RunFault {
     /// The text of the sheet has a fault, in the line with this number, counted from 1.
     Sheet {
         what: SheetWhat,
+        line: u32,
+    },
+    /// The text of the log has a fault, in the line with this number, counted from 1.
+    Log {
+        what: LogWhat,
         line: u32,
     },
     /// The input with this number, counted from 1, couldn't be read.
@@ -201,6 +207,16 @@ fn sheet_line(alloc: Global, what: SheetWhat, number: u32) -> Result<Vec<u8>, Ou
     Ok(line)
 }
 
+fn log_line(alloc: Global, what: LogWhat, number: u32) -> Result<Vec<u8>, OutOfMemory>
+    ensures { IfOk result (λ v. v.items ≡ fault_line (RunFault.Log what number)) }
+{
+    let mut line = begun_line(alloc, b"log", what.number(), what.word())?;
+    push_field(&mut line, b"line")?;
+    push_number_field(&mut line, number)?;
+    push_text(&mut line, b"\n")?;
+    Ok(line)
+}
+
 impl RunFault {
     /// The status that the run ends with.
     pub fn status(&self) -> Status
@@ -215,7 +231,8 @@ impl RunFault {
             | RunFault::Topology { .. }
             | RunFault::Graph(_)
             | RunFault::Order(_)
-            | RunFault::Sheet { .. } => Status::Refused,
+            | RunFault::Sheet { .. }
+            | RunFault::Log { .. } => Status::Refused,
         }
     }
 
@@ -237,6 +254,7 @@ impl RunFault {
             RunFault::Graph(fault) => graph_line(alloc, fault),
             RunFault::Order(fault) => order_line(alloc, fault),
             RunFault::Sheet { what, line } => sheet_line(alloc, *what, *line),
+            RunFault::Log { what, line } => log_line(alloc, *what, *line),
             RunFault::ReadFailed(input) => input_line(alloc, b"read failed", *input),
         }
     }

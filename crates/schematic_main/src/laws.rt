@@ -7,6 +7,7 @@ ghost use Rattle.plan_core.specs.Graph.{Graph};
 ghost use Rattle.plan_core.specs.Drawing.{Drawing};
 ghost use Rattle.plan_core.specs.Values.{values_of, limit_of};
 ghost use Rattle.plan_core.specs.Lawful.{Lawful};
+ghost use Rattle.plan_text.specs.SheetText.{Sheet as PlainSheet};
 ghost use Rattle.plan_text.specs.SheetFaults.{IsDrawingOf};
 ghost use Rattle.cnf_core.specs.declared.limits.TheConstants.{ROOM};
 ghost use Rattle.refute_log.specs.Told.{Lines};
@@ -18,6 +19,7 @@ ghost use Rattle.lex_search.specs.declared.outcome.Outcome.TheVariants as outcom
 ghost use Rattle.lex_search.specs.Outcome.{IsOutcome, values_found};
 ghost use Rattle.drawing_problem.specs.Layout.{layout, problem_of};
 ghost use Rattle.track_order.specs.Order.{EdgeOrder, is_above};
+ghost use Rattle.log_check.specs.declared.verdict.Verdict.TheVariants.{Certified};
 ghost use Rattle.schematic_main.specs.declared.fault.RunFault.{RunFault as Fault};
 ghost use Rattle.schematic_main.specs.declared.status.Status.{Status};
 ghost use Rattle.schematic_main.specs.declared.status.Status.TheVariants.{Done, Unfinished, Broken};
@@ -25,6 +27,9 @@ ghost use Rattle.schematic_main.specs.Status.{number_of};
 ghost use Rattle.schematic_main.specs.Input.{HasGraph, HasStation, HasFileFault};
 ghost use Rattle.schematic_main.specs.Verdict.{lawful_line, IsSheetJudged};
 ghost use Rattle.schematic_main.specs.Answer.{IsVerified};
+ghost use Rattle.schematic_main.specs.CheckLine.{claimed, verdict_line};
+ghost use Rattle.schematic_main.specs.Checked.{IsChecked};
+ghost use Rattle.schematic_main.specs.CertifiedSheet.{CertifiesSheet, ClaimsTruly};
 ghost use Rattle.schematic_main.specs.SearchLog.{IsLogFile};
 ghost use Rattle.schematic_main.specs.Drawn.{Job, search_of, status_of};
 
@@ -61,6 +66,21 @@ pub fn verdict_of_drawing()
 pub fn one_answer_to_a_file()
     ensures status { (bytes sheet : List ℕ) (status other : Status) (text another : List ℕ) → IsVerified bytes sheet status text → IsVerified bytes sheet other another → status ≡ other }
     ensures text { (bytes sheet : List ℕ) (status other : Status) (text another : List ℕ) → IsVerified bytes sheet status text → IsVerified bytes sheet other another → text ≡ another }
+{}
+
+/// A file, a sheet and a log have one answer of `check` at most: one status, with one text.
+pub fn one_answer_of_check()
+    ensures status { (file sheet log : List ℕ) (status other : Status) (text another : List ℕ) → IsChecked file sheet log status text → IsChecked file sheet log other another → status ≡ other }
+    ensures text { (file sheet log : List ℕ) (status other : Status) (text another : List ℕ) → IsChecked file sheet log status text → IsChecked file sheet log other another → text ≡ another }
+{}
+
+/// `check` ends with 0 exactly where the log certifies what the sheet claims of the file's station; its line tells then on
+/// how many criteria, and what is claimed is so, whoever wrote the log.
+pub fn certified_exactly()
+    ensures due { (file sheet log : List ℕ) (g : Graph) (o : EdgeOrder) (said : PlainSheet) (status : Status) (text : List ℕ) → HasStation file g o → CertifiesSheet g o sheet log said → IsChecked file sheet log status text →
+        (status ≡ Done) × (text ≡ verdict_line (claimed said.order said.ending) Certified) }
+    ensures only { (file sheet log text : List ℕ) → IsChecked file sheet log Done text →
+        (g : Graph) × (o : EdgeOrder) × (said : PlainSheet) × HasStation file g o × CertifiesSheet g o sheet log said × ClaimsTruly g o said × (text ≡ verdict_line (claimed said.order said.ending) Certified) }
 {}
 
 /// A number is that of one status at most.

@@ -1,9 +1,9 @@
 // The verdict on a drawing.
-ghost use Rattle.std.specs.Prelude.{◌≡◌, ◌++◌, IfOk, OnOk};
-ghost use Rattle.track_order.specs.Order.{IsOrderOf};
-ghost use Rattle.plan_core.specs.Lawful.{HasSizeOf};
+ghost use Rattle.std.specs.Prelude.{◌≡◌, ◌++◌, IfOk, OnOk, MatchOption};
+ghost use Rattle.track_order.specs.Order.{is_above, IsOrderOf};
+ghost use Rattle.plan_core.specs.Lawful.{HasSizeOf, Lawful};
 ghost use Rattle.line_text.specs.Fields.{spaced};
-ghost use Rattle.schematic_main.specs.Verdict.{lawful_line, broken_line, party_fields, second_fields, IsVerdict};
+ghost use Rattle.schematic_main.specs.Verdict.{lawful_line, broken_line, party_fields, second_fields, IsBrokenAnswer, IsVerdict};
 
 use crate::input::Station;
 use crate::reply::Reply;
@@ -65,6 +65,28 @@ fn broken_line(alloc: Global, found: LawBreak) -> Result<Vec<u8>, OutOfMemory>
     Ok(line)
 }
 
+/// What is answered to a drawing of a station that breaks a law: status 8 and the least law that it breaks; nothing
+/// where it is lawful.
+pub fn broken_reply(
+    alloc: Global,
+    station: &Station,
+    grid: &Grid,
+    drawing: &Drawing,
+) -> Result<Option<Reply>, OutOfMemory>
+    requires order { IsOrderOf station.now.graph station.now.order }
+    requires fitting { HasSizeOf station.now.graph drawing.now }
+    ensures { IfOk result (λ r. MatchOption r (Lawful station.now.graph (is_above station.now.order) grid.now drawing.now)
+        (λ x. IsBrokenAnswer station.now.graph station.now.order grid.now drawing.now x.status x.text.items)) }
+{
+    match broken(&station.graph, &station.order, grid, drawing) {
+        None => Ok(None),
+        Some(found) => Ok(Some(Reply {
+            status: Status::Broken,
+            text: broken_line(alloc, found)?,
+        })),
+    }
+}
+
 /// The verdict on a drawing of a station: status 0 and what it measures where it is lawful, and else
 /// status 8 and the least law that it breaks.
 pub fn verdict(
@@ -77,14 +99,11 @@ pub fn verdict(
     requires fitting { HasSizeOf station.now.graph drawing.now }
     ensures { IfOk result (λ r. IsVerdict station.now.graph station.now.order grid.now drawing.now r.status r.text.items) }
 {
-    match broken(&station.graph, &station.order, grid, drawing) {
+    match broken_reply(alloc, station, grid, drawing)? {
         None => Ok(Reply {
             status: Status::Done,
             text: lawful_line(alloc, values(drawing))?,
         }),
-        Some(found) => Ok(Reply {
-            status: Status::Broken,
-            text: broken_line(alloc, found)?,
-        }),
+        Some(reply) => Ok(reply),
     }
 }

@@ -21,3 +21,17 @@ returns-in_ok-verify-in-Verify-clause-leaves g c =
     let new = g.F.Files.contents c.verify.new.files in
     let Refused : Type 0 = IsRefused c.in_ok-verify-in-Verify.field-0.status in
     subst (λ (command : Command). WhereTold old new (LeavesFiles (outputs_of command) Refused)) (sym c.in-Verify.is) (leaves_same old new [] Refused c.in_ok-verify-in-Verify.ensures.same)
+
+pub returns-in_ok-check-in-Check-clause-answer : goal.returns-in_ok-check-in-Check-clause-answer
+returns-in_ok-check-in-Check-clause-answer g c =
+    let met = met_on {Self = g.row.F.Denot} g.F.Files.contents g.F.Files.read_faults g.F.Files.write_faults g.F.Files.reads c.args.files.now c.check.new.files in
+    let traced = told_to {Self = g.row.T.Denot} g.T.LogSink.tells g.T.LogSink.learnt c.args.trace.now c.args.trace.now in
+    let reply = c.in_ok-check-in-Check.field-0 in
+    subst (λ (command : Command). Owes command met traced reply.status reply.text.items) (sym c.in-Check.is) c.in_ok-check-in-Check.ensures.answer
+
+pub returns-in_ok-check-in-Check-clause-leaves : goal.returns-in_ok-check-in-Check-clause-leaves
+returns-in_ok-check-in-Check-clause-leaves g c =
+    let old = g.F.Files.contents c.args.files.now in
+    let new = g.F.Files.contents c.check.new.files in
+    let Refused : Type 0 = IsRefused c.in_ok-check-in-Check.field-0.status in
+    subst (λ (command : Command). WhereTold old new (LeavesFiles (outputs_of command) Refused)) (sym c.in-Check.is) (leaves_same old new [] Refused c.in_ok-check-in-Check.ensures.same)

@@ -1,11 +1,12 @@
 use Rattle.std.proofs.Common.{rules, ◌≡◌, ◌⊎◌, ℕ, List, ◌∙◌, subst}
 use Rattle.outside_io.specs.Contents.{WhereTold, SameElsewhere, Sets}
+use Rattle.outside_io.specs.Counts.{Rose}
 use Rattle.refute_log.specs.Lines.{header}
 use Rattle.refute_log.specs.Told.{Lines}
 use Rattle.refute_log.specs.FileLog.{FileBeginsLog, MayStart}
 use Rattle.schematic_main.specs.SearchLog.{HoldsLog}
 use Rattle.schematic_main.proofs.DrawnLemmas.{drawn_told_so}
-use Rattle.schematic_main.proofs.FiledLemmas.{at_end, filed_holds, filed_others, filed_begun, left_begun, others_unstarted, begun_unstarted}
+use Rattle.schematic_main.proofs.FiledLemmas.{at_end, filed_cause, filed_holds, filed_others, filed_begun, left_begun, others_unstarted, begun_unstarted}
 use Rattle.schematic_main.proofs.drawing.draw_filed.Goals as goal
 
 pub returns-in-Ok-finish-clause-answer : goal.returns-in-Ok-finish-clause-answer
@@ -58,6 +59,14 @@ returns-in-Err-finish-clause-others g c =
     at_end {X = g.row.F.Denot} (λ s. WhereTold old (at s) (SameElsewhere c.args.name.now)) c.finish.new.self.0 _
     (filed_others old mid (at c.draw_told.new.log.files.now) (at c.finish.new.self.0) c.args.name.now c.in-Ok.log.kept c.draw_told.new.log.kept created (c.in-Ok.ensures.name ∙ c.as_str.ensures) later.1
     later.2 c.finish.ensures.others)
+    (search rules)
+
+pub returns-in-Err-finish-clause-cause : goal.returns-in-Err-finish-clause-cause
+returns-in-Err-finish-clause-cause g c = λ unwritten.
+    let faults = g.F.Files.write_faults in
+    at_end {X = g.row.F.Denot} (λ s. Rose (faults c.args.files.now) (faults s)) c.finish.new.self.0 _
+    (filed_cause c.in-Err-finish.fault c.cut_of.result (faults c.args.files.now) (faults c.in-Ok.log.files.now) (faults c.draw_told.new.log.files.now) (faults c.finish.new.self.0) c.cut_of.ensures unwritten
+    c.in-Ok.ensures.faults c.draw_told.ensures.faults c.in-Err-finish.ensures.cause)
     (search rules)
 
 pub returns-in-Err-finish-clause-begun : goal.returns-in-Err-finish-clause-begun

@@ -1,5 +1,14 @@
+use Rattle.std.proofs.Common.{subst}
+use Rattle.plan_text.specs.SheetText.{Sheet, sheet_text}
+use Rattle.plan_text.specs.SheetFaults.{IsSheetText}
+use Rattle.std.specs.Prelude.{false}
 use Rattle.schematic_main.proofs.DrawnLemmas.{ended_sheet}
 use Rattle.schematic_main.proofs.drawing.sheet_reply.Goals as goal
+
+pub written_is_read-requires : goal.written_is_read-requires
+written_is_read-requires c =
+    let may = ended_sheet c.args.station.now.graph c.args.station.now.order c.args.asked.now c.args.outcome c.in_ok-sheet.sheet c.in_ok-sheet.ensures.sheet c.in_ok-sheet.ensures.is_order c.requires in
+    record { draws_all = may.0; on_grid = may.1; settled = may.2 }
 
 pub write_sheet-requires : goal.write_sheet-requires
 write_sheet-requires c =

@@ -2,7 +2,7 @@ use Rattle.std.proofs.Common.{List, ℕ, subst, arith}
 use Rattle.std.proofs.lemmas.Result.{IfOk-weaker}
 use Rattle.schematic_main.specs.Met.{files_at, between}
 use Rattle.schematic_main.specs.Answer.{IsVerified, text_input, IsAnswerAfter, IsAnswerOn}
-use Rattle.schematic_main.proofs.AnswerLemmas.{read_on, answer_before}
+use Rattle.schematic_main.proofs.AnswerLemmas.{IsRead, read_on, answer_before, after_before}
 use Rattle.schematic_main.proofs.MetLemmas.{reads_more, reads_some}
 use Rattle.schematic_main.proofs.StatusLemmas.{refused_reply}
 use Rattle.schematic_main.proofs.verify.verify.Goals as goal
@@ -14,10 +14,12 @@ returns-in-Ok-clause-answer g c =
     let mid = at c.bytes_of.new.files in
     let new = at c.verify_bytes.new.files in
     let bytes = c.in-Ok.bytes.items in
+    let read : IsRead old mid = record { same = c.in-Ok.ensures.same; later = c.in-Ok.ensures.later; one = c.in-Ok.ensures.reads } in
     let sheet = text_input 2 c.args.sheet.now in
     IfOk-weaker c.verify_bytes.result _ _ (λ r answer.
     read_on (text_input 1 c.args.input.now) 0 (between old new) (λ bytes. IsAnswerOn sheet 1 (between old new) (IsAnswerAfter 2 (between old new) (IsVerified bytes))) bytes r.status r.text.items c.in-Ok.ensures.bytes
-    (answer_before sheet old mid new (IsVerified bytes) r.status r.text.items c.in-Ok.ensures.same c.in-Ok.ensures.later c.in-Ok.ensures.reads
+    (answer_before sheet 0 old mid new (IsAnswerAfter 1 (between mid new) (IsVerified bytes)) (IsAnswerAfter 2 (between old new) (IsVerified bytes)) r.status r.text.items read
+    (λ others. after_before 1 old mid new (IsVerified bytes) others r.status r.text.items read)
     (subst (λ (xs : List ℕ). IsAnswerOn sheet 0 (between mid new) (IsAnswerAfter 1 (between mid new) (IsVerified xs)) r.status r.text.items) c.deref.ensures.value answer)))
     c.verify_bytes.ensures.answer
 
