@@ -13,15 +13,15 @@ use Rattle.plan_core.specs.declared.criterion.Criterion.{Criterion}
 use Rattle.plan_words.specs.declared.command.CommandWord.{CommandWord}
 use Rattle.plan_words.specs.declared.command.CommandWord.TheVariants as words
 use Rattle.plan_words.specs.declared.command.Command.{Command}
-use Rattle.plan_words.specs.declared.command.Command.TheVariants.{Draw, Verify, Check, Graph, Make}
+use Rattle.plan_words.specs.declared.command.Command.TheVariants.{Draw, Verify, Check, Graph, Make, Trial}
 use Rattle.plan_words.specs.declared.arguments.Argument.{Argument}
 use Rattle.plan_words.specs.declared.files.FileWord.{FileWord}
 use Rattle.plan_words.specs.declared.fault.WordWhat.{WordWhat}
 use Rattle.plan_words.specs.declared.fault.WordWhat.TheVariants.{NoCommand, UnknownCommand, MissingName, ExtraWord, UnknownOption, RepeatedOption, BadValue}
 use Rattle.plan_words.specs.declared.fault.WordFault.{WordFault}
 use Rattle.plan_words.specs.declared.fault.WordFault.TheVariants as answers
-use Rattle.plan_words.specs.OptionValues.{IsOrderText}
-use Rattle.plan_words.specs.Arguments.{arguments_from, files_in}
+use Rattle.plan_words.specs.OptionValues.{IsOrderText, IsSeed}
+use Rattle.plan_words.specs.Arguments.{arguments_from, argument_names, files_in}
 use Rattle.plan_words.specs.WordFaults.{command_word, number_of, SomeHasWordFault, IsLeftmost, file_names, IsFirstRepeat, IsMissing, HasOneNameTwice, IsFaultOfArguments, IsFaultBehind, IsFaultOfWords}
 use Rattle.plan_words.specs.Words.{default_order, IsChosen, command_kind, HasParts, AreSoundArguments, IsCommandOf, IsWordFault}
 use Rattle.plan_words.proofs.OrderTextLemmas.{criteria_text_injective}
@@ -30,7 +30,7 @@ use Rattle.plan_words.proofs.OrderTextLemmas.{criteria_text_injective}
 
 abbrev command_at : List ℕ → CommandWord
 command_at [] = words.Draw
-command_at (b ∷ bytes) = if b == 118 then words.Verify else if b == 99 then words.Check else if b == 103 then words.Graph else if b == 109 then words.Make else words.Draw
+command_at (b ∷ bytes) = if b == 118 then words.Verify else if b == 99 then words.Check else if b == 103 then words.Graph else if b == 109 then words.Make else if b == 116 then words.Trial else words.Draw
 
 command_at-word : (command : CommandWord) → command_at (command_word command) ≡ command
 command_at-word words.Draw = refl
@@ -38,6 +38,7 @@ command_at-word words.Verify = refl
 command_at-word words.Check = refl
 command_at-word words.Graph = refl
 command_at-word words.Make = refl
+command_at-word words.Trial = refl
 
 command_word_injective : (a b : CommandWord) → command_word a ≡ command_word b → a ≡ b
 command_word_injective a b is = sym (command_at-word a) ∙ ap command_at is ∙ command_at-word b
@@ -186,6 +187,14 @@ chosen_order : (value : Option (List ℕ)) (a b : List Criterion) → IsChosen v
 chosen_order None a b x y = x ∙ sym y
 chosen_order (Some text) a b x y = criteria_text_injective a b (sym x.written ∙ y.written)
 
+same_seed : (arguments : List Argument) (n m : ℕ) → (name : List ℕ) × (argument_names arguments ≡ name ∷ []) × IsSeed name n → (name : List ℕ) × (argument_names arguments ≡ name ∷ []) × IsSeed name m → n ≡ m
+same_seed arguments n m x y =
+    let names : x.0 ∷ [] ≡ y.0 ∷ [] = sym x.1 ∙ y.1 in
+    let name : x.0 ≡ y.0 = cc in
+    let n_to = x.2.to in
+    let m_to = y.2.to in
+    decimal_injective n m (omega (arith, n_to)) (omega (arith, m_to)) (sym x.2.written ∙ name ∙ y.2.written)
+
 same_parts : (arguments : List Argument) (a b : Command) → command_kind a ≡ command_kind b → HasParts arguments a → HasParts arguments b → a ≡ b
 same_parts arguments (Draw i g o n s l) (Draw j h r m t k) word x y =
     let names : i ∷ [] ≡ j ∷ [] = sym x.names ∙ y.names in
@@ -202,12 +211,8 @@ same_parts arguments (Draw i g o n s l) (Draw j h r m t k) word x y =
 same_parts arguments (Verify i s) (Verify j t) word x y = let names : i ∷ s ∷ [] ≡ j ∷ t ∷ [] = sym x ∙ y in cc
 same_parts arguments (Check i s l) (Check j t k) word x y = let names : i ∷ s ∷ l ∷ [] ≡ j ∷ t ∷ k ∷ [] = sym x ∙ y in cc
 same_parts arguments (Graph i) (Graph j) word x y = let names : i ∷ [] ≡ j ∷ [] = sym x ∙ y in cc
-same_parts arguments (Make n) (Make m) word x y =
-    let names : x.0 ∷ [] ≡ y.0 ∷ [] = sym x.1 ∙ y.1 in
-    let name : x.0 ≡ y.0 = cc in
-    let n_to = x.2.to in
-    let m_to = y.2.to in
-    ap (λ (k : ℕ). Make k) (decimal_injective n m (omega (arith, n_to)) (omega (arith, m_to)) (sym x.2.written ∙ name ∙ y.2.written))
+same_parts arguments (Make n) (Make m) word x y = ap (λ (k : ℕ). Make k) (same_seed arguments n m x y)
+same_parts arguments (Trial n) (Trial m) word x y = ap (λ (k : ℕ). Trial k) (same_seed arguments n m x y)
 same_parts arguments a b word x y = cc word
 
 pub command_same : (list : List (List ℕ)) (a b : Command) → IsCommandOf list a → IsCommandOf list b → a ≡ b

@@ -1,18 +1,19 @@
 -- What sound arguments give: values that are taken, and as many names as the command has.
-use Rattle.std.proofs.Common.{◌≡◌, ℕ, ◌≤◌, true, false, None, Some, List, [], ◌∷◌, ◌++◌, length, refl, sym, ap, subst, ◌∙◌, arith}
+use Rattle.std.proofs.Common.{◌≡◌, ℕ, ◌≤◌, ◌⊎◌, inl, inr, true, false, None, Some, List, [], ◌∷◌, ◌++◌, length, refl, sym, ap, subst, ◌∙◌, arith}
 use Rattle.std.specs.Prelude.{Option, MatchOption, All, slice_get, bytes_eq, if◌then◌else◌, ⊤}
 use Rattle.std.proofs.lemmas.List.Elements.{All-nil, All-cons, All-head}
 use Rattle.std.proofs.lemmas.Slice.Eq.{bytes_eq-Decides}
 use Rattle.plan_words.specs.declared.command.CommandWord.{CommandWord}
+use Rattle.plan_words.specs.declared.command.CommandWord.TheVariants.{Make, Trial}
 use Rattle.plan_words.specs.declared.option_values.OptionWord.{OptionWord}
 use Rattle.plan_words.specs.declared.arguments.Argument.{Argument}
 use Rattle.plan_words.specs.declared.arguments.Argument.TheVariants.{Name, Setting}
-use Rattle.plan_words.specs.OptionValues.{option_word, Takes}
+use Rattle.plan_words.specs.OptionValues.{option_word, IsSeed, Takes}
 use Rattle.plan_words.specs.Arguments.{argument_names, option_value}
 use Rattle.plan_words.specs.WordFaults.{TakesName}
 use Rattle.plan_words.specs.Soundness.{SoundFrom}
 use Rattle.plan_words.specs.Words.{given_for}
-use Rattle.plan_words.proofs.SoundLemmas.{option_word_injective, sound_at}
+use Rattle.plan_words.proofs.SoundLemmas.{option_word_injective, sound_at, names_most}
 
 -- an option of this word with this value stands among the arguments
 record HasSetting (arguments : List Argument) (word value : List ℕ) : Type 0 where
@@ -82,3 +83,14 @@ three_names (x ∷ y ∷ z ∷ u ∷ names) a b d most first second third = absu
 
 pub first_taken : (command : CommandWord) (arguments : List Argument) (name : List ℕ) → SoundFrom command [] arguments → argument_names arguments ≡ name ∷ [] → TakesName command name
 first_taken command arguments name sound is = let P : List (List ℕ) → Type 0 = λ names. All (TakesName command) names in All-head (TakesName command) name [] (subst P is (names_taken command [] arguments sound))
+
+-- ---- the number of a made station
+
+-- a command that takes a station's number has one name at most, and takes it
+pub seed_most : (arguments : List Argument) → SoundFrom Make [] arguments ⊎ SoundFrom Trial [] arguments → length (argument_names arguments) ≤ 1
+seed_most arguments (inl sound) = names_most Make arguments sound
+seed_most arguments (inr sound) = names_most Trial arguments sound
+
+pub seed_taken : (arguments : List Argument) (name : List ℕ) → SoundFrom Make [] arguments ⊎ SoundFrom Trial [] arguments → argument_names arguments ≡ name ∷ [] → (n : ℕ) × IsSeed name n
+seed_taken arguments name (inl sound) is = first_taken Make arguments name sound is
+seed_taken arguments name (inr sound) is = first_taken Trial arguments name sound is

@@ -1,7 +1,7 @@
 -- What can be wrong with the words of a command line, and which fault counts.
 use Rattle.std.specs.Prelude.{◌≡◌, ◌≢◌, ◌≤◌, ◌<◌, ◌⊎◌, ℕ, ◌+◌, None, Some, List, [], ◌∷◌, ◌++◌, codes, length, map, Contains, AllPairs}
 use Rattle.plan_words.specs.declared.command.CommandWord.{CommandWord}
-use Rattle.plan_words.specs.declared.command.CommandWord.TheVariants.{Draw, Verify, Check, Graph, Make}
+use Rattle.plan_words.specs.declared.command.CommandWord.TheVariants.{Draw, Verify, Check, Graph, Make, Trial}
 use Rattle.plan_words.specs.declared.option_values.OptionWord.{OptionWord}
 use Rattle.plan_words.specs.declared.arguments.Argument.{Argument}
 use Rattle.plan_words.specs.declared.arguments.Argument.TheVariants.{Name, Setting}
@@ -17,6 +17,7 @@ command_word Verify = codes "verify"
 command_word Check = codes "check"
 command_word Graph = codes "graph"
 command_word Make = codes "make"
+command_word Trial = codes "trial"
 
 -- the numbers of the table of faults, and their words
 abbrev pub number_of : WordWhat → ℕ
@@ -44,14 +45,16 @@ name_count Verify = 2
 name_count Check = 3
 name_count Graph = 1
 name_count Make = 1
+name_count Trial = 1
 
--- the command takes this name: the number of `make`, and any other that isn't empty
+-- the command takes this name: the number of `make` and of `trial`, and any other that isn't empty
 abbrev pub TakesName : CommandWord → List ℕ → Type 0
 TakesName Draw name = name ≢ []
 TakesName Verify name = name ≢ []
 TakesName Check name = name ≢ []
 TakesName Graph name = name ≢ []
 TakesName Make name = (n : ℕ) × IsSeed name n
+TakesName Trial name = (n : ℕ) × IsSeed name n
 
 -- the word is an option of the command; only `draw` has options
 abbrev pub IsOptionOf : CommandWord → List ℕ → Type 0
@@ -60,6 +63,7 @@ IsOptionOf Verify word = ⊥
 IsOptionOf Check word = ⊥
 IsOptionOf Graph word = ⊥
 IsOptionOf Make word = ⊥
+IsOptionOf Trial word = ⊥
 
 -- ---- faults of one argument, behind the arguments before it
 

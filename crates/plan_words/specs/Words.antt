@@ -6,7 +6,7 @@ use Rattle.plan_core.specs.Grid.{GridSize}
 use Rattle.plan_words.specs.declared.command.CommandWord.{CommandWord}
 use Rattle.plan_words.specs.declared.command.CommandWord.TheVariants as words
 use Rattle.plan_words.specs.declared.command.Command.{Command}
-use Rattle.plan_words.specs.declared.command.Command.TheVariants.{Draw, Verify, Check, Graph, Make}
+use Rattle.plan_words.specs.declared.command.Command.TheVariants.{Draw, Verify, Check, Graph, Make, Trial}
 use Rattle.plan_words.specs.declared.option_values.OptionWord.{OptionWord}
 use Rattle.plan_words.specs.declared.option_values.OptionWord.TheVariants as options
 use Rattle.plan_words.specs.declared.arguments.Argument.{Argument}
@@ -45,6 +45,7 @@ command_kind (Verify input sheet) = words.Verify
 command_kind (Check input sheet log) = words.Check
 command_kind (Graph input) = words.Graph
 command_kind (Make n) = words.Make
+command_kind (Trial n) = words.Trial
 
 -- the command has the parts that its arguments give
 abbrev pub HasParts : List Argument → Command → Type 0
@@ -53,6 +54,7 @@ HasParts arguments (Verify input sheet) = argument_names arguments ≡ input ∷
 HasParts arguments (Check input sheet log) = argument_names arguments ≡ input ∷ sheet ∷ log ∷ []
 HasParts arguments (Graph input) = argument_names arguments ≡ input ∷ []
 HasParts arguments (Make n) = (name : List ℕ) × (argument_names arguments ≡ name ∷ []) × IsSeed name n
+HasParts arguments (Trial n) = (name : List ℕ) × (argument_names arguments ≡ name ∷ []) × IsSeed name n
 
 -- the arguments of a command without a fault
 pub record AreSoundArguments (command : CommandWord) (arguments : List Argument) : Type 0 where

@@ -1,5 +1,5 @@
 // The command that sound arguments ask for.
-ghost use Rattle.std.specs.Prelude.{◌≡◌, ◌≤◌, ◌<◌, ℕ, List, [], ◌∷◌, length, slice_get, Some, IfOk, MatchOption, ⊤};
+ghost use Rattle.std.specs.Prelude.{◌≡◌, ◌≤◌, ◌<◌, ◌⊎◌, ℕ, List, [], ◌∷◌, length, slice_get, Some, IfOk, MatchOption, ⊤};
 ghost use Rattle.std.specs.Option.{option_copied};
 ghost use Rattle.plan_words.specs.declared.command.CommandWord.TheVariants as words;
 ghost use Rattle.plan_words.specs.declared.option_values.OptionWord.TheVariants as options;
@@ -187,9 +187,9 @@ fn draw_of(alloc: Global, arguments: &[Argument]) -> Result<Command, OutOfMemory
     })
 }
 
-/// The number that `make` has as its name.
+/// The number that `make` or `trial` has as its name.
 fn seed_of(arguments: &[Argument]) -> u32
-    requires sound { SoundFrom words.Make [] arguments.now }
+    requires sound { SoundFrom words.Make [] arguments.now ⊎ SoundFrom words.Trial [] arguments.now }
     requires enough { 1 ≤ length (argument_names arguments.now) }
     ensures { (name : List ℕ) × (argument_names arguments.now ≡ name ∷ []) × IsSeed name result }
 {
@@ -225,6 +225,9 @@ pub(crate) fn command_of(
             input: name_copy(alloc, arguments, 0)?,
         }),
         CommandWord::Make => Ok(Command::Make {
+            n: seed_of(arguments),
+        }),
+        CommandWord::Trial => Ok(Command::Trial {
             n: seed_of(arguments),
         }),
     }

@@ -12,6 +12,7 @@ pub(crate) enum CommandWord {
     Check,
     Graph,
     Make,
+    Trial,
 }
 
 impl CommandWord {
@@ -25,6 +26,7 @@ impl CommandWord {
             "check" => Some(CommandWord::Check),
             "graph" => Some(CommandWord::Graph),
             "make" => Some(CommandWord::Make),
+            "trial" => Some(CommandWord::Trial),
             _ => None,
         }
     }
@@ -34,7 +36,7 @@ impl CommandWord {
         ensures { result ≡ count_of self }
     {
         match self {
-            CommandWord::Draw | CommandWord::Graph | CommandWord::Make => 1,
+            CommandWord::Draw | CommandWord::Graph | CommandWord::Make | CommandWord::Trial => 1,
             CommandWord::Verify => 2,
             CommandWord::Check => 3,
         }
@@ -71,6 +73,10 @@ pub enum Command {
     },
     /// Makes a station from a number.
     Make {
+        n: u32,
+    },
+    /// Makes a station from a number and draws it, on the trial's own grid and in its order.
+    Trial {
         n: u32,
     },
 }

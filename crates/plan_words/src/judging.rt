@@ -28,9 +28,11 @@ fn repeated_file(
             let files = files_in(alloc, arguments)?;
             Ok(first_repeat(&files))
         }
-        CommandWord::Verify | CommandWord::Check | CommandWord::Graph | CommandWord::Make => {
-            Ok(None)
-        }
+        CommandWord::Verify
+        | CommandWord::Check
+        | CommandWord::Graph
+        | CommandWord::Make
+        | CommandWord::Trial => Ok(None),
     }
 }
 

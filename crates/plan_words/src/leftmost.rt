@@ -53,7 +53,11 @@ fn option_of(command: CommandWord, word: &str) -> Option<OptionWord>
 {
     match command {
         CommandWord::Draw => OptionWord::named(word),
-        CommandWord::Verify | CommandWord::Check | CommandWord::Graph | CommandWord::Make => None,
+        CommandWord::Verify
+        | CommandWord::Check
+        | CommandWord::Graph
+        | CommandWord::Make
+        | CommandWord::Trial => None,
     }
 }
 
@@ -62,7 +66,7 @@ fn takes_name(command: CommandWord, name: &str) -> bool
     ensures { MatchBool result (TakesName command name.now) (TakesName command name.now → ⊥) }
 {
     match command {
-        CommandWord::Make => number_in(name, 0, MAX_SEED).is_some(),
+        CommandWord::Make | CommandWord::Trial => number_in(name, 0, MAX_SEED).is_some(),
         CommandWord::Draw | CommandWord::Verify | CommandWord::Check | CommandWord::Graph => {
             !name.is_empty()
         }

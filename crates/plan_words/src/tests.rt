@@ -76,6 +76,7 @@ fn command_shown(alloc: Global, command: &Command) -> Result<String, AllocError>
             format!(in alloc; "graph {input}")
         }
         Command::Make { n } => format!(in alloc; "make {n}"),
+        Command::Trial { n } => format!(in alloc; "trial {n}"),
     }
 }
 
@@ -125,6 +126,8 @@ static CASES: [(&[&str], &str); 68] = [
     (&["graph", "a b"], "graph a b"),
     (&["make", "0"], "make 0"),
     (&["make", "4294967295"], "make 4294967295"),
+    (&["trial", "0"], "trial 0"),
+    (&["trial", "4294967295"], "trial 4294967295"),
     (
         &["draw", "a", "--conflicts", "200000", "--height", "12"],
         "draw a 40 12 1 hbdw 200000 none none",
@@ -157,6 +160,11 @@ static CASES: [(&[&str], &str); 68] = [
     (&["make", "-1"], "7 BadValue 2"),
     (&["make", "4294967296"], "7 BadValue 2"),
     (&["make", "x", "y"], "7 BadValue 2"),
+    (&["trial"], "3 MissingName 2"),
+    (&["trial", "5", "6"], "4 ExtraWord 3"),
+    (&["trial", "5", "--log", "l"], "5 UnknownOption 3"),
+    (&["trial", "x"], "7 BadValue 2"),
+    (&["trial", "4294967296"], "7 BadValue 2"),
     // Options.
     (&["draw", "a", "--width=4"], "5 UnknownOption 3"),
     (&["draw", "--", "a"], "5 UnknownOption 2"),
