@@ -37,7 +37,7 @@ values 0 0 0 2
 end conflicts 3
 ";
 
-/// It stands for another column than the line begins at.
+/// The node stands beside the end of its line.
 const TORN_SHEET: &str = "railplan 2
 grid 40 8 1
 order height bends diagonal width
@@ -46,7 +46,7 @@ node 0 mb 0 0 0.000000
 node 1 me 2 0 600.000000
 edges 1
 edge 0 m 0 1 0 0 1 0
-values 0 0 0 1
+values 0 0 0 2
 end best
 ";
 
@@ -109,11 +109,11 @@ fn with_literal_negated(alloc: Global, log: &str) -> Result<String, AllocError> 
     }
 }
 
-/// The log without the lines that begin with this letter.
-fn without_lines(alloc: Global, log: &str, letter: char) -> Result<String, Fail> {
+/// The log without the lines that begin so.
+fn without_lines(alloc: Global, log: &str, front: &str) -> Result<String, Fail> {
     let mut kept = String::new(alloc);
     for line in log.lines() {
-        if !line.starts_with(letter) {
+        if !line.starts_with(front) {
             kept.push_str(line)?;
             kept.push('\n')?;
         }
@@ -174,7 +174,7 @@ fn refuses_changed_logs(rt: HostRuntime) -> Result<(), Fail> {
         ),
         (
             "no answer to the query",
-            without_lines(alloc, log, 'r')?,
+            without_lines(alloc, log, "r ")?,
             String::from_str(alloc, "check Lacks place 4")?,
         ),
         (
