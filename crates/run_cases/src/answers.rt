@@ -91,7 +91,7 @@ const NOT_BUILT: &str = "not built\n";
 #[test]
 fn answers_by_words_and_file(rt: HostRuntime) -> Result<(), Fail> {
     let alloc = rt.alloc();
-    let cases: [(&[&str], &str, u8, &str); 40] = [
+    let cases: [(&[&str], &str, u8, &str); 39] = [
         (&["draw", "one.xml"], ONE, 0, ONE_SHEET),
         (&["draw", "one.xml"], REVERSED, 0, REVERSED_SHEET),
         (&["draw", "one.xml"], END_FIRST, 0, END_FIRST_SHEET),
@@ -171,7 +171,6 @@ fn answers_by_words_and_file(rt: HostRuntime) -> Result<(), Fail> {
             "topology 8 NotMutual at 174 c1 c2\n",
         ),
         (&["check", "none.xml", "b", "c"], ONE, 5, "read failed 1\n"),
-        (&["make", "5"], ONE, 1, NOT_BUILT),
         (&["draw"], ONE, 2, "words 3 MissingName 2\n"),
         (&[], ONE, 2, "words 1 NoCommand 1\n"),
         (&["--help"], ONE, 2, "words 2 UnknownCommand 1\n"),

@@ -9,11 +9,13 @@ use Rattle.plan_core.specs.Drawing.{Drawing}
 use Rattle.track_order.specs.Order.{EdgeOrder}
 use Rattle.outside_io.specs.Contents.{Told, IsFileWhereTold, TellsAt}
 use Rattle.plan_words.specs.declared.command.Command.{Command}
-use Rattle.plan_words.specs.declared.command.Command.TheVariants.{Draw, Verify, Check, Graph as PrintGraph, Make}
+use Rattle.plan_words.specs.declared.command.Command.TheVariants.{Draw, Verify, Check, Graph as PrintGraph, Make, Trial}
 use Rattle.plan_words.specs.Words.{IsCommandOf}
 use Rattle.plan_text.specs.SheetText.{Sheet as PlainSheet}
 use Rattle.refute_log.specs.Lines.{log_text, MayAllBeTold}
 use Rattle.refute_log.specs.Told.{Lines}
+use Rattle.station_make.specs.StationText.{station_text}
+use Rattle.lex_search.specs.declared.outcome.Outcome.{Outcome}
 use Rattle.drawing_problem.specs.Layout.{Layout, layout}
 use Rattle.log_check.specs.declared.claim.Claim.{Claim}
 use Rattle.log_check.specs.declared.verdict.Refusal.{Refusal}
@@ -34,7 +36,8 @@ use Rattle.schematic_main.specs.Verdict.{IsVerdict, IsSheetJudged, IsSoundSheet}
 use Rattle.schematic_main.specs.Answer.{InputFile, text_input, log_input, IsPrinted, IsFileJudged, IsVerified, IsAnswerAfter, IsAnswerOn}
 use Rattle.schematic_main.specs.CheckLine.{claim_of, refusal_status, verdict_status}
 use Rattle.schematic_main.specs.Checked.{IsFoundBroken, IsClaimJudged, IsChecked}
-use Rattle.schematic_main.specs.Drawn.{Job, job, IsDrawAnswer}
+use Rattle.schematic_main.specs.Drawn.{Job, job, status_of, IsDrawAnswer}
+use Rattle.schematic_main.specs.Tried.{IsTried}
 use Rattle.schematic_main.specs.Commands.{Owes, ends_of, HasSoundFile, AreSound}
 use Rattle.schematic_main.specs.Run.{Asks, IsDue, FailsIn}
 use Rattle.schematic_main.proofs.StatusLemmas.{on_outcome}
@@ -77,6 +80,9 @@ record OfOwed (P : Status → Type 0) : Type 0 where
 on_drawing : (P : Status → Type 0) (asked : Job) (met : Met) (traced : Lines → Type 0) (g : Graph) (o : EdgeOrder) (status : Status) (text : List ℕ) → OfOwed P → IsDrawAnswer asked met traced g o status text → P status
 on_drawing P asked met traced g o status text owed (inl drawn) = subst P (sym drawn.status_is) (on_outcome P drawn.outcome owed.done owed.none owed.unfinished)
 on_drawing P asked met traced g o status text owed (inr down) = subst P (sym down.fault.status_is) owed.refused
+
+on_trial : (P : Status → Type 0) (n : ℕ) (traced : Lines → Type 0) (g : Graph) (o : EdgeOrder) (status : Status) (text : List ℕ) → OfOwed P → IsTried n traced g o status text → P status
+on_trial P n traced g o status text owed tried = subst P (sym tried.status_is) (on_outcome P tried.outcome owed.done owed.none owed.unfinished)
 
 on_verdict : (P : Status → Type 0) (g : Graph) (o : EdgeOrder) (grid : GridSize) (d : Drawing) (status : Status) (text : List ℕ) → OfOwed P → IsVerdict g o grid d status text → P status
 on_verdict P g o grid d status text owed (inl a) = subst P (sym a.status_is) owed.done
@@ -132,7 +138,8 @@ on_command P (Check input sheet log) met traced status text owed unread owes =
     (λ said. on_input P (log_input 3 log) 2 met (IsAnswerAfter 3 met (IsChecked bytes said)) status text owed.refused (λ fails. unread (2, lit< tt, fails))
     (λ told answer. on_file P (λ g o. IsClaimJudged g o said told) bytes status text owed.refused (λ g o. on_claim P g o said told status text owed) answer.1)))
     owes
-on_command P (Make n) met traced status text owed unread told = subst P (sym told.status_is) owed.refused
+on_command P (Make n) met traced status text owed unread made = subst P (sym made.status_is) owed.done
+on_command P (Trial n) met traced status text owed unread owes = on_file P (IsTried n traced) (station_text n) status text owed.refused (λ g o. on_trial P n traced g o status text owed) owes
 
 on_due : (P : Status → Type 0) (words : List (List ℕ)) (met : Met) (traced : Lines → Type 0) (status : Status) (text : List ℕ) → OfOwed P → (Asks words (λ command. FailsIn command met) → P Unread) → IsDue words met traced status text → P status
 on_due P words met traced status text owed unread (inl (command, asked, owes)) =
@@ -184,11 +191,14 @@ sound_judged : (Answers : Graph → EdgeOrder → Status → List ℕ → Type 0
 sound_judged Answers bytes status text sound (inl answer) = answer
 sound_judged Answers bytes status text sound (inr refused) = absurd (sound refused.fault refused.has)
 
+outcome_status : (outcome : Outcome) (status : Status) → status ≡ status_of outcome → (status ≡ Done) ⊎ (status ≡ NoDrawing) ⊎ (status ≡ Unfinished)
+outcome_status outcome status is =
+    subst (λ s. (s ≡ Done) ⊎ (s ≡ NoDrawing) ⊎ (s ≡ Unfinished)) (sym is)
+    (on_outcome (λ s. (s ≡ Done) ⊎ (s ≡ NoDrawing) ⊎ (s ≡ Unfinished)) outcome (inl refl) (inr (inl refl)) (inr (inr refl)))
+
 drawn_status : (asked : Job) (met : Met) (traced : Lines → Type 0) (g : Graph) (o : EdgeOrder) (status : Status) (text : List ℕ) → asked.svg ≡ None → IsDrawAnswer asked met traced g o status text →
     (status ≡ Done) ⊎ (status ≡ NoDrawing) ⊎ (status ≡ Unfinished)
-drawn_status asked met traced g o status text built (inl drawn) =
-    subst (λ s. (s ≡ Done) ⊎ (s ≡ NoDrawing) ⊎ (s ≡ Unfinished)) (sym drawn.status_is)
-    (on_outcome (λ s. (s ≡ Done) ⊎ (s ≡ NoDrawing) ⊎ (s ≡ Unfinished)) drawn.outcome (inl refl) (inr (inl refl)) (inr (inr refl)))
+drawn_status asked met traced g o status text built (inl drawn) = outcome_status drawn.outcome status drawn.status_is
 drawn_status asked met traced g o status text built (inr down) = absurd (down.unbuilt built)
 
 drawing_status : (g : Graph) (o : EdgeOrder) (grid : GridSize) (d : Drawing) (status : Status) (text : List ℕ) → IsVerdict g o grid d status text → (status ≡ Done) ⊎ (status ≡ Broken)
@@ -254,7 +264,10 @@ sound_ends (Check input sheet log) met traced status text (file, said, log_file)
     within_on (log_input 3 log) 2 met told (IsAnswerAfter 3 met (IsChecked file.bytes said.bytes)) status text log_file.there (too_long MAX_LOG_BYTES told log_file.short) (λ fails. read (2, lit< tt, fails)) second in
     let found = sound_judged (λ g o. IsClaimJudged g o said.bytes told) file.bytes status text file.sound third.1 in
     checked_status found.0 found.1 said.bytes log_file.lines status text (said.sound found.0 (found.1, found.2)) log_file.formed found.3
-sound_ends (Make n) met traced status text sound read owes = absurd sound
+sound_ends (Make n) met traced status text sound read made = made.status_is
+sound_ends (Trial n) met traced status text sound read owes =
+    let found = sound_judged (IsTried n traced) (station_text n) status text sound owes in
+    outcome_status found.3.outcome status found.3.status_is
 
 -- so do words that ask for it
 pub due_ends : (words : List (List ℕ)) (command : Command) (met : Met) (traced : Lines → Type 0) (status : Status) (text : List ℕ) → IsCommandOf words command → AreSound command met.before.contents → (FailsIn command met → ⊥) → IsDue words met traced status text → ends_of command status

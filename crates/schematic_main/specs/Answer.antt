@@ -1,5 +1,6 @@
 -- What is answered to an input and to the bytes of a file: the status and the text that goes with it. specs/Commands
--- says which of it each command owes, specs/Drawn what draw answers to a station, specs/Checked what check does.
+-- says which of it each command owes, specs/Drawn what draw answers to a station, specs/Checked what check does, specs/Tried
+-- what make and trial do.
 use Rattle.std.specs.Prelude.{◌≡◌, ℕ, suc, ◌⊎◌, List}
 use Rattle.outside_io.specs.Contents.{IsFileWhereTold}
 use Rattle.plan_core.specs.declared.limits.TheConstants.{MAX_FILE_BYTES, MAX_LOG_BYTES}

@@ -6,21 +6,21 @@ use Rattle.outside_io.specs.Contents.{Told, TellsAt}
 use Rattle.plan_core.specs.declared.limits.TheConstants.{MAX_FILE_BYTES, MAX_LOG_BYTES}
 use Rattle.plan_core.specs.Graph.{Graph}
 use Rattle.plan_words.specs.declared.command.Command.{Command}
-use Rattle.plan_words.specs.declared.command.Command.TheVariants.{Draw, Verify, Check, Graph as PrintGraph, Make}
+use Rattle.plan_words.specs.declared.command.Command.TheVariants.{Draw, Verify, Check, Graph as PrintGraph, Make, Trial}
 use Rattle.track_order.specs.Order.{EdgeOrder}
 use Rattle.refute_log.specs.Lines.{log_text, MayAllBeTold}
 use Rattle.refute_log.specs.Told.{Lines}
 use Rattle.refute_log.specs.FileLog.{BeginsLog}
+use Rattle.station_make.specs.StationText.{station_text}
 use Rattle.schematic_main.specs.declared.fault.RunFault.{RunFault}
-use Rattle.schematic_main.specs.declared.fault.RunFault.TheVariants.{NotBuilt}
 use Rattle.schematic_main.specs.declared.status.Status.{Status}
 use Rattle.schematic_main.specs.declared.status.Status.TheVariants.{Done, NoDrawing, Unfinished, Broken}
-use Rattle.schematic_main.specs.Fault.{IsFaultLine}
 use Rattle.schematic_main.specs.Input.{IsShort, HasStation, HasFileFault}
 use Rattle.schematic_main.specs.Verdict.{IsSoundSheet}
 use Rattle.schematic_main.specs.Met.{Met}
 use Rattle.schematic_main.specs.Answer.{InputFile, text_input, log_input, IsPrinted, IsFileJudged, IsVerified, IsAnswerAfter, IsAnswerOn}
 use Rattle.schematic_main.specs.Drawn.{job, IsDrawAnswer}
+use Rattle.schematic_main.specs.Tried.{IsMade, IsTried}
 use Rattle.schematic_main.specs.Checked.{IsChecked}
 
 -- ---- what it reads and writes
@@ -32,6 +32,7 @@ inputs_of (PrintGraph input) = text_input 1 input ∷ []
 inputs_of (Verify input sheet) = text_input 1 input ∷ text_input 2 sheet ∷ []
 inputs_of (Check input sheet log) = text_input 1 input ∷ text_input 2 sheet ∷ log_input 3 log ∷ []
 inputs_of (Make n) = []
+inputs_of (Trial n) = []
 
 -- what stands in a file that a command writes: the text of a log
 pub data OutputKind : Type 0 where
@@ -58,6 +59,7 @@ outputs_of (PrintGraph input) = []
 outputs_of (Verify input sheet) = []
 outputs_of (Check input sheet log) = []
 outputs_of (Make n) = []
+outputs_of (Trial n) = []
 
 -- the bytes begin what stands in such a file, as those of one do that isn't written whole
 abbrev pub BeginsOutput : OutputKind → List ℕ → Type 0
@@ -81,19 +83,20 @@ pub record LeavesFiles (outputs : List OutputFile) (Refused : Type 0) (before af
   pub others : (name : List ℕ) → Refused ⊎ (Writes outputs name → ⊥) → after name ≡ before name
   pub begun : AreBegun outputs before after
 
--- a command tells the lines of a search to the trace: draw, where no file is named for them
+-- a command tells the lines of a search to the trace: draw, where no file is named for them, and trial
 abbrev pub TellsTrace : Command → Type 0
 TellsTrace (Draw input grid order budget svg log) = log ≡ None
 TellsTrace (PrintGraph input) = ⊥
 TellsTrace (Verify input sheet) = ⊥
 TellsTrace (Check input sheet log) = ⊥
 TellsTrace (Make n) = ⊥
+TellsTrace (Trial n) = ⊤
 
 -- ---- what it owes
 
 -- with what the run met and what the trace was told, the status that a command ends with and the text that it puts.
 -- verify reads the file, and then the sheet, before it judges what they say, and check so the log too; draw and graph
--- read the file alone. make isn't built yet
+-- read the file alone; make and trial read nothing, and trial judges a made file as draw does one that is read
 abbrev pub Owes : Command → Met → (traced : Lines → Type 0) → Status → List ℕ → Type 0
 Owes (Draw input grid order budget svg log) met traced status text =
     IsAnswerOn (text_input 1 input) 0 met (IsAnswerAfter 1 met (IsFileJudged (IsDrawAnswer (job grid order budget svg log) met traced))) status text
@@ -103,17 +106,19 @@ Owes (Verify input sheet) met traced status text =
     IsAnswerOn (text_input 1 input) 0 met (λ bytes. IsAnswerOn (text_input 2 sheet) 1 met (IsAnswerAfter 2 met (IsVerified bytes))) status text
 Owes (Check input sheet log) met traced status text =
     IsAnswerOn (text_input 1 input) 0 met (λ bytes. IsAnswerOn (text_input 2 sheet) 1 met (λ said. IsAnswerOn (log_input 3 log) 2 met (IsAnswerAfter 3 met (IsChecked bytes said)))) status text
-Owes (Make n) met traced status text = IsFaultLine NotBuilt status text
+Owes (Make n) met traced status text = IsMade n status text
+Owes (Trial n) met traced status text = IsFileJudged (IsTried n traced) (station_text n) status text
 
 -- ---- how it ends
 
--- how a command ends where nothing is wrong with its inputs; make never comes to such an end yet
+-- how a command ends where nothing is wrong with its inputs
 abbrev pub ends_of : Command → Status → Type 0
 ends_of (Draw input grid order budget svg log) status = (status ≡ Done) ⊎ (status ≡ NoDrawing) ⊎ (status ≡ Unfinished)
 ends_of (PrintGraph input) status = status ≡ Done
 ends_of (Verify input sheet) status = (status ≡ Done) ⊎ (status ≡ Broken)
 ends_of (Check input sheet log) status = (status ≡ Done) ⊎ (status ≡ Unfinished) ⊎ (status ≡ Broken)
-ends_of (Make n) status = ⊥
+ends_of (Make n) status = status ≡ Done
+ends_of (Trial n) status = (status ≡ Done) ⊎ (status ≡ NoDrawing) ⊎ (status ≡ Unfinished)
 
 -- the file of this name is told, and its bytes have none of the faults
 pub record HasSoundFile (name : List ℕ) (contents : Option Told) : Type 0 where
@@ -139,7 +144,7 @@ pub record HasSoundLog (name : List ℕ) (contents : Option Told) : Type 0 where
 abbrev pub HasStationGraph : List ℕ → Graph → Type 0
 HasStationGraph bytes g = (o : EdgeOrder) × HasStation bytes g o
 
--- nothing is wrong with the inputs of a command, and what it asks for is built
+-- nothing is wrong with the inputs of a command, nor with the file that a trial makes, and what is asked for is built
 abbrev pub AreSound : Command → Option Told → Type 0
 AreSound (Draw input grid order budget svg log) contents = HasSoundFile input contents × (svg ≡ None)
 AreSound (PrintGraph input) contents = HasSoundFile input contents
@@ -147,4 +152,5 @@ AreSound (Verify input sheet) contents =
     (file : HasSoundFile input contents) × HasSoundSheet sheet contents true (HasStationGraph file.bytes)
 AreSound (Check input sheet log) contents =
     (file : HasSoundFile input contents) × HasSoundSheet sheet contents false (HasStationGraph file.bytes) × HasSoundLog log contents
-AreSound (Make n) contents = ⊥
+AreSound (Make n) contents = ⊤
+AreSound (Trial n) contents = (fault : RunFault) → HasFileFault (station_text n) fault → ⊥

@@ -8,6 +8,7 @@ pub mod SearchLog
 pub mod CheckLine
 pub mod Checked
 pub mod Drawn
+pub mod Tried
 pub mod Commands
 pub mod Run
 pub mod Reading

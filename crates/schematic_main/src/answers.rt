@@ -13,11 +13,11 @@ ghost use Rattle.schematic_main.specs.Run.{FailsToTell, CommandFailsToTell};
 
 use crate::checking::check;
 use crate::drawing::{Asked, draw_station};
-use crate::fault::RunFault;
 use crate::input::{Refusal, Station};
 use crate::reading::station_of;
 use crate::reply::{Cut, Reply, fault_reply};
 use crate::status::Status;
+use crate::trialling::{made, trial};
 use crate::verify::verify;
 use outside_io::Files;
 use plan_core::{OutOfMemory, Text};
@@ -116,6 +116,7 @@ pub fn answer_to<F: Files, T: LogSink>(
         Command::Graph { input } => Ok(print(alloc, input, files)?),
         Command::Verify { input, sheet } => Ok(verify(alloc, input, sheet, files)?),
         Command::Check { input, sheet, log } => Ok(check(alloc, input, sheet, log, files)?),
-        Command::Make { .. } => Ok(fault_reply(alloc, RunFault::NotBuilt)?),
+        Command::Make { n } => Ok(made(alloc, *n)?),
+        Command::Trial { n } => trial(alloc, *n, trace),
     }
 }

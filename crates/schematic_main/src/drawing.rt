@@ -55,7 +55,7 @@ impl<'a> Model for Asked<'a> {
 }
 
 /// The outcome of a search for the station's best drawing, whose lines the log is told.
-fn search<L: LogSink>(
+pub fn search<L: LogSink>(
     alloc: Global,
     station: &Station,
     asked: &Asked,
@@ -136,7 +136,7 @@ fn sheet_of(alloc: Global, asked: &Asked, outcome: Outcome) -> Result<Sheet, Out
 }
 
 /// How the run ends after an outcome.
-fn status_of(outcome: &Outcome) -> Status
+pub fn status_of(outcome: &Outcome) -> Status
     ensures { result ≡ status_of outcome.now }
 {
     match outcome {
