@@ -1,5 +1,5 @@
 -- Statuses have different numbers, and none is both refused and answered.
-use Rattle.std.proofs.Common.{◌≡◌, ℕ, zero, suc, Ok, Err, refl, sym, ◌∙◌, ap}
+use Rattle.std.proofs.Common.{◌≡◌, ◌⊎◌, ℕ, zero, suc, Ok, Err, inr, refl, sym, ◌∙◌, ap}
 use Rattle.std.specs.Prelude.{Result, IfOk, IsOkAnd}
 use Rattle.schematic_main.specs.declared.reply.Cut.{Cut}
 use Rattle.schematic_main.specs.declared.reply.Cut.TheVariants as cuts
@@ -67,3 +67,8 @@ outcome_unrefused outcome = on_outcome (λ s. IsRefused s → ⊥) outcome (λ h
 pub cut_unrefused : (cut : Cut) → IsRefused (status_of_cut cut) → ⊥
 cut_unrefused cuts.Unwritten refused = refused
 cut_unrefused cuts.Memory refused = refused
+
+-- a run that is cut short ran out of memory, where nothing else may have cut it short
+pub cut_ends : (cut : Cut) (status : Status) (Ends Fails : Type 0) → status ≡ status_of_cut cut → (cut ≡ cuts.Unwritten → Fails) → (Fails → ⊥) → Ends ⊎ (status ≡ NoMemory)
+cut_ends cuts.Unwritten status Ends Fails is cause fine = absurd (fine (cause refl))
+cut_ends cuts.Memory status Ends Fails is cause fine = inr is

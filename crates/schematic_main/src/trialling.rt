@@ -3,20 +3,21 @@ ghost use Rattle.std.specs.Prelude.{◌≡◌, ◌≤◌, ◌++◌, [], ◌∷�
 ghost use Rattle.outside_io.specs.Counts.{Rose};
 ghost use Rattle.plan_core.specs.declared.criterion.Criterion.TheVariants as criteria;
 ghost use Rattle.plan_core.specs.Grid.{grid_size};
+ghost use Rattle.line_text.specs.Fields.{spaced};
 ghost use Rattle.track_order.specs.Order.{IsOrderOf};
 ghost use Rattle.refute_log.specs.ToldTo.{told_to};
 ghost use Rattle.station_make.specs.StationText.{station_text};
 ghost use Rattle.schematic_main.specs.Status.{IsRefused};
 ghost use Rattle.schematic_main.specs.Answer.{IsFileJudged};
 ghost use Rattle.schematic_main.specs.Drawn.{HasSearched};
-ghost use Rattle.schematic_main.specs.Tried.{IsMade, IsTried, trial_job, trial_end, trial_line};
+ghost use Rattle.schematic_main.specs.Tried.{IsMade, IsTried, trial_job, graph_counts, best_measures, trial_end, trial_line};
 
 use crate::drawing::{Asked, search, status_of};
 use crate::input::{Refusal, Station, station_in};
 use crate::reply::{Cut, Reply, fault_reply};
 use crate::status::Status;
 use lex_minimise::Outcome;
-use line_text::{push_number, push_text};
+use line_text::{push_field, push_number_field, push_text};
 use plan_core::{Criterion, Grid, Order, OutOfMemory};
 use plan_geometry::{Drawing, values};
 use port_graph::PortGraph;
@@ -81,19 +82,33 @@ fn search_trial<L: LogSink>(alloc: Global, station: &Station, log: &mut L) -> Re
     search(alloc, station, &asked, log)
 }
 
+/// Appends the counts of a graph.
+fn push_counts(graph: &PortGraph, into: &mut Vec<u8>) -> Result<(), OutOfMemory>
+    ensures { OnOk result (into.new.items ≡ into.old.items ++ spaced (graph_counts graph.now)) }
+{
+    push_field(into, b"nodes")?;
+    push_number_field(into, u32::from(graph.nodes()))?;
+    push_field(into, b"edges")?;
+    push_number_field(into, u32::from(graph.edges()))
+}
+
+/// Appends the values of a best drawing.
+fn push_measures(best: &Drawing, into: &mut Vec<u8>) -> Result<(), OutOfMemory>
+    ensures { OnOk result (into.new.items ≡ into.old.items ++ spaced (best_measures best.now)) }
+{
+    let least = values(best);
+    push_field(into, b"height")?;
+    push_number_field(into, least.height)?;
+    push_field(into, b"width")?;
+    push_number_field(into, least.width)
+}
+
 /// Appends the counts of a graph and the values of its best drawing.
 fn push_best(graph: &PortGraph, best: &Drawing, into: &mut Vec<u8>) -> Result<(), OutOfMemory>
     ensures { OnOk result (into.new.items ≡ into.old.items ++ trial_end graph.now (Outcome.Best best.now)) }
 {
-    let least = values(best);
-    push_text(into, b" nodes ")?;
-    push_number(into, u64::from(graph.nodes()))?;
-    push_text(into, b" edges ")?;
-    push_number(into, u64::from(graph.edges()))?;
-    push_text(into, b" height ")?;
-    push_number(into, u64::from(least.height))?;
-    push_text(into, b" width ")?;
-    push_number(into, u64::from(least.width))
+    push_counts(graph, into)?;
+    push_measures(best, into)
 }
 
 /// Appends how a trial ended.
@@ -102,9 +117,9 @@ fn push_end(graph: &PortGraph, outcome: &Outcome, into: &mut Vec<u8>) -> Result<
 {
     match outcome {
         Outcome::Best(best) => push_best(graph, best, into),
-        Outcome::NoDrawing => push_text(into, b" none"),
-        Outcome::Spent { .. } => push_text(into, b" conflicts"),
-        Outcome::Room { .. } => push_text(into, b" room"),
+        Outcome::NoDrawing => push_field(into, b"none"),
+        Outcome::Spent { .. } => push_field(into, b"conflicts"),
+        Outcome::Room { .. } => push_field(into, b"room"),
     }
 }
 
@@ -117,9 +132,8 @@ fn line_of_trial(
 ) -> Result<Vec<u8>, OutOfMemory>
     ensures { IfOk result (λ line. line.items ≡ trial_line n graph.now outcome.now) }
 {
-    let mut line = Vec::new(alloc);
-    push_text(&mut line, b"trial ")?;
-    push_number(&mut line, u64::from(n))?;
+    let mut line = Vec::from_slice(alloc, b"trial")?;
+    push_number_field(&mut line, n)?;
     push_end(graph, outcome, &mut line)?;
     push_text(&mut line, b"\n")?;
     Ok(line)

@@ -7,7 +7,7 @@ use Rattle.schematic_main.specs.Met.{met_on}
 use Rattle.schematic_main.proofs.DueLemmas.{due_is_whole, due_unread, due_ends}
 use Rattle.schematic_main.proofs.LeavesLemmas.{leaves_fewer}
 use Rattle.schematic_main.proofs.MetLemmas.{reads_less}
-use Rattle.schematic_main.proofs.StatusLemmas.{cut_unrefused}
+use Rattle.schematic_main.proofs.StatusLemmas.{cut_unrefused, cut_ends}
 use Rattle.schematic_main.proofs.running.carry_out.Goals as goal
 
 -- ---- the text was put
@@ -72,3 +72,8 @@ returns-clause-unwritten g c = λ none.
       | inl refused ↦ absurd (cut_unrefused c.in-Err.cut (subst (λ (s : Status). IsRefused s) c.status.ensures refused))
       | inr nothing ↦ inr nothing
     ])
+
+-- ---- there was no text to put
+
+pub returns-clause-completes : goal.returns-clause-completes
+returns-clause-completes g c = λ command asked sound read written. cut_ends c.in-Err.cut c.status.result _ _ c.status.ensures c.in-Err.ensures.cause (λ fails. written (inr fails))
