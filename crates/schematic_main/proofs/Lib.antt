@@ -9,6 +9,7 @@ pub mod DrawnLemmas
 pub mod OwnLog
 pub mod PassesLemmas
 pub mod FiledLemmas
+pub mod FieldLemmas
 pub mod FormedRows
 pub mod InputLemmas
 pub mod VerdictLemmas

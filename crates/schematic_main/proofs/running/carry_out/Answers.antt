@@ -1,4 +1,4 @@
-use Rattle.std.proofs.Common.{sym, subst, inl, inr}
+use Rattle.std.proofs.Common.{Err, sym, ap, subst, inl, inr}
 use Rattle.plan_words.specs.Arguments.{texts_of}
 use Rattle.refute_log.specs.ToldTo.{told_to}
 use Rattle.schematic_main.specs.declared.status.Status.{Status}
@@ -76,4 +76,4 @@ returns-clause-unwritten g c = λ none.
 -- ---- there was no text to put
 
 pub returns-clause-completes : goal.returns-clause-completes
-returns-clause-completes g c = λ command asked sound read written. cut_ends c.in-Err.cut c.status.result _ _ c.status.ensures c.in-Err.ensures.cause (λ fails. written (inr fails))
+returns-clause-completes g c = λ command asked sound read written. cut_ends c.in-Err.cut c.status.result _ _ c.status.ensures (λ is. c.in-Err.ensures.cause (ap Err is)) (λ fails. written (inr fails))
