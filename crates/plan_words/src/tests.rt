@@ -94,7 +94,7 @@ fn answer_shown(alloc: Global, words: &[&str]) -> Result<String, Fail> {
     }
 }
 
-static CASES: [(&[&str], &str); 68] = [
+static CASES: [(&[&str], &str); 75] = [
     // Commands.
     (&["draw", "a"], "draw a 40 8 1 hbdw 50000 none none"),
     (
