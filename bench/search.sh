@@ -22,6 +22,7 @@ def queries(path):
     """for each query: the formula so far, what is assumed, our learnt lines, and how it ended"""
     formula, query, learnt = [], None, 0
     with open(path) as log:
+        next(log)
         for line in log:
             if line[0] == "f":
                 formula.append(line[2:])
