@@ -1,3 +1,4 @@
 pub mod Results
 pub mod Unchanged
 pub mod StreamLemmas
+pub mod WholeFileLemmas

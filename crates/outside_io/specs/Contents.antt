@@ -35,6 +35,11 @@ pub record MayCreate (name : List ℕ) (before after : Told) : Type 0 where
   pub either : (after name ≡ before name) ⊎ (after name ≡ Some [])
   pub others : SameElsewhere name before after
 
+-- the file stands as it stood, or is there with some of the bytes, from the first on, and no other changed
+pub record MaySet (name bytes : List ℕ) (before after : Told) : Type 0 where
+  pub either : (after name ≡ before name) ⊎ ((n : ℕ) × (after name ≡ Some (take n bytes)))
+  pub others : SameElsewhere name before after
+
 -- the file was there and has grown by the bytes, and no other changed
 pub record AppendsTo (name bytes : List ℕ) (before after : Told) : Type 0 where
   pub grown : (old : List ℕ) → before name ≡ Some old → after name ≡ Some (old ++ bytes)

@@ -3,7 +3,7 @@ ghost use Rattle.std.specs.Prelude.{◌≡◌, ◌≤◌, ◌++◌, List, ℕ, O
 ghost use Rattle.std.specs.declared.option.Option.{Option};
 ghost use Rattle.outside_io.specs.declared.files.FileFault.TheVariants.{Memory};
 ghost use Rattle.outside_io.specs.Counts.{IsCount, Rose, next_count};
-ghost use Rattle.outside_io.specs.Contents.{Told, WhereTold, SameFiles, Creates, MayCreate, AppendsTo, MayAppendTo, ReadsFront, Begins};
+ghost use Rattle.outside_io.specs.Contents.{Told, WhereTold, SameFiles, Sets, MaySet, Creates, MayCreate, AppendsTo, MayAppendTo, ReadsFront, Begins};
 
 use plan_core::OutOfMemory;
 use std::alloc::{AllocError, AllocFailed};
@@ -96,4 +96,18 @@ pub trait Files {
 
     /// No count passes its end.
     ghost counts_end: { (s : Self) → IsCount (read_faults s) × IsCount (write_faults s) × IsCount (reads s) };
+}
+
+/// Leaves a file of these bytes under the name, whether it was there or not. After an error the file stands as it
+/// stood, or has some of the bytes, from the first on. No other file is changed.
+pub fn write_file<F: Files>(files: &mut F, name: &str, bytes: &[u8]) -> Result<(), FileFault>
+    ensures ok { OnOk result (WhereTold (F.contents files.old) (F.contents files.new) (Sets name.now bytes.now)) }
+    ensures err { OnErr result (WhereTold (F.contents files.old) (F.contents files.new) (MaySet name.now bytes.now)) }
+    ensures later { F.write_faults files.old ≤ F.write_faults files.new }
+    ensures cause { IsErrOf result FileFault.Failed → Rose (F.write_faults files.old) (F.write_faults files.new) }
+    ensures read_faults { F.read_faults files.new ≡ F.read_faults files.old }
+    ensures reads { F.reads files.new ≡ F.reads files.old }
+{
+    files.create(name)?;
+    files.append(name, bytes)
 }

@@ -25,7 +25,7 @@ mod streams;
 mod sure_files;
 mod sure_sink;
 
-pub use files::{FileFault, Files};
+pub use files::{FileFault, Files, write_file};
 pub use host_files::HostFiles;
 pub use host_out::HostOut;
 pub use memory_files::MemoryFiles;

@@ -1,8 +1,8 @@
 -- A log in a file: what its state tells, and what stands in the file at the end.
-use Rattle.std.specs.Prelude.{◌≡◌, ◌≤◌, ℕ, Bool, true, false, List, ◌++◌, ◌⊎◌, take, None, Some, ⊤, string_bytes, refl}
+use Rattle.std.specs.Prelude.{◌≡◌, ◌≤◌, ℕ, Bool, true, false, List, ◌++◌, None, Some, ⊤, string_bytes, refl}
 use Rattle.std.specs.declared.option.Option.{Option}
 use Rattle.std.proofs.Common.{◌∙◌, sym, ap}
-use Rattle.outside_io.specs.Contents.{Told, WhereTold, SameElsewhere}
+use Rattle.outside_io.specs.Contents.{Told, WhereTold, SameElsewhere, MaySet}
 use Rattle.outside_io.specs.Counts.{Rose}
 use Rattle.refute_log.specs.declared.file_log.Gathered.{Gathered}
 use Rattle.refute_log.specs.declared.sink.LogSinkFault.{LogSinkFault}
@@ -67,14 +67,9 @@ abbrev pub HasText : Option Told → List ℕ → Lines → Type 0
 HasText None name lines = ⊥
 HasText (Some told) name lines = told name ≡ Some (log_text lines)
 
--- the file stands as it stood, or holds the first line or a front of it, and no other changed
-pub record MayStart (name : List ℕ) (before after : Told) : Type 0 where
-  pub either : (after name ≡ before name) ⊎ ((n : ℕ) × (after name ≡ Some (take n header)))
-  pub others : SameElsewhere name before after
-
 -- the files after a log that couldn't be started
 pub record StartFails {F : Type 0} (contents : F → Option Told) (write_faults : F → ℕ) (name : List ℕ) (before : F) (fault : LogSinkFault) (after : F) : Type 0 where
-  pub file : WhereTold (contents before) (contents after) (MayStart name)
+  pub file : WhereTold (contents before) (contents after) (MaySet name header)
   pub later : write_faults before ≤ write_faults after
   pub cause : fault ≡ Failed → Rose (write_faults before) (write_faults after)
 

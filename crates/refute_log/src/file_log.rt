@@ -3,10 +3,10 @@ ghost use Rattle.std.specs.Prelude.{◌≡◌, ◌≤◌, [], false, OnOk, OnErr
 ghost use Rattle.outside_io.specs.Counts.{Rose};
 ghost use Rattle.outside_io.specs.Contents.{WhereTold, SameElsewhere, Sets};
 ghost use Rattle.refute_log.specs.Lines.{header};
-ghost use Rattle.refute_log.specs.FileLog.{MayStart, StartFails};
+ghost use Rattle.refute_log.specs.FileLog.{StartFails};
 
 use crate::{LogLine, LogSink, LogSinkFault, write_line};
-use outside_io::{FileFault, Files};
+use outside_io::{FileFault, Files, write_file};
 use std::alloc::Global;
 
 /// How many bytes are gathered, at least, before they go into the file.
@@ -42,19 +42,6 @@ fn fault_of(fault: FileFault) -> LogSinkFault
     }
 }
 
-/// The file with the first line.
-fn begin<F: Files>(files: &mut F, name: &str) -> Result<(), FileFault>
-    ensures ok { OnOk result (WhereTold (F.contents files.old) (F.contents files.new) (Sets name.now header)) }
-    ensures err { OnErr result (WhereTold (F.contents files.old) (F.contents files.new) (MayStart name.now)) }
-    ensures later { F.write_faults files.old ≤ F.write_faults files.new }
-    ensures cause { IsErrOf result FileFault.Failed → Rose (F.write_faults files.old) (F.write_faults files.new) }
-    ensures read_faults { F.read_faults files.new ≡ F.read_faults files.old }
-    ensures reads { F.reads files.new ≡ F.reads files.old }
-{
-    files.create(name)?;
-    files.append(name, b"railplan-log 1\n")
-}
-
 /// Makes room for what the log keeps, and then the file with its first line.
 fn prepare<F: Files>(alloc: Global, files: &mut F, name: &str) -> Result<Gathered, LogSinkFault>
     ensures kept { IfOk result (λ k. (string_bytes k.name ≡ name.now) × (k.learnt ≡ 0) × (k.failed ≡ false) × (k.bytes.items ≡ [])) }
@@ -65,7 +52,7 @@ fn prepare<F: Files>(alloc: Global, files: &mut F, name: &str) -> Result<Gathere
     ensures reads { F.reads files.new ≡ F.reads files.old }
 {
     let copy = String::from_str(alloc, name)?;
-    match begin(files, name) {
+    match write_file(files, name, b"railplan-log 1\n") {
         Ok(()) => Ok(Gathered {
             name: copy,
             bytes: Vec::new(alloc),

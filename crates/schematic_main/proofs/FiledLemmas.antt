@@ -3,14 +3,14 @@ use Rattle.std.proofs.Common.{◌≡◌, ◌⊎◌, ℕ, List, [], ◌∷◌, �
 use Rattle.std.specs.Prelude.{Result, Ok, Err, IsErrOf}
 use Rattle.std.specs.declared.option.Option.{Option}
 use Rattle.std.proofs.lemmas.List.{take-append-drop}
-use Rattle.outside_io.specs.Contents.{Told, WhereTold, SameFiles, SameElsewhere, Sets}
+use Rattle.outside_io.specs.Contents.{Told, WhereTold, SameFiles, SameElsewhere, Sets, MaySet}
 use Rattle.outside_io.specs.Counts.{Rose}
 use Rattle.refute_log.specs.declared.file_log.Gathered.{Gathered}
 use Rattle.refute_log.specs.declared.sink.LogSinkFault.{LogSinkFault}
 use Rattle.refute_log.specs.declared.sink.LogSinkFault.TheVariants as faults
 use Rattle.refute_log.specs.Lines.{header}
 use Rattle.refute_log.specs.Told.{Lines}
-use Rattle.refute_log.specs.FileLog.{IsTold, TellsLines, KeepsLog, StillKeeps, FileBeginsLog, MayStart, HasText, name_of}
+use Rattle.refute_log.specs.FileLog.{IsTold, TellsLines, KeepsLog, StillKeeps, FileBeginsLog, HasText, name_of}
 use Rattle.refute_log.proofs.FrontLemmas.{kept_begins}
 use Rattle.refute_log.specs.Told.{AddsAll}
 use Rattle.track_order.specs.Order.{EdgeOrder}
@@ -73,12 +73,12 @@ left_begun (Some a) (Some b) (Some c) name kept now keeps named still later =
     inr (subst (FileBeginsLog c) (still ∙ named) (kept_begins now.failed c (name_of now) now.bytes.items (later keeps)))
 
 -- a log that couldn't be started
-pub others_unstarted : (old new : Option Told) (name : List ℕ) → WhereTold old new (MayStart name) → WhereTold old new (SameElsewhere name)
+pub others_unstarted : (old new : Option Told) (name : List ℕ) → WhereTold old new (MaySet name header) → WhereTold old new (SameElsewhere name)
 others_unstarted None new name start = tt
 others_unstarted (Some a) None name start = absurd start
 others_unstarted (Some a) (Some b) name start = start.others
 
-pub begun_unstarted : (old new : Option Told) (name : List ℕ) → WhereTold old new (MayStart name) → WhereTold old new (λ before after. (after name ≡ before name) ⊎ FileBeginsLog after name)
+pub begun_unstarted : (old new : Option Told) (name : List ℕ) → WhereTold old new (MaySet name header) → WhereTold old new (λ before after. (after name ≡ before name) ⊎ FileBeginsLog after name)
 begun_unstarted None new name start = tt
 begun_unstarted (Some a) None name start = absurd start
 begun_unstarted (Some a) (Some b) name start = elim start.either as (λ _. (b name ≡ a name) ⊎ FileBeginsLog b name) [

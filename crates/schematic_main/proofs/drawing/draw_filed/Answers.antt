@@ -1,9 +1,9 @@
 use Rattle.std.proofs.Common.{rules, ◌≡◌, ◌⊎◌, ℕ, List, ◌∙◌, subst}
-use Rattle.outside_io.specs.Contents.{WhereTold, SameElsewhere, Sets}
+use Rattle.outside_io.specs.Contents.{WhereTold, SameElsewhere, Sets, MaySet}
 use Rattle.outside_io.specs.Counts.{Rose}
 use Rattle.refute_log.specs.Lines.{header}
 use Rattle.refute_log.specs.Told.{Lines}
-use Rattle.refute_log.specs.FileLog.{FileBeginsLog, MayStart}
+use Rattle.refute_log.specs.FileLog.{FileBeginsLog}
 use Rattle.schematic_main.specs.SearchLog.{HoldsLog}
 use Rattle.schematic_main.proofs.DrawnLemmas.{drawn_told_so}
 use Rattle.schematic_main.proofs.FiledLemmas.{at_end, filed_cause, filed_holds, filed_others, filed_begun, left_begun, others_unstarted, begun_unstarted}
@@ -97,7 +97,7 @@ returns-in-Err-clause-others g c =
     let old = at c.args.files.now in
     let fails = c.in-Err.ensures.err in
     at_end {X = g.row.F.Denot} (λ s. WhereTold old (at s) (SameElsewhere c.args.name.now)) c.in-Err._files.now _
-    (others_unstarted old (at c.in-Err._files.now) c.args.name.now (subst (λ (n : List ℕ). WhereTold old (at c.in-Err._files.now) (MayStart n)) c.as_str.ensures fails.file))
+    (others_unstarted old (at c.in-Err._files.now) c.args.name.now (subst (λ (n : List ℕ). WhereTold old (at c.in-Err._files.now) (MaySet n header)) c.as_str.ensures fails.file))
     (search rules)
 
 pub returns-in-Err-clause-begun : goal.returns-in-Err-clause-begun
@@ -107,5 +107,5 @@ returns-in-Err-clause-begun g c =
     let name = c.args.name.now in
     let fails = c.in-Err.ensures.err in
     at_end {X = g.row.F.Denot} (λ s. WhereTold old (at s) (λ x y. (y name ≡ x name) ⊎ FileBeginsLog y name)) c.in-Err._files.now _
-    (begun_unstarted old (at c.in-Err._files.now) name (subst (λ (n : List ℕ). WhereTold old (at c.in-Err._files.now) (MayStart n)) c.as_str.ensures fails.file))
+    (begun_unstarted old (at c.in-Err._files.now) name (subst (λ (n : List ℕ). WhereTold old (at c.in-Err._files.now) (MaySet n header)) c.as_str.ensures fails.file))
     (search rules)
