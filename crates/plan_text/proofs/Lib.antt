@@ -11,3 +11,4 @@ pub mod SheetAgain
 pub mod LineAgain
 pub mod SheetLaws
 pub mod WrittenSheet
+pub mod ShortSheet

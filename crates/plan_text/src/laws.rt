@@ -1,8 +1,10 @@
 // Laws of the sheet's text. The functions change nothing: their contracts are the laws.
-ghost use Rattle.std.specs.Prelude.{◌≡◌, ◌<◌, ℕ, Bool, true, false, List, length, All, IfSome};
+ghost use Rattle.std.specs.Prelude.{◌≡◌, ◌<◌, ◌≤◌, ℕ, Bool, true, false, List, length, All, IfSome};
 ghost use Rattle.std.specs.Option.{is_some};
+ghost use Rattle.plan_core.specs.declared.limits.TheConstants.{MAX_FILE_BYTES};
 ghost use Rattle.plan_core.specs.Line.{is_line};
 ghost use Rattle.plan_core.specs.Graph.{Graph, node, edge};
+ghost use Rattle.port_graph.specs.StationGraph.{IsStationGraph};
 ghost use Rattle.plan_text.specs.declared.sheet_fault.SheetWhat.{SheetWhat};
 ghost use Rattle.plan_text.specs.SheetLine.{IsName};
 ghost use Rattle.plan_text.specs.SheetText.{Sheet as PlainSheet, DrawsAll, DrawsOnGrid, StatesSettled, sheet_text, first_sheet_text};
@@ -27,6 +29,11 @@ pub fn one_sheet_fault()
 /// A text is that of one sheet at most.
 pub fn one_sheet()
     ensures { (g : Graph) (needs_drawing : Bool) (text : List ℕ) (a b : PlainSheet) → IsSheetText g needs_drawing text a → IsSheetText g needs_drawing text b → a ≡ b }
+{}
+
+/// No text of a sheet of a station is too long to be read.
+pub fn sheets_are_short()
+    ensures { (g : Graph) (needs_drawing : Bool) (text : List ℕ) (s : PlainSheet) → IsStationGraph g → IsSheetText g needs_drawing text s → length text ≤ MAX_FILE_BYTES }
 {}
 
 /// Each node has a name that is one field.
@@ -57,12 +64,14 @@ fn lines(found: &Option<Drawing>)
 }
 
 /// What `write_sheet` may write is read again as the same sheet: its text, of either edition, is that of the
-/// sheet, with a drawing also where one is due. The first edition stands for least length 1.
+/// sheet, with a drawing also where one is due. The first edition stands for least length 1. And what is written
+/// isn't too long to be read.
 pub fn written_is_read(g: &PortGraph, s: &Sheet)
     requires draws_all { DrawsAll g.now s.now }
     requires on_grid { DrawsOnGrid s.now }
     requires settled { StatesSettled s.now.order (is_some s.now.found) s.now.ending }
     ensures text { IsSheetText g.now false (sheet_text g.now s.now) s.now }
+    ensures short { length (sheet_text g.now s.now) ≤ MAX_FILE_BYTES }
     ensures drawn { is_some s.now.found ≡ true → IsSheetText g.now true (sheet_text g.now s.now) s.now }
     ensures first { s.now.grid.least ≡ 1 → IsSheetText g.now false (first_sheet_text g.now s.now) s.now }
     ensures first_drawn { s.now.grid.least ≡ 1 → is_some s.now.found ≡ true → IsSheetText g.now true (first_sheet_text g.now s.now) s.now }

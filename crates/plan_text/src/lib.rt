@@ -4,7 +4,7 @@
 //! `Sheet`: the grid, the order of criteria, the drawing that was found, and how the search ended.
 //! A sheet has two editions of text; `write_sheet` writes the second, and `read_sheet` and `read_drawing` read
 //! both again, or answer the first line with a fault. `laws` says that a text is that of one sheet or has one
-//! first fault, and that what is written is read again.
+//! first fault, that a sheet's text is never too long to be read, and that what is written is read again.
 //! `write_svg` appends the picture of a drawing.
 //! `specs/GraphText`, `specs/SheetText` and `specs/SvgText` have the texts, `specs/SheetLine` the forms of a sheet's lines,
 //! `specs/SheetFaults` their faults and `specs/SheetWhats` the faults' numbers and words;
@@ -31,7 +31,7 @@ mod svg;
 pub use edition::Edition;
 pub use ending::Ending;
 pub use graph_text::write_graph;
-pub use laws::{one_sheet, one_sheet_fault, sheet_or_fault, written_is_read};
+pub use laws::{one_sheet, one_sheet_fault, sheet_or_fault, sheets_are_short, written_is_read};
 pub use sheet::Sheet;
 pub use sheet_fault::{SheetFault, SheetWhat};
 pub use sheet_reading::{read_drawing, read_sheet};

@@ -2,6 +2,8 @@ use Rattle.std.proofs.Common.{true, false, subst}
 use Rattle.std.proofs.lemmas.Bool.{false≢true}
 use Rattle.plan_text.specs.declared.edition.Edition.TheVariants.{First, Second}
 use Rattle.plan_text.proofs.WrittenSheet.{IsKept, IsWritable, written}
+use Rattle.plan_text.specs.SheetText.{sheet_text}
+use Rattle.plan_text.proofs.ShortSheet.{short_sheet}
 use Rattle.plan_text.proofs.laws.written_is_read.Goals as goal
 
 writable : (c : goal.After-width) → IsWritable c.args.g.now c.args.s.now
@@ -17,6 +19,12 @@ writable c = record {
 
 pub returns-clause-text : goal.returns-clause-text
 returns-clause-text c = written Second c.args.g.now c.args.s.now false tt (writable c) (λ e. absurd (false≢true e))
+
+pub returns-clause-short : goal.returns-clause-short
+returns-clause-short c =
+    let g = c.args.g.now in
+    let s = c.args.s.now in
+    short_sheet g false (sheet_text g s) s c.nodes.ensures.station (written Second g s false tt (writable c) (λ e. absurd (false≢true e)))
 
 pub returns-clause-drawn : goal.returns-clause-drawn
 returns-clause-drawn c = λ drawn. written Second c.args.g.now c.args.s.now true tt (writable c) (λ e. drawn)
