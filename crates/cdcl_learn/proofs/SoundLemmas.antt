@@ -24,11 +24,12 @@ level_zero (n ∷ cuts) i h = sym (level_take (n ∷ cuts) zero i (λ k _ lt. h 
 stands_there : (m : Marks) (i : ℕ) → i < length m.lits → get_or m.lits i (get_or m.lits i (literal 0 true)) ≡ get_or m.lits i (literal 0 true)
 stands_there m i lt = sym (get_or_default m.lits i (literal 0 true) (get_or m.lits i (literal 0 true)) lt)
 
-pub sound_sight : (a : Attached) (m : Marks) → a.vars ≡ m.vars → AreAttached a → IsMarks m → AreReasoned a m → IsSound (sight a m)
-sound_sight a m vars attached marks reasoned = record {
+-- the levels, reasons and clauses are sound
+pub sound_texts : (a : Attached) (m : Marks) → ((p : ℕ) → Contains a.places p → AreThere m.vars (attached_at a p)) → IsMarks m → AreReasoned a m → IsSound (sight a m)
+sound_texts a m texts marks reasoned = record {
   distinct = marks.distinct;
   there = marks.there;
-  clauses = λ p at. let c = attached p at in subst (λ n. AreThere n (attached_at a p)) vars c.there;
+  clauses = texts;
   present = λ i lt. subst (λ n. n ≤ length m.cuts) (sym (marks.levels i (literal 0 true) lt)) (level_most m.cuts i);
   rise = λ i j lt within.
       subst (λ n. n ≤ get_or m.levels (get_or m.lits j (literal 0 true)).var 0) (sym (marks.levels i (literal 0 true) (omega arith)))
@@ -55,6 +56,9 @@ sound_sight a m vars attached marks reasoned = record {
   where
     differ : (p q : ℕ) → p < q → p ≡ q → ⊥
     differ p q lt e = absurd (omega arith)
+
+pub sound_sight : (a : Attached) (m : Marks) → a.vars ≡ m.vars → AreAttached a → IsMarks m → AreReasoned a m → IsSound (sight a m)
+sound_sight a m vars attached marks reasoned = sound_texts a m (λ p at. let c = attached p at in subst (λ n. AreThere n (attached_at a p)) vars c.there) marks reasoned
 
 -- the reason of a false literal is a clause
 pub reason_place : (a : Attached) (m : Marks) (l : Literal) (p : ℕ) → AreReasoned a m → IsIn (has m.lits) (negate l) → get_or m.reasons l.var 0 ≡ p → 1 ≤ p → Contains a.places p

@@ -10,7 +10,7 @@ use Rattle.std.proofs.lemmas.List.Sums.{sum_by-set, sum_by-le, sum_by-cons, sum_
 use Rattle.std.proofs.lemmas.List.Folds.{sum_by-replicate}
 use Rattle.cnf_core.specs.Lit.{Literal}
 use Rattle.cnf_core.specs.Trail.{weight}
-use Rattle.cdcl_learn.specs.Cut.{Cut, cut_of, is_seen, IsWork, with_open, with_lower}
+use Rattle.cdcl_learn.specs.Cut.{Cut, working_cut, is_seen, IsWork, with_open, with_lower}
 use Rattle.cdcl_learn.proofs.CountLemmas.{seen_cases, seen_keeps, seen_same}
 
 weight_small : (b : Bool) → weight b ≤ 1
@@ -69,13 +69,13 @@ work_more vars seen touched count rest len pending v now more some w le un size 
       few = few;
     }
 
-pub open_view : (vars : ℕ) (seen : List Bool) (touched : List ℕ) (count : ℕ) (rest : List Literal) (len pending v : ℕ) (k : Literal) (w : Cut) → cut_of vars seen touched count rest len pending ≡ w → v ≡ k.var → count < length touched → cut_of vars (set seen v true) (set touched count v) (count + 1) rest len (pending + 1) ≡ with_open w k
+pub open_view : (vars : ℕ) (seen : List Bool) (touched : List ℕ) (count : ℕ) (rest : List Literal) (len pending v : ℕ) (k : Literal) (w : Cut) → working_cut vars seen touched count rest len pending ≡ w → v ≡ k.var → count < length touched → working_cut vars (set seen v true) (set touched count v) (count + 1) rest len (pending + 1) ≡ with_open w k
 open_view vars seen touched count rest len pending v k w e same lt =
     ap (λ (ns : List ℕ). let c : Cut = record { vars = vars; seen = set seen v true; met = ns; rest = take len rest; pending = pending + 1 } in c) (take_more_set touched count v lt)
     ∙ ap (λ x. let c : Cut = record { vars = vars; seen = set seen x true; met = take count touched ++ x ∷ []; rest = take len rest; pending = pending + 1 } in c) same
     ∙ ap (λ (c : Cut). with_open c k) e
 
-pub lower_view : (vars : ℕ) (seen : List Bool) (touched : List ℕ) (count : ℕ) (rest : List Literal) (len pending v : ℕ) (k : Literal) (w : Cut) → cut_of vars seen touched count rest len pending ≡ w → v ≡ k.var → count < length touched → len < length rest → cut_of vars (set seen v true) (set touched count v) (count + 1) (set rest len k) (len + 1) pending ≡ with_lower w k
+pub lower_view : (vars : ℕ) (seen : List Bool) (touched : List ℕ) (count : ℕ) (rest : List Literal) (len pending v : ℕ) (k : Literal) (w : Cut) → working_cut vars seen touched count rest len pending ≡ w → v ≡ k.var → count < length touched → len < length rest → working_cut vars (set seen v true) (set touched count v) (count + 1) (set rest len k) (len + 1) pending ≡ with_lower w k
 lower_view vars seen touched count rest len pending v k w e same met lt =
     ap (λ (ls : List Literal). let c : Cut = record { vars = vars; seen = set seen v true; met = take (count + 1) (set touched count v); rest = ls; pending = pending } in c) (take_more_set rest len k lt)
     ∙ ap (λ (ns : List ℕ). let c : Cut = record { vars = vars; seen = set seen v true; met = ns; rest = take len rest ++ k ∷ []; pending = pending } in c) (take_more_set touched count v met)
@@ -160,7 +160,7 @@ pub record MetFacts (w : Cut) (count : ℕ) : Type 0 where
   pub all : (v : ℕ) → is_seen w.seen v ≡ true → Contains w.met v
   pub apart : (i j : ℕ) → i < j → j < length w.met → get_or w.met i 0 ≡ get_or w.met j 0 → ⊥
 
-pub met_facts : (vars : ℕ) (seen : List Bool) (touched : List ℕ) (count : ℕ) (rest : List Literal) (len pending : ℕ) (w : Cut) → cut_of vars seen touched count rest len pending ≡ w → IsWork vars seen touched count rest len pending → MetFacts w count
+pub met_facts : (vars : ℕ) (seen : List Bool) (touched : List ℕ) (count : ℕ) (rest : List Literal) (len pending : ℕ) (w : Cut) → working_cut vars seen touched count rest len pending ≡ w → IsWork vars seen touched count rest len pending → MetFacts w count
 met_facts vars seen touched count rest len pending w e k = subst (λ (c : Cut). MetFacts c count) e facts
   where
     size : length (take count touched) ≡ count
@@ -169,7 +169,7 @@ met_facts vars seen touched count rest len pending w e k = subst (λ (c : Cut). 
         let all = k.touched_size in
         length-take-le count touched (omega arith)
 
-    facts : MetFacts (cut_of vars seen touched count rest len pending) count
+    facts : MetFacts (working_cut vars seen touched count rest len pending) count
     facts =
         let few = work_few vars seen touched count rest len pending k in
         let s = size in
@@ -234,5 +234,5 @@ pub rest_wide : (vars : ℕ) (seen : List Bool) (touched : List ℕ) (count : �
 rest_wide vars seen touched count rest len pending n x w = take-append-le len rest (replicate n x) (rest_short vars seen touched count rest len pending w)
 
 -- how many literals of lower levels there are
-pub rest_len : (vars : ℕ) (seen : List Bool) (touched : List ℕ) (count : ℕ) (rest : List Literal) (len pending : ℕ) (w : Cut) → cut_of vars seen touched count rest len pending ≡ w → IsWork vars seen touched count rest len pending → len ≡ length w.rest
+pub rest_len : (vars : ℕ) (seen : List Bool) (touched : List ℕ) (count : ℕ) (rest : List Literal) (len pending : ℕ) (w : Cut) → working_cut vars seen touched count rest len pending ≡ w → IsWork vars seen touched count rest len pending → len ≡ length w.rest
 rest_len vars seen touched count rest len pending w e k = sym (ap (λ (c : Cut). length c.rest) (sym e) ∙ length-take-le len rest (rest_short vars seen touched count rest len pending k))

@@ -136,8 +136,8 @@ pub record IsConflict (s : Sight) (p : ℕ) : Type 0 where
   pub present : level_of s lit ≡ s.level
   pub above : 0 < s.level
 
-abbrev pub cut_of : ℕ → List Bool → List ℕ → ℕ → List Literal → ℕ → ℕ → Cut
-cut_of vars seen touched count rest len pending = record { vars = vars; seen = seen; met = take count touched; rest = take len rest; pending = pending }
+abbrev pub working_cut : ℕ → List Bool → List ℕ → ℕ → List Literal → ℕ → ℕ → Cut
+working_cut vars seen touched count rest len pending = record { vars = vars; seen = seen; met = take count touched; rest = take len rest; pending = pending }
 
 -- each seen variable stands once among those that were touched
 pub record IsWork (vars : ℕ) (seen : List Bool) (touched : List ℕ) (count : ℕ) (rest : List Literal) (len pending : ℕ) : Type 0 where

@@ -51,10 +51,6 @@ pub record IsTraced (s : Sight) (first : Literal) (rest : List Literal) : Type 0
 abbrev pub HasDecisions : Sight → List Literal → Type 0
 HasDecisions s c = (k : Literal) → IsIn (has s.lits) k → reason_of s k ≡ 0 → 0 < level_of s k → Contains c (negate k)
 
--- each decided literal is one of the query
-abbrev pub AreAssumed : Sight → List Literal → Type 0
-AreAssumed s query = (k : Literal) → IsIn (has s.lits) k → reason_of s k ≡ 0 → 0 < level_of s k → Contains query k
-
 -- the clause that tracing a false literal back leaves
 abbrev pub IsTracedOf : Sight → Literal → List Literal → Type 0
 IsTracedOf s l [] = ⊥

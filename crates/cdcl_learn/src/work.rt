@@ -31,11 +31,11 @@ pub struct Work {
 }
 
 impl Model for Work {
-    ghost use Rattle.cdcl_learn.specs.Cut.{Cut, cut_of, IsWork};
+    ghost use Rattle.cdcl_learn.specs.Cut.{Cut, working_cut, IsWork};
 
     ghost Value = { Cut };
 
-    ghost view = { λ w. cut_of w.vars w.seen.items w.touched.items w.count w.rest.items w.len w.pending };
+    ghost view = { λ w. working_cut w.vars w.seen.items w.touched.items w.count w.rest.items w.len w.pending };
 
     ghost invariant = { λ w. IsWork w.vars w.seen.items w.touched.items w.count w.rest.items w.len w.pending };
 }

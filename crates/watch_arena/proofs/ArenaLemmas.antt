@@ -18,7 +18,7 @@ use Rattle.cnf_core.specs.Times.{times}
 use Rattle.watch_arena.specs.Chains.{Path, HasChains}
 use Rattle.watch_arena.specs.Trail.{Marks}
 use Rattle.cnf_core.specs.Trail.{Grows}
-use Rattle.watch_arena.specs.Walk.{lit_at, lits_upto, lits_at, IsWatched, IsLinked, IsMade, IsClash, Closes, Clashes, KeepsLits, AreRight, past_of}
+use Rattle.watch_arena.specs.Walk.{lit_at, lits_upto, lits_at, IsWatched, IsLinked, HasWalked, IsClash, Closes, Clashes, KeepsLits, AreRight, past_of}
 use Rattle.watch_arena.specs.Arena.{Attached, attached_of, attached_at, attached_clauses, watch_at, IsArena, AreWatched, AreReasoned, AreBecause, AreAttached, IsSameText, IsMoreText, MayBeWatched, IsClashOf}
 use Rattle.watch_arena.proofs.WordLemmas.{lit_there, word_there, bounds}
 use Rattle.watch_arena.proofs.TextLemmas.{upto_in, text_of, same_lits, upto_length, upto_get, kept_lits, all_false}
@@ -96,7 +96,7 @@ pub record IsPropagated (old new : Attached) (m now : Marks) : Type 0 where
   pub grows : Grows (attached_clauses old) m.lits now.lits
 
 pub propagated : (old : Attached) (vars room visits after : ℕ) (ws places given_words given_places new got then : List ℕ) (m now : Marks) → attached_of vars room ws places visits ≡ old → given_words ≡ ws → given_places ≡ places → got ≡ new → length new ≡ length given_words →
-    IsMade m now given_words new given_places → IsWatched now new then given_places (past_of now) → IsPropagated old (attached_of vars room got places after) m now
+    HasWalked m now given_words new given_places → IsWatched now new then given_places (past_of now) → IsPropagated old (attached_of vars room got places after) m now
 propagated old vars room visits after ws places given_words given_places new got then m now e words places_same items size made k =
     subst (λ (o : Attached). IsPropagated o (attached_of vars room got places after) m now) e
     (subst (λ (w : List ℕ). IsPropagated (attached_of vars room w places visits) (attached_of vars room got places after) m now) words

@@ -11,15 +11,15 @@ use Rattle.cnf_core.proofs.TrailLemmas.{distinct_consistent}
 use Rattle.watch_arena.specs.Words.{arena_word, lit_of, other_of}
 use Rattle.watch_arena.specs.Trail.{Marks, IsMarks, IsLonger, advanced}
 use Rattle.cnf_core.specs.Trail.{Grows}
-use Rattle.watch_arena.specs.Walk.{lit_at, past_of, IsTrueNoLater, IsClauseAt, HoldsClauses, KeepsClauses, IsWatched, IsMade, IsClash, KeepsLits, Closes, Clashes, IsReasoned}
+use Rattle.watch_arena.specs.Walk.{lit_at, past_of, IsTrueNoLater, IsClauseAt, HoldsClauses, KeepsClauses, IsWatched, HasWalked, IsClash, KeepsLits, Closes, Clashes, IsReasoned}
 use Rattle.watch_arena.proofs.ReasonLemmas.{text_kept, reasoned_text, reason_kept, reason_grown, none_because}
 use Rattle.cnf_core.proofs.GrowthLemmas.{grows_none, grows_more}
 use Rattle.watch_arena.proofs.WalkLemmas.{longer_none, longer_more}
 
-pub made_none : (m : Marks) (ws places : List ℕ) → IsMade m m ws ws places
+pub made_none : (m : Marks) (ws places : List ℕ) → HasWalked m m ws ws places
 made_none m ws places = record { longer = longer_none m; propagated = omega arith; because = none_because m ws places; grows = λ clauses t. grows_none clauses m.lits; text = λ p c d is. is; reasoned = λ r. r; reasons = λ i d lt. refl }
 
-pub made_more : (old mid new : Marks) (ws then now places : List ℕ) → IsMade old mid ws then places → IsMade mid new then now places → IsMade old new ws now places
+pub made_more : (old mid new : Marks) (ws then now places : List ℕ) → HasWalked old mid ws then places → HasWalked mid new then now places → HasWalked old new ws now places
 made_more old mid new ws then now places a b = record {
   longer = longer_more old mid new a.longer b.longer;
   propagated = let x = a.propagated in let y = b.propagated in omega arith;
@@ -101,7 +101,7 @@ module _ (m : Marks) (ws heads places : List ℕ) (marks : IsMarks m) (k : IsWat
       let two = b.two in
       clause_unfalsified (has m.lits) ws d.0 f.clause d.2 two (b.distinct 0 1 (omega arith) (omega arith) (omega arith)) (distinct_consistent m.lits marks.distinct) (first_true d.0 d.1) (second_true d.0 d.1) f.each
 
-pub watched_closes : (old new : Marks) (start ws heads places : List ℕ) → IsMarks new → IsMade old new start ws places → IsWatched new ws heads places (past_of new) → new.front ≡ length new.lits → Closes places start old.lits new.lits
+pub watched_closes : (old new : Marks) (start ws heads places : List ℕ) → IsMarks new → HasWalked old new start ws places → IsWatched new ws heads places (past_of new) → new.front ≡ length new.lits → Closes places start old.lits new.lits
 watched_closes old new start ws heads places marks made k all = λ clauses t.
     let now = text_kept clauses start ws places made.text t in
     let grown = made.grows clauses t in
@@ -113,7 +113,7 @@ watched_closes old new start ws heads places marks made k all = λ clauses t.
       unfalsified = watched_unfalsified new ws heads places marks k all clauses now;
     }
 
-pub clash_clashes : (old new : Marks) (start ws places : List ℕ) (p : ℕ) → IsMade old new start ws places → IsClash ws places (has new.lits) p → Clashes places start old.lits
+pub clash_clashes : (old new : Marks) (start ws places : List ℕ) (p : ℕ) → HasWalked old new start ws places → IsClash ws places (has new.lits) p → Clashes places start old.lits
 clash_clashes old new start ws places p made clash = λ clauses t.
     let now = text_kept clauses start ws places made.text t in
     let grown : Grows clauses old.lits new.lits = made.grows clauses t in
@@ -129,7 +129,7 @@ clash_clashes old new start ws places p made clash = λ clauses t.
     falsified : (k : Literal) → (n : ℕ) × (n < arena_word ws p) × (lit_at ws (p + 3 + n) ≡ k) → IsIn (has new.lits) (negate k)
     falsified k n = subst (λ (l : Literal). IsIn (has new.lits) (negate l)) n.2 (clash.false_all n.0 n.1)
 
-pub made_text : (old new : Marks) (ws then now places : List ℕ) → IsMade old new ws then places → KeepsClauses places then now → IsMade old new ws now places
+pub made_text : (old new : Marks) (ws then now places : List ℕ) → HasWalked old new ws then places → KeepsClauses places then now → HasWalked old new ws now places
 made_text old new ws then now places a t = record {
   longer = a.longer;
   propagated = a.propagated;
@@ -140,7 +140,7 @@ made_text old new ws then now places a t = record {
   reasons = a.reasons;
 }
 
-pub made_advanced : (old new : Marks) (ws now places : List ℕ) → IsMade old new ws now places → IsMade old (advanced new) ws now places
+pub made_advanced : (old new : Marks) (ws now places : List ℕ) → HasWalked old new ws now places → HasWalked old (advanced new) ws now places
 made_advanced old new ws now places a =
     let l : IsLonger old new = a.longer in
     record { longer = record { vars = l.vars; cuts = l.cuts; front = l.front; longer = l.longer; keeps = l.keeps }; propagated = let x = a.propagated in omega arith; because = a.because; grows = a.grows; text = a.text; reasoned = λ r. let x : IsReasoned new now places = a.reasoned r in record { reason = x.reason; decided = x.decided; begins = x.begins }; reasons = a.reasons }

@@ -140,7 +140,7 @@ abbrev pub AddsReasons : Marks → Marks → List ℕ → List ℕ → Type 0
 AddsReasons old new ws places = (i : ℕ) (d : Literal) → length old.lits ≤ i → i < length new.lits → IsReasonFor ws places (take i new.lits) (slice_index_or new.lits i d) (slice_index new.reasons (slice_index_or new.lits i d).var)
 
 -- what a walk adds to the trail, and leaves of the words
-pub record IsMade (old new : Marks) (ws now places : List ℕ) : Type 0 where
+pub record HasWalked (old new : Marks) (ws now places : List ℕ) : Type 0 where
   pub longer : IsLonger old new
   pub propagated : old.front ≤ new.front
   pub because : AddsReasons old new now places

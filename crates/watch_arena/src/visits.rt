@@ -3,7 +3,7 @@ ghost use Rattle.std.specs.Prelude.{◌≡◌, ◌≢◌, ◌≤◌, ◌<◌, �
 ghost use Rattle.cnf_core.specs.Lit.{negate, literal_at, has};
 ghost use Rattle.cnf_core.specs.Propagation.{IsIn};
 ghost use Rattle.watch_arena.specs.Trail.{IsMarks};
-ghost use Rattle.watch_arena.specs.Walk.{IsWalking, IsStepped, IsFalsified, IsMade, done_of, past_of};
+ghost use Rattle.watch_arena.specs.Walk.{IsWalking, IsStepped, IsFalsified, HasWalked, done_of, past_of};
 
 use crate::chains::{push, swap};
 use crate::clause_ref::ClauseRef;
@@ -28,7 +28,7 @@ pub fn visit(
     requires front { trail.old.front < length trail.old.lits }
     ensures marks { IsMarks trail.new }
     ensures front { trail.new.front ≡ trail.old.front }
-    ensures made { IsMade trail.old trail.new words.old words.new places.now }
+    ensures made { HasWalked trail.old trail.new words.old words.new places.now }
     ensures stepped { IfSome result (λ next. IsStepped trail.new words.old words.new heads.new places.now (done_of trail.new) w s next) }
     ensures falsified { result ≡ None → IsFalsified words.new (has trail.new.lits) s }
     ensures walking { result ≡ None → IsWalking trail.new words.new heads.new places.now (done_of trail.new) w s }

@@ -2,7 +2,7 @@
 ghost use Rattle.std.specs.Prelude.{◌≡◌, ◌≢◌, ◌≤◌, ◌<◌, ◌+◌, ◌*◌, ◌/◌, length, IfSome, false};
 ghost use Rattle.cnf_core.specs.Lit.{negate, literal_at, has};
 ghost use Rattle.watch_arena.specs.Trail.{IsMarks};
-ghost use Rattle.watch_arena.specs.Walk.{IsWalking, IsWatched, IsMade, IsClash, KeepsClauses, KeepsLits, Closes, Clashes, done_of, past_of};
+ghost use Rattle.watch_arena.specs.Walk.{IsWalking, IsWatched, HasWalked, IsClash, KeepsClauses, KeepsLits, Closes, Clashes, done_of, past_of};
 
 use crate::chains::push;
 use crate::clause_ref::ClauseRef;
@@ -37,7 +37,7 @@ pub fn walk(
     requires watched { IsWatched trail.old words.old heads.old places.now (past_of trail.old) }
     requires front { trail.old.front < length trail.old.lits }
     ensures marks { IsMarks trail.new }
-    ensures made { IsMade trail.old trail.new words.old words.new places.now }
+    ensures made { HasWalked trail.old trail.new words.old words.new places.now }
     ensures watched { IsWatched trail.new words.new heads.new places.now (past_of trail.new) }
     ensures front { result ≡ None → trail.new.front ≡ trail.old.front + 1 }
     ensures clash { IfSome result (λ c. IsClash words.new places.now (has trail.new.lits) c.0) }
@@ -72,7 +72,7 @@ pub fn propagate(
 ) -> Option<ClauseRef>
     requires { IsWatched trail.old words.old heads.old places.now (past_of trail.old) }
     ensures marks { IsMarks trail.new }
-    ensures made { IsMade trail.old trail.new words.old words.new places.now }
+    ensures made { HasWalked trail.old trail.new words.old words.new places.now }
     ensures watched { IsWatched trail.new words.new heads.new places.now (past_of trail.new) }
     ensures all { result ≡ None → trail.new.front ≡ length trail.new.lits }
     ensures closes { result ≡ None → Closes places.now words.old trail.old.lits trail.new.lits }

@@ -3,7 +3,7 @@ use Rattle.cnf_core.specs.Lit.{Literal}
 use Rattle.cnf_core.specs.Clause.{IsThere}
 use Rattle.watch_arena.specs.Words.{arena_word}
 use Rattle.watch_arena.specs.Trail.{Marks, IsMarks, with_lit}
-use Rattle.watch_arena.specs.Walk.{KeepsClauses, IsMade, IsStepped, done_of, lit_at}
+use Rattle.watch_arena.specs.Walk.{KeepsClauses, HasWalked, IsStepped, done_of, lit_at}
 use Rattle.watch_arena.proofs.WordLemmas.{lit_there}
 use Rattle.watch_arena.proofs.MoveLemmas.{link_text, swap_text, swap_store}
 use Rattle.watch_arena.proofs.ReasonLemmas.{reasoned_text, none_because}
@@ -102,7 +102,7 @@ returns-in-Unit-clause-made c =
     let two = r.two in
     let is : lit_at c.args.words.now (c.args.s / 2 + 3 + (1 - c.args.s % 2)) ≡ c.in-Unit.l = ap (λ n. lit_at c.args.words.now n) (omega arith) ∙ sym c.in-Unit.ensures.is in
     let there : IsThere c.args.trail.now.vars c.in-Unit.l = subst (λ (l : Literal). IsThere c.args.trail.now.vars l) is (lit_there c.args.trail.now.vars c.args.words.now c.args.places.now (c.args.s / 2) (1 - c.args.s % 2) c.requires.walking.store r.place (omega arith)) in
-    subst (λ (m : Marks). IsMade c.args.trail.now m c.args.words.now c.push-in-Unit.new.words c.args.places.now) (sym c.set.ensures.value) (record {
+    subst (λ (m : Marks). HasWalked c.args.trail.now m c.args.words.now c.push-in-Unit.new.words c.args.places.now) (sym c.set.ensures.value) (record {
       longer = longer_unit c.args.trail.now c.in-Unit.l (c.args.s / 2);
       propagated = omega arith;
       because = visited_because c.args.trail.now c.args.words.now c.args.heads.now c.args.places.now _ _ c.requires.walking c.requires.some c.requires.false_now c.len-trail.ensures.marks c.in-Unit.l there c.in-Unit.ensures c.push-in-Unit.new.words

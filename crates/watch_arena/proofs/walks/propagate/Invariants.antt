@@ -1,10 +1,10 @@
 use Rattle.std.proofs.Common.{◌*◌, ◌+◌, ◌-◌, ◌≤◌}
-use Rattle.watch_arena.specs.Walk.{IsWatched, IsMade, past_of}
+use Rattle.watch_arena.specs.Walk.{IsWatched, HasWalked, past_of}
 use Rattle.watch_arena.proofs.walks.propagate.Given as goal
 
 abbrev pub invariant-loop-words : goal.invariant-loop-words
 invariant-loop-words l = record {
-  made : IsMade l.fn.trail l.trail l.fn.words l.words l.places;
+  made : HasWalked l.fn.trail l.trail l.fn.words l.words l.places;
   counted : l.fn.visits ≤ l.visits;
   watched : IsWatched l.trail l.words l.heads l.places (past_of l.trail);
 }

@@ -1,7 +1,7 @@
 use Rattle.std.proofs.Common.{arith, length, ◌∙◌, ◌≡◌, ◌<◌, ap, subst, sym, get_or, refl}
 use Rattle.cnf_core.specs.Lit.{literal_at, negate, has, word_of}
 use Rattle.watch_arena.specs.Trail.{Marks}
-use Rattle.watch_arena.specs.Walk.{IsWatched, IsMade, past_of}
+use Rattle.watch_arena.specs.Walk.{IsWatched, HasWalked, past_of}
 use Rattle.watch_arena.proofs.WordLemmas.{wrote_set}
 use Rattle.watch_arena.proofs.WalkLemmas.{ready}
 use Rattle.watch_arena.proofs.ClosureLemmas.{made_none, made_more, made_text, made_advanced, clash_kept}
@@ -55,7 +55,7 @@ returns-in-None-clause-clash c =
     }) c.put_back.ensures.lits
 
 pub returns-clause-made : goal.returns-clause-made
-returns-clause-made c = subst (λ (m : Marks). IsMade c.args.trail.now m c.args.words.now c.loop-s.words c.args.places.now) (sym c.advance.ensures.value) (made_advanced _ _ _ _ _ c.loop-s.invariant.made)
+returns-clause-made c = subst (λ (m : Marks). HasWalked c.args.trail.now m c.args.words.now c.loop-s.words c.args.places.now) (sym c.advance.ensures.value) (made_advanced _ _ _ _ _ c.loop-s.invariant.made)
 
 pub returns-clause-watched : goal.returns-clause-watched
 returns-clause-watched c = subst (λ (m : Marks). IsWatched m c.loop-s.words c.loop-s.heads c.args.places.now (past_of m)) (sym c.advance.ensures.value)
