@@ -1,5 +1,5 @@
 -- Calls that add a bound: its variables, then its clauses.
-use Rattle.std.proofs.Common.{◌≡◌, ℕ, zero, suc, ◌+◌, ◌*◌, ◌≤◌, ◌<◌, List, [], ◌∷◌, ◌++◌, length, inl, refl, sym, ◌∙◌, ap, subst, arith, append-nil, length-append, Ok, Err}
+use Rattle.std.proofs.Common.{◌≡◌, ℕ, ◌+◌, ◌*◌, ◌≤◌, ◌<◌, List, [], ◌∷◌, ◌++◌, length, inl, refl, sym, ◌∙◌, ap, subst, arith, append-nil, length-append, Ok, Err}
 use Rattle.std.specs.Prelude.{Result, IsErr, IsErrOf, OnOk, OnErr}
 use Rattle.plan_core.specs.Grid.{GridSize}
 use Rattle.plan_core.specs.Graph.{Graph}
@@ -22,6 +22,7 @@ use Rattle.drawing_cnf.specs.Expected.{drawing_vars, laws_first}
 use Rattle.drawing_cnf.specs.Bounds.{same_as, sum_bound, bend_lits, bends_bound, bends_bound_size, gives_bound, column_gives_bound, beside_clause, some_height_clause, height_lits, node_columns, some_column_clause}
 use Rattle.drawing_cnf.proofs.BoundLemmas.{bound_outputs}
 use Rattle.drawing_cnf.proofs.ListCode.{long_is, long_length}
+use Rattle.drawing_cnf.proofs.BoundWords.{columns_length}
 
 -- new variables alone
 pub block_of_vars : {T : Type 0} (r : Result T CnfFault) (old new : Cnf) (n longest : ℕ) → OnOk r (new ≡ record old { vars = old.vars + n }) → (IsErrOf r Room → VARS < old.vars + n) → OnErr r (new ≡ old) → AddsBlock r old new n [] longest
@@ -142,11 +143,7 @@ some_adds r old new g grid b k ls is from to le ok room err =
     subst (λ (cs : Clauses). AddsClauses r old new cs long) same (adds_longer r old new (ls ∷ []) (length ls) long few (added_one r old new ls ok room err))
 
 -- and that of width
-nodes_length : (x : DrawingVars) (k n rest : ℕ) → length (node_columns x k n rest) ≡ rest
-nodes_length x k n zero = refl
-nodes_length x k n (suc rest) = omega (arith, nodes_length x k (n + 1) rest)
-
 pub column_adds : {T : Type 0} (r : Result T CnfFault) (old new : Cnf) (x : DrawingVars) (b k n : ℕ) (ts : List LitOrTruth) (longest : ℕ) → ts ≡ node_columns x k 0 n ++ flip (yes b) ∷ [] → longest ≡ length ts → AddsClauses r old new (clause_of [] ts) longest → AddsClauses r old new (some_column_clause x n b k) (n + 3)
 column_adds r old new x b k n ts longest is long h =
-    let few : longest ≤ n + 3 = omega (arith, ap length is, length-append (node_columns x k 0 n) (flip (yes b) ∷ []), nodes_length x k 0 n) in
+    let few : longest ≤ n + 3 = omega (arith, ap length is, length-append (node_columns x k 0 n) (flip (yes b) ∷ []), columns_length x k 0 n) in
     adds_longer r old new (some_column_clause x n b k) longest (n + 3) few (subst (λ (us : List LitOrTruth). AddsClauses r old new (clause_of [] us) longest) is h)

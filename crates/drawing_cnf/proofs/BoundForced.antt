@@ -1,8 +1,7 @@
 -- A bound past what a criterion's value may be: a clause of one literal makes its variable false.
-use Rattle.std.proofs.Common.{◌≡◌, ℕ, zero, suc, ◌+◌, ◌*◌, ◌≤◌, ◌<◌, List, [], ◌∷◌, length, refl, sym, ap, subst, arith, length-append, length-take}
-use Rattle.std.specs.Prelude.{Contains, false, nat_lt, cond}
+use Rattle.std.proofs.Common.{◌≡◌, ℕ, suc, ◌+◌, ◌*◌, ◌≤◌, ◌<◌, List, [], ◌∷◌, length, sym, subst, arith, length-append, length-take}
+use Rattle.std.specs.Prelude.{Contains, false}
 use Rattle.std.proofs.Math.Nat.{mul-le-mul_left}
-use Rattle.std.proofs.lemmas.Bool.Decides.{nat_tests}
 use Rattle.std.proofs.lemmas.List.Elements.{Contains-append_right}
 use Rattle.plan_core.specs.declared.criterion.Criterion.{Criterion}
 use Rattle.plan_core.specs.declared.criterion.Criterion.TheVariants.{Height, Bends, Diagonal, Width}
@@ -13,40 +12,28 @@ use Rattle.plan_core.proofs.Listing.{Contains-head}
 use Rattle.cnf_core.specs.declared.literal.LitOrTruth.{LitOrTruth}
 use Rattle.cnf_core.specs.declared.literal.LitOrTruth.TheVariants.{False}
 use Rattle.cnf_core.specs.Lit.{negative_of}
-use Rattle.cnf_core.specs.LitOrTruth.{yes}
 use Rattle.cnf_core.specs.Formula.{each}
-use Rattle.unary_sum.specs.declared.joins.Part.{Part}
-use Rattle.unary_sum.specs.declared.joins.Part.TheVariants.{Input, Outputs}
-use Rattle.unary_sum.specs.Part.{part_size, part_at_least, outputs_of}
+use Rattle.unary_sum.specs.Part.{part_outputs}
 use Rattle.unary_sum.specs.Sum.{SumVars, sum_count, sum_clauses, sum_outputs, sum_at_least, sum_tree, tree_top}
 use Rattle.unary_sum.proofs.SizeLemmas.{size_bound}
+use Rattle.unary_sum.proofs.JoinLemmas.{at_above}
 use Rattle.unary_sum.proofs.SumLemmas.{part_size-top}
 use Rattle.drawing_cnf.specs.Stands.{DrawingVars}
 use Rattle.drawing_cnf.specs.Bounds.{same_as, sum_bound, west_first, steps_sum, edges_steps, edges_outputs, edge_most, diagonal_sum, bound_clauses, reach_of}
 use Rattle.drawing_cnf.proofs.BoundLemmas.{bound_outputs, edges_length}
 use Rattle.drawing_cnf.proofs.BoundNames.{among_each}
 
--- a part that tells of fewer inputs
-past_part : (p : Part) (k : ℕ) → part_size p < k → part_at_least p k ≡ False
-past_part p zero lt = absurd (omega arith)
-past_part (Input l) (suc zero) lt = absurd (omega arith)
-past_part (Input l) (suc (suc k)) lt = refl
-past_part (Outputs first count) (suc k) lt =
-    let low : count ≤ k = omega arith in
-    let past : nat_lt k count ≡ false = grind (arith, nat_tests) in
-    ap (λ b. cond b (yes (first + k)) False) past
-
 past_sum : (s : SumVars) (k : ℕ) → length s.inputs < k → sum_at_least s k ≡ False
-past_sum s k lt = past_part (tree_top s.most s.vars (sum_tree s)) k (omega (arith, part_size-top s.most s.vars (sum_tree s), size_bound s.most (length s.inputs) s.inputs (omega arith)))
+past_sum s k lt = at_above (tree_top s.most s.vars (sum_tree s)) k (omega (arith, part_size-top s.most s.vars (sum_tree s), size_bound s.most (length s.inputs) s.inputs (omega arith)))
 
 -- each edge's sum has no more outputs than its cap
-outputs_few : (x : DrawingVars) (width most vars : ℕ) (es : List ℕ) → length (edges_outputs x width most vars es) ≤ length es * most
+pub outputs_few : (x : DrawingVars) (width most vars : ℕ) (es : List ℕ) → length (edges_outputs x width most vars es) ≤ length es * most
 outputs_few x width most vars [] = omega arith
 outputs_few x width most vars (e ∷ es) =
     let s = steps_sum (x.edge e) width most vars in
     let next = vars + sum_count s in
     let one : suc (length es) * most ≡ length es * most + most = omega arith in
-    omega (arith, one, length-append (sum_outputs s) (edges_outputs x width most next es), length-take most (outputs_of (tree_top most vars (sum_tree s))), outputs_few x width most next es)
+    omega (arith, one, length-append (sum_outputs s) (edges_outputs x width most next es), length-take most (part_outputs (tree_top most vars (sum_tree s))), outputs_few x width most next es)
 
 false_alone : (b : ℕ) (t : LitOrTruth) → t ≡ False → Contains (same_as b t) (negative_of b ∷ [])
 false_alone b t is = subst (λ (u : LitOrTruth). Contains (same_as b u) (negative_of b ∷ [])) (sym is) (Contains-head (negative_of b ∷ []) [])

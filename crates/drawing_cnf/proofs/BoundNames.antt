@@ -20,7 +20,7 @@ use Rattle.cnf_core.proofs.GatherLemmas.{clause_of_literals}
 use Rattle.order_int.specs.IntVars.{IntVars, size}
 use Rattle.order_int.specs.OrderInt.{int_at_least}
 use Rattle.unary_sum.specs.declared.joins.Part.TheVariants.{Outputs}
-use Rattle.unary_sum.specs.Part.{part_at_least, block, outputs_of}
+use Rattle.unary_sum.specs.Part.{part_at_least, block, part_outputs}
 use Rattle.unary_sum.specs.Sum.{SumVars, sum_count, sum_clauses, sum_outputs, sum_at_least, sum_tree, tree_top, tree_of, tree_count, tree_size}
 use Rattle.drawing_cnf.specs.Stands.{DrawingVars}
 use Rattle.drawing_cnf.specs.Expected.{drawing_vars, laws_first}
@@ -126,7 +126,7 @@ block_avoids : (b first count : ℕ) → b < first → Avoids b (block first cou
 block_avoids b first zero lt = tt
 block_avoids b first (suc count) lt = ((λ e. omega arith), block_avoids b (first + 1) count (omega arith))
 
-top_avoids : (most vars b depth : ℕ) (ls : List Literal) → b ≤ vars → length ls ≤ 1 + depth → Avoids b ls → Avoids b (outputs_of (tree_top most vars (tree_of depth ls)))
+top_avoids : (most vars b depth : ℕ) (ls : List Literal) → b ≤ vars → length ls ≤ 1 + depth → Avoids b ls → Avoids b (part_outputs (tree_top most vars (tree_of depth ls)))
 top_avoids most vars b depth [] le deep h = tt
 top_avoids most vars b depth (l ∷ []) le deep h = h
 top_avoids most vars b zero (l ∷ m ∷ ls) le deep h = absurd (omega arith)
@@ -143,7 +143,7 @@ outputs_avoid b low vars g x width most (e ∷ es) a lt le there =
     let next = vars + sum_count s in
     let own = there_avoids low b (step_lits (x.edge e) 0 width) lt (steps_there low (x.edge e) width 0 width (a.edge e (All-head (λ e. e < length g.edges) e es there)) (omega arith)) in
     avoids_append b (sum_outputs s) (edges_outputs x width most next es)
-    (avoids_take b most (outputs_of (tree_top most vars (sum_tree s))) (top_avoids most vars b (length s.inputs) s.inputs le (omega arith) own))
+    (avoids_take b most (part_outputs (tree_top most vars (sum_tree s))) (top_avoids most vars b (length s.inputs) s.inputs le (omega arith) own))
     (outputs_avoid b low next g x width most es a lt (omega arith) (All-tail (λ e. e < length g.edges) e es there))
 
 -- EACH CRITERION

@@ -14,12 +14,11 @@ use Rattle.cnf_core.proofs.ClauseLemmas.{words_append, words_each}
 use Rattle.cnf_core.proofs.GatherLemmas.{clause_words}
 use Rattle.order_int.specs.IntVars.{IntVars}
 use Rattle.order_int.specs.OrderInt.{int_at_least}
-use Rattle.unary_sum.specs.declared.joins.Part.{Part}
-use Rattle.unary_sum.specs.declared.joins.Part.TheVariants.{Input, Outputs}
-use Rattle.unary_sum.specs.Part.{part_size, block, outputs_of}
+use Rattle.unary_sum.specs.Part.{part_outputs}
 use Rattle.unary_sum.specs.Sum.{SumVars, sum_count, sum_clauses, sum_outputs, sum_at_least, sum_tree, tree_top}
 use Rattle.unary_sum.proofs.SizeLemmas.{size_bound, sum_words, sum_count as count_few}
 use Rattle.unary_sum.proofs.SumLemmas.{part_size-top}
+use Rattle.unary_sum.proofs.OutputLemmas.{length-outputs}
 use Rattle.edge_shape.specs.EdgeVars.{EdgeLits}
 use Rattle.drawing_cnf.specs.Stands.{DrawingVars}
 use Rattle.drawing_cnf.specs.Expected.{parts}
@@ -42,12 +41,12 @@ sum_bound_words s last =
       words_each 10 (bound_outputs s last) 1 s.most (λ k from to. same_words (last + k) (sum_at_least s k)),
     )
 
-bends_inputs_length : (x : DrawingVars) (es : List ℕ) → length (bend_lits x es) ≡ 2 * length es
+pub bends_inputs_length : (x : DrawingVars) (es : List ℕ) → length (bend_lits x es) ≡ 2 * length es
 bends_inputs_length x [] = refl
 bends_inputs_length x (e ∷ es) = omega (arith, bends_inputs_length x es)
 
 -- AN EDGE'S SUM, AND THOSE OF ALL EDGES
-steps_inputs_length : (e : EdgeLits) (c n : ℕ) → length (step_lits e c n) ≡ 2 * n
+pub steps_inputs_length : (e : EdgeLits) (c n : ℕ) → length (step_lits e c n) ≡ 2 * n
 steps_inputs_length e c zero = refl
 steps_inputs_length e c (suc n) = omega (arith, steps_inputs_length e (c + 1) n)
 
@@ -108,18 +107,10 @@ steps_count x width most vars cap (e ∷ es) le =
     omega (arith, one, own, within_cap 10 width most cap le, steps_count x width most (vars + sum_count s) cap es le)
 
 -- no more outputs than inputs
-block_length : (first count : ℕ) → length (block first count) ≡ count
-block_length first zero = refl
-block_length first (suc count) = omega (arith, block_length (first + 1) count)
-
-part_length : (p : Part) → length (outputs_of p) ≡ part_size p
-part_length (Input l) = refl
-part_length (Outputs first count) = block_length first count
-
 outputs_length : (s : SumVars) → length (sum_outputs s) ≤ length s.inputs
 outputs_length s =
     let top = tree_top s.most s.vars (sum_tree s) in
-    omega (arith, length-take s.most (outputs_of top), part_length top, part_size-top s.most s.vars (sum_tree s), size_bound s.most (length s.inputs) s.inputs (omega arith))
+    omega (arith, length-take s.most (part_outputs top), length-outputs top, part_size-top s.most s.vars (sum_tree s), size_bound s.most (length s.inputs) s.inputs (omega arith))
 
 all_outputs_length : (x : DrawingVars) (width most vars : ℕ) (es : List ℕ) → length (edges_outputs x width most vars es) ≤ length es * (2 * width)
 all_outputs_length x width most vars [] = omega arith
@@ -190,7 +181,7 @@ height_at_words g x width b k =
       all_heights_length x width k 0 m,
     )
 
-columns_length : (x : DrawingVars) (k n rest : ℕ) → length (node_columns x k n rest) ≡ rest
+pub columns_length : (x : DrawingVars) (k n rest : ℕ) → length (node_columns x k n rest) ≡ rest
 columns_length x k n zero = refl
 columns_length x k n (suc rest) = omega (arith, columns_length x k (n + 1) rest)
 

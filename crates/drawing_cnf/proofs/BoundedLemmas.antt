@@ -133,7 +133,8 @@ covers_with g above grid laws bounds is size few are behind d h =
     record { to = k.to; satisfies = k.satisfies; stands = reads_stand k.to g x grid d k.read.reads k.read.loose }
 
 -- THE FORMULA OF AN ORDER WITH ITS CAPS
-from_behind : (g : Graph) (x : DrawingVars) (grid : GridSize) (caps : Criterion → ℕ) (last : ℕ) (order : List Criterion) → AreBehind g x grid last (bounds_from g x grid caps last order)
+-- its bounds stand one behind another
+pub from_behind : (g : Graph) (x : DrawingVars) (grid : GridSize) (caps : Criterion → ℕ) (last : ℕ) (order : List Criterion) → AreBehind g x grid last (bounds_from g x grid caps last order)
 from_behind g x grid caps last [] = tt
 from_behind g x grid caps last (c ∷ rest) = cases (nat_eq (caps c) 0) (from_behind g x grid caps last rest) (from_behind g x grid caps (last + bound_size g x grid last (caps c) c) rest)
   where

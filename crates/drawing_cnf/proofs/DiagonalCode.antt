@@ -1,5 +1,5 @@
 -- Calls that add the sums of the diagonal.
-use Rattle.std.proofs.Common.{◌≡◌, ℕ, zero, suc, ◌+◌, ◌*◌, ◌≤◌, ◌<◌, true, false, List, [], ◌∷◌, ◌++◌, length, refl, sym, ◌∙◌, ap, subst, arith, Ok, Err, length-append, length-take, append_assoc, append-nil, inl, inr}
+use Rattle.std.proofs.Common.{◌≡◌, ℕ, zero, suc, ◌+◌, ◌*◌, ◌≤◌, ◌<◌, true, false, List, [], ◌∷◌, ◌++◌, length, refl, sym, ◌∙◌, ap, subst, arith, Ok, Err, append_assoc, append-nil, inl, inr}
 use Rattle.std.specs.Prelude.{Result, IsErr, IsErrOf, nat_le, cond, drop, slice_index_or}
 use Rattle.std.proofs.Math.Nat.{mul-le-mul_left, mul-le-mul_right}
 use Rattle.std.proofs.lemmas.Bool.Decides.{nat_tests}
@@ -18,9 +18,8 @@ use Rattle.cnf_core.specs.Added.{AddsClauses, AddsBlock}
 use Rattle.cnf_core.proofs.BlockLemmas.{block_of_clauses, block_refused, block_after}
 use Rattle.cnf_core.proofs.ClauseLemmas.{words_append}
 use Rattle.cnf_core.proofs.StepLemmas.{grown, adds_longer, adds_nothing}
-use Rattle.unary_sum.specs.Part.{outputs_of}
-use Rattle.unary_sum.specs.Sum.{SumVars, sum_vars, sum_count, sum_clauses, sum_outputs, sum_tree, tree_top, sum_at_least as sum_at_least}
-use Rattle.edge_shape.specs.EdgeVars.{EdgeLits, EdgeSpot, lits_of, edge_size, EdgeIsPlaced}
+use Rattle.unary_sum.specs.Sum.{SumVars, sum_vars, sum_count, sum_clauses, sum_at_least as sum_at_least}
+use Rattle.edge_shape.specs.EdgeVars.{EdgeSpot, lits_of, edge_size, EdgeIsPlaced}
 use Rattle.edge_shape.proofs.PlaceLemmas.{column_there}
 use Rattle.drawing_cnf.specs.Stands.{DrawingVars}
 use Rattle.drawing_cnf.specs.Expected.{drawing_vars, laws_first}
@@ -30,6 +29,8 @@ use Rattle.drawing_cnf.proofs.ThereLemmas.{vars_more}
 use Rattle.drawing_cnf.proofs.BoundLemmas.{all_edges, edges_length}
 use Rattle.drawing_cnf.proofs.DiagonalBound.{outputs_there}
 use Rattle.drawing_cnf.proofs.ListCode.{AreInputs}
+use Rattle.drawing_cnf.proofs.BoundWords.{steps_inputs_length}
+use Rattle.drawing_cnf.proofs.BoundForced.{outputs_few}
 
 -- an output that the sum has, or hasn't
 pub output_skipped : {T : Type 0} (x : T) (r : Result T CnfFault) (f : Cnf) (s : SumVars) (ts : List LitOrTruth) (k : ℕ) → r ≡ Ok x → s.most < k → AddsClauses r f f (gives_output s ts k) 3
@@ -172,15 +173,6 @@ summing_refused r t x width most old now new before sums edges rest later e err 
     let c = subst (λ (ks : List ℕ). IsSumming x width most old now before sums edges ks) is a in
     left_refused r t old now new (sum_count s) (edges_count x width most next later) (edges_count x width most old.vars edges) (edge_steps (x.edge e) s) (edges_steps x width most next later) (edges_steps x width most old.vars edges) 3 err same c.left b
 
--- the inputs of the last sum
-outputs_few : (x : DrawingVars) (width most vars : ℕ) (es : List ℕ) → length (edges_outputs x width most vars es) ≤ length es * most
-outputs_few x width most vars [] = omega arith
-outputs_few x width most vars (e ∷ es) =
-    let s = steps_sum (x.edge e) width most vars in
-    let own = outputs_of (tree_top s.most s.vars (sum_tree s)) in
-    let next = vars + sum_count s in
-    omega (arith, length-append (sum_outputs s) (edges_outputs x width most next es), length-take most own, outputs_few x width most next es)
-
 pub diagonal_inputs : (g : Graph) (grid : GridSize) (edges : List ℕ) (outputs : List Literal) (cap vars late : ℕ) → IsGrid grid → laws_first g grid ≤ vars + 1 → vars ≤ VARS → length g.edges ≤ MAX_EDGES → edges ≡ west_first g → outputs ≡ edges_outputs (drawing_vars g grid) grid.width (edge_most grid cap) vars edges → late ≡ vars + edges_count (drawing_vars g grid) grid.width (edge_most grid cap) vars edges → AreInputs late outputs
 diagonal_inputs g grid edges outputs cap vars late is there limit few same at end =
     let x = drawing_vars g grid in
@@ -250,11 +242,6 @@ two_adds r old new s a b p q ea eb h =
 pub built_adds : {T : Type 0} (r : Result T CnfFault) (old new : Cnf) (ks ls : List Literal) (most : ℕ) → ks ≡ ls → AddsBlock r old new (sum_count (sum_vars ks most old.vars)) (sum_clauses (sum_vars ks most old.vars)) 3 → AddsBlock r old new (sum_count (sum_vars ls most old.vars)) (sum_clauses (sum_vars ls most old.vars)) 3
 built_adds r old new ks ls most e h = subst (λ (ms : List Literal). AddsBlock r old new (sum_count (sum_vars ms most old.vars)) (sum_clauses (sum_vars ms most old.vars)) 3) e h
 
--- the inputs of an edge's sum
-steps_length : (e : EdgeLits) (c n : ℕ) → length (step_lits e c n) ≡ 2 * n
-steps_length e c zero = refl
-steps_length e c (suc n) = omega (arith, steps_length e (c + 1) n)
-
 steps_are_there : (e : EdgeSpot) (vars c n : ℕ) → EdgeIsPlaced e.first e.high e.width → e.first + edge_size e.high e.width ≤ vars + 1 → c + n ≤ e.width → AreThere vars (step_lits (lits_of e) c n)
 steps_are_there e vars c zero p to le = tt
 steps_are_there e vars c (suc n) p to le = (
@@ -267,5 +254,5 @@ steps_inputs e width vars inputs p to same is =
     let columns = p.spot.columns in
     record {
       there = subst (λ (ls : List Literal). AreThere vars ls) (sym is) (steps_are_there e vars 0 width p to (omega arith));
-      few = omega (arith, ap length is, steps_length (lits_of e) 0 width);
+      few = omega (arith, ap length is, steps_inputs_length (lits_of e) 0 width);
     }

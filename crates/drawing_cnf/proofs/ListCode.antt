@@ -26,6 +26,7 @@ use Rattle.drawing_cnf.proofs.ThereLemmas.{vars_more}
 use Rattle.drawing_cnf.proofs.HeightBound.{both_within}
 use Rattle.drawing_cnf.proofs.WidthBound.{columns_within}
 use Rattle.drawing_cnf.proofs.BendsBound.{bends_lits_there}
+use Rattle.drawing_cnf.proofs.BoundWords.{bends_inputs_length}
 use Rattle.drawing_cnf.specs.Bounds.{west_first, bend_lits, step_lits, column_heights, all_heights, column_lits, height_lits, some_height_clause, node_columns}
 
 -- two more at the end
@@ -174,10 +175,6 @@ long_length g grid b k =
     let heights = height_lits (drawing_vars g grid) grid.width k 0 (length g.edges) in
     omega (arith, length-append heights (negative_of b ∷ []), heights_length (drawing_vars g grid) grid.width k 0 (length g.edges))
 
-bends_length : (x : DrawingVars) (es : List ℕ) → length (bend_lits x es) ≡ 2 * length es
-bends_length x [] = refl
-bends_length x (e ∷ es) = omega (arith, bends_length x es)
-
 -- the inputs of the sum of bends
 pub record AreInputs (vars : ℕ) (inputs : List Literal) : Type 0 where
   pub there : AreThere vars inputs
@@ -189,7 +186,7 @@ bends_inputs g grid edges inputs old vars is there limit more few same at =
     let e : inputs ≡ bend_lits x (west_first g) = at ∙ ap (bend_lits x) same in
     record {
       there = subst (λ (ls : List Literal). AreThere vars ls) (sym e) (bends_lits_there (base_last g grid) g x grid.width (west_first g) vars (omega arith) (all_edges g) (base_vars g grid is (omega arith)));
-      few = omega (arith, ap length e, bends_length x (west_first g), edges_length g);
+      few = omega (arith, ap length e, bends_inputs_length x (west_first g), edges_length g);
     }
 
 -- the literals or truth values of the nodes' columns

@@ -1,6 +1,6 @@
 -- What is expected covers the lawful drawings: each has a model of the clauses in which the bounds tell its values.
-use Rattle.std.proofs.Common.{◌≡◌, ◌≤◌, ℕ, ◌+◌, Bool, true, false, cond, List, [], ◌∷◌, ◌++◌, refl, sym, ◌∙◌, ap, subst, arith}
-use Rattle.std.specs.Prelude.{nat_le, nat_eq, ◌↔◌}
+use Rattle.std.proofs.Common.{◌≡◌, ◌≤◌, ℕ, ◌+◌, Bool, true, List, ◌++◌, refl, sym, ◌∙◌, ap, subst, arith}
+use Rattle.std.specs.Prelude.{nat_le, ◌↔◌}
 use Rattle.std.proofs.lemmas.Bool.{leb-true, le-leb}
 use Rattle.std.proofs.lemmas.List.Elements.{All-contains}
 use Rattle.plan_core.specs.declared.criterion.Criterion.{Criterion}
@@ -14,13 +14,13 @@ use Rattle.track_order.specs.Order.{EdgeOrder, is_above, is_overlap, IsOrderOf}
 use Rattle.refute_log.specs.Told.{Lines}
 use Rattle.certified_values.specs.Bounds.{MeetsLog, CoversDrawings}
 use Rattle.certified_values.specs.Expected.{expected_lines}
-use Rattle.drawing_cnf.specs.Stands.{DrawingVars}
 use Rattle.drawing_cnf.specs.Expected.{drawing_vars, formula_clauses, formula_size}
-use Rattle.drawing_cnf.specs.Bounds.{IsExact, bound_size}
-use Rattle.drawing_cnf.specs.Bounded.{Bound, bound, bounds_clauses, bounds_from, expected_bounds, expected, AreBehind, TellingModel, CoversWith}
+use Rattle.drawing_cnf.specs.Bounds.{IsExact}
+use Rattle.drawing_cnf.specs.Bounded.{Bound, bounds_clauses, expected_bounds, expected, TellingModel, CoversWith}
 use Rattle.drawing_cnf.specs.Encoding.{Encoding, encoding}
 use Rattle.drawing_cnf.specs.Whole.{bounds_last}
 use Rattle.drawing_cnf.proofs.MainLemmas.{few_variables}
+use Rattle.drawing_cnf.proofs.BoundedLemmas.{from_behind}
 use Rattle.drawing_cnf.proofs.CriterionLemmas.{whole_covers}
 use Rattle.drawing_problem.specs.Lists.{lines_with}
 use Rattle.drawing_problem.specs.Layout.{layout, problem_of}
@@ -49,18 +49,6 @@ meets_with g above overlap grid told d m = record {
       both_true (m.to x.0) k (value_of (values_of d) c) (ap m.to (sym place) ∙ exact k from (omega arith) ∙ ap (nat_le k) same);
 }
 
--- the bounds of an order stand one behind another
-pub bounds_behind : (g : Graph) (x : DrawingVars) (grid : GridSize) (caps : Criterion → ℕ) (last : ℕ) (order : List Criterion) → AreBehind g x grid last (bounds_from g x grid caps last order)
-bounds_behind g x grid caps last [] = tt
-bounds_behind g x grid caps last (c ∷ rest) =
-    cases (nat_eq (caps c) 0) (bounds_behind g x grid caps last rest) (bounds_behind g x grid caps (last + bound_size g x grid last (caps c) c) rest)
-  where
-    cases : (b : Bool) → AreBehind g x grid last (bounds_from g x grid caps last rest) →
-        AreBehind g x grid (last + bound_size g x grid last (caps c) c) (bounds_from g x grid caps (last + bound_size g x grid last (caps c) c) rest) →
-        AreBehind g x grid last (cond b (bounds_from g x grid caps last rest) (bound c last (caps c) ∷ bounds_from g x grid caps (last + bound_size g x grid last (caps c) c) rest))
-    cases true skip take = skip
-    cases false skip take = (omega arith, take)
-
 -- a formula with them
 with_bounds : Graph → EdgeOrder → GridSize → List Criterion → (Criterion → ℕ) → Encoding
 with_bounds g o grid order caps =
@@ -78,7 +66,7 @@ bounds_cover g o grid order caps is h size =
     whole_covers (with_bounds g o grid order caps) is.track_graph size (few_variables g grid size is.few_nodes is.few_edges) (record {
       order = h;
       clauses = refl;
-      behind = bounds_behind g (drawing_vars g grid) grid caps (formula_size g (is_above o) (is_overlap o) grid) order;
+      behind = from_behind g (drawing_vars g grid) grid caps (formula_size g (is_above o) (is_overlap o) grid) order;
       vars = refl;
     })
 

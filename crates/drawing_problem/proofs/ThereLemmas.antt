@@ -23,13 +23,12 @@ use Rattle.drawing_cnf.specs.Whole.{bounds_last}
 use Rattle.drawing_cnf.proofs.ThereLemmas.{AreVars}
 use Rattle.drawing_cnf.proofs.BaseLemmas.{base_last, base_vars}
 use Rattle.drawing_cnf.proofs.MainLemmas.{all_listed, order_tables, few_variables}
-use Rattle.drawing_cnf.proofs.BoundedLemmas.{bound_there, expected_there}
+use Rattle.drawing_cnf.proofs.BoundedLemmas.{from_behind, bound_there, expected_there}
 use Rattle.drawing_cnf.proofs.WholeLemmas.{last_rises}
 use Rattle.drawing_cnf.proofs.CriterionLemmas.{cap_fits}
 use Rattle.drawing_problem.specs.Lists.{variables_behind, drawing_problem}
 use Rattle.drawing_problem.specs.Layout.{layout, problem_of}
 use Rattle.drawing_problem.proofs.ListLemmas.{positive_is_not_zero, first_line, given_with, IsBoundLine, in_lines, expected_with}
-use Rattle.drawing_problem.proofs.CoverLemmas.{bounds_behind}
 
 -- ---- the variables of one bound
 
@@ -100,7 +99,7 @@ expected_clauses_there g o grid order caps is h size =
     let first = formula_size g above overlap grid in
     let last = bounds_last g x grid first bounds in
     let few = few_variables g grid size is.few_nodes is.few_edges in
-    let behind : AreBehind g x grid first bounds = bounds_behind g x grid caps first order in
+    let behind : AreBehind g x grid first bounds = from_behind g x grid caps first order in
     let all : AllThere last (formula_clauses g above overlap grid ++ bounds_clauses g x grid bounds) =
     all_there_append last (formula_clauses g above overlap grid) (bounds_clauses g x grid bounds)
     (all_there_more first last (formula_clauses g above overlap grid) (last_rises g x grid first bounds behind)
@@ -136,6 +135,6 @@ expected_bounds_there g o grid order caps c k v there =
     let to = line.to in
     let is = line.is in
     let fits : b.cap ≤ size_of_bound g x grid b = cap_fits g x grid b.last b.cap b.criterion in
-    let top : b.last + size_of_bound g x grid b ≤ bounds_last g x grid first bounds = last_of_bound g x grid first bounds (bounds_behind g x grid caps first order) b r.among in
+    let top : b.last + size_of_bound g x grid b ≤ bounds_last g x grid first bounds = last_of_bound g x grid first bounds (from_behind g x grid caps first order) b r.among in
     let all : bounds_last g x grid first bounds ≡ expected_vars (problem_of (layout g o grid)) order caps = sym (vars_with g above overlap grid order caps) in
     (omega arith, omega arith)

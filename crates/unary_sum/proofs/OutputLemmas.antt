@@ -8,7 +8,7 @@ use Rattle.cnf_core.specs.Clause.{AreThere}
 use Rattle.cnf_core.specs.Assignment.{Assignment, truth, SatisfiesAll}
 use Rattle.unary_sum.specs.declared.joins.Part.{Part}
 use Rattle.unary_sum.specs.declared.joins.Part.TheVariants.{Input, Outputs}
-use Rattle.unary_sum.specs.Part.{part_size, PartIsThere, Counts, block, outputs_of}
+use Rattle.unary_sum.specs.Part.{part_size, PartIsThere, Counts, block, part_outputs}
 use Rattle.unary_sum.specs.Sum.{count_true, tree_of, tree_count, tree_top, tree_clauses}
 use Rattle.unary_sum.proofs.JoinLemmas.{counts_to}
 use Rattle.unary_sum.proofs.SumLemmas.{part_size-top, top_there, tree_there, there_take, sum_means}
@@ -27,7 +27,8 @@ length-block : (first count : ℕ) → length (block first count) ≡ count
 length-block first zero = refl
 length-block first (suc count) = omega (arith, length-block (first + 1) count)
 
-length-outputs : (p : Part) → length (outputs_of p) ≡ part_size p
+-- as many outputs as it can tell of
+pub length-outputs : (p : Part) → length (part_outputs p) ≡ part_size p
 length-outputs (Input l) = refl
 length-outputs (Outputs first count) = length-block first count
 
@@ -35,7 +36,7 @@ block_there : (vars first count : ℕ) → 1 ≤ first → first + count ≤ var
 block_there vars first zero from to = tt
 block_there vars first (suc count) from to = ((omega arith, omega arith), block_there vars (first + 1) count (omega arith) (omega arith))
 
-outputs_there : (vars : ℕ) (p : Part) → PartIsThere vars p → AreThere vars (outputs_of p)
+outputs_there : (vars : ℕ) (p : Part) → PartIsThere vars p → AreThere vars (part_outputs p)
 outputs_there vars (Input l) h = (h, tt)
 outputs_there vars (Outputs first count) h = block_there vars first count h.0 h.1
 
@@ -63,7 +64,7 @@ block_true v first (suc count) n h =
     ap v z ∙ h (suc k) (omega arith) ∙ t) in
     omega (arith, rest, one_more (v first) n count first_is)
 
-outputs_true : (v : Assignment) (most : ℕ) (p : Part) (n : ℕ) → 1 ≤ most → part_size p ≤ most → Counts v most p n → count_true v (outputs_of p) ≡ min n most
+outputs_true : (v : Assignment) (most : ℕ) (p : Part) (n : ℕ) → 1 ≤ most → part_size p ≤ most → Counts v most p n → count_true v (part_outputs p) ≡ min n most
 outputs_true v most (Input l) n some small c =
     let few = counts_to v most (Input l) n c in
     by_truth (truth v l) (c 1 some) few
@@ -79,24 +80,24 @@ outputs_true v most (Outputs first count) n some small c =
     (rw t at (c (suc k) (omega arith))) ∙ u) in
     omega (arith, all, enough)
 
-pub sum_outputs_true : (v : Assignment) (most vars : ℕ) (ls : List Literal) → SatisfiesAll v (tree_clauses most vars (tree_of (length ls) ls)) → count_true v (take most (outputs_of (tree_top most vars (tree_of (length ls) ls)))) ≡ min (count_true v ls) most
+pub sum_outputs_true : (v : Assignment) (most vars : ℕ) (ls : List Literal) → SatisfiesAll v (tree_clauses most vars (tree_of (length ls) ls)) → count_true v (take most (part_outputs (tree_top most vars (tree_of (length ls) ls)))) ≡ min (count_true v ls) most
 sum_outputs_true v zero vars ls h = omega arith
 sum_outputs_true v (suc m) vars ls h =
     let most = suc m in
     let p = tree_top most vars (tree_of (length ls) ls) in
     let size = part_size-top most vars (tree_of (length ls) ls) in
     let bound = size_bound most (length ls) ls (omega arith) in
-    let whole : take most (outputs_of p) ≡ outputs_of p = take_all most (outputs_of p) (omega (arith, length-outputs p, size, bound)) in
+    let whole : take most (part_outputs p) ≡ part_outputs p = take_all most (part_outputs p) (omega (arith, length-outputs p, size, bound)) in
     ap (count_true v) whole ∙ outputs_true v most p (count_true v ls) (omega arith) (omega (arith, size, bound)) (sum_means v most vars ls h)
 
-pub sum_outputs_whole : (most vars : ℕ) (ls : List Literal) → 1 ≤ most → take most (outputs_of (tree_top most vars (tree_of (length ls) ls))) ≡ outputs_of (tree_top most vars (tree_of (length ls) ls))
+pub sum_outputs_whole : (most vars : ℕ) (ls : List Literal) → 1 ≤ most → take most (part_outputs (tree_top most vars (tree_of (length ls) ls))) ≡ part_outputs (tree_top most vars (tree_of (length ls) ls))
 sum_outputs_whole most vars ls some =
     let p = tree_top most vars (tree_of (length ls) ls) in
     let size = part_size-top most vars (tree_of (length ls) ls) in
     let bound = size_bound most (length ls) ls (omega arith) in
-    take_all most (outputs_of p) (omega (arith, length-outputs p, size, bound))
+    take_all most (part_outputs p) (omega (arith, length-outputs p, size, bound))
 
-pub sum_outputs_there : (most vars : ℕ) (ls : List Literal) → AreThere vars ls → AreThere (vars + tree_count most (tree_of (length ls) ls)) (take most (outputs_of (tree_top most vars (tree_of (length ls) ls))))
+pub sum_outputs_there : (most vars : ℕ) (ls : List Literal) → AreThere vars ls → AreThere (vars + tree_count most (tree_of (length ls) ls)) (take most (part_outputs (tree_top most vars (tree_of (length ls) ls))))
 sum_outputs_there most vars ls h =
     let t = tree_of (length ls) ls in
-    there_take (vars + tree_count most t) most (outputs_of (tree_top most vars t)) (outputs_there (vars + tree_count most t) (tree_top most vars t) (top_there most vars t (tree_there vars (length ls) ls h)))
+    there_take (vars + tree_count most t) most (part_outputs (tree_top most vars t)) (outputs_there (vars + tree_count most t) (tree_top most vars t) (top_there most vars t (tree_there vars (length ls) ls h)))

@@ -29,9 +29,9 @@ block first zero = []
 block first (suc count) = positive_of first ∷ block (first + 1) count
 
 -- the literals "at least 1", "at least 2" and so on
-abbrev pub outputs_of : Part → List Literal
-outputs_of (Input l) = l ∷ []
-outputs_of (Outputs first count) = block first count
+abbrev pub part_outputs : Part → List Literal
+part_outputs (Input l) = l ∷ []
+part_outputs (Outputs first count) = block first count
 
 -- it is a literal and no truth value
 abbrev pub IsLit : LitOrTruth → Type 0

@@ -8,7 +8,7 @@ use Rattle.cnf_core.specs.Assignment.{Assignment, truth}
 use Rattle.unary_sum.specs.declared.joins.Part.{Part}
 use Rattle.unary_sum.specs.declared.joins.Part.TheVariants.{Input, Outputs}
 use Rattle.unary_sum.specs.declared.joins.Join.{Join}
-use Rattle.unary_sum.specs.Part.{part_at_least, outputs_of, join_clauses}
+use Rattle.unary_sum.specs.Part.{part_at_least, part_outputs, join_clauses}
 
 -- how many of the literals are true
 abbrev pub count_true : Assignment → List Literal → ℕ
@@ -84,7 +84,7 @@ sum_at_least s k = part_at_least (tree_top s.most s.vars (sum_tree s)) k
 
 -- "at least 1", "at least 2" and so on, up to the cap or the number of inputs
 abbrev pub sum_outputs : SumVars → List Literal
-sum_outputs s = take s.most (outputs_of (tree_top s.most s.vars (sum_tree s)))
+sum_outputs s = take s.most (part_outputs (tree_top s.most s.vars (sum_tree s)))
 
 -- what each sum keeps
 pub record IsSum (s : SumVars) : Type 0 where

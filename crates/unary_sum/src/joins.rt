@@ -2,7 +2,7 @@
 ghost use Rattle.std.specs.Prelude.{◌≡◌, ◌+◌, ◌<◌, ◌≤◌, IfOk};
 ghost use Rattle.cnf_core.specs.declared.limits.TheConstants.{VARS};
 ghost use Rattle.cnf_core.specs.Added.{AddsClauses};
-ghost use Rattle.unary_sum.specs.Part.{part_size, part_at_least, block, outputs_of, PartIsThere, JoinIsReady, join_clauses, join_row, join_cell, join_up, join_down};
+ghost use Rattle.unary_sum.specs.Part.{part_size, part_at_least, block, part_outputs, PartIsThere, JoinIsReady, join_clauses, join_row, join_cell, join_up, join_down};
 
 use cnf_core::{CnfFault, Formula, Lit, LitOrTruth, Var};
 use plan_core::OutOfMemory;
@@ -57,7 +57,7 @@ impl Part {
     /// The literals "at least 1", "at least 2" and so on.
     pub(crate) fn outputs(&self, alloc: Global) -> Result<Vec<Lit>, OutOfMemory>
         requires { PartIsThere VARS self.now }
-        ensures { IfOk result (λ v. v.items ≡ outputs_of self.now) }
+        ensures { IfOk result (λ v. v.items ≡ part_outputs self.now) }
     {
         match self {
             Part::Input(l) => Ok(Vec::from_slice(alloc, &[*l])?),

@@ -1,7 +1,7 @@
 use Rattle.std.proofs.Common.{◌≡◌, ◌+◌, IfOk, sym, ◌∙◌, ap, subst, arith}
 use Rattle.std.proofs.lemmas.Result.{IfOk-weaker}
 use Rattle.cnf_core.specs.Clause.{AreThere}
-use Rattle.unary_sum.specs.Part.{outputs_of}
+use Rattle.unary_sum.specs.Part.{part_outputs}
 use Rattle.unary_sum.specs.Sum.{SumVars, sum_vars, sum_count, sum_outputs}
 use Rattle.unary_sum.proofs.OutputLemmas.{sum_outputs_true, sum_outputs_whole, sum_outputs_there}
 use Rattle.unary_sum.proofs.sum.Sum.outputs.Goals as goal
@@ -13,7 +13,7 @@ returns-clause-value c =
     let some = c.if-self-eq0.false in
     let whole = sum_outputs_whole i.cap i.vars i.inputs.items (omega arith) in
     subst (λ (s : SumVars). IfOk c.outputs.result (λ v. v.items ≡ sum_outputs s)) c.self.view_is
-    (IfOk-weaker c.outputs.result (λ v. v.items ≡ outputs_of i.top) (λ v. v.items ≡ sum_outputs (sum_vars i.inputs.items i.cap i.vars)) (λ v e. e ∙ ap outputs_of top ∙ sym whole) c.outputs.ensures)
+    (IfOk-weaker c.outputs.result (λ v. v.items ≡ part_outputs i.top) (λ v. v.items ≡ sum_outputs (sum_vars i.inputs.items i.cap i.vars)) (λ v e. e ∙ ap part_outputs top ∙ sym whole) c.outputs.ensures)
 
 pub returns-clause-there : goal.returns-clause-there
 returns-clause-there c =
