@@ -21,6 +21,7 @@ use Rattle.cdcl_core.proofs.MoveLemmas.{level_low}
 use Rattle.cdcl_core.proofs.RootLemmas.{root_follows, reason_among}
 use Rattle.cdcl_core.proofs.SolvingLemmas.{grounded_sound, grounded_owned, grounded_attached}
 use Rattle.cdcl_core.proofs.LearnLemmas.{IsPut, put_text}
+use Rattle.cdcl_core.proofs.KeepLemmas.{head_is}
 
 -- at level 0 every literal of the trail is of level 0
 pub root_level : (a : Attached) (m : Marks) (l : Literal) → IsMarks m → m.cuts ≡ [] → IsIn (has m.lits) l → level_of (sight a m) l ≡ 0
@@ -215,22 +216,19 @@ silent_two m [] n f two = absurd (let s = f.some in omega arith)
 silent_two m (k ∷ []) n f two = absurd (let s = f.some in omega arith)
 silent_two m (k ∷ (l ∷ ls)) n f two = inr (record { first = λ h. f.front 0 k (omega arith) h; second = λ h. f.front 1 k (omega arith) h })
 
-head_of : (x l : Literal) (ls : List Literal) → slice_get (x ∷ ls) 0 ≡ Some l → x ≡ l
-head_of x l ls e = cc
-
 pub silent_one : (m : Marks) (c : List Literal) (l : Literal) → IsFronted m c 1 → slice_get c 0 ≡ Some l → (IsUnset m.lits l → ⊥) → IsSilent m c
 silent_one m [] l f e set_ = absurd (let s = f.some in omega arith)
-silent_one m (k ∷ []) l f e set_ = value_true m k (λ u. set_ (subst (IsUnset m.lits) (head_of k l [] e) u)) (λ h. f.front 0 k (omega arith) h)
-silent_one m (k ∷ (x ∷ ls)) l f e set_ = inl (value_true m k (λ u. set_ (subst (IsUnset m.lits) (head_of k l (x ∷ ls) e) u)) (λ h. f.front 0 k (omega arith) h))
+silent_one m (k ∷ []) l f e set_ = value_true m k (λ u. set_ (subst (IsUnset m.lits) (head_is k l [] e) u)) (λ h. f.front 0 k (omega arith) h)
+silent_one m (k ∷ (x ∷ ls)) l f e set_ = inl (value_true m k (λ u. set_ (subst (IsUnset m.lits) (head_is k l (x ∷ ls) e) u)) (λ h. f.front 0 k (omega arith) h))
 
 pub first_there : (vars : ℕ) (c : List Literal) (l : Literal) → slice_get c 0 ≡ Some l → AreThere vars c → IsThere vars l
 first_there vars [] l e h = cc
-first_there vars (k ∷ ls) l e h = subst (IsThere vars) (head_of k l ls e) h.0
+first_there vars (k ∷ ls) l e h = subst (IsThere vars) (head_is k l ls e) h.0
 
 pub asserted_one : (a : Attached) (m : Marks) (c : List Literal) (l : Literal) → IsMarks m → m.cuts ≡ [] → IsFronted m c 1 → slice_get c 0 ≡ Some l → IsUnset m.lits l → AreThere m.vars c → AreDistinct c → IsAssertedClause a m c
 asserted_one a m [] l marks none f e un there distinct = absurd (let s = f.some in omega arith)
 asserted_one a m (k ∷ rest) l marks none f e un there distinct = record {
-  unset = subst (IsUnset m.lits) (sym (head_of k l rest e)) un;
+  unset = subst (IsUnset m.lits) (sym (head_is k l rest e)) un;
   others = off;
   there = there;
   distinct = distinct;

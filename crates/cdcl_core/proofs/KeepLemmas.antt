@@ -14,7 +14,8 @@ use Rattle.cdcl_core.proofs.AskLemmas.{asking_set}
 use Rattle.cdcl_core.proofs.HeapLemmas.{heap_more}
 use Rattle.cdcl_core.proofs.LearnLemmas.{IsPut, may_be_set, solving_long, solving_single}
 
-head_is : (x l : Literal) (ls : List Literal) → slice_get (x ∷ ls) 0 ≡ Some l → x ≡ l
+-- the literal at place 0
+pub head_is : (x l : Literal) (ls : List Literal) → slice_get (x ∷ ls) 0 ≡ Some l → x ≡ l
 head_is x l ls e = cc
 
 pub asserted_some : (a : Attached) (m : Marks) (c : List Literal) → IsAssertedClause a m c → 0 < length c

@@ -108,12 +108,12 @@ back_below s first (l ∷ rest) back learnt jump =
     let below : level_of s l < s.level = All-head (λ k. level_of s k < s.level) l rest learnt.lower in
     omega arith
 
-there_all : (vars : ℕ) (c : List Literal) → All (IsThere vars) c → AreThere vars c
-there_all vars [] h = tt
-there_all vars (l ∷ c) h = (All-head (IsThere vars) l c h, there_all vars c (All-tail (IsThere vars) l c h))
+pub there_by : (vars : ℕ) (c : List Literal) → All (IsThere vars) c → AreThere vars c
+there_by vars [] h = tt
+there_by vars (l ∷ c) h = (All-head (IsThere vars) l c h, there_by vars c (All-tail (IsThere vars) l c h))
 
 pub learnt_there : (m : Marks) (first : Literal) (rest : List Literal) → IsMarks m → All (λ k. IsIn (has m.lits) (negate k)) (first ∷ rest) → AreThere m.vars (first ∷ rest)
-learnt_there m first rest marks off = there_all m.vars (first ∷ rest) (All-weaker (λ k. IsIn (has m.lits) (negate k)) (IsThere m.vars) (λ k on. there_contains m.vars m.lits (negate k) marks.there (contains_from_has m.lits (negate k) on)) (first ∷ rest) off)
+learnt_there m first rest marks off = there_by m.vars (first ∷ rest) (All-weaker (λ k. IsIn (has m.lits) (negate k)) (IsThere m.vars) (λ k on. there_contains m.vars m.lits (negate k) marks.there (contains_from_has m.lits (negate k) on)) (first ∷ rest) off)
 
 pub vars_low : (n : ℕ) → n ≤ VARS → n ≤ LAST_VAR
 vars_low n le = omega arith
@@ -123,7 +123,7 @@ pub asserted_back : (a : Attached) (m : Marks) (own : Clauses) (refuted : Bool) 
 asserted_back a m own refuted first rest back g learnt jump after = record {
   unset = (off_first (cases_Bool (has (undone m back).lits first)), off_negated (cases_Bool (has (undone m back).lits (negate first))));
   others = All-weaker (Contains rest) (λ k. IsIn (has (undone m back).lits) (negate k)) stays rest (All-contains_itself rest);
-  there = there_all m.vars (first ∷ rest) (All-weaker (λ k. IsIn (has m.lits) (negate k)) (IsThere m.vars) (λ k on. there_contains m.vars m.lits (negate k) g.marks.there (contains_from_has m.lits (negate k) on)) (first ∷ rest) learnt.falsified);
+  there = there_by m.vars (first ∷ rest) (All-weaker (λ k. IsIn (has m.lits) (negate k)) (IsThere m.vars) (λ k on. there_contains m.vars m.lits (negate k) g.marks.there (contains_from_has m.lits (negate k) on)) (first ∷ rest) learnt.falsified);
   distinct = learnt.distinct;
   second = λ l ls e. jump.first l ls e ∙ sym size;
   alone = λ none. size ∙ jump.none none;

@@ -4,15 +4,16 @@ use Rattle.std.specs.Prelude.{All, Contains, Option, MatchOption, slice_get}
 use Rattle.std.proofs.lemmas.List.{take_all}
 use Rattle.std.proofs.lemmas.List.Elements.{All-nil, All-weaker, All-contains}
 use Rattle.plan_core.specs.declared.criterion.Criterion.{Criterion}
+use Rattle.plan_core.proofs.ListFacts.{each_pushed}
 use Rattle.cnf_core.specs.declared.literal.Var.{Var}
 use Rattle.cnf_core.specs.Lit.{Literal, negate, has}
 use Rattle.cnf_core.specs.Clause.{Clauses, words_of, IsNamed}
-use Rattle.cnf_core.specs.Propagation.{Falsifies, negations, AreAmong, greatest_in, greatest_var}
-use Rattle.cnf_core.proofs.PropagationLemmas.{closure_more, falsifies_more, rup_more}
-use Rattle.cnf_core.proofs.GreatestLemmas.{greatest_var-append, below_greatest, clause_below_greatest, greatest_in_least, greatest_among}
+use Rattle.cnf_core.specs.Propagation.{Falsifies, AreAmong, greatest_in, greatest_var}
+use Rattle.cnf_core.proofs.PropagationLemmas.{falsifies_more, rup_more, new_same}
+use Rattle.cnf_core.proofs.GreatestLemmas.{greatest_var-append, below_greatest, clause_below_greatest, greatest_in_least}
 use Rattle.refute_log.specs.declared.line.LogLine.{LogLine}
 use Rattle.refute_log.specs.declared.line.LogLine.TheVariants.{Formula, Learnt, Bound, Query, Refuted, Model}
-use Rattle.refute_log.specs.Lines.{MayBeTold, MayAllBeTold}
+use Rattle.refute_log.specs.Lines.{MayBeTold}
 use Rattle.refute_log.specs.Told.{Lines}
 use Rattle.refute_log.specs.Log.{Facts, facts_of, facts_after, added, given, IsNewClause, Stands, Derives, Open}
 use Rattle.refute_log.proofs.LogLemmas.{facts_more, derives_none, derives_more, due_none, due_more}
@@ -21,11 +22,6 @@ use Rattle.cdcl_core.specs.Belongs.{BelongsTo}
 use Rattle.cdcl_core.specs.Search.{IsRefuting}
 use Rattle.cdcl_core.specs.Rounds.{BelongsAt}
 use Rattle.cdcl_core.proofs.SetLemmas.{among_more, among_append, among_itself, words_push}
-
--- one more line that may be told
-pub formed_more : (lines : Lines) (line : LogLine) → MayAllBeTold lines → MayBeTold line → MayAllBeTold (lines ++ line ∷ [])
-formed_more [] line all one = (one, tt)
-formed_more (l ∷ lines) line all one = (all.0, formed_more lines line all.1 one)
 
 -- a new solver and a log without lines
 pub belongs_none : BelongsTo [] [] 0
@@ -87,7 +83,7 @@ named_below clauses more v there n =
 -- a clause is given
 pub belongs_given : (lines : Lines) (clauses now : Clauses) (count : ℕ) (c : List Literal) → MayBeTold (Formula c) → AreSameClauses (clauses ++ c ∷ []) now → BelongsTo lines clauses count → BelongsTo (lines ++ Formula c ∷ []) now (count + length c + 3)
 belongs_given lines clauses now count c formed same b = record {
-  formed = formed_more lines (Formula c) b.formed formed;
+  formed = each_pushed MayBeTold lines (Formula c) b.formed formed;
   derives = derives_more lines (Formula c) b.derives (record { named = All-nil (λ l. l.var ≤ (facts_of lines).greatest); answers = tt; implied = tt; says_more = tt });
   due = due_more lines (Formula c) b.due (λ d e. cc);
   told = after (λ f. AreAmong f.clauses now) lines (Formula c) (among_more ((facts_of lines).clauses ++ c ∷ []) (clauses ++ c ∷ []) now (among_append (facts_of lines).clauses (c ∷ []) clauses (c ∷ []) b.told (among_itself (c ∷ []))) same.there);
@@ -109,7 +105,7 @@ belongs_same lines clauses now count more same e b = record {
 -- lines that add no clause
 belongs_line : (lines : Lines) (clauses : Clauses) (count : ℕ) (line : LogLine) → MayBeTold line → added line ≡ [] → ((c : List Literal) → line ≡ Learnt c → ⊥) → Stands lines line → BelongsTo lines clauses count → BelongsTo (lines ++ line ∷ []) clauses count
 belongs_line lines clauses count line formed none other stands b = record {
-  formed = formed_more lines line b.formed formed;
+  formed = each_pushed MayBeTold lines line b.formed formed;
   derives = derives_more lines line b.derives stands;
   due = due_more lines line b.due (λ c e. absurd (other c e));
   told = after (λ f. AreAmong f.clauses clauses) lines line (rw none (rw append-nil b.told));
@@ -141,15 +137,10 @@ new_below : (clauses : Clauses) (c : List Literal) → IsNewClause clauses c →
 new_below clauses [] n = absurd n
 new_below clauses (first ∷ rest) n = n.named
 
-new_told : (clauses more : Clauses) (c : List Literal) → AreAmong clauses more → AreAmong more clauses → IsNewClause clauses c → IsNewClause more c
+-- what is new over clauses is new over the same sets of literals
+pub new_told : (clauses more : Clauses) (c : List Literal) → AreAmong clauses more → AreAmong more clauses → IsNewClause clauses c → IsNewClause more c
 new_told clauses more [] there back n = absurd n
-new_told clauses more (first ∷ rest) there back n =
-    let g = greatest_among clauses more there in
-    record {
-      named = All-weaker (λ l. l.var ≤ greatest_var clauses) (λ l. l.var ≤ greatest_var more) (λ l h. omega arith) (first ∷ rest) n.named;
-      unfalsified = λ f. n.unfalsified (falsifies_more more clauses (negations rest) back f);
-      unknown = λ h. n.unknown (closure_more more clauses (negations rest) first back h);
-    }
+new_told clauses more (first ∷ rest) there back n = new_same clauses more first rest rest there back (λ l. (λ m. m, λ m. m)) n
 
 -- a learnt clause, where the query is open
 pub belongs_learnt : (lines : Lines) (clauses now : Clauses) (count : ℕ) (q c : List Literal) → MayBeTold (Learnt c) → IsDeduced clauses c → IsOpenQuery clauses q → AreSameClauses (clauses ++ c ∷ []) now → BelongsAt q lines clauses count → BelongsAt q (lines ++ Learnt c ∷ []) now (count + length c + 3)
@@ -159,7 +150,7 @@ belongs_learnt lines clauses now count q c formed deduced is_open same at_query 
     let new = new_told clauses (facts_of lines).clauses c b.all b.told deduced.new in
     record {
       belongs = record {
-        formed = formed_more lines (Learnt c) b.formed formed;
+        formed = each_pushed MayBeTold lines (Learnt c) b.formed formed;
         derives = derives_more lines (Learnt c) b.derives (record {
           named = All-weaker (λ l. l.var ≤ greatest_var (facts_of lines).clauses) (λ l. l.var ≤ (facts_of lines).greatest) (λ l h. omega arith) c (new_below (facts_of lines).clauses c new);
           answers = tt;

@@ -52,14 +52,12 @@ find_true m (k ∷ c) total there = elim (cases_Bool (has m.lits k)) [
   ]
 ]
 
-clause_there : (a : Attached) (m : Marks) (own : Clauses) (refuted : Bool) (c : List Literal) → IsGrounded a m own refuted → Contains (all_of a own) c → AreThere m.vars c
+-- the variables of a kept clause are there
+pub clause_there : (a : Attached) (m : Marks) (own : Clauses) (refuted : Bool) (c : List Literal) → IsGrounded a m own refuted → Contains (all_of a own) c → AreThere m.vars c
 clause_there a m own refuted c g among = elim (Contains-append_cases (attached_clauses a) own c among) [
   | inl old ↦ let p = place_of_text a a.places c old in subst (AreThere m.vars) p.is (g.texts p.place p.among)
   | inr own_c ↦ All-contains (AreThere m.vars) own c g.there own_c
 ]
-
-pub clause_in_range : (a : Attached) (m : Marks) (own : Clauses) (refuted : Bool) (c : List Literal) → IsGrounded a m own refuted → Contains (all_of a own) c → AreThere m.vars c
-clause_in_range = clause_there
 
 pub complete_satisfies : (query : List Literal) (s : Search) (values : List Bool) → IsGrounded s.arena s.trail s.own.items s.refuted → IsComplete query s → ((l : Literal) → IsIn (has s.trail.lits) l → truth (assignment values) l ≡ true) → SatisfiesAll (assignment values) (clauses s)
 complete_satisfies query s values g complete true_all = satisfies_from_each (assignment values) (clauses s) (All-weaker (Contains (clauses s)) (Satisfies (assignment values)) by_clause (clauses s) (All-contains_itself (clauses s)))

@@ -1,23 +1,19 @@
 -- What each move of the trail leaves of the literals up to a level.
-use Rattle.std.proofs.Common.{◌≡◌, ℕ, zero, suc, ◌+◌, ◌<◌, ◌≤◌, ◌⊎◌, Bool, true, false, List, [], ◌∷◌, ◌++◌, length, take, get_or, refl, sym, ◌∙◌, ap, subst, inl, inr, arith, length-append, length-take-le}
+use Rattle.std.proofs.Common.{◌≡◌, ℕ, zero, suc, ◌+◌, ◌<◌, ◌≤◌, ◌⊎◌, true, List, [], ◌∷◌, length, take, get_or, refl, sym, ◌∙◌, ap, subst, inl, inr, arith, length-append, length-take-le}
 use Rattle.std.proofs.lemmas.Bool.{cases_lt}
-use Rattle.std.proofs.lemmas.List.{take_at, take-take, get_or-take, get_or_append_left, get_or_past, get_or_default}
+use Rattle.std.proofs.lemmas.List.{take_at, take-take, get_or-take, get_or_past, get_or_default}
+use Rattle.plan_core.proofs.TruthFacts.{same_when}
 use Rattle.cnf_core.specs.Lit.{Literal, literal, has}
 use Rattle.cnf_core.specs.Propagation.{IsIn}
-use Rattle.cnf_core.proofs.PropagationLemmas.{contains_from_has, has_from_contains}
+use Rattle.cnf_core.proofs.PropagationLemmas.{has_from_contains}
 use Rattle.watch_arena.specs.Trail.{Marks, IsMarks, IsLonger, trail_level, level_end, undone, opened, with_lit}
 use Rattle.watch_arena.specs.Arena.{Attached}
+use Rattle.watch_arena.proofs.WalkLemmas.{longer_unit}
 use Rattle.watch_arena.proofs.CutLemmas.{level_past, level_push_before, level_of_new, level_take, level_most}
 use Rattle.cdcl_learn.specs.Sight.{sight, nth, level_of}
 use Rattle.cdcl_learn.specs.Levels.{upto, SameUpto}
 use Rattle.cdcl_learn.proofs.LiteralLemmas.{placed_anywhere, front_in, stands}
 use Rattle.cdcl_learn.proofs.LevelLemmas.{upto_parts, upto_from}
-
-same_true : (a b : Bool) → (a ≡ true → b ≡ true) → (b ≡ true → a ≡ true) → a ≡ b
-same_true true true f g = refl
-same_true true false f g = sym (f refl)
-same_true false true f g = g refl
-same_true false false f g = refl
 
 -- no literal is of a later level than the present one
 pub level_low : (a : Attached) (m : Marks) (l : Literal) → IsMarks m → IsIn (has m.lits) l → level_of (sight a m) l ≤ length m.cuts
@@ -27,7 +23,7 @@ level_low a m l marks on =
 
 -- up to the present level all literals count
 pub upto_all : (a : Attached) (m : Marks) → IsMarks m → (l : Literal) → upto (sight a m) (length m.cuts) l ≡ has m.lits l
-upto_all a m marks l = same_true (upto (sight a m) (length m.cuts) l) (has m.lits l) (λ h. (upto_parts (sight a m) (length m.cuts) l h).0) (λ h. upto_from (sight a m) (length m.cuts) l h (level_low a m l marks h))
+upto_all a m marks l = same_when (upto (sight a m) (length m.cuts) l) (has m.lits l) (λ h. (upto_parts (sight a m) (length m.cuts) l h).0) (λ h. upto_from (sight a m) (length m.cuts) l h (level_low a m l marks h))
 
 -- the literals of the first trail stand in front on the second one, at the same levels; the others
 -- are of level q or a later one
@@ -92,10 +88,10 @@ module _ (a b : Attached) (m n : Marks) (q : ℕ) (f : IsFurther m n q) where
       ]
 
   pub further_same : SameUpto (sight a m) (sight b n) q
-  further_same = record { same = λ p l lt. same_true (upto (sight b n) p l) (upto (sight a m) p l) (λ h. back_upto p l lt h) (λ h. further_upto p l h) }
+  further_same = record { same = λ p l lt. same_when (upto (sight b n) p l) (upto (sight a m) p l) (λ h. back_upto p l lt h) (λ h. further_upto p l h) }
 
   pub back_same : (level : ℕ) → level ≤ q → SameUpto (sight b n) (sight a m) level
-  back_same level le = record { same = λ p l lt. same_true (upto (sight a m) p l) (upto (sight b n) p l) (λ h. further_upto p l h) (λ h. back_upto p l (omega arith) h) }
+  back_same level le = record { same = λ p l lt. same_when (upto (sight a m) p l) (upto (sight b n) p l) (λ h. further_upto p l h) (λ h. back_upto p l (omega arith) h) }
 
 -- further literals of the present level
 pub further_longer : (m n : Marks) → IsMarks m → IsMarks n → IsLonger m n → IsFurther m n (length m.cuts)
@@ -112,20 +108,8 @@ further_longer m n before after more = record {
       omega arith;
 }
 
-longer_lit : (m : Marks) (l : Literal) (reason : ℕ) → IsLonger m (with_lit m l reason)
-longer_lit m l reason = record {
-  vars = refl;
-  cuts = refl;
-  front = take_at m.lits (l ∷ []) (length m.lits) refl;
-  longer = omega (arith, length-append m.lits (l ∷ []));
-  keeps = λ k on. front_in_list k on;
-}
-  where
-    front_in_list : (k : Literal) → IsIn (has m.lits) k → IsIn (has (m.lits ++ l ∷ [])) k
-    front_in_list k on = has_from_contains (m.lits ++ l ∷ []) k (let c = contains_from_has m.lits k on in let lt = c.1 in (c.0, omega (arith, length-append m.lits (l ∷ [])), get_or_append_left m.lits (l ∷ []) k c.0 lt ∙ c.2))
-
 pub further_lit : (m : Marks) (l : Literal) (reason : ℕ) → IsMarks m → IsMarks (with_lit m l reason) → IsFurther m (with_lit m l reason) (length m.cuts)
-further_lit m l reason before after = further_longer m (with_lit m l reason) before after (longer_lit m l reason)
+further_lit m l reason before after = further_longer m (with_lit m l reason) before after (longer_unit m l reason)
 
 -- a decision
 pub further_decided : (m : Marks) (l : Literal) → IsMarks m → IsMarks (with_lit (opened m) l 0) → IsFurther m (with_lit (opened m) l 0) (length m.cuts + 1)

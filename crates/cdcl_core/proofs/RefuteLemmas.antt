@@ -1,9 +1,9 @@
 -- Clauses of negated assumptions.
 use Rattle.std.proofs.Common.{◌≡◌, ℕ, ◌+◌, ◌<◌, ◌≤◌, Bool, true, List, [], ◌∷◌, ◌++◌, length, get_or, sym, ◌∙◌, ap, subst, inl, inr, arith}
-use Rattle.std.specs.Prelude.{All, Contains}
+use Rattle.std.specs.Prelude.{Contains}
 use Rattle.std.proofs.lemmas.Bool.{cases_lt}
 use Rattle.std.proofs.lemmas.List.{get_or_default}
-use Rattle.std.proofs.lemmas.List.Elements.{All-cons, All-weaker, All-contains_itself, All-head, All-tail, Contains-push, Contains-push_cases, Contains-append_left}
+use Rattle.std.proofs.lemmas.List.Elements.{All-cons, All-weaker, All-contains_itself, Contains-push, Contains-push_cases, Contains-append_left}
 use Rattle.cnf_core.specs.Lit.{Literal, literal, negate}
 use Rattle.cnf_core.specs.Clause.{Clauses, AreDistinct, AreThere, IsThere}
 use Rattle.cnf_core.proofs.PropagationLemmas.{negate-negate, contains_from_has, has_from_contains, among_left}
@@ -20,6 +20,7 @@ use Rattle.cdcl_core.specs.Search.{AreDenied, IsDeniedAt, DeniedUpto, IsFalse, I
 use Rattle.cdcl_core.proofs.MoveLemmas.{level_low}
 use Rattle.cdcl_core.proofs.RootLemmas.{rup_down}
 use Rattle.cdcl_core.proofs.SolvingLemmas.{grounded_sound}
+use Rattle.cdcl_core.proofs.LearnLemmas.{there_by}
 
 -- a decided literal is an assumption
 assumed : (a : Attached) (m : Marks) (query : List Literal) (q n : ℕ) (k : Literal) → IsMarks m → length m.cuts ≤ q → IsFalse m k → get_or m.reasons k.var 0 ≡ 0 → 0 < get_or m.levels k.var 0 → IsAssuming query (sight a m) q n → Contains query (negate k)
@@ -57,20 +58,14 @@ traced_refuting a m own refuted query c q n l g asking low among h =
 pub traced_distinct : (s : Sight) (l : Literal) (c v : List Literal) → v ≡ c → IsTracedOf s l c → AreDistinct v
 traced_distinct s l c v e h = let t = traced_parts s l c h in subst AreDistinct (sym (e ∙ t.is)) t.traced.distinct
 
-there_by : (vars : ℕ) (c : List Literal) → All (IsThere vars) c → AreThere vars c
-there_by vars [] h = tt
-there_by vars (l ∷ c) h = (All-head (IsThere vars) l c h, there_by vars c (All-tail (IsThere vars) l c h))
-
-false_there : (m : Marks) (k : Literal) → IsMarks m → IsFalse m k → IsThere m.vars k
+-- a false literal is of a variable that is there
+pub false_there : (m : Marks) (k : Literal) → IsMarks m → IsFalse m k → IsThere m.vars k
 false_there m k marks off = there_contains m.vars m.lits (negate k) marks.there (contains_from_has m.lits (negate k) off)
 
 pub traced_there : (a : Attached) (m : Marks) (l : Literal) (c v : List Literal) → v ≡ c → IsMarks m → IsFalse m l → IsTracedOf (sight a m) l c → AreThere m.vars v
 traced_there a m l c v e marks off h =
     let t = traced_parts (sight a m) l c h in
     subst (AreThere m.vars) (sym (e ∙ t.is)) (false_there m l marks off, there_by m.vars t.rest (All-weaker (IsDecision (sight a m)) (IsThere m.vars) (λ k d. false_there m k marks d.falsified) t.rest t.traced.decisions))
-
-pub denied_there : (m : Marks) (l : Literal) → IsMarks m → IsFalse m l → IsThere m.vars l
-denied_there m l marks off = false_there m l marks off
 
 -- of the arena nothing is asked here
 pub no_arena : Attached

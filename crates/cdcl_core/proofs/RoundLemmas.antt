@@ -21,9 +21,9 @@ use Rattle.cdcl_core.specs.declared.fault.SolveFault.{SolveFault}
 use Rattle.cdcl_core.specs.declared.answer.Answer.{Answer}
 use Rattle.cdcl_core.specs.declared.answer.Answer.TheVariants.{Model, Refuted, Spent, Room}
 use Rattle.cdcl_core.specs.Kept.{Kept, AreSameClauses, HasLearnt, AreGiven, IsDeduced, IsFull, more_learnt}
-use Rattle.cdcl_core.specs.Belongs.{BelongsTo, StillDerives, IsSearched, EndsWith, HasSpent, search_lines}
+use Rattle.cdcl_core.specs.Belongs.{BelongsTo, StillDerives, HasSolved, EndsWith, HasSpent, search_lines}
 use Rattle.cdcl_core.specs.Search.{clauses, seen, IsSearch, IsAsking, IsAnalysed, IsLearntFrom, IsKeptOne, IsSameStore, IsSearchAnswer, IsRefuting, IsComplete}
-use Rattle.cdcl_core.specs.Rounds.{BelongsAt, DerivesAt, LearnsOne, EndsSo, HasGone, EndsAfter, HasSearched}
+use Rattle.cdcl_core.specs.Rounds.{BelongsAt, DerivesAt, LearnsOne, EndsSo, HasGone, EndsAfter, EndsBehindQuery}
 use Rattle.cdcl_core.proofs.SetLemmas.{among_more, among_append, among_itself, same_itself, same_more, same_append, same_equal}
 use Rattle.cdcl_core.proofs.StoreLemmas.{store_itself, store_more, analysed_store, analysed_clauses, analysed_full, kept_learnt}
 use Rattle.cdcl_core.proofs.LearnLemmas.{open_above}
@@ -195,7 +195,7 @@ spent_less Spent budget n other le = absurd (other refl)
 spent_less Room budget n other le = le
 
 -- the query in front
-pub searched : (before mid now : Lines → Type 0) (count between after : ℕ) (query : List Literal) (s t : Search) (answer : Answer) (budget : ℕ) → MayBeTold (Query query) → All (λ l. IsNamed (clauses s) l.var) query → AddsLine before mid (Query query) → between ≡ count → EndsAfter mid now between after query s t answer budget → IsSearched before now query (seen s) (seen t) answer budget count after
+pub searched : (before mid now : Lines → Type 0) (count between after : ℕ) (query : List Literal) (s t : Search) (answer : Answer) (budget : ℕ) → MayBeTold (Query query) → All (λ l. IsNamed (clauses s) l.var) query → AddsLine before mid (Query query) → between ≡ count → EndsAfter mid now between after query s t answer budget → HasSolved before now query (seen s) (seen t) answer budget count after
 searched before mid now count between after query s t answer budget formed named adds same e = record {
   learnt = e.learnt;
   ending = e.ending;
@@ -331,10 +331,10 @@ rounds_err (Ok x) before mid now count between query r s n h d = tt
 rounds_err (Err e) before mid now count between query r s n h d = gone_err before mid now count between query r s n h d
 
 -- a log that a search left derives
-pub searched_err : (before now : Lines → Type 0) (query : List Literal) (k t : Kept) (answer : Answer) (budget count after : ℕ) → ((a b : Lines) → now a → now b → a ≡ b) → IsSearched before now query k t answer budget count after → StillDerives before now k
+pub searched_err : (before now : Lines → Type 0) (query : List Literal) (k t : Kept) (answer : Answer) (budget count after : ℕ) → ((a b : Lines) → now a → now b → a ≡ b) → HasSolved before now query k t answer budget count after → StillDerives before now k
 searched_err before now query k t answer budget count after one s = λ lines told b more m. subst Derives (one (lines ++ search_lines query s.learnt s.ending) more (s.told lines told) m) (s.belongs lines b).derives
 
-pub searched_same : (before now : Lines → Type 0) (query : List Literal) (k : Kept) (s t : Search) (answer : Answer) (budget count after : ℕ) → IsSameStore s t → IsSearched before now query k (seen s) answer budget count after → IsSearched before now query k (seen t) answer budget count after
+pub searched_same : (before now : Lines → Type 0) (query : List Literal) (k : Kept) (s t : Search) (answer : Answer) (budget count after : ℕ) → IsSameStore s t → HasSolved before now query k (seen s) answer budget count after → HasSolved before now query k (seen t) answer budget count after
 searched_same before now query k s t answer budget count after f h = record {
   learnt = h.learnt;
   ending = h.ending;
@@ -354,21 +354,21 @@ pub query_err_of : (res : Result Answer SolveFault) (before mid now : Lines → 
 query_err_of (Ok x) before mid now query s formed named adds d = tt
 query_err_of (Err e) before mid now query s formed named adds d = query_err before mid now query s formed named adds d
 
-pub searched_ok : (res : Result Answer SolveFault) (before mid now : Lines → Type 0) (count between after : ℕ) (query : List Literal) (s t : Search) (budget : ℕ) → MayBeTold (Query query) → All (λ l. IsNamed (clauses s) l.var) query → AddsLine before mid (Query query) → between ≡ count → IfOk res (λ a. EndsAfter mid now between after query s t a budget) → IfOk res (λ a. HasSearched before now count after query s t a budget)
+pub searched_ok : (res : Result Answer SolveFault) (before mid now : Lines → Type 0) (count between after : ℕ) (query : List Literal) (s t : Search) (budget : ℕ) → MayBeTold (Query query) → All (λ l. IsNamed (clauses s) l.var) query → AddsLine before mid (Query query) → between ≡ count → IfOk res (λ a. EndsAfter mid now between after query s t a budget) → IfOk res (λ a. EndsBehindQuery before now count after query s t a budget)
 searched_ok (Err e) before mid now count between after query s t budget formed named adds same h = h
 searched_ok (Ok a) before mid now count between after query s t budget formed named adds same h = record { searched = searched before mid now count between after query s t a budget formed named adds same h; given = h.given; says = h.says }
 
 -- the same of a search whose clauses and counts are seen the same
-pub searched_seen : (res : Result Answer SolveFault) (before now : Lines → Type 0) (count after : ℕ) (query : List Literal) (s r t : Search) (budget : ℕ) → seen r ≡ seen s → IfOk res (λ a. HasSearched before now count after query r t a budget) → IfOk res (λ a. HasSearched before now count after query s t a budget)
+pub searched_seen : (res : Result Answer SolveFault) (before now : Lines → Type 0) (count after : ℕ) (query : List Literal) (s r t : Search) (budget : ℕ) → seen r ≡ seen s → IfOk res (λ a. EndsBehindQuery before now count after query r t a budget) → IfOk res (λ a. EndsBehindQuery before now count after query s t a budget)
 searched_seen (Err e) before now count after query s r t budget same h = h
 searched_seen (Ok a) before now count after query s r t budget same h = record {
-  searched = subst (λ (k : Kept). IsSearched before now query k (seen t) a budget count after) same h.searched;
+  searched = subst (λ (k : Kept). HasSolved before now query k (seen t) a budget count after) same h.searched;
   given = λ cs g. h.given cs (subst (λ (k : Kept). AreGiven cs k.clauses) (sym same) g);
   says = h.says;
 }
 
 -- a query of a solver that is refuted
-pub searched_refuted : (before mid now : Lines → Type 0) (count between after : ℕ) (query : List Literal) (s : Search) (budget : ℕ) → IsSearch s → s.refuted ≡ true → MayBeTold (Query query) → All (λ l. IsNamed (clauses s) l.var) query → AddsLine before mid (Query query) → between ≡ count → AddsLine mid now (RefutedLine []) → after ≡ between → HasSearched before now count after query s s Refuted budget
+pub searched_refuted : (before mid now : Lines → Type 0) (count between after : ℕ) (query : List Literal) (s : Search) (budget : ℕ) → IsSearch s → s.refuted ≡ true → MayBeTold (Query query) → All (λ l. IsNamed (clauses s) l.var) query → AddsLine before mid (Query query) → between ≡ count → AddsLine mid now (RefutedLine []) → after ≡ between → EndsBehindQuery before now count after query s s Refuted budget
 searched_refuted before mid now count between after query s budget h refuted formed named adds same ends counted =
     let e = ends_after mid mid now between between after query s s s Refuted 0 budget (omega arith) (gone_none mid between query s)
     (ends_refuted mid now between after query [] s s (store_itself s) refl (record { formed = tt; once = tt }) named (record { follows = h.solving.grounded.falsified refuted; answers = All-nil (λ l. Contains query (negate l)) }) ends counted) in

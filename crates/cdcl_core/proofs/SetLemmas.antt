@@ -1,8 +1,8 @@
 -- Clauses as sets of literals, and what is closed over them.
-use Rattle.std.proofs.Common.{◌≡◌, ℕ, zero, suc, ◌+◌, ◌<◌, ◌⊎◌, Bool, true, false, List, [], ◌∷◌, ◌++◌, length, get_or, map, refl, sym, ◌∙◌, ap, subst, inl, inr, arith}
+use Rattle.std.proofs.Common.{◌≡◌, ℕ, zero, suc, ◌+◌, ◌<◌, Bool, true, false, List, [], ◌∷◌, ◌++◌, length, get_or, map, refl, sym, ◌∙◌, ap, subst, inl, inr, arith}
 use Rattle.std.specs.Prelude.{Contains}
 use Rattle.std.proofs.lemmas.List.{map-append, append_assoc}
-use Rattle.std.proofs.lemmas.List.Elements.{All-weaker, Contains-append_cases, Contains-append_left, Contains-append_right}
+use Rattle.std.proofs.lemmas.List.Elements.{Contains-append_cases, Contains-append_left, Contains-append_right}
 use Rattle.cnf_core.specs.Lit.{Literal, negate}
 use Rattle.cnf_core.specs.Clause.{Clauses, words_of}
 use Rattle.cnf_core.specs.Propagation.{LiteralSet, IsIn, AreAmong, SameLiterals, IsClosure}
@@ -68,15 +68,6 @@ quiet_among clauses more set there quiet = record {
   unfalsified = λ f.
       let d = there f.clause f.among in
       quiet.unfalsified (record { clause = d.0; among = d.1; each = all_same (λ k. IsIn set (negate k)) f.clause d.0 d.2 f.each });
-}
-
-pub quiet_equal : (clauses : Clauses) (set other : LiteralSet) → ((l : Literal) → other l ≡ set l) → IsStable clauses set → IsStable clauses other
-quiet_equal clauses set other e quiet = record {
-  closed = λ c among l unit. e l ∙ quiet.closed c among l (record {
-    among = unit.among;
-    others = All-weaker (λ k. (k ≡ l) ⊎ IsIn other (negate k)) (λ k. (k ≡ l) ⊎ IsIn set (negate k)) (λ k h. elim h [ inl x ↦ inl x | inr y ↦ inr (sym (e (negate k)) ∙ y) ]) c unit.others;
-  });
-  unfalsified = λ f. quiet.unfalsified (record { clause = f.clause; among = f.among; each = All-weaker (λ k. IsIn other (negate k)) (λ k. IsIn set (negate k)) (λ k h. sym (e (negate k)) ∙ h) f.clause f.each });
 }
 
 pub quiet_closure : (clauses : Clauses) (start set : LiteralSet) → IsClosure clauses start set → IsStable clauses set

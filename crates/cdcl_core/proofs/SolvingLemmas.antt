@@ -1,70 +1,26 @@
 -- Each step of a search keeps what the solver keeps of its trail and its clauses.
-use Rattle.std.proofs.Common.{◌≡◌, ℕ, zero, ◌+◌, ◌<◌, ◌≤◌, Bool, true, false, List, [], ◌∷◌, ◌++◌, length, take, get_or, refl, sym, ◌∙◌, ap, subst, inl, inr, arith, length-append, length-take-le}
+use Rattle.std.proofs.Common.{◌≡◌, ℕ, ◌+◌, ◌<◌, ◌≤◌, Bool, true, false, List, [], ◌∷◌, ◌++◌, length, take, refl, sym, ◌∙◌, ap, subst, inl, inr, arith, length-append, length-take-le}
 use Rattle.std.specs.Prelude.{All, Contains}
-use Rattle.std.proofs.lemmas.Bool.{cases_lt}
-use Rattle.std.proofs.lemmas.List.{get_or_default, get_or_push, take_at}
+use Rattle.std.proofs.lemmas.List.{get_or_push, take_at}
 use Rattle.std.proofs.lemmas.List.Elements.{All-weaker, All-push, Contains-push_cases, Contains-append_left}
 use Rattle.cnf_core.specs.Lit.{Literal, literal, has}
 use Rattle.cnf_core.specs.Clause.{Clauses, AreThere, IsThere}
-use Rattle.cnf_core.specs.Propagation.{IsUnit, HasReason, Rup, AreAmong, SameLiterals}
+use Rattle.cnf_core.specs.Propagation.{HasReason, Rup, AreAmong, SameLiterals}
 use Rattle.cnf_core.proofs.PropagationLemmas.{contains_first, contains_later, rup_more, among_left}
 use Rattle.cnf_core.proofs.TrailLemmas.{there_get}
-use Rattle.watch_arena.specs.Trail.{Marks, IsMarks, IsLonger, undone, opened, with_lit, trail_level}
+use Rattle.watch_arena.specs.Trail.{Marks, IsMarks, IsLonger, undone, opened, with_lit}
 use Rattle.cnf_core.specs.Trail.{Grows}
 use Rattle.watch_arena.specs.Arena.{Attached, AreWatched, AreReasoned, attached_at, attached_clauses, IsSameText, IsMoreText}
-use Rattle.watch_arena.proofs.CutLemmas.{level_most, level_rise, level_step, level_take}
 use Rattle.cdcl_learn.specs.Sight.{Sight, sight, nth, level_of, IsSound}
 use Rattle.cdcl_learn.specs.Levels.{upto, IsStable, HasClosedLevels, SameUpto}
-use Rattle.cdcl_learn.proofs.LevelLemmas.{levels_same, levels_open}
+use Rattle.cdcl_learn.proofs.LevelLemmas.{levels_same, levels_open, quiet_same}
+use Rattle.cdcl_learn.proofs.SoundLemmas.{sound_texts}
 use Rattle.cdcl_core.specs.Kept.{AreSameClauses}
 use Rattle.cdcl_core.specs.Search.{AreFitted}
-use Rattle.cdcl_core.specs.Roots.{IsTrueAtRoot, all_of, IsGrounded, IsSolving, IsSettled}
-use Rattle.cdcl_core.proofs.SetLemmas.{quiet_among, quiet_equal, quiet_both, same_text, same_kept, among_append, among_itself}
+use Rattle.cdcl_core.specs.Roots.{IsTrueAtRoot, all_of, IsGrounded, IsSolving, HasPropagated}
+use Rattle.cdcl_core.proofs.SetLemmas.{quiet_among, quiet_both, same_text, same_kept, among_append, among_itself}
 use Rattle.cdcl_core.proofs.MoveLemmas.{IsFurther, further_longer, further_lit, further_decided, further_undone, further_same, back_same, further_later, upto_all}
 use Rattle.cdcl_core.proofs.RootLemmas.{reason_among, roots_further, roots_back, true_further, true_back, quiet_kept}
-
--- the levels, reasons and clauses are sound
-not_zero : (p : ℕ) → 1 ≤ p → p ≡ 0 → ⊥
-not_zero p some z = absurd (omega arith)
-
-level_zero : (cuts : List ℕ) (i : ℕ) → ((n : ℕ) → Contains cuts n → i < n) → trail_level cuts i ≡ 0
-level_zero [] i h = refl
-level_zero (n ∷ cuts) i h = sym (level_take (n ∷ cuts) zero i (λ k _ lt. h (get_or (n ∷ cuts) k 0) (k, lt, get_or_default (n ∷ cuts) k (get_or (n ∷ cuts) k 0) 0 lt)))
-
-stands_there : (m : Marks) (i : ℕ) → i < length m.lits → get_or m.lits i (get_or m.lits i (literal 0 true)) ≡ get_or m.lits i (literal 0 true)
-stands_there m i lt = sym (get_or_default m.lits i (literal 0 true) (get_or m.lits i (literal 0 true)) lt)
-
-pub sound_texts : (a : Attached) (m : Marks) → ((p : ℕ) → Contains a.places p → AreThere m.vars (attached_at a p)) → IsMarks m → AreReasoned a m → IsSound (sight a m)
-sound_texts a m texts marks reasoned = record {
-  distinct = marks.distinct;
-  there = marks.there;
-  clauses = texts;
-  present = λ i lt. subst (λ n. n ≤ length m.cuts) (sym (marks.levels i (literal 0 true) lt)) (level_most m.cuts i);
-  rise = λ i j lt within.
-      subst (λ n. n ≤ get_or m.levels (get_or m.lits j (literal 0 true)).var 0) (sym (marks.levels i (literal 0 true) (omega arith)))
-      (subst (λ n. trail_level m.cuts i ≤ n) (sym (marks.levels j (literal 0 true) within)) (level_rise m.cuts i j (omega arith)));
-  reason = λ i p lt e some.
-      let r = reasoned.reason i (get_or m.lits i (literal 0 true)) lt (stands_there m i lt) (λ z. not_zero p some (sym e ∙ z)) in
-      record {
-        place = subst (λ n. Contains a.places n) e r.place;
-        unit = subst (λ n. IsUnit (has (take i m.lits)) (attached_at a n) (get_or m.lits i (literal 0 true))) e r.unit;
-      };
-  decided = λ i j lt within same above.
-      elim (cases_lt 0 (get_or m.reasons (get_or m.lits j (literal 0 true)).var 0)) [
-        | inl some ↦ some
-        | inr none ↦
-            let here = marks.levels i (literal 0 true) (omega arith) in
-            let there = marks.levels j (literal 0 true) within in
-            let z : get_or m.reasons (get_or m.lits j (literal 0 true)).var 0 ≡ 0 = omega arith in
-            elim (reasoned.decided j (get_or m.lits j (literal 0 true)) within (stands_there m j within) z) [
-              | inl begins ↦ let up = level_step m.cuts j i j begins lt (omega arith) in absurd (differ (trail_level m.cuts i) (trail_level m.cuts j) up (sym here ∙ same ∙ there))
-              | inr later ↦ absurd (differ 0 (trail_level m.cuts j) (subst (λ n. 0 < n) there above) (sym (level_zero m.cuts j later)))
-            ]
-      ];
-}
-  where
-    differ : (p q : ℕ) → p < q → p ≡ q → ⊥
-    differ p q lt e = absurd (omega arith)
 
 pub grounded_sound : (a : Attached) (m : Marks) (own : Clauses) (refuted : Bool) → IsGrounded a m own refuted → IsSound (sight a m)
 grounded_sound a m own refuted g = sound_texts a m g.texts g.marks g.reasoned
@@ -79,10 +35,10 @@ quiet_all a m own q g quiet = quiet_both (attached_clauses a) own (upto (sight a
 pub levels_kept : (a : Attached) (m : Marks) (own : Clauses) → IsGrounded a m own false → HasClosedLevels (sight a m) (all_of a own)
 levels_kept a m own g = λ q lt. quiet_all a m own q g (g.levels q lt)
 
-pub settled_all : (a : Attached) (m : Marks) (own : Clauses) → IsGrounded a m own false → IsSettled a m → IsStable (all_of a own) (has m.lits)
+pub settled_all : (a : Attached) (m : Marks) (own : Clauses) → IsGrounded a m own false → HasPropagated a m → IsStable (all_of a own) (has m.lits)
 settled_all a m own g settled =
-    quiet_equal (all_of a own) (upto (sight a m) (length m.cuts)) (has m.lits) (λ l. sym (upto_all a m g.marks l))
-    (quiet_all a m own (length m.cuts) g (quiet_equal (attached_clauses a) (has m.lits) (upto (sight a m) (length m.cuts)) (λ l. upto_all a m g.marks l) settled.quiet))
+    quiet_same (all_of a own) (upto (sight a m) (length m.cuts)) (has m.lits) (λ l. sym (upto_all a m g.marks l))
+    (quiet_all a m own (length m.cuts) g (quiet_same (attached_clauses a) (has m.lits) (upto (sight a m) (length m.cuts)) (λ l. upto_all a m g.marks l) settled.quiet))
 
 -- propagation
 pub solving_propagated : (a b : Attached) (m n : Marks) (own : Clauses) (refuted : Bool) → IsMarks n → AreWatched b n → AreReasoned b n → IsSameText a b → IsLonger m n → Grows (attached_clauses a) m.lits n.lits → IsGrounded a m own refuted → IsSolving b n own refuted
@@ -153,14 +109,14 @@ grounded_undone a m own refuted level after reasoned le g = record {
     size = length-take-le level m.cuts le
 
 -- a decision, where all is propagated
-pub grounded_decided : (a : Attached) (m : Marks) (own : Clauses) (refuted : Bool) (l : Literal) → IsMarks (with_lit (opened m) l 0) → AreReasoned a (with_lit (opened m) l 0) → IsSettled a m → IsGrounded a m own refuted → IsGrounded a (with_lit (opened m) l 0) own refuted
+pub grounded_decided : (a : Attached) (m : Marks) (own : Clauses) (refuted : Bool) (l : Literal) → IsMarks (with_lit (opened m) l 0) → AreReasoned a (with_lit (opened m) l 0) → HasPropagated a m → IsGrounded a m own refuted → IsGrounded a (with_lit (opened m) l 0) own refuted
 grounded_decided a m own refuted l after reasoned settled g = record {
   vars = g.vars;
   texts = g.texts;
   marks = after;
   reasoned = reasoned;
   levels = levels_open (sight a m) (sight a (with_lit (opened m) l 0)) (attached_clauses a) size (subst (λ q. SameUpto (sight a m) (sight a (with_lit (opened m) l 0)) q) (sym size) (further_same a a m (with_lit (opened m) l 0) (length m.cuts + 1) f))
-      (quiet_equal (attached_clauses a) (has m.lits) (upto (sight a m) (length m.cuts)) (λ k. upto_all a m g.marks k) settled.quiet) g.levels;
+      (quiet_same (attached_clauses a) (has m.lits) (upto (sight a m) (length m.cuts)) (λ k. upto_all a m g.marks k) settled.quiet) g.levels;
   rooted = roots_further a a m (with_lit (opened m) l 0) (length m.cuts + 1) f (all_of a own) (all_of a own) (among_itself (all_of a own)) g.rooted
       (λ i le lt z. let later = further_later a a m (with_lit (opened m) l 0) (length m.cuts + 1) f i le lt in absurd (omega arith));
   there = g.there;
@@ -235,7 +191,7 @@ grounded_owned a m own now refuted after c is there holds fails g = record {
     among = among_append (attached_clauses a) own (attached_clauses a) now (among_itself (attached_clauses a)) (subst (λ (cs : Clauses). AreAmong own cs) (sym is) (among_left own (c ∷ [])))
 
 -- the same of the trail that a call leaves
-pub solving_decided : (a : Attached) (m n : Marks) (own : Clauses) (refuted : Bool) (l : Literal) → n ≡ with_lit (opened m) l 0 → IsMarks n → AreWatched a n → AreReasoned a n → IsSettled a m → IsGrounded a m own refuted → IsSolving a n own refuted
+pub solving_decided : (a : Attached) (m n : Marks) (own : Clauses) (refuted : Bool) (l : Literal) → n ≡ with_lit (opened m) l 0 → IsMarks n → AreWatched a n → AreReasoned a n → HasPropagated a m → IsGrounded a m own refuted → IsSolving a n own refuted
 solving_decided a m n own refuted l e marks watched reasoned settled g =
     subst (λ (x : Marks). IsSolving a x own refuted) (sym e)
     (record { watched = subst (AreWatched a) e watched; grounded = grounded_decided a m own refuted l (subst IsMarks e marks) (subst (AreReasoned a) e reasoned) settled g })

@@ -9,8 +9,8 @@ use Rattle.refute_log.specs.Lines.{MayBeTold}
 use Rattle.refute_log.specs.Told.{Lines}
 use Rattle.cdcl_core.specs.declared.search.Search.{Search}
 use Rattle.cdcl_core.specs.declared.answer.Answer.{Answer}
-use Rattle.cdcl_core.specs.Kept.{Kept, blank, widened, AreGiven, IsGivenOne, IsTrueAnswer, HasModelOnly}
-use Rattle.cdcl_core.specs.Belongs.{Belongs, BelongsTo, StillDerives, IsSearched}
+use Rattle.cdcl_core.specs.Kept.{Kept, blank, with_more_vars, AreGiven, IsGivenOne, IsTrueAnswer, HasModelOnly}
+use Rattle.cdcl_core.specs.Belongs.{Belongs, BelongsTo, StillDerives, HasSolved}
 use Rattle.cdcl_core.specs.Search.{clauses, seen, kept_of, IsIdle, IsSolver, IsKeptOne}
 use Rattle.cdcl_core.proofs.SetLemmas.{among_itself}
 use Rattle.cdcl_core.proofs.LogLemmas.{belongs_none, belongs_given}
@@ -38,15 +38,15 @@ pub room_view : (s : Search) (model : Option (List Bool)) (failed : Bool) (k : K
 room_view s model failed k invariant view e = subst (λ (x : Kept). x.room ≤ ROOM) view (idle_now s model failed k invariant view e).search.fitted.room_limit
 
 -- further variables
-pub wide_view : (s t : Search) (model : Option (List Bool)) (failed : Bool) (k : Kept) (n : ℕ) → kept_of s model failed ≡ k → k.failed ≡ false → kept_of t None false ≡ widened (kept_of s None false) n → kept_of t None failed ≡ widened k n
+pub wide_view : (s t : Search) (model : Option (List Bool)) (failed : Bool) (k : Kept) (n : ℕ) → kept_of s model failed ≡ k → k.failed ≡ false → kept_of t None false ≡ with_more_vars (kept_of s None false) n → kept_of t None failed ≡ with_more_vars k n
 wide_view s t model failed k n view e more =
     let f = failed_field s model failed k view e in
-    ap (kept_of t None) f ∙ more ∙ ap (λ b. widened (kept_of s model b) n) (sym f) ∙ ap (λ (x : Kept). widened x n) view
+    ap (kept_of t None) f ∙ more ∙ ap (λ b. with_more_vars (kept_of s model b) n) (sym f) ∙ ap (λ (x : Kept). with_more_vars x n) view
 
-pub wide_given : (k now : Kept) (n : ℕ) → now ≡ widened k n → (given : Clauses) → AreGiven given k.clauses → AreGiven given now.clauses
+pub wide_given : (k now : Kept) (n : ℕ) → now ≡ with_more_vars k n → (given : Clauses) → AreGiven given k.clauses → AreGiven given now.clauses
 wide_given k now n e given g = subst (λ (x : Kept). AreGiven given x.clauses) (sym e) g
 
-pub wide_belongs : (k now : Kept) (n : ℕ) → now ≡ widened k n → (lines : Lines) → Belongs lines k → Belongs lines now
+pub wide_belongs : (k now : Kept) (n : ℕ) → now ≡ with_more_vars k n → (lines : Lines) → Belongs lines k → Belongs lines now
 wide_belongs k now n e lines b = subst (Belongs lines) (sym e) b
 
 -- a clause was given
@@ -89,8 +89,8 @@ model_view s t model new failed k a view e h = subst (λ b. HasModelOnly a (kept
 pub solved_given : (s t : Search) (model : Option (List Bool)) (failed : Bool) (k : Kept) → kept_of s model failed ≡ k → ((given : Clauses) → AreGiven given (clauses s) → AreGiven given (clauses t)) → (given : Clauses) → AreGiven given k.clauses → AreGiven given (clauses t)
 solved_given s t model failed k view h given g = h given (subst (λ (x : Kept). AreGiven given x.clauses) (sym view) g)
 
-pub searched_view : (before now : Lines → Type 0) (query : List Literal) (s t : Search) (model new : Option (List Bool)) (failed : Bool) (k : Kept) (a : Answer) (budget count after : ℕ) → kept_of s model failed ≡ k → k.failed ≡ false → IsSearched before now query (seen s) (seen t) a budget count after → IsSearched before now query k (kept_of t new failed) a budget count after
-searched_view before now query s t model new failed k a budget count after view e h = subst (λ (x : Kept). IsSearched before now query x (kept_of t new failed) a budget count after) view (record {
+pub searched_view : (before now : Lines → Type 0) (query : List Literal) (s t : Search) (model new : Option (List Bool)) (failed : Bool) (k : Kept) (a : Answer) (budget count after : ℕ) → kept_of s model failed ≡ k → k.failed ≡ false → HasSolved before now query (seen s) (seen t) a budget count after → HasSolved before now query k (kept_of t new failed) a budget count after
+searched_view before now query s t model new failed k a budget count after view e h = subst (λ (x : Kept). HasSolved before now query x (kept_of t new failed) a budget count after) view (record {
   learnt = h.learnt;
   ending = h.ending;
   kept = record {

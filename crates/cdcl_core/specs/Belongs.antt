@@ -54,7 +54,7 @@ HasSpent Spent budget n = n ≡ budget
 HasSpent Room budget n = n ≤ budget
 
 -- what a search with an answer has told to a log, and left of the solver
-pub record IsSearched (before now : Lines → Type 0) (assume : List Literal) (old new : Kept) (answer : Answer) (budget before_count now_count : ℕ) : Type 0 where
+pub record HasSolved (before now : Lines → Type 0) (assume : List Literal) (old new : Kept) (answer : Answer) (budget before_count now_count : ℕ) : Type 0 where
   pub learnt : Clauses
   pub ending : Lines
   pub kept : HasLearnt old new learnt

@@ -29,8 +29,8 @@ abbrev pub blank : ℕ → Kept
 blank room = record { room = room; vars = 0; clauses = []; words = 0; learnt = 0; visits = 0; model = None; failed = false }
 
 -- further variables are there, and no model any more
-abbrev pub widened : Kept → ℕ → Kept
-widened k n = record { room = k.room; vars = k.vars + n; clauses = k.clauses; words = k.words; learnt = k.learnt; visits = k.visits; model = None; failed = k.failed }
+abbrev pub with_more_vars : Kept → ℕ → Kept
+with_more_vars k n = record { room = k.room; vars = k.vars + n; clauses = k.clauses; words = k.words; learnt = k.learnt; visits = k.visits; model = None; failed = k.failed }
 
 -- the same clauses, as sets of literals
 pub record AreSameClauses (clauses more : Clauses) : Type 0 where

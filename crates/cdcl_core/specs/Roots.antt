@@ -43,7 +43,7 @@ pub record IsSolving (a : Attached) (m : Marks) (own : Clauses) (refuted : Bool)
   pub grounded : IsGrounded a m own refuted
 
 -- all is propagated, and no clause of the arena is falsified
-pub record IsSettled (a : Attached) (m : Marks) : Type 0 where
+pub record HasPropagated (a : Attached) (m : Marks) : Type 0 where
   pub all_done : m.front ≡ length m.lits
   pub quiet : IsStable (attached_clauses a) (has m.lits)
 

@@ -11,17 +11,17 @@ use Rattle.refute_log.specs.Log.{facts_of, Derives}
 use Rattle.cdcl_core.specs.declared.search.Search.{Search}
 use Rattle.cdcl_core.specs.declared.answer.Answer.{Answer}
 use Rattle.cdcl_core.specs.Kept.{IsDeduced, IsOpenQuery, HasLearnt, AreGiven}
-use Rattle.cdcl_core.specs.Belongs.{BelongsTo, EndsWith, HasSpent, IsSearched}
+use Rattle.cdcl_core.specs.Belongs.{BelongsTo, EndsWith, HasSpent, HasSolved}
 use Rattle.cdcl_core.specs.Search.{clauses, seen, IsSameStore, IsSearchAnswer}
 
 -- the literals of a line's clause; none where it has no clause
-abbrev pub clause_of : LogLine → List Literal
-clause_of (Formula c) = c
-clause_of (Learnt c) = c
-clause_of (Bound criterion k x) = []
-clause_of (Query c) = c
-clause_of (RefutedLine c) = c
-clause_of ModelLine = []
+abbrev pub line_clause : LogLine → List Literal
+line_clause (Formula c) = c
+line_clause (Learnt c) = c
+line_clause (Bound criterion k x) = []
+line_clause (Query c) = c
+line_clause (RefutedLine c) = c
+line_clause ModelLine = []
 
 -- the lines belong to a solver, and the latest query is this one
 pub record BelongsAt (query : List Literal) (lines : Lines) (cs : Clauses) (count : ℕ) : Type 0 where
@@ -77,7 +77,7 @@ pub record EndsAfter (before now : Lines → Type 0) (count after : ℕ) (query 
   pub counted : after ≡ rose_by (length learnt) count
 
 -- the same behind the query's line
-pub record HasSearched (before now : Lines → Type 0) (count after : ℕ) (query : List Literal) (old new : Search) (answer : Answer) (budget : ℕ) : Type 0 where
-  pub searched : IsSearched before now query (seen old) (seen new) answer budget count after
+pub record EndsBehindQuery (before now : Lines → Type 0) (count after : ℕ) (query : List Literal) (old new : Search) (answer : Answer) (budget : ℕ) : Type 0 where
+  pub searched : HasSolved before now query (seen old) (seen new) answer budget count after
   pub given : (cs : Clauses) → AreGiven cs (clauses old) → AreGiven cs (clauses new)
   pub says : IsSearchAnswer answer query new

@@ -193,11 +193,6 @@ IsRefutedBy query s (Clash c) = IsClashOf s.arena s.trail c.0 × (length s.trail
 IsRefutedBy query s (Denied l) = IsDenied query s l
 IsRefutedBy query s Complete = ⊥
 
-abbrev pub MayEnd : List Literal → Search → Stop → Type 0
-MayEnd query s (Clash c) = IsRefutedBy query s (Clash c)
-MayEnd query s (Denied l) = IsRefutedBy query s (Denied l)
-MayEnd query s Complete = IsComplete query s
-
 -- what a search that ended says of its clauses
 abbrev pub IsSearchAnswer : Answer → List Literal → Search → Type 0
 IsSearchAnswer Model query s = IsComplete query s

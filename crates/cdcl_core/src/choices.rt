@@ -5,7 +5,7 @@ ghost use Rattle.cnf_core.specs.Clause.{IsThere, AreThere, AreDistinct};
 ghost use Rattle.cnf_core.specs.Propagation.{IsIn};
 ghost use Rattle.watch_arena.specs.Trail.{IsUnset};
 ghost use Rattle.pick_heap.specs.Heap.{IsHeld};
-ghost use Rattle.cdcl_core.specs.Roots.{IsSettled, AreOffered};
+ghost use Rattle.cdcl_core.specs.Roots.{HasPropagated, AreOffered};
 ghost use Rattle.cdcl_core.specs.Search.{IsSearch, IsSameStore, IsAsking, IsStop};
 
 use crate::search::Search;
@@ -81,7 +81,7 @@ impl Search {
     /// Decides the next assumption, which isn't true; or answers that it is false.
     fn assume(&mut self, query: &[Lit]) -> Option<Stop>
         requires search { IsSearch self.old }
-        requires settled { IsSettled self.old.arena self.old.trail }
+        requires settled { HasPropagated self.old.arena self.old.trail }
         requires there { AreThere self.old.trail.vars query.now }
         requires distinct { AreDistinct query.now }
         requires asking { IsAsking query.now self.old }
@@ -107,7 +107,7 @@ impl Search {
     fn choose(&mut self, query: &[Lit]) -> Option<Stop>
         requires search { IsSearch self.old }
         requires unrefuted { self.old.refuted ≡ false }
-        requires settled { IsSettled self.old.arena self.old.trail }
+        requires settled { HasPropagated self.old.arena self.old.trail }
         requires asking { IsAsking query.now self.old }
         requires all { length query.now ≤ self.old.assumed }
         ensures search { IsSearch self.new }
@@ -130,7 +130,7 @@ impl Search {
     fn decide_next(&mut self, query: &[Lit]) -> Option<Stop>
         requires search { IsSearch self.old }
         requires unrefuted { self.old.refuted ≡ false }
-        requires settled { IsSettled self.old.arena self.old.trail }
+        requires settled { HasPropagated self.old.arena self.old.trail }
         requires there { AreThere self.old.trail.vars query.now }
         requires distinct { AreDistinct query.now }
         requires asking { IsAsking query.now self.old }

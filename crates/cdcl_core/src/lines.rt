@@ -1,6 +1,6 @@
 // The clause of a line.
 ghost use Rattle.std.specs.Prelude.{◌≡◌};
-ghost use Rattle.cdcl_core.specs.Rounds.{clause_of};
+ghost use Rattle.cdcl_core.specs.Rounds.{line_clause};
 
 use cnf_core::Clause;
 use refute_log::LogLine;
@@ -8,7 +8,7 @@ use std::alloc::Global;
 
 /// The clause of a line, taken out of it without memory; the empty one where it has none.
 pub fn into_clause(alloc: Global, line: LogLine) -> Clause
-    ensures { result ≡ clause_of line }
+    ensures { result ≡ line_clause line }
 {
     match line {
         LogLine::Formula(c) => c,

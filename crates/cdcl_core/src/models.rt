@@ -3,7 +3,7 @@ ghost use Rattle.std.specs.Prelude.{◌≡◌, ◌≤◌, ◌<◌, true, false, 
 ghost use Rattle.outside_io.specs.Counts.{Rose};
 ghost use Rattle.cnf_core.specs.Clause.{Clauses, AreDistinct, IsNamed};
 ghost use Rattle.cdcl_core.specs.Kept.{AreGiven, IsTrueAnswer, HasModelOnly};
-ghost use Rattle.cdcl_core.specs.Belongs.{StillDerives, IsSearched};
+ghost use Rattle.cdcl_core.specs.Belongs.{StillDerives, HasSolved};
 ghost use Rattle.cdcl_core.specs.Search.{IsSearch, IsIdle, IsSameStore, IsSearchAnswer, clauses, kept_of, seen};
 ghost use Rattle.cnf_core.specs.Lit.{Literal, has};
 ghost use Rattle.cnf_core.specs.Assignment.{truth};
@@ -47,7 +47,7 @@ impl Search {
             IsTrueAnswer r.0 given query.now (kept_of self.new r.1 false)) }
         ensures model { IfOk result (λ r. HasModelOnly r.0 (kept_of self.new r.1 false)) }
         ensures given { OnOk result ((given : Clauses) → AreGiven given (clauses self.old) → AreGiven given (clauses self.new)) }
-        ensures searched { IfOk result (λ r. IsSearched (L.tells log.old) (L.tells log.new)
+        ensures searched { IfOk result (λ r. HasSolved (L.tells log.old) (L.tells log.new)
             query.now (seen self.old) (seen self.new) r.0 budget (L.learnt log.old) (L.learnt log.new)) }
         ensures derives { OnErr result (StillDerives (L.tells log.old) (L.tells log.new) (seen self.old)) }
         ensures cause { IsErrOf result SolveFault.Log → Rose (L.faults log.old) (L.faults log.new) }

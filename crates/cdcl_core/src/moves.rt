@@ -3,7 +3,7 @@ ghost use Rattle.std.specs.Prelude.{◌≡◌, ◌≤◌, ◌<◌, ◌+◌, List
 ghost use Rattle.cnf_core.specs.Lit.{Literal};
 ghost use Rattle.watch_arena.specs.Trail.{undone};
 ghost use Rattle.watch_arena.specs.Arena.{IsClashOf};
-ghost use Rattle.cdcl_core.specs.Roots.{IsSettled, AreOffered};
+ghost use Rattle.cdcl_core.specs.Roots.{HasPropagated, AreOffered};
 ghost use Rattle.cdcl_core.specs.Search.{IsSearch, IsSameStore, IsAsking};
 
 use crate::search::Search;
@@ -41,7 +41,7 @@ impl Search {
         ensures search { IsSearch self.new }
         ensures store { IsSameStore self.old self.new }
         ensures asking { (query : List Literal) → IsAsking query self.old → IsAsking query self.new }
-        ensures settled { result ≡ None → IsSettled self.new.arena self.new.trail }
+        ensures settled { result ≡ None → HasPropagated self.new.arena self.new.trail }
         ensures clash { IfSome result (λ c. IsClashOf self.new.arena self.new.trail c.0) }
         ensures longer { length self.old.trail.lits ≤ length self.new.trail.lits }
     {

@@ -5,7 +5,7 @@ ghost use Rattle.cnf_core.specs.Lit.{Literal};
 ghost use Rattle.cnf_core.specs.Clause.{AreDistinct, AreThere, IsNamed};
 ghost use Rattle.watch_arena.specs.Arena.{IsClashOf};
 ghost use Rattle.cdcl_core.specs.Search.{IsSearch, IsIdle, IsSameStore, IsAsking, clauses, seen};
-ghost use Rattle.cdcl_core.specs.Rounds.{LearnsOne, EndsSo, DerivesAt, EndsAfter, HasSearched};
+ghost use Rattle.cdcl_core.specs.Rounds.{LearnsOne, EndsSo, DerivesAt, EndsAfter, EndsBehindQuery};
 ghost use Rattle.cdcl_core.specs.Belongs.{StillDerives};
 
 use crate::answer::Answer;
@@ -221,7 +221,7 @@ impl Search {
         requires distinct { AreDistinct query.now }
         requires named { All (λ l. IsNamed (clauses self.old) l.var) query.now }
         ensures search { OnOk result (IsSearch self.new) }
-        ensures searched { IfOk result (λ a. HasSearched (L.tells log.old) (L.tells log.new)
+        ensures searched { IfOk result (λ a. EndsBehindQuery (L.tells log.old) (L.tells log.new)
             (L.learnt log.old) (L.learnt log.new) query.now self.old self.new a budget) }
         ensures derives { OnErr result (StillDerives (L.tells log.old) (L.tells log.new) (seen self.old)) }
         ensures cause { IsErrOf result SolveFault.Log → Rose (L.faults log.old) (L.faults log.new) }

@@ -1,7 +1,7 @@
 // The state of a search, and how it grows.
 ghost use Rattle.std.specs.Prelude.{◌≡◌, ◌≤◌, ◌<◌, ◌+◌, ◌-◌, ◌↔◌, false, length, IfOk, OnOk, IsErrOf};
 ghost use Rattle.cdcl_core.specs.Search.{IsFitted, IsIdle, kept_of};
-ghost use Rattle.cdcl_core.specs.Kept.{blank, widened};
+ghost use Rattle.cdcl_core.specs.Kept.{blank, with_more_vars};
 
 use crate::fault::AddFault;
 use cdcl_learn::Analyser;
@@ -67,7 +67,7 @@ impl Search {
     pub fn add_vars(&mut self, n: u32) -> Result<(), AddFault>
         requires { IsIdle self.old }
         ensures idle { OnOk result (IsIdle self.new) }
-        ensures more { OnOk result (kept_of self.new None false ≡ widened (kept_of self.old None false) n) }
+        ensures more { OnOk result (kept_of self.new None false ≡ with_more_vars (kept_of self.old None false) n) }
         ensures room { IsErrOf result AddFault.Room ↔ VARS < self.old.trail.vars + n }
         ensures cause { IsErrOf result AddFault.Log → ⊥ }
     {

@@ -4,8 +4,8 @@ ghost use Rattle.outside_io.specs.Counts.{Rose};
 ghost use Rattle.cnf_core.specs.Clause.{Clauses, AreDistinct, AreThere, IsNamed};
 ghost use Rattle.refute_log.specs.declared.line.LogLine.TheVariants.{Formula};
 ghost use Rattle.refute_log.specs.Told.{Lines, AddsLine};
-ghost use Rattle.cdcl_core.specs.Kept.{blank, widened, AreGiven, IsGivenOne, IsTrueAnswer, HasModelOnly};
-ghost use Rattle.cdcl_core.specs.Belongs.{Belongs, StillDerives, IsSearched};
+ghost use Rattle.cdcl_core.specs.Kept.{blank, with_more_vars, AreGiven, IsGivenOne, IsTrueAnswer, HasModelOnly};
+ghost use Rattle.cdcl_core.specs.Belongs.{Belongs, StillDerives, HasSolved};
 
 use crate::answer::Answer;
 use crate::fault::{AddFault, SolveFault};
@@ -54,7 +54,7 @@ impl Solver {
     /// Takes `n` further variables. `Room` comes exactly where there would be more than `VARS`.
     pub fn add_vars(&mut self, n: u32) -> Result<(), AddFault>
         requires { self.old.failed ≡ false }
-        ensures more { OnOk result (self.new ≡ widened self.old n) }
+        ensures more { OnOk result (self.new ≡ with_more_vars self.old n) }
         ensures given { OnOk result ((given : Clauses) → AreGiven given self.old.clauses → AreGiven given self.new.clauses) }
         ensures belongs { OnOk result ((lines : Lines) → Belongs lines self.old → Belongs lines self.new) }
         ensures room { IsErrOf result AddFault.Room ↔ VARS < self.old.vars + n }
@@ -118,7 +118,7 @@ impl Solver {
             IsTrueAnswer a given assume.now self.new) }
         ensures model { IfOk result (λ a. HasModelOnly a self.new) }
         ensures given { OnOk result ((given : Clauses) → AreGiven given self.old.clauses → AreGiven given self.new.clauses) }
-        ensures searched { IfOk result (λ a. IsSearched (L.tells log.old) (L.tells log.new)
+        ensures searched { IfOk result (λ a. HasSolved (L.tells log.old) (L.tells log.new)
             assume.now self.old self.new a budget (L.learnt log.old) (L.learnt log.new)) }
         ensures derives { OnErr result (StillDerives (L.tells log.old) (L.tells log.new) self.old) }
         ensures cause { IsErrOf result SolveFault.Log → Rose (L.faults log.old) (L.faults log.new) }

@@ -14,13 +14,13 @@ use Rattle.cnf_core.specs.declared.literal.Var.{Var}
 use Rattle.cnf_core.specs.Lit.{Literal, literal, positive_of, negative_of, negate, has}
 use Rattle.cnf_core.specs.Clause.{Clauses, Avoids, AreDistinct, IsNamed}
 use Rattle.cnf_core.specs.Assignment.{Assignment, truth}
-use Rattle.cnf_core.specs.Propagation.{Falsifies, AreAmong}
-use Rattle.cnf_core.proofs.PropagationLemmas.{falsifies_more, rup_more, new_same}
+use Rattle.cnf_core.specs.Propagation.{Falsifies}
+use Rattle.cnf_core.proofs.PropagationLemmas.{falsifies_more, rup_more}
 use Rattle.track_order.specs.Order.{is_above, is_overlap}
 use Rattle.refute_log.specs.declared.line.LogLine.{LogLine}
 use Rattle.refute_log.specs.declared.line.LogLine.TheVariants.{Formula, Learnt, Bound as BoundLine, Query, Refuted as RefutedLine, Model as ModelLine}
 use Rattle.refute_log.specs.Told.{Lines}
-use Rattle.refute_log.specs.Log.{asked, learnt, facts_of, Open, IsNewClause}
+use Rattle.refute_log.specs.Log.{asked, learnt, facts_of, Open}
 use Rattle.certified_values.specs.Bounds.{SaysAtLeast}
 use Rattle.certified_values.specs.Expected.{clause_line, clause_lines}
 use Rattle.certified_values.specs.Full.{NextClausePasses}
@@ -33,17 +33,18 @@ use Rattle.cdcl_core.specs.Kept.{Kept, more_learnt, MakesTrue, IsOpenQuery, IsFu
 use Rattle.cdcl_core.specs.Belongs.{Belongs, search_lines, EndsWith, HasSpent}
 use Rattle.lex_search.specs.declared.oracle.Below.{Below}
 use Rattle.lex_search.specs.Task.{greatest_of}
-use Rattle.lex_search.specs.Asked.{HasBound, AreOnce, AreMet, AreNegated, AreAgainst}
+use Rattle.lex_search.specs.Asked.{IsWithinCap, AreOnce, AreMet, AreNegated, AreAgainst}
 use Rattle.drawing_problem.specs.Layout.{Layout}
 use Rattle.lex_minimise.specs.Task.{task_of}
 use Rattle.lex_minimise.specs.Known.{told_lines, told_clauses, caps_of, AreTold, KnowsLines}
-use Rattle.lex_minimise.specs.Asking.{HasLimit, IsLimitOf, IsAssumed, AreAssumed, IsAnswered}
+use Rattle.lex_minimise.specs.Asking.{HasLimit, IsLimitOf, IsAssumed, AreAssumed, TellsAnswer}
 use Rattle.drawing_problem.proofs.ListLemmas.{line_there}
+use Rattle.cdcl_core.proofs.LogLemmas.{new_told}
 use Rattle.lex_minimise.proofs.CoverLemmas.{one_bound, told_of, HasTold}
 
 -- ---- the assumptions
 
-pub none_has_limit : (told : List Bound) (b : Below) (i : ℕ) → length told ≤ i → HasBound (caps_of told) b → All (λ t. HasLimit b t → ⊥) (take i told) → ⊥
+pub none_has_limit : (told : List Bound) (b : Below) (i : ℕ) → length told ≤ i → IsWithinCap (caps_of told) b → All (λ t. HasLimit b t → ⊥) (take i told) → ⊥
 none_has_limit told b i end there none =
     let to = there.1 in
     let from = there.0 in
@@ -248,16 +249,12 @@ is_open assume cs lines k belongs closed =
     subst (λ (o : Option (List Literal)). MatchOption o ⊥ (λ q. Falsifies (facts_of whole).clauses (has q) → ⊥)) (sym (latest_query assume cs lines))
     (λ f. closed (falsifies_more (facts_of whole).clauses k.clauses (has assume) belongs.told f))
 
-new_among : (clauses more : Clauses) (c : List Literal) → AreAmong clauses more → AreAmong more clauses → IsNewClause clauses c → IsNewClause more c
-new_among clauses more [] there back h = absurd h
-new_among clauses more (first ∷ others) there back h = new_same clauses more first others others there back (λ l. (λ m. m, λ m. m)) h
-
 pub has_no_room : (lines : Lines) (k : Kept) → Belongs lines k → IsFull k.room k.words k.clauses → NextClausePasses lines k.room
 has_no_room lines k belongs full = record {
   clause = full.clause;
   formed = full.formed;
   follows = rup_more k.clauses (facts_of lines).clauses full.clause belongs.all (full.deduced).follows;
-  new = new_among k.clauses (facts_of lines).clauses full.clause belongs.all belongs.told (full.deduced).new;
+  new = new_told k.clauses (facts_of lines).clauses full.clause belongs.all belongs.told (full.deduced).new;
   passes = (let words = belongs.words in let p = full.passes in omega arith);
 }
 
@@ -278,7 +275,7 @@ count_after old new n budget le few top is = is ∙ learnt_exactly old n (omega 
 
 pub answered : (y : Layout) (budget room : ℕ) (told : List Bound) (old new : Kept) (bounds : List Below) (assume : List Literal) (a : Answer) (cs : Clauses) (lines ending : Lines) →
     KnowsLines y told budget room old lines → old.learnt ≤ budget → new.room ≡ room → AreAssumed told bounds assume → Belongs (lines ++ search_lines assume cs ending) new → EndsWith a assume ending → HasSpent a (budget - old.learnt) (length cs) →
-    (given : Clauses) → IsTrueAnswer a given assume new → IsAnswered (task_of y budget room) lines bounds a (search_lines assume cs ending)
+    (given : Clauses) → IsTrueAnswer a given assume new → TellsAnswer (task_of y budget room) lines bounds a (search_lines assume cs ending)
 answered y budget room told old new bounds assume ModelAnswer cs lines ending k spent is_room h belongs ends has given true_answer = record {
   query = assume;
   negated = are_negated y told lines bounds assume k.told_are h;

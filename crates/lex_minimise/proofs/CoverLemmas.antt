@@ -2,7 +2,7 @@
 use Rattle.std.proofs.Common.{◌≡◌, ◌≢◌, ◌≤◌, ℕ, ◌+◌, ◌⊎◌, Bool, true, false, cond, List, [], ◌∷◌, ◌++◌, length, map, refl, sym, ◌∙◌, ap, subst, inl, inr, arith, append-nil}
 use Rattle.std.specs.Prelude.{All, AllPairs, Contains, flat_map, fold, min}
 use Rattle.std.proofs.lemmas.Grind.{flat_map-append}
-use Rattle.std.proofs.lemmas.List.Elements.{All-nil, All-cons, All-head, All-tail, All-contains, All-weaker, Contains-append_cases, Contains-append_right}
+use Rattle.std.proofs.lemmas.List.Elements.{All-head, All-tail, All-weaker, Contains-append_cases, Contains-append_right}
 use Rattle.plan_core.specs.declared.criterion.Criterion.{Criterion}
 use Rattle.plan_core.specs.declared.criterion.Criterion.TheVariants.{Height, Bends, Diagonal, Width}
 use Rattle.plan_core.specs.Grid.{GridSize}
@@ -32,7 +32,7 @@ use Rattle.drawing_problem.specs.Lists.{variables_behind, lines_of_bound}
 use Rattle.drawing_problem.specs.Layout.{Layout}
 use Rattle.lex_minimise.specs.Known.{told_lines, with_bound, no_caps, caps_of, AreTold, KnowsLines}
 use Rattle.drawing_problem.proofs.CoverLemmas.{meets_with}
-use Rattle.drawing_problem.proofs.ListLemmas.{length-variables, IsBoundLine, IsOfBound, in_lines}
+use Rattle.drawing_problem.proofs.ListLemmas.{first_line, length-variables, IsBoundLine, IsOfBound, in_lines}
 
 -- ---- they cover
 
@@ -55,15 +55,9 @@ cap_within g x grid b = by b.criterion
 all_behind : (g : Graph) (x : DrawingVars) (grid : GridSize) (vars : ℕ) (told : List Bound) → AreBehind g x grid vars told → (b : Bound) → Contains told b → vars ≤ b.last
 all_behind g x grid vars [] h b there = absurd (let lt = there.1 in omega arith)
 all_behind g x grid vars (a ∷ rest) h b there = elim (Contains-append_cases (a ∷ []) rest b there) [
-  | inl here ↦ let e : a ≡ b = only a b here in subst (λ (c : Bound). vars ≤ c.last) e h.0
+  | inl here ↦ let e : a ≡ b = first_line a b here in subst (λ (c : Bound). vars ≤ c.last) e h.0
   | inr later ↦ let le = all_behind g x grid (a.last + size_of_bound g x grid a) rest h.1 b later in let first = h.0 in omega arith
 ]
-  where
-    only : (a b : Bound) → Contains (a ∷ []) b → a ≡ b
-    only a b there = All-contains (λ (c : Bound). c ≡ b → a ≡ b) (a ∷ []) b (All-cons (λ (c : Bound). c ≡ b → a ≡ b) a [] (λ e. e) (All-nil (λ (c : Bound). c ≡ b → a ≡ b))) there refl
-
-pub only_bound : (a b : Bound) → Contains (a ∷ []) b → a ≡ b
-only_bound a b there = All-contains (λ (c : Bound). c ≡ b → a ≡ b) (a ∷ []) b (All-cons (λ (c : Bound). c ≡ b → a ≡ b) a [] (λ e. e) (All-nil (λ (c : Bound). c ≡ b → a ≡ b))) there refl
 
 -- the bound of a variable is one
 pub one_bound : (g : Graph) (x : DrawingVars) (grid : GridSize) (vars : ℕ) (told : List Bound) → AreBehind g x grid vars told → (a b : Bound) (j k : ℕ) → Contains told a → Contains told b → 1 ≤ j → j ≤ a.cap → 1 ≤ k → k ≤ b.cap → a.last + j ≡ b.last + k → a ≡ b
@@ -71,9 +65,9 @@ one_bound g x grid vars [] h a b j k ia ib low high from to same = absurd (let l
 one_bound g x grid vars (c ∷ rest) h a b j k ia ib low high from to same =
     elim (Contains-append_cases (c ∷ []) rest a ia) [
       | inl ha ↦ elim (Contains-append_cases (c ∷ []) rest b ib) [
-        | inl hb ↦ sym (only_bound c a ha) ∙ only_bound c b hb
+        | inl hb ↦ sym (first_line c a ha) ∙ first_line c b hb
         | inr lb ↦
-            let e : c ≡ a = only_bound c a ha in
+            let e : c ≡ a = first_line c a ha in
             let le = all_behind g x grid (c.last + size_of_bound g x grid c) rest h.1 b lb in
             let size = cap_within g x grid c in
             let cap : c.cap ≡ a.cap = ap (λ (z : Bound). z.cap) e in
@@ -82,7 +76,7 @@ one_bound g x grid vars (c ∷ rest) h a b j k ia ib low high from to same =
       ]
       | inr la ↦ elim (Contains-append_cases (c ∷ []) rest b ib) [
         | inl hb ↦
-            let e : c ≡ b = only_bound c b hb in
+            let e : c ≡ b = first_line c b hb in
             let le = all_behind g x grid (c.last + size_of_bound g x grid c) rest h.1 a la in
             let size = cap_within g x grid c in
             let cap : c.cap ≡ b.cap = ap (λ (z : Bound). z.cap) e in

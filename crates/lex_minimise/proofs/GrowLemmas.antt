@@ -6,7 +6,7 @@ use Rattle.std.proofs.lemmas.List.{get_or_append_left, get_or_push}
 use Rattle.std.proofs.lemmas.List.Elements.{All-nil, All-push, All-weaker, Contains-append_cases}
 use Rattle.plan_core.specs.declared.criterion.Criterion.{Criterion}
 use Rattle.plan_core.specs.Values.{limit_of}
-use Rattle.plan_core.proofs.ListFacts.{pairs_head, pairs_tail}
+use Rattle.plan_core.proofs.ListFacts.{each_pushed, pairs_head, pairs_tail}
 use Rattle.cnf_core.specs.declared.literal.Var.{Var}
 use Rattle.cnf_core.specs.declared.limits.TheConstants.{VARS}
 use Rattle.cnf_core.specs.Lit.{Literal}
@@ -25,14 +25,13 @@ use Rattle.drawing_cnf.specs.Expected.{drawing_vars, formula_clauses, formula_si
 use Rattle.drawing_cnf.specs.Bounded.{Bound, clauses_of_bound, bounds_clauses, AreBehind, CoversWith}
 use Rattle.cdcl_core.specs.Kept.{Kept}
 use Rattle.cdcl_core.specs.Belongs.{Belongs}
-use Rattle.cdcl_core.proofs.LogLemmas.{formed_more}
 use Rattle.lex_search.proofs.StepLemmas.{clause_lines_append}
 use Rattle.lex_search.proofs.BuildLemmas.{sum_is_clauses}
 use Rattle.drawing_problem.specs.Lists.{drawing_problem, lines_of_bound, variables_behind}
 use Rattle.drawing_problem.specs.Layout.{Layout}
 use Rattle.lex_minimise.specs.Known.{told_clauses, told_lines, with_bound, no_caps, caps_of, AreTold}
-use Rattle.lex_minimise.proofs.CoverLemmas.{none_of, only_bound}
-use Rattle.drawing_problem.proofs.ListLemmas.{sum_is_bound, with_more}
+use Rattle.lex_minimise.proofs.CoverLemmas.{none_of}
+use Rattle.drawing_problem.proofs.ListLemmas.{first_line, sum_is_bound, with_more}
 use Rattle.certified_values.proofs.ExpectedLemmas.{same_itself}
 use Rattle.std.proofs.lemmas.List.Elements.{Contains-get_or}
 
@@ -42,7 +41,7 @@ one_bound_line : (lines : Lines) (k : Kept) (c : Criterion) (n : ℕ) (x : Var) 
 one_bound_line lines k c n x formed h =
     let same : flat_map added (lines ++ BoundLine c n x ∷ []) ≡ flat_map added lines = flat_map-append added lines (BoundLine c n x ∷ []) ∙ append-nil (flat_map added lines) in
     record {
-      formed = formed_more lines (BoundLine c n x) h.formed formed;
+      formed = each_pushed MayBeTold lines (BoundLine c n x) h.formed formed;
       derives = derives_more lines (BoundLine c n x) h.derives (record { named = All-nil (λ (l : Literal). l.var ≤ (facts_of lines).greatest); answers = tt; implied = tt; says_more = tt });
       due = due_more lines (BoundLine c n x) h.due (λ d e. absurd (cc));
       told = subst (λ (cs : Clauses). AreAmong cs k.clauses) (sym same) h.told;
@@ -81,15 +80,12 @@ cap_is : (y : Layout) (f : Criterion → ℕ) (told : List Bound) (a : Bound) �
 cap_is y f [] a once there = absurd (let lt = there.1 in omega arith)
 cap_is y f (b ∷ bs) a once there = elim (Contains-append_cases (b ∷ []) bs a there) [
   | inl here ↦
-      let e : b ≡ a = only here in
+      let e : b ≡ a = first_line b a here in
       let others : All (λ d. b.criterion ≢ d.criterion) bs = pairs_head (λ b d. b.criterion ≢ d.criterion) b bs once in
       let rest = none_of y.graph (drawing_vars y.graph y.grid) y.grid (with_bound f b) bs b.criterion others in
       subst (λ (z : Bound). fold with_bound (with_bound f b) bs z.criterion ≡ z.cap) e (rest.1 ∙ ap (λ t. cond t b.cap (f b.criterion)) (same_itself b.criterion))
   | inr later ↦ cap_is y (with_bound f b) bs a (pairs_tail (λ b d. b.criterion ≢ d.criterion) b bs once) later
 ]
-  where
-    only : Contains (b ∷ []) a → b ≡ a
-    only h = only_bound b a h
 
 -- a criterion without a cap has no bound
 pub none_told : (y : Layout) (told : List Bound) (c : Criterion) → AreTold y told → caps_of told c ≡ 0 → All (λ b. b.criterion ≢ c) told
@@ -125,7 +121,8 @@ clauses_more y told b =
     ap (λ (cs : Clauses). first ++ cs) (flat_map-append (clauses_of_bound y.graph x y.grid) told (b ∷ []) ∙ ap (λ (cs : Clauses). bounds_clauses y.graph x y.grid told ++ cs) (append-nil (clauses_of_bound y.graph x y.grid b)))
     ∙ sym (append_assoc first (bounds_clauses y.graph x y.grid told) (clauses_of_bound y.graph x y.grid b))
 
-named_in : (cs ds : Clauses) (v : ℕ) → AreAmong cs ds → IsNamed cs v → IsNamed ds v
+-- a variable that is named is named among more clauses
+pub named_in : (cs ds : Clauses) (v : ℕ) → AreAmong cs ds → IsNamed cs v → IsNamed ds v
 named_in cs ds v among n = let d = among n.clause n.among in record { clause = d.0; among = d.1; lit = n.lit; inside = (d.2 n.lit).0 n.inside; var = n.var }
 
 pub told_more : (y : Layout) (told : List Bound) (b : Bound) → AreTold y told → caps_of told b.criterion ≡ 0 → 1 ≤ b.cap → b.cap ≤ limit_of y.graph y.grid b.criterion → b.last + b.cap ≤ VARS →

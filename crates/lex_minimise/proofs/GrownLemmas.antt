@@ -27,7 +27,7 @@ use Rattle.drawing_cnf.specs.Whole.{drawing_clauses}
 use Rattle.drawing_problem.specs.Lists.{variables_behind, lines_of_bound}
 use Rattle.drawing_problem.specs.Layout.{Layout, problem_of, layout_of}
 use Rattle.drawing_problem.proofs.ListLemmas.{sum_is_bound, sum_vars_is_size}
-use Rattle.cdcl_core.specs.Kept.{Kept, AreGiven, widened}
+use Rattle.cdcl_core.specs.Kept.{Kept, AreGiven, with_more_vars}
 use Rattle.cdcl_core.specs.Belongs.{Belongs}
 use Rattle.lex_search.specs.declared.oracle.Built.TheVariants.{Whole}
 use Rattle.lex_search.specs.Steps.{ToldBehind}
@@ -138,7 +138,7 @@ grown_small e told budget room b n k g s is =
 
 -- ---- behind
 
-pub ready_grown : (e : Encoding) (told : List Bound) (budget room : ℕ) (b : Bound) (n : ℕ) (old new : Kept) → IsGrown e told budget room b n old → HasTaken (widened old (e.formula.vars - old.vars)) new (drop n e.formula.clauses) → IsReady e (told ++ b ∷ []) budget room new
+pub ready_grown : (e : Encoding) (told : List Bound) (budget room : ℕ) (b : Bound) (n : ℕ) (old new : Kept) → IsGrown e told budget room b n old → HasTaken (with_more_vars old (e.formula.vars - old.vars)) new (drop n e.formula.clauses) → IsReady e (told ++ b ∷ []) budget room new
 ready_grown e told budget room b n old new g t =
     let all : told_clauses (layout_of e) told ++ drop n e.formula.clauses ≡ e.formula.clauses =
     ap (λ (cs : Clauses). told_clauses (layout_of e) told ++ cs) g.rest ∙ sym (clauses_more (layout_of e) told b) ∙ sym (whole_clauses e (told ++ b ∷ []) (g.whole).clauses g.bounds) in
@@ -155,7 +155,7 @@ ready_grown e told budget room b n old new g t =
     }
 
 pub grown_goes : (e : Encoding) (told : List Bound) (budget room : ℕ) (b : Bound) (n : ℕ) (old new : Kept) (l0 l1 l2 : Lines → Type 0) (n0 n1 n2 : ℕ) → IsGrown e told budget room b n old → b.cap ≤ MAX_NUMBER →
-    HasTaken (widened old (e.formula.vars - old.vars)) new (drop n e.formula.clauses) → old.words + words_of (drop n e.formula.clauses) ≤ room →
+    HasTaken (with_more_vars old (e.formula.vars - old.vars)) new (drop n e.formula.clauses) → old.words + words_of (drop n e.formula.clauses) ≤ room →
     GoesOn (λ ls. Belongs ls old) (λ ls. Belongs ls new) l0 l1 n0 n1 (λ lines more. more ≡ map Formula (drop n e.formula.clauses)) →
     AddsAll l1 l2 (bound_lines b.criterion 1 (variables_behind b.last b.cap)) → n2 ≡ n1 →
     GoesOn (KnowsLines (layout_of e) told budget room old) (KnowsLines (layout_of e) (told ++ b ∷ []) budget room new) l0 l2 n0 n2 (λ lines more. more ≡ lines_of_bound e.graph (encoded_vars e) e.grid b)

@@ -20,7 +20,7 @@ use Rattle.drawing_cnf.specs.Whole.{drawing_clauses}
 use Rattle.cdcl_core.specs.declared.answer.Answer.{Answer}
 use Rattle.cdcl_core.specs.declared.answer.Answer.TheVariants.{Model as ModelAnswer, Refuted as RefutedAnswer, Spent as SpentAnswer, Room as RoomAnswer}
 use Rattle.cdcl_core.specs.Kept.{Kept, HasLearnt, HasModel, MakesTrue, AreGiven, IsTrueAnswer}
-use Rattle.cdcl_core.specs.Belongs.{search_lines, HasSpent, IsSearched}
+use Rattle.cdcl_core.specs.Belongs.{search_lines, HasSpent, HasSolved}
 use Rattle.lex_search.specs.declared.oracle.Below.{Below}
 use Rattle.lex_search.specs.declared.oracle.Reply.{Reply}
 use Rattle.lex_search.specs.declared.oracle.Reply.TheVariants.{Found, Refuted, Stopped}
@@ -32,20 +32,18 @@ use Rattle.lex_minimise.specs.Task.{task_of}
 use Rattle.drawing_problem.specs.Layout.{layout_of}
 use Rattle.lex_minimise.specs.Known.{told_clauses, KnowsLines, IsReady}
 use Rattle.lex_minimise.specs.Told.{GoesOn}
-use Rattle.lex_minimise.specs.Asking.{AreAssumed, IsAnswered, IsReplyOf}
+use Rattle.lex_minimise.specs.Asking.{AreAssumed, TellsAnswer, IsReplyOf}
 use Rattle.lex_minimise.proofs.CoverLemmas.{known_lines}
+use Rattle.lex_minimise.proofs.GrowLemmas.{named_in}
 use Rattle.lex_minimise.proofs.AskLemmas.{are_negated, are_named, are_met, answered, count_of_search, learnt_of_search, no_clauses_at_end, within_budget, count_after}
 
 pub formula_told : (e : Encoding) (told : List Bound) (budget room : ℕ) (k : Kept) → IsReady e told budget room k → e.formula.clauses ≡ told_clauses (layout_of e) told
 formula_told e told budget room k ready = (ready.whole).clauses ∙ ap (λ (bs : List Bound). drawing_clauses e ++ bounds_clauses e.graph (drawing_vars e.graph e.grid) e.grid bs) ready.bounds
 
-named_among : (cs ds : Clauses) (v : ℕ) → AreAmong cs ds → IsNamed cs v → IsNamed ds v
-named_among cs ds v among n = let d = among n.clause n.among in record { clause = d.0; among = d.1; lit = n.lit; inside = (d.2 n.lit).0 n.inside; var = n.var }
-
 pub all_named : (e : Encoding) (told : List Bound) (budget room : ℕ) (k : Kept) (bounds : List Below) (assume : List Literal) → IsReady e told budget room k → AreAssumed told bounds assume → All (λ l. IsNamed k.clauses l.var) assume
 all_named e told budget room k bounds assume ready h =
     All-weaker (λ l. IsNamed (told_clauses (layout_of e) told) l.var) (λ l. IsNamed k.clauses l.var)
-    (λ l n. named_among (told_clauses (layout_of e) told) k.clauses l.var (subst (λ (cs : Clauses). AreAmong cs k.clauses) (formula_told e told budget room k ready) (ready.given).kept) n) assume
+    (λ l n. named_in (told_clauses (layout_of e) told) k.clauses l.var (subst (λ (cs : Clauses). AreAmong cs k.clauses) (formula_told e told budget room k ready) (ready.given).kept) n) assume
     (are_named (layout_of e) told bounds assume ready.facts h)
 
 pub ready_after : (e : Encoding) (told : List Bound) (budget room : ℕ) (old new : Kept) (a : Answer) (cs : Clauses) → budget < 2 ^ 32 → IsReady e told budget room old → HasLearnt old new cs → HasSpent a (budget - old.learnt) (length cs) → AreGiven e.formula.clauses new.clauses → IsReady e told budget room new
@@ -65,8 +63,8 @@ ready_after e told budget room old new a cs top ready h has given =
     }
 
 pub search_goes : (e : Encoding) (told : List Bound) (budget room : ℕ) (old new : Kept) (bounds : List Below) (assume : List Literal) (a : Answer) (before now : Lines → Type 0) (n m : ℕ) → budget < 2 ^ 32 →
-    IsReady e told budget room old → AreAssumed told bounds assume → IsSearched before now assume old new a (budget - old.learnt) n m → IsTrueAnswer a e.formula.clauses assume new → new.words ≤ room → new.vars ≤ VARS →
-    GoesOn (KnowsLines (layout_of e) told budget room old) (KnowsLines (layout_of e) told budget room new) before now n m (λ lines more. IsAnswered (task_of (layout_of e) budget room) lines bounds a more)
+    IsReady e told budget room old → AreAssumed told bounds assume → HasSolved before now assume old new a (budget - old.learnt) n m → IsTrueAnswer a e.formula.clauses assume new → new.words ≤ room → new.vars ≤ VARS →
+    GoesOn (KnowsLines (layout_of e) told budget room old) (KnowsLines (layout_of e) told budget room new) before now n m (λ lines more. TellsAnswer (task_of (layout_of e) budget room) lines bounds a more)
 search_goes e told budget room old new bounds assume a before now n m top ready h s true_answer fits vars = λ lines k.
     let more = search_lines assume s.learnt s.ending in
     let belongs = s.belongs lines k.belongs in
@@ -100,7 +98,7 @@ model_met e told budget room k bounds assume m d ready h model is tells =
 
 -- ---- the reply
 
-pub reply_lines : (p : Task) (lines : Lines) (bounds : List Below) (a : Answer) (r : Reply) (more : Lines) → IsReplyOf a r → IsAnswered p lines bounds a more → IsReply p lines bounds r more
+pub reply_lines : (p : Task) (lines : Lines) (bounds : List Below) (a : Answer) (r : Reply) (more : Lines) → IsReplyOf a r → TellsAnswer p lines bounds a more → IsReply p lines bounds r more
 reply_lines p lines bounds ModelAnswer (Found d) more is h = h
 reply_lines p lines bounds ModelAnswer Refuted more is h = absurd is
 reply_lines p lines bounds ModelAnswer (Stopped stop) more is h = absurd is

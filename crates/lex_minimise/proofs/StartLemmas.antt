@@ -1,5 +1,5 @@
 -- The start of a search, and the whole of its lines.
-use Rattle.std.proofs.Common.{◌≡◌, ◌≤◌, ◌<◌, ℕ, ◌+◌, ◌-◌, ◌⊎◌, false, List, [], ◌∷◌, ◌++◌, length, drop, map, refl, sym, ◌∙◌, ap, subst, inl, inr, arith, append-nil, append_assoc, Result, Ok, Err, IfOk}
+use Rattle.std.proofs.Common.{◌≡◌, ◌≤◌, ◌<◌, ℕ, ◌+◌, ◌-◌, ◌⊎◌, false, List, [], ◌++◌, length, drop, map, refl, sym, ◌∙◌, ap, subst, inl, inr, arith, append-nil, append_assoc, Result, Ok, Err, IfOk}
 use Rattle.std.specs.Prelude.{All, Contains, None, flat_map}
 use Rattle.std.proofs.lemmas.List.Elements.{All-nil}
 use Rattle.outside_io.specs.Counts.{rose_by}
@@ -19,7 +19,7 @@ use Rattle.refute_log.specs.Told.{Lines}
 use Rattle.refute_log.specs.ToldTo.{IsToldTo}
 use Rattle.refute_log.specs.Log.{given, learnt}
 use Rattle.certified_values.specs.Bounds.{MeetsLog}
-use Rattle.certified_values.specs.Expected.{clause_lines, caps, expected_lines}
+use Rattle.certified_values.specs.Expected.{caps, expected_lines}
 use Rattle.certified_values.specs.Full.{CapsPass}
 use Rattle.certified_values.proofs.ExpectedLemmas.{expected_none, expected_vars_none}
 use Rattle.drawing_cnf.specs.Expected.{drawing_vars, formula_clauses, formula_size, Covers}
@@ -29,7 +29,7 @@ use Rattle.drawing_cnf.specs.Bounds.{IsExact}
 use Rattle.drawing_cnf.specs.Whole.{IsWhole, bounds_last, drawing_last}
 use Rattle.drawing_problem.specs.Layout.{Layout, layout, problem_of, layout_of}
 use Rattle.drawing_problem.proofs.ListLemmas.{given_formulas}
-use Rattle.cdcl_core.specs.Kept.{Kept, AreGiven, blank, widened}
+use Rattle.cdcl_core.specs.Kept.{Kept, AreGiven, blank, with_more_vars}
 use Rattle.cdcl_core.specs.Belongs.{Belongs}
 use Rattle.cdcl_core.proofs.ViewLemmas.{new_given, new_belongs}
 use Rattle.lex_search.specs.declared.outcome.Outcome.{Outcome}
@@ -38,9 +38,10 @@ use Rattle.lex_search.specs.Task.{Task, greatest_of}
 use Rattle.lex_search.specs.Steps.{ToldBehind}
 use Rattle.lex_search.specs.Outcome.{IsOutcome, IsFresh, first_lines}
 use Rattle.lex_search.proofs.StepLemmas.{rose_both, count_more}
+use Rattle.lex_search.proofs.BuildLemmas.{formulas_are_clauses}
 use Rattle.lex_minimise.specs.Known.{told_clauses, caps_of, AreTold, KnowsLines, IsReady}
 use Rattle.lex_minimise.specs.Task.{task_of}
-use Rattle.lex_minimise.specs.Told.{GoesOn, HasTaken, IsLogOf}
+use Rattle.lex_minimise.specs.Told.{GoesOn, HasTaken, IsLogOfSolver}
 use Rattle.lex_minimise.proofs.CoverLemmas.{known_lines}
 use Rattle.lex_minimise.proofs.GrowLemmas.{formula_count}
 
@@ -135,7 +136,7 @@ pub first_does : (y : Layout) (budget room : ℕ) (e : Encoding) (f : Cnf) (more
 first_does y budget room e f more first is does =
     does ∙ ap (map Formula) (first_clauses y room e f first is) ∙ ap (λ (z : Layout). map Formula (formula_clauses z.graph (is_above z.order) (is_overlap z.order) z.grid)) (sym first.layout)
 
-pub first_ready : (y : Layout) (budget room : ℕ) (e : Encoding) (f : Cnf) (old new : Kept) → IsFirst y room e → f ≡ e.formula → old ≡ blank room → HasTaken (widened old (f.vars - old.vars)) new (drop 0 f.clauses) → IsReady e [] budget room new
+pub first_ready : (y : Layout) (budget room : ℕ) (e : Encoding) (f : Cnf) (old new : Kept) → IsFirst y room e → f ≡ e.formula → old ≡ blank room → HasTaken (with_more_vars old (f.vars - old.vars)) new (drop 0 f.clauses) → IsReady e [] budget room new
 first_ready y budget room e f old new first is blank_is t =
     let given : AreGiven (drop 0 f.clauses) new.clauses = t.given [] (new_given old room blank_is) in
     record {
@@ -151,12 +152,8 @@ first_ready y budget room e f old new first is blank_is t =
       spent = (let l = t.learnt in let z = ap (λ (k : Kept). k.learnt) blank_is in omega (arith, l, z));
     }
 
-clauses_of_formulas : (cs : Clauses) → clause_lines (map Formula cs) ≡ map Formula cs
-clauses_of_formulas [] = refl
-clauses_of_formulas (c ∷ cs) = ap (λ (ls : Lines). Formula c ∷ ls) (clauses_of_formulas cs)
-
 pub first_knows : (y : Layout) (budget room : ℕ) (e : Encoding) (f : Cnf) (old new : Kept) (l0 l1 : Lines → Type 0) (n0 n1 : ℕ) → IsFirst y room e → f ≡ e.formula → old ≡ blank room →
-    HasTaken (widened old (f.vars - old.vars)) new (drop 0 f.clauses) →
+    HasTaken (with_more_vars old (f.vars - old.vars)) new (drop 0 f.clauses) →
     GoesOn (λ ls. Belongs ls old) (λ ls. Belongs ls new) l0 l1 n0 n1 (λ lines more. more ≡ map Formula (drop 0 f.clauses)) →
     KnowsLines (layout_of e) [] budget room new (first_lines (task_of (layout_of e) budget room))
 first_knows y budget room e f old new l0 l1 n0 n1 first is blank_is t goes =
@@ -174,15 +171,15 @@ first_knows y budget room e f old new l0 l1 n0 n1 first is blank_is t goes =
     let count = t.learnt in
     let zero = ap (λ (k : Kept). k.learnt) blank_is in
     let unlearnt : new.learnt ≡ 0 = omega (arith, count, zero) in
-    known_lines (layout_of e) [] budget room new (map Formula cs) ready.facts belongs (clauses_of_formulas cs ∙ sym (append-nil (map Formula cs)))
+    known_lines (layout_of e) [] budget room new (map Formula cs) ready.facts belongs (formulas_are_clauses cs ∙ sym (append-nil (map Formula cs)))
     (unlearnt ∙ sym (formula_count cs)) (omega (arith, unlearnt)) (omega (arith, words, none, all, fit)) (omega (arith, vars, size, few))
 
 -- ---- the whole
 
 pub whole_told : (y : Layout) (budget room : ℕ) (e : Encoding) (f : Cnf) (order : List Criterion) (o : Outcome) (old mid new : Kept) (l0 l1 l2 : Lines → Type 0) (n0 n1 n2 : ℕ) → IsFirst y room e → f ≡ e.formula → old ≡ blank room →
     GoesOn (λ ls. Belongs ls old) (λ ls. Belongs ls mid) l0 l1 n0 n1 (λ lines more. more ≡ map Formula (drop 0 f.clauses)) →
-    ToldBehind (IsLogOf new) l1 l2 n1 n2 (first_lines (task_of (layout_of e) budget room)) (λ more. IsOutcome (task_of (layout_of e) budget room) order o (first_lines (task_of (layout_of e) budget room) ++ more)) →
-    (lines : Lines) × IsToldTo l0 l2 n0 n2 lines × IsOutcome (task_of y budget room) order o lines × IsLogOf new lines
+    ToldBehind (IsLogOfSolver new) l1 l2 n1 n2 (first_lines (task_of (layout_of e) budget room)) (λ more. IsOutcome (task_of (layout_of e) budget room) order o (first_lines (task_of (layout_of e) budget room) ++ more)) →
+    (lines : Lines) × IsToldTo l0 l2 n0 n2 lines × IsOutcome (task_of y budget room) order o lines × IsLogOfSolver new lines
 whole_told y budget room e f order o old mid new l0 l1 l2 n0 n1 n2 first is blank_is goes second =
     let p = task_of (layout_of e) budget room in
     let told : ToldBehind (λ ls. Belongs ls mid) l0 l1 n0 n1 [] (λ more. more ≡ map Formula (drop 0 f.clauses)) = goes [] (new_belongs old room blank_is) in
@@ -196,10 +193,10 @@ whole_told y budget room e f order o old mid new l0 l1 l2 n0 n1 n2 first is blan
             ∙ rose_both (length (flat_map learnt told.more)) (length (flat_map learnt second.more)) n0 ∙ ap (λ n. rose_by n n0) (sym (count_more told.more second.more));
       },
       subst (λ (z : Layout). IsOutcome (task_of z budget room) order o lines) first.layout end,
-      subst (IsLogOf new) same second.knows,
+      subst (IsLogOfSolver new) same second.knows,
     )
 
-pub nothing_told : (k : Kept) (room n : ℕ) (p : Task) (order : List Criterion) (o : Outcome) (log : Lines → Type 0) → k ≡ blank room → IsOutcome p order o [] → (lines : Lines) × IsToldTo log log n n lines × IsOutcome p order o lines × IsLogOf k lines
+pub nothing_told : (k : Kept) (room n : ℕ) (p : Task) (order : List Criterion) (o : Outcome) (log : Lines → Type 0) → k ≡ blank room → IsOutcome p order o [] → (lines : Lines) × IsToldTo log log n n lines × IsOutcome p order o lines × IsLogOfSolver k lines
 nothing_told k room n p order o log is end = (
   [],
   record { behind = λ ls t. subst log (sym (append-nil ls)) t; counted = refl },
@@ -215,10 +212,10 @@ is_fresh e told budget room k none ready = record {
   vars_are = ready.vars ∙ (ready.whole).vars ∙ ap (λ (bs : List Bound). bounds_last e.graph (encoded_vars e) e.grid (drawing_last e) bs) (ready.bounds ∙ none);
 }
 
-pub log_of : (y : Layout) (told : List Bound) (budget room : ℕ) (k : Kept) (lines : Lines) → KnowsLines y told budget room k lines → IsLogOf k lines
+pub log_of : (y : Layout) (told : List Bound) (budget room : ℕ) (k : Kept) (lines : Lines) → KnowsLines y told budget room k lines → IsLogOfSolver k lines
 log_of y told budget room k lines h = record { belongs = h.belongs; learnt = h.learnt_are }
 
-pub told_known : (known log0 log1 : Lines → Type 0) (n0 n1 : ℕ) (k : Kept) (lines : Lines) (R : Lines → Type 0) → ((ls : Lines) → known ls → IsLogOf k ls) → ToldBehind known log0 log1 n0 n1 lines R → ToldBehind (IsLogOf k) log0 log1 n0 n1 lines R
+pub told_known : (known log0 log1 : Lines → Type 0) (n0 n1 : ℕ) (k : Kept) (lines : Lines) (R : Lines → Type 0) → ((ls : Lines) → known ls → IsLogOfSolver k ls) → ToldBehind known log0 log1 n0 n1 lines R → ToldBehind (IsLogOfSolver k) log0 log1 n0 n1 lines R
 told_known known log0 log1 n0 n1 k lines R from t = record { more = t.more; knows = from (lines ++ t.more) t.knows; told = t.told; counted = t.counted; does = t.does }
 
 -- ---- what doesn't change

@@ -1,10 +1,9 @@
 -- Clauses and bounds, told one after another.
-use Rattle.std.proofs.Common.{◌≡◌, ◌≤◌, ◌<◌, ℕ, zero, suc, ◌+◌, ◌-◌, false, List, [], ◌∷◌, ◌++◌, length, take, drop, get_or, refl, sym, ◌∙◌, ap, subst, arith, append-nil, append_assoc, add-one, length-append, Result, Ok, Err, OnOk}
+use Rattle.std.proofs.Common.{◌≡◌, ◌≤◌, ◌<◌, ℕ, zero, suc, ◌+◌, ◌-◌, false, List, [], ◌∷◌, ◌++◌, length, take, drop, get_or, refl, sym, ◌∙◌, ap, subst, arith, append-nil, append_assoc, add-one, Result, Ok, Err, OnOk}
 use Rattle.std.specs.Prelude.{flat_map}
 use Rattle.std.proofs.Math.Seq.{take-suc}
-use Rattle.std.proofs.lemmas.Grind.{flat_map-append}
 use Rattle.std.proofs.lemmas.List.{length-drop, get_or-drop, take_all, take-append-drop}
-use Rattle.outside_io.specs.Counts.{next_count, rose_by}
+use Rattle.outside_io.specs.Counts.{rose_by}
 use Rattle.plan_core.specs.declared.criterion.Criterion.{Criterion}
 use Rattle.cnf_core.specs.declared.literal.Var.{Var}
 use Rattle.cnf_core.specs.Lit.{Literal}
@@ -17,17 +16,9 @@ use Rattle.refute_log.specs.Log.{learnt}
 use Rattle.certified_values.specs.Expected.{bound_lines}
 use Rattle.cdcl_core.specs.Kept.{Kept, AreGiven, IsGivenOne}
 use Rattle.lex_search.specs.Steps.{ToldBehind}
+use Rattle.lex_search.proofs.StepLemmas.{rose_both, count_more}
 use Rattle.drawing_problem.specs.Lists.{variables_behind}
 use Rattle.lex_minimise.specs.Told.{GoesOn, HasTaken}
-
--- ---- counts
-
-rose_both : (m n k : ℕ) → rose_by n (rose_by m k) ≡ rose_by (m + n) k
-rose_both m zero k = ap (λ a. rose_by a k) (let e : m ≡ m + 0 = omega arith in e)
-rose_both m (suc n) k = ap next_count (rose_both m n k) ∙ ap (λ a. rose_by a k) (let e : suc (m + n) ≡ m + suc n = omega arith in e)
-
-count_more : (xs ys : Lines) → length (flat_map learnt (xs ++ ys)) ≡ length (flat_map learnt xs) + length (flat_map learnt ys)
-count_more xs ys = ap length (flat_map-append learnt xs ys) ∙ length-append (flat_map learnt xs) (flat_map learnt ys)
 
 -- ---- what the solver was given
 

@@ -39,12 +39,12 @@ AreAssumed told (b ∷ bs) [] = ⊥
 AreAssumed told (b ∷ bs) (l ∷ ls) = IsAssumed told b l × AreAssumed told bs ls
 
 -- the lines of a question that the solver answered so
-abbrev pub IsAnswered : Task → Lines → List Below → Answer → Lines → Type 0
-IsAnswered p lines bounds ModelAnswer more = IsAsked lines bounds (ModelLine ∷ []) more
-IsAnswered p lines bounds RefutedAnswer more =
+abbrev pub TellsAnswer : Task → Lines → List Below → Answer → Lines → Type 0
+TellsAnswer p lines bounds ModelAnswer more = IsAsked lines bounds (ModelLine ∷ []) more
+TellsAnswer p lines bounds RefutedAnswer more =
     (clause : List Literal) × AreAgainst (greatest_of p) lines bounds clause × IsAsked lines bounds (RefutedLine clause ∷ []) more
-IsAnswered p lines bounds SpentAnswer more = IsAsked lines bounds [] more × IsCause p BudgetSpent (lines ++ more)
-IsAnswered p lines bounds RoomAnswer more = IsAsked lines bounds [] more × IsCause p RoomFull (lines ++ more)
+TellsAnswer p lines bounds SpentAnswer more = IsAsked lines bounds [] more × IsCause p BudgetSpent (lines ++ more)
+TellsAnswer p lines bounds RoomAnswer more = IsAsked lines bounds [] more × IsCause p RoomFull (lines ++ more)
 
 -- the reply is of that answer
 abbrev pub IsReplyOf : Answer → Reply → Type 0

@@ -23,6 +23,6 @@ pub record HasTaken (old new : Kept) (cs : Clauses) : Type 0 where
   pub working : new.failed ≡ false
 
 -- the lines belong to the solver, which has learnt as many clauses as there are Learnt lines
-pub record IsLogOf (k : Kept) (lines : Lines) : Type 0 where
+pub record IsLogOfSolver (k : Kept) (lines : Lines) : Type 0 where
   pub belongs : Belongs lines k
   pub learnt : k.learnt ≡ length (flat_map learnt lines)

@@ -5,12 +5,12 @@ ghost use Rattle.plan_core.specs.Lawful.{Lawful};
 ghost use Rattle.track_order.specs.Order.{is_above};
 ghost use Rattle.cdcl_core.specs.Kept.{IsTrueAnswer};
 ghost use Rattle.cnf_core.specs.declared.limits.TheConstants.{VARS};
-ghost use Rattle.lex_search.specs.Asked.{HasBound, AreOnce, IsRightReply, IsReply};
+ghost use Rattle.lex_search.specs.Asked.{IsWithinCap, AreOnce, IsRightReply, IsReply};
 ghost use Rattle.drawing_problem.specs.Layout.{layout_of};
 ghost use Rattle.lex_minimise.specs.Known.{caps_of, KnowsLines, IsReady};
 ghost use Rattle.lex_minimise.specs.Task.{task_of};
 ghost use Rattle.lex_minimise.specs.Told.{GoesOn};
-ghost use Rattle.lex_minimise.specs.Asking.{HasLimit, IsLimitOf, AreAssumed, IsAnswered, IsReplyOf};
+ghost use Rattle.lex_minimise.specs.Asking.{HasLimit, IsLimitOf, AreAssumed, TellsAnswer, IsReplyOf};
 
 use crate::search::Known;
 use cdcl_core::{Answer, SolveFault, Solver};
@@ -32,7 +32,7 @@ fn has_limit(bounds: &Bounds, bound: &Below) -> bool
 
 /// The variable that says "the value is at least the limit".
 fn limit_of(told: &[Bounds], bound: &Below) -> Var
-    requires there { HasBound (caps_of told.now) bound.now }
+    requires there { IsWithinCap (caps_of told.now) bound.now }
     ensures { IsLimitOf told.now bound.now result }
 {
     for bounds in told {
@@ -49,7 +49,7 @@ pub(crate) fn assumptions(
     told: &[Bounds],
     bounds: &[Below],
 ) -> Result<Vec<Lit>, OutOfMemory>
-    requires there { All (HasBound (caps_of told.now)) bounds.now }
+    requires there { All (IsWithinCap (caps_of told.now)) bounds.now }
     requires few { All (λ t. t.last + t.cap ≤ VARS) told.now }
     ensures { IfOk result (λ v. AreAssumed told.now bounds.now v.items) }
 {
@@ -93,7 +93,7 @@ fn query<L: LogSink>(
         (KnowsLines (layout_of known.now.encoded) known.now.told.items known.now.budget known.now.room solver.new)
         (L.tells log.old) (L.tells log.new) (L.learnt log.old) (L.learnt log.new)
         (λ lines more.
-        IsAnswered (task_of (layout_of known.now.encoded) known.now.budget known.now.room) lines bounds.now a more)) }
+        TellsAnswer (task_of (layout_of known.now.encoded) known.now.budget known.now.room) lines bounds.now a more)) }
     ensures vars { OnOk result (solver.new.vars ≡ solver.old.vars) }
     ensures later { L.is_later log.old log.new }
     ensures faults { L.faults log.old ≤ L.faults log.new }
@@ -148,7 +148,7 @@ pub(crate) fn ask<L: LogSink>(
     near: Option<&Drawing>,
 ) -> Result<Reply, MinFault>
     requires ready { IsReady known.now.encoded known.now.told.items known.now.budget known.now.room solver.old }
-    requires there { All (HasBound (caps_of known.now.told.items)) bounds.now }
+    requires there { All (IsWithinCap (caps_of known.now.told.items)) bounds.now }
     requires once { AreOnce bounds.now }
     requires near { MatchOption near ⊤ (λ d.
         Lawful known.now.encoded.graph (is_above known.now.encoded.order) known.now.encoded.grid d.now) }

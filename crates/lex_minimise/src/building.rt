@@ -10,7 +10,7 @@ ghost use Rattle.drawing_cnf.specs.Bounded.{bound};
 ghost use Rattle.drawing_cnf.specs.Encoding.{encoded_vars};
 ghost use Rattle.drawing_cnf.specs.Whole.{IsWhole};
 ghost use Rattle.drawing_problem.specs.Lists.{lines_of_bound};
-ghost use Rattle.cdcl_core.specs.Kept.{widened};
+ghost use Rattle.cdcl_core.specs.Kept.{with_more_vars};
 ghost use Rattle.cdcl_core.specs.Belongs.{Belongs};
 ghost use Rattle.lex_search.specs.declared.oracle.Built.TheVariants.{Whole as AllOfThem};
 ghost use Rattle.lex_search.specs.Built.{IsBuild, AreBuiltTo};
@@ -42,7 +42,7 @@ pub(crate) fn add_clauses<L: LogSink>(
     requires few { formula.now.vars ≤ VARS }
     requires fits { solver.old.words + words_of (drop from formula.now.clauses) ≤ solver.old.room }
     ensures taken { OnOk result
-        (HasTaken (widened solver.old (formula.now.vars - solver.old.vars)) solver.new (drop from formula.now.clauses)) }
+        (HasTaken (with_more_vars solver.old (formula.now.vars - solver.old.vars)) solver.new (drop from formula.now.clauses)) }
     ensures lines { OnOk result (GoesOn (λ ls. Belongs ls solver.old) (λ ls. Belongs ls solver.new)
         (L.tells log.old) (L.tells log.new) (L.learnt log.old) (L.learnt log.new)
         (λ lines more. more ≡ map FormulaLine (drop from formula.now.clauses))) }

@@ -11,7 +11,7 @@ ghost use Rattle.lex_search.specs.Outcome.{IsOutcome, IsRightOutcome, first_line
 ghost use Rattle.drawing_problem.specs.Layout.{layout, layout_of};
 ghost use Rattle.lex_minimise.specs.Known.{KnowsLines, IsReady};
 ghost use Rattle.lex_minimise.specs.Task.{task_of};
-ghost use Rattle.lex_minimise.specs.Told.{IsLogOf};
+ghost use Rattle.lex_minimise.specs.Told.{IsLogOfSolver};
 
 use crate::Limits;
 use crate::building::add_clauses;
@@ -40,7 +40,7 @@ fn search_from<L: LogSink>(
     ensures right { IfOk result
         (IsRightOutcome (task_of (layout_of known.old.encoded) known.old.budget known.old.room) wanted.now) }
     ensures lines { let p = task_of (layout_of known.old.encoded) known.old.budget known.old.room in
-        IfOk result (λ o. ToldBehind (IsLogOf solver.new) (L.tells log.old) (L.tells log.new)
+        IfOk result (λ o. ToldBehind (IsLogOfSolver solver.new) (L.tells log.old) (L.tells log.new)
         (L.learnt log.old) (L.learnt log.new) (first_lines p) (λ more. IsOutcome p wanted.now o (first_lines p ++ more))) }
     ensures later { L.is_later log.old log.new }
     ensures faults { L.faults log.old ≤ L.faults log.new }
@@ -70,7 +70,7 @@ pub fn minimise_with<L: LogSink>(
         IfOk result (IsRightOutcome p wanted.now) }
     ensures lines { let p = task_of (layout g.now t.now grid.now) limits.now.budget limits.now.room in
         IfOk result (λ o. (lines : Lines) × told_to L.tells L.learnt log.old log.new lines × IsOutcome p wanted.now o lines
-        × IsLogOf solver.new lines) }
+        × IsLogOfSolver solver.new lines) }
     ensures later { L.is_later log.old log.new }
     ensures faults { L.faults log.old ≤ L.faults log.new }
     ensures cause { IsErrOf result MinFault.Log → Rose (L.faults log.old) (L.faults log.new) }

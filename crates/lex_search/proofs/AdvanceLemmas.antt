@@ -20,7 +20,7 @@ use Rattle.lex_search.specs.declared.oracle.Stop.{Stop}
 use Rattle.lex_search.specs.declared.oracle.Stop.TheVariants.{RoomFull}
 use Rattle.lex_search.specs.Task.{Task, IsLawful, greatest_of}
 use Rattle.lex_search.specs.Steps.{Continues}
-use Rattle.lex_search.specs.Asked.{below_limit, HasBound}
+use Rattle.lex_search.specs.Asked.{below_limit, IsWithinCap}
 use Rattle.lex_search.specs.Built.{IsBuild}
 use Rattle.lex_search.specs.Reached.{Reached, Holds, HasSameValues, IsLowered, RunTo}
 use Rattle.lex_search.specs.State.{AllZero, IsFirstPositive, hold, Counted, OnlyZeroSkipped, SearchState, StoppedAt, IsCapOf, BoundedTo, Advances}
@@ -42,9 +42,9 @@ with_cap_more f c n d z = by (same_criterion c d) refl
     by true t = let e : f d ≡ 0 = ap f (sym (same_tells c d t)) ∙ z in omega arith
     by false t = omega arith
 
-pub built_more : (f h : Criterion → ℕ) (c : Criterion) (n : ℕ) (held : List Below) → h ≡ with_cap f c n → f c ≡ 0 → All (HasBound f) held → All (HasBound h) held
-built_more f h c n held is z all = subst (λ (m : Criterion → ℕ). All (HasBound m) held) (sym is)
-    (All-weaker (HasBound f) (HasBound (with_cap f c n)) (λ b k. (k.0, (let m = with_cap_more f c n b.criterion z in let l = k.1 in omega arith))) held all)
+pub built_more : (f h : Criterion → ℕ) (c : Criterion) (n : ℕ) (held : List Below) → h ≡ with_cap f c n → f c ≡ 0 → All (IsWithinCap f) held → All (IsWithinCap h) held
+built_more f h c n held is z all = subst (λ (m : Criterion → ℕ). All (IsWithinCap m) held) (sym is)
+    (All-weaker (IsWithinCap f) (IsWithinCap (with_cap f c n)) (λ b k. (k.0, (let m = with_cap_more f c n b.criterion z in let l = k.1 in omega arith))) held all)
 
 -- the value is at most the cap
 pub value_bounded : (p : Task) (order : List Criterion) (i : ℕ) (c m : Criterion) (n : ℕ) (d : Drawing) (f h : Criterion → ℕ) → IsLawful p d → slice_get order i ≡ Some c → IsCapOf p c (values_of d) n → h ≡ with_cap f c n → slice_get order i ≡ Some m → value_of (values_of d) m ≤ h m
@@ -190,9 +190,9 @@ go_bounded knows log count a e p order i held then c n least stop s first d f h 
     becomes knows log count a e (λ lines more. SearchState p order i held first f lines → BoundedTo p order i held stop s d h (lines ++ more)) (λ lines more. SearchState p order i held first f lines → Advances p order i then stop s d h (lines ++ more)) run
     (λ lines xs ka ke so_far st. subst (λ (bs : List Below). Advances p order i bs stop s d h (lines ++ xs)) (sym held_is) (pass_bounded p order i held c n least stop s first d h (lines ++ xs) at capped le is (so_far st)))
 
-pub all_held : (f : Criterion → ℕ) (held then : List Below) (c : Criterion) (n least : ℕ) → then ≡ held ++ hold c least n → f c ≡ n → All (HasBound f) held → All (HasBound f) then
-all_held f held then c n least is cap all = subst (All (HasBound f)) (sym is) (by (nat_lt least n) refl)
+pub all_held : (f : Criterion → ℕ) (held then : List Below) (c : Criterion) (n least : ℕ) → then ≡ held ++ hold c least n → f c ≡ n → All (IsWithinCap f) held → All (IsWithinCap f) then
+all_held f held then c n least is cap all = subst (All (IsWithinCap f)) (sym is) (by (nat_lt least n) refl)
   where
-    by : (t : Bool) → nat_lt least n ≡ t → All (HasBound f) (held ++ cond t (below_limit c (least + 1) ∷ []) [])
-    by true e = All-push (HasBound f) held (below_limit c (least + 1)) all (omega arith, (let lt : least < n = ltb-true least n e in omega arith))
-    by false e = subst (All (HasBound f)) (sym (append-nil held)) all
+    by : (t : Bool) → nat_lt least n ≡ t → All (IsWithinCap f) (held ++ cond t (below_limit c (least + 1) ∷ []) [])
+    by true e = All-push (IsWithinCap f) held (below_limit c (least + 1)) all (omega arith, (let lt : least < n = ltb-true least n e in omega arith))
+    by false e = subst (All (IsWithinCap f)) (sym (append-nil held)) all

@@ -4,7 +4,7 @@ use Rattle.std.specs.Prelude.{All, Contains, Some, None, slice_get, flat_map, fo
 use Rattle.std.proofs.Math.Seq.{take-suc, drop-cons}
 use Rattle.std.proofs.lemmas.Grind.{fold-append}
 use Rattle.std.proofs.lemmas.Bool.{ltb-false}
-use Rattle.std.proofs.lemmas.List.{take-append-drop, length-take, length-drop, get_or-take, get_or-drop}
+use Rattle.std.proofs.lemmas.List.{nil_from_length, take-append-drop, length-take, length-drop, get_or-take, get_or-drop}
 use Rattle.std.proofs.lemmas.List.Elements.{All-nil, All-cons, All-append, All-map, All-push, All-weaker, All-contains, Contains-append_left, Contains-append_cases, Contains-push}
 use Rattle.std.proofs.lemmas.Option.{slice_get_within, get_or_from_slice_get, slice_get-get_or}
 use Rattle.plan_core.specs.declared.criterion.Values.{Values}
@@ -171,12 +171,8 @@ told_built p order i c n cap vars now is at k told =
 
 -- ---- no room for it
 
-nothing_left : {A : Type 0} (xs : List A) → length xs ≡ 0 → xs ≡ []
-nothing_left [] e = refl
-nothing_left (x ∷ xs) e = absurd (omega arith)
-
 no_vars : (p : Task) (now : Lines) (c : Criterion) (cap : Criterion → ℕ) → caps (greatest_of p) now c ≡ cap c → 1 ≤ greatest_of p c → cap c ≡ 0 → bound_vars c now ≡ []
-no_vars p now c cap same positive none = nothing_left (bound_vars c now) (let g = greatest_of p c in let e : min (length (bound_vars c now)) g ≡ 0 = same ∙ none in omega (arith, e, positive))
+no_vars p now c cap same positive none = nil_from_length (bound_vars c now) (let g = greatest_of p c in let e : min (length (bound_vars c now)) g ≡ 0 = same ∙ none in omega (arith, e, positive))
 
 -- a criterion before place i has bounds, or can only be 0
 awaits_no_more : (p : Task) (order : List Criterion) (i j : ℕ) (d : Criterion) (now : Lines) (cap : Criterion → ℕ) → j < i → slice_get order j ≡ Some d → caps (greatest_of p) now d ≡ cap d → OnlyZeroSkipped p order i cap → AwaitsBounds (greatest_of p) now d → ⊥

@@ -16,7 +16,7 @@ use Rattle.lex_search.specs.declared.oracle.Reply.TheVariants.{Found, Refuted, S
 use Rattle.lex_search.specs.declared.oracle.Stop.{Stop}
 use Rattle.lex_search.specs.Task.{Task, IsLawful}
 use Rattle.lex_search.specs.Steps.{Continues}
-use Rattle.lex_search.specs.Asked.{below_limit, AreMet, IsAsked, IsReply, IsRightReply, IsCause, HasBound}
+use Rattle.lex_search.specs.Asked.{below_limit, AreMet, IsAsked, IsReply, IsRightReply, IsCause, IsWithinCap}
 use Rattle.lex_search.specs.Reached.{Reached, HasSameValues, Run, RunTo}
 use Rattle.lex_search.proofs.StepLemmas.{stays, goes_on, becomes, no_clauses_both, asks_no_clauses}
 use Rattle.lex_search.proofs.LowerLemmas.{found_same, found_reached, stopped_reached, refuted_reached, zero_reached, holds_same, same_then, same_back}
@@ -97,9 +97,9 @@ run_zero knows log count a b p order i held c first d at is run = becomes knows 
 
 -- ---- the bounds of a question
 
-pub built_all : (caps now : Criterion → ℕ) (held bounds : List Below) (c : Criterion) (u : ℕ) → All (HasBound caps) held → 1 ≤ u → u ≤ caps c → bounds ≡ held ++ below_limit c u ∷ [] → now ≡ caps → All (HasBound now) bounds
+pub built_all : (caps now : Criterion → ℕ) (held bounds : List Below) (c : Criterion) (u : ℕ) → All (IsWithinCap caps) held → 1 ≤ u → u ≤ caps c → bounds ≡ held ++ below_limit c u ∷ [] → now ≡ caps → All (IsWithinCap now) bounds
 built_all caps now held bounds c u h positive le is same =
-    subst (λ (f : Criterion → ℕ). All (HasBound f) bounds) (sym same) (subst (All (HasBound caps)) (sym is) (All-push (HasBound caps) held (below_limit c u) h (positive, le)))
+    subst (λ (f : Criterion → ℕ). All (IsWithinCap f) bounds) (sym same) (subst (All (IsWithinCap caps)) (sym is) (All-push (IsWithinCap caps) held (below_limit c u) h (positive, le)))
 
 pub found_less : (p : Task) (held bounds : List Below) (c : Criterion) (u : ℕ) (d : Drawing) (reply : Reply) → bounds ≡ held ++ below_limit c u ∷ [] → reply ≡ Found d → IsRightReply p bounds reply → value_of (values_of d) c < u
 found_less p held bounds c u d reply is was fact =

@@ -24,8 +24,8 @@ abbrev pub below_limit : Criterion → ℕ → Below
 below_limit c k = record { criterion = c; limit = k }
 
 -- there is a bound for this number, where the criterion has so many
-abbrev pub HasBound : (Criterion → ℕ) → Below → Type 0
-HasBound caps b = (1 ≤ b.limit) × (b.limit ≤ caps b.criterion)
+abbrev pub IsWithinCap : (Criterion → ℕ) → Below → Type 0
+IsWithinCap caps b = (1 ≤ b.limit) × (b.limit ≤ caps b.criterion)
 
 -- no two of them are of one criterion
 abbrev pub AreOnce : List Below → Type 0

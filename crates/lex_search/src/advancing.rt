@@ -6,7 +6,7 @@ ghost use Rattle.plan_core.specs.Values.{values_of, value_of};
 ghost use Rattle.plan_core.specs.Order.{IsOrder};
 ghost use Rattle.certified_values.specs.Expected.{expected_vars};
 ghost use Rattle.lex_search.specs.Task.{IsLawful};
-ghost use Rattle.lex_search.specs.Asked.{HasBound};
+ghost use Rattle.lex_search.specs.Asked.{IsWithinCap};
 ghost use Rattle.lex_search.specs.Steps.{Continues};
 ghost use Rattle.lex_search.specs.State.{AllZero, IsFirstPositive, AreBefore, Counted, SearchState, Advances, IsCapOf, BoundedTo, hold as hold_of};
 
@@ -74,7 +74,7 @@ fn bounded<O: Oracle>(
     requires at { i < length order.now }
     requires counted { Counted (O.task oracle.old) order.now i (O.caps oracle.old) (O.vars oracle.old) }
     requires lawful { IsLawful (O.task oracle.old) best }
-    requires held { All (HasBound (O.caps oracle.old)) held.now }
+    requires held { All (IsWithinCap (O.caps oracle.old)) held.now }
     requires before { AreBefore order.now i held.now }
     requires first { IsFirstPositive order.now i place (values_of best) }
     requires cap { (c : Measure) → slice_get order.now i ≡ Some c → IsCapOf (O.task oracle.old) c (values_of best) cap }
@@ -85,7 +85,7 @@ fn bounded<O: Oracle>(
         value_of (values_of r.best) c ≤ value_of (values_of best) c) }
     ensures counted { IfOk result (λ r. r.stop ≡ None →
         Counted (O.task oracle.old) order.now (i + 1) (O.caps oracle.new) (O.vars oracle.new)) }
-    ensures held { IfOk result (λ r. r.stop ≡ None → All (HasBound (O.caps oracle.new)) held.now) }
+    ensures held { IfOk result (λ r. r.stop ≡ None → All (IsWithinCap (O.caps oracle.new)) held.now) }
     ensures capped { IfOk result (λ r. r.stop ≡ None → (c : Measure) → slice_get order.now i ≡ Some c → O.caps oracle.new c ≡ cap) }
     ensures vars { OnOk result (O.vars oracle.new ≡ expected_vars (O.task oracle.old).encoding order.now (O.caps oracle.new)) }
     ensures settled { IfOk result (λ r. r.settled ≤ length order.now) }
@@ -129,14 +129,14 @@ pub(crate) fn advance<O: Oracle>(
     requires at { i < length order.now }
     requires counted { Counted (O.task oracle.old) order.now i (O.caps oracle.old) (O.vars oracle.old) }
     requires lawful { IsLawful (O.task oracle.old) best }
-    requires held { All (HasBound (O.caps oracle.old)) held.old.items }
+    requires held { All (IsWithinCap (O.caps oracle.old)) held.old.items }
     requires before { AreBefore order.now i held.old.items }
     ensures ready { IfOk result (λ r. r.stop ≡ None → O.ready oracle.new) }
     ensures task { O.task oracle.new ≡ O.task oracle.old }
     ensures lawful { IfOk result (λ r. IsLawful (O.task oracle.old) r.best) }
     ensures counted { IfOk result (λ r. r.stop ≡ None →
         Counted (O.task oracle.old) order.now (i + 1) (O.caps oracle.new) (O.vars oracle.new)) }
-    ensures held { IfOk result (λ r. r.stop ≡ None → All (HasBound (O.caps oracle.new)) held.new.items) }
+    ensures held { IfOk result (λ r. r.stop ≡ None → All (IsWithinCap (O.caps oracle.new)) held.new.items) }
     ensures before { OnOk result (AreBefore order.now (i + 1) held.new.items) }
     ensures vars { OnOk result (O.vars oracle.new ≡ expected_vars (O.task oracle.old).encoding order.now (O.caps oracle.new)) }
     ensures settled { IfOk result (λ r. r.settled ≤ length order.now) }

@@ -4,7 +4,7 @@ ghost use Rattle.outside_io.specs.Counts.{Rose};
 ghost use Rattle.plan_core.specs.declared.criterion.Criterion.{Criterion as Measure};
 ghost use Rattle.plan_core.specs.Values.{values_of, value_of};
 ghost use Rattle.plan_core.specs.Order.{IsOrder};
-ghost use Rattle.lex_search.specs.Asked.{below_limit, HasBound};
+ghost use Rattle.lex_search.specs.Asked.{below_limit, IsWithinCap};
 ghost use Rattle.lex_search.specs.State.{AreBefore};
 ghost use Rattle.lex_search.specs.Task.{IsLawful};
 ghost use Rattle.lex_search.specs.Steps.{Continues};
@@ -52,7 +52,7 @@ pub(crate) fn lower<O: Oracle>(
     requires ready { O.ready oracle.old }
     requires place { i < length order.now }
     requires order { IsOrder order.now }
-    requires held { All (HasBound (O.caps oracle.old)) held.now }
+    requires held { All (IsWithinCap (O.caps oracle.old)) held.now }
     requires before { AreBefore order.now i held.now }
     requires bound { (c : Measure) → slice_get order.now i ≡ Some c → value_of (values_of best) c ≤ O.caps oracle.old c }
     requires lawful { IsLawful (O.task oracle.old) best }

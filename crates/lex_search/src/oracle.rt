@@ -13,7 +13,7 @@ ghost use Rattle.lex_search.specs.Task.{Task, IsLawful, greatest_of};
 ghost use Rattle.lex_search.specs.declared.oracle.Built.TheVariants.{Whole as AllOfThem};
 ghost use Rattle.lex_search.specs.Steps.{Continues};
 ghost use Rattle.lex_search.specs.Built.{IsBuild, AreBuiltTo};
-ghost use Rattle.lex_search.specs.Asked.{IsReply, IsRightReply, HasBound, AreOnce, AreApart};
+ghost use Rattle.lex_search.specs.Asked.{IsReply, IsRightReply, IsWithinCap, AreOnce, AreApart};
 
 use crate::MinFault;
 use plan_core::Criterion;
@@ -95,7 +95,7 @@ pub trait Oracle {
     fn ask(&mut self, bounds: &[Below], near: Option<&Drawing>) -> Result<Reply, MinFault>
         requires ready { ready self.old }
         requires near { MatchOption near ⊤ (λ d. IsLawful (task self.old) d.now) }
-        requires there { All (HasBound (caps self.old)) bounds.now }
+        requires there { All (IsWithinCap (caps self.old)) bounds.now }
         requires once { AreOnce bounds.now }
         ensures right { IfOk result (IsRightReply (task self.old) bounds.now) }
         ensures lines { IfOk result (λ r. Continues knows log learnt self.old self.new (λ lines more.

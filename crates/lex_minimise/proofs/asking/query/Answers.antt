@@ -1,5 +1,5 @@
 use Rattle.std.proofs.Common.{◌-◌, length, subst, arith}
-use Rattle.cdcl_core.specs.Belongs.{HasSpent, IsSearched}
+use Rattle.cdcl_core.specs.Belongs.{HasSpent, HasSolved}
 use Rattle.drawing_problem.specs.Layout.{layout_of}
 use Rattle.lex_minimise.proofs.AskLemmas.{are_distinct}
 use Rattle.lex_minimise.proofs.QueryLemmas.{all_named, ready_after, search_goes}
@@ -29,7 +29,7 @@ returns-in-Ok-clause-lines g c =
     let l = g.L.LogSink in
     let old = c.args.solver.now in
     let new = c.solve.new.self in
-    let s = subst (λ n. IsSearched (l.tells c.args.log.now) (l.tells c.solve.new.log) c.args.assume.now old new c.in-Ok.answer (k.budget - n) (l.learnt c.args.log.now) (l.learnt c.solve.new.log))
+    let s = subst (λ n. HasSolved (l.tells c.args.log.now) (l.tells c.solve.new.log) c.args.assume.now old new c.in-Ok.answer (k.budget - n) (l.learnt c.args.log.now) (l.learnt c.solve.new.log))
     c.learnt.ensures c.in-Ok.ensures.searched in
     let limit = c.words.ensures.limit s.kept.failed in
     let same = s.kept.room in

@@ -4,7 +4,7 @@ use Rattle.plan_core.specs.Graph.{Graph}
 use Rattle.port_graph.specs.StationGraph.{IsStationGraph}
 use Rattle.cnf_core.specs.Formula.{Cnf}
 use Rattle.refute_log.specs.declared.line.LogLine.TheVariants.{Formula}
-use Rattle.cdcl_core.specs.Kept.{widened}
+use Rattle.cdcl_core.specs.Kept.{with_more_vars}
 use Rattle.cdcl_core.specs.Belongs.{Belongs}
 use Rattle.drawing_cnf.specs.Bounded.{Bound}
 use Rattle.drawing_cnf.specs.Encoding.{encoded_vars}
@@ -30,7 +30,7 @@ returns-clause-ready g c =
     let new = c.add_clauses.new.solver in
     subst (λ (bs : List Bound). IsReady k.encoded bs k.budget k.room new) (sym c.in_ok-push.ensures.items)
     (ready_grown k.encoded k.told.items k.budget k.room c.args.bounds c.args.from old new c.requires.grown
-    (subst (λ (f : Cnf). HasTaken (widened old (f.vars - old.vars)) new (drop c.args.from f.clauses)) c.formula.ensures c.in_ok-add_clauses.ensures.taken))
+    (subst (λ (f : Cnf). HasTaken (with_more_vars old (f.vars - old.vars)) new (drop c.args.from f.clauses)) c.formula.ensures c.in_ok-add_clauses.ensures.taken))
 
 pub returns-clause-lines : goal.returns-clause-lines
 returns-clause-lines g c =
@@ -45,7 +45,7 @@ returns-clause-lines g c =
     (l.learnt c.args.log.now) (l.learnt c.add_clauses.new.log) (l.learnt c.tell_bounds.new.log) c.requires.grown
     (grown_small k.encoded k.told.items k.budget k.room c.args.bounds c.args.from old c.requires.grown
     (subst (λ (x : Graph). IsStationGraph x) c.graph.ensures c.nodes.ensures.station) (subst (λ (x : GridSize). IsGrid x) c.grid.ensures c.width.ensures.is_grid))
-    (subst (λ (f : Cnf). HasTaken (widened old (f.vars - old.vars)) new (drop c.args.from f.clauses)) c.formula.ensures c.in_ok-add_clauses.ensures.taken) c.requires.fits
+    (subst (λ (f : Cnf). HasTaken (with_more_vars old (f.vars - old.vars)) new (drop c.args.from f.clauses)) c.formula.ensures c.in_ok-add_clauses.ensures.taken) c.requires.fits
     (subst (λ (f : Cnf). GoesOn (λ ls. Belongs ls old) (λ ls. Belongs ls new) (l.tells c.args.log.now) (l.tells c.add_clauses.new.log) (l.learnt c.args.log.now) (l.learnt c.add_clauses.new.log)
     (λ lines more. more ≡ map Formula (drop c.args.from f.clauses))) c.formula.ensures c.in_ok-add_clauses.ensures.lines)
     c.in_ok-tell_bounds.ensures.lines c.in_ok-tell_bounds.ensures.learnt)

@@ -4,7 +4,7 @@ use Rattle.plan_core.specs.Values.{values_of, value_of}
 use Rattle.plan_core.proofs.LimitLemmas.{value-le-limit}
 use Rattle.std.specs.Prelude.{All, min}
 use Rattle.lex_search.specs.declared.oracle.Below.{Below}
-use Rattle.lex_search.specs.Asked.{HasBound}
+use Rattle.lex_search.specs.Asked.{IsWithinCap}
 use Rattle.lex_search.specs.Steps.{Continues}
 use Rattle.lex_search.specs.State.{AreBefore, IsCapOf, AllZero, SearchState, BoundedTo}
 use Rattle.lex_search.proofs.BeforeLemmas.{before_next, before_later}
@@ -27,7 +27,7 @@ returns-in_ok-hold-in-Some-clause-held g c = λ none. let o = g.O.Oracle in
     let h = o.caps c.bounded.new.oracle in
     all_held h c.args.held.now.items c.hold.new.held.items c.get-c.result c.cap_for-cap.result c.of-least.result c.in_ok-hold-in-Some.ensures
     (c.in_ok-advanced-in-Some.ensures.capped none c.get-c.result c.get-c.ensures)
-    (subst (λ (bs : List Below). All (HasBound h) bs) c.deref.ensures.value (c.in_ok-advanced-in-Some.ensures.held none))
+    (subst (λ (bs : List Below). All (IsWithinCap h) bs) c.deref.ensures.value (c.in_ok-advanced-in-Some.ensures.held none))
 
 pub returns-in_ok-hold-in-Some-clause-lines : goal.returns-in_ok-hold-in-Some-clause-lines
 returns-in_ok-hold-in-Some-clause-lines g c = let o = g.O.Oracle in

@@ -5,7 +5,7 @@ use Rattle.std.proofs.lemmas.List.Elements.{All-nil}
 use Rattle.certified_values.specs.Expected.{expected_vars}
 use Rattle.lex_search.specs.declared.oracle.Below.{Below}
 use Rattle.lex_search.specs.Task.{Task, IsLawful}
-use Rattle.lex_search.specs.Asked.{HasBound}
+use Rattle.lex_search.specs.Asked.{IsWithinCap}
 use Rattle.lex_search.specs.Steps.{Continues}
 use Rattle.lex_search.specs.State.{Counted, SearchState, Advances}
 use Rattle.plan_core.proofs.OrderLemmas.{few_criteria}
@@ -19,7 +19,7 @@ loop-i-init g c = let o = g.O.Oracle in record {
   counted = c.requires.counted;
   ready = c.requires.ready;
   lawful = c.requires.lawful;
-  held = subst (λ (bs : List Below). All (HasBound (o.caps c.args.oracle.now)) bs) (sym c.new-held.ensures.items) (All-nil (HasBound (o.caps c.args.oracle.now)));
+  held = subst (λ (bs : List Below). All (IsWithinCap (o.caps c.args.oracle.now)) bs) (sym c.new-held.ensures.items) (All-nil (IsWithinCap (o.caps c.args.oracle.now)));
   before = no_bounds c.args.wanted.now 0 c.new-held.result.items c.new-held.ensures.items;
   later = g.met.O.Oracle.later_same c.args.oracle.now;
   faults = omega arith;

@@ -2,7 +2,7 @@ use Rattle.std.proofs.Common.{◌≡◌, ◌++◌, [], ◌≤◌}
 use Rattle.std.specs.Prelude.{All}
 use Rattle.lex_search.specs.Task.{IsLawful}
 use Rattle.lex_search.specs.Steps.{Continues}
-use Rattle.lex_search.specs.Asked.{HasBound}
+use Rattle.lex_search.specs.Asked.{IsWithinCap}
 use Rattle.lex_search.specs.State.{AreBefore, Counted, SearchState}
 use Rattle.lex_search.proofs.searching.improve.Given as goal
 
@@ -12,7 +12,7 @@ invariant-loop-i g l = let o = g.O.Oracle in record {
   counted : Counted (o.task l.oracle) l.wanted l.i (o.caps l.oracle) (o.vars l.oracle);
   ready : o.ready l.oracle;
   lawful : IsLawful (o.task l.oracle) l.best;
-  held : All (HasBound (o.caps l.oracle)) l.held.items;
+  held : All (IsWithinCap (o.caps l.oracle)) l.held.items;
   before : AreBefore l.wanted l.i l.held.items;
   later : o.is_later l.fn.oracle l.oracle;
   faults : o.faults l.fn.oracle ≤ o.faults l.oracle;

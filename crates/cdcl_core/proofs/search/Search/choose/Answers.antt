@@ -1,19 +1,14 @@
-use Rattle.std.proofs.Common.{◌≡◌, ℕ, List, true, false, sym, ◌∙◌, ap, subst}
-use Rattle.std.specs.Prelude.{Bool}
+use Rattle.std.proofs.Common.{◌≡◌, ℕ, List, true, sym, ◌∙◌, ap, subst}
 use Rattle.cnf_core.specs.Lit.{Literal, literal}
-use Rattle.cnf_core.specs.Clause.{Clauses}
 use Rattle.watch_arena.specs.Trail.{Marks, IsUnset}
-use Rattle.watch_arena.specs.Arena.{Attached}
 use Rattle.cdcl_learn.specs.Sight.{sight}
 use Rattle.cdcl_learn.proofs.LevelLemmas.{upto_parts}
-use Rattle.cdcl_core.specs.Roots.{IsGrounded, AreOffered}
+use Rattle.cdcl_core.specs.Roots.{AreOffered}
 use Rattle.cdcl_core.proofs.AskLemmas.{asking_all, decided_at}
 use Rattle.cdcl_core.proofs.SolvingLemmas.{solving_decided, settled_all, fitted_vars}
 use Rattle.cdcl_core.proofs.HeapLemmas.{offered_decided, unset_other}
+use Rattle.cdcl_core.proofs.ConflictLemmas.{unrefuted}
 use Rattle.cdcl_core.proofs.search.Search.choose.Goals as goal
-
-unrefuted : (a : Attached) (m : Marks) (own : Clauses) (refuted : Bool) → refuted ≡ false → IsGrounded a m own refuted → IsGrounded a m own false
-unrefuted a m own refuted e g = subst (λ b. IsGrounded a m own b) e g
 
 pub returns-in-None-clause-search : goal.returns-in-None-clause-search
 returns-in-None-clause-search c =

@@ -8,9 +8,6 @@ use Rattle.cdcl_core.proofs.LearnLemmas.{IsPut, put_from, put_text}
 use Rattle.cdcl_core.proofs.GivenLemmas.{solving_silent}
 use Rattle.cdcl_core.proofs.search.Search.keep_attached.Goals as goal
 
-same_list : (P : List Literal → Type 0) (a b : List Literal) → a ≡ b → P b → P a
-same_list P a b e h = subst P (sym e) h
-
 two : (m : Marks) (c : List Literal) → IsSilent m c → length c ≢ 1 → 2 ≤ length c
 two m [] h ne = absurd h
 two m (k ∷ ls) h ne = omega arith
@@ -19,13 +16,13 @@ pub attach-requires-clause-vars : goal.attach-requires-clause-vars
 attach-requires-clause-vars c = c.requires.idle.search.solving.grounded.vars
 
 pub attach-requires-clause-two : goal.attach-requires-clause-two
-attach-requires-clause-two c = same_list (λ ls. 2 ≤ length ls) c.as_slice.result.now c.args.clause c.as_slice.ensures.value (two c.args.self.now.trail c.args.clause c.requires.silent c.requires.more)
+attach-requires-clause-two c = subst (λ (ls : List Literal). 2 ≤ length ls) (sym c.as_slice.ensures.value) (two c.args.self.now.trail c.args.clause c.requires.silent c.requires.more)
 
 pub attach-requires-clause-there : goal.attach-requires-clause-there
-attach-requires-clause-there c = same_list (λ ls. AreThere c.args.self.now.arena.vars ls) c.as_slice.result.now c.args.clause c.as_slice.ensures.value (subst (λ v. AreThere v c.args.clause) c.requires.idle.search.solving.grounded.vars c.requires.there)
+attach-requires-clause-there c = subst (AreThere c.args.self.now.arena.vars) (sym c.as_slice.ensures.value) (subst (λ v. AreThere v c.args.clause) c.requires.idle.search.solving.grounded.vars c.requires.there)
 
 pub attach-requires-clause-distinct : goal.attach-requires-clause-distinct
-attach-requires-clause-distinct c = same_list AreDistinct c.as_slice.result.now c.args.clause c.as_slice.ensures.value c.requires.distinct
+attach-requires-clause-distinct c = subst AreDistinct (sym c.as_slice.ensures.value) c.requires.distinct
 
 pub returns-clause-idle : goal.returns-clause-idle
 returns-clause-idle c =

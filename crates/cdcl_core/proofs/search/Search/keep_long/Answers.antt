@@ -8,9 +8,6 @@ use Rattle.cdcl_core.proofs.LearnLemmas.{IsPut, put_from, put_text}
 use Rattle.cdcl_core.proofs.KeepLemmas.{asserted_some, asserted_unset, asserted_there, asserted_first, asserted_distinct, asserted_two, asserted_reason, kept_long, set_offered, set_asking}
 use Rattle.cdcl_core.proofs.search.Search.keep_long.Goals as goal
 
-same_list : (P : List Literal → Type 0) (a b : List Literal) → a ≡ b → P b → P a
-same_list P a b e h = subst P (sym e) h
-
 not_zero : (p : ℕ) → 1 ≤ p → p ≡ 0 → ⊥
 not_zero p some z = absurd (omega arith)
 
@@ -21,13 +18,13 @@ pub attach-requires-clause-vars : goal.attach-requires-clause-vars
 attach-requires-clause-vars c = c.requires.search.solving.grounded.vars
 
 pub attach-requires-clause-two : goal.attach-requires-clause-two
-attach-requires-clause-two c = same_list (λ ls. 2 ≤ length ls) c.as_slice.result.now c.args.clause c.as_slice.ensures.value (asserted_two c.args.self.now.arena c.args.self.now.trail c.args.clause c.requires.asserted c.requires.more)
+attach-requires-clause-two c = subst (λ (ls : List Literal). 2 ≤ length ls) (sym c.as_slice.ensures.value) (asserted_two c.args.self.now.arena c.args.self.now.trail c.args.clause c.requires.asserted c.requires.more)
 
 pub attach-requires-clause-there : goal.attach-requires-clause-there
-attach-requires-clause-there c = same_list (λ ls. AreThere c.args.self.now.arena.vars ls) c.as_slice.result.now c.args.clause c.as_slice.ensures.value (subst (λ v. AreThere v c.args.clause) c.requires.search.solving.grounded.vars (asserted_there c.args.self.now.arena c.args.self.now.trail c.args.clause c.requires.asserted))
+attach-requires-clause-there c = subst (AreThere c.args.self.now.arena.vars) (sym c.as_slice.ensures.value) (subst (λ v. AreThere v c.args.clause) c.requires.search.solving.grounded.vars (asserted_there c.args.self.now.arena c.args.self.now.trail c.args.clause c.requires.asserted))
 
 pub attach-requires-clause-distinct : goal.attach-requires-clause-distinct
-attach-requires-clause-distinct c = same_list AreDistinct c.as_slice.result.now c.args.clause c.as_slice.ensures.value (asserted_distinct c.args.self.now.arena c.args.self.now.trail c.args.clause c.requires.asserted)
+attach-requires-clause-distinct c = subst AreDistinct (sym c.as_slice.ensures.value) (asserted_distinct c.args.self.now.arena c.args.self.now.trail c.args.clause c.requires.asserted)
 
 pub set-requires-clause-there : goal.set-requires-clause-there
 set-requires-clause-there c = asserted_first c.args.self.now.arena c.args.self.now.trail c.args.clause c.get-first.result c.requires.asserted c.get-first.ensures
