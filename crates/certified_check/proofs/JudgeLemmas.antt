@@ -18,7 +18,7 @@ use Rattle.refute_log.specs.declared.line.LogLine.{LogLine}
 use Rattle.refute_log.specs.declared.line.LogLine.TheVariants.{Formula, Learnt, Bound, Query, Refuted, Model}
 use Rattle.refute_log.specs.Told.{Lines}
 use Rattle.refute_log.specs.Log.{refuted}
-use Rattle.refute_check.specs.Kept.{Kept, Refutes}
+use Rattle.refute_check.specs.Kept.{CheckedFacts, Refutes}
 use Rattle.certified_values.specs.Bounds.{SaysAtLeast}
 use Rattle.certified_values.specs.Certified.{IsOutOfReach, IsCertifiedLeast, Certifies, CertifiesNone}
 use Rattle.certified_values.proofs.CertifiedLemmas.{certifies_next, certifies_fewer, certifies_under, least_at, least_under}
@@ -39,9 +39,6 @@ comes_from f (x ∷ xs) y there = elim (Contains-append_cases (f x) (flat_map f 
   | inr h ↦ let r = comes_from f xs y h in record { origin = r.origin; among = Contains-tail x xs r.origin r.among; gives = r.gives }
 ]
 
-only : {X : Type 0} (x y : X) → Contains (x ∷ []) y → x ≡ y
-only x y h = elim (Contains-push_cases [] x y h) [ inl k ↦ absurd (let low = k.1 in omega arith) | inr e ↦ e ]
-
 nothing : {X : Type 0} (y : X) (P : Type 0) → Contains [] y → P
 nothing y P h = absurd (let low = h.1 in omega arith)
 
@@ -53,7 +50,10 @@ refuted_line lines c there = let r = comes_from refuted lines c there in by r.or
     by (Learnt d) at h = nothing c (Contains lines (Refuted c)) h
     by (Bound d k x) at h = nothing c (Contains lines (Refuted c)) h
     by (Query d) at h = nothing c (Contains lines (Refuted c)) h
-    by (Refuted d) at h = subst (λ (b : List Literal). Contains lines (Refuted b)) (only d c h) at
+    by (Refuted d) at h = elim (Contains-push_cases [] d c h) [
+      | inl before ↦ nothing c (Contains lines (Refuted c)) before
+      | inr same ↦ subst (λ (b : List Literal). Contains lines (Refuted b)) same at
+    ]
     by Model at h = nothing c (Contains lines (Refuted c)) h
 
 line_refuted : (lines : Lines) (c : List Literal) → Contains lines (Refuted c) → Contains (flat_map refuted lines) c
@@ -71,7 +71,12 @@ bound_line lines b there = let r = comes_from told_bound lines b there in by r.o
     by : (line : LogLine) → Contains lines line → Contains (told_bound line) b → HasLine lines b
     by (Formula d) at h = nothing b (HasLine lines b) h
     by (Learnt d) at h = nothing b (HasLine lines b) h
-    by (Bound d k x) at h = subst (HasLine lines) (only (record { criterion = d; k = k; literal = positive_of x.0 }) b h) (record { variable = x; told = at; is = refl })
+    by (Bound d k x) at h =
+        let told : ToldBound = record { criterion = d; k = k; literal = positive_of x.0 } in
+        elim (Contains-push_cases [] told b h) [
+          | inl before ↦ nothing b (HasLine lines b) before
+          | inr same ↦ subst (HasLine lines) same (record { variable = x; told = at; is = refl })
+        ]
     by (Query d) at h = nothing b (HasLine lines b) h
     by (Refuted d) at h = nothing b (HasLine lines b) h
     by Model at h = nothing b (HasLine lines b) h
@@ -95,14 +100,14 @@ out_of_reach greatest lines earlier c v l b h u =
       | inr now ↦ inr (subst (λ n. SaysAtLeast greatest lines c n l) now.1 (subst (λ d. SaysAtLeast greatest lines d b.k l) now.0 s))
     ]
 
-unreached_at : (greatest : Criterion → ℕ) (lines : Lines) (kept : Kept) (bounds : List ToldBound) (earlier : List Criterion) (c : Criterion) (v : Values) (l : Literal) (d : Criterion) (k : ℕ) → KnowsLog lines kept bounds → SaysAtLeast greatest lines d k l →
+unreached_at : (greatest : Criterion → ℕ) (lines : Lines) (kept : CheckedFacts) (bounds : List ToldBound) (earlier : List Criterion) (c : Criterion) (v : Values) (l : Literal) (d : Criterion) (k : ℕ) → KnowsLog lines kept bounds → SaysAtLeast greatest lines d k l →
     ((Contains earlier d × (k ≡ value_of v d + 1)) ⊎ ((d ≡ c) × (k ≡ value_of v c))) → Any (IsUnreachedLiteral greatest earlier c v l) bounds
 unreached_at greatest lines kept bounds earlier c v l d k known s either =
     let b : ToldBound = record { criterion = d; k = k; literal = positive_of s.variable.0 } in
     let there : Contains bounds b = subst (λ (bs : List ToldBound). Contains bs b) (sym known.told) (line_bound lines d k s.variable s.told) in
     (there.0, b, there.1, there.2, (record { within = s.within; either = either }, sym s.is))
 
-unreached_is : (greatest : Criterion → ℕ) (lines : Lines) (kept : Kept) (bounds : List ToldBound) (earlier : List Criterion) (c : Criterion) (v : Values) (l : Literal) → KnowsLog lines kept bounds →
+unreached_is : (greatest : Criterion → ℕ) (lines : Lines) (kept : CheckedFacts) (bounds : List ToldBound) (earlier : List Criterion) (c : Criterion) (v : Values) (l : Literal) → KnowsLog lines kept bounds →
     Any (IsUnreachedLiteral greatest earlier c v l) bounds ↔ IsOutOfReach greatest lines earlier c v l
 unreached_is greatest lines kept bounds earlier c v l known = (
   λ any. out_of_reach greatest lines earlier c v l any.1 (bound_line lines any.1 (subst (λ (bs : List ToldBound). Contains bs any.1) known.told (any.0, any.2, any.3))) any.4,
@@ -117,7 +122,7 @@ unreached_is greatest lines kept bounds earlier c v l known = (
 abbrev pub AreUnreached : (Criterion → ℕ) → List ToldBound → List Criterion → Criterion → Values → List Literal → Type 0
 AreUnreached greatest bounds earlier c v literals = (l : Literal) → Contains literals l ↔ Any (λ b. IsUnreached greatest earlier c v b × (b.literal ≡ l)) bounds
 
-pub verdict_is : (greatest : Criterion → ℕ) (lines : Lines) (kept : Kept) (bounds : List ToldBound) (earlier : List Criterion) (c : Criterion) (v : Values) (literals : List Literal) → KnowsLog lines kept bounds →
+pub verdict_is : (greatest : Criterion → ℕ) (lines : Lines) (kept : CheckedFacts) (bounds : List ToldBound) (earlier : List Criterion) (c : Criterion) (v : Values) (literals : List Literal) → KnowsLog lines kept bounds →
     AreUnreached greatest bounds earlier c v literals → 1 ≤ value_of v c → Refutes kept literals ↔ IsCertifiedLeast greatest lines earlier c v
 verdict_is greatest lines kept bounds earlier c v literals known are positive = (
   λ any. λ p.
@@ -234,7 +239,7 @@ no_literals : (c : List Literal) → HasAllOf [] c → c ≡ []
 no_literals [] h = refl
 no_literals (l ∷ ls) h = nothing l (l ∷ ls ≡ []) (h l (Contains-head l ls))
 
-pub none_is : (lines : Lines) (kept : Kept) (bounds : List ToldBound) → KnowsLog lines kept bounds → Refutes kept [] ↔ CertifiesNone lines
+pub none_is : (lines : Lines) (kept : CheckedFacts) (bounds : List ToldBound) → KnowsLog lines kept bounds → Refutes kept [] ↔ CertifiesNone lines
 none_is lines kept bounds known = (
   λ any.
       let there : Contains (flat_map refuted lines) any.1 = subst (λ (cs : Clauses). Contains cs any.1) (ap (λ f. f.refuted) known.facts) (any.0, any.2, any.3) in

@@ -8,7 +8,7 @@ use Rattle.refute_log.specs.declared.line.LogLine.{LogLine}
 use Rattle.refute_log.specs.declared.line.LogLine.TheVariants.{Bound}
 use Rattle.refute_log.specs.Told.{Lines}
 use Rattle.refute_log.specs.Log.{facts_of}
-use Rattle.refute_check.specs.Kept.{Kept}
+use Rattle.refute_check.specs.Kept.{CheckedFacts}
 use Rattle.certified_values.specs.Certified.{IsCertifiedLeast, Certifies}
 use Rattle.certified_check.specs.declared.told_bound.ToldBound.{ToldBound}
 
@@ -18,7 +18,7 @@ told_bound (Bound c k x) = record { criterion = c; k = k; literal = positive_of 
 told_bound line = []
 
 -- the checker keeps the facts of these lines, and the bounds are those of their Bound lines, in their order
-pub record KnowsLog (lines : Lines) (kept : Kept) (bounds : List ToldBound) : Type 0 where
+pub record KnowsLog (lines : Lines) (kept : CheckedFacts) (bounds : List ToldBound) : Type 0 where
   pub facts : kept.facts ≡ facts_of lines
   pub told : bounds ≡ flat_map told_bound lines
 

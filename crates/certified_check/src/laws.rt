@@ -3,7 +3,7 @@ ghost use Rattle.std.specs.Prelude.{◌≡◌, ◌≤◌, ◌↔◌, [], ℕ, Li
 ghost use Rattle.plan_core.specs.declared.criterion.Values.{Values};
 ghost use Rattle.plan_core.specs.declared.criterion.Criterion.{Criterion};
 ghost use Rattle.refute_log.specs.Told.{Lines};
-ghost use Rattle.refute_check.specs.Kept.{Kept, Refutes};
+ghost use Rattle.refute_check.specs.Kept.{CheckedFacts, Refutes};
 ghost use Rattle.certified_values.specs.Certified.{Certifies, CertifiesNone};
 ghost use Rattle.certified_check.specs.declared.told_bound.ToldBound.{ToldBound};
 ghost use Rattle.certified_check.specs.Lacking.{KnowsLog, IsFirstLacking};
@@ -26,6 +26,6 @@ pub fn only_greatest_values_lack()
 
 /// The verdict on no literals is the one on there being no drawing.
 pub fn no_literals_certify_none()
-    ensures { (lines : Lines) (kept : Kept) (bounds : List ToldBound) → KnowsLog lines kept bounds →
+    ensures { (lines : Lines) (kept : CheckedFacts) (bounds : List ToldBound) → KnowsLog lines kept bounds →
         Refutes kept [] ↔ CertifiesNone lines }
 {}

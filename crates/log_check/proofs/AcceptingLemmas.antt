@@ -10,7 +10,7 @@ use Rattle.refute_log.specs.Log.{Facts, added, StandsOn}
 use Rattle.refute_log.proofs.LogLemmas.{flat_map_last, facts_more, derives_more}
 use Rattle.refute_check.specs.declared.fault.LineFault.{LineFault}
 use Rattle.refute_check.specs.declared.fault.LineFault.TheVariants as faults
-use Rattle.refute_check.specs.Kept.{Kept, kept_after, LacksRoom, Accepts, NamesNew, AnswersWrongly, PassesRoom, IsUnproved, IsOld}
+use Rattle.refute_check.specs.Kept.{CheckedFacts, kept_after, LacksRoom, Accepts, NamesNew, AnswersWrongly, PassesRoom, IsUnproved, IsOld}
 use Rattle.certified_values.specs.Expected.{clause_line, clause_lines, BeginsLines}
 use Rattle.certified_check.specs.declared.told_bound.ToldBound.{ToldBound}
 use Rattle.certified_check.specs.Lacking.{told_bound}
@@ -109,9 +109,9 @@ compared_same e lines line p h none =
 
 -- ---- the checker accepts it
 
-words_within : (kept : Kept) (lines : Lines) (line : LogLine) → kept ≡ kept_of_lines lines → words_of (flat_map added lines) ≤ ROOM → (LacksRoom kept line → ⊥) → words_of (flat_map added (lines ++ line ∷ [])) ≤ ROOM
+words_within : (kept : CheckedFacts) (lines : Lines) (line : LogLine) → kept ≡ kept_of_lines lines → words_of (flat_map added lines) ≤ ROOM → (LacksRoom kept line → ⊥) → words_of (flat_map added (lines ++ line ∷ [])) ≤ ROOM
 words_within kept lines line is room fits =
-    subst (λ (cs : Clauses). words_of cs ≤ ROOM) (sym (flat_map_last added lines line)) (by line (subst (λ (k : Kept). LacksRoom k line → ⊥) is fits))
+    subst (λ (cs : Clauses). words_of cs ≤ ROOM) (sym (flat_map_last added lines line)) (by line (subst (λ (k : CheckedFacts). LacksRoom k line → ⊥) is fits))
   where
     not_more : (n : ℕ) → (ROOM < n → ⊥) → n ≤ ROOM
     not_more n free = omega (arith, free)
@@ -124,20 +124,20 @@ words_within kept lines line is room fits =
     by (Refuted c) free = subst (λ (cs : Clauses). words_of cs ≤ ROOM) (sym (append-nil (flat_map added lines))) room
     by Model free = subst (λ (cs : Clauses). words_of cs ≤ ROOM) (sym (append-nil (flat_map added lines))) room
 
-pub accepted_more : (e : Expectation) (lines : Lines) (line : LogLine) (p : Progress) (new : Kept) → HasCompared e lines line p → Accepts p.checker new line → AreAccepted e (lines ++ line ∷ [])
+pub accepted_more : (e : Expectation) (lines : Lines) (line : LogLine) (p : Progress) (new : CheckedFacts) → HasCompared e lines line p → Accepts p.checker new line → AreAccepted e (lines ++ line ∷ [])
 accepted_more e lines line p new h a = record {
   front = h.compared.expected;
   within = h.within;
-  derives = derives_more lines line h.accepted.derives (subst (λ (k : Kept). StandsOn k.facts line) h.checker a.stands);
+  derives = derives_more lines line h.accepted.derives (subst (λ (k : CheckedFacts). StandsOn k.facts line) h.checker a.stands);
   room = words_within p.checker lines line h.checker h.accepted.room a.fits;
 }
 
-abbrev kept_with : Facts → Kept
+abbrev kept_with : Facts → CheckedFacts
 kept_with facts = record { room = ROOM; facts = facts }
 
-kept_more : (old new : Kept) (lines : Lines) (line : LogLine) → old ≡ kept_of_lines lines → new ≡ kept_after old line → new ≡ kept_of_lines (lines ++ line ∷ [])
+kept_more : (old new : CheckedFacts) (lines : Lines) (line : LogLine) → old ≡ kept_of_lines lines → new ≡ kept_after old line → new ≡ kept_of_lines (lines ++ line ∷ [])
 kept_more old new lines line is more =
-    more ∙ ap (λ (k : Kept). kept_after k line) is ∙ ap kept_with (sym (facts_more lines line))
+    more ∙ ap (λ (k : CheckedFacts). kept_after k line) is ∙ ap kept_with (sym (facts_more lines line))
 
 pub has_accepted : (e : Expectation) (lines : Lines) (line : LogLine) (old new : Progress) → HasCompared e lines line old → Accepts old.checker new.checker line → new.awaited ≡ old.awaited → new.bounds.items ≡ old.bounds.items ++ told_bound line →
     HasAccepted e (lines ++ line ∷ []) new
@@ -151,7 +151,7 @@ has_accepted e lines line old new h a awaited bounds = record {
 -- ---- the checker refuses it
 
 -- the cause of a fault
-abbrev pub IsCauseOf : Kept → LogLine → LineFault → Type 0
+abbrev pub IsCauseOf : CheckedFacts → LogLine → LineFault → Type 0
 IsCauseOf kept line faults.NewVar = NamesNew kept.facts line
 IsCauseOf kept line faults.WrongQuery = AnswersWrongly kept line
 IsCauseOf kept line faults.Room = PassesRoom kept line
@@ -159,7 +159,7 @@ IsCauseOf kept line faults.NotImplied = IsUnproved kept line
 IsCauseOf kept line faults.NotNew = IsOld kept line
 IsCauseOf kept line faults.Memory = Unit {0}
 
-pub cause_of : (kept : Kept) (line : LogLine) (fault : LineFault) → (fault ≡ faults.NewVar → NamesNew kept.facts line) → (fault ≡ faults.WrongQuery → AnswersWrongly kept line) → (fault ≡ faults.Room → PassesRoom kept line) →
+pub cause_of : (kept : CheckedFacts) (line : LogLine) (fault : LineFault) → (fault ≡ faults.NewVar → NamesNew kept.facts line) → (fault ≡ faults.WrongQuery → AnswersWrongly kept line) → (fault ≡ faults.Room → PassesRoom kept line) →
     (fault ≡ faults.NotImplied → IsUnproved kept line) → (fault ≡ faults.NotNew → IsOld kept line) → IsCauseOf kept line fault
 cause_of kept line faults.NewVar a b c d e = a refl
 cause_of kept line faults.WrongQuery a b c d e = b refl
@@ -177,7 +177,7 @@ refused_by e lines line faults.NotNew why h cause is = subst (IsRefusedFor e lin
 refused_by e lines line faults.Memory why h cause is = absurd (cc)
 
 pub refused_for : (e : Expectation) (lines : Lines) (line : LogLine) (p : Progress) (fault : LineFault) (why : Refusal) → HasCompared e lines line p → IsCauseOf p.checker line fault → why ∷ [] ≡ refusals_of fault → IsRefusedFor e lines line why
-refused_for e lines line p fault why h cause is = refused_by e lines line fault why h.compared (subst (λ (k : Kept). IsCauseOf k line fault) h.checker cause) is
+refused_for e lines line p fault why h cause is = refused_by e lines line fault why h.compared (subst (λ (k : CheckedFacts). IsCauseOf k line fault) h.checker cause) is
 
 -- the bounds with those of one line more
 pub bounds_pushed : (line : LogLine) (old new : List ToldBound) (b : ToldBound) → option_to_list (Some b) ≡ told_bound line → new ≡ old ++ b ∷ [] → new ≡ old ++ told_bound line

@@ -9,6 +9,7 @@ use Rattle.plan_core.specs.Grid.{GridSize}
 use Rattle.plan_core.specs.Graph.{Graph}
 use Rattle.plan_core.specs.Values.{limit_of}
 use Rattle.cnf_core.specs.declared.limits.TheConstants.{VARS, ROOM}
+use Rattle.cnf_core.proofs.ClauseLemmas.{words_append}
 use Rattle.cnf_core.specs.declared.fault.CnfFault.{CnfFault}
 use Rattle.cnf_core.specs.Clause.{Clauses, words_of}
 use Rattle.cnf_core.specs.Formula.{IsFormula}
@@ -115,10 +116,6 @@ expected_append : (e : Problem) (xs ys : List Criterion) (cap : Criterion → �
 expected_append e xs ys cap =
     ap (λ (ls : Lines). map Formula e.clauses ++ ls) (sums_append e e.vars xs ys cap)
     ∙ sym (append_assoc (map Formula e.clauses) (sums e e.vars xs cap) (sums e (vars_after e e.vars xs cap) ys cap))
-
-words_append : (cs ds : Clauses) → words_of (cs ++ ds) ≡ words_of cs + words_of ds
-words_append [] ds = omega arith
-words_append (c ∷ cs) ds = omega (arith, words_append cs ds)
 
 -- what passes the limits passes them with further criteria
 pub passes_more : (y : Layout) (xs ys : List Criterion) (cap : Criterion → ℕ) → PassesLimits (expectation y xs cap) → PassesLimits (expectation y (xs ++ ys) cap)

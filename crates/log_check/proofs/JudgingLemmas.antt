@@ -6,6 +6,7 @@ use Rattle.plan_core.specs.declared.criterion.Criterion.{Criterion}
 use Rattle.plan_core.specs.declared.criterion.Values.{Values}
 use Rattle.plan_core.specs.Order.{IsOrder}
 use Rattle.plan_core.proofs.OrderLemmas.{few_criteria}
+use Rattle.plan_core.proofs.ListFacts.{each_pushed}
 use Rattle.plan_core.specs.Grid.{IsGrid}
 use Rattle.plan_core.specs.Lawful.{Lawful}
 use Rattle.plan_core.specs.Values.{values_of, limit_of}
@@ -19,7 +20,7 @@ use Rattle.refute_log.specs.Told.{Lines}
 use Rattle.refute_log.specs.Log.{Facts, facts_of}
 use Rattle.refute_log.proofs.LogLemmas.{derives_none}
 use Rattle.refute_log.proofs.TextLemmas.{log_text_more}
-use Rattle.refute_check.specs.Kept.{Kept}
+use Rattle.refute_check.specs.Kept.{CheckedFacts}
 use Rattle.certified_values.specs.Bounds.{MeetsLog, CoversDrawings}
 use Rattle.certified_values.specs.Expected.{bound_vars, caps}
 use Rattle.certified_values.proofs.CertifiedLemmas.{none_better, none_meets, certifies_under}
@@ -44,9 +45,9 @@ use Rattle.log_check.specs.Expectation.{Expectation, expectation, PassesLimits}
 use Rattle.log_check.specs.Accepted.{AreAccepted, AcceptsFront}
 use Rattle.log_check.specs.Refused.{IsRefusedFor, kept_of_lines}
 use Rattle.log_check.specs.Claimed.{IsClaimOf, CertifiesClaim, LacksAt, IsTrueClaim}
-use Rattle.log_check.specs.Judged.{IsLineRefused, IsTextRefused, IsVerdict, IsLogJudged}
+use Rattle.log_check.specs.Judged.{IsLineRefused, IsTextRefused, IsLogVerdict, IsLogJudged}
 use Rattle.log_check.specs.Awaited.{awaited_lines, IsAwaited}
-use Rattle.log_check.specs.Progress.{IsNext, AreAwaited, HasAccepted, IsStopped, IsClaimJudged, IsTextJudged}
+use Rattle.log_check.specs.Progress.{IsNext, AreAwaited, HasAccepted, IsStopped, AreLinesJudged, IsTextJudged}
 
 -- ---- the lines so far
 
@@ -71,15 +72,11 @@ read_none e log rest p is h = record {
     nothing_more [] = refl
     nothing_more (b ∷ t) = ap (λ (s : List ℕ). b ∷ s) (nothing_more t)
 
-formed_more : (lines : Lines) (line : LogLine) → MayAllBeTold lines → MayBeTold line → MayAllBeTold (lines ++ line ∷ [])
-formed_more [] line h k = (k, tt)
-formed_more (l ∷ lines) line h k = (h.0, formed_more lines line h.1 k)
-
 pub read_next : (e : Expectation) (log rest more : List ℕ) (number : ℕ) (line : LogLine) (old new : Progress) → MayBeTold line → rest ≡ ended_text line ++ more →
     ((before : Lines) → HasAccepted e before old → HasAccepted e (before ++ line ∷ []) new) → HasRead e log rest number old → HasRead e log more (number + 1) new
 read_next e log rest more number line old new told is step h = record {
   lines = h.lines ++ line ∷ [];
-  formed = formed_more h.lines line h.formed told;
+  formed = each_pushed MayBeTold h.lines line h.formed told;
   spelled =
       h.spelled ∙ ap (λ (t : List ℕ). log_text h.lines ++ t) is ∙ sym (append_assoc (log_text h.lines) (ended_text line) more)
       ∙ ap (λ (t : List ℕ). t ++ more) (log_text_more h.lines line);
@@ -126,7 +123,7 @@ accepted_none e awaited p h is checker bounds = record {
 }
 
 pub knows : (e : Expectation) (lines : Lines) (p : Progress) → HasAccepted e lines p → KnowsLog lines p.checker p.bounds.items
-knows e lines p h = record { facts = ap (λ (k : Kept). k.facts) h.checker; told = h.bounds }
+knows e lines p h = record { facts = ap (λ (k : CheckedFacts). k.facts) h.checker; told = h.bounds }
 
 -- ---- what the verdict says
 
@@ -158,7 +155,7 @@ lacks_as greatest other lines order Nothing place same h = h
 
 -- the verdict on the text is the one on the log
 verdict_of : (y : Layout) (order : List Criterion) (cap greatest : Criterion → ℕ) (e : Expectation) (claim : Claim) (log : List ℕ) (verdict : Verdict) → IsStationGraph y.graph → IsOrderOf y.graph y.order → IsGrid y.grid → e ≡ expectation y order cap →
-    ((c : Criterion) → greatest c ≡ limit_of y.graph y.grid c) → IsTextJudged greatest order claim e log verdict → IsVerdict y order claim e log verdict
+    ((c : Criterion) → greatest c ≡ limit_of y.graph y.grid c) → IsTextJudged greatest order claim e log verdict → IsLogVerdict y order claim e log verdict
 verdict_of y order cap greatest e claim log Certified station is size expected same (inl h) =
     let certified = certifies_as greatest (limit_of y.graph y.grid) h.0 order claim same h.2 in
     record { lines = h.0; whole = h.1; certified = certified; is_so = claim_is_so y order cap (limit_of y.graph y.grid) e h.0 claim station is size expected h.1.accepted certified }
@@ -228,10 +225,6 @@ pub refused_at : (e : Expectation) (line : LogLine) (old new : Progress) (r : Op
     ((before : Lines) → HasAccepted e before old → MatchOption r (HasAccepted e (before ++ line ∷ []) new) (IsRefusedFor e before line)) → (before : Lines) → HasAccepted e before old → IsRefusedFor e before line why
 refused_at e line old new r why is step = λ before h. subst (λ (o : Option Refusal). MatchOption o (HasAccepted e (before ++ line ∷ []) new) (IsRefusedFor e before line)) is (step before h)
 
-pub nothing_left : (rest : List ℕ) → length rest ≡ 0 → rest ≡ []
-nothing_left [] none = refl
-nothing_left (b ∷ rest) none = absurd (omega arith)
-
 -- a place that is lacking is one of those that are claimed
 pub lacking_low : (greatest : Criterion → ℕ) (lines : Lines) (order : List Criterion) (v : Values) (s i : ℕ) (found : Option ℕ) → found ≡ Some i → IsFirstLacking greatest lines order v s found → i < s
 lacking_low greatest lines order v s i found is h = (subst (IsFirstLacking greatest lines order v s) is h).0
@@ -243,8 +236,8 @@ place_is_small order claim v s i distinct within is low =
     omega arith
 
 -- the claim, by its variant
-pub judged_as : (greatest : Criterion → ℕ) (lines : Lines) (order : List Criterion) (claim other : Claim) (verdict : Verdict) → claim ≡ other → IsClaimJudged greatest lines order other verdict → IsClaimJudged greatest lines order claim verdict
-judged_as greatest lines order claim other verdict is h = subst (λ (x : Claim). IsClaimJudged greatest lines order x verdict) (sym is) h
+pub judged_as : (greatest : Criterion → ℕ) (lines : Lines) (order : List Criterion) (claim other : Claim) (verdict : Verdict) → claim ≡ other → AreLinesJudged greatest lines order other verdict → AreLinesJudged greatest lines order claim verdict
+judged_as greatest lines order claim other verdict is h = subst (λ (x : Claim). AreLinesJudged greatest lines order x verdict) (sym is) h
 
 pub none_lacks : (greatest : Criterion → ℕ) (lines : Lines) (order : List Criterion) (v : Values) (s : ℕ) (found : Option ℕ) → found ≡ None → IsFirstLacking greatest lines order v s found → Certifies greatest lines order v s
 none_lacks greatest lines order v s found is h = subst (IsFirstLacking greatest lines order v s) is h
@@ -270,18 +263,18 @@ pub no_header : (log : List ℕ) (r : Option (Bor (List ℕ))) → MatchOption r
 no_header log None h other = h
 no_header log (Some x) h other = absurd (other x refl)
 
-abbrev kept_by : ℕ → Facts → Kept
+abbrev kept_by : ℕ → Facts → CheckedFacts
 kept_by room facts = record { room = room; facts = facts }
 
 -- a new checker accepted no lines
-pub new_keeps : (k : Kept) → k.room ≡ ROOM → k.facts ≡ facts_of [] → k ≡ kept_of_lines []
+pub new_keeps : (k : CheckedFacts) → k.room ≡ ROOM → k.facts ≡ facts_of [] → k ≡ kept_of_lines []
 new_keeps k room facts = ap (λ n. kept_by n k.facts) room ∙ ap (λ (f : Facts). kept_by ROOM f) facts
 
 -- the claim is judged by the lines of a text that was read to its end
 pub text_judged : {X : Type 0} (res : Result Verdict X) (greatest : Criterion → ℕ) (order : List Criterion) (claim : Claim) (log : List ℕ) (o : Option Awaited) (old new : Progress) (r : Option Verdict) → r ≡ None →
     ((e : Expectation) → AreAwaited e [] o → HasAccepted e [] old) →
     ((e : Expectation) → HasAccepted e [] old → MatchOption r ((lines : Lines) × AcceptsFront e log lines [] × HasAccepted e lines new) (IsStopped e log)) →
-    IfOk res (λ v. (lines : Lines) → KnowsLog lines new.checker new.bounds.items → IsClaimJudged greatest lines order claim v) → IfOk res (λ v. (e : Expectation) → AreAwaited e [] o → IsTextJudged greatest order claim e log v)
+    IfOk res (λ v. (lines : Lines) → KnowsLog lines new.checker new.bounds.items → AreLinesJudged greatest lines order claim v) → IfOk res (λ v. (e : Expectation) → AreAwaited e [] o → IsTextJudged greatest order claim e log v)
 text_judged (Ok v) greatest order claim log o old new r none begin judged k = λ e h.
     let w = subst (λ (x : Option Verdict). MatchOption x ((lines : Lines) × AcceptsFront e log lines [] × HasAccepted e lines new) (IsStopped e log)) none (judged e (begin e h)) in
     inl (w.0, w.1, k w.0 (knows e w.0 new w.2))

@@ -6,10 +6,10 @@ use Rattle.refute_log.specs.declared.line.LogLine.{LogLine}
 use Rattle.refute_log.specs.Lines.{ended_text, log_line_text, MayBeTold}
 use Rattle.log_check.specs.declared.next_line.Next.{Next}
 use Rattle.log_check.specs.declared.next_line.Next.TheVariants.{Line, Fault}
-use Rattle.log_check.specs.Progress.{IsRead, IsNext}
+use Rattle.log_check.specs.Progress.{IsLineRead, IsNext}
 
 -- a line that is read from what stands before a line feed
-pub next_of : (rest text more : List ℕ) (n : Next) → IsCutAt 10 rest text more → IsRead text more n → IsNext rest n
+pub next_of : (rest text more : List ℕ) (n : Next) → IsCutAt 10 rest text more → IsLineRead text more n → IsNext rest n
 next_of rest text more (Line line after) cut read = (
   record { formed = read.0.spells.formed; once = read.0.once },
   cut.spelled ∙ sym (append_assoc text (10 ∷ []) more) ∙ ap (λ (t : List ℕ). (t ++ 10 ∷ []) ++ more) (sym read.0.spells.spelled)

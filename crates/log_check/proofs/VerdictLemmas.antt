@@ -24,7 +24,7 @@ use Rattle.log_check.specs.Expectation.{Expectation, expectation, IsExpectedOf}
 use Rattle.log_check.specs.Accepted.{AreAccepted, AcceptsFront}
 use Rattle.log_check.specs.Refused.{IsRefusedFor}
 use Rattle.log_check.specs.Claimed.{IsClaimOf, CertifiesClaim, LacksAt}
-use Rattle.log_check.specs.Judged.{IsHeaderRefused, IsVerdict, IsLogJudged}
+use Rattle.log_check.specs.Judged.{IsHeaderRefused, IsLogVerdict, IsLogJudged}
 use Rattle.log_check.proofs.JudgingLemmas.{claim_is_so}
 use Rattle.log_check.proofs.CutLemmas.{lines_once, same_line, line_goes_on, line_has_no_fault, next_fault_once, no_next_fault, Begins, log_fronts}
 use Rattle.log_check.proofs.CauseLemmas.{NamesItsOwn, accepted_first, accepted_not_refused, refused_once}
@@ -57,7 +57,7 @@ abbrev AtHeader : List ℕ → Verdict → Type 0
 AtHeader bytes v = (what : LogWhat) × (number : ℕ) × (v ≡ Faulty what number) × IsHeaderRefused bytes what number
 
 -- a verdict stops behind accepted lines, or there
-stops : (y : Layout) (order : List Criterion) (claim : Claim) (e : Expectation) (bytes : List ℕ) (v : Verdict) → IsVerdict y order claim e bytes v → Stops y order claim e bytes v ⊎ AtHeader bytes v
+stops : (y : Layout) (order : List Criterion) (claim : Claim) (e : Expectation) (bytes : List ℕ) (v : Verdict) → IsLogVerdict y order claim e bytes v → Stops y order claim e bytes v ⊎ AtHeader bytes v
 stops y order claim e bytes Certified h = inl (record { lines = h.lines; rest = []; accepts = h.whole; at = (refl, h.certified) })
 stops y order claim e bytes (Lacks place) h = inl (record { lines = h.lines; rest = []; accepts = h.whole; at = (refl, h.lacks) })
 stops y order claim e bytes (Refused why number) h = inl (record {
@@ -167,7 +167,7 @@ has_header : (y : Layout) (order : List Criterion) (claim : Claim) (e : Expectat
 has_header y order claim e bytes v what number a h =
     h.lacks (flat_map ended_text a.lines ++ a.rest) (a.accepts.spelled ∙ append_assoc header (flat_map ended_text a.lines) a.rest)
 
-verdict_once : (y : Layout) (order : List Criterion) (claim : Claim) (e : Expectation) (bytes : List ℕ) (v w : Verdict) → NamesItsOwn e → IsClaimOf order claim → IsVerdict y order claim e bytes v → IsVerdict y order claim e bytes w → v ≡ w
+verdict_once : (y : Layout) (order : List Criterion) (claim : Claim) (e : Expectation) (bytes : List ℕ) (v w : Verdict) → NamesItsOwn e → IsClaimOf order claim → IsLogVerdict y order claim e bytes v → IsLogVerdict y order claim e bytes w → v ≡ w
 verdict_once y order claim e bytes v w own within h k = by (stops y order claim e bytes v h) (stops y order claim e bytes w k)
   where
     by : Stops y order claim e bytes v ⊎ AtHeader bytes v → Stops y order claim e bytes w ⊎ AtHeader bytes w → v ≡ w
@@ -192,7 +192,7 @@ names_its_own y order bytes e station is size h =
 pub judged_once : (y : Layout) (order : List Criterion) (claim : Claim) (log : List ℕ) (v w : Verdict) → IsStationGraph y.graph → IsOrderOf y.graph y.order → IsGrid y.grid → IsClaimOf order claim → IsLogJudged y order claim log v → IsLogJudged y order claim log w → v ≡ w
 judged_once y order claim log v w station is size within h k =
     verdict_once y order claim h.expected log v w (names_its_own y order log h.expected station is size h.is_expected) within h.is_verdict
-    (subst (λ (e : Expectation). IsVerdict y order claim e log w) (expected_once y order log k.expected h.expected k.is_expected h.is_expected) k.is_verdict)
+    (subst (λ (e : Expectation). IsLogVerdict y order claim e log w) (expected_once y order log k.expected h.expected k.is_expected h.is_expected) k.is_verdict)
 
 -- where all is accepted and certifies the claim, that is the verdict
 pub certified_due : (y : Layout) (order : List Criterion) (claim : Claim) (log : List ℕ) (e : Expectation) (lines : Lines) (v : Verdict) → IsStationGraph y.graph → IsOrderOf y.graph y.order → IsGrid y.grid → IsClaimOf order claim →

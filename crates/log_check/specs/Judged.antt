@@ -57,14 +57,14 @@ pub record IsHeaderRefused (bytes : List ℕ) (what : LogWhat) (number : ℕ) : 
   pub what_is : what ≡ whats.Header
   pub numbered : number ≡ 1
 
-abbrev pub IsVerdict : Layout → List Criterion → Claim → Expectation → List ℕ → Verdict → Type 0
-IsVerdict y order claim e bytes Certified = IsCertified y order claim e bytes
-IsVerdict y order claim e bytes (Lacks place) = IsLacking y order claim e bytes place
-IsVerdict y order claim e bytes (Refused why number) = IsLineRefused e bytes why number
-IsVerdict y order claim e bytes (Faulty what number) = IsTextRefused e bytes what number ⊎ IsHeaderRefused bytes what number
+abbrev pub IsLogVerdict : Layout → List Criterion → Claim → Expectation → List ℕ → Verdict → Type 0
+IsLogVerdict y order claim e bytes Certified = IsCertified y order claim e bytes
+IsLogVerdict y order claim e bytes (Lacks place) = IsLacking y order claim e bytes place
+IsLogVerdict y order claim e bytes (Refused why number) = IsLineRefused e bytes why number
+IsLogVerdict y order claim e bytes (Faulty what number) = IsTextRefused e bytes what number ⊎ IsHeaderRefused bytes what number
 
 -- the verdict on the log of a layout's drawings and an order, by what is expected of the whole text
 pub record IsLogJudged (y : Layout) (order : List Criterion) (claim : Claim) (log : List ℕ) (verdict : Verdict) : Type 0 where
   pub expected : Expectation
   pub is_expected : IsExpectedOf y order log expected
-  pub is_verdict : IsVerdict y order claim expected log verdict
+  pub is_verdict : IsLogVerdict y order claim expected log verdict

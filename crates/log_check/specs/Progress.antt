@@ -29,9 +29,9 @@ use Rattle.log_check.specs.Judged.{IsLineRefused, IsTextRefused, IsHeaderRefused
 use Rattle.log_check.specs.Awaited.{awaited_lines, IsAwaited}
 
 -- the text is that of the line, and this follows; or it has the fault
-abbrev pub IsRead : List ℕ → List ℕ → Next → Type 0
-IsRead text more (Line line after) = IsTextOf text line × (after.now ≡ more)
-IsRead text more (Fault what) = HasLineFault text what
+abbrev pub IsLineRead : List ℕ → List ℕ → Next → Type 0
+IsLineRead text more (Line line after) = IsTextOf text line × (after.now ≡ more)
+IsLineRead text more (Fault what) = HasLineFault text what
 
 -- the text begins with the line, and this follows; or its next line has the fault
 abbrev pub IsNext : List ℕ → Next → Type 0
@@ -70,9 +70,9 @@ IsCompared e before line (compared.Wrong refusals.Room) = IsOverLimits e before 
 IsCompared e before line (compared.Wrong refusals.Differs) = (IsOverLimits e before line → ⊥) × (IsNextExpected e before line → ⊥)
 IsCompared e before line (compared.Wrong why) = ⊥
 
-abbrev pub IsReady : Compared → Type 0
-IsReady (compared.Next a) = IsAwaited a
-IsReady other = ⊤
+abbrev pub IsNextAwaited : Compared → Type 0
+IsNextAwaited (compared.Next a) = IsAwaited a
+IsNextAwaited other = ⊤
 
 -- the refusal that a fault of the checker is; none where memory is wanting
 abbrev pub refusals_of : LineFault → List Refusal
@@ -90,12 +90,12 @@ IsStopped e bytes (Faulty what number) = IsTextRefused e bytes what number ⊎ I
 IsStopped e bytes verdict = ⊥
 
 -- the claim is certified by these lines, or lacks this place first
-abbrev pub IsClaimJudged : (Criterion → ℕ) → Lines → List Criterion → Claim → Verdict → Type 0
-IsClaimJudged greatest lines order claim Certified = CertifiesClaim greatest lines order claim
-IsClaimJudged greatest lines order claim (Lacks place) = LacksAt greatest lines order claim place
-IsClaimJudged greatest lines order claim verdict = ⊥
+abbrev pub AreLinesJudged : (Criterion → ℕ) → Lines → List Criterion → Claim → Verdict → Type 0
+AreLinesJudged greatest lines order claim Certified = CertifiesClaim greatest lines order claim
+AreLinesJudged greatest lines order claim (Lacks place) = LacksAt greatest lines order claim place
+AreLinesJudged greatest lines order claim verdict = ⊥
 
 -- the text is judged up to its end, or to a line that is refused or faulty
 abbrev pub IsTextJudged : (Criterion → ℕ) → List Criterion → Claim → Expectation → List ℕ → Verdict → Type 0
 IsTextJudged greatest order claim e bytes verdict =
-    ((lines : Lines) × AcceptsFront e bytes lines [] × IsClaimJudged greatest lines order claim verdict) ⊎ IsStopped e bytes verdict
+    ((lines : Lines) × AcceptsFront e bytes lines [] × AreLinesJudged greatest lines order claim verdict) ⊎ IsStopped e bytes verdict

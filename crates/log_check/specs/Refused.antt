@@ -4,7 +4,7 @@ use Rattle.cnf_core.specs.declared.limits.TheConstants.{ROOM}
 use Rattle.refute_log.specs.declared.line.LogLine.{LogLine}
 use Rattle.refute_log.specs.Told.{Lines}
 use Rattle.refute_log.specs.Log.{facts_of}
-use Rattle.refute_check.specs.Kept.{Kept, NamesNew, AnswersWrongly, PassesRoom, IsUnproved, IsOld}
+use Rattle.refute_check.specs.Kept.{CheckedFacts, NamesNew, AnswersWrongly, PassesRoom, IsUnproved, IsOld}
 use Rattle.certified_values.specs.Expected.{clause_line, clause_lines, BeginsLines}
 use Rattle.log_check.specs.declared.verdict.Refusal.{Refusal}
 use Rattle.log_check.specs.declared.verdict.Refusal.TheVariants.{Room, Differs, NewVar, WrongQuery, NotImplied, NotNew}
@@ -26,7 +26,7 @@ pub record IsComparedLine (e : Expectation) (before : Lines) (line : LogLine) : 
   pub expected : IsNextExpected e before line
 
 -- what a checker of ROOM words keeps of lines that it accepted
-abbrev pub kept_of_lines : Lines → Kept
+abbrev pub kept_of_lines : Lines → CheckedFacts
 kept_of_lines lines = record { room = ROOM; facts = facts_of lines }
 
 -- where there are several causes: no room for what is expected, another line than the next, and then the checker's causes,

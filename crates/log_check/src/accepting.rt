@@ -7,7 +7,7 @@ ghost use Rattle.log_check.specs.Expectation.{Expectation};
 ghost use Rattle.log_check.specs.Accepted.{AreAccepted};
 ghost use Rattle.log_check.specs.Refused.{IsRefusedFor};
 ghost use Rattle.log_check.specs.Awaited.{IsAwaited};
-ghost use Rattle.log_check.specs.Progress.{AreAwaited, HasAccepted, HasCompared, IsCompared, IsReady, refusals_of};
+ghost use Rattle.log_check.specs.Progress.{AreAwaited, HasAccepted, HasCompared, IsCompared, IsNextAwaited, refusals_of};
 
 use crate::awaited::{Awaited, behind};
 use crate::verdict::Refusal;
@@ -48,7 +48,7 @@ fn is_clause_line(line: &LogLine) -> bool
 /// Compares a line with what is awaited.
 fn compare<'a>(awaited: &Option<Awaited<'a>>, line: &LogLine) -> Compared<'a>
     requires { IfSome awaited.now IsAwaited }
-    ensures ready { IsReady result }
+    ensures ready { IsNextAwaited result }
     ensures compared { (e : Expectation) (lines : Lines) → AreAccepted e lines → AreAwaited e lines awaited.now →
         IsCompared e lines line.now result }
 {

@@ -10,7 +10,7 @@ ghost use Rattle.log_check.specs.Expectation.{Expectation};
 ghost use Rattle.log_check.specs.Accepted.{AcceptsFront};
 ghost use Rattle.log_check.specs.Claimed.{IsClaimOf};
 ghost use Rattle.log_check.specs.Judged.{IsLogJudged};
-ghost use Rattle.log_check.specs.Progress.{AreAwaited, HasAccepted, IsStopped, IsClaimJudged, IsTextJudged};
+ghost use Rattle.log_check.specs.Progress.{AreAwaited, HasAccepted, IsStopped, AreLinesJudged, IsTextJudged};
 
 use crate::accepting::{Progress, accept};
 use crate::awaited::{Awaited, all_awaited};
@@ -83,7 +83,7 @@ fn judge_claim(
     requires claim { IsClaimOf order.now claim.now }
     requires known { (lines : Lines) × KnowsLog lines progress.now.checker progress.now.bounds.items }
     ensures { IfOk result (λ v. (lines : Lines) → KnowsLog lines progress.now.checker progress.now.bounds.items →
-        IsClaimJudged (value_of greatest.now) lines order.now claim.now v) }
+        AreLinesJudged (value_of greatest.now) lines order.now claim.now v) }
 {
     // at most four places
     let _ = order.len();

@@ -1,6 +1,6 @@
 // The next line of a log's text.
 ghost use Rattle.std.specs.Prelude.{◌≢◌, [], IfOk};
-ghost use Rattle.log_check.specs.Progress.{IsRead, IsNext};
+ghost use Rattle.log_check.specs.Progress.{IsLineRead, IsNext};
 
 use line_text::cut_line;
 use plan_core::OutOfMemory;
@@ -18,7 +18,7 @@ pub(crate) enum Next<'a> {
 
 /// The line of a text, which more text follows, or its fault.
 fn read<'a>(alloc: Global, text: &[u8], more: &'a [u8]) -> Result<Next<'a>, OutOfMemory>
-    ensures { IfOk result (IsRead text.now more.now) }
+    ensures { IfOk result (IsLineRead text.now more.now) }
 {
     match read_line(alloc, text, 0) {
         Ok(line) => Ok(Next::Line(line, more)),

@@ -17,14 +17,14 @@ use Rattle.refute_check.specs.declared.fault.LineFault.{LineFault}
 use Rattle.refute_check.specs.declared.fault.LineFault.TheVariants.{NewVar, WrongQuery, Room, NotImplied, NotNew, Memory}
 use Rattle.refute_log.specs.Log.{Answers, IsNewClause, SaysMore}
 use Rattle.refute_check.specs.Standing.{IsContradicted}
-use Rattle.refute_check.specs.Kept.{Kept, kept_of, kept_after, with_clause, IsKnownClause, Accepts, AnswersWrongly, PassesRoom, IsUnproved, IsOld, NamesNew, IsAnswer, IncludesNone}
+use Rattle.refute_check.specs.Kept.{CheckedFacts, checked_facts, kept_after, with_clause, IsKnownClause, Accepts, AnswersWrongly, PassesRoom, IsUnproved, IsOld, NamesNew, IsAnswer, IncludesNone}
 
 -- what is falsified without assumptions is so with any
 pub falsified_any : (clauses : Clauses) (start : LiteralSet) → Falsifies clauses nothing → Falsifies clauses start
 falsified_any clauses start f = falsifies_again clauses start nothing (λ k m. cc) f
 
-pub contradicted_any : (room : ℕ) (f : Cnf) (q : Option (List Literal)) (rs : Clauses) (kept : Kept) (start : LiteralSet) → IsContradicted f → kept_of room f q rs ≡ kept → Falsifies kept.facts.clauses start
-contradicted_any room f q rs kept start h e = subst (λ (cs : Clauses). Falsifies cs start) (ap (λ (k : Kept). k.facts.clauses) e) (falsified_any f.clauses start h.falsified)
+pub contradicted_any : (room : ℕ) (f : Cnf) (q : Option (List Literal)) (rs : Clauses) (kept : CheckedFacts) (start : LiteralSet) → IsContradicted f → checked_facts room f q rs ≡ kept → Falsifies kept.facts.clauses start
+contradicted_any room f q rs kept start h e = subst (λ (cs : Clauses). Falsifies cs start) (ap (λ (k : CheckedFacts). k.facts.clauses) e) (falsified_any f.clauses start h.falsified)
 
 -- the parts of a clause with a first literal
 pub split_first : (lits : List Literal) (first : Literal) → 1 ≤ length lits → first ≡ get_or lits 0 first → lits ≡ first ∷ take (length lits - 1) (drop 1 lits)
@@ -44,9 +44,9 @@ new_first clauses lits first others greatest e le there f u = subst (λ (ls : Li
 })
 
 -- what is asked of a line's literals, of the checker's value
-pub named_line : (c lits : List Literal) (vars room : ℕ) (f : Cnf) (q : Option (List Literal)) (rs : Clauses) (kept : Kept) → lits ≡ c → vars ≡ f.vars → kept_of room f q rs ≡ kept → All (λ l. l.var ≤ vars) lits → All (λ l. l.var ≤ kept.facts.greatest) c
+pub named_line : (c lits : List Literal) (vars room : ℕ) (f : Cnf) (q : Option (List Literal)) (rs : Clauses) (kept : CheckedFacts) → lits ≡ c → vars ≡ f.vars → checked_facts room f q rs ≡ kept → All (λ l. l.var ≤ vars) lits → All (λ l. l.var ≤ kept.facts.greatest) c
 named_line c lits vars room f q rs kept e v k all =
-    let n : vars ≡ kept.facts.greatest = v ∙ ap (λ (m : Kept). m.facts.greatest) k in
+    let n : vars ≡ kept.facts.greatest = v ∙ ap (λ (m : CheckedFacts). m.facts.greatest) k in
     subst (λ (ls : List Literal). All (λ l. l.var ≤ kept.facts.greatest) ls) e (subst (λ m. All (λ (l : Literal). l.var ≤ m) lits) n all)
 
 pub there_named : (m n : ℕ) (c lits : List Literal) → AreThere m c → lits ≡ c → All (λ l. l.var ≤ n) c → AreThere n lits
@@ -69,14 +69,14 @@ has_words : (room : ℕ) (cs : Clauses) (c lits : List Literal) → lits ≡ c �
 has_words room cs c lits e h k = omega (arith, words_push cs c lits e)
 
 -- Formula lines
-pub formula_lacks : (kept : Kept) (c lits : List Literal) → lits ≡ c → kept.room < words_of kept.facts.clauses + length lits + 3 → PassesRoom kept (Formula c)
+pub formula_lacks : (kept : CheckedFacts) (c lits : List Literal) → lits ≡ c → kept.room < words_of kept.facts.clauses + length lits + 3 → PassesRoom kept (Formula c)
 formula_lacks kept c lits e h = record {
   named = All-nil (λ (l : Literal). l.var ≤ kept.facts.greatest);
   answers = tt;
   passes = inl (lacks_words kept.room kept.facts.clauses c lits e h);
 }
 
-pub formula_accepts : (old new : Kept) (c lits : List Literal) (most : ℕ) → lits ≡ c → most ≡ greatest_in lits → most ≤ 16777216 → words_of old.facts.clauses + length lits + 3 ≤ old.room → new ≡ with_clause old lits most → Accepts old new (Formula c)
+pub formula_accepts : (old new : CheckedFacts) (c lits : List Literal) (most : ℕ) → lits ≡ c → most ≡ greatest_in lits → most ≤ 16777216 → words_of old.facts.clauses + length lits + 3 ≤ old.room → new ≡ with_clause old lits most → Accepts old new (Formula c)
 formula_accepts old new c lits most e g le fits k = record {
   stands = record { named = All-nil (λ (l : Literal). l.var ≤ old.facts.greatest); answers = tt; implied = tt; says_more = tt };
   fits = λ h. elim h [
@@ -88,17 +88,17 @@ formula_accepts old new c lits most e g le fits k = record {
       k ∙ ap (λ (ls : List Literal). with_clause old ls most) e ∙ ap (λ n. with_clause old c n) same ∙ ap (λ (rs : Clauses). with_refuted old c (max (greatest_in c) 0) rs) (sym (append-nil old.facts.refuted));
 }
   where
-    with_refuted : Kept → List Literal → ℕ → Clauses → Kept
+    with_refuted : CheckedFacts → List Literal → ℕ → Clauses → CheckedFacts
     with_refuted kept c vars rs = record {
       room = kept.room;
       facts = record { greatest = max kept.facts.greatest vars; clauses = kept.facts.clauses ++ c ∷ []; query = kept.facts.query; refuted = rs };
     }
 
 -- Learnt lines
-pub learnt_lacks : (kept : Kept) (c lits : List Literal) → lits ≡ c → All (λ l. l.var ≤ kept.facts.greatest) c → kept.room < words_of kept.facts.clauses + length lits + 3 → PassesRoom kept (Learnt c)
+pub learnt_lacks : (kept : CheckedFacts) (c lits : List Literal) → lits ≡ c → All (λ l. l.var ≤ kept.facts.greatest) c → kept.room < words_of kept.facts.clauses + length lits + 3 → PassesRoom kept (Learnt c)
 learnt_lacks kept c lits e named h = record { named = named; answers = tt; passes = lacks_words kept.room kept.facts.clauses c lits e h }
 
-pub learnt_unproved : (kept : Kept) (c lits : List Literal) → lits ≡ c → All (λ l. l.var ≤ kept.facts.greatest) c → words_of kept.facts.clauses + length lits + 3 ≤ kept.room → (Rup kept.facts.clauses lits → ⊥) → IsUnproved kept (Learnt c)
+pub learnt_unproved : (kept : CheckedFacts) (c lits : List Literal) → lits ≡ c → All (λ l. l.var ≤ kept.facts.greatest) c → words_of kept.facts.clauses + length lits + 3 ≤ kept.room → (Rup kept.facts.clauses lits → ⊥) → IsUnproved kept (Learnt c)
 learnt_unproved kept c lits e named fits refutes = record {
   named = named;
   answers = tt;
@@ -106,44 +106,44 @@ learnt_unproved kept c lits e named fits refutes = record {
   unproved = λ rup. refutes (subst (λ (ls : List Literal). Rup kept.facts.clauses ls) (sym e) rup);
 }
 
-pub learnt_old : (kept mid : Kept) (c lits : List Literal) → lits ≡ c → mid ≡ kept → All (λ l. l.var ≤ kept.facts.greatest) c → words_of kept.facts.clauses + length lits + 3 ≤ kept.room → Rup kept.facts.clauses lits → IsKnownClause mid.facts.clauses lits → IsOld kept (Learnt c)
+pub learnt_old : (kept mid : CheckedFacts) (c lits : List Literal) → lits ≡ c → mid ≡ kept → All (λ l. l.var ≤ kept.facts.greatest) c → words_of kept.facts.clauses + length lits + 3 ≤ kept.room → Rup kept.facts.clauses lits → IsKnownClause mid.facts.clauses lits → IsOld kept (Learnt c)
 learnt_old kept mid c lits e same named fits rup known = record {
   named = named;
   answers = tt;
   fits = has_words kept.room kept.facts.clauses c lits e fits;
   implied = subst (λ (ls : List Literal). Rup kept.facts.clauses ls) e rup;
-  known = subst (λ (ls : List Literal). IsKnownClause kept.facts.clauses ls) e (subst (λ (k : Kept). IsKnownClause k.facts.clauses lits) same known);
+  known = subst (λ (ls : List Literal). IsKnownClause kept.facts.clauses ls) e (subst (λ (k : CheckedFacts). IsKnownClause k.facts.clauses lits) same known);
 }
 
-pub learnt_accepts : (old mid last new : Kept) (c lits : List Literal) → lits ≡ c → mid ≡ old → last ≡ mid → All (λ l. l.var ≤ old.facts.greatest) c → words_of old.facts.clauses + length lits + 3 ≤ old.room → Rup old.facts.clauses lits → IsNewClause mid.facts.clauses lits → new ≡ with_clause last lits 0 → Accepts old new (Learnt c)
+pub learnt_accepts : (old mid last new : CheckedFacts) (c lits : List Literal) → lits ≡ c → mid ≡ old → last ≡ mid → All (λ l. l.var ≤ old.facts.greatest) c → words_of old.facts.clauses + length lits + 3 ≤ old.room → Rup old.facts.clauses lits → IsNewClause mid.facts.clauses lits → new ≡ with_clause last lits 0 → Accepts old new (Learnt c)
 learnt_accepts old mid last new c lits e same again named fits rup fresh k = record {
   stands = record {
     named = named;
     answers = tt;
     implied = subst (λ (ls : List Literal). Rup old.facts.clauses ls) e rup;
-    says_more = subst (λ (ls : List Literal). IsNewClause old.facts.clauses ls) e (subst (λ (m : Kept). IsNewClause m.facts.clauses lits) same fresh);
+    says_more = subst (λ (ls : List Literal). IsNewClause old.facts.clauses ls) e (subst (λ (m : CheckedFacts). IsNewClause m.facts.clauses lits) same fresh);
   };
   fits = has_words old.room old.facts.clauses c lits e fits;
-  kept = k ∙ ap (λ (m : Kept). with_clause m lits 0) (again ∙ same) ∙ ap (λ (ls : List Literal). with_clause old ls 0) e ∙ ap (λ (rs : Clauses). with_refuted old c rs) (sym (append-nil old.facts.refuted));
+  kept = k ∙ ap (λ (m : CheckedFacts). with_clause m lits 0) (again ∙ same) ∙ ap (λ (ls : List Literal). with_clause old ls 0) e ∙ ap (λ (rs : Clauses). with_refuted old c rs) (sym (append-nil old.facts.refuted));
 }
   where
-    with_refuted : Kept → List Literal → Clauses → Kept
+    with_refuted : CheckedFacts → List Literal → Clauses → CheckedFacts
     with_refuted kept c rs = record {
       room = kept.room;
       facts = record { greatest = max kept.facts.greatest 0; clauses = kept.facts.clauses ++ c ∷ []; query = kept.facts.query; refuted = rs };
     }
 
 -- Refuted lines
-pub refuted_wrong : (kept : Kept) (room : ℕ) (f : Cnf) (q : Option (List Literal)) (rs : Clauses) (c lits : List Literal) → lits ≡ c → kept_of room f q rs ≡ kept → All (λ l. l.var ≤ kept.facts.greatest) c → (MatchOption q ⊥ (λ p. All (λ l. Contains p (negate l)) lits) → ⊥) → AnswersWrongly kept (Refuted c)
+pub refuted_wrong : (kept : CheckedFacts) (room : ℕ) (f : Cnf) (q : Option (List Literal)) (rs : Clauses) (c lits : List Literal) → lits ≡ c → checked_facts room f q rs ≡ kept → All (λ l. l.var ≤ kept.facts.greatest) c → (MatchOption q ⊥ (λ p. All (λ l. Contains p (negate l)) lits) → ⊥) → AnswersWrongly kept (Refuted c)
 refuted_wrong kept room f q rs c lits e k named refutes = record {
   named = named;
-  wrong = λ h. refutes (subst (λ (p : Option (List Literal)). Answers p (Refuted lits)) (sym (ap (λ (m : Kept). m.facts.query) k)) (subst (λ (ls : List Literal). Answers kept.facts.query (Refuted ls)) (sym e) h));
+  wrong = λ h. refutes (subst (λ (p : Option (List Literal)). Answers p (Refuted lits)) (sym (ap (λ (m : CheckedFacts). m.facts.query) k)) (subst (λ (ls : List Literal). Answers kept.facts.query (Refuted ls)) (sym e) h));
 }
 
-pub refuted_answers : (kept : Kept) (room : ℕ) (f : Cnf) (q : Option (List Literal)) (rs : Clauses) (c lits : List Literal) → lits ≡ c → kept_of room f q rs ≡ kept → MatchOption q ⊥ (λ p. All (λ l. Contains p (negate l)) lits) → Answers kept.facts.query (Refuted c)
-refuted_answers kept room f q rs c lits e k h = subst (λ (ls : List Literal). Answers kept.facts.query (Refuted ls)) e (subst (λ (p : Option (List Literal)). Answers p (Refuted lits)) (ap (λ (m : Kept). m.facts.query) k) h)
+pub refuted_answers : (kept : CheckedFacts) (room : ℕ) (f : Cnf) (q : Option (List Literal)) (rs : Clauses) (c lits : List Literal) → lits ≡ c → checked_facts room f q rs ≡ kept → MatchOption q ⊥ (λ p. All (λ l. Contains p (negate l)) lits) → Answers kept.facts.query (Refuted c)
+refuted_answers kept room f q rs c lits e k h = subst (λ (ls : List Literal). Answers kept.facts.query (Refuted ls)) e (subst (λ (p : Option (List Literal)). Answers p (Refuted lits)) (ap (λ (m : CheckedFacts). m.facts.query) k) h)
 
-pub refuted_unproved : (kept : Kept) (c lits : List Literal) → lits ≡ c → All (λ l. l.var ≤ kept.facts.greatest) c → Answers kept.facts.query (Refuted c) → (Rup kept.facts.clauses lits → ⊥) → IsUnproved kept (Refuted c)
+pub refuted_unproved : (kept : CheckedFacts) (c lits : List Literal) → lits ≡ c → All (λ l. l.var ≤ kept.facts.greatest) c → Answers kept.facts.query (Refuted c) → (Rup kept.facts.clauses lits → ⊥) → IsUnproved kept (Refuted c)
 refuted_unproved kept c lits e named answers refutes = record {
   named = named;
   answers = answers;
@@ -151,50 +151,50 @@ refuted_unproved kept c lits e named answers refutes = record {
   unproved = λ rup. refutes (subst (λ (ls : List Literal). Rup kept.facts.clauses ls) (sym e) rup);
 }
 
-pub refuted_accepts : (old mid new : Kept) (room : ℕ) (f : Cnf) (q : Option (List Literal)) (rs now : Clauses) (c lits d : List Literal) → lits ≡ c → d ≡ lits → mid ≡ old → kept_of room f q rs ≡ mid → now ≡ rs ++ d ∷ [] → new ≡ kept_of room f q now → All (λ l. l.var ≤ old.facts.greatest) c → Answers old.facts.query (Refuted c) → Rup old.facts.clauses lits → Accepts old new (Refuted c)
+pub refuted_accepts : (old mid new : CheckedFacts) (room : ℕ) (f : Cnf) (q : Option (List Literal)) (rs now : Clauses) (c lits d : List Literal) → lits ≡ c → d ≡ lits → mid ≡ old → checked_facts room f q rs ≡ mid → now ≡ rs ++ d ∷ [] → new ≡ checked_facts room f q now → All (λ l. l.var ≤ old.facts.greatest) c → Answers old.facts.query (Refuted c) → Rup old.facts.clauses lits → Accepts old new (Refuted c)
 refuted_accepts old mid new room f q rs now c lits d e de same k push is named answers rup = record {
   stands = record { named = named; answers = answers; implied = subst (λ (ls : List Literal). Rup old.facts.clauses ls) e rup; says_more = tt };
   fits = λ h. h;
-  kept = is ∙ ap (λ (xs : Clauses). kept_of room f q xs) push ∙ ap (λ (ls : List Literal). kept_of room f q (rs ++ ls ∷ [])) (de ∙ e) ∙ ap (λ (m : Kept). with_refuted m c) (k ∙ same) ∙ whole;
+  kept = is ∙ ap (λ (xs : Clauses). checked_facts room f q xs) push ∙ ap (λ (ls : List Literal). checked_facts room f q (rs ++ ls ∷ [])) (de ∙ e) ∙ ap (λ (m : CheckedFacts). with_refuted m c) (k ∙ same) ∙ whole;
 }
   where
-    with_refuted : Kept → List Literal → Kept
+    with_refuted : CheckedFacts → List Literal → CheckedFacts
     with_refuted m c = record { room = m.room; facts = record { greatest = m.facts.greatest; clauses = m.facts.clauses; query = m.facts.query; refuted = m.facts.refuted ++ c ∷ [] } }
 
-    with_both : ℕ → Clauses → Kept
+    with_both : ℕ → Clauses → CheckedFacts
     with_both n cs = record { room = old.room; facts = record { greatest = n; clauses = cs; query = old.facts.query; refuted = old.facts.refuted ++ c ∷ [] } }
 
     whole : with_refuted old c ≡ kept_after old (Refuted c)
     whole = let zero : old.facts.greatest ≡ max old.facts.greatest 0 = omega arith in ap (λ n. with_both n old.facts.clauses) zero ∙ ap (λ (cs : Clauses). with_both (max old.facts.greatest 0) cs) (sym (append-nil old.facts.clauses))
 
 -- the same of a checker that kept its value
-pub there_same : (old mid : Kept) (lits : List Literal) → mid ≡ old → AreThere old.facts.greatest lits → AreThere mid.facts.greatest lits
-there_same old mid lits e h = subst (λ (k : Kept). AreThere k.facts.greatest lits) (sym e) h
+pub there_same : (old mid : CheckedFacts) (lits : List Literal) → mid ≡ old → AreThere old.facts.greatest lits → AreThere mid.facts.greatest lits
+there_same old mid lits e h = subst (λ (k : CheckedFacts). AreThere k.facts.greatest lits) (sym e) h
 
-pub there_zero : (old mid : Kept) (lits : List Literal) → mid ≡ old → AreThere old.facts.greatest lits → AreThere (max mid.facts.greatest 0) lits
+pub there_zero : (old mid : CheckedFacts) (lits : List Literal) → mid ≡ old → AreThere old.facts.greatest lits → AreThere (max mid.facts.greatest 0) lits
 there_zero old mid lits e h = let zero : mid.facts.greatest ≡ max mid.facts.greatest 0 = omega arith in subst (λ n. AreThere n lits) zero (there_same old mid lits e h)
 
 -- the answer that is due, taken apart
-pub answer_ok : (old new : Kept) (line : LogLine) (r : Result Unit LineFault) → IsAnswer old new line r → OnOk r (Accepts old new line)
+pub answer_ok : (old new : CheckedFacts) (line : LogLine) (r : Result Unit LineFault) → IsAnswer old new line r → OnOk r (Accepts old new line)
 answer_ok old new line (Ok u) a = a
 answer_ok old new line (Err e) a = tt
 
-pub answer_new_var : (old new : Kept) (line : LogLine) (r : Result Unit LineFault) → IsAnswer old new line r → r ≡ Err NewVar → NamesNew old.facts line
+pub answer_new_var : (old new : CheckedFacts) (line : LogLine) (r : Result Unit LineFault) → IsAnswer old new line r → r ≡ Err NewVar → NamesNew old.facts line
 answer_new_var old new line r a e = let h : NamesNew old.facts line × (new ≡ old) = subst (λ (x : Result Unit LineFault). IsAnswer old new line x) e a in h.0
 
-pub answer_wrong_query : (old new : Kept) (line : LogLine) (r : Result Unit LineFault) → IsAnswer old new line r → r ≡ Err WrongQuery → AnswersWrongly old line
+pub answer_wrong_query : (old new : CheckedFacts) (line : LogLine) (r : Result Unit LineFault) → IsAnswer old new line r → r ≡ Err WrongQuery → AnswersWrongly old line
 answer_wrong_query old new line r a e = let h : AnswersWrongly old line × (new ≡ old) = subst (λ (x : Result Unit LineFault). IsAnswer old new line x) e a in h.0
 
-pub answer_room : (old new : Kept) (line : LogLine) (r : Result Unit LineFault) → IsAnswer old new line r → r ≡ Err Room → PassesRoom old line
+pub answer_room : (old new : CheckedFacts) (line : LogLine) (r : Result Unit LineFault) → IsAnswer old new line r → r ≡ Err Room → PassesRoom old line
 answer_room old new line r a e = let h : PassesRoom old line × (new ≡ old) = subst (λ (x : Result Unit LineFault). IsAnswer old new line x) e a in h.0
 
-pub answer_not_implied : (old new : Kept) (line : LogLine) (r : Result Unit LineFault) → IsAnswer old new line r → r ≡ Err NotImplied → IsUnproved old line
+pub answer_not_implied : (old new : CheckedFacts) (line : LogLine) (r : Result Unit LineFault) → IsAnswer old new line r → r ≡ Err NotImplied → IsUnproved old line
 answer_not_implied old new line r a e = let h : IsUnproved old line × (new ≡ old) = subst (λ (x : Result Unit LineFault). IsAnswer old new line x) e a in h.0
 
-pub answer_not_new : (old new : Kept) (line : LogLine) (r : Result Unit LineFault) → IsAnswer old new line r → r ≡ Err NotNew → IsOld old line
+pub answer_not_new : (old new : CheckedFacts) (line : LogLine) (r : Result Unit LineFault) → IsAnswer old new line r → r ≡ Err NotNew → IsOld old line
 answer_not_new old new line r a e = let h : IsOld old line × (new ≡ old) = subst (λ (x : Result Unit LineFault). IsAnswer old new line x) e a in h.0
 
-pub answer_refused : (old new : Kept) (line : LogLine) (r : Result Unit LineFault) → IsAnswer old new line r → IfErr r (λ e. (e ≡ Memory → ⊥) → new ≡ old)
+pub answer_refused : (old new : CheckedFacts) (line : LogLine) (r : Result Unit LineFault) → IsAnswer old new line r → IfErr r (λ e. (e ≡ Memory → ⊥) → new ≡ old)
 answer_refused old new line (Ok u) a = tt
 answer_refused old new line (Err NewVar) a = λ _. a.1
 answer_refused old new line (Err WrongQuery) a = λ _. a.1
@@ -212,6 +212,6 @@ finite_line clauses (Query c) h = tt
 finite_line clauses (Refuted c) h = tt
 finite_line clauses Model h = tt
 
-pub answer_finite : (old new : Kept) (line : LogLine) (r : Result Unit LineFault) → IsAnswer old new line r → OnOk r (IncludesNone old.facts.clauses line)
+pub answer_finite : (old new : CheckedFacts) (line : LogLine) (r : Result Unit LineFault) → IsAnswer old new line r → OnOk r (IncludesNone old.facts.clauses line)
 answer_finite old new line (Ok u) a = let s = a.stands in finite_line old.facts.clauses line s.says_more
 answer_finite old new line (Err e) a = tt

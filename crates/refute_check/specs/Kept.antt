@@ -12,14 +12,14 @@ use Rattle.refute_check.specs.declared.fault.LineFault.TheVariants.{NewVar, Wron
 use Rattle.refute_log.specs.Log.{Facts, facts_after, bounded, Answers, IsImplied, StandsOn}
 
 -- the room for words, and the facts of the accepted lines
-pub record Kept : Type 0 where
+pub record CheckedFacts : Type 0 where
   pub room : ℕ
   pub facts : Facts
 
-abbrev pub kept_of : ℕ → Cnf → Option (List Literal) → Clauses → Kept
-kept_of room f query refuted = record { room = room; facts = record { greatest = f.vars; clauses = f.clauses; query = query; refuted = refuted } }
+abbrev pub checked_facts : ℕ → Cnf → Option (List Literal) → Clauses → CheckedFacts
+checked_facts room f query refuted = record { room = room; facts = record { greatest = f.vars; clauses = f.clauses; query = query; refuted = refuted } }
 
-abbrev pub kept_after : Kept → LogLine → Kept
+abbrev pub kept_after : CheckedFacts → LogLine → CheckedFacts
 kept_after kept line = record { room = kept.room; facts = facts_after kept.facts line }
 
 -- a literal names a variable greater than all in the Formula lines
@@ -30,7 +30,7 @@ abbrev pub NamesNoNew : Facts → LogLine → Type 0
 NamesNoNew facts line = All (λ l. l.var ≤ facts.greatest) (bounded line)
 
 -- with the line's clause the words pass the room, or a Formula line names a variable above VARS
-abbrev pub LacksRoom : Kept → LogLine → Type 0
+abbrev pub LacksRoom : CheckedFacts → LogLine → Type 0
 LacksRoom kept (Formula c) = (kept.room < words_of (kept.facts.clauses ++ c ∷ [])) ⊎ (VARS < greatest_in c)
 LacksRoom kept (Learnt c) = kept.room < words_of (kept.facts.clauses ++ c ∷ [])
 LacksRoom kept line = ⊥
@@ -45,28 +45,28 @@ IsKnown clauses (Learnt c) = IsKnownClause clauses c
 IsKnown clauses line = ⊥
 
 -- the line is kept: it stands, there is room for it, and the facts are those with it
-pub record Accepts (old new : Kept) (line : LogLine) : Type 0 where
+pub record Accepts (old new : CheckedFacts) (line : LogLine) : Type 0 where
   pub stands : StandsOn old.facts line
   pub fits : LacksRoom old line → ⊥
   pub kept : new ≡ kept_after old line
 
 -- the causes of the refusals, each without those before it
-pub record AnswersWrongly (kept : Kept) (line : LogLine) : Type 0 where
+pub record AnswersWrongly (kept : CheckedFacts) (line : LogLine) : Type 0 where
   pub named : NamesNoNew kept.facts line
   pub wrong : Answers kept.facts.query line → ⊥
 
-pub record PassesRoom (kept : Kept) (line : LogLine) : Type 0 where
+pub record PassesRoom (kept : CheckedFacts) (line : LogLine) : Type 0 where
   pub named : NamesNoNew kept.facts line
   pub answers : Answers kept.facts.query line
   pub passes : LacksRoom kept line
 
-pub record IsUnproved (kept : Kept) (line : LogLine) : Type 0 where
+pub record IsUnproved (kept : CheckedFacts) (line : LogLine) : Type 0 where
   pub named : NamesNoNew kept.facts line
   pub answers : Answers kept.facts.query line
   pub fits : LacksRoom kept line → ⊥
   pub unproved : IsImplied kept.facts.clauses line → ⊥
 
-pub record IsOld (kept : Kept) (line : LogLine) : Type 0 where
+pub record IsOld (kept : CheckedFacts) (line : LogLine) : Type 0 where
   pub named : NamesNoNew kept.facts line
   pub answers : Answers kept.facts.query line
   pub fits : LacksRoom kept line → ⊥
@@ -74,7 +74,7 @@ pub record IsOld (kept : Kept) (line : LogLine) : Type 0 where
   pub known : IsKnown kept.facts.clauses line
 
 -- the one answer that is due, and what it leaves; after want of memory nothing is said
-abbrev pub IsAnswer : Kept → Kept → LogLine → Result Unit LineFault → Type 0
+abbrev pub IsAnswer : CheckedFacts → CheckedFacts → LogLine → Result Unit LineFault → Type 0
 IsAnswer old new line (Ok u) = Accepts old new line
 IsAnswer old new line (Err NewVar) = NamesNew old.facts line × (new ≡ old)
 IsAnswer old new line (Err WrongQuery) = AnswersWrongly old line × (new ≡ old)
@@ -84,7 +84,7 @@ IsAnswer old new line (Err NotNew) = IsOld old line × (new ≡ old)
 IsAnswer old new line (Err Memory) = ⊤
 
 -- the same with one more clause, of the variables up to vars
-abbrev pub with_clause : Kept → List Literal → ℕ → Kept
+abbrev pub with_clause : CheckedFacts → List Literal → ℕ → CheckedFacts
 with_clause kept c vars = record {
   room = kept.room;
   facts = record {
@@ -101,5 +101,5 @@ IncludesNone clauses (Learnt c) = (d : List Literal) → Contains clauses d → 
 IncludesNone clauses line = ⊤
 
 -- some Refuted line has only literals that are allowed
-abbrev pub Refutes : Kept → List Literal → Type 0
+abbrev pub Refutes : CheckedFacts → List Literal → Type 0
 Refutes kept allowed = Any (λ c. HasAllOf allowed c) kept.facts.refuted

@@ -33,14 +33,14 @@ pub struct Checker {
 
 impl Model for Checker {
     ghost use Rattle.refute_log.specs.Log.{Facts};
-    ghost use Rattle.refute_check.specs.Kept.{Kept};
+    ghost use Rattle.refute_check.specs.Kept.{CheckedFacts};
 
-    ghost Value = { Kept };
+    ghost Value = { CheckedFacts };
 
-    ghost use Rattle.refute_check.specs.Kept.{kept_of};
+    ghost use Rattle.refute_check.specs.Kept.{checked_facts};
     ghost use Rattle.refute_check.specs.Standing.{IsChecker};
 
-    ghost view = { λ c. kept_of c.room c.formula c.query c.refuted.items };
+    ghost view = { λ c. checked_facts c.room c.formula c.query c.refuted.items };
 
     ghost invariant = { λ c. IsChecker c.formula c.tables c.standing };
 }

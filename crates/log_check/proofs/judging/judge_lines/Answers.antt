@@ -1,5 +1,6 @@
 use Rattle.std.proofs.Common.{◌≡◌, length, refl, arith, rules, inl, inr}
-use Rattle.log_check.proofs.JudgingLemmas.{read_none, read_next, read_whole, read_refused, read_faulty, read_knows, awaited_ready, line_leaves_less, header_leaves_less, fault_next, line_next, accepted_at, refused_at, nothing_left, no_header}
+use Rattle.std.proofs.lemmas.List.{nil_from_length}
+use Rattle.log_check.proofs.JudgingLemmas.{read_none, read_next, read_whole, read_refused, read_faulty, read_knows, awaited_ready, line_leaves_less, header_leaves_less, fault_next, line_next, accepted_at, refused_at, no_header}
 use Rattle.log_check.proofs.judging.judge_lines.Goals as goal
 
 pub loop-rest-init : goal.loop-rest-init
@@ -48,7 +49,7 @@ loop-rest-preserved c =
 pub returns-clause-judged : goal.returns-clause-judged
 returns-clause-judged c = λ e h.
     let none : length c.loop-rest.rest.now ≡ 0 = search rules in
-    read_whole e c.args.log.now c.loop-rest.rest.now c.loop-rest.number c.loop-rest.progress (nothing_left c.loop-rest.rest.now none) (c.loop-rest.invariant.read e h)
+    read_whole e c.args.log.now c.loop-rest.rest.now c.loop-rest.number c.loop-rest.progress (nil_from_length c.loop-rest.rest.now none) (c.loop-rest.invariant.read e h)
 
 pub returns-clause-known : goal.returns-clause-known
 returns-clause-known c =

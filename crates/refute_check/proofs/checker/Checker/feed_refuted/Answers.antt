@@ -1,5 +1,5 @@
 use Rattle.std.proofs.Common.{refl}
-use Rattle.refute_check.specs.Kept.{kept_of}
+use Rattle.refute_check.specs.Kept.{checked_facts}
 use Rattle.refute_check.proofs.CheckerLemmas.{named_line, there_named, refuted_wrong, refuted_answers, refuted_unproved, refuted_accepts}
 use Rattle.refute_check.proofs.checker.Checker.feed_refuted.Goals as goal
 
@@ -23,4 +23,4 @@ pub returns : goal.returns
 returns c =
     let named = named_line c.args.clause.now c.as_slice-lits.result.now c.vars.result c.self.inside.room c.self.inside.formula c.self.inside.query c.self.inside.refuted.items c.args.self.now c.as_slice-lits.ensures.value c.vars.ensures.value c.self.view_is (c.are_named.ensures.yes c.if-not-are_named.false) in
     let answers = refuted_answers c.args.self.now c.self.inside.room c.self.inside.formula c.self.inside.query c.self.inside.refuted.items c.args.clause.now c.as_slice-lits.result.now c.as_slice-lits.ensures.value c.self.view_is (c.answer.ensures.yes c.if-not-answer.false) in
-    refuted_accepts c.args.self.now c.follows.new.self (kept_of c.self-2.inside.room c.self-2.inside.formula c.self-2.inside.query c.push.new.self.items) c.self-2.inside.room c.self-2.inside.formula c.self-2.inside.query c.self-2.inside.refuted.items c.push.new.self.items c.args.clause.now c.as_slice-lits.result.now c.in_ok-kept.kept c.as_slice-lits.ensures.value c.in_ok-kept.ensures c.in_ok-follows.ensures.same c.self-2.view_is c.in_ok-push.ensures.items refl named answers (c.in_ok-follows.ensures.yes c.if-not-branch.false)
+    refuted_accepts c.args.self.now c.follows.new.self (checked_facts c.self-2.inside.room c.self-2.inside.formula c.self-2.inside.query c.push.new.self.items) c.self-2.inside.room c.self-2.inside.formula c.self-2.inside.query c.self-2.inside.refuted.items c.push.new.self.items c.args.clause.now c.as_slice-lits.result.now c.in_ok-kept.kept c.as_slice-lits.ensures.value c.in_ok-kept.ensures c.in_ok-follows.ensures.same c.self-2.view_is c.in_ok-push.ensures.items refl named answers (c.in_ok-follows.ensures.yes c.if-not-branch.false)

@@ -1,7 +1,7 @@
 use Rattle.std.proofs.Common.{◌≤◌, ap, subst}
 use Rattle.cnf_core.specs.Propagation.{negations, greatest_var}
 use Rattle.cnf_core.specs.Clause.{Clauses}
-use Rattle.refute_check.specs.Kept.{Kept}
+use Rattle.refute_check.specs.Kept.{CheckedFacts}
 use Rattle.refute_check.specs.Standing.{IsOpenChecker}
 use Rattle.refute_check.specs.Novelty.{IsNovelty}
 use Rattle.refute_check.proofs.CheckerLemmas.{contradicted_any}
@@ -14,9 +14,9 @@ returns-in-Contradiction-clause-novelty c =
 
 pub returns-in_ok-novelty-in-Open-clause-novelty : goal.returns-in_ok-novelty-in-Open-clause-novelty
 returns-in_ok-novelty-in-Open-clause-novelty c =
-    subst (λ (cs : Clauses). IsNovelty cs c.args.first c.args.others.now c.in_ok-novelty-in-Open.novelty) (ap (λ (k : Kept). k.facts.clauses) c.self.view_is) c.in_ok-novelty-in-Open.ensures.novelty
+    subst (λ (cs : Clauses). IsNovelty cs c.args.first c.args.others.now c.in_ok-novelty-in-Open.novelty) (ap (λ (k : CheckedFacts). k.facts.clauses) c.self.view_is) c.in_ok-novelty-in-Open.ensures.novelty
 
 pub returns-in_ok-novelty-in-Open-clause-greatest : goal.returns-in_ok-novelty-in-Open-clause-greatest
 returns-in_ok-novelty-in-Open-clause-greatest c = λ _.
     let open_now : IsOpenChecker c.self.inside.formula c.self.inside.tables = rw c.in-Open.is at c.self.invariant in
-    subst (λ (k : Kept). k.facts.greatest ≤ greatest_var k.facts.clauses) c.self.view_is open_now.greatest
+    subst (λ (k : CheckedFacts). k.facts.greatest ≤ greatest_var k.facts.clauses) c.self.view_is open_now.greatest
