@@ -14,3 +14,4 @@ pub mod FormedRows
 pub mod InputLemmas
 pub mod VerdictLemmas
 pub mod CheckedLemmas
+pub mod CertifiedRuns

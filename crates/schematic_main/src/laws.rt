@@ -1,5 +1,5 @@
 // Laws of files and of what is answered to them. The functions do nothing: their contracts are the laws.
-ghost use Rattle.std.specs.Prelude.{◌≡◌, ◌↔◌, ◌⊎◌, ℕ, List, Option, length, flat_map};
+ghost use Rattle.std.specs.Prelude.{◌≡◌, ◌≢◌, ◌↔◌, ◌⊎◌, ⊤, ℕ, List, Option, None, length, flat_map};
 ghost use Rattle.outside_io.specs.Contents.{Told};
 ghost use Rattle.plan_core.specs.declared.criterion.Values.{Values};
 ghost use Rattle.plan_core.specs.Grid.{GridSize};
@@ -7,6 +7,7 @@ ghost use Rattle.plan_core.specs.Graph.{Graph};
 ghost use Rattle.plan_core.specs.Drawing.{Drawing};
 ghost use Rattle.plan_core.specs.Values.{values_of, limit_of};
 ghost use Rattle.plan_core.specs.Lawful.{Lawful};
+ghost use Rattle.plan_words.specs.declared.command.Command.TheVariants.{Check};
 ghost use Rattle.plan_text.specs.SheetText.{Sheet as PlainSheet};
 ghost use Rattle.plan_text.specs.SheetFaults.{IsDrawingOf};
 ghost use Rattle.cnf_core.specs.declared.limits.TheConstants.{ROOM};
@@ -25,11 +26,14 @@ ghost use Rattle.schematic_main.specs.declared.status.Status.{Status};
 ghost use Rattle.schematic_main.specs.declared.status.Status.TheVariants.{Done, Unfinished, Broken};
 ghost use Rattle.schematic_main.specs.Status.{number_of};
 ghost use Rattle.schematic_main.specs.Input.{HasGraph, HasStation, HasFileFault};
+ghost use Rattle.schematic_main.specs.Met.{Met};
 ghost use Rattle.schematic_main.specs.Verdict.{lawful_line, IsSheetJudged};
 ghost use Rattle.schematic_main.specs.Answer.{IsVerified};
 ghost use Rattle.schematic_main.specs.CheckLine.{claimed, verdict_line};
 ghost use Rattle.schematic_main.specs.Checked.{IsChecked};
-ghost use Rattle.schematic_main.specs.CertifiedSheet.{CertifiesSheet, ClaimsTruly};
+ghost use Rattle.schematic_main.specs.CertifiedSheet.{CertifiesSheet, ClaimsTruly, HasCertifiedFiles};
+ghost use Rattle.schematic_main.specs.Commands.{Owes};
+ghost use Rattle.schematic_main.specs.Run.{FailsIn};
 ghost use Rattle.schematic_main.specs.SearchLog.{IsLogFile};
 ghost use Rattle.schematic_main.specs.Drawn.{Job, search_of, status_of};
 
@@ -81,6 +85,16 @@ pub fn certified_exactly()
         (status ≡ Done) × (text ≡ verdict_line (claimed said.order said.ending) Certified) }
     ensures only { (file sheet log text : List ℕ) → IsChecked file sheet log Done text →
         (g : Graph) × (o : EdgeOrder) × (said : PlainSheet) × HasStation file g o × CertifiesSheet g o sheet log said × ClaimsTruly g o said × (text ≡ verdict_line (claimed said.order said.ending) Certified) }
+{}
+
+/// So it is with a whole run of `check` none of whose reads failed: it ends with 0 exactly where the files that it reads
+/// are so. What a trace was told plays no part.
+pub fn certified_runs_end_with_0()
+    ensures due { (input sheet log : List ℕ) (met : Met) (g : Graph) (o : EdgeOrder) (said : PlainSheet) (status : Status) (line : List ℕ) →
+        met.before.contents ≢ None → HasCertifiedFiles met.before.contents input sheet log g o said → (FailsIn (Check input sheet log) met → ⊥) → Owes (Check input sheet log) met (λ lines. ⊤) status line →
+        (status ≡ Done) × (line ≡ verdict_line (claimed said.order said.ending) Certified) }
+    ensures only { (input sheet log : List ℕ) (met : Met) (line : List ℕ) → Owes (Check input sheet log) met (λ lines. ⊤) Done line →
+        (g : Graph) × (o : EdgeOrder) × (said : PlainSheet) × HasCertifiedFiles met.before.contents input sheet log g o said × ClaimsTruly g o said × (line ≡ verdict_line (claimed said.order said.ending) Certified) }
 {}
 
 /// A number is that of one status at most.

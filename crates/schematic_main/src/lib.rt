@@ -35,9 +35,9 @@ mod verify;
 pub use fault::RunFault;
 pub use input::{Refusal, Station, station_in};
 pub use laws::{
-    certified_exactly, how_searches_end, one_answer_of_check, one_answer_to_a_file, one_fault,
-    one_graph, one_log_in_a_file, one_sheet_answer, one_status_to_a_number, station_or_fault,
-    verdict_of_drawing,
+    certified_exactly, certified_runs_end_with_0, how_searches_end, one_answer_of_check,
+    one_answer_to_a_file, one_fault, one_graph, one_log_in_a_file, one_sheet_answer,
+    one_status_to_a_number, station_or_fault, verdict_of_drawing,
 };
 pub use plan_words::{Command, WordFault, WordWhat, read_words};
 pub use running::run;
