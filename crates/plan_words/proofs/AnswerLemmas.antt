@@ -25,6 +25,7 @@ use Rattle.plan_words.specs.Arguments.{arguments_from, argument_names, files_in}
 use Rattle.plan_words.specs.WordFaults.{command_word, number_of, SomeHasWordFault, IsLeftmost, file_names, IsFirstRepeat, IsMissing, HasOneNameTwice, IsFaultOfArguments, IsFaultBehind, IsFaultOfWords}
 use Rattle.plan_words.specs.Words.{default_order, IsChosen, command_kind, HasParts, AreSoundArguments, IsCommandOf, IsWordFault}
 use Rattle.plan_words.proofs.OrderTextLemmas.{criteria_text_injective}
+use Rattle.plan_words.proofs.FileLemmas.{values_apart}
 
 -- ---- words of commands and numbers of faults are distinct
 
@@ -238,3 +239,11 @@ not_both list command answers.Memory x y = y
 
 pub words_exactly : (list : List (List ℕ)) (answer : Result Command WordFault) → IfOk answer (IsCommandOf list) → IfErr answer (λ e. (e ≡ answers.Memory) ⊎ IsWordFault list e) → AnswersExactly answer answers.Memory (IsCommandOf list) (IsWordFault list)
 words_exactly list answer command fault = answers_exactly answer answers.Memory (IsCommandOf list) (IsWordFault list) command fault (command_same list) (one_word_fault list) (not_both list)
+
+-- ---- the files that a drawing's command names
+
+-- the picture's isn't the log's
+pub outputs_apart : (list : List (List ℕ)) (input : List ℕ) (grid : GridSize) (order : List Criterion) (budget : ℕ) (svg log : Option (List ℕ)) (picture name : List ℕ) →
+    IsCommandOf list (Draw input grid order budget svg log) → svg ≡ Some picture → log ≡ Some name → picture ≢ name
+outputs_apart list input grid order budget svg log picture name x is_picture is_log =
+    values_apart (arguments_from 2 x.rest) picture name (sym x.parts.svg_name ∙ is_picture) (sym x.parts.log_name ∙ is_log) (x.sound.apart refl)
