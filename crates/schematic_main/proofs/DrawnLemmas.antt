@@ -1,12 +1,13 @@
 -- What the outcome of a search says of the sheet that is written.
-use Rattle.std.proofs.Common.{◌≡◌, ℕ, ◌+◌, ◌<◌, Bool, true, false, List, [], ◌∷◌, ◌++◌, length, take, None, Some, sym, ◌∙◌, ap, subst, inl, arith}
-use Rattle.std.specs.Prelude.{⊤, slice_get, Result, Ok, Err, IfOk, IsOkAnd}
+use Rattle.std.proofs.Common.{◌≡◌, ℕ, ◌+◌, ◌<◌, Bool, true, false, List, [], ◌∷◌, ◌++◌, length, take, None, Some, sym, ◌∙◌, ap, subst, arith}
+use Rattle.std.specs.Prelude.{⊤, slice_get, Result, Ok, Err, IfOk, IfSome}
 use Rattle.std.specs.declared.option.Option.{Option}
 use Rattle.std.specs.Option.{is_some}
 use Rattle.std.proofs.lemmas.List.{take_more}
 use Rattle.std.proofs.lemmas.Option.{get_or_from_slice_get}
 use Rattle.plan_core.specs.declared.criterion.Criterion.{Criterion}
 use Rattle.plan_core.specs.Graph.{Graph}
+use Rattle.plan_core.specs.Lawful.{HasSizeOf}
 use Rattle.plan_core.specs.Order.{IsOrder}
 use Rattle.plan_core.proofs.LimitLemmas.{points_on_grid}
 use Rattle.track_order.specs.Order.{EdgeOrder, is_above}
@@ -17,13 +18,12 @@ use Rattle.refute_log.specs.Told.{Lines}
 use Rattle.lex_search.specs.declared.outcome.Outcome.{Outcome}
 use Rattle.lex_search.specs.declared.outcome.Outcome.TheVariants as outcomes
 use Rattle.lex_search.specs.Outcome.{IsOutcome}
-use Rattle.schematic_main.specs.declared.reply.Reply.{Reply}
 use Rattle.schematic_main.specs.declared.status.Status.{Status}
 use Rattle.schematic_main.specs.Status.{IsRefused}
 use Rattle.schematic_main.proofs.StatusLemmas.{outcome_unrefused}
 use Rattle.schematic_main.specs.Met.{Met}
 use Rattle.schematic_main.specs.SearchLog.{IsLogOf}
-use Rattle.schematic_main.specs.Drawn.{Job, search_of, sheet_of, HasSearched, IsDrawn, IsDrawAnswer}
+use Rattle.schematic_main.specs.Drawn.{Job, search_of, sheet_of, found_by, status_of, HasSearched}
 
 -- ---- an order, criterion by criterion
 
@@ -89,24 +89,19 @@ ended_sheet g o asked outcome sheet same is searched = (
 
 -- ---- where the lines stand
 
--- what was drawn with lines told in one way was drawn with lines told in another, where the one is the other
-pub drawn_told_so : (g : Graph) (o : EdgeOrder) (asked : Job) (P Q : Lines → Type 0) (status : Status) (text : List ℕ) → ((lines : Lines) → P lines → Q lines) → IsDrawn g o asked P status text → IsDrawn g o asked Q status text
-drawn_told_so g o asked P Q status text more drawn = record {
-  built = drawn.built;
-  outcome = drawn.outcome;
-  searched = record { lines = drawn.searched.lines; told = more drawn.searched.lines drawn.searched.told; ended = drawn.searched.ended };
-  passes = drawn.passes;
-  status_is = drawn.status_is;
-  spelled = drawn.spelled;
-}
+-- a search whose lines were told to such a log is one whose lines were told where the words say, where they ask for that log
+pub searched_named : {E : Type 0} (g : Graph) (o : EdgeOrder) (asked : Job) (met : Met) (traced : Lines → Type 0) (named : Option (List ℕ)) (r : Result Outcome E) → asked.log ≡ named →
+    IfOk r (HasSearched g o asked (IsLogOf named met traced)) → IfOk r (HasSearched g o asked (IsLogOf asked.log met traced))
+searched_named g o asked met traced named (Ok outcome) is searched = subst (λ (log : Option (List ℕ)). HasSearched g o asked (IsLogOf log met traced) outcome) (sym is) searched
+searched_named g o asked met traced named (Err e) is searched = tt
 
--- a run that drew wasn't refused
-pub drawn_unrefused : {E : Type 0} (g : Graph) (o : EdgeOrder) (asked : Job) (P : Lines → Type 0) (r : Result Reply E) → IfOk r (λ x. IsDrawn g o asked P x.status x.text.items) → IsOkAnd r (λ x. IsRefused x.status) → ⊥
-drawn_unrefused g o asked P (Ok x) drawn refused = outcome_unrefused drawn.outcome (subst (λ (s : Status). IsRefused s) drawn.status_is refused)
-drawn_unrefused g o asked P (Err e) drawn refused = refused
+-- the drawing that was found has a point for each node and a line for each edge
+pub found_draws : (g : Graph) (o : EdgeOrder) (asked : Job) (outcome : Outcome) (lines : Lines) → IsOutcome (search_of g o asked) asked.order outcome lines → IfSome (found_by outcome) (HasSizeOf g)
+found_draws g o asked (outcomes.Best d) lines ended = ended_draws g o asked (outcomes.Best d) lines ended
+found_draws g o asked outcomes.NoDrawing lines ended = tt
+found_draws g o asked (outcomes.Spent found settled) lines ended = ended_draws g o asked (outcomes.Spent found settled) lines ended
+found_draws g o asked (outcomes.Room found settled) lines ended = ended_draws g o asked (outcomes.Room found settled) lines ended
 
--- what is drawn with the lines told to such a log is an answer of draw, where that log is asked for
-pub drawn_answer : {E : Type 0} (g : Graph) (o : EdgeOrder) (asked : Job) (met : Met) (traced : Lines → Type 0) (named : Option (List ℕ)) (r : Result Reply E) → asked.log ≡ named →
-    IfOk r (λ x. IsDrawn g o asked (IsLogOf named met traced) x.status x.text.items) → IfOk r (λ x. IsDrawAnswer asked met traced g o x.status x.text.items)
-drawn_answer g o asked met traced named (Ok x) is drawn = inl (subst (λ (log : Option (List ℕ)). IsDrawn g o asked (IsLogOf log met traced) x.status x.text.items) (sym is) drawn)
-drawn_answer g o asked met traced named (Err e) is drawn = tt
+-- an outcome's status isn't that of a refused run
+pub drawn_unrefused : (outcome : Outcome) (status : Status) → status ≡ status_of outcome → IsRefused status → ⊥
+drawn_unrefused outcome status is refused = outcome_unrefused outcome (subst (λ (s : Status). IsRefused s) is refused)

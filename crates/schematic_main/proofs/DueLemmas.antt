@@ -25,7 +25,7 @@ use Rattle.log_check.specs.declared.verdict.Verdict.TheVariants as verdicts
 use Rattle.log_check.specs.Judged.{IsLogJudged}
 use Rattle.plan_words.proofs.AnswerLemmas.{command_same, command_or_fault}
 use Rattle.schematic_main.specs.declared.fault.RunFault.{RunFault}
-use Rattle.schematic_main.specs.declared.fault.RunFault.TheVariants.{NotBuilt, Words, Long, Text, Topology, Graph as GraphFault, Order, Sheet, Log, ReadFailed}
+use Rattle.schematic_main.specs.declared.fault.RunFault.TheVariants.{Words, Long, Text, Topology, Graph as GraphFault, Order, Sheet, Log, ReadFailed}
 use Rattle.schematic_main.specs.declared.status.Status.{Status}
 use Rattle.schematic_main.specs.declared.status.Status.TheVariants.{Done, Refused, WordsRefused, NoDrawing, Unfinished, Unread, Broken}
 use Rattle.schematic_main.specs.Status.{IsCutShort}
@@ -51,7 +51,6 @@ file_fault_status bytes (Text what at) has = refl
 file_fault_status bytes (Topology what at first second) has = refl
 file_fault_status bytes (GraphFault fault) has = refl
 file_fault_status bytes (Order fault) has = refl
-file_fault_status bytes NotBuilt has = absurd has
 file_fault_status bytes (Words what position) has = absurd has
 file_fault_status bytes (Sheet what line) has = absurd has
 file_fault_status bytes (Log what line) has = absurd has
@@ -78,8 +77,7 @@ record OfOwed (P : Status → Type 0) : Type 0 where
   pub broken : P Broken
 
 on_drawing : (P : Status → Type 0) (asked : Job) (met : Met) (traced : Lines → Type 0) (g : Graph) (o : EdgeOrder) (status : Status) (text : List ℕ) → OfOwed P → IsDrawAnswer asked met traced g o status text → P status
-on_drawing P asked met traced g o status text owed (inl drawn) = subst P (sym drawn.status_is) (on_outcome P drawn.outcome owed.done owed.none owed.unfinished)
-on_drawing P asked met traced g o status text owed (inr down) = subst P (sym down.fault.status_is) owed.refused
+on_drawing P asked met traced g o status text owed answer = subst P (sym answer.drawn.status_is) (on_outcome P answer.drawn.outcome owed.done owed.none owed.unfinished)
 
 on_trial : (P : Status → Type 0) (n : ℕ) (traced : Lines → Type 0) (g : Graph) (o : EdgeOrder) (status : Status) (text : List ℕ) → OfOwed P → IsTried n traced g o status text → P status
 on_trial P n traced g o status text owed tried = subst P (sym tried.status_is) (on_outcome P tried.outcome owed.done owed.none owed.unfinished)
@@ -196,11 +194,6 @@ outcome_status outcome status is =
     subst (λ s. (s ≡ Done) ⊎ (s ≡ NoDrawing) ⊎ (s ≡ Unfinished)) (sym is)
     (on_outcome (λ s. (s ≡ Done) ⊎ (s ≡ NoDrawing) ⊎ (s ≡ Unfinished)) outcome (inl refl) (inr (inl refl)) (inr (inr refl)))
 
-drawn_status : (asked : Job) (met : Met) (traced : Lines → Type 0) (g : Graph) (o : EdgeOrder) (status : Status) (text : List ℕ) → asked.svg ≡ None → IsDrawAnswer asked met traced g o status text →
-    (status ≡ Done) ⊎ (status ≡ NoDrawing) ⊎ (status ≡ Unfinished)
-drawn_status asked met traced g o status text built (inl drawn) = outcome_status drawn.outcome status drawn.status_is
-drawn_status asked met traced g o status text built (inr down) = absurd (down.unbuilt built)
-
 drawing_status : (g : Graph) (o : EdgeOrder) (grid : GridSize) (d : Drawing) (status : Status) (text : List ℕ) → IsVerdict g o grid d status text → (status ≡ Done) ⊎ (status ≡ Broken)
 drawing_status g o grid d status text (inl lawful) = inl lawful.status_is
 drawing_status g o grid d status text (inr broken) = inr broken.status_is
@@ -239,11 +232,11 @@ checked_status g o sheet lines status text sound formed (inr refused) = absurd (
 
 -- a command whose inputs are sound, and none of whose reads failed, ends as it is there for
 sound_ends : (command : Command) (met : Met) (traced : Lines → Type 0) (status : Status) (text : List ℕ) → AreSound command met.before.contents → (FailsIn command met → ⊥) → Owes command met traced status text → ends_of command status
-sound_ends (Draw input grid order budget svg log) met traced status text (file, built) read owes =
+sound_ends (Draw input grid order budget svg log) met traced status text file read owes =
     let asked = job grid order budget svg log in
     let judged = first_on input met file (IsAnswerAfter 1 met (IsFileJudged (IsDrawAnswer asked met traced))) status text (λ fails. read (0, lit< tt, fails)) owes in
     let found = sound_judged (IsDrawAnswer asked met traced) file.bytes status text file.sound judged.1 in
-    drawn_status asked met traced found.0 found.1 status text built found.3
+    outcome_status found.3.drawn.outcome status found.3.drawn.status_is
 sound_ends (PrintGraph input) met traced status text file read owes =
     let judged = first_on input met file (IsAnswerAfter 1 met (IsFileJudged IsPrinted)) status text (λ fails. read (0, lit< tt, fails)) owes in
     let found = sound_judged IsPrinted file.bytes status text file.sound judged.1 in

@@ -1,5 +1,5 @@
 -- How the lines of a search come to stand in a file, and what becomes of the files on the way.
-use Rattle.std.proofs.Common.{◌≡◌, ◌⊎◌, ℕ, List, [], ◌∷◌, ◌++◌, take, drop, None, Some, ◌≤◌, refl, sym, ◌∙◌, ap, subst, inl, inr, arith}
+use Rattle.std.proofs.Common.{◌≡◌, ◌⊎◌, ℕ, List, [], take, drop, None, Some, ◌≤◌, refl, sym, ◌∙◌, ap, subst, inl, inr, arith}
 use Rattle.std.specs.Prelude.{Result, Ok, Err, IsErrOf}
 use Rattle.std.specs.declared.option.Option.{Option}
 use Rattle.std.proofs.lemmas.List.{take-append-drop}
@@ -23,8 +23,9 @@ use Rattle.schematic_main.specs.Reading.{IsStationOf}
 use Rattle.schematic_main.specs.Reply.{cut_of}
 use Rattle.schematic_main.specs.Answer.{text_input, IsFileJudged, IsAnswerAfter, IsAnswerOn}
 use Rattle.schematic_main.specs.SearchLog.{HoldsLog, IsLogOf}
-use Rattle.schematic_main.specs.Drawn.{Job, IsDrawAnswer}
-use Rattle.schematic_main.proofs.DrawnLemmas.{drawn_told_so}
+use Rattle.schematic_main.specs.Drawn.{Job, found_by, IsDrawAnswer}
+use Rattle.schematic_main.proofs.LeavesLemmas.{told_so}
+use Rattle.schematic_main.proofs.PictureLemmas.{StandsWhereNamed, named_same, pictured_later}
 
 -- ---- a log in a file
 
@@ -102,9 +103,21 @@ log_later (Some name) old mid new traced lines same told = holds_later old.conte
 -- so is what draw answers
 pub draw_later : (asked : Job) (old mid new : FilesAt) (traced : Lines → Type 0) (g : Graph) (o : EdgeOrder) (status : Status) (text : List ℕ) → WhereTold old.contents mid.contents SameFiles →
     IsDrawAnswer asked (between mid new) traced g o status text → IsDrawAnswer asked (between old new) traced g o status text
-draw_later asked old mid new traced g o status text same (inl drawn) =
-    inl (drawn_told_so g o asked (IsLogOf asked.log (between mid new) traced) (IsLogOf asked.log (between old new) traced) status text (λ lines. log_later asked.log old mid new traced lines same) drawn)
-draw_later asked old mid new traced g o status text same (inr down) = inr down
+draw_later asked old mid new traced g o status text same answer =
+    let drawn = answer.drawn in
+    let searched = drawn.searched in
+    let stands = told_so SameFiles (StandsWhereNamed asked.svg) old.contents mid.contents (λ a b all. named_same asked.svg a b all) same in
+    record {
+      drawn = record {
+        outcome = drawn.outcome;
+        searched = record { lines = searched.lines; told = log_later asked.log old mid new traced searched.lines same searched.told; ended = searched.ended };
+        passes = drawn.passes;
+        short = drawn.short;
+        status_is = drawn.status_is;
+        spelled = drawn.spelled;
+      };
+      pictured = pictured_later asked.svg old mid new g (found_by drawn.outcome) stands answer.pictured;
+    }
 
 -- the file was read, had this station, and that was answered so
 pub drawn_on : (asked : Job) (name : List ℕ) (old mid new : FilesAt) (traced : Lines → Type 0) (g : Graph) (o : EdgeOrder) (status : Status) (text : List ℕ) →

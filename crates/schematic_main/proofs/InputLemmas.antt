@@ -25,7 +25,7 @@ use Rattle.track_order.specs.Order.{EdgeOrder}
 use Rattle.track_order.specs.Causes.{IsOrderFault}
 use Rattle.track_order.proofs.OneOrder.{one_fault as one_of_order, never_both as order_or_fault}
 use Rattle.schematic_main.specs.declared.fault.RunFault.{RunFault}
-use Rattle.schematic_main.specs.declared.fault.RunFault.TheVariants.{NotBuilt, Words, Long, Text, Topology, Graph, Order, Sheet, Log, ReadFailed}
+use Rattle.schematic_main.specs.declared.fault.RunFault.TheVariants.{Words, Long, Text, Topology, Graph, Order, Sheet, Log, ReadFailed}
 use Rattle.schematic_main.specs.Input.{IsLong, IsShort, HasRows, HasTopology, HasGraph, HasStation, HasFileFault}
 use Rattle.schematic_main.proofs.FormedRows.{rows_formed}
 
@@ -84,7 +84,6 @@ caused bytes (Text what at) h = record { cause = OfText what at; has = h; is = r
 caused bytes (Topology what at first second) h = record { cause = OfTopology what at first second; has = h; is = refl }
 caused bytes (Graph fault) h = record { cause = OfGraph fault; has = h; is = refl }
 caused bytes (Order fault) h = record { cause = OfOrder fault; has = h; is = refl }
-caused bytes NotBuilt h = absurd h
 caused bytes (Words what position) h = absurd h
 caused bytes (Sheet what line) h = absurd h
 caused bytes (Log what line) h = absurd h

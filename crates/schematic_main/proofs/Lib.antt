@@ -8,6 +8,7 @@ pub mod LeavesLemmas
 pub mod DrawnLemmas
 pub mod OwnLog
 pub mod PassesLemmas
+pub mod PictureLemmas
 pub mod FiledLemmas
 pub mod FieldLemmas
 pub mod FormedRows

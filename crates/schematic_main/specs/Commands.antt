@@ -1,10 +1,12 @@
 -- What differs by command, a row for each: what it reads and writes, what it owes, how it may end, and when its
 -- inputs are sound.
-use Rattle.std.specs.Prelude.{◌≡◌, ◌⊎◌, ℕ, ⊤, Bool, false, true, List, [], ◌∷◌, Any, Some, None}
+use Rattle.std.specs.Prelude.{◌≡◌, ◌≢◌, ◌⊎◌, ℕ, ⊤, Bool, false, true, List, [], ◌∷◌, ◌++◌, All, Any, AllPairs, Some, None}
 use Rattle.std.specs.declared.option.Option.{Option}
 use Rattle.outside_io.specs.Contents.{Told, TellsAt}
 use Rattle.plan_core.specs.declared.limits.TheConstants.{MAX_FILE_BYTES, MAX_LOG_BYTES}
 use Rattle.plan_core.specs.Graph.{Graph}
+use Rattle.plan_core.specs.Drawing.{Drawing}
+use Rattle.plan_text.specs.SvgText.{svg_text}
 use Rattle.plan_words.specs.declared.command.Command.{Command}
 use Rattle.plan_words.specs.declared.command.Command.TheVariants.{Draw, Verify, Check, Graph as PrintGraph, Make, Trial}
 use Rattle.track_order.specs.Order.{EdgeOrder}
@@ -19,6 +21,7 @@ use Rattle.schematic_main.specs.Input.{IsShort, HasStation, HasFileFault}
 use Rattle.schematic_main.specs.Verdict.{IsSoundSheet}
 use Rattle.schematic_main.specs.Met.{Met}
 use Rattle.schematic_main.specs.Answer.{InputFile, text_input, log_input, IsPrinted, IsFileJudged, IsVerified, IsAnswerAfter, IsAnswerOn}
+use Rattle.schematic_main.specs.Pictured.{BeginsPicture}
 use Rattle.schematic_main.specs.Drawn.{job, IsDrawAnswer}
 use Rattle.schematic_main.specs.Tried.{IsMade, IsTried}
 use Rattle.schematic_main.specs.Checked.{IsChecked}
@@ -34,9 +37,10 @@ inputs_of (Check input sheet log) = text_input 1 input ∷ text_input 2 sheet �
 inputs_of (Make n) = []
 inputs_of (Trial n) = []
 
--- what stands in a file that a command writes: the text of a log
+-- what stands in a file that a command writes: the text of a log, or a picture
 pub data OutputKind : Type 0 where
   LogOutput : OutputKind
+  PictureOutput : OutputKind
 
 -- a file that a command writes
 pub record OutputFile : Type 0 where
@@ -47,23 +51,42 @@ pub record OutputFile : Type 0 where
 abbrev pub log_file : List ℕ → OutputFile
 log_file name = record { name = name; kind = LogOutput }
 
+-- the file of this name, for a picture
+abbrev pub picture_file : List ℕ → OutputFile
+picture_file name = record { name = name; kind = PictureOutput }
+
 -- the log's file, where one is named
 abbrev pub log_output : Option (List ℕ) → List OutputFile
 log_output None = []
 log_output (Some name) = log_file name ∷ []
 
--- the files that a command writes; a picture isn't built yet
+-- the picture's file, where one is named
+abbrev pub picture_output : Option (List ℕ) → List OutputFile
+picture_output None = []
+picture_output (Some name) = picture_file name ∷ []
+
+-- the files that a command writes, in this order
 abbrev pub outputs_of : Command → List OutputFile
-outputs_of (Draw input grid order budget svg log) = log_output log
+outputs_of (Draw input grid order budget svg log) = log_output log ++ picture_output svg
 outputs_of (PrintGraph input) = []
 outputs_of (Verify input sheet) = []
 outputs_of (Check input sheet log) = []
 outputs_of (Make n) = []
 outputs_of (Trial n) = []
 
+-- no two of the files have one name
+abbrev pub AreApart : List OutputFile → Type 0
+AreApart outputs = AllPairs (λ a b. a.name ≢ b.name) outputs
+
 -- the bytes begin what stands in such a file, as those of one do that isn't written whole
 abbrev pub BeginsOutput : OutputKind → List ℕ → Type 0
 BeginsOutput LogOutput bytes = BeginsLog bytes
+BeginsOutput PictureOutput bytes = BeginsPicture bytes
+
+-- the bytes are all that is to stand in such a file: the text of some lines, or some picture
+abbrev pub IsWholeOutput : OutputKind → List ℕ → Type 0
+IsWholeOutput LogOutput bytes = (lines : Lines) × (bytes ≡ log_text lines) × MayAllBeTold lines
+IsWholeOutput PictureOutput bytes = (g : Graph) × (d : Drawing) × (bytes ≡ svg_text g d)
 
 -- this file is one of those that are written, and this holds of what is to stand there
 abbrev pub WritesTo : List OutputFile → List ℕ → (OutputKind → Type 0) → Type 0
@@ -77,11 +100,19 @@ abbrev pub AreBegun : List OutputFile → Told → Told → Type 0
 AreBegun outputs before after = (name : List ℕ) → Writes outputs name →
     (after name ≡ before name) ⊎ ((bytes : List ℕ) × (after name ≡ Some bytes) × WritesTo outputs name (λ kind. BeginsOutput kind bytes))
 
--- what is left of all files by a command that writes these: each other one as it stood, and each of these too where the
--- command is refused; and these begun, or as they stood
+-- each of these files is whole, or those behind it stand as they stood
+abbrev pub AreInTurn : List OutputFile → Told → Told → Type 0
+AreInTurn [] before after = ⊤
+AreInTurn (output ∷ behind) before after =
+    (((bytes : List ℕ) × (after output.name ≡ Some bytes) × IsWholeOutput output.kind bytes) ⊎ All (λ later. after later.name ≡ before later.name) behind)
+    × AreInTurn behind before after
+
+-- what is left of all files by a command that writes these, in this order: each other one as it stood, and each of these
+-- too where the command is refused; and these begun, or as they stood, and none before the one in front of it is whole
 pub record LeavesFiles (outputs : List OutputFile) (Refused : Type 0) (before after : Told) : Type 0 where
   pub others : (name : List ℕ) → Refused ⊎ (Writes outputs name → ⊥) → after name ≡ before name
   pub begun : AreBegun outputs before after
+  pub in_turn : AreInTurn outputs before after
 
 -- a command tells the lines of a search to the trace: draw, where no file is named for them, and trial
 abbrev pub TellsTrace : Command → Type 0
@@ -144,9 +175,9 @@ pub record HasSoundLog (name : List ℕ) (contents : Option Told) : Type 0 where
 abbrev pub HasStationGraph : List ℕ → Graph → Type 0
 HasStationGraph bytes g = (o : EdgeOrder) × HasStation bytes g o
 
--- nothing is wrong with the inputs of a command, nor with the file that a trial makes, and what is asked for is built
+-- nothing is wrong with the inputs of a command, nor with the file that a trial makes
 abbrev pub AreSound : Command → Option Told → Type 0
-AreSound (Draw input grid order budget svg log) contents = HasSoundFile input contents × (svg ≡ None)
+AreSound (Draw input grid order budget svg log) contents = HasSoundFile input contents
 AreSound (PrintGraph input) contents = HasSoundFile input contents
 AreSound (Verify input sheet) contents =
     (file : HasSoundFile input contents) × HasSoundSheet sheet contents true (HasStationGraph file.bytes)

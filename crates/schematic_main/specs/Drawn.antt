@@ -1,7 +1,8 @@
 -- What draw answers to a station: the sheet and the status of how its search ended, and what the log of the search
 -- certifies.
-use Rattle.std.specs.Prelude.{◌≡◌, ◌≢◌, ◌⊎◌, ℕ, List, None, Some}
+use Rattle.std.specs.Prelude.{◌≡◌, ℕ, List, None, Some}
 use Rattle.std.specs.declared.option.Option.{Option}
+use Rattle.plan_core.specs.declared.limits.TheConstants.{MAX_FILE_BYTES}
 use Rattle.plan_core.specs.declared.criterion.Criterion.{Criterion}
 use Rattle.plan_core.specs.Grid.{GridSize}
 use Rattle.plan_core.specs.Graph.{Graph}
@@ -20,12 +21,12 @@ use Rattle.lex_search.specs.Outcome.{IsOutcome}
 use Rattle.drawing_problem.specs.Layout.{layout}
 use Rattle.log_check.specs.declared.verdict.Verdict.TheVariants as verdicts
 use Rattle.lex_minimise.specs.Task.{task_of}
-use Rattle.schematic_main.specs.declared.fault.RunFault.TheVariants.{NotBuilt}
 use Rattle.schematic_main.specs.declared.status.Status.{Status}
 use Rattle.schematic_main.specs.declared.status.Status.TheVariants as statuses
-use Rattle.schematic_main.specs.Fault.{IsFaultLine}
+use Rattle.schematic_main.specs.Input.{IsShort}
 use Rattle.schematic_main.specs.Met.{Met}
 use Rattle.schematic_main.specs.SearchLog.{IsLogOf}
+use Rattle.schematic_main.specs.Pictured.{IsPictured}
 use Rattle.schematic_main.specs.CheckLine.{claimed, verdict_line}
 use Rattle.schematic_main.specs.Checked.{IsClaimJudged}
 
@@ -43,10 +44,6 @@ pub record Job : Type 0 where
 abbrev pub job : GridSize → List Criterion → (budget : ℕ) → (svg log : Option (List ℕ)) → Job
 job grid order budget svg log = record { grid = grid; order = order; budget = budget; svg = svg; log = log }
 
--- a picture is asked for, which isn't built yet
-abbrev pub IsUnbuilt : Job → Type 0
-IsUnbuilt asked = asked.svg ≢ None
-
 -- what is searched: the lawful drawings of the station on that grid, within that budget and ROOM words
 abbrev pub search_of : Graph → EdgeOrder → Job → Task
 search_of g o asked = task_of (layout g o asked.grid) asked.budget ROOM
@@ -62,6 +59,13 @@ sheet_of asked (outcomes.Best d) = sheet_with asked (Some d) endings.Best
 sheet_of asked outcomes.NoDrawing = sheet_with asked None endings.NoDrawing
 sheet_of asked (outcomes.Spent found settled) = sheet_with asked found (endings.Conflicts settled)
 sheet_of asked (outcomes.Room found settled) = sheet_with asked found (endings.Room settled)
+
+-- the drawing that was found
+abbrev pub found_by : Outcome → Option Drawing
+found_by (outcomes.Best d) = Some d
+found_by outcomes.NoDrawing = None
+found_by (outcomes.Spent found settled) = found
+found_by (outcomes.Room found settled) = found
 
 abbrev pub status_of : Outcome → Status
 status_of (outcomes.Best d) = statuses.Done
@@ -83,21 +87,18 @@ pub record HasSearched (g : Graph) (o : EdgeOrder) (asked : Job) (IsTold : Lines
   pub told : IsTold lines
   pub ended : IsOutcome (search_of g o asked) asked.order outcome lines
 
--- a search was done, the text is the sheet of its outcome, and with the log of its lines it passes check, as far as the
--- log isn't too long to be read
+-- a search was done, the text is the sheet of its outcome, which isn't too long to be read, and with the log of its lines
+-- it passes check, as far as the log isn't too long either
 pub record IsDrawn (g : Graph) (o : EdgeOrder) (asked : Job) (IsTold : Lines → Type 0) (status : Status) (text : List ℕ) : Type 0 where
-  pub built : IsUnbuilt asked → ⊥
   pub outcome : Outcome
   pub searched : HasSearched g o asked IsTold outcome
   pub passes : PassesCheck g o (sheet_of asked outcome) searched.lines
+  pub short : IsShort MAX_FILE_BYTES (sheet_text g (sheet_of asked outcome))
   pub status_is : status ≡ status_of outcome
   pub spelled : text ≡ sheet_text g (sheet_of asked outcome)
 
--- the answer says that what is asked for isn't built yet
-pub record IsTurnedDown (asked : Job) (status : Status) (text : List ℕ) : Type 0 where
-  pub unbuilt : IsUnbuilt asked
-  pub fault : IsFaultLine NotBuilt status text
-
--- what draw answers to a station, with what the run met and what the trace was told
-abbrev pub IsDrawAnswer : Job → Met → (traced : Lines → Type 0) → Graph → EdgeOrder → Status → List ℕ → Type 0
-IsDrawAnswer asked met traced g o status text = IsDrawn g o asked (IsLogOf asked.log met traced) status text ⊎ IsTurnedDown asked status text
+-- what draw answers to a station, with what the run met and what the trace was told: it was drawn, with the lines of the
+-- search where the words say, and the picture of its drawing where they name a file for it
+pub record IsDrawAnswer (asked : Job) (met : Met) (traced : Lines → Type 0) (g : Graph) (o : EdgeOrder) (status : Status) (text : List ℕ) : Type 0 where
+  pub drawn : IsDrawn g o asked (IsLogOf asked.log met traced) status text
+  pub pictured : IsPictured asked.svg met g (found_by drawn.outcome)

@@ -20,7 +20,7 @@ use Rattle.refute_log.specs.Faults as log_faults
 use Rattle.schematic_main.specs.declared.status.Status.{Status}
 use Rattle.schematic_main.specs.declared.status.Status.TheVariants.{Refused, WordsRefused, Unread}
 use Rattle.schematic_main.specs.declared.fault.RunFault.{RunFault}
-use Rattle.schematic_main.specs.declared.fault.RunFault.TheVariants.{NotBuilt, Words, Long, Text, Topology, Graph, Order, Sheet, Log, ReadFailed}
+use Rattle.schematic_main.specs.declared.fault.RunFault.TheVariants.{Words, Long, Text, Topology, Graph, Order, Sheet, Log, ReadFailed}
 
 -- ---- what a fault tells
 
@@ -64,7 +64,6 @@ abbrev pub told_line : List ℕ → ℕ → List ℕ → List (List ℕ) → Lis
 told_line table number word told = line_text table (decimal number ∷ word ∷ told)
 
 abbrev pub fault_line : RunFault → List ℕ
-fault_line NotBuilt = codes "not built\n"
 fault_line (Words what position) = told_line (codes "words") (word_faults.number_of what) (word_faults.word_of what) (decimal position ∷ [])
 fault_line (Long input) = line_text (codes "long") (decimal input ∷ [])
 fault_line (Text what at) = told_line (codes "text") (text_faults.number_of what) (text_faults.word_of what) (at_place at)
@@ -79,7 +78,6 @@ fault_line (ReadFailed input) = line_text (codes "read failed") (decimal input �
 -- ---- the status
 
 abbrev pub fault_status : RunFault → Status
-fault_status NotBuilt = Refused
 fault_status (Words what position) = WordsRefused
 fault_status (Long input) = Refused
 fault_status (Text what at) = Refused

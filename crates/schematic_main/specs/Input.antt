@@ -13,7 +13,7 @@ use Rattle.railml_read.specs.Document.{GivesRows, IsTextFault}
 use Rattle.railml_topology.specs.Faults.{IsFirstTopologyFault}
 use Rattle.railml_topology.specs.Answers.{ResolvesTo}
 use Rattle.schematic_main.specs.declared.fault.RunFault.{RunFault}
-use Rattle.schematic_main.specs.declared.fault.RunFault.TheVariants.{NotBuilt, Words, Long, Text, Topology, Graph, Order, Sheet, Log, ReadFailed}
+use Rattle.schematic_main.specs.declared.fault.RunFault.TheVariants.{Words, Long, Text, Topology, Graph, Order, Sheet, Log, ReadFailed}
 use Rattle.schematic_main.specs.declared.input.Refusal.{Refusal}
 use Rattle.schematic_main.specs.declared.input.Refusal.TheVariants as refusals
 
@@ -53,7 +53,6 @@ HasFileFault bytes (Text what at) = IsShort MAX_FILE_BYTES bytes × IsTextFault 
 HasFileFault bytes (Topology what at first second) = (rows : List Elem) × HasRows bytes rows × IsFirstTopologyFault rows what at first second
 HasFileFault bytes (Graph fault) = (t : Tracks) × HasTopology bytes t × IsGraphFault t fault
 HasFileFault bytes (Order fault) = (g : TrackGraph) × HasGraph bytes g × IsOrderFault g fault
-HasFileFault bytes NotBuilt = ⊥
 HasFileFault bytes (Words what position) = ⊥
 HasFileFault bytes (Sheet what line) = ⊥
 HasFileFault bytes (Log what line) = ⊥

@@ -7,6 +7,7 @@ pub mod Answer
 pub mod SearchLog
 pub mod CheckLine
 pub mod Checked
+pub mod Pictured
 pub mod Drawn
 pub mod Tried
 pub mod Commands

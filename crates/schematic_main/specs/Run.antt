@@ -14,7 +14,7 @@ use Rattle.schematic_main.specs.declared.fault.RunFault.TheVariants.{Words}
 use Rattle.schematic_main.specs.declared.status.Status.{Status}
 use Rattle.schematic_main.specs.Fault.{IsFaultLine}
 use Rattle.schematic_main.specs.Met.{Met, ReadFails}
-use Rattle.schematic_main.specs.Commands.{OutputFile, inputs_of, outputs_of, Writes, AreBegun, TellsTrace, Owes}
+use Rattle.schematic_main.specs.Commands.{OutputFile, inputs_of, outputs_of, Writes, AreBegun, AreInTurn, TellsTrace, Owes}
 
 -- the words ask for a command of which this holds
 abbrev pub Asks : List (List ℕ) → (Command → Type 0) → Type 0
@@ -64,24 +64,26 @@ abbrev pub IsNamed : List (List ℕ) → List ℕ → Type 0
 IsNamed words name = Asks words (λ command. Writes (outputs_of command) name)
 
 -- each file stands as it stood that the words don't name to be written, and where the run was refused every one; and each
--- that they name begins what is to stand there, or stands as it stood: what their command leaves, and for words with a
--- fault nothing is changed
+-- that they name begins what is to stand there, or stands as it stood, and isn't begun before the one in front of it is
+-- whole: what their command leaves, and for words with a fault nothing is changed
 pub record Leaves (words : List (List ℕ)) (Refused : Type 0) (before after : Told) : Type 0 where
   pub others : (name : List ℕ) → Refused ⊎ (IsNamed words name → ⊥) → after name ≡ before name
   pub begun : WhereAsked words (λ command. AreBegun (outputs_of command) before after)
+  pub in_turn : WhereAsked words (λ command. AreInTurn (outputs_of command) before after)
 
--- a search's lines couldn't be told: a write of the command's files failed, or the trace did, where the lines go to it
-abbrev pub FailsToTell : (outputs : List OutputFile) → (TellsIt : Type 0) → Met → (trace_rose : Type 0) → Type 0
-FailsToTell outputs TellsIt met trace_rose =
+-- the lines of a search, or a picture, couldn't be written: a write of the command's files failed, or the trace did, where
+-- the lines go to it
+abbrev pub FailsToWrite : (outputs : List OutputFile) → (TellsIt : Type 0) → Met → (trace_rose : Type 0) → Type 0
+FailsToWrite outputs TellsIt met trace_rose =
     ((outputs ≢ []) × Rose met.before.write_faults met.after.write_faults) ⊎ (TellsIt × trace_rose)
 
--- the command couldn't tell a search's lines
-abbrev pub CommandFailsToTell : Command → Met → (trace_rose : Type 0) → Type 0
-CommandFailsToTell command met trace_rose = FailsToTell (outputs_of command) (TellsTrace command) met trace_rose
+-- the command couldn't write what it was to write
+abbrev pub CommandFailsToWrite : Command → Met → (trace_rose : Type 0) → Type 0
+CommandFailsToWrite command met trace_rose = FailsToWrite (outputs_of command) (TellsTrace command) met trace_rose
 
 -- a write of the run failed: a put, or what its command was to tell
 abbrev pub WriteFails : List (List ℕ) → Met → (put_rose trace_rose : Type 0) → Type 0
-WriteFails words met put_rose trace_rose = put_rose ⊎ Asks words (λ command. CommandFailsToTell command met trace_rose)
+WriteFails words met put_rose trace_rose = put_rose ⊎ Asks words (λ command. CommandFailsToWrite command met trace_rose)
 
 -- the words ask for no command that tells a search to the trace
 abbrev pub TellsNothing : List (List ℕ) → Type 0

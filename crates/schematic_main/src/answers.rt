@@ -1,5 +1,5 @@
 // What each command answers.
-ghost use Rattle.std.specs.Prelude.{◌≡◌, ◌≢◌, ◌≤◌, ◌⊎◌, [], IfOk, IsOkAnd, IsErrOf, None, length};
+ghost use Rattle.std.specs.Prelude.{◌≡◌, ◌≢◌, ◌≤◌, ◌⊎◌, ◌++◌, [], IfOk, IsOkAnd, IsErrOf, None, length};
 ghost use Rattle.outside_io.specs.Counts.{Rose};
 ghost use Rattle.outside_io.specs.Contents.{WhereTold, SameFiles};
 ghost use Rattle.track_order.specs.Order.{IsOrderOf};
@@ -8,8 +8,8 @@ ghost use Rattle.schematic_main.specs.Met.{met_on, ReadsInputs, IsUnread, IsUnwr
 ghost use Rattle.schematic_main.specs.Answer.{IsPrinted, IsFileJudged, text_input, IsAnswerAfter, IsAnswerOn};
 ghost use Rattle.refute_log.specs.ToldTo.{told_to};
 ghost use Rattle.schematic_main.specs.Drawn.{IsDrawAnswer};
-ghost use Rattle.schematic_main.specs.Commands.{inputs_of, outputs_of, log_output, TellsTrace, Owes, LeavesFiles};
-ghost use Rattle.schematic_main.specs.Run.{FailsToTell, CommandFailsToTell};
+ghost use Rattle.schematic_main.specs.Commands.{AreApart, inputs_of, outputs_of, log_output, picture_output, TellsTrace, Owes, LeavesFiles};
+ghost use Rattle.schematic_main.specs.Run.{FailsToWrite, CommandFailsToWrite};
 
 use crate::checking::check;
 use crate::drawing::{Asked, draw_station};
@@ -47,11 +47,12 @@ fn draw<F: Files, T: LogSink>(
     files: &mut F,
     trace: &mut T,
 ) -> Result<Reply, Cut>
+    requires apart { AreApart (log_output asked.now.log ++ picture_output asked.now.svg) }
     ensures answer { IfOk result (λ r. IsAnswerOn (text_input 1 input.now) 0 (met_on F.contents F.read_faults F.write_faults F.reads files.old files.new) (IsAnswerAfter 1 (met_on F.contents F.read_faults F.write_faults F.reads files.old files.new) (IsFileJudged (IsDrawAnswer asked.now (met_on F.contents F.read_faults F.write_faults F.reads files.old files.new) (told_to T.tells T.learnt trace.old trace.new)))) r.status r.text.items) }
     ensures reads { ReadsInputs 1 (IsOkAnd result (λ r. IsAnswered r.status)) (met_on F.contents F.read_faults F.write_faults F.reads files.old files.new) }
-    ensures unwritten { IsOkAnd result (λ r. IsRefused r.status) ⊎ (asked.now.log ≡ None) → IsUnwritten (met_on F.contents F.read_faults F.write_faults F.reads files.old files.new) }
-    ensures leaves { WhereTold (F.contents files.old) (F.contents files.new) (LeavesFiles (log_output asked.now.log) (IsOkAnd result (λ r. IsRefused r.status))) }
-    ensures cause { IsErrOf result Cut.Unwritten → FailsToTell (log_output asked.now.log) (asked.now.log ≡ None) (met_on F.contents F.read_faults F.write_faults F.reads files.old files.new) (Rose (T.faults trace.old) (T.faults trace.new)) }
+    ensures unwritten { IsOkAnd result (λ r. IsRefused r.status) ⊎ (log_output asked.now.log ++ picture_output asked.now.svg ≡ []) → IsUnwritten (met_on F.contents F.read_faults F.write_faults F.reads files.old files.new) }
+    ensures leaves { WhereTold (F.contents files.old) (F.contents files.new) (LeavesFiles (log_output asked.now.log ++ picture_output asked.now.svg) (IsOkAnd result (λ r. IsRefused r.status))) }
+    ensures cause { IsErrOf result Cut.Unwritten → FailsToWrite (log_output asked.now.log ++ picture_output asked.now.svg) (asked.now.log ≡ None) (met_on F.contents F.read_faults F.write_faults F.reads files.old files.new) (Rose (T.faults trace.old) (T.faults trace.new)) }
     ensures later { F.read_faults files.old ≤ F.read_faults files.new }
     ensures traced { T.is_later trace.old trace.new }
     ensures untold { IsOkAnd result (λ r. IsRefused r.status) ⊎ (asked.now.log ≢ None) → trace.new ≡ trace.old }
@@ -85,12 +86,13 @@ pub fn answer_to<F: Files, T: LogSink>(
     files: &mut F,
     trace: &mut T,
 ) -> Result<Reply, Cut>
+    requires apart { AreApart (outputs_of command.now) }
     ensures answer { IfOk result (λ r. Owes command.now (met_on F.contents F.read_faults F.write_faults F.reads files.old files.new) (told_to T.tells T.learnt trace.old trace.new) r.status r.text.items) }
     ensures reads { ReadsInputs (length (inputs_of command.now)) (IsOkAnd result (λ r. IsAnswered r.status)) (met_on F.contents F.read_faults F.write_faults F.reads files.old files.new) }
     ensures unread { inputs_of command.now ≡ [] → IsUnread (met_on F.contents F.read_faults F.write_faults F.reads files.old files.new) }
     ensures unwritten { IsOkAnd result (λ r. IsRefused r.status) ⊎ (outputs_of command.now ≡ []) → IsUnwritten (met_on F.contents F.read_faults F.write_faults F.reads files.old files.new) }
     ensures leaves { WhereTold (F.contents files.old) (F.contents files.new) (LeavesFiles (outputs_of command.now) (IsOkAnd result (λ r. IsRefused r.status))) }
-    ensures cause { IsErrOf result Cut.Unwritten → CommandFailsToTell command.now (met_on F.contents F.read_faults F.write_faults F.reads files.old files.new) (Rose (T.faults trace.old) (T.faults trace.new)) }
+    ensures cause { IsErrOf result Cut.Unwritten → CommandFailsToWrite command.now (met_on F.contents F.read_faults F.write_faults F.reads files.old files.new) (Rose (T.faults trace.old) (T.faults trace.new)) }
     ensures later { F.read_faults files.old ≤ F.read_faults files.new }
     ensures traced { T.is_later trace.old trace.new }
     ensures untold { IsOkAnd result (λ r. IsRefused r.status) ⊎ (TellsTrace command.now → ⊥) → trace.new ≡ trace.old }

@@ -1,8 +1,10 @@
-// What draw answers to a station: the sheet of how its search ended, with the lines of the search told.
-ghost use Rattle.std.specs.Prelude.{◌≡◌, ◌≢◌, ◌≤◌, ◌⊎◌, ⊤, false, IfOk, OnOk, IsOkAnd, IsErrOf, None};
+// What draw answers to a station: the sheet of how its search ended, with the lines of the search told and the picture
+// written.
+ghost use Rattle.std.specs.Prelude.{◌≡◌, ◌≢◌, ◌≤◌, ◌⊎◌, ◌++◌, [], ⊤, false, IfOk, OnOk, IsOkAnd, IsErrOf, None};
 ghost use Rattle.std.specs.Option.{is_some};
 ghost use Rattle.outside_io.specs.Contents.{WhereTold, SameElsewhere};
 ghost use Rattle.outside_io.specs.Counts.{Rose};
+ghost use Rattle.plan_core.specs.declared.limits.TheConstants.{MAX_FILE_BYTES};
 ghost use Rattle.plan_core.specs.Order.{IsOrder};
 ghost use Rattle.track_order.specs.Order.{IsOrderOf};
 ghost use Rattle.plan_text.specs.SheetLine.{MayEnd};
@@ -10,16 +12,17 @@ ghost use Rattle.plan_text.specs.SheetText.{sheet_text};
 ghost use Rattle.plan_text.specs.SheetFaults.{IsSheetText};
 ghost use Rattle.refute_log.specs.FileLog.{FileBeginsLog};
 ghost use Rattle.schematic_main.specs.Status.{IsRefused};
+ghost use Rattle.schematic_main.specs.Input.{IsShort};
 ghost use Rattle.schematic_main.specs.Met.{met_on, IsUnwritten};
 ghost use Rattle.refute_log.specs.ToldTo.{told_to};
-ghost use Rattle.schematic_main.specs.SearchLog.{HoldsLog};
-ghost use Rattle.schematic_main.specs.Commands.{log_output, LeavesFiles};
-ghost use Rattle.schematic_main.specs.Run.{FailsToTell};
-ghost use Rattle.schematic_main.specs.Drawn.{IsUnbuilt, sheet_with, sheet_of, status_of, HasSearched, IsDrawn, IsDrawAnswer};
+ghost use Rattle.schematic_main.specs.SearchLog.{HoldsLog, IsLogOf};
+ghost use Rattle.schematic_main.specs.Commands.{AreApart, log_output, picture_output, LeavesFiles};
+ghost use Rattle.schematic_main.specs.Run.{FailsToWrite};
+ghost use Rattle.schematic_main.specs.Drawn.{sheet_with, sheet_of, status_of, HasSearched, IsDrawAnswer};
 
-use crate::fault::RunFault;
 use crate::input::Station;
-use crate::reply::{Cut, Reply, cut_of, fault_reply};
+use crate::picturing::write_found;
+use crate::reply::{Cut, Reply, cut_of};
 use crate::status::Status;
 use cnf_core::ROOM;
 use lex_minimise::{Limits, MinFault, Outcome, minimise};
@@ -156,56 +159,39 @@ fn sheet_reply(
     requires { HasSearched station.now.graph station.now.order asked.now (λ lines. ⊤) outcome }
     ensures status_is { IfOk result (λ r. r.status ≡ status_of outcome) }
     ensures spelled { IfOk result (λ r. r.text.items ≡ sheet_text station.now.graph (sheet_of asked.now outcome)) }
+    ensures short { OnOk result (IsShort MAX_FILE_BYTES (sheet_text station.now.graph (sheet_of asked.now outcome))) }
     ensures read { OnOk result (IsSheetText station.now.graph false (sheet_text station.now.graph (sheet_of asked.now outcome)) (sheet_of asked.now outcome)) }
 {
     let status = status_of(&outcome);
     let sheet = sheet_of(alloc, asked, outcome)?;
-    // what is written is read again
+    // what is written is read again, and isn't too long for that
     written_is_read(&station.graph, &sheet);
     let mut text = Vec::new(alloc);
     write_sheet(alloc, &station.graph, &sheet, &mut text)?;
     Ok(Reply { status, text })
 }
 
-/// draw's answer to a station, the lines of the search told to the log.
-fn draw_told<L: LogSink>(
-    alloc: Global,
-    station: &Station,
-    asked: &Asked,
-    log: &mut L,
-) -> Result<Reply, Cut>
-    requires order { IsOrderOf station.now.graph station.now.order }
-    requires built { IsUnbuilt asked.now → ⊥ }
-    ensures answer { IfOk result (λ r. IsDrawn station.now.graph station.now.order asked.now (told_to L.tells L.learnt log.old log.new) r.status r.text.items) }
-    ensures later { L.is_later log.old log.new }
-    ensures faults { L.faults log.old ≤ L.faults log.new }
-    ensures cause { IsErrOf result Cut.Unwritten → Rose (L.faults log.old) (L.faults log.new) }
-{
-    let outcome = search(alloc, station, asked, log)?;
-    Ok(sheet_reply(alloc, station, asked, outcome)?)
-}
-
-/// The same with a new log in the file of this name.
-fn draw_filed<F: Files>(
+/// The same search with a new log in the file of this name.
+fn search_filed<F: Files>(
     alloc: Global,
     station: &Station,
     asked: &Asked,
     name: &Text,
     files: &mut F,
-) -> Result<Reply, Cut>
+) -> Result<Outcome, Cut>
     requires order { IsOrderOf station.now.graph station.now.order }
-    requires built { IsUnbuilt asked.now → ⊥ }
-    ensures answer { IfOk result (λ r. IsDrawn station.now.graph station.now.order asked.now (HoldsLog (F.contents files.old) (F.contents files.new) name.now) r.status r.text.items) }
+    ensures searched { IfOk result (HasSearched station.now.graph station.now.order asked.now (HoldsLog (F.contents files.old) (F.contents files.new) name.now)) }
     ensures others { WhereTold (F.contents files.old) (F.contents files.new) (SameElsewhere name.now) }
     ensures begun { WhereTold (F.contents files.old) (F.contents files.new) (λ before after. (after name.now ≡ before name.now) ⊎ FileBeginsLog after name.now) }
+    ensures later { F.write_faults files.old ≤ F.write_faults files.new }
     ensures cause { IsErrOf result Cut.Unwritten → Rose (F.write_faults files.old) (F.write_faults files.new) }
     ensures read_faults { F.read_faults files.new ≡ F.read_faults files.old }
     ensures reads { F.reads files.new ≡ F.reads files.old }
 {
     match FileLog::start(alloc, files, name.as_str()) {
-        Ok(mut log) => match draw_told(alloc, station, asked, &mut log) {
-            Ok(reply) => match log.finish() {
-                Ok(()) => Ok(reply),
+        Ok(mut log) => match search(alloc, station, asked, &mut log) {
+            Ok(outcome) => match log.finish() {
+                Ok(()) => Ok(outcome),
                 Err(fault) => Err(cut_of(fault)),
             },
             Err(cut) => {
@@ -217,6 +203,31 @@ fn draw_filed<F: Files>(
     }
 }
 
+/// The same search, its lines told to the file that is named for them or else to the trace.
+fn search_told<F: Files, T: LogSink>(
+    alloc: Global,
+    station: &Station,
+    asked: &Asked,
+    files: &mut F,
+    trace: &mut T,
+) -> Result<Outcome, Cut>
+    requires order { IsOrderOf station.now.graph station.now.order }
+    ensures searched { IfOk result (HasSearched station.now.graph station.now.order asked.now (IsLogOf asked.now.log (met_on F.contents F.read_faults F.write_faults F.reads files.old files.new) (told_to T.tells T.learnt trace.old trace.new))) }
+    ensures leaves { WhereTold (F.contents files.old) (F.contents files.new) (LeavesFiles (log_output asked.now.log) ⊥) }
+    ensures unwritten { asked.now.log ≡ None → IsUnwritten (met_on F.contents F.read_faults F.write_faults F.reads files.old files.new) }
+    ensures later { F.write_faults files.old ≤ F.write_faults files.new }
+    ensures cause { IsErrOf result Cut.Unwritten → FailsToWrite (log_output asked.now.log) (asked.now.log ≡ None) (met_on F.contents F.read_faults F.write_faults F.reads files.old files.new) (Rose (T.faults trace.old) (T.faults trace.new)) }
+    ensures read_faults { F.read_faults files.new ≡ F.read_faults files.old }
+    ensures reads { F.reads files.new ≡ F.reads files.old }
+    ensures traced { T.is_later trace.old trace.new }
+    ensures untold { asked.now.log ≢ None → trace.new ≡ trace.old }
+{
+    match asked.log {
+        Some(name) => search_filed(alloc, station, asked, name, files),
+        None => search(alloc, station, asked, trace),
+    }
+}
+
 /// What `draw` answers to a station.
 pub fn draw_station<F: Files, T: LogSink>(
     alloc: Global,
@@ -225,21 +236,19 @@ pub fn draw_station<F: Files, T: LogSink>(
     files: &mut F,
     trace: &mut T,
 ) -> Result<Reply, Cut>
-    requires { IsOrderOf station.now.graph station.now.order }
+    requires order { IsOrderOf station.now.graph station.now.order }
+    requires apart { AreApart (log_output asked.now.log ++ picture_output asked.now.svg) }
     ensures answer { IfOk result (λ r. IsDrawAnswer asked.now (met_on F.contents F.read_faults F.write_faults F.reads files.old files.new) (told_to T.tells T.learnt trace.old trace.new) station.now.graph station.now.order r.status r.text.items) }
     ensures read_faults { F.read_faults files.new ≡ F.read_faults files.old }
     ensures reads { F.reads files.new ≡ F.reads files.old }
-    ensures unwritten { IsOkAnd result (λ r. IsRefused r.status) ⊎ (asked.now.log ≡ None) → IsUnwritten (met_on F.contents F.read_faults F.write_faults F.reads files.old files.new) }
-    ensures leaves { WhereTold (F.contents files.old) (F.contents files.new) (LeavesFiles (log_output asked.now.log) (IsOkAnd result (λ r. IsRefused r.status))) }
-    ensures cause { IsErrOf result Cut.Unwritten → FailsToTell (log_output asked.now.log) (asked.now.log ≡ None) (met_on F.contents F.read_faults F.write_faults F.reads files.old files.new) (Rose (T.faults trace.old) (T.faults trace.new)) }
+    ensures unrefused { IsOkAnd result (λ r. IsRefused r.status) → ⊥ }
+    ensures unwritten { log_output asked.now.log ++ picture_output asked.now.svg ≡ [] → IsUnwritten (met_on F.contents F.read_faults F.write_faults F.reads files.old files.new) }
+    ensures leaves { WhereTold (F.contents files.old) (F.contents files.new) (LeavesFiles (log_output asked.now.log ++ picture_output asked.now.svg) ⊥) }
+    ensures cause { IsErrOf result Cut.Unwritten → FailsToWrite (log_output asked.now.log ++ picture_output asked.now.svg) (asked.now.log ≡ None) (met_on F.contents F.read_faults F.write_faults F.reads files.old files.new) (Rose (T.faults trace.old) (T.faults trace.new)) }
     ensures traced { T.is_later trace.old trace.new }
-    ensures untold { IsOkAnd result (λ r. IsRefused r.status) ⊎ (asked.now.log ≢ None) → trace.new ≡ trace.old }
+    ensures untold { asked.now.log ≢ None → trace.new ≡ trace.old }
 {
-    if asked.svg.is_some() {
-        return Ok(fault_reply(alloc, RunFault::NotBuilt)?);
-    }
-    match asked.log {
-        Some(name) => draw_filed(alloc, station, asked, name, files),
-        None => draw_told(alloc, station, asked, trace),
-    }
+    let outcome = search_told(alloc, station, asked, files, trace)?;
+    write_found(alloc, &station.graph, &outcome, asked.svg, files)?;
+    Ok(sheet_reply(alloc, station, asked, outcome)?)
 }

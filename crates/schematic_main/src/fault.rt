@@ -21,8 +21,6 @@ use track_order::OrderFault;
 /// A run's fault. Its line goes to the output, and its status ends the run.
 #[derive(Drop)]
 pub enum RunFault {
-    /// The words ask for what isn't built yet.
-    NotBuilt,
     /// The words have a fault. `position` is that of a word, counted from 1.
     Words {
         what: WordWhat,
@@ -225,8 +223,7 @@ impl RunFault {
         match self {
             RunFault::Words { .. } => Status::WordsRefused,
             RunFault::ReadFailed(_) => Status::Unread,
-            RunFault::NotBuilt
-            | RunFault::Long(_)
+            RunFault::Long(_)
             | RunFault::Text { .. }
             | RunFault::Topology { .. }
             | RunFault::Graph(_)
@@ -241,7 +238,6 @@ impl RunFault {
         ensures { IfOk result (λ v. v.items ≡ fault_line self.now) }
     {
         match self {
-            RunFault::NotBuilt => Ok(Vec::from_slice(alloc, b"not built\n")?),
             RunFault::Words { what, position } => words_line(alloc, *what, *position),
             RunFault::Long(input) => input_line(alloc, b"long", *input),
             RunFault::Text { what, at } => text_line(alloc, *what, *at),

@@ -6,16 +6,16 @@
 //! command is one more row of each. `specs/Run` says the same of the words that ask for it, `specs/Met` what a run
 //! meets outside, `specs/SearchLog` which lines it told and `specs/Status` which number each status has.
 //! `specs/Answer` says what is answered to an input and a file, `specs/Drawn` what `draw` answers to a station: the
-//! sheet of a search, and what its log certifies; `specs/Verdict` what is answered to a sheet, `specs/Checked` to a
-//! sheet and a log, `specs/Tried` to the number of a made station. `specs/Fault` says which line and which status
-//! each fault has, `specs/Input` what the bytes of a file are to a run (a station, which is a track graph and the
-//! order of its edges, or the first fault); `specs/Reading` and `specs/Reply` are for private contracts. `running`
-//! reads the words and puts the answer, `answers` has what each command answers, `reading` and `input` find the
-//! station, `drawing` searches for its best drawing, `verify` reads a file and a sheet and `verdict` judges its
-//! drawing, `checking` has a log judged too, `trialling` makes a station and tries it. `laws` says that a file has
-//! one station or one fault, a sheet one verdict and a log's file one list of lines, and how searches end.
-//! `read_words` and its types are those of `plan_words`. The program `railplan_main` stands on this crate, and so do
-//! the tables of whole runs, `run_cases`.
+//! sheet of a search, and what its log certifies; `specs/Pictured` its picture; `specs/Verdict` what is answered to a
+//! sheet, `specs/Checked` to a sheet and a log, `specs/Tried` to the number of a made station. `specs/Fault` says
+//! which line and which status each fault has, `specs/Input` what the bytes of a file are to a run (a station, which
+//! is a track graph and the order of its edges, or the first fault); `specs/Reading` and `specs/Reply` are for
+//! private contracts. `running` reads the words and puts the answer, `answers` has what each command answers,
+//! `reading` and `input` find the station, `drawing` searches for its best drawing, `picturing` writes its picture,
+//! `verify` reads a file and a sheet and `verdict` judges its drawing, `checking` has a log judged too, `trialling`
+//! makes a station and tries it. `laws` says that a file has one station or one fault, a sheet one verdict and a
+//! log's file one list of lines, and how searches end. `read_words` and its types are those of `plan_words`. The
+//! program `railplan_main` stands on this crate, and so do the tables of whole runs, `run_cases`.
 #![tactic(auto)]
 
 mod answers;
@@ -24,6 +24,7 @@ mod drawing;
 mod fault;
 mod input;
 mod laws;
+mod picturing;
 mod reading;
 mod reply;
 mod running;

@@ -23,7 +23,7 @@ pub struct Reply {
 /// Why there is no answer.
 #[derive(Clone, Copy, Debug, PartialEq, Eq)]
 pub enum Cut {
-    /// The log couldn't be written.
+    /// The log or the picture couldn't be written.
     Unwritten,
     /// Memory couldn't be had.
     Memory,

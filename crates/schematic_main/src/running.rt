@@ -7,7 +7,7 @@ ghost use Rattle.schematic_main.specs.Status.{IsAnswered, IsRefused, IsCutShort,
 ghost use Rattle.refute_log.specs.ToldTo.{told_to};
 ghost use Rattle.schematic_main.specs.Met.{met_on, ReadsInputs, IsUnread, IsUnwritten};
 ghost use Rattle.schematic_main.specs.Commands.{inputs_of, AreSound, ends_of};
-ghost use Rattle.schematic_main.specs.Run.{Asks, WhereAsked, IsDue, GivenAll, GivenPrefix, ReadsNothing, FailsIn, WritesNothing, Leaves, CommandFailsToTell, WriteFails, TellsNothing};
+ghost use Rattle.schematic_main.specs.Run.{Asks, WhereAsked, IsDue, GivenAll, GivenPrefix, ReadsNothing, FailsIn, WritesNothing, Leaves, CommandFailsToWrite, WriteFails, TellsNothing};
 
 use crate::answers::answer_to;
 use crate::fault::RunFault;
@@ -30,7 +30,7 @@ fn reply_to<F: Files, T: LogSink>(
     ensures unread { ReadsNothing (texts_of words.now) → IsUnread (met_on F.contents F.read_faults F.write_faults F.reads files.old files.new) }
     ensures unwritten { IsOkAnd result (λ r. IsRefused r.status) ⊎ WritesNothing (texts_of words.now) → IsUnwritten (met_on F.contents F.read_faults F.write_faults F.reads files.old files.new) }
     ensures leaves { WhereTold (F.contents files.old) (F.contents files.new) (Leaves (texts_of words.now) (IsOkAnd result (λ r. IsRefused r.status))) }
-    ensures cause { IsErrOf result Cut.Unwritten → Asks (texts_of words.now) (λ command. CommandFailsToTell command (met_on F.contents F.read_faults F.write_faults F.reads files.old files.new) (Rose (T.faults trace.old) (T.faults trace.new))) }
+    ensures cause { IsErrOf result Cut.Unwritten → Asks (texts_of words.now) (λ command. CommandFailsToWrite command (met_on F.contents F.read_faults F.write_faults F.reads files.old files.new) (Rose (T.faults trace.old) (T.faults trace.new))) }
     ensures traced { T.is_later trace.old trace.new }
     ensures untold { IsOkAnd result (λ r. IsRefused r.status) ⊎ TellsNothing (texts_of words.now) → trace.new ≡ trace.old }
 {

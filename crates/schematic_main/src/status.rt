@@ -7,7 +7,7 @@ ghost use Rattle.schematic_main.specs.Status.{number_of};
 pub enum Status {
     /// The command's text was put.
     Done,
-    /// An input has a fault, or the words ask for what isn't built yet.
+    /// An input has a fault.
     Refused,
     /// The words have a fault.
     WordsRefused,

@@ -1,4 +1,5 @@
 use Rattle.std.proofs.Common.{[], sym, subst}
+use Rattle.std.specs.Prelude.{IfOk}
 use Rattle.outside_io.specs.Contents.{WhereTold}
 use Rattle.plan_words.specs.declared.command.Command.{Command}
 use Rattle.refute_log.specs.ToldTo.{told_to}
@@ -7,6 +8,12 @@ use Rattle.schematic_main.specs.Met.{met_on}
 use Rattle.schematic_main.specs.Commands.{outputs_of, Owes, LeavesFiles}
 use Rattle.schematic_main.proofs.LeavesLemmas.{leaves_same}
 use Rattle.schematic_main.proofs.answers.answer_to.Goals as goal
+
+pub returns-in-Draw-clause-answer : goal.returns-in-Draw-clause-answer
+returns-in-Draw-clause-answer g c =
+    let met = met_on {Self = g.row.F.Denot} g.F.Files.contents g.F.Files.read_faults g.F.Files.write_faults g.F.Files.reads c.args.files.now c.draw.new.files in
+    let traced = told_to {Self = g.row.T.Denot} g.T.LogSink.tells g.T.LogSink.learnt c.args.trace.now c.draw.new.trace in
+    subst (λ (command : Command). IfOk c.draw.result (λ r. Owes command met traced r.status r.text.items)) (sym c.in-Draw.is) c.draw.ensures.answer
 
 pub returns-in_ok-verify-in-Verify-clause-answer : goal.returns-in_ok-verify-in-Verify-clause-answer
 returns-in_ok-verify-in-Verify-clause-answer g c =

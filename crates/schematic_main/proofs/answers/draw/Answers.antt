@@ -1,11 +1,14 @@
-use Rattle.std.proofs.Common.{◌∙◌}
+use Rattle.std.proofs.Common.{◌++◌, ◌∙◌}
+use Rattle.std.specs.Prelude.{IsOkAnd}
 use Rattle.std.proofs.lemmas.Result.{IfOk-weaker}
 use Rattle.refute_log.specs.ToldTo.{told_to}
+use Rattle.schematic_main.specs.Status.{IsRefused}
 use Rattle.schematic_main.specs.Drawn.{IsDrawAnswer}
+use Rattle.schematic_main.specs.Commands.{log_output, picture_output}
 use Rattle.schematic_main.specs.Met.{files_at, between}
 use Rattle.schematic_main.proofs.AnswerLemmas.{refused_on}
 use Rattle.schematic_main.proofs.FiledLemmas.{drawn_on}
-use Rattle.schematic_main.proofs.LeavesLemmas.{leaves_later}
+use Rattle.schematic_main.proofs.LeavesLemmas.{leaves_later, leaves_answered}
 use Rattle.schematic_main.proofs.MetLemmas.{reads_one}
 use Rattle.schematic_main.proofs.answers.draw.Goals as goal
 
@@ -23,7 +26,11 @@ returns-in-Ok-clause-reads g c = reads_one _ _ (c.draw_station.ensures.reads ∙
 
 pub returns-in-Ok-clause-leaves : goal.returns-in-Ok-clause-leaves
 returns-in-Ok-clause-leaves g c =
-    leaves_later (g.F.Files.contents c.args.files.now) (g.F.Files.contents c.station_of.new.files) (g.F.Files.contents c.draw_station.new.files) _ _ c.in-Ok.ensures.same c.draw_station.ensures.leaves
+    let mid = g.F.Files.contents c.station_of.new.files in
+    let new = g.F.Files.contents c.draw_station.new.files in
+    let outputs = log_output c.args.asked.now.log ++ picture_output c.args.asked.now.svg in
+    let Refused : Type 0 = IsOkAnd c.draw_station.result (λ r. IsRefused r.status) in
+    leaves_later (g.F.Files.contents c.args.files.now) mid new outputs Refused c.in-Ok.ensures.same (leaves_answered mid new outputs Refused c.draw_station.ensures.unrefused c.draw_station.ensures.leaves)
 
 pub returns-in_ok-fault_reply-in-Err-Fault-clause-answer : goal.returns-in_ok-fault_reply-in-Err-Fault-clause-answer
 returns-in_ok-fault_reply-in-Err-Fault-clause-answer g c =

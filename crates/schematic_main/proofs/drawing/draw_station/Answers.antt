@@ -1,32 +1,73 @@
-use Rattle.std.proofs.Common.{None, Some, sym, ◌∙◌, ap}
+use Rattle.std.proofs.Common.{ℕ, List, subst, ap}
+use Rattle.std.specs.declared.option.Option.{Option}
+use Rattle.outside_io.specs.Contents.{WhereTold}
 use Rattle.refute_log.specs.ToldTo.{told_to}
-use Rattle.schematic_main.specs.Met.{met_on}
-use Rattle.schematic_main.specs.Drawn.{Job}
-use Rattle.schematic_main.specs.SearchLog.{HoldsLog}
-use Rattle.schematic_main.proofs.DrawnLemmas.{drawn_unrefused, drawn_answer}
-use Rattle.schematic_main.proofs.LeavesLemmas.{leaves_named}
+use Rattle.schematic_main.specs.Met.{files_at, between}
+use Rattle.schematic_main.specs.Pictured.{IsPictured}
+use Rattle.schematic_main.specs.Drawn.{Job, found_by}
+use Rattle.schematic_main.specs.Commands.{picture_output, LeavesFiles}
+use Rattle.schematic_main.proofs.DrawnLemmas.{found_draws}
+use Rattle.schematic_main.proofs.LeavesLemmas.{leaves_drawn, leaves_unpictured}
+use Rattle.schematic_main.proofs.PictureLemmas.{whole_log, drawn_answer}
 use Rattle.schematic_main.proofs.drawing.draw_station.Goals as goal
 
-pub returns-in-Some-clause-leaves : goal.returns-in-Some-clause-leaves
-returns-in-Some-clause-leaves g c =
-    let at = g.F.Files.contents in
+pub write_found-requires : goal.write_found-requires
+write_found-requires g c =
+    let searched = c.in_ok-outcome.ensures.searched in
+    found_draws c.args.station.now.graph c.args.station.now.order c.args.asked.now c.in_ok-outcome.outcome searched.lines searched.ended
+
+pub returns-in_err-outcome-clause-leaves : goal.returns-in_err-outcome-clause-leaves
+returns-in_err-outcome-clause-leaves g c =
+    leaves_unpictured (g.F.Files.contents c.args.files.now) (g.F.Files.contents c.search_told.new.files) c.args.asked.now.log c.args.asked.now.svg c.requires.apart c.search_told.ensures.leaves
+
+pub returns-in_err-write_found-clause-leaves : goal.returns-in_err-write_found-clause-leaves
+returns-in_err-write_found-clause-leaves g c =
+    let at = files_at {Self = g.row.F.Denot} g.F.Files.contents g.F.Files.read_faults g.F.Files.write_faults g.F.Files.reads in
+    let traced = told_to {Self = g.row.T.Denot} g.T.LogSink.tells g.T.LogSink.learnt c.args.trace.now c.search_told.new.trace in
     let old = at c.args.files.now in
-    let new = at c.draw_filed.new.files in
-    let name = c.in-Some.name in
-    leaves_named old new c.args.asked.now.log name _ (sym (ap (λ (j : Job). j.log) c.asked.view_is) ∙ c.in-Some.is)
-    (drawn_unrefused c.args.station.now.graph c.args.station.now.order c.args.asked.now (HoldsLog old new name) c.draw_filed.result c.draw_filed.ensures.answer)
-    c.draw_filed.ensures.others c.draw_filed.ensures.begun
+    let mid = at c.search_told.new.files in
+    let new = at c.write_found.new.files in
+    let asked = c.args.asked.now in
+    let searched = c.in_ok-outcome.ensures.searched in
+    leaves_drawn old.contents mid.contents new.contents asked.log asked.svg c.requires.apart c.search_told.ensures.leaves (whole_log asked.log old mid traced searched.lines c.search_told.ensures.leaves searched.told)
+    (subst (λ (named : Option (List ℕ)). WhereTold mid.contents new.contents (LeavesFiles (picture_output named) ⊥)) (ap (λ (j : Job). j.svg) c.asked.view_is) c.write_found.ensures.leaves)
 
-pub returns-in-Some-clause-answer : goal.returns-in-Some-clause-answer
-returns-in-Some-clause-answer g c =
-    let met = met_on {Self = g.row.F.Denot} g.F.Files.contents g.F.Files.read_faults g.F.Files.write_faults g.F.Files.reads c.args.files.now c.draw_filed.new.files in
-    let traced = told_to {Self = g.row.T.Denot} g.T.LogSink.tells g.T.LogSink.learnt c.args.trace.now c.args.trace.now in
-    drawn_answer c.args.station.now.graph c.args.station.now.order c.args.asked.now met traced (Some c.in-Some.name) c.draw_filed.result (sym (ap (λ (j : Job). j.log) c.asked.view_is) ∙ c.in-Some.is)
-    c.draw_filed.ensures.answer
+pub returns-in_err-sheet_reply-clause-leaves : goal.returns-in_err-sheet_reply-clause-leaves
+returns-in_err-sheet_reply-clause-leaves g c =
+    let at = files_at {Self = g.row.F.Denot} g.F.Files.contents g.F.Files.read_faults g.F.Files.write_faults g.F.Files.reads in
+    let traced = told_to {Self = g.row.T.Denot} g.T.LogSink.tells g.T.LogSink.learnt c.args.trace.now c.search_told.new.trace in
+    let old = at c.args.files.now in
+    let mid = at c.search_told.new.files in
+    let new = at c.write_found.new.files in
+    let asked = c.args.asked.now in
+    let searched = c.in_ok-outcome.ensures.searched in
+    leaves_drawn old.contents mid.contents new.contents asked.log asked.svg c.requires.apart c.search_told.ensures.leaves (whole_log asked.log old mid traced searched.lines c.search_told.ensures.leaves searched.told)
+    (subst (λ (named : Option (List ℕ)). WhereTold mid.contents new.contents (LeavesFiles (picture_output named) ⊥)) (ap (λ (j : Job). j.svg) c.asked.view_is) c.write_found.ensures.leaves)
 
-pub returns-in-None-clause-answer : goal.returns-in-None-clause-answer
-returns-in-None-clause-answer g c =
-    let met = met_on {Self = g.row.F.Denot} g.F.Files.contents g.F.Files.read_faults g.F.Files.write_faults g.F.Files.reads c.args.files.now c.args.files.now in
-    let traced = told_to {Self = g.row.T.Denot} g.T.LogSink.tells g.T.LogSink.learnt c.args.trace.now c.draw_told.new.log in
-    drawn_answer c.args.station.now.graph c.args.station.now.order c.args.asked.now met traced None c.draw_told.result (sym (ap (λ (j : Job). j.log) c.asked.view_is) ∙ c.in-None.is)
-    c.draw_told.ensures.answer
+pub returns-clause-leaves : goal.returns-clause-leaves
+returns-clause-leaves g c =
+    let at = files_at {Self = g.row.F.Denot} g.F.Files.contents g.F.Files.read_faults g.F.Files.write_faults g.F.Files.reads in
+    let traced = told_to {Self = g.row.T.Denot} g.T.LogSink.tells g.T.LogSink.learnt c.args.trace.now c.search_told.new.trace in
+    let old = at c.args.files.now in
+    let mid = at c.search_told.new.files in
+    let new = at c.write_found.new.files in
+    let asked = c.args.asked.now in
+    let searched = c.in_ok-outcome.ensures.searched in
+    leaves_drawn old.contents mid.contents new.contents asked.log asked.svg c.requires.apart c.search_told.ensures.leaves (whole_log asked.log old mid traced searched.lines c.search_told.ensures.leaves searched.told)
+    (subst (λ (named : Option (List ℕ)). WhereTold mid.contents new.contents (LeavesFiles (picture_output named) ⊥)) (ap (λ (j : Job). j.svg) c.asked.view_is) c.write_found.ensures.leaves)
+
+pub returns-clause-answer : goal.returns-clause-answer
+returns-clause-answer g c =
+    let at = files_at {Self = g.row.F.Denot} g.F.Files.contents g.F.Files.read_faults g.F.Files.write_faults g.F.Files.reads in
+    let traced = told_to {Self = g.row.T.Denot} g.T.LogSink.tells g.T.LogSink.learnt c.args.trace.now c.search_told.new.trace in
+    let old = at c.args.files.now in
+    let mid = at c.search_told.new.files in
+    let new = at c.write_found.new.files in
+    let graph = c.args.station.now.graph in
+    let asked = c.args.asked.now in
+    let outcome = c.in_ok-outcome.outcome in
+    let reply = c.in_ok-sheet_reply.ensures in
+    let is_svg = ap (λ (j : Job). j.svg) c.asked.view_is in
+    drawn_answer graph c.args.station.now.order asked old mid new traced outcome _ _ c.requires.apart c.in_ok-outcome.ensures.searched c.search_told.ensures.leaves
+    (subst (λ (named : Option (List ℕ)). WhereTold mid.contents new.contents (LeavesFiles (picture_output named) ⊥)) is_svg c.write_found.ensures.leaves)
+    (subst (λ (named : Option (List ℕ)). IsPictured named (between mid new) graph (found_by outcome)) is_svg c.in_ok-write_found.ensures.pictured) reply.read reply.short reply.status_is reply.spelled

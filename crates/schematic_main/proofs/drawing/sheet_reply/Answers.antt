@@ -1,7 +1,3 @@
-use Rattle.std.proofs.Common.{subst}
-use Rattle.plan_text.specs.SheetText.{Sheet, sheet_text}
-use Rattle.plan_text.specs.SheetFaults.{IsSheetText}
-use Rattle.std.specs.Prelude.{false}
 use Rattle.schematic_main.proofs.DrawnLemmas.{ended_sheet}
 use Rattle.schematic_main.proofs.drawing.sheet_reply.Goals as goal
 

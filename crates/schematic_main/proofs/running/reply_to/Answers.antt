@@ -1,5 +1,5 @@
-use Rattle.std.specs.Prelude.{IfOk, IsOkAnd}
-use Rattle.std.proofs.Common.{subst, length, refl, inl, inr}
+use Rattle.std.specs.Prelude.{IsOkAnd}
+use Rattle.std.proofs.Common.{subst, length, inl, inr}
 use Rattle.std.proofs.lemmas.Result.{IfOk-weaker}
 use Rattle.plan_words.specs.declared.command.Command.{Command}
 use Rattle.plan_words.specs.Arguments.{texts_of}
@@ -7,8 +7,11 @@ use Rattle.plan_words.proofs.AnswerLemmas.{command_same}
 use Rattle.schematic_main.specs.Status.{IsAnswered}
 use Rattle.schematic_main.specs.Met.{met_on, ReadsInputs}
 use Rattle.schematic_main.specs.Commands.{inputs_of}
-use Rattle.schematic_main.proofs.LeavesLemmas.{leaves_asked}
+use Rattle.schematic_main.proofs.LeavesLemmas.{asked_apart, leaves_asked}
 use Rattle.schematic_main.proofs.running.reply_to.Goals as goal
+
+pub answer_to-requires : goal.answer_to-requires
+answer_to-requires g c = record { apart = asked_apart (texts_of c.args.words.now) c.in-Ok.command c.in-Ok.ensures.value }
 
 pub returns-in-Ok-clause-answer : goal.returns-in-Ok-clause-answer
 returns-in-Ok-clause-answer g c = IfOk-weaker c.answer_to.result _ _ (λ r owes. inl (c.in-Ok.command, c.in-Ok.ensures.value, owes)) c.answer_to.ensures.answer

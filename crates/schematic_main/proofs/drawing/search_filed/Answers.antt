@@ -2,39 +2,40 @@ use Rattle.std.proofs.Common.{rules, ◌≡◌, ◌⊎◌, ℕ, List, ◌∙◌,
 use Rattle.outside_io.specs.Contents.{WhereTold, SameElsewhere, Sets, MaySet}
 use Rattle.outside_io.specs.Counts.{Rose}
 use Rattle.refute_log.specs.Lines.{header}
-use Rattle.refute_log.specs.Told.{Lines}
 use Rattle.refute_log.specs.FileLog.{FileBeginsLog}
 use Rattle.schematic_main.specs.SearchLog.{HoldsLog}
-use Rattle.schematic_main.proofs.DrawnLemmas.{drawn_told_so}
 use Rattle.schematic_main.proofs.FiledLemmas.{at_end, filed_cause, filed_holds, filed_others, filed_begun, left_begun, others_unstarted, begun_unstarted}
-use Rattle.schematic_main.proofs.drawing.draw_filed.Goals as goal
+use Rattle.schematic_main.proofs.drawing.search_filed.Goals as goal
 
-pub returns-in-Ok-finish-clause-answer : goal.returns-in-Ok-finish-clause-answer
-returns-in-Ok-finish-clause-answer g c =
+pub returns-in-Ok-finish-clause-searched : goal.returns-in-Ok-finish-clause-searched
+returns-in-Ok-finish-clause-searched g c =
     let at = g.F.Files.contents in
     let old = at c.args.files.now in
     let mid = at c.in-Ok.log.files.now in
-    let after = at c.draw_told.new.log.files.now in
+    let after = at c.search.new.log.files.now in
     let name = c.args.name.now in
-    let later = c.draw_told.ensures.later in
+    let later = c.search.ensures.later in
+    let searched = c.in-Ok-search.ensures.searched in
     let created = subst (λ (n : List ℕ). WhereTold old mid (Sets n header)) c.as_str.ensures c.in-Ok.ensures.created in
-    drawn_told_so c.args.station.now.graph c.args.station.now.order c.args.asked.now _ _ c.in-Ok-draw_told.reply.status c.in-Ok-draw_told.reply.text.items
-    (λ (lines : Lines) told.
-    at_end {X = g.row.F.Denot} (λ s. HoldsLog old (at s) name lines) c.finish.new.self.0 _
-    (filed_holds old mid after (at c.finish.new.self.0) name c.in-Ok.log.kept c.draw_told.new.log.kept lines created c.in-Ok.ensures.tells (c.in-Ok.ensures.name ∙ c.as_str.ensures) later.1 later.2
-    told.behind c.finish.ensures.others c.in-Ok-finish.ensures.text)
-    (search rules))
-    c.in-Ok-draw_told.ensures.answer
+    record {
+      lines = searched.lines;
+      told =
+          at_end {X = g.row.F.Denot} (λ s. HoldsLog old (at s) name searched.lines) c.finish.new.self.0 _
+          (filed_holds old mid after (at c.finish.new.self.0) name c.in-Ok.log.kept c.search.new.log.kept searched.lines created c.in-Ok.ensures.tells (c.in-Ok.ensures.name ∙ c.as_str.ensures) later.1 later.2
+          searched.told.behind c.finish.ensures.others c.in-Ok-finish.ensures.text)
+          (search rules);
+      ended = searched.ended;
+    }
 
 pub returns-in-Ok-finish-clause-others : goal.returns-in-Ok-finish-clause-others
 returns-in-Ok-finish-clause-others g c =
     let at = g.F.Files.contents in
     let old = at c.args.files.now in
     let mid = at c.in-Ok.log.files.now in
-    let later = c.draw_told.ensures.later in
+    let later = c.search.ensures.later in
     let created = subst (λ (n : List ℕ). WhereTold old mid (Sets n header)) c.as_str.ensures c.in-Ok.ensures.created in
     at_end {X = g.row.F.Denot} (λ s. WhereTold old (at s) (SameElsewhere c.args.name.now)) c.finish.new.self.0 _
-    (filed_others old mid (at c.draw_told.new.log.files.now) (at c.finish.new.self.0) c.args.name.now c.in-Ok.log.kept c.draw_told.new.log.kept created (c.in-Ok.ensures.name ∙ c.as_str.ensures) later.1
+    (filed_others old mid (at c.search.new.log.files.now) (at c.finish.new.self.0) c.args.name.now c.in-Ok.log.kept c.search.new.log.kept created (c.in-Ok.ensures.name ∙ c.as_str.ensures) later.1
     later.2 c.finish.ensures.others)
     (search rules)
 
@@ -43,9 +44,9 @@ returns-in-Ok-finish-clause-begun g c =
     let at = g.F.Files.contents in
     let old = at c.args.files.now in
     let name = c.args.name.now in
-    let later = c.draw_told.ensures.later in
+    let later = c.search.ensures.later in
     at_end {X = g.row.F.Denot} (λ s. WhereTold old (at s) (λ x y. (y name ≡ x name) ⊎ FileBeginsLog y name)) c.finish.new.self.0 _
-    (filed_begun old (at c.in-Ok.log.files.now) (at c.draw_told.new.log.files.now) (at c.finish.new.self.0) name c.in-Ok.log.kept c.draw_told.new.log.kept c.in-Ok.ensures.keeps
+    (filed_begun old (at c.in-Ok.log.files.now) (at c.search.new.log.files.now) (at c.finish.new.self.0) name c.in-Ok.log.kept c.search.new.log.kept c.in-Ok.ensures.keeps
     (c.in-Ok.ensures.name ∙ c.as_str.ensures) later.1 later.3 c.finish.ensures.begins)
     (search rules)
 
@@ -54,10 +55,10 @@ returns-in-Err-finish-clause-others g c =
     let at = g.F.Files.contents in
     let old = at c.args.files.now in
     let mid = at c.in-Ok.log.files.now in
-    let later = c.draw_told.ensures.later in
+    let later = c.search.ensures.later in
     let created = subst (λ (n : List ℕ). WhereTold old mid (Sets n header)) c.as_str.ensures c.in-Ok.ensures.created in
     at_end {X = g.row.F.Denot} (λ s. WhereTold old (at s) (SameElsewhere c.args.name.now)) c.finish.new.self.0 _
-    (filed_others old mid (at c.draw_told.new.log.files.now) (at c.finish.new.self.0) c.args.name.now c.in-Ok.log.kept c.draw_told.new.log.kept created (c.in-Ok.ensures.name ∙ c.as_str.ensures) later.1
+    (filed_others old mid (at c.search.new.log.files.now) (at c.finish.new.self.0) c.args.name.now c.in-Ok.log.kept c.search.new.log.kept created (c.in-Ok.ensures.name ∙ c.as_str.ensures) later.1
     later.2 c.finish.ensures.others)
     (search rules)
 
@@ -65,8 +66,8 @@ pub returns-in-Err-finish-clause-cause : goal.returns-in-Err-finish-clause-cause
 returns-in-Err-finish-clause-cause g c = λ unwritten.
     let faults = g.F.Files.write_faults in
     at_end {X = g.row.F.Denot} (λ s. Rose (faults c.args.files.now) (faults s)) c.finish.new.self.0 _
-    (filed_cause c.in-Err-finish.fault c.cut_of.result (faults c.args.files.now) (faults c.in-Ok.log.files.now) (faults c.draw_told.new.log.files.now) (faults c.finish.new.self.0) c.cut_of.ensures unwritten
-    c.in-Ok.ensures.faults c.draw_told.ensures.faults c.in-Err-finish.ensures.cause)
+    (filed_cause c.in-Err-finish.fault c.cut_of.result (faults c.args.files.now) (faults c.in-Ok.log.files.now) (faults c.search.new.log.files.now) (faults c.finish.new.self.0) c.cut_of.ensures unwritten
+    c.in-Ok.ensures.faults c.search.ensures.faults c.in-Err-finish.ensures.cause)
     (search rules)
 
 pub returns-in-Err-finish-clause-begun : goal.returns-in-Err-finish-clause-begun
@@ -74,20 +75,20 @@ returns-in-Err-finish-clause-begun g c =
     let at = g.F.Files.contents in
     let old = at c.args.files.now in
     let name = c.args.name.now in
-    let later = c.draw_told.ensures.later in
+    let later = c.search.ensures.later in
     at_end {X = g.row.F.Denot} (λ s. WhereTold old (at s) (λ x y. (y name ≡ x name) ⊎ FileBeginsLog y name)) c.finish.new.self.0 _
-    (filed_begun old (at c.in-Ok.log.files.now) (at c.draw_told.new.log.files.now) (at c.finish.new.self.0) name c.in-Ok.log.kept c.draw_told.new.log.kept c.in-Ok.ensures.keeps
+    (filed_begun old (at c.in-Ok.log.files.now) (at c.search.new.log.files.now) (at c.finish.new.self.0) name c.in-Ok.log.kept c.search.new.log.kept c.in-Ok.ensures.keeps
     (c.in-Ok.ensures.name ∙ c.as_str.ensures) later.1 later.3 c.finish.ensures.begins)
     (search rules)
 
-pub returns-in-Err-draw_told-clause-begun : goal.returns-in-Err-draw_told-clause-begun
-returns-in-Err-draw_told-clause-begun g c =
+pub returns-in-Err-search-clause-begun : goal.returns-in-Err-search-clause-begun
+returns-in-Err-search-clause-begun g c =
     let at = g.F.Files.contents in
     let old = at c.args.files.now in
     let name = c.args.name.now in
-    let later = c.draw_told.ensures.later in
-    at_end {X = g.row.F.Denot} (λ s. WhereTold old (at s) (λ x y. (y name ≡ x name) ⊎ FileBeginsLog y name)) c.draw_told.new.log.files.now _
-    (left_begun old (at c.in-Ok.log.files.now) (at c.draw_told.new.log.files.now) name c.in-Ok.log.kept c.draw_told.new.log.kept c.in-Ok.ensures.keeps (c.in-Ok.ensures.name ∙ c.as_str.ensures) later.1
+    let later = c.search.ensures.later in
+    at_end {X = g.row.F.Denot} (λ s. WhereTold old (at s) (λ x y. (y name ≡ x name) ⊎ FileBeginsLog y name)) c.search.new.log.files.now _
+    (left_begun old (at c.in-Ok.log.files.now) (at c.search.new.log.files.now) name c.in-Ok.log.kept c.search.new.log.kept c.in-Ok.ensures.keeps (c.in-Ok.ensures.name ∙ c.as_str.ensures) later.1
     later.3)
     (search rules)
 
