@@ -39,7 +39,7 @@ use Rattle.schematic_main.specs.Checked.{IsFoundBroken, IsClaimJudged, IsChecked
 use Rattle.schematic_main.specs.Drawn.{Job, job, status_of, IsDrawAnswer}
 use Rattle.schematic_main.specs.Tried.{IsTried}
 use Rattle.schematic_main.specs.Commands.{Owes, ends_of, HasSoundFile, AreSound}
-use Rattle.schematic_main.specs.Run.{Asks, IsDue, FailsIn}
+use Rattle.schematic_main.specs.Run.{Asks, IsAnswerDue, FailsIn}
 use Rattle.schematic_main.proofs.StatusLemmas.{on_outcome}
 use Rattle.schematic_main.proofs.SoundLog.{sound_log}
 
@@ -139,19 +139,19 @@ on_command P (Check input sheet log) met traced status text owed unread owes =
 on_command P (Make n) met traced status text owed unread made = subst P (sym made.status_is) owed.done
 on_command P (Trial n) met traced status text owed unread owes = on_file P (IsTried n traced) (station_text n) status text owed.refused (λ g o. on_trial P n traced g o status text owed) owes
 
-on_due : (P : Status → Type 0) (words : List (List ℕ)) (met : Met) (traced : Lines → Type 0) (status : Status) (text : List ℕ) → OfOwed P → (Asks words (λ command. FailsIn command met) → P Unread) → IsDue words met traced status text → P status
+on_due : (P : Status → Type 0) (words : List (List ℕ)) (met : Met) (traced : Lines → Type 0) (status : Status) (text : List ℕ) → OfOwed P → (Asks words (λ command. FailsIn command met) → P Unread) → IsAnswerDue words met traced status text → P status
 on_due P words met traced status text owed unread (inl (command, asked, owes)) =
     on_command P command met traced status text owed (λ fails. unread (command, asked, fails)) owes
 on_due P words met traced status text owed unread (inr r) = subst P (sym r.told.status_is) owed.words_refused
 
 -- what is due isn't cut short
-pub due_is_whole : (words : List (List ℕ)) (met : Met) (traced : Lines → Type 0) (status : Status) (text : List ℕ) → IsDue words met traced status text → IsCutShort status → ⊥
+pub due_is_whole : (words : List (List ℕ)) (met : Met) (traced : Lines → Type 0) (status : Status) (text : List ℕ) → IsAnswerDue words met traced status text → IsCutShort status → ⊥
 due_is_whole words met traced status text =
     let owed : OfOwed (λ s. IsCutShort s → ⊥) = record { done = λ h. h; refused = λ h. h; words_refused = λ h. h; none = λ h. h; unfinished = λ h. h; broken = λ h. h } in
     on_due (λ s. IsCutShort s → ⊥) words met traced status text owed (λ fails. λ h. h)
 
 -- one that says so comes of a read that failed
-pub due_unread : (words : List (List ℕ)) (met : Met) (traced : Lines → Type 0) (status : Status) (text : List ℕ) → IsDue words met traced status text → status ≡ Unread → Asks words (λ command. FailsIn command met)
+pub due_unread : (words : List (List ℕ)) (met : Met) (traced : Lines → Type 0) (status : Status) (text : List ℕ) → IsAnswerDue words met traced status text → status ≡ Unread → Asks words (λ command. FailsIn command met)
 due_unread words met traced status text =
     let owed : OfOwed (λ s. s ≡ Unread → Asks words (λ command. FailsIn command met)) =
     record { done = λ is. absurd (cc); refused = λ is. absurd (cc); words_refused = λ is. absurd (cc); none = λ is. absurd (cc); unfinished = λ is. absurd (cc); broken = λ is. absurd (cc) }
@@ -263,7 +263,7 @@ sound_ends (Trial n) met traced status text sound read owes =
     outcome_status found.3.outcome status found.3.status_is
 
 -- so do words that ask for it
-pub due_ends : (words : List (List ℕ)) (command : Command) (met : Met) (traced : Lines → Type 0) (status : Status) (text : List ℕ) → IsCommandOf words command → AreSound command met.before.contents → (FailsIn command met → ⊥) → IsDue words met traced status text → ends_of command status
+pub due_ends : (words : List (List ℕ)) (command : Command) (met : Met) (traced : Lines → Type 0) (status : Status) (text : List ℕ) → IsCommandOf words command → AreSound command met.before.contents → (FailsIn command met → ⊥) → IsAnswerDue words met traced status text → ends_of command status
 due_ends words command met traced status text asked sound read (inl (found, also, owes)) =
     let same : found ≡ command = command_same words found command also asked in
     sound_ends command met traced status text sound read (subst (λ (c : Command). Owes c met traced status text) same owes)

@@ -9,7 +9,7 @@ use Rattle.plan_words.specs.declared.command.Command.TheVariants.{Draw, Verify, 
 use Rattle.plan_words.specs.Words.{IsCommandOf}
 use Rattle.plan_words.proofs.AnswerLemmas.{command_same, outputs_apart}
 use Rattle.refute_log.specs.FileLog.{FileBeginsLog}
-use Rattle.schematic_main.specs.Commands.{OutputFile, OutputKind, LogOutput, BeginsOutput, IsWholeOutput, outputs_of, log_file, log_output, picture_file, picture_output, AreApart, Writes, WritesTo, AreBegun, AreInTurn, LeavesFiles}
+use Rattle.schematic_main.specs.Commands.{OutputFile, OutputKind, LogOutput, BeginsOutput, IsWholeOutput, outputs_of, log_file, log_output, picture_file, picture_output, AreFilesApart, Writes, WritesTo, AreBegun, AreInTurn, LeavesFiles}
 use Rattle.schematic_main.specs.Run.{Leaves}
 
 -- what holds of two steps in turn, where contents are told
@@ -157,7 +157,7 @@ no_file : (name : List ℕ) → Writes [] name → ⊥
 no_file name (k, output, within, is, holds) = omega (arith, within)
 
 -- the two have two names
-names_apart : (log svg : Option (List ℕ)) → AreApart (log_output log ++ picture_output svg) → (name : List ℕ) → Writes (log_output log) name → Writes (picture_output svg) name → ⊥
+names_apart : (log svg : Option (List ℕ)) → AreFilesApart (log_output log ++ picture_output svg) → (name : List ℕ) → Writes (log_output log) name → Writes (picture_output svg) name → ⊥
 names_apart None svg apart name front back = no_file name front
 names_apart (Some l) None apart name front back = no_file name back
 names_apart (Some l) (Some p) apart name front back =
@@ -166,10 +166,10 @@ names_apart (Some l) (Some p) apart name front back =
     apart 0 1 (log_file l) (lit< tt) (lit< tt) (same ∙ sym also)
 
 -- the log's file stands as it stood where a picture was written, and the picture's where a log was
-pub log_stands : (b c : Told) (name : List ℕ) (svg : Option (List ℕ)) → AreApart (log_output (Some name) ++ picture_output svg) → LeavesFiles (picture_output svg) ⊥ b c → c name ≡ b name
+pub log_stands : (b c : Told) (name : List ℕ) (svg : Option (List ℕ)) → AreFilesApart (log_output (Some name) ++ picture_output svg) → LeavesFiles (picture_output svg) ⊥ b c → c name ≡ b name
 log_stands b c name svg apart second = second.others name (inr (names_apart (Some name) svg apart name (written (λ kind. ⊤) (log_file name) name refl tt)))
 
-pub picture_stands : (a b : Told) (log : Option (List ℕ)) (name : List ℕ) → AreApart (log_output log ++ picture_output (Some name)) → LeavesFiles (log_output log) ⊥ a b → b name ≡ a name
+pub picture_stands : (a b : Told) (log : Option (List ℕ)) (name : List ℕ) → AreFilesApart (log_output log ++ picture_output (Some name)) → LeavesFiles (log_output log) ⊥ a b → b name ≡ a name
 picture_stands a b log name apart first = first.others name (inr (λ front. names_apart log (Some name) apart name front (written (λ kind. ⊤) (picture_file name) name refl tt)))
 
 -- where a log is named, its file has the text of some lines
@@ -181,11 +181,11 @@ last_in_turn : (svg : Option (List ℕ)) (a b : Told) → AreInTurn (picture_out
 last_in_turn None a b = tt
 last_in_turn (Some name) a b = (inr (All-nil (λ later. b later.name ≡ a later.name)), tt)
 
-turn_pictured : (a b c : Told) (log svg : Option (List ℕ)) → AreApart (log_output log ++ picture_output svg) → HasWholeLog log b → LeavesFiles (picture_output svg) ⊥ b c → AreInTurn (log_output log ++ picture_output svg) a c
+turn_pictured : (a b c : Told) (log svg : Option (List ℕ)) → AreFilesApart (log_output log ++ picture_output svg) → HasWholeLog log b → LeavesFiles (picture_output svg) ⊥ b c → AreInTurn (log_output log ++ picture_output svg) a c
 turn_pictured a b c None svg apart whole second = last_in_turn svg a c
 turn_pictured a b c (Some l) svg apart whole second = (inl (whole.0, log_stands b c l svg apart second ∙ whole.1, whole.2), last_in_turn svg a c)
 
-turn_unpictured : (a b : Told) (log svg : Option (List ℕ)) → AreApart (log_output log ++ picture_output svg) → LeavesFiles (log_output log) ⊥ a b → AreInTurn (log_output log ++ picture_output svg) a b
+turn_unpictured : (a b : Told) (log svg : Option (List ℕ)) → AreFilesApart (log_output log ++ picture_output svg) → LeavesFiles (log_output log) ⊥ a b → AreInTurn (log_output log ++ picture_output svg) a b
 turn_unpictured a b None svg apart first = last_in_turn svg a b
 turn_unpictured a b (Some l) None apart first = (inr (All-nil (λ later. b later.name ≡ a later.name)), tt)
 turn_unpictured a b (Some l) (Some p) apart first =
@@ -193,7 +193,7 @@ turn_unpictured a b (Some l) (Some p) apart first =
     (inr (All-cons Stands (picture_file p) [] (picture_stands a b (Some l) p apart first) (All-nil Stands)), last_in_turn (Some p) a b)
 
 -- so a drawing leaves both as they are to be, where the log is whole before the picture is begun
-pub leaves_drawn : (old mid new : Option Told) (log svg : Option (List ℕ)) → AreApart (log_output log ++ picture_output svg) → WhereTold old mid (LeavesFiles (log_output log) ⊥) → WhereTold old mid (λ _ b. HasWholeLog log b) →
+pub leaves_drawn : (old mid new : Option Told) (log svg : Option (List ℕ)) → AreFilesApart (log_output log ++ picture_output svg) → WhereTold old mid (LeavesFiles (log_output log) ⊥) → WhereTold old mid (λ _ b. HasWholeLog log b) →
     WhereTold mid new (LeavesFiles (picture_output svg) ⊥) → WhereTold old new (LeavesFiles (log_output log ++ picture_output svg) ⊥)
 leaves_drawn None mid new log svg apart first whole second = tt
 leaves_drawn (Some a) None new log svg apart first whole second = absurd first
@@ -202,7 +202,7 @@ leaves_drawn (Some a) (Some b) (Some c) log svg apart first whole second =
     leaves_both a b c (log_output log) (picture_output svg) (names_apart log svg apart) first second (turn_pictured a b c log svg apart whole second)
 
 -- or where no picture is
-pub leaves_unpictured : (old new : Option Told) (log svg : Option (List ℕ)) → AreApart (log_output log ++ picture_output svg) → WhereTold old new (LeavesFiles (log_output log) ⊥) →
+pub leaves_unpictured : (old new : Option Told) (log svg : Option (List ℕ)) → AreFilesApart (log_output log ++ picture_output svg) → WhereTold old new (LeavesFiles (log_output log) ⊥) →
     WhereTold old new (LeavesFiles (log_output log ++ picture_output svg) ⊥)
 leaves_unpictured None new log svg apart first = tt
 leaves_unpictured (Some a) None log svg apart first = absurd first
@@ -242,13 +242,13 @@ leaves_fewer words (Some a) (Some b) Refused Fewer weaker leaves = record {
 }
 
 -- the files that a command writes have two names
-two_apart : (l p : List ℕ) → l ≢ p → AreApart (log_file l ∷ picture_file p ∷ [])
+two_apart : (l p : List ℕ) → l ≢ p → AreFilesApart (log_file l ∷ picture_file p ∷ [])
 two_apart l p apart zero zero d before within = absurd (omega (arith, before))
 two_apart l p apart zero (suc zero) d before within = apart
 two_apart l p apart zero (suc (suc j)) d before within = absurd (omega (arith, within))
 two_apart l p apart (suc i) j d before within = absurd (omega (arith, before, within))
 
-pub asked_apart : (words : List (List ℕ)) (command : Command) → IsCommandOf words command → AreApart (outputs_of command)
+pub asked_apart : (words : List (List ℕ)) (command : Command) → IsCommandOf words command → AreFilesApart (outputs_of command)
 asked_apart words (Draw input grid order budget None None) asked = λ i j d before within. absurd (omega (arith, within))
 asked_apart words (Draw input grid order budget None (Some l)) asked = λ i j d before within. absurd (omega (arith, before, within))
 asked_apart words (Draw input grid order budget (Some p) None) asked = λ i j d before within. absurd (omega (arith, before, within))

@@ -1,6 +1,6 @@
 -- How many reads there were, and what is met by two reads in turn.
 use Rattle.std.proofs.Common.{◌≡◌, ℕ, zero, suc, ◌≤◌, refl, ◌∙◌, ap, arith}
-use Rattle.std.specs.Prelude.{Result, Ok, Err, OnOk, OnErr}
+use Rattle.std.specs.Prelude.{Result, Ok, Err, OnOk}
 use Rattle.outside_io.specs.Counts.{next_count, rose_by}
 use Rattle.schematic_main.specs.Met.{FilesAt, Met, between, HasRead, ReadFails, ReadsInputs}
 
@@ -12,10 +12,6 @@ rose_by-next (suc more) n = ap next_count (rose_by-next more n)
 pub on_ok : {T E : Type 0} (r : Result T E) (P : Type 0) → P → OnOk r P
 on_ok (Ok x) P holds = holds
 on_ok (Err e) P holds = tt
-
-pub on_err : {T E : Type 0} (r : Result T E) (P : Type 0) → P → OnErr r P
-on_err (Ok x) P holds = tt
-on_err (Err e) P holds = holds
 
 -- nothing was read
 pub reads_none : (inputs : ℕ) (All : Type 0) (met : Met) → (All → 0 ≡ inputs) → met.after.reads ≡ met.before.reads → ReadsInputs inputs All met

@@ -21,7 +21,7 @@ use Rattle.schematic_main.specs.Input.{IsShort}
 use Rattle.schematic_main.specs.Pictured.{BeginsPicture, IsPictured}
 use Rattle.schematic_main.specs.SearchLog.{IsLogFile, IsLogOf}
 use Rattle.schematic_main.specs.Drawn.{Job, sheet_of, found_by, status_of, HasSearched, IsDrawAnswer}
-use Rattle.schematic_main.specs.Commands.{picture_file, log_output, picture_output, AreApart, LeavesFiles}
+use Rattle.schematic_main.specs.Commands.{picture_file, log_output, picture_output, AreFilesApart, LeavesFiles}
 use Rattle.schematic_main.specs.Run.{FailsToWrite}
 use Rattle.schematic_main.proofs.LeavesLemmas.{told_then, told_so, left_begun_alone, log_stands, picture_stands, HasWholeLog}
 use Rattle.schematic_main.proofs.PassesLemmas.{ended_passes}
@@ -78,7 +78,7 @@ pub named_same : (named : Option (List ℕ)) (a b : Told) → SameFiles a b → 
 named_same None a b same = tt
 named_same (Some name) a b same = same name
 
-named_stands : (log svg : Option (List ℕ)) (a b : Told) → AreApart (log_output log ++ picture_output svg) → LeavesFiles (log_output log) ⊥ a b → StandsWhereNamed svg a b
+named_stands : (log svg : Option (List ℕ)) (a b : Told) → AreFilesApart (log_output log ++ picture_output svg) → LeavesFiles (log_output log) ⊥ a b → StandsWhereNamed svg a b
 named_stands log None a b apart first = tt
 named_stands log (Some name) a b apart first = picture_stands a b log name apart first
 
@@ -99,7 +99,7 @@ whole_log (Some name) old mid traced lines leaves told =
     told_so (λ _ b. IsLogFile name lines b) (λ _ b. HasWholeLog (Some name) b) old.contents mid.contents (λ a b file. (_, file.text, (lines, refl, file.formed))) told
 
 -- and stays so
-log_stays : (log svg : Option (List ℕ)) (old mid new : FilesAt) (traced : Lines → Type 0) (lines : Lines) → AreApart (log_output log ++ picture_output svg) → WhereTold mid.contents new.contents (LeavesFiles (picture_output svg) ⊥) →
+log_stays : (log svg : Option (List ℕ)) (old mid new : FilesAt) (traced : Lines → Type 0) (lines : Lines) → AreFilesApart (log_output log ++ picture_output svg) → WhereTold mid.contents new.contents (LeavesFiles (picture_output svg) ⊥) →
     IsLogOf log (between old mid) traced lines → IsLogOf log (between old new) traced lines
 log_stays None svg old mid new traced lines apart leaves told = told
 log_stays (Some name) svg old mid new traced lines apart leaves told =
@@ -108,7 +108,7 @@ log_stays (Some name) svg old mid new traced lines apart leaves told =
 
 -- ---- what draw answers
 
-pub drawn_answer : (g : Graph) (o : EdgeOrder) (asked : Job) (old mid new : FilesAt) (traced : Lines → Type 0) (outcome : Outcome) (status : Status) (text : List ℕ) → AreApart (log_output asked.log ++ picture_output asked.svg) →
+pub drawn_answer : (g : Graph) (o : EdgeOrder) (asked : Job) (old mid new : FilesAt) (traced : Lines → Type 0) (outcome : Outcome) (status : Status) (text : List ℕ) → AreFilesApart (log_output asked.log ++ picture_output asked.svg) →
     HasSearched g o asked (IsLogOf asked.log (between old mid) traced) outcome → WhereTold old.contents mid.contents (LeavesFiles (log_output asked.log) ⊥) → WhereTold mid.contents new.contents (LeavesFiles (picture_output asked.svg) ⊥) →
     IsPictured asked.svg (between mid new) g (found_by outcome) → IsSheetText g false (sheet_text g (sheet_of asked outcome)) (sheet_of asked outcome) → IsShort MAX_FILE_BYTES (sheet_text g (sheet_of asked outcome)) →
     status ≡ status_of outcome → text ≡ sheet_text g (sheet_of asked outcome) → IsDrawAnswer asked (between old new) traced g o status text

@@ -75,8 +75,8 @@ outputs_of (Make n) = []
 outputs_of (Trial n) = []
 
 -- no two of the files have one name
-abbrev pub AreApart : List OutputFile → Type 0
-AreApart outputs = AllPairs (λ a b. a.name ≢ b.name) outputs
+abbrev pub AreFilesApart : List OutputFile → Type 0
+AreFilesApart outputs = AllPairs (λ a b. a.name ≢ b.name) outputs
 
 -- the bytes begin what stands in such a file, as those of one do that isn't written whole
 abbrev pub BeginsOutput : OutputKind → List ℕ → Type 0

@@ -32,8 +32,8 @@ pub record IsWordsAnswer (words : List (List ℕ)) (status : Status) (text : Lis
   pub told : IsFaultLine (Words what position) status text
 
 -- this is due where the words ask for it, the run met this, and the trace was told this
-abbrev pub IsDue : List (List ℕ) → Met → (traced : Lines → Type 0) → Status → List ℕ → Type 0
-IsDue words met traced status text = Asks words (λ command. Owes command met traced status text) ⊎ IsWordsAnswer words status text
+abbrev pub IsAnswerDue : List (List ℕ) → Met → (traced : Lines → Type 0) → Status → List ℕ → Type 0
+IsAnswerDue words met traced status text = Asks words (λ command. Owes command met traced status text) ⊎ IsWordsAnswer words status text
 
 -- a whole text with this property was given
 abbrev pub GivenAll : Option (List ℕ) → Option (List ℕ) → (List ℕ → Type 0) → Type 0
@@ -60,14 +60,14 @@ abbrev pub WritesNothing : List (List ℕ) → Type 0
 WritesNothing words = WhereAsked words (λ command. outputs_of command ≡ [])
 
 -- the words name this file to be written
-abbrev pub IsNamed : List (List ℕ) → List ℕ → Type 0
-IsNamed words name = Asks words (λ command. Writes (outputs_of command) name)
+abbrev pub IsNamedForWriting : List (List ℕ) → List ℕ → Type 0
+IsNamedForWriting words name = Asks words (λ command. Writes (outputs_of command) name)
 
 -- each file stands as it stood that the words don't name to be written, and where the run was refused every one; and each
 -- that they name begins what is to stand there, or stands as it stood, and isn't begun before the one in front of it is
 -- whole: what their command leaves, and for words with a fault nothing is changed
 pub record Leaves (words : List (List ℕ)) (Refused : Type 0) (before after : Told) : Type 0 where
-  pub others : (name : List ℕ) → Refused ⊎ (IsNamed words name → ⊥) → after name ≡ before name
+  pub others : (name : List ℕ) → Refused ⊎ (IsNamedForWriting words name → ⊥) → after name ≡ before name
   pub begun : WhereAsked words (λ command. AreBegun (outputs_of command) before after)
   pub in_turn : WhereAsked words (λ command. AreInTurn (outputs_of command) before after)
 

@@ -8,7 +8,7 @@ ghost use Rattle.schematic_main.specs.Met.{met_on, ReadsInputs, IsUnread, IsUnwr
 ghost use Rattle.schematic_main.specs.Answer.{IsPrinted, IsFileJudged, text_input, IsAnswerAfter, IsAnswerOn};
 ghost use Rattle.refute_log.specs.ToldTo.{told_to};
 ghost use Rattle.schematic_main.specs.Drawn.{IsDrawAnswer};
-ghost use Rattle.schematic_main.specs.Commands.{AreApart, inputs_of, outputs_of, log_output, picture_output, TellsTrace, Owes, LeavesFiles};
+ghost use Rattle.schematic_main.specs.Commands.{AreFilesApart, inputs_of, outputs_of, log_output, picture_output, TellsTrace, Owes, LeavesFiles};
 ghost use Rattle.schematic_main.specs.Run.{FailsToWrite, CommandFailsToWrite};
 
 use crate::checking::check;
@@ -47,7 +47,7 @@ fn draw<F: Files, T: LogSink>(
     files: &mut F,
     trace: &mut T,
 ) -> Result<Reply, Cut>
-    requires apart { AreApart (log_output asked.now.log ++ picture_output asked.now.svg) }
+    requires apart { AreFilesApart (log_output asked.now.log ++ picture_output asked.now.svg) }
     ensures answer { IfOk result (λ r. IsAnswerOn (text_input 1 input.now) 0 (met_on F.contents F.read_faults F.write_faults F.reads files.old files.new) (IsAnswerAfter 1 (met_on F.contents F.read_faults F.write_faults F.reads files.old files.new) (IsFileJudged (IsDrawAnswer asked.now (met_on F.contents F.read_faults F.write_faults F.reads files.old files.new) (told_to T.tells T.learnt trace.old trace.new)))) r.status r.text.items) }
     ensures reads { ReadsInputs 1 (IsOkAnd result (λ r. IsAnswered r.status)) (met_on F.contents F.read_faults F.write_faults F.reads files.old files.new) }
     ensures unwritten { IsOkAnd result (λ r. IsRefused r.status) ⊎ (log_output asked.now.log ++ picture_output asked.now.svg ≡ []) → IsUnwritten (met_on F.contents F.read_faults F.write_faults F.reads files.old files.new) }
@@ -86,7 +86,7 @@ pub fn answer_to<F: Files, T: LogSink>(
     files: &mut F,
     trace: &mut T,
 ) -> Result<Reply, Cut>
-    requires apart { AreApart (outputs_of command.now) }
+    requires apart { AreFilesApart (outputs_of command.now) }
     ensures answer { IfOk result (λ r. Owes command.now (met_on F.contents F.read_faults F.write_faults F.reads files.old files.new) (told_to T.tells T.learnt trace.old trace.new) r.status r.text.items) }
     ensures reads { ReadsInputs (length (inputs_of command.now)) (IsOkAnd result (λ r. IsAnswered r.status)) (met_on F.contents F.read_faults F.write_faults F.reads files.old files.new) }
     ensures unread { inputs_of command.now ≡ [] → IsUnread (met_on F.contents F.read_faults F.write_faults F.reads files.old files.new) }

@@ -16,7 +16,7 @@ ghost use Rattle.schematic_main.specs.Input.{IsShort};
 ghost use Rattle.schematic_main.specs.Met.{met_on, IsUnwritten};
 ghost use Rattle.refute_log.specs.ToldTo.{told_to};
 ghost use Rattle.schematic_main.specs.SearchLog.{HoldsLog, IsLogOf};
-ghost use Rattle.schematic_main.specs.Commands.{AreApart, log_output, picture_output, LeavesFiles};
+ghost use Rattle.schematic_main.specs.Commands.{AreFilesApart, log_output, picture_output, LeavesFiles};
 ghost use Rattle.schematic_main.specs.Run.{FailsToWrite};
 ghost use Rattle.schematic_main.specs.Drawn.{sheet_with, sheet_of, status_of, HasSearched, IsDrawAnswer};
 
@@ -237,7 +237,7 @@ pub fn draw_station<F: Files, T: LogSink>(
     trace: &mut T,
 ) -> Result<Reply, Cut>
     requires order { IsOrderOf station.now.graph station.now.order }
-    requires apart { AreApart (log_output asked.now.log ++ picture_output asked.now.svg) }
+    requires apart { AreFilesApart (log_output asked.now.log ++ picture_output asked.now.svg) }
     ensures answer { IfOk result (λ r. IsDrawAnswer asked.now (met_on F.contents F.read_faults F.write_faults F.reads files.old files.new) (told_to T.tells T.learnt trace.old trace.new) station.now.graph station.now.order r.status r.text.items) }
     ensures read_faults { F.read_faults files.new ≡ F.read_faults files.old }
     ensures reads { F.reads files.new ≡ F.reads files.old }

@@ -7,7 +7,7 @@ ghost use Rattle.schematic_main.specs.Status.{IsAnswered, IsRefused, IsCutShort,
 ghost use Rattle.refute_log.specs.ToldTo.{told_to};
 ghost use Rattle.schematic_main.specs.Met.{met_on, ReadsInputs, IsUnread, IsUnwritten};
 ghost use Rattle.schematic_main.specs.Commands.{inputs_of, AreSound, ends_of};
-ghost use Rattle.schematic_main.specs.Run.{Asks, WhereAsked, IsDue, GivenAll, GivenPrefix, ReadsNothing, FailsIn, WritesNothing, Leaves, CommandFailsToWrite, WriteFails, TellsNothing};
+ghost use Rattle.schematic_main.specs.Run.{Asks, WhereAsked, IsAnswerDue, GivenAll, GivenPrefix, ReadsNothing, FailsIn, WritesNothing, Leaves, CommandFailsToWrite, WriteFails, TellsNothing};
 
 use crate::answers::answer_to;
 use crate::fault::RunFault;
@@ -25,7 +25,7 @@ fn reply_to<F: Files, T: LogSink>(
     files: &mut F,
     trace: &mut T,
 ) -> Result<Reply, Cut>
-    ensures answer { IfOk result (λ r. IsDue (texts_of words.now) (met_on F.contents F.read_faults F.write_faults F.reads files.old files.new) (told_to T.tells T.learnt trace.old trace.new) r.status r.text.items) }
+    ensures answer { IfOk result (λ r. IsAnswerDue (texts_of words.now) (met_on F.contents F.read_faults F.write_faults F.reads files.old files.new) (told_to T.tells T.learnt trace.old trace.new) r.status r.text.items) }
     ensures reads { WhereAsked (texts_of words.now) (λ command. ReadsInputs (length (inputs_of command)) (IsOkAnd result (λ r. IsAnswered r.status)) (met_on F.contents F.read_faults F.write_faults F.reads files.old files.new)) }
     ensures unread { ReadsNothing (texts_of words.now) → IsUnread (met_on F.contents F.read_faults F.write_faults F.reads files.old files.new) }
     ensures unwritten { IsOkAnd result (λ r. IsRefused r.status) ⊎ WritesNothing (texts_of words.now) → IsUnwritten (met_on F.contents F.read_faults F.write_faults F.reads files.old files.new) }
@@ -51,8 +51,8 @@ fn carry_out<F: Files, O: Sink, T: LogSink>(
     out: &mut O,
     trace: &mut T,
 ) -> Status
-    ensures answer { (IsCutShort result → ⊥) → GivenAll (O.given out.old) (O.given out.new) (IsDue (texts_of words.now) (met_on F.contents F.read_faults F.write_faults F.reads files.old files.new) (told_to T.tells T.learnt trace.old trace.new) result) }
-    ensures cut_short { IsCutShort result → GivenPrefix (O.given out.old) (O.given out.new) (λ text. (status : Status) × IsDue (texts_of words.now) (met_on F.contents F.read_faults F.write_faults F.reads files.old files.new) (told_to T.tells T.learnt trace.old trace.new) status text) }
+    ensures answer { (IsCutShort result → ⊥) → GivenAll (O.given out.old) (O.given out.new) (IsAnswerDue (texts_of words.now) (met_on F.contents F.read_faults F.write_faults F.reads files.old files.new) (told_to T.tells T.learnt trace.old trace.new) result) }
+    ensures cut_short { IsCutShort result → GivenPrefix (O.given out.old) (O.given out.new) (λ text. (status : Status) × IsAnswerDue (texts_of words.now) (met_on F.contents F.read_faults F.write_faults F.reads files.old files.new) (told_to T.tells T.learnt trace.old trace.new) status text) }
     ensures read_fault { result ≡ Status.Unread → Asks (texts_of words.now) (λ command. FailsIn command (met_on F.contents F.read_faults F.write_faults F.reads files.old files.new)) }
     ensures write_fault { result ≡ Status.Unwritten → WriteFails (texts_of words.now) (met_on F.contents F.read_faults F.write_faults F.reads files.old files.new) (Rose (O.faults out.old) (O.faults out.new)) (Rose (T.faults trace.old) (T.faults trace.new)) }
     ensures completes { WhereAsked (texts_of words.now) (λ command. AreSound command (F.contents files.old) → ¬ FailsIn command (met_on F.contents F.read_faults F.write_faults F.reads files.old files.new) → ¬ WriteFails (texts_of words.now) (met_on F.contents F.read_faults F.write_faults F.reads files.old files.new) (Rose (O.faults out.old) (O.faults out.new)) (Rose (T.faults trace.old) (T.faults trace.new)) → ends_of command result ⊎ (result ≡ Status.NoMemory)) }
@@ -84,9 +84,9 @@ pub fn run<F: Files, O: Sink, T: LogSink>(
     trace: &mut T,
 ) -> u8
     // Every run that isn't cut short has put a whole text: what its command owes with its status.
-    ensures answer { EndsAs result (λ status. (IsCutShort status → ⊥) → GivenAll (O.given out.old) (O.given out.new) (IsDue (texts_of words.now) (met_on F.contents F.read_faults F.write_faults F.reads files.old files.new) (told_to T.tells T.learnt trace.old trace.new) status)) }
+    ensures answer { EndsAs result (λ status. (IsCutShort status → ⊥) → GivenAll (O.given out.old) (O.given out.new) (IsAnswerDue (texts_of words.now) (met_on F.contents F.read_faults F.write_faults F.reads files.old files.new) (told_to T.tells T.learnt trace.old trace.new) status)) }
     // One that is cut short has put nothing, or a prefix of a text that this run may answer.
-    ensures cut_short { EndsAs result (λ status. IsCutShort status → GivenPrefix (O.given out.old) (O.given out.new) (λ text. (due : Status) × IsDue (texts_of words.now) (met_on F.contents F.read_faults F.write_faults F.reads files.old files.new) (told_to T.tells T.learnt trace.old trace.new) due text)) }
+    ensures cut_short { EndsAs result (λ status. IsCutShort status → GivenPrefix (O.given out.old) (O.given out.new) (λ text. (due : Status) × IsAnswerDue (texts_of words.now) (met_on F.contents F.read_faults F.write_faults F.reads files.old files.new) (told_to T.tells T.learnt trace.old trace.new) due text)) }
 
     // The causes of the faults from outside, and how a run ends where there is none.
     ensures read_fault { EndsAs result (λ status. status ≡ Status.Unread → Asks (texts_of words.now) (λ command. FailsIn command (met_on F.contents F.read_faults F.write_faults F.reads files.old files.new))) }
