@@ -40,7 +40,7 @@ def of_block(page, first, lines):
 def of_paragraph(page, first, text):
     """the commands in a paragraph, and what is said to be printed"""
     found = []
-    for piece in re.finditer(r"`(\./railplan[^`]*)`(?:\s+(?:prints|answers)\s+`([^`]+)`)?", text):
+    for piece in re.finditer(r"`(\./railplan\s[^`]+)`(?:\s+(?:prints|answers)\s+`([^`]+)`)?", text):
         wanted = piece[2] and " ".join(piece[2].split())
         found.append(Command(page, first + text[:piece.start()].count("\n"), " ".join(piece[1].split()), wanted and wanted + "\n",
                              bool(wanted) and (TOP / wanted).is_file()))
