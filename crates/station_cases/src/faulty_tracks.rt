@@ -1,0 +1,560 @@
+// Tracks of documents with what is told of them. The texts stand between `<tracks>` and `</tracks>`.
+use railml_topology::TopologyWhat;
+
+/// Tracks, and their first fault: what it is, the text that begins at its place, and the texts that are
+/// told with it.
+pub struct Case {
+    pub tracks: &'static str,
+    pub what: TopologyWhat,
+    pub at: &'static str,
+    pub first: &'static str,
+    pub second: &'static str,
+}
+
+/// No track, and attributes that are missing.
+pub static MISSING: [Case; 15] = [
+    Case {
+        tracks: "",
+        what: TopologyWhat::NoTracks,
+        at: "",
+        first: "",
+        second: "",
+    },
+    Case {
+        tracks: "<track:track id='a'/>",
+        what: TopologyWhat::NoTracks,
+        at: "",
+        first: "",
+        second: "",
+    },
+    Case {
+        tracks: "<other><track/></other>",
+        what: TopologyWhat::NoTracks,
+        at: "",
+        first: "",
+        second: "",
+    },
+    Case {
+        tracks: "<track/>",
+        what: TopologyWhat::Missing,
+        at: "<track/>",
+        first: "id",
+        second: "",
+    },
+    Case {
+        tracks: "<track id='a'><trackTopology><trackBegin/></trackTopology></track>",
+        what: TopologyWhat::Missing,
+        at: "<trackBegin/>",
+        first: "id",
+        second: "",
+    },
+    Case {
+        tracks: "<track id='a'><trackTopology><trackBegin id='ab' absPos='0'/></trackTopology></track>",
+        what: TopologyWhat::Missing,
+        at: "<trackBegin",
+        first: "pos",
+        second: "",
+    },
+    Case {
+        tracks: "<track id='a'><trackTopology><trackBegin id='ab' pos='x'/></trackTopology></track>",
+        what: TopologyWhat::Missing,
+        at: "<trackBegin",
+        first: "absPos",
+        second: "",
+    },
+    Case {
+        tracks: "<track id='a'><trackTopology><trackEnd id='ae'/></trackTopology></track>",
+        what: TopologyWhat::Missing,
+        at: "<trackEnd",
+        first: "pos",
+        second: "",
+    },
+    Case {
+        tracks: "<track id='a'><trackTopology><trackBegin id='ab' pos='0' absPos='0'><openEnd/></trackBegin><trackEnd id='ae' pos='9'><openEnd/></trackEnd><connections><switch id='s'/></connections></trackTopology></track>",
+        what: TopologyWhat::Missing,
+        at: "<switch",
+        first: "pos",
+        second: "",
+    },
+    Case {
+        tracks: "<track id='a'><trackTopology><trackBegin id='ab' pos='0' absPos='0'><openEnd/></trackBegin><trackEnd id='ae' pos='9'><connection id='c'/></trackEnd></trackTopology></track>",
+        what: TopologyWhat::Missing,
+        at: "<connection",
+        first: "ref",
+        second: "",
+    },
+    Case {
+        tracks: "<track id='m'><trackTopology><trackBegin id='mb' pos='0' absPos='0'><openEnd/></trackBegin><trackEnd id='me' pos='9'><openEnd/></trackEnd><connections><switch id='s1' pos='3'><connection id='c1' ref='d1'/></switch><switch id='s2' pos='6'><connection id='c2' ref='d2' course='right' orientation='incoming'/></switch></connections></trackTopology></track><track id='l'><trackTopology><trackBegin id='lb' pos='0' absPos='0'><connection id='d1' ref='c1'/></trackBegin><trackEnd id='le' pos='9'><connection id='d2' ref='c2'/></trackEnd></trackTopology></track>",
+        what: TopologyWhat::Missing,
+        at: "<connection id='c1'",
+        first: "orientation",
+        second: "",
+    },
+    Case {
+        tracks: "<track id='m'><trackTopology><trackBegin id='mb' pos='0' absPos='0'><openEnd/></trackBegin><trackEnd id='me' pos='9'><openEnd/></trackEnd><connections><switch id='s1' pos='3'><connection id='c1' ref='d1' orientation='outgoing'/></switch><switch id='s2' pos='6'><connection id='c2' ref='d2' course='right' orientation='incoming'/></switch></connections></trackTopology></track><track id='l'><trackTopology><trackBegin id='lb' pos='0' absPos='0'><connection id='d1' ref='c1'/></trackBegin><trackEnd id='le' pos='9'><connection id='d2' ref='c2'/></trackEnd></trackTopology></track>",
+        what: TopologyWhat::Missing,
+        at: "<connection id='c1'",
+        first: "course",
+        second: "",
+    },
+    Case {
+        tracks: "<track id='m'><trackTopology><trackBegin id='mb' pos='0' absPos='0'><openEnd/></trackBegin><trackEnd id='me' pos='9'><openEnd/></trackEnd><connections><switch id='s1' pos='3'><connection id='c1' ref='d1' orientation='incoming'/></switch><switch id='s2' pos='6'><connection id='c2' ref='d2' course='right' orientation='incoming'/></switch></connections></trackTopology></track><track id='l'><trackTopology><trackBegin id='lb' pos='0' absPos='0'><connection id='d1' ref='c1'/></trackBegin><trackEnd id='le' pos='9'><connection id='d2' ref='c2'/></trackEnd></trackTopology></track>",
+        what: TopologyWhat::Missing,
+        at: "<connection id='c1'",
+        first: "course",
+        second: "",
+    },
+    Case {
+        tracks: "<track id='m'><trackTopology><trackBegin id='mb' pos='0' absPos='0'><openEnd/></trackBegin><trackEnd id='me' pos='9'><openEnd/></trackEnd><connections><crossing id='k' pos='5'><connection id='k1' ref='x' course='' orientation='incoming'/><connection id='k2' ref='y' orientation='outgoing'/></crossing></connections></trackTopology></track><track id='p'><trackTopology><trackBegin id='pb' pos='0' absPos='0'><openEnd/></trackBegin><trackEnd id='pe' pos='9'><connection id='x' ref='k1'/></trackEnd></trackTopology></track><track id='q'><trackTopology><trackBegin id='qb' pos='0' absPos='0'><connection id='y' ref='k2'/></trackBegin><trackEnd id='qe' pos='9'><openEnd/></trackEnd></trackTopology></track>",
+        what: TopologyWhat::Missing,
+        at: "<connection id='k2'",
+        first: "course",
+        second: "",
+    },
+    Case {
+        tracks: "<track id='m'><trackTopology><trackBegin id='mb' pos='0' absPos='0'><openEnd/></trackBegin><trackEnd id='me' pos='9'><openEnd/></trackEnd><connections><crossing id='k' pos='5'><connection id='k1' ref='x'/><connection id='k2' ref='y' course='right' orientation='outgoing'/></crossing></connections></trackTopology></track><track id='p'><trackTopology><trackBegin id='pb' pos='0' absPos='0'><openEnd/></trackBegin><trackEnd id='pe' pos='9'><connection id='x' ref='k1'/></trackEnd></trackTopology></track><track id='q'><trackTopology><trackBegin id='qb' pos='0' absPos='0'><connection id='y' ref='k2'/></trackBegin><trackEnd id='qe' pos='9'><openEnd/></trackEnd></trackTopology></track>",
+        what: TopologyWhat::Missing,
+        at: "<connection id='k1'",
+        first: "orientation",
+        second: "",
+    },
+];
+
+/// Ids that none may have, and ids that stand twice.
+pub static IDS: [Case; 11] = [
+    Case {
+        tracks: "<track id=''/>",
+        what: TopologyWhat::Id,
+        at: "<track id=''",
+        first: "",
+        second: "",
+    },
+    Case {
+        tracks: "<track id='a b'/>",
+        what: TopologyWhat::Id,
+        at: "<track id='a b'",
+        first: "",
+        second: "",
+    },
+    Case {
+        tracks: "<track id='a&#10;'/>",
+        what: TopologyWhat::Id,
+        at: "<track id='a&#10;'",
+        first: "",
+        second: "",
+    },
+    Case {
+        tracks: "<track id='a '/>",
+        what: TopologyWhat::Id,
+        at: "<track id='a '",
+        first: "",
+        second: "",
+    },
+    Case {
+        tracks: "<track id='&#127;'/>",
+        what: TopologyWhat::Id,
+        at: "<track id='&#127;'",
+        first: "",
+        second: "",
+    },
+    Case {
+        tracks: "<track id='iiiiiiiiiiiiiiiiiiiiiiiiiiiiiiiiiiiiiiiiiiiiiiiiiiiiiiiiiiiiiiiii'/>",
+        what: TopologyWhat::Id,
+        at: "<track id='i",
+        first: "",
+        second: "",
+    },
+    Case {
+        tracks: "<track id='ééééééééééééééééééééééééééééééééé'/>",
+        what: TopologyWhat::Id,
+        at: "<track id='é",
+        first: "",
+        second: "",
+    },
+    Case {
+        tracks: "<track id='a'><trackTopology><trackBegin id='ab' pos='0' absPos='0'><openEnd/></trackBegin><trackEnd id='a e' pos='9'><openEnd/></trackEnd></trackTopology></track>",
+        what: TopologyWhat::Id,
+        at: "<trackEnd",
+        first: "",
+        second: "",
+    },
+    Case {
+        tracks: "<track id='a'/><track id='b'/><track id='a' name='2'/>",
+        what: TopologyWhat::RepeatedId,
+        at: "<track id='a' name='2'",
+        first: "a",
+        second: "",
+    },
+    Case {
+        tracks: "<track id='a'><trackTopology><trackBegin id='ab' pos='0' absPos='0'><openEnd/></trackBegin><trackEnd id='ab' pos='9'><openEnd/></trackEnd></trackTopology></track>",
+        what: TopologyWhat::RepeatedId,
+        at: "<trackEnd",
+        first: "ab",
+        second: "",
+    },
+    Case {
+        tracks: "<track id='a'><trackTopology><trackBegin id='ab' pos='0' absPos='0'><openEnd/></trackBegin><trackEnd id='ae' pos='9'><connection id='a' ref='d'/></trackEnd></trackTopology></track><track id='b'><trackTopology><trackBegin id='bb' pos='0' absPos='0'><connection id='d' ref='a'/></trackBegin><trackEnd id='be' pos='9'><openEnd/></trackEnd></trackTopology></track>",
+        what: TopologyWhat::RepeatedId,
+        at: "<connection id='a'",
+        first: "a",
+        second: "",
+    },
+];
+
+/// Positions and mileages that are no numbers.
+pub static NUMBERS: [Case; 7] = [
+    Case {
+        tracks: "<track id='a'><trackTopology><trackBegin id='ab' pos='' absPos='0'><openEnd/></trackBegin><trackEnd id='ae' pos='9'><openEnd/></trackEnd></trackTopology></track>",
+        what: TopologyWhat::Number,
+        at: "<trackBegin",
+        first: "ab",
+        second: "pos",
+    },
+    Case {
+        tracks: "<track id='a'><trackTopology><trackBegin id='ab' pos='0' absPos='1e3'><openEnd/></trackBegin><trackEnd id='ae' pos='9'><openEnd/></trackEnd></trackTopology></track>",
+        what: TopologyWhat::Number,
+        at: "<trackBegin",
+        first: "ab",
+        second: "absPos",
+    },
+    Case {
+        tracks: "<track id='a'><trackTopology><trackBegin id='ab' pos='1.' absPos='x'><openEnd/></trackBegin><trackEnd id='ae' pos='9'><openEnd/></trackEnd></trackTopology></track>",
+        what: TopologyWhat::Number,
+        at: "<trackBegin",
+        first: "ab",
+        second: "absPos",
+    },
+    Case {
+        tracks: "<track id='a'><trackTopology><trackBegin id='ab' pos='.' absPos='x'><openEnd/></trackBegin><trackEnd id='ae' pos='9'><openEnd/></trackEnd></trackTopology></track>",
+        what: TopologyWhat::Number,
+        at: "<trackBegin",
+        first: "ab",
+        second: "pos",
+    },
+    Case {
+        tracks: "<track id='a'><trackTopology><trackBegin id='ab' pos='0' absPos='0'><openEnd/></trackBegin><trackEnd id='ae' pos='1234567890'><openEnd/></trackEnd></trackTopology></track>",
+        what: TopologyWhat::Number,
+        at: "<trackEnd",
+        first: "ae",
+        second: "pos",
+    },
+    Case {
+        tracks: "<track id='a'><trackTopology><trackBegin id='ab' pos='0' absPos='0'><openEnd/></trackBegin><trackEnd id='ae' pos='9' absPos='0.1234567'><openEnd/></trackEnd></trackTopology></track>",
+        what: TopologyWhat::Number,
+        at: "<trackEnd",
+        first: "ae",
+        second: "absPos",
+    },
+    Case {
+        tracks: "<track id='m'><trackTopology><trackBegin id='mb' pos='0' absPos='0'><openEnd/></trackBegin><trackEnd id='me' pos='9'><openEnd/></trackEnd><connections><switch id='s1' pos='3 m'><connection id='c1' ref='d1' course='left' orientation='outgoing'/></switch><switch id='s2' pos='6'><connection id='c2' ref='d2' course='right' orientation='incoming'/></switch></connections></trackTopology></track><track id='l'><trackTopology><trackBegin id='lb' pos='0' absPos='0'><connection id='d1' ref='c1'/></trackBegin><trackEnd id='le' pos='9'><connection id='d2' ref='c2'/></trackEnd></trackTopology></track>",
+        what: TopologyWhat::Number,
+        at: "<switch id='s1'",
+        first: "s1",
+        second: "pos",
+    },
+];
+
+/// References to nothing, to others and to oneself.
+pub static REFERENCES: [Case; 6] = [
+    Case {
+        tracks: "<track id='a'><trackTopology><trackBegin id='ab' pos='0' absPos='0'><openEnd/></trackBegin><trackEnd id='ae' pos='9'><connection id='c' ref='z'/></trackEnd></trackTopology></track><track id='b'><trackTopology><trackBegin id='bb' pos='0' absPos='0'><connection id='d' ref='c'/></trackBegin><trackEnd id='be' pos='9'><openEnd/></trackEnd></trackTopology></track>",
+        what: TopologyWhat::UnknownRef,
+        at: "<connection id='c'",
+        first: "c",
+        second: "",
+    },
+    Case {
+        tracks: "<track id='a'><trackTopology><trackBegin id='ab' pos='0' absPos='0'><openEnd/></trackBegin><trackEnd id='ae' pos='9'><connection id='c' ref='d'/></trackEnd></trackTopology></track><track id='b'><trackTopology><trackBegin id='bb' pos='0' absPos='0'><connection id='d' ref='a'/></trackBegin><trackEnd id='be' pos='9'><openEnd/></trackEnd></trackTopology></track>",
+        what: TopologyWhat::UnknownRef,
+        at: "<connection id='d'",
+        first: "d",
+        second: "",
+    },
+    Case {
+        tracks: "<track id='a'><trackTopology><trackBegin id='ab' pos='0' absPos='0'><openEnd/></trackBegin><trackEnd id='ae' pos='9'><connection id='c1' ref='c2'/></trackEnd></trackTopology></track><track id='b'><trackTopology><trackBegin id='bb' pos='0' absPos='0'><connection id='c2' ref='c3'/></trackBegin><trackEnd id='be' pos='9'><connection id='c3' ref='c2'/></trackEnd></trackTopology></track>",
+        what: TopologyWhat::NotMutual,
+        at: "<connection id='c1'",
+        first: "c1",
+        second: "c2",
+    },
+    Case {
+        tracks: "<track id='a'><trackTopology><trackBegin id='ab' pos='0' absPos='0'><openEnd/></trackBegin><trackEnd id='ae' pos='9'><connection id='c' ref='d'/></trackEnd></trackTopology></track><track id='b'><trackTopology><trackBegin id='bb' pos='0' absPos='0'><connection id='d' ref='d'/></trackBegin><trackEnd id='be' pos='9'><openEnd/></trackEnd></trackTopology></track>",
+        what: TopologyWhat::NotMutual,
+        at: "<connection id='c'",
+        first: "c",
+        second: "d",
+    },
+    Case {
+        tracks: "<track id='a'><trackTopology><trackBegin id='ab' pos='0' absPos='0'><openEnd/></trackBegin><trackEnd id='ae' pos='9'><connection id='c' ref='c'/></trackEnd></trackTopology></track>",
+        what: TopologyWhat::SelfRef,
+        at: "<connection",
+        first: "c",
+        second: "",
+    },
+    Case {
+        tracks: "<track id='a'><trackTopology><trackBegin id='ab' pos='0' absPos='0'><openEnd/></trackBegin><trackEnd id='ae' pos='9'><connection id='c' ref='c'/></trackEnd></trackTopology></track><track id='b'><trackTopology><trackBegin id='bb' pos='0' absPos='0'><connection id='d' ref='d'/></trackBegin><trackEnd id='be' pos='9'><openEnd/></trackEnd></trackTopology></track>",
+        what: TopologyWhat::SelfRef,
+        at: "<connection id='c'",
+        first: "c",
+        second: "",
+    },
+];
+
+/// Parts that are lacking, or are too many.
+pub static PARTS: [Case; 13] = [
+    Case {
+        tracks: "<track id='a'/>",
+        what: TopologyWhat::EndKind,
+        at: "<track id='a'",
+        first: "a",
+        second: "",
+    },
+    Case {
+        tracks: "<track id='a'><trackTopology><trackBegin id='ab' pos='0' absPos='0'><openEnd/></trackBegin><trackEnd id='ae' pos='9'><openEnd/></trackEnd></trackTopology></track><track id='b'><trackTopology/><trackTopology/></track>",
+        what: TopologyWhat::EndKind,
+        at: "<track id='b'",
+        first: "b",
+        second: "",
+    },
+    Case {
+        tracks: "<track id='a'><trackTopology><trackBegin id='ab' pos='0' absPos='0'><openEnd/></trackBegin></trackTopology></track>",
+        what: TopologyWhat::EndKind,
+        at: "<track id='a'",
+        first: "a",
+        second: "",
+    },
+    Case {
+        tracks: "<track id='a'><trackTopology><trackBegin id='ab' pos='0' absPos='0'><openEnd/></trackBegin><trackBegin id='ac' pos='0' absPos='0'><openEnd/></trackBegin><trackEnd id='ae' pos='9'><openEnd/></trackEnd></trackTopology></track>",
+        what: TopologyWhat::EndKind,
+        at: "<track id='a'",
+        first: "a",
+        second: "",
+    },
+    Case {
+        tracks: "<track id='a'><trackTopology><trackBegin id='ab' pos='0' absPos='0'><openEnd/></trackBegin><trackEnd id='ae' pos='9'><openEnd/></trackEnd><trackEnd id='af' pos='9'><openEnd/></trackEnd></trackTopology></track>",
+        what: TopologyWhat::EndKind,
+        at: "<track id='a'",
+        first: "a",
+        second: "",
+    },
+    Case {
+        tracks: "<track id='a'><trackTopology><trackBegin id='ab' pos='0' absPos='0'></trackBegin><trackEnd id='ae' pos='9'><openEnd/></trackEnd></trackTopology></track>",
+        what: TopologyWhat::EndKind,
+        at: "<trackBegin",
+        first: "ab",
+        second: "",
+    },
+    Case {
+        tracks: "<track id='a'><trackTopology><trackBegin id='ab' pos='0' absPos='0'><openEnd/></trackBegin><trackEnd id='ae' pos='9'><openEnd/><bufferStop/></trackEnd></trackTopology></track>",
+        what: TopologyWhat::EndKind,
+        at: "<trackEnd",
+        first: "ae",
+        second: "",
+    },
+    Case {
+        tracks: "<track id='a'><trackTopology><trackBegin id='ab' pos='0' absPos='0'><openEnd/></trackBegin><trackEnd id='ae' pos='9'><macroscopicNode/><macroscopicNode/></trackEnd></trackTopology></track>",
+        what: TopologyWhat::EndKind,
+        at: "<trackEnd",
+        first: "ae",
+        second: "",
+    },
+    Case {
+        tracks: "<track id='a'><trackTopology><trackBegin id='ab' pos='0' absPos='0'><openEnd/></trackBegin><trackEnd id='ae' pos='9'><openEnd/></trackEnd><connections><switch id='s' pos='5'></switch></connections></trackTopology></track>",
+        what: TopologyWhat::EndKind,
+        at: "<switch",
+        first: "s",
+        second: "",
+    },
+    Case {
+        tracks: "<track id='a'><trackTopology><trackBegin id='ab' pos='0' absPos='0'><openEnd/></trackBegin><trackEnd id='ae' pos='9'><openEnd/></trackEnd><connections><switch id='s' pos='5'><connection id='c' ref='d' course='left' orientation='outgoing'/><connection id='d' ref='c' course='left' orientation='outgoing'/></switch></connections></trackTopology></track>",
+        what: TopologyWhat::EndKind,
+        at: "<switch",
+        first: "s",
+        second: "",
+    },
+    Case {
+        tracks: "<track id='a'><trackTopology><trackBegin id='ab' pos='0' absPos='0'><openEnd/></trackBegin><trackEnd id='ae' pos='9'><openEnd/></trackEnd><connections><crossing id='k' pos='5'></crossing></connections></trackTopology></track>",
+        what: TopologyWhat::EndKind,
+        at: "<crossing",
+        first: "k",
+        second: "",
+    },
+    Case {
+        tracks: "<track id='m'><trackTopology><trackBegin id='mb' pos='0' absPos='0'><openEnd/></trackBegin><trackEnd id='me' pos='9'><openEnd/></trackEnd><connections><crossing id='k' pos='5'><connection id='k1' ref='x' course='left' orientation='outgoing'/><connection id='k2' ref='y' course='right' orientation='outgoing'/></crossing></connections></trackTopology></track><track id='p'><trackTopology><trackBegin id='pb' pos='0' absPos='0'><openEnd/></trackBegin><trackEnd id='pe' pos='9'><connection id='x' ref='k1'/></trackEnd></trackTopology></track><track id='q'><trackTopology><trackBegin id='qb' pos='0' absPos='0'><connection id='y' ref='k2'/></trackBegin><trackEnd id='qe' pos='9'><openEnd/></trackEnd></trackTopology></track>",
+        what: TopologyWhat::EndKind,
+        at: "<crossing",
+        first: "k",
+        second: "",
+    },
+    Case {
+        tracks: "<track id='m'><trackTopology><trackBegin id='mb' pos='0' absPos='0'><openEnd/></trackBegin><trackEnd id='me' pos='9'><openEnd/></trackEnd><connections><crossing id='k' pos='5'><connection id='k1' ref='x' orientation='entering'/><connection id='k2' ref='y' orientation='entering'/></crossing></connections></trackTopology></track><track id='p'><trackTopology><trackBegin id='pb' pos='0' absPos='0'><openEnd/></trackBegin><trackEnd id='pe' pos='9'><connection id='x' ref='k1'/></trackEnd></trackTopology></track><track id='q'><trackTopology><trackBegin id='qb' pos='0' absPos='0'><connection id='y' ref='k2'/></trackBegin><trackEnd id='qe' pos='9'><openEnd/></trackEnd></trackTopology></track>",
+        what: TopologyWhat::EndKind,
+        at: "<crossing",
+        first: "k",
+        second: "",
+    },
+];
+
+/// Courses, orientations and places in a track.
+pub static COURSES: [Case; 11] = [
+    Case {
+        tracks: "<track id='m'><trackTopology><trackBegin id='mb' pos='0' absPos='0'><openEnd/></trackBegin><trackEnd id='me' pos='9'><openEnd/></trackEnd><connections><switch id='s1' pos='3'><connection id='c1' ref='d1' course='up' orientation='outgoing'/></switch><switch id='s2' pos='6'><connection id='c2' ref='d2' course='right' orientation='incoming'/></switch></connections></trackTopology></track><track id='l'><trackTopology><trackBegin id='lb' pos='0' absPos='0'><connection id='d1' ref='c1'/></trackBegin><trackEnd id='le' pos='9'><connection id='d2' ref='c2'/></trackEnd></trackTopology></track>",
+        what: TopologyWhat::Course,
+        at: "<connection id='c1'",
+        first: "c1",
+        second: "",
+    },
+    Case {
+        tracks: "<track id='m'><trackTopology><trackBegin id='mb' pos='0' absPos='0'><openEnd/></trackBegin><trackEnd id='me' pos='9'><openEnd/></trackEnd><connections><switch id='s1' pos='3'><connection id='c1' ref='d1' course='straight' orientation='outgoing'/></switch><switch id='s2' pos='6'><connection id='c2' ref='d2' course='right' orientation='incoming'/></switch></connections></trackTopology></track><track id='l'><trackTopology><trackBegin id='lb' pos='0' absPos='0'><connection id='d1' ref='c1'/></trackBegin><trackEnd id='le' pos='9'><connection id='d2' ref='c2'/></trackEnd></trackTopology></track>",
+        what: TopologyWhat::Course,
+        at: "<connection id='c1'",
+        first: "c1",
+        second: "",
+    },
+    Case {
+        tracks: "<track id='m'><trackTopology><trackBegin id='mb' pos='0' absPos='0'><openEnd/></trackBegin><trackEnd id='me' pos='9'><openEnd/></trackEnd><connections><switch id='s1' pos='3' trackContinueCourse='straight'><connection id='c1' ref='d1' course='straight' orientation='outgoing'/></switch><switch id='s2' pos='6'><connection id='c2' ref='d2' course='right' orientation='incoming'/></switch></connections></trackTopology></track><track id='l'><trackTopology><trackBegin id='lb' pos='0' absPos='0'><connection id='d1' ref='c1'/></trackBegin><trackEnd id='le' pos='9'><connection id='d2' ref='c2'/></trackEnd></trackTopology></track>",
+        what: TopologyWhat::Course,
+        at: "<connection id='c1'",
+        first: "c1",
+        second: "",
+    },
+    Case {
+        tracks: "<track id='m'><trackTopology><trackBegin id='mb' pos='0' absPos='0'><openEnd/></trackBegin><trackEnd id='me' pos='9'><openEnd/></trackEnd><connections><crossing id='k' pos='5'><connection id='k1' ref='x' course='' orientation='incoming'/><connection id='k2' ref='y' course='straight' orientation='outgoing'/></crossing></connections></trackTopology></track><track id='p'><trackTopology><trackBegin id='pb' pos='0' absPos='0'><openEnd/></trackBegin><trackEnd id='pe' pos='9'><connection id='x' ref='k1'/></trackEnd></trackTopology></track><track id='q'><trackTopology><trackBegin id='qb' pos='0' absPos='0'><connection id='y' ref='k2'/></trackBegin><trackEnd id='qe' pos='9'><openEnd/></trackEnd></trackTopology></track>",
+        what: TopologyWhat::Course,
+        at: "<connection id='k2'",
+        first: "k2",
+        second: "",
+    },
+    Case {
+        tracks: "<track id='m'><trackTopology><trackBegin id='mb' pos='0' absPos='0'><openEnd/></trackBegin><trackEnd id='me' pos='9'><openEnd/></trackEnd><connections><switch id='s1' pos='3'><connection id='c1' ref='d1' course='left' orientation='outgoing'/></switch><switch id='s2' pos='6'><connection id='c2' ref='d2' course='Right' orientation='arriving'/></switch></connections></trackTopology></track><track id='l'><trackTopology><trackBegin id='lb' pos='0' absPos='0'><connection id='d1' ref='c1'/></trackBegin><trackEnd id='le' pos='9'><connection id='d2' ref='c2'/></trackEnd></trackTopology></track>",
+        what: TopologyWhat::Course,
+        at: "<connection id='c2'",
+        first: "c2",
+        second: "",
+    },
+    Case {
+        tracks: "<track id='m'><trackTopology><trackBegin id='mb' pos='0' absPos='0'><openEnd/></trackBegin><trackEnd id='me' pos='9'><openEnd/></trackEnd><connections><switch id='s1' pos='3'><connection id='c1' ref='d1' course='left' orientation='entering'/></switch><switch id='s2' pos='6'><connection id='c2' ref='d2' course='right' orientation='incoming'/></switch></connections></trackTopology></track><track id='l'><trackTopology><trackBegin id='lb' pos='0' absPos='0'><connection id='d1' ref='c1'/></trackBegin><trackEnd id='le' pos='9'><connection id='d2' ref='c2'/></trackEnd></trackTopology></track>",
+        what: TopologyWhat::Orientation,
+        at: "<connection id='c1'",
+        first: "c1",
+        second: "",
+    },
+    Case {
+        tracks: "<track id='m'><trackTopology><trackBegin id='mb' pos='0' absPos='0'><openEnd/></trackBegin><trackEnd id='me' pos='9'><openEnd/></trackEnd><connections><crossing id='k' pos='5'><connection id='k1' ref='x' orientation=''/><connection id='k2' ref='y' course='right' orientation='outgoing'/></crossing></connections></trackTopology></track><track id='p'><trackTopology><trackBegin id='pb' pos='0' absPos='0'><openEnd/></trackBegin><trackEnd id='pe' pos='9'><connection id='x' ref='k1'/></trackEnd></trackTopology></track><track id='q'><trackTopology><trackBegin id='qb' pos='0' absPos='0'><connection id='y' ref='k2'/></trackBegin><trackEnd id='qe' pos='9'><openEnd/></trackEnd></trackTopology></track>",
+        what: TopologyWhat::Orientation,
+        at: "<connection id='k1'",
+        first: "k1",
+        second: "",
+    },
+    Case {
+        tracks: "<track id='a'><trackTopology><trackBegin id='ab' pos='9.000001' absPos='0'><openEnd/></trackBegin><trackEnd id='ae' pos='9'><openEnd/></trackEnd></trackTopology></track>",
+        what: TopologyWhat::OutsideTrack,
+        at: "<trackEnd",
+        first: "ae",
+        second: "",
+    },
+    Case {
+        tracks: "<track id='m'><trackTopology><trackBegin id='mb' pos='0' absPos='0'><openEnd/></trackBegin><trackEnd id='me' pos='9'><openEnd/></trackEnd><connections><switch id='s1' pos='3'><connection id='c1' ref='d1' course='left' orientation='outgoing'/></switch><switch id='s2' pos='9.1'><connection id='c2' ref='d2' course='right' orientation='incoming'/></switch></connections></trackTopology></track><track id='l'><trackTopology><trackBegin id='lb' pos='0' absPos='0'><connection id='d1' ref='c1'/></trackBegin><trackEnd id='le' pos='9'><connection id='d2' ref='c2'/></trackEnd></trackTopology></track>",
+        what: TopologyWhat::OutsideTrack,
+        at: "<switch id='s2'",
+        first: "s2",
+        second: "",
+    },
+    Case {
+        tracks: "<track id='m'><trackTopology><trackBegin id='mb' pos='0' absPos='0'><openEnd/></trackBegin><trackEnd id='me' pos='9'><openEnd/></trackEnd><connections><switch id='s1' pos='-0.000001'><connection id='c1' ref='d1' course='left' orientation='outgoing'/></switch><switch id='s2' pos='6'><connection id='c2' ref='d2' course='right' orientation='incoming'/></switch></connections></trackTopology></track><track id='l'><trackTopology><trackBegin id='lb' pos='0' absPos='0'><connection id='d1' ref='c1'/></trackBegin><trackEnd id='le' pos='9'><connection id='d2' ref='c2'/></trackEnd></trackTopology></track>",
+        what: TopologyWhat::OutsideTrack,
+        at: "<switch id='s1'",
+        first: "s1",
+        second: "",
+    },
+    Case {
+        tracks: "<track id='m'><trackTopology><trackBegin id='mb' pos='0' absPos='0'><openEnd/></trackBegin><trackEnd id='me' pos='9'><openEnd/></trackEnd><connections><crossing id='k' pos='10'><connection id='k1' ref='x' course='' orientation='incoming'/><connection id='k2' ref='y' course='right' orientation='outgoing'/></crossing></connections></trackTopology></track><track id='p'><trackTopology><trackBegin id='pb' pos='0' absPos='0'><openEnd/></trackBegin><trackEnd id='pe' pos='9'><connection id='x' ref='k1'/></trackEnd></trackTopology></track><track id='q'><trackTopology><trackBegin id='qb' pos='0' absPos='0'><connection id='y' ref='k2'/></trackBegin><trackEnd id='qe' pos='9'><openEnd/></trackEnd></trackTopology></track>",
+        what: TopologyWhat::OutsideTrack,
+        at: "<crossing",
+        first: "k",
+        second: "",
+    },
+];
+
+/// Two faults each, of which the lower one stands later.
+pub static PAIRS: [Case; 9] = [
+    Case {
+        tracks: "<track id=''/><track/>",
+        what: TopologyWhat::Missing,
+        at: "<track/>",
+        first: "id",
+        second: "",
+    },
+    Case {
+        tracks: "<track id='a'/><track id='a'/><track id=' '/>",
+        what: TopologyWhat::Id,
+        at: "<track id=' '",
+        first: "",
+        second: "",
+    },
+    Case {
+        tracks: "<track id='a'><trackTopology><trackBegin id='ab' pos='x' absPos='0'><openEnd/></trackBegin><trackEnd id='ae' pos='9'><openEnd/></trackEnd></trackTopology></track><track id='a'/>",
+        what: TopologyWhat::RepeatedId,
+        at: "<track id='a'/>",
+        first: "a",
+        second: "",
+    },
+    Case {
+        tracks: "<track id='a'><trackTopology><trackBegin id='ab' pos='0' absPos='0'><openEnd/></trackBegin><trackEnd id='ae' pos='9'><connection id='c' ref='z'/></trackEnd></trackTopology></track><track id='b' name='q'><trackTopology><trackBegin id='bb' pos='0' absPos='0'><connection id='d' ref='c'/></trackBegin><trackEnd id='be' pos='9,5'><openEnd/></trackEnd></trackTopology></track>",
+        what: TopologyWhat::Number,
+        at: "<trackEnd id='be'",
+        first: "be",
+        second: "pos",
+    },
+    Case {
+        tracks: "<track id='a'><trackTopology><trackBegin id='ab' pos='0' absPos='0'><openEnd/></trackBegin><trackEnd id='ae' pos='9'><connection id='c' ref='c'/></trackEnd></trackTopology></track><track id='e'><trackTopology><trackBegin id='eb' pos='0' absPos='0'><openEnd/></trackBegin><trackEnd id='ee' pos='9'><connection id='h' ref='d'/></trackEnd></trackTopology></track><track id='b'><trackTopology><trackBegin id='bb' pos='0' absPos='0'><connection id='d' ref='z'/></trackBegin><trackEnd id='be' pos='9'><openEnd/></trackEnd></trackTopology></track>",
+        what: TopologyWhat::UnknownRef,
+        at: "<connection id='d'",
+        first: "d",
+        second: "",
+    },
+    Case {
+        tracks: "<track id='z'/><track id='a'><trackTopology><trackBegin id='ab' pos='0' absPos='0'><openEnd/></trackBegin><trackEnd id='ae' pos='9'><connection id='c' ref='c'/></trackEnd></trackTopology></track>",
+        what: TopologyWhat::SelfRef,
+        at: "<connection",
+        first: "c",
+        second: "",
+    },
+    Case {
+        tracks: "<track id='m'><trackTopology><trackBegin id='mb' pos='0' absPos='0'><openEnd/></trackBegin><trackEnd id='me' pos='9'><openEnd/></trackEnd><connections><switch id='s1' pos='3'><connection id='c1' ref='d1' course='left' orientation='entering'/></switch><switch id='s2' pos='6'><connection id='c2' ref='d2' course='none' orientation='incoming'/></switch></connections></trackTopology></track><track id='l'><trackTopology><trackBegin id='lb' pos='0' absPos='0'><connection id='d1' ref='c1'/></trackBegin><trackEnd id='le' pos='9'><connection id='d2' ref='c2'/></trackEnd></trackTopology></track>",
+        what: TopologyWhat::Course,
+        at: "<connection id='c2'",
+        first: "c2",
+        second: "",
+    },
+    Case {
+        tracks: "<track id='m'><trackTopology><trackBegin id='mb' pos='0' absPos='0'><openEnd/></trackBegin><trackEnd id='me' pos='9'><openEnd/></trackEnd><connections><switch id='s1' pos='99'><connection id='c1' ref='d1' course='left' orientation='outgoing'/></switch><switch id='s2' pos='6'><connection id='c2' ref='d2' course='left' orientation='to'/></switch></connections></trackTopology></track><track id='l'><trackTopology><trackBegin id='lb' pos='0' absPos='0'><connection id='d1' ref='c1'/></trackBegin><trackEnd id='le' pos='9'><connection id='d2' ref='c2'/></trackEnd></trackTopology></track>",
+        what: TopologyWhat::Orientation,
+        at: "<connection id='c2'",
+        first: "c2",
+        second: "",
+    },
+    Case {
+        tracks: "<track id='m'><trackTopology><trackBegin id='mb' pos='0' absPos='0'><openEnd/></trackBegin><trackEnd id='me' pos='9'><openEnd/></trackEnd><connections><switch id='s1' pos='3'><connection id='c1' ref='d1' course='up' orientation='outgoing'/></switch><switch id='s2' pos='6'><connection id='c2' ref='d2' course='right' orientation='incoming'/></switch></connections></trackTopology></track><track id='l'><trackTopology><trackBegin id='lb' pos='0' absPos='0'><connection id='d1' ref='c1'/></trackBegin><trackEnd id='le' pos='9'><connection id='d2' ref='c2'/></trackEnd></trackTopology></track><track id='z'/>",
+        what: TopologyWhat::EndKind,
+        at: "<track id='z'",
+        first: "z",
+        second: "",
+    },
+];
+
+/// Tracks without a fault.
+pub static SOUND: [&str; 12] = [
+    "<track id='a'><trackTopology><trackBegin id='ab' pos='0' absPos='0'><openEnd/></trackBegin><trackEnd id='ae' pos='9'><openEnd/></trackEnd></trackTopology></track>",
+    "<track id='a'><trackTopology><trackBegin id='ab' pos='0' absPos='0'><openEnd/></trackBegin><trackEnd id='ae' pos='9'><connection id='c' ref='d'/></trackEnd></trackTopology></track><track id='b'><trackTopology><trackBegin id='bb' pos='0' absPos='0'><connection id='d' ref='c'/></trackBegin><trackEnd id='be' pos='9'><openEnd/></trackEnd></trackTopology></track>",
+    "<track id='m'><trackTopology><trackBegin id='mb' pos='0' absPos='0'><openEnd/></trackBegin><trackEnd id='me' pos='9'><openEnd/></trackEnd><connections><switch id='s1' pos='3'><connection id='c1' ref='d1' course='left' orientation='outgoing'/></switch><switch id='s2' pos='6'><connection id='c2' ref='d2' course='right' orientation='incoming'/></switch></connections></trackTopology></track><track id='l'><trackTopology><trackBegin id='lb' pos='0' absPos='0'><connection id='d1' ref='c1'/></trackBegin><trackEnd id='le' pos='9'><connection id='d2' ref='c2'/></trackEnd></trackTopology></track>",
+    "<track id='m'><trackTopology><trackBegin id='mb' pos='0' absPos='0'><openEnd/></trackBegin><trackEnd id='me' pos='9'><openEnd/></trackEnd><connections><crossing id='k' pos='5'><connection id='k1' ref='x' course='' orientation='incoming'/><connection id='k2' ref='y' course='right' orientation='outgoing'/></crossing></connections></trackTopology></track><track id='p'><trackTopology><trackBegin id='pb' pos='0' absPos='0'><openEnd/></trackBegin><trackEnd id='pe' pos='9'><connection id='x' ref='k1'/></trackEnd></trackTopology></track><track id='q'><trackTopology><trackBegin id='qb' pos='0' absPos='0'><connection id='y' ref='k2'/></trackBegin><trackEnd id='qe' pos='9'><openEnd/></trackEnd></trackTopology></track>",
+    "<track id='a'><trackTopology><trackBegin id='ab' pos='0' absPos='0'><openEnd/></trackBegin><trackEnd id='ae' pos='9'><openEnd/></trackEnd></trackTopology></track><track id='b'><trackTopology><trackBegin id='bb' pos='0' absPos='0'><openEnd/></trackBegin><trackEnd id='be' pos='9'><openEnd/></trackEnd></trackTopology></track>",
+    "<track id='m'><trackTopology><trackBegin id='mb' pos='0' absPos='0'><openEnd/></trackBegin><trackEnd id='me' pos='9'><openEnd/></trackEnd><connections><switch id='s1' pos='3' trackContinueCourse='left'><connection id='c1' ref='d1' course='straight' orientation='outgoing'/></switch><switch id='s2' pos='6'><connection id='c2' ref='d2' course='right' orientation='incoming'/></switch></connections></trackTopology></track><track id='l'><trackTopology><trackBegin id='lb' pos='0' absPos='0'><connection id='d1' ref='c1'/></trackBegin><trackEnd id='le' pos='9'><connection id='d2' ref='c2'/></trackEnd></trackTopology></track>",
+    "<track id='m'><trackTopology><trackBegin id='mb' pos='0' absPos='0'><openEnd/></trackBegin><trackEnd id='me' pos='9'><openEnd/></trackEnd><connections><switch id='s1' pos='0'><connection id='c1' ref='d1' course='left' orientation='outgoing'/></switch><switch id='s2' pos='9'><connection id='c2' ref='d2' course='right' orientation='incoming'/></switch></connections></trackTopology></track><track id='l'><trackTopology><trackBegin id='lb' pos='0' absPos='0'><connection id='d1' ref='c1'/></trackBegin><trackEnd id='le' pos='9'><connection id='d2' ref='c2'/></trackEnd></trackTopology></track>",
+    "<track id='a'><trackTopology><trackBegin id='ab' pos='0' absPos='0'><openEnd/></trackBegin><trackEnd id='ae' pos='0'><openEnd/></trackEnd></trackTopology></track>",
+    "<track id='aiiiiiiiiiiiiiiiiiiiiiiiiiiiiiiiiiiiiiiiiiiiiiiiiiiiiiiiiiiiiiii'><trackTopology><trackBegin id='éééééééééééééééééééééééééééééééé' pos='0' absPos='0'><openEnd/></trackBegin><trackEnd id='&#161;' pos='9'><openEnd/></trackEnd></trackTopology></track>",
+    "<track id='a'><trackTopology><trackBegin id='ab' pos='0' absPos='0'><openEnd id='a'/></trackBegin><trackEnd id='ae' pos='9'><bufferStop id='a' pos='x'/></trackEnd></trackTopology></track>",
+    "<track id='a' pos='x'><trackTopology><trackBegin id='ab' pos='0' absPos='0'><openEnd/></trackBegin><trackEnd id='ae' pos='9'><openEnd/></trackEnd></trackTopology></track>",
+    "<track id='m'><trackTopology><trackBegin id='mb' pos='0' absPos='0'><openEnd/></trackBegin><trackEnd id='me' pos='9'><openEnd/></trackEnd><connections><crossing id='k' pos='5'><connection id='k1' ref='x' course='nowhere' orientation='incoming'/><connection id='k2' ref='y' course='right' orientation='outgoing'/></crossing></connections></trackTopology></track><track id='p'><trackTopology><trackBegin id='pb' pos='0' absPos='0'><openEnd/></trackBegin><trackEnd id='pe' pos='9'><connection id='x' ref='k1'/></trackEnd></trackTopology></track><track id='q'><trackTopology><trackBegin id='qb' pos='0' absPos='0'><connection id='y' ref='k2'/></trackBegin><trackEnd id='qe' pos='9'><openEnd/></trackEnd></trackTopology></track>",
+];

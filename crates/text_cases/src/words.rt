@@ -1,0 +1,228 @@
+// The words of a command, and their faults.
+use plan_core::{Criterion, Grid, Order, Text};
+use plan_words::{Command, WordFault, WordWhat, read_words};
+use std::alloc::{AllocError, Global};
+use std::test::Fail;
+
+fn words_from(alloc: Global, words: &[&str]) -> Result<Vec<String>, AllocError> {
+    let mut list = Vec::new(alloc);
+    for word in words {
+        list.push(String::from_str(alloc, word)?)?;
+    }
+    Ok(list)
+}
+
+fn letter_of(criterion: Criterion) -> &'static str {
+    match criterion {
+        Criterion::Height => "h",
+        Criterion::Bends => "b",
+        Criterion::Diagonal => "d",
+        Criterion::Width => "w",
+    }
+}
+
+fn order_shown(alloc: Global, order: &Order) -> Result<String, AllocError> {
+    let mut text = String::new(alloc);
+    for i in 0..order.len() {
+        text.push_str(letter_of(order.get(i)))?;
+    }
+    Ok(text)
+}
+
+fn file_shown(name: &Option<Text>) -> &str {
+    match name {
+        Some(name) => name.as_str(),
+        None => "none",
+    }
+}
+
+fn grid_shown(alloc: Global, grid: &Grid) -> Result<String, AllocError> {
+    let width = grid.width();
+    let height = grid.height();
+    let least = grid.least();
+    format!(in alloc; "{width} {height} {least}")
+}
+
+/// A line that shows a command.
+fn command_shown(alloc: Global, command: &Command) -> Result<String, AllocError> {
+    match command {
+        Command::Draw {
+            input,
+            grid,
+            order,
+            budget,
+            svg,
+            log,
+        } => {
+            let input = input.as_str();
+            let grid = grid_shown(alloc, grid)?;
+            let order = order_shown(alloc, order)?;
+            let svg = file_shown(svg);
+            let log = file_shown(log);
+            format!(in alloc; "draw {input} {grid} {order} {budget} {svg} {log}")
+        }
+        Command::Verify { input, sheet } => {
+            let input = input.as_str();
+            let sheet = sheet.as_str();
+            format!(in alloc; "verify {input} {sheet}")
+        }
+        Command::Check { input, sheet, log } => {
+            let input = input.as_str();
+            let sheet = sheet.as_str();
+            let log = log.as_str();
+            format!(in alloc; "check {input} {sheet} {log}")
+        }
+        Command::Graph { input } => {
+            let input = input.as_str();
+            format!(in alloc; "graph {input}")
+        }
+        Command::Make { n } => format!(in alloc; "make {n}"),
+        Command::Trial { n } => format!(in alloc; "trial {n}"),
+    }
+}
+
+/// A line that shows an answer.
+fn answer_shown(alloc: Global, words: &[&str]) -> Result<String, Fail> {
+    let words = words_from(alloc, words)?;
+    match read_words(alloc, &words) {
+        Ok(command) => Ok(command_shown(alloc, &command)?),
+        Err(WordFault::Words { what, position }) => {
+            let number = what.number();
+            let word = what.word();
+            Ok(format!(in alloc; "{number} {word} {position}")?)
+        }
+        Err(WordFault::Memory) => Ok(String::from_str(alloc, "out of memory")?),
+    }
+}
+
+static CASES: [(&[&str], &str); 75] = [
+    // Commands.
+    (&["draw", "a"], "draw a 40 8 1 hbdw 50000 none none"),
+    (
+        &["draw", "a", "--width", "64", "--height", "0"],
+        "draw a 64 0 1 hbdw 50000 none none",
+    ),
+    (
+        &["draw", "--order", "width,bends", "a", "--conflicts", "1"],
+        "draw a 40 8 1 wb 1 none none",
+    ),
+    (
+        &["draw", "--svg", "--log", "a"],
+        "draw a 40 8 1 hbdw 50000 --log none",
+    ),
+    (
+        &["draw", "--svg", "x", "--log", "y", "-"],
+        "draw - 40 8 1 hbdw 50000 x y",
+    ),
+    (
+        &["draw", "-x", "--order", "diagonal,height,width,bends"],
+        "draw -x 40 8 1 dhwb 50000 none none",
+    ),
+    (
+        &["draw", "--least", "16", "a"],
+        "draw a 40 8 16 hbdw 50000 none none",
+    ),
+    (&["verify", "a", "a"], "verify a a"),
+    (&["check", "a", "b", "-"], "check a b -"),
+    (&["graph", "a b"], "graph a b"),
+    (&["make", "0"], "make 0"),
+    (&["make", "4294967295"], "make 4294967295"),
+    (&["trial", "0"], "trial 0"),
+    (&["trial", "4294967295"], "trial 4294967295"),
+    (
+        &["draw", "a", "--conflicts", "200000", "--height", "12"],
+        "draw a 40 12 1 hbdw 200000 none none",
+    ),
+    // The first word.
+    (&[], "1 NoCommand 1"),
+    (&["--help"], "2 UnknownCommand 1"),
+    (&["--version"], "2 UnknownCommand 1"),
+    (&["Draw", "a"], "2 UnknownCommand 1"),
+    (&["", "a"], "2 UnknownCommand 1"),
+    (&["draw ", "--x"], "2 UnknownCommand 1"),
+    // Names.
+    (&["draw"], "3 MissingName 2"),
+    (&["verify", "a"], "3 MissingName 3"),
+    (&["check", "a", "b"], "3 MissingName 4"),
+    (&["graph"], "3 MissingName 2"),
+    (&["make"], "3 MissingName 2"),
+    (&["draw", "--width", "4"], "3 MissingName 4"),
+    (&["draw", "a", "b"], "4 ExtraWord 3"),
+    (&["draw", "a", ""], "4 ExtraWord 3"),
+    (&["verify", "a", "b", "c"], "4 ExtraWord 4"),
+    (&["check", "a", "b", "c", "d"], "4 ExtraWord 5"),
+    (&["make", "1", "2"], "4 ExtraWord 3"),
+    (&["draw", ""], "7 BadValue 2"),
+    (&["verify", "", "--x"], "7 BadValue 2"),
+    (&["check", "a", "", "c"], "7 BadValue 3"),
+    (&["make", ""], "7 BadValue 2"),
+    (&["make", "007"], "7 BadValue 2"),
+    (&["make", "+1"], "7 BadValue 2"),
+    (&["make", "-1"], "7 BadValue 2"),
+    (&["make", "4294967296"], "7 BadValue 2"),
+    (&["make", "x", "y"], "7 BadValue 2"),
+    (&["trial"], "3 MissingName 2"),
+    (&["trial", "5", "6"], "4 ExtraWord 3"),
+    (&["trial", "5", "--log", "l"], "5 UnknownOption 3"),
+    (&["trial", "x"], "7 BadValue 2"),
+    (&["trial", "4294967296"], "7 BadValue 2"),
+    // Options.
+    (&["draw", "a", "--width=4"], "5 UnknownOption 3"),
+    (&["draw", "--", "a"], "5 UnknownOption 2"),
+    (&["draw", "--Width", "4", "a"], "5 UnknownOption 2"),
+    (&["draw", "a", "--x"], "5 UnknownOption 3"),
+    (&["draw", "a", "--help"], "5 UnknownOption 3"),
+    (&["verify", "a", "--width", "4"], "5 UnknownOption 3"),
+    (&["graph", "--svg", "a"], "5 UnknownOption 2"),
+    (
+        &["draw", "a", "--width", "4", "--width", "4"],
+        "6 RepeatedOption 5",
+    ),
+    (&["draw", "a", "--log", "b", "--log"], "6 RepeatedOption 5"),
+    (&["draw", "a", "--log"], "7 BadValue 3"),
+    (&["draw", "a", "--svg", ""], "7 BadValue 4"),
+    (&["draw", "a", "--width", "0"], "7 BadValue 4"),
+    (&["draw", "a", "--width", "65"], "7 BadValue 4"),
+    (&["draw", "a", "--height", "13"], "7 BadValue 4"),
+    (&["draw", "a", "--height", "08"], "7 BadValue 4"),
+    (&["draw", "a", "--least", "0"], "7 BadValue 4"),
+    (&["draw", "a", "--least", "17"], "7 BadValue 4"),
+    (&["draw", "a", "--least", "+1"], "7 BadValue 4"),
+    (&["draw", "a", "--conflicts", "0"], "7 BadValue 4"),
+    (&["draw", "a", "--conflicts", "200001"], "7 BadValue 4"),
+    (
+        &["draw", "loop.xml", "--order", "bends,bends"],
+        "7 BadValue 4",
+    ),
+    (&["draw", "a", "--order", ""], "7 BadValue 4"),
+    (&["draw", "a", "--order", "height,"], "7 BadValue 4"),
+    (&["draw", "a", "--order", "height bends"], "7 BadValue 4"),
+    // Which fault counts.
+    (&["draw", "--x", "1", "--width", "0"], "5 UnknownOption 2"),
+    (&["draw", "--width", "0", "--x", "1"], "7 BadValue 3"),
+    (&["draw", "one.xml", "--log", "one.xml"], "7 BadValue 4"),
+    (&["draw", "--log", "x", "x"], "7 BadValue 4"),
+    (&["draw", "--log", "x", "--svg", "x", "x"], "7 BadValue 5"),
+];
+
+#[test]
+fn words_are_a_command_or_have_the_fault_that_counts(rt: HostRuntime) -> Result<(), Fail> {
+    let alloc = rt.alloc();
+    for (words, want) in &CASES {
+        let answer = answer_shown(alloc, words)?;
+        assert_eq!(rt; answer.as_str(), *want, "{words:?}");
+    }
+    Ok(())
+}
+
+#[test]
+fn each_fault_has_its_number_and_word(rt: HostRuntime) {
+    let cases = [
+        (WordWhat::NoCommand, 1, "NoCommand"),
+        (WordWhat::BadValue, 7, "BadValue"),
+    ];
+    for (what, number, word) in cases {
+        assert_eq!(rt; what.number(), number);
+        assert_eq!(rt; what.word(), word);
+    }
+}
