@@ -44,6 +44,3 @@ pub use unit_laws::{
     more_clauses_more_closure, new_by_a_closed_set, new_includes_no_clause,
     only_sets_of_literals_count, rup_is_sound,
 };
-
-#[cfg(test)]
-mod tests;

@@ -20,6 +20,3 @@ pub use laws::{
     heights_determine_a_line, points_and_heights_on_the_grid,
 };
 pub use tracing::trace;
-
-#[cfg(test)]
-mod tests;

@@ -26,6 +26,3 @@ pub use edge_vars::{EdgeVars, NodeVars, add_edge};
 pub use laws::{
     accessors_read_the_line, bends_are_two_variables, diagonal_is_counted, one_line_is_read,
 };
-
-#[cfg(test)]
-mod tests;

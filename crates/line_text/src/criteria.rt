@@ -29,23 +29,3 @@ pub fn read_criterion(word: &[u8]) -> Option<Criterion>
         _ => None,
     }
 }
-
-#[cfg(test)]
-mod tests {
-    use super::*;
-
-    #[test]
-    fn each_criterion_has_its_word(rt: HostRuntime) {
-        let cases: [(Criterion, &str); 4] = [
-            (Criterion::Height, "height"),
-            (Criterion::Bends, "bends"),
-            (Criterion::Diagonal, "diagonal"),
-            (Criterion::Width, "width"),
-        ];
-        for (criterion, word) in cases {
-            assert_eq!(rt; criterion_word(criterion), word);
-            assert_eq!(rt; read_criterion(word.as_bytes()), Some(criterion));
-        }
-        assert_eq!(rt; read_criterion(b"heights"), None);
-    }
-}

@@ -53,22 +53,3 @@ pub fn behind<'a>(text: &'a [u8], front: &[u8]) -> Option<&'a [u8]>
 {
     text.strip_prefix(front)
 }
-
-#[cfg(test)]
-mod tests {
-    use super::*;
-
-    #[test]
-    fn lines_and_fields_are_cut(rt: HostRuntime) {
-        assert_eq!(rt; cut_line(b"a b\nc\n"), Some((&b"a b"[..], &b"c\n"[..])));
-        assert_eq!(rt; cut_line(b"\n"), Some((&b""[..], &b""[..])));
-        assert_eq!(rt; cut_line(b"a b"), None);
-        assert_eq!(rt; cut_field(b"a  b"), Some((&b"a"[..], &b" b"[..])));
-        assert_eq!(rt; cut_field(b"ab"), None);
-        assert_eq!(rt; front_field(b"ab c\n"), (&b"ab"[..], &b" c\n"[..]));
-        assert_eq!(rt; front_field(b"ab\nc "), (&b"ab"[..], &b"\nc "[..]));
-        assert_eq!(rt; front_field(b"ab"), (&b"ab"[..], &b""[..]));
-        assert_eq!(rt; behind(b"grid 1", b"grid"), Some(&b" 1"[..]));
-        assert_eq!(rt; behind(b"gri", b"grid"), None);
-    }
-}

@@ -17,6 +17,3 @@ mod orders;
 pub use integer::{OrderInt, add_int, new_int};
 pub use laws::{clauses_give_a_number, one_number, one_setting, other_variables_are_free};
 pub use orders::{equal, less_equal};
-
-#[cfg(test)]
-mod tests;

@@ -84,6 +84,3 @@ impl<'a, R: std::rt::Files> Files for HostFiles<'a, R> {
         Err(FileFault::Failed)
     }
 }
-
-#[cfg(test)]
-mod tests;

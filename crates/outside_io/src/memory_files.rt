@@ -122,6 +122,3 @@ impl Files for MemoryFiles {
         Ok(())
     }
 }
-
-#[cfg(test)]
-mod tests;

@@ -64,36 +64,3 @@ impl Sink for MemorySink {
         Ok(())
     }
 }
-
-#[cfg(test)]
-mod tests {
-    use super::*;
-    use std::test::Fail;
-
-    // Puts three times, through the trait alone, and tells which puts failed by their number.
-    fn put_thrice<O: Sink>(out: &mut O) -> (bool, bool, bool) {
-        (
-            matches!(out.put(b"ab"), Err(SinkFault::Failed)),
-            matches!(out.put(b"c"), Err(SinkFault::Failed)),
-            matches!(out.put(b"de"), Err(SinkFault::Failed)),
-        )
-    }
-
-    #[test]
-    fn fails_the_puts_that_are_listed(rt: HostRuntime) -> Result<(), Fail> {
-        let alloc = rt.alloc();
-        let table = [
-            ([0, 0], (false, false, false), "abcde"),
-            ([1, 0], (true, false, false), "cde"),
-            ([2, 0], (false, true, false), "abde"),
-            ([3, 1], (true, false, true), "c"),
-            ([4, 5], (false, false, false), "abcde"),
-        ];
-        for (fail, failed, given) in table {
-            let mut out = MemorySink::new(alloc, &fail)?;
-            assert_eq!(rt; put_thrice(&mut out), failed, "{fail:?}");
-            assert_eq!(rt; out.bytes(), given.as_bytes(), "{fail:?}");
-        }
-        Ok(())
-    }
-}

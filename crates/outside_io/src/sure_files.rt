@@ -87,38 +87,3 @@ impl Files for SureFiles {
         Ok(())
     }
 }
-
-#[cfg(test)]
-mod tests {
-    use super::*;
-    use std::test::Fail;
-
-    // Reads four bytes of a file, through the trait alone.
-    fn read<F: Files>(alloc: Global, files: &mut F, name: &str) -> Result<Vec<u8>, FileFault> {
-        let mut into = Vec::from_slice(alloc, b"> ")?;
-        files.read_front(name, 4, &mut into)?;
-        Ok(into)
-    }
-
-    #[test]
-    fn has_every_name_and_never_fails(rt: HostRuntime) -> Result<(), Fail> {
-        let alloc = rt.alloc();
-        let mut files = SureFiles::new(alloc);
-        assert_eq!(rt; files.get("a"), Some(b"".as_slice()));
-        assert_eq!(rt; read(alloc, &mut files, "a")?.as_slice(), b"> ".as_slice());
-        files.append("a", b"one")?;
-        files.append("a", b"two")?;
-        assert_eq!(rt; files.get("a"), Some(b"onetwo".as_slice()));
-        assert_eq!(rt;
-            read(alloc, &mut files, "a")?.as_slice(),
-            b"> onet".as_slice()
-        );
-        files.add("b", b"three")?;
-        files.create("a")?;
-        assert_eq!(rt; files.get("a"), Some(b"".as_slice()));
-        assert_eq!(rt; files.get("b"), Some(b"three".as_slice()));
-        files.create("c")?;
-        assert_eq!(rt; files.get("c"), Some(b"".as_slice()));
-        Ok(())
-    }
-}

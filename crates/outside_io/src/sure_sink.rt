@@ -42,24 +42,3 @@ impl Sink for SureSink {
         Ok(())
     }
 }
-
-#[cfg(test)]
-mod tests {
-    use super::*;
-    use std::test::Fail;
-
-    // Puts twice, through the trait alone.
-    fn put_twice<O: Sink>(out: &mut O) -> Result<(), SinkFault> {
-        out.put(b"ab")?;
-        out.put(b"cde")
-    }
-
-    #[test]
-    fn keeps_all_that_was_put(rt: HostRuntime) -> Result<(), Fail> {
-        let mut out = SureSink::new(rt.alloc());
-        assert_eq!(rt; out.bytes(), b"".as_slice());
-        put_twice(&mut out)?;
-        assert_eq!(rt; out.bytes(), b"abcde".as_slice());
-        Ok(())
-    }
-}

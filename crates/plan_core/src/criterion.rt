@@ -36,27 +36,3 @@ impl Values {
         }
     }
 }
-
-#[cfg(test)]
-mod tests {
-    use super::*;
-
-    #[test]
-    fn each_criterion_names_its_own_value(rt: HostRuntime) {
-        let values = Values {
-            height: 2,
-            bends: 0,
-            diagonal: 4,
-            width: 7,
-        };
-        let cases = [
-            (Criterion::Height, 2),
-            (Criterion::Bends, 0),
-            (Criterion::Diagonal, 4),
-            (Criterion::Width, 7),
-        ];
-        for (criterion, value) in cases {
-            assert_eq!(rt; values.of(criterion), value);
-        }
-    }
-}

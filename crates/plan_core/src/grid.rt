@@ -76,36 +76,3 @@ impl Grid {
         self.least
     }
 }
-
-#[cfg(test)]
-mod tests {
-    use super::*;
-
-    #[test]
-    fn a_grid_has_its_limits(rt: HostRuntime) {
-        let cases = [
-            (40, 8, 1, true),
-            (1, 0, 1, true),
-            (64, 12, 16, true),
-            (0, 8, 1, false),
-            (65, 8, 1, false),
-            (40, 13, 1, false),
-            (40, 8, 0, false),
-            (40, 8, 17, false),
-            (u16::MAX, u16::MAX, u16::MAX, false),
-        ];
-        for (width, height, least, is_grid) in cases {
-            let shown = match Grid::with_least(width, height, least) {
-                Some(grid) => (grid.width(), grid.height(), grid.least()) == (width, height, least),
-                None => !is_grid,
-            };
-            assert!(rt; shown, "{width} by {height}, {least}");
-            if least == 1 {
-                assert_eq!(rt;
-                    Grid::new(width, height),
-                    Grid::with_least(width, height, 1)
-                );
-            }
-        }
-    }
-}

@@ -84,26 +84,3 @@ impl<T> Items<T> {
         &self.items
     }
 }
-
-#[cfg(test)]
-mod tests {
-    use super::*;
-    use std::test::Fail;
-
-    #[test]
-    fn a_list_keeps_its_items_in_order(rt: HostRuntime) -> Result<(), Fail> {
-        let mileages = [600, 0, 100, 500];
-        let mut list = Items::new(rt.alloc());
-        assert!(rt; list.is_empty());
-        for (i, mileage) in mileages.iter().enumerate() {
-            list.push(*mileage)?;
-            assert_eq!(rt; list.len(), i + 1);
-            assert_eq!(rt; list.get(i), mileage);
-        }
-        assert!(rt; !list.is_empty());
-        assert_eq!(rt; list.as_slice(), mileages.as_slice());
-        let again = Items::from_vec(list.into_vec());
-        assert_eq!(rt; again.as_slice(), mileages.as_slice());
-        Ok(())
-    }
-}

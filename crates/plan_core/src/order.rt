@@ -74,36 +74,3 @@ impl Order {
         self.list[i]
     }
 }
-
-#[cfg(test)]
-mod tests {
-    use super::*;
-    use Criterion::{Bends, Diagonal, Height, Width};
-
-    #[test]
-    fn an_order_has_each_of_its_criteria_once(rt: HostRuntime) {
-        let cases: [(&[Criterion], bool); 9] = [
-            (&[Height, Bends, Diagonal, Width], true),
-            (&[Width, Height], true),
-            (&[Bends], true),
-            (&[Diagonal, Width, Height], true),
-            (&[], false),
-            (&[Bends, Bends], false),
-            (&[Height, Width, Height], false),
-            (&[Height, Bends, Diagonal, Width, Width], false),
-            (&[Width, Height, Bends, Diagonal, Width], false),
-        ];
-        for (list, is_order) in cases {
-            match Order::new(list) {
-                Some(order) => {
-                    assert!(rt; is_order);
-                    assert_eq!(rt; order.len(), list.len());
-                    for i in 0..order.len() {
-                        assert_eq!(rt; order.get(i), list[i]);
-                    }
-                }
-                None => assert!(rt; !is_order),
-            }
-        }
-    }
-}

@@ -63,21 +63,3 @@ impl Text {
         self.text.as_str().as_bytes()
     }
 }
-
-#[cfg(test)]
-mod tests {
-    use super::*;
-    use std::test::Fail;
-
-    #[test]
-    fn a_text_is_its_bytes(rt: HostRuntime) -> Result<(), Fail> {
-        for name in ["", "mb", "Gleis 1", "Zürich"] {
-            let text = Text::from_bytes(rt.alloc(), name.as_bytes())?;
-            assert_eq!(rt; text.bytes(), name.as_bytes());
-            assert_eq!(rt; text.as_str(), name);
-            let same = Text::from_string(text.into_string());
-            assert_eq!(rt; same.as_str(), name);
-        }
-        Ok(())
-    }
-}

@@ -14,8 +14,6 @@ mod drawing;
 mod line;
 mod measuring;
 mod pieces;
-#[cfg(test)]
-mod tests;
 
 pub use comparing::better;
 pub use drawing::Drawing;

@@ -37,6 +37,3 @@ pub use sheet_fault::{SheetFault, SheetWhat};
 pub use sheet_reading::{read_drawing, read_sheet};
 pub use sheet_text::write_sheet;
 pub use svg::write_svg;
-
-#[cfg(test)]
-mod examples;

@@ -52,33 +52,3 @@ pub(crate) fn is_mileage(field: &[u8]) -> bool
         None => is_size(field),
     }
 }
-
-#[cfg(test)]
-mod tests {
-    use super::*;
-
-    #[test]
-    fn a_mileage_has_its_form(rt: HostRuntime) {
-        let cases: [(&[u8], bool); 16] = [
-            (b"0.000000", true),
-            (b"-0.000000", true),
-            (b"12402.500000", true),
-            (b"-9999999999.999999", true),
-            (b"10000000000.000000", false),
-            (b"00.000000", false),
-            (b"01.000000", false),
-            (b".000000", false),
-            (b"-.000000", false),
-            (b"1.00000", false),
-            (b"1.0000000", false),
-            (b"1,000000", false),
-            (b"+1.000000", false),
-            (b"--1.000000", false),
-            (b"1a.000000", false),
-            (b"", false),
-        ];
-        for (field, is_one) in cases {
-            assert_eq!(rt; is_mileage(field), is_one, "{field:?}");
-        }
-    }
-}

@@ -20,8 +20,6 @@ mod laws;
 mod leftmost;
 mod option_values;
 mod reading;
-#[cfg(test)]
-mod tests;
 
 pub use command::Command;
 pub use fault::{WordFault, WordWhat};

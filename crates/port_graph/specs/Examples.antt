@@ -81,30 +81,16 @@ back_topology = topology
     ∷ track (codes "l") 8 (joined_end (codes "lb") 9 (at_mile 500000000) (conn (codes "d1") 10 0 (Branch 0)))
     (joined_end (codes "le") 11 (at_mile 100000000) (conn (codes "d2") 12 0 (Branch 1))) [] ∷ [])
 
--- Two tracks and a crossover, whose switch on the upper track stands at this mileage, and whose own track
--- ends there.
-
-abbrev pub lower_track : Track
-lower_track = track (codes "p") 1 (open_end (codes "pb") 2 (at_mile 0)) (open_end (codes "pe") 3 (at_mile 1000000000))
-    (switch (codes "a") 4 (at_mile 200000000) true Left (conn (codes "ca") 5 2 Begin) ∷ [])
-
-abbrev pub upper_track : Micro → Track
-upper_track mile = track (codes "q") 6 (open_end (codes "qb") 7 (at_mile 0)) (open_end (codes "qe") 8 (at_mile 1000000000))
-    (switch (codes "b") 9 mile false Left (conn (codes "cb") 10 2 End) ∷ [])
-
-abbrev pub between_track : Micro → Track
-between_track mile = track (codes "x") 11 (joined_end (codes "xb") 12 (at_mile 200000000) (conn (codes "xa") 13 0 (Branch 0)))
-    (joined_end (codes "xe") 14 mile (conn (codes "xd") 15 1 (Branch 0))) []
-
-abbrev pub crossover : Micro → Topology
-crossover mile = topology (lower_track ∷ upper_track mile ∷ between_track mile ∷ [])
+-- Two tracks and a crossover, from a switch at 200 metres to one at 260.
 
 abbrev pub cross_topology : Topology
-cross_topology = crossover (at_mile 260000000)
-
--- its crossover has no length
-abbrev pub flat_topology : Topology
-flat_topology = crossover (at_mile 200000000)
+cross_topology = topology
+    (track (codes "p") 1 (open_end (codes "pb") 2 (at_mile 0)) (open_end (codes "pe") 3 (at_mile 1000000000))
+    (switch (codes "a") 4 (at_mile 200000000) true Left (conn (codes "ca") 5 2 Begin) ∷ [])
+    ∷ track (codes "q") 6 (open_end (codes "qb") 7 (at_mile 0)) (open_end (codes "qe") 8 (at_mile 1000000000))
+    (switch (codes "b") 9 (at_mile 260000000) false Left (conn (codes "cb") 10 2 End) ∷ [])
+    ∷ track (codes "x") 11 (joined_end (codes "xb") 12 (at_mile 200000000) (conn (codes "xa") 13 0 (Branch 0)))
+    (joined_end (codes "xe") 14 (at_mile 260000000) (conn (codes "xd") 15 1 (Branch 0))) [] ∷ [])
 
 -- Two tracks apart from each other.
 
@@ -211,22 +197,12 @@ station_topology = topology
     ∷ track (codes "l") 20 (joined_end (codes "lb") 21 (at_mile 400000000) (conn (codes "ld") 22 1 (Branch 1)))
     (joined_end (codes "le") 23 (at_mile 800000000) (conn (codes "lf") 24 1 (Branch 2))) [] ∷ [])
 
--- Two tracks that are joined end to end; the end that is listed first is given first. Where the second
--- track ends in the joint instead of beginning there, both edges lie west of it.
+-- Two tracks that are joined end to end; the end that is listed first is given first.
 
 abbrev pub joint_topology : Topology
 joint_topology = topology
     (track (codes "a") 1 (open_end (codes "ab") 2 (at_mile 0)) (joined_end (codes "ae") 3 (at_mile 600000000) (conn (codes "c1") 4 1 Begin)) []
     ∷ track (codes "b") 5 (joined_end (codes "bb") 6 (at_mile 610000000) (conn (codes "c2") 7 0 End)) (open_end (codes "be") 8 (at_mile 900000000)) [] ∷ [])
-
-abbrev pub first_folded : Track
-first_folded = track (codes "a") 1 (open_end (codes "ab") 2 (at_mile 0)) (joined_end (codes "ae") 3 (at_mile 600000000) (conn (codes "c1") 4 1 End)) []
-
-abbrev pub second_folded : Track
-second_folded = track (codes "b") 5 (open_end (codes "bb") 6 (at_mile 300000000)) (joined_end (codes "be") 7 (at_mile 600000000) (conn (codes "c2") 8 0 End)) []
-
-abbrev pub folded_topology : Topology
-folded_topology = topology (first_folded ∷ second_folded ∷ [])
 
 -- the joint has the name and the mileage of the first end
 abbrev pub joint_graph : Graph

@@ -41,8 +41,3 @@ pub use laws::{
 pub use ports::{NodeKind, Ports};
 use runs::{Join, Run, Spot};
 use sites::{Meeting, Site};
-
-#[cfg(test)]
-mod examples;
-#[cfg(test)]
-mod tests;

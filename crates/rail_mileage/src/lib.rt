@@ -12,8 +12,6 @@
 
 mod laws;
 mod reading;
-#[cfg(test)]
-mod tests;
 mod writing;
 
 pub use laws::{one_reading, written_is_read};

@@ -16,8 +16,6 @@ mod faults;
 mod laws;
 mod progress;
 mod rows;
-#[cfg(test)]
-mod tests;
 
 pub use document::read;
 pub use faults::ReadFault;

@@ -28,6 +28,3 @@ pub use fault::{ItemFault, TextWhat};
 pub use item::{Attr, AttrList, Item, ItemKind};
 pub use runs::{is_blank, past_blanks};
 pub use scanning::scan;
-
-#[cfg(test)]
-mod tests;

@@ -34,8 +34,6 @@ mod rows;
 mod sites;
 mod tables;
 mod telling;
-#[cfg(test)]
-mod tests;
 mod tracks;
 
 pub use fault::{ResolveFault, TopologyWhat};

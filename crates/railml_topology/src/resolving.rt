@@ -69,6 +69,3 @@ pub fn resolve(alloc: Global, rows: &Records) -> Result<Topology, ResolveFault>
 {
     topology_or_fault(alloc, rows.as_slice())
 }
-
-#[cfg(test)]
-mod tests;

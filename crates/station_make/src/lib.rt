@@ -14,6 +14,3 @@ mod numbered;
 mod station;
 
 pub use making::make;
-
-#[cfg(test)]
-mod tests;

@@ -16,6 +16,3 @@ mod put;
 mod sum;
 
 pub use sum::Sum;
-
-#[cfg(test)]
-mod tests;
