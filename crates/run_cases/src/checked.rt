@@ -1,15 +1,16 @@
 // What `check` answers: to what `draw` wrote, to logs that were changed, and to sheets and logs that don't belong together.
 use crate::answers::ONE_SHEET;
 use crate::cases::{run_untraced, words_from};
-use crate::drawn::{LOOP_SHEET, logged};
-use crate::stations::{LOOP, ONE};
+use crate::drawn::{LOOP_SHEET, is_best, logged};
+use crate::stations::{LOOP, ONE, STATION};
 use outside_io::{MemoryFiles, SureFiles, SureSink};
 use std::alloc::{AllocError, Global};
 use std::test::Fail;
 
-const ORDER: &str = "height,bends,diagonal,width";
+pub const ORDER: &str = "height,bends,diagonal,width";
 
-const TITLE: &str = "railplan-log 1\n";
+/// The first line of every log.
+pub const TITLE: &str = "railplan-log 1\n";
 
 /// One column longer than the best.
 const LONGER_SHEET: &str = "railplan 2
@@ -25,7 +26,7 @@ end best
 ";
 
 /// The same without the claim that no lawful drawing is better.
-const UNSETTLED_SHEET: &str = "railplan 2
+pub const UNSETTLED_SHEET: &str = "railplan 2
 grid 40 8 1
 order height bends diagonal width
 nodes 2
@@ -54,7 +55,7 @@ const NO_DRAWING_SHEET: &str =
     "railplan 2\ngrid 4 8 1\norder height bends diagonal width\nend none\n";
 
 /// What `check` answers to a file, a sheet and a log.
-fn checked(alloc: Global, file: &str, sheet: &str, log: &str) -> Result<(u8, Vec<u8>), Fail> {
+pub fn checked(alloc: Global, file: &str, sheet: &str, log: &str) -> Result<(u8, Vec<u8>), Fail> {
     let words = words_from(alloc, &["check", "station.xml", "sheet", "log"])?;
     let mut files = SureFiles::new(alloc);
     files.add("station.xml", file.as_bytes())?;
@@ -82,37 +83,84 @@ fn note_wrong(
     Ok(())
 }
 
-/// The log behind its first line.
-fn behind_title(log: &str) -> &str {
-    match log.split_once('\n') {
+/// What stands behind the first line.
+fn behind_line(text: &str) -> &str {
+    match text.split_once('\n') {
         Some((_, lines)) => lines,
         None => "",
     }
 }
 
-/// The log with one line more, which becomes its second.
-fn with_second(alloc: Global, log: &str, line: &str) -> Result<String, AllocError> {
-    format!(in alloc; "{TITLE}{line}\n{}", behind_title(log))
+/// A change of a log.
+enum Change {
+    Nothing,
+    /// Another first line.
+    Title(&'static str),
+    /// This line before its second.
+    Before(&'static str),
+    WithoutSecond,
+    /// The first literal of its second line negated.
+    Negated,
+    /// No lines that begin so.
+    Without(&'static str),
+    /// This behind its last line.
+    Behind(&'static str),
+    WithoutEnd,
+    TitleAlone,
+    Empty,
 }
 
-/// The log without its second line.
-fn without_second(alloc: Global, log: &str) -> Result<String, AllocError> {
-    format!(in alloc; "{TITLE}{}", behind_title(behind_title(log)))
+/// A change of the loop's log, and what answers it: the status and the line. Where the line ends with the number of the
+/// log's last line, or of one so many behind it, that number is left out.
+type Tampered = (Change, u8, &'static str, Option<usize>);
+
+static TAMPERED: [Tampered; 16] = [
+    (Change::Nothing, 0, "certified 4", None),
+    (Change::Before("f 0"), 8, "check Differs line 2", None),
+    (Change::Before("r 0"), 8, "check WrongQuery line 2", None),
+    (Change::Before("l 1 0"), 8, "check NewVar line 2", None),
+    (Change::Before("m"), 0, "certified 4", None),
+    (
+        Change::Title("railplan-log 2"),
+        1,
+        "log 1 Header line 1",
+        None,
+    ),
+    (Change::WithoutEnd, 1, "log 2 Form line ", Some(0)),
+    (Change::Behind("x"), 1, "log 2 Form line ", Some(1)),
+    (Change::TitleAlone, 8, "check Lacks place 1", None),
+    (Change::Empty, 1, "log 1 Header line 1", None),
+    (Change::Before("f 01 0"), 1, "log 3 Number line 2", None),
+    (Change::Negated, 8, "check Differs line 2", None),
+    (Change::WithoutSecond, 8, "check Differs line 2", None),
+    (Change::Without("r "), 8, "check Lacks place 1", None),
+    (
+        Change::Behind("l 1 0"),
+        8,
+        "check NotImplied line ",
+        Some(1),
+    ),
+    (Change::Behind("m"), 0, "certified 4", None),
+];
+
+/// The log's first line, and behind it these.
+fn titled(alloc: Global, lines: &str) -> Result<String, AllocError> {
+    format!(in alloc; "{TITLE}{lines}")
 }
 
-/// The log, the first literal of whose second line is negated.
-fn with_literal_negated(alloc: Global, log: &str) -> Result<String, AllocError> {
-    let literals = behind_title(log).strip_prefix("f ").unwrap_or("");
+/// These lines, the first literal of the first of which is negated.
+fn negated(alloc: Global, lines: &str) -> Result<String, AllocError> {
+    let literals = lines.strip_prefix("f ").unwrap_or("");
     match literals.strip_prefix('-') {
-        Some(variable) => format!(in alloc; "{TITLE}f {variable}"),
-        None => format!(in alloc; "{TITLE}f -{literals}"),
+        Some(variable) => format!(in alloc; "f {variable}"),
+        None => format!(in alloc; "f -{literals}"),
     }
 }
 
-/// The log without the lines that begin so.
-fn without_lines(alloc: Global, log: &str, front: &str) -> Result<String, Fail> {
+/// The lines that don't begin so.
+fn without_lines(alloc: Global, lines: &str, front: &str) -> Result<String, AllocError> {
     let mut kept = String::new(alloc);
-    for line in log.lines() {
+    for line in lines.lines() {
         if !line.starts_with(front) {
             kept.push_str(line)?;
             kept.push('\n')?;
@@ -121,115 +169,70 @@ fn without_lines(alloc: Global, log: &str, front: &str) -> Result<String, Fail> 
     Ok(kept)
 }
 
+/// The log with a change.
+fn changed(alloc: Global, log: &str, change: &Change) -> Result<String, AllocError> {
+    let lines = behind_line(log);
+    match change {
+        Change::Nothing => String::from_str(alloc, log),
+        Change::Title(title) => format!(in alloc; "{title}\n{lines}"),
+        Change::Before(line) => format!(in alloc; "{TITLE}{line}\n{lines}"),
+        Change::WithoutSecond => titled(alloc, behind_line(lines)),
+        Change::Negated => titled(alloc, &negated(alloc, lines)?),
+        Change::Without(front) => without_lines(alloc, log, front),
+        Change::Behind(line) => format!(in alloc; "{log}{line}\n"),
+        Change::WithoutEnd => String::from_str(alloc, log.strip_suffix('\n').unwrap_or("")),
+        Change::TitleAlone => titled(alloc, ""),
+        Change::Empty => Ok(String::new(alloc)),
+    }
+}
+
+/// The line that answers a change of a log of so many lines.
+fn numbered(
+    alloc: Global,
+    line: &str,
+    counted: Option<usize>,
+    lines: usize,
+) -> Result<String, AllocError> {
+    match counted {
+        Some(behind) => format!(in alloc; "{line}{}", lines.saturating_add(behind)),
+        None => String::from_str(alloc, line),
+    }
+}
+
+#[test]
+fn answers_changed_logs(rt: HostRuntime) -> Result<(), Fail> {
+    let alloc = rt.alloc();
+    let (log, sheet) = logged(alloc, ORDER, LOOP)?;
+    let lines = log.lines().count();
+    let mut wrong = String::new(alloc);
+    for (change, status, line, counted) in &TAMPERED {
+        let text = changed(alloc, &log, change)?;
+        let answer = checked(alloc, LOOP, &sheet, &text)?;
+        let line = numbered(alloc, line, *counted, lines)?;
+        note_wrong(alloc, &mut wrong, &line, &answer, *status, &line)?;
+    }
+    assert_eq!(rt; wrong.as_str(), "");
+    Ok(())
+}
+
+/// What `draw` wrote is lawful and certified.
 #[test]
 fn certifies_what_draw_wrote(rt: HostRuntime) -> Result<(), Fail> {
     let alloc = rt.alloc();
     let mut wrong = String::new(alloc);
-    for (shows, file) in [("one track", ONE), ("a loop", LOOP)] {
-        let (log, sheet) = logged(alloc, ORDER, file)?;
-        let answer = checked(alloc, file, sheet.as_str(), log.as_str())?;
-        note_wrong(alloc, &mut wrong, shows, &answer, 0, "certified 4")?;
-        let modelled = with_second(alloc, log.as_str(), "m")?;
-        let answer = checked(alloc, file, sheet.as_str(), modelled.as_str())?;
-        note_wrong(alloc, &mut wrong, "a Model line", &answer, 0, "certified 4")?;
-    }
-    let (log, sheet) = logged(alloc, "width", ONE)?;
-    let answer = checked(alloc, ONE, sheet.as_str(), log.as_str())?;
-    note_wrong(alloc, &mut wrong, "width", &answer, 0, "certified 1")?;
-    assert_eq!(rt; wrong.as_str(), "");
-    Ok(())
-}
-
-#[test]
-fn refuses_changed_logs(rt: HostRuntime) -> Result<(), Fail> {
-    let alloc = rt.alloc();
-    let (log, sheet) = logged(alloc, ORDER, ONE)?;
-    let log = log.as_str();
-    let lines = log.lines().count();
-    let cases = [
-        (
-            "a clause more",
-            with_second(alloc, log, "f 0")?,
-            String::from_str(alloc, "check Differs line 2")?,
-        ),
-        (
-            "a clause changed",
-            with_literal_negated(alloc, log)?,
-            String::from_str(alloc, "check Differs line 2")?,
-        ),
-        (
-            "a clause left out",
-            without_second(alloc, log)?,
-            String::from_str(alloc, "check Differs line 2")?,
-        ),
-        (
-            "an answer without a query",
-            with_second(alloc, log, "r 0")?,
-            String::from_str(alloc, "check WrongQuery line 2")?,
-        ),
-        (
-            "a variable that there isn't",
-            with_second(alloc, log, "l 1 0")?,
-            String::from_str(alloc, "check NewVar line 2")?,
-        ),
-        (
-            "no answer to the query",
-            without_lines(alloc, log, "r ")?,
-            String::from_str(alloc, "check Lacks place 4")?,
-        ),
-        (
-            "a clause that isn't implied",
-            format!(in alloc; "{log}l 1 0\nl -1 0\n")?,
-            format!(in alloc; "check NotImplied line {}", lines.saturating_add(1))?,
-        ),
-    ];
-    let mut wrong = String::new(alloc);
-    for (shows, log, line) in &cases {
-        let answer = checked(alloc, ONE, sheet.as_str(), log.as_str())?;
-        note_wrong(alloc, &mut wrong, shows, &answer, 8, line.as_str())?;
-    }
-    assert_eq!(rt; wrong.as_str(), "");
-    Ok(())
-}
-
-#[test]
-fn tells_a_fault_of_a_log(rt: HostRuntime) -> Result<(), Fail> {
-    let alloc = rt.alloc();
-    let (log, sheet) = logged(alloc, ORDER, ONE)?;
-    let log = log.as_str();
-    let lines = log.lines().count();
-    let unended = log.strip_suffix('\n').unwrap_or("");
-    let cases = [
-        (
-            "nothing",
-            String::new(alloc),
-            String::from_str(alloc, "log 1 Header line 1")?,
-        ),
-        (
-            "another first line",
-            format!(in alloc; "railplan-log 2\n{}", behind_title(log))?,
-            String::from_str(alloc, "log 1 Header line 1")?,
-        ),
-        (
-            "an unended line",
-            String::from_str(alloc, unended)?,
-            format!(in alloc; "log 2 Form line {lines}")?,
-        ),
-        (
-            "a line of no form at the end",
-            format!(in alloc; "{log}x\n")?,
-            format!(in alloc; "log 2 Form line {}", lines.saturating_add(1))?,
-        ),
-        (
-            "a number that isn't canonical, in a clause that differs",
-            with_second(alloc, log, "f 01 0")?,
-            String::from_str(alloc, "log 3 Number line 2")?,
-        ),
-    ];
-    let mut wrong = String::new(alloc);
-    for (shows, log, line) in &cases {
-        let answer = checked(alloc, ONE, sheet.as_str(), log.as_str())?;
-        note_wrong(alloc, &mut wrong, shows, &answer, 1, line.as_str())?;
+    for (file, order, measures, line) in [
+        (ONE, ORDER, "0 0 0 1", "certified 4"),
+        (ONE, "width", "0 0 0 1", "certified 1"),
+        (LOOP, "width,height", "1 2 2 5", "certified 2"),
+        (STATION, ORDER, "2 2 3 7", "certified 4"),
+    ] {
+        let (log, sheet) = logged(alloc, order, file)?;
+        assert!(rt;
+            is_best(alloc, file, sheet.as_bytes(), measures)?,
+            "{measures}"
+        );
+        let answer = checked(alloc, file, &sheet, &log)?;
+        note_wrong(alloc, &mut wrong, measures, &answer, 0, line)?;
     }
     assert_eq!(rt; wrong.as_str(), "");
     Ok(())
@@ -239,9 +242,21 @@ fn tells_a_fault_of_a_log(rt: HostRuntime) -> Result<(), Fail> {
 #[test]
 fn answers_sheets_with_a_log_of_no_lines(rt: HostRuntime) -> Result<(), Fail> {
     let alloc = rt.alloc();
-    let cases: [(&str, &str, &str, &str, u8, &str); 8] = [
+    let open = format!(in alloc;
+        "{}end conflicts 0\n",
+        LOOP_SHEET.strip_suffix("end best\n").unwrap_or("")
+    )?;
+    let cases: [(&str, &str, &str, &str, u8, &str); 9] = [
         ("one track", ONE, ONE_SHEET, TITLE, 8, "check Lacks place 4"),
         ("a loop", LOOP, LOOP_SHEET, TITLE, 8, "check Lacks place 1"),
+        (
+            "a loop, no value settled",
+            LOOP,
+            open.as_str(),
+            TITLE,
+            0,
+            "certified 0",
+        ),
         (
             "no drawing",
             LOOP,

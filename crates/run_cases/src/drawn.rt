@@ -2,7 +2,7 @@
 use crate::answers::{BULGE, ONE_SHEET};
 use crate::cases::{answer, run_untraced, words_from};
 use crate::stations::{BACK, CROSS, LOOP, ONE, SCISSORS, STATION, TWO};
-use outside_io::{MemoryFiles, SureFiles, SureSink};
+use outside_io::{SureFiles, SureSink};
 use refute_log::{LineList, LogLine};
 use schematic_main::run;
 use std::alloc::Global;
@@ -96,7 +96,7 @@ fn draws_these_sheets(rt: HostRuntime) -> Result<(), Fail> {
 }
 
 /// A sheet is best, and `verify` says that it is lawful and measures this.
-fn is_best(alloc: Global, file: &str, sheet: &[u8], measures: &str) -> Result<bool, Fail> {
+pub fn is_best(alloc: Global, file: &str, sheet: &[u8], measures: &str) -> Result<bool, Fail> {
     let text = std::str::from_utf8(sheet)?;
     let values = format!(in alloc; "\nvalues {measures}\nend best\n")?;
     let line = format!(in alloc; "lawful {measures}\n")?;
@@ -178,6 +178,27 @@ pub fn logged(alloc: Global, order: &str, file: &str) -> Result<(String, String)
     Ok((String::from_str(alloc, std::str::from_utf8(log)?)?, sheet))
 }
 
+/// Where the width is least before the height is, the sheet is the same but for its order, and the log tells bounds of the
+/// width first.
+#[test]
+fn draws_the_loop_in_two_orders(rt: HostRuntime) -> Result<(), Fail> {
+    let alloc = rt.alloc();
+    let (front, back) = LOOP_SHEET
+        .split_once("height bends diagonal width\n")
+        .ok_or("the sheet has its order")?;
+    for (order, words, first) in [
+        ("width,height", "width height\n", "width 1 "),
+        ("height,width", "height width\n", "height 1 "),
+    ] {
+        let (log, sheet) = logged(alloc, order, LOOP)?;
+        let due = format!(in alloc; "{front}{words}{back}")?;
+        assert_eq!(rt; sheet.as_str(), due.as_str());
+        let (_, bounds) = log.split_once("\nb ").ok_or("the log tells a bound")?;
+        assert!(rt; bounds.starts_with(first), "{order}");
+    }
+    Ok(())
+}
+
 /// The letter that a line's text begins with.
 fn letter(line: &LogLine) -> char {
     match line {
@@ -225,30 +246,6 @@ fn writes_the_log_that_a_trace_is_told(rt: HostRuntime) -> Result<(), Fail> {
         let told = letters(alloc, &trace)?;
         assert_eq!(rt; told.as_str(), first_letters(alloc, log.as_str())?.as_str());
         assert!(rt; told.as_str().ends_with('r'));
-    }
-    Ok(())
-}
-
-/// With a log that can't be created, can't be begun, or can't be written to its end, nothing is put.
-#[test]
-fn puts_no_sheet_without_its_log(rt: HostRuntime) -> Result<(), Fail> {
-    let alloc = rt.alloc();
-    let words = words_from(alloc, &["draw", "one.xml", "--log", "l"])?;
-    // the file is read by call 1, and the log created by call 2, begun by call 3 and ended by call 4
-    for failing in 2..5 {
-        let mut files = MemoryFiles::new(alloc, &[failing])?;
-        files.add("one.xml", ONE.as_bytes())?;
-        let mut out = SureSink::new(alloc);
-        assert_eq!(rt;
-            run_untraced(alloc, &words, &mut files, &mut out),
-            6,
-            "{failing}"
-        );
-        assert_eq!(rt; out.bytes(), b"".as_slice(), "{failing}");
-        assert_eq!(rt; files.get("one.xml"), Some(ONE.as_bytes()), "{failing}");
-        if let Some(log) = files.get("l") {
-            assert!(rt; b"railplan-log 1\n".starts_with(log), "{failing}");
-        }
     }
     Ok(())
 }

@@ -1,5 +1,7 @@
 // What `make` and `trial` answer: a made station's file, and the line that says how the search for its drawing ended.
 use crate::cases::{run_untraced, words_from};
+use crate::checked::{ORDER, checked};
+use crate::drawn::{is_best, logged};
 use outside_io::{SureFiles, SureSink};
 use std::alloc::Global;
 use std::test::Fail;
@@ -17,9 +19,8 @@ fn answered(alloc: Global, words: &[&'static str], file: &[u8]) -> Result<(u8, V
 #[test]
 fn draws_made_stations_best(rt: HostRuntime) -> Result<(), Fail> {
     let alloc = rt.alloc();
-    let cases: [(&'static str, &'static str); 3] = [
+    let cases: [(&'static str, &'static str); 2] = [
         ("0", "\nvalues 1 2 2 5\nend best\n"),
-        ("5", "\nvalues 1 12 12 25\nend best\n"),
         ("20", "\nvalues 2 12 12 25\nend best\n"),
     ];
     for (n, ending) in cases {
@@ -29,6 +30,21 @@ fn draws_made_stations_best(rt: HostRuntime) -> Result<(), Fail> {
         assert_eq!(rt; drawn, 0, "{n}");
         assert!(rt; std::str::from_utf8(&sheet)?.ends_with(ending), "{n}");
     }
+    Ok(())
+}
+
+/// `verify` says that it is lawful, and `check` that its log certifies it.
+#[test]
+fn certifies_a_made_station(rt: HostRuntime) -> Result<(), Fail> {
+    let alloc = rt.alloc();
+    let (made, bytes) = answered(alloc, &["make", "5"], b"")?;
+    assert_eq!(rt; made, 0);
+    let file = std::str::from_utf8(&bytes)?;
+    let (log, sheet) = logged(alloc, ORDER, file)?;
+    assert!(rt; is_best(alloc, file, sheet.as_bytes(), "1 12 12 25")?);
+    let (status, text) = checked(alloc, file, &sheet, &log)?;
+    assert_eq!(rt; status, 0);
+    assert_eq!(rt; text.as_slice(), b"certified 4\n".as_slice());
     Ok(())
 }
 

@@ -1,9 +1,8 @@
-// What runs take from outside and give to it: how long an input may be, how often it is read, and what
-// answers a fault.
+// What runs take from outside: how long an input may be, how often it is read, and what answers one that is cut short.
 use crate::answers::ONE_SHEET;
 use crate::cases::{run_untraced, words_from};
-use crate::stations::ONE;
-use outside_io::{Files, MemoryFiles, MemorySink, SureFiles, SureSink};
+use crate::stations::{LOOP, ONE};
+use outside_io::{Files, MemoryFiles, SureFiles, SureSink};
 use std::alloc::{AllocError, Global};
 use std::test::Fail;
 
@@ -66,60 +65,45 @@ fn verifies_nothing_past_the_limit(rt: HostRuntime) -> Result<(), Fail> {
 
 /// How often a run reads: the call after its last is the first that fails, and this test makes it.
 #[test]
-fn reads_each_input_once_and_no_sheet_in_vain(rt: HostRuntime) -> Result<(), Fail> {
+fn reads_no_input_behind_a_long_one(rt: HostRuntime) -> Result<(), Fail> {
     let alloc = rt.alloc();
-    let cases: [(&[&str], u32, u8); 8] = [
-        (&["draw", "one.xml"], 2, 0),
-        (&["graph", "one.xml"], 2, 0),
-        (&["verify", "one.xml", "sheet"], 3, 0),
-        (&["verify", "long.xml", "sheet"], 2, 1),
-        (&["verify", "one.xml", "long.xml"], 3, 1),
-        (&["check", "one.xml", "sheet", "log"], 4, 8),
-        (&["check", "long.xml", "sheet", "log"], 2, 1),
-        (&["check", "one.xml", "long.xml", "log"], 3, 1),
+    let long = padded(alloc, 4_194_305)?;
+    let cases: [(&[&str], u32, &str); 4] = [
+        (&["verify", "long.xml", "sheet"], 2, "long 1\n"),
+        (&["verify", "one.xml", "long.xml"], 3, "long 2\n"),
+        (&["check", "long.xml", "sheet", "log"], 2, "long 1\n"),
+        (&["check", "one.xml", "long.xml", "log"], 3, "long 2\n"),
     ];
-    for (words, next, status) in cases {
+    for (words, next, line) in cases {
         let words = words_from(alloc, words)?;
         let mut files = MemoryFiles::new(alloc, &[next])?;
         files.add("one.xml", ONE.as_bytes())?;
         files.add("sheet", ONE_SHEET.as_bytes())?;
-        files.add("log", b"railplan-log 1\n")?;
-        files.add("long.xml", &padded(alloc, 4_194_305)?)?;
+        files.add("long.xml", &long)?;
         let mut out = SureSink::new(alloc);
-        assert_eq!(rt;
-            run_untraced(alloc, &words, &mut files, &mut out),
-            status,
-            "{next}"
-        );
-        let mut bytes = Vec::new(alloc);
-        assert!(rt; files.read_front("one.xml", 1, &mut bytes).is_err());
+        assert_eq!(rt; run_untraced(alloc, &words, &mut files, &mut out), 1);
+        assert_eq!(rt; out.bytes(), line.as_bytes(), "{next}");
+        assert!(rt; files.append("one.xml", b"").is_err(), "{next}");
     }
     Ok(())
 }
 
+/// The loop's file, cut to each shorter length: of its bytes only the last, a line feed, may be missing.
 #[test]
-fn answers_faults_from_outside(rt: HostRuntime) -> Result<(), Fail> {
+fn refuses_each_cut_file(rt: HostRuntime) -> Result<(), Fail> {
     let alloc = rt.alloc();
-    let words = words_from(alloc, &["draw", "one.xml"])?;
-
-    let mut files = MemoryFiles::new(alloc, &[1])?;
-    files.add("one.xml", ONE.as_bytes())?;
-    let mut out = SureSink::new(alloc);
-    assert_eq!(rt; run_untraced(alloc, &words, &mut files, &mut out), 5);
-    assert_eq!(rt; out.bytes(), b"read failed 1\n".as_slice());
-    assert_eq!(rt; files.get("one.xml"), Some(ONE.as_bytes()));
-
-    let verify = words_from(alloc, &["verify", "one.xml", "one.xml"])?;
-    let mut files = MemoryFiles::new(alloc, &[2])?;
-    files.add("one.xml", ONE.as_bytes())?;
-    let mut out = SureSink::new(alloc);
-    assert_eq!(rt; run_untraced(alloc, &verify, &mut files, &mut out), 5);
-    assert_eq!(rt; out.bytes(), b"read failed 2\n".as_slice());
-
-    let mut files = SureFiles::new(alloc);
-    files.add("one.xml", ONE.as_bytes())?;
-    let mut out = MemorySink::new(alloc, &[1])?;
-    assert_eq!(rt; run_untraced(alloc, &words, &mut files, &mut out), 6);
-    assert!(rt; ONE_SHEET.as_bytes().starts_with(out.bytes()));
+    let words = words_from(alloc, &["draw", "loop.xml"])?;
+    let file = LOOP.as_bytes();
+    for size in 0..file.len() {
+        let mut files = SureFiles::new(alloc);
+        files.add("loop.xml", &file[..size])?;
+        let mut out = SureSink::new(alloc);
+        let status = run_untraced(alloc, &words, &mut files, &mut out);
+        assert_eq!(rt;
+            status,
+            u8::from(size.saturating_add(1) < file.len()),
+            "{size}"
+        );
+    }
     Ok(())
 }

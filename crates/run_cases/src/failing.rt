@@ -1,0 +1,188 @@
+// What runs put and leave where one call of their files, or of their sink, fails: each call in its turn, until a run
+// meets no failure.
+use crate::answers::ONE_SHEET;
+use crate::cases::{run_untraced, words_from};
+use crate::checked::{TITLE, UNSETTLED_SHEET};
+use crate::drawn::LOOP_SHEET;
+use crate::stations::{LOOP, ONE, ONE_GRAPH};
+use outside_io::{Files, MemoryFiles, MemorySink, Sink};
+use std::alloc::{AllocError, Global};
+use std::test::Fail;
+
+/// More calls than any of these runs makes.
+const MANY: u32 = 100;
+
+/// What a run leaves.
+#[derive(Drop)]
+struct Left {
+    status: u8,
+    put: Vec<u8>,
+    /// The file for the log, where it is there.
+    log: Option<Vec<u8>>,
+    /// Whether the call that was to fail is the one behind the run's last: then the run met no failure.
+    spared: bool,
+}
+
+/// A copy of a file, where it is there.
+fn copy_of(alloc: Global, files: &MemoryFiles, name: &str) -> Result<Option<Vec<u8>>, AllocError> {
+    match files.get(name) {
+        Some(bytes) => Ok(Some(Vec::from_slice(alloc, bytes)?)),
+        None => Ok(None),
+    }
+}
+
+/// The files of each run, some of whose calls fail.
+fn files_of(alloc: Global, failing: &[u32]) -> Result<MemoryFiles, Fail> {
+    let mut files = MemoryFiles::new(alloc, failing)?;
+    files.add("loop.xml", LOOP.as_bytes())?;
+    files.add("one.xml", ONE.as_bytes())?;
+    files.add("sheet", UNSETTLED_SHEET.as_bytes())?;
+    files.add("log", TITLE.as_bytes())?;
+    Ok(files)
+}
+
+/// What a run leaves where these calls of its files and these of its sink fail.
+fn left_by(
+    alloc: Global,
+    words: &[&'static str],
+    of_files: &[u32],
+    of_sink: &[u32],
+) -> Result<Left, Fail> {
+    let words = words_from(alloc, words)?;
+    let mut files = files_of(alloc, of_files)?;
+    let mut out = MemorySink::new(alloc, of_sink)?;
+    let status = run_untraced(alloc, &words, &mut files, &mut out);
+    Ok(Left {
+        status,
+        put: Vec::from_slice(alloc, out.bytes())?,
+        log: copy_of(alloc, &files, "l")?,
+        spared: files.append("log", b"").is_err() || out.put(b"").is_err(),
+    })
+}
+
+/// Whether a file isn't there or begins the text.
+fn begins(file: &Option<Vec<u8>>, text: &Option<Vec<u8>>) -> bool {
+    match (file, text) {
+        (Some(file), Some(text)) => text.starts_with(file),
+        (Some(_), None) => false,
+        (None, _) => true,
+    }
+}
+
+/// The words of a run that writes a log, and the sheet that it puts where it meets no failure.
+static DRAWINGS: [(&'static [&'static str], &'static str); 2] = [
+    (&["draw", "loop.xml", "--log", "l"], LOOP_SHEET),
+    (&["draw", "one.xml", "--log", "l"], ONE_SHEET),
+];
+
+/// Whether a run that writes a log answers so where this call of its files fails, and leaves so much of the log. Where the
+/// read fails no file is created, and where a later call fails nothing is put.
+fn tells_failing_call(left: &Left, whole: &Left, failing: u32) -> bool {
+    if left.spared {
+        left.status == 0 && left.put == whole.put && left.log == whole.log
+    } else if failing == 1 {
+        left.status == 5
+            && left.put.as_slice() == b"read failed 1\n".as_slice()
+            && left.log.is_none()
+    } else {
+        left.status == 6 && left.put.is_empty() && begins(&left.log, &whole.log)
+    }
+}
+
+#[test]
+fn draw_tells_each_failing_call_of_its_files(rt: HostRuntime) -> Result<(), Fail> {
+    let alloc = rt.alloc();
+    for (words, sheet) in &DRAWINGS {
+        let whole = left_by(alloc, words, &[], &[])?;
+        assert_eq!(rt; whole.put.as_slice(), sheet.as_bytes());
+        let mut is_spared = false;
+        for failing in 1..MANY {
+            let left = left_by(alloc, words, &[failing], &[])?;
+            assert!(rt;
+                tells_failing_call(&left, &whole, failing),
+                "{words:?} {failing}"
+            );
+            is_spared = left.spared;
+            if is_spared {
+                break;
+            }
+        }
+        assert!(rt; is_spared, "{words:?}");
+    }
+    Ok(())
+}
+
+/// The words of a run that writes no file, how many files it reads, and the status and the text of the run that meets no
+/// failure.
+type Reading = (&'static [&'static str], u32, u8, &'static str);
+
+static READINGS: [Reading; 5] = [
+    (&["graph", "one.xml"], 1, 0, ONE_GRAPH),
+    (&["verify", "one.xml", "sheet"], 2, 0, "lawful 0 0 0 2\n"),
+    (&["check", "one.xml", "sheet", "log"], 3, 0, "certified 3\n"),
+    (
+        &["check", "loop.xml", "sheet", "log"],
+        3,
+        1,
+        "sheet 3 Graph line 4\n",
+    ),
+    (
+        &["trial", "0"],
+        0,
+        0,
+        "trial 0 nodes 4 edges 4 height 1 width 5\n",
+    ),
+];
+
+/// The run reads each of its inputs once, and says which read failed.
+#[test]
+fn each_failing_read_is_told(rt: HostRuntime) -> Result<(), Fail> {
+    let alloc = rt.alloc();
+    for (words, inputs, status, text) in &READINGS {
+        for failing in 1..inputs.saturating_add(2) {
+            let left = left_by(alloc, words, &[failing], &[])?;
+            let line = format!(in alloc; "read failed {failing}\n")?;
+            let (status, text) = if failing > *inputs {
+                (*status, *text)
+            } else {
+                (5, line.as_str())
+            };
+            assert_eq!(rt; left.spared, failing > *inputs, "{words:?} {failing}");
+            assert_eq!(rt; left.status, status, "{words:?} {failing}");
+            assert_eq!(rt; left.put.as_slice(), text.as_bytes(), "{words:?} {failing}");
+        }
+    }
+    Ok(())
+}
+
+/// Whether a run puts this text in one piece, and ends with 6 where that put fails: then a front of the text was put, and
+/// the log is as it is without a failure.
+fn tells_failing_put(
+    alloc: Global,
+    words: &[&'static str],
+    status: u8,
+    text: &str,
+) -> Result<bool, Fail> {
+    let failed = left_by(alloc, words, &[], &[1])?;
+    let whole = left_by(alloc, words, &[], &[2])?;
+    let is_whole = whole.spared
+        && whole.status == status
+        && whole.put.as_slice() == text.as_bytes();
+    let is_front = text.as_bytes().starts_with(&failed.put) && failed.log == whole.log;
+    Ok(is_whole && is_front && failed.status == 6 && !failed.spared)
+}
+
+#[test]
+fn each_failing_put_is_told(rt: HostRuntime) -> Result<(), Fail> {
+    let alloc = rt.alloc();
+    for (words, sheet) in &DRAWINGS {
+        assert!(rt; tells_failing_put(alloc, words, 0, sheet)?, "{words:?}");
+    }
+    for (words, _, status, text) in &READINGS {
+        assert!(rt;
+            tells_failing_put(alloc, words, *status, text)?,
+            "{words:?}"
+        );
+    }
+    Ok(())
+}
