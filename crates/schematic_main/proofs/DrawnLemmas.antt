@@ -18,12 +18,9 @@ use Rattle.refute_log.specs.Told.{Lines}
 use Rattle.lex_search.specs.declared.outcome.Outcome.{Outcome}
 use Rattle.lex_search.specs.declared.outcome.Outcome.TheVariants as outcomes
 use Rattle.lex_search.specs.Outcome.{IsOutcome}
-use Rattle.schematic_main.specs.declared.status.Status.{Status}
-use Rattle.schematic_main.specs.Status.{IsRefused}
-use Rattle.schematic_main.proofs.StatusLemmas.{outcome_unrefused}
 use Rattle.schematic_main.specs.Met.{Met}
 use Rattle.schematic_main.specs.SearchLog.{IsLogOf}
-use Rattle.schematic_main.specs.Drawn.{Job, search_of, sheet_of, found_by, status_of, HasSearched}
+use Rattle.schematic_main.specs.Drawn.{Job, search_of, sheet_of, found_by, HasSearched}
 
 -- ---- an order, criterion by criterion
 
@@ -89,7 +86,7 @@ ended_sheet g o asked outcome sheet same is searched = (
 
 -- ---- where the lines stand
 
--- a search whose lines were told to such a log is one whose lines were told where the words say, where they ask for that log
+-- lines told to a log of this name, where the words name it, are told where the words say
 pub searched_named : {E : Type 0} (g : Graph) (o : EdgeOrder) (asked : Job) (met : Met) (traced : Lines → Type 0) (named : Option (List ℕ)) (r : Result Outcome E) → asked.log ≡ named →
     IfOk r (HasSearched g o asked (IsLogOf named met traced)) → IfOk r (HasSearched g o asked (IsLogOf asked.log met traced))
 searched_named g o asked met traced named (Ok outcome) is searched = subst (λ (log : Option (List ℕ)). HasSearched g o asked (IsLogOf log met traced) outcome) (sym is) searched
@@ -101,7 +98,3 @@ found_draws g o asked (outcomes.Best d) lines ended = ended_draws g o asked (out
 found_draws g o asked outcomes.NoDrawing lines ended = tt
 found_draws g o asked (outcomes.Spent found settled) lines ended = ended_draws g o asked (outcomes.Spent found settled) lines ended
 found_draws g o asked (outcomes.Room found settled) lines ended = ended_draws g o asked (outcomes.Room found settled) lines ended
-
--- an outcome's status isn't that of a refused run
-pub drawn_unrefused : (outcome : Outcome) (status : Status) → status ≡ status_of outcome → IsRefused status → ⊥
-drawn_unrefused outcome status is refused = outcome_unrefused outcome (subst (λ (s : Status). IsRefused s) is refused)

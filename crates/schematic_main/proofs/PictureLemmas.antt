@@ -1,10 +1,9 @@
 -- How a picture comes to stand in a file, and what draw answers once it does.
-use Rattle.std.proofs.Common.{◌≡◌, ◌≢◌, ℕ, ◌≤◌, List, [], ◌++◌, take, drop, append-nil, None, Some, refl, ◌∙◌, inl, inr, arith}
+use Rattle.std.proofs.Common.{◌≡◌, ℕ, List, [], ◌++◌, take, drop, append-nil, None, Some, refl, ◌∙◌, subst, inl, inr}
 use Rattle.std.specs.Prelude.{false, ⊤, Result, Ok, Err, OnOk, OnErr}
 use Rattle.std.specs.declared.option.Option.{Option}
 use Rattle.std.proofs.lemmas.List.{take-append-drop}
 use Rattle.outside_io.specs.Contents.{Told, WhereTold, SameFiles, Sets, MaySet}
-use Rattle.outside_io.specs.Counts.{Rose}
 use Rattle.plan_core.specs.declared.limits.TheConstants.{MAX_FILE_BYTES}
 use Rattle.plan_core.specs.Graph.{Graph}
 use Rattle.plan_core.specs.Drawing.{Drawing}
@@ -22,16 +21,10 @@ use Rattle.schematic_main.specs.Pictured.{BeginsPicture, IsPictured}
 use Rattle.schematic_main.specs.SearchLog.{IsLogFile, IsLogOf}
 use Rattle.schematic_main.specs.Drawn.{Job, sheet_of, found_by, status_of, HasSearched, IsDrawAnswer}
 use Rattle.schematic_main.specs.Commands.{picture_file, log_output, picture_output, AreFilesApart, LeavesFiles}
-use Rattle.schematic_main.specs.Run.{FailsToWrite}
-use Rattle.schematic_main.proofs.LeavesLemmas.{told_then, told_so, left_begun_alone, log_stands, picture_stands, HasWholeLog}
+use Rattle.schematic_main.proofs.LeavesLemmas.{leaves_drawn, told_then, told_so, left_begun_alone, log_stands, picture_stands, HasWholeLog}
 use Rattle.schematic_main.proofs.PassesLemmas.{ended_passes}
 
 -- ---- the picture's file
-
--- a file that wasn't touched
-pub untouched : (c : Option Told) (name bytes : List ℕ) → WhereTold c c (MaySet name bytes)
-untouched None name bytes = tt
-untouched (Some a) name bytes = record { either = inl refl; others = λ other ne. refl }
 
 begins_all : (g : Graph) (d : Drawing) → HasSizeOf g d → BeginsPicture (svg_text g d)
 begins_all g d sized = record { graph = g; drawing = d; sized = sized; more = []; spelled = append-nil (svg_text g d) }
@@ -53,19 +46,6 @@ pub leaves_either : {T E : Type 0} (r : Result T E) (old new : Option Told) (nam
     WhereTold old new (LeavesFiles (picture_output (Some name)) ⊥)
 leaves_either (Ok x) old new name g d sized all part = leaves_whole old new name g d sized all
 leaves_either (Err e) old new name g d sized all part = leaves_part old new name g d sized part
-
--- the file that is named for a picture holds it
-pub is_pictured : (old new : FilesAt) (name : List ℕ) (g : Graph) (d : Drawing) → WhereTold old.contents new.contents (Sets name (svg_text g d)) → IsPictured (Some name) (between old new) g (Some d)
-is_pictured old new name g d = told_so (Sets name (svg_text g d)) (λ _ b. b name ≡ Some (svg_text g d)) old.contents new.contents (λ a b set. set.there)
-
-stands_still : (c : Option Told) (name : List ℕ) → WhereTold c c (λ before after. after name ≡ before name)
-stands_still None name = tt
-stands_still (Some told) name = refl
-
--- without a drawing it stands as it stood
-pub is_unpictured : (named : Option (List ℕ)) (at : FilesAt) (g : Graph) → IsPictured named (between at at) g None
-is_unpictured None at g = tt
-is_unpictured (Some name) at g = stands_still at.contents name
 
 -- ---- the picture after other steps
 
@@ -92,7 +72,7 @@ pictured_later (Some name) old mid new g (Some d) stands pictured =
 -- ---- the log before the picture
 
 -- it is whole once its lines are told
-pub whole_log : (log : Option (List ℕ)) (old mid : FilesAt) (traced : Lines → Type 0) (lines : Lines) → WhereTold old.contents mid.contents (LeavesFiles (log_output log) ⊥) → IsLogOf log (between old mid) traced lines →
+whole_log : (log : Option (List ℕ)) (old mid : FilesAt) (traced : Lines → Type 0) (lines : Lines) → WhereTold old.contents mid.contents (LeavesFiles (log_output log) ⊥) → IsLogOf log (between old mid) traced lines →
     WhereTold old.contents mid.contents (λ _ b. HasWholeLog log b)
 whole_log None old mid traced lines leaves told = told_so (LeavesFiles [] ⊥) (λ _ b. ⊤) old.contents mid.contents (λ a b _. tt) leaves
 whole_log (Some name) old mid traced lines leaves told =
@@ -106,7 +86,14 @@ log_stays (Some name) svg old mid new traced lines apart leaves told =
     told_then (λ _ b. IsLogFile name lines b) (LeavesFiles (picture_output svg) ⊥) (λ _ b. IsLogFile name lines b) old.contents mid.contents new.contents
     (λ a b c file second. record { text = log_stands b c name svg apart second ∙ file.text; formed = file.formed }) told leaves
 
--- ---- what draw answers
+-- ---- what draw answers, and what it leaves
+
+pub leaves_pictured : (g : Graph) (o : EdgeOrder) (asked : Job) (old mid new : FilesAt) (traced : Lines → Type 0) (outcome : Outcome) (named : Option (List ℕ)) → named ≡ asked.svg → AreFilesApart (log_output asked.log ++ picture_output asked.svg) →
+    HasSearched g o asked (IsLogOf asked.log (between old mid) traced) outcome → WhereTold old.contents mid.contents (LeavesFiles (log_output asked.log) ⊥) → WhereTold mid.contents new.contents (LeavesFiles (picture_output named) ⊥) →
+    WhereTold old.contents new.contents (LeavesFiles (log_output asked.log ++ picture_output asked.svg) ⊥)
+leaves_pictured g o asked old mid new traced outcome named is apart searched first second =
+    leaves_drawn old.contents mid.contents new.contents asked.log asked.svg apart first (whole_log asked.log old mid traced searched.lines first searched.told)
+    (subst (λ (name : Option (List ℕ)). WhereTold mid.contents new.contents (LeavesFiles (picture_output name) ⊥)) is second)
 
 pub drawn_answer : (g : Graph) (o : EdgeOrder) (asked : Job) (old mid new : FilesAt) (traced : Lines → Type 0) (outcome : Outcome) (status : Status) (text : List ℕ) → AreFilesApart (log_output asked.log ++ picture_output asked.svg) →
     HasSearched g o asked (IsLogOf asked.log (between old mid) traced) outcome → WhereTold old.contents mid.contents (LeavesFiles (log_output asked.log) ⊥) → WhereTold mid.contents new.contents (LeavesFiles (picture_output asked.svg) ⊥) →
@@ -123,30 +110,3 @@ drawn_answer g o asked old mid new traced outcome status text apart searched fir
   };
   pictured = pictured_later asked.svg old mid new g (found_by outcome) (told_so (LeavesFiles (log_output asked.log) ⊥) (StandsWhereNamed asked.svg) old.contents mid.contents (λ a b. named_stands asked.log asked.svg a b apart) first) pictured;
 }
-
--- ---- the causes
-
--- where no file is named
-pub none_named : (log svg : Option (List ℕ)) → log_output log ++ picture_output svg ≡ [] → (log ≡ None) × (svg ≡ None)
-none_named None None none = (refl, refl)
-none_named None (Some p) none = absurd (cc)
-none_named (Some l) svg none = absurd (cc)
-
-some_front : (log svg : Option (List ℕ)) → log_output log ≢ [] → log_output log ++ picture_output svg ≢ []
-some_front None svg some = absurd (some refl)
-some_front (Some l) svg some = λ none. absurd (cc)
-
-some_back : (log svg : Option (List ℕ)) → picture_output svg ≢ [] → log_output log ++ picture_output svg ≢ []
-some_back None svg some = some
-some_back (Some l) svg some = λ none. absurd (cc)
-
--- the lines couldn't be written
-pub search_fails : (log svg : Option (List ℕ)) (old new : FilesAt) (trace_rose : Type 0) → FailsToWrite (log_output log) (log ≡ None) (between old new) trace_rose →
-    FailsToWrite (log_output log ++ picture_output svg) (log ≡ None) (between old new) trace_rose
-search_fails log svg old new trace_rose (inl (some, rose)) = inl (some_front log svg some, rose)
-search_fails log svg old new trace_rose (inr traced) = inr traced
-
--- the picture couldn't be
-pub picture_fails : (log svg : Option (List ℕ)) (old mid new : FilesAt) (trace_rose : Type 0) → old.write_faults ≤ mid.write_faults → (picture_output svg ≢ []) × Rose mid.write_faults new.write_faults →
-    FailsToWrite (log_output log ++ picture_output svg) (log ≡ None) (between old new) trace_rose
-picture_fails log svg old mid new trace_rose later (some, rose) = inl (some_back log svg some, omega (arith, later, rose))

@@ -7,8 +7,8 @@ use Rattle.schematic_main.specs.Pictured.{IsPictured}
 use Rattle.schematic_main.specs.Drawn.{Job, found_by}
 use Rattle.schematic_main.specs.Commands.{picture_output, LeavesFiles}
 use Rattle.schematic_main.proofs.DrawnLemmas.{found_draws}
-use Rattle.schematic_main.proofs.LeavesLemmas.{leaves_drawn, leaves_unpictured}
-use Rattle.schematic_main.proofs.PictureLemmas.{whole_log, drawn_answer}
+use Rattle.schematic_main.proofs.LeavesLemmas.{leaves_unpictured}
+use Rattle.schematic_main.proofs.PictureLemmas.{leaves_pictured, drawn_answer}
 use Rattle.schematic_main.proofs.drawing.draw_station.Goals as goal
 
 pub write_found-requires : goal.write_found-requires
@@ -24,37 +24,22 @@ pub returns-in_err-write_found-clause-leaves : goal.returns-in_err-write_found-c
 returns-in_err-write_found-clause-leaves g c =
     let at = files_at {Self = g.row.F.Denot} g.F.Files.contents g.F.Files.read_faults g.F.Files.write_faults g.F.Files.reads in
     let traced = told_to {Self = g.row.T.Denot} g.T.LogSink.tells g.T.LogSink.learnt c.args.trace.now c.search_told.new.trace in
-    let old = at c.args.files.now in
-    let mid = at c.search_told.new.files in
-    let new = at c.write_found.new.files in
-    let asked = c.args.asked.now in
-    let searched = c.in_ok-outcome.ensures.searched in
-    leaves_drawn old.contents mid.contents new.contents asked.log asked.svg c.requires.apart c.search_told.ensures.leaves (whole_log asked.log old mid traced searched.lines c.search_told.ensures.leaves searched.told)
-    (subst (λ (named : Option (List ℕ)). WhereTold mid.contents new.contents (LeavesFiles (picture_output named) ⊥)) (ap (λ (j : Job). j.svg) c.asked.view_is) c.write_found.ensures.leaves)
+    leaves_pictured c.args.station.now.graph c.args.station.now.order c.args.asked.now (at c.args.files.now) (at c.search_told.new.files) (at c.write_found.new.files) traced c.in_ok-outcome.outcome c.asked.inside.svg.now
+    (ap (λ (j : Job). j.svg) c.asked.view_is) c.requires.apart c.in_ok-outcome.ensures.searched c.search_told.ensures.leaves c.write_found.ensures.leaves
 
 pub returns-in_err-sheet_reply-clause-leaves : goal.returns-in_err-sheet_reply-clause-leaves
 returns-in_err-sheet_reply-clause-leaves g c =
     let at = files_at {Self = g.row.F.Denot} g.F.Files.contents g.F.Files.read_faults g.F.Files.write_faults g.F.Files.reads in
     let traced = told_to {Self = g.row.T.Denot} g.T.LogSink.tells g.T.LogSink.learnt c.args.trace.now c.search_told.new.trace in
-    let old = at c.args.files.now in
-    let mid = at c.search_told.new.files in
-    let new = at c.write_found.new.files in
-    let asked = c.args.asked.now in
-    let searched = c.in_ok-outcome.ensures.searched in
-    leaves_drawn old.contents mid.contents new.contents asked.log asked.svg c.requires.apart c.search_told.ensures.leaves (whole_log asked.log old mid traced searched.lines c.search_told.ensures.leaves searched.told)
-    (subst (λ (named : Option (List ℕ)). WhereTold mid.contents new.contents (LeavesFiles (picture_output named) ⊥)) (ap (λ (j : Job). j.svg) c.asked.view_is) c.write_found.ensures.leaves)
+    leaves_pictured c.args.station.now.graph c.args.station.now.order c.args.asked.now (at c.args.files.now) (at c.search_told.new.files) (at c.write_found.new.files) traced c.in_ok-outcome.outcome c.asked.inside.svg.now
+    (ap (λ (j : Job). j.svg) c.asked.view_is) c.requires.apart c.in_ok-outcome.ensures.searched c.search_told.ensures.leaves c.write_found.ensures.leaves
 
 pub returns-clause-leaves : goal.returns-clause-leaves
 returns-clause-leaves g c =
     let at = files_at {Self = g.row.F.Denot} g.F.Files.contents g.F.Files.read_faults g.F.Files.write_faults g.F.Files.reads in
     let traced = told_to {Self = g.row.T.Denot} g.T.LogSink.tells g.T.LogSink.learnt c.args.trace.now c.search_told.new.trace in
-    let old = at c.args.files.now in
-    let mid = at c.search_told.new.files in
-    let new = at c.write_found.new.files in
-    let asked = c.args.asked.now in
-    let searched = c.in_ok-outcome.ensures.searched in
-    leaves_drawn old.contents mid.contents new.contents asked.log asked.svg c.requires.apart c.search_told.ensures.leaves (whole_log asked.log old mid traced searched.lines c.search_told.ensures.leaves searched.told)
-    (subst (λ (named : Option (List ℕ)). WhereTold mid.contents new.contents (LeavesFiles (picture_output named) ⊥)) (ap (λ (j : Job). j.svg) c.asked.view_is) c.write_found.ensures.leaves)
+    leaves_pictured c.args.station.now.graph c.args.station.now.order c.args.asked.now (at c.args.files.now) (at c.search_told.new.files) (at c.write_found.new.files) traced c.in_ok-outcome.outcome c.asked.inside.svg.now
+    (ap (λ (j : Job). j.svg) c.asked.view_is) c.requires.apart c.in_ok-outcome.ensures.searched c.search_told.ensures.leaves c.write_found.ensures.leaves
 
 pub returns-clause-answer : goal.returns-clause-answer
 returns-clause-answer g c =
