@@ -19,6 +19,8 @@ struct Left {
     put: Vec<u8>,
     /// The file for the log, where it is there.
     log: Option<Vec<u8>>,
+    /// The file for the picture, where it is there.
+    picture: Option<Vec<u8>>,
     /// Whether the call that was to fail is the one behind the run's last: then the run met no failure.
     spared: bool,
 }
@@ -56,6 +58,7 @@ fn left_by(
         status,
         put: Vec::from_slice(alloc, out.bytes())?,
         log: copy_of(alloc, &files, "l")?,
+        picture: copy_of(alloc, &files, "s")?,
         spared: files.append("log", b"").is_err() || out.put(b"").is_err(),
     })
 }
@@ -69,23 +72,37 @@ fn begins(file: &Option<Vec<u8>>, text: &Option<Vec<u8>>) -> bool {
     }
 }
 
-/// The words of a run that writes a log, and the sheet that it puts where it meets no failure.
-static DRAWINGS: [(&'static [&'static str], &'static str); 2] = [
-    (&["draw", "loop.xml", "--log", "l"], LOOP_SHEET),
+/// The words of a run that writes files, and the sheet that it puts where it meets no failure.
+static DRAWINGS: [(&'static [&'static str], &'static str); 3] = [
+    (
+        &["draw", "loop.xml", "--log", "l", "--svg", "s"],
+        LOOP_SHEET,
+    ),
     (&["draw", "one.xml", "--log", "l"], ONE_SHEET),
+    (&["draw", "one.xml", "--svg", "s"], ONE_SHEET),
 ];
 
-/// Whether a run that writes a log answers so where this call of its files fails, and leaves so much of the log. Where the
-/// read fails no file is created, and where a later call fails nothing is put.
+/// Whether both runs leave the same files.
+fn same_files(left: &Left, whole: &Left) -> bool {
+    left.log == whole.log && left.picture == whole.picture
+}
+
+/// Whether a run that writes files answers so where this call of its files fails, and leaves so much of them. Where the read
+/// fails no file is created. Where a later call fails nothing is put, and the picture is begun behind a whole log.
 fn tells_failing_call(left: &Left, whole: &Left, failing: u32) -> bool {
     if left.spared {
-        left.status == 0 && left.put == whole.put && left.log == whole.log
+        left.status == 0 && left.put == whole.put && same_files(left, whole)
     } else if failing == 1 {
         left.status == 5
             && left.put.as_slice() == b"read failed 1\n".as_slice()
             && left.log.is_none()
+            && left.picture.is_none()
     } else {
-        left.status == 6 && left.put.is_empty() && begins(&left.log, &whole.log)
+        left.status == 6
+            && left.put.is_empty()
+            && begins(&left.log, &whole.log)
+            && begins(&left.picture, &whole.picture)
+            && (left.picture.is_none() || left.log == whole.log)
     }
 }
 
@@ -156,7 +173,7 @@ fn each_failing_read_is_told(rt: HostRuntime) -> Result<(), Fail> {
 }
 
 /// Whether a run puts this text in one piece, and ends with 6 where that put fails: then a front of the text was put, and
-/// the log is as it is without a failure.
+/// the files are as they are without a failure.
 fn tells_failing_put(
     alloc: Global,
     words: &[&'static str],
@@ -168,7 +185,7 @@ fn tells_failing_put(
     let is_whole = whole.spared
         && whole.status == status
         && whole.put.as_slice() == text.as_bytes();
-    let is_front = text.as_bytes().starts_with(&failed.put) && failed.log == whole.log;
+    let is_front = text.as_bytes().starts_with(&failed.put) && same_files(&failed, &whole);
     Ok(is_whole && is_front && failed.status == 6 && !failed.spared)
 }
 
