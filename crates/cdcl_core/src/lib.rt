@@ -24,8 +24,6 @@ mod moves;
 mod rounds;
 mod search;
 mod solver;
-#[cfg(test)]
-mod tests;
 
 pub use answer::Answer;
 pub use fault::{AddFault, SolveFault};

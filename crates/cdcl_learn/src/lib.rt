@@ -17,8 +17,6 @@ mod conflict;
 mod laws;
 mod shorter;
 mod tables;
-#[cfg(test)]
-mod tests;
 mod tracing;
 mod work;
 

@@ -14,6 +14,3 @@ mod told_bound;
 pub use judging::{first_lacking, none_certified};
 pub use laws::{no_literals_certify_none, one_place_lacks_first, only_greatest_values_lack};
 pub use told_bound::ToldBound;
-
-#[cfg(test)]
-mod tests;

@@ -2,4 +2,3 @@ pub mod CertifiedLemmas
 pub mod ExpectedLemmas
 pub mod MeetsLemmas
 pub mod CapsLemmas
-pub mod ExampleLemmas

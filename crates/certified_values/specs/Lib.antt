@@ -2,4 +2,3 @@ pub mod Bounds
 pub mod Certified
 pub mod Expected
 pub mod Full
-pub mod Examples

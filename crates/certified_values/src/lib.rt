@@ -21,6 +21,3 @@ pub use certified_laws::{
 pub use expected_laws::{
     caps_are_those_told, certified_over_expected_lines_is_least, expected_lines_come_sum_by_sum,
 };
-
-#[cfg(test)]
-mod examples;

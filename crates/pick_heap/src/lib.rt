@@ -8,7 +8,5 @@
 
 mod heap;
 mod matches;
-#[cfg(test)]
-mod tests;
 
 pub use heap::Heap;

@@ -29,6 +29,3 @@ mod undo;
 
 pub use checker::Checker;
 pub use fault::LineFault;
-
-#[cfg(test)]
-mod tests;

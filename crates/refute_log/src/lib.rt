@@ -43,6 +43,3 @@ pub use no_log::NoLog;
 pub use reading::read_line;
 pub use sink::{LogSink, LogSinkFault};
 pub use writing::write_line;
-
-#[cfg(test)]
-mod tests;

@@ -21,8 +21,6 @@ mod fault;
 mod laws;
 mod looks;
 mod tables;
-#[cfg(test)]
-mod tests;
 mod trail;
 mod visits;
 mod walks;
