@@ -1,7 +1,8 @@
 // What `check` answers: to what `draw` wrote, to logs that were changed, and to sheets and logs that don't belong together.
 use crate::answers::ONE_SHEET;
-use crate::cases::{run_untraced, words_from};
+use crate::cases::{run_untraced, sheet_of, words_from};
 use crate::drawn::{LOOP_SHEET, is_best, logged};
+use crate::pictures::LOOP_PICTURE;
 use crate::stations::{LOOP, ONE, STATION};
 use outside_io::{MemoryFiles, SureFiles, SureSink};
 use std::alloc::{AllocError, Global};
@@ -53,6 +54,37 @@ end best
 
 const NO_DRAWING_SHEET: &str =
     "railplan 2\ngrid 4 8 1\norder height bends diagonal width\nend none\n";
+
+/// The loop's line goes up and then down, without a level between.
+const PEAKED_SHEET: &str = "railplan 1
+grid 40 8
+order height bends diagonal width
+nodes 4
+node 0 mb 0 0
+node 1 me 5 0
+node 2 s1 1 0
+node 3 s2 4 0
+edges 4
+edge 0 0 2 0 0 1 0
+edge 1 2 3 1 0 4 0
+edge 2 3 1 4 0 5 0
+edge 3 2 3 1 0 2 1 3 0
+values 1 2 2 5
+end best
+";
+
+/// The track lies in row 5, and its height isn't asked for.
+const HIGH_SHEET: &str = "railplan 2
+grid 40 8 1
+order bends
+nodes 2
+node 0 mb 0 5 0.000000
+node 1 me 1 5 600.000000
+edges 1
+edge 0 m 0 1 0 5 1 5
+values 5 0 0 1
+end best
+";
 
 /// What `check` answers to a file, a sheet and a log.
 pub fn checked(alloc: Global, file: &str, sheet: &str, log: &str) -> Result<(u8, Vec<u8>), Fail> {
@@ -238,6 +270,18 @@ fn certifies_what_draw_wrote(rt: HostRuntime) -> Result<(), Fail> {
     Ok(())
 }
 
+/// A sheet of text 1 and one of text 2 that say the same are certified by the same log.
+#[test]
+fn certifies_a_sheet_of_text_1(rt: HostRuntime) -> Result<(), Fail> {
+    let alloc = rt.alloc();
+    let (log, _) = logged(alloc, ORDER, LOOP)?;
+    let sheet = sheet_of(alloc, LOOP_PICTURE)?;
+    let (status, text) = checked(alloc, LOOP, &sheet, &log)?;
+    assert_eq!(rt; status, 0);
+    assert_eq!(rt; text.as_slice(), b"certified 4\n".as_slice());
+    Ok(())
+}
+
 /// Of the file, the sheet and a log, the first line of every log, or no line.
 #[test]
 fn answers_sheets_with_a_log_of_no_lines(rt: HostRuntime) -> Result<(), Fail> {
@@ -246,7 +290,7 @@ fn answers_sheets_with_a_log_of_no_lines(rt: HostRuntime) -> Result<(), Fail> {
         "{}end conflicts 0\n",
         LOOP_SHEET.strip_suffix("end best\n").unwrap_or("")
     )?;
-    let cases: [(&str, &str, &str, &str, u8, &str); 9] = [
+    let cases: [(&str, &str, &str, &str, u8, &str); 11] = [
         ("one track", ONE, ONE_SHEET, TITLE, 8, "check Lacks place 4"),
         ("a loop", LOOP, LOOP_SHEET, TITLE, 8, "check Lacks place 1"),
         (
@@ -280,6 +324,22 @@ fn answers_sheets_with_a_log_of_no_lines(rt: HostRuntime) -> Result<(), Fail> {
             TITLE,
             1,
             "sheet 3 Graph line 4",
+        ),
+        (
+            "a line of no shape",
+            LOOP,
+            PEAKED_SHEET,
+            TITLE,
+            1,
+            "sheet 4 Shape line 13",
+        ),
+        (
+            "a height that is left free",
+            ONE,
+            HIGH_SHEET,
+            TITLE,
+            0,
+            "certified 1",
         ),
         (
             "a drawing that breaks a law, and no log",

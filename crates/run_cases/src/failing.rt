@@ -133,7 +133,8 @@ fn draw_tells_each_failing_call_of_its_files(rt: HostRuntime) -> Result<(), Fail
 /// failure.
 type Reading = (&'static [&'static str], u32, u8, &'static str);
 
-static READINGS: [Reading; 5] = [
+static READINGS: [Reading; 6] = [
+    (&["draw", "one.xml"], 1, 0, ONE_SHEET),
     (&["graph", "one.xml"], 1, 0, ONE_GRAPH),
     (&["verify", "one.xml", "sheet"], 2, 0, "lawful 0 0 0 2\n"),
     (&["check", "one.xml", "sheet", "log"], 3, 0, "certified 3\n"),
