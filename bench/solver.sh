@@ -1,9 +1,9 @@
 #!/bin/sh
 # Measures the solver of crates/cdcl_core beside minisat (Debian's package minisat, and g++) on the same clauses: seven
-# pigeons in six holes, and 200 formulas of 150 variables and 639 clauses of three literals each, near the number where
-# about half of them have a model. Prints for each program how many formulas have a model, conflicts, milliseconds of
-# the quickest of five runs in turn, and conflicts a second. No log is kept. The program is proved and built in a folder
-# of its own, beside copies of the crates below it.
+# pigeons in six holes, and 200 formulas of 150 variables, of 639 drawn clauses each those of three variables.
+# Prints for each program how many formulas have a model, conflicts, milliseconds of the quickest of five runs in turn, and
+# conflicts a second. No log is kept. The program is proved and built in a folder of its own, beside copies of the crates
+# below it.
 set -eu
 top=$(cd "$(dirname "$0")/.." && pwd)
 command -v rt >/dev/null 2>&1 || { echo "bench/solver.sh: the Rattle toolchain's command rt is needed" >&2; exit 1; }
