@@ -1,5 +1,5 @@
 -- Why a line of a log is refused after lines that are accepted.
-use Rattle.std.specs.Prelude.{◌≡◌, ◌≢◌, ◌⊎◌, [], ◌∷◌, ◌++◌}
+use Rattle.std.specs.Prelude.{◌≡◌, ◌≢◌, ◌⊎◌, ℕ, List, [], ◌∷◌, ◌++◌, codes}
 use Rattle.cnf_core.specs.declared.limits.TheConstants.{ROOM}
 use Rattle.refute_log.specs.declared.line.LogLine.{LogLine}
 use Rattle.refute_log.specs.Told.{Lines}
@@ -39,3 +39,14 @@ IsRefusedFor e before line NewVar = IsComparedLine e before line × NamesNew (fa
 IsRefusedFor e before line WrongQuery = IsComparedLine e before line × AnswersWrongly (kept_of_lines before) line
 IsRefusedFor e before line NotImplied = IsComparedLine e before line × IsUnproved (kept_of_lines before) line
 IsRefusedFor e before line NotNew = IsComparedLine e before line × IsOld (kept_of_lines before) line
+
+-- ---- the words
+
+-- a refusal's word, as the line of a verdict has it
+abbrev pub word_of : Refusal → List ℕ
+word_of Room = codes "Room"
+word_of Differs = codes "Differs"
+word_of NewVar = codes "NewVar"
+word_of WrongQuery = codes "WrongQuery"
+word_of NotImplied = codes "NotImplied"
+word_of NotNew = codes "NotNew"

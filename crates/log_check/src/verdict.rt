@@ -1,4 +1,7 @@
 // What is answered to a log.
+ghost use Rattle.std.specs.Prelude.{◌≡◌};
+ghost use Rattle.log_check.specs.Refused.{word_of};
+
 use refute_log::LogWhat;
 
 /// Why a line of a log is refused. Where several causes hold, the first of these is answered: no room for what is expected,
@@ -9,7 +12,7 @@ pub enum Refusal {
     Room,
     /// The Formula or Bound line isn't the next of those that are expected.
     Differs,
-    /// The line names a variable that no Formula line before it reaches.
+    /// The line names a variable that is greater than all in the Formula lines before it.
     NewVar,
     /// The Refuted line has a literal that isn't the negation of one of the latest query, or no query stands before it.
     WrongQuery,
@@ -17,6 +20,22 @@ pub enum Refusal {
     NotImplied,
     /// The learnt clause says nothing new.
     NotNew,
+}
+
+impl Refusal {
+    /// The refusal's word, as the line of a verdict has it.
+    pub fn word(self) -> &'static str
+        ensures { result.now ≡ word_of self }
+    {
+        match self {
+            Refusal::Room => "Room",
+            Refusal::Differs => "Differs",
+            Refusal::NewVar => "NewVar",
+            Refusal::WrongQuery => "WrongQuery",
+            Refusal::NotImplied => "NotImplied",
+            Refusal::NotNew => "NotNew",
+        }
+    }
 }
 
 /// Whether a log certifies a claim, or what is first wrong with it. Lines are numbered from 1, and the first line of

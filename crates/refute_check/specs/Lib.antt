@@ -1,4 +1,3 @@
-pub mod Faults
 pub mod Kept
 pub mod Tables
 pub mod Words

@@ -1,7 +1,4 @@
 // Why a line is refused.
-ghost use Rattle.std.specs.Prelude.{◌≡◌, Some, None, MatchOption};
-ghost use Rattle.refute_check.specs.Faults.{word_of};
-
 use plan_core::OutOfMemory;
 use std::alloc::{AllocError, AllocFailed};
 use thiserror::Error;
@@ -32,22 +29,6 @@ pub enum LineFault {
     /// Memory couldn't be had. The checker isn't used further.
     #[error("out of memory")]
     Memory,
-}
-
-impl LineFault {
-    /// The refusal's word, as a fault line has it; want of memory has none.
-    pub fn word(&self) -> Option<&'static str>
-        ensures { MatchOption result (word_of self.now ≡ None) (λ word. word_of self.now ≡ Some word.now) }
-    {
-        match self {
-            LineFault::NewVar => Some("NewVar"),
-            LineFault::WrongQuery => Some("WrongQuery"),
-            LineFault::Room => Some("Room"),
-            LineFault::NotImplied => Some("NotImplied"),
-            LineFault::NotNew => Some("NotNew"),
-            LineFault::Memory => None,
-        }
-    }
 }
 
 impl From<AllocError> for LineFault {

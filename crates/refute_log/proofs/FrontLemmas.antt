@@ -6,14 +6,13 @@ use Rattle.outside_io.specs.Contents.{Told, WhereTold, SameElsewhere, Sets, Appe
 use Rattle.refute_log.specs.declared.line.LogLine.{LogLine}
 use Rattle.refute_log.specs.Lines.{header, ended_text, MayBeTold}
 use Rattle.plan_core.proofs.ListFacts.{each_pushed}
-use Rattle.refute_log.specs.OneText.{formed_lines}
 use Rattle.refute_log.specs.Told.{Lines}
 use Rattle.refute_log.specs.FileLog.{TellsText, FileBeginsLog, KeepsLogText}
 use Rattle.refute_log.proofs.StartLemmas.{started}
 use Rattle.refute_log.proofs.TextLemmas.{text_gathered, text_appended}
 
 pub whole_begins : (told : Told) (name gathered : List ℕ) (lines : Lines) → TellsText false (Some told) name gathered lines → FileBeginsLog told name
-whole_begins told name gathered lines h = (h.1.0, h.1.1, record { lines = lines; more = gathered; formed = formed_lines lines h.2; spelled = h.1.2 })
+whole_begins told name gathered lines h = (h.1.0, h.1.1, record { lines = lines; more = gathered; formed = h.2; spelled = h.1.2 })
 
 pub kept_begins : (failed : Bool) (told : Told) (name gathered : List ℕ) → KeepsLogText failed told name gathered → FileBeginsLog told name
 kept_begins true told name gathered k = k
@@ -41,7 +40,7 @@ cut_begins old new name gathered w k =
       record {
         lines = k.0;
         more = drop grown.0 gathered;
-        formed = formed_lines k.0 k.1.2;
+        formed = k.1.2;
         spelled = append_assoc bytes (take grown.0 gathered) (drop grown.0 gathered) ∙ ap (λ (xs : List ℕ). bytes ++ xs) (take-append-drop grown.0 gathered) ∙ k.1.1.2;
       },
     )

@@ -7,7 +7,7 @@ use Rattle.outside_io.specs.Counts.{Rose}
 use Rattle.refute_log.specs.declared.file_log.Gathered.{Gathered}
 use Rattle.refute_log.specs.declared.sink.LogSinkFault.{LogSinkFault}
 use Rattle.refute_log.specs.declared.sink.LogSinkFault.TheVariants.{Failed}
-use Rattle.refute_log.specs.Lines.{header, log_text, AreWellFormed, MayAllBeTold}
+use Rattle.refute_log.specs.Lines.{header, log_text, MayAllBeTold}
 use Rattle.refute_log.specs.OneText.{log_text_once, formed_lines}
 use Rattle.refute_log.specs.Told.{Lines}
 use Rattle.refute_log.specs.Log.{learnt_count}
@@ -42,7 +42,7 @@ TellsLines kept contents lines = TellsText kept.failed contents (name_of kept) k
 pub record BeginsLog (bytes : List ℕ) : Type 0 where
   pub lines : Lines
   pub more : List ℕ
-  pub formed : AreWellFormed lines
+  pub formed : MayAllBeTold lines
   pub spelled : bytes ++ more ≡ log_text lines
 
 -- the file is there, and its bytes begin the text of some log

@@ -15,6 +15,7 @@ use Rattle.log_check.specs.declared.verdict.Refusal.{Refusal}
 use Rattle.log_check.specs.declared.verdict.Refusal.TheVariants as refusals
 use Rattle.log_check.specs.declared.verdict.Verdict.{Verdict}
 use Rattle.log_check.specs.declared.verdict.Verdict.TheVariants as verdicts
+use Rattle.log_check.specs.Refused.{word_of}
 use Rattle.schematic_main.specs.declared.fault.RunFault.TheVariants.{Log}
 use Rattle.schematic_main.specs.declared.status.Status.{Status}
 use Rattle.schematic_main.specs.declared.status.Status.TheVariants.{Done, Unfinished, Broken}
@@ -40,14 +41,6 @@ claim_of order None (endings.Room settled) = claims.Nothing
 
 -- ---- the lines
 
-abbrev pub refusal_word : Refusal → List ℕ
-refusal_word refusals.Room = codes "Room"
-refusal_word refusals.Differs = codes "Differs"
-refusal_word refusals.NewVar = codes "NewVar"
-refusal_word refusals.WrongQuery = codes "WrongQuery"
-refusal_word refusals.NotImplied = codes "NotImplied"
-refusal_word refusals.NotNew = codes "NotNew"
-
 -- where a line has no room the log isn't judged to its end
 abbrev pub refusal_status : Refusal → Status
 refusal_status refusals.Room = Unfinished
@@ -68,7 +61,7 @@ verdict_status (verdicts.Faulty what line) = fault_status (Log what line)
 abbrev pub verdict_line : (places : ℕ) → Verdict → List ℕ
 verdict_line places verdicts.Certified = line_text (codes "certified") (decimal places ∷ [])
 verdict_line places (verdicts.Lacks place) = line_text (codes "check Lacks place") (decimal place ∷ [])
-verdict_line places (verdicts.Refused why line) = line_text (codes "check") (refusal_word why ∷ codes "line" ∷ decimal line ∷ [])
+verdict_line places (verdicts.Refused why line) = line_text (codes "check") (word_of why ∷ codes "line" ∷ decimal line ∷ [])
 verdict_line places (verdicts.Faulty what line) = fault_line (Log what line)
 
 -- the answer tells the verdict

@@ -51,6 +51,7 @@ pub record ReadsInputs (inputs : ℕ) (All : Type 0) (met : Met) : Type 0 where
   pub once : HasRead met number
   pub all : All → number ≡ inputs
 
--- no create and no append was tried: neither promises to leave the count of their faults as it was
+-- the count of faults of creating and appending is as it was. Neither call promises to leave it, so a run that is proved
+-- to tries none
 abbrev pub IsUnwritten : Met → Type 0
 IsUnwritten met = met.after.write_faults ≡ met.before.write_faults

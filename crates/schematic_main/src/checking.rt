@@ -9,7 +9,7 @@ ghost use Rattle.log_check.specs.Claimed.{IsClaimOf};
 ghost use Rattle.schematic_main.specs.Status.{IsAnswered};
 ghost use Rattle.schematic_main.specs.Met.{met_on, ReadsInputs, IsUnwritten};
 ghost use Rattle.schematic_main.specs.Answer.{text_input, log_input, IsAnswerAfter, IsAnswerOn};
-ghost use Rattle.schematic_main.specs.CheckLine.{claimed as claimed_by, claim_of as claim_in, refusal_word as word_for, refusal_status as status_for, verdict_line as line_for, TellsVerdict};
+ghost use Rattle.schematic_main.specs.CheckLine.{claimed as claimed_by, claim_of as claim_in, refusal_status as status_for, verdict_line as line_for, TellsVerdict};
 ghost use Rattle.schematic_main.specs.Checked.{IsFoundBroken, IsSheetAnswer, IsClaimJudged, IsChecked};
 
 use crate::fault::RunFault;
@@ -57,19 +57,6 @@ fn claim_of(sheet: &Sheet) -> Claim
 
 // ---- the lines
 
-fn refusal_word(why: Refusal) -> &'static str
-    ensures { result.now ≡ word_for why }
-{
-    match why {
-        Refusal::Room => "Room",
-        Refusal::Differs => "Differs",
-        Refusal::NewVar => "NewVar",
-        Refusal::WrongQuery => "WrongQuery",
-        Refusal::NotImplied => "NotImplied",
-        Refusal::NotNew => "NotNew",
-    }
-}
-
 fn refusal_status(why: Refusal) -> Status
     ensures { result ≡ status_for why }
 {
@@ -105,7 +92,7 @@ fn refused_line(alloc: Global, why: Refusal, number: u32) -> Result<Vec<u8>, Out
     ensures { IfOk result (λ v. v.items ≡ line_for 0 (Verdict.Refused why number)) }
 {
     let mut line = Vec::from_slice(alloc, b"check")?;
-    push_field(&mut line, refusal_word(why).as_bytes())?;
+    push_field(&mut line, why.word().as_bytes())?;
     push_field(&mut line, b"line")?;
     push_number_field(&mut line, number)?;
     push_text(&mut line, b"\n")?;
