@@ -172,15 +172,15 @@ def row(name, station, folder):
     cells = [name, *counts, end, values, str(learnt), f"{os.path.getsize(log) / 1e6:.1f}", f"{seconds:.2f}", f"{memory:.0f}"]
     if values != "-":
         judged, seconds, memory = run([PROGRAM, "verify", file, sheet], graph)
-        cells += [f"{seconds:.2f}" if judged == 0 else f"status {judged}"]
+        cells += [f"{seconds:.2f}" if judged == 0 else f"status {judged}", f"{memory:.0f}"]
     else:
-        cells += ["-"]
+        cells += ["-", "-"]
     checked, seconds, memory = run([PROGRAM, "check", file, sheet, log], graph)
     answer = open(graph).read().strip()
     return cells + ([f"{seconds:.2f}", f"{memory:.0f}"] if answer.startswith("certified") else [answer or f"status {checked}", "-"])
 
 
-HEAD = ["station", "nodes", "edges", "end", "values", "learnt lines", "log, MB", "draw, s", "MB", "verify, s", "check, s", "MB"]
+HEAD = ["station", "nodes", "edges", "end", "values", "learnt lines", "log, MB", "draw, s", "MB", "verify, s", "MB", "check, s", "MB"]
 print(f"{os.cpu_count()} processors, " + time.strftime("%Y-%m-%d"))
 print("| " + " | ".join(HEAD) + " |\n|" + "---|" * len(HEAD), flush=True)
 with tempfile.TemporaryDirectory() as folder:
