@@ -75,6 +75,7 @@ no_room_end y budget room order full =
       };
       told = inr refl;
       settled_is = refl;
+      unbounded = λ c. omega arith;
       no_model = nothing_there _;
       not_none = nothing_there _;
       cause = inr (refl, passes full);

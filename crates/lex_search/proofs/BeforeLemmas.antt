@@ -27,7 +27,7 @@ once_push held b once other = λ i j d lt low. by i j d lt (low_or_last j low)
         let ej : get_or (held ++ b ∷ []) j d ≡ b = get_or_push held b d j (sym last) in
         λ e. other i d (omega arith) (sym (ap (λ (x : Below). x.criterion) ei) ∙ e ∙ ap (λ (x : Below). x.criterion) ej)
 
-before_other : (order : List Criterion) (i : ℕ) (c d : Criterion) → IsOrder order → slice_get order i ≡ Some c → Contains (take i order) d → d ≢ c
+pub before_other : (order : List Criterion) (i : ℕ) (c d : Criterion) → IsOrder order → slice_get order i ≡ Some c → Contains (take i order) d → d ≢ c
 before_other order i c d is at there =
     let size = length-take i order in
     let lt = there.1 in
@@ -42,7 +42,7 @@ once_with order i c u held is at h = once_push held (below_limit c u) h.once (Al
 pub once_asked : (order : List Criterion) (i : ℕ) (c : Criterion) (u : ℕ) (held bounds : List Below) → IsOrder order → slice_get order i ≡ Some c → AreBefore order i held → bounds ≡ held ++ below_limit c u ∷ [] → AreOnce bounds
 once_asked order i c u held bounds is at h e = subst AreOnce (sym e) (once_with order i c u held is at h)
 
-in_next : (order : List Criterion) (i : ℕ) (c d : Criterion) → slice_get order i ≡ Some c → Contains (take i order) d → Contains (take (i + 1) order) d
+pub in_next : (order : List Criterion) (i : ℕ) (c d : Criterion) → slice_get order i ≡ Some c → Contains (take i order) d → Contains (take (i + 1) order) d
 in_next order i c d at k = subst (λ (cs : List Criterion). Contains cs d) (sym (take_next order i c at)) (Contains-append_left (take i order) (c ∷ []) d k)
 
 pub before_next : (order : List Criterion) (i : ℕ) (c : Criterion) (least cap : ℕ) (held then : List Below) → IsOrder order → slice_get order i ≡ Some c → AreBefore order i held → then ≡ held ++ hold c least cap → AreBefore order (i + 1) then

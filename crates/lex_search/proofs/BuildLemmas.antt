@@ -182,9 +182,11 @@ awaits_no_more p order i j d now cap lt there same skipped awaits =
     let positive = awaits.positive in
     omega (arith, only, positive)
 
+-- so the next criterion's bounds pass, and it stands at place i
 pub next_passes : (p : Task) (order : List Criterion) (i : ℕ) (c : Criterion) (n : ℕ) (cap : Criterion → ℕ) (vars : ℕ) (now : Lines) (v : Values) → IsOrder order → slice_get order i ≡ Some c → Counted p order i cap vars →
     clause_lines now ≡ expected_lines p.encoding order cap → ((d : Criterion) → caps (greatest_of p) now d ≡ cap d) → n ≡ min (value_of v c + 1) (greatest_of p c) → 1 ≤ greatest_of p c →
-    OnlyZeroSkipped p order i cap → Certifies (greatest_of p) now order v i → SumPasses p vars c n now → NextSumPasses p.encoding (greatest_of p) order now v p.room
+    OnlyZeroSkipped p order i cap → Certifies (greatest_of p) now order v i → SumPasses p vars c n now →
+    (next : NextSumPasses p.encoding (greatest_of p) order now v p.room) × (next.next.place ≡ i)
 next_passes p order i c n cap vars now v is at k told same size positive skipped cert passes =
     let e = p.encoding in
     let with_same : (d : Criterion) → with_cap cap c n d ≡ with_cap (caps (greatest_of p) now) c (min (value_of v c + 1) (greatest_of p c)) d =
@@ -192,18 +194,20 @@ next_passes p order i c n cap vars now v is at k told same size positive skipped
     let vars_with : vars + sum_vars_of e vars c n ≡ expected_vars e order (with_cap (caps (greatest_of p) now) c (min (value_of v c + 1) (greatest_of p c))) =
     sym (vars_built p order i c n cap vars is at k) ∙ expected_vars_same e order (with_cap cap c n) (with_cap (caps (greatest_of p) now) c (min (value_of v c + 1) (greatest_of p c))) with_same in
     let lines_with : clause_lines now ++ sum_lines e vars c n ≡ expected_lines e order (with_cap (caps (greatest_of p) now) c (min (value_of v c + 1) (greatest_of p c))) =
-    ap (λ (ls : Lines). ls ++ sum_lines e vars c n) told ∙ sym (expected_built p order i c n cap vars is at k) ∙ expected_same e order (with_cap cap c n) (with_cap (caps (greatest_of p) now) c (min (value_of v c + 1) (greatest_of p c))) with_same in
-    record {
-      criterion = c;
-      next = record {
-        place = i;
-        at = at;
-        awaits = record { none = no_vars p now c cap (same c) positive (k.unbuilt i c (omega arith) at); positive = positive };
-        first = λ j d lt there awaits. awaits_no_more p order i j d now cap lt there (same d) skipped awaits;
-        certified = cert;
-      };
-      passes = by passes vars_with lines_with;
-    }
+    ap (λ (ls : Lines). ls ++ sum_lines e vars c n) told ∙ sym (expected_built p order i c n cap vars is at k) ∙ expected_same e order (with_cap cap c n) (with_cap (caps (greatest_of p) now) c (min (value_of v c + 1) (greatest_of p c))) with_same in (
+      record {
+        criterion = c;
+        next = record {
+          place = i;
+          at = at;
+          awaits = record { none = no_vars p now c cap (same c) positive (k.unbuilt i c (omega arith) at); positive = positive };
+          first = λ j d lt there awaits. awaits_no_more p order i j d now cap lt there (same d) skipped awaits;
+          certified = cert;
+        };
+        passes = by passes vars_with lines_with;
+      },
+      refl,
+    )
   where
     by : SumPasses p vars c n now →
         vars + sum_vars_of p.encoding vars c n ≡ expected_vars p.encoding order (with_cap (caps (greatest_of p) now) c (min (value_of v c + 1) (greatest_of p c))) →

@@ -19,11 +19,12 @@ use Rattle.certified_values.proofs.CertifiedLemmas.{refuted_holds, reached, cert
 use Rattle.lex_search.specs.declared.oracle.Below.{Below}
 use Rattle.refute_log.specs.Log.{learnt, Open}
 use Rattle.certified_values.specs.Expected.{caps}
-use Rattle.certified_values.specs.Full.{IsFullLog, CapsPass, NextSumPasses}
+use Rattle.certified_values.specs.Full.{IsFullLog, CapsPass}
 use Rattle.cnf_core.proofs.QuantifierLemmas.{some_from_satisfies}
 use Rattle.lex_search.specs.declared.oracle.Stop.TheVariants.{BudgetSpent, RoomFull}
 use Rattle.lex_search.specs.declared.oracle.Stop.{Stop}
 use Rattle.lex_search.specs.Asked.{IsCause}
+use Rattle.lex_search.specs.Caps.{IsCauseWith}
 use Rattle.lex_search.specs.Outcome.{IsStoppedEnd, values_found}
 use Rattle.lex_search.specs.Task.{Task, greatest_of}
 use Rattle.lex_search.specs.Asked.{AreApart, AreMet, AreNegated, IsNegated, IsMet, MeetsQuery}
@@ -113,13 +114,13 @@ full_from p order s None lines e = by e.cause
     by (inr c) = inl c.1
 full_from p order s (Some d) lines e = by e.cause
   where
-    by : IsCause p RoomFull lines ⊎ ((RoomFull ≡ RoomFull) × NextSumPasses p.encoding (greatest_of p) order lines (values_of d) p.room) → IsFullLog p.encoding (greatest_of p) order lines (Some (values_of d)) p.room
-    by (inl c) = inr (inr c)
+    by : IsCauseWith p order s RoomFull d lines → IsFullLog p.encoding (greatest_of p) order lines (Some (values_of d)) p.room
+    by (inl c) = inr (inr c.0)
     by (inr c) = inr (inl (values_of d, refl, c.1))
 
 spent_from : (p : Task) (order : List Criterion) (s : ℕ) (found : Option Drawing) (lines : Lines) → IsStoppedEnd p order s BudgetSpent found lines → IsCause p BudgetSpent lines
 spent_from p order s None lines e = elim e.cause [ inl c ↦ c | inr c ↦ absurd (let f : BudgetSpent ≡ RoomFull = c.0 in cc) ]
-spent_from p order s (Some d) lines e = elim e.cause [ inl c ↦ c | inr c ↦ absurd (let f : BudgetSpent ≡ RoomFull = c.0 in cc) ]
+spent_from p order s (Some d) lines e = elim e.cause [ inl c ↦ c.0 | inr c ↦ absurd (let f : BudgetSpent ≡ RoomFull = c.0 in cc) ]
 
 pub count_from : (p : Task) (order : List Criterion) (s : ℕ) (found : Option Drawing) (lines : Lines) → IsStoppedEnd p order s BudgetSpent found lines → length (flat_map learnt lines) ≡ p.budget
 count_from p order s found lines e = (spent_from p order s found lines e).0

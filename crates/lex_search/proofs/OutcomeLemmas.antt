@@ -32,10 +32,12 @@ use Rattle.lex_search.specs.declared.oracle.Stop.TheVariants.{BudgetSpent, RoomF
 use Rattle.lex_search.specs.Task.{Task, IsLawful, greatest_of}
 use Rattle.lex_search.specs.Steps.{ToldBehind, Continues}
 use Rattle.lex_search.specs.Asked.{IsAsked, AreMet, AreAgainst, AreApart, IsCause, IsReply, IsRightReply}
+use Rattle.lex_search.specs.Caps.{AreCapped}
 use Rattle.lex_search.specs.State.{Counted, SearchState, StoppedAt, Advances}
 use Rattle.lex_search.specs.Outcome.{IsOutcome, IsStoppedEnd, IsRightOutcome, IsRightSoFar, stopped_with, IsSearched, IsBestEnd, IsNoneEnd, IsUnfoundEnd, IsUnfinishedEnd, IsFresh, first_lines}
 use Rattle.lex_search.proofs.StepLemmas.{stays, goes_on, becomes, refuted_before, not_model, not_nothing, ends_in, met_found, clause_lines_append, asks_no_clauses}
 use Rattle.lex_search.proofs.BuildLemmas.{formulas_are_clauses}
+use Rattle.lex_search.proofs.CapLemmas.{capped_same, capped_first}
 use Rattle.lex_search.proofs.FinalLemmas.{settled_here, not_whole, meets_query}
 
 -- what the lines that are known to an oracle have
@@ -75,6 +77,7 @@ best_end p order n held d cap lines k is s =
       none_better = λ other lawful b. none_better (greatest_of p) lines order (values_of d) (values_of other) (length order) (k.covers other lawful) k.derives cert
           (subst (λ (xs : List Criterion). Better xs (values_of other) (values_of d)) (sym (take-length order)) b);
       certified = cert;
+      capped = subst (λ m. AreCapped p order m d (caps (greatest_of p) lines)) is (capped_same p order n d cap (caps (greatest_of p) lines) k.counted s.capped);
     }
 
 pub unfinished_end : (p : Task) (order : List Criterion) (s : ℕ) (stop : Stop) (d : Drawing) (cap : Criterion → ℕ) (lines : Lines) → IsOrder order → Known p order cap lines → StoppedAt p order s stop d lines → IsUnfinishedEnd p order s stop d lines
@@ -128,6 +131,7 @@ first_state p order d cap more z lawful asked =
       };
       told = first_clauses p [] (Model ∷ []) more asked refl ∙ sym (zero_told p order cap z);
       holds = inl (record { each = All-nil (λ b. Contains [] b.criterion × (b.limit ≡ value_of (values_of d) b.criterion + 1)); all = All-nil (λ c. Contains [] (record { criterion = c; limit = value_of (values_of d) c + 1 }) ⊎ (greatest_of p c ≤ value_of (values_of d) c)) }, All-nil (λ c. cap c ≡ 0 → greatest_of p c ≡ 0));
+      capped = capped_first p order d cap z;
     }
 
 no_literal : (p : Task) (lines : Lines) (clause : List Literal) → AreAgainst (greatest_of p) lines [] clause → clause ≡ []
@@ -169,6 +173,7 @@ unfound_end p order stop cap more z k asked cause =
       searched = searched p order cap lines k whole;
       told = inl whole;
       settled_is = refl;
+      unbounded = λ c. k.counted c ∙ z c;
       no_model = no_model_in p more asked;
       not_none = λ none. only_formulas p (Refuted []) (λ c e. cc) (refuted_before (first_lines p) [] [] more [] asked (not_nothing []) none);
       cause = inl cause;

@@ -1,7 +1,8 @@
 -- Runs of questions on one criterion, from the drawing at its beginning.
-use Rattle.std.proofs.Common.{◌≡◌, ℕ, ◌+◌, ◌<◌, ◌≤◌, List, [], ◌∷◌, ◌++◌, refl, sym, ◌∙◌, subst, arith, append-nil, append_assoc}
+use Rattle.std.proofs.Common.{◌≡◌, ℕ, ◌+◌, ◌<◌, ◌≤◌, ◌⊎◌, List, [], ◌∷◌, ◌++◌, refl, sym, ◌∙◌, ap, subst, inl, inr, arith, append-nil, append_assoc}
 use Rattle.std.specs.Prelude.{All, Some, None, slice_get}
 use Rattle.std.proofs.lemmas.List.Elements.{All-push, All-contains, Contains-push}
+use Rattle.std.proofs.lemmas.Option.{same_Some}
 use Rattle.plan_core.specs.declared.criterion.Criterion.{Criterion}
 use Rattle.plan_core.specs.Values.{values_of, value_of}
 use Rattle.plan_core.proofs.LimitLemmas.{value-le-limit}
@@ -105,6 +106,24 @@ pub found_less : (p : Task) (held bounds : List Below) (c : Criterion) (u : ℕ)
 found_less p held bounds c u d reply is was fact =
     let got : IsLawful p d × AreMet (values_of d) bounds = subst (IsRightReply p bounds) was fact in
     All-contains (λ (b : Below). value_of (values_of d) b.criterion < b.limit) (held ++ below_limit c u ∷ []) (below_limit c u) (subst (AreMet (values_of d)) is got.1) (Contains-push held (below_limit c u))
+
+-- ---- the first drawing still, or one with less
+
+-- then one with less than the last has less than the first
+pub less_still : (first d : Drawing) (c : Criterion) (u n : ℕ) → u ≡ value_of (values_of d) c → n < u → (d ≡ first) ⊎ (u < value_of (values_of first) c) → n < value_of (values_of first) c
+less_still first d c u n is lt (inl e) = let same : value_of (values_of d) c ≡ value_of (values_of first) c = ap (λ (x : Drawing). value_of (values_of x) c) e in omega (arith, is, lt, same)
+less_still first d c u n is lt (inr less) = omega (arith, lt, less)
+
+pub less_there : (order : List Criterion) (i : ℕ) (c : Criterion) (u : ℕ) (first d : Drawing) → slice_get order i ≡ Some c → u ≡ value_of (values_of d) c → (d ≡ first) ⊎ (u < value_of (values_of first) c) →
+    (m : Criterion) → slice_get order i ≡ Some m → (d ≡ first) ⊎ (value_of (values_of d) m < value_of (values_of first) m)
+less_there order i c u first d at is (inl e) m there = inl e
+less_there order i c u first d at is (inr less) m there =
+    let lt : value_of (values_of d) c < value_of (values_of first) c = omega (arith, is, less) in
+    inr (subst (λ x. value_of (values_of d) x < value_of (values_of first) x) (same_Some c m (sym at ∙ there)) lt)
+
+pub no_more : (first d : Drawing) (c : Criterion) → (d ≡ first) ⊎ (value_of (values_of d) c < value_of (values_of first) c) → value_of (values_of d) c ≤ value_of (values_of first) c
+no_more first d c (inl e) = let same : value_of (values_of d) c ≡ value_of (values_of first) c = ap (λ (x : Drawing). value_of (values_of x) c) e in omega (arith, same)
+no_more first d c (inr less) = omega (arith, less)
 
 -- ---- the same where the task is named by a later state
 

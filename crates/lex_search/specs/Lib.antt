@@ -3,5 +3,6 @@ pub mod Steps
 pub mod Asked
 pub mod Reached
 pub mod Built
+pub mod Caps
 pub mod State
 pub mod Outcome

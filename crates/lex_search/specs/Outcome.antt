@@ -13,13 +13,14 @@ use Rattle.refute_log.specs.Log.{added, learnt, Derives, Due}
 use Rattle.certified_values.specs.Bounds.{CoversDrawings}
 use Rattle.certified_values.specs.Certified.{Certifies, CertifiesNone, IsSettled}
 use Rattle.certified_values.specs.Expected.{clause_lines, caps, expected_vars, IsExpected, IsAllExpected}
-use Rattle.certified_values.specs.Full.{CapsPass, NextSumPasses}
+use Rattle.certified_values.specs.Full.{CapsPass}
 use Rattle.lex_search.specs.declared.oracle.Stop.{Stop}
 use Rattle.lex_search.specs.declared.oracle.Stop.TheVariants.{BudgetSpent, RoomFull}
 use Rattle.lex_search.specs.declared.outcome.Outcome.{Outcome}
 use Rattle.lex_search.specs.declared.outcome.Outcome.TheVariants.{Best, NoDrawing, Spent, Room}
 use Rattle.lex_search.specs.Task.{Task, IsLawful, greatest_of}
 use Rattle.lex_search.specs.Asked.{IsCause, MeetsQuery}
+use Rattle.lex_search.specs.Caps.{AreCapped, IsCauseWith}
 
 -- what the lines of every search are: they may be told and derive, each Learnt line is due, they cover the lawful
 -- drawings, their Formula and Bound lines begin what is expected for their caps, their clauses have room, there are no
@@ -35,14 +36,15 @@ pub record IsSearched (p : Task) (order : List Criterion) (lines : Lines) : Type
   pub within : length (flat_map learnt lines) ≤ p.budget
   pub few : clause_lines lines ≢ [] → expected_vars p.encoding order (caps (greatest_of p) lines) ≤ VARS
 
--- the Formula and Bound lines are the whole of what is expected, and the drawing's values are certified on the whole
--- order
+-- the Formula and Bound lines are the whole of what is expected, the drawing's values are certified on the whole order,
+-- and each criterion has the bounds of its turn
 pub record IsBestEnd (p : Task) (order : List Criterion) (d : Drawing) (lines : Lines) : Type 0 where
   pub searched : IsSearched p order lines
   pub whole : IsAllExpected p.encoding (greatest_of p) order lines
   pub lawful : IsLawful p d
   pub none_better : (other : Drawing) → IsLawful p other → Better order (values_of other) (values_of d) → ⊥
   pub certified : Certifies (greatest_of p) lines order (values_of d) (length order)
+  pub capped : AreCapped p order (length order) d (caps (greatest_of p) lines)
 
 -- there is no Bound line, and it is certified that no drawing is lawful
 pub record IsNoneEnd (p : Task) (order : List Criterion) (lines : Lines) : Type 0 where
@@ -53,7 +55,8 @@ pub record IsNoneEnd (p : Task) (order : List Criterion) (lines : Lines) : Type 
   pub certified : CertifiesNone lines
 
 -- the search stopped with this drawing, whose values are certified and can't be less at the first places, so many and
--- no more: in a question, or for want of room for the next criterion's lines
+-- no more: in a question, or for want of room for the next criterion's lines. Each criterion that had its turn has the
+-- bounds of it
 pub record IsUnfinishedEnd (p : Task) (order : List Criterion) (settled : ℕ) (stop : Stop) (d : Drawing) (lines : Lines) : Type 0 where
   pub searched : IsSearched p order lines
   pub whole : IsAllExpected p.encoding (greatest_of p) order lines
@@ -62,14 +65,15 @@ pub record IsUnfinishedEnd (p : Task) (order : List Criterion) (settled : ℕ) (
   pub is_settled : IsSettled (greatest_of p) lines order (values_of d) settled
   pub not_certified : Certifies (greatest_of p) lines order (values_of d) (length order) → ⊥
   pub query : MeetsQuery lines (values_of d)
-  pub cause : IsCause p stop lines ⊎ ((stop ≡ RoomFull) × NextSumPasses p.encoding (greatest_of p) order lines (values_of d) p.room)
+  pub cause : IsCauseWith p order settled stop d lines
 
--- the search stopped before there was an answer: in the first question, or, with no line told, for want of room for
--- the formula
+-- the search stopped before there was an answer, and before there were bounds: in the first question, or, with no line
+-- told, for want of room for the formula
 pub record IsUnfoundEnd (p : Task) (order : List Criterion) (settled : ℕ) (stop : Stop) (lines : Lines) : Type 0 where
   pub searched : IsSearched p order lines
   pub told : IsAllExpected p.encoding (greatest_of p) order lines ⊎ (lines ≡ [])
   pub settled_is : settled ≡ 0
+  pub unbounded : (c : Criterion) → caps (greatest_of p) lines c ≡ 0
   pub no_model : Contains lines Model → ⊥
   pub not_none : CertifiesNone lines → ⊥
   pub cause : IsCause p stop lines ⊎ ((stop ≡ RoomFull) × CapsPass p.encoding order lines p.room (caps (greatest_of p) lines))

@@ -6,17 +6,12 @@ use Rattle.plan_core.specs.Values.{values_of, value_of}
 use Rattle.plan_core.specs.Drawing.{Drawing}
 use Rattle.refute_log.specs.Told.{Lines}
 use Rattle.certified_values.specs.Expected.{clause_lines, expected_lines, expected_vars, IsAllExpected}
-use Rattle.certified_values.specs.Full.{NextSumPasses}
 use Rattle.lex_search.specs.declared.oracle.Below.{Below}
 use Rattle.lex_search.specs.declared.oracle.Stop.{Stop}
-use Rattle.lex_search.specs.declared.oracle.Stop.TheVariants.{RoomFull}
 use Rattle.lex_search.specs.Task.{Task, greatest_of}
-use Rattle.lex_search.specs.Asked.{below_limit, AreOnce, IsCause}
+use Rattle.lex_search.specs.Asked.{below_limit, AreOnce}
 use Rattle.lex_search.specs.Reached.{Reached, Holds}
-
--- from this place on each value is 0
-abbrev pub AllZero : List Criterion → ℕ → Values → Type 0
-AllZero order i v = (k : ℕ) (c : Criterion) → i ≤ k → slice_get order k ≡ Some c → value_of v c ≡ 0
+use Rattle.lex_search.specs.Caps.{AllZero, AreCapped, IsCauseWith}
 
 -- from place i on, j is the first with a positive value
 pub record IsFirstPositive (order : List Criterion) (i j : ℕ) (v : Values) : Type 0 where
@@ -43,11 +38,12 @@ pub record AreBefore (order : List Criterion) (i : ℕ) (bounds : List Below) : 
 abbrev pub OnlyZeroSkipped : Task → List Criterion → ℕ → (Criterion → ℕ) → Type 0
 OnlyZeroSkipped p order i cap = All (λ c. cap c ≡ 0 → greatest_of p c ≡ 0) (take i order)
 
--- before place i: the bounds hold what was reached, or nothing is left to be less
+-- before place i: the bounds hold what was reached, or nothing is left to be less; the criteria before have their bounds
 pub record SearchState (p : Task) (order : List Criterion) (i : ℕ) (held : List Below) (d : Drawing) (cap : Criterion → ℕ) (lines : Lines) : Type 0 where
   pub reached : Reached p order i d lines
   pub told : clause_lines lines ≡ expected_lines p.encoding order cap
   pub holds : (Holds p order i held (values_of d) × OnlyZeroSkipped p order i cap) ⊎ AllZero order i (values_of d)
+  pub capped : AreCapped p order i d cap
 
 -- the search stopped, with the first s criteria settled
 pub record StoppedAt (p : Task) (order : List Criterion) (s : ℕ) (stop : Stop) (d : Drawing) (lines : Lines) : Type 0 where
@@ -55,7 +51,7 @@ pub record StoppedAt (p : Task) (order : List Criterion) (s : ℕ) (stop : Stop)
   pub within : s < length order
   pub positive : (c : Criterion) → slice_get order s ≡ Some c → 1 ≤ value_of (values_of d) c
   pub told : IsAllExpected p.encoding (greatest_of p) order lines
-  pub cause : IsCause p stop lines ⊎ ((stop ≡ RoomFull) × NextSumPasses p.encoding (greatest_of p) order lines (values_of d) p.room)
+  pub cause : IsCauseWith p order s stop d lines
 
 abbrev pub Advances : Task → List Criterion → ℕ → List Below → Option Stop → ℕ → Drawing → (Criterion → ℕ) → Lines → Type 0
 Advances p order i held None s d cap lines = SearchState p order (i + 1) held d cap lines
@@ -69,5 +65,5 @@ pub record IsCapOf (p : Task) (c : Criterion) (v : Values) (n : ℕ) : Type 0 wh
 -- the bounds of the criterion at place i are told and its least value is reached, or the search stopped
 abbrev pub BoundedTo : Task → List Criterion → ℕ → List Below → Option Stop → ℕ → Drawing → (Criterion → ℕ) → Lines → Type 0
 BoundedTo p order i held None s d cap lines = Reached p order (i + 1) d lines × (clause_lines lines ≡ expected_lines p.encoding order cap)
-    × OnlyZeroSkipped p order (i + 1) cap × Holds p order i held (values_of d)
+    × OnlyZeroSkipped p order (i + 1) cap × Holds p order i held (values_of d) × AreCapped p order (i + 1) d cap
 BoundedTo p order i held (Some stop) s d cap lines = StoppedAt p order s stop d lines

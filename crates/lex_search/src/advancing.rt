@@ -1,5 +1,5 @@
 // One place of the order after another.
-ghost use Rattle.std.specs.Prelude.{◌≡◌, ◌≤◌, ◌<◌, ◌+◌, ◌++◌, min, None, All, IfOk, OnOk, IsErrOf, length, slice_get, Some, MatchOption};
+ghost use Rattle.std.specs.Prelude.{◌≡◌, ◌≤◌, ◌<◌, ◌+◌, ◌++◌, ◌⊎◌, min, None, All, IfOk, OnOk, IsErrOf, length, slice_get, Some, MatchOption};
 ghost use Rattle.outside_io.specs.Counts.{Rose};
 ghost use Rattle.plan_core.specs.declared.criterion.Criterion.{Criterion as Measure};
 ghost use Rattle.plan_core.specs.Values.{values_of, value_of};
@@ -8,7 +8,8 @@ ghost use Rattle.certified_values.specs.Expected.{expected_vars};
 ghost use Rattle.lex_search.specs.Task.{IsLawful};
 ghost use Rattle.lex_search.specs.Asked.{IsWithinCap};
 ghost use Rattle.lex_search.specs.Steps.{Continues};
-ghost use Rattle.lex_search.specs.State.{AllZero, IsFirstPositive, AreBefore, Counted, SearchState, Advances, IsCapOf, BoundedTo, hold as hold_of};
+ghost use Rattle.lex_search.specs.Caps.{AllZero};
+ghost use Rattle.lex_search.specs.State.{IsFirstPositive, AreBefore, Counted, SearchState, Advances, IsCapOf, BoundedTo, hold as hold_of};
 
 use crate::MinFault;
 use crate::lowering::lower;
@@ -82,7 +83,7 @@ fn bounded<O: Oracle>(
     ensures task { O.task oracle.new ≡ O.task oracle.old }
     ensures lawful { IfOk result (λ r. IsLawful (O.task oracle.old) r.best) }
     ensures less { IfOk result (λ r. (c : Measure) → slice_get order.now i ≡ Some c →
-        value_of (values_of r.best) c ≤ value_of (values_of best) c) }
+        (r.best ≡ best) ⊎ (value_of (values_of r.best) c < value_of (values_of best) c)) }
     ensures counted { IfOk result (λ r. r.stop ≡ None →
         Counted (O.task oracle.old) order.now (i + 1) (O.caps oracle.new) (O.vars oracle.new)) }
     ensures held { IfOk result (λ r. r.stop ≡ None → All (IsWithinCap (O.caps oracle.new)) held.now) }

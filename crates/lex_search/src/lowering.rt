@@ -1,5 +1,5 @@
 // The least value of one criterion.
-ghost use Rattle.std.specs.Prelude.{◌≡◌, ◌≤◌, ◌<◌, ◌+◌, ◌++◌, [], ◌∷◌, All, IfOk, OnOk, IsErrOf, length, slice_get, Some};
+ghost use Rattle.std.specs.Prelude.{◌≡◌, ◌≤◌, ◌<◌, ◌+◌, ◌++◌, ◌⊎◌, [], ◌∷◌, All, IfOk, OnOk, IsErrOf, length, slice_get, Some};
 ghost use Rattle.outside_io.specs.Counts.{Rose};
 ghost use Rattle.plan_core.specs.declared.criterion.Criterion.{Criterion as Measure};
 ghost use Rattle.plan_core.specs.Values.{values_of, value_of};
@@ -59,7 +59,7 @@ pub(crate) fn lower<O: Oracle>(
     ensures ready { OnOk result (O.ready oracle.new) }
     ensures lawful { IfOk result (λ r. IsLawful (O.task oracle.old) r.best) }
     ensures less { IfOk result (λ r. (c : Measure) → slice_get order.now i ≡ Some c →
-        value_of (values_of r.best) c ≤ value_of (values_of best) c) }
+        (r.best ≡ best) ⊎ (value_of (values_of r.best) c < value_of (values_of best) c)) }
     ensures vars { OnOk result (O.vars oracle.new ≡ O.vars oracle.old) }
     ensures task { O.task oracle.new ≡ O.task oracle.old }
     ensures caps { OnOk result (O.caps oracle.new ≡ O.caps oracle.old) }

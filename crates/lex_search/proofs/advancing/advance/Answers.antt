@@ -6,7 +6,9 @@ use Rattle.std.specs.Prelude.{All, min}
 use Rattle.lex_search.specs.declared.oracle.Below.{Below}
 use Rattle.lex_search.specs.Asked.{IsWithinCap}
 use Rattle.lex_search.specs.Steps.{Continues}
-use Rattle.lex_search.specs.State.{AreBefore, IsCapOf, AllZero, SearchState, BoundedTo}
+use Rattle.lex_search.specs.Caps.{AllZero}
+use Rattle.lex_search.specs.State.{AreBefore, IsCapOf, SearchState, BoundedTo}
+use Rattle.lex_search.proofs.RunLemmas.{no_more}
 use Rattle.lex_search.proofs.BeforeLemmas.{before_next, before_later}
 use Rattle.lex_search.proofs.AdvanceLemmas.{go_zeros, go_only_zero, go_bounded, all_held}
 use Rattle.lex_search.proofs.advancing.advance.Goals as goal
@@ -14,12 +16,12 @@ use Rattle.lex_search.proofs.advancing.advance.Goals as goal
 pub returns-then-most-eq0-clause-lines : goal.returns-then-most-eq0-clause-lines
 returns-then-most-eq0-clause-lines g c = let o = g.O.Oracle in
     let p = o.task c.args.oracle.now in
-    go_only_zero o.knows o.log o.learnt c.args.oracle.now p c.args.order.now c.args.i c.args.held.now.items c.get-c.result c.args.best (o.caps c.args.oracle.now) c.get-c.ensures
+    go_only_zero o.knows o.log o.learnt c.args.oracle.now p c.args.order.now c.args.i c.args.held.now.items c.get-c.result c.args.best (o.caps c.args.oracle.now) c.requires.order c.get-c.ensures
     (sym c.greatest-most.ensures ∙ c.if-most-eq0.true) (let p = o.task c.args.oracle.now in value-le-limit p.graph p.above p.grid c.args.best c.requires.lawful c.get-c.result)
 
 pub returns-in-None-clause-lines : goal.returns-in-None-clause-lines
 returns-in-None-clause-lines g c = let o = g.O.Oracle in
-    go_zeros o.knows o.log o.learnt c.args.oracle.now (o.task c.args.oracle.now) c.args.order.now c.args.i c.args.held.now.items c.get-c.result c.args.best (o.caps c.args.oracle.now) c.get-c.ensures
+    go_zeros o.knows o.log o.learnt c.args.oracle.now (o.task c.args.oracle.now) c.args.order.now c.args.i c.args.held.now.items c.get-c.result c.args.best (o.caps c.args.oracle.now) c.requires.order c.get-c.ensures
     (subst (λ (v : Values). AllZero c.args.order.now c.args.i v) c.values-v.ensures c.in-None.ensures)
 
 pub returns-in_ok-hold-in-Some-clause-held : goal.returns-in_ok-hold-in-Some-clause-held
@@ -41,7 +43,7 @@ returns-in_ok-hold-in-Some-clause-lines g c = let o = g.O.Oracle in
       positive = (let ne = c.if-most-eq0.false in let is = c.greatest-most.ensures in omega arith);
     } in
     go_bounded o.knows o.log o.learnt a e p c.args.order.now c.args.i c.args.held.now.items c.hold.new.held.items m c.cap_for-cap.result c.of-least.result r.stop r.settled c.args.best r.best (o.caps a) (o.caps e) c.get-c.ensures capped
-    (c.in_ok-advanced-in-Some.ensures.less m c.get-c.ensures) (c.of-least.ensures ∙ ap (λ (v : Values). value_of v m) c.values.ensures) c.in_ok-hold-in-Some.ensures
+    (no_more c.args.best r.best m (c.in_ok-advanced-in-Some.ensures.less m c.get-c.ensures)) (c.of-least.ensures ∙ ap (λ (v : Values). value_of v m) c.values.ensures) c.in_ok-hold-in-Some.ensures
     (subst (λ (bs : List Below). Continues o.knows o.log o.learnt a e (λ lines more. SearchState p c.args.order.now c.args.i bs c.args.best (o.caps a) lines → BoundedTo p c.args.order.now c.args.i bs r.stop r.settled r.best (o.caps e) (lines ++ more))) c.deref.ensures.value c.in_ok-advanced-in-Some.ensures.lines)
 
 pub returns-in_ok-hold-in-Some-clause-before : goal.returns-in_ok-hold-in-Some-clause-before

@@ -1,4 +1,4 @@
-use Rattle.std.proofs.Common.{◌≡◌, ◌+◌, sym, ◌∙◌, subst, arith, ℕ}
+use Rattle.std.proofs.Common.{◌≡◌, ◌+◌, refl, sym, ◌∙◌, subst, inl, arith, ℕ}
 use Rattle.plan_core.specs.declared.criterion.Criterion.{Criterion}
 use Rattle.plan_core.specs.Values.{values_of}
 use Rattle.certified_values.specs.Expected.{caps, sum_vars_of, with_cap}
@@ -43,7 +43,7 @@ returns-in_ok-lowered-in-Whole-clause-lines g c = let o = g.O.Oracle in
     let state : AreBuiltTo p f vars c.get-c.result c.args.cap Whole (o.caps c.build.new.self) (o.vars c.build.new.self) = subst (λ (b : Built). AreBuiltTo p f vars c.get-c.result c.args.cap b (o.caps c.build.new.self) (o.vars c.build.new.self)) c.in-Whole.is c.in_ok-build.ensures.built in
     let same : o.task c.lower.new.oracle ≡ p = c.in_ok-lowered-in-Whole.ensures.task ∙ c.in_ok-build.ensures.task in
     bounded_whole o.knows o.log o.learnt a c.build.new.self c.lower.new.oracle (o.task c.build.new.self) p c.args.order.now c.args.i c.args.place c.args.held.now c.get-c.result c.args.cap c.args.best c.in_ok-lowered-in-Whole.lowered.best c.in_ok-lowered-in-Whole.lowered.stop
-    f (o.caps c.lower.new.oracle) vars c.requires.order c.get-c.ensures c.requires.counted (c.requires.cap c.get-c.result c.get-c.ensures) c.requires.first c.in_ok-build.ensures.task (c.in_ok-lowered-in-Whole.ensures.caps ∙ state.0)
+    f (o.caps c.lower.new.oracle) vars c.requires.order c.get-c.ensures c.requires.counted (c.requires.cap c.get-c.result c.get-c.ensures) c.requires.first (c.in_ok-lowered-in-Whole.ensures.less c.get-c.result c.get-c.ensures) c.in_ok-build.ensures.task (c.in_ok-lowered-in-Whole.ensures.caps ∙ state.0)
     (λ lines m k. subst (λ (x : Task). caps (greatest_of x) lines m ≡ o.caps c.lower.new.oracle m) same (g.met.O.Oracle.counted c.lower.new.oracle lines m k))
     (subst (λ (b : Built). Continues o.knows o.log o.learnt a c.build.new.self (λ lines more. IsBuild p vars c.get-c.result c.args.cap b lines more)) c.in-Whole.is c.in_ok-build.ensures.lines)
     c.in_ok-lowered-in-Whole.ensures.lines
@@ -54,6 +54,9 @@ lower-requires-clause-bound g c = λ m there. let o = g.O.Oracle in
     let p = o.task a in
     let state : AreBuiltTo p (o.caps a) (o.vars a) c.get-c.result c.args.cap Whole (o.caps c.build.new.self) (o.vars c.build.new.self) = subst (λ (b : Built). AreBuiltTo p (o.caps a) (o.vars a) c.get-c.result c.args.cap b (o.caps c.build.new.self) (o.vars c.build.new.self)) c.in-Whole.is c.in_ok-build.ensures.built in
     value_bounded p c.args.order.now c.args.i c.get-c.result m c.args.cap c.args.best (o.caps a) (o.caps c.build.new.self) c.requires.lawful c.get-c.ensures (c.requires.cap c.get-c.result c.get-c.ensures) state.0 there
+
+pub returns-in-NoRoom-clause-less : goal.returns-in-NoRoom-clause-less
+returns-in-NoRoom-clause-less g c = λ m there. inl refl
 
 pub returns-in-NoRoom-clause-vars : goal.returns-in-NoRoom-clause-vars
 returns-in-NoRoom-clause-vars g c = let o = g.O.Oracle in

@@ -1,6 +1,6 @@
-use Rattle.std.proofs.Common.{◌≡◌, ◌≤◌, refl, ◌∙◌, ap, arith}
+use Rattle.std.proofs.Common.{◌≡◌, ◌≤◌, refl, ◌∙◌, ap, inl, inr, arith}
 use Rattle.plan_core.specs.Values.{values_of, value_of}
-use Rattle.lex_search.proofs.RunLemmas.{run_none, run_found_at, run_refuted_at, run_stopped_at, run_zero, built_all, found_less, found_lawful}
+use Rattle.lex_search.proofs.RunLemmas.{run_none, run_found_at, run_refuted_at, run_stopped_at, run_zero, built_all, found_less, found_lawful, less_still, less_there}
 use Rattle.lex_search.proofs.BeforeLemmas.{once_asked}
 use Rattle.lex_search.proofs.lowering.lower.Goals as goal
 
@@ -15,7 +15,7 @@ loop-value-init g c = let o = g.O.Oracle in
       vars = refl;
       ready = c.requires.ready;
       lawful = c.requires.lawful;
-      less = omega (arith, is);
+      less = inl refl;
       bound = omega (arith, is, le);
       later = g.met.O.Oracle.later_same c.args.oracle.now;
       faults = omega arith;
@@ -45,7 +45,7 @@ loop-value-preserved g c = let o = g.O.Oracle in
       vars = c.in_ok-d.ensures.vars ∙ c.loop-value.invariant.vars;
       ready = c.in_ok-d.ensures.ready;
       lawful = found_lawful (o.task c.loop-value.oracle) (o.task c.args.oracle.now) c.deref.result.now c.in-Found.d c.in_ok-d.field-0 c.loop-value.invariant.task c.in-Found.is c.in_ok-d.ensures.right;
-      less = (let le = c.loop-value.invariant.less in omega (arith, is, lt, le));
+      less = inr (let less = less_still c.args.best c.loop-value.best c.get-c.result c.loop-value.value (value_of (values_of c.in-Found.d) c.get-c.result) c.loop-value.invariant.value lt c.loop-value.invariant.less in omega (arith, is, less));
       bound = (let le = c.loop-value.invariant.bound in omega (arith, is, lt, le));
       later = g.met.O.Oracle.later_more c.args.oracle.now c.loop-value.oracle c.ask.new.self c.loop-value.invariant.later c.in_ok-d.ensures.later;
       faults = (let a = c.loop-value.invariant.faults in let b = c.in_ok-d.ensures.faults in omega arith);
@@ -54,6 +54,15 @@ loop-value-preserved g c = let o = g.O.Oracle in
           (record { covers = g.met.O.Oracle.covers c.loop-value.oracle; derives = g.met.O.Oracle.derives c.loop-value.oracle })
           bounds c.in-Found.is c.in_ok-d.ensures.right c.loop-value.invariant.lines c.in_ok-d.ensures.lines;
     }
+
+pub returns-in-Refuted-clause-less : goal.returns-in-Refuted-clause-less
+returns-in-Refuted-clause-less g c = less_there c.args.order.now c.args.i c.get-c.result c.loop-value.value c.args.best c.loop-value.best c.get-c.ensures c.loop-value.invariant.value c.loop-value.invariant.less
+
+pub returns-in-Stopped-clause-less : goal.returns-in-Stopped-clause-less
+returns-in-Stopped-clause-less g c = less_there c.args.order.now c.args.i c.get-c.result c.loop-value.value c.args.best c.loop-value.best c.get-c.ensures c.loop-value.invariant.value c.loop-value.invariant.less
+
+pub returns-clause-less : goal.returns-clause-less
+returns-clause-less g c = less_there c.args.order.now c.args.i c.get-c.result c.loop-value.value c.args.best c.loop-value.best c.get-c.ensures c.loop-value.invariant.value c.loop-value.invariant.less
 
 pub returns-in-Refuted-clause-lines : goal.returns-in-Refuted-clause-lines
 returns-in-Refuted-clause-lines g c = let o = g.O.Oracle in

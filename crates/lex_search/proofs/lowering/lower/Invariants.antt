@@ -1,4 +1,4 @@
-use Rattle.std.proofs.Common.{◌≡◌, ◌≤◌}
+use Rattle.std.proofs.Common.{◌≡◌, ◌≤◌, ◌<◌, ◌⊎◌}
 use Rattle.plan_core.specs.Values.{values_of, value_of}
 use Rattle.lex_search.specs.Task.{IsLawful}
 use Rattle.lex_search.specs.Steps.{Continues}
@@ -13,7 +13,7 @@ invariant-loop-value g l = let o = g.O.Oracle in record {
   vars : o.vars l.oracle ≡ o.vars l.fn.oracle;
   ready : o.ready l.oracle;
   lawful : IsLawful (o.task l.fn.oracle) l.best;
-  less : l.value ≤ value_of (values_of l.fn.best) l.c;
+  less : (l.best ≡ l.fn.best) ⊎ (l.value < value_of (values_of l.fn.best) l.c);
   bound : l.value ≤ o.caps l.fn.oracle l.c;
   later : o.is_later l.fn.oracle l.oracle;
   faults : o.faults l.fn.oracle ≤ o.faults l.oracle;
