@@ -2,7 +2,7 @@
 use crate::checked::CheckedLog;
 use crate::stations::{LOOP, ONE, station_of};
 use cdcl_core::Solver;
-use certified_check::{first_lacking, none_certified};
+use certified_check::{ToldBound, first_lacking, none_certified};
 use cnf_core::ROOM;
 use drawing_cnf::{encode, greatest};
 use lex_minimise::{Limits, Outcome, minimise, minimise_with};
@@ -21,6 +21,8 @@ const HEIGHT_FIRST: [Criterion; 4] = [
 ];
 
 const WIDTH_FIRST: [Criterion; 2] = [Criterion::Width, Criterion::Height];
+
+const WIDTH_AND_BENDS: [Criterion; 2] = [Criterion::Width, Criterion::Bends];
 
 /// The greatest value of each criterion.
 fn all_greatest(g: &PortGraph, grid: &Grid) -> Values {
@@ -137,6 +139,47 @@ fn least_values_are_found_and_certified(rt: HostRuntime) -> Result<(), Fail> {
     for (file, grid, order, least) in &SEARCHES {
         let found = best_values(alloc, file, *grid, order)?;
         assert_eq!(rt; found, *least, "{grid:?} {order:?}");
+    }
+    Ok(())
+}
+
+/// How many bounds of a criterion were told.
+fn count_of(bounds: &[ToldBound], c: Criterion) -> usize {
+    bounds.iter().filter(|b| b.criterion == c).count()
+}
+
+/// A search's file, the columns and rows of its grid, its order, and how many bounds each of its criteria has.
+type Counts = (
+    &'static str,
+    (u16, u16),
+    &'static [Criterion],
+    &'static [usize],
+);
+
+/// On such a grid there is one drawing: so each criterion is reached with its least value, and has bounds up to one
+/// more, as far as the grid allows more. One whose value is 0 has a bound only where a later value isn't 0.
+static COUNTS: [Counts; 3] = [
+    (ONE, (1, 0), &HEIGHT_FIRST, &[0, 1, 1, 1]),
+    (ONE, (1, 0), &WIDTH_AND_BENDS, &[1, 0]),
+    (LOOP, (5, 1), &HEIGHT_FIRST, &[1, 3, 3, 5]),
+];
+
+#[test]
+fn a_criterion_has_the_bounds_of_its_value(rt: HostRuntime) -> Result<(), Fail> {
+    let alloc = rt.alloc();
+    let limits = Limits {
+        budget: 100_000,
+        room: ROOM,
+    };
+    for (file, (width, height), criteria, counts) in &COUNTS {
+        let (g, t) = station_of(alloc, file)?;
+        let grid = Grid::new(*width, *height).ok_or("a grid")?;
+        let order = Order::new(criteria).ok_or("an order")?;
+        let mut log = CheckedLog::new(alloc, ROOM)?;
+        minimise(alloc, &g, &t, &grid, &order, &limits, &mut log)?;
+        for (c, count) in criteria.iter().zip(counts.iter()) {
+            assert_eq!(rt; count_of(&log.bounds, *c), *count, "{file} {c:?}");
+        }
     }
     Ok(())
 }
