@@ -12,9 +12,9 @@ use Rattle.schematic_main.specs.declared.input.Refusal.{Refusal}
 use Rattle.schematic_main.specs.declared.input.Refusal.TheVariants as refusals
 use Rattle.schematic_main.specs.declared.status.Status.{Status}
 use Rattle.schematic_main.specs.Fault.{IsFaultLine}
-use Rattle.schematic_main.specs.Input.{IsLong, IsShort, HasFileFault}
+use Rattle.schematic_main.specs.Input.{IsLong, IsShort, HasFileFault, IsOfFile}
 use Rattle.schematic_main.specs.Met.{FilesAt, Met, between}
-use Rattle.schematic_main.specs.Reading.{IsOfFile, IsInput, IsRefusalOf}
+use Rattle.schematic_main.specs.Reading.{IsInput, IsRefusalOf}
 use Rattle.schematic_main.specs.Answer.{InputFile, text_input, IsFileJudged, IsAnswerAfter, IsAnswerOn}
 use Rattle.schematic_main.proofs.InputLemmas.{short_or_long}
 use Rattle.schematic_main.proofs.MetLemmas.{read_later, fails_later}
@@ -55,7 +55,7 @@ refused_on Answers name met (refusals.Fault other) fault status text (inl ((byte
     let here : HasFileFault bytes fault = subst (λ (f : RunFault). HasFileFault bytes f) (cc) has in
     elim (short_or_long bytes fault here) [
       | inl (long, named) ↦ inl (bytes, is, inl (long, read, subst (λ (f : RunFault). IsFaultLine f status text) named told))
-      | inr short ↦ inl (bytes, is, inr (short, (read, inr (record { fault = fault; has = here; told = told }))))
+      | inr short ↦ inl (bytes, is, inr (short, (read, inr (record { fault = fault; has = here; answers = told }))))
     ]
 refused_on Answers name met (refusals.Fault other) fault status text (inr (failed, named)) same told =
     let here : fault ≡ ReadFailed 1 = cc in

@@ -1,25 +1,30 @@
--- A whole run of check ends with 0 exactly where the log that it reads certifies what the sheet claims.
+-- A whole run of check ends with 0 exactly where the log that it reads certifies what the sheet claims; so it does on what
+-- draw left.
 use Rattle.std.proofs.Common.{◌≡◌, ◌≢◌, ℕ, false, List, None, Some, refl, sym, ◌∙◌, subst, inl, inr, lit<, arith}
 use Rattle.std.specs.Prelude.{⊤}
 use Rattle.std.specs.declared.option.Option.{Option}
+use Rattle.plan_core.specs.declared.limits.TheConstants.{MAX_LOG_BYTES}
 use Rattle.plan_core.specs.Graph.{Graph}
 use Rattle.track_order.specs.Order.{EdgeOrder}
 use Rattle.outside_io.specs.Contents.{Told, IsFileWhereTold}
 use Rattle.plan_words.specs.declared.command.Command.TheVariants.{Check}
-use Rattle.plan_text.specs.SheetText.{Sheet}
+use Rattle.plan_text.specs.SheetText.{Sheet, sheet_text}
 use Rattle.plan_text.proofs.ShortSheet.{short_sheet}
+use Rattle.refute_log.specs.Lines.{log_text}
+use Rattle.refute_log.specs.Told.{Lines}
 use Rattle.log_check.specs.declared.verdict.Verdict.TheVariants.{Certified}
 use Rattle.schematic_main.specs.declared.status.Status.{Status}
 use Rattle.schematic_main.specs.declared.status.Status.TheVariants.{Done, Refused, Unread}
-use Rattle.schematic_main.specs.Input.{IsLong, IsShort}
+use Rattle.schematic_main.specs.Input.{IsLong, IsShort, HasStation}
 use Rattle.schematic_main.specs.Met.{Met, ReadFails}
 use Rattle.schematic_main.specs.Answer.{InputFile, text_input, log_input, IsAnswerAfter, IsAnswerOn}
 use Rattle.schematic_main.specs.CheckLine.{claimed, verdict_line}
-use Rattle.schematic_main.specs.Checked.{IsChecked}
+use Rattle.schematic_main.specs.Checked.{IsClaimJudged, IsChecked}
+use Rattle.schematic_main.specs.Drawn.{PassesCheck}
 use Rattle.schematic_main.specs.CertifiedSheet.{ClaimsTruly, HasCertifiedFiles}
 use Rattle.schematic_main.specs.Commands.{Owes}
 use Rattle.schematic_main.specs.Run.{FailsIn}
-use Rattle.schematic_main.proofs.CheckedLemmas.{certified_is_due, only_certified}
+use Rattle.schematic_main.proofs.CheckedLemmas.{IsCertifiedSheet, certified_answer, certified_is_due, only_certified}
 
 -- ---- one input
 
@@ -88,3 +93,36 @@ only_certified_run input sheet log met line owes =
       certifies = found.4;
     } in
     (found.0, found.1, found.2, files, found.5, found.6)
+
+-- ---- on what draw left
+
+-- a sheet and a log that pass are certified
+certified_of : (g : Graph) (o : EdgeOrder) (sheet log line : List ℕ) → IsClaimJudged g o sheet log Done line → (said : Sheet) × IsCertifiedSheet g o sheet log line said
+certified_of g o sheet log line (inl checked) = (checked.said, certified_answer g o sheet log line checked.said checked.is_text checked.answer)
+certified_of g o sheet log line (inr refused) = let no : Done ≡ Refused = refused.answers.status_is in absurd (cc)
+
+pub own_files : (file input sheet log : List ℕ) (g : Graph) (o : EdgeOrder) (drawn : Sheet) (lines : Lines) (contents : Told) → HasStation file g o → PassesCheck g o drawn lines → IsShort MAX_LOG_BYTES (log_text lines) →
+    contents input ≡ Some file → contents sheet ≡ Some (sheet_text g drawn) → contents log ≡ Some (log_text lines) → (said : Sheet) × HasCertifiedFiles (Some contents) input sheet log g o said
+own_files file input sheet log g o drawn lines contents has passes short is_file is_sheet is_log =
+    let found = certified_of g o (sheet_text g drawn) (log_text lines) (verdict_line (claimed drawn.order drawn.ending) Certified) passes in (
+      found.0,
+      record {
+        file = file;
+        is_file = is_file;
+        station = has;
+        text = sheet_text g drawn;
+        is_sheet = is_sheet;
+        kept = log_text lines;
+        is_log = is_log;
+        short = short;
+        certifies = found.1.0;
+      },
+    )
+
+pub own_run : (file input sheet log : List ℕ) (g : Graph) (o : EdgeOrder) (drawn : Sheet) (lines : Lines) (contents : Told) (met : Met) (status : Status) (line : List ℕ) → HasStation file g o → PassesCheck g o drawn lines →
+    IsShort MAX_LOG_BYTES (log_text lines) → contents input ≡ Some file → contents sheet ≡ Some (sheet_text g drawn) → contents log ≡ Some (log_text lines) → met.before.contents ≡ Some contents →
+    (FailsIn (Check input sheet log) met → ⊥) → Owes (Check input sheet log) met (λ lines. ⊤) status line → status ≡ Done
+own_run file input sheet log g o drawn lines contents met status line has passes short is_file is_sheet is_log told read owes =
+    let own = own_files file input sheet log g o drawn lines contents has passes short is_file is_sheet is_log in
+    let files = subst (λ (c : Option Told). HasCertifiedFiles c input sheet log g o own.0) (sym told) own.1 in
+    (certified_run input sheet log met g o own.0 status line (λ none. let no : Some contents ≡ None = sym told ∙ none in absurd (cc)) files read owes).0

@@ -1,6 +1,6 @@
 -- There is one answer of check to a file, a sheet and a log; it is the line of what is certified exactly where the log
 -- certifies what the sheet claims.
-use Rattle.std.proofs.Common.{◌≡◌, ℕ, List, [], None, Some, refl, sym, ◌∙◌, ap, subst, inl, inr}
+use Rattle.std.proofs.Common.{◌≡◌, ℕ, List, None, Some, refl, sym, ◌∙◌, ap, subst, inl, inr}
 use Rattle.std.specs.Prelude.{false, IfSome}
 use Rattle.std.specs.declared.option.Option.{Option}
 use Rattle.plan_core.specs.Grid.{IsGrid}
@@ -104,7 +104,7 @@ one_checked file sheet log status other text another (inl (g, o, has, a)) (inl (
     one_judged file g o sheet log status other text another has a (same_station file sheet log g h o p other another has also b)
 one_checked file sheet log status other text another (inl (g, o, has, a)) (inr b) = absurd (station_or_fault file g o b.fault has b.has)
 one_checked file sheet log status other text another (inr a) (inl (h, p, also, b)) = absurd (station_or_fault file h p a.fault also a.has)
-one_checked file sheet log status other text another (inr a) (inr b) = one_refusal a.fault b.fault status other text another (one_fault file a.fault b.fault a.has b.has) a.told b.told
+one_checked file sheet log status other text another (inr a) (inr b) = one_refusal a.fault b.fault status other text another (one_fault file a.fault b.fault a.has b.has) a.answers b.answers
 
 pub one_check_status : (file sheet log : List ℕ) (status other : Status) (text another : List ℕ) → IsChecked file sheet log status text → IsChecked file sheet log other another → status ≡ other
 one_check_status file sheet log status other text another a b = (one_checked file sheet log status other text another a b).status_is
@@ -159,10 +159,10 @@ done_not_broken : (g : Graph) (o : EdgeOrder) (said : Sheet) (found : Option Dra
 done_not_broken g o said None text broken = broken
 done_not_broken g o said (Some d) text broken = let is : Done ≡ Broken = broken.status_is in cc
 
-abbrev IsCertifiedSheet : Graph → EdgeOrder → (sheet log text : List ℕ) → Sheet → Type 0
+abbrev pub IsCertifiedSheet : Graph → EdgeOrder → (sheet log text : List ℕ) → Sheet → Type 0
 IsCertifiedSheet g o sheet log text said = CertifiesSheet g o sheet log said × ClaimsTruly g o said × (text ≡ verdict_line (claimed said.order said.ending) verdicts.Certified)
 
-certified_answer : (g : Graph) (o : EdgeOrder) (sheet log text : List ℕ) (said : Sheet) → IsSheetText g false sheet said → IsSheetAnswer g o said log Done text → IsCertifiedSheet g o sheet log text said
+pub certified_answer : (g : Graph) (o : EdgeOrder) (sheet log text : List ℕ) (said : Sheet) → IsSheetText g false sheet said → IsSheetAnswer g o said log Done text → IsCertifiedSheet g o sheet log text said
 certified_answer g o sheet log text said is (inl broken) = absurd (done_not_broken g o said said.found text broken)
 certified_answer g o sheet log text said is (inr claim) =
     let same : claim.verdict ≡ verdicts.Certified = done_certified claim.verdict claim.told.status_is in
@@ -186,5 +186,5 @@ pub only_certified : (file sheet log text : List ℕ) → IsChecked file sheet l
 only_certified file sheet log text (inl (g, o, has, inl checked)) =
     let is = certified_answer g o sheet log text checked.said checked.is_text checked.answer in
     (g, o, checked.said, has, is.0, is.1, is.2)
-only_certified file sheet log text (inl (g, o, has, inr refused)) = let is : Done ≡ Refused = refused.told.status_is in absurd (cc)
-only_certified file sheet log text (inr refused) = let is : Done ≡ Refused = refused.told.status_is ∙ file_fault_status file refused.fault refused.has in absurd (cc)
+only_certified file sheet log text (inl (g, o, has, inr refused)) = let is : Done ≡ Refused = refused.answers.status_is in absurd (cc)
+only_certified file sheet log text (inr refused) = let is : Done ≡ Refused = refused.answers.status_is ∙ file_fault_status file refused.fault refused.has in absurd (cc)

@@ -65,7 +65,7 @@ on_input P input done met Answers status text refused unread answers (inr (fails
 on_file : (P : Status → Type 0) (Answers : Graph → EdgeOrder → Status → List ℕ → Type 0) (bytes : List ℕ) (status : Status) (text : List ℕ) →
     P Refused → ((g : Graph) (o : EdgeOrder) → Answers g o status text → P status) → IsFileJudged Answers bytes status text → P status
 on_file P Answers bytes status text refused answers (inl (g, o, has, answer)) = answers g o answer
-on_file P Answers bytes status text refused answers (inr r) = subst P (sym (r.told.status_is ∙ file_fault_status bytes r.fault r.has)) refused
+on_file P Answers bytes status text refused answers (inr r) = subst P (sym (r.answers.status_is ∙ file_fault_status bytes r.fault r.has)) refused
 
 -- the statuses that may be owed, but that of a read that failed
 record OfOwed (P : Status → Type 0) : Type 0 where
@@ -88,7 +88,7 @@ on_verdict P g o grid d status text owed (inr b) = subst P (sym b.status_is) owe
 
 on_sheet : (P : Status → Type 0) (g : Graph) (o : EdgeOrder) (sheet : List ℕ) (status : Status) (text : List ℕ) → OfOwed P → IsSheetJudged g o sheet status text → P status
 on_sheet P g o sheet status text owed (inl judged) = on_verdict P g o judged.grid judged.drawn status text owed judged.verdict
-on_sheet P g o sheet status text owed (inr r) = subst P (sym r.told.status_is) owed.refused
+on_sheet P g o sheet status text owed (inr r) = subst P (sym r.answers.status_is) owed.refused
 
 on_refusal : (P : Status → Type 0) (why : Refusal) → OfOwed P → P (refusal_status why)
 on_refusal P refusals.Room owed = owed.unfinished
@@ -113,7 +113,7 @@ on_claim P g o sheet log status text owed (inl checked) = elim checked.answer [
   | inl broken ↦ on_found P g o checked.said checked.said.found status text owed broken
   | inr claim ↦ subst P (sym claim.told.status_is) (on_log P claim.verdict owed)
 ]
-on_claim P g o sheet log status text owed (inr r) = subst P (sym r.told.status_is) owed.refused
+on_claim P g o sheet log status text owed (inr r) = subst P (sym r.answers.status_is) owed.refused
 
 on_command : (P : Status → Type 0) (command : Command) (met : Met) (traced : Lines → Type 0) (status : Status) (text : List ℕ) → OfOwed P → (FailsIn command met → P Unread) → Owes command met traced status text → P status
 on_command P (Draw input grid order budget svg log) met traced status text owed unread owes =
@@ -142,7 +142,7 @@ on_command P (Trial n) met traced status text owed unread owes = on_file P (IsTr
 on_due : (P : Status → Type 0) (words : List (List ℕ)) (met : Met) (traced : Lines → Type 0) (status : Status) (text : List ℕ) → OfOwed P → (Asks words (λ command. FailsIn command met) → P Unread) → IsAnswerDue words met traced status text → P status
 on_due P words met traced status text owed unread (inl (command, asked, owes)) =
     on_command P command met traced status text owed (λ fails. unread (command, asked, fails)) owes
-on_due P words met traced status text owed unread (inr r) = subst P (sym r.told.status_is) owed.words_refused
+on_due P words met traced status text owed unread (inr r) = subst P (sym r.answers.status_is) owed.words_refused
 
 -- what is due isn't cut short
 pub due_is_whole : (words : List (List ℕ)) (met : Met) (traced : Lines → Type 0) (status : Status) (text : List ℕ) → IsAnswerDue words met traced status text → IsCutShort status → ⊥

@@ -12,19 +12,21 @@ use Rattle.refute_log.specs.Lines.{header}
 use Rattle.refute_log.specs.Told.{Lines}
 use Rattle.refute_log.specs.FileLog.{IsTold, TellsLines, KeepsLog, StillKeeps, FileBeginsLog, HasText, name_of}
 use Rattle.refute_log.proofs.FrontLemmas.{kept_begins}
+use Rattle.lex_search.specs.declared.outcome.Outcome.{Outcome}
 use Rattle.refute_log.specs.Told.{AddsAll}
 use Rattle.track_order.specs.Order.{EdgeOrder}
 use Rattle.plan_core.specs.Graph.{Graph}
 use Rattle.schematic_main.specs.declared.reply.Cut.{Cut}
 use Rattle.schematic_main.specs.declared.reply.Cut.TheVariants as cuts
 use Rattle.schematic_main.specs.declared.status.Status.{Status}
-use Rattle.schematic_main.specs.Met.{FilesAt, between, HasRead}
-use Rattle.schematic_main.specs.Reading.{IsStationOf}
+use Rattle.schematic_main.specs.Met.{FilesAt, between, HasRead, Leaves}
+use Rattle.schematic_main.specs.Input.{IsStationOf}
 use Rattle.schematic_main.specs.Reply.{cut_of}
 use Rattle.schematic_main.specs.Answer.{text_input, IsFileJudged, IsAnswerAfter, IsAnswerOn}
 use Rattle.schematic_main.specs.SearchLog.{HoldsLog, IsLogOf}
-use Rattle.schematic_main.specs.Drawn.{Job, found_by, IsDrawAnswer}
-use Rattle.schematic_main.proofs.LeavesLemmas.{told_so}
+use Rattle.schematic_main.specs.Drawn.{Job, found_by, HasSearched, IsDrawAnswer, HasBegunPicture, DrawMayLeave}
+use Rattle.schematic_main.specs.Commands.{IsBegunPicture}
+use Rattle.schematic_main.proofs.LeavesLemmas.{told_so, leaves_weaker, leaves_later}
 use Rattle.schematic_main.proofs.PictureLemmas.{StandsWhereNamed, named_same, pictured_later}
 
 -- ---- a log in a file
@@ -100,17 +102,21 @@ log_later : (named : Option (List ℕ)) (old mid new : FilesAt) (traced : Lines 
 log_later None old mid new traced lines same told = told
 log_later (Some name) old mid new traced lines same told = holds_later old.contents mid.contents new.contents name lines same told
 
+abbrev searched_later : (asked : Job) (old mid new : FilesAt) (traced : Lines → Type 0) (g : Graph) (o : EdgeOrder) (outcome : Outcome) → WhereTold old.contents mid.contents SameFiles →
+    HasSearched g o asked (IsLogOf asked.log (between mid new) traced) outcome → HasSearched g o asked (IsLogOf asked.log (between old new) traced) outcome
+searched_later asked old mid new traced g o outcome same searched =
+    record { lines = searched.lines; told = log_later asked.log old mid new traced searched.lines same searched.told; ended = searched.ended }
+
 -- so is what draw answers
 pub draw_later : (asked : Job) (old mid new : FilesAt) (traced : Lines → Type 0) (g : Graph) (o : EdgeOrder) (status : Status) (text : List ℕ) → WhereTold old.contents mid.contents SameFiles →
     IsDrawAnswer asked (between mid new) traced g o status text → IsDrawAnswer asked (between old new) traced g o status text
 draw_later asked old mid new traced g o status text same answer =
     let drawn = answer.drawn in
-    let searched = drawn.searched in
     let stands = told_so SameFiles (StandsWhereNamed asked.svg) old.contents mid.contents (λ a b all. named_same asked.svg a b all) same in
     record {
       drawn = record {
         outcome = drawn.outcome;
-        searched = record { lines = searched.lines; told = log_later asked.log old mid new traced searched.lines same searched.told; ended = searched.ended };
+        searched = searched_later asked old mid new traced g o drawn.outcome same drawn.searched;
         passes = drawn.passes;
         short = drawn.short;
         status_is = drawn.status_is;
@@ -125,6 +131,23 @@ pub drawn_on : (asked : Job) (name : List ℕ) (old mid new : FilesAt) (traced :
     IsAnswerOn (text_input 1 name) 0 (between old new) (IsAnswerAfter 1 (between old new) (IsFileJudged (IsDrawAnswer asked (between old new) traced))) status text
 drawn_on asked name old mid new traced g o status text (bytes, is, has) same read answer =
     inl (bytes, is, inr (has.has_graph.has_topology.has_rows.few, (read, inl (g, o, has, draw_later asked old mid new traced g o status text same answer))))
+
+-- so is what it leaves
+pub leaves_on : (asked : Job) (name : List ℕ) (old mid new : FilesAt) (traced : Lines → Type 0) (g : Graph) (o : EdgeOrder) (Refused : Type 0) → IsStationOf name old.contents g o → WhereTold old.contents mid.contents SameFiles → (Refused → ⊥) →
+    WhereTold mid.contents new.contents (Leaves (DrawMayLeave asked (HasBegunPicture g o asked (IsLogOf asked.log (between mid new) traced)))) →
+    WhereTold old.contents new.contents (Leaves (λ file bytes. (Refused → ⊥) × DrawMayLeave asked (IsBegunPicture name asked (between old new) traced) file bytes))
+leaves_on asked name old mid new traced g o Refused has same answered leaves =
+    let Begun = HasBegunPicture g o asked (IsLogOf asked.log (between mid new) traced) in
+    let May : (file bytes : List ℕ) → Type 0 = λ file bytes. (Refused → ⊥) × DrawMayLeave asked (IsBegunPicture name asked (between old new) traced) file bytes in
+    leaves_later May old.contents mid.contents new.contents same
+    (leaves_weaker (DrawMayLeave asked Begun) May mid.contents new.contents
+    (λ file bytes may. (
+      answered,
+      elim may as (λ _. DrawMayLeave asked (IsBegunPicture name asked (between old new) traced) file bytes) [
+        | inl log ↦ inl log
+        | inr (svg, begun) ↦ inr (svg, (g, o, has, record { outcome = begun.outcome; searched = searched_later asked old mid new traced g o begun.outcome same begun.searched; begins = begun.begins }))
+      ],
+    )) leaves)
 
 -- why there is no answer, where there is none
 abbrev cut_told : {A : Type 0} → Result A Cut → Cut

@@ -1,16 +1,15 @@
 -- The lines without a fault of the text of lines that may be told are these lines.
-use Rattle.std.proofs.Common.{◌≡◌, ℕ, ◌<◌, true, List, [], ◌∷◌, ◌++◌, map, refl, sym, ◌∙◌, ap, inl, inr, arith, append_assoc, append-nil}
+use Rattle.std.proofs.Common.{◌≡◌, ℕ, ◌<◌, true, List, [], ◌∷◌, ◌++◌, map, refl, sym, ◌∙◌, ap, inl, inr, arith, append-nil}
 use Rattle.std.specs.Prelude.{All, flat_map, codes, nat_lt}
 use Rattle.std.specs.List.{list_all}
 use Rattle.std.proofs.lemmas.Bool.{and_parts, ltb-true}
 use Rattle.std.proofs.lemmas.List.Elements.{All-nil, All-cons}
 use Rattle.line_text.specs.Fields.{LacksByte}
-use Rattle.refute_log.specs.declared.line.LogLine.{LogLine}
 use Rattle.refute_log.specs.declared.line.LogLine.TheVariants.{Formula, Learnt, Bound, Query, Refuted, Model}
 use Rattle.refute_log.specs.Lines.{ended_text, log_line_text, log_text, MayAllBeTold}
 use Rattle.refute_log.specs.Told.{Lines}
 use Rattle.refute_log.proofs.FeedLemmas.{line_lacks, told_is_read}
-use Rattle.log_check.specs.Faultless.{IsFaulty, AreTextLines, AreFaultless, HasFaultless}
+use Rattle.log_check.specs.Faultless.{IsFaulty, AreFaultless, HasFaultless}
 
 abbrev title : List ℕ
 title = codes "railplan-log 1"

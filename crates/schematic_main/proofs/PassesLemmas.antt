@@ -1,5 +1,5 @@
 -- What draw wrote passes check: the lines of a search are accepted, and certify what its sheet claims.
-use Rattle.std.proofs.Common.{◌≡◌, ◌≢◌, ◌⊎◌, ℕ, ◌<◌, ◌≤◌, List, [], length, None, Some, refl, sym, ◌∙◌, ap, subst, inl, inr, arith, append-nil}
+use Rattle.std.proofs.Common.{◌≡◌, ◌≢◌, ◌⊎◌, ◌≤◌, List, [], length, None, Some, refl, sym, ◌∙◌, ap, subst, inl, inr, arith, append-nil}
 use Rattle.std.specs.Prelude.{false, flat_map, IfSome}
 use Rattle.std.proofs.lemmas.List.{take_all}
 use Rattle.plan_core.specs.declared.criterion.Criterion.{Criterion}

@@ -80,7 +80,7 @@ one_sheet_refusal g needs_drawing sheet status other text another a b =
     let kind = one_kind g needs_drawing sheet a.what b.what a.line b.line a.first b.first in
     let place = one_line g needs_drawing sheet a.what b.what a.line b.line a.first b.first in
     let same = ap (λ (what : SheetWhat). Sheet what a.line) kind ∙ ap (λ (line : ℕ). Sheet b.what line) place in
-    one_refusal (Sheet a.what a.line) (Sheet b.what b.line) status other text another same a.told b.told
+    one_refusal (Sheet a.what a.line) (Sheet b.what b.line) status other text another same a.answers b.answers
 
 one_answer : (g : Graph) (o : EdgeOrder) (sheet : List ℕ) (status other : Status) (text another : List ℕ) → IsSheetJudged g o sheet status text → IsSheetJudged g o sheet other another → SameAnswer status other text another
 one_answer g o sheet status other text another (inl a) b =
@@ -188,7 +188,7 @@ one_verified : (bytes sheet : List ℕ) (status other : Status) (text another : 
 one_verified bytes sheet status other text another (inl (g, o, has, a)) (inl (h, p, also, b)) = one_to_station bytes sheet g h o p status other text another has also a b
 one_verified bytes sheet status other text another (inl (g, o, has, a)) (inr b) = absurd (station_or_fault bytes g o b.fault has b.has)
 one_verified bytes sheet status other text another (inr a) (inl (h, p, also, b)) = absurd (station_or_fault bytes h p a.fault also a.has)
-one_verified bytes sheet status other text another (inr a) (inr b) = one_refusal a.fault b.fault status other text another (one_fault bytes a.fault b.fault a.has b.has) a.told b.told
+one_verified bytes sheet status other text another (inr a) (inr b) = one_refusal a.fault b.fault status other text another (one_fault bytes a.fault b.fault a.has b.has) a.answers b.answers
 
 pub one_file_status : (bytes sheet : List ℕ) (status other : Status) (text another : List ℕ) → IsVerified bytes sheet status text → IsVerified bytes sheet other another → status ≡ other
 one_file_status bytes sheet status other text another a b = (one_verified bytes sheet status other text another a b).status_is

@@ -29,7 +29,7 @@ pub record IsPrinted (g : Graph) (o : EdgeOrder) (status : Status) (text : List 
 pub record IsFileRefused (bytes : List ℕ) (status : Status) (text : List ℕ) : Type 0 where
   pub fault : RunFault
   pub has : HasFileFault bytes fault
-  pub told : IsFaultLine fault status text
+  pub answers : IsFaultLine fault status text
 
 -- the bytes have this station and the answer is one to it, or they have a fault
 abbrev pub IsFileJudged : (Graph → EdgeOrder → Status → List ℕ → Type 0) → List ℕ → Status → List ℕ → Type 0

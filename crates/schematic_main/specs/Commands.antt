@@ -1,28 +1,25 @@
--- What differs by command, a row for each: what it reads and writes, what it owes, how it may end, and when its
--- inputs are sound.
-use Rattle.std.specs.Prelude.{◌≡◌, ◌≢◌, ◌⊎◌, ℕ, ⊤, Bool, false, true, List, [], ◌∷◌, ◌++◌, All, Any, AllPairs, Some, None}
+-- What differs by command, a row for each: what it reads and writes, what it may leave, what it owes, how it may end, and
+-- when its inputs are sound.
+use Rattle.std.specs.Prelude.{◌≡◌, ◌≢◌, ◌⊎◌, ℕ, ⊤, Bool, false, true, List, [], ◌∷◌, ◌++◌, AllPairs, Some, None}
 use Rattle.std.specs.declared.option.Option.{Option}
 use Rattle.outside_io.specs.Contents.{Told, TellsAt}
 use Rattle.plan_core.specs.declared.limits.TheConstants.{MAX_FILE_BYTES, MAX_LOG_BYTES}
 use Rattle.plan_core.specs.Graph.{Graph}
-use Rattle.plan_core.specs.Drawing.{Drawing}
-use Rattle.plan_text.specs.SvgText.{svg_text}
 use Rattle.plan_words.specs.declared.command.Command.{Command}
 use Rattle.plan_words.specs.declared.command.Command.TheVariants.{Draw, Verify, Check, Graph as PrintGraph, Make, Trial}
 use Rattle.track_order.specs.Order.{EdgeOrder}
 use Rattle.refute_log.specs.Lines.{log_text, MayAllBeTold}
 use Rattle.refute_log.specs.Told.{Lines}
-use Rattle.refute_log.specs.FileLog.{BeginsLog}
 use Rattle.station_make.specs.StationText.{station_text}
 use Rattle.schematic_main.specs.declared.fault.RunFault.{RunFault}
 use Rattle.schematic_main.specs.declared.status.Status.{Status}
 use Rattle.schematic_main.specs.declared.status.Status.TheVariants.{Done, NoDrawing, Unfinished, Broken}
-use Rattle.schematic_main.specs.Input.{IsShort, HasStation, HasFileFault}
+use Rattle.schematic_main.specs.Input.{IsShort, HasStation, HasFileFault, IsStationOf}
 use Rattle.schematic_main.specs.Verdict.{IsSoundSheet}
 use Rattle.schematic_main.specs.Met.{Met}
 use Rattle.schematic_main.specs.Answer.{InputFile, text_input, log_input, IsPrinted, IsFileJudged, IsVerified, IsAnswerAfter, IsAnswerOn}
-use Rattle.schematic_main.specs.Pictured.{BeginsPicture}
-use Rattle.schematic_main.specs.Drawn.{job, IsDrawAnswer}
+use Rattle.schematic_main.specs.SearchLog.{IsLogOf}
+use Rattle.schematic_main.specs.Drawn.{Job, job, IsDrawAnswer, HasBegunPicture, DrawMayLeave}
 use Rattle.schematic_main.specs.Tried.{IsMade, IsTried}
 use Rattle.schematic_main.specs.Checked.{IsChecked}
 
@@ -37,37 +34,14 @@ inputs_of (Check input sheet log) = text_input 1 input ∷ text_input 2 sheet �
 inputs_of (Make n) = []
 inputs_of (Trial n) = []
 
--- what stands in a file that a command writes: the text of a log, or a picture
-pub data OutputKind : Type 0 where
-  LogOutput : OutputKind
-  PictureOutput : OutputKind
+-- the file that is named, where one is
+abbrev pub file_named : Option (List ℕ) → List (List ℕ)
+file_named None = []
+file_named (Some name) = name ∷ []
 
--- a file that a command writes
-pub record OutputFile : Type 0 where
-  pub name : List ℕ
-  pub kind : OutputKind
-
--- the file of this name, for a log
-abbrev pub log_file : List ℕ → OutputFile
-log_file name = record { name = name; kind = LogOutput }
-
--- the file of this name, for a picture
-abbrev pub picture_file : List ℕ → OutputFile
-picture_file name = record { name = name; kind = PictureOutput }
-
--- the log's file, where one is named
-abbrev pub log_output : Option (List ℕ) → List OutputFile
-log_output None = []
-log_output (Some name) = log_file name ∷ []
-
--- the picture's file, where one is named
-abbrev pub picture_output : Option (List ℕ) → List OutputFile
-picture_output None = []
-picture_output (Some name) = picture_file name ∷ []
-
--- the files that a command writes, in this order
-abbrev pub outputs_of : Command → List OutputFile
-outputs_of (Draw input grid order budget svg log) = log_output log ++ picture_output svg
+-- the names of the files that a command writes, in this order
+abbrev pub outputs_of : Command → List (List ℕ)
+outputs_of (Draw input grid order budget svg log) = file_named log ++ file_named svg
 outputs_of (PrintGraph input) = []
 outputs_of (Verify input sheet) = []
 outputs_of (Check input sheet log) = []
@@ -75,44 +49,8 @@ outputs_of (Make n) = []
 outputs_of (Trial n) = []
 
 -- no two of the files have one name
-abbrev pub AreFilesApart : List OutputFile → Type 0
-AreFilesApart outputs = AllPairs (λ a b. a.name ≢ b.name) outputs
-
--- the bytes begin what stands in such a file, as those of one do that isn't written whole
-abbrev pub BeginsOutput : OutputKind → List ℕ → Type 0
-BeginsOutput LogOutput bytes = BeginsLog bytes
-BeginsOutput PictureOutput bytes = BeginsPicture bytes
-
--- the bytes are all that is to stand in such a file: the text of some lines, or some picture
-abbrev pub IsWholeOutput : OutputKind → List ℕ → Type 0
-IsWholeOutput LogOutput bytes = (lines : Lines) × (bytes ≡ log_text lines) × MayAllBeTold lines
-IsWholeOutput PictureOutput bytes = (g : Graph) × (d : Drawing) × (bytes ≡ svg_text g d)
-
--- this file is one of those that are written, and this holds of what is to stand there
-abbrev pub WritesTo : List OutputFile → List ℕ → (OutputKind → Type 0) → Type 0
-WritesTo outputs name P = Any (λ output. (output.name ≡ name) × P output.kind) outputs
-
-abbrev pub Writes : List OutputFile → List ℕ → Type 0
-Writes outputs name = WritesTo outputs name (λ kind. ⊤)
-
--- each of these files stands as it stood, or begins what is to stand there
-abbrev pub AreBegun : List OutputFile → Told → Told → Type 0
-AreBegun outputs before after = (name : List ℕ) → Writes outputs name →
-    (after name ≡ before name) ⊎ ((bytes : List ℕ) × (after name ≡ Some bytes) × WritesTo outputs name (λ kind. BeginsOutput kind bytes))
-
--- each of these files is whole, or those behind it stand as they stood
-abbrev pub AreInTurn : List OutputFile → Told → Told → Type 0
-AreInTurn [] before after = ⊤
-AreInTurn (output ∷ behind) before after =
-    (((bytes : List ℕ) × (after output.name ≡ Some bytes) × IsWholeOutput output.kind bytes) ⊎ All (λ later. after later.name ≡ before later.name) behind)
-    × AreInTurn behind before after
-
--- what is left of all files by a command that writes these, in this order: each other one as it stood, and each of these
--- too where the command is refused; and these begun, or as they stood, and none before the one in front of it is whole
-pub record LeavesFiles (outputs : List OutputFile) (Refused : Type 0) (before after : Told) : Type 0 where
-  pub others : (name : List ℕ) → Refused ⊎ (Writes outputs name → ⊥) → after name ≡ before name
-  pub begun : AreBegun outputs before after
-  pub in_turn : AreInTurn outputs before after
+abbrev pub AreFilesApart : (names : List (List ℕ)) → Type 0
+AreFilesApart names = AllPairs (λ a b. a ≢ b) names
 
 -- a command tells the lines of a search to the trace: draw, where no file is named for them, and trial
 abbrev pub TellsTrace : Command → Type 0
@@ -122,6 +60,24 @@ TellsTrace (Verify input sheet) = ⊥
 TellsTrace (Check input sheet log) = ⊥
 TellsTrace (Make n) = ⊥
 TellsTrace (Trial n) = ⊤
+
+-- ---- what it leaves
+
+-- a search of the station in the file of this name ended with a drawing, its lines were told where the words say, and the
+-- bytes begin the picture of that drawing
+abbrev pub IsBegunPicture : (input : List ℕ) → Job → Met → (traced : Lines → Type 0) → (bytes : List ℕ) → Type 0
+IsBegunPicture input asked met traced bytes =
+    (g : Graph) × (o : EdgeOrder) × IsStationOf input met.before.contents g o × HasBegunPicture g o asked (IsLogOf asked.log met traced) bytes
+
+-- with every status that isn't a refusal, the bytes with which a command may leave the file of a name
+abbrev pub MayLeave : Command → Met → (traced : Lines → Type 0) → (name bytes : List ℕ) → Type 0
+MayLeave (Draw input grid order budget svg log) met traced name bytes =
+    DrawMayLeave (job grid order budget svg log) (IsBegunPicture input (job grid order budget svg log) met traced) name bytes
+MayLeave (PrintGraph input) met traced name bytes = ⊥
+MayLeave (Verify input sheet) met traced name bytes = ⊥
+MayLeave (Check input sheet log) met traced name bytes = ⊥
+MayLeave (Make n) met traced name bytes = ⊥
+MayLeave (Trial n) met traced name bytes = ⊥
 
 -- ---- what it owes
 

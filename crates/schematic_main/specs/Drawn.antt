@@ -1,6 +1,6 @@
--- What draw answers to a station: the sheet and the status of how its search ended, and what the log of the search
--- certifies.
-use Rattle.std.specs.Prelude.{◌≡◌, ℕ, List, None, Some}
+-- What draw answers to a station: the sheet and the status of how its search ended, what the log of the search certifies,
+-- and the picture; and with which bytes it may leave a file.
+use Rattle.std.specs.Prelude.{◌≡◌, ◌⊎◌, ℕ, List, None, Some}
 use Rattle.std.specs.declared.option.Option.{Option}
 use Rattle.plan_core.specs.declared.limits.TheConstants.{MAX_FILE_BYTES}
 use Rattle.plan_core.specs.declared.criterion.Criterion.{Criterion}
@@ -14,6 +14,7 @@ use Rattle.plan_text.specs.declared.ending.Ending.TheVariants as endings
 use Rattle.plan_text.specs.SheetText.{Sheet, sheet_text}
 use Rattle.refute_log.specs.Lines.{log_text}
 use Rattle.refute_log.specs.Told.{Lines}
+use Rattle.refute_log.specs.FileLog.{BeginsLog}
 use Rattle.lex_search.specs.declared.outcome.Outcome.{Outcome}
 use Rattle.lex_search.specs.declared.outcome.Outcome.TheVariants as outcomes
 use Rattle.lex_search.specs.Task.{Task}
@@ -26,7 +27,7 @@ use Rattle.schematic_main.specs.declared.status.Status.TheVariants as statuses
 use Rattle.schematic_main.specs.Input.{IsShort}
 use Rattle.schematic_main.specs.Met.{Met}
 use Rattle.schematic_main.specs.SearchLog.{IsLogOf}
-use Rattle.schematic_main.specs.Pictured.{IsPictured}
+use Rattle.schematic_main.specs.Pictured.{BeginsPicture, IsPictured}
 use Rattle.schematic_main.specs.CheckLine.{claimed, verdict_line}
 use Rattle.schematic_main.specs.Checked.{IsClaimJudged}
 
@@ -102,3 +103,16 @@ pub record IsDrawn (g : Graph) (o : EdgeOrder) (asked : Job) (IsTold : Lines →
 pub record IsDrawAnswer (asked : Job) (met : Met) (traced : Lines → Type 0) (g : Graph) (o : EdgeOrder) (status : Status) (text : List ℕ) : Type 0 where
   pub drawn : IsDrawn g o asked (IsLogOf asked.log met traced) status text
   pub pictured : IsPictured asked.svg met g (found_by drawn.outcome)
+
+-- ---- what draw leaves, also where it doesn't answer
+
+-- a search of the station ended with a drawing, it told its lines so, and the bytes begin the picture of that drawing
+pub record HasBegunPicture (g : Graph) (o : EdgeOrder) (asked : Job) (IsTold : Lines → Type 0) (bytes : List ℕ) : Type 0 where
+  pub outcome : Outcome
+  pub searched : HasSearched g o asked IsTold outcome
+  pub begins : BeginsPicture g (found_by outcome) bytes
+
+-- the bytes with which draw may leave the file of this name: where it is named for the log they begin the text of some
+-- log, and where for the picture they are such
+abbrev pub DrawMayLeave : Job → (IsPicture : List ℕ → Type 0) → (name bytes : List ℕ) → Type 0
+DrawMayLeave asked IsPicture name bytes = ((asked.log ≡ Some name) × BeginsLog bytes) ⊎ ((asked.svg ≡ Some name) × IsPicture bytes)

@@ -2,6 +2,8 @@
 -- edges, or the first of the faults that are looked for. These are, in this order, that the file is too
 -- long, its text's, its topology's, its graph's, and that of the order.
 use Rattle.std.specs.Prelude.{◌≡◌, ◌<◌, ◌≤◌, ℕ, List, length}
+use Rattle.std.specs.declared.option.Option.{Option}
+use Rattle.outside_io.specs.Contents.{Told, IsFileWhereTold}
 use Rattle.plan_core.specs.declared.limits.TheConstants.{MAX_FILE_BYTES}
 use Rattle.plan_core.specs.declared.topology.Topology.{Topology as Tracks}
 use Rattle.plan_core.specs.Graph.{Graph as TrackGraph}
@@ -62,3 +64,13 @@ HasFileFault bytes (ReadFailed input) = ⊥
 abbrev pub IsRefusal : List ℕ → Refusal → Type 0
 IsRefusal bytes (refusals.Fault fault) = HasFileFault bytes fault
 IsRefusal bytes refusals.Memory = Unit {0}
+
+-- ---- the file of a name
+
+-- the file of this name has this property, or contents aren't told and some bytes have it
+abbrev pub IsOfFile : (List ℕ → Type 0) → List ℕ → Option Told → Type 0
+IsOfFile P name contents = (bytes : List ℕ) × IsFileWhereTold contents name bytes × P bytes
+
+-- so it has this station
+abbrev pub IsStationOf : List ℕ → Option Told → TrackGraph → EdgeOrder → Type 0
+IsStationOf name contents g o = IsOfFile (λ bytes. HasStation bytes g o) name contents

@@ -1,6 +1,6 @@
--- What a run meets outside: its files, as it begins and as it ends. The counts are told of all files, also of
--- those whose contents aren't.
-use Rattle.std.specs.Prelude.{◌≡◌, ℕ, ◌≤◌}
+-- What a run meets outside: its files, as it begins and as it ends; and how it leaves them. The counts are told of all
+-- files, also of those whose contents aren't.
+use Rattle.std.specs.Prelude.{◌≡◌, ◌⊎◌, ℕ, ◌≤◌, List, Some}
 use Rattle.std.specs.declared.option.Option.{Option}
 use Rattle.outside_io.specs.Contents.{Told}
 use Rattle.outside_io.specs.Counts.{Rose, rose_by}
@@ -51,7 +51,11 @@ pub record ReadsInputs (inputs : ℕ) (All : Type 0) (met : Met) : Type 0 where
   pub once : HasRead met number
   pub all : All → number ≡ inputs
 
--- the count of faults of creating and appending is as it was. Neither call promises to leave it, so a run that is proved
--- to tries none
+-- the count of faults of creating and appending is as it was. Neither call promises to leave it so: a run that is proved to
+-- leave it tries none
 abbrev pub IsUnwritten : Met → Type 0
 IsUnwritten met = met.after.write_faults ≡ met.before.write_faults
+
+-- each file stands as it stood, or is there with bytes with which it may be left
+abbrev pub Leaves : (May : (name bytes : List ℕ) → Type 0) → (before after : Told) → Type 0
+Leaves May before after = (name : List ℕ) → (after name ≡ before name) ⊎ ((bytes : List ℕ) × (after name ≡ Some bytes) × May name bytes)

@@ -4,17 +4,15 @@ use Rattle.std.specs.declared.option.Option.{Option}
 use Rattle.outside_io.specs.Contents.{WhereTold}
 use Rattle.plan_core.specs.Graph.{Graph}
 use Rattle.plan_core.specs.Drawing.{Drawing}
-use Rattle.plan_core.specs.Lawful.{HasSizeOf}
 use Rattle.plan_text.specs.SvgText.{svg_text}
 use Rattle.schematic_main.specs.Met.{Met}
 
--- the bytes begin the picture of some drawing, which has a point for each node and a line for each edge of its graph
-pub record BeginsPicture (bytes : List ℕ) : Type 0 where
-  pub graph : Graph
+-- the bytes begin the picture of the drawing that was found
+pub record BeginsPicture (g : Graph) (found : Option Drawing) (bytes : List ℕ) : Type 0 where
   pub drawing : Drawing
-  pub sized : HasSizeOf graph drawing
+  pub is_found : found ≡ Some drawing
   pub more : List ℕ
-  pub spelled : bytes ++ more ≡ svg_text graph drawing
+  pub spelled : bytes ++ more ≡ svg_text g drawing
 
 -- where a file is named for the picture of the drawing that was found, it holds that; without a drawing it stands as it
 -- stood

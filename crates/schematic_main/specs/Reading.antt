@@ -1,19 +1,13 @@
--- What reading an input gives, and the station of a named file. Only private contracts cite this.
+-- What reading an input gives. Only private contracts cite this.
 use Rattle.std.specs.Prelude.{◌≡◌, ◌⊎◌, ℕ, List, ⊤}
 use Rattle.std.specs.declared.option.Option.{Option}
 use Rattle.outside_io.specs.Contents.{Told, IsFileWhereTold}
-use Rattle.plan_core.specs.Graph.{Graph}
-use Rattle.track_order.specs.Order.{EdgeOrder}
 use Rattle.schematic_main.specs.declared.fault.RunFault.TheVariants.{Long, ReadFailed}
 use Rattle.schematic_main.specs.declared.input.Refusal.{Refusal}
 use Rattle.schematic_main.specs.declared.input.Refusal.TheVariants as refusals
-use Rattle.schematic_main.specs.Input.{IsLong, IsShort, HasStation, HasFileFault}
+use Rattle.schematic_main.specs.Input.{IsLong, IsShort, HasFileFault, IsOfFile}
 use Rattle.schematic_main.specs.Met.{Met, HasRead, ReadFails}
 use Rattle.schematic_main.specs.Answer.{InputFile}
-
--- the file of this name has this property, or contents aren't told and some bytes have it
-abbrev pub IsOfFile : (List ℕ → Type 0) → List ℕ → Option Told → Type 0
-IsOfFile P name contents = (bytes : List ℕ) × IsFileWhereTold contents name bytes × P bytes
 
 -- these are the bytes of the input, and they aren't more than it may have
 pub record IsInput (input : InputFile) (contents : Option Told) (bytes : List ℕ) : Type 0 where
@@ -26,9 +20,6 @@ IsUnreadInput input met (refusals.Fault fault) =
     (IsOfFile (IsLong input.limit) input.name met.before.contents × HasRead met 1 × (fault ≡ Long input.number))
     ⊎ (ReadFails met 0 × (fault ≡ ReadFailed input.number))
 IsUnreadInput input met refusals.Memory = ⊤
-
-abbrev pub IsStationOf : List ℕ → Option Told → Graph → EdgeOrder → Type 0
-IsStationOf name contents g o = IsOfFile (λ bytes. HasStation bytes g o) name contents
 
 -- the file was read and has this fault, or it couldn't be read
 abbrev pub IsRefusalOf : List ℕ → Met → Refusal → Type 0

@@ -2,7 +2,6 @@
 use Rattle.std.specs.Prelude.{◌≡◌, ◌≢◌, ℕ, ◌<◌, ◌⊎◌, List, [], length}
 use Rattle.std.specs.declared.option.Option.{Option}
 use Rattle.std.specs.Io.KnownBytes.{Appends, Keeps}
-use Rattle.outside_io.specs.Contents.{Told}
 use Rattle.outside_io.specs.Counts.{Rose}
 use Rattle.outside_io.specs.Given.{AppendsPrefix}
 use Rattle.plan_words.specs.declared.command.Command.{Command}
@@ -14,7 +13,7 @@ use Rattle.schematic_main.specs.declared.fault.RunFault.TheVariants.{Words}
 use Rattle.schematic_main.specs.declared.status.Status.{Status}
 use Rattle.schematic_main.specs.Fault.{IsFaultLine}
 use Rattle.schematic_main.specs.Met.{Met, ReadFails}
-use Rattle.schematic_main.specs.Commands.{OutputFile, inputs_of, outputs_of, Writes, AreBegun, AreInTurn, TellsTrace, Owes}
+use Rattle.schematic_main.specs.Commands.{inputs_of, outputs_of, TellsTrace, MayLeave, Owes}
 
 -- the words ask for a command of which this holds
 abbrev pub Asks : List (List ℕ) → (Command → Type 0) → Type 0
@@ -29,7 +28,7 @@ pub record IsWordsAnswer (words : List (List ℕ)) (status : Status) (text : Lis
   pub what : WordWhat
   pub position : ℕ
   pub fault : IsFaultOfWords words what position
-  pub told : IsFaultLine (Words what position) status text
+  pub answers : IsFaultLine (Words what position) status text
 
 -- this is due where the words ask for it, the run met this, and the trace was told this
 abbrev pub IsAnswerDue : List (List ℕ) → Met → (traced : Lines → Type 0) → Status → List ℕ → Type 0
@@ -59,29 +58,22 @@ FailsIn command met = (done : ℕ) × (done < length (inputs_of command)) × Rea
 abbrev pub WritesNothing : List (List ℕ) → Type 0
 WritesNothing words = WhereAsked words (λ command. outputs_of command ≡ [])
 
--- the words name this file to be written
-abbrev pub IsNamedForWriting : List (List ℕ) → List ℕ → Type 0
-IsNamedForWriting words name = Asks words (λ command. Writes (outputs_of command) name)
-
--- each file stands as it stood that the words don't name to be written, and where the run was refused every one; and each
--- that they name begins what is to stand there, or stands as it stood, and isn't begun before the one in front of it is
--- whole: what their command leaves, and for words with a fault nothing is changed
-pub record Leaves (words : List (List ℕ)) (Refused : Type 0) (before after : Told) : Type 0 where
-  pub others : (name : List ℕ) → Refused ⊎ (IsNamedForWriting words name → ⊥) → after name ≡ before name
-  pub begun : WhereAsked words (λ command. AreBegun (outputs_of command) before after)
-  pub in_turn : WhereAsked words (λ command. AreInTurn (outputs_of command) before after)
+-- the bytes with which a run may leave the file of a name: so may the command that the words ask for, and the run isn't
+-- refused
+abbrev pub RunMayLeave : List (List ℕ) → (Refused : Type 0) → Met → (traced : Lines → Type 0) → (name bytes : List ℕ) → Type 0
+RunMayLeave words Refused met traced name bytes = (Refused → ⊥) × Asks words (λ command. MayLeave command met traced name bytes)
 
 -- the lines of a search, or a picture, couldn't be written: a write of the command's files failed, or the trace did, where
 -- the lines go to it
-abbrev pub FailsToWrite : (outputs : List OutputFile) → (TellsIt : Type 0) → Met → (trace_rose : Type 0) → Type 0
-FailsToWrite outputs TellsIt met trace_rose =
-    ((outputs ≢ []) × Rose met.before.write_faults met.after.write_faults) ⊎ (TellsIt × trace_rose)
+abbrev pub FailsToWrite : (outputs : List (List ℕ)) → (ToTrace : Type 0) → Met → (trace_rose : Type 0) → Type 0
+FailsToWrite outputs ToTrace met trace_rose =
+    ((outputs ≢ []) × Rose met.before.write_faults met.after.write_faults) ⊎ (ToTrace × trace_rose)
 
 -- the command couldn't write what it was to write
 abbrev pub CommandFailsToWrite : Command → Met → (trace_rose : Type 0) → Type 0
 CommandFailsToWrite command met trace_rose = FailsToWrite (outputs_of command) (TellsTrace command) met trace_rose
 
--- a write of the run failed: a put, or what its command was to tell
+-- a write of the run failed: a put, or what its command was to write
 abbrev pub WriteFails : List (List ℕ) → Met → (put_rose trace_rose : Type 0) → Type 0
 WriteFails words met put_rose trace_rose = put_rose ⊎ Asks words (λ command. CommandFailsToWrite command met trace_rose)
 

@@ -73,7 +73,7 @@ pub record IsSheetRefused (g : Graph) (needs_drawing : Bool) (sheet : List ℕ) 
   pub what : SheetWhat
   pub line : ℕ
   pub first : HasSheetFault g needs_drawing sheet what line
-  pub told : IsFaultLine (Sheet what line) status text
+  pub answers : IsFaultLine (Sheet what line) status text
 
 -- what is answered where a drawing is due
 abbrev pub IsSheetJudged : Graph → EdgeOrder → List ℕ → Status → List ℕ → Type 0

@@ -4,11 +4,11 @@ ghost use Rattle.outside_io.specs.Counts.{Rose};
 ghost use Rattle.outside_io.specs.Contents.{WhereTold, SameFiles};
 ghost use Rattle.track_order.specs.Order.{IsOrderOf};
 ghost use Rattle.schematic_main.specs.Status.{IsAnswered, IsRefused};
-ghost use Rattle.schematic_main.specs.Met.{met_on, ReadsInputs, IsUnread, IsUnwritten};
+ghost use Rattle.schematic_main.specs.Met.{met_on, ReadsInputs, IsUnread, IsUnwritten, Leaves};
 ghost use Rattle.schematic_main.specs.Answer.{IsPrinted, IsFileJudged, text_input, IsAnswerAfter, IsAnswerOn};
 ghost use Rattle.refute_log.specs.ToldTo.{told_to};
-ghost use Rattle.schematic_main.specs.Drawn.{IsDrawAnswer};
-ghost use Rattle.schematic_main.specs.Commands.{AreFilesApart, inputs_of, outputs_of, log_output, picture_output, TellsTrace, Owes, LeavesFiles};
+ghost use Rattle.schematic_main.specs.Drawn.{IsDrawAnswer, DrawMayLeave};
+ghost use Rattle.schematic_main.specs.Commands.{AreFilesApart, inputs_of, file_named, outputs_of, TellsTrace, IsBegunPicture, MayLeave, Owes};
 ghost use Rattle.schematic_main.specs.Run.{FailsToWrite, CommandFailsToWrite};
 
 use crate::checking::check;
@@ -47,12 +47,12 @@ fn draw<F: Files, T: LogSink>(
     files: &mut F,
     trace: &mut T,
 ) -> Result<Reply, Cut>
-    requires apart { AreFilesApart (log_output asked.now.log ++ picture_output asked.now.svg) }
+    requires apart { AreFilesApart (file_named asked.now.log ++ file_named asked.now.svg) }
     ensures answer { IfOk result (λ r. IsAnswerOn (text_input 1 input.now) 0 (met_on F.contents F.read_faults F.write_faults F.reads files.old files.new) (IsAnswerAfter 1 (met_on F.contents F.read_faults F.write_faults F.reads files.old files.new) (IsFileJudged (IsDrawAnswer asked.now (met_on F.contents F.read_faults F.write_faults F.reads files.old files.new) (told_to T.tells T.learnt trace.old trace.new)))) r.status r.text.items) }
     ensures reads { ReadsInputs 1 (IsOkAnd result (λ r. IsAnswered r.status)) (met_on F.contents F.read_faults F.write_faults F.reads files.old files.new) }
-    ensures unwritten { IsOkAnd result (λ r. IsRefused r.status) ⊎ (log_output asked.now.log ++ picture_output asked.now.svg ≡ []) → IsUnwritten (met_on F.contents F.read_faults F.write_faults F.reads files.old files.new) }
-    ensures leaves { WhereTold (F.contents files.old) (F.contents files.new) (LeavesFiles (log_output asked.now.log ++ picture_output asked.now.svg) (IsOkAnd result (λ r. IsRefused r.status))) }
-    ensures cause { IsErrOf result Cut.Unwritten → FailsToWrite (log_output asked.now.log ++ picture_output asked.now.svg) (asked.now.log ≡ None) (met_on F.contents F.read_faults F.write_faults F.reads files.old files.new) (Rose (T.faults trace.old) (T.faults trace.new)) }
+    ensures unwritten { IsOkAnd result (λ r. IsRefused r.status) ⊎ (file_named asked.now.log ++ file_named asked.now.svg ≡ []) → IsUnwritten (met_on F.contents F.read_faults F.write_faults F.reads files.old files.new) }
+    ensures leaves { WhereTold (F.contents files.old) (F.contents files.new) (Leaves (λ name bytes. (IsOkAnd result (λ r. IsRefused r.status) → ⊥) × DrawMayLeave asked.now (IsBegunPicture input.now asked.now (met_on F.contents F.read_faults F.write_faults F.reads files.old files.new) (told_to T.tells T.learnt trace.old trace.new)) name bytes)) }
+    ensures cause { IsErrOf result Cut.Unwritten → FailsToWrite (file_named asked.now.log ++ file_named asked.now.svg) (asked.now.log ≡ None) (met_on F.contents F.read_faults F.write_faults F.reads files.old files.new) (Rose (T.faults trace.old) (T.faults trace.new)) }
     ensures later { F.read_faults files.old ≤ F.read_faults files.new }
     ensures traced { T.is_later trace.old trace.new }
     ensures untold { IsOkAnd result (λ r. IsRefused r.status) ⊎ (asked.now.log ≢ None) → trace.new ≡ trace.old }
@@ -91,7 +91,7 @@ pub fn answer_to<F: Files, T: LogSink>(
     ensures reads { ReadsInputs (length (inputs_of command.now)) (IsOkAnd result (λ r. IsAnswered r.status)) (met_on F.contents F.read_faults F.write_faults F.reads files.old files.new) }
     ensures unread { inputs_of command.now ≡ [] → IsUnread (met_on F.contents F.read_faults F.write_faults F.reads files.old files.new) }
     ensures unwritten { IsOkAnd result (λ r. IsRefused r.status) ⊎ (outputs_of command.now ≡ []) → IsUnwritten (met_on F.contents F.read_faults F.write_faults F.reads files.old files.new) }
-    ensures leaves { WhereTold (F.contents files.old) (F.contents files.new) (LeavesFiles (outputs_of command.now) (IsOkAnd result (λ r. IsRefused r.status))) }
+    ensures leaves { WhereTold (F.contents files.old) (F.contents files.new) (Leaves (λ name bytes. (IsOkAnd result (λ r. IsRefused r.status) → ⊥) × MayLeave command.now (met_on F.contents F.read_faults F.write_faults F.reads files.old files.new) (told_to T.tells T.learnt trace.old trace.new) name bytes)) }
     ensures cause { IsErrOf result Cut.Unwritten → CommandFailsToWrite command.now (met_on F.contents F.read_faults F.write_faults F.reads files.old files.new) (Rose (T.faults trace.old) (T.faults trace.new)) }
     ensures later { F.read_faults files.old ≤ F.read_faults files.new }
     ensures traced { T.is_later trace.old trace.new }

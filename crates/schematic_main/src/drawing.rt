@@ -10,15 +10,15 @@ ghost use Rattle.track_order.specs.Order.{IsOrderOf};
 ghost use Rattle.plan_text.specs.SheetLine.{MayEnd};
 ghost use Rattle.plan_text.specs.SheetText.{sheet_text};
 ghost use Rattle.plan_text.specs.SheetFaults.{IsSheetText};
-ghost use Rattle.refute_log.specs.FileLog.{FileBeginsLog};
+ghost use Rattle.refute_log.specs.FileLog.{BeginsLog, FileBeginsLog};
 ghost use Rattle.schematic_main.specs.Status.{IsRefused};
 ghost use Rattle.schematic_main.specs.Input.{IsShort};
-ghost use Rattle.schematic_main.specs.Met.{met_on, IsUnwritten};
+ghost use Rattle.schematic_main.specs.Met.{met_on, IsUnwritten, Leaves};
 ghost use Rattle.refute_log.specs.ToldTo.{told_to};
 ghost use Rattle.schematic_main.specs.SearchLog.{HoldsLog, IsLogOf};
-ghost use Rattle.schematic_main.specs.Commands.{AreFilesApart, log_output, picture_output, LeavesFiles};
+ghost use Rattle.schematic_main.specs.Commands.{AreFilesApart, file_named};
 ghost use Rattle.schematic_main.specs.Run.{FailsToWrite};
-ghost use Rattle.schematic_main.specs.Drawn.{sheet_with, sheet_of, status_of, HasSearched, IsDrawAnswer};
+ghost use Rattle.schematic_main.specs.Drawn.{sheet_with, sheet_of, status_of, HasSearched, IsDrawAnswer, HasBegunPicture, DrawMayLeave};
 
 use crate::input::Station;
 use crate::picturing::write_found;
@@ -213,10 +213,10 @@ fn search_told<F: Files, T: LogSink>(
 ) -> Result<Outcome, Cut>
     requires order { IsOrderOf station.now.graph station.now.order }
     ensures searched { IfOk result (HasSearched station.now.graph station.now.order asked.now (IsLogOf asked.now.log (met_on F.contents F.read_faults F.write_faults F.reads files.old files.new) (told_to T.tells T.learnt trace.old trace.new))) }
-    ensures leaves { WhereTold (F.contents files.old) (F.contents files.new) (LeavesFiles (log_output asked.now.log) ⊥) }
+    ensures leaves { WhereTold (F.contents files.old) (F.contents files.new) (Leaves (λ name bytes. (asked.now.log ≡ Some name) × BeginsLog bytes)) }
     ensures unwritten { asked.now.log ≡ None → IsUnwritten (met_on F.contents F.read_faults F.write_faults F.reads files.old files.new) }
     ensures later { F.write_faults files.old ≤ F.write_faults files.new }
-    ensures cause { IsErrOf result Cut.Unwritten → FailsToWrite (log_output asked.now.log) (asked.now.log ≡ None) (met_on F.contents F.read_faults F.write_faults F.reads files.old files.new) (Rose (T.faults trace.old) (T.faults trace.new)) }
+    ensures cause { IsErrOf result Cut.Unwritten → FailsToWrite (file_named asked.now.log) (asked.now.log ≡ None) (met_on F.contents F.read_faults F.write_faults F.reads files.old files.new) (Rose (T.faults trace.old) (T.faults trace.new)) }
     ensures read_faults { F.read_faults files.new ≡ F.read_faults files.old }
     ensures reads { F.reads files.new ≡ F.reads files.old }
     ensures traced { T.is_later trace.old trace.new }
@@ -237,14 +237,14 @@ pub fn draw_station<F: Files, T: LogSink>(
     trace: &mut T,
 ) -> Result<Reply, Cut>
     requires order { IsOrderOf station.now.graph station.now.order }
-    requires apart { AreFilesApart (log_output asked.now.log ++ picture_output asked.now.svg) }
+    requires apart { AreFilesApart (file_named asked.now.log ++ file_named asked.now.svg) }
     ensures answer { IfOk result (λ r. IsDrawAnswer asked.now (met_on F.contents F.read_faults F.write_faults F.reads files.old files.new) (told_to T.tells T.learnt trace.old trace.new) station.now.graph station.now.order r.status r.text.items) }
     ensures read_faults { F.read_faults files.new ≡ F.read_faults files.old }
     ensures reads { F.reads files.new ≡ F.reads files.old }
     ensures unrefused { IsOkAnd result (λ r. IsRefused r.status) → ⊥ }
-    ensures unwritten { log_output asked.now.log ++ picture_output asked.now.svg ≡ [] → IsUnwritten (met_on F.contents F.read_faults F.write_faults F.reads files.old files.new) }
-    ensures leaves { WhereTold (F.contents files.old) (F.contents files.new) (LeavesFiles (log_output asked.now.log ++ picture_output asked.now.svg) ⊥) }
-    ensures cause { IsErrOf result Cut.Unwritten → FailsToWrite (log_output asked.now.log ++ picture_output asked.now.svg) (asked.now.log ≡ None) (met_on F.contents F.read_faults F.write_faults F.reads files.old files.new) (Rose (T.faults trace.old) (T.faults trace.new)) }
+    ensures unwritten { file_named asked.now.log ++ file_named asked.now.svg ≡ [] → IsUnwritten (met_on F.contents F.read_faults F.write_faults F.reads files.old files.new) }
+    ensures leaves { WhereTold (F.contents files.old) (F.contents files.new) (Leaves (DrawMayLeave asked.now (HasBegunPicture station.now.graph station.now.order asked.now (IsLogOf asked.now.log (met_on F.contents F.read_faults F.write_faults F.reads files.old files.new) (told_to T.tells T.learnt trace.old trace.new))))) }
+    ensures cause { IsErrOf result Cut.Unwritten → FailsToWrite (file_named asked.now.log ++ file_named asked.now.svg) (asked.now.log ≡ None) (met_on F.contents F.read_faults F.write_faults F.reads files.old files.new) (Rose (T.faults trace.old) (T.faults trace.new)) }
     ensures traced { T.is_later trace.old trace.new }
     ensures untold { asked.now.log ≢ None → trace.new ≡ trace.old }
 {

@@ -1,6 +1,7 @@
 // Laws of files and of what is answered to them. The functions do nothing: their contracts are the laws.
-ghost use Rattle.std.specs.Prelude.{◌≡◌, ◌≢◌, ◌↔◌, ◌⊎◌, ⊤, ℕ, List, Option, None, length, flat_map};
+ghost use Rattle.std.specs.Prelude.{◌≡◌, ◌≢◌, ◌↔◌, ◌⊎◌, ⊤, ℕ, List, Option, None, Some, length, flat_map};
 ghost use Rattle.outside_io.specs.Contents.{Told};
+ghost use Rattle.plan_core.specs.declared.limits.TheConstants.{MAX_LOG_BYTES};
 ghost use Rattle.plan_core.specs.declared.criterion.Values.{Values};
 ghost use Rattle.plan_core.specs.Grid.{GridSize};
 ghost use Rattle.plan_core.specs.Graph.{Graph};
@@ -8,9 +9,10 @@ ghost use Rattle.plan_core.specs.Drawing.{Drawing};
 ghost use Rattle.plan_core.specs.Values.{values_of, limit_of};
 ghost use Rattle.plan_core.specs.Lawful.{Lawful};
 ghost use Rattle.plan_words.specs.declared.command.Command.TheVariants.{Check};
-ghost use Rattle.plan_text.specs.SheetText.{Sheet as PlainSheet};
+ghost use Rattle.plan_text.specs.SheetText.{Sheet as PlainSheet, sheet_text};
 ghost use Rattle.plan_text.specs.SheetFaults.{IsDrawingOf};
 ghost use Rattle.cnf_core.specs.declared.limits.TheConstants.{ROOM};
+ghost use Rattle.refute_log.specs.Lines.{log_text};
 ghost use Rattle.refute_log.specs.Told.{Lines};
 ghost use Rattle.refute_log.specs.Log.{learnt, Open};
 ghost use Rattle.certified_values.specs.Certified.{CertifiesNone, Settled};
@@ -25,7 +27,7 @@ ghost use Rattle.schematic_main.specs.declared.fault.RunFault.{RunFault as Fault
 ghost use Rattle.schematic_main.specs.declared.status.Status.{Status};
 ghost use Rattle.schematic_main.specs.declared.status.Status.TheVariants.{Done, Unfinished, Broken};
 ghost use Rattle.schematic_main.specs.Status.{number_of};
-ghost use Rattle.schematic_main.specs.Input.{HasGraph, HasStation, HasFileFault};
+ghost use Rattle.schematic_main.specs.Input.{IsShort, HasGraph, HasStation, HasFileFault};
 ghost use Rattle.schematic_main.specs.Met.{Met};
 ghost use Rattle.schematic_main.specs.Verdict.{lawful_line, IsSheetJudged};
 ghost use Rattle.schematic_main.specs.Answer.{IsVerified};
@@ -35,7 +37,7 @@ ghost use Rattle.schematic_main.specs.CertifiedSheet.{CertifiesSheet, ClaimsTrul
 ghost use Rattle.schematic_main.specs.Commands.{Owes};
 ghost use Rattle.schematic_main.specs.Run.{FailsIn};
 ghost use Rattle.schematic_main.specs.SearchLog.{IsLogFile};
-ghost use Rattle.schematic_main.specs.Drawn.{Job, search_of, status_of};
+ghost use Rattle.schematic_main.specs.Drawn.{Job, search_of, status_of, PassesCheck};
 
 /// A file that has a station has none of the faults.
 pub fn station_or_fault()
@@ -87,14 +89,28 @@ pub fn certified_exactly()
         (g : Graph) × (o : EdgeOrder) × (said : PlainSheet) × HasStation file g o × CertifiesSheet g o sheet log said × ClaimsTruly g o said × (text ≡ verdict_line (claimed said.order said.ending) Certified) }
 {}
 
-/// So it is with a whole run of `check` none of whose reads failed: it ends with 0 exactly where the files that it reads
-/// are so. What a trace was told plays no part.
+/// So it is with what a whole run of `check` owes, none of whose reads failed: 0 exactly where the files that it reads are
+/// so. What a trace was told plays no part.
 pub fn certified_runs_end_with_0()
     ensures due { (input sheet log : List ℕ) (met : Met) (g : Graph) (o : EdgeOrder) (said : PlainSheet) (status : Status) (line : List ℕ) →
         met.before.contents ≢ None → HasCertifiedFiles met.before.contents input sheet log g o said → (FailsIn (Check input sheet log) met → ⊥) → Owes (Check input sheet log) met (λ lines. ⊤) status line →
         (status ≡ Done) × (line ≡ verdict_line (claimed said.order said.ending) Certified) }
     ensures only { (input sheet log : List ℕ) (met : Met) (line : List ℕ) → Owes (Check input sheet log) met (λ lines. ⊤) Done line →
         (g : Graph) × (o : EdgeOrder) × (said : PlainSheet) × HasCertifiedFiles met.before.contents input sheet log g o said × ClaimsTruly g o said × (line ≡ verdict_line (claimed said.order said.ending) Certified) }
+{}
+
+/// The sheet that `draw` put for a file's station and the log of the lines that it told, which pass `check` by `IsDrawn`, are
+/// certified, where the log isn't too long to be read; and a whole run of `check` on them, none of whose reads failed, ends
+/// with 0.
+pub fn own_logs_are_certified()
+    ensures files { (file input sheet log : List ℕ) (g : Graph) (o : EdgeOrder) (drawn : PlainSheet) (lines : Lines) (contents : Told) →
+        HasStation file g o → PassesCheck g o drawn lines → IsShort MAX_LOG_BYTES (log_text lines) →
+        contents input ≡ Some file → contents sheet ≡ Some (sheet_text g drawn) → contents log ≡ Some (log_text lines) →
+        (said : PlainSheet) × HasCertifiedFiles (Some contents) input sheet log g o said }
+    ensures checked { (file input sheet log : List ℕ) (g : Graph) (o : EdgeOrder) (drawn : PlainSheet) (lines : Lines) (contents : Told) (met : Met) (status : Status) (line : List ℕ) →
+        HasStation file g o → PassesCheck g o drawn lines → IsShort MAX_LOG_BYTES (log_text lines) →
+        contents input ≡ Some file → contents sheet ≡ Some (sheet_text g drawn) → contents log ≡ Some (log_text lines) →
+        met.before.contents ≡ Some contents → (FailsIn (Check input sheet log) met → ⊥) → Owes (Check input sheet log) met (λ lines. ⊤) status line → status ≡ Done }
 {}
 
 /// A number is that of one status at most.
@@ -109,7 +125,7 @@ pub fn one_log_in_a_file()
 
 /// Of the lines of a search: where none is found to be lawful, that is certified. Where it is unfinished, the criteria that
 /// are called settled are those that are certified, and no more. It stops only where the whole budget of learnt clauses
-/// is spent and the last query is open, or where the log is full, also by its status alone.
+/// is spent and the last query is open, or where the log is full; and so where only the status 4 is known.
 pub fn how_searches_end()
     ensures none { (g : Graph) (o : EdgeOrder) (asked : Job) (lines : Lines) → IsOutcome (search_of g o asked) asked.order outcomes.NoDrawing lines → CertifiesNone lines }
     ensures settled { (g : Graph) (o : EdgeOrder) (asked : Job) (lines : Lines) (found : Option Drawing) (s : ℕ) →

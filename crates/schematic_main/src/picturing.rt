@@ -1,13 +1,12 @@
 // The picture of a drawing, in a file.
-ghost use Rattle.std.specs.Prelude.{◌≡◌, ◌≢◌, ◌≤◌, [], OnOk, OnErr, IfSome, IsErrOf, MatchOption, None, Some};
+ghost use Rattle.std.specs.Prelude.{◌≡◌, ◌≢◌, ◌≤◌, OnOk, OnErr, IfSome, IsErrOf, MatchOption, None, Some};
 ghost use Rattle.outside_io.specs.Counts.{Rose};
 ghost use Rattle.outside_io.specs.Contents.{WhereTold, Sets, MaySet};
 ghost use Rattle.plan_core.specs.Lawful.{HasSizeOf};
 ghost use Rattle.plan_text.specs.SvgText.{svg_text};
-ghost use Rattle.schematic_main.specs.Met.{met_on, IsUnwritten};
-ghost use Rattle.schematic_main.specs.Pictured.{IsPictured};
+ghost use Rattle.schematic_main.specs.Met.{met_on, IsUnwritten, Leaves};
+ghost use Rattle.schematic_main.specs.Pictured.{BeginsPicture, IsPictured};
 ghost use Rattle.schematic_main.specs.Drawn.{found_by};
-ghost use Rattle.schematic_main.specs.Commands.{picture_output, LeavesFiles};
 
 use crate::reply::Cut;
 use lex_minimise::Outcome;
@@ -64,7 +63,7 @@ fn write_named<F: Files>(
 ) -> Result<(), Cut>
     requires { IfSome (found_by outcome.now) (HasSizeOf graph.now) }
     ensures pictured { OnOk result (IsPictured (Some name.now) (met_on F.contents F.read_faults F.write_faults F.reads files.old files.new) graph.now (found_by outcome.now)) }
-    ensures leaves { WhereTold (F.contents files.old) (F.contents files.new) (LeavesFiles (picture_output (Some name.now)) ⊥) }
+    ensures leaves { WhereTold (F.contents files.old) (F.contents files.new) (Leaves (λ named bytes. (Some name.now ≡ Some named) × BeginsPicture graph.now (found_by outcome.now) bytes)) }
     ensures later { F.write_faults files.old ≤ F.write_faults files.new }
     ensures cause { IsErrOf result Cut.Unwritten → Rose (F.write_faults files.old) (F.write_faults files.new) }
     ensures read_faults { F.read_faults files.new ≡ F.read_faults files.old }
@@ -86,10 +85,10 @@ pub fn write_found<F: Files>(
 ) -> Result<(), Cut>
     requires { IfSome (found_by outcome.now) (HasSizeOf graph.now) }
     ensures pictured { OnOk result (IsPictured named.now (met_on F.contents F.read_faults F.write_faults F.reads files.old files.new) graph.now (found_by outcome.now)) }
-    ensures leaves { WhereTold (F.contents files.old) (F.contents files.new) (LeavesFiles (picture_output named.now) ⊥) }
+    ensures leaves { WhereTold (F.contents files.old) (F.contents files.new) (Leaves (λ name bytes. (named.now ≡ Some name) × BeginsPicture graph.now (found_by outcome.now) bytes)) }
     ensures unwritten { named.now ≡ None → IsUnwritten (met_on F.contents F.read_faults F.write_faults F.reads files.old files.new) }
     ensures later { F.write_faults files.old ≤ F.write_faults files.new }
-    ensures cause { IsErrOf result Cut.Unwritten → (picture_output named.now ≢ []) × Rose (F.write_faults files.old) (F.write_faults files.new) }
+    ensures cause { IsErrOf result Cut.Unwritten → (named.now ≢ None) × Rose (F.write_faults files.old) (F.write_faults files.new) }
     ensures read_faults { F.read_faults files.new ≡ F.read_faults files.old }
     ensures reads { F.reads files.new ≡ F.reads files.old }
 {

@@ -4,9 +4,9 @@ ghost use Rattle.outside_io.specs.Contents.{WhereTold, SameFiles};
 ghost use Rattle.outside_io.specs.Counts.{next_count};
 ghost use Rattle.track_order.specs.Order.{IsOrderOf};
 ghost use Rattle.schematic_main.specs.Answer.{input_file};
-ghost use Rattle.schematic_main.specs.Input.{IsLong, IsShort};
+ghost use Rattle.schematic_main.specs.Input.{IsLong, IsShort, IsStationOf};
 ghost use Rattle.schematic_main.specs.Met.{met_on, ReadsInputs, IsUnwritten};
-ghost use Rattle.schematic_main.specs.Reading.{IsInput, IsUnreadInput, IsStationOf, IsRefusalOf};
+ghost use Rattle.schematic_main.specs.Reading.{IsInput, IsUnreadInput, IsRefusalOf};
 
 use crate::fault::RunFault;
 use crate::input::{Refusal, Station, station_in};

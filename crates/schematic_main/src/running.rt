@@ -5,9 +5,9 @@ ghost use Rattle.outside_io.specs.Contents.{WhereTold};
 ghost use Rattle.plan_words.specs.Arguments.{texts_of};
 ghost use Rattle.schematic_main.specs.Status.{IsAnswered, IsRefused, IsCutShort, EndsAs};
 ghost use Rattle.refute_log.specs.ToldTo.{told_to};
-ghost use Rattle.schematic_main.specs.Met.{met_on, ReadsInputs, IsUnread, IsUnwritten};
+ghost use Rattle.schematic_main.specs.Met.{met_on, ReadsInputs, IsUnread, IsUnwritten, Leaves};
 ghost use Rattle.schematic_main.specs.Commands.{inputs_of, AreSound, ends_of};
-ghost use Rattle.schematic_main.specs.Run.{Asks, WhereAsked, IsAnswerDue, GivenAll, GivenPrefix, ReadsNothing, FailsIn, WritesNothing, Leaves, CommandFailsToWrite, WriteFails, TellsNothing};
+ghost use Rattle.schematic_main.specs.Run.{Asks, WhereAsked, IsAnswerDue, GivenAll, GivenPrefix, ReadsNothing, FailsIn, WritesNothing, RunMayLeave, CommandFailsToWrite, WriteFails, TellsNothing};
 
 use crate::answers::answer_to;
 use crate::fault::RunFault;
@@ -29,7 +29,7 @@ fn reply_to<F: Files, T: LogSink>(
     ensures reads { WhereAsked (texts_of words.now) (λ command. ReadsInputs (length (inputs_of command)) (IsOkAnd result (λ r. IsAnswered r.status)) (met_on F.contents F.read_faults F.write_faults F.reads files.old files.new)) }
     ensures unread { ReadsNothing (texts_of words.now) → IsUnread (met_on F.contents F.read_faults F.write_faults F.reads files.old files.new) }
     ensures unwritten { IsOkAnd result (λ r. IsRefused r.status) ⊎ WritesNothing (texts_of words.now) → IsUnwritten (met_on F.contents F.read_faults F.write_faults F.reads files.old files.new) }
-    ensures leaves { WhereTold (F.contents files.old) (F.contents files.new) (Leaves (texts_of words.now) (IsOkAnd result (λ r. IsRefused r.status))) }
+    ensures leaves { WhereTold (F.contents files.old) (F.contents files.new) (Leaves (RunMayLeave (texts_of words.now) (IsOkAnd result (λ r. IsRefused r.status)) (met_on F.contents F.read_faults F.write_faults F.reads files.old files.new) (told_to T.tells T.learnt trace.old trace.new))) }
     ensures cause { IsErrOf result Cut.Unwritten → Asks (texts_of words.now) (λ command. CommandFailsToWrite command (met_on F.contents F.read_faults F.write_faults F.reads files.old files.new) (Rose (T.faults trace.old) (T.faults trace.new))) }
     ensures traced { T.is_later trace.old trace.new }
     ensures untold { IsOkAnd result (λ r. IsRefused r.status) ⊎ TellsNothing (texts_of words.now) → trace.new ≡ trace.old }
@@ -59,7 +59,7 @@ fn carry_out<F: Files, O: Sink, T: LogSink>(
     ensures reads { WhereAsked (texts_of words.now) (λ command. ReadsInputs (length (inputs_of command)) (IsAnswered result) (met_on F.contents F.read_faults F.write_faults F.reads files.old files.new)) }
     ensures unread { ReadsNothing (texts_of words.now) → IsUnread (met_on F.contents F.read_faults F.write_faults F.reads files.old files.new) }
     ensures unwritten { IsRefused result ⊎ WritesNothing (texts_of words.now) → IsUnwritten (met_on F.contents F.read_faults F.write_faults F.reads files.old files.new) }
-    ensures leaves { WhereTold (F.contents files.old) (F.contents files.new) (Leaves (texts_of words.now) (IsRefused result)) }
+    ensures leaves { WhereTold (F.contents files.old) (F.contents files.new) (Leaves (RunMayLeave (texts_of words.now) (IsRefused result) (met_on F.contents F.read_faults F.write_faults F.reads files.old files.new) (told_to T.tells T.learnt trace.old trace.new))) }
     ensures traced { T.is_later trace.old trace.new }
     ensures untold { IsRefused result ⊎ TellsNothing (texts_of words.now) → trace.new ≡ trace.old }
 {
@@ -83,7 +83,7 @@ pub fn run<F: Files, O: Sink, T: LogSink>(
     out: &mut O,
     trace: &mut T,
 ) -> u8
-    // Every run that isn't cut short has put a whole text: what its command owes with its status.
+    // Every run that isn't cut short has put a whole text: what its command, or the fault of its words, owes with its status.
     ensures answer { EndsAs result (λ status. (IsCutShort status → ⊥) → GivenAll (O.given out.old) (O.given out.new) (IsAnswerDue (texts_of words.now) (met_on F.contents F.read_faults F.write_faults F.reads files.old files.new) (told_to T.tells T.learnt trace.old trace.new) status)) }
     // One that is cut short has put nothing, or a prefix of a text that this run may answer.
     ensures cut_short { EndsAs result (λ status. IsCutShort status → GivenPrefix (O.given out.old) (O.given out.new) (λ text. (due : Status) × IsAnswerDue (texts_of words.now) (met_on F.contents F.read_faults F.write_faults F.reads files.old files.new) (told_to T.tells T.learnt trace.old trace.new) due text)) }
@@ -97,9 +97,11 @@ pub fn run<F: Files, O: Sink, T: LogSink>(
     ensures reads { EndsAs result (λ status. WhereAsked (texts_of words.now) (λ command. ReadsInputs (length (inputs_of command)) (IsAnswered status) (met_on F.contents F.read_faults F.write_faults F.reads files.old files.new))) }
     ensures unread { ReadsNothing (texts_of words.now) → IsUnread (met_on F.contents F.read_faults F.write_faults F.reads files.old files.new) }
 
-    // No file is written but those that the words name for it, and none by a run that is refused.
+    // No file is written but those that the words name for it, and none by a run that is refused. With every status one that
+    // is named for a log begins a log's text, and one for a picture that of the drawing with which a search of the file's
+    // station ended; or it stands as it stood.
     ensures unwritten { EndsAs result (λ status. IsRefused status ⊎ WritesNothing (texts_of words.now) → IsUnwritten (met_on F.contents F.read_faults F.write_faults F.reads files.old files.new)) }
-    ensures leaves { EndsAs result (λ status. WhereTold (F.contents files.old) (F.contents files.new) (Leaves (texts_of words.now) (IsRefused status))) }
+    ensures leaves { EndsAs result (λ status. WhereTold (F.contents files.old) (F.contents files.new) (Leaves (RunMayLeave (texts_of words.now) (IsRefused status) (met_on F.contents F.read_faults F.write_faults F.reads files.old files.new) (told_to T.tells T.learnt trace.old trace.new)))) }
 
     // The trace goes on from what it was told before, and is told nothing but by a search.
     ensures traced { T.is_later trace.old trace.new }

@@ -1,14 +1,12 @@
-use Rattle.std.proofs.Common.{◌++◌, ◌∙◌}
+use Rattle.std.proofs.Common.{◌∙◌}
 use Rattle.std.specs.Prelude.{IsOkAnd}
 use Rattle.std.proofs.lemmas.Result.{IfOk-weaker}
 use Rattle.refute_log.specs.ToldTo.{told_to}
 use Rattle.schematic_main.specs.Status.{IsRefused}
 use Rattle.schematic_main.specs.Drawn.{IsDrawAnswer}
-use Rattle.schematic_main.specs.Commands.{log_output, picture_output}
 use Rattle.schematic_main.specs.Met.{files_at, between}
 use Rattle.schematic_main.proofs.AnswerLemmas.{refused_on}
-use Rattle.schematic_main.proofs.FiledLemmas.{drawn_on}
-use Rattle.schematic_main.proofs.LeavesLemmas.{leaves_later, leaves_answered}
+use Rattle.schematic_main.proofs.FiledLemmas.{drawn_on, leaves_on}
 use Rattle.schematic_main.proofs.MetLemmas.{reads_one}
 use Rattle.schematic_main.proofs.answers.draw.Goals as goal
 
@@ -26,11 +24,11 @@ returns-in-Ok-clause-reads g c = reads_one _ _ (c.draw_station.ensures.reads ∙
 
 pub returns-in-Ok-clause-leaves : goal.returns-in-Ok-clause-leaves
 returns-in-Ok-clause-leaves g c =
-    let mid = g.F.Files.contents c.station_of.new.files in
-    let new = g.F.Files.contents c.draw_station.new.files in
-    let outputs = log_output c.args.asked.now.log ++ picture_output c.args.asked.now.svg in
+    let at = files_at {Self = g.row.F.Denot} g.F.Files.contents g.F.Files.read_faults g.F.Files.write_faults g.F.Files.reads in
+    let traced = told_to {Self = g.row.T.Denot} g.T.LogSink.tells g.T.LogSink.learnt c.args.trace.now c.draw_station.new.trace in
     let Refused : Type 0 = IsOkAnd c.draw_station.result (λ r. IsRefused r.status) in
-    leaves_later (g.F.Files.contents c.args.files.now) mid new outputs Refused c.in-Ok.ensures.same (leaves_answered mid new outputs Refused c.draw_station.ensures.unrefused c.draw_station.ensures.leaves)
+    leaves_on c.args.asked.now c.args.input.now (at c.args.files.now) (at c.station_of.new.files) (at c.draw_station.new.files) traced c.in-Ok.station.graph c.in-Ok.station.order Refused c.in-Ok.ensures.station
+    c.in-Ok.ensures.same c.draw_station.ensures.unrefused c.draw_station.ensures.leaves
 
 pub returns-in_ok-fault_reply-in-Err-Fault-clause-answer : goal.returns-in_ok-fault_reply-in-Err-Fault-clause-answer
 returns-in_ok-fault_reply-in-Err-Fault-clause-answer g c =

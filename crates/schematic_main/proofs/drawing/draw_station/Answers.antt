@@ -1,13 +1,14 @@
-use Rattle.std.proofs.Common.{ℕ, List, subst, ap}
+use Rattle.std.proofs.Common.{ℕ, List, subst, ap, inl}
 use Rattle.std.specs.declared.option.Option.{Option}
 use Rattle.outside_io.specs.Contents.{WhereTold}
 use Rattle.refute_log.specs.ToldTo.{told_to}
-use Rattle.schematic_main.specs.Met.{files_at, between}
-use Rattle.schematic_main.specs.Pictured.{IsPictured}
-use Rattle.schematic_main.specs.Drawn.{Job, found_by}
-use Rattle.schematic_main.specs.Commands.{picture_output, LeavesFiles}
+use Rattle.refute_log.specs.FileLog.{BeginsLog}
+use Rattle.schematic_main.specs.Met.{files_at, between, Leaves}
+use Rattle.schematic_main.specs.Pictured.{BeginsPicture, IsPictured}
+use Rattle.schematic_main.specs.SearchLog.{IsLogOf}
+use Rattle.schematic_main.specs.Drawn.{Job, found_by, HasBegunPicture, DrawMayLeave}
 use Rattle.schematic_main.proofs.DrawnLemmas.{found_draws}
-use Rattle.schematic_main.proofs.LeavesLemmas.{leaves_unpictured}
+use Rattle.schematic_main.proofs.LeavesLemmas.{leaves_weaker, NamedMay}
 use Rattle.schematic_main.proofs.PictureLemmas.{leaves_pictured, drawn_answer}
 use Rattle.schematic_main.proofs.drawing.draw_station.Goals as goal
 
@@ -18,7 +19,13 @@ write_found-requires g c =
 
 pub returns-in_err-outcome-clause-leaves : goal.returns-in_err-outcome-clause-leaves
 returns-in_err-outcome-clause-leaves g c =
-    leaves_unpictured (g.F.Files.contents c.args.files.now) (g.F.Files.contents c.search_told.new.files) c.args.asked.now.log c.args.asked.now.svg c.requires.apart c.search_told.ensures.leaves
+    let at = files_at {Self = g.row.F.Denot} g.F.Files.contents g.F.Files.read_faults g.F.Files.write_faults g.F.Files.reads in
+    let old = at c.args.files.now in
+    let new = at c.search_told.new.files in
+    let traced = told_to {Self = g.row.T.Denot} g.T.LogSink.tells g.T.LogSink.learnt c.args.trace.now c.search_told.new.trace in
+    let asked = c.args.asked.now in
+    let IsPicture = HasBegunPicture c.args.station.now.graph c.args.station.now.order asked (IsLogOf asked.log (between old new) traced) in
+    leaves_weaker (NamedMay asked.log BeginsLog) (DrawMayLeave asked IsPicture) old.contents new.contents (λ name bytes log. inl log) c.search_told.ensures.leaves
 
 pub returns-in_err-write_found-clause-leaves : goal.returns-in_err-write_found-clause-leaves
 returns-in_err-write_found-clause-leaves g c =
@@ -54,5 +61,5 @@ returns-clause-answer g c =
     let reply = c.in_ok-sheet_reply.ensures in
     let is_svg = ap (λ (j : Job). j.svg) c.asked.view_is in
     drawn_answer graph c.args.station.now.order asked old mid new traced outcome _ _ c.requires.apart c.in_ok-outcome.ensures.searched c.search_told.ensures.leaves
-    (subst (λ (named : Option (List ℕ)). WhereTold mid.contents new.contents (LeavesFiles (picture_output named) ⊥)) is_svg c.write_found.ensures.leaves)
+    (subst (λ (named : Option (List ℕ)). WhereTold mid.contents new.contents (Leaves (NamedMay named (BeginsPicture graph (found_by outcome))))) is_svg c.write_found.ensures.leaves)
     (subst (λ (named : Option (List ℕ)). IsPictured named (between mid new) graph (found_by outcome)) is_svg c.in_ok-write_found.ensures.pictured) reply.read reply.short reply.status_is reply.spelled

@@ -1,5 +1,6 @@
 use Rattle.std.proofs.Common.{None, Some, sym, ◌∙◌, ap}
 use Rattle.refute_log.specs.ToldTo.{told_to}
+use Rattle.refute_log.specs.FileLog.{BeginsLog}
 use Rattle.schematic_main.specs.Met.{met_on}
 use Rattle.schematic_main.specs.Drawn.{Job}
 use Rattle.schematic_main.proofs.DrawnLemmas.{searched_named}
@@ -15,7 +16,7 @@ returns-in-Some-clause-searched g c =
 
 pub returns-in-Some-clause-leaves : goal.returns-in-Some-clause-leaves
 returns-in-Some-clause-leaves g c =
-    leaves_named (g.F.Files.contents c.args.files.now) (g.F.Files.contents c.search_filed.new.files) c.args.asked.now.log c.in-Some.name (sym (ap (λ (j : Job). j.log) c.asked.view_is) ∙ c.in-Some.is)
+    leaves_named BeginsLog (g.F.Files.contents c.args.files.now) (g.F.Files.contents c.search_filed.new.files) c.args.asked.now.log c.in-Some.name (sym (ap (λ (j : Job). j.log) c.asked.view_is) ∙ c.in-Some.is)
     c.search_filed.ensures.others c.search_filed.ensures.begun
 
 pub returns-in-None-clause-searched : goal.returns-in-None-clause-searched

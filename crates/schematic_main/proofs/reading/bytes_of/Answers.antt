@@ -1,7 +1,8 @@
 use Rattle.std.proofs.Common.{List, ℕ, ◌+◌, subst, inl, refl, arith}
 use Rattle.schematic_main.specs.Input.{IsLong, IsShort}
 use Rattle.schematic_main.specs.Answer.{input_file}
-use Rattle.schematic_main.specs.Reading.{IsOfFile, IsInput}
+use Rattle.schematic_main.specs.Input.{IsOfFile}
+use Rattle.schematic_main.specs.Reading.{IsInput}
 use Rattle.schematic_main.proofs.AnswerLemmas.{input_of_front, long_of_front}
 use Rattle.schematic_main.proofs.MetLemmas.{reads_none, reads_one}
 use Rattle.schematic_main.proofs.reading.bytes_of.Goals as goal

@@ -5,7 +5,7 @@ use Rattle.schematic_main.specs.declared.status.Status.{Status}
 use Rattle.schematic_main.specs.Status.{IsCutShort, IsRefused}
 use Rattle.schematic_main.specs.Met.{met_on}
 use Rattle.schematic_main.proofs.DueLemmas.{due_is_whole, due_unread, due_ends}
-use Rattle.schematic_main.proofs.LeavesLemmas.{leaves_fewer}
+use Rattle.schematic_main.proofs.LeavesLemmas.{leaves_weaker}
 use Rattle.schematic_main.proofs.MetLemmas.{reads_less}
 use Rattle.schematic_main.proofs.StatusLemmas.{cut_unrefused, cut_ends}
 use Rattle.schematic_main.proofs.running.carry_out.Goals as goal
@@ -46,7 +46,7 @@ returns-in-Err-Failed-clause-unwritten g c = λ none. c.in-Ok.ensures.unwritten 
 
 pub returns-in-Err-Failed-clause-leaves : goal.returns-in-Err-Failed-clause-leaves
 returns-in-Err-Failed-clause-leaves g c =
-    leaves_fewer (texts_of c.args.words.now) (g.F.Files.contents c.args.files.now) (g.F.Files.contents c.reply_to.new.files) _ _ (λ refused. absurd refused) c.in-Ok.ensures.leaves
+    leaves_weaker _ _ (g.F.Files.contents c.args.files.now) (g.F.Files.contents c.reply_to.new.files) (λ name bytes may. (λ refused. refused, may.1)) c.in-Ok.ensures.leaves
 
 pub returns-in-Err-Failed-clause-untold : goal.returns-in-Err-Failed-clause-untold
 returns-in-Err-Failed-clause-untold g c = λ none. c.in-Ok.ensures.untold (elim none [ inl refused ↦ absurd refused | inr nothing ↦ inr nothing ])
@@ -59,7 +59,7 @@ returns-in-Ok-clause-unwritten g c = λ none. c.in-Ok.ensures.unwritten (elim no
 
 pub returns-in-Ok-clause-leaves : goal.returns-in-Ok-clause-leaves
 returns-in-Ok-clause-leaves g c =
-    leaves_fewer (texts_of c.args.words.now) (g.F.Files.contents c.args.files.now) (g.F.Files.contents c.reply_to.new.files) _ _ (λ refused. absurd refused) c.in-Ok.ensures.leaves
+    leaves_weaker _ _ (g.F.Files.contents c.args.files.now) (g.F.Files.contents c.reply_to.new.files) (λ name bytes may. (λ refused. refused, may.1)) c.in-Ok.ensures.leaves
 
 pub returns-in-Ok-clause-untold : goal.returns-in-Ok-clause-untold
 returns-in-Ok-clause-untold g c = λ none. c.in-Ok.ensures.untold (elim none [ inl refused ↦ absurd refused | inr nothing ↦ inr nothing ])

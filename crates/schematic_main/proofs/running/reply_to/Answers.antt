@@ -7,7 +7,7 @@ use Rattle.plan_words.proofs.AnswerLemmas.{command_same}
 use Rattle.schematic_main.specs.Status.{IsAnswered}
 use Rattle.schematic_main.specs.Met.{met_on, ReadsInputs}
 use Rattle.schematic_main.specs.Commands.{inputs_of}
-use Rattle.schematic_main.proofs.LeavesLemmas.{asked_apart, leaves_asked}
+use Rattle.schematic_main.proofs.LeavesLemmas.{asked_apart, leaves_weaker}
 use Rattle.schematic_main.proofs.running.reply_to.Goals as goal
 
 pub answer_to-requires : goal.answer_to-requires
@@ -30,7 +30,7 @@ returns-in-Ok-clause-unwritten g c = λ none. c.answer_to.ensures.unwritten (eli
 
 pub returns-in-Ok-clause-leaves : goal.returns-in-Ok-clause-leaves
 returns-in-Ok-clause-leaves g c =
-    leaves_asked (texts_of c.args.words.now) c.in-Ok.command (g.F.Files.contents c.args.files.now) (g.F.Files.contents c.answer_to.new.files) _ c.in-Ok.ensures.value c.answer_to.ensures.leaves
+    leaves_weaker _ _ (g.F.Files.contents c.args.files.now) (g.F.Files.contents c.answer_to.new.files) (λ name bytes may. (may.0, (c.in-Ok.command, c.in-Ok.ensures.value, may.1))) c.answer_to.ensures.leaves
 
 pub returns-in-Ok-clause-cause : goal.returns-in-Ok-clause-cause
 returns-in-Ok-clause-cause g c = λ cut. (c.in-Ok.command, c.in-Ok.ensures.value, c.answer_to.ensures.cause cut)
