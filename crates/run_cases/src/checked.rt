@@ -3,7 +3,7 @@ use crate::answers::ONE_SHEET;
 use crate::cases::{run_untraced, sheet_of, words_from};
 use crate::drawn::{LOOP_SHEET, is_best, logged};
 use crate::pictures::LOOP_PICTURE;
-use crate::stations::{LOOP, ONE, STATION};
+use crate::stations::{LOOP, ONE, SCISSORS, STATION};
 use outside_io::{MemoryFiles, SureFiles, SureSink};
 use std::alloc::{AllocError, Global};
 use std::test::Fail;
@@ -137,6 +137,8 @@ enum Change {
     Without(&'static str),
     /// This behind its last line.
     Behind(&'static str),
+    /// The clause of its second line, learnt behind its last.
+    LearnsSecond,
     WithoutEnd,
     TitleAlone,
     Empty,
@@ -146,7 +148,7 @@ enum Change {
 /// log's last line, or of one so many behind it, that number is left out.
 type Tampered = (Change, u8, &'static str, Option<usize>);
 
-static TAMPERED: [Tampered; 16] = [
+static TAMPERED: [Tampered; 19] = [
     (Change::Nothing, 0, "certified 4", None),
     (Change::Before("f 0"), 8, "check Differs line 2", None),
     (Change::Before("r 0"), 8, "check WrongQuery line 2", None),
@@ -163,6 +165,14 @@ static TAMPERED: [Tampered; 16] = [
     (Change::TitleAlone, 8, "check Lacks place 1", None),
     (Change::Empty, 1, "log 1 Header line 1", None),
     (Change::Before("f 01 0"), 1, "log 3 Number line 2", None),
+    (Change::Before("f 1 1 0"), 1, "log 4 Twice line 2", None),
+    // a variable that no formula has
+    (
+        Change::Before("f 16777217 0"),
+        8,
+        "check Differs line 2",
+        None,
+    ),
     (Change::Negated, 8, "check Differs line 2", None),
     (Change::WithoutSecond, 8, "check Differs line 2", None),
     (Change::Without("r "), 8, "check Lacks place 1", None),
@@ -172,6 +182,7 @@ static TAMPERED: [Tampered; 16] = [
         "check NotImplied line ",
         Some(1),
     ),
+    (Change::LearnsSecond, 8, "check NotNew line ", Some(1)),
     (Change::Behind("m"), 0, "certified 4", None),
 ];
 
@@ -187,6 +198,15 @@ fn negated(alloc: Global, lines: &str) -> Result<String, AllocError> {
         Some(variable) => format!(in alloc; "f {variable}"),
         None => format!(in alloc; "f -{literals}"),
     }
+}
+
+/// The log, and behind it the clause of the first of these lines as one that is learnt.
+fn learning_again(alloc: Global, log: &str, lines: &str) -> Result<String, AllocError> {
+    let clause = match lines.split_once('\n') {
+        Some((line, _)) => line.strip_prefix("f ").unwrap_or(""),
+        None => "",
+    };
+    format!(in alloc; "{log}l {clause}\n")
 }
 
 /// The lines that don't begin so.
@@ -212,6 +232,7 @@ fn changed(alloc: Global, log: &str, change: &Change) -> Result<String, AllocErr
         Change::Negated => titled(alloc, &negated(alloc, lines)?),
         Change::Without(front) => without_lines(alloc, log, front),
         Change::Behind(line) => format!(in alloc; "{log}{line}\n"),
+        Change::LearnsSecond => learning_again(alloc, log, lines),
         Change::WithoutEnd => String::from_str(alloc, log.strip_suffix('\n').unwrap_or("")),
         Change::TitleAlone => titled(alloc, ""),
         Change::Empty => Ok(String::new(alloc)),
@@ -267,6 +288,57 @@ fn certifies_what_draw_wrote(rt: HostRuntime) -> Result<(), Fail> {
         note_wrong(alloc, &mut wrong, measures, &answer, 0, line)?;
     }
     assert_eq!(rt; wrong.as_str(), "");
+    Ok(())
+}
+
+/// What `draw` wrote where it ended with this status, and what `check` answers to it: the sheet, the log and the line.
+fn certified_of(
+    alloc: Global,
+    file: &str,
+    options: &[&'static str],
+    ended: u8,
+) -> Result<(String, String, Vec<u8>), Fail> {
+    let mut words = words_from(alloc, &["draw", "station.xml", "--log", "l"])?;
+    for option in options {
+        words.push(String::from_str(alloc, option)?)?;
+    }
+    let mut files = SureFiles::new(alloc);
+    files.add("station.xml", file.as_bytes())?;
+    let mut out = SureSink::new(alloc);
+    if run_untraced(alloc, &words, &mut files, &mut out) != ended {
+        return Err("the run ends with another status".into());
+    }
+    let sheet = String::from_str(alloc, std::str::from_utf8(out.bytes())?)?;
+    let bytes = files.get("l").ok_or("the log stands in the file")?;
+    let log = String::from_str(alloc, std::str::from_utf8(bytes)?)?;
+    let (status, line) = checked(alloc, file, &sheet, &log)?;
+    if status != 0 {
+        return Err("the log certifies the sheet".into());
+    }
+    Ok((sheet, log, line))
+}
+
+#[test]
+fn certifies_that_no_drawing_is_lawful(rt: HostRuntime) -> Result<(), Fail> {
+    let (_, _, line) = certified_of(rt.alloc(), LOOP, &["--width", "4"], 3)?;
+    assert_eq!(rt; line.as_slice(), b"certified 0\n".as_slice());
+    Ok(())
+}
+
+/// As many clauses were learnt as the budget allows, and as much is certified as the sheet says.
+#[test]
+fn certifies_what_an_unfinished_search_settled(rt: HostRuntime) -> Result<(), Fail> {
+    let alloc = rt.alloc();
+    for (budget, learnt) in [("1", 1), ("5", 5), ("50", 50)] {
+        let (sheet, log, line) = certified_of(alloc, SCISSORS, &["--conflicts", budget], 4)?;
+        let (_, settled) = sheet
+            .split_once("\nend conflicts ")
+            .ok_or("the budget is spent")?;
+        let due = format!(in alloc; "certified {settled}")?;
+        assert_eq!(rt; line.as_slice(), due.as_bytes(), "{budget}");
+        let lines = log.lines().filter(|line| line.starts_with("l ")).count();
+        assert_eq!(rt; lines, learnt, "{budget}");
+    }
     Ok(())
 }
 
