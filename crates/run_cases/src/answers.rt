@@ -446,6 +446,24 @@ fn answers_edits_of_files(rt: HostRuntime) -> Result<(), Fail> {
     Ok(())
 }
 
+/// A station that is refused is drawn into no file.
+#[test]
+fn a_refused_station_leaves_no_file(rt: HostRuntime) -> Result<(), Fail> {
+    let alloc = rt.alloc();
+    let words = words_from(alloc, &["draw", "loop.xml", "--log", "l", "--svg", "s"])?;
+    let (front, back) = LOOP
+        .split_once("course=\"right\"")
+        .ok_or("the course of s2 stands in the file")?;
+    let file = format!(in alloc; "{front}course=\"left\"{back}")?;
+    let mut files = MemoryFiles::new(alloc, &[])?;
+    files.add("loop.xml", file.as_bytes())?;
+    let mut out = SureSink::new(alloc);
+    assert_eq!(rt; run_untraced(alloc, &words, &mut files, &mut out), 1);
+    assert_eq!(rt; out.bytes(), b"order 1 Contradicts 1 3\n".as_slice());
+    assert!(rt; files.get("l").is_none() && files.get("s").is_none());
+    Ok(())
+}
+
 #[test]
 fn prints_the_graph_of_each_worked_station(rt: HostRuntime) -> Result<(), Fail> {
     let alloc = rt.alloc();

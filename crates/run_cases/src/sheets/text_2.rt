@@ -1,5 +1,5 @@
 // Sheets of text 2: the least length, the mileage of each node and the track of each edge.
-use crate::cases::{Edited, wrong_edits};
+use crate::cases::{Edited, wrong_edits, wrong_texts};
 use crate::stations::LOOP;
 use std::test::Fail;
 
@@ -21,7 +21,7 @@ values 1 2 2 5
 end best
 ";
 
-static LEAST_LENGTHS: [Edited; 6] = [
+static LEAST_LENGTHS: [Edited; 7] = [
     ("The least length of every line.", &[], "lawful 1 2 2 5"),
     (
         "Two columns at each edge.",
@@ -42,6 +42,11 @@ static LEAST_LENGTHS: [Edited; 6] = [
         "A least length above 16.",
         &[("grid 40 8 1", "grid 40 8 17")],
         "sheet 2 Range line 2",
+    ),
+    (
+        "A least length above 65,535.",
+        &[("grid 40 8 1", "grid 40 8 65536")],
+        "sheet 1 Form line 2",
     ),
     (
         "Text 1 has none.",
@@ -115,5 +120,17 @@ fn text_2_has_mileages_and_tracks(rt: HostRuntime) -> Result<(), Fail> {
         wrong_edits(alloc, LOOP, LOOP_SHEET, &MILEAGES_AND_TRACKS)?.as_str(),
         ""
     );
+    Ok(())
+}
+
+static UNDRAWN: [(&str, &str, &str); 1] = [(
+    "That there is no drawing.",
+    "railplan 2\ngrid 4 8 1\norder height bends diagonal width\nend none\n",
+    "sheet 1 Form line 4",
+)];
+
+#[test]
+fn text_2_without_a_drawing_has_no_form(rt: HostRuntime) -> Result<(), Fail> {
+    assert_eq!(rt; wrong_texts(rt.alloc(), LOOP, &UNDRAWN)?.as_str(), "");
     Ok(())
 }
