@@ -234,7 +234,7 @@ fn a_sheet_without_a_drawing_has_no_form(rt: HostRuntime) -> Result<(), Fail> {
     Ok(())
 }
 
-static BAD_NODES: [Edited; 12] = [
+static BAD_NODES: [Edited; 13] = [
     (
         "A leading zero.",
         &[("nodes 4", "nodes 04")],
@@ -269,6 +269,11 @@ static BAD_NODES: [Edited; 12] = [
         "A column above 65,535.",
         &[("node 0 mb 0 0", "node 0 mb 65536 0")],
         "sheet 1 Form line 5",
+    ),
+    (
+        "The number of a node and 65,536.",
+        &[("node 3 s2 4 0", "node 65539 s2 4 0")],
+        "sheet 1 Form line 8",
     ),
     (
         "A column left of the grid.",
@@ -320,7 +325,7 @@ node 3 s2 4 0
     "sheet 1 Form line 9",
 )];
 
-static BAD_EDGES: [Edited; 11] = [
+static BAD_EDGES: [Edited; 13] = [
     (
         "Another word.",
         &[("edges 4", "edge 4")],
@@ -330,6 +335,16 @@ static BAD_EDGES: [Edited; 11] = [
         "An empty line.",
         &[("edges 4", "\nedges 4")],
         "sheet 1 Form line 9",
+    ),
+    (
+        "The number of edges and 65,536.",
+        &[("edges 4", "edges 65540")],
+        "sheet 1 Form line 9",
+    ),
+    (
+        "A west end above 65,535.",
+        &[("edge 2 3 1 4 0 5 0", "edge 2 65539 1 4 0 5 0")],
+        "sheet 1 Form line 12",
     ),
     (
         "One point.",
