@@ -8,7 +8,7 @@ use std::test::Fail;
 /// A room, and lines that a new checker with this room is told, each with its answer.
 struct Log(u32, &'static [(&'static str, &'static str)]);
 
-static LOGS: [Log; 11] = [
+static LOGS: [Log; 13] = [
     Log(
         100,
         &[
@@ -117,6 +117,27 @@ static LOGS: [Log; 11] = [
     ),
     Log(2, &[("f 0", "Room")]),
     Log(3, &[("f 0", "Accepted")]),
+    // The literal behind the first is false already, and yet the line is new.
+    Log(
+        100,
+        &[
+            ("f -1 0", "Accepted"),
+            ("f 1 2 3 0", "Accepted"),
+            ("f 1 2 -3 0", "Accepted"),
+            ("l 2 1 0", "Accepted"),
+        ],
+    ),
+    // Only Formula lines in front of a line name variables for it.
+    Log(
+        100,
+        &[
+            ("f 1 2 0", "Accepted"),
+            ("b height 1 3", "Accepted"),
+            ("q 3 0", "NewVar"),
+            ("f 2 3 0", "Accepted"),
+            ("q 3 0", "Accepted"),
+        ],
+    ),
 ];
 
 /// What a checker answers to the line of a text.
@@ -162,6 +183,29 @@ fn a_verdict_wants_a_refuted_line_of_allowed_literals(rt: HostRuntime) -> Result
     assert!(rt; checker.verdict(&[one, two]));
     assert!(rt; !checker.verdict(&[one]));
     assert!(rt; !checker.verdict(&[]));
+    Ok(())
+}
+
+/// Four clauses of two variables have no model, which one learnt clause shows.
+#[test]
+fn a_refuted_line_without_literals_allows_none(rt: HostRuntime) -> Result<(), Fail> {
+    let alloc = rt.alloc();
+    let mut checker = Checker::new(alloc, 100)?;
+    for (text, answer) in [
+        ("f 1 2 0", "Accepted"),
+        ("f 1 -2 0", "Accepted"),
+        ("f -1 2 0", "Accepted"),
+        ("f -1 -2 0", "Accepted"),
+        ("q 0", "Accepted"),
+        ("r 0", "NotImplied"),
+        ("l 1 0", "Accepted"),
+        ("l 1 0", "NotNew"),
+    ] {
+        assert_eq!(rt; told(alloc, &mut checker, text)?, answer, "{text:?}");
+        assert!(rt; !checker.verdict(&[]), "{text:?}");
+    }
+    assert_eq!(rt; told(alloc, &mut checker, "r 0")?, "Accepted");
+    assert!(rt; checker.verdict(&[]));
     Ok(())
 }
 

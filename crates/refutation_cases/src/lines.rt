@@ -37,7 +37,20 @@ fn a_list_keeps_its_lines(rt: HostRuntime) -> Result<(), Fail> {
     let mut list = LineList::new(alloc);
     list.tell(&LogLine::Query(Clause::new(alloc, &[])?))?;
     list.tell(&LogLine::Model)?;
-    assert_eq!(rt; list.len(), 2);
+    assert!(rt; list.len() == 2);
+    assert!(rt; matches!(list.get(0), LogLine::Query(c) if c.is_empty()));
+    assert!(rt; matches!(list.get(1), LogLine::Model));
+    Ok(())
+}
+
+#[test]
+fn a_line_is_copied(rt: HostRuntime) -> Result<(), Fail> {
+    let alloc = rt.alloc();
+    let lits = [Lit::new(Var(3), true), Lit::new(Var(4), false)];
+    let copy = LogLine::Learnt(Clause::new(alloc, &lits)?).copied(alloc)?;
+    assert!(rt; matches!(&copy, LogLine::Learnt(c) if c.as_slice() == lits.as_slice()));
+    let copy = LogLine::Model.copied(alloc)?;
+    assert!(rt; matches!(&copy, LogLine::Model));
     Ok(())
 }
 
@@ -212,6 +225,30 @@ fn a_learnt_line_is_read_literal_by_literal(rt: HostRuntime) -> Result<(), Fail>
             assert_eq!(rt; clause.as_slice(), want.as_slice());
         }
         _ => panic!(rt; "no Learnt line was read"),
+    }
+    Ok(())
+}
+
+#[test]
+fn a_bound_line_is_read_part_by_part(rt: HostRuntime) -> Result<(), Fail> {
+    let cases = [
+        ("b height 1 1", Criterion::Height, 1, 1),
+        (
+            "b bends 65535 1073741823",
+            Criterion::Bends,
+            65_535,
+            1_073_741_823,
+        ),
+        ("b diagonal 3 7", Criterion::Diagonal, 3, 7),
+        ("b width 3 4", Criterion::Width, 3, 4),
+    ];
+    for (text, which, number, variable) in cases {
+        match read_line(rt.alloc(), text.as_bytes(), 7)? {
+            LogLine::Bound { criterion, k, var } => {
+                assert_eq!(rt; (criterion, k, var.0), (which, number, variable), "{text}");
+            }
+            _ => panic!(rt; "no Bound line was read"),
+        }
     }
     Ok(())
 }
