@@ -1,5 +1,7 @@
 // Files and sinks in memory, through their traits.
-use outside_io::{FileFault, Files, MemoryFiles, MemorySink, Sink, SinkFault, SureFiles, SureSink};
+use outside_io::{
+    FileFault, Files, MemoryFiles, MemorySink, Sink, SinkFault, SureFiles, SureSink, write_file,
+};
 use std::alloc::Global;
 use std::test::Fail;
 
@@ -69,6 +71,29 @@ fn fails_the_calls_that_are_listed_and_those_on_a_missing_name(
         );
         assert_eq!(rt; files.get("other"), Some(b"kept".as_slice()), "{fail:?}");
         assert_eq!(rt; into.as_slice(), read.as_bytes(), "{fail:?}");
+    }
+    Ok(())
+}
+
+#[test]
+fn a_whole_file_is_written_or_a_front_of_it(rt: HostRuntime) -> Result<(), Fail> {
+    let alloc = rt.alloc();
+    let table = [
+        ([0, 0], 'o', "new"),
+        ([1, 0], 'f', "older"),
+        ([2, 0], 'f', ""),
+    ];
+    for (fail, outcome, contents) in table {
+        let mut files = MemoryFiles::new(alloc, &fail)?;
+        files.add("l", b"older")?;
+        files.add("other", b"kept")?;
+        assert_eq!(rt;
+            letter(write_file(&mut files, "l", b"new")),
+            outcome,
+            "{fail:?}"
+        );
+        assert_eq!(rt; files.get("l"), Some(contents.as_bytes()), "{fail:?}");
+        assert_eq!(rt; files.get("other"), Some(b"kept".as_slice()), "{fail:?}");
     }
     Ok(())
 }

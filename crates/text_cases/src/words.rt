@@ -219,6 +219,11 @@ fn words_are_a_command_or_have_the_fault_that_counts(rt: HostRuntime) -> Result<
 fn each_fault_has_its_number_and_word(rt: HostRuntime) {
     let cases = [
         (WordWhat::NoCommand, 1, "NoCommand"),
+        (WordWhat::UnknownCommand, 2, "UnknownCommand"),
+        (WordWhat::MissingName, 3, "MissingName"),
+        (WordWhat::ExtraWord, 4, "ExtraWord"),
+        (WordWhat::UnknownOption, 5, "UnknownOption"),
+        (WordWhat::RepeatedOption, 6, "RepeatedOption"),
         (WordWhat::BadValue, 7, "BadValue"),
     ];
     for (what, number, word) in cases {
