@@ -1,5 +1,5 @@
 // What formulas, clauses and truth values answer with ample memory.
-use cnf_core::{Clause, ClauseNo, CnfFault, Formula, Lit, LitOrTruth, Truths, Var};
+use cnf_core::{Clause, ClauseNo, CnfFault, Formula, Lit, LitOrTruth, Truths, Var, lengthen};
 use std::test::Fail;
 
 #[test]
@@ -79,5 +79,14 @@ fn truth_values_are_by_variable(rt: HostRuntime) -> Result<(), Fail> {
     assert_eq!(rt; made.vars(), 3);
     made.set(third);
     assert!(rt; made.holds(third) && !made.holds(first));
+    Ok(())
+}
+
+#[test]
+fn a_table_is_lengthened_by_one_value(rt: HostRuntime) -> Result<(), Fail> {
+    let mut table = Vec::from_slice(rt.alloc(), &[7u32])?;
+    lengthen(&mut table, 3, 9)?;
+    lengthen(&mut table, 0, 5)?;
+    assert_eq!(rt; table.as_slice(), [7, 9, 9, 9].as_slice());
     Ok(())
 }

@@ -1,6 +1,6 @@
 // Integers, what models say of them, and their orders.
 use cnf_core::{ClauseNo, CnfFault, Formula, Lit, LitOrTruth, ROOM, Truths, Var};
-use order_int::{OrderInt, equal, less_equal, new_int};
+use order_int::{OrderInt, add_int, equal, less_equal, new_int};
 use std::test::Fail;
 
 #[test]
@@ -30,6 +30,25 @@ fn an_integer_of_one_number_has_no_variable(rt: HostRuntime) -> Result<(), Fail>
     assert_eq!(rt; f.vars(), 0);
     assert_eq!(rt; i.at_least(2), LitOrTruth::True);
     assert_eq!(rt; i.at_least(3), LitOrTruth::False);
+    Ok(())
+}
+
+#[test]
+fn an_integer_of_variables_that_are_there_has_the_same_clauses(
+    rt: HostRuntime,
+) -> Result<(), Fail> {
+    let mut made = Formula::new(rt.alloc(), ROOM)?;
+    let i = new_int(&mut made, 2, 5)?;
+    let mut given = Formula::new(rt.alloc(), ROOM)?;
+    given.new_vars(3)?;
+    add_int(&mut given, &i)?;
+    assert_eq!(rt; given.vars(), 3);
+    assert_eq!(rt; given.words(), 10);
+    assert_eq!(rt; given.clauses(), 2);
+    assert_eq!(rt; made.clauses(), 2);
+    for c in 0..2 {
+        assert_eq!(rt; given.lits_of(ClauseNo(c)), made.lits_of(ClauseNo(c)));
+    }
     Ok(())
 }
 
