@@ -44,10 +44,10 @@ fn sound_tracks_have_no_fault(rt: HostRuntime) -> Result<(), Fail> {
 
 #[test]
 fn the_129th_track_is_too_many(rt: HostRuntime) -> Result<(), Fail> {
-    for (count, what, at) in [
-        (128usize, TopologyWhat::Missing, 24usize),
-        (129, TopologyWhat::TooMany, 24 + 128 * 8),
-        (130, TopologyWhat::TooMany, 24 + 128 * 8),
+    for (count, what, at, first) in [
+        (128usize, TopologyWhat::Missing, 24usize, "id"),
+        (129, TopologyWhat::TooMany, 24 + 128 * 8, ""),
+        (130, TopologyWhat::TooMany, 24 + 128 * 8, ""),
     ] {
         let mut tracks = String::new(rt.alloc());
         for _ in 0..count {
@@ -57,6 +57,7 @@ fn the_129th_track_is_too_many(rt: HostRuntime) -> Result<(), Fail> {
         let told = first_fault(rt.alloc(), document.as_str())?.ok_or("no fault")?;
         assert_eq!(rt; told.what, what);
         assert_eq!(rt; told.at, at);
+        assert_eq!(rt; told.first.as_str(), first);
         assert_eq!(rt; told.second.as_str(), "");
     }
     Ok(())

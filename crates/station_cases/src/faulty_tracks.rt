@@ -121,7 +121,7 @@ pub static MISSING: [Case; 15] = [
 ];
 
 /// Ids that none may have, and ids that stand twice.
-pub static IDS: [Case; 11] = [
+pub static IDS: [Case; 12] = [
     Case {
         tracks: "<track id=''/>",
         what: TopologyWhat::Id,
@@ -197,6 +197,13 @@ pub static IDS: [Case; 11] = [
         what: TopologyWhat::RepeatedId,
         at: "<connection id='a'",
         first: "a",
+        second: "",
+    },
+    Case {
+        tracks: "<track id='a&#13;&#10;'/>",
+        what: TopologyWhat::Id,
+        at: "<track id='a&#13;&#10;'",
+        first: "",
         second: "",
     },
 ];
@@ -396,7 +403,7 @@ pub static PARTS: [Case; 13] = [
 ];
 
 /// Courses, orientations and places in a track.
-pub static COURSES: [Case; 11] = [
+pub static COURSES: [Case; 12] = [
     Case {
         tracks: "<track id='m'><trackTopology><trackBegin id='mb' pos='0' absPos='0'><openEnd/></trackBegin><trackEnd id='me' pos='9'><openEnd/></trackEnd><connections><switch id='s1' pos='3'><connection id='c1' ref='d1' course='up' orientation='outgoing'/></switch><switch id='s2' pos='6'><connection id='c2' ref='d2' course='right' orientation='incoming'/></switch></connections></trackTopology></track><track id='l'><trackTopology><trackBegin id='lb' pos='0' absPos='0'><connection id='d1' ref='c1'/></trackBegin><trackEnd id='le' pos='9'><connection id='d2' ref='c2'/></trackEnd></trackTopology></track>",
         what: TopologyWhat::Course,
@@ -474,6 +481,13 @@ pub static COURSES: [Case; 11] = [
         first: "k",
         second: "",
     },
+    Case {
+        tracks: "<track id='m'><trackTopology><trackBegin id='mb' pos='0' absPos='0'><openEnd/></trackBegin><trackEnd id='me' pos='9'><openEnd/></trackEnd><connections><switch id='s1' pos='3'><connection id='c1' ref='d1' course='straight' orientation='outgoing' trackContinueCourse='left'/></switch><switch id='s2' pos='6'><connection id='c2' ref='d2' course='right' orientation='incoming'/></switch></connections></trackTopology></track><track id='l'><trackTopology><trackBegin id='lb' pos='0' absPos='0'><connection id='d1' ref='c1'/></trackBegin><trackEnd id='le' pos='9'><connection id='d2' ref='c2'/></trackEnd></trackTopology></track>",
+        what: TopologyWhat::Course,
+        at: "<connection id='c1'",
+        first: "c1",
+        second: "",
+    },
 ];
 
 /// Two faults each, of which the lower one stands later.
@@ -544,7 +558,7 @@ pub static PAIRS: [Case; 9] = [
 ];
 
 /// Tracks without a fault.
-pub static SOUND: [&str; 12] = [
+pub static SOUND: [&str; 13] = [
     "<track id='a'><trackTopology><trackBegin id='ab' pos='0' absPos='0'><openEnd/></trackBegin><trackEnd id='ae' pos='9'><openEnd/></trackEnd></trackTopology></track>",
     "<track id='a'><trackTopology><trackBegin id='ab' pos='0' absPos='0'><openEnd/></trackBegin><trackEnd id='ae' pos='9'><connection id='c' ref='d'/></trackEnd></trackTopology></track><track id='b'><trackTopology><trackBegin id='bb' pos='0' absPos='0'><connection id='d' ref='c'/></trackBegin><trackEnd id='be' pos='9'><openEnd/></trackEnd></trackTopology></track>",
     "<track id='m'><trackTopology><trackBegin id='mb' pos='0' absPos='0'><openEnd/></trackBegin><trackEnd id='me' pos='9'><openEnd/></trackEnd><connections><switch id='s1' pos='3'><connection id='c1' ref='d1' course='left' orientation='outgoing'/></switch><switch id='s2' pos='6'><connection id='c2' ref='d2' course='right' orientation='incoming'/></switch></connections></trackTopology></track><track id='l'><trackTopology><trackBegin id='lb' pos='0' absPos='0'><connection id='d1' ref='c1'/></trackBegin><trackEnd id='le' pos='9'><connection id='d2' ref='c2'/></trackEnd></trackTopology></track>",
@@ -557,4 +571,5 @@ pub static SOUND: [&str; 12] = [
     "<track id='a'><trackTopology><trackBegin id='ab' pos='0' absPos='0'><openEnd id='a'/></trackBegin><trackEnd id='ae' pos='9'><bufferStop id='a' pos='x'/></trackEnd></trackTopology></track>",
     "<track id='a' pos='x'><trackTopology><trackBegin id='ab' pos='0' absPos='0'><openEnd/></trackBegin><trackEnd id='ae' pos='9'><openEnd/></trackEnd></trackTopology></track>",
     "<track id='m'><trackTopology><trackBegin id='mb' pos='0' absPos='0'><openEnd/></trackBegin><trackEnd id='me' pos='9'><openEnd/></trackEnd><connections><crossing id='k' pos='5'><connection id='k1' ref='x' course='nowhere' orientation='incoming'/><connection id='k2' ref='y' course='right' orientation='outgoing'/></crossing></connections></trackTopology></track><track id='p'><trackTopology><trackBegin id='pb' pos='0' absPos='0'><openEnd/></trackBegin><trackEnd id='pe' pos='9'><connection id='x' ref='k1'/></trackEnd></trackTopology></track><track id='q'><trackTopology><trackBegin id='qb' pos='0' absPos='0'><connection id='y' ref='k2'/></trackBegin><trackEnd id='qe' pos='9'><openEnd/></trackEnd></trackTopology></track>",
+    "<track id='a'><trackTopology><trackBegin id='ab' pos='&#13;&#10;0' absPos=' 0\r\n'><openEnd/></trackBegin><trackEnd id='ae' pos='&#9;9&#10;'><openEnd/></trackEnd></trackTopology></track>",
 ];

@@ -48,7 +48,7 @@ fn told(alloc: Global, text: &str, at: usize, first: bool) -> Result<String, Fai
 }
 
 /// A text, a place in it, whether the first item begins there, and what is told of it.
-static ROWS: [(&str, usize, bool, &str); 93] = [
+static ROWS: [(&str, usize, bool, &str); 98] = [
     // Tags of one track, and a tag that is cut short.
     (
         "<infrastructure id=\"i\"><tracks>",
@@ -71,6 +71,7 @@ static ROWS: [(&str, usize, bool, &str); 93] = [
         false,
         "start \u{a0}\u{feff} empty to 8",
     ),
+    ("<\u{85}/>", 0, false, "start \u{85} empty to 5"),
     ("<a:b-c.1_>", 0, false, "start a:b-c.1_ to 10"),
     ("<:/>", 0, false, "start : empty to 4"),
     ("<1a>", 0, false, "Markup"),
@@ -146,12 +147,16 @@ static ROWS: [(&str, usize, bool, &str); 93] = [
     ("&#x41;", 0, false, "reference to 6"),
     ("&#00000009;", 0, false, "reference to 11"),
     ("&#x10FFff;", 0, false, "reference to 10"),
+    ("&#x00000041;", 0, false, "reference to 12"),
+    ("&#xE000;", 0, false, "reference to 8"),
     ("&#X41;", 0, false, "Entity"),
     ("&#;", 0, false, "Entity"),
     ("&#x;", 0, false, "Entity"),
     ("&#000000065;", 0, false, "Entity"),
     ("&#0;", 0, false, "Entity"),
+    ("&#x000000041;", 0, false, "Entity"),
     ("&#xD800;", 0, false, "Entity"),
+    ("&#xDFFF;", 0, false, "Entity"),
     ("&#x110000;", 0, false, "Entity"),
     ("&#4A;", 0, false, "Entity"),
     ("&LT;", 0, false, "Entity"),

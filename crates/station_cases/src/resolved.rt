@@ -105,6 +105,30 @@ begin rb 130000000 j2 to 2 end
 end re 130000001
 ";
 
+/// A track listed against its mileage, and a switch without a mileage of its own: that grows along the
+/// track.
+static BACKWARDS: &str = "\
+<track id='m'><trackTopology>\
+<trackBegin id='mb' pos='0' absPos='600'><openEnd/></trackBegin>\
+<trackEnd id='me' pos='600' absPos='0'><openEnd/></trackEnd>\
+<connections>\
+<switch id='s' pos='100'><connection id='c' ref='d' course='left' orientation='outgoing'/></switch>\
+</connections></trackTopology></track>\
+<track id='l'><trackTopology>\
+<trackBegin id='lb' pos='0' absPos='700'><connection id='d' ref='c'/></trackBegin>\
+<trackEnd id='le' pos='9'><openEnd/></trackEnd>\
+</trackTopology></track>";
+
+static BACKWARDS_LINES: &str = "\
+track m
+begin mb 600000000
+switch s 700000000 outgoing left c to 1 begin
+end me 0
+track l
+begin lb 700000000 d to 0 branch 0
+end le 709000000
+";
+
 fn add_conn(lines: &mut String, conn: &Conn) -> Result<(), AllocError> {
     let id = conn.id.as_str();
     let track = conn.to.track;
@@ -187,6 +211,7 @@ fn tracks_resolve_to_their_topology(rt: HostRuntime) -> Result<(), Fail> {
         (LOOP, LOOP_LINES),
         (UNSORTED, UNSORTED_LINES),
         (CROSSING, CROSSING_LINES),
+        (BACKWARDS, BACKWARDS_LINES),
     ] {
         let document = document_of(rt.alloc(), tracks)?;
         let topology = topology_of(rt.alloc(), document.as_str())?;

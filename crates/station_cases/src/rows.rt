@@ -85,7 +85,7 @@ fn has_fault(rt: &(impl Abort + AllocGlobal), document: &[u8], what: TextWhat, a
 
 #[test]
 fn the_first_item_with_a_fault_is_told_with_its_place(rt: HostRuntime) {
-    let cases: [(&[u8], TextWhat, usize); 55] = [
+    let cases: [(&[u8], TextWhat, usize); 58] = [
         (b"<a>\xFF", TextWhat::NotUtf8, 3),
         (b"<infra\xFFstructure/>", TextWhat::NotUtf8, 6),
         (b"<infrastructure/>\xE2\x82", TextWhat::NotUtf8, 17),
@@ -157,6 +157,7 @@ fn the_first_item_with_a_fault_is_told_with_its_place(rt: HostRuntime) {
         (b"<?xml?>", TextWhat::Unfinished, 7),
         (b"<railml><infrastructure/>", TextWhat::Unfinished, 25),
         (b"<infrastructure/>\n x", TextWhat::AfterRoot, 17),
+        (b"<railml/>\n x", TextWhat::AfterRoot, 9),
         (b"<railml/> <infrastructure/>", TextWhat::AfterRoot, 10),
         (
             b"<infrastructure></infrastructure><![CDATA[]]>",
@@ -174,6 +175,16 @@ fn the_first_item_with_a_fault_is_told_with_its_place(rt: HostRuntime) {
             b"<railml>infrastructure</railml><?xml?>",
             TextWhat::NoInfrastructure,
             38,
+        ),
+        (
+            b"<railml/><?xml version='1.0' encoding='latin1'?>",
+            TextWhat::NoInfrastructure,
+            48,
+        ),
+        (
+            b"<!-- --><?xml encoding='latin1'?><railml/>",
+            TextWhat::NoInfrastructure,
+            42,
         ),
         (b"<infrastructure><a", TextWhat::Unfinished, 16),
         (b"<infrastructure/><!DOCTYPE", TextWhat::Doctype, 17),
