@@ -170,6 +170,7 @@ fn more_variables_than_there_may_be_are_refused(rt: HostRuntime) -> Result<(), F
     let mut solver = Solver::new(rt.alloc(), 4)?;
     let answer = solver.add_vars(VARS + 1);
     assert!(rt; matches!(answer, Err(AddFault::Room)));
+    assert!(rt; solver.failed());
     Ok(())
 }
 
