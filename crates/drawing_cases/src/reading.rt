@@ -11,7 +11,7 @@ use lawful_check::broken;
 use model_decode::encode_drawing;
 use plan_core::MAX_FILE_BYTES;
 use plan_geometry::Drawing;
-use plan_text::read_drawing;
+use plan_text::read_sheet;
 use port_graph::{PortGraph, build};
 use railml_read::read;
 use railml_topology::resolve;
@@ -44,8 +44,8 @@ pub fn drawing_of(alloc: Global, g: &PortGraph, picture: &str) -> Result<Drawing
     let sheet = format!(in alloc;
         "railplan 1\ngrid 64 12\norder height bends diagonal width\n{picture}end best\n"
     )?;
-    let (_, drawing) = read_drawing(alloc, g, sheet.as_bytes())?;
-    Ok(drawing)
+    let sheet = read_sheet(alloc, g, sheet.as_bytes())?;
+    Ok(sheet.found.ok_or("the sheet has a drawing")?)
 }
 
 /// A model of a drawing, which is lawful.

@@ -7,9 +7,14 @@ use plan_core::Grid;
 use std::alloc::Global;
 use std::test::Fail;
 
-/// Whether the formula of a file's station on a grid of 2 by 1 has this room.
-fn has_room(alloc: Global, file: &str, room: u32) -> Result<bool, Fail> {
-    let grid = Grid::new(2, 1).ok_or("a grid")?;
+/// Whether the formula of a file's station on a grid of this width and height has this room.
+fn has_room(
+    alloc: Global,
+    file: &str,
+    (width, height): (u16, u16),
+    room: u32,
+) -> Result<bool, Fail> {
+    let grid = Grid::new(width, height).ok_or("a grid")?;
     let (graph, order) = station_of(alloc, file)?;
     match encode(alloc, &graph, &order, &grid, room.min(ROOM)) {
         Ok(_) => Ok(true),
@@ -22,10 +27,10 @@ fn has_room(alloc: Global, file: &str, room: u32) -> Result<bool, Fail> {
 #[test]
 fn a_formula_has_room_for_its_words(rt: HostRuntime) -> Result<(), Fail> {
     let alloc = rt.alloc();
-    assert!(rt; !has_room(alloc, TWO, 1)?);
-    assert!(rt; has_room(alloc, TWO, ROOM)?);
-    assert!(rt; !has_room(alloc, ONE, 649)?);
-    assert!(rt; has_room(alloc, ONE, 650)?);
+    assert!(rt; !has_room(alloc, TWO, (40, 8), 1)?);
+    assert!(rt; has_room(alloc, TWO, (40, 8), ROOM)?);
+    assert!(rt; !has_room(alloc, ONE, (2, 1), 649)?);
+    assert!(rt; has_room(alloc, ONE, (2, 1), 650)?);
     Ok(())
 }
 
