@@ -1,4 +1,6 @@
 // Searches of small stations.
+ghost use Rattle.track_order.specs.Order.{IsOrderOf};
+
 use crate::checked::CheckedLog;
 use crate::stations::{LOOP, ONE, station_of};
 use cdcl_core::Solver;
@@ -9,7 +11,6 @@ use lex_minimise::{Limits, Outcome, minimise, minimise_with};
 use plan_core::{Criterion, Grid, Order, Values};
 use plan_geometry::values;
 use port_graph::PortGraph;
-use refute_log::NoLog;
 use std::alloc::Global;
 use std::test::Fail;
 
@@ -72,8 +73,33 @@ fn certified_values(
     }
 }
 
-/// The values of the best drawing of a file's station, or none where no drawing is lawful. The checker accepts each
-/// line, and then the log certifies as much; and all that the solver keeps was told once.
+/// Searches a station. The checker accepts each line, and all that the solver keeps was told once.
+fn searched(
+    alloc: Global,
+    g: &PortGraph,
+    t: &TrackOrder,
+    grid: &Grid,
+    order: &Order,
+    log: &mut CheckedLog,
+) -> Result<Outcome, Fail>
+    requires { IsOrderOf g.now t.now }
+{
+    let limits = Limits {
+        budget: 100_000,
+        room: ROOM,
+    };
+    let mut solver = Solver::new(alloc, ROOM)?;
+    let outcome = minimise_with(alloc, g, t, grid, order, &limits, &mut solver, log)?;
+    if log.refused {
+        return Err(Fail::new("the checker accepts each line"));
+    }
+    if u64::from(solver.learnt()) != log.learnt || solver.words() != log.words {
+        return Err(Fail::new("all that the solver keeps was told once"));
+    }
+    Ok(outcome)
+}
+
+/// The values of the best drawing of a file's station, or none where no drawing is lawful. The log certifies as much.
 fn best_values(
     alloc: Global,
     file: &str,
@@ -83,19 +109,8 @@ fn best_values(
     let (g, t) = station_of(alloc, file)?;
     let grid = Grid::new(width, height).ok_or("a grid")?;
     let order = Order::new(criteria).ok_or("an order")?;
-    let limits = Limits {
-        budget: 100_000,
-        room: ROOM,
-    };
-    let mut solver = Solver::new(alloc, ROOM)?;
     let mut log = CheckedLog::new(alloc, ROOM)?;
-    let outcome = minimise_with(alloc, &g, &t, &grid, &order, &limits, &mut solver, &mut log)?;
-    if log.refused {
-        return Err(Fail::new("the checker accepts each line"));
-    }
-    if u64::from(solver.learnt()) != log.learnt || solver.words() != log.words {
-        return Err(Fail::new("all that the solver keeps was told once"));
-    }
+    let outcome = searched(alloc, &g, &t, &grid, &order, &mut log)?;
     certified_values(alloc, &g, &grid, &order, &log, &outcome)
 }
 
@@ -143,6 +158,26 @@ fn least_values_are_found_and_certified(rt: HostRuntime) -> Result<(), Fail> {
     Ok(())
 }
 
+/// Searches a file's station in this order, on a grid of this width and height, for so many learnt clauses and within so much
+/// room.
+fn limited(
+    alloc: Global,
+    file: &str,
+    (width, height): (u16, u16),
+    criteria: &[Criterion],
+    (budget, room): (u32, u32),
+    log: &mut CheckedLog,
+) -> Result<Outcome, Fail> {
+    let (g, t) = station_of(alloc, file)?;
+    let grid = Grid::new(width, height).ok_or("a grid")?;
+    let order = Order::new(criteria).ok_or("an order")?;
+    let limits = Limits {
+        budget,
+        room: room.min(ROOM),
+    };
+    Ok(minimise(alloc, &g, &t, &grid, &order, &limits, log)?)
+}
+
 /// How many bounds of a criterion were told.
 fn count_of(bounds: &[ToldBound], c: Criterion) -> usize {
     bounds.iter().filter(|b| b.criterion == c).count()
@@ -167,16 +202,9 @@ static COUNTS: [Counts; 3] = [
 #[test]
 fn a_criterion_has_the_bounds_of_its_value(rt: HostRuntime) -> Result<(), Fail> {
     let alloc = rt.alloc();
-    let limits = Limits {
-        budget: 100_000,
-        room: ROOM,
-    };
-    for (file, (width, height), criteria, counts) in &COUNTS {
-        let (g, t) = station_of(alloc, file)?;
-        let grid = Grid::new(*width, *height).ok_or("a grid")?;
-        let order = Order::new(criteria).ok_or("an order")?;
+    for (file, grid, criteria, counts) in &COUNTS {
         let mut log = CheckedLog::new(alloc, ROOM)?;
-        minimise(alloc, &g, &t, &grid, &order, &limits, &mut log)?;
+        limited(alloc, file, *grid, criteria, (100_000, ROOM), &mut log)?;
         for (c, count) in criteria.iter().zip(counts.iter()) {
             assert_eq!(rt; count_of(&log.bounds, *c), *count, "{file} {c:?}");
         }
@@ -188,21 +216,21 @@ fn a_criterion_has_the_bounds_of_its_value(rt: HostRuntime) -> Result<(), Fail> 
 #[test]
 fn a_formula_without_room_is_told_to_no_log(rt: HostRuntime) -> Result<(), Fail> {
     let alloc = rt.alloc();
-    let (g, t) = station_of(alloc, ONE)?;
-    let grid = Grid::new(40, 8).ok_or("a grid")?;
-    let order = Order::new(&HEIGHT_FIRST).ok_or("an order")?;
-    let limits = Limits {
-        budget: 10,
-        room: 1,
-    };
     let mut log = CheckedLog::new(alloc, ROOM)?;
-    match minimise(alloc, &g, &t, &grid, &order, &limits, &mut log)? {
+    match limited(alloc, ONE, (40, 8), &HEIGHT_FIRST, (10, 1), &mut log)? {
         Outcome::Room { best, settled } => {
-            assert_eq!(rt; (best.is_none(), settled, log.lines), (true, 0, 0));
+            assert!(rt; best.is_none() && settled == 0 && log.lines == 0);
             Ok(())
         }
         _ => Err(Fail::new("there is no room")),
     }
+}
+
+/// The words of the formula of one track on a grid of one step.
+fn words_of_one(alloc: Global) -> Result<u32, Fail> {
+    let (g, t) = station_of(alloc, ONE)?;
+    let grid = Grid::new(1, 0).ok_or("a grid")?;
+    Ok(encode(alloc, &g, &t, &grid, ROOM)?.formula().words())
 }
 
 /// With room for the formula alone there is a drawing, and the bounds of the first criterion whose value can be
@@ -210,19 +238,12 @@ fn a_formula_without_room_is_told_to_no_log(rt: HostRuntime) -> Result<(), Fail>
 #[test]
 fn a_bound_without_room_ends_the_search(rt: HostRuntime) -> Result<(), Fail> {
     let alloc = rt.alloc();
-    let (g, t) = station_of(alloc, ONE)?;
-    let grid = Grid::new(1, 0).ok_or("a grid")?;
-    let order = Order::new(&HEIGHT_FIRST).ok_or("an order")?;
-    let words = encode(alloc, &g, &t, &grid, ROOM)?.formula().words();
-    let limits = Limits {
-        budget: 10,
-        room: words,
-    };
+    let words = words_of_one(alloc)?;
     let mut log = CheckedLog::new(alloc, ROOM)?;
-    match minimise(alloc, &g, &t, &grid, &order, &limits, &mut log)? {
+    match limited(alloc, ONE, (1, 0), &HEIGHT_FIRST, (10, words), &mut log)? {
         Outcome::Room { best, settled } => {
-            assert_eq!(rt; (best.is_some(), settled, log.words), (true, 3, words));
-            assert_eq!(rt; log.bounds.len(), 0);
+            assert!(rt; best.is_some() && settled == 3);
+            assert!(rt; log.words == words && log.bounds.len() == 0);
             Ok(())
         }
         _ => Err(Fail::new("there is no room")),
@@ -233,17 +254,10 @@ fn a_bound_without_room_ends_the_search(rt: HostRuntime) -> Result<(), Fail> {
 #[test]
 fn a_search_stops_at_its_budget(rt: HostRuntime) -> Result<(), Fail> {
     let alloc = rt.alloc();
-    let (g, t) = station_of(alloc, LOOP)?;
-    let grid = Grid::new(6, 1).ok_or("a grid")?;
-    let order = Order::new(&HEIGHT_FIRST).ok_or("an order")?;
-    let limits = Limits {
-        budget: 1,
-        room: ROOM,
-    };
-    let mut log = NoLog::new();
-    match minimise(alloc, &g, &t, &grid, &order, &limits, &mut log)? {
+    let mut log = CheckedLog::new(alloc, ROOM)?;
+    match limited(alloc, LOOP, (6, 1), &HEIGHT_FIRST, (1, ROOM), &mut log)? {
         Outcome::Spent { settled, .. } => {
-            assert!(rt; settled < 4);
+            assert!(rt; settled < 4 && log.learnt == 1 && !log.refused);
             Ok(())
         }
         _ => Err(Fail::new("the budget is spent")),
