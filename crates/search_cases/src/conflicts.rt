@@ -1,7 +1,7 @@
 // Made conflicts: the learnt clause, and a false literal traced back.
 ghost use Rattle.std.specs.Prelude.{◌≡◌, true};
 ghost use Rattle.cnf_core.specs.Clause.{IsThere};
-ghost use Rattle.watch_arena.specs.Arena.{AreReasoned, IsClashOf};
+ghost use Rattle.watch_arena.specs.Arena.{AreReasoned, AreWatched, IsClashOf};
 ghost use Rattle.cdcl_learn.specs.Sight.{sight};
 ghost use Rattle.cdcl_learn.specs.Cut.{IsConflict};
 
@@ -58,6 +58,27 @@ fn trace(rt: &impl Abort, analyser: &mut Analyser, arena: &Arena, trail: &Trail,
     }
 }
 
+/// Decides a literal, and learns from the clause that this falsifies.
+fn learn_from(
+    rt: &impl Abort,
+    analyser: &mut Analyser,
+    arena: &mut Arena,
+    trail: &mut Trail,
+    l: Lit,
+)
+    requires vars { analyser.old.vars ≡ trail.old.vars }
+    requires same { trail.old.vars ≡ arena.old.vars }
+    requires watched { AreWatched arena.old trail.old }
+    requires reasoned { AreReasoned arena.old trail.old }
+    requires there { IsThere trail.old.vars l }
+    ensures { analyser.new.vars ≡ analyser.old.vars }
+{
+    match decide(rt, arena, trail, l) {
+        Some(clash) => learn(rt, analyser, arena, trail, clash),
+        None => assert!(rt; false),
+    }
+}
+
 /// Whether the latest analysis met a variable.
 fn has_met(analyser: &Analyser, v: u32) -> bool {
     for i in 0..analyser.seen_len() {
@@ -66,6 +87,20 @@ fn has_met(analyser: &Analyser, v: u32) -> bool {
         }
     }
     false
+}
+
+/// Whether the latest analysis learnt these literals, in their order, leaves this level, and met so many variables.
+fn has_learnt(analyser: &Analyser, lits: &[Lit], back: u32, met: u32) -> bool {
+    let len = analyser.len();
+    if len as usize != lits.len() {
+        return false;
+    }
+    for i in 0..len {
+        if analyser.lit(i) != lits[i as usize] {
+            return false;
+        }
+    }
+    analyser.back() == back && analyser.seen_len() == met
 }
 
 /// Of (-1 -2 3), (-3 4), (-3 5) and (-1 -4 -5) with 1 and then 2 decided, (-1 -4 -5) is falsified; the
@@ -97,16 +132,8 @@ fn the_clause_of_the_first_unique_implication_point(rt: HostRuntime) {
     );
     let none = decide(&rt, &mut arena, &mut trail, one);
     assert!(rt; none.is_none());
-    match decide(&rt, &mut arena, &mut trail, two) {
-        Some(clash) => learn(&rt, &mut analyser, &arena, &trail, clash),
-        None => assert!(rt; false),
-    }
-    let len = analyser.len();
-    assert!(rt; len == 2);
-    assert!(rt; analyser.lit(0) == three.negated());
-    assert!(rt; analyser.lit(1) == one.negated());
-    assert!(rt; analyser.back() == 1);
-    assert!(rt; analyser.seen_len() == 4);
+    learn_from(&rt, &mut analyser, &mut arena, &mut trail, two);
+    assert!(rt; has_learnt(&analyser, &[three.negated(), one.negated()], 1, 4));
     assert!(rt; !has_met(&analyser, 2));
 }
 
@@ -137,16 +164,8 @@ fn a_literal_that_follows_from_the_others_is_left_out(rt: HostRuntime) {
     );
     let none = decide(&rt, &mut arena, &mut trail, one);
     assert!(rt; none.is_none());
-    match decide(&rt, &mut arena, &mut trail, three) {
-        Some(clash) => learn(&rt, &mut analyser, &arena, &trail, clash),
-        None => assert!(rt; false),
-    }
-    let len = analyser.len();
-    assert!(rt; len == 2);
-    assert!(rt; analyser.lit(0) == three.negated());
-    assert!(rt; analyser.lit(1) == one.negated());
-    assert!(rt; analyser.back() == 1);
-    assert!(rt; analyser.seen_len() == 4);
+    learn_from(&rt, &mut analyser, &mut arena, &mut trail, three);
+    assert!(rt; has_learnt(&analyser, &[three.negated(), one.negated()], 1, 4));
 }
 
 /// Of (1 2), (-2 3) and (-2 -3) with -1 decided, a clause is falsified; 2 is the implication point, 2 and 3
@@ -163,17 +182,15 @@ fn a_clause_of_one_literal(rt: HostRuntime) {
     join(&rt, &mut arena, &trail, &[one, two]);
     join(&rt, &mut arena, &trail, &[two.negated(), three]);
     join(&rt, &mut arena, &trail, &[two.negated(), three.negated()]);
-    match decide(&rt, &mut arena, &mut trail, one.negated()) {
-        Some(clash) => learn(&rt, &mut analyser, &arena, &trail, clash),
-        None => assert!(rt; false),
-    }
+    learn_from(&rt, &mut analyser, &mut arena, &mut trail, one.negated());
     analyser.add_vars(1).expect(&rt, "memory");
-    let len = analyser.len();
-    assert!(rt; len == 1);
-    assert!(rt; analyser.lit(0) == two.negated());
-    assert!(rt; analyser.back() == 0);
-    assert!(rt; analyser.seen_len() == 2);
-    assert!(rt; !has_met(&analyser, 1));
+    assert!(rt; has_learnt(&analyser, &[two.negated()], 0, 2) && !has_met(&analyser, 1));
+}
+
+/// Whether a false literal was traced back to these other ones, in one order or the other.
+fn has_traced(analyser: &Analyser, l: Lit, one: Lit, other: Lit) -> bool {
+    let met = analyser.seen_len();
+    has_learnt(analyser, &[l, one, other], 0, met) || has_learnt(analyser, &[l, other, one], 0, met)
 }
 
 /// With (-1 2) and (-2 -3 4) and 1 and then 3 decided, the false literal -4 follows from both, and -2 from 1 alone.
@@ -199,15 +216,7 @@ fn a_false_literal_is_traced_back_to_decisions(rt: HostRuntime) {
     let none = decide(&rt, &mut arena, &mut trail, three);
     assert!(rt; none.is_none());
     trace(&rt, &mut analyser, &arena, &trail, four.negated());
-    let len = analyser.len();
-    assert!(rt; len == 3);
-    assert!(rt; analyser.lit(0) == four);
-    assert!(rt; analyser.lit(1) == three.negated() || analyser.lit(1) == one.negated());
-    assert!(rt; analyser.lit(2) == three.negated() || analyser.lit(2) == one.negated());
-    assert!(rt; analyser.lit(1) != analyser.lit(2));
+    assert!(rt; has_traced(&analyser, four, three.negated(), one.negated()));
     trace(&rt, &mut analyser, &arena, &trail, two.negated());
-    let len = analyser.len();
-    assert!(rt; len == 2);
-    assert!(rt; analyser.lit(0) == two);
-    assert!(rt; analyser.lit(1) == one.negated());
+    assert!(rt; has_learnt(&analyser, &[two, one.negated()], 0, analyser.seen_len()));
 }

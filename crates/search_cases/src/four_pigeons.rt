@@ -1,11 +1,13 @@
 // Four pigeons in three holes: a formula of 22 clauses without models.
 ghost use Rattle.std.specs.Prelude.{◌≡◌, ◌≤◌, ◌+◌, ◌*◌, true, false, OnOk};
 ghost use Rattle.cnf_core.specs.Lit.{literal};
+ghost use Rattle.cnf_core.specs.declared.limits.TheConstants.{ROOM};
 
 use crate::failing_log::FailingLog;
 use cdcl_core::{AddFault, Answer, SolveFault, Solver};
 use cnf_core::{Lit, Var};
 use refute_log::{LineList, LogLine, LogSink};
+use std::alloc::Global;
 use std::test::Fail;
 
 /// The variable that says that a pigeon sits in a hole, both counted from 0.
@@ -91,36 +93,43 @@ fn ask_crowd<L: LogSink>(solver: &mut Solver, log: &mut L) -> Result<Answer, Sol
     }
 }
 
-#[test]
-fn one_clause_is_learnt_of_four_pigeons_in_three_holes(rt: HostRuntime) -> Result<(), Fail> {
-    let alloc = rt.alloc();
+/// The answer on four pigeons in three holes within this room and this budget, the solver and its log. The solver is
+/// handed on without what is known of it, so that what a test asks of it is soon proved.
+fn crowded(alloc: Global, room: u32, budget: u32) -> Result<(Answer, Solver, LineList), Fail>
+    requires { room ≤ ROOM }
+{
     let mut log = LineList::new(alloc);
-    let mut solver = Solver::new(alloc, 1000)?;
+    let mut solver = Solver::new(alloc, room)?;
     solver.add_vars(12)?;
     crowd(&mut solver, &mut log)?;
-    let answer = solver.solve(&[], 1, &mut log)?;
-    assert!(rt; answer == Answer::Spent);
-    assert!(rt; log.len() == 24);
-    let last = log.get(23);
-    assert!(rt; matches!(last, LogLine::Learnt(c) if c.len() >= 2));
-    assert!(rt; solver.learnt() == 1);
-    assert!(rt; solver.visits() > 0);
-    assert!(rt; !solver.failed());
+    let answer = solver.solve(&[], budget, &mut log)?;
+    Ok((answer, solver, log))
+}
+
+/// Whether the last line of a log is a Learnt line of two literals or more.
+fn learns_last(log: &LineList) -> bool {
+    let lines = log.len();
+    lines > 0 && matches!(log.get(lines - 1), LogLine::Learnt(c) if c.len() >= 2)
+}
+
+/// Whether the last line of a log says that there is no model.
+fn refutes_last(log: &LineList) -> bool {
+    let lines = log.len();
+    lines > 0 && matches!(log.get(lines - 1), LogLine::Refuted(c) if c.is_empty())
+}
+
+#[test]
+fn one_clause_is_learnt_of_four_pigeons_in_three_holes(rt: HostRuntime) -> Result<(), Fail> {
+    let (answer, solver, log) = crowded(rt.alloc(), 1000, 1)?;
+    assert!(rt; answer == Answer::Spent && log.len() == 24 && learns_last(&log));
+    assert!(rt; solver.learnt() == 1 && solver.visits() > 0 && !solver.failed());
     Ok(())
 }
 
 #[test]
 fn four_pigeons_dont_fit_three_holes(rt: HostRuntime) -> Result<(), Fail> {
-    let alloc = rt.alloc();
-    let mut log = LineList::new(alloc);
-    let mut solver = Solver::new(alloc, 1000)?;
-    solver.add_vars(12)?;
-    crowd(&mut solver, &mut log)?;
-    let answer = solver.solve(&[], 1000, &mut log)?;
-    assert!(rt; answer == Answer::Refuted);
-    assert!(rt; log.len() > 24);
-    let end = log.get(log.len() - 1);
-    assert!(rt; matches!(end, LogLine::Refuted(c) if c.is_empty()));
+    let (answer, solver, log) = crowded(rt.alloc(), 1000, 1000)?;
+    assert!(rt; answer == Answer::Refuted && log.len() > 24 && refutes_last(&log));
     assert!(rt; solver.model().is_none());
     Ok(())
 }
@@ -128,53 +137,37 @@ fn four_pigeons_dont_fit_three_holes(rt: HostRuntime) -> Result<(), Fail> {
 /// Where nothing may be learnt, the budget is spent at a conflict.
 #[test]
 fn a_budget_of_none_is_spent_at_a_conflict(rt: HostRuntime) -> Result<(), Fail> {
-    let alloc = rt.alloc();
-    let mut log = LineList::new(alloc);
-    let mut solver = Solver::new(alloc, 1000)?;
-    solver.add_vars(12)?;
-    crowd(&mut solver, &mut log)?;
-    let answer = solver.solve(&[], 0, &mut log)?;
-    assert!(rt; answer == Answer::Spent);
-    assert!(rt; log.len() == 23);
+    let (answer, _, log) = crowded(rt.alloc(), 1000, 0)?;
+    assert!(rt; answer == Answer::Spent && log.len() == 23);
     Ok(())
 }
 
 /// The 22 clauses of four pigeons in three holes have 114 words.
 #[test]
 fn a_full_room_is_answered(rt: HostRuntime) -> Result<(), Fail> {
-    let alloc = rt.alloc();
-    let mut log = LineList::new(alloc);
-    let mut solver = Solver::new(alloc, 114)?;
-    solver.add_vars(12)?;
-    crowd(&mut solver, &mut log)?;
-    assert!(rt; solver.words() == 114);
-    let answer = solver.solve(&[], 5, &mut log)?;
-    assert!(rt; answer == Answer::Room);
-    assert!(rt; log.len() == 23);
-    assert!(rt; solver.learnt() == 0);
-    assert!(rt; !solver.failed());
+    let (answer, solver, log) = crowded(rt.alloc(), 114, 5)?;
+    assert!(rt; answer == Answer::Room && log.len() == 23);
+    assert!(rt; solver.words() == 114 && solver.learnt() == 0 && !solver.failed());
     Ok(())
+}
+
+/// Whether the solver answers as it has to where its log refuses the line behind so many.
+fn fails_after(alloc: Global, left: u32) -> Result<bool, Fail> {
+    let mut log = FailingLog::after(left);
+    let mut solver = Solver::new(alloc, 1000)?;
+    solver.add_vars(12)?;
+    let answer = ask_crowd(&mut solver, &mut log);
+    Ok(if left < 24 {
+        matches!(answer, Err(SolveFault::Log)) && solver.failed() && log.faults == 1
+    } else {
+        matches!(answer, Ok(Answer::Spent)) && !solver.failed()
+    })
 }
 
 #[test]
 fn a_log_that_fails_at_any_line_ends_the_solver(rt: HostRuntime) -> Result<(), Fail> {
-    let alloc = rt.alloc();
     for left in 0..25 {
-        let mut log = FailingLog::after(left);
-        let mut solver = Solver::new(alloc, 1000)?;
-        solver.add_vars(12)?;
-        let answer = ask_crowd(&mut solver, &mut log);
-        if left < 24 {
-            assert!(rt;
-                matches!(answer, Err(SolveFault::Log)),
-                "after {left} lines"
-            );
-            assert!(rt; solver.failed());
-            assert!(rt; log.faults == 1);
-        } else {
-            assert!(rt; matches!(answer, Ok(Answer::Spent)));
-            assert!(rt; !solver.failed());
-        }
+        assert!(rt; fails_after(rt.alloc(), left)?, "after {left} lines");
     }
     Ok(())
 }

@@ -3,6 +3,31 @@ use crate::attaching::{decide, is_falsified, join, join_asserting, join_held, jo
 use cnf_core::{Lit, Var};
 use watch_arena::{Arena, ArenaFault, Trail};
 
+/// Whether these are the trail's literals, in their order.
+fn has_lits(trail: &Trail, lits: &[Lit]) -> bool {
+    let len = trail.len();
+    if len as usize != lits.len() {
+        return false;
+    }
+    for i in 0..len {
+        if trail.lit(i) != lits[i as usize] {
+            return false;
+        }
+    }
+    true
+}
+
+/// Whether so many of the trail's last literals have a clause as their reason, and those in front of them none.
+fn has_reasons(trail: &Trail, count: u32) -> bool {
+    let first = trail.len().saturating_sub(count);
+    for i in 0..trail.len() {
+        if trail.reason(trail.lit(i).var()).is_some() != (i >= first) {
+            return false;
+        }
+    }
+    true
+}
+
 #[test]
 fn what_follows_is_put_behind_the_trail(rt: HostRuntime) {
     let alloc = rt.alloc();
@@ -15,15 +40,8 @@ fn what_follows_is_put_behind_the_trail(rt: HostRuntime) {
     join(&rt, &mut arena, &trail, &[two.negated(), three]);
     trail.decide(one.negated());
     let clash = arena.propagate(&mut trail);
-    assert!(rt; clash.is_none());
-    let len = trail.len();
-    assert!(rt; len == 3);
-    assert!(rt; trail.lit(0) == one.negated());
-    assert!(rt; trail.lit(1) == two);
-    assert!(rt; trail.lit(2) == three);
-    assert!(rt; trail.reason(Var(1)).is_none());
-    assert!(rt; trail.reason(Var(3)).is_some());
-    assert!(rt; trail.level_of(Var(3)) == 1);
+    assert!(rt; clash.is_none() && has_lits(&trail, &[one.negated(), two, three]));
+    assert!(rt; has_reasons(&trail, 2) && trail.level_of(Var(3)) == 1);
 }
 
 #[test]
@@ -61,12 +79,9 @@ fn a_clash_is_undone(rt: HostRuntime) {
     let clash = arena.propagate(&mut trail);
     assert!(rt; clash.is_some());
     trail.undo_to(0);
-    assert!(rt; trail.len() == 0);
-    assert!(rt; trail.propagated() == 0);
-    assert!(rt; trail.value(one).is_none());
+    assert!(rt; trail.len() == 0 && trail.propagated() == 0 && trail.value(one).is_none());
     let clash = decide(&rt, &mut arena, &mut trail, one);
-    assert!(rt; clash.is_none());
-    assert!(rt; trail.len() == 1);
+    assert!(rt; clash.is_none() && trail.len() == 1);
     let clash = decide(&rt, &mut arena, &mut trail, two);
     assert!(rt; clash.is_some());
 }
@@ -86,9 +101,7 @@ fn a_clause_is_attached_where_one_literal_is_true(rt: HostRuntime) {
     join_held(&rt, &mut arena, &trail, one, two);
     trail.undo_to(0);
     let clash = decide(&rt, &mut arena, &mut trail, one.negated());
-    assert!(rt; clash.is_none());
-    assert!(rt; trail.len() == 2);
-    assert!(rt; trail.lit(1) == two);
+    assert!(rt; clash.is_none() && has_lits(&trail, &[one.negated(), two]));
 }
 
 /// With -1 decided, the clause (2 1) is attached and 2 set by it; once both are undone, it gives 1 from
@@ -104,14 +117,11 @@ fn a_clause_is_attached_whose_first_literal_it_sets(rt: HostRuntime) {
     assert!(rt; none.is_none());
     join_asserting(&rt, &mut arena, &mut trail, two, one);
     let none = arena.propagate(&mut trail);
-    assert!(rt; none.is_none());
-    assert!(rt; trail.len() == 2);
-    assert!(rt; trail.reason(Var(2)).is_some());
+    assert!(rt; none.is_none() && has_lits(&trail, &[one.negated(), two]));
+    assert!(rt; has_reasons(&trail, 1));
     trail.undo_to(0);
     let clash = decide(&rt, &mut arena, &mut trail, two.negated());
-    assert!(rt; clash.is_none());
-    assert!(rt; trail.len() == 2);
-    assert!(rt; trail.lit(1) == one);
+    assert!(rt; clash.is_none() && has_lits(&trail, &[two.negated(), one]));
 }
 
 /// A clause of two literals takes five words.
@@ -140,9 +150,7 @@ fn clauses_without_a_false_watch_are_not_looked_at(rt: HostRuntime) {
     join_pairs(&rt, &mut arena, &trail, 4, 1000);
     trail.decide(one);
     let clash = arena.propagate(&mut trail);
-    assert!(rt; clash.is_none());
-    assert!(rt; trail.len() == 3);
-    assert!(rt; arena.visits() == 2);
+    assert!(rt; clash.is_none() && trail.len() == 3 && arena.visits() == 2);
 }
 
 #[test]
@@ -153,9 +161,7 @@ fn one_clause_of_a_thousand_is_looked_at(rt: HostRuntime) {
     join_pairs(&rt, &mut arena, &trail, 1, 1000);
     trail.decide(Lit::new(Var(1), false));
     let clash = arena.propagate(&mut trail);
-    assert!(rt; clash.is_none());
-    assert!(rt; trail.len() == 2);
-    assert!(rt; arena.visits() == 1);
+    assert!(rt; clash.is_none() && trail.len() == 2 && arena.visits() == 1);
 }
 
 /// (1 2 3) is looked at and watched elsewhere, and then sets 3; (4 5) is looked at where 5 is true.
@@ -171,20 +177,13 @@ fn each_clause_that_is_looked_at_is_counted(rt: HostRuntime) {
     join(&rt, &mut arena, &trail, &[one, two, Lit::new(Var(3), true)]);
     join(&rt, &mut arena, &trail, &[four, five]);
     let none = decide(&rt, &mut arena, &mut trail, one.negated());
-    assert!(rt; none.is_none());
-    assert!(rt; arena.visits() == 1);
-    assert!(rt; trail.len() == 1);
+    assert!(rt; none.is_none() && arena.visits() == 1 && trail.len() == 1);
     let none = decide(&rt, &mut arena, &mut trail, two.negated());
-    assert!(rt; none.is_none());
-    assert!(rt; arena.visits() == 2);
-    assert!(rt; trail.len() == 3);
+    assert!(rt; none.is_none() && arena.visits() == 2 && trail.len() == 3);
     let none = decide(&rt, &mut arena, &mut trail, five);
-    assert!(rt; none.is_none());
-    assert!(rt; arena.visits() == 2);
+    assert!(rt; none.is_none() && arena.visits() == 2);
     let none = decide(&rt, &mut arena, &mut trail, four.negated());
-    assert!(rt; none.is_none());
-    assert!(rt; arena.visits() == 3);
-    assert!(rt; trail.len() == 5);
+    assert!(rt; none.is_none() && arena.visits() == 3 && trail.len() == 5);
 }
 
 #[test]

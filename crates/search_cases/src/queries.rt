@@ -6,6 +6,7 @@ use crate::failing_log::FailingLog;
 use cdcl_core::{AddFault, Answer, SolveFault, Solver};
 use cnf_core::{Lit, Truths, VARS, Var};
 use refute_log::{LineList, LogLine, LogSink};
+use std::alloc::Global;
 use std::test::Fail;
 
 /// Adds a clause of two literals.
@@ -78,75 +79,72 @@ fn ask_whether_one_is_false(solver: &mut Solver, log: &mut LineList) -> Result<A
     solver.solve(&[one.negated()], 5, log)
 }
 
-#[test]
-fn a_refutation_speaks_of_assumptions_alone(rt: HostRuntime) -> Result<(), Fail> {
-    let alloc = rt.alloc();
+/// The answer on the clauses (1 2) and (1 -2) where this literal is assumed, the solver and its log. The solver is handed
+/// on without what is known of it, so that what a test asks of it is soon proved.
+fn asked(alloc: Global, assume: Lit) -> Result<(Answer, Solver, LineList), Fail>
+    requires { (assume.var ≡ 1) ⊎ (assume.var ≡ 2) }
+{
     let mut log = LineList::new(alloc);
     let mut solver = Solver::new(alloc, 1000)?;
     solver.add_vars(2)?;
+    let answer = ask(&mut solver, &mut log, assume)?;
+    Ok((answer, solver, log))
+}
+
+/// Whether the last line of a log speaks of this literal alone.
+fn refutes_last(log: &LineList, l: Lit) -> bool {
+    let lines = log.len();
+    lines > 0 && matches!(log.get(lines - 1), LogLine::Refuted(c) if c.len() == 1 && c.get(0) == l)
+}
+
+/// Whether the solver has a model of two variables, of which these literals are true.
+fn has_model(solver: &Solver, one: bool, two: bool) -> bool {
+    match solver.model() {
+        Some(model) => {
+            model.vars() == 2
+                && model.holds(Lit::new(Var(1), one))
+                && model.holds(Lit::new(Var(2), two))
+        }
+        None => false,
+    }
+}
+
+#[test]
+fn a_refutation_speaks_of_assumptions_alone(rt: HostRuntime) -> Result<(), Fail> {
     let one = Lit::new(Var(1), true);
-    let answer = ask(&mut solver, &mut log, one.negated())?;
-    assert!(rt; answer == Answer::Refuted);
+    let (answer, solver, log) = asked(rt.alloc(), one.negated())?;
+    assert!(rt; answer == Answer::Refuted && log.len() == 4 && refutes_last(&log, one));
     assert!(rt; solver.model().is_none());
-    assert!(rt; log.len() == 4);
-    let end = log.get(3);
-    assert!(rt; matches!(end, LogLine::Refuted(c) if c.len() == 1 && c.get(0) == one));
     Ok(())
 }
 
 #[test]
 fn a_model_makes_assumptions_true(rt: HostRuntime) -> Result<(), Fail> {
-    let alloc = rt.alloc();
-    let mut log = LineList::new(alloc);
+    let (answer, solver, log) = asked(rt.alloc(), Lit::new(Var(2), true))?;
+    assert!(rt; answer == Answer::Model && log.len() == 4);
+    assert!(rt; matches!(log.get(3), LogLine::Model));
+    assert!(rt; has_model(&solver, true, true));
+    Ok(())
+}
+
+/// Whether the solver answers as it has to where its log refuses the line behind so many.
+fn fails_after(alloc: Global, left: u32) -> Result<bool, Fail> {
+    let mut log = FailingLog::after(left);
     let mut solver = Solver::new(alloc, 1000)?;
     solver.add_vars(2)?;
-    let two = Lit::new(Var(2), true);
-    let answer = ask(&mut solver, &mut log, two)?;
-    assert!(rt; answer == Answer::Model);
-    assert!(rt; log.len() == 4);
-    let end = log.get(3);
-    assert!(rt; matches!(end, LogLine::Model));
-    let model = solver.model().expect(&rt, "a model");
-    assert!(rt; model.vars() == 2);
-    assert!(rt; model.holds(Lit::new(Var(1), true)));
-    assert!(rt; model.holds(two));
-    Ok(())
+    let answer = ask(&mut solver, &mut log, Lit::new(Var(1), false));
+    Ok(if left < 4 {
+        matches!(answer, Err(SolveFault::Log)) && solver.failed() && log.faults == 1
+    } else {
+        matches!(answer, Ok(Answer::Refuted)) && !solver.failed()
+    })
 }
 
 #[test]
 fn a_log_that_fails_ends_the_solver(rt: HostRuntime) -> Result<(), Fail> {
-    let alloc = rt.alloc();
     for left in 0..5 {
-        let mut log = FailingLog::after(left);
-        let mut solver = Solver::new(alloc, 1000)?;
-        solver.add_vars(2)?;
-        let answer = ask(&mut solver, &mut log, Lit::new(Var(1), false));
-        if left < 4 {
-            assert!(rt;
-                matches!(answer, Err(SolveFault::Log)),
-                "after {left} lines"
-            );
-            assert!(rt; solver.failed());
-            assert!(rt; log.faults == 1);
-        } else {
-            assert!(rt; matches!(answer, Ok(Answer::Refuted)));
-            assert!(rt; !solver.failed());
-        }
+        assert!(rt; fails_after(rt.alloc(), left)?, "after {left} lines");
     }
-    Ok(())
-}
-
-/// Where nothing may be learnt, a model is still found.
-#[test]
-fn a_budget_of_none_is_not_spent_without_a_conflict(rt: HostRuntime) -> Result<(), Fail> {
-    let alloc = rt.alloc();
-    let mut log = LineList::new(alloc);
-    let mut solver = Solver::new(alloc, 1000)?;
-    solver.add_vars(2)?;
-    let one = Lit::new(Var(1), true);
-    add_pair(&mut solver, &mut log, one, Lit::new(Var(2), true))?;
-    let answer = solver.solve(&[], 0, &mut log)?;
-    assert!(rt; answer == Answer::Model);
     Ok(())
 }
 
@@ -159,9 +157,7 @@ fn a_clause_past_the_room_is_refused(rt: HostRuntime) -> Result<(), Fail> {
     solver.add_vars(2)?;
     let two = Lit::new(Var(2), true);
     let answer = solver.add_clause(&[Lit::new(Var(1), true), two], &mut log);
-    assert!(rt; matches!(answer, Err(AddFault::Room)));
-    assert!(rt; log.len() == 0);
-    assert!(rt; solver.failed());
+    assert!(rt; matches!(answer, Err(AddFault::Room)) && log.len() == 0 && solver.failed());
     Ok(())
 }
 
@@ -169,31 +165,31 @@ fn a_clause_past_the_room_is_refused(rt: HostRuntime) -> Result<(), Fail> {
 fn more_variables_than_there_may_be_are_refused(rt: HostRuntime) -> Result<(), Fail> {
     let mut solver = Solver::new(rt.alloc(), 4)?;
     let answer = solver.add_vars(VARS + 1);
-    assert!(rt; matches!(answer, Err(AddFault::Room)));
-    assert!(rt; solver.failed());
+    assert!(rt; matches!(answer, Err(AddFault::Room)) && solver.failed());
     Ok(())
 }
 
-/// What is decided first is false, or as it was suggested.
+/// The answer on the clause (1 2), for which nothing may be learnt, and the solver. Where it is asked for, the model
+/// in which 1 is true and 2 is false is suggested.
+fn suggested(alloc: Global, is_suggested: bool) -> Result<(Answer, Solver), Fail> {
+    let mut log = LineList::new(alloc);
+    let mut solver = Solver::new(alloc, 1000)?;
+    solver.add_vars(2)?;
+    let one = Lit::new(Var(1), true);
+    add_pair(&mut solver, &mut log, one, Lit::new(Var(2), true))?;
+    if is_suggested {
+        solver.suggest(&Truths::from_bools(alloc, &[true, false])?);
+    }
+    let answer = solver.solve(&[], 0, &mut log)?;
+    Ok((answer, solver))
+}
+
+/// What is decided first is false, or as it was suggested. Where nothing may be learnt, a model is still found.
 #[test]
 fn a_suggested_model_is_tried_first(rt: HostRuntime) -> Result<(), Fail> {
-    let alloc = rt.alloc();
-    let one = Lit::new(Var(1), true);
-    let two = Lit::new(Var(2), true);
-    for suggested in [false, true] {
-        let mut log = LineList::new(alloc);
-        let mut solver = Solver::new(alloc, 1000)?;
-        solver.add_vars(2)?;
-        add_pair(&mut solver, &mut log, one, two)?;
-        if suggested {
-            solver.suggest(&Truths::from_bools(alloc, &[true, false])?);
-        }
-        let answer = solver.solve(&[], 5, &mut log)?;
-        assert!(rt; answer == Answer::Model);
-        let model = solver.model().expect(&rt, "a model");
-        assert!(rt; model.vars() == 2);
-        assert!(rt; model.holds(one) == suggested);
-        assert!(rt; model.holds(two) != suggested);
+    for is_suggested in [false, true] {
+        let (answer, solver) = suggested(rt.alloc(), is_suggested)?;
+        assert!(rt; answer == Answer::Model && has_model(&solver, is_suggested, !is_suggested));
     }
     Ok(())
 }
@@ -208,11 +204,16 @@ fn an_assumption_that_is_false_from_the_start_is_refuted(rt: HostRuntime) -> Res
     let one = Lit::new(Var(1), true);
     add_unit(&mut solver, &mut log, one)?;
     let answer = solver.solve(&[one.negated()], 5, &mut log)?;
-    assert!(rt; answer == Answer::Refuted);
-    assert!(rt; log.len() == 3);
-    let end = log.get(2);
-    assert!(rt; matches!(end, LogLine::Refuted(c) if c.len() == 1 && c.get(0) == one));
+    assert!(rt; answer == Answer::Refuted && log.len() == 3 && refutes_last(&log, one));
     Ok(())
+}
+
+/// Whether a log has the empty clause, a query without assumptions and its refutation, and no more.
+fn is_refuted_at_once(log: &LineList) -> bool {
+    log.len() == 3
+        && matches!(log.get(0), LogLine::Formula(c) if c.is_empty())
+        && matches!(log.get(1), LogLine::Query(c) if c.is_empty())
+        && matches!(log.get(2), LogLine::Refuted(c) if c.is_empty())
 }
 
 #[test]
@@ -222,38 +223,37 @@ fn the_empty_clause_is_refuted_at_once(rt: HostRuntime) -> Result<(), Fail> {
     let mut solver = Solver::new(alloc, 1000)?;
     solver.add_clause(&[], &mut log)?;
     let answer = solver.solve(&[], 5, &mut log)?;
-    assert!(rt; answer == Answer::Refuted);
-    assert!(rt; log.len() == 3);
-    assert!(rt; matches!(log.get(0), LogLine::Formula(c) if c.is_empty()));
-    assert!(rt; matches!(log.get(1), LogLine::Query(c) if c.is_empty()));
-    assert!(rt; matches!(log.get(2), LogLine::Refuted(c) if c.is_empty()));
+    assert!(rt; answer == Answer::Refuted && is_refuted_at_once(&log));
     Ok(())
 }
 
-/// (1 2) has models, with (1 -2) all of them make 1 true: a clause or a query leaves no model.
-#[test]
-fn a_model_stands_until_the_next_call(rt: HostRuntime) -> Result<(), Fail> {
-    let alloc = rt.alloc();
+/// Whether (1 2) has a model, that stands, and none where a clause comes; whether with (1 -2) another is found, and none
+/// stands where -1 is refuted.
+fn stands_until_the_next_call(alloc: Global) -> Result<bool, Fail> {
     let mut log = LineList::new(alloc);
     let mut solver = Solver::new(alloc, 1000)?;
     solver.add_vars(2)?;
     let one = Lit::new(Var(1), true);
     let two = Lit::new(Var(2), true);
     add_pair(&mut solver, &mut log, one, two)?;
-    let answer = ask_freely(&mut solver, &mut log)?;
-    assert!(rt; answer == Answer::Model);
-    assert!(rt; solver.model().is_some());
+    let first = ask_freely(&mut solver, &mut log)?;
+    let stood = solver.model().is_some();
     add_pair(&mut solver, &mut log, one, two.negated())?;
-    assert!(rt; solver.model().is_none());
-    let answer = ask_freely(&mut solver, &mut log)?;
-    assert!(rt; answer == Answer::Model);
-    assert!(rt; solver.model().is_some());
-    let answer = ask_whether_one_is_false(&mut solver, &mut log)?;
-    assert!(rt; answer == Answer::Refuted);
-    assert!(rt; solver.model().is_none());
+    let fell = solver.model().is_none();
+    let second = ask_freely(&mut solver, &mut log)?;
+    let stands = solver.model().is_some();
+    let third = ask_whether_one_is_false(&mut solver, &mut log)?;
+    let found = first == Answer::Model && second == Answer::Model && third == Answer::Refuted;
+    Ok(found && stood && fell && stands && solver.model().is_none())
+}
+
+#[test]
+fn a_model_stands_until_the_next_call(rt: HostRuntime) -> Result<(), Fail> {
+    assert!(rt; stands_until_the_next_call(rt.alloc())?);
     Ok(())
 }
 
+/// A call that adds no variable leaves no model either.
 #[test]
 fn a_model_is_gone_where_no_variable_is_added(rt: HostRuntime) -> Result<(), Fail> {
     let alloc = rt.alloc();
@@ -263,9 +263,8 @@ fn a_model_is_gone_where_no_variable_is_added(rt: HostRuntime) -> Result<(), Fai
     let one = Lit::new(Var(1), true);
     add_pair(&mut solver, &mut log, one, Lit::new(Var(2), true))?;
     let answer = ask_freely(&mut solver, &mut log)?;
-    assert!(rt; answer == Answer::Model);
-    assert!(rt; solver.model().is_some());
+    let stood = solver.model().is_some();
     solver.add_vars(0)?;
-    assert!(rt; solver.model().is_none());
+    assert!(rt; answer == Answer::Model && stood && solver.model().is_none());
     Ok(())
 }
