@@ -1,14 +1,13 @@
 // What `check` answers: to what `draw` wrote, to logs that were changed, and to sheets and logs that don't belong together.
-use crate::answers::ONE_SHEET;
-use crate::cases::{run_untraced, sheet_of, words_from};
-use crate::drawn::{LOOP_SHEET, is_best, logged};
-use crate::pictures::LOOP_PICTURE;
-use crate::stations::{LOOP, ONE, SCISSORS, STATION};
-use outside_io::{MemoryFiles, SureFiles, SureSink};
+use crate::drawn::logged;
 use std::alloc::{AllocError, Global};
 use std::test::Fail;
+use worked_files::{
+    Answer, EXAMPLE, LOOP, LOOP_PICTURE, LOOP_SHEET, ONE, ONE_SHEET, STATION, answer_to, sheet_of,
+};
 
-pub const ORDER: &str = "height,bends,diagonal,width";
+/// The words of a run of `draw` with a log, in the usual order.
+pub const LOGGING: [&str; 4] = ["draw", "one.xml", "--log", "l"];
 
 /// The first line of every log.
 pub const TITLE: &str = "railplan-log 1\n";
@@ -87,32 +86,16 @@ end best
 ";
 
 /// What `check` answers to a file, a sheet and a log.
-pub fn checked(alloc: Global, file: &str, sheet: &str, log: &str) -> Result<(u8, Vec<u8>), Fail> {
-    let words = words_from(alloc, &["check", "station.xml", "sheet", "log"])?;
-    let mut files = SureFiles::new(alloc);
-    files.add("station.xml", file.as_bytes())?;
-    files.add("sheet", sheet.as_bytes())?;
-    files.add("log", log.as_bytes())?;
-    let mut out = SureSink::new(alloc);
-    let status = run_untraced(alloc, &words, &mut files, &mut out);
-    Ok((status, Vec::from_slice(alloc, out.bytes())?))
-}
-
-/// Notes what a log shows, and what answers it, where that isn't this line with this status.
-fn note_wrong(
-    alloc: Global,
-    wrong: &mut String,
-    shows: &str,
-    answer: &(u8, Vec<u8>),
-    status: u8,
-    line: &str,
-) -> Result<(), Fail> {
-    let text = std::str::from_utf8(&answer.1)?;
-    if answer.0 != status || text.strip_suffix('\n') != Some(line) {
-        let note = format!(in alloc; "{shows}: {} {text}", answer.0)?;
-        wrong.push_str(note.as_str())?;
-    }
-    Ok(())
+pub fn checked(alloc: Global, file: &str, sheet: &str, log: &str) -> Result<Answer, Fail> {
+    answer_to(
+        alloc,
+        &["check", "one.xml", "sheet", "log"],
+        &[
+            ("one.xml", file.as_bytes()),
+            ("sheet", sheet.as_bytes()),
+            ("log", log.as_bytes()),
+        ],
+    )
 }
 
 /// What stands behind the first line.
@@ -239,7 +222,7 @@ fn changed(alloc: Global, log: &str, change: &Change) -> Result<String, AllocErr
     }
 }
 
-/// The line that answers a change of a log of so many lines.
+/// The line that answers a change of a log of so many lines, with its line feed.
 fn numbered(
     alloc: Global,
     line: &str,
@@ -247,255 +230,176 @@ fn numbered(
     lines: usize,
 ) -> Result<String, AllocError> {
     match counted {
-        Some(behind) => format!(in alloc; "{line}{}", lines.saturating_add(behind)),
-        None => String::from_str(alloc, line),
+        Some(behind) => format!(in alloc; "{line}{}\n", lines.saturating_add(behind)),
+        None => format!(in alloc; "{line}\n"),
     }
+}
+
+/// Fails where a change of the loop's log isn't answered so. The number is that of its row, from 0 on.
+fn is_answered(
+    alloc: Global,
+    sheet: &str,
+    log: &str,
+    number: usize,
+    case: &Tampered,
+) -> Result<(), Fail> {
+    let (change, status, line, counted) = case;
+    let text = changed(alloc, log, change)?;
+    let line = numbered(alloc, line, *counted, log.lines().count())?;
+    let shows = format!(in alloc; "change {number}")?;
+    checked(alloc, LOOP, sheet, &text)?.is(&shows, *status, &line)
 }
 
 #[test]
 fn answers_changed_logs(rt: HostRuntime) -> Result<(), Fail> {
-    let alloc = rt.alloc();
-    let (log, sheet) = logged(alloc, ORDER, LOOP)?;
-    let lines = log.lines().count();
-    let mut wrong = String::new(alloc);
-    for (change, status, line, counted) in &TAMPERED {
-        let text = changed(alloc, &log, change)?;
-        let answer = checked(alloc, LOOP, &sheet, &text)?;
-        let line = numbered(alloc, line, *counted, lines)?;
-        note_wrong(alloc, &mut wrong, &line, &answer, *status, &line)?;
+    let drawn = logged(rt.alloc(), &LOGGING, LOOP, 0)?;
+    for (number, case) in TAMPERED.iter().enumerate() {
+        is_answered(rt.alloc(), &drawn.sheet, &drawn.log, number, case)?;
     }
-    assert_eq!(rt; wrong.as_str(), "");
     Ok(())
 }
 
-/// What `draw` wrote is lawful and certified.
+/// The words of a run of `draw` that names the log `l`, its file, how it ends, the end of its sheet, and the line that
+/// says what its log certifies.
+type Certified = (
+    &'static [&'static str],
+    &'static str,
+    u8,
+    &'static str,
+    &'static str,
+);
+
+static CERTIFIED: [Certified; 6] = [
+    (
+        &["draw", "one.xml", "--log", "l"],
+        ONE,
+        0,
+        "\nvalues 0 0 0 1\nend best\n",
+        "certified 4\n",
+    ),
+    (
+        &["draw", "one.xml", "--order", "width", "--log", "l"],
+        ONE,
+        0,
+        "\nvalues 0 0 0 1\nend best\n",
+        "certified 1\n",
+    ),
+    (
+        &["draw", "one.xml", "--order", "width,height", "--log", "l"],
+        LOOP,
+        0,
+        "\nvalues 1 2 2 5\nend best\n",
+        "certified 2\n",
+    ),
+    (
+        &["draw", "one.xml", "--log", "l"],
+        STATION,
+        0,
+        "\nvalues 2 2 3 7\nend best\n",
+        "certified 4\n",
+    ),
+    (
+        &["draw", "one.xml", "--log", "l"],
+        EXAMPLE,
+        0,
+        "\nvalues 2 2 3 7\nend best\n",
+        "certified 4\n",
+    ),
+    (
+        &["draw", "one.xml", "--width", "4", "--log", "l"],
+        LOOP,
+        3,
+        "\norder height bends diagonal width\nend none\n",
+        "certified 0\n",
+    ),
+];
+
+/// Fails where a run ends otherwise, or its log certifies another thing.
+fn is_certified(alloc: Global, case: &Certified) -> Result<(), Fail> {
+    let (words, file, status, ending, line) = case;
+    let drawn = logged(alloc, words, file, *status)?;
+    let answer = checked(alloc, file, &drawn.sheet, &drawn.log)?;
+    if drawn.sheet.ends_with(*ending) {
+        answer.is(ending, 0, line)
+    } else {
+        Err(answer.wrong(&drawn.sheet))
+    }
+}
+
+/// What `draw` wrote is lawful and certified, and that there is no drawing too.
 #[test]
 fn certifies_what_draw_wrote(rt: HostRuntime) -> Result<(), Fail> {
-    let alloc = rt.alloc();
-    let mut wrong = String::new(alloc);
-    for (file, order, measures, line) in [
-        (ONE, ORDER, "0 0 0 1", "certified 4"),
-        (ONE, "width", "0 0 0 1", "certified 1"),
-        (LOOP, "width,height", "1 2 2 5", "certified 2"),
-        (STATION, ORDER, "2 2 3 7", "certified 4"),
-    ] {
-        let (log, sheet) = logged(alloc, order, file)?;
-        assert!(rt;
-            is_best(alloc, file, sheet.as_bytes(), measures)?,
-            "{measures}"
-        );
-        let answer = checked(alloc, file, &sheet, &log)?;
-        note_wrong(alloc, &mut wrong, measures, &answer, 0, line)?;
-    }
-    assert_eq!(rt; wrong.as_str(), "");
-    Ok(())
-}
-
-/// What `draw` wrote where it ended with this status, and what `check` answers to it: the sheet, the log and the line.
-fn certified_of(
-    alloc: Global,
-    file: &str,
-    options: &[&'static str],
-    ended: u8,
-) -> Result<(String, String, Vec<u8>), Fail> {
-    let mut words = words_from(alloc, &["draw", "station.xml", "--log", "l"])?;
-    for option in options {
-        words.push(String::from_str(alloc, option)?)?;
-    }
-    let mut files = SureFiles::new(alloc);
-    files.add("station.xml", file.as_bytes())?;
-    let mut out = SureSink::new(alloc);
-    if run_untraced(alloc, &words, &mut files, &mut out) != ended {
-        return Err("the run ends with another status".into());
-    }
-    let sheet = String::from_str(alloc, std::str::from_utf8(out.bytes())?)?;
-    let bytes = files.get("l").ok_or("the log stands in the file")?;
-    let log = String::from_str(alloc, std::str::from_utf8(bytes)?)?;
-    let (status, line) = checked(alloc, file, &sheet, &log)?;
-    if status != 0 {
-        return Err("the log certifies the sheet".into());
-    }
-    Ok((sheet, log, line))
-}
-
-#[test]
-fn certifies_that_no_drawing_is_lawful(rt: HostRuntime) -> Result<(), Fail> {
-    let (_, _, line) = certified_of(rt.alloc(), LOOP, &["--width", "4"], 3)?;
-    assert_eq!(rt; line.as_slice(), b"certified 0\n".as_slice());
-    Ok(())
-}
-
-/// As many clauses were learnt as the budget allows, and as much is certified as the sheet says.
-#[test]
-fn certifies_what_an_unfinished_search_settled(rt: HostRuntime) -> Result<(), Fail> {
-    let alloc = rt.alloc();
-    for (budget, learnt) in [("1", 1), ("5", 5), ("50", 50)] {
-        let (sheet, log, line) = certified_of(alloc, SCISSORS, &["--conflicts", budget], 4)?;
-        let (_, settled) = sheet
-            .split_once("\nend conflicts ")
-            .ok_or("the budget is spent")?;
-        let due = format!(in alloc; "certified {settled}")?;
-        assert_eq!(rt; line.as_slice(), due.as_bytes(), "{budget}");
-        let lines = log.lines().filter(|line| line.starts_with("l ")).count();
-        assert_eq!(rt; lines, learnt, "{budget}");
+    for case in &CERTIFIED {
+        is_certified(rt.alloc(), case)?;
     }
     Ok(())
 }
 
-/// A sheet of text 1 and one of text 2 that say the same are certified by the same log.
+/// A sheet of text 1 that says the same as one of text 2 is certified by the same log, and no other drawing than the best
+/// one, whose fourth value isn't least.
 #[test]
-fn certifies_a_sheet_of_text_1(rt: HostRuntime) -> Result<(), Fail> {
+fn answers_other_sheets_with_a_log(rt: HostRuntime) -> Result<(), Fail> {
     let alloc = rt.alloc();
-    let (log, _) = logged(alloc, ORDER, LOOP)?;
+    let drawn = logged(alloc, &LOGGING, LOOP, 0)?;
     let sheet = sheet_of(alloc, LOOP_PICTURE)?;
-    let (status, text) = checked(alloc, LOOP, &sheet, &log)?;
-    assert_eq!(rt; status, 0);
-    assert_eq!(rt; text.as_slice(), b"certified 4\n".as_slice());
+    checked(alloc, LOOP, &sheet, &drawn.log)?.is("text 1", 0, "certified 4\n")?;
+    let drawn = logged(alloc, &LOGGING, ONE, 0)?;
+    for (sheet, status, line) in [
+        (LONGER_SHEET, 8, "check Lacks place 4\n"),
+        (UNSETTLED_SHEET, 0, "certified 3\n"),
+    ] {
+        checked(alloc, ONE, sheet, &drawn.log)?.is(sheet, status, line)?;
+    }
     Ok(())
 }
 
-/// Of the file, the sheet and a log, the first line of every log, or no line.
+/// The loop's sheet, but none of its values is settled.
+const OPEN_LOOP_SHEET: &str = "railplan 2
+grid 40 8 1
+order height bends diagonal width
+nodes 4
+node 0 mb 0 0 0.000000
+node 1 me 5 0 600.000000
+node 2 s1 1 0 100.000000
+node 3 s2 4 0 500.000000
+edges 4
+edge 0 m 0 2 0 0 1 0
+edge 1 m 2 3 1 0 4 0
+edge 2 m 3 1 4 0 5 0
+edge 3 l 2 3 1 0 2 1 3 1 4 0
+values 1 2 2 5
+end conflicts 0
+";
+
+/// A file, a sheet, and a log, the first line of every log or no line; the status and the line that answer them.
+type Checking = (&'static str, &'static str, &'static str, u8, &'static str);
+
+static CHECKINGS: [Checking; 11] = [
+    (ONE, ONE_SHEET, TITLE, 8, "check Lacks place 4\n"),
+    (LOOP, LOOP_SHEET, TITLE, 8, "check Lacks place 1\n"),
+    (LOOP, OPEN_LOOP_SHEET, TITLE, 0, "certified 0\n"),
+    (LOOP, NO_DRAWING_SHEET, TITLE, 8, "check Lacks place 0\n"),
+    (ONE, UNSETTLED_SHEET, TITLE, 0, "certified 3\n"),
+    // a sheet of another station
+    (ONE, LOOP_SHEET, TITLE, 1, "sheet 3 Graph line 4\n"),
+    (LOOP, PEAKED_SHEET, TITLE, 1, "sheet 4 Shape line 13\n"),
+    (ONE, HIGH_SHEET, TITLE, 0, "certified 1\n"),
+    // a law, a sheet and a file before the log
+    (ONE, TORN_SHEET, "", 8, "broken law 3 edge 0\n"),
+    (ONE, "railplan 3\n", "", 1, "sheet 1 Form line 1\n"),
+    (
+        "<railml/>",
+        "railplan 3\n",
+        "",
+        1,
+        "text 12 NoInfrastructure at 9\n",
+    ),
+];
+
 #[test]
 fn answers_sheets_with_a_log_of_no_lines(rt: HostRuntime) -> Result<(), Fail> {
-    let alloc = rt.alloc();
-    let open = format!(in alloc;
-        "{}end conflicts 0\n",
-        LOOP_SHEET.strip_suffix("end best\n").unwrap_or("")
-    )?;
-    let cases: [(&str, &str, &str, &str, u8, &str); 11] = [
-        ("one track", ONE, ONE_SHEET, TITLE, 8, "check Lacks place 4"),
-        ("a loop", LOOP, LOOP_SHEET, TITLE, 8, "check Lacks place 1"),
-        (
-            "a loop, no value settled",
-            LOOP,
-            open.as_str(),
-            TITLE,
-            0,
-            "certified 0",
-        ),
-        (
-            "no drawing",
-            LOOP,
-            NO_DRAWING_SHEET,
-            TITLE,
-            8,
-            "check Lacks place 0",
-        ),
-        (
-            "three values of 0",
-            ONE,
-            UNSETTLED_SHEET,
-            TITLE,
-            0,
-            "certified 3",
-        ),
-        (
-            "a sheet of another station",
-            ONE,
-            LOOP_SHEET,
-            TITLE,
-            1,
-            "sheet 3 Graph line 4",
-        ),
-        (
-            "a line of no shape",
-            LOOP,
-            PEAKED_SHEET,
-            TITLE,
-            1,
-            "sheet 4 Shape line 13",
-        ),
-        (
-            "a height that is left free",
-            ONE,
-            HIGH_SHEET,
-            TITLE,
-            0,
-            "certified 1",
-        ),
-        (
-            "a drawing that breaks a law, and no log",
-            ONE,
-            TORN_SHEET,
-            "",
-            8,
-            "broken law 3 edge 0",
-        ),
-        (
-            "a sheet with a fault, and no log",
-            ONE,
-            "railplan 3\n",
-            "",
-            1,
-            "sheet 1 Form line 1",
-        ),
-        (
-            "a file with a fault, a sheet with one, and no log",
-            "<railml/>",
-            "railplan 3\n",
-            "",
-            1,
-            "text 12 NoInfrastructure at 9",
-        ),
-    ];
-    let mut wrong = String::new(alloc);
-    for (shows, file, sheet, log, status, line) in cases {
-        let answer = checked(alloc, file, sheet, log)?;
-        note_wrong(alloc, &mut wrong, shows, &answer, status, line)?;
-    }
-    assert_eq!(rt; wrong.as_str(), "");
-    Ok(())
-}
-
-/// A log of the best drawing certifies no other one, whose fourth value isn't least.
-#[test]
-fn certifies_no_worse_drawing(rt: HostRuntime) -> Result<(), Fail> {
-    let alloc = rt.alloc();
-    let (log, _) = logged(alloc, ORDER, ONE)?;
-    let mut wrong = String::new(alloc);
-    let answer = checked(alloc, ONE, LONGER_SHEET, log.as_str())?;
-    note_wrong(
-        alloc,
-        &mut wrong,
-        "a longer line",
-        &answer,
-        8,
-        "check Lacks place 4",
-    )?;
-    let answer = checked(alloc, ONE, UNSETTLED_SHEET, log.as_str())?;
-    note_wrong(
-        alloc,
-        &mut wrong,
-        "a longer line, width open",
-        &answer,
-        0,
-        "certified 3",
-    )?;
-    assert_eq!(rt; wrong.as_str(), "");
-    Ok(())
-}
-
-/// The inputs are read in turn, and each before any is judged.
-#[test]
-fn tells_which_input_is_missing(rt: HostRuntime) -> Result<(), Fail> {
-    let alloc = rt.alloc();
-    let cases: [(&[&str], &str); 4] = [
-        (&["check", "none", "none", "none"], "read failed 1\n"),
-        (&["check", "station.xml", "none", "none"], "read failed 2\n"),
-        (
-            &["check", "station.xml", "sheet", "none"],
-            "read failed 3\n",
-        ),
-        (&["check", "sheet", "sheet", "none"], "read failed 3\n"),
-    ];
-    for (words, text) in cases {
-        let words = words_from(alloc, words)?;
-        let mut files = MemoryFiles::new(alloc, &[])?;
-        files.add("station.xml", ONE.as_bytes())?;
-        files.add("sheet", ONE_SHEET.as_bytes())?;
-        let mut out = SureSink::new(alloc);
-        assert_eq!(rt; run_untraced(alloc, &words, &mut files, &mut out), 5);
-        assert_eq!(rt; out.bytes(), text.as_bytes());
+    for (file, sheet, log, status, line) in &CHECKINGS {
+        checked(rt.alloc(), file, sheet, log)?.is(sheet, *status, line)?;
     }
     Ok(())
 }

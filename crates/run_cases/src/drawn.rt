@@ -1,181 +1,130 @@
 // What `draw` answers: the best drawing, that there is none, and the log of the search.
-use crate::answers::{BULGE, ONE_SHEET};
-use crate::cases::{answer, run_untraced, words_from};
-use crate::stations::{BACK, CROSS, LOOP, ONE, SCISSORS, STATION, TWO};
 use outside_io::{SureFiles, SureSink};
-use refute_log::{LineList, LogLine};
-use schematic_main::run;
+use refute_log::{LineList, LogLine, read_line};
 use std::alloc::Global;
 use std::test::Fail;
+use worked_files::{
+    BACK, BULGE, CROSS, EXAMPLE, LONG_ONE_SHEET, LOOP, LOOP_SHEET, ONE, ONE_SHEET, Row, SCISSORS,
+    STATION, TWO, all_are_answered, answer_to, edited, run_traced, words_from,
+};
 
-/// Each point of it is forced.
-pub const LOOP_SHEET: &str = "railplan 2
-grid 40 8 1
-order height bends diagonal width
-nodes 4
-node 0 mb 0 0 0.000000
-node 1 me 5 0 600.000000
-node 2 s1 1 0 100.000000
-node 3 s2 4 0 500.000000
-edges 4
-edge 0 m 0 2 0 0 1 0
-edge 1 m 2 3 1 0 4 0
-edge 2 m 3 1 4 0 5 0
-edge 3 l 2 3 1 0 2 1 3 1 4 0
-values 1 2 2 5
-end best
-";
-
-const LONG_ONE_SHEET: &str = "railplan 2
-grid 40 8 2
-order height bends diagonal width
-nodes 2
-node 0 mb 0 0 0.000000
-node 1 me 2 0 600.000000
-edges 1
-edge 0 m 0 1 0 0 2 0
-values 0 0 0 2
-end best
-";
-
-/// What `draw` answers to a file with these options: the status and the text.
-fn drawn(
-    alloc: Global,
-    options: &[&'static str],
-    file: &'static str,
-) -> Result<(u8, Vec<u8>), Fail> {
-    let mut words = words_from(alloc, &["draw", "station.xml"])?;
-    for option in options {
-        words.push(String::from_str(alloc, option)?)?;
-    }
-    let mut files = SureFiles::new(alloc);
-    files.add("station.xml", file.as_bytes())?;
-    let mut out = SureSink::new(alloc);
-    let status = run_untraced(alloc, &words, &mut files, &mut out);
-    Ok((status, Vec::from_slice(alloc, out.bytes())?))
-}
+static SHEETS: [Row; 7] = [
+    (&["draw", "one.xml"], ONE, 0, ONE_SHEET),
+    (&["draw", "one.xml", "--least", "2"], ONE, 0, LONG_ONE_SHEET),
+    (&["draw", "one.xml"], LOOP, 0, LOOP_SHEET),
+    (
+        &["draw", "one.xml", "--width", "4"],
+        LOOP,
+        3,
+        "railplan 2\ngrid 4 8 1\norder height bends diagonal width\nend none\n",
+    ),
+    (
+        &["draw", "one.xml", "--height", "0"],
+        LOOP,
+        3,
+        "railplan 2\ngrid 40 0 1\norder height bends diagonal width\nend none\n",
+    ),
+    (
+        &["draw", "one.xml", "--least", "4", "--width", "11"],
+        LOOP,
+        3,
+        "railplan 2\ngrid 11 8 4\norder height bends diagonal width\nend none\n",
+    ),
+    (
+        &["draw", "one.xml", "--order", "width", "--width", "4"],
+        LOOP,
+        3,
+        "railplan 2\ngrid 4 8 1\norder width\nend none\n",
+    ),
+];
 
 #[test]
 fn draws_these_sheets(rt: HostRuntime) -> Result<(), Fail> {
-    let alloc = rt.alloc();
-    let cases: [(&'static str, &'static [&'static str], u8, &'static str); 7] = [
-        (ONE, &[], 0, ONE_SHEET),
-        (ONE, &["--least", "2"], 0, LONG_ONE_SHEET),
-        (LOOP, &[], 0, LOOP_SHEET),
-        (
-            LOOP,
-            &["--width", "4"],
-            3,
-            "railplan 2\ngrid 4 8 1\norder height bends diagonal width\nend none\n",
-        ),
-        (
-            LOOP,
-            &["--height", "0"],
-            3,
-            "railplan 2\ngrid 40 0 1\norder height bends diagonal width\nend none\n",
-        ),
-        (
-            LOOP,
-            &["--least", "4", "--width", "11"],
-            3,
-            "railplan 2\ngrid 11 8 4\norder height bends diagonal width\nend none\n",
-        ),
-        (
-            LOOP,
-            &["--order", "width", "--width", "4"],
-            3,
-            "railplan 2\ngrid 4 8 1\norder width\nend none\n",
-        ),
-    ];
-    for (file, options, status, text) in cases {
-        let (ended, sheet) = drawn(alloc, options, file)?;
-        assert_eq!(rt; std::str::from_utf8(&sheet)?, text, "{options:?}");
-        assert_eq!(rt; ended, status, "{options:?}");
-    }
-    Ok(())
+    all_are_answered(rt.alloc(), &SHEETS)
 }
 
-/// A sheet is best, and `verify` says that it is lawful and measures this.
-pub fn is_best(alloc: Global, file: &str, sheet: &[u8], measures: &str) -> Result<bool, Fail> {
-    let text = std::str::from_utf8(sheet)?;
+/// Whether a sheet is best, and `verify` says that it is lawful and measures this.
+pub fn is_best(alloc: Global, file: &str, sheet: &str, measures: &str) -> Result<bool, Fail> {
     let values = format!(in alloc; "\nvalues {measures}\nend best\n")?;
     let line = format!(in alloc; "lawful {measures}\n")?;
-    let (status, verdict) = answer(alloc, file, sheet)?;
-    Ok(text.ends_with(values.as_str()) && status == 0 && verdict.as_slice() == line.as_bytes())
+    let answer = answer_to(
+        alloc,
+        &["verify", "one.xml", "sheet"],
+        &[("one.xml", file.as_bytes()), ("sheet", sheet.as_bytes())],
+    )?;
+    Ok(
+        sheet.ends_with(values.as_str())
+            && answer.status == 0
+            && answer.text.as_str() == line.as_str(),
+    )
+}
+
+/// The words of a run of `draw`, the file `one.xml`, and what its best drawing measures.
+type Best = (&'static [&'static str], &'static str, &'static str);
+
+static BEST: [Best; 10] = [
+    (&["draw", "one.xml", "--least", "3"], ONE, "0 0 0 3"),
+    (&["draw", "one.xml"], TWO, "1 0 0 1"),
+    (&["draw", "one.xml"], BACK, "1 2 2 5"),
+    (&["draw", "one.xml"], CROSS, "1 0 1 3"),
+    (&["draw", "one.xml", "--least", "2"], LOOP, "1 2 2 7"),
+    (&["draw", "one.xml", "--least", "4"], LOOP, "1 2 2 12"),
+    (&["draw", "one.xml"], BULGE, "1 2 2 5"),
+    (&["draw", "one.xml"], SCISSORS, "2 0 4 4"),
+    (&["draw", "one.xml"], STATION, "2 2 3 7"),
+    (&["draw", "one.xml"], EXAMPLE, "2 2 3 7"),
+];
+
+/// Fails where the best drawing doesn't measure this.
+fn is_drawn_best(alloc: Global, best: &Best) -> Result<(), Fail> {
+    let (words, file, measures) = best;
+    let answer = answer_to(alloc, words, &[("one.xml", file.as_bytes())])?;
+    if answer.status == 0 && is_best(alloc, file, answer.text.as_str(), measures)? {
+        Ok(())
+    } else {
+        Err(answer.wrong(measures))
+    }
 }
 
 #[test]
 fn draws_small_stations_best(rt: HostRuntime) -> Result<(), Fail> {
-    let alloc = rt.alloc();
-    let cases: [(&'static str, &'static [&'static str], &'static str); 7] = [
-        (ONE, &["--least", "3"], "0 0 0 3"),
-        (TWO, &[], "1 0 0 1"),
-        (BACK, &[], "1 2 2 5"),
-        (CROSS, &[], "1 0 1 3"),
-        (LOOP, &["--least", "2"], "1 2 2 7"),
-        (LOOP, &["--least", "4"], "1 2 2 12"),
-        (BULGE, &[], "1 2 2 5"),
-    ];
-    for (file, options, measures) in cases {
-        let (status, sheet) = drawn(alloc, options, file)?;
-        assert_eq!(rt; status, 0, "{measures} {options:?}");
-        assert!(rt;
-            is_best(alloc, file, &sheet, measures)?,
-            "{measures} {options:?}"
-        );
+    for best in &BEST {
+        is_drawn_best(rt.alloc(), best)?;
     }
     Ok(())
 }
 
-#[test]
-fn draws_scissors_best(rt: HostRuntime) -> Result<(), Fail> {
-    let alloc = rt.alloc();
-    let (status, sheet) = drawn(alloc, &[], SCISSORS)?;
-    assert_eq!(rt; status, 0);
-    assert!(rt; is_best(alloc, SCISSORS, &sheet, "2 0 4 4")?);
-    Ok(())
+/// What a run of `draw` wrote that names the log `l`.
+#[derive(Drop)]
+pub struct Written {
+    pub sheet: String,
+    pub log: String,
 }
 
-#[test]
-fn draws_the_worked_station_best(rt: HostRuntime) -> Result<(), Fail> {
-    let alloc = rt.alloc();
-    let (status, sheet) = drawn(alloc, &[], STATION)?;
-    assert_eq!(rt; status, 0);
-    assert!(rt; is_best(alloc, STATION, &sheet, "2 2 3 7")?);
-    Ok(())
-}
-
-/// A budget of one clause isn't enough: what was found by then is lawful.
-#[test]
-fn stops_when_its_budget_is_spent(rt: HostRuntime) -> Result<(), Fail> {
-    let alloc = rt.alloc();
-    let (status, sheet) = drawn(alloc, &["--conflicts", "1"], SCISSORS)?;
-    assert_eq!(rt; status, 4);
-    let text = std::str::from_utf8(&sheet)?;
-    assert!(rt; text.contains("\nend conflicts "));
-    if text.contains("\nvalues ") {
-        let (verdict, _) = answer(alloc, SCISSORS, &sheet)?;
-        assert_eq!(rt; verdict, 0);
+/// The sheet and the log of a run with these words, where it ends with this status.
+pub fn logged(alloc: Global, words: &[&str], file: &str, status: u8) -> Result<Written, Fail> {
+    let answer = answer_to(alloc, words, &[("one.xml", file.as_bytes())])?;
+    if answer.status != status {
+        return Err(answer.wrong("a run with a log"));
     }
-    Ok(())
+    let log = String::from_str(alloc, answer.file("l")?.unwrap_or(""))?;
+    Ok(Written {
+        sheet: answer.text,
+        log,
+    })
 }
 
-/// The log of a file's search, as it stands in the file, and the sheet.
-pub fn logged(alloc: Global, order: &str, file: &str) -> Result<(String, String), Fail> {
-    let words = words_from(
-        alloc,
-        &["draw", "station.xml", "--order", order, "--log", "l"],
-    )?;
-    let mut files = SureFiles::new(alloc);
-    files.add("station.xml", file.as_bytes())?;
-    let mut out = SureSink::new(alloc);
-    let status = run_untraced(alloc, &words, &mut files, &mut out);
-    if status != 0 {
-        return Err("the file is drawn".into());
-    }
-    let log = files.get("l").ok_or("the log stands in the file")?;
-    let sheet = String::from_str(alloc, std::str::from_utf8(out.bytes())?)?;
-    Ok((String::from_str(alloc, std::str::from_utf8(log)?)?, sheet))
+/// Whether the loop's sheet in an order of two criteria is its sheet but for the order, and the first bound that the log
+/// tells begins so.
+fn is_drawn_in(alloc: Global, order: &str, words: &str, first: &str) -> Result<bool, Fail> {
+    let options = ["draw", "one.xml", "--order", order, "--log", "l"];
+    let drawn = logged(alloc, &options, LOOP, 0)?;
+    let due = edited(alloc, LOOP_SHEET, &[("height bends diagonal width", words)])?;
+    let bound = match drawn.log.split_once("\nb ") {
+        Some((_, bound)) => bound,
+        None => "",
+    };
+    Ok(drawn.sheet == due && bound.starts_with(first))
 }
 
 /// Where the width is least before the height is, the sheet is the same but for its order, and the log tells bounds of the
@@ -183,69 +132,64 @@ pub fn logged(alloc: Global, order: &str, file: &str) -> Result<(String, String)
 #[test]
 fn draws_the_loop_in_two_orders(rt: HostRuntime) -> Result<(), Fail> {
     let alloc = rt.alloc();
-    let (front, back) = LOOP_SHEET
-        .split_once("height bends diagonal width\n")
-        .ok_or("the sheet has its order")?;
-    for (order, words, first) in [
-        ("width,height", "width height\n", "width 1 "),
-        ("height,width", "height width\n", "height 1 "),
-    ] {
-        let (log, sheet) = logged(alloc, order, LOOP)?;
-        let due = format!(in alloc; "{front}{words}{back}")?;
-        assert_eq!(rt; sheet.as_str(), due.as_str());
-        let (_, bounds) = log.split_once("\nb ").ok_or("the log tells a bound")?;
-        assert!(rt; bounds.starts_with(first), "{order}");
-    }
+    assert!(rt; is_drawn_in(alloc, "width,height", "width height", "width 1 ")?);
+    assert!(rt; is_drawn_in(alloc, "height,width", "height width", "height 1 ")?);
     Ok(())
 }
 
-/// The letter that a line's text begins with.
-fn letter(line: &LogLine) -> char {
-    match line {
-        LogLine::Formula(_) => 'f',
-        LogLine::Learnt(_) => 'l',
-        LogLine::Bound { .. } => 'b',
-        LogLine::Query(_) => 'q',
-        LogLine::Refuted(_) => 'r',
-        LogLine::Model => 'm',
+/// Whether two lines are the same.
+fn is_same(a: &LogLine, b: &LogLine) -> bool {
+    match (a, b) {
+        (LogLine::Formula(a), LogLine::Formula(b)) => a.as_slice() == b.as_slice(),
+        (LogLine::Learnt(a), LogLine::Learnt(b)) => a.as_slice() == b.as_slice(),
+        (LogLine::Query(a), LogLine::Query(b)) => a.as_slice() == b.as_slice(),
+        (LogLine::Refuted(a), LogLine::Refuted(b)) => a.as_slice() == b.as_slice(),
+        (LogLine::Model, LogLine::Model) => true,
+        (
+            LogLine::Bound { criterion, k, var },
+            LogLine::Bound {
+                criterion: other,
+                k: number,
+                var: variable,
+            },
+        ) => criterion == other && k == number && var == variable,
+        _ => false,
     }
 }
 
-/// The letters of the lines that a trace was told, in their order.
-fn letters(alloc: Global, trace: &LineList) -> Result<String, Fail> {
-    let mut letters = String::new(alloc);
-    for i in 0..trace.len() {
-        letters.push(letter(trace.get(i)))?;
-    }
-    Ok(letters)
-}
-
-/// The first letters of a log's lines behind its first.
-fn first_letters(alloc: Global, log: &str) -> Result<String, Fail> {
-    let mut letters = String::new(alloc);
-    for line in log.lines().skip(1) {
-        letters.push(line.chars().next().unwrap_or(' '))?;
-    }
-    Ok(letters)
-}
-
-/// Line for line a log's file has what a trace is told where no file is named, and the last line says that nothing is
+/// Whether the lines of a log behind its first are those that a trace was told, and the last one says that nothing is
 /// better.
+fn has_lines(alloc: Global, log: &str, trace: &LineList) -> Result<bool, Fail> {
+    let mut told = 0;
+    let mut refuted = false;
+    for text in log.lines().skip(1) {
+        let line = read_line(alloc, text.as_bytes(), 1)?;
+        if told >= trace.len() || !is_same(&line, trace.get(told)) {
+            return Ok(false);
+        }
+        told += 1;
+        refuted = text.starts_with("r ");
+    }
+    Ok(refuted && told == trace.len())
+}
+
+/// Whether a run that names no file for the log puts the same sheet and tells its trace the same lines as one that does.
+fn tells_its_trace(alloc: Global, file: &str) -> Result<bool, Fail> {
+    let drawn = logged(alloc, &["draw", "one.xml", "--log", "l"], file, 0)?;
+    let words = words_from(alloc, &["draw", "one.xml"])?;
+    let mut files = SureFiles::new(alloc);
+    files.add("one.xml", file.as_bytes())?;
+    let mut out = SureSink::new(alloc);
+    let mut trace = LineList::new(alloc);
+    let status = run_traced(alloc, &words, &mut files, &mut out, &mut trace);
+    let same_sheet = status == 0 && out.bytes() == drawn.sheet.as_bytes();
+    Ok(same_sheet && has_lines(alloc, &drawn.log, &trace)?)
+}
+
 #[test]
 fn writes_the_log_that_a_trace_is_told(rt: HostRuntime) -> Result<(), Fail> {
-    let alloc = rt.alloc();
-    let words = words_from(alloc, &["draw", "station.xml"])?;
     for file in [ONE, LOOP] {
-        let (log, sheet) = logged(alloc, "height,bends,diagonal,width", file)?;
-        let mut files = SureFiles::new(alloc);
-        files.add("station.xml", file.as_bytes())?;
-        let mut out = SureSink::new(alloc);
-        let mut trace = LineList::new(alloc);
-        assert_eq!(rt; run(alloc, &words, &mut files, &mut out, &mut trace), 0);
-        assert_eq!(rt; out.bytes(), sheet.as_bytes());
-        let told = letters(alloc, &trace)?;
-        assert_eq!(rt; told.as_str(), first_letters(alloc, log.as_str())?.as_str());
-        assert!(rt; told.as_str().ends_with('r'));
+        assert!(rt; tells_its_trace(rt.alloc(), file)?);
     }
     Ok(())
 }

@@ -1,13 +1,10 @@
 // What runs put and leave where one call of their files, or of their sink, fails: each call in its turn, until a run
 // meets no failure.
-use crate::answers::ONE_SHEET;
-use crate::cases::{run_untraced, words_from};
 use crate::checked::{TITLE, UNSETTLED_SHEET};
-use crate::drawn::LOOP_SHEET;
-use crate::stations::{LOOP, ONE, ONE_GRAPH};
 use outside_io::{Files, MemoryFiles, MemorySink, Sink};
 use std::alloc::{AllocError, Global};
 use std::test::Fail;
+use worked_files::{LOOP, LOOP_SHEET, ONE, ONE_GRAPH, ONE_SHEET, run_untraced, words_from};
 
 /// More calls than any of these runs makes.
 const MANY: u32 = 100;
@@ -106,25 +103,28 @@ fn tells_failing_call(left: &Left, whole: &Left, failing: u32) -> bool {
     }
 }
 
+/// Whether a run answers so each failing call of its files, in turn until it meets no failure, and then puts this sheet.
+fn tells_failing_calls(alloc: Global, words: &[&'static str], sheet: &str) -> Result<bool, Fail> {
+    let whole = left_by(alloc, words, &[], &[])?;
+    if whole.put.as_slice() != sheet.as_bytes() {
+        return Ok(false);
+    }
+    for failing in 1..MANY {
+        let left = left_by(alloc, words, &[failing], &[])?;
+        if !tells_failing_call(&left, &whole, failing) {
+            return Ok(false);
+        }
+        if left.spared {
+            return Ok(true);
+        }
+    }
+    Ok(false)
+}
+
 #[test]
 fn draw_tells_each_failing_call_of_its_files(rt: HostRuntime) -> Result<(), Fail> {
-    let alloc = rt.alloc();
     for (words, sheet) in &DRAWINGS {
-        let whole = left_by(alloc, words, &[], &[])?;
-        assert_eq!(rt; whole.put.as_slice(), sheet.as_bytes());
-        let mut is_spared = false;
-        for failing in 1..MANY {
-            let left = left_by(alloc, words, &[failing], &[])?;
-            assert!(rt;
-                tells_failing_call(&left, &whole, failing),
-                "{words:?} {failing}"
-            );
-            is_spared = left.spared;
-            if is_spared {
-                break;
-            }
-        }
-        assert!(rt; is_spared, "{words:?}");
+        assert!(rt; tells_failing_calls(rt.alloc(), words, sheet)?, "{sheet}");
     }
     Ok(())
 }
@@ -152,23 +152,28 @@ static READINGS: [Reading; 6] = [
     ),
 ];
 
-/// The run reads each of its inputs once, and says which read failed.
+/// Whether a run reads each of its inputs once, and says which read failed.
+fn tells_failing_reads(alloc: Global, reading: &Reading) -> Result<bool, Fail> {
+    let (words, inputs, status, text) = reading;
+    for failing in 1..inputs.saturating_add(1) {
+        let left = left_by(alloc, words, &[failing], &[])?;
+        let line = format!(in alloc; "read failed {failing}\n")?;
+        if left.spared || left.status != 5 || left.put.as_slice() != line.as_bytes() {
+            return Ok(false);
+        }
+    }
+    let left = left_by(alloc, words, &[inputs.saturating_add(1)], &[])?;
+    Ok(left.spared && left.status == *status && left.put.as_slice() == text.as_bytes())
+}
+
 #[test]
 fn each_failing_read_is_told(rt: HostRuntime) -> Result<(), Fail> {
-    let alloc = rt.alloc();
-    for (words, inputs, status, text) in &READINGS {
-        for failing in 1..inputs.saturating_add(2) {
-            let left = left_by(alloc, words, &[failing], &[])?;
-            let line = format!(in alloc; "read failed {failing}\n")?;
-            let (status, text) = if failing > *inputs {
-                (*status, *text)
-            } else {
-                (5, line.as_str())
-            };
-            assert_eq!(rt; left.spared, failing > *inputs, "{words:?} {failing}");
-            assert_eq!(rt; left.status, status, "{words:?} {failing}");
-            assert_eq!(rt; left.put.as_slice(), text.as_bytes(), "{words:?} {failing}");
-        }
+    for reading in &READINGS {
+        assert!(rt;
+            tells_failing_reads(rt.alloc(), reading)?,
+            "{:?}",
+            reading.0
+        );
     }
     Ok(())
 }
@@ -194,13 +199,10 @@ fn tells_failing_put(
 fn each_failing_put_is_told(rt: HostRuntime) -> Result<(), Fail> {
     let alloc = rt.alloc();
     for (words, sheet) in &DRAWINGS {
-        assert!(rt; tells_failing_put(alloc, words, 0, sheet)?, "{words:?}");
+        assert!(rt; tells_failing_put(alloc, words, 0, sheet)?, "{sheet}");
     }
     for (words, _, status, text) in &READINGS {
-        assert!(rt;
-            tells_failing_put(alloc, words, *status, text)?,
-            "{words:?}"
-        );
+        assert!(rt; tells_failing_put(alloc, words, *status, text)?, "{text}");
     }
     Ok(())
 }

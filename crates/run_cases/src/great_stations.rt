@@ -1,17 +1,16 @@
 // Stations at the limits of a graph, which is 128 nodes and 160 edges, and past them.
-use crate::cases::{run_untraced, words_from};
-use outside_io::{SureFiles, SureSink};
 use std::alloc::{AllocError, Global};
 use std::test::Fail;
+use worked_files::{Answer, answer_to};
 
-/// So many tracks, of 600 m each, that nothing joins: two nodes and an edge each.
-fn tracks_apart(alloc: Global, count: u32) -> Result<String, AllocError> {
+/// So many tracks, of so many metres each, that nothing joins: two nodes and an edge each.
+fn tracks_apart(alloc: Global, count: u32, length: u32) -> Result<String, AllocError> {
     let mut file = String::from_str(alloc, "<infrastructure><tracks>\n")?;
     for i in 0..count {
         let track = format!(in alloc;
             "<track id=\"t{i}\"><trackTopology>
 <trackBegin id=\"b{i}\" pos=\"0\" absPos=\"0\"><openEnd/></trackBegin>
-<trackEnd id=\"e{i}\" pos=\"600\"><openEnd/></trackEnd>
+<trackEnd id=\"e{i}\" pos=\"{length}\"><openEnd/></trackEnd>
 </trackTopology></track>\n"
         )?;
         file.push_str(&track)?;
@@ -49,49 +48,48 @@ fn loops_in_a_row(alloc: Global, count: u32) -> Result<String, AllocError> {
     )
 }
 
-/// The status of `graph`, and what it puts.
-fn printed(alloc: Global, file: &str) -> Result<(u8, Vec<u8>), Fail> {
-    let words = words_from(alloc, &["graph", "great.xml"])?;
-    let mut files = SureFiles::new(alloc);
-    files.add("great.xml", file.as_bytes())?;
-    let mut out = SureSink::new(alloc);
-    let status = run_untraced(alloc, &words, &mut files, &mut out);
-    Ok((status, Vec::from_slice(alloc, out.bytes())?))
+/// What `graph` answers to a file.
+fn printed(alloc: Global, file: &str) -> Result<Answer, Fail> {
+    answer_to(
+        alloc,
+        &["graph", "great.xml"],
+        &[("great.xml", file.as_bytes())],
+    )
+}
+
+/// Whether the text of a file's graph has as many nodes and edges.
+fn has_graph(alloc: Global, file: &str, nodes: &str, edges: &str) -> Result<bool, Fail> {
+    let answer = printed(alloc, file)?;
+    let text = answer.text.as_str();
+    Ok(answer.status == 0 && text.starts_with(nodes) && text.contains(edges))
 }
 
 #[test]
 fn prints_graphs_at_the_limits(rt: HostRuntime) -> Result<(), Fail> {
     let alloc = rt.alloc();
-    let cases = [
-        (tracks_apart(alloc, 64)?, "nodes 128\n", "\nedges 64\n"),
-        (loops_in_a_row(alloc, 53)?, "nodes 108\n", "\nedges 160\n"),
-    ];
-    for (file, nodes, edges) in &cases {
-        let (status, text) = printed(alloc, file)?;
-        assert_eq!(rt; status, 0, "{nodes}");
-        let text = std::str::from_utf8(&text)?;
-        let rest = text
-            .strip_prefix("railgraph 1\n")
-            .ok_or("the text is that of a graph")?;
-        assert!(rt; rest.starts_with(*nodes), "{nodes}");
-        assert!(rt; rest.contains(*edges), "{nodes}");
-    }
+    let tracks = tracks_apart(alloc, 64, 600)?;
+    assert!(rt; has_graph(alloc, &tracks, "railgraph 1\nnodes 128\n", "\nedges 64\n")?);
+    let loops = loops_in_a_row(alloc, 53)?;
+    assert!(rt; has_graph(alloc, &loops, "railgraph 1\nnodes 108\n", "\nedges 160\n")?);
     Ok(())
 }
 
-/// Where there are too many of both, the nodes are told of.
+/// Where there are too many of both, the nodes are told of, and both before an edge without length.
 #[test]
 fn tells_of_graphs_past_the_limits(rt: HostRuntime) -> Result<(), Fail> {
     let alloc = rt.alloc();
-    let cases = [
-        (tracks_apart(alloc, 65)?, "graph 1 TooManyNodes 130\n"),
-        (loops_in_a_row(alloc, 54)?, "graph 2 TooManyEdges 163\n"),
-        (loops_in_a_row(alloc, 64)?, "graph 1 TooManyNodes 130\n"),
-    ];
-    for (file, line) in &cases {
-        let (status, text) = printed(alloc, file)?;
-        assert_eq!(rt; status, 1, "{line}");
-        assert_eq!(rt; std::str::from_utf8(&text)?, *line);
+    for (count, length, line) in [
+        (65, 600, "graph 1 TooManyNodes 130\n"),
+        (65, 0, "graph 1 TooManyNodes 130\n"),
+        (64, 0, "graph 3 NotForward t0 0.000000\n"),
+    ] {
+        printed(alloc, &tracks_apart(alloc, count, length)?)?.is(line, 1, line)?;
+    }
+    for (count, line) in [
+        (54, "graph 2 TooManyEdges 163\n"),
+        (64, "graph 1 TooManyNodes 130\n"),
+    ] {
+        printed(alloc, &loops_in_a_row(alloc, count)?)?.is(line, 1, line)?;
     }
     Ok(())
 }

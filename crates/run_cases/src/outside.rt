@@ -1,10 +1,8 @@
 // What runs take from outside: how long an input may be, how often it is read, and what answers one that is cut short.
-use crate::answers::ONE_SHEET;
-use crate::cases::{run_untraced, words_from};
-use crate::stations::{LOOP, ONE};
-use outside_io::{Files, MemoryFiles, SureFiles, SureSink};
+use outside_io::{Files, MemoryFiles, SureSink};
 use std::alloc::{AllocError, Global};
 use std::test::Fail;
+use worked_files::{LOOP, ONE, ONE_SHEET, answer_to, run_untraced, words_from};
 
 /// The file of one track with so many line feeds behind it that it has `size` bytes.
 fn padded(alloc: Global, size: usize) -> Result<Vec<u8>, AllocError> {
@@ -15,95 +13,75 @@ fn padded(alloc: Global, size: usize) -> Result<Vec<u8>, AllocError> {
     Ok(file)
 }
 
-#[test]
-fn draws_a_file_at_the_limit_and_none_past_it(rt: HostRuntime) -> Result<(), Fail> {
-    let alloc = rt.alloc();
-    let words = words_from(alloc, &["draw", "one.xml"])?;
-    let cases = [(4_194_304, 0, ONE_SHEET), (4_194_305, 1, "long 1\n")];
-    for (size, status, text) in cases {
-        let mut files = SureFiles::new(alloc);
-        files.add("one.xml", &padded(alloc, size)?)?;
-        let mut out = SureSink::new(alloc);
-        assert_eq!(rt;
-            run_untraced(alloc, &words, &mut files, &mut out),
-            status,
-            "{size}"
-        );
-        assert_eq!(rt; out.bytes(), text.as_bytes(), "{size}");
-    }
-    Ok(())
-}
+/// The words of a run, the size of the file `one.xml`, and the status and the text that answer it.
+type Sized = (&'static [&'static str], usize, u8, &'static str);
 
 /// Of both inputs, before what they say is looked at.
+static SIZES: [Sized; 5] = [
+    (&["draw", "one.xml"], 4_194_304, 0, ONE_SHEET),
+    (&["draw", "one.xml"], 4_194_305, 1, "long 1\n"),
+    (&["verify", "one.xml", "none.xml"], 4_194_305, 1, "long 1\n"),
+    (&["verify", "-", "one.xml"], 4_194_305, 1, "long 2\n"),
+    (
+        &["verify", "-", "one.xml"],
+        4_194_304,
+        1,
+        "text 9 Unfinished at 0\n",
+    ),
+];
+
 #[test]
-fn verifies_nothing_past_the_limit(rt: HostRuntime) -> Result<(), Fail> {
-    let alloc = rt.alloc();
-    let cases: [(&[&str], usize, &str); 3] = [
-        (&["verify", "one.xml", "none.xml"], 4_194_305, "long 1\n"),
-        (&["verify", "-", "one.xml"], 4_194_305, "long 2\n"),
-        (
-            &["verify", "-", "one.xml"],
-            4_194_304,
-            "text 9 Unfinished at 0\n",
-        ),
-    ];
-    for (words, size, text) in cases {
-        let words = words_from(alloc, words)?;
-        let mut files = MemoryFiles::new(alloc, &[])?;
-        files.add("one.xml", &padded(alloc, size)?)?;
-        files.add("-", b"")?;
-        let mut out = SureSink::new(alloc);
-        assert_eq!(rt;
-            run_untraced(alloc, &words, &mut files, &mut out),
-            1,
-            "{text}"
-        );
-        assert_eq!(rt; out.bytes(), text.as_bytes(), "{text}");
+fn takes_files_up_to_the_limit_and_none_past_it(rt: HostRuntime) -> Result<(), Fail> {
+    for (words, size, status, text) in &SIZES {
+        let file = padded(rt.alloc(), *size)?;
+        answer_to(rt.alloc(), words, &[("one.xml", &file), ("-", b"")])?.is(text, *status, text)?;
     }
     Ok(())
 }
 
-/// How often a run reads: the call after its last is the first that fails, and this test makes it.
+/// Whether a run is answered so, and the call of its files behind its last is the one with this number. That call is the
+/// first that fails.
+fn reads_no_more(alloc: Global, words: &[&str], next: u32, line: &str) -> Result<bool, Fail> {
+    let words = words_from(alloc, words)?;
+    let mut files = MemoryFiles::new(alloc, &[next])?;
+    files.add("one.xml", ONE.as_bytes())?;
+    files.add("sheet", ONE_SHEET.as_bytes())?;
+    files.add("long.xml", &padded(alloc, 4_194_305)?)?;
+    let mut out = SureSink::new(alloc);
+    let status = run_untraced(alloc, &words, &mut files, &mut out);
+    let is_next = files.append("one.xml", b"").is_err();
+    Ok(status == 1 && out.bytes() == line.as_bytes() && is_next)
+}
+
 #[test]
 fn reads_no_input_behind_a_long_one(rt: HostRuntime) -> Result<(), Fail> {
     let alloc = rt.alloc();
-    let long = padded(alloc, 4_194_305)?;
-    let cases: [(&[&str], u32, &str); 4] = [
-        (&["verify", "long.xml", "sheet"], 2, "long 1\n"),
-        (&["verify", "one.xml", "long.xml"], 3, "long 2\n"),
-        (&["check", "long.xml", "sheet", "log"], 2, "long 1\n"),
-        (&["check", "one.xml", "long.xml", "log"], 3, "long 2\n"),
-    ];
-    for (words, next, line) in cases {
-        let words = words_from(alloc, words)?;
-        let mut files = MemoryFiles::new(alloc, &[next])?;
-        files.add("one.xml", ONE.as_bytes())?;
-        files.add("sheet", ONE_SHEET.as_bytes())?;
-        files.add("long.xml", &long)?;
-        let mut out = SureSink::new(alloc);
-        assert_eq!(rt; run_untraced(alloc, &words, &mut files, &mut out), 1);
-        assert_eq!(rt; out.bytes(), line.as_bytes(), "{next}");
-        assert!(rt; files.append("one.xml", b"").is_err(), "{next}");
-    }
+    assert!(rt; reads_no_more(alloc, &["verify", "long.xml", "sheet"], 2, "long 1\n")?);
+    assert!(rt; reads_no_more(alloc, &["verify", "one.xml", "long.xml"], 3, "long 2\n")?);
+    assert!(rt; reads_no_more(alloc, &["check", "long.xml", "sheet", "log"], 2, "long 1\n")?);
+    assert!(rt;
+        reads_no_more(
+            alloc,
+            &["check", "one.xml", "long.xml", "log"],
+            3,
+            "long 2\n"
+        )?
+    );
     Ok(())
 }
 
 /// The loop's file, cut to each shorter length: of its bytes only the last, a line feed, may be missing.
 #[test]
 fn refuses_each_cut_file(rt: HostRuntime) -> Result<(), Fail> {
-    let alloc = rt.alloc();
-    let words = words_from(alloc, &["draw", "loop.xml"])?;
     let file = LOOP.as_bytes();
     for size in 0..file.len() {
-        let mut files = SureFiles::new(alloc);
-        files.add("loop.xml", &file[..size])?;
-        let mut out = SureSink::new(alloc);
-        let status = run_untraced(alloc, &words, &mut files, &mut out);
-        assert_eq!(rt;
-            status,
-            u8::from(size.saturating_add(1) < file.len()),
-            "{size}"
-        );
+        let answer = answer_to(
+            rt.alloc(),
+            &["draw", "loop.xml"],
+            &[("loop.xml", &file[..size])],
+        )?;
+        let due = u8::from(size.saturating_add(1) < file.len());
+        assert_eq!(rt; answer.status, due, "{size}");
     }
     Ok(())
 }

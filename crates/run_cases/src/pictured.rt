@@ -1,10 +1,9 @@
 // What `draw` leaves in the file that is named for a picture, and that the sheet and the log with it pass.
-use crate::cases::{run_untraced, words_from};
-use crate::small_stations::NAMED;
-use crate::stations::{LOOP, MUTUAL, ONE, SCISSORS, STATION};
-use outside_io::{MemoryFiles, SureSink};
+use crate::checked::checked;
+use crate::drawn::is_best;
 use std::alloc::Global;
 use std::test::Fail;
+use worked_files::{LOOP, MUTUAL, NAMED, ONE, SCISSORS, STATION, answer_to};
 
 const ONE_PICTURE: &str = "<svg xmlns=\"http://www.w3.org/2000/svg\" viewBox=\"0 0 80 40\">
 <polyline points=\"20,20 60,20\" fill=\"none\" stroke=\"black\"/>
@@ -42,11 +41,11 @@ const LOOP_PICTURE: &str = "<svg xmlns=\"http://www.w3.org/2000/svg\" viewBox=\"
 /// What stood in the file of a picture before a run.
 const OLDER: &str = "an older picture";
 
-/// A run of `draw` with `--svg s`: the file, the other options, how it ends, and the picture that is left; none where
+/// A run of `draw` that names the picture `s`: its file and words, how it ends, and the picture that is left; none where
 /// the file is left as it was.
 struct Run {
     file: &'static str,
-    options: &'static [&'static str],
+    words: &'static [&'static str],
     status: u8,
     picture: Option<&'static str>,
 }
@@ -54,101 +53,74 @@ struct Run {
 static RUNS: [Run; 8] = [
     Run {
         file: ONE,
-        options: &[],
+        words: &["draw", "one.xml", "--svg", "s"],
         status: 0,
         picture: Some(ONE_PICTURE),
     },
     Run {
         file: ONE,
-        options: &["--least", "2"],
+        words: &["draw", "one.xml", "--svg", "s", "--least", "2"],
         status: 0,
         picture: Some(LONG_ONE_PICTURE),
     },
     Run {
         file: ONE,
-        options: &["--log", "l"],
+        words: &["draw", "one.xml", "--svg", "s", "--log", "l"],
         status: 0,
         picture: Some(ONE_PICTURE),
     },
     Run {
         file: NAMED,
-        options: &[],
+        words: &["draw", "one.xml", "--svg", "s"],
         status: 0,
         picture: Some(NAMED_PICTURE),
     },
     Run {
         file: LOOP,
-        options: &[],
+        words: &["draw", "one.xml", "--svg", "s"],
         status: 0,
         picture: Some(LOOP_PICTURE),
     },
     Run {
         file: LOOP,
-        options: &["--width", "4"],
+        words: &["draw", "one.xml", "--svg", "s", "--width", "4"],
         status: 3,
         picture: None,
     },
     Run {
         file: LOOP,
-        options: &["--width", "4", "--log", "l"],
+        words: &[
+            "draw", "one.xml", "--svg", "s", "--width", "4", "--log", "l",
+        ],
         status: 3,
         picture: None,
     },
     Run {
         file: MUTUAL,
-        options: &[],
+        words: &["draw", "one.xml", "--svg", "s"],
         status: 1,
         picture: None,
     },
 ];
 
-/// The words of a run of `draw` on the file `station.xml` with `--svg s` and these options.
-fn words_with(alloc: Global, options: &[&'static str]) -> Result<Vec<String>, Fail> {
-    let mut words = words_from(alloc, &["draw", "station.xml", "--svg", "s"])?;
-    for option in options {
-        words.push(String::from_str(alloc, option)?)?;
+/// Fails where a run ends otherwise or leaves another picture, whether a file stood there before or not.
+fn is_left(alloc: Global, run: &Run) -> Result<(), Fail> {
+    let file = ("one.xml", run.file.as_bytes());
+    let fresh = answer_to(alloc, run.words, &[file])?;
+    if fresh.status != run.status || fresh.file("s")? != run.picture {
+        return Err(fresh.wrong("no file before"));
     }
-    Ok(words)
-}
-
-/// Whether the file stood there before or not.
-#[test]
-fn leaves_these_pictures(rt: HostRuntime) -> Result<(), Fail> {
-    let alloc = rt.alloc();
-    for run in &RUNS {
-        let words = words_with(alloc, run.options)?;
-        for older in [None, Some(OLDER)] {
-            let mut files = MemoryFiles::new(alloc, &[])?;
-            files.add("station.xml", run.file.as_bytes())?;
-            if let Some(text) = older {
-                files.add("s", text.as_bytes())?;
-            }
-            let mut out = SureSink::new(alloc);
-            let ended = run_untraced(alloc, &words, &mut files, &mut out);
-            assert_eq!(rt; ended, run.status, "{words:?}");
-            let left = match files.get("s") {
-                Some(bytes) => Some(std::str::from_utf8(bytes)?),
-                None => None,
-            };
-            assert_eq!(rt; left, run.picture.or(older), "{words:?}");
-        }
+    let over = answer_to(alloc, run.words, &[file, ("s", OLDER.as_bytes())])?;
+    if over.status != run.status || over.file("s")? != run.picture.or(Some(OLDER)) {
+        return Err(over.wrong("a file before"));
     }
     Ok(())
 }
 
-/// A search that gave up leaves a picture where it found a drawing, and else none.
 #[test]
-fn leaves_a_picture_of_an_unfinished_drawing(rt: HostRuntime) -> Result<(), Fail> {
-    let alloc = rt.alloc();
-    for budget in ["1", "5", "50"] {
-        let words = words_with(alloc, &["--conflicts", budget])?;
-        let mut files = MemoryFiles::new(alloc, &[])?;
-        files.add("station.xml", SCISSORS.as_bytes())?;
-        let mut out = SureSink::new(alloc);
-        let ended = run_untraced(alloc, &words, &mut files, &mut out);
-        assert_eq!(rt; ended, 4, "{budget}");
-        let is_drawn = std::str::from_utf8(out.bytes())?.contains("\nvalues ");
-        assert_eq!(rt; files.get("s").is_some(), is_drawn, "{budget}");
+fn leaves_these_pictures(rt: HostRuntime) -> Result<(), Fail> {
+    for run in &RUNS {
+        is_left(rt.alloc(), run)?;
     }
     Ok(())
 }
@@ -158,38 +130,62 @@ fn lines_with(text: &str, front: &str) -> usize {
     text.lines().filter(|line| line.starts_with(front)).count()
 }
 
+/// Whether a picture has a line for each edge of a sheet, and a name for each node.
+fn is_picture_of(picture: &str, sheet: &str) -> bool {
+    lines_with(picture, "<polyline ") == lines_with(sheet, "edge ")
+        && lines_with(picture, "<text ") == lines_with(sheet, "node ")
+}
+
+/// Whether a search that gives up behind so many learnt clauses leaves a log that has learnt as many and certifies as much
+/// as the sheet says, and a picture where it found a drawing, and else none.
+fn is_unfinished(alloc: Global, budget: &str, learnt: usize) -> Result<bool, Fail> {
+    let words = [
+        "draw",
+        "one.xml",
+        "--svg",
+        "s",
+        "--log",
+        "l",
+        "--conflicts",
+        budget,
+    ];
+    let answer = answer_to(alloc, &words, &[("one.xml", SCISSORS.as_bytes())])?;
+    let sheet = answer.text.as_str();
+    let log = answer.file("l")?.unwrap_or("");
+    let settled = match sheet.split_once("\nend conflicts ") {
+        Some((_, settled)) => settled,
+        None => "",
+    };
+    let line = format!(in alloc; "certified {settled}")?;
+    checked(alloc, SCISSORS, sheet, log)?.is(budget, 0, &line)?;
+    let is_shown = match answer.file("s")? {
+        Some(picture) => is_picture_of(picture, sheet),
+        None => !sheet.contains("\nvalues "),
+    };
+    Ok(answer.status == 4 && lines_with(log, "l ") == learnt && is_shown)
+}
+
+#[test]
+fn leaves_what_an_unfinished_search_found(rt: HostRuntime) -> Result<(), Fail> {
+    let alloc = rt.alloc();
+    assert!(rt; is_unfinished(alloc, "1", 1)?);
+    assert!(rt; is_unfinished(alloc, "5", 5)?);
+    assert!(rt; is_unfinished(alloc, "50", 50)?);
+    Ok(())
+}
+
 /// The station of two tracks with a crossover and a loop, with its log and its picture.
 #[test]
 fn draws_logs_and_pictures_the_worked_station(rt: HostRuntime) -> Result<(), Fail> {
     let alloc = rt.alloc();
-    let mut files = MemoryFiles::new(alloc, &[])?;
-    files.add("station.xml", STATION.as_bytes())?;
-
-    let words = words_with(alloc, &["--log", "l"])?;
-    let mut sheet = SureSink::new(alloc);
-    assert_eq!(rt; run_untraced(alloc, &words, &mut files, &mut sheet), 0);
-    let text = std::str::from_utf8(sheet.bytes())?;
-    assert!(rt; text.ends_with("\nvalues 2 2 3 7\nend best\n"));
-    let picture = std::str::from_utf8(files.get("s").ok_or("the picture stands in its file")?)?;
+    let words = ["draw", "one.xml", "--svg", "s", "--log", "l"];
+    let answer = answer_to(alloc, &words, &[("one.xml", STATION.as_bytes())])?;
+    let picture = answer.file("s")?.unwrap_or("");
     assert!(rt;
         picture.starts_with("<svg xmlns=\"http://www.w3.org/2000/svg\" viewBox=\"0 0 320 120\">\n")
     );
-    assert_eq!(rt;
-        lines_with(picture, "<polyline "),
-        lines_with(text, "edge ")
-    );
-    assert_eq!(rt; lines_with(picture, "<text "), lines_with(text, "node "));
-    files.add("sheet", sheet.bytes())?;
-
-    let cases: [(&[&str], &str); 2] = [
-        (&["verify", "station.xml", "sheet"], "lawful 2 2 3 7\n"),
-        (&["check", "station.xml", "sheet", "l"], "certified 4\n"),
-    ];
-    for (words, line) in cases {
-        let words = words_from(alloc, words)?;
-        let mut out = SureSink::new(alloc);
-        assert_eq!(rt; run_untraced(alloc, &words, &mut files, &mut out), 0);
-        assert_eq!(rt; std::str::from_utf8(out.bytes())?, line);
-    }
-    Ok(())
+    assert!(rt; is_picture_of(picture, &answer.text));
+    assert!(rt; is_best(alloc, STATION, &answer.text, "2 2 3 7")?);
+    let log = answer.file("l")?.unwrap_or("");
+    checked(alloc, STATION, &answer.text, log)?.is("the log", 0, "certified 4\n")
 }

@@ -1,8 +1,7 @@
 // Points that make no line, and values that are not those of the drawing.
-use crate::cases::{Edited, answer, sheet_of, wrong_edits};
-use crate::pictures::{LOOP_PICTURE, TWO_PICTURE};
-use crate::stations::{LOOP, TWO};
+use crate::cases::{Edited, edits_of_picture_are_answered, verified};
 use std::test::Fail;
+use worked_files::{LOOP, LOOP_PICTURE, TWO, TWO_PICTURE, edited, sheet_of};
 
 static BAD_PIECES: [Edited; 12] = [
     (
@@ -75,10 +74,7 @@ static BAD_PIECES: [Edited; 12] = [
 
 #[test]
 fn points_of_a_line_make_pieces(rt: HostRuntime) -> Result<(), Fail> {
-    let alloc = rt.alloc();
-    let sheet = sheet_of(alloc, LOOP_PICTURE)?;
-    assert_eq!(rt; wrong_edits(alloc, LOOP, &sheet, &BAD_PIECES)?.as_str(), "");
-    Ok(())
+    edits_of_picture_are_answered(rt.alloc(), LOOP, LOOP_PICTURE, &BAD_PIECES)
 }
 
 /// The points of lines of two and three pieces whose slopes are no shape: all lists of slopes but those of
@@ -118,18 +114,9 @@ static NO_SHAPES: [&str; 28] = [
 fn no_other_slopes_make_a_shape(rt: HostRuntime) -> Result<(), Fail> {
     let alloc = rt.alloc();
     let sheet = sheet_of(alloc, LOOP_PICTURE)?;
-    let (front, back) = sheet
-        .split_once("1 0 2 1 3 1 4 0")
-        .ok_or("the points of the loop stand in the sheet")?;
     for points in NO_SHAPES {
-        let sheet = format!(in alloc; "{front}{points}{back}")?;
-        let (status, text) = answer(alloc, LOOP, sheet.as_bytes())?;
-        assert_eq!(rt; status, 1, "{points}");
-        assert_eq!(rt;
-            std::str::from_utf8(&text)?,
-            "sheet 4 Shape line 13\n",
-            "{points}"
-        );
+        let sheet = edited(alloc, &sheet, &[("1 0 2 1 3 1 4 0", points)])?;
+        verified(alloc, LOOP, sheet.as_bytes())?.is(points, 1, "sheet 4 Shape line 13\n")?;
     }
     Ok(())
 }
@@ -214,13 +201,7 @@ static OTHER_VALUES: [Edited; 12] = [
 
 #[test]
 fn values_are_the_drawings(rt: HostRuntime) -> Result<(), Fail> {
-    let alloc = rt.alloc();
-    let sheet = sheet_of(alloc, LOOP_PICTURE)?;
-    assert_eq!(rt;
-        wrong_edits(alloc, LOOP, &sheet, &OTHER_VALUES)?.as_str(),
-        ""
-    );
-    Ok(())
+    edits_of_picture_are_answered(rt.alloc(), LOOP, LOOP_PICTURE, &OTHER_VALUES)
 }
 
 static LARGE_VALUES: [Edited; 5] = [
@@ -271,11 +252,5 @@ static LARGE_VALUES: [Edited; 5] = [
 
 #[test]
 fn values_of_drawings_past_any_grid(rt: HostRuntime) -> Result<(), Fail> {
-    let alloc = rt.alloc();
-    let sheet = sheet_of(alloc, TWO_PICTURE)?;
-    assert_eq!(rt;
-        wrong_edits(alloc, TWO, &sheet, &LARGE_VALUES)?.as_str(),
-        ""
-    );
-    Ok(())
+    edits_of_picture_are_answered(rt.alloc(), TWO, TWO_PICTURE, &LARGE_VALUES)
 }

@@ -1,9 +1,6 @@
 // The station of `examples/`, as README shows it.
-use crate::cases::{Case, answer, run_untraced, words_from, wrong_answers};
-use outside_io::{SureFiles, SureSink};
-use std::test::Fail;
 
-const FILE: &str = "<?xml version=\"1.0\" encoding=\"UTF-8\"?>
+pub const EXAMPLE: &str = "<?xml version=\"1.0\" encoding=\"UTF-8\"?>
 <!-- two tracks of a line, a crossover from the first to the second, and a loop beside the second -->
 <railml xmlns=\"http://www.railml.org/schemas/2013\" version=\"2.2\">
 <infrastructure id=\"station\"><tracks>
@@ -32,7 +29,7 @@ const FILE: &str = "<?xml version=\"1.0\" encoding=\"UTF-8\"?>
 </tracks></infrastructure></railml>
 ";
 
-const GRAPH: &str = "railgraph 1
+pub const EXAMPLE_GRAPH: &str = "railgraph 1
 nodes 8
 node 0 A1 end 12000.000000
 node 1 B1 end 13250.000000
@@ -61,7 +58,8 @@ above 6 4
 above 7 1
 ";
 
-const PICTURE: &str = "nodes 8
+/// The drawing as it is on paper.
+pub const EXAMPLE_PICTURE: &str = "nodes 8
 node 0 A1 0 0
 node 1 B1 7 0
 node 2 W1 1 0
@@ -82,19 +80,8 @@ edge 7 2 5 1 0 2 1
 values 2 2 3 7
 ";
 
-#[test]
-fn prints_the_graph_of_the_example(rt: HostRuntime) -> Result<(), Fail> {
-    let alloc = rt.alloc();
-    let words = words_from(alloc, &["graph", "station.xml"])?;
-    let mut files = SureFiles::new(alloc);
-    files.add("station.xml", FILE.as_bytes())?;
-    let mut out = SureSink::new(alloc);
-    assert_eq!(rt; run_untraced(alloc, &words, &mut files, &mut out), 0);
-    assert_eq!(rt; out.bytes(), GRAPH.as_bytes());
-    Ok(())
-}
-
-const SHEET: &str = "railplan 2
+/// As `draw` wrote it and it stands in `examples/station.sheet`, with the mileage of each node and the track of each edge.
+pub const EXAMPLE_SHEET: &str = "railplan 2
 grid 40 8 1
 order height bends diagonal width
 nodes 8
@@ -118,40 +105,3 @@ edge 7 track4 2 5 1 0 2 1
 values 2 2 3 7
 end best
 ";
-
-static VERDICTS: [Case; 2] = [
-    Case {
-        shows: "The drawing as it is on paper.",
-        file: FILE,
-        picture: PICTURE,
-        edits: &[],
-        line: "lawful 2 2 3 7",
-    },
-    Case {
-        shows: "The loop below its track.",
-        file: FILE,
-        picture: PICTURE,
-        edits: &[
-            ("edge 6 6 7 3 1 4 2 5 2 6 1", "edge 6 6 7 3 1 4 0 5 0 6 1"),
-            ("values 2 2 3 7", "values 1 2 3 7"),
-        ],
-        line: "broken law 4 node 6",
-    },
-];
-
-#[test]
-fn verifies_the_sheet_of_the_example(rt: HostRuntime) -> Result<(), Fail> {
-    let alloc = rt.alloc();
-    assert_eq!(rt; wrong_answers(alloc, &VERDICTS)?.as_str(), "");
-    Ok(())
-}
-
-/// As `draw` wrote it and it stands in `examples/station.sheet`, with the mileage of each node and the track of each edge.
-#[test]
-fn verifies_the_sheet_that_is_shown(rt: HostRuntime) -> Result<(), Fail> {
-    let alloc = rt.alloc();
-    let (status, text) = answer(alloc, FILE, SHEET.as_bytes())?;
-    assert_eq!(rt; status, 0);
-    assert_eq!(rt; std::str::from_utf8(&text)?, "lawful 2 2 3 7\n");
-    Ok(())
-}

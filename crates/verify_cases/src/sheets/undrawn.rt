@@ -1,9 +1,9 @@
 // Sheets without a drawing, which are read where none is asked for.
-use crate::stations::LOOP;
 use plan_text::{Ending, SheetFault, SheetWhat, read_sheet};
 use schematic_main::station_in;
 use std::alloc::Global;
 use std::test::Fail;
+use worked_files::LOOP;
 
 /// The first lines of a sheet, and then these.
 fn sheet_with(alloc: Global, lines: &str) -> Result<String, Fail> {
@@ -17,21 +17,28 @@ static ENDINGS: [(&str, Ending); 3] = [
     ("end room 0\n", Ending::Room(0)),
 ];
 
-#[test]
-fn a_sheet_without_a_drawing_is_read(rt: HostRuntime) -> Result<(), Fail> {
-    let alloc = rt.alloc();
+/// Whether a sheet of these last lines is read with this ending, and has no drawing.
+fn is_read(alloc: Global, lines: &str, ending: &Ending) -> Result<bool, Fail> {
     let station = station_in(alloc, LOOP.as_bytes())
         .ok()
         .ok_or("the loop is a station")?;
+    let text = sheet_with(alloc, lines)?;
+    let sheet = read_sheet(alloc, &station.graph, text.as_bytes())
+        .ok()
+        .ok_or("the sheet has no fault")?;
+    let grid = (sheet.grid.width(), sheet.grid.height(), sheet.grid.least());
+    Ok(
+        sheet.found.is_none()
+            && sheet.ending == *ending
+            && grid == (40, 8, 1)
+            && sheet.order.len() == 2,
+    )
+}
+
+#[test]
+fn a_sheet_without_a_drawing_is_read(rt: HostRuntime) -> Result<(), Fail> {
     for (lines, ending) in &ENDINGS {
-        let text = sheet_with(alloc, lines)?;
-        let sheet = read_sheet(alloc, &station.graph, text.as_bytes())
-            .ok()
-            .ok_or("the sheet has no fault")?;
-        assert!(rt; sheet.found.is_none());
-        assert_eq!(rt; sheet.ending, *ending);
-        assert_eq!(rt; sheet.grid.width(), 40);
-        assert_eq!(rt; sheet.order.len(), 2);
+        assert!(rt; is_read(rt.alloc(), lines, ending)?, "{lines}");
     }
     Ok(())
 }
@@ -49,21 +56,22 @@ static FAULTS: [(&str, SheetWhat, u32); 10] = [
     ("end conflicts 0\nnodes 4\n", SheetWhat::Form, 5),
 ];
 
-#[test]
-fn its_faults_are_those_of_its_last_line_or_behind_it(rt: HostRuntime) -> Result<(), Fail> {
-    let alloc = rt.alloc();
+/// Whether a sheet of these last lines has this fault in this line.
+fn has_fault(alloc: Global, lines: &str, kind: SheetWhat, number: u32) -> Result<bool, Fail> {
     let station = station_in(alloc, LOOP.as_bytes())
         .ok()
         .ok_or("the loop is a station")?;
+    let text = sheet_with(alloc, lines)?;
+    match read_sheet(alloc, &station.graph, text.as_bytes()) {
+        Err(SheetFault::Sheet { what, line }) => Ok(what == kind && line == number),
+        _ => Ok(false),
+    }
+}
+
+#[test]
+fn its_faults_are_those_of_its_last_line_or_behind_it(rt: HostRuntime) -> Result<(), Fail> {
     for (lines, kind, number) in &FAULTS {
-        let text = sheet_with(alloc, lines)?;
-        match read_sheet(alloc, &station.graph, text.as_bytes()) {
-            Err(SheetFault::Sheet { what, line }) => {
-                assert_eq!(rt; what, *kind);
-                assert_eq!(rt; line, *number);
-            }
-            _ => return Err("the sheet has a fault".into()),
-        }
+        assert!(rt; has_fault(rt.alloc(), lines, *kind, *number)?, "{lines}");
     }
     Ok(())
 }

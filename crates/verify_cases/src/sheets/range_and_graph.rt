@@ -1,9 +1,9 @@
 // Numbers and words of a sheet that are out of range, or not of the station.
-use crate::cases::{Case, Edited, sheet_of, wrong_answers, wrong_edits};
-use crate::pictures::{BACK_PICTURE, CROSS_PICTURE, LOOP_PICTURE, NAMED_PICTURE, TWO_PICTURE};
-use crate::small_stations::NAMED;
-use crate::stations::LOOP;
+use crate::cases::{Case, Edited, cases_are_answered, edits_of_picture_are_answered};
 use std::test::Fail;
+use worked_files::{
+    BACK_PICTURE, CROSS_PICTURE, LOOP, LOOP_PICTURE, NAMED, NAMED_PICTURE, TWO_PICTURE,
+};
 
 static OUT_OF_RANGE: [Edited; 12] = [
     (
@@ -85,13 +85,7 @@ static OUT_OF_RANGE: [Edited; 12] = [
 
 #[test]
 fn ranges_of_grids_orders_and_endings(rt: HostRuntime) -> Result<(), Fail> {
-    let alloc = rt.alloc();
-    let sheet = sheet_of(alloc, LOOP_PICTURE)?;
-    assert_eq!(rt;
-        wrong_edits(alloc, LOOP, &sheet, &OUT_OF_RANGE)?.as_str(),
-        ""
-    );
-    Ok(())
+    edits_of_picture_are_answered(rt.alloc(), LOOP, LOOP_PICTURE, &OUT_OF_RANGE)
 }
 
 static NODES_OF_OTHER_GRAPHS: [Edited; 11] = [
@@ -166,18 +160,8 @@ static NAMES_OF_OTHER_GRAPHS: [Edited; 1] = [(
 
 #[test]
 fn nodes_are_the_graphs(rt: HostRuntime) -> Result<(), Fail> {
-    let alloc = rt.alloc();
-    let sheet = sheet_of(alloc, LOOP_PICTURE)?;
-    assert_eq!(rt;
-        wrong_edits(alloc, LOOP, &sheet, &NODES_OF_OTHER_GRAPHS)?.as_str(),
-        ""
-    );
-    let sheet = sheet_of(alloc, NAMED_PICTURE)?;
-    assert_eq!(rt;
-        wrong_edits(alloc, NAMED, &sheet, &NAMES_OF_OTHER_GRAPHS)?.as_str(),
-        ""
-    );
-    Ok(())
+    edits_of_picture_are_answered(rt.alloc(), LOOP, LOOP_PICTURE, &NODES_OF_OTHER_GRAPHS)?;
+    edits_of_picture_are_answered(rt.alloc(), NAMED, NAMED_PICTURE, &NAMES_OF_OTHER_GRAPHS)
 }
 
 static EDGES_OF_OTHER_GRAPHS: [Edited; 9] = [
@@ -261,12 +245,6 @@ static OF_OTHER_STATIONS: [Case; 3] = [
 
 #[test]
 fn edges_are_the_graphs(rt: HostRuntime) -> Result<(), Fail> {
-    let alloc = rt.alloc();
-    let sheet = sheet_of(alloc, LOOP_PICTURE)?;
-    assert_eq!(rt;
-        wrong_edits(alloc, LOOP, &sheet, &EDGES_OF_OTHER_GRAPHS)?.as_str(),
-        ""
-    );
-    assert_eq!(rt; wrong_answers(alloc, &OF_OTHER_STATIONS)?.as_str(), "");
-    Ok(())
+    edits_of_picture_are_answered(rt.alloc(), LOOP, LOOP_PICTURE, &EDGES_OF_OTHER_GRAPHS)?;
+    cases_are_answered(rt.alloc(), &OF_OTHER_STATIONS)
 }

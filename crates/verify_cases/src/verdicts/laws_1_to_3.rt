@@ -1,9 +1,7 @@
 // Drawings that break the laws of the grid, of mileages and of ends.
-use crate::cases::{Case, wrong_answers};
-use crate::pictures::LOOP_PICTURE;
-use crate::small_stations::{APART, COUNTER, JOINED};
-use crate::stations::{BACK, CROSS, LOOP, ONE, TWO};
+use crate::cases::{Case, cases_are_answered};
 use std::test::Fail;
+use worked_files::{APART, BACK, COUNTER, CROSS, JOINED, LOOP, LOOP_PICTURE, ONE, TWO};
 
 static OFF_THE_GRID: [Case; 9] = [
     Case {
@@ -125,9 +123,7 @@ values 0 0 0 65535
 
 #[test]
 fn law_1_wants_all_points_on_the_grid(rt: HostRuntime) -> Result<(), Fail> {
-    let alloc = rt.alloc();
-    assert_eq!(rt; wrong_answers(alloc, &OFF_THE_GRID)?.as_str(), "");
-    Ok(())
+    cases_are_answered(rt.alloc(), &OFF_THE_GRID)
 }
 
 static OUT_OF_ORDER: [Case; 7] = [
@@ -259,9 +255,7 @@ values 2 1 1 5
 
 #[test]
 fn law_2_wants_nodes_in_the_order_of_their_mileages(rt: HostRuntime) -> Result<(), Fail> {
-    let alloc = rt.alloc();
-    assert_eq!(rt; wrong_answers(alloc, &OUT_OF_ORDER)?.as_str(), "");
-    Ok(())
+    cases_are_answered(rt.alloc(), &OUT_OF_ORDER)
 }
 
 static NOT_JOINED: [Case; 9] = [
@@ -412,7 +406,5 @@ values 2 0 2 2
 
 #[test]
 fn law_3_wants_lines_to_join_their_nodes(rt: HostRuntime) -> Result<(), Fail> {
-    let alloc = rt.alloc();
-    assert_eq!(rt; wrong_answers(alloc, &NOT_JOINED)?.as_str(), "");
-    Ok(())
+    cases_are_answered(rt.alloc(), &NOT_JOINED)
 }

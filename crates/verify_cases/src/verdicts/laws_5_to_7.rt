@@ -1,8 +1,9 @@
 // Drawings that break the laws of places and of what lies over what.
-use crate::cases::{Case, wrong_answers};
-use crate::small_stations::{APART, BESIDE, COUNTER, FORKED, JOINED, JOINTS, SWAPPED, TURNED};
-use crate::stations::{CROSS, STATION, TWO};
+use crate::cases::{Case, cases_are_answered};
 use std::test::Fail;
+use worked_files::{
+    APART, BESIDE, COUNTER, CROSS, FORKED, JOINED, JOINTS, STATION, SWAPPED, TURNED, TWO,
+};
 
 static IN_ONE_POINT: [Case; 6] = [
     Case {
@@ -131,9 +132,7 @@ values 1 0 0 4
 
 #[test]
 fn law_5_wants_nodes_apart(rt: HostRuntime) -> Result<(), Fail> {
-    let alloc = rt.alloc();
-    assert_eq!(rt; wrong_answers(alloc, &IN_ONE_POINT)?.as_str(), "");
-    Ok(())
+    cases_are_answered(rt.alloc(), &IN_ONE_POINT)
 }
 
 static NOT_ABOVE: [Case; 8] = [
@@ -327,9 +326,7 @@ values 3 4 8 12
 
 #[test]
 fn law_6_wants_edges_in_the_order_of_the_tracks(rt: HostRuntime) -> Result<(), Fail> {
-    let alloc = rt.alloc();
-    assert_eq!(rt; wrong_answers(alloc, &NOT_ABOVE)?.as_str(), "");
-    Ok(())
+    cases_are_answered(rt.alloc(), &NOT_ABOVE)
 }
 
 static NOT_PARTED: [Case; 6] = [
@@ -463,7 +460,5 @@ values 2 0 0 5
 
 #[test]
 fn law_7_wants_other_edges_one_above_the_other(rt: HostRuntime) -> Result<(), Fail> {
-    let alloc = rt.alloc();
-    assert_eq!(rt; wrong_answers(alloc, &NOT_PARTED)?.as_str(), "");
-    Ok(())
+    cases_are_answered(rt.alloc(), &NOT_PARTED)
 }

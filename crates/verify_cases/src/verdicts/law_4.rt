@@ -1,9 +1,9 @@
 // Drawings that break the law of slopes.
-use crate::cases::{Case, wrong_answers};
-use crate::pictures::LOOP_PICTURE;
-use crate::small_stations::{COUNTER, JOINED, JOINTS, SWAPPED};
-use crate::stations::{BACK, CROSS, LOOP, ONE, SCISSORS, TWO};
+use crate::cases::{Case, cases_are_answered};
 use std::test::Fail;
+use worked_files::{
+    BACK, COUNTER, CROSS, JOINED, JOINTS, LOOP, LOOP_PICTURE, ONE, SCISSORS, SWAPPED, TWO,
+};
 
 static BENT_AT_ENDS_AND_JOINTS: [Case; 9] = [
     Case {
@@ -172,12 +172,7 @@ values 1 1 1 2
 
 #[test]
 fn law_4_wants_ends_level_and_joints_unbent(rt: HostRuntime) -> Result<(), Fail> {
-    let alloc = rt.alloc();
-    assert_eq!(rt;
-        wrong_answers(alloc, &BENT_AT_ENDS_AND_JOINTS)?.as_str(),
-        ""
-    );
-    Ok(())
+    cases_are_answered(rt.alloc(), &BENT_AT_ENDS_AND_JOINTS)
 }
 
 static BENT_AT_SWITCHES: [Case; 11] = [
@@ -387,9 +382,7 @@ values 2 2 2 5
 
 #[test]
 fn law_4_wants_switches_to_turn_off_by_one_slope(rt: HostRuntime) -> Result<(), Fail> {
-    let alloc = rt.alloc();
-    assert_eq!(rt; wrong_answers(alloc, &BENT_AT_SWITCHES)?.as_str(), "");
-    Ok(())
+    cases_are_answered(rt.alloc(), &BENT_AT_SWITCHES)
 }
 
 static BENT_AT_CROSSINGS: [Case; 6] = [
@@ -571,7 +564,5 @@ values 3 4 6 7
 
 #[test]
 fn law_4_wants_the_paths_of_a_crossing_unbent(rt: HostRuntime) -> Result<(), Fail> {
-    let alloc = rt.alloc();
-    assert_eq!(rt; wrong_answers(alloc, &BENT_AT_CROSSINGS)?.as_str(), "");
-    Ok(())
+    cases_are_answered(rt.alloc(), &BENT_AT_CROSSINGS)
 }

@@ -1,25 +1,7 @@
 // Sheets of text 2: the least length, the mileage of each node and the track of each edge.
-use crate::cases::{Edited, wrong_edits, wrong_texts};
-use crate::stations::LOOP;
+use crate::cases::{Edited, edits_are_answered, texts_are_answered};
 use std::test::Fail;
-
-/// The best drawing of the loop.
-const LOOP_SHEET: &str = "railplan 2
-grid 40 8 1
-order height bends diagonal width
-nodes 4
-node 0 mb 0 0 0.000000
-node 1 me 5 0 600.000000
-node 2 s1 1 0 100.000000
-node 3 s2 4 0 500.000000
-edges 4
-edge 0 m 0 2 0 0 1 0
-edge 1 m 2 3 1 0 4 0
-edge 2 m 3 1 4 0 5 0
-edge 3 l 2 3 1 0 2 1 3 1 4 0
-values 1 2 2 5
-end best
-";
+use worked_files::{LOOP, LOOP_SHEET};
 
 static LEAST_LENGTHS: [Edited; 7] = [
     ("The least length of every line.", &[], "lawful 1 2 2 5"),
@@ -57,12 +39,7 @@ static LEAST_LENGTHS: [Edited; 7] = [
 
 #[test]
 fn text_2_has_a_least_length(rt: HostRuntime) -> Result<(), Fail> {
-    let alloc = rt.alloc();
-    assert_eq!(rt;
-        wrong_edits(alloc, LOOP, LOOP_SHEET, &LEAST_LENGTHS)?.as_str(),
-        ""
-    );
-    Ok(())
+    edits_are_answered(rt.alloc(), LOOP, LOOP_SHEET, &LEAST_LENGTHS)
 }
 
 static MILEAGES_AND_TRACKS: [Edited; 9] = [
@@ -115,12 +92,7 @@ static MILEAGES_AND_TRACKS: [Edited; 9] = [
 
 #[test]
 fn text_2_has_mileages_and_tracks(rt: HostRuntime) -> Result<(), Fail> {
-    let alloc = rt.alloc();
-    assert_eq!(rt;
-        wrong_edits(alloc, LOOP, LOOP_SHEET, &MILEAGES_AND_TRACKS)?.as_str(),
-        ""
-    );
-    Ok(())
+    edits_are_answered(rt.alloc(), LOOP, LOOP_SHEET, &MILEAGES_AND_TRACKS)
 }
 
 static UNDRAWN: [(&str, &str, &str); 1] = [(
@@ -131,6 +103,5 @@ static UNDRAWN: [(&str, &str, &str); 1] = [(
 
 #[test]
 fn text_2_without_a_drawing_has_no_form(rt: HostRuntime) -> Result<(), Fail> {
-    assert_eq!(rt; wrong_texts(rt.alloc(), LOOP, &UNDRAWN)?.as_str(), "");
-    Ok(())
+    texts_are_answered(rt.alloc(), LOOP, &UNDRAWN)
 }

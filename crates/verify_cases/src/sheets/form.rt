@@ -1,8 +1,7 @@
 // Lines of a sheet that are not of the form that is due.
-use crate::cases::{Edited, sheet_of, wrong_edits, wrong_texts};
-use crate::pictures::LOOP_PICTURE;
-use crate::stations::LOOP;
+use crate::cases::{Edited, edits_of_picture_are_answered, texts_are_answered};
 use std::test::Fail;
+use worked_files::{LOOP, LOOP_PICTURE};
 
 static BAD_FIRST_LINES: [Edited; 8] = [
     (
@@ -64,14 +63,8 @@ static OTHER_FIRST_LINES: [(&str, &str, &str); 4] = [
 
 #[test]
 fn form_of_the_first_line(rt: HostRuntime) -> Result<(), Fail> {
-    let alloc = rt.alloc();
-    let sheet = sheet_of(alloc, LOOP_PICTURE)?;
-    assert_eq!(rt;
-        wrong_edits(alloc, LOOP, &sheet, &BAD_FIRST_LINES)?.as_str(),
-        ""
-    );
-    assert_eq!(rt; wrong_texts(alloc, LOOP, &OTHER_FIRST_LINES)?.as_str(), "");
-    Ok(())
+    edits_of_picture_are_answered(rt.alloc(), LOOP, LOOP_PICTURE, &BAD_FIRST_LINES)?;
+    texts_are_answered(rt.alloc(), LOOP, &OTHER_FIRST_LINES)
 }
 
 static BAD_GRIDS_AND_ORDERS: [Edited; 12] = [
@@ -145,13 +138,7 @@ static BAD_GRIDS_AND_ORDERS: [Edited; 12] = [
 
 #[test]
 fn form_of_the_grid_and_the_order(rt: HostRuntime) -> Result<(), Fail> {
-    let alloc = rt.alloc();
-    let sheet = sheet_of(alloc, LOOP_PICTURE)?;
-    assert_eq!(rt;
-        wrong_edits(alloc, LOOP, &sheet, &BAD_GRIDS_AND_ORDERS)?.as_str(),
-        ""
-    );
-    Ok(())
+    edits_of_picture_are_answered(rt.alloc(), LOOP, LOOP_PICTURE, &BAD_GRIDS_AND_ORDERS)
 }
 
 static BEFORE_A_DRAWING: [Edited; 1] = [(
@@ -220,18 +207,8 @@ static WITHOUT_A_DRAWING: [Edited; 11] = [
 
 #[test]
 fn a_sheet_without_a_drawing_has_no_form(rt: HostRuntime) -> Result<(), Fail> {
-    let alloc = rt.alloc();
-    let sheet = sheet_of(alloc, LOOP_PICTURE)?;
-    assert_eq!(rt;
-        wrong_edits(alloc, LOOP, &sheet, &BEFORE_A_DRAWING)?.as_str(),
-        ""
-    );
-    let sheet = sheet_of(alloc, "")?;
-    assert_eq!(rt;
-        wrong_edits(alloc, LOOP, &sheet, &WITHOUT_A_DRAWING)?.as_str(),
-        ""
-    );
-    Ok(())
+    edits_of_picture_are_answered(rt.alloc(), LOOP, LOOP_PICTURE, &BEFORE_A_DRAWING)?;
+    edits_of_picture_are_answered(rt.alloc(), LOOP, "", &WITHOUT_A_DRAWING)
 }
 
 static BAD_NODES: [Edited; 13] = [
@@ -304,10 +281,7 @@ static BAD_NODES: [Edited; 13] = [
 
 #[test]
 fn form_of_the_nodes(rt: HostRuntime) -> Result<(), Fail> {
-    let alloc = rt.alloc();
-    let sheet = sheet_of(alloc, LOOP_PICTURE)?;
-    assert_eq!(rt; wrong_edits(alloc, LOOP, &sheet, &BAD_NODES)?.as_str(), "");
-    Ok(())
+    edits_of_picture_are_answered(rt.alloc(), LOOP, LOOP_PICTURE, &BAD_NODES)
 }
 
 /// A sheet that ends behind its nodes.
@@ -398,11 +372,8 @@ static BAD_EDGES: [Edited; 13] = [
 
 #[test]
 fn form_of_the_edges(rt: HostRuntime) -> Result<(), Fail> {
-    let alloc = rt.alloc();
-    let sheet = sheet_of(alloc, LOOP_PICTURE)?;
-    assert_eq!(rt; wrong_edits(alloc, LOOP, &sheet, &BAD_EDGES)?.as_str(), "");
-    assert_eq!(rt; wrong_texts(alloc, LOOP, &NO_EDGES)?.as_str(), "");
-    Ok(())
+    edits_of_picture_are_answered(rt.alloc(), LOOP, LOOP_PICTURE, &BAD_EDGES)?;
+    texts_are_answered(rt.alloc(), LOOP, &NO_EDGES)
 }
 
 static BAD_VALUES_AND_ENDINGS: [Edited; 12] = [
@@ -466,13 +437,7 @@ static BAD_VALUES_AND_ENDINGS: [Edited; 12] = [
 
 #[test]
 fn form_of_the_values_and_the_ending(rt: HostRuntime) -> Result<(), Fail> {
-    let alloc = rt.alloc();
-    let sheet = sheet_of(alloc, LOOP_PICTURE)?;
-    assert_eq!(rt;
-        wrong_edits(alloc, LOOP, &sheet, &BAD_VALUES_AND_ENDINGS)?.as_str(),
-        ""
-    );
-    Ok(())
+    edits_of_picture_are_answered(rt.alloc(), LOOP, LOOP_PICTURE, &BAD_VALUES_AND_ENDINGS)
 }
 
 static BEHIND_THE_ENDING: [Edited; 6] = [
@@ -510,11 +475,5 @@ static BEHIND_THE_ENDING: [Edited; 6] = [
 
 #[test]
 fn nothing_stands_behind_the_ending(rt: HostRuntime) -> Result<(), Fail> {
-    let alloc = rt.alloc();
-    let sheet = sheet_of(alloc, LOOP_PICTURE)?;
-    assert_eq!(rt;
-        wrong_edits(alloc, LOOP, &sheet, &BEHIND_THE_ENDING)?.as_str(),
-        ""
-    );
-    Ok(())
+    edits_of_picture_are_answered(rt.alloc(), LOOP, LOOP_PICTURE, &BEHIND_THE_ENDING)
 }

@@ -1,13 +1,11 @@
 // Drawings that keep the laws.
-use crate::cases::{Case, wrong_answers};
-use crate::pictures::{
-    BACK_PICTURE, CROSS_PICTURE, LOOP_PICTURE, NAMED_PICTURE, ONE_PICTURE, TWO_PICTURE,
-};
-use crate::small_stations::{
-    APART, BESIDE, COUNTER, FORKED, JOINED, JOINTS, NAMED, SWAPPED, TURNED,
-};
-use crate::stations::{BACK, CROSS, LOOP, ONE, SCISSORS, STATION, TWO};
+use crate::cases::{Case, cases_are_answered};
 use std::test::Fail;
+use worked_files::{
+    APART, BACK, BACK_PICTURE, BESIDE, COUNTER, CROSS, CROSS_PICTURE, FORKED, JOINED, JOINTS, LOOP,
+    LOOP_PICTURE, NAMED, NAMED_PICTURE, ONE, ONE_PICTURE, SCISSORS, STATION, SWAPPED, TURNED, TWO,
+    TWO_PICTURE,
+};
 
 static LAWFUL_ON_SMALL_STATIONS: [Case; 13] = [
     Case {
@@ -147,12 +145,7 @@ values 8 0 0 40
 
 #[test]
 fn drawings_of_small_stations_are_lawful(rt: HostRuntime) -> Result<(), Fail> {
-    let alloc = rt.alloc();
-    assert_eq!(rt;
-        wrong_answers(alloc, &LAWFUL_ON_SMALL_STATIONS)?.as_str(),
-        ""
-    );
-    Ok(())
+    cases_are_answered(rt.alloc(), &LAWFUL_ON_SMALL_STATIONS)
 }
 
 static LAWFUL_ON_LARGER_STATIONS: [Case; 13] = [
@@ -441,10 +434,5 @@ values 3 4 4 5
 
 #[test]
 fn drawings_of_larger_stations_are_lawful(rt: HostRuntime) -> Result<(), Fail> {
-    let alloc = rt.alloc();
-    assert_eq!(rt;
-        wrong_answers(alloc, &LAWFUL_ON_LARGER_STATIONS)?.as_str(),
-        ""
-    );
-    Ok(())
+    cases_are_answered(rt.alloc(), &LAWFUL_ON_LARGER_STATIONS)
 }
