@@ -1,5 +1,5 @@
 // The solver as one value.
-ghost use Rattle.std.specs.Prelude.{◌≡◌, ◌≤◌, ◌<◌, ◌+◌, ◌↔◌, ◌∷◌, ◌++◌, [], true, false, All, length, IfOk, OnOk, OnErr, IsErrOf, MatchOption};
+ghost use Rattle.std.specs.Prelude.{◌≡◌, ◌≤◌, ◌<◌, ◌+◌, ◌↔◌, ◌∷◌, ◌++◌, [], true, false, None, All, length, IfOk, OnOk, OnErr, IsErrOf, MatchOption};
 ghost use Rattle.outside_io.specs.Counts.{Rose};
 ghost use Rattle.cnf_core.specs.Clause.{Clauses, AreDistinct, AreThere, IsNamed};
 ghost use Rattle.refute_log.specs.declared.line.LogLine.TheVariants.{Formula};
@@ -60,6 +60,7 @@ impl Solver {
         ensures room { IsErrOf result AddFault.Room ↔ VARS < self.old.vars + n }
         ensures cause { IsErrOf result AddFault.Log → ⊥ }
         ensures failed { OnErr result (self.new.failed ≡ true) }
+        ensures none { OnErr result (self.new.model ≡ None) }
     {
         self.model = None;
         match self.search.add_vars(n) {
@@ -91,6 +92,7 @@ impl Solver {
         ensures faults { L.faults log.old ≤ L.faults log.new }
         ensures later { L.is_later log.old log.new }
         ensures failed { OnErr result (self.new.failed ≡ true) }
+        ensures none { OnErr result (self.new.model ≡ None) }
     {
         self.model = None;
         match self.search.add_clause(lits, log) {
@@ -125,6 +127,7 @@ impl Solver {
         ensures faults { L.faults log.old ≤ L.faults log.new }
         ensures later { L.is_later log.old log.new }
         ensures failed { OnErr result (self.new.failed ≡ true) }
+        ensures none { OnErr result (self.new.model ≡ None) }
     {
         self.model = None;
         match self.search.solve(assume, budget, log) {
