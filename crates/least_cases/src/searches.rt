@@ -13,6 +13,7 @@ use plan_geometry::values;
 use port_graph::PortGraph;
 use std::alloc::Global;
 use std::test::Fail;
+use track_order::TrackOrder;
 
 const HEIGHT_FIRST: [Criterion; 4] = [
     Criterion::Height,
