@@ -75,6 +75,11 @@ fn fails_the_calls_that_are_listed_and_those_on_a_missing_name(
     Ok(())
 }
 
+/// What writing the file in one go answers.
+fn write_whole(files: &mut MemoryFiles) -> char {
+    letter(write_file(files, "l", b"new"))
+}
+
 #[test]
 fn a_whole_file_is_written_or_a_front_of_it(rt: HostRuntime) -> Result<(), Fail> {
     let alloc = rt.alloc();
@@ -87,11 +92,7 @@ fn a_whole_file_is_written_or_a_front_of_it(rt: HostRuntime) -> Result<(), Fail>
         let mut files = MemoryFiles::new(alloc, &fail)?;
         files.add("l", b"older")?;
         files.add("other", b"kept")?;
-        assert_eq!(rt;
-            letter(write_file(&mut files, "l", b"new")),
-            outcome,
-            "{fail:?}"
-        );
+        assert_eq!(rt; write_whole(&mut files), outcome, "{fail:?}");
         assert_eq!(rt; files.get("l"), Some(contents.as_bytes()), "{fail:?}");
         assert_eq!(rt; files.get("other"), Some(b"kept".as_slice()), "{fail:?}");
     }
