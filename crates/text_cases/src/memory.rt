@@ -75,27 +75,24 @@ fn fails_the_calls_that_are_listed_and_those_on_a_missing_name(
     Ok(())
 }
 
-/// What writing the file in one go answers.
-fn write_whole(files: &mut MemoryFiles) -> char {
-    letter(write_file(files, "l", b"new"))
+/// What writing one of two files in one go answers where the call of this number fails, and whether it holds this then and
+/// the other what it held.
+fn written(alloc: Global, call: u32, contents: &str) -> Result<(char, bool), Fail> {
+    let mut files = MemoryFiles::new(alloc, &[call])?;
+    files.add("l", b"older")?;
+    files.add("other", b"kept")?;
+    let outcome = letter(write_file(&mut files, "l", b"new"));
+    let is_left = files.get("l") == Some(contents.as_bytes());
+    let is_kept = files.get("other") == Some(b"kept".as_slice());
+    Ok((outcome, is_left && is_kept))
 }
 
 #[test]
 fn a_whole_file_is_written_or_a_front_of_it(rt: HostRuntime) -> Result<(), Fail> {
     let alloc = rt.alloc();
-    let table = [
-        ([0, 0], 'o', "new"),
-        ([1, 0], 'f', "older"),
-        ([2, 0], 'f', ""),
-    ];
-    for (fail, outcome, contents) in table {
-        let mut files = MemoryFiles::new(alloc, &fail)?;
-        files.add("l", b"older")?;
-        files.add("other", b"kept")?;
-        assert_eq!(rt; write_whole(&mut files), outcome, "{fail:?}");
-        assert_eq!(rt; files.get("l"), Some(contents.as_bytes()), "{fail:?}");
-        assert_eq!(rt; files.get("other"), Some(b"kept".as_slice()), "{fail:?}");
-    }
+    assert_eq!(rt; written(alloc, 0, "new")?, ('o', true));
+    assert_eq!(rt; written(alloc, 1, "older")?, ('f', true));
+    assert_eq!(rt; written(alloc, 2, "")?, ('f', true));
     Ok(())
 }
 
