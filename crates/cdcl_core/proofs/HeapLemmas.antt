@@ -9,6 +9,7 @@ use Rattle.cnf_core.specs.Clause.{IsThere}
 use Rattle.cnf_core.specs.Propagation.{Includes}
 use Rattle.cnf_core.proofs.TrailLemmas.{same_or_negated, push_keeps, has_last}
 use Rattle.cnf_core.proofs.PropagationLemmas.{negate-negate, contains_from_has, has_from_contains}
+use Rattle.pick_heap.specs.declared.heap.TheConstants.{HALVED_AT}
 use Rattle.pick_heap.specs.Heap.{Ranked, IsHeld, with_held, without, bumped, halved, activity}
 use Rattle.watch_arena.specs.Trail.{Marks, IsMarks, IsUnset, IsLonger, with_lit, opened, undone, level_end}
 use Rattle.cnf_core.specs.Trail.{weight}
@@ -80,7 +81,7 @@ held_more h v w here held = elim (cases_eq w v) [
 
 -- bumping holds and takes out none
 pub held_bumped : (h : Ranked) (v w : ℕ) → IsHeld h w → IsHeld (bumped h v) w
-held_bumped h v w held = by_test (nat_eq (activity h v) 65535)
+held_bumped h v w held = by_test (nat_eq (activity h v) HALVED_AT)
   where
     by_test : (b : Bool) → get_or (cond b (halved h) h).held w false ≡ true
     by_test true = held
@@ -143,7 +144,7 @@ offered_undone h m level i marks le cut offered back = λ l there un. elim (case
         ]
 
 pub bumped_vars : (h : Ranked) (v : ℕ) → (bumped h v).vars ≡ h.vars
-bumped_vars h v = by_test (nat_eq (activity h v) 65535)
+bumped_vars h v = by_test (nat_eq (activity h v) HALVED_AT)
   where
     by_test : (b : Bool) → (cond b (halved h) h).vars ≡ h.vars
     by_test true = refl

@@ -11,6 +11,7 @@ pub mod KeepLemmas
 pub mod ConflictLemmas
 pub mod GivenLemmas
 pub mod RefuteLemmas
+pub mod LeftLemmas
 pub mod RoundLemmas
 pub mod ModelLemmas
 pub mod WideLemmas

@@ -1,8 +1,8 @@
 -- What a search that ended says of all assignments.
-use Rattle.std.proofs.Common.{◌≡◌, ◌≢◌, ℕ, ◌+◌, ◌<◌, ◌⊎◌, Bool, true, false, not, List, [], ◌∷◌, ◌++◌, length, get_or, take, refl, sym, ◌∙◌, ap, subst, inl, inr, arith, Some, None}
+use Rattle.std.proofs.Common.{◌≡◌, ◌≢◌, ℕ, ◌+◌, ◌<◌, ◌⊎◌, Bool, true, false, not, List, [], ◌∷◌, ◌++◌, length, get_or, take, map, refl, sym, ◌∙◌, ap, subst, inl, inr, arith, Some, None}
 use Rattle.std.specs.Prelude.{All, Contains}
 use Rattle.std.proofs.lemmas.Bool.{cases_eq, cases_Bool}
-use Rattle.std.proofs.lemmas.List.Elements.{All-nil, All-cons, All-weaker, All-contains, All-contains_itself, Contains-push_cases, Contains-append_cases}
+use Rattle.std.proofs.lemmas.List.Elements.{All-nil, All-cons, All-head, All-tail, All-weaker, All-contains, All-contains_itself, Contains-push_cases, Contains-append_cases}
 use Rattle.cnf_core.specs.Lit.{Literal, negate, has, same_sign}
 use Rattle.cnf_core.specs.Clause.{Clauses, AreDistinct, AreThere, IsThere, IsNamed}
 use Rattle.cnf_core.specs.Assignment.{truth, Satisfies, SatisfiesAll}
@@ -16,7 +16,7 @@ use Rattle.watch_arena.specs.Arena.{Attached, attached_clauses}
 use Rattle.cdcl_core.specs.declared.search.Search.{Search}
 use Rattle.cdcl_core.specs.declared.answer.Answer.{Answer}
 use Rattle.cdcl_core.specs.declared.answer.Answer.TheVariants.{Model, Refuted, Spent, Room}
-use Rattle.cdcl_core.specs.Kept.{AreGiven, HasModel, HasNoModel, HasModelOnly, IsTrueAnswer}
+use Rattle.cdcl_core.specs.Kept.{AreGiven, HasModel, HasNoModel, HasModelOnly, IsTrueAnswer, AreRefuted, HasRefuted}
 use Rattle.cdcl_core.specs.Roots.{all_of, IsGrounded}
 use Rattle.cdcl_core.specs.Search.{clauses, kept_of, IsSearch, IsSameStore, IsFalse, IsComplete, IsRefuting, IsSearchAnswer}
 use Rattle.cdcl_core.proofs.SetLemmas.{place_of_text}
@@ -80,9 +80,31 @@ refuting_no_model given cs query c g r = λ v all assumed.
     let answers : Contains query (negate x.0) = All-contains (λ l. Contains query (negate l)) c x.0 r.answers x.1 in
     not_both_signs x.0.positive (v x.0.var) x.2 (All-contains (λ l. truth v l ≡ true) query (negate x.0) assumed answers)
 
+negated_among : (query c : List Literal) → All (λ l. Contains query (negate l)) c → All (λ l. Contains query l) (map negate c)
+negated_among query [] h = All-nil (λ l. Contains query l)
+negated_among query (l ∷ c) h = All-cons (λ k. Contains query k) (negate l) (map negate c) (All-head (λ k. Contains query (negate k)) l c h) (negated_among query c (All-tail (λ k. Contains query (negate k)) l c h))
+
+all_negated : (c : List Literal) → All (λ l. Contains (map negate c) (negate l)) c
+all_negated [] = All-nil (λ l. Contains [] (negate l))
+all_negated (l ∷ c) = All-cons (λ k. Contains (negate l ∷ map negate c) (negate k)) l c (contains_first (negate l) (map negate c))
+    (All-weaker (λ k. Contains (map negate c) (negate k)) (λ k. Contains (negate l ∷ map negate c) (negate k)) (λ k m. contains_later (negate l) (negate k) (map negate c) m) c (all_negated c))
+
+-- the assumptions whose negations the clause has are refuted
+pub refuted_negated : (answer : Answer) (given cs : Clauses) (query c refuted : List Literal) → answer ≡ Refuted → refuted ≡ map negate c → AreGiven given cs → IsRefuting cs query c → HasRefuted answer given query refuted
+refuted_negated answer given cs query c refuted is e g r = subst (λ (a : Answer). HasRefuted a given query refuted) (sym is) (subst (AreRefuted given query) (sym e) (record {
+  among = negated_among query c r.answers;
+  none = refuting_no_model given cs (map negate c) c g (record { follows = r.follows; answers = all_negated c });
+}))
+
+pub none_refuted : (answer : Answer) (given : Clauses) (query refuted : List Literal) → (answer ≡ Refuted → ⊥) → refuted ≡ [] → HasRefuted answer given query refuted
+none_refuted Model given query refuted other e = e
+none_refuted Refuted given query refuted other e = absurd (other refl)
+none_refuted Spent given query refuted other e = e
+none_refuted Room given query refuted other e = e
+
 -- what the search says is true of the given clauses
-pub model_answer : (given : Clauses) (query : List Literal) (s t : Search) (values : List Bool) → AreGiven given (clauses s) → IsGrounded s.arena s.trail s.own.items s.refuted → IsComplete query s → length values ≡ t.trail.vars → ((l : Literal) → IsIn (has s.trail.lits) l → truth (assignment values) l ≡ true) → HasModel given query (kept_of t (Some values) false)
-model_answer given query s t values g grounded complete size true_all = record {
+pub model_answer : (given : Clauses) (query refuted : List Literal) (s t : Search) (values : List Bool) → AreGiven given (clauses s) → IsGrounded s.arena s.trail s.own.items s.refuted → IsComplete query s → length values ≡ t.trail.vars → ((l : Literal) → IsIn (has s.trail.lits) l → truth (assignment values) l ≡ true) → HasModel given query (kept_of t (Some values) refuted false)
+model_answer given query refuted s t values g grounded complete size true_all = record {
   values = values;
   model = refl;
   vars = size;
@@ -91,22 +113,22 @@ model_answer given query s t values g grounded complete size true_all = record {
 }
 
 -- the answers without a model
-pub other_answer : (answer : Answer) (given : Clauses) (query : List Literal) (s t : Search) → (answer ≡ Model → ⊥) → IsSameStore s t → AreGiven given (clauses s) → IsSearchAnswer answer query s → IsTrueAnswer answer given query (kept_of t None false)
-other_answer Model given query s t other f g says = absurd (other refl)
-other_answer Refuted given query s t other f g says = refuting_no_model given (clauses s) query says.0 g says.1
-other_answer Spent given query s t other f g says = λ h. says (falsifies_more (clauses t) (clauses s) (has query) f.clauses.back h)
-other_answer Room given query s t other f g says = record {
+pub other_answer : (answer : Answer) (given : Clauses) (query refuted : List Literal) (s t : Search) → (answer ≡ Model → ⊥) → IsSameStore s t → AreGiven given (clauses s) → IsSearchAnswer answer query s → IsTrueAnswer answer given query (kept_of t None refuted false)
+other_answer Model given query refuted s t other f g says = absurd (other refl)
+other_answer Refuted given query refuted s t other f g says = refuting_no_model given (clauses s) query s.analyser.clause g says
+other_answer Spent given query refuted s t other f g says = λ h. says (falsifies_more (clauses t) (clauses s) (has query) f.clauses.back h)
+other_answer Room given query refuted s t other f g says = record {
   clause = says.clause;
   formed = says.formed;
   deduced = deduced_same (clauses s) (clauses t) says.clause f.clauses.there f.clauses.back says.deduced;
   passes = let p = says.passes in let r = f.room in let w = f.words in omega arith;
 }
 
-pub other_model : (answer : Answer) (t : Search) → (answer ≡ Model → ⊥) → HasModelOnly answer (kept_of t None false)
-other_model Model t other = absurd (other refl)
-other_model Refuted t other = refl
-other_model Spent t other = refl
-other_model Room t other = refl
+pub other_model : (answer : Answer) (t : Search) (refuted : List Literal) → (answer ≡ Model → ⊥) → HasModelOnly answer (kept_of t None refuted false)
+other_model Model t refuted other = absurd (other refl)
+other_model Refuted t refuted other = refl
+other_model Spent t refuted other = refl
+other_model Room t refuted other = refl
 
 -- an assumption's variable is there
 pub named_there : (s : Search) (l : Literal) → IsSearch s → IsNamed (clauses s) l.var → IsThere s.trail.vars l

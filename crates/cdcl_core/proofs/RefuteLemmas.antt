@@ -39,11 +39,11 @@ denied_refuting a m own refuted query c q n p g asking low clash d = record {
 pub record HasTraced (s : Sight) (l : Literal) (c : List Literal) : Type 0 where
   pub rest : List Literal
   pub is : c ≡ negate l ∷ rest
-  pub traced : IsTraced s (negate l) rest
+  pub traced : IsTraced s (negate l ∷ []) rest
 
 pub traced_parts : (s : Sight) (l : Literal) (c : List Literal) → IsTracedOf s l c → HasTraced s l c
 traced_parts s l [] h = absurd h
-traced_parts s l (first ∷ rest) h = record { rest = rest; is = ap (λ (x : Literal). x ∷ rest) h.0; traced = subst (λ (x : Literal). IsTraced s x rest) h.0 h.1 }
+traced_parts s l (first ∷ rest) h = record { rest = rest; is = ap (λ (x : Literal). x ∷ rest) h.0; traced = subst (λ (x : Literal). IsTraced s (x ∷ []) rest) h.0 h.1 }
 
 pub traced_refuting : (a : Attached) (m : Marks) (own : Clauses) (refuted : Bool) (query c : List Literal) (q n : ℕ) (l : Literal) → IsGrounded a m own refuted → IsAssuming query (sight a m) q n → length m.cuts ≤ q → Contains query l → IsTracedOf (sight a m) l c → IsRefuting (all_of a own) query c
 traced_refuting a m own refuted query c q n l g asking low among h =
@@ -54,6 +54,13 @@ traced_refuting a m own refuted query c q n l g asking low among h =
       answers = All-cons (λ k. Contains query (negate k)) (negate l) t.rest (subst (λ (x : Literal). Contains query x) (sym (negate-negate l)) among)
           (All-weaker (IsDecision (sight a m)) (λ k. Contains query (negate k)) (λ k d. assumed a m query q n k g.marks low d.falsified d.decided d.above asking) t.rest traced.decisions);
     })
+
+-- what tracing back a clause that is false leaves
+pub clash_refuting : (a : Attached) (m : Marks) (own : Clauses) (refuted : Bool) (query c : List Literal) (q n : ℕ) → IsGrounded a m own refuted → IsAssuming query (sight a m) q n → length m.cuts ≤ q → IsTraced (sight a m) [] c → IsRefuting (all_of a own) query c
+clash_refuting a m own refuted query c q n g asking low traced = record {
+  follows = rup_down (sight a m) (all_of a own) (grounded_sound a m own refuted g) g.rooted c (among_left (attached_clauses a) own) traced.rup;
+  answers = All-weaker (IsDecision (sight a m)) (λ k. Contains query (negate k)) (λ k d. assumed a m query q n k g.marks low d.falsified d.decided d.above asking) c traced.decisions;
+}
 
 pub traced_distinct : (s : Sight) (l : Literal) (c v : List Literal) → v ≡ c → IsTracedOf s l c → AreDistinct v
 traced_distinct s l c v e h = let t = traced_parts s l c h in subst AreDistinct (sym (e ∙ t.is)) t.traced.distinct

@@ -1,6 +1,6 @@
 -- Rounds of a search, one after another.
 use Rattle.std.proofs.Common.{◌≡◌, ℕ, zero, suc, ◌+◌, ◌-◌, ◌^◌, ◌<◌, ◌≤◌, true, false, min, List, [], ◌∷◌, ◌++◌, length, get_or, map, refl, sym, ◌∙◌, ap, subst, inl, inr, arith, append-nil, length-append, Some, None}
-use Rattle.std.specs.Prelude.{All, Contains, Result, Ok, Err, IfOk, OnErr, Option, MatchOption, IfSome}
+use Rattle.std.specs.Prelude.{All, Contains, Result, Ok, Err, IfOk, OnErr, Option, MatchOption, IfSome, flat_map}
 use Rattle.std.proofs.lemmas.List.{append_assoc, map-append}
 use Rattle.std.proofs.lemmas.List.Elements.{All-nil, All-weaker, All-contains_itself}
 use Rattle.outside_io.specs.Counts.{next_count, rose_by}
@@ -15,17 +15,18 @@ use Rattle.refute_log.specs.declared.line.LogLine.{LogLine}
 use Rattle.refute_log.specs.declared.line.LogLine.TheVariants.{Formula, Learnt, Query, Refuted as RefutedLine, Model as ModelLine}
 use Rattle.refute_log.specs.Lines.{MayBeTold}
 use Rattle.refute_log.specs.Told.{Lines, AddsLine, TellsNoMore}
-use Rattle.refute_log.specs.Log.{Derives}
+use Rattle.refute_log.specs.Log.{given, Derives}
 use Rattle.cdcl_core.specs.declared.search.Search.{Search}
 use Rattle.cdcl_core.specs.declared.fault.SolveFault.{SolveFault}
 use Rattle.cdcl_core.specs.declared.answer.Answer.{Answer}
 use Rattle.cdcl_core.specs.declared.answer.Answer.TheVariants.{Model, Refuted, Spent, Room}
 use Rattle.cdcl_core.specs.Kept.{Kept, AreSameClauses, HasLearnt, AreGiven, IsDeduced, IsFull, more_learnt}
-use Rattle.cdcl_core.specs.Belongs.{BelongsTo, StillDerives, HasSolved, EndsWith, HasSpent, search_lines}
+use Rattle.cdcl_core.specs.Belongs.{BelongsTo, StillDerives, HasCounted, HasSolved, EndsWith, HasSpent, search_lines}
 use Rattle.cdcl_core.specs.Search.{clauses, seen, IsSearch, IsAsking, IsAnalysed, IsLearntFrom, IsKeptOne, IsSameStore, IsSearchAnswer, IsRefuting, IsComplete}
-use Rattle.cdcl_core.specs.Rounds.{BelongsAt, DerivesAt, LearnsOne, EndsSo, HasGone, EndsAfter, EndsBehindQuery}
+use Rattle.cdcl_core.specs.Rounds.{BelongsAt, LeavesAt, LeavesLog, LearnsOne, EndsSo, HasGone, EndsAfter, EndsBehindQuery}
 use Rattle.cdcl_core.proofs.SetLemmas.{among_more, among_append, among_itself, same_itself, same_more, same_append, same_equal}
 use Rattle.cdcl_core.proofs.StoreLemmas.{store_itself, store_more, analysed_store, analysed_clauses, analysed_full, kept_learnt}
+use Rattle.cdcl_core.proofs.LeftLemmas.{formula_push, formula_behind, formula_learnt, formula_searched, within_spent}
 use Rattle.cdcl_core.proofs.LearnLemmas.{open_above}
 use Rattle.cdcl_core.proofs.ConflictLemmas.{unrefuted}
 use Rattle.cdcl_core.proofs.LogLemmas.{belongs_same, belongs_given, belongs_query, belongs_learnt, belongs_refuted, belongs_model, deduced_same}
@@ -40,14 +41,14 @@ none_of {A = A} r P Q e h = subst (λ (o : Option A). MatchOption o P Q) e h
 pub if_some_of : {A : Type 0} (r : Option A) (x : A) (Q : A → Type 0) → r ≡ Some x → IfSome r Q → Q x
 if_some_of {A = A} r x Q e h = subst (λ (o : Option A). IfSome o Q) e h
 
--- what a log tells after an error: nothing was told, a line was refused, or it was told before
+-- what a log tells after an error where a clause was given: nothing was told, a line was refused, or it was told before
 pub still_same : (before P : Lines → Type 0) → ((a b : Lines) → before a → before b → a ≡ b) → ((lines : Lines) → P lines → Derives lines) → (lines : Lines) → before lines → P lines → (more : Lines) → before more → Derives more
 still_same before P one derives lines told p more m = subst Derives (one lines more told m) (derives lines p)
 
 pub still_refused : (before now P : Lines → Type 0) → ((a b : Lines) → before a → before b → a ≡ b) → TellsNoMore before now → ((lines : Lines) → P lines → Derives lines) → (lines : Lines) → before lines → P lines → (more : Lines) → now more → Derives more
 still_refused before now P one fewer derives lines told p more m = subst Derives (one lines more told (fewer more m)) (derives lines p)
 
-pub still_told : (before now P : Lines → Type 0) (line : LogLine) → ((a b : Lines) → now a → now b → a ≡ b) → AddsLine before now line → ((lines : Lines) → P lines → Derives (lines ++ line ∷ [])) → (lines : Lines) → before lines → P lines → (more : Lines) → now more → Derives more
+still_told : (before now P : Lines → Type 0) (line : LogLine) → ((a b : Lines) → now a → now b → a ≡ b) → AddsLine before now line → ((lines : Lines) → P lines → Derives (lines ++ line ∷ [])) → (lines : Lines) → before lines → P lines → (more : Lines) → now more → Derives more
 still_told before now P line one adds derives lines told p more m = subst Derives (one (lines ++ line ∷ []) more (adds lines told) m) (derives lines p)
 
 -- satisfied, whatever the order
@@ -219,10 +220,10 @@ ends_model before now count after query s adds same complete = record {
   counted = same;
 }
 
-pub ends_refuted : (before now : Lines → Type 0) (count after : ℕ) (query c : List Literal) (s t : Search) → IsSameStore s t → clauses t ≡ clauses s → MayBeTold (RefutedLine c) → All (λ l. IsNamed (clauses s) l.var) query → IsRefuting (clauses s) query c → AddsLine before now (RefutedLine c) → after ≡ count → EndsSo before now count after query s t Refuted
-ends_refuted before now count after query c s t store same formed named refuting adds e = record {
+pub ends_refuted : (before now : Lines → Type 0) (count after : ℕ) (query c : List Literal) (s t : Search) → IsSameStore s t → clauses t ≡ clauses s → MayBeTold (RefutedLine c) → All (λ l. IsNamed (clauses s) l.var) query → IsRefuting (clauses s) query c → IsRefuting (clauses s) query t.analyser.clause → AddsLine before now (RefutedLine c) → after ≡ count → EndsSo before now count after query s t Refuted
+ends_refuted before now count after query c s t store same formed named refuting needed adds e = record {
   store = store;
-  says = (c, subst (λ (cs : Clauses). IsRefuting cs query c) (sym same) refuting);
+  says = subst (λ (cs : Clauses). IsRefuting cs query t.analyser.clause) (sym same) needed;
   ending = RefutedLine c ∷ [];
   ends = record { clause = c; is = refl; answers = refuting.answers };
   told = adds;
@@ -265,8 +266,10 @@ learns_from before now count after query r s t f one = record {
   counted = one.counted;
 }
 
-pub derives_from : (before now : Lines → Type 0) (query : List Literal) (r s : Search) → IsSameStore r s → DerivesAt before now query s → DerivesAt before now query r
-derives_from before now query r s f d = λ lines told b more m. d lines told (record { belongs = belongs_same lines (clauses r) (clauses s) r.words s.words f.clauses f.words b.belongs; asked = b.asked }) more m
+pub left_from : (before now : Lines → Type 0) (query : List Literal) (r s : Search) → IsSameStore r s → LeavesAt before now query s → LeavesAt before now query r
+left_from before now query r s f d = λ lines told more m.
+    let left = d lines told more m in
+    record { derives = λ b. left.derives (record { belongs = belongs_same lines (clauses r) (clauses s) r.words s.words f.clauses f.words b.belongs; asked = b.asked }); formula = left.formula }
 
 -- a clause that the analyser gave is kept
 pub learns_one : (before now : Lines → Type 0) (count after : ℕ) (query : List Literal) (s r t : Search) (c : List Literal) → MayBeTold (Learnt c) → IsAnalysed s r → IsSearch s → s.refuted ≡ false → IsAsking query s → s.levels < length s.trail.cuts → IsLearntFrom r c → IsKeptOne r t c → t.learnt ≡ more_learnt r.learnt 1 → AddsLine before now (Learnt c) → after ≡ next_count count → LearnsOne before now count after query s t
@@ -309,9 +312,9 @@ round_ok (Ok o) before now count after query r s t f h = by_option o h
     by_option None h = learns_from before now count after query r s t f h
     by_option (Some a) h = ends_from before now count after query r s t a f h
 
-pub round_err : {T : Type 0} (res : Result T SolveFault) (before now : Lines → Type 0) (query : List Literal) (r s : Search) → IsSameStore r s → OnErr res (DerivesAt before now query s) → OnErr res (DerivesAt before now query r)
+pub round_err : {T : Type 0} (res : Result T SolveFault) (before now : Lines → Type 0) (query : List Literal) (r s : Search) → IsSameStore r s → OnErr res (LeavesAt before now query s) → OnErr res (LeavesAt before now query r)
 round_err (Ok x) before now query r s f h = tt
-round_err (Err e) before now query r s f h = derives_from before now query r s f h
+round_err (Err e) before now query r s f h = left_from before now query r s f h
 
 pub last_ok : (res : Result Answer SolveFault) (before now : Lines → Type 0) (count after : ℕ) (query : List Literal) (r s t : Search) → IsSameStore r s → IfOk res (λ a. EndsSo before now count after query s t a) → IfOk res (λ a. EndsSo before now count after query r t a)
 last_ok (Err e) before now count after query r s t f h = h
@@ -323,16 +326,26 @@ rounds_ok (Err e) before mid now count between after query r s t n h ends = ends
 rounds_ok (Ok a) before mid now count between after query r s t n h ends = ends_after before mid now count between after query r s t a n n (spent_all a n) h ends
 
 -- an error after some rounds
-pub gone_err : (before mid now : Lines → Type 0) (count between : ℕ) (query : List Literal) (r s : Search) (n : ℕ) → HasGone before mid count between query r s n → DerivesAt mid now query s → DerivesAt before now query r
-gone_err before mid now count between query r s n h d = λ lines told b more m. d (lines ++ map Learnt h.learnt) (h.told lines told) (h.belongs lines b) more m
+pub gone_err : (before mid now : Lines → Type 0) (count between : ℕ) (query : List Literal) (r s : Search) (n : ℕ) → HasGone before mid count between query r s n → LeavesAt mid now query s → LeavesAt before now query r
+gone_err before mid now count between query r s n h d = λ lines told more m.
+    let left = d (lines ++ map Learnt h.learnt) (h.told lines told) more m in
+    record { derives = λ b. left.derives (h.belongs lines b); formula = left.formula ∙ formula_behind lines (map Learnt h.learnt) (formula_learnt h.learnt) }
 
-pub rounds_err : (res : Result Answer SolveFault) (before mid now : Lines → Type 0) (count between : ℕ) (query : List Literal) (r s : Search) (n : ℕ) → HasGone before mid count between query r s n → OnErr res (DerivesAt mid now query s) → OnErr res (DerivesAt before now query r)
+pub rounds_err : (res : Result Answer SolveFault) (before mid now : Lines → Type 0) (count between : ℕ) (query : List Literal) (r s : Search) (n : ℕ) → HasGone before mid count between query r s n → OnErr res (LeavesAt mid now query s) → OnErr res (LeavesAt before now query r)
 rounds_err (Ok x) before mid now count between query r s n h d = tt
 rounds_err (Err e) before mid now count between query r s n h d = gone_err before mid now count between query r s n h d
 
 -- a log that a search left derives
-pub searched_err : (before now : Lines → Type 0) (query : List Literal) (k t : Kept) (answer : Answer) (budget count after : ℕ) → ((a b : Lines) → now a → now b → a ≡ b) → HasSolved before now query k t answer budget count after → StillDerives before now k
-searched_err before now query k t answer budget count after one s = λ lines told b more m. subst Derives (one (lines ++ search_lines query s.learnt s.ending) more (s.told lines told) m) (s.belongs lines b).derives
+pub searched_err : (before now : Lines → Type 0) (query : List Literal) (s t : Search) (answer : Answer) (budget count after : ℕ) → ((a b : Lines) → now a → now b → a ≡ b) → HasSolved before now query (seen s) (seen t) answer budget count after → LeavesLog before now s
+searched_err before now query s t answer budget count after one h = λ lines told more m.
+    let e : lines ++ search_lines query h.learnt h.ending ≡ more = one (lines ++ search_lines query h.learnt h.ending) more (h.told lines told) m in
+    record {
+      derives = λ b. subst Derives e (h.belongs lines b).derives;
+      formula = ap (flat_map given) (sym e) ∙ formula_behind lines (search_lines query h.learnt h.ending) (formula_searched answer query h.learnt h.ending h.ends);
+    }
+
+pub searched_counted : (before now : Lines → Type 0) (query : List Literal) (s t : Search) (answer : Answer) (budget count after : ℕ) → HasSolved before now query (seen s) (seen t) answer budget count after → HasCounted budget count after
+searched_counted before now query s t answer budget count after h = record { number = length h.learnt; few = within_spent answer budget (length h.learnt) h.spent; counted = h.counted }
 
 pub searched_same : (before now : Lines → Type 0) (query : List Literal) (k : Kept) (s t : Search) (answer : Answer) (budget count after : ℕ) → IsSameStore s t → HasSolved before now query k (seen s) answer budget count after → HasSolved before now query k (seen t) answer budget count after
 searched_same before now query k s t answer budget count after f h = record {
@@ -347,10 +360,12 @@ searched_same before now query k s t answer budget count after f h = record {
 }
 
 -- the query was told, and then an error came
-pub query_err : (before mid now : Lines → Type 0) (query : List Literal) (s : Search) → MayBeTold (Query query) → All (λ l. IsNamed (clauses s) l.var) query → AddsLine before mid (Query query) → DerivesAt mid now query s → StillDerives before now (seen s)
-query_err before mid now query s formed named adds d = λ lines told b more m. d (lines ++ Query query ∷ []) (adds lines told) (belongs_query lines (clauses s) s.words query formed named b) more m
+pub query_err : (before mid now : Lines → Type 0) (query : List Literal) (s : Search) → MayBeTold (Query query) → All (λ l. IsNamed (clauses s) l.var) query → AddsLine before mid (Query query) → LeavesAt mid now query s → LeavesLog before now s
+query_err before mid now query s formed named adds d = λ lines told more m.
+    let left = d (lines ++ Query query ∷ []) (adds lines told) more m in
+    record { derives = λ b. left.derives (belongs_query lines (clauses s) s.words query formed named b); formula = left.formula ∙ formula_push lines (Query query) refl }
 
-pub query_err_of : (res : Result Answer SolveFault) (before mid now : Lines → Type 0) (query : List Literal) (s : Search) → MayBeTold (Query query) → All (λ l. IsNamed (clauses s) l.var) query → AddsLine before mid (Query query) → OnErr res (DerivesAt mid now query s) → OnErr res (StillDerives before now (seen s))
+pub query_err_of : (res : Result Answer SolveFault) (before mid now : Lines → Type 0) (query : List Literal) (s : Search) → MayBeTold (Query query) → All (λ l. IsNamed (clauses s) l.var) query → AddsLine before mid (Query query) → OnErr res (LeavesAt mid now query s) → OnErr res (LeavesLog before now s)
 query_err_of (Ok x) before mid now query s formed named adds d = tt
 query_err_of (Err e) before mid now query s formed named adds d = query_err before mid now query s formed named adds d
 
@@ -367,12 +382,13 @@ searched_seen (Ok a) before now count after query s r t budget same h = record {
   says = h.says;
 }
 
--- a query of a solver that is refuted
-pub searched_refuted : (before mid now : Lines → Type 0) (count between after : ℕ) (query : List Literal) (s : Search) (budget : ℕ) → IsSearch s → s.refuted ≡ true → MayBeTold (Query query) → All (λ l. IsNamed (clauses s) l.var) query → AddsLine before mid (Query query) → between ≡ count → AddsLine mid now (RefutedLine []) → after ≡ between → EndsBehindQuery before now count after query s s Refuted budget
-searched_refuted before mid now count between after query s budget h refuted formed named adds same ends counted =
-    let e = ends_after mid mid now between between after query s s s Refuted 0 budget (omega arith) (gone_none mid between query s)
-    (ends_refuted mid now between after query [] s s (store_itself s) refl (record { formed = tt; once = tt }) named (record { follows = h.solving.grounded.falsified refuted; answers = All-nil (λ l. Contains query (negate l)) }) ends counted) in
-    record { searched = searched before mid now count between after query s s Refuted budget formed named adds same e; given = e.given; says = e.says }
+-- a query of a solver that is refuted; the analyser's clause is taken away
+pub searched_refuted : (before mid now : Lines → Type 0) (count between after : ℕ) (query : List Literal) (s t : Search) (budget : ℕ) → IsAnalysed s t → t.analyser.clause ≡ [] → IsSearch s → s.refuted ≡ true → MayBeTold (Query query) → All (λ l. IsNamed (clauses s) l.var) query → AddsLine before mid (Query query) → between ≡ count → AddsLine mid now (RefutedLine []) → after ≡ between → EndsBehindQuery before now count after query s t Refuted budget
+searched_refuted before mid now count between after query s t budget an none h refuted formed named adds same ends counted =
+    let refuting : IsRefuting (clauses s) query [] = record { follows = h.solving.grounded.falsified refuted; answers = All-nil (λ l. Contains query (negate l)) } in
+    let e = ends_after mid mid now between between after query s s t Refuted 0 budget (omega arith) (gone_none mid between query s)
+    (ends_refuted mid now between after query [] s t (analysed_store s t an) (analysed_clauses s t an) (record { formed = tt; once = tt }) named refuting (subst (IsRefuting (clauses s) query) (sym none) refuting) ends counted) in
+    record { searched = searched before mid now count between after query s t Refuted budget formed named adds same e; given = e.given; says = e.says }
 
 -- a given clause
 pub given_err : (before now : Lines → Type 0) (s : Search) (c : List Literal) → MayBeTold (Formula c) → ((a b : Lines) → now a → now b → a ≡ b) → AddsLine before now (Formula c) → StillDerives before now (seen s)

@@ -1,5 +1,5 @@
 -- What contracts see of a solver, and of the clauses that it was given.
-use Rattle.std.specs.Prelude.{◌≡◌, ◌≤◌, ◌<◌, ℕ, zero, suc, ◌+◌, ◌-◌, ◌^◌, min, Bool, true, false, Option, None, Some, List, [], ◌∷◌, ◌++◌, All, length}
+use Rattle.std.specs.Prelude.{◌≡◌, ◌≤◌, ◌<◌, ℕ, zero, suc, ◌+◌, ◌-◌, ◌^◌, min, Bool, true, false, Option, None, Some, List, [], ◌∷◌, ◌++◌, All, Contains, length}
 use Rattle.cnf_core.specs.Lit.{Literal, has}
 use Rattle.cnf_core.specs.Clause.{Clauses, words_of}
 use Rattle.cnf_core.specs.Assignment.{Assignment, truth, SatisfiesAll}
@@ -12,8 +12,8 @@ use Rattle.cdcl_core.specs.declared.answer.Answer.{Answer}
 use Rattle.cdcl_core.specs.declared.answer.Answer.TheVariants.{Model, Refuted, Spent, Room}
 
 -- the most words, the variables, the clauses that were given or learnt (in no certain order, nor are
--- their literals) and their words, how many were learnt, how many were looked at, the latest model,
--- and whether a call has failed
+-- their literals) and their words, how many were learnt, how many were looked at, the latest model, the
+-- assumptions that were refuted last, and whether a call has failed
 pub record Kept : Type 0 where
   pub room : ℕ
   pub vars : ℕ
@@ -22,15 +22,16 @@ pub record Kept : Type 0 where
   pub learnt : ℕ
   pub visits : ℕ
   pub model : Option (List Bool)
+  pub refuted : List Literal
   pub failed : Bool
 
 -- a new solver
 abbrev pub blank : ℕ → Kept
-blank room = record { room = room; vars = 0; clauses = []; words = 0; learnt = 0; visits = 0; model = None; failed = false }
+blank room = record { room = room; vars = 0; clauses = []; words = 0; learnt = 0; visits = 0; model = None; refuted = []; failed = false }
 
--- further variables are there, and no model any more
+-- further variables are there, and no model and no refuted assumptions any more
 abbrev pub with_more_vars : Kept → ℕ → Kept
-with_more_vars k n = record { room = k.room; vars = k.vars + n; clauses = k.clauses; words = k.words; learnt = k.learnt; visits = k.visits; model = None; failed = k.failed }
+with_more_vars k n = record { room = k.room; vars = k.vars + n; clauses = k.clauses; words = k.words; learnt = k.learnt; visits = k.visits; model = None; refuted = []; failed = k.failed }
 
 -- the same clauses, as sets of literals
 pub record AreSameClauses (clauses more : Clauses) : Type 0 where
@@ -51,6 +52,7 @@ pub record IsGivenOne (old new : Kept) (c : List Literal) : Type 0 where
   pub learnt : new.learnt ≡ old.learnt
   pub visits : new.visits ≡ old.visits
   pub model : new.model ≡ None
+  pub refuted : new.refuted ≡ []
   pub failed : new.failed ≡ false
 
 -- these clauses were learnt
@@ -113,3 +115,15 @@ HasModelOnly Model k = (values : List Bool) × (k.model ≡ Some values)
 HasModelOnly Refuted k = k.model ≡ None
 HasModelOnly Spent k = k.model ≡ None
 HasModelOnly Room k = k.model ≡ None
+
+-- these are among the assumptions, and no assignment satisfies the clauses and makes them true
+pub record AreRefuted (given : Clauses) (assume refuted : List Literal) : Type 0 where
+  pub among : All (λ l. Contains assume l) refuted
+  pub none : HasNoModel given refuted
+
+-- such assumptions are there exactly after the answer Refuted
+abbrev pub HasRefuted : Answer → Clauses → List Literal → List Literal → Type 0
+HasRefuted Model given assume refuted = refuted ≡ []
+HasRefuted Refuted given assume refuted = AreRefuted given assume refuted
+HasRefuted Spent given assume refuted = refuted ≡ []
+HasRefuted Room given assume refuted = refuted ≡ []

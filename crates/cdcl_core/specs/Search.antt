@@ -51,8 +51,8 @@ abbrev pub IsSolver : Search → Bool → Type 0
 IsSolver s failed = failed ≡ false → IsIdle s
 
 -- what contracts see of a solver
-abbrev pub kept_of : Search → Option (List Bool) → Bool → Kept
-kept_of s model failed = record {
+abbrev pub kept_of : Search → Option (List Bool) → List Literal → Bool → Kept
+kept_of s model refuted failed = record {
   room = s.room;
   vars = s.trail.vars;
   clauses = clauses s;
@@ -60,11 +60,12 @@ kept_of s model failed = record {
   learnt = s.learnt;
   visits = s.arena.visits;
   model = model;
+  refuted = refuted;
   failed = failed;
 }
 
 abbrev pub seen : Search → Kept
-seen s = kept_of s None false
+seen s = kept_of s None [] false
 
 -- the assumptions that were made so far
 abbrev pub IsAsking : List Literal → Search → Type 0
@@ -193,9 +194,9 @@ IsRefutedBy query s (Clash c) = IsClashOf s.arena s.trail c.0 × (length s.trail
 IsRefutedBy query s (Denied l) = IsDenied query s l
 IsRefutedBy query s Complete = ⊥
 
--- what a search that ended says of its clauses
+-- what a search that ended says of its clauses; the analyser has the negations of the refuted assumptions
 abbrev pub IsSearchAnswer : Answer → List Literal → Search → Type 0
 IsSearchAnswer Model query s = IsComplete query s
-IsSearchAnswer Refuted query s = (c : List Literal) × IsRefuting (clauses s) query c
+IsSearchAnswer Refuted query s = IsRefuting (clauses s) query s.analyser.clause
 IsSearchAnswer Spent query s = IsOpenQuery (clauses s) query
 IsSearchAnswer Room query s = IsFull s.room s.words (clauses s)

@@ -4,7 +4,7 @@ ghost use Rattle.outside_io.specs.Counts.{Rose};
 ghost use Rattle.cnf_core.specs.Clause.{AreDistinct, AreThere, IsThere, IsNamed};
 ghost use Rattle.watch_arena.specs.Arena.{IsClashOf};
 ghost use Rattle.cdcl_core.specs.Search.{IsSearch, IsAsking, IsDenied, IsAnalysed, IsComplete, IsRefutedBy, IsRefuting, DeniedUpto, clauses};
-ghost use Rattle.cdcl_core.specs.Rounds.{EndsSo, DerivesAt};
+ghost use Rattle.cdcl_core.specs.Rounds.{EndsSo, LeavesAt};
 
 use crate::answer::Answer;
 use crate::choices::Stop;
@@ -63,6 +63,7 @@ impl Search {
         requires denied { IsDenied query.now self.old l }
         ensures search { OnOk result (IsSearch self.new) }
         ensures same { OnOk result (IsAnalysed self.old self.new) }
+        ensures needed { OnOk result (IsRefuting (clauses self.old) query.now self.new.analyser.clause) }
         ensures refuting { IfOk result (λ c. IsRefuting (clauses self.old) query.now c) }
         ensures there { IfOk result (λ c. AreThere self.old.trail.vars c) }
         ensures distinct { IfOk result (λ c. AreDistinct c) }
@@ -71,26 +72,33 @@ impl Search {
         Ok(Clause::from_vec(copied(self.alloc, &self.analyser)?))
     }
 
-    /// The clause of the negations of all assumptions that were decided, where a clause is false.
-    fn all_denied(&self, query: &[Lit], clash: ClauseRef) -> Result<Clause, OutOfMemory>
-        requires search { IsSearch self.now }
-        requires asking { IsAsking query.now self.now }
-        requires clash { IsClashOf self.now.arena self.now.trail clash.0 }
-        requires low { length self.now.trail.cuts ≤ self.now.levels }
-        ensures refuting { IfOk result (λ c. IsRefuting (clauses self.now) query.now c) }
-        ensures there { IfOk result (λ c. AreThere self.now.trail.vars c) }
+    /// The clause of the negations of all assumptions that were decided, where a clause is false. The
+    /// analyser is left with those of them that the false clause needs.
+    fn all_denied(&mut self, query: &[Lit], clash: ClauseRef) -> Result<Clause, OutOfMemory>
+        requires search { IsSearch self.old }
+        requires asking { IsAsking query.now self.old }
+        requires clash { IsClashOf self.old.arena self.old.trail clash.0 }
+        requires low { length self.old.trail.cuts ≤ self.old.levels }
+        ensures search { OnOk result (IsSearch self.new) }
+        ensures same { OnOk result (IsAnalysed self.old self.new) }
+        ensures needed { OnOk result (IsRefuting (clauses self.old) query.now self.new.analyser.clause) }
+        ensures refuting { IfOk result (λ c. IsRefuting (clauses self.old) query.now c) }
+        ensures there { IfOk result (λ c. AreThere self.old.trail.vars c) }
         ensures distinct { IfOk result (λ c. AreDistinct c) }
     {
+        self.analyser.trace_clash(&self.arena, &self.trail, clash);
         Ok(Clause::from_vec(denied(self.alloc, &self.trail)?))
     }
 
-    /// A clause of negated assumptions that follows, where the search stopped without a model.
+    /// A clause of negated assumptions that follows, where the search stopped without a model. The
+    /// analyser is left with some of its literals, few of them, that follow too.
     fn refutation(&mut self, query: &[Lit], stop: Stop) -> Result<Clause, OutOfMemory>
         requires search { IsSearch self.old }
         requires asking { IsAsking query.now self.old }
         requires stop { IsRefutedBy query.now self.old stop }
         ensures search { OnOk result (IsSearch self.new) }
         ensures same { OnOk result (IsAnalysed self.old self.new) }
+        ensures needed { OnOk result (IsRefuting (clauses self.old) query.now self.new.analyser.clause) }
         ensures refuting { IfOk result (λ c. IsRefuting (clauses self.old) query.now c) }
         ensures there { IfOk result (λ c. AreThere self.old.trail.vars c) }
         ensures distinct { IfOk result (λ c. AreDistinct c) }
@@ -117,7 +125,8 @@ impl Search {
         ensures ends { IfOk result (λ a. EndsSo (L.tells log.old) (L.tells log.new)
             (L.learnt log.old) (L.learnt log.new) query.now self.old self.new a) }
         ensures unspent { IfOk result (λ a. a ≡ Answer.Spent → ⊥) }
-        ensures derives { OnErr result (DerivesAt (L.tells log.old) (L.tells log.new) query.now self.old) }
+        ensures leaves { OnErr result (LeavesAt (L.tells log.old) (L.tells log.new) query.now self.old) }
+        ensures counted { OnErr result (L.learnt log.new ≡ L.learnt log.old) }
         ensures cause { IsErrOf result SolveFault.Log → Rose (L.faults log.old) (L.faults log.new) }
         ensures faults { L.faults log.old ≤ L.faults log.new }
         ensures later { L.is_later log.old log.new }
@@ -135,7 +144,8 @@ impl Search {
         ensures ends { IfOk result (λ a. EndsSo (L.tells log.old) (L.tells log.new)
             (L.learnt log.old) (L.learnt log.new) query.now self.old self.new a) }
         ensures unspent { IfOk result (λ a. a ≡ Answer.Spent → ⊥) }
-        ensures derives { OnErr result (DerivesAt (L.tells log.old) (L.tells log.new) query.now self.old) }
+        ensures leaves { OnErr result (LeavesAt (L.tells log.old) (L.tells log.new) query.now self.old) }
+        ensures counted { OnErr result (L.learnt log.new ≡ L.learnt log.old) }
         ensures cause { IsErrOf result SolveFault.Log → Rose (L.faults log.old) (L.faults log.new) }
         ensures faults { L.faults log.old ≤ L.faults log.new }
         ensures later { L.is_later log.old log.new }

@@ -4,9 +4,9 @@ ghost use Rattle.outside_io.specs.Counts.{Rose};
 ghost use Rattle.cnf_core.specs.Lit.{Literal};
 ghost use Rattle.cnf_core.specs.Clause.{AreDistinct, AreThere, IsNamed};
 ghost use Rattle.watch_arena.specs.Arena.{IsClashOf};
-ghost use Rattle.cdcl_core.specs.Search.{IsSearch, IsIdle, IsSameStore, IsAsking, clauses, seen};
-ghost use Rattle.cdcl_core.specs.Rounds.{LearnsOne, EndsSo, DerivesAt, EndsAfter, EndsBehindQuery};
-ghost use Rattle.cdcl_core.specs.Belongs.{StillDerives};
+ghost use Rattle.cdcl_core.specs.Search.{IsSearch, IsIdle, IsSameStore, IsAsking, clauses};
+ghost use Rattle.cdcl_core.specs.Rounds.{LearnsOne, EndsSo, LeavesAt, LeavesLog, EndsAfter, EndsBehindQuery};
+ghost use Rattle.cdcl_core.specs.Belongs.{HasCounted};
 
 use crate::answer::Answer;
 use crate::choices::Stop;
@@ -41,7 +41,8 @@ impl Search {
             (L.learnt log.old) (L.learnt log.new) query.now self.old self.new a)) }
         ensures unspent { IfOk result (λ r. IfSome r (λ a. a ≡ Answer.Spent → ⊥)) }
         ensures on { IfOk result (λ r. r ≡ None → IsAsking query.now self.new × (self.new.refuted ≡ false)) }
-        ensures derives { OnErr result (DerivesAt (L.tells log.old) (L.tells log.new) query.now self.old) }
+        ensures leaves { OnErr result (LeavesAt (L.tells log.old) (L.tells log.new) query.now self.old) }
+        ensures few { OnErr result (HasCounted 1 (L.learnt log.old) (L.learnt log.new)) }
         ensures cause { IsErrOf result SolveFault.Log → Rose (L.faults log.old) (L.faults log.new) }
         ensures faults { L.faults log.old ≤ L.faults log.new }
         ensures later { L.is_later log.old log.new }
@@ -75,7 +76,8 @@ impl Search {
             (L.learnt log.old) (L.learnt log.new) query.now self.old self.new a)) }
         ensures unspent { IfOk result (λ r. IfSome r (λ a. a ≡ Answer.Spent → ⊥)) }
         ensures on { IfOk result (λ r. r ≡ None → IsAsking query.now self.new × (self.new.refuted ≡ false)) }
-        ensures derives { OnErr result (DerivesAt (L.tells log.old) (L.tells log.new) query.now self.old) }
+        ensures leaves { OnErr result (LeavesAt (L.tells log.old) (L.tells log.new) query.now self.old) }
+        ensures few { OnErr result (HasCounted 1 (L.learnt log.old) (L.learnt log.new)) }
         ensures cause { IsErrOf result SolveFault.Log → Rose (L.faults log.old) (L.faults log.new) }
         ensures faults { L.faults log.old ≤ L.faults log.new }
         ensures later { L.is_later log.old log.new }
@@ -102,7 +104,8 @@ impl Search {
         ensures search { OnOk result (IsSearch self.new) }
         ensures ends { IfOk result (λ a. EndsSo (L.tells log.old) (L.tells log.new)
             (L.learnt log.old) (L.learnt log.new) query.now self.old self.new a) }
-        ensures derives { OnErr result (DerivesAt (L.tells log.old) (L.tells log.new) query.now self.old) }
+        ensures leaves { OnErr result (LeavesAt (L.tells log.old) (L.tells log.new) query.now self.old) }
+        ensures counted { OnErr result (L.learnt log.new ≡ L.learnt log.old) }
         ensures cause { IsErrOf result SolveFault.Log → Rose (L.faults log.old) (L.faults log.new) }
         ensures faults { L.faults log.old ≤ L.faults log.new }
         ensures later { L.is_later log.old log.new }
@@ -133,7 +136,8 @@ impl Search {
             (L.learnt log.old) (L.learnt log.new) query.now self.old self.new a)) }
         ensures unspent { IfOk result (λ r. IfSome r (λ a. a ≡ Answer.Spent → ⊥)) }
         ensures on { IfOk result (λ r. r ≡ None → IsAsking query.now self.new × (self.new.refuted ≡ false)) }
-        ensures derives { OnErr result (DerivesAt (L.tells log.old) (L.tells log.new) query.now self.old) }
+        ensures leaves { OnErr result (LeavesAt (L.tells log.old) (L.tells log.new) query.now self.old) }
+        ensures few { OnErr result (HasCounted 1 (L.learnt log.old) (L.learnt log.new)) }
         ensures cause { IsErrOf result SolveFault.Log → Rose (L.faults log.old) (L.faults log.new) }
         ensures faults { L.faults log.old ≤ L.faults log.new }
         ensures later { L.is_later log.old log.new }
@@ -156,7 +160,8 @@ impl Search {
         ensures search { OnOk result (IsSearch self.new) }
         ensures ends { IfOk result (λ a. EndsSo (L.tells log.old) (L.tells log.new)
             (L.learnt log.old) (L.learnt log.new) query.now self.old self.new a) }
-        ensures derives { OnErr result (DerivesAt (L.tells log.old) (L.tells log.new) query.now self.old) }
+        ensures leaves { OnErr result (LeavesAt (L.tells log.old) (L.tells log.new) query.now self.old) }
+        ensures counted { OnErr result (L.learnt log.new ≡ L.learnt log.old) }
         ensures cause { IsErrOf result SolveFault.Log → Rose (L.faults log.old) (L.faults log.new) }
         ensures faults { L.faults log.old ≤ L.faults log.new }
         ensures later { L.is_later log.old log.new }
@@ -196,7 +201,8 @@ impl Search {
         ensures search { OnOk result (IsSearch self.new) }
         ensures ends { IfOk result (λ a. EndsAfter (L.tells log.old) (L.tells log.new)
             (L.learnt log.old) (L.learnt log.new) query.now self.old self.new a budget) }
-        ensures derives { OnErr result (DerivesAt (L.tells log.old) (L.tells log.new) query.now self.old) }
+        ensures leaves { OnErr result (LeavesAt (L.tells log.old) (L.tells log.new) query.now self.old) }
+        ensures few { OnErr result (HasCounted budget (L.learnt log.old) (L.learnt log.new)) }
         ensures cause { IsErrOf result SolveFault.Log → Rose (L.faults log.old) (L.faults log.new) }
         ensures faults { L.faults log.old ≤ L.faults log.new }
         ensures later { L.is_later log.old log.new }
@@ -223,13 +229,15 @@ impl Search {
         ensures search { OnOk result (IsSearch self.new) }
         ensures searched { IfOk result (λ a. EndsBehindQuery (L.tells log.old) (L.tells log.new)
             (L.learnt log.old) (L.learnt log.new) query.now self.old self.new a budget) }
-        ensures derives { OnErr result (StillDerives (L.tells log.old) (L.tells log.new) (seen self.old)) }
+        ensures leaves { OnErr result (LeavesLog (L.tells log.old) (L.tells log.new) self.old) }
+        ensures few { OnErr result (HasCounted budget (L.learnt log.old) (L.learnt log.new)) }
         ensures cause { IsErrOf result SolveFault.Log → Rose (L.faults log.old) (L.faults log.new) }
         ensures faults { L.faults log.old ≤ L.faults log.new }
         ensures later { L.is_later log.old log.new }
     {
         log.tell(&LogLine::Query(Clause::new(self.alloc, query)?))?;
         if self.refuted {
+            self.analyser.clear();
             log.tell(&LogLine::Refuted(Clause::from_vec(Vec::new(self.alloc))))?;
             return Ok(Answer::Refuted);
         }

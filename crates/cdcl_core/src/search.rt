@@ -1,5 +1,5 @@
 // The state of a search, and how it grows.
-ghost use Rattle.std.specs.Prelude.{◌≡◌, ◌≤◌, ◌<◌, ◌+◌, ◌-◌, ◌↔◌, false, length, IfOk, OnOk, IsErrOf};
+ghost use Rattle.std.specs.Prelude.{◌≡◌, ◌≤◌, ◌<◌, ◌+◌, ◌-◌, ◌↔◌, [], false, length, IfOk, OnOk, IsErrOf};
 ghost use Rattle.cdcl_core.specs.Search.{IsFitted, IsIdle, kept_of};
 ghost use Rattle.cdcl_core.specs.Kept.{blank, with_more_vars};
 
@@ -44,7 +44,7 @@ impl Search {
     pub fn new(alloc: Global, room: u32) -> Result<Search, OutOfMemory>
         requires { room ≤ ROOM }
         ensures idle { IfOk result (λ s. IsIdle s) }
-        ensures blank { IfOk result (λ s. kept_of s None false ≡ blank room) }
+        ensures blank { IfOk result (λ s. kept_of s None [] false ≡ blank room) }
     {
         Ok(Search {
             alloc,
@@ -67,7 +67,7 @@ impl Search {
     pub fn add_vars(&mut self, n: u32) -> Result<(), AddFault>
         requires { IsIdle self.old }
         ensures idle { OnOk result (IsIdle self.new) }
-        ensures more { OnOk result (kept_of self.new None false ≡ with_more_vars (kept_of self.old None false) n) }
+        ensures more { OnOk result (kept_of self.new None [] false ≡ with_more_vars (kept_of self.old None [] false) n) }
         ensures room { IsErrOf result AddFault.Room ↔ VARS < self.old.trail.vars + n }
         ensures cause { IsErrOf result AddFault.Log → ⊥ }
     {
@@ -96,7 +96,7 @@ impl Search {
         requires idle { IsIdle self.old }
         requires vars { length m.now ≡ self.old.trail.vars }
         ensures idle { IsIdle self.new }
-        ensures same { kept_of self.new None false ≡ kept_of self.old None false }
+        ensures same { kept_of self.new None [] false ≡ kept_of self.old None [] false }
     {
         let vars = self.trail.vars();
         suggest(&mut self.phases, m, vars);

@@ -4,8 +4,8 @@ ghost use Rattle.outside_io.specs.Counts.{Rose};
 ghost use Rattle.cnf_core.specs.Clause.{Clauses, AreDistinct, AreThere, IsNamed};
 ghost use Rattle.refute_log.specs.declared.line.LogLine.TheVariants.{Formula};
 ghost use Rattle.refute_log.specs.Told.{Lines, AddsLine};
-ghost use Rattle.cdcl_core.specs.Kept.{blank, with_more_vars, AreGiven, IsGivenOne, IsTrueAnswer, HasModelOnly};
-ghost use Rattle.cdcl_core.specs.Belongs.{Belongs, StillDerives, HasSolved};
+ghost use Rattle.cdcl_core.specs.Kept.{blank, with_more_vars, AreGiven, IsGivenOne, IsTrueAnswer, HasModelOnly, HasRefuted};
+ghost use Rattle.cdcl_core.specs.Belongs.{Belongs, StillDerives, GivesNoMore, GivesAtMost, HasCounted, HasSolved};
 
 use crate::answer::Answer;
 use crate::fault::{AddFault, SolveFault};
@@ -22,6 +22,7 @@ use std::marker::Model;
 pub struct Solver {
     search: Search,
     model: Option<Truths>,
+    refuted: Vec<Lit>,
     failed: bool,
 }
 
@@ -31,7 +32,7 @@ impl Model for Solver {
 
     ghost Value = { Kept };
 
-    ghost view = { λ s. kept_of s.search s.model s.failed };
+    ghost view = { λ s. kept_of s.search s.model s.refuted.items s.failed };
 
     ghost invariant = { λ s. IsSolver s.search s.failed };
 }
@@ -47,6 +48,7 @@ impl Solver {
         Ok(Solver {
             search: Search::new(alloc, room)?,
             model: None,
+            refuted: Vec::new(alloc),
             failed: false,
         })
     }
@@ -61,8 +63,10 @@ impl Solver {
         ensures cause { IsErrOf result AddFault.Log → ⊥ }
         ensures failed { OnErr result (self.new.failed ≡ true) }
         ensures none { OnErr result (self.new.model ≡ None) }
+        ensures empty { OnErr result (self.new.refuted ≡ []) }
     {
         self.model = None;
+        self.refuted.clear();
         match self.search.add_vars(n) {
             Ok(()) => Ok(()),
             Err(fault) => {
@@ -85,6 +89,7 @@ impl Solver {
         ensures belongs { OnOk result ((lines : Lines) → Belongs lines self.old →
             Belongs (lines ++ Formula lits.now ∷ []) self.new) }
         ensures derives { OnErr result (StillDerives (L.tells log.old) (L.tells log.new) self.old) }
+        ensures formula { OnErr result (GivesAtMost (L.tells log.old) (L.tells log.new) lits.now) }
         ensures learnt { L.learnt log.new ≡ L.learnt log.old }
         ensures room { IsErrOf result AddFault.Room ↔ self.old.room < self.old.words + length lits.now + 3 }
         ensures untold { IsErrOf result AddFault.Room → log.new ≡ log.old }
@@ -93,8 +98,10 @@ impl Solver {
         ensures later { L.is_later log.old log.new }
         ensures failed { OnErr result (self.new.failed ≡ true) }
         ensures none { OnErr result (self.new.model ≡ None) }
+        ensures empty { OnErr result (self.new.refuted ≡ []) }
     {
         self.model = None;
+        self.refuted.clear();
         match self.search.add_clause(lits, log) {
             Ok(()) => Ok(()),
             Err(fault) => {
@@ -119,20 +126,27 @@ impl Solver {
         ensures answer { IfOk result (λ a. (given : Clauses) → AreGiven given self.old.clauses →
             IsTrueAnswer a given assume.now self.new) }
         ensures model { IfOk result (λ a. HasModelOnly a self.new) }
+        ensures refuted { IfOk result (λ a. (given : Clauses) → AreGiven given self.old.clauses →
+            HasRefuted a given assume.now self.new.refuted) }
         ensures given { OnOk result ((given : Clauses) → AreGiven given self.old.clauses → AreGiven given self.new.clauses) }
         ensures searched { IfOk result (λ a. HasSolved (L.tells log.old) (L.tells log.new)
             assume.now self.old self.new a budget (L.learnt log.old) (L.learnt log.new)) }
         ensures derives { OnErr result (StillDerives (L.tells log.old) (L.tells log.new) self.old) }
+        ensures formula { OnErr result (GivesNoMore (L.tells log.old) (L.tells log.new)) }
+        ensures few { OnErr result (HasCounted budget (L.learnt log.old) (L.learnt log.new)) }
         ensures cause { IsErrOf result SolveFault.Log → Rose (L.faults log.old) (L.faults log.new) }
         ensures faults { L.faults log.old ≤ L.faults log.new }
         ensures later { L.is_later log.old log.new }
         ensures failed { OnErr result (self.new.failed ≡ true) }
         ensures none { OnErr result (self.new.model ≡ None) }
+        ensures empty { OnErr result (self.new.refuted ≡ []) }
     {
         self.model = None;
+        self.refuted.clear();
         match self.search.solve(assume, budget, log) {
-            Ok((answer, model)) => {
+            Ok((answer, model, refuted)) => {
                 self.model = model;
+                self.refuted = refuted;
                 Ok(answer)
             }
             Err(fault) => {
@@ -148,6 +162,15 @@ impl Solver {
         ensures { MatchOption result (self.now.model ≡ None) (λ m. self.now.model ≡ Some m.now) }
     {
         self.model.as_ref()
+    }
+
+    /// Assumptions that are refuted together, few of them: those that the refutation needs. There are
+    /// some, or none are needed, where the latest `solve` answered Refuted; after another answer, and
+    /// where something was added since, the list is empty.
+    pub fn refuted(&self) -> &[Lit]
+        ensures { result.now ≡ self.now.refuted }
+    {
+        &self.refuted
     }
 
     /// Takes a truth value for each variable, which it has when it is decided next, unless it has

@@ -1,5 +1,5 @@
--- A false literal traced back to decisions.
-use Rattle.std.specs.Prelude.{◌≡◌, ◌≢◌, ◌≤◌, ◌<◌, ℕ, ◌+◌, true, cond, nat_eq, List, [], ◌∷◌, All, Contains, length}
+-- A false literal, or a clause that is false, traced back to decisions.
+use Rattle.std.specs.Prelude.{◌≡◌, ◌≤◌, ◌<◌, ℕ, ◌+◌, true, cond, nat_eq, List, [], ◌∷◌, ◌++◌, All, Contains, length}
 use Rattle.cnf_core.specs.Lit.{Literal, negate, has}
 use Rattle.cnf_core.specs.Clause.{AreDistinct}
 use Rattle.cnf_core.specs.Propagation.{LiteralSet, IsIn, negations, Falsifies, Rup}
@@ -22,30 +22,28 @@ pub record IsDecision (s : Sight) (k : Literal) : Type 0 where
   pub above : 0 < level_of s k
   pub decided : reason_of s k ≡ 0
 
--- what is kept fits the trail; the literal itself is seen, and isn't kept
-pub record IsTrace (s : Sight) (w : Cut) (l : Literal) : Type 0 where
+-- what is kept fits the trail; it and the literals in front, which stay in the clause, are seen
+pub record IsTrace (s : Sight) (w : Cut) (front : List Literal) : Type 0 where
   pub size : length w.seen ≡ s.vars + 1
-  pub target : IsSeen w l.var
   pub decisions : All (IsDecision s) w.rest
-  pub marks : All (λ k. IsSeen w k.var) w.rest
+  pub marks : All (λ k. IsSeen w k.var) (front ++ w.rest)
   pub all : (k : Literal) → IsIn (has s.lits) k → IsSeen w k.var → reason_of s k ≡ 0 → Contains w.rest (negate k)
-  pub distinct : AreDistinct w.rest
-  pub apart : All (λ k. l.var ≢ k.var) w.rest
+  pub distinct : AreDistinct (front ++ w.rest)
 
--- the seen literals before a place, the literal, and the decided ones that are kept
-abbrev pub tracing : Sight → Cut → Literal → ℕ → LiteralSet
-tracing s w l end x = cond (negations (negate l ∷ w.rest) x) true (working s w end x)
+-- the seen literals before a place, and the negations of those in front and of the decided ones that are kept
+abbrev pub tracing : Sight → Cut → List Literal → ℕ → LiteralSet
+tracing s w front end x = cond (negations (front ++ w.rest) x) true (working s w end x)
 
-pub record IsTracing (s : Sight) (w : Cut) (l : Literal) (end : ℕ) : Type 0 where
-  pub trace : IsTrace s w l
+pub record IsTracing (s : Sight) (w : Cut) (front : List Literal) (end : ℕ) : Type 0 where
+  pub trace : IsTrace s w front
   pub within : end ≤ length s.lits
-  pub rup : Falsifies (known s) (tracing s w l end)
+  pub rup : Falsifies (known s) (tracing s w front end)
 
--- the clause of the negation and of negated decisions follows by unit propagation
-pub record IsTraced (s : Sight) (first : Literal) (rest : List Literal) : Type 0 where
-  pub distinct : AreDistinct (first ∷ rest)
+-- the clause of the literals in front and of negated decisions follows by unit propagation
+pub record IsTraced (s : Sight) (front rest : List Literal) : Type 0 where
+  pub distinct : AreDistinct (front ++ rest)
   pub decisions : All (IsDecision s) rest
-  pub rup : Rup (known s) (first ∷ rest)
+  pub rup : Rup (known s) (front ++ rest)
 
 -- the clause has the negation of each decided literal
 abbrev pub HasDecisions : Sight → List Literal → Type 0
@@ -54,4 +52,4 @@ HasDecisions s c = (k : Literal) → IsIn (has s.lits) k → reason_of s k ≡ 0
 -- the clause that tracing a false literal back leaves
 abbrev pub IsTracedOf : Sight → Literal → List Literal → Type 0
 IsTracedOf s l [] = ⊥
-IsTracedOf s l (first ∷ rest) = (first ≡ negate l) × IsTraced s first rest
+IsTracedOf s l (first ∷ rest) = (first ≡ negate l) × IsTraced s (first ∷ []) rest

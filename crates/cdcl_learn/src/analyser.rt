@@ -1,14 +1,14 @@
 // The analyser as one value.
 ghost use Rattle.std.specs.Prelude.{◌≡◌, ◌≢◌, ◌≤◌, ◌<◌, ◌+◌, ℕ, true, Contains, [], length, slice_index, slice_index_or, take, IfOk, OnOk, OnErr};
 ghost use Rattle.cnf_core.specs.Clause.{IsThere};
-ghost use Rattle.watch_arena.specs.Arena.{AreReasoned};
+ghost use Rattle.watch_arena.specs.Arena.{AreReasoned, IsClashOf};
 ghost use Rattle.cdcl_learn.specs.Sight.{sight};
 ghost use Rattle.cdcl_learn.specs.Cut.{is_seen, IsConflict, IsLearntOf};
-ghost use Rattle.cdcl_learn.specs.Trace.{IsTracedOf};
+ghost use Rattle.cdcl_learn.specs.Trace.{IsTraced, IsTracedOf};
 ghost use Rattle.cdcl_learn.specs.Analysis.{AreVars, AreSeen, IsImpliedFalse};
 
 use crate::conflict::learn;
-use crate::tracing::trace_back;
+use crate::tracing::{trace_back, trace_clash};
 use crate::work::Work;
 use cnf_core::{Lit, VARS, Var, lengthen};
 use plan_core::OutOfMemory;
@@ -16,11 +16,12 @@ use std::alloc::Global;
 use std::marker::Model;
 use watch_arena::{Arena, ClauseRef, Trail};
 
-/// Makes a clause of a conflict, or of a false literal, and holds it until the next one.
+/// Makes a clause of a conflict, or of a false literal or clause, and holds it until the next one.
 #[derive(Drop)]
 pub struct Analyser {
     work: Work,
-    some: bool,
+    /// Whether the clause has `first` before the literals of `work`.
+    headed: bool,
     first: Lit,
     back: u32,
     side: Vec<u32>,
@@ -32,7 +33,7 @@ impl Model for Analyser {
 
     ghost Value = { Analysis };
 
-    ghost view = { λ a. analysis_of a.work a.some a.first a.back a.side.items a.side_len };
+    ghost view = { λ a. analysis_of a.work a.headed a.first a.back a.side.items a.side_len };
 
     ghost invariant = { λ a. IsAnalyser a.work a.side.items a.side_len };
 }
@@ -64,7 +65,7 @@ impl Analyser {
     {
         Ok(Analyser {
             work: Work::with_vars(alloc, n)?,
-            some: false,
+            headed: false,
             first: Lit::new(Var(1), true),
             back: 0,
             side: vec![in alloc; 0; n as usize + 1]?,
@@ -103,7 +104,7 @@ impl Analyser {
         let learnt = learn(&mut self.work, arena, trail, clash);
         // what the types keep
         let _short = self.work.len();
-        self.some = true;
+        self.headed = true;
         self.first = learnt.first;
         self.back = learnt.back;
         self.side_len = copy_met(&mut self.side, &self.work);
@@ -125,16 +126,50 @@ impl Analyser {
         trace_back(&mut self.work, arena, trail, l);
         // what the types keep
         let _short = self.work.len();
-        self.some = true;
+        self.headed = true;
         self.first = l.negated();
         self.back = 0;
     }
 
-    /// The number of literals of the clause; 0 as long as there is none.
+    /// Leaves the negations of the decided literals from which it follows that a clause is false.
+    pub fn trace_clash(&mut self, arena: &Arena, trail: &Trail, clash: ClauseRef)
+        requires reasoned { AreReasoned arena.now trail.now }
+        requires vars { self.old.vars ≡ trail.now.vars }
+        requires arena { arena.now.vars ≡ trail.now.vars }
+        requires clash { IsClashOf arena.now trail.now clash.0 }
+        ensures vars { self.new.vars ≡ self.old.vars }
+        ensures traced { IsTraced (sight arena.now trail.now) [] self.new.clause }
+        ensures back { self.new.back ≡ 0 }
+        ensures seen { self.new.seen ≡ self.old.seen }
+    {
+        // what the types keep
+        let _level = trail.level();
+        let _literals = arena.len_of(clash);
+        trace_clash(&mut self.work, arena, trail, clash);
+        // what the types keep
+        let _short = self.work.len();
+        self.headed = false;
+        self.back = 0;
+    }
+
+    /// Leaves the clause without literals.
+    pub fn clear(&mut self)
+        ensures vars { self.new.vars ≡ self.old.vars }
+        ensures clause { self.new.clause ≡ [] }
+        ensures back { self.new.back ≡ 0 }
+        ensures seen { self.new.seen ≡ self.old.seen }
+    {
+        self.work.clear();
+        self.headed = false;
+        self.back = 0;
+    }
+
+    /// The number of literals of the clause.
     pub fn len(&self) -> u32
         ensures { result ≡ length self.now.clause }
     {
-        if self.some { self.work.len() + 1 } else { 0 }
+        let rest = self.work.len();
+        if self.headed { rest + 1 } else { rest }
     }
 
     /// The literal of the clause at place `i`.
@@ -142,6 +177,9 @@ impl Analyser {
         requires { i < length self.now.clause }
         ensures { slice_index_or self.now.clause i result ≡ result }
     {
+        if !self.headed {
+            return self.work.lit(i);
+        }
         if i == 0 {
             self.first
         } else {

@@ -2,3 +2,4 @@ pub mod Bounds
 pub mod Certified
 pub mod Expected
 pub mod Full
+pub mod Cause

@@ -4,7 +4,8 @@
 //! k", and by its Refuted lines, each of which says that one of its literals is true in every lawful drawing.
 //! `specs/Bounds` says what a Bound line's variable means and which values meet a log, `specs/Certified` which
 //! values a log certifies and to which depth, `specs/Expected` which Formula and Bound lines the log of a file
-//! has, over the clause lists of whatever encoding, and `specs/Full` when no further lines have room.
+//! has, over the clause lists of whatever encoding, `specs/Full` when no further lines have room, and
+//! `specs/Cause` why a search that tells a log stopped, which is a `Stop`.
 //! `certified_laws` and `expected_laws` state what follows; they have no code. Nothing here searches and
 //! nothing checks a log: the search for least values and its check stand on this crate, which stands on
 //! `refute_log`.
@@ -12,6 +13,7 @@
 
 mod certified_laws;
 mod expected_laws;
+mod stop;
 
 pub use certified_laws::{
     certified_drawings_are_least, certified_values_are_least, equal_values_are_certified_alike,
@@ -21,3 +23,4 @@ pub use certified_laws::{
 pub use expected_laws::{
     caps_are_those_told, certified_over_expected_lines_is_least, expected_lines_come_sum_by_sum,
 };
+pub use stop::Stop;

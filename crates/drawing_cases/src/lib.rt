@@ -1,12 +1,13 @@
 //! Drawings of small stations as models of their formulas, and back.
 //!
-//! The crate has nothing but tests. `models` takes the drawing of a sheet, makes a model of the station's
-//! formula with a bound for each criterion, tries it on every clause, asks the bounds for the drawing's values
-//! and takes the drawing back. `forced` shows that a model has no truth value to spare, `room` when a formula
-//! has none left, `one_law` each law alone, with a literal in whose place it needn't hold, and `over` which edge
-//! is above another, and which line over another. `reading` reads a case's texts, `trying` tries a model on
-//! clauses, `stations` has the files and `pictures` the drawings. The crate stands on `model_decode`, and on the
-//! crates that read a station and a sheet, so that a change of a case proves nothing of the formula again.
+//! The crate has nothing but tests. `models` takes the drawing of a sheet, makes a model of the station's formula
+//! with a bound for each criterion, tries it on every clause, asks the bounds for the drawing's values and takes the
+//! drawing back, also from the nodes' and edges' variables alone. `forced` shows that a model has no truth value to
+//! spare, `room` when a formula has none left and how large formulas are, `one_law` each law alone, with a literal in
+//! whose place it needn't hold, and `over` which edge is above another, and which line over another. `reading` reads
+//! a case's texts, `trying` tries a model on clauses, `stations` has the files and `pictures` the drawings. The crate
+//! stands on `model_decode`, `law_core` and the crates that read a station and a sheet, so that a change of a case
+//! proves nothing of the formula again.
 #![tactic(auto)]
 
 #[cfg(test)]

@@ -1,5 +1,7 @@
 // Drawings as models of their formulas, and back.
-ghost use Rattle.std.specs.Prelude.{OnOk};
+ghost use Rattle.std.specs.Prelude.{◌≤◌, OnOk, length};
+ghost use Rattle.cnf_core.specs.Assignment.{SatisfiesAll};
+ghost use Rattle.cnf_core.specs.Truths.{assignment};
 ghost use Rattle.drawing_cnf.specs.Whole.{IsWhole};
 
 use crate::pictures::{
@@ -11,7 +13,7 @@ use crate::stations::{BACK, CROSS, LOOP, ONE, SCISSORS, TWO};
 use crate::trying::{is_true, satisfies};
 use cnf_core::{ROOM, Truths, Var};
 use drawing_cnf::{Encoded, criterion_bound, encode, greatest};
-use model_decode::decode;
+use model_decode::{decode, decode_loose};
 use plan_core::{Criterion, EdgeNo, Grid, NodeNo};
 use plan_geometry::{Drawing, values};
 use std::alloc::Global;
@@ -76,6 +78,17 @@ fn tells(vars: &[Var], value: u32, m: &Truths) -> bool {
     true
 }
 
+/// The drawing that the nodes' and edges' variables of a model say.
+fn loose_of(alloc: Global, e: &Encoded, m: &Truths) -> Result<Drawing, Fail>
+    requires whole { IsWhole e.now }
+    requires vars { e.now.formula.vars ≤ length m.now }
+    requires model { SatisfiesAll (assignment m.now) e.now.formula.clauses }
+{
+    let graph = e.graph();
+    let grid = e.grid();
+    Ok(decode_loose(alloc, graph, grid, m)?)
+}
+
 /// What a drawing's model fails to be; nothing if it is all that it has to be.
 fn fault_of(alloc: Global, mut e: Encoded, d: &Drawing) -> Result<&'static str, Fail>
     requires { IsWhole e }
@@ -87,6 +100,7 @@ fn fault_of(alloc: Global, mut e: Encoded, d: &Drawing) -> Result<&'static str, 
     let width = bound_above(alloc, &mut e, Criterion::Width, v.width)?;
     let m = model_of(alloc, &e, d)?;
     let again = decode(alloc, &e, &m)?;
+    let loose = loose_of(alloc, &e, &m)?;
     if m.vars() != e.formula().vars() as usize {
         return Ok("other variables");
     }
@@ -100,7 +114,7 @@ fn fault_of(alloc: Global, mut e: Encoded, d: &Drawing) -> Result<&'static str, 
     {
         return Ok("other values");
     }
-    Ok(if is_same(&again, d) {
+    Ok(if is_same(&again, d) && is_same(&loose, d) {
         ""
     } else {
         "another drawing"

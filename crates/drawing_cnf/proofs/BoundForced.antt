@@ -1,6 +1,6 @@
 -- A bound past what a criterion's value may be: a clause of one literal makes its variable false.
 use Rattle.std.proofs.Common.{◌≡◌, ℕ, suc, ◌+◌, ◌*◌, ◌≤◌, ◌<◌, List, [], ◌∷◌, length, sym, subst, arith, length-append, length-take}
-use Rattle.std.specs.Prelude.{Contains, false}
+use Rattle.std.specs.Prelude.{Contains}
 use Rattle.std.proofs.Math.Nat.{mul-le-mul_left}
 use Rattle.std.proofs.lemmas.List.Elements.{Contains-append_right}
 use Rattle.plan_core.specs.declared.criterion.Criterion.{Criterion}

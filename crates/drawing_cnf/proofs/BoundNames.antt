@@ -33,10 +33,10 @@ use Rattle.drawing_cnf.proofs.DiagonalBound.{steps_there}
 use Rattle.drawing_cnf.proofs.ListCode.{long_is}
 
 -- A CLAUSE AMONG OTHERS
-in_front : (xs ys : Clauses) (x : ℕ) → IsNamed xs x → IsNamed (xs ++ ys) x
+pub in_front : (xs ys : Clauses) (x : ℕ) → IsNamed xs x → IsNamed (xs ++ ys) x
 in_front xs ys x h = record { clause = h.clause; among = Contains-append_left xs ys h.clause h.among; lit = h.lit; inside = h.inside; var = h.var }
 
-behind : (xs ys : Clauses) (x : ℕ) → IsNamed ys x → IsNamed (xs ++ ys) x
+pub behind : (xs ys : Clauses) (x : ℕ) → IsNamed ys x → IsNamed (xs ++ ys) x
 behind xs ys x h = record { clause = h.clause; among = Contains-append_right xs ys h.clause h.among; lit = h.lit; inside = h.inside; var = h.var }
 
 pub among_each : (f : ℕ → Clauses) (first n k : ℕ) (c : List Literal) → first ≤ k → k < first + n → Contains (f k) c → Contains (each f first n) c
@@ -102,7 +102,7 @@ tree_other most vars b k (suc depth) (l ∷ m ∷ ls) le deep h =
     let right = tree_of depth (drop (length all / 2) all) in
     outputs_other (vars + (tree_count most left + tree_count most right) + 1) (min (tree_size most left + tree_size most right) most) b k (omega arith)
 
-sum_bound_named : (s : SumVars) (last k : ℕ) → 1 ≤ k → k ≤ s.most → last + k ≤ s.vars → Avoids (last + k) s.inputs → IsNamed (sum_bound s last) (last + k)
+pub sum_bound_named : (s : SumVars) (last k : ℕ) → 1 ≤ k → k ≤ s.most → last + k ≤ s.vars → Avoids (last + k) s.inputs → IsNamed (sum_bound s last) (last + k)
 sum_bound_named s last k from to le h =
     behind (sum_clauses s) (each (bound_outputs s last) 1 s.most) (last + k)
     (named_each (bound_outputs s last) 1 s.most k (last + k) from (omega arith)
@@ -122,7 +122,7 @@ avoids_append : (b : ℕ) (ks ls : List Literal) → Avoids b ks → Avoids b ls
 avoids_append b [] ls h g = g
 avoids_append b (k ∷ ks) ls h g = (h.0, avoids_append b ks ls h.1 g)
 
-block_avoids : (b first count : ℕ) → b < first → Avoids b (block first count)
+pub block_avoids : (b first count : ℕ) → b < first → Avoids b (block first count)
 block_avoids b first zero lt = tt
 block_avoids b first (suc count) lt = ((λ e. omega arith), block_avoids b (first + 1) count (omega arith))
 

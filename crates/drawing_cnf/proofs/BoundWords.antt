@@ -32,7 +32,7 @@ same_words b t =
     let two = clause_of [] (flip t ∷ yes b ∷ []) in
     omega (arith, words_append one two, clause_words [] (flip (yes b) ∷ t ∷ []), clause_words [] (flip t ∷ yes b ∷ []))
 
-sum_bound_words : (s : SumVars) (last : ℕ) → words_of (sum_bound s last) ≤ 100 * (length s.inputs + 1) * (s.most + 2) + s.most * 10
+pub sum_bound_words : (s : SumVars) (last : ℕ) → words_of (sum_bound s last) ≤ 100 * (length s.inputs + 1) * (s.most + 2) + s.most * 10
 sum_bound_words s last =
     omega (
       arith,

@@ -15,6 +15,7 @@ use Rattle.plan_core.specs.Lawful.{Instance, Ordered, Aligned, Apart, Over, Part
 use Rattle.cnf_core.specs.declared.limits.TheConstants.{VARS}
 use Rattle.cnf_core.specs.declared.literal.LitOrTruth.{LitOrTruth}
 use Rattle.cnf_core.specs.declared.literal.LitOrTruth.TheVariants.{False}
+use Rattle.cnf_core.specs.Lit.{Literal}
 use Rattle.cnf_core.specs.Clause.{words_of}
 use Rattle.cnf_core.specs.LitOrTruth.{yes, flip, clause_of}
 use Rattle.cnf_core.specs.Formula.{each}
@@ -34,16 +35,16 @@ use Rattle.drawing_cnf.proofs.LawCode.{size_append, laws_append}
 use Rattle.drawing_cnf.proofs.LawWords.{ordered_words, apart_words, higher_words, listed_words, all_pairs_words}
 use Rattle.drawing_cnf.proofs.BaseLemmas.{base_last, base_vars, edge_spot_in}
 
--- THE LAW ON SLOPES: eleven rules of two literals at most
+-- THE LAW ON SLOPES: eleven rules of two literals at most, unless one literal at most is true
 abbrev pub AreShort : List Rule → Type 0
 AreShort [] = ⊤
 AreShort (r ∷ rs) = (length (pair_literals r) ≤ 2) × AreShort rs
 
-rules_words : (rs : List Rule) → AreShort rs → words_of (unless_rules [] rs) ≤ length rs * 5
-rules_words [] h = omega arith
-rules_words (r ∷ rs) h =
+rules_words : (unless : List Literal) (rs : List Rule) → length unless ≤ 1 → AreShort rs → words_of (unless_rules unless rs) ≤ length rs * 6
+rules_words unless [] few h = omega arith
+rules_words unless (r ∷ rs) few h =
     let short = h.0 in
-    omega (arith, clause_words [] (pair_literals r), words_append (clause_of [] (pair_literals r)) (pair_clauses [] (map pair_literals rs)), rules_words rs h.1)
+    omega (arith, few, clause_words unless (pair_literals r), words_append (clause_of unless (pair_literals r)) (pair_clauses unless (map pair_literals rs)), rules_words unless rs few h.1)
 
 flat_short : (s : SlopeVars) → AreShort (flat_rules s)
 flat_short s = (omega arith, (omega arith, tt))
@@ -57,44 +58,44 @@ one_more_short s t = (omega arith, (omega arith, (omega arith, (omega arith, tt)
 greater_short : (s t : SlopeVars) → AreShort (greater_rules s t)
 greater_short s t = (omega arith, (omega arith, (omega arith, tt)))
 
-flat_words : (s : SlopeVars) → words_of (unless_rules [] (flat_rules s)) ≤ 10
-flat_words s = omega (arith, rules_words (flat_rules s) (flat_short s))
+flat_words : (unless : List Literal) (s : SlopeVars) → length unless ≤ 1 → words_of (unless_rules unless (flat_rules s)) ≤ 12
+flat_words unless s few = omega (arith, rules_words unless (flat_rules s) few (flat_short s))
 
-same_words : (s t : SlopeVars) → words_of (unless_rules [] (same_rules s t)) ≤ 20
-same_words s t = omega (arith, rules_words (same_rules s t) (same_short s t))
+same_words : (unless : List Literal) (s t : SlopeVars) → length unless ≤ 1 → words_of (unless_rules unless (same_rules s t)) ≤ 24
+same_words unless s t few = omega (arith, rules_words unless (same_rules s t) few (same_short s t))
 
-one_more_words : (s t : SlopeVars) → words_of (unless_rules [] (one_more_rules s t)) ≤ 20
-one_more_words s t = omega (arith, rules_words (one_more_rules s t) (one_more_short s t))
+one_more_words : (unless : List Literal) (s t : SlopeVars) → length unless ≤ 1 → words_of (unless_rules unless (one_more_rules s t)) ≤ 24
+one_more_words unless s t few = omega (arith, rules_words unless (one_more_rules s t) few (one_more_short s t))
 
-greater_words : (s t : SlopeVars) → words_of (unless_rules [] (greater_rules s t)) ≤ 15
-greater_words s t = omega (arith, rules_words (greater_rules s t) (greater_short s t))
+greater_words : (unless : List Literal) (s t : SlopeVars) → length unless ≤ 1 → words_of (unless_rules unless (greater_rules s t)) ≤ 18
+greater_words unless s t few = omega (arith, rules_words unless (greater_rules s t) few (greater_short s t))
 
-diverge_words : (legs : Compass) (branch : Side) (s t : SlopeVars) → words_of (unless_rules [] (diverge_rules legs branch s t)) ≤ 20
-diverge_words East Upper s t = one_more_words s t
-diverge_words East Lower s t = one_more_words t s
-diverge_words West Upper s t = one_more_words t s
-diverge_words West Lower s t = one_more_words s t
+diverge_words : (unless : List Literal) (legs : Compass) (branch : Side) (s t : SlopeVars) → length unless ≤ 1 → words_of (unless_rules unless (diverge_rules legs branch s t)) ≤ 24
+diverge_words unless East Upper s t few = one_more_words unless s t few
+diverge_words unless East Lower s t few = one_more_words unless t s few
+diverge_words unless West Upper s t few = one_more_words unless t s few
+diverge_words unless West Lower s t few = one_more_words unless s t few
 
-both_words : (rs ss : List Rule) → words_of (unless_rules [] (rs ++ ss)) ≡ words_of (unless_rules [] rs) + words_of (unless_rules [] ss)
-both_words [] ss = omega arith
-both_words (r ∷ rs) ss =
-    let one = words_append (clause_of [] (pair_literals r)) (pair_clauses [] (map pair_literals rs)) in
-    let all = words_append (clause_of [] (pair_literals r)) (pair_clauses [] (map pair_literals (rs ++ ss))) in
-    omega (arith, one, all, both_words rs ss)
+both_words : (unless : List Literal) (rs ss : List Rule) → words_of (unless_rules unless (rs ++ ss)) ≡ words_of (unless_rules unless rs) + words_of (unless_rules unless ss)
+both_words unless [] ss = omega arith
+both_words unless (r ∷ rs) ss =
+    let one = words_append (clause_of unless (pair_literals r)) (pair_clauses unless (map pair_literals rs)) in
+    let all = words_append (clause_of unless (pair_literals r)) (pair_clauses unless (map pair_literals (rs ++ ss))) in
+    omega (arith, one, all, both_words unless rs ss)
 
-ports_words : (at : ℕ → SlopeVars) (ports : Ports) → words_of (unless_rules [] (ports_rules at ports)) ≤ 55
-ports_words at (End e side) = omega (arith, flat_words (at e))
-ports_words at (Joint a b) = omega (arith, same_words (at a) (at b))
-ports_words at (Switch legs branch t s d) =
-    omega (arith, both_words (same_rules (at s) (at t)) (diverge_rules legs branch (at t) (at d)), same_words (at s) (at t), diverge_words legs branch (at t) (at d))
-ports_words at (Crossing wu wl eu el) =
+pub ports_words : (unless : List Literal) (at : ℕ → SlopeVars) (ports : Ports) → length unless ≤ 1 → words_of (unless_rules unless (ports_rules at ports)) ≤ 66
+ports_words unless at (End e side) few = omega (arith, flat_words unless (at e) few)
+ports_words unless at (Joint a b) few = omega (arith, same_words unless (at a) (at b) few)
+ports_words unless at (Switch legs branch t s d) few =
+    omega (arith, both_words unless (same_rules (at s) (at t)) (diverge_rules legs branch (at t) (at d)), same_words unless (at s) (at t) few, diverge_words unless legs branch (at t) (at d) few)
+ports_words unless at (Crossing wu wl eu el) few =
     omega (
       arith,
-      both_words (same_rules (at wl) (at eu)) (same_rules (at wu) (at el) ++ greater_rules (at wu) (at wl)),
-      both_words (same_rules (at wu) (at el)) (greater_rules (at wu) (at wl)),
-      same_words (at wl) (at eu),
-      same_words (at wu) (at el),
-      greater_words (at wu) (at wl),
+      both_words unless (same_rules (at wl) (at eu)) (same_rules (at wu) (at el) ++ greater_rules (at wu) (at wl)),
+      both_words unless (same_rules (at wu) (at el)) (greater_rules (at wu) (at wl)),
+      same_words unless (at wl) (at eu) few,
+      same_words unless (at wu) (at el) few,
+      greater_words unless (at wu) (at wl) few,
     )
 
 -- EACH LAW
@@ -104,34 +105,34 @@ alone g x width first i = omega (arith, words_append (instance_clauses g x width
 two_lists : (g : Graph) (x : DrawingVars) (width first : ℕ) (xs ys : List Instance) → words_of (laws_clauses g x width first (xs ++ ys)) ≡ words_of (laws_clauses g x width first xs) + words_of (laws_clauses g x width (first + laws_size g xs) ys)
 two_lists g x width first xs ys = ap words_of (laws_append g x width first xs ys) ∙ words_append (laws_clauses g x width first xs) (laws_clauses g x width (first + laws_size g xs) ys)
 
-ordered_few : (g : Graph) (grid : GridSize) (u v first : ℕ) → words_of (laws_clauses g (drawing_vars g grid) grid.width first (Ordered u v ∷ [])) ≤ 20 * area grid
+ordered_few : (g : Graph) (grid : GridSize) (u v first : ℕ) → words_of (laws_clauses g (drawing_vars g grid) grid.width first (Ordered u v ∷ [])) ≤ 22 * area grid
 ordered_few g grid u v first =
     let x = drawing_vars g grid in
-    let all = ordered_words (int_cmp (mileage g u) (mileage g v)) (x.node u).x (x.node v).x grid.width (omega arith) (omega arith) in
+    let all = ordered_words (int_cmp (mileage g u) (mileage g v)) (x.node u).x (x.node v).x [] grid.width (omega arith) (omega arith) (omega arith) in
     omega (arith, alone g x grid.width first (Ordered u v), all)
 
-aligned_few : (g : Graph) (grid : GridSize) (n first : ℕ) → words_of (laws_clauses g (drawing_vars g grid) grid.width first (Aligned n ∷ [])) ≤ 55 * area grid
+aligned_few : (g : Graph) (grid : GridSize) (n first : ℕ) → words_of (laws_clauses g (drawing_vars g grid) grid.width first (Aligned n ∷ [])) ≤ 66 * area grid
 aligned_few g grid n first =
     let x = drawing_vars g grid in
-    omega (arith, alone g x grid.width first (Aligned n), ports_words (slope_vars g x n) (node g n).ports)
+    omega (arith, alone g x grid.width first (Aligned n), ports_words [] (slope_vars g x n) (node g n).ports (omega arith))
 
-apart_few : (g : Graph) (grid : GridSize) (u v first : ℕ) → words_of (laws_clauses g (drawing_vars g grid) grid.width first (Apart u v ∷ [])) ≤ 30 * area grid
+apart_few : (g : Graph) (grid : GridSize) (u v first : ℕ) → words_of (laws_clauses g (drawing_vars g grid) grid.width first (Apart u v ∷ [])) ≤ 33 * area grid
 apart_few g grid u v first =
     let x = drawing_vars g grid in
-    let all = apart_words (int_cmp (mileage g u) (mileage g v)) first (x.node u) (x.node v) grid.width grid.height (omega arith) (omega arith) (omega arith) (omega arith) in
+    let all = apart_words (int_cmp (mileage g u) (mileage g v)) first (x.node u) (x.node v) [] grid.width grid.height (omega arith) (omega arith) (omega arith) (omega arith) (omega arith) in
     omega (arith, alone g x grid.width first (Apart u v), all)
 
-over_few : (g : Graph) (grid : GridSize) (e f : ℕ) (guard : LitOrTruth) → words_of (over_clauses g (drawing_vars g grid) grid.width e f guard []) ≤ 10 * area grid
-over_few g grid e f guard =
+pub over_few : (g : Graph) (grid : GridSize) (e f : ℕ) (guard : LitOrTruth) (unless : List Literal) → length unless ≤ 1 → words_of (over_clauses g (drawing_vars g grid) grid.width e f guard unless) ≤ 11 * area grid
+over_few g grid e f guard unless few =
     let x = drawing_vars g grid in
-    let all = higher_words (higher_of g x e f) (x.edge f) grid.width grid.height guard (λ c le. omega arith) in
+    let all = higher_words (higher_of g x e f) (x.edge f) grid.width guard unless grid.height few (λ c le. omega arith) in
     omega arith
 
-over_where : (g : Graph) (grid : GridSize) (b : Bool) (e f first : ℕ) → words_of (laws_clauses g (drawing_vars g grid) grid.width first (cond b (Over e f ∷ []) [])) ≤ 10 * area grid
-over_where g grid true e f first = omega (arith, alone g (drawing_vars g grid) grid.width first (Over e f), over_few g grid e f False)
+over_where : (g : Graph) (grid : GridSize) (b : Bool) (e f first : ℕ) → words_of (laws_clauses g (drawing_vars g grid) grid.width first (cond b (Over e f ∷ []) [])) ≤ 11 * area grid
+over_where g grid true e f first = omega (arith, alone g (drawing_vars g grid) grid.width first (Over e f), over_few g grid e f False [] (omega arith))
 over_where g grid false e f first = omega arith
 
-parted_where : (g : Graph) (grid : GridSize) (b : Bool) (e f first : ℕ) → words_of (laws_clauses g (drawing_vars g grid) grid.width first (cond b [] (Parted e f ∷ []))) ≤ 20 * area grid
+parted_where : (g : Graph) (grid : GridSize) (b : Bool) (e f first : ℕ) → words_of (laws_clauses g (drawing_vars g grid) grid.width first (cond b [] (Parted e f ∷ []))) ≤ 22 * area grid
 parted_where g grid true e f first = omega arith
 parted_where g grid false e f first =
     let x = drawing_vars g grid in
@@ -139,11 +140,11 @@ parted_where g grid false e f first =
       arith,
       alone g x grid.width first (Parted e f),
       words_append (over_clauses g x grid.width e f (flip (yes first)) []) (over_clauses g x grid.width f e (yes first) []),
-      over_few g grid e f (flip (yes first)),
-      over_few g grid f e (yes first),
+      over_few g grid e f (flip (yes first)) [] (omega arith),
+      over_few g grid f e (yes first) [] (omega arith),
     )
 
-pair_few : (g : Graph) (grid : GridSize) (a b o : Bool) (e f first : ℕ) → words_of (laws_clauses g (drawing_vars g grid) grid.width first (pair_by a b o e f)) ≤ 40 * area grid
+pair_few : (g : Graph) (grid : GridSize) (a b o : Bool) (e f first : ℕ) → words_of (laws_clauses g (drawing_vars g grid) grid.width first (pair_by a b o e f)) ≤ 44 * area grid
 pair_few g grid a b o e f first =
     let x = drawing_vars g grid in
     let next = first + laws_size g (cond a (Over e f ∷ []) []) in
@@ -161,7 +162,7 @@ pair_few g grid a b o e f first =
 added : (all one two three four five six p q r s : ℕ) → all ≡ one + two → two ≡ three + four → four ≡ five + six → one ≤ p → three ≤ q → five ≤ r → six ≤ s → all ≤ p + (q + (r + s))
 added all one two three four five six p q r s e1 e2 e3 h1 h2 h3 h4 = omega arith
 
-laws_few : (g : Graph) (grid : GridSize) (above overlap : ℕ → ℕ → Bool) (first : ℕ) → words_of (laws_clauses g (drawing_vars g grid) grid.width first (instances g above overlap)) ≤ length g.nodes * (length g.nodes * (20 * area grid)) + (length g.nodes * (55 * area grid) + (length g.nodes * (length g.nodes * (30 * area grid)) + length g.edges * (length g.edges * (40 * area grid))))
+laws_few : (g : Graph) (grid : GridSize) (above overlap : ℕ → ℕ → Bool) (first : ℕ) → words_of (laws_clauses g (drawing_vars g grid) grid.width first (instances g above overlap)) ≤ length g.nodes * (length g.nodes * (22 * area grid)) + (length g.nodes * (66 * area grid) + (length g.nodes * (length g.nodes * (33 * area grid)) + length g.edges * (length g.edges * (44 * area grid))))
 laws_few g grid above overlap first =
     let x = drawing_vars g grid in
     let w = grid.width in
@@ -176,12 +177,12 @@ laws_few g grid above overlap first =
     (words_of (laws_clauses g x w first ordered)) (words_of (laws_clauses g x w second (aligned ++ (apart ++ edges))))
     (words_of (laws_clauses g x w second aligned)) (words_of (laws_clauses g x w third (apart ++ edges)))
     (words_of (laws_clauses g x w third apart)) (words_of (laws_clauses g x w fourth edges))
-    (length g.nodes * (length g.nodes * (20 * area grid))) (length g.nodes * (55 * area grid)) (length g.nodes * (length g.nodes * (30 * area grid))) (length g.edges * (length g.edges * (40 * area grid)))
+    (length g.nodes * (length g.nodes * (22 * area grid))) (length g.nodes * (66 * area grid)) (length g.nodes * (length g.nodes * (33 * area grid))) (length g.edges * (length g.edges * (44 * area grid)))
     (two_lists g x w first ordered (aligned ++ (apart ++ edges))) (two_lists g x w second aligned (apart ++ edges)) (two_lists g x w third apart edges)
-    (all_pairs_words g x w (20 * area grid) (length g.nodes) (λ u v. Ordered u v ∷ []) (λ u v k. ordered_few g grid u v k) first)
-    (listed_words g x w (55 * area grid) (λ k. Aligned k ∷ []) (λ k j. aligned_few g grid k j) 0 (length g.nodes) second)
-    (all_pairs_words g x w (30 * area grid) (length g.nodes) (λ u v. Apart u v ∷ []) (λ u v k. apart_few g grid u v k) third)
-    (all_pairs_words g x w (40 * area grid) (length g.edges) (edge_pair above overlap) (λ e f k. pair_few g grid (above e f) (above f e) (overlap e f) e f k) fourth)
+    (all_pairs_words g x w (22 * area grid) (length g.nodes) (λ u v. Ordered u v ∷ []) (λ u v k. ordered_few g grid u v k) first)
+    (listed_words g x w (66 * area grid) (λ k. Aligned k ∷ []) (λ k j. aligned_few g grid k j) 0 (length g.nodes) second)
+    (all_pairs_words g x w (33 * area grid) (length g.nodes) (λ u v. Apart u v ∷ []) (λ u v k. apart_few g grid u v k) third)
+    (all_pairs_words g x w (44 * area grid) (length g.edges) (edge_pair above overlap) (λ e f k. pair_few g grid (above e f) (above f e) (overlap e f) e f k) fourth)
 
 -- NODES AND EDGES
 int_words : (i : IntVars) → words_of (int_clauses i) ≤ 5 * size i
@@ -204,7 +205,7 @@ edge_few g grid e is size few lt =
     edge_words (edge_first g grid e) grid.height grid.width (base_last g grid) grid.least (x.node (edge g e).west) (x.node (edge g e).east) s.0.spot (omega arith)
     (a.node_x (edge g e).west ends.0) (a.node_y (edge g e).west ends.0) (a.node_x (edge g e).east ends.1) (a.node_y (edge g e).east ends.1) (omega arith) (omega arith) (omega arith)
 
-base_few : (g : Graph) (grid : GridSize) → IsTrackGraph g → IsGrid grid → laws_first g grid ≤ VARS + 1 → words_of (base_clauses g (drawing_vars g grid) grid) ≤ length g.nodes * (5 * area grid) + length g.edges * (2000 * area grid)
+pub base_few : (g : Graph) (grid : GridSize) → IsTrackGraph g → IsGrid grid → laws_first g grid ≤ VARS + 1 → words_of (base_clauses g (drawing_vars g grid) grid) ≤ length g.nodes * (5 * area grid) + length g.edges * (2000 * area grid)
 base_few g grid is size few =
     let x = drawing_vars g grid in
     let nodes = words_each (5 * area grid) (λ n. node_clauses (x.node n)) 0 (length g.nodes) (λ k from to. node_few g grid k) in
@@ -215,7 +216,7 @@ base_few g grid is size few =
     sum_of all one two p q e h k = omega arith
 
 -- THE FORMULA
-total_words : (n m a all base laws : ℕ) → all ≡ base + laws → base ≤ n * (5 * a) + m * (2000 * a) → laws ≤ n * (n * (20 * a)) + (n * (55 * a) + (n * (n * (30 * a)) + m * (m * (40 * a)))) → all ≤ 2000 * ((n + m) * a) + 100 * ((n + m) * (n + m) * a)
+total_words : (n m a all base laws : ℕ) → all ≡ base + laws → base ≤ n * (5 * a) + m * (2000 * a) → laws ≤ n * (n * (22 * a)) + (n * (66 * a) + (n * (n * (33 * a)) + m * (m * (44 * a)))) → all ≤ 2000 * ((n + m) * a) + 100 * ((n + m) * (n + m) * a)
 total_words n m a all base laws e h k = omega arith
 
 pub formula_words : (g : Graph) (above overlap : ℕ → ℕ → Bool) (grid : GridSize) → IsTrackGraph g → IsGrid grid → laws_first g grid ≤ VARS + 1 → words_of (formula_clauses g above overlap grid) ≤ most_words g grid

@@ -17,7 +17,7 @@ use Rattle.order_int.proofs.IntLemmas.{reads_once}
 use Rattle.edge_lines.proofs.LineHeights.{point_is}
 use Rattle.edge_lines.proofs.UniqueLemmas.{same_heights_same_line}
 use Rattle.track_order.specs.Order.{EdgeOrder, is_above, is_overlap, IsOrderOf}
-use Rattle.drawing_cnf.specs.Stands.{DrawingVars, StandsFor}
+use Rattle.drawing_cnf.specs.Stands.{DrawingVars, StandsFor, IsJoinedOnGrid}
 use Rattle.drawing_cnf.specs.Expected.{instances, formula_clauses, formula_size}
 use Rattle.drawing_cnf.specs.Bounded.{Bound, size_of_bound, bounds_clauses, AreBehind, Tells, SoundWith}
 use Rattle.drawing_cnf.specs.Encoding.{Encoding, encoded_vars}
@@ -52,9 +52,9 @@ last_rises g x grid vars [] h = omega arith
 last_rises g x grid vars (b ∷ rest) h = let low = h.0 in omega (arith, last_rises g x grid (b.last + size_of_bound g x grid b) rest h.1)
 
 -- ONE DRAWING
--- lawful drawings for which an assignment stands are one
-pub one_drawing : (v : Assignment) (g : Graph) (above : ℕ → ℕ → Bool) (grid : GridSize) (x : DrawingVars) (a b : Drawing) → IsTrackGraph g → Lawful g above grid a → Lawful g above grid b → StandsFor v g x a → StandsFor v g x b → a ≡ b
-one_drawing v g above grid x a b is la lb sa sb =
+-- drawings with laws 1 and 3 for which an assignment stands are one
+pub one_joined : (v : Assignment) (g : Graph) (grid : GridSize) (x : DrawingVars) (a b : Drawing) → IsTrackGraph g → IsJoinedOnGrid g grid a → IsJoinedOnGrid g grid b → StandsFor v g x a → StandsFor v g x b → a ≡ b
+one_joined v g grid x a b is la lb sa sb =
     ap (λ (ps : List Point). drawing ps a.lines) places ∙ ap (λ (ls : List (List Point)). drawing b.places ls) lines
   where
     point : (n : ℕ) → n < length g.nodes → place a n ≡ place b n
@@ -71,8 +71,8 @@ one_drawing v g above grid x a b is la lb sa sb =
 
     one_line : (e : ℕ) → e < length g.edges → line a e ≡ line b e
     one_line e lt =
-        let ja = (lawful_loose g above grid a is la).joins e lt in
-        let jb = (lawful_loose g above grid b is lb).joins e lt in
+        let ja = la.joins e lt in
+        let jb = lb.joins e lt in
         let ends = is.nodes e lt in
         let wa : (west_end (line a e)).x ≡ (place a (edge g e).west).x = ap (λ (p : Point). p.x) ja.begins in
         let wb : (west_end (line b e)).x ≡ (place b (edge g e).west).x = ap (λ (p : Point). p.x) jb.begins in
@@ -90,6 +90,10 @@ one_drawing v g above grid x a b is la lb sa sb =
         let mb = lb.fits.size.lines in
         same_lists a.lines b.lines (omega arith) (λ k l lt.
         get_or_default a.lines k l [] lt ∙ one_line k (omega arith) ∙ get_or_default b.lines k [] l (omega arith))
+
+-- so are lawful ones
+pub one_drawing : (v : Assignment) (g : Graph) (above : ℕ → ℕ → Bool) (grid : GridSize) (x : DrawingVars) (a b : Drawing) → IsTrackGraph g → Lawful g above grid a → Lawful g above grid b → StandsFor v g x a → StandsFor v g x b → a ≡ b
+one_drawing v g above grid x a b is la lb sa sb = one_joined v g grid x a b is (lawful_loose g above grid a is la) (lawful_loose g above grid b is lb) sa sb
 
 -- A WHOLE FORMULA
 pub whole_reads : (e : Encoding) → IsTrackGraph e.graph → IsGrid e.grid → IsWhole e → (v : Assignment) → SatisfiesAll v e.formula.clauses → ReadsLawful v e.graph (is_above e.order) e.grid

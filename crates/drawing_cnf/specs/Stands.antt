@@ -9,6 +9,7 @@ use Rattle.plan_core.specs.Drawing.{Drawing, place, line}
 use Rattle.plan_core.specs.Laws.{NodeIsOnGrid}
 use Rattle.plan_core.specs.Lawful.{Fits}
 use Rattle.cnf_core.specs.Assignment.{Assignment}
+use Rattle.order_int.specs.IntVars.{IntIsThere}
 use Rattle.order_int.specs.OrderInt.{Reads}
 use Rattle.edge_shape.specs.EdgeVars.{NodeInts, EdgeLits}
 use Rattle.edge_lines.specs.Track.{step_slope}
@@ -32,6 +33,11 @@ pub record StandsFor (v : Assignment) (g : Graph) (x : DrawingVars) (d : Drawing
 pub record ReadsPoint (v : Assignment) (n : NodeInts) (p : Point) : Type 0 where
   pub x : Reads v n.x p.x
   pub y : Reads v n.y p.y
+
+-- the variables of both are among the variables 1 to vars
+pub record NodeThere (vars : ℕ) (n : NodeInts) : Type 0 where
+  pub x : IntIsThere vars n.x
+  pub y : IntIsThere vars n.y
 
 -- the two variables of an end slope
 pub record SlopeVars : Type 0 where

@@ -74,8 +74,8 @@ impl Bounds {
 /// one, and clauses that make them say of the drawing's value whether it is at least 1, at least 2 and so on. Where
 /// the value can't go so far, a clause of one literal makes the variable false.
 ///
-/// `Room` comes exactly where the words or the variables are more than there may be, want of memory aside. After
-/// an error the formula isn't used further.
+/// `Room` comes exactly where the words or the variables are more than there may be, want of memory aside; and those
+/// of the bound are few, whatever the answer. After an error the formula isn't used further.
 pub fn criterion_bound<'a>(
     alloc: Global,
     e: &mut Encoded<'a>,
@@ -107,6 +107,12 @@ pub fn criterion_bound<'a>(
         IsErrOf result Room →
         (VARS < e.old.formula.vars + size_of_bound e.old.graph (encoded_vars e.old) e.old.grid b)
         ⊎ (e.old.formula.room < words_of all) }
+    ensures list_words { let b = bound c e.old.formula.vars cap in
+        let most = parts e.old.graph * (e.old.grid.width + 1) * (cap + 2) in
+        1 ≤ parts e.old.graph → words_of (clauses_of_bound e.old.graph (encoded_vars e.old) e.old.grid b) ≤ 400 * most }
+    ensures list_vars { let b = bound c e.old.formula.vars cap in
+        let most = parts e.old.graph * (e.old.grid.width + 1) * (cap + 2) in
+        1 ≤ parts e.old.graph → size_of_bound e.old.graph (encoded_vars e.old) e.old.grid b ≤ 40 * most }
     ensures words_bounded { let most = parts e.old.graph * (e.old.grid.width + 1) * (cap + 2) in
         1 ≤ parts e.old.graph → words_of e.new.formula.clauses ≤ words_of e.old.formula.clauses + 400 * most }
     ensures vars_bounded { let most = parts e.old.graph * (e.old.grid.width + 1) * (cap + 2) in

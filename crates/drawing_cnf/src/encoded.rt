@@ -7,6 +7,7 @@ ghost use Rattle.track_order.specs.Order.{is_above, is_overlap, IsOrderOf};
 ghost use Rattle.edge_shape.specs.EdgeVars.{edge_spot, lits_of};
 ghost use Rattle.drawing_cnf.specs.Expected.{drawing_vars, edge_first, formula_clauses, formula_size, most_words, most_variables};
 ghost use Rattle.drawing_cnf.specs.Expected.{Sound, Covers};
+ghost use Rattle.drawing_cnf.specs.Unlengthened.{unlengthened_clauses};
 ghost use Rattle.drawing_cnf.specs.Encoding.{encoded_vars};
 ghost use Rattle.drawing_cnf.specs.Whole.{IsWhole};
 
@@ -79,7 +80,7 @@ impl<'a> Encoded<'a> {
         ensures x { result.x ≡ ((encoded_vars self.now).node n.0).x }
         ensures y { result.y ≡ ((encoded_vars self.now).node n.0).y }
     {
-        node_vars(self.graph, self.grid, n.0)
+        node_vars(self.graph, self.grid, n)
     }
 
     /// The variables of an edge, in whose heights `StandsFor` reads its line.
@@ -95,7 +96,8 @@ impl<'a> Encoded<'a> {
 /// The formula of a graph, whose edges have this order, on a grid, with room for so many words.
 ///
 /// `Room` comes exactly where the words or the variables are more than there may be, want of memory
-/// aside. Every model stands for a lawful drawing, and every lawful drawing has a model.
+/// aside. Every model stands for a lawful drawing, and every lawful drawing has a model. With least length 1 the
+/// clauses are those without a least length.
 pub fn encode<'a>(
     alloc: Global,
     g: &'a PortGraph,
@@ -120,6 +122,8 @@ pub fn encode<'a>(
     ensures words_bounded { words_of (formula_clauses g.now (is_above t.now) (is_overlap t.now) grid.now)
         ≤ most_words g.now grid.now }
     ensures vars_bounded { formula_size g.now (is_above t.now) (is_overlap t.now) grid.now ≤ most_variables g.now grid.now }
+    ensures least_1 { grid.now.least ≡ 1 → formula_clauses g.now (is_above t.now) (is_overlap t.now) grid.now
+        ≡ unlengthened_clauses g.now (is_above t.now) (is_overlap t.now) grid.now }
     ensures whole { IfOk result (λ e. IsWhole e) }
     ensures sound { Sound g.now (is_above t.now) grid.now (drawing_vars g.now grid.now)
         (formula_clauses g.now (is_above t.now) (is_overlap t.now) grid.now) }

@@ -98,8 +98,8 @@ fn add_height_beside(
     // what the types keep
     let _ = g.nodes();
     let vars = edge_vars(g, grid, EdgeNo(e));
-    let west = node_vars(g, grid, g.west(EdgeNo(e)).0);
-    let east = node_vars(g, grid, g.east(EdgeNo(e)).0);
+    let west = node_vars(g, grid, g.west(EdgeNo(e)));
+    let east = node_vars(g, grid, g.east(EdgeNo(e)));
     add_beside(f, &vars.west_up(), &west.y, b, k)?;
     add_beside(f, &vars.east_down(), &east.y, b, k)
 }

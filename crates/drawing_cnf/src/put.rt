@@ -49,7 +49,7 @@ fn put_node(g: &PortGraph, grid: &Grid, n: u16, p: Point, m: &mut Truths)
         (assignment m.old) (assignment m.new) }
     ensures vars { length m.new ≡ length m.old }
 {
-    let vars = node_vars(g, grid, n);
+    let vars = node_vars(g, grid, NodeNo(n));
     vars.y.put(u32::from(p.y), m);
     vars.x.put(u32::from(p.x), m);
 }

@@ -64,16 +64,16 @@ fn node_vars_at(grid: &Grid, place: u16) -> NodeVars
     }
 }
 
-/// The integers of a node.
-pub(crate) fn node_vars(g: &PortGraph, grid: &Grid, n: u16) -> NodeVars
-    requires { n < length g.now.nodes }
-    ensures x { result.x ≡ (ints_at_place grid.now (west_rank g.now n)).x }
-    ensures y { result.y ≡ (ints_at_place grid.now (west_rank g.now n)).y }
+/// The integers of a node, in each formula that begins with the variables of a graph's nodes on a grid.
+pub fn node_vars(g: &PortGraph, grid: &Grid, n: NodeNo) -> NodeVars
+    requires { n.0 < length g.now.nodes }
+    ensures x { result.x ≡ (ints_at_place grid.now (west_rank g.now n.0)).x }
+    ensures y { result.y ≡ (ints_at_place grid.now (west_rank g.now n.0)).y }
     ensures grid { IsGrid grid.now }
-    ensures within { 1 + west_rank g.now n * (grid.now.height + grid.now.width) + grid.now.height + grid.now.width
+    ensures within { 1 + west_rank g.now n.0 * (grid.now.height + grid.now.width) + grid.now.height + grid.now.width
         ≤ edges_first g.now grid.now }
 {
     // what the types keep
     let _ = g.nodes();
-    node_vars_at(grid, rank_of(g, n))
+    node_vars_at(grid, rank_of(g, n.0))
 }

@@ -81,8 +81,8 @@ fn add_outputs(f: &mut Formula, s: &Sum, cap: u32, last: u32) -> Result<(), CnfF
     Ok(())
 }
 
-/// A sum, and the bound's variables as its outputs; answers the sum.
-pub(crate) fn add_sum_bound(
+/// A sum, and the variables behind number `last` as its outputs, up to a cap; answers the sum.
+pub fn add_sum_bound(
     alloc: Global,
     f: &mut Formula,
     inputs: &[Lit],

@@ -10,7 +10,7 @@ use crate::height_bound::add_gives;
 use crate::order::yes_var;
 use crate::rank::node_vars;
 use cnf_core::{CnfFault, Formula, LitOrTruth};
-use plan_core::{Grid, OutOfMemory};
+use plan_core::{Grid, NodeNo, OutOfMemory};
 use port_graph::PortGraph;
 use std::alloc::Global;
 
@@ -30,7 +30,7 @@ fn add_columns_give(
 {
     let end = g.nodes();
     for n in 0..end {
-        add_gives(f, &node_vars(g, grid, n).x, b, k)?;
+        add_gives(f, &node_vars(g, grid, NodeNo(n)).x, b, k)?;
     }
     Ok(())
 }
@@ -47,7 +47,7 @@ fn columns_at_least(
     let mut columns = Vec::new(alloc);
     let end = g.nodes();
     for n in 0..end {
-        columns.push(node_vars(g, grid, n).x.at_least(k))?;
+        columns.push(node_vars(g, grid, NodeNo(n)).x.at_least(k))?;
     }
     Ok(columns)
 }

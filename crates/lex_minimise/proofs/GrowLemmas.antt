@@ -25,7 +25,7 @@ use Rattle.drawing_cnf.specs.Expected.{drawing_vars, formula_clauses, formula_si
 use Rattle.drawing_cnf.specs.Bounded.{Bound, clauses_of_bound, bounds_clauses, AreBehind, CoversWith}
 use Rattle.cdcl_core.specs.Kept.{Kept}
 use Rattle.cdcl_core.specs.Belongs.{Belongs}
-use Rattle.lex_search.proofs.StepLemmas.{clause_lines_append}
+use Rattle.lex_search.proofs.QuestionLemmas.{clause_lines_append}
 use Rattle.lex_search.proofs.BuildLemmas.{sum_is_clauses}
 use Rattle.drawing_problem.specs.Lists.{drawing_problem, lines_of_bound, variables_behind}
 use Rattle.drawing_problem.specs.Layout.{Layout}

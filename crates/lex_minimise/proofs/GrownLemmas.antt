@@ -30,11 +30,11 @@ use Rattle.drawing_problem.proofs.ListLemmas.{sum_is_bound, sum_vars_is_size}
 use Rattle.cdcl_core.specs.Kept.{Kept, AreGiven, with_more_vars}
 use Rattle.cdcl_core.specs.Belongs.{Belongs}
 use Rattle.lex_search.specs.declared.oracle.Built.TheVariants.{Whole}
-use Rattle.lex_search.specs.Steps.{ToldBehind}
+use Rattle.refute_log.specs.Steps.{ToldBehind, GoesOn}
 use Rattle.lex_search.specs.Built.{IsBuild, AreBuiltTo}
 use Rattle.lex_minimise.specs.Known.{told_clauses, with_bound, no_caps, caps_of, AreTold, KnowsLines, IsReady}
 use Rattle.lex_minimise.specs.Task.{task_of}
-use Rattle.lex_minimise.specs.Told.{GoesOn, HasTaken}
+use Rattle.lex_minimise.specs.Told.{HasTaken}
 use Rattle.lex_minimise.specs.Grown.{clauses_behind, size_behind, HasGrown, IsGrown}
 use Rattle.lex_minimise.proofs.CoverLemmas.{known_lines}
 use Rattle.lex_minimise.proofs.GrowLemmas.{clauses_more, told_more, told_are_more, bounds_belong, formula_count, block_count}
@@ -221,3 +221,11 @@ build_goes old new told after budget room k m c cap l0 l1 n0 n1 positive ready g
     ap (λ n. lines_of_bound old.graph (drawing_vars old.graph old.grid) old.grid (bound c n cap)) (sym ready.vars) ∙ sym (sum_is_bound old.graph (is_above old.order) (is_overlap old.order) old.grid k.vars c cap positive) in
     goes_weaker (KnowsLines (layout_of old) told budget room k) (KnowsLines (layout_of old) after budget room m) l0 l1 n0 n1 (λ lines more. more ≡ lines_of_bound old.graph (drawing_vars old.graph old.grid) old.grid b)
     (λ lines more. IsBuild (task_of (layout_of old) budget room) k.vars c cap Whole lines more) there (λ lines more is. is ∙ same)
+
+-- the lines that are known then are those of the same layout, budget and room
+pub goes_to : (y z : Layout) (told : List Bound) (budget many room space : ℕ) (k : Kept) (before log_old log_new : Lines → Type 0) (count_old count_new : ℕ) (R : Lines → Lines → Type 0) → z ≡ y → many ≡ budget → space ≡ room →
+    GoesOn before (KnowsLines y told budget room k) log_old log_new count_old count_new R → GoesOn before (KnowsLines z told many space k) log_old log_new count_old count_new R
+goes_to y z told budget many room space k before log_old log_new count_old count_new R layout budget_is room_is h =
+    subst (λ (w : Layout). GoesOn before (KnowsLines w told many space k) log_old log_new count_old count_new R) (sym layout)
+    (subst (λ n. GoesOn before (KnowsLines y told n space k) log_old log_new count_old count_new R) (sym budget_is)
+    (subst (λ n. GoesOn before (KnowsLines y told budget n k) log_old log_new count_old count_new R) (sym room_is) h))

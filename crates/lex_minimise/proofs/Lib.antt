@@ -6,3 +6,4 @@ pub mod GrowLemmas
 pub mod GrownLemmas
 pub mod RoomLemmas
 pub mod StartLemmas
+pub mod FrontLemmas

@@ -24,14 +24,14 @@ use Rattle.cdcl_core.specs.Belongs.{search_lines, HasSpent, HasSolved}
 use Rattle.lex_search.specs.declared.oracle.Below.{Below}
 use Rattle.lex_search.specs.declared.oracle.Reply.{Reply}
 use Rattle.lex_search.specs.declared.oracle.Reply.TheVariants.{Found, Refuted, Stopped}
-use Rattle.lex_search.specs.declared.oracle.Stop.TheVariants.{BudgetSpent, RoomFull}
+use Rattle.certified_values.specs.declared.stop.Stop.TheVariants.{BudgetSpent, RoomFull}
 use Rattle.lex_search.specs.Task.{Task}
 use Rattle.lex_search.specs.Asked.{AreMet, IsAsked, IsReply}
-use Rattle.lex_search.proofs.StepLemmas.{clause_lines_append, asks_no_clauses}
+use Rattle.lex_search.proofs.QuestionLemmas.{clause_lines_append, asks_no_clauses}
 use Rattle.lex_minimise.specs.Task.{task_of}
 use Rattle.drawing_problem.specs.Layout.{layout_of}
 use Rattle.lex_minimise.specs.Known.{told_clauses, KnowsLines, IsReady}
-use Rattle.lex_minimise.specs.Told.{GoesOn}
+use Rattle.refute_log.specs.Steps.{GoesOn}
 use Rattle.lex_minimise.specs.Asking.{AreAssumed, TellsAnswer, IsReplyOf}
 use Rattle.lex_minimise.proofs.CoverLemmas.{known_lines}
 use Rattle.lex_minimise.proofs.GrowLemmas.{named_in}

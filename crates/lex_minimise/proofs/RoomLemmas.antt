@@ -22,7 +22,7 @@ use Rattle.drawing_problem.specs.Lists.{drawing_problem}
 use Rattle.drawing_problem.specs.Layout.{Layout, layout_of}
 use Rattle.lex_minimise.specs.Task.{task_of}
 use Rattle.lex_minimise.specs.Known.{told_clauses, told_lines, KnowsLines, IsReady}
-use Rattle.lex_minimise.specs.Told.{GoesOn}
+use Rattle.refute_log.specs.Steps.{GoesOn}
 use Rattle.drawing_problem.proofs.ListLemmas.{given_with, given_bound, sum_is_bound, sum_vars_is_size}
 use Rattle.lex_minimise.proofs.QueryLemmas.{formula_told}
 

@@ -32,16 +32,16 @@ use Rattle.drawing_problem.proofs.ListLemmas.{given_formulas}
 use Rattle.cdcl_core.specs.Kept.{Kept, AreGiven, blank, with_more_vars}
 use Rattle.cdcl_core.specs.Belongs.{Belongs}
 use Rattle.cdcl_core.proofs.ViewLemmas.{new_given, new_belongs}
-use Rattle.lex_search.specs.declared.outcome.Outcome.{Outcome}
 use Rattle.lex_search.specs.declared.outcome.Outcome.TheVariants.{Room}
-use Rattle.lex_search.specs.Task.{Task, greatest_of}
-use Rattle.lex_search.specs.Steps.{ToldBehind}
+use Rattle.lex_search.specs.Task.{greatest_of}
+use Rattle.refute_log.specs.Steps.{ToldBehind, GoesOn}
 use Rattle.lex_search.specs.Outcome.{IsOutcome, IsFresh, first_lines}
-use Rattle.lex_search.proofs.StepLemmas.{rose_both, count_more}
+use Rattle.refute_log.proofs.StepLemmas.{rose_both, count_more}
 use Rattle.lex_search.proofs.BuildLemmas.{formulas_are_clauses}
 use Rattle.lex_minimise.specs.Known.{told_clauses, caps_of, AreTold, KnowsLines, IsReady}
 use Rattle.lex_minimise.specs.Task.{task_of}
-use Rattle.lex_minimise.specs.Told.{GoesOn, HasTaken, IsLogOfSolver}
+use Rattle.lex_minimise.specs.Told.{HasTaken, IsLogOfSolver}
+use Rattle.lex_minimise.proofs.TellLemmas.{goes_weaker}
 use Rattle.lex_minimise.proofs.CoverLemmas.{known_lines}
 use Rattle.lex_minimise.proofs.GrowLemmas.{formula_count}
 
@@ -72,6 +72,7 @@ no_room_end y budget room order full =
         fits = omega arith;
         within = omega arith;
         few = λ some. absurd (some refl);
+        placed = λ i line at. absurd (cc);
       };
       told = inr refl;
       settled_is = refl;
@@ -177,28 +178,36 @@ first_knows y budget room e f old new l0 l1 n0 n1 first is blank_is t goes =
 
 -- ---- the whole
 
-pub whole_told : (y : Layout) (budget room : ℕ) (e : Encoding) (f : Cnf) (order : List Criterion) (o : Outcome) (old mid new : Kept) (l0 l1 l2 : Lines → Type 0) (n0 n1 n2 : ℕ) → IsFirst y room e → f ≡ e.formula → old ≡ blank room →
-    GoesOn (λ ls. Belongs ls old) (λ ls. Belongs ls mid) l0 l1 n0 n1 (λ lines more. more ≡ map Formula (drop 0 f.clauses)) →
-    ToldBehind (IsLogOfSolver new) l1 l2 n1 n2 (first_lines (task_of (layout_of e) budget room)) (λ more. IsOutcome (task_of (layout_of e) budget room) order o (first_lines (task_of (layout_of e) budget room) ++ more)) →
-    (lines : Lines) × IsToldTo l0 l2 n0 n2 lines × IsOutcome (task_of y budget room) order o lines × IsLogOfSolver new lines
-whole_told y budget room e f order o old mid new l0 l1 l2 n0 n1 n2 first is blank_is goes second =
-    let p = task_of (layout_of e) budget room in
-    let told : ToldBehind (λ ls. Belongs ls mid) l0 l1 n0 n1 [] (λ more. more ≡ map Formula (drop 0 f.clauses)) = goes [] (new_belongs old room blank_is) in
+-- a log was told the lines of a formula, and those of a search behind them
+pub told_whole : (first : Lines) (R : Lines → Type 0) (room : ℕ) (old mid new : Kept) (l0 l1 l2 : Lines → Type 0) (n0 n1 n2 : ℕ) → old ≡ blank room →
+    GoesOn (λ ls. Belongs ls old) (λ ls. Belongs ls mid) l0 l1 n0 n1 (λ lines more. more ≡ first) → ToldBehind (IsLogOfSolver new) l1 l2 n1 n2 first (λ more. R (first ++ more)) →
+    (lines : Lines) × IsToldTo l0 l2 n0 n2 lines × R lines × IsLogOfSolver new lines
+told_whole first R room old mid new l0 l1 l2 n0 n1 n2 blank_is goes second =
+    let told : ToldBehind (λ ls. Belongs ls mid) l0 l1 n0 n1 [] (λ more. more ≡ first) = goes [] (new_belongs old room blank_is) in
     let lines : Lines = told.more ++ second.more in
-    let same : first_lines p ++ second.more ≡ lines = ap (λ (ls : Lines). ls ++ second.more) (sym (first_does y budget room e f told.more first is told.does)) in
-    let end : IsOutcome p order o lines = subst (IsOutcome p order o) same second.does in (
+    let same : first ++ second.more ≡ lines = ap (λ (ls : Lines). ls ++ second.more) (sym told.does) in (
       lines,
       record {
         behind = λ ls t. subst l2 (append_assoc ls told.more second.more) (second.told (ls ++ told.more) (told.told ls t));
         counted = second.counted ∙ ap (rose_by (length (flat_map learnt second.more))) told.counted
             ∙ rose_both (length (flat_map learnt told.more)) (length (flat_map learnt second.more)) n0 ∙ ap (λ n. rose_by n n0) (sym (count_more told.more second.more));
       },
-      subst (λ (z : Layout). IsOutcome (task_of z budget room) order o lines) first.layout end,
+      subst R same second.does,
       subst (IsLogOfSolver new) same second.knows,
     )
 
-pub nothing_told : (k : Kept) (room n : ℕ) (p : Task) (order : List Criterion) (o : Outcome) (log : Lines → Type 0) → k ≡ blank room → IsOutcome p order o [] → (lines : Lines) × IsToldTo log log n n lines × IsOutcome p order o lines × IsLogOfSolver k lines
-nothing_told k room n p order o log is end = (
+pub whole_told : (y : Layout) (budget room : ℕ) (e : Encoding) (f : Cnf) (R : Layout → Lines → Type 0) (old mid new : Kept) (l0 l1 l2 : Lines → Type 0) (n0 n1 n2 : ℕ) → IsFirst y room e → f ≡ e.formula → old ≡ blank room →
+    GoesOn (λ ls. Belongs ls old) (λ ls. Belongs ls mid) l0 l1 n0 n1 (λ lines more. more ≡ map Formula (drop 0 f.clauses)) →
+    ToldBehind (IsLogOfSolver new) l1 l2 n1 n2 (first_lines (task_of (layout_of e) budget room)) (λ more. R (layout_of e) (first_lines (task_of (layout_of e) budget room) ++ more)) →
+    (lines : Lines) × IsToldTo l0 l2 n0 n2 lines × R y lines × IsLogOfSolver new lines
+whole_told y budget room e f R old mid new l0 l1 l2 n0 n1 n2 first is blank_is goes second =
+    let start : Lines = first_lines (task_of (layout_of e) budget room) in
+    let told = told_whole start (R (layout_of e)) room old mid new l0 l1 l2 n0 n1 n2 blank_is
+    (goes_weaker (λ ls. Belongs ls old) (λ ls. Belongs ls mid) l0 l1 n0 n1 (λ lines more. more ≡ map Formula (drop 0 f.clauses)) (λ lines more. more ≡ start) goes (λ lines more does. first_does y budget room e f more first is does)) second in
+    (told.0, told.1, subst (λ (z : Layout). R z told.0) first.layout told.2, told.3)
+
+pub nothing_told : (k : Kept) (room n : ℕ) (R : Lines → Type 0) (log : Lines → Type 0) → k ≡ blank room → R [] → (lines : Lines) × IsToldTo log log n n lines × R lines × IsLogOfSolver k lines
+nothing_told k room n R log is end = (
   [],
   record { behind = λ ls t. subst log (sym (append-nil ls)) t; counted = refl },
   end,

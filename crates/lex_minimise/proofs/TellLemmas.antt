@@ -15,10 +15,10 @@ use Rattle.refute_log.specs.Told.{Lines, AddsAll}
 use Rattle.refute_log.specs.Log.{learnt}
 use Rattle.certified_values.specs.Expected.{bound_lines}
 use Rattle.cdcl_core.specs.Kept.{Kept, AreGiven, IsGivenOne}
-use Rattle.lex_search.specs.Steps.{ToldBehind}
-use Rattle.lex_search.proofs.StepLemmas.{rose_both, count_more}
+use Rattle.refute_log.specs.Steps.{ToldBehind, GoesOn}
+use Rattle.refute_log.proofs.StepLemmas.{rose_both, count_more}
 use Rattle.drawing_problem.specs.Lists.{variables_behind}
-use Rattle.lex_minimise.specs.Told.{GoesOn, HasTaken}
+use Rattle.lex_minimise.specs.Told.{HasTaken}
 
 -- ---- what the solver was given
 

@@ -11,9 +11,10 @@ use Rattle.refute_log.specs.Told.{Lines}
 use Rattle.lex_search.specs.declared.oracle.Below.{Below}
 use Rattle.lex_search.specs.declared.oracle.Reply.{Reply}
 use Rattle.lex_search.specs.declared.oracle.Reply.TheVariants.{Found, Refuted, Stopped}
-use Rattle.lex_search.specs.declared.oracle.Stop.TheVariants.{BudgetSpent, RoomFull}
+use Rattle.certified_values.specs.declared.stop.Stop.TheVariants.{BudgetSpent, RoomFull}
 use Rattle.lex_search.specs.Task.{Task, greatest_of}
-use Rattle.lex_search.specs.Asked.{IsAsked, AreAgainst, IsCause}
+use Rattle.certified_values.specs.Cause.{IsCause}
+use Rattle.lex_search.specs.Asked.{IsAsked, AreAgainst}
 
 -- the bound is of the criterion, and goes as far as the limit
 abbrev pub HasLimit : Below → Bound → Type 0
@@ -43,8 +44,8 @@ abbrev pub TellsAnswer : Task → Lines → List Below → Answer → Lines → 
 TellsAnswer p lines bounds ModelAnswer more = IsAsked lines bounds (ModelLine ∷ []) more
 TellsAnswer p lines bounds RefutedAnswer more =
     (clause : List Literal) × AreAgainst (greatest_of p) lines bounds clause × IsAsked lines bounds (RefutedLine clause ∷ []) more
-TellsAnswer p lines bounds SpentAnswer more = IsAsked lines bounds [] more × IsCause p BudgetSpent (lines ++ more)
-TellsAnswer p lines bounds RoomAnswer more = IsAsked lines bounds [] more × IsCause p RoomFull (lines ++ more)
+TellsAnswer p lines bounds SpentAnswer more = IsAsked lines bounds [] more × IsCause p.budget p.room BudgetSpent (lines ++ more)
+TellsAnswer p lines bounds RoomAnswer more = IsAsked lines bounds [] more × IsCause p.budget p.room RoomFull (lines ++ more)
 
 -- the reply is of that answer
 abbrev pub IsReplyOf : Answer → Reply → Type 0

@@ -6,11 +6,10 @@ ghost use Rattle.track_order.specs.Order.{is_above};
 ghost use Rattle.cdcl_core.specs.Kept.{IsTrueAnswer};
 ghost use Rattle.cnf_core.specs.declared.limits.TheConstants.{VARS};
 ghost use Rattle.lex_search.specs.Asked.{IsWithinCap, AreOnce, IsRightReply, IsReply};
-ghost use Rattle.drawing_problem.specs.Layout.{layout_of};
-ghost use Rattle.lex_minimise.specs.Known.{caps_of, KnowsLines, IsReady};
-ghost use Rattle.lex_minimise.specs.Task.{task_of};
-ghost use Rattle.lex_minimise.specs.Told.{GoesOn};
+ghost use Rattle.lex_minimise.specs.Known.{caps_of};
+ghost use Rattle.refute_log.specs.Steps.{GoesOn};
 ghost use Rattle.lex_minimise.specs.Asking.{HasLimit, IsLimitOf, AreAssumed, TellsAnswer, IsReplyOf};
+ghost use Rattle.lex_minimise.specs.Search.{task_with, IsReadyWith, KnowsWith};
 
 use crate::search::Known;
 use cdcl_core::{Answer, SolveFault, Solver};
@@ -63,7 +62,7 @@ pub(crate) fn assumptions(
 
 /// Gives the solver the truth values of the drawing to begin with.
 fn begin_near(known: &Known, solver: &mut Solver, near: Option<&Drawing>) -> Result<(), OutOfMemory>
-    requires ready { IsReady known.now.encoded known.now.told.items known.now.budget known.now.room solver.old }
+    requires ready { IsReadyWith known.now solver.old }
     requires near { MatchOption near ⊤ (λ d.
         Lawful known.now.encoded.graph (is_above known.now.encoded.order) known.now.encoded.grid d.now) }
     ensures { solver.new ≡ solver.old }
@@ -83,17 +82,15 @@ fn query<L: LogSink>(
     bounds: &[Below],
     assume: &[Lit],
 ) -> Result<Answer, MinFault>
-    requires ready { IsReady known.now.encoded known.now.told.items known.now.budget known.now.room solver.old }
+    requires ready { IsReadyWith known.now solver.old }
     requires once { AreOnce bounds.now }
     requires assumed { AreAssumed known.now.told.items bounds.now assume.now }
-    ensures ready { OnOk result (IsReady known.now.encoded known.now.told.items known.now.budget known.now.room solver.new) }
+    ensures ready { OnOk result (IsReadyWith known.now solver.new) }
     ensures answer { IfOk result (λ a. IsTrueAnswer a known.now.encoded.formula.clauses assume.now solver.new) }
     ensures lines { IfOk result (λ a. GoesOn
-        (KnowsLines (layout_of known.now.encoded) known.now.told.items known.now.budget known.now.room solver.old)
-        (KnowsLines (layout_of known.now.encoded) known.now.told.items known.now.budget known.now.room solver.new)
+        (KnowsWith known.now solver.old) (KnowsWith known.now solver.new)
         (L.tells log.old) (L.tells log.new) (L.learnt log.old) (L.learnt log.new)
-        (λ lines more.
-        TellsAnswer (task_of (layout_of known.now.encoded) known.now.budget known.now.room) lines bounds.now a more)) }
+        (λ lines more. TellsAnswer (task_with known.now) lines bounds.now a more)) }
     ensures vars { OnOk result (solver.new.vars ≡ solver.old.vars) }
     ensures later { L.is_later log.old log.new }
     ensures faults { L.faults log.old ≤ L.faults log.new }
@@ -120,11 +117,10 @@ fn reply(
     assume: &[Lit],
     answer: Answer,
 ) -> Result<Reply, OutOfMemory>
-    requires ready { IsReady known.now.encoded known.now.told.items known.now.budget known.now.room solver.now }
+    requires ready { IsReadyWith known.now solver.now }
     requires assumed { AreAssumed known.now.told.items bounds.now assume.now }
     requires answer { IsTrueAnswer answer known.now.encoded.formula.clauses assume.now solver.now }
-    ensures right { IfOk result
-        (IsRightReply (task_of (layout_of known.now.encoded) known.now.budget known.now.room) bounds.now) }
+    ensures right { IfOk result (IsRightReply (task_with known.now) bounds.now) }
     ensures of { IfOk result (IsReplyOf answer) }
 {
     let _counts = (bounds.len(), assume.len());
@@ -147,20 +143,17 @@ pub(crate) fn ask<L: LogSink>(
     bounds: &[Below],
     near: Option<&Drawing>,
 ) -> Result<Reply, MinFault>
-    requires ready { IsReady known.now.encoded known.now.told.items known.now.budget known.now.room solver.old }
+    requires ready { IsReadyWith known.now solver.old }
     requires there { All (IsWithinCap (caps_of known.now.told.items)) bounds.now }
     requires once { AreOnce bounds.now }
     requires near { MatchOption near ⊤ (λ d.
         Lawful known.now.encoded.graph (is_above known.now.encoded.order) known.now.encoded.grid d.now) }
-    ensures ready { OnOk result (IsReady known.now.encoded known.now.told.items known.now.budget known.now.room solver.new) }
-    ensures right { IfOk result
-        (IsRightReply (task_of (layout_of known.now.encoded) known.now.budget known.now.room) bounds.now) }
+    ensures ready { OnOk result (IsReadyWith known.now solver.new) }
+    ensures right { IfOk result (IsRightReply (task_with known.now) bounds.now) }
     ensures lines { IfOk result (λ r. GoesOn
-        (KnowsLines (layout_of known.now.encoded) known.now.told.items known.now.budget known.now.room solver.old)
-        (KnowsLines (layout_of known.now.encoded) known.now.told.items known.now.budget known.now.room solver.new)
+        (KnowsWith known.now solver.old) (KnowsWith known.now solver.new)
         (L.tells log.old) (L.tells log.new) (L.learnt log.old) (L.learnt log.new)
-        (λ lines more.
-        IsReply (task_of (layout_of known.now.encoded) known.now.budget known.now.room) lines bounds.now r more)) }
+        (λ lines more. IsReply (task_with known.now) lines bounds.now r more)) }
     ensures vars { OnOk result (solver.new.vars ≡ solver.old.vars) }
     ensures later { L.is_later log.old log.new }
     ensures faults { L.faults log.old ≤ L.faults log.new }

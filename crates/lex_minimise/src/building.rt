@@ -15,10 +15,11 @@ ghost use Rattle.cdcl_core.specs.Belongs.{Belongs};
 ghost use Rattle.lex_search.specs.declared.oracle.Built.TheVariants.{Whole as AllOfThem};
 ghost use Rattle.lex_search.specs.Built.{IsBuild, AreBuiltTo};
 ghost use Rattle.drawing_problem.specs.Layout.{layout_of};
-ghost use Rattle.lex_minimise.specs.Known.{caps_of, KnowsLines, IsReady};
-ghost use Rattle.lex_minimise.specs.Task.{task_of};
-ghost use Rattle.lex_minimise.specs.Told.{GoesOn, HasTaken};
+ghost use Rattle.lex_minimise.specs.Known.{caps_of};
+ghost use Rattle.refute_log.specs.Steps.{GoesOn};
+ghost use Rattle.lex_minimise.specs.Told.{HasTaken};
 ghost use Rattle.lex_minimise.specs.Grown.{PassesWith, HasGrown, IsGrown};
+ghost use Rattle.lex_minimise.specs.Search.{task_with, IsReadyWith, KnowsWith};
 
 use crate::search::Known;
 use crate::telling::{tell_bounds, tell_clauses};
@@ -30,7 +31,7 @@ use plan_core::Criterion;
 use refute_log::LogSink;
 
 /// Gives the solver the formula's further variables, and its clauses from this number on.
-pub(crate) fn add_clauses<L: LogSink>(
+pub fn add_clauses<L: LogSink>(
     formula: &Formula,
     from: u32,
     solver: &mut Solver,
@@ -100,10 +101,9 @@ fn tell_criterion<L: LogSink>(
     ensures budget { known.new.budget ≡ known.old.budget }
     ensures room { known.new.room ≡ known.old.room }
     ensures told { OnOk result (known.new.told.items ≡ known.old.told.items ++ bounds ∷ []) }
-    ensures ready { OnOk result (IsReady known.new.encoded known.new.told.items known.new.budget known.new.room solver.new) }
+    ensures ready { OnOk result (IsReadyWith known.new solver.new) }
     ensures lines { OnOk result (GoesOn
-        (KnowsLines (layout_of known.old.encoded) known.old.told.items known.old.budget known.old.room solver.old)
-        (KnowsLines (layout_of known.old.encoded) known.new.told.items known.old.budget known.old.room solver.new)
+        (KnowsWith known.old solver.old) (KnowsWith known.new solver.new)
         (L.tells log.old) (L.tells log.new) (L.learnt log.old) (L.learnt log.new)
         (λ lines more.
         more ≡ lines_of_bound known.old.encoded.graph (encoded_vars known.old.encoded) known.old.encoded.grid bounds)) }
@@ -127,23 +127,20 @@ pub(crate) fn build<L: LogSink>(
     c: Criterion,
     cap: u32,
 ) -> Result<Built, MinFault>
-    requires ready { IsReady known.old.encoded known.old.told.items known.old.budget known.old.room solver.old }
+    requires ready { IsReadyWith known.old solver.old }
     requires positive { 1 ≤ cap }
     requires limit { cap ≤ limit_of known.old.encoded.graph known.old.encoded.grid c }
     requires none { caps_of known.old.told.items c ≡ 0 }
     ensures layout { layout_of known.new.encoded ≡ layout_of known.old.encoded }
     ensures budget { known.new.budget ≡ known.old.budget }
     ensures room { known.new.room ≡ known.old.room }
-    ensures ready { IfOk result (λ b. b ≡ AllOfThem →
-        IsReady known.new.encoded known.new.told.items known.new.budget known.new.room solver.new) }
-    ensures built { IfOk result (λ b. AreBuiltTo (task_of (layout_of known.old.encoded) known.old.budget known.old.room)
+    ensures ready { IfOk result (λ b. b ≡ AllOfThem → IsReadyWith known.new solver.new) }
+    ensures built { IfOk result (λ b. AreBuiltTo (task_with known.old)
         (caps_of known.old.told.items) solver.old.vars c cap b (caps_of known.new.told.items) solver.new.vars) }
     ensures lines { IfOk result (λ b. GoesOn
-        (KnowsLines (layout_of known.old.encoded) known.old.told.items known.old.budget known.old.room solver.old)
-        (KnowsLines (layout_of known.old.encoded) known.new.told.items known.old.budget known.old.room solver.new)
+        (KnowsWith known.old solver.old) (KnowsWith known.new solver.new)
         (L.tells log.old) (L.tells log.new) (L.learnt log.old) (L.learnt log.new)
-        (λ lines more.
-        IsBuild (task_of (layout_of known.old.encoded) known.old.budget known.old.room) solver.old.vars c cap b lines more)) }
+        (λ lines more. IsBuild (task_with known.old) solver.old.vars c cap b lines more)) }
     ensures later { L.is_later log.old log.new }
     ensures faults { L.faults log.old ≤ L.faults log.new }
     ensures cause { IsErrOf result MinFault.Log → Rose (L.faults log.old) (L.faults log.new) }

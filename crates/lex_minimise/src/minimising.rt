@@ -6,12 +6,12 @@ ghost use Rattle.track_order.specs.Order.{IsOrderOf};
 ghost use Rattle.refute_log.specs.Told.{Lines};
 ghost use Rattle.refute_log.specs.ToldTo.{told_to};
 ghost use Rattle.cdcl_core.specs.Kept.{blank};
-ghost use Rattle.lex_search.specs.Steps.{ToldBehind};
+ghost use Rattle.refute_log.specs.Steps.{ToldBehind};
 ghost use Rattle.lex_search.specs.Outcome.{IsOutcome, IsRightOutcome, first_lines};
-ghost use Rattle.drawing_problem.specs.Layout.{layout, layout_of};
-ghost use Rattle.lex_minimise.specs.Known.{KnowsLines, IsReady};
+ghost use Rattle.drawing_problem.specs.Layout.{layout};
 ghost use Rattle.lex_minimise.specs.Task.{task_of};
 ghost use Rattle.lex_minimise.specs.Told.{IsLogOfSolver};
+ghost use Rattle.lex_minimise.specs.Search.{task_with, IsReadyWith, KnowsWith};
 
 use crate::Limits;
 use crate::building::add_clauses;
@@ -34,12 +34,10 @@ fn search_from<L: LogSink>(
     wanted: &Order,
 ) -> Result<Outcome, MinFault>
     requires none { known.old.told.items ≡ [] }
-    requires ready { IsReady known.old.encoded known.old.told.items known.old.budget known.old.room solver.old }
-    requires start { KnowsLines (layout_of known.old.encoded) known.old.told.items known.old.budget known.old.room solver.old
-        (first_lines (task_of (layout_of known.old.encoded) known.old.budget known.old.room)) }
-    ensures right { IfOk result
-        (IsRightOutcome (task_of (layout_of known.old.encoded) known.old.budget known.old.room) wanted.now) }
-    ensures lines { let p = task_of (layout_of known.old.encoded) known.old.budget known.old.room in
+    requires ready { IsReadyWith known.old solver.old }
+    requires start { KnowsWith known.old solver.old (first_lines (task_with known.old)) }
+    ensures right { IfOk result (IsRightOutcome (task_with known.old) wanted.now) }
+    ensures lines { let p = task_with known.old in
         IfOk result (λ o. ToldBehind (IsLogOfSolver solver.new) (L.tells log.old) (L.tells log.new)
         (L.learnt log.old) (L.learnt log.new) (first_lines p) (λ more. IsOutcome p wanted.now o (first_lines p ++ more))) }
     ensures later { L.is_later log.old log.new }

@@ -34,16 +34,14 @@ pub(crate) struct Search<'k, 's, 'l, 'a, L: LogSink> {
 impl<'k, 's, 'l, 'a, L: LogSink> Oracle for Search<'k, 's, 'l, 'a, L> {
     ghost use Rattle.std.specs.Prelude.{◌≡◌, ◌≤◌};
     ghost use Rattle.std.proofs.Common.{refl, ◌∙◌, subst};
-    ghost use Rattle.drawing_problem.specs.Layout.{layout_of};
-    ghost use Rattle.lex_minimise.specs.Known.{caps_of, KnowsLines, IsReady};
-    ghost use Rattle.lex_minimise.specs.Task.{task_of};
+    ghost use Rattle.lex_minimise.specs.Known.{caps_of};
+    ghost use Rattle.lex_minimise.specs.Search.{task_with, IsReadyWith, KnowsWith};
 
-    ghost task = { λ s. task_of (layout_of s.known.now.encoded) s.known.now.budget s.known.now.room };
+    ghost task = { λ s. task_with s.known.now };
 
-    ghost ready = { λ s. IsReady s.known.now.encoded s.known.now.told.items s.known.now.budget s.known.now.room s.solver.now };
+    ghost ready = { λ s. IsReadyWith s.known.now s.solver.now };
 
-    ghost knows = { λ s lines.
-        KnowsLines (layout_of s.known.now.encoded) s.known.now.told.items s.known.now.budget s.known.now.room s.solver.now lines };
+    ghost knows = { λ s lines. KnowsWith s.known.now s.solver.now lines };
 
     ghost log = { λ s lines. L.tells s.log.now lines };
 

@@ -9,7 +9,8 @@ ghost use Rattle.refute_log.specs.Told.{AddsAll};
 ghost use Rattle.certified_values.specs.Expected.{bound_lines};
 ghost use Rattle.cdcl_core.specs.Belongs.{Belongs};
 ghost use Rattle.drawing_problem.specs.Lists.{variables_behind};
-ghost use Rattle.lex_minimise.specs.Told.{GoesOn, HasTaken};
+ghost use Rattle.refute_log.specs.Steps.{GoesOn};
+ghost use Rattle.lex_minimise.specs.Told.{HasTaken};
 
 use cdcl_core::{AddFault, Solver};
 use cnf_core::{ClauseNo, Formula};
@@ -45,7 +46,7 @@ fn tell_clause<L: LogSink>(
 }
 
 /// Adds the formula's clauses from this number on.
-pub(crate) fn tell_clauses<L: LogSink>(
+pub fn tell_clauses<L: LogSink>(
     formula: &Formula,
     from: u32,
     solver: &mut Solver,

@@ -16,16 +16,17 @@ use Rattle.certified_values.specs.Expected.{clause_lines, caps, same_criterion, 
 use Rattle.certified_values.proofs.ExpectedLemmas.{same_tells, with_cap_here, with_cap_other, expected_same}
 use Rattle.lex_search.specs.declared.oracle.Below.{Below}
 use Rattle.lex_search.specs.declared.oracle.Built.TheVariants.{Whole, NoRoom}
-use Rattle.lex_search.specs.declared.oracle.Stop.{Stop}
-use Rattle.lex_search.specs.declared.oracle.Stop.TheVariants.{RoomFull}
+use Rattle.certified_values.specs.declared.stop.Stop.{Stop}
+use Rattle.certified_values.specs.declared.stop.Stop.TheVariants.{RoomFull}
 use Rattle.lex_search.specs.Task.{Task, IsLawful, greatest_of}
-use Rattle.lex_search.specs.Steps.{Continues}
+use Rattle.refute_log.specs.Steps.{Continues}
 use Rattle.lex_search.specs.Asked.{below_limit, IsWithinCap}
 use Rattle.lex_search.specs.Built.{IsBuild}
 use Rattle.lex_search.specs.Reached.{Reached, Holds, HasSameValues, IsLowered, RunTo}
 use Rattle.lex_search.specs.Caps.{AllZero, IsCapAt, IsTurn, AreCapped}
 use Rattle.lex_search.specs.State.{IsFirstPositive, hold, Counted, OnlyZeroSkipped, SearchState, StoppedAt, IsCapOf, BoundedTo, Advances}
-use Rattle.lex_search.proofs.StepLemmas.{goes_on, becomes, stays, clause_lines_append}
+use Rattle.refute_log.proofs.StepLemmas.{goes_on, becomes, stays}
+use Rattle.lex_search.proofs.QuestionLemmas.{clause_lines_append}
 use Rattle.lex_search.proofs.LowerLemmas.{holds_same, zero_reached}
 use Rattle.lex_search.proofs.BuildLemmas.{reached_built, told_built, next_passes, reached_zeros, holds_next, take_next}
 use Rattle.lex_search.proofs.CapLemmas.{capped_same, capped_next, capped_zeros, capped_only_zero}
@@ -95,7 +96,7 @@ bounded_whole knows log count a b e q p order i j held c n first d stop f h vars
     (λ lines xs ys ka kb ke told_built_lines ran state.
     let now = lines ++ xs in
     let holds = holding p order i j held first f lines positive state in
-    let reached : Reached p order i first now = subst (λ (ls : Lines). Reached p order i first (lines ++ ls)) (sym told_built_lines) (reached_built p order i first lines p.encoding vars c n state.reached) in
+    let reached : Reached p order i first now = subst (λ (ls : Lines). Reached p order i first (lines ++ ls)) (sym told_built_lines) (reached_built p order i first lines p.encoding vars c n at state.reached) in
     let told_now : clause_lines now ≡ expected_lines p.encoding order (with_cap f c n) =
     subst (λ (ls : Lines). clause_lines (lines ++ ls) ≡ expected_lines p.encoding order (with_cap f c n)) (sym told_built_lines) (told_built p order i c n f vars lines is at k state.told) in
     let told_then : clause_lines (now ++ ys) ≡ expected_lines p.encoding order h =

@@ -32,8 +32,9 @@ use Rattle.lex_search.specs.Asked.{below_limit, Queries, after_line, queries}
 use Rattle.lex_search.specs.Reached.{Reached, Holds}
 use Rattle.lex_search.specs.Built.{SumPasses}
 use Rattle.lex_search.specs.State.{hold, Counted, OnlyZeroSkipped}
-use Rattle.lex_search.proofs.StepLemmas.{clause_lines_append, met_later}
+use Rattle.lex_search.proofs.QuestionLemmas.{clause_lines_append, met_later}
 use Rattle.lex_search.proofs.LowerLemmas.{answer_longer, zero_reached, at_place}
+use Rattle.lex_search.proofs.PlacedLemmas.{placed_built}
 
 -- ---- the lines of a sum: clauses and bounds alone
 
@@ -77,8 +78,8 @@ sum_is_clauses e first c (suc n) =
     ∙ ap (λ (ls : Lines). map Formula (e.sum first c (suc n)) ++ ls) (bounds_are_clauses c 1 (e.bounds first c (suc n)))
 
 pub reached_built : (p : Task) (order : List Criterion) (i : ℕ) (d : Drawing) (now : Lines) (e : Problem) (first : ℕ) (c : Criterion) (n : ℕ) →
-    Reached p order i d now → Reached p order i d (now ++ sum_lines e first c n)
-reached_built p order i d now e first c n r =
+    slice_get order i ≡ Some c → Reached p order i d now → Reached p order i d (now ++ sum_lines e first c n)
+reached_built p order i d now e first c n at r =
     let more = sum_lines e first c n in
     let start : Queries = record { latest = None; modelled = None } in
     record {
@@ -89,6 +90,7 @@ reached_built p order i d now e first c n r =
         | inl h ↦ r.answered clause h
         | inr h ↦ absurd (All-contains (λ (l : LogLine). l ≡ Refuted clause → ⊥) more (Refuted clause) (sum_no_refuted clause e first c n) h refl)
       ]);
+      placed = placed_built p order now e first c n (record { place = i; at = at; drawing = d; lawful = r.lawful; met = r.met; certified = r.certified }) r.placed;
     }
 
 -- ---- places of an order

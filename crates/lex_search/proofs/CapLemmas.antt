@@ -9,14 +9,14 @@ use Rattle.plan_core.specs.Drawing.{Drawing}
 use Rattle.plan_core.specs.Order.{IsOrder}
 use Rattle.lex_search.specs.Task.{Task, IsLawful, greatest_of}
 use Rattle.lex_search.specs.Reached.{HasSameValues}
-use Rattle.lex_search.specs.Caps.{AllZero, IsCapAt, IsTurn, ComesTo, AreCapped}
+use Rattle.lex_search.specs.Caps.{AllZero, IsCapAt, IsTurn, IsByTurns, AreCapped}
 use Rattle.lex_search.proofs.LowerLemmas.{take_of_take, at_place, same_then}
 use Rattle.lex_search.proofs.RunLemmas.{no_more}
 use Rattle.lex_search.proofs.BuildLemmas.{places_apart, take_next}
 use Rattle.lex_search.proofs.BeforeLemmas.{before_other, in_next}
 
 -- the same turns with other caps, where those of their criteria are the same
-comes_with : (p : Task) (order : List Criterion) (s : ℕ) (d : Drawing) (f h : Criterion → ℕ) → ((j : ℕ) (m : Criterion) → j < s → slice_get order j ≡ Some m → h m ≡ f m) → ComesTo p order s d f → ComesTo p order s d h
+comes_with : (p : Task) (order : List Criterion) (s : ℕ) (d : Drawing) (f h : Criterion → ℕ) → ((j : ℕ) (m : Criterion) → j < s → slice_get order j ≡ Some m → h m ≡ f m) → IsByTurns p order s d f → IsByTurns p order s d h
 comes_with p order zero d f h same k = tt
 comes_with p order (suc i) d f h same k =
     let turn : IsTurn p order i k.0 d f = k.1 in (
@@ -48,9 +48,9 @@ pub capped_next : (p : Task) (order : List Criterion) (i : ℕ) (reached d : Dra
 capped_next p order i reached d f h turn is other k =
     let c : Criterion = turn.criterion in
     let here : Contains (take (i + 1) order) c = subst (λ (cs : List Criterion). Contains cs c) (sym (take_next order i c turn.at)) (Contains-push (take i order) c) in
-    let before : ComesTo p order i reached h = comes_with p order i reached f h (λ j m lt there. other m (λ e. places_apart order j i m c is lt there turn.at (sym e))) k.turns in
+    let before : IsByTurns p order i reached h = comes_with p order i reached f h (λ j m lt there. other m (λ e. places_apart order j i m c is lt there turn.at (sym e))) k.turns in
     record {
-      turns = subst (λ n. ComesTo p order n d h) (sym (add-one i)) (reached, turn, before);
+      turns = subst (λ n. IsByTurns p order n d h) (sym (add-one i)) (reached, turn, before);
       no_other = λ m out. other m (λ e. out (subst (Contains (take (i + 1) order)) e here)) ∙ k.no_other m (λ there. out (in_next order i c m turn.at there));
     }
 
@@ -106,7 +106,7 @@ reached_here p order s i c last d cap turn e at =
 earlier_or_last : (i s : ℕ) → i < suc s → (i < s) ⊎ (i ≡ s)
 earlier_or_last i s lt = grind (arith, lt)
 
-reached_with : (p : Task) (order : List Criterion) (s : ℕ) (d : Drawing) (cap : Criterion → ℕ) → ComesTo p order s d cap → (i : ℕ) (c : Criterion) → i < s → slice_get order i ≡ Some c → WasReached p order i c d cap
+reached_with : (p : Task) (order : List Criterion) (s : ℕ) (d : Drawing) (cap : Criterion → ℕ) → IsByTurns p order s d cap → (i : ℕ) (c : Criterion) → i < s → slice_get order i ≡ Some c → WasReached p order i c d cap
 reached_with p order zero d cap k i c lt at = absurd (omega arith)
 reached_with p order (suc s) d cap k i c lt at = elim (earlier_or_last i s lt) [
   | inl before ↦ reached_before p order s i c k.0 d cap k.1 before at (reached_with p order s k.0 cap k.2 i c before at)

@@ -21,9 +21,9 @@ use Rattle.refute_log.specs.Log.{learnt, Open}
 use Rattle.certified_values.specs.Expected.{caps}
 use Rattle.certified_values.specs.Full.{IsFullLog, CapsPass}
 use Rattle.cnf_core.proofs.QuantifierLemmas.{some_from_satisfies}
-use Rattle.lex_search.specs.declared.oracle.Stop.TheVariants.{BudgetSpent, RoomFull}
-use Rattle.lex_search.specs.declared.oracle.Stop.{Stop}
-use Rattle.lex_search.specs.Asked.{IsCause}
+use Rattle.certified_values.specs.declared.stop.Stop.TheVariants.{BudgetSpent, RoomFull}
+use Rattle.certified_values.specs.declared.stop.Stop.{Stop}
+use Rattle.certified_values.specs.Cause.{IsCause}
 use Rattle.lex_search.specs.Caps.{IsCauseWith}
 use Rattle.lex_search.specs.Outcome.{IsStoppedEnd, values_found}
 use Rattle.lex_search.specs.Task.{Task, greatest_of}
@@ -109,7 +109,7 @@ settled_from p order s stop (Some d) lines e = e.is_settled
 pub full_from : (p : Task) (order : List Criterion) (s : ℕ) (found : Option Drawing) (lines : Lines) → IsStoppedEnd p order s RoomFull found lines → IsFullLog p.encoding (greatest_of p) order lines (values_found found) p.room
 full_from p order s None lines e = by e.cause
   where
-    by : IsCause p RoomFull lines ⊎ ((RoomFull ≡ RoomFull) × CapsPass p.encoding order lines p.room (caps (greatest_of p) lines)) → IsFullLog p.encoding (greatest_of p) order lines None p.room
+    by : IsCause p.budget p.room RoomFull lines ⊎ ((RoomFull ≡ RoomFull) × CapsPass p.encoding order lines p.room (caps (greatest_of p) lines)) → IsFullLog p.encoding (greatest_of p) order lines None p.room
     by (inl c) = inr (inr c)
     by (inr c) = inl c.1
 full_from p order s (Some d) lines e = by e.cause
@@ -118,7 +118,7 @@ full_from p order s (Some d) lines e = by e.cause
     by (inl c) = inr (inr c.0)
     by (inr c) = inr (inl (values_of d, refl, c.1))
 
-spent_from : (p : Task) (order : List Criterion) (s : ℕ) (found : Option Drawing) (lines : Lines) → IsStoppedEnd p order s BudgetSpent found lines → IsCause p BudgetSpent lines
+spent_from : (p : Task) (order : List Criterion) (s : ℕ) (found : Option Drawing) (lines : Lines) → IsStoppedEnd p order s BudgetSpent found lines → IsCause p.budget p.room BudgetSpent lines
 spent_from p order s None lines e = elim e.cause [ inl c ↦ c | inr c ↦ absurd (let f : BudgetSpent ≡ RoomFull = c.0 in cc) ]
 spent_from p order s (Some d) lines e = elim e.cause [ inl c ↦ c.0 | inr c ↦ absurd (let f : BudgetSpent ≡ RoomFull = c.0 in cc) ]
 

@@ -17,9 +17,10 @@ use Rattle.certified_values.specs.Certified.{Certifies, IsOutOfReach, IsCertifie
 use Rattle.certified_values.proofs.CertifiedLemmas.{none_better, certifies_more, certifies_same, certifies_next, out_of_reach_more, out_of_reach_same}
 use Rattle.lex_search.specs.declared.oracle.Below.{Below}
 use Rattle.lex_search.specs.Task.{Task, IsLawful, greatest_of}
-use Rattle.lex_search.specs.Asked.{below_limit, AreMet, IsAsked, AreAgainst}
+use Rattle.lex_search.specs.Asked.{below_limit, AreOnce, AreMet, IsAsked, AreAgainst}
 use Rattle.lex_search.specs.Reached.{IsAnswerAt, Reached, Holds, HasSameValues}
-use Rattle.lex_search.proofs.StepLemmas.{refuted_at_end, refuted_before, not_model, not_nothing, same_refuted, ends_in, met_found, met_refuted, met_stopped}
+use Rattle.lex_search.proofs.QuestionLemmas.{refuted_at_end, refuted_before, not_model, not_nothing, same_refuted, ends_in, met_found, met_refuted, met_stopped}
+use Rattle.lex_search.proofs.PlacedLemmas.{placed_found, placed_refuted, placed_stopped}
 
 -- values that aren't greater and aren't better are the same
 pub same_from_least : (xs : List Criterion) (e v : Values) → All (λ c. value_of e c ≤ value_of v c) xs → (Better xs e v → ⊥) → All (λ c. value_of v c ≡ value_of e c) xs
@@ -103,23 +104,25 @@ found_same p order i held b first d e now covers derives within lawful met holds
     (none_better (greatest_of p) now order (values_of first) (values_of e) i (covers e lawful) derives (certifies_same (greatest_of p) now order (values_of d) (values_of first) i (same_back order i (values_of first) (values_of d) same) cert))
 
 pub found_reached : (p : Task) (order : List Criterion) (i : ℕ) (bounds : List Below) (d e : Drawing) (now more : Lines) →
-    Reached p order i d now → IsLawful p e → AreMet (values_of e) bounds → HasSameValues order i (values_of d) (values_of e) → IsAsked now bounds (Model ∷ []) more → Reached p order i e (now ++ more)
-found_reached p order i bounds d e now more r lawful met same asked = record {
+    Reached p order i d now → AreOnce bounds → IsLawful p e → AreMet (values_of e) bounds → HasSameValues order i (values_of d) (values_of e) → IsAsked now bounds (Model ∷ []) more → Reached p order i e (now ++ more)
+found_reached p order i bounds d e now more r once lawful met same asked = record {
   lawful = lawful;
   met = met_found now bounds more (values_of e) asked met;
   certified = certifies_same (greatest_of p) (now ++ more) order (values_of d) (values_of e) i same (certifies_more (greatest_of p) now more order (values_of d) i r.certified);
   answered = λ clause there. answer_same p (now ++ more) order (values_of d) (values_of e) i clause same
       (answer_longer p now more order (values_of d) i clause (r.answered clause (refuted_before now bounds (Model ∷ []) more clause asked (not_model clause) there)));
+  placed = placed_found p order now bounds more e once lawful met asked r.placed;
 }
 
 -- the search stopped
 pub stopped_reached : (p : Task) (order : List Criterion) (i : ℕ) (bounds : List Below) (d : Drawing) (now more : Lines) →
-    Reached p order i d now → IsAsked now bounds [] more → Reached p order i d (now ++ more)
-stopped_reached p order i bounds d now more r asked = record {
+    Reached p order i d now → AreOnce bounds → IsAsked now bounds [] more → Reached p order i d (now ++ more)
+stopped_reached p order i bounds d now more r once asked = record {
   lawful = r.lawful;
   met = met_stopped now bounds more (values_of d) asked r.met;
   certified = certifies_more (greatest_of p) now more order (values_of d) i r.certified;
   answered = λ clause there. answer_longer p now more order (values_of d) i clause (r.answered clause (refuted_before now bounds [] more clause asked (not_nothing clause) there));
+  placed = placed_stopped p order now bounds more once asked r.placed;
 }
 
 -- there is no such drawing
@@ -136,9 +139,9 @@ against_excluded p order i held c u v now l holds is any =
     ]
 
 pub refuted_reached : (p : Task) (order : List Criterion) (i : ℕ) (held : List Below) (c : Criterion) (u : ℕ) (d : Drawing) (now more : Lines) (clause : List Literal) →
-    slice_get order i ≡ Some c → u ≡ value_of (values_of d) c → Holds p order i held (values_of d) → Reached p order i d now →
+    slice_get order i ≡ Some c → u ≡ value_of (values_of d) c → Holds p order i held (values_of d) → Reached p order i d now → AreOnce (held ++ below_limit c u ∷ []) →
     AreAgainst (greatest_of p) now (held ++ below_limit c u ∷ []) clause → IsAsked now (held ++ below_limit c u ∷ []) (Refuted clause ∷ []) more → Reached p order (i + 1) d (now ++ more)
-refuted_reached p order i held c u d now more clause at is holds r against asked =
+refuted_reached p order i held c u d now more clause at is holds r once against asked =
     let v = values_of d in
     let bounds = held ++ below_limit c u ∷ [] in
     let each : All (IsOutOfReach (greatest_of p) (now ++ more) (take i order) c v) clause = All-weaker (λ l. Any (λ b. SaysAtLeast (greatest_of p) now b.criterion b.limit l) bounds) (IsOutOfReach (greatest_of p) (now ++ more) (take i order) c v)
@@ -154,6 +157,7 @@ refuted_reached p order i held c u d now more clause at is holds r against asked
             let same : clause ≡ other = same_refuted clause other (refuted_at_end now bounds (Refuted clause ∷ []) more other asked last) in
             record { place = i; before = omega arith; criterion = c; there = at; each = subst (λ (ls : List Literal). All (IsOutOfReach (greatest_of p) (now ++ more) (take i order) c v) ls) same each }
       ];
+      placed = placed_refuted p order now bounds more clause once asked r.placed;
     }
 
 -- the value is 0
@@ -164,6 +168,7 @@ zero_reached p order i c d now at is r = record {
   met = r.met;
   certified = certifies_next (greatest_of p) now order (values_of d) i c at r.certified (λ q. absurd (omega (arith, is, q)));
   answered = λ clause there. answer_later p now order (values_of d) i clause (r.answered clause there);
+  placed = r.placed;
 }
 
 pub holds_same : (p : Task) (order : List Criterion) (i : ℕ) (held : List Below) (v w : Values) → HasSameValues order i v w → Holds p order i held v → Holds p order i held w

@@ -23,19 +23,23 @@ use Rattle.certified_values.specs.Expected.{clause_lines, caps, expected_lines, 
 use Rattle.certified_values.proofs.CertifiedLemmas.{none_better, none_meets, certifies_nothing}
 use Rattle.certified_values.proofs.ExpectedLemmas.{expected_none, expected_vars_none, expected_same, expected_vars_same}
 use Rattle.lex_search.specs.declared.oracle.Below.{Below}
-use Rattle.lex_search.specs.declared.oracle.Stop.{Stop}
+use Rattle.certified_values.specs.declared.stop.Stop.{Stop}
 use Rattle.lex_search.specs.declared.oracle.Reply.{Reply}
 use Rattle.lex_search.specs.declared.oracle.Reply.TheVariants.{Found, Refuted as Refuted_, Stopped as Stopped_}
 use Rattle.lex_search.specs.declared.outcome.Outcome.{Outcome}
 use Rattle.lex_search.specs.declared.outcome.Outcome.TheVariants.{Best, NoDrawing, Spent, Room}
-use Rattle.lex_search.specs.declared.oracle.Stop.TheVariants.{BudgetSpent, RoomFull}
+use Rattle.certified_values.specs.declared.stop.Stop.TheVariants.{BudgetSpent, RoomFull}
 use Rattle.lex_search.specs.Task.{Task, IsLawful, greatest_of}
-use Rattle.lex_search.specs.Steps.{ToldBehind, Continues}
-use Rattle.lex_search.specs.Asked.{IsAsked, AreMet, AreAgainst, AreApart, IsCause, IsReply, IsRightReply}
+use Rattle.refute_log.specs.Steps.{ToldBehind, Continues}
+use Rattle.certified_values.specs.Cause.{IsCause}
+use Rattle.lex_search.specs.Asked.{AreOnce, IsAsked, AreMet, AreAgainst, AreApart, IsReply, IsRightReply}
+use Rattle.lex_search.specs.Placed.{ArePlaced}
 use Rattle.lex_search.specs.Caps.{AreCapped}
 use Rattle.lex_search.specs.State.{Counted, SearchState, StoppedAt, Advances}
 use Rattle.lex_search.specs.Outcome.{IsOutcome, IsStoppedEnd, IsRightOutcome, IsRightSoFar, stopped_with, IsSearched, IsBestEnd, IsNoneEnd, IsUnfoundEnd, IsUnfinishedEnd, IsFresh, first_lines}
-use Rattle.lex_search.proofs.StepLemmas.{stays, goes_on, becomes, refuted_before, not_model, not_nothing, ends_in, met_found, clause_lines_append, asks_no_clauses}
+use Rattle.refute_log.proofs.StepLemmas.{stays, goes_on, becomes}
+use Rattle.lex_search.proofs.QuestionLemmas.{refuted_before, not_model, not_nothing, ends_in, met_found, clause_lines_append, asks_no_clauses}
+use Rattle.lex_search.proofs.PlacedLemmas.{first_placed, placed_found, placed_refuted, placed_stopped}
 use Rattle.lex_search.proofs.BuildLemmas.{formulas_are_clauses}
 use Rattle.lex_search.proofs.CapLemmas.{capped_same, capped_first}
 use Rattle.lex_search.proofs.FinalLemmas.{settled_here, not_whole, meets_query}
@@ -55,8 +59,8 @@ pub record Known (p : Task) (order : List Criterion) (cap : Criterion → ℕ) (
 whole_from : (p : Task) (order : List Criterion) (cap : Criterion → ℕ) (lines : Lines) → Known p order cap lines → clause_lines lines ≡ expected_lines p.encoding order cap → IsAllExpected p.encoding (greatest_of p) order lines
 whole_from p order cap lines k told = told ∙ sym (expected_same p.encoding order (caps (greatest_of p) lines) cap k.counted)
 
-searched : (p : Task) (order : List Criterion) (cap : Criterion → ℕ) (lines : Lines) → Known p order cap lines → IsAllExpected p.encoding (greatest_of p) order lines → IsSearched p order lines
-searched p order cap lines k whole = record {
+searched : (p : Task) (order : List Criterion) (cap : Criterion → ℕ) (lines : Lines) → Known p order cap lines → IsAllExpected p.encoding (greatest_of p) order lines → ArePlaced p order lines → IsSearched p order lines
+searched p order cap lines k whole placed = record {
   formed = k.formed;
   derives = k.derives;
   due = k.due;
@@ -65,13 +69,14 @@ searched p order cap lines k whole = record {
   fits = k.fits;
   within = k.within;
   few = λ some. let same = expected_vars_same p.encoding order (caps (greatest_of p) lines) cap k.counted in omega (arith, same, k.few);
+  placed = placed;
 }
 
 pub best_end : (p : Task) (order : List Criterion) (n : ℕ) (held : List Below) (d : Drawing) (cap : Criterion → ℕ) (lines : Lines) → Known p order cap lines → n ≡ length order → SearchState p order n held d cap lines → IsBestEnd p order d lines
 best_end p order n held d cap lines k is s =
     let cert : Certifies (greatest_of p) lines order (values_of d) (length order) = subst (Certifies (greatest_of p) lines order (values_of d)) is s.reached.certified in
     record {
-      searched = searched p order cap lines k (whole_from p order cap lines k s.told);
+      searched = searched p order cap lines k (whole_from p order cap lines k s.told) s.reached.placed;
       whole = whole_from p order cap lines k s.told;
       lawful = s.reached.lawful;
       none_better = λ other lawful b. none_better (greatest_of p) lines order (values_of d) (values_of other) (length order) (k.covers other lawful) k.derives cert
@@ -85,7 +90,7 @@ unfinished_end p order s stop d cap lines is k e =
     let c : Criterion = get_or order s Height in
     let at : slice_get order s ≡ Some c = slice_get-get_or order s Height e.within in
     record {
-      searched = searched p order cap lines k e.told;
+      searched = searched p order cap lines k e.told e.reached.placed;
       whole = e.told;
       lawful = e.reached.lawful;
       none_better = λ other lawful b. none_better (greatest_of p) lines order (values_of d) (values_of other) s (k.covers other lawful) k.derives e.reached.certified b;
@@ -118,6 +123,9 @@ first_clauses p bounds ending more asked none =
     clause_lines_append (first_lines p) more ∙ ap (λ (ls : Lines). ls ++ clause_lines more) (formulas_are_clauses p.encoding.clauses)
     ∙ ap (λ (ls : Lines). first_lines p ++ ls) (asks_no_clauses (first_lines p) bounds ending more asked none) ∙ append-nil (first_lines p)
 
+no_bounds_once : AreOnce []
+no_bounds_once = λ i j d lt low. absurd (omega arith)
+
 pub first_state : (p : Task) (order : List Criterion) (d : Drawing) (cap : Criterion → ℕ) (more : Lines) → ((c : Criterion) → cap c ≡ 0) → IsLawful p d → IsAsked (first_lines p) [] (Model ∷ []) more →
     SearchState p order 0 [] d cap (first_lines p ++ more)
 first_state p order d cap more z lawful asked =
@@ -128,6 +136,7 @@ first_state p order d cap more z lawful asked =
         certified = certifies_nothing (greatest_of p) lines order (values_of d);
         met = met_found (first_lines p) [] more (values_of d) asked (All-nil (λ b. value_of (values_of d) b.criterion < b.limit));
         answered = λ clause there. absurd (only_formulas p (Refuted clause) (λ c e. cc) (refuted_before (first_lines p) [] (Model ∷ []) more clause asked (not_model clause) there));
+        placed = placed_found p order (first_lines p) [] more d no_bounds_once lawful (All-nil (λ b. value_of (values_of d) b.criterion < b.limit)) asked (first_placed p order);
       };
       told = first_clauses p [] (Model ∷ []) more asked refl ∙ sym (zero_told p order cap z);
       holds = inl (record { each = All-nil (λ b. Contains [] b.criterion × (b.limit ≡ value_of (values_of d) b.criterion + 1)); all = All-nil (λ c. Contains [] (record { criterion = c; limit = value_of (values_of d) c + 1 }) ⊎ (greatest_of p c ≤ value_of (values_of d) c)) }, All-nil (λ c. cap c ≡ 0 → greatest_of p c ≡ 0));
@@ -147,7 +156,7 @@ none_end p order cap clause more z k against asked =
     let told : clause_lines lines ≡ first_lines p = first_clauses p [] (Refuted clause ∷ []) more asked refl in
     let whole : IsAllExpected p.encoding (greatest_of p) order lines = whole_from p order cap lines k (told ∙ sym (zero_told p order cap z)) in
     record {
-      searched = searched p order cap lines k whole;
+      searched = searched p order cap lines k whole (placed_refuted p order (first_lines p) [] more clause no_bounds_once asked (first_placed p order));
       whole = whole;
       unbounded = told;
       none_lawful = λ d lawful. none_meets lines (values_of d) (k.covers d lawful) k.derives cert;
@@ -164,13 +173,13 @@ no_model_in p more asked there = elim (Contains-append_cases (first_lines p) mor
       All-contains P more Model (subst (All P) (sym asked.is) all) h refl
 ]
 
-pub unfound_end : (p : Task) (order : List Criterion) (stop : Stop) (cap : Criterion → ℕ) (more : Lines) → ((c : Criterion) → cap c ≡ 0) → Known p order cap (first_lines p ++ more) → IsAsked (first_lines p) [] [] more → IsCause p stop (first_lines p ++ more) →
+pub unfound_end : (p : Task) (order : List Criterion) (stop : Stop) (cap : Criterion → ℕ) (more : Lines) → ((c : Criterion) → cap c ≡ 0) → Known p order cap (first_lines p ++ more) → IsAsked (first_lines p) [] [] more → IsCause p.budget p.room stop (first_lines p ++ more) →
     IsUnfoundEnd p order 0 stop (first_lines p ++ more)
 unfound_end p order stop cap more z k asked cause =
     let lines = first_lines p ++ more in
     let whole : IsAllExpected p.encoding (greatest_of p) order lines = whole_from p order cap lines k (first_clauses p [] [] more asked refl ∙ sym (zero_told p order cap z)) in
     record {
-      searched = searched p order cap lines k whole;
+      searched = searched p order cap lines k whole (placed_stopped p order (first_lines p) [] more no_bounds_once asked (first_placed p order));
       told = inl whole;
       settled_is = refl;
       unbounded = λ c. k.counted c ∙ z c;

@@ -14,12 +14,14 @@ use Rattle.certified_values.specs.Bounds.{CoversDrawings}
 use Rattle.lex_search.specs.declared.oracle.Below.{Below}
 use Rattle.lex_search.specs.declared.oracle.Reply.{Reply}
 use Rattle.lex_search.specs.declared.oracle.Reply.TheVariants.{Found, Refuted, Stopped}
-use Rattle.lex_search.specs.declared.oracle.Stop.{Stop}
+use Rattle.certified_values.specs.declared.stop.Stop.{Stop}
 use Rattle.lex_search.specs.Task.{Task, IsLawful}
-use Rattle.lex_search.specs.Steps.{Continues}
-use Rattle.lex_search.specs.Asked.{below_limit, AreMet, IsAsked, IsReply, IsRightReply, IsCause, IsWithinCap}
+use Rattle.refute_log.specs.Steps.{Continues}
+use Rattle.certified_values.specs.Cause.{IsCause}
+use Rattle.lex_search.specs.Asked.{below_limit, AreOnce, AreMet, IsAsked, IsReply, IsRightReply, IsWithinCap}
 use Rattle.lex_search.specs.Reached.{Reached, HasSameValues, Run, RunTo}
-use Rattle.lex_search.proofs.StepLemmas.{stays, goes_on, becomes, no_clauses_both, asks_no_clauses}
+use Rattle.refute_log.proofs.StepLemmas.{stays, goes_on, becomes}
+use Rattle.lex_search.proofs.QuestionLemmas.{no_clauses_both, asks_no_clauses}
 use Rattle.lex_search.proofs.LowerLemmas.{found_same, found_reached, stopped_reached, refuted_reached, zero_reached, holds_same, same_then, same_back}
 
 pub run_none : {S : Type 0} (knows log : S → Lines → Type 0) (count : S → ℕ) (s : S) (p : Task) (order : List Criterion) (i : ℕ) (held : List Below) (d : Drawing) →
@@ -32,10 +34,10 @@ pub record Laws {S : Type 0} (knows : S → Lines → Type 0) (s : S) (p : Task)
   pub derives : (lines : Lines) → knows s lines → Derives lines
 
 pub run_found : {S : Type 0} (knows log : S → Lines → Type 0) (count : S → ℕ) (a b e : S) (p : Task) (order : List Criterion) (i : ℕ) (held : List Below) (c : Criterion) (u : ℕ) (first d found : Drawing) (bounds : List Below) (reply : Reply) →
-    Laws knows b p → bounds ≡ held ++ below_limit c u ∷ [] → reply ≡ Found found → IsRightReply p bounds reply →
+    Laws knows b p → AreOnce bounds → bounds ≡ held ++ below_limit c u ∷ [] → reply ≡ Found found → IsRightReply p bounds reply →
     Continues knows log count a b (Run p order i held first d) → Continues knows log count b e (λ lines more. IsReply p lines bounds reply more) →
     Continues knows log count a e (Run p order i held first found)
-run_found knows log count a b e p order i held c u first d found bounds reply laws is was fact run asked =
+run_found knows log count a b e p order i held c u first d found bounds reply laws once is was fact run asked =
     let got : IsLawful p found × AreMet (values_of found) bounds = subst (IsRightReply p bounds) was fact in
     goes_on knows log count a b e (Run p order i held first d) (λ lines more. IsReply p lines bounds reply more) (Run p order i held first found) run asked
     (λ lines xs ys ka kb ke so_far answer.
@@ -48,15 +50,15 @@ run_found knows log count a b e p order i held c u first d found bounds reply la
           (subst (AreMet (values_of found)) is got.1) holds before.0 before.1.certified in (
             same,
             subst (Reached p order i found) (append_assoc lines xs ys)
-                (found_reached p order i bounds d found now ys before.1 got.0 got.1 (same_then order i (values_of d) (values_of first) (values_of found) (same_back order i (values_of first) (values_of d) before.0) same) question),
+                (found_reached p order i bounds d found now ys before.1 once got.0 got.1 (same_then order i (values_of d) (values_of first) (values_of found) (same_back order i (values_of first) (values_of d) before.0) same) question),
           ),
     ))
 
 pub run_refuted : {S : Type 0} (knows log : S → Lines → Type 0) (count : S → ℕ) (a b e : S) (p : Task) (order : List Criterion) (i : ℕ) (held : List Below) (c : Criterion) (u : ℕ) (first d : Drawing) (bounds : List Below) (reply : Reply) →
-    slice_get order i ≡ Some c → u ≡ value_of (values_of d) c → bounds ≡ held ++ below_limit c u ∷ [] → reply ≡ Refuted →
+    slice_get order i ≡ Some c → u ≡ value_of (values_of d) c → AreOnce bounds → bounds ≡ held ++ below_limit c u ∷ [] → reply ≡ Refuted →
     Continues knows log count a b (Run p order i held first d) → Continues knows log count b e (λ lines more. IsReply p lines bounds reply more) →
     Continues knows log count a e (RunTo p order i held first None d)
-run_refuted knows log count a b e p order i held c u first d bounds reply at value is was run asked =
+run_refuted knows log count a b e p order i held c u first d bounds reply at value once is was run asked =
     goes_on knows log count a b e (Run p order i held first d) (λ lines more. IsReply p lines bounds reply more) (RunTo p order i held first None d) run asked
     (λ lines xs ys ka kb ke so_far answer.
     let now = lines ++ xs in
@@ -66,15 +68,15 @@ run_refuted knows log count a b e p order i held c u first d bounds reply at val
           let before = so_far.1 reached holds in (
             before.0,
             subst (Reached p order (i + 1) d) (append_assoc lines xs ys)
-                (refuted_reached p order i held c u d now ys got.0 at value (holds_same p order i held (values_of first) (values_of d) before.0 holds) before.1 got.1 got.2),
+                (refuted_reached p order i held c u d now ys got.0 at value (holds_same p order i held (values_of first) (values_of d) before.0 holds) before.1 (subst AreOnce is once) got.1 got.2),
           ),
     ))
 
 pub run_stopped : {S : Type 0} (knows log : S → Lines → Type 0) (count : S → ℕ) (a b e : S) (p : Task) (order : List Criterion) (i : ℕ) (held : List Below) (c : Criterion) (u : ℕ) (first d : Drawing) (bounds : List Below) (reply : Reply) (stop : Stop) →
-    slice_get order i ≡ Some c → u ≡ value_of (values_of d) c → 1 ≤ u → reply ≡ Stopped stop →
+    slice_get order i ≡ Some c → u ≡ value_of (values_of d) c → 1 ≤ u → AreOnce bounds → reply ≡ Stopped stop →
     Continues knows log count a b (Run p order i held first d) → Continues knows log count b e (λ lines more. IsReply p lines bounds reply more) →
     Continues knows log count a e (RunTo p order i held first (Some stop) d)
-run_stopped knows log count a b e p order i held c u first d bounds reply stop at value positive was run asked =
+run_stopped knows log count a b e p order i held c u first d bounds reply stop at value positive once was run asked =
     goes_on knows log count a b e (Run p order i held first d) (λ lines more. IsReply p lines bounds reply more) (RunTo p order i held first (Some stop) d) run asked
     (λ lines xs ys ka kb ke so_far answer.
     let now = lines ++ xs in
@@ -84,9 +86,9 @@ run_stopped knows log count a b e p order i held c u first d bounds reply stop a
           let before = so_far.1 reached holds in (
             before.0,
             (
-              subst (Reached p order i d) (append_assoc lines xs ys) (stopped_reached p order i bounds d now ys before.1 got.0),
+              subst (Reached p order i d) (append_assoc lines xs ys) (stopped_reached p order i bounds d now ys before.1 once got.0),
               λ m there. let same : c ≡ m = (let e : Some c ≡ Some m = sym at ∙ there in cc) in subst (λ n. 1 ≤ value_of (values_of d) n) same (let h : 1 ≤ value_of (values_of d) c = omega arith in h),
-              subst (IsCause p stop) (append_assoc lines xs ys) got.1,
+              subst (IsCause p.budget p.room stop) (append_assoc lines xs ys) got.1,
             ),
           ),
     ))
@@ -128,28 +130,28 @@ no_more first d c (inr less) = omega (arith, less)
 -- ---- the same where the task is named by a later state
 
 pub run_found_at : {S : Type 0} (knows log : S → Lines → Type 0) (count : S → ℕ) (a b e : S) (q p : Task) (order : List Criterion) (i : ℕ) (held : List Below) (c : Criterion) (u : ℕ) (first d found : Drawing) (bounds : List Below) (reply : Reply) →
-    q ≡ p → Laws knows b q → bounds ≡ held ++ below_limit c u ∷ [] → reply ≡ Found found → IsRightReply q bounds reply →
+    q ≡ p → Laws knows b q → AreOnce bounds → bounds ≡ held ++ below_limit c u ∷ [] → reply ≡ Found found → IsRightReply q bounds reply →
     Continues knows log count a b (Run p order i held first d) → Continues knows log count b e (λ lines more. IsReply q lines bounds reply more) →
     Continues knows log count a e (Run p order i held first found)
-run_found_at knows log count a b e q p order i held c u first d found bounds reply same laws is was fact run asked =
+run_found_at knows log count a b e q p order i held c u first d found bounds reply same laws once is was fact run asked =
     subst (λ (x : Task). Continues knows log count a e (Run x order i held first found)) same
-    (run_found knows log count a b e q order i held c u first d found bounds reply laws is was fact (subst (λ (x : Task). Continues knows log count a b (Run x order i held first d)) (sym same) run) asked)
+    (run_found knows log count a b e q order i held c u first d found bounds reply laws once is was fact (subst (λ (x : Task). Continues knows log count a b (Run x order i held first d)) (sym same) run) asked)
 
 pub run_refuted_at : {S : Type 0} (knows log : S → Lines → Type 0) (count : S → ℕ) (a b e : S) (q p : Task) (order : List Criterion) (i : ℕ) (held : List Below) (c : Criterion) (u : ℕ) (first d : Drawing) (bounds : List Below) (reply : Reply) →
-    q ≡ p → slice_get order i ≡ Some c → u ≡ value_of (values_of d) c → bounds ≡ held ++ below_limit c u ∷ [] → reply ≡ Refuted →
+    q ≡ p → slice_get order i ≡ Some c → u ≡ value_of (values_of d) c → AreOnce bounds → bounds ≡ held ++ below_limit c u ∷ [] → reply ≡ Refuted →
     Continues knows log count a b (Run p order i held first d) → Continues knows log count b e (λ lines more. IsReply q lines bounds reply more) →
     Continues knows log count a e (RunTo p order i held first None d)
-run_refuted_at knows log count a b e q p order i held c u first d bounds reply same at value is was run asked =
+run_refuted_at knows log count a b e q p order i held c u first d bounds reply same at value once is was run asked =
     subst (λ (x : Task). Continues knows log count a e (RunTo x order i held first None d)) same
-    (run_refuted knows log count a b e q order i held c u first d bounds reply at value is was (subst (λ (x : Task). Continues knows log count a b (Run x order i held first d)) (sym same) run) asked)
+    (run_refuted knows log count a b e q order i held c u first d bounds reply at value once is was (subst (λ (x : Task). Continues knows log count a b (Run x order i held first d)) (sym same) run) asked)
 
 pub run_stopped_at : {S : Type 0} (knows log : S → Lines → Type 0) (count : S → ℕ) (a b e : S) (q p : Task) (order : List Criterion) (i : ℕ) (held : List Below) (c : Criterion) (u : ℕ) (first d : Drawing) (bounds : List Below) (reply : Reply) (stop : Stop) →
-    q ≡ p → slice_get order i ≡ Some c → u ≡ value_of (values_of d) c → 1 ≤ u → reply ≡ Stopped stop →
+    q ≡ p → slice_get order i ≡ Some c → u ≡ value_of (values_of d) c → 1 ≤ u → AreOnce bounds → reply ≡ Stopped stop →
     Continues knows log count a b (Run p order i held first d) → Continues knows log count b e (λ lines more. IsReply q lines bounds reply more) →
     Continues knows log count a e (RunTo p order i held first (Some stop) d)
-run_stopped_at knows log count a b e q p order i held c u first d bounds reply stop same at value positive was run asked =
+run_stopped_at knows log count a b e q p order i held c u first d bounds reply stop same at value positive once was run asked =
     subst (λ (x : Task). Continues knows log count a e (RunTo x order i held first (Some stop) d)) same
-    (run_stopped knows log count a b e q order i held c u first d bounds reply stop at value positive was (subst (λ (x : Task). Continues knows log count a b (Run x order i held first d)) (sym same) run) asked)
+    (run_stopped knows log count a b e q order i held c u first d bounds reply stop at value positive once was (subst (λ (x : Task). Continues knows log count a b (Run x order i held first d)) (sym same) run) asked)
 
 pub found_lawful : (q p : Task) (bounds : List Below) (d : Drawing) (reply : Reply) → q ≡ p → reply ≡ Found d → IsRightReply q bounds reply → IsLawful p d
 found_lawful q p bounds d reply same was fact = subst (λ (x : Task). IsLawful x d) same (let got : IsLawful q d × AreMet (values_of d) bounds = subst (IsRightReply q bounds) was fact in got.0)

@@ -1,5 +1,5 @@
 -- One question to the solver: its bounds, and the lines that it tells.
-use Rattle.std.specs.Prelude.{◌≡◌, ◌≢◌, ◌≤◌, ◌<◌, ⊤, ℕ, List, [], ◌∷◌, ◌++◌, All, AllPairs, Any, Contains, map, flat_map, length, fold, Option, None, Some, MatchOption}
+use Rattle.std.specs.Prelude.{◌≡◌, ◌≢◌, ◌≤◌, ◌<◌, ⊤, ℕ, List, [], ◌∷◌, ◌++◌, All, AllPairs, Any, Contains, map, fold, Option, None, Some, MatchOption}
 use Rattle.plan_core.specs.declared.criterion.Values.{Values}
 use Rattle.plan_core.specs.declared.criterion.Criterion.{Criterion}
 use Rattle.plan_core.specs.Values.{values_of, value_of}
@@ -9,14 +9,11 @@ use Rattle.cnf_core.specs.Clause.{Clauses}
 use Rattle.refute_log.specs.declared.line.LogLine.{LogLine}
 use Rattle.refute_log.specs.declared.line.LogLine.TheVariants.{Learnt, Bound, Query, Refuted as RefutedLine, Model}
 use Rattle.refute_log.specs.Told.{Lines}
-use Rattle.refute_log.specs.Log.{learnt, Open}
 use Rattle.certified_values.specs.Bounds.{SaysAtLeast}
-use Rattle.certified_values.specs.Full.{NextClausePasses}
+use Rattle.certified_values.specs.Cause.{IsCause}
 use Rattle.lex_search.specs.declared.oracle.Below.{Below}
 use Rattle.lex_search.specs.declared.oracle.Reply.{Reply}
 use Rattle.lex_search.specs.declared.oracle.Reply.TheVariants.{Found, Refuted, Stopped}
-use Rattle.lex_search.specs.declared.oracle.Stop.{Stop}
-use Rattle.lex_search.specs.declared.oracle.Stop.TheVariants.{BudgetSpent, RoomFull}
 use Rattle.lex_search.specs.Task.{Task, IsLawful, greatest_of}
 
 -- "the value of the criterion is below the limit"
@@ -56,18 +53,12 @@ pub record IsAsked (lines : Lines) (bounds : List Below) (ending more : Lines) :
 abbrev pub AreAgainst : (Criterion → ℕ) → Lines → List Below → List Literal → Type 0
 AreAgainst greatest lines bounds clause = All (λ l. Any (λ b. SaysAtLeast greatest lines b.criterion b.limit l) bounds) clause
 
--- why a search of these lines stopped in a question: the whole budget of learnt clauses is spent, and the latest query
--- is open; or one more clause has no room
-abbrev pub IsCause : Task → Stop → Lines → Type 0
-IsCause p BudgetSpent lines = (length (flat_map learnt lines) ≡ p.budget) × Open lines
-IsCause p RoomFull lines = NextClausePasses lines p.room
-
 -- the lines of a question with this answer
 abbrev pub IsReply : Task → Lines → List Below → Reply → Lines → Type 0
 IsReply p lines bounds (Found d) more = IsAsked lines bounds (Model ∷ []) more
 IsReply p lines bounds Refuted more =
     (clause : List Literal) × AreAgainst (greatest_of p) lines bounds clause × IsAsked lines bounds (RefutedLine clause ∷ []) more
-IsReply p lines bounds (Stopped stop) more = IsAsked lines bounds [] more × IsCause p stop (lines ++ more)
+IsReply p lines bounds (Stopped stop) more = IsAsked lines bounds [] more × IsCause p.budget p.room stop (lines ++ more)
 
 -- a drawing that is found is lawful and meets the bounds
 abbrev pub IsRightReply : Task → List Below → Reply → Type 0

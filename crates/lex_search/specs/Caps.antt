@@ -7,10 +7,10 @@ use Rattle.plan_core.specs.Drawing.{Drawing}
 use Rattle.refute_log.specs.Told.{Lines}
 use Rattle.certified_values.specs.Expected.{caps}
 use Rattle.certified_values.specs.Full.{NextSumPasses}
-use Rattle.lex_search.specs.declared.oracle.Stop.{Stop}
-use Rattle.lex_search.specs.declared.oracle.Stop.TheVariants.{RoomFull}
+use Rattle.certified_values.specs.declared.stop.Stop.{Stop}
+use Rattle.certified_values.specs.declared.stop.Stop.TheVariants.{RoomFull}
 use Rattle.lex_search.specs.Task.{Task, IsLawful, greatest_of}
-use Rattle.lex_search.specs.Asked.{IsCause}
+use Rattle.certified_values.specs.Cause.{IsCause}
 use Rattle.lex_search.specs.Reached.{HasSameValues}
 
 -- from this place on each value is 0
@@ -34,18 +34,18 @@ pub record IsTurn (p : Task) (order : List Criterion) (i : ℕ) (reached d : Dra
       × HasSameValues order i (values_of reached) (values_of d))
 
 -- a search comes to the drawing d by the turns of the first s criteria, one after another
-abbrev pub ComesTo : Task → List Criterion → ℕ → Drawing → (Criterion → ℕ) → Type 0
-ComesTo p order zero d cap = ⊤
-ComesTo p order (suc i) d cap = (reached : Drawing) × IsTurn p order i reached d cap × ComesTo p order i reached cap
+abbrev pub IsByTurns : Task → List Criterion → ℕ → Drawing → (Criterion → ℕ) → Type 0
+IsByTurns p order zero d cap = ⊤
+IsByTurns p order (suc i) d cap = (reached : Drawing) × IsTurn p order i reached d cap × IsByTurns p order i reached cap
 
 -- so many bounds each criterion has then: the first s those of their turns, and no other one any
 pub record AreCapped (p : Task) (order : List Criterion) (s : ℕ) (d : Drawing) (cap : Criterion → ℕ) : Type 0 where
-  pub turns : ComesTo p order s d cap
+  pub turns : IsByTurns p order s d cap
   pub no_other : (c : Criterion) → (Contains (take s order) c → ⊥) → cap c ≡ 0
 
 -- why a search stopped with this drawing, the first s criteria being settled: in a question on the criterion behind
 -- them, in its turn; or for want of room for the bounds of the next criterion, before its turn
 abbrev pub IsCauseWith : Task → List Criterion → ℕ → Stop → Drawing → Lines → Type 0
-IsCauseWith p order s stop d lines = (IsCause p stop lines × AreCapped p order (s + 1) d (caps (greatest_of p) lines))
+IsCauseWith p order s stop d lines = (IsCause p.budget p.room stop lines × AreCapped p order (s + 1) d (caps (greatest_of p) lines))
     ⊎ ((stop ≡ RoomFull) × (next : NextSumPasses p.encoding (greatest_of p) order lines (values_of d) p.room)
     × AreCapped p order next.next.place d (caps (greatest_of p) lines))

@@ -1,6 +1,6 @@
 pub mod Task
-pub mod Steps
 pub mod Asked
+pub mod Placed
 pub mod Reached
 pub mod Built
 pub mod Caps

@@ -14,18 +14,20 @@ use Rattle.certified_values.specs.Bounds.{CoversDrawings}
 use Rattle.certified_values.specs.Certified.{Certifies, CertifiesNone, IsSettled}
 use Rattle.certified_values.specs.Expected.{clause_lines, caps, expected_vars, IsExpected, IsAllExpected}
 use Rattle.certified_values.specs.Full.{CapsPass}
-use Rattle.lex_search.specs.declared.oracle.Stop.{Stop}
-use Rattle.lex_search.specs.declared.oracle.Stop.TheVariants.{BudgetSpent, RoomFull}
+use Rattle.certified_values.specs.declared.stop.Stop.{Stop}
+use Rattle.certified_values.specs.declared.stop.Stop.TheVariants.{BudgetSpent, RoomFull}
 use Rattle.lex_search.specs.declared.outcome.Outcome.{Outcome}
 use Rattle.lex_search.specs.declared.outcome.Outcome.TheVariants.{Best, NoDrawing, Spent, Room}
 use Rattle.lex_search.specs.Task.{Task, IsLawful, greatest_of}
-use Rattle.lex_search.specs.Asked.{IsCause, MeetsQuery}
+use Rattle.certified_values.specs.Cause.{IsCause}
+use Rattle.lex_search.specs.Asked.{MeetsQuery}
+use Rattle.lex_search.specs.Placed.{ArePlaced}
 use Rattle.lex_search.specs.Caps.{AreCapped, IsCauseWith}
 
 -- what the lines of every search are: they may be told and derive, each Learnt line is due, they cover the lawful
 -- drawings, their Formula and Bound lines begin what is expected for their caps, their clauses have room, there are no
--- more Learnt lines than the budget allows, and what is expected has no more variables than there may be, where there is
--- such a line
+-- more Learnt lines than the budget allows, what is expected has no more variables than there may be, where there is
+-- such a line, and each line stands where it may
 pub record IsSearched (p : Task) (order : List Criterion) (lines : Lines) : Type 0 where
   pub formed : MayAllBeTold lines
   pub derives : Derives lines
@@ -35,6 +37,7 @@ pub record IsSearched (p : Task) (order : List Criterion) (lines : Lines) : Type
   pub fits : words_of (flat_map added lines) ≤ p.room
   pub within : length (flat_map learnt lines) ≤ p.budget
   pub few : clause_lines lines ≢ [] → expected_vars p.encoding order (caps (greatest_of p) lines) ≤ VARS
+  pub placed : ArePlaced p order lines
 
 -- the Formula and Bound lines are the whole of what is expected, the drawing's values are certified on the whole order,
 -- and each criterion has the bounds of its turn
@@ -76,7 +79,7 @@ pub record IsUnfoundEnd (p : Task) (order : List Criterion) (settled : ℕ) (sto
   pub unbounded : (c : Criterion) → caps (greatest_of p) lines c ≡ 0
   pub no_model : Contains lines Model → ⊥
   pub not_none : CertifiesNone lines → ⊥
-  pub cause : IsCause p stop lines ⊎ ((stop ≡ RoomFull) × CapsPass p.encoding order lines p.room (caps (greatest_of p) lines))
+  pub cause : IsCause p.budget p.room stop lines ⊎ ((stop ≡ RoomFull) × CapsPass p.encoding order lines p.room (caps (greatest_of p) lines))
 
 abbrev pub IsStoppedEnd : Task → List Criterion → ℕ → Stop → Option Drawing → Lines → Type 0
 IsStoppedEnd p order settled stop None lines = IsUnfoundEnd p order settled stop lines

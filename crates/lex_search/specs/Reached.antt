@@ -10,9 +10,11 @@ use Rattle.refute_log.specs.Told.{Lines}
 use Rattle.certified_values.specs.Certified.{Certifies, IsOutOfReach}
 use Rattle.certified_values.specs.Expected.{clause_lines}
 use Rattle.lex_search.specs.declared.oracle.Below.{Below}
-use Rattle.lex_search.specs.declared.oracle.Stop.{Stop}
+use Rattle.certified_values.specs.declared.stop.Stop.{Stop}
 use Rattle.lex_search.specs.Task.{Task, IsLawful, greatest_of}
-use Rattle.lex_search.specs.Asked.{below_limit, IsCause, IsMet}
+use Rattle.certified_values.specs.Cause.{IsCause}
+use Rattle.lex_search.specs.Asked.{below_limit, IsMet}
+use Rattle.lex_search.specs.Placed.{ArePlaced}
 
 -- the clause is the answer at one of the first i places
 pub record IsAnswerAt (greatest : Criterion → ℕ) (lines : Lines) (order : List Criterion) (v : Values) (i : ℕ) (clause : List Literal) : Type 0 where
@@ -22,13 +24,14 @@ pub record IsAnswerAt (greatest : Criterion → ℕ) (lines : Lines) (order : Li
   pub there : slice_get order place ≡ Some criterion
   pub each : All (IsOutOfReach greatest lines (take place order) criterion v) clause
 
--- the drawing's values are certified at the first i places, it meets the query before the last Model line, and each
--- Refuted line is the answer at one of these places
+-- the drawing's values are certified at the first i places, it meets the query before the last Model line, each
+-- Refuted line is the answer at one of these places, and each line stands where it may
 pub record Reached (p : Task) (order : List Criterion) (i : ℕ) (d : Drawing) (lines : Lines) : Type 0 where
   pub lawful : IsLawful p d
   pub certified : Certifies (greatest_of p) lines order (values_of d) i
   pub met : IsMet lines (values_of d)
   pub answered : (clause : List Literal) → Contains lines (Refuted clause) → IsAnswerAt (greatest_of p) lines order (values_of d) i clause
+  pub placed : ArePlaced p order lines
 
 -- the bounds hold the first i criteria at their values: none says more, and each criterion is held or can't be greater
 pub record Holds (p : Task) (order : List Criterion) (i : ℕ) (bounds : List Below) (v : Values) : Type 0 where
@@ -42,7 +45,7 @@ HasSameValues order i v w = All (λ c. value_of v c ≡ value_of w c) (take i or
 abbrev pub IsLowered : Task → List Criterion → ℕ → Option Stop → Drawing → Lines → Type 0
 IsLowered p order i None d lines = Reached p order (i + 1) d lines
 IsLowered p order i (Some stop) d lines =
-    Reached p order i d lines × ((c : Criterion) → slice_get order i ≡ Some c → 1 ≤ value_of (values_of d) c) × IsCause p stop lines
+    Reached p order i d lines × ((c : Criterion) → slice_get order i ≡ Some c → 1 ≤ value_of (values_of d) c) × IsCause p.budget p.room stop lines
 
 -- a run of questions from the first drawing, with the held bounds, to this one; it tells no clauses
 abbrev pub Run : Task → List Criterion → ℕ → List Below → Drawing → Drawing → Lines → Lines → Type 0

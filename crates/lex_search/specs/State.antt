@@ -7,7 +7,7 @@ use Rattle.plan_core.specs.Drawing.{Drawing}
 use Rattle.refute_log.specs.Told.{Lines}
 use Rattle.certified_values.specs.Expected.{clause_lines, expected_lines, expected_vars, IsAllExpected}
 use Rattle.lex_search.specs.declared.oracle.Below.{Below}
-use Rattle.lex_search.specs.declared.oracle.Stop.{Stop}
+use Rattle.certified_values.specs.declared.stop.Stop.{Stop}
 use Rattle.lex_search.specs.Task.{Task, greatest_of}
 use Rattle.lex_search.specs.Asked.{below_limit, AreOnce}
 use Rattle.lex_search.specs.Reached.{Reached, Holds}

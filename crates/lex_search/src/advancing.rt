@@ -7,13 +7,14 @@ ghost use Rattle.plan_core.specs.Order.{IsOrder};
 ghost use Rattle.certified_values.specs.Expected.{expected_vars};
 ghost use Rattle.lex_search.specs.Task.{IsLawful};
 ghost use Rattle.lex_search.specs.Asked.{IsWithinCap};
-ghost use Rattle.lex_search.specs.Steps.{Continues};
+ghost use Rattle.refute_log.specs.Steps.{Continues};
 ghost use Rattle.lex_search.specs.Caps.{AllZero};
 ghost use Rattle.lex_search.specs.State.{IsFirstPositive, AreBefore, Counted, SearchState, Advances, IsCapOf, BoundedTo, hold as hold_of};
 
 use crate::MinFault;
 use crate::lowering::lower;
-use crate::oracle::{Below, Built, Oracle, Stop};
+use crate::oracle::{Below, Built, Oracle};
+use certified_values::Stop;
 use plan_core::{Criterion, Order, OutOfMemory, Values};
 use plan_geometry::{Drawing, values};
 use std::alloc::Global;

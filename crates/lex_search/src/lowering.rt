@@ -7,11 +7,12 @@ ghost use Rattle.plan_core.specs.Order.{IsOrder};
 ghost use Rattle.lex_search.specs.Asked.{below_limit, IsWithinCap};
 ghost use Rattle.lex_search.specs.State.{AreBefore};
 ghost use Rattle.lex_search.specs.Task.{IsLawful};
-ghost use Rattle.lex_search.specs.Steps.{Continues};
+ghost use Rattle.refute_log.specs.Steps.{Continues};
 ghost use Rattle.lex_search.specs.Reached.{RunTo};
 
 use crate::MinFault;
-use crate::oracle::{Below, Oracle, Reply, Stop};
+use crate::oracle::{Below, Oracle, Reply};
+use certified_values::Stop;
 use plan_core::{Criterion, Order, OutOfMemory};
 use plan_geometry::{Drawing, values};
 use std::alloc::Global;

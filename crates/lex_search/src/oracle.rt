@@ -11,11 +11,12 @@ ghost use Rattle.certified_values.specs.Bounds.{CoversDrawings};
 ghost use Rattle.certified_values.specs.Expected.{caps as caps_of};
 ghost use Rattle.lex_search.specs.Task.{Task, IsLawful, greatest_of};
 ghost use Rattle.lex_search.specs.declared.oracle.Built.TheVariants.{Whole as AllOfThem};
-ghost use Rattle.lex_search.specs.Steps.{Continues};
+ghost use Rattle.refute_log.specs.Steps.{Continues};
 ghost use Rattle.lex_search.specs.Built.{IsBuild, AreBuiltTo};
 ghost use Rattle.lex_search.specs.Asked.{IsReply, IsRightReply, IsWithinCap, AreOnce, AreApart};
 
 use crate::MinFault;
+use certified_values::Stop;
 use plan_core::Criterion;
 use plan_geometry::Drawing;
 
@@ -37,15 +38,6 @@ pub enum Reply {
     Refuted,
     /// The search stopped.
     Stopped(Stop),
-}
-
-/// Why a search stopped.
-#[derive(Clone, Copy)]
-pub enum Stop {
-    /// The whole budget of learnt clauses is spent.
-    BudgetSpent,
-    /// There is no room for a further learnt clause, or for the clauses of a criterion.
-    RoomFull,
 }
 
 /// Whether the clauses of a criterion were told.

@@ -2,7 +2,7 @@
 ghost use Rattle.std.specs.Prelude.{◌≡◌, ◌<◌};
 ghost use Rattle.lex_search.specs.Outcome.{stopped_with};
 
-use crate::oracle::Stop;
+use certified_values::Stop;
 use plan_geometry::Drawing;
 
 /// How a search ended.

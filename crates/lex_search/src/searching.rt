@@ -3,7 +3,7 @@ ghost use Rattle.std.specs.Prelude.{◌≡◌, ◌≤◌, ◌<◌, ◌+◌, ◌+
 ghost use Rattle.outside_io.specs.Counts.{Rose};
 ghost use Rattle.plan_core.specs.Order.{IsOrder};
 ghost use Rattle.lex_search.specs.Task.{IsLawful};
-ghost use Rattle.lex_search.specs.Steps.{ToldBehind, Continues};
+ghost use Rattle.refute_log.specs.Steps.{ToldBehind, Continues};
 ghost use Rattle.lex_search.specs.State.{Counted, SearchState};
 ghost use Rattle.lex_search.specs.Outcome.{IsOutcome, IsRightOutcome, IsFresh, first_lines};
 ghost use Rattle.refute_log.specs.Told.{Lines};

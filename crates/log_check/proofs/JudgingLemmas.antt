@@ -33,8 +33,8 @@ use Rattle.drawing_problem.specs.Layout.{Layout, problem_of}
 use Rattle.drawing_problem.proofs.CoverLemmas.{expected_cover}
 use Rattle.log_check.specs.declared.claim.Claim.{Claim}
 use Rattle.log_check.specs.declared.claim.Claim.TheVariants.{Least, NoDrawing, Nothing}
-use Rattle.log_check.specs.declared.next_line.Next.{Next}
-use Rattle.log_check.specs.declared.next_line.Next.TheVariants.{Line, Fault}
+use Rattle.log_check.specs.declared.reading.Next.{Next}
+use Rattle.log_check.specs.declared.reading.Next.TheVariants.{Line, Fault}
 use Rattle.log_check.specs.declared.verdict.Refusal.{Refusal}
 use Rattle.log_check.specs.declared.verdict.Verdict.{Verdict}
 use Rattle.log_check.specs.declared.verdict.Verdict.TheVariants.{Certified, Lacks, Refused, Faulty}

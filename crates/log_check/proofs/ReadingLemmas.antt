@@ -4,8 +4,8 @@ use Rattle.std.specs.Prelude.{codes}
 use Rattle.line_text.specs.Fields.{LacksByte, IsCutAt}
 use Rattle.refute_log.specs.declared.line.LogLine.{LogLine}
 use Rattle.refute_log.specs.Lines.{ended_text, log_line_text, MayBeTold}
-use Rattle.log_check.specs.declared.next_line.Next.{Next}
-use Rattle.log_check.specs.declared.next_line.Next.TheVariants.{Line, Fault}
+use Rattle.log_check.specs.declared.reading.Next.{Next}
+use Rattle.log_check.specs.declared.reading.Next.TheVariants.{Line, Fault}
 use Rattle.log_check.specs.Progress.{IsLineRead, IsNext}
 
 -- a line that is read from what stands before a line feed

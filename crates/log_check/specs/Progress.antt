@@ -10,8 +10,8 @@ use Rattle.refute_check.specs.declared.fault.LineFault.TheVariants.{NewVar, Wron
 use Rattle.certified_values.specs.Expected.{clause_line, clause_lines}
 use Rattle.certified_check.specs.Lacking.{told_bound}
 use Rattle.log_check.specs.declared.claim.Claim.{Claim}
-use Rattle.log_check.specs.declared.next_line.Next.{Next}
-use Rattle.log_check.specs.declared.next_line.Next.TheVariants.{Line, Fault}
+use Rattle.log_check.specs.declared.reading.Next.{Next}
+use Rattle.log_check.specs.declared.reading.Next.TheVariants.{Line, Fault}
 use Rattle.log_check.specs.declared.verdict.Verdict.{Verdict}
 use Rattle.log_check.specs.declared.verdict.Verdict.TheVariants.{Certified, Lacks, Refused, Faulty}
 use Rattle.log_check.specs.declared.verdict.Refusal.{Refusal}

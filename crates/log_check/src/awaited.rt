@@ -11,7 +11,7 @@ use refute_log::LogLine;
 
 /// A part of the expected lines.
 #[derive(Clone, Copy, Debug)]
-pub(crate) enum Part {
+pub enum Part {
     /// Formula lines of the formula's next clauses, up to this number of them, counted from 0.
     ClausesTo(u32),
     /// Bound lines of a criterion for 1 up to a cap.

@@ -15,7 +15,7 @@ use refute_log::{LineTextFault, LogLine, read_line};
 use std::alloc::Global;
 
 /// The greatest value of each criterion that a drawing may have.
-pub(crate) fn greatest_values(g: &PortGraph, grid: &Grid) -> Values
+pub fn greatest_values(g: &PortGraph, grid: &Grid) -> Values
     ensures { (c : Measured) → value_of result c ≡ limit_of g.now grid.now c }
 {
     Values {
@@ -84,7 +84,7 @@ fn bounded(alloc: Global, text: &[u8]) -> Result<Option<Criterion>, OutOfMemory>
 }
 
 /// How many Bound lines without a fault the text has of each criterion, none above its greatest.
-pub(crate) fn caps_in(alloc: Global, log: &[u8], greatest: &Values) -> Result<Values, OutOfMemory>
+pub fn caps_in(alloc: Global, log: &[u8], greatest: &Values) -> Result<Values, OutOfMemory>
     ensures { IfOk result (λ v. (lines : Lines) × HasFaultless log.now lines × ((c : Measured) → value_of v c ≡ caps (value_of greatest.now) lines c)) }
 {
     let mut numbers = Values {

@@ -24,9 +24,11 @@ use track_order::TrackOrder;
 
 /// The clauses that are expected, and the parts of the lines that tell them and their bounds.
 #[derive(Drop)]
-pub(crate) struct Expected<'a> {
-    pub(crate) encoded: Encoded<'a>,
-    pub(crate) parts: Vec<Part>,
+pub struct Expected<'a> {
+    /// The clauses, as the formula that they were added to.
+    pub encoded: Encoded<'a>,
+    /// The parts of the lines, one after another.
+    pub parts: Vec<Part>,
 }
 
 /// What is expected without bounds.
@@ -130,7 +132,7 @@ fn add_places<'a>(
 
 /// What is expected of a log of the drawings' clauses, with so many bounds of each criterion of an order. `Room`
 /// comes exactly where it passes the limits, want of memory aside.
-pub(crate) fn expected_of<'a>(
+pub fn expected_of<'a>(
     alloc: Global,
     g: &'a PortGraph,
     t: &'a TrackOrder,

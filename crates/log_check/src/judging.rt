@@ -17,7 +17,7 @@ use crate::awaited::{Awaited, all_awaited};
 use crate::claim::Claim;
 use crate::counting::{caps_in, greatest_values};
 use crate::expected::expected_of;
-use crate::next_line::{Next, next_line};
+use crate::reading::{Next, next_line};
 use crate::verdict::Verdict;
 use certified_check::{first_lacking, none_certified};
 use cnf_core::{CnfFault, ROOM};

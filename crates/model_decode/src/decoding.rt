@@ -11,8 +11,8 @@ ghost use Rattle.order_int.specs.OrderInt.{int_clauses, Reads};
 ghost use Rattle.edge_lines.specs.Columns.{listed_height as by_column};
 ghost use Rattle.edge_shape.specs.EdgeVars.{lits_of};
 ghost use Rattle.track_order.specs.Order.{is_above};
-ghost use Rattle.drawing_cnf.specs.Stands.{StandsFor};
-ghost use Rattle.drawing_cnf.specs.Expected.{laws_first};
+ghost use Rattle.drawing_cnf.specs.Stands.{StandsFor, ReadsDrawing, IsJoinedOnGrid};
+ghost use Rattle.drawing_cnf.specs.Expected.{drawing_vars, laws_first, base_clauses};
 ghost use Rattle.drawing_cnf.specs.Encoding.{encoded_vars};
 ghost use Rattle.drawing_cnf.specs.Bounded.{Tells};
 ghost use Rattle.drawing_cnf.specs.Whole.{IsWhole};
@@ -20,12 +20,13 @@ ghost use Rattle.model_decode.specs.Decoded.{IsRead, IsReadAs};
 
 use arrayvec::ArrayVec;
 use cnf_core::Truths;
-use drawing_cnf::Encoded;
+use drawing_cnf::{Encoded, edge_vars, node_vars};
 use edge_lines::trace;
 use edge_shape::{EdgeVars, NodeVars};
 use order_int::OrderInt;
-use plan_core::{EdgeNo, NodeNo, OutOfMemory, Point};
+use plan_core::{EdgeNo, Grid, NodeNo, OutOfMemory, Point};
 use plan_geometry::{Drawing, Line};
+use port_graph::PortGraph;
 use std::alloc::Global;
 
 /// The number of an integer of a small range in a model.
@@ -56,25 +57,31 @@ fn point_of(vars: &NodeVars, m: &Truths) -> Point
 }
 
 /// The place of a node in the drawing that is read.
-fn place_of(e: &Encoded, n: u16, m: &Truths) -> Point
-    requires n { n < length e.now.graph.nodes }
-    requires read { IsRead e.now (assignment m.now) }
-    requires there { laws_first e.now.graph e.now.grid ≤ length m.now + 1 }
-    ensures { (d : PlainDrawing) → IsReadAs e.now (assignment m.now) d → result ≡ place d n }
+fn place_of(g: &PortGraph, grid: &Grid, n: u16, m: &Truths) -> Point
+    requires n { n < length g.now.nodes }
+    requires read { IsRead g.now grid.now (assignment m.now) }
+    requires there { laws_first g.now grid.now ≤ length m.now + 1 }
+    ensures { (d : PlainDrawing) → IsReadAs g.now grid.now (assignment m.now) d → result ≡ place d n }
 {
-    point_of(&e.node(NodeNo(n)), m)
+    point_of(&node_vars(g, grid, NodeNo(n)), m)
 }
 
 /// The places of all nodes.
-fn places_of(alloc: Global, e: &Encoded, m: &Truths) -> Result<Vec<Point>, OutOfMemory>
-    requires read { IsRead e.now (assignment m.now) }
-    requires there { laws_first e.now.graph e.now.grid ≤ length m.now + 1 }
-    ensures { IfOk result (λ v. (d : PlainDrawing) → IsReadAs e.now (assignment m.now) d → v.items ≡ d.places) }
+fn places_of(
+    alloc: Global,
+    g: &PortGraph,
+    grid: &Grid,
+    m: &Truths,
+) -> Result<Vec<Point>, OutOfMemory>
+    requires read { IsRead g.now grid.now (assignment m.now) }
+    requires there { laws_first g.now grid.now ≤ length m.now + 1 }
+    ensures { IfOk result
+        (λ v. (d : PlainDrawing) → IsReadAs g.now grid.now (assignment m.now) d → v.items ≡ d.places) }
 {
     let mut places = Vec::new(alloc);
-    let end = e.graph().nodes();
+    let end = g.nodes();
     for n in 0..end {
-        places.push(place_of(e, n, m))?;
+        places.push(place_of(g, grid, n, m))?;
     }
     Ok(places)
 }
@@ -98,56 +105,87 @@ fn heights_of(vars: &EdgeVars, width: u16, m: &Truths) -> ArrayVec<u16, 65>
 }
 
 /// The line of an edge in the drawing that is read, between these columns.
-fn line_between(e: &Encoded, k: u16, west: u16, east: u16, m: &Truths) -> Line
-    requires k { k < length e.now.graph.edges }
-    requires read { IsRead e.now (assignment m.now) }
-    requires there { laws_first e.now.graph e.now.grid ≤ length m.now + 1 }
-    requires west { (d : PlainDrawing) → IsReadAs e.now (assignment m.now) d → west ≡ (place d (edge e.now.graph k).west).x }
-    requires east { (d : PlainDrawing) → IsReadAs e.now (assignment m.now) d → east ≡ (place d (edge e.now.graph k).east).x }
-    ensures { (d : PlainDrawing) → IsReadAs e.now (assignment m.now) d → result ≡ line d k }
+fn line_between(g: &PortGraph, grid: &Grid, k: u16, west: u16, east: u16, m: &Truths) -> Line
+    requires k { k < length g.now.edges }
+    requires read { IsRead g.now grid.now (assignment m.now) }
+    requires there { laws_first g.now grid.now ≤ length m.now + 1 }
+    requires west { (d : PlainDrawing) → IsReadAs g.now grid.now (assignment m.now) d →
+        west ≡ (place d (edge g.now k).west).x }
+    requires east { (d : PlainDrawing) → IsReadAs g.now grid.now (assignment m.now) d →
+        east ≡ (place d (edge g.now k).east).x }
+    ensures { (d : PlainDrawing) → IsReadAs g.now grid.now (assignment m.now) d → result ≡ line d k }
 {
-    let width = e.grid().width();
-    let heights = heights_of(&e.edge(EdgeNo(k)), width, m);
+    let width = grid.width();
+    let heights = heights_of(&edge_vars(g, grid, EdgeNo(k)), width, m);
     trace(heights.as_slice(), west, east)
 }
 
 /// The line of an edge in the drawing that is read.
-fn line_of(e: &Encoded, k: u16, m: &Truths) -> Line
-    requires k { k < length e.now.graph.edges }
-    requires read { IsRead e.now (assignment m.now) }
-    requires there { laws_first e.now.graph e.now.grid ≤ length m.now + 1 }
-    ensures { (d : PlainDrawing) → IsReadAs e.now (assignment m.now) d → result ≡ line d k }
+fn line_of(g: &PortGraph, grid: &Grid, k: u16, m: &Truths) -> Line
+    requires k { k < length g.now.edges }
+    requires read { IsRead g.now grid.now (assignment m.now) }
+    requires there { laws_first g.now grid.now ≤ length m.now + 1 }
+    ensures { (d : PlainDrawing) → IsReadAs g.now grid.now (assignment m.now) d → result ≡ line d k }
 {
-    let west = place_of(e, e.graph().west(EdgeNo(k)).0, m).x;
-    let east = place_of(e, e.graph().east(EdgeNo(k)).0, m).x;
-    line_between(e, k, west, east, m)
+    let west = place_of(g, grid, g.west(EdgeNo(k)).0, m).x;
+    let east = place_of(g, grid, g.east(EdgeNo(k)).0, m).x;
+    line_between(g, grid, k, west, east, m)
 }
 
 /// The lines of all edges.
-fn lines_of(alloc: Global, e: &Encoded, m: &Truths) -> Result<Vec<Line>, OutOfMemory>
-    requires read { IsRead e.now (assignment m.now) }
-    requires there { laws_first e.now.graph e.now.grid ≤ length m.now + 1 }
-    ensures { IfOk result (λ v. (d : PlainDrawing) → IsReadAs e.now (assignment m.now) d → v.items ≡ d.lines) }
+fn lines_of(alloc: Global, g: &PortGraph, grid: &Grid, m: &Truths) -> Result<Vec<Line>, OutOfMemory>
+    requires read { IsRead g.now grid.now (assignment m.now) }
+    requires there { laws_first g.now grid.now ≤ length m.now + 1 }
+    ensures { IfOk result
+        (λ v. (d : PlainDrawing) → IsReadAs g.now grid.now (assignment m.now) d → v.items ≡ d.lines) }
 {
     let mut lines = Vec::new(alloc);
-    let end = e.graph().edges();
+    let end = g.edges();
     for k in 0..end {
-        lines.push(line_of(e, k, m))?;
+        lines.push(line_of(g, grid, k, m))?;
     }
     Ok(lines)
 }
 
 /// The drawing that is read.
-fn read_drawing(alloc: Global, e: &Encoded, m: &Truths) -> Result<Drawing, OutOfMemory>
-    requires read { IsRead e.now (assignment m.now) }
-    requires there { laws_first e.now.graph e.now.grid ≤ length m.now + 1 }
-    ensures { IfOk result (λ b. (d : PlainDrawing) → IsReadAs e.now (assignment m.now) d → b ≡ d) }
+fn read_drawing(
+    alloc: Global,
+    g: &PortGraph,
+    grid: &Grid,
+    m: &Truths,
+) -> Result<Drawing, OutOfMemory>
+    requires read { IsRead g.now grid.now (assignment m.now) }
+    requires there { laws_first g.now grid.now ≤ length m.now + 1 }
+    ensures { IfOk result (λ b. (d : PlainDrawing) → IsReadAs g.now grid.now (assignment m.now) d → b ≡ d) }
 {
     // what the types keep
-    let _ = (e.graph().nodes(), e.graph().edges());
-    let places = places_of(alloc, e, m)?;
-    let lines = lines_of(alloc, e, m)?;
+    let _ = (g.nodes(), g.edges());
+    let places = places_of(alloc, g, grid, m)?;
+    let lines = lines_of(alloc, g, grid, m)?;
     Drawing::new(alloc, &places, &lines)
+}
+
+/// The one drawing with laws 1 and 3 for which a model of the nodes' and edges' clauses stands. Of the other laws it
+/// has those that the model's further clauses say.
+pub fn decode_loose(
+    alloc: Global,
+    g: &PortGraph,
+    grid: &Grid,
+    m: &Truths,
+) -> Result<Drawing, OutOfMemory>
+    requires vars { laws_first g.now grid.now ≤ length m.now + 1 }
+    requires model { SatisfiesAll (assignment m.now) (base_clauses g.now (drawing_vars g.now grid.now) grid.now) }
+    ensures joined { IfOk result (λ d. IsJoinedOnGrid g.now grid.now d) }
+    ensures reads { IfOk result
+        (λ d. ReadsDrawing (assignment m.now) g.now (drawing_vars g.now grid.now) grid.now.width d) }
+    ensures stands { IfOk result (λ d. StandsFor (assignment m.now) g.now (drawing_vars g.now grid.now) d) }
+    ensures alone { IfOk result
+        (λ d. (other : PlainDrawing) → IsJoinedOnGrid g.now grid.now other →
+        StandsFor (assignment m.now) g.now (drawing_vars g.now grid.now) other → other ≡ d) }
+{
+    // what the types keep
+    let _ = (g.nodes(), grid.width());
+    read_drawing(alloc, g, grid, m)
 }
 
 /// The one lawful drawing for which a model of the formula stands. Its values are what the formula's bounds say.
@@ -162,7 +200,9 @@ pub fn decode(alloc: Global, e: &Encoded, m: &Truths) -> Result<Drawing, OutOfMe
         (λ d. (other : PlainDrawing) → Lawful e.now.graph (is_above e.now.order) e.now.grid other →
         StandsFor (assignment m.now) e.now.graph (encoded_vars e.now) other → other ≡ d) }
 {
+    let graph = e.graph();
+    let grid = e.grid();
     // what the types keep
-    let _ = (e.graph().nodes(), e.grid().width(), e.formula().vars());
-    read_drawing(alloc, e, m)
+    let _ = (graph.nodes(), grid.width(), e.formula().vars());
+    decode_loose(alloc, graph, grid, m)
 }

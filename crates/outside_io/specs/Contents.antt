@@ -6,6 +6,14 @@ use Rattle.std.specs.declared.option.Option.{Option}
 abbrev pub Told : Type 0
 Told = List ℕ → Option (List ℕ)
 
+-- files at one moment: what stands under each name, where that is told; how many faults of reading there were, how many of
+-- creating and appending, and how many reads were done
+pub record FilesAt : Type 0 where
+  pub contents : Option Told
+  pub read_faults : ℕ
+  pub write_faults : ℕ
+  pub reads : ℕ
+
 -- where the contents were told before, they are told after, and the two are so
 abbrev pub WhereTold : Option Told → Option Told → (Told → Told → Type 0) → Type 0
 WhereTold None new P = ⊤

@@ -19,10 +19,10 @@ pub struct HostFiles<'a, R: std::rt::Files> {
 impl<'a, R: std::rt::Files> HostFiles<'a, R> {
     /// The files of this runtime.
     pub fn new(rt: &'a R) -> Self
-        ensures contents { ⟦<HostFiles<'a, R> as Files>⟧.contents result ≡ None }
-        ensures read_faults { ⟦<HostFiles<'a, R> as Files>⟧.read_faults result ≡ 0 }
-        ensures write_faults { ⟦<HostFiles<'a, R> as Files>⟧.write_faults result ≡ 0 }
-        ensures reads { ⟦<HostFiles<'a, R> as Files>⟧.reads result ≡ 0 }
+        ensures contents { (⟦<HostFiles<'a, R> as Files>⟧.at result).contents ≡ None }
+        ensures read_faults { (⟦<HostFiles<'a, R> as Files>⟧.at result).read_faults ≡ 0 }
+        ensures write_faults { (⟦<HostFiles<'a, R> as Files>⟧.at result).write_faults ≡ 0 }
+        ensures reads { (⟦<HostFiles<'a, R> as Files>⟧.at result).reads ≡ 0 }
     {
         HostFiles {
             rt,
@@ -34,13 +34,7 @@ impl<'a, R: std::rt::Files> HostFiles<'a, R> {
 }
 
 impl<'a, R: std::rt::Files> Files for HostFiles<'a, R> {
-    ghost contents = { λ _. None };
-
-    ghost read_faults = { λ s. s.read_faults.value };
-
-    ghost write_faults = { λ s. s.write_faults.value };
-
-    ghost reads = { λ s. s.reads.value };
+    ghost at = { λ s. record { contents = None; read_faults = s.read_faults.value; write_faults = s.write_faults.value; reads = s.reads.value } };
 
     ghost counts_end = { λ s. (s.read_faults.in_range, s.write_faults.in_range, s.reads.in_range) };
 

@@ -26,10 +26,10 @@ impl MemoryFiles {
     /// No file is there. Calls of the trait `Files` are numbered from 1 on, and those whose number
     /// stands in `fail` fail.
     pub fn new(alloc: Global, fail: &[u32]) -> Result<Self, OutOfMemory>
-        ensures contents { IfOk result (λ s. ⟦<MemoryFiles as Files>⟧.contents s ≡ Some (λ _. None)) }
-        ensures read_faults { IfOk result (λ s. ⟦<MemoryFiles as Files>⟧.read_faults s ≡ 0) }
-        ensures write_faults { IfOk result (λ s. ⟦<MemoryFiles as Files>⟧.write_faults s ≡ 0) }
-        ensures reads { IfOk result (λ s. ⟦<MemoryFiles as Files>⟧.reads s ≡ 0) }
+        ensures contents { IfOk result (λ s. (⟦<MemoryFiles as Files>⟧.at s).contents ≡ Some (λ _. None)) }
+        ensures read_faults { IfOk result (λ s. (⟦<MemoryFiles as Files>⟧.at s).read_faults ≡ 0) }
+        ensures write_faults { IfOk result (λ s. (⟦<MemoryFiles as Files>⟧.at s).write_faults ≡ 0) }
+        ensures reads { IfOk result (λ s. (⟦<MemoryFiles as Files>⟧.at s).reads ≡ 0) }
         ensures plan { IfOk result (λ s. files_plan s ≡ record { to_fail = fail.now; calls = 0 }) }
     {
         Ok(MemoryFiles {
@@ -44,11 +44,11 @@ impl MemoryFiles {
     /// Sets the bytes under the name, whether it was there or not. It isn't a call of the trait, so
     /// no number stands for it, and no fault can come of it.
     pub fn add(&mut self, name: &str, bytes: &[u8]) -> Result<(), OutOfMemory>
-        ensures ok { OnOk result (WhereTold (⟦<MemoryFiles as Files>⟧.contents self.old) (⟦<MemoryFiles as Files>⟧.contents self.new) (Sets name.now bytes.now)) }
-        ensures err { OnErr result (WhereTold (⟦<MemoryFiles as Files>⟧.contents self.old) (⟦<MemoryFiles as Files>⟧.contents self.new) SameFiles) }
-        ensures read_faults { ⟦<MemoryFiles as Files>⟧.read_faults self.new ≡ ⟦<MemoryFiles as Files>⟧.read_faults self.old }
-        ensures write_faults { ⟦<MemoryFiles as Files>⟧.write_faults self.new ≡ ⟦<MemoryFiles as Files>⟧.write_faults self.old }
-        ensures reads { ⟦<MemoryFiles as Files>⟧.reads self.new ≡ ⟦<MemoryFiles as Files>⟧.reads self.old }
+        ensures ok { OnOk result (WhereTold (⟦<MemoryFiles as Files>⟧.at self.old).contents (⟦<MemoryFiles as Files>⟧.at self.new).contents (Sets name.now bytes.now)) }
+        ensures err { OnErr result (WhereTold (⟦<MemoryFiles as Files>⟧.at self.old).contents (⟦<MemoryFiles as Files>⟧.at self.new).contents SameFiles) }
+        ensures read_faults { (⟦<MemoryFiles as Files>⟧.at self.new).read_faults ≡ (⟦<MemoryFiles as Files>⟧.at self.old).read_faults }
+        ensures write_faults { (⟦<MemoryFiles as Files>⟧.at self.new).write_faults ≡ (⟦<MemoryFiles as Files>⟧.at self.old).write_faults }
+        ensures reads { (⟦<MemoryFiles as Files>⟧.at self.new).reads ≡ (⟦<MemoryFiles as Files>⟧.at self.old).reads }
         ensures plan { files_plan self.new ≡ files_plan self.old }
     {
         self.named.set(name, bytes)
@@ -56,20 +56,14 @@ impl MemoryFiles {
 
     /// The bytes under the name, or `None` exactly where it isn't there.
     pub fn get(&self, name: &str) -> Option<&[u8]>
-        ensures { TellsAt (⟦<MemoryFiles as Files>⟧.contents self.now) name.now (option_copied result) }
+        ensures { TellsAt (⟦<MemoryFiles as Files>⟧.at self.now).contents name.now (option_copied result) }
     {
         self.named.get(name)
     }
 }
 
 impl Files for MemoryFiles {
-    ghost contents = { λ s. Some (files_told s) };
-
-    ghost read_faults = { λ s. s.read_faults.value };
-
-    ghost write_faults = { λ s. s.write_faults.value };
-
-    ghost reads = { λ s. s.reads.value };
+    ghost at = { λ s. record { contents = Some (files_told s); read_faults = s.read_faults.value; write_faults = s.write_faults.value; reads = s.reads.value } };
 
     ghost counts_end = { λ s. (s.read_faults.in_range, s.write_faults.in_range, s.reads.in_range) };
 

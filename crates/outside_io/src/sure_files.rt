@@ -22,10 +22,10 @@ pub struct SureFiles {
 impl SureFiles {
     /// Every file is empty.
     pub fn new(alloc: Global) -> Self
-        ensures contents { ⟦<SureFiles as Files>⟧.contents result ≡ Some (λ _. Some []) }
-        ensures read_faults { ⟦<SureFiles as Files>⟧.read_faults result ≡ 0 }
-        ensures write_faults { ⟦<SureFiles as Files>⟧.write_faults result ≡ 0 }
-        ensures reads { ⟦<SureFiles as Files>⟧.reads result ≡ 0 }
+        ensures contents { (⟦<SureFiles as Files>⟧.at result).contents ≡ Some (λ _. Some []) }
+        ensures read_faults { (⟦<SureFiles as Files>⟧.at result).read_faults ≡ 0 }
+        ensures write_faults { (⟦<SureFiles as Files>⟧.at result).write_faults ≡ 0 }
+        ensures reads { (⟦<SureFiles as Files>⟧.at result).reads ≡ 0 }
     {
         SureFiles {
             named: NamedBytes::new(alloc),
@@ -35,31 +35,25 @@ impl SureFiles {
 
     /// Sets the bytes under the name. It isn't a call of the trait, so it counts as no read.
     pub fn add(&mut self, name: &str, bytes: &[u8]) -> Result<(), OutOfMemory>
-        ensures ok { OnOk result (WhereTold (⟦<SureFiles as Files>⟧.contents self.old) (⟦<SureFiles as Files>⟧.contents self.new) (Sets name.now bytes.now)) }
-        ensures err { OnErr result (WhereTold (⟦<SureFiles as Files>⟧.contents self.old) (⟦<SureFiles as Files>⟧.contents self.new) SameFiles) }
-        ensures read_faults { ⟦<SureFiles as Files>⟧.read_faults self.new ≡ ⟦<SureFiles as Files>⟧.read_faults self.old }
-        ensures write_faults { ⟦<SureFiles as Files>⟧.write_faults self.new ≡ ⟦<SureFiles as Files>⟧.write_faults self.old }
-        ensures reads { ⟦<SureFiles as Files>⟧.reads self.new ≡ ⟦<SureFiles as Files>⟧.reads self.old }
+        ensures ok { OnOk result (WhereTold (⟦<SureFiles as Files>⟧.at self.old).contents (⟦<SureFiles as Files>⟧.at self.new).contents (Sets name.now bytes.now)) }
+        ensures err { OnErr result (WhereTold (⟦<SureFiles as Files>⟧.at self.old).contents (⟦<SureFiles as Files>⟧.at self.new).contents SameFiles) }
+        ensures read_faults { (⟦<SureFiles as Files>⟧.at self.new).read_faults ≡ (⟦<SureFiles as Files>⟧.at self.old).read_faults }
+        ensures write_faults { (⟦<SureFiles as Files>⟧.at self.new).write_faults ≡ (⟦<SureFiles as Files>⟧.at self.old).write_faults }
+        ensures reads { (⟦<SureFiles as Files>⟧.at self.new).reads ≡ (⟦<SureFiles as Files>⟧.at self.old).reads }
     {
         self.named.set(name, bytes)
     }
 
     /// The bytes under the name: never `None`, since every name is there.
     pub fn get(&self, name: &str) -> Option<&[u8]>
-        ensures { TellsAt (⟦<SureFiles as Files>⟧.contents self.now) name.now (option_copied result) }
+        ensures { TellsAt (⟦<SureFiles as Files>⟧.at self.now).contents name.now (option_copied result) }
     {
         Some(self.named.get(name).unwrap_or(&[]))
     }
 }
 
 impl Files for SureFiles {
-    ghost contents = { λ s. Some (sure_of s.named) };
-
-    ghost read_faults = { λ _. 0 };
-
-    ghost write_faults = { λ _. 0 };
-
-    ghost reads = { λ s. s.reads.value };
+    ghost at = { λ s. record { contents = Some (sure_of s.named); read_faults = 0; write_faults = 0; reads = s.reads.value } };
 
     ghost counts_end = { λ s. (none_counted, none_counted, s.reads.in_range) };
 

@@ -4,6 +4,7 @@ use Rattle.std.specs.Prelude.{map, slice_index_or}
 use Rattle.std.proofs.lemmas.Bool.Decides.{eqb_tells}
 use Rattle.std.proofs.lemmas.List.{length-map, get_or-map}
 use Rattle.cnf_core.specs.declared.limits.TheConstants.{VARS}
+use Rattle.pick_heap.specs.declared.heap.TheConstants.{HALVED_AT}
 use Rattle.pick_heap.specs.Heap.{Ranked, ranked_of, IsGreatest, NoneHeld, activity, halved, roomy}
 use Rattle.pick_heap.specs.Tree.{entry_at, HaveActivities, IsWon, leaf_word, HasLeaves, KeepsLeaves, KeepsOthers, IsHeap}
 use Rattle.pick_heap.proofs.MatchLemmas.{heap_set, heap_raised, heap_halved, won_raised, gone_from, root_greatest, root_none}
@@ -47,13 +48,13 @@ heap_halved_at vars leaves held acts tree less given_less given_tree new got_les
     (heap_halved vars leaves held acts tree k less new (ap length el ∙ length-map acts (λ a. a / 2)) (size ∙ ap length et) (subst (λ (a : List ℕ). HaveActivities a new) el2 named) (subst (λ (a : List ℕ). IsWon a new leaves) el2 won)
     (subst (λ (t : List ℕ). KeepsLeaves leaves t new) et kept)))
 
-pub roomy_same : (h : Ranked) (v : ℕ) → activity h v < 65535 → roomy h v ≡ h
-roomy_same h v lt = elim (eqb_tells (activity h v) 65535) [ inl a ↦ let e = a.1 in absurd (omega arith) | inr a ↦ ap (λ b. cond b (halved h) h) a.0 ]
+pub roomy_same : (h : Ranked) (v : ℕ) → activity h v < HALVED_AT → roomy h v ≡ h
+roomy_same h v lt = elim (eqb_tells (activity h v) HALVED_AT) [ inl a ↦ let e = a.1 in absurd (omega arith) | inr a ↦ ap (λ b. cond b (halved h) h) a.0 ]
 
-pub roomy_halved : (h : Ranked) (v : ℕ) → activity h v ≡ 65535 → roomy h v ≡ halved h
-roomy_halved h v e = elim (eqb_tells (activity h v) 65535) [ inl a ↦ ap (λ b. cond b (halved h) h) a.0 | inr a ↦ absurd (a.1 e) ]
+pub roomy_halved : (h : Ranked) (v : ℕ) → activity h v ≡ HALVED_AT → roomy h v ≡ halved h
+roomy_halved h v e = elim (eqb_tells (activity h v) HALVED_AT) [ inl a ↦ ap (λ b. cond b (halved h) h) a.0 | inr a ↦ absurd (a.1 e) ]
 
-pub half_below : (acts : List ℕ) (v : ℕ) → v < length acts → entry_at acts v ≤ 65535 → entry_at (map (λ a. a / 2) acts) v < 65535
+pub half_below : (acts : List ℕ) (v : ℕ) → v < length acts → entry_at acts v ≤ HALVED_AT → entry_at (map (λ a. a / 2) acts) v < HALVED_AT
 half_below acts v lt le = let e : entry_at (map (λ a. a / 2) acts) v ≡ entry_at acts v / 2 = get_or-map (λ a. a / 2) acts v 0 0 lt in omega arith
 
 -- a tree that was laid out

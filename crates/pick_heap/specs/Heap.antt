@@ -1,5 +1,6 @@
 -- The heap as contracts see it.
 use Rattle.std.specs.Prelude.{◌≡◌, ◌≤◌, ℕ, ◌+◌, ◌/◌, Bool, true, false, cond, nat_eq, List, ◌++◌, map, replicate, slice_index, slice_index_or, slice_set}
+use Rattle.pick_heap.specs.declared.heap.TheConstants.{HALVED_AT}
 
 -- the variables 1 to vars, which of them are held, and their activities, each by the variable's number
 pub record Ranked : Type 0 where
@@ -43,7 +44,7 @@ halved h = record { vars = h.vars; held = h.held; activities = map (λ a. a / 2)
 
 -- one more may be added to the activity of the variable
 abbrev pub roomy : Ranked → ℕ → Ranked
-roomy h v = cond (nat_eq (activity h v) 65535) (halved h) h
+roomy h v = cond (nat_eq (activity h v) HALVED_AT) (halved h) h
 
 abbrev pub raised : Ranked → ℕ → Ranked
 raised h v = record { vars = h.vars; held = h.held; activities = slice_set h.activities v (activity h v + 1) }

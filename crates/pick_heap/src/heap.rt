@@ -8,6 +8,9 @@ use plan_core::OutOfMemory;
 use std::alloc::Global;
 use std::marker::Model;
 
+/// The activity at which all activities are halved, before one would rise further.
+pub const HALVED_AT: u16 = 65_535;
+
 /// Variables with whole-number activities, each held at most once.
 #[derive(Drop)]
 pub struct Heap {
@@ -102,8 +105,8 @@ impl Heap {
         Ok(())
     }
 
-    /// Adds 1 to the activity of a variable, and first halves all activities where it stands at its
-    /// type's end.
+    /// Adds 1 to the activity of a variable, and first halves all activities where it stands at
+    /// `HALVED_AT`.
     pub fn bump(&mut self, v: Var)
         requires from { 1 ≤ v.0 }
         requires to { v.0 ≤ self.old.vars }
@@ -114,24 +117,24 @@ impl Heap {
         self.add_one(v.0);
     }
 
-    /// Halves all activities where that of a variable stands at its type's end.
+    /// Halves all activities where that of a variable stands at `HALVED_AT`.
     fn make_room(&mut self, v: u32)
         requires { v ≤ self.old.vars }
         ensures value { self.new ≡ roomy self.old v }
-        ensures room { activity self.new v < 2 ^ 16 - 1 }
+        ensures room { activity self.new v < HALVED_AT }
     {
-        if self.activities[v as usize] < u16::MAX {
+        if self.activities[v as usize] < HALVED_AT {
             return;
         }
         halve(&mut self.activities);
         play_all(&mut self.tree, &self.activities, self.leaves);
     }
 
-    /// Adds 1 to the activity of a variable that isn't at its type's end.
+    /// Adds 1 to the activity of a variable that stands below `HALVED_AT`.
     fn add_one(&mut self, v: u32)
         requires from { 1 ≤ v }
         requires to { v ≤ self.old.vars }
-        requires room { activity self.old v < 2 ^ 16 - 1 }
+        requires room { activity self.old v < HALVED_AT }
         ensures value { self.new ≡ raised self.old v }
         ensures risen { activity self.new v ≡ activity self.old v + 1 }
     {

@@ -9,4 +9,4 @@
 mod heap;
 mod matches;
 
-pub use heap::Heap;
+pub use heap::{HALVED_AT, Heap};

@@ -8,6 +8,7 @@ pub mod Laws
 pub mod Lawful
 pub mod Topology
 pub mod Values
+pub mod Searching
 pub mod Examples
 pub mod Breaches
 pub mod Readings

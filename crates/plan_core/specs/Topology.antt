@@ -1,7 +1,7 @@
 -- What a topology is that was read from a file: each element has an id and a file place of its own,
 -- joins lead both ways, and mileages stay in a range. A topology is built by resolving a file's rows, and
 -- the track graph is built from one that is so.
-use Rattle.std.specs.Prelude.{◌≡◌, ◌≢◌, ℕ, ◌^◌, ◌*◌, ◌<◌, ◌≤◌, ◌⊎◌, ℤ, pos, neg_ℤ, ◌<ℤ◌, Option, Some, None, List, [], ◌∷◌, ◌++◌, length, map, flat_map, slice_get, option_and_then, option_to_list, All, AllPairs, chars}
+use Rattle.std.specs.Prelude.{◌≡◌, ◌≢◌, ℕ, ◌^◌, ◌*◌, ◌<◌, ◌≤◌, ◌⊎◌, Bool, nat_lt, ◌&&◌, ◌||◌, ℤ, pos, neg_ℤ, ◌<ℤ◌, Option, Some, None, List, [], ◌∷◌, ◌++◌, length, map, flat_map, slice_get, option_and_then, option_to_list, All, AllPairs, chars}
 use Rattle.plan_core.specs.declared.limits.TheConstants.{MAX_ID_BYTES}
 use Rattle.plan_core.specs.declared.topology.Topology.{Topology}
 use Rattle.plan_core.specs.declared.topology.Track.{Track}
@@ -57,6 +57,10 @@ elements t = flat_map track_elements t.tracks
 -- no control character, no space and no no-break space: none of U+0000 to U+0020 and U+007F to U+00A0
 abbrev pub IsIdCharacter : ℕ → Type 0
 IsIdCharacter c = (32 < c) × ((c < 127) ⊎ (160 < c))
+
+-- the same as a test
+abbrev pub is_id_character : ℕ → Bool
+is_id_character c = nat_lt 32 c && (nat_lt c 127 || nat_lt 160 c)
 
 -- an id as a file may have it
 pub record IsId (id : List ℕ) : Type 0 where

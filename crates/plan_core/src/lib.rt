@@ -12,6 +12,7 @@
 
 mod criterion;
 mod grid;
+mod ids;
 mod items;
 mod limits;
 mod memory;
@@ -24,6 +25,7 @@ mod topology;
 
 pub use criterion::{Criterion, Values};
 pub use grid::Grid;
+pub use ids::is_id;
 pub use items::Items;
 pub use limits::{
     MAX_BUDGET, MAX_EDGES, MAX_FILE_BYTES, MAX_HEIGHT, MAX_ID_BYTES, MAX_LEAST, MAX_LOG_BYTES,

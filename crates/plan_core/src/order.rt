@@ -58,6 +58,16 @@ impl Order {
         Some(Order { list: order })
     }
 
+    /// The same order once more, made without memory.
+    pub fn copied(&self) -> Order
+        ensures { result ≡ self.now }
+    {
+        match Order::new(self.list.as_slice()) {
+            Some(order) => order,
+            None => unreachable!(),
+        }
+    }
+
     /// The number of criteria, 1 to 4.
     pub fn len(&self) -> usize
         ensures value { result ≡ length self.now }

@@ -33,6 +33,15 @@ impl Text {
         }
     }
 
+    /// A copy of the text.
+    pub fn copied(&self, alloc: Global) -> Result<Self, OutOfMemory>
+        ensures { IfOk result (λ t. t ≡ self.now) }
+    {
+        Ok(Text {
+            text: String::from_str(alloc, self.text.as_str())?,
+        })
+    }
+
     /// The text of a string, made without memory.
     pub fn from_string(text: String) -> Self
         ensures { result ≡ string_bytes text }

@@ -13,7 +13,6 @@ ghost use Rattle.plan_words.specs.Words.{default_order, IsChosen, given_for, IsD
 use crate::Command;
 use crate::arguments::Argument;
 use crate::command::CommandWord;
-use crate::files::copy_of;
 use crate::option_values::{MAX_SEED, OptionWord, number_in, order_in};
 use plan_core::{
     Criterion, Grid, MAX_BUDGET, MAX_HEIGHT, MAX_LEAST, MAX_WIDTH, Order, OutOfMemory, Text,
@@ -57,7 +56,7 @@ fn name_copy(alloc: Global, arguments: &[Argument], place: usize) -> Result<Text
     requires { place < length (argument_names arguments.now) }
     ensures { IfOk result (λ name. slice_get (argument_names arguments.now) place ≡ Some name) }
 {
-    copy_of(alloc, name_at(arguments, place))
+    name_at(arguments, place).copied(alloc)
 }
 
 /// The value that the option was given, if it was.
@@ -160,7 +159,7 @@ fn file_given(
     ensures { IfOk result (λ name. name ≡ given_for option arguments.now) }
 {
     match value_given(arguments, option) {
-        Some(name) => Ok(Some(copy_of(alloc, name)?)),
+        Some(name) => Ok(Some(name.copied(alloc)?)),
         None => Ok(None),
     }
 }

@@ -16,13 +16,6 @@ pub(crate) struct FileWord {
     pub(crate) name: Text,
 }
 
-/// A copy of a text.
-pub(crate) fn copy_of(alloc: Global, text: &Text) -> Result<Text, OutOfMemory>
-    ensures { IfOk result (λ copy. copy ≡ text.now) }
-{
-    Text::from_bytes(alloc, text.bytes())
-}
-
 fn takes_file(option: &str) -> bool
     ensures { result ≡ option_takes_file option.now }
 {
@@ -37,7 +30,7 @@ fn file_of(alloc: Global, argument: &Argument) -> Result<Option<FileWord>, OutOf
     match argument {
         Argument::Name { position, word } => Ok(Some(FileWord {
             position: *position as u32,
-            name: copy_of(alloc, word)?,
+            name: word.copied(alloc)?,
         })),
         Argument::Setting {
             position,
@@ -45,7 +38,7 @@ fn file_of(alloc: Global, argument: &Argument) -> Result<Option<FileWord>, OutOf
             value: Some(value),
         } if takes_file(word.as_str()) => Ok(Some(FileWord {
             position: *position as u32 + 1,
-            name: copy_of(alloc, value)?,
+            name: value.copied(alloc)?,
         })),
         Argument::Setting { .. } => Ok(None),
     }

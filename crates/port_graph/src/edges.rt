@@ -7,7 +7,6 @@ ghost use Rattle.port_graph.specs.TopologyGraph.{west_of, east_of, edge_among, I
 ghost use Rattle.port_graph.specs.declared.runs.Run.{Run};
 ghost use Rattle.port_graph.specs.Ordered.{IsLevelAt, IsLevelFault};
 
-use crate::pieces::copy_of;
 use crate::rows::EdgeRow;
 use crate::{GraphFault, Run, Site, Spot};
 use plan_core::{EdgeNo, NodeNo, OutOfMemory};
@@ -54,7 +53,7 @@ fn push_edge_row(
     ensures { OnOk result (map plain_edge rows.new.items ≡
         map plain_edge rows.old.items ++ edge_among sites.now run.now ∷ []) }
 {
-    let track = copy_of(alloc, &run.track)?;
+    let track = run.track.copied(alloc)?;
     let west = node_number(sites, west_spot(run).at);
     let east = node_number(sites, east_spot(run).at);
     rows.push(EdgeRow { track, west, east })?;
@@ -82,7 +81,7 @@ fn level_fault(alloc: Global, run: &Run, number: usize) -> GraphFault
     requires { number < 2 ^ 16 }
     ensures { (runs : List Run) → IsLevelAt runs number run.now → IsLevelFault runs result }
 {
-    match copy_of(alloc, &run.track) {
+    match run.track.copied(alloc) {
         Ok(track) => GraphFault::NotForward {
             edge: EdgeNo(number as u16),
             track,

@@ -5,7 +5,6 @@ ghost use Rattle.plan_core.specs.Topology.{connection, connection_of};
 ghost use Rattle.port_graph.specs.Spots.{inner_spot as spot_of_inner};
 ghost use Rattle.port_graph.specs.Runs.{joined_at as place_joined, begins_join as is_first, begun_join, inner_joins as joins_of, track_joins as joins_on, joins as all_joins};
 
-use crate::pieces::copy_of;
 use crate::spots::{inner_spot, is_track_end, spot_at};
 use crate::{Join, Run};
 use plan_core::{Conn, Inner, InnerKind, OutOfMemory, Part, Place, Topology, Track};
@@ -60,7 +59,7 @@ fn join_from(alloc: Global, t: &Topology, inner: &Inner, conn: &Conn) -> Result<
 {
     let from = inner_spot(inner);
     let to = spot_at(t, conn.to).unwrap_or(from);
-    let track = copy_of(alloc, &conn.id)?;
+    let track = conn.id.copied(alloc)?;
     let run = Run { track, from, to };
     Ok(Join { at: conn.at, run })
 }

@@ -6,7 +6,6 @@ ghost use Rattle.port_graph.specs.Sites.{end_meeting as meeting_of_end, end_site
 ghost use Rattle.port_graph.specs.Numbering.{IsNumbering};
 
 use crate::numbers::{Numbering, edge_beyond, last_piece, piece_number};
-use crate::pieces::copy_of;
 use crate::spots::{end_spot, has_node, inner_spot};
 use crate::{Meeting, Site};
 use plan_core::{EdgeNo, End, Inner, InnerKind, OutOfMemory, Topology, Track};
@@ -39,7 +38,7 @@ fn push_end_site(
     ensures { OnOk result (sites.new.items ≡ sites.old.items ++ sites_of_end t.now end.now own.0) }
 {
     if has_node(t, end) {
-        let id = copy_of(alloc, &end.id)?;
+        let id = end.id.copied(alloc)?;
         let meets = end_meeting(t, numbering, end, own);
         let spot = end_spot(end);
         sites.push(Site { id, spot, meets })?;
@@ -99,7 +98,7 @@ fn inner_site(
     requires few { number_of_piece t.now track (place + 1) ≤ MAX_EDGES }
     ensures { IfOk result (λ site. site ≡ site_of_inner t.now track place inner.now) }
 {
-    let id = copy_of(alloc, &inner.id)?;
+    let id = inner.id.copied(alloc)?;
     let before = piece_number(t, numbering, track, place);
     let after = piece_number(t, numbering, track, place + 1);
     let meets = inner_meeting(t, numbering, before, after, &inner.what);

@@ -8,7 +8,6 @@ ghost use Rattle.port_graph.specs.TopologyGraph.{side_at};
 ghost use Rattle.port_graph.specs.declared.sites.Site.{Site};
 ghost use Rattle.port_graph.specs.Ordered.{node_among, nodes_among, IsMismatchOf, IsMismatchFault};
 
-use crate::pieces::copy_of;
 use crate::rows::{EdgeRow, NodeRow};
 use crate::sides::ports_at;
 use crate::{GraphFault, Ports, Site};
@@ -25,7 +24,7 @@ fn push_node_row(
     ensures { OnOk result (map plain_node rows.new.items ≡ map plain_node rows.old.items ++
         record { name = site.now.id; mileage = site.now.spot.mile.0; ports = plain_ports ports } ∷ []) }
 {
-    let name = copy_of(alloc, &site.id)?;
+    let name = site.id.copied(alloc)?;
     let mileage = site.spot.mile;
     rows.push(NodeRow {
         name,
@@ -40,7 +39,7 @@ fn mismatch(alloc: Global, edges: &[EdgeRow], site: &Site, node: NodeNo) -> Grap
     requires { ports_of (side_at (map plain_edge edges.now) node.0) site.now.meets ≡ None }
     ensures { IsMismatchOf (map plain_edge edges.now) node.0 site.now result }
 {
-    match copy_of(alloc, &site.id) {
+    match site.id.copied(alloc) {
         Ok(name) => GraphFault::SideMismatch { node, name },
         Err(_) => GraphFault::Memory,
     }

@@ -8,13 +8,6 @@ use crate::{Run, Spot};
 use plan_core::{OutOfMemory, Text, Topology, Track};
 use std::alloc::Global;
 
-/// A copy of a name.
-pub(crate) fn copy_of(alloc: Global, name: &Text) -> Result<Text, OutOfMemory>
-    ensures { IfOk result (λ copy. copy ≡ name.now) }
-{
-    Text::from_bytes(alloc, name.bytes())
-}
-
 /// Adds a run of this name between two nodes.
 fn push_run(
     alloc: Global,
@@ -25,7 +18,7 @@ fn push_run(
 ) -> Result<(), OutOfMemory>
     ensures { OnOk result (runs.new.items ≡ runs.old.items ++ record { track = name.now; from = from; to = to } ∷ []) }
 {
-    let track = copy_of(alloc, name)?;
+    let track = name.copied(alloc)?;
     runs.push(Run { track, from, to })?;
     Ok(())
 }

@@ -9,6 +9,8 @@ use Rattle.railml_read.specs.declared.faults.ReadFault.TheVariants as answers
 use Rattle.railml_read.specs.declared.rows.Elem.{Elem}
 use Rattle.railml_read.specs.Tree.{XmlTree}
 use Rattle.railml_read.specs.Rows.{rows_of}
+use Rattle.railml_read.specs.declared.rows.SignalElem.{SignalElem}
+use Rattle.railml_read.specs.Signals.{signals_of, AreSignals, GivesSignals}
 use Rattle.railml_read.specs.Document.{AreRows, GivesRows, IsTextFault, IsReadFault}
 use Rattle.railml_read.proofs.FaultLemmas.{one_tree, one_fault}
 
@@ -36,3 +38,20 @@ module _ (bytes : List ℕ) where
 
   pub read_exactly : (r : Result (List Elem) ReadFault) → IfOk r (λ rows. AreRows bytes rows) → OnOk r ((what : TextWhat) (at : ℕ) → IsTextFault bytes what at → ⊥) → IfErr r (λ e. (e ≡ answers.Memory) ⊎ IsReadFault bytes e) → AnswersExactly r answers.Memory (GivesRows bytes) (IsReadFault bytes)
   read_exactly r are_rows sound fault = answers_exactly r answers.Memory (GivesRows bytes) (IsReadFault bytes) (given r are_rows sound) fault one_list one_read_fault rows_or_fault
+
+  one_signal_list : (signals others : List SignalElem) → GivesSignals bytes signals → GivesSignals bytes others → signals ≡ others
+  one_signal_list signals others g h =
+      let a = g.are_signals in
+      let b = h.are_signals in
+      a.found ∙ ap (λ (t : XmlTree). signals_of t) (one_tree bytes a.tree b.tree a.spells b.spells) ∙ sym b.found
+
+  signals_or_fault : (signals : List SignalElem) (e : ReadFault) → GivesSignals bytes signals → IsReadFault bytes e → ⊥
+  signals_or_fault signals (answers.Text what at) g h = g.sound what at h
+  signals_or_fault signals answers.Memory g h = h
+
+  given_signals : (r : Result (List SignalElem) ReadFault) → IfOk r (λ signals. AreSignals bytes signals) → OnOk r ((what : TextWhat) (at : ℕ) → IsTextFault bytes what at → ⊥) → IfOk r (GivesSignals bytes)
+  given_signals (Ok signals) are_signals sound = record { are_signals = are_signals; sound = sound }
+  given_signals (Err e) are_signals sound = tt
+
+  pub read_signals_exactly : (r : Result (List SignalElem) ReadFault) → IfOk r (λ signals. AreSignals bytes signals) → OnOk r ((what : TextWhat) (at : ℕ) → IsTextFault bytes what at → ⊥) → IfErr r (λ e. (e ≡ answers.Memory) ⊎ IsReadFault bytes e) → AnswersExactly r answers.Memory (GivesSignals bytes) (IsReadFault bytes)
+  read_signals_exactly r are_signals sound fault = answers_exactly r answers.Memory (GivesSignals bytes) (IsReadFault bytes) (given_signals r are_signals sound) fault one_signal_list one_read_fault signals_or_fault

@@ -18,7 +18,11 @@ use Rattle.railml_read.specs.Rows.{rows_of}
 use Rattle.railml_read.specs.Places.{Role, content, role_of, tags_at, tags_in, open_names, begins_element, has_root, IsRootName, IsMisplaced, AreInPlace}
 use Rattle.railml_read.specs.Document.{IsFreeOutside, SpellsTree, EndsOpen, LacksInfrastructure, AreRows}
 use Rattle.railml_read.specs.Progress.{State, after_tag, start, state_after, names_in, is_infrastructure}
-use Rattle.railml_read.specs.Passing.{IsReadThrough}
+use Rattle.std.specs.Prelude.{◌+◌}
+use Rattle.railml_read.specs.Passing.{IsReadThrough, HasMarks}
+use Rattle.railml_read.specs.Progress.{Marks, after_both, no_marks, marks_after}
+use Rattle.railml_read.specs.Signals.{tracks_from, signals_of, AreSignals}
+use Rattle.railml_read.proofs.SignalLemmas.{marked, tree_marks}
 use Rattle.railml_read.proofs.Ends.{bytes_eq_true}
 use Rattle.railml_read.proofs.TreeLemmas.{Fit, items_fit, spelled, rooted}
 use Rattle.railml_read.proofs.RowLemmas.{reached_in, gone_by}
@@ -194,3 +198,10 @@ pub are_rows : (bytes : List ℕ) (state : State) (root : Bool) → IsReadThroug
 are_rows bytes state root r rooted closed =
     let t = read_tree bytes state root r rooted closed in
     record { tree = t.tree; spells = t.spells; found = ap (λ (s : State). s.rows) (state_is bytes state root r t) }
+
+pub are_signals : (bytes : List ℕ) (state : State) (root : Bool) (marks : Marks) → HasMarks bytes state root marks → root ≡ true → state.stack ≡ [] → AreSignals bytes marks.signals
+are_signals bytes state root marks m rooted closed =
+    let t = read_tree bytes state root m.through rooted closed in
+    let found : marks ≡ marked (0 + tracks_from Outside (root_of t.tree)) ([] ++ signals_of t.tree) =
+    m.marks_are ∙ (ap marks_after (sym t.items_are) ∙ (ap (λ (tags : List Tag). (fold after_both (start, no_marks) tags).1) t.spells.tags ∙ tree_marks t.tree)) in
+    record { tree = t.tree; spells = t.spells; found = ap (λ (k : Marks). k.signals) found }

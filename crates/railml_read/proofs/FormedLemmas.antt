@@ -12,7 +12,7 @@ use Rattle.railml_read.specs.declared.rows.Elem.{Elem}
 use Rattle.railml_read.specs.declared.rows.ElemKind.{ElemKind}
 use Rattle.railml_read.specs.declared.rows.ElemKind.TheVariants.{Track, Topology, Begin, End, Switch, Crossing, Connection, OpenEnd, BufferStop, MacroNode}
 use Rattle.railml_read.specs.declared.contexts.Context.{Context}
-use Rattle.railml_read.specs.declared.contexts.Context.TheVariants.{Outside, Railml, Infrastructure, Tracks, Connections, Selected, Skipped}
+use Rattle.railml_read.specs.declared.contexts.Context.TheVariants.{Outside, Railml, Infrastructure, Tracks, Connections, OcsElements, Signals, Signal, Selected, Skipped}
 use Rattle.railml_read.specs.declared.progress.Frame.{Frame}
 use Rattle.railml_read.specs.Contexts.{below, below_selected, below_end}
 use Rattle.railml_read.specs.Tree.{opens, closes}
@@ -42,6 +42,9 @@ pub record HasRow (rows : List Elem) (row : Option ℕ) (kind : ElemKind) : Type
 abbrev pub FitsIn : List Elem → Context → Option ℕ → Type 0
 FitsIn rows (Selected kind) row = HasRow rows row kind
 FitsIn rows Connections row = HasRow rows row Topology
+FitsIn rows OcsElements row = Unit {0}
+FitsIn rows Signals row = Unit {0}
+FitsIn rows Signal row = Unit {0}
 FitsIn rows Skipped row = Unit {0}
 FitsIn rows context row = row ≡ None
 
@@ -50,6 +53,9 @@ abbrev pub FitsAbove : List Elem → Context → Option ℕ → Type 0
 FitsAbove rows (Selected Track) row = row ≡ None
 FitsAbove rows (Selected kind) row = (parent : ElemKind) × HasRow rows row parent × (may_hold parent kind ≡ true)
 FitsAbove rows Connections row = HasRow rows row Topology
+FitsAbove rows OcsElements row = Unit {0}
+FitsAbove rows Signals row = Unit {0}
+FitsAbove rows Signal row = Unit {0}
 FitsAbove rows Skipped row = Unit {0}
 FitsAbove rows context row = row ≡ None
 
@@ -65,7 +71,7 @@ end_fits rows row name parent a b c d h =
     (either rows row (bytes_eq name (codes "macroscopicNode")) _ _ (parent, h, d) tt)))
 
 selected_fits : (rows : List Elem) (row : Option ℕ) (name : List ℕ) (kind : ElemKind) → HasRow rows row kind → FitsAbove rows (below_selected kind name) row
-selected_fits rows row name Track h = either rows row (bytes_eq name (codes "trackTopology")) _ _ (Track, h, refl) tt
+selected_fits rows row name Track h = either rows row (bytes_eq name (codes "trackTopology")) _ _ (Track, h, refl) (either rows row (bytes_eq name (codes "ocsElements")) _ _ tt tt)
 selected_fits rows row name Topology h =
     either rows row (bytes_eq name (codes "trackBegin")) _ _ (Topology, h, refl)
     (either rows row (bytes_eq name (codes "trackEnd")) _ _ (Topology, h, refl)
@@ -85,6 +91,9 @@ below_fits rows row name Connections h =
     either rows row (bytes_eq name (codes "switch")) _ _ (Topology, h, refl)
     (either rows row (bytes_eq name (codes "crossing")) _ _ (Topology, h, refl) tt)
 below_fits rows row name (Selected kind) h = selected_fits rows row name kind h
+below_fits rows row name OcsElements h = either rows row (bytes_eq name (codes "signals")) _ _ tt tt
+below_fits rows row name Signals h = either rows row (bytes_eq name (codes "signal")) _ _ tt tt
+below_fits rows row name Signal h = tt
 below_fits rows row name Skipped h = tt
 
 row_more : (rows more : List Elem) (row : Option ℕ) (kind : ElemKind) → HasRow rows row kind → HasRow (rows ++ more) row kind
@@ -93,6 +102,9 @@ row_more rows more row kind h = record { number = h.number; elem = h.elem; is = 
 fits_more : (rows more : List Elem) (context : Context) (row : Option ℕ) → FitsIn rows context row → FitsIn (rows ++ more) context row
 fits_more rows more (Selected kind) row h = row_more rows more row kind h
 fits_more rows more Connections row h = row_more rows more row Topology h
+fits_more rows more OcsElements row h = tt
+fits_more rows more Signals row h = tt
+fits_more rows more Signal row h = tt
 fits_more rows more Skipped row h = tt
 fits_more rows more context row h = h
 
@@ -200,6 +212,9 @@ formed_here : (s : State) (at : ℕ) (here : Context) (row : Option ℕ) (name :
 unfolding row_of
 formed_here s at (Selected kind) row name attrs reached h above = formed_row s at kind row name attrs reached h above
 formed_here s at Connections row name attrs reached h above = formed_frame s at (record { name = name; context = Connections; row = row }) reached h above
+formed_here s at OcsElements row name attrs reached h above = formed_frame s at (record { name = name; context = OcsElements; row = row }) reached h tt
+formed_here s at Signals row name attrs reached h above = formed_frame s at (record { name = name; context = Signals; row = row }) reached h tt
+formed_here s at Signal row name attrs reached h above = formed_frame s at (record { name = name; context = Signal; row = row }) reached h tt
 formed_here s at Skipped row name attrs reached h above = formed_frame s at (record { name = name; context = Skipped; row = row }) reached h tt
 formed_here s at here row name attrs reached h above = formed_frame s at (record { name = name; context = here; row = row }) reached h above
 

@@ -21,7 +21,21 @@ use Rattle.railml_read.specs.Document.{IsFirstTextFault, IsTextFault, IsReadFaul
 use Rattle.railml_read.specs.declared.progress.Frame.{Frame}
 use Rattle.railml_read.specs.declared.rows.Elem.{Elem}
 use Rattle.railml_read.specs.Progress.{State, after_tag, start, state_after, names_in, fault_in}
-use Rattle.railml_read.specs.Passing.{IsReadThrough, fault_at}
+use Rattle.railml_read.specs.Passing.{IsReadThrough, HasMarks, fault_at}
+use Rattle.std.specs.Prelude.{◌+◌, slice_get}
+use Rattle.std.proofs.lemmas.List.{append-nil}
+use Rattle.std.proofs.lemmas.Option.{slice_get_within}
+use Rattle.plan_core.proofs.ListFacts.{get_pushed}
+use Rattle.railml_text.specs.declared.item.Attr.{Attr}
+use Rattle.railml_text.specs.declared.item.ItemKind.TheVariants as kinds
+use Rattle.railml_read.specs.declared.rows.SignalElem.{SignalElem}
+use Rattle.railml_read.specs.declared.rows.ElemKind.TheVariants as kinds_of
+use Rattle.railml_read.specs.declared.contexts.Context.{Context}
+use Rattle.railml_read.specs.declared.contexts.Context.TheVariants as contexts
+use Rattle.railml_read.specs.Contexts.{below}
+use Rattle.railml_read.specs.Signals.{own_track, own_signal, AreRising}
+use Rattle.railml_read.specs.Progress.{top_frame, context_in, Marks, after_both, no_marks, marks_after}
+use Rattle.railml_read.proofs.SignalLemmas.{first_of_both, marked}
 use Rattle.railml_text.proofs.OneItem.{one_item}
 use Rattle.railml_text.proofs.CutLemmas.{ComesTo-push, ComesTo-none, start_within, start_boundary}
 use Rattle.railml_read.proofs.PlaceLemmas.{tags_push, root_push, place_push, FaultIs, IsLeastMisplaced, fault_is}
@@ -263,3 +277,94 @@ read_through bytes at first state rooted few k end =
       root_is = k.root_is;
       formed = all_formed state at (omega (arith, k.within, few)) k.formed;
     }
+
+-- ---- signals
+
+-- what one item adds to what is kept of signals
+pub record AddsOne (m n : Marks) (at : ℕ) : Type 0 where
+  pub tracks : n.tracks ≤ m.tracks + 1
+  pub signals : (n.signals ≡ m.signals) ⊎ ((x : SignalElem) × (x.at ≡ at) × (n.signals ≡ m.signals ++ x ∷ []))
+
+adds_here : (m : Marks) (at : ℕ) (attrs : List Attr) (here : Context) → AddsOne m (record { tracks = m.tracks + own_track here; signals = m.signals ++ own_signal here at attrs (m.tracks + own_track here) }) at
+adds_here m at attrs contexts.Signal = record { tracks = omega arith; signals = inr (_, refl, refl) }
+adds_here m at attrs (contexts.Selected kinds_of.Track) = record { tracks = omega arith; signals = inl (append-nil m.signals) }
+adds_here m at attrs here = record { tracks = omega arith; signals = inl (append-nil m.signals) }
+
+adds_item : (s : State) (m : Marks) (at : ℕ) (kind : ItemKind) → AddsOne m ((fold after_both (s, m) (tags_at at kind)).1) at
+adds_item s m at (kinds.Start name attrs true) = adds_here m at attrs (below (context_in (top_frame s.stack)) name)
+adds_item s m at (kinds.Start name attrs false) = adds_here m at attrs (below (context_in (top_frame s.stack)) name)
+adds_item s m at (kinds.EndTag name) = record { tracks = omega arith; signals = inl refl }
+adds_item s m at kind = record { tracks = omega arith; signals = inl refl }
+
+pub record KeptBoth (bytes : List ℕ) (at : ℕ) (first : Bool) (state : State) (rooted : Bool) (marks : Marks) : Type 0 where
+  pub kept : Kept bytes at first state rooted
+  pub marks_are : marks ≡ marks_after kept.items
+  pub few : marks.tracks ≤ at
+  pub rising : AreRising marks.signals
+  pub before : (i : ℕ) (a : SignalElem) → slice_get marks.signals i ≡ Some a → a.at < at
+
+pub both_start : (bytes : List ℕ) (at : ℕ) (state : State) (rooted : Bool) (marks : Marks) → IsUtf8 bytes → at ≡ start_of bytes → state ≡ start → rooted ≡ false → marks ≡ no_marks → KeptBoth bytes at true state rooted marks
+unfolding kept_start
+both_start bytes at state rooted marks utf8 here s r m = record {
+  kept = kept_start bytes at state rooted utf8 here s r;
+  marks_are = m;
+  few = rw m (omega arith);
+  rising = rw m (record { rise = λ i j a b lt e f. absurd cc });
+  before = rw m (λ i a e. absurd cc);
+}
+
+rising_more : (old new : List SignalElem) (at next : ℕ) → at < next → AreRising old → ((i : ℕ) (a : SignalElem) → slice_get old i ≡ Some a → a.at < at) → (new ≡ old) ⊎ ((x : SignalElem) × (x.at ≡ at) × (new ≡ old ++ x ∷ [])) → AreRising new × ((i : ℕ) (a : SignalElem) → slice_get new i ≡ Some a → a.at < next)
+rising_more old new at next lt rise before (inl same) = rw same (rise, λ i a e. let low = before i a e in omega arith)
+rising_more old new at next lt rise before (inr more) =
+    let x = more.0 in
+    let here : x.at ≡ at = more.1 in
+    rw more.2 (
+      record {
+        rise = λ i j a b less e f. elim (get_pushed old x j b f) [
+          | inl kept ↦
+              (let within = slice_get_within old j b kept in
+              elim (get_pushed old x i a e) [
+                | inl earlier ↦ rise.rise i j a b less earlier kept
+                | inr same ↦ absurd (omega (arith, same.0, within, less))
+              ])
+          | inr last ↦ elim (get_pushed old x i a e) [
+            | inl earlier ↦ (let low = before i a earlier in let place : x.at ≡ b.at = ap (λ (y : SignalElem). y.at) last.1 in omega (arith, low, place, here))
+            | inr same ↦ absurd (omega (arith, same.0, last.0, less))
+          ]
+        ];
+      },
+      λ i a e. elim (get_pushed old x i a e) [
+        | inl kept ↦ (let low = before i a kept in omega arith)
+        | inr last ↦ (let place : x.at ≡ a.at = ap (λ (y : SignalElem). y.at) last.1 in omega (arith, here, place))
+      ],
+    )
+
+marks_push : (items : List Placed) (item : Placed) (state : State) (marks : Marks) → state ≡ state_after items → marks ≡ marks_after items → (fold after_both (state, marks) (tags_at item.at item.kind)).1 ≡ marks_after (items ++ item ∷ [])
+marks_push items item state marks s m =
+    let both = fold after_both (start, no_marks) (tags_in items) in
+    let one : both.0 ≡ state = first_of_both (tags_in items) start no_marks ∙ sym s in
+    let two : both.1 ≡ marks = sym m in
+    let pair : State → Marks → State × Marks = λ a b. (a, b) in
+    let same : both ≡ (state, marks) = ap (λ (a : State). pair a both.1) one ∙ ap (pair state) two in
+    let whole : fold after_both (start, no_marks) (tags_in (items ++ item ∷ [])) ≡ fold after_both both (tags_at item.at item.kind) = ap (λ t. fold after_both (start, no_marks) t) (tags_push items item) ∙ fold-append after_both (start, no_marks) (tags_in items) (tags_at item.at item.kind) in
+    sym (ap (λ (b : State × Marks). b.1) (whole ∙ ap (λ (b : State × Marks). fold after_both b (tags_at item.at item.kind)) same))
+
+pub both_next : (bytes : List ℕ) (at next : ℕ) (first : Bool) (state after : State) (rooted root : Bool) (marks more : Marks) (kind : ItemKind) → KeptBoth bytes at first state rooted marks → HasSoundItem first (drop at bytes) kind (drop next bytes) → at < next → next ≤ length bytes → IsCharBoundary bytes next → None ≡ fault_in (names_in state.stack) rooted (role_of kind) → after ≡ fold after_tag state (tags_at at kind) → root ≡ (rooted || begins_element kind) → more ≡ (fold after_both (state, marks) (tags_at at kind)).1 → KeptBoth bytes next false after root more
+unfolding kept_next
+both_next bytes at next first state after rooted root marks more kind b sound lt within boundary free_of s r m =
+    let adds = adds_item state marks at kind in
+    let risen = rising_more marks.signals ((fold after_both (state, marks) (tags_at at kind)).1.signals) at next lt b.rising b.before adds.signals in
+    record {
+      kept = kept_next bytes at next first state after rooted root kind b.kept sound lt within boundary free_of s r;
+      marks_are = m ∙ marks_push b.kept.items (record { at = at; kind = kind }) state marks b.kept.state_is b.marks_are;
+      few = rw m (let some = b.few in let one = adds.tracks in omega (arith, some, one, lt));
+      rising = rw m risen.0;
+      before = rw m risen.1;
+    }
+
+pub marked_through : (bytes : List ℕ) (at : ℕ) (first : Bool) (state : State) (rooted : Bool) (marks : Marks) → length bytes ≤ MAX_FILE_BYTES → KeptBoth bytes at first state rooted marks → length bytes ≤ at → HasMarks bytes state rooted marks
+unfolding read_through
+marked_through bytes at first state rooted marks few b end = record { through = read_through bytes at first state rooted few b.kept end; marks_are = b.marks_are; rising = b.rising }
+
+pub new_marks : (tracks : ℕ) (signals : List SignalElem) → tracks ≡ 0 → signals ≡ [] → marked tracks signals ≡ no_marks
+new_marks tracks signals t s = ap (λ (n : ℕ). marked n signals) t ∙ ap (marked 0) s

@@ -2,6 +2,8 @@ pub mod Ends
 pub mod PlaceLemmas
 pub mod TreeLemmas
 pub mod RowLemmas
+pub mod SignalLemmas
+pub mod TrackLemmas
 pub mod FormedLemmas
 pub mod CutLemmas
 pub mod KeptLemmas

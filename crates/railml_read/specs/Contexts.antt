@@ -3,7 +3,7 @@ use Rattle.std.specs.Prelude.{ℕ, if◌then◌else◌, codes, List, bytes_eq}
 use Rattle.railml_read.specs.declared.rows.ElemKind.{ElemKind}
 use Rattle.railml_read.specs.declared.rows.ElemKind.TheVariants.{Track, Topology, Begin, End, Switch, Crossing, Connection, OpenEnd, BufferStop, MacroNode}
 use Rattle.railml_read.specs.declared.contexts.Context.{Context}
-use Rattle.railml_read.specs.declared.contexts.Context.TheVariants.{Outside, Railml, Infrastructure, Tracks, Connections, Selected, Skipped}
+use Rattle.railml_read.specs.declared.contexts.Context.TheVariants.{Outside, Railml, Infrastructure, Tracks, Connections, OcsElements, Signals, Signal, Selected, Skipped}
 
 -- where a child of this name stands below a track's begin or end
 abbrev pub below_end : List ℕ → Context
@@ -16,7 +16,10 @@ below_end name =
 
 -- where a child of this name stands below a selected element
 abbrev pub below_selected : ElemKind → List ℕ → Context
-below_selected Track name = if bytes_eq name (codes "trackTopology") then Selected Topology else Skipped
+below_selected Track name =
+    if bytes_eq name (codes "trackTopology") then Selected Topology
+    else if bytes_eq name (codes "ocsElements") then OcsElements
+    else Skipped
 below_selected Topology name =
     if bytes_eq name (codes "trackBegin") then Selected Begin
     else if bytes_eq name (codes "trackEnd") then Selected End
@@ -41,5 +44,8 @@ below Connections name =
     if bytes_eq name (codes "switch") then Selected Switch
     else if bytes_eq name (codes "crossing") then Selected Crossing
     else Skipped
+below OcsElements name = if bytes_eq name (codes "signals") then Signals else Skipped
+below Signals name = if bytes_eq name (codes "signal") then Signal else Skipped
+below Signal name = Skipped
 below (Selected kind) name = below_selected kind name
 below Skipped name = Skipped

@@ -4,5 +4,6 @@ pub mod Rows
 pub mod Formed
 pub mod Places
 pub mod Document
+pub mod Signals
 pub mod Progress
 pub mod Passing

@@ -1,5 +1,5 @@
 -- What the reader keeps while items go by.
-use Rattle.std.specs.Prelude.{ℕ, ◌-◌, ◌==◌, nat_le, Bool, true, false, not, ◌||◌, ◌&&◌, if◌then◌else◌, codes, List, [], ◌∷◌, ◌++◌, length, take, map, fold, Option, Some, None, slice_get, bytes_eq}
+use Rattle.std.specs.Prelude.{ℕ, ◌+◌, ◌-◌, ◌==◌, nat_le, Bool, true, false, not, ◌||◌, ◌&&◌, if◌then◌else◌, codes, List, [], ◌∷◌, ◌++◌, length, take, map, fold, Option, Some, None, slice_get, bytes_eq}
 use Rattle.std.specs.Option.{option_map_or}
 use Rattle.railml_text.specs.declared.fault.TextWhat.{TextWhat}
 use Rattle.railml_text.specs.declared.fault.TextWhat.TheVariants.{Markup, EndTag, Root, AfterRoot, Depth}
@@ -11,7 +11,9 @@ use Rattle.railml_read.specs.declared.progress.TheConstants.{MAX_DEPTH}
 use Rattle.railml_read.specs.declared.progress.Frame.{Frame}
 use Rattle.railml_read.specs.declared.progress.Progress.{Progress as Kept}
 use Rattle.railml_read.specs.Contexts.{below}
+use Rattle.railml_read.specs.declared.rows.SignalElem.{SignalElem}
 use Rattle.railml_read.specs.Rows.{own_row, nearest}
+use Rattle.railml_read.specs.Signals.{own_track, own_signal}
 use Rattle.railml_read.specs.Tree.{Tag, opens, closes}
 use Rattle.railml_read.specs.Places.{tags_in, innermost, Role, opening, closing, content, free}
 
@@ -87,3 +89,29 @@ fault_in names rooted free = None
 
 abbrev pub names_in : List Frame → List (List ℕ)
 names_in stack = map (λ frame. frame.name) stack
+
+-- ---- signals
+
+-- how many tracks have begun, and the signals so far
+pub record Marks : Type 0 where
+  pub tracks : ℕ
+  pub signals : List SignalElem
+
+abbrev pub marks_of : Kept → Marks
+marks_of kept = record { tracks = kept.tracks; signals = kept.signals.items }
+
+abbrev pub after_mark : State → Marks → Tag → Marks
+after_mark s m (opens at name attrs) =
+    let here = below (context_in (top_frame s.stack)) name in
+    record { tracks = m.tracks + own_track here; signals = m.signals ++ own_signal here at attrs (m.tracks + own_track here) }
+after_mark s m (closes name) = m
+
+-- what is kept of rows, and what is kept of signals
+abbrev pub after_both : State × Marks → Tag → State × Marks
+after_both both tag = (after_tag both.0 tag, after_mark both.0 both.1 tag)
+
+abbrev pub no_marks : Marks
+no_marks = record { tracks = 0; signals = [] }
+
+abbrev pub marks_after : List Placed → Marks
+marks_after items = (fold after_both (start, no_marks) (tags_in items)).1

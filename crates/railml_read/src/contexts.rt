@@ -4,8 +4,8 @@ ghost use Rattle.railml_read.specs.Contexts.{below as context_below, below_end a
 
 use crate::ElemKind;
 
-/// Where an element stands: outside of the root, at the root `railml`, at an element of the path that
-/// gives no row, at one that gives a row, or off the path, where everything is skipped.
+/// Where an element stands: outside of the root, at the root `railml`, at an element of the paths that
+/// gives no row, at a signal, at an element that gives a row, or off the paths, where everything is skipped.
 #[derive(Clone, Copy, Debug, PartialEq, Eq)]
 pub(crate) enum Context {
     Outside,
@@ -13,6 +13,9 @@ pub(crate) enum Context {
     Infrastructure,
     Tracks,
     Connections,
+    OcsElements,
+    Signals,
+    Signal,
     Selected(ElemKind),
     Skipped,
 }
@@ -36,6 +39,7 @@ fn below_selected(kind: ElemKind, name: &str) -> Context
 {
     match (kind, name) {
         (ElemKind::Track, "trackTopology") => Context::Selected(ElemKind::Topology),
+        (ElemKind::Track, "ocsElements") => Context::OcsElements,
         (ElemKind::Topology, "trackBegin") => Context::Selected(ElemKind::Begin),
         (ElemKind::Topology, "trackEnd") => Context::Selected(ElemKind::End),
         (ElemKind::Topology, "connections") => Context::Connections,
@@ -59,6 +63,8 @@ pub(crate) fn below(context: Context, name: &str) -> Context
         Context::Tracks if name == "track" => Context::Selected(ElemKind::Track),
         Context::Connections if name == "switch" => Context::Selected(ElemKind::Switch),
         Context::Connections if name == "crossing" => Context::Selected(ElemKind::Crossing),
+        Context::OcsElements if name == "signals" => Context::Signals,
+        Context::Signals if name == "signal" => Context::Signal,
         Context::Selected(kind) => below_selected(kind, name),
         _ => Context::Skipped,
     }

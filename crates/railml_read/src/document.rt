@@ -6,11 +6,12 @@ ghost use Rattle.railml_text.specs.declared.fault.TextWhat.{TextWhat as What};
 ghost use Rattle.railml_text.specs.Cutting.{start_of as start};
 ghost use Rattle.railml_read.specs.Document.{AreRows, GivesRows, IsReadFault, IsTextFault};
 ghost use Rattle.railml_read.specs.Formed.{AreFormed};
-ghost use Rattle.railml_read.specs.Progress.{state_of};
-ghost use Rattle.railml_read.specs.Passing.{IsReadThrough, fault_at as text_fault_at};
+ghost use Rattle.railml_read.specs.Signals.{AreSignals, GivesSignals, AreRising};
+ghost use Rattle.railml_read.specs.Progress.{state_of, marks_of};
+ghost use Rattle.railml_read.specs.Passing.{IsReadThrough, HasMarks, fault_at as text_fault_at};
 
 use crate::progress::Progress;
-use crate::{ReadFault, Records};
+use crate::{ReadFault, Records, SignalRows};
 use railml_text::{ItemFault, TextWhat, scan};
 use std::alloc::Global;
 
@@ -43,6 +44,7 @@ fn read_items(alloc: Global, bytes: &[u8]) -> Result<Progress, ReadFault>
     requires utf8 { IsUtf8 bytes.now }
     requires few { length bytes.now ≤ MAX_FILE_BYTES }
     ensures through { IfOk result (λ p. IsReadThrough bytes.now (state_of p) p.has_root) }
+    ensures marks { IfOk result (λ p. HasMarks bytes.now (state_of p) p.has_root (marks_of p)) }
     ensures fault { IfErr result (λ e. (e ≡ ReadFault.Memory) ⊎ IsReadFault bytes.now e) }
 {
     let mut progress = Progress::new(alloc);
@@ -63,14 +65,16 @@ fn read_items(alloc: Global, bytes: &[u8]) -> Result<Progress, ReadFault>
     Ok(progress)
 }
 
-/// The rows of a text that is UTF-8, or its fault.
-fn read_text(alloc: Global, bytes: &[u8]) -> Result<Records, ReadFault>
+/// What is kept of a text that is UTF-8, or its fault.
+fn read_text(alloc: Global, bytes: &[u8]) -> Result<Progress, ReadFault>
     requires utf8 { IsUtf8 bytes.now }
     requires few { length bytes.now ≤ MAX_FILE_BYTES }
-    ensures rows { IfOk result (λ rows. AreRows bytes.now rows) }
+    ensures rows { IfOk result (λ p. AreRows bytes.now p.rows.items) }
+    ensures signals { IfOk result (λ p. AreSignals bytes.now p.signals.items) }
     ensures sound { OnOk result ((what : What) (at : ℕ) → IsTextFault bytes.now what at → ⊥) }
     ensures fault { IfErr result (λ e. (e ≡ ReadFault.Memory) ⊎ IsReadFault bytes.now e) }
-    ensures formed { IfOk result (λ rows. AreFormed rows) }
+    ensures formed { IfOk result (λ p. AreFormed p.rows.items) }
+    ensures rising { IfOk result (λ p. AreRising p.signals.items) }
 {
     let progress = read_items(alloc, bytes)?;
     let at = bytes.len();
@@ -86,16 +90,18 @@ fn read_text(alloc: Global, bytes: &[u8]) -> Result<Records, ReadFault>
             at,
         });
     }
-    Ok(progress.into_rows())
+    Ok(progress)
 }
 
-/// The rows of any text, or its fault.
-fn read_bytes(alloc: Global, bytes: &[u8]) -> Result<Records, ReadFault>
+/// What is kept of any text, or its fault.
+fn read_bytes(alloc: Global, bytes: &[u8]) -> Result<Progress, ReadFault>
     requires { length bytes.now ≤ MAX_FILE_BYTES }
-    ensures rows { IfOk result (λ rows. AreRows bytes.now rows) }
+    ensures rows { IfOk result (λ p. AreRows bytes.now p.rows.items) }
+    ensures signals { IfOk result (λ p. AreSignals bytes.now p.signals.items) }
     ensures sound { OnOk result ((what : What) (at : ℕ) → IsTextFault bytes.now what at → ⊥) }
     ensures fault { IfErr result (λ e. (e ≡ ReadFault.Memory) ⊎ IsReadFault bytes.now e) }
-    ensures formed { IfOk result (λ rows. AreFormed rows) }
+    ensures formed { IfOk result (λ p. AreFormed p.rows.items) }
+    ensures rising { IfOk result (λ p. AreRising p.signals.items) }
 {
     if let Err(e) = std::str::from_utf8(bytes) {
         return Err(ReadFault::Text {
@@ -104,6 +110,34 @@ fn read_bytes(alloc: Global, bytes: &[u8]) -> Result<Records, ReadFault>
         });
     }
     read_text(alloc, bytes)
+}
+
+/// The rows of a text, or its fault.
+fn rows_or_fault(alloc: Global, bytes: &[u8]) -> Result<Records, ReadFault>
+    requires { length bytes.now ≤ MAX_FILE_BYTES }
+    ensures rows { IfOk result (λ rows. AreRows bytes.now rows) }
+    ensures sound { OnOk result ((what : What) (at : ℕ) → IsTextFault bytes.now what at → ⊥) }
+    ensures fault { IfErr result (λ e. (e ≡ ReadFault.Memory) ⊎ IsReadFault bytes.now e) }
+    ensures formed { IfOk result (λ rows. AreFormed rows) }
+{
+    match read_bytes(alloc, bytes) {
+        Ok(progress) => Ok(progress.into_rows()),
+        Err(fault) => Err(fault),
+    }
+}
+
+/// The signals of a text, or its fault.
+fn signals_or_fault(alloc: Global, bytes: &[u8]) -> Result<SignalRows, ReadFault>
+    requires { length bytes.now ≤ MAX_FILE_BYTES }
+    ensures signals { IfOk result (λ signals. AreSignals bytes.now signals) }
+    ensures sound { OnOk result ((what : What) (at : ℕ) → IsTextFault bytes.now what at → ⊥) }
+    ensures fault { IfErr result (λ e. (e ≡ ReadFault.Memory) ⊎ IsReadFault bytes.now e) }
+    ensures rising { IfOk result (λ signals. AreRising signals) }
+{
+    match read_bytes(alloc, bytes) {
+        Ok(progress) => Ok(progress.into_signals()),
+        Err(fault) => Err(fault),
+    }
 }
 
 /// The rows of the document's selected elements, or the fault of its text.
@@ -117,5 +151,15 @@ pub fn read(alloc: Global, bytes: &[u8]) -> Result<Records, ReadFault>
     // How the rows are formed, for whoever reads them.
     ensures formed { IfOk result (λ rows. AreFormed rows) }
 {
-    read_bytes(alloc, bytes)
+    rows_or_fault(alloc, bytes)
+}
+
+/// The signals of the document, or the fault of its text, which is that of `read`.
+pub fn read_signals(alloc: Global, bytes: &[u8]) -> Result<SignalRows, ReadFault>
+    requires { length bytes.now ≤ MAX_FILE_BYTES }
+    ensures answers { AnswersExactly result ReadFault.Memory (GivesSignals bytes.now) (IsReadFault bytes.now) }
+    // For whoever places them.
+    ensures rising { IfOk result (λ signals. AreRising signals) }
+{
+    signals_or_fault(alloc, bytes)
 }

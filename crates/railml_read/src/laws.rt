@@ -1,5 +1,8 @@
 // What holds of the definitions alone.
-ghost use Rattle.std.specs.Prelude.{◌≡◌, ℕ, List};
+ghost use Rattle.std.specs.Prelude.{◌≡◌, ◌<◌, ℕ, List, Some, slice_get};
+ghost use Rattle.railml_read.specs.declared.rows.SignalElem.{SignalElem as ASignal};
+ghost use Rattle.railml_read.specs.Rows.{rows_of};
+ghost use Rattle.railml_read.specs.Signals.{signals_of, track_count};
 ghost use Rattle.railml_text.specs.declared.fault.TextWhat.{TextWhat};
 ghost use Rattle.railml_read.specs.Tree.{XmlTree};
 ghost use Rattle.railml_read.specs.Document.{SpellsTree, IsTextFault};
@@ -13,4 +16,9 @@ pub fn one_tree()
 pub fn one_fault()
     ensures { (bytes : List ℕ) (a b : TextWhat) (at place : ℕ) →
         IsTextFault bytes a at → IsTextFault bytes b place → (a ≡ b) × (at ≡ place) }
+{}
+
+/// Each signal of a tree stands on one of the tracks among the tree's rows.
+pub fn signals_stand_on_tracks()
+    ensures { (tree : XmlTree) (i : ℕ) (x : ASignal) → slice_get (signals_of tree) i ≡ Some x → x.track < track_count (rows_of tree) }
 {}

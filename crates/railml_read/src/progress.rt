@@ -1,12 +1,13 @@
 // What is kept while the items of a document go by.
-ghost use Rattle.std.specs.Prelude.{◌≡◌, ◌<◌, ◌^◌, ◌-◌, ◌++◌, ◌∷◌, ◌||◌, ◌==◌, [], length, take, fold, OnOk, IfOk, true, false, ◌≢◌, ◌⊎◌};
+ghost use Rattle.std.specs.Prelude.{◌≡◌, ◌<◌, ◌^◌, ◌+◌, ◌-◌, ◌++◌, ◌∷◌, ◌||◌, ◌==◌, [], length, take, fold, OnOk, IfOk, true, false, ◌≢◌, ◌⊎◌};
 ghost use Rattle.railml_read.specs.Rows.{own_row, text_named as named_text, attrs_read};
 ghost use Rattle.railml_read.specs.Tree.{opens};
 ghost use Rattle.railml_read.specs.Places.{role_of, tags_at, begins_element};
-ghost use Rattle.railml_read.specs.Progress.{top_frame, context_in, row_in, frame_in as frame_inside, is_innermost as innermost_is, fault_in, names_in, is_infrastructure, is_root_name as root_name, state_of, after_tag};
+ghost use Rattle.railml_read.specs.Progress.{top_frame, context_in, row_in, frame_in as frame_inside, is_innermost as innermost_is, fault_in, names_in, is_infrastructure, is_root_name as root_name, state_of, after_tag, marks_of, after_mark, after_both};
+ghost use Rattle.railml_read.specs.Signals.{own_track as track_here, own_signal};
 
 use crate::contexts::{Context, below};
-use crate::{Attrs, Elem, Records};
+use crate::{Attrs, Elem, ElemKind, Records, SignalElem, SignalRows};
 use plan_core::{OutOfMemory, Text};
 use railml_text::{Attr, ItemKind, TextWhat};
 use std::alloc::Global;
@@ -22,12 +23,14 @@ pub(crate) struct Frame {
     pub(crate) row: Option<u32>,
 }
 
-/// The open elements, the outermost first, the rows so far, and whether the root and an
-/// `infrastructure` of the path have begun.
+/// The open elements, the outermost first, the rows and the signals so far, how many tracks have begun, and whether the root
+/// and an `infrastructure` of the path have.
 #[derive(Drop)]
 pub(crate) struct Progress {
     pub(crate) stack: Vec<Frame>,
     pub(crate) rows: Vec<Elem>,
+    pub(crate) signals: Vec<SignalElem>,
+    pub(crate) tracks: u32,
     pub(crate) has_root: bool,
     pub(crate) has_infrastructure: bool,
 }
@@ -89,17 +92,31 @@ fn frame_in(stack: &[Frame], name: Text, number: u32) -> Frame
     Frame { name, context, row }
 }
 
+/// 1 for an element that stands here, if it is a track.
+fn own_track(context: Context) -> u32
+    ensures { result ≡ track_here context }
+{
+    match context {
+        Context::Selected(ElemKind::Track) => 1,
+        _ => 0,
+    }
+}
+
 impl Progress {
     /// Nothing has been read.
     pub(crate) fn new(alloc: Global) -> Self
         ensures stack { result.stack.items ≡ [] }
         ensures rows { result.rows.items ≡ [] }
+        ensures signals { result.signals.items ≡ [] }
+        ensures tracks { result.tracks ≡ 0 }
         ensures root { result.has_root ≡ false }
         ensures infrastructure { result.has_infrastructure ≡ false }
     {
         Progress {
             stack: Vec::new(alloc),
             rows: Vec::new(alloc),
+            signals: Vec::new(alloc),
+            tracks: 0,
             has_root: false,
             has_infrastructure: false,
         }
@@ -175,6 +192,29 @@ impl Progress {
         Ok(())
     }
 
+    /// Adds the signal that an element is, if it stands where signals do.
+    fn add_signal(
+        &mut self,
+        alloc: Global,
+        at: usize,
+        attrs: &[Attr],
+        context: Context,
+    ) -> Result<(), OutOfMemory>
+        ensures signals { OnOk result (self.new.signals.items ≡ self.old.signals.items ++ own_signal context at attrs.now self.old.tracks) }
+        ensures others { self.new ≡ record self.old { signals = self.new.signals } }
+    {
+        if context == Context::Signal {
+            self.signals.push(SignalElem {
+                at,
+                track: self.tracks.saturating_sub(1),
+                id: text_named(alloc, attrs, "id")?,
+                pos: text_named(alloc, attrs, "pos")?,
+                abs_pos: text_named(alloc, attrs, "absPos")?,
+            })?;
+        }
+        Ok(())
+    }
+
     /// An element begins.
     fn enter(
         &mut self,
@@ -183,13 +223,17 @@ impl Progress {
         name: Text,
         attrs: &[Attr],
     ) -> Result<(), OutOfMemory>
-        requires { length self.old.rows.items < 2 ^ 32 }
+        requires rows { length self.old.rows.items < 2 ^ 32 }
+        requires tracks { self.old.tracks + 1 < 2 ^ 32 }
         ensures state { OnOk result (state_of self.new ≡ after_tag (state_of self.old) (opens at name attrs.now)) }
+        ensures marks { OnOk result (marks_of self.new ≡ after_mark (state_of self.old) (marks_of self.old) (opens at name attrs.now)) }
         ensures root { OnOk result (self.new.has_root ≡ true) }
     {
         let (_, parent) = innermost(&self.stack);
         let frame = frame_in(&self.stack, name, self.rows.len() as u32);
         let context = frame.context;
+        self.tracks += own_track(context);
+        self.add_signal(alloc, at, attrs, context)?;
         self.add_row(alloc, at, attrs, context, parent)?;
         self.stack.push(frame)?;
         self.has_root = true;
@@ -212,8 +256,10 @@ impl Progress {
         at: usize,
         kind: ItemKind,
     ) -> Result<(), OutOfMemory>
-        requires { length self.old.rows.items < 2 ^ 32 }
+        requires rows { length self.old.rows.items < 2 ^ 32 }
+        requires tracks { self.old.tracks + 1 < 2 ^ 32 }
         ensures state { OnOk result (state_of self.new ≡ fold after_tag (state_of self.old) (tags_at at kind)) }
+        ensures marks { OnOk result (marks_of self.new ≡ (fold after_both (state_of self.old, marks_of self.old) (tags_at at kind)).1) }
         ensures root { OnOk result (self.new.has_root ≡ (self.old.has_root || begins_element kind)) }
     {
         match kind {
@@ -244,5 +290,11 @@ impl Progress {
         ensures { result ≡ self.rows.items }
     {
         Records::from_vec(self.rows)
+    }
+
+    pub(crate) fn into_signals(self) -> SignalRows
+        ensures { result ≡ self.signals.items }
+    {
+        SignalRows::from_vec(self.signals)
     }
 }

@@ -41,3 +41,17 @@ pub struct Elem {
 
 /// Selected elements in file order.
 pub type Records = Items<Elem>;
+
+/// A signal. `at` is the byte of its start tag's `<`, `track` the number of its track, from 0 in file order; and the texts of
+/// its attributes `id`, `pos` and `absPos`, each where it stands.
+#[derive(Drop)]
+pub struct SignalElem {
+    pub at: usize,
+    pub track: u32,
+    pub id: Option<Text>,
+    pub pos: Option<Text>,
+    pub abs_pos: Option<Text>,
+}
+
+/// Signals in file order.
+pub type SignalRows = Items<SignalElem>;

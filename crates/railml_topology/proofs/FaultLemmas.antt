@@ -15,7 +15,7 @@ use Rattle.railml_topology.specs.declared.fault.TopologyWhat.TheVariants.{NoTrac
 use Rattle.railml_topology.specs.declared.finding.TheConstants.{IN_ORDER}
 use Rattle.railml_topology.specs.Rows.{same_kind, numbers_from, track_rows, attribute_name, id_of}
 use Rattle.railml_topology.specs.Faults.{Lacks, HasBadId, Repeats, HasNoNumber, RefersToNone, IsNotReferredBack, RefersToItself, LacksItsParts, HasBadCourse, HasBadOrientation, LiesOutside, number_of, AreIdsDistinct}
-use Rattle.railml_topology.specs.Searching.{NoneBefore, FindsFirst}
+use Rattle.plan_core.specs.Searching.{NoneBefore, FindsFirst}
 use Rattle.railml_topology.specs.Telling.{HasKind, HasNoneBelow, HasNone}
 
 -- ---- numbers of faults
@@ -124,7 +124,7 @@ module _ {P Q : ℕ → Elem → Type 0} (to : (i : ℕ) (row : Elem) → P i ro
 
   finds_as : (r : Option ℕ) → FindsFirst P rows r → FindsFirst Q rows r
   finds_as None h = none_as (length rows) h
-  finds_as (Some n) h = record { row = h.row; is = h.is; holds = to n h.row h.holds; before = none_as n h.before }
+  finds_as (Some n) h = record { x = h.x; is = h.is; holds = to n h.x h.holds; before = none_as n h.before }
 
 module _ (rows : List Elem) (r : Option ℕ) where
   pub finds_missing : FindsFirst (λ _ row. (a : Attribute) × Lacks rows row a) rows r → FindsFirst (HasKind rows Missing) rows r
@@ -177,7 +177,7 @@ finds_too_many rows (Some n) e =
     let within : n < length rows = omega (arith, numbers_within (λ row. same_kind row.kind kinds.Track) 0 rows MAX_TRACKS n (sym e)) in
     let row = get_within rows n within in
     record {
-      row = row.0;
+      x = row.0;
       is = row.1;
       holds = ([], [], (sym e, refl, refl));
       before = record { none = λ i other below at had. (let same : i ≡ n = same_Some i n (sym had.2.0 ∙ sym e) in absurd (omega arith)) };

@@ -12,7 +12,6 @@ pub mod JoinLemmas
 pub mod ResolvedLemmas
 pub mod SoundLemmas
 pub mod OneTopologyLemmas
-pub mod SearchLemmas
 pub mod TableLemmas
 pub mod ListLemmas
 pub mod FaultLemmas
@@ -22,6 +21,5 @@ pub mod PartLemmas
 pub mod OutsideLemmas
 pub mod IdLemmas
 pub mod ReferenceLemmas
-pub mod CharacterLemmas
 pub mod ChildLemmas
 pub mod AnswerLemmas

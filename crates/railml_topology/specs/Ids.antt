@@ -1,5 +1,5 @@
--- Ids: which characters they have, and which row's number an id is kept with.
-use Rattle.std.specs.Prelude.{◌≡◌, ◌<◌, ℕ, Bool, if◌then◌else◌, List, Option, Some, None, bytes_eq, slice_get, nat_lt, ◌&&◌, ◌||◌, ⊤}
+-- Ids: which row's number an id is kept with.
+use Rattle.std.specs.Prelude.{◌≡◌, ◌<◌, ℕ, if◌then◌else◌, List, Option, Some, None, bytes_eq, slice_get, ⊤}
 use Rattle.std.specs.Borrow.{Bor}
 use Rattle.std.specs.BTreeMap.{BTreeMap, get_by}
 use Rattle.std.specs.Cmp.Lexicographic.{slice_cmp}
@@ -7,10 +7,6 @@ use Rattle.std.specs.Ordering.{nat_cmp}
 use Rattle.railml_read.specs.declared.rows.Elem.{Elem}
 use Rattle.railml_read.specs.declared.rows.ElemKind.TheVariants.{Connection}
 use Rattle.railml_topology.specs.Rows.{same_kind, bears_id}
-
--- whether a character is no control character, no space and no no-break space
-abbrev pub is_id_character : ℕ → Bool
-is_id_character c = nat_lt 32 c && (nat_lt c 127 || nat_lt 160 c)
 
 -- the number that an id is kept with
 abbrev pub number_in : BTreeMap (Bor (List ℕ)) ℕ → List ℕ → Option ℕ

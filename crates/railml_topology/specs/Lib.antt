@@ -3,7 +3,6 @@ pub mod Faults
 pub mod Resolved
 pub mod Sound
 pub mod Ids
-pub mod Searching
 pub mod Tables
 pub mod Plans
 pub mod Places

@@ -9,7 +9,7 @@ use Rattle.railml_topology.specs.declared.finding.Finding.{Finding}
 use Rattle.railml_topology.specs.declared.telling.Told.{Told}
 use Rattle.railml_topology.specs.Rows.{lacking, attribute_name, id_of}
 use Rattle.railml_topology.specs.Faults.{HasTopologyFault, HasNoNumber, IsFirstTopologyFault, number_of}
-use Rattle.railml_topology.specs.Searching.{NoneBefore, IsFirst}
+use Rattle.plan_core.specs.Searching.{NoneBefore, IsFirst}
 
 -- row i has this fault, whatever is told with it
 abbrev pub HasKind : List Elem → TopologyWhat → ℕ → Elem → Type 0

@@ -2,7 +2,7 @@
 ghost use Rattle.std.specs.Prelude.{◌≡◌, IfOk};
 ghost use Rattle.railml_read.specs.Formed.{AreFormed};
 ghost use Rattle.railml_topology.specs.Faults.{number_of};
-ghost use Rattle.railml_topology.specs.Searching.{FindsFirst};
+ghost use Rattle.plan_core.specs.Searching.{FindsFirst};
 ghost use Rattle.railml_topology.specs.Tables.{AreTablesOf};
 ghost use Rattle.railml_topology.specs.Telling.{HasKind, HasNoneBelow, FindsLowest};
 

@@ -5,7 +5,7 @@ ghost use Rattle.railml_read.specs.Formed.{AreFormed};
 ghost use Rattle.railml_topology.specs.Rows.{id_of as id_or_empty};
 ghost use Rattle.railml_topology.specs.Faults.{Repeats};
 ghost use Rattle.railml_topology.specs.Ids.{number_in, Numbers, AddsId, IsKnownId, IsNewId, own_id as id_of_row, connection_id as id_of_connection, reference_of as reference, KeepsIds};
-ghost use Rattle.railml_topology.specs.Searching.{FindsFirst};
+ghost use Rattle.plan_core.specs.Searching.{FindsFirst};
 
 use crate::rows::{bears_id, is_kind};
 use plan_core::OutOfMemory;

@@ -3,7 +3,7 @@ ghost use Rattle.std.specs.Prelude.{◌≡◌, slice_get, length, filter};
 ghost use Rattle.std.specs.Option.{option_copied, option_map, is_none};
 ghost use Rattle.railml_topology.specs.Rows.{attribute_text, attribute_name, required_of, lacking};
 ghost use Rattle.railml_topology.specs.Faults.{Lacks};
-ghost use Rattle.railml_topology.specs.Searching.{FindsFirst};
+ghost use Rattle.plan_core.specs.Searching.{FindsFirst};
 ghost use Rattle.railml_topology.specs.declared.attributes.Attribute.{Attribute as Named};
 
 use crate::attributes::Attribute;

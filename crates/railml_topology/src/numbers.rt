@@ -1,7 +1,7 @@
 // Positions and mileages that are no numbers.
 ghost use Rattle.std.specs.Prelude.{IsTrue, ◌↔◌, ◌≡◌, IfSome, Some};
 ghost use Rattle.railml_topology.specs.Faults.{IsNoNumber, HasNoNumber};
-ghost use Rattle.railml_topology.specs.Searching.{FindsFirst};
+ghost use Rattle.plan_core.specs.Searching.{FindsFirst};
 ghost use Rattle.railml_topology.specs.declared.attributes.Attribute.{Attribute as Named};
 
 use crate::attributes::Attribute;

@@ -2,7 +2,7 @@
 ghost use Rattle.std.specs.Prelude.{◌≡◌, IsTrue, ◌↔◌, IfOk};
 ghost use Rattle.railml_read.specs.Formed.{AreFormed};
 ghost use Rattle.railml_topology.specs.Faults.{LiesOutside};
-ghost use Rattle.railml_topology.specs.Searching.{FindsFirst};
+ghost use Rattle.plan_core.specs.Searching.{FindsFirst};
 ghost use Rattle.railml_topology.specs.Tables.{IsPositionOf, HasPositions, IsLess, AreTablesOf, entry_in, beside_in, IsBeforeBeginBy, IsBehindEndBy, LiesOutsideBy};
 
 use crate::tables::{Tables, entry};

@@ -1,7 +1,7 @@
 // Parts that tracks, begins, ends, switches and crossings lack, or have too many of.
 ghost use Rattle.std.specs.Prelude.{◌<◌, IsTrue, ◌↔◌, length, vec_len};
 ghost use Rattle.railml_topology.specs.Faults.{AreOrientedAlike, HasItsParts, LacksItsParts};
-ghost use Rattle.railml_topology.specs.Searching.{FindsFirst};
+ghost use Rattle.plan_core.specs.Searching.{FindsFirst};
 ghost use Rattle.railml_topology.specs.Tables.{AreTablesOf, IsWholeBy, IsListAt, HasTwoWaysAmong, AreSameWords};
 
 use crate::children::two_of_kind;

@@ -5,7 +5,7 @@ ghost use Rattle.railml_read.specs.Formed.{AreFormed};
 ghost use Rattle.railml_topology.specs.Rows.{id_of as id_or_empty};
 ghost use Rattle.railml_topology.specs.Ids.{number_in, reference_of as reference, connection_id, KeepsIds};
 ghost use Rattle.railml_topology.specs.Faults.{RefersToNone, IsNotReferredBack, RefersToItself, AreIdsDistinct};
-ghost use Rattle.railml_topology.specs.Searching.{FindsFirst};
+ghost use Rattle.plan_core.specs.Searching.{FindsFirst};
 ghost use Rattle.railml_topology.specs.Tables.{HasTargets, IsNotAnswered};
 
 use crate::ids::{IdNumbers, connection_numbers, id_of, number_of, reference_of};

@@ -35,7 +35,7 @@ pub(crate) fn copied(alloc: Global, text: &Option<Text>) -> Result<Text, OutOfMe
     ensures { IfOk result (λ t. text.now ≡ Some t) }
 {
     match text {
-        Some(text) => Text::from_bytes(alloc, text.bytes()),
+        Some(text) => text.copied(alloc),
         None => unreachable!(),
     }
 }

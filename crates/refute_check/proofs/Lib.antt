@@ -8,7 +8,6 @@ pub mod AssumeLemmas
 pub mod SupposeLemmas
 pub mod AddLemmas
 pub mod KeepLemmas
-pub mod JudgeLemmas
 pub mod WordLemmas
 pub mod CheckerLemmas
 pub mod VerdictLemmas

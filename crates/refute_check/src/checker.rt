@@ -8,14 +8,14 @@ ghost use Rattle.refute_check.specs.Novelty.{IsNovelty, HasNovelty};
 ghost use Rattle.refute_log.specs.Lines.{IsWellFormed};
 
 use crate::LineFault;
-use crate::judging::{answer, are_among, are_named};
+use crate::judging::{answer, are_named};
 use crate::keeping::{Standing, greatest, keep};
 use crate::novelty::Novelty;
 use crate::question::Question;
 use crate::tables::Tables;
 use cnf_core::{Clause, Formula, LAST_VAR, Lit, ROOM, VARS};
 use plan_core::OutOfMemory;
-use refute_log::LogLine;
+use refute_log::{LogLine, are_among};
 use std::alloc::Global;
 use std::marker::Model;
 
@@ -232,6 +232,9 @@ impl Checker {
         requires { IsWellFormed line.now }
         ensures { IsAnswer self.old self.new line.now result }
     {
+        if let Standing::Lost = self.standing {
+            return Err(LineFault::Memory);
+        }
         match line {
             LogLine::Formula(c) => self.feed_formula(c),
             LogLine::Learnt(c) => self.feed_learnt(c),
@@ -244,7 +247,8 @@ impl Checker {
 
     /// Accepts the line where it stands after the lines that were accepted before and there is room
     /// for it. A refused line isn't kept. Where several causes hold, the first in the order of
-    /// `LineFault` is answered. After `Memory` the checker isn't used further.
+    /// `LineFault` is answered. After `Memory` the checker isn't used further: where its tables were lost
+    /// it answers so to every line.
     pub fn feed(&mut self, line: &LogLine) -> Result<(), LineFault>
         requires { IsWellFormed line.now }
         ensures ok { OnOk result (Accepts self.old self.new line.now) }

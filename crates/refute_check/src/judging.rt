@@ -1,21 +1,9 @@
 // What is asked of a line's literals.
 ghost use Rattle.std.specs.Prelude.{◌≡◌, ◌≤◌, ◌<◌, true, false, All, Any, Contains, MatchOption};
-ghost use Rattle.cnf_core.specs.Lit.{has, negate};
+ghost use Rattle.cnf_core.specs.Lit.{negate};
 
 use crate::question::Question;
 use cnf_core::Lit;
-
-/// Whether the literal stands among the others.
-fn is_among(lits: &[Lit], l: Lit) -> bool
-    ensures { result ≡ has lits.now l }
-{
-    for k in lits {
-        if *k == l {
-            return true;
-        }
-    }
-    false
-}
 
 /// Whether each literal's variable is one of 1 to `vars`.
 pub(crate) fn are_named(lits: &[Lit], vars: u32) -> bool
@@ -24,19 +12,6 @@ pub(crate) fn are_named(lits: &[Lit], vars: u32) -> bool
 {
     for l in lits {
         if vars < l.var().0 {
-            return false;
-        }
-    }
-    true
-}
-
-/// Whether each literal is among the others.
-pub(crate) fn are_among(lits: &[Lit], others: &[Lit]) -> bool
-    ensures yes { result ≡ true → All (λ l. Contains others.now l) lits.now }
-    ensures no { result ≡ false → All (λ l. Contains others.now l) lits.now → ⊥ }
-{
-    for l in lits {
-        if !is_among(others, *l) {
             return false;
         }
     }

@@ -9,3 +9,6 @@ pub mod TextLemmas
 pub mod TwiceLemmas
 pub mod LogLemmas
 pub mod FewLemmas
+pub mod StepLemmas
+pub mod AmongLemmas
+pub mod ListLemmas

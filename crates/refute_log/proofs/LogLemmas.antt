@@ -44,12 +44,12 @@ facts_more lines line =
 pub derives_none : Derives []
 derives_none = λ i line e. absurd (let lt = slice_get_within [] i line e in omega (arith, lt))
 
-at_left : (lines : Lines) (line l : LogLine) (i : ℕ) → i < length lines → slice_get (lines ++ line ∷ []) i ≡ Some l → slice_get lines i ≡ Some l
+pub at_left : (lines : Lines) (line l : LogLine) (i : ℕ) → i < length lines → slice_get (lines ++ line ∷ []) i ≡ Some l → slice_get lines i ≡ Some l
 at_left lines line l i low e =
     let read : get_or lines i l ≡ l = sym (get_or_append_left lines (line ∷ []) l i low) ∙ get_or_from_slice_get (lines ++ line ∷ []) i l l e in
     slice_get_read lines (length lines) i l refl low (sym read)
 
-low_or_last : (lines : Lines) (line l : LogLine) (i : ℕ) → slice_get (lines ++ line ∷ []) i ≡ Some l → (i < length lines) ⊎ (i ≡ length lines)
+pub low_or_last : (lines : Lines) (line l : LogLine) (i : ℕ) → slice_get (lines ++ line ∷ []) i ≡ Some l → (i < length lines) ⊎ (i ≡ length lines)
 low_or_last lines line l i e = let lt = slice_get_within (lines ++ line ∷ []) i l e in let size = length-append lines (line ∷ []) in grind (arith, lt, size)
 
 pub derives_more : (lines : Lines) (line : LogLine) → Derives lines → Stands lines line → Derives (lines ++ line ∷ [])

@@ -2,7 +2,7 @@
 use Rattle.std.specs.Prelude.{◌≡◌, ◌≤◌, ℕ, Bool, true, false, List, ◌++◌, None, Some, ⊤, string_bytes, refl}
 use Rattle.std.specs.declared.option.Option.{Option}
 use Rattle.std.proofs.Common.{◌∙◌, sym, ap}
-use Rattle.outside_io.specs.Contents.{Told, WhereTold, SameElsewhere, MaySet}
+use Rattle.outside_io.specs.Contents.{Told, FilesAt, WhereTold, SameElsewhere, MaySet}
 use Rattle.outside_io.specs.Counts.{Rose}
 use Rattle.refute_log.specs.declared.file_log.Gathered.{Gathered}
 use Rattle.refute_log.specs.declared.sink.LogSinkFault.{LogSinkFault}
@@ -68,10 +68,10 @@ HasText None name lines = ⊥
 HasText (Some told) name lines = told name ≡ Some (log_text lines)
 
 -- the files after a log that couldn't be started
-pub record StartFails {F : Type 0} (contents : F → Option Told) (write_faults : F → ℕ) (name : List ℕ) (before : F) (fault : LogSinkFault) (after : F) : Type 0 where
-  pub file : WhereTold (contents before) (contents after) (MaySet name header)
-  pub later : write_faults before ≤ write_faults after
-  pub cause : fault ≡ Failed → Rose (write_faults before) (write_faults after)
+pub record StartFails (name : List ℕ) (before : FilesAt) (fault : LogSinkFault) (after : FilesAt) : Type 0 where
+  pub file : WhereTold before.contents after.contents (MaySet name header)
+  pub later : before.write_faults ≤ after.write_faults
+  pub cause : fault ≡ Failed → Rose before.write_faults after.write_faults
 
 -- laws of the later state
 pub where_told_same : (c : Option Told) (name : List ℕ) → WhereTold c c (SameElsewhere name)

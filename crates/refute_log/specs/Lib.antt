@@ -3,6 +3,7 @@ pub mod Told
 pub mod Faults
 pub mod Log
 pub mod ToldTo
+pub mod Steps
 pub mod LineList
 pub mod OneText
 pub mod FileLog

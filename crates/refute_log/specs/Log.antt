@@ -2,7 +2,7 @@
 use Rattle.std.specs.Prelude.{◌≡◌, ◌≤◌, ℕ, min, max, ⊤, Option, Some, None, MatchOption, List, [], ◌∷◌, ◌++◌, length, All, Contains, flat_map, fold, take, slice_get}
 use Rattle.outside_io.specs.Counts.{last_count}
 use Rattle.cnf_core.specs.Lit.{Literal, negate, has}
-use Rattle.cnf_core.specs.Clause.{Clauses}
+use Rattle.cnf_core.specs.Clause.{Clauses, HasAllOf}
 use Rattle.cnf_core.specs.Propagation.{Falsifies, Rup, IsNew, greatest_var}
 use Rattle.refute_log.specs.declared.line.LogLine.{LogLine}
 use Rattle.refute_log.specs.declared.line.LogLine.TheVariants.{Formula, Learnt, Query, Refuted}
@@ -26,6 +26,11 @@ learnt line = []
 abbrev pub refuted : LogLine → Clauses
 refuted (Refuted c) = c ∷ []
 refuted line = []
+
+-- a Refuted line with only allowed literals
+abbrev pub IsRefutedWithin : List Literal → LogLine → Type 0
+IsRefutedWithin allowed (Refuted c) = HasAllOf allowed c
+IsRefutedWithin allowed line = ⊥
 
 -- how many Learnt lines there are, up to where every count ends
 abbrev pub learnt_count : Lines → ℕ

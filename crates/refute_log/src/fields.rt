@@ -27,7 +27,7 @@ fn are_digits(field: &[u8]) -> bool
 }
 
 /// Whether the field is an optional `-` and one or more digits.
-pub(crate) fn is_number(field: &[u8]) -> bool
+pub fn is_number(field: &[u8]) -> bool
     ensures { IsTrue result ↔ IsNumber field.now }
 {
     let (_, digits) = split_sign(field);
@@ -42,7 +42,7 @@ pub(crate) fn read_number(field: &[u8], greatest: u32) -> Option<u32>
 }
 
 /// The literal that the field is the text of, if it is one.
-pub(crate) fn read_literal(field: &[u8]) -> Option<Lit>
+pub fn read_literal(field: &[u8]) -> Option<Lit>
     ensures { MatchOption result (IsLiteral field.now → ⊥) (λ l. IsThere LAST_VAR l × (field.now ≡ literal_text l)) }
 {
     let (positive, digits) = split_sign(field);

@@ -45,11 +45,11 @@ fn fault_of(fault: FileFault) -> LogSinkFault
 /// Makes room for what the log keeps, and then the file with its first line.
 fn prepare<F: Files>(alloc: Global, files: &mut F, name: &str) -> Result<Gathered, LogSinkFault>
     ensures kept { IfOk result (λ k. (string_bytes k.name ≡ name.now) × (k.learnt ≡ 0) × (k.failed ≡ false) × (k.bytes.items ≡ [])) }
-    ensures created { OnOk result (WhereTold (F.contents files.old) (F.contents files.new) (Sets name.now header)) }
-    ensures err { IfErr result (λ e. StartFails F.contents F.write_faults name.now files.old e files.new) }
-    ensures later { F.write_faults files.old ≤ F.write_faults files.new }
-    ensures read_faults { F.read_faults files.new ≡ F.read_faults files.old }
-    ensures reads { F.reads files.new ≡ F.reads files.old }
+    ensures created { OnOk result (WhereTold (F.at files.old).contents (F.at files.new).contents (Sets name.now header)) }
+    ensures err { IfErr result (λ e. StartFails name.now (F.at files.old) e (F.at files.new)) }
+    ensures later { (F.at files.old).write_faults ≤ (F.at files.new).write_faults }
+    ensures read_faults { (F.at files.new).read_faults ≡ (F.at files.old).read_faults }
+    ensures reads { (F.at files.new).reads ≡ (F.at files.old).reads }
 {
     let copy = String::from_str(alloc, name)?;
     match write_file(files, name, b"railplan-log 1\n") {
@@ -82,15 +82,15 @@ impl<'a, F: Files> FileLog<'a, F> {
         ensures same_reference_err { IfErr result (λ e. e.1.ghost_name ≡ files.entry.ghost_name) }
         ensures name { IfOk result (λ s. name_of s.kept ≡ name.now) }
         ensures learnt { IfOk result (λ s. learnt_of s.kept ≡ 0) }
-        ensures created { IfOk result (λ s. WhereTold (F.contents files.entry.now) (F.contents s.files.now) (Sets name.now header)) }
-        ensures tells { IfOk result (λ s. IsTold (F.contents files.entry.now) → TellsLines s.kept (F.contents s.files.now) []) }
-        ensures keeps { IfOk result (λ s. WhereTold (F.contents files.entry.now) (F.contents s.files.now) (λ _ now. KeepsLog s.kept now)) }
-        ensures faults { IfOk result (λ s. F.write_faults files.entry.now ≤ F.write_faults s.files.now) }
-        ensures read_faults { IfOk result (λ s. F.read_faults s.files.now ≡ F.read_faults files.entry.now) }
-        ensures reads { IfOk result (λ s. F.reads s.files.now ≡ F.reads files.entry.now) }
-        ensures read_faults_err { IfErr result (λ e. F.read_faults e.1.now ≡ F.read_faults files.entry.now) }
-        ensures reads_err { IfErr result (λ e. F.reads e.1.now ≡ F.reads files.entry.now) }
-        ensures err { IfErr result (λ e. StartFails F.contents F.write_faults name.now files.entry.now e.0 e.1.now) }
+        ensures created { IfOk result (λ s. WhereTold (F.at files.entry.now).contents (F.at s.files.now).contents (Sets name.now header)) }
+        ensures tells { IfOk result (λ s. IsTold (F.at files.entry.now).contents → TellsLines s.kept (F.at s.files.now).contents []) }
+        ensures keeps { IfOk result (λ s. WhereTold (F.at files.entry.now).contents (F.at s.files.now).contents (λ _ now. KeepsLog s.kept now)) }
+        ensures faults { IfOk result (λ s. (F.at files.entry.now).write_faults ≤ (F.at s.files.now).write_faults) }
+        ensures read_faults { IfOk result (λ s. (F.at s.files.now).read_faults ≡ (F.at files.entry.now).read_faults) }
+        ensures reads { IfOk result (λ s. (F.at s.files.now).reads ≡ (F.at files.entry.now).reads) }
+        ensures read_faults_err { IfErr result (λ e. (F.at e.1.now).read_faults ≡ (F.at files.entry.now).read_faults) }
+        ensures reads_err { IfErr result (λ e. (F.at e.1.now).reads ≡ (F.at files.entry.now).reads) }
+        ensures err { IfErr result (λ e. StartFails name.now (F.at files.entry.now) e.0 (F.at e.1.now)) }
     {
         match prepare(alloc, files, name) {
             Ok(kept) => Ok(FileLog { files, kept }),
@@ -108,13 +108,13 @@ impl<'a, F: Files> FileLog<'a, F> {
     /// Appends what is gathered. Where a call has failed before, it writes nothing and answers
     /// `Memory`.
     pub fn finish(self) -> Result<(), LogSinkFault>
-        ensures faults { F.write_faults self.entry.files.now ≤ F.write_faults self.exit.0.now }
-        ensures read_faults { F.read_faults self.exit.0.now ≡ F.read_faults self.entry.files.now }
-        ensures reads { F.reads self.exit.0.now ≡ F.reads self.entry.files.now }
-        ensures others { WhereTold (F.contents self.entry.files.now) (F.contents self.exit.0.now) (SameElsewhere (name_of self.entry.kept)) }
-        ensures cause { IsErrOf result Failed → Rose (F.write_faults self.entry.files.now) (F.write_faults self.exit.0.now) }
-        ensures begins { WhereTold (F.contents self.entry.files.now) (F.contents self.exit.0.now) (λ before now. KeepsLog self.entry.kept before → FileBeginsLog now (name_of self.entry.kept)) }
-        ensures text { OnOk result ((lines : Lines) → TellsLines self.entry.kept (F.contents self.entry.files.now) lines → HasText (F.contents self.exit.0.now) (name_of self.entry.kept) lines) }
+        ensures faults { (F.at self.entry.files.now).write_faults ≤ (F.at self.exit.0.now).write_faults }
+        ensures read_faults { (F.at self.exit.0.now).read_faults ≡ (F.at self.entry.files.now).read_faults }
+        ensures reads { (F.at self.exit.0.now).reads ≡ (F.at self.entry.files.now).reads }
+        ensures others { WhereTold (F.at self.entry.files.now).contents (F.at self.exit.0.now).contents (SameElsewhere (name_of self.entry.kept)) }
+        ensures cause { IsErrOf result Failed → Rose (F.at self.entry.files.now).write_faults (F.at self.exit.0.now).write_faults }
+        ensures begins { WhereTold (F.at self.entry.files.now).contents (F.at self.exit.0.now).contents (λ before now. KeepsLog self.entry.kept before → FileBeginsLog now (name_of self.entry.kept)) }
+        ensures text { OnOk result ((lines : Lines) → TellsLines self.entry.kept (F.at self.entry.files.now).contents lines → HasText (F.at self.exit.0.now).contents (name_of self.entry.kept) lines) }
     {
         let FileLog { files, kept } = self;
         if kept.failed {
@@ -133,16 +133,16 @@ impl<'a, F: Files> LogSink for FileLog<'a, F> {
     ghost use Rattle.outside_io.specs.Contents.{WhereTold, SameElsewhere};
     ghost use Rattle.refute_log.specs.FileLog.{TellsLines, name_of, learnt_of, StillKeeps, keeps_same, keeps_more, where_told_same, where_told_more, tells_once};
 
-    ghost tells = { λ s lines. TellsLines s.kept (F.contents s.files.now) lines };
+    ghost tells = { λ s lines. TellsLines s.kept (F.at s.files.now).contents lines };
 
     ghost learnt = { λ s. learnt_of s.kept };
 
-    ghost faults = { λ s. F.write_faults s.files.now };
+    ghost faults = { λ s. (F.at s.files.now).write_faults };
 
     ghost is_later = { λ s t. (t.files.ghost_name ≡ s.files.ghost_name) × (name_of t.kept ≡ name_of s.kept)
-        × WhereTold (F.contents s.files.now) (F.contents t.files.now) (SameElsewhere (name_of s.kept))
-        × WhereTold (F.contents s.files.now) (F.contents t.files.now) (StillKeeps s.kept t.kept)
-        × (F.read_faults t.files.now ≡ F.read_faults s.files.now) × (F.reads t.files.now ≡ F.reads s.files.now) };
+        × WhereTold (F.at s.files.now).contents (F.at t.files.now).contents (SameElsewhere (name_of s.kept))
+        × WhereTold (F.at s.files.now).contents (F.at t.files.now).contents (StillKeeps s.kept t.kept)
+        × ((F.at t.files.now).read_faults ≡ (F.at s.files.now).read_faults) × ((F.at t.files.now).reads ≡ (F.at s.files.now).reads) };
 
     fn tell(&mut self, line: &LogLine) -> Result<(), LogSinkFault> {
         if self.kept.failed {
@@ -165,13 +165,13 @@ impl<'a, F: Files> LogSink for FileLog<'a, F> {
         Ok(())
     }
 
-    ghost one_reading = { λ s a b h k. tells_once s.kept.failed (F.contents s.files.now) (name_of s.kept) s.kept.bytes.items a b h.0 k.0 };
+    ghost one_reading = { λ s a b h k. tells_once s.kept.failed (F.at s.files.now).contents (name_of s.kept) s.kept.bytes.items a b h.0 k.0 };
 
     ghost told_lines = { λ s lines h. h.0.2 };
 
     ghost counted = { λ s lines h. h.1 };
 
-    ghost later_same = { λ s. (refl, refl, where_told_same (F.contents s.files.now) (name_of s.kept), keeps_same (F.contents s.files.now) s.kept, refl, refl) };
+    ghost later_same = { λ s. (refl, refl, where_told_same (F.at s.files.now).contents (name_of s.kept), keeps_same (F.at s.files.now).contents s.kept, refl, refl) };
 
-    ghost later_more = { λ a b c h k. (k.0 ∙ h.0, k.1 ∙ h.1, where_told_more (F.contents a.files.now) (F.contents b.files.now) (F.contents c.files.now) (name_of a.kept) (name_of b.kept) h.1 h.2 k.2, keeps_more (F.contents a.files.now) (F.contents b.files.now) (F.contents c.files.now) a.kept b.kept c.kept h.3 k.3, k.4 ∙ h.4, k.5 ∙ h.5) };
+    ghost later_more = { λ a b c h k. (k.0 ∙ h.0, k.1 ∙ h.1, where_told_more (F.at a.files.now).contents (F.at b.files.now).contents (F.at c.files.now).contents (name_of a.kept) (name_of b.kept) h.1 h.2 k.2, keeps_more (F.at a.files.now).contents (F.at b.files.now).contents (F.at c.files.now).contents a.kept b.kept c.kept h.3 k.3, k.4 ∙ h.4, k.5 ∙ h.5) };
 }

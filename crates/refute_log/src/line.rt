@@ -1,9 +1,11 @@
 // Lines of a log.
-ghost use Rattle.std.specs.Prelude.{◌≡◌, IfOk};
+ghost use Rattle.std.specs.Prelude.{◌≡◌, ◌↔◌, IsTrue, IfOk};
 ghost use Rattle.refute_log.specs.Lines.{is_learnt};
+ghost use Rattle.refute_log.specs.Log.{IsRefutedWithin};
 ghost use Rattle.refute_log.specs.Told.{learnt_after};
 
-use cnf_core::{Clause, Var};
+use crate::among::are_among;
+use cnf_core::{Clause, Lit, Var};
 use plan_core::{Criterion, OutOfMemory};
 use std::alloc::Global;
 
@@ -43,6 +45,20 @@ impl LogLine {
         ensures { result ≡ is_learnt self.now }
     {
         matches!(self, LogLine::Learnt(_))
+    }
+
+    /// Whether the line is a Refuted line all of whose literals are allowed.
+    pub fn is_refuted_within(&self, allowed: &[Lit]) -> bool
+        ensures { IsTrue result ↔ IsRefutedWithin allowed.now self.now }
+    {
+        match self {
+            LogLine::Refuted(c) => are_among(c.as_slice(), allowed),
+            LogLine::Formula(_) => false,
+            LogLine::Learnt(_) => false,
+            LogLine::Bound { .. } => false,
+            LogLine::Query(_) => false,
+            LogLine::Model => false,
+        }
     }
 
     /// The number of Learnt lines after this one, from that before it. It stops at 2^64 - 1.

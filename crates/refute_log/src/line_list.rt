@@ -1,7 +1,11 @@
 // A log in memory.
-ghost use Rattle.std.specs.Prelude.{◌≡◌, ◌<◌, [], length, slice_get, Some};
+ghost use Rattle.std.specs.Prelude.{◌≡◌, ◌<◌, ◌≤◌, ◌^◌, [], length, slice_get, Some};
+ghost use Rattle.plan_core.specs.Searching.{FindsFirst};
+ghost use Rattle.refute_log.specs.Lines.{MayBeTold, MayAllBeTold};
+ghost use Rattle.refute_log.specs.Log.{IsRefutedWithin};
 
 use crate::{LogLine, LogSink, LogSinkFault};
+use cnf_core::Lit;
 use std::alloc::Global;
 use std::marker::Model;
 
@@ -38,7 +42,8 @@ impl LineList {
 
     /// The number of lines.
     pub fn len(&self) -> usize
-        ensures { result ≡ length self.now }
+        ensures value { result ≡ length self.now }
+        ensures told { MayAllBeTold self.now }
     {
         self.lines.len()
     }
@@ -46,9 +51,26 @@ impl LineList {
     /// The line at place `i`, counted from 0.
     pub fn get(&self, i: usize) -> &LogLine
         requires { i < length self.now }
-        ensures { slice_get self.now i ≡ Some result.now }
+        ensures value { slice_get self.now i ≡ Some result.now }
+        ensures told { MayBeTold result.now }
     {
         &self.lines[i]
+    }
+
+    /// The place of the first Refuted line all of whose literals are allowed. A list of more lines than
+    /// a place can count isn't asked.
+    pub fn first_refuted(&self, allowed: &[Lit]) -> Option<u32>
+        requires { length self.now ≤ 2 ^ 32 }
+        ensures { FindsFirst (λ _ line. IsRefutedWithin allowed.now line) self.now result }
+    {
+        let mut i = 0;
+        while i < self.lines.len() {
+            if self.lines[i].is_refuted_within(allowed) {
+                return Some(i as u32);
+            }
+            i += 1;
+        }
+        None
     }
 }
 

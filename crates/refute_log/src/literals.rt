@@ -86,7 +86,7 @@ fn none_twice(numbers: &mut Vec<u32>) -> bool
 }
 
 /// Whether no variable stands twice among the literals.
-fn are_distinct(alloc: Global, literals: &[Lit]) -> Result<bool, AllocError>
+pub fn are_distinct(alloc: Global, literals: &[Lit]) -> Result<bool, AllocError>
     ensures { IfOk result (λ distinct. IsTrue distinct ↔ AreDistinct literals.now) }
 {
     let mut variables = variables_of(alloc, literals)?;

@@ -28,7 +28,8 @@ fn write_literal_field(literal: Lit, into: &mut Vec<u8>) -> Result<(), OutOfMemo
     write_literal(literal, into)
 }
 
-fn write_literals(literals: &[Lit], into: &mut Vec<u8>) -> Result<(), OutOfMemory>
+/// Appends each literal, a space before it.
+pub fn write_literals(literals: &[Lit], into: &mut Vec<u8>) -> Result<(), OutOfMemory>
     ensures ok { OnOk result (into.new.items ≡ into.old.items ++ spaced (map literal_text literals.now)) }
     ensures begins { Begins into.old.items into.new.items }
 {

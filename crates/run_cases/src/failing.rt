@@ -1,10 +1,25 @@
 // What runs put and leave where one call of their files, or of their sink, fails: each call in its turn, until a run
 // meets no failure.
-use crate::checked::{TITLE, UNSETTLED_SHEET};
 use outside_io::{Files, MemoryFiles, MemorySink, Sink};
 use std::alloc::{AllocError, Global};
 use std::test::Fail;
 use worked_files::{LOOP, LOOP_SHEET, ONE, ONE_GRAPH, ONE_SHEET, run_untraced, words_from};
+
+/// The first line of a log, behind which nothing stands.
+const TITLE: &str = "railplan-log 1\n";
+
+/// A sheet of one track that isn't the best, of a search that has settled no more than it says.
+const UNSETTLED_SHEET: &str = "railplan 2
+grid 40 8 1
+order height bends diagonal width
+nodes 2
+node 0 mb 0 0 0.000000
+node 1 me 2 0 600.000000
+edges 1
+edge 0 m 0 1 0 0 2 0
+values 0 0 0 2
+end conflicts 3
+";
 
 /// More calls than any of these runs makes.
 const MANY: u32 = 100;

@@ -24,37 +24,28 @@ use Rattle.log_check.specs.declared.verdict.Verdict.{Verdict}
 use Rattle.log_check.specs.declared.verdict.Verdict.TheVariants as verdicts
 use Rattle.log_check.specs.Judged.{IsLogJudged}
 use Rattle.plan_words.proofs.AnswerLemmas.{command_same, command_or_fault}
-use Rattle.schematic_main.specs.declared.fault.RunFault.{RunFault}
-use Rattle.schematic_main.specs.declared.fault.RunFault.TheVariants.{Words, Long, Text, Topology, Graph as GraphFault, Order, Sheet, Log, ReadFailed}
-use Rattle.schematic_main.specs.declared.status.Status.{Status}
-use Rattle.schematic_main.specs.declared.status.Status.TheVariants.{Done, Refused, WordsRefused, NoDrawing, Unfinished, Unread, Broken}
-use Rattle.schematic_main.specs.Status.{IsCutShort}
-use Rattle.schematic_main.specs.Fault.{fault_status}
-use Rattle.schematic_main.specs.Input.{IsLong, IsShort, HasStation, HasFileFault}
-use Rattle.schematic_main.specs.Met.{Met, ReadFails}
-use Rattle.schematic_main.specs.Verdict.{IsVerdict, IsSheetJudged, IsSoundSheet}
-use Rattle.schematic_main.specs.Answer.{InputFile, text_input, log_input, IsPrinted, IsFileJudged, IsVerified, IsAnswerAfter, IsAnswerOn}
-use Rattle.schematic_main.specs.CheckLine.{claim_of, refusal_status, verdict_status}
-use Rattle.schematic_main.specs.Checked.{IsFoundBroken, IsClaimJudged, IsChecked}
-use Rattle.schematic_main.specs.Drawn.{Job, job, status_of, IsDrawAnswer}
-use Rattle.schematic_main.specs.Tried.{IsTried}
+use Rattle.input_answer.specs.declared.fault.RunFault.{RunFault}
+use Rattle.input_answer.specs.declared.fault.RunFault.TheVariants.{Words, Long, Text, Topology, Graph as GraphFault, Order, Sheet, Log, ReadFailed}
+use Rattle.input_answer.specs.declared.status.Status.{Status}
+use Rattle.input_answer.specs.declared.status.Status.TheVariants.{Done, Refused, WordsRefused, NoDrawing, Unfinished, Unread, Broken}
+use Rattle.input_answer.specs.Status.{IsCutShort}
+use Rattle.input_answer.specs.Fault.{fault_status}
+use Rattle.input_answer.specs.Input.{IsLong, IsShort, HasStation, HasFileFault}
+use Rattle.input_answer.specs.Met.{Met, ReadFails}
+use Rattle.sheet_answer.specs.Verdict.{IsVerdict, IsSheetJudged, IsSoundSheet}
+use Rattle.input_answer.specs.Answer.{InputFile, text_input, log_input, IsPrinted, IsFileJudged, IsAnswerAfter, IsAnswerOn}
+use Rattle.sheet_answer.specs.Verdict.{IsVerified}
+use Rattle.sheet_answer.specs.CheckLine.{claim_of, refusal_status, verdict_status}
+use Rattle.sheet_answer.specs.Checked.{IsFoundBroken, IsClaimJudged, IsChecked}
+use Rattle.draw_answer.specs.Drawn.{Job, job, status_of, IsDrawAnswer}
+use Rattle.draw_answer.specs.Tried.{IsTried}
 use Rattle.schematic_main.specs.Commands.{Owes, ends_of, HasSoundFile, AreSound}
 use Rattle.schematic_main.specs.Run.{Asks, IsAnswerDue, FailsIn}
-use Rattle.schematic_main.proofs.StatusLemmas.{on_outcome}
+use Rattle.draw_answer.proofs.OutcomeLemmas.{on_outcome}
+use Rattle.input_answer.proofs.InputLemmas.{file_fault_status}
 use Rattle.schematic_main.proofs.SoundLog.{sound_log}
 
 -- ---- the statuses: what holds of those that each part of an answer may have holds of the answer's
-
-pub file_fault_status : (bytes : List ℕ) (fault : RunFault) → HasFileFault bytes fault → fault_status fault ≡ Refused
-file_fault_status bytes (Long input) has = refl
-file_fault_status bytes (Text what at) has = refl
-file_fault_status bytes (Topology what at first second) has = refl
-file_fault_status bytes (GraphFault fault) has = refl
-file_fault_status bytes (Order fault) has = refl
-file_fault_status bytes (Words what position) has = absurd has
-file_fault_status bytes (Sheet what line) has = absurd has
-file_fault_status bytes (Log what line) has = absurd has
-file_fault_status bytes (ReadFailed input) has = absurd has
 
 on_input : (P : Status → Type 0) (input : InputFile) (done : ℕ) (met : Met) (Answers : List ℕ → Status → List ℕ → Type 0) (status : Status) (text : List ℕ) →
     P Refused → (ReadFails met done → P Unread) → ((bytes : List ℕ) → Answers bytes status text → P status) → IsAnswerOn input done met Answers status text → P status

@@ -28,8 +28,9 @@ use Rattle.log_check.specs.Expectation.{Expectation, expectation, PassesLimits}
 use Rattle.log_check.specs.Accepted.{AreAccepted}
 use Rattle.log_check.specs.Claimed.{CertifiesClaim, IsTrueClaim}
 use Rattle.log_check.specs.Judged.{IsLogJudged}
-use Rattle.schematic_main.specs.CheckLine.{claim_of}
-use Rattle.schematic_main.specs.Drawn.{Job, search_of, sheet_of, PassesCheck}
+use Rattle.sheet_answer.specs.CheckLine.{claim_of}
+use Rattle.draw_answer.specs.Drawn.{Job, search_of, sheet_of}
+use Rattle.sheet_answer.specs.Checked.{PassesCheck}
 use Rattle.schematic_main.proofs.OwnLog.{own_lines}
 
 -- ---- the lines are accepted

@@ -11,17 +11,19 @@ use Rattle.track_order.specs.Order.{EdgeOrder}
 use Rattle.refute_log.specs.Lines.{log_text, MayAllBeTold}
 use Rattle.refute_log.specs.Told.{Lines}
 use Rattle.station_make.specs.StationText.{station_text}
-use Rattle.schematic_main.specs.declared.fault.RunFault.{RunFault}
-use Rattle.schematic_main.specs.declared.status.Status.{Status}
-use Rattle.schematic_main.specs.declared.status.Status.TheVariants.{Done, NoDrawing, Unfinished, Broken}
-use Rattle.schematic_main.specs.Input.{IsShort, HasStation, HasFileFault, IsStationOf}
-use Rattle.schematic_main.specs.Verdict.{IsSoundSheet}
-use Rattle.schematic_main.specs.Met.{Met}
-use Rattle.schematic_main.specs.Answer.{InputFile, text_input, log_input, IsPrinted, IsFileJudged, IsVerified, IsAnswerAfter, IsAnswerOn}
-use Rattle.schematic_main.specs.SearchLog.{IsLogOf}
-use Rattle.schematic_main.specs.Drawn.{Job, job, IsDrawAnswer, HasBegunPicture, DrawMayLeave}
-use Rattle.schematic_main.specs.Tried.{IsMade, IsTried}
-use Rattle.schematic_main.specs.Checked.{IsChecked}
+use Rattle.input_answer.specs.declared.fault.RunFault.{RunFault}
+use Rattle.input_answer.specs.declared.status.Status.{Status}
+use Rattle.input_answer.specs.declared.status.Status.TheVariants.{Done, NoDrawing, Unfinished, Broken}
+use Rattle.input_answer.specs.Input.{IsShort, HasStation, HasSomeStation, HasFileFault}
+use Rattle.sheet_answer.specs.Verdict.{IsSoundSheet}
+use Rattle.input_answer.specs.Met.{Met}
+use Rattle.input_answer.specs.Answer.{InputFile, text_input, log_input, IsPrinted, IsFileJudged, IsAnswerAfter, IsAnswerOn, HasReadStation}
+use Rattle.sheet_answer.specs.Verdict.{IsVerified}
+use Rattle.draw_answer.specs.SearchLog.{IsLogOf}
+use Rattle.draw_answer.specs.Written.{file_named}
+use Rattle.draw_answer.specs.Drawn.{job, IsDrawAnswer, IsLeftByDraw}
+use Rattle.draw_answer.specs.Tried.{IsMade, IsTried}
+use Rattle.sheet_answer.specs.Checked.{IsChecked}
 
 -- ---- what it reads and writes
 
@@ -34,11 +36,6 @@ inputs_of (Check input sheet log) = text_input 1 input ∷ text_input 2 sheet �
 inputs_of (Make n) = []
 inputs_of (Trial n) = []
 
--- the file that is named, where one is
-abbrev pub file_named : Option (List ℕ) → List (List ℕ)
-file_named None = []
-file_named (Some name) = name ∷ []
-
 -- the names of the files that a command writes, in this order
 abbrev pub outputs_of : Command → List (List ℕ)
 outputs_of (Draw input grid order budget svg log) = file_named log ++ file_named svg
@@ -47,10 +44,6 @@ outputs_of (Verify input sheet) = []
 outputs_of (Check input sheet log) = []
 outputs_of (Make n) = []
 outputs_of (Trial n) = []
-
--- no two of the files have one name
-abbrev pub AreFilesApart : (names : List (List ℕ)) → Type 0
-AreFilesApart names = AllPairs (λ a b. a ≢ b) names
 
 -- a command tells the lines of a search to the trace: draw, where no file is named for them, and trial
 abbrev pub TellsTrace : Command → Type 0
@@ -61,18 +54,28 @@ TellsTrace (Check input sheet log) = ⊥
 TellsTrace (Make n) = ⊥
 TellsTrace (Trial n) = ⊤
 
--- ---- what it leaves
+-- a command has something to search: draw where it read its file and that has a station, trial where its made file has one
+abbrev pub MaySearch : Command → Met → Type 0
+MaySearch (Draw input grid order budget svg log) met = HasReadStation input met
+MaySearch (PrintGraph input) met = ⊥
+MaySearch (Verify input sheet) met = ⊥
+MaySearch (Check input sheet log) met = ⊥
+MaySearch (Make n) met = ⊥
+MaySearch (Trial n) met = HasSomeStation (station_text n)
 
--- a search of the station in the file of this name ended with a drawing, its lines were told where the words say, and the
--- bytes begin the picture of that drawing
-abbrev pub IsBegunPicture : (input : List ℕ) → Job → Met → (traced : Lines → Type 0) → (bytes : List ℕ) → Type 0
-IsBegunPicture input asked met traced bytes =
-    (g : Graph) × (o : EdgeOrder) × IsStationOf input met.before.contents g o × HasBegunPicture g o asked (IsLogOf asked.log met traced) bytes
+-- it may write a file, with what the run met; it may tell the trace
+abbrev pub MayWrite : Command → Met → Type 0
+MayWrite command met = (outputs_of command ≢ []) × MaySearch command met
+
+abbrev pub MayTell : Command → Met → Type 0
+MayTell command met = TellsTrace command × MaySearch command met
+
+-- ---- what it leaves
 
 -- with every status that isn't a refusal, the bytes with which a command may leave the file of a name
 abbrev pub MayLeave : Command → Met → (traced : Lines → Type 0) → (name bytes : List ℕ) → Type 0
 MayLeave (Draw input grid order budget svg log) met traced name bytes =
-    DrawMayLeave (job grid order budget svg log) (IsBegunPicture input (job grid order budget svg log) met traced) name bytes
+    IsLeftByDraw input (job grid order budget svg log) met traced name bytes
 MayLeave (PrintGraph input) met traced name bytes = ⊥
 MayLeave (Verify input sheet) met traced name bytes = ⊥
 MayLeave (Check input sheet log) met traced name bytes = ⊥

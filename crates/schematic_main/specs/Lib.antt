@@ -1,17 +1,2 @@
-pub mod Status
-pub mod Met
-pub mod Fault
-pub mod Input
-pub mod Verdict
-pub mod Answer
-pub mod SearchLog
-pub mod CheckLine
-pub mod Checked
-pub mod Pictured
-pub mod Drawn
-pub mod Tried
 pub mod Commands
 pub mod Run
-pub mod Reading
-pub mod Reply
-pub mod CertifiedSheet

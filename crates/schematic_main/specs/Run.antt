@@ -1,19 +1,24 @@
 -- What a run owes, by its words: what their command owes, or the line of their fault.
-use Rattle.std.specs.Prelude.{◌≡◌, ◌≢◌, ℕ, ◌<◌, ◌⊎◌, List, [], length}
+use Rattle.std.specs.Prelude.{◌≡◌, ◌≢◌, ℕ, ◌<◌, ◌⊎◌, List, [], length, Some}
 use Rattle.std.specs.declared.option.Option.{Option}
 use Rattle.std.specs.Io.KnownBytes.{Appends, Keeps}
+use Rattle.outside_io.specs.Contents.{Told}
 use Rattle.outside_io.specs.Counts.{Rose}
 use Rattle.outside_io.specs.Given.{AppendsPrefix}
+use Rattle.plan_core.specs.declared.limits.TheConstants.{MAX_LOG_BYTES}
 use Rattle.plan_words.specs.declared.command.Command.{Command}
 use Rattle.plan_words.specs.declared.fault.WordWhat.{WordWhat}
 use Rattle.plan_words.specs.WordFaults.{IsFaultOfWords}
 use Rattle.plan_words.specs.Words.{IsCommandOf}
 use Rattle.refute_log.specs.Told.{Lines}
-use Rattle.schematic_main.specs.declared.fault.RunFault.TheVariants.{Words}
-use Rattle.schematic_main.specs.declared.status.Status.{Status}
-use Rattle.schematic_main.specs.Fault.{IsFaultLine}
-use Rattle.schematic_main.specs.Met.{Met, ReadFails}
-use Rattle.schematic_main.specs.Commands.{inputs_of, outputs_of, TellsTrace, MayLeave, Owes}
+use Rattle.input_answer.specs.declared.fault.RunFault.TheVariants.{Words}
+use Rattle.input_answer.specs.declared.status.Status.{Status}
+use Rattle.input_answer.specs.declared.status.Status.TheVariants.{NoMemory}
+use Rattle.input_answer.specs.Fault.{IsFaultLine}
+use Rattle.input_answer.specs.Input.{IsShort}
+use Rattle.input_answer.specs.Met.{Met, ReadFails}
+use Rattle.draw_answer.specs.Written.{FailsToWrite}
+use Rattle.schematic_main.specs.Commands.{inputs_of, outputs_of, TellsTrace, MayWrite, MayTell, MayLeave, Owes, AreSound, ends_of}
 
 -- the words ask for a command of which this holds
 abbrev pub Asks : List (List ℕ) → (Command → Type 0) → Type 0
@@ -33,6 +38,10 @@ pub record IsWordsAnswer (words : List (List ℕ)) (status : Status) (text : Lis
 -- this is due where the words ask for it, the run met this, and the trace was told this
 abbrev pub IsAnswerDue : List (List ℕ) → Met → (traced : Lines → Type 0) → Status → List ℕ → Type 0
 IsAnswerDue words met traced status text = Asks words (λ command. Owes command met traced status text) ⊎ IsWordsAnswer words status text
+
+-- this is a text that the run may answer, with some status
+abbrev pub IsSomeAnswerDue : List (List ℕ) → Met → (traced : Lines → Type 0) → List ℕ → Type 0
+IsSomeAnswerDue words met traced text = (status : Status) × IsAnswerDue words met traced status text
 
 -- a whole text with this property was given
 abbrev pub GivenAll : Option (List ℕ) → Option (List ℕ) → (List ℕ → Type 0) → Type 0
@@ -54,20 +63,14 @@ FailsIn command met = (done : ℕ) × (done < length (inputs_of command)) × Rea
 
 -- ---- what it wrote
 
--- the words ask for no command that writes a file
-abbrev pub WritesNothing : List (List ℕ) → Type 0
-WritesNothing words = WhereAsked words (λ command. outputs_of command ≡ [])
+-- the words ask for no command that may write a file, with what the run met
+abbrev pub WritesNothing : List (List ℕ) → Met → Type 0
+WritesNothing words met = WhereAsked words (λ command. MayWrite command met → ⊥)
 
 -- the bytes with which a run may leave the file of a name: so may the command that the words ask for, and the run isn't
 -- refused
 abbrev pub RunMayLeave : List (List ℕ) → (Refused : Type 0) → Met → (traced : Lines → Type 0) → (name bytes : List ℕ) → Type 0
 RunMayLeave words Refused met traced name bytes = (Refused → ⊥) × Asks words (λ command. MayLeave command met traced name bytes)
-
--- the lines of a search, or a picture, couldn't be written: a write of the command's files failed, or the trace did, where
--- the lines go to it
-abbrev pub FailsToWrite : (outputs : List (List ℕ)) → (ToTrace : Type 0) → Met → (trace_rose : Type 0) → Type 0
-FailsToWrite outputs ToTrace met trace_rose =
-    ((outputs ≢ []) × Rose met.before.write_faults met.after.write_faults) ⊎ (ToTrace × trace_rose)
 
 -- the command couldn't write what it was to write
 abbrev pub CommandFailsToWrite : Command → Met → (trace_rose : Type 0) → Type 0
@@ -77,6 +80,29 @@ CommandFailsToWrite command met trace_rose = FailsToWrite (outputs_of command) (
 abbrev pub WriteFails : List (List ℕ) → Met → (put_rose trace_rose : Type 0) → Type 0
 WriteFails words met put_rose trace_rose = put_rose ⊎ Asks words (λ command. CommandFailsToWrite command met trace_rose)
 
--- the words ask for no command that tells a search to the trace
-abbrev pub TellsNothing : List (List ℕ) → Type 0
-TellsNothing words = WhereAsked words (λ command. TellsTrace command → ⊥)
+-- where nothing is wrong with the inputs of the command that the words ask for, and no read and no write failed, the run
+-- ends as its command does, or memory was wanting
+abbrev pub Completes : List (List ℕ) → Met → (put_rose trace_rose : Type 0) → Status → Type 0
+Completes words met put_rose trace_rose status = WhereAsked words (λ command.
+    AreSound command met.before.contents → (FailsIn command met → ⊥) → (WriteFails words met put_rose trace_rose → ⊥) →
+    ends_of command status ⊎ (status ≡ NoMemory))
+
+-- the words ask for no command that may tell a search to the trace, with what the run met
+abbrev pub TellsNothing : List (List ℕ) → Met → Type 0
+TellsNothing words met = WhereAsked words (λ command. MayTell command met → ⊥)
+
+-- ---- a run of check on what a run of draw left
+
+-- the later run finds the file that the earlier one read, the text that it put under the name of the sheet, and the log as
+-- it left it, which isn't too long to be read
+pub record IsCheckOfDrawn (met next : Met) (input sheet log text : List ℕ) : Type 0 where
+  pub before : Told
+  pub after : Told
+  pub now : Told
+  pub is_before : met.before.contents ≡ Some before
+  pub is_after : met.after.contents ≡ Some after
+  pub is_now : next.before.contents ≡ Some now
+  pub same_input : now input ≡ before input
+  pub is_sheet : now sheet ≡ Some text
+  pub same_log : now log ≡ after log
+  pub short : (bytes : List ℕ) → now log ≡ Some bytes → IsShort MAX_LOG_BYTES bytes

@@ -61,20 +61,6 @@ pub fn answer_to(alloc: Global, words: &[&str], named: &[(&str, &[u8])]) -> Resu
 }
 
 impl Answer {
-    /// What a case shows and what answered it.
-    pub fn wrong(&self, shows: &str) -> Fail {
-        Fail::new(format_args!("{shows}: {} {}", self.status, self.text))
-    }
-
-    /// Fails where the run wasn't answered with this status and this text.
-    pub fn is(&self, shows: &str, status: u8, text: &str) -> Result<(), Fail> {
-        if self.status == status && self.text.as_str() == text {
-            Ok(())
-        } else {
-            Err(self.wrong(shows))
-        }
-    }
-
     /// The text of a file that the run left; none where the file isn't there.
     pub fn file(&self, name: &str) -> Result<Option<&str>, Fail> {
         match self.files.get(name) {
@@ -82,37 +68,4 @@ impl Answer {
             None => Ok(None),
         }
     }
-
-    /// Whether the run left a file of this name.
-    pub fn has(&self, name: &str) -> bool {
-        self.files.get(name).is_some()
-    }
-}
-
-/// The words of a run, the text of the file `one.xml`, and the status and the text that answer the run. The file `-` is
-/// empty, and no other is there.
-pub type Row = (&'static [&'static str], &'static str, u8, &'static str);
-
-/// Fails at the first run that isn't answered as its row says.
-pub fn all_are_answered(alloc: Global, rows: &[Row]) -> Result<(), Fail> {
-    for (words, file, status, text) in rows {
-        let named: [(&str, &[u8]); 2] = [("one.xml", file.as_bytes()), ("-", b"")];
-        let answer = answer_to(alloc, words, &named)?;
-        if answer.status != *status || answer.text.as_str() != *text {
-            let shows = format!(in alloc; "{words:?} {file}")?;
-            return Err(answer.wrong(&shows));
-        }
-    }
-    Ok(())
-}
-
-/// A text with edits in turn. Each puts its second text in the place where its first one stands first.
-pub fn edited(alloc: Global, text: &str, edits: &[(&str, &str)]) -> Result<String, Fail> {
-    let mut text = String::from_str(alloc, text)?;
-    for (old, new) in edits {
-        let (front, back) = text.split_once(*old).ok_or("the text stands in the file")?;
-        let next = format!(in alloc; "{front}{new}{back}")?;
-        text = next;
-    }
-    Ok(text)
 }

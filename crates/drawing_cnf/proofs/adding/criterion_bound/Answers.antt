@@ -28,6 +28,16 @@ returns-clause-kept c = c.add_kept-outcome.ensures.adds.room
 pub returns-clause-full : goal.returns-clause-full
 returns-clause-full c = c.add_kept-outcome.ensures.adds.passes
 
+pub returns-clause-list_words : goal.returns-clause-list_words
+returns-clause-list_words c = λ some.
+    let e = c.args.e.now in
+    bound_words e.graph (encoded_vars e) e.grid e.formula.vars c.args.cap c.args.c some
+
+pub returns-clause-list_vars : goal.returns-clause-list_vars
+returns-clause-list_vars c = λ some.
+    let e = c.args.e.now in
+    bound_variables e.graph (encoded_vars e) e.grid e.formula.vars c.args.cap c.args.c some
+
 pub returns-clause-words_bounded : goal.returns-clause-words_bounded
 returns-clause-words_bounded c = λ some.
     let e = c.args.e.now in

@@ -1,5 +1,6 @@
 use Rattle.track_order.specs.Order.{is_above, is_overlap}
 use Rattle.drawing_cnf.proofs.MainLemmas.{formula_sound, formula_covers, order_tables, few_variables}
+use Rattle.drawing_cnf.proofs.JoinedLemmas.{least_one}
 use Rattle.drawing_cnf.proofs.FormulaWords.{formula_words, formula_variables}
 use Rattle.drawing_cnf.proofs.WholeLemmas.{whole_made}
 use Rattle.drawing_cnf.proofs.encoded.encode.Goals as goal
@@ -26,6 +27,9 @@ returns-clause-words_bounded c =
 
 pub returns-clause-vars_bounded : goal.returns-clause-vars_bounded
 returns-clause-vars_bounded c = formula_variables c.args.g.now (is_above c.args.t.now) (is_overlap c.args.t.now) c.args.grid.now
+
+pub returns-clause-least_1 : goal.returns-clause-least_1
+returns-clause-least_1 c = λ one. least_one c.args.g.now (is_above c.args.t.now) (is_overlap c.args.t.now) c.args.grid.now one
 
 pub returns-clause-whole : goal.returns-clause-whole
 returns-clause-whole c =

@@ -4,7 +4,7 @@ use Rattle.lex_search.specs.Asked.{IsReply}
 use Rattle.drawing_problem.specs.Layout.{layout_of}
 use Rattle.lex_minimise.specs.Known.{KnowsLines}
 use Rattle.lex_minimise.specs.Task.{task_of}
-use Rattle.lex_minimise.specs.Told.{GoesOn}
+use Rattle.refute_log.specs.Steps.{GoesOn}
 use Rattle.lex_minimise.specs.Asking.{TellsAnswer}
 use Rattle.lex_minimise.proofs.TellLemmas.{goes_weaker}
 use Rattle.lex_minimise.proofs.QueryLemmas.{reply_lines}

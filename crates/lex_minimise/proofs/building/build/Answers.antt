@@ -1,16 +1,17 @@
-use Rattle.std.proofs.Common.{◌+◌, ◌-◌, ◌++◌, ◌∷◌, [], List, length, refl, sym, ◌∙◌, ap, subst, arith}
+use Rattle.std.proofs.Common.{◌≡◌, ◌+◌, ◌-◌, ◌++◌, ◌∷◌, [], List, length, refl, sym, ◌∙◌, ap, subst, arith}
 use Rattle.cnf_core.specs.Clause.{words_of}
 use Rattle.cnf_core.specs.Formula.{Cnf}
 use Rattle.drawing_cnf.specs.Bounded.{Bound, bound}
-use Rattle.drawing_cnf.specs.Encoding.{Encoding}
-use Rattle.lex_search.specs.declared.oracle.Built.TheVariants.{NoRoom}
+use Rattle.drawing_cnf.specs.Encoding.{Encoding, encoded_vars}
+use Rattle.drawing_problem.specs.Lists.{lines_of_bound}
+use Rattle.lex_search.specs.declared.oracle.Built.TheVariants.{NoRoom, Whole}
 use Rattle.lex_search.specs.Built.{IsBuild}
 use Rattle.drawing_problem.specs.Layout.{layout_of}
 use Rattle.lex_minimise.specs.Known.{KnowsLines, IsReady}
 use Rattle.lex_minimise.specs.Task.{task_of}
-use Rattle.lex_minimise.specs.Told.{GoesOn}
+use Rattle.refute_log.specs.Steps.{GoesOn}
 use Rattle.lex_minimise.specs.Grown.{clauses_behind, PassesWith}
-use Rattle.lex_minimise.proofs.GrownLemmas.{some_grown, none_grown, grown_words, grown_rest, is_grown, no_room, grown_as, goes_as, built_whole, build_goes}
+use Rattle.lex_minimise.proofs.GrownLemmas.{some_grown, none_grown, grown_words, grown_rest, is_grown, no_room, grown_as, goes_as, goes_to, built_whole, build_goes}
 use Rattle.lex_minimise.proofs.RoomLemmas.{formula_passes, solver_passes, none_goes}
 use Rattle.lex_minimise.proofs.building.build.Goals as goal
 
@@ -39,12 +40,15 @@ returns-then-not-has_room-clause-lines g c =
     let all = grown_words k.encoded m.encoded b grown.1 in
     let same = ap (λ n. words_of (clauses_behind k.encoded (bound c.args.c n c.args.cap))) c.requires.ready.vars in
     let full = no_room c.has_room.result (s.words + (c.words.result - c.words-words.result)) m.room c.has_room.ensures c.if-not-has_room.true in
-    let room = c.in_ok-bounds_for.ensures.room in
-    subst (λ (ts : List Bound). GoesOn (KnowsLines y k.told.items k.budget k.room s) (KnowsLines y ts k.budget k.room s) (l.tells c.args.log.now) (l.tells c.args.log.now) (l.learnt c.args.log.now) (l.learnt c.args.log.now)
+    let o = c.in_ok-bounds_for.ensures in
+    let room = o.room in
+    goes_to y (layout_of m.encoded) m.told.items k.budget m.budget k.room m.room s (KnowsLines y k.told.items k.budget k.room s) (l.tells c.args.log.now) (l.tells c.args.log.now) (l.learnt c.args.log.now) (l.learnt c.args.log.now)
+    (λ lines more. IsBuild (task_of y k.budget k.room) s.vars c.args.c c.args.cap NoRoom lines more) o.layout o.budget o.room
+    (subst (λ (ts : List Bound). GoesOn (KnowsLines y k.told.items k.budget k.room s) (KnowsLines y ts k.budget k.room s) (l.tells c.args.log.now) (l.tells c.args.log.now) (l.learnt c.args.log.now) (l.learnt c.args.log.now)
     (λ lines more. IsBuild (task_of y k.budget k.room) s.vars c.args.c c.args.cap NoRoom lines more)) (sym c.in_ok-bounds_for.ensures.told)
     (none_goes k.encoded k.told.items k.budget k.room s (l.tells c.args.log.now) (l.learnt c.args.log.now) c.args.c c.args.cap
     (λ lines known. solver_passes k.encoded k.told.items k.budget k.room s c.args.c c.args.cap (words_of (clauses_behind k.encoded (bound c.args.c s.vars c.args.cap))) lines c.requires.positive c.requires.ready known refl
-    (omega (arith, now, before, all, same, full, room))))
+    (omega (arith, now, before, all, same, full, room)))))
 
 pub tell_criterion-requires-clause-grown : goal.tell_criterion-requires-clause-grown
 tell_criterion-requires-clause-grown g c =
@@ -78,10 +82,14 @@ returns-in-None-clause-lines g c =
     let y = layout_of k.encoded in
     let b = bound c.args.c k.encoded.formula.vars c.args.cap in
     let full = none_grown c.in_ok-bounds_for.field-0 b (PassesWith k.encoded b) k.encoded c.bounds_for.new.known.encoded c.in-None.is c.in_ok-bounds_for.ensures.bounds in
-    subst (λ (ts : List Bound). GoesOn (KnowsLines y k.told.items k.budget k.room s) (KnowsLines y ts k.budget k.room s) (l.tells c.args.log.now) (l.tells c.args.log.now) (l.learnt c.args.log.now) (l.learnt c.args.log.now)
+    let m = c.bounds_for.new.known in
+    let o = c.in_ok-bounds_for.ensures in
+    goes_to y (layout_of m.encoded) m.told.items k.budget m.budget k.room m.room s (KnowsLines y k.told.items k.budget k.room s) (l.tells c.args.log.now) (l.tells c.args.log.now) (l.learnt c.args.log.now) (l.learnt c.args.log.now)
+    (λ lines more. IsBuild (task_of y k.budget k.room) s.vars c.args.c c.args.cap NoRoom lines more) o.layout o.budget o.room
+    (subst (λ (ts : List Bound). GoesOn (KnowsLines y k.told.items k.budget k.room s) (KnowsLines y ts k.budget k.room s) (l.tells c.args.log.now) (l.tells c.args.log.now) (l.learnt c.args.log.now) (l.learnt c.args.log.now)
     (λ lines more. IsBuild (task_of y k.budget k.room) s.vars c.args.c c.args.cap NoRoom lines more)) (sym c.in_ok-bounds_for.ensures.told)
     (none_goes k.encoded k.told.items k.budget k.room s (l.tells c.args.log.now) (l.learnt c.args.log.now) c.args.c c.args.cap
-    (λ lines known. formula_passes k.encoded k.told.items k.budget k.room s c.args.c c.args.cap lines c.requires.positive c.requires.ready known full))
+    (λ lines known. formula_passes k.encoded k.told.items k.budget k.room s c.args.c c.args.cap lines c.requires.positive c.requires.ready known full)))
 
 pub returns-in_ok-tell_criterion-in-Some-clause-built : goal.returns-in_ok-tell_criterion-in-Some-clause-built
 returns-in_ok-tell_criterion-in-Some-clause-built g c =
@@ -107,7 +115,13 @@ returns-in_ok-tell_criterion-in-Some-clause-lines g c =
     let o = c.in_ok-bounds_for.ensures in
     let b = bound c.args.c k.encoded.formula.vars c.args.cap in
     let grown = some_grown c.in_ok-bounds_for.field-0 c.in-Some.bounds b (PassesWith k.encoded b) k.encoded m.encoded c.in-Some.is o.bounds in
-    build_goes k.encoded m.encoded k.told.items n.told.items k.budget k.room s new c.args.c c.args.cap (l.tells c.args.log.now) (l.tells c.tell_criterion.new.log) (l.learnt c.args.log.now) (l.learnt c.tell_criterion.new.log)
+    let t = c.in_ok-tell_criterion-in-Some.ensures in
+    let y = layout_of k.encoded in
+    goes_to y (layout_of n.encoded) n.told.items k.budget n.budget k.room n.room new (KnowsLines y k.told.items k.budget k.room s) (l.tells c.args.log.now) (l.tells c.tell_criterion.new.log) (l.learnt c.args.log.now) (l.learnt c.tell_criterion.new.log)
+    (λ lines more. IsBuild (task_of y k.budget k.room) s.vars c.args.c c.args.cap Whole lines more) (ap layout_of t.encoded ∙ o.layout) (t.budget ∙ o.budget) (t.room ∙ o.room)
+    (build_goes k.encoded m.encoded k.told.items n.told.items k.budget k.room s new c.args.c c.args.cap (l.tells c.args.log.now) (l.tells c.tell_criterion.new.log) (l.learnt c.args.log.now) (l.learnt c.tell_criterion.new.log)
     c.requires.positive c.requires.ready grown.1
     (goes_as m.encoded k.told.items m.told.items n.told.items k.budget m.budget k.room m.room b c.in-Some.bounds s new (l.tells c.args.log.now) (l.tells c.tell_criterion.new.log) (l.learnt c.args.log.now) (l.learnt c.tell_criterion.new.log)
-    o.told o.budget o.room grown.0 c.in_ok-tell_criterion-in-Some.ensures.lines)
+    o.told o.budget o.room grown.0
+    (goes_to (layout_of n.encoded) (layout_of m.encoded) n.told.items n.budget m.budget n.room m.room new (KnowsLines (layout_of m.encoded) m.told.items m.budget m.room s) (l.tells c.args.log.now) (l.tells c.tell_criterion.new.log) (l.learnt c.args.log.now) (l.learnt c.tell_criterion.new.log)
+    (λ lines more. more ≡ lines_of_bound m.encoded.graph (encoded_vars m.encoded) m.encoded.grid c.in-Some.bounds) (ap layout_of (sym t.encoded)) (sym t.budget) (sym t.room) t.lines)))

@@ -11,7 +11,8 @@ use Rattle.drawing_cnf.specs.Encoding.{encoded_vars}
 use Rattle.drawing_problem.specs.Lists.{lines_of_bound}
 use Rattle.drawing_problem.specs.Layout.{layout_of}
 use Rattle.lex_minimise.specs.Known.{KnowsLines, IsReady}
-use Rattle.lex_minimise.specs.Told.{GoesOn, HasTaken}
+use Rattle.refute_log.specs.Steps.{GoesOn}
+use Rattle.lex_minimise.specs.Told.{HasTaken}
 use Rattle.lex_minimise.proofs.GrownLemmas.{grown_small, ready_grown, grown_goes}
 use Rattle.lex_minimise.proofs.building.tell_criterion.Goals as goal
 

@@ -2,7 +2,7 @@ use Rattle.std.proofs.Common.{None, Err, refl, ap, List, IfOk, sym, subst}
 use Rattle.drawing_cnf.specs.Bounded.{Bound}
 use Rattle.drawing_problem.specs.Layout.{Layout, layout, layout_of}
 use Rattle.lex_search.specs.declared.outcome.Outcome.TheVariants.{Room}
-use Rattle.lex_search.specs.Outcome.{IsRightOutcome, first_lines}
+use Rattle.lex_search.specs.Outcome.{IsOutcome, IsRightOutcome, first_lines}
 use Rattle.lex_minimise.specs.Known.{KnowsLines, IsReady}
 use Rattle.lex_minimise.specs.Task.{task_of}
 use Rattle.lex_minimise.proofs.StartLemmas.{no_room_end, nothing_told, layout_is, IsFirst, first_ready, first_knows, whole_told, if_ok_from}
@@ -14,7 +14,7 @@ returns-in-Err-Room-clause-lines g c =
     let y = layout c.args.g.now c.args.t.now c.args.grid.now in
     let budget = c.args.limits.now.budget in
     let room = c.args.limits.now.room in
-    nothing_told c.args.solver.now room (k.learnt c.args.log.now) (task_of y budget room) c.args.wanted.now (Room None 0) (k.tells c.args.log.now) c.requires.new (no_room_end y budget room c.args.wanted.now (c.in-Err-Room.ensures.full (ap Err c.in-Err-Room.field-0-is)))
+    nothing_told c.args.solver.now room (k.learnt c.args.log.now) (IsOutcome (task_of y budget room) c.args.wanted.now (Room None 0)) (k.tells c.args.log.now) c.requires.new (no_room_end y budget room c.args.wanted.now (c.in-Err-Room.ensures.full (ap Err c.in-Err-Room.field-0-is)))
 
 pub search_from-requires-clause-ready : goal.search_from-requires-clause-ready
 search_from-requires-clause-ready g c =
@@ -83,6 +83,6 @@ returns-clause-lines g c =
       covers = e.covers;
     } in
     if_ok_from c.search_from.result _ _ c.search_from.ensures.lines
-    (λ o second. whole_told y budget room c.in-Ok.encoded c.formula.result.now c.args.wanted.now o c.args.solver.now c.add_clauses.new.solver c.search_from.new.solver
+    (λ o second. whole_told y budget room c.in-Ok.encoded c.formula.result.now (λ z lines. IsOutcome (task_of z budget room) c.args.wanted.now o lines) c.args.solver.now c.add_clauses.new.solver c.search_from.new.solver
     (k.tells c.args.log.now) (k.tells c.add_clauses.new.log) (k.tells c.search_from.new.log) (k.learnt c.args.log.now) (k.learnt c.add_clauses.new.log) (k.learnt c.search_from.new.log)
     first c.formula.ensures c.requires.new c.in_ok-add_clauses.ensures.lines second)

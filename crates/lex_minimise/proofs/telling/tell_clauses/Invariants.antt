@@ -1,7 +1,8 @@
 use Rattle.std.proofs.Common.{◌≡◌, ◌≤◌, ◌-◌, take, drop, map}
 use Rattle.refute_log.specs.declared.line.LogLine.TheVariants.{Formula}
 use Rattle.cdcl_core.specs.Belongs.{Belongs}
-use Rattle.lex_minimise.specs.Told.{GoesOn, HasTaken}
+use Rattle.refute_log.specs.Steps.{GoesOn}
+use Rattle.lex_minimise.specs.Told.{HasTaken}
 use Rattle.lex_minimise.proofs.telling.tell_clauses.Given as goal
 
 abbrev pub invariant-loop-number : goal.invariant-loop-number

@@ -5,7 +5,7 @@ use Rattle.plan_core.proofs.LimitLemmas.{value-le-limit}
 use Rattle.std.specs.Prelude.{All, min}
 use Rattle.lex_search.specs.declared.oracle.Below.{Below}
 use Rattle.lex_search.specs.Asked.{IsWithinCap}
-use Rattle.lex_search.specs.Steps.{Continues}
+use Rattle.refute_log.specs.Steps.{Continues}
 use Rattle.lex_search.specs.Caps.{AllZero}
 use Rattle.lex_search.specs.State.{AreBefore, IsCapOf, SearchState, BoundedTo}
 use Rattle.lex_search.proofs.RunLemmas.{no_more}

@@ -5,7 +5,7 @@ use Rattle.certified_values.specs.Expected.{caps, sum_vars_of, with_cap}
 use Rattle.lex_search.specs.declared.oracle.Built.{Built}
 use Rattle.lex_search.specs.declared.oracle.Built.TheVariants.{Whole, NoRoom}
 use Rattle.lex_search.specs.Task.{Task, greatest_of}
-use Rattle.lex_search.specs.Steps.{Continues}
+use Rattle.refute_log.specs.Steps.{Continues}
 use Rattle.lex_search.specs.Built.{AreBuiltTo, IsBuild}
 use Rattle.lex_search.specs.State.{IsCapOf, Counted}
 use Rattle.lex_search.proofs.BuildLemmas.{counted_built, vars_same}

@@ -52,6 +52,7 @@ loop-value-preserved g c = let o = g.O.Oracle in
       lines = run_found_at o.knows o.log o.learnt c.args.oracle.now c.loop-value.oracle c.ask.new.self (o.task c.loop-value.oracle) (o.task c.args.oracle.now) c.args.order.now c.args.i c.args.held.now c.get-c.result c.loop-value.value
           c.args.best c.loop-value.best c.in-Found.d c.deref.result.now c.in_ok-d.field-0 c.loop-value.invariant.task
           (record { covers = g.met.O.Oracle.covers c.loop-value.oracle; derives = g.met.O.Oracle.derives c.loop-value.oracle })
+          (once_asked c.args.order.now c.args.i c.get-c.result c.loop-value.value c.args.held.now c.deref.result.now c.requires.order c.get-c.ensures c.requires.before (c.deref.ensures.value ∙ c.in_ok-bounds.ensures))
           bounds c.in-Found.is c.in_ok-d.ensures.right c.loop-value.invariant.lines c.in_ok-d.ensures.lines;
     }
 
@@ -68,12 +69,15 @@ pub returns-in-Refuted-clause-lines : goal.returns-in-Refuted-clause-lines
 returns-in-Refuted-clause-lines g c = let o = g.O.Oracle in
     run_refuted_at o.knows o.log o.learnt c.args.oracle.now c.loop-value.oracle c.ask.new.self (o.task c.loop-value.oracle) (o.task c.args.oracle.now) c.args.order.now c.args.i c.args.held.now c.get-c.result c.loop-value.value
     c.args.best c.loop-value.best c.deref.result.now c.in_ok-d.field-0 c.loop-value.invariant.task c.get-c.ensures c.loop-value.invariant.value
+    (once_asked c.args.order.now c.args.i c.get-c.result c.loop-value.value c.args.held.now c.deref.result.now c.requires.order c.get-c.ensures c.requires.before (c.deref.ensures.value ∙ c.in_ok-bounds.ensures))
     (c.deref.ensures.value ∙ c.in_ok-bounds.ensures) c.in-Refuted.is c.loop-value.invariant.lines c.in_ok-d.ensures.lines
 
 pub returns-in-Stopped-clause-lines : goal.returns-in-Stopped-clause-lines
 returns-in-Stopped-clause-lines g c = let o = g.O.Oracle in
     run_stopped_at o.knows o.log o.learnt c.args.oracle.now c.loop-value.oracle c.ask.new.self (o.task c.loop-value.oracle) (o.task c.args.oracle.now) c.args.order.now c.args.i c.args.held.now c.get-c.result c.loop-value.value
-    c.args.best c.loop-value.best c.deref.result.now c.in_ok-d.field-0 c.in-Stopped.stop c.loop-value.invariant.task c.get-c.ensures c.loop-value.invariant.value (omega arith) c.in-Stopped.is c.loop-value.invariant.lines c.in_ok-d.ensures.lines
+    c.args.best c.loop-value.best c.deref.result.now c.in_ok-d.field-0 c.in-Stopped.stop c.loop-value.invariant.task c.get-c.ensures c.loop-value.invariant.value (omega arith)
+    (once_asked c.args.order.now c.args.i c.get-c.result c.loop-value.value c.args.held.now c.deref.result.now c.requires.order c.get-c.ensures c.requires.before (c.deref.ensures.value ∙ c.in_ok-bounds.ensures))
+    c.in-Stopped.is c.loop-value.invariant.lines c.in_ok-d.ensures.lines
 
 pub returns-clause-lines : goal.returns-clause-lines
 returns-clause-lines g c = let o = g.O.Oracle in

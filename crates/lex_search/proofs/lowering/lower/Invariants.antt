@@ -1,7 +1,7 @@
 use Rattle.std.proofs.Common.{◌≡◌, ◌≤◌, ◌<◌, ◌⊎◌}
 use Rattle.plan_core.specs.Values.{values_of, value_of}
 use Rattle.lex_search.specs.Task.{IsLawful}
-use Rattle.lex_search.specs.Steps.{Continues}
+use Rattle.refute_log.specs.Steps.{Continues}
 use Rattle.lex_search.specs.Reached.{Run}
 use Rattle.lex_search.proofs.lowering.lower.Given as goal
 

@@ -1,12 +1,12 @@
 use Rattle.std.proofs.Common.{◌≡◌, ◌+◌, ◌++◌, [], refl, sym, ◌∙◌, subst, arith, List}
 use Rattle.std.specs.Prelude.{All, Option}
-use Rattle.lex_search.specs.declared.oracle.Stop.{Stop}
+use Rattle.certified_values.specs.declared.stop.Stop.{Stop}
 use Rattle.std.proofs.lemmas.List.Elements.{All-nil}
 use Rattle.certified_values.specs.Expected.{expected_vars}
 use Rattle.lex_search.specs.declared.oracle.Below.{Below}
 use Rattle.lex_search.specs.Task.{Task, IsLawful}
 use Rattle.lex_search.specs.Asked.{IsWithinCap}
-use Rattle.lex_search.specs.Steps.{Continues}
+use Rattle.refute_log.specs.Steps.{Continues}
 use Rattle.lex_search.specs.State.{Counted, SearchState, Advances}
 use Rattle.plan_core.proofs.OrderLemmas.{few_criteria}
 use Rattle.lex_search.proofs.BeforeLemmas.{no_bounds}

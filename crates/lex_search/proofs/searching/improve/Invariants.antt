@@ -1,7 +1,7 @@
 use Rattle.std.proofs.Common.{◌≡◌, ◌++◌, [], ◌≤◌}
 use Rattle.std.specs.Prelude.{All}
 use Rattle.lex_search.specs.Task.{IsLawful}
-use Rattle.lex_search.specs.Steps.{Continues}
+use Rattle.refute_log.specs.Steps.{Continues}
 use Rattle.lex_search.specs.Asked.{IsWithinCap}
 use Rattle.lex_search.specs.State.{AreBefore, Counted, SearchState}
 use Rattle.lex_search.proofs.searching.improve.Given as goal

@@ -1,6 +1,6 @@
 use Rattle.std.proofs.Common.{◌≡◌, ◌++◌}
 use Rattle.std.proofs.lemmas.Result.{IfOk-weaker}
-use Rattle.lex_search.specs.Steps.{ToldBehind, Continues}
+use Rattle.refute_log.specs.Steps.{ToldBehind, Continues}
 use Rattle.lex_search.specs.Outcome.{IsOutcome, IsRightOutcome, first_lines}
 use Rattle.lex_search.proofs.OutcomeLemmas.{right_run, tells_run}
 use Rattle.lex_search.proofs.searching.least_values.Goals as goal

@@ -2,7 +2,7 @@ use Rattle.std.proofs.Common.{◌≡◌, ◌++◌, [], refl, sym, ◌∙◌, ap,
 use Rattle.std.proofs.lemmas.Result.{IfOk-weaker}
 use Rattle.plan_core.specs.declared.criterion.Criterion.{Criterion}
 use Rattle.lex_search.specs.Task.{Task}
-use Rattle.lex_search.specs.Steps.{Continues}
+use Rattle.refute_log.specs.Steps.{Continues}
 use Rattle.lex_search.specs.State.{Counted, SearchState}
 use Rattle.lex_search.specs.Outcome.{IsOutcome, first_lines}
 use Rattle.lex_search.proofs.OutcomeLemmas.{zero_counted, fresh_still, first_found, first_refuted, first_stopped, laws_at}

@@ -5,4 +5,4 @@ use Rattle.model_decode.specs.Decoded.{IsReadAs}
 use Rattle.model_decode.proofs.decoding.places_of.Given as goal
 
 abbrev pub invariant-loop-n : goal.invariant-loop-n
-invariant-loop-n l = (d : Drawing) → IsReadAs l.e (assignment l.m) d → l.places.items ≡ take l.n d.places
+invariant-loop-n l = (d : Drawing) → IsReadAs l.g l.grid (assignment l.m) d → l.places.items ≡ take l.n d.places

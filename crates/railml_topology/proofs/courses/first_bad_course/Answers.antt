@@ -1,4 +1,4 @@
-use Rattle.railml_topology.proofs.SearchLemmas.{none_more_tested}
+use Rattle.plan_core.proofs.SearchLemmas.{none_more_tested}
 use Rattle.railml_topology.proofs.courses.first_bad_course.Goals as goal
 
 pub loop-i-preserved : goal.loop-i-preserved

@@ -1,5 +1,5 @@
 use Rattle.railml_topology.specs.Faults.{HasBadOrientation}
-use Rattle.railml_topology.specs.Searching.{NoneBefore}
+use Rattle.plan_core.specs.Searching.{NoneBefore}
 use Rattle.railml_topology.proofs.courses.first_bad_orientation.Given as goal
 
 abbrev pub invariant-loop-i : goal.invariant-loop-i

@@ -3,7 +3,7 @@ use Rattle.std.proofs.lemmas.Result.{IfOk-weaker}
 use Rattle.railml_topology.specs.declared.fault.TopologyWhat.{TopologyWhat}
 use Rattle.railml_topology.specs.declared.fault.TopologyWhat.TheVariants as kinds
 use Rattle.railml_topology.specs.Faults.{number_of, Repeats}
-use Rattle.railml_topology.specs.Searching.{FindsFirst}
+use Rattle.plan_core.specs.Searching.{FindsFirst}
 use Rattle.railml_topology.specs.Telling.{HasKind, HasNoneBelow}
 use Rattle.railml_topology.proofs.FaultLemmas.{of_this_kind, finds_bad_id, finds_bad_number, finds_course, finds_end_kind, finds_missing, finds_not_mutual, finds_orientation, finds_outside, finds_repeated, finds_self_ref, finds_too_many, finds_unknown_ref, ids_distinct}
 use Rattle.railml_topology.proofs.finding.first_with.Goals as goal

@@ -1,6 +1,6 @@
 use Rattle.railml_topology.specs.Ids.{own_id}
 use Rattle.railml_topology.proofs.IdLemmas.{keeps_more, repeats_again, repeats_none}
-use Rattle.railml_topology.proofs.SearchLemmas.{found_first, none_more}
+use Rattle.plan_core.proofs.SearchLemmas.{found_first, none_more}
 use Rattle.railml_topology.proofs.ids.first_repeated.Goals as goal
 
 pub returns-then-branch : goal.returns-then-branch

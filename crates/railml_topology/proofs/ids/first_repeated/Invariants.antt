@@ -1,6 +1,6 @@
 use Rattle.railml_topology.specs.Faults.{Repeats}
 use Rattle.railml_topology.specs.Ids.{own_id, KeepsIds}
-use Rattle.railml_topology.specs.Searching.{NoneBefore}
+use Rattle.plan_core.specs.Searching.{NoneBefore}
 use Rattle.railml_topology.proofs.ids.first_repeated.Given as goal
 
 abbrev pub invariant-loop-i : goal.invariant-loop-i

@@ -1,5 +1,5 @@
 use Rattle.railml_topology.proofs.IdLemmas.{row_at}
-use Rattle.railml_topology.proofs.SearchLemmas.{found_first, none_more_tested}
+use Rattle.plan_core.proofs.SearchLemmas.{found_first, none_more_tested}
 use Rattle.railml_topology.proofs.OutsideLemmas.{outside, outside_by}
 use Rattle.railml_topology.proofs.outside.first_outside.Goals as goal
 

@@ -1,4 +1,4 @@
-use Rattle.railml_topology.proofs.SearchLemmas.{none_more}
+use Rattle.plan_core.proofs.SearchLemmas.{none_more}
 use Rattle.railml_topology.proofs.parts.first_without_parts.Goals as goal
 
 pub loop-i-preserved : goal.loop-i-preserved

@@ -1,5 +1,5 @@
 use Rattle.std.proofs.Common.{None, get_or}
-use Rattle.railml_topology.proofs.SearchLemmas.{found_first, none_more_tested}
+use Rattle.plan_core.proofs.SearchLemmas.{found_first, none_more_tested}
 use Rattle.railml_topology.proofs.ReferenceLemmas.{target_at, not_answered, answered}
 use Rattle.railml_topology.proofs.references.first_not_mutual.Goals as goal
 

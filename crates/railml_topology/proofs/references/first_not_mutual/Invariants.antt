@@ -1,6 +1,6 @@
 use Rattle.std.proofs.Common.{ℕ, List}
 use Rattle.railml_topology.specs.Faults.{IsNotReferredBack}
-use Rattle.railml_topology.specs.Searching.{NoneBefore}
+use Rattle.plan_core.specs.Searching.{NoneBefore}
 use Rattle.railml_topology.proofs.references.first_not_mutual.Given as goal
 
 abbrev pub invariant-loop-i : goal.invariant-loop-i

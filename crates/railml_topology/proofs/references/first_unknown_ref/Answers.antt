@@ -1,5 +1,5 @@
 use Rattle.std.proofs.Common.{◌∙◌, sym, None, get_or}
-use Rattle.railml_topology.proofs.SearchLemmas.{found_first, none_more}
+use Rattle.plan_core.proofs.SearchLemmas.{found_first, none_more}
 use Rattle.railml_topology.proofs.ReferenceLemmas.{target_at, unknown, known}
 use Rattle.railml_topology.proofs.references.first_unknown_ref.Goals as goal
 

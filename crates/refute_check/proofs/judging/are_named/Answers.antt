@@ -1,5 +1,5 @@
 use Rattle.std.proofs.Common.{◌≤◌, arith}
-use Rattle.refute_check.proofs.JudgeLemmas.{all_more_at, all_end}
+use Rattle.refute_log.proofs.AmongLemmas.{all_more_at, all_end}
 use Rattle.refute_check.proofs.judging.are_named.Goals as goal
 
 pub loop-l-preserved : goal.loop-l-preserved

@@ -2,7 +2,7 @@ use Rattle.std.proofs.Common.{◌≡◌, ◌∙◌, sym, ap, true, false}
 use Rattle.std.specs.Prelude.{Contains}
 use Rattle.cnf_core.specs.Lit.{negate, has}
 use Rattle.cnf_core.proofs.PropagationLemmas.{contains_from_has}
-use Rattle.refute_check.proofs.JudgeLemmas.{all_more_at, all_not_at, all_end, lacks_not}
+use Rattle.refute_log.proofs.AmongLemmas.{all_more_at, all_not_at, all_end, lacks_not}
 use Rattle.refute_check.proofs.judging.are_negated.Goals as goal
 
 pub loop-l-preserved : goal.loop-l-preserved

@@ -1,45 +1,60 @@
-use Rattle.std.proofs.Common.{sym, subst}
+use Rattle.std.proofs.Common.{◌≡◌, ◌⊎◌, sym, subst}
 use Rattle.std.specs.Prelude.{IfOk, IsOkAnd}
 use Rattle.outside_io.specs.Contents.{WhereTold}
 use Rattle.plan_words.specs.declared.command.Command.{Command}
 use Rattle.refute_log.specs.ToldTo.{told_to}
-use Rattle.schematic_main.specs.Status.{IsRefused}
-use Rattle.schematic_main.specs.Met.{met_on, Leaves}
-use Rattle.schematic_main.specs.Commands.{MayLeave, Owes}
-use Rattle.schematic_main.proofs.LeavesLemmas.{leaves_same}
+use Rattle.input_answer.specs.Status.{IsRefused}
+use Rattle.input_answer.specs.Met.{between, IsUnwritten, Leaves}
+use Rattle.schematic_main.specs.Commands.{MayWrite, MayTell, MayLeave, Owes}
+use Rattle.draw_answer.proofs.LeavesLemmas.{leaves_same, left_alone}
 use Rattle.schematic_main.proofs.answers.answer_to.Goals as goal
 
 pub returns-in-Draw-clause-answer : goal.returns-in-Draw-clause-answer
 returns-in-Draw-clause-answer g c =
-    let met = met_on {Self = g.row.F.Denot} g.F.Files.contents g.F.Files.read_faults g.F.Files.write_faults g.F.Files.reads c.args.files.now c.draw.new.files in
+    let met = between (g.F.Files.at c.args.files.now) (g.F.Files.at c.draw.new.files) in
     let traced = told_to {Self = g.row.T.Denot} g.T.LogSink.tells g.T.LogSink.learnt c.args.trace.now c.draw.new.trace in
     subst (λ (command : Command). IfOk c.draw.result (λ r. Owes command met traced r.status r.text.items)) (sym c.in-Draw.is) c.draw.ensures.answer
 
 pub returns-in-Draw-clause-leaves : goal.returns-in-Draw-clause-leaves
 returns-in-Draw-clause-leaves g c =
-    let old = g.F.Files.contents c.args.files.now in
-    let new = g.F.Files.contents c.draw.new.files in
-    let met = met_on {Self = g.row.F.Denot} g.F.Files.contents g.F.Files.read_faults g.F.Files.write_faults g.F.Files.reads c.args.files.now c.draw.new.files in
+    let old = (g.F.Files.at c.args.files.now).contents in
+    let new = (g.F.Files.at c.draw.new.files).contents in
+    let met = between (g.F.Files.at c.args.files.now) (g.F.Files.at c.draw.new.files) in
     let traced = told_to {Self = g.row.T.Denot} g.T.LogSink.tells g.T.LogSink.learnt c.args.trace.now c.draw.new.trace in
     let Refused : Type 0 = IsOkAnd c.draw.result (λ r. IsRefused r.status) in
     subst (λ (command : Command). WhereTold old new (Leaves (λ name bytes. (Refused → ⊥) × MayLeave command met traced name bytes))) (sym c.in-Draw.is) c.draw.ensures.leaves
 
+pub returns-in-Draw-clause-unwritten : goal.returns-in-Draw-clause-unwritten
+returns-in-Draw-clause-unwritten g c =
+    let met = between (g.F.Files.at c.args.files.now) (g.F.Files.at c.draw.new.files) in
+    let Refused : Type 0 = IsOkAnd c.draw.result (λ r. IsRefused r.status) in
+    subst (λ (command : Command). Refused ⊎ (MayWrite command met → ⊥) → IsUnwritten met) (sym c.in-Draw.is) c.draw.ensures.unwritten
+
+pub returns-in-Draw-clause-untold : goal.returns-in-Draw-clause-untold
+returns-in-Draw-clause-untold g c =
+    let met = between (g.F.Files.at c.args.files.now) (g.F.Files.at c.draw.new.files) in
+    let Refused : Type 0 = IsOkAnd c.draw.result (λ r. IsRefused r.status) in
+    subst (λ (command : Command). Refused ⊎ (MayTell command met → ⊥) → c.draw.new.trace ≡ c.args.trace.now) (sym c.in-Draw.is) c.draw.ensures.untold
+
 pub returns-in_ok-verify-in-Verify-clause-answer : goal.returns-in_ok-verify-in-Verify-clause-answer
 returns-in_ok-verify-in-Verify-clause-answer g c =
-    let met = met_on {Self = g.row.F.Denot} g.F.Files.contents g.F.Files.read_faults g.F.Files.write_faults g.F.Files.reads c.args.files.now c.verify.new.files in
+    let met = between (g.F.Files.at c.args.files.now) (g.F.Files.at c.verify.new.files) in
     let traced = told_to {Self = g.row.T.Denot} g.T.LogSink.tells g.T.LogSink.learnt c.args.trace.now c.args.trace.now in
     let reply = c.in_ok-verify-in-Verify.field-0 in
     subst (λ (command : Command). Owes command met traced reply.status reply.text.items) (sym c.in-Verify.is) c.in_ok-verify-in-Verify.ensures.answer
 
 pub returns-in_ok-verify-in-Verify-clause-leaves : goal.returns-in_ok-verify-in-Verify-clause-leaves
-returns-in_ok-verify-in-Verify-clause-leaves g c = leaves_same _ (g.F.Files.contents c.args.files.now) (g.F.Files.contents c.verify.new.files) c.in_ok-verify-in-Verify.ensures.same
+returns-in_ok-verify-in-Verify-clause-leaves g c = leaves_same _ (g.F.Files.at c.args.files.now).contents (g.F.Files.at c.verify.new.files).contents c.in_ok-verify-in-Verify.ensures.same
 
 pub returns-in_ok-check-in-Check-clause-answer : goal.returns-in_ok-check-in-Check-clause-answer
 returns-in_ok-check-in-Check-clause-answer g c =
-    let met = met_on {Self = g.row.F.Denot} g.F.Files.contents g.F.Files.read_faults g.F.Files.write_faults g.F.Files.reads c.args.files.now c.check.new.files in
+    let met = between (g.F.Files.at c.args.files.now) (g.F.Files.at c.check.new.files) in
     let traced = told_to {Self = g.row.T.Denot} g.T.LogSink.tells g.T.LogSink.learnt c.args.trace.now c.args.trace.now in
     let reply = c.in_ok-check-in-Check.field-0 in
     subst (λ (command : Command). Owes command met traced reply.status reply.text.items) (sym c.in-Check.is) c.in_ok-check-in-Check.ensures.answer
 
 pub returns-in_ok-check-in-Check-clause-leaves : goal.returns-in_ok-check-in-Check-clause-leaves
-returns-in_ok-check-in-Check-clause-leaves g c = leaves_same _ (g.F.Files.contents c.args.files.now) (g.F.Files.contents c.check.new.files) c.in_ok-check-in-Check.ensures.same
+returns-in_ok-check-in-Check-clause-leaves g c = leaves_same _ (g.F.Files.at c.args.files.now).contents (g.F.Files.at c.check.new.files).contents c.in_ok-check-in-Check.ensures.same
+
+pub returns-in-Trial-clause-leaves : goal.returns-in-Trial-clause-leaves
+returns-in-Trial-clause-leaves g c = left_alone _ (g.F.Files.at c.args.files.now).contents

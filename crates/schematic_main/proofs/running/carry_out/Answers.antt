@@ -1,38 +1,38 @@
 use Rattle.std.proofs.Common.{Err, sym, ap, subst, inl, inr}
 use Rattle.plan_words.specs.Arguments.{texts_of}
 use Rattle.refute_log.specs.ToldTo.{told_to}
-use Rattle.schematic_main.specs.declared.status.Status.{Status}
-use Rattle.schematic_main.specs.Status.{IsCutShort, IsRefused}
-use Rattle.schematic_main.specs.Met.{met_on}
+use Rattle.input_answer.specs.declared.status.Status.{Status}
+use Rattle.input_answer.specs.Status.{IsCutShort, IsRefused}
+use Rattle.input_answer.specs.Met.{between}
 use Rattle.schematic_main.proofs.DueLemmas.{due_is_whole, due_unread, due_ends}
-use Rattle.schematic_main.proofs.LeavesLemmas.{leaves_weaker}
-use Rattle.schematic_main.proofs.MetLemmas.{reads_less}
-use Rattle.schematic_main.proofs.StatusLemmas.{cut_unrefused, cut_ends}
+use Rattle.draw_answer.proofs.LeavesLemmas.{leaves_weaker}
+use Rattle.input_answer.proofs.MetLemmas.{reads_less}
+use Rattle.input_answer.proofs.StatusLemmas.{cut_unrefused, cut_ends}
 use Rattle.schematic_main.proofs.running.carry_out.Goals as goal
 
 -- ---- the text was put
 
 pub returns-in-Ok-put-clause-cut_short : goal.returns-in-Ok-put-clause-cut_short
 returns-in-Ok-put-clause-cut_short g c = λ cut.
-    let met = met_on {Self = g.row.F.Denot} g.F.Files.contents g.F.Files.read_faults g.F.Files.write_faults g.F.Files.reads c.args.files.now c.reply_to.new.files in
+    let met = between (g.F.Files.at c.args.files.now) (g.F.Files.at c.reply_to.new.files) in
     let traced = told_to {Self = g.row.T.Denot} g.T.LogSink.tells g.T.LogSink.learnt c.args.trace.now c.reply_to.new.trace in
     absurd (due_is_whole (texts_of c.args.words.now) met traced c.in-Ok.reply.status c.in-Ok.reply.text.items c.in-Ok.ensures.answer cut)
 
 pub returns-in-Ok-put-clause-read_fault : goal.returns-in-Ok-put-clause-read_fault
 returns-in-Ok-put-clause-read_fault g c =
-    let met = met_on {Self = g.row.F.Denot} g.F.Files.contents g.F.Files.read_faults g.F.Files.write_faults g.F.Files.reads c.args.files.now c.reply_to.new.files in
+    let met = between (g.F.Files.at c.args.files.now) (g.F.Files.at c.reply_to.new.files) in
     let traced = told_to {Self = g.row.T.Denot} g.T.LogSink.tells g.T.LogSink.learnt c.args.trace.now c.reply_to.new.trace in
     due_unread (texts_of c.args.words.now) met traced c.in-Ok.reply.status c.in-Ok.reply.text.items c.in-Ok.ensures.answer
 
 pub returns-in-Ok-put-clause-write_fault : goal.returns-in-Ok-put-clause-write_fault
 returns-in-Ok-put-clause-write_fault g c = λ is.
-    let met = met_on {Self = g.row.F.Denot} g.F.Files.contents g.F.Files.read_faults g.F.Files.write_faults g.F.Files.reads c.args.files.now c.reply_to.new.files in
+    let met = between (g.F.Files.at c.args.files.now) (g.F.Files.at c.reply_to.new.files) in
     let traced = told_to {Self = g.row.T.Denot} g.T.LogSink.tells g.T.LogSink.learnt c.args.trace.now c.reply_to.new.trace in
     absurd (due_is_whole (texts_of c.args.words.now) met traced c.in-Ok.reply.status c.in-Ok.reply.text.items c.in-Ok.ensures.answer (subst (λ (s : Status). IsCutShort s) (sym is) tt))
 
 pub returns-in-Ok-put-clause-completes : goal.returns-in-Ok-put-clause-completes
 returns-in-Ok-put-clause-completes g c = λ command asked sound read written.
-    let met = met_on {Self = g.row.F.Denot} g.F.Files.contents g.F.Files.read_faults g.F.Files.write_faults g.F.Files.reads c.args.files.now c.reply_to.new.files in
+    let met = between (g.F.Files.at c.args.files.now) (g.F.Files.at c.reply_to.new.files) in
     let traced = told_to {Self = g.row.T.Denot} g.T.LogSink.tells g.T.LogSink.learnt c.args.trace.now c.reply_to.new.trace in
     inl (due_ends (texts_of c.args.words.now) command met traced c.in-Ok.reply.status c.in-Ok.reply.text.items asked sound read c.in-Ok.ensures.answer)
 
@@ -46,7 +46,7 @@ returns-in-Err-Failed-clause-unwritten g c = λ none. c.in-Ok.ensures.unwritten 
 
 pub returns-in-Err-Failed-clause-leaves : goal.returns-in-Err-Failed-clause-leaves
 returns-in-Err-Failed-clause-leaves g c =
-    leaves_weaker _ _ (g.F.Files.contents c.args.files.now) (g.F.Files.contents c.reply_to.new.files) (λ name bytes may. (λ refused. refused, may.1)) c.in-Ok.ensures.leaves
+    leaves_weaker _ _ (g.F.Files.at c.args.files.now).contents (g.F.Files.at c.reply_to.new.files).contents (λ name bytes may. (λ refused. refused, may.1)) c.in-Ok.ensures.leaves
 
 pub returns-in-Err-Failed-clause-untold : goal.returns-in-Err-Failed-clause-untold
 returns-in-Err-Failed-clause-untold g c = λ none. c.in-Ok.ensures.untold (elim none [ inl refused ↦ absurd refused | inr nothing ↦ inr nothing ])
@@ -59,7 +59,7 @@ returns-in-Ok-clause-unwritten g c = λ none. c.in-Ok.ensures.unwritten (elim no
 
 pub returns-in-Ok-clause-leaves : goal.returns-in-Ok-clause-leaves
 returns-in-Ok-clause-leaves g c =
-    leaves_weaker _ _ (g.F.Files.contents c.args.files.now) (g.F.Files.contents c.reply_to.new.files) (λ name bytes may. (λ refused. refused, may.1)) c.in-Ok.ensures.leaves
+    leaves_weaker _ _ (g.F.Files.at c.args.files.now).contents (g.F.Files.at c.reply_to.new.files).contents (λ name bytes may. (λ refused. refused, may.1)) c.in-Ok.ensures.leaves
 
 pub returns-in-Ok-clause-untold : goal.returns-in-Ok-clause-untold
 returns-in-Ok-clause-untold g c = λ none. c.in-Ok.ensures.untold (elim none [ inl refused ↦ absurd refused | inr nothing ↦ inr nothing ])

@@ -4,10 +4,11 @@ use Rattle.std.proofs.lemmas.Result.{IfOk-weaker}
 use Rattle.plan_words.specs.declared.command.Command.{Command}
 use Rattle.plan_words.specs.Arguments.{texts_of}
 use Rattle.plan_words.proofs.AnswerLemmas.{command_same}
-use Rattle.schematic_main.specs.Status.{IsAnswered}
-use Rattle.schematic_main.specs.Met.{met_on, ReadsInputs}
+use Rattle.input_answer.specs.Status.{IsAnswered}
+use Rattle.input_answer.specs.Met.{between, ReadsInputs}
 use Rattle.schematic_main.specs.Commands.{inputs_of}
-use Rattle.schematic_main.proofs.LeavesLemmas.{asked_apart, leaves_weaker}
+use Rattle.draw_answer.proofs.LeavesLemmas.{leaves_weaker}
+use Rattle.schematic_main.proofs.ApartLemmas.{asked_apart}
 use Rattle.schematic_main.proofs.running.reply_to.Goals as goal
 
 pub answer_to-requires : goal.answer_to-requires
@@ -18,7 +19,7 @@ returns-in-Ok-clause-answer g c = IfOk-weaker c.answer_to.result _ _ (λ r owes.
 
 pub returns-in-Ok-clause-reads : goal.returns-in-Ok-clause-reads
 returns-in-Ok-clause-reads g c = λ command asked.
-    let met = met_on {Self = g.row.F.Denot} g.F.Files.contents g.F.Files.read_faults g.F.Files.write_faults g.F.Files.reads c.args.files.now c.answer_to.new.files in
+    let met = between (g.F.Files.at c.args.files.now) (g.F.Files.at c.answer_to.new.files) in
     subst (λ (found : Command). ReadsInputs (length (inputs_of found)) (IsOkAnd c.answer_to.result (λ r. IsAnswered r.status)) met)
     (command_same (texts_of c.args.words.now) c.in-Ok.command command c.in-Ok.ensures.value asked) c.answer_to.ensures.reads
 
@@ -30,7 +31,7 @@ returns-in-Ok-clause-unwritten g c = λ none. c.answer_to.ensures.unwritten (eli
 
 pub returns-in-Ok-clause-leaves : goal.returns-in-Ok-clause-leaves
 returns-in-Ok-clause-leaves g c =
-    leaves_weaker _ _ (g.F.Files.contents c.args.files.now) (g.F.Files.contents c.answer_to.new.files) (λ name bytes may. (may.0, (c.in-Ok.command, c.in-Ok.ensures.value, may.1))) c.answer_to.ensures.leaves
+    leaves_weaker _ _ (g.F.Files.at c.args.files.now).contents (g.F.Files.at c.answer_to.new.files).contents (λ name bytes may. (may.0, (c.in-Ok.command, c.in-Ok.ensures.value, may.1))) c.answer_to.ensures.leaves
 
 pub returns-in-Ok-clause-cause : goal.returns-in-Ok-clause-cause
 returns-in-Ok-clause-cause g c = λ cut. (c.in-Ok.command, c.in-Ok.ensures.value, c.answer_to.ensures.cause cut)

@@ -1,7 +1,8 @@
 use Rattle.std.proofs.Common.{◌∙◌}
 use Rattle.outside_io.proofs.Results.{on_err_anyway}
 use Rattle.cdcl_core.specs.Search.{clauses}
-use Rattle.cdcl_core.proofs.RoundLemmas.{named_same, ends_from, derives_from, round_ok, round_err}
+use Rattle.cdcl_core.proofs.LeftLemmas.{counted_none}
+use Rattle.cdcl_core.proofs.RoundLemmas.{named_same, ends_from, left_from, round_ok, round_err}
 use Rattle.cdcl_core.proofs.search.Search.round.Goals as goal
 
 pub meet-requires-clause-unrefuted : goal.meet-requires-clause-unrefuted
@@ -16,17 +17,23 @@ refute-requires-clause-named g c = named_same c.args.query.now (clauses c.args.s
 pub returns-in-Clash-clause-learnt : goal.returns-in-Clash-clause-learnt
 returns-in-Clash-clause-learnt g c = round_ok c.meet.result (g.L.LogSink.tells c.args.log.now) (g.L.LogSink.tells c.meet.new.log) (g.L.LogSink.learnt c.args.log.now) (g.L.LogSink.learnt c.meet.new.log) c.args.query.now c.args.self.now c.descend.new.self c.meet.new.self c.in-Clash.ensures.store c.meet.ensures.learnt
 
-pub returns-in-Clash-clause-derives : goal.returns-in-Clash-clause-derives
-returns-in-Clash-clause-derives g c = round_err c.meet.result (g.L.LogSink.tells c.args.log.now) (g.L.LogSink.tells c.meet.new.log) c.args.query.now c.args.self.now c.descend.new.self c.in-Clash.ensures.store c.meet.ensures.derives
+pub returns-in-Clash-clause-leaves : goal.returns-in-Clash-clause-leaves
+returns-in-Clash-clause-leaves g c = round_err c.meet.result (g.L.LogSink.tells c.args.log.now) (g.L.LogSink.tells c.meet.new.log) c.args.query.now c.args.self.now c.descend.new.self c.in-Clash.ensures.store c.meet.ensures.leaves
 
 pub returns-in_ok-refute-in-Denied-clause-learnt : goal.returns-in_ok-refute-in-Denied-clause-learnt
 returns-in_ok-refute-in-Denied-clause-learnt g c = ends_from (g.L.LogSink.tells c.args.log.now) (g.L.LogSink.tells c.refute.new.log) (g.L.LogSink.learnt c.args.log.now) (g.L.LogSink.learnt c.refute.new.log) c.args.query.now c.args.self.now c.descend.new.self c.refute.new.self c.in_ok-refute-in-Denied.field-0 c.in-Denied.ensures.store c.in_ok-refute-in-Denied.ensures.ends
 
-pub returns-in_err-refute-in-Denied-clause-derives : goal.returns-in_err-refute-in-Denied-clause-derives
-returns-in_err-refute-in-Denied-clause-derives g c = on_err_anyway _ _ (derives_from (g.L.LogSink.tells c.args.log.now) (g.L.LogSink.tells c.refute.new.log) c.args.query.now c.args.self.now c.descend.new.self c.in-Denied.ensures.store c.in_err-refute-in-Denied.ensures.derives)
+pub returns-in_err-refute-in-Denied-clause-leaves : goal.returns-in_err-refute-in-Denied-clause-leaves
+returns-in_err-refute-in-Denied-clause-leaves g c = on_err_anyway _ _ (left_from (g.L.LogSink.tells c.args.log.now) (g.L.LogSink.tells c.refute.new.log) c.args.query.now c.args.self.now c.descend.new.self c.in-Denied.ensures.store c.in_err-refute-in-Denied.ensures.leaves)
 
 pub returns-in_ok-complete-in-Complete-clause-learnt : goal.returns-in_ok-complete-in-Complete-clause-learnt
 returns-in_ok-complete-in-Complete-clause-learnt g c = ends_from (g.L.LogSink.tells c.args.log.now) (g.L.LogSink.tells c.complete.new.log) (g.L.LogSink.learnt c.args.log.now) (g.L.LogSink.learnt c.complete.new.log) c.args.query.now c.args.self.now c.descend.new.self c.complete.new.self c.in_ok-complete-in-Complete.field-0 c.in-Complete.ensures.store c.in_ok-complete-in-Complete.ensures.ends
 
-pub returns-in_err-complete-in-Complete-clause-derives : goal.returns-in_err-complete-in-Complete-clause-derives
-returns-in_err-complete-in-Complete-clause-derives g c = on_err_anyway _ _ (derives_from (g.L.LogSink.tells c.args.log.now) (g.L.LogSink.tells c.complete.new.log) c.args.query.now c.args.self.now c.descend.new.self c.in-Complete.ensures.store c.in_err-complete-in-Complete.ensures.derives)
+pub returns-in_err-complete-in-Complete-clause-leaves : goal.returns-in_err-complete-in-Complete-clause-leaves
+returns-in_err-complete-in-Complete-clause-leaves g c = on_err_anyway _ _ (left_from (g.L.LogSink.tells c.args.log.now) (g.L.LogSink.tells c.complete.new.log) c.args.query.now c.args.self.now c.descend.new.self c.in-Complete.ensures.store c.in_err-complete-in-Complete.ensures.leaves)
+
+pub returns-in_err-refute-in-Denied-clause-few : goal.returns-in_err-refute-in-Denied-clause-few
+returns-in_err-refute-in-Denied-clause-few g c = on_err_anyway _ _ (counted_none 1 (g.L.LogSink.learnt c.args.log.now) (g.L.LogSink.learnt c.refute.new.log) c.in_err-refute-in-Denied.ensures.counted)
+
+pub returns-in_err-complete-in-Complete-clause-few : goal.returns-in_err-complete-in-Complete-clause-few
+returns-in_err-complete-in-Complete-clause-few g c = on_err_anyway _ _ (counted_none 1 (g.L.LogSink.learnt c.args.log.now) (g.L.LogSink.learnt c.complete.new.log) c.in_err-complete-in-Complete.ensures.counted)

@@ -1,9 +1,11 @@
-use Rattle.std.proofs.Common.{◌≡◌, ◌+◌, ◌∷◌, ◌∙◌, [], sym, subst, arith}
+use Rattle.std.proofs.Common.{◌≡◌, ◌+◌, ◌∷◌, ◌∙◌, [], sym, ap, subst, arith}
+use Rattle.outside_io.specs.Counts.{rose_by}
 use Rattle.outside_io.proofs.Results.{on_err_anyway}
 use Rattle.cnf_core.specs.Clause.{AreThere}
 use Rattle.cdcl_core.specs.Search.{clauses}
 use Rattle.cdcl_core.specs.declared.answer.Answer.TheVariants.{Spent}
 use Rattle.cdcl_core.specs.Rounds.{LearnsOne, EndsSo, HasGone}
+use Rattle.cdcl_core.proofs.LeftLemmas.{counted_more, counted_after}
 use Rattle.cdcl_core.proofs.RoundLemmas.{some_of, none_of, if_some_of, gone_none, gone_same, gone_more, gone_err, ends_after, spent_less, named_same, named_more, rounds_ok, rounds_err}
 use Rattle.cdcl_core.proofs.search.Search.rounds.Goals as goal
 
@@ -19,8 +21,8 @@ loop-told-init g c = record {
   later = g.met.L.LogSink.later_same c.args.log.now;
 }
 
-pub returns-in_err-answer-clause-derives : goal.returns-in_err-answer-clause-derives
-returns-in_err-answer-clause-derives g c = on_err_anyway _ _ (gone_err (g.L.LogSink.tells c.args.log.now) (g.L.LogSink.tells c.loop-told.log) (g.L.LogSink.tells c.round.new.log) (g.L.LogSink.learnt c.args.log.now) (g.L.LogSink.learnt c.loop-told.log) c.args.query.now c.args.self.now c.loop-told.self c.loop-told.told c.loop-told.invariant.gone c.in_err-answer.ensures.derives)
+pub returns-in_err-answer-clause-leaves : goal.returns-in_err-answer-clause-leaves
+returns-in_err-answer-clause-leaves g c = on_err_anyway _ _ (gone_err (g.L.LogSink.tells c.args.log.now) (g.L.LogSink.tells c.loop-told.log) (g.L.LogSink.tells c.round.new.log) (g.L.LogSink.learnt c.args.log.now) (g.L.LogSink.learnt c.loop-told.log) c.args.query.now c.args.self.now c.loop-told.self c.loop-told.told c.loop-told.invariant.gone c.in_err-answer.ensures.leaves)
 
 pub returns-in-Some-clause-ends : goal.returns-in-Some-clause-ends
 returns-in-Some-clause-ends g c =
@@ -56,5 +58,17 @@ returns-clause-ends g c =
     rounds_ok c.last_round.result (g.L.LogSink.tells c.args.log.now) (g.L.LogSink.tells c.loop-told.log) (g.L.LogSink.tells c.last_round.new.log) (g.L.LogSink.learnt c.args.log.now) (g.L.LogSink.learnt c.loop-told.log) (g.L.LogSink.learnt c.last_round.new.log) c.args.query.now c.args.self.now c.loop-told.self c.last_round.new.self c.args.budget
     (subst (HasGone (g.L.LogSink.tells c.args.log.now) (g.L.LogSink.tells c.loop-told.log) (g.L.LogSink.learnt c.args.log.now) (g.L.LogSink.learnt c.loop-told.log) c.args.query.now c.args.self.now c.loop-told.self) end c.loop-told.invariant.gone) c.last_round.ensures.ends
 
-pub returns-clause-derives : goal.returns-clause-derives
-returns-clause-derives g c = rounds_err c.last_round.result (g.L.LogSink.tells c.args.log.now) (g.L.LogSink.tells c.loop-told.log) (g.L.LogSink.tells c.last_round.new.log) (g.L.LogSink.learnt c.args.log.now) (g.L.LogSink.learnt c.loop-told.log) c.args.query.now c.args.self.now c.loop-told.self c.loop-told.told c.loop-told.invariant.gone c.last_round.ensures.derives
+pub returns-clause-leaves : goal.returns-clause-leaves
+returns-clause-leaves g c = rounds_err c.last_round.result (g.L.LogSink.tells c.args.log.now) (g.L.LogSink.tells c.loop-told.log) (g.L.LogSink.tells c.last_round.new.log) (g.L.LogSink.learnt c.args.log.now) (g.L.LogSink.learnt c.loop-told.log) c.args.query.now c.args.self.now c.loop-told.self c.loop-told.told c.loop-told.invariant.gone c.last_round.ensures.leaves
+
+pub returns-in_err-answer-clause-few : goal.returns-in_err-answer-clause-few
+returns-in_err-answer-clause-few g c =
+    let test = c.loop-told-test.true in
+    let gone = c.loop-told.invariant.gone in
+    on_err_anyway _ _ (counted_more c.args.budget c.loop-told.told (g.L.LogSink.learnt c.args.log.now) (g.L.LogSink.learnt c.loop-told.log) (g.L.LogSink.learnt c.round.new.log) (omega arith) gone.counted c.in_err-answer.ensures.few)
+
+pub returns-clause-few : goal.returns-clause-few
+returns-clause-few g c =
+    let end : c.loop-told.told ≡ c.args.budget = let a = c.loop-told.auto.told-end in let b = c.loop-told-test.false in omega arith in
+    let gone = c.loop-told.invariant.gone in
+    counted_after c.last_round.result c.args.budget (g.L.LogSink.learnt c.args.log.now) (g.L.LogSink.learnt c.loop-told.log) (g.L.LogSink.learnt c.last_round.new.log) (gone.counted ∙ ap (λ n. rose_by n (g.L.LogSink.learnt c.args.log.now)) end) c.last_round.ensures.counted

@@ -34,3 +34,6 @@ returns-clause-there c = traced_there c.args.self.now.arena c.args.self.now.trai
 
 pub returns-clause-distinct : goal.returns-clause-distinct
 returns-clause-distinct c = traced_distinct (sight c.args.self.now.arena c.args.self.now.trail) c.args.l c.trace_back.new.self.clause c.from_vec.result (c.from_vec.ensures ∙ c.in_ok-copied.ensures) c.trace_back.ensures.traced
+
+pub returns-clause-needed : goal.returns-clause-needed
+returns-clause-needed c = traced_refuting c.args.self.now.arena c.args.self.now.trail c.args.self.now.own.items c.args.self.now.refuted c.args.query.now c.trace_back.new.self.clause c.args.self.now.levels c.args.self.now.assumed c.args.l c.requires.search.solving.grounded c.requires.asking c.requires.denied.low c.requires.denied.among c.trace_back.ensures.traced

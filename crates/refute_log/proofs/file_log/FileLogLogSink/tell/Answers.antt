@@ -12,7 +12,7 @@ use Rattle.refute_log.proofs.file_log.FileLogLogSink.tell.Goals.{then-len-ge-PIE
 
 pub returns-clause-ok : goal.returns-clause-ok
 returns-clause-ok g c = λ lines h.
-    let gathered = text_gathered (g.F.Files.contents c.args.self.now.files.now) c.args.self.now.kept.name.bytes.items c.args.self.now.kept.bytes.items c.write_line.new.into.items lines c.args.line.now (search rules) h.0.1 in
+    let gathered = text_gathered (g.F.Files.at c.args.self.now.files.now).contents c.args.self.now.kept.name.bytes.items c.args.self.now.kept.bytes.items c.write_line.new.into.items lines c.args.line.now (search rules) h.0.1 in
     let told = each_pushed MayBeTold lines c.args.line.now h.0.2 c.requires in
     let count : learnt_after c.args.line.now c.args.self.now.kept.learnt ≡ learnt_count (lines ++ c.args.line.now ∷ []) = ap (learnt_after c.args.line.now) h.1 ∙ sym (learnt_count_more lines c.args.line.now) in
     elim c.if-len-ge-PIECE.branch [
@@ -22,8 +22,8 @@ returns-clause-ok g c = λ lines h.
 
 pub returns-in-Err-clause-later : goal.returns-in-Err-clause-later
 returns-in-Err-clause-later g c =
-    let before = g.F.Files.contents c.args.self.now.files.now in
-    let after = g.F.Files.contents c.append.new.self in
+    let before = (g.F.Files.at c.args.self.now.files.now).contents in
+    let after = (g.F.Files.at c.append.new.self).contents in
     let kept = c.args.self.now.kept in
     let now = c.write_line.new.into.items in
     let w = rw (c.as_str.ensures.value, c.deref.ensures.value) at c.in-Err.ensures.err in
@@ -31,13 +31,13 @@ returns-in-Err-clause-later g c =
 
 pub returns-clause-later : goal.returns-clause-later
 returns-clause-later g c =
-    let before = g.F.Files.contents c.args.self.now.files.now in
+    let before = (g.F.Files.at c.args.self.now.files.now).contents in
     let kept = c.args.self.now.kept in
     let now = c.write_line.new.into.items in
     let written : now ≡ kept.bytes.items ++ ended_text c.args.line.now = search rules in
     elim c.if-len-ge-PIECE.branch [
       | then-len-ge-PIECE+in-Ok w ↦
           let v = rw (w.as_str.ensures.value, w.deref.ensures.value) at w.in-Ok.ensures.ok in
-          rw w.self-is (refl, refl, others_of_piece before (g.F.Files.contents w.append.new.self) kept.name.bytes.items now v, piece_keeps before (g.F.Files.contents w.append.new.self) kept.failed kept.name.bytes.items kept.bytes.items now _ c.args.line.now c.if-self.false c.requires written w.clear.ensures.items v, w.append.ensures.read_faults, w.append.ensures.reads)
+          rw w.self-is (refl, refl, others_of_piece before (g.F.Files.at w.append.new.self).contents kept.name.bytes.items now v, piece_keeps before (g.F.Files.at w.append.new.self).contents kept.failed kept.name.bytes.items kept.bytes.items now _ c.args.line.now c.if-self.false c.requires written w.clear.ensures.items v, w.append.ensures.read_faults, w.append.ensures.reads)
       | else-len-ge-PIECE w ↦ rw w.self-is (refl, refl, where_told_same before kept.name.bytes.items, line_keeps before kept.failed kept.name.bytes.items kept.bytes.items now c.args.line.now c.if-self.false c.requires written, refl, refl)
     ]

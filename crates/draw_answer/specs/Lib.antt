@@ -1,0 +1,5 @@
+pub mod Written
+pub mod SearchLog
+pub mod Pictured
+pub mod Drawn
+pub mod Tried

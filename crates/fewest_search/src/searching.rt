@@ -1,0 +1,67 @@
+// The search for the least count.
+ghost use Rattle.std.specs.Prelude.{◌≡◌, ◌≤◌, ◌++◌, IfOk, IsErrOf};
+ghost use Rattle.outside_io.specs.Counts.{Rose};
+ghost use Rattle.refute_log.specs.Steps.{ToldBehind, Continues, IsKnown};
+ghost use Rattle.fewest_search.specs.Fewest.{IsRightFewest, IsFewestLog, formula_lines};
+ghost use Rattle.fewest_search.specs.Counted.{IsOne};
+ghost use Rattle.fewest_search.specs.Run.{IsRun, EndsIn};
+
+use crate::outcome::stopped_with;
+use crate::{Answer, Fewest, Questions};
+use lex_search::MinFault;
+use plan_geometry::Drawing;
+
+/// From the first drawing on: asks for less until there is none.
+fn lower<Q: Questions>(questions: &mut Q, first: Drawing) -> Result<Fewest, MinFault>
+    requires ready { Q.ready questions.old }
+    requires known { IsKnown Q.knows questions.old }
+    requires one { IsOne (Q.task questions.old) first }
+    ensures task { Q.task questions.new ≡ Q.task questions.old }
+    ensures right { IfOk result (IsRightFewest (Q.task questions.old)) }
+    ensures lines { IfOk result (λ r. Continues Q.knows Q.log Q.learnt questions.old questions.new
+        (EndsIn (Q.task questions.old) r)) }
+    ensures later { Q.is_later questions.old questions.new }
+    ensures faults { Q.faults questions.old ≤ Q.faults questions.new }
+    ensures cause { IsErrOf result MinFault.Log → Rose (Q.faults questions.old) (Q.faults questions.new) }
+{
+    let mut best = first;
+    let mut count = questions.count(&best);
+    while count > 0 {
+        match questions.ask(Some(count), Some(&best))? {
+            Answer::Found(d) => {
+                count = questions.count(&d);
+                best = d;
+            }
+            Answer::Refuted => {
+                return Ok(Fewest::Best(best));
+            }
+            Answer::Stopped(stop) => {
+                return Ok(stopped_with(stop, Some(best)));
+            }
+        }
+    }
+    Ok(Fewest::Best(best))
+}
+
+/// A drawing with the least count, or as far as the search comes: it asks for any drawing, and then for a smaller count
+/// until there is none. What the outcome says of drawings holds with every log; and so many lines were told behind the
+/// formula that they and these are those of a search with this outcome.
+pub fn least_count<Q: Questions>(questions: &mut Q) -> Result<Fewest, MinFault>
+    requires ready { Q.ready questions.old }
+    requires start { Q.knows questions.old (formula_lines (Q.task questions.old)) }
+    ensures right { IfOk result (IsRightFewest (Q.task questions.old)) }
+    ensures lines { IfOk result (λ r. let p = Q.task questions.old in
+        ToldBehind (Q.knows questions.new) (Q.log questions.old) (Q.log questions.new)
+        (Q.learnt questions.old) (Q.learnt questions.new) (formula_lines p)
+        (λ more. IsFewestLog p r (formula_lines p ++ more))) }
+    ensures task { Q.task questions.new ≡ Q.task questions.old }
+    ensures later { Q.is_later questions.old questions.new }
+    ensures faults { Q.faults questions.old ≤ Q.faults questions.new }
+    ensures cause { IsErrOf result MinFault.Log → Rose (Q.faults questions.old) (Q.faults questions.new) }
+{
+    match questions.ask(None, None)? {
+        Answer::Found(first) => lower(questions, first),
+        Answer::Refuted => Ok(Fewest::NoDrawing),
+        Answer::Stopped(stop) => Ok(stopped_with(stop, None)),
+    }
+}

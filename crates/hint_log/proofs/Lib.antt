@@ -1,0 +1,13 @@
+pub mod LeftLemmas
+pub mod NegationLemmas
+pub mod TableLemmas
+pub mod HintLemmas
+pub mod VerdictLemmas
+pub mod JudgeLemmas
+pub mod CheckerLemmas
+pub mod FoundLemmas
+pub mod FinderLemmas
+pub mod HintedLemmas
+pub mod ShortenLemmas
+pub mod UsedLemmas
+pub mod KeptLemmas

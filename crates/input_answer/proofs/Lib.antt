@@ -1,0 +1,5 @@
+pub mod StatusLemmas
+pub mod MetLemmas
+pub mod FormedRows
+pub mod InputLemmas
+pub mod AnswerLemmas

@@ -1,0 +1,7 @@
+pub mod Status
+pub mod Met
+pub mod Fault
+pub mod Input
+pub mod Answer
+pub mod Reading
+pub mod Reply

@@ -1,0 +1,131 @@
+// The front of two criteria, with the solver.
+ghost use Rattle.std.specs.Prelude.{◌≡◌, ◌≢◌, ◌≤◌, ◌++◌, [], IfOk, IsErrOf};
+ghost use Rattle.outside_io.specs.Counts.{Rose};
+ghost use Rattle.cnf_core.specs.declared.limits.TheConstants.{ROOM};
+ghost use Rattle.track_order.specs.Order.{IsOrderOf};
+ghost use Rattle.refute_log.specs.Told.{Lines};
+ghost use Rattle.refute_log.specs.ToldTo.{told_to};
+ghost use Rattle.cdcl_core.specs.Kept.{blank};
+ghost use Rattle.lex_search.specs.Task.{IsLawful};
+ghost use Rattle.refute_log.specs.Steps.{ToldBehind};
+ghost use Rattle.lex_search.specs.Outcome.{first_lines};
+ghost use Rattle.trade_off.specs.Outcome.{IsRightFront, IsFrontLog};
+ghost use Rattle.drawing_problem.specs.Layout.{layout};
+ghost use Rattle.lex_minimise.specs.Task.{task_of};
+ghost use Rattle.lex_minimise.specs.Told.{IsLogOfSolver};
+ghost use Rattle.lex_minimise.specs.Search.{task_with, IsReadyWith, KnowsWith};
+
+use crate::Limits;
+use crate::building::add_clauses;
+use crate::search::{Known, Search};
+use cdcl_core::Solver;
+use cnf_core::CnfFault;
+use drawing_cnf::encode;
+use lex_search::MinFault;
+use plan_core::{Criterion, Grid};
+use port_graph::PortGraph;
+use refute_log::LogSink;
+use std::alloc::Global;
+use track_order::TrackOrder;
+use trade_off::{FrontEnd, FrontList, PairList, find_front};
+
+/// The search, once the solver and the log were told the formula's clauses, and no bound yet.
+fn front_from<L: LogSink>(
+    known: &mut Known,
+    solver: &mut Solver,
+    log: &mut L,
+    a: Criterion,
+    b: Criterion,
+) -> Result<FrontList, MinFault>
+    requires none { known.old.told.items ≡ [] }
+    requires ready { IsReadyWith known.old solver.old }
+    requires start { KnowsWith known.old solver.old (first_lines (task_with known.old)) }
+    requires apart { a ≢ b }
+    ensures right { IfOk result (λ r. IsRightFront (IsLawful (task_with known.old)) a b r.pairs r.ending) }
+    ensures lines { let p = task_with known.old in
+        IfOk result (λ r. ToldBehind (IsLogOfSolver solver.new) (L.tells log.old) (L.tells log.new)
+        (L.learnt log.old) (L.learnt log.new) (first_lines p) (λ more. IsFrontLog p a b r.ending (first_lines p ++ more))) }
+    ensures later { L.is_later log.old log.new }
+    ensures faults { L.faults log.old ≤ L.faults log.new }
+    ensures cause { IsErrOf result MinFault.Log → Rose (L.faults log.old) (L.faults log.new) }
+{
+    let alloc = known.alloc;
+    let mut search = Search { known, solver, log };
+    find_front(alloc, &mut search, a, b)
+}
+
+/// The same as `front`, with a new solver that is handed in, so that a caller sees what it has learnt. It was made with the
+/// room of the limits.
+pub fn front_with<L: LogSink>(
+    alloc: Global,
+    g: &PortGraph,
+    t: &TrackOrder,
+    grid: &Grid,
+    a: Criterion,
+    b: Criterion,
+    limits: &Limits,
+    solver: &mut Solver,
+    log: &mut L,
+) -> Result<FrontList, MinFault>
+    requires order { IsOrderOf g.now t.now }
+    requires room { limits.now.room ≤ ROOM }
+    requires new { solver.old ≡ blank limits.now.room }
+    requires apart { a ≢ b }
+    ensures right { let p = task_of (layout g.now t.now grid.now) limits.now.budget limits.now.room in
+        IfOk result (λ r. IsRightFront (IsLawful p) a b r.pairs r.ending) }
+    ensures lines { let p = task_of (layout g.now t.now grid.now) limits.now.budget limits.now.room in
+        IfOk result (λ r. (lines : Lines) × told_to L.tells L.learnt log.old log.new lines × IsFrontLog p a b r.ending lines
+        × IsLogOfSolver solver.new lines) }
+    ensures later { L.is_later log.old log.new }
+    ensures faults { L.faults log.old ≤ L.faults log.new }
+    ensures cause { IsErrOf result MinFault.Log → Rose (L.faults log.old) (L.faults log.new) }
+{
+    let encoded = match encode(alloc, g, t, grid, limits.room) {
+        Ok(encoded) => encoded,
+        Err(CnfFault::Room) => {
+            return Ok(FrontList {
+                pairs: PairList::new(alloc),
+                ending: FrontEnd::Room,
+            });
+        }
+        Err(CnfFault::Memory) => return Err(MinFault::Memory),
+    };
+    add_clauses(encoded.formula(), 0, solver, log)?;
+    let mut known = Known {
+        alloc,
+        encoded,
+        told: Vec::new(alloc),
+        budget: limits.budget,
+        room: limits.room,
+    };
+    front_from(&mut known, solver, log, a, b)
+}
+
+/// The front of two criteria of the graph's lawful drawings on the grid, or as far as the limits allow.
+///
+/// The order `t` is that of the graph's edges, and the criteria differ. All lines are told to the log: the drawings'
+/// clauses, both criteria's clauses with all their bounds, the questions, what is learnt, and the answers.
+pub fn front<L: LogSink>(
+    alloc: Global,
+    g: &PortGraph,
+    t: &TrackOrder,
+    grid: &Grid,
+    a: Criterion,
+    b: Criterion,
+    limits: &Limits,
+    log: &mut L,
+) -> Result<FrontList, MinFault>
+    requires order { IsOrderOf g.now t.now }
+    requires room { limits.now.room ≤ ROOM }
+    requires apart { a ≢ b }
+    ensures right { let p = task_of (layout g.now t.now grid.now) limits.now.budget limits.now.room in
+        IfOk result (λ r. IsRightFront (IsLawful p) a b r.pairs r.ending) }
+    ensures lines { let p = task_of (layout g.now t.now grid.now) limits.now.budget limits.now.room in
+        IfOk result (λ r. (lines : Lines) × told_to L.tells L.learnt log.old log.new lines × IsFrontLog p a b r.ending lines) }
+    ensures later { L.is_later log.old log.new }
+    ensures faults { L.faults log.old ≤ L.faults log.new }
+    ensures cause { IsErrOf result MinFault.Log → Rose (L.faults log.old) (L.faults log.new) }
+{
+    let mut solver = Solver::new(alloc, limits.room)?;
+    front_with(alloc, g, t, grid, a, b, limits, &mut solver, log)
+}

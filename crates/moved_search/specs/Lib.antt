@@ -1,0 +1,4 @@
+pub mod Known
+pub mod Query
+pub mod Told
+pub mod Search

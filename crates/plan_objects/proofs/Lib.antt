@@ -1,0 +1,11 @@
+pub mod CountLemmas
+pub mod OrderLemmas
+pub mod SpreadLemmas
+pub mod RoomLemmas
+pub mod FaultLemmas
+pub mod ToldLemmas
+pub mod PlaceLemmas
+pub mod StandLemmas
+pub mod EdgeLemmas
+pub mod ExactLemmas
+pub mod FileLemmas

@@ -1,0 +1,7 @@
+pub mod Places
+pub mod Spread
+pub mod Kept
+pub mod Rows
+pub mod Faults
+pub mod Answers
+pub mod Telling

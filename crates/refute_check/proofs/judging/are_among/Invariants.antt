@@ -1,6 +1,0 @@
-use Rattle.std.proofs.Common.{take}
-use Rattle.std.specs.Prelude.{All, Contains}
-use Rattle.refute_check.proofs.judging.are_among.Given as goal
-
-abbrev pub invariant-loop-l : goal.invariant-loop-l
-invariant-loop-l l = All (λ k. Contains l.others k) (take l.l-index l.lits)

@@ -1,0 +1,94 @@
+-- Calls after each other.
+use Rattle.std.proofs.Common.{◌≡◌, ◌≤◌, ℕ, zero, suc, ◌+◌, List, [], ◌++◌, length, refl, sym, ◌∙◌, ap, subst, append-nil, append_assoc, arith, length-append, Ok, Err}
+use Rattle.std.specs.Prelude.{⊤, flat_map, Result, OnErr}
+use Rattle.std.proofs.lemmas.Grind.{flat_map-append}
+use Rattle.outside_io.specs.Counts.{next_count, Rose, rose_by}
+use Rattle.refute_log.specs.Told.{Lines}
+use Rattle.refute_log.specs.Log.{learnt, Derives}
+use Rattle.refute_log.specs.Steps.{ToldBehind, Continues, IsKnown, StillDerives}
+
+-- ---- counts
+pub rose_later : (a b c : ℕ) → a ≤ b → Rose b c → Rose a c
+rose_later a b c le rose = grind (arith, le, rose)
+
+pub rose_still : (a b c : ℕ) → Rose a b → b ≤ c → Rose a c
+rose_still a b c rose le = grind (arith, le, rose)
+
+pub rose_both : (m n k : ℕ) → rose_by n (rose_by m k) ≡ rose_by (m + n) k
+rose_both m zero k = ap (λ a. rose_by a k) (let e : m ≡ m + 0 = omega arith in e)
+rose_both m (suc n) k = ap next_count (rose_both m n k) ∙ ap (λ a. rose_by a k) (let e : suc (m + n) ≡ m + suc n = omega arith in e)
+
+pub count_more : (xs ys : Lines) → length (flat_map learnt (xs ++ ys)) ≡ length (flat_map learnt xs) + length (flat_map learnt ys)
+count_more xs ys = ap length (flat_map-append learnt xs ys) ∙ length-append (flat_map learnt xs) (flat_map learnt ys)
+
+-- ---- calls
+pub stays : {S : Type 0} (knows log : S → Lines → Type 0) (count : S → ℕ) (s : S) (R : Lines → Lines → Type 0) → ((lines : Lines) → knows s lines → R lines []) → Continues knows log count s s R
+stays knows log count s R h = λ lines k. record {
+  more = [];
+  knows = subst (knows s) (sym (append-nil lines)) k;
+  told = λ ls t. subst (log s) (sym (append-nil ls)) t;
+  counted = refl;
+  does = h lines k;
+}
+
+pub goes_on : {S : Type 0} (knows log : S → Lines → Type 0) (count : S → ℕ) (a b c : S) (Q R T : Lines → Lines → Type 0) →
+    Continues knows log count a b Q → Continues knows log count b c R →
+    ((lines xs ys : Lines) → knows a lines → knows b (lines ++ xs) → knows c ((lines ++ xs) ++ ys) → Q lines xs → R (lines ++ xs) ys → T lines (xs ++ ys)) →
+    Continues knows log count a c T
+goes_on knows log count a b c Q R T h k join = λ lines known.
+    let first : ToldBehind (knows b) (log a) (log b) (count a) (count b) lines (Q lines) = h lines known in
+    let xs = first.more in
+    let second : ToldBehind (knows c) (log b) (log c) (count b) (count c) (lines ++ xs) (R (lines ++ xs)) = k (lines ++ xs) first.knows in
+    let ys = second.more in
+    record {
+      more = xs ++ ys;
+      knows = subst (knows c) (append_assoc lines xs ys) second.knows;
+      told = λ ls t. subst (log c) (append_assoc ls xs ys) (second.told (ls ++ xs) (first.told ls t));
+      counted = second.counted ∙ ap (rose_by (length (flat_map learnt ys))) first.counted
+          ∙ rose_both (length (flat_map learnt xs)) (length (flat_map learnt ys)) (count a) ∙ ap (λ n. rose_by n (count a)) (sym (count_more xs ys));
+      does = join lines xs ys known first.knows second.knows first.does second.does;
+    }
+
+pub becomes : {S : Type 0} (knows log : S → Lines → Type 0) (count : S → ℕ) (a b : S) (Q T : Lines → Lines → Type 0) →
+    Continues knows log count a b Q → ((lines xs : Lines) → knows a lines → knows b (lines ++ xs) → Q lines xs → T lines xs) → Continues knows log count a b T
+becomes knows log count a b Q T h f = λ lines known.
+    let first : ToldBehind (knows b) (log a) (log b) (count a) (count b) lines (Q lines) = h lines known in
+    record { more = first.more; knows = first.knows; told = first.told; counted = first.counted; does = f lines first.more known first.knows first.does }
+
+-- after a call that goes on, some lines are known still
+pub known_after : {S : Type 0} (knows log : S → Lines → Type 0) (count : S → ℕ) (a b : S) (R : Lines → Lines → Type 0) → IsKnown knows a → Continues knows log count a b R → IsKnown knows b
+known_after knows log count a b R known goes =
+    let told : ToldBehind (knows b) (log a) (log b) (count a) (count b) known.0 (R known.0) = goes known.0 known.1 in
+    (known.0 ++ told.more, told.knows)
+
+-- nothing is said of the lines
+abbrev pub AnyLines : Lines → Lines → Type 0
+AnyLines lines more = ⊤
+
+-- ---- errors
+
+-- an error in a later call
+pub derives_later : {S : Type 0} (knows log : S → Lines → Type 0) (count : S → ℕ) (a b e : S) (R : Lines → Lines → Type 0) → Continues knows log count a b R →
+    StillDerives (knows b) (log b) (log e) → StillDerives (knows a) (log a) (log e)
+derives_later knows log count a b e R run after = λ lines known was told is.
+    let first : ToldBehind (knows b) (log a) (log b) (count a) (count b) lines (R lines) = run lines known in
+    after (lines ++ first.more) first.knows (first.told lines was) told is
+
+-- an error that tells nothing
+pub derives_here : {S : Type 0} (knows log : S → Lines → Type 0) (count : S → ℕ) (a b : S) (R : Lines → Lines → Type 0) → Continues knows log count a b R →
+    ((lines : Lines) → knows b lines → Derives lines) → ((x y : Lines) → log b x → log b y → x ≡ y) → StillDerives (knows a) (log a) (log b)
+derives_here knows log count a b R run derives one = λ lines known was told is.
+    let first : ToldBehind (knows b) (log a) (log b) (count a) (count b) lines (R lines) = run lines known in
+    subst Derives (one (lines ++ first.more) told (first.told lines was) is) (derives (lines ++ first.more) first.knows)
+
+-- an error before anything is told
+pub derives_same : {S : Type 0} (knows log : S → Lines → Type 0) (s : S) → ((lines : Lines) → knows s lines → Derives lines) → ((x y : Lines) → log s x → log s y → x ≡ y) → StillDerives (knows s) (log s) (log s)
+derives_same knows log s derives one = λ lines known was told is. subst Derives (one lines told was is) (derives lines known)
+
+pub on_err_always : {T E : Type 0} (r : Result T E) (P : Type 0) → P → OnErr r P
+on_err_always (Ok x) P h = tt
+on_err_always (Err e) P h = h
+
+pub on_err_weaker : {T E : Type 0} (r : Result T E) (P Q : Type 0) → (P → Q) → OnErr r P → OnErr r Q
+on_err_weaker (Ok x) P Q f h = tt
+on_err_weaker (Err e) P Q f h = f h

@@ -1,0 +1,33 @@
+-- Lines that a call tells: one list for every log, also for one that keeps none.
+use Rattle.std.specs.Prelude.{◌≡◌, ℕ, ◌++◌, length, flat_map}
+use Rattle.outside_io.specs.Counts.{rose_by}
+use Rattle.refute_log.specs.Told.{Lines, AddsAll}
+use Rattle.refute_log.specs.Log.{learnt, Derives}
+
+-- so many lines were told behind these: what was known is known with them, the log was told them and counted the
+-- Learnt ones, and R holds of them
+pub record ToldBehind (known log_old log_new : Lines → Type 0) (count_old count_new : ℕ) (lines : Lines) (R : Lines → Type 0) : Type 0 where
+  pub more : Lines
+  pub knows : known (lines ++ more)
+  pub told : AddsAll log_old log_new more
+  pub counted : count_new ≡ rose_by (length (flat_map learnt more)) count_old
+  pub does : R more
+
+-- from whatever lines were known before, further ones were told, of which R holds
+abbrev pub GoesOn : (knows_old knows_new log_old log_new : Lines → Type 0) → (count_old count_new : ℕ) →
+    (Lines → Lines → Type 0) → Type 0
+GoesOn knows_old knows_new log_old log_new count_old count_new R =
+    (lines : Lines) → knows_old lines → ToldBehind knows_new log_old log_new count_old count_new lines (R lines)
+
+-- the same of two states of one thing that knows lines, tells them to a log and counts the Learnt ones
+abbrev pub Continues : {S : Type 0} → (S → Lines → Type 0) → (S → Lines → Type 0) → (S → ℕ) → S → S → (Lines → Lines → Type 0) → Type 0
+Continues {S} knows log count old new R =
+    (lines : Lines) → knows old lines → ToldBehind (knows new) (log old) (log new) (count old) (count new) lines (R lines)
+
+-- some lines are known
+abbrev pub IsKnown : {S : Type 0} → (S → Lines → Type 0) → S → Type 0
+IsKnown {S} knows s = (lines : Lines) × knows s lines
+
+-- whatever the log tells after an error derives, where what it told before was known
+abbrev pub StillDerives : (known log_old log_new : Lines → Type 0) → Type 0
+StillDerives known log_old log_new = (lines : Lines) → known lines → log_old lines → (told : Lines) → log_new told → Derives told

@@ -1,0 +1,20 @@
+-- The files that a command writes have different names.
+use Rattle.std.proofs.Common.{◌≡◌, ℕ, List, None, Some, refl, sym, arith}
+use Rattle.plan_words.specs.declared.command.Command.{Command}
+use Rattle.plan_words.specs.declared.command.Command.TheVariants.{Draw, Verify, Check, Graph as PrintGraph, Make, Trial}
+use Rattle.plan_words.specs.Words.{IsCommandOf}
+use Rattle.plan_words.proofs.AnswerLemmas.{outputs_apart}
+use Rattle.draw_answer.specs.Written.{AreFilesApart}
+use Rattle.draw_answer.proofs.LeavesLemmas.{two_apart}
+use Rattle.schematic_main.specs.Commands.{outputs_of}
+
+pub asked_apart : (words : List (List ℕ)) (command : Command) → IsCommandOf words command → AreFilesApart (outputs_of command)
+asked_apart words (Draw input grid order budget None None) asked = λ i j d before within. absurd (omega (arith, within))
+asked_apart words (Draw input grid order budget None (Some l)) asked = λ i j d before within. absurd (omega (arith, before, within))
+asked_apart words (Draw input grid order budget (Some p) None) asked = λ i j d before within. absurd (omega (arith, before, within))
+asked_apart words (Draw input grid order budget (Some p) (Some l)) asked = two_apart l p (λ same. outputs_apart words input grid order budget (Some p) (Some l) p l asked refl refl (sym same))
+asked_apart words (PrintGraph input) asked = λ i j d before within. absurd (omega (arith, within))
+asked_apart words (Verify input sheet) asked = λ i j d before within. absurd (omega (arith, within))
+asked_apart words (Check input sheet log) asked = λ i j d before within. absurd (omega (arith, within))
+asked_apart words (Make n) asked = λ i j d before within. absurd (omega (arith, within))
+asked_apart words (Trial n) asked = λ i j d before within. absurd (omega (arith, within))

@@ -1,8 +1,0 @@
-use Rattle.schematic_main.proofs.VerdictLemmas.{one_status, one_text}
-use Rattle.schematic_main.proofs.laws.one_sheet_answer.Goals as goal
-
-pub returns-clause-status : goal.returns-clause-status
-returns-clause-status c = one_status
-
-pub returns-clause-text : goal.returns-clause-text
-returns-clause-text c = one_text

@@ -1,0 +1,4 @@
+pub mod Verdict
+pub mod CheckLine
+pub mod Checked
+pub mod CertifiedSheet

@@ -1,0 +1,241 @@
+-- The lines of a search for the front.
+use Rattle.std.proofs.Common.{◌≡◌, ◌≢◌, ℕ, ◌+◌, ◌<◌, ◌≤◌, Bool, true, false, cond, [], ◌∷◌, ◌++◌, length, refl, sym, ◌∙◌, ap, subst, inl, inr, arith, append-nil, append_assoc}
+use Rattle.std.specs.Prelude.{Some, None, Option, flat_map}
+use Rattle.std.proofs.lemmas.Grind.{flat_map-append}
+use Rattle.plan_core.specs.declared.criterion.Criterion.{Criterion}
+use Rattle.cnf_core.specs.Clause.{Clauses, words_of}
+use Rattle.refute_log.specs.Lines.{MayAllBeTold}
+use Rattle.refute_log.specs.Told.{Lines}
+use Rattle.refute_log.specs.Log.{added, given, learnt, Derives, Due}
+use Rattle.certified_values.specs.Bounds.{CoversDrawings}
+use Rattle.certified_values.specs.Expected.{BeginsLines, clause_lines, sum_lines, sum_vars_of, with_cap, same_criterion}
+use Rattle.certified_values.specs.Full.{CapsPass}
+use Rattle.certified_values.proofs.ExpectedLemmas.{same_tells, with_cap_here, with_cap_other}
+use Rattle.lex_search.specs.declared.oracle.Built.{Built}
+use Rattle.lex_search.specs.declared.oracle.Built.TheVariants.{Whole as AllOfThem, NoRoom}
+use Rattle.certified_values.specs.declared.stop.Stop.{Stop}
+use Rattle.certified_values.specs.declared.stop.Stop.TheVariants.{BudgetSpent, RoomFull}
+use Rattle.lex_search.specs.Task.{Task, greatest_of}
+use Rattle.certified_values.specs.Cause.{IsCause}
+use Rattle.lex_search.specs.Built.{SumPasses, IsBuild, AreBuiltTo}
+use Rattle.lex_search.specs.Outcome.{first_lines}
+use Rattle.refute_log.specs.Steps.{ToldBehind, Continues}
+use Rattle.refute_log.proofs.StepLemmas.{stays, goes_on, becomes}
+use Rattle.lex_search.proofs.QuestionLemmas.{clause_lines_append}
+use Rattle.lex_search.proofs.BuildLemmas.{formulas_are_clauses, sum_is_clauses}
+use Rattle.trade_off.specs.declared.outcome.FrontEnd.{FrontEnd}
+use Rattle.trade_off.specs.declared.outcome.FrontEnd.TheVariants.{Whole, Empty, Conflicts, Room}
+use Rattle.trade_off.specs.Least.{AreAsked}
+use Rattle.trade_off.specs.Outcome.{front_lines, IsFrontCause, IsFrontLog, IsBuiltFront, stop_behind}
+
+-- ---- the lines of both criteria
+
+-- the first criterion's lines, and then the second's
+abbrev first_sum : Task → Criterion → Lines
+first_sum p a = sum_lines p.encoding p.encoding.vars a (greatest_of p a)
+
+abbrev second_vars : Task → Criterion → ℕ
+second_vars p a = p.encoding.vars + sum_vars_of p.encoding p.encoding.vars a (greatest_of p a)
+
+abbrev second_sum : Task → Criterion → Criterion → Lines
+second_sum p a b = sum_lines p.encoding (second_vars p a) b (greatest_of p b)
+
+pub front_is : (p : Task) (a b : Criterion) → front_lines p a b ≡ first_lines p ++ (first_sum p a ++ second_sum p a b)
+front_is p a b = ap (λ (ls : Lines). first_lines p ++ (first_sum p a ++ ls)) (append-nil (second_sum p a b))
+
+clauses_of_first : (p : Task) → clause_lines (first_lines p) ≡ first_lines p
+clauses_of_first p = formulas_are_clauses p.encoding.clauses
+
+told_first : (p : Task) (a : Criterion) → clause_lines (first_lines p ++ first_sum p a) ≡ first_lines p ++ first_sum p a
+told_first p a = clause_lines_append (first_lines p) (first_sum p a)
+    ∙ ap (λ (ls : Lines). ls ++ clause_lines (first_sum p a)) (clauses_of_first p)
+    ∙ ap (λ (ls : Lines). first_lines p ++ ls) (sum_is_clauses p.encoding p.encoding.vars a (greatest_of p a))
+
+told_both : (p : Task) (a b : Criterion) → clause_lines (first_lines p ++ (first_sum p a ++ second_sum p a b)) ≡ front_lines p a b
+told_both p a b =
+    ap clause_lines (sym (append_assoc (first_lines p) (first_sum p a) (second_sum p a b)))
+    ∙ clause_lines_append (first_lines p ++ first_sum p a) (second_sum p a b)
+    ∙ ap (λ (ls : Lines). ls ++ clause_lines (second_sum p a b)) (told_first p a)
+    ∙ ap (λ (ls : Lines). (first_lines p ++ first_sum p a) ++ ls) (sum_is_clauses p.encoding (second_vars p a) b (greatest_of p b))
+    ∙ append_assoc (first_lines p) (first_sum p a) (second_sum p a b)
+    ∙ sym (front_is p a b)
+
+pub words_front : (xs ys : Lines) → words_of (flat_map given xs) ≤ words_of (flat_map given (xs ++ ys))
+words_front xs ys = subst (λ (cs : Clauses). words_of (flat_map given xs) ≤ words_of cs) (sym (flat_map-append given xs ys)) (by (flat_map given xs) (flat_map given ys))
+  where
+    by : (cs ds : Clauses) → words_of cs ≤ words_of (cs ++ ds)
+    by [] ds = omega arith
+    by (c ∷ cs) ds = let h = by cs ds in omega (arith, h)
+
+-- no room for the first criterion's lines, or for the second's
+first_passes : (p : Task) (a b : Criterion) (lines : Lines) → lines ≡ first_lines p → SumPasses p p.encoding.vars a (greatest_of p a) lines → CapsPass p.encoding (a ∷ b ∷ []) lines p.room (greatest_of p)
+first_passes p a b lines is (inl h) = inl (let x = second_vars p a in let y = sum_vars_of p.encoding x b (greatest_of p b) in omega (arith, h))
+first_passes p a b lines is (inr h) =
+    let told : clause_lines lines ≡ first_lines p = ap clause_lines is ∙ clauses_of_first p in
+    let one : clause_lines lines ++ first_sum p a ≡ first_lines p ++ first_sum p a = ap (λ (ls : Lines). ls ++ first_sum p a) told in
+    let le : words_of (flat_map given (first_lines p ++ first_sum p a)) ≤ words_of (flat_map given (front_lines p a b)) =
+    subst (λ (ls : Lines). words_of (flat_map given (first_lines p ++ first_sum p a)) ≤ words_of (flat_map given ls)) (append_assoc (first_lines p) (first_sum p a) (second_sum p a b) ∙ sym (front_is p a b))
+    (words_front (first_lines p ++ first_sum p a) (second_sum p a b)) in
+    let g : p.room < words_of (flat_map given (first_lines p ++ first_sum p a)) + words_of (flat_map learnt lines) = subst (λ (ls : Lines). p.room < words_of (flat_map given ls) + words_of (flat_map learnt lines)) one h in
+    inr (omega (arith, le, g))
+
+second_passes : (p : Task) (a b : Criterion) (lines : Lines) → lines ≡ first_lines p ++ first_sum p a → SumPasses p (second_vars p a) b (greatest_of p b) lines → CapsPass p.encoding (a ∷ b ∷ []) lines p.room (greatest_of p)
+second_passes p a b lines is (inl h) = inl h
+second_passes p a b lines is (inr h) =
+    let told : clause_lines lines ≡ first_lines p ++ first_sum p a = ap clause_lines is ∙ told_first p a in
+    let one : clause_lines lines ++ second_sum p a b ≡ front_lines p a b = ap (λ (ls : Lines). ls ++ second_sum p a b) told ∙ append_assoc (first_lines p) (first_sum p a) (second_sum p a b) ∙ sym (front_is p a b) in
+    inr (subst (λ (ls : Lines). p.room < words_of (flat_map given ls) + words_of (flat_map learnt lines)) one h)
+
+-- ---- both are told, or a front of them
+
+begins_first : (p : Task) (a b : Criterion) (lines : Lines) → lines ≡ first_lines p → BeginsLines (clause_lines lines) (front_lines p a b)
+begins_first p a b lines is = (first_sum p a ++ second_sum p a b, front_is p a b ∙ ap (λ (ls : Lines). ls ++ (first_sum p a ++ second_sum p a b)) (sym (ap clause_lines is ∙ clauses_of_first p)))
+
+begins_second : (p : Task) (a b : Criterion) (lines : Lines) → lines ≡ first_lines p ++ first_sum p a → BeginsLines (clause_lines lines) (front_lines p a b)
+begins_second p a b lines is = (
+  second_sum p a b,
+  front_is p a b ∙ sym (append_assoc (first_lines p) (first_sum p a) (second_sum p a b)) ∙ ap (λ (ls : Lines). ls ++ second_sum p a b) (sym (ap clause_lines is ∙ told_first p a)),
+)
+
+abbrev BuiltBehind : Task → Criterion → Criterion → Built → Lines → Lines → Type 0
+BuiltBehind p a b r lines more = lines ≡ first_lines p → IsBuiltFront p a b r (lines ++ more)
+
+pub no_room_for_first : {S : Type 0} (knows log : S → Lines → Type 0) (count : S → ℕ) (s e : S) (p : Task) (a b : Criterion) (vars : ℕ) (r : Built) → r ≡ NoRoom → vars ≡ p.encoding.vars →
+    Continues knows log count s e (λ lines more. IsBuild p vars a (greatest_of p a) r lines more) →
+    Continues knows log count s e (λ lines more. lines ≡ first_lines p → IsBuiltFront p a b NoRoom (lines ++ more))
+no_room_for_first knows log count s e p a b vars r was start goes =
+    becomes knows log count s e (λ lines more. IsBuild p vars a (greatest_of p a) r lines more) (BuiltBehind p a b NoRoom) goes
+    (λ lines xs ks ke h is.
+    let got : (xs ≡ []) × SumPasses p p.encoding.vars a (greatest_of p a) lines = subst (λ v. IsBuild p v a (greatest_of p a) NoRoom lines xs) start (subst (λ (x : Built). IsBuild p vars a (greatest_of p a) x lines xs) was h) in
+    let same : lines ++ xs ≡ lines = ap (λ (ls : Lines). lines ++ ls) got.0 ∙ append-nil lines in
+    let whole : lines ++ xs ≡ first_lines p = same ∙ is in
+    (begins_first p a b (lines ++ xs) whole, first_passes p a b (lines ++ xs) whole (subst (SumPasses p p.encoding.vars a (greatest_of p a)) (sym same) got.1)))
+
+second_built : (p : Task) (a b : Criterion) (r : Built) (lines xs ys : Lines) → lines ≡ first_lines p → xs ≡ first_sum p a → IsBuild p (second_vars p a) b (greatest_of p b) r (lines ++ xs) ys → IsBuiltFront p a b r (lines ++ (xs ++ ys))
+second_built p a b AllOfThem lines xs ys is one two =
+    ap clause_lines (ap (λ (ls : Lines). ls ++ (xs ++ ys)) is ∙ ap (λ (ls : Lines). first_lines p ++ (ls ++ ys)) one ∙ ap (λ (ls : Lines). first_lines p ++ (first_sum p a ++ ls)) two) ∙ told_both p a b
+second_built p a b NoRoom lines xs ys is one two =
+    let same : lines ++ (xs ++ ys) ≡ lines ++ xs = ap (λ (ls : Lines). lines ++ (xs ++ ls)) two.0 ∙ ap (λ (ls : Lines). lines ++ ls) (append-nil xs) in
+    let whole : lines ++ (xs ++ ys) ≡ first_lines p ++ first_sum p a = same ∙ ap (λ (ls : Lines). ls ++ xs) is ∙ ap (λ (ls : Lines). first_lines p ++ ls) one in
+    (begins_second p a b (lines ++ (xs ++ ys)) whole, second_passes p a b (lines ++ (xs ++ ys)) whole (subst (SumPasses p (second_vars p a) b (greatest_of p b)) (sym same) two.1))
+
+pub both_built : {S : Type 0} (knows log : S → Lines → Type 0) (count : S → ℕ) (s t e : S) (q p : Task) (a b : Criterion) (vars many : ℕ) (first r : Built) → q ≡ p → first ≡ AllOfThem → vars ≡ p.encoding.vars →
+    many ≡ vars + sum_vars_of p.encoding vars a (greatest_of p a) →
+    Continues knows log count s t (λ lines more. IsBuild p vars a (greatest_of p a) first lines more) →
+    Continues knows log count t e (λ lines more. IsBuild q many b (greatest_of q b) r lines more) →
+    Continues knows log count s e (λ lines more. lines ≡ first_lines p → IsBuiltFront p a b r (lines ++ more))
+both_built knows log count s t e q p a b vars many first r same was start size f g =
+    let last : many ≡ second_vars p a = size ∙ ap (λ v. v + sum_vars_of p.encoding v a (greatest_of p a)) start in
+    let h : Continues knows log count t e (λ lines more. IsBuild p (second_vars p a) b (greatest_of p b) r lines more) =
+    subst (λ v. Continues knows log count t e (λ lines more. IsBuild p v b (greatest_of p b) r lines more)) last
+    (subst (λ (x : Task). Continues knows log count t e (λ lines more. IsBuild x many b (greatest_of x b) r lines more)) same g) in
+    goes_on knows log count s t e (λ lines more. IsBuild p vars a (greatest_of p a) first lines more) (λ lines more. IsBuild p (second_vars p a) b (greatest_of p b) r lines more) (BuiltBehind p a b r) f h
+    (λ lines xs ys ks kt ke one two is.
+    let got : xs ≡ first_sum p a = subst (λ v. IsBuild p v a (greatest_of p a) AllOfThem lines xs) start (subst (λ (x : Built). IsBuild p vars a (greatest_of p a) x lines xs) was one) in
+    second_built p a b r lines xs ys is got two)
+
+-- ---- the whole search
+
+-- what is known of the lines
+pub record Laws {S : Type 0} (knows : S → Lines → Type 0) (s : S) (p : Task) : Type 0 where
+  pub covers : (lines : Lines) → knows s lines → CoversDrawings p.graph p.above p.grid lines
+  pub formed : (lines : Lines) → knows s lines → MayAllBeTold lines
+  pub derives : (lines : Lines) → knows s lines → Derives lines
+  pub due : (lines : Lines) → knows s lines → Due lines
+  pub fits : (lines : Lines) → knows s lines → words_of (flat_map added lines) ≤ p.room
+  pub within : (lines : Lines) → knows s lines → length (flat_map learnt lines) ≤ p.budget
+
+pub laws_at : {S : Type 0} (knows : S → Lines → Type 0) (s : S) (q p : Task) → q ≡ p → Laws knows s q → Laws knows s p
+laws_at knows s q p same laws = subst (Laws knows s) same laws
+
+front_log : {S : Type 0} (knows : S → Lines → Type 0) (s : S) (p : Task) (a b : Criterion) (ending : FrontEnd) (lines : Lines) → Laws knows s p → knows s lines → BeginsLines (clause_lines lines) (front_lines p a b) →
+    IsFrontCause p a b ending lines → IsFrontLog p a b ending lines
+front_log knows s p a b ending lines laws k begins cause = record {
+  formed = laws.formed lines k;
+  derives = laws.derives lines k;
+  due = laws.due lines k;
+  covers = laws.covers lines k;
+  begins = begins;
+  fits = laws.fits lines k;
+  within = laws.within lines k;
+  cause = cause;
+}
+
+pub tells_no_room : {S : Type 0} (knows log : S → Lines → Type 0) (count : S → ℕ) (s e : S) (p : Task) (a b : Criterion) (r : Built) → r ≡ NoRoom → Laws knows e p → knows s (first_lines p) →
+    Continues knows log count s e (λ lines more. lines ≡ first_lines p → IsBuiltFront p a b r (lines ++ more)) →
+    ToldBehind (knows e) (log s) (log e) (count s) (count e) (first_lines p) (λ more. IsFrontLog p a b Room (first_lines p ++ more))
+tells_no_room knows log count s e p a b r was laws start goes =
+    let t : ToldBehind (knows e) (log s) (log e) (count s) (count e) (first_lines p) (λ more. first_lines p ≡ first_lines p → IsBuiltFront p a b r (first_lines p ++ more)) = goes (first_lines p) start in
+    let got : IsBuiltFront p a b NoRoom (first_lines p ++ t.more) = subst (λ (x : Built). IsBuiltFront p a b x (first_lines p ++ t.more)) was (t.does refl) in
+    record { more = t.more; knows = t.knows; told = t.told; counted = t.counted; does = front_log knows e p a b Room (first_lines p ++ t.more) laws t.knows got.0 (inl got.1) }
+
+told_still : (p : Task) (stop : Option Stop) (lines xs ys : Lines) → AreAsked p stop (lines ++ xs) ys → clause_lines (lines ++ (xs ++ ys)) ≡ clause_lines (lines ++ xs)
+told_still p stop lines xs ys h = ap clause_lines (sym (append_assoc lines xs ys)) ∙ clause_lines_append (lines ++ xs) ys ∙ ap (λ (ls : Lines). clause_lines (lines ++ xs) ++ ls) (none stop h) ∙ append-nil (clause_lines (lines ++ xs))
+  where
+    none : (stop : Option Stop) → AreAsked p stop (lines ++ xs) ys → clause_lines ys ≡ []
+    none None h = h
+    none (Some stop) h = h.0
+
+cause_of : (p : Task) (a b : Criterion) (ending : FrontEnd) (lines xs ys : Lines) → clause_lines (lines ++ xs) ≡ front_lines p a b → AreAsked p (stop_behind ending) (lines ++ xs) ys → IsFrontCause p a b ending (lines ++ (xs ++ ys))
+cause_of p a b Whole lines xs ys told h = told_still p None lines xs ys h ∙ told
+cause_of p a b Empty lines xs ys told h = told_still p None lines xs ys h ∙ told
+cause_of p a b Conflicts lines xs ys told h = subst (IsCause p.budget p.room BudgetSpent) (append_assoc lines xs ys) h.1
+cause_of p a b Room lines xs ys told h = inr (told_still p (Some RoomFull) lines xs ys h ∙ told, subst (IsCause p.budget p.room RoomFull) (append_assoc lines xs ys) h.1)
+
+pub tells_front : {S : Type 0} (knows log : S → Lines → Type 0) (count : S → ℕ) (s t e : S) (q p : Task) (a b : Criterion) (r : Built) (ending : FrontEnd) → q ≡ p → r ≡ AllOfThem → Laws knows e p → knows s (first_lines p) →
+    Continues knows log count s t (λ lines more. lines ≡ first_lines p → IsBuiltFront p a b r (lines ++ more)) →
+    Continues knows log count t e (AreAsked q (stop_behind ending)) →
+    ToldBehind (knows e) (log s) (log e) (count s) (count e) (first_lines p) (λ more. IsFrontLog p a b ending (first_lines p ++ more))
+tells_front knows log count s t e q p a b r ending same was laws start f g =
+    let from = first_lines p in
+    let h : Continues knows log count t e (AreAsked p (stop_behind ending)) = subst (λ (x : Task). Continues knows log count t e (AreAsked x (stop_behind ending))) same g in
+    let both : Continues knows log count s e (λ lines more. lines ≡ from → IsFrontLog p a b ending (lines ++ more)) =
+    goes_on knows log count s t e (λ lines more. lines ≡ from → IsBuiltFront p a b r (lines ++ more)) (AreAsked p (stop_behind ending)) (λ lines more. lines ≡ from → IsFrontLog p a b ending (lines ++ more)) f h
+    (λ lines xs ys ks kt ke one two is.
+    let told : clause_lines (lines ++ xs) ≡ front_lines p a b = subst (λ (x : Built). IsBuiltFront p a b x (lines ++ xs)) was (one is) in
+    let whole : clause_lines (lines ++ (xs ++ ys)) ≡ front_lines p a b = told_still p (stop_behind ending) lines xs ys two ∙ told in
+    front_log knows e p a b ending (lines ++ (xs ++ ys)) laws (subst (knows e) (append_assoc lines xs ys) ke)
+    ([], sym whole ∙ sym (append-nil (clause_lines (lines ++ (xs ++ ys)))))
+    (cause_of p a b ending lines xs ys told two)) in
+    let all : ToldBehind (knows e) (log s) (log e) (count s) (count e) from (λ more. from ≡ from → IsFrontLog p a b ending (from ++ more)) = both from start in
+    record { more = all.more; knows = all.knows; told = all.told; counted = all.counted; does = all.does refl }
+
+-- ---- the bounds of one criterion, and of none where its greatest value is 0
+
+pub zero_caps : (f : Criterion → ℕ) (c d : Criterion) (n : ℕ) → n ≡ 0 → f c ≡ 0 → f d ≡ with_cap f c n d
+zero_caps f c d n nil none = by (same_criterion c d) refl
+  where
+    by : (b : Bool) → same_criterion c d ≡ b → f d ≡ cond (same_criterion c d) n (f d)
+    by true e = (ap f (sym (same_tells c d e)) ∙ none ∙ sym nil) ∙ sym (ap (λ b. cond b n (f d)) e)
+    by false e = sym (ap (λ b. cond b n (f d)) e)
+
+pub zero_vars : (p : Task) (vars : ℕ) (c : Criterion) → greatest_of p c ≡ 0 → vars ≡ vars + sum_vars_of p.encoding vars c (greatest_of p c)
+zero_vars p vars c nil = (let e : vars ≡ vars + 0 = omega arith in e) ∙ ap (λ n. vars + sum_vars_of p.encoding vars c n) (sym nil)
+
+pub zero_lines : {S : Type 0} (knows log : S → Lines → Type 0) (count : S → ℕ) (s : S) (p : Task) (vars : ℕ) (c : Criterion) → greatest_of p c ≡ 0 →
+    Continues knows log count s s (λ lines more. IsBuild p vars c (greatest_of p c) AllOfThem lines more)
+zero_lines knows log count s p vars c nil =
+    stays knows log count s (λ lines more. IsBuild p vars c (greatest_of p c) AllOfThem lines more) (λ lines k. ap (sum_lines p.encoding vars c) (sym nil))
+
+pub whole_caps : (p : Task) (f : Criterion → ℕ) (vars : ℕ) (c : Criterion) (most : ℕ) (r : Built) (h : Criterion → ℕ) (many : ℕ) (d : Criterion) → r ≡ AllOfThem → most ≡ greatest_of p c → AreBuiltTo p f vars c most r h many → h d ≡ with_cap f c (greatest_of p c) d
+whole_caps p f vars c most r h many d whole is built =
+    let state : AreBuiltTo p f vars c most AllOfThem h many = subst (λ (x : Built). AreBuiltTo p f vars c most x h many) whole built in
+    ap (λ (k : Criterion → ℕ). k d) state.0 ∙ ap (λ n. with_cap f c n d) is
+
+pub whole_vars : (p : Task) (f : Criterion → ℕ) (vars : ℕ) (c : Criterion) (most : ℕ) (r : Built) (h : Criterion → ℕ) (many : ℕ) → r ≡ AllOfThem → most ≡ greatest_of p c → AreBuiltTo p f vars c most r h many → many ≡ vars + sum_vars_of p.encoding vars c (greatest_of p c)
+whole_vars p f vars c most r h many whole is built =
+    let state : AreBuiltTo p f vars c most AllOfThem h many = subst (λ (x : Built). AreBuiltTo p f vars c most x h many) whole built in
+    state.1 ∙ ap (λ n. vars + sum_vars_of p.encoding vars c n) is
+
+pub lines_whole : {S : Type 0} (knows log : S → Lines → Type 0) (count : S → ℕ) (s e : S) (p : Task) (vars : ℕ) (c : Criterion) (most : ℕ) (r : Built) → most ≡ greatest_of p c →
+    Continues knows log count s e (λ lines more. IsBuild p vars c most r lines more) → Continues knows log count s e (λ lines more. IsBuild p vars c (greatest_of p c) r lines more)
+lines_whole knows log count s e p vars c most r is goes = subst (λ n. Continues knows log count s e (λ lines more. IsBuild p vars c n r lines more)) is goes
+
+pub unbuilt_still : (f h : Criterion → ℕ) (a b : Criterion) (n : ℕ) → a ≢ b → f b ≡ 0 → ((d : Criterion) → h d ≡ with_cap f a n d) → h b ≡ 0
+unbuilt_still f h a b n apart none is = is b ∙ with_cap_other f a n b apart ∙ none
+
+pub first_still : (f h k : Criterion → ℕ) (a b : Criterion) (n m : ℕ) → a ≢ b → ((d : Criterion) → h d ≡ with_cap f a n d) → ((d : Criterion) → k d ≡ with_cap h b m d) → k a ≡ n
+first_still f h k a b n m apart one two = two a ∙ with_cap_other h b m a (λ e. apart (sym e)) ∙ one a ∙ with_cap_here f a n
+
+pub second_here : (f h : Criterion → ℕ) (b : Criterion) (n : ℕ) → ((d : Criterion) → h d ≡ with_cap f b n d) → h b ≡ n
+second_here f h b n is = is b ∙ with_cap_here f b n

@@ -1,0 +1,57 @@
+use Rattle.std.proofs.Common.{◌≡◌, ◌++◌, ◌∙◌, ap}
+use Rattle.std.proofs.lemmas.Result.{IfOk-weaker}
+use Rattle.plan_core.specs.declared.criterion.Criterion.{Criterion}
+use Rattle.certified_values.specs.Expected.{with_cap}
+use Rattle.lex_search.specs.declared.oracle.Built.TheVariants.{Whole}
+use Rattle.lex_search.specs.Task.{Task, greatest_of}
+use Rattle.lex_search.specs.Built.{IsBuild}
+use Rattle.lex_search.specs.Outcome.{first_lines}
+use Rattle.refute_log.specs.Steps.{Continues}
+use Rattle.trade_off.specs.Outcome.{IsBuiltFront}
+use Rattle.trade_off.proofs.TellLemmas.{no_room_for_first, both_built, unbuilt_still, first_still, second_here}
+use Rattle.trade_off.proofs.building.build_both.Goals as goal
+
+pub build_whole-requires-clause-none : goal.build_whole-requires-clause-none
+build_whole-requires-clause-none g c = c.requires.fresh.none c.args.a
+
+pub build_whole-requires-in-Whole-clause-ready : goal.build_whole-requires-in-Whole-clause-ready
+build_whole-requires-in-Whole-clause-ready g c = c.in_ok-build_whole.ensures.ready c.in-Whole.is
+
+pub build_whole-requires-in-Whole-clause-none : goal.build_whole-requires-in-Whole-clause-none
+build_whole-requires-in-Whole-clause-none g c = let o = g.O.Oracle in
+    let a = c.args.oracle.now in
+    unbuilt_still (o.caps a) (o.caps c.build_whole.new.oracle) c.args.a c.args.b (greatest_of (o.task a) c.args.a) c.requires.apart (c.requires.fresh.none c.args.b) (c.in_ok-build_whole.ensures.caps c.in-Whole.is)
+
+pub returns-in-NoRoom-clause-lines : goal.returns-in-NoRoom-clause-lines
+returns-in-NoRoom-clause-lines g c = let o = g.O.Oracle in
+    let a = c.args.oracle.now in
+    no_room_for_first o.knows o.log o.learnt a c.build_whole.new.oracle (o.task a) c.args.a c.args.b (o.vars a) c.in_ok-build_whole.field-0 c.in-NoRoom.is c.requires.fresh.vars_are c.in_ok-build_whole.ensures.lines
+
+pub returns-in-Whole-clause-first : goal.returns-in-Whole-clause-first
+returns-in-Whole-clause-first g c = let o = g.O.Oracle in
+    let a = c.args.oracle.now in
+    let b = c.build_whole.new.oracle in
+    let e = c.build_whole-in-Whole.new.oracle in
+    IfOk-weaker c.build_whole-in-Whole.result (λ r. r ≡ Whole → (d : Criterion) → o.caps e d ≡ with_cap (o.caps b) c.args.b (greatest_of (o.task b) c.args.b) d) (λ r. r ≡ Whole → o.caps e c.args.a ≡ greatest_of (o.task a) c.args.a)
+    (λ r h whole. first_still (o.caps a) (o.caps b) (o.caps e) c.args.a c.args.b (greatest_of (o.task a) c.args.a) (greatest_of (o.task b) c.args.b) c.requires.apart (c.in_ok-build_whole.ensures.caps c.in-Whole.is) (h whole))
+    c.build_whole-in-Whole.ensures.caps
+
+pub returns-in-Whole-clause-second : goal.returns-in-Whole-clause-second
+returns-in-Whole-clause-second g c = let o = g.O.Oracle in
+    let a = c.args.oracle.now in
+    let b = c.build_whole.new.oracle in
+    let e = c.build_whole-in-Whole.new.oracle in
+    IfOk-weaker c.build_whole-in-Whole.result (λ r. r ≡ Whole → (d : Criterion) → o.caps e d ≡ with_cap (o.caps b) c.args.b (greatest_of (o.task b) c.args.b) d) (λ r. r ≡ Whole → o.caps e c.args.b ≡ greatest_of (o.task a) c.args.b)
+    (λ r h whole. second_here (o.caps b) (o.caps e) c.args.b (greatest_of (o.task b) c.args.b) (h whole) ∙ ap (λ (p : Task). greatest_of p c.args.b) c.build_whole.ensures.task)
+    c.build_whole-in-Whole.ensures.caps
+
+pub returns-in-Whole-clause-lines : goal.returns-in-Whole-clause-lines
+returns-in-Whole-clause-lines g c = let o = g.O.Oracle in
+    let a = c.args.oracle.now in
+    let b = c.build_whole.new.oracle in
+    let e = c.build_whole-in-Whole.new.oracle in
+    IfOk-weaker c.build_whole-in-Whole.result (λ r. Continues o.knows o.log o.learnt b e (λ lines more. IsBuild (o.task b) (o.vars b) c.args.b (greatest_of (o.task b) c.args.b) r lines more))
+    (λ r. Continues o.knows o.log o.learnt a e (λ lines more. lines ≡ first_lines (o.task a) → IsBuiltFront (o.task a) c.args.a c.args.b r (lines ++ more)))
+    (λ r h. both_built o.knows o.log o.learnt a b e (o.task b) (o.task a) c.args.a c.args.b (o.vars a) (o.vars b) c.in_ok-build_whole.field-0 r c.build_whole.ensures.task c.in-Whole.is c.requires.fresh.vars_are (c.in_ok-build_whole.ensures.vars c.in-Whole.is)
+    c.in_ok-build_whole.ensures.lines h)
+    c.build_whole-in-Whole.ensures.lines

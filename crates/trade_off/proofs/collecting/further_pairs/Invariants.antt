@@ -1,0 +1,23 @@
+use Rattle.std.proofs.Common.{◌≡◌, ◌≤◌}
+use Rattle.std.specs.Prelude.{None}
+use Rattle.lex_search.specs.Task.{IsLawful, greatest_of}
+use Rattle.refute_log.specs.Steps.{Continues, IsKnown}
+use Rattle.trade_off.specs.Least.{AreAsked}
+use Rattle.trade_off.specs.Next.{IsSoFar}
+use Rattle.trade_off.proofs.collecting.further_pairs.Given as goal
+
+abbrev pub invariant-loop-limit : goal.invariant-loop-limit
+invariant-loop-limit g l = let o = g.O.Oracle in record {
+  task : o.task l.oracle ≡ o.task l.fn.oracle;
+  caps : o.caps l.oracle ≡ o.caps l.fn.oracle;
+  ready : o.ready l.oracle;
+  known : IsKnown o.knows l.oracle;
+  so_far : IsSoFar (IsLawful (o.task l.fn.oracle)) l.a l.b l.limit l.pairs;
+  within : l.limit ≤ greatest_of (o.task l.fn.oracle) l.b;
+  later : o.is_later l.fn.oracle l.oracle;
+  faults : o.faults l.fn.oracle ≤ o.faults l.oracle;
+  lines : Continues o.knows o.log o.learnt l.fn.oracle l.oracle (AreAsked (o.task l.fn.oracle) None);
+}
+
+abbrev pub decreases-loop-limit : goal.decreases-loop-limit
+decreases-loop-limit g l = l.limit

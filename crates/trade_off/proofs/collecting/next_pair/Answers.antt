@@ -1,0 +1,92 @@
+use Rattle.std.proofs.Common.{refl, sym, ◌∙◌, ap, subst, List}
+use Rattle.std.specs.Prelude.{IfOk, MatchOption, ⊤, ◌≤◌}
+use Rattle.std.proofs.lemmas.Result.{IfOk-weaker}
+use Rattle.plan_core.specs.Values.{values_of}
+use Rattle.lex_search.specs.declared.oracle.Below.{Below}
+use Rattle.lex_search.specs.Asked.{AreMet, IsReply}
+use Rattle.lex_search.specs.Task.{Task, IsLawful, greatest_of}
+use Rattle.refute_log.specs.Steps.{Continues}
+use Rattle.trade_off.specs.Least.{AreAsked}
+use Rattle.trade_off.specs.Next.{IsNext, stop_of}
+use Rattle.refute_log.proofs.StepLemmas.{known_after}
+use Rattle.trade_off.proofs.AskLemmas.{asked_then, asks_found, asks_refuted, asks_stopped, refuted_none, laws_back}
+use Rattle.trade_off.proofs.NextLemmas.{under_within, under_once, none_from, found_fact}
+use Rattle.trade_off.proofs.collecting.next_pair.Goals as goal
+
+pub ask-requires-clause-there : goal.ask-requires-clause-there
+ask-requires-clause-there g c = let o = g.O.Oracle in
+    under_within (o.caps c.args.oracle.now) c.args.b (greatest_of (o.task c.args.oracle.now) c.args.b) c.args.limit c.deref.result.now (c.deref.ensures.value ∙ c.in_ok-bounds.ensures) c.requires.second c.requires.limit
+
+pub ask-requires-clause-once : goal.ask-requires-clause-once
+ask-requires-clause-once g c = under_once c.args.b c.args.limit c.deref.result.now (c.deref.ensures.value ∙ c.in_ok-bounds.ensures)
+
+pub pair_from-requires-clause-known : goal.pair_from-requires-clause-known
+pair_from-requires-clause-known g c = let o = g.O.Oracle in
+    let a = c.args.oracle.now in
+    known_after o.knows o.log o.learnt a c.ask.new.self (λ lines more. IsReply (o.task a) lines c.deref.result.now c.in_ok-first.field-0 more) c.requires.known c.in_ok-first.ensures.lines
+
+pub pair_from-requires-clause-first : goal.pair_from-requires-clause-first
+pair_from-requires-clause-first g c =
+    ap (λ f. f c.args.a) c.in_ok-first.ensures.caps ∙ c.requires.first ∙ sym (ap (λ (p : Task). greatest_of p c.args.a) c.in_ok-first.ensures.task)
+
+pub pair_from-requires-clause-second : goal.pair_from-requires-clause-second
+pair_from-requires-clause-second g c =
+    ap (λ f. f c.args.b) c.in_ok-first.ensures.caps ∙ c.requires.second ∙ sym (ap (λ (p : Task). greatest_of p c.args.b) c.in_ok-first.ensures.task)
+
+pub pair_from-requires-clause-limit : goal.pair_from-requires-clause-limit
+pair_from-requires-clause-limit g c =
+    subst (λ (p : Task). MatchOption c.args.limit ⊤ (λ k. (1 ≤ k) × (k ≤ greatest_of p c.args.b))) (sym c.in_ok-first.ensures.task) c.requires.limit
+
+pub pair_from-requires-clause-lawful : goal.pair_from-requires-clause-lawful
+pair_from-requires-clause-lawful g c = let o = g.O.Oracle in
+    let a = c.args.oracle.now in
+    subst (λ (p : Task). IsLawful p c.in-Found.first) (sym c.in_ok-first.ensures.task) (found_fact (o.task a) c.deref.result.now c.in-Found.first c.in_ok-first.field-0 c.in-Found.is c.in_ok-first.ensures.right).0
+
+pub pair_from-requires-clause-met : goal.pair_from-requires-clause-met
+pair_from-requires-clause-met g c = let o = g.O.Oracle in
+    subst (λ (bs : List Below). AreMet (values_of c.in-Found.first) bs) (c.deref.ensures.value ∙ c.in_ok-bounds.ensures)
+    (found_fact (o.task c.args.oracle.now) c.deref.result.now c.in-Found.first c.in_ok-first.field-0 c.in-Found.is c.in_ok-first.ensures.right).1
+
+pub returns-in-Refuted-clause-known : goal.returns-in-Refuted-clause-known
+returns-in-Refuted-clause-known g c = let o = g.O.Oracle in
+    let a = c.args.oracle.now in
+    known_after o.knows o.log o.learnt a c.ask.new.self (λ lines more. IsReply (o.task a) lines c.deref.result.now c.in_ok-first.field-0 more) c.requires.known c.in_ok-first.ensures.lines
+
+pub returns-clause-known : goal.returns-clause-known
+returns-clause-known g c = let o = g.O.Oracle in
+    let a = c.args.oracle.now in
+    known_after o.knows o.log o.learnt a c.ask.new.self (λ lines more. IsReply (o.task a) lines c.deref.result.now c.in_ok-first.field-0 more) c.requires.known c.in_ok-first.ensures.lines
+
+pub returns-in-Refuted-clause-next : goal.returns-in-Refuted-clause-next
+returns-in-Refuted-clause-next g c = let o = g.O.Oracle in
+    let a = c.args.oracle.now in
+    let e = c.ask.new.self in
+    none_from (o.task a) c.args.a c.args.b c.args.limit c.deref.result.now (c.deref.ensures.value ∙ c.in_ok-bounds.ensures)
+    (refuted_none o.knows o.log o.learnt a e (o.task a) (o.task a) c.deref.result.now c.in_ok-first.field-0 refl c.in-Refuted.is c.requires.known
+    (laws_back o.knows e (o.task e) (o.task a) c.in_ok-first.ensures.task (record { covers = g.met.O.Oracle.covers e; derives = g.met.O.Oracle.derives e }))
+    c.in_ok-first.ensures.lines)
+
+pub returns-in-Refuted-clause-lines : goal.returns-in-Refuted-clause-lines
+returns-in-Refuted-clause-lines g c = let o = g.O.Oracle in
+    let a = c.args.oracle.now in
+    asks_refuted o.knows o.log o.learnt a c.ask.new.self (o.task a) (o.task a) c.deref.result.now c.in_ok-first.field-0 refl c.in-Refuted.is c.in_ok-first.ensures.lines
+
+pub returns-clause-lines : goal.returns-clause-lines
+returns-clause-lines g c = let o = g.O.Oracle in
+    let a = c.args.oracle.now in
+    asks_stopped o.knows o.log o.learnt a c.ask.new.self (o.task a) (o.task a) c.deref.result.now c.in_ok-first.field-0 c.in-Stopped.stop refl c.in-Stopped.is c.in_ok-first.ensures.lines
+
+pub returns-in-Found-clause-next : goal.returns-in-Found-clause-next
+returns-in-Found-clause-next g c = let o = g.O.Oracle in
+    let a = c.args.oracle.now in
+    subst (λ (p : Task). IfOk c.pair_from.result (IsNext (IsLawful p) c.args.a c.args.b c.args.limit)) c.in_ok-first.ensures.task c.pair_from.ensures.next
+
+pub returns-in-Found-clause-lines : goal.returns-in-Found-clause-lines
+returns-in-Found-clause-lines g c = let o = g.O.Oracle in
+    let a = c.args.oracle.now in
+    let b = c.ask.new.self in
+    let e = c.pair_from.new.oracle in
+    IfOk-weaker c.pair_from.result (λ r. Continues o.knows o.log o.learnt b e (AreAsked (o.task b) (stop_of r))) (λ r. Continues o.knows o.log o.learnt a e (AreAsked (o.task a) (stop_of r)))
+    (λ r h. asked_then o.knows o.log o.learnt a b e (o.task b) (o.task a) (stop_of r) c.in_ok-first.ensures.task
+    (asks_found o.knows o.log o.learnt a b (o.task a) (o.task a) c.deref.result.now c.in_ok-first.field-0 c.in-Found.first refl c.in-Found.is c.in_ok-first.ensures.lines) h)
+    c.pair_from.ensures.lines

@@ -1,0 +1,60 @@
+use Rattle.std.proofs.Common.{sym, ◌∙◌, ap, subst, List}
+use Rattle.std.specs.Prelude.{Option}
+use Rattle.std.proofs.lemmas.Result.{IfOk-weaker}
+use Rattle.plan_core.specs.Values.{values_of}
+use Rattle.lex_search.specs.declared.oracle.Below.{Below}
+use Rattle.certified_values.specs.declared.stop.Stop.{Stop}
+use Rattle.lex_search.specs.Asked.{AreMet}
+use Rattle.lex_search.specs.Task.{Task, IsLawful, greatest_of}
+use Rattle.refute_log.specs.Steps.{Continues}
+use Rattle.trade_off.specs.Least.{AreAsked}
+use Rattle.trade_off.specs.Next.{IsNext, IsSecondOf, stop_of}
+use Rattle.trade_off.proofs.AskLemmas.{asked_then}
+use Rattle.trade_off.proofs.NextLemmas.{under_within, under_beside, next_from}
+use Rattle.trade_off.proofs.collecting.pair_from.Goals as goal
+
+pub lower-requires-clause-held : goal.lower-requires-clause-held
+lower-requires-clause-held g c = let o = g.O.Oracle in
+    under_within (o.caps c.args.oracle.now) c.args.b (greatest_of (o.task c.args.oracle.now) c.args.b) c.args.limit c.deref.result.now (c.deref.ensures.value ∙ c.in_ok-held.ensures) c.requires.second c.requires.limit
+
+pub lower-requires-clause-beside : goal.lower-requires-clause-beside
+lower-requires-clause-beside g c = under_beside c.args.a c.args.b c.args.limit c.deref.result.now (c.deref.ensures.value ∙ c.in_ok-held.ensures) c.requires.apart
+
+pub lower-requires-clause-met : goal.lower-requires-clause-met
+lower-requires-clause-met g c = subst (λ (bs : List Below). AreMet (values_of c.args.first) bs) (sym (c.deref.ensures.value ∙ c.in_ok-held.ensures)) c.requires.met
+
+pub second_from-requires-clause-first : goal.second_from-requires-clause-first
+second_from-requires-clause-first g c = let o = g.O.Oracle in
+    ap (λ f. f c.args.a) c.in_ok-lowered.ensures.caps ∙ c.requires.first ∙ sym (ap (λ (p : Task). greatest_of p c.args.a) c.lower.ensures.task)
+
+pub second_from-requires-clause-second : goal.second_from-requires-clause-second
+second_from-requires-clause-second g c = let o = g.O.Oracle in
+    ap (λ f. f c.args.b) c.in_ok-lowered.ensures.caps ∙ c.requires.second ∙ sym (ap (λ (p : Task). greatest_of p c.args.b) c.lower.ensures.task)
+
+pub second_from-requires-clause-lawful : goal.second_from-requires-clause-lawful
+second_from-requires-clause-lawful g c = let o = g.O.Oracle in
+    subst (λ (p : Task). IsLawful p c.in_ok-lowered.lowered.least) (sym c.lower.ensures.task) c.in_ok-lowered.ensures.lawful
+
+pub returns-in-Some-clause-lines : goal.returns-in-Some-clause-lines
+returns-in-Some-clause-lines g c = let o = g.O.Oracle in
+    subst (λ (s : Option Stop). Continues o.knows o.log o.learnt c.args.oracle.now c.lower.new.oracle (AreAsked (o.task c.args.oracle.now) s)) c.in-Some.is c.in_ok-lowered.ensures.lines
+
+pub returns-clause-lines : goal.returns-clause-lines
+returns-clause-lines g c = let o = g.O.Oracle in
+    let a = c.args.oracle.now in
+    let b = c.lower.new.oracle in
+    let e = c.second_from.new.oracle in
+    IfOk-weaker c.second_from.result (λ r. Continues o.knows o.log o.learnt b e (AreAsked (o.task b) (stop_of r))) (λ r. Continues o.knows o.log o.learnt a e (AreAsked (o.task a) (stop_of r)))
+    (λ r h. asked_then o.knows o.log o.learnt a b e (o.task b) (o.task a) (stop_of r) c.lower.ensures.task
+    (subst (λ (s : Option Stop). Continues o.knows o.log o.learnt a b (AreAsked (o.task a) s)) c.in-None.is c.in_ok-lowered.ensures.lines) h)
+    c.second_from.ensures.lines
+
+pub returns-clause-next : goal.returns-clause-next
+returns-clause-next g c = let o = g.O.Oracle in
+    let a = c.args.oracle.now in
+    let p = o.task a in
+    let d = c.in_ok-lowered.lowered.least in
+    IfOk-weaker c.second_from.result (IsSecondOf (o.task c.lower.new.oracle) c.args.a c.args.b d) (IsNext (IsLawful p) c.args.a c.args.b c.args.limit)
+    (λ r h. next_from p c.args.a c.args.b c.args.limit c.deref.result.now d r (c.deref.ensures.value ∙ c.in_ok-held.ensures) c.in_ok-lowered.ensures.lawful c.in_ok-lowered.ensures.met (c.in_ok-lowered.ensures.least c.in-None.is)
+    (subst (λ (q : Task). IsSecondOf q c.args.a c.args.b d r) c.lower.ensures.task h))
+    c.second_from.ensures.next

@@ -1,0 +1,121 @@
+use Rattle.std.proofs.Common.{◌≡◌, ◌≤◌, refl, ◌∙◌, ap, arith}
+use Rattle.std.specs.Prelude.{None, Some}
+use Rattle.plan_core.specs.Values.{values_of, value_of}
+use Rattle.plan_core.proofs.LimitLemmas.{value-le-limit}
+use Rattle.lex_search.specs.Task.{greatest_of}
+use Rattle.lex_search.specs.Asked.{IsReply}
+use Rattle.lex_search.proofs.RunLemmas.{built_all, found_less, found_lawful}
+use Rattle.refute_log.proofs.StepLemmas.{known_after}
+use Rattle.trade_off.proofs.AskLemmas.{refuted_none, least_from, least_zero, found_meets, once_with, asked_none, asked_then, asks_found, asks_refuted, asks_stopped, laws_back}
+use Rattle.trade_off.proofs.lowering.lower.Goals as goal
+
+pub loop-value-init : goal.loop-value-init
+loop-value-init g c = let o = g.O.Oracle in
+    let p = o.task c.args.oracle.now in
+    let is : c.of-value.result ≡ value_of (values_of c.args.first) c.args.c = c.of-value.ensures ∙ ap (λ v. value_of v c.args.c) c.values.ensures in
+    let le : value_of (values_of c.args.first) c.args.c ≤ greatest_of p c.args.c = value-le-limit p.graph p.above p.grid c.args.first c.requires.lawful c.args.c in
+    record {
+      value = is;
+      task = refl;
+      caps = refl;
+      ready = c.requires.ready;
+      known = c.requires.known;
+      lawful = c.requires.lawful;
+      met = c.requires.met;
+      bound = omega (arith, is, le);
+      no_more = omega (arith, is);
+      later = g.met.O.Oracle.later_same c.args.oracle.now;
+      faults = omega arith;
+      lines = asked_none o.knows o.log o.learnt c.args.oracle.now p;
+    }
+
+pub ask-requires-clause-there : goal.ask-requires-clause-there
+ask-requires-clause-there g c = let o = g.O.Oracle in
+    built_all (o.caps c.args.oracle.now) (o.caps c.loop-value.oracle) c.args.held.now c.deref.result.now c.args.c c.loop-value.value c.requires.held (omega arith)
+    (let le = c.loop-value.invariant.bound in let cap = c.requires.bound in omega (arith, le, cap))
+    (c.deref.ensures.value ∙ c.in_ok-bounds.ensures) c.loop-value.invariant.caps
+
+pub ask-requires-clause-once : goal.ask-requires-clause-once
+ask-requires-clause-once g c = once_with c.args.held.now c.deref.result.now c.args.c c.loop-value.value (c.deref.ensures.value ∙ c.in_ok-bounds.ensures) c.requires.beside
+
+pub loop-value-smaller : goal.loop-value-smaller
+loop-value-smaller g c = let o = g.O.Oracle in
+    let is : c.of-value-in-Found.result ≡ value_of (values_of c.in-Found.d) c.args.c = c.of-value-in-Found.ensures ∙ ap (λ v. value_of v c.args.c) c.values-in-Found.ensures in
+    let lt = found_less (o.task c.loop-value.oracle) c.args.held.now c.deref.result.now c.args.c c.loop-value.value c.in-Found.d c.in_ok-d.field-0 (c.deref.ensures.value ∙ c.in_ok-bounds.ensures) c.in-Found.is c.in_ok-d.ensures.right in
+    omega (arith, is, lt)
+
+pub loop-value-preserved : goal.loop-value-preserved
+loop-value-preserved g c = let o = g.O.Oracle in
+    let a = c.args.oracle.now in
+    let b = c.loop-value.oracle in
+    let e = c.ask.new.self in
+    let bounds = c.deref.ensures.value ∙ c.in_ok-bounds.ensures in
+    let is : c.of-value-in-Found.result ≡ value_of (values_of c.in-Found.d) c.args.c = c.of-value-in-Found.ensures ∙ ap (λ v. value_of v c.args.c) c.values-in-Found.ensures in
+    let lt = found_less (o.task b) c.args.held.now c.deref.result.now c.args.c c.loop-value.value c.in-Found.d c.in_ok-d.field-0 bounds c.in-Found.is c.in_ok-d.ensures.right in
+    record {
+      value = is;
+      task = c.in_ok-d.ensures.task ∙ c.loop-value.invariant.task;
+      caps = c.in_ok-d.ensures.caps ∙ c.loop-value.invariant.caps;
+      ready = c.in_ok-d.ensures.ready;
+      known = known_after o.knows o.log o.learnt b e (λ lines more. IsReply (o.task b) lines c.deref.result.now c.in_ok-d.field-0 more) c.loop-value.invariant.known c.in_ok-d.ensures.lines;
+      lawful = found_lawful (o.task b) (o.task a) c.deref.result.now c.in-Found.d c.in_ok-d.field-0 c.loop-value.invariant.task c.in-Found.is c.in_ok-d.ensures.right;
+      met = found_meets (o.task b) (o.task a) c.args.held.now c.deref.result.now c.args.c c.loop-value.value c.in-Found.d c.in_ok-d.field-0 bounds c.in-Found.is c.in_ok-d.ensures.right;
+      bound = (let le = c.loop-value.invariant.bound in omega (arith, is, lt, le));
+      no_more = (let le = c.loop-value.invariant.no_more in omega (arith, is, lt, le));
+      later = g.met.O.Oracle.later_more a b e c.loop-value.invariant.later c.in_ok-d.ensures.later;
+      faults = (let m = c.loop-value.invariant.faults in let n = c.in_ok-d.ensures.faults in omega arith);
+      lines = asked_then o.knows o.log o.learnt a b e (o.task a) (o.task a) None refl c.loop-value.invariant.lines
+          (asks_found o.knows o.log o.learnt b e (o.task b) (o.task a) c.deref.result.now c.in_ok-d.field-0 c.in-Found.d c.loop-value.invariant.task c.in-Found.is c.in_ok-d.ensures.lines);
+    }
+
+pub returns-in-Refuted-clause-known : goal.returns-in-Refuted-clause-known
+returns-in-Refuted-clause-known g c = let o = g.O.Oracle in
+    let b = c.loop-value.oracle in
+    known_after o.knows o.log o.learnt b c.ask.new.self (λ lines more. IsReply (o.task b) lines c.deref.result.now c.in_ok-d.field-0 more) c.loop-value.invariant.known c.in_ok-d.ensures.lines
+
+pub returns-in-Stopped-clause-known : goal.returns-in-Stopped-clause-known
+returns-in-Stopped-clause-known g c = let o = g.O.Oracle in
+    let b = c.loop-value.oracle in
+    known_after o.knows o.log o.learnt b c.ask.new.self (λ lines more. IsReply (o.task b) lines c.deref.result.now c.in_ok-d.field-0 more) c.loop-value.invariant.known c.in_ok-d.ensures.lines
+
+pub returns-in-Refuted-clause-no_more : goal.returns-in-Refuted-clause-no_more
+returns-in-Refuted-clause-no_more g c = (let is = c.loop-value.invariant.value in let le = c.loop-value.invariant.no_more in omega (arith, is, le))
+
+pub returns-in-Stopped-clause-no_more : goal.returns-in-Stopped-clause-no_more
+returns-in-Stopped-clause-no_more g c = (let is = c.loop-value.invariant.value in let le = c.loop-value.invariant.no_more in omega (arith, is, le))
+
+pub returns-clause-no_more : goal.returns-clause-no_more
+returns-clause-no_more g c = (let is = c.loop-value.invariant.value in let le = c.loop-value.invariant.no_more in omega (arith, is, le))
+
+pub returns-in-Refuted-clause-least : goal.returns-in-Refuted-clause-least
+returns-in-Refuted-clause-least g c = let o = g.O.Oracle in
+    let b = c.loop-value.oracle in
+    let e = c.ask.new.self in
+    λ none. least_from (o.task c.args.oracle.now) c.args.held.now c.deref.result.now c.args.c c.loop-value.value c.loop-value.least (c.deref.ensures.value ∙ c.in_ok-bounds.ensures) c.loop-value.invariant.value
+    (refuted_none o.knows o.log o.learnt b e (o.task b) (o.task c.args.oracle.now) c.deref.result.now c.in_ok-d.field-0 c.loop-value.invariant.task c.in-Refuted.is c.loop-value.invariant.known
+    (laws_back o.knows e (o.task e) (o.task b) c.in_ok-d.ensures.task (record { covers = g.met.O.Oracle.covers e; derives = g.met.O.Oracle.derives e }))
+    c.in_ok-d.ensures.lines)
+
+pub returns-in-Stopped-clause-least : goal.returns-in-Stopped-clause-least
+returns-in-Stopped-clause-least g c = λ none. absurd (let f : Some c.in-Stopped.stop ≡ None = none in cc)
+
+pub returns-clause-least : goal.returns-clause-least
+returns-clause-least g c = let o = g.O.Oracle in
+    λ none. least_zero (o.task c.args.oracle.now) c.args.held.now c.args.c c.loop-value.value c.loop-value.least c.loop-value.invariant.value (omega arith)
+
+pub returns-in-Refuted-clause-lines : goal.returns-in-Refuted-clause-lines
+returns-in-Refuted-clause-lines g c = let o = g.O.Oracle in
+    let a = c.args.oracle.now in
+    let b = c.loop-value.oracle in
+    asked_then o.knows o.log o.learnt a b c.ask.new.self (o.task a) (o.task a) None refl c.loop-value.invariant.lines
+    (asks_refuted o.knows o.log o.learnt b c.ask.new.self (o.task b) (o.task a) c.deref.result.now c.in_ok-d.field-0 c.loop-value.invariant.task c.in-Refuted.is c.in_ok-d.ensures.lines)
+
+pub returns-in-Stopped-clause-lines : goal.returns-in-Stopped-clause-lines
+returns-in-Stopped-clause-lines g c = let o = g.O.Oracle in
+    let a = c.args.oracle.now in
+    let b = c.loop-value.oracle in
+    asked_then o.knows o.log o.learnt a b c.ask.new.self (o.task a) (o.task a) (Some c.in-Stopped.stop) refl c.loop-value.invariant.lines
+    (asks_stopped o.knows o.log o.learnt b c.ask.new.self (o.task b) (o.task a) c.deref.result.now c.in_ok-d.field-0 c.in-Stopped.stop c.loop-value.invariant.task c.in-Stopped.is c.in_ok-d.ensures.lines)
+
+pub returns-clause-lines : goal.returns-clause-lines
+returns-clause-lines g c = c.loop-value.invariant.lines

@@ -1,0 +1,27 @@
+use Rattle.std.proofs.Common.{◌≡◌, ◌≤◌}
+use Rattle.std.specs.Prelude.{None}
+use Rattle.plan_core.specs.Values.{values_of, value_of}
+use Rattle.lex_search.specs.Task.{IsLawful, greatest_of}
+use Rattle.lex_search.specs.Asked.{AreMet}
+use Rattle.refute_log.specs.Steps.{Continues, IsKnown}
+use Rattle.trade_off.specs.Least.{AreAsked}
+use Rattle.trade_off.proofs.lowering.lower.Given as goal
+
+abbrev pub invariant-loop-value : goal.invariant-loop-value
+invariant-loop-value g l = let o = g.O.Oracle in record {
+  value : l.value ≡ value_of (values_of l.least) l.c;
+  task : o.task l.oracle ≡ o.task l.fn.oracle;
+  caps : o.caps l.oracle ≡ o.caps l.fn.oracle;
+  ready : o.ready l.oracle;
+  known : IsKnown o.knows l.oracle;
+  lawful : IsLawful (o.task l.fn.oracle) l.least;
+  met : AreMet (values_of l.least) l.held;
+  bound : l.value ≤ greatest_of (o.task l.fn.oracle) l.c;
+  no_more : l.value ≤ value_of (values_of l.fn.first) l.c;
+  later : o.is_later l.fn.oracle l.oracle;
+  faults : o.faults l.fn.oracle ≤ o.faults l.oracle;
+  lines : Continues o.knows o.log o.learnt l.fn.oracle l.oracle (AreAsked (o.task l.fn.oracle) None);
+}
+
+abbrev pub decreases-loop-value : goal.decreases-loop-value
+decreases-loop-value g l = l.value

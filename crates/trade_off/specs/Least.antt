@@ -1,0 +1,31 @@
+-- The least value of one criterion among the drawings that meet some bounds.
+use Rattle.std.specs.Prelude.{◌≡◌, ◌≢◌, ◌≤◌, List, [], ◌++◌, All, Option, None, Some}
+use Rattle.plan_core.specs.declared.criterion.Criterion.{Criterion}
+use Rattle.plan_core.specs.Drawing.{Drawing}
+use Rattle.plan_core.specs.Values.{values_of, value_of}
+use Rattle.refute_log.specs.Told.{Lines}
+use Rattle.certified_values.specs.Expected.{clause_lines}
+use Rattle.lex_search.specs.declared.oracle.Below.{Below}
+use Rattle.certified_values.specs.declared.stop.Stop.{Stop}
+use Rattle.lex_search.specs.Task.{Task, IsLawful}
+use Rattle.certified_values.specs.Cause.{IsCause}
+use Rattle.lex_search.specs.Asked.{AreMet, AreOnce}
+
+-- no lawful drawing that meets the bounds has less of the criterion
+abbrev pub IsLeastUnder : Task → List Below → Criterion → Drawing → Type 0
+IsLeastUnder p bounds c d =
+    (e : Drawing) → IsLawful p e → AreMet (values_of e) bounds → value_of (values_of d) c ≤ value_of (values_of e) c
+
+-- no lawful drawing meets the bounds
+abbrev pub NoneMeets : Task → List Below → Type 0
+NoneMeets p bounds = (e : Drawing) → IsLawful p e → AreMet (values_of e) bounds → ⊥
+
+-- the bounds are of different criteria, and none of them of this one
+pub record AreBeside (c : Criterion) (bounds : List Below) : Type 0 where
+  pub once : AreOnce bounds
+  pub other : All (λ b. b.criterion ≢ c) bounds
+
+-- questions tell no clauses of the formula; where the search stopped, it is for this cause
+abbrev pub AreAsked : Task → Option Stop → Lines → Lines → Type 0
+AreAsked p None lines more = clause_lines more ≡ []
+AreAsked p (Some stop) lines more = (clause_lines more ≡ []) × IsCause p.budget p.room stop (lines ++ more)

@@ -1,0 +1,64 @@
+-- Which pair comes next, and what is so before each.
+use Rattle.std.specs.Prelude.{◌≡◌, ◌≤◌, ◌<◌, ⊤, ℕ, List, [], ◌∷◌, All, Contains, Option, None, Some}
+use Rattle.plan_core.specs.declared.criterion.Criterion.{Criterion}
+use Rattle.plan_core.specs.Drawing.{Drawing}
+use Rattle.plan_core.specs.Values.{values_of, value_of}
+use Rattle.lex_search.specs.declared.oracle.Below.{Below}
+use Rattle.certified_values.specs.declared.stop.Stop.{Stop}
+use Rattle.lex_search.specs.Task.{Task, IsLawful}
+use Rattle.lex_search.specs.Asked.{below_limit}
+use Rattle.trade_off.specs.declared.collecting.Next.{Next}
+use Rattle.trade_off.specs.declared.collecting.Next.TheVariants.{Pair, NoMore, Stopped}
+use Rattle.trade_off.specs.Front.{Pairs, IsAttained, AreOnFront}
+
+-- the number is below the limit, where there is one
+abbrev pub IsUnder : Option ℕ → ℕ → Type 0
+IsUnder None m = ⊤
+IsUnder (Some limit) m = m < limit
+
+-- as a question's bounds
+abbrev pub under : Criterion → Option ℕ → List Below
+under c None = []
+under c (Some limit) = below_limit c limit ∷ []
+
+-- of the attained pairs whose second number is below the limit it has the least first number, and of those with no
+-- greater first number the least second one
+pub record IsNextPair (IsOne : Drawing → Type 0) (a b : Criterion) (limit : Option ℕ) (n m : ℕ) : Type 0 where
+  pub attained : IsAttained IsOne a b n m
+  pub below : IsUnder limit m
+  pub least_first : (k l : ℕ) → IsAttained IsOne a b k l → IsUnder limit l → n ≤ k
+  pub least_second : (k l : ℕ) → IsAttained IsOne a b k l → k ≤ n → m ≤ l
+
+abbrev pub IsNext : (Drawing → Type 0) → Criterion → Criterion → Option ℕ → Next → Type 0
+IsNext IsOne a b limit (Pair n m) = IsNextPair IsOne a b limit n m
+IsNext IsOne a b limit NoMore = (k l : ℕ) → IsAttained IsOne a b k l → IsUnder limit l → ⊥
+IsNext IsOne a b limit (Stopped stop) = ⊤
+
+-- why the search stopped, if it did
+abbrev pub stop_of : Next → Option Stop
+stop_of (Pair n m) = None
+stop_of NoMore = None
+stop_of (Stopped stop) = Some stop
+
+-- behind a drawing with the least first number: the least second number with it
+pub record IsSecond (p : Task) (a b : Criterion) (before : Drawing) (n m : ℕ) : Type 0 where
+  pub drawing : Drawing
+  pub lawful : IsLawful p drawing
+  pub first_is : n ≡ value_of (values_of before) a
+  pub first : value_of (values_of drawing) a ≤ n
+  pub second : value_of (values_of drawing) b ≡ m
+  pub no_more : m ≤ value_of (values_of before) b
+  pub least : (e : Drawing) → IsLawful p e → value_of (values_of e) a ≤ n → m ≤ value_of (values_of e) b
+
+abbrev pub IsSecondOf : Task → Criterion → Criterion → Drawing → Next → Type 0
+IsSecondOf p a b before (Pair n m) = IsSecond p a b before n m
+IsSecondOf p a b before NoMore = ⊥
+IsSecondOf p a b before (Stopped stop) = ⊤
+
+-- the pairs so far: of the attained pairs those whose second number is below the limit come behind all of them, and for
+-- each other one there is a pair that is at most it in both numbers
+pub record IsSoFar (IsOne : Drawing → Type 0) (a b : Criterion) (limit : ℕ) (pairs : Pairs) : Type 0 where
+  pub listed : AreOnFront IsOne a b pairs
+  pub behind : (n m : ℕ) → IsAttained IsOne a b n m → m < limit → All (λ x. x.0 < n) pairs
+  pub before : (n m : ℕ) → IsAttained IsOne a b n m → limit ≤ m → (x : ℕ × ℕ) × Contains pairs x × (x.0 ≤ n) × (x.1 ≤ m)
+  pub some : (d : Drawing) × IsOne d

@@ -1,0 +1,70 @@
+-- What the outcome of a search for the front says of drawings, and what its lines are.
+use Rattle.std.specs.Prelude.{◌≡◌, ◌≤◌, ◌⊎◌, [], ◌∷◌, length, flat_map, Option, None, Some}
+use Rattle.plan_core.specs.declared.criterion.Criterion.{Criterion}
+use Rattle.plan_core.specs.Drawing.{Drawing}
+use Rattle.cnf_core.specs.Clause.{words_of}
+use Rattle.refute_log.specs.Lines.{MayAllBeTold}
+use Rattle.refute_log.specs.Told.{Lines}
+use Rattle.refute_log.specs.Log.{added, learnt, Derives, Due}
+use Rattle.certified_values.specs.Bounds.{CoversDrawings}
+use Rattle.certified_values.specs.Expected.{BeginsLines, clause_lines, expected_lines}
+use Rattle.certified_values.specs.Cause.{IsCause}
+use Rattle.certified_values.specs.Full.{CapsPass}
+use Rattle.lex_search.specs.declared.oracle.Built.{Built}
+use Rattle.lex_search.specs.declared.oracle.Built.TheVariants.{Whole as AllOfThem, NoRoom}
+use Rattle.certified_values.specs.declared.stop.Stop.{Stop}
+use Rattle.certified_values.specs.declared.stop.Stop.TheVariants.{BudgetSpent, RoomFull}
+use Rattle.lex_search.specs.Task.{Task, greatest_of}
+use Rattle.trade_off.specs.declared.outcome.FrontEnd.{FrontEnd}
+use Rattle.trade_off.specs.declared.outcome.FrontEnd.TheVariants.{Whole, Empty, Conflicts, Room}
+use Rattle.trade_off.specs.Front.{Pairs, IsWholeFront, IsFrontUpTo}
+
+-- what these pairs with this end say of the drawings
+abbrev pub IsRightFront : (Drawing → Type 0) → Criterion → Criterion → Pairs → FrontEnd → Type 0
+IsRightFront IsOne a b pairs Whole = ((d : Drawing) × IsOne d) × IsWholeFront IsOne a b pairs
+IsRightFront IsOne a b pairs Empty = ((d : Drawing) → IsOne d → ⊥) × (pairs ≡ [])
+IsRightFront IsOne a b pairs Conflicts = IsFrontUpTo IsOne a b pairs
+IsRightFront IsOne a b pairs Room = IsFrontUpTo IsOne a b pairs
+
+-- the Formula and Bound lines of a front: the bounds of both criteria, up to their greatest values
+abbrev pub front_lines : Task → Criterion → Criterion → Lines
+front_lines p a b = expected_lines p.encoding (a ∷ b ∷ []) (greatest_of p)
+
+-- why it ended so: with the whole or without a drawing all of these lines were told; else as many clauses were learnt
+-- as the budget allows, and the last query is open; or these lines have no room beside what was learnt, or one more
+-- clause has none behind them all
+abbrev pub IsFrontCause : Task → Criterion → Criterion → FrontEnd → Lines → Type 0
+IsFrontCause p a b Whole lines = clause_lines lines ≡ front_lines p a b
+IsFrontCause p a b Empty lines = clause_lines lines ≡ front_lines p a b
+IsFrontCause p a b Conflicts lines = IsCause p.budget p.room BudgetSpent lines
+IsFrontCause p a b Room lines = CapsPass p.encoding (a ∷ b ∷ []) lines p.room (greatest_of p)
+    ⊎ ((clause_lines lines ≡ front_lines p a b) × IsCause p.budget p.room RoomFull lines)
+
+-- the lines of a search for the front with this end
+pub record IsFrontLog (p : Task) (a b : Criterion) (ending : FrontEnd) (lines : Lines) : Type 0 where
+  pub formed : MayAllBeTold lines
+  pub derives : Derives lines
+  pub due : Due lines
+  pub covers : CoversDrawings p.graph p.above p.grid lines
+  pub begins : BeginsLines (clause_lines lines) (front_lines p a b)
+  pub fits : words_of (flat_map added lines) ≤ p.room
+  pub within : length (flat_map learnt lines) ≤ p.budget
+  pub cause : IsFrontCause p a b ending lines
+
+-- the end of a search that stopped
+abbrev pub stopped_by : Stop → FrontEnd
+stopped_by BudgetSpent = Conflicts
+stopped_by RoomFull = Room
+
+-- and back: why a search with this end stopped, if it did
+abbrev pub stop_behind : FrontEnd → Option Stop
+stop_behind Whole = None
+stop_behind Empty = None
+stop_behind Conflicts = Some BudgetSpent
+stop_behind Room = Some RoomFull
+
+-- all of the lines were told, or a front of them, and all have no room
+abbrev pub IsBuiltFront : Task → Criterion → Criterion → Built → Lines → Type 0
+IsBuiltFront p a b AllOfThem lines = clause_lines lines ≡ front_lines p a b
+IsBuiltFront p a b NoRoom lines =
+    BeginsLines (clause_lines lines) (front_lines p a b) × CapsPass p.encoding (a ∷ b ∷ []) lines p.room (greatest_of p)

@@ -1,0 +1,45 @@
+// The whole search for the front.
+ghost use Rattle.std.specs.Prelude.{◌≡◌, ◌≢◌, ◌≤◌, ◌++◌, IfOk, IsErrOf};
+ghost use Rattle.outside_io.specs.Counts.{Rose};
+ghost use Rattle.lex_search.specs.Task.{IsLawful};
+ghost use Rattle.lex_search.specs.Outcome.{IsFresh, first_lines};
+ghost use Rattle.refute_log.specs.Steps.{ToldBehind};
+ghost use Rattle.trade_off.specs.Outcome.{IsRightFront, IsFrontLog};
+
+use crate::building::build_both;
+use crate::collecting::collect;
+use crate::{FrontEnd, FrontList, PairList};
+use lex_search::{Built, MinFault, Oracle};
+use plan_core::Criterion;
+use std::alloc::Global;
+
+/// The front of two criteria, or as far as the search comes. The oracle knows the drawings' clauses, and no bound yet.
+/// What the outcome says of drawings holds with every log; and so many lines were told behind the clauses that they and
+/// these are those of a search with this end.
+pub fn find_front<O: Oracle>(
+    alloc: Global,
+    oracle: &mut O,
+    a: Criterion,
+    b: Criterion,
+) -> Result<FrontList, MinFault>
+    requires ready { O.ready oracle.old }
+    requires fresh { IsFresh (O.task oracle.old) (O.caps oracle.old) (O.vars oracle.old) }
+    requires start { O.knows oracle.old (first_lines (O.task oracle.old)) }
+    requires apart { a ≢ b }
+    ensures right { IfOk result (λ r. IsRightFront (IsLawful (O.task oracle.old)) a b r.pairs r.ending) }
+    ensures lines { IfOk result (λ r. let p = O.task oracle.old in let from = first_lines p in
+        ToldBehind (O.knows oracle.new) (O.log oracle.old) (O.log oracle.new)
+        (O.learnt oracle.old) (O.learnt oracle.new) from (λ more. IsFrontLog p a b r.ending (from ++ more))) }
+    ensures task { O.task oracle.new ≡ O.task oracle.old }
+    ensures later { O.is_later oracle.old oracle.new }
+    ensures faults { O.faults oracle.old ≤ O.faults oracle.new }
+    ensures cause { IsErrOf result MinFault.Log → Rose (O.faults oracle.old) (O.faults oracle.new) }
+{
+    match build_both(oracle, a, b)? {
+        Built::NoRoom => Ok(FrontList {
+            pairs: PairList::new(alloc),
+            ending: FrontEnd::Room,
+        }),
+        Built::Whole => collect(alloc, oracle, a, b),
+    }
+}

@@ -1,0 +1,90 @@
+use Rattle.std.proofs.Common.{◌++◌, List, ℕ, sym, ◌∙◌, ap, subst, append_assoc}
+use Rattle.std.specs.Prelude.{IfOk}
+use Rattle.std.proofs.lemmas.Result.{IfOk-weaker}
+use Rattle.refute_log.specs.Told.{Lines}
+use Rattle.why_search.specs.declared.oracle.Reply.{Reply}
+use Rattle.why_search.specs.Task.{Task, HasAllLaws}
+use Rattle.why_search.specs.Narrowed.{countdown, ArePlaces}
+use Rattle.refute_log.specs.Steps.{Continues, StillDerives}
+use Rattle.certified_values.specs.Cause.{IsCause}
+use Rattle.why_search.specs.Asked.{IsRightReply, NoneMeets, TellsReply}
+use Rattle.why_search.specs.Outcome.{IsRightOutcome, TellsOutcome}
+use Rattle.refute_log.proofs.StepLemmas.{AnyLines, goes_on, becomes, derives_same, derives_later, on_err_always, on_err_weaker}
+use Rattle.why_search.proofs.NarrowLemmas.{first_refuted}
+use Rattle.why_search.proofs.OutcomeLemmas.{all_places_are, found_all}
+use Rattle.why_search.proofs.explaining.explain.Goals as goal
+
+pub returns-in_err-all-clause-derives : goal.returns-in_err-all-clause-derives
+returns-in_err-all-clause-derives g c = let o = g.O.Oracle in
+    on_err_always _ _ (derives_same o.knows o.log c.args.oracle.now (g.met.O.Oracle.derives c.args.oracle.now) (g.met.O.Oracle.one_reading c.args.oracle.now))
+
+pub ask-requires-clause-places : goal.ask-requires-clause-places
+ask-requires-clause-places g c = let o = g.O.Oracle in
+    let p = o.task c.args.oracle.now in
+    subst (λ (w : List ℕ). ArePlaces p w) (sym (c.deref.ensures.value ∙ c.in_ok-all.ensures ∙ ap countdown c.laws.ensures)) (all_places_are p)
+
+pub returns-in_err-d-clause-derives : goal.returns-in_err-d-clause-derives
+returns-in_err-d-clause-derives g c = on_err_always _ _ c.in_err-d.ensures.derives
+
+pub returns-in-Found-clause-right : goal.returns-in-Found-clause-right
+returns-in-Found-clause-right g c = let o = g.O.Oracle in
+    let p = o.task c.args.oracle.now in
+    found_all p c.deref.result.now c.in-Found.d c.in_ok-d.field-0 (c.deref.ensures.value ∙ c.in_ok-all.ensures ∙ ap countdown c.laws.ensures) c.in-Found.is c.in_ok-d.ensures.right c.requires.laws
+
+pub returns-in-Found-clause-lines : goal.returns-in-Found-clause-lines
+returns-in-Found-clause-lines g c = let o = g.O.Oracle in
+    let p = o.task c.args.oracle.now in
+    becomes o.knows o.log o.learnt c.args.oracle.now c.ask.new.self (λ lines more. TellsReply p c.in_ok-d.field-0 (lines ++ more)) AnyLines c.in_ok-d.ensures.lines (λ lines xs ka kb q. tt)
+
+pub narrow-requires-clause-ready : goal.narrow-requires-clause-ready
+narrow-requires-clause-ready g c = c.in_ok-d.ensures.ready
+
+pub narrow-requires-clause-laws : goal.narrow-requires-clause-laws
+narrow-requires-clause-laws g c = let o = g.O.Oracle in
+    subst (λ (x : Task). HasAllLaws x) (sym c.in_ok-d.ensures.task) c.requires.laws
+
+pub narrow-requires-clause-places : goal.narrow-requires-clause-places
+narrow-requires-clause-places g c = let o = g.O.Oracle in
+    let p = o.task c.args.oracle.now in
+    let start : ArePlaces p c.in_ok-all.all.items = subst (λ (w : List ℕ). ArePlaces p w) (sym (c.in_ok-all.ensures ∙ ap countdown c.laws.ensures)) (all_places_are p) in
+    let right = subst (λ (w : List ℕ). IsRightReply p w c.in_ok-d.field-0) c.deref.ensures.value c.in_ok-d.ensures.right in
+    let both = first_refuted p c.in_ok-all.all.items c.in-Refuted.core c.as_slice.result.now c.keep_only.new.places.items c.in_ok-d.field-0 start c.in-Refuted.is right c.as_slice.ensures c.keep_only.ensures in
+    subst (λ (x : Task). ArePlaces x c.keep_only.new.places.items) (sym c.in_ok-d.ensures.task) both.0
+
+pub narrow-requires-clause-none : goal.narrow-requires-clause-none
+narrow-requires-clause-none g c = let o = g.O.Oracle in
+    let p = o.task c.args.oracle.now in
+    let start : ArePlaces p c.in_ok-all.all.items = subst (λ (w : List ℕ). ArePlaces p w) (sym (c.in_ok-all.ensures ∙ ap countdown c.laws.ensures)) (all_places_are p) in
+    let right = subst (λ (w : List ℕ). IsRightReply p w c.in_ok-d.field-0) c.deref.ensures.value c.in_ok-d.ensures.right in
+    let both = first_refuted p c.in_ok-all.all.items c.in-Refuted.core c.as_slice.result.now c.keep_only.new.places.items c.in_ok-d.field-0 start c.in-Refuted.is right c.as_slice.ensures c.keep_only.ensures in
+    subst (λ (x : Task). NoneMeets x c.keep_only.new.places.items) (sym c.in_ok-d.ensures.task) both.1
+
+pub returns-in-Refuted-clause-right : goal.returns-in-Refuted-clause-right
+returns-in-Refuted-clause-right g c = subst (λ (x : Task). IfOk c.narrow.result (IsRightOutcome x)) c.in_ok-d.ensures.task c.narrow.ensures.right
+
+pub returns-in-Refuted-clause-lines : goal.returns-in-Refuted-clause-lines
+returns-in-Refuted-clause-lines g c = let o = g.O.Oracle in
+    let a = c.args.oracle.now in
+    let b = c.ask.new.self in
+    let e = c.narrow.new.oracle in
+    IfOk-weaker c.narrow.result
+    (λ x. Continues o.knows o.log o.learnt b e (λ lines more. TellsOutcome (o.task b) x (lines ++ more)))
+    (λ x. Continues o.knows o.log o.learnt a e (λ lines more. TellsOutcome (o.task a) x (lines ++ more)))
+    (λ x run. goes_on o.knows o.log o.learnt a b e (λ lines more. TellsReply (o.task a) c.in_ok-d.field-0 (lines ++ more)) (λ lines more. TellsOutcome (o.task b) x (lines ++ more)) (λ lines more. TellsOutcome (o.task a) x (lines ++ more))
+    c.in_ok-d.ensures.lines run
+    (λ lines xs ys ka kb ke r s. subst (λ (t : Task). TellsOutcome t x (lines ++ (xs ++ ys))) c.in_ok-d.ensures.task (subst (λ (ls : Lines). TellsOutcome (o.task b) x ls) (append_assoc lines xs ys) s)))
+    c.narrow.ensures.lines
+
+pub returns-in-Refuted-clause-derives : goal.returns-in-Refuted-clause-derives
+returns-in-Refuted-clause-derives g c = let o = g.O.Oracle in
+    let a = c.args.oracle.now in
+    let b = c.ask.new.self in
+    let e = c.narrow.new.oracle in
+    on_err_weaker c.narrow.result (StillDerives (o.knows b) (o.log b) (o.log e)) (StillDerives (o.knows a) (o.log a) (o.log e))
+    (derives_later o.knows o.log o.learnt a b e (λ lines more. TellsReply (o.task a) c.in_ok-d.field-0 (lines ++ more)) c.in_ok-d.ensures.lines) c.narrow.ensures.derives
+
+pub returns-in-Stopped-clause-lines : goal.returns-in-Stopped-clause-lines
+returns-in-Stopped-clause-lines g c = let o = g.O.Oracle in
+    let p = o.task c.args.oracle.now in
+    becomes o.knows o.log o.learnt c.args.oracle.now c.ask.new.self (λ lines more. TellsReply p c.in_ok-d.field-0 (lines ++ more)) (λ lines more. IsCause p.budget p.room c.in-Stopped.stop (lines ++ more)) c.in_ok-d.ensures.lines
+    (λ lines xs ka kb q. subst (λ (r : Reply). TellsReply p r (lines ++ xs)) c.in-Stopped.is q)

@@ -1,0 +1,5 @@
+pub mod Explained
+pub mod Task
+pub mod Asked
+pub mod Narrowed
+pub mod Outcome
