@@ -1,0 +1,46 @@
+"""How wide a text of the page is.
+
+The widths are those of Helvetica, which Arial and Liberation Sans share, in thousandths of the letter's size. A page sets each
+text's length to the width that it has by this table, so that it takes the same room in any other font too.
+"""
+import unicodedata
+
+FONT = "'Liberation Sans', Arial, Helvetica, sans-serif"
+ASCENT, DESCENT = 0.905, 0.212
+WIDE, OTHER = 1000, 620
+SAME = {191: "'", 222: "ijl", 260: "|", 278: " !,./:;I[\\]ft·", 333: "()-`r", 334: "{}", 355: '"', 389: "*", 469: "^",
+        500: "Jcksvxyz", 556: "#$0123456789?L_abdeghnopqu–", 584: "+<=>~", 611: "FTZß", 667: "&ABEKPSVXY", 722: "CDHNRUw",
+        778: "GOQØ", 833: "Mm", 889: "%æ", 944: "W", 1000: "…Æ", 1015: "@"}
+WIDTHS = {letter: width for width, letters in SAME.items() for letter in letters}
+
+
+def letter_width(letter):
+    if letter in WIDTHS:
+        return WIDTHS[letter]
+    if unicodedata.combining(letter):
+        return 0
+    if unicodedata.east_asian_width(letter) in "WF":
+        return WIDE
+    plain = unicodedata.normalize("NFD", letter)[0]
+    return WIDTHS.get(plain, OTHER)
+
+
+def width_of(text, size):
+    """the width of a text, in the units of the letters' size; one of marks alone has some too"""
+    return max(sum(map(letter_width, text)), 200) * size / 1000
+
+
+def height_of(size):
+    return (ASCENT + DESCENT) * size
+
+
+def shortened(text, size, room):
+    """the text, or its two ends around three dots, as long as the room allows; at least two letters remain"""
+    if width_of(text, size) <= room:
+        return text
+    for kept in range(len(text) - 1, 1, -1):
+        behind = kept // 2
+        short = text[:kept - behind] + "…" + text[len(text) - behind:]
+        if width_of(short, size) <= room:
+            return short
+    return text[:1] + "…" + text[-1:]
