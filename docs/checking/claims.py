@@ -1,0 +1,147 @@
+"""What the documents name: whether it is there, is claimed, and is told."""
+import re
+
+from checking.crates import (DOCUMENTS, TOP, calls_handed_out, crates, of_the_program, read, show, spans,
+                             words_behind, words_of_public_contracts)
+
+COLUMNS = 130
+
+
+# ---- each crate, and each file
+
+
+def crates_without_paragraph():
+    told = set(re.findall(r"^\*\*(\w+)\*\*", read(TOP / "docs" / "crates.md"), re.M))
+    return [f"docs/crates.md: no paragraph begins with **{crate}**" for crate in crates() if crate not in told]
+
+
+def files_that_fail():
+    found = []
+    for path in DOCUMENTS:
+        for span in spans(read(path)):
+            if re.fullmatch(r"(crates|docs|bench|examples)/[\w./-]*", span) and not (TOP / span).exists() \
+                    and not list(TOP.glob(span + ".*")):
+                found.append(f"{show(path)}: there is no {span}")
+    return found
+
+
+def names_that_fail():
+    """Names in the map, the definitions, the claims and the decisions that no source and no file of the crates has."""
+    known = set(re.findall(r"[A-Za-z_]\w*", read(TOP / "crates.txt") + read(TOP / "railplan")))
+    folders = [path for part in ("src", "specs", "proofs") for path in TOP.glob(f"crates/*/{part}")]
+    beside = [path for pattern in ("*", "bench/*", "bench/*/*", "cases/*", "cases/*/*", "docs/*", "docs/checking/*", "pages/*") for path in TOP.glob(pattern)]
+    for path in [path for folder in folders for path in folder.rglob("*")] + beside:
+        known.update(re.findall(r"[A-Za-z_]\w*", str(show(path))))
+        if path.suffix in (".rt", ".antt") and "proofs" not in path.parts:
+            known.update(re.findall(r"[A-Za-z_]\w*", read(path)))
+    found = []
+    for name in ("crates.md", "definitions.md", "proved.md", "DECISIONS.md"):
+        text = " ".join(spans(read(TOP / "docs" / name)))
+        named = {word for word in re.findall(r"[A-Za-z_]\w+", text) if not word.isupper()}
+        found += [f"docs/{name}: nothing is named {word}" for word in sorted(named - known)]
+    return found
+
+
+# ---- words
+
+
+def words_with_sentence():
+    """The words that docs/definitions.md names, each with the crate whose specs/ were named last."""
+    found, crate = set(), ""
+    for paragraph in re.split(r"\n(?=\n|- |#)", read(TOP / "docs" / "definitions.md")):
+        named = re.findall(r"crates/(\w+)/specs", paragraph)
+        crate = named[0] if named else crate
+        for span in spans(paragraph):
+            found.update((crate, name) for name in re.findall(r"[A-Za-z_]\w*", span))
+    return found
+
+
+def words_without_sentence(contracts, words):
+    """Words that public contracts cite, and facts, records and data behind these that have no remark where they stand."""
+    told, remarks = words_with_sentence(), {(word.crate, word.module, word.name): word.remark for word in words}
+    cited = words_of_public_contracts(contracts, words)
+    behind = {key for key in words_behind(cited, words) if key[2][0].isupper() and not remarks[key]}
+    return [f"docs/definitions.md: no sentence for {name} of crates/{crate}/specs/{module.replace('.', '/')}.antt"
+            for crate, module, name in sorted(cited | behind) if (crate, name) not in told]
+
+
+# ---- claims
+
+
+def is_there(span, section, contracts, words):
+    """Whether a piece of a citation is a clause of a call, a call, a word of specs/, a crate or a file."""
+    call, _, listed = span.partition(": ")
+    owner, _, name = call.rpartition("::")
+    matching = [contract for contract in contracts
+                if contract.name == name and owner in ("", contract.owner) and contract.crate in section]
+    if listed:
+        wanted = {clause.strip() for clause in listed.split(",")}
+        return any(wanted <= {clause.name for clause in contract.clauses} for contract in matching)
+    if any(contract.clauses for contract in matching):
+        return True
+    is_told = span in {name for _, name in words_with_sentence()} and any(word.name == span for word in words)
+    return is_told or span in crates() or (TOP / span).exists()
+
+
+def citations_that_fail(contracts, words):
+    found, section = [], []
+    for paragraph in re.split(r"\n(?=\n|- |#|  \*By\*)", read(TOP / "docs" / "proved.md")):
+        text = paragraph.strip()
+        if text.startswith("#"):
+            section = [span for span in spans(text) if span in crates()]
+        elif text.startswith("*By*"):
+            near = section + [span for span in spans(text) if span in crates()]
+            found += [f"docs/proved.md: {span} isn't there, in {', '.join(near) or 'no crate'}"
+                      for span in spans(text) if not is_there(span, near, contracts, words)]
+    return found
+
+
+def claims_without_citation():
+    """Claims of the sections that name crates, of which no clause is told."""
+    found, section = [], False
+    paragraphs = re.split(r"\n(?=\n|- |#)", read(TOP / "docs" / "proved.md"))
+    for paragraph in paragraphs:
+        text = paragraph.strip()
+        if text.startswith("## "):
+            section = any(span in crates() for span in spans(text))
+        elif section and text.startswith("- ") and "*By* " not in text:
+            found.append(f"docs/proved.md: no clause is told of: {text.splitlines()[0][2:70]}")
+    return found
+
+
+def calls_untold():
+    """Calls that crates hand out and no document names, and laws, by the name of their file, that aren't claimed."""
+    named = {path: set(re.findall(r"\w+", " ".join(spans(read(path))))) for path in DOCUMENTS}
+    anywhere, claimed = set().union(*named.values()), named[TOP / "docs" / "proved.md"]
+    calls = [(crate, path, name) for crate in crates() for path, name in calls_handed_out(crate)]
+    return [f"docs: no document names {name}, which {crate} hands out"
+            for crate, _, name in calls if name not in anywhere] + [
+            f"docs/proved.md: no claim names the law {name} of {crate}"
+            for crate, path, name in calls if path.stem.endswith("laws") and name not in claimed]
+
+
+# ---- numbers and lines
+
+
+def count_that_fails():
+    """What README says of how many crates are proved for the program."""
+    used = of_the_program()
+    return [f"README.md: proves {number} crates, but there are {len(used)}"
+            for number in re.findall(r"proves (\d+) crates", read(TOP / "README.md")) if int(number) != len(used)]
+
+
+def long_lines():
+    """Lines by hand that are too long; a row of a table that is made can't be broken."""
+    return [f"{show(path)}:{number}: {len(line)} columns"
+            for path in DOCUMENTS for number, line in enumerate(read(path).splitlines(), 1)
+            if len(line) > COLUMNS and line not in rows_made(read(path))]
+
+
+def rows_made(text):
+    return {line for part in re.findall(r"<!-- made: .*?<!-- end -->", text, re.S) for line in part.splitlines()}
+
+
+def all_failures(contracts, words):
+    return (crates_without_paragraph() + count_that_fails() + words_without_sentence(contracts, words)
+            + citations_that_fail(contracts, words) + claims_without_citation() + names_that_fail() + calls_untold()
+            + files_that_fail() + long_lines())

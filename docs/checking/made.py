@@ -1,0 +1,99 @@
+"""The parts of the documents that are made from the crates, each as it is to be."""
+import re
+import textwrap
+
+from checking.crates import DOCUMENTS, TOP, crates, head, module_of, read, root_text, show, spec_files, stands_on
+from checking.numbers import with_tables
+
+COLUMNS = 120
+MAP = TOP / "docs" / "crates.md"
+INDEX = TOP / "docs" / "index.md"
+
+
+# ---- the tree
+
+
+def depths(below):
+    """How long the longest chain of crates under each one is."""
+    found = {}
+    while len(found) < len(below):
+        found.update({crate: max([found[other] + 1 for other in others if other in below], default=0)
+                      for crate, others in below.items() if all(other in found for other in others if other in below)})
+    return found
+
+
+def under(below, crate):
+    """All crates that a crate stands on."""
+    direct = [other for other in below[crate] if other in below]
+    return set(direct).union(*(under(below, other) for other in direct))
+
+
+def branches(below):
+    """The crate that each one hangs from, the last of those with the longest chain, and those that it stands on besides."""
+    deep, found = depths(below), {}
+    for crate, others in below.items():
+        direct = [other for other in others if other in below]
+        longest = max([deep[other] for other in direct], default=0)
+        parent = [other for other in direct if deep[other] == longest][-1:]
+        stood = set(parent).union(*(under(below, other) for other in parent))
+        beside = [other for other in direct if other not in stood
+                  and not any(other in under(below, third) for third in direct if third not in stood)]
+        found[crate] = (parent[0] if parent else "", beside)
+    return found
+
+
+def tree_lines(below):
+    """The tree of the crates, each under the one that it hangs from, in the order of crates.txt."""
+    hung = branches(below)
+
+    def lines(crate, front, own):
+        beside = hung[crate][1]
+        found = [own + crate + (f"   (and {', '.join(beside)})" if beside else "")]
+        children = [other for other in below if hung[other][0] == crate]
+        for child in children:
+            last = child == children[-1]
+            found += lines(child, front + ("    " if last else "│   "), front + ("└── " if last else "├── "))
+        return found
+
+    return [line for crate in below if not hung[crate][0] for line in lines(crate, "", "")]
+
+
+def map_text():
+    """docs/crates.md with the tree that crates.txt gives."""
+    before, _, after = read(MAP).split("```", 2)
+    return before + "```\n" + "\n".join(tree_lines(stands_on())) + "\n```" + after
+
+
+# ---- the index
+
+
+def first_sentence(text):
+    """The first sentence of a comment, in which two blanks stand for an empty line."""
+    return re.split(r"(?<=\.) ", text.split("  ")[0])[0]
+
+
+def index_text():
+    """Each crate's and each file's own first sentence."""
+    lines = ["# The index of the definitions", "",
+             "What each crate is for and what each file of its `specs/` defines, by the first sentence of its root file and of",
+             "the file. `docs/check --write` makes this page; `docs/definitions.md` says the definitions in plain words."]
+    for crate in crates():
+        lines += ["", f"## `{crate}`", ""] + textwrap.wrap(first_sentence(head(root_text(crate), "//!")), COLUMNS) + [""]
+        for path in spec_files(crate):
+            told = f"- `{module_of(crate, path).replace('.', '/')}`: {first_sentence(head(read(path), '--'))}"
+            lines += textwrap.wrap(told, COLUMNS, subsequent_indent="  ", break_long_words=False, break_on_hyphens=False)
+    return "\n".join(lines).replace("\n\n\n", "\n\n") + "\n"
+
+
+# ---- all of them
+
+
+def made_pages():
+    """The pages of which a part is made from the crates, each as it is to be."""
+    found = {path: with_tables(read(path)) for path in DOCUMENTS if "<!-- made: " in read(path)}
+    return {**found, MAP: with_tables(map_text()), INDEX: index_text()}
+
+
+def pages_that_differ():
+    return [f"{show(path)}: isn't what the crates give; docs/check --write makes it so"
+            for path, text in made_pages().items() if not path.exists() or read(path) != text]
