@@ -1,6 +1,6 @@
 -- What a log tells after an error, and how many Learnt lines it counts.
 use Rattle.std.proofs.Common.{◌≡◌, ℕ, zero, suc, ◌+◌, ◌<◌, ◌≤◌, List, [], ◌∷◌, ◌++◌, map, refl, sym, ◌∙◌, ap, subst, inl, inr, arith, append-nil}
-use Rattle.std.specs.Prelude.{Result, Ok, Err, OnErr, flat_map}
+use Rattle.std.specs.Prelude.{Result, Ok, Err, OnErr}
 use Rattle.std.proofs.lemmas.Grind.{flat_map-append}
 use Rattle.std.proofs.lemmas.List.Concat.{flat_map-cons}
 use Rattle.outside_io.specs.Counts.{next_count, rose_by}
@@ -9,60 +9,60 @@ use Rattle.cnf_core.specs.Clause.{Clauses}
 use Rattle.refute_log.specs.declared.line.LogLine.{LogLine}
 use Rattle.refute_log.specs.declared.line.LogLine.TheVariants.{Formula, Learnt, Query}
 use Rattle.refute_log.specs.Told.{Lines, AddsLine, TellsNoMore}
-use Rattle.refute_log.specs.Log.{given, Derives}
+use Rattle.refute_log.specs.Log.{clause_line, clause_lines, Derives}
 use Rattle.refute_log.proofs.LogLemmas.{flat_map_last}
 use Rattle.cdcl_core.specs.declared.fault.SolveFault.{SolveFault}
 use Rattle.cdcl_core.specs.declared.answer.Answer.{Answer}
 use Rattle.cdcl_core.specs.declared.answer.Answer.TheVariants.{Model, Refuted, Spent, Room}
 use Rattle.cdcl_core.specs.Belongs.{EndsWith, HasSpent, HasCounted, GivesAtMost, search_lines}
-use Rattle.cdcl_core.specs.Rounds.{Leaves}
+use Rattle.cdcl_core.specs.Rounds.{BreaksOff}
 
--- ---- Formula lines
+-- ---- Formula and Bound lines
 
-pub formula_push : (lines : Lines) (line : LogLine) → given line ≡ [] → flat_map given (lines ++ line ∷ []) ≡ flat_map given lines
-formula_push lines line none = flat_map_last given lines line ∙ ap (λ (cs : Clauses). flat_map given lines ++ cs) none ∙ append-nil (flat_map given lines)
+pub clause_push : (lines : Lines) (line : LogLine) → clause_line line ≡ [] → clause_lines (lines ++ line ∷ []) ≡ clause_lines lines
+clause_push lines line none = flat_map_last clause_line lines line ∙ ap (λ (ls : Lines). clause_lines lines ++ ls) none ∙ append-nil (clause_lines lines)
 
-pub formula_behind : (lines more : Lines) → flat_map given more ≡ [] → flat_map given (lines ++ more) ≡ flat_map given lines
-formula_behind lines more none = flat_map-append given lines more ∙ ap (λ (cs : Clauses). flat_map given lines ++ cs) none ∙ append-nil (flat_map given lines)
+pub clause_behind : (lines more : Lines) → clause_lines more ≡ [] → clause_lines (lines ++ more) ≡ clause_lines lines
+clause_behind lines more none = flat_map-append clause_line lines more ∙ ap (λ (ls : Lines). clause_lines lines ++ ls) none ∙ append-nil (clause_lines lines)
 
-pub formula_learnt : (cs : Clauses) → flat_map given (map Learnt cs) ≡ []
-formula_learnt [] = refl
-formula_learnt (c ∷ cs) = flat_map-cons given (Learnt c) (map Learnt cs) ∙ formula_learnt cs
+pub clause_learnt : (cs : Clauses) → clause_lines (map Learnt cs) ≡ []
+clause_learnt [] = refl
+clause_learnt (c ∷ cs) = flat_map-cons clause_line (Learnt c) (map Learnt cs) ∙ clause_learnt cs
 
-formula_ending : (answer : Answer) (assume : List Literal) (ending : Lines) → EndsWith answer assume ending → flat_map given ending ≡ []
-formula_ending Model assume ending e = ap (flat_map given) e
-formula_ending Refuted assume ending e = ap (flat_map given) e.is
-formula_ending Spent assume ending e = ap (flat_map given) e
-formula_ending Room assume ending e = ap (flat_map given) e
+clause_ending : (answer : Answer) (assume : List Literal) (ending : Lines) → EndsWith answer assume ending → clause_lines ending ≡ []
+clause_ending Model assume ending e = ap clause_lines e
+clause_ending Refuted assume ending e = ap clause_lines e.is
+clause_ending Spent assume ending e = ap clause_lines e
+clause_ending Room assume ending e = ap clause_lines e
 
-pub formula_searched : (answer : Answer) (assume : List Literal) (cs : Clauses) (ending : Lines) → EndsWith answer assume ending → flat_map given (search_lines assume cs ending) ≡ []
-formula_searched answer assume cs ending e = flat_map-cons given (Query assume) (map Learnt cs ++ ending) ∙ formula_behind (map Learnt cs) ending (formula_ending answer assume ending e) ∙ formula_learnt cs
+pub clause_searched : (answer : Answer) (assume : List Literal) (cs : Clauses) (ending : Lines) → EndsWith answer assume ending → clause_lines (search_lines assume cs ending) ≡ []
+clause_searched answer assume cs ending e = flat_map-cons clause_line (Query assume) (map Learnt cs ++ ending) ∙ clause_behind (map Learnt cs) ending (clause_ending answer assume ending e) ∙ clause_learnt cs
 
--- ---- what is told: nothing more, a line was refused, or a line that isn't a Formula line
+-- ---- what is told: nothing more, a line was refused, or a line that isn't a Formula or Bound line
 
-pub left_same : (before P : Lines → Type 0) → ((a b : Lines) → before a → before b → a ≡ b) → ((lines : Lines) → P lines → Derives lines) → Leaves before before P
+pub left_same : (before P : Lines → Type 0) → ((a b : Lines) → before a → before b → a ≡ b) → ((lines : Lines) → P lines → Derives lines) → BreaksOff before before P
 left_same before P one derives lines told more m =
     let e : lines ≡ more = one lines more told m in
-    record { derives = λ p. subst Derives e (derives lines p); formula = ap (flat_map given) (sym e) }
+    record { derives = λ p. subst Derives e (derives lines p); gives = ap clause_lines (sym e) }
 
-pub left_refused : (before now P : Lines → Type 0) → ((a b : Lines) → before a → before b → a ≡ b) → TellsNoMore before now → ((lines : Lines) → P lines → Derives lines) → Leaves before now P
+pub left_refused : (before now P : Lines → Type 0) → ((a b : Lines) → before a → before b → a ≡ b) → TellsNoMore before now → ((lines : Lines) → P lines → Derives lines) → BreaksOff before now P
 left_refused before now P one fewer derives lines told more m = left_same before P one derives lines told more (fewer more m)
 
-pub left_told : (before now P : Lines → Type 0) (line : LogLine) → given line ≡ [] → ((a b : Lines) → now a → now b → a ≡ b) → AddsLine before now line → ((lines : Lines) → P lines → Derives (lines ++ line ∷ [])) → Leaves before now P
+pub left_told : (before now P : Lines → Type 0) (line : LogLine) → clause_line line ≡ [] → ((a b : Lines) → now a → now b → a ≡ b) → AddsLine before now line → ((lines : Lines) → P lines → Derives (lines ++ line ∷ [])) → BreaksOff before now P
 left_told before now P line none one adds derives lines told more m =
     let e : lines ++ line ∷ [] ≡ more = one (lines ++ line ∷ []) more (adds lines told) m in
-    record { derives = λ p. subst Derives e (derives lines p); formula = ap (flat_map given) (sym e) ∙ formula_push lines line none }
+    record { derives = λ p. subst Derives e (derives lines p); gives = ap clause_lines (sym e) ∙ clause_push lines line none }
 
 -- a clause is given
 
 pub most_same : (before : Lines → Type 0) (c : List Literal) → ((a b : Lines) → before a → before b → a ≡ b) → GivesAtMost before before c
-most_same before c one lines told more m = inl (ap (flat_map given) (one more lines m told))
+most_same before c one lines told more m = inl (ap clause_lines (one more lines m told))
 
 pub most_refused : (before now : Lines → Type 0) (c : List Literal) → ((a b : Lines) → before a → before b → a ≡ b) → TellsNoMore before now → GivesAtMost before now c
 most_refused before now c one fewer lines told more m = most_same before c one lines told more (fewer more m)
 
 pub most_told : (before now : Lines → Type 0) (c : List Literal) → ((a b : Lines) → now a → now b → a ≡ b) → AddsLine before now (Formula c) → GivesAtMost before now c
-most_told before now c one adds lines told more m = inr (ap (flat_map given) (one more (lines ++ Formula c ∷ []) m (adds lines told)) ∙ flat_map_last given lines (Formula c))
+most_told before now c one adds lines told more m = inr (ap clause_lines (one more (lines ++ Formula c ∷ []) m (adds lines told)) ∙ flat_map_last clause_line lines (Formula c))
 
 -- ---- how many are counted
 

@@ -1,6 +1,6 @@
 -- Rounds of a search, one after another.
 use Rattle.std.proofs.Common.{◌≡◌, ℕ, zero, suc, ◌+◌, ◌-◌, ◌^◌, ◌<◌, ◌≤◌, true, false, min, List, [], ◌∷◌, ◌++◌, length, get_or, map, refl, sym, ◌∙◌, ap, subst, inl, inr, arith, append-nil, length-append, Some, None}
-use Rattle.std.specs.Prelude.{All, Contains, Result, Ok, Err, IfOk, OnErr, Option, MatchOption, IfSome, flat_map}
+use Rattle.std.specs.Prelude.{All, Contains, Result, Ok, Err, IfOk, OnErr, Option, MatchOption, IfSome}
 use Rattle.std.proofs.lemmas.List.{append_assoc, map-append}
 use Rattle.std.proofs.lemmas.List.Elements.{All-nil, All-weaker, All-contains_itself}
 use Rattle.outside_io.specs.Counts.{next_count, rose_by}
@@ -15,18 +15,19 @@ use Rattle.refute_log.specs.declared.line.LogLine.{LogLine}
 use Rattle.refute_log.specs.declared.line.LogLine.TheVariants.{Formula, Learnt, Query, Refuted as RefutedLine, Model as ModelLine}
 use Rattle.refute_log.specs.Lines.{MayBeTold}
 use Rattle.refute_log.specs.Told.{Lines, AddsLine, TellsNoMore}
-use Rattle.refute_log.specs.Log.{given, Derives}
+use Rattle.refute_log.specs.Log.{clause_lines, Derives}
+use Rattle.refute_log.specs.Steps.{StillDerives}
 use Rattle.cdcl_core.specs.declared.search.Search.{Search}
 use Rattle.cdcl_core.specs.declared.fault.SolveFault.{SolveFault}
 use Rattle.cdcl_core.specs.declared.answer.Answer.{Answer}
 use Rattle.cdcl_core.specs.declared.answer.Answer.TheVariants.{Model, Refuted, Spent, Room}
 use Rattle.cdcl_core.specs.Kept.{Kept, AreSameClauses, HasLearnt, AreGiven, IsDeduced, IsFull, more_learnt}
-use Rattle.cdcl_core.specs.Belongs.{BelongsTo, StillDerives, HasCounted, HasSolved, EndsWith, HasSpent, search_lines}
+use Rattle.cdcl_core.specs.Belongs.{Belongs, BelongsTo, HasCounted, HasSolved, EndsWith, HasSpent, search_lines}
 use Rattle.cdcl_core.specs.Search.{clauses, seen, IsSearch, IsAsking, IsAnalysed, IsLearntFrom, IsKeptOne, IsSameStore, IsSearchAnswer, IsRefuting, IsComplete}
-use Rattle.cdcl_core.specs.Rounds.{BelongsAt, LeavesAt, LeavesLog, LearnsOne, EndsSo, HasGone, EndsAfter, EndsBehindQuery}
+use Rattle.cdcl_core.specs.Rounds.{BelongsAt, BreaksOffAt, BreaksOffLog, LearnsOne, EndsSo, HasGone, EndsAfter, EndsBehindQuery}
 use Rattle.cdcl_core.proofs.SetLemmas.{among_more, among_append, among_itself, same_itself, same_more, same_append, same_equal}
 use Rattle.cdcl_core.proofs.StoreLemmas.{store_itself, store_more, analysed_store, analysed_clauses, analysed_full, kept_learnt}
-use Rattle.cdcl_core.proofs.LeftLemmas.{formula_push, formula_behind, formula_learnt, formula_searched, within_spent}
+use Rattle.cdcl_core.proofs.LeftLemmas.{clause_push, clause_behind, clause_learnt, clause_searched, within_spent}
 use Rattle.cdcl_core.proofs.LearnLemmas.{open_above}
 use Rattle.cdcl_core.proofs.ConflictLemmas.{unrefuted}
 use Rattle.cdcl_core.proofs.LogLemmas.{belongs_same, belongs_given, belongs_query, belongs_learnt, belongs_refuted, belongs_model, deduced_same}
@@ -42,14 +43,14 @@ pub if_some_of : {A : Type 0} (r : Option A) (x : A) (Q : A → Type 0) → r �
 if_some_of {A = A} r x Q e h = subst (λ (o : Option A). IfSome o Q) e h
 
 -- what a log tells after an error where a clause was given: nothing was told, a line was refused, or it was told before
-pub still_same : (before P : Lines → Type 0) → ((a b : Lines) → before a → before b → a ≡ b) → ((lines : Lines) → P lines → Derives lines) → (lines : Lines) → before lines → P lines → (more : Lines) → before more → Derives more
-still_same before P one derives lines told p more m = subst Derives (one lines more told m) (derives lines p)
+pub still_same : (before P : Lines → Type 0) → ((a b : Lines) → before a → before b → a ≡ b) → ((lines : Lines) → P lines → Derives lines) → StillDerives P before before
+still_same before P one derives = λ lines p told more m. subst Derives (one lines more told m) (derives lines p)
 
-pub still_refused : (before now P : Lines → Type 0) → ((a b : Lines) → before a → before b → a ≡ b) → TellsNoMore before now → ((lines : Lines) → P lines → Derives lines) → (lines : Lines) → before lines → P lines → (more : Lines) → now more → Derives more
-still_refused before now P one fewer derives lines told p more m = subst Derives (one lines more told (fewer more m)) (derives lines p)
+pub still_refused : (before now P : Lines → Type 0) → ((a b : Lines) → before a → before b → a ≡ b) → TellsNoMore before now → ((lines : Lines) → P lines → Derives lines) → StillDerives P before now
+still_refused before now P one fewer derives = λ lines p told more m. subst Derives (one lines more told (fewer more m)) (derives lines p)
 
-still_told : (before now P : Lines → Type 0) (line : LogLine) → ((a b : Lines) → now a → now b → a ≡ b) → AddsLine before now line → ((lines : Lines) → P lines → Derives (lines ++ line ∷ [])) → (lines : Lines) → before lines → P lines → (more : Lines) → now more → Derives more
-still_told before now P line one adds derives lines told p more m = subst Derives (one (lines ++ line ∷ []) more (adds lines told) m) (derives lines p)
+still_told : (before now P : Lines → Type 0) (line : LogLine) → ((a b : Lines) → now a → now b → a ≡ b) → AddsLine before now line → ((lines : Lines) → P lines → Derives (lines ++ line ∷ [])) → StillDerives P before now
+still_told before now P line one adds derives = λ lines p told more m. subst Derives (one (lines ++ line ∷ []) more (adds lines told) m) (derives lines p)
 
 -- satisfied, whatever the order
 pub satisfied_lit : (v : Assignment) (c : List Literal) → Satisfies v c → (l : Literal) × Contains c l × (truth v l ≡ true)
@@ -266,10 +267,10 @@ learns_from before now count after query r s t f one = record {
   counted = one.counted;
 }
 
-pub left_from : (before now : Lines → Type 0) (query : List Literal) (r s : Search) → IsSameStore r s → LeavesAt before now query s → LeavesAt before now query r
+pub left_from : (before now : Lines → Type 0) (query : List Literal) (r s : Search) → IsSameStore r s → BreaksOffAt before now query s → BreaksOffAt before now query r
 left_from before now query r s f d = λ lines told more m.
     let left = d lines told more m in
-    record { derives = λ b. left.derives (record { belongs = belongs_same lines (clauses r) (clauses s) r.words s.words f.clauses f.words b.belongs; asked = b.asked }); formula = left.formula }
+    record { derives = λ b. left.derives (record { belongs = belongs_same lines (clauses r) (clauses s) r.words s.words f.clauses f.words b.belongs; asked = b.asked }); gives = left.gives }
 
 -- a clause that the analyser gave is kept
 pub learns_one : (before now : Lines → Type 0) (count after : ℕ) (query : List Literal) (s r t : Search) (c : List Literal) → MayBeTold (Learnt c) → IsAnalysed s r → IsSearch s → s.refuted ≡ false → IsAsking query s → s.levels < length s.trail.cuts → IsLearntFrom r c → IsKeptOne r t c → t.learnt ≡ more_learnt r.learnt 1 → AddsLine before now (Learnt c) → after ≡ next_count count → LearnsOne before now count after query s t
@@ -312,7 +313,7 @@ round_ok (Ok o) before now count after query r s t f h = by_option o h
     by_option None h = learns_from before now count after query r s t f h
     by_option (Some a) h = ends_from before now count after query r s t a f h
 
-pub round_err : {T : Type 0} (res : Result T SolveFault) (before now : Lines → Type 0) (query : List Literal) (r s : Search) → IsSameStore r s → OnErr res (LeavesAt before now query s) → OnErr res (LeavesAt before now query r)
+pub round_err : {T : Type 0} (res : Result T SolveFault) (before now : Lines → Type 0) (query : List Literal) (r s : Search) → IsSameStore r s → OnErr res (BreaksOffAt before now query s) → OnErr res (BreaksOffAt before now query r)
 round_err (Ok x) before now query r s f h = tt
 round_err (Err e) before now query r s f h = left_from before now query r s f h
 
@@ -326,22 +327,22 @@ rounds_ok (Err e) before mid now count between after query r s t n h ends = ends
 rounds_ok (Ok a) before mid now count between after query r s t n h ends = ends_after before mid now count between after query r s t a n n (spent_all a n) h ends
 
 -- an error after some rounds
-pub gone_err : (before mid now : Lines → Type 0) (count between : ℕ) (query : List Literal) (r s : Search) (n : ℕ) → HasGone before mid count between query r s n → LeavesAt mid now query s → LeavesAt before now query r
+pub gone_err : (before mid now : Lines → Type 0) (count between : ℕ) (query : List Literal) (r s : Search) (n : ℕ) → HasGone before mid count between query r s n → BreaksOffAt mid now query s → BreaksOffAt before now query r
 gone_err before mid now count between query r s n h d = λ lines told more m.
     let left = d (lines ++ map Learnt h.learnt) (h.told lines told) more m in
-    record { derives = λ b. left.derives (h.belongs lines b); formula = left.formula ∙ formula_behind lines (map Learnt h.learnt) (formula_learnt h.learnt) }
+    record { derives = λ b. left.derives (h.belongs lines b); gives = left.gives ∙ clause_behind lines (map Learnt h.learnt) (clause_learnt h.learnt) }
 
-pub rounds_err : (res : Result Answer SolveFault) (before mid now : Lines → Type 0) (count between : ℕ) (query : List Literal) (r s : Search) (n : ℕ) → HasGone before mid count between query r s n → OnErr res (LeavesAt mid now query s) → OnErr res (LeavesAt before now query r)
+pub rounds_err : (res : Result Answer SolveFault) (before mid now : Lines → Type 0) (count between : ℕ) (query : List Literal) (r s : Search) (n : ℕ) → HasGone before mid count between query r s n → OnErr res (BreaksOffAt mid now query s) → OnErr res (BreaksOffAt before now query r)
 rounds_err (Ok x) before mid now count between query r s n h d = tt
 rounds_err (Err e) before mid now count between query r s n h d = gone_err before mid now count between query r s n h d
 
 -- a log that a search left derives
-pub searched_err : (before now : Lines → Type 0) (query : List Literal) (s t : Search) (answer : Answer) (budget count after : ℕ) → ((a b : Lines) → now a → now b → a ≡ b) → HasSolved before now query (seen s) (seen t) answer budget count after → LeavesLog before now s
+pub searched_err : (before now : Lines → Type 0) (query : List Literal) (s t : Search) (answer : Answer) (budget count after : ℕ) → ((a b : Lines) → now a → now b → a ≡ b) → HasSolved before now query (seen s) (seen t) answer budget count after → BreaksOffLog before now s
 searched_err before now query s t answer budget count after one h = λ lines told more m.
     let e : lines ++ search_lines query h.learnt h.ending ≡ more = one (lines ++ search_lines query h.learnt h.ending) more (h.told lines told) m in
     record {
       derives = λ b. subst Derives e (h.belongs lines b).derives;
-      formula = ap (flat_map given) (sym e) ∙ formula_behind lines (search_lines query h.learnt h.ending) (formula_searched answer query h.learnt h.ending h.ends);
+      gives = ap clause_lines (sym e) ∙ clause_behind lines (search_lines query h.learnt h.ending) (clause_searched answer query h.learnt h.ending h.ends);
     }
 
 pub searched_counted : (before now : Lines → Type 0) (query : List Literal) (s t : Search) (answer : Answer) (budget count after : ℕ) → HasSolved before now query (seen s) (seen t) answer budget count after → HasCounted budget count after
@@ -360,12 +361,12 @@ searched_same before now query k s t answer budget count after f h = record {
 }
 
 -- the query was told, and then an error came
-pub query_err : (before mid now : Lines → Type 0) (query : List Literal) (s : Search) → MayBeTold (Query query) → All (λ l. IsNamed (clauses s) l.var) query → AddsLine before mid (Query query) → LeavesAt mid now query s → LeavesLog before now s
+pub query_err : (before mid now : Lines → Type 0) (query : List Literal) (s : Search) → MayBeTold (Query query) → All (λ l. IsNamed (clauses s) l.var) query → AddsLine before mid (Query query) → BreaksOffAt mid now query s → BreaksOffLog before now s
 query_err before mid now query s formed named adds d = λ lines told more m.
     let left = d (lines ++ Query query ∷ []) (adds lines told) more m in
-    record { derives = λ b. left.derives (belongs_query lines (clauses s) s.words query formed named b); formula = left.formula ∙ formula_push lines (Query query) refl }
+    record { derives = λ b. left.derives (belongs_query lines (clauses s) s.words query formed named b); gives = left.gives ∙ clause_push lines (Query query) refl }
 
-pub query_err_of : (res : Result Answer SolveFault) (before mid now : Lines → Type 0) (query : List Literal) (s : Search) → MayBeTold (Query query) → All (λ l. IsNamed (clauses s) l.var) query → AddsLine before mid (Query query) → OnErr res (LeavesAt mid now query s) → OnErr res (LeavesLog before now s)
+pub query_err_of : (res : Result Answer SolveFault) (before mid now : Lines → Type 0) (query : List Literal) (s : Search) → MayBeTold (Query query) → All (λ l. IsNamed (clauses s) l.var) query → AddsLine before mid (Query query) → OnErr res (BreaksOffAt mid now query s) → OnErr res (BreaksOffLog before now s)
 query_err_of (Ok x) before mid now query s formed named adds d = tt
 query_err_of (Err e) before mid now query s formed named adds d = query_err before mid now query s formed named adds d
 
@@ -391,5 +392,5 @@ searched_refuted before mid now count between after query s t budget an none h r
     record { searched = searched before mid now count between after query s t Refuted budget formed named adds same e; given = e.given; says = e.says }
 
 -- a given clause
-pub given_err : (before now : Lines → Type 0) (s : Search) (c : List Literal) → MayBeTold (Formula c) → ((a b : Lines) → now a → now b → a ≡ b) → AddsLine before now (Formula c) → StillDerives before now (seen s)
+pub given_err : (before now : Lines → Type 0) (s : Search) (c : List Literal) → MayBeTold (Formula c) → ((a b : Lines) → now a → now b → a ≡ b) → AddsLine before now (Formula c) → StillDerives (λ ls. Belongs ls (seen s)) before now
 given_err before now s c formed one adds = still_told before now (λ (lines : Lines). BelongsTo lines (clauses s) s.words) (Formula c) one adds (λ lines b. (belongs_given lines (clauses s) (clauses s ++ c ∷ []) s.words c formed (same_itself (clauses s ++ c ∷ [])) b).derives)

@@ -7,10 +7,11 @@ use Rattle.cnf_core.specs.Clause.{Clauses, IsNamed}
 use Rattle.refute_log.specs.declared.line.LogLine.TheVariants.{Formula}
 use Rattle.refute_log.specs.Lines.{MayBeTold}
 use Rattle.refute_log.specs.Told.{Lines}
+use Rattle.refute_log.specs.Steps.{StillDerives}
 use Rattle.cdcl_core.specs.declared.search.Search.{Search}
 use Rattle.cdcl_core.specs.declared.answer.Answer.{Answer}
 use Rattle.cdcl_core.specs.Kept.{Kept, blank, with_more_vars, AreGiven, IsGivenOne, IsTrueAnswer, HasModelOnly, HasRefuted}
-use Rattle.cdcl_core.specs.Belongs.{Belongs, BelongsTo, StillDerives, HasSolved}
+use Rattle.cdcl_core.specs.Belongs.{Belongs, BelongsTo, HasSolved}
 use Rattle.cdcl_core.specs.Search.{clauses, seen, kept_of, IsIdle, IsSolver, IsKeptOne}
 use Rattle.cdcl_core.proofs.SetLemmas.{among_itself}
 use Rattle.cdcl_core.proofs.LogLemmas.{belongs_none, belongs_given}
@@ -70,8 +71,8 @@ pub belongs_now : (k now : Kept) (c : List Literal) → MayBeTold (Formula c) �
 belongs_now k now c formed one lines b = subst (BelongsTo (lines ++ Formula c ∷ []) now.clauses) (sym one.words) (belongs_given lines k.clauses now.clauses k.words c formed one.clauses b)
 
 -- what stands of a log after an error
-pub still_view : (before now : Lines → Type 0) (s : Search) (model : Option (List Bool)) (refuted : List Literal) (failed : Bool) (k : Kept) → kept_of s model refuted failed ≡ k → StillDerives before now (seen s) → StillDerives before now k
-still_view before now s model refuted failed k view d = subst (StillDerives before now) view (λ lines told b more m. d lines told b more m)
+pub still_view : (before now : Lines → Type 0) (s : Search) (model : Option (List Bool)) (refuted : List Literal) (failed : Bool) (k : Kept) → kept_of s model refuted failed ≡ k → StillDerives (λ ls. Belongs ls (seen s)) before now → StillDerives (λ ls. Belongs ls k) before now
+still_view before now s model refuted failed k view d = subst (λ (x : Kept). StillDerives (λ ls. Belongs ls x) before now) view (λ lines b told more m. d lines b told more m)
 
 pub named_view : (s : Search) (model : Option (List Bool)) (refuted : List Literal) (failed : Bool) (k : Kept) (query : List Literal) → kept_of s model refuted failed ≡ k → All (λ l. IsNamed k.clauses l.var) query → All (λ l. IsNamed (clauses s) l.var) query
 named_view s model refuted failed k query view h = subst (λ (x : Kept). All (λ l. IsNamed x.clauses l.var) query) (sym view) h

@@ -1,13 +1,13 @@
 -- Logs that belong to a solver, and the lines that a search tells.
-use Rattle.std.specs.Prelude.{◌≡◌, ◌≤◌, ◌⊎◌, ℕ, List, [], ◌∷◌, ◌++◌, All, Contains, length, map, flat_map}
+use Rattle.std.specs.Prelude.{◌≡◌, ◌≤◌, ◌⊎◌, ℕ, List, [], ◌∷◌, ◌++◌, All, Contains, length, map}
 use Rattle.cnf_core.specs.Lit.{Literal, negate}
 use Rattle.cnf_core.specs.Clause.{Clauses, words_of}
 use Rattle.cnf_core.specs.Propagation.{AreAmong}
 use Rattle.outside_io.specs.Counts.{rose_by}
-use Rattle.refute_log.specs.declared.line.LogLine.TheVariants.{Learnt, Query, Refuted as RefutedLine, Model as ModelLine}
+use Rattle.refute_log.specs.declared.line.LogLine.TheVariants.{Formula, Learnt, Query, Refuted as RefutedLine, Model as ModelLine}
 use Rattle.refute_log.specs.Lines.{MayAllBeTold}
 use Rattle.refute_log.specs.Told.{Lines}
-use Rattle.refute_log.specs.Log.{facts_of, given, Derives, Due}
+use Rattle.refute_log.specs.Log.{facts_of, clause_lines, Derives, Due}
 use Rattle.cdcl_core.specs.declared.answer.Answer.{Answer}
 use Rattle.cdcl_core.specs.declared.answer.Answer.TheVariants.{Model, Refuted, Spent, Room}
 use Rattle.cdcl_core.specs.Kept.{Kept, HasLearnt}
@@ -26,17 +26,11 @@ pub record BelongsTo (lines : Lines) (clauses : Clauses) (count : ℕ) : Type 0 
 abbrev pub Belongs : Lines → Kept → Type 0
 Belongs lines k = BelongsTo lines k.clauses k.words
 
--- whatever is told after an error derives, where what was told before belonged to the solver
-abbrev pub StillDerives : (Lines → Type 0) → (Lines → Type 0) → Kept → Type 0
-StillDerives before now k = (lines : Lines) → before lines → Belongs lines k → (more : Lines) → now more → Derives more
-
--- whatever is told after an error has the Formula lines of what was told before, and no others
-abbrev pub GivesNoMore : (Lines → Type 0) → (Lines → Type 0) → Type 0
-GivesNoMore before now = (lines : Lines) → before lines → (more : Lines) → now more → flat_map given more ≡ flat_map given lines
-
--- it has these, or these and a line of this clause behind them
+-- whatever is told after an error has the Formula and Bound lines of what was told before, or these and a Formula line of
+-- this clause behind them
 abbrev pub GivesAtMost : (Lines → Type 0) → (Lines → Type 0) → List Literal → Type 0
-GivesAtMost before now c = (lines : Lines) → before lines → (more : Lines) → now more → (flat_map given more ≡ flat_map given lines) ⊎ (flat_map given more ≡ flat_map given lines ++ c ∷ [])
+GivesAtMost before now c = (lines : Lines) → before lines → (more : Lines) → now more →
+    (clause_lines more ≡ clause_lines lines) ⊎ (clause_lines more ≡ clause_lines lines ++ Formula c ∷ [])
 
 -- no more Learnt lines than these were counted
 pub record HasCounted (budget before_count now_count : ℕ) : Type 0 where

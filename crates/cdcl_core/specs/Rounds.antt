@@ -1,5 +1,5 @@
 -- What a search tells, round by round.
-use Rattle.std.specs.Prelude.{◌≡◌, ℕ, Some, List, [], ◌∷◌, ◌++◌, length, map, flat_map}
+use Rattle.std.specs.Prelude.{◌≡◌, ℕ, Some, List, [], ◌∷◌, ◌++◌, length, map}
 use Rattle.cnf_core.specs.Lit.{Literal}
 use Rattle.cnf_core.specs.Clause.{Clauses}
 use Rattle.outside_io.specs.Counts.{next_count, rose_by}
@@ -7,7 +7,7 @@ use Rattle.refute_log.specs.declared.line.LogLine.{LogLine}
 use Rattle.refute_log.specs.declared.line.LogLine.TheVariants.{Formula, Learnt, Bound, Query, Refuted as RefutedLine, Model as ModelLine}
 use Rattle.refute_log.specs.Lines.{MayBeTold}
 use Rattle.refute_log.specs.Told.{Lines, AddsLine}
-use Rattle.refute_log.specs.Log.{facts_of, given, Derives}
+use Rattle.refute_log.specs.Log.{facts_of, clause_lines, Derives}
 use Rattle.cdcl_core.specs.declared.search.Search.{Search}
 use Rattle.cdcl_core.specs.declared.answer.Answer.{Answer}
 use Rattle.cdcl_core.specs.Kept.{IsDeduced, IsOpenQuery, HasLearnt, AreGiven}
@@ -28,20 +28,20 @@ pub record BelongsAt (query : List Literal) (lines : Lines) (cs : Clauses) (coun
   pub belongs : BelongsTo lines cs count
   pub asked : (facts_of lines).query ≡ Some query
 
--- what is told after an error derives, where P held of what was told before, and has no further Formula line
-pub record IsLeft (P : Lines → Type 0) (lines more : Lines) : Type 0 where
+-- what is told after an error derives, where P held of what was told before, and has no further Formula or Bound line
+pub record IsBrokenOff (P : Lines → Type 0) (lines more : Lines) : Type 0 where
   pub derives : P lines → Derives more
-  pub formula : flat_map given more ≡ flat_map given lines
+  pub gives : clause_lines more ≡ clause_lines lines
 
-abbrev pub Leaves : (Lines → Type 0) → (Lines → Type 0) → (Lines → Type 0) → Type 0
-Leaves before now P = (lines : Lines) → before lines → (more : Lines) → now more → IsLeft P lines more
+abbrev pub BreaksOff : (Lines → Type 0) → (Lines → Type 0) → (Lines → Type 0) → Type 0
+BreaksOff before now P = (lines : Lines) → before lines → (more : Lines) → now more → IsBrokenOff P lines more
 
 -- the same where what was told before belonged to the search, and where it asked this besides
-abbrev pub LeavesLog : (Lines → Type 0) → (Lines → Type 0) → Search → Type 0
-LeavesLog before now s = Leaves before now (λ lines. BelongsTo lines (clauses s) s.words)
+abbrev pub BreaksOffLog : (Lines → Type 0) → (Lines → Type 0) → Search → Type 0
+BreaksOffLog before now s = BreaksOff before now (λ lines. BelongsTo lines (clauses s) s.words)
 
-abbrev pub LeavesAt : (Lines → Type 0) → (Lines → Type 0) → List Literal → Search → Type 0
-LeavesAt before now query s = Leaves before now (λ lines. BelongsAt query lines (clauses s) s.words)
+abbrev pub BreaksOffAt : (Lines → Type 0) → (Lines → Type 0) → List Literal → Search → Type 0
+BreaksOffAt before now query s = BreaksOff before now (λ lines. BelongsAt query lines (clauses s) s.words)
 
 -- one clause was learnt, which may be told, where the query was open
 pub record LearnsOne (before now : Lines → Type 0) (count after : ℕ) (query : List Literal) (old new : Search) : Type 0 where

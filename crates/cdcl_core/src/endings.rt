@@ -4,7 +4,7 @@ ghost use Rattle.outside_io.specs.Counts.{Rose};
 ghost use Rattle.cnf_core.specs.Clause.{AreDistinct, AreThere, IsThere, IsNamed};
 ghost use Rattle.watch_arena.specs.Arena.{IsClashOf};
 ghost use Rattle.cdcl_core.specs.Search.{IsSearch, IsAsking, IsDenied, IsAnalysed, IsComplete, IsRefutedBy, IsRefuting, DeniedUpto, clauses};
-ghost use Rattle.cdcl_core.specs.Rounds.{EndsSo, LeavesAt};
+ghost use Rattle.cdcl_core.specs.Rounds.{EndsSo, BreaksOffAt};
 
 use crate::answer::Answer;
 use crate::choices::Stop;
@@ -125,7 +125,7 @@ impl Search {
         ensures ends { IfOk result (λ a. EndsSo (L.tells log.old) (L.tells log.new)
             (L.learnt log.old) (L.learnt log.new) query.now self.old self.new a) }
         ensures unspent { IfOk result (λ a. a ≡ Answer.Spent → ⊥) }
-        ensures leaves { OnErr result (LeavesAt (L.tells log.old) (L.tells log.new) query.now self.old) }
+        ensures leaves { OnErr result (BreaksOffAt (L.tells log.old) (L.tells log.new) query.now self.old) }
         ensures counted { OnErr result (L.learnt log.new ≡ L.learnt log.old) }
         ensures cause { IsErrOf result SolveFault.Log → Rose (L.faults log.old) (L.faults log.new) }
         ensures faults { L.faults log.old ≤ L.faults log.new }
@@ -144,7 +144,7 @@ impl Search {
         ensures ends { IfOk result (λ a. EndsSo (L.tells log.old) (L.tells log.new)
             (L.learnt log.old) (L.learnt log.new) query.now self.old self.new a) }
         ensures unspent { IfOk result (λ a. a ≡ Answer.Spent → ⊥) }
-        ensures leaves { OnErr result (LeavesAt (L.tells log.old) (L.tells log.new) query.now self.old) }
+        ensures leaves { OnErr result (BreaksOffAt (L.tells log.old) (L.tells log.new) query.now self.old) }
         ensures counted { OnErr result (L.learnt log.new ≡ L.learnt log.old) }
         ensures cause { IsErrOf result SolveFault.Log → Rose (L.faults log.old) (L.faults log.new) }
         ensures faults { L.faults log.old ≤ L.faults log.new }

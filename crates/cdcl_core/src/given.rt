@@ -6,7 +6,8 @@ ghost use Rattle.cnf_core.specs.Clause.{AreDistinct, AreThere};
 ghost use Rattle.cnf_core.specs.Propagation.{IsIn, SameLiterals};
 ghost use Rattle.refute_log.specs.declared.line.LogLine.TheVariants.{Formula};
 ghost use Rattle.refute_log.specs.Told.{AddsLine};
-ghost use Rattle.cdcl_core.specs.Belongs.{StillDerives, GivesAtMost};
+ghost use Rattle.refute_log.specs.Steps.{StillDerives};
+ghost use Rattle.cdcl_core.specs.Belongs.{Belongs, GivesAtMost};
 ghost use Rattle.cdcl_core.specs.Search.{IsIdle, IsKeptOne, IsFalseClause, IsFronted, IsSilent, IsExchanged, seen};
 
 use crate::choices::is_unset;
@@ -80,8 +81,8 @@ impl Search {
         ensures kept { OnOk result (IsKeptOne self.old self.new lits.now) }
         ensures learnt_same { OnOk result (self.new.learnt ≡ self.old.learnt) }
         ensures told { OnOk result (AddsLine (L.tells log.old) (L.tells log.new) (Formula lits.now)) }
-        ensures derives { OnErr result (StillDerives (L.tells log.old) (L.tells log.new) (seen self.old)) }
-        ensures formula { OnErr result (GivesAtMost (L.tells log.old) (L.tells log.new) lits.now) }
+        ensures derives { OnErr result (StillDerives (λ ls. Belongs ls (seen self.old)) (L.tells log.old) (L.tells log.new)) }
+        ensures gives { OnErr result (GivesAtMost (L.tells log.old) (L.tells log.new) lits.now) }
         ensures learnt { L.learnt log.new ≡ L.learnt log.old }
         ensures room { IsErrOf result AddFault.Room ↔ self.old.room < self.old.words + length lits.now + 3 }
         ensures untold { IsErrOf result AddFault.Room → log.new ≡ log.old }
@@ -106,8 +107,8 @@ impl Search {
         ensures kept { OnOk result (IsKeptOne self.old self.new lits.now) }
         ensures learnt_same { OnOk result (self.new.learnt ≡ self.old.learnt) }
         ensures told { OnOk result (AddsLine (L.tells log.old) (L.tells log.new) (Formula lits.now)) }
-        ensures derives { OnErr result (StillDerives (L.tells log.old) (L.tells log.new) (seen self.old)) }
-        ensures formula { OnErr result (GivesAtMost (L.tells log.old) (L.tells log.new) lits.now) }
+        ensures derives { OnErr result (StillDerives (λ ls. Belongs ls (seen self.old)) (L.tells log.old) (L.tells log.new)) }
+        ensures gives { OnErr result (GivesAtMost (L.tells log.old) (L.tells log.new) lits.now) }
         ensures learnt { L.learnt log.new ≡ L.learnt log.old }
         ensures fits { IsErrOf result AddFault.Room → ⊥ }
         ensures cause { IsErrOf result AddFault.Log → Rose (L.faults log.old) (L.faults log.new) }

@@ -4,7 +4,7 @@ ghost use Rattle.outside_io.specs.Counts.{Rose};
 ghost use Rattle.cnf_core.specs.Clause.{Clauses, AreDistinct, IsNamed};
 ghost use Rattle.cdcl_core.specs.Kept.{AreGiven, IsTrueAnswer, HasModelOnly, HasRefuted};
 ghost use Rattle.cdcl_core.specs.Belongs.{HasCounted, HasSolved};
-ghost use Rattle.cdcl_core.specs.Rounds.{LeavesLog};
+ghost use Rattle.cdcl_core.specs.Rounds.{BreaksOffLog};
 ghost use Rattle.cdcl_core.specs.Search.{IsSearch, IsIdle, IsSameStore, IsSearchAnswer, clauses, kept_of, seen};
 ghost use Rattle.cnf_core.specs.Lit.{Literal, negate, has};
 ghost use Rattle.cnf_core.specs.Assignment.{truth};
@@ -65,7 +65,7 @@ impl Search {
         ensures given { OnOk result ((given : Clauses) → AreGiven given (clauses self.old) → AreGiven given (clauses self.new)) }
         ensures searched { IfOk result (λ r. HasSolved (L.tells log.old) (L.tells log.new)
             query.now (seen self.old) (seen self.new) r.0 budget (L.learnt log.old) (L.learnt log.new)) }
-        ensures leaves { OnErr result (LeavesLog (L.tells log.old) (L.tells log.new) self.old) }
+        ensures leaves { OnErr result (BreaksOffLog (L.tells log.old) (L.tells log.new) self.old) }
         ensures few { OnErr result (HasCounted budget (L.learnt log.old) (L.learnt log.new)) }
         ensures cause { IsErrOf result SolveFault.Log → Rose (L.faults log.old) (L.faults log.new) }
         ensures faults { L.faults log.old ≤ L.faults log.new }

@@ -5,7 +5,7 @@ ghost use Rattle.cnf_core.specs.Lit.{Literal};
 ghost use Rattle.cnf_core.specs.Clause.{AreDistinct, AreThere, IsNamed};
 ghost use Rattle.watch_arena.specs.Arena.{IsClashOf};
 ghost use Rattle.cdcl_core.specs.Search.{IsSearch, IsIdle, IsSameStore, IsAsking, clauses};
-ghost use Rattle.cdcl_core.specs.Rounds.{LearnsOne, EndsSo, LeavesAt, LeavesLog, EndsAfter, EndsBehindQuery};
+ghost use Rattle.cdcl_core.specs.Rounds.{LearnsOne, EndsSo, BreaksOffAt, BreaksOffLog, EndsAfter, EndsBehindQuery};
 ghost use Rattle.cdcl_core.specs.Belongs.{HasCounted};
 
 use crate::answer::Answer;
@@ -41,7 +41,7 @@ impl Search {
             (L.learnt log.old) (L.learnt log.new) query.now self.old self.new a)) }
         ensures unspent { IfOk result (λ r. IfSome r (λ a. a ≡ Answer.Spent → ⊥)) }
         ensures on { IfOk result (λ r. r ≡ None → IsAsking query.now self.new × (self.new.refuted ≡ false)) }
-        ensures leaves { OnErr result (LeavesAt (L.tells log.old) (L.tells log.new) query.now self.old) }
+        ensures leaves { OnErr result (BreaksOffAt (L.tells log.old) (L.tells log.new) query.now self.old) }
         ensures few { OnErr result (HasCounted 1 (L.learnt log.old) (L.learnt log.new)) }
         ensures cause { IsErrOf result SolveFault.Log → Rose (L.faults log.old) (L.faults log.new) }
         ensures faults { L.faults log.old ≤ L.faults log.new }
@@ -76,7 +76,7 @@ impl Search {
             (L.learnt log.old) (L.learnt log.new) query.now self.old self.new a)) }
         ensures unspent { IfOk result (λ r. IfSome r (λ a. a ≡ Answer.Spent → ⊥)) }
         ensures on { IfOk result (λ r. r ≡ None → IsAsking query.now self.new × (self.new.refuted ≡ false)) }
-        ensures leaves { OnErr result (LeavesAt (L.tells log.old) (L.tells log.new) query.now self.old) }
+        ensures leaves { OnErr result (BreaksOffAt (L.tells log.old) (L.tells log.new) query.now self.old) }
         ensures few { OnErr result (HasCounted 1 (L.learnt log.old) (L.learnt log.new)) }
         ensures cause { IsErrOf result SolveFault.Log → Rose (L.faults log.old) (L.faults log.new) }
         ensures faults { L.faults log.old ≤ L.faults log.new }
@@ -104,7 +104,7 @@ impl Search {
         ensures search { OnOk result (IsSearch self.new) }
         ensures ends { IfOk result (λ a. EndsSo (L.tells log.old) (L.tells log.new)
             (L.learnt log.old) (L.learnt log.new) query.now self.old self.new a) }
-        ensures leaves { OnErr result (LeavesAt (L.tells log.old) (L.tells log.new) query.now self.old) }
+        ensures leaves { OnErr result (BreaksOffAt (L.tells log.old) (L.tells log.new) query.now self.old) }
         ensures counted { OnErr result (L.learnt log.new ≡ L.learnt log.old) }
         ensures cause { IsErrOf result SolveFault.Log → Rose (L.faults log.old) (L.faults log.new) }
         ensures faults { L.faults log.old ≤ L.faults log.new }
@@ -136,7 +136,7 @@ impl Search {
             (L.learnt log.old) (L.learnt log.new) query.now self.old self.new a)) }
         ensures unspent { IfOk result (λ r. IfSome r (λ a. a ≡ Answer.Spent → ⊥)) }
         ensures on { IfOk result (λ r. r ≡ None → IsAsking query.now self.new × (self.new.refuted ≡ false)) }
-        ensures leaves { OnErr result (LeavesAt (L.tells log.old) (L.tells log.new) query.now self.old) }
+        ensures leaves { OnErr result (BreaksOffAt (L.tells log.old) (L.tells log.new) query.now self.old) }
         ensures few { OnErr result (HasCounted 1 (L.learnt log.old) (L.learnt log.new)) }
         ensures cause { IsErrOf result SolveFault.Log → Rose (L.faults log.old) (L.faults log.new) }
         ensures faults { L.faults log.old ≤ L.faults log.new }
@@ -160,7 +160,7 @@ impl Search {
         ensures search { OnOk result (IsSearch self.new) }
         ensures ends { IfOk result (λ a. EndsSo (L.tells log.old) (L.tells log.new)
             (L.learnt log.old) (L.learnt log.new) query.now self.old self.new a) }
-        ensures leaves { OnErr result (LeavesAt (L.tells log.old) (L.tells log.new) query.now self.old) }
+        ensures leaves { OnErr result (BreaksOffAt (L.tells log.old) (L.tells log.new) query.now self.old) }
         ensures counted { OnErr result (L.learnt log.new ≡ L.learnt log.old) }
         ensures cause { IsErrOf result SolveFault.Log → Rose (L.faults log.old) (L.faults log.new) }
         ensures faults { L.faults log.old ≤ L.faults log.new }
@@ -201,7 +201,7 @@ impl Search {
         ensures search { OnOk result (IsSearch self.new) }
         ensures ends { IfOk result (λ a. EndsAfter (L.tells log.old) (L.tells log.new)
             (L.learnt log.old) (L.learnt log.new) query.now self.old self.new a budget) }
-        ensures leaves { OnErr result (LeavesAt (L.tells log.old) (L.tells log.new) query.now self.old) }
+        ensures leaves { OnErr result (BreaksOffAt (L.tells log.old) (L.tells log.new) query.now self.old) }
         ensures few { OnErr result (HasCounted budget (L.learnt log.old) (L.learnt log.new)) }
         ensures cause { IsErrOf result SolveFault.Log → Rose (L.faults log.old) (L.faults log.new) }
         ensures faults { L.faults log.old ≤ L.faults log.new }
@@ -229,7 +229,7 @@ impl Search {
         ensures search { OnOk result (IsSearch self.new) }
         ensures searched { IfOk result (λ a. EndsBehindQuery (L.tells log.old) (L.tells log.new)
             (L.learnt log.old) (L.learnt log.new) query.now self.old self.new a budget) }
-        ensures leaves { OnErr result (LeavesLog (L.tells log.old) (L.tells log.new) self.old) }
+        ensures leaves { OnErr result (BreaksOffLog (L.tells log.old) (L.tells log.new) self.old) }
         ensures few { OnErr result (HasCounted budget (L.learnt log.old) (L.learnt log.new)) }
         ensures cause { IsErrOf result SolveFault.Log → Rose (L.faults log.old) (L.faults log.new) }
         ensures faults { L.faults log.old ≤ L.faults log.new }

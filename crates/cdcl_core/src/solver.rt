@@ -5,7 +5,8 @@ ghost use Rattle.cnf_core.specs.Clause.{Clauses, AreDistinct, AreThere, IsNamed}
 ghost use Rattle.refute_log.specs.declared.line.LogLine.TheVariants.{Formula};
 ghost use Rattle.refute_log.specs.Told.{Lines, AddsLine};
 ghost use Rattle.cdcl_core.specs.Kept.{blank, with_more_vars, AreGiven, IsGivenOne, IsTrueAnswer, HasModelOnly, HasRefuted};
-ghost use Rattle.cdcl_core.specs.Belongs.{Belongs, StillDerives, GivesNoMore, GivesAtMost, HasCounted, HasSolved};
+ghost use Rattle.refute_log.specs.Steps.{StillDerives, GivesNoMore};
+ghost use Rattle.cdcl_core.specs.Belongs.{Belongs, GivesAtMost, HasCounted, HasSolved};
 
 use crate::answer::Answer;
 use crate::fault::{AddFault, SolveFault};
@@ -88,8 +89,8 @@ impl Solver {
         ensures told { OnOk result (AddsLine (L.tells log.old) (L.tells log.new) (Formula lits.now)) }
         ensures belongs { OnOk result ((lines : Lines) → Belongs lines self.old →
             Belongs (lines ++ Formula lits.now ∷ []) self.new) }
-        ensures derives { OnErr result (StillDerives (L.tells log.old) (L.tells log.new) self.old) }
-        ensures formula { OnErr result (GivesAtMost (L.tells log.old) (L.tells log.new) lits.now) }
+        ensures derives { OnErr result (StillDerives (λ ls. Belongs ls self.old) (L.tells log.old) (L.tells log.new)) }
+        ensures gives { OnErr result (GivesAtMost (L.tells log.old) (L.tells log.new) lits.now) }
         ensures learnt { L.learnt log.new ≡ L.learnt log.old }
         ensures room { IsErrOf result AddFault.Room ↔ self.old.room < self.old.words + length lits.now + 3 }
         ensures untold { IsErrOf result AddFault.Room → log.new ≡ log.old }
@@ -131,8 +132,8 @@ impl Solver {
         ensures given { OnOk result ((given : Clauses) → AreGiven given self.old.clauses → AreGiven given self.new.clauses) }
         ensures searched { IfOk result (λ a. HasSolved (L.tells log.old) (L.tells log.new)
             assume.now self.old self.new a budget (L.learnt log.old) (L.learnt log.new)) }
-        ensures derives { OnErr result (StillDerives (L.tells log.old) (L.tells log.new) self.old) }
-        ensures formula { OnErr result (GivesNoMore (L.tells log.old) (L.tells log.new)) }
+        ensures derives { OnErr result (StillDerives (λ ls. Belongs ls self.old) (L.tells log.old) (L.tells log.new)) }
+        ensures gives { OnErr result (GivesNoMore (L.tells log.old) (L.tells log.new)) }
         ensures few { OnErr result (HasCounted budget (L.learnt log.old) (L.learnt log.new)) }
         ensures cause { IsErrOf result SolveFault.Log → Rose (L.faults log.old) (L.faults log.new) }
         ensures faults { L.faults log.old ≤ L.faults log.new }

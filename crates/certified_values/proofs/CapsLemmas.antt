@@ -8,7 +8,8 @@ use Rattle.cnf_core.specs.declared.literal.Var.{Var}
 use Rattle.cnf_core.specs.Clause.{Clauses}
 use Rattle.refute_log.specs.declared.line.LogLine.TheVariants.{Formula, Learnt, Bound, Query, Refuted, Model}
 use Rattle.refute_log.specs.Told.{Lines}
-use Rattle.certified_values.specs.Expected.{clause_lines, same_criterion, bound_var, bound_vars, bound_lines, caps, Problem, HasAllBounds, sum_lines, sum_vars_of, sums, expected_lines}
+use Rattle.refute_log.specs.Log.{clause_lines}
+use Rattle.certified_values.specs.Expected.{same_criterion, bound_var, bound_vars, bound_lines, caps, Problem, HasAllBounds, sum_lines, sum_vars_of, sums, expected_lines}
 use Rattle.certified_values.proofs.ExpectedLemmas.{same_itself, same_tells}
 
 pub bounds_same : (c : Criterion) (k : ℕ) (xs : List Var) → bound_vars c (bound_lines c k xs) ≡ xs

@@ -10,9 +10,9 @@ use Rattle.cnf_core.specs.Clause.{Clauses}
 use Rattle.cnf_core.specs.Assignment.{SatisfiesAll}
 use Rattle.refute_log.specs.declared.line.LogLine.TheVariants.{Formula, Learnt, Bound, Query, Refuted, Model}
 use Rattle.refute_log.specs.Told.{Lines}
-use Rattle.refute_log.specs.Log.{given}
+use Rattle.refute_log.specs.Log.{given, clause_line, clause_lines, BeginsLines}
 use Rattle.certified_values.specs.Bounds.{MeetsLog}
-use Rattle.certified_values.specs.Expected.{clause_line, clause_lines, caps, BeginsLines}
+use Rattle.certified_values.specs.Expected.{caps}
 use Rattle.cnf_core.proofs.ClauseLemmas.{satisfies_left}
 
 pub given_of_clauses : (lines : Lines) → flat_map given (clause_lines lines) ≡ flat_map given lines

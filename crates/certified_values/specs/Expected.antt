@@ -7,18 +7,9 @@ use Rattle.cnf_core.specs.Clause.{Clauses}
 use Rattle.refute_log.specs.declared.line.LogLine.{LogLine}
 use Rattle.refute_log.specs.declared.line.LogLine.TheVariants.{Formula, Bound}
 use Rattle.refute_log.specs.Told.{Lines}
+use Rattle.refute_log.specs.Log.{clause_lines, BeginsLines}
 
--- ---- the lines that are told
-
--- the line, where it is a Formula or Bound line
-abbrev pub clause_line : LogLine → Lines
-clause_line (Formula c) = Formula c ∷ []
-clause_line (Bound c k x) = Bound c k x ∷ []
-clause_line line = []
-
--- the Formula and Bound lines of a log, in their order
-abbrev pub clause_lines : Lines → Lines
-clause_lines lines = flat_map clause_line lines
+-- ---- the bounds that are told
 
 abbrev pub same_criterion : Criterion → Criterion → Bool
 same_criterion Height Height = true
@@ -91,10 +82,6 @@ abbrev pub expected_vars : Problem → List Criterion → (Criterion → ℕ) �
 expected_vars e order cap = vars_after e e.vars order cap
 
 -- ---- what is told, and what is expected
-
--- the first list begins the second
-abbrev pub BeginsLines : Lines → Lines → Type 0
-BeginsLines front lines = (rest : Lines) × (lines ≡ front ++ rest)
 
 -- the log's Formula and Bound lines begin the list that is expected for their caps
 abbrev pub IsExpected : Problem → (Criterion → ℕ) → List Criterion → Lines → Type 0

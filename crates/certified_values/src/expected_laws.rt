@@ -9,10 +9,10 @@ ghost use Rattle.plan_core.specs.Lawful.{Lawful};
 ghost use Rattle.plan_core.specs.Values.{values_of, Better};
 ghost use Rattle.refute_log.specs.declared.line.LogLine.TheVariants.{Formula};
 ghost use Rattle.refute_log.specs.Told.{Lines};
-ghost use Rattle.refute_log.specs.Log.{Derives};
+ghost use Rattle.refute_log.specs.Log.{Derives, clause_lines};
 ghost use Rattle.certified_values.specs.Bounds.{CoversDrawings};
 ghost use Rattle.certified_values.specs.Certified.{Certifies, CertifiesNone};
-ghost use Rattle.certified_values.specs.Expected.{Problem, HasAllBounds, clause_lines, caps, sum_lines, sum_vars_of, expected_lines, expected_vars, IsExpected, with_cap, IsNextToCap};
+ghost use Rattle.certified_values.specs.Expected.{Problem, HasAllBounds, caps, sum_lines, sum_vars_of, expected_lines, expected_vars, IsExpected, with_cap, IsNextToCap};
 
 /// Whoever wrote the log: where the expected lines cover the lawful drawings, with whatever caps, and
 /// the log's Formula and Bound lines begin those for its own caps, no lawful drawing is better on the

@@ -11,8 +11,7 @@ use Rattle.cnf_core.proofs.QuantifierLemmas.{some_from_satisfies}
 use Rattle.refute_log.specs.declared.line.LogLine.{LogLine}
 use Rattle.refute_log.specs.declared.line.LogLine.TheVariants.{Learnt, Query, Refuted as RefutedLine, Model}
 use Rattle.refute_log.specs.Told.{Lines}
-use Rattle.refute_log.specs.Log.{Derives}
-use Rattle.certified_values.specs.Expected.{clause_line, clause_lines}
+use Rattle.refute_log.specs.Log.{Derives, clause_line, clause_lines}
 use Rattle.certified_values.proofs.CertifiedLemmas.{refuted_holds}
 use Rattle.certified_values.specs.declared.stop.Stop.{Stop}
 use Rattle.certified_values.specs.declared.stop.Stop.TheVariants.{BudgetSpent, RoomFull}

@@ -3,7 +3,7 @@ use Rattle.std.specs.Prelude.{◌≡◌, List, [], ◌++◌, Contains}
 use Rattle.cnf_core.specs.Lit.{Literal}
 use Rattle.refute_log.specs.declared.line.LogLine.TheVariants.{Refuted}
 use Rattle.refute_log.specs.Told.{Lines}
-use Rattle.certified_values.specs.Expected.{clause_lines}
+use Rattle.refute_log.specs.Log.{clause_lines}
 use Rattle.fewest_search.specs.declared.outcome.Fewest.{Fewest}
 use Rattle.fewest_search.specs.Counted.{Counted}
 use Rattle.fewest_search.specs.Fewest.{IsEnd}

@@ -20,9 +20,8 @@ use Rattle.track_order.specs.Order.{is_above, is_overlap}
 use Rattle.refute_log.specs.declared.line.LogLine.{LogLine}
 use Rattle.refute_log.specs.declared.line.LogLine.TheVariants.{Formula, Learnt, Bound as BoundLine, Query, Refuted as RefutedLine, Model as ModelLine}
 use Rattle.refute_log.specs.Told.{Lines}
-use Rattle.refute_log.specs.Log.{asked, learnt, facts_of, Open}
+use Rattle.refute_log.specs.Log.{asked, learnt, facts_of, Open, clause_line, clause_lines}
 use Rattle.certified_values.specs.Bounds.{SaysAtLeast}
-use Rattle.certified_values.specs.Expected.{clause_line, clause_lines}
 use Rattle.certified_values.specs.Full.{NextClausePasses}
 use Rattle.drawing_cnf.specs.Expected.{drawing_vars, formula_size}
 use Rattle.drawing_cnf.specs.Bounds.{IsExact}

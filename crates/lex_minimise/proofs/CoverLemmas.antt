@@ -14,12 +14,12 @@ use Rattle.cnf_core.specs.declared.literal.Var.{Var}
 use Rattle.track_order.specs.Order.{is_above, is_overlap}
 use Rattle.refute_log.specs.declared.line.LogLine.TheVariants.{Formula, Bound as BoundLine}
 use Rattle.refute_log.specs.Told.{Lines}
-use Rattle.refute_log.specs.Log.{learnt}
+use Rattle.refute_log.specs.Log.{learnt, clause_line, clause_lines}
 use Rattle.cnf_core.specs.declared.limits.TheConstants.{VARS}
 use Rattle.cdcl_core.specs.Kept.{Kept}
 use Rattle.cdcl_core.specs.Belongs.{Belongs}
 use Rattle.certified_values.specs.Bounds.{CoversDrawings}
-use Rattle.certified_values.specs.Expected.{clause_line, clause_lines, same_criterion, bound_var, bound_vars, bound_lines, caps}
+use Rattle.certified_values.specs.Expected.{same_criterion, bound_var, bound_vars, bound_lines, caps}
 use Rattle.certified_values.proofs.MeetsLemmas.{meets_front}
 use Rattle.certified_values.proofs.CapsLemmas.{bounds_same, bounds_other, formulas_none, bounds_of_clauses, differs}
 use Rattle.certified_values.proofs.ExpectedLemmas.{same_itself, same_tells}

@@ -18,9 +18,9 @@ use Rattle.refute_log.specs.declared.line.LogLine.TheVariants.{Formula, Bound as
 use Rattle.line_text.specs.declared.numbers.TheConstants.{MAX_NUMBER}
 use Rattle.refute_log.specs.Lines.{MayBeTold}
 use Rattle.refute_log.specs.Told.{Lines}
-use Rattle.refute_log.specs.Log.{added, learnt, facts_of}
+use Rattle.refute_log.specs.Log.{added, learnt, facts_of, clause_lines}
 use Rattle.refute_log.proofs.LogLemmas.{derives_more, due_more}
-use Rattle.certified_values.specs.Expected.{clause_lines, bound_lines}
+use Rattle.certified_values.specs.Expected.{bound_lines}
 use Rattle.drawing_cnf.specs.Expected.{drawing_vars, formula_clauses, formula_size}
 use Rattle.drawing_cnf.specs.Bounded.{Bound, clauses_of_bound, bounds_clauses, AreBehind, CoversWith}
 use Rattle.cdcl_core.specs.Kept.{Kept}

@@ -12,7 +12,7 @@ use Rattle.cnf_core.specs.Assignment.{SatisfiesAll}
 use Rattle.cnf_core.specs.Truths.{assignment}
 use Rattle.cnf_core.specs.Propagation.{AreAmong}
 use Rattle.refute_log.specs.Told.{Lines}
-use Rattle.certified_values.specs.Expected.{clause_lines}
+use Rattle.refute_log.specs.Log.{clause_lines}
 use Rattle.drawing_cnf.specs.Encoding.{Encoding}
 use Rattle.drawing_cnf.specs.Bounded.{Bound, bounds_clauses, Tells}
 use Rattle.drawing_cnf.specs.Expected.{drawing_vars}

@@ -8,9 +8,9 @@ use Rattle.cnf_core.specs.Clause.{Clauses, words_of}
 use Rattle.cnf_core.proofs.ClauseLemmas.{words_append}
 use Rattle.track_order.specs.Order.{is_above, is_overlap}
 use Rattle.refute_log.specs.Told.{Lines}
-use Rattle.refute_log.specs.Log.{given, learnt}
+use Rattle.refute_log.specs.Log.{given, learnt, clause_lines}
 use Rattle.refute_log.proofs.LogLemmas.{words_of_log}
-use Rattle.certified_values.specs.Expected.{clause_lines, sum_lines}
+use Rattle.certified_values.specs.Expected.{sum_lines}
 use Rattle.certified_values.proofs.MeetsLemmas.{given_of_clauses}
 use Rattle.drawing_cnf.specs.Encoding.{Encoding}
 use Rattle.drawing_cnf.specs.Expected.{drawing_vars}

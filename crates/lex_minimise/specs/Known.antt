@@ -5,9 +5,9 @@ use Rattle.plan_core.specs.Values.{limit_of}
 use Rattle.cnf_core.specs.declared.limits.TheConstants.{VARS}
 use Rattle.cnf_core.specs.Clause.{Clauses, IsNamed, words_of}
 use Rattle.refute_log.specs.Told.{Lines}
-use Rattle.refute_log.specs.Log.{added, learnt}
+use Rattle.refute_log.specs.Log.{added, learnt, clause_lines}
 use Rattle.certified_values.specs.Bounds.{CoversDrawings}
-use Rattle.certified_values.specs.Expected.{clause_lines, caps, with_cap}
+use Rattle.certified_values.specs.Expected.{caps, with_cap}
 use Rattle.track_order.specs.Order.{is_above, is_overlap}
 use Rattle.drawing_cnf.specs.Expected.{drawing_vars, formula_clauses, formula_size}
 use Rattle.drawing_cnf.specs.Encoding.{Encoding}

@@ -12,7 +12,8 @@ use Rattle.plan_core.specs.Values.{values_of, value_of}
 use Rattle.plan_core.specs.Drawing.{Drawing}
 use Rattle.plan_core.specs.Order.{IsOrder}
 use Rattle.refute_log.specs.Told.{Lines}
-use Rattle.certified_values.specs.Expected.{clause_lines, caps, same_criterion, expected_lines, with_cap}
+use Rattle.refute_log.specs.Log.{clause_lines}
+use Rattle.certified_values.specs.Expected.{caps, same_criterion, expected_lines, with_cap}
 use Rattle.certified_values.proofs.ExpectedLemmas.{same_tells, with_cap_here, with_cap_other, expected_same}
 use Rattle.lex_search.specs.declared.oracle.Below.{Below}
 use Rattle.lex_search.specs.declared.oracle.Built.TheVariants.{Whole, NoRoom}

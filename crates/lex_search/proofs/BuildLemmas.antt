@@ -20,10 +20,10 @@ use Rattle.cnf_core.specs.Clause.{Clauses, words_of}
 use Rattle.refute_log.specs.declared.line.LogLine.{LogLine}
 use Rattle.refute_log.specs.declared.line.LogLine.TheVariants.{Formula, Bound, Refuted}
 use Rattle.refute_log.specs.Told.{Lines}
-use Rattle.refute_log.specs.Log.{given, learnt}
+use Rattle.refute_log.specs.Log.{given, learnt, clause_lines}
 use Rattle.certified_values.specs.Certified.{Certifies}
 use Rattle.certified_values.specs.Full.{CapsPass, AwaitsBounds, NextSumPasses}
-use Rattle.certified_values.specs.Expected.{clause_lines, caps, same_criterion, bound_vars, Problem, sum_lines, bound_lines, sum_vars_of, expected_lines, expected_vars, with_cap, IsNextToCap}
+use Rattle.certified_values.specs.Expected.{caps, same_criterion, bound_vars, Problem, sum_lines, bound_lines, sum_vars_of, expected_lines, expected_vars, with_cap, IsNextToCap}
 use Rattle.certified_values.proofs.CertifiedLemmas.{certifies_more}
 use Rattle.certified_values.proofs.ExpectedLemmas.{with_cap_other, expected_vars_next, expected_vars_same, expected_next, expected_same}
 use Rattle.lex_search.specs.declared.oracle.Below.{Below}

@@ -16,10 +16,10 @@ use Rattle.refute_log.specs.declared.line.LogLine.{LogLine}
 use Rattle.refute_log.specs.declared.line.LogLine.TheVariants.{Formula, Learnt, Query, Refuted, Model}
 use Rattle.refute_log.specs.Lines.{MayAllBeTold}
 use Rattle.refute_log.specs.Told.{Lines}
-use Rattle.refute_log.specs.Log.{added, learnt, Derives, Due}
+use Rattle.refute_log.specs.Log.{added, learnt, Derives, Due, clause_lines}
 use Rattle.certified_values.specs.Bounds.{CoversDrawings}
 use Rattle.certified_values.specs.Certified.{Certifies, CertifiesNone}
-use Rattle.certified_values.specs.Expected.{clause_lines, caps, expected_lines, expected_vars, IsAllExpected}
+use Rattle.certified_values.specs.Expected.{caps, expected_lines, expected_vars, IsAllExpected}
 use Rattle.certified_values.proofs.CertifiedLemmas.{none_better, none_meets, certifies_nothing}
 use Rattle.certified_values.proofs.ExpectedLemmas.{expected_none, expected_vars_none, expected_same, expected_vars_same}
 use Rattle.lex_search.specs.declared.oracle.Below.{Below}

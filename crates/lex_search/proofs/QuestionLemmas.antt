@@ -9,9 +9,9 @@ use Rattle.cnf_core.specs.Clause.{Clauses}
 use Rattle.refute_log.specs.declared.line.LogLine.{LogLine}
 use Rattle.refute_log.specs.declared.line.LogLine.TheVariants.{Learnt, Bound, Query, Refuted, Model}
 use Rattle.refute_log.specs.Told.{Lines}
+use Rattle.refute_log.specs.Log.{clause_line, clause_lines}
 use Rattle.lex_search.specs.declared.oracle.Below.{Below}
 use Rattle.plan_core.specs.declared.criterion.Values.{Values}
-use Rattle.certified_values.specs.Expected.{clause_line, clause_lines}
 use Rattle.lex_search.specs.Asked.{IsAsked, IsNegated, AreNegated, AreMet, Queries, after_line, queries, IsMet}
 
 -- ---- the lines of one question

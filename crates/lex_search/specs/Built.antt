@@ -4,8 +4,8 @@ use Rattle.plan_core.specs.declared.criterion.Criterion.{Criterion}
 use Rattle.cnf_core.specs.declared.limits.TheConstants.{VARS}
 use Rattle.cnf_core.specs.Clause.{words_of}
 use Rattle.refute_log.specs.Told.{Lines}
-use Rattle.refute_log.specs.Log.{given, learnt}
-use Rattle.certified_values.specs.Expected.{clause_lines, sum_lines, sum_vars_of, with_cap}
+use Rattle.refute_log.specs.Log.{given, learnt, clause_lines}
+use Rattle.certified_values.specs.Expected.{sum_lines, sum_vars_of, with_cap}
 use Rattle.lex_search.specs.declared.oracle.Built.{Built}
 use Rattle.lex_search.specs.declared.oracle.Built.TheVariants.{Whole, NoRoom}
 use Rattle.lex_search.specs.Task.{Task}

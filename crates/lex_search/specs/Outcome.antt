@@ -9,10 +9,10 @@ use Rattle.cnf_core.specs.Clause.{words_of}
 use Rattle.refute_log.specs.declared.line.LogLine.TheVariants.{Formula, Model}
 use Rattle.refute_log.specs.Lines.{MayAllBeTold}
 use Rattle.refute_log.specs.Told.{Lines}
-use Rattle.refute_log.specs.Log.{added, learnt, Derives, Due}
+use Rattle.refute_log.specs.Log.{added, learnt, Derives, Due, clause_lines}
 use Rattle.certified_values.specs.Bounds.{CoversDrawings}
 use Rattle.certified_values.specs.Certified.{Certifies, CertifiesNone, IsSettled}
-use Rattle.certified_values.specs.Expected.{clause_lines, caps, expected_vars, IsExpected, IsAllExpected}
+use Rattle.certified_values.specs.Expected.{caps, expected_vars, IsExpected, IsAllExpected}
 use Rattle.certified_values.specs.Full.{CapsPass}
 use Rattle.certified_values.specs.declared.stop.Stop.{Stop}
 use Rattle.certified_values.specs.declared.stop.Stop.TheVariants.{BudgetSpent, RoomFull}

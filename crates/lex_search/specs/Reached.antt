@@ -7,8 +7,8 @@ use Rattle.plan_core.specs.Drawing.{Drawing}
 use Rattle.cnf_core.specs.Lit.{Literal}
 use Rattle.refute_log.specs.declared.line.LogLine.TheVariants.{Refuted}
 use Rattle.refute_log.specs.Told.{Lines}
+use Rattle.refute_log.specs.Log.{clause_lines}
 use Rattle.certified_values.specs.Certified.{Certifies, IsOutOfReach}
-use Rattle.certified_values.specs.Expected.{clause_lines}
 use Rattle.lex_search.specs.declared.oracle.Below.{Below}
 use Rattle.certified_values.specs.declared.stop.Stop.{Stop}
 use Rattle.lex_search.specs.Task.{Task, IsLawful, greatest_of}

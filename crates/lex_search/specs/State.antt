@@ -5,7 +5,8 @@ use Rattle.plan_core.specs.declared.criterion.Criterion.{Criterion}
 use Rattle.plan_core.specs.Values.{values_of, value_of}
 use Rattle.plan_core.specs.Drawing.{Drawing}
 use Rattle.refute_log.specs.Told.{Lines}
-use Rattle.certified_values.specs.Expected.{clause_lines, expected_lines, expected_vars, IsAllExpected}
+use Rattle.refute_log.specs.Log.{clause_lines}
+use Rattle.certified_values.specs.Expected.{expected_lines, expected_vars, IsAllExpected}
 use Rattle.lex_search.specs.declared.oracle.Below.{Below}
 use Rattle.certified_values.specs.declared.stop.Stop.{Stop}
 use Rattle.lex_search.specs.Task.{Task, greatest_of}

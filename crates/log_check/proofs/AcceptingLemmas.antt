@@ -6,12 +6,11 @@ use Rattle.cnf_core.specs.Clause.{Clauses, words_of}
 use Rattle.refute_log.specs.declared.line.LogLine.{LogLine}
 use Rattle.refute_log.specs.declared.line.LogLine.TheVariants.{Formula, Learnt, Bound, Query, Refuted, Model}
 use Rattle.refute_log.specs.Told.{Lines}
-use Rattle.refute_log.specs.Log.{Facts, added, StandsOn}
+use Rattle.refute_log.specs.Log.{Facts, added, StandsOn, clause_line, clause_lines, BeginsLines}
 use Rattle.refute_log.proofs.LogLemmas.{flat_map_last, facts_more, derives_more}
 use Rattle.refute_check.specs.declared.fault.LineFault.{LineFault}
 use Rattle.refute_check.specs.declared.fault.LineFault.TheVariants as faults
 use Rattle.refute_check.specs.Kept.{CheckedFacts, kept_after, LacksRoom, Accepts, NamesNew, AnswersWrongly, PassesRoom, IsUnproved, IsOld}
-use Rattle.certified_values.specs.Expected.{clause_line, clause_lines, BeginsLines}
 use Rattle.certified_check.specs.declared.told_bound.ToldBound.{ToldBound}
 use Rattle.certified_check.specs.Lacking.{told_bound}
 use Rattle.log_check.specs.declared.awaited.Awaited.{Awaited}

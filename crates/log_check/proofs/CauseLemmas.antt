@@ -9,11 +9,10 @@ use Rattle.cnf_core.specs.Propagation.{greatest_in}
 use Rattle.refute_log.specs.declared.line.LogLine.{LogLine}
 use Rattle.refute_log.specs.declared.line.LogLine.TheVariants.{Formula, Learnt, Bound, Query, Refuted, Model}
 use Rattle.refute_log.specs.Told.{Lines}
-use Rattle.refute_log.specs.Log.{given, added, facts_of, Stands}
+use Rattle.refute_log.specs.Log.{given, added, facts_of, Stands, clause_line, clause_lines}
 use Rattle.refute_log.proofs.LogLemmas.{flat_map_last, derives_front, derives_last}
 use Rattle.refute_check.specs.Kept.{LacksRoom, NamesNew, NamesNoNew, PassesRoom, IsKnown}
 use Rattle.plan_core.proofs.Listing.{Contains-flat_map}
-use Rattle.certified_values.specs.Expected.{clause_line, clause_lines}
 use Rattle.log_check.specs.declared.verdict.Refusal.{Refusal}
 use Rattle.log_check.specs.declared.verdict.Refusal.TheVariants.{Room, Differs, NewVar, WrongQuery, NotImplied, NotNew}
 use Rattle.log_check.specs.Expectation.{Expectation}

@@ -4,8 +4,7 @@ use Rattle.cnf_core.specs.declared.limits.TheConstants.{ROOM}
 use Rattle.cnf_core.specs.Clause.{words_of}
 use Rattle.refute_log.specs.Lines.{log_text, MayAllBeTold}
 use Rattle.refute_log.specs.Told.{Lines}
-use Rattle.refute_log.specs.Log.{added, Derives}
-use Rattle.certified_values.specs.Expected.{clause_lines, BeginsLines}
+use Rattle.refute_log.specs.Log.{added, Derives, clause_lines, BeginsLines}
 use Rattle.log_check.specs.Expectation.{Expectation, PassesLimits}
 
 -- the Formula and Bound lines begin what is expected, which is within the limits where there is such a line; the lines

@@ -5,9 +5,9 @@ use Rattle.refute_log.specs.declared.line.LogLine.{LogLine}
 use Rattle.refute_log.specs.Lines.{ended_text, MayBeTold}
 use Rattle.refute_log.specs.LineText.{IsTextOf, HasLineFault}
 use Rattle.refute_log.specs.Told.{Lines}
+use Rattle.refute_log.specs.Log.{clause_line, clause_lines}
 use Rattle.refute_check.specs.declared.fault.LineFault.{LineFault}
 use Rattle.refute_check.specs.declared.fault.LineFault.TheVariants.{NewVar, WrongQuery, Room, NotImplied, NotNew, Memory}
-use Rattle.certified_values.specs.Expected.{clause_line, clause_lines}
 use Rattle.certified_check.specs.Lacking.{told_bound}
 use Rattle.log_check.specs.declared.claim.Claim.{Claim}
 use Rattle.log_check.specs.declared.reading.Next.{Next}

@@ -3,9 +3,8 @@ use Rattle.std.specs.Prelude.{◌≡◌, ◌≢◌, ◌⊎◌, ℕ, List, [], �
 use Rattle.cnf_core.specs.declared.limits.TheConstants.{ROOM}
 use Rattle.refute_log.specs.declared.line.LogLine.{LogLine}
 use Rattle.refute_log.specs.Told.{Lines}
-use Rattle.refute_log.specs.Log.{facts_of}
+use Rattle.refute_log.specs.Log.{facts_of, clause_line, clause_lines, BeginsLines}
 use Rattle.refute_check.specs.Kept.{CheckedFacts, NamesNew, AnswersWrongly, PassesRoom, IsUnproved, IsOld}
-use Rattle.certified_values.specs.Expected.{clause_line, clause_lines, BeginsLines}
 use Rattle.log_check.specs.declared.verdict.Refusal.{Refusal}
 use Rattle.log_check.specs.declared.verdict.Refusal.TheVariants.{Room, Differs, NewVar, WrongQuery, NotImplied, NotNew}
 use Rattle.log_check.specs.Expectation.{Expectation, PassesLimits}

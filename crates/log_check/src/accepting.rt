@@ -2,7 +2,7 @@
 ghost use Rattle.std.specs.Prelude.{◌≡◌, [], ◌∷◌, ◌++◌, IfOk, IfSome, OnOk, MatchOption, MatchBool, option_to_list};
 ghost use Rattle.refute_log.specs.Lines.{IsWellFormed};
 ghost use Rattle.refute_log.specs.Told.{Lines};
-ghost use Rattle.certified_values.specs.Expected.{clause_line};
+ghost use Rattle.refute_log.specs.Log.{clause_line};
 ghost use Rattle.log_check.specs.Expectation.{Expectation};
 ghost use Rattle.log_check.specs.Accepted.{AreAccepted};
 ghost use Rattle.log_check.specs.Refused.{IsRefusedFor};

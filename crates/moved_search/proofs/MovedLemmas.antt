@@ -16,8 +16,7 @@ use Rattle.cnf_core.proofs.ClauseLemmas.{satisfies_left}
 use Rattle.track_order.specs.Order.{is_above, is_overlap}
 use Rattle.refute_log.specs.declared.line.LogLine.TheVariants.{Formula, Learnt}
 use Rattle.refute_log.specs.Told.{Lines}
-use Rattle.refute_log.specs.Log.{given, learnt, Open}
-use Rattle.certified_values.specs.Expected.{clause_lines}
+use Rattle.refute_log.specs.Log.{given, learnt, Open, clause_lines}
 use Rattle.certified_values.specs.Full.{NextClausePasses}
 use Rattle.certified_values.proofs.MeetsLemmas.{given_of_clauses}
 use Rattle.drawing_cnf.specs.Encoding.{Encoding, encoded_vars}

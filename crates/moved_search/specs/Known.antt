@@ -5,8 +5,7 @@ use Rattle.cnf_core.specs.Clause.{Clauses, IsNamed, words_of}
 use Rattle.track_order.specs.Order.{is_above, is_overlap}
 use Rattle.refute_log.specs.declared.line.LogLine.TheVariants.{Formula, Refuted as RefutedLine, Model as ModelLine}
 use Rattle.refute_log.specs.Told.{Lines}
-use Rattle.refute_log.specs.Log.{added, learnt}
-use Rattle.certified_values.specs.Expected.{clause_lines}
+use Rattle.refute_log.specs.Log.{added, learnt, clause_lines}
 use Rattle.drawing_cnf.specs.Encoding.{Encoding}
 use Rattle.drawing_cnf.specs.Whole.{IsWhole}
 use Rattle.drawing_problem.specs.Layout.{Layout, layout_of}

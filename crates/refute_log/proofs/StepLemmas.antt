@@ -4,8 +4,8 @@ use Rattle.std.specs.Prelude.{⊤, flat_map, Result, OnErr}
 use Rattle.std.proofs.lemmas.Grind.{flat_map-append}
 use Rattle.outside_io.specs.Counts.{next_count, Rose, rose_by}
 use Rattle.refute_log.specs.Told.{Lines}
-use Rattle.refute_log.specs.Log.{learnt, Derives}
-use Rattle.refute_log.specs.Steps.{ToldBehind, Continues, IsKnown, StillDerives}
+use Rattle.refute_log.specs.Log.{clause_line, clause_lines, learnt, Derives}
+use Rattle.refute_log.specs.Steps.{ToldBehind, GoesOn, Continues, IsKnown, StillDerives, Leaves}
 
 -- ---- counts
 pub rose_later : (a b c : ℕ) → a ≤ b → Rose b c → Rose a c
@@ -84,6 +84,60 @@ derives_here knows log count a b R run derives one = λ lines known was told is.
 -- an error before anything is told
 pub derives_same : {S : Type 0} (knows log : S → Lines → Type 0) (s : S) → ((lines : Lines) → knows s lines → Derives lines) → ((x y : Lines) → log s x → log s y → x ≡ y) → StillDerives (knows s) (log s) (log s)
 derives_same knows log s derives one = λ lines known was told is. subst Derives (one lines told was is) (derives lines known)
+
+-- ---- errors, and the Formula and Bound lines
+
+clauses_behind : (lines more : Lines) → clause_lines (lines ++ more) ≡ clause_lines lines ++ clause_lines more
+clauses_behind lines more = flat_map-append clause_line lines more
+
+-- where more lines are expected
+pub leaves_more : (xs ys : Lines) (known old new : Lines → Type 0) → Leaves xs known old new → Leaves (xs ++ ys) known old new
+leaves_more xs ys known old new h = λ lines k was told is.
+    let left = h lines k was told is in
+    record {
+      derives = left.derives;
+      front = left.front;
+      begins = (left.begins.0 ++ ys, ap (λ (ls : Lines). ls ++ ys) left.begins.1 ∙ append_assoc left.front left.begins.0 ys);
+      gives = left.gives;
+    }
+
+-- where less was known
+pub leaves_known : (xs : Lines) (k1 k2 old new : Lines → Type 0) → ((lines : Lines) → k1 lines → k2 lines) → Leaves xs k2 old new → Leaves xs k1 old new
+leaves_known xs k1 k2 old new from h = λ lines k was told is. h lines (from lines k) was told is
+
+-- an error that tells nothing
+pub leaves_same : (known log : Lines → Type 0) → ((lines : Lines) → known lines → Derives lines) → ((x y : Lines) → log x → log y → x ≡ y) → Leaves [] known log log
+leaves_same known log derives one = λ lines k was told is. record {
+  derives = subst Derives (one lines told was is) (derives lines k);
+  front = [];
+  begins = ([], refl);
+  gives = ap clause_lines (one told lines is was) ∙ sym (append-nil (clause_lines lines));
+}
+
+-- an error in a later call, where the calls before told these clauses
+pub leaves_then : (k1 k2 l1 l2 l3 : Lines → Type 0) (n1 n2 : ℕ) (R : Lines → Lines → Type 0) (xs ys : Lines) → GoesOn k1 k2 l1 l2 n1 n2 R →
+    ((lines more : Lines) → k1 lines → k2 (lines ++ more) → R lines more → clause_lines (lines ++ more) ≡ clause_lines lines ++ xs) → Leaves ys k2 l2 l3 → Leaves (xs ++ ys) k1 l1 l3
+leaves_then k1 k2 l1 l2 l3 n1 n2 R xs ys run gives after = λ lines known was told is.
+    let first : ToldBehind k2 l1 l2 n1 n2 lines (R lines) = run lines known in
+    let left = after (lines ++ first.more) first.knows (first.told lines was) told is in
+    record {
+      derives = left.derives;
+      front = xs ++ left.front;
+      begins = (left.begins.0, ap (λ (ls : Lines). xs ++ ls) left.begins.1 ∙ sym (append_assoc xs left.front left.begins.0));
+      gives = left.gives ∙ ap (λ (ls : Lines). ls ++ left.front) (gives lines first.more known first.knows first.does) ∙ append_assoc (clause_lines lines) xs left.front;
+    }
+
+-- the same of two states of one thing
+pub leaves_later : {S : Type 0} (knows log : S → Lines → Type 0) (count : S → ℕ) (a b e : S) (R : Lines → Lines → Type 0) (xs ys : Lines) → Continues knows log count a b R →
+    ((lines more : Lines) → R lines more → clause_lines more ≡ xs) → Leaves ys (knows b) (log b) (log e) → Leaves (xs ++ ys) (knows a) (log a) (log e)
+leaves_later knows log count a b e R xs ys run gives after =
+    leaves_then (knows a) (knows b) (log a) (log b) (log e) (count a) (count b) R xs ys run
+    (λ lines more ka kb r. clauses_behind lines more ∙ ap (λ (ls : Lines). clause_lines lines ++ ls) (gives lines more r)) after
+
+-- and that tells nothing itself
+pub leaves_here : {S : Type 0} (knows log : S → Lines → Type 0) (count : S → ℕ) (a b : S) (R : Lines → Lines → Type 0) → Continues knows log count a b R →
+    ((lines more : Lines) → R lines more → clause_lines more ≡ []) → ((lines : Lines) → knows b lines → Derives lines) → ((x y : Lines) → log b x → log b y → x ≡ y) → Leaves [] (knows a) (log a) (log b)
+leaves_here knows log count a b R run gives derives one = leaves_later knows log count a b b R [] [] run gives (leaves_same (knows b) (log b) derives one)
 
 pub on_err_always : {T E : Type 0} (r : Result T E) (P : Type 0) → P → OnErr r P
 on_err_always (Ok x) P h = tt

@@ -5,7 +5,7 @@ use Rattle.cnf_core.specs.Lit.{Literal, negate, has}
 use Rattle.cnf_core.specs.Clause.{Clauses, HasAllOf}
 use Rattle.cnf_core.specs.Propagation.{Falsifies, Rup, IsNew, greatest_var}
 use Rattle.refute_log.specs.declared.line.LogLine.{LogLine}
-use Rattle.refute_log.specs.declared.line.LogLine.TheVariants.{Formula, Learnt, Query, Refuted}
+use Rattle.refute_log.specs.declared.line.LogLine.TheVariants.{Formula, Learnt, Bound, Query, Refuted}
 use Rattle.refute_log.specs.Told.{Lines}
 
 -- the clauses that one line adds to what further lines follow from
@@ -26,6 +26,20 @@ learnt line = []
 abbrev pub refuted : LogLine → Clauses
 refuted (Refuted c) = c ∷ []
 refuted line = []
+
+-- the line, where it is a Formula or Bound line
+abbrev pub clause_line : LogLine → Lines
+clause_line (Formula c) = Formula c ∷ []
+clause_line (Bound c k x) = Bound c k x ∷ []
+clause_line line = []
+
+-- the Formula and Bound lines of a log, in their order
+abbrev pub clause_lines : Lines → Lines
+clause_lines lines = flat_map clause_line lines
+
+-- the first list begins the second
+abbrev pub BeginsLines : Lines → Lines → Type 0
+BeginsLines front lines = (rest : Lines) × (lines ≡ front ++ rest)
 
 -- a Refuted line with only allowed literals
 abbrev pub IsRefutedWithin : List Literal → LogLine → Type 0

@@ -2,7 +2,7 @@
 use Rattle.std.specs.Prelude.{◌≡◌, ℕ, ◌++◌, length, flat_map}
 use Rattle.outside_io.specs.Counts.{rose_by}
 use Rattle.refute_log.specs.Told.{Lines, AddsAll}
-use Rattle.refute_log.specs.Log.{learnt, Derives}
+use Rattle.refute_log.specs.Log.{learnt, Derives, clause_lines, BeginsLines}
 
 -- so many lines were told behind these: what was known is known with them, the log was told them and counted the
 -- Learnt ones, and R holds of them
@@ -31,3 +31,21 @@ IsKnown {S} knows s = (lines : Lines) × knows s lines
 -- whatever the log tells after an error derives, where what it told before was known
 abbrev pub StillDerives : (known log_old log_new : Lines → Type 0) → Type 0
 StillDerives known log_old log_new = (lines : Lines) → known lines → log_old lines → (told : Lines) → log_new told → Derives told
+
+-- whatever the log tells after an error has the Formula and Bound lines of what it told before, and no others
+abbrev pub GivesNoMore : (log_old log_new : Lines → Type 0) → Type 0
+GivesNoMore log_old log_new =
+    (lines : Lines) → log_old lines → (told : Lines) → log_new told → clause_lines told ≡ clause_lines lines
+
+-- a log with these lines had an error, and has those now: it derives, and its Formula and Bound lines are those of before,
+-- the first of the expected ones behind them, and no others
+pub record IsLeft (expected before now : Lines) : Type 0 where
+  pub derives : Derives now
+  pub front : Lines
+  pub begins : BeginsLines front expected
+  pub gives : clause_lines now ≡ clause_lines before ++ front
+
+-- whatever the log tells after an error is so, where what it told before was known
+abbrev pub Leaves : Lines → (known log_old log_new : Lines → Type 0) → Type 0
+Leaves expected known log_old log_new =
+    (lines : Lines) → known lines → log_old lines → (told : Lines) → log_new told → IsLeft expected lines told

@@ -14,9 +14,9 @@ use Rattle.plan_text.specs.SheetText.{sheet_text}
 use Rattle.plan_text.specs.SheetFaults.{IsSheetText}
 use Rattle.refute_log.specs.Lines.{log_text}
 use Rattle.refute_log.specs.Told.{Lines}
-use Rattle.refute_log.specs.Log.{given, added}
+use Rattle.refute_log.specs.Log.{given, added, clause_lines}
 use Rattle.refute_log.proofs.LogLemmas.{words_of_log}
-use Rattle.certified_values.specs.Expected.{clause_lines, caps, IsAllExpected}
+use Rattle.certified_values.specs.Expected.{caps, IsAllExpected}
 use Rattle.certified_values.proofs.MeetsLemmas.{given_of_clauses}
 use Rattle.drawing_problem.specs.Layout.{layout, problem_of}
 use Rattle.lex_search.specs.declared.outcome.Outcome.{Outcome}

@@ -6,9 +6,9 @@ use Rattle.plan_core.specs.declared.criterion.Criterion.{Criterion}
 use Rattle.cnf_core.specs.Clause.{Clauses, words_of}
 use Rattle.refute_log.specs.Lines.{MayAllBeTold}
 use Rattle.refute_log.specs.Told.{Lines}
-use Rattle.refute_log.specs.Log.{added, given, learnt, Derives, Due}
+use Rattle.refute_log.specs.Log.{added, given, learnt, Derives, Due, BeginsLines, clause_lines}
 use Rattle.certified_values.specs.Bounds.{CoversDrawings}
-use Rattle.certified_values.specs.Expected.{BeginsLines, clause_lines, sum_lines, sum_vars_of, with_cap, same_criterion}
+use Rattle.certified_values.specs.Expected.{sum_lines, sum_vars_of, with_cap, same_criterion}
 use Rattle.certified_values.specs.Full.{CapsPass}
 use Rattle.certified_values.proofs.ExpectedLemmas.{same_tells, with_cap_here, with_cap_other}
 use Rattle.lex_search.specs.declared.oracle.Built.{Built}

@@ -5,9 +5,9 @@ use Rattle.plan_core.specs.Drawing.{Drawing}
 use Rattle.cnf_core.specs.Clause.{words_of}
 use Rattle.refute_log.specs.Lines.{MayAllBeTold}
 use Rattle.refute_log.specs.Told.{Lines}
-use Rattle.refute_log.specs.Log.{added, learnt, Derives, Due}
+use Rattle.refute_log.specs.Log.{added, learnt, Derives, Due, BeginsLines, clause_lines}
 use Rattle.certified_values.specs.Bounds.{CoversDrawings}
-use Rattle.certified_values.specs.Expected.{BeginsLines, clause_lines, expected_lines}
+use Rattle.certified_values.specs.Expected.{expected_lines}
 use Rattle.certified_values.specs.Cause.{IsCause}
 use Rattle.certified_values.specs.Full.{CapsPass}
 use Rattle.lex_search.specs.declared.oracle.Built.{Built}

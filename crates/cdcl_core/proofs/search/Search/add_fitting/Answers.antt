@@ -37,12 +37,12 @@ pub returns-in_err-keep_given-clause-derives : goal.returns-in_err-keep_given-cl
 returns-in_err-keep_given-clause-derives g c = on_err_anyway _ _ (given_err (g.L.LogSink.tells c.args.log.now) (g.L.LogSink.tells c.tell.new.self) c.args.self.now c.in_ok-new.field-0
     (subst (λ (q : List Literal). MayBeTold (Formula q)) (sym c.in_ok-new.ensures) (formula_told c.args.self.now c.args.lits.now c.requires.idle.search c.requires.there c.requires.distinct)) (g.met.L.LogSink.one_reading c.tell.new.self) c.in_ok-tell.ensures.ok)
 
-pub returns-in_err-new-clause-formula : goal.returns-in_err-new-clause-formula
-returns-in_err-new-clause-formula g c = on_err_anyway _ _ (most_same (g.L.LogSink.tells c.args.log.now) c.args.lits.now (g.met.L.LogSink.one_reading c.args.log.now))
+pub returns-in_err-new-clause-gives : goal.returns-in_err-new-clause-gives
+returns-in_err-new-clause-gives g c = on_err_anyway _ _ (most_same (g.L.LogSink.tells c.args.log.now) c.args.lits.now (g.met.L.LogSink.one_reading c.args.log.now))
 
-pub returns-in_err-tell-clause-formula : goal.returns-in_err-tell-clause-formula
-returns-in_err-tell-clause-formula g c = on_err_anyway _ _ (most_refused (g.L.LogSink.tells c.args.log.now) (g.L.LogSink.tells c.tell.new.self) c.args.lits.now (g.met.L.LogSink.one_reading c.args.log.now) c.in_err-tell.ensures.err)
+pub returns-in_err-tell-clause-gives : goal.returns-in_err-tell-clause-gives
+returns-in_err-tell-clause-gives g c = on_err_anyway _ _ (most_refused (g.L.LogSink.tells c.args.log.now) (g.L.LogSink.tells c.tell.new.self) c.args.lits.now (g.met.L.LogSink.one_reading c.args.log.now) c.in_err-tell.ensures.err)
 
-pub returns-in_err-keep_given-clause-formula : goal.returns-in_err-keep_given-clause-formula
-returns-in_err-keep_given-clause-formula g c = on_err_anyway _ _ (most_told (g.L.LogSink.tells c.args.log.now) (g.L.LogSink.tells c.tell.new.self) c.args.lits.now (g.met.L.LogSink.one_reading c.tell.new.self)
+pub returns-in_err-keep_given-clause-gives : goal.returns-in_err-keep_given-clause-gives
+returns-in_err-keep_given-clause-gives g c = on_err_anyway _ _ (most_told (g.L.LogSink.tells c.args.log.now) (g.L.LogSink.tells c.tell.new.self) c.args.lits.now (g.met.L.LogSink.one_reading c.tell.new.self)
     (subst (λ (q : List Literal). AddsLine (g.L.LogSink.tells c.args.log.now) (g.L.LogSink.tells c.tell.new.self) (Formula q)) c.in_ok-new.ensures c.in_ok-tell.ensures.ok))

@@ -11,10 +11,10 @@ pub returns-in-Ok-clause-given : goal.returns-in-Ok-clause-given
 returns-in-Ok-clause-given g c = solved_given c.self.inside.search c.solve.new.self c.self.inside.model c.self.inside.refuted.items c.self.inside.failed c.args.self.now c.self.view_is c.in-Ok.ensures.given
 
 pub returns-in-Err-clause-derives : goal.returns-in-Err-clause-derives
-returns-in-Err-clause-derives g c = still_view (g.L.LogSink.tells c.args.log.now) (g.L.LogSink.tells c.solve.new.log) c.self.inside.search c.self.inside.model c.self.inside.refuted.items c.self.inside.failed c.args.self.now c.self.view_is (λ lines told b more m. (c.in-Err.ensures.leaves lines told more m).derives b)
+returns-in-Err-clause-derives g c = still_view (g.L.LogSink.tells c.args.log.now) (g.L.LogSink.tells c.solve.new.log) c.self.inside.search c.self.inside.model c.self.inside.refuted.items c.self.inside.failed c.args.self.now c.self.view_is (λ lines b told more m. (c.in-Err.ensures.leaves lines told more m).derives b)
 
-pub returns-in-Err-clause-formula : goal.returns-in-Err-clause-formula
-returns-in-Err-clause-formula g c = λ lines told more m. (c.in-Err.ensures.leaves lines told more m).formula
+pub returns-in-Err-clause-gives : goal.returns-in-Err-clause-gives
+returns-in-Err-clause-gives g c = λ lines told more m. (c.in-Err.ensures.leaves lines told more m).gives
 
 pub returns-in-Ok-clause-refuted : goal.returns-in-Ok-clause-refuted
 returns-in-Ok-clause-refuted g c = refuted_view c.self.inside.search c.self.inside.model c.self.inside.refuted.items c.in-Ok.refuted.items c.self.inside.failed c.args.self.now c.args.assume.now c.in-Ok.answer c.self.view_is c.in-Ok.ensures.refuted
