@@ -15,7 +15,7 @@ use Rattle.refute_log.specs.Log.{Derives, clause_line, clause_lines}
 use Rattle.certified_values.proofs.CertifiedLemmas.{refuted_holds}
 use Rattle.certified_values.specs.declared.stop.Stop.{Stop}
 use Rattle.certified_values.specs.declared.stop.Stop.TheVariants.{BudgetSpent, RoomFull}
-use Rattle.refute_log.specs.Steps.{ToldBehind, Continues, IsKnown}
+use Rattle.refute_log.specs.Steps.{ToldBehind, Continues, KnowsSome}
 use Rattle.refute_log.proofs.StepLemmas.{stays, goes_on, becomes}
 use Rattle.lex_search.proofs.QuestionLemmas.{no_clauses_both}
 use Rattle.fewest_search.specs.declared.questions.Answer.{Answer}
@@ -61,7 +61,7 @@ ends_in p limit lines more line asked =
     let h : Contains ((Query (query_of p limit) ∷ []) ++ (map Learnt asked.clauses ++ line ∷ [])) line = Contains-append_right (Query (query_of p limit) ∷ []) (map Learnt asked.clauses ++ line ∷ []) line (Contains-push (map Learnt asked.clauses) line) in
     Contains-append_right lines more line (subst (λ (ls : Lines). Contains ls line) (sym asked.is) h)
 
-pub refuted_none : {S : Type 0} (knows log : S → Lines → Type 0) (count : S → ℕ) (a e : S) (q p : Counted) (limit : Option ℕ) (r : Answer) → q ≡ p → r ≡ Refuted → IsKnown knows a → Laws knows e q → MatchOption limit ⊤ (λ k. (1 ≤ k) × (k ≤ q.most)) →
+pub refuted_none : {S : Type 0} (knows log : S → Lines → Type 0) (count : S → ℕ) (a e : S) (q p : Counted) (limit : Option ℕ) (r : Answer) → q ≡ p → r ≡ Refuted → KnowsSome knows a → Laws knows e q → MatchOption limit ⊤ (λ k. (1 ≤ k) × (k ≤ q.most)) →
     Continues knows log count a e (λ lines more. IsAnswer q lines limit r more) → (d : Drawing) → IsOne p d → IsBelow limit (p.count d) → ⊥
 refuted_none knows log count a e q p limit r same was known laws within asked =
     let lines = known.0 in

@@ -1,7 +1,7 @@
 // The search for the least count.
 ghost use Rattle.std.specs.Prelude.{◌≡◌, ◌≤◌, ◌++◌, IfOk, IsErrOf};
 ghost use Rattle.outside_io.specs.Counts.{Rose};
-ghost use Rattle.refute_log.specs.Steps.{ToldBehind, Continues, IsKnown};
+ghost use Rattle.refute_log.specs.Steps.{ToldBehind, Continues, KnowsSome};
 ghost use Rattle.fewest_search.specs.Fewest.{IsRightFewest, IsFewestLog, formula_lines};
 ghost use Rattle.fewest_search.specs.Counted.{IsOne};
 ghost use Rattle.fewest_search.specs.Run.{IsRun, EndsIn};
@@ -14,7 +14,7 @@ use plan_geometry::Drawing;
 /// From the first drawing on: asks for less until there is none.
 fn lower<Q: Questions>(questions: &mut Q, first: Drawing) -> Result<Fewest, MinFault>
     requires ready { Q.ready questions.old }
-    requires known { IsKnown Q.knows questions.old }
+    requires known { KnowsSome Q.knows questions.old }
     requires one { IsOne (Q.task questions.old) first }
     ensures task { Q.task questions.new ≡ Q.task questions.old }
     ensures right { IfOk result (IsRightFewest (Q.task questions.old)) }

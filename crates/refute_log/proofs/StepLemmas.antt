@@ -5,7 +5,7 @@ use Rattle.std.proofs.lemmas.Grind.{flat_map-append}
 use Rattle.outside_io.specs.Counts.{next_count, Rose, rose_by}
 use Rattle.refute_log.specs.Told.{Lines}
 use Rattle.refute_log.specs.Log.{clause_line, clause_lines, learnt, Derives}
-use Rattle.refute_log.specs.Steps.{ToldBehind, GoesOn, Continues, IsKnown, StillDerives, Leaves}
+use Rattle.refute_log.specs.Steps.{ToldBehind, GoesOn, Continues, KnowsSome, StillDerives, Leaves}
 
 -- ---- counts
 pub rose_later : (a b c : ℕ) → a ≤ b → Rose b c → Rose a c
@@ -56,7 +56,7 @@ becomes knows log count a b Q T h f = λ lines known.
     record { more = first.more; knows = first.knows; told = first.told; counted = first.counted; does = f lines first.more known first.knows first.does }
 
 -- after a call that goes on, some lines are known still
-pub known_after : {S : Type 0} (knows log : S → Lines → Type 0) (count : S → ℕ) (a b : S) (R : Lines → Lines → Type 0) → IsKnown knows a → Continues knows log count a b R → IsKnown knows b
+pub known_after : {S : Type 0} (knows log : S → Lines → Type 0) (count : S → ℕ) (a b : S) (R : Lines → Lines → Type 0) → KnowsSome knows a → Continues knows log count a b R → KnowsSome knows b
 known_after knows log count a b R known goes =
     let told : ToldBehind (knows b) (log a) (log b) (count a) (count b) known.0 (R known.0) = goes known.0 known.1 in
     (known.0 ++ told.more, told.knows)

@@ -22,11 +22,11 @@ GoesOn knows_old knows_new log_old log_new count_old count_new R =
 -- the same of two states of one thing that knows lines, tells them to a log and counts the Learnt ones
 abbrev pub Continues : {S : Type 0} → (S → Lines → Type 0) → (S → Lines → Type 0) → (S → ℕ) → S → S → (Lines → Lines → Type 0) → Type 0
 Continues {S} knows log count old new R =
-    (lines : Lines) → knows old lines → ToldBehind (knows new) (log old) (log new) (count old) (count new) lines (R lines)
+    GoesOn (knows old) (knows new) (log old) (log new) (count old) (count new) R
 
 -- some lines are known
-abbrev pub IsKnown : {S : Type 0} → (S → Lines → Type 0) → S → Type 0
-IsKnown {S} knows s = (lines : Lines) × knows s lines
+abbrev pub KnowsSome : {S : Type 0} → (S → Lines → Type 0) → S → Type 0
+KnowsSome {S} knows s = (lines : Lines) × knows s lines
 
 -- whatever the log tells after an error derives, where what it told before was known
 abbrev pub StillDerives : (known log_old log_new : Lines → Type 0) → Type 0

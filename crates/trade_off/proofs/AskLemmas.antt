@@ -18,7 +18,7 @@ use Rattle.lex_search.specs.declared.oracle.Reply.{Reply}
 use Rattle.lex_search.specs.declared.oracle.Reply.TheVariants.{Found, Refuted, Stopped}
 use Rattle.certified_values.specs.declared.stop.Stop.{Stop}
 use Rattle.lex_search.specs.Task.{Task, IsLawful, greatest_of}
-use Rattle.refute_log.specs.Steps.{ToldBehind, Continues, IsKnown}
+use Rattle.refute_log.specs.Steps.{ToldBehind, Continues, KnowsSome}
 use Rattle.certified_values.specs.Cause.{IsCause}
 use Rattle.lex_search.specs.Asked.{below_limit, AreMet, AreOnce, AreAgainst, IsReply, IsRightReply}
 use Rattle.refute_log.proofs.StepLemmas.{stays, goes_on, becomes}
@@ -45,7 +45,7 @@ excluded p lines more bounds clause covers derives against there = λ d lawful m
     let lt = All-contains (λ (b : Below). value_of (values_of d) b.criterion < b.limit) bounds any.1 met (any.0, any.2, any.3) in
     omega (arith, k, lt)
 
-pub refuted_none : {S : Type 0} (knows log : S → Lines → Type 0) (count : S → ℕ) (a e : S) (q p : Task) (bounds : List Below) (reply : Reply) → q ≡ p → reply ≡ Refuted → IsKnown knows a → Laws knows e q →
+pub refuted_none : {S : Type 0} (knows log : S → Lines → Type 0) (count : S → ℕ) (a e : S) (q p : Task) (bounds : List Below) (reply : Reply) → q ≡ p → reply ≡ Refuted → KnowsSome knows a → Laws knows e q →
     Continues knows log count a e (λ lines more. IsReply q lines bounds reply more) → NoneMeets p bounds
 refuted_none knows log count a e q p bounds reply same was known laws asked =
     let lines = known.0 in

@@ -5,7 +5,7 @@ ghost use Rattle.plan_core.specs.Values.{values_of, value_of};
 ghost use Rattle.lex_search.specs.Asked.{AreMet};
 ghost use Rattle.lex_search.specs.Task.{IsLawful, greatest_of};
 ghost use Rattle.lex_search.specs.State.{hold as hold_of};
-ghost use Rattle.refute_log.specs.Steps.{Continues, IsKnown};
+ghost use Rattle.refute_log.specs.Steps.{Continues, KnowsSome};
 ghost use Rattle.trade_off.specs.Least.{IsLeastUnder, AreAsked};
 ghost use Rattle.trade_off.specs.Next.{IsUnder, under, IsNext, IsNextPair, IsSecondOf, stop_of, IsSoFar};
 ghost use Rattle.trade_off.specs.Outcome.{IsRightFront, stop_behind};
@@ -71,13 +71,13 @@ fn second_from<O: Oracle>(
     least: Drawing,
 ) -> Result<Next, MinFault>
     requires ready { O.ready oracle.old }
-    requires known { IsKnown O.knows oracle.old }
+    requires known { KnowsSome O.knows oracle.old }
     requires apart { a ≢ b }
     requires first { O.caps oracle.old a ≡ greatest_of (O.task oracle.old) a }
     requires second { O.caps oracle.old b ≡ greatest_of (O.task oracle.old) b }
     requires lawful { IsLawful (O.task oracle.old) least }
     ensures ready { OnOk result (O.ready oracle.new) }
-    ensures known { OnOk result (IsKnown O.knows oracle.new) }
+    ensures known { OnOk result (KnowsSome O.knows oracle.new) }
     ensures task { O.task oracle.new ≡ O.task oracle.old }
     ensures caps { OnOk result (O.caps oracle.new ≡ O.caps oracle.old) }
     ensures next { IfOk result (IsSecondOf (O.task oracle.old) a b least) }
@@ -108,7 +108,7 @@ fn pair_from<O: Oracle>(
     first: Drawing,
 ) -> Result<Next, MinFault>
     requires ready { O.ready oracle.old }
-    requires known { IsKnown O.knows oracle.old }
+    requires known { KnowsSome O.knows oracle.old }
     requires apart { a ≢ b }
     requires first { O.caps oracle.old a ≡ greatest_of (O.task oracle.old) a }
     requires second { O.caps oracle.old b ≡ greatest_of (O.task oracle.old) b }
@@ -116,7 +116,7 @@ fn pair_from<O: Oracle>(
     requires lawful { IsLawful (O.task oracle.old) first }
     requires met { AreMet (values_of first) (under b limit) }
     ensures ready { OnOk result (O.ready oracle.new) }
-    ensures known { OnOk result (IsKnown O.knows oracle.new) }
+    ensures known { OnOk result (KnowsSome O.knows oracle.new) }
     ensures task { O.task oracle.new ≡ O.task oracle.old }
     ensures caps { OnOk result (O.caps oracle.new ≡ O.caps oracle.old) }
     ensures next { IfOk result (IsNext (IsLawful (O.task oracle.old)) a b limit) }
@@ -144,13 +144,13 @@ fn next_pair<O: Oracle>(
     limit: Option<u32>,
 ) -> Result<Next, MinFault>
     requires ready { O.ready oracle.old }
-    requires known { IsKnown O.knows oracle.old }
+    requires known { KnowsSome O.knows oracle.old }
     requires apart { a ≢ b }
     requires first { O.caps oracle.old a ≡ greatest_of (O.task oracle.old) a }
     requires second { O.caps oracle.old b ≡ greatest_of (O.task oracle.old) b }
     requires limit { MatchOption limit ⊤ (λ k. (1 ≤ k) × (k ≤ greatest_of (O.task oracle.old) b)) }
     ensures ready { OnOk result (O.ready oracle.new) }
-    ensures known { OnOk result (IsKnown O.knows oracle.new) }
+    ensures known { OnOk result (KnowsSome O.knows oracle.new) }
     ensures task { O.task oracle.new ≡ O.task oracle.old }
     ensures caps { OnOk result (O.caps oracle.new ≡ O.caps oracle.old) }
     ensures next { IfOk result (IsNext (IsLawful (O.task oracle.old)) a b limit) }
@@ -178,12 +178,12 @@ fn further_pairs<O: Oracle>(
     second: u32,
 ) -> Result<FrontList, MinFault>
     requires ready { O.ready oracle.old }
-    requires known { IsKnown O.knows oracle.old }
+    requires known { KnowsSome O.knows oracle.old }
     requires apart { a ≢ b }
     requires caps_first { O.caps oracle.old a ≡ greatest_of (O.task oracle.old) a }
     requires caps_second { O.caps oracle.old b ≡ greatest_of (O.task oracle.old) b }
     requires pair { IsNextPair (IsLawful (O.task oracle.old)) a b None first second }
-    ensures known { OnOk result (IsKnown O.knows oracle.new) }
+    ensures known { OnOk result (KnowsSome O.knows oracle.new) }
     ensures task { O.task oracle.new ≡ O.task oracle.old }
     ensures right { IfOk result (λ r. IsRightFront (IsLawful (O.task oracle.old)) a b r.pairs r.ending) }
     ensures lines { IfOk result (λ r. Continues O.knows O.log O.learnt oracle.old oracle.new
@@ -229,11 +229,11 @@ pub(crate) fn collect<O: Oracle>(
     b: Criterion,
 ) -> Result<FrontList, MinFault>
     requires ready { O.ready oracle.old }
-    requires known { IsKnown O.knows oracle.old }
+    requires known { KnowsSome O.knows oracle.old }
     requires apart { a ≢ b }
     requires caps_first { O.caps oracle.old a ≡ greatest_of (O.task oracle.old) a }
     requires caps_second { O.caps oracle.old b ≡ greatest_of (O.task oracle.old) b }
-    ensures known { OnOk result (IsKnown O.knows oracle.new) }
+    ensures known { OnOk result (KnowsSome O.knows oracle.new) }
     ensures task { O.task oracle.new ≡ O.task oracle.old }
     ensures right { IfOk result (λ r. IsRightFront (IsLawful (O.task oracle.old)) a b r.pairs r.ending) }
     ensures lines { IfOk result (λ r. Continues O.knows O.log O.learnt oracle.old oracle.new

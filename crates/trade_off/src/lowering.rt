@@ -4,7 +4,7 @@ ghost use Rattle.outside_io.specs.Counts.{Rose};
 ghost use Rattle.plan_core.specs.Values.{values_of, value_of};
 ghost use Rattle.lex_search.specs.Asked.{below_limit, AreMet, IsWithinCap};
 ghost use Rattle.lex_search.specs.Task.{IsLawful, greatest_of};
-ghost use Rattle.refute_log.specs.Steps.{Continues, IsKnown};
+ghost use Rattle.refute_log.specs.Steps.{Continues, KnowsSome};
 ghost use Rattle.trade_off.specs.Least.{IsLeastUnder, AreBeside, AreAsked};
 
 use lex_search::{Below, MinFault, Oracle, Reply, Stop};
@@ -45,14 +45,14 @@ pub(crate) fn lower<O: Oracle>(
     first: Drawing,
 ) -> Result<Lowered, MinFault>
     requires ready { O.ready oracle.old }
-    requires known { IsKnown O.knows oracle.old }
+    requires known { KnowsSome O.knows oracle.old }
     requires held { All (IsWithinCap (O.caps oracle.old)) held.now }
     requires beside { AreBeside c held.now }
     requires bound { O.caps oracle.old c ≡ greatest_of (O.task oracle.old) c }
     requires lawful { IsLawful (O.task oracle.old) first }
     requires met { AreMet (values_of first) held.now }
     ensures ready { OnOk result (O.ready oracle.new) }
-    ensures known { OnOk result (IsKnown O.knows oracle.new) }
+    ensures known { OnOk result (KnowsSome O.knows oracle.new) }
     ensures task { O.task oracle.new ≡ O.task oracle.old }
     ensures caps { OnOk result (O.caps oracle.new ≡ O.caps oracle.old) }
     ensures lawful { IfOk result (λ r. IsLawful (O.task oracle.old) r.least) }

@@ -1,5 +1,5 @@
 use Rattle.std.proofs.Common.{◌≡◌, ◌≤◌}
-use Rattle.refute_log.specs.Steps.{Continues, IsKnown}
+use Rattle.refute_log.specs.Steps.{Continues, KnowsSome}
 use Rattle.fewest_search.specs.Counted.{IsOne}
 use Rattle.fewest_search.specs.Run.{IsRun}
 use Rattle.fewest_search.proofs.searching.lower.Given as goal
@@ -10,7 +10,7 @@ invariant-loop-count g l = let q = g.Q.Questions in record {
   within : l.count ≤ (q.task l.fn.questions).most;
   task : q.task l.questions ≡ q.task l.fn.questions;
   ready : q.ready l.questions;
-  known : IsKnown q.knows l.questions;
+  known : KnowsSome q.knows l.questions;
   one : IsOne (q.task l.fn.questions) l.best;
   later : q.is_later l.fn.questions l.questions;
   faults : q.faults l.fn.questions ≤ q.faults l.questions;

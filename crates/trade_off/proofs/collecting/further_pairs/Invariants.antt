@@ -1,7 +1,7 @@
 use Rattle.std.proofs.Common.{◌≡◌, ◌≤◌}
 use Rattle.std.specs.Prelude.{None}
 use Rattle.lex_search.specs.Task.{IsLawful, greatest_of}
-use Rattle.refute_log.specs.Steps.{Continues, IsKnown}
+use Rattle.refute_log.specs.Steps.{Continues, KnowsSome}
 use Rattle.trade_off.specs.Least.{AreAsked}
 use Rattle.trade_off.specs.Next.{IsSoFar}
 use Rattle.trade_off.proofs.collecting.further_pairs.Given as goal
@@ -11,7 +11,7 @@ invariant-loop-limit g l = let o = g.O.Oracle in record {
   task : o.task l.oracle ≡ o.task l.fn.oracle;
   caps : o.caps l.oracle ≡ o.caps l.fn.oracle;
   ready : o.ready l.oracle;
-  known : IsKnown o.knows l.oracle;
+  known : KnowsSome o.knows l.oracle;
   so_far : IsSoFar (IsLawful (o.task l.fn.oracle)) l.a l.b l.limit l.pairs;
   within : l.limit ≤ greatest_of (o.task l.fn.oracle) l.b;
   later : o.is_later l.fn.oracle l.oracle;

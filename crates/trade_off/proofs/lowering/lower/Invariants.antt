@@ -3,7 +3,7 @@ use Rattle.std.specs.Prelude.{None}
 use Rattle.plan_core.specs.Values.{values_of, value_of}
 use Rattle.lex_search.specs.Task.{IsLawful, greatest_of}
 use Rattle.lex_search.specs.Asked.{AreMet}
-use Rattle.refute_log.specs.Steps.{Continues, IsKnown}
+use Rattle.refute_log.specs.Steps.{Continues, KnowsSome}
 use Rattle.trade_off.specs.Least.{AreAsked}
 use Rattle.trade_off.proofs.lowering.lower.Given as goal
 
@@ -13,7 +13,7 @@ invariant-loop-value g l = let o = g.O.Oracle in record {
   task : o.task l.oracle ≡ o.task l.fn.oracle;
   caps : o.caps l.oracle ≡ o.caps l.fn.oracle;
   ready : o.ready l.oracle;
-  known : IsKnown o.knows l.oracle;
+  known : KnowsSome o.knows l.oracle;
   lawful : IsLawful (o.task l.fn.oracle) l.least;
   met : AreMet (values_of l.least) l.held;
   bound : l.value ≤ greatest_of (o.task l.fn.oracle) l.c;
