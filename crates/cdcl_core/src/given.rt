@@ -81,7 +81,8 @@ impl Search {
         ensures kept { OnOk result (IsKeptOne self.old self.new lits.now) }
         ensures learnt_same { OnOk result (self.new.learnt ≡ self.old.learnt) }
         ensures told { OnOk result (AddsLine (L.tells log.old) (L.tells log.new) (Formula lits.now)) }
-        ensures derives { OnErr result (StillDerives (λ ls. Belongs ls (seen self.old)) (L.tells log.old) (L.tells log.new)) }
+        ensures derives { OnErr result
+            (StillDerives (λ ls. Belongs ls (seen self.old)) (L.tells log.old) (L.tells log.new)) }
         ensures gives { OnErr result (GivesAtMost (L.tells log.old) (L.tells log.new) lits.now) }
         ensures learnt { L.learnt log.new ≡ L.learnt log.old }
         ensures room { IsErrOf result AddFault.Room ↔ self.old.room < self.old.words + length lits.now + 3 }
@@ -107,7 +108,8 @@ impl Search {
         ensures kept { OnOk result (IsKeptOne self.old self.new lits.now) }
         ensures learnt_same { OnOk result (self.new.learnt ≡ self.old.learnt) }
         ensures told { OnOk result (AddsLine (L.tells log.old) (L.tells log.new) (Formula lits.now)) }
-        ensures derives { OnErr result (StillDerives (λ ls. Belongs ls (seen self.old)) (L.tells log.old) (L.tells log.new)) }
+        ensures derives { OnErr result
+            (StillDerives (λ ls. Belongs ls (seen self.old)) (L.tells log.old) (L.tells log.new)) }
         ensures gives { OnErr result (GivesAtMost (L.tells log.old) (L.tells log.new) lits.now) }
         ensures learnt { L.learnt log.new ≡ L.learnt log.old }
         ensures fits { IsErrOf result AddFault.Room → ⊥ }

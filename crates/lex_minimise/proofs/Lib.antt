@@ -7,3 +7,4 @@ pub mod GrownLemmas
 pub mod RoomLemmas
 pub mod StartLemmas
 pub mod FrontLemmas
+pub mod LeftLemmas

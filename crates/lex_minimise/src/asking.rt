@@ -1,5 +1,5 @@
 // A question, as assumptions of the solver.
-ghost use Rattle.std.specs.Prelude.{◌≡◌, ◌≤◌, ◌+◌, ⊤, ◌↔◌, All, IfOk, OnOk, IsErrOf, IsTrue, MatchOption};
+ghost use Rattle.std.specs.Prelude.{◌≡◌, ◌≤◌, ◌+◌, ⊤, ◌↔◌, [], All, IfOk, OnOk, OnErr, IsErrOf, IsTrue, MatchOption};
 ghost use Rattle.outside_io.specs.Counts.{Rose};
 ghost use Rattle.plan_core.specs.Lawful.{Lawful};
 ghost use Rattle.track_order.specs.Order.{is_above};
@@ -7,7 +7,7 @@ ghost use Rattle.cdcl_core.specs.Kept.{IsTrueAnswer};
 ghost use Rattle.cnf_core.specs.declared.limits.TheConstants.{VARS};
 ghost use Rattle.lex_search.specs.Asked.{IsWithinCap, AreOnce, IsRightReply, IsReply};
 ghost use Rattle.lex_minimise.specs.Known.{caps_of};
-ghost use Rattle.refute_log.specs.Steps.{GoesOn};
+ghost use Rattle.refute_log.specs.Steps.{GoesOn, Leaves};
 ghost use Rattle.lex_minimise.specs.Asking.{HasLimit, IsLimitOf, AreAssumed, TellsAnswer, IsReplyOf};
 ghost use Rattle.lex_minimise.specs.Search.{task_with, IsReadyWith, KnowsWith};
 
@@ -91,6 +91,7 @@ fn query<L: LogSink>(
         (KnowsWith known.now solver.old) (KnowsWith known.now solver.new)
         (L.tells log.old) (L.tells log.new) (L.learnt log.old) (L.learnt log.new)
         (λ lines more. TellsAnswer (task_with known.now) lines bounds.now a more)) }
+    ensures leaves { OnErr result (Leaves [] (KnowsWith known.now solver.old) (L.tells log.old) (L.tells log.new)) }
     ensures vars { OnOk result (solver.new.vars ≡ solver.old.vars) }
     ensures later { L.is_later log.old log.new }
     ensures faults { L.faults log.old ≤ L.faults log.new }
@@ -154,6 +155,7 @@ pub(crate) fn ask<L: LogSink>(
         (KnowsWith known.now solver.old) (KnowsWith known.now solver.new)
         (L.tells log.old) (L.tells log.new) (L.learnt log.old) (L.learnt log.new)
         (λ lines more. IsReply (task_with known.now) lines bounds.now r more)) }
+    ensures leaves { OnErr result (Leaves [] (KnowsWith known.now solver.old) (L.tells log.old) (L.tells log.new)) }
     ensures vars { OnOk result (solver.new.vars ≡ solver.old.vars) }
     ensures later { L.is_later log.old log.new }
     ensures faults { L.faults log.old ≤ L.faults log.new }

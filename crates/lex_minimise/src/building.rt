@@ -1,11 +1,12 @@
 // The formula's clauses and a criterion's bounds, told whole or not at all.
-ghost use Rattle.std.specs.Prelude.{◌≡◌, ◌≤◌, ◌+◌, ◌-◌, ◌++◌, ◌∷◌, [], false, IfOk, OnOk, IsErrOf, IsTrue, ◌↔◌};
+ghost use Rattle.std.specs.Prelude.{◌≡◌, ◌≤◌, ◌+◌, ◌-◌, ◌++◌, ◌∷◌, [], false, IfOk, OnOk, OnErr, IsErrOf, IsTrue, ◌↔◌};
 ghost use Rattle.std.specs.Prelude.{MatchOption, length, map, drop};
 ghost use Rattle.outside_io.specs.Counts.{Rose};
 ghost use Rattle.plan_core.specs.Values.{limit_of};
 ghost use Rattle.cnf_core.specs.declared.limits.TheConstants.{VARS};
 ghost use Rattle.cnf_core.specs.Clause.{words_of};
 ghost use Rattle.refute_log.specs.declared.line.LogLine.TheVariants.{Formula as FormulaLine};
+ghost use Rattle.certified_values.specs.Expected.{sum_lines};
 ghost use Rattle.drawing_cnf.specs.Bounded.{bound};
 ghost use Rattle.drawing_cnf.specs.Encoding.{encoded_vars};
 ghost use Rattle.drawing_cnf.specs.Whole.{IsWhole};
@@ -16,7 +17,7 @@ ghost use Rattle.lex_search.specs.declared.oracle.Built.TheVariants.{Whole as Al
 ghost use Rattle.lex_search.specs.Built.{IsBuild, AreBuiltTo};
 ghost use Rattle.drawing_problem.specs.Layout.{layout_of};
 ghost use Rattle.lex_minimise.specs.Known.{caps_of};
-ghost use Rattle.refute_log.specs.Steps.{GoesOn};
+ghost use Rattle.refute_log.specs.Steps.{GoesOn, Leaves};
 ghost use Rattle.lex_minimise.specs.Told.{HasTaken};
 ghost use Rattle.lex_minimise.specs.Grown.{PassesWith, HasGrown, IsGrown};
 ghost use Rattle.lex_minimise.specs.Search.{task_with, IsReadyWith, KnowsWith};
@@ -47,6 +48,8 @@ pub fn add_clauses<L: LogSink>(
     ensures lines { OnOk result (GoesOn (λ ls. Belongs ls solver.old) (λ ls. Belongs ls solver.new)
         (L.tells log.old) (L.tells log.new) (L.learnt log.old) (L.learnt log.new)
         (λ lines more. more ≡ map FormulaLine (drop from formula.now.clauses))) }
+    ensures leaves { OnErr result (Leaves (map FormulaLine (drop from formula.now.clauses))
+        (λ ls. Belongs ls solver.old) (L.tells log.old) (L.tells log.new)) }
     ensures later { L.is_later log.old log.new }
     ensures faults { L.faults log.old ≤ L.faults log.new }
     ensures cause { IsErrOf result MinFault.Log → Rose (L.faults log.old) (L.faults log.new) }
@@ -107,6 +110,9 @@ fn tell_criterion<L: LogSink>(
         (L.tells log.old) (L.tells log.new) (L.learnt log.old) (L.learnt log.new)
         (λ lines more.
         more ≡ lines_of_bound known.old.encoded.graph (encoded_vars known.old.encoded) known.old.encoded.grid bounds)) }
+    ensures leaves { OnErr result (Leaves
+        (lines_of_bound known.old.encoded.graph (encoded_vars known.old.encoded) known.old.encoded.grid bounds)
+        (KnowsWith known.old solver.old) (L.tells log.old) (L.tells log.new)) }
     ensures later { L.is_later log.old log.new }
     ensures faults { L.faults log.old ≤ L.faults log.new }
     ensures cause { IsErrOf result MinFault.Log → Rose (L.faults log.old) (L.faults log.new) }
@@ -141,6 +147,8 @@ pub(crate) fn build<L: LogSink>(
         (KnowsWith known.old solver.old) (KnowsWith known.new solver.new)
         (L.tells log.old) (L.tells log.new) (L.learnt log.old) (L.learnt log.new)
         (λ lines more. IsBuild (task_with known.old) solver.old.vars c cap b lines more)) }
+    ensures leaves { OnErr result (Leaves (sum_lines (task_with known.old).encoding solver.old.vars c cap)
+        (KnowsWith known.old solver.old) (L.tells log.old) (L.tells log.new)) }
     ensures later { L.is_later log.old log.new }
     ensures faults { L.faults log.old ≤ L.faults log.new }
     ensures cause { IsErrOf result MinFault.Log → Rose (L.faults log.old) (L.faults log.new) }

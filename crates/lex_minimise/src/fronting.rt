@@ -1,5 +1,5 @@
 // The front of two criteria, with the solver.
-ghost use Rattle.std.specs.Prelude.{◌≡◌, ◌≢◌, ◌≤◌, ◌++◌, [], IfOk, IsErrOf};
+ghost use Rattle.std.specs.Prelude.{◌≡◌, ◌≢◌, ◌≤◌, ◌++◌, [], IfOk, OnErr, IsErrOf};
 ghost use Rattle.outside_io.specs.Counts.{Rose};
 ghost use Rattle.cnf_core.specs.declared.limits.TheConstants.{ROOM};
 ghost use Rattle.track_order.specs.Order.{IsOrderOf};
@@ -9,7 +9,7 @@ ghost use Rattle.cdcl_core.specs.Kept.{blank};
 ghost use Rattle.lex_search.specs.Task.{IsLawful};
 ghost use Rattle.refute_log.specs.Steps.{ToldBehind};
 ghost use Rattle.lex_search.specs.Outcome.{first_lines};
-ghost use Rattle.trade_off.specs.Outcome.{IsRightFront, IsFrontLog};
+ghost use Rattle.trade_off.specs.Outcome.{IsRightFront, IsFrontLog, IsFrontLeft};
 ghost use Rattle.drawing_problem.specs.Layout.{layout};
 ghost use Rattle.lex_minimise.specs.Task.{task_of};
 ghost use Rattle.lex_minimise.specs.Told.{IsLogOfSolver};
@@ -45,6 +45,8 @@ fn front_from<L: LogSink>(
     ensures lines { let p = task_with known.old in
         IfOk result (λ r. ToldBehind (IsLogOfSolver solver.new) (L.tells log.old) (L.tells log.new)
         (L.learnt log.old) (L.learnt log.new) (first_lines p) (λ more. IsFrontLog p a b r.ending (first_lines p ++ more))) }
+    ensures left { let p = task_with known.old in
+        OnErr result (L.tells log.old (first_lines p) → (lines : Lines) → L.tells log.new lines → IsFrontLeft p a b lines) }
     ensures later { L.is_later log.old log.new }
     ensures faults { L.faults log.old ≤ L.faults log.new }
     ensures cause { IsErrOf result MinFault.Log → Rose (L.faults log.old) (L.faults log.new) }
@@ -76,6 +78,8 @@ pub fn front_with<L: LogSink>(
     ensures lines { let p = task_of (layout g.now t.now grid.now) limits.now.budget limits.now.room in
         IfOk result (λ r. (lines : Lines) × told_to L.tells L.learnt log.old log.new lines × IsFrontLog p a b r.ending lines
         × IsLogOfSolver solver.new lines) }
+    ensures left { let p = task_of (layout g.now t.now grid.now) limits.now.budget limits.now.room in
+        OnErr result (L.tells log.old [] → (lines : Lines) → L.tells log.new lines → IsFrontLeft p a b lines) }
     ensures later { L.is_later log.old log.new }
     ensures faults { L.faults log.old ≤ L.faults log.new }
     ensures cause { IsErrOf result MinFault.Log → Rose (L.faults log.old) (L.faults log.new) }
@@ -104,7 +108,8 @@ pub fn front_with<L: LogSink>(
 /// The front of two criteria of the graph's lawful drawings on the grid, or as far as the limits allow.
 ///
 /// The order `t` is that of the graph's edges, and the criteria differ. All lines are told to the log: the drawings'
-/// clauses, both criteria's clauses with all their bounds, the questions, what is learnt, and the answers.
+/// clauses, both criteria's clauses with all their bounds, the questions, what is learnt, and the answers. After an error a
+/// log that had no line derives, and its Formula and Bound lines are the first of those.
 pub fn front<L: LogSink>(
     alloc: Global,
     g: &PortGraph,
@@ -122,6 +127,8 @@ pub fn front<L: LogSink>(
         IfOk result (λ r. IsRightFront (IsLawful p) a b r.pairs r.ending) }
     ensures lines { let p = task_of (layout g.now t.now grid.now) limits.now.budget limits.now.room in
         IfOk result (λ r. (lines : Lines) × told_to L.tells L.learnt log.old log.new lines × IsFrontLog p a b r.ending lines) }
+    ensures left { let p = task_of (layout g.now t.now grid.now) limits.now.budget limits.now.room in
+        OnErr result (L.tells log.old [] → (lines : Lines) → L.tells log.new lines → IsFrontLeft p a b lines) }
     ensures later { L.is_later log.old log.new }
     ensures faults { L.faults log.old ≤ L.faults log.new }
     ensures cause { IsErrOf result MinFault.Log → Rose (L.faults log.old) (L.faults log.new) }

@@ -1,15 +1,16 @@
 // Clauses and bounds, told one after another.
-ghost use Rattle.std.specs.Prelude.{◌≡◌, ◌≤◌, ◌<◌, ◌+◌, ◌++◌, ◌∷◌, [], false, OnOk, IsErrOf, length, map, drop};
+ghost use Rattle.std.specs.Prelude.{◌≡◌, ◌≤◌, ◌<◌, ◌+◌, ◌++◌, ◌∷◌, [], false, OnOk, OnErr, IsErrOf, length, map, drop};
 ghost use Rattle.outside_io.specs.Counts.{Rose};
 ghost use Rattle.cnf_core.specs.Clause.{words_of};
 ghost use Rattle.cnf_core.specs.Formula.{clause_at};
 ghost use Rattle.refute_log.specs.declared.line.LogLine.TheVariants.{Formula as FormulaLine};
 ghost use Rattle.line_text.specs.declared.numbers.TheConstants.{MAX_NUMBER};
 ghost use Rattle.refute_log.specs.Told.{AddsAll};
+ghost use Rattle.refute_log.specs.Log.{Derives};
 ghost use Rattle.certified_values.specs.Expected.{bound_lines};
 ghost use Rattle.cdcl_core.specs.Belongs.{Belongs};
 ghost use Rattle.drawing_problem.specs.Lists.{variables_behind};
-ghost use Rattle.refute_log.specs.Steps.{GoesOn};
+ghost use Rattle.refute_log.specs.Steps.{GoesOn, Leaves};
 ghost use Rattle.lex_minimise.specs.Told.{HasTaken};
 
 use cdcl_core::{AddFault, Solver};
@@ -33,6 +34,8 @@ fn tell_clause<L: LogSink>(
     ensures lines { OnOk result (GoesOn (λ ls. Belongs ls solver.old) (λ ls. Belongs ls solver.new)
         (L.tells log.old) (L.tells log.new) (L.learnt log.old) (L.learnt log.new)
         (λ lines more. more ≡ FormulaLine (clause_at formula.now no) ∷ [])) }
+    ensures leaves { OnErr result (Leaves (FormulaLine (clause_at formula.now no) ∷ [])
+        (λ ls. Belongs ls solver.old) (L.tells log.old) (L.tells log.new)) }
     ensures later { L.is_later log.old log.new }
     ensures faults { L.faults log.old ≤ L.faults log.new }
     ensures cause { IsErrOf result MinFault.Log → Rose (L.faults log.old) (L.faults log.new) }
@@ -60,6 +63,8 @@ pub fn tell_clauses<L: LogSink>(
     ensures lines { OnOk result (GoesOn (λ ls. Belongs ls solver.old) (λ ls. Belongs ls solver.new)
         (L.tells log.old) (L.tells log.new) (L.learnt log.old) (L.learnt log.new)
         (λ lines more. more ≡ map FormulaLine (drop from formula.now.clauses))) }
+    ensures leaves { OnErr result (Leaves (map FormulaLine (drop from formula.now.clauses))
+        (λ ls. Belongs ls solver.old) (L.tells log.old) (L.tells log.new)) }
     ensures later { L.is_later log.old log.new }
     ensures faults { L.faults log.old ≤ L.faults log.new }
     ensures cause { IsErrOf result MinFault.Log → Rose (L.faults log.old) (L.faults log.new) }
@@ -85,6 +90,9 @@ pub(crate) fn tell_bounds<L: LogSink>(bounds: &Bounds, log: &mut L) -> Result<()
     requires small { bounds.now.cap ≤ MAX_NUMBER }
     ensures lines { OnOk result (AddsAll (L.tells log.old) (L.tells log.new)
         (bound_lines bounds.now.criterion 1 (variables_behind bounds.now.last bounds.now.cap))) }
+    ensures leaves { OnErr result (Leaves
+        (bound_lines bounds.now.criterion 1 (variables_behind bounds.now.last bounds.now.cap))
+        Derives (L.tells log.old) (L.tells log.new)) }
     ensures learnt { L.learnt log.new ≡ L.learnt log.old }
     ensures later { L.is_later log.old log.new }
     ensures faults { L.faults log.old ≤ L.faults log.new }

@@ -66,7 +66,7 @@ pub formulas_are_clauses : (cs : Clauses) → clause_lines (map Formula cs) ≡ 
 formulas_are_clauses [] = refl
 formulas_are_clauses (c ∷ cs) = ap (λ (ls : Lines). Formula c ∷ ls) (formulas_are_clauses cs)
 
-bounds_are_clauses : (c : Criterion) (k : ℕ) (xs : List Var) → clause_lines (bound_lines c k xs) ≡ bound_lines c k xs
+pub bounds_are_clauses : (c : Criterion) (k : ℕ) (xs : List Var) → clause_lines (bound_lines c k xs) ≡ bound_lines c k xs
 bounds_are_clauses c k [] = refl
 bounds_are_clauses c k (x ∷ xs) = ap (λ (ls : Lines). Bound c k x ∷ ls) (bounds_are_clauses c (k + 1) xs)
 

@@ -1,5 +1,5 @@
 // What is asked: the drawings' clauses, a solver and a log, as one thing.
-ghost use Rattle.std.specs.Prelude.{◌≡◌, ◌≤◌, ⊤, ℕ, All, OnOk, IfOk, IsErrOf, MatchOption, flat_map, length};
+ghost use Rattle.std.specs.Prelude.{◌≡◌, ◌≤◌, ⊤, ℕ, [], All, OnOk, OnErr, IfOk, IsErrOf, MatchOption, flat_map, length};
 ghost use Rattle.outside_io.specs.Counts.{Rose};
 ghost use Rattle.plan_core.specs.declared.criterion.Criterion.{Criterion as Measure};
 ghost use Rattle.cnf_core.specs.declared.limits.TheConstants.{VARS};
@@ -8,10 +8,10 @@ ghost use Rattle.refute_log.specs.Lines.{MayAllBeTold};
 ghost use Rattle.refute_log.specs.Told.{Lines};
 ghost use Rattle.refute_log.specs.Log.{added, learnt as learnt_of, Derives, Due};
 ghost use Rattle.certified_values.specs.Bounds.{CoversDrawings};
-ghost use Rattle.certified_values.specs.Expected.{caps as caps_of};
+ghost use Rattle.certified_values.specs.Expected.{caps as caps_of, sum_lines};
 ghost use Rattle.lex_search.specs.Task.{Task, IsLawful, greatest_of};
 ghost use Rattle.lex_search.specs.declared.oracle.Built.TheVariants.{Whole as AllOfThem};
-ghost use Rattle.refute_log.specs.Steps.{Continues};
+ghost use Rattle.refute_log.specs.Steps.{Continues, Leaves};
 ghost use Rattle.lex_search.specs.Built.{IsBuild, AreBuiltTo};
 ghost use Rattle.lex_search.specs.Asked.{IsReply, IsRightReply, IsWithinCap, AreOnce, AreApart};
 
@@ -92,6 +92,7 @@ pub trait Oracle {
         ensures right { IfOk result (IsRightReply (task self.old) bounds.now) }
         ensures lines { IfOk result (λ r. Continues knows log learnt self.old self.new (λ lines more.
             IsReply (task self.old) lines bounds.now r more)) }
+        ensures leaves { OnErr result (Leaves [] (knows self.old) (log self.old) (log self.new)) }
         ensures ready { OnOk result (ready self.new) }
         ensures task { task self.new ≡ task self.old }
         ensures caps { OnOk result (caps self.new ≡ caps self.old) }
@@ -110,6 +111,8 @@ pub trait Oracle {
         ensures built { IfOk result (λ b. AreBuiltTo (task self.old) (caps self.old) (vars self.old) c cap b (caps self.new) (vars self.new)) }
         ensures lines { IfOk result (λ b. Continues knows log learnt self.old self.new (λ lines more.
             IsBuild (task self.old) (vars self.old) c cap b lines more)) }
+        ensures leaves { OnErr result (Leaves (sum_lines (task self.old).encoding (vars self.old) c cap)
+            (knows self.old) (log self.old) (log self.new)) }
         ensures task { task self.new ≡ task self.old }
         ensures later { is_later self.old self.new }
         ensures faults { faults self.old ≤ faults self.new }
@@ -141,6 +144,9 @@ pub trait Oracle {
 
     /// No two of these bounds have one variable.
     ghost apart: { (s : Self) (lines : Lines) → knows s lines → AreApart lines };
+
+    /// A log tells one list at most.
+    ghost one_reading: { (s : Self) (a b : Lines) → log s a → log s b → a ≡ b };
 
     /// Each state is a later state of itself.
     ghost later_same: { (s : Self) → is_later s s };

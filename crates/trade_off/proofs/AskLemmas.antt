@@ -102,7 +102,7 @@ reply_stop (Found d) = None
 reply_stop Refuted = None
 reply_stop (Stopped stop) = Some stop
 
-reply_asked : (p : Task) (lines : Lines) (bounds : List Below) (reply : Reply) (more : Lines) → IsReply p lines bounds reply more → AreAsked p (reply_stop reply) lines more
+pub reply_asked : (p : Task) (lines : Lines) (bounds : List Below) (reply : Reply) (more : Lines) → IsReply p lines bounds reply more → AreAsked p (reply_stop reply) lines more
 reply_asked p lines bounds (Found d) more h = asks_no_clauses lines bounds (Model ∷ []) more h refl
 reply_asked p lines bounds Refuted more h = asks_no_clauses lines bounds (RefutedLine h.0 ∷ []) more h.2 refl
 reply_asked p lines bounds (Stopped stop) more h = (asks_no_clauses lines bounds [] more h.0 refl, h.1)

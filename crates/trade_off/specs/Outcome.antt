@@ -51,6 +51,11 @@ pub record IsFrontLog (p : Task) (a b : Criterion) (ending : FrontEnd) (lines : 
   pub within : length (flat_map learnt lines) ≤ p.budget
   pub cause : IsFrontCause p a b ending lines
 
+-- the lines of a search for the front that ended with an error
+pub record IsFrontLeft (p : Task) (a b : Criterion) (lines : Lines) : Type 0 where
+  pub derives : Derives lines
+  pub begins : BeginsLines (clause_lines lines) (front_lines p a b)
+
 -- the end of a search that stopped
 abbrev pub stopped_by : Stop → FrontEnd
 stopped_by BudgetSpent = Conflicts
@@ -63,7 +68,7 @@ stop_behind Empty = None
 stop_behind Conflicts = Some BudgetSpent
 stop_behind Room = Some RoomFull
 
--- all of the lines were told, or a front of them, and all have no room
+-- all of the lines were told, or the first of them, and all have no room
 abbrev pub IsBuiltFront : Task → Criterion → Criterion → Built → Lines → Type 0
 IsBuiltFront p a b AllOfThem lines = clause_lines lines ≡ front_lines p a b
 IsBuiltFront p a b NoRoom lines =

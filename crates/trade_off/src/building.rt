@@ -1,13 +1,13 @@
 // The bounds of both criteria, up to their greatest values.
-ghost use Rattle.std.specs.Prelude.{◌≡◌, ◌≢◌, ◌≤◌, ◌+◌, ◌++◌, IfOk, OnOk, IsErrOf};
+ghost use Rattle.std.specs.Prelude.{◌≡◌, ◌≢◌, ◌≤◌, ◌+◌, ◌++◌, ◌∷◌, [], IfOk, OnErr, IsErrOf};
 ghost use Rattle.outside_io.specs.Counts.{Rose};
 ghost use Rattle.plan_core.specs.declared.criterion.Criterion.{Criterion as Measure};
-ghost use Rattle.certified_values.specs.Expected.{with_cap, sum_vars_of};
+ghost use Rattle.certified_values.specs.Expected.{with_cap, sum_lines, sum_vars_of, sums};
 ghost use Rattle.lex_search.specs.declared.oracle.Built.TheVariants.{Whole as AllOfThem};
 ghost use Rattle.lex_search.specs.Task.{greatest_of};
 ghost use Rattle.lex_search.specs.Built.{IsBuild};
 ghost use Rattle.lex_search.specs.Outcome.{IsFresh, first_lines};
-ghost use Rattle.refute_log.specs.Steps.{Continues};
+ghost use Rattle.refute_log.specs.Steps.{Continues, Leaves};
 ghost use Rattle.trade_off.specs.Outcome.{IsBuiltFront};
 
 use lex_search::{Built, MinFault, Oracle};
@@ -25,6 +25,9 @@ fn build_whole<O: Oracle>(oracle: &mut O, c: Criterion) -> Result<Built, MinFaul
         + sum_vars_of (O.task oracle.old).encoding (O.vars oracle.old) c (greatest_of (O.task oracle.old) c)) }
     ensures lines { IfOk result (λ r. Continues O.knows O.log O.learnt oracle.old oracle.new (λ lines more.
         IsBuild (O.task oracle.old) (O.vars oracle.old) c (greatest_of (O.task oracle.old) c) r lines more)) }
+    ensures leaves { let p = O.task oracle.old in
+        OnErr result (Leaves (sum_lines p.encoding (O.vars oracle.old) c (greatest_of p c))
+        (O.knows oracle.old) (O.log oracle.old) (O.log oracle.new)) }
     ensures task { O.task oracle.new ≡ O.task oracle.old }
     ensures later { O.is_later oracle.old oracle.new }
     ensures faults { O.faults oracle.old ≤ O.faults oracle.new }
@@ -52,6 +55,9 @@ pub(crate) fn build_both<O: Oracle>(
     ensures second { IfOk result (λ r. r ≡ AllOfThem → O.caps oracle.new b ≡ greatest_of (O.task oracle.old) b) }
     ensures lines { IfOk result (λ r. Continues O.knows O.log O.learnt oracle.old oracle.new (λ lines more.
         lines ≡ first_lines (O.task oracle.old) → IsBuiltFront (O.task oracle.old) a b r (lines ++ more))) }
+    ensures leaves { let p = O.task oracle.old in
+        OnErr result (Leaves (sums p.encoding (O.vars oracle.old) (a ∷ b ∷ []) (greatest_of p))
+        (O.knows oracle.old) (O.log oracle.old) (O.log oracle.new)) }
     ensures task { O.task oracle.new ≡ O.task oracle.old }
     ensures later { O.is_later oracle.old oracle.new }
     ensures faults { O.faults oracle.old ≤ O.faults oracle.new }

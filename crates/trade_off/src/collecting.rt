@@ -1,11 +1,11 @@
 // One pair after another.
-ghost use Rattle.std.specs.Prelude.{◌≡◌, ◌≢◌, ◌≤◌, ◌<◌, ◌+◌, ◌∷◌, [], IfOk, OnOk, IsErrOf, None, Some, MatchOption, ⊤};
+ghost use Rattle.std.specs.Prelude.{◌≡◌, ◌≢◌, ◌≤◌, ◌<◌, ◌+◌, ◌∷◌, [], IfOk, OnOk, OnErr, IsErrOf, None, Some, MatchOption, ⊤};
 ghost use Rattle.outside_io.specs.Counts.{Rose};
 ghost use Rattle.plan_core.specs.Values.{values_of, value_of};
 ghost use Rattle.lex_search.specs.Asked.{AreMet};
 ghost use Rattle.lex_search.specs.Task.{IsLawful, greatest_of};
 ghost use Rattle.lex_search.specs.State.{hold as hold_of};
-ghost use Rattle.refute_log.specs.Steps.{Continues, KnowsSome};
+ghost use Rattle.refute_log.specs.Steps.{Continues, KnowsSome, Leaves};
 ghost use Rattle.trade_off.specs.Least.{IsLeastUnder, AreAsked};
 ghost use Rattle.trade_off.specs.Next.{IsUnder, under, IsNext, IsNextPair, IsSecondOf, stop_of, IsSoFar};
 ghost use Rattle.trade_off.specs.Outcome.{IsRightFront, stop_behind};
@@ -83,6 +83,7 @@ fn second_from<O: Oracle>(
     ensures next { IfOk result (IsSecondOf (O.task oracle.old) a b least) }
     ensures lines { IfOk result (λ r. Continues O.knows O.log O.learnt oracle.old oracle.new
         (AreAsked (O.task oracle.old) (stop_of r))) }
+    ensures leaves { OnErr result (Leaves [] (O.knows oracle.old) (O.log oracle.old) (O.log oracle.new)) }
     ensures later { O.is_later oracle.old oracle.new }
     ensures faults { O.faults oracle.old ≤ O.faults oracle.new }
     ensures cause { IsErrOf result MinFault.Log → Rose (O.faults oracle.old) (O.faults oracle.new) }
@@ -122,6 +123,7 @@ fn pair_from<O: Oracle>(
     ensures next { IfOk result (IsNext (IsLawful (O.task oracle.old)) a b limit) }
     ensures lines { IfOk result (λ r. Continues O.knows O.log O.learnt oracle.old oracle.new
         (AreAsked (O.task oracle.old) (stop_of r))) }
+    ensures leaves { OnErr result (Leaves [] (O.knows oracle.old) (O.log oracle.old) (O.log oracle.new)) }
     ensures later { O.is_later oracle.old oracle.new }
     ensures faults { O.faults oracle.old ≤ O.faults oracle.new }
     ensures cause { IsErrOf result MinFault.Log → Rose (O.faults oracle.old) (O.faults oracle.new) }
@@ -156,6 +158,7 @@ fn next_pair<O: Oracle>(
     ensures next { IfOk result (IsNext (IsLawful (O.task oracle.old)) a b limit) }
     ensures lines { IfOk result (λ r. Continues O.knows O.log O.learnt oracle.old oracle.new
         (AreAsked (O.task oracle.old) (stop_of r))) }
+    ensures leaves { OnErr result (Leaves [] (O.knows oracle.old) (O.log oracle.old) (O.log oracle.new)) }
     ensures later { O.is_later oracle.old oracle.new }
     ensures faults { O.faults oracle.old ≤ O.faults oracle.new }
     ensures cause { IsErrOf result MinFault.Log → Rose (O.faults oracle.old) (O.faults oracle.new) }
@@ -188,6 +191,7 @@ fn further_pairs<O: Oracle>(
     ensures right { IfOk result (λ r. IsRightFront (IsLawful (O.task oracle.old)) a b r.pairs r.ending) }
     ensures lines { IfOk result (λ r. Continues O.knows O.log O.learnt oracle.old oracle.new
         (AreAsked (O.task oracle.old) (stop_behind r.ending))) }
+    ensures leaves { OnErr result (Leaves [] (O.knows oracle.old) (O.log oracle.old) (O.log oracle.new)) }
     ensures later { O.is_later oracle.old oracle.new }
     ensures faults { O.faults oracle.old ≤ O.faults oracle.new }
     ensures cause { IsErrOf result MinFault.Log → Rose (O.faults oracle.old) (O.faults oracle.new) }
@@ -238,6 +242,7 @@ pub(crate) fn collect<O: Oracle>(
     ensures right { IfOk result (λ r. IsRightFront (IsLawful (O.task oracle.old)) a b r.pairs r.ending) }
     ensures lines { IfOk result (λ r. Continues O.knows O.log O.learnt oracle.old oracle.new
         (AreAsked (O.task oracle.old) (stop_behind r.ending))) }
+    ensures leaves { OnErr result (Leaves [] (O.knows oracle.old) (O.log oracle.old) (O.log oracle.new)) }
     ensures later { O.is_later oracle.old oracle.new }
     ensures faults { O.faults oracle.old ≤ O.faults oracle.new }
     ensures cause { IsErrOf result MinFault.Log → Rose (O.faults oracle.old) (O.faults oracle.new) }

@@ -1,10 +1,10 @@
 // The least value of one criterion, under bounds.
-ghost use Rattle.std.specs.Prelude.{◌≡◌, ◌≤◌, ◌++◌, ◌∷◌, [], All, IfOk, OnOk, IsErrOf, None};
+ghost use Rattle.std.specs.Prelude.{◌≡◌, ◌≤◌, ◌++◌, ◌∷◌, [], All, IfOk, OnOk, OnErr, IsErrOf, None};
 ghost use Rattle.outside_io.specs.Counts.{Rose};
 ghost use Rattle.plan_core.specs.Values.{values_of, value_of};
 ghost use Rattle.lex_search.specs.Asked.{below_limit, AreMet, IsWithinCap};
 ghost use Rattle.lex_search.specs.Task.{IsLawful, greatest_of};
-ghost use Rattle.refute_log.specs.Steps.{Continues, KnowsSome};
+ghost use Rattle.refute_log.specs.Steps.{Continues, KnowsSome, Leaves};
 ghost use Rattle.trade_off.specs.Least.{IsLeastUnder, AreBeside, AreAsked};
 
 use lex_search::{Below, MinFault, Oracle, Reply, Stop};
@@ -61,6 +61,7 @@ pub(crate) fn lower<O: Oracle>(
     ensures least { IfOk result (λ r. r.stop ≡ None → IsLeastUnder (O.task oracle.old) held.now c r.least) }
     ensures lines { IfOk result (λ r. Continues O.knows O.log O.learnt oracle.old oracle.new
         (AreAsked (O.task oracle.old) r.stop)) }
+    ensures leaves { OnErr result (Leaves [] (O.knows oracle.old) (O.log oracle.old) (O.log oracle.new)) }
     ensures later { O.is_later oracle.old oracle.new }
     ensures faults { O.faults oracle.old ≤ O.faults oracle.new }
     ensures cause { IsErrOf result MinFault.Log → Rose (O.faults oracle.old) (O.faults oracle.new) }

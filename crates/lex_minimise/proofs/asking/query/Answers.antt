@@ -1,8 +1,11 @@
-use Rattle.std.proofs.Common.{◌-◌, length, subst, arith}
-use Rattle.cdcl_core.specs.Belongs.{HasSpent, HasSolved}
+use Rattle.std.proofs.Common.{◌-◌, length, subst, arith, []}
+use Rattle.cdcl_core.specs.Belongs.{HasSpent, HasSolved, Belongs}
 use Rattle.drawing_problem.specs.Layout.{layout_of}
 use Rattle.lex_minimise.proofs.AskLemmas.{are_distinct}
 use Rattle.lex_minimise.proofs.QueryLemmas.{all_named, ready_after, search_goes}
+use Rattle.lex_minimise.proofs.LeftLemmas.{search_left}
+use Rattle.refute_log.proofs.StepLemmas.{leaves_known}
+use Rattle.lex_minimise.specs.Known.{KnowsLines}
 use Rattle.lex_minimise.proofs.asking.query.Goals as goal
 
 pub solve-requires-clause-distinct : goal.solve-requires-clause-distinct
@@ -38,3 +41,17 @@ returns-in-Ok-clause-lines g c =
     let value = c.vars.ensures.value in
     search_goes k.encoded k.told.items k.budget k.room old new c.args.bounds.now c.args.assume.now c.in-Ok.answer (l.tells c.args.log.now) (l.tells c.solve.new.log) (l.learnt c.args.log.now) (l.learnt c.solve.new.log)
     (omega arith) c.requires.ready c.requires.assumed s (c.in-Ok.ensures.answer k.encoded.formula.clauses c.requires.ready.given) (omega (arith, limit, same, is)) (omega (arith, vars, value))
+
+pub returns-in-Err-Log-clause-leaves : goal.returns-in-Err-Log-clause-leaves
+returns-in-Err-Log-clause-leaves g c =
+    let k = g.L.LogSink in
+    let x = c.args.known.now in
+    leaves_known [] (KnowsLines (layout_of x.encoded) x.told.items x.budget x.room c.args.solver.now) (λ ls. Belongs ls c.args.solver.now) (k.tells c.args.log.now) (k.tells c.solve.new.log) (λ lines b. b.belongs)
+    (search_left (λ ls. Belongs ls c.args.solver.now) (k.tells c.args.log.now) (k.tells c.solve.new.log) c.in-Err-Log.ensures.derives c.in-Err-Log.ensures.gives)
+
+pub returns-in-Err-Memory-clause-leaves : goal.returns-in-Err-Memory-clause-leaves
+returns-in-Err-Memory-clause-leaves g c =
+    let k = g.L.LogSink in
+    let x = c.args.known.now in
+    leaves_known [] (KnowsLines (layout_of x.encoded) x.told.items x.budget x.room c.args.solver.now) (λ ls. Belongs ls c.args.solver.now) (k.tells c.args.log.now) (k.tells c.solve.new.log) (λ lines b. b.belongs)
+    (search_left (λ ls. Belongs ls c.args.solver.now) (k.tells c.args.log.now) (k.tells c.solve.new.log) c.in-Err-Memory.ensures.derives c.in-Err-Memory.ensures.gives)

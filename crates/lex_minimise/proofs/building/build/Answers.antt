@@ -6,13 +6,16 @@ use Rattle.drawing_cnf.specs.Encoding.{Encoding, encoded_vars}
 use Rattle.drawing_problem.specs.Lists.{lines_of_bound}
 use Rattle.lex_search.specs.declared.oracle.Built.TheVariants.{NoRoom, Whole}
 use Rattle.lex_search.specs.Built.{IsBuild}
-use Rattle.drawing_problem.specs.Layout.{layout_of}
+use Rattle.drawing_problem.specs.Layout.{layout_of, problem_of}
 use Rattle.lex_minimise.specs.Known.{KnowsLines, IsReady}
 use Rattle.lex_minimise.specs.Task.{task_of}
 use Rattle.refute_log.specs.Steps.{GoesOn}
 use Rattle.lex_minimise.specs.Grown.{clauses_behind, PassesWith}
 use Rattle.lex_minimise.proofs.GrownLemmas.{some_grown, none_grown, grown_words, grown_rest, is_grown, no_room, grown_as, goes_as, goes_to, built_whole, build_goes}
 use Rattle.lex_minimise.proofs.RoomLemmas.{formula_passes, solver_passes, none_goes}
+use Rattle.refute_log.proofs.StepLemmas.{on_err_always, leaves_same, leaves_more}
+use Rattle.lex_minimise.proofs.LeftLemmas.{build_left}
+use Rattle.certified_values.specs.Expected.{sum_lines}
 use Rattle.lex_minimise.proofs.building.build.Goals as goal
 
 pub overflow_sub-more : goal.overflow_sub-more
@@ -125,3 +128,22 @@ returns-in_ok-tell_criterion-in-Some-clause-lines g c =
     o.told o.budget o.room grown.0
     (goes_to (layout_of n.encoded) (layout_of m.encoded) n.told.items n.budget m.budget n.room m.room new (KnowsLines (layout_of m.encoded) m.told.items m.budget m.room s) (l.tells c.args.log.now) (l.tells c.tell_criterion.new.log) (l.learnt c.args.log.now) (l.learnt c.tell_criterion.new.log)
     (λ lines more. more ≡ lines_of_bound m.encoded.graph (encoded_vars m.encoded) m.encoded.grid c.in-Some.bounds) (ap layout_of (sym t.encoded)) (sym t.budget) (sym t.room) t.lines)))
+
+pub returns-in_err-bounds_for-clause-leaves : goal.returns-in_err-bounds_for-clause-leaves
+returns-in_err-bounds_for-clause-leaves g c =
+    let k = g.L.LogSink in
+    let x = c.args.known.now in
+    let known = KnowsLines (layout_of x.encoded) x.told.items x.budget x.room c.args.solver.now in
+    on_err_always _ _ (leaves_more [] (sum_lines (problem_of (layout_of x.encoded)) c.args.solver.now.vars c.args.c c.args.cap) known (k.tells c.args.log.now) (k.tells c.args.log.now)
+    (leaves_same known (k.tells c.args.log.now) (λ lines b. b.belongs.derives) (g.met.L.LogSink.one_reading c.args.log.now)))
+
+pub returns-in_err-tell_criterion-in-Some-clause-leaves : goal.returns-in_err-tell_criterion-in-Some-clause-leaves
+returns-in_err-tell_criterion-in-Some-clause-leaves g c =
+    let k = g.L.LogSink in
+    let x = c.args.known.now in
+    let m = c.bounds_for.new.known in
+    let o = c.in_ok-bounds_for.ensures in
+    let b = bound c.args.c x.encoded.formula.vars c.args.cap in
+    let grown = some_grown c.in_ok-bounds_for.field-0 c.in-Some.bounds b (PassesWith x.encoded b) x.encoded m.encoded c.in-Some.is o.bounds in
+    on_err_always _ _ (build_left x.encoded m.encoded x.told.items m.told.items x.budget m.budget x.room m.room c.args.solver.now c.args.c c.args.cap c.in-Some.bounds (k.tells c.args.log.now) (k.tells c.tell_criterion.new.log)
+    c.requires.positive c.requires.ready grown.1 grown.0 o.told o.budget o.room c.in_err-tell_criterion-in-Some.ensures.leaves)

@@ -11,6 +11,8 @@ use Rattle.lex_minimise.specs.Known.{KnowsLines, IsReady}
 use Rattle.lex_minimise.specs.Task.{task_of}
 use Rattle.lex_minimise.proofs.StartLemmas.{nothing_told, layout_is, IsFirst, first_ready, first_knows, whole_told, if_ok_from}
 use Rattle.lex_minimise.proofs.FrontLemmas.{no_room_front}
+use Rattle.lex_minimise.proofs.LeftLemmas.{front_unbegun, front_begun, front_left}
+use Rattle.refute_log.proofs.StepLemmas.{on_err_always, on_err_weaker}
 use Rattle.lex_minimise.proofs.fronting.front_with.Goals as goal
 
 pub returns-in-Err-Room-clause-right : goal.returns-in-Err-Room-clause-right
@@ -96,3 +98,49 @@ returns-clause-lines g c =
     (λ r second. whole_told y budget room c.in-Ok.encoded c.formula.result.now (λ z lines. IsFrontLog (task_of z budget room) c.args.a c.args.b r.ending lines) c.args.solver.now c.add_clauses.new.solver c.front_from.new.solver
     (k.tells c.args.log.now) (k.tells c.add_clauses.new.log) (k.tells c.front_from.new.log) (k.learnt c.args.log.now) (k.learnt c.add_clauses.new.log) (k.learnt c.front_from.new.log)
     first c.formula.ensures c.requires.new c.in_ok-add_clauses.ensures.lines second)
+
+pub returns-in-Err-Memory-clause-left : goal.returns-in-Err-Memory-clause-left
+returns-in-Err-Memory-clause-left g c =
+    let k = g.L.LogSink in
+    λ none lines is. front_unbegun (layout c.args.g.now c.args.t.now c.args.grid.now) c.args.limits.now.budget c.args.limits.now.room c.args.a c.args.b (k.tells c.args.log.now) (g.met.L.LogSink.one_reading c.args.log.now) none lines is
+
+pub returns-in_err-add_clauses-clause-left : goal.returns-in_err-add_clauses-clause-left
+returns-in_err-add_clauses-clause-left g c =
+    let k = g.L.LogSink in
+    let e = c.in-Ok.ensures in
+    let y = layout c.args.g.now c.args.t.now c.args.grid.now in
+    let budget = c.args.limits.now.budget in
+    let room = c.args.limits.now.room in
+    let first : IsFirst y room c.in-Ok.encoded = record {
+      layout = layout_is c.in-Ok.encoded c.args.g.now c.args.t.now c.args.grid.now e.graph e.order e.grid;
+      whole = e.whole;
+      bounds = e.bounds;
+      kept = e.kept;
+      clauses = e.clauses;
+      vars = e.vars;
+      words_fit = e.words_fit refl;
+      vars_fit = e.vars_fit refl;
+      covers = e.covers;
+    } in
+    on_err_always _ _ (λ none lines is. front_begun y budget room c.args.a c.args.b c.in-Ok.encoded c.formula.result.now c.args.solver.now (k.tells c.args.log.now) (k.tells c.add_clauses.new.log) first c.formula.ensures c.requires.new c.in_err-add_clauses.ensures.leaves none lines is)
+
+pub returns-clause-left : goal.returns-clause-left
+returns-clause-left g c =
+    let k = g.L.LogSink in
+    let e = c.in-Ok.ensures in
+    let y = layout c.args.g.now c.args.t.now c.args.grid.now in
+    let budget = c.args.limits.now.budget in
+    let room = c.args.limits.now.room in
+    let first : IsFirst y room c.in-Ok.encoded = record {
+      layout = layout_is c.in-Ok.encoded c.args.g.now c.args.t.now c.args.grid.now e.graph e.order e.grid;
+      whole = e.whole;
+      bounds = e.bounds;
+      kept = e.kept;
+      clauses = e.clauses;
+      vars = e.vars;
+      words_fit = e.words_fit refl;
+      vars_fit = e.vars_fit refl;
+      covers = e.covers;
+    } in
+    on_err_weaker c.front_from.result _ _ (front_left y budget room c.args.a c.args.b c.in-Ok.encoded c.formula.result.now c.args.solver.now c.add_clauses.new.solver (k.tells c.args.log.now) (k.tells c.add_clauses.new.log) (k.tells c.front_from.new.log) (k.learnt c.args.log.now) (k.learnt c.add_clauses.new.log)
+    first c.formula.ensures c.requires.new c.in_ok-add_clauses.ensures.lines) c.front_from.ensures.left

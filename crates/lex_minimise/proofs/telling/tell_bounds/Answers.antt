@@ -5,6 +5,7 @@ use Rattle.refute_log.specs.Told.{AddsAll}
 use Rattle.certified_values.specs.Expected.{bound_lines}
 use Rattle.drawing_problem.specs.Lists.{variables_behind}
 use Rattle.lex_minimise.proofs.TellLemmas.{bounds_next, adds_then}
+use Rattle.lex_minimise.proofs.LeftLemmas.{bounds_left}
 use Rattle.lex_minimise.proofs.telling.tell_bounds.Goals as goal
 
 pub loop-i-preserved : goal.loop-i-preserved
@@ -21,3 +22,8 @@ loop-i-preserved g c =
       later = g.met.L.LogSink.later_more c.args.log.now c.loop-i.log c.tell.new.self c.loop-i.invariant.later c.tell.ensures.later;
       faults = (let a = c.loop-i.invariant.faults in let e = c.tell.ensures.faults in omega arith);
     }
+
+pub returns-in-Err-clause-leaves : goal.returns-in-Err-clause-leaves
+returns-in-Err-clause-leaves g c =
+    let k = g.L.LogSink in
+    bounds_left (k.tells c.args.log.now) (k.tells c.loop-i.log) (k.tells c.tell.new.self) c.args.bounds.now.criterion c.args.bounds.now.last c.loop-i.i c.args.bounds.now.cap (omega arith) c.loop-i.invariant.lines c.in-Err.ensures.err (g.met.L.LogSink.one_reading c.loop-i.log)

@@ -1,7 +1,7 @@
-use Rattle.std.proofs.Common.{◌≡◌, ◌++◌, ◌∙◌, ap}
+use Rattle.std.proofs.Common.{◌≡◌, ◌++◌, ◌∙◌, ap, ◌+◌, ◌∷◌, []}
 use Rattle.std.proofs.lemmas.Result.{IfOk-weaker}
 use Rattle.plan_core.specs.declared.criterion.Criterion.{Criterion}
-use Rattle.certified_values.specs.Expected.{with_cap}
+use Rattle.certified_values.specs.Expected.{with_cap, sum_lines, sum_vars_of, sums}
 use Rattle.lex_search.specs.declared.oracle.Built.TheVariants.{Whole}
 use Rattle.lex_search.specs.Task.{Task, greatest_of}
 use Rattle.lex_search.specs.Built.{IsBuild}
@@ -9,6 +9,8 @@ use Rattle.lex_search.specs.Outcome.{first_lines}
 use Rattle.refute_log.specs.Steps.{Continues}
 use Rattle.trade_off.specs.Outcome.{IsBuiltFront}
 use Rattle.trade_off.proofs.TellLemmas.{no_room_for_first, both_built, unbuilt_still, first_still, second_here}
+use Rattle.refute_log.proofs.StepLemmas.{on_err_always, on_err_weaker, leaves_more}
+use Rattle.trade_off.proofs.LeftLemmas.{both_left}
 use Rattle.trade_off.proofs.building.build_both.Goals as goal
 
 pub build_whole-requires-clause-none : goal.build_whole-requires-clause-none
@@ -55,3 +57,17 @@ returns-in-Whole-clause-lines g c = let o = g.O.Oracle in
     (λ r h. both_built o.knows o.log o.learnt a b e (o.task b) (o.task a) c.args.a c.args.b (o.vars a) (o.vars b) c.in_ok-build_whole.field-0 r c.build_whole.ensures.task c.in-Whole.is c.requires.fresh.vars_are (c.in_ok-build_whole.ensures.vars c.in-Whole.is)
     c.in_ok-build_whole.ensures.lines h)
     c.build_whole-in-Whole.ensures.lines
+
+pub returns-in_err-build_whole-clause-leaves : goal.returns-in_err-build_whole-clause-leaves
+returns-in_err-build_whole-clause-leaves g c = let o = g.O.Oracle in
+    let a = c.args.oracle.now in
+    let p = o.task a in
+    on_err_always _ _ (leaves_more (sum_lines p.encoding (o.vars a) c.args.a (greatest_of p c.args.a)) (sums p.encoding (o.vars a + sum_vars_of p.encoding (o.vars a) c.args.a (greatest_of p c.args.a)) (c.args.b ∷ []) (greatest_of p))
+    (o.knows a) (o.log a) (o.log c.build_whole.new.oracle) c.in_err-build_whole.ensures.leaves)
+
+pub returns-in-Whole-clause-leaves : goal.returns-in-Whole-clause-leaves
+returns-in-Whole-clause-leaves g c = let o = g.O.Oracle in
+    let a = c.args.oracle.now in
+    let b = c.build_whole.new.oracle in
+    on_err_weaker c.build_whole-in-Whole.result _ _ (both_left o.knows o.log o.learnt a b c.build_whole-in-Whole.new.oracle (o.task b) (o.task a) c.args.a c.args.b (o.vars a) (o.vars b) c.in_ok-build_whole.field-0
+    c.build_whole.ensures.task c.in-Whole.is (c.in_ok-build_whole.ensures.vars c.in-Whole.is) c.in_ok-build_whole.ensures.lines) c.build_whole-in-Whole.ensures.leaves

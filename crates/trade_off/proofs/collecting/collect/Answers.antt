@@ -11,6 +11,8 @@ use Rattle.trade_off.specs.Next.{IsNextPair, stop_of}
 use Rattle.trade_off.specs.Outcome.{IsRightFront, stop_behind}
 use Rattle.trade_off.proofs.AskLemmas.{asked_then}
 use Rattle.trade_off.proofs.FrontLemmas.{right_empty, right_stopped_first, stopped_behind, next_is}
+use Rattle.refute_log.proofs.StepLemmas.{on_err_always, on_err_weaker}
+use Rattle.trade_off.proofs.LeftLemmas.{asked_later}
 use Rattle.trade_off.proofs.collecting.collect.Goals as goal
 
 pub further_pairs-requires-clause-caps_first : goal.further_pairs-requires-clause-caps_first
@@ -59,3 +61,11 @@ returns-in-Stopped-clause-lines g c = let o = g.O.Oracle in
     let a = c.args.oracle.now in
     subst (λ (s : Option Stop). Continues o.knows o.log o.learnt a c.next_pair.new.oracle (AreAsked (o.task a) s)) (sym (stopped_behind c.in-Stopped.stop c.stopped_by.result c.stopped_by.ensures))
     (subst (λ (x : Next). Continues o.knows o.log o.learnt a c.next_pair.new.oracle (AreAsked (o.task a) (stop_of x))) c.in-Stopped.is c.in_ok-first.ensures.lines)
+
+pub returns-in_err-first-clause-leaves : goal.returns-in_err-first-clause-leaves
+returns-in_err-first-clause-leaves g c = let o = g.O.Oracle in
+    on_err_always _ _ c.in_err-first.ensures.leaves
+
+pub returns-in-Pair-clause-leaves : goal.returns-in-Pair-clause-leaves
+returns-in-Pair-clause-leaves g c = let o = g.O.Oracle in
+    on_err_weaker c.further_pairs.result _ _ (asked_later o.knows o.log o.learnt c.args.oracle.now c.next_pair.new.oracle c.further_pairs.new.oracle (o.task c.args.oracle.now) (stop_of c.in_ok-first.field-0) c.in_ok-first.ensures.lines) c.further_pairs.ensures.leaves

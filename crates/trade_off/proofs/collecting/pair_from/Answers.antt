@@ -11,6 +11,8 @@ use Rattle.trade_off.specs.Least.{AreAsked}
 use Rattle.trade_off.specs.Next.{IsNext, IsSecondOf, stop_of}
 use Rattle.trade_off.proofs.AskLemmas.{asked_then}
 use Rattle.trade_off.proofs.NextLemmas.{under_within, under_beside, next_from}
+use Rattle.refute_log.proofs.StepLemmas.{on_err_always, on_err_weaker, leaves_same}
+use Rattle.trade_off.proofs.LeftLemmas.{asked_later}
 use Rattle.trade_off.proofs.collecting.pair_from.Goals as goal
 
 pub lower-requires-clause-held : goal.lower-requires-clause-held
@@ -58,3 +60,15 @@ returns-clause-next g c = let o = g.O.Oracle in
     (λ r h. next_from p c.args.a c.args.b c.args.limit c.deref.result.now d r (c.deref.ensures.value ∙ c.in_ok-held.ensures) c.in_ok-lowered.ensures.lawful c.in_ok-lowered.ensures.met (c.in_ok-lowered.ensures.least c.in-None.is)
     (subst (λ (q : Task). IsSecondOf q c.args.a c.args.b d r) c.lower.ensures.task h))
     c.second_from.ensures.next
+
+pub returns-in_err-held-clause-leaves : goal.returns-in_err-held-clause-leaves
+returns-in_err-held-clause-leaves g c = let o = g.O.Oracle in
+    on_err_always _ _ (leaves_same (o.knows c.args.oracle.now) (o.log c.args.oracle.now) (g.met.O.Oracle.derives c.args.oracle.now) (g.met.O.Oracle.one_reading c.args.oracle.now))
+
+pub returns-in_err-lowered-clause-leaves : goal.returns-in_err-lowered-clause-leaves
+returns-in_err-lowered-clause-leaves g c = let o = g.O.Oracle in
+    on_err_always _ _ c.in_err-lowered.ensures.leaves
+
+pub returns-clause-leaves : goal.returns-clause-leaves
+returns-clause-leaves g c = let o = g.O.Oracle in
+    on_err_weaker c.second_from.result _ _ (asked_later o.knows o.log o.learnt c.args.oracle.now c.lower.new.oracle c.second_from.new.oracle (o.task c.args.oracle.now) c.in_ok-lowered.lowered.stop c.in_ok-lowered.ensures.lines) c.second_from.ensures.leaves

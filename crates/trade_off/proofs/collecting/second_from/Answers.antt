@@ -7,6 +7,7 @@ use Rattle.lex_search.specs.State.{hold}
 use Rattle.refute_log.specs.Steps.{Continues}
 use Rattle.trade_off.specs.Least.{AreAsked}
 use Rattle.trade_off.proofs.NextLemmas.{hold_within, hold_beside, hold_meets, second_there}
+use Rattle.refute_log.proofs.StepLemmas.{on_err_always, leaves_same}
 use Rattle.trade_off.proofs.collecting.second_from.Goals as goal
 
 pub lower-requires-clause-held : goal.lower-requires-clause-held
@@ -33,3 +34,11 @@ returns-clause-next g c = let o = g.O.Oracle in
     let held = c.deref.ensures.value ∙ c.in_ok-held.ensures ∙ ap (hold c.args.a c.of-first.result) c.greatest-most.ensures in
     second_there p c.args.a c.args.b c.of-first.result c.of.result c.deref.result.now c.args.least c.in_ok-lowered.lowered.least first second held
     c.in_ok-lowered.ensures.lawful c.in_ok-lowered.ensures.met c.in_ok-lowered.ensures.no_more (c.in_ok-lowered.ensures.least c.in-None.is)
+
+pub returns-in_err-held-clause-leaves : goal.returns-in_err-held-clause-leaves
+returns-in_err-held-clause-leaves g c = let o = g.O.Oracle in
+    on_err_always _ _ (leaves_same (o.knows c.args.oracle.now) (o.log c.args.oracle.now) (g.met.O.Oracle.derives c.args.oracle.now) (g.met.O.Oracle.one_reading c.args.oracle.now))
+
+pub returns-in_err-lowered-clause-leaves : goal.returns-in_err-lowered-clause-leaves
+returns-in_err-lowered-clause-leaves g c = let o = g.O.Oracle in
+    on_err_always _ _ c.in_err-lowered.ensures.leaves

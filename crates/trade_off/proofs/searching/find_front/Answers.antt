@@ -7,9 +7,10 @@ use Rattle.refute_log.specs.Steps.{ToldBehind, Continues}
 use Rattle.trade_off.specs.Front.{IsFrontUpTo}
 use Rattle.trade_off.specs.Least.{AreAsked}
 use Rattle.trade_off.specs.Outcome.{IsRightFront, IsFrontLog, IsBuiltFront, stop_behind}
-use Rattle.refute_log.proofs.StepLemmas.{known_after}
+use Rattle.refute_log.proofs.StepLemmas.{known_after, on_err_always, on_err_weaker}
 use Rattle.trade_off.proofs.FrontLemmas.{up_to_none}
 use Rattle.trade_off.proofs.TellLemmas.{laws_at, tells_no_room, tells_front}
+use Rattle.trade_off.proofs.LeftLemmas.{build_left, collect_left}
 use Rattle.trade_off.proofs.searching.find_front.Goals as goal
 
 pub returns-in-NoRoom-clause-right : goal.returns-in-NoRoom-clause-right
@@ -58,3 +59,14 @@ returns-in-Whole-clause-lines g c = let o = g.O.Oracle in
     (record { covers = g.met.O.Oracle.covers e; formed = g.met.O.Oracle.formed e; derives = g.met.O.Oracle.derives e; due = g.met.O.Oracle.due e; fits = g.met.O.Oracle.fits e; within = g.met.O.Oracle.within e }))
     c.requires.start c.in_ok-build_both.ensures.lines h)
     c.collect.ensures.lines
+
+pub returns-in_err-build_both-clause-left : goal.returns-in_err-build_both-clause-left
+returns-in_err-build_both-clause-left g c = let o = g.O.Oracle in
+    let s = c.args.oracle.now in
+    on_err_always _ _ (build_left o.knows o.log s c.build_both.new.oracle (o.task s) c.args.a c.args.b (o.vars s) c.requires.fresh.vars_are c.requires.start c.in_err-build_both.ensures.leaves)
+
+pub returns-in-Whole-clause-left : goal.returns-in-Whole-clause-left
+returns-in-Whole-clause-left g c = let o = g.O.Oracle in
+    let s = c.args.oracle.now in
+    let t = c.build_both.new.oracle in
+    on_err_weaker c.collect.result _ _ (collect_left o.knows o.log o.learnt s t c.collect.new.oracle (o.task s) c.args.a c.args.b c.in_ok-build_both.field-0 c.in-Whole.is c.requires.start c.in_ok-build_both.ensures.lines) c.collect.ensures.leaves

@@ -1,0 +1,201 @@
+-- What a log tells after an error.
+use Rattle.std.proofs.Common.{◌≡◌, ◌≤◌, ◌<◌, ℕ, zero, suc, ◌+◌, ◌-◌, ◌⊎◌, List, [], ◌∷◌, ◌++◌, length, take, drop, map, get_or, refl, sym, ◌∙◌, ap, subst, inl, inr, arith, append-nil, append_assoc}
+use Rattle.std.proofs.lemmas.List.{map-append, take-append-drop}
+use Rattle.std.proofs.lemmas.List.Elements.{All-nil}
+use Rattle.plan_core.specs.declared.criterion.Criterion.{Criterion}
+use Rattle.cnf_core.specs.declared.literal.Var.{Var}
+use Rattle.cnf_core.specs.Lit.{Literal}
+use Rattle.cnf_core.specs.Clause.{Clauses}
+use Rattle.cnf_core.specs.Formula.{Cnf}
+use Rattle.refute_log.specs.declared.line.LogLine.TheVariants.{Formula, Bound as BoundLine}
+use Rattle.refute_log.specs.Told.{Lines, AddsAll, TellsNoMore}
+use Rattle.refute_log.specs.Log.{facts_of, clause_lines, BeginsLines, Derives}
+use Rattle.refute_log.specs.Steps.{ToldBehind, GoesOn, StillDerives, GivesNoMore, Leaves}
+use Rattle.refute_log.proofs.LogLemmas.{derives_none, derives_more}
+use Rattle.refute_log.proofs.StepLemmas.{leaves_more, leaves_known, leaves_then}
+use Rattle.certified_values.specs.Expected.{bound_lines, sum_lines, sums}
+use Rattle.drawing_cnf.specs.Encoding.{Encoding, encoded_vars}
+use Rattle.drawing_cnf.specs.Expected.{drawing_vars}
+use Rattle.drawing_cnf.specs.Bounded.{Bound, bound, clauses_of_bound}
+use Rattle.track_order.specs.Order.{is_above, is_overlap}
+use Rattle.cdcl_core.specs.Kept.{Kept, blank}
+use Rattle.cdcl_core.specs.Belongs.{Belongs, GivesAtMost}
+use Rattle.cdcl_core.proofs.ViewLemmas.{new_belongs}
+use Rattle.lex_search.proofs.QuestionLemmas.{clause_lines_append}
+use Rattle.lex_search.proofs.BuildLemmas.{formulas_are_clauses, bounds_are_clauses}
+use Rattle.lex_search.specs.Task.{Task, greatest_of}
+use Rattle.lex_search.specs.Outcome.{first_lines}
+use Rattle.drawing_problem.specs.Lists.{variables_behind, lines_of_bound}
+use Rattle.drawing_problem.specs.Layout.{Layout, problem_of, layout_of}
+use Rattle.drawing_problem.proofs.ListLemmas.{sum_is_bound}
+use Rattle.trade_off.specs.Outcome.{front_lines, IsFrontLeft}
+use Rattle.lex_minimise.specs.Known.{KnowsLines, IsReady}
+use Rattle.lex_minimise.specs.Task.{task_of}
+use Rattle.lex_minimise.specs.Grown.{HasGrown, IsGrown}
+use Rattle.lex_minimise.proofs.TellLemmas.{goes_weaker, told_next}
+use Rattle.lex_minimise.proofs.StartLemmas.{IsFirst, first_does}
+
+-- ---- clauses
+
+-- one clause was to be given
+pub clause_left : (known before now : Lines → Type 0) (c d : List Literal) → d ≡ c → StillDerives known before now → GivesAtMost before now d → Leaves (Formula c ∷ []) known before now
+clause_left known before now c d same still most = λ lines k was told is. record {
+  derives = still lines k was told is;
+  front = (by lines told (most lines was told is)).0;
+  begins = (by lines told (most lines was told is)).1;
+  gives = (by lines told (most lines was told is)).2;
+}
+  where
+    by : (lines told : Lines) → (clause_lines told ≡ clause_lines lines) ⊎ (clause_lines told ≡ clause_lines lines ++ Formula d ∷ []) → (front : Lines) × BeginsLines front (Formula c ∷ []) × (clause_lines told ≡ clause_lines lines ++ front)
+    by lines told (inl e) = ([], (Formula c ∷ [], refl), e ∙ sym (append-nil (clause_lines lines)))
+    by lines told (inr e) = (Formula c ∷ [], ([], refl), e ∙ ap (λ (x : List Literal). clause_lines lines ++ Formula x ∷ []) same)
+
+-- no clause was to be given
+pub search_left : (known before now : Lines → Type 0) → StillDerives known before now → GivesNoMore before now → Leaves [] known before now
+search_left known before now still no_more = λ lines k was told is. record {
+  derives = still lines k was told is;
+  front = [];
+  begins = ([], refl);
+  gives = no_more lines was told is ∙ sym (append-nil (clause_lines lines));
+}
+
+-- the clauses up to one of them were given
+pub clauses_left : (k0 k1 l0 l1 l2 : Lines → Type 0) (n0 n1 : ℕ) (cs : Clauses) (from at : ℕ) → from ≤ at → at < length cs →
+    GoesOn k0 k1 l0 l1 n0 n1 (λ lines more. more ≡ map Formula (take (at - from) (drop from cs))) → Leaves (Formula (get_or cs at []) ∷ []) k1 l1 l2 → Leaves (map Formula (drop from cs)) k0 l0 l2
+clauses_left k0 k1 l0 l1 l2 n0 n1 cs from at low high goes h =
+    let ds = drop from cs in
+    let before = take (at - from) ds in
+    let m = (at + 1) - from in
+    let xs = map Formula before in
+    let ys = Formula (get_or cs at []) ∷ [] in
+    let whole : (xs ++ ys) ++ map Formula (drop m ds) ≡ map Formula ds =
+    ap (λ (ls : Lines). ls ++ map Formula (drop m ds)) (sym (map-append Formula before (get_or cs at [] ∷ [])) ∙ ap (map Formula) (told_next cs from at low high))
+    ∙ sym (map-append Formula (take m ds) (drop m ds)) ∙ ap (map Formula) (take-append-drop m ds) in
+    subst (λ (ls : Lines). Leaves ls k0 l0 l2) whole
+    (leaves_more (xs ++ ys) (map Formula (drop m ds)) k0 l0 l2
+    (leaves_then k0 k1 l0 l1 l2 n0 n1 (λ lines more. more ≡ xs) xs ys goes
+    (λ lines more ka kb r. clause_lines_append lines more ∙ ap (λ (ls : Lines). clause_lines lines ++ ls) (ap clause_lines r ∙ formulas_are_clauses before)) h))
+
+-- ---- Bound lines
+
+bounds_begin : (c : Criterion) (k last i n : ℕ) → i ≤ n → BeginsLines (bound_lines c k (variables_behind last i)) (bound_lines c k (variables_behind last n))
+bounds_begin c k last zero n le = (bound_lines c k (variables_behind last n), refl)
+bounds_begin c k last (suc i) zero le = absurd (omega (arith, le))
+bounds_begin c k last (suc i) (suc n) le =
+    let rest = bounds_begin c (k + 1) (last + 1) i n (omega (arith, le)) in
+    (rest.0, ap (λ (ls : Lines). BoundLine c k (record { 0 = last + 1 }) ∷ ls) rest.1)
+
+bounds_derive : (lines : Lines) (c : Criterion) (k : ℕ) (xs : List Var) → Derives lines → Derives (lines ++ bound_lines c k xs)
+bounds_derive lines c k [] h = subst Derives (sym (append-nil lines)) h
+bounds_derive lines c k (x ∷ xs) h =
+    subst Derives (append_assoc lines (BoundLine c k x ∷ []) (bound_lines c (k + 1) xs))
+    (bounds_derive (lines ++ BoundLine c k x ∷ []) c (k + 1) xs
+    (derives_more lines (BoundLine c k x) h (record { named = All-nil (λ (l : Literal). l.var ≤ (facts_of lines).greatest); answers = tt; implied = tt; says_more = tt })))
+
+-- the Bound lines up to one of them were told, and no more
+pub bounds_left : (l0 l1 l2 : Lines → Type 0) (c : Criterion) (last i n : ℕ) → i ≤ n → AddsAll l0 l1 (bound_lines c 1 (variables_behind last i)) → TellsNoMore l1 l2 → ((x y : Lines) → l1 x → l1 y → x ≡ y) →
+    Leaves (bound_lines c 1 (variables_behind last n)) Derives l0 l2
+bounds_left l0 l1 l2 c last i n le adds fewer one = λ lines d was told is.
+    let xs = bound_lines c 1 (variables_behind last i) in
+    let same : told ≡ lines ++ xs = one told (lines ++ xs) (fewer told is) (adds lines was) in
+    record {
+      derives = subst Derives (sym same) (bounds_derive lines c 1 (variables_behind last i) d);
+      front = xs;
+      begins = bounds_begin c 1 last i n le;
+      gives = ap clause_lines same ∙ clause_lines_append lines xs ∙ ap (λ (ls : Lines). clause_lines lines ++ ls) (bounds_are_clauses c 1 (variables_behind last i));
+    }
+
+-- all were told
+pub bounds_all : (l0 l1 : Lines → Type 0) (c : Criterion) (last n : ℕ) → AddsAll l0 l1 (bound_lines c 1 (variables_behind last n)) → ((x y : Lines) → l1 x → l1 y → x ≡ y) →
+    Leaves (bound_lines c 1 (variables_behind last n)) Derives l0 l1
+bounds_all l0 l1 c last n adds one = bounds_left l0 l1 l1 c last n n (omega arith) adds (λ lines h. h) one
+
+-- ---- a criterion's lines
+
+pub criterion_left : (e : Encoding) (told : List Bound) (budget room : ℕ) (b : Bound) (n : ℕ) (old new : Kept) (l0 l1 l2 : Lines → Type 0) (n0 n1 : ℕ) → IsGrown e told budget room b n old →
+    GoesOn (λ ls. Belongs ls old) (λ ls. Belongs ls new) l0 l1 n0 n1 (λ lines more. more ≡ map Formula (drop n e.formula.clauses)) →
+    Leaves (bound_lines b.criterion 1 (variables_behind b.last b.cap)) Derives l1 l2 →
+    Leaves (lines_of_bound e.graph (encoded_vars e) e.grid b) (KnowsLines (layout_of e) told budget room old) l0 l2
+criterion_left e told budget room b n old new l0 l1 l2 n0 n1 g goes h =
+    let cs = drop n e.formula.clauses in
+    let xs = map Formula cs in
+    let ys = bound_lines b.criterion 1 (variables_behind b.last b.cap) in
+    subst (λ (ds : Clauses). Leaves (map Formula ds ++ ys) (KnowsLines (layout_of e) told budget room old) l0 l2) g.rest
+    (leaves_known (xs ++ ys) (KnowsLines (layout_of e) told budget room old) (λ ls. Belongs ls old) l0 l2 (λ lines k. k.belongs)
+    (leaves_then (λ ls. Belongs ls old) (λ ls. Belongs ls new) l0 l1 l2 n0 n1 (λ lines more. more ≡ xs) xs ys goes
+    (λ lines more ka kb r. clause_lines_append lines more ∙ ap (λ (ls : Lines). clause_lines lines ++ ls) (ap clause_lines r ∙ formulas_are_clauses cs))
+    (leaves_known ys (λ ls. Belongs ls new) Derives l1 l2 (λ lines k. k.derives) h)))
+
+-- in its clauses already
+pub criterion_begun : (e : Encoding) (told : List Bound) (budget room : ℕ) (b : Bound) (n : ℕ) (old : Kept) (l0 l1 : Lines → Type 0) → IsGrown e told budget room b n old →
+    Leaves (map Formula (drop n e.formula.clauses)) (λ ls. Belongs ls old) l0 l1 →
+    Leaves (lines_of_bound e.graph (encoded_vars e) e.grid b) (KnowsLines (layout_of e) told budget room old) l0 l1
+criterion_begun e told budget room b n old l0 l1 g h =
+    let xs = map Formula (drop n e.formula.clauses) in
+    let ys = bound_lines b.criterion 1 (variables_behind b.last b.cap) in
+    subst (λ (ds : Clauses). Leaves (map Formula ds ++ ys) (KnowsLines (layout_of e) told budget room old) l0 l1) g.rest
+    (leaves_more xs ys (KnowsLines (layout_of e) told budget room old) l0 l1
+    (leaves_known xs (KnowsLines (layout_of e) told budget room old) (λ ls. Belongs ls old) l0 l1 (λ lines k. k.belongs) h))
+
+-- the same by the formula before
+pub build_left : (old new : Encoding) (told ts : List Bound) (budget spend room size : ℕ) (k : Kept) (c : Criterion) (cap : ℕ) (b : Bound) (l0 l1 : Lines → Type 0) → 1 ≤ cap → IsReady old told budget room k → HasGrown old new (bound c old.formula.vars cap) →
+    b ≡ bound c old.formula.vars cap → ts ≡ told → spend ≡ budget → size ≡ room →
+    Leaves (lines_of_bound new.graph (encoded_vars new) new.grid b) (KnowsLines (layout_of new) ts spend size k) l0 l1 →
+    Leaves (sum_lines (problem_of (layout_of old)) k.vars c cap) (KnowsLines (layout_of old) told budget room k) l0 l1
+build_left old new told ts budget spend room size k c cap b l0 l1 positive ready g is_bound is_told is_budget is_room h =
+    let a = bound c old.formula.vars cap in
+    let same : lines_of_bound old.graph (drawing_vars old.graph old.grid) old.grid a ≡ sum_lines (problem_of (layout_of old)) k.vars c cap =
+    ap (λ n. lines_of_bound old.graph (drawing_vars old.graph old.grid) old.grid (bound c n cap)) (sym ready.vars) ∙ sym (sum_is_bound old.graph (is_above old.order) (is_overlap old.order) old.grid k.vars c cap positive) in
+    subst (λ (ls : Lines). Leaves ls (KnowsLines (layout_of old) told budget room k) l0 l1) same
+    (subst (λ (y : Layout). Leaves (lines_of_bound y.graph (drawing_vars y.graph y.grid) y.grid a) (KnowsLines y told budget room k) l0 l1) g.layout
+    (subst (λ (x : Bound). Leaves (lines_of_bound new.graph (encoded_vars new) new.grid x) (KnowsLines (layout_of new) told budget room k) l0 l1) is_bound
+    (subst (λ (xs : List Bound). Leaves (lines_of_bound new.graph (encoded_vars new) new.grid b) (KnowsLines (layout_of new) xs budget room k) l0 l1) is_told
+    (subst (λ n. Leaves (lines_of_bound new.graph (encoded_vars new) new.grid b) (KnowsLines (layout_of new) ts n room k) l0 l1) is_budget
+    (subst (λ n. Leaves (lines_of_bound new.graph (encoded_vars new) new.grid b) (KnowsLines (layout_of new) ts spend n k) l0 l1) is_room h)))))
+
+-- ---- a question
+
+-- the solver answered, and then an error came that told nothing
+pub answer_left : (y : Layout) (told : List Bound) (budget room : ℕ) (old new : Kept) (l0 l1 : Lines → Type 0) (n0 n1 : ℕ) (R : Lines → Lines → Type 0) →
+    GoesOn (KnowsLines y told budget room old) (KnowsLines y told budget room new) l0 l1 n0 n1 R → Leaves [] (KnowsLines y told budget room new) l1 l1 → Leaves [] (KnowsLines y told budget room old) l0 l1
+answer_left y told budget room old new l0 l1 n0 n1 R goes h =
+    leaves_then (KnowsLines y told budget room old) (KnowsLines y told budget room new) l0 l1 l1 n0 n1 R [] [] goes
+    (λ lines more ka kb r. kb.told_are ∙ sym ka.told_are ∙ sym (append-nil (clause_lines lines))) h
+
+-- ---- the front
+
+abbrev front_rest : Task → Criterion → Criterion → Lines
+front_rest p a b = sums p.encoding p.encoding.vars (a ∷ b ∷ []) (greatest_of p)
+
+-- nothing was told
+pub front_unbegun : (y : Layout) (budget room : ℕ) (a b : Criterion) (log : Lines → Type 0) → ((x z : Lines) → log x → log z → x ≡ z) → log [] → (lines : Lines) → log lines → IsFrontLeft (task_of y budget room) a b lines
+front_unbegun y budget room a b log one none lines is =
+    let p = task_of y budget room in
+    subst (IsFrontLeft p a b) (one [] lines none is) (record { derives = derives_none; begins = (front_lines p a b, refl) })
+
+-- an error in the formula's clauses
+pub front_begun : (y : Layout) (budget room : ℕ) (a b : Criterion) (e : Encoding) (f : Cnf) (old : Kept) (l0 l1 : Lines → Type 0) → IsFirst y room e → f ≡ e.formula → old ≡ blank room →
+    Leaves (map Formula (drop 0 f.clauses)) (λ ls. Belongs ls old) l0 l1 → l0 [] → (lines : Lines) → l1 lines → IsFrontLeft (task_of y budget room) a b lines
+front_begun y budget room a b e f old l0 l1 first is blank_is h none lines told =
+    let p = task_of y budget room in
+    let left = h [] (new_belongs old room blank_is) none lines told in
+    let clauses : map Formula (drop 0 f.clauses) ≡ first_lines p = first_does y budget room e f (map Formula (drop 0 f.clauses)) first is refl ∙ ap (λ (z : Layout). first_lines (task_of z budget room)) first.layout in
+    let all : front_lines p a b ≡ first_lines p ++ (front_rest p a b) = refl in
+    let rest = left.begins.0 in
+    record {
+      derives = left.derives;
+      begins = (
+        rest ++ front_rest p a b,
+        all ∙ ap (λ (ls : Lines). ls ++ front_rest p a b) (sym clauses ∙ left.begins.1 ∙ ap (λ (ls : Lines). ls ++ rest) (sym left.gives)) ∙ append_assoc (clause_lines lines) rest (front_rest p a b),
+      );
+    }
+
+-- an error behind the formula's clauses
+pub front_left : (y : Layout) (budget room : ℕ) (a b : Criterion) (e : Encoding) (f : Cnf) (old mid : Kept) (l0 l1 l2 : Lines → Type 0) (n0 n1 : ℕ) → IsFirst y room e → f ≡ e.formula → old ≡ blank room →
+    GoesOn (λ ls. Belongs ls old) (λ ls. Belongs ls mid) l0 l1 n0 n1 (λ lines more. more ≡ map Formula (drop 0 f.clauses)) →
+    (l1 (first_lines (task_of (layout_of e) budget room)) → (lines : Lines) → l2 lines → IsFrontLeft (task_of (layout_of e) budget room) a b lines) →
+    l0 [] → (lines : Lines) → l2 lines → IsFrontLeft (task_of y budget room) a b lines
+front_left y budget room a b e f old mid l0 l1 l2 n0 n1 first is blank_is goes h none lines told =
+    let run : ToldBehind (λ ls. Belongs ls mid) l0 l1 n0 n1 [] (λ more. more ≡ map Formula (drop 0 f.clauses)) = goes [] (new_belongs old room blank_is) in
+    let start = subst l1 (first_does y budget room e f run.more first is run.does) (run.told [] none) in
+    subst (λ (z : Layout). IsFrontLeft (task_of z budget room) a b lines) first.layout (h start lines told)
