@@ -1,9 +1,10 @@
 // The nodes' integers, numbered from west to east.
-ghost use Rattle.std.specs.Prelude.{◌≡◌, ◌≤◌, ◌<◌, ◌+◌, ◌*◌, length};
+ghost use Rattle.std.specs.Prelude.{◌≡◌, ◌≤◌, ◌<◌, ◌+◌, ◌*◌, ℕ, length};
 ghost use Rattle.plan_core.specs.declared.limits.TheConstants.{MAX_NODES};
 ghost use Rattle.plan_core.specs.Grid.{IsGrid};
+ghost use Rattle.drawing_cnf.specs.Stands.{NodeThere};
 ghost use Rattle.drawing_cnf.specs.Rank.{comes_before, one_when, west_rank};
-ghost use Rattle.drawing_cnf.specs.Expected.{ints_at_place, edges_first};
+ghost use Rattle.drawing_cnf.specs.Expected.{ints_at_place, drawing_vars, edges_first};
 
 use cnf_core::Var;
 use edge_shape::NodeVars;
@@ -67,9 +68,10 @@ fn node_vars_at(grid: &Grid, place: u16) -> NodeVars
 /// The integers of a node, in each formula that begins with the variables of a graph's nodes on a grid.
 pub fn node_vars(g: &PortGraph, grid: &Grid, n: NodeNo) -> NodeVars
     requires { n.0 < length g.now.nodes }
-    ensures x { result.x ≡ (ints_at_place grid.now (west_rank g.now n.0)).x }
-    ensures y { result.y ≡ (ints_at_place grid.now (west_rank g.now n.0)).y }
+    ensures x { result.x ≡ ((drawing_vars g.now grid.now).node n.0).x }
+    ensures y { result.y ≡ ((drawing_vars g.now grid.now).node n.0).y }
     ensures grid { IsGrid grid.now }
+    ensures there { (vars : ℕ) → edges_first g.now grid.now ≤ vars + 1 → NodeThere vars ((drawing_vars g.now grid.now).node n.0) }
     ensures within { 1 + west_rank g.now n.0 * (grid.now.height + grid.now.width) + grid.now.height + grid.now.width
         ≤ edges_first g.now grid.now }
 {

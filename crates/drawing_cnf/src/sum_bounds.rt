@@ -3,13 +3,14 @@ ghost use Rattle.std.specs.Prelude.{◌≡◌, ◌≤◌, ◌<◌, ◌+◌, ℕ,
 ghost use Rattle.cnf_core.specs.declared.limits.TheConstants.{VARS};
 ghost use Rattle.cnf_core.specs.Lit.{positive_of};
 ghost use Rattle.cnf_core.specs.Clause.{AreThere};
+ghost use Rattle.cnf_core.specs.Assignment.{Assignment, SatisfiesAll, Extends};
 ghost use Rattle.cnf_core.specs.LitOrTruth.{yes, flip, clause_of, IsWithin};
 ghost use Rattle.cnf_core.specs.Formula.{each};
 ghost use Rattle.cnf_core.specs.Added.{AddsClauses, AddsBlock};
 ghost use Rattle.unary_sum.specs.Part.{IsLit};
-ghost use Rattle.unary_sum.specs.Sum.{sum_vars, sum_count, sum_at_least};
+ghost use Rattle.unary_sum.specs.Sum.{sum_vars, sum_count, sum_at_least, count_true};
 ghost use Rattle.drawing_cnf.specs.Expected.{drawing_vars, laws_first};
-ghost use Rattle.drawing_cnf.specs.Bounds.{same_as, sum_bound, bend_lits, bends_sum, bends_bound, bends_bound_size, west_first};
+ghost use Rattle.drawing_cnf.specs.Bounds.{IsExact, same_as, sum_bound, bend_lits, bends_sum, bends_bound, bends_bound_size, west_first};
 
 use crate::edge_laws::edge_vars;
 use crate::guards::same;
@@ -82,7 +83,34 @@ fn add_outputs(f: &mut Formula, s: &Sum, cap: u32, last: u32) -> Result<(), CnfF
 }
 
 /// A sum, and the variables behind number `last` as its outputs, up to a cap; answers the sum.
+///
+/// Where its clauses are satisfied, these variables say how many of the inputs are true; and where they say it, the sum's own
+/// variables can be chosen so.
 pub fn add_sum_bound(
+    alloc: Global,
+    f: &mut Formula,
+    inputs: &[Lit],
+    cap: u32,
+    last: u32,
+) -> Result<Sum, CnfFault>
+    requires limit { f.old.vars ≤ VARS }
+    requires inputs { AreThere f.old.vars inputs.now }
+    requires few { length inputs.now ≤ 65535 }
+    requires cap { cap ≤ 65535 }
+    requires before { last + cap ≤ f.old.vars }
+    ensures sum { IfOk result (λ s. s ≡ sum_vars inputs.now cap f.old.vars) }
+    ensures adds { let s = sum_vars inputs.now cap f.old.vars in AddsBlock result f.old f.new (sum_count s) (sum_bound s last) 3 }
+    ensures exact { (v : Assignment) → SatisfiesAll v (sum_bound (sum_vars inputs.now cap f.old.vars) last) →
+        IsExact v last cap (count_true v inputs.now) }
+    ensures extends { let s = sum_vars inputs.now cap f.old.vars in
+        (v : Assignment) → IsExact v last cap (count_true v inputs.now) →
+        Extends (f.old.vars + 1) (sum_count s) v (λ w. SatisfiesAll w (sum_bound s last)) }
+{
+    make_sum_bound(alloc, f, inputs, cap, last)
+}
+
+/// The same, without what its clauses say.
+fn make_sum_bound(
     alloc: Global,
     f: &mut Formula,
     inputs: &[Lit],
