@@ -1,5 +1,5 @@
 // The formula in which an explanation is looked for.
-ghost use Rattle.std.specs.Prelude.{◌≡◌, ◌≤◌, ◌<◌, ◌⊎◌, IfOk, IsErrOf, map};
+ghost use Rattle.std.specs.Prelude.{◌≡◌, ◌≤◌, ◌<◌, ◌⊎◌, IsOk, IfOk, IsErrOf, map};
 ghost use Rattle.cnf_core.specs.declared.limits.TheConstants.{VARS, ROOM};
 ghost use Rattle.cnf_core.specs.declared.fault.CnfFault.TheVariants.{Room};
 ghost use Rattle.cnf_core.specs.Clause.{words_of};
@@ -42,6 +42,9 @@ fn make_why_formula(
     ensures clauses { IfOk result
         (λ w. w.formula.clauses ≡ why_clauses g.now (is_above t.now) (is_overlap t.now) grid.now) }
     ensures vars { IfOk result (λ w. w.formula.vars ≡ why_size g.now (is_above t.now) (is_overlap t.now) grid.now) }
+    ensures kept { IfOk result (λ w. w.formula.room ≡ room) }
+    ensures words_fit { IsOk result → words_of (why_clauses g.now (is_above t.now) (is_overlap t.now) grid.now) ≤ room }
+    ensures vars_fit { IsOk result → why_size g.now (is_above t.now) (is_overlap t.now) grid.now ≤ VARS }
     ensures full { IsErrOf result Room → (VARS < why_size g.now (is_above t.now) (is_overlap t.now) grid.now)
         ⊎ (room < words_of (why_clauses g.now (is_above t.now) (is_overlap t.now) grid.now)) }
 {
@@ -53,7 +56,8 @@ fn make_why_formula(
 /// The formula of loose drawings with all laws of a graph, whose edges have this order, to choose.
 ///
 /// Every model stands for a loose drawing that meets each selected law, and every loose drawing, with each choice of
-/// laws that it meets, has a model. `Room` comes exactly where the words or the variables are more than there may be.
+/// laws that it meets, has a model. `Room` comes exactly where the words or the variables are more than there may be, want of
+/// memory aside.
 pub fn why_formula(
     alloc: Global,
     g: &PortGraph,
@@ -68,6 +72,9 @@ pub fn why_formula(
     ensures clauses { IfOk result
         (λ w. w.formula.clauses ≡ why_clauses g.now (is_above t.now) (is_overlap t.now) grid.now) }
     ensures vars { IfOk result (λ w. w.formula.vars ≡ why_size g.now (is_above t.now) (is_overlap t.now) grid.now) }
+    ensures kept { IfOk result (λ w. w.formula.room ≡ room) }
+    ensures words_fit { IsOk result → words_of (why_clauses g.now (is_above t.now) (is_overlap t.now) grid.now) ≤ room }
+    ensures vars_fit { IsOk result → why_size g.now (is_above t.now) (is_overlap t.now) grid.now ≤ VARS }
     ensures full { IsErrOf result Room → (VARS < why_size g.now (is_above t.now) (is_overlap t.now) grid.now)
         ⊎ (room < words_of (why_clauses g.now (is_above t.now) (is_overlap t.now) grid.now)) }
     ensures words_bounded { words_of (why_clauses g.now (is_above t.now) (is_overlap t.now) grid.now)
