@@ -27,7 +27,7 @@ use port_graph::PortGraph;
 use refute_log::LogSink;
 use std::alloc::Global;
 use track_order::TrackOrder;
-use trade_off::{FrontEnd, FrontList, PairList, find_front};
+use trade_off::{FrontEnd, FrontFault, FrontList, PairList, find_front};
 
 /// The search, once the solver and the log were told the formula's clauses, and no bound yet.
 fn front_from<L: LogSink>(
@@ -105,7 +105,8 @@ pub fn front_with<L: LogSink>(
     front_from(&mut known, solver, log, a, b)
 }
 
-/// The front of two criteria of the graph's lawful drawings on the grid, or as far as the limits allow.
+/// The front of two criteria of the graph's lawful drawings on the grid, or as far as the budget of learnt clauses and the
+/// room for the words of all clauses allow.
 ///
 /// The order `t` is that of the graph's edges, and the criteria differ. All lines are told to the log: the drawings'
 /// clauses, both criteria's clauses with all their bounds, the questions, what is learnt, and the answers. After an error a
@@ -117,22 +118,25 @@ pub fn front<L: LogSink>(
     grid: &Grid,
     a: Criterion,
     b: Criterion,
-    limits: &Limits,
+    budget: u32,
+    room: u32,
     log: &mut L,
-) -> Result<FrontList, MinFault>
+) -> Result<FrontList, FrontFault>
     requires order { IsOrderOf g.now t.now }
-    requires room { limits.now.room ≤ ROOM }
+    requires room { room ≤ ROOM }
     requires apart { a ≢ b }
-    ensures right { let p = task_of (layout g.now t.now grid.now) limits.now.budget limits.now.room in
+    ensures right { let p = task_of (layout g.now t.now grid.now) budget room in
         IfOk result (λ r. IsRightFront (IsLawful p) a b r.pairs r.ending) }
-    ensures lines { let p = task_of (layout g.now t.now grid.now) limits.now.budget limits.now.room in
+    ensures lines { let p = task_of (layout g.now t.now grid.now) budget room in
         IfOk result (λ r. (lines : Lines) × told_to L.tells L.learnt log.old log.new lines × IsFrontLog p a b r.ending lines) }
-    ensures left { let p = task_of (layout g.now t.now grid.now) limits.now.budget limits.now.room in
+    ensures left { let p = task_of (layout g.now t.now grid.now) budget room in
         OnErr result (L.tells log.old [] → (lines : Lines) → L.tells log.new lines → IsFrontLeft p a b lines) }
     ensures later { L.is_later log.old log.new }
     ensures faults { L.faults log.old ≤ L.faults log.new }
-    ensures cause { IsErrOf result MinFault.Log → Rose (L.faults log.old) (L.faults log.new) }
+    ensures cause { IsErrOf result FrontFault.Log → Rose (L.faults log.old) (L.faults log.new) }
 {
-    let mut solver = Solver::new(alloc, limits.room)?;
-    front_with(alloc, g, t, grid, a, b, limits, &mut solver, log)
+    let limits = Limits { budget, room };
+    let mut solver = Solver::new(alloc, room)?;
+    let list = front_with(alloc, g, t, grid, a, b, &limits, &mut solver, log)?;
+    Ok(list)
 }

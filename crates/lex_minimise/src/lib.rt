@@ -28,4 +28,4 @@ pub use lex_search::{MinFault, Outcome};
 pub use limits::Limits;
 pub use minimising::{minimise, minimise_with};
 pub use telling::tell_clauses;
-pub use trade_off::{FrontEnd, FrontList, PairList};
+pub use trade_off::{FrontEnd, FrontFault, FrontList, PairList};

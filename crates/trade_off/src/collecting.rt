@@ -197,12 +197,12 @@ fn further_pairs<O: Oracle>(
     ensures cause { IsErrOf result MinFault.Log → Rose (O.faults oracle.old) (O.faults oracle.new) }
 {
     let mut pairs = PairList::new(alloc);
-    pairs.push(first, second)?;
+    pairs.push((first, second))?;
     let mut limit = second;
     while limit > 0 {
         match next_pair(alloc, oracle, a, b, Some(limit))? {
             Next::Pair(n, m) => {
-                pairs.push(n, m)?;
+                pairs.push((n, m))?;
                 limit = m;
             }
             Next::NoMore => {

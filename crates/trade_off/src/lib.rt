@@ -12,11 +12,11 @@
 
 mod building;
 mod collecting;
+mod fault;
 mod lowering;
 mod outcome;
-mod pair_list;
 mod searching;
 
-pub use outcome::{FrontEnd, FrontList};
-pub use pair_list::PairList;
+pub use fault::FrontFault;
+pub use outcome::{FrontEnd, FrontList, PairList};
 pub use searching::find_front;

@@ -18,7 +18,7 @@ use Rattle.trade_off.proofs.collecting.further_pairs.Goals as goal
 pub loop-limit-init : goal.loop-limit-init
 loop-limit-init g c = let o = g.O.Oracle in
     let p = o.task c.args.oracle.now in
-    let pairs : c.push.new.self ≡ (c.args.first, c.args.second) ∷ [] = c.in_ok-push.ensures ∙ ap (λ (ps : Pairs). ps ++ (c.args.first, c.args.second) ∷ []) c.new-pairs.ensures in
+    let pairs : c.push.new.self ≡ (c.args.first, c.args.second) ∷ [] = c.in_ok-push.ensures.ok ∙ ap (λ (ps : Pairs). ps ++ (c.args.first, c.args.second) ∷ []) c.new-pairs.ensures in
     record {
       task = refl;
       caps = refl;
@@ -61,7 +61,7 @@ loop-limit-preserved g c = let o = g.O.Oracle in
       caps = c.in_ok-n.ensures.caps ∙ c.loop-limit.invariant.caps;
       ready = c.in_ok-n.ensures.ready;
       known = c.in_ok-n.ensures.known;
-      so_far = subst (λ (ps : Pairs). IsSoFar (IsLawful p) c.args.a c.args.b c.in-Pair.m ps) (sym c.in_ok-push-in-Pair.ensures)
+      so_far = subst (λ (ps : Pairs). IsSoFar (IsLawful p) c.args.a c.args.b c.in-Pair.m ps) (sym c.in_ok-push-in-Pair.ensures.ok)
           (next_so_far (IsLawful p) c.args.a c.args.b limit c.loop-limit.pairs c.in-Pair.n c.in-Pair.m c.loop-limit.invariant.so_far pair);
       within = attained_within p c.args.a c.args.b c.in-Pair.n c.in-Pair.m pair.attained;
       later = g.met.O.Oracle.later_more a b e c.loop-limit.invariant.later c.next_pair.ensures.later;
