@@ -15,8 +15,8 @@ use Rattle.why_search.specs.Explained.{IsLoose}
 use Rattle.why_search.specs.Task.{Task, MeetsAt}
 use Rattle.why_search.specs.declared.oracle.Reply.{Reply}
 use Rattle.why_search.specs.declared.oracle.Reply.TheVariants.{Found, Refuted}
-use Rattle.why_search.specs.Asked.{NoneMeets, IsRightReply}
-use Rattle.why_search.specs.Narrowed.{has_number, ArePlaces, IsNarrowed}
+use Rattle.why_search.specs.Asked.{ArePlaces, NoneMeets, IsRightReply}
+use Rattle.why_search.specs.Narrowed.{has_number, IsNarrowed}
 use Rattle.why_search.proofs.PlaceLemmas.{all_left, all_right, all_last, pairs_left, pairs_last, pairs_both, has_contained}
 
 pub narrow_none : (p : Task) (left : List ℕ) → ArePlaces p left → NoneMeets p left → IsNarrowed p [] left []

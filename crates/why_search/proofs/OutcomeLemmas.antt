@@ -12,10 +12,10 @@ use Rattle.plan_core.specs.Drawing.{Drawing}
 use Rattle.plan_core.specs.Lawful.{Instance, NodeOnGrid, LineOnGrid, Ordered, Joined, Aligned, Apart, Over, Parted, IsInstance, Meets, Lawful}
 use Rattle.why_search.specs.Explained.{IsLoose, IsChoiceOf, IsExplanation, AreWithout, IsIrreducible}
 use Rattle.why_search.specs.Task.{Task, law_at, MeetsAt, HasAllLaws}
-use Rattle.why_search.specs.Narrowed.{countdown, ArePlaces, IsNarrowed}
+use Rattle.why_search.specs.Narrowed.{countdown, IsNarrowed}
 use Rattle.why_search.specs.declared.oracle.Reply.{Reply}
 use Rattle.why_search.specs.declared.oracle.Reply.TheVariants.{Found}
-use Rattle.why_search.specs.Asked.{IsRightReply}
+use Rattle.why_search.specs.Asked.{ArePlaces, IsRightReply}
 use Rattle.why_search.specs.Outcome.{laws_at}
 use Rattle.why_search.proofs.PlaceLemmas.{countdown_below, countdown_once, countdown_has, remove_map, all_mapped}
 

@@ -1,5 +1,5 @@
 -- One question: a loose drawing that meets the laws at some places.
-use Rattle.std.specs.Prelude.{⊤, ℕ, List, All, Contains, Option, None, Some}
+use Rattle.std.specs.Prelude.{◌≢◌, ◌<◌, ⊤, ℕ, List, All, AllPairs, Contains, length, Option, None, Some}
 use Rattle.plan_core.specs.Drawing.{Drawing}
 use Rattle.refute_log.specs.Told.{Lines}
 use Rattle.certified_values.specs.Cause.{IsCause}
@@ -8,6 +8,11 @@ use Rattle.why_search.specs.declared.oracle.Reply.TheVariants.{Found, Refuted, S
 use Rattle.certified_values.specs.declared.stop.Stop.{Stop}
 use Rattle.why_search.specs.Explained.{IsLoose}
 use Rattle.why_search.specs.Task.{Task, MeetsAt}
+
+-- places of the list, each once
+pub record ArePlaces (p : Task) (places : List ℕ) : Type 0 where
+  pub there : All (λ n. n < length p.laws) places
+  pub once : AllPairs (λ a b. a ≢ b) places
 
 -- no loose drawing meets the laws at all these places
 abbrev pub NoneMeets : Task → List ℕ → Type 0

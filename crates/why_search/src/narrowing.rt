@@ -3,9 +3,9 @@ ghost use Rattle.std.specs.Prelude.{◌≡◌, ◌≤◌, ◌++◌, ◌∷◌, [
 ghost use Rattle.outside_io.specs.Counts.{Rose};
 ghost use Rattle.why_search.specs.declared.outcome.Outcome.TheVariants.{Laws};
 ghost use Rattle.why_search.specs.Task.{HasAllLaws};
-ghost use Rattle.why_search.specs.Narrowed.{ArePlaces, IsNarrowed};
+ghost use Rattle.why_search.specs.Narrowed.{IsNarrowed};
 ghost use Rattle.refute_log.specs.Steps.{Continues, StillDerives};
-ghost use Rattle.why_search.specs.Asked.{NoneMeets, TellsStop};
+ghost use Rattle.why_search.specs.Asked.{ArePlaces, NoneMeets, TellsStop};
 ghost use Rattle.why_search.specs.Outcome.{IsRightOutcome, TellsOutcome};
 
 use crate::oracle::{Oracle, Reply};

@@ -2,11 +2,10 @@
 ghost use Rattle.std.specs.Prelude.{◌≡◌, ◌≤◌, ◌++◌, ℕ, OnOk, OnErr, IfOk, IsErrOf, length};
 ghost use Rattle.outside_io.specs.Counts.{Rose};
 ghost use Rattle.refute_log.specs.Told.{Lines};
-ghost use Rattle.refute_log.specs.Log.{Derives};
+ghost use Rattle.refute_log.specs.Log.{Derives, Due};
 ghost use Rattle.why_search.specs.Task.{Task};
-ghost use Rattle.why_search.specs.Narrowed.{ArePlaces};
 ghost use Rattle.refute_log.specs.Steps.{Continues, StillDerives};
-ghost use Rattle.why_search.specs.Asked.{IsRightReply, TellsReply};
+ghost use Rattle.why_search.specs.Asked.{ArePlaces, IsRightReply, TellsReply};
 
 use crate::WhyFault;
 use certified_values::Stop;
@@ -68,6 +67,9 @@ pub trait Oracle {
 
     /// The lines that are known derive.
     ghost derives: { (s : Self) (lines : Lines) → knows s lines → Derives lines };
+
+    /// Each Learnt line of them is due.
+    ghost due: { (s : Self) (lines : Lines) → knows s lines → Due lines };
 
     /// A log tells one list at most.
     ghost one_reading: { (s : Self) (a b : Lines) → log s a → log s b → a ≡ b };

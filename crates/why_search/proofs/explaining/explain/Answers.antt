@@ -4,10 +4,10 @@ use Rattle.std.proofs.lemmas.Result.{IfOk-weaker}
 use Rattle.refute_log.specs.Told.{Lines}
 use Rattle.why_search.specs.declared.oracle.Reply.{Reply}
 use Rattle.why_search.specs.Task.{Task, HasAllLaws}
-use Rattle.why_search.specs.Narrowed.{countdown, ArePlaces}
+use Rattle.why_search.specs.Narrowed.{countdown}
 use Rattle.refute_log.specs.Steps.{Continues, StillDerives}
 use Rattle.certified_values.specs.Cause.{IsCause}
-use Rattle.why_search.specs.Asked.{IsRightReply, NoneMeets, TellsReply}
+use Rattle.why_search.specs.Asked.{ArePlaces, IsRightReply, NoneMeets, TellsReply}
 use Rattle.why_search.specs.Outcome.{IsRightOutcome, TellsOutcome}
 use Rattle.refute_log.proofs.StepLemmas.{AnyLines, goes_on, becomes, derives_same, derives_later, on_err_always, on_err_weaker}
 use Rattle.why_search.proofs.NarrowLemmas.{first_refuted}

@@ -1,8 +1,8 @@
 use Rattle.std.proofs.Common.{◌++◌, List, ℕ, refl, sym, ◌∙◌, ap, subst}
 use Rattle.why_search.specs.declared.oracle.Reply.{Reply}
-use Rattle.why_search.specs.Narrowed.{has_number, ArePlaces}
+use Rattle.why_search.specs.Narrowed.{has_number}
 use Rattle.certified_values.specs.Cause.{IsCause}
-use Rattle.why_search.specs.Asked.{TellsReply}
+use Rattle.why_search.specs.Asked.{ArePlaces, TellsReply}
 use Rattle.refute_log.proofs.StepLemmas.{AnyLines, becomes, derives_here, derives_same, on_err_always}
 use Rattle.why_search.proofs.NarrowLemmas.{narrow_asked, found_narrowed, refuted_narrowed, filter_shorter}
 use Rattle.why_search.proofs.narrowing.take_away.Goals as goal
