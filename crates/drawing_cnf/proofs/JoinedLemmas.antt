@@ -10,7 +10,7 @@ use Rattle.edge_shape.specs.Edge.{edge_clauses}
 use Rattle.drawing_cnf.specs.LawClauses.{laws_clauses}
 use Rattle.drawing_cnf.specs.Expected.{drawing_vars, laws_first, node_clauses, base_clauses, instances, formula_clauses}
 use Rattle.drawing_cnf.specs.Joined.{SoundJoined, CoversJoined}
-use Rattle.drawing_cnf.specs.Unlengthened.{unlengthened_clauses}
+use Rattle.drawing_cnf.specs.WithoutLeast.{clauses_without_least}
 use Rattle.drawing_cnf.proofs.BaseLemmas.{base_last, base_means, BaseHolds, base_extends}
 use Rattle.drawing_cnf.proofs.MainLemmas.{reads_stand}
 
@@ -24,7 +24,7 @@ base_covers g grid is size few d joined =
     let b : Extends 1 (base_last g grid) (λ y. false) (λ w. BaseHolds w g grid d) = base_extends g grid d (λ y. false) is size few joined in
     record { to = b.to; satisfies = b.holds.satisfies; reads = b.holds.reads; stands = reads_stand b.to g (drawing_vars g grid) grid d b.holds.reads joined }
 
-pub least_one : (g : Graph) (above overlap : ℕ → ℕ → Bool) (grid : GridSize) → grid.least ≡ 1 → formula_clauses g above overlap grid ≡ unlengthened_clauses g above overlap grid
+pub least_one : (g : Graph) (above overlap : ℕ → ℕ → Bool) (grid : GridSize) → grid.least ≡ 1 → formula_clauses g above overlap grid ≡ clauses_without_least g above overlap grid
 least_one g above overlap grid one =
     let x = drawing_vars g grid in
     ap (λ least. (each (λ n. node_clauses (x.node n)) 0 (length g.nodes)

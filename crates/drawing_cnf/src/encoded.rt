@@ -7,7 +7,7 @@ ghost use Rattle.track_order.specs.Order.{is_above, is_overlap, IsOrderOf};
 ghost use Rattle.edge_shape.specs.EdgeVars.{edge_spot, lits_of};
 ghost use Rattle.drawing_cnf.specs.Expected.{drawing_vars, edge_first, formula_clauses, formula_size, most_words, most_variables};
 ghost use Rattle.drawing_cnf.specs.Expected.{Sound, Covers};
-ghost use Rattle.drawing_cnf.specs.Unlengthened.{unlengthened_clauses};
+ghost use Rattle.drawing_cnf.specs.WithoutLeast.{clauses_without_least};
 ghost use Rattle.drawing_cnf.specs.Encoding.{encoded_vars};
 ghost use Rattle.drawing_cnf.specs.Whole.{IsWhole};
 
@@ -123,7 +123,7 @@ pub fn encode<'a>(
         ≤ most_words g.now grid.now }
     ensures vars_bounded { formula_size g.now (is_above t.now) (is_overlap t.now) grid.now ≤ most_variables g.now grid.now }
     ensures least_1 { grid.now.least ≡ 1 → formula_clauses g.now (is_above t.now) (is_overlap t.now) grid.now
-        ≡ unlengthened_clauses g.now (is_above t.now) (is_overlap t.now) grid.now }
+        ≡ clauses_without_least g.now (is_above t.now) (is_overlap t.now) grid.now }
     ensures whole { IfOk result (λ e. IsWhole e) }
     ensures sound { Sound g.now (is_above t.now) grid.now (drawing_vars g.now grid.now)
         (formula_clauses g.now (is_above t.now) (is_overlap t.now) grid.now) }

@@ -8,7 +8,7 @@
 //! definition that computes, with `Sound` and `Covers`; `specs/Stands` says when an assignment stands for a drawing,
 //! `specs/LawClauses` has the clauses of each law, `specs/Guards` the order with guards that four of them share.
 //! `add_base` has the nodes' and edges' clauses by themselves, which are those of the drawings with laws 1 and 3
-//! (`specs/Joined`); `specs/Unlengthened` is the clause list without a least length. `specs/Bounds` has the clauses of
+//! (`specs/Joined`); `specs/WithoutLeast` is the clause list without a least length. `specs/Bounds` has the clauses of
 //! the criteria's bounds, `specs/Bounded` the formula with them; `criterion_bound` (`adding`) adds one behind a whole
 //! formula (`specs/Whole`), by `bounds` and the file of each criterion: `height_bound`, `width_bound`, `sum_bounds` and
 //! `diagonal_bound`. `west_first` has the order of the edges in a sum. `put`, `put_laws` and `put_bounds` give a lawful

@@ -1,4 +1,4 @@
--- The formula of a graph on a grid, whatever the least length of a line: lines lead from west to east.
+-- The formula of a graph on a grid in which the least length isn't named: each line leads from west to east.
 use Rattle.std.specs.Prelude.{ℕ, ◌+◌, Bool, [], ◌++◌, length}
 use Rattle.plan_core.specs.Grid.{GridSize}
 use Rattle.plan_core.specs.Graph.{Graph, edge}
@@ -16,19 +16,19 @@ abbrev pub eastward_clauses : EdgeLits → NodeInts → NodeInts → ℕ → Cla
 eastward_clauses e west east width =
     le_clauses west.x east.x 1 [] ++ (equal_clauses (e.height 0) west.y [] ++ equal_clauses (e.height width) east.y [])
 
-abbrev pub unlengthened_edge : EdgeLits → NodeInts → NodeInts → ℕ → ℕ → Clauses
-unlengthened_edge e west east high width =
+abbrev pub edge_without_least : EdgeLits → NodeInts → NodeInts → ℕ → ℕ → Clauses
+edge_without_least e west east high width =
     (each (λ c. int_clauses (e.height c)) 0 (width + 1) ++ eastward_clauses e west east width)
     ++ (column_clauses e west east high width
     ++ (whole_clauses e west east width ++ further_clauses e west east high width))
 
-abbrev pub unlengthened_base : Graph → DrawingVars → ℕ → ℕ → Clauses
-unlengthened_base g x high width =
+abbrev pub base_without_least : Graph → DrawingVars → ℕ → ℕ → Clauses
+base_without_least g x high width =
     each (λ n. node_clauses (x.node n)) 0 (length g.nodes)
-    ++ each (λ e. unlengthened_edge (x.edge e) (x.node (edge g e).west) (x.node (edge g e).east) high width) 0
+    ++ each (λ e. edge_without_least (x.edge e) (x.node (edge g e).west) (x.node (edge g e).east) high width) 0
     (length g.edges)
 
-abbrev pub unlengthened_clauses : Graph → (ℕ → ℕ → Bool) → (ℕ → ℕ → Bool) → GridSize → Clauses
-unlengthened_clauses g above overlap grid =
-    unlengthened_base g (drawing_vars g grid) grid.height grid.width
+abbrev pub clauses_without_least : Graph → (ℕ → ℕ → Bool) → (ℕ → ℕ → Bool) → GridSize → Clauses
+clauses_without_least g above overlap grid =
+    base_without_least g (drawing_vars g grid) grid.height grid.width
     ++ laws_clauses g (drawing_vars g grid) grid.width (laws_first g grid) (instances g above overlap)
