@@ -10,7 +10,8 @@ ghost use Rattle.refute_log.specs.Steps.{Continues};
 ghost use Rattle.fewest_search.specs.Counted.{Counted, IsOne, CoversCounts};
 ghost use Rattle.fewest_search.specs.Asked.{IsAnswer, IsRightAnswer};
 
-use lex_search::{MinFault, Stop};
+use certified_values::Stop;
+use lex_search::MinFault;
 use plan_geometry::Drawing;
 
 /// The answer to a question.

@@ -13,9 +13,10 @@ ghost use Rattle.lex_minimise.specs.Search.{task_with, IsReadyWith, KnowsWith};
 
 use crate::search::Known;
 use cdcl_core::{Answer, SolveFault, Solver};
+use certified_values::Stop;
 use cnf_core::{Lit, Var};
 use drawing_cnf::Bounds;
-use lex_search::{Below, MinFault, Reply, Stop};
+use lex_search::{Below, MinFault, Reply};
 use model_decode::{decode, encode_drawing};
 use plan_core::OutOfMemory;
 use plan_geometry::Drawing;

@@ -27,7 +27,7 @@ use Rattle.lex_search.specs.Caps.{AreCapped, IsCauseWith}
 -- what the lines of every search are: they may be told and derive, each Learnt line is due, they cover the lawful
 -- drawings, their Formula and Bound lines begin what is expected for their caps, their clauses have room, there are no
 -- more Learnt lines than the budget allows, what is expected has no more variables than there may be, where there is
--- such a line, and each line stands where it may
+-- such a line, and each Query, Model and Bound line is due by the lines before it
 pub record IsSearched (p : Task) (order : List Criterion) (lines : Lines) : Type 0 where
   pub formed : MayAllBeTold lines
   pub derives : Derives lines

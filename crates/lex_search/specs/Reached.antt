@@ -25,7 +25,7 @@ pub record IsAnswerAt (greatest : Criterion → ℕ) (lines : Lines) (order : Li
   pub each : All (IsOutOfReach greatest lines (take place order) criterion v) clause
 
 -- the drawing's values are certified at the first i places, it meets the query before the last Model line, each
--- Refuted line is the answer at one of these places, and each line stands where it may
+-- Refuted line is the answer at one of these places, and each Query, Model and Bound line is due by the lines before it
 pub record Reached (p : Task) (order : List Criterion) (i : ℕ) (d : Drawing) (lines : Lines) : Type 0 where
   pub lawful : IsLawful p d
   pub certified : Certifies (greatest_of p) lines order (values_of d) i

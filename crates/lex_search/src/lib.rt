@@ -20,7 +20,6 @@ mod oracle;
 mod outcome;
 mod searching;
 
-pub use certified_values::Stop;
 pub use fault::MinFault;
 pub use laws::{bounds_are_of_a_lawful_drawing, what_unfinished_searches_are};
 pub use oracle::{Below, Built, Oracle, Reply};

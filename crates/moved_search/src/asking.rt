@@ -11,10 +11,11 @@ ghost use Rattle.moved_search.specs.Query.{query_at, IsAnswerOf};
 ghost use Rattle.moved_search.specs.Search.{task_with, formula_with, IsReadyWith, KnowsWith};
 
 use cdcl_core::{Answer as Verdict, SolveFault, Solver};
+use certified_values::Stop;
 use cnf_core::{Lit, Var};
 use drawing_cnf::Encoded;
 use fewest_search::Answer;
-use lex_search::{MinFault, Stop};
+use lex_search::MinFault;
 use model_decode::decode;
 use plan_core::{OutOfMemory, Point};
 use refute_log::LogSink;

@@ -7,7 +7,8 @@ ghost use Rattle.lex_search.specs.Task.{IsLawful, greatest_of};
 ghost use Rattle.refute_log.specs.Steps.{Continues, KnowsSome, Leaves};
 ghost use Rattle.trade_off.specs.Least.{IsLeastUnder, AreBeside, AreAsked};
 
-use lex_search::{Below, MinFault, Oracle, Reply, Stop};
+use certified_values::Stop;
+use lex_search::{Below, MinFault, Oracle, Reply};
 use plan_core::{Criterion, OutOfMemory};
 use plan_geometry::{Drawing, values};
 use std::alloc::Global;

@@ -20,7 +20,6 @@ mod oracle;
 mod outcome;
 mod places;
 
-pub use certified_values::Stop;
 pub use explaining::explain;
 pub use fault::WhyFault;
 pub use laws::{explanation_leaves_none_lawful, without_is_irreducible};
