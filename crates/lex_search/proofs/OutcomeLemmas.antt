@@ -33,7 +33,7 @@ use Rattle.lex_search.specs.Task.{Task, IsLawful, greatest_of}
 use Rattle.refute_log.specs.Steps.{ToldBehind, Continues}
 use Rattle.certified_values.specs.Cause.{IsCause}
 use Rattle.lex_search.specs.Asked.{AreOnce, IsAsked, AreMet, AreAgainst, AreApart, IsReply, IsRightReply}
-use Rattle.lex_search.specs.Placed.{ArePlaced}
+use Rattle.lex_search.specs.Placed.{AreInTurn}
 use Rattle.lex_search.specs.Caps.{AreCapped}
 use Rattle.lex_search.specs.State.{Counted, SearchState, StoppedAt, Advances}
 use Rattle.lex_search.specs.Outcome.{IsOutcome, IsStoppedEnd, IsRightOutcome, IsRightSoFar, stopped_with, IsSearched, IsBestEnd, IsNoneEnd, IsUnfoundEnd, IsUnfinishedEnd, IsFresh, first_lines}
@@ -59,7 +59,7 @@ pub record Known (p : Task) (order : List Criterion) (cap : Criterion → ℕ) (
 whole_from : (p : Task) (order : List Criterion) (cap : Criterion → ℕ) (lines : Lines) → Known p order cap lines → clause_lines lines ≡ expected_lines p.encoding order cap → IsAllExpected p.encoding (greatest_of p) order lines
 whole_from p order cap lines k told = told ∙ sym (expected_same p.encoding order (caps (greatest_of p) lines) cap k.counted)
 
-searched : (p : Task) (order : List Criterion) (cap : Criterion → ℕ) (lines : Lines) → Known p order cap lines → IsAllExpected p.encoding (greatest_of p) order lines → ArePlaced p order lines → IsSearched p order lines
+searched : (p : Task) (order : List Criterion) (cap : Criterion → ℕ) (lines : Lines) → Known p order cap lines → IsAllExpected p.encoding (greatest_of p) order lines → AreInTurn p order lines → IsSearched p order lines
 searched p order cap lines k whole placed = record {
   formed = k.formed;
   derives = k.derives;

@@ -21,7 +21,7 @@ use Rattle.lex_search.specs.declared.outcome.Outcome.TheVariants.{Best, NoDrawin
 use Rattle.lex_search.specs.Task.{Task, IsLawful, greatest_of}
 use Rattle.certified_values.specs.Cause.{IsCause}
 use Rattle.lex_search.specs.Asked.{MeetsQuery}
-use Rattle.lex_search.specs.Placed.{ArePlaced}
+use Rattle.lex_search.specs.Placed.{AreInTurn}
 use Rattle.lex_search.specs.Caps.{AreCapped, IsCauseWith}
 
 -- what the lines of every search are: they may be told and derive, each Learnt line is due, they cover the lawful
@@ -37,7 +37,7 @@ pub record IsSearched (p : Task) (order : List Criterion) (lines : Lines) : Type
   pub fits : words_of (flat_map added lines) ≤ p.room
   pub within : length (flat_map learnt lines) ≤ p.budget
   pub few : clause_lines lines ≢ [] → expected_vars p.encoding order (caps (greatest_of p) lines) ≤ VARS
-  pub placed : ArePlaced p order lines
+  pub placed : AreInTurn p order lines
 
 -- the Formula and Bound lines are the whole of what is expected, the drawing's values are certified on the whole order,
 -- and each criterion has the bounds of its turn

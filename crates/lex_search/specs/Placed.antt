@@ -43,5 +43,5 @@ IsPlaced p order before (Bound c k x) = IsReached p order before c
 IsPlaced p order before line = ⊤
 
 -- each line stands so behind those before it
-abbrev pub ArePlaced : Task → List Criterion → Lines → Type 0
-ArePlaced p order lines = (i : ℕ) (line : LogLine) → slice_get lines i ≡ Some line → IsPlaced p order (take i lines) line
+abbrev pub AreInTurn : Task → List Criterion → Lines → Type 0
+AreInTurn p order lines = (i : ℕ) (line : LogLine) → slice_get lines i ≡ Some line → IsPlaced p order (take i lines) line

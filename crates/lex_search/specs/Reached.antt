@@ -14,7 +14,7 @@ use Rattle.certified_values.specs.declared.stop.Stop.{Stop}
 use Rattle.lex_search.specs.Task.{Task, IsLawful, greatest_of}
 use Rattle.certified_values.specs.Cause.{IsCause}
 use Rattle.lex_search.specs.Asked.{below_limit, IsMet}
-use Rattle.lex_search.specs.Placed.{ArePlaced}
+use Rattle.lex_search.specs.Placed.{AreInTurn}
 
 -- the clause is the answer at one of the first i places
 pub record IsAnswerAt (greatest : Criterion → ℕ) (lines : Lines) (order : List Criterion) (v : Values) (i : ℕ) (clause : List Literal) : Type 0 where
@@ -31,7 +31,7 @@ pub record Reached (p : Task) (order : List Criterion) (i : ℕ) (d : Drawing) (
   pub certified : Certifies (greatest_of p) lines order (values_of d) i
   pub met : IsMet lines (values_of d)
   pub answered : (clause : List Literal) → Contains lines (Refuted clause) → IsAnswerAt (greatest_of p) lines order (values_of d) i clause
-  pub placed : ArePlaced p order lines
+  pub placed : AreInTurn p order lines
 
 -- the bounds hold the first i criteria at their values: none says more, and each criterion is held or can't be greater
 pub record Holds (p : Task) (order : List Criterion) (i : ℕ) (bounds : List Below) (v : Values) : Type 0 where
