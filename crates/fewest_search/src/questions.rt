@@ -27,7 +27,7 @@ pub enum Answer {
 
 /// The clauses of drawings and of a count in a solver, and a log to which all is told. After an error it isn't used
 /// further.
-pub trait Questions {
+pub trait CountOracle {
     /// What is searched.
     ghost task: { Self → Counted };
 

@@ -7,12 +7,12 @@ ghost use Rattle.fewest_search.specs.Counted.{IsOne};
 ghost use Rattle.fewest_search.specs.Run.{IsRun, EndsIn};
 
 use crate::outcome::stopped_with;
-use crate::{Answer, Fewest, Questions};
+use crate::{Answer, CountOracle, Fewest};
 use lex_search::MinFault;
 use plan_geometry::Drawing;
 
 /// From the first drawing on: asks for less until there is none.
-fn lower<Q: Questions>(questions: &mut Q, first: Drawing) -> Result<Fewest, MinFault>
+fn lower<Q: CountOracle>(questions: &mut Q, first: Drawing) -> Result<Fewest, MinFault>
     requires ready { Q.ready questions.old }
     requires known { KnowsSome Q.knows questions.old }
     requires one { IsOne (Q.task questions.old) first }
@@ -46,7 +46,7 @@ fn lower<Q: Questions>(questions: &mut Q, first: Drawing) -> Result<Fewest, MinF
 /// A drawing with the least count, or as far as the search comes: it asks for any drawing, and then for a smaller count
 /// until there is none. What the outcome says of drawings holds with every log; and so many lines were told behind the
 /// formula that they and these are those of a search with this outcome.
-pub fn least_count<Q: Questions>(questions: &mut Q) -> Result<Fewest, MinFault>
+pub fn least_count<Q: CountOracle>(questions: &mut Q) -> Result<Fewest, MinFault>
     requires ready { Q.ready questions.old }
     requires start { Q.knows questions.old (formula_lines (Q.task questions.old)) }
     ensures right { IfOk result (IsRightFewest (Q.task questions.old)) }

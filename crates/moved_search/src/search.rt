@@ -2,7 +2,7 @@
 use crate::asking::{MovedKnown, ask};
 use crate::counted::count_moved;
 use cdcl_core::Solver;
-use fewest_search::{Answer, Questions};
+use fewest_search::{Answer, CountOracle};
 use lex_search::MinFault;
 use plan_geometry::Drawing;
 use refute_log::LogSink;
@@ -15,7 +15,7 @@ pub(crate) struct MovedSearch<'k, 's, 'l, 'a, L: LogSink> {
     pub(crate) log: &'l mut L,
 }
 
-impl<'k, 's, 'l, 'a, L: LogSink> Questions for MovedSearch<'k, 's, 'l, 'a, L> {
+impl<'k, 's, 'l, 'a, L: LogSink> CountOracle for MovedSearch<'k, 's, 'l, 'a, L> {
     ghost use Rattle.std.specs.Prelude.{◌≡◌, ◌≤◌};
     ghost use Rattle.std.proofs.Common.{refl, ◌∙◌, subst};
     ghost use Rattle.plan_core.specs.Drawing.{place};

@@ -6,14 +6,14 @@ ghost use Rattle.refute_log.specs.Steps.{Continues, StillDerives};
 ghost use Rattle.why_search.specs.Outcome.{IsRightOutcome, TellsOutcome};
 
 use crate::narrowing::narrow;
-use crate::oracle::{Oracle, Reply};
+use crate::oracle::{LawOracle, Reply};
 use crate::places::{all_places, keep_only};
 use crate::{Outcome, WhyFault};
 use std::alloc::Global;
 
 /// A lawful drawing, or laws that explain why there is none and of which none can be left out, or as far as the search
 /// comes. What the outcome says of drawings holds with every log.
-pub fn explain<O: Oracle>(alloc: Global, oracle: &mut O) -> Result<Outcome, WhyFault>
+pub fn find_laws<O: LawOracle>(alloc: Global, oracle: &mut O) -> Result<Outcome, WhyFault>
     requires ready { O.ready oracle.old }
     requires laws { HasAllLaws (O.task oracle.old) }
     ensures right { IfOk result (IsRightOutcome (O.task oracle.old)) }

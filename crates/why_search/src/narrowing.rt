@@ -8,7 +8,7 @@ ghost use Rattle.refute_log.specs.Steps.{Continues, StillDerives};
 ghost use Rattle.why_search.specs.Asked.{ArePlaces, NoneMeets, TellsStop};
 ghost use Rattle.why_search.specs.Outcome.{IsRightOutcome, TellsOutcome};
 
-use crate::oracle::{Oracle, Reply};
+use crate::oracle::{LawOracle, Reply};
 use crate::places::{both, keep_only};
 use crate::{Outcome, WhyFault};
 use certified_values::Stop;
@@ -25,7 +25,7 @@ struct Progress {
 }
 
 /// Takes a law away: where the others can't be met together it is left out, and else it is kept.
-fn take_away<O: Oracle>(
+fn take_away<O: LawOracle>(
     alloc: Global,
     oracle: &mut O,
     progress: &mut Progress,
@@ -85,7 +85,7 @@ fn finish(progress: Progress) -> Outcome
 }
 
 /// Takes one law after another away.
-pub(crate) fn narrow<O: Oracle>(
+pub(crate) fn narrow<O: LawOracle>(
     alloc: Global,
     oracle: &mut O,
     left: Vec<u32>,

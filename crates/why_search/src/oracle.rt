@@ -25,7 +25,7 @@ pub enum Reply {
 
 /// The clauses of loose drawings with laws to choose in a solver, and a log to which all is told. After an error it
 /// isn't used further.
-pub trait Oracle {
+pub trait LawOracle {
     /// What is searched.
     ghost task: { Self → Task };
 

@@ -5,7 +5,7 @@ use Rattle.fewest_search.specs.Run.{IsRun}
 use Rattle.fewest_search.proofs.searching.lower.Given as goal
 
 abbrev pub invariant-loop-count : goal.invariant-loop-count
-invariant-loop-count g l = let q = g.Q.Questions in record {
+invariant-loop-count g l = let q = g.Q.CountOracle in record {
   count : l.count ≡ (q.task l.fn.questions).count l.best;
   within : l.count ≤ (q.task l.fn.questions).most;
   task : q.task l.questions ≡ q.task l.fn.questions;

@@ -5,7 +5,7 @@ use Rattle.refute_log.proofs.StepLemmas.{AnyLines}
 use Rattle.why_search.proofs.narrowing.narrow.Given as goal
 
 abbrev pub invariant-loop-law : goal.invariant-loop-law
-invariant-loop-law g l = let o = g.O.Oracle in record {
+invariant-loop-law g l = let o = g.O.LawOracle in record {
   task : o.task l.oracle ≡ o.task l.fn.oracle;
   ready : o.ready l.oracle;
   narrowed : IsNarrowed (o.task l.fn.oracle) l.progress.kept.items l.progress.left.items l.progress.without.items;

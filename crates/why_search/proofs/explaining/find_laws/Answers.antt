@@ -12,14 +12,14 @@ use Rattle.why_search.specs.Outcome.{IsRightOutcome, TellsOutcome}
 use Rattle.refute_log.proofs.StepLemmas.{AnyLines, goes_on, becomes, derives_same, derives_later, on_err_always, on_err_weaker}
 use Rattle.why_search.proofs.NarrowLemmas.{first_refuted}
 use Rattle.why_search.proofs.OutcomeLemmas.{all_places_are, found_all}
-use Rattle.why_search.proofs.explaining.explain.Goals as goal
+use Rattle.why_search.proofs.explaining.find_laws.Goals as goal
 
 pub returns-in_err-all-clause-derives : goal.returns-in_err-all-clause-derives
-returns-in_err-all-clause-derives g c = let o = g.O.Oracle in
-    on_err_always _ _ (derives_same o.knows o.log c.args.oracle.now (g.met.O.Oracle.derives c.args.oracle.now) (g.met.O.Oracle.one_reading c.args.oracle.now))
+returns-in_err-all-clause-derives g c = let o = g.O.LawOracle in
+    on_err_always _ _ (derives_same o.knows o.log c.args.oracle.now (g.met.O.LawOracle.derives c.args.oracle.now) (g.met.O.LawOracle.one_reading c.args.oracle.now))
 
 pub ask-requires-clause-places : goal.ask-requires-clause-places
-ask-requires-clause-places g c = let o = g.O.Oracle in
+ask-requires-clause-places g c = let o = g.O.LawOracle in
     let p = o.task c.args.oracle.now in
     subst (λ (w : List ℕ). ArePlaces p w) (sym (c.deref.ensures.value ∙ c.in_ok-all.ensures ∙ ap countdown c.laws.ensures)) (all_places_are p)
 
@@ -27,12 +27,12 @@ pub returns-in_err-d-clause-derives : goal.returns-in_err-d-clause-derives
 returns-in_err-d-clause-derives g c = on_err_always _ _ c.in_err-d.ensures.derives
 
 pub returns-in-Found-clause-right : goal.returns-in-Found-clause-right
-returns-in-Found-clause-right g c = let o = g.O.Oracle in
+returns-in-Found-clause-right g c = let o = g.O.LawOracle in
     let p = o.task c.args.oracle.now in
     found_all p c.deref.result.now c.in-Found.d c.in_ok-d.field-0 (c.deref.ensures.value ∙ c.in_ok-all.ensures ∙ ap countdown c.laws.ensures) c.in-Found.is c.in_ok-d.ensures.right c.requires.laws
 
 pub returns-in-Found-clause-lines : goal.returns-in-Found-clause-lines
-returns-in-Found-clause-lines g c = let o = g.O.Oracle in
+returns-in-Found-clause-lines g c = let o = g.O.LawOracle in
     let p = o.task c.args.oracle.now in
     becomes o.knows o.log o.learnt c.args.oracle.now c.ask.new.self (λ lines more. TellsReply p c.in_ok-d.field-0 (lines ++ more)) AnyLines c.in_ok-d.ensures.lines (λ lines xs ka kb q. tt)
 
@@ -40,11 +40,11 @@ pub narrow-requires-clause-ready : goal.narrow-requires-clause-ready
 narrow-requires-clause-ready g c = c.in_ok-d.ensures.ready
 
 pub narrow-requires-clause-laws : goal.narrow-requires-clause-laws
-narrow-requires-clause-laws g c = let o = g.O.Oracle in
+narrow-requires-clause-laws g c = let o = g.O.LawOracle in
     subst (λ (x : Task). HasAllLaws x) (sym c.in_ok-d.ensures.task) c.requires.laws
 
 pub narrow-requires-clause-places : goal.narrow-requires-clause-places
-narrow-requires-clause-places g c = let o = g.O.Oracle in
+narrow-requires-clause-places g c = let o = g.O.LawOracle in
     let p = o.task c.args.oracle.now in
     let start : ArePlaces p c.in_ok-all.all.items = subst (λ (w : List ℕ). ArePlaces p w) (sym (c.in_ok-all.ensures ∙ ap countdown c.laws.ensures)) (all_places_are p) in
     let right = subst (λ (w : List ℕ). IsRightReply p w c.in_ok-d.field-0) c.deref.ensures.value c.in_ok-d.ensures.right in
@@ -52,7 +52,7 @@ narrow-requires-clause-places g c = let o = g.O.Oracle in
     subst (λ (x : Task). ArePlaces x c.keep_only.new.places.items) (sym c.in_ok-d.ensures.task) both.0
 
 pub narrow-requires-clause-none : goal.narrow-requires-clause-none
-narrow-requires-clause-none g c = let o = g.O.Oracle in
+narrow-requires-clause-none g c = let o = g.O.LawOracle in
     let p = o.task c.args.oracle.now in
     let start : ArePlaces p c.in_ok-all.all.items = subst (λ (w : List ℕ). ArePlaces p w) (sym (c.in_ok-all.ensures ∙ ap countdown c.laws.ensures)) (all_places_are p) in
     let right = subst (λ (w : List ℕ). IsRightReply p w c.in_ok-d.field-0) c.deref.ensures.value c.in_ok-d.ensures.right in
@@ -63,7 +63,7 @@ pub returns-in-Refuted-clause-right : goal.returns-in-Refuted-clause-right
 returns-in-Refuted-clause-right g c = subst (λ (x : Task). IfOk c.narrow.result (IsRightOutcome x)) c.in_ok-d.ensures.task c.narrow.ensures.right
 
 pub returns-in-Refuted-clause-lines : goal.returns-in-Refuted-clause-lines
-returns-in-Refuted-clause-lines g c = let o = g.O.Oracle in
+returns-in-Refuted-clause-lines g c = let o = g.O.LawOracle in
     let a = c.args.oracle.now in
     let b = c.ask.new.self in
     let e = c.narrow.new.oracle in
@@ -76,7 +76,7 @@ returns-in-Refuted-clause-lines g c = let o = g.O.Oracle in
     c.narrow.ensures.lines
 
 pub returns-in-Refuted-clause-derives : goal.returns-in-Refuted-clause-derives
-returns-in-Refuted-clause-derives g c = let o = g.O.Oracle in
+returns-in-Refuted-clause-derives g c = let o = g.O.LawOracle in
     let a = c.args.oracle.now in
     let b = c.ask.new.self in
     let e = c.narrow.new.oracle in
@@ -84,7 +84,7 @@ returns-in-Refuted-clause-derives g c = let o = g.O.Oracle in
     (derives_later o.knows o.log o.learnt a b e (λ lines more. TellsReply (o.task a) c.in_ok-d.field-0 (lines ++ more)) c.in_ok-d.ensures.lines) c.narrow.ensures.derives
 
 pub returns-in-Stopped-clause-lines : goal.returns-in-Stopped-clause-lines
-returns-in-Stopped-clause-lines g c = let o = g.O.Oracle in
+returns-in-Stopped-clause-lines g c = let o = g.O.LawOracle in
     let p = o.task c.args.oracle.now in
     becomes o.knows o.log o.learnt c.args.oracle.now c.ask.new.self (λ lines more. TellsReply p c.in_ok-d.field-0 (lines ++ more)) (λ lines more. IsCause p.budget p.room c.in-Stopped.stop (lines ++ more)) c.in_ok-d.ensures.lines
     (λ lines xs ka kb q. subst (λ (r : Reply). TellsReply p r (lines ++ xs)) c.in-Stopped.is q)
