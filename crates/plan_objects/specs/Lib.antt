@@ -5,3 +5,4 @@ pub mod Rows
 pub mod Faults
 pub mod Answers
 pub mod Telling
+pub mod SignalsText
