@@ -13,7 +13,7 @@ use Rattle.plan_core.specs.declared.criterion.Criterion.{Criterion}
 use Rattle.plan_words.specs.declared.command.CommandWord.{CommandWord}
 use Rattle.plan_words.specs.declared.command.CommandWord.TheVariants as words
 use Rattle.plan_words.specs.declared.command.Command.{Command}
-use Rattle.plan_words.specs.declared.command.Command.TheVariants.{Draw, Verify, Check, Graph, Make, Trial}
+use Rattle.plan_words.specs.declared.command.Command.TheVariants.{Draw, Verify, Check, Graph, Make, Trial, Signals}
 use Rattle.plan_words.specs.declared.arguments.Argument.{Argument}
 use Rattle.plan_words.specs.declared.files.FileWord.{FileWord}
 use Rattle.plan_words.specs.declared.fault.WordWhat.{WordWhat}
@@ -23,7 +23,7 @@ use Rattle.plan_words.specs.declared.fault.WordFault.TheVariants as answers
 use Rattle.plan_words.specs.OptionValues.{IsOrderText, IsSeed}
 use Rattle.plan_words.specs.Arguments.{arguments_from, argument_names, files_in}
 use Rattle.plan_words.specs.WordFaults.{command_word, number_of, SomeHasWordFault, IsLeftmost, file_names, IsFirstRepeat, IsMissing, HasOneNameTwice, IsFaultOfArguments, IsFaultBehind, IsFaultOfWords}
-use Rattle.plan_words.specs.Words.{default_order, IsChosen, command_kind, HasParts, AreSoundArguments, IsCommandOf, IsWordFault}
+use Rattle.plan_words.specs.Words.{default_order, IsChosen, IsDrawCommand, command_kind, HasParts, AreSoundArguments, IsCommandOf, IsWordFault}
 use Rattle.plan_words.proofs.OrderTextLemmas.{criteria_text_injective}
 use Rattle.plan_words.proofs.FileLemmas.{values_apart}
 
@@ -31,7 +31,7 @@ use Rattle.plan_words.proofs.FileLemmas.{values_apart}
 
 abbrev command_at : List ℕ → CommandWord
 command_at [] = words.Draw
-command_at (b ∷ bytes) = if b == 118 then words.Verify else if b == 99 then words.Check else if b == 103 then words.Graph else if b == 109 then words.Make else if b == 116 then words.Trial else words.Draw
+command_at (b ∷ bytes) = if b == 118 then words.Verify else if b == 99 then words.Check else if b == 103 then words.Graph else if b == 109 then words.Make else if b == 116 then words.Trial else if b == 115 then words.Signals else words.Draw
 
 command_at-word : (command : CommandWord) → command_at (command_word command) ≡ command
 command_at-word words.Draw = refl
@@ -40,6 +40,7 @@ command_at-word words.Check = refl
 command_at-word words.Graph = refl
 command_at-word words.Make = refl
 command_at-word words.Trial = refl
+command_at-word words.Signals = refl
 
 command_word_injective : (a b : CommandWord) → command_word a ≡ command_word b → a ≡ b
 command_word_injective a b is = sym (command_at-word a) ∙ ap command_at is ∙ command_at-word b
@@ -161,7 +162,7 @@ sound_or_fault command arguments end what position sound (inl x) = sound.sound w
 sound_or_fault command arguments end what position sound (inr (inl x)) = let few = x.1.few in let enough = sound.enough in omega (arith, few, enough)
 sound_or_fault command arguments end what position sound (inr (inr x)) =
     let repeat = x.1.repeat in
-    apart_has_no_repeat (files_in arguments) repeat.before repeat.file repeat.after repeat.cut (sound.apart x.1.draws) repeat.again
+    apart_has_no_repeat (files_in arguments) repeat.before repeat.file repeat.after repeat.cut (sound.apart x.1.writes) repeat.again
 
 fault_of_command : (command : CommandWord) (rest : List (List ℕ)) (what : WordWhat) (position : ℕ) → AreSoundArguments command (arguments_from 2 rest) → IsFaultOfWords (command_word command ∷ rest) what position → ⊥
 fault_of_command command rest what position sound (inl x) = x.none command refl
@@ -196,8 +197,9 @@ same_seed arguments n m x y =
     let m_to = y.2.to in
     decimal_injective n m (omega (arith, n_to)) (omega (arith, m_to)) (sym x.2.written ∙ name ∙ y.2.written)
 
-same_parts : (arguments : List Argument) (a b : Command) → command_kind a ≡ command_kind b → HasParts arguments a → HasParts arguments b → a ≡ b
-same_parts arguments (Draw i g o n s l) (Draw j h r m t k) word x y =
+same_drawing : (arguments : List Argument) (i j : List ℕ) (g h : GridSize) (o r : List Criterion) (n m : ℕ) (s t l k : Option (List ℕ)) →
+    IsDrawCommand arguments i g o n s l → IsDrawCommand arguments j h r m t k → Draw i g o n s l ≡ Draw j h r m t k
+same_drawing arguments i j g h o r n m s t l k x y =
     let names : i ∷ [] ≡ j ∷ [] = sym x.names ∙ y.names in
     let input : i ≡ j = cc in
     let width = chosen_number _ 1 MAX_WIDTH 40 g.width h.width (omega arith) x.width y.width in
@@ -209,11 +211,17 @@ same_parts arguments (Draw i g o n s l) (Draw j h r m t k) word x y =
     let svg : s ≡ t = x.svg_name ∙ sym y.svg_name in
     let log : l ≡ k = x.log_name ∙ sym y.log_name in
     cc
+
+same_parts : (arguments : List Argument) (a b : Command) → command_kind a ≡ command_kind b → HasParts arguments a → HasParts arguments b → a ≡ b
+same_parts arguments (Draw i g o n s l) (Draw j h r m t k) word x y = same_drawing arguments i j g h o r n m s t l k x y
 same_parts arguments (Verify i s) (Verify j t) word x y = let names : i ∷ s ∷ [] ≡ j ∷ t ∷ [] = sym x ∙ y in cc
 same_parts arguments (Check i s l) (Check j t k) word x y = let names : i ∷ s ∷ l ∷ [] ≡ j ∷ t ∷ k ∷ [] = sym x ∙ y in cc
 same_parts arguments (Graph i) (Graph j) word x y = let names : i ∷ [] ≡ j ∷ [] = sym x ∙ y in cc
 same_parts arguments (Make n) (Make m) word x y = ap (λ (k : ℕ). Make k) (same_seed arguments n m x y)
 same_parts arguments (Trial n) (Trial m) word x y = ap (λ (k : ℕ). Trial k) (same_seed arguments n m x y)
+same_parts arguments (Signals i g o n l) (Signals j h r m k) word x y =
+    let same : Draw i g o n None l ≡ Draw j h r m None k = same_drawing arguments i j g h o r n m None None l k x y in
+    cc
 same_parts arguments a b word x y = cc word
 
 pub command_same : (list : List (List ℕ)) (a b : Command) → IsCommandOf list a → IsCommandOf list b → a ≡ b
@@ -246,4 +254,4 @@ words_exactly list answer command fault = answers_exactly answer answers.Memory 
 pub outputs_apart : (list : List (List ℕ)) (input : List ℕ) (grid : GridSize) (order : List Criterion) (budget : ℕ) (svg log : Option (List ℕ)) (picture name : List ℕ) →
     IsCommandOf list (Draw input grid order budget svg log) → svg ≡ Some picture → log ≡ Some name → picture ≢ name
 outputs_apart list input grid order budget svg log picture name x is_picture is_log =
-    values_apart (arguments_from 2 x.rest) picture name (sym x.parts.svg_name ∙ is_picture) (sym x.parts.log_name ∙ is_log) (x.sound.apart refl)
+    values_apart (arguments_from 2 x.rest) picture name (sym x.parts.svg_name ∙ is_picture) (sym x.parts.log_name ∙ is_log) (x.sound.apart tt)

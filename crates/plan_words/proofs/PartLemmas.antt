@@ -4,14 +4,15 @@ use Rattle.std.specs.Prelude.{Option, MatchOption, All, slice_get, bytes_eq, if�
 use Rattle.std.proofs.lemmas.List.Elements.{All-nil, All-cons, All-head}
 use Rattle.std.proofs.lemmas.Slice.Eq.{bytes_eq-Decides}
 use Rattle.plan_words.specs.declared.command.CommandWord.{CommandWord}
-use Rattle.plan_words.specs.declared.command.CommandWord.TheVariants.{Make, Trial}
+use Rattle.plan_words.specs.declared.command.CommandWord.TheVariants.{Draw, Make, Trial, Signals}
 use Rattle.plan_words.specs.declared.option_values.OptionWord.{OptionWord}
+use Rattle.plan_words.specs.declared.option_values.OptionWord.TheVariants.{Svg}
 use Rattle.plan_words.specs.declared.arguments.Argument.{Argument}
 use Rattle.plan_words.specs.declared.arguments.Argument.TheVariants.{Name, Setting}
 use Rattle.plan_words.specs.OptionValues.{option_word, IsSeed, Takes}
 use Rattle.plan_words.specs.Arguments.{argument_names, option_value}
-use Rattle.plan_words.specs.WordFaults.{TakesName}
-use Rattle.plan_words.specs.Soundness.{SoundFrom}
+use Rattle.plan_words.specs.WordFaults.{TakesName, IsOptionOf, IsSignalsOption}
+use Rattle.plan_words.specs.Soundness.{IsSoundBehind, SoundFrom}
 use Rattle.plan_words.specs.Words.{given_for}
 use Rattle.plan_words.proofs.SoundLemmas.{option_word_injective, sound_at, names_most}
 
@@ -52,6 +53,13 @@ given_taken command arguments option value sound is =
     let P : OptionWord → Type 0 = λ o. Takes o value in
     subst P same (subst (Takes one.option) text one.taken)
 
+-- an option that is given is one of the command's
+given_known : (command : CommandWord) (arguments : List Argument) (option : OptionWord) (value : List ℕ) → SoundFrom command [] arguments → given_for option arguments ≡ Some value → IsOptionOf command (option_word option)
+given_known command arguments option value sound is =
+    let setting = setting_of arguments (option_word option) value is in
+    let one = sound_at command arguments setting.before (Setting setting.at (option_word option) (Some value)) setting.after sound setting.cut in
+    one.known
+
 pub given_is_taken : (command : CommandWord) (arguments : List Argument) (option : OptionWord) → SoundFrom command [] arguments → MatchOption (given_for option arguments) ⊤ (Takes option)
 given_is_taken command arguments option sound =
     elim (given_for option arguments) as (λ r. given_for option arguments ≡ r → MatchOption r ⊤ (Takes option)) [ None ↦ λ is. tt | Some value ↦ λ is. given_taken command arguments option value sound is ] refl
@@ -83,6 +91,38 @@ three_names (x ∷ y ∷ z ∷ u ∷ names) a b d most first second third = absu
 
 pub first_taken : (command : CommandWord) (arguments : List Argument) (name : List ℕ) → SoundFrom command [] arguments → argument_names arguments ≡ name ∷ [] → TakesName command name
 first_taken command arguments name sound is = let P : List (List ℕ) → Type 0 = λ names. All (TakesName command) names in All-head (TakesName command) name [] (subst P is (names_taken command [] arguments sound))
+
+-- ---- the arguments of `signals`
+
+-- they are arguments of `draw`
+draws_too : (before : List Argument) (argument : Argument) → IsSoundBehind Signals before argument → IsSoundBehind Draw before argument
+draws_too before (Name at name) sound = sound
+draws_too before (Setting at word value) sound = record {
+  known = (sound.known.0, sound.known.1);
+  fresh = sound.fresh;
+  option = sound.option;
+  named = sound.named;
+  text = sound.text;
+  there = sound.there;
+  taken = sound.taken;
+}
+
+pub signals_draw : (before arguments : List Argument) → SoundFrom Signals before arguments → SoundFrom Draw before arguments
+signals_draw before [] sound = tt
+signals_draw before (argument ∷ arguments) sound = (draws_too before argument sound.0, signals_draw (before ++ argument ∷ []) arguments sound.1)
+
+no_svg : IsOptionOf Signals (option_word Svg) → ⊥
+no_svg (option, named, one) =
+    let P : OptionWord → Type 0 = λ o. IsSignalsOption o in
+    subst P (sym (option_word_injective Svg option named)) one
+
+-- none of them names a picture
+pub without_svg : (arguments : List Argument) → SoundFrom Signals [] arguments → None ≡ given_for Svg arguments
+without_svg arguments sound =
+    elim (given_for Svg arguments) as (λ r. given_for Svg arguments ≡ r → None ≡ r) [
+      | None ↦ λ is. refl
+      | Some value ↦ λ is. absurd (no_svg (given_known Signals arguments Svg value sound is))
+    ] refl
 
 -- ---- the number of a made station
 

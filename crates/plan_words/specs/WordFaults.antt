@@ -1,8 +1,9 @@
 -- What can be wrong with the words of a command line, and which fault counts.
-use Rattle.std.specs.Prelude.{◌≡◌, ◌≢◌, ◌≤◌, ◌<◌, ◌⊎◌, ℕ, ◌+◌, None, Some, List, [], ◌∷◌, ◌++◌, codes, length, map, Contains, AllPairs}
+use Rattle.std.specs.Prelude.{◌≡◌, ◌≢◌, ◌≤◌, ◌<◌, ◌⊎◌, ℕ, ◌+◌, None, Some, List, [], ◌∷◌, ◌++◌, codes, length, map, Contains, AllPairs, ⊤}
 use Rattle.plan_words.specs.declared.command.CommandWord.{CommandWord}
-use Rattle.plan_words.specs.declared.command.CommandWord.TheVariants.{Draw, Verify, Check, Graph, Make, Trial}
+use Rattle.plan_words.specs.declared.command.CommandWord.TheVariants.{Draw, Verify, Check, Graph, Make, Trial, Signals}
 use Rattle.plan_words.specs.declared.option_values.OptionWord.{OptionWord}
+use Rattle.plan_words.specs.declared.option_values.OptionWord.TheVariants.{Width, Height, Least, Criteria, Conflicts, Svg, Log}
 use Rattle.plan_words.specs.declared.arguments.Argument.{Argument}
 use Rattle.plan_words.specs.declared.arguments.Argument.TheVariants.{Name, Setting}
 use Rattle.plan_words.specs.declared.files.FileWord.{FileWord}
@@ -18,6 +19,7 @@ command_word Check = codes "check"
 command_word Graph = codes "graph"
 command_word Make = codes "make"
 command_word Trial = codes "trial"
+command_word Signals = codes "signals"
 
 -- the numbers of the table of faults, and their words
 abbrev pub number_of : WordWhat → ℕ
@@ -46,6 +48,7 @@ name_count Check = 3
 name_count Graph = 1
 name_count Make = 1
 name_count Trial = 1
+name_count Signals = 1
 
 -- the command takes this name: the number of `make` and of `trial`, and any other that isn't empty
 abbrev pub TakesName : CommandWord → List ℕ → Type 0
@@ -55,8 +58,20 @@ TakesName Check name = name ≢ []
 TakesName Graph name = name ≢ []
 TakesName Make name = (n : ℕ) × IsSeed name n
 TakesName Trial name = (n : ℕ) × IsSeed name n
+TakesName Signals name = name ≢ []
 
--- the word is an option of the command; only `draw` has options
+-- the options of `signals`: it has no `--least`, since each edge is as long as its signals need, and no `--svg`, since it
+-- writes no picture
+abbrev pub IsSignalsOption : OptionWord → Type 0
+IsSignalsOption Width = ⊤
+IsSignalsOption Height = ⊤
+IsSignalsOption Least = ⊥
+IsSignalsOption Criteria = ⊤
+IsSignalsOption Conflicts = ⊤
+IsSignalsOption Svg = ⊥
+IsSignalsOption Log = ⊤
+
+-- the word is an option of the command; only `draw`, which has all, and `signals` have options
 abbrev pub IsOptionOf : CommandWord → List ℕ → Type 0
 IsOptionOf Draw word = (option : OptionWord) × (word ≡ option_word option)
 IsOptionOf Verify word = ⊥
@@ -64,6 +79,7 @@ IsOptionOf Check word = ⊥
 IsOptionOf Graph word = ⊥
 IsOptionOf Make word = ⊥
 IsOptionOf Trial word = ⊥
+IsOptionOf Signals word = (option : OptionWord) × (word ≡ option_word option) × IsSignalsOption option
 
 -- ---- faults of one argument, behind the arguments before it
 
@@ -116,11 +132,21 @@ pub record IsMissing (command : CommandWord) (arguments : List Argument) (end po
   pub few : length (argument_names arguments) < name_count command
   pub place : position ≡ end
 
--- no argument has a fault, no name is missing, and two files of `draw` have one name
+-- the command writes files beside the one that it reads, so that no two of its files may have one name
+abbrev pub WritesFiles : CommandWord → Type 0
+WritesFiles Draw = ⊤
+WritesFiles Verify = ⊥
+WritesFiles Check = ⊥
+WritesFiles Graph = ⊥
+WritesFiles Make = ⊥
+WritesFiles Trial = ⊥
+WritesFiles Signals = ⊤
+
+-- no argument has a fault, no name is missing, and two files of a command that writes files have one name
 pub record HasOneNameTwice (command : CommandWord) (arguments : List Argument) (position : ℕ) : Type 0 where
   pub sound : HaveNoFault command arguments
   pub enough : name_count command ≤ length (argument_names arguments)
-  pub draws : command ≡ Draw
+  pub writes : WritesFiles command
   pub repeat : IsFirstRepeat (files_in arguments) position
 
 -- the fault that counts of a command's arguments, behind which this position is the first free one

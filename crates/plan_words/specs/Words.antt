@@ -1,12 +1,12 @@
 -- What the words of a command line ask for.
-use Rattle.std.specs.Prelude.{◌≡◌, ◌≢◌, ◌≤◌, ℕ, Option, MatchOption, List, [], ◌∷◌, length, AllPairs}
+use Rattle.std.specs.Prelude.{◌≡◌, ◌≢◌, ◌≤◌, ℕ, Option, MatchOption, List, [], ◌∷◌, length, AllPairs, None}
 use Rattle.plan_core.specs.declared.criterion.Criterion.{Criterion}
 use Rattle.plan_core.specs.declared.criterion.Criterion.TheVariants as criteria
 use Rattle.plan_core.specs.Grid.{GridSize}
 use Rattle.plan_words.specs.declared.command.CommandWord.{CommandWord}
 use Rattle.plan_words.specs.declared.command.CommandWord.TheVariants as words
 use Rattle.plan_words.specs.declared.command.Command.{Command}
-use Rattle.plan_words.specs.declared.command.Command.TheVariants.{Draw, Verify, Check, Graph, Make, Trial}
+use Rattle.plan_words.specs.declared.command.Command.TheVariants.{Draw, Verify, Check, Graph, Make, Trial, Signals}
 use Rattle.plan_words.specs.declared.option_values.OptionWord.{OptionWord}
 use Rattle.plan_words.specs.declared.option_values.OptionWord.TheVariants as options
 use Rattle.plan_words.specs.declared.arguments.Argument.{Argument}
@@ -14,7 +14,7 @@ use Rattle.plan_words.specs.declared.fault.WordFault.{WordFault}
 use Rattle.plan_words.specs.declared.fault.WordFault.TheVariants as answers
 use Rattle.plan_words.specs.OptionValues.{option_word, IsWidth, IsHeight, IsLeastLength, IsBudget, IsSeed, IsOrderText}
 use Rattle.plan_words.specs.Arguments.{arguments_from, argument_names, files_in, option_value}
-use Rattle.plan_words.specs.WordFaults.{command_word, name_count, HaveNoFault, file_names, IsFaultOfWords}
+use Rattle.plan_words.specs.WordFaults.{command_word, name_count, HaveNoFault, WritesFiles, file_names, IsFaultOfWords}
 
 -- height before bends before diagonal length before width
 abbrev pub default_order : List Criterion
@@ -46,6 +46,7 @@ command_kind (Check input sheet log) = words.Check
 command_kind (Graph input) = words.Graph
 command_kind (Make n) = words.Make
 command_kind (Trial n) = words.Trial
+command_kind (Signals input grid order budget log) = words.Signals
 
 -- the command has the parts that its arguments give
 abbrev pub HasParts : List Argument → Command → Type 0
@@ -55,12 +56,14 @@ HasParts arguments (Check input sheet log) = argument_names arguments ≡ input 
 HasParts arguments (Graph input) = argument_names arguments ≡ input ∷ []
 HasParts arguments (Make n) = (name : List ℕ) × (argument_names arguments ≡ name ∷ []) × IsSeed name n
 HasParts arguments (Trial n) = (name : List ℕ) × (argument_names arguments ≡ name ∷ []) × IsSeed name n
+-- those of `draw` without a picture; the least length is 1, for `signals` has no option that gives another
+HasParts arguments (Signals input grid order budget log) = IsDrawCommand arguments input grid order budget None log
 
 -- the arguments of a command without a fault
 pub record AreSoundArguments (command : CommandWord) (arguments : List Argument) : Type 0 where
   pub sound : HaveNoFault command arguments
   pub enough : name_count command ≤ length (argument_names arguments)
-  pub apart : command ≡ words.Draw → AllPairs (λ a b. a ≢ b) (file_names (files_in arguments))
+  pub apart : WritesFiles command → AllPairs (λ a b. a ≢ b) (file_names (files_in arguments))
 
 -- the words have no fault, and this is the command that they ask for
 pub record IsCommandOf (words : List (List ℕ)) (command : Command) : Type 0 where

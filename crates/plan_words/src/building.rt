@@ -186,6 +186,27 @@ fn draw_of(alloc: Global, arguments: &[Argument]) -> Result<Command, OutOfMemory
     })
 }
 
+fn signals_of(alloc: Global, arguments: &[Argument]) -> Result<Command, OutOfMemory>
+    requires sound { SoundFrom words.Signals [] arguments.now }
+    requires enough { 1 ≤ length (argument_names arguments.now) }
+    ensures word { IfOk result (λ c. command_kind c ≡ words.Signals) }
+    ensures parts { IfOk result (λ c. HasParts arguments.now c) }
+{
+    Ok(Command::Signals {
+        input: name_copy(alloc, arguments, 0)?,
+        grid: grid_given(arguments),
+        order: order_given(arguments),
+        budget: number_given(
+            arguments,
+            OptionWord::Conflicts,
+            1,
+            MAX_BUDGET,
+            DEFAULT_BUDGET,
+        ),
+        log: file_given(alloc, arguments, OptionWord::Log)?,
+    })
+}
+
 /// The number that `make` or `trial` has as its name.
 fn seed_of(arguments: &[Argument]) -> u32
     requires sound { SoundFrom words.Make [] arguments.now ⊎ SoundFrom words.Trial [] arguments.now }
@@ -229,5 +250,6 @@ pub(crate) fn command_of(
         CommandWord::Trial => Ok(Command::Trial {
             n: seed_of(arguments),
         }),
+        CommandWord::Signals => signals_of(alloc, arguments),
     }
 }

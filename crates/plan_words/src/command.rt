@@ -13,6 +13,7 @@ pub(crate) enum CommandWord {
     Graph,
     Make,
     Trial,
+    Signals,
 }
 
 impl CommandWord {
@@ -27,6 +28,7 @@ impl CommandWord {
             "graph" => Some(CommandWord::Graph),
             "make" => Some(CommandWord::Make),
             "trial" => Some(CommandWord::Trial),
+            "signals" => Some(CommandWord::Signals),
             _ => None,
         }
     }
@@ -36,7 +38,11 @@ impl CommandWord {
         ensures { result ≡ count_of self }
     {
         match self {
-            CommandWord::Draw | CommandWord::Graph | CommandWord::Make | CommandWord::Trial => 1,
+            CommandWord::Draw
+            | CommandWord::Graph
+            | CommandWord::Make
+            | CommandWord::Trial
+            | CommandWord::Signals => 1,
             CommandWord::Verify => 2,
             CommandWord::Check => 3,
         }
@@ -78,5 +84,14 @@ pub enum Command {
     /// Makes a station from a number and draws it, on the trial's own grid and in its order.
     Trial {
         n: u32,
+    },
+    /// Draws `input` as `Draw` does, with each edge as long as its signals need, and says where the signals stand on the
+    /// drawing. There is no picture, and the grid's least length is 1 until the signals are read.
+    Signals {
+        input: Text,
+        grid: Grid,
+        order: Order,
+        budget: u32,
+        log: Option<Text>,
     },
 }

@@ -1,8 +1,7 @@
 // The fault that counts of a command's arguments.
 ghost use Rattle.std.specs.Prelude.{◌≡◌, ◌≢◌, ◌≤◌, ◌+◌, ◌*◌, [], length, All, AllPairs, IfOk, IfNone, MatchOption};
-ghost use Rattle.plan_words.specs.declared.command.CommandWord.TheVariants.{Draw};
 ghost use Rattle.plan_words.specs.Arguments.{files_in as named_files};
-ghost use Rattle.plan_words.specs.WordFaults.{file_names, IsFirstRepeat, IsFaultOfArguments};
+ghost use Rattle.plan_words.specs.WordFaults.{WritesFiles, file_names, IsFirstRepeat, IsFaultOfArguments};
 ghost use Rattle.plan_words.specs.Soundness.{StandFrom, IsNear, SoundFrom};
 ghost use Rattle.plan_words.specs.Words.{AreSoundArguments};
 
@@ -14,17 +13,17 @@ use crate::leftmost::{Found, count_names, leftmost_fault};
 use plan_core::OutOfMemory;
 use std::alloc::Global;
 
-/// The position of the first file of `draw`, from the left, that has the name of an earlier one.
+/// The position of the first file, from the left, that has the name of an earlier one, where the command writes files.
 fn repeated_file(
     alloc: Global,
     command: CommandWord,
     arguments: &[Argument],
 ) -> Result<Option<u32>, OutOfMemory>
     requires { All IsNear arguments.now }
-    ensures { IfOk result (λ found. MatchOption found (command ≡ Draw → AllPairs (λ a b. a ≢ b) (file_names (named_files arguments.now))) (λ position. (command ≡ Draw) × IsFirstRepeat (named_files arguments.now) position)) }
+    ensures { IfOk result (λ found. MatchOption found (WritesFiles command → AllPairs (λ a b. a ≢ b) (file_names (named_files arguments.now))) (λ position. WritesFiles command × IsFirstRepeat (named_files arguments.now) position)) }
 {
     match command {
-        CommandWord::Draw => {
+        CommandWord::Draw | CommandWord::Signals => {
             let files = files_in(alloc, arguments)?;
             Ok(first_repeat(&files))
         }

@@ -2,6 +2,7 @@
 ghost use Rattle.std.specs.Prelude.{◌≡◌, ◌<◌, ◌+◌, ◌^◌, length, Contains, MatchOption, []};
 ghost use Rattle.std.specs.Bool.{MatchBool};
 ghost use Rattle.plan_words.specs.declared.arguments.Argument.TheVariants.{Name, Setting};
+ghost use Rattle.plan_words.specs.declared.command.CommandWord.TheVariants.{Signals};
 ghost use Rattle.plan_words.specs.OptionValues.{option_word};
 ghost use Rattle.plan_words.specs.Arguments.{argument_names, options_in};
 ghost use Rattle.plan_words.specs.WordFaults.{TakesName, IsOptionOf, IsLeftmost};
@@ -47,12 +48,23 @@ fn has_option(arguments: &[Argument], option: &str) -> bool
     false
 }
 
+/// The option of `signals` that the word names, if it names one.
+fn signals_option(word: &str) -> Option<OptionWord>
+    ensures { MatchOption result (IsOptionOf Signals word.now → ⊥) (λ o. IsOptionOf Signals word.now × (word.now ≡ option_word o)) }
+{
+    match OptionWord::named(word) {
+        Some(OptionWord::Least | OptionWord::Svg) => None,
+        other => other,
+    }
+}
+
 /// The option of the command that the word names, if it names one.
 fn option_of(command: CommandWord, word: &str) -> Option<OptionWord>
     ensures { MatchOption result (IsOptionOf command word.now → ⊥) (λ o. IsOptionOf command word.now × (word.now ≡ option_word o)) }
 {
     match command {
         CommandWord::Draw => OptionWord::named(word),
+        CommandWord::Signals => signals_option(word),
         CommandWord::Verify
         | CommandWord::Check
         | CommandWord::Graph
@@ -67,9 +79,11 @@ fn takes_name(command: CommandWord, name: &str) -> bool
 {
     match command {
         CommandWord::Make | CommandWord::Trial => number_in(name, 0, MAX_SEED).is_some(),
-        CommandWord::Draw | CommandWord::Verify | CommandWord::Check | CommandWord::Graph => {
-            !name.is_empty()
-        }
+        CommandWord::Draw
+        | CommandWord::Verify
+        | CommandWord::Check
+        | CommandWord::Graph
+        | CommandWord::Signals => !name.is_empty(),
     }
 }
 

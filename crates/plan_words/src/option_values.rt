@@ -12,7 +12,7 @@ use plan_core::{Criterion, MAX_BUDGET, MAX_HEIGHT, MAX_LEAST, MAX_WIDTH, Order};
 /// The greatest number that a station is made from.
 pub(crate) const MAX_SEED: u32 = 4_294_967_295;
 
-/// A word that names an option of `draw`.
+/// A word that names an option.
 #[derive(Clone, Copy, Debug, PartialEq, Eq)]
 pub(crate) enum OptionWord {
     Width,

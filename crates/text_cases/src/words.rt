@@ -78,6 +78,19 @@ fn command_shown(alloc: Global, command: &Command) -> Result<String, AllocError>
         }
         Command::Make { n } => format!(in alloc; "make {n}"),
         Command::Trial { n } => format!(in alloc; "trial {n}"),
+        Command::Signals {
+            input,
+            grid,
+            order,
+            budget,
+            log,
+        } => {
+            let input = input.as_str();
+            let grid = grid_shown(alloc, grid)?;
+            let order = order_shown(alloc, order)?;
+            let log = file_shown(log);
+            format!(in alloc; "signals {input} {grid} {order} {budget} {log}")
+        }
     }
 }
 

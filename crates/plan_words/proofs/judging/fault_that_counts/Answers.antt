@@ -24,7 +24,7 @@ returns-in-Some-2-clause-fault c =
     inr (record {
       sound = sound_have_no_fault c.args.command c.args.arguments.now c.in_default.ensures;
       enough = omega (arith, c.count_names.ensures, c.name_count.ensures);
-      draws = repeated.0;
+      writes = repeated.0;
       repeat = repeated.1;
     })
 
