@@ -25,7 +25,7 @@ use Rattle.track_order.specs.Order.{EdgeOrder}
 use Rattle.track_order.specs.Causes.{IsOrderFault}
 use Rattle.track_order.proofs.OneOrder.{one_fault as one_of_order, never_both as order_or_fault}
 use Rattle.input_answer.specs.declared.fault.RunFault.{RunFault}
-use Rattle.input_answer.specs.declared.fault.RunFault.TheVariants.{Words, Long, Text, Topology, Graph, Order, Sheet, Log, ReadFailed}
+use Rattle.input_answer.specs.declared.fault.RunFault.TheVariants.{Words, Long, Text, Topology, Graph, Order, Signal, Sheet, Log, ReadFailed}
 use Rattle.input_answer.specs.declared.status.Status.TheVariants.{Refused}
 use Rattle.input_answer.specs.Fault.{fault_status}
 use Rattle.input_answer.specs.Input.{IsLong, IsShort, HasRows, HasTopology, HasGraph, HasStation, HasFileFault}
@@ -87,6 +87,7 @@ caused bytes (Topology what at first second) h = record { cause = OfTopology wha
 caused bytes (Graph fault) h = record { cause = OfGraph fault; has = h; is = refl }
 caused bytes (Order fault) h = record { cause = OfOrder fault; has = h; is = refl }
 caused bytes (Words what position) h = absurd h
+caused bytes (Signal what at first) h = absurd h
 caused bytes (Sheet what line) h = absurd h
 caused bytes (Log what line) h = absurd h
 caused bytes (ReadFailed input) h = absurd h
@@ -198,6 +199,7 @@ file_fault_status bytes (Topology what at first second) has = refl
 file_fault_status bytes (Graph fault) has = refl
 file_fault_status bytes (Order fault) has = refl
 file_fault_status bytes (Words what position) has = absurd has
+file_fault_status bytes (Signal what at first) has = absurd has
 file_fault_status bytes (Sheet what line) has = absurd has
 file_fault_status bytes (Log what line) has = absurd has
 file_fault_status bytes (ReadFailed input) has = absurd has

@@ -3,3 +3,4 @@ pub mod MetLemmas
 pub mod FormedRows
 pub mod InputLemmas
 pub mod AnswerLemmas
+pub mod SignalLemmas

@@ -15,12 +15,15 @@ use Rattle.port_graph.specs.TopologyGraph as graph_faults
 use Rattle.track_order.specs.declared.fault.OrderFault.{OrderFault}
 use Rattle.track_order.specs.declared.fault.OrderFault.TheVariants as orders
 use Rattle.track_order.specs.Causes as order_faults
+use Rattle.plan_objects.specs.declared.fault.SignalWhat.{SignalWhat}
+use Rattle.plan_objects.specs.declared.fault.SignalWhat.TheVariants as signals
+use Rattle.plan_objects.specs.Faults as signal_faults
 use Rattle.plan_text.specs.SheetWhats as sheet_faults
 use Rattle.refute_log.specs.Faults as log_faults
 use Rattle.input_answer.specs.declared.status.Status.{Status}
 use Rattle.input_answer.specs.declared.status.Status.TheVariants.{Refused, WordsRefused, Unread}
 use Rattle.input_answer.specs.declared.fault.RunFault.{RunFault}
-use Rattle.input_answer.specs.declared.fault.RunFault.TheVariants.{Words, Long, Text, Topology, Graph, Order, Sheet, Log, ReadFailed}
+use Rattle.input_answer.specs.declared.fault.RunFault.TheVariants.{Words, Long, Text, Topology, Graph, Order, Signal, Sheet, Log, ReadFailed}
 
 -- ---- what a fault tells
 
@@ -57,6 +60,16 @@ abbrev pub edges_told : OrderFault → List (List ℕ)
 edges_told (orders.Contradicts e f) = decimal e.0 ∷ decimal f.0 ∷ []
 edges_told orders.Memory = []
 
+-- of a signal's fault the text that its kind tells: an attribute's name, or the signal's id
+abbrev pub signal_told : SignalWhat → List ℕ → List (List ℕ)
+signal_told signals.TooMany first = []
+signal_told signals.Missing first = first ∷ []
+signal_told signals.Id first = []
+signal_told signals.RepeatedId first = first ∷ []
+signal_told signals.Number first = first ∷ []
+signal_told signals.OutsideTrack first = first ∷ []
+signal_told signals.Crowded first = first ∷ []
+
 -- ---- the line
 
 -- a fault's table, its number there, its word, and what it tells
@@ -71,6 +84,8 @@ fault_line (Topology what at first second) =
     told_line (codes "topology") (topology_faults.number_of what) (topology_faults.word_of what) (at_place at ++ texts_told what first second)
 fault_line (Graph fault) = told_line (codes "graph") (graph_faults.number_of fault) (graph_faults.word_of fault) (graph_told fault)
 fault_line (Order fault) = told_line (codes "order") (order_faults.number_of fault) (order_faults.word_of fault) (edges_told fault)
+fault_line (Signal what at first) =
+    told_line (codes "signal") (signal_faults.number_of what) (signal_faults.word_of what) (at_place at ++ signal_told what first)
 fault_line (Sheet what line) = told_line (codes "sheet") (sheet_faults.number_of what) (sheet_faults.word_of what) (codes "line" ∷ decimal line ∷ [])
 fault_line (Log what line) = told_line (codes "log") (log_faults.number_of what) (log_faults.word_of what) (codes "line" ∷ decimal line ∷ [])
 fault_line (ReadFailed input) = line_text (codes "read failed") (decimal input ∷ [])
@@ -84,6 +99,7 @@ fault_status (Text what at) = Refused
 fault_status (Topology what at first second) = Refused
 fault_status (Graph fault) = Refused
 fault_status (Order fault) = Refused
+fault_status (Signal what at first) = Refused
 fault_status (Sheet what line) = Refused
 fault_status (Log what line) = Refused
 fault_status (ReadFailed input) = Unread

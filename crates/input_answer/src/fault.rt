@@ -3,11 +3,12 @@
 ghost use Rattle.std.specs.Prelude.{◌≡◌, ◌++◌, [], ◌∷◌, codes, IfOk, OnOk};
 ghost use Rattle.std.specs.Fmt.{decimal};
 ghost use Rattle.line_text.specs.Fields.{line_text, spaced};
-ghost use Rattle.input_answer.specs.Fault.{fault_line, told_line, fault_status, at_place, texts_told, graph_told as told_of_graph, edges_told as told_of_edges};
+ghost use Rattle.input_answer.specs.Fault.{fault_line, told_line, fault_status, at_place, texts_told, graph_told as told_of_graph, edges_told as told_of_edges, signal_told};
 
 use crate::status::Status;
 use line_text::{push_field, push_number_field, push_place_field, push_text};
 use plan_core::{OutOfMemory, Text};
+use plan_objects::SignalWhat;
 use plan_text::SheetWhat;
 use plan_words::WordWhat;
 use port_graph::GraphFault;
@@ -45,6 +46,13 @@ pub enum RunFault {
     Graph(GraphFault),
     /// The edges of the track graph have no order.
     Order(OrderFault),
+    /// The signals of the file have a fault. `at` is the place of the signal that it is told of, in bytes from 0, and `first`
+    /// the text that its kind tells, empty where it tells none.
+    Signal {
+        what: SignalWhat,
+        at: usize,
+        first: Text,
+    },
     /// The text of the sheet has a fault, in the line with this number, counted from 1.
     Sheet {
         what: SheetWhat,
@@ -133,6 +141,20 @@ fn push_order(into: &mut Vec<u8>, fault: &OrderFault) -> Result<(), OutOfMemory>
     }
 }
 
+/// Appends the text that a signal's fault of this kind tells.
+fn push_signal(into: &mut Vec<u8>, what: SignalWhat, first: &Text) -> Result<(), OutOfMemory>
+    ensures { OnOk result (into.new.items ≡ into.old.items ++ spaced (signal_told what first.now)) }
+{
+    match what {
+        SignalWhat::TooMany | SignalWhat::Id => Ok(()),
+        SignalWhat::Missing
+        | SignalWhat::RepeatedId
+        | SignalWhat::Number
+        | SignalWhat::OutsideTrack
+        | SignalWhat::Crowded => push_field(into, first.bytes()),
+    }
+}
+
 /// A line of words and the number of an input.
 fn input_line(alloc: Global, words: &[u8], input: u8) -> Result<Vec<u8>, OutOfMemory>
     ensures { IfOk result (λ v. v.items ≡ line_text words.now (decimal input ∷ [])) }
@@ -195,6 +217,21 @@ fn order_line(alloc: Global, fault: &OrderFault) -> Result<Vec<u8>, OutOfMemory>
     Ok(line)
 }
 
+fn signal_line(
+    alloc: Global,
+    what: SignalWhat,
+    at: usize,
+    first: &Text,
+) -> Result<Vec<u8>, OutOfMemory>
+    ensures { IfOk result (λ v. v.items ≡ fault_line (RunFault.Signal what at first.now)) }
+{
+    let mut line = begun_line(alloc, b"signal", what.number(), what.word())?;
+    push_place(&mut line, at)?;
+    push_signal(&mut line, what, first)?;
+    push_text(&mut line, b"\n")?;
+    Ok(line)
+}
+
 fn sheet_line(alloc: Global, what: SheetWhat, number: u32) -> Result<Vec<u8>, OutOfMemory>
     ensures { IfOk result (λ v. v.items ≡ fault_line (RunFault.Sheet what number)) }
 {
@@ -228,6 +265,7 @@ impl RunFault {
             | RunFault::Topology { .. }
             | RunFault::Graph(_)
             | RunFault::Order(_)
+            | RunFault::Signal { .. }
             | RunFault::Sheet { .. }
             | RunFault::Log { .. } => Status::Refused,
         }
@@ -249,6 +287,7 @@ impl RunFault {
             } => topology_line(alloc, *what, *at, first, second),
             RunFault::Graph(fault) => graph_line(alloc, fault),
             RunFault::Order(fault) => order_line(alloc, fault),
+            RunFault::Signal { what, at, first } => signal_line(alloc, *what, *at, first),
             RunFault::Sheet { what, line } => sheet_line(alloc, *what, *line),
             RunFault::Log { what, line } => log_line(alloc, *what, *line),
             RunFault::ReadFailed(input) => input_line(alloc, b"read failed", *input),

@@ -2,6 +2,8 @@
 ghost use Rattle.std.specs.Prelude.{◌≤◌, ℕ, List, length, IfOk, IfErr};
 ghost use Rattle.railml_read.specs.Formed.{AreFormed};
 ghost use Rattle.plan_core.specs.Topology.{IsResolved};
+ghost use Rattle.railml_topology.specs.Answers.{ResolvesTo};
+ghost use Rattle.port_graph.specs.TopologyGraph.{IsStationGraphOf};
 ghost use Rattle.track_order.specs.Order.{IsOrderOf};
 ghost use Rattle.input_answer.specs.Input.{HasRows, HasTopology, HasGraph, HasStation, IsRefusal};
 
@@ -23,7 +25,7 @@ pub enum Refusal {
 }
 
 /// The rows of bytes that aren't too many, or the fault of their text.
-fn rows_in(alloc: Global, bytes: &[u8]) -> Result<Records, Refusal>
+pub(crate) fn rows_in(alloc: Global, bytes: &[u8]) -> Result<Records, Refusal>
     requires { length bytes.now ≤ MAX_FILE_BYTES }
     ensures rows { IfOk result (λ rows. HasRows bytes.now rows) }
     ensures formed { IfOk result (λ rows. AreFormed rows) }
@@ -37,9 +39,10 @@ fn rows_in(alloc: Global, bytes: &[u8]) -> Result<Records, Refusal>
 }
 
 /// The topology of rows, or their fault.
-fn topology_from(alloc: Global, rows: &Records) -> Result<Topology, Refusal>
+pub(crate) fn topology_from(alloc: Global, rows: &Records) -> Result<Topology, Refusal>
     requires { AreFormed rows.now }
     ensures topology { (bytes : List ℕ) → HasRows bytes rows.now → IfOk result (λ t. HasTopology bytes t) }
+    ensures resolves { IfOk result (λ t. ResolvesTo rows.now t) }
     ensures resolved { IfOk result (λ t. IsResolved t) }
     ensures refusal { (bytes : List ℕ) → HasRows bytes rows.now → IfErr result (λ r. IsRefusal bytes r) }
 {
@@ -74,9 +77,10 @@ fn topology_in(alloc: Global, bytes: &[u8]) -> Result<Topology, Refusal>
 }
 
 /// The track graph of a topology, or its fault.
-fn graph_from(alloc: Global, topology: &Topology) -> Result<PortGraph, Refusal>
+pub(crate) fn graph_from(alloc: Global, topology: &Topology) -> Result<PortGraph, Refusal>
     requires { IsResolved topology.now }
     ensures graph { (bytes : List ℕ) → HasTopology bytes topology.now → IfOk result (λ g. HasGraph bytes g) }
+    ensures built { IfOk result (λ g. IsStationGraphOf topology.now g) }
     ensures refusal { (bytes : List ℕ) → HasTopology bytes topology.now → IfErr result (λ r. IsRefusal bytes r) }
 {
     match build(alloc, topology) {
@@ -97,7 +101,7 @@ fn graph_in(alloc: Global, bytes: &[u8]) -> Result<PortGraph, Refusal>
 }
 
 /// The order of a graph's edges, or its fault.
-fn order_from(alloc: Global, graph: &PortGraph) -> Result<TrackOrder, Refusal>
+pub(crate) fn order_from(alloc: Global, graph: &PortGraph) -> Result<TrackOrder, Refusal>
     ensures order { IfOk result (λ o. IsOrderOf graph.now o) }
     ensures refusal { (bytes : List ℕ) → HasGraph bytes graph.now → IfErr result (λ r. IsRefusal bytes r) }
 {

@@ -2,7 +2,7 @@
 //!
 //! Each command reads its inputs in turn and answers with a `Reply`, a status and a text, or is cut short (`Cut`).
 //! `reading` reads an input, `input` takes a file's bytes to their station (its track graph and the order of its edges) or
-//! to the first of their faults, `fault` puts the fault lines together and has their statuses, and `printing` prints a
+//! to the first of their faults, `signals` does so with the places of the file's signals (`specs/Signals`), `fault` puts the fault lines together and has their statuses, and `printing` prints a
 //! station's graph. `specs/Status` has the statuses and their numbers, `specs/Fault` the line of each fault, `specs/Input` what
 //! the bytes of a file are to a run, `specs/Met` what a run meets outside and how it leaves files, `specs/Answer` what is
 //! answered to an input and to a file; `specs/Reading` and `specs/Reply` say what the calls of those modules give. `laws` says
@@ -15,12 +15,14 @@ mod laws;
 mod printing;
 mod reading;
 mod reply;
+mod signals;
 mod status;
 
 pub use fault::RunFault;
 pub use input::{Refusal, Station, station_in};
 pub use laws::{one_fault, one_graph, one_status_to_a_number, station_or_fault};
 pub use printing::print;
-pub use reading::{bytes_of, station_of};
+pub use reading::{bytes_of, signals_of, station_of};
 pub use reply::{Cut, Reply, cut_of, fault_reply};
+pub use signals::{SignalStation, signals_in};
 pub use status::Status;

@@ -1,15 +1,18 @@
 // Reading the inputs of a command.
-ghost use Rattle.std.specs.Prelude.{◌≡◌, ◌≤◌, IfOk, IfErr, OnOk, OnErr, MatchBool};
+ghost use Rattle.std.specs.Prelude.{◌≡◌, ◌<◌, ◌≤◌, length, All, IfOk, IfErr, OnOk, OnErr, MatchBool};
 ghost use Rattle.outside_io.specs.Contents.{WhereTold, SameFiles};
 ghost use Rattle.outside_io.specs.Counts.{next_count};
 ghost use Rattle.track_order.specs.Order.{IsOrderOf};
+ghost use Rattle.plan_objects.specs.declared.places.SignalPlace.{SignalPlace as APlace};
 ghost use Rattle.input_answer.specs.Answer.{input_file};
 ghost use Rattle.input_answer.specs.Input.{IsLong, IsShort, IsStationOf};
 ghost use Rattle.input_answer.specs.Met.{between, ReadsInputs, IsUnwritten};
 ghost use Rattle.input_answer.specs.Reading.{IsInput, IsUnreadInput, IsRefusalOf};
+ghost use Rattle.input_answer.specs.Signals.{IsSignalStationOf, IsSignalRefusalOf};
 
 use crate::fault::RunFault;
 use crate::input::{Refusal, Station, station_in};
+use crate::signals::{SignalStation, signals_in};
 use outside_io::{FileFault, Files};
 use plan_core::{MAX_FILE_BYTES, MAX_LOG_BYTES, Text};
 use std::alloc::Global;
@@ -67,6 +70,31 @@ pub fn station_of<F: Files>(alloc: Global, input: &Text, files: &mut F) -> Resul
 {
     match bytes_of(alloc, 1, MAX_FILE_BYTES, input, files) {
         Ok(bytes) => station_in(alloc, &bytes),
+        Err(refusal) => Err(refusal),
+    }
+}
+
+/// The station of the file of this name with its signals, or the first fault of the file or of its signals, or that it couldn't
+/// be read.
+pub fn signals_of<F: Files>(
+    alloc: Global,
+    input: &Text,
+    files: &mut F,
+) -> Result<SignalStation, Refusal>
+    ensures station { IfOk result (λ s. IsSignalStationOf input.now (F.at files.old).contents s.station.graph s.station.order
+        s.signals s.placed) }
+    ensures order { IfOk result (λ s. IsOrderOf s.station.graph s.station.order) }
+    ensures drawn { IfOk result (λ s. All (λ (p : APlace). p.edge.0 < length s.station.graph.edges) s.placed) }
+    ensures refusal { let met = between (F.at files.old) (F.at files.new) in
+        IfErr result (λ r. IsSignalRefusalOf input.now met r) }
+    ensures reads { OnOk result ((F.at files.new).reads ≡ next_count (F.at files.old).reads) }
+    ensures reads_err { let met = between (F.at files.old) (F.at files.new) in OnErr result (ReadsInputs 1 ⊥ met) }
+    ensures unwritten { let met = between (F.at files.old) (F.at files.new) in IsUnwritten met }
+    ensures later { (F.at files.old).read_faults ≤ (F.at files.new).read_faults }
+    ensures same { WhereTold (F.at files.old).contents (F.at files.new).contents SameFiles }
+{
+    match bytes_of(alloc, 1, MAX_FILE_BYTES, input, files) {
+        Ok(bytes) => signals_in(alloc, &bytes),
         Err(refusal) => Err(refusal),
     }
 }
