@@ -4,3 +4,4 @@ pub mod DrawnLemmas
 pub mod PictureLemmas
 pub mod FiledLemmas
 pub mod FieldLemmas
+pub mod SignalledLemmas

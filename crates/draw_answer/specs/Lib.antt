@@ -2,4 +2,5 @@ pub mod Written
 pub mod SearchLog
 pub mod Pictured
 pub mod Drawn
+pub mod Signalled
 pub mod Tried

@@ -128,7 +128,7 @@ pub fn status_of(outcome: &Outcome) -> Status
 }
 
 /// The status and the sheet of an outcome.
-fn sheet_reply(
+pub(crate) fn sheet_reply(
     alloc: Global,
     station: &Station,
     asked: &Asked,
@@ -185,7 +185,7 @@ fn search_filed<F: Files>(
 }
 
 /// The same search, its lines told to the file that is named for them or else to the trace.
-fn search_told<F: Files, T: LogSink>(
+pub(crate) fn search_told<F: Files, T: LogSink>(
     alloc: Global,
     station: &Station,
     asked: &Asked,

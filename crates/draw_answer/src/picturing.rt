@@ -45,7 +45,7 @@ fn write_picture<F: Files>(
 }
 
 /// The drawing that a search ended with, if it found one.
-fn found_by(outcome: &Outcome) -> Option<&Drawing>
+pub(crate) fn found_by(outcome: &Outcome) -> Option<&Drawing>
     ensures { MatchOption result (found_by outcome.now ≡ None) (λ d. found_by outcome.now ≡ Some d.now) }
 {
     match outcome {
