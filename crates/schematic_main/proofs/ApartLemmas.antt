@@ -1,7 +1,7 @@
 -- The files that a command writes have different names.
 use Rattle.std.proofs.Common.{◌≡◌, ℕ, List, None, Some, refl, sym, arith}
 use Rattle.plan_words.specs.declared.command.Command.{Command}
-use Rattle.plan_words.specs.declared.command.Command.TheVariants.{Draw, Verify, Check, Graph as PrintGraph, Make, Trial}
+use Rattle.plan_words.specs.declared.command.Command.TheVariants.{Draw, Verify, Check, Graph as PrintGraph, Make, Trial, Signals}
 use Rattle.plan_words.specs.Words.{IsCommandOf}
 use Rattle.plan_words.proofs.AnswerLemmas.{outputs_apart}
 use Rattle.draw_answer.specs.Written.{AreFilesApart}
@@ -18,3 +18,5 @@ asked_apart words (Verify input sheet) asked = λ i j d before within. absurd (o
 asked_apart words (Check input sheet log) asked = λ i j d before within. absurd (omega (arith, within))
 asked_apart words (Make n) asked = λ i j d before within. absurd (omega (arith, within))
 asked_apart words (Trial n) asked = λ i j d before within. absurd (omega (arith, within))
+asked_apart words (Signals input grid order budget None) asked = λ i j d before within. absurd (omega (arith, within))
+asked_apart words (Signals input grid order budget (Some l)) asked = λ i j d before within. absurd (omega (arith, before, within))

@@ -9,7 +9,7 @@ use Rattle.plan_core.specs.Drawing.{Drawing}
 use Rattle.track_order.specs.Order.{EdgeOrder}
 use Rattle.outside_io.specs.Contents.{Told, IsFileWhereTold, TellsAt}
 use Rattle.plan_words.specs.declared.command.Command.{Command}
-use Rattle.plan_words.specs.declared.command.Command.TheVariants.{Draw, Verify, Check, Graph as PrintGraph, Make, Trial}
+use Rattle.plan_words.specs.declared.command.Command.TheVariants.{Draw, Verify, Check, Graph as PrintGraph, Make, Trial, Signals}
 use Rattle.plan_words.specs.Words.{IsCommandOf}
 use Rattle.plan_text.specs.SheetText.{Sheet as PlainSheet}
 use Rattle.refute_log.specs.Lines.{log_text, MayAllBeTold}
@@ -38,11 +38,13 @@ use Rattle.sheet_answer.specs.Verdict.{IsVerified}
 use Rattle.sheet_answer.specs.CheckLine.{claim_of, refusal_status, verdict_status}
 use Rattle.sheet_answer.specs.Checked.{IsFoundBroken, IsClaimJudged, IsChecked}
 use Rattle.draw_answer.specs.Drawn.{Job, job, status_of, IsDrawAnswer}
+use Rattle.draw_answer.specs.Signalled.{job_for, IsSignalFileJudged}
 use Rattle.draw_answer.specs.Tried.{IsTried}
 use Rattle.schematic_main.specs.Commands.{Owes, ends_of, HasSoundFile, AreSound}
 use Rattle.schematic_main.specs.Run.{Asks, IsAnswerDue, FailsIn}
 use Rattle.draw_answer.proofs.OutcomeLemmas.{on_outcome}
 use Rattle.input_answer.proofs.InputLemmas.{file_fault_status}
+use Rattle.input_answer.proofs.SignalLemmas.{fault_refuses}
 use Rattle.schematic_main.proofs.SoundLog.{sound_log}
 
 -- ---- the statuses: what holds of those that each part of an answer may have holds of the answer's
@@ -72,6 +74,10 @@ on_drawing P asked met traced g o status text owed answer = subst P (sym answer.
 
 on_trial : (P : Status → Type 0) (n : ℕ) (traced : Lines → Type 0) (g : Graph) (o : EdgeOrder) (status : Status) (text : List ℕ) → OfOwed P → IsTried n traced g o status text → P status
 on_trial P n traced g o status text owed tried = subst P (sym tried.status_is) (on_outcome P tried.outcome owed.done owed.none owed.unfinished)
+
+on_signals : (P : Status → Type 0) (asked : Job) (met : Met) (traced : Lines → Type 0) (bytes : List ℕ) (status : Status) (text : List ℕ) → OfOwed P → IsSignalFileJudged asked met traced bytes status text → P status
+on_signals P asked met traced bytes status text owed (inl a) = on_drawing P (job_for a.places asked) met traced a.graph a.order status a.signalled.sheet owed a.signalled.answer
+on_signals P asked met traced bytes status text owed (inr r) = subst P (sym (r.answers.status_is ∙ fault_refuses bytes r.fault r.has)) owed.refused
 
 on_verdict : (P : Status → Type 0) (g : Graph) (o : EdgeOrder) (grid : GridSize) (d : Drawing) (status : Status) (text : List ℕ) → OfOwed P → IsVerdict g o grid d status text → P status
 on_verdict P g o grid d status text owed (inl a) = subst P (sym a.status_is) owed.done
@@ -129,6 +135,11 @@ on_command P (Check input sheet log) met traced status text owed unread owes =
     owes
 on_command P (Make n) met traced status text owed unread made = subst P (sym made.status_is) owed.done
 on_command P (Trial n) met traced status text owed unread owes = on_file P (IsTried n traced) (station_text n) status text owed.refused (λ g o. on_trial P n traced g o status text owed) owes
+on_command P (Signals input grid order budget log) met traced status text owed unread owes =
+    let asked = job grid order budget None log in
+    on_input P (text_input 1 input) 0 met (IsAnswerAfter 1 met (IsSignalFileJudged asked met traced)) status text owed.refused (λ fails. unread (0, lit< tt, fails))
+    (λ bytes answer. on_signals P asked met traced bytes status text owed answer.1)
+    owes
 
 on_due : (P : Status → Type 0) (words : List (List ℕ)) (met : Met) (traced : Lines → Type 0) (status : Status) (text : List ℕ) → OfOwed P → (Asks words (λ command. FailsIn command met) → P Unread) → IsAnswerDue words met traced status text → P status
 on_due P words met traced status text owed unread (inl (command, asked, owes)) =
@@ -252,6 +263,14 @@ sound_ends (Make n) met traced status text sound read made = made.status_is
 sound_ends (Trial n) met traced status text sound read owes =
     let found = sound_judged (IsTried n traced) (station_text n) status text sound owes in
     outcome_status found.3.outcome status found.3.status_is
+sound_ends (Signals input grid order budget log) met traced status text file read owes =
+    let asked = job grid order budget None log in
+    let sound : HasSoundFile input met.before.contents = record { bytes = file.bytes; there = file.there; sound = λ fault has. file.sound fault (inl has) } in
+    let judged = first_on input met sound (IsAnswerAfter 1 met (IsSignalFileJudged asked met traced)) status text (λ fails. read (0, lit< tt, fails)) owes in
+    elim judged.1 [
+      | inl a ↦ outcome_status a.signalled.answer.drawn.outcome status a.signalled.answer.drawn.status_is
+      | inr r ↦ absurd (file.sound r.fault r.has)
+    ]
 
 -- so do words that ask for it
 pub due_ends : (words : List (List ℕ)) (command : Command) (met : Met) (traced : Lines → Type 0) (status : Status) (text : List ℕ) → IsCommandOf words command → AreSound command met.before.contents → (FailsIn command met → ⊥) → IsAnswerDue words met traced status text → ends_of command status

@@ -6,7 +6,7 @@ use Rattle.outside_io.specs.Contents.{Told, TellsAt}
 use Rattle.plan_core.specs.declared.limits.TheConstants.{MAX_FILE_BYTES, MAX_LOG_BYTES}
 use Rattle.plan_core.specs.Graph.{Graph}
 use Rattle.plan_words.specs.declared.command.Command.{Command}
-use Rattle.plan_words.specs.declared.command.Command.TheVariants.{Draw, Verify, Check, Graph as PrintGraph, Make, Trial}
+use Rattle.plan_words.specs.declared.command.Command.TheVariants.{Draw, Verify, Check, Graph as PrintGraph, Make, Trial, Signals}
 use Rattle.track_order.specs.Order.{EdgeOrder}
 use Rattle.refute_log.specs.Lines.{log_text, MayAllBeTold}
 use Rattle.refute_log.specs.Told.{Lines}
@@ -15,6 +15,7 @@ use Rattle.input_answer.specs.declared.fault.RunFault.{RunFault}
 use Rattle.input_answer.specs.declared.status.Status.{Status}
 use Rattle.input_answer.specs.declared.status.Status.TheVariants.{Done, NoDrawing, Unfinished, Broken}
 use Rattle.input_answer.specs.Input.{IsShort, HasStation, HasSomeStation, HasFileFault}
+use Rattle.input_answer.specs.Signals.{HasFault}
 use Rattle.sheet_answer.specs.Verdict.{IsSoundSheet}
 use Rattle.input_answer.specs.Met.{Met}
 use Rattle.input_answer.specs.Answer.{InputFile, text_input, log_input, IsPrinted, IsFileJudged, IsAnswerAfter, IsAnswerOn, HasReadStation}
@@ -22,6 +23,7 @@ use Rattle.sheet_answer.specs.Verdict.{IsVerified}
 use Rattle.draw_answer.specs.SearchLog.{IsLogOf}
 use Rattle.draw_answer.specs.Written.{file_named}
 use Rattle.draw_answer.specs.Drawn.{job, IsDrawAnswer, IsLeftByDraw}
+use Rattle.draw_answer.specs.Signalled.{IsSignalFileJudged, HasReadSignals, IsLeftBySignals}
 use Rattle.draw_answer.specs.Tried.{IsMade, IsTried}
 use Rattle.sheet_answer.specs.Checked.{IsChecked}
 
@@ -35,6 +37,7 @@ inputs_of (Verify input sheet) = text_input 1 input ∷ text_input 2 sheet ∷ [
 inputs_of (Check input sheet log) = text_input 1 input ∷ text_input 2 sheet ∷ log_input 3 log ∷ []
 inputs_of (Make n) = []
 inputs_of (Trial n) = []
+inputs_of (Signals input grid order budget log) = text_input 1 input ∷ []
 
 -- the names of the files that a command writes, in this order
 abbrev pub outputs_of : Command → List (List ℕ)
@@ -44,8 +47,9 @@ outputs_of (Verify input sheet) = []
 outputs_of (Check input sheet log) = []
 outputs_of (Make n) = []
 outputs_of (Trial n) = []
+outputs_of (Signals input grid order budget log) = file_named log
 
--- a command tells the lines of a search to the trace: draw, where no file is named for them, and trial
+-- a command tells the lines of a search to the trace: draw and signals, where no file is named for them, and trial
 abbrev pub TellsTrace : Command → Type 0
 TellsTrace (Draw input grid order budget svg log) = log ≡ None
 TellsTrace (PrintGraph input) = ⊥
@@ -53,8 +57,10 @@ TellsTrace (Verify input sheet) = ⊥
 TellsTrace (Check input sheet log) = ⊥
 TellsTrace (Make n) = ⊥
 TellsTrace (Trial n) = ⊤
+TellsTrace (Signals input grid order budget log) = log ≡ None
 
--- a command has something to search: draw where it read its file and that has a station, trial where its made file has one
+-- a command has something to search: draw where it read its file and that has a station, trial where its made file has one,
+-- and signals where the file that it read has a station and signals without a fault
 abbrev pub MaySearch : Command → Met → Type 0
 MaySearch (Draw input grid order budget svg log) met = HasReadStation input met
 MaySearch (PrintGraph input) met = ⊥
@@ -62,6 +68,7 @@ MaySearch (Verify input sheet) met = ⊥
 MaySearch (Check input sheet log) met = ⊥
 MaySearch (Make n) met = ⊥
 MaySearch (Trial n) met = HasSomeStation (station_text n)
+MaySearch (Signals input grid order budget log) met = HasReadSignals input met
 
 -- it may write a file, with what the run met; it may tell the trace
 abbrev pub MayWrite : Command → Met → Type 0
@@ -81,12 +88,14 @@ MayLeave (Verify input sheet) met traced name bytes = ⊥
 MayLeave (Check input sheet log) met traced name bytes = ⊥
 MayLeave (Make n) met traced name bytes = ⊥
 MayLeave (Trial n) met traced name bytes = ⊥
+MayLeave (Signals input grid order budget log) met traced name bytes =
+    IsLeftBySignals input (job grid order budget None log) met name bytes
 
 -- ---- what it owes
 
 -- with what the run met and what the trace was told, the status that a command ends with and the text that it puts.
--- verify reads the file, and then the sheet, before it judges what they say, and check so the log too; draw and graph
--- read the file alone; make and trial read nothing, and trial judges a made file as draw does one that is read
+-- verify reads the file, and then the sheet, before it judges what they say, and check so the log too; draw, signals and
+-- graph read the file alone; make and trial read nothing, and trial judges a made file as draw does one that is read
 abbrev pub Owes : Command → Met → (traced : Lines → Type 0) → Status → List ℕ → Type 0
 Owes (Draw input grid order budget svg log) met traced status text =
     IsAnswerOn (text_input 1 input) 0 met (IsAnswerAfter 1 met (IsFileJudged (IsDrawAnswer (job grid order budget svg log) met traced))) status text
@@ -98,6 +107,8 @@ Owes (Check input sheet log) met traced status text =
     IsAnswerOn (text_input 1 input) 0 met (λ bytes. IsAnswerOn (text_input 2 sheet) 1 met (λ said. IsAnswerOn (log_input 3 log) 2 met (IsAnswerAfter 3 met (IsChecked bytes said)))) status text
 Owes (Make n) met traced status text = IsMade n status text
 Owes (Trial n) met traced status text = IsFileJudged (IsTried n traced) (station_text n) status text
+Owes (Signals input grid order budget log) met traced status text =
+    IsAnswerOn (text_input 1 input) 0 met (IsAnswerAfter 1 met (IsSignalFileJudged (job grid order budget None log) met traced)) status text
 
 -- ---- how it ends
 
@@ -109,12 +120,19 @@ ends_of (Verify input sheet) status = (status ≡ Done) ⊎ (status ≡ Broken)
 ends_of (Check input sheet log) status = (status ≡ Done) ⊎ (status ≡ Unfinished) ⊎ (status ≡ Broken)
 ends_of (Make n) status = status ≡ Done
 ends_of (Trial n) status = (status ≡ Done) ⊎ (status ≡ NoDrawing) ⊎ (status ≡ Unfinished)
+ends_of (Signals input grid order budget log) status = (status ≡ Done) ⊎ (status ≡ NoDrawing) ⊎ (status ≡ Unfinished)
 
 -- the file of this name is told, and its bytes have none of the faults
 pub record HasSoundFile (name : List ℕ) (contents : Option Told) : Type 0 where
   pub bytes : List ℕ
   pub there : TellsAt contents name (Some bytes)
   pub sound : (fault : RunFault) → HasFileFault bytes fault → ⊥
+
+-- and neither its bytes nor their signals have one
+pub record HasSoundSignals (name : List ℕ) (contents : Option Told) : Type 0 where
+  pub bytes : List ℕ
+  pub there : TellsAt contents name (Some bytes)
+  pub sound : (fault : RunFault) → HasFault bytes fault → ⊥
 
 -- the sheet of this name is told, isn't too long, and has no fault as one of such a graph, a drawing being due or not
 pub record HasSoundSheet (name : List ℕ) (contents : Option Told) (needs_drawing : Bool) (IsGraph : Graph → Type 0) : Type 0 where
@@ -144,3 +162,4 @@ AreSound (Check input sheet log) contents =
     (file : HasSoundFile input contents) × HasSoundSheet sheet contents false (HasStationGraph file.bytes) × HasSoundLog log contents
 AreSound (Make n) contents = ⊤
 AreSound (Trial n) contents = (fault : RunFault) → HasFileFault (station_text n) fault → ⊥
+AreSound (Signals input grid order budget log) contents = HasSoundSignals input contents

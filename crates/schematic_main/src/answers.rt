@@ -9,7 +9,7 @@ ghost use Rattle.schematic_main.specs.Commands.{inputs_of, outputs_of, MayWrite,
 ghost use Rattle.draw_answer.specs.Written.{AreFilesApart};
 ghost use Rattle.schematic_main.specs.Run.{CommandFailsToWrite};
 
-use draw_answer::{Asked, draw, made, trial};
+use draw_answer::{Asked, draw, made, signals, trial};
 use input_answer::{Cut, Reply, print};
 use outside_io::Files;
 use plan_words::Command;
@@ -69,5 +69,22 @@ pub fn answer_to<F: Files, T: LogSink>(
         Command::Check { input, sheet, log } => Ok(check(alloc, input, sheet, log, files)?),
         Command::Make { n } => Ok(made(alloc, *n)?),
         Command::Trial { n } => trial(alloc, *n, trace),
+        Command::Signals {
+            input,
+            grid,
+            order,
+            budget,
+            log,
+        } => {
+            let no_picture = None;
+            let asked = Asked {
+                grid,
+                order,
+                budget: *budget,
+                svg: &no_picture,
+                log,
+            };
+            signals(alloc, input, &asked, files, trace)
+        }
     }
 }

@@ -58,3 +58,30 @@ returns-in_ok-check-in-Check-clause-leaves g c = leaves_same _ (g.F.Files.at c.a
 
 pub returns-in-Trial-clause-leaves : goal.returns-in-Trial-clause-leaves
 returns-in-Trial-clause-leaves g c = left_alone _ (g.F.Files.at c.args.files.now).contents
+
+pub returns-in-Signals-clause-answer : goal.returns-in-Signals-clause-answer
+returns-in-Signals-clause-answer g c =
+    let met = between (g.F.Files.at c.args.files.now) (g.F.Files.at c.signals.new.files) in
+    let traced = told_to {Self = g.row.T.Denot} g.T.LogSink.tells g.T.LogSink.learnt c.args.trace.now c.signals.new.trace in
+    subst (λ (command : Command). IfOk c.signals.result (λ r. Owes command met traced r.status r.text.items)) (sym c.in-Signals.is) c.signals.ensures.answer
+
+pub returns-in-Signals-clause-leaves : goal.returns-in-Signals-clause-leaves
+returns-in-Signals-clause-leaves g c =
+    let old = (g.F.Files.at c.args.files.now).contents in
+    let new = (g.F.Files.at c.signals.new.files).contents in
+    let met = between (g.F.Files.at c.args.files.now) (g.F.Files.at c.signals.new.files) in
+    let traced = told_to {Self = g.row.T.Denot} g.T.LogSink.tells g.T.LogSink.learnt c.args.trace.now c.signals.new.trace in
+    let Refused : Type 0 = IsOkAnd c.signals.result (λ r. IsRefused r.status) in
+    subst (λ (command : Command). WhereTold old new (Leaves (λ name bytes. (Refused → ⊥) × MayLeave command met traced name bytes))) (sym c.in-Signals.is) c.signals.ensures.leaves
+
+pub returns-in-Signals-clause-unwritten : goal.returns-in-Signals-clause-unwritten
+returns-in-Signals-clause-unwritten g c =
+    let met = between (g.F.Files.at c.args.files.now) (g.F.Files.at c.signals.new.files) in
+    let Refused : Type 0 = IsOkAnd c.signals.result (λ r. IsRefused r.status) in
+    subst (λ (command : Command). Refused ⊎ (MayWrite command met → ⊥) → IsUnwritten met) (sym c.in-Signals.is) c.signals.ensures.unwritten
+
+pub returns-in-Signals-clause-untold : goal.returns-in-Signals-clause-untold
+returns-in-Signals-clause-untold g c =
+    let met = between (g.F.Files.at c.args.files.now) (g.F.Files.at c.signals.new.files) in
+    let Refused : Type 0 = IsOkAnd c.signals.result (λ r. IsRefused r.status) in
+    subst (λ (command : Command). Refused ⊎ (MayTell command met → ⊥) → c.signals.new.trace ≡ c.args.trace.now) (sym c.in-Signals.is) c.signals.ensures.untold
