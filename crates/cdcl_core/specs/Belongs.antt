@@ -4,7 +4,8 @@ use Rattle.cnf_core.specs.Lit.{Literal, negate}
 use Rattle.cnf_core.specs.Clause.{Clauses, words_of}
 use Rattle.cnf_core.specs.Propagation.{AreAmong}
 use Rattle.outside_io.specs.Counts.{rose_by}
-use Rattle.refute_log.specs.declared.line.LogLine.TheVariants.{Formula, Learnt, Query, Refuted as RefutedLine, Model as ModelLine}
+use Rattle.refute_log.specs.declared.line.LogLine.TheVariants.{Formula, Learnt, Query, Refuted as RefutedLine}
+use Rattle.refute_log.specs.declared.line.LogLine.TheVariants.{Model as ModelLine}
 use Rattle.refute_log.specs.Lines.{MayAllBeTold}
 use Rattle.refute_log.specs.Told.{Lines}
 use Rattle.refute_log.specs.Log.{facts_of, clause_lines, Derives, Due}
@@ -26,7 +27,8 @@ pub record BelongsTo (lines : Lines) (clauses : Clauses) (count : ℕ) : Type 0 
 abbrev pub Belongs : Lines → Kept → Type 0
 Belongs lines k = BelongsTo lines k.clauses k.words
 
--- whatever is told after an error has the Formula and Bound lines of what was told before, or these and a Formula line of
+-- whatever is told after an error has the Formula and Bound lines of what was told before, or these and a Formula line
+-- of
 -- this clause behind them
 abbrev pub GivesAtMost : (Lines → Type 0) → (Lines → Type 0) → List Literal → Type 0
 GivesAtMost before now c = (lines : Lines) → before lines → (more : Lines) → now more →
@@ -62,7 +64,8 @@ HasSpent Spent budget n = n ≡ budget
 HasSpent Room budget n = n ≤ budget
 
 -- what a search with an answer has told to a log, and left of the solver
-pub record HasSolved (before now : Lines → Type 0) (assume : List Literal) (old new : Kept) (answer : Answer) (budget before_count now_count : ℕ) : Type 0 where
+pub record HasSolved (before now : Lines → Type 0) (assume : List Literal) (old new : Kept) (answer : Answer)
+    (budget before_count now_count : ℕ) : Type 0 where
   pub learnt : Clauses
   pub ending : Lines
   pub kept : HasLearnt old new learnt

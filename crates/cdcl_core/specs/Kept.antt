@@ -1,5 +1,6 @@
 -- What contracts see of a solver, and of the clauses that it was given.
-use Rattle.std.specs.Prelude.{◌≡◌, ◌≤◌, ◌<◌, ℕ, zero, suc, ◌+◌, ◌-◌, ◌^◌, min, Bool, true, false, Option, None, Some, List, [], ◌∷◌, ◌++◌, All, Contains, length}
+use Rattle.std.specs.Prelude.{◌≡◌, ◌≤◌, ◌<◌, ℕ, zero, suc, ◌+◌, ◌-◌, ◌^◌, min, Bool, true, false, Option, None, Some}
+use Rattle.std.specs.Prelude.{List, [], ◌∷◌, ◌++◌, All, Contains, length}
 use Rattle.cnf_core.specs.Lit.{Literal, has}
 use Rattle.cnf_core.specs.Clause.{Clauses, words_of}
 use Rattle.cnf_core.specs.Assignment.{Assignment, truth, SatisfiesAll}
@@ -27,11 +28,33 @@ pub record Kept : Type 0 where
 
 -- a new solver
 abbrev pub blank : ℕ → Kept
-blank room = record { room = room; vars = 0; clauses = []; words = 0; learnt = 0; visits = 0; model = None; refuted = []; failed = false }
+blank room = record {
+  room = room;
+  vars = 0;
+  clauses = [];
+  words = 0;
+  learnt = 0;
+  visits = 0;
+  model = None;
+  refuted =
+      [];
+  failed = false;
+}
 
 -- further variables are there, and no model and no refuted assumptions any more
 abbrev pub with_more_vars : Kept → ℕ → Kept
-with_more_vars k n = record { room = k.room; vars = k.vars + n; clauses = k.clauses; words = k.words; learnt = k.learnt; visits = k.visits; model = None; refuted = []; failed = k.failed }
+with_more_vars k n = record {
+  room = k.room;
+  vars = k.vars + n;
+  clauses = k.clauses;
+  words = k.words;
+  learnt =
+      k.learnt;
+  visits = k.visits;
+  model = None;
+  refuted = [];
+  failed = k.failed;
+}
 
 -- the same clauses, as sets of literals
 pub record AreSameClauses (clauses more : Clauses) : Type 0 where

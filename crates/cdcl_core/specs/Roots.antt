@@ -1,5 +1,6 @@
 -- What a solver's trail keeps beside the arena's own conditions.
-use Rattle.std.specs.Prelude.{◌≡◌, ◌≤◌, ◌<◌, ℕ, Bool, true, false, List, [], ◌++◌, All, Contains, length, take, slice_index_or}
+use Rattle.std.specs.Prelude.{◌≡◌, ◌≤◌, ◌<◌, ℕ, Bool, true, false, List, [], ◌++◌, All, Contains, length, take}
+use Rattle.std.specs.Prelude.{slice_index_or}
 use Rattle.cnf_core.specs.Lit.{Literal, has}
 use Rattle.cnf_core.specs.Clause.{Clauses, AreThere, IsThere}
 use Rattle.cnf_core.specs.Propagation.{IsIn, HasReason, Rup}
@@ -11,7 +12,8 @@ use Rattle.cdcl_learn.specs.Levels.{upto, IsStable, HasClosedLevels}
 
 -- for each literal of level 0 some clause makes it true by literals in front of it
 abbrev pub HasRoots : Sight → Clauses → Type 0
-HasRoots s clauses = (i : ℕ) → i < length s.lits → level_of s (nth s i) ≡ 0 → HasReason clauses (has (take i s.lits)) (nth s i)
+HasRoots s clauses = (i : ℕ) → i < length s.lits → level_of s (nth s i) ≡ 0 →
+    HasReason clauses (has (take i s.lits)) (nth s i)
 
 -- a literal of level 0 satisfies the clause
 pub record IsTrueAtRoot (s : Sight) (c : List Literal) : Type 0 where
@@ -57,5 +59,6 @@ pub record IsAssuming (query : List Literal) (s : Sight) (q n : ℕ) : Type 0 wh
   pub within : q ≤ s.level
   pub some : n ≤ length query
   pub first : (i : ℕ) (d : Literal) → i < n → IsIn (upto s q) (slice_index_or query i d)
-  pub only : (k : Literal) → IsIn (has s.lits) k → reason_of s k ≡ 0 → 0 < level_of s k → level_of s k ≤ q → Contains query k
+  pub only : (k : Literal) → IsIn (has s.lits) k → reason_of s k ≡ 0 → 0 < level_of s k → level_of s k ≤ q →
+      Contains query k
   pub left : n < length query → s.level ≡ q

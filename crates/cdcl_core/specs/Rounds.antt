@@ -4,7 +4,8 @@ use Rattle.cnf_core.specs.Lit.{Literal}
 use Rattle.cnf_core.specs.Clause.{Clauses}
 use Rattle.outside_io.specs.Counts.{next_count, rose_by}
 use Rattle.refute_log.specs.declared.line.LogLine.{LogLine}
-use Rattle.refute_log.specs.declared.line.LogLine.TheVariants.{Formula, Learnt, Bound, Query, Refuted as RefutedLine, Model as ModelLine}
+use Rattle.refute_log.specs.declared.line.LogLine.TheVariants.{Formula, Learnt, Bound, Query, Refuted as RefutedLine}
+use Rattle.refute_log.specs.declared.line.LogLine.TheVariants.{Model as ModelLine}
 use Rattle.refute_log.specs.Lines.{MayBeTold}
 use Rattle.refute_log.specs.Told.{Lines, AddsLine}
 use Rattle.refute_log.specs.Log.{facts_of, clause_lines, Derives}
@@ -44,37 +45,43 @@ abbrev pub BreaksOffAt : (Lines → Type 0) → (Lines → Type 0) → List Lite
 BreaksOffAt before now query s = BreaksOff before now (λ lines. BelongsAt query lines (clauses s) s.words)
 
 -- one clause was learnt, which may be told, where the query was open
-pub record LearnsOne (before now : Lines → Type 0) (count after : ℕ) (query : List Literal) (old new : Search) : Type 0 where
-  pub clause : List Literal
-  pub formed : MayBeTold (Learnt clause)
-  pub deduced : IsDeduced (clauses old) clause
-  pub open_ : IsOpenQuery (clauses old) query
-  pub kept : HasLearnt (seen old) (seen new) (clause ∷ [])
-  pub told : AddsLine before now (Learnt clause)
-  pub counted : after ≡ next_count count
+pub record LearnsOne (before now : Lines → Type 0) (count after : ℕ) (query : List Literal) (old new : Search) : Type 0
+  where
+    pub clause : List Literal
+    pub formed : MayBeTold (Learnt clause)
+    pub deduced : IsDeduced (clauses old) clause
+    pub open_ : IsOpenQuery (clauses old) query
+    pub kept : HasLearnt (seen old) (seen new) (clause ∷ [])
+    pub told : AddsLine before now (Learnt clause)
+    pub counted : after ≡ next_count count
 
 -- the search ended with an answer
-pub record EndsSo (before now : Lines → Type 0) (count after : ℕ) (query : List Literal) (old new : Search) (answer : Answer) : Type 0 where
+pub record EndsSo (before now : Lines → Type 0) (count after : ℕ) (query : List Literal) (old new : Search)
+    (answer : Answer) : Type 0 where
   pub store : IsSameStore old new
   pub says : IsSearchAnswer answer query new
   pub ending : Lines
   pub ends : EndsWith answer query ending
   pub told : (lines : Lines) → before lines → now (lines ++ ending)
-  pub belongs : (lines : Lines) → BelongsAt query lines (clauses old) old.words → BelongsTo (lines ++ ending) (clauses new) new.words
+  pub belongs : (lines : Lines) → BelongsAt query lines (clauses old) old.words →
+      BelongsTo (lines ++ ending) (clauses new) new.words
   pub counted : after ≡ count
 
 -- so many clauses were learnt, each where the query was open
-pub record HasGone (before now : Lines → Type 0) (count after : ℕ) (query : List Literal) (old new : Search) (n : ℕ) : Type 0 where
+pub record HasGone (before now : Lines → Type 0) (count after : ℕ) (query : List Literal) (old new : Search) (n : ℕ) :
+    Type 0 where
   pub learnt : Clauses
   pub many : length learnt ≡ n
   pub kept : HasLearnt (seen old) (seen new) learnt
   pub given : (cs : Clauses) → AreGiven cs (clauses old) → AreGiven cs (clauses new)
   pub told : (lines : Lines) → before lines → now (lines ++ map Learnt learnt)
-  pub belongs : (lines : Lines) → BelongsAt query lines (clauses old) old.words → BelongsAt query (lines ++ map Learnt learnt) (clauses new) new.words
+  pub belongs : (lines : Lines) → BelongsAt query lines (clauses old) old.words →
+      BelongsAt query (lines ++ map Learnt learnt) (clauses new) new.words
   pub counted : after ≡ rose_by n count
 
 -- so many clauses were learnt at most, and then the search ended
-pub record EndsAfter (before now : Lines → Type 0) (count after : ℕ) (query : List Literal) (old new : Search) (answer : Answer) (budget : ℕ) : Type 0 where
+pub record EndsAfter (before now : Lines → Type 0) (count after : ℕ) (query : List Literal) (old new : Search)
+    (answer : Answer) (budget : ℕ) : Type 0 where
   pub learnt : Clauses
   pub kept : HasLearnt (seen old) (seen new) learnt
   pub spent : HasSpent answer budget (length learnt)
@@ -83,11 +90,13 @@ pub record EndsAfter (before now : Lines → Type 0) (count after : ℕ) (query 
   pub ending : Lines
   pub ends : EndsWith answer query ending
   pub told : (lines : Lines) → before lines → now (lines ++ (map Learnt learnt ++ ending))
-  pub belongs : (lines : Lines) → BelongsAt query lines (clauses old) old.words → BelongsTo (lines ++ (map Learnt learnt ++ ending)) (clauses new) new.words
+  pub belongs : (lines : Lines) → BelongsAt query lines (clauses old) old.words →
+      BelongsTo (lines ++ (map Learnt learnt ++ ending)) (clauses new) new.words
   pub counted : after ≡ rose_by (length learnt) count
 
 -- the same behind the query's line
-pub record EndsBehindQuery (before now : Lines → Type 0) (count after : ℕ) (query : List Literal) (old new : Search) (answer : Answer) (budget : ℕ) : Type 0 where
+pub record EndsBehindQuery (before now : Lines → Type 0) (count after : ℕ) (query : List Literal) (old new : Search)
+    (answer : Answer) (budget : ℕ) : Type 0 where
   pub searched : HasSolved before now query (seen old) (seen new) answer budget count after
   pub given : (cs : Clauses) → AreGiven cs (clauses old) → AreGiven cs (clauses new)
   pub says : IsSearchAnswer answer query new

@@ -1,5 +1,6 @@
 -- The state of a search.
-use Rattle.std.specs.Prelude.{◌≡◌, ◌≢◌, ◌≤◌, ◌<◌, ◌⊎◌, ℕ, ◌+◌, slice_index, slice_index_or, Bool, true, false, Option, None, List, [], ◌∷◌, ◌++◌, All, Contains, length}
+use Rattle.std.specs.Prelude.{◌≡◌, ◌≢◌, ◌≤◌, ◌<◌, ◌⊎◌, ℕ, ◌+◌, slice_index, slice_index_or, Bool, true, false, Option}
+use Rattle.std.specs.Prelude.{None, List, [], ◌∷◌, ◌++◌, All, Contains, length}
 use Rattle.cnf_core.specs.declared.limits.TheConstants.{ROOM}
 use Rattle.cnf_core.specs.Lit.{Literal, literal, negate, has}
 use Rattle.cnf_core.specs.Clause.{Clauses, words_of, IsThere, AreThere, AreDistinct}
@@ -35,7 +36,8 @@ pub record AreFitted (room vars heap analyser phases arena_room arena_words own_
   pub within : words ≤ room
 
 abbrev pub IsFitted : Search → Type 0
-IsFitted s = AreFitted s.room s.trail.vars s.heap.vars s.analyser.vars (length s.phases.items) s.arena.room (length s.arena.words) (words_of s.own.items) s.words
+IsFitted s = AreFitted s.room s.trail.vars s.heap.vars s.analyser.vars (length s.phases.items) s.arena.room
+    (length s.arena.words) (words_of s.own.items) s.words
 
 pub record IsSearch (s : Search) : Type 0 where
   pub fitted : IsFitted s
@@ -161,7 +163,8 @@ pub record IsLearntFrom (s : Search) (c : List Literal) : Type 0 where
 
 -- the negations of the decided literals
 pub record AreDenied (m : Marks) (c : List Literal) : Type 0 where
-  pub all : (k : Literal) → IsIn (has m.lits) k → slice_index m.reasons k.var ≡ 0 → 0 < slice_index m.levels k.var → Contains c (negate k)
+  pub all : (k : Literal) → IsIn (has m.lits) k → slice_index m.reasons k.var ≡ 0 → 0 < slice_index m.levels k.var →
+      Contains c (negate k)
   pub falsified : All (IsFalse m) c
   pub decided : All (λ k. slice_index m.reasons k.var ≡ 0) c
   pub above : All (λ k. 0 < slice_index m.levels k.var) c
@@ -176,7 +179,9 @@ pub record IsDeniedAt (m : Marks) (i : ℕ) (k : Literal) : Type 0 where
   pub above : 0 < slice_index m.levels k.var
 
 pub record DeniedUpto (m : Marks) (i : ℕ) (c : List Literal) : Type 0 where
-  pub all : (j : ℕ) → j < i → j < length m.lits → slice_index m.reasons (slice_index_or m.lits j (literal 0 true)).var ≡ 0 → 0 < slice_index m.levels (slice_index_or m.lits j (literal 0 true)).var → Contains c (negate (slice_index_or m.lits j (literal 0 true)))
+  pub all : (j : ℕ) → j < i → j < length m.lits → slice_index m.reasons (slice_index_or m.lits j (literal 0 true)).var
+      ≡ 0 → 0 < slice_index m.levels (slice_index_or m.lits j (literal 0 true)).var →
+      Contains c (negate (slice_index_or m.lits j (literal 0 true)))
   pub each : (k : Literal) → Contains c k → IsDeniedAt m i k
   pub distinct : AreDistinct c
 

@@ -30,8 +30,10 @@ fn past_true(query: &[Lit], trail: &Trail, from: usize) -> usize
     requires from { from ≤ length query.now }
     ensures from { from ≤ result }
     ensures to { result ≤ length query.now }
-    ensures before { (i : ℕ) (d : Literal) → from ≤ i → i < result → IsIn (has trail.now.lits) (slice_index_or query.now i d) }
-    ensures here { (d : Literal) → result < length query.now → has trail.now.lits (slice_index_or query.now result d) ≡ false }
+    ensures before { (i : ℕ) (d : Literal) → from ≤ i → i < result → IsIn (has trail.now.lits)
+        (slice_index_or query.now i d) }
+    ensures here { (d : Literal) → result < length query.now → has trail.now.lits (slice_index_or query.now result d)
+        ≡ false }
 {
     let mut i = from;
     while i < query.len() {
@@ -65,7 +67,8 @@ fn pick(heap: &mut Heap, trail: &Trail) -> Option<Var>
     ensures from { IfSome result (λ v. 1 ≤ v.0) }
     ensures to { IfSome result (λ v. v.0 ≤ trail.now.vars) }
     ensures unset { IfSome result (λ v. IsUnset trail.now.lits (literal v.0 true)) }
-    ensures others { IfSome result (λ v. (l : Literal) → IsThere trail.now.vars l → IsUnset trail.now.lits l → l.var ≢ v.0 →
+    ensures others { IfSome result (λ v. (l : Literal) → IsThere trail.now.vars l → IsUnset trail.now.lits l →
+        l.var ≢ v.0 →
         IsHeld heap.new l.var) }
 {
     let _vars = trail.vars();
@@ -86,7 +89,8 @@ impl Search {
         requires distinct { AreDistinct query.now }
         requires asking { IsAsking query.now self.old }
         requires left { self.old.assumed < length query.now }
-        requires untrue { (d : Literal) → has self.old.trail.lits (slice_index_or query.now self.old.assumed d) ≡ false }
+        requires untrue { (d : Literal) → has self.old.trail.lits (slice_index_or query.now self.old.assumed d)
+            ≡ false }
         ensures search { IsSearch self.new }
         ensures asking { IsAsking query.now self.new }
         ensures store { IsSameStore self.old self.new }

@@ -1,9 +1,11 @@
 // How a search ends.
-ghost use Rattle.std.specs.Prelude.{◌≡◌, ◌≤◌, ◌<◌, ◌+◌, All, true, false, length, IfOk, OnOk, OnErr, IsErrOf, slice_index};
+ghost use Rattle.std.specs.Prelude.{◌≡◌, ◌≤◌, ◌<◌, ◌+◌, All, true, false, length, IfOk, OnOk, OnErr, IsErrOf};
+ghost use Rattle.std.specs.Prelude.{slice_index};
 ghost use Rattle.outside_io.specs.Counts.{Rose};
 ghost use Rattle.cnf_core.specs.Clause.{AreDistinct, AreThere, IsThere, IsNamed};
 ghost use Rattle.watch_arena.specs.Arena.{IsClashOf};
-ghost use Rattle.cdcl_core.specs.Search.{IsSearch, IsAsking, IsDenied, IsAnalysed, IsComplete, IsRefutedBy, IsRefuting, DeniedUpto, clauses};
+ghost use Rattle.cdcl_core.specs.Search.{IsSearch, IsAsking, IsDenied, IsAnalysed, IsComplete, IsRefutedBy, IsRefuting};
+ghost use Rattle.cdcl_core.specs.Search.{DeniedUpto, clauses};
 ghost use Rattle.cdcl_core.specs.Rounds.{EndsSo, BreaksOffAt};
 
 use crate::answer::Answer;

@@ -10,6 +10,7 @@ ghost use Rattle.cdcl_core.specs.Belongs.{Belongs};
 
 /// A log that belongs to a solver belongs to it with a Bound line at its end, one that may be told.
 pub fn a_bound_line_changes_nothing()
-    ensures { (lines : Lines) (k : Kept) (criterion : Criterion) (n : ℕ) (x : Variable) → MayBeTold (Bound criterion n x) →
+    ensures { (lines : Lines) (k : Kept) (criterion : Criterion) (n : ℕ) (x : Variable) →
+        MayBeTold (Bound criterion n x) →
         Belongs lines k → Belongs (lines ++ Bound criterion n x ∷ []) k }
 {}

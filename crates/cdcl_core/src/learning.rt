@@ -1,10 +1,12 @@
 // Clauses that are learnt.
-ghost use Rattle.std.specs.Prelude.{◌≡◌, ◌≢◌, ◌≤◌, ◌<◌, ◌+◌, ℕ, List, true, false, length, take, IfOk, OnOk, MatchOption};
+ghost use Rattle.std.specs.Prelude.{◌≡◌, ◌≢◌, ◌≤◌, ◌<◌, ◌+◌, ℕ, List, true, false, length, take, IfOk, OnOk};
+ghost use Rattle.std.specs.Prelude.{MatchOption};
 ghost use Rattle.cnf_core.specs.Lit.{Literal};
 ghost use Rattle.pick_heap.specs.Heap.{IsHeld};
 ghost use Rattle.watch_arena.specs.Arena.{IsClashOf};
 ghost use Rattle.cdcl_core.specs.Kept.{IsFull, more_learnt};
-ghost use Rattle.cdcl_core.specs.Search.{IsSearch, IsKeptOne, IsAsking, IsAssertedClause, IsAnalysed, IsLearntFrom, clauses};
+ghost use Rattle.cdcl_core.specs.Search.{IsSearch, IsKeptOne, IsAsking, IsAssertedClause, IsAnalysed, IsLearntFrom};
+ghost use Rattle.cdcl_core.specs.Search.{clauses};
 
 use crate::search::Search;
 use cdcl_learn::Analyser;

@@ -62,7 +62,8 @@ impl Search {
         ensures model { IfOk result (λ r. HasModelOnly r.0 (kept_of self.new r.1 r.2.items false)) }
         ensures refuted { IfOk result (λ r. (given : Clauses) → AreGiven given (clauses self.old) →
             HasRefuted r.0 given query.now r.2.items) }
-        ensures given { OnOk result ((given : Clauses) → AreGiven given (clauses self.old) → AreGiven given (clauses self.new)) }
+        ensures given { OnOk result ((given : Clauses) → AreGiven given (clauses self.old) →
+            AreGiven given (clauses self.new)) }
         ensures searched { IfOk result (λ r. HasSolved (L.tells log.old) (L.tells log.new)
             query.now (seen self.old) (seen self.new) r.0 budget (L.learnt log.old) (L.learnt log.new)) }
         ensures leaves { OnErr result (BreaksOffLog (L.tells log.old) (L.tells log.new) self.old) }
@@ -99,9 +100,11 @@ impl Search {
         requires says { IsSearchAnswer answer query.now self.old }
         ensures idle { OnOk result (IsIdle self.new) }
         ensures store { OnOk result (IsSameStore self.old self.new) }
-        ensures answer { IfOk result (λ m. (given : Clauses) (refuted : List Literal) → AreGiven given (clauses self.old) →
+        ensures answer { IfOk result (λ m. (given : Clauses) (refuted : List Literal) →
+            AreGiven given (clauses self.old) →
             IsTrueAnswer answer given query.now (kept_of self.new m refuted false)) }
-        ensures model { IfOk result (λ m. (refuted : List Literal) → HasModelOnly answer (kept_of self.new m refuted false)) }
+        ensures model { IfOk result (λ m. (refuted : List Literal) → HasModelOnly answer
+            (kept_of self.new m refuted false)) }
     {
         match answer {
             Answer::Model => {

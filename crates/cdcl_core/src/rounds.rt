@@ -1,5 +1,6 @@
 // The rounds of a search: each goes down to a conflict and learns a clause from it.
-ghost use Rattle.std.specs.Prelude.{◌≡◌, ◌≤◌, ◌<◌, List, All, false, length, IfOk, OnOk, OnErr, IsErrOf, IfSome, MatchOption};
+ghost use Rattle.std.specs.Prelude.{◌≡◌, ◌≤◌, ◌<◌, List, All, false, length, IfOk, OnOk, OnErr, IsErrOf, IfSome};
+ghost use Rattle.std.specs.Prelude.{MatchOption};
 ghost use Rattle.outside_io.specs.Counts.{Rose};
 ghost use Rattle.cnf_core.specs.Lit.{Literal};
 ghost use Rattle.cnf_core.specs.Clause.{AreDistinct, AreThere, IsNamed};

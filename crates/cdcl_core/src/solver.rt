@@ -1,10 +1,12 @@
 // The solver as one value.
-ghost use Rattle.std.specs.Prelude.{◌≡◌, ◌≤◌, ◌<◌, ◌+◌, ◌↔◌, ◌∷◌, ◌++◌, [], true, false, None, All, length, IfOk, OnOk, OnErr, IsErrOf, MatchOption};
+ghost use Rattle.std.specs.Prelude.{◌≡◌, ◌≤◌, ◌<◌, ◌+◌, ◌↔◌, ◌∷◌, ◌++◌, [], true, false, None, All, length, IfOk, OnOk};
+ghost use Rattle.std.specs.Prelude.{OnErr, IsErrOf, MatchOption};
 ghost use Rattle.outside_io.specs.Counts.{Rose};
 ghost use Rattle.cnf_core.specs.Clause.{Clauses, AreDistinct, AreThere, IsNamed};
 ghost use Rattle.refute_log.specs.declared.line.LogLine.TheVariants.{Formula};
 ghost use Rattle.refute_log.specs.Told.{Lines, AddsLine};
-ghost use Rattle.cdcl_core.specs.Kept.{blank, with_more_vars, AreGiven, IsGivenOne, IsTrueAnswer, HasModelOnly, HasRefuted};
+ghost use Rattle.cdcl_core.specs.Kept.{blank, with_more_vars, AreGiven, IsGivenOne, IsTrueAnswer, HasModelOnly};
+ghost use Rattle.cdcl_core.specs.Kept.{HasRefuted};
 ghost use Rattle.refute_log.specs.Steps.{StillDerives, GivesNoMore};
 ghost use Rattle.cdcl_core.specs.Belongs.{Belongs, GivesAtMost, HasCounted, HasSolved};
 
@@ -58,7 +60,8 @@ impl Solver {
     pub fn add_vars(&mut self, n: u32) -> Result<(), AddFault>
         requires { self.old.failed ≡ false }
         ensures more { OnOk result (self.new ≡ with_more_vars self.old n) }
-        ensures given { OnOk result ((given : Clauses) → AreGiven given self.old.clauses → AreGiven given self.new.clauses) }
+        ensures given { OnOk result ((given : Clauses) → AreGiven given self.old.clauses →
+            AreGiven given self.new.clauses) }
         ensures belongs { OnOk result ((lines : Lines) → Belongs lines self.old → Belongs lines self.new) }
         ensures room { IsErrOf result AddFault.Room ↔ VARS < self.old.vars + n }
         ensures cause { IsErrOf result AddFault.Log → ⊥ }
@@ -129,7 +132,8 @@ impl Solver {
         ensures model { IfOk result (λ a. HasModelOnly a self.new) }
         ensures refuted { IfOk result (λ a. (given : Clauses) → AreGiven given self.old.clauses →
             HasRefuted a given assume.now self.new.refuted) }
-        ensures given { OnOk result ((given : Clauses) → AreGiven given self.old.clauses → AreGiven given self.new.clauses) }
+        ensures given { OnOk result ((given : Clauses) → AreGiven given self.old.clauses →
+            AreGiven given self.new.clauses) }
         ensures searched { IfOk result (λ a. HasSolved (L.tells log.old) (L.tells log.new)
             assume.now self.old self.new a budget (L.learnt log.old) (L.learnt log.new)) }
         ensures derives { OnErr result (StillDerives (λ ls. Belongs ls self.old) (L.tells log.old) (L.tells log.new)) }

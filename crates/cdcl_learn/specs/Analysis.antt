@@ -1,5 +1,6 @@
 -- What the analyser leaves.
-use Rattle.std.specs.Prelude.{◌≡◌, ◌≢◌, ◌≤◌, ◌<◌, ◌⊎◌, ℕ, ◌+◌, Bool, cond, List, ◌∷◌, All, Contains, length, slice_index, take}
+use Rattle.std.specs.Prelude.{◌≡◌, ◌≢◌, ◌≤◌, ◌<◌, ◌⊎◌, ℕ, ◌+◌, Bool, cond, List, ◌∷◌, All, Contains, length}
+use Rattle.std.specs.Prelude.{slice_index, take}
 use Rattle.cnf_core.specs.Clause.{IsNamed}
 use Rattle.cnf_core.specs.declared.limits.TheConstants.{VARS}
 use Rattle.cnf_core.specs.Lit.{Literal, negate, has}
@@ -18,7 +19,13 @@ pub record Analysis : Type 0 where
   pub seen : List ℕ
 
 abbrev pub analysis_of : Cut → Bool → Literal → ℕ → List ℕ → ℕ → Analysis
-analysis_of w headed first back side len = record { vars = w.vars; clause = cond headed (first ∷ w.rest) w.rest; back = back; seen = take len side }
+analysis_of w headed first back side len = record {
+  vars = w.vars;
+  clause = cond headed (first ∷ w.rest) w.rest;
+  back =
+      back;
+  seen = take len side;
+}
 
 -- the table has a place for each variable; the variables in front are distinct and in range
 pub record IsAnalyser (w : Cut) (side : List ℕ) (len : ℕ) : Type 0 where

@@ -1,5 +1,6 @@
 -- The working clause: the false literals on the conflict side of a cut through the trail.
-use Rattle.std.specs.Prelude.{◌≡◌, ◌≢◌, ◌≤◌, ◌<◌, ◌⊎◌, ℕ, zero, suc, ◌+◌, ◌-◌, slice_index, Bool, true, false, cond, nat_eq, List, [], ◌∷◌, ◌++◌, All, Contains, length, slice_index_or, slice_set, take}
+use Rattle.std.specs.Prelude.{◌≡◌, ◌≢◌, ◌≤◌, ◌<◌, ◌⊎◌, ℕ, zero, suc, ◌+◌, ◌-◌, slice_index, Bool, true, false, cond}
+use Rattle.std.specs.Prelude.{nat_eq, List, [], ◌∷◌, ◌++◌, All, Contains, length, slice_index_or, slice_set, take}
 use Rattle.std.specs.List.{sum_by}
 use Rattle.cnf_core.specs.Lit.{Literal, negate, has}
 use Rattle.cnf_core.specs.Clause.{AreDistinct, IsNamed}
@@ -25,10 +26,24 @@ IsSeen w v = is_seen w.seen v ≡ true
 
 -- one more variable of the present level, one more literal of a lower one
 abbrev pub with_open : Cut → Literal → Cut
-with_open w k = record { vars = w.vars; seen = slice_set w.seen k.var true; met = w.met ++ k.var ∷ []; rest = w.rest; pending = w.pending + 1 }
+with_open w k = record {
+  vars = w.vars;
+  seen = slice_set w.seen k.var true;
+  met = w.met ++ k.var ∷ [];
+  rest =
+      w.rest;
+  pending = w.pending + 1;
+}
 
 abbrev pub with_lower : Cut → Literal → Cut
-with_lower w k = record { vars = w.vars; seen = slice_set w.seen k.var true; met = w.met ++ k.var ∷ []; rest = w.rest ++ k ∷ []; pending = w.pending }
+with_lower w k = record {
+  vars = w.vars;
+  seen = slice_set w.seen k.var true;
+  met = w.met ++ k.var ∷ [];
+  rest = w.rest
+      ++ k ∷ [];
+  pending = w.pending;
+}
 
 -- one literal of the present level is resolved
 abbrev pub with_resolved : Cut → Cut
@@ -137,10 +152,12 @@ pub record IsConflict (s : Sight) (p : ℕ) : Type 0 where
   pub above : 0 < s.level
 
 abbrev pub working_cut : ℕ → List Bool → List ℕ → ℕ → List Literal → ℕ → ℕ → Cut
-working_cut vars seen touched count rest len pending = record { vars = vars; seen = seen; met = take count touched; rest = take len rest; pending = pending }
+working_cut vars seen touched count rest len pending =
+    record { vars = vars; seen = seen; met = take count touched; rest = take len rest; pending = pending }
 
 -- each seen variable stands once among those that were touched
-pub record IsWork (vars : ℕ) (seen : List Bool) (touched : List ℕ) (count : ℕ) (rest : List Literal) (len pending : ℕ) : Type 0 where
+pub record IsWork (vars : ℕ) (seen : List Bool) (touched : List ℕ) (count : ℕ) (rest : List Literal) (len pending : ℕ) :
+    Type 0 where
   pub limit : vars ≤ VARS
   pub seen_size : length seen ≡ vars + 1
   pub touched_size : length touched ≡ vars + 1
@@ -155,7 +172,8 @@ pub record IsWork (vars : ℕ) (seen : List Bool) (touched : List ℕ) (count : 
 
 -- none of the first so many literals is of a later level than the one at this place
 abbrev pub IsLatest : List ℕ → List Literal → ℕ → ℕ → Type 0
-IsLatest levels rest len best = (i : ℕ) (d : Literal) → i < len → slice_index levels (slice_index_or rest i d).var ≤ slice_index levels (slice_index_or rest best d).var
+IsLatest levels rest len best = (i : ℕ) (d : Literal) → i < len →
+    slice_index levels (slice_index_or rest i d).var ≤ slice_index levels (slice_index_or rest best d).var
 
 -- the same literals at other places
 pub record IsShuffle (old now : List Literal) : Type 0 where

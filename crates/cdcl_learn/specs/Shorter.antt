@@ -21,4 +21,5 @@ pub record IsShortened (s : Sight) (seen : List Bool) (old new : List Literal) :
 
 -- each seen literal of a lower level stands in the clause
 abbrev pub AreMarked : Sight → List Bool → List Literal → Type 0
-AreMarked s seen rest = (l : Literal) → IsIn (has s.lits) l → is_seen seen l.var ≡ true → level_of s l < s.level → Contains rest (negate l)
+AreMarked s seen rest = (l : Literal) → IsIn (has s.lits) l → is_seen seen l.var ≡ true → level_of s l < s.level →
+    Contains rest (negate l)

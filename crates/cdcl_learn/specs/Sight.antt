@@ -1,6 +1,7 @@
 -- What learning sees of an arena and a trail: the literals that are true, in the order in which they
 -- became so, their levels and reasons by variable, and the clauses by their places.
-use Rattle.std.specs.Prelude.{◌≡◌, ◌≤◌, ◌<◌, ℕ, true, cond, nat_eq, List, [], ◌∷◌, ◌++◌, Contains, length, map, slice_index, slice_index_or, take}
+use Rattle.std.specs.Prelude.{◌≡◌, ◌≤◌, ◌<◌, ℕ, true, cond, nat_eq, List, [], ◌∷◌, ◌++◌, Contains, length, map}
+use Rattle.std.specs.Prelude.{slice_index, slice_index_or, take}
 use Rattle.cnf_core.specs.Lit.{Literal, literal, has}
 use Rattle.cnf_core.specs.Clause.{Clauses, AreDistinct, AreThere}
 use Rattle.cnf_core.specs.Propagation.{IsIn, IsUnit}
@@ -19,7 +20,16 @@ pub record Sight : Type 0 where
 
 -- what is seen of this arena and this trail
 abbrev pub sight : Attached → Marks → Sight
-sight a m = record { vars = m.vars; lits = m.lits; levels = m.levels; reasons = m.reasons; level = length m.cuts; places = a.places; text = attached_at a }
+sight a m = record {
+  vars = m.vars;
+  lits = m.lits;
+  levels = m.levels;
+  reasons = m.reasons;
+  level =
+      length m.cuts;
+  places = a.places;
+  text = attached_at a;
+}
 
 -- the literal at a place of the trail
 abbrev pub nth : Sight → ℕ → Literal
@@ -60,7 +70,8 @@ pub record IsSound (s : Sight) : Type 0 where
   pub present : (i : ℕ) → i < length s.lits → level_of s (nth s i) ≤ s.level
   pub rise : (i j : ℕ) → i < j → j < length s.lits → level_of s (nth s i) ≤ level_of s (nth s j)
   pub reason : (i p : ℕ) → i < length s.lits → reason_of s (nth s i) ≡ p → 1 ≤ p → IsReasonAt s i p
-  pub decided : (i j : ℕ) → i < j → j < length s.lits → level_of s (nth s i) ≡ level_of s (nth s j) → 0 < level_of s (nth s j) → 1 ≤ reason_of s (nth s j)
+  pub decided : (i j : ℕ) → i < j → j < length s.lits → level_of s (nth s i) ≡ level_of s (nth s j) →
+      0 < level_of s (nth s j) → 1 ≤ reason_of s (nth s j)
 
 -- the literals of level 0, each as a clause
 abbrev pub roots : Sight → List Literal → Clauses

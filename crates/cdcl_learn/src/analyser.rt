@@ -1,5 +1,6 @@
 // The analyser as one value.
-ghost use Rattle.std.specs.Prelude.{◌≡◌, ◌≢◌, ◌≤◌, ◌<◌, ◌+◌, ℕ, true, Contains, [], length, slice_index, slice_index_or, take, IfOk, OnOk, OnErr};
+ghost use Rattle.std.specs.Prelude.{◌≡◌, ◌≢◌, ◌≤◌, ◌<◌, ◌+◌, ℕ, true, Contains, [], length, slice_index};
+ghost use Rattle.std.specs.Prelude.{slice_index_or, take, IfOk, OnOk, OnErr};
 ghost use Rattle.cnf_core.specs.Clause.{IsThere};
 ghost use Rattle.watch_arena.specs.Arena.{AreReasoned, IsClashOf};
 ghost use Rattle.cdcl_learn.specs.Sight.{sight};
@@ -46,7 +47,8 @@ fn copy_met(side: &mut [u32], work: &Work) -> u32
     ensures short { result ≤ work.now.vars + 1 }
     ensures marked { (i : ℕ) → i < length work.now.met → is_seen work.now.seen (slice_index work.now.met i) ≡ true }
     ensures all { (v : ℕ) → is_seen work.now.seen v ≡ true → Contains work.now.met v }
-    ensures apart { (i j : ℕ) → i < j → j < length work.now.met → slice_index work.now.met i ≢ slice_index work.now.met j }
+    ensures apart { (i j : ℕ) → i < j → j < length work.now.met → slice_index work.now.met i ≢ slice_index work.now.met
+        j }
 {
     let len = work.met_len();
     for i in 0..len {

@@ -3,7 +3,8 @@ ghost use Rattle.std.specs.Prelude.{◌≡◌, ◌≤◌, ◌<◌, ◌+◌, ℕ,
 ghost use Rattle.cnf_core.specs.Clause.{AreThere, IsThere, IsNamed};
 ghost use Rattle.cnf_core.specs.Lit.{literal};
 ghost use Rattle.cdcl_learn.specs.Sight.{sight, clauses_in, clause_in, IsSetAbove, IsSound};
-ghost use Rattle.cdcl_learn.specs.Cut.{cut_with, cut_with_all, IsSeen, IsResolving, IsStage, IsConflict, IsLearnt, IsBack};
+ghost use Rattle.cdcl_learn.specs.Cut.{cut_with, cut_with_all, IsSeen, IsResolving, IsStage, IsConflict, IsLearnt};
+ghost use Rattle.cdcl_learn.specs.Cut.{IsBack};
 ghost use Rattle.cdcl_learn.specs.Shorter.{AreMarked};
 
 use crate::work::Work;
@@ -45,7 +46,8 @@ fn add_all(work: &mut Work, arena: &Arena, trail: &Trail, c: ClauseRef)
     requires clause { Contains arena.now.places c.0 }
     requires there { AreThere trail.now.vars (clause_in (sight arena.now trail.now) c.0) }
     requires vars { work.old.vars ≡ trail.now.vars }
-    ensures value { work.new ≡ cut_with_all (sight arena.now trail.now) work.old (clause_in (sight arena.now trail.now) c.0) }
+    ensures value { work.new ≡ cut_with_all (sight arena.now trail.now) work.old
+        (clause_in (sight arena.now trail.now) c.0) }
     ensures vars { work.new.vars ≡ work.old.vars }
 {
     for i in 0..arena.len_of(c) {

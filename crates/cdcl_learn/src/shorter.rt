@@ -52,7 +52,8 @@ pub fn keep_needed(rest: &mut [Lit], len: u32, seen: &[bool], arena: &Arena, tra
     requires sound { IsSound (sight arena.now trail.now) }
     requires size { length seen.now ≡ trail.now.vars + 1 }
     requires within { len ≤ length rest.old }
-    requires falsified { (i : ℕ) (d : Literal) → i < len → IsIn (has trail.now.lits) (negate (slice_index_or rest.old i d)) }
+    requires falsified { (i : ℕ) (d : Literal) → i < len → IsIn (has trail.now.lits)
+        (negate (slice_index_or rest.old i d)) }
     requires distinct { AreDistinct (take len rest.old) }
     ensures fewer { result ≤ len }
     ensures shortened { IsShortened (sight arena.now trail.now) seen.now (take len rest.old) (take result rest.new) }

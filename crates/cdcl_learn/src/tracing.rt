@@ -37,7 +37,8 @@ fn touch_all(work: &mut Work, arena: &Arena, trail: &Trail, c: ClauseRef)
     requires clause { Contains arena.now.places c.0 }
     requires there { AreThere trail.now.vars (clause_in (sight arena.now trail.now) c.0) }
     requires vars { work.old.vars ≡ trail.now.vars }
-    ensures value { work.new ≡ trace_with_all (sight arena.now trail.now) work.old (clause_in (sight arena.now trail.now) c.0) }
+    ensures value { work.new ≡ trace_with_all (sight arena.now trail.now) work.old
+        (clause_in (sight arena.now trail.now) c.0) }
     ensures vars { work.new.vars ≡ work.old.vars }
 {
     for i in 0..arena.len_of(c) {
@@ -67,7 +68,8 @@ fn walk_down(work: &mut Work, arena: &Arena, trail: &Trail)
     requires sound { IsSound (sight arena.now trail.now) }
     requires vars { work.old.vars ≡ trail.now.vars }
     ensures vars { work.new.vars ≡ work.old.vars }
-    ensures traced { (front : List Literal) → IsTracing (sight arena.now trail.now) work.old front (length trail.now.lits) →
+    ensures traced { (front : List Literal) → IsTracing (sight arena.now trail.now) work.old front
+        (length trail.now.lits) →
         IsTraced (sight arena.now trail.now) front work.new.rest }
 {
     let mut end = trail.len();

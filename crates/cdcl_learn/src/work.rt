@@ -1,12 +1,14 @@
 // The working clause.
-ghost use Rattle.std.specs.Prelude.{◌≡◌, ◌≢◌, ◌≤◌, ◌<◌, ◌+◌, ◌-◌, ℕ, true, false, length, slice_index, slice_index_or, All, Contains, [], IfOk, OnOk, OnErr};
+ghost use Rattle.std.specs.Prelude.{◌≡◌, ◌≢◌, ◌≤◌, ◌<◌, ◌+◌, ◌-◌, ℕ, true, false, length, slice_index, slice_index_or};
+ghost use Rattle.std.specs.Prelude.{All, Contains, [], IfOk, OnOk, OnErr};
 ghost use Rattle.cnf_core.specs.Clause.{AreDistinct};
 ghost use Rattle.cnf_core.specs.Lit.{Literal, negate, has};
 ghost use Rattle.cnf_core.specs.Propagation.{IsIn};
 ghost use Rattle.watch_arena.specs.Arena.{Attached};
 ghost use Rattle.cdcl_learn.specs.Sight.{sight, IsSound};
 ghost use Rattle.cdcl_learn.specs.Shorter.{IsShortened};
-ghost use Rattle.cdcl_learn.specs.Cut.{is_seen, with_open, with_lower, with_resolved, IsBlank, IsBack, IsLatest, IsShuffle};
+ghost use Rattle.cdcl_learn.specs.Cut.{is_seen, with_open, with_lower, with_resolved, IsBlank, IsBack, IsLatest};
+ghost use Rattle.cdcl_learn.specs.Cut.{IsShuffle};
 
 use crate::shorter::keep_needed;
 use crate::tables::lengthen_all;
@@ -164,7 +166,8 @@ impl Work {
         ensures short { length self.now.met ≤ self.now.vars + 1 }
         ensures marked { (i : ℕ) → i < length self.now.met → is_seen self.now.seen (slice_index self.now.met i) ≡ true }
         ensures all { (v : ℕ) → is_seen self.now.seen v ≡ true → Contains self.now.met v }
-        ensures apart { (i j : ℕ) → i < j → j < length self.now.met → slice_index self.now.met i ≢ slice_index self.now.met j }
+        ensures apart { (i j : ℕ) → i < j → j < length self.now.met → slice_index self.now.met i ≢ slice_index
+            self.now.met j }
     {
         self.count
     }

@@ -1,5 +1,6 @@
 -- What is known of a log, and the first place of an order that it doesn't certify.
-use Rattle.std.specs.Prelude.{◌≡◌, ◌≤◌, ◌<◌, ◌+◌, ◌⊎◌, ℕ, List, [], ◌∷◌, Contains, Option, Some, None, flat_map, take, slice_get}
+use Rattle.std.specs.Prelude.{◌≡◌, ◌≤◌, ◌<◌, ◌+◌, ◌⊎◌, ℕ, List, [], ◌∷◌, Contains, Option, Some, None, flat_map, take}
+use Rattle.std.specs.Prelude.{slice_get}
 use Rattle.plan_core.specs.declared.criterion.Values.{Values}
 use Rattle.plan_core.specs.declared.criterion.Criterion.{Criterion}
 use Rattle.plan_core.specs.Values.{value_of}
@@ -23,12 +24,15 @@ pub record KnowsLog (lines : Lines) (kept : CheckedFacts) (bounds : List ToldBou
   pub told : bounds ≡ flat_map told_bound lines
 
 -- values that are less than in v at c and the same before it don't reach the bound: its number is within reach of its
--- criterion, and it asks one more than v of an earlier criterion, or just v's value of c. A bound is unreached where its
+-- criterion, and it asks one more than v of an earlier criterion, or just v's value of c. A bound is unreached where
+-- its
 -- literal is out of reach (IsOutOfReach): one notion, of bounds and of literals
-pub record IsUnreached (greatest : Criterion → ℕ) (earlier : List Criterion) (c : Criterion) (v : Values) (b : ToldBound)
+pub record IsUnreached (greatest : Criterion → ℕ) (earlier : List Criterion) (c : Criterion) (v : Values)
+    (b : ToldBound)
     : Type 0 where
   pub within : b.k ≤ greatest b.criterion
-  pub either : (Contains earlier b.criterion × (b.k ≡ value_of v b.criterion + 1)) ⊎ ((b.criterion ≡ c) × (b.k ≡ value_of v c))
+  pub either : (Contains earlier b.criterion × (b.k ≡ value_of v b.criterion + 1))
+      ⊎ ((b.criterion ≡ c) × (b.k ≡ value_of v c))
 
 -- all of the first s values are certified; or the place is the first at which the value isn't least
 abbrev pub IsFirstLacking : (Criterion → ℕ) → Lines → List Criterion → Values → ℕ → Option ℕ → Type 0

@@ -93,7 +93,8 @@ fn is_least(
 /// Whether the log certifies that there is no drawing. The checker accepted the log's lines, and the
 /// bounds are those of its Bound lines, if there are any.
 pub fn none_certified(checker: &Checker) -> bool
-    ensures { (lines : Lines) (bounds : List Told) → KnowsLog lines checker.now bounds → IsTrue result ↔ CertifiesNone lines }
+    ensures { (lines : Lines) (bounds : List Told) → KnowsLog lines checker.now bounds → IsTrue result
+        ↔ CertifiesNone lines }
 {
     checker.verdict(&[])
 }

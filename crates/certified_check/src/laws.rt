@@ -10,8 +10,10 @@ ghost use Rattle.certified_check.specs.Lacking.{KnowsLog, IsFirstLacking};
 
 /// No place lacks where the values are certified, and one place at most is the first that lacks.
 pub fn one_place_lacks_first()
-    ensures none { (greatest : Criterion → ℕ) (lines : Lines) (order : List Criterion) (v : Values) (s : ℕ) (found : Option ℕ) →
-        s ≤ length order → Certifies greatest lines order v s → IsFirstLacking greatest lines order v s found → found ≡ None }
+    ensures none { (greatest : Criterion → ℕ) (lines : Lines) (order : List Criterion) (v : Values) (s : ℕ)
+        (found : Option ℕ) →
+        s ≤ length order → Certifies greatest lines order v s → IsFirstLacking greatest lines order v s found → found
+        ≡ None }
     ensures once { (greatest : Criterion → ℕ) (lines : Lines) (order : List Criterion) (v : Values) (s : ℕ)
         (found other : Option ℕ) → s ≤ length order →
         IsFirstLacking greatest lines order v s found → IsFirstLacking greatest lines order v s other → found ≡ other }
@@ -19,7 +21,8 @@ pub fn one_place_lacks_first()
 
 /// Whatever gives the greatest values, only they count.
 pub fn only_greatest_values_lack()
-    ensures { (greatest other : Criterion → ℕ) (lines : Lines) (order : List Criterion) (v : Values) (s : ℕ) (found : Option ℕ) →
+    ensures { (greatest other : Criterion → ℕ) (lines : Lines) (order : List Criterion) (v : Values) (s : ℕ)
+        (found : Option ℕ) →
         ((b : Criterion) → greatest b ≡ other b) →
         IsFirstLacking greatest lines order v s found → IsFirstLacking other lines order v s found }
 {}

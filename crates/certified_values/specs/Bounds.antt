@@ -27,7 +27,8 @@ pub record SaysAtLeast (greatest : Criterion → ℕ) (lines : Lines) (c : Crite
 pub record MeetsLog (lines : Lines) (v : Values) : Type 0 where
   pub assignment : Assignment
   pub formula : SatisfiesAll assignment (flat_map given lines)
-  pub bounds : (c : Criterion) (k : ℕ) (x : Var) → Contains lines (Bound c k x) → (assignment x.0 ≡ true) ↔ (k ≤ value_of v c)
+  pub bounds : (c : Criterion) (k : ℕ) (x : Var) → Contains lines (Bound c k x) → (assignment x.0 ≡ true)
+      ↔ (k ≤ value_of v c)
 
 -- the values of every lawful drawing meet the log
 abbrev pub CoversDrawings : Graph → (ℕ → ℕ → Bool) → GridSize → Lines → Type 0

@@ -1,5 +1,6 @@
 -- Which values a log certifies: that with those of the criteria before it, none can be less.
-use Rattle.std.specs.Prelude.{◌≡◌, ◌≤◌, ◌<◌, ◌+◌, ◌⊎◌, ℕ, List, [], All, Any, Contains, Option, Some, MatchOption, length, take, slice_get}
+use Rattle.std.specs.Prelude.{◌≡◌, ◌≤◌, ◌<◌, ◌+◌, ◌⊎◌, ℕ, List, [], All, Any, Contains, Option, Some, MatchOption}
+use Rattle.std.specs.Prelude.{length, take, slice_get}
 use Rattle.plan_core.specs.declared.criterion.Values.{Values}
 use Rattle.plan_core.specs.declared.criterion.Criterion.{Criterion}
 use Rattle.plan_core.specs.Values.{value_of}
@@ -15,7 +16,8 @@ IsOutOfReach greatest lines earlier c v l =
     Any (λ b. SaysAtLeast greatest lines b (value_of v b + 1) l) earlier ⊎ SaysAtLeast greatest lines c (value_of v c) l
 
 -- a Refuted line all of whose literals are among these bounds
-pub record RefutesLess (greatest : Criterion → ℕ) (lines : Lines) (earlier : List Criterion) (c : Criterion) (v : Values) : Type 0 where
+pub record RefutesLess (greatest : Criterion → ℕ) (lines : Lines) (earlier : List Criterion) (c : Criterion)
+    (v : Values) : Type 0 where
   pub clause : List Literal
   pub among : Contains lines (Refuted clause)
   pub each : All (IsOutOfReach greatest lines earlier c v) clause
@@ -34,10 +36,11 @@ abbrev pub CertifiesNone : Lines → Type 0
 CertifiesNone lines = Contains lines (Refuted [])
 
 -- s is the greatest number below the order's length to which v is certified
-pub record IsSettled (greatest : Criterion → ℕ) (lines : Lines) (order : List Criterion) (v : Values) (s : ℕ) : Type 0 where
-  pub below : s < length order
-  pub certified : Certifies greatest lines order v s
-  pub most : (t : ℕ) → t < length order → Certifies greatest lines order v t → t ≤ s
+pub record IsSettled (greatest : Criterion → ℕ) (lines : Lines) (order : List Criterion) (v : Values) (s : ℕ) : Type 0
+  where
+    pub below : s < length order
+    pub certified : Certifies greatest lines order v s
+    pub most : (t : ℕ) → t < length order → Certifies greatest lines order v t → t ≤ s
 
 -- the same of the values of the drawing that was found, and 0 where there is none
 abbrev pub Settled : (Criterion → ℕ) → Lines → List Criterion → Option Values → ℕ → Type 0

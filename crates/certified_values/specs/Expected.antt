@@ -1,5 +1,6 @@
 -- The Formula and Bound lines of a file's log, as one list, by how many bounds each criterion has.
-use Rattle.std.specs.Prelude.{◌≡◌, ◌≢◌, ◌+◌, ℕ, zero, suc, min, Bool, true, false, cond, List, [], ◌∷◌, ◌++◌, All, length, map, flat_map}
+use Rattle.std.specs.Prelude.{◌≡◌, ◌≢◌, ◌+◌, ℕ, zero, suc, min, Bool, true, false, cond, List, [], ◌∷◌, ◌++◌, All}
+use Rattle.std.specs.Prelude.{length, map, flat_map}
 use Rattle.plan_core.specs.declared.criterion.Criterion.{Criterion}
 use Rattle.plan_core.specs.declared.criterion.Criterion.TheVariants.{Height, Bends, Diagonal, Width}
 use Rattle.cnf_core.specs.declared.literal.Var.{Var}
@@ -97,7 +98,8 @@ with_cap cap c n d = cond (same_criterion c d) n (cap d)
 
 -- c is the next criterion to have a cap: it stands once in an order, with these before and these behind it, and
 -- neither it nor one behind it has a cap
-pub record IsNextToCap (before : List Criterion) (c : Criterion) (behind : List Criterion) (cap : Criterion → ℕ) : Type 0 where
+pub record IsNextToCap (before : List Criterion) (c : Criterion) (behind : List Criterion) (cap : Criterion → ℕ) : Type
+    0 where
   pub not_before : All (λ d. c ≢ d) before
   pub not_behind : All (λ d. c ≢ d) behind
   pub none : cap c ≡ 0

@@ -27,7 +27,8 @@ pub record AwaitsBounds (greatest : Criterion → ℕ) (lines : Lines) (c : Crit
 
 -- the criterion is the first of the order that has no Bound line and a positive greatest value, and the values
 -- of the criteria before it are certified
-pub record IsNextSum (greatest : Criterion → ℕ) (order : List Criterion) (lines : Lines) (v : Values) (c : Criterion) : Type 0 where
+pub record IsNextSum (greatest : Criterion → ℕ) (order : List Criterion) (lines : Lines) (v : Values) (c : Criterion) :
+    Type 0 where
   pub place : ℕ
   pub at : slice_get order place ≡ Some c
   pub awaits : AwaitsBounds greatest lines c
@@ -35,10 +36,12 @@ pub record IsNextSum (greatest : Criterion → ℕ) (order : List Criterion) (li
   pub certified : Certifies greatest lines order v place
 
 -- there is a next criterion, and what is expected with its bounds, up to one more than its value, passes
-pub record NextSumPasses (e : Problem) (greatest : Criterion → ℕ) (order : List Criterion) (lines : Lines) (v : Values) (room : ℕ) : Type 0 where
+pub record NextSumPasses (e : Problem) (greatest : Criterion → ℕ) (order : List Criterion) (lines : Lines) (v : Values)
+    (room : ℕ) : Type 0 where
   pub criterion : Criterion
   pub next : IsNextSum greatest order lines v criterion
-  pub passes : CapsPass e order lines room (with_cap (caps greatest lines) criterion (min (value_of v criterion + 1) (greatest criterion)))
+  pub passes : CapsPass e order lines room (with_cap (caps greatest lines) criterion
+      (min (value_of v criterion + 1) (greatest criterion)))
 
 -- a clause that may be told follows by unit propagation and is new, and with it the words of the Formula and
 -- Learnt lines pass the room

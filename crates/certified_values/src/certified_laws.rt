@@ -21,7 +21,8 @@ pub fn certified_values_are_least()
         MeetsLog lines w → Derives lines → Certifies greatest lines order v s → Better (take s order) w v → ⊥ }
     ensures none { (lines : Lines) (w : Values) → MeetsLog lines w → Derives lines → CertifiesNone lines → ⊥ }
     ensures once { (greatest : Criterion → ℕ) (lines : Lines) (order : List Criterion) (v w : Values) (s : ℕ) →
-        MeetsLog lines v → MeetsLog lines w → Derives lines → Certifies greatest lines order v s → Certifies greatest lines order w s →
+        MeetsLog lines v → MeetsLog lines w → Derives lines → Certifies greatest lines order v s →
+        Certifies greatest lines order w s →
         All (λ c. value_of v c ≡ value_of w c) (take s order) }
 {}
 
@@ -29,13 +30,17 @@ pub fn certified_values_are_least()
 /// the criteria that it certifies, and there is none where it certifies that. A lawful drawing whose
 /// values it certifies on the whole order is best.
 pub fn certified_drawings_are_least()
-    ensures least { (g : Graph) (above : ℕ → ℕ → Bool) (grid : GridSize) (greatest : Criterion → ℕ) (lines : Lines) (order : List Criterion) (v : Values) (s : ℕ) →
+    ensures least { (g : Graph) (above : ℕ → ℕ → Bool) (grid : GridSize) (greatest : Criterion → ℕ) (lines : Lines)
+        (order : List Criterion) (v : Values) (s : ℕ) →
         CoversDrawings g above grid lines → Derives lines → Certifies greatest lines order v s →
         (d : Drawing) → Lawful g above grid d → Better (take s order) (values_of d) v → ⊥ }
     ensures none { (g : Graph) (above : ℕ → ℕ → Bool) (grid : GridSize) (lines : Lines) →
-        CoversDrawings g above grid lines → Derives lines → CertifiesNone lines → (d : Drawing) → Lawful g above grid d → ⊥ }
-    ensures best { (g : Graph) (above : ℕ → ℕ → Bool) (grid : GridSize) (greatest : Criterion → ℕ) (lines : Lines) (order : List Criterion) (d : Drawing) →
-        CoversDrawings g above grid lines → Derives lines → Lawful g above grid d → Certifies greatest lines order (values_of d) (length order) →
+        CoversDrawings g above grid lines → Derives lines → CertifiesNone lines → (d : Drawing) →
+        Lawful g above grid d → ⊥ }
+    ensures best { (g : Graph) (above : ℕ → ℕ → Bool) (grid : GridSize) (greatest : Criterion → ℕ) (lines : Lines)
+        (order : List Criterion) (d : Drawing) →
+        CoversDrawings g above grid lines → Derives lines → Lawful g above grid d →
+        Certifies greatest lines order (values_of d) (length order) →
         IsBest g above grid order d }
 {}
 
@@ -49,10 +54,14 @@ pub fn more_lines_certify_more()
 /// To depth 0 all values are certified; to one more those that are, where the next value is least;
 /// and to each smaller depth.
 pub fn values_are_certified_place_by_place()
-    ensures none { (greatest : Criterion → ℕ) (lines : Lines) (order : List Criterion) (v : Values) → Certifies greatest lines order v 0 }
-    ensures next { (greatest : Criterion → ℕ) (lines : Lines) (order : List Criterion) (v : Values) (i : ℕ) (c : Criterion) → slice_get order i ≡ Some c →
-        Certifies greatest lines order v i → IsCertifiedLeast greatest lines (take i order) c v → Certifies greatest lines order v (i + 1) }
-    ensures last { (greatest : Criterion → ℕ) (lines : Lines) (order : List Criterion) (v : Values) (i : ℕ) (c : Criterion) → slice_get order i ≡ Some c →
+    ensures none { (greatest : Criterion → ℕ) (lines : Lines) (order : List Criterion) (v : Values) →
+        Certifies greatest lines order v 0 }
+    ensures next { (greatest : Criterion → ℕ) (lines : Lines) (order : List Criterion) (v : Values) (i : ℕ)
+        (c : Criterion) → slice_get order i ≡ Some c →
+        Certifies greatest lines order v i → IsCertifiedLeast greatest lines (take i order) c v →
+        Certifies greatest lines order v (i + 1) }
+    ensures last { (greatest : Criterion → ℕ) (lines : Lines) (order : List Criterion) (v : Values) (i : ℕ)
+        (c : Criterion) → slice_get order i ≡ Some c →
         Certifies greatest lines order v (i + 1) → IsCertifiedLeast greatest lines (take i order) c v }
     ensures fewer { (greatest : Criterion → ℕ) (lines : Lines) (order : List Criterion) (v : Values) (s t : ℕ) → t ≤ s →
         Certifies greatest lines order v s → Certifies greatest lines order v t }
@@ -61,16 +70,20 @@ pub fn values_are_certified_place_by_place()
 /// To some depth only the values of the criteria before it count.
 pub fn equal_values_are_certified_alike()
     ensures { (greatest : Criterion → ℕ) (lines : Lines) (order : List Criterion) (v w : Values) (s : ℕ) →
-        All (λ c. value_of v c ≡ value_of w c) (take s order) → Certifies greatest lines order v s → Certifies greatest lines order w s }
+        All (λ c. value_of v c ≡ value_of w c) (take s order) → Certifies greatest lines order v s →
+        Certifies greatest lines order w s }
 {}
 
 /// Of what the greatest values come from nothing counts but the values themselves.
 pub fn only_the_greatest_values_count()
-    ensures least { (greatest other : Criterion → ℕ) (lines : Lines) (earlier : List Criterion) (c : Criterion) (v : Values) → ((b : Criterion) → greatest b ≡ other b) →
+    ensures least { (greatest other : Criterion → ℕ) (lines : Lines) (earlier : List Criterion) (c : Criterion)
+        (v : Values) → ((b : Criterion) → greatest b ≡ other b) →
         IsCertifiedLeast greatest lines earlier c v → IsCertifiedLeast other lines earlier c v }
-    ensures values { (greatest other : Criterion → ℕ) (lines : Lines) (order : List Criterion) (v : Values) (s : ℕ) → ((b : Criterion) → greatest b ≡ other b) →
+    ensures values { (greatest other : Criterion → ℕ) (lines : Lines) (order : List Criterion) (v : Values) (s : ℕ) →
+        ((b : Criterion) → greatest b ≡ other b) →
         Certifies greatest lines order v s → Certifies other lines order v s }
-    ensures counts { (greatest other : Criterion → ℕ) (lines : Lines) (c : Criterion) → greatest c ≡ other c → caps greatest lines c ≡ caps other lines c }
+    ensures counts { (greatest other : Criterion → ℕ) (lines : Lines) (c : Criterion) → greatest c ≡ other c →
+        caps greatest lines c ≡ caps other lines c }
 {}
 
 /// One depth at most is settled.

@@ -12,18 +12,23 @@ ghost use Rattle.refute_log.specs.Told.{Lines};
 ghost use Rattle.refute_log.specs.Log.{Derives, clause_lines};
 ghost use Rattle.certified_values.specs.Bounds.{CoversDrawings};
 ghost use Rattle.certified_values.specs.Certified.{Certifies, CertifiesNone};
-ghost use Rattle.certified_values.specs.Expected.{Problem, HasAllBounds, caps, sum_lines, sum_vars_of, expected_lines, expected_vars, IsExpected, with_cap, IsNextToCap};
+ghost use Rattle.certified_values.specs.Expected.{Problem, HasAllBounds, caps, sum_lines, sum_vars_of, expected_lines};
+ghost use Rattle.certified_values.specs.Expected.{expected_vars, IsExpected, with_cap, IsNextToCap};
 
 /// Whoever wrote the log: where the expected lines cover the lawful drawings, with whatever caps, and
 /// the log's Formula and Bound lines begin those for its own caps, no lawful drawing is better on the
 /// criteria that it certifies, and there is none where it certifies that.
 pub fn certified_over_expected_lines_is_least()
-    ensures least { (g : Graph) (above : ℕ → ℕ → Bool) (grid : GridSize) (e : Problem) (greatest : Criterion → ℕ) (lines : Lines) (order : List Criterion) (v : Values) (s : ℕ) →
-        ((cap : Criterion → ℕ) → ((c : Criterion) → cap c ≤ greatest c) → CoversDrawings g above grid (expected_lines e order cap)) →
+    ensures least { (g : Graph) (above : ℕ → ℕ → Bool) (grid : GridSize) (e : Problem) (greatest : Criterion → ℕ)
+        (lines : Lines) (order : List Criterion) (v : Values) (s : ℕ) →
+        ((cap : Criterion → ℕ) → ((c : Criterion) → cap c ≤ greatest c) →
+        CoversDrawings g above grid (expected_lines e order cap)) →
         IsExpected e greatest order lines → Derives lines → Certifies greatest lines order v s →
         (d : Drawing) → Lawful g above grid d → Better (take s order) (values_of d) v → ⊥ }
-    ensures none { (g : Graph) (above : ℕ → ℕ → Bool) (grid : GridSize) (e : Problem) (greatest : Criterion → ℕ) (lines : Lines) (order : List Criterion) →
-        ((cap : Criterion → ℕ) → ((c : Criterion) → cap c ≤ greatest c) → CoversDrawings g above grid (expected_lines e order cap)) →
+    ensures none { (g : Graph) (above : ℕ → ℕ → Bool) (grid : GridSize) (e : Problem) (greatest : Criterion → ℕ)
+        (lines : Lines) (order : List Criterion) →
+        ((cap : Criterion → ℕ) → ((c : Criterion) → cap c ≤ greatest c) →
+        CoversDrawings g above grid (expected_lines e order cap)) →
         IsExpected e greatest order lines → Derives lines → CertifiesNone lines →
         (d : Drawing) → Lawful g above grid d → ⊥ }
 {}
@@ -31,21 +36,28 @@ pub fn certified_over_expected_lines_is_least()
 /// Without caps the file's clauses alone are expected. Only the caps count. With a cap for the next
 /// criterion its lines come at the end and nothing else changes.
 pub fn expected_lines_come_sum_by_sum()
-    ensures none { (e : Problem) (order : List Criterion) (cap : Criterion → ℕ) → All (λ c. cap c ≡ 0) order → expected_lines e order cap ≡ map Formula e.clauses }
-    ensures none_vars { (e : Problem) (order : List Criterion) (cap : Criterion → ℕ) → All (λ c. cap c ≡ 0) order → expected_vars e order cap ≡ e.vars }
-    ensures same { (e : Problem) (order : List Criterion) (cap other : Criterion → ℕ) → ((c : Criterion) → cap c ≡ other c) → expected_lines e order cap ≡ expected_lines e order other }
-    ensures same_vars { (e : Problem) (order : List Criterion) (cap other : Criterion → ℕ) → ((c : Criterion) → cap c ≡ other c) → expected_vars e order cap ≡ expected_vars e order other }
-    ensures next { (e : Problem) (before behind : List Criterion) (c : Criterion) (n : ℕ) (cap : Criterion → ℕ) → IsNextToCap before c behind cap →
+    ensures none { (e : Problem) (order : List Criterion) (cap : Criterion → ℕ) → All (λ c. cap c ≡ 0) order →
+        expected_lines e order cap ≡ map Formula e.clauses }
+    ensures none_vars { (e : Problem) (order : List Criterion) (cap : Criterion → ℕ) → All (λ c. cap c ≡ 0) order →
+        expected_vars e order cap ≡ e.vars }
+    ensures same { (e : Problem) (order : List Criterion) (cap other : Criterion → ℕ) →
+        ((c : Criterion) → cap c ≡ other c) → expected_lines e order cap ≡ expected_lines e order other }
+    ensures same_vars { (e : Problem) (order : List Criterion) (cap other : Criterion → ℕ) →
+        ((c : Criterion) → cap c ≡ other c) → expected_vars e order cap ≡ expected_vars e order other }
+    ensures next { (e : Problem) (before behind : List Criterion) (c : Criterion) (n : ℕ) (cap : Criterion → ℕ) →
+        IsNextToCap before c behind cap →
         expected_lines e (before ++ c ∷ behind) (with_cap cap c n)
         ≡ expected_lines e (before ++ c ∷ behind) cap ++ sum_lines e (expected_vars e (before ++ c ∷ behind) cap) c n }
-    ensures next_vars { (e : Problem) (before behind : List Criterion) (c : Criterion) (n : ℕ) (cap : Criterion → ℕ) → IsNextToCap before c behind cap →
+    ensures next_vars { (e : Problem) (before behind : List Criterion) (c : Criterion) (n : ℕ) (cap : Criterion → ℕ) →
+        IsNextToCap before c behind cap →
         expected_vars e (before ++ c ∷ behind) (with_cap cap c n)
         ≡ expected_vars e (before ++ c ∷ behind) cap + sum_vars_of e (expected_vars e (before ++ c ∷ behind) cap) c n }
 {}
 
 /// Lines that are what is expected for some caps have just these caps.
 pub fn caps_are_those_told()
-    ensures { (e : Problem) (greatest cap : Criterion → ℕ) (before behind : List Criterion) (c : Criterion) (lines : Lines) → HasAllBounds e →
+    ensures { (e : Problem) (greatest cap : Criterion → ℕ) (before behind : List Criterion) (c : Criterion)
+        (lines : Lines) → HasAllBounds e →
         All (λ d. c ≢ d) before → All (λ d. c ≢ d) behind → cap c ≤ greatest c →
         clause_lines lines ≡ expected_lines e (before ++ c ∷ behind) cap → caps greatest lines c ≡ cap c }
 {}

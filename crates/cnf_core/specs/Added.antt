@@ -10,7 +10,8 @@ use Rattle.cnf_core.specs.Formula.{Cnf, Passes, Full}
 -- those at return with one more clause of the longest length. On each outcome variables and room
 -- are as before, and the words aren't more than with all of them. After an error the formula isn't
 -- used further, and nothing else is said of its clauses.
-pub record AddsClauses {T : Type 0} (result : Result T CnfFault) (old new : Cnf) (clauses : Clauses) (longest : ℕ) : Type 0 where
+pub record AddsClauses {T : Type 0} (result : Result T CnfFault) (old new : Cnf) (clauses : Clauses) (longest : ℕ) :
+    Type 0 where
   pub added : OnOk result (new.clauses ≡ old.clauses ++ clauses)
   pub passes : IsErrOf result Room → Passes old clauses
   pub full : IsErrOf result Room → Full new longest
@@ -23,7 +24,8 @@ abbrev pub TooMany : Cnf → ℕ → Type 0
 TooMany f count = VARS < f.vars + count
 
 -- the same of a call that makes count further variables first, or as it goes
-pub record AddsBlock {T : Type 0} (result : Result T CnfFault) (old new : Cnf) (count : ℕ) (clauses : Clauses) (longest : ℕ) : Type 0 where
+pub record AddsBlock {T : Type 0} (result : Result T CnfFault) (old new : Cnf) (count : ℕ) (clauses : Clauses)
+    (longest : ℕ) : Type 0 where
   pub made : OnOk result (new.vars ≡ old.vars + count)
   pub added : OnOk result (new.clauses ≡ old.clauses ++ clauses)
   pub passes : IsErrOf result Room → TooMany old count ⊎ Passes old clauses

@@ -1,5 +1,6 @@
 -- Formulas: numbered variables, a list of clauses, and room for their words.
-use Rattle.std.specs.Prelude.{◌≡◌, ◌≤◌, ◌<◌, ℕ, ◌+◌, ◌-◌, List, [], ◌∷◌, ◌++◌, length, take, drop, zero, suc, slice_index_or}
+use Rattle.std.specs.Prelude.{◌≡◌, ◌≤◌, ◌<◌, ℕ, ◌+◌, ◌-◌, List, [], ◌∷◌, ◌++◌, length, take, drop, zero, suc}
+use Rattle.std.specs.Prelude.{slice_index_or}
 use Rattle.cnf_core.specs.declared.limits.TheConstants.{VARS, ROOM}
 use Rattle.cnf_core.specs.Lit.{Literal}
 use Rattle.cnf_core.specs.Clause.{Clauses, AllThere, AllDistinct, words_of}

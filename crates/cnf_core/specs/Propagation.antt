@@ -40,7 +40,8 @@ pub record Falsified (clauses : Clauses) (set : LiteralSet) : Type 0 where
 
 -- the set has the one literal of each unit clause
 abbrev pub IsClosed : Clauses → LiteralSet → Type 0
-IsClosed clauses set = (clause : List Literal) → Contains clauses clause → (l : Literal) → IsUnit set clause l → IsIn set l
+IsClosed clauses set = (clause : List Literal) → Contains clauses clause → (l : Literal) → IsUnit set clause l →
+    IsIn set l
 
 -- l is in every closed set that includes start, and so in the least one
 abbrev pub Closure : Clauses → LiteralSet → Literal → Type 0
@@ -91,7 +92,8 @@ abbrev pub SameLiterals : List Literal → List Literal → Type 0
 SameLiterals c d = (l : Literal) → Contains c l ↔ Contains d l
 
 abbrev pub AreAmong : Clauses → Clauses → Type 0
-AreAmong clauses more = (c : List Literal) → Contains clauses c → (d : List Literal) × Contains more d × SameLiterals c d
+AreAmong clauses more = (c : List Literal) → Contains clauses c → (d : List Literal) × Contains more d
+    × SameLiterals c d
 
 -- a closed set that shows a clause to be new: it has the negations of the others and not the
 -- first, and falsifies no clause

@@ -32,4 +32,5 @@ pub record Grows (clauses : Clauses) (old new : List Literal) : Type 0 where
   pub longer : length old ≤ length new
   pub keeps : Includes (has new) (has old)
   pub within : (l : Literal) → IsIn (has new) l → Closure clauses (has old) l
-  pub reason : (i : ℕ) (d : Literal) → length old ≤ i → i < length new → HasReason clauses (has (take i new)) (slice_index_or new i d)
+  pub reason : (i : ℕ) (d : Literal) → length old ≤ i → i < length new →
+      HasReason clauses (has (take i new)) (slice_index_or new i d)

@@ -1,5 +1,6 @@
 // Formulas.
-ghost use Rattle.std.specs.Prelude.{◌≡◌, ◌≢◌, ◌≤◌, ◌<◌, ◌+◌, ◌↔◌, [], ◌∷◌, ◌++◌, Some, length, slice_get, slice_index, take, drop, ◌-◌, IsOk, IfOk, OnOk, OnErr, IsErrOf};
+ghost use Rattle.std.specs.Prelude.{◌≡◌, ◌≢◌, ◌≤◌, ◌<◌, ◌+◌, ◌↔◌, [], ◌∷◌, ◌++◌, Some, length, slice_get, slice_index};
+ghost use Rattle.std.specs.Prelude.{take, drop, ◌-◌, IsOk, IfOk, OnOk, OnErr, IsErrOf};
 ghost use Rattle.cnf_core.specs.Clause.{AreDistinct, AreThere, words_of};
 ghost use Rattle.cnf_core.specs.LitOrTruth.{AreWithin, clause_of};
 ghost use Rattle.cnf_core.specs.Formula.{IsFormula, Full, clause_at, AreEnds};
@@ -163,7 +164,8 @@ impl Formula {
     pub fn add_clause(&mut self, unless: &[Lit], ts: &[LitOrTruth]) -> Result<(), CnfFault>
         requires there { AreThere self.old.vars unless.now }
         requires within { AreWithin self.old.vars ts.now }
-        ensures adds { AddsClauses result self.old self.new (clause_of unless.now ts.now) (length unless.now + length ts.now) }
+        ensures adds { AddsClauses result self.old self.new (clause_of unless.now ts.now)
+            (length unless.now + length ts.now) }
         ensures err { OnErr result (self.new ≡ self.old) }
     {
         match gather(self.alloc, unless, ts)? {
@@ -188,7 +190,8 @@ fn start_of(ends: &[u32], c: usize) -> usize
 fn cut_out<'a>(lits: &'a [Lit], ends: &[u32], c: usize) -> &'a [Lit]
     requires there { c < length ends.now }
     requires rise { AreEnds 0 ends.now (length lits.now) }
-    ensures { result.now ≡ take (slice_index ends.now c - slice_index (0 ∷ ends.now) c) (drop (slice_index (0 ∷ ends.now) c) lits.now) }
+    ensures { result.now ≡ take (slice_index ends.now c - slice_index (0 ∷ ends.now) c)
+        (drop (slice_index (0 ∷ ends.now) c) lits.now) }
 {
     let start = start_of(ends, c);
     let end = ends[c] as usize;

@@ -22,7 +22,8 @@ fn has(lits: &[Lit], l: Lit) -> bool
 /// Puts the literal behind the others where it isn't among them. The answer is false where its
 /// negation is.
 fn put_literal(lits: &mut Vec<Lit>, l: Lit) -> Result<bool, AllocError>
-    ensures { IfOk result (λ more. (ts : List GivenLit) → gathered lits.old.items (OfLit l ∷ ts) ≡ cond more (gathered lits.new.items ts) []) }
+    ensures { IfOk result (λ more. (ts : List GivenLit) → gathered lits.old.items (OfLit l ∷ ts)
+        ≡ cond more (gathered lits.new.items ts) []) }
 {
     if has(lits, l) {
         return Ok(true);

@@ -1,4 +1,5 @@
--- What draw answers to a station: the sheet and the status of how its search ended, what the log of the search certifies,
+-- What draw answers to a station: the sheet and the status of how its search ended, what the log of the search
+-- certifies,
 -- and the picture; and with which bytes it may leave a file.
 use Rattle.std.specs.Prelude.{◌≡◌, ◌⊎◌, ℕ, false, List, ◌++◌, None, Some}
 use Rattle.std.specs.declared.option.Option.{Option}
@@ -77,13 +78,16 @@ status_of (outcomes.Room found settled) = statuses.Unfinished
 
 -- a search with this outcome told these lines: they certify of the drawing, and of all that are lawful, what the
 -- outcome says
-pub record HasSearched (g : Graph) (o : EdgeOrder) (asked : Job) (IsTold : Lines → Type 0) (outcome : Outcome) : Type 0 where
-  pub lines : Lines
-  pub told : IsTold lines
-  pub ended : IsOutcome (search_of g o asked) asked.order outcome lines
+pub record HasSearched (g : Graph) (o : EdgeOrder) (asked : Job) (IsTold : Lines → Type 0) (outcome : Outcome) : Type 0
+  where
+    pub lines : Lines
+    pub told : IsTold lines
+    pub ended : IsOutcome (search_of g o asked) asked.order outcome lines
 
--- a search was done, and the text is the sheet of its outcome, which is read as that very sheet and isn't too long for it
-pub record IsDrawn (g : Graph) (o : EdgeOrder) (asked : Job) (IsTold : Lines → Type 0) (status : Status) (text : List ℕ) : Type 0 where
+-- a search was done, and the text is the sheet of its outcome, which is read as that very sheet and isn't too long for
+-- it
+pub record IsDrawn (g : Graph) (o : EdgeOrder) (asked : Job) (IsTold : Lines → Type 0) (status : Status) (text : List ℕ)
+    : Type 0 where
   pub outcome : Outcome
   pub searched : HasSearched g o asked IsTold outcome
   pub read : IsSheetText g false (sheet_text g (sheet_of asked outcome)) (sheet_of asked outcome)
@@ -91,32 +95,38 @@ pub record IsDrawn (g : Graph) (o : EdgeOrder) (asked : Job) (IsTold : Lines →
   pub status_is : status ≡ status_of outcome
   pub spelled : text ≡ sheet_text g (sheet_of asked outcome)
 
--- what draw answers to a station, with what the run met and what the trace was told: it was drawn, with the lines of the
+-- what draw answers to a station, with what the run met and what the trace was told: it was drawn, with the lines of
+-- the
 -- search where the words say, and the picture of its drawing where they name a file for it
-pub record IsDrawAnswer (asked : Job) (met : Met) (traced : Lines → Type 0) (g : Graph) (o : EdgeOrder) (status : Status) (text : List ℕ) : Type 0 where
+pub record IsDrawAnswer (asked : Job) (met : Met) (traced : Lines → Type 0) (g : Graph) (o : EdgeOrder)
+    (status : Status) (text : List ℕ) : Type 0 where
   pub drawn : IsDrawn g o asked (IsLogOf asked.log met traced) status text
   pub pictured : IsPictured asked.svg met g (found_by drawn.outcome)
 
 -- ---- what draw leaves, also where it doesn't answer
 
 -- a search of the station ended with a drawing, it told its lines so, and the bytes begin the picture of that drawing
-pub record HasBegunPicture (g : Graph) (o : EdgeOrder) (asked : Job) (IsTold : Lines → Type 0) (bytes : List ℕ) : Type 0 where
-  pub outcome : Outcome
-  pub searched : HasSearched g o asked IsTold outcome
-  pub begins : BeginsPicture g (found_by outcome) bytes
+pub record HasBegunPicture (g : Graph) (o : EdgeOrder) (asked : Job) (IsTold : Lines → Type 0) (bytes : List ℕ) : Type 0
+  where
+    pub outcome : Outcome
+    pub searched : HasSearched g o asked IsTold outcome
+    pub begins : BeginsPicture g (found_by outcome) bytes
 
 -- the bytes with which draw may leave the file of this name: where it is named for the log they begin the text of some
 -- log, and where for the picture they are such
 abbrev pub DrawMayLeave : Job → (IsPicture : List ℕ → Type 0) → (name bytes : List ℕ) → Type 0
-DrawMayLeave asked IsPicture name bytes = ((asked.log ≡ Some name) × BeginsLog bytes) ⊎ ((asked.svg ≡ Some name) × IsPicture bytes)
+DrawMayLeave asked IsPicture name bytes = ((asked.log ≡ Some name) × BeginsLog bytes)
+    ⊎ ((asked.svg ≡ Some name) × IsPicture bytes)
 
 -- the names of the files that are asked for, the log's before the picture's
 abbrev pub files_asked : Job → List (List ℕ)
 files_asked asked = file_named asked.log ++ file_named asked.svg
 
--- the bytes with which draw may leave the file of this name: the file of its input was read and has a station; and where
+-- the bytes with which draw may leave the file of this name: the file of its input was read and has a station; and
+-- where
 -- this one is named for the log they begin the text of some log, where for the picture that of the drawing with which a
 -- search of that station ended, whose lines were told where the words say
 abbrev pub IsLeftByDraw : (input : List ℕ) → Job → Met → (traced : Lines → Type 0) → (name bytes : List ℕ) → Type 0
 IsLeftByDraw input asked met traced name bytes =
-    (g : Graph) × (o : EdgeOrder) × IsReadStation input met g o × DrawMayLeave asked (HasBegunPicture g o asked (IsLogOf asked.log met traced)) name bytes
+    (g : Graph) × (o : EdgeOrder) × IsReadStation input met g o
+    × DrawMayLeave asked (HasBegunPicture g o asked (IsLogOf asked.log met traced)) name bytes

@@ -18,5 +18,7 @@ pub record BeginsPicture (g : Graph) (found : Option Drawing) (bytes : List ℕ)
 -- stood
 abbrev pub IsPictured : (named : Option (List ℕ)) → Met → Graph → (found : Option Drawing) → Type 0
 IsPictured None met g found = ⊤
-IsPictured (Some name) met g None = WhereTold met.before.contents met.after.contents (λ before after. after name ≡ before name)
-IsPictured (Some name) met g (Some d) = WhereTold met.before.contents met.after.contents (λ _ after. after name ≡ Some (svg_text g d))
+IsPictured (Some name) met g None = WhereTold met.before.contents met.after.contents
+    (λ before after. after name ≡ before name)
+IsPictured (Some name) met g (Some d) = WhereTold met.before.contents met.after.contents
+    (λ _ after. after name ≡ Some (svg_text g d))

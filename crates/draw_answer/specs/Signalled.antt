@@ -25,7 +25,8 @@ use Rattle.draw_answer.specs.Drawn.{Job, job, found_by, IsDrawAnswer}
 -- the same of a drawing on which each edge goes over as many columns as these signals need, in place of the least
 -- length that was asked for
 abbrev pub job_for : List SignalPlace → Job → Job
-job_for places asked = job (grid_with asked.grid.width asked.grid.height (need_of places)) asked.order asked.budget asked.svg asked.log
+job_for places asked = job (grid_with asked.grid.width asked.grid.height (need_of places)) asked.order asked.budget
+    asked.svg asked.log
 
 -- ---- what signals answers
 
@@ -36,7 +37,8 @@ signals_behind signals places (Some d) = signals_text signals places d
 
 -- draw answers with this sheet where the least length is what the signals need, and the text is the sheet and what the
 -- signals give behind it
-pub record IsSignalled (asked : Job) (met : Met) (traced : Lines → Type 0) (g : Graph) (o : EdgeOrder) (signals : List SignalElem) (places : List SignalPlace) (status : Status) (text : List ℕ) : Type 0 where
+pub record IsSignalled (asked : Job) (met : Met) (traced : Lines → Type 0) (g : Graph) (o : EdgeOrder)
+    (signals : List SignalElem) (places : List SignalPlace) (status : Status) (text : List ℕ) : Type 0 where
   pub sheet : List ℕ
   pub answer : IsDrawAnswer (job_for places asked) met traced g o status sheet
   pub spelled : text ≡ sheet ++ signals_behind signals places (found_by answer.drawn.outcome)
@@ -44,7 +46,8 @@ pub record IsSignalled (asked : Job) (met : Met) (traced : Lines → Type 0) (g 
 -- ---- the file of a station with signals
 
 -- the bytes have this station and these signals, and the answer is one to them
-pub record IsSignalAnswer (asked : Job) (met : Met) (traced : Lines → Type 0) (bytes : List ℕ) (status : Status) (text : List ℕ) : Type 0 where
+pub record IsSignalAnswer (asked : Job) (met : Met) (traced : Lines → Type 0) (bytes : List ℕ) (status : Status)
+    (text : List ℕ) : Type 0 where
   pub graph : Graph
   pub order : EdgeOrder
   pub signals : List SignalElem
@@ -59,7 +62,8 @@ pub record IsSignalFileRefused (bytes : List ℕ) (status : Status) (text : List
   pub answers : IsFaultLine fault status text
 
 abbrev pub IsSignalFileJudged : Job → Met → (traced : Lines → Type 0) → List ℕ → Status → List ℕ → Type 0
-IsSignalFileJudged asked met traced bytes status text = IsSignalAnswer asked met traced bytes status text ⊎ IsSignalFileRefused bytes status text
+IsSignalFileJudged asked met traced bytes status text = IsSignalAnswer asked met traced bytes status text
+    ⊎ IsSignalFileRefused bytes status text
 
 -- ---- what signals leaves
 

@@ -25,7 +25,8 @@ pub record IsMade (n : ℕ) (status : Status) (text : List ℕ) : Type 0 where
 
 -- ---- trial
 
--- what is asked of a made station's drawing: 64 columns and 2 rows, the least height first and then the least width, and
+-- what is asked of a made station's drawing: 64 columns and 2 rows, the least height first and then the least width,
+-- and
 -- no files
 abbrev pub trial_job : Job
 trial_job = job (grid_size 64 2) (criteria.Height ∷ criteria.Width ∷ []) 50000 None None
@@ -49,7 +50,8 @@ abbrev pub trial_line : ℕ → Graph → Outcome → List ℕ
 trial_line n g outcome = codes "trial" ++ spaced (decimal n ∷ []) ++ trial_end g outcome ++ codes "\n"
 
 -- a search for the station's drawing was done, and the line says how it ended
-pub record IsTried (n : ℕ) (IsTold : Lines → Type 0) (g : Graph) (o : EdgeOrder) (status : Status) (text : List ℕ) : Type 0 where
+pub record IsTried (n : ℕ) (IsTold : Lines → Type 0) (g : Graph) (o : EdgeOrder) (status : Status) (text : List ℕ) :
+    Type 0 where
   pub outcome : Outcome
   pub searched : HasSearched g o trial_job IsTold outcome
   pub status_is : status ≡ status_of outcome

@@ -13,7 +13,8 @@ file_named (Some name) = name ∷ []
 abbrev pub AreFilesApart : (names : List (List ℕ)) → Type 0
 AreFilesApart names = AllPairs (λ a b. a ≢ b) names
 
--- the lines of a search, or a picture, couldn't be written: a write of the command's files failed, or the trace did, where
+-- the lines of a search, or a picture, couldn't be written: a write of the command's files failed, or the trace did,
+-- where
 -- the lines go to it
 abbrev pub FailsToWrite : (outputs : List (List ℕ)) → (ToTrace : Type 0) → Met → (trace_rose : Type 0) → Type 0
 FailsToWrite outputs ToTrace met trace_rose =

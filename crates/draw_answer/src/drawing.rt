@@ -18,7 +18,8 @@ ghost use Rattle.input_answer.specs.Met.{between, ReadsInputs, IsUnwritten, Leav
 ghost use Rattle.refute_log.specs.ToldTo.{told_to};
 ghost use Rattle.draw_answer.specs.SearchLog.{HoldsLog, IsLogOf};
 ghost use Rattle.draw_answer.specs.Written.{AreFilesApart, file_named, FailsToWrite};
-ghost use Rattle.draw_answer.specs.Drawn.{sheet_with, sheet_of, status_of, HasSearched, IsDrawAnswer, HasBegunPicture, DrawMayLeave, files_asked, IsLeftByDraw};
+ghost use Rattle.draw_answer.specs.Drawn.{sheet_with, sheet_of, status_of, HasSearched, IsDrawAnswer, HasBegunPicture};
+ghost use Rattle.draw_answer.specs.Drawn.{DrawMayLeave, files_asked, IsLeftByDraw};
 
 use crate::picturing::write_found;
 use cnf_core::ROOM;
@@ -63,7 +64,8 @@ pub fn search<L: LogSink>(
     log: &mut L,
 ) -> Result<Outcome, Cut>
     requires order { IsOrderOf station.now.graph station.now.order }
-    ensures searched { IfOk result (HasSearched station.now.graph station.now.order asked.now (told_to L.tells L.learnt log.old
+    ensures searched { IfOk result (HasSearched station.now.graph station.now.order asked.now
+        (told_to L.tells L.learnt log.old
         log.new)) }
     ensures later { L.is_later log.old log.new }
     ensures faults { L.faults log.old ≤ L.faults log.new }
@@ -138,7 +140,8 @@ pub(crate) fn sheet_reply(
     ensures status_is { IfOk result (λ r. r.status ≡ status_of outcome) }
     ensures spelled { IfOk result (λ r. r.text.items ≡ sheet_text station.now.graph (sheet_of asked.now outcome)) }
     ensures short { OnOk result (IsShort MAX_FILE_BYTES (sheet_text station.now.graph (sheet_of asked.now outcome))) }
-    ensures read { OnOk result (IsSheetText station.now.graph false (sheet_text station.now.graph (sheet_of asked.now outcome))
+    ensures read { OnOk result (IsSheetText station.now.graph false (sheet_text station.now.graph
+        (sheet_of asked.now outcome))
         (sheet_of asked.now outcome)) }
 {
     let status = status_of(&outcome);
@@ -159,10 +162,12 @@ fn search_filed<F: Files>(
     files: &mut F,
 ) -> Result<Outcome, Cut>
     requires order { IsOrderOf station.now.graph station.now.order }
-    ensures searched { IfOk result (HasSearched station.now.graph station.now.order asked.now (HoldsLog (F.at files.old).contents
+    ensures searched { IfOk result (HasSearched station.now.graph station.now.order asked.now
+        (HoldsLog (F.at files.old).contents
         (F.at files.new).contents name.now)) }
     ensures others { WhereTold (F.at files.old).contents (F.at files.new).contents (SameElsewhere name.now) }
-    ensures begun { WhereTold (F.at files.old).contents (F.at files.new).contents (λ before after. (after name.now ≡ before
+    ensures begun { WhereTold (F.at files.old).contents (F.at files.new).contents
+        (λ before after. (after name.now ≡ before
         name.now) ⊎ FileBeginsLog after name.now) }
     ensures later { (F.at files.old).write_faults ≤ (F.at files.new).write_faults }
     ensures cause { IsErrOf result Cut.Unwritten → Rose (F.at files.old).write_faults (F.at files.new).write_faults }
@@ -196,7 +201,8 @@ pub(crate) fn search_told<F: Files, T: LogSink>(
     ensures searched { let met = between (F.at files.old) (F.at files.new) in
         let told = told_to T.tells T.learnt trace.old trace.new in
         IfOk result (HasSearched station.now.graph station.now.order asked.now (IsLogOf asked.now.log met told)) }
-    ensures leaves { WhereTold (F.at files.old).contents (F.at files.new).contents (Leaves (λ name bytes. (asked.now.log ≡ Some
+    ensures leaves { WhereTold (F.at files.old).contents (F.at files.new).contents
+        (Leaves (λ name bytes. (asked.now.log ≡ Some
         name) × BeginsLog bytes)) }
     ensures unwritten { let met = between (F.at files.old) (F.at files.new) in
         asked.now.log ≡ None → IsUnwritten met }

@@ -26,7 +26,8 @@ fn write_picture<F: Files>(
     files: &mut F,
 ) -> Result<(), Cut>
     requires { HasSizeOf graph.now drawing.now }
-    ensures ok { OnOk result (WhereTold (F.at files.old).contents (F.at files.new).contents (Sets name.now (svg_text graph.now
+    ensures ok { OnOk result (WhereTold (F.at files.old).contents (F.at files.new).contents
+        (Sets name.now (svg_text graph.now
         drawing.now))) }
     ensures err { OnErr result (WhereTold (F.at files.old).contents (F.at files.new).contents (MaySet name.now (svg_text
         graph.now drawing.now))) }
@@ -66,7 +67,8 @@ fn write_named<F: Files>(
     requires { IfSome (found_by outcome.now) (HasSizeOf graph.now) }
     ensures pictured { let met = between (F.at files.old) (F.at files.new) in
         OnOk result (IsPictured (Some name.now) met graph.now (found_by outcome.now)) }
-    ensures leaves { WhereTold (F.at files.old).contents (F.at files.new).contents (Leaves (λ named bytes. (Some name.now ≡ Some
+    ensures leaves { WhereTold (F.at files.old).contents (F.at files.new).contents
+        (Leaves (λ named bytes. (Some name.now ≡ Some
         named) × BeginsPicture graph.now (found_by outcome.now) bytes)) }
     ensures later { (F.at files.old).write_faults ≤ (F.at files.new).write_faults }
     ensures cause { IsErrOf result Cut.Unwritten → Rose (F.at files.old).write_faults (F.at files.new).write_faults }
@@ -90,7 +92,8 @@ pub fn write_found<F: Files>(
     requires { IfSome (found_by outcome.now) (HasSizeOf graph.now) }
     ensures pictured { let met = between (F.at files.old) (F.at files.new) in
         OnOk result (IsPictured named.now met graph.now (found_by outcome.now)) }
-    ensures leaves { WhereTold (F.at files.old).contents (F.at files.new).contents (Leaves (λ name bytes. (named.now ≡ Some name) ×
+    ensures leaves { WhereTold (F.at files.old).contents (F.at files.new).contents
+        (Leaves (λ name bytes. (named.now ≡ Some name) ×
         BeginsPicture graph.now (found_by outcome.now) bytes)) }
     ensures unwritten { let met = between (F.at files.old) (F.at files.new) in named.now ≡ None → IsUnwritten met }
     ensures later { (F.at files.old).write_faults ≤ (F.at files.new).write_faults }

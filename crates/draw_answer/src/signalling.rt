@@ -1,6 +1,7 @@
 // What signals answers: what draw answers where each edge is as long as its signals need, and the text of the signals
 // behind the sheet of a drawing.
-ghost use Rattle.std.specs.Prelude.{◌≡◌, ◌≢◌, ◌<◌, ◌≤◌, ◌⊎◌, ◌++◌, ℕ, ⊤, false, [], None, Some, length, All, IfOk, OnOk, IfSome, IsOkAnd, IsErrOf};
+ghost use Rattle.std.specs.Prelude.{◌≡◌, ◌≢◌, ◌<◌, ◌≤◌, ◌⊎◌, ◌++◌, ℕ, ⊤, false, [], None, Some, length, All, IfOk};
+ghost use Rattle.std.specs.Prelude.{OnOk, IfSome, IsOkAnd, IsErrOf};
 ghost use Rattle.outside_io.specs.Contents.{WhereTold};
 ghost use Rattle.outside_io.specs.Counts.{Rose};
 ghost use Rattle.plan_core.specs.declared.limits.TheConstants.{MAX_FILE_BYTES};
@@ -19,7 +20,8 @@ ghost use Rattle.input_answer.specs.Input.{IsShort};
 ghost use Rattle.input_answer.specs.Met.{between, ReadsInputs, IsUnwritten, Leaves};
 ghost use Rattle.draw_answer.specs.Written.{file_named, FailsToWrite};
 ghost use Rattle.draw_answer.specs.Drawn.{sheet_of, found_by as drawing_of, status_of as outcome_status, HasSearched};
-ghost use Rattle.draw_answer.specs.Signalled.{job_for, signals_behind as text_behind, IsSignalled, IsSignalFileJudged, HasReadSignals, IsLeftBySignals};
+ghost use Rattle.draw_answer.specs.Signalled.{job_for, signals_behind as text_behind, IsSignalled, IsSignalFileJudged};
+ghost use Rattle.draw_answer.specs.Signalled.{HasReadSignals, IsLeftBySignals};
 
 use crate::drawing::{Asked, search_told, sheet_reply};
 use crate::picturing::found_by;
@@ -73,8 +75,10 @@ fn signal_reply(
     ensures status_is { IfOk result (λ r. r.status ≡ outcome_status outcome) }
     ensures spelled { IfOk result (λ r. r.text.items ≡ sheet_text found.now.station.graph (sheet_of asked.now outcome)
         ++ text_behind found.now.signals found.now.placed (drawing_of outcome)) }
-    ensures short { OnOk result (IsShort MAX_FILE_BYTES (sheet_text found.now.station.graph (sheet_of asked.now outcome))) }
-    ensures read { OnOk result (IsSheetText found.now.station.graph false (sheet_text found.now.station.graph (sheet_of asked.now
+    ensures short { OnOk result (IsShort MAX_FILE_BYTES (sheet_text found.now.station.graph
+        (sheet_of asked.now outcome))) }
+    ensures read { OnOk result (IsSheetText found.now.station.graph false
+        (sheet_text found.now.station.graph (sheet_of asked.now
         outcome)) (sheet_of asked.now outcome)) }
 {
     let behind = signals_behind(alloc, found, &outcome)?;
@@ -98,13 +102,15 @@ fn signal_station<F: Files, T: LogSink>(
     requires unpictured { asked.now.svg ≡ None }
     ensures answer { let met = between (F.at files.old) (F.at files.new) in
         let told = told_to T.tells T.learnt trace.old trace.new in
-        IfOk result (λ r. IsSignalled asked.now met told found.now.station.graph found.now.station.order found.now.signals
+        IfOk result (λ r. IsSignalled asked.now met told found.now.station.graph found.now.station.order
+        found.now.signals
         found.now.placed r.status r.text.items) }
     ensures read_faults { (F.at files.new).read_faults ≡ (F.at files.old).read_faults }
     ensures reads { (F.at files.new).reads ≡ (F.at files.old).reads }
     ensures unrefused { IsOkAnd result (λ r. IsRefused r.status) → ⊥ }
     ensures unwritten { let met = between (F.at files.old) (F.at files.new) in asked.now.log ≡ None → IsUnwritten met }
-    ensures leaves { WhereTold (F.at files.old).contents (F.at files.new).contents (Leaves (λ name bytes. (asked.now.log ≡ Some
+    ensures leaves { WhereTold (F.at files.old).contents (F.at files.new).contents
+        (Leaves (λ name bytes. (asked.now.log ≡ Some
         name) × BeginsLog bytes)) }
     ensures cause { let met = between (F.at files.old) (F.at files.new) in
         IsErrOf result Cut.Unwritten → FailsToWrite (file_named asked.now.log) (asked.now.log ≡ None) met (Rose

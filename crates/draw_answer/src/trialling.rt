@@ -11,7 +11,8 @@ ghost use Rattle.input_answer.specs.Status.{IsRefused};
 ghost use Rattle.input_answer.specs.Input.{HasSomeStation};
 ghost use Rattle.input_answer.specs.Answer.{IsFileJudged};
 ghost use Rattle.draw_answer.specs.Drawn.{HasSearched};
-ghost use Rattle.draw_answer.specs.Tried.{IsMade, IsTried, trial_job, graph_counts, best_measures, trial_end, trial_line};
+ghost use Rattle.draw_answer.specs.Tried.{IsMade, IsTried, trial_job, graph_counts, best_measures, trial_end};
+ghost use Rattle.draw_answer.specs.Tried.{trial_line};
 
 use crate::drawing::{Asked, search, status_of};
 use input_answer::{Cut, Refusal, Reply, Station, Status, fault_reply, station_in};
@@ -65,7 +66,8 @@ fn trial_order() -> Order
 /// The outcome of the search for a made station's drawing, whose lines the log is told.
 fn search_trial<L: LogSink>(alloc: Global, station: &Station, log: &mut L) -> Result<Outcome, Cut>
     requires order { IsOrderOf station.now.graph station.now.order }
-    ensures searched { IfOk result (HasSearched station.now.graph station.now.order trial_job (told_to L.tells L.learnt log.old
+    ensures searched { IfOk result (HasSearched station.now.graph station.now.order trial_job
+        (told_to L.tells L.learnt log.old
         log.new)) }
     ensures later { L.is_later log.old log.new }
     ensures faults { L.faults log.old ≤ L.faults log.new }
@@ -147,7 +149,8 @@ fn try_station<L: LogSink>(
     log: &mut L,
 ) -> Result<Reply, Cut>
     requires order { IsOrderOf station.now.graph station.now.order }
-    ensures answer { IfOk result (λ r. IsTried n (told_to L.tells L.learnt log.old log.new) station.now.graph station.now.order
+    ensures answer { IfOk result (λ r. IsTried n (told_to L.tells L.learnt log.old log.new) station.now.graph
+        station.now.order
         r.status r.text.items) }
     ensures later { L.is_later log.old log.new }
     ensures faults { L.faults log.old ≤ L.faults log.new }
@@ -162,11 +165,13 @@ fn try_station<L: LogSink>(
 
 /// What `trial` answers.
 pub fn trial<L: LogSink>(alloc: Global, n: u32, log: &mut L) -> Result<Reply, Cut>
-    ensures answer { IfOk result (λ r. IsFileJudged (IsTried n (told_to L.tells L.learnt log.old log.new)) (station_text n)
+    ensures answer { IfOk result (λ r. IsFileJudged (IsTried n (told_to L.tells L.learnt log.old log.new))
+        (station_text n)
         r.status r.text.items) }
     ensures later { L.is_later log.old log.new }
     ensures cause { IsErrOf result Cut.Unwritten → Rose (L.faults log.old) (L.faults log.new) }
-    ensures untold { IsOkAnd result (λ r. IsRefused r.status) ⊎ (HasSomeStation (station_text n) → ⊥) → log.new ≡ log.old }
+    ensures untold { IsOkAnd result (λ r. IsRefused r.status) ⊎ (HasSomeStation (station_text n) → ⊥) → log.new
+        ≡ log.old }
 {
     let file = make(alloc, n)?;
     match station_in(alloc, &file) {

@@ -47,7 +47,8 @@ bounds_from g x grid caps last (c ∷ rest) =
 
 -- The clauses and variables that there are for an order with its caps.
 
-abbrev pub expected_bounds : Graph → (ℕ → ℕ → Bool) → (ℕ → ℕ → Bool) → GridSize → List Criterion → (Criterion → ℕ) → List Bound
+abbrev pub expected_bounds : Graph → (ℕ → ℕ → Bool) → (ℕ → ℕ → Bool) → GridSize → List Criterion → (Criterion → ℕ) →
+    List Bound
 expected_bounds g above overlap grid order caps =
     bounds_from g (drawing_vars g grid) grid caps (formula_size g above overlap grid) order
 
@@ -71,14 +72,16 @@ pub record StandsAndTells (v : Assignment) (g : Graph) (above : ℕ → ℕ → 
   pub tells : Tells v (values_of drawing) bounds
 
 abbrev pub SoundWith : Graph → (ℕ → ℕ → Bool) → GridSize → DrawingVars → Clauses → List Bound → Type 0
-SoundWith g above grid x clauses bounds = (v : Assignment) → SatisfiesAll v clauses → StandsAndTells v g above grid x bounds
+SoundWith g above grid x clauses bounds = (v : Assignment) → SatisfiesAll v clauses →
+    StandsAndTells v g above grid x bounds
 
 -- an assignment that satisfies the clauses and stands for the drawing, and whose bounds tell its values
-pub record TellingModel (g : Graph) (x : DrawingVars) (clauses : Clauses) (bounds : List Bound) (d : Drawing) : Type 0 where
-  pub to : Assignment
-  pub satisfies : SatisfiesAll to clauses
-  pub stands : StandsFor to g x d
-  pub tells : Tells to (values_of d) bounds
+pub record TellingModel (g : Graph) (x : DrawingVars) (clauses : Clauses) (bounds : List Bound) (d : Drawing) : Type 0
+  where
+    pub to : Assignment
+    pub satisfies : SatisfiesAll to clauses
+    pub stands : StandsFor to g x d
+    pub tells : Tells to (values_of d) bounds
 
 abbrev pub CoversWith : Graph → (ℕ → ℕ → Bool) → GridSize → DrawingVars → Clauses → List Bound → Type 0
 CoversWith g above grid x clauses bounds = (d : Drawing) → Lawful g above grid d → TellingModel g x clauses bounds d

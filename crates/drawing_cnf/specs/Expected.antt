@@ -55,7 +55,8 @@ instance_pairs n f = instances_from (pairs_from n f) 0 n
 
 -- of two edges, the smaller number first: which law they have
 abbrev pub below_by : Bool → Bool → Bool → ℕ → ℕ → List Instance
-below_by above below overlap e f = cond below (Over f e ∷ []) [] ++ cond (above || (below || not overlap)) [] (Parted e f ∷ [])
+below_by above below overlap e f = cond below (Over f e ∷ []) []
+    ++ cond (above || (below || not overlap)) [] (Parted e f ∷ [])
 
 abbrev pub pair_by : Bool → Bool → Bool → ℕ → ℕ → List Instance
 pair_by above below overlap e f = cond above (Over e f ∷ []) [] ++ below_by above below overlap e f
@@ -65,8 +66,10 @@ edge_pair above overlap e f = pair_by (above e f) (above f e) (overlap e f) e f
 
 abbrev pub instances : Graph → (ℕ → ℕ → Bool) → (ℕ → ℕ → Bool) → List Instance
 instances g above overlap =
-    instance_pairs (length g.nodes) (λ u v. Ordered u v ∷ []) ++ (instances_from (λ n. Aligned n ∷ []) 0 (length g.nodes)
-    ++ (instance_pairs (length g.nodes) (λ u v. Apart u v ∷ []) ++ instance_pairs (length g.edges) (edge_pair above overlap)))
+    instance_pairs (length g.nodes) (λ u v. Ordered u v ∷ [])
+    ++ (instances_from (λ n. Aligned n ∷ []) 0 (length g.nodes)
+    ++ (instance_pairs (length g.nodes) (λ u v. Apart u v ∷ [])
+    ++ instance_pairs (length g.edges) (edge_pair above overlap)))
 
 -- The parts.
 
@@ -74,14 +77,17 @@ abbrev pub node_clauses : NodeInts → Clauses
 node_clauses n = int_clauses n.y ++ int_clauses n.x
 
 abbrev pub edge_part : Graph → DrawingVars → GridSize → ℕ → Clauses
-edge_part g x grid e = edge_clauses (x.edge e) (x.node (edge g e).west) (x.node (edge g e).east) grid.least grid.height grid.width
+edge_part g x grid e = edge_clauses (x.edge e) (x.node (edge g e).west) (x.node (edge g e).east) grid.least grid.height
+    grid.width
 
 abbrev pub base_clauses : Graph → DrawingVars → GridSize → Clauses
-base_clauses g x grid = each (λ n. node_clauses (x.node n)) 0 (length g.nodes) ++ each (edge_part g x grid) 0 (length g.edges)
+base_clauses g x grid = each (λ n. node_clauses (x.node n)) 0 (length g.nodes)
+    ++ each (edge_part g x grid) 0 (length g.edges)
 
 abbrev pub expected_clauses : Graph → GridSize → List Instance → Clauses
 expected_clauses g grid laws =
-    base_clauses g (drawing_vars g grid) grid ++ laws_clauses g (drawing_vars g grid) grid.width (laws_first g grid) laws
+    base_clauses g (drawing_vars g grid) grid ++ laws_clauses g (drawing_vars g grid) grid.width (laws_first g grid)
+    laws
 
 -- how many variables it has
 abbrev pub expected_size : Graph → GridSize → List Instance → ℕ
@@ -95,7 +101,8 @@ formula_clauses g above overlap grid = expected_clauses g grid (instances g abov
 abbrev pub formula_size : Graph → (ℕ → ℕ → Bool) → (ℕ → ℕ → Bool) → GridSize → ℕ
 formula_size g above overlap grid = expected_size g grid (instances g above overlap)
 
--- How many words and variables it has at most: the parts of a graph are its nodes and edges, the area of a grid its points.
+-- How many words and variables it has at most: the parts of a graph are its nodes and edges, the area of a grid its
+-- points.
 
 abbrev pub parts : Graph → ℕ
 parts g = length g.nodes + length g.edges
@@ -112,7 +119,8 @@ most_variables g grid = 100 * (parts g * area grid) + 10 * (parts g * parts g * 
 -- What a list of clauses over these variables is to be.
 
 -- the assignment stands for a lawful drawing
-pub record StandsForLawful (v : Assignment) (g : Graph) (above : ℕ → ℕ → Bool) (grid : GridSize) (x : DrawingVars) : Type 0 where
+pub record StandsForLawful (v : Assignment) (g : Graph) (above : ℕ → ℕ → Bool) (grid : GridSize) (x : DrawingVars) :
+    Type 0 where
   pub drawing : Drawing
   pub stands : StandsFor v g x drawing
   pub lawful : Lawful g above grid drawing

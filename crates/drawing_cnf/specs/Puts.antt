@@ -29,9 +29,10 @@ abbrev pub HoldsBefore : ℕ → Assignment → Clauses → Type 0
 HoldsBefore last v clauses = (w : Assignment) → ((y : ℕ) → y < last → w y ≡ v y) → SatisfiesAll w clauses
 
 -- the variables of these laws, of which first is the first, were put, and no others
-pub record PutsLaws (g : Graph) (grid : GridSize) (laws : List Instance) (first : ℕ) (old new : Assignment) : Type 0 where
-  pub same : SameOutside first (laws_size g laws) old new
-  pub holds : HoldsBefore (first + laws_size g laws) new (laws_clauses g (drawing_vars g grid) grid.width first laws)
+pub record PutsLaws (g : Graph) (grid : GridSize) (laws : List Instance) (first : ℕ) (old new : Assignment) : Type 0
+  where
+    pub same : SameOutside first (laws_size g laws) old new
+    pub holds : HoldsBefore (first + laws_size g laws) new (laws_clauses g (drawing_vars g grid) grid.width first laws)
 
 -- law 5's variables: of two nodes the one of smaller mileage isn't west of the other, and is below it; of two
 -- of one mileage the first is below the second
@@ -50,7 +51,8 @@ abbrev pub sums_clauses : List SumVars → Clauses
 sums_clauses [] = []
 sums_clauses (s ∷ rest) = sum_clauses s ++ sums_clauses rest
 
--- the first follows the variable of number vars, and each the one before it; the inputs of each lie before its variables
+-- the first follows the variable of number vars, and each the one before it; the inputs of each lie before its
+-- variables
 abbrev pub AreInRow : ℕ → List SumVars → Type 0
 AreInRow vars [] = ⊤
 AreInRow vars (s ∷ rest) = (s.vars ≡ vars) × (AreThere vars s.inputs × AreInRow (vars + sum_count s) rest)

@@ -25,7 +25,8 @@ bounds_last g x grid vars (b ∷ rest) = bounds_last g x grid (b.last + size_of_
 -- the last variable of all that there is for an order with its caps
 abbrev pub expected_last : Graph → (ℕ → ℕ → Bool) → (ℕ → ℕ → Bool) → GridSize → List Criterion → (Criterion → ℕ) → ℕ
 expected_last g above overlap grid order caps =
-    bounds_last g (drawing_vars g grid) grid (formula_size g above overlap grid) (expected_bounds g above overlap grid order caps)
+    bounds_last g (drawing_vars g grid) grid (formula_size g above overlap grid)
+    (expected_bounds g above overlap grid order caps)
 
 -- after an error of a call that adds a bound this needn't hold
 pub record IsWhole (e : Encoding) : Type 0 where

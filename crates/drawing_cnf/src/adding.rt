@@ -1,5 +1,6 @@
 // A criterion's bound behind a formula.
-ghost use Rattle.std.specs.Prelude.{◌≡◌, ◌≤◌, ◌<◌, ◌⊎◌, ◌+◌, ◌*◌, ◌++◌, ℕ, [], ◌∷◌, length, Contains, IsOk, IfOk, OnOk, IsErrOf};
+ghost use Rattle.std.specs.Prelude.{◌≡◌, ◌≤◌, ◌<◌, ◌⊎◌, ◌+◌, ◌*◌, ◌++◌, ℕ, [], ◌∷◌, length, Contains, IsOk, IfOk, OnOk};
+ghost use Rattle.std.specs.Prelude.{IsErrOf};
 ghost use Rattle.plan_core.specs.Values.{limit_of};
 ghost use Rattle.cnf_core.specs.declared.limits.TheConstants.{VARS};
 ghost use Rattle.cnf_core.specs.declared.fault.CnfFault.TheVariants.{Room};
@@ -93,14 +94,16 @@ pub fn criterion_bound<'a>(
     ensures bounds { OnOk result (e.new.bounds ≡ e.old.bounds ++ bound c e.old.formula.vars cap ∷ []) }
     ensures whole { OnOk result (IsWhole e.new) }
     ensures clauses { OnOk result (e.new.formula.clauses ≡
-        e.old.formula.clauses ++ clauses_of_bound e.old.graph (encoded_vars e.old) e.old.grid (bound c e.old.formula.vars cap)) }
+        e.old.formula.clauses ++ clauses_of_bound e.old.graph (encoded_vars e.old) e.old.grid
+        (bound c e.old.formula.vars cap)) }
     ensures vars { OnOk result (e.new.formula.vars ≡
         e.old.formula.vars + size_of_bound e.old.graph (encoded_vars e.old) e.old.grid (bound c e.old.formula.vars cap)) }
     ensures there { OnOk result (e.old.formula.vars + cap ≤ e.new.formula.vars) }
     ensures words_fit { let all = e.old.formula.clauses
         ++ clauses_of_bound e.old.graph (encoded_vars e.old) e.old.grid (bound c e.old.formula.vars cap) in
         OnOk result (words_of all ≤ e.old.formula.room) }
-    ensures vars_fit { let size = size_of_bound e.old.graph (encoded_vars e.old) e.old.grid (bound c e.old.formula.vars cap) in
+    ensures vars_fit { let size = size_of_bound e.old.graph (encoded_vars e.old) e.old.grid
+        (bound c e.old.formula.vars cap) in
         OnOk result (e.old.formula.vars + size ≤ VARS) }
     ensures full { let b = bound c e.old.formula.vars cap in
         let all = e.old.formula.clauses ++ clauses_of_bound e.old.graph (encoded_vars e.old) e.old.grid b in
@@ -117,16 +120,19 @@ pub fn criterion_bound<'a>(
         1 ≤ parts e.old.graph → words_of e.new.formula.clauses ≤ words_of e.old.formula.clauses + 400 * most }
     ensures vars_bounded { let most = parts e.old.graph * (e.old.grid.width + 1) * (cap + 2) in
         1 ≤ parts e.old.graph → e.new.formula.vars ≤ e.old.formula.vars + 40 * most }
-    ensures named { let clauses = clauses_of_bound e.old.graph (encoded_vars e.old) e.old.grid (bound c e.old.formula.vars cap) in
+    ensures named { let clauses = clauses_of_bound e.old.graph (encoded_vars e.old) e.old.grid
+        (bound c e.old.formula.vars cap) in
         (k : ℕ) → 1 ≤ k → k ≤ cap → IsNamed clauses (e.old.formula.vars + k) }
     ensures forced { let clauses = clauses_of_bound e.old.graph (encoded_vars e.old) e.old.grid
         (bound c e.old.formula.vars cap) in
         (k : ℕ) → 1 ≤ k → k ≤ cap → reach_of e.old.graph e.old.grid c < k →
         Contains clauses (negative_of (e.old.formula.vars + k) ∷ []) }
     ensures sound { OnOk result
-        (SoundWith e.new.graph (is_above e.new.order) e.new.grid (encoded_vars e.new) e.new.formula.clauses e.new.bounds) }
+        (SoundWith e.new.graph (is_above e.new.order) e.new.grid (encoded_vars e.new) e.new.formula.clauses
+        e.new.bounds) }
     ensures covers { OnOk result
-        (CoversWith e.new.graph (is_above e.new.order) e.new.grid (encoded_vars e.new) e.new.formula.clauses e.new.bounds) }
+        (CoversWith e.new.graph (is_above e.new.order) e.new.grid (encoded_vars e.new) e.new.formula.clauses
+        e.new.bounds) }
 {
     // what the types keep
     let _ = (e.graph.nodes(), e.grid.width(), e.formula.vars());

@@ -36,10 +36,12 @@ fn add_height(
 ) -> Result<Vec<Sum>, CnfFault>
     requires there { laws_first g.now grid.now ≤ f.old.vars + 1 }
     requires cap { cap ≤ grid.now.height }
-    ensures adds { AddsBlock result f.old f.new (bound_size g.now (drawing_vars g.now grid.now) grid.now f.old.vars cap Height)
+    ensures adds { AddsBlock result f.old f.new (bound_size g.now (drawing_vars g.now grid.now) grid.now f.old.vars cap
+        Height)
         (bound_clauses g.now (drawing_vars g.now grid.now) grid.now f.old.vars cap Height)
         (length g.now.edges * (grid.now.width + 1) + length g.now.nodes + 3) }
-    ensures sums { IfOk result (λ v. v.items ≡ bound_sums g.now (drawing_vars g.now grid.now) grid.now f.old.vars cap Height) }
+    ensures sums { IfOk result (λ v. v.items ≡ bound_sums g.now (drawing_vars g.now grid.now) grid.now f.old.vars cap
+        Height) }
 {
     add_height_bound(alloc, f, g, grid, cap)?;
     Ok(Vec::new(alloc))
@@ -55,10 +57,12 @@ fn add_width(
 ) -> Result<Vec<Sum>, CnfFault>
     requires there { laws_first g.now grid.now ≤ f.old.vars + 1 }
     requires cap { cap ≤ grid.now.width }
-    ensures adds { AddsBlock result f.old f.new (bound_size g.now (drawing_vars g.now grid.now) grid.now f.old.vars cap Width)
+    ensures adds { AddsBlock result f.old f.new (bound_size g.now (drawing_vars g.now grid.now) grid.now f.old.vars cap
+        Width)
         (bound_clauses g.now (drawing_vars g.now grid.now) grid.now f.old.vars cap Width)
         (length g.now.edges * (grid.now.width + 1) + length g.now.nodes + 3) }
-    ensures sums { IfOk result (λ v. v.items ≡ bound_sums g.now (drawing_vars g.now grid.now) grid.now f.old.vars cap Width) }
+    ensures sums { IfOk result (λ v. v.items ≡ bound_sums g.now (drawing_vars g.now grid.now) grid.now f.old.vars cap
+        Width) }
 {
     // what the types keep
     let _ = grid.width();
@@ -76,10 +80,12 @@ fn add_bends(
 ) -> Result<Vec<Sum>, CnfFault>
     requires there { laws_first g.now grid.now ≤ f.old.vars + 1 }
     requires cap { cap ≤ 65535 }
-    ensures adds { AddsBlock result f.old f.new (bound_size g.now (drawing_vars g.now grid.now) grid.now f.old.vars cap Bends)
+    ensures adds { AddsBlock result f.old f.new (bound_size g.now (drawing_vars g.now grid.now) grid.now f.old.vars cap
+        Bends)
         (bound_clauses g.now (drawing_vars g.now grid.now) grid.now f.old.vars cap Bends)
         (length g.now.edges * (grid.now.width + 1) + length g.now.nodes + 3) }
-    ensures sums { IfOk result (λ v. v.items ≡ bound_sums g.now (drawing_vars g.now grid.now) grid.now f.old.vars cap Bends) }
+    ensures sums { IfOk result (λ v. v.items ≡ bound_sums g.now (drawing_vars g.now grid.now) grid.now f.old.vars cap
+        Bends) }
 {
     let edges = edges_west_first(alloc, g)?;
     let sum = add_bends_bound(alloc, f, g, grid, &edges, cap)?;
@@ -96,10 +102,12 @@ fn add_diagonal(
 ) -> Result<Vec<Sum>, CnfFault>
     requires there { laws_first g.now grid.now ≤ f.old.vars + 1 }
     requires cap { cap ≤ 65535 }
-    ensures adds { AddsBlock result f.old f.new (bound_size g.now (drawing_vars g.now grid.now) grid.now f.old.vars cap Diagonal)
+    ensures adds { AddsBlock result f.old f.new (bound_size g.now (drawing_vars g.now grid.now) grid.now f.old.vars cap
+        Diagonal)
         (bound_clauses g.now (drawing_vars g.now grid.now) grid.now f.old.vars cap Diagonal)
         (length g.now.edges * (grid.now.width + 1) + length g.now.nodes + 3) }
-    ensures sums { IfOk result (λ v. v.items ≡ bound_sums g.now (drawing_vars g.now grid.now) grid.now f.old.vars cap Diagonal) }
+    ensures sums { IfOk result (λ v. v.items ≡ bound_sums g.now (drawing_vars g.now grid.now) grid.now f.old.vars cap
+        Diagonal) }
 {
     let edges = edges_west_first(alloc, g)?;
     add_diagonal_bound(alloc, f, g, grid, &edges, cap)
@@ -116,7 +124,8 @@ pub(crate) fn add_bound(
 ) -> Result<Vec<Sum>, CnfFault>
     requires there { laws_first g.now grid.now ≤ f.old.vars + 1 }
     requires cap { cap ≤ limit_of g.now grid.now c }
-    ensures adds { AddsBlock result f.old f.new (bound_size g.now (drawing_vars g.now grid.now) grid.now f.old.vars cap c)
+    ensures adds { AddsBlock result f.old f.new (bound_size g.now (drawing_vars g.now grid.now) grid.now f.old.vars cap
+        c)
         (bound_clauses g.now (drawing_vars g.now grid.now) grid.now f.old.vars cap c)
         (length g.now.edges * (grid.now.width + 1) + length g.now.nodes + 3) }
     ensures sums { IfOk result (λ v. v.items ≡ bound_sums g.now (drawing_vars g.now grid.now) grid.now f.old.vars cap c) }

@@ -9,7 +9,8 @@ ghost use Rattle.cnf_core.specs.Added.{AddsClauses, AddsBlock};
 ghost use Rattle.unary_sum.specs.Sum.{sum_vars, sum_count, sum_outputs};
 ghost use Rattle.edge_shape.specs.EdgeVars.{lits_of, edge_size, EdgeIsPlaced};
 ghost use Rattle.drawing_cnf.specs.Expected.{drawing_vars, laws_first};
-ghost use Rattle.drawing_cnf.specs.Bounds.{west_first, step_lits, gives_output, end_outputs, steps_beside, edge_steps, steps_sum};
+ghost use Rattle.drawing_cnf.specs.Bounds.{west_first, step_lits, gives_output, end_outputs, steps_beside, edge_steps};
+ghost use Rattle.drawing_cnf.specs.Bounds.{steps_sum};
 ghost use Rattle.drawing_cnf.specs.Bounds.{edges_steps, edges_sums, edges_count, edge_most, sum_bound, diagonal_sum};
 ghost use Rattle.drawing_cnf.specs.Bounds.{diagonal_sums, diagonal_bound, diagonal_bound_size};
 
@@ -215,7 +216,8 @@ fn add_edges_steps(
         (edges_count (drawing_vars g.now grid.now) grid.now.width most f.old.vars edges.now)
         (edges_steps (drawing_vars g.now grid.now) grid.now.width most f.old.vars edges.now) 3 }
     ensures sums { OnOk result
-        (sums.new.items ≡ sums.old.items ++ edges_sums (drawing_vars g.now grid.now) grid.now.width most f.old.vars edges.now) }
+        (sums.new.items ≡ sums.old.items ++ edges_sums (drawing_vars g.now grid.now) grid.now.width most f.old.vars
+        edges.now) }
 {
     for e in edges {
         add_next_sum(alloc, f, g, grid, most, *e, sums)?;
@@ -274,7 +276,8 @@ fn add_diagonal_sums(
     requires cap { cap ≤ 65535 }
     requires behind { f.old.vars ≡ last + cap }
     ensures adds { let x = drawing_vars g.now grid.now in let s = diagonal_sum x grid.now edges.now last cap in
-        AddsBlock result f.old f.new (edges_count x grid.now.width (edge_most grid.now cap) (last + cap) edges.now + sum_count s)
+        AddsBlock result f.old f.new (edges_count x grid.now.width (edge_most grid.now cap) (last + cap) edges.now +
+        sum_count s)
         (edges_steps x grid.now.width (edge_most grid.now cap) (last + cap) edges.now ++ sum_bound s last) 3 }
     ensures sums { IfOk result (λ v. v.items ≡ diagonal_sums (drawing_vars g.now grid.now) grid.now edges.now last cap) }
 {
@@ -304,7 +307,8 @@ pub(crate) fn add_diagonal_bound(
     ensures adds { AddsBlock result f.old f.new
         (diagonal_bound_size (drawing_vars g.now grid.now) grid.now edges.now f.old.vars cap)
         (diagonal_bound (drawing_vars g.now grid.now) grid.now edges.now f.old.vars cap) 3 }
-    ensures sums { IfOk result (λ v. v.items ≡ diagonal_sums (drawing_vars g.now grid.now) grid.now edges.now f.old.vars cap) }
+    ensures sums { IfOk result (λ v. v.items ≡ diagonal_sums (drawing_vars g.now grid.now) grid.now edges.now f.old.vars
+        cap) }
 {
     let last = f.vars();
     f.new_vars(cap)?;

@@ -5,7 +5,8 @@ ghost use Rattle.cnf_core.specs.declared.fault.CnfFault.TheVariants.{Room};
 ghost use Rattle.cnf_core.specs.Clause.{words_of};
 ghost use Rattle.track_order.specs.Order.{is_above, is_overlap, IsOrderOf};
 ghost use Rattle.edge_shape.specs.EdgeVars.{edge_spot, lits_of};
-ghost use Rattle.drawing_cnf.specs.Expected.{drawing_vars, edge_first, formula_clauses, formula_size, most_words, most_variables};
+ghost use Rattle.drawing_cnf.specs.Expected.{drawing_vars, edge_first, formula_clauses, formula_size, most_words};
+ghost use Rattle.drawing_cnf.specs.Expected.{most_variables};
 ghost use Rattle.drawing_cnf.specs.Expected.{Sound, Covers};
 ghost use Rattle.drawing_cnf.specs.WithoutLeast.{clauses_without_least};
 ghost use Rattle.drawing_cnf.specs.Encoding.{encoded_vars};
@@ -87,7 +88,8 @@ impl<'a> Encoded<'a> {
     pub fn edge(&self, e: EdgeNo) -> EdgeVars
         requires { e.0 < length self.now.graph.edges }
         ensures lits { lits_of result ≡ (encoded_vars self.now).edge e.0 }
-        ensures spot { result ≡ edge_spot (edge_first self.now.graph self.now.grid e.0) self.now.grid.height self.now.grid.width }
+        ensures spot { result ≡ edge_spot (edge_first self.now.graph self.now.grid e.0) self.now.grid.height
+            self.now.grid.width }
     {
         edge_vars(self.graph, self.grid, e)
     }
@@ -110,18 +112,21 @@ pub fn encode<'a>(
     ensures graph { IfOk result (λ e. e.graph ≡ g.now) }
     ensures order { IfOk result (λ e. e.order ≡ t.now) }
     ensures grid { IfOk result (λ e. e.grid ≡ grid.now) }
-    ensures clauses { IfOk result (λ e. e.formula.clauses ≡ formula_clauses g.now (is_above t.now) (is_overlap t.now) grid.now) }
+    ensures clauses { IfOk result (λ e. e.formula.clauses ≡ formula_clauses g.now (is_above t.now) (is_overlap t.now)
+        grid.now) }
     ensures vars { IfOk result (λ e. e.formula.vars ≡ formula_size g.now (is_above t.now) (is_overlap t.now) grid.now) }
     ensures kept { IfOk result (λ e. e.formula.room ≡ room) }
     ensures bounds { IfOk result (λ e. e.bounds ≡ []) }
-    ensures words_fit { IsOk result → words_of (formula_clauses g.now (is_above t.now) (is_overlap t.now) grid.now) ≤ room }
+    ensures words_fit { IsOk result → words_of (formula_clauses g.now (is_above t.now) (is_overlap t.now) grid.now) ≤
+        room }
     ensures vars_fit { IsOk result → formula_size g.now (is_above t.now) (is_overlap t.now) grid.now ≤ VARS }
     ensures full { IsErrOf result Room →
         (VARS < formula_size g.now (is_above t.now) (is_overlap t.now) grid.now)
         ⊎ (room < words_of (formula_clauses g.now (is_above t.now) (is_overlap t.now) grid.now)) }
     ensures words_bounded { words_of (formula_clauses g.now (is_above t.now) (is_overlap t.now) grid.now)
         ≤ most_words g.now grid.now }
-    ensures vars_bounded { formula_size g.now (is_above t.now) (is_overlap t.now) grid.now ≤ most_variables g.now grid.now }
+    ensures vars_bounded { formula_size g.now (is_above t.now) (is_overlap t.now) grid.now ≤ most_variables g.now
+        grid.now }
     ensures least_1 { grid.now.least ≡ 1 → formula_clauses g.now (is_above t.now) (is_overlap t.now) grid.now
         ≡ clauses_without_least g.now (is_above t.now) (is_overlap t.now) grid.now }
     ensures whole { IfOk result (λ e. IsWhole e) }
@@ -147,11 +152,13 @@ fn make_encoded<'a>(
     ensures graph { IfOk result (λ e. e.graph ≡ g.now) }
     ensures order { IfOk result (λ e. e.order ≡ t.now) }
     ensures grid { IfOk result (λ e. e.grid ≡ grid.now) }
-    ensures clauses { IfOk result (λ e. e.formula.clauses ≡ formula_clauses g.now (is_above t.now) (is_overlap t.now) grid.now) }
+    ensures clauses { IfOk result (λ e. e.formula.clauses ≡ formula_clauses g.now (is_above t.now) (is_overlap t.now)
+        grid.now) }
     ensures vars { IfOk result (λ e. e.formula.vars ≡ formula_size g.now (is_above t.now) (is_overlap t.now) grid.now) }
     ensures kept { IfOk result (λ e. e.formula.room ≡ room) }
     ensures bounds { IfOk result (λ e. e.bounds ≡ []) }
-    ensures words_fit { IsOk result → words_of (formula_clauses g.now (is_above t.now) (is_overlap t.now) grid.now) ≤ room }
+    ensures words_fit { IsOk result → words_of (formula_clauses g.now (is_above t.now) (is_overlap t.now) grid.now) ≤
+        room }
     ensures vars_fit { IsOk result → formula_size g.now (is_above t.now) (is_overlap t.now) grid.now ≤ VARS }
     ensures full { IsErrOf result Room →
         (VARS < formula_size g.now (is_above t.now) (is_overlap t.now) grid.now)

@@ -8,7 +8,8 @@ ghost use Rattle.cnf_core.specs.Added.{AddsClauses, AddsBlock};
 ghost use Rattle.order_int.specs.IntVars.{IntIsThere};
 ghost use Rattle.edge_shape.specs.EdgeVars.{lits_of, edge_size};
 ghost use Rattle.drawing_cnf.specs.Expected.{drawing_vars, laws_first};
-ghost use Rattle.drawing_cnf.specs.Bounds.{gives_bound, column_gives_bound, beside_clause, height_beside, edge_height_gives};
+ghost use Rattle.drawing_cnf.specs.Bounds.{gives_bound, column_gives_bound, beside_clause, height_beside};
+ghost use Rattle.drawing_cnf.specs.Bounds.{edge_height_gives};
 ghost use Rattle.drawing_cnf.specs.Bounds.{some_height_clause, height_at, height_bound, column_lits, height_lits};
 
 use crate::edge_laws::edge_vars;
@@ -119,7 +120,8 @@ fn add_edge_gives(
     requires from { 1 ≤ b }
     requires to { b ≤ f.old.vars }
     requires some { 1 ≤ k }
-    ensures { AddsClauses result f.old f.new (edge_height_gives g.now (drawing_vars g.now grid.now) grid.now.width b k e) 3 }
+    ensures { AddsClauses result f.old f.new (edge_height_gives g.now (drawing_vars g.now grid.now) grid.now.width b k
+        e) 3 }
 {
     let vars = edge_vars(g, grid, EdgeNo(e));
     add_heights_give(f, &vars, grid.width(), b, k)?;
@@ -173,7 +175,8 @@ fn height_literals(
 ) -> Result<Vec<Lit>, OutOfMemory>
     requires from { 1 ≤ k }
     requires to { k ≤ grid.now.height }
-    ensures { IfOk result (λ v. v.items ≡ height_lits (drawing_vars g.now grid.now) grid.now.width k 0 (length g.now.edges)) }
+    ensures { IfOk result (λ v. v.items ≡ height_lits (drawing_vars g.now grid.now) grid.now.width k 0
+        (length g.now.edges)) }
 {
     let mut lits = Vec::new(alloc);
     let end = g.edges();
@@ -264,7 +267,8 @@ pub(crate) fn add_height_bound(
 ) -> Result<(), CnfFault>
     requires there { laws_first g.now grid.now ≤ f.old.vars + 1 }
     requires few { cap ≤ grid.now.height }
-    ensures { AddsBlock result f.old f.new cap (height_bound g.now (drawing_vars g.now grid.now) grid.now.width f.old.vars cap)
+    ensures { AddsBlock result f.old f.new cap (height_bound g.now (drawing_vars g.now grid.now) grid.now.width
+        f.old.vars cap)
         (length g.now.edges * (grid.now.width + 1) + 3) }
 {
     let last = f.vars();

@@ -16,7 +16,8 @@ ghost use Rattle.drawing_cnf.specs.Whole.{expected_last, IsWhole};
 /// Each node has a place of its own in the row, and the nodes lie there from west to east.
 pub fn nodes_lie_from_west_to_east()
     ensures within { (g : Graph) (n : ℕ) → n < length g.nodes → west_rank g n < length g.nodes }
-    ensures once { (g : Graph) (u v : ℕ) → u < length g.nodes → v < length g.nodes → west_rank g u ≡ west_rank g v → u ≡ v }
+    ensures once { (g : Graph) (u v : ℕ) → u < length g.nodes → v < length g.nodes → west_rank g u ≡ west_rank g v → u
+        ≡ v }
     ensures rising { (g : Graph) (u v : ℕ) → u < length g.nodes → LiesBefore g u v → west_rank g u < west_rank g v }
 {}
 
@@ -31,12 +32,14 @@ pub fn edges_begin_from_west_to_east()
 /// With one criterion more, there is a bound more right behind the last variable; none, where its cap is 0. So the
 /// calls of `criterion_bound` for the criteria of an order, one after another, make the bounds of the order.
 pub fn one_criterion_more()
-    ensures added { (g : Graph) (above overlap : ℕ → ℕ → Bool) (grid : GridSize) (order : List Criterion) (caps : Criterion → ℕ)
+    ensures added { (g : Graph) (above overlap : ℕ → ℕ → Bool) (grid : GridSize) (order : List Criterion)
+        (caps : Criterion → ℕ)
         (c : Criterion) → 0 < caps c →
         expected_bounds g above overlap grid (order ++ c ∷ []) caps
         ≡ expected_bounds g above overlap grid order caps
         ++ bound c (expected_last g above overlap grid order caps) (caps c) ∷ [] }
-    ensures skipped { (g : Graph) (above overlap : ℕ → ℕ → Bool) (grid : GridSize) (order : List Criterion) (caps : Criterion → ℕ)
+    ensures skipped { (g : Graph) (above overlap : ℕ → ℕ → Bool) (grid : GridSize) (order : List Criterion)
+        (caps : Criterion → ℕ)
         (c : Criterion) → caps c ≡ 0 →
         expected_bounds g above overlap grid (order ++ c ∷ []) caps ≡ expected_bounds g above overlap grid order caps }
 {}
@@ -56,7 +59,8 @@ pub fn whole_is_expected()
 pub fn no_more_in_front()
     ensures words { (g : Graph) (above overlap : ℕ → ℕ → Bool) (grid : GridSize) (front rest : List Criterion)
         (caps : Criterion → ℕ) →
-        words_of (expected g above overlap grid front caps) ≤ words_of (expected g above overlap grid (front ++ rest) caps) }
+        words_of (expected g above overlap grid front caps) ≤ words_of
+        (expected g above overlap grid (front ++ rest) caps) }
     ensures vars { (g : Graph) (above overlap : ℕ → ℕ → Bool) (grid : GridSize) (front rest : List Criterion)
         (caps : Criterion → ℕ) →
         expected_last g above overlap grid front caps ≤ expected_last g above overlap grid (front ++ rest) caps }

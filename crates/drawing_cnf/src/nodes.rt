@@ -6,7 +6,8 @@ ghost use Rattle.cnf_core.specs.Formula.{each};
 ghost use Rattle.cnf_core.specs.Added.{AddsClauses, AddsBlock};
 ghost use Rattle.edge_shape.specs.EdgeVars.{edge_size};
 ghost use Rattle.drawing_cnf.specs.Rank.{west_rank};
-ghost use Rattle.drawing_cnf.specs.Expected.{ints_at_place, drawing_vars, edge_first, edges_first, node_clauses, edge_part};
+ghost use Rattle.drawing_cnf.specs.Expected.{ints_at_place, drawing_vars, edge_first, edges_first, node_clauses};
+ghost use Rattle.drawing_cnf.specs.Expected.{edge_part};
 ghost use Rattle.drawing_cnf.specs.Expected.{base_clauses, laws_first, area};
 ghost use Rattle.drawing_cnf.specs.Joined.{SoundJoined, CoversJoined};
 
@@ -35,7 +36,8 @@ fn add_node_clauses(f: &mut Formula, g: &PortGraph, grid: &Grid, count: u16) -> 
     requires limit { f.old.vars ≤ VARS }
     requires count { count ≡ length g.now.nodes }
     requires there { edges_first g.now grid.now ≤ f.old.vars + 1 }
-    ensures { AddsClauses result f.old f.new (each (λ n. node_clauses (ints_at_place grid.now (west_rank g.now n))) 0 count) 2 }
+    ensures { AddsClauses result f.old f.new (each (λ n. node_clauses (ints_at_place grid.now (west_rank g.now n))) 0
+        count) 2 }
 {
     for n in 0..count {
         add_node(f, g, grid, n)?;
@@ -90,7 +92,8 @@ fn add_edges(f: &mut Formula, g: &PortGraph, grid: &Grid) -> Result<(), CnfFault
 fn add_nodes_and_edges(f: &mut Formula, g: &PortGraph, grid: &Grid) -> Result<(), CnfFault>
     requires empty { f.old.vars ≡ 0 }
     ensures { AddsBlock result f.old f.new
-        (length g.now.nodes * (grid.now.height + grid.now.width) + length g.now.edges * edge_size grid.now.height grid.now.width)
+        (length g.now.nodes * (grid.now.height + grid.now.width) + length g.now.edges * edge_size grid.now.height
+        grid.now.width)
         (base_clauses g.now (drawing_vars g.now grid.now) grid.now) 7 }
 {
     let count = g.nodes();
@@ -103,7 +106,8 @@ fn add_nodes_and_edges(f: &mut Formula, g: &PortGraph, grid: &Grid) -> Result<()
 pub fn add_base(f: &mut Formula, g: &PortGraph, grid: &Grid) -> Result<(), CnfFault>
     requires empty { f.old.vars ≡ 0 }
     ensures adds { AddsBlock result f.old f.new
-        (length g.now.nodes * (grid.now.height + grid.now.width) + length g.now.edges * edge_size grid.now.height grid.now.width)
+        (length g.now.nodes * (grid.now.height + grid.now.width) + length g.now.edges * edge_size grid.now.height
+        grid.now.width)
         (base_clauses g.now (drawing_vars g.now grid.now) grid.now) 7 }
     ensures words { words_of (base_clauses g.now (drawing_vars g.now grid.now) grid.now)
         ≤ length g.now.nodes * (5 * area grid.now) + length g.now.edges * (2000 * area grid.now) }

@@ -7,7 +7,8 @@ ghost use Rattle.plan_core.specs.Laws.{NodesAreOrdered, NodeIsAligned, NodesAreA
 ghost use Rattle.cnf_core.specs.declared.literal.LitOrTruth.TheVariants.{False};
 ghost use Rattle.cnf_core.specs.Clause.{AreThere};
 ghost use Rattle.cnf_core.specs.Added.{AddsClauses, AddsBlock};
-ghost use Rattle.drawing_cnf.specs.LawClauses.{ordered_clauses, aligned_clauses, anywhere_clauses, over_clauses, parted_clauses};
+ghost use Rattle.drawing_cnf.specs.LawClauses.{ordered_clauses, aligned_clauses, anywhere_clauses, over_clauses};
+ghost use Rattle.drawing_cnf.specs.LawClauses.{parted_clauses};
 ghost use Rattle.drawing_cnf.specs.Expected.{drawing_vars, laws_first};
 ghost use Rattle.drawing_cnf.specs.OneLaw.{SaysLaw, AllowsLaw};
 
@@ -61,7 +62,8 @@ pub fn add_aligned_law(
     requires unless { AreThere f.old.vars unless.now }
     ensures adds { AddsClauses result f.old f.new (aligned_clauses g.now (drawing_vars g.now grid.now) n.0 unless.now)
         (length unless.now + 2) }
-    ensures says { SaysLaw g.now grid.now unless.now (aligned_clauses g.now (drawing_vars g.now grid.now) n.0 unless.now)
+    ensures says { SaysLaw g.now grid.now unless.now (aligned_clauses g.now (drawing_vars g.now grid.now) n.0
+        unless.now)
         (λ d. NodeIsAligned g.now d n.0) }
     ensures allows { AllowsLaw g.now grid.now unless.now (f.old.vars + 1) 0
         (aligned_clauses g.now (drawing_vars g.now grid.now) n.0 unless.now) (λ d. NodeIsAligned g.now d n.0) }
@@ -115,7 +117,8 @@ pub fn add_over_law(
     requires h { h.0 < length g.now.edges }
     requires unless { AreThere f.old.vars unless.now }
     ensures adds { AddsClauses result f.old f.new
-        (over_clauses g.now (drawing_vars g.now grid.now) grid.now.width e.0 h.0 False unless.now) (length unless.now + 7) }
+        (over_clauses g.now (drawing_vars g.now grid.now) grid.now.width e.0 h.0 False unless.now)
+        (length unless.now + 7) }
     ensures says { SaysLaw g.now grid.now unless.now
         (over_clauses g.now (drawing_vars g.now grid.now) grid.now.width e.0 h.0 False unless.now)
         (λ d. EdgeIsOver g.now d e.0 h.0) }

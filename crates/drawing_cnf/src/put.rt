@@ -10,7 +10,8 @@ ghost use Rattle.edge_shape.specs.EdgeVars.{edge_size};
 ghost use Rattle.track_order.specs.Order.{is_above, is_overlap, IsOrderOf};
 ghost use Rattle.drawing_cnf.specs.Rank.{west_rank};
 ghost use Rattle.drawing_cnf.specs.Stands.{ReadsPoint, ReadsShape, ReadsDrawing, IsJoinedOnGrid, StandsFor};
-ghost use Rattle.drawing_cnf.specs.Expected.{drawing_vars, edges_first, edge_first, laws_first, edge_part, base_clauses};
+ghost use Rattle.drawing_cnf.specs.Expected.{drawing_vars, edges_first, edge_first, laws_first, edge_part};
+ghost use Rattle.drawing_cnf.specs.Expected.{base_clauses};
 ghost use Rattle.drawing_cnf.specs.Expected.{formula_clauses, formula_size};
 ghost use Rattle.drawing_cnf.specs.Bounded.{bounds_clauses, AreBehind};
 ghost use Rattle.drawing_cnf.specs.Encoding.{encoded_vars};
@@ -45,7 +46,8 @@ fn put_node(g: &PortGraph, grid: &Grid, n: u16, p: Point, m: &mut Truths)
     requires on_grid { IsOnGrid grid.now p }
     requires there { edges_first g.now grid.now ≤ length m.old + 1 }
     ensures reads { ReadsPoint (assignment m.new) ((drawing_vars g.now grid.now).node n) p }
-    ensures same { SameOutside (1 + west_rank g.now n * (grid.now.height + grid.now.width)) (grid.now.height + grid.now.width)
+    ensures same { SameOutside (1 + west_rank g.now n * (grid.now.height + grid.now.width))
+        (grid.now.height + grid.now.width)
         (assignment m.old) (assignment m.new) }
     ensures vars { length m.new ≡ length m.old }
 {
@@ -78,7 +80,8 @@ fn put_edge(g: &PortGraph, grid: &Grid, d: &Drawing, e: u16, m: &mut Truths)
     requires there { laws_first g.now grid.now ≤ length m.old + 1 }
     ensures reads { ReadsShape (assignment m.new) ((drawing_vars g.now grid.now).edge e) grid.now.width (line d.now e) }
     ensures satisfies { SatisfiesAll (assignment m.new) (edge_part g.now (drawing_vars g.now grid.now) grid.now e) }
-    ensures same { SameOutside (edge_first g.now grid.now e) (edge_size grid.now.height grid.now.width) (assignment m.old)
+    ensures same { SameOutside (edge_first g.now grid.now e) (edge_size grid.now.height grid.now.width)
+        (assignment m.old)
         (assignment m.new) }
     ensures vars { length m.new ≡ length m.old }
 {
@@ -125,7 +128,8 @@ fn put_drawing(s: &Subject, m: &mut Truths)
     requires lawful { Lawful s.now.graph.now (is_above s.now.order.now) s.now.grid.now s.now.drawing.now }
     requires there { formula_size s.now.graph.now (is_above s.now.order.now) (is_overlap s.now.order.now) s.now.grid.now
         ≤ length m.old }
-    requires small { formula_size s.now.graph.now (is_above s.now.order.now) (is_overlap s.now.order.now) s.now.grid.now ≤ VARS }
+    requires small { formula_size s.now.graph.now (is_above s.now.order.now) (is_overlap s.now.order.now) s.now.grid.now
+        ≤ VARS }
     ensures reads { ReadsDrawing (assignment m.new) s.now.graph.now (drawing_vars s.now.graph.now s.now.grid.now)
         s.now.grid.now.width s.now.drawing.now }
     ensures holds { HoldsBefore

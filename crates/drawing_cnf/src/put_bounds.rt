@@ -37,7 +37,8 @@ fn put_bound(k: &KeptBound, value: u32, m: &mut Truths)
     requires in_row { AreInRow (k.now.last + k.now.cap) k.now.sums.items }
     requires there { k.now.last + k.now.cap + sums_size k.now.sums.items ≤ length m.old }
     requires small { k.now.last + k.now.cap + sums_size k.now.sums.items ≤ VARS }
-    ensures same { SameOutside (k.now.last + 1) (k.now.cap + sums_size k.now.sums.items) (assignment m.old) (assignment m.new) }
+    ensures same { SameOutside (k.now.last + 1) (k.now.cap + sums_size k.now.sums.items) (assignment m.old)
+        (assignment m.new) }
     ensures exact { IsExact (assignment m.new) k.now.last k.now.cap value }
     ensures holds { HoldsBefore (k.now.last + k.now.cap + sums_size k.now.sums.items + 1) (assignment m.new)
         (sums_clauses k.now.sums.items) }
@@ -67,10 +68,12 @@ pub(crate) fn put_bounds(s: &Subject, bounds: &[KeptBound], values: &Values, m: 
     ensures below { (y : ℕ) →
         y ≤ formula_size s.now.graph.now (is_above s.now.order.now) (is_overlap s.now.order.now) s.now.grid.now →
         assignment m.new y ≡ assignment m.old y }
-    ensures holds { HoldsBefore (bounds_last s.now.graph.now (drawing_vars s.now.graph.now s.now.grid.now) s.now.grid.now
+    ensures holds { HoldsBefore (bounds_last s.now.graph.now (drawing_vars s.now.graph.now s.now.grid.now)
+        s.now.grid.now
         (formula_size s.now.graph.now (is_above s.now.order.now) (is_overlap s.now.order.now) s.now.grid.now)
         (map bound_of bounds.now) + 1) (assignment m.new)
-        (bounds_clauses s.now.graph.now (drawing_vars s.now.graph.now s.now.grid.now) s.now.grid.now (map bound_of bounds.now)) }
+        (bounds_clauses s.now.graph.now (drawing_vars s.now.graph.now s.now.grid.now) s.now.grid.now
+        (map bound_of bounds.now)) }
     ensures later { (y : ℕ) → bounds_last s.now.graph.now (drawing_vars s.now.graph.now s.now.grid.now) s.now.grid.now
         (formula_size s.now.graph.now (is_above s.now.order.now) (is_overlap s.now.order.now) s.now.grid.now)
         (map bound_of bounds.now) < y → assignment m.new y ≡ assignment m.old y }

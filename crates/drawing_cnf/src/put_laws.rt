@@ -110,11 +110,14 @@ fn put_apart_row(s: &Subject, u: u16, first: u32, m: &mut Truths) -> u32
         NodesAreOrdered s.now.graph.now s.now.drawing.now u v }
     requires apart { (v : ℕ) → IsPair (length s.now.graph.now.nodes) u v → NodesAreApart s.now.drawing.now u v }
     requires put { IsPutTo s.now.graph.now s.now.grid.now s.now.drawing.now (assignment m.old) first }
-    requires to { first + laws_size s.now.graph.now (pairs_from (length s.now.graph.now.nodes) (λ a b. Apart a b ∷ []) u)
+    requires to { first + laws_size s.now.graph.now (pairs_from (length s.now.graph.now.nodes) (λ a b. Apart a b ∷ [])
+        u)
         ≤ length m.old + 1 }
-    requires small { first + laws_size s.now.graph.now (pairs_from (length s.now.graph.now.nodes) (λ a b. Apart a b ∷ []) u)
+    requires small { first + laws_size s.now.graph.now (pairs_from (length s.now.graph.now.nodes)
+        (λ a b. Apart a b ∷ []) u)
         ≤ VARS + 1 }
-    ensures puts { PutsLaws s.now.graph.now s.now.grid.now (pairs_from (length s.now.graph.now.nodes) (λ a b. Apart a b ∷ []) u)
+    ensures puts { PutsLaws s.now.graph.now s.now.grid.now (pairs_from (length s.now.graph.now.nodes)
+        (λ a b. Apart a b ∷ []) u)
         first (assignment m.old) (assignment m.new) }
     ensures next { result
         ≡ first + laws_size s.now.graph.now (pairs_from (length s.now.graph.now.nodes) (λ a b. Apart a b ∷ []) u) }
@@ -134,11 +137,14 @@ fn put_apart_pairs(s: &Subject, first: u32, m: &mut Truths) -> u32
         NodesAreOrdered s.now.graph.now s.now.drawing.now u v }
     requires apart { (u v : ℕ) → IsPair (length s.now.graph.now.nodes) u v → NodesAreApart s.now.drawing.now u v }
     requires put { IsPutTo s.now.graph.now s.now.grid.now s.now.drawing.now (assignment m.old) first }
-    requires to { first + laws_size s.now.graph.now (instance_pairs (length s.now.graph.now.nodes) (λ u v. Apart u v ∷ []))
+    requires to { first + laws_size s.now.graph.now (instance_pairs (length s.now.graph.now.nodes)
+        (λ u v. Apart u v ∷ []))
         ≤ length m.old + 1 }
-    requires small { first + laws_size s.now.graph.now (instance_pairs (length s.now.graph.now.nodes) (λ u v. Apart u v ∷ []))
+    requires small { first + laws_size s.now.graph.now (instance_pairs (length s.now.graph.now.nodes)
+        (λ u v. Apart u v ∷ []))
         ≤ VARS + 1 }
-    ensures puts { PutsLaws s.now.graph.now s.now.grid.now (instance_pairs (length s.now.graph.now.nodes) (λ u v. Apart u v ∷ []))
+    ensures puts { PutsLaws s.now.graph.now s.now.grid.now (instance_pairs (length s.now.graph.now.nodes)
+        (λ u v. Apart u v ∷ []))
         first (assignment m.old) (assignment m.new) }
     ensures next { result
         ≡ first + laws_size s.now.graph.now (instance_pairs (length s.now.graph.now.nodes) (λ u v. Apart u v ∷ [])) }
@@ -161,11 +167,14 @@ fn put_edge_pair(s: &Subject, e: u16, f: u16, first: u32, m: &mut Truths) -> u32
     requires parted { (a b : ℕ) → IsOtherPair s.now.graph.now (is_above s.now.order.now) a b →
         EdgesAreParted s.now.graph.now s.now.drawing.now a b }
     requires put { IsPutTo s.now.graph.now s.now.grid.now s.now.drawing.now (assignment m.old) first }
-    requires to { first + laws_size s.now.graph.now (edge_pair (is_above s.now.order.now) (is_overlap s.now.order.now) e f)
+    requires to { first + laws_size s.now.graph.now (edge_pair (is_above s.now.order.now) (is_overlap s.now.order.now) e
+        f)
         ≤ length m.old + 1 }
-    requires small { first + laws_size s.now.graph.now (edge_pair (is_above s.now.order.now) (is_overlap s.now.order.now) e f)
+    requires small { first + laws_size s.now.graph.now (edge_pair (is_above s.now.order.now)
+        (is_overlap s.now.order.now) e f)
         ≤ VARS + 1 }
-    ensures puts { PutsLaws s.now.graph.now s.now.grid.now (edge_pair (is_above s.now.order.now) (is_overlap s.now.order.now) e f)
+    ensures puts { PutsLaws s.now.graph.now s.now.grid.now (edge_pair (is_above s.now.order.now)
+        (is_overlap s.now.order.now) e f)
         first (assignment m.old) (assignment m.new) }
     ensures next { result
         ≡ first + laws_size s.now.graph.now (edge_pair (is_above s.now.order.now) (is_overlap s.now.order.now) e f) }
@@ -189,17 +198,21 @@ fn put_edge_row(s: &Subject, e: u16, first: u32, m: &mut Truths) -> u32
         EdgesAreParted s.now.graph.now s.now.drawing.now a b }
     requires put { IsPutTo s.now.graph.now s.now.grid.now s.now.drawing.now (assignment m.old) first }
     requires to { first + laws_size s.now.graph.now
-        (pairs_from (length s.now.graph.now.edges) (edge_pair (is_above s.now.order.now) (is_overlap s.now.order.now)) e)
+        (pairs_from (length s.now.graph.now.edges) (edge_pair (is_above s.now.order.now) (is_overlap s.now.order.now))
+        e)
         ≤ length m.old + 1 }
     requires small { first + laws_size s.now.graph.now
-        (pairs_from (length s.now.graph.now.edges) (edge_pair (is_above s.now.order.now) (is_overlap s.now.order.now)) e)
+        (pairs_from (length s.now.graph.now.edges) (edge_pair (is_above s.now.order.now) (is_overlap s.now.order.now))
+        e)
         ≤ VARS + 1 }
     ensures puts { PutsLaws s.now.graph.now s.now.grid.now
-        (pairs_from (length s.now.graph.now.edges) (edge_pair (is_above s.now.order.now) (is_overlap s.now.order.now)) e) first
+        (pairs_from (length s.now.graph.now.edges) (edge_pair (is_above s.now.order.now) (is_overlap s.now.order.now))
+        e) first
         (assignment m.old) (assignment m.new) }
     ensures next { result
         ≡ first + laws_size s.now.graph.now
-        (pairs_from (length s.now.graph.now.edges) (edge_pair (is_above s.now.order.now) (is_overlap s.now.order.now)) e) }
+        (pairs_from (length s.now.graph.now.edges) (edge_pair (is_above s.now.order.now) (is_overlap s.now.order.now))
+        e) }
     ensures vars { length m.new ≡ length m.old }
 {
     let end = s.graph.edges();
@@ -219,17 +232,21 @@ fn put_edge_pairs(s: &Subject, first: u32, m: &mut Truths) -> u32
         EdgesAreParted s.now.graph.now s.now.drawing.now a b }
     requires put { IsPutTo s.now.graph.now s.now.grid.now s.now.drawing.now (assignment m.old) first }
     requires to { first + laws_size s.now.graph.now
-        (instance_pairs (length s.now.graph.now.edges) (edge_pair (is_above s.now.order.now) (is_overlap s.now.order.now)))
+        (instance_pairs (length s.now.graph.now.edges) (edge_pair (is_above s.now.order.now)
+        (is_overlap s.now.order.now)))
         ≤ length m.old + 1 }
     requires small { first + laws_size s.now.graph.now
-        (instance_pairs (length s.now.graph.now.edges) (edge_pair (is_above s.now.order.now) (is_overlap s.now.order.now)))
+        (instance_pairs (length s.now.graph.now.edges) (edge_pair (is_above s.now.order.now)
+        (is_overlap s.now.order.now)))
         ≤ VARS + 1 }
     ensures puts { PutsLaws s.now.graph.now s.now.grid.now
-        (instance_pairs (length s.now.graph.now.edges) (edge_pair (is_above s.now.order.now) (is_overlap s.now.order.now))) first
+        (instance_pairs (length s.now.graph.now.edges) (edge_pair (is_above s.now.order.now)
+        (is_overlap s.now.order.now))) first
         (assignment m.old) (assignment m.new) }
     ensures next { result
         ≡ first + laws_size s.now.graph.now
-        (instance_pairs (length s.now.graph.now.edges) (edge_pair (is_above s.now.order.now) (is_overlap s.now.order.now))) }
+        (instance_pairs (length s.now.graph.now.edges) (edge_pair (is_above s.now.order.now)
+        (is_overlap s.now.order.now))) }
     ensures vars { length m.new ≡ length m.old }
 {
     let end = s.graph.edges();

@@ -71,7 +71,8 @@ pub fn node_vars(g: &PortGraph, grid: &Grid, n: NodeNo) -> NodeVars
     ensures x { result.x ≡ ((drawing_vars g.now grid.now).node n.0).x }
     ensures y { result.y ≡ ((drawing_vars g.now grid.now).node n.0).y }
     ensures grid { IsGrid grid.now }
-    ensures there { (vars : ℕ) → edges_first g.now grid.now ≤ vars + 1 → NodeThere vars ((drawing_vars g.now grid.now).node n.0) }
+    ensures there { (vars : ℕ) → edges_first g.now grid.now ≤ vars + 1 →
+        NodeThere vars ((drawing_vars g.now grid.now).node n.0) }
     ensures within { 1 + west_rank g.now n.0 * (grid.now.height + grid.now.width) + grid.now.height + grid.now.width
         ≤ edges_first g.now grid.now }
 {

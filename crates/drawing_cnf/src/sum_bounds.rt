@@ -10,7 +10,8 @@ ghost use Rattle.cnf_core.specs.Added.{AddsClauses, AddsBlock};
 ghost use Rattle.unary_sum.specs.Part.{IsLit};
 ghost use Rattle.unary_sum.specs.Sum.{sum_vars, sum_count, sum_at_least, count_true};
 ghost use Rattle.drawing_cnf.specs.Expected.{drawing_vars, laws_first};
-ghost use Rattle.drawing_cnf.specs.Bounds.{IsExact, same_as, sum_bound, bend_lits, bends_sum, bends_bound, bends_bound_size, west_first};
+ghost use Rattle.drawing_cnf.specs.Bounds.{IsExact, same_as, sum_bound, bend_lits, bends_sum, bends_bound};
+ghost use Rattle.drawing_cnf.specs.Bounds.{bends_bound_size, west_first};
 
 use crate::edge_laws::edge_vars;
 use crate::guards::same;
@@ -84,7 +85,8 @@ fn add_outputs(f: &mut Formula, s: &Sum, cap: u32, last: u32) -> Result<(), CnfF
 
 /// A sum, and the variables behind number `last` as its outputs, up to a cap; answers the sum.
 ///
-/// Where its clauses are satisfied, these variables say how many of the inputs are true; and where they say it, the sum's own
+/// Where its clauses are satisfied, these variables say how many of the inputs are true; and where they say it, the
+/// sum's own
 /// variables can be chosen so.
 pub fn add_sum_bound(
     alloc: Global,
@@ -99,7 +101,8 @@ pub fn add_sum_bound(
     requires cap { cap ≤ 65535 }
     requires before { last + cap ≤ f.old.vars }
     ensures sum { IfOk result (λ s. s ≡ sum_vars inputs.now cap f.old.vars) }
-    ensures adds { let s = sum_vars inputs.now cap f.old.vars in AddsBlock result f.old f.new (sum_count s) (sum_bound s last) 3 }
+    ensures adds { let s = sum_vars inputs.now cap f.old.vars in AddsBlock result f.old f.new (sum_count s)
+        (sum_bound s last) 3 }
     ensures exact { (v : Assignment) → SatisfiesAll v (sum_bound (sum_vars inputs.now cap f.old.vars) last) →
         IsExact v last cap (count_true v inputs.now) }
     ensures extends { let s = sum_vars inputs.now cap f.old.vars in
@@ -123,7 +126,8 @@ fn make_sum_bound(
     requires cap { cap ≤ 65535 }
     requires before { last + cap ≤ f.old.vars }
     ensures sum { IfOk result (λ s. s ≡ sum_vars inputs.now cap f.old.vars) }
-    ensures adds { let s = sum_vars inputs.now cap f.old.vars in AddsBlock result f.old f.new (sum_count s) (sum_bound s last) 3 }
+    ensures adds { let s = sum_vars inputs.now cap f.old.vars in AddsBlock result f.old f.new (sum_count s)
+        (sum_bound s last) 3 }
 {
     let sum = Sum::build(alloc, f, inputs, cap)?;
     // what the types keep
@@ -164,7 +168,8 @@ pub(crate) fn add_bends_bound(
     requires edges { edges.now ≡ west_first g.now }
     requires cap { cap ≤ 65535 }
     ensures sum { IfOk result (λ s. s ≡ bends_sum (drawing_vars g.now grid.now) edges.now f.old.vars cap) }
-    ensures adds { AddsBlock result f.old f.new (bends_bound_size (drawing_vars g.now grid.now) edges.now f.old.vars cap)
+    ensures adds { AddsBlock result f.old f.new (bends_bound_size (drawing_vars g.now grid.now) edges.now f.old.vars
+        cap)
         (bends_bound (drawing_vars g.now grid.now) edges.now f.old.vars cap) 3 }
 {
     // what the types keep

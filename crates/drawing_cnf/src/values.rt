@@ -11,7 +11,8 @@ use port_graph::PortGraph;
 /// or width, two bends for each edge, or the grid's width for each edge.
 pub fn greatest(g: &PortGraph, grid: &Grid, c: Criterion) -> u32
     ensures value { result ≡ limit_of g.now grid.now c }
-    ensures most { (above : ℕ → ℕ → Bool) (d : Drawing) → Lawful g.now above grid.now d → value_of (values_of d) c ≤ result }
+    ensures most { (above : ℕ → ℕ → Bool) (d : Drawing) → Lawful g.now above grid.now d →
+        value_of (values_of d) c ≤ result }
 {
     limit_for(g, grid, c)
 }

@@ -5,7 +5,8 @@ ghost use Rattle.cnf_core.specs.declared.limits.TheConstants.{VARS};
 ghost use Rattle.cnf_core.specs.Clause.{words_of};
 ghost use Rattle.cnf_core.specs.Added.{AddsBlock};
 ghost use Rattle.track_order.specs.Order.{is_above, is_overlap};
-ghost use Rattle.drawing_cnf.specs.Expected.{drawing_vars, laws_first, instances_from, instance_pairs, edge_pair, instances};
+ghost use Rattle.drawing_cnf.specs.Expected.{drawing_vars, laws_first, instances_from, instance_pairs, edge_pair};
+ghost use Rattle.drawing_cnf.specs.Expected.{instances};
 ghost use Rattle.drawing_cnf.specs.Expected.{expected_clauses, expected_size, formula_clauses, formula_size};
 ghost use Rattle.drawing_cnf.specs.AddsLaws.{AddsLaws};
 

@@ -26,7 +26,8 @@ fn add_columns_give(
     requires there { laws_first g.now grid.now ≤ f.old.vars + 1 }
     requires from { 1 ≤ b }
     requires to { b ≤ f.old.vars }
-    ensures { AddsClauses result f.old f.new (each (column_gives (drawing_vars g.now grid.now) b k) 0 (length g.now.nodes)) 2 }
+    ensures { AddsClauses result f.old f.new (each (column_gives (drawing_vars g.now grid.now) b k) 0
+        (length g.now.nodes)) 2 }
 {
     let end = g.nodes();
     for n in 0..end {
@@ -107,7 +108,8 @@ fn add_widths(
     requires there { laws_first g.now grid.now ≤ last + 1 }
     requires to { last + cap ≤ f.old.vars }
     requires few { cap ≤ 65535 }
-    ensures { AddsClauses result f.old f.new (width_bound g.now (drawing_vars g.now grid.now) last cap) (length g.now.nodes + 3) }
+    ensures { AddsClauses result f.old f.new (width_bound g.now (drawing_vars g.now grid.now) last cap)
+        (length g.now.nodes + 3) }
 {
     let end = 1 + cap;
     for k in 1..end {

@@ -29,7 +29,8 @@ drawing_problem g above overlap grid = record {
 
 -- the lines of a criterion's bound: its clauses, and a Bound line for each of its variables
 abbrev pub lines_of_bound : Graph → DrawingVars → GridSize → Bound → Lines
-lines_of_bound g x grid b = map Formula (clauses_of_bound g x grid b) ++ bound_lines b.criterion 1 (variables_behind b.last b.cap)
+lines_of_bound g x grid b = map Formula (clauses_of_bound g x grid b)
+    ++ bound_lines b.criterion 1 (variables_behind b.last b.cap)
 
 -- the lines of the drawings' clauses, and of these bounds behind them
 abbrev pub lines_with : Graph → (ℕ → ℕ → Bool) → (ℕ → ℕ → Bool) → GridSize → List Bound → Lines

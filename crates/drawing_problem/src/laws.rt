@@ -19,13 +19,19 @@ ghost use Rattle.drawing_problem.specs.Layout.{layout, problem_of};
 /// behind another. What is expected for an order with its caps are the lines of the drawings' clauses, with the bounds
 /// behind them.
 pub fn drawing_lists_are_a_problem()
-    ensures bounds { (g : Graph) (above overlap : ℕ → ℕ → Bool) (grid : GridSize) → HasAllBounds (drawing_problem g above overlap grid) }
-    ensures first { (g : Graph) (above overlap : ℕ → ℕ → Bool) (grid : GridSize) (before : ℕ) (c : Criterion) (cap k : ℕ) → k < cap →
-        slice_get ((drawing_problem g above overlap grid).bounds before c cap) k ≡ Some (record { 0 = before + 1 + k }) }
-    ensures within { (g : Graph) (above overlap : ℕ → ℕ → Bool) (grid : GridSize) (before : ℕ) (c : Criterion) (cap : ℕ) →
+    ensures bounds { (g : Graph) (above overlap : ℕ → ℕ → Bool) (grid : GridSize) →
+        HasAllBounds (drawing_problem g above overlap grid) }
+    ensures first { (g : Graph) (above overlap : ℕ → ℕ → Bool) (grid : GridSize) (before : ℕ) (c : Criterion)
+        (cap k : ℕ) → k < cap →
+        slice_get ((drawing_problem g above overlap grid).bounds before c cap) k
+        ≡ Some (record { 0 = before + 1 + k }) }
+    ensures within { (g : Graph) (above overlap : ℕ → ℕ → Bool) (grid : GridSize) (before : ℕ) (c : Criterion) (cap : ℕ)
+        →
         cap ≤ (drawing_problem g above overlap grid).sum_vars before c cap }
-    ensures lines { (g : Graph) (above overlap : ℕ → ℕ → Bool) (grid : GridSize) (order : List Criterion) (caps : Criterion → ℕ) →
-        expected_lines (drawing_problem g above overlap grid) order caps ≡ lines_with g above overlap grid (expected_bounds g above overlap grid order caps) }
+    ensures lines { (g : Graph) (above overlap : ℕ → ℕ → Bool) (grid : GridSize) (order : List Criterion)
+        (caps : Criterion → ℕ) →
+        expected_lines (drawing_problem g above overlap grid) order caps
+        ≡ lines_with g above overlap grid (expected_bounds g above overlap grid order caps) }
 {}
 
 /// What is expected covers the lawful drawings of a station's graph, for each order and all caps.

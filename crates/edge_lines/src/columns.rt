@@ -2,7 +2,8 @@
 ghost use Rattle.std.specs.Prelude.{◌≡◌, ◌<◌};
 ghost use Rattle.plan_core.specs.Line.{height as height_of, west_end as west_end_of};
 ghost use Rattle.edge_lines.specs.Track.{step_slope};
-ghost use Rattle.edge_lines.specs.Columns.{is_level_step, steps_of, line_is_level_from, has_level_piece, has_inner as has_inner_of};
+ghost use Rattle.edge_lines.specs.Columns.{is_level_step, steps_of, line_is_level_from, has_level_piece};
+ghost use Rattle.edge_lines.specs.Columns.{has_inner as has_inner_of};
 
 use plan_core::Slope;
 use plan_geometry::Line;

@@ -54,7 +54,8 @@ abbrev pub rise_clauses : IntVars → IntVars → Literal → Literal → ℕ �
 rise_clauses a b up down high = (level_clauses a b up down ++ diagonal_clauses a b up down) ++ rows_clauses a b high
 
 abbrev pub height_clauses : EdgeLits → ℕ → ℕ → Clauses
-height_clauses e high c = rise_clauses (e.height c) (e.height (c + 1)) (positive_of (e.up c)) (positive_of (e.down c)) high
+height_clauses e high c = rise_clauses (e.height c) (e.height (c + 1)) (positive_of (e.up c)) (positive_of (e.down c))
+    high
 
 -- seen from the first level step on
 abbrev pub seen_rules : EdgeLits → ℕ → List Rule
@@ -113,10 +114,14 @@ inner_rules e c =
     ∷ rule (yes (e.bend (c + 1)) ∷ yes (e.up c) ∷ yes (e.up (c + 1)) ∷ []) []
     ∷ rule (yes (e.bend (c + 1)) ∷ yes (e.down c) ∷ yes (e.down (c + 1)) ∷ []) []
     ∷ rule (yes (e.bend (c + 1)) ∷ []) (yes (e.up c) ∷ yes (e.down c) ∷ yes (e.up (c + 1)) ∷ yes (e.down (c + 1)) ∷ [])
-    ∷ rule (yes (e.inside c) ∷ yes (e.inside (c + 2)) ∷ yes (e.up c) ∷ []) (yes (e.up (c + 1)) ∷ yes (e.bend (c + 1)) ∷ [])
-    ∷ rule (yes (e.inside c) ∷ yes (e.inside (c + 2)) ∷ yes (e.up (c + 1)) ∷ []) (yes (e.up c) ∷ yes (e.bend (c + 1)) ∷ [])
-    ∷ rule (yes (e.inside c) ∷ yes (e.inside (c + 2)) ∷ yes (e.down c) ∷ []) (yes (e.down (c + 1)) ∷ yes (e.bend (c + 1)) ∷ [])
-    ∷ rule (yes (e.inside c) ∷ yes (e.inside (c + 2)) ∷ yes (e.down (c + 1)) ∷ []) (yes (e.down c) ∷ yes (e.bend (c + 1)) ∷ [])
+    ∷ rule (yes (e.inside c) ∷ yes (e.inside (c + 2)) ∷ yes (e.up c) ∷ [])
+    (yes (e.up (c + 1)) ∷ yes (e.bend (c + 1)) ∷ [])
+    ∷ rule (yes (e.inside c) ∷ yes (e.inside (c + 2)) ∷ yes (e.up (c + 1)) ∷ [])
+    (yes (e.up c) ∷ yes (e.bend (c + 1)) ∷ [])
+    ∷ rule (yes (e.inside c) ∷ yes (e.inside (c + 2)) ∷ yes (e.down c) ∷ [])
+    (yes (e.down (c + 1)) ∷ yes (e.bend (c + 1)) ∷ [])
+    ∷ rule (yes (e.inside c) ∷ yes (e.inside (c + 2)) ∷ yes (e.down (c + 1)) ∷ [])
+    (yes (e.down c) ∷ yes (e.bend (c + 1)) ∷ [])
     ∷ []
 
 -- a diagonal step is one of the first or of the last piece
@@ -170,7 +175,8 @@ pub record ReadsTrack (v : Assignment) (e : EdgeLits) (width : ℕ) (y : ℕ →
 -- the clauses of a line of least columns at least, from the west node's point to the east node's
 abbrev pub end_clauses : EdgeLits → NodeInts → NodeInts → ℕ → ℕ → Clauses
 end_clauses e west east least width =
-    le_clauses west.x east.x least [] ++ (equal_clauses (e.height 0) west.y [] ++ equal_clauses (e.height width) east.y [])
+    le_clauses west.x east.x least [] ++ (equal_clauses (e.height 0) west.y []
+    ++ equal_clauses (e.height width) east.y [])
 
 abbrev pub column_clauses : EdgeLits → NodeInts → NodeInts → ℕ → ℕ → Clauses
 column_clauses e west east high width =
@@ -190,4 +196,5 @@ further_clauses e west east high width =
 abbrev pub edge_clauses : EdgeLits → NodeInts → NodeInts → ℕ → ℕ → ℕ → Clauses
 edge_clauses e west east least high width =
     (each (λ c. int_clauses (e.height c)) 0 (width + 1) ++ end_clauses e west east least width)
-    ++ (column_clauses e west east high width ++ (whole_clauses e west east width ++ further_clauses e west east high width))
+    ++ (column_clauses e west east high width ++ (whole_clauses e west east width
+    ++ further_clauses e west east high width))

@@ -30,9 +30,11 @@ flags b width c = cond (nat_eq c width) (b.inside c ∷ []) (b.inside c ∷ b.up
 -- the truth value of variable x, by the last of the columns up to c that begins at x or before it
 abbrev pub setting : EdgeBits → ℕ → ℕ → ℕ → ℕ → ℕ → Bool
 setting b first high width zero x =
-    cond (nat_le (column first high 0) x) (bits (flags b width 0) (b.height 0) (x - column first high 0)) (b.whole (x - first))
+    cond (nat_le (column first high 0) x) (bits (flags b width 0) (b.height 0) (x - column first high 0))
+    (b.whole (x - first))
 setting b first high width (suc c) x =
-    cond (nat_le (column first high (suc c)) x) (bits (flags b width (suc c)) (b.height (suc c)) (x - column first high (suc c)))
+    cond (nat_le (column first high (suc c)) x) (bits (flags b width (suc c)) (b.height (suc c))
+    (x - column first high (suc c)))
     (setting b first high width c x)
 
 -- the assignment with these truth values in the edge's variables

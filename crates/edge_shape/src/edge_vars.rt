@@ -12,7 +12,8 @@ ghost use Rattle.cnf_core.specs.Truths.{assignment};
 ghost use Rattle.order_int.specs.IntVars.{IntIsThere};
 ghost use Rattle.order_int.specs.OrderInt.{Reads};
 ghost use Rattle.edge_lines.specs.Joins.{JoinsPoints};
-ghost use Rattle.edge_shape.specs.EdgeVars.{NodeInts, edge_lits, edge_size, edge_spot, lits_of, node_ints, up_at, down_at};
+ghost use Rattle.edge_shape.specs.EdgeVars.{NodeInts, edge_lits, edge_size, edge_spot, lits_of, node_ints, up_at};
+ghost use Rattle.edge_shape.specs.EdgeVars.{down_at};
 ghost use Rattle.edge_shape.specs.EdgeVars.{bend_at, LieBefore, EdgeIsPlaced, IsNode};
 ghost use Rattle.edge_shape.specs.Edge.{edge_clauses};
 ghost use Rattle.edge_shape.specs.ReadsLine.{ReadsLine, LineIsRead};
@@ -181,13 +182,15 @@ impl EdgeVars {
         requires there { self.now.first + edge_size self.now.high self.now.width ≤ length m.old + 1 }
         requires on_grid { All (IsOnGrid (grid_size self.now.width self.now.high)) line.now }
         ensures reads { ReadsLine (assignment m.new) (lits_of self.now) self.now.width line.now }
-        ensures same { SameOutside self.now.first (edge_size self.now.high self.now.width) (assignment m.old) (assignment m.new) }
+        ensures same { SameOutside self.now.first (edge_size self.now.high self.now.width) (assignment m.old)
+            (assignment m.new) }
         ensures satisfies { (west east : NodeInts) (least : ℕ) (p q : PointValue) →
             LieBefore self.now.first west → LieBefore self.now.first east →
             Reads (assignment m.old) west.x p.x → Reads (assignment m.old) west.y p.y →
             Reads (assignment m.old) east.x q.x → Reads (assignment m.old) east.y q.y →
             JoinsPoints self.now.width self.now.high least p q line.now →
-            SatisfiesAll (assignment m.new) (edge_clauses (lits_of self.now) west east least self.now.high self.now.width) }
+            SatisfiesAll (assignment m.new) (edge_clauses (lits_of self.now) west east least self.now.high
+            self.now.width) }
         ensures vars { length m.new ≡ length m.old }
     {
         let _points = line.points();
@@ -213,12 +216,14 @@ pub fn add_edge(
         AddsBlock result f.old f.new (edge_size g.height g.width)
         (edge_clauses (edge_lits (f.old.vars + 1) g.height g.width) (node_ints west.now.x west.now.y)
         (node_ints east.now.x east.now.y) g.least g.height g.width) 5 }
-    ensures words { words_of f.new.clauses ≤ words_of f.old.clauses + 2000 * ((grid.now.width + 1) * (grid.now.height + 1)) }
+    ensures words { words_of f.new.clauses ≤ words_of f.old.clauses + 2000 *
+        ((grid.now.width + 1) * (grid.now.height + 1)) }
     ensures vars { f.new.vars ≤ f.old.vars + 100 * ((grid.now.width + 1) * (grid.now.height + 1)) }
     ensures models { let g = grid.now in let e = edge_lits (f.old.vars + 1) g.height g.width in
         (v : Assignment) (p q : PointValue) →
         Reads v west.now.x p.x → Reads v west.now.y p.y → Reads v east.now.x q.x → Reads v east.now.y q.y →
-        SatisfiesAll v (edge_clauses e (node_ints west.now.x west.now.y) (node_ints east.now.x east.now.y) g.least g.height
+        SatisfiesAll v (edge_clauses e (node_ints west.now.x west.now.y) (node_ints east.now.x east.now.y) g.least
+        g.height
         g.width) →
         LineIsRead v e g.width g.height g.least p q }
     ensures lines { let g = grid.now in let e = edge_lits (f.old.vars + 1) g.height g.width in
@@ -227,7 +232,8 @@ pub fn add_edge(
         JoinsPoints g.width g.height g.least p q line →
         Extends (f.old.vars + 1) (edge_size g.height g.width) v
         (λ w. ReadsLine w e g.width line
-        × SatisfiesAll w (edge_clauses e (node_ints west.now.x west.now.y) (node_ints east.now.x east.now.y) g.least g.height
+        × SatisfiesAll w (edge_clauses e (node_ints west.now.x west.now.y) (node_ints east.now.x east.now.y) g.least
+        g.height
         g.width)) }
 {
     make_edge(f, grid, west, east)

@@ -15,10 +15,12 @@ ghost use Rattle.edge_shape.specs.ReadsLine.{ReadsLine};
 /// Where an assignment reads a line, the literals of a column say what the line is there: that it has
 /// it, rises or falls from it, turns there, and its height.
 pub fn accessors_read_the_line()
-    ensures in_range { (v : Assignment) (e : EdgeSpot) (line : List Point) (x : ℕ) → ReadsLine v (lits_of e) e.width line →
+    ensures in_range { (v : Assignment) (e : EdgeSpot) (line : List Point) (x : ℕ) →
+        ReadsLine v (lits_of e) e.width line →
         x ≤ e.width →
         value v (yes ((lits_of e).inside x)) ≡ (nat_le (west_end line).x x && nat_le x (east_end line).x) }
-    ensures up { (v : Assignment) (e : EdgeSpot) (line : List Point) (x : ℕ) → is_line line ≡ true → (east_end line).x ≤ e.width →
+    ensures up { (v : Assignment) (e : EdgeSpot) (line : List Point) (x : ℕ) → is_line line ≡ true →
+        (east_end line).x ≤ e.width →
         ReadsLine v (lits_of e) e.width line → x ≤ e.width →
         value v (up_at e x) ≡ is_up (step_slope (height line) x) }
     ensures down { (v : Assignment) (e : EdgeSpot) (line : List Point) (x : ℕ) → is_line line ≡ true →
@@ -27,7 +29,8 @@ pub fn accessors_read_the_line()
     ensures bend { (v : Assignment) (e : EdgeSpot) (line : List Point) (x : ℕ) → is_line line ≡ true →
         (east_end line).x ≤ e.width → ReadsLine v (lits_of e) e.width line → x ≤ e.width →
         value v (bend_at e x) ≡ has_inner line x }
-    ensures height { (v : Assignment) (e : EdgeSpot) (line : List Point) (x : ℕ) → ReadsLine v (lits_of e) e.width line →
+    ensures height { (v : Assignment) (e : EdgeSpot) (line : List Point) (x : ℕ) →
+        ReadsLine v (lits_of e) e.width line →
         x ≤ e.width →
         Reads v ((lits_of e).height x) (height line x) }
 {}
@@ -35,19 +38,22 @@ pub fn accessors_read_the_line()
 /// An assignment reads at most one line between two points.
 pub fn one_line_is_read()
     ensures { (v : Assignment) (e : EdgeLits) (width high least : ℕ) (p q : Point) (a b : List Point) →
-        JoinsPoints width high least p q a → JoinsPoints width high least p q b → ReadsLine v e width a → ReadsLine v e width b →
+        JoinsPoints width high least p q a → JoinsPoints width high least p q b → ReadsLine v e width a →
+        ReadsLine v e width b →
         a ≡ b }
 {}
 
 /// The bends of the line that is read are the two variables.
 pub fn bends_are_two_variables()
-    ensures { (v : Assignment) (e : EdgeLits) (width : ℕ) (line : List Point) → is_line line ≡ true → ReadsLine v e width line →
+    ensures { (v : Assignment) (e : EdgeLits) (width : ℕ) (line : List Point) → is_line line ≡ true →
+        ReadsLine v e width line →
         bends line ≡ cond (v e.first_bend) 1 0 + cond (v e.second_bend) 1 0 }
 {}
 
 /// Its diagonal is the number of columns whose variable says that it rises or falls.
 pub fn diagonal_is_counted()
-    ensures { (v : Assignment) (e : EdgeLits) (width : ℕ) (line : List Point) → is_line line ≡ true → (east_end line).x ≤ width →
+    ensures { (v : Assignment) (e : EdgeLits) (width : ℕ) (line : List Point) → is_line line ≡ true →
+        (east_end line).x ≤ width →
         ReadsLine v e width line →
         diagonal line ≡ count_by (λ c. v (e.up c) || v (e.down c)) (range_with_len 0 width) }
 {}

@@ -1,5 +1,6 @@
 // The checker of hinted lines.
-ghost use Rattle.std.specs.Prelude.{◌≡◌, ◌≤◌, ◌<◌, ◌↔◌, ◌+◌, ◌^◌, ◌++◌, [], ◌∷◌, ℕ, IsTrue, IfOk, IfErr, OnOk, OnErr, IsErrOf, map, length, true, false};
+ghost use Rattle.std.specs.Prelude.{◌≡◌, ◌≤◌, ◌<◌, ◌↔◌, ◌+◌, ◌^◌, ◌++◌, [], ◌∷◌, ℕ, IsTrue, IfOk, IfErr, OnOk, OnErr};
+ghost use Rattle.std.specs.Prelude.{IsErrOf, map, length, true, false};
 ghost use Rattle.cnf_core.specs.Lit.{negate};
 ghost use Rattle.cnf_core.specs.Clause.{AreDistinct, words_of};
 ghost use Rattle.hint_log.specs.Hint.{FailsAt, lits_of, hints_of};
@@ -158,7 +159,8 @@ impl HintChecker {
     pub fn feed(&mut self, line: &HintLine) -> Result<(), HintFault>
         requires { length (hints_of line.now) < 2 ^ 32 }
         ensures ok { OnOk result (Accepts self.old self.new line.now) }
-        ensures bad { IfErr result (λ e. (k : ℕ) → e ≡ HintFault.BadHint k → FailsAt self.old.clauses (lits_of line.now) (hints_of line.now) k) }
+        ensures bad { IfErr result (λ e. (k : ℕ) → e ≡ HintFault.BadHint k →
+            FailsAt self.old.clauses (lits_of line.now) (hints_of line.now) k) }
         ensures room { IsErrOf result HintFault.Room → PassesRoom self.old line.now }
         ensures refused { OnErr result (self.new ≡ self.old) }
     {

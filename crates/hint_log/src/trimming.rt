@@ -1,8 +1,10 @@
 // Hinted lines of a log.
-ghost use Rattle.std.specs.Prelude.{◌≡◌, ◌≤◌, ◌<◌, ◌+◌, ◌++◌, ◌↔◌, [], ◌∷◌, All, Contains, IsTrue, IfOk, OnOk, length, flat_map};
+ghost use Rattle.std.specs.Prelude.{◌≡◌, ◌≤◌, ◌<◌, ◌+◌, ◌++◌, ◌↔◌, [], ◌∷◌, All, Contains, IsTrue, IfOk, OnOk, length};
+ghost use Rattle.std.specs.Prelude.{flat_map};
 ghost use Rattle.refute_log.specs.Log.{Derives, given};
 ghost use Rattle.hint_log.specs.Found.{IsFinder};
-ghost use Rattle.hint_log.specs.Trimmed.{IsTrimmed, IsHinted, AreRefuted, IsWithin, MayBeHinted, AddsLearnt, AddsRefuted};
+ghost use Rattle.hint_log.specs.Trimmed.{IsTrimmed, IsHinted, AreRefuted, IsWithin, MayBeHinted, AddsLearnt};
+ghost use Rattle.hint_log.specs.Trimmed.{AddsRefuted};
 
 use crate::finder::Finder;
 use crate::hint_line::{HintLine, HintList};

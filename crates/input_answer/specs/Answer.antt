@@ -1,4 +1,5 @@
--- What is answered to an input and to the bytes of a file: the status and the text that goes with it. What a command answers
+-- What is answered to an input and to the bytes of a file: the status and the text that goes with it. What a command
+-- answers
 -- to a station, and which of it a run owes, is said in the crates above.
 use Rattle.std.specs.Prelude.{◌≡◌, ℕ, suc, ◌⊎◌, List}
 use Rattle.outside_io.specs.Contents.{IsFileWhereTold}
@@ -59,7 +60,8 @@ IsAnswerAfter done met Answers bytes status text = HasRead met done × Answers b
 
 -- the input, which is read after so many reads, has more bytes than it may have, its line says so and nothing is
 -- read after it; or its bytes are answered like this
-abbrev pub IsAnswerWithin : InputFile → (done : ℕ) → Met → (List ℕ → Status → List ℕ → Type 0) → List ℕ → Status → List ℕ → Type 0
+abbrev pub IsAnswerWithin : InputFile → (done : ℕ) → Met → (List ℕ → Status → List ℕ → Type 0) → List ℕ → Status →
+    List ℕ → Type 0
 IsAnswerWithin input done met Answers bytes status text =
     (IsLong input.limit bytes × HasRead met (suc done) × IsFaultLine (Long input.number) status text)
     ⊎ (IsShort input.limit bytes × Answers bytes status text)
@@ -68,7 +70,8 @@ IsAnswerWithin input done met Answers bytes status text =
 -- read failed
 abbrev pub IsAnswerOn : InputFile → (done : ℕ) → Met → (List ℕ → Status → List ℕ → Type 0) → Status → List ℕ → Type 0
 IsAnswerOn input done met Answers status text =
-    ((bytes : List ℕ) × IsFileWhereTold met.before.contents input.name bytes × IsAnswerWithin input done met Answers bytes status text)
+    ((bytes : List ℕ) × IsFileWhereTold met.before.contents input.name bytes
+    × IsAnswerWithin input done met Answers bytes status text)
     ⊎ (ReadFails met done × IsFaultLine (ReadFailed input.number) status text)
 
 -- ---- a station that was read

@@ -23,7 +23,8 @@ use Rattle.refute_log.specs.Faults as log_faults
 use Rattle.input_answer.specs.declared.status.Status.{Status}
 use Rattle.input_answer.specs.declared.status.Status.TheVariants.{Refused, WordsRefused, Unread}
 use Rattle.input_answer.specs.declared.fault.RunFault.{RunFault}
-use Rattle.input_answer.specs.declared.fault.RunFault.TheVariants.{Words, Long, Text, Topology, Graph, Order, Signal, Sheet, Log, ReadFailed}
+use Rattle.input_answer.specs.declared.fault.RunFault.TheVariants.{Words, Long, Text, Topology, Graph, Order, Signal}
+use Rattle.input_answer.specs.declared.fault.RunFault.TheVariants.{Sheet, Log, ReadFailed}
 
 -- ---- what a fault tells
 
@@ -77,17 +78,25 @@ abbrev pub told_line : List ℕ → ℕ → List ℕ → List (List ℕ) → Lis
 told_line table number word told = line_text table (decimal number ∷ word ∷ told)
 
 abbrev pub fault_line : RunFault → List ℕ
-fault_line (Words what position) = told_line (codes "words") (word_faults.number_of what) (word_faults.word_of what) (decimal position ∷ [])
+fault_line (Words what position) = told_line (codes "words") (word_faults.number_of what) (word_faults.word_of what)
+    (decimal position ∷ [])
 fault_line (Long input) = line_text (codes "long") (decimal input ∷ [])
-fault_line (Text what at) = told_line (codes "text") (text_faults.number_of what) (text_faults.word_of what) (at_place at)
+fault_line (Text what at) = told_line (codes "text") (text_faults.number_of what) (text_faults.word_of what)
+    (at_place at)
 fault_line (Topology what at first second) =
-    told_line (codes "topology") (topology_faults.number_of what) (topology_faults.word_of what) (at_place at ++ texts_told what first second)
-fault_line (Graph fault) = told_line (codes "graph") (graph_faults.number_of fault) (graph_faults.word_of fault) (graph_told fault)
-fault_line (Order fault) = told_line (codes "order") (order_faults.number_of fault) (order_faults.word_of fault) (edges_told fault)
+    told_line (codes "topology") (topology_faults.number_of what) (topology_faults.word_of what)
+    (at_place at ++ texts_told what first second)
+fault_line (Graph fault) = told_line (codes "graph") (graph_faults.number_of fault) (graph_faults.word_of fault)
+    (graph_told fault)
+fault_line (Order fault) = told_line (codes "order") (order_faults.number_of fault) (order_faults.word_of fault)
+    (edges_told fault)
 fault_line (Signal what at first) =
-    told_line (codes "signal") (signal_faults.number_of what) (signal_faults.word_of what) (at_place at ++ signal_told what first)
-fault_line (Sheet what line) = told_line (codes "sheet") (sheet_faults.number_of what) (sheet_faults.word_of what) (codes "line" ∷ decimal line ∷ [])
-fault_line (Log what line) = told_line (codes "log") (log_faults.number_of what) (log_faults.word_of what) (codes "line" ∷ decimal line ∷ [])
+    told_line (codes "signal") (signal_faults.number_of what) (signal_faults.word_of what)
+    (at_place at ++ signal_told what first)
+fault_line (Sheet what line) = told_line (codes "sheet") (sheet_faults.number_of what) (sheet_faults.word_of what)
+    (codes "line" ∷ decimal line ∷ [])
+fault_line (Log what line) = told_line (codes "log") (log_faults.number_of what) (log_faults.word_of what)
+    (codes "line" ∷ decimal line ∷ [])
 fault_line (ReadFailed input) = line_text (codes "read failed") (decimal input ∷ [])
 
 -- ---- the status

@@ -15,7 +15,8 @@ use Rattle.railml_read.specs.Document.{GivesRows, IsTextFault}
 use Rattle.railml_topology.specs.Faults.{IsFirstTopologyFault}
 use Rattle.railml_topology.specs.Answers.{ResolvesTo}
 use Rattle.input_answer.specs.declared.fault.RunFault.{RunFault}
-use Rattle.input_answer.specs.declared.fault.RunFault.TheVariants.{Words, Long, Text, Topology, Graph, Order, Signal, Sheet, Log, ReadFailed}
+use Rattle.input_answer.specs.declared.fault.RunFault.TheVariants.{Words, Long, Text, Topology, Graph, Order, Signal}
+use Rattle.input_answer.specs.declared.fault.RunFault.TheVariants.{Sheet, Log, ReadFailed}
 use Rattle.input_answer.specs.declared.input.Refusal.{Refusal}
 use Rattle.input_answer.specs.declared.input.Refusal.TheVariants as refusals
 
@@ -48,12 +49,14 @@ pub record HasStation (bytes : List ℕ) (g : TrackGraph) (o : EdgeOrder) : Type
   pub has_graph : HasGraph bytes g
   pub order : IsOrderOf g o
 
--- the bytes have this fault, and none that is looked for before it; the signals of a file are no part of its station, and
+-- the bytes have this fault, and none that is looked for before it; the signals of a file are no part of its station,
+-- and
 -- their faults none of the file's (`specs/Signals`)
 abbrev pub HasFileFault : List ℕ → RunFault → Type 0
 HasFileFault bytes (Long input) = (input ≡ 1) × IsLong MAX_FILE_BYTES bytes
 HasFileFault bytes (Text what at) = IsShort MAX_FILE_BYTES bytes × IsTextFault bytes what at
-HasFileFault bytes (Topology what at first second) = (rows : List Elem) × HasRows bytes rows × IsFirstTopologyFault rows what at first second
+HasFileFault bytes (Topology what at first second) = (rows : List Elem) × HasRows bytes rows
+    × IsFirstTopologyFault rows what at first second
 HasFileFault bytes (Graph fault) = (t : Tracks) × HasTopology bytes t × IsGraphFault t fault
 HasFileFault bytes (Order fault) = (g : TrackGraph) × HasGraph bytes g × IsOrderFault g fault
 HasFileFault bytes (Words what position) = ⊥

@@ -34,11 +34,13 @@ pub record ReadsInputs (inputs : ℕ) (All : Type 0) (met : Met) : Type 0 where
   pub once : HasRead met number
   pub all : All → number ≡ inputs
 
--- the count of faults of creating and appending is as it was. Neither call promises to leave it so: a run that is proved to
+-- the count of faults of creating and appending is as it was. Neither call promises to leave it so: a run that is
+-- proved to
 -- leave it tries none
 abbrev pub IsUnwritten : Met → Type 0
 IsUnwritten met = met.after.write_faults ≡ met.before.write_faults
 
 -- each file stands as it stood, or is there with bytes with which it may be left
 abbrev pub Leaves : (May : (name bytes : List ℕ) → Type 0) → (before after : Told) → Type 0
-Leaves May before after = (name : List ℕ) → (after name ≡ before name) ⊎ ((bytes : List ℕ) × (after name ≡ Some bytes) × May name bytes)
+Leaves May before after = (name : List ℕ) → (after name ≡ before name)
+    ⊎ ((bytes : List ℕ) × (after name ≡ Some bytes) × May name bytes)

@@ -24,5 +24,6 @@ IsUnreadInput input met refusals.Memory = ⊤
 -- the file was read and has this fault, or it couldn't be read
 abbrev pub IsRefusalOf : List ℕ → Met → Refusal → Type 0
 IsRefusalOf name met (refusals.Fault fault) =
-    (IsOfFile (λ bytes. HasFileFault bytes fault) name met.before.contents × HasRead met 1) ⊎ (ReadFails met 0 × (fault ≡ ReadFailed 1))
+    (IsOfFile (λ bytes. HasFileFault bytes fault) name met.before.contents × HasRead met 1)
+    ⊎ (ReadFails met 0 × (fault ≡ ReadFailed 1))
 IsRefusalOf name met refusals.Memory = ⊤

@@ -31,23 +31,26 @@ pub record AreSignalsBeside (bytes : List ℕ) (s : Station) (signals : List Sig
   pub gives : GivesSignals bytes signals
 
 -- nothing is wrong with the signals of the bytes, and these are their places along this graph
-pub record HasSignals (bytes : List ℕ) (g : TrackGraph) (signals : List SignalElem) (places : List SignalPlace) : Type 0 where
-  pub rows : List Elem
-  pub topology : Tracks
-  pub beside : AreSignalsBeside bytes (station rows topology g) signals
-  pub placed : ArePlaced (station rows topology g) signals places
+pub record HasSignals (bytes : List ℕ) (g : TrackGraph) (signals : List SignalElem) (places : List SignalPlace) : Type 0
+  where
+    pub rows : List Elem
+    pub topology : Tracks
+    pub beside : AreSignalsBeside bytes (station rows topology g) signals
+    pub placed : ArePlaced (station rows topology g) signals places
 
 -- the signals of the bytes have this fault along this graph, and none that is looked for before it
-pub record HasFaultySignals (bytes : List ℕ) (g : TrackGraph) (what : SignalWhat) (at : ℕ) (first : List ℕ) : Type 0 where
-  pub rows : List Elem
-  pub topology : Tracks
-  pub signals : List SignalElem
-  pub beside : AreSignalsBeside bytes (station rows topology g) signals
-  pub fault : IsFirstSignalFault (station rows topology g) signals what at first
+pub record HasFaultySignals (bytes : List ℕ) (g : TrackGraph) (what : SignalWhat) (at : ℕ) (first : List ℕ) : Type 0
+  where
+    pub rows : List Elem
+    pub topology : Tracks
+    pub signals : List SignalElem
+    pub beside : AreSignalsBeside bytes (station rows topology g) signals
+    pub fault : IsFirstSignalFault (station rows topology g) signals what at first
 
 -- the bytes have a station, and their signals have this fault
 abbrev pub HasSignalFault : List ℕ → RunFault → Type 0
-HasSignalFault bytes (Signal what at first) = (g : TrackGraph) × (o : EdgeOrder) × HasStation bytes g o × HasFaultySignals bytes g what at first
+HasSignalFault bytes (Signal what at first) = (g : TrackGraph) × (o : EdgeOrder) × HasStation bytes g o
+    × HasFaultySignals bytes g what at first
 HasSignalFault bytes fault = ⊥
 
 -- the bytes have this fault, or their signals have it
@@ -55,7 +58,8 @@ abbrev pub HasFault : List ℕ → RunFault → Type 0
 HasFault bytes fault = HasFileFault bytes fault ⊎ HasSignalFault bytes fault
 
 -- the bytes have this station, and these signals with these places
-pub record HasSignalStation (bytes : List ℕ) (g : TrackGraph) (o : EdgeOrder) (signals : List SignalElem) (places : List SignalPlace) : Type 0 where
+pub record HasSignalStation (bytes : List ℕ) (g : TrackGraph) (o : EdgeOrder) (signals : List SignalElem)
+    (places : List SignalPlace) : Type 0 where
   pub has_station : HasStation bytes g o
   pub has_signals : HasSignals bytes g signals places
 
@@ -67,11 +71,14 @@ IsSignalRefusal bytes refusals.Memory = Unit {0}
 -- ---- the file of a name
 
 -- the file of this name has this station and these signals, or contents aren't told and some bytes have them
-abbrev pub IsSignalStationOf : List ℕ → Option Told → TrackGraph → EdgeOrder → List SignalElem → List SignalPlace → Type 0
-IsSignalStationOf name contents g o signals places = IsOfFile (λ bytes. HasSignalStation bytes g o signals places) name contents
+abbrev pub IsSignalStationOf : List ℕ → Option Told → TrackGraph → EdgeOrder → List SignalElem → List SignalPlace →
+    Type 0
+IsSignalStationOf name contents g o signals places =
+    IsOfFile (λ bytes. HasSignalStation bytes g o signals places) name contents
 
 -- the file was read and it or its signals have this fault, or it couldn't be read
 abbrev pub IsSignalRefusalOf : List ℕ → Met → Refusal → Type 0
 IsSignalRefusalOf name met (refusals.Fault fault) =
-    (IsOfFile (λ bytes. HasFault bytes fault) name met.before.contents × HasRead met 1) ⊎ (ReadFails met 0 × (fault ≡ ReadFailed 1))
+    (IsOfFile (λ bytes. HasFault bytes fault) name met.before.contents × HasRead met 1)
+    ⊎ (ReadFails met 0 × (fault ≡ ReadFailed 1))
 IsSignalRefusalOf name met refusals.Memory = Unit {0}

@@ -1,7 +1,8 @@
 -- How a run ends: the number of each status, and what some of them have in common.
 use Rattle.std.specs.Prelude.{◌≡◌, ℕ}
 use Rattle.input_answer.specs.declared.status.Status.{Status}
-use Rattle.input_answer.specs.declared.status.Status.TheVariants.{Done, Refused, WordsRefused, NoDrawing, Unfinished, Unread, Unwritten, NoMemory, Broken}
+use Rattle.input_answer.specs.declared.status.Status.TheVariants.{Done, Refused, WordsRefused, NoDrawing, Unfinished}
+use Rattle.input_answer.specs.declared.status.Status.TheVariants.{Unread, Unwritten, NoMemory, Broken}
 
 -- what the program ends with; no two statuses have one number
 abbrev pub number_of : Status → ℕ

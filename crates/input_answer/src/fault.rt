@@ -3,7 +3,8 @@
 ghost use Rattle.std.specs.Prelude.{◌≡◌, ◌++◌, [], ◌∷◌, codes, IfOk, OnOk};
 ghost use Rattle.std.specs.Fmt.{decimal};
 ghost use Rattle.line_text.specs.Fields.{line_text, spaced};
-ghost use Rattle.input_answer.specs.Fault.{fault_line, told_line, fault_status, at_place, texts_told, graph_told as told_of_graph, edges_told as told_of_edges, signal_told};
+ghost use Rattle.input_answer.specs.Fault.{fault_line, told_line, fault_status, at_place, texts_told};
+ghost use Rattle.input_answer.specs.Fault.{graph_told as told_of_graph, edges_told as told_of_edges, signal_told};
 
 use crate::status::Status;
 use line_text::{push_field, push_number_field, push_place_field, push_text};
@@ -46,7 +47,8 @@ pub enum RunFault {
     Graph(GraphFault),
     /// The edges of the track graph have no order.
     Order(OrderFault),
-    /// The signals of the file have a fault. `at` is the place of the signal that it is told of, in bytes from 0, and `first`
+    /// The signals of the file have a fault. `at` is the place of the signal that it is told of, in bytes from 0, and
+    /// `first`
     /// the text that its kind tells, empty where it tells none.
     Signal {
         what: SignalWhat,

@@ -9,7 +9,8 @@ ghost use Rattle.input_answer.specs.Input.{HasGraph, HasStation, HasFileFault};
 
 /// A file that has a station has none of the faults.
 pub fn station_or_fault()
-    ensures { (bytes : List ℕ) (g : Graph) (o : EdgeOrder) (fault : Fault) → HasStation bytes g o → HasFileFault bytes fault
+    ensures { (bytes : List ℕ) (g : Graph) (o : EdgeOrder) (fault : Fault) → HasStation bytes g o →
+        HasFileFault bytes fault
         → ⊥ }
 {}
 

@@ -74,14 +74,16 @@ pub fn station_of<F: Files>(alloc: Global, input: &Text, files: &mut F) -> Resul
     }
 }
 
-/// The station of the file of this name with its signals, or the first fault of the file or of its signals, or that it couldn't
+/// The station of the file of this name with its signals, or the first fault of the file or of its signals, or that it
+/// couldn't
 /// be read.
 pub fn signals_of<F: Files>(
     alloc: Global,
     input: &Text,
     files: &mut F,
 ) -> Result<SignalStation, Refusal>
-    ensures station { IfOk result (λ s. IsSignalStationOf input.now (F.at files.old).contents s.station.graph s.station.order
+    ensures station { IfOk result (λ s. IsSignalStationOf input.now (F.at files.old).contents s.station.graph
+        s.station.order
         s.signals s.placed) }
     ensures order { IfOk result (λ s. IsOrderOf s.station.graph s.station.order) }
     ensures drawn { IfOk result (λ s. All (λ (p : APlace). p.edge.0 < length s.station.graph.edges) s.placed) }

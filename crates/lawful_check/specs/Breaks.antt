@@ -3,7 +3,8 @@ use Rattle.std.specs.Prelude.{◌≡◌, ◌⊎◌, ℕ, ◌<◌, Bool, Option, 
 use Rattle.plan_core.specs.Grid.{GridSize}
 use Rattle.plan_core.specs.Graph.{Graph}
 use Rattle.plan_core.specs.Drawing.{Drawing}
-use Rattle.plan_core.specs.Lawful.{Instance, NodeOnGrid, LineOnGrid, Ordered, Joined, Aligned, Apart, Over, Parted, IsInstance, Meets}
+use Rattle.plan_core.specs.Lawful.{Instance, NodeOnGrid, LineOnGrid, Ordered, Joined, Aligned, Apart, Over, Parted}
+use Rattle.plan_core.specs.Lawful.{IsInstance, Meets}
 use Rattle.track_order.specs.Order.{IsEarlier}
 use Rattle.lawful_check.specs.declared.law_break.LawBreak.{LawBreak}
 use Rattle.lawful_check.specs.declared.law_break.Party.{Party}
@@ -42,7 +43,8 @@ second_of (Over e f) = f
 second_of (Parted e f) = f
 
 abbrev pub IsBefore : Instance → Instance → Type 0
-IsBefore i j = (law_rank i < law_rank j) ⊎ ((law_rank i ≡ law_rank j) × IsEarlier (first_of i) (second_of i) (first_of j) (second_of j))
+IsBefore i j = (law_rank i < law_rank j) ⊎ ((law_rank i ≡ law_rank j)
+    × IsEarlier (first_of i) (second_of i) (first_of j) (second_of j))
 
 abbrev pub node_party : ℕ → Party
 node_party n = party.Node (record { 0 = n })
@@ -65,10 +67,11 @@ break_of (Over e f) = law_break 6 (edge_party e) (Some (edge_party f))
 break_of (Parted e f) = law_break 7 (edge_party e) (Some (edge_party f))
 
 -- the law is broken for these parties, and met for all that come before
-pub record IsLeastBroken (g : Graph) (above : ℕ → ℕ → Bool) (grid : GridSize) (d : Drawing) (i : Instance) : Type 0 where
-  pub is : IsInstance g above i
-  pub broken : Meets g grid d i → ⊥
-  pub least : (j : Instance) → IsInstance g above j → IsBefore j i → Meets g grid d j
+pub record IsLeastBroken (g : Graph) (above : ℕ → ℕ → Bool) (grid : GridSize) (d : Drawing) (i : Instance) : Type 0
+  where
+    pub is : IsInstance g above i
+    pub broken : Meets g grid d i → ⊥
+    pub least : (j : Instance) → IsInstance g above j → IsBefore j i → Meets g grid d j
 
 -- this names the least broken instance
 pub record IsLeastBreak (g : Graph) (above : ℕ → ℕ → Bool) (grid : GridSize) (d : Drawing) (b : LawBreak) : Type 0 where

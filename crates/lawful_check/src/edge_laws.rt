@@ -117,7 +117,8 @@ fn not_parted(g: &PortGraph, t: &TrackOrder, d: &Drawing, e: u16) -> Option<u16>
     requires fitting { HasSizeOf g.now d.now }
     requires there { e < length g.now.edges }
     requires before { HoldsToPair (IsOtherPair g.now (is_above t.now)) (EdgesAreParted g.now d.now) e 0 }
-    ensures { MatchOption result (HoldsToPair (IsOtherPair g.now (is_above t.now)) (EdgesAreParted g.now d.now) (e + 1) 0)
+    ensures { MatchOption result (HoldsToPair (IsOtherPair g.now (is_above t.now)) (EdgesAreParted g.now d.now) (e + 1)
+        0)
         (λ f. FailsFirstPair (IsOtherPair g.now (is_above t.now)) (EdgesAreParted g.now d.now) e f) }
 {
     let count = g.edges();

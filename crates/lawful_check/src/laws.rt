@@ -9,10 +9,12 @@ ghost use Rattle.lawful_check.specs.Breaks.{IsLeastBreak};
 
 /// A lawful drawing breaks no law.
 pub fn lawful_or_broken()
-    ensures { (g : Graph) (above : ℕ → ℕ → Bool) (grid : GridSize) (d : Drawing) (b : LawBreak) → Lawful g above grid d → IsLeastBreak g above grid d b → ⊥ }
+    ensures { (g : Graph) (above : ℕ → ℕ → Bool) (grid : GridSize) (d : Drawing) (b : LawBreak) →
+        Lawful g above grid d → IsLeastBreak g above grid d b → ⊥ }
 {}
 
 /// A drawing breaks one law least at most, by the same parties.
 pub fn one_least_break()
-    ensures { (g : Graph) (above : ℕ → ℕ → Bool) (grid : GridSize) (d : Drawing) (b c : LawBreak) → IsLeastBreak g above grid d b → IsLeastBreak g above grid d c → b ≡ c }
+    ensures { (g : Graph) (above : ℕ → ℕ → Bool) (grid : GridSize) (d : Drawing) (b c : LawBreak) →
+        IsLeastBreak g above grid d b → IsLeastBreak g above grid d c → b ≡ c }
 {}

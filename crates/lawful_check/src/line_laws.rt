@@ -2,7 +2,8 @@
 ghost use Rattle.std.specs.Prelude.{◌≡◌, ◌<◌, ◌+ℤ◌, ◌↔◌, pos, length, All, IsTrue, MatchOption};
 ghost use Rattle.plan_core.specs.Lawful.{HasSizeOf};
 ghost use Rattle.plan_core.specs.Graph.{edges_of};
-ghost use Rattle.plan_core.specs.Laws.{LineJoinsItsNodes, steepness, Diverges, slope_at, PortsAreAligned, NodeIsAligned};
+ghost use Rattle.plan_core.specs.Laws.{LineJoinsItsNodes, steepness, Diverges, slope_at, PortsAreAligned};
+ghost use Rattle.plan_core.specs.Laws.{NodeIsAligned};
 ghost use Rattle.port_graph.specs.Plain.{plain_ports};
 ghost use Rattle.lawful_check.specs.Holding.{HoldsForAll, FailsFirst};
 

@@ -8,7 +8,8 @@ use station_make::make;
 use std::alloc::Global;
 use std::test::Fail;
 
-/// The front of height and width of a file's station, on a grid of this width and height, for so many learnt clauses and
+/// The front of height and width of a file's station, on a grid of this width and height, for so many learnt clauses
+/// and
 /// within so much room.
 fn front_of(
     alloc: Global,
@@ -35,7 +36,8 @@ fn front_of(
     )?)
 }
 
-/// The number of a made station, or none for the loop; the columns and rows of its grid; how many clauses may be learnt, and
+/// The number of a made station, or none for the loop; the columns and rows of its grid; how many clauses may be
+/// learnt, and
 /// the room; the pairs of its front, and how the search ends.
 type Front = (
     Option<u32>,

@@ -159,7 +159,8 @@ fn least_values_are_found_and_certified(rt: HostRuntime) -> Result<(), Fail> {
     Ok(())
 }
 
-/// Searches a file's station in this order, on a grid of this width and height, for so many learnt clauses and within so much
+/// Searches a file's station in this order, on a grid of this width and height, for so many learnt clauses and within
+/// so much
 /// room.
 fn limited(
     alloc: Global,

@@ -43,9 +43,12 @@ AreAssumed told (b ∷ bs) (l ∷ ls) = IsAssumed told b l × AreAssumed told bs
 abbrev pub TellsAnswer : Task → Lines → List Below → Answer → Lines → Type 0
 TellsAnswer p lines bounds ModelAnswer more = IsAsked lines bounds (ModelLine ∷ []) more
 TellsAnswer p lines bounds RefutedAnswer more =
-    (clause : List Literal) × AreAgainst (greatest_of p) lines bounds clause × IsAsked lines bounds (RefutedLine clause ∷ []) more
-TellsAnswer p lines bounds SpentAnswer more = IsAsked lines bounds [] more × IsCause p.budget p.room BudgetSpent (lines ++ more)
-TellsAnswer p lines bounds RoomAnswer more = IsAsked lines bounds [] more × IsCause p.budget p.room RoomFull (lines ++ more)
+    (clause : List Literal) × AreAgainst (greatest_of p) lines bounds clause
+    × IsAsked lines bounds (RefutedLine clause ∷ []) more
+TellsAnswer p lines bounds SpentAnswer more = IsAsked lines bounds [] more
+    × IsCause p.budget p.room BudgetSpent (lines ++ more)
+TellsAnswer p lines bounds RoomAnswer more = IsAsked lines bounds [] more
+    × IsCause p.budget p.room RoomFull (lines ++ more)
 
 -- the reply is of that answer
 abbrev pub IsReplyOf : Answer → Reply → Type 0

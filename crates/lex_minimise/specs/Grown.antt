@@ -19,7 +19,8 @@ size_behind e b = size_of_bound e.graph (encoded_vars e) e.grid b
 
 -- with the bound there are too many variables, or the formula's words pass its room
 abbrev pub PassesWith : Encoding → Bound → Type 0
-PassesWith e b = (VARS < e.formula.vars + size_behind e b) ⊎ (e.formula.room < words_of (e.formula.clauses ++ clauses_behind e b))
+PassesWith e b = (VARS < e.formula.vars + size_behind e b)
+    ⊎ (e.formula.room < words_of (e.formula.clauses ++ clauses_behind e b))
 
 -- the bound was added behind the formula
 pub record HasGrown (old new : Encoding) (b : Bound) : Type 0 where
@@ -34,7 +35,8 @@ pub record HasGrown (old new : Encoding) (b : Bound) : Type 0 where
   pub named : (k : ℕ) → 1 ≤ k → k ≤ b.cap → IsNamed (clauses_behind old b) (b.last + k)
   pub covers : CoversWith new.graph (is_above new.order) new.grid (encoded_vars new) new.formula.clauses new.bounds
 
--- the formula has the bound behind those that were told, and its clauses from this number on are the bound's, which alone
+-- the formula has the bound behind those that were told, and its clauses from this number on are the bound's, which
+-- alone
 -- the solver wasn't given
 pub record IsGrown (e : Encoding) (told : List Bound) (budget room : ℕ) (b : Bound) (from : ℕ) (k : Kept) : Type 0 where
   pub whole : IsWhole e

@@ -44,7 +44,8 @@ pub fn add_clauses<L: LogSink>(
     requires few { formula.now.vars ≤ VARS }
     requires fits { solver.old.words + words_of (drop from formula.now.clauses) ≤ solver.old.room }
     ensures taken { OnOk result
-        (HasTaken (with_more_vars solver.old (formula.now.vars - solver.old.vars)) solver.new (drop from formula.now.clauses)) }
+        (HasTaken (with_more_vars solver.old (formula.now.vars - solver.old.vars)) solver.new
+        (drop from formula.now.clauses)) }
     ensures lines { OnOk result (GoesOn (λ ls. Belongs ls solver.old) (λ ls. Belongs ls solver.new)
         (L.tells log.old) (L.tells log.new) (L.learnt log.old) (L.learnt log.new)
         (λ lines more. more ≡ map FormulaLine (drop from formula.now.clauses))) }
@@ -98,7 +99,8 @@ fn tell_criterion<L: LogSink>(
     bounds: Bounds,
     from: u32,
 ) -> Result<(), MinFault>
-    requires grown { IsGrown known.old.encoded known.old.told.items known.old.budget known.old.room bounds from solver.old }
+    requires grown { IsGrown known.old.encoded known.old.told.items known.old.budget known.old.room bounds from
+        solver.old }
     requires fits { solver.old.words + words_of (drop from known.old.encoded.formula.clauses) ≤ known.old.room }
     ensures encoded { known.new.encoded ≡ known.old.encoded }
     ensures budget { known.new.budget ≡ known.old.budget }

@@ -44,9 +44,11 @@ fn front_from<L: LogSink>(
     ensures right { IfOk result (λ r. IsRightFront (IsLawful (task_with known.old)) a b r.pairs r.ending) }
     ensures lines { let p = task_with known.old in
         IfOk result (λ r. ToldBehind (IsLogOfSolver solver.new) (L.tells log.old) (L.tells log.new)
-        (L.learnt log.old) (L.learnt log.new) (first_lines p) (λ more. IsFrontLog p a b r.ending (first_lines p ++ more))) }
+        (L.learnt log.old) (L.learnt log.new) (first_lines p)
+        (λ more. IsFrontLog p a b r.ending (first_lines p ++ more))) }
     ensures left { let p = task_with known.old in
-        OnErr result (L.tells log.old (first_lines p) → (lines : Lines) → L.tells log.new lines → IsFrontLeft p a b lines) }
+        OnErr result (L.tells log.old (first_lines p) → (lines : Lines) → L.tells log.new lines →
+        IsFrontLeft p a b lines) }
     ensures later { L.is_later log.old log.new }
     ensures faults { L.faults log.old ≤ L.faults log.new }
     ensures cause { IsErrOf result MinFault.Log → Rose (L.faults log.old) (L.faults log.new) }
@@ -56,7 +58,8 @@ fn front_from<L: LogSink>(
     find_front(alloc, &mut search, a, b)
 }
 
-/// The same as `front`, with a new solver that is handed in, so that a caller sees what it has learnt. It was made with the
+/// The same as `front`, with a new solver that is handed in, so that a caller sees what it has learnt. It was made with
+/// the
 /// room of the limits.
 pub fn front_with<L: LogSink>(
     alloc: Global,
@@ -76,7 +79,8 @@ pub fn front_with<L: LogSink>(
     ensures right { let p = task_of (layout g.now t.now grid.now) limits.now.budget limits.now.room in
         IfOk result (λ r. IsRightFront (IsLawful p) a b r.pairs r.ending) }
     ensures lines { let p = task_of (layout g.now t.now grid.now) limits.now.budget limits.now.room in
-        IfOk result (λ r. (lines : Lines) × told_to L.tells L.learnt log.old log.new lines × IsFrontLog p a b r.ending lines
+        IfOk result (λ r. (lines : Lines) × told_to L.tells L.learnt log.old log.new lines
+        × IsFrontLog p a b r.ending lines
         × IsLogOfSolver solver.new lines) }
     ensures left { let p = task_of (layout g.now t.now grid.now) limits.now.budget limits.now.room in
         OnErr result (L.tells log.old [] → (lines : Lines) → L.tells log.new lines → IsFrontLeft p a b lines) }
@@ -105,11 +109,13 @@ pub fn front_with<L: LogSink>(
     front_from(&mut known, solver, log, a, b)
 }
 
-/// The front of two criteria of the graph's lawful drawings on the grid, or as far as the budget of learnt clauses and the
+/// The front of two criteria of the graph's lawful drawings on the grid, or as far as the budget of learnt clauses and
+/// the
 /// room for the words of all clauses allow.
 ///
 /// The order `t` is that of the graph's edges, and the criteria differ. All lines are told to the log: the drawings'
-/// clauses, both criteria's clauses with all their bounds, the questions, what is learnt, and the answers. After an error a
+/// clauses, both criteria's clauses with all their bounds, the questions, what is learnt, and the answers. After an
+/// error a
 /// log that had no line derives, and its Formula and Bound lines are the first of those.
 pub fn front<L: LogSink>(
     alloc: Global,
@@ -128,7 +134,8 @@ pub fn front<L: LogSink>(
     ensures right { let p = task_of (layout g.now t.now grid.now) budget room in
         IfOk result (λ r. IsRightFront (IsLawful p) a b r.pairs r.ending) }
     ensures lines { let p = task_of (layout g.now t.now grid.now) budget room in
-        IfOk result (λ r. (lines : Lines) × told_to L.tells L.learnt log.old log.new lines × IsFrontLog p a b r.ending lines) }
+        IfOk result (λ r. (lines : Lines) × told_to L.tells L.learnt log.old log.new lines
+        × IsFrontLog p a b r.ending lines) }
     ensures left { let p = task_of (layout g.now t.now grid.now) budget room in
         OnErr result (L.tells log.old [] → (lines : Lines) → L.tells log.new lines → IsFrontLeft p a b lines) }
     ensures later { L.is_later log.old log.new }

@@ -39,7 +39,8 @@ fn search_from<L: LogSink>(
     ensures right { IfOk result (IsRightOutcome (task_with known.old) wanted.now) }
     ensures lines { let p = task_with known.old in
         IfOk result (λ o. ToldBehind (IsLogOfSolver solver.new) (L.tells log.old) (L.tells log.new)
-        (L.learnt log.old) (L.learnt log.new) (first_lines p) (λ more. IsOutcome p wanted.now o (first_lines p ++ more))) }
+        (L.learnt log.old) (L.learnt log.new) (first_lines p)
+        (λ more. IsOutcome p wanted.now o (first_lines p ++ more))) }
     ensures later { L.is_later log.old log.new }
     ensures faults { L.faults log.old ≤ L.faults log.new }
     ensures cause { IsErrOf result MinFault.Log → Rose (L.faults log.old) (L.faults log.new) }
@@ -67,7 +68,8 @@ pub fn minimise_with<L: LogSink>(
     ensures right { let p = task_of (layout g.now t.now grid.now) limits.now.budget limits.now.room in
         IfOk result (IsRightOutcome p wanted.now) }
     ensures lines { let p = task_of (layout g.now t.now grid.now) limits.now.budget limits.now.room in
-        IfOk result (λ o. (lines : Lines) × told_to L.tells L.learnt log.old log.new lines × IsOutcome p wanted.now o lines
+        IfOk result (λ o. (lines : Lines) × told_to L.tells L.learnt log.old log.new lines
+        × IsOutcome p wanted.now o lines
         × IsLogOfSolver solver.new lines) }
     ensures later { L.is_later log.old log.new }
     ensures faults { L.faults log.old ≤ L.faults log.new }
@@ -98,7 +100,8 @@ pub fn minimise_with<L: LogSink>(
 ///
 /// The order `t` is that of the graph's edges. All lines are told to the log: the drawings' clauses, each criterion's
 /// clauses with its bounds, whole or not at all, the questions, what is learnt, and the answers. `Spent` comes where as
-/// many clauses were learnt as the budget allows, `Room` where what comes next has no room: too many words or variables.
+/// many clauses were learnt as the budget allows, `Room` where what comes next has no room: too many words or
+/// variables.
 pub fn minimise<L: LogSink>(
     alloc: Global,
     g: &PortGraph,
@@ -113,7 +116,8 @@ pub fn minimise<L: LogSink>(
     ensures right { let p = task_of (layout g.now t.now grid.now) limits.now.budget limits.now.room in
         IfOk result (IsRightOutcome p wanted.now) }
     ensures lines { let p = task_of (layout g.now t.now grid.now) limits.now.budget limits.now.room in
-        IfOk result (λ o. (lines : Lines) × told_to L.tells L.learnt log.old log.new lines × IsOutcome p wanted.now o lines) }
+        IfOk result (λ o. (lines : Lines) × told_to L.tells L.learnt log.old log.new lines
+        × IsOutcome p wanted.now o lines) }
     ensures later { L.is_later log.old log.new }
     ensures faults { L.faults log.old ≤ L.faults log.new }
     ensures cause { IsErrOf result MinFault.Log → Rose (L.faults log.old) (L.faults log.new) }

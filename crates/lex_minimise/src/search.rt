@@ -90,5 +90,11 @@ impl<'k, 's, 'l, 'a, L: LogSink> Oracle for Search<'k, 's, 'l, 'a, L> {
 
     ghost later_same = { λ s. (refl, refl, refl, L.later_same s.log.now) };
 
-    ghost later_more = { λ a b c h k. (k.0 ∙ h.0, k.1 ∙ h.1, k.2 ∙ h.2, L.later_more a.log.now b.log.now c.log.now h.3 k.3) };
+    ghost later_more = { λ a b c h k. (
+      k.0 ∙ h.0,
+      k.1 ∙ h.1,
+      k.2 ∙ h.2,
+      L.later_more a.log.now b.log.now c.log.now h.3
+          k.3,
+    ) };
 }

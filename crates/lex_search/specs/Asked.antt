@@ -1,5 +1,6 @@
 -- One question to the solver: its bounds, and the lines that it tells.
-use Rattle.std.specs.Prelude.{◌≡◌, ◌≢◌, ◌≤◌, ◌<◌, ⊤, ℕ, List, [], ◌∷◌, ◌++◌, All, AllPairs, Any, Contains, map, fold, Option, None, Some, MatchOption}
+use Rattle.std.specs.Prelude.{◌≡◌, ◌≢◌, ◌≤◌, ◌<◌, ⊤, ℕ, List, [], ◌∷◌, ◌++◌, All, AllPairs, Any, Contains, map, fold}
+use Rattle.std.specs.Prelude.{Option, None, Some, MatchOption}
 use Rattle.plan_core.specs.declared.criterion.Values.{Values}
 use Rattle.plan_core.specs.declared.criterion.Criterion.{Criterion}
 use Rattle.plan_core.specs.Values.{values_of, value_of}
@@ -51,13 +52,15 @@ pub record IsAsked (lines : Lines) (bounds : List Below) (ending more : Lines) :
 
 -- each literal of the clause says that one of the bounds doesn't hold
 abbrev pub AreAgainst : (Criterion → ℕ) → Lines → List Below → List Literal → Type 0
-AreAgainst greatest lines bounds clause = All (λ l. Any (λ b. SaysAtLeast greatest lines b.criterion b.limit l) bounds) clause
+AreAgainst greatest lines bounds clause = All (λ l. Any (λ b. SaysAtLeast greatest lines b.criterion b.limit l) bounds)
+    clause
 
 -- the lines of a question with this answer
 abbrev pub IsReply : Task → Lines → List Below → Reply → Lines → Type 0
 IsReply p lines bounds (Found d) more = IsAsked lines bounds (Model ∷ []) more
 IsReply p lines bounds Refuted more =
-    (clause : List Literal) × AreAgainst (greatest_of p) lines bounds clause × IsAsked lines bounds (RefutedLine clause ∷ []) more
+    (clause : List Literal) × AreAgainst (greatest_of p) lines bounds clause
+    × IsAsked lines bounds (RefutedLine clause ∷ []) more
 IsReply p lines bounds (Stopped stop) more = IsAsked lines bounds [] more × IsCause p.budget p.room stop (lines ++ more)
 
 -- a drawing that is found is lawful and meets the bounds

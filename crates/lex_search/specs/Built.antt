@@ -13,7 +13,8 @@ use Rattle.lex_search.specs.Task.{Task}
 -- with the lines of c up to the cap there are too many variables, or the words pass the room
 abbrev pub SumPasses : Task → ℕ → Criterion → ℕ → Lines → Type 0
 SumPasses p vars c cap lines = (VARS < vars + sum_vars_of p.encoding vars c cap)
-    ⊎ (p.room < words_of (flat_map given (clause_lines lines ++ sum_lines p.encoding vars c cap)) + words_of (flat_map learnt lines))
+    ⊎ (p.room < words_of (flat_map given (clause_lines lines ++ sum_lines p.encoding vars c cap)) + words_of
+    (flat_map learnt lines))
 
 -- all lines of c up to the cap; or none, where they pass
 abbrev pub IsBuild : Task → ℕ → Criterion → ℕ → Built → Lines → Lines → Type 0

@@ -17,13 +17,16 @@ use Rattle.lex_search.specs.Reached.{HasSameValues}
 abbrev pub AllZero : List Criterion → ℕ → Values → Type 0
 AllZero order i v = (k : ℕ) (c : Criterion) → i ≤ k → slice_get order k ≡ Some c → value_of v c ≡ 0
 
--- n bounds are built for the criterion c, which stands at place i, where it is reached with these values: none where all
+-- n bounds are built for the criterion c, which stands at place i, where it is reached with these values: none where
+-- all
 -- values are 0 from there on; else one more than its value, and at most its greatest value
-pub record IsCapAt (greatest : Criterion → ℕ) (order : List Criterion) (i : ℕ) (c : Criterion) (v : Values) (n : ℕ) : Type 0 where
+pub record IsCapAt (greatest : Criterion → ℕ) (order : List Criterion) (i : ℕ) (c : Criterion) (v : Values) (n : ℕ) :
+    Type 0 where
   pub none : AllZero order i v → n ≡ 0
   pub some : (AllZero order i v → ⊥) → n ≡ min (value_of v c + 1) (greatest c)
 
--- the turn of the criterion at place i: it is reached with one drawing, and has the bounds that are built then; and it is
+-- the turn of the criterion at place i: it is reached with one drawing, and has the bounds that are built then; and it
+-- is
 -- left with the drawing d, the same or one with less of it and the same values before it
 pub record IsTurn (p : Task) (order : List Criterion) (i : ℕ) (reached d : Drawing) (cap : Criterion → ℕ) : Type 0 where
   pub lawful : IsLawful p reached
@@ -46,6 +49,7 @@ pub record AreCapped (p : Task) (order : List Criterion) (s : ℕ) (d : Drawing)
 -- why a search stopped with this drawing, the first s criteria being settled: in a question on the criterion behind
 -- them, in its turn; or for want of room for the bounds of the next criterion, before its turn
 abbrev pub IsCauseWith : Task → List Criterion → ℕ → Stop → Drawing → Lines → Type 0
-IsCauseWith p order s stop d lines = (IsCause p.budget p.room stop lines × AreCapped p order (s + 1) d (caps (greatest_of p) lines))
+IsCauseWith p order s stop d lines = (IsCause p.budget p.room stop lines
+    × AreCapped p order (s + 1) d (caps (greatest_of p) lines))
     ⊎ ((stop ≡ RoomFull) × (next : NextSumPasses p.encoding (greatest_of p) order lines (values_of d) p.room)
     × AreCapped p order next.next.place d (caps (greatest_of p) lines))

@@ -1,5 +1,6 @@
 -- The outcome of a search, and what its lines are then.
-use Rattle.std.specs.Prelude.{◌≡◌, ◌≢◌, ◌≤◌, ◌⊎◌, ℕ, List, [], Contains, map, flat_map, take, length, Option, None, Some}
+use Rattle.std.specs.Prelude.{◌≡◌, ◌≢◌, ◌≤◌, ◌⊎◌, ℕ, List, [], Contains, map, flat_map, take, length, Option, None}
+use Rattle.std.specs.Prelude.{Some}
 use Rattle.plan_core.specs.declared.criterion.Values.{Values}
 use Rattle.plan_core.specs.declared.criterion.Criterion.{Criterion}
 use Rattle.plan_core.specs.Values.{values_of, Better, IsBest}
@@ -60,11 +61,13 @@ pub record IsNoneEnd (p : Task) (order : List Criterion) (lines : Lines) : Type 
 -- the search stopped with this drawing, whose values are certified and can't be less at the first places, so many and
 -- no more: in a question, or for want of room for the next criterion's lines. Each criterion that had its turn has the
 -- bounds of it
-pub record IsUnfinishedEnd (p : Task) (order : List Criterion) (settled : ℕ) (stop : Stop) (d : Drawing) (lines : Lines) : Type 0 where
+pub record IsUnfinishedEnd (p : Task) (order : List Criterion) (settled : ℕ) (stop : Stop) (d : Drawing) (lines : Lines)
+    : Type 0 where
   pub searched : IsSearched p order lines
   pub whole : IsAllExpected p.encoding (greatest_of p) order lines
   pub lawful : IsLawful p d
-  pub none_better : (other : Drawing) → IsLawful p other → Better (take settled order) (values_of other) (values_of d) → ⊥
+  pub none_better : (other : Drawing) → IsLawful p other → Better (take settled order) (values_of other) (values_of d) →
+      ⊥
   pub is_settled : IsSettled (greatest_of p) lines order (values_of d) settled
   pub not_certified : Certifies (greatest_of p) lines order (values_of d) (length order) → ⊥
   pub query : MeetsQuery lines (values_of d)
@@ -79,7 +82,8 @@ pub record IsUnfoundEnd (p : Task) (order : List Criterion) (settled : ℕ) (sto
   pub unbounded : (c : Criterion) → caps (greatest_of p) lines c ≡ 0
   pub no_model : Contains lines Model → ⊥
   pub not_none : CertifiesNone lines → ⊥
-  pub cause : IsCause p.budget p.room stop lines ⊎ ((stop ≡ RoomFull) × CapsPass p.encoding order lines p.room (caps (greatest_of p) lines))
+  pub cause : IsCause p.budget p.room stop lines ⊎ ((stop ≡ RoomFull)
+      × CapsPass p.encoding order lines p.room (caps (greatest_of p) lines))
 
 abbrev pub IsStoppedEnd : Task → List Criterion → ℕ → Stop → Option Drawing → Lines → Type 0
 IsStoppedEnd p order settled stop None lines = IsUnfoundEnd p order settled stop lines
@@ -109,7 +113,8 @@ first_lines p = map Formula p.encoding.clauses
 abbrev pub IsRightSoFar : Task → List Criterion → ℕ → Option Drawing → Type 0
 IsRightSoFar p order settled None = settled ≡ 0
 IsRightSoFar p order settled (Some d) =
-    IsLawful p d × ((other : Drawing) → IsLawful p other → Better (take settled order) (values_of other) (values_of d) → ⊥)
+    IsLawful p d × ((other : Drawing) → IsLawful p other → Better (take settled order) (values_of other) (values_of d) →
+    ⊥)
 
 abbrev pub IsRightOutcome : Task → List Criterion → Outcome → Type 0
 IsRightOutcome p order (Best d) = IsBest p.graph p.above p.grid order d

@@ -24,7 +24,8 @@ pub record HasAnswer (p : Task) (before : Lines) : Type 0 where
   pub lawful : IsLawful p drawing
   pub met : IsMet (before ++ Model ∷ []) (values_of drawing)
 
--- the criterion is reached with a lawful drawing, which meets the latest query before the last Model line: at the places
+-- the criterion is reached with a lawful drawing, which meets the latest query before the last Model line: at the
+-- places
 -- of the order before it the drawing's values are certified
 pub record IsReached (p : Task) (order : List Criterion) (before : Lines) (c : Criterion) : Type 0 where
   pub place : ℕ
@@ -34,7 +35,8 @@ pub record IsReached (p : Task) (order : List Criterion) (before : Lines) (c : C
   pub met : IsMet before (values_of drawing)
   pub certified : Certifies (greatest_of p) before order (values_of drawing) place
 
--- the line may stand behind these: a Query line is a question, a Model line an answer, and a criterion's bounds are told
+-- the line may stand behind these: a Query line is a question, a Model line an answer, and a criterion's bounds are
+-- told
 -- once it is reached
 abbrev pub IsPlaced : Task → List Criterion → Lines → LogLine → Type 0
 IsPlaced p order before (Query query) = IsQuestion before query
@@ -44,4 +46,5 @@ IsPlaced p order before line = ⊤
 
 -- each line stands so behind those before it
 abbrev pub AreInTurn : Task → List Criterion → Lines → Type 0
-AreInTurn p order lines = (i : ℕ) (line : LogLine) → slice_get lines i ≡ Some line → IsPlaced p order (take i lines) line
+AreInTurn p order lines = (i : ℕ) (line : LogLine) → slice_get lines i ≡ Some line →
+    IsPlaced p order (take i lines) line

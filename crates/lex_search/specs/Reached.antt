@@ -1,5 +1,6 @@
 -- How far a search has come: the first i criteria of the order have their least values.
-use Rattle.std.specs.Prelude.{◌≡◌, ◌≤◌, ◌<◌, ◌+◌, ◌⊎◌, ℕ, List, [], ◌++◌, All, Contains, take, Option, None, Some, slice_get}
+use Rattle.std.specs.Prelude.{◌≡◌, ◌≤◌, ◌<◌, ◌+◌, ◌⊎◌, ℕ, List, [], ◌++◌, All, Contains, take, Option, None, Some}
+use Rattle.std.specs.Prelude.{slice_get}
 use Rattle.plan_core.specs.declared.criterion.Values.{Values}
 use Rattle.plan_core.specs.declared.criterion.Criterion.{Criterion}
 use Rattle.plan_core.specs.Values.{values_of, value_of}
@@ -17,7 +18,8 @@ use Rattle.lex_search.specs.Asked.{below_limit, IsMet}
 use Rattle.lex_search.specs.Placed.{AreInTurn}
 
 -- the clause is the answer at one of the first i places
-pub record IsAnswerAt (greatest : Criterion → ℕ) (lines : Lines) (order : List Criterion) (v : Values) (i : ℕ) (clause : List Literal) : Type 0 where
+pub record IsAnswerAt (greatest : Criterion → ℕ) (lines : Lines) (order : List Criterion) (v : Values) (i : ℕ)
+    (clause : List Literal) : Type 0 where
   pub place : ℕ
   pub before : place < i
   pub criterion : Criterion
@@ -30,13 +32,15 @@ pub record Reached (p : Task) (order : List Criterion) (i : ℕ) (d : Drawing) (
   pub lawful : IsLawful p d
   pub certified : Certifies (greatest_of p) lines order (values_of d) i
   pub met : IsMet lines (values_of d)
-  pub answered : (clause : List Literal) → Contains lines (Refuted clause) → IsAnswerAt (greatest_of p) lines order (values_of d) i clause
+  pub answered : (clause : List Literal) → Contains lines (Refuted clause) →
+      IsAnswerAt (greatest_of p) lines order (values_of d) i clause
   pub placed : AreInTurn p order lines
 
 -- the bounds hold the first i criteria at their values: none says more, and each criterion is held or can't be greater
 pub record Holds (p : Task) (order : List Criterion) (i : ℕ) (bounds : List Below) (v : Values) : Type 0 where
   pub each : All (λ b. Contains (take i order) b.criterion × (b.limit ≡ value_of v b.criterion + 1)) bounds
-  pub all : All (λ c. Contains bounds (below_limit c (value_of v c + 1)) ⊎ (greatest_of p c ≤ value_of v c)) (take i order)
+  pub all : All (λ c. Contains bounds (below_limit c (value_of v c + 1)) ⊎ (greatest_of p c ≤ value_of v c))
+      (take i order)
 
 abbrev pub HasSameValues : List Criterion → ℕ → Values → Values → Type 0
 HasSameValues order i v w = All (λ c. value_of v c ≡ value_of w c) (take i order)
@@ -45,7 +49,8 @@ HasSameValues order i v w = All (λ c. value_of v c ≡ value_of w c) (take i or
 abbrev pub IsLowered : Task → List Criterion → ℕ → Option Stop → Drawing → Lines → Type 0
 IsLowered p order i None d lines = Reached p order (i + 1) d lines
 IsLowered p order i (Some stop) d lines =
-    Reached p order i d lines × ((c : Criterion) → slice_get order i ≡ Some c → 1 ≤ value_of (values_of d) c) × IsCause p.budget p.room stop lines
+    Reached p order i d lines × ((c : Criterion) → slice_get order i ≡ Some c → 1 ≤ value_of (values_of d) c)
+    × IsCause p.budget p.room stop lines
 
 -- a run of questions from the first drawing, with the held bounds, to this one; it tells no clauses
 abbrev pub Run : Task → List Criterion → ℕ → List Below → Drawing → Drawing → Lines → Lines → Type 0

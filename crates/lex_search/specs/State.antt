@@ -1,5 +1,6 @@
 -- What is so before each place of the order, and where a search stops.
-use Rattle.std.specs.Prelude.{◌≡◌, ◌≤◌, ◌<◌, ◌+◌, ◌⊎◌, ℕ, min, List, [], ◌∷◌, All, Contains, take, cond, nat_lt, length, Option, None, Some, slice_get}
+use Rattle.std.specs.Prelude.{◌≡◌, ◌≤◌, ◌<◌, ◌+◌, ◌⊎◌, ℕ, min, List, [], ◌∷◌, All, Contains, take, cond, nat_lt}
+use Rattle.std.specs.Prelude.{length, Option, None, Some, slice_get}
 use Rattle.plan_core.specs.declared.criterion.Values.{Values}
 use Rattle.plan_core.specs.declared.criterion.Criterion.{Criterion}
 use Rattle.plan_core.specs.Values.{values_of, value_of}
@@ -39,22 +40,26 @@ pub record AreBefore (order : List Criterion) (i : ℕ) (bounds : List Below) : 
 abbrev pub OnlyZeroSkipped : Task → List Criterion → ℕ → (Criterion → ℕ) → Type 0
 OnlyZeroSkipped p order i cap = All (λ c. cap c ≡ 0 → greatest_of p c ≡ 0) (take i order)
 
--- before place i: the bounds hold what was reached, or nothing is left to be less; the criteria before have their bounds
-pub record SearchState (p : Task) (order : List Criterion) (i : ℕ) (held : List Below) (d : Drawing) (cap : Criterion → ℕ) (lines : Lines) : Type 0 where
+-- before place i: the bounds hold what was reached, or nothing is left to be less; the criteria before have their
+-- bounds
+pub record SearchState (p : Task) (order : List Criterion) (i : ℕ) (held : List Below) (d : Drawing)
+    (cap : Criterion → ℕ) (lines : Lines) : Type 0 where
   pub reached : Reached p order i d lines
   pub told : clause_lines lines ≡ expected_lines p.encoding order cap
   pub holds : (Holds p order i held (values_of d) × OnlyZeroSkipped p order i cap) ⊎ AllZero order i (values_of d)
   pub capped : AreCapped p order i d cap
 
 -- the search stopped, with the first s criteria settled
-pub record StoppedAt (p : Task) (order : List Criterion) (s : ℕ) (stop : Stop) (d : Drawing) (lines : Lines) : Type 0 where
-  pub reached : Reached p order s d lines
-  pub within : s < length order
-  pub positive : (c : Criterion) → slice_get order s ≡ Some c → 1 ≤ value_of (values_of d) c
-  pub told : IsAllExpected p.encoding (greatest_of p) order lines
-  pub cause : IsCauseWith p order s stop d lines
+pub record StoppedAt (p : Task) (order : List Criterion) (s : ℕ) (stop : Stop) (d : Drawing) (lines : Lines) : Type 0
+  where
+    pub reached : Reached p order s d lines
+    pub within : s < length order
+    pub positive : (c : Criterion) → slice_get order s ≡ Some c → 1 ≤ value_of (values_of d) c
+    pub told : IsAllExpected p.encoding (greatest_of p) order lines
+    pub cause : IsCauseWith p order s stop d lines
 
-abbrev pub Advances : Task → List Criterion → ℕ → List Below → Option Stop → ℕ → Drawing → (Criterion → ℕ) → Lines → Type 0
+abbrev pub Advances : Task → List Criterion → ℕ → List Below → Option Stop → ℕ → Drawing → (Criterion → ℕ) → Lines →
+    Type 0
 Advances p order i held None s d cap lines = SearchState p order (i + 1) held d cap lines
 Advances p order i held (Some stop) s d cap lines = StoppedAt p order s stop d lines
 
@@ -64,7 +69,9 @@ pub record IsCapOf (p : Task) (c : Criterion) (v : Values) (n : ℕ) : Type 0 wh
   pub positive : 1 ≤ greatest_of p c
 
 -- the bounds of the criterion at place i are told and its least value is reached, or the search stopped
-abbrev pub BoundedTo : Task → List Criterion → ℕ → List Below → Option Stop → ℕ → Drawing → (Criterion → ℕ) → Lines → Type 0
-BoundedTo p order i held None s d cap lines = Reached p order (i + 1) d lines × (clause_lines lines ≡ expected_lines p.encoding order cap)
+abbrev pub BoundedTo : Task → List Criterion → ℕ → List Below → Option Stop → ℕ → Drawing → (Criterion → ℕ) → Lines →
+    Type 0
+BoundedTo p order i held None s d cap lines = Reached p order (i + 1) d lines
+    × (clause_lines lines ≡ expected_lines p.encoding order cap)
     × OnlyZeroSkipped p order (i + 1) cap × Holds p order i held (values_of d) × AreCapped p order (i + 1) d cap
 BoundedTo p order i held (Some stop) s d cap lines = StoppedAt p order s stop d lines

@@ -1,5 +1,6 @@
 // One place of the order after another.
-ghost use Rattle.std.specs.Prelude.{◌≡◌, ◌≤◌, ◌<◌, ◌+◌, ◌++◌, ◌⊎◌, min, None, All, IfOk, OnOk, IsErrOf, length, slice_get, Some, MatchOption};
+ghost use Rattle.std.specs.Prelude.{◌≡◌, ◌≤◌, ◌<◌, ◌+◌, ◌++◌, ◌⊎◌, min, None, All, IfOk, OnOk, IsErrOf, length};
+ghost use Rattle.std.specs.Prelude.{slice_get, Some, MatchOption};
 ghost use Rattle.outside_io.specs.Counts.{Rose};
 ghost use Rattle.plan_core.specs.declared.criterion.Criterion.{Criterion as Measure};
 ghost use Rattle.plan_core.specs.Values.{values_of, value_of};
@@ -9,7 +10,8 @@ ghost use Rattle.lex_search.specs.Task.{IsLawful};
 ghost use Rattle.lex_search.specs.Asked.{IsWithinCap};
 ghost use Rattle.refute_log.specs.Steps.{Continues};
 ghost use Rattle.lex_search.specs.Caps.{AllZero};
-ghost use Rattle.lex_search.specs.State.{IsFirstPositive, AreBefore, Counted, SearchState, Advances, IsCapOf, BoundedTo, hold as hold_of};
+ghost use Rattle.lex_search.specs.State.{IsFirstPositive, AreBefore, Counted, SearchState, Advances, IsCapOf};
+ghost use Rattle.lex_search.specs.State.{BoundedTo, hold as hold_of};
 
 use crate::MinFault;
 use crate::lowering::lower;
@@ -88,8 +90,10 @@ fn bounded<O: Oracle>(
     ensures counted { IfOk result (λ r. r.stop ≡ None →
         Counted (O.task oracle.old) order.now (i + 1) (O.caps oracle.new) (O.vars oracle.new)) }
     ensures held { IfOk result (λ r. r.stop ≡ None → All (IsWithinCap (O.caps oracle.new)) held.now) }
-    ensures capped { IfOk result (λ r. r.stop ≡ None → (c : Measure) → slice_get order.now i ≡ Some c → O.caps oracle.new c ≡ cap) }
-    ensures vars { OnOk result (O.vars oracle.new ≡ expected_vars (O.task oracle.old).encoding order.now (O.caps oracle.new)) }
+    ensures capped { IfOk result (λ r. r.stop ≡ None → (c : Measure) → slice_get order.now i ≡ Some c →
+        O.caps oracle.new c ≡ cap) }
+    ensures vars { OnOk result (O.vars oracle.new ≡ expected_vars (O.task oracle.old).encoding order.now
+        (O.caps oracle.new)) }
     ensures settled { IfOk result (λ r. r.settled ≤ length order.now) }
     ensures lines { IfOk result (λ r. Continues O.knows O.log O.learnt oracle.old oracle.new (λ lines more.
         SearchState (O.task oracle.old) order.now i held.now best (O.caps oracle.old) lines →
@@ -140,11 +144,13 @@ pub(crate) fn advance<O: Oracle>(
         Counted (O.task oracle.old) order.now (i + 1) (O.caps oracle.new) (O.vars oracle.new)) }
     ensures held { IfOk result (λ r. r.stop ≡ None → All (IsWithinCap (O.caps oracle.new)) held.new.items) }
     ensures before { OnOk result (AreBefore order.now (i + 1) held.new.items) }
-    ensures vars { OnOk result (O.vars oracle.new ≡ expected_vars (O.task oracle.old).encoding order.now (O.caps oracle.new)) }
+    ensures vars { OnOk result (O.vars oracle.new ≡ expected_vars (O.task oracle.old).encoding order.now
+        (O.caps oracle.new)) }
     ensures settled { IfOk result (λ r. r.settled ≤ length order.now) }
     ensures lines { IfOk result (λ r. Continues O.knows O.log O.learnt oracle.old oracle.new (λ lines more.
         SearchState (O.task oracle.old) order.now i held.old.items best (O.caps oracle.old) lines →
-        Advances (O.task oracle.old) order.now i held.new.items r.stop r.settled r.best (O.caps oracle.new) (lines ++ more))) }
+        Advances (O.task oracle.old) order.now i held.new.items r.stop r.settled r.best (O.caps oracle.new)
+        (lines ++ more))) }
     ensures later { O.is_later oracle.old oracle.new }
     ensures faults { O.faults oracle.old ≤ O.faults oracle.new }
     ensures cause { IsErrOf result MinFault.Log → Rose (O.faults oracle.old) (O.faults oracle.new) }

@@ -17,20 +17,24 @@ ghost use Rattle.lex_search.specs.Outcome.{IsStoppedEnd, values_found};
 /// Where a search stopped, the criteria that it calls settled are those that are. Where it stopped for want of room the
 /// log is full. Where it stopped for its budget, so many clauses were learnt, and the last query is open.
 pub fn what_unfinished_searches_are()
-    ensures settled { (p : Task) (order : List Criterion) (s : ℕ) (stop : Cause) (found : Option Drawing) (lines : Lines) →
+    ensures settled { (p : Task) (order : List Criterion) (s : ℕ) (stop : Cause) (found : Option Drawing)
+        (lines : Lines) →
         IsStoppedEnd p order s stop found lines → Settled (greatest_of p) lines order (values_found found) s }
     ensures full { (p : Task) (order : List Criterion) (s : ℕ) (found : Option Drawing) (lines : Lines) →
-        IsStoppedEnd p order s RoomFull found lines → IsFullLog p.encoding (greatest_of p) order lines (values_found found) p.room }
+        IsStoppedEnd p order s RoomFull found lines → IsFullLog p.encoding (greatest_of p) order lines
+        (values_found found) p.room }
     ensures spent { (p : Task) (order : List Criterion) (s : ℕ) (found : Option Drawing) (lines : Lines) →
         IsStoppedEnd p order s BudgetSpent found lines → length (flat_map learnt lines) ≡ p.budget }
     ensures still_open { (p : Task) (order : List Criterion) (s : ℕ) (found : Option Drawing) (lines : Lines) →
         IsStoppedEnd p order s BudgetSpent found lines → Open lines }
 {}
 
-/// Each criterion that had its turn was reached with a lawful drawing, which has the values of the last one at the places
+/// Each criterion that had its turn was reached with a lawful drawing, which has the values of the last one at the
+/// places
 /// before and no less at its own; and it has the bounds that are built then.
 pub fn bounds_are_of_a_lawful_drawing()
-    ensures { (p : Task) (order : List Criterion) (s : ℕ) (d : Drawing) (cap : Criterion → ℕ) → AreCapped p order s d cap →
+    ensures { (p : Task) (order : List Criterion) (s : ℕ) (d : Drawing) (cap : Criterion → ℕ) →
+        AreCapped p order s d cap →
         (i : ℕ) (c : Criterion) → i < s → slice_get order i ≡ Some c →
         (reached : Drawing) × IsLawful p reached × HasSameValues order i (values_of reached) (values_of d)
         × (value_of (values_of d) c ≤ value_of (values_of reached) c)

@@ -108,7 +108,8 @@ pub trait Oracle {
         requires limit { cap ≤ greatest_of (task self.old) c }
         requires none { caps self.old c ≡ 0 }
         ensures ready { IfOk result (λ b. b ≡ AllOfThem → ready self.new) }
-        ensures built { IfOk result (λ b. AreBuiltTo (task self.old) (caps self.old) (vars self.old) c cap b (caps self.new) (vars self.new)) }
+        ensures built { IfOk result (λ b. AreBuiltTo (task self.old) (caps self.old) (vars self.old) c cap b
+            (caps self.new) (vars self.new)) }
         ensures lines { IfOk result (λ b. Continues knows log learnt self.old self.new (λ lines more.
             IsBuild (task self.old) (vars self.old) c cap b lines more)) }
         ensures leaves { OnErr result (Leaves (sum_lines (task self.old).encoding (vars self.old) c cap)
@@ -119,7 +120,8 @@ pub trait Oracle {
         ensures cause { IsErrOf result MinFault.Log → Rose (faults self.old) (faults self.new) };
 
     /// The lines cover the lawful drawings.
-    ghost covers: { (s : Self) (lines : Lines) → knows s lines → CoversDrawings (task s).graph (task s).above (task s).grid lines };
+    ghost covers: { (s : Self) (lines : Lines) → knows s lines → CoversDrawings (task s).graph (task s).above
+        (task s).grid lines };
 
     /// They may be told.
     ghost formed: { (s : Self) (lines : Lines) → knows s lines → MayAllBeTold lines };
@@ -140,7 +142,8 @@ pub trait Oracle {
     ghost few: { (s : Self) (lines : Lines) → knows s lines → vars s ≤ VARS };
 
     /// They have just these bounds.
-    ghost counted: { (s : Self) (lines : Lines) (c : Measure) → knows s lines → caps_of (greatest_of (task s)) lines c ≡ caps s c };
+    ghost counted: { (s : Self) (lines : Lines) (c : Measure) → knows s lines → caps_of (greatest_of (task s)) lines c
+        ≡ caps s c };
 
     /// No two of these bounds have one variable.
     ghost apart: { (s : Self) (lines : Lines) → knows s lines → AreApart lines };

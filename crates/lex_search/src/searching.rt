@@ -1,5 +1,6 @@
 // The whole search.
-ghost use Rattle.std.specs.Prelude.{◌≡◌, ◌≤◌, ◌<◌, ◌+◌, ◌++◌, [], None, All, IfOk, OnOk, IsErrOf, length, slice_get, Some};
+ghost use Rattle.std.specs.Prelude.{◌≡◌, ◌≤◌, ◌<◌, ◌+◌, ◌++◌, [], None, All, IfOk, OnOk, IsErrOf, length, slice_get};
+ghost use Rattle.std.specs.Prelude.{Some};
 ghost use Rattle.outside_io.specs.Counts.{Rose};
 ghost use Rattle.plan_core.specs.Order.{IsOrder};
 ghost use Rattle.lex_search.specs.Task.{IsLawful};
@@ -85,7 +86,8 @@ pub fn least_values<O: Oracle>(
     requires start { O.knows oracle.old (first_lines (O.task oracle.old)) }
     ensures right { IfOk result (IsRightOutcome (O.task oracle.old) wanted.now) }
     ensures lines { IfOk result (λ o. let p = O.task oracle.old in let from = first_lines p in
-        ToldBehind (O.knows oracle.new) (O.log oracle.old) (O.log oracle.new) (O.learnt oracle.old) (O.learnt oracle.new) from
+        ToldBehind (O.knows oracle.new) (O.log oracle.old) (O.log oracle.new) (O.learnt oracle.old)
+        (O.learnt oracle.new) from
         (λ more. IsOutcome p wanted.now o (from ++ more))) }
     ensures task { O.task oracle.new ≡ O.task oracle.old }
     ensures later { O.is_later oracle.old oracle.new }

@@ -2,7 +2,8 @@
 use Rattle.std.specs.Prelude.{◌≡◌, ◌≤◌, ◌<◌, ℕ, List, length, slice_index}
 use Rattle.std.specs.Fmt.{decimal}
 
--- the field is the decimal of this number, without a sign and without a zero in front, and the number lies within the limits
+-- the field is the decimal of this number, without a sign and without a zero in front, and the number lies within the
+-- limits
 pub record IsNumberIn (least greatest : ℕ) (field : List ℕ) (n : ℕ) : Type 0 where
   pub written : field ≡ decimal n
   pub from : least ≤ n

@@ -25,7 +25,8 @@ fn begins_canonical(field: &[u8]) -> bool
 /// The number that the field is the decimal of, if it is one that fits.
 fn value_of(field: &[u8]) -> Option<u64>
     requires { BeginsCanonical field.now }
-    ensures { MatchOption result ((n : ℕ) → n < 2 ^ 64 → field.now ≡ decimal n → ⊥) (λ n. (n < 2 ^ 64) × (field.now ≡ decimal n)) }
+    ensures { MatchOption result ((n : ℕ) → n < 2 ^ 64 → field.now ≡ decimal n → ⊥)
+        (λ n. (n < 2 ^ 64) × (field.now ≡ decimal n)) }
 {
     let text = std::str::from_utf8(field).ok()?;
     text.parse::<u64>().ok()
@@ -34,7 +35,8 @@ fn value_of(field: &[u8]) -> Option<u64>
 /// The number that the field is the decimal of, without a sign and without a zero in front, if it is one
 /// from `least` to `greatest`.
 pub fn read_long_number(field: &[u8], least: u64, greatest: u64) -> Option<u64>
-    ensures { MatchOption result ((n : ℕ) → IsNumberIn least greatest field.now n → ⊥) (IsNumberIn least greatest field.now) }
+    ensures { MatchOption result ((n : ℕ) → IsNumberIn least greatest field.now n → ⊥)
+        (IsNumberIn least greatest field.now) }
 {
     if !begins_canonical(field) {
         return None;
@@ -49,7 +51,8 @@ pub fn read_long_number(field: &[u8], least: u64, greatest: u64) -> Option<u64>
 
 /// The same for a number of 32 bits.
 pub fn read_number(field: &[u8], least: u32, greatest: u32) -> Option<u32>
-    ensures { MatchOption result ((n : ℕ) → IsNumberIn least greatest field.now n → ⊥) (IsNumberIn least greatest field.now) }
+    ensures { MatchOption result ((n : ℕ) → IsNumberIn least greatest field.now n → ⊥)
+        (IsNumberIn least greatest field.now) }
 {
     match read_long_number(field, u64::from(least), u64::from(greatest)) {
         Some(number) => Some(number as u32),

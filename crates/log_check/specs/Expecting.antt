@@ -11,7 +11,8 @@ use Rattle.log_check.specs.Expectation.{expectation}
 use Rattle.log_check.specs.Awaited.{lines_from, clause_after, AreParts}
 
 -- the formula and the parts are those of these criteria, with so many bounds of each
-pub record IsExpecting (y : Layout) (order : List Criterion) (cap : Criterion → ℕ) (e : Encoding) (parts : List Part) : Type 0 where
+pub record IsExpecting (y : Layout) (order : List Criterion) (cap : Criterion → ℕ) (e : Encoding) (parts : List Part) :
+    Type 0 where
   pub layout : layout_of e ≡ y
   pub whole : IsWhole e
   pub room : e.formula.room ≡ ROOM

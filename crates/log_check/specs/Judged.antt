@@ -21,14 +21,16 @@ use Rattle.log_check.specs.Refused.{IsRefusedFor}
 use Rattle.log_check.specs.Claimed.{CertifiesClaim, LacksAt, IsTrueClaim}
 
 -- the whole log is accepted and certifies the claim, which is so, whoever wrote the log
-pub record IsCertified (y : Layout) (order : List Criterion) (claim : Claim) (e : Expectation) (bytes : List ℕ) : Type 0 where
-  pub lines : Lines
-  pub whole : AcceptsFront e bytes lines []
-  pub certified : CertifiesClaim (limit_of y.graph y.grid) lines order claim
-  pub is_so : IsTrueClaim (Lawful y.graph (is_above y.order) y.grid) order claim
+pub record IsCertified (y : Layout) (order : List Criterion) (claim : Claim) (e : Expectation) (bytes : List ℕ) : Type 0
+  where
+    pub lines : Lines
+    pub whole : AcceptsFront e bytes lines []
+    pub certified : CertifiesClaim (limit_of y.graph y.grid) lines order claim
+    pub is_so : IsTrueClaim (Lawful y.graph (is_above y.order) y.grid) order claim
 
 -- the whole log is accepted, and this is the place that it lacks first
-pub record IsLacking (y : Layout) (order : List Criterion) (claim : Claim) (e : Expectation) (bytes : List ℕ) (place : ℕ) : Type 0 where
+pub record IsLacking (y : Layout) (order : List Criterion) (claim : Claim) (e : Expectation) (bytes : List ℕ)
+    (place : ℕ) : Type 0 where
   pub lines : Lines
   pub whole : AcceptsFront e bytes lines []
   pub lacks : LacksAt (limit_of y.graph y.grid) lines order claim place
@@ -61,10 +63,12 @@ abbrev pub IsLogVerdict : Layout → List Criterion → Claim → Expectation �
 IsLogVerdict y order claim e bytes Certified = IsCertified y order claim e bytes
 IsLogVerdict y order claim e bytes (Lacks place) = IsLacking y order claim e bytes place
 IsLogVerdict y order claim e bytes (Refused why number) = IsLineRefused e bytes why number
-IsLogVerdict y order claim e bytes (Faulty what number) = IsTextRefused e bytes what number ⊎ IsHeaderRefused bytes what number
+IsLogVerdict y order claim e bytes (Faulty what number) = IsTextRefused e bytes what number
+    ⊎ IsHeaderRefused bytes what number
 
 -- the verdict on the log of a layout's drawings and an order, by what is expected of the whole text
-pub record IsLogJudged (y : Layout) (order : List Criterion) (claim : Claim) (log : List ℕ) (verdict : Verdict) : Type 0 where
-  pub expected : Expectation
-  pub is_expected : IsExpectedOf y order log expected
-  pub is_verdict : IsLogVerdict y order claim expected log verdict
+pub record IsLogJudged (y : Layout) (order : List Criterion) (claim : Claim) (log : List ℕ) (verdict : Verdict) : Type 0
+  where
+    pub expected : Expectation
+    pub is_expected : IsExpectedOf y order log expected
+    pub is_verdict : IsLogVerdict y order claim expected log verdict

@@ -7,7 +7,8 @@ use Rattle.refute_log.specs.LineText.{IsTextOf, HasLineFault}
 use Rattle.refute_log.specs.Told.{Lines}
 use Rattle.refute_log.specs.Log.{clause_line, clause_lines}
 use Rattle.refute_check.specs.declared.fault.LineFault.{LineFault}
-use Rattle.refute_check.specs.declared.fault.LineFault.TheVariants.{NewVar, WrongQuery, Room, NotImplied, NotNew, Memory}
+use Rattle.refute_check.specs.declared.fault.LineFault.TheVariants.{NewVar, WrongQuery, Room, NotImplied, NotNew}
+use Rattle.refute_check.specs.declared.fault.LineFault.TheVariants.{Memory}
 use Rattle.certified_check.specs.Lacking.{told_bound}
 use Rattle.log_check.specs.declared.claim.Claim.{Claim}
 use Rattle.log_check.specs.declared.reading.Next.{Next}
@@ -67,7 +68,8 @@ abbrev pub IsCompared : Expectation → Lines → LogLine → Compared → Type 
 IsCompared e before line compared.Same = clause_line line ≡ []
 IsCompared e before line (compared.Next a) = AreAwaited e (before ++ line ∷ []) (Some a)
 IsCompared e before line (compared.Wrong refusals.Room) = IsOverLimits e before line
-IsCompared e before line (compared.Wrong refusals.Differs) = (IsOverLimits e before line → ⊥) × (IsNextExpected e before line → ⊥)
+IsCompared e before line (compared.Wrong refusals.Differs) = (IsOverLimits e before line → ⊥)
+    × (IsNextExpected e before line → ⊥)
 IsCompared e before line (compared.Wrong why) = ⊥
 
 abbrev pub IsNextAwaited : Compared → Type 0
@@ -98,4 +100,5 @@ AreLinesJudged greatest lines order claim verdict = ⊥
 -- the text is judged up to its end, or to a line that is refused or faulty
 abbrev pub IsTextJudged : (Criterion → ℕ) → List Criterion → Claim → Expectation → List ℕ → Verdict → Type 0
 IsTextJudged greatest order claim e bytes verdict =
-    ((lines : Lines) × AcceptsFront e bytes lines [] × AreLinesJudged greatest lines order claim verdict) ⊎ IsStopped e bytes verdict
+    ((lines : Lines) × AcceptsFront e bytes lines [] × AreLinesJudged greatest lines order claim verdict)
+    ⊎ IsStopped e bytes verdict

@@ -7,7 +7,8 @@ ghost use Rattle.log_check.specs.Expectation.{Expectation};
 ghost use Rattle.log_check.specs.Accepted.{AreAccepted};
 ghost use Rattle.log_check.specs.Refused.{IsRefusedFor};
 ghost use Rattle.log_check.specs.Awaited.{IsAwaited};
-ghost use Rattle.log_check.specs.Progress.{AreAwaited, HasAccepted, HasCompared, IsCompared, IsNextAwaited, refusals_of};
+ghost use Rattle.log_check.specs.Progress.{AreAwaited, HasAccepted, HasCompared, IsCompared, IsNextAwaited};
+ghost use Rattle.log_check.specs.Progress.{refusals_of};
 
 use crate::awaited::{Awaited, behind};
 use crate::verdict::Refusal;

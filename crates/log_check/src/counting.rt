@@ -44,7 +44,8 @@ fn one_more(numbers: &Values, c: Criterion) -> Values
 /// The numbers with one more of a criterion, if one is found, none above its greatest.
 fn counted(numbers: &Values, greatest: &Values, found: Option<Criterion>) -> Values
     requires { (c : Measured) → value_of numbers.now c ≤ value_of greatest.now c }
-    ensures { (d : Measured) → value_of result d ≡ min (value_of numbers.now d + count_of found d) (value_of greatest.now d) }
+    ensures { (d : Measured) → value_of result d ≡ min (value_of numbers.now d + count_of found d)
+        (value_of greatest.now d) }
 {
     match found {
         None => *numbers,
@@ -85,7 +86,8 @@ fn bounded(alloc: Global, text: &[u8]) -> Result<Option<Criterion>, OutOfMemory>
 
 /// How many Bound lines without a fault the text has of each criterion, none above its greatest.
 pub fn caps_in(alloc: Global, log: &[u8], greatest: &Values) -> Result<Values, OutOfMemory>
-    ensures { IfOk result (λ v. (lines : Lines) × HasFaultless log.now lines × ((c : Measured) → value_of v c ≡ caps (value_of greatest.now) lines c)) }
+    ensures { IfOk result (λ v. (lines : Lines) × HasFaultless log.now lines
+        × ((c : Measured) → value_of v c ≡ caps (value_of greatest.now) lines c)) }
 {
     let mut numbers = Values {
         height: 0,

@@ -41,7 +41,8 @@ fn begun<'a>(
     requires { IsOrderOf g.now t.now }
     ensures so_far { IfOk result (λ e. (cap : Measured → ℕ) →
         IsExpecting (layout g.now t.now grid.now) [] cap e.encoded e.parts.items) }
-    ensures full { IsErrOf result Room → (cap : Measured → ℕ) → PassesLimits (expectation (layout g.now t.now grid.now) [] cap) }
+    ensures full { IsErrOf result Room → (cap : Measured → ℕ) → PassesLimits
+        (expectation (layout g.now t.now grid.now) [] cap) }
 {
     let encoded = encode(alloc, g, t, grid, ROOM)?;
     let mut parts = Vec::new(alloc);
@@ -65,16 +66,21 @@ fn add_bounds<'a>(
     ensures room { e.new.encoded.formula.room ≡ e.old.encoded.formula.room }
     ensures whole { OnOk result (IsWhole e.new.encoded) }
     ensures clauses { let b = bound c e.old.encoded.formula.vars cap in OnOk result (e.new.encoded.formula.clauses ≡
-        e.old.encoded.formula.clauses ++ clauses_of_bound e.old.encoded.graph (encoded_vars e.old.encoded) e.old.encoded.grid b) }
+        e.old.encoded.formula.clauses ++ clauses_of_bound e.old.encoded.graph (encoded_vars e.old.encoded)
+        e.old.encoded.grid b) }
     ensures vars { let b = bound c e.old.encoded.formula.vars cap in OnOk result (e.new.encoded.formula.vars ≡
-        e.old.encoded.formula.vars + size_of_bound e.old.encoded.graph (encoded_vars e.old.encoded) e.old.encoded.grid b) }
+        e.old.encoded.formula.vars + size_of_bound e.old.encoded.graph (encoded_vars e.old.encoded) e.old.encoded.grid
+        b) }
     ensures few { OnOk result (e.old.encoded.formula.vars + cap ≤ VARS) }
     ensures parts { OnOk result (e.new.parts.items ≡
-        e.old.parts.items ++ Clauses (length e.new.encoded.formula.clauses) ∷ BoundsOf c e.old.encoded.formula.vars cap ∷ []) }
+        e.old.parts.items ++ Clauses (length e.new.encoded.formula.clauses) ∷ BoundsOf c e.old.encoded.formula.vars cap
+        ∷ []) }
     ensures full { let b = bound c e.old.encoded.formula.vars cap in
         let more = clauses_of_bound e.old.encoded.graph (encoded_vars e.old.encoded) e.old.encoded.grid b in
-        let size = size_of_bound e.old.encoded.graph (encoded_vars e.old.encoded) e.old.encoded.grid b in IsErrOf result Room →
-        (VARS < e.old.encoded.formula.vars + size) ⊎ (e.old.encoded.formula.room < words_of (e.old.encoded.formula.clauses ++ more)) }
+        let size = size_of_bound e.old.encoded.graph (encoded_vars e.old.encoded) e.old.encoded.grid b in IsErrOf result
+        Room →
+        (VARS < e.old.encoded.formula.vars + size) ⊎ (e.old.encoded.formula.room < words_of
+        (e.old.encoded.formula.clauses ++ more)) }
 {
     let last = e.encoded.formula().vars();
     criterion_bound(alloc, &mut e.encoded, c, cap)?;
@@ -98,10 +104,13 @@ fn add_place<'a>(
 ) -> Result<(), CnfFault>
     requires place { i < length order.now }
     requires within { (c : Measured) → value_of caps.now c ≤ limit_of e.old.encoded.graph e.old.encoded.grid c }
-    requires so_far { IsExpecting (layout_of e.old.encoded) (take i order.now) (value_of caps.now) e.old.encoded e.old.parts.items }
+    requires so_far { IsExpecting (layout_of e.old.encoded) (take i order.now) (value_of caps.now) e.old.encoded
+        e.old.parts.items }
     ensures so_far { OnOk result
-        (IsExpecting (layout_of e.old.encoded) (take (i + 1) order.now) (value_of caps.now) e.new.encoded e.new.parts.items) }
-    ensures full { IsErrOf result Room → PassesLimits (expectation (layout_of e.old.encoded) (take (i + 1) order.now) (value_of caps.now)) }
+        (IsExpecting (layout_of e.old.encoded) (take (i + 1) order.now) (value_of caps.now) e.new.encoded
+        e.new.parts.items) }
+    ensures full { IsErrOf result Room → PassesLimits (expectation (layout_of e.old.encoded) (take (i + 1) order.now)
+        (value_of caps.now)) }
 {
     let c = order.get(i);
     let cap = caps.of(c);
@@ -122,7 +131,8 @@ fn add_places<'a>(
     requires so_far { IsExpecting (layout_of e.old.encoded) [] (value_of caps.now) e.old.encoded e.old.parts.items }
     ensures so_far { OnOk result
         (IsExpecting (layout_of e.old.encoded) order.now (value_of caps.now) e.new.encoded e.new.parts.items) }
-    ensures full { IsErrOf result Room → PassesLimits (expectation (layout_of e.old.encoded) order.now (value_of caps.now)) }
+    ensures full { IsErrOf result Room → PassesLimits (expectation (layout_of e.old.encoded) order.now
+        (value_of caps.now)) }
 {
     for i in 0..order.len() {
         add_place(alloc, e, order, caps, i)?;
@@ -142,9 +152,12 @@ pub fn expected_of<'a>(
 ) -> Result<Expected<'a>, CnfFault>
     requires order { IsOrderOf g.now t.now }
     requires within { (c : Measured) → value_of caps.now c ≤ limit_of g.now grid.now c }
-    ensures so_far { IfOk result (λ e. IsExpecting (layout g.now t.now grid.now) order.now (value_of caps.now) e.encoded e.parts.items) }
-    ensures fits { OnOk result (PassesLimits (expectation (layout g.now t.now grid.now) order.now (value_of caps.now)) → ⊥) }
-    ensures full { IsErrOf result Room → PassesLimits (expectation (layout g.now t.now grid.now) order.now (value_of caps.now)) }
+    ensures so_far { IfOk result (λ e. IsExpecting (layout g.now t.now grid.now) order.now (value_of caps.now) e.encoded
+        e.parts.items) }
+    ensures fits { OnOk result (PassesLimits (expectation (layout g.now t.now grid.now) order.now (value_of caps.now)) →
+        ⊥) }
+    ensures full { IsErrOf result Room → PassesLimits (expectation (layout g.now t.now grid.now) order.now
+        (value_of caps.now)) }
 {
     let mut e = begun(alloc, g, t, grid)?;
     add_places(alloc, &mut e, order, caps)?;

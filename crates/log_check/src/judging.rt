@@ -47,7 +47,8 @@ fn judge_lines(
     requires begun { (e : Expectation) × HasAccepted e [] progress.old }
     requires short { length log.now ≤ MAX_LOG_BYTES }
     ensures judged { IfOk result (λ r. (e : Expectation) → HasAccepted e [] progress.old →
-        MatchOption r ((lines : Lines) × AcceptsFront e log.now lines [] × HasAccepted e lines progress.new) (IsStopped e log.now)) }
+        MatchOption r ((lines : Lines) × AcceptsFront e log.now lines [] × HasAccepted e lines progress.new)
+        (IsStopped e log.now)) }
     ensures known { IfOk result (λ r. MatchOption r
         ((lines : Lines) × KnowsLog lines progress.new.checker progress.new.bounds.items) (λ _. ⊤)) }
 {
@@ -127,7 +128,8 @@ fn judge_text(
     requires awaited { (e : Expectation) × AreAwaited e [] awaited }
     requires claim { IsClaimOf order.now claim.now }
     requires short { length log.now ≤ MAX_LOG_BYTES }
-    ensures { IfOk result (λ v. (e : Expectation) → AreAwaited e [] awaited.entry → IsTextJudged (value_of greatest.now) order.now claim.now e log.now v) }
+    ensures { IfOk result (λ v. (e : Expectation) → AreAwaited e [] awaited.entry →
+        IsTextJudged (value_of greatest.now) order.now claim.now e log.now v) }
 {
     let mut progress = Progress {
         awaited,

@@ -23,19 +23,22 @@ ghost use Rattle.log_check.specs.Refused.{IsRefusedFor};
 ghost use Rattle.log_check.specs.Claimed.{IsClaimOf, CertifiesClaim};
 ghost use Rattle.log_check.specs.Judged.{IsLogJudged};
 
-/// One verdict at most is due to a log, whoever wrote it: its lines without a fault are one list, what is expected of it
+/// One verdict at most is due to a log, whoever wrote it: its lines without a fault are one list, what is expected of
+/// it
 /// is one, and it stops at one place for one cause.
 pub fn one_verdict_is_due()
     ensures lines { (bytes : List ℕ) (a b : Lines) → HasFaultless bytes a → HasFaultless bytes b → a ≡ b }
     ensures expected { (y : Layout) (order : List Criterion) (bytes : List ℕ) (a b : Expectation) →
         IsExpectedOf y order bytes a → IsExpectedOf y order bytes b → a ≡ b }
-    ensures cause { (e : Expectation) (before : Lines) (line : Line) (a b : Why) → IsRefusedFor e before line a → IsRefusedFor e before line b → a ≡ b }
+    ensures cause { (e : Expectation) (before : Lines) (line : Line) (a b : Why) → IsRefusedFor e before line a →
+        IsRefusedFor e before line b → a ≡ b }
     ensures verdict { (y : Layout) (order : List Criterion) (claim : Claimed) (log : List ℕ) (a b : Answer) →
         IsStationGraph y.graph → IsOrderOf y.graph y.order → IsGrid y.grid → IsClaimOf order claim →
         IsLogJudged y order claim log a → IsLogJudged y order claim log b → a ≡ b }
 {}
 
-/// What is certified is so, whoever wrote the log: no lawful drawing is better on the claimed places, or none is lawful.
+/// What is certified is so, whoever wrote the log: no lawful drawing is better on the claimed places, or none is
+/// lawful.
 pub fn what_is_certified_is_so()
     ensures least { (y : Layout) (order : List Criterion) (v : Values) (places : ℕ) (log : List ℕ) →
         IsLogJudged y order (Least v places) log Certified →
@@ -47,16 +50,20 @@ pub fn what_is_certified_is_so()
 /// Certified is the verdict exactly where all lines of the whole log are accepted, with what is expected of it, and
 /// certify the claim.
 pub fn certified_exactly()
-    ensures due { (y : Layout) (order : List Criterion) (claim : Claimed) (log : List ℕ) (e : Expectation) (lines : Lines) (v : Answer) →
+    ensures due { (y : Layout) (order : List Criterion) (claim : Claimed) (log : List ℕ) (e : Expectation)
+        (lines : Lines) (v : Answer) →
         IsStationGraph y.graph → IsOrderOf y.graph y.order → IsGrid y.grid → IsClaimOf order claim →
-        IsExpectedOf y order log e → AcceptsFront e log lines [] → CertifiesClaim (limit_of y.graph y.grid) lines order claim →
+        IsExpectedOf y order log e → AcceptsFront e log lines [] →
+        CertifiesClaim (limit_of y.graph y.grid) lines order claim →
         IsLogJudged y order claim log v → v ≡ Certified }
-    ensures only { (y : Layout) (order : List Criterion) (claim : Claimed) (log : List ℕ) → IsLogJudged y order claim log Certified →
+    ensures only { (y : Layout) (order : List Criterion) (claim : Claimed) (log : List ℕ) →
+        IsLogJudged y order claim log Certified →
         (e : Expectation) × (lines : Lines) × IsExpectedOf y order log e × AcceptsFront e log lines []
         × CertifiesClaim (limit_of y.graph y.grid) lines order claim }
 {}
 
 /// Accepted lines are closed under fronts.
 pub fn fronts_are_accepted()
-    ensures { (e : Expectation) (lines : Lines) (line : Line) → AreAccepted e (lines ++ line ∷ []) → AreAccepted e lines }
+    ensures { (e : Expectation) (lines : Lines) (line : Line) → AreAccepted e (lines ++ line ∷ []) →
+        AreAccepted e lines }
 {}

@@ -4,7 +4,8 @@ ghost use Rattle.log_check.specs.Refused.{word_of};
 
 use refute_log::LogWhat;
 
-/// Why a line of a log is refused. Where several causes hold, the first of these is answered: no room for what is expected,
+/// Why a line of a log is refused. Where several causes hold, the first of these is answered: no room for what is
+/// expected,
 /// `Differs`, `NewVar`, `WrongQuery`, no room for the line's clause, `NotImplied`, `NotNew`.
 #[derive(Clone, Copy, Debug, PartialEq, Eq)]
 pub enum Refusal {

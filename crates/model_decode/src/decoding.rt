@@ -94,7 +94,8 @@ fn heights_of(vars: &EdgeVars, width: u16, m: &Truths) -> ArrayVec<u16, 65>
     requires there { (c : ℕ) → c ≤ width → IntIsIn (length m.now) ((lits_of vars.now).height c) }
     requires model { (c : ℕ) → c ≤ width → SatisfiesAll (assignment m.now) (int_clauses ((lits_of vars.now).height c)) }
     ensures count { length result.items ≡ width + 1 }
-    ensures each { (c : ℕ) → c ≤ width → Reads (assignment m.now) ((lits_of vars.now).height c) (by_column result.items c) }
+    ensures each { (c : ℕ) → c ≤ width → Reads (assignment m.now) ((lits_of vars.now).height c)
+        (by_column result.items c) }
 {
     let mut heights = ArrayVec::<u16, 65>::new();
     let end = width + 1;

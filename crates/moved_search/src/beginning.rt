@@ -100,7 +100,8 @@ fn fewest_with<L: LogSink>(
 ///
 /// The order `t` is that of the graph's edges, and `former` has an entry for each node. Where the formula has no room,
 /// nothing is told. Else its clauses are told, the questions, what is learnt, and the answers. `Spent` comes where as
-/// many clauses were learnt as the budget allows, `Room` where what comes next has no room: too many words or variables.
+/// many clauses were learnt as the budget allows, `Room` where what comes next has no room: too many words or
+/// variables.
 pub fn fewest_moved<L: LogSink>(
     alloc: Global,
     g: &PortGraph,

@@ -1,7 +1,8 @@
 //! The search for a drawing of whose nodes as few as can be stand elsewhere than they stood, with the solver.
 //!
 //! `fewest_moved` gives the clauses of the drawings and of the count to a solver (`counting`, `telling`), and searches
-//! as `fewest_search` says (`beginning`). `search` makes one thing that is asked of the formula, the solver and the log:
+//! as `fewest_search` says (`beginning`). `search` makes one thing that is asked of the formula, the solver and the
+//! log:
 //! `asking` turns a question into an assumption and an answer into a drawing, `counted` counts a drawing's moved nodes.
 //!
 //! `specs/Known` says what is searched, when the solver can be asked and which lines are known then, `specs/Search` the

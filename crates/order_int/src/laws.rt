@@ -6,7 +6,8 @@ ghost use Rattle.order_int.specs.OrderInt.{int_clauses, Reads, number};
 
 /// An assignment satisfies an integer's clauses exactly where it gives the integer a number.
 pub fn clauses_give_a_number()
-    ensures number { (v : Assignment) (i : IntVars) → i.low ≤ i.high → SatisfiesAll v (int_clauses i) → Reads v i (number v i) }
+    ensures number { (v : Assignment) (i : IntVars) → i.low ≤ i.high → SatisfiesAll v (int_clauses i) →
+        Reads v i (number v i) }
     ensures clauses { (v : Assignment) (i : IntVars) (n : ℕ) → Reads v i n → SatisfiesAll v (int_clauses i) }
 {}
 

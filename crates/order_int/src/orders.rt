@@ -24,7 +24,8 @@ pub fn less_equal(
     requires unless { AreThere f.old.vars unless.now }
     requires plus { plus ≤ 65535 }
     ensures adds { AddsClauses result f.old f.new (le_clauses a.now b.now plus unless.now) (length unless.now + 2) }
-    ensures size { words_of f.new.clauses ≤ words_of f.old.clauses + (length unless.now + 5) * (a.now.high - a.now.low + 2) }
+    ensures size { words_of f.new.clauses ≤ words_of f.old.clauses + (length unless.now + 5) *
+        (a.now.high - a.now.low + 2) }
     ensures means { (v : Assignment) (m n : ℕ) → Reads v a.now m → Reads v b.now n →
         (SatisfiesAll v (le_clauses a.now b.now plus unless.now) ↔ (Satisfies v unless.now ⊎ (m + plus ≤ n))) }
 {

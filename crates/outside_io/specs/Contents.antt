@@ -6,7 +6,8 @@ use Rattle.std.specs.declared.option.Option.{Option}
 abbrev pub Told : Type 0
 Told = List ℕ → Option (List ℕ)
 
--- files at one moment: what stands under each name, where that is told; how many faults of reading there were, how many of
+-- files at one moment: what stands under each name, where that is told; how many faults of reading there were, how many
+-- of
 -- creating and appending, and how many reads were done
 pub record FilesAt : Type 0 where
   pub contents : Option Told
@@ -65,7 +66,8 @@ pub record MayAppendTo (name bytes : List ℕ) (before after : Told) : Type 0 wh
 -- the contents aren't told, some bytes do, at most limit
 abbrev pub ReadsFront : Option Told → List ℕ → ℕ → List ℕ → List ℕ → Type 0
 ReadsFront None name limit old new = (bytes : List ℕ) × (length bytes ≤ limit) × (new ≡ old ++ bytes)
-ReadsFront (Some told) name limit old new = (bytes : List ℕ) × (told name ≡ Some bytes) × (new ≡ old ++ take limit bytes)
+ReadsFront (Some told) name limit old new = (bytes : List ℕ) × (told name ≡ Some bytes)
+    × (new ≡ old ++ take limit bytes)
 
 -- what was held before still begins the list
 abbrev pub Begins : List ℕ → List ℕ → Type 0

@@ -2,7 +2,8 @@
 ghost use Rattle.std.specs.Prelude.{◌≡◌, ◌≤◌, OnOk, OnErr, IsErrOf};
 ghost use Rattle.outside_io.specs.declared.files.FileFault.TheVariants.{Memory};
 ghost use Rattle.outside_io.specs.Counts.{IsCount, Rose, next_count};
-ghost use Rattle.outside_io.specs.Contents.{FilesAt, WhereTold, SameFiles, Sets, MaySet, Creates, MayCreate, AppendsTo, MayAppendTo, ReadsFront, Begins};
+ghost use Rattle.outside_io.specs.Contents.{FilesAt, WhereTold, SameFiles, Sets, MaySet, Creates, MayCreate, AppendsTo};
+ghost use Rattle.outside_io.specs.Contents.{MayAppendTo, ReadsFront, Begins};
 
 use plan_core::OutOfMemory;
 use std::alloc::{AllocError, AllocFailed};
@@ -77,8 +78,10 @@ pub trait Files {
     /// Adds the bytes at the end of the file. A name that isn't there is a fault. After an error some
     /// of the bytes may stand there, from the first on. No other file is changed.
     fn append(&mut self, name: &str, bytes: &[u8]) -> Result<(), FileFault>
-        ensures ok { OnOk result (WhereTold (at self.old).contents (at self.new).contents (AppendsTo name.now bytes.now)) }
-        ensures err { OnErr result (WhereTold (at self.old).contents (at self.new).contents (MayAppendTo name.now bytes.now)) }
+        ensures ok { OnOk result (WhereTold (at self.old).contents (at self.new).contents
+            (AppendsTo name.now bytes.now)) }
+        ensures err { OnErr result (WhereTold (at self.old).contents (at self.new).contents
+            (MayAppendTo name.now bytes.now)) }
         ensures later { (at self.old).write_faults ≤ (at self.new).write_faults }
         ensures cause { IsErrOf result FileFault.Failed → Rose (at self.old).write_faults (at self.new).write_faults }
         ensures read_faults { (at self.new).read_faults ≡ (at self.old).read_faults }
@@ -92,7 +95,8 @@ pub trait Files {
 /// stood, or has some of the bytes, from the first on. No other file is changed.
 pub fn write_file<F: Files>(files: &mut F, name: &str, bytes: &[u8]) -> Result<(), FileFault>
     ensures ok { OnOk result (WhereTold (F.at files.old).contents (F.at files.new).contents (Sets name.now bytes.now)) }
-    ensures err { OnErr result (WhereTold (F.at files.old).contents (F.at files.new).contents (MaySet name.now bytes.now)) }
+    ensures err { OnErr result (WhereTold (F.at files.old).contents (F.at files.new).contents
+        (MaySet name.now bytes.now)) }
     ensures later { (F.at files.old).write_faults ≤ (F.at files.new).write_faults }
     ensures cause { IsErrOf result FileFault.Failed → Rose (F.at files.old).write_faults (F.at files.new).write_faults }
     ensures read_faults { (F.at files.new).read_faults ≡ (F.at files.old).read_faults }

@@ -34,7 +34,13 @@ impl<'a, R: std::rt::Files> HostFiles<'a, R> {
 }
 
 impl<'a, R: std::rt::Files> Files for HostFiles<'a, R> {
-    ghost at = { λ s. record { contents = None; read_faults = s.read_faults.value; write_faults = s.write_faults.value; reads = s.reads.value } };
+    ghost at = { λ s. record {
+      contents = None;
+      read_faults = s.read_faults.value;
+      write_faults =
+          s.write_faults.value;
+      reads = s.reads.value;
+    } };
 
     ghost counts_end = { λ s. (s.read_faults.in_range, s.write_faults.in_range, s.reads.in_range) };
 

@@ -1,7 +1,8 @@
 // Files in memory whose calls can be made to fail.
 ghost use Rattle.std.specs.Prelude.{◌≡◌, ◌≤◌, ◌↔◌, ◌⊎◌, Some, None, IfOk, OnOk, OnErr, IsErrOf};
 ghost use Rattle.std.specs.Option.{option_copied};
-ghost use Rattle.outside_io.specs.Contents.{WhereTold, SameFiles, Sets, TellsAt, Creates, MayCreate, AppendsTo, MayAppendTo, ReadsFront, Begins};
+ghost use Rattle.outside_io.specs.Contents.{WhereTold, SameFiles, Sets, TellsAt, Creates, MayCreate, AppendsTo};
+ghost use Rattle.outside_io.specs.Contents.{MayAppendTo, ReadsFront, Begins};
 ghost use Rattle.outside_io.specs.MemoryFiles.{files_told, files_plan, files_counts, after_read, after_write};
 ghost use Rattle.outside_io.specs.FailingCalls.{IsNextToFail, after_call};
 
@@ -44,10 +45,14 @@ impl MemoryFiles {
     /// Sets the bytes under the name, whether it was there or not. It isn't a call of the trait, so
     /// no number stands for it, and no fault can come of it.
     pub fn add(&mut self, name: &str, bytes: &[u8]) -> Result<(), OutOfMemory>
-        ensures ok { OnOk result (WhereTold (⟦<MemoryFiles as Files>⟧.at self.old).contents (⟦<MemoryFiles as Files>⟧.at self.new).contents (Sets name.now bytes.now)) }
-        ensures err { OnErr result (WhereTold (⟦<MemoryFiles as Files>⟧.at self.old).contents (⟦<MemoryFiles as Files>⟧.at self.new).contents SameFiles) }
-        ensures read_faults { (⟦<MemoryFiles as Files>⟧.at self.new).read_faults ≡ (⟦<MemoryFiles as Files>⟧.at self.old).read_faults }
-        ensures write_faults { (⟦<MemoryFiles as Files>⟧.at self.new).write_faults ≡ (⟦<MemoryFiles as Files>⟧.at self.old).write_faults }
+        ensures ok { OnOk result (WhereTold (⟦<MemoryFiles as Files>⟧.at self.old).contents
+            (⟦<MemoryFiles as Files>⟧.at self.new).contents (Sets name.now bytes.now)) }
+        ensures err { OnErr result (WhereTold (⟦<MemoryFiles as Files>⟧.at self.old).contents
+            (⟦<MemoryFiles as Files>⟧.at self.new).contents SameFiles) }
+        ensures read_faults { (⟦<MemoryFiles as Files>⟧.at self.new).read_faults ≡
+            (⟦<MemoryFiles as Files>⟧.at self.old).read_faults }
+        ensures write_faults { (⟦<MemoryFiles as Files>⟧.at self.new).write_faults
+            ≡ (⟦<MemoryFiles as Files>⟧.at self.old).write_faults }
         ensures reads { (⟦<MemoryFiles as Files>⟧.at self.new).reads ≡ (⟦<MemoryFiles as Files>⟧.at self.old).reads }
         ensures plan { files_plan self.new ≡ files_plan self.old }
     {
@@ -63,7 +68,13 @@ impl MemoryFiles {
 }
 
 impl Files for MemoryFiles {
-    ghost at = { λ s. record { contents = Some (files_told s); read_faults = s.read_faults.value; write_faults = s.write_faults.value; reads = s.reads.value } };
+    ghost at = { λ s. record {
+      contents = Some (files_told s);
+      read_faults = s.read_faults.value;
+      write_faults =
+          s.write_faults.value;
+      reads = s.reads.value;
+    } };
 
     ghost counts_end = { λ s. (s.read_faults.in_range, s.write_faults.in_range, s.reads.in_range) };
 
@@ -74,7 +85,8 @@ impl Files for MemoryFiles {
         ensures begins { Begins into.old.items into.new.items }
         ensures same { SameFiles (files_told self.old) (files_told self.new) }
         ensures counts { files_counts self.new ≡ after_read result (files_counts self.old) }
-        ensures failed { IsErrOf result FileFault.Failed ↔ (IsNextToFail (files_plan self.old) ⊎ (files_told self.old name.now ≡ None)) }
+        ensures failed { IsErrOf result FileFault.Failed ↔ (IsNextToFail (files_plan self.old)
+            ⊎ (files_told self.old name.now ≡ None)) }
         ensures plan { files_plan self.new ≡ after_call (files_plan self.old) }
     {
         if self.plan.next_fails() || !self.named.read_front(name, limit, into)? {
@@ -106,7 +118,8 @@ impl Files for MemoryFiles {
         ensures ok { OnOk result (AppendsTo name.now bytes.now (files_told self.old) (files_told self.new)) }
         ensures err { OnErr result (MayAppendTo name.now bytes.now (files_told self.old) (files_told self.new)) }
         ensures counts { files_counts self.new ≡ after_write result (files_counts self.old) }
-        ensures failed { IsErrOf result FileFault.Failed ↔ (IsNextToFail (files_plan self.old) ⊎ (files_told self.old name.now ≡ None)) }
+        ensures failed { IsErrOf result FileFault.Failed ↔ (IsNextToFail (files_plan self.old)
+            ⊎ (files_told self.old name.now ≡ None)) }
         ensures plan { files_plan self.new ≡ after_call (files_plan self.old) }
     {
         if self.plan.next_fails() || !self.named.append(name, bytes)? {

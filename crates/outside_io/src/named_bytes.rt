@@ -47,7 +47,8 @@ impl NamedBytes {
     /// Adds bytes at the end of those under the name. Tells whether the name is there; where it isn't,
     /// nothing changes.
     pub fn append(&mut self, name: &str, bytes: &[u8]) -> Result<bool, OutOfMemory>
-        ensures ok { IfOk result (λ found. MatchBool found (AppendsTo name.now bytes.now (told_of self.old) (told_of self.new)) (told_of self.old name.now ≡ None)) }
+        ensures ok { IfOk result (λ found. MatchBool found (AppendsTo name.now bytes.now (told_of self.old)
+            (told_of self.new)) (told_of self.old name.now ≡ None)) }
         ensures absent { IfOk result (λ found. found ≡ false → SameFiles (told_of self.old) (told_of self.new)) }
         ensures err { OnErr result (SameFiles (told_of self.old) (told_of self.new)) }
         ensures there { OnErr result (told_of self.old name.now ≢ None) }
@@ -69,7 +70,8 @@ impl NamedBytes {
         limit: usize,
         into: &mut Vec<u8>,
     ) -> Result<bool, OutOfMemory>
-        ensures ok { IfOk result (λ found. MatchBool found (ReadsFront (Some (told_of self.now)) name.now limit into.old.items into.new.items) (told_of self.now name.now ≡ None)) }
+        ensures ok { IfOk result (λ found. MatchBool found (ReadsFront (Some (told_of self.now)) name.now limit
+            into.old.items into.new.items) (told_of self.now name.now ≡ None)) }
         ensures absent { IfOk result (λ found. found ≡ false → into.new.items ≡ into.old.items) }
         ensures err { OnErr result (into.new.items ≡ into.old.items) }
         ensures there { OnErr result (told_of self.now name.now ≢ None) }

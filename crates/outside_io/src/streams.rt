@@ -19,7 +19,8 @@ pub fn read_up_to<S: Read>(
     into: &mut Vec<u8>,
 ) -> Result<(), FileFault>
     ensures at_most { OnOk result (ReadsFront None [] limit into.old.items into.new.items) }
-    ensures front { OnOk result (IfSome (S.remaining source.old) (λ left. into.new.items ≡ into.old.items ++ take limit left)) }
+    ensures front { OnOk result (IfSome (S.remaining source.old) (λ left. into.new.items ≡ into.old.items
+        ++ take limit left)) }
     ensures begins { Begins into.old.items into.new.items }
 {
     let mut left = limit;
@@ -38,7 +39,8 @@ pub fn read_up_to<S: Read>(
 fn read_piece<S: Read>(source: &mut S, most: usize, into: &mut Vec<u8>) -> Result<usize, FileFault>
     requires some { 1 ≤ most }
     requires not_many { most ≤ PIECE }
-    ensures ok { IfOk result (λ n. AddsPiece most n into.old.items into.new.items (S.remaining source.old) (S.remaining source.new)) }
+    ensures ok { IfOk result (λ n. AddsPiece most n into.old.items into.new.items (S.remaining source.old)
+        (S.remaining source.new)) }
     ensures err { OnErr result (into.new.items ≡ into.old.items) }
 {
     let start = into.len();
@@ -57,7 +59,8 @@ fn read_piece<S: Read>(source: &mut S, most: usize, into: &mut Vec<u8>) -> Resul
 
 /// Writes all bytes, and tells whether it could. A write that failed or took nothing ends it.
 pub fn write_whole<W: Write>(out: &mut W, bytes: &[u8]) -> bool
-    ensures { MatchBool result (Appends (W.contents out.old) (W.contents out.new) bytes.now) (AppendsPrefix (W.contents out.old) (W.contents out.new) bytes.now) }
+    ensures { MatchBool result (Appends (W.contents out.old) (W.contents out.new) bytes.now)
+        (AppendsPrefix (W.contents out.old) (W.contents out.new) bytes.now) }
 {
     let mut rest = bytes;
     while !rest.is_empty() {

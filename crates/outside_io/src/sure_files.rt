@@ -35,10 +35,14 @@ impl SureFiles {
 
     /// Sets the bytes under the name. It isn't a call of the trait, so it counts as no read.
     pub fn add(&mut self, name: &str, bytes: &[u8]) -> Result<(), OutOfMemory>
-        ensures ok { OnOk result (WhereTold (⟦<SureFiles as Files>⟧.at self.old).contents (⟦<SureFiles as Files>⟧.at self.new).contents (Sets name.now bytes.now)) }
-        ensures err { OnErr result (WhereTold (⟦<SureFiles as Files>⟧.at self.old).contents (⟦<SureFiles as Files>⟧.at self.new).contents SameFiles) }
-        ensures read_faults { (⟦<SureFiles as Files>⟧.at self.new).read_faults ≡ (⟦<SureFiles as Files>⟧.at self.old).read_faults }
-        ensures write_faults { (⟦<SureFiles as Files>⟧.at self.new).write_faults ≡ (⟦<SureFiles as Files>⟧.at self.old).write_faults }
+        ensures ok { OnOk result (WhereTold (⟦<SureFiles as Files>⟧.at self.old).contents
+            (⟦<SureFiles as Files>⟧.at self.new).contents (Sets name.now bytes.now)) }
+        ensures err { OnErr result (WhereTold (⟦<SureFiles as Files>⟧.at self.old).contents
+            (⟦<SureFiles as Files>⟧.at self.new).contents SameFiles) }
+        ensures read_faults { (⟦<SureFiles as Files>⟧.at self.new).read_faults ≡ (⟦<SureFiles as Files>⟧.at
+            self.old).read_faults }
+        ensures write_faults { (⟦<SureFiles as Files>⟧.at self.new).write_faults ≡
+            (⟦<SureFiles as Files>⟧.at self.old).write_faults }
         ensures reads { (⟦<SureFiles as Files>⟧.at self.new).reads ≡ (⟦<SureFiles as Files>⟧.at self.old).reads }
     {
         self.named.set(name, bytes)
@@ -53,7 +57,13 @@ impl SureFiles {
 }
 
 impl Files for SureFiles {
-    ghost at = { λ s. record { contents = Some (sure_of s.named); read_faults = 0; write_faults = 0; reads = s.reads.value } };
+    ghost at = { λ s. record {
+      contents = Some (sure_of s.named);
+      read_faults = 0;
+      write_faults = 0;
+      reads =
+          s.reads.value;
+    } };
 
     ghost counts_end = { λ s. (none_counted, none_counted, s.reads.in_range) };
 

@@ -1,5 +1,6 @@
 -- The heap as contracts see it.
-use Rattle.std.specs.Prelude.{◌≡◌, ◌≤◌, ℕ, ◌+◌, ◌/◌, Bool, true, false, cond, nat_eq, List, ◌++◌, map, replicate, slice_index, slice_index_or, slice_set}
+use Rattle.std.specs.Prelude.{◌≡◌, ◌≤◌, ℕ, ◌+◌, ◌/◌, Bool, true, false, cond, nat_eq, List, ◌++◌, map, replicate}
+use Rattle.std.specs.Prelude.{slice_index, slice_index_or, slice_set}
 use Rattle.pick_heap.specs.declared.heap.TheConstants.{HALVED_AT}
 
 -- the variables 1 to vars, which of them are held, and their activities, each by the variable's number
@@ -54,4 +55,9 @@ bumped h v = raised (roomy h v) v
 
 -- n further variables, held and not active
 abbrev pub with_fresh : Ranked → ℕ → Ranked
-with_fresh h n = record { vars = h.vars + n; held = h.held ++ replicate n true; activities = h.activities ++ replicate n 0 }
+with_fresh h n = record {
+  vars = h.vars + n;
+  held = h.held ++ replicate n true;
+  activities = h.activities
+      ++ replicate n 0;
+}

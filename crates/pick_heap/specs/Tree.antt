@@ -1,6 +1,7 @@
 -- The tree of matches. Node k has the children 2 * k and 2 * k + 1; the nodes from leaves on are the
 -- leaves, one for each variable.
-use Rattle.std.specs.Prelude.{◌≡◌, ◌≢◌, ◌≤◌, ◌<◌, ◌⊎◌, ℕ, ◌+◌, ◌*◌, Bool, false, cond, nat_eq, List, length, slice_index, slice_index_or}
+use Rattle.std.specs.Prelude.{◌≡◌, ◌≢◌, ◌≤◌, ◌<◌, ◌⊎◌, ℕ, ◌+◌, ◌*◌, Bool, false, cond, nat_eq, List, length}
+use Rattle.std.specs.Prelude.{slice_index, slice_index_or}
 use Rattle.cnf_core.specs.declared.limits.TheConstants.{VARS}
 
 abbrev pub entry_at : List ℕ → ℕ → ℕ

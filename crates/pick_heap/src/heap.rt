@@ -1,6 +1,8 @@
 // The heap of variables.
-ghost use Rattle.std.specs.Prelude.{◌≡◌, ◌≤◌, ◌<◌, ◌+◌, ◌*◌, ◌/◌, ◌-◌, ◌^◌, ℕ, length, map, MatchOption, IfOk, OnOk, OnErr, replicate, true};
-ghost use Rattle.pick_heap.specs.Heap.{AreFresh, IsGreatest, IsHeld, NoneHeld, activity, without, with_held, roomy, raised, bumped, with_fresh};
+ghost use Rattle.std.specs.Prelude.{◌≡◌, ◌≤◌, ◌<◌, ◌+◌, ◌*◌, ◌/◌, ◌-◌, ◌^◌, ℕ, length, map, MatchOption, IfOk, OnOk};
+ghost use Rattle.std.specs.Prelude.{OnErr, replicate, true};
+ghost use Rattle.pick_heap.specs.Heap.{AreFresh, IsGreatest, IsHeld, NoneHeld, activity, without, with_held, roomy};
+ghost use Rattle.pick_heap.specs.Heap.{raised, bumped, with_fresh};
 
 use crate::matches::{lay_out, leaf_word, play_all, set_leaf};
 use cnf_core::{VARS, Var, lengthen};

@@ -1,6 +1,7 @@
 // The tree of matches: each node has the winner of its two children, and each variable a leaf.
 ghost use Rattle.std.specs.Prelude.{◌≡◌, ◌≤◌, ◌<◌, ◌+◌, ◌*◌, ◌/◌, ◌-◌, ◌^◌, ℕ, length, slice_index, false};
-ghost use Rattle.pick_heap.specs.Tree.{entry_at, IsWinner, HaveActivities, IsWon, IsWonBut, HasLeaves, KeepsLeaves, KeepsOthers, leaf_word};
+ghost use Rattle.pick_heap.specs.Tree.{entry_at, IsWinner, HaveActivities, IsWon, IsWonBut, HasLeaves, KeepsLeaves};
+ghost use Rattle.pick_heap.specs.Tree.{KeepsOthers, leaf_word};
 
 /// The more active of two variables, and of equal ones the first; 0 is none.
 pub fn better(activities: &[u16], a: u32, b: u32) -> u32

@@ -9,7 +9,8 @@ use Rattle.plan_core.specs.Lawful.{Instance, IsInstance, Meets, Fits, Lawful}
 use Rattle.plan_core.specs.Examples.{point_at, node_at_metres, joining, track_graph}
 
 -- the drawing fits the graph and isn't lawful: these instances are broken, and no others
-pub record BreaksJust (g : Graph) (above : ℕ → ℕ → Bool) (grid : GridSize) (d : Drawing) (instances : List Instance) : Type 0 where
+pub record BreaksJust (g : Graph) (above : ℕ → ℕ → Bool) (grid : GridSize) (d : Drawing) (instances : List Instance) :
+    Type 0 where
   pub fits : Fits g d
   pub unlawful : Lawful g above grid d → ⊥
   pub broken : (i : Instance) → Contains instances i ↔ (IsInstance g above i × (Meets g grid d i → ⊥))
@@ -34,7 +35,8 @@ parted_graph = track_graph
 
 abbrev pub joined_graph : Graph
 joined_graph = track_graph
-    (node_at_metres 0 (End 0 East) ∷ node_at_metres 300 (Joint 0 1) ∷ node_at_metres 600 (End 1 West) ∷ node_at_metres 0 (End 2 East)
+    (node_at_metres 0 (End 0 East) ∷ node_at_metres 300 (Joint 0 1) ∷ node_at_metres 600 (End 1 West)
+    ∷ node_at_metres 0 (End 2 East)
     ∷ node_at_metres 600 (End 2 West) ∷ [])
     (joining 0 1 ∷ joining 1 2 ∷ joining 3 4 ∷ [])
 
@@ -89,29 +91,37 @@ crowded = drawing
 abbrev pub too_steep : Drawing
 too_steep = drawing
     (point_at 0 0 ∷ point_at 7 2 ∷ point_at 1 0 ∷ point_at 5 1 ∷ [])
-    ((point_at 0 0 ∷ point_at 1 0 ∷ []) ∷ (point_at 1 0 ∷ point_at 4 0 ∷ point_at 5 1 ∷ []) ∷ (point_at 5 1 ∷ point_at 6 2 ∷ point_at 7 2 ∷ [])
+    ((point_at 0 0 ∷ point_at 1 0 ∷ []) ∷ (point_at 1 0 ∷ point_at 4 0 ∷ point_at 5 1 ∷ [])
+    ∷ (point_at 5 1 ∷ point_at 6 2 ∷ point_at 7 2 ∷ [])
     ∷ (point_at 1 0 ∷ point_at 3 2 ∷ point_at 4 2 ∷ point_at 5 1 ∷ []) ∷ [])
 
 abbrev pub bent_rising_path : Drawing
 bent_rising_path = drawing
-    (point_at 0 1 ∷ point_at 7 1 ∷ point_at 1 1 ∷ point_at 6 1 ∷ point_at 0 5 ∷ point_at 7 5 ∷ point_at 1 5 ∷ point_at 6 5 ∷ point_at 3 3 ∷ [])
-    ((point_at 0 1 ∷ point_at 1 1 ∷ []) ∷ (point_at 1 1 ∷ point_at 6 1 ∷ []) ∷ (point_at 6 1 ∷ point_at 7 1 ∷ []) ∷ (point_at 0 5 ∷ point_at 1 5 ∷ [])
+    (point_at 0 1 ∷ point_at 7 1 ∷ point_at 1 1 ∷ point_at 6 1 ∷ point_at 0 5 ∷ point_at 7 5 ∷ point_at 1 5
+    ∷ point_at 6 5 ∷ point_at 3 3 ∷ [])
+    ((point_at 0 1 ∷ point_at 1 1 ∷ []) ∷ (point_at 1 1 ∷ point_at 6 1 ∷ []) ∷ (point_at 6 1 ∷ point_at 7 1 ∷ [])
+    ∷ (point_at 0 5 ∷ point_at 1 5 ∷ [])
     ∷ (point_at 1 5 ∷ point_at 6 5 ∷ []) ∷ (point_at 6 5 ∷ point_at 7 5 ∷ []) ∷ (point_at 1 1 ∷ point_at 3 3 ∷ [])
-    ∷ (point_at 3 3 ∷ point_at 4 3 ∷ point_at 6 5 ∷ []) ∷ (point_at 3 3 ∷ point_at 4 2 ∷ point_at 5 2 ∷ point_at 6 1 ∷ []) ∷ (point_at 1 5 ∷ point_at 3 3 ∷ [])
+    ∷ (point_at 3 3 ∷ point_at 4 3 ∷ point_at 6 5 ∷ [])
+    ∷ (point_at 3 3 ∷ point_at 4 2 ∷ point_at 5 2 ∷ point_at 6 1 ∷ []) ∷ (point_at 1 5 ∷ point_at 3 3 ∷ [])
     ∷ [])
 
 abbrev pub bent_falling_path : Drawing
 bent_falling_path = drawing
-    (point_at 0 1 ∷ point_at 7 1 ∷ point_at 1 1 ∷ point_at 6 1 ∷ point_at 0 5 ∷ point_at 7 5 ∷ point_at 1 5 ∷ point_at 6 5 ∷ point_at 3 3 ∷ [])
-    ((point_at 0 1 ∷ point_at 1 1 ∷ []) ∷ (point_at 1 1 ∷ point_at 6 1 ∷ []) ∷ (point_at 6 1 ∷ point_at 7 1 ∷ []) ∷ (point_at 0 5 ∷ point_at 1 5 ∷ [])
+    (point_at 0 1 ∷ point_at 7 1 ∷ point_at 1 1 ∷ point_at 6 1 ∷ point_at 0 5 ∷ point_at 7 5 ∷ point_at 1 5
+    ∷ point_at 6 5 ∷ point_at 3 3 ∷ [])
+    ((point_at 0 1 ∷ point_at 1 1 ∷ []) ∷ (point_at 1 1 ∷ point_at 6 1 ∷ []) ∷ (point_at 6 1 ∷ point_at 7 1 ∷ [])
+    ∷ (point_at 0 5 ∷ point_at 1 5 ∷ [])
     ∷ (point_at 1 5 ∷ point_at 6 5 ∷ []) ∷ (point_at 6 5 ∷ point_at 7 5 ∷ []) ∷ (point_at 1 1 ∷ point_at 3 3 ∷ [])
-    ∷ (point_at 3 3 ∷ point_at 4 4 ∷ point_at 5 4 ∷ point_at 6 5 ∷ []) ∷ (point_at 3 3 ∷ point_at 4 3 ∷ point_at 6 1 ∷ []) ∷ (point_at 1 5 ∷ point_at 3 3 ∷ [])
+    ∷ (point_at 3 3 ∷ point_at 4 4 ∷ point_at 5 4 ∷ point_at 6 5 ∷ [])
+    ∷ (point_at 3 3 ∷ point_at 4 3 ∷ point_at 6 1 ∷ []) ∷ (point_at 1 5 ∷ point_at 3 3 ∷ [])
     ∷ [])
 
 abbrev pub bent_main : Drawing
 bent_main = drawing
     (point_at 0 0 ∷ point_at 6 1 ∷ point_at 1 0 ∷ point_at 5 1 ∷ [])
-    ((point_at 0 0 ∷ point_at 1 0 ∷ []) ∷ (point_at 1 0 ∷ point_at 4 0 ∷ point_at 5 1 ∷ []) ∷ (point_at 5 1 ∷ point_at 6 1 ∷ [])
+    ((point_at 0 0 ∷ point_at 1 0 ∷ []) ∷ (point_at 1 0 ∷ point_at 4 0 ∷ point_at 5 1 ∷ [])
+    ∷ (point_at 5 1 ∷ point_at 6 1 ∷ [])
     ∷ (point_at 1 0 ∷ point_at 3 2 ∷ point_at 4 2 ∷ point_at 5 1 ∷ []) ∷ [])
 
 abbrev pub sloping : Drawing
@@ -122,7 +132,8 @@ sloping = drawing
 abbrev pub kinked : Drawing
 kinked = drawing
     (point_at 0 0 ∷ point_at 2 0 ∷ point_at 4 1 ∷ point_at 0 3 ∷ point_at 4 3 ∷ [])
-    ((point_at 0 0 ∷ point_at 2 0 ∷ []) ∷ (point_at 2 0 ∷ point_at 3 1 ∷ point_at 4 1 ∷ []) ∷ (point_at 0 3 ∷ point_at 4 3 ∷ []) ∷ [])
+    ((point_at 0 0 ∷ point_at 2 0 ∷ []) ∷ (point_at 2 0 ∷ point_at 3 1 ∷ point_at 4 1 ∷ [])
+    ∷ (point_at 0 3 ∷ point_at 4 3 ∷ []) ∷ [])
 
 -- Law 5: two tracks that meet in one point, of one mileage and of two.
 
@@ -141,13 +152,15 @@ touching = drawing
 abbrev pub begins_above : Drawing
 begins_above = drawing
     (point_at 0 4 ∷ point_at 9 0 ∷ point_at 3 2 ∷ point_at 0 3 ∷ point_at 9 1 ∷ point_at 6 2 ∷ [])
-    ((point_at 0 4 ∷ point_at 1 4 ∷ point_at 3 2 ∷ []) ∷ (point_at 3 2 ∷ point_at 5 0 ∷ point_at 9 0 ∷ []) ∷ (point_at 0 3 ∷ point_at 5 3 ∷ point_at 6 2 ∷ [])
+    ((point_at 0 4 ∷ point_at 1 4 ∷ point_at 3 2 ∷ []) ∷ (point_at 3 2 ∷ point_at 5 0 ∷ point_at 9 0 ∷ [])
+    ∷ (point_at 0 3 ∷ point_at 5 3 ∷ point_at 6 2 ∷ [])
     ∷ (point_at 6 2 ∷ point_at 7 1 ∷ point_at 9 1 ∷ []) ∷ (point_at 3 2 ∷ point_at 6 2 ∷ []) ∷ [])
 
 abbrev pub ends_below : Drawing
 ends_below = drawing
     (point_at 0 1 ∷ point_at 9 1 ∷ point_at 1 1 ∷ point_at 0 3 ∷ point_at 9 0 ∷ point_at 3 2 ∷ [])
-    ((point_at 0 1 ∷ point_at 1 1 ∷ []) ∷ (point_at 1 1 ∷ point_at 9 1 ∷ []) ∷ (point_at 0 3 ∷ point_at 2 3 ∷ point_at 3 2 ∷ [])
+    ((point_at 0 1 ∷ point_at 1 1 ∷ []) ∷ (point_at 1 1 ∷ point_at 9 1 ∷ [])
+    ∷ (point_at 0 3 ∷ point_at 2 3 ∷ point_at 3 2 ∷ [])
     ∷ (point_at 3 2 ∷ point_at 5 0 ∷ point_at 9 0 ∷ []) ∷ (point_at 1 1 ∷ point_at 2 2 ∷ point_at 3 2 ∷ []) ∷ [])
 
 -- Law 7: one of two joined tracks ends on the track beside them; one crosses it.
@@ -155,12 +168,14 @@ ends_below = drawing
 abbrev pub touched_drawing : Drawing
 touched_drawing = drawing
     (point_at 0 2 ∷ point_at 2 1 ∷ point_at 5 0 ∷ point_at 0 1 ∷ point_at 5 1 ∷ [])
-    ((point_at 0 2 ∷ point_at 1 2 ∷ point_at 2 1 ∷ []) ∷ (point_at 2 1 ∷ point_at 3 0 ∷ point_at 5 0 ∷ []) ∷ (point_at 0 1 ∷ point_at 5 1 ∷ []) ∷ [])
+    ((point_at 0 2 ∷ point_at 1 2 ∷ point_at 2 1 ∷ []) ∷ (point_at 2 1 ∷ point_at 3 0 ∷ point_at 5 0 ∷ [])
+    ∷ (point_at 0 1 ∷ point_at 5 1 ∷ []) ∷ [])
 
 abbrev pub crossed_drawing : Drawing
 crossed_drawing = drawing
     (point_at 0 3 ∷ point_at 3 1 ∷ point_at 6 0 ∷ point_at 0 2 ∷ point_at 6 2 ∷ [])
-    ((point_at 0 3 ∷ point_at 1 3 ∷ point_at 3 1 ∷ []) ∷ (point_at 3 1 ∷ point_at 4 0 ∷ point_at 6 0 ∷ []) ∷ (point_at 0 2 ∷ point_at 6 2 ∷ []) ∷ [])
+    ((point_at 0 3 ∷ point_at 1 3 ∷ point_at 3 1 ∷ []) ∷ (point_at 3 1 ∷ point_at 4 0 ∷ point_at 6 0 ∷ [])
+    ∷ (point_at 0 2 ∷ point_at 6 2 ∷ []) ∷ [])
 
 -- No track graphs: each has one thing wrong.
 
@@ -197,7 +212,8 @@ stray_graph = track_graph
 -- a switch with one edge as both legs
 abbrev pub one_legged_graph : Graph
 one_legged_graph = track_graph
-    (node_at_metres 0 (End 0 East) ∷ node_at_metres 100 (Switch East Upper 0 1 1) ∷ node_at_metres 600 (End 1 West) ∷ [])
+    (node_at_metres 0 (End 0 East) ∷ node_at_metres 100 (Switch East Upper 0 1 1) ∷ node_at_metres 600 (End 1 West)
+    ∷ [])
     (joining 0 1 ∷ joining 1 2 ∷ [])
 
 -- a port whose edge isn't there

@@ -118,7 +118,8 @@ back_drawing = drawing
 abbrev pub cross_graph : Graph
 cross_graph = track_graph
     (node_at_metres 0 (End 0 East) ∷ node_at_metres 1000 (End 1 West) ∷ node_at_metres 200 (Switch East Upper 0 1 4)
-    ∷ node_at_metres 0 (End 2 East) ∷ node_at_metres 1000 (End 3 West) ∷ node_at_metres 260 (Switch West Lower 3 2 4) ∷ [])
+    ∷ node_at_metres 0 (End 2 East) ∷ node_at_metres 1000 (End 3 West) ∷ node_at_metres 260 (Switch West Lower 3 2 4)
+    ∷ [])
     (joining 0 2 ∷ joining 2 1 ∷ joining 3 5 ∷ joining 5 4 ∷ joining 2 5 ∷ [])
 
 abbrev pub cross_above : ℕ → ℕ → Bool
@@ -127,14 +128,16 @@ cross_above = is_listed ((2, 0) ∷ (2, 4) ∷ (3, 1) ∷ (4, 1) ∷ [])
 abbrev pub cross_drawing : Drawing
 cross_drawing = drawing
     (point_at 0 0 ∷ point_at 3 0 ∷ point_at 1 0 ∷ point_at 0 1 ∷ point_at 3 1 ∷ point_at 2 1 ∷ [])
-    ((point_at 0 0 ∷ point_at 1 0 ∷ []) ∷ (point_at 1 0 ∷ point_at 3 0 ∷ []) ∷ (point_at 0 1 ∷ point_at 2 1 ∷ []) ∷ (point_at 2 1 ∷ point_at 3 1 ∷ [])
+    ((point_at 0 0 ∷ point_at 1 0 ∷ []) ∷ (point_at 1 0 ∷ point_at 3 0 ∷ []) ∷ (point_at 0 1 ∷ point_at 2 1 ∷ [])
+    ∷ (point_at 2 1 ∷ point_at 3 1 ∷ [])
     ∷ (point_at 1 0 ∷ point_at 2 1 ∷ []) ∷ [])
 
 -- Two tracks of the same mileages, apart from each other; no order says which is the upper one.
 
 abbrev pub two_graph : Graph
 two_graph = track_graph
-    (node_at_metres 0 (End 0 East) ∷ node_at_metres 600 (End 0 West) ∷ node_at_metres 0 (End 1 East) ∷ node_at_metres 600 (End 1 West)
+    (node_at_metres 0 (End 0 East) ∷ node_at_metres 600 (End 0 West) ∷ node_at_metres 0 (End 1 East)
+    ∷ node_at_metres 600 (End 1 West)
     ∷ [])
     (joining 0 1 ∷ joining 2 3 ∷ [])
 
@@ -155,14 +158,18 @@ scissors_graph = track_graph
     ∷ joining 8 7 ∷ joining 8 3 ∷ joining 6 8 ∷ [])
 
 abbrev pub scissors_above : ℕ → ℕ → Bool
-scissors_above = is_listed ((3, 0) ∷ (4, 6) ∷ (4, 7) ∷ (4, 8) ∷ (4, 9) ∷ (5, 2) ∷ (6, 1) ∷ (7, 1) ∷ (7, 8) ∷ (8, 1) ∷ (9, 1)
+scissors_above = is_listed ((3, 0) ∷ (4, 6) ∷ (4, 7) ∷ (4, 8) ∷ (4, 9) ∷ (5, 2) ∷ (6, 1) ∷ (7, 1) ∷ (7, 8) ∷ (8, 1)
+    ∷ (9, 1)
     ∷ (9, 6) ∷ [])
 
 abbrev pub scissors_drawing : Drawing
 scissors_drawing = drawing
-    (point_at 0 0 ∷ point_at 4 0 ∷ point_at 1 0 ∷ point_at 3 0 ∷ point_at 0 2 ∷ point_at 4 2 ∷ point_at 1 2 ∷ point_at 3 2 ∷ point_at 2 1 ∷ [])
-    ((point_at 0 0 ∷ point_at 1 0 ∷ []) ∷ (point_at 1 0 ∷ point_at 3 0 ∷ []) ∷ (point_at 3 0 ∷ point_at 4 0 ∷ []) ∷ (point_at 0 2 ∷ point_at 1 2 ∷ [])
-    ∷ (point_at 1 2 ∷ point_at 3 2 ∷ []) ∷ (point_at 3 2 ∷ point_at 4 2 ∷ []) ∷ (point_at 1 0 ∷ point_at 2 1 ∷ []) ∷ (point_at 2 1 ∷ point_at 3 2 ∷ [])
+    (point_at 0 0 ∷ point_at 4 0 ∷ point_at 1 0 ∷ point_at 3 0 ∷ point_at 0 2 ∷ point_at 4 2 ∷ point_at 1 2
+    ∷ point_at 3 2 ∷ point_at 2 1 ∷ [])
+    ((point_at 0 0 ∷ point_at 1 0 ∷ []) ∷ (point_at 1 0 ∷ point_at 3 0 ∷ []) ∷ (point_at 3 0 ∷ point_at 4 0 ∷ [])
+    ∷ (point_at 0 2 ∷ point_at 1 2 ∷ [])
+    ∷ (point_at 1 2 ∷ point_at 3 2 ∷ []) ∷ (point_at 3 2 ∷ point_at 4 2 ∷ []) ∷ (point_at 1 0 ∷ point_at 2 1 ∷ [])
+    ∷ (point_at 2 1 ∷ point_at 3 2 ∷ [])
     ∷ (point_at 2 1 ∷ point_at 3 0 ∷ []) ∷ (point_at 1 2 ∷ point_at 2 1 ∷ []) ∷ [])
 
 -- A station: two tracks, a crossover, and a loop beside the upper track.
@@ -180,7 +187,9 @@ station_above = is_listed ((2, 0) ∷ (2, 6) ∷ (3, 1) ∷ (4, 1) ∷ (5, 1) �
 
 abbrev pub station_drawing : Drawing
 station_drawing = drawing
-    (point_at 0 0 ∷ point_at 7 0 ∷ point_at 1 0 ∷ point_at 0 1 ∷ point_at 7 1 ∷ point_at 2 1 ∷ point_at 3 1 ∷ point_at 6 1 ∷ [])
-    ((point_at 0 0 ∷ point_at 1 0 ∷ []) ∷ (point_at 1 0 ∷ point_at 7 0 ∷ []) ∷ (point_at 0 1 ∷ point_at 2 1 ∷ []) ∷ (point_at 2 1 ∷ point_at 3 1 ∷ [])
+    (point_at 0 0 ∷ point_at 7 0 ∷ point_at 1 0 ∷ point_at 0 1 ∷ point_at 7 1 ∷ point_at 2 1 ∷ point_at 3 1
+    ∷ point_at 6 1 ∷ [])
+    ((point_at 0 0 ∷ point_at 1 0 ∷ []) ∷ (point_at 1 0 ∷ point_at 7 0 ∷ []) ∷ (point_at 0 1 ∷ point_at 2 1 ∷ [])
+    ∷ (point_at 2 1 ∷ point_at 3 1 ∷ [])
     ∷ (point_at 3 1 ∷ point_at 6 1 ∷ []) ∷ (point_at 6 1 ∷ point_at 7 1 ∷ []) ∷ (point_at 1 0 ∷ point_at 2 1 ∷ [])
     ∷ (point_at 3 1 ∷ point_at 4 2 ∷ point_at 5 2 ∷ point_at 6 1 ∷ []) ∷ [])

@@ -4,7 +4,8 @@
 -- a joint. A switch splits its trunk into two legs, the straight one and the diverging one. At a
 -- crossing two paths cross: the rising one goes from west lower to east upper, the falling one from
 -- west upper to east lower.
-use Rattle.std.specs.Prelude.{◌≡◌, ◌≢◌, ℕ, ℤ, pos, ◌⊎◌, ◌<◌, ◌<ℤ◌, List, [], ◌∷◌, length, slice_index_or, All, AllPairs, Contains}
+use Rattle.std.specs.Prelude.{◌≡◌, ◌≢◌, ℕ, ℤ, pos, ◌⊎◌, ◌<◌, ◌<ℤ◌, List, [], ◌∷◌, length, slice_index_or, All}
+use Rattle.std.specs.Prelude.{AllPairs, Contains}
 use Rattle.std.specs.Int.{int_max, int_min}
 use Rattle.plan_core.specs.declared.sides.Compass.{Compass}
 use Rattle.plan_core.specs.declared.sides.Compass.TheVariants.{East, West}

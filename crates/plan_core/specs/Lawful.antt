@@ -4,7 +4,8 @@ use Rattle.plan_core.specs.Grid.{GridSize}
 use Rattle.plan_core.specs.Graph.{Graph, Overlap}
 use Rattle.plan_core.specs.Line.{is_line}
 use Rattle.plan_core.specs.Drawing.{Drawing}
-use Rattle.plan_core.specs.Laws.{NodeIsOnGrid, LineIsOnGrid, NodesAreOrdered, LineJoinsItsNodes, NodeIsAligned, NodesAreApart, EdgeIsOver, EdgesAreParted}
+use Rattle.plan_core.specs.Laws.{NodeIsOnGrid, LineIsOnGrid, NodesAreOrdered, LineJoinsItsNodes, NodeIsAligned}
+use Rattle.plan_core.specs.Laws.{NodesAreApart, EdgeIsOver, EdgesAreParted}
 
 -- a law and its parties: in order, law 1 of nodes, law 1 of lines, and laws 2 to 7
 pub data Instance : Type 0 where

@@ -67,7 +67,8 @@ Diverges West Lower s diverging = IsOneMore s diverging
 
 -- trunk and straight leg have one slope, and the diverging leg turns off from it; at_node e is the slope
 -- of edge e's line where it meets the node
-pub record SwitchIsAligned (at_node : ℕ → Slope) (legs : Compass) (branch : Side) (trunk straight diverging : ℕ) : Type 0 where
+pub record SwitchIsAligned (at_node : ℕ → Slope) (legs : Compass) (branch : Side) (trunk straight diverging : ℕ) : Type
+    0 where
   pub goes_straight : at_node straight ≡ at_node trunk
   pub turns_off : Diverges legs branch (at_node trunk) (at_node diverging)
 

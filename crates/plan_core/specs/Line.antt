@@ -1,6 +1,7 @@
 -- The lines that an edge may be drawn with, each a list of points of the grid from west to east. A
 -- column here is a column of the grid.
-use Rattle.std.specs.Prelude.{ℕ, ◌+◌, ◌-◌, ◌≤◌, Bool, true, false, ◌&&◌, ◌||◌, if◌then◌else◌, ◌==◌, nat_lt, nat_le, List, [], ◌∷◌, map, length}
+use Rattle.std.specs.Prelude.{ℕ, ◌+◌, ◌-◌, ◌≤◌, Bool, true, false, ◌&&◌, ◌||◌, if◌then◌else◌, ◌==◌, nat_lt, nat_le}
+use Rattle.std.specs.Prelude.{List, [], ◌∷◌, map, length}
 use Rattle.std.specs.List.{list_all, sum_by}
 use Rattle.plan_core.specs.declared.point.Point.{Point}
 use Rattle.plan_core.specs.declared.point.Slope.{Slope}
@@ -99,7 +100,8 @@ height_on p x = reached (slope p) p.west.y (x - p.west.x)
 
 abbrev pub height_from : Point → List Point → ℕ → ℕ
 height_from a [] x = a.y
-height_from a (b ∷ rest) x = (if nat_le x b.x then height_on (record { west = a; east = b }) x else height_from b rest x)
+height_from a (b ∷ rest) x = (if nat_le x b.x then height_on (record { west = a; east = b }) x else height_from b rest
+    x)
 
 -- the height of a line at a column of its own: that of the piece over it
 abbrev pub height : List Point → ℕ → ℕ

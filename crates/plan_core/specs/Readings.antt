@@ -28,4 +28,5 @@ Interpolates p x = height_on p x * run p ≡ p.west.y * (p.east.x - x) + p.east.
 
 -- from how many columns of the line, but for the last, it goes up or down to the next
 abbrev pub columns_off_level : List Point → ℕ
-columns_off_level l = count_by (λ x. not (height l x == height l (x + 1))) (range_with_len (west_end l).x ((east_end l).x - (west_end l).x))
+columns_off_level l = count_by (λ x. not (height l x == height l (x + 1)))
+    (range_with_len (west_end l).x ((east_end l).x - (west_end l).x))

@@ -1,7 +1,9 @@
 -- What a topology is that was read from a file: each element has an id and a file place of its own,
 -- joins lead both ways, and mileages stay in a range. A topology is built by resolving a file's rows, and
 -- the track graph is built from one that is so.
-use Rattle.std.specs.Prelude.{◌≡◌, ◌≢◌, ℕ, ◌^◌, ◌*◌, ◌<◌, ◌≤◌, ◌⊎◌, Bool, nat_lt, ◌&&◌, ◌||◌, ℤ, pos, neg_ℤ, ◌<ℤ◌, Option, Some, None, List, [], ◌∷◌, ◌++◌, length, map, flat_map, slice_get, option_and_then, option_to_list, All, AllPairs, chars}
+use Rattle.std.specs.Prelude.{◌≡◌, ◌≢◌, ℕ, ◌^◌, ◌*◌, ◌<◌, ◌≤◌, ◌⊎◌, Bool, nat_lt, ◌&&◌, ◌||◌, ℤ, pos, neg_ℤ, ◌<ℤ◌}
+use Rattle.std.specs.Prelude.{Option, Some, None, List, [], ◌∷◌, ◌++◌, length, map, flat_map, slice_get}
+use Rattle.std.specs.Prelude.{option_and_then, option_to_list, All, AllPairs, chars}
 use Rattle.plan_core.specs.declared.limits.TheConstants.{MAX_ID_BYTES}
 use Rattle.plan_core.specs.declared.topology.Topology.{Topology}
 use Rattle.plan_core.specs.declared.topology.Track.{Track}
@@ -96,7 +98,8 @@ connection t p = option_and_then (λ (track : Track). connection_of track p.part
 
 -- each connection leads to another place, and the connection there leads back
 pub record LeadsBothWays (t : Topology) : Type 0 where
-  pub back : (p : Place) (c : Conn) → connection t p ≡ Some c → (other : Conn) × (connection t c.to ≡ Some other) × (other.to ≡ p)
+  pub back : (p : Place) (c : Conn) → connection t p ≡ Some c → (other : Conn) × (connection t c.to ≡ Some other)
+      × (other.to ≡ p)
   pub elsewhere : (p : Place) (c : Conn) → connection t p ≡ Some c → c.to ≢ p
 
 -- Mileages, in micrometres.

@@ -44,6 +44,7 @@ Better [] a b = ⊥
 Better (c ∷ rest) a b = (value_of a c < value_of b c) ⊎ ((value_of a c ≡ value_of b c) × Better rest a b)
 
 -- the drawing is lawful, and no lawful drawing is better
-pub record IsBest (g : Graph) (above : ℕ → ℕ → Bool) (grid : GridSize) (order : List Criterion) (d : Drawing) : Type 0 where
-  pub lawful : Lawful g above grid d
-  pub none_better : (other : Drawing) → Lawful g above grid other → Better order (values_of other) (values_of d) → ⊥
+pub record IsBest (g : Graph) (above : ℕ → ℕ → Bool) (grid : GridSize) (order : List Criterion) (d : Drawing) : Type 0
+  where
+    pub lawful : Lawful g above grid d
+    pub none_better : (other : Drawing) → Lawful g above grid other → Better order (values_of other) (values_of d) → ⊥

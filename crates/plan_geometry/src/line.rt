@@ -1,6 +1,7 @@
 // The line of an edge.
 ghost use Rattle.std.specs.Prelude.{◌≡◌, ◌*◌, ◌<◌, ◌≤◌, true, Some, length, slice_get, SomeIff};
-ghost use Rattle.plan_core.specs.Line.{is_line, west_end, east_end, slope_west, slope_east, HasColumn, height, bends, diagonal};
+ghost use Rattle.plan_core.specs.Line.{is_line, west_end, east_end, slope_west, slope_east, HasColumn, height, bends};
+ghost use Rattle.plan_core.specs.Line.{diagonal};
 
 use crate::pieces::{
     are_a_piece, are_three_of_a_shape, are_two_of_a_shape, height_between, slope_between,

@@ -31,8 +31,10 @@ id_at signals i = option_map_or id_of (slice_get signals i) []
 abbrev pub signal_line : List SignalElem → List SignalPlace → Drawing → ℕ → List ℕ
 signal_line signals places d i =
     line_text (codes "signal")
-    (decimal i ∷ id_at signals i ∷ decimal (edge_at places i) ∷ decimal (column_in places d i) ∷ decimal (height_in places d i) ∷ [])
+    (decimal i ∷ id_at signals i ∷ decimal (edge_at places i) ∷ decimal (column_in places d i)
+    ∷ decimal (height_in places d i) ∷ [])
 
 abbrev pub signals_text : List SignalElem → List SignalPlace → Drawing → List ℕ
 signals_text signals places d =
-    line_text (codes "signals") (decimal (length places) ∷ []) ++ flat_map (signal_line signals places d) (numbers places)
+    line_text (codes "signals") (decimal (length places) ∷ [])
+    ++ flat_map (signal_line signals places d) (numbers places)

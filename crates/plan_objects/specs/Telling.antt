@@ -21,7 +21,8 @@ HasKind s signals what i signal = (first : List ℕ) × HasSignalFault s signals
 
 -- no signal has a fault with a number below this one
 pub record HasNoneBelow (s : Station) (signals : List SignalElem) (number : ℕ) : Type 0 where
-  pub none : (what : SignalWhat) → number_of what < number → NoneBefore (HasKind s signals what) signals (length signals)
+  pub none : (what : SignalWhat) → number_of what < number →
+      NoneBefore (HasKind s signals what) signals (length signals)
 
 -- of all kinds this is the lowest that a signal has, and this is the first signal that has it
 pub record IsLowest (s : Station) (signals : List SignalElem) (what : SignalWhat) (i : ℕ) : Type 0 where

@@ -18,16 +18,19 @@ ghost use Rattle.plan_objects.specs.declared.places.SignalPlace.{SignalPlace as 
 ghost use Rattle.plan_objects.specs.Places.{edge_at, need_of};
 ghost use Rattle.plan_objects.specs.Spread.{HasRoomFor};
 
-/// A lawful drawing on a grid of which each edge goes over as many columns as its signals need has room for each signal.
+/// A lawful drawing on a grid of which each edge goes over as many columns as its signals need has room for each
+/// signal.
 pub fn lawful_drawings_have_room()
     ensures { (signals : List APlace) (g : Graph) (above : ℕ → ℕ → Bool) (grid : GridSize) (d : PlainDrawing) (i : ℕ) →
-        Lawful g above grid d → need_of signals ≤ grid.least → edge_at signals i < length g.edges → HasRoomFor signals d i }
+        Lawful g above grid d → need_of signals ≤ grid.least → edge_at signals i < length g.edges →
+        HasRoomFor signals d i }
 {}
 
 /// What is read of one file, and the topology that is resolved from it, are of one file.
 pub fn read_from_one_file()
     ensures { (bytes : List ℕ) (rows : List AnElem) (t : ATopology) (signals : List ASignal) →
-        GivesRows bytes rows → AreFormed rows → ResolvesTo rows t → IsResolved t → GivesSignals bytes signals → AreRising signals → AreOfOneFile rows t signals }
+        GivesRows bytes rows → AreFormed rows → ResolvesTo rows t → IsResolved t → GivesSignals bytes signals →
+        AreRising signals → AreOfOneFile rows t signals }
 {}
 
 /// A file has at most 512 signals, and an edge 15.

@@ -89,7 +89,8 @@ impl Placed {
         requires there { i < length self.now }
         requires room { HasRoomFor self.now d.now i }
         ensures value { result ≡ column_on self.now (line d.now (edge_at self.now i)) i }
-        ensures spread { AreSpread self.now (line d.now (edge_at self.now i)) (edge_at self.now i) (column_on self.now (line d.now (edge_at self.now i))) }
+        ensures spread { AreSpread self.now (line d.now (edge_at self.now i)) (edge_at self.now i)
+            (column_on self.now (line d.now (edge_at self.now i))) }
     {
         let edge = self.edge_of(i);
         let line = d.line(edge);

@@ -1,7 +1,8 @@
 // The places of signals, their order along an edge, and how many stand on one.
 ghost use Rattle.std.specs.Prelude.{◌≡◌, ◌<◌, ◌≤◌, length, if◌then◌else◌, count_by};
 ghost use Rattle.std.specs.List.{range_with_len};
-ghost use Rattle.plan_objects.specs.Places.{comes_before as is_before, number_on as how_many_on, rank as rank_of, need_of, is_ahead as ahead, is_on as stands_on};
+ghost use Rattle.plan_objects.specs.Places.{comes_before as is_before, number_on as how_many_on, rank as rank_of};
+ghost use Rattle.plan_objects.specs.Places.{need_of, is_ahead as ahead, is_on as stands_on};
 ghost use Rattle.plan_objects.specs.Faults.{earlier_on_edge};
 ghost use Rattle.plan_core.specs.Searching.{FindsFirst};
 

@@ -1,4 +1,5 @@
-// Ids that an earlier signal has. There are at most 512 signals where this is looked for, so each is compared with each.
+// Ids that an earlier signal has. There are at most 512 signals where this is looked for, so each is compared with
+// each.
 ghost use Rattle.std.specs.Prelude.{◌≡◌, ◌<◌, ◌≤◌, IsTrue, ◌↔◌, length, List, ℕ, Some};
 ghost use Rattle.plan_objects.specs.Faults.{RepeatsId};
 ghost use Rattle.plan_core.specs.Searching.{FindsFirst, IsFirst};

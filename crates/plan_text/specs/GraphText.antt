@@ -27,11 +27,13 @@ kind_fields (Crossing west_upper west_lower east_upper east_lower) = codes "cros
 
 -- number, name, kind and mileage
 abbrev pub node_line : Graph → ℕ → List ℕ
-node_line g n = line_text (codes "node") (decimal n ∷ (node g n).name ∷ (kind_fields (node g n).ports ++ metres_text (node g n).mileage ∷ []))
+node_line g n = line_text (codes "node") (decimal n ∷ (node g n).name
+    ∷ (kind_fields (node g n).ports ++ metres_text (node g n).mileage ∷ []))
 
 -- number, track name, west and east node
 abbrev pub edge_line : Graph → ℕ → List ℕ
-edge_line g e = line_text (codes "edge") (decimal e ∷ (edge g e).track ∷ decimal (edge g e).west ∷ decimal (edge g e).east ∷ [])
+edge_line g e = line_text (codes "edge") (decimal e ∷ (edge g e).track ∷ decimal (edge g e).west
+    ∷ decimal (edge g e).east ∷ [])
 
 -- a line where e is above f, and none otherwise
 abbrev pub above_line : (ℕ → ℕ → Bool) → ℕ → ℕ → List ℕ
@@ -43,10 +45,12 @@ above_lines above edges e = flat_map (above_line above e) (range_with_len 0 edge
 
 -- how many nodes there are, and each; how many edges, and each
 abbrev pub nodes_text : Graph → List ℕ
-nodes_text g = line_text (codes "nodes") (decimal (length g.nodes) ∷ []) ++ flat_map (node_line g) (range_with_len 0 (length g.nodes))
+nodes_text g = line_text (codes "nodes") (decimal (length g.nodes) ∷ [])
+    ++ flat_map (node_line g) (range_with_len 0 (length g.nodes))
 
 abbrev pub edges_text : Graph → List ℕ
-edges_text g = line_text (codes "edges") (decimal (length g.edges) ∷ []) ++ flat_map (edge_line g) (range_with_len 0 (length g.edges))
+edges_text g = line_text (codes "edges") (decimal (length g.edges) ∷ [])
+    ++ flat_map (edge_line g) (range_with_len 0 (length g.edges))
 
 -- each two edges of which the first is above the second
 abbrev pub order_text : (ℕ → ℕ → Bool) → ℕ → List ℕ

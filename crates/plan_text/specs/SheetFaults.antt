@@ -1,5 +1,6 @@
 -- Which sheet a text is, and which fault it has.
-use Rattle.std.specs.Prelude.{◌≡◌, ◌≢◌, ℕ, ◌+◌, ⊤, Bool, true, false, if◌then◌else◌, nat_lt, List, [], ◌∷◌, ◌++◌, None, Some, length, flat_map}
+use Rattle.std.specs.Prelude.{◌≡◌, ◌≢◌, ℕ, ◌+◌, ⊤, Bool, true, false, if◌then◌else◌, nat_lt, List, [], ◌∷◌, ◌++◌, None}
+use Rattle.std.specs.Prelude.{Some, length, flat_map}
 use Rattle.std.specs.declared.option.Option.{Option}
 use Rattle.plan_core.specs.declared.point.Point.{Point}
 use Rattle.plan_core.specs.declared.criterion.Criterion.{Criterion}
@@ -15,7 +16,8 @@ use Rattle.plan_text.specs.declared.sheet_fault.SheetWhat.{SheetWhat}
 use Rattle.plan_text.specs.declared.sheet_fault.SheetWhat.TheVariants as whats
 use Rattle.plan_text.specs.declared.sheet_fault.SheetFault.{SheetFault}
 use Rattle.plan_text.specs.declared.sheet_fault.SheetFault.TheVariants.{Sheet as SheetHas, Memory}
-use Rattle.plan_text.specs.SheetLine.{SheetLine, Title, GridLine, OrderLine, NodesLine, NodeLine, EdgesLine, EdgeLine, ValuesLine, EndLine, text_of_line, HasForm, MayEnd}
+use Rattle.plan_text.specs.SheetLine.{SheetLine, Title, GridLine, OrderLine, NodesLine, NodeLine, EdgesLine, EdgeLine}
+use Rattle.plan_text.specs.SheetLine.{ValuesLine, EndLine, text_of_line, HasForm, MayEnd}
 use Rattle.plan_text.specs.SheetText.{Sheet, StatesSettled, DrawsAll, mileage_field, track_field, sheet_lines, text_in}
 
 -- ---- which line is due
@@ -116,9 +118,11 @@ IsInRange before due line = ⊤
 -- the counts, a node's number, name and mileage, and an edge's number, track and ends are the graph's
 abbrev pub IsOfGraph : Graph → LineDue → SheetLine → Type 0
 IsOfGraph g due (NodesLine count) = count ≡ length g.nodes
-IsOfGraph g (NodeDue edition n) (NodeLine number name place mileage) = (number ≡ n) × (name ≡ (node g n).name) × (mileage ≡ mileage_field edition g n)
+IsOfGraph g (NodeDue edition n) (NodeLine number name place mileage) = (number ≡ n) × (name ≡ (node g n).name)
+    × (mileage ≡ mileage_field edition g n)
 IsOfGraph g due (EdgesLine count) = count ≡ length g.edges
-IsOfGraph g (EdgeDue edition e) (EdgeLine number track west east points) = (number ≡ e) × (track ≡ track_field edition g e) × (west ≡ (edge g e).west) × (east ≡ (edge g e).east)
+IsOfGraph g (EdgeDue edition e) (EdgeLine number track west east points) = (number ≡ e)
+    × (track ≡ track_field edition g e) × (west ≡ (edge g e).west) × (east ≡ (edge g e).east)
 IsOfGraph g due line = ⊤
 
 -- an edge's points are a line
@@ -150,10 +154,14 @@ IsMisformed due text = (line : SheetLine) → BeginsWithLine due text line → �
 -- values. Where its form is right, only an edge's line can have two, of which the graph's comes first
 abbrev pub HasWrongLine : Graph → List SheetLine → LineDue → List ℕ → SheetWhat → Type 0
 HasWrongLine g before due text whats.Form = IsMisformed due text
-HasWrongLine g before due text whats.Range = (line : SheetLine) × BeginsWithLine due text line × (IsInRange before due line → ⊥)
-HasWrongLine g before due text whats.Graph = (line : SheetLine) × BeginsWithLine due text line × (IsOfGraph g due line → ⊥)
-HasWrongLine g before due text whats.Shape = (line : SheetLine) × BeginsWithLine due text line × IsOfGraph g due line × (HasShape line → ⊥)
-HasWrongLine g before due text whats.Values = (line : SheetLine) × BeginsWithLine due text line × (IsMeasured before line → ⊥)
+HasWrongLine g before due text whats.Range = (line : SheetLine) × BeginsWithLine due text line
+    × (IsInRange before due line → ⊥)
+HasWrongLine g before due text whats.Graph = (line : SheetLine) × BeginsWithLine due text line
+    × (IsOfGraph g due line → ⊥)
+HasWrongLine g before due text whats.Shape = (line : SheetLine) × BeginsWithLine due text line × IsOfGraph g due line
+    × (HasShape line → ⊥)
+HasWrongLine g before due text whats.Values = (line : SheetLine) × BeginsWithLine due text line
+    × (IsMeasured before line → ⊥)
 
 -- the line is due after the lines before, and has no fault
 pub record IsRight (g : Graph) (before : List SheetLine) (due : LineDue) (line : SheetLine) : Type 0 where
@@ -167,18 +175,21 @@ pub record IsRight (g : Graph) (before : List SheetLine) (due : LineDue) (line :
 -- each line is due after those before it, and has no fault
 abbrev pub AreRightLines : Graph → List SheetLine → LineDue → List SheetLine → Type 0
 AreRightLines g before due [] = ⊤
-AreRightLines g before due (line ∷ lines) = IsRight g before due line × AreRightLines g (before ++ line ∷ []) (due_behind g due line) lines
+AreRightLines g before due (line ∷ lines) = IsRight g before due line
+    × AreRightLines g (before ++ line ∷ []) (due_behind g due line) lines
 
 -- the first line of the text that has a fault has this one, and this number, counted from 1
-pub record HasSheetFault (g : Graph) (needs_drawing : Bool) (text : List ℕ) (what : SheetWhat) (number : ℕ) : Type 0 where
-  pub before : List SheetLine
-  pub right : AreRightLines g [] (TitleDue needs_drawing) before
-  pub rest : List ℕ
-  pub spelled : text ≡ flat_map text_of_line before ++ rest
-  pub counted : number ≡ length before + 1
-  pub fault : HasWrongLine g before (due_after g (TitleDue needs_drawing) before) rest what
+pub record HasSheetFault (g : Graph) (needs_drawing : Bool) (text : List ℕ) (what : SheetWhat) (number : ℕ) : Type 0
+  where
+    pub before : List SheetLine
+    pub right : AreRightLines g [] (TitleDue needs_drawing) before
+    pub rest : List ℕ
+    pub spelled : text ≡ flat_map text_of_line before ++ rest
+    pub counted : number ≡ length before + 1
+    pub fault : HasWrongLine g before (due_after g (TitleDue needs_drawing) before) rest what
 
--- the text is that of the sheet, of this edition, and each of its lines is right. The points needn't lie on the sheet's grid:
+-- the text is that of the sheet, of this edition, and each of its lines is right. The points needn't lie on the sheet's
+-- grid:
 -- where one doesn't, the drawing breaks a law
 pub record IsSheetText (g : Graph) (needs_drawing : Bool) (text : List ℕ) (s : Sheet) : Type 0 where
   pub edition : Edition

@@ -1,5 +1,6 @@
 -- The lines of a sheet: what each says, its fields, and its text.
-use Rattle.std.specs.Prelude.{◌≡◌, ℕ, ◌≤◌, ⊤, Bool, true, false, List, [], ◌∷◌, ◌++◌, None, Some, IfSome, codes, map, length, get_or, flat_map}
+use Rattle.std.specs.Prelude.{◌≡◌, ℕ, ◌≤◌, ⊤, Bool, true, false, List, [], ◌∷◌, ◌++◌, None, Some, IfSome, codes, map}
+use Rattle.std.specs.Prelude.{length, get_or, flat_map}
 use Rattle.std.specs.declared.option.Option.{Option}
 use Rattle.std.specs.Char.{IsAsciiDigit}
 use Rattle.std.specs.List.{AllByRecursion}
@@ -73,9 +74,11 @@ other_fields (Title edition) = edition_number edition ∷ []
 other_fields (GridLine edition grid) = map decimal (grid_numbers edition grid)
 other_fields (OrderLine order) = map criterion_word order
 other_fields (NodesLine count) = decimal count ∷ []
-other_fields (NodeLine number name place mileage) = decimal number ∷ name ∷ decimal place.x ∷ decimal place.y ∷ field_told mileage
+other_fields (NodeLine number name place mileage) = decimal number ∷ name ∷ decimal place.x ∷ decimal place.y
+    ∷ field_told mileage
 other_fields (EdgesLine count) = decimal count ∷ []
-other_fields (EdgeLine number track west east points) = decimal number ∷ (field_told track ++ map decimal (west ∷ east ∷ flat_map coordinates points))
+other_fields (EdgeLine number track west east points) = decimal number
+    ∷ (field_told track ++ map decimal (west ∷ east ∷ flat_map coordinates points))
 other_fields (ValuesLine values) = map decimal (values.height ∷ values.bends ∷ values.diagonal ∷ values.width ∷ [])
 other_fields (EndLine ending) = ending_fields ending
 
@@ -149,9 +152,11 @@ HasForm (Title edition) = ⊤
 HasForm (GridLine edition grid) = AreSmall (grid_numbers edition grid) × StandsForLeast edition grid
 HasForm (OrderLine order) = IsBetween 1 4 (length order)
 HasForm (NodesLine count) = IsSmall count
-HasForm (NodeLine number name place mileage) = IsName name × AreSmall (number ∷ coordinates place) × IfSome mileage IsMileageText
+HasForm (NodeLine number name place mileage) = IsName name × AreSmall (number ∷ coordinates place)
+    × IfSome mileage IsMileageText
 HasForm (EdgesLine count) = IsSmall count
-HasForm (EdgeLine number track west east points) = IsBetween 2 4 (length points) × AreSmall (number ∷ west ∷ east ∷ flat_map coordinates points) × IfSome track IsName
+HasForm (EdgeLine number track west east points) = IsBetween 2 4 (length points)
+    × AreSmall (number ∷ west ∷ east ∷ flat_map coordinates points) × IfSome track IsName
 HasForm (ValuesLine values) = AreSmall (values.height ∷ values.bends ∷ values.diagonal ∷ values.width ∷ [])
 HasForm (EndLine ending) = IsSmallEnding ending
 

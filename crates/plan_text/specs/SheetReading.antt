@@ -1,5 +1,6 @@
 -- What is known of a sheet's text while it is read, for private contracts alone.
-use Rattle.std.specs.Prelude.{◌≡◌, ◌≢◌, ◌⊎◌, ℕ, ◌+◌, ◌≤◌, ⊤, Bool, true, false, List, [], ◌∷◌, ◌++◌, IfSome, codes, map, length, flat_map}
+use Rattle.std.specs.Prelude.{◌≡◌, ◌≢◌, ◌⊎◌, ℕ, ◌+◌, ◌≤◌, ⊤, Bool, true, false, List, [], ◌∷◌, ◌++◌, IfSome, codes}
+use Rattle.std.specs.Prelude.{map, length, flat_map}
 use Rattle.std.specs.declared.option.Option.{Option}
 use Rattle.std.specs.Fmt.{decimal}
 use Rattle.plan_core.specs.declared.point.Point.{Point}
@@ -19,9 +20,12 @@ use Rattle.plan_text.specs.declared.sheet_lines.EndTold.TheVariants.{Best, NoDra
 use Rattle.line_text.specs.Fields.{spaced, Ends, IsOneField}
 use Rattle.line_text.specs.Criteria.{criterion_word}
 use Rattle.plan_text.specs.declared.edition.Edition.{Edition}
-use Rattle.plan_text.specs.SheetLine.{SheetLine, Title, GridLine, OrderLine, NodesLine, NodeLine, EdgesLine, EdgeLine, ValuesLine, EndLine, IsName, IsSmall, AreSmall, IsMileageText, field_told, HasForm, IsSmallEnding, MayEnd, text_of_line}
+use Rattle.plan_text.specs.SheetLine.{SheetLine, Title, GridLine, OrderLine, NodesLine, NodeLine, EdgesLine, EdgeLine}
+use Rattle.plan_text.specs.SheetLine.{ValuesLine, EndLine, IsName, IsSmall, AreSmall, IsMileageText, field_told}
+use Rattle.plan_text.specs.SheetLine.{HasForm, IsSmallEnding, MayEnd, text_of_line}
 use Rattle.plan_text.specs.SheetText.{StatesSettled, mileage_field, track_field, picture_lines, drawing_lines}
-use Rattle.plan_text.specs.SheetFaults.{LineDue, BodyDue, ValuesDue, EdgesDue, IsToldIn, node_due, edge_due, due_after, order_told, drawing_told, HasWrongLine, AreRightLines}
+use Rattle.plan_text.specs.SheetFaults.{LineDue, BodyDue, ValuesDue, EdgesDue, IsToldIn, node_due, edge_due, due_after}
+use Rattle.plan_text.specs.SheetFaults.{order_told, drawing_told, HasWrongLine, AreRightLines}
 
 -- ---- fields
 
@@ -37,7 +41,8 @@ IsNumberAt text n rest = IsSmall n × Ends rest × (text ≡ 32 ∷ (decimal n +
 
 -- the coordinates of the point do, one after the other
 abbrev pub IsPointAt : List ℕ → Point → List ℕ → Type 0
-IsPointAt text p rest = IsSmall p.x × IsSmall p.y × Ends rest × (text ≡ 32 ∷ (decimal p.x ++ 32 ∷ (decimal p.y ++ rest)))
+IsPointAt text p rest = IsSmall p.x × IsSmall p.y × Ends rest
+    × (text ≡ 32 ∷ (decimal p.x ++ 32 ∷ (decimal p.y ++ rest)))
 
 -- the name does
 abbrev pub IsNameAt : List ℕ → List ℕ → List ℕ → Type 0
@@ -45,16 +50,19 @@ IsNameAt text name rest = IsName name × Ends rest × (text ≡ 32 ∷ (name ++ 
 
 -- behind this word, a number and a name do
 abbrev pub IsNamedAt : List ℕ → List ℕ → ℕ → List ℕ → List ℕ → Type 0
-IsNamedAt text word number name rest = IsSmall number × IsName name × Ends rest × (text ≡ word ++ 32 ∷ (decimal number ++ 32 ∷ (name ++ rest)))
+IsNamedAt text word number name rest = IsSmall number × IsName name × Ends rest
+    × (text ≡ word ++ 32 ∷ (decimal number ++ 32 ∷ (name ++ rest)))
 
 -- behind the word of an edge, its number does, and its track where the edition tells it
 abbrev pub IsNumberedAt : Edition → List ℕ → ℕ → Option (List ℕ) → List ℕ → Type 0
 IsNumberedAt edition text number track rest =
-    IsToldIn edition track × IfSome track IsName × IsSmall number × Ends rest × (text ≡ codes "edge" ++ (spaced (decimal number ∷ field_told track) ++ rest))
+    IsToldIn edition track × IfSome track IsName × IsSmall number × Ends rest
+    × (text ≡ codes "edge" ++ (spaced (decimal number ∷ field_told track) ++ rest))
 
 -- the end of a node's line stands here, with its mileage where the edition tells it
 abbrev pub IsNodeEnd : Edition → List ℕ → Option (List ℕ) → List ℕ → Type 0
-IsNodeEnd edition text mileage rest = IsToldIn edition mileage × IfSome mileage IsMileageText × (text ≡ spaced (field_told mileage) ++ 10 ∷ rest)
+IsNodeEnd edition text mileage rest = IsToldIn edition mileage × IfSome mileage IsMileageText
+    × (text ≡ spaced (field_told mileage) ++ 10 ∷ rest)
 
 -- the numbers stand in front of the text, each after one space
 pub record AreNumbersTo (text : List ℕ) (numbers rest : List ℕ) : Type 0 where
@@ -96,15 +104,18 @@ head_lines edition grid order = Title edition ∷ GridLine edition grid ∷ Orde
 -- the lines of the nodes from this number on, which stand at these points
 abbrev pub placed_lines : Edition → Graph → ℕ → List Point → List SheetLine
 placed_lines edition g n [] = []
-placed_lines edition g n (p ∷ places) = NodeLine n (node g n).name p (mileage_field edition g n) ∷ placed_lines edition g (n + 1) places
+placed_lines edition g n (p ∷ places) = NodeLine n (node g n).name p (mileage_field edition g n)
+    ∷ placed_lines edition g (n + 1) places
 
 -- the lines of the edges from this number on, which have these lines in the drawing
 abbrev pub drawn_lines : Edition → Graph → ℕ → List (List Point) → List SheetLine
 drawn_lines edition g e [] = []
-drawn_lines edition g e (l ∷ lines) = EdgeLine e (track_field edition g e) (edge g e).west (edge g e).east l ∷ drawn_lines edition g (e + 1) lines
+drawn_lines edition g e (l ∷ lines) = EdgeLine e (track_field edition g e) (edge g e).west (edge g e).east l
+    ∷ drawn_lines edition g (e + 1) lines
 
 -- the lines stand in front of the text, and are right after those before them
-pub record AreReadTo (g : Graph) (before : List SheetLine) (due : LineDue) (text : List ℕ) (lines : List SheetLine) (rest : List ℕ) : Type 0 where
+pub record AreReadTo (g : Graph) (before : List SheetLine) (due : LineDue) (text : List ℕ) (lines : List SheetLine)
+    (rest : List ℕ) : Type 0 where
   pub right : AreRightLines g before due lines
   pub spelled : text ≡ flat_map text_of_line lines ++ rest
 
@@ -114,7 +125,8 @@ IsFaultHere g before due text number (SheetHas what line) = (line ≡ number) ×
 IsFaultHere g before due text number Memory = ⊤
 
 -- the first line of the text has this number, and the first line with a fault has that one and this fault
-pub record IsFirstFrom (g : Graph) (before : List SheetLine) (due : LineDue) (text : List ℕ) (number : ℕ) (what : SheetWhat) (line : ℕ) : Type 0 where
+pub record IsFirstFrom (g : Graph) (before : List SheetLine) (due : LineDue) (text : List ℕ) (number : ℕ)
+    (what : SheetWhat) (line : ℕ) : Type 0 where
   pub lines : List SheetLine
   pub rest : List ℕ
   pub read : AreReadTo g before due text lines rest
@@ -129,25 +141,30 @@ IsFaultFrom g before due text number Memory = ⊤
 
 -- the lines of the nodes, of which there are as many as the graph has
 abbrev pub ArePlaced : Edition → Graph → List ℕ → List Point → List ℕ → Type 0
-ArePlaced edition g text places rest = (before : List SheetLine) → AreReadTo g before (node_due edition g 0) text (placed_lines edition g 0 places) rest
+ArePlaced edition g text places rest = (before : List SheetLine) →
+    AreReadTo g before (node_due edition g 0) text (placed_lines edition g 0 places) rest
 
 -- the lines of the edges
 abbrev pub AreDrawn : Edition → Graph → List ℕ → List (List Point) → List ℕ → Type 0
-AreDrawn edition g text lines rest = (before : List SheetLine) → AreReadTo g before (edge_due edition g 0) text (drawn_lines edition g 0 lines) rest
+AreDrawn edition g text lines rest = (before : List SheetLine) →
+    AreReadTo g before (edge_due edition g 0) text (drawn_lines edition g 0 lines) rest
 
 -- the same with the counts in front
 abbrev pub ArePlacesTo : Edition → Graph → List ℕ → List Point → List ℕ → Type 0
 ArePlacesTo edition g text places rest =
-    (before : List SheetLine) → AreReadTo g before (BodyDue edition true) text (NodesLine (length g.nodes) ∷ placed_lines edition g 0 places) rest
+    (before : List SheetLine) → AreReadTo g before (BodyDue edition true) text
+    (NodesLine (length g.nodes) ∷ placed_lines edition g 0 places) rest
 
 abbrev pub AreLinesTo : Edition → Graph → List ℕ → List (List Point) → List ℕ → Type 0
 AreLinesTo edition g text lines rest =
-    (before : List SheetLine) → AreReadTo g before (EdgesDue edition) text (EdgesLine (length g.edges) ∷ drawn_lines edition g 0 lines) rest
+    (before : List SheetLine) → AreReadTo g before (EdgesDue edition) text
+    (EdgesLine (length g.edges) ∷ drawn_lines edition g 0 lines) rest
 
 -- the points and lines of the drawing
 abbrev pub IsPictureTo : Edition → Graph → List ℕ → Drawing → List ℕ → Type 0
 IsPictureTo edition g text d rest =
-    (before : List SheetLine) → AreReadTo g before (BodyDue edition true) text (NodesLine (length g.nodes) ∷ picture_lines edition g d) rest
+    (before : List SheetLine) → AreReadTo g before (BodyDue edition true) text
+    (NodesLine (length g.nodes) ∷ picture_lines edition g d) rest
 
 -- the first fault of these lines, whatever stands before them
 abbrev pub IsFaultAfterAny : Graph → LineDue → List ℕ → (number : ℕ) → SheetFault → Type 0
@@ -156,27 +173,33 @@ IsFaultAfterAny g due text number fault = (before : List SheetLine) → IsFaultF
 -- behind lines that tell this order and this drawing, the values and the ending stand here and nothing else
 abbrev pub IsClosing : Graph → List Criterion → Drawing → List ℕ → Ending → Type 0
 IsClosing g order d text e =
-    (before : List SheetLine) → order_told before ≡ order → drawing_told before ≡ d → AreReadTo g before ValuesDue text (ValuesLine (values_of d) ∷ EndLine e ∷ []) []
+    (before : List SheetLine) → order_told before ≡ order → drawing_told before ≡ d →
+    AreReadTo g before ValuesDue text (ValuesLine (values_of d) ∷ EndLine e ∷ []) []
 
 -- the first fault of these lines behind lines that tell this order and this drawing
 abbrev pub IsFaultAfter : Graph → List Criterion → Drawing → LineDue → List ℕ → (number : ℕ) → SheetFault → Type 0
 IsFaultAfter g order d due text number fault =
-    (before : List SheetLine) → order_told before ≡ order → drawing_told before ≡ d → IsFaultFrom g before due text number fault
+    (before : List SheetLine) → order_told before ≡ order → drawing_told before ≡ d →
+    IsFaultFrom g before due text number fault
 
 -- behind lines that tell this order and no drawing, all lines of the drawing and the ending stand here
 abbrev pub IsBody : Edition → Graph → List Criterion → List ℕ → Drawing → Ending → Type 0
 IsBody edition g order text d e =
-    (before : List SheetLine) → order_told before ≡ order → drawing_told before ≡ drawing [] [] → AreReadTo g before (BodyDue edition true) text (drawing_lines edition g d ++ EndLine e ∷ []) []
+    (before : List SheetLine) → order_told before ≡ order → drawing_told before ≡ drawing [] [] →
+    AreReadTo g before (BodyDue edition true) text (drawing_lines edition g d ++ EndLine e ∷ []) []
 
 -- ---- the ending of a sheet without a drawing, behind lines that tell some order, in either edition
 
 abbrev pub IsUndrawnEnding : List ℕ → Ending → Type 0
 IsUndrawnEnding text e =
-    (g : Graph) (edition : Edition) (before : List SheetLine) → 1 ≤ length (order_told before) → AreReadTo g before (BodyDue edition false) text (EndLine e ∷ []) []
+    (g : Graph) (edition : Edition) (before : List SheetLine) → 1 ≤ length (order_told before) →
+    AreReadTo g before (BodyDue edition false) text (EndLine e ∷ []) []
 
 abbrev pub IsNoUndrawnEnding : List ℕ → Type 0
-IsNoUndrawnEnding text = (e : Ending) (rest : List ℕ) → IsSmallEnding e → MayEnd false e → text ≢ text_of_line (EndLine e) ++ rest
+IsNoUndrawnEnding text = (e : Ending) (rest : List ℕ) → IsSmallEnding e → MayEnd false e →
+    text ≢ text_of_line (EndLine e) ++ rest
 
 abbrev pub IsUndrawnFault : List ℕ → SheetFault → Type 0
 IsUndrawnFault text fault =
-    (g : Graph) (edition : Edition) (before : List SheetLine) → 1 ≤ length (order_told before) → IsFaultFrom g before (BodyDue edition false) text 4 fault
+    (g : Graph) (edition : Edition) (before : List SheetLine) → 1 ≤ length (order_told before) →
+    IsFaultFrom g before (BodyDue edition false) text 4 fault

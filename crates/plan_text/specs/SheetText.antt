@@ -1,5 +1,6 @@
 -- The drawing text, or sheet: what is drawn, line by line.
-use Rattle.std.specs.Prelude.{◌≡◌, ℕ, ◌<◌, ⊤, Bool, false, List, [], ◌∷◌, ◌++◌, None, Some, map, length, flat_map, All, IfSome}
+use Rattle.std.specs.Prelude.{◌≡◌, ℕ, ◌<◌, ⊤, Bool, false, List, [], ◌∷◌, ◌++◌, None, Some, map, length, flat_map, All}
+use Rattle.std.specs.Prelude.{IfSome}
 use Rattle.std.specs.List.{range_with_len}
 use Rattle.std.specs.declared.option.Option.{Option}
 use Rattle.plan_core.specs.declared.criterion.Criterion.{Criterion}
@@ -14,7 +15,8 @@ use Rattle.plan_text.specs.declared.edition.Edition.{Edition}
 use Rattle.plan_text.specs.declared.edition.Edition.TheVariants.{First, Second}
 use Rattle.plan_text.specs.declared.ending.Ending.{Ending}
 use Rattle.plan_text.specs.declared.ending.Ending.TheVariants.{Best, NoDrawing, Conflicts, Room}
-use Rattle.plan_text.specs.SheetLine.{SheetLine, Title, GridLine, OrderLine, NodesLine, NodeLine, EdgesLine, EdgeLine, ValuesLine, EndLine, text_of_line}
+use Rattle.plan_text.specs.SheetLine.{SheetLine, Title, GridLine, OrderLine, NodesLine, NodeLine, EdgesLine, EdgeLine}
+use Rattle.plan_text.specs.SheetLine.{ValuesLine, EndLine, text_of_line}
 
 -- a sheet, whatever it says; the program's has an ending that goes with its drawing
 pub record Sheet : Type 0 where
@@ -82,7 +84,8 @@ found_lines edition g None = []
 found_lines edition g (Some d) = drawing_lines edition g d
 
 abbrev pub sheet_lines : Edition → Graph → Sheet → List SheetLine
-sheet_lines edition g s = Title edition ∷ GridLine edition s.grid ∷ OrderLine s.order ∷ (found_lines edition g s.found ++ EndLine s.ending ∷ [])
+sheet_lines edition g s = Title edition ∷ GridLine edition s.grid ∷ OrderLine s.order
+    ∷ (found_lines edition g s.found ++ EndLine s.ending ∷ [])
 
 abbrev pub text_in : Edition → Graph → Sheet → List ℕ
 text_in edition g s = flat_map text_of_line (sheet_lines edition g s)

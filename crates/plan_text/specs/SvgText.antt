@@ -25,7 +25,8 @@ extent n = 40 * n + 40
 
 -- a byte of a name, as it is written between tags
 abbrev pub escaped_byte : ℕ → List ℕ
-escaped_byte b = if b == 38 then codes "&amp;" else (if b == 60 then codes "&lt;" else (if b == 62 then codes "&gt;" else b ∷ []))
+escaped_byte b = if b == 38 then codes "&amp;" else
+    (if b == 60 then codes "&lt;" else (if b == 62 then codes "&gt;" else b ∷ []))
 
 abbrev pub escaped : List ℕ → List ℕ
 escaped name = flat_map escaped_byte name
@@ -42,18 +43,21 @@ points_text height (p ∷ rest) = point_text height p ++ flat_map (λ q. 32 ∷ 
 
 -- the line of an edge
 abbrev pub polyline : ℕ → List Point → List ℕ
-polyline height points = codes "<polyline points=\"" ++ points_text height points ++ codes "\" fill=\"none\" stroke=\"black\"/>\n"
+polyline height points = codes "<polyline points=\"" ++ points_text height points
+    ++ codes "\" fill=\"none\" stroke=\"black\"/>\n"
 
 -- where a name begins: above its node's point
 abbrev pub label_begin : ℕ → Point → List ℕ
-label_begin height p = codes "<text x=\"" ++ decimal (pixels_across p.x) ++ codes "\" y=\"" ++ decimal (pixels_down height p.y - 6) ++ codes "\">"
+label_begin height p = codes "<text x=\"" ++ decimal (pixels_across p.x) ++ codes "\" y=\""
+    ++ decimal (pixels_down height p.y - 6) ++ codes "\">"
 
 -- the name of a node
 abbrev pub label : Graph → Drawing → ℕ → List ℕ
 label g d n = label_begin (values_of d).height (place d n) ++ escaped (node g n).name ++ codes "</text>\n"
 
 abbrev pub picture_begin : ℕ → ℕ → List ℕ
-picture_begin width height = codes "<svg xmlns=\"http://www.w3.org/2000/svg\" viewBox=\"0 0 " ++ decimal (extent width) ++ codes " " ++ decimal (extent height) ++ codes "\">\n"
+picture_begin width height = codes "<svg xmlns=\"http://www.w3.org/2000/svg\" viewBox=\"0 0 " ++ decimal (extent width)
+    ++ codes " " ++ decimal (extent height) ++ codes "\">\n"
 
 -- the lines of all edges and then the names of all nodes, by number
 abbrev pub svg_text : Graph → Drawing → List ℕ

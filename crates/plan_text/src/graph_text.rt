@@ -8,7 +8,8 @@ ghost use Rattle.port_graph.specs.Plain.{plain_ports};
 ghost use Rattle.rail_mileage.specs.MetresText.{metres_text};
 ghost use Rattle.track_order.specs.Order.{is_above, IsOrderOf};
 ghost use Rattle.line_text.specs.Fields.{spaced, line_text};
-ghost use Rattle.plan_text.specs.GraphText.{compass_word, side_word, kind_fields, node_line, edge_line, above_line, above_lines, nodes_text, edges_text, order_text, graph_text};
+ghost use Rattle.plan_text.specs.GraphText.{compass_word, side_word, kind_fields, node_line, edge_line, above_line};
+ghost use Rattle.plan_text.specs.GraphText.{above_lines, nodes_text, edges_text, order_text, graph_text};
 
 use crate::line_parts::{push_count_line, push_mileage, push_named};
 use line_text::{push_field, push_number_field, push_text};
@@ -36,7 +37,8 @@ fn side_word(side: Side) -> &'static [u8]
 }
 
 fn push_switch(into: &mut Vec<u8>, legs: Compass, branch: Side) -> Result<(), OutOfMemory>
-    ensures ok { OnOk result (into.new.items ≡ into.old.items ++ spaced (codes "switch" ∷ compass_word legs ∷ side_word branch ∷ [])) }
+    ensures ok { OnOk result (into.new.items ≡ into.old.items ++ spaced
+        (codes "switch" ∷ compass_word legs ∷ side_word branch ∷ [])) }
     ensures begins { Begins into.old.items into.new.items }
 {
     push_field(into, b"switch")?;
@@ -115,7 +117,8 @@ fn push_if_above(t: &TrackOrder, e: u16, f: u16, into: &mut Vec<u8>) -> Result<(
 }
 
 fn push_node_lines(alloc: Global, g: &PortGraph, into: &mut Vec<u8>) -> Result<(), OutOfMemory>
-    ensures ok { OnOk result (into.new.items ≡ into.old.items ++ flat_map (node_line g.now) (range_with_len 0 (length g.now.nodes))) }
+    ensures ok { OnOk result (into.new.items ≡ into.old.items ++ flat_map (node_line g.now)
+        (range_with_len 0 (length g.now.nodes))) }
     ensures begins { Begins into.old.items into.new.items }
 {
     for n in 0..g.nodes() {
@@ -133,7 +136,8 @@ fn push_nodes(alloc: Global, g: &PortGraph, into: &mut Vec<u8>) -> Result<(), Ou
 }
 
 fn push_edge_lines(g: &PortGraph, into: &mut Vec<u8>) -> Result<(), OutOfMemory>
-    ensures ok { OnOk result (into.new.items ≡ into.old.items ++ flat_map (edge_line g.now) (range_with_len 0 (length g.now.edges))) }
+    ensures ok { OnOk result (into.new.items ≡ into.old.items ++ flat_map (edge_line g.now)
+        (range_with_len 0 (length g.now.edges))) }
     ensures begins { Begins into.old.items into.new.items }
 {
     for e in 0..g.edges() {

@@ -7,7 +7,8 @@ ghost use Rattle.plan_core.specs.Graph.{Graph, node, edge};
 ghost use Rattle.port_graph.specs.StationGraph.{IsStationGraph};
 ghost use Rattle.plan_text.specs.declared.sheet_fault.SheetWhat.{SheetWhat};
 ghost use Rattle.plan_text.specs.SheetLine.{IsName};
-ghost use Rattle.plan_text.specs.SheetText.{Sheet as PlainSheet, DrawsAll, DrawsOnGrid, StatesSettled, sheet_text, first_sheet_text};
+ghost use Rattle.plan_text.specs.SheetText.{Sheet as PlainSheet, DrawsAll, DrawsOnGrid, StatesSettled, sheet_text};
+ghost use Rattle.plan_text.specs.SheetText.{first_sheet_text};
 ghost use Rattle.plan_text.specs.SheetFaults.{HasSheetFault, IsSheetText};
 
 use crate::Sheet;
@@ -17,23 +18,28 @@ use port_graph::PortGraph;
 
 /// A text that is a sheet's has no line with a fault.
 pub fn sheet_or_fault()
-    ensures { (g : Graph) (needs_drawing : Bool) (text : List ℕ) (s : PlainSheet) (what : SheetWhat) (line : ℕ) → IsSheetText g needs_drawing text s → HasSheetFault g needs_drawing text what line → ⊥ }
+    ensures { (g : Graph) (needs_drawing : Bool) (text : List ℕ) (s : PlainSheet) (what : SheetWhat) (line : ℕ) →
+        IsSheetText g needs_drawing text s → HasSheetFault g needs_drawing text what line → ⊥ }
 {}
 
 /// A text has one first fault at most: of one kind, in one line.
 pub fn one_sheet_fault()
-    ensures kind { (g : Graph) (needs_drawing : Bool) (text : List ℕ) (what other : SheetWhat) (line at : ℕ) → HasSheetFault g needs_drawing text what line → HasSheetFault g needs_drawing text other at → what ≡ other }
-    ensures line { (g : Graph) (needs_drawing : Bool) (text : List ℕ) (what other : SheetWhat) (line at : ℕ) → HasSheetFault g needs_drawing text what line → HasSheetFault g needs_drawing text other at → line ≡ at }
+    ensures kind { (g : Graph) (needs_drawing : Bool) (text : List ℕ) (what other : SheetWhat) (line at : ℕ) →
+        HasSheetFault g needs_drawing text what line → HasSheetFault g needs_drawing text other at → what ≡ other }
+    ensures line { (g : Graph) (needs_drawing : Bool) (text : List ℕ) (what other : SheetWhat) (line at : ℕ) →
+        HasSheetFault g needs_drawing text what line → HasSheetFault g needs_drawing text other at → line ≡ at }
 {}
 
 /// A text is that of one sheet at most.
 pub fn one_sheet()
-    ensures { (g : Graph) (needs_drawing : Bool) (text : List ℕ) (a b : PlainSheet) → IsSheetText g needs_drawing text a → IsSheetText g needs_drawing text b → a ≡ b }
+    ensures { (g : Graph) (needs_drawing : Bool) (text : List ℕ) (a b : PlainSheet) →
+        IsSheetText g needs_drawing text a → IsSheetText g needs_drawing text b → a ≡ b }
 {}
 
 /// No text of a sheet of a station is too long to be read.
 pub fn sheets_are_short()
-    ensures { (g : Graph) (needs_drawing : Bool) (text : List ℕ) (s : PlainSheet) → IsStationGraph g → IsSheetText g needs_drawing text s → length text ≤ MAX_FILE_BYTES }
+    ensures { (g : Graph) (needs_drawing : Bool) (text : List ℕ) (s : PlainSheet) → IsStationGraph g →
+        IsSheetText g needs_drawing text s → length text ≤ MAX_FILE_BYTES }
 {}
 
 /// Each node has a name that is one field.
@@ -74,7 +80,8 @@ pub fn written_is_read(g: &PortGraph, s: &Sheet)
     ensures short { length (sheet_text g.now s.now) ≤ MAX_FILE_BYTES }
     ensures drawn { is_some s.now.found ≡ true → IsSheetText g.now true (sheet_text g.now s.now) s.now }
     ensures first { s.now.grid.least ≡ 1 → IsSheetText g.now false (first_sheet_text g.now s.now) s.now }
-    ensures first_drawn { s.now.grid.least ≡ 1 → is_some s.now.found ≡ true → IsSheetText g.now true (first_sheet_text g.now s.now) s.now }
+    ensures first_drawn { s.now.grid.least ≡ 1 → is_some s.now.found ≡ true →
+        IsSheetText g.now true (first_sheet_text g.now s.now) s.now }
 {
     // what the types keep
     names(g);

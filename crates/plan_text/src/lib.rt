@@ -6,7 +6,8 @@
 //! both again, or answer the first line with a fault. `laws` says that a text is that of one sheet or has one
 //! first fault, that a sheet's text is never too long to be read, and that what is written is read again.
 //! `write_svg` appends the picture of a drawing.
-//! `specs/GraphText`, `specs/SheetText` and `specs/SvgText` have the texts, `specs/SheetLine` the forms of a sheet's lines,
+//! `specs/GraphText`, `specs/SheetText` and `specs/SvgText` have the texts, `specs/SheetLine` the forms of a sheet's
+//! lines,
 //! `specs/SheetFaults` their faults and `specs/SheetWhats` the faults' numbers and words;
 //! `specs/SheetReading` is for private contracts.
 //! The crate stands on `line_text`, `plan_core`, `plan_geometry`, `port_graph`, `track_order` and

@@ -6,11 +6,13 @@ ghost use Rattle.plan_core.specs.Order.{IsOrder};
 ghost use Rattle.plan_core.specs.Line.{is_line};
 ghost use Rattle.plan_core.specs.Graph.{Graph, node, edge};
 ghost use Rattle.plan_core.specs.Values.{values_of};
-ghost use Rattle.plan_text.specs.SheetLine.{SheetLine, Title, GridLine, OrderLine, NodesLine, NodeLine, EdgesLine, EdgeLine, ValuesLine, EndLine, MayEnd};
+ghost use Rattle.plan_text.specs.SheetLine.{SheetLine, Title, GridLine, OrderLine, NodesLine, NodeLine, EdgesLine};
+ghost use Rattle.plan_text.specs.SheetLine.{EdgeLine, ValuesLine, EndLine, MayEnd};
 ghost use Rattle.plan_text.specs.declared.edition.Edition.{Edition as Editions};
 ghost use Rattle.rail_mileage.specs.MetresText.{metres_text};
 ghost use Rattle.plan_text.specs.SheetText.{StatesSettled, mileage_field, track_field};
-ghost use Rattle.plan_text.specs.SheetFaults.{TitleDue, GridDue, OrderDue, BodyDue, NodeDue, EdgesDue, EdgeDue, ValuesDue, EndDue, order_told, drawing_told, IsOfGraph};
+ghost use Rattle.plan_text.specs.SheetFaults.{TitleDue, GridDue, OrderDue, BodyDue, NodeDue, EdgesDue, EdgeDue};
+ghost use Rattle.plan_text.specs.SheetFaults.{ValuesDue, EndDue, order_told, drawing_told, IsOfGraph};
 ghost use Rattle.plan_text.specs.SheetReading.{IsLineTo, IsEndFault, IsFaultHere, ending_told};
 
 use crate::sheet_lines::{
@@ -28,7 +30,8 @@ use std::alloc::Global;
 /// The edition that the title tells, and what stands behind it.
 pub(crate) fn title(text: &[u8]) -> Result<(Edition, &[u8]), SheetFault>
     ensures { MatchResult result (λ p. IsLineTo text.now (Title p.0) p.1.now)
-        (λ fault. (g : Graph) (before : List SheetLine) (needs_drawing : Bool) → IsFaultHere g before (TitleDue needs_drawing) text.now 1 fault) }
+        (λ fault. (g : Graph) (before : List SheetLine) (needs_drawing : Bool) →
+        IsFaultHere g before (TitleDue needs_drawing) text.now 1 fault) }
 {
     if let Some(rest) = behind(text, b"railplan 1\n") {
         return Ok((Edition::First, rest));
@@ -45,7 +48,8 @@ pub(crate) fn title(text: &[u8]) -> Result<(Edition, &[u8]), SheetFault>
 /// The grid, and what stands behind its line.
 pub(crate) fn grid(edition: Edition, text: &[u8]) -> Result<(Grid, &[u8]), SheetFault>
     ensures { MatchResult result (λ p. IsGrid p.0 × IsLineTo text.now (GridLine edition p.0) p.1.now)
-        (λ fault. (g : Graph) (before : List SheetLine) (needs_drawing : Bool) → IsFaultHere g before (GridDue edition needs_drawing) text.now 2 fault) }
+        (λ fault. (g : Graph) (before : List SheetLine) (needs_drawing : Bool) →
+        IsFaultHere g before (GridDue edition needs_drawing) text.now 2 fault) }
 {
     let Some((width, height, least, rest)) = grid_line(edition, text) else {
         return Err(SheetFault::Sheet {
@@ -65,7 +69,8 @@ pub(crate) fn grid(edition: Edition, text: &[u8]) -> Result<(Grid, &[u8]), Sheet
 /// The order of criteria, and what stands behind its line.
 pub(crate) fn order(text: &[u8]) -> Result<(Order, &[u8]), SheetFault>
     ensures { MatchResult result (λ p. IsOrder p.0 × IsLineTo text.now (OrderLine p.0) p.1.now)
-        (λ fault. (g : Graph) (before : List SheetLine) (edition : Editions) (needs_drawing : Bool) → IsFaultHere g before (OrderDue edition needs_drawing) text.now 3 fault) }
+        (λ fault. (g : Graph) (before : List SheetLine) (edition : Editions) (needs_drawing : Bool) →
+        IsFaultHere g before (OrderDue edition needs_drawing) text.now 3 fault) }
 {
     let Some((criteria, rest)) = order_line(text) else {
         return Err(SheetFault::Sheet {
@@ -85,7 +90,8 @@ pub(crate) fn order(text: &[u8]) -> Result<(Order, &[u8]), SheetFault>
 /// What stands behind the number of nodes.
 pub(crate) fn nodes<'a>(g: &PortGraph, text: &'a [u8]) -> Result<&'a [u8], SheetFault>
     ensures { MatchResult result (λ rest. IsLineTo text.now (NodesLine (length g.now.nodes)) rest.now)
-        (λ fault. (edition : Editions) (before : List SheetLine) → IsFaultHere g.now before (BodyDue edition true) text.now 4 fault) }
+        (λ fault. (edition : Editions) (before : List SheetLine) →
+        IsFaultHere g.now before (BodyDue edition true) text.now 4 fault) }
 {
     let Some((count, rest)) = one_number(text, b"nodes") else {
         return Err(SheetFault::Sheet {
@@ -145,7 +151,8 @@ fn is_node(
     told: &NodeTold<'_>,
 ) -> Result<bool, OutOfMemory>
     requires { n < length g.now.nodes }
-    ensures { IfOk result (λ b. IsTrue b ↔ IsOfGraph g.now (NodeDue edition n) (NodeLine told.now.number told.now.name.now told.now.place (option_copied told.now.mileage))) }
+    ensures { IfOk result (λ b. IsTrue b ↔ IsOfGraph g.now (NodeDue edition n)
+        (NodeLine told.now.number told.now.name.now told.now.place (option_copied told.now.mileage))) }
 {
     let is_mileage = is_mileage_of(alloc, g, edition, n, told.mileage)?;
     Ok(told.number == n && told.name == g.name(NodeNo(n)).bytes() && is_mileage)
@@ -161,7 +168,8 @@ pub(crate) fn node<'a>(
     line: u32,
 ) -> Result<(Point, &'a [u8]), SheetFault>
     requires { n < length g.now.nodes }
-    ensures { MatchResult result (λ p. IsLineTo text.now (NodeLine n (node g.now n).name p.0 (mileage_field edition g.now n)) p.1.now)
+    ensures { MatchResult result (λ p. IsLineTo text.now (NodeLine n (node g.now n).name p.0
+        (mileage_field edition g.now n)) p.1.now)
         (λ fault. (before : List SheetLine) → IsFaultHere g.now before (NodeDue edition n) text.now line fault) }
 {
     let Some((told, rest)) = node_line(edition, text) else {
@@ -184,7 +192,8 @@ pub(crate) fn node<'a>(
 /// What stands behind the number of edges.
 pub(crate) fn edges<'a>(g: &PortGraph, text: &'a [u8], line: u32) -> Result<&'a [u8], SheetFault>
     ensures { MatchResult result (λ rest. IsLineTo text.now (EdgesLine (length g.now.edges)) rest.now)
-        (λ fault. (edition : Editions) (before : List SheetLine) → IsFaultHere g.now before (EdgesDue edition) text.now line fault) }
+        (λ fault. (edition : Editions) (before : List SheetLine) →
+        IsFaultHere g.now before (EdgesDue edition) text.now line fault) }
 {
     let Some((count, rest)) = one_number(text, b"edges") else {
         return Err(SheetFault::Sheet {
@@ -219,7 +228,8 @@ fn is_track_of(g: &PortGraph, edition: Edition, e: u16, track: Option<&[u8]>) ->
 /// Whether the line of an edge tells the number, the track and the nodes of this one.
 fn is_edge(g: &PortGraph, edition: Edition, e: u16, told: &EdgeTold<'_>) -> bool
     requires { e < length g.now.edges }
-    ensures { IsTrue result ↔ IsOfGraph g.now (EdgeDue edition e) (EdgeLine told.now.number (option_copied told.now.track) told.now.west told.now.east told.now.points.items) }
+    ensures { IsTrue result ↔ IsOfGraph g.now (EdgeDue edition e)
+        (EdgeLine told.now.number (option_copied told.now.track) told.now.west told.now.east told.now.points.items) }
 {
     let is_track = is_track_of(g, edition, e, told.track);
     told.number == e
@@ -237,7 +247,8 @@ pub(crate) fn edge<'a>(
     line: u32,
 ) -> Result<(Line, &'a [u8]), SheetFault>
     requires { e < length g.now.edges }
-    ensures { MatchResult result (λ p. (is_line p.0 ≡ true) × IsLineTo text.now (EdgeLine e (track_field edition g.now e) (edge g.now e).west (edge g.now e).east p.0) p.1.now)
+    ensures { MatchResult result (λ p. (is_line p.0 ≡ true) × IsLineTo text.now
+        (EdgeLine e (track_field edition g.now e) (edge g.now e).west (edge g.now e).east p.0) p.1.now)
         (λ fault. (before : List SheetLine) → IsFaultHere g.now before (EdgeDue edition e) text.now line fault) }
 {
     let Some((told, rest)) = edge_line(edition, text) else {
@@ -264,7 +275,8 @@ pub(crate) fn edge<'a>(
 /// What stands behind the values of a drawing.
 pub(crate) fn measured<'a>(d: &Drawing, text: &'a [u8], line: u32) -> Result<&'a [u8], SheetFault>
     ensures { MatchResult result (λ rest. IsLineTo text.now (ValuesLine (values_of d.now)) rest.now)
-        (λ fault. (g : Graph) (before : List SheetLine) → drawing_told before ≡ d.now → IsFaultHere g before ValuesDue text.now line fault) }
+        (λ fault. (g : Graph) (before : List SheetLine) → drawing_told before ≡ d.now →
+        IsFaultHere g before ValuesDue text.now line fault) }
 {
     let Some((told, rest)) = values_line(text) else {
         return Err(SheetFault::Sheet {
@@ -318,8 +330,10 @@ pub(crate) fn ending<'a>(
     text: &'a [u8],
     line: u32,
 ) -> Result<(Ending, &'a [u8]), SheetFault>
-    ensures { MatchResult result (λ p. MayEnd true p.0 × StatesSettled order.now true p.0 × IsLineTo text.now (EndLine p.0) p.1.now)
-        (λ fault. (g : Graph) (before : List SheetLine) → order_told before ≡ order.now → IsFaultHere g before EndDue text.now line fault) }
+    ensures { MatchResult result (λ p. MayEnd true p.0 × StatesSettled order.now true p.0
+        × IsLineTo text.now (EndLine p.0) p.1.now)
+        (λ fault. (g : Graph) (before : List SheetLine) → order_told before ≡ order.now →
+        IsFaultHere g before EndDue text.now line fault) }
 {
     let Some((told, rest)) = end_line(text) else {
         return Err(SheetFault::Sheet {

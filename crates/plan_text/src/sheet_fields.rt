@@ -22,7 +22,8 @@ pub(crate) fn next_field(text: &[u8]) -> Option<(&[u8], &[u8])>
 
 /// The number that the field is the canonical decimal of, if it is one of at most 65,535.
 fn number_of(field: &[u8]) -> Option<u16>
-    ensures { MatchOption result ((n : ℕ) → IsSmall n → field.now ≢ decimal n) (λ n. IsSmall n × (field.now ≡ decimal n)) }
+    ensures { MatchOption result ((n : ℕ) → IsSmall n → field.now ≢ decimal n)
+        (λ n. IsSmall n × (field.now ≡ decimal n)) }
 {
     let number = read_number(field, 0, MAX_NUMBER)?;
     Some(number as u16)
@@ -30,7 +31,8 @@ fn number_of(field: &[u8]) -> Option<u16>
 
 /// The number in front of the text, after one space, and what stands behind it, if one is in front.
 pub(crate) fn next_number(text: &[u8]) -> Option<(u16, &[u8])>
-    ensures { MatchOption result ((n : ℕ) (rest : List ℕ) → IsNumberAt text.now n rest → ⊥) (λ p. IsNumberAt text.now p.0 p.1.now) }
+    ensures { MatchOption result ((n : ℕ) (rest : List ℕ) → IsNumberAt text.now n rest → ⊥)
+        (λ p. IsNumberAt text.now p.0 p.1.now) }
 {
     let (field, rest) = next_field(text)?;
     let number = number_of(field)?;
@@ -39,7 +41,8 @@ pub(crate) fn next_number(text: &[u8]) -> Option<(u16, &[u8])>
 
 /// The name in front of the text, after one space, and what stands behind it, if one is in front.
 pub(crate) fn next_name(text: &[u8]) -> Option<(&[u8], &[u8])>
-    ensures { MatchOption result ((name rest : List ℕ) → IsNameAt text.now name rest → ⊥) (λ p. IsNameAt text.now p.0.now p.1.now) }
+    ensures { MatchOption result ((name rest : List ℕ) → IsNameAt text.now name rest → ⊥)
+        (λ p. IsNameAt text.now p.0.now p.1.now) }
 {
     let (name, rest) = next_field(text)?;
     if name.is_empty() {
@@ -51,7 +54,8 @@ pub(crate) fn next_name(text: &[u8]) -> Option<(&[u8], &[u8])>
 /// The point whose coordinates are in front of the text, each after one space, and what stands behind them,
 /// if two numbers are in front.
 pub(crate) fn next_point(text: &[u8]) -> Option<(Point, &[u8])>
-    ensures { MatchOption result ((p : Told) (rest : List ℕ) → IsPointAt text.now p rest → ⊥) (λ p. IsPointAt text.now p.0 p.1.now) }
+    ensures { MatchOption result ((p : Told) (rest : List ℕ) → IsPointAt text.now p rest → ⊥)
+        (λ p. IsPointAt text.now p.0 p.1.now) }
 {
     let (x, rest) = next_number(text)?;
     let (y, rest) = next_number(rest)?;
@@ -61,7 +65,8 @@ pub(crate) fn next_point(text: &[u8]) -> Option<(Point, &[u8])>
 /// The numbers up to the line feed, each after one space, and what stands behind it, if there are no more
 /// than eleven.
 pub(crate) fn numbers(text: &[u8]) -> Option<(ArrayVec<u16, 11>, &[u8])>
-    ensures { MatchOption result ((ns rest : List ℕ) → AreSmall ns → length ns ≤ 11 → text.now ≢ spaced (map decimal ns) ++ (10 ∷ rest))
+    ensures { MatchOption result ((ns rest : List ℕ) → AreSmall ns → length ns ≤ 11 → text.now ≢ spaced (map decimal ns)
+        ++ (10 ∷ rest))
         (λ p. AreSmall p.0.items × (text.now ≡ spaced (map decimal p.0.items) ++ (10 ∷ p.1.now))) }
 {
     let mut numbers = ArrayVec::new();
@@ -82,7 +87,8 @@ pub(crate) fn numbers(text: &[u8]) -> Option<(ArrayVec<u16, 11>, &[u8])>
 /// The criteria up to the line feed, each after one space, and what stands behind it, if there are no more
 /// than four.
 pub(crate) fn criteria(text: &[u8]) -> Option<(ArrayVec<Criterion, 4>, &[u8])>
-    ensures { MatchOption result ((cs : List Measure) (rest : List ℕ) → length cs ≤ 4 → text.now ≢ spaced (map criterion_word cs) ++ (10 ∷ rest))
+    ensures { MatchOption result ((cs : List Measure) (rest : List ℕ) → length cs ≤ 4 →
+        text.now ≢ spaced (map criterion_word cs) ++ (10 ∷ rest))
         (λ p. text.now ≡ spaced (map criterion_word p.0.items) ++ (10 ∷ p.1.now)) }
 {
     let mut criteria = ArrayVec::new();

@@ -8,7 +8,9 @@ ghost use Rattle.plan_core.specs.Grid.{GridSize, grid_with};
 ghost use Rattle.line_text.specs.Fields.{line_text};
 ghost use Rattle.plan_text.specs.declared.edition.Edition.{Edition as Editions};
 ghost use Rattle.plan_text.specs.declared.ending.Ending.{Ending};
-ghost use Rattle.plan_text.specs.SheetLine.{SheetLine, GridLine, OrderLine, NodeLine, EdgeLine, ValuesLine, EndLine, grid_numbers, coordinates, text_of_line, IsSmall, AreSmall, IsMileageText, StandsForLeast, IsBetween, HasForm, IsSmallEnding};
+ghost use Rattle.plan_text.specs.SheetLine.{SheetLine, GridLine, OrderLine, NodeLine, EdgeLine, ValuesLine, EndLine};
+ghost use Rattle.plan_text.specs.SheetLine.{grid_numbers, coordinates, text_of_line, IsSmall, AreSmall, IsMileageText};
+ghost use Rattle.plan_text.specs.SheetLine.{StandsForLeast, IsBetween, HasForm, IsSmallEnding};
 ghost use Rattle.plan_text.specs.SheetFaults.{GridDue, OrderDue, NodeDue, EdgeDue, ValuesDue, IsToldIn, BeginsWithLine};
 ghost use Rattle.plan_text.specs.SheetReading.{IsNamedAt, IsNumberedAt, IsNodeEnd, IsLineTo, ending_told};
 
@@ -49,7 +51,8 @@ pub(crate) enum EndTold {
 
 /// The numbers of a line that begins so, and what stands behind the line.
 fn numbered<'a>(text: &'a [u8], front: &[u8]) -> Option<(ArrayVec<u16, 11>, &'a [u8])>
-    ensures { MatchOption result ((ns rest : List ℕ) → AreSmall ns → length ns ≤ 11 → text.now ≢ line_text front.now (map decimal ns) ++ rest)
+    ensures { MatchOption result ((ns rest : List ℕ) → AreSmall ns → length ns ≤ 11 →
+        text.now ≢ line_text front.now (map decimal ns) ++ rest)
         (λ p. AreSmall p.0.items × (text.now ≡ line_text front.now (map decimal p.0.items) ++ p.1.now)) }
 {
     numbers(behind(text, front)?)
@@ -93,7 +96,8 @@ fn only_four(numbers: &[u16]) -> Option<[u16; 4]>
 
 /// The first two numbers, and what follows.
 fn first_two(numbers: &[u16]) -> Option<(u16, u16, &[u16])>
-    ensures { MatchOption result ((x y : ℕ) (rest : List ℕ) → numbers.now ≢ x ∷ y ∷ rest) (λ p. numbers.now ≡ p.0 ∷ p.1 ∷ p.2.now) }
+    ensures { MatchOption result ((x y : ℕ) (rest : List ℕ) → numbers.now ≢ x ∷ y ∷ rest)
+        (λ p. numbers.now ≡ p.0 ∷ p.1 ∷ p.2.now) }
 {
     match numbers {
         [x, y, rest @ ..] => Some((*x, *y, rest)),
@@ -103,7 +107,8 @@ fn first_two(numbers: &[u16]) -> Option<(u16, u16, &[u16])>
 
 /// The one number of a line that begins so, and what stands behind the line.
 pub(crate) fn one_number<'a>(text: &'a [u8], front: &[u8]) -> Option<(u16, &'a [u8])>
-    ensures { MatchOption result ((n : ℕ) (rest : List ℕ) → IsSmall n → text.now ≢ line_text front.now (decimal n ∷ []) ++ rest)
+    ensures { MatchOption result ((n : ℕ) (rest : List ℕ) → IsSmall n → text.now ≢ line_text front.now (decimal n ∷ [])
+        ++ rest)
         (λ p. IsSmall p.0 × (text.now ≡ line_text front.now (decimal p.0 ∷ []) ++ p.1.now)) }
 {
     let (numbers, rest) = numbered(text, front)?;
@@ -114,7 +119,8 @@ pub(crate) fn one_number<'a>(text: &'a [u8], front: &[u8]) -> Option<(u16, &'a [
 /// The width, height and least length of the grid that these numbers of its line tell.
 fn grid_of(edition: Edition, numbers: &[u16]) -> Option<(u16, u16, u16)>
     ensures { MatchOption result ((grid : GridSize) → numbers.now ≢ grid_numbers edition grid)
-        (λ p. (numbers.now ≡ grid_numbers edition (grid_with p.0 p.1 p.2)) × StandsForLeast edition (grid_with p.0 p.1 p.2)) }
+        (λ p. (numbers.now ≡ grid_numbers edition (grid_with p.0 p.1 p.2))
+        × StandsForLeast edition (grid_with p.0 p.1 p.2)) }
 {
     match edition {
         Edition::First => {
@@ -127,7 +133,8 @@ fn grid_of(edition: Edition, numbers: &[u16]) -> Option<(u16, u16, u16)>
 
 /// The width, height and least length that the line of the grid tells, and what stands behind it.
 pub(crate) fn grid_line(edition: Edition, text: &[u8]) -> Option<(u16, u16, u16, &[u8])>
-    ensures { MatchOption result ((needs_drawing : Bool) (line : SheetLine) → BeginsWithLine (GridDue edition needs_drawing) text.now line → ⊥)
+    ensures { MatchOption result ((needs_drawing : Bool) (line : SheetLine) →
+        BeginsWithLine (GridDue edition needs_drawing) text.now line → ⊥)
         (λ p. IsLineTo text.now (GridLine edition (grid_with p.0 p.1 p.2)) p.3.now) }
 {
     let (numbers, rest) = numbered(text, b"grid")?;
@@ -137,7 +144,8 @@ pub(crate) fn grid_line(edition: Edition, text: &[u8]) -> Option<(u16, u16, u16,
 
 /// The criteria that the line of the order tells, and what stands behind it.
 pub(crate) fn order_line(text: &[u8]) -> Option<(ArrayVec<Criterion, 4>, &[u8])>
-    ensures { MatchOption result ((edition : Editions) (needs_drawing : Bool) (line : SheetLine) → BeginsWithLine (OrderDue edition needs_drawing) text.now line → ⊥)
+    ensures { MatchOption result ((edition : Editions) (needs_drawing : Bool) (line : SheetLine) →
+        BeginsWithLine (OrderDue edition needs_drawing) text.now line → ⊥)
         (λ p. IsBetween 1 4 (length p.0.items) × (text.now ≡ text_of_line (OrderLine p.0.items) ++ p.1.now)) }
 {
     let (criteria, rest) = criteria(behind(text, b"order")?)?;
@@ -149,7 +157,8 @@ pub(crate) fn order_line(text: &[u8]) -> Option<(ArrayVec<Criterion, 4>, &[u8])>
 
 /// The number and the name behind this word, and what stands behind them.
 fn named<'a>(text: &'a [u8], word: &[u8]) -> Option<(u16, &'a [u8], &'a [u8])>
-    ensures { MatchOption result ((n : ℕ) (name rest : List ℕ) → IsNamedAt text.now word.now n name rest → ⊥) (λ p. IsNamedAt text.now word.now p.0 p.1.now p.2.now) }
+    ensures { MatchOption result ((n : ℕ) (name rest : List ℕ) → IsNamedAt text.now word.now n name rest → ⊥)
+        (λ p. IsNamedAt text.now word.now p.0 p.1.now p.2.now) }
 {
     let rest = behind(text, word)?;
     let (number, rest) = next_number(rest)?;
@@ -159,7 +168,8 @@ fn named<'a>(text: &'a [u8], word: &[u8]) -> Option<(u16, &'a [u8], &'a [u8])>
 
 /// The mileage up to the line feed, after one space, and what stands behind it.
 fn mileage_end(text: &[u8]) -> Option<(&[u8], &[u8])>
-    ensures { MatchOption result ((mileage rest : List ℕ) → IsMileageText mileage → text.now ≢ 32 ∷ (mileage ++ 10 ∷ rest))
+    ensures { MatchOption result ((mileage rest : List ℕ) → IsMileageText mileage → text.now ≢ 32
+        ∷ (mileage ++ 10 ∷ rest))
         (λ p. IsMileageText p.0.now × (text.now ≡ 32 ∷ (p.0.now ++ 10 ∷ p.1.now))) }
 {
     let (mileage, rest) = next_field(text)?;
@@ -172,7 +182,8 @@ fn mileage_end(text: &[u8]) -> Option<(&[u8], &[u8])>
 
 /// The mileage at the end of a node's line, if the edition tells it, and what stands behind the line.
 fn node_end(edition: Edition, text: &[u8]) -> Option<(Option<&[u8]>, &[u8])>
-    ensures { MatchOption result ((mileage : Option (List ℕ)) (rest : List ℕ) → IsNodeEnd edition text.now mileage rest → ⊥)
+    ensures { MatchOption result ((mileage : Option (List ℕ)) (rest : List ℕ) →
+        IsNodeEnd edition text.now mileage rest → ⊥)
         (λ p. IsNodeEnd edition text.now (option_copied p.0) p.1.now) }
 {
     match edition {
@@ -190,7 +201,8 @@ fn node_end(edition: Edition, text: &[u8]) -> Option<(Option<&[u8]>, &[u8])>
 /// What the line of a node tells, and what stands behind it.
 pub(crate) fn node_line(edition: Edition, text: &[u8]) -> Option<(NodeTold<'_>, &[u8])>
     ensures { MatchOption result ((n : ℕ) (line : SheetLine) → BeginsWithLine (NodeDue edition n) text.now line → ⊥)
-        (λ p. IsToldIn edition (option_copied p.0.mileage) × IsLineTo text.now (NodeLine p.0.number p.0.name.now p.0.place (option_copied p.0.mileage)) p.1.now) }
+        (λ p. IsToldIn edition (option_copied p.0.mileage) × IsLineTo text.now
+        (NodeLine p.0.number p.0.name.now p.0.place (option_copied p.0.mileage)) p.1.now) }
 {
     let (number, name, rest) = named(text, b"node")?;
     let (place, rest) = next_point(rest)?;
@@ -229,7 +241,8 @@ fn points_of(numbers: &[u16]) -> Option<ArrayVec<Point, 4>>
 
 /// The number of an edge and its track, if the edition tells it, and what stands behind them.
 fn numbered_edge(edition: Edition, text: &[u8]) -> Option<(u16, Option<&[u8]>, &[u8])>
-    ensures { MatchOption result ((n : ℕ) (track : Option (List ℕ)) (rest : List ℕ) → IsNumberedAt edition text.now n track rest → ⊥)
+    ensures { MatchOption result ((n : ℕ) (track : Option (List ℕ)) (rest : List ℕ) →
+        IsNumberedAt edition text.now n track rest → ⊥)
         (λ p. IsNumberedAt edition text.now p.0 (option_copied p.1) p.2.now) }
 {
     match edition {
@@ -248,7 +261,8 @@ fn numbered_edge(edition: Edition, text: &[u8]) -> Option<(u16, Option<&[u8]>, &
 /// What the line of an edge tells, and what stands behind it.
 pub(crate) fn edge_line(edition: Edition, text: &[u8]) -> Option<(EdgeTold<'_>, &[u8])>
     ensures { MatchOption result ((e : ℕ) (line : SheetLine) → BeginsWithLine (EdgeDue edition e) text.now line → ⊥)
-        (λ p. IsToldIn edition (option_copied p.0.track) × IsLineTo text.now (EdgeLine p.0.number (option_copied p.0.track) p.0.west p.0.east p.0.points.items) p.1.now) }
+        (λ p. IsToldIn edition (option_copied p.0.track) × IsLineTo text.now
+        (EdgeLine p.0.number (option_copied p.0.track) p.0.west p.0.east p.0.points.items) p.1.now) }
 {
     let (number, track, rest) = numbered_edge(edition, text)?;
     let (numbers, rest) = numbers(rest)?;
@@ -282,7 +296,8 @@ pub(crate) fn values_line(text: &[u8]) -> Option<(Values, &[u8])>
 
 /// The ending that the last line tells, and what stands behind it.
 pub(crate) fn end_line(text: &[u8]) -> Option<(EndTold, &[u8])>
-    ensures { MatchOption result ((e : Ending) (rest : List ℕ) → IsSmallEnding e → text.now ≢ text_of_line (EndLine e) ++ rest)
+    ensures { MatchOption result ((e : Ending) (rest : List ℕ) → IsSmallEnding e → text.now ≢ text_of_line (EndLine e)
+        ++ rest)
         (λ p. IsSmallEnding (ending_told p.0) × (text.now ≡ text_of_line (EndLine (ending_told p.0)) ++ p.1.now)) }
 {
     if let Some(rest) = behind(text, b"end best\n") {

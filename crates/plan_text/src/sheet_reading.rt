@@ -11,8 +11,12 @@ ghost use Rattle.plan_text.specs.declared.sheet_fault.SheetFault.TheVariants.{Me
 ghost use Rattle.plan_text.specs.SheetLine.{SheetLine, EndLine, text_of_line, IsSmallEnding, MayEnd};
 ghost use Rattle.plan_core.specs.Lawful.{HasSizeOf};
 ghost use Rattle.plan_text.specs.SheetText.{StatesSettled};
-ghost use Rattle.plan_text.specs.SheetFaults.{TitleDue, BodyDue, EdgesDue, ValuesDue, NoneDue, node_due, edge_due, IsSheetText, IsDrawingOf, IsSheetFault};
-ghost use Rattle.plan_text.specs.SheetReading.{head_lines, ending_told, AreReadTo, IsFaultHere, IsFaultFrom, ArePlaced, AreDrawn, ArePlacesTo, AreLinesTo, IsPictureTo, IsFaultAfterAny, IsClosing, IsFaultAfter, IsBody, IsUndrawnEnding, IsNoUndrawnEnding, IsUndrawnFault};
+ghost use Rattle.plan_text.specs.SheetFaults.{TitleDue, BodyDue, EdgesDue, ValuesDue, NoneDue, node_due, edge_due};
+ghost use Rattle.plan_text.specs.SheetFaults.{IsSheetText, IsDrawingOf, IsSheetFault};
+ghost use Rattle.plan_text.specs.SheetReading.{head_lines, ending_told, AreReadTo, IsFaultHere, IsFaultFrom, ArePlaced};
+ghost use Rattle.plan_text.specs.SheetReading.{AreDrawn, ArePlacesTo, AreLinesTo, IsPictureTo, IsFaultAfterAny};
+ghost use Rattle.plan_text.specs.SheetReading.{IsClosing, IsFaultAfter, IsBody, IsUndrawnEnding, IsNoUndrawnEnding};
+ghost use Rattle.plan_text.specs.SheetReading.{IsUndrawnFault};
 
 use crate::sheet_checks::{edge, edges, ending, grid, measured, node, nodes, order, title};
 use crate::sheet_lines::{EndTold, end_line};
@@ -25,7 +29,8 @@ use std::alloc::Global;
 /// The edition, the grid and the order of criteria, and what stands behind their lines.
 fn head(text: &[u8]) -> Result<(Edition, Grid, Order, &[u8]), SheetFault>
     ensures { MatchResult result
-        (λ p. IsOrder p.2 × ((g : Graph) (needs_drawing : Bool) → AreReadTo g [] (TitleDue needs_drawing) text.now (head_lines p.0 p.1 p.2) p.3.now))
+        (λ p. IsOrder p.2 × ((g : Graph) (needs_drawing : Bool) →
+        AreReadTo g [] (TitleDue needs_drawing) text.now (head_lines p.0 p.1 p.2) p.3.now))
         (λ fault. (g : Graph) (needs_drawing : Bool) → IsFaultFrom g [] (TitleDue needs_drawing) text.now 1 fault) }
 {
     let (edition, rest) = title(text)?;
@@ -45,7 +50,8 @@ fn places<'a>(
     edition: Edition,
     text: &'a [u8],
 ) -> Result<(Vec<Point>, &'a [u8]), SheetFault>
-    ensures { MatchResult result (λ p. (length p.0.items ≡ length g.now.nodes) × (length p.0.items ≤ MAX_NODES) × ArePlaced edition g.now text.now p.0.items p.1.now)
+    ensures { MatchResult result (λ p. (length p.0.items ≡ length g.now.nodes) × (length p.0.items ≤ MAX_NODES)
+        × ArePlaced edition g.now text.now p.0.items p.1.now)
         (IsFaultAfterAny g.now (node_due edition g.now 0) text.now 5) }
 {
     let mut places = Vec::new(alloc);
@@ -65,7 +71,8 @@ fn all_places<'a>(
     edition: Edition,
     text: &'a [u8],
 ) -> Result<(Vec<Point>, &'a [u8]), SheetFault>
-    ensures { MatchResult result (λ p. (length p.0.items ≡ length g.now.nodes) × (length p.0.items ≤ MAX_NODES) × ArePlacesTo edition g.now text.now p.0.items p.1.now)
+    ensures { MatchResult result (λ p. (length p.0.items ≡ length g.now.nodes) × (length p.0.items ≤ MAX_NODES)
+        × ArePlacesTo edition g.now text.now p.0.items p.1.now)
         (IsFaultAfterAny g.now (BodyDue edition true) text.now 4) }
 {
     let rest = nodes(g, text)?;
@@ -79,7 +86,8 @@ fn lines<'a>(
     edition: Edition,
     text: &'a [u8],
 ) -> Result<(Vec<Line>, &'a [u8]), SheetFault>
-    ensures { MatchResult result (λ p. (length p.0.items ≡ length g.now.edges) × (length p.0.items ≤ MAX_EDGES) × AreDrawn edition g.now text.now p.0.items p.1.now)
+    ensures { MatchResult result (λ p. (length p.0.items ≡ length g.now.edges) × (length p.0.items ≤ MAX_EDGES)
+        × AreDrawn edition g.now text.now p.0.items p.1.now)
         (IsFaultAfterAny g.now (edge_due edition g.now 0) text.now (length g.now.nodes + 6)) }
 {
     let first = u32::from(g.nodes()) + 6;
@@ -100,7 +108,8 @@ fn all_lines<'a>(
     edition: Edition,
     text: &'a [u8],
 ) -> Result<(Vec<Line>, &'a [u8]), SheetFault>
-    ensures { MatchResult result (λ p. (length p.0.items ≡ length g.now.edges) × (length p.0.items ≤ MAX_EDGES) × AreLinesTo edition g.now text.now p.0.items p.1.now)
+    ensures { MatchResult result (λ p. (length p.0.items ≡ length g.now.edges) × (length p.0.items ≤ MAX_EDGES)
+        × AreLinesTo edition g.now text.now p.0.items p.1.now)
         (IsFaultAfterAny g.now (EdgesDue edition) text.now (length g.now.nodes + 5)) }
 {
     let rest = edges(g, text, u32::from(g.nodes()) + 5)?;
@@ -114,7 +123,8 @@ fn picture<'a>(
     edition: Edition,
     text: &'a [u8],
 ) -> Result<(Drawing, &'a [u8]), SheetFault>
-    ensures { MatchResult result (λ p. HasSizeOf g.now p.0 × IsPictureTo edition g.now text.now p.0 p.1.now) (IsFaultAfterAny g.now (BodyDue edition true) text.now 4) }
+    ensures { MatchResult result (λ p. HasSizeOf g.now p.0 × IsPictureTo edition g.now text.now p.0 p.1.now)
+        (IsFaultAfterAny g.now (BodyDue edition true) text.now 4) }
 {
     let (places, rest) = all_places(alloc, g, edition, text)?;
     let (lines, rest) = all_lines(alloc, g, edition, rest)?;
@@ -123,7 +133,8 @@ fn picture<'a>(
 
 /// Nothing stands here.
 fn nothing(text: &[u8], line: u32) -> Result<(), SheetFault>
-    ensures { MatchResult result (λ _. text.now ≡ []) (λ fault. (g : Graph) (before : List SheetLine) → IsFaultHere g before NoneDue text.now line fault) }
+    ensures { MatchResult result (λ _. text.now ≡ []) (λ fault. (g : Graph) (before : List SheetLine) →
+        IsFaultHere g before NoneDue text.now line fault) }
 {
     if text.is_empty() {
         Ok(())
@@ -156,7 +167,8 @@ fn body(
     order: &Order,
     text: &[u8],
 ) -> Result<(Drawing, Ending), SheetFault>
-    ensures { MatchResult result (λ p. HasSizeOf g.now p.0 × MayEnd true p.1 × IsBody edition g.now order.now text.now p.0 p.1)
+    ensures { MatchResult result (λ p. HasSizeOf g.now p.0 × MayEnd true p.1
+        × IsBody edition g.now order.now text.now p.0 p.1)
         (IsFaultAfter g.now order.now (drawing [] []) (BodyDue edition true) text.now 4) }
 {
     let (d, rest) = picture(alloc, g, edition, text)?;
@@ -171,7 +183,8 @@ pub fn read_drawing(
     g: &PortGraph,
     bytes: &[u8],
 ) -> Result<(Grid, Drawing), SheetFault>
-    ensures { AnswersExactly result Memory (λ p. IsDrawingOf g.now bytes.now p.0 p.1) (IsSheetFault g.now true bytes.now) }
+    ensures { AnswersExactly result Memory (λ p. IsDrawingOf g.now bytes.now p.0 p.1)
+        (IsSheetFault g.now true bytes.now) }
 {
     let (edition, grid, order, rest) = head(bytes)?;
     let (d, _) = body(alloc, g, edition, &order, rest)?;
@@ -181,7 +194,8 @@ pub fn read_drawing(
 /// The ending of a sheet without a drawing, and what stands behind its line, if it stands here.
 fn undrawn(text: &[u8]) -> Option<(EndTold, &[u8])>
     ensures { MatchOption result (IsNoUndrawnEnding text.now)
-        (λ p. IsSmallEnding (ending_told p.0) × MayEnd false (ending_told p.0) × (text.now ≡ text_of_line (EndLine (ending_told p.0)) ++ p.1.now)) }
+        (λ p. IsSmallEnding (ending_told p.0) × MayEnd false (ending_told p.0)
+        × (text.now ≡ text_of_line (EndLine (ending_told p.0)) ++ p.1.now)) }
 {
     match end_line(text)? {
         (EndTold::Best, _) => None,
@@ -191,7 +205,8 @@ fn undrawn(text: &[u8]) -> Option<(EndTold, &[u8])>
 
 /// The ending of a sheet without a drawing that a line tells, with no criterion settled.
 fn none_settled(told: EndTold) -> Result<Ending, SheetWhat>
-    ensures { MatchResult result (λ e. (e ≡ ending_told told) × ((order : List Criterion) → 1 ≤ length order → StatesSettled order false e))
+    ensures { MatchResult result (λ e. (e ≡ ending_told told) × ((order : List Criterion) → 1 ≤ length order →
+        StatesSettled order false e))
         (λ what. (what ≡ Range) × ((order : List Criterion) → StatesSettled order false (ending_told told) → ⊥)) }
 {
     match told {
@@ -206,7 +221,8 @@ fn none_settled(told: EndTold) -> Result<Ending, SheetWhat>
 /// The ending of a sheet without a drawing, of which the last line stands here, or none if another line
 /// does.
 fn undrawn_ending(text: &[u8]) -> Result<Option<Ending>, SheetFault>
-    ensures { MatchResult result (λ o. MatchOption o (IsNoUndrawnEnding text.now) (λ e. MayEnd false e × IsUndrawnEnding text.now e)) (IsUndrawnFault text.now) }
+    ensures { MatchResult result (λ o. MatchOption o (IsNoUndrawnEnding text.now)
+        (λ e. MayEnd false e × IsUndrawnEnding text.now e)) (IsUndrawnFault text.now) }
 {
     let Some((told, rest)) = undrawn(text) else {
         return Ok(None);

@@ -9,9 +9,11 @@ ghost use Rattle.line_text.specs.Fields.{spaced, line_text};
 ghost use Rattle.std.specs.Option.{is_some};
 ghost use Rattle.line_text.specs.Criteria.{criterion_word as word_of_criterion};
 ghost use Rattle.plan_text.specs.declared.edition.Edition.TheVariants.{Second};
-ghost use Rattle.plan_text.specs.SheetLine.{GridLine, OrderLine, NodesLine, EdgesLine, ValuesLine, EndLine, coordinates, text_of_line};
+ghost use Rattle.plan_text.specs.SheetLine.{GridLine, OrderLine, NodesLine, EdgesLine, ValuesLine, EndLine};
+ghost use Rattle.plan_text.specs.SheetLine.{coordinates, text_of_line};
 ghost use Rattle.plan_core.specs.Lawful.{HasSizeOf};
-ghost use Rattle.plan_text.specs.SheetText.{DrawsAll, DrawsOnGrid, StatesSettled, node_line, edge_line, node_lines, edge_lines, drawing_lines, found_lines, sheet_text};
+ghost use Rattle.plan_text.specs.SheetText.{DrawsAll, DrawsOnGrid, StatesSettled, node_line, edge_line, node_lines};
+ghost use Rattle.plan_text.specs.SheetText.{edge_lines, drawing_lines, found_lines, sheet_text};
 
 use crate::line_parts::{push_count_line, push_mileage, push_named};
 use crate::{Ending, Sheet};
@@ -97,7 +99,8 @@ fn push_node_line(
 /// Appends the number of an edge, its track and its nodes.
 fn push_edge_head(g: &PortGraph, e: u16, into: &mut Vec<u8>) -> Result<(), OutOfMemory>
     requires { e < length g.now.edges }
-    ensures ok { OnOk result (into.new.items ≡ into.old.items ++ (codes "edge" ++ spaced (decimal e ∷ (edge g.now e).track ∷ decimal (edge g.now e).west ∷ decimal (edge g.now e).east ∷ []))) }
+    ensures ok { OnOk result (into.new.items ≡ into.old.items ++ (codes "edge"
+        ++ spaced (decimal e ∷ (edge g.now e).track ∷ decimal (edge g.now e).west ∷ decimal (edge g.now e).east ∷ []))) }
     ensures begins { Begins into.old.items into.new.items }
 {
     push_named(into, b"edge", e, g.track(EdgeNo(e)).bytes())?;
@@ -150,7 +153,8 @@ fn push_places(
     into: &mut Vec<u8>,
 ) -> Result<(), OutOfMemory>
     requires { HasSizeOf g.now d.now }
-    ensures ok { OnOk result (into.new.items ≡ into.old.items ++ flat_map text_of_line (NodesLine (length g.now.nodes) ∷ node_lines Second g.now d.now)) }
+    ensures ok { OnOk result (into.new.items ≡ into.old.items ++ flat_map text_of_line
+        (NodesLine (length g.now.nodes) ∷ node_lines Second g.now d.now)) }
     ensures begins { Begins into.old.items into.new.items }
 {
     push_count_line(into, b"nodes", u32::from(g.nodes()))?;
@@ -170,7 +174,8 @@ fn push_edge_lines(g: &PortGraph, d: &Drawing, into: &mut Vec<u8>) -> Result<(),
 
 fn push_lines(g: &PortGraph, d: &Drawing, into: &mut Vec<u8>) -> Result<(), OutOfMemory>
     requires { HasSizeOf g.now d.now }
-    ensures ok { OnOk result (into.new.items ≡ into.old.items ++ flat_map text_of_line (EdgesLine (length g.now.edges) ∷ edge_lines Second g.now d.now)) }
+    ensures ok { OnOk result (into.new.items ≡ into.old.items ++ flat_map text_of_line
+        (EdgesLine (length g.now.edges) ∷ edge_lines Second g.now d.now)) }
     ensures begins { Begins into.old.items into.new.items }
 {
     push_count_line(into, b"edges", u32::from(g.edges()))?;
@@ -184,7 +189,8 @@ fn push_drawing(
     into: &mut Vec<u8>,
 ) -> Result<(), OutOfMemory>
     requires { HasSizeOf g.now d.now }
-    ensures ok { OnOk result (into.new.items ≡ into.old.items ++ flat_map text_of_line (drawing_lines Second g.now d.now)) }
+    ensures ok { OnOk result (into.new.items ≡ into.old.items ++ flat_map text_of_line
+        (drawing_lines Second g.now d.now)) }
     ensures begins { Begins into.old.items into.new.items }
 {
     push_places(alloc, g, d, into)?;
@@ -200,7 +206,8 @@ fn push_found(
     into: &mut Vec<u8>,
 ) -> Result<(), OutOfMemory>
     requires { DrawsAll g.now s.now }
-    ensures ok { OnOk result (into.new.items ≡ into.old.items ++ flat_map text_of_line (found_lines Second g.now s.now.found)) }
+    ensures ok { OnOk result (into.new.items ≡ into.old.items ++ flat_map text_of_line
+        (found_lines Second g.now s.now.found)) }
     ensures begins { Begins into.old.items into.new.items }
 {
     match &s.found {
@@ -210,7 +217,8 @@ fn push_found(
 }
 
 fn push_settled(word: &[u8], settled: u8, into: &mut Vec<u8>) -> Result<(), OutOfMemory>
-    ensures ok { OnOk result (into.new.items ≡ into.old.items ++ line_text (codes "end") (word.now ∷ decimal settled ∷ [])) }
+    ensures ok { OnOk result (into.new.items ≡ into.old.items ++ line_text (codes "end")
+        (word.now ∷ decimal settled ∷ [])) }
     ensures begins { Begins into.old.items into.new.items }
 {
     push_text(into, b"end")?;

@@ -4,7 +4,8 @@ ghost use Rattle.std.specs.List.{range_with_len};
 ghost use Rattle.outside_io.specs.Contents.{Begins};
 ghost use Rattle.plan_core.specs.Lawful.{HasSizeOf};
 ghost use Rattle.plan_core.specs.Values.{values_of};
-ghost use Rattle.plan_text.specs.SvgText.{pixels_across, pixels_down, extent, escaped_byte, escaped, point_text, points_text, polyline, label_begin, label, picture_begin, svg_text};
+ghost use Rattle.plan_text.specs.SvgText.{pixels_across, pixels_down, extent, escaped_byte, escaped, point_text};
+ghost use Rattle.plan_text.specs.SvgText.{points_text, polyline, label_begin, label, picture_begin, svg_text};
 
 use line_text::{push_number, push_text};
 use plan_core::{NodeNo, OutOfMemory, Point};
@@ -147,7 +148,8 @@ fn push_labels(
 ) -> Result<(), OutOfMemory>
     requires size { HasSizeOf g.now d.now }
     requires high { height ≡ (values_of d.now).height }
-    ensures ok { OnOk result (into.new.items ≡ into.old.items ++ flat_map (label g.now d.now) (range_with_len 0 (length g.now.nodes))) }
+    ensures ok { OnOk result (into.new.items ≡ into.old.items ++ flat_map (label g.now d.now)
+        (range_with_len 0 (length g.now.nodes))) }
     ensures begins { Begins into.old.items into.new.items }
 {
     for n in 0..g.nodes() {

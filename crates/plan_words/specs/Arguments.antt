@@ -1,5 +1,6 @@
 -- The words behind the command, from left to right: names, and options with their values.
-use Rattle.std.specs.Prelude.{ℕ, ◌+◌, Bool, if◌then◌else◌, ◌||◌, Option, None, Some, List, [], ◌∷◌, codes, map, flat_map, nat_eq, bytes_eq, string_bytes}
+use Rattle.std.specs.Prelude.{ℕ, ◌+◌, Bool, if◌then◌else◌, ◌||◌, Option, None, Some, List, [], ◌∷◌, codes, map}
+use Rattle.std.specs.Prelude.{flat_map, nat_eq, bytes_eq, string_bytes}
 use Rattle.std.specs.List.{starts_with}
 use Rattle.std.specs.declared.string.String.{String}
 use Rattle.std.specs.declared.alloc.Global.{Global}
@@ -52,7 +53,8 @@ options_in arguments = flat_map option_of arguments
 abbrev pub option_value : List ℕ → List Argument → Option (List ℕ)
 option_value option [] = None
 option_value option (Name at word ∷ arguments) = option_value option arguments
-option_value option (Setting at word value ∷ arguments) = if bytes_eq word option then value else option_value option arguments
+option_value option (Setting at word value ∷ arguments) =
+    if bytes_eq word option then value else option_value option arguments
 
 -- whether the option's value names a file
 abbrev pub takes_file : List ℕ → Bool

@@ -8,7 +8,8 @@ use Rattle.line_text.specs.Numbers.{IsNumberIn}
 use Rattle.line_text.specs.Criteria.{criterion_word}
 use Rattle.plan_words.specs.declared.option_values.TheConstants.{MAX_SEED}
 use Rattle.plan_words.specs.declared.option_values.OptionWord.{OptionWord}
-use Rattle.plan_words.specs.declared.option_values.OptionWord.TheVariants.{Width, Height, Least, Criteria, Conflicts, Svg, Log}
+use Rattle.plan_words.specs.declared.option_values.OptionWord.TheVariants.{Width, Height, Least, Criteria, Conflicts}
+use Rattle.plan_words.specs.declared.option_values.OptionWord.TheVariants.{Svg, Log}
 
 abbrev pub option_word : OptionWord → List ℕ
 option_word Width = codes "--width"

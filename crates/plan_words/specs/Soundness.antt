@@ -28,13 +28,16 @@ abbrev pub IsNear : Argument → Type 0
 IsNear argument = argument_place argument + 1 < 2 ^ 32
 
 -- this fault of the argument is its leftmost, and at its position that with the lowest number
-pub record IsFirstWordFault (command : CommandWord) (before : List Argument) (argument : Argument) (what : WordWhat) (position : ℕ) : Type 0 where
+pub record IsFirstWordFault (command : CommandWord) (before : List Argument) (argument : Argument) (what : WordWhat)
+    (position : ℕ) : Type 0 where
   pub fault : HasWordFault command before argument what position
   pub leftmost : (other : WordWhat) (place : ℕ) → HasWordFault command before argument other place → position ≤ place
-  pub lowest : (other : WordWhat) → HasWordFault command before argument other position → number_of what ≤ number_of other
+  pub lowest : (other : WordWhat) → HasWordFault command before argument other position →
+      number_of what ≤ number_of other
 
 -- the option is one of the command's, is new, and has a value that it takes
-pub record IsSoundSetting (command : CommandWord) (before : List Argument) (word : List ℕ) (value : Option (List ℕ)) : Type 0 where
+pub record IsSoundSetting (command : CommandWord) (before : List Argument) (word : List ℕ) (value : Option (List ℕ)) :
+    Type 0 where
   pub known : IsOptionOf command word
   pub fresh : Contains (options_in before) word → ⊥
   pub option : OptionWord
@@ -45,10 +48,12 @@ pub record IsSoundSetting (command : CommandWord) (before : List Argument) (word
 
 -- the argument has no fault
 abbrev pub IsSoundBehind : CommandWord → List Argument → Argument → Type 0
-IsSoundBehind command before (Name at name) = (length (argument_names before) < name_count command) × TakesName command name
+IsSoundBehind command before (Name at name) = (length (argument_names before) < name_count command)
+    × TakesName command name
 IsSoundBehind command before (Setting at word value) = IsSoundSetting command before word value
 
 -- no argument has a fault, behind those before
 abbrev pub SoundFrom : CommandWord → List Argument → List Argument → Type 0
 SoundFrom command before [] = ⊤
-SoundFrom command before (argument ∷ arguments) = IsSoundBehind command before argument × SoundFrom command (before ++ argument ∷ []) arguments
+SoundFrom command before (argument ∷ arguments) = IsSoundBehind command before argument
+    × SoundFrom command (before ++ argument ∷ []) arguments

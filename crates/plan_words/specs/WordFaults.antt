@@ -1,14 +1,17 @@
 -- What can be wrong with the words of a command line, and which fault counts.
-use Rattle.std.specs.Prelude.{◌≡◌, ◌≢◌, ◌≤◌, ◌<◌, ◌⊎◌, ℕ, ◌+◌, None, Some, List, [], ◌∷◌, ◌++◌, codes, length, map, Contains, AllPairs, ⊤}
+use Rattle.std.specs.Prelude.{◌≡◌, ◌≢◌, ◌≤◌, ◌<◌, ◌⊎◌, ℕ, ◌+◌, None, Some, List, [], ◌∷◌, ◌++◌, codes, length, map}
+use Rattle.std.specs.Prelude.{Contains, AllPairs, ⊤}
 use Rattle.plan_words.specs.declared.command.CommandWord.{CommandWord}
 use Rattle.plan_words.specs.declared.command.CommandWord.TheVariants.{Draw, Verify, Check, Graph, Make, Trial, Signals}
 use Rattle.plan_words.specs.declared.option_values.OptionWord.{OptionWord}
-use Rattle.plan_words.specs.declared.option_values.OptionWord.TheVariants.{Width, Height, Least, Criteria, Conflicts, Svg, Log}
+use Rattle.plan_words.specs.declared.option_values.OptionWord.TheVariants.{Width, Height, Least, Criteria, Conflicts}
+use Rattle.plan_words.specs.declared.option_values.OptionWord.TheVariants.{Svg, Log}
 use Rattle.plan_words.specs.declared.arguments.Argument.{Argument}
 use Rattle.plan_words.specs.declared.arguments.Argument.TheVariants.{Name, Setting}
 use Rattle.plan_words.specs.declared.files.FileWord.{FileWord}
 use Rattle.plan_words.specs.declared.fault.WordWhat.{WordWhat}
-use Rattle.plan_words.specs.declared.fault.WordWhat.TheVariants.{NoCommand, UnknownCommand, MissingName, ExtraWord, UnknownOption, RepeatedOption, BadValue}
+use Rattle.plan_words.specs.declared.fault.WordWhat.TheVariants.{NoCommand, UnknownCommand, MissingName, ExtraWord}
+use Rattle.plan_words.specs.declared.fault.WordWhat.TheVariants.{UnknownOption, RepeatedOption, BadValue}
 use Rattle.plan_words.specs.OptionValues.{option_word, IsSeed, Takes}
 use Rattle.plan_words.specs.Arguments.{arguments_from, argument_names, options_in, files_in}
 
@@ -60,7 +63,8 @@ TakesName Make name = (n : ℕ) × IsSeed name n
 TakesName Trial name = (n : ℕ) × IsSeed name n
 TakesName Signals name = name ≢ []
 
--- the options of `signals`: it has no `--least`, since each edge is as long as its signals need, and no `--svg`, since it
+-- the options of `signals`: it has no `--least`, since each edge is as long as its signals need, and no `--svg`, since
+-- it
 -- writes no picture
 abbrev pub IsSignalsOption : OptionWord → Type 0
 IsSignalsOption Width = ⊤
@@ -85,16 +89,21 @@ IsOptionOf Signals word = (option : OptionWord) × (word ≡ option_word option)
 
 -- the argument has this fault at this position
 abbrev pub HasWordFault : CommandWord → List Argument → Argument → WordWhat → ℕ → Type 0
-HasWordFault command before (Name at name) ExtraWord position = (name_count command ≤ length (argument_names before)) × (position ≡ at)
+HasWordFault command before (Name at name) ExtraWord position = (name_count command ≤ length (argument_names before))
+    × (position ≡ at)
 HasWordFault command before (Name at name) BadValue position = (TakesName command name → ⊥) × (position ≡ at)
-HasWordFault command before (Setting at word value) UnknownOption position = (IsOptionOf command word → ⊥) × (position ≡ at)
-HasWordFault command before (Setting at word value) RepeatedOption position = Contains (options_in before) word × (position ≡ at)
+HasWordFault command before (Setting at word value) UnknownOption position = (IsOptionOf command word → ⊥)
+    × (position ≡ at)
+HasWordFault command before (Setting at word value) RepeatedOption position = Contains (options_in before) word
+    × (position ≡ at)
 HasWordFault command before (Setting at word None) BadValue position = position ≡ at
-HasWordFault command before (Setting at word (Some value)) BadValue position = (option : OptionWord) × (word ≡ option_word option) × (Takes option value → ⊥) × (position ≡ at + 1)
+HasWordFault command before (Setting at word (Some value)) BadValue position = (option : OptionWord)
+    × (word ≡ option_word option) × (Takes option value → ⊥) × (position ≡ at + 1)
 HasWordFault command before argument what position = ⊥
 
 -- one of the arguments has this fault
-pub record SomeHasWordFault (command : CommandWord) (arguments : List Argument) (what : WordWhat) (position : ℕ) : Type 0 where
+pub record SomeHasWordFault (command : CommandWord) (arguments : List Argument) (what : WordWhat) (position : ℕ) : Type
+    0 where
   pub before : List Argument
   pub argument : Argument
   pub after : List Argument
@@ -102,10 +111,11 @@ pub record SomeHasWordFault (command : CommandWord) (arguments : List Argument) 
   pub fault : HasWordFault command before argument what position
 
 -- the leftmost of these faults; where several stand at one position, that with the lowest number
-pub record IsLeftmost (command : CommandWord) (arguments : List Argument) (what : WordWhat) (position : ℕ) : Type 0 where
-  pub fault : SomeHasWordFault command arguments what position
-  pub leftmost : (other : WordWhat) (place : ℕ) → SomeHasWordFault command arguments other place → position ≤ place
-  pub lowest : (other : WordWhat) → SomeHasWordFault command arguments other position → number_of what ≤ number_of other
+pub record IsLeftmost (command : CommandWord) (arguments : List Argument) (what : WordWhat) (position : ℕ) : Type 0
+  where
+    pub fault : SomeHasWordFault command arguments what position
+    pub leftmost : (other : WordWhat) (place : ℕ) → SomeHasWordFault command arguments other place → position ≤ place
+    pub lowest : (other : WordWhat) → SomeHasWordFault command arguments other position → number_of what ≤ number_of other
 
 -- no argument has a fault
 abbrev pub HaveNoFault : CommandWord → List Argument → Type 0
@@ -152,7 +162,8 @@ pub record HasOneNameTwice (command : CommandWord) (arguments : List Argument) (
 -- the fault that counts of a command's arguments, behind which this position is the first free one
 abbrev pub IsFaultOfArguments : CommandWord → List Argument → ℕ → WordWhat → ℕ → Type 0
 IsFaultOfArguments command arguments end MissingName position = IsMissing command arguments end position
-IsFaultOfArguments command arguments end BadValue position = IsLeftmost command arguments BadValue position ⊎ HasOneNameTwice command arguments position
+IsFaultOfArguments command arguments end BadValue position = IsLeftmost command arguments BadValue position
+    ⊎ HasOneNameTwice command arguments position
 IsFaultOfArguments command arguments end what position = IsLeftmost command arguments what position
 
 -- the words behind a command's own have this fault

@@ -29,7 +29,8 @@ abbrev pub given_for : OptionWord → List Argument → Option (List ℕ)
 given_for option arguments = option_value (option_word option) arguments
 
 -- the parts of a drawing's command
-pub record IsDrawCommand (arguments : List Argument) (input : List ℕ) (grid : GridSize) (order : List Criterion) (budget : ℕ) (svg log : Option (List ℕ)) : Type 0 where
+pub record IsDrawCommand (arguments : List Argument) (input : List ℕ) (grid : GridSize) (order : List Criterion)
+    (budget : ℕ) (svg log : Option (List ℕ)) : Type 0 where
   pub names : argument_names arguments ≡ input ∷ []
   pub width : IsChosen (given_for options.Width arguments) IsWidth 40 grid.width
   pub height : IsChosen (given_for options.Height arguments) IsHeight 8 grid.height

@@ -1,5 +1,6 @@
 // The command that sound arguments ask for.
-ghost use Rattle.std.specs.Prelude.{◌≡◌, ◌≤◌, ◌<◌, ◌⊎◌, ℕ, List, [], ◌∷◌, length, slice_get, Some, IfOk, MatchOption, ⊤};
+ghost use Rattle.std.specs.Prelude.{◌≡◌, ◌≤◌, ◌<◌, ◌⊎◌, ℕ, List, [], ◌∷◌, length, slice_get, Some, IfOk, MatchOption};
+ghost use Rattle.std.specs.Prelude.{⊤};
 ghost use Rattle.std.specs.Option.{option_copied};
 ghost use Rattle.plan_words.specs.declared.command.CommandWord.TheVariants as words;
 ghost use Rattle.plan_words.specs.declared.option_values.OptionWord.TheVariants as options;

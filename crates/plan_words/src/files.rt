@@ -1,7 +1,8 @@
 // The words that name files.
 ghost use Rattle.std.specs.Prelude.{◌≡◌, ◌≢◌, All, AllPairs, Contains, IfOk, MatchOption, option_to_list};
 ghost use Rattle.std.specs.Bool.{MatchBool};
-ghost use Rattle.plan_words.specs.Arguments.{takes_file as option_takes_file, file_of as named_file, files_in as named_files};
+ghost use Rattle.plan_words.specs.Arguments.{takes_file as option_takes_file, file_of as named_file};
+ghost use Rattle.plan_words.specs.Arguments.{files_in as named_files};
 ghost use Rattle.plan_words.specs.WordFaults.{file_names, IsFirstRepeat};
 ghost use Rattle.plan_words.specs.Soundness.{IsNear};
 

@@ -20,7 +20,9 @@ fn repeated_file(
     arguments: &[Argument],
 ) -> Result<Option<u32>, OutOfMemory>
     requires { All IsNear arguments.now }
-    ensures { IfOk result (λ found. MatchOption found (WritesFiles command → AllPairs (λ a b. a ≢ b) (file_names (named_files arguments.now))) (λ position. WritesFiles command × IsFirstRepeat (named_files arguments.now) position)) }
+    ensures { IfOk result (λ found. MatchOption found (WritesFiles command →
+        AllPairs (λ a b. a ≢ b) (file_names (named_files arguments.now)))
+        (λ position. WritesFiles command × IsFirstRepeat (named_files arguments.now) position)) }
 {
     match command {
         CommandWord::Draw | CommandWord::Signals => {
@@ -44,7 +46,8 @@ pub(crate) fn fault_that_counts(
 ) -> Result<Option<Found>, OutOfMemory>
     requires stand { StandFrom 2 arguments.now }
     requires near { end ≤ 2 + 2 * length arguments.now }
-    ensures fault { IfOk result (λ found. MatchOption found (AreSoundArguments command arguments.now) (λ f. IsFaultOfArguments command arguments.now end f.what f.position)) }
+    ensures fault { IfOk result (λ found. MatchOption found (AreSoundArguments command arguments.now)
+        (λ f. IsFaultOfArguments command arguments.now end f.what f.position)) }
     ensures sound { IfOk result (λ found. IfNone found (SoundFrom command [] arguments.now)) }
 {
     if let Some(found) = leftmost_fault(command, arguments) {

@@ -12,10 +12,12 @@ pub fn one_command()
 
 /// At most one fault of words counts, and it has one position.
 pub fn one_fault()
-    ensures { (words : List (List ℕ)) (a b : What) (p q : ℕ) → IsFaultOfWords words a p → IsFaultOfWords words b q → (a ≡ b) × (p ≡ q) }
+    ensures { (words : List (List ℕ)) (a b : What) (p q : ℕ) → IsFaultOfWords words a p → IsFaultOfWords words b q →
+        (a ≡ b) × (p ≡ q) }
 {}
 
 /// Words that ask for a command have no fault that counts.
 pub fn no_command_with_a_fault()
-    ensures { (words : List (List ℕ)) (command : Asked) (what : What) (position : ℕ) → IsCommandOf words command → IsFaultOfWords words what position → ⊥ }
+    ensures { (words : List (List ℕ)) (command : Asked) (what : What) (position : ℕ) → IsCommandOf words command →
+        IsFaultOfWords words what position → ⊥ }
 {}

@@ -36,7 +36,8 @@ pub(crate) fn count_names(arguments: &[Argument]) -> usize
 
 /// Whether the option is among the arguments.
 fn has_option(arguments: &[Argument], option: &str) -> bool
-    ensures { MatchBool result (Contains (options_in arguments.now) option.now) (Contains (options_in arguments.now) option.now → ⊥) }
+    ensures { MatchBool result (Contains (options_in arguments.now) option.now)
+        (Contains (options_in arguments.now) option.now → ⊥) }
 {
     for argument in arguments {
         if let Argument::Setting { word, .. } = argument {
@@ -50,7 +51,8 @@ fn has_option(arguments: &[Argument], option: &str) -> bool
 
 /// The option of `signals` that the word names, if it names one.
 fn signals_option(word: &str) -> Option<OptionWord>
-    ensures { MatchOption result (IsOptionOf Signals word.now → ⊥) (λ o. IsOptionOf Signals word.now × (word.now ≡ option_word o)) }
+    ensures { MatchOption result (IsOptionOf Signals word.now → ⊥)
+        (λ o. IsOptionOf Signals word.now × (word.now ≡ option_word o)) }
 {
     match OptionWord::named(word) {
         Some(OptionWord::Least | OptionWord::Svg) => None,
@@ -60,7 +62,8 @@ fn signals_option(word: &str) -> Option<OptionWord>
 
 /// The option of the command that the word names, if it names one.
 fn option_of(command: CommandWord, word: &str) -> Option<OptionWord>
-    ensures { MatchOption result (IsOptionOf command word.now → ⊥) (λ o. IsOptionOf command word.now × (word.now ≡ option_word o)) }
+    ensures { MatchOption result (IsOptionOf command word.now → ⊥)
+        (λ o. IsOptionOf command word.now × (word.now ≡ option_word o)) }
 {
     match command {
         CommandWord::Draw => OptionWord::named(word),
@@ -89,7 +92,8 @@ fn takes_name(command: CommandWord, name: &str) -> bool
 
 /// The fault of a name behind other arguments, if it has one.
 fn name_fault(command: CommandWord, before: &[Argument], position: u32, name: &str) -> Option<Found>
-    ensures { MatchOption result (IsSoundBehind command before.now (Name position name.now)) (λ found. IsFirstWordFault command before.now (Name position name.now) found.what found.position) }
+    ensures { MatchOption result (IsSoundBehind command before.now (Name position name.now))
+        (λ found. IsFirstWordFault command before.now (Name position name.now) found.what found.position) }
 {
     if command.name_count() <= count_names(before) {
         return Some(Found {
@@ -115,7 +119,8 @@ fn setting_fault(
     value: &Option<Text>,
 ) -> Option<Found>
     requires { position + 1 < 2 ^ 32 }
-    ensures { MatchOption result (IsSoundBehind command before.now (Setting position word.now value.now)) (λ found. IsFirstWordFault command before.now (Setting position word.now value.now) found.what found.position) }
+    ensures { MatchOption result (IsSoundBehind command before.now (Setting position word.now value.now))
+        (λ found. IsFirstWordFault command before.now (Setting position word.now value.now) found.what found.position) }
 {
     let Some(option) = option_of(command, word) else {
         return Some(Found {
@@ -147,7 +152,8 @@ fn setting_fault(
 /// The first fault of an argument behind others, if it has one.
 fn fault_of(command: CommandWord, before: &[Argument], argument: &Argument) -> Option<Found>
     requires { IsNear argument.now }
-    ensures { MatchOption result (IsSoundBehind command before.now argument.now) (λ found. IsFirstWordFault command before.now argument.now found.what found.position) }
+    ensures { MatchOption result (IsSoundBehind command before.now argument.now)
+        (λ found. IsFirstWordFault command before.now argument.now found.what found.position) }
 {
     match argument {
         Argument::Name { position, word } => {
@@ -165,7 +171,8 @@ fn fault_of(command: CommandWord, before: &[Argument], argument: &Argument) -> O
 /// before it, which are at most ten where they have no fault.
 pub(crate) fn leftmost_fault(command: CommandWord, arguments: &[Argument]) -> Option<Found>
     requires { StandFrom 2 arguments.now }
-    ensures { MatchOption result (SoundFrom command [] arguments.now) (λ found. IsLeftmost command arguments.now found.what found.position) }
+    ensures { MatchOption result (SoundFrom command [] arguments.now)
+        (λ found. IsLeftmost command arguments.now found.what found.position) }
 {
     for (i, argument) in arguments.iter().enumerate() {
         if let Some(found) = fault_of(command, &arguments[..i], argument) {

@@ -66,7 +66,8 @@ pub(crate) fn number_in(text: &str, low: u32, high: u32) -> Option<u32>
 
 /// The criteria whose words the text has between its commas, if they are at most four.
 fn criteria_in(text: &str) -> Option<ArrayVec<Criterion, 4>>
-    ensures { MatchOption result ((list : List Measure) → 1 ≤ length list → length list ≤ 4 → text.now ≢ criteria_text list) (λ list. text.now ≡ criteria_text list.items) }
+    ensures { MatchOption result ((list : List Measure) → 1 ≤ length list → length list ≤ 4 →
+        text.now ≢ criteria_text list) (λ list. text.now ≡ criteria_text list.items) }
 {
     let mut list = ArrayVec::new();
     for word in text.split(',') {

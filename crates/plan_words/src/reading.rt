@@ -18,8 +18,10 @@ fn read_arguments(
     command: CommandWord,
     words: &[String],
 ) -> Result<Command, WordFault>
-    ensures command { (first : List ℕ) → first ≡ command_word command → IfOk result (λ c. IsCommandOf (first ∷ texts_of words.now) c) }
-    ensures fault { (first : List ℕ) → first ≡ command_word command → IfErr result (λ e. (e ≡ WordFault.Memory) ⊎ IsWordFault (first ∷ texts_of words.now) e) }
+    ensures command { (first : List ℕ) → first ≡ command_word command → IfOk result
+        (λ c. IsCommandOf (first ∷ texts_of words.now) c) }
+    ensures fault { (first : List ℕ) → first ≡ command_word command → IfErr result
+        (λ e. (e ≡ WordFault.Memory) ⊎ IsWordFault (first ∷ texts_of words.now) e) }
 {
     let arguments = arguments_in(alloc, words)?;
     match fault_that_counts(alloc, command, &arguments, words.len() + 2)? {
@@ -57,7 +59,8 @@ fn read_line(alloc: Global, words: &[String]) -> Result<Command, WordFault>
 /// Positions count from 1 at the command. The leftmost fault of a name or an option counts; where
 /// there is none, that a name is missing; and then that two files of `draw` or `signals` have one name.
 pub fn read_words(alloc: Global, words: &[String]) -> Result<Command, WordFault>
-    ensures { AnswersExactly result WordFault.Memory (IsCommandOf (texts_of words.now)) (IsWordFault (texts_of words.now)) }
+    ensures { AnswersExactly result WordFault.Memory (IsCommandOf (texts_of words.now))
+        (IsWordFault (texts_of words.now)) }
 {
     read_line(alloc, words)
 }

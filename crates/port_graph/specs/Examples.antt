@@ -41,7 +41,8 @@ abbrev pub bent_switch : List ℕ → ℕ → Micro → Bool → Hand → Conn �
 bent_switch id at mile outgoing hand c = record { id = id; at = at; mile = mile; what = Switch outgoing hand true c }
 
 abbrev pub crossing : List ℕ → ℕ → Micro → Hand → Conn → Conn → Inner
-crossing id at mile hand incoming outgoing = record { id = id; at = at; mile = mile; what = Crossing hand incoming outgoing }
+crossing id at mile hand incoming outgoing = record
+    { id = id; at = at; mile = mile; what = Crossing hand incoming outgoing }
 
 abbrev pub track : List ℕ → ℕ → TrackEnd → TrackEnd → List Inner → Track
 track id at begin end inner = record { id = id; at = at; begin = begin; end = end; inner = inner }
@@ -59,7 +60,8 @@ with_names nodes tracks g = record {
 -- One track, from 0 to 600 metres.
 
 abbrev pub one_topology : Topology
-one_topology = topology (track (codes "m") 31 (open_end (codes "mb") 61 (at_mile 0)) (open_end (codes "me") 132 (at_mile 600000000)) [] ∷ [])
+one_topology = topology (track (codes "m") 31 (open_end (codes "mb") 61 (at_mile 0))
+    (open_end (codes "me") 132 (at_mile 600000000)) [] ∷ [])
 
 -- A loop on the left of a main track, from a switch at 100 metres to a switch at 500.
 
@@ -111,13 +113,16 @@ scissors_topology = topology
     ∷ switch (codes "b2") 13 (at_mile 130000000) false Left (conn (codes "cb2") 14 2 End) ∷ [])
     ∷ track (codes "x") 15 (joined_end (codes "xb") 16 (at_mile 100000000) (conn (codes "xa") 17 0 (Branch 0)))
     (joined_end (codes "xe") 18 (at_mile 130000000) (conn (codes "xd") 19 1 (Branch 1)))
-    (crossing (codes "k") 20 (at_mile 115000000) Right (conn (codes "ki") 21 1 (Branch 0)) (conn (codes "ko") 22 0 (Branch 1)) ∷ []) ∷ [])
+    (crossing (codes "k") 20 (at_mile 115000000) Right (conn (codes "ki") 21 1 (Branch 0))
+    (conn (codes "ko") 22 0 (Branch 1)) ∷ []) ∷ [])
 
--- The same two crossovers, of which the other one has the crossing on its track: there the other path leaves to the left. The two
+-- The same two crossovers, of which the other one has the crossing on its track: there the other path leaves to the
+-- left. The two
 -- switches of that path lead to these parts of the track, and the crossing's connections to them.
 
 abbrev pub falling_track : Conn → Conn → Track
-falling_track incoming outgoing = track (codes "x") 15 (joined_end (codes "xb") 16 (at_mile 100000000) (conn (codes "xa") 17 1 (Branch 0)))
+falling_track incoming outgoing = track (codes "x") 15
+    (joined_end (codes "xb") 16 (at_mile 100000000) (conn (codes "xa") 17 1 (Branch 0)))
     (joined_end (codes "xe") 18 (at_mile 130000000) (conn (codes "xd") 19 0 (Branch 1)))
     (crossing (codes "k") 20 (at_mile 115000000) Left incoming outgoing ∷ [])
 
@@ -132,11 +137,13 @@ left_crossing west east incoming outgoing = topology
     ∷ falling_track incoming outgoing ∷ [])
 
 abbrev pub left_topology : Topology
-left_topology = left_crossing (Incoming 0) (Outgoing 0) (conn (codes "ki") 21 0 (Branch 0)) (conn (codes "ko") 22 1 (Branch 1))
+left_topology = left_crossing (Incoming 0) (Outgoing 0) (conn (codes "ki") 21 0 (Branch 0))
+    (conn (codes "ko") 22 1 (Branch 1))
 
 -- its outgoing connection leads back west
 abbrev pub backing_topology : Topology
-backing_topology = left_crossing (Outgoing 0) (Incoming 0) (conn (codes "ki") 21 1 (Branch 1)) (conn (codes "ko") 22 0 (Branch 0))
+backing_topology = left_crossing (Outgoing 0) (Incoming 0) (conn (codes "ki") 21 1 (Branch 1))
+    (conn (codes "ko") 22 0 (Branch 0))
 
 abbrev pub left_graph : Graph
 left_graph = record {
@@ -180,7 +187,8 @@ bent_graph = record {
 
 abbrev pub ring_topology : Topology
 ring_topology = topology
-    (track (codes "o") 1 (joined_end (codes "ob") 2 (at_mile 0) (conn (codes "c1") 3 0 End)) (joined_end (codes "oe") 4 (at_mile 500000000) (conn (codes "c2") 5 0 Begin)) [] ∷ [])
+    (track (codes "o") 1 (joined_end (codes "ob") 2 (at_mile 0) (conn (codes "c1") 3 0 End))
+    (joined_end (codes "oe") 4 (at_mile 500000000) (conn (codes "c2") 5 0 Begin)) [] ∷ [])
 
 -- A station: two tracks, a crossover, and a loop beside the upper track.
 
@@ -201,8 +209,10 @@ station_topology = topology
 
 abbrev pub joint_topology : Topology
 joint_topology = topology
-    (track (codes "a") 1 (open_end (codes "ab") 2 (at_mile 0)) (joined_end (codes "ae") 3 (at_mile 600000000) (conn (codes "c1") 4 1 Begin)) []
-    ∷ track (codes "b") 5 (joined_end (codes "bb") 6 (at_mile 610000000) (conn (codes "c2") 7 0 End)) (open_end (codes "be") 8 (at_mile 900000000)) [] ∷ [])
+    (track (codes "a") 1 (open_end (codes "ab") 2 (at_mile 0))
+    (joined_end (codes "ae") 3 (at_mile 600000000) (conn (codes "c1") 4 1 Begin)) []
+    ∷ track (codes "b") 5 (joined_end (codes "bb") 6 (at_mile 610000000) (conn (codes "c2") 7 0 End))
+    (open_end (codes "be") 8 (at_mile 900000000)) [] ∷ [])
 
 -- the joint has the name and the mileage of the first end
 abbrev pub joint_graph : Graph
@@ -213,12 +223,14 @@ joint_graph = record {
   edges = record { track = codes "a"; west = 0; east = 1 } ∷ record { track = codes "b"; west = 1; east = 2 } ∷ [];
 }
 
--- So many tracks apart from each other, of a kilometre each, with file places from a number on; and a main track with so many loops, each
+-- So many tracks apart from each other, of a kilometre each, with file places from a number on; and a main track with
+-- so many loops, each
 -- from a switch to the next one a kilometre further on. The ids don't matter for how many nodes and edges there are.
 
 abbrev pub open_tracks : ℕ → ℕ → List Track
 open_tracks zero at = []
-open_tracks (suc n) at = track [] at (open_end [] (at + 1) (at_mile 0)) (open_end [] (at + 2) (at_mile 1000000000)) [] ∷ open_tracks n (at + 3)
+open_tracks (suc n) at = track [] at (open_end [] (at + 1) (at_mile 0)) (open_end [] (at + 2) (at_mile 1000000000)) []
+    ∷ open_tracks n (at + 3)
 
 abbrev pub loop_switches : ℕ → ℕ → List Inner
 loop_switches zero k = []
@@ -230,9 +242,12 @@ loop_switches (suc n) k =
 abbrev pub loop_tracks : ℕ → ℕ → List Track
 loop_tracks zero k = []
 loop_tracks (suc n) k =
-    track [] (20000 + 5 * k) (joined_end [] (20001 + 5 * k) (at_mile ((2 * k + 1) * 1000000000)) (conn [] (20002 + 5 * k) 0 (Branch (2 * k))))
-    (joined_end [] (20003 + 5 * k) (at_mile ((2 * k + 2) * 1000000000)) (conn [] (20004 + 5 * k) 0 (Branch (2 * k + 1)))) []
+    track [] (20000 + 5 * k) (joined_end [] (20001 + 5 * k) (at_mile ((2 * k + 1) * 1000000000))
+    (conn [] (20002 + 5 * k) 0 (Branch (2 * k))))
+    (joined_end [] (20003 + 5 * k) (at_mile ((2 * k + 2) * 1000000000))
+    (conn [] (20004 + 5 * k) 0 (Branch (2 * k + 1)))) []
     ∷ loop_tracks n (k + 1)
 
 abbrev pub tracks_with_loops : ℕ → List Track
-tracks_with_loops n = track [] 0 (open_end [] 1 (at_mile 0)) (open_end [] 2 (at_mile 900000000000)) (loop_switches n 0) ∷ loop_tracks n 0
+tracks_with_loops n = track [] 0 (open_end [] 1 (at_mile 0)) (open_end [] 2 (at_mile 900000000000)) (loop_switches n 0)
+    ∷ loop_tracks n 0

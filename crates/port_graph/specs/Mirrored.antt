@@ -1,4 +1,5 @@
--- The same station with every hand exchanged: what left its track to the left leaves it to the right. Mileages, and with them east
+-- The same station with every hand exchanged: what left its track to the left leaves it to the right. Mileages, and
+-- with them east
 -- and west, stay; upper and lower are exchanged.
 use Rattle.std.specs.Prelude.{map}
 use Rattle.plan_core.specs.declared.sides.Hand.{Hand}
@@ -18,7 +19,8 @@ other_hand Left = Right
 other_hand Right = Left
 
 abbrev pub mirrored_kind : InnerKind → InnerKind
-mirrored_kind (kind.Switch outgoing hand track_diverges conn) = kind.Switch outgoing (other_hand hand) track_diverges conn
+mirrored_kind (kind.Switch outgoing hand track_diverges conn) =
+    kind.Switch outgoing (other_hand hand) track_diverges conn
 mirrored_kind (kind.Crossing hand incoming outgoing) = kind.Crossing (other_hand hand) incoming outgoing
 
 abbrev pub mirrored_inner : Inner → Inner
@@ -36,7 +38,8 @@ abbrev pub mirrored_ports : Ports → Ports
 mirrored_ports (End edge side) = End edge side
 mirrored_ports (Joint west east) = Joint west east
 mirrored_ports (Switch legs branch trunk straight diverging) = Switch legs (other_side branch) trunk straight diverging
-mirrored_ports (Crossing west_upper west_lower east_upper east_lower) = Crossing west_lower west_upper east_lower east_upper
+mirrored_ports (Crossing west_upper west_lower east_upper east_lower) =
+    Crossing west_lower west_upper east_lower east_upper
 
 abbrev pub mirrored_node : Node → Node
 mirrored_node n = record n { ports = mirrored_ports n.ports }

@@ -25,7 +25,8 @@ pub record IsLevelAt (runs : List Run) (e : ℕ) (r : Run) : Type 0 where
   pub before : (f : ℕ) (q : Run) → f < e → slice_get runs f ≡ Some q → IsForward q
 
 abbrev pub IsLevelFault : List Run → GraphFault → Type 0
-IsLevelFault runs (NotForward edge track mileage) = (r : Run) × IsLevelAt runs edge.0 r × (track ≡ r.track) × (r.to.mile ≡ mileage)
+IsLevelFault runs (NotForward edge track mileage) = (r : Run) × IsLevelAt runs edge.0 r × (track ≡ r.track)
+    × (r.to.mile ≡ mileage)
 IsLevelFault runs Memory = Unit {0}
 IsLevelFault runs _ = ⊥
 
@@ -46,7 +47,8 @@ pub record IsMismatchAt (edges : List Edge) (ss : List Site) (n : ℕ) (s : Site
 
 -- the fault of this site at this number, if the edges don't lie there as they must
 abbrev pub IsMismatchOf : List Edge → ℕ → Site → GraphFault → Type 0
-IsMismatchOf edges n s (SideMismatch node name) = (node.0 ≡ n) × (name ≡ s.id) × (ports_of (side_at edges n) s.meets ≡ None)
+IsMismatchOf edges n s (SideMismatch node name) = (node.0 ≡ n) × (name ≡ s.id)
+    × (ports_of (side_at edges n) s.meets ≡ None)
 IsMismatchOf edges n s Memory = Unit {0}
 IsMismatchOf edges n s _ = ⊥
 

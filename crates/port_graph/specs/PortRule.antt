@@ -26,13 +26,16 @@ side_of_hand West Right = Upper
 
 -- a switch's trunk lies opposite to both its legs; the hand is that of the diverging leg
 abbrev pub switch_ports : Hand → (trunk straight diverging : ℕ) → Compass → Compass → Compass → Option Ports
-switch_ports hand trunk straight diverging West East East = Some (Switch East (side_of_hand East hand) trunk straight diverging)
-switch_ports hand trunk straight diverging East West West = Some (Switch West (side_of_hand West hand) trunk straight diverging)
+switch_ports hand trunk straight diverging West East East =
+    Some (Switch East (side_of_hand East hand) trunk straight diverging)
+switch_ports hand trunk straight diverging East West West =
+    Some (Switch West (side_of_hand West hand) trunk straight diverging)
 switch_ports hand trunk straight diverging _ _ _ = None
 
 -- two paths that cross, each by its west and its east edge
 abbrev pub ports_of_paths : (rising_west rising_east falling_west falling_east : ℕ) → Ports
-ports_of_paths rising_west rising_east falling_west falling_east = Crossing falling_west rising_west rising_east falling_east
+ports_of_paths rising_west rising_east falling_west falling_east =
+    Crossing falling_west rising_west rising_east falling_east
 
 -- where the other path leaves a crossing's own track to the left it is the rising one, to the right its
 -- own track is; of each path the west edge stands before the east one
@@ -42,9 +45,12 @@ paths_crossed Right own_west own_east other_west other_east = ports_of_paths own
 
 -- each path of a crossing has an edge on each side, and the outgoing edge lies on the side of the
 -- track's piece after the crossing
-abbrev pub crossing_ports : Hand → (before after incoming outgoing : ℕ) → Compass → Compass → Compass → Compass → Option Ports
-crossing_ports hand before after incoming outgoing West East West East = Some (paths_crossed hand before after incoming outgoing)
-crossing_ports hand before after incoming outgoing East West East West = Some (paths_crossed hand after before outgoing incoming)
+abbrev pub crossing_ports : Hand → (before after incoming outgoing : ℕ) → Compass → Compass → Compass → Compass →
+    Option Ports
+crossing_ports hand before after incoming outgoing West East West East =
+    Some (paths_crossed hand before after incoming outgoing)
+crossing_ports hand before after incoming outgoing East West East West =
+    Some (paths_crossed hand after before outgoing incoming)
 crossing_ports hand before after incoming outgoing _ _ _ _ = None
 
 -- the ports of what meets at a node at which the edges lie so; none where they don't lie as they must
@@ -58,4 +64,5 @@ ports_of side (meeting.Switch outgoing hand track_diverges before after branch) 
     let diverging = (if track_diverges then leg else branch.0) in
     switch_ports hand trunk straight diverging (side trunk) (side straight) (side diverging)
 ports_of side (meeting.Crossing hand before after incoming outgoing) =
-    crossing_ports hand before.0 after.0 incoming.0 outgoing.0 (side before.0) (side after.0) (side incoming.0) (side outgoing.0)
+    crossing_ports hand before.0 after.0 incoming.0 outgoing.0 (side before.0) (side after.0) (side incoming.0)
+    (side outgoing.0)

@@ -1,6 +1,7 @@
 -- The edges of a topology: the pieces into which nodes cut its tracks, and the joins between switches
 -- and crossings; and their numbers.
-use Rattle.std.specs.Prelude.{ℕ, ◌+◌, nat_lt, min, not, ◌&&◌, Bool, if◌then◌else◌, List, [], ◌∷◌, ◌++◌, length, map, take, sum_by, count_by, flat_map, slice_get, unwrap_or}
+use Rattle.std.specs.Prelude.{ℕ, ◌+◌, nat_lt, min, not, ◌&&◌, Bool, if◌then◌else◌, List, [], ◌∷◌, ◌++◌, length, map}
+use Rattle.std.specs.Prelude.{take, sum_by, count_by, flat_map, slice_get, unwrap_or}
 use Rattle.std.specs.Option.{option_map, option_map_or}
 use Rattle.plan_core.specs.declared.topology.Topology.{Topology}
 use Rattle.plan_core.specs.declared.topology.Track.{Track}

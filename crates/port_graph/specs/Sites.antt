@@ -35,7 +35,8 @@ abbrev pub inner_meeting : Topology → ℕ → ℕ → InnerKind → Meeting
 inner_meeting t before after (Switch outgoing hand track_diverges conn) =
     meeting.Switch outgoing hand track_diverges (edge_no before) (edge_no after) (edge_no (edge_beyond t conn))
 inner_meeting t before after (Crossing hand incoming outgoing) =
-    meeting.Crossing hand (edge_no before) (edge_no after) (edge_no (edge_beyond t incoming)) (edge_no (edge_beyond t outgoing))
+    meeting.Crossing hand (edge_no before) (edge_no after) (edge_no (edge_beyond t incoming))
+    (edge_no (edge_beyond t outgoing))
 
 -- the node of track k's switch or crossing i, both from 0
 abbrev pub inner_site : Topology → ℕ → ℕ → Inner → Site

@@ -1,5 +1,6 @@
 -- The track graph of a topology, and why it may have none.
-use Rattle.std.specs.Prelude.{◌≡◌, ◌≢◌, ℕ, ◌≤◌, ◌<◌, ℤ, ◌⊎◌, nat_eq, int_lt, if◌then◌else◌, List, [], codes, length, Contains, Some, None, IsSome, slice_get, slice_index_or}
+use Rattle.std.specs.Prelude.{◌≡◌, ◌≢◌, ℕ, ◌≤◌, ◌<◌, ℤ, ◌⊎◌, nat_eq, int_lt, if◌then◌else◌, List, [], codes, length}
+use Rattle.std.specs.Prelude.{Contains, Some, None, IsSome, slice_get, slice_index_or}
 use Rattle.plan_core.specs.declared.limits.TheConstants.{MAX_NODES, MAX_EDGES}
 use Rattle.plan_core.specs.declared.sides.Compass.{Compass}
 use Rattle.plan_core.specs.declared.sides.Compass.TheVariants.{East, West}
@@ -10,7 +11,8 @@ use Rattle.port_graph.specs.declared.runs.Run.{Run}
 use Rattle.port_graph.specs.declared.runs.Join.{Join}
 use Rattle.port_graph.specs.declared.sites.Site.{Site}
 use Rattle.port_graph.specs.declared.fault.GraphFault.{GraphFault}
-use Rattle.port_graph.specs.declared.fault.GraphFault.TheVariants.{TooManyNodes, TooManyEdges, NotForward, SideMismatch, Memory}
+use Rattle.port_graph.specs.declared.fault.GraphFault.TheVariants.{TooManyNodes, TooManyEdges, NotForward}
+use Rattle.port_graph.specs.declared.fault.GraphFault.TheVariants.{SideMismatch, Memory}
 use Rattle.port_graph.specs.Runs.{pieces_of_tracks, joins, join_number, edge_count}
 use Rattle.port_graph.specs.Sites.{sites, number_among, node_number}
 use Rattle.port_graph.specs.PortRule.{ports_of}
@@ -25,14 +27,20 @@ east_of r = if int_lt r.from.mile.0 r.to.mile.0 then r.to else r.from
 
 -- the edge that a run becomes where these are the nodes
 abbrev pub edge_among : List Site → Run → Edge
-edge_among ss r = record { track = r.track; west = number_among ss (west_of r).at; east = number_among ss (east_of r).at }
+edge_among ss r = record {
+  track = r.track;
+  west = number_among ss (west_of r).at;
+  east =
+      number_among ss (east_of r).at;
+}
 
 abbrev pub edge_of : Topology → Run → Edge
 edge_of t r = edge_among (sites t) r
 
 -- the run that becomes the edge of this number
 abbrev pub IsRun : Topology → ℕ → Run → Type 0
-IsRun t e r = (slice_get (pieces_of_tracks t) e ≡ Some r) ⊎ ((j : Join) × Contains (joins t) j × (join_number t j.at ≡ e) × (j.run ≡ r))
+IsRun t e r = (slice_get (pieces_of_tracks t) e ≡ Some r)
+    ⊎ ((j : Join) × Contains (joins t) j × (join_number t j.at ≡ e) × (j.run ≡ r))
 
 -- the list has an edge for each piece and each join, at its number
 pub record AreEdgesOf (t : Topology) (edges : List Edge) : Type 0 where
@@ -48,7 +56,8 @@ side_at edges n e = if nat_eq (slice_index_or edges e no_edge).west n then East 
 pub record IsNodeOf (t : Topology) (g : Graph) (s : Site) : Type 0 where
   pub name : (node g (node_number t s.spot.at)).name ≡ s.id
   pub mileage : (node g (node_number t s.spot.at)).mileage ≡ s.spot.mile.0
-  pub ports : ports_of (side_at g.edges (node_number t s.spot.at)) s.meets ≡ Some (node g (node_number t s.spot.at)).ports
+  pub ports : ports_of (side_at g.edges (node_number t s.spot.at)) s.meets
+      ≡ Some (node g (node_number t s.spot.at)).ports
 
 -- the track graph of a topology
 pub record IsGraphOf (t : Topology) (g : Graph) : Type 0 where

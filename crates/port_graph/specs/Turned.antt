@@ -10,7 +10,8 @@ use Rattle.plan_core.specs.declared.topology.End.{End as TrackEnd}
 use Rattle.plan_core.specs.declared.topology.Inner.{Inner}
 use Rattle.plan_core.specs.Graph.{Graph, Node, Edge, Ports, End, Joint, Switch, Crossing, opposite}
 use Rattle.port_graph.specs.declared.fault.GraphFault.{GraphFault}
-use Rattle.port_graph.specs.declared.fault.GraphFault.TheVariants.{TooManyNodes, TooManyEdges, NotForward, SideMismatch, Memory}
+use Rattle.port_graph.specs.declared.fault.GraphFault.TheVariants.{TooManyNodes, TooManyEdges, NotForward}
+use Rattle.port_graph.specs.declared.fault.GraphFault.TheVariants.{SideMismatch, Memory}
 
 -- Topologies.
 
@@ -24,7 +25,12 @@ abbrev pub turned_inner : Inner → Inner
 turned_inner x = record x { mile = turned_mile x.mile }
 
 abbrev pub turned_track : Track → Track
-turned_track track = record track { begin = turned_end track.begin; end = turned_end track.end; inner = map turned_inner track.inner }
+turned_track track = record track {
+  begin = turned_end track.begin;
+  end = turned_end track.end;
+  inner =
+      map turned_inner track.inner;
+}
 
 abbrev pub turned_topology : Topology → Topology
 turned_topology t = record { tracks = map turned_track t.tracks }
@@ -38,8 +44,10 @@ other_side Lower = Upper
 abbrev pub turned_ports : Ports → Ports
 turned_ports (End edge side) = End edge (opposite side)
 turned_ports (Joint west east) = Joint east west
-turned_ports (Switch legs branch trunk straight diverging) = Switch (opposite legs) (other_side branch) trunk straight diverging
-turned_ports (Crossing west_upper west_lower east_upper east_lower) = Crossing east_lower east_upper west_lower west_upper
+turned_ports (Switch legs branch trunk straight diverging) =
+    Switch (opposite legs) (other_side branch) trunk straight diverging
+turned_ports (Crossing west_upper west_lower east_upper east_lower) =
+    Crossing east_lower east_upper west_lower west_upper
 
 abbrev pub turned_node : Node → Node
 turned_node n = record n { mileage = neg_ℤ n.mileage; ports = turned_ports n.ports }

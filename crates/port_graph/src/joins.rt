@@ -3,7 +3,8 @@ ghost use Rattle.std.specs.Prelude.{◌≡◌, true, ◌∷◌, ◌++◌, [], On
 ghost use Rattle.std.specs.Option.{option_map};
 ghost use Rattle.plan_core.specs.Topology.{connection, connection_of};
 ghost use Rattle.port_graph.specs.Spots.{inner_spot as spot_of_inner};
-ghost use Rattle.port_graph.specs.Runs.{joined_at as place_joined, begins_join as is_first, begun_join, inner_joins as joins_of, track_joins as joins_on, joins as all_joins};
+ghost use Rattle.port_graph.specs.Runs.{joined_at as place_joined, begins_join as is_first, begun_join};
+ghost use Rattle.port_graph.specs.Runs.{inner_joins as joins_of, track_joins as joins_on, joins as all_joins};
 
 use crate::spots::{inner_spot, is_track_end, spot_at};
 use crate::{Join, Run};

@@ -2,7 +2,9 @@
 ghost use Rattle.std.specs.Prelude.{◌≡◌, ◌+◌, ◌<◌, ◌≤◌, ◌++◌, Some, length, slice_get, OnOk, IfOk};
 ghost use Rattle.plan_core.specs.declared.limits.TheConstants.{MAX_EDGES};
 ghost use Rattle.port_graph.specs.Runs.{piece_number as number_of_piece};
-ghost use Rattle.port_graph.specs.Sites.{end_meeting as meeting_of_end, end_sites as sites_of_end, inner_meeting as meeting_of_inner, inner_site as site_of_inner, inner_sites as sites_of_inner, track_sites as sites_on, sites as all_sites};
+ghost use Rattle.port_graph.specs.Sites.{end_meeting as meeting_of_end, end_sites as sites_of_end};
+ghost use Rattle.port_graph.specs.Sites.{inner_meeting as meeting_of_inner, inner_site as site_of_inner};
+ghost use Rattle.port_graph.specs.Sites.{inner_sites as sites_of_inner, track_sites as sites_on, sites as all_sites};
 ghost use Rattle.port_graph.specs.Numbering.{IsNumbering};
 
 use crate::numbers::{Numbering, edge_beyond, last_piece, piece_number};

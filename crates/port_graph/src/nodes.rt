@@ -1,5 +1,6 @@
 // The nodes that sites become, or the first at which the edges don't lie as they must.
-ghost use Rattle.std.specs.Prelude.{◌≡◌, ℕ, ◌<◌, ◌≤◌, ◌^◌, ◌∷◌, ◌++◌, [], Some, None, List, map, length, All, IsSome, IfOk, IfErr, OnOk};
+ghost use Rattle.std.specs.Prelude.{◌≡◌, ℕ, ◌<◌, ◌≤◌, ◌^◌, ◌∷◌, ◌++◌, [], Some, None, List, map, length, All, IsSome};
+ghost use Rattle.std.specs.Prelude.{IfOk, IfErr, OnOk};
 ghost use Rattle.plan_core.specs.declared.limits.TheConstants.{MAX_NODES};
 ghost use Rattle.port_graph.specs.Plain.{plain_edge, plain_node, plain_ports};
 ghost use Rattle.port_graph.specs.Sides.{edges_met};
@@ -76,7 +77,8 @@ pub(crate) fn node_rows(
 ) -> Result<Vec<NodeRow>, GraphFault>
     requires few { length sites.now ≤ MAX_NODES }
     requires there { All (λ (s : Site). All (λ (e : ℕ). e < length edges.now) (edges_met s.meets)) sites.now }
-    ensures nodes { IfOk result (λ rows. map Some (map plain_node rows.items) ≡ nodes_among (map plain_edge edges.now) sites.now) }
+    ensures nodes { IfOk result (λ rows. map Some (map plain_node rows.items)
+        ≡ nodes_among (map plain_edge edges.now) sites.now) }
     ensures fault { IfErr result (λ fault. IsMismatchFault (map plain_edge edges.now) sites.now fault) }
 {
     let mut rows = Vec::new(alloc);

@@ -1,7 +1,9 @@
 // The numbers of edges: the pieces track by track, and after them the joins in file order.
 ghost use Rattle.std.specs.Prelude.{◌≡◌, ◌+◌, ◌<◌, ◌≤◌, ◌^◌, ℕ, IfOk, List, length, slice_index, sum_by, vec_len};
 ghost use Rattle.plan_core.specs.declared.limits.TheConstants.{MAX_EDGES};
-ghost use Rattle.port_graph.specs.Runs.{piece_count, piece_number as number_of_piece, last_piece as number_of_last, join_number as number_of_join, join_of_connection as number_of_join_along, edge_count, edge_beyond as edge_there, joins as all_joins};
+ghost use Rattle.port_graph.specs.Runs.{piece_count, piece_number as number_of_piece, last_piece as number_of_last};
+ghost use Rattle.port_graph.specs.Runs.{join_number as number_of_join, join_of_connection as number_of_join_along};
+ghost use Rattle.port_graph.specs.Runs.{edge_count, edge_beyond as edge_there, joins as all_joins};
 ghost use Rattle.port_graph.specs.Sites.{edge_no};
 ghost use Rattle.port_graph.specs.Numbering.{IsNumbering};
 

@@ -3,7 +3,8 @@ ghost use Rattle.std.specs.Prelude.{◌≡◌, ℕ, ◌<◌, length, map, All, i
 ghost use Rattle.std.specs.Option.{option_map};
 ghost use Rattle.port_graph.specs.Plain.{plain_ports, plain_edge};
 ghost use Rattle.port_graph.specs.Sides.{edges_met};
-ghost use Rattle.port_graph.specs.PortRule.{ports_of, joint_ports, side_of_hand, switch_ports, paths_crossed, crossing_ports};
+ghost use Rattle.port_graph.specs.PortRule.{ports_of, joint_ports, side_of_hand, switch_ports, paths_crossed};
+ghost use Rattle.port_graph.specs.PortRule.{crossing_ports};
 ghost use Rattle.port_graph.specs.TopologyGraph.{side_at};
 
 use crate::rows::EdgeRow;
@@ -119,8 +120,10 @@ fn trunk_and_legs(
     branch: EdgeNo,
 ) -> Legs
     ensures trunk { result.trunk.0 ≡ (if outgoing then before.0 else after.0) }
-    ensures straight { result.straight.0 ≡ (if track_diverges then branch.0 else (if outgoing then after.0 else before.0)) }
-    ensures diverging { result.diverging.0 ≡ (if track_diverges then (if outgoing then after.0 else before.0) else branch.0) }
+    ensures straight { result.straight.0 ≡ (if track_diverges then branch.0 else
+        (if outgoing then after.0 else before.0)) }
+    ensures diverging { result.diverging.0 ≡ (if track_diverges then (if outgoing then after.0 else before.0) else
+        branch.0) }
 {
     let (trunk, leg) = if outgoing {
         (before, after)
@@ -160,7 +163,8 @@ fn ports_of_switch(
     straight: Compass,
     diverging: Compass,
 ) -> Option<Ports>
-    ensures { option_map plain_ports result ≡ switch_ports hand legs.trunk.0 legs.straight.0 legs.diverging.0 trunk straight diverging }
+    ensures { option_map plain_ports result ≡ switch_ports hand legs.trunk.0 legs.straight.0 legs.diverging.0 trunk
+        straight diverging }
 {
     match (trunk, straight, diverging) {
         (Compass::West, Compass::East, Compass::East)
@@ -192,7 +196,8 @@ fn ports_of_crossing(
     own: (Compass, Compass),
     other: (Compass, Compass),
 ) -> Option<Ports>
-    ensures { option_map plain_ports result ≡ crossing_ports hand paths.before.0 paths.after.0 paths.incoming.0 paths.outgoing.0 own.0 own.1 other.0 other.1 }
+    ensures { option_map plain_ports result ≡ crossing_ports hand paths.before.0 paths.after.0 paths.incoming.0
+        paths.outgoing.0 own.0 own.1 other.0 other.1 }
 {
     match (own, other) {
         ((Compass::West, Compass::East), (Compass::West, Compass::East)) => Some(crossed_paths(

@@ -1,6 +1,8 @@
 // Where the nodes of a topology stand, and to which of them the ends of its tracks lead.
 ghost use Rattle.std.specs.Prelude.{◌≡◌, ℕ, ◌<◌, ◌^◌, length};
-ghost use Rattle.port_graph.specs.Spots.{end_spot as spot_of_end, inner_spot as spot_of_inner, spot_at as spot_there, is_track_end as names_track_end, has_node as is_a_node, leads_to as node_of, spot_on as spot_on_track, joined_spot as spot_joined};
+ghost use Rattle.port_graph.specs.Spots.{end_spot as spot_of_end, inner_spot as spot_of_inner, spot_at as spot_there};
+ghost use Rattle.port_graph.specs.Spots.{is_track_end as names_track_end, has_node as is_a_node, leads_to as node_of};
+ghost use Rattle.port_graph.specs.Spots.{spot_on as spot_on_track, joined_spot as spot_joined};
 
 use crate::Spot;
 use plan_core::{End, Inner, Part, Place, Topology, Track};

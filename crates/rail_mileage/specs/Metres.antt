@@ -1,5 +1,6 @@
 -- Which texts are a number of metres, and which mileage each is.
-use Rattle.std.specs.Prelude.{◌≡◌, ◌≤◌, ℕ, ◌+◌, ◌-◌, ◌*◌, ◌^◌, Bool, true, false, if◌then◌else◌, codes, Option, Some, None, List, [], ◌++◌, length, ℤ, pos, neg_ℤ}
+use Rattle.std.specs.Prelude.{◌≡◌, ◌≤◌, ℕ, ◌+◌, ◌-◌, ◌*◌, ◌^◌, Bool, true, false, if◌then◌else◌, codes, Option, Some}
+use Rattle.std.specs.Prelude.{None, List, [], ◌++◌, length, ℤ, pos, neg_ℤ}
 use Rattle.std.specs.Char.{is_ascii_digit}
 use Rattle.std.specs.Str.Parse.{digits_value}
 use Rattle.plan_core.specs.declared.numbers.Micro.{Micro}
@@ -41,7 +42,8 @@ pub record IsMetres (text : List ℕ) (parts : MetresParts) : Type 0 where
   pub whole_limit : length parts.whole ≤ 9
   pub fraction_limit : length (fraction_digits parts.fraction) ≤ 6
   pub some_digit : 1 ≤ length parts.whole + length (fraction_digits parts.fraction)
-  pub spelled : text ≡ parts.before ++ (sign_text parts.sign ++ (parts.whole ++ (fraction_text parts.fraction ++ parts.after)))
+  pub spelled : text ≡ parts.before ++ (sign_text parts.sign
+      ++ (parts.whole ++ (fraction_text parts.fraction ++ parts.after)))
 
 -- micrometres without the sign: a metre has a million, and the last of k digits after the point
 -- stands for 10 ^ (6 - k)
@@ -58,4 +60,7 @@ signed negative n = if negative then neg_ℤ (pos n) else pos n
 
 -- the mileage that a text of these parts is
 abbrev pub mileage_told : MetresParts → Micro
-mileage_told parts = record { 0 = signed (is_minus parts.sign) (micrometres parts.whole (fraction_digits parts.fraction)) }
+mileage_told parts = record {
+  0 = signed (is_minus parts.sign)
+      (micrometres parts.whole (fraction_digits parts.fraction));
+}

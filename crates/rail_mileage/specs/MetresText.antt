@@ -8,7 +8,8 @@ last_digit n = 48 + n % 10
 
 -- the last six digits, with zeros in front where there are fewer
 abbrev pub six_digits : ℕ → List ℕ
-six_digits n = last_digit (n / 100000) ∷ last_digit (n / 10000) ∷ last_digit (n / 1000) ∷ last_digit (n / 100) ∷ last_digit (n / 10) ∷ last_digit n ∷ []
+six_digits n = last_digit (n / 100000) ∷ last_digit (n / 10000) ∷ last_digit (n / 1000) ∷ last_digit (n / 100)
+    ∷ last_digit (n / 10) ∷ last_digit n ∷ []
 
 -- the whole metres, a point and six digits of so many micrometres
 abbrev pub size_text : ℕ → List ℕ

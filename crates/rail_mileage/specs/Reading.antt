@@ -1,5 +1,6 @@
 -- How a text is cut into the parts of a number, from left to right.
-use Rattle.std.specs.Prelude.{ℕ, Bool, ◌&&◌, nat_le, nat_lt, ◌+◌, ◌==◌, if◌then◌else◌, Option, Some, None, List, [], ◌∷◌, length}
+use Rattle.std.specs.Prelude.{ℕ, Bool, ◌&&◌, nat_le, nat_lt, ◌+◌, ◌==◌, if◌then◌else◌, Option, Some, None, List, []}
+use Rattle.std.specs.Prelude.{◌∷◌, length}
 use Rattle.std.specs.List.{list_all}
 use Rattle.plan_core.specs.declared.numbers.Micro.{Micro}
 use Rattle.railml_text.specs.Bytes.{is_blank, front, past}
@@ -40,7 +41,8 @@ parts_of text = record {
 
 -- whether parts that were cut so are those of a number
 abbrev pub are_metres : MetresParts → Bool
-are_metres parts = let digits = fraction_digits parts.fraction in list_all is_blank parts.after && nat_le (length parts.whole) 9 && nat_le (length digits) 6 && nat_lt 0 (length parts.whole + length digits)
+are_metres parts = let digits = fraction_digits parts.fraction in list_all is_blank parts.after && nat_le
+    (length parts.whole) 9 && nat_le (length digits) 6 && nat_lt 0 (length parts.whole + length digits)
 
 abbrev pub reading_of : MetresParts → Option Micro
 reading_of parts = if are_metres parts then Some (mileage_told parts) else None

@@ -11,5 +11,6 @@ pub fn one_reading()
 /// The text of a mileage above -10^15 and below 10^15 micrometres is a number of metres, and it is
 /// that mileage.
 pub fn written_is_read()
-    ensures { (z : ℤ) → unsigned_abs z < 10 ^ 15 → (parts : MetresParts) × IsMetres (metres_text z) parts × (mileage_told parts ≡ record { 0 = z }) }
+    ensures { (z : ℤ) → unsigned_abs z < 10 ^ 15 → (parts : MetresParts) × IsMetres (metres_text z) parts
+        × (mileage_told parts ≡ record { 0 = z }) }
 {}

@@ -4,7 +4,8 @@ ghost use Rattle.std.specs.List.{list_all};
 ghost use Rattle.std.specs.Char.{is_ascii_digit as digit};
 ghost use Rattle.std.specs.Str.Parse.{digits_value};
 ghost use Rattle.railml_text.specs.Bytes.{is_blank as blank, AllOfClass, front, past};
-ghost use Rattle.rail_mileage.specs.Metres.{MetresParts, IsMetres, micrometres, signed as with_sign, is_minus, fraction_digits, mileage_told};
+ghost use Rattle.rail_mileage.specs.Metres.{MetresParts, IsMetres, micrometres, signed as with_sign, is_minus};
+ghost use Rattle.rail_mileage.specs.Metres.{fraction_digits, mileage_told};
 ghost use Rattle.rail_mileage.specs.MetresText.{metres_text};
 ghost use Rattle.rail_mileage.specs.Reading.{sign_at, past_sign, fraction_at, past_fraction, parts_of, reading_of};
 

@@ -1,9 +1,12 @@
 -- Where an element stands on the path to the elements that are selected.
 use Rattle.std.specs.Prelude.{ℕ, if◌then◌else◌, codes, List, bytes_eq}
 use Rattle.railml_read.specs.declared.rows.ElemKind.{ElemKind}
-use Rattle.railml_read.specs.declared.rows.ElemKind.TheVariants.{Track, Topology, Begin, End, Switch, Crossing, Connection, OpenEnd, BufferStop, MacroNode}
+use Rattle.railml_read.specs.declared.rows.ElemKind.TheVariants.{Track, Topology, Begin, End, Switch, Crossing}
+use Rattle.railml_read.specs.declared.rows.ElemKind.TheVariants.{Connection, OpenEnd, BufferStop, MacroNode}
 use Rattle.railml_read.specs.declared.contexts.Context.{Context}
-use Rattle.railml_read.specs.declared.contexts.Context.TheVariants.{Outside, Railml, Infrastructure, Tracks, Connections, OcsElements, Signals, Signal, Selected, Skipped}
+use Rattle.railml_read.specs.declared.contexts.Context.TheVariants.{Outside, Railml, Infrastructure, Tracks}
+use Rattle.railml_read.specs.declared.contexts.Context.TheVariants.{Connections, OcsElements, Signals, Signal}
+use Rattle.railml_read.specs.declared.contexts.Context.TheVariants.{Selected, Skipped}
 
 -- where a child of this name stands below a track's begin or end
 abbrev pub below_end : List ℕ → Context

@@ -8,7 +8,8 @@ use Rattle.railml_text.specs.Faults.{number_of, HasItemFault}
 use Rattle.railml_text.specs.Cutting.{Placed, ComesTo, IsCutInto, is_first}
 use Rattle.railml_read.specs.Tree.{XmlTree, root_of, tags_of, names_of}
 use Rattle.railml_read.specs.Rows.{rows_of}
-use Rattle.railml_read.specs.Places.{content, role_of, role_of_shape, tags_in, open_names, has_root, IsMisplaced, AreInPlace}
+use Rattle.railml_read.specs.Places.{content, role_of, role_of_shape, tags_in, open_names, has_root, IsMisplaced}
+use Rattle.railml_read.specs.Places.{AreInPlace}
 use Rattle.railml_read.specs.declared.faults.ReadFault.{ReadFault}
 use Rattle.railml_read.specs.declared.faults.ReadFault.TheVariants as answers
 use Rattle.railml_read.specs.declared.rows.Elem.{Elem}
@@ -16,7 +17,8 @@ use Rattle.railml_read.specs.declared.rows.Elem.{Elem}
 -- outside of the root stands no content: behind the first items, where none is open, no other has it
 abbrev pub IsFreeOutside : List Placed → List Placed → Type 0
 IsFreeOutside before [] = ⊤
-IsFreeOutside before (item ∷ items) = (open_names before ≡ [] → role_of item.kind ≢ content) × IsFreeOutside (before ++ item ∷ []) items
+IsFreeOutside before (item ∷ items) = (open_names before ≡ [] → role_of item.kind ≢ content)
+    × IsFreeOutside (before ++ item ∷ []) items
 
 -- The bytes are the items of the tree in the order of the document, with only items between them that
 -- are passed over: their tags are those of the tree, and no content stands outside of the root.

@@ -1,5 +1,6 @@
 -- Which items may stand where in a document.
-use Rattle.std.specs.Prelude.{◌≡◌, ◌≢◌, ◌⊎◌, ◌≤◌, ◌-◌, ℕ, Bool, true, false, codes, List, [], ◌∷◌, ◌++◌, length, take, fold, flat_map, Option, Some, slice_get, ⊤}
+use Rattle.std.specs.Prelude.{◌≡◌, ◌≢◌, ◌⊎◌, ◌≤◌, ◌-◌, ℕ, Bool, true, false, codes, List, [], ◌∷◌, ◌++◌, length, take}
+use Rattle.std.specs.Prelude.{fold, flat_map, Option, Some, slice_get, ⊤}
 use Rattle.std.specs.List.{list_any}
 use Rattle.railml_text.specs.declared.item.ItemKind.{ItemKind}
 use Rattle.railml_text.specs.declared.item.ItemKind.TheVariants as kinds
@@ -85,4 +86,5 @@ IsMisplaced names rooted role what = ⊥
 abbrev pub AreInPlace : List Placed → List Placed → Type 0
 AreInPlace before [] = ⊤
 AreInPlace before (item ∷ items) =
-    ((what : TextWhat) → IsMisplaced (open_names before) (has_root before) (role_of item.kind) what → ⊥) × AreInPlace (before ++ item ∷ []) items
+    ((what : TextWhat) → IsMisplaced (open_names before) (has_root before) (role_of item.kind) what → ⊥)
+    × AreInPlace (before ++ item ∷ []) items

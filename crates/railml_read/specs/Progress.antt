@@ -1,5 +1,6 @@
 -- What the reader keeps while items go by.
-use Rattle.std.specs.Prelude.{ℕ, ◌+◌, ◌-◌, ◌==◌, nat_le, Bool, true, false, not, ◌||◌, ◌&&◌, if◌then◌else◌, codes, List, [], ◌∷◌, ◌++◌, length, take, map, fold, Option, Some, None, slice_get, bytes_eq}
+use Rattle.std.specs.Prelude.{ℕ, ◌+◌, ◌-◌, ◌==◌, nat_le, Bool, true, false, not, ◌||◌, ◌&&◌, if◌then◌else◌, codes}
+use Rattle.std.specs.Prelude.{List, [], ◌∷◌, ◌++◌, length, take, map, fold, Option, Some, None, slice_get, bytes_eq}
 use Rattle.std.specs.Option.{option_map_or}
 use Rattle.railml_text.specs.declared.fault.TextWhat.{TextWhat}
 use Rattle.railml_text.specs.declared.fault.TextWhat.TheVariants.{Markup, EndTag, Root, AfterRoot, Depth}
@@ -103,7 +104,11 @@ marks_of kept = record { tracks = kept.tracks; signals = kept.signals.items }
 abbrev pub after_mark : State → Marks → Tag → Marks
 after_mark s m (opens at name attrs) =
     let here = below (context_in (top_frame s.stack)) name in
-    record { tracks = m.tracks + own_track here; signals = m.signals ++ own_signal here at attrs (m.tracks + own_track here) }
+    record {
+      tracks = m.tracks + own_track here;
+      signals = m.signals
+          ++ own_signal here at attrs (m.tracks + own_track here);
+    }
 after_mark s m (closes name) = m
 
 -- what is kept of rows, and what is kept of signals

@@ -28,7 +28,8 @@ attrs_read attrs = record {
 -- the row of an element that stands here, if it is selected; parent is the number of the nearest
 -- selected element that holds it
 abbrev pub own_row : Context → ℕ → List Attr → Option ℕ → List Elem
-own_row (Selected kind) at attrs parent = record { kind = kind; at = at; parent = parent; attrs = attrs_read attrs } ∷ []
+own_row (Selected kind) at attrs parent = record { kind = kind; at = at; parent = parent; attrs = attrs_read attrs }
+    ∷ []
 own_row context at attrs parent = []
 
 -- the number of the nearest selected element at or above one that stands here and whose own row

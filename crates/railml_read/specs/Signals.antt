@@ -1,5 +1,6 @@
 -- The signals of a tree, in file order.
-use Rattle.std.specs.Prelude.{◌≡◌, ◌<◌, ℕ, ◌+◌, ◌-◌, Bool, true, false, count_by, codes, List, [], ◌∷◌, ◌++◌, Some, slice_get}
+use Rattle.std.specs.Prelude.{◌≡◌, ◌<◌, ℕ, ◌+◌, ◌-◌, Bool, true, false, count_by, codes, List, [], ◌∷◌, ◌++◌, Some}
+use Rattle.std.specs.Prelude.{slice_get}
 use Rattle.railml_text.specs.declared.item.Attr.{Attr}
 use Rattle.railml_text.specs.declared.fault.TextWhat.{TextWhat}
 use Rattle.railml_read.specs.declared.rows.SignalElem.{SignalElem}
@@ -41,7 +42,8 @@ signals_from context tracks none = []
 signals_from context tracks (element at name attrs children after) =
     let here = below context name in
     let begun = tracks + own_track here in
-    own_signal here at attrs begun ++ (signals_from here begun children ++ signals_from context (begun + tracks_from here children) after)
+    own_signal here at attrs begun ++ (signals_from here begun children
+    ++ signals_from context (begun + tracks_from here children) after)
 
 abbrev pub signals_of : XmlTree → List SignalElem
 signals_of tree = signals_from Outside 0 (root_of tree)
@@ -59,7 +61,8 @@ pub record GivesSignals (bytes : List ℕ) (signals : List SignalElem) : Type 0 
 
 -- how signals are formed, for whoever places them: their places rise
 pub record AreRising (signals : List SignalElem) : Type 0 where
-  pub rise : (i j : ℕ) (a b : SignalElem) → i < j → slice_get signals i ≡ Some a → slice_get signals j ≡ Some b → a.at < b.at
+  pub rise : (i j : ℕ) (a b : SignalElem) → i < j → slice_get signals i ≡ Some a → slice_get signals j ≡ Some b →
+      a.at < b.at
 
 -- how many rows are tracks
 abbrev pub is_track : ElemKind → Bool

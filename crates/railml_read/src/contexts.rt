@@ -1,6 +1,7 @@
 // Where an element stands on the path to the elements that are selected.
 ghost use Rattle.std.specs.Prelude.{◌≡◌};
-ghost use Rattle.railml_read.specs.Contexts.{below as context_below, below_end as context_below_end, below_selected as context_below_selected};
+ghost use Rattle.railml_read.specs.Contexts.{below as context_below, below_end as context_below_end};
+ghost use Rattle.railml_read.specs.Contexts.{below_selected as context_below_selected};
 
 use crate::ElemKind;
 

@@ -1,9 +1,13 @@
 // What is kept while the items of a document go by.
-ghost use Rattle.std.specs.Prelude.{◌≡◌, ◌<◌, ◌^◌, ◌+◌, ◌-◌, ◌++◌, ◌∷◌, ◌||◌, ◌==◌, [], length, take, fold, OnOk, IfOk, true, false, ◌≢◌, ◌⊎◌};
+ghost use Rattle.std.specs.Prelude.{◌≡◌, ◌<◌, ◌^◌, ◌+◌, ◌-◌, ◌++◌, ◌∷◌, ◌||◌, ◌==◌, [], length, take, fold, OnOk, IfOk};
+ghost use Rattle.std.specs.Prelude.{true, false, ◌≢◌, ◌⊎◌};
 ghost use Rattle.railml_read.specs.Rows.{own_row, text_named as named_text, attrs_read};
 ghost use Rattle.railml_read.specs.Tree.{opens};
 ghost use Rattle.railml_read.specs.Places.{role_of, tags_at, begins_element};
-ghost use Rattle.railml_read.specs.Progress.{top_frame, context_in, row_in, frame_in as frame_inside, is_innermost as innermost_is, fault_in, names_in, is_infrastructure, is_root_name as root_name, state_of, after_tag, marks_of, after_mark, after_both};
+ghost use Rattle.railml_read.specs.Progress.{top_frame, context_in, row_in, frame_in as frame_inside};
+ghost use Rattle.railml_read.specs.Progress.{is_innermost as innermost_is, fault_in, names_in, is_infrastructure};
+ghost use Rattle.railml_read.specs.Progress.{is_root_name as root_name, state_of, after_tag, marks_of, after_mark};
+ghost use Rattle.railml_read.specs.Progress.{after_both};
 ghost use Rattle.railml_read.specs.Signals.{own_track as track_here, own_signal};
 
 use crate::contexts::{Context, below};
@@ -23,7 +27,8 @@ pub(crate) struct Frame {
     pub(crate) row: Option<u32>,
 }
 
-/// The open elements, the outermost first, the rows and the signals so far, how many tracks have begun, and whether the root
+/// The open elements, the outermost first, the rows and the signals so far, how many tracks have begun, and whether the
+/// root
 /// and an `infrastructure` of the path have.
 #[derive(Drop)]
 pub(crate) struct Progress {
@@ -200,7 +205,8 @@ impl Progress {
         attrs: &[Attr],
         context: Context,
     ) -> Result<(), OutOfMemory>
-        ensures signals { OnOk result (self.new.signals.items ≡ self.old.signals.items ++ own_signal context at attrs.now self.old.tracks) }
+        ensures signals { OnOk result (self.new.signals.items ≡ self.old.signals.items
+            ++ own_signal context at attrs.now self.old.tracks) }
         ensures others { self.new ≡ record self.old { signals = self.new.signals } }
     {
         if context == Context::Signal {
@@ -226,7 +232,8 @@ impl Progress {
         requires rows { length self.old.rows.items < 2 ^ 32 }
         requires tracks { self.old.tracks + 1 < 2 ^ 32 }
         ensures state { OnOk result (state_of self.new ≡ after_tag (state_of self.old) (opens at name attrs.now)) }
-        ensures marks { OnOk result (marks_of self.new ≡ after_mark (state_of self.old) (marks_of self.old) (opens at name attrs.now)) }
+        ensures marks { OnOk result (marks_of self.new ≡ after_mark (state_of self.old) (marks_of self.old)
+            (opens at name attrs.now)) }
         ensures root { OnOk result (self.new.has_root ≡ true) }
     {
         let (_, parent) = innermost(&self.stack);
@@ -259,7 +266,8 @@ impl Progress {
         requires rows { length self.old.rows.items < 2 ^ 32 }
         requires tracks { self.old.tracks + 1 < 2 ^ 32 }
         ensures state { OnOk result (state_of self.new ≡ fold after_tag (state_of self.old) (tags_at at kind)) }
-        ensures marks { OnOk result (marks_of self.new ≡ (fold after_both (state_of self.old, marks_of self.old) (tags_at at kind)).1) }
+        ensures marks { OnOk result (marks_of self.new ≡ (fold after_both (state_of self.old, marks_of self.old)
+            (tags_at at kind)).1) }
         ensures root { OnOk result (self.new.has_root ≡ (self.old.has_root || begins_element kind)) }
     {
         match kind {

@@ -42,7 +42,8 @@ pub struct Elem {
 /// Selected elements in file order.
 pub type Records = Items<Elem>;
 
-/// A signal. `at` is the byte of its start tag's `<`, `track` the number of its track, from 0 in file order; and the texts of
+/// A signal. `at` is the byte of its start tag's `<`, `track` the number of its track, from 0 in file order; and the
+/// texts of
 /// its attributes `id`, `pos` and `absPos`, each where it stands.
 #[derive(Drop)]
 pub struct SignalElem {

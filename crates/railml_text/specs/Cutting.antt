@@ -15,7 +15,8 @@ pub record Placed : Type 0 where
 abbrev pub Cuts : Bool → ℕ → List ℕ → List Placed → List ℕ → Type 0
 Cuts first at bytes [] rest = bytes ≡ rest
 Cuts first at bytes (item ∷ items) rest =
-    (next : ℕ) × (after : List ℕ) × (item.at ≡ at) × HasSoundItem first bytes item.kind after × (next + length after ≡ at + length bytes) × Cuts false next after items rest
+    (next : ℕ) × (after : List ℕ) × (item.at ≡ at) × HasSoundItem first bytes item.kind after
+    × (next + length after ≡ at + length bytes) × Cuts false next after items rest
 
 -- a byte order mark at the start of a file is passed over; places count its bytes
 abbrev pub byte_order_mark : List ℕ

@@ -1,10 +1,13 @@
 -- The faults of one item, and the item that has none.
-use Rattle.std.specs.Prelude.{◌≡◌, ◌≢◌, ◌⊎◌, ◌<◌, ◌≤◌, ℕ, Bool, codes, Some, List, [], length, drop, slice_get, map, Any}
+use Rattle.std.specs.Prelude.{◌≡◌, ◌≢◌, ◌⊎◌, ◌<◌, ◌≤◌, ℕ, Bool, codes, Some, List, [], length, drop, slice_get, map}
+use Rattle.std.specs.Prelude.{Any}
 use Rattle.std.specs.Str.{str_to_ascii_lowercase}
 use Rattle.railml_text.specs.declared.item.Item.{Item}
 use Rattle.railml_text.specs.declared.item.ItemKind.{ItemKind}
 use Rattle.railml_text.specs.declared.fault.TextWhat.{TextWhat}
-use Rattle.railml_text.specs.declared.fault.TextWhat.TheVariants.{NotUtf8, Encoding, Doctype, Markup, Entity, EndTag, RepeatedAttribute, Root, Unfinished, AfterRoot, Depth, NoInfrastructure}
+use Rattle.railml_text.specs.declared.fault.TextWhat.TheVariants.{NotUtf8, Encoding, Doctype, Markup, Entity, EndTag}
+use Rattle.railml_text.specs.declared.fault.TextWhat.TheVariants.{RepeatedAttribute, Root, Unfinished, AfterRoot}
+use Rattle.railml_text.specs.declared.fault.TextWhat.TheVariants.{Depth, NoInfrastructure}
 use Rattle.railml_text.specs.declared.fault.ItemFault.{ItemFault}
 use Rattle.railml_text.specs.declared.fault.ItemFault.TheVariants as answers
 use Rattle.railml_text.specs.Bytes.{BeginsWith}
@@ -46,7 +49,8 @@ word_of NoInfrastructure = codes "NoInfrastructure"
 -- an attribute `encoding` whose value isn't `UTF-8`, without regard to ASCII case; the value as it
 -- is written counts
 abbrev pub NamesOtherEncoding : List Written → Type 0
-NamesOtherEncoding attrs = Any (λ attr. (attr.name ≡ codes "encoding") × (str_to_ascii_lowercase attr.value ≢ codes "utf-8")) attrs
+NamesOtherEncoding attrs = Any (λ attr. (attr.name ≡ codes "encoding")
+    × (str_to_ascii_lowercase attr.value ≢ codes "utf-8")) attrs
 
 -- two attributes of one name
 pub record HasRepeat (attrs : List Written) : Type 0 where

@@ -32,7 +32,8 @@ pub record IsAttr (text : List ℕ) (attr : Written) : Type 0 where
 abbrev pub AreAttrs : List ℕ → List Written → Type 0
 AreAttrs text [] = text ≡ []
 AreAttrs text (attr ∷ attrs) =
-    (blanks one others : List ℕ) × (blanks ≢ []) × AreBlanks blanks × IsAttr one attr × AreAttrs others attrs × (text ≡ blanks ++ one ++ others)
+    (blanks one others : List ℕ) × (blanks ≢ []) × AreBlanks blanks × IsAttr one attr × AreAttrs others attrs
+    × (text ≡ blanks ++ one ++ others)
 
 -- `<?xml`, one or more attributes each after white space, white space or none, `?>`
 pub record IsDeclaration (text : List ℕ) (attrs : List Written) : Type 0 where

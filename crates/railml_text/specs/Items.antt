@@ -77,7 +77,8 @@ abbrev pub AreTextsOf : List Written → List Attr → Type 0
 AreTextsOf [] [] = ⊤
 AreTextsOf [] (attr ∷ attrs) = ⊥
 AreTextsOf (written ∷ others) [] = ⊥
-AreTextsOf (written ∷ others) (attr ∷ attrs) = (attr.name ≡ written.name) × IsValueText written.value attr.value × AreTextsOf others attrs
+AreTextsOf (written ∷ others) (attr ∷ attrs) = (attr.name ≡ written.name) × IsValueText written.value attr.value
+    × AreTextsOf others attrs
 
 -- what is told of an item of this shape
 abbrev pub IsKindOf : Shape → ItemKind → Type 0
@@ -85,7 +86,8 @@ IsKindOf (declaration attrs) kind = kind ≡ kinds.Declaration
 IsKindOf instruction kind = kind ≡ kinds.Instruction
 IsKindOf comment kind = kind ≡ kinds.Comment
 IsKindOf cdata kind = kind ≡ kinds.Cdata
-IsKindOf (start_tag name written empty) kind = (attrs : List Attr) × AreTextsOf written attrs × (kind ≡ kinds.Start name attrs empty)
+IsKindOf (start_tag name written empty) kind = (attrs : List Attr) × AreTextsOf written attrs
+    × (kind ≡ kinds.Start name attrs empty)
 IsKindOf (end_tag name) kind = kind ≡ kinds.EndTag name
 IsKindOf reference kind = kind ≡ kinds.Reference
 IsKindOf (chars blank) kind = kind ≡ kinds.Chars blank

@@ -3,7 +3,8 @@ use Rattle.std.specs.Prelude.{◌≡◌, ◌<◌, ℕ, Bool, Any, IsUtf8, List, 
 use Rattle.std.specs.List.{AllByRecursion}
 use Rattle.railml_text.specs.declared.item.ItemKind.{ItemKind}
 use Rattle.railml_text.specs.declared.fault.TextWhat.{TextWhat}
-use Rattle.railml_text.specs.declared.fault.TextWhat.TheVariants.{Encoding, Doctype, Markup, Entity, RepeatedAttribute, Unfinished}
+use Rattle.railml_text.specs.declared.fault.TextWhat.TheVariants.{Encoding, Doctype, Markup, Entity, RepeatedAttribute}
+use Rattle.railml_text.specs.declared.fault.TextWhat.TheVariants.{Unfinished}
 use Rattle.railml_text.specs.declared.fault.ItemFault.{ItemFault}
 use Rattle.railml_text.specs.declared.fault.ItemFault.TheVariants as answers
 use Rattle.railml_text.specs.declared.miss.Miss.TheVariants.{Cut, Bad}

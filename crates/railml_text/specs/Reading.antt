@@ -1,6 +1,8 @@
 -- Reading from left to right, as the code does it: what was read and the bytes after it, or a miss.
 -- Private contracts alone cite this module; the grammar says what may be read.
-use Rattle.std.specs.Prelude.{◌≡◌, ℕ, Bool, true, false, not, ◌&&◌, ◌||◌, ◌==◌, nat_le, if◌then◌else◌, MatchBool, codes, List, [], ◌∷◌, length, drop, map, Option, Some, None, Result, Ok, Err, encode_utf8, ⊤}
+use Rattle.std.specs.Prelude.{◌≡◌, ℕ, Bool, true, false, not, ◌&&◌, ◌||◌, ◌==◌, nat_le, if◌then◌else◌, MatchBool}
+use Rattle.std.specs.Prelude.{codes, List, [], ◌∷◌, length, drop, map, Option, Some, None, Result, Ok, Err}
+use Rattle.std.specs.Prelude.{encode_utf8, ⊤}
 use Rattle.std.specs.Char.{is_digit}
 use Rattle.std.specs.Str.Parse.{digits_value}
 use lib.Utf8.{scalar}
@@ -64,7 +66,8 @@ by_first c f g [] = Err Cut
 by_first c f g (b ∷ bytes) = if b == c then f bytes else g (b ∷ bytes)
 
 -- the same with relations
-abbrev pub ByFirst : {X : Type 0} → ℕ → (List ℕ → Read X → Type 0) → (List ℕ → Read X → Type 0) → List ℕ → Read X → Type 0
+abbrev pub ByFirst : {X : Type 0} → ℕ → (List ℕ → Read X → Type 0) → (List ℕ → Read X → Type 0) → List ℕ → Read X →
+    Type 0
 ByFirst c R S [] r = Err Cut ≡ r
 ByFirst c R S (b ∷ bytes) r = MatchBool (b == c) (R bytes r) (S (b ∷ bytes) r)
 
@@ -154,12 +157,15 @@ step_at closing bytes = past_gap (spaced_step_at closing) bytes
 -- reading these attributes one after another comes to the rest
 abbrev pub Attrs : Closing → List Written → List ℕ → List ℕ → Type 0
 Attrs closing [] bytes rest = bytes ≡ rest
-Attrs closing (attr ∷ attrs) bytes rest = (next : List ℕ) × (step_at closing bytes ≡ Ok (attribute attr, next)) × Attrs closing attrs next rest
+Attrs closing (attr ∷ attrs) bytes rest = (next : List ℕ) × (step_at closing bytes ≡ Ok (attribute attr, next))
+    × Attrs closing attrs next rest
 
 -- reading the attributes and the closing gives this
 abbrev pub Tail : Closing → List ℕ → Read (List Written × Bool) → Type 0
-Tail closing bytes (Ok x) = (last : List ℕ) × Attrs closing x.0.0 bytes last × (step_at closing last ≡ Ok (ends x.0.1, x.1))
-Tail closing bytes (Err miss) = (attrs : List Written) × (last : List ℕ) × Attrs closing attrs bytes last × (step_at closing last ≡ Err miss)
+Tail closing bytes (Ok x) = (last : List ℕ) × Attrs closing x.0.0 bytes last
+    × (step_at closing last ≡ Ok (ends x.0.1, x.1))
+Tail closing bytes (Err miss) = (attrs : List Written) × (last : List ℕ) × Attrs closing attrs bytes last
+    × (step_at closing last ≡ Err miss)
 
 -- ---- up to a closing
 
@@ -171,7 +177,8 @@ begins_with (c ∷ text) (b ∷ bytes) = (b == c) && begins_with text bytes
 -- what follows the first closing
 abbrev pub past_first : List ℕ → List ℕ → Option (List ℕ)
 past_first closing [] = None
-past_first closing (b ∷ bytes) = if begins_with closing (b ∷ bytes) then Some (drop (length closing) (b ∷ bytes)) else past_first closing bytes
+past_first closing (b ∷ bytes) = if begins_with closing (b ∷ bytes) then Some (drop (length closing) (b ∷ bytes)) else
+    past_first closing bytes
 
 abbrev pub cut_unless : Option (List ℕ) → Read ⊤
 cut_unless None = Err Cut
@@ -220,7 +227,8 @@ instruction_at bytes = mapped (λ _. item instruction) (bracket_at (codes "?>") 
 
 -- after `<?`
 abbrev pub QuestionRead : Bool → List ℕ → Read Found → Type 0
-QuestionRead first bytes r = MatchBool (first && goes_on_xml bytes) (DeclarationRead (drop 3 bytes) r) (instruction_at bytes ≡ r)
+QuestionRead first bytes r = MatchBool (first && goes_on_xml bytes) (DeclarationRead (drop 3 bytes) r)
+    (instruction_at bytes ≡ r)
 
 abbrev pub started : List ℕ → List Written × Bool → Found
 started name tail = item (start_tag name tail.0 tail.1)
@@ -235,7 +243,8 @@ closing_tag_at bytes = mapped (λ name. item (end_tag name)) (end_tag_at bytes)
 -- after `<`
 abbrev pub MarkupRead : Bool → List ℕ → Read Found → Type 0
 MarkupRead first bytes r =
-    ByFirst 63 (QuestionRead first) (ByFirst 47 (λ t q. closing_tag_at t ≡ q) (ByFirst 33 (λ t q. bang_at t ≡ q) StartRead)) bytes r
+    ByFirst 63 (QuestionRead first) (ByFirst 47 (λ t q. closing_tag_at t ≡ q)
+    (ByFirst 33 (λ t q. bang_at t ≡ q) StartRead)) bytes r
 
 -- ---- references, from the `&` on
 
@@ -256,7 +265,8 @@ ended_number n [] = None
 ended_number n (b ∷ rest) = if b == 59 then character_and n rest else None
 
 abbrev pub number_of_digits : ℕ → List ℕ → List ℕ → Option (ℕ × List ℕ)
-number_of_digits base digits rest = if nat_le 1 (length digits) && nat_le (length digits) 8 then ended_number (digits_value base digits) rest else None
+number_of_digits base digits rest = if nat_le 1 (length digits) && nat_le (length digits) 8 then ended_number
+    (digits_value base digits) rest else None
 
 -- digits and `;`
 abbrev pub number_at : ℕ → List ℕ → Option (ℕ × List ℕ)
@@ -290,7 +300,9 @@ encoded (Some x) = Some (encode_utf8 x.0, x.1)
 abbrev pub piece_at : List ℕ → Option (List ℕ × List ℕ)
 piece_at [] = None
 piece_at (b ∷ bytes) =
-    if b == 38 then encoded (reference_at (b ∷ bytes)) else if b == 13 then Some (32 ∷ [], past_line_feed bytes) else if (b == 9) || (b == 10) then Some (32 ∷ [], bytes) else Some (b ∷ [], bytes)
+    if b == 38 then encoded (reference_at (b ∷ bytes)) else if b ==
+    13 then Some (32 ∷ [], past_line_feed bytes) else if (b == 9) || (b == 10) then Some (32 ∷ [], bytes) else Some
+    (b ∷ [], bytes)
 
 -- ---- what the code calls them
 

@@ -5,7 +5,8 @@ use Rattle.std.specs.Str.Parse.{AllDigits, digits_value}
 
 -- the five by name: `<`, `>`, `&`, `'` and `"`
 abbrev pub named_references : List (List ℕ × ℕ)
-named_references = (codes "&lt;", 60) ∷ (codes "&gt;", 62) ∷ (codes "&amp;", 38) ∷ (codes "&apos;", 39) ∷ (codes "&quot;", 34) ∷ []
+named_references = (codes "&lt;", 60) ∷ (codes "&gt;", 62) ∷ (codes "&amp;", 38) ∷ (codes "&apos;", 39)
+    ∷ (codes "&quot;", 34) ∷ []
 
 -- by number: the opening, 1 to 8 digits in the base, `;`; the number is a Unicode scalar value
 -- other than 0
@@ -20,7 +21,8 @@ pub record IsNumbered (base : ℕ) (opening text : List ℕ) (c : ℕ) : Type 0 
   pub spelled : text ≡ opening ++ digits ++ codes ";"
 
 abbrev pub IsReference : List ℕ → ℕ → Type 0
-IsReference text c = Contains named_references (text, c) ⊎ IsNumbered 10 (codes "&#") text c ⊎ IsNumbered 16 (codes "&#x") text c
+IsReference text c = Contains named_references (text, c) ⊎ IsNumbered 10 (codes "&#") text c
+    ⊎ IsNumbered 16 (codes "&#x") text c
 
 -- the bytes begin with an `&` that begins no reference
 pub record BeginsLoose (bytes : List ℕ) : Type 0 where

@@ -33,7 +33,8 @@ IsPiece (reference text character) after = IsReference text character
 abbrev pub AreSpelled : List ValuePiece → List ℕ → List ℕ → Type 0
 AreSpelled [] value text = (value ≡ []) × (text ≡ [])
 AreSpelled (piece ∷ pieces) value text =
-    (after rest : List ℕ) × IsPiece piece after × (value ≡ piece_value piece ++ after) × (text ≡ piece_text piece ++ rest) × AreSpelled pieces after rest
+    (after rest : List ℕ) × IsPiece piece after × (value ≡ piece_value piece ++ after)
+    × (text ≡ piece_text piece ++ rest) × AreSpelled pieces after rest
 
 abbrev pub IsValueText : List ℕ → List ℕ → Type 0
 IsValueText value text = (pieces : List ValuePiece) × AreSpelled pieces value text

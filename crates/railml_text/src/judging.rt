@@ -15,14 +15,16 @@ use std::alloc::Global;
 
 /// Whether the attribute names an encoding other than UTF-8.
 fn is_other_encoding(attr: &WrittenAttr) -> bool
-    ensures { IsTrue result ↔ ((attr.now.name.now ≡ codes "encoding") × (str_to_ascii_lowercase attr.now.value.now ≢ codes "utf-8")) }
+    ensures { IsTrue result ↔ ((attr.now.name.now ≡ codes "encoding")
+        × (str_to_ascii_lowercase attr.now.value.now ≢ codes "utf-8")) }
 {
     attr.name == b"encoding".as_slice() && !attr.value.eq_ignore_ascii_case(b"UTF-8")
 }
 
 /// Whether an attribute names an encoding other than UTF-8.
 fn names_other_encoding(attrs: &[WrittenAttr]) -> bool
-    ensures { IsTrue result ↔ Any (λ attr. (attr.name.now ≡ codes "encoding") × (str_to_ascii_lowercase attr.value.now ≢ codes "utf-8")) attrs.now }
+    ensures { IsTrue result ↔ Any (λ attr. (attr.name.now ≡ codes "encoding")
+        × (str_to_ascii_lowercase attr.value.now ≢ codes "utf-8")) attrs.now }
 {
     attrs.iter().any(|attr| is_other_encoding(attr))
 }

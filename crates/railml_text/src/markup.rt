@@ -1,6 +1,8 @@
 // What stands after a `<`.
 ghost use Rattle.std.specs.Prelude.{◌≡◌, true, false, drop, MatchOption};
-ghost use Rattle.railml_text.specs.Reading.{Returns, AnswersReading, comment_at as comment_of, cdata_at as cdata_of, bang_at as bang_of, goes_on_xml, DeclarationRead, QuestionRead, StartRead, MarkupRead, found_of, item};
+ghost use Rattle.railml_text.specs.Reading.{Returns, AnswersReading, comment_at as comment_of, cdata_at as cdata_of};
+ghost use Rattle.railml_text.specs.Reading.{bang_at as bang_of, goes_on_xml, DeclarationRead, QuestionRead, StartRead};
+ghost use Rattle.railml_text.specs.Reading.{MarkupRead, found_of, item};
 ghost use Rattle.railml_text.specs.Items.{comment, cdata};
 
 use crate::brackets::{past_three, past_two};

@@ -1,6 +1,8 @@
 // Names, values, attributes and tags, read from left to right.
 ghost use Rattle.std.specs.Prelude.{◌≡◌, map};
-ghost use Rattle.railml_text.specs.Reading.{Returns, AnswersReading, word_at as word_of, name_at as name_of, quoted_at as quoted, attr_at as attr, end_tag_at as end_tag, closing_at as closing_of, step_at as step, step_of, written_of, Tail};
+ghost use Rattle.railml_text.specs.Reading.{Returns, AnswersReading, word_at as word_of, name_at as name_of};
+ghost use Rattle.railml_text.specs.Reading.{quoted_at as quoted, attr_at as attr, end_tag_at as end_tag};
+ghost use Rattle.railml_text.specs.Reading.{closing_at as closing_of, step_at as step, step_of, written_of, Tail};
 
 use crate::miss::{Miss, Stop};
 use crate::runs::{begins_blank, begins_name, past_blanks, split_name, split_value};

@@ -4,7 +4,8 @@ ghost use Rattle.std.specs.Char.{digit_value, is_digit as digit};
 ghost use Rattle.std.specs.Str.Parse.{AllDigits, digits_value};
 ghost use Rattle.railml_text.specs.References.{named_references};
 ghost use Rattle.railml_text.specs.Bytes.{front, past};
-ghost use Rattle.railml_text.specs.Reading.{find_named, number_at as number, by_number_at as by_number, reference_at as reference};
+ghost use Rattle.railml_text.specs.Reading.{find_named, number_at as number, by_number_at as by_number};
+ghost use Rattle.railml_text.specs.Reading.{reference_at as reference};
 
 use crate::reading::word_at;
 

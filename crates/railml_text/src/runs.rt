@@ -1,6 +1,7 @@
 // Runs of a class of bytes.
 ghost use Rattle.std.specs.Prelude.{◌≡◌, ◌≤◌, length};
-ghost use Rattle.railml_text.specs.Bytes.{is_blank as blank, begins_name as begins, goes_on_name as goes_on, is_in_value as in_value, is_in_text as in_text, front, past};
+ghost use Rattle.railml_text.specs.Bytes.{is_blank as blank, begins_name as begins, goes_on_name as goes_on};
+ghost use Rattle.railml_text.specs.Bytes.{is_in_value as in_value, is_in_text as in_text, front, past};
 ghost use Rattle.railml_text.specs.Reading.{begins_blank as first_blank};
 
 /// Whether a byte is white space: a space, a tab, a line feed or a carriage return.

@@ -1,5 +1,6 @@
 // The item at a place.
-ghost use Rattle.std.specs.Prelude.{◌≡◌, ◌∷◌, ◌<◌, ◌≤◌, Bool, true, length, drop, slice_index, IfOk, IfErr, IsUtf8, IsCharBoundary};
+ghost use Rattle.std.specs.Prelude.{◌≡◌, ◌∷◌, ◌<◌, ◌≤◌, Bool, true, length, drop, slice_index, IfOk, IfErr, IsUtf8};
+ghost use Rattle.std.specs.Prelude.{IsCharBoundary};
 ghost use Rattle.std.specs.List.{list_all};
 ghost use Rattle.railml_text.specs.Bytes.{is_blank as blank, is_in_text as in_text};
 ghost use Rattle.plan_core.specs.Exactly.{AnswersExactly};
@@ -113,7 +114,8 @@ pub fn scan(alloc: Global, bytes: &[u8], at: usize, first: bool) -> Result<Item,
     requires utf8 { IsUtf8 bytes.now }
     requires within { at < length bytes.now }
     requires begins { IsCharBoundary bytes.now at }
-    ensures answers { AnswersExactly result ItemFault.Memory (IsItemAt first bytes.now at) (IsItemFault first (drop at bytes.now)) }
+    ensures answers { AnswersExactly result ItemFault.Memory (IsItemAt first bytes.now at)
+        (IsItemFault first (drop at bytes.now)) }
     // The next item begins where this one ends.
     ensures after { IfOk result (λ item. at < item.end) }
     ensures ends { IfOk result (λ item. IsCharBoundary bytes.now item.end) }

@@ -10,8 +10,12 @@ use Rattle.rail_mileage.specs.Metres.{MetresParts, IsMetres}
 use Rattle.railml_topology.specs.declared.attributes.Attribute.{Attribute}
 use Rattle.railml_topology.specs.declared.attributes.Attribute.TheVariants as attributes
 use Rattle.railml_topology.specs.declared.fault.TopologyWhat.{TopologyWhat}
-use Rattle.railml_topology.specs.declared.fault.TopologyWhat.TheVariants.{NoTracks, TooMany, Missing, Id, RepeatedId, Number, UnknownRef, NotMutual, SelfRef, EndKind, Course, Orientation, OutsideTrack}
-use Rattle.railml_topology.specs.Rows.{track_rows, all_children, children, parent_of, bears_id, bears_position, id_of, BearsId, IsConnectionNamed, attribute_name, lacking, ComesBefore, IsBeginBeside, IsEndBeside}
+use Rattle.railml_topology.specs.declared.fault.TopologyWhat.TheVariants.{NoTracks, TooMany, Missing, Id, RepeatedId}
+use Rattle.railml_topology.specs.declared.fault.TopologyWhat.TheVariants.{Number, UnknownRef, NotMutual, SelfRef}
+use Rattle.railml_topology.specs.declared.fault.TopologyWhat.TheVariants.{EndKind, Course, Orientation, OutsideTrack}
+use Rattle.railml_topology.specs.Rows.{track_rows, all_children, children, parent_of, bears_id, bears_position, id_of}
+use Rattle.railml_topology.specs.Rows.{BearsId, IsConnectionNamed, attribute_name, lacking, ComesBefore, IsBeginBeside}
+use Rattle.railml_topology.specs.Rows.{IsEndBeside}
 
 -- 3: this is the first of the required attributes that the row lacks
 abbrev pub Lacks : List Elem → Elem → Attribute → Type 0
@@ -47,7 +51,8 @@ IsNoNumber (Some text) = (parts : MetresParts) → IsMetres text parts → ⊥
 -- 6: this attribute of an element with a position is no number, `pos` being told first
 abbrev pub HasNoNumber : Elem → Attribute → Type 0
 HasNoNumber row attributes.Pos = (bears_position row.kind ≡ true) × IsNoNumber row.attrs.pos
-HasNoNumber row attributes.AbsPos = (bears_position row.kind ≡ true) × (IsNoNumber row.attrs.pos → ⊥) × IsNoNumber row.attrs.abs_pos
+HasNoNumber row attributes.AbsPos = (bears_position row.kind ≡ true) × (IsNoNumber row.attrs.pos → ⊥)
+    × IsNoNumber row.attrs.abs_pos
 HasNoNumber row attribute = ⊥
 
 -- a connection, and the name that it refers to
@@ -185,18 +190,23 @@ IsUntold text = text ≡ []
 -- row i has this fault, which is told with these texts; that there is no track is told of no row
 abbrev pub HasTopologyFault : List Elem → TopologyWhat → ℕ → Elem → List ℕ → List ℕ → Type 0
 HasTopologyFault rows NoTracks i row first second = ⊥
-HasTopologyFault rows TooMany i row first second = (slice_get (track_rows rows) MAX_TRACKS ≡ Some i) × IsUntold first × IsUntold second
-HasTopologyFault rows Missing i row first second = (attribute : Attribute) × Lacks rows row attribute × (first ≡ attribute_name attribute) × IsUntold second
+HasTopologyFault rows TooMany i row first second = (slice_get (track_rows rows) MAX_TRACKS ≡ Some i) × IsUntold first
+    × IsUntold second
+HasTopologyFault rows Missing i row first second = (attribute : Attribute) × Lacks rows row attribute
+    × (first ≡ attribute_name attribute) × IsUntold second
 HasTopologyFault rows Id i row first second = HasBadId row × IsUntold first × IsUntold second
 HasTopologyFault rows RepeatedId i row first second = RepeatsId rows i first × IsUntold second
-HasTopologyFault rows Number i row first second = (attribute : Attribute) × HasNoNumber row attribute × (first ≡ id_of row) × (second ≡ attribute_name attribute)
+HasTopologyFault rows Number i row first second = (attribute : Attribute) × HasNoNumber row attribute
+    × (first ≡ id_of row) × (second ≡ attribute_name attribute)
 HasTopologyFault rows UnknownRef i row first second = RefersToNone rows row × (first ≡ id_of row) × IsUntold second
 HasTopologyFault rows NotMutual i row first second = IsNotReferredBack rows row second × (first ≡ id_of row)
 HasTopologyFault rows SelfRef i row first second = RefersToItself row × (first ≡ id_of row) × IsUntold second
 HasTopologyFault rows EndKind i row first second = LacksItsParts rows i row × (first ≡ id_of row) × IsUntold second
 HasTopologyFault rows Course i row first second = HasBadCourse rows row × (first ≡ id_of row) × IsUntold second
-HasTopologyFault rows Orientation i row first second = HasBadOrientation rows row × (first ≡ id_of row) × IsUntold second
-HasTopologyFault rows OutsideTrack i row first second = LiesOutside rows row row.kind × (first ≡ id_of row) × IsUntold second
+HasTopologyFault rows Orientation i row first second = HasBadOrientation rows row × (first ≡ id_of row)
+    × IsUntold second
+HasTopologyFault rows OutsideTrack i row first second = LiesOutside rows row row.kind × (first ≡ id_of row)
+    × IsUntold second
 
 -- a row that has this fault, and whose start tag stands at this place
 pub record HasFaultAt (rows : List Elem) (what : TopologyWhat) (at : ℕ) (first second : List ℕ) : Type 0 where
@@ -254,7 +264,8 @@ word_of OutsideTrack = codes "OutsideTrack"
 -- of all faults this one has the lowest number, and the least place among those of its kind
 pub record IsFirstTopologyFault (rows : List Elem) (what : TopologyWhat) (at : ℕ) (first second : List ℕ) : Type 0 where
   pub holds : IsTopologyFault rows what at first second
-  pub lowest : (other : TopologyWhat) (place : ℕ) (a b : List ℕ) → number_of other < number_of what → IsTopologyFault rows other place a b → ⊥
+  pub lowest : (other : TopologyWhat) (place : ℕ) (a b : List ℕ) → number_of other < number_of what →
+      IsTopologyFault rows other place a b → ⊥
   pub least : (place : ℕ) (a b : List ℕ) → place < at → IsTopologyFault rows what place a b → ⊥
 
 -- nothing is wrong

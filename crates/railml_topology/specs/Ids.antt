@@ -50,6 +50,7 @@ pub record HasIdAt (id_at : Elem → Option (List ℕ)) (rows : List Elem) (n j 
   pub has : id_at row ≡ Some id
 
 -- ids of the first n rows are kept with the number of a row that has them, and no id is left out
-pub record KeepsIds (id_at : Elem → Option (List ℕ)) (rows : List Elem) (n : ℕ) (numbers : BTreeMap (Bor (List ℕ)) ℕ) : Type 0 where
+pub record KeepsIds (id_at : Elem → Option (List ℕ)) (rows : List Elem) (n : ℕ) (numbers : BTreeMap (Bor (List ℕ)) ℕ) :
+    Type 0 where
   pub found : (id : List ℕ) (j : ℕ) → number_in numbers id ≡ Some j → HasIdAt id_at rows n j id
   pub missed : (id : List ℕ) (j : ℕ) → number_in numbers id ≡ None → HasIdAt id_at rows n j id → ⊥

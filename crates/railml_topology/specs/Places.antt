@@ -48,7 +48,8 @@ pub record HasPlaces (rows : List Elem) (layouts : List Layout) (table : List (O
 
 -- row i is a connection, and its orientation is this word
 abbrev pub goes_by : List Elem → List ℕ → ℕ → Bool
-goes_by rows word i = is_of_kind rows kinds.Connection i && option_map_or (λ (row : Elem). is_word word row.attrs.orientation) (slice_get rows i) false
+goes_by rows word i = is_of_kind rows kinds.Connection i && option_map_or
+    (λ (row : Elem). is_word word row.attrs.orientation) (slice_get rows i) false
 
 -- row i is that of the connection at a place of one of the first of these switches and crossings
 pub record IsOnFirst (rows : List Elem) (track : ℕ) (inner : List ℕ) (limit i : ℕ) (p : Place) : Type 0 where

@@ -1,6 +1,7 @@
 -- Which topology rows resolve to: of which rows each track consists, and how its elements, mileages, hands
 -- and joins follow from them. It is said of rows of which nothing is wrong.
-use Rattle.std.specs.Prelude.{◌≡◌, ◌↔◌, ◌⊎◌, ◌<◌, ℕ, Bool, true, false, codes, List, [], ◌∷◌, map, Option, Some, None, MatchOption, slice_get, All, AllPairs, Contains, ℤ, ◌+ℤ◌, ◌-ℤ◌, ◌<ℤ◌}
+use Rattle.std.specs.Prelude.{◌≡◌, ◌↔◌, ◌⊎◌, ◌<◌, ℕ, Bool, true, false, codes, List, [], ◌∷◌, map, Option, Some, None}
+use Rattle.std.specs.Prelude.{MatchOption, slice_get, All, AllPairs, Contains, ℤ, ◌+ℤ◌, ◌-ℤ◌, ◌<ℤ◌}
 use Rattle.std.specs.List.{AllZip}
 use Rattle.plan_core.specs.declared.sides.Hand.{Hand}
 use Rattle.plan_core.specs.declared.sides.Hand.TheVariants.{Left, Right}
@@ -36,7 +37,8 @@ pub record StandsBefore (rows : List Elem) (i j : ℕ) : Type 0 where
 
 -- the switches and crossings of a topology, in their order along the track
 pub record AreInner (rows : List Elem) (topology : ℕ) (inner : List ℕ) : Type 0 where
-  pub all : (i : ℕ) → Contains inner i ↔ (Contains (children rows topology kinds.Switch) i ⊎ Contains (children rows topology kinds.Crossing) i)
+  pub all : (i : ℕ) → Contains inner i ↔ (Contains (children rows topology kinds.Switch) i
+      ⊎ Contains (children rows topology kinds.Crossing) i)
   pub ordered : AllPairs (StandsBefore rows) inner
 
 -- the rows of a track: its one topology with its one begin and its one end, and all that stands between
@@ -84,8 +86,10 @@ abbrev pub IsAtPart : List Elem → Layout → ℕ → Part → Type 0
 IsAtPart rows l i parts.Begin = children rows l.begin kinds.Connection ≡ i ∷ []
 IsAtPart rows l i parts.End = children rows l.end kinds.Connection ≡ i ∷ []
 IsAtPart rows l i (parts.Branch k) = (switch : ℕ) × (slice_get l.inner k ≡ Some switch) × IsBranchOf rows switch i
-IsAtPart rows l i (parts.Incoming k) = (crossing : ℕ) × (slice_get l.inner k ≡ Some crossing) × IsWayOf rows crossing false i
-IsAtPart rows l i (parts.Outgoing k) = (crossing : ℕ) × (slice_get l.inner k ≡ Some crossing) × IsWayOf rows crossing true i
+IsAtPart rows l i (parts.Incoming k) = (crossing : ℕ) × (slice_get l.inner k ≡ Some crossing)
+    × IsWayOf rows crossing false i
+IsAtPart rows l i (parts.Outgoing k) = (crossing : ℕ) × (slice_get l.inner k ≡ Some crossing)
+    × IsWayOf rows crossing true i
 
 -- row i is the connection at this place
 pub record IsAtPlace (rows : List Elem) (layouts : List Layout) (i : ℕ) (p : Place) : Type 0 where
@@ -148,10 +152,12 @@ pub record IsTrackEndOf (rows : List Elem) (layouts : List Layout) (begin : Elem
 -- the track diverges to the hand that the switch names.
 abbrev pub IsCourseOf : Elem → Elem → Hand → Bool → Type 0
 IsCourseOf switch branch hand false = branch.attrs.course ≡ Some (hand_word hand)
-IsCourseOf switch branch hand true = (branch.attrs.course ≡ Some (codes "straight")) × (switch.attrs.continue_course ≡ Some (hand_word hand))
+IsCourseOf switch branch hand true = (branch.attrs.course ≡ Some (codes "straight"))
+    × (switch.attrs.continue_course ≡ Some (hand_word hand))
 
 -- what row i connects, a switch
-pub record IsSwitchOf (rows : List Elem) (layouts : List Layout) (i : ℕ) (switch : Elem) (outgoing : Bool) (hand : Hand) (track_diverges : Bool) (c : Conn) : Type 0 where
+pub record IsSwitchOf (rows : List Elem) (layouts : List Layout) (i : ℕ) (switch : Elem) (outgoing : Bool) (hand : Hand)
+    (track_diverges : Bool) (c : Conn) : Type 0 where
   pub number : ℕ
   pub is_branch : IsBranchOf rows i number
   pub conn : IsConnOf rows layouts number c
@@ -159,7 +165,8 @@ pub record IsSwitchOf (rows : List Elem) (layouts : List Layout) (i : ℕ) (swit
   pub course : IsCourseOf switch conn.row hand track_diverges
 
 -- what row i connects, a crossing
-pub record IsCrossingOf (rows : List Elem) (layouts : List Layout) (i : ℕ) (hand : Hand) (incoming outgoing : Conn) : Type 0 where
+pub record IsCrossingOf (rows : List Elem) (layouts : List Layout) (i : ℕ) (hand : Hand) (incoming outgoing : Conn) :
+    Type 0 where
   pub coming : ℕ
   pub is_coming : IsWayOf rows i false coming
   pub coming_conn : IsConnOf rows layouts coming incoming
@@ -169,7 +176,8 @@ pub record IsCrossingOf (rows : List Elem) (layouts : List Layout) (i : ℕ) (ha
   pub course : leaving_conn.row.attrs.course ≡ Some (hand_word hand)
 
 abbrev pub IsInnerKindOf : List Elem → List Layout → ℕ → Elem → InnerKind → Type 0
-IsInnerKindOf rows layouts i row (Switch outgoing hand track_diverges c) = IsSwitchOf rows layouts i row outgoing hand track_diverges c
+IsInnerKindOf rows layouts i row (Switch outgoing hand track_diverges c) =
+    IsSwitchOf rows layouts i row outgoing hand track_diverges c
 IsInnerKindOf rows layouts i row (Crossing hand incoming outgoing) = IsCrossingOf rows layouts i hand incoming outgoing
 
 -- a switch or a crossing is that of row i

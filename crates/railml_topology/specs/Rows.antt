@@ -1,12 +1,14 @@
 -- The words in which a document's rows are spoken of: which rows there are of a kind, a row's children,
 -- ids, attributes, positions, and the begin and the end of the track that a row stands on. Rows are
 -- numbered from 0 in file order, and named by their numbers.
-use Rattle.std.specs.Prelude.{◌≡◌, ℕ, suc, ◌==◌, Bool, true, false, if◌then◌else◌, codes, List, [], ◌∷◌, filter, Option, Some, slice_get, bytes_eq, ℤ, ◌<ℤ◌}
+use Rattle.std.specs.Prelude.{◌≡◌, ℕ, suc, ◌==◌, Bool, true, false, if◌then◌else◌, codes, List, [], ◌∷◌, filter}
+use Rattle.std.specs.Prelude.{Option, Some, slice_get, bytes_eq, ℤ, ◌<ℤ◌}
 use Rattle.std.specs.Option.{option_map, option_map_or, option_and_then, unwrap_or, is_none}
 use Rattle.railml_read.specs.declared.rows.Attrs.{Attrs}
 use Rattle.railml_read.specs.declared.rows.Elem.{Elem}
 use Rattle.railml_read.specs.declared.rows.ElemKind.{ElemKind}
-use Rattle.railml_read.specs.declared.rows.ElemKind.TheVariants.{Track, Topology, Begin, End, Switch, Crossing, Connection, OpenEnd, BufferStop, MacroNode}
+use Rattle.railml_read.specs.declared.rows.ElemKind.TheVariants.{Track, Topology, Begin, End, Switch, Crossing}
+use Rattle.railml_read.specs.declared.rows.ElemKind.TheVariants.{Connection, OpenEnd, BufferStop, MacroNode}
 use Rattle.rail_mileage.specs.Metres.{MetresParts, IsMetres, mileage_told}
 use Rattle.railml_topology.specs.declared.attributes.Attribute.{Attribute}
 use Rattle.railml_topology.specs.declared.attributes.Attribute.TheVariants.{Id, Pos, AbsPos, Ref, Orientation, Course}

@@ -6,7 +6,8 @@ use Rattle.plan_core.specs.Topology.{IsId}
 use Rattle.railml_read.specs.declared.rows.Elem.{Elem}
 use Rattle.railml_read.specs.declared.rows.ElemKind.TheVariants.{Begin, Switch, Crossing, Connection}
 use Rattle.railml_read.specs.Formed.{AreFormed}
-use Rattle.railml_topology.specs.Rows.{track_rows, bears_id, bears_position, id_of, BearsId, IsConnectionNamed, ReadsMetres, HasPosition}
+use Rattle.railml_topology.specs.Rows.{track_rows, bears_id, bears_position, id_of, BearsId, IsConnectionNamed}
+use Rattle.railml_topology.specs.Rows.{ReadsMetres, HasPosition}
 use Rattle.railml_topology.specs.Faults.{RefersTo, HasItsParts, IsConnectionOf}
 use Rattle.railml_topology.specs.Resolved.{way_word, hand_word, HasAbsPos, IsCourseOf}
 
@@ -35,11 +36,16 @@ pub record AreSoundRows (rows : List Elem) : Type 0 where
   pub few : length (track_rows rows) ≤ MAX_TRACKS
   pub ids : (i : ℕ) (row : Elem) → slice_get rows i ≡ Some row → bears_id row.kind ≡ true → HasGoodId row
   pub ids_differ : (i j : ℕ) (id : List ℕ) → BearsId rows i id → BearsId rows j id → i ≡ j
-  pub positions : (i : ℕ) (row : Elem) → slice_get rows i ≡ Some row → bears_position row.kind ≡ true → (z : ℤ) × HasPosition row z
-  pub mileages : (i : ℕ) (row : Elem) (text : List ℕ) → slice_get rows i ≡ Some row → bears_position row.kind ≡ true → row.attrs.abs_pos ≡ Some text → (z : ℤ) × ReadsMetres text z
+  pub positions : (i : ℕ) (row : Elem) → slice_get rows i ≡ Some row → bears_position row.kind ≡ true → (z : ℤ)
+      × HasPosition row z
+  pub mileages : (i : ℕ) (row : Elem) (text : List ℕ) → slice_get rows i ≡ Some row → bears_position row.kind ≡ true →
+      row.attrs.abs_pos ≡ Some text → (z : ℤ) × ReadsMetres text z
   pub begins : (i : ℕ) (row : Elem) → slice_get rows i ≡ Some row → row.kind ≡ Begin → (z : ℤ) × HasAbsPos row z
   pub mutual_refs : (i : ℕ) (row : Elem) → slice_get rows i ≡ Some row → row.kind ≡ Connection → IsMutual rows row
   pub parts : (i : ℕ) (row : Elem) → slice_get rows i ≡ Some row → HasItsParts rows i row.kind
-  pub ways : (i : ℕ) (row parent : Elem) → slice_get rows i ≡ Some row → IsConnectionOfInner rows row parent → (outgoing : Bool) × (row.attrs.orientation ≡ Some (way_word outgoing))
-  pub courses : (i : ℕ) (row switch : Elem) → slice_get rows i ≡ Some row → IsConnectionOf rows row Switch switch → (hand : Hand) × (diverges : Bool) × IsCourseOf switch row hand diverges
-  pub hands : (i : ℕ) (row crossing : Elem) → slice_get rows i ≡ Some row → IsConnectionOf rows row Crossing crossing → row.attrs.orientation ≡ Some (codes "outgoing") → (hand : Hand) × (row.attrs.course ≡ Some (hand_word hand))
+  pub ways : (i : ℕ) (row parent : Elem) → slice_get rows i ≡ Some row → IsConnectionOfInner rows row parent →
+      (outgoing : Bool) × (row.attrs.orientation ≡ Some (way_word outgoing))
+  pub courses : (i : ℕ) (row switch : Elem) → slice_get rows i ≡ Some row → IsConnectionOf rows row Switch switch →
+      (hand : Hand) × (diverges : Bool) × IsCourseOf switch row hand diverges
+  pub hands : (i : ℕ) (row crossing : Elem) → slice_get rows i ≡ Some row → IsConnectionOf rows row Crossing crossing →
+      row.attrs.orientation ≡ Some (codes "outgoing") → (hand : Hand) × (row.attrs.course ≡ Some (hand_word hand))

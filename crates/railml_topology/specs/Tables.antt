@@ -1,5 +1,6 @@
 -- What is kept of rows while they are judged and built from: tables with an entry for each row.
-use Rattle.std.specs.Prelude.{◌≡◌, ◌≢◌, ◌⊎◌, ℕ, filter, List, [], ◌∷◌, ◌++◌, length, Option, Some, None, slice_get, ℤ, ◌<ℤ◌}
+use Rattle.std.specs.Prelude.{◌≡◌, ◌≢◌, ◌⊎◌, ℕ, filter, List, [], ◌∷◌, ◌++◌, length, Option, Some, None, slice_get, ℤ}
+use Rattle.std.specs.Prelude.{◌<ℤ◌}
 use Rattle.std.specs.Option.{option_map, option_and_then}
 use Rattle.std.specs.declared.vec.Vec.{Vec}
 use Rattle.std.specs.declared.alloc.Global.{Global}
@@ -41,7 +42,8 @@ entry_in table i = option_and_then (λ x. x) (slice_get table i)
 
 -- the parent's list has one more child, and no other list has changed
 pub record AddsChild (old new : List (Vec ℕ Global)) (parent child : ℕ) : Type 0 where
-  pub added : (list : Vec ℕ Global) → slice_get new parent ≡ Some list → (before : Vec ℕ Global) × (slice_get old parent ≡ Some before) × (list.items ≡ before.items ++ child ∷ [])
+  pub added : (list : Vec ℕ Global) → slice_get new parent ≡ Some list → (before : Vec ℕ Global)
+      × (slice_get old parent ≡ Some before) × (list.items ≡ before.items ++ child ∷ [])
   pub others : (i : ℕ) → i ≢ parent → slice_get new i ≡ slice_get old i
 
 -- a row's position, if its `pos` is a number
@@ -51,7 +53,8 @@ IsPositionOf row (Some m) = HasPosition row m.0
 
 -- the position of each row whose `pos` is a number
 abbrev pub HasPositions : List Elem → List (Option Micro) → Type 0
-HasPositions rows table = HasEntries (λ i (position : Option Micro). (row : Elem) → slice_get rows i ≡ Some row → IsPositionOf row position) rows table
+HasPositions rows table = HasEntries (λ i (position : Option Micro). (row : Elem) → slice_get rows i ≡ Some row →
+    IsPositionOf row position) rows table
 
 -- the position of the only begin or end beside a row, by such a table and the positions
 abbrev pub beside_in : List (Option ℕ) → List (Option Micro) → Elem → Option Micro
@@ -76,12 +79,14 @@ IsTargetOf rows row (Some j) = IsReferredTo rows row j
 
 -- the number of a connection that each row refers to, if it refers to one
 abbrev pub HasTargets : List Elem → List (Option ℕ) → Type 0
-HasTargets rows table = HasEntries (λ i (target : Option ℕ). (row : Elem) → slice_get rows i ≡ Some row → IsTargetOf rows row target) rows table
+HasTargets rows table = HasEntries (λ i (target : Option ℕ). (row : Elem) → slice_get rows i ≡ Some row →
+    IsTargetOf rows row target) rows table
 
 -- the row that is referred to doesn't refer back to the one that refers to it
 abbrev pub IsNotAnswered : List Elem → Elem → Option ℕ → Type 0
 IsNotAnswered rows row None = ⊥
-IsNotAnswered rows row (Some j) = (other : Elem) × (slice_get rows j ≡ Some other) × (other.attrs.reference ≡ Some (id_of row) → ⊥)
+IsNotAnswered rows row (Some j) = (other : Elem) × (slice_get rows j ≡ Some other)
+    × (other.attrs.reference ≡ Some (id_of row) → ⊥)
 
 -- what is kept of rows
 pub record AreTablesOf (rows : List Elem) (t : Tables) : Type 0 where

@@ -2,9 +2,11 @@
 ghost use Rattle.std.specs.Prelude.{◌≡◌, true, IfOk, Some, Bool, slice_get, All};
 ghost use Rattle.std.specs.List.{AllZip};
 ghost use Rattle.plan_core.specs.declared.sides.Hand.{Hand as Side};
-ghost use Rattle.railml_read.specs.declared.rows.ElemKind.TheVariants.{Track as TrackRow, Switch as SwitchRow, Crossing as CrossingRow};
+ghost use Rattle.railml_read.specs.declared.rows.ElemKind.TheVariants.{Track as TrackRow, Switch as SwitchRow};
+ghost use Rattle.railml_read.specs.declared.rows.ElemKind.TheVariants.{Crossing as CrossingRow};
 ghost use Rattle.railml_topology.specs.Rows.{is_of_kind as of_kind};
-ghost use Rattle.railml_topology.specs.Resolved.{hand_word, IsCourseOf, IsTrackEndOf, IsInnerKindOf, IsInnerOf, IsLayout, IsTrackOf, IsTopologyOf};
+ghost use Rattle.railml_topology.specs.Resolved.{hand_word, IsCourseOf, IsTrackEndOf, IsInnerKindOf, IsInnerOf};
+ghost use Rattle.railml_topology.specs.Resolved.{IsLayout, IsTrackOf, IsTopologyOf};
 ghost use Rattle.railml_topology.specs.Tables.{AreTablesOf};
 ghost use Rattle.railml_topology.specs.Plans.{is_inner as passes_inner};
 ghost use Rattle.railml_topology.specs.Sites.{IsReadySite, IsEither, IsStart};
@@ -196,7 +198,8 @@ fn track_of(alloc: Global, site: &Site<'_>, layout: &Layout) -> Result<Track, Ou
 /// The tracks of a topology.
 fn tracks_of(alloc: Global, site: &Site<'_>) -> Result<TrackList, OutOfMemory>
     requires { IsReadySite site.now }
-    ensures { IfOk result (λ tracks. AllZip (IsTrackOf site.now.rows.now site.now.layouts.now) site.now.layouts.now tracks) }
+    ensures { IfOk result (λ tracks. AllZip (IsTrackOf site.now.rows.now site.now.layouts.now) site.now.layouts.now
+        tracks) }
 {
     let mut tracks = TrackList::new(alloc);
     for layout in site.layouts {

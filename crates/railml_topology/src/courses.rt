@@ -1,6 +1,7 @@
 // Courses and orientations of the connections of switches and crossings.
 ghost use Rattle.std.specs.Prelude.{IsTrue, ◌↔◌, ◌≡◌, ◌⊎◌};
-ghost use Rattle.railml_topology.specs.Faults.{IsHand, IsWay, IsCourseAt, HasBadSwitchCourse, HasBadCrossingCourse, HasBadCourse, HasBadOrientation};
+ghost use Rattle.railml_topology.specs.Faults.{IsHand, IsWay, IsCourseAt, HasBadSwitchCourse, HasBadCrossingCourse};
+ghost use Rattle.railml_topology.specs.Faults.{HasBadCourse, HasBadOrientation};
 ghost use Rattle.plan_core.specs.Searching.{FindsFirst};
 
 use crate::rows::{is_word, parent_of};

@@ -4,7 +4,8 @@ ghost use Rattle.std.specs.Option.{option_copied};
 ghost use Rattle.railml_read.specs.Formed.{AreFormed};
 ghost use Rattle.railml_topology.specs.Rows.{id_of as id_or_empty};
 ghost use Rattle.railml_topology.specs.Faults.{Repeats};
-ghost use Rattle.railml_topology.specs.Ids.{number_in, Numbers, AddsId, IsKnownId, IsNewId, own_id as id_of_row, connection_id as id_of_connection, reference_of as reference, KeepsIds};
+ghost use Rattle.railml_topology.specs.Ids.{number_in, Numbers, AddsId, IsKnownId, IsNewId, own_id as id_of_row};
+ghost use Rattle.railml_topology.specs.Ids.{connection_id as id_of_connection, reference_of as reference, KeepsIds};
 ghost use Rattle.plan_core.specs.Searching.{FindsFirst};
 
 use crate::rows::{bears_id, is_kind};

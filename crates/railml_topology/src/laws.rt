@@ -9,12 +9,14 @@ ghost use Rattle.railml_topology.specs.Resolved.{IsTopologyOf};
 
 /// Rows have one first fault at most, at one place and with the same texts.
 pub fn one_fault()
-    ensures { (rows : List Elem) (a b : TopologyWhat) (at place : ℕ) (first second one other : List ℕ) → AreFormed rows →
+    ensures { (rows : List Elem) (a b : TopologyWhat) (at place : ℕ) (first second one other : List ℕ) →
+        AreFormed rows →
         IsFirstTopologyFault rows a at first second → IsFirstTopologyFault rows b place one other →
         (a ≡ b) × (at ≡ place) × (first ≡ one) × (second ≡ other) }
 {}
 
 /// Rows of which nothing is wrong resolve to one topology at most.
 pub fn one_topology()
-    ensures { (rows : List Elem) (t u : Resolved) → AreFormed rows → HasNoFault rows → IsTopologyOf rows t → IsTopologyOf rows u → t ≡ u }
+    ensures { (rows : List Elem) (t u : Resolved) → AreFormed rows → HasNoFault rows → IsTopologyOf rows t →
+        IsTopologyOf rows u → t ≡ u }
 {}

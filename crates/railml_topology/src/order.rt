@@ -1,5 +1,6 @@
 // Switches and crossings in their order along a track.
-ghost use Rattle.std.specs.Prelude.{◌≡◌, ◌<◌, ◌^◌, true, ℕ, ℤ, List, map, filter, length, All, IfOk, Some, slice_get, Option};
+ghost use Rattle.std.specs.Prelude.{◌≡◌, ◌<◌, ◌^◌, true, ℕ, ℤ, List, map, filter, length, All, IfOk, Some, slice_get};
+ghost use Rattle.std.specs.Prelude.{Option};
 ghost use Rattle.railml_topology.specs.Rows.{ReadsMetres, HasPosition};
 ghost use Rattle.railml_topology.specs.Plans.{is_inner as passes_inner, IsStanding, IsOfSize};
 ghost use Rattle.railml_topology.specs.Resolved.{AreInner};
@@ -67,7 +68,8 @@ fn standing_at(rows: &[Elem], number: u32) -> Standing
 /// The switches and crossings among these rows, with their positions.
 fn standings(alloc: Global, rows: &[Elem], numbers: &[u32]) -> Result<Vec<Standing>, OutOfMemory>
     requires sound { AreSoundRows rows.now }
-    ensures rows { IfOk result (λ list. map (λ (s : Placed). s.row) list.items ≡ filter (passes_inner rows.now) numbers.now) }
+    ensures rows { IfOk result (λ list. map (λ (s : Placed). s.row) list.items
+        ≡ filter (passes_inner rows.now) numbers.now) }
     ensures standing { IfOk result (λ list. All (IsStanding rows.now) list.items) }
 {
     let mut list = Vec::new(alloc);

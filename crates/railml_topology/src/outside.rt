@@ -3,7 +3,8 @@ ghost use Rattle.std.specs.Prelude.{◌≡◌, IsTrue, ◌↔◌, IfOk};
 ghost use Rattle.railml_read.specs.Formed.{AreFormed};
 ghost use Rattle.railml_topology.specs.Faults.{LiesOutside};
 ghost use Rattle.plan_core.specs.Searching.{FindsFirst};
-ghost use Rattle.railml_topology.specs.Tables.{IsPositionOf, HasPositions, IsLess, AreTablesOf, entry_in, beside_in, IsBeforeBeginBy, IsBehindEndBy, LiesOutsideBy};
+ghost use Rattle.railml_topology.specs.Tables.{IsPositionOf, HasPositions, IsLess, AreTablesOf, entry_in, beside_in};
+ghost use Rattle.railml_topology.specs.Tables.{IsBeforeBeginBy, IsBehindEndBy, LiesOutsideBy};
 
 use crate::tables::{Tables, entry};
 use plan_core::{Micro, OutOfMemory};

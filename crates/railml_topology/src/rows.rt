@@ -1,7 +1,10 @@
 // What a single row is.
 ghost use Rattle.std.specs.Prelude.{◌≡◌, IsTrue, ◌↔◌, slice_get};
 ghost use Rattle.std.specs.Option.{option_copied, option_map};
-ghost use Rattle.railml_topology.specs.Rows.{same_kind, is_of_kind as of_kind, parent_of as holder_of, bears_id as has_id, bears_position as has_position, attribute_text, attribute_name, is_word as has_word, required_of, required as attributes_of, lacking};
+ghost use Rattle.railml_topology.specs.Rows.{same_kind, is_of_kind as of_kind, parent_of as holder_of};
+ghost use Rattle.railml_topology.specs.Rows.{bears_id as has_id, bears_position as has_position, attribute_text};
+ghost use Rattle.railml_topology.specs.Rows.{attribute_name, is_word as has_word, required_of};
+ghost use Rattle.railml_topology.specs.Rows.{required as attributes_of, lacking};
 
 use crate::attributes::Attribute;
 use plan_core::Text;

@@ -3,7 +3,8 @@ ghost use Rattle.std.specs.Prelude.{◌≡◌, IfOk, MatchOption};
 ghost use Rattle.railml_read.specs.Formed.{AreFormed};
 ghost use Rattle.railml_topology.specs.Faults.{HasNoFault};
 ghost use Rattle.railml_topology.specs.Tables.{AreTablesOf};
-ghost use Rattle.railml_topology.specs.Telling.{first_told, IsSecond, IsFindingOf, IsToldOf, IsFirstTold, TellsNoTracks};
+ghost use Rattle.railml_topology.specs.Telling.{first_told, IsSecond, IsFindingOf, IsToldOf, IsFirstTold};
+ghost use Rattle.railml_topology.specs.Telling.{TellsNoTracks};
 
 use crate::TopologyWhat;
 use crate::finding::{Finding, first_finding};

@@ -8,7 +8,8 @@ ghost use Rattle.refute_log.specs.Log.{Derives};
 ghost use Rattle.certified_values.specs.Bounds.{MeetsLog};
 ghost use Rattle.certified_values.specs.Certified.{Certifies, CertifiesNone, Settled};
 ghost use Rattle.certified_values.specs.Expected.{caps};
-ghost use Rattle.refutation_cases.specs.Examples.{height_up_to, height_then_width, width_then_height, all_four, short_log};
+ghost use Rattle.refutation_cases.specs.Examples.{height_up_to, height_then_width, width_then_height, all_four};
+ghost use Rattle.refutation_cases.specs.Examples.{short_log};
 
 // What the short log certifies: a height of 1, and with it a width of 3.
 fn certified()
@@ -21,9 +22,11 @@ fn certified()
 
 // What it lacks.
 fn lacking()
-    ensures the_width_where_it_comes_first { Certifies (height_up_to 9) short_log width_then_height (measured 1 0 0 3) 1 → ⊥ }
+    ensures the_width_where_it_comes_first { Certifies (height_up_to 9) short_log width_then_height (measured 1 0 0 3) 1
+        → ⊥ }
     ensures a_greater_height { Certifies (height_up_to 9) short_log height_then_width (measured 2 0 0 3) 1 → ⊥ }
-    ensures the_width_where_height_2_is_no_bound { Certifies (height_up_to 1) short_log height_then_width (measured 1 0 0 3) 2 → ⊥ }
+    ensures the_width_where_height_2_is_no_bound { Certifies (height_up_to 1) short_log height_then_width
+        (measured 1 0 0 3) 2 → ⊥ }
     ensures that_there_is_no_drawing { CertifiesNone short_log → ⊥ }
 {}
 

@@ -1,5 +1,6 @@
 -- What a checker keeps of the lines that it accepted, and why it refuses a line.
-use Rattle.std.specs.Prelude.{◌≡◌, ◌≤◌, ◌<◌, ◌⊎◌, ℕ, max, ⊤, Result, Ok, Err, Option, List, [], ◌∷◌, ◌++◌, All, Any, Contains}
+use Rattle.std.specs.Prelude.{◌≡◌, ◌≤◌, ◌<◌, ◌⊎◌, ℕ, max, ⊤, Result, Ok, Err, Option, List, [], ◌∷◌, ◌++◌, All, Any}
+use Rattle.std.specs.Prelude.{Contains}
 use Rattle.cnf_core.specs.Lit.{Literal}
 use Rattle.cnf_core.specs.Clause.{Clauses, HasAllOf, words_of}
 use Rattle.cnf_core.specs.Formula.{Cnf}
@@ -8,7 +9,8 @@ use Rattle.cnf_core.specs.declared.limits.TheConstants.{VARS}
 use Rattle.refute_log.specs.declared.line.LogLine.{LogLine}
 use Rattle.refute_log.specs.declared.line.LogLine.TheVariants.{Formula, Learnt}
 use Rattle.refute_check.specs.declared.fault.LineFault.{LineFault}
-use Rattle.refute_check.specs.declared.fault.LineFault.TheVariants.{NewVar, WrongQuery, Room, NotImplied, NotNew, Memory}
+use Rattle.refute_check.specs.declared.fault.LineFault.TheVariants.{NewVar, WrongQuery, Room, NotImplied, NotNew}
+use Rattle.refute_check.specs.declared.fault.LineFault.TheVariants.{Memory}
 use Rattle.refute_log.specs.Log.{Facts, facts_after, bounded, Answers, IsImplied, StandsOn}
 
 -- the room for words, and the facts of the accepted lines
@@ -17,7 +19,11 @@ pub record CheckedFacts : Type 0 where
   pub facts : Facts
 
 abbrev pub checked_facts : ℕ → Cnf → Option (List Literal) → Clauses → CheckedFacts
-checked_facts room f query refuted = record { room = room; facts = record { greatest = f.vars; clauses = f.clauses; query = query; refuted = refuted } }
+checked_facts room f query refuted = record {
+  room = room;
+  facts =
+      record { greatest = f.vars; clauses = f.clauses; query = query; refuted = refuted };
+}
 
 abbrev pub kept_after : CheckedFacts → LogLine → CheckedFacts
 kept_after kept line = record { room = kept.room; facts = facts_after kept.facts line }

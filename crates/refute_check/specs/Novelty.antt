@@ -11,8 +11,10 @@ use Rattle.refute_check.specs.Kept.{IsKnownClause}
 -- of its first literal and the others
 abbrev pub IsNovelty : Clauses → Literal → List Literal → Novelty → Type 0
 IsNovelty clauses first others Unproved = Rup clauses (first ∷ others) → ⊥
-IsNovelty clauses first others Known = Rup clauses (first ∷ others) × (Falsifies clauses (negations others) ⊎ Closure clauses (negations others) first)
-IsNovelty clauses first others New = Rup clauses (first ∷ others) × (Falsifies clauses (negations others) → ⊥) × (Closure clauses (negations others) first → ⊥)
+IsNovelty clauses first others Known = Rup clauses (first ∷ others)
+    × (Falsifies clauses (negations others) ⊎ Closure clauses (negations others) first)
+IsNovelty clauses first others New = Rup clauses (first ∷ others) × (Falsifies clauses (negations others) → ⊥)
+    × (Closure clauses (negations others) first → ⊥)
 
 -- of the whole clause
 abbrev pub HasNovelty : Clauses → List Literal → Novelty → Type 0

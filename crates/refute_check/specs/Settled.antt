@@ -22,4 +22,5 @@ pub record IsListed (vars : ℕ) (clauses : Clauses) (c : List Literal) (t : Tab
   pub counted : IsCountedTo vars clauses t.truth.items t.trail.items t.counts.items (length t.trail.items)
   pub within : (l : Literal) → IsIn (has t.trail.items) l → Closure clauses nothing l
   pub reasoned : (l : Literal) → IsIn (has t.trail.items) l → HasReason clauses (has t.trail.items) l
-  pub quiet : All (λ d. (d ≡ c) ⊎ IsQuiet (has (take (length t.trail.items) t.trail.items)) (has t.trail.items) d) clauses
+  pub quiet : All (λ d. (d ≡ c) ⊎ IsQuiet (has (take (length t.trail.items) t.trail.items)) (has t.trail.items) d)
+      clauses

@@ -1,5 +1,6 @@
 -- Tables by clause and by literal, over which the literals are counted that aren't false.
-use Rattle.std.specs.Prelude.{◌≡◌, ◌≤◌, ◌<◌, ◌⊎◌, ℕ, ◌+◌, ◌*◌, Bool, false, cond, List, [], ◌∷◌, ◌++◌, All, Contains, length, slice_index, slice_index_or, take}
+use Rattle.std.specs.Prelude.{◌≡◌, ◌≤◌, ◌<◌, ◌⊎◌, ℕ, ◌+◌, ◌*◌, Bool, false, cond, List, [], ◌∷◌, ◌++◌, All, Contains}
+use Rattle.std.specs.Prelude.{length, slice_index, slice_index_or, take}
 use Rattle.std.specs.List.{count_by}
 use Rattle.cnf_core.specs.Lit.{Literal, negate, word_of, has}
 use Rattle.cnf_core.specs.Clause.{Clauses}
@@ -23,7 +24,8 @@ false_count set c = count_by (λ k. set (negate k)) c
 -- the count of each clause is how many of its literals aren't false: with the false ones, they are all
 pub record AreCounts (clauses : Clauses) (set : LiteralSet) (counts : List ℕ) : Type 0 where
   pub size : length counts ≡ length clauses
-  pub each : (n : ℕ) → n < length clauses → slice_index counts n + false_count set (slice_index_or clauses n []) ≡ length (slice_index_or clauses n [])
+  pub each : (n : ℕ) → n < length clauses → slice_index counts n + false_count set (slice_index_or clauses n [])
+      ≡ length (slice_index_or clauses n [])
 
 -- the set has each literal that is alone not false in done, and done falsifies the clause not
 pub record IsQuiet (done set : LiteralSet) (c : List Literal) : Type 0 where
@@ -42,7 +44,8 @@ pub record AreOccurrences (vars : ℕ) (clauses : Clauses) (lists : List (List �
   pub each : (l : Literal) → word_of l < length lists → slice_index_or lists (word_of l) [] ≡ places_from 0 clauses l
 
 -- the literals that aren't false are counted for the front of the trail
-pub record IsCountedTo (vars : ℕ) (clauses : Clauses) (truth : List Bool) (trail : List Literal) (counts : List ℕ) (front : ℕ) : Type 0 where
+pub record IsCountedTo (vars : ℕ) (clauses : Clauses) (truth : List Bool) (trail : List Literal) (counts : List ℕ)
+    (front : ℕ) : Type 0 where
   pub table : IsTrail vars truth trail
   pub within : front ≤ length trail
   pub right : AreCounts clauses (has (take front trail)) counts
@@ -53,10 +56,12 @@ AreQuiet clauses trail front = All (IsQuiet (has (take front trail)) (has trail)
 
 -- whatever part of the old trail was counted, the clause is quiet there
 abbrev pub IsQuietNow : List Literal → ℕ → List Literal → List Literal → Type 0
-IsQuietNow clause count old new = (done : LiteralSet) → Includes (has old) done → count + false_count done clause ≡ length clause → IsQuiet done (has new) clause
+IsQuietNow clause count old new = (done : LiteralSet) → Includes (has old) done → count + false_count done clause
+    ≡ length clause → IsQuiet done (has new) clause
 
 abbrev pub AreQuietNow : Clauses → List ℕ → List ℕ → List Literal → List Literal → Type 0
-AreQuietNow clauses numbers counts old new = All (λ n. IsQuietNow (slice_index_or clauses n []) (slice_index counts n) old new) numbers
+AreQuietNow clauses numbers counts old new = All (λ n. IsQuietNow (slice_index_or clauses n []) (slice_index counts n)
+    old new) numbers
 
 -- the new trail is the old one and negations of some of the literals behind it
 pub record Assumes (lits old new : List Literal) : Type 0 where
@@ -74,8 +79,10 @@ pub record HasTrueLiteral (lits trail : List Literal) : Type 0 where
 -- the number stands behind the others in the list of each of the literals
 pub record Lists (lits : List Literal) (number : ℕ) (old new : List (List ℕ)) : Type 0 where
   pub size : length new ≡ length old
-  pub each : (l : Literal) → word_of l < length old → slice_index_or new (word_of l) [] ≡ slice_index_or old (word_of l) [] ++ cond (has lits l) (number ∷ []) []
+  pub each : (l : Literal) → word_of l < length old → slice_index_or new (word_of l) []
+      ≡ slice_index_or old (word_of l) [] ++ cond (has lits l) (number ∷ []) []
 
 -- each literal of the trail is the negation of one of these, or some clause makes it true
 abbrev pub AreExplained : Clauses → List Literal → List Literal → Type 0
-AreExplained clauses lits trail = (l : Literal) → IsIn (has trail) l → IsIn (negations lits) l ⊎ HasReason clauses (has trail) l
+AreExplained clauses lits trail = (l : Literal) → IsIn (has trail) l → IsIn (negations lits) l
+    ⊎ HasReason clauses (has trail) l

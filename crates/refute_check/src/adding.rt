@@ -1,5 +1,6 @@
 // Adding variables and clauses to the tables.
-ghost use Rattle.std.specs.Prelude.{◌≡◌, ◌≤◌, ◌<◌, ◌+◌, ◌*◌, ◌^◌, [], ◌∷◌, ◌++◌, true, false, OnOk, IfOk, length, vec_len};
+ghost use Rattle.std.specs.Prelude.{◌≡◌, ◌≤◌, ◌<◌, ◌+◌, ◌*◌, ◌^◌, [], ◌∷◌, ◌++◌, true, false, OnOk, IfOk, length};
+ghost use Rattle.std.specs.Prelude.{vec_len};
 ghost use Rattle.cnf_core.specs.Lit.{has, negate};
 ghost use Rattle.cnf_core.specs.Clause.{IsThere, AreThere, AllThere, AreDistinct};
 ghost use Rattle.cnf_core.specs.Propagation.{Falsifies, Falsified, nothing};
@@ -86,7 +87,8 @@ impl Tables {
         requires listed { IsListed formula.now.vars formula.now.clauses lits.now self.old }
         requires there { AreThere formula.now.vars lits.now }
         requires distinct { AreDistinct lits.now }
-        ensures settled { IfOk result (λ found. found ≡ false → AreSettled formula.now.vars formula.now.clauses self.new) }
+        ensures settled { IfOk result (λ found. found ≡ false → AreSettled formula.now.vars formula.now.clauses
+            self.new) }
         ensures falsified { IfOk result (λ found. found ≡ true → Falsifies formula.now.clauses nothing) }
     {
         match scan_clause(lits, &self.truth, formula.vars()) {
@@ -101,7 +103,8 @@ impl Tables {
         requires listed { IsListed formula.now.vars formula.now.clauses lits.now self.old }
         requires there { AreThere formula.now.vars lits.now }
         requires unset { IsUnsetUnit (marked self.old.truth.items) lits.now l }
-        ensures settled { IfOk result (λ found. found ≡ false → AreSettled formula.now.vars formula.now.clauses self.new) }
+        ensures settled { IfOk result (λ found. found ≡ false → AreSettled formula.now.vars formula.now.clauses
+            self.new) }
         ensures falsified { IfOk result (λ found. found ≡ true → Falsifies formula.now.clauses nothing) }
     {
         let reached = self.mark_and_propagate(formula, l)?;
@@ -116,18 +119,21 @@ impl Tables {
         l: Lit,
     ) -> Result<(bool, usize), OutOfMemory>
         requires occurrences { AreOccurrences formula.now.vars formula.now.clauses self.old.occurrences.items }
-        requires counted { IsCountedTo formula.now.vars formula.now.clauses self.old.truth.items self.old.trail.items self.old.counts.items (length self.old.trail.items) }
+        requires counted { IsCountedTo formula.now.vars formula.now.clauses self.old.truth.items self.old.trail.items
+            self.old.counts.items (length self.old.trail.items) }
         requires quiet { AreQuiet formula.now.clauses (self.old.trail.items ++ l ∷ []) (length self.old.trail.items) }
         requires there { IsThere formula.now.vars l }
         requires not_true { marked self.old.truth.items l ≡ false }
         requires not_false { marked self.old.truth.items (negate l) ≡ false }
         ensures same { OnOk result (self.new.occurrences.items ≡ self.old.occurrences.items) }
         ensures on { IfOk result (λ r. length self.old.trail.items ≤ r.1) }
-        ensures counted { IfOk result (λ r. IsCountedTo formula.now.vars formula.now.clauses self.new.truth.items self.new.trail.items self.new.counts.items r.1) }
+        ensures counted { IfOk result (λ r. IsCountedTo formula.now.vars formula.now.clauses self.new.truth.items
+            self.new.trail.items self.new.counts.items r.1) }
         ensures grows { OnOk result (Grows formula.now.clauses (self.old.trail.items ++ l ∷ []) self.new.trail.items) }
         ensures falsified { IfOk result (λ r. r.0 ≡ true → Falsified formula.now.clauses (has self.new.trail.items)) }
         ensures all { IfOk result (λ r. r.0 ≡ false → r.1 ≡ length self.new.trail.items) }
-        ensures quiet { IfOk result (λ r. r.0 ≡ false → AreQuiet formula.now.clauses self.new.trail.items (length self.new.trail.items)) }
+        ensures quiet { IfOk result (λ r. r.0 ≡ false → AreQuiet formula.now.clauses self.new.trail.items
+            (length self.new.trail.items)) }
     {
         let level = self.trail.len();
         mark(&mut self.truth, &mut self.trail, formula.vars(), l)?;

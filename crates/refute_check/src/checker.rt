@@ -1,9 +1,11 @@
 // The checker.
-ghost use Rattle.std.specs.Prelude.{◌≡◌, ◌≤◌, ◌<◌, ◌⊎◌, ◌↔◌, ◌+◌, ◌^◌, max, IsTrue, length, [], ◌∷◌, ◌++◌, None, true, false, All, Any, Contains, IfOk, OnOk, IfErr, IsErrOf};
+ghost use Rattle.std.specs.Prelude.{◌≡◌, ◌≤◌, ◌<◌, ◌⊎◌, ◌↔◌, ◌+◌, ◌^◌, max, IsTrue, length, [], ◌∷◌, ◌++◌, None, true};
+ghost use Rattle.std.specs.Prelude.{false, All, Any, Contains, IfOk, OnOk, IfErr, IsErrOf};
 ghost use Rattle.cnf_core.specs.Clause.{IsThere, AreDistinct, AreThere, words_of};
 ghost use Rattle.cnf_core.specs.Propagation.{Closure, Falsifies, Rup, negations, greatest_in, greatest_var};
 ghost use Rattle.refute_log.specs.Log.{facts_of, IsNewClause};
-ghost use Rattle.refute_check.specs.Kept.{with_clause, IsKnownClause, IsAnswer, Accepts, NamesNew, AnswersWrongly, PassesRoom, IsUnproved, IsOld, IncludesNone, Refutes};
+ghost use Rattle.refute_check.specs.Kept.{with_clause, IsKnownClause, IsAnswer, Accepts, NamesNew, AnswersWrongly};
+ghost use Rattle.refute_check.specs.Kept.{PassesRoom, IsUnproved, IsOld, IncludesNone, Refutes};
 ghost use Rattle.refute_check.specs.Novelty.{IsNovelty, HasNovelty};
 ghost use Rattle.refute_log.specs.Lines.{IsWellFormed};
 
@@ -92,7 +94,8 @@ impl Checker {
         requires distinct { AreDistinct (first ∷ others.now) }
         ensures same { OnOk result (self.new ≡ self.old) }
         ensures novelty { IfOk result (IsNovelty self.old.facts.clauses first others.now) }
-        ensures greatest { IfOk result (λ n. n ≡ Novelty.New → self.old.facts.greatest ≤ greatest_var self.old.facts.clauses) }
+        ensures greatest { IfOk result (λ n. n ≡ Novelty.New → self.old.facts.greatest ≤ greatest_var
+            self.old.facts.clauses) }
     {
         match self.standing {
             Standing::Lost => Err(OutOfMemory),

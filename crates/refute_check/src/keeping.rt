@@ -131,7 +131,11 @@ pub(crate) fn keep(
     requires small { length lits.now < 2 ^ 32 }
     requires named { vars ≤ max formula.old.vars (greatest_in lits.now) }
     ensures checker { IfOk result (λ s. IsChecker formula.new tables.new s) }
-    ensures kept { OnOk result (formula.new ≡ record formula.old { vars = max formula.old.vars vars; clauses = formula.old.clauses ++ lits.now ∷ [] }) }
+    ensures kept { OnOk result (formula.new ≡ record formula.old {
+      vars = max formula.old.vars vars;
+      clauses =
+          formula.old.clauses ++ lits.now ∷ [];
+    }) }
 {
     match standing {
         Standing::Open => {

@@ -27,7 +27,8 @@ pub(crate) fn look_at(
     ensures trail { OnOk result (IsTrail formula.now.vars truth.new trail.new.items) }
     ensures grows { OnOk result (Grows formula.now.clauses trail.old.items trail.new.items) }
     ensures falsified { IfOk result (λ found. found ≡ true → Falsified formula.now.clauses (has trail.new.items)) }
-    ensures quiet { IfOk result (λ found. found ≡ false → IsQuietNow (clause_at formula.now number) (slice_index counts.now number) trail.old.items trail.new.items) }
+    ensures quiet { IfOk result (λ found. found ≡ false → IsQuietNow (clause_at formula.now number)
+        (slice_index counts.now number) trail.old.items trail.new.items) }
 {
     let vars = formula.vars();
     if counts[number as usize] > 1 {
@@ -58,7 +59,8 @@ pub(crate) fn look_at_each(
     ensures trail { OnOk result (IsTrail formula.now.vars truth.new trail.new.items) }
     ensures grows { OnOk result (Grows formula.now.clauses trail.old.items trail.new.items) }
     ensures falsified { IfOk result (λ found. found ≡ true → Falsified formula.now.clauses (has trail.new.items)) }
-    ensures quiet { IfOk result (λ found. found ≡ false → AreQuietNow formula.now.clauses numbers.now counts.now trail.old.items trail.new.items) }
+    ensures quiet { IfOk result (λ found. found ≡ false → AreQuietNow formula.now.clauses numbers.now counts.now
+        trail.old.items trail.new.items) }
 {
     for n in numbers {
         if look_at(formula, *n, counts, truth, trail)? {

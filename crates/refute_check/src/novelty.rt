@@ -34,13 +34,15 @@ impl Tables {
         others: &[Lit],
     ) -> Result<(Novelty, usize), OutOfMemory>
         requires occurrences { AreOccurrences formula.now.vars formula.now.clauses self.old.occurrences.items }
-        requires counted { IsCountedTo formula.now.vars formula.now.clauses self.old.truth.items self.old.trail.items self.old.counts.items (length self.old.trail.items) }
+        requires counted { IsCountedTo formula.now.vars formula.now.clauses self.old.truth.items self.old.trail.items
+            self.old.counts.items (length self.old.trail.items) }
         requires quiet { AreQuiet formula.now.clauses self.old.trail.items (length self.old.trail.items) }
         requires closure { IsClosure formula.now.clauses (negations others.now) (has self.old.trail.items) }
         requires there { IsThere formula.now.vars first }
         requires not_true { marked self.old.truth.items first ≡ false }
         requires not_false { marked self.old.truth.items (negate first) ≡ false }
-        ensures counted { IfOk result (λ r. IsCountedTo formula.now.vars formula.now.clauses self.new.truth.items self.new.trail.items self.new.counts.items r.1) }
+        ensures counted { IfOk result (λ r. IsCountedTo formula.now.vars formula.now.clauses self.new.truth.items
+            self.new.trail.items self.new.counts.items r.1) }
         ensures on { IfOk result (λ r. length self.old.trail.items ≤ r.1) }
         ensures front { OnOk result (take (length self.old.trail.items) self.new.trail.items ≡ self.old.trail.items) }
         ensures same { OnOk result (self.new.occurrences.items ≡ self.old.occurrences.items) }
@@ -65,7 +67,8 @@ impl Tables {
         requires first { IsThere formula.now.vars first }
         requires there { AreThere formula.now.vars others.now }
         requires distinct { AreDistinct (first ∷ others.now) }
-        ensures counted { IfOk result (λ r. IsCountedTo formula.now.vars formula.now.clauses self.new.truth.items self.new.trail.items self.new.counts.items r.1) }
+        ensures counted { IfOk result (λ r. IsCountedTo formula.now.vars formula.now.clauses self.new.truth.items
+            self.new.trail.items self.new.counts.items r.1) }
         ensures on { IfOk result (λ r. length self.old.trail.items ≤ r.1) }
         ensures front { OnOk result (take (length self.old.trail.items) self.new.trail.items ≡ self.old.trail.items) }
         ensures same { OnOk result (self.new.occurrences.items ≡ self.old.occurrences.items) }

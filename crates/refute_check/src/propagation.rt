@@ -25,7 +25,8 @@ fn advance(
     requires counted { IsCountedTo formula.now.vars formula.now.clauses truth.old trail.old.items counts.old front }
     requires quiet { AreQuiet formula.now.clauses trail.old.items front }
     requires there { front < length trail.old.items }
-    ensures counted { OnOk result (IsCountedTo formula.now.vars formula.now.clauses truth.new trail.new.items counts.new (front + 1)) }
+    ensures counted { OnOk result (IsCountedTo formula.now.vars formula.now.clauses truth.new trail.new.items counts.new
+        (front + 1)) }
     ensures grows { OnOk result (Grows formula.now.clauses trail.old.items trail.new.items) }
     ensures falsified { IfOk result (λ found. found ≡ true → Falsified formula.now.clauses (has trail.new.items)) }
     ensures quiet { IfOk result (λ found. found ≡ false → AreQuiet formula.now.clauses trail.new.items (front + 1)) }
@@ -52,12 +53,14 @@ pub(crate) fn propagate(
     requires occurrences { AreOccurrences formula.now.vars formula.now.clauses occurrences.now }
     requires counted { IsCountedTo formula.now.vars formula.now.clauses truth.old trail.old.items counts.old from }
     requires quiet { AreQuiet formula.now.clauses trail.old.items from }
-    ensures counted { IfOk result (λ r. IsCountedTo formula.now.vars formula.now.clauses truth.new trail.new.items counts.new r.1) }
+    ensures counted { IfOk result (λ r. IsCountedTo formula.now.vars formula.now.clauses truth.new trail.new.items
+        counts.new r.1) }
     ensures on { IfOk result (λ r. from ≤ r.1) }
     ensures grows { OnOk result (Grows formula.now.clauses trail.old.items trail.new.items) }
     ensures falsified { IfOk result (λ r. r.0 ≡ true → Falsified formula.now.clauses (has trail.new.items)) }
     ensures all { IfOk result (λ r. r.0 ≡ false → r.1 ≡ length trail.new.items) }
-    ensures quiet { IfOk result (λ r. r.0 ≡ false → AreQuiet formula.now.clauses trail.new.items (length trail.new.items)) }
+    ensures quiet { IfOk result (λ r. r.0 ≡ false → AreQuiet formula.now.clauses trail.new.items
+        (length trail.new.items)) }
 {
     let mut front = from;
     while front < trail.len() {

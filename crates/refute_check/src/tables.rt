@@ -56,15 +56,19 @@ impl Tables {
         requires settled { AreSettled formula.now.vars formula.now.clauses self.old }
         requires there { AreThere formula.now.vars lits.now }
         requires distinct { AreDistinct lits.now }
-        ensures counted { IfOk result (λ r. IsCountedTo formula.now.vars formula.now.clauses self.new.truth.items self.new.trail.items self.new.counts.items r.1) }
+        ensures counted { IfOk result (λ r. IsCountedTo formula.now.vars formula.now.clauses self.new.truth.items
+            self.new.trail.items self.new.counts.items r.1) }
         ensures on { IfOk result (λ r. length self.old.trail.items ≤ r.1) }
         ensures front { OnOk result (take (length self.old.trail.items) self.new.trail.items ≡ self.old.trail.items) }
         ensures same { OnOk result (self.new.occurrences.items ≡ self.old.occurrences.items) }
         ensures falsified { IfOk result (λ r. r.0 ≡ true → Falsifies formula.now.clauses (negations lits.now)) }
-        ensures closed { IfOk result (λ r. r.0 ≡ false → IsClosure formula.now.clauses (negations lits.now) (has self.new.trail.items)) }
+        ensures closed { IfOk result (λ r. r.0 ≡ false → IsClosure formula.now.clauses (negations lits.now)
+            (has self.new.trail.items)) }
         ensures all { IfOk result (λ r. r.0 ≡ false → r.1 ≡ length self.new.trail.items) }
-        ensures quiet { IfOk result (λ r. r.0 ≡ false → AreQuiet formula.now.clauses self.new.trail.items (length self.new.trail.items)) }
-        ensures reasoned { IfOk result (λ r. r.0 ≡ false → AreExplained formula.now.clauses lits.now self.new.trail.items) }
+        ensures quiet { IfOk result (λ r. r.0 ≡ false → AreQuiet formula.now.clauses self.new.trail.items
+            (length self.new.trail.items)) }
+        ensures reasoned { IfOk result (λ r. r.0 ≡ false → AreExplained formula.now.clauses lits.now
+            self.new.trail.items) }
     {
         let level = self.trail.len();
         let clash = assume_false(&mut self.truth, &mut self.trail, formula.vars(), lits)?;
@@ -84,10 +88,12 @@ impl Tables {
 
     /// Takes the trail back to its first `level` literals, of which `front` were counted.
     pub(crate) fn take_back(&mut self, formula: &Formula, level: usize, front: usize)
-        requires counted { IsCountedTo formula.now.vars formula.now.clauses self.old.truth.items self.old.trail.items self.old.counts.items front }
+        requires counted { IsCountedTo formula.now.vars formula.now.clauses self.old.truth.items self.old.trail.items
+            self.old.counts.items front }
         requires level { level ≤ front }
         requires occurrences { AreOccurrences formula.now.vars formula.now.clauses self.old.occurrences.items }
-        ensures counted { IsCountedTo formula.now.vars formula.now.clauses self.new.truth.items self.new.trail.items self.new.counts.items level }
+        ensures counted { IsCountedTo formula.now.vars formula.now.clauses self.new.truth.items self.new.trail.items
+            self.new.counts.items level }
         ensures rest { self.new.trail.items ≡ take level self.old.trail.items }
         ensures same { self.new.occurrences.items ≡ self.old.occurrences.items }
     {

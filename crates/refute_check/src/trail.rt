@@ -1,5 +1,6 @@
 // Marking literals as true, and taking marks back.
-ghost use Rattle.std.specs.Prelude.{◌≡◌, ◌≤◌, ◌<◌, ◌+◌, ◌-◌, ◌*◌, [], ◌∷◌, ◌++◌, true, false, length, OnOk, option_to_list};
+ghost use Rattle.std.specs.Prelude.{◌≡◌, ◌≤◌, ◌<◌, ◌+◌, ◌-◌, ◌*◌, [], ◌∷◌, ◌++◌, true, false, length, OnOk};
+ghost use Rattle.std.specs.Prelude.{option_to_list};
 ghost use Rattle.cnf_core.specs.Lit.{negate};
 ghost use Rattle.cnf_core.specs.Clause.{IsThere};
 ghost use Rattle.cnf_core.specs.Trail.{marked, IsTrail};

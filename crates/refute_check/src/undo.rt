@@ -28,9 +28,11 @@ fn step_back(
     trail: &mut Vec<Lit>,
 )
     requires occurrences { AreOccurrences formula.now.vars formula.now.clauses occurrences.now }
-    requires counted { IsCountedTo formula.now.vars formula.now.clauses truth.old trail.old.items counts.old (length trail.old.items) }
+    requires counted { IsCountedTo formula.now.vars formula.now.clauses truth.old trail.old.items counts.old
+        (length trail.old.items) }
     requires some { 1 ≤ length trail.old.items }
-    ensures counted { IsCountedTo formula.now.vars formula.now.clauses truth.new trail.new.items counts.new (length trail.new.items) }
+    ensures counted { IsCountedTo formula.now.vars formula.now.clauses truth.new trail.new.items counts.new
+        (length trail.new.items) }
     ensures shorter { length trail.new.items + 1 ≡ length trail.old.items }
     ensures rest { trail.new.items ≡ take (length trail.new.items) trail.old.items }
 {

@@ -20,11 +20,13 @@ IsTold (Some told) = ⊤
 -- the contents are told, and the file's bytes, with those that are gathered, are the text of the lines
 abbrev pub IsLogText : Option Told → List ℕ → List ℕ → Lines → Type 0
 IsLogText None name gathered lines = ⊥
-IsLogText (Some told) name gathered lines = (bytes : List ℕ) × (told name ≡ Some bytes) × (bytes ++ gathered ≡ log_text lines)
+IsLogText (Some told) name gathered lines = (bytes : List ℕ) × (told name ≡ Some bytes)
+    × (bytes ++ gathered ≡ log_text lines)
 
 -- no call has failed, and the text is that of the lines, each of which may be told
 abbrev pub TellsText : Bool → Option Told → List ℕ → List ℕ → Lines → Type 0
-TellsText failed contents name gathered lines = (failed ≡ false) × IsLogText contents name gathered lines × MayAllBeTold lines
+TellsText failed contents name gathered lines = (failed ≡ false) × IsLogText contents name gathered lines
+    × MayAllBeTold lines
 
 -- the file's name
 abbrev pub name_of : Gathered → List ℕ
@@ -36,7 +38,8 @@ learnt_of kept = kept.learnt
 
 -- what a log keeps, with the files' contents, tells that these are its lines, and counts the Learnt ones
 abbrev pub TellsLines : Gathered → Option Told → Lines → Type 0
-TellsLines kept contents lines = TellsText kept.failed contents (name_of kept) kept.bytes.items lines × (kept.learnt ≡ learnt_count lines)
+TellsLines kept contents lines = TellsText kept.failed contents (name_of kept) kept.bytes.items lines
+    × (kept.learnt ≡ learnt_count lines)
 
 -- the bytes begin the text of some log
 pub record BeginsLog (bytes : List ℕ) : Type 0 where
@@ -78,24 +81,28 @@ pub where_told_same : (c : Option Told) (name : List ℕ) → WhereTold c c (Sam
 where_told_same None name = tt
 where_told_same (Some told) name = λ other ne. refl
 
-pub where_told_more : (a b c : Option Told) (first second : List ℕ) → second ≡ first → WhereTold a b (SameElsewhere first) → WhereTold b c (SameElsewhere second) → WhereTold a c (SameElsewhere first)
+pub where_told_more : (a b c : Option Told) (first second : List ℕ) → second ≡ first →
+    WhereTold a b (SameElsewhere first) → WhereTold b c (SameElsewhere second) → WhereTold a c (SameElsewhere first)
 where_told_more None b c first second e h k = tt
 where_told_more (Some x) None c first second e h k = absurd h
 where_told_more (Some x) (Some y) None first second e h k = absurd k
 where_told_more (Some x) (Some y) (Some z) first second e h k = λ other ne. k other (λ same. ne (same ∙ e)) ∙ h other ne
 
 -- a state tells one list
-pub tells_once : (failed : Bool) (contents : Option Told) (name gathered : List ℕ) (a b : Lines) → TellsText failed contents name gathered a → TellsText failed contents name gathered b → a ≡ b
+pub tells_once : (failed : Bool) (contents : Option Told) (name gathered : List ℕ) (a b : Lines) →
+    TellsText failed contents name gathered a → TellsText failed contents name gathered b → a ≡ b
 tells_once failed None name gathered a b h k = absurd h.1
 tells_once failed (Some told) name gathered a b h k =
     let same : h.1.0 ≡ k.1.0 = let e : Some h.1.0 ≡ Some k.1.0 = sym h.1.1 ∙ k.1.1 in cc in
-    log_text_once a b (formed_lines a h.2) (formed_lines b k.2) (sym h.1.2 ∙ ap (λ (xs : List ℕ). xs ++ gathered) same ∙ k.1.2)
+    log_text_once a b (formed_lines a h.2) (formed_lines b k.2)
+    (sym h.1.2 ∙ ap (λ (xs : List ℕ). xs ++ gathered) same ∙ k.1.2)
 
 pub keeps_same : (c : Option Told) (kept : Gathered) → WhereTold c c (StillKeeps kept kept)
 keeps_same None kept = tt
 keeps_same (Some told) kept = λ k. k
 
-pub keeps_more : (a b c : Option Told) (x y z : Gathered) → WhereTold a b (StillKeeps x y) → WhereTold b c (StillKeeps y z) → WhereTold a c (StillKeeps x z)
+pub keeps_more : (a b c : Option Told) (x y z : Gathered) → WhereTold a b (StillKeeps x y) →
+    WhereTold b c (StillKeeps y z) → WhereTold a c (StillKeeps x z)
 keeps_more None b c x y z h k = tt
 keeps_more (Some a) None c x y z h k = absurd h
 keeps_more (Some a) (Some b) None x y z h k = absurd k

@@ -1,5 +1,6 @@
 -- Lines of a log: which are well formed, and the text of each.
-use Rattle.std.specs.Prelude.{◌≤◌, ℕ, Bool, true, false, ⊤, cond, codes, decimal, map, List, [], ◌∷◌, ◌++◌, length, flat_map}
+use Rattle.std.specs.Prelude.{◌≤◌, ℕ, Bool, true, false, ⊤, cond, codes, decimal, map, List, [], ◌∷◌, ◌++◌, length}
+use Rattle.std.specs.Prelude.{flat_map}
 use Rattle.std.specs.List.{AllByRecursion}
 use Rattle.line_text.specs.Criteria.{criterion_word}
 use Rattle.line_text.specs.Fields.{unended_text, line_text}

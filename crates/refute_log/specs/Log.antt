@@ -1,5 +1,6 @@
 -- Logs: the clauses of their lines, which lines stand, and which logs derive.
-use Rattle.std.specs.Prelude.{◌≡◌, ◌≤◌, ℕ, min, max, ⊤, Option, Some, None, MatchOption, List, [], ◌∷◌, ◌++◌, length, All, Contains, flat_map, fold, take, slice_get}
+use Rattle.std.specs.Prelude.{◌≡◌, ◌≤◌, ℕ, min, max, ⊤, Option, Some, None, MatchOption, List, [], ◌∷◌, ◌++◌, length}
+use Rattle.std.specs.Prelude.{All, Contains, flat_map, fold, take, slice_get}
 use Rattle.outside_io.specs.Counts.{last_count}
 use Rattle.cnf_core.specs.Lit.{Literal, negate, has}
 use Rattle.cnf_core.specs.Clause.{Clauses, HasAllOf}

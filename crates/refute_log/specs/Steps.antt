@@ -6,7 +6,8 @@ use Rattle.refute_log.specs.Log.{learnt, Derives, clause_lines, BeginsLines}
 
 -- so many lines were told behind these: what was known is known with them, the log was told them and counted the
 -- Learnt ones, and R holds of them
-pub record ToldBehind (known log_old log_new : Lines → Type 0) (count_old count_new : ℕ) (lines : Lines) (R : Lines → Type 0) : Type 0 where
+pub record ToldBehind (known log_old log_new : Lines → Type 0) (count_old count_new : ℕ) (lines : Lines)
+    (R : Lines → Type 0) : Type 0 where
   pub more : Lines
   pub knows : known (lines ++ more)
   pub told : AddsAll log_old log_new more
@@ -20,7 +21,8 @@ GoesOn knows_old knows_new log_old log_new count_old count_new R =
     (lines : Lines) → knows_old lines → ToldBehind knows_new log_old log_new count_old count_new lines (R lines)
 
 -- the same of two states of one thing that knows lines, tells them to a log and counts the Learnt ones
-abbrev pub Continues : {S : Type 0} → (S → Lines → Type 0) → (S → Lines → Type 0) → (S → ℕ) → S → S → (Lines → Lines → Type 0) → Type 0
+abbrev pub Continues : {S : Type 0} → (S → Lines → Type 0) → (S → Lines → Type 0) → (S → ℕ) → S → S →
+    (Lines → Lines → Type 0) → Type 0
 Continues {S} knows log count old new R =
     GoesOn (knows old) (knows new) (log old) (log new) (count old) (count new) R
 
@@ -30,14 +32,16 @@ KnowsSome {S} knows s = (lines : Lines) × knows s lines
 
 -- whatever the log tells after an error derives, where what it told before was known
 abbrev pub StillDerives : (known log_old log_new : Lines → Type 0) → Type 0
-StillDerives known log_old log_new = (lines : Lines) → known lines → log_old lines → (told : Lines) → log_new told → Derives told
+StillDerives known log_old log_new = (lines : Lines) → known lines → log_old lines → (told : Lines) → log_new told →
+    Derives told
 
 -- whatever the log tells after an error has the Formula and Bound lines of what it told before, and no others
 abbrev pub GivesNoMore : (log_old log_new : Lines → Type 0) → Type 0
 GivesNoMore log_old log_new =
     (lines : Lines) → log_old lines → (told : Lines) → log_new told → clause_lines told ≡ clause_lines lines
 
--- a log with these lines had an error, and has those now: it derives, and its Formula and Bound lines are those of before,
+-- a log with these lines had an error, and has those now: it derives, and its Formula and Bound lines are those of
+-- before,
 -- the first of the expected ones behind them, and no others
 pub record IsLeft (expected before now : Lines) : Type 0 where
   pub derives : Derives now

@@ -44,7 +44,8 @@ fn fault_of(fault: FileFault) -> LogSinkFault
 
 /// Makes room for what the log keeps, and then the file with its first line.
 fn prepare<F: Files>(alloc: Global, files: &mut F, name: &str) -> Result<Gathered, LogSinkFault>
-    ensures kept { IfOk result (λ k. (string_bytes k.name ≡ name.now) × (k.learnt ≡ 0) × (k.failed ≡ false) × (k.bytes.items ≡ [])) }
+    ensures kept { IfOk result (λ k. (string_bytes k.name ≡ name.now) × (k.learnt ≡ 0) × (k.failed ≡ false)
+        × (k.bytes.items ≡ [])) }
     ensures created { OnOk result (WhereTold (F.at files.old).contents (F.at files.new).contents (Sets name.now header)) }
     ensures err { IfErr result (λ e. StartFails name.now (F.at files.old) e (F.at files.new)) }
     ensures later { (F.at files.old).write_faults ≤ (F.at files.new).write_faults }
@@ -68,7 +69,8 @@ impl<'a, F: Files> FileLog<'a, F> {
     ghost use Rattle.outside_io.specs.Counts.{Rose};
     ghost use Rattle.outside_io.specs.Contents.{WhereTold, SameElsewhere, Sets};
     ghost use Rattle.refute_log.specs.Lines.{header};
-    ghost use Rattle.refute_log.specs.FileLog.{TellsLines, KeepsLog, FileBeginsLog, name_of, learnt_of, HasText, IsTold, StartFails};
+    ghost use Rattle.refute_log.specs.FileLog.{TellsLines, KeepsLog, FileBeginsLog, name_of, learnt_of, HasText};
+    ghost use Rattle.refute_log.specs.FileLog.{IsTold, StartFails};
     ghost use Rattle.refute_log.specs.declared.sink.LogSinkFault.TheVariants.{Failed};
     ghost use Rattle.refute_log.specs.Told.{Lines};
 
@@ -82,9 +84,12 @@ impl<'a, F: Files> FileLog<'a, F> {
         ensures same_reference_err { IfErr result (λ e. e.1.ghost_name ≡ files.entry.ghost_name) }
         ensures name { IfOk result (λ s. name_of s.kept ≡ name.now) }
         ensures learnt { IfOk result (λ s. learnt_of s.kept ≡ 0) }
-        ensures created { IfOk result (λ s. WhereTold (F.at files.entry.now).contents (F.at s.files.now).contents (Sets name.now header)) }
-        ensures tells { IfOk result (λ s. IsTold (F.at files.entry.now).contents → TellsLines s.kept (F.at s.files.now).contents []) }
-        ensures keeps { IfOk result (λ s. WhereTold (F.at files.entry.now).contents (F.at s.files.now).contents (λ _ now. KeepsLog s.kept now)) }
+        ensures created { IfOk result (λ s. WhereTold (F.at files.entry.now).contents (F.at s.files.now).contents
+            (Sets name.now header)) }
+        ensures tells { IfOk result (λ s. IsTold (F.at files.entry.now).contents →
+            TellsLines s.kept (F.at s.files.now).contents []) }
+        ensures keeps { IfOk result (λ s. WhereTold (F.at files.entry.now).contents (F.at s.files.now).contents
+            (λ _ now. KeepsLog s.kept now)) }
         ensures faults { IfOk result (λ s. (F.at files.entry.now).write_faults ≤ (F.at s.files.now).write_faults) }
         ensures read_faults { IfOk result (λ s. (F.at s.files.now).read_faults ≡ (F.at files.entry.now).read_faults) }
         ensures reads { IfOk result (λ s. (F.at s.files.now).reads ≡ (F.at files.entry.now).reads) }
@@ -111,10 +116,14 @@ impl<'a, F: Files> FileLog<'a, F> {
         ensures faults { (F.at self.entry.files.now).write_faults ≤ (F.at self.exit.0.now).write_faults }
         ensures read_faults { (F.at self.exit.0.now).read_faults ≡ (F.at self.entry.files.now).read_faults }
         ensures reads { (F.at self.exit.0.now).reads ≡ (F.at self.entry.files.now).reads }
-        ensures others { WhereTold (F.at self.entry.files.now).contents (F.at self.exit.0.now).contents (SameElsewhere (name_of self.entry.kept)) }
-        ensures cause { IsErrOf result Failed → Rose (F.at self.entry.files.now).write_faults (F.at self.exit.0.now).write_faults }
-        ensures begins { WhereTold (F.at self.entry.files.now).contents (F.at self.exit.0.now).contents (λ before now. KeepsLog self.entry.kept before → FileBeginsLog now (name_of self.entry.kept)) }
-        ensures text { OnOk result ((lines : Lines) → TellsLines self.entry.kept (F.at self.entry.files.now).contents lines → HasText (F.at self.exit.0.now).contents (name_of self.entry.kept) lines) }
+        ensures others { WhereTold (F.at self.entry.files.now).contents (F.at self.exit.0.now).contents
+            (SameElsewhere (name_of self.entry.kept)) }
+        ensures cause { IsErrOf result Failed → Rose (F.at self.entry.files.now).write_faults
+            (F.at self.exit.0.now).write_faults }
+        ensures begins { WhereTold (F.at self.entry.files.now).contents (F.at self.exit.0.now).contents
+            (λ before now. KeepsLog self.entry.kept before → FileBeginsLog now (name_of self.entry.kept)) }
+        ensures text { OnOk result ((lines : Lines) → TellsLines self.entry.kept (F.at self.entry.files.now).contents
+            lines → HasText (F.at self.exit.0.now).contents (name_of self.entry.kept) lines) }
     {
         let FileLog { files, kept } = self;
         if kept.failed {
@@ -131,7 +140,8 @@ impl<'a, F: Files> LogSink for FileLog<'a, F> {
     ghost use Rattle.std.specs.Prelude.{◌≡◌};
     ghost use Rattle.std.proofs.Common.{refl, ◌∙◌};
     ghost use Rattle.outside_io.specs.Contents.{WhereTold, SameElsewhere};
-    ghost use Rattle.refute_log.specs.FileLog.{TellsLines, name_of, learnt_of, StillKeeps, keeps_same, keeps_more, where_told_same, where_told_more, tells_once};
+    ghost use Rattle.refute_log.specs.FileLog.{TellsLines, name_of, learnt_of, StillKeeps, keeps_same, keeps_more};
+    ghost use Rattle.refute_log.specs.FileLog.{where_told_same, where_told_more, tells_once};
 
     ghost tells = { λ s lines. TellsLines s.kept (F.at s.files.now).contents lines };
 
@@ -142,7 +152,8 @@ impl<'a, F: Files> LogSink for FileLog<'a, F> {
     ghost is_later = { λ s t. (t.files.ghost_name ≡ s.files.ghost_name) × (name_of t.kept ≡ name_of s.kept)
         × WhereTold (F.at s.files.now).contents (F.at t.files.now).contents (SameElsewhere (name_of s.kept))
         × WhereTold (F.at s.files.now).contents (F.at t.files.now).contents (StillKeeps s.kept t.kept)
-        × ((F.at t.files.now).read_faults ≡ (F.at s.files.now).read_faults) × ((F.at t.files.now).reads ≡ (F.at s.files.now).reads) };
+        × ((F.at t.files.now).read_faults ≡ (F.at s.files.now).read_faults)
+        × ((F.at t.files.now).reads ≡ (F.at s.files.now).reads) };
 
     fn tell(&mut self, line: &LogLine) -> Result<(), LogSinkFault> {
         if self.kept.failed {
@@ -165,13 +176,31 @@ impl<'a, F: Files> LogSink for FileLog<'a, F> {
         Ok(())
     }
 
-    ghost one_reading = { λ s a b h k. tells_once s.kept.failed (F.at s.files.now).contents (name_of s.kept) s.kept.bytes.items a b h.0 k.0 };
+    ghost one_reading = { λ s a b h k. tells_once s.kept.failed (F.at s.files.now).contents (name_of s.kept)
+        s.kept.bytes.items a b h.0 k.0 };
 
     ghost told_lines = { λ s lines h. h.0.2 };
 
     ghost counted = { λ s lines h. h.1 };
 
-    ghost later_same = { λ s. (refl, refl, where_told_same (F.at s.files.now).contents (name_of s.kept), keeps_same (F.at s.files.now).contents s.kept, refl, refl) };
+    ghost later_same = { λ s. (
+      refl,
+      refl,
+      where_told_same (F.at s.files.now).contents (name_of s.kept),
+      keeps_same
+          (F.at s.files.now).contents s.kept,
+      refl,
+      refl,
+    ) };
 
-    ghost later_more = { λ a b c h k. (k.0 ∙ h.0, k.1 ∙ h.1, where_told_more (F.at a.files.now).contents (F.at b.files.now).contents (F.at c.files.now).contents (name_of a.kept) (name_of b.kept) h.1 h.2 k.2, keeps_more (F.at a.files.now).contents (F.at b.files.now).contents (F.at c.files.now).contents a.kept b.kept c.kept h.3 k.3, k.4 ∙ h.4, k.5 ∙ h.5) };
+    ghost later_more = { λ a b c h k. (
+      k.0 ∙ h.0,
+      k.1 ∙ h.1,
+      where_told_more (F.at a.files.now).contents
+          (F.at b.files.now).contents (F.at c.files.now).contents (name_of a.kept) (name_of b.kept) h.1 h.2 k.2,
+      keeps_more (F.at a.files.now).contents (F.at b.files.now).contents (F.at c.files.now).contents a.kept b.kept
+          c.kept h.3 k.3,
+      k.4 ∙ h.4,
+      k.5 ∙ h.5,
+    ) };
 }

@@ -21,7 +21,8 @@ pub fn one_line()
 
 /// A text is that of a well-formed line exactly where it has a form whose numbers are right.
 pub fn right_numbers_make_a_line()
-    ensures { (text : List ℕ) → ((form : LineForm) × IsOfForm text form × HasRightNumbers form) ↔ ((line : Line) × SpellsLine text line) }
+    ensures { (text : List ℕ) → ((form : LineForm) × IsOfForm text form × HasRightNumbers form)
+        ↔ ((line : Line) × SpellsLine text line) }
 {}
 
 /// The text of a well-formed line, as `write_line` writes it, is the text of this line, so it is read

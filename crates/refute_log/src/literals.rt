@@ -13,7 +13,8 @@ use std::alloc::{AllocError, Global};
 
 /// Appends the literal that the field is the text of, and says whether it is one.
 fn add_literal(literals: &mut Vec<Lit>, field: &[u8]) -> Result<bool, AllocError>
-    ensures { IfOk result (λ right. MatchBool right (AddsLiteral literals.old.items literals.new.items field.now) (IsLiteral field.now → ⊥)) }
+    ensures { IfOk result (λ right. MatchBool right (AddsLiteral literals.old.items literals.new.items field.now)
+        (IsLiteral field.now → ⊥)) }
 {
     match read_literal(field) {
         Some(literal) => {

@@ -1,5 +1,6 @@
 // Laws of whole logs. The functions do nothing: their contracts are the laws.
-ghost use Rattle.std.specs.Prelude.{◌≡◌, ◌≤◌, ◌+◌, ◌^◌, ◌∷◌, ◌++◌, [], ℕ, List, Some, length, take, slice_get, flat_map, Contains};
+ghost use Rattle.std.specs.Prelude.{◌≡◌, ◌≤◌, ◌+◌, ◌^◌, ◌∷◌, ◌++◌, [], ℕ, List, Some, length, take, slice_get};
+ghost use Rattle.std.specs.Prelude.{flat_map, Contains};
 ghost use Rattle.cnf_core.specs.Lit.{Literal};
 ghost use Rattle.cnf_core.specs.Clause.{AllDistinct, HasAllOf, words_of};
 ghost use Rattle.cnf_core.specs.Assignment.{Assignment, SatisfiesAll};
@@ -9,7 +10,8 @@ ghost use Rattle.outside_io.specs.Counts.{rose_by};
 ghost use Rattle.refute_log.specs.Told.{Lines};
 ghost use Rattle.refute_log.specs.ToldTo.{told_to};
 ghost use Rattle.refute_log.specs.Lines.{AreWellFormed};
-ghost use Rattle.refute_log.specs.Log.{Facts, facts_of, facts_after, added, given, learnt, refuted, Stands, Derives, Open, Due};
+ghost use Rattle.refute_log.specs.Log.{Facts, facts_of, facts_after, added, given, learnt, refuted, Stands, Derives};
+ghost use Rattle.refute_log.specs.Log.{Open, Due};
 
 /// The facts of lines come line by line.
 pub fn facts_come_line_by_line()
@@ -28,7 +30,8 @@ pub fn logs_derive_line_by_line()
 /// Learnt line, the latest query is open.
 pub fn learnt_lines_are_due_line_by_line()
     ensures none { Due [] }
-    ensures more { (lines : Lines) (line : Line) → Due lines → ((c : List Literal) → line ≡ LearntLine c → Open lines) → Due (lines ++ line ∷ []) }
+    ensures more { (lines : Lines) (line : Line) → Due lines → ((c : List Literal) → line ≡ LearntLine c → Open lines) →
+        Due (lines ++ line ∷ []) }
     ensures front { (lines : Lines) (line : Line) → Due (lines ++ line ∷ []) → Due lines }
     ensures last { (lines : Lines) (c : List Literal) → Due (lines ++ LearntLine c ∷ []) → Open lines }
 {}
@@ -55,7 +58,8 @@ pub fn learnt_lines_are_few()
 
 /// The words of a log's clauses are those of its Formula clauses and those of its Learnt clauses.
 pub fn words_are_of_formula_and_learnt_lines()
-    ensures { (lines : Lines) → words_of (facts_of lines).clauses ≡ words_of (flat_map given lines) + words_of (flat_map learnt lines) }
+    ensures { (lines : Lines) → words_of (facts_of lines).clauses
+        ≡ words_of (flat_map given lines) + words_of (flat_map learnt lines) }
 {}
 
 /// A log that keeps its lines keeps those that it was told behind those that it had.

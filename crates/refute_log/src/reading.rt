@@ -1,5 +1,6 @@
 // A line, read from its text.
-ghost use Rattle.std.specs.Prelude.{◌≡◌, ◌≢◌, ◌≤◌, ◌⊎◌, ◌↔◌, ◌++◌, ◌∷◌, ℕ, List, codes, MatchOption, MatchResult, IfOk, IfErr, IsErrOf, IsTrue};
+ghost use Rattle.std.specs.Prelude.{◌≡◌, ◌≢◌, ◌≤◌, ◌⊎◌, ◌↔◌, ◌++◌, ◌∷◌, ℕ, List, codes, MatchOption, MatchResult, IfOk};
+ghost use Rattle.std.specs.Prelude.{IfErr, IsErrOf, IsTrue};
 ghost use Rattle.plan_core.specs.Exactly.{AnswersExactly};
 ghost use Rattle.plan_core.specs.declared.criterion.Criterion.{Criterion as Bounded};
 ghost use Rattle.line_text.specs.Numbers.{IsNumberIn, IsNumberField};
@@ -17,7 +18,8 @@ use std::alloc::Global;
 
 /// The criterion and the two fields for numbers of the text behind the letter of a Bound line.
 fn split_bound(text: &[u8]) -> Option<(Criterion, &[u8], &[u8])>
-    ensures { MatchOption result ((c : Bounded) (k x : Field) → HasBound text.now c k x → ⊥) (λ p. HasBound text.now p.0 p.1.now p.2.now) }
+    ensures { MatchOption result ((c : Bounded) (k x : Field) → HasBound text.now c k x → ⊥)
+        (λ p. HasBound text.now p.0 p.1.now p.2.now) }
 {
     let (word, rest) = cut_field(text)?;
     let criterion = read_criterion(word)?;
@@ -30,7 +32,8 @@ fn split_bound(text: &[u8]) -> Option<(Criterion, &[u8], &[u8])>
 
 /// The value and the variable's number that the two fields are the canonical decimals of.
 fn read_bounded(k: &[u8], variable: &[u8]) -> Option<(u32, u32)>
-    ensures { MatchOption result (IsNumberField 1 MAX_NUMBER k.now × IsNumberField 1 LAST_VAR variable.now → ⊥) (λ p. IsNumberIn 1 MAX_NUMBER k.now p.0 × IsNumberIn 1 LAST_VAR variable.now p.1) }
+    ensures { MatchOption result (IsNumberField 1 MAX_NUMBER k.now × IsNumberField 1 LAST_VAR variable.now → ⊥)
+        (λ p. IsNumberIn 1 MAX_NUMBER k.now p.0 × IsNumberIn 1 LAST_VAR variable.now p.1) }
 {
     let k = read_number(k, MAX_NUMBER)?;
     let variable = read_number(variable, LAST_VAR)?;
@@ -100,7 +103,8 @@ fn read_lettered(
 
 /// The first byte, and what follows the space behind it, if there is one.
 fn split_letter(text: &[u8]) -> Option<(u8, &[u8])>
-    ensures { MatchOption result ((letter : ℕ) (rest : List ℕ) → text.now ≢ letter ∷ (codes " " ++ rest)) (λ p. text.now ≡ p.0 ∷ (codes " " ++ p.1.now)) }
+    ensures { MatchOption result ((letter : ℕ) (rest : List ℕ) → text.now ≢ letter ∷ (codes " " ++ rest))
+        (λ p. text.now ≡ p.0 ∷ (codes " " ++ p.1.now)) }
 {
     match text {
         [letter, b' ', rest @ ..] => Some((*letter, rest)),

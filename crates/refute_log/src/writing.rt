@@ -54,7 +54,8 @@ fn write_bound(
     variable: u32,
     into: &mut Vec<u8>,
 ) -> Result<(), OutOfMemory>
-    ensures ok { OnOk result (into.new.items ≡ into.old.items ++ unended_text (codes "b") (word_of criterion ∷ decimal k ∷ decimal variable ∷ [])) }
+    ensures ok { OnOk result (into.new.items ≡ into.old.items ++ unended_text (codes "b")
+        (word_of criterion ∷ decimal k ∷ decimal variable ∷ [])) }
     ensures begins { Begins into.old.items into.new.items }
 {
     push_text(into, b"b")?;

@@ -99,7 +99,8 @@ fn same_files(left: &Left, whole: &Left) -> bool {
     left.log == whole.log && left.picture == whole.picture
 }
 
-/// Whether a run that writes files answers so where this call of its files fails, and leaves so much of them. Where the read
+/// Whether a run that writes files answers so where this call of its files fails, and leaves so much of them. Where the
+/// read
 /// fails no file is created. Where a later call fails nothing is put, and the picture is begun behind a whole log.
 fn tells_failing_call(left: &Left, whole: &Left, failing: u32) -> bool {
     if left.spared {
@@ -118,7 +119,8 @@ fn tells_failing_call(left: &Left, whole: &Left, failing: u32) -> bool {
     }
 }
 
-/// Whether a run answers so each failing call of its files, in turn until it meets no failure, and then puts this sheet.
+/// Whether a run answers so each failing call of its files, in turn until it meets no failure, and then puts this
+/// sheet.
 fn tells_failing_calls(alloc: Global, words: &[&'static str], sheet: &str) -> Result<bool, Fail> {
     let whole = left_by(alloc, words, &[], &[])?;
     if whole.put.as_slice() != sheet.as_bytes() {
@@ -144,7 +146,8 @@ fn draw_tells_each_failing_call_of_its_files(rt: HostRuntime) -> Result<(), Fail
     Ok(())
 }
 
-/// The words of a run that writes no file, how many files it reads, and the status and the text of the run that meets no
+/// The words of a run that writes no file, how many files it reads, and the status and the text of the run that meets
+/// no
 /// failure.
 type Reading = (&'static [&'static str], u32, u8, &'static str);
 
@@ -193,7 +196,8 @@ fn each_failing_read_is_told(rt: HostRuntime) -> Result<(), Fail> {
     Ok(())
 }
 
-/// Whether a run puts this text in one piece, and ends with 6 where that put fails: then a front of the text was put, and
+/// Whether a run puts this text in one piece, and ends with 6 where that put fails: then a front of the text was put,
+/// and
 /// the files are as they are without a failure.
 fn tells_failing_put(
     alloc: Global,

@@ -61,7 +61,8 @@ fn has_lines(alloc: Global, log: &str, trace: &LineList) -> Result<bool, Fail> {
     Ok(refuted && told == trace.len())
 }
 
-/// Whether a run that names no file for the log puts the same sheet and tells its trace the same lines as one that does.
+/// Whether a run that names no file for the log puts the same sheet and tells its trace the same lines as one that
+/// does.
 fn tells_its_trace(alloc: Global, file: &str) -> Result<bool, Fail> {
     let drawn = logged(alloc, &["draw", "one.xml", "--log", "l"], file)?;
     let words = words_from(alloc, &["draw", "one.xml"])?;

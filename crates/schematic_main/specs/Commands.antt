@@ -1,4 +1,5 @@
--- What differs by command, a row for each: what it reads and writes, what it may leave, what it owes, how it may end, and
+-- What differs by command, a row for each: what it reads and writes, what it may leave, what it owes, how it may end,
+-- and
 -- when its inputs are sound.
 use Rattle.std.specs.Prelude.{◌≡◌, ◌≢◌, ◌⊎◌, ℕ, ⊤, Bool, false, true, List, [], ◌∷◌, ◌++◌, AllPairs, Some, None}
 use Rattle.std.specs.declared.option.Option.{Option}
@@ -6,7 +7,8 @@ use Rattle.outside_io.specs.Contents.{Told, TellsAt}
 use Rattle.plan_core.specs.declared.limits.TheConstants.{MAX_FILE_BYTES, MAX_LOG_BYTES}
 use Rattle.plan_core.specs.Graph.{Graph}
 use Rattle.plan_words.specs.declared.command.Command.{Command}
-use Rattle.plan_words.specs.declared.command.Command.TheVariants.{Draw, Verify, Check, Graph as PrintGraph, Make, Trial, Signals}
+use Rattle.plan_words.specs.declared.command.Command.TheVariants.{Draw, Verify, Check, Graph as PrintGraph, Make}
+use Rattle.plan_words.specs.declared.command.Command.TheVariants.{Trial, Signals}
 use Rattle.track_order.specs.Order.{EdgeOrder}
 use Rattle.refute_log.specs.Lines.{log_text, MayAllBeTold}
 use Rattle.refute_log.specs.Told.{Lines}
@@ -18,7 +20,8 @@ use Rattle.input_answer.specs.Input.{IsShort, HasStation, HasSomeStation, HasFil
 use Rattle.input_answer.specs.Signals.{HasFault}
 use Rattle.sheet_answer.specs.Verdict.{IsSoundSheet}
 use Rattle.input_answer.specs.Met.{Met}
-use Rattle.input_answer.specs.Answer.{InputFile, text_input, log_input, IsPrinted, IsFileJudged, IsAnswerAfter, IsAnswerOn, HasReadStation}
+use Rattle.input_answer.specs.Answer.{InputFile, text_input, log_input, IsPrinted, IsFileJudged, IsAnswerAfter}
+use Rattle.input_answer.specs.Answer.{IsAnswerOn, HasReadStation}
 use Rattle.sheet_answer.specs.Verdict.{IsVerified}
 use Rattle.draw_answer.specs.SearchLog.{IsLogOf}
 use Rattle.draw_answer.specs.Written.{file_named}
@@ -59,7 +62,8 @@ TellsTrace (Make n) = ⊥
 TellsTrace (Trial n) = ⊤
 TellsTrace (Signals input grid order budget log) = log ≡ None
 
--- a command has something to search: draw where it read its file and that has a station, trial where its made file has one,
+-- a command has something to search: draw where it read its file and that has a station, trial where its made file has
+-- one,
 -- and signals where the file that it read has a station and signals without a fault
 abbrev pub MaySearch : Command → Met → Type 0
 MaySearch (Draw input grid order budget svg log) met = HasReadStation input met
@@ -94,21 +98,26 @@ MayLeave (Signals input grid order budget log) met traced name bytes =
 -- ---- what it owes
 
 -- with what the run met and what the trace was told, the status that a command ends with and the text that it puts.
--- verify reads the file, and then the sheet, before it judges what they say, and check so the log too; draw, signals and
+-- verify reads the file, and then the sheet, before it judges what they say, and check so the log too; draw, signals
+-- and
 -- graph read the file alone; make and trial read nothing, and trial judges a made file as draw does one that is read
 abbrev pub Owes : Command → Met → (traced : Lines → Type 0) → Status → List ℕ → Type 0
 Owes (Draw input grid order budget svg log) met traced status text =
-    IsAnswerOn (text_input 1 input) 0 met (IsAnswerAfter 1 met (IsFileJudged (IsDrawAnswer (job grid order budget svg log) met traced))) status text
+    IsAnswerOn (text_input 1 input) 0 met (IsAnswerAfter 1 met
+    (IsFileJudged (IsDrawAnswer (job grid order budget svg log) met traced))) status text
 Owes (PrintGraph input) met traced status text =
     IsAnswerOn (text_input 1 input) 0 met (IsAnswerAfter 1 met (IsFileJudged IsPrinted)) status text
 Owes (Verify input sheet) met traced status text =
-    IsAnswerOn (text_input 1 input) 0 met (λ bytes. IsAnswerOn (text_input 2 sheet) 1 met (IsAnswerAfter 2 met (IsVerified bytes))) status text
+    IsAnswerOn (text_input 1 input) 0 met (λ bytes. IsAnswerOn (text_input 2 sheet) 1 met
+    (IsAnswerAfter 2 met (IsVerified bytes))) status text
 Owes (Check input sheet log) met traced status text =
-    IsAnswerOn (text_input 1 input) 0 met (λ bytes. IsAnswerOn (text_input 2 sheet) 1 met (λ said. IsAnswerOn (log_input 3 log) 2 met (IsAnswerAfter 3 met (IsChecked bytes said)))) status text
+    IsAnswerOn (text_input 1 input) 0 met (λ bytes. IsAnswerOn (text_input 2 sheet) 1 met
+    (λ said. IsAnswerOn (log_input 3 log) 2 met (IsAnswerAfter 3 met (IsChecked bytes said)))) status text
 Owes (Make n) met traced status text = IsMade n status text
 Owes (Trial n) met traced status text = IsFileJudged (IsTried n traced) (station_text n) status text
 Owes (Signals input grid order budget log) met traced status text =
-    IsAnswerOn (text_input 1 input) 0 met (IsAnswerAfter 1 met (IsSignalFileJudged (job grid order budget None log) met traced)) status text
+    IsAnswerOn (text_input 1 input) 0 met (IsAnswerAfter 1 met
+    (IsSignalFileJudged (job grid order budget None log) met traced)) status text
 
 -- ---- how it ends
 
@@ -135,7 +144,8 @@ pub record HasSoundSignals (name : List ℕ) (contents : Option Told) : Type 0 w
   pub sound : (fault : RunFault) → HasFault bytes fault → ⊥
 
 -- the sheet of this name is told, isn't too long, and has no fault as one of such a graph, a drawing being due or not
-pub record HasSoundSheet (name : List ℕ) (contents : Option Told) (needs_drawing : Bool) (IsGraph : Graph → Type 0) : Type 0 where
+pub record HasSoundSheet (name : List ℕ) (contents : Option Told) (needs_drawing : Bool) (IsGraph : Graph → Type 0) :
+    Type 0 where
   pub bytes : List ℕ
   pub there : TellsAt contents name (Some bytes)
   pub short : IsShort MAX_FILE_BYTES bytes
@@ -159,7 +169,8 @@ AreSound (PrintGraph input) contents = HasSoundFile input contents
 AreSound (Verify input sheet) contents =
     (file : HasSoundFile input contents) × HasSoundSheet sheet contents true (HasStationGraph file.bytes)
 AreSound (Check input sheet log) contents =
-    (file : HasSoundFile input contents) × HasSoundSheet sheet contents false (HasStationGraph file.bytes) × HasSoundLog log contents
+    (file : HasSoundFile input contents) × HasSoundSheet sheet contents false (HasStationGraph file.bytes)
+    × HasSoundLog log contents
 AreSound (Make n) contents = ⊤
 AreSound (Trial n) contents = (fault : RunFault) → HasFileFault (station_text n) fault → ⊥
 AreSound (Signals input grid order budget log) contents = HasSoundSignals input contents

@@ -18,7 +18,8 @@ use Rattle.input_answer.specs.Fault.{IsFaultLine}
 use Rattle.input_answer.specs.Input.{IsShort}
 use Rattle.input_answer.specs.Met.{Met, ReadFails}
 use Rattle.draw_answer.specs.Written.{FailsToWrite}
-use Rattle.schematic_main.specs.Commands.{inputs_of, outputs_of, TellsTrace, MayWrite, MayTell, MayLeave, Owes, AreSound, ends_of}
+use Rattle.schematic_main.specs.Commands.{inputs_of, outputs_of, TellsTrace, MayWrite, MayTell, MayLeave, Owes}
+use Rattle.schematic_main.specs.Commands.{AreSound, ends_of}
 
 -- the words ask for a command of which this holds
 abbrev pub Asks : List (List ℕ) → (Command → Type 0) → Type 0
@@ -37,7 +38,8 @@ pub record IsWordsAnswer (words : List (List ℕ)) (status : Status) (text : Lis
 
 -- this is due where the words ask for it, the run met this, and the trace was told this
 abbrev pub IsAnswerDue : List (List ℕ) → Met → (traced : Lines → Type 0) → Status → List ℕ → Type 0
-IsAnswerDue words met traced status text = Asks words (λ command. Owes command met traced status text) ⊎ IsWordsAnswer words status text
+IsAnswerDue words met traced status text = Asks words (λ command. Owes command met traced status text)
+    ⊎ IsWordsAnswer words status text
 
 -- this is a text that the run may answer, with some status
 abbrev pub IsSomeAnswerDue : List (List ℕ) → Met → (traced : Lines → Type 0) → List ℕ → Type 0
@@ -69,8 +71,10 @@ WritesNothing words met = WhereAsked words (λ command. MayWrite command met →
 
 -- the bytes with which a run may leave the file of a name: so may the command that the words ask for, and the run isn't
 -- refused
-abbrev pub RunMayLeave : List (List ℕ) → (Refused : Type 0) → Met → (traced : Lines → Type 0) → (name bytes : List ℕ) → Type 0
-RunMayLeave words Refused met traced name bytes = (Refused → ⊥) × Asks words (λ command. MayLeave command met traced name bytes)
+abbrev pub RunMayLeave : List (List ℕ) → (Refused : Type 0) → Met → (traced : Lines → Type 0) → (name bytes : List ℕ) →
+    Type 0
+RunMayLeave words Refused met traced name bytes = (Refused → ⊥)
+    × Asks words (λ command. MayLeave command met traced name bytes)
 
 -- the command couldn't write what it was to write
 abbrev pub CommandFailsToWrite : Command → Met → (trace_rose : Type 0) → Type 0
@@ -80,7 +84,8 @@ CommandFailsToWrite command met trace_rose = FailsToWrite (outputs_of command) (
 abbrev pub WriteFails : List (List ℕ) → Met → (put_rose trace_rose : Type 0) → Type 0
 WriteFails words met put_rose trace_rose = put_rose ⊎ Asks words (λ command. CommandFailsToWrite command met trace_rose)
 
--- where nothing is wrong with the inputs of the command that the words ask for, and no read and no write failed, the run
+-- where nothing is wrong with the inputs of the command that the words ask for, and no read and no write failed, the
+-- run
 -- ends as its command does, or memory was wanting
 abbrev pub Completes : List (List ℕ) → Met → (put_rose trace_rose : Type 0) → Status → Type 0
 Completes words met put_rose trace_rose status = WhereAsked words (λ command.
@@ -93,7 +98,8 @@ TellsNothing words met = WhereAsked words (λ command. MayTell command met → �
 
 -- ---- a run of check on what a run of draw left
 
--- the later run finds the file that the earlier one read, the text that it put under the name of the sheet, and the log as
+-- the later run finds the file that the earlier one read, the text that it put under the name of the sheet, and the log
+-- as
 -- it left it, which isn't too long to be read
 pub record IsCheckOfDrawn (met next : Met) (input sheet log text : List ℕ) : Type 0 where
   pub before : Told

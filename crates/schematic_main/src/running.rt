@@ -7,7 +7,9 @@ ghost use Rattle.input_answer.specs.Status.{IsAnswered, IsRefused, IsCutShort, E
 ghost use Rattle.refute_log.specs.ToldTo.{told_to};
 ghost use Rattle.input_answer.specs.Met.{between, ReadsInputs, IsUnread, IsUnwritten, Leaves};
 ghost use Rattle.schematic_main.specs.Commands.{inputs_of};
-ghost use Rattle.schematic_main.specs.Run.{Asks, WhereAsked, IsAnswerDue, IsSomeAnswerDue, Completes, GivenAll, GivenPrefix, ReadsNothing, FailsIn, WritesNothing, RunMayLeave, CommandFailsToWrite, WriteFails, TellsNothing};
+ghost use Rattle.schematic_main.specs.Run.{Asks, WhereAsked, IsAnswerDue, IsSomeAnswerDue, Completes, GivenAll};
+ghost use Rattle.schematic_main.specs.Run.{GivenPrefix, ReadsNothing, FailsIn, WritesNothing, RunMayLeave};
+ghost use Rattle.schematic_main.specs.Run.{CommandFailsToWrite, WriteFails, TellsNothing};
 
 use crate::answers::answer_to;
 use input_answer::{Cut, Reply, RunFault, Status, fault_reply};
@@ -74,7 +76,8 @@ fn carry_out<F: Files, O: Sink, T: LogSink>(
         result ≡ Status.Unread → Asks (texts_of words.now) (λ command. FailsIn command met) }
     ensures write_fault { let met = between (F.at files.old) (F.at files.new) in
         let put_rose = Rose (O.faults out.old) (O.faults out.new) in
-        result ≡ Status.Unwritten → WriteFails (texts_of words.now) met put_rose (Rose (T.faults trace.old) (T.faults trace.new)) }
+        result ≡ Status.Unwritten → WriteFails (texts_of words.now) met put_rose
+        (Rose (T.faults trace.old) (T.faults trace.new)) }
     ensures completes { let met = between (F.at files.old) (F.at files.new) in
         let put_rose = Rose (O.faults out.old) (O.faults out.new) in
         let trace_rose = Rose (T.faults trace.old) (T.faults trace.new) in
@@ -114,7 +117,8 @@ pub fn run<F: Files, O: Sink, T: LogSink>(
     out: &mut O,
     trace: &mut T,
 ) -> u8
-    // Every run that isn't cut short has put a whole text: what its command, or the fault of its words, owes with its status.
+    // Every run that isn't cut short has put a whole text: what its command, or the fault of its words, owes with its
+    // status.
     ensures answer { let met = between (F.at files.old) (F.at files.new) in
         let told = told_to T.tells T.learnt trace.old trace.new in
         EndsAs result (λ status. (IsCutShort status → ⊥) →
@@ -137,15 +141,18 @@ pub fn run<F: Files, O: Sink, T: LogSink>(
         let trace_rose = Rose (T.faults trace.old) (T.faults trace.new) in
         EndsAs result (Completes (texts_of words.now) met put_rose trace_rose) }
 
-    // No more reads are done than there are inputs, as many where the run is answered, and none where the words ask for no
+    // No more reads are done than there are inputs, as many where the run is answered, and none where the words ask for
+    // no
     // command that reads a file.
     ensures reads { let met = between (F.at files.old) (F.at files.new) in
         EndsAs result (λ status. WhereAsked (texts_of words.now) (λ command.
         ReadsInputs (length (inputs_of command)) (IsAnswered status) met)) }
     ensures unread { ReadsNothing (texts_of words.now) → IsUnread (between (F.at files.old) (F.at files.new)) }
 
-    // No file is written but those that the words name for it, and none by a run that is refused or has nothing to search. With
-    // every status one that is named for a log begins a log's text, and one for a picture that of the drawing with which a
+    // No file is written but those that the words name for it, and none by a run that is refused or has nothing to
+    // search. With
+    // every status one that is named for a log begins a log's text, and one for a picture that of the drawing with
+    // which a
     // search of the file's station ended; or it stands as it stood.
     ensures unwritten { let met = between (F.at files.old) (F.at files.new) in
         EndsAs result (λ status. IsRefused status ⊎ WritesNothing (texts_of words.now) met →

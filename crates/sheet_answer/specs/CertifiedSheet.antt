@@ -17,7 +17,8 @@ use Rattle.log_check.specs.Claimed.{CertifiesClaim, IsTrueClaim}
 use Rattle.input_answer.specs.Input.{IsShort, HasStation}
 use Rattle.sheet_answer.specs.CheckLine.{claim_of}
 
--- the bytes are the text of the sheet, whose drawing is lawful, if it has one; and the whole log is accepted, by what is
+-- the bytes are the text of the sheet, whose drawing is lawful, if it has one; and the whole log is accepted, by what
+-- is
 -- expected of it, and certifies what the sheet claims
 pub record CertifiesSheet (g : Graph) (o : EdgeOrder) (sheet log : List ℕ) (said : Sheet) : Type 0 where
   pub is_text : IsSheetText g false sheet said
@@ -30,11 +31,13 @@ pub record CertifiesSheet (g : Graph) (o : EdgeOrder) (sheet log : List ℕ) (sa
 
 -- what the sheet claims is so
 abbrev pub ClaimsTruly : Graph → EdgeOrder → Sheet → Type 0
-ClaimsTruly g o said = IsTrueClaim (Lawful g (is_above o) said.grid) said.order (claim_of said.order said.found said.ending)
+ClaimsTruly g o said = IsTrueClaim (Lawful g (is_above o) said.grid) said.order
+    (claim_of said.order said.found said.ending)
 
 -- the files of these three names, as far as files are told: the first has this station, the second is the text of this
 -- sheet, and the third, which isn't too long to be read, is a log that certifies what the sheet claims of the station
-pub record HasCertifiedFiles (contents : Option Told) (input sheet log : List ℕ) (g : Graph) (o : EdgeOrder) (said : Sheet) : Type 0 where
+pub record HasCertifiedFiles (contents : Option Told) (input sheet log : List ℕ) (g : Graph) (o : EdgeOrder)
+    (said : Sheet) : Type 0 where
   pub file : List ℕ
   pub is_file : IsFileWhereTold contents input file
   pub station : HasStation file g o

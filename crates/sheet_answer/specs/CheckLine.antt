@@ -61,7 +61,8 @@ verdict_status (verdicts.Faulty what line) = fault_status (Log what line)
 abbrev pub verdict_line : (places : ℕ) → Verdict → List ℕ
 verdict_line places verdicts.Certified = line_text (codes "certified") (decimal places ∷ [])
 verdict_line places (verdicts.Lacks place) = line_text (codes "check Lacks place") (decimal place ∷ [])
-verdict_line places (verdicts.Refused why line) = line_text (codes "check") (word_of why ∷ codes "line" ∷ decimal line ∷ [])
+verdict_line places (verdicts.Refused why line) = line_text (codes "check")
+    (word_of why ∷ codes "line" ∷ decimal line ∷ [])
 verdict_line places (verdicts.Faulty what line) = fault_line (Log what line)
 
 -- the answer tells the verdict

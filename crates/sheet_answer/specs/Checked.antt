@@ -25,24 +25,28 @@ IsFoundBroken g o said None status text = ⊥
 IsFoundBroken g o said (Some d) status text = IsBrokenAnswer g o said.grid d status text
 
 -- the sheet's drawing is lawful, if there is one, and the answer tells the verdict on the log
-pub record IsClaimChecked (g : Graph) (o : EdgeOrder) (said : Sheet) (log : List ℕ) (status : Status) (text : List ℕ) : Type 0 where
+pub record IsClaimChecked (g : Graph) (o : EdgeOrder) (said : Sheet) (log : List ℕ) (status : Status) (text : List ℕ) :
+    Type 0 where
   pub lawful : IfSome said.found (Lawful g (is_above o) said.grid)
   pub verdict : Verdict
   pub judged : IsLogJudged (layout g o said.grid) said.order (claim_of said.order said.found said.ending) log verdict
   pub told : TellsVerdict (claimed said.order said.ending) verdict status text
 
 abbrev pub IsSheetAnswer : Graph → EdgeOrder → Sheet → List ℕ → Status → List ℕ → Type 0
-IsSheetAnswer g o said log status text = IsFoundBroken g o said said.found status text ⊎ IsClaimChecked g o said log status text
+IsSheetAnswer g o said log status text = IsFoundBroken g o said said.found status text
+    ⊎ IsClaimChecked g o said log status text
 
 -- the bytes are the text of a sheet, and it and the log are answered so
-pub record IsSheetChecked (g : Graph) (o : EdgeOrder) (sheet log : List ℕ) (status : Status) (text : List ℕ) : Type 0 where
-  pub said : Sheet
-  pub is_text : IsSheetText g false sheet said
-  pub answer : IsSheetAnswer g o said log status text
+pub record IsSheetChecked (g : Graph) (o : EdgeOrder) (sheet log : List ℕ) (status : Status) (text : List ℕ) : Type 0
+  where
+    pub said : Sheet
+    pub is_text : IsSheetText g false sheet said
+    pub answer : IsSheetAnswer g o said log status text
 
 -- or they have a fault, and this is its line
 abbrev pub IsClaimJudged : Graph → EdgeOrder → (sheet log : List ℕ) → Status → List ℕ → Type 0
-IsClaimJudged g o sheet log status text = IsSheetChecked g o sheet log status text ⊎ IsSheetRefused g false sheet status text
+IsClaimJudged g o sheet log status text = IsSheetChecked g o sheet log status text
+    ⊎ IsSheetRefused g false sheet status text
 
 -- what check answers to the bytes of the file, the sheet and the log: the file's fault comes first, then the sheet's
 abbrev pub IsChecked : (file sheet log : List ℕ) → Status → List ℕ → Type 0
@@ -51,4 +55,5 @@ IsChecked file sheet log status text = IsFileJudged (λ g o. IsClaimJudged g o s
 -- check of this sheet with the log of these lines ends with 0
 abbrev pub PassesCheck : Graph → EdgeOrder → Sheet → Lines → Type 0
 PassesCheck g o s lines =
-    IsClaimJudged g o (sheet_text g s) (log_text lines) Done (verdict_line (claimed s.order s.ending) verdicts.Certified)
+    IsClaimJudged g o (sheet_text g s) (log_text lines) Done
+    (verdict_line (claimed s.order s.ending) verdicts.Certified)

@@ -29,7 +29,8 @@ use Rattle.input_answer.specs.Answer.{IsFileJudged}
 
 -- the line of a lawful drawing: what it measures
 abbrev pub lawful_line : Values → List ℕ
-lawful_line values = line_text (codes "lawful") (map decimal (values.height ∷ values.bends ∷ values.diagonal ∷ values.width ∷ []))
+lawful_line values = line_text (codes "lawful") (map decimal
+    (values.height ∷ values.bends ∷ values.diagonal ∷ values.width ∷ []))
 
 abbrev pub party_fields : Party → List (List ℕ)
 party_fields (party.Node n) = codes "node" ∷ decimal n.0 ∷ []
@@ -47,13 +48,15 @@ broken_line b = line_text (codes "broken law") (decimal b.law ∷ party_fields b
 -- ---- the verdict on a drawing
 
 -- the drawing is lawful, and the answer says what it measures
-pub record IsLawfulAnswer (g : Graph) (o : EdgeOrder) (grid : GridSize) (d : Drawing) (status : Status) (text : List ℕ) : Type 0 where
+pub record IsLawfulAnswer (g : Graph) (o : EdgeOrder) (grid : GridSize) (d : Drawing) (status : Status) (text : List ℕ)
+    : Type 0 where
   pub lawful : Lawful g (is_above o) grid d
   pub status_is : status ≡ Done
   pub line_is : text ≡ lawful_line (values_of d)
 
 -- the drawing breaks a law, and the answer names the least one with its least parties
-pub record IsBrokenAnswer (g : Graph) (o : EdgeOrder) (grid : GridSize) (d : Drawing) (status : Status) (text : List ℕ) : Type 0 where
+pub record IsBrokenAnswer (g : Graph) (o : EdgeOrder) (grid : GridSize) (d : Drawing) (status : Status) (text : List ℕ)
+    : Type 0 where
   pub broken : LawBreak
   pub least : IsLeastBreak g (is_above o) grid d broken
   pub status_is : status ≡ Broken
@@ -72,11 +75,12 @@ pub record IsDrawingJudged (g : Graph) (o : EdgeOrder) (sheet : List ℕ) (statu
   pub verdict : IsVerdict g o grid drawn status text
 
 -- the sheet's text has this fault first, a drawing being due or not, and this is its line
-pub record IsSheetRefused (g : Graph) (needs_drawing : Bool) (sheet : List ℕ) (status : Status) (text : List ℕ) : Type 0 where
-  pub what : SheetWhat
-  pub line : ℕ
-  pub first : HasSheetFault g needs_drawing sheet what line
-  pub answers : IsFaultLine (Sheet what line) status text
+pub record IsSheetRefused (g : Graph) (needs_drawing : Bool) (sheet : List ℕ) (status : Status) (text : List ℕ) : Type 0
+  where
+    pub what : SheetWhat
+    pub line : ℕ
+    pub first : HasSheetFault g needs_drawing sheet what line
+    pub answers : IsFaultLine (Sheet what line) status text
 
 -- what is answered where a drawing is due
 abbrev pub IsSheetJudged : Graph → EdgeOrder → List ℕ → Status → List ℕ → Type 0
@@ -92,9 +96,11 @@ pub record IsSoundSheet (g : Graph) (needs_drawing : Bool) (sheet : List ℕ) : 
 abbrev pub IsVerified : List ℕ → List ℕ → Status → List ℕ → Type 0
 IsVerified bytes sheet status text = IsFileJudged (λ g o. IsSheetJudged g o sheet) bytes status text
 
--- the files of these two names, as far as files are told: the first has this station, and the second is the text of a sheet
+-- the files of these two names, as far as files are told: the first has this station, and the second is the text of a
+-- sheet
 -- with this drawing on this grid
-pub record HasDrawnFiles (contents : Option Told) (input sheet : List ℕ) (g : Graph) (o : EdgeOrder) (grid : GridSize) (d : Drawing) : Type 0 where
+pub record HasDrawnFiles (contents : Option Told) (input sheet : List ℕ) (g : Graph) (o : EdgeOrder) (grid : GridSize)
+    (d : Drawing) : Type 0 where
   pub file : List ℕ
   pub is_file : IsFileWhereTold contents input file
   pub station : HasStation file g o

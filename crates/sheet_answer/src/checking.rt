@@ -9,7 +9,8 @@ ghost use Rattle.log_check.specs.Claimed.{IsClaimOf};
 ghost use Rattle.input_answer.specs.Status.{IsAnswered};
 ghost use Rattle.input_answer.specs.Met.{between, ReadsInputs, IsUnwritten};
 ghost use Rattle.input_answer.specs.Answer.{text_input, log_input, IsAnswerAfter, IsAnswerOn};
-ghost use Rattle.sheet_answer.specs.CheckLine.{claimed as claimed_by, claim_of as claim_in, refusal_status as status_for, verdict_line as line_for, TellsVerdict};
+ghost use Rattle.sheet_answer.specs.CheckLine.{claimed as claimed_by, claim_of as claim_in};
+ghost use Rattle.sheet_answer.specs.CheckLine.{refusal_status as status_for, verdict_line as line_for, TellsVerdict};
 ghost use Rattle.sheet_answer.specs.Checked.{IsFoundBroken, IsSheetAnswer, IsClaimJudged, IsChecked};
 
 use crate::verdict::broken_reply;
@@ -128,7 +129,8 @@ fn broken_sheet(
 ) -> Result<Option<Reply>, OutOfMemory>
     requires order { IsOrderOf station.now.graph station.now.order }
     requires drawn { DrawsAll station.now.graph sheet.now }
-    ensures { IfOk result (λ r. MatchOption r (IfSome sheet.now.found (Lawful station.now.graph (is_above station.now.order)
+    ensures { IfOk result (λ r. MatchOption r (IfSome sheet.now.found
+        (Lawful station.now.graph (is_above station.now.order)
         sheet.now.grid)) (λ x. IsFoundBroken station.now.graph station.now.order sheet.now sheet.now.found
         x.status x.text.items)) }
 {
@@ -149,7 +151,8 @@ fn check_claim(
     requires drawn { DrawsAll station.now.graph sheet.now }
     requires claim { IsClaimOf sheet.now.order (claim_in sheet.now.order sheet.now.found sheet.now.ending) }
     requires short { length log.now ≤ MAX_LOG_BYTES }
-    ensures { IfOk result (λ r. IsSheetAnswer station.now.graph station.now.order sheet.now log.now r.status r.text.items) }
+    ensures { IfOk result (λ r. IsSheetAnswer station.now.graph station.now.order sheet.now log.now r.status
+        r.text.items) }
 {
     if let Some(reply) = broken_sheet(alloc, station, sheet)? {
         return Ok(reply);
@@ -176,7 +179,8 @@ fn judge_sheet(
 ) -> Result<Reply, OutOfMemory>
     requires order { IsOrderOf station.now.graph station.now.order }
     requires short { length log.now ≤ MAX_LOG_BYTES }
-    ensures { IfOk result (λ r. IsClaimJudged station.now.graph station.now.order sheet.now log.now r.status r.text.items) }
+    ensures { IfOk result (λ r. IsClaimJudged station.now.graph station.now.order sheet.now log.now r.status
+        r.text.items) }
 {
     match read_sheet(alloc, &station.graph, sheet) {
         Ok(sheet) => check_claim(alloc, station, &sheet, log),

@@ -20,49 +20,61 @@ ghost use Rattle.sheet_answer.specs.CertifiedSheet.{CertifiesSheet, ClaimsTruly}
 
 /// A sheet has one answer at most for a station: one status, with one text.
 pub fn one_sheet_answer()
-    ensures status { (g : Graph) (o : EdgeOrder) (sheet : List ℕ) (status other : Status) (text another : List ℕ) → IsSheetJudged g
+    ensures status { (g : Graph) (o : EdgeOrder) (sheet : List ℕ) (status other : Status) (text another : List ℕ) →
+        IsSheetJudged g
         o sheet status text → IsSheetJudged g o sheet other another → status ≡ other }
-    ensures text { (g : Graph) (o : EdgeOrder) (sheet : List ℕ) (status other : Status) (text another : List ℕ) → IsSheetJudged g
+    ensures text { (g : Graph) (o : EdgeOrder) (sheet : List ℕ) (status other : Status) (text another : List ℕ) →
+        IsSheetJudged g
         o sheet status text → IsSheetJudged g o sheet other another → text ≡ another }
 {}
 
 /// Where a sheet's text is that of a drawing, its answer has the status 0 exactly where the drawing is lawful,
 /// and then the line of what it measures, and 8 exactly where it isn't.
 pub fn verdict_of_drawing()
-    ensures lawful { (g : Graph) (o : EdgeOrder) (sheet : List ℕ) (grid : GridSize) (d : Drawing) (status : Status) (text : List ℕ)
+    ensures lawful { (g : Graph) (o : EdgeOrder) (sheet : List ℕ) (grid : GridSize) (d : Drawing) (status : Status)
+        (text : List ℕ)
         → IsDrawingOf g sheet grid d → IsSheetJudged g o sheet status text → (status ≡ Done) ↔ Lawful g (is_above
         o) grid d }
-    ensures line { (g : Graph) (o : EdgeOrder) (sheet : List ℕ) (grid : GridSize) (d : Drawing) (status : Status) (text : List ℕ)
+    ensures line { (g : Graph) (o : EdgeOrder) (sheet : List ℕ) (grid : GridSize) (d : Drawing) (status : Status)
+        (text : List ℕ)
         → IsDrawingOf g sheet grid d → IsSheetJudged g o sheet status text → Lawful g (is_above o) grid d → text ≡
         lawful_line (values_of d) }
-    ensures broken { (g : Graph) (o : EdgeOrder) (sheet : List ℕ) (grid : GridSize) (d : Drawing) (status : Status) (text : List ℕ)
+    ensures broken { (g : Graph) (o : EdgeOrder) (sheet : List ℕ) (grid : GridSize) (d : Drawing) (status : Status)
+        (text : List ℕ)
         → IsDrawingOf g sheet grid d → IsSheetJudged g o sheet status text → (status ≡ Broken) ↔ (Lawful g
         (is_above o) grid d → ⊥) }
 {}
 
 /// A file and a sheet have one answer at most: one status, with one text.
 pub fn one_answer_to_a_file()
-    ensures status { (bytes sheet : List ℕ) (status other : Status) (text another : List ℕ) → IsVerified bytes sheet status text →
+    ensures status { (bytes sheet : List ℕ) (status other : Status) (text another : List ℕ) →
+        IsVerified bytes sheet status text →
         IsVerified bytes sheet other another → status ≡ other }
-    ensures text { (bytes sheet : List ℕ) (status other : Status) (text another : List ℕ) → IsVerified bytes sheet status text →
+    ensures text { (bytes sheet : List ℕ) (status other : Status) (text another : List ℕ) →
+        IsVerified bytes sheet status text →
         IsVerified bytes sheet other another → text ≡ another }
 {}
 
 /// A file, a sheet and a log have one answer of `check` at most: one status, with one text.
 pub fn one_answer_of_check()
-    ensures status { (file sheet log : List ℕ) (status other : Status) (text another : List ℕ) → IsChecked file sheet log status
+    ensures status { (file sheet log : List ℕ) (status other : Status) (text another : List ℕ) →
+        IsChecked file sheet log status
         text → IsChecked file sheet log other another → status ≡ other }
-    ensures text { (file sheet log : List ℕ) (status other : Status) (text another : List ℕ) → IsChecked file sheet log status
+    ensures text { (file sheet log : List ℕ) (status other : Status) (text another : List ℕ) →
+        IsChecked file sheet log status
         text → IsChecked file sheet log other another → text ≡ another }
 {}
 
-/// `check` ends with 0 exactly where the log certifies what the sheet claims of the file's station; its line tells then on
+/// `check` ends with 0 exactly where the log certifies what the sheet claims of the file's station; its line tells then
+/// on
 /// how many criteria, and what is claimed is so, whoever wrote the log.
 pub fn certified_exactly()
-    ensures due { (file sheet log : List ℕ) (g : Graph) (o : EdgeOrder) (said : PlainSheet) (status : Status) (text : List ℕ) →
+    ensures due { (file sheet log : List ℕ) (g : Graph) (o : EdgeOrder) (said : PlainSheet) (status : Status)
+        (text : List ℕ) →
         HasStation file g o → CertifiesSheet g o sheet log said → IsChecked file sheet log status text → (status ≡
         Done) × (text ≡ verdict_line (claimed said.order said.ending) Certified) }
-    ensures only { (file sheet log text : List ℕ) → IsChecked file sheet log Done text → (g : Graph) × (o : EdgeOrder) × (said :
+    ensures only { (file sheet log text : List ℕ) → IsChecked file sheet log Done text → (g : Graph) × (o : EdgeOrder)
+        × (said :
         PlainSheet) × HasStation file g o × CertifiesSheet g o sheet log said × ClaimsTruly g o said × (text ≡
         verdict_line (claimed said.order said.ending) Certified) }
 {}

@@ -3,7 +3,8 @@ ghost use Rattle.std.specs.Prelude.{◌≡◌, ◌++◌, IfOk, OnOk, MatchOption
 ghost use Rattle.track_order.specs.Order.{is_above, IsOrderOf};
 ghost use Rattle.plan_core.specs.Lawful.{HasSizeOf, Lawful};
 ghost use Rattle.line_text.specs.Fields.{spaced};
-ghost use Rattle.sheet_answer.specs.Verdict.{lawful_line, broken_line, party_fields, second_fields, IsBrokenAnswer, IsVerdict};
+ghost use Rattle.sheet_answer.specs.Verdict.{lawful_line, broken_line, party_fields, second_fields, IsBrokenAnswer};
+ghost use Rattle.sheet_answer.specs.Verdict.{IsVerdict};
 
 use input_answer::{Reply, Station, Status};
 use lawful_check::{LawBreak, Party, broken};
@@ -73,7 +74,8 @@ pub fn broken_reply(
 ) -> Result<Option<Reply>, OutOfMemory>
     requires order { IsOrderOf station.now.graph station.now.order }
     requires fitting { HasSizeOf station.now.graph drawing.now }
-    ensures { IfOk result (λ r. MatchOption r (Lawful station.now.graph (is_above station.now.order) grid.now drawing.now)
+    ensures { IfOk result (λ r. MatchOption r (Lawful station.now.graph (is_above station.now.order) grid.now
+        drawing.now)
         (λ x. IsBrokenAnswer station.now.graph station.now.order grid.now drawing.now x.status x.text.items)) }
 {
     match broken(&station.graph, &station.order, grid, drawing) {
@@ -95,7 +97,8 @@ pub fn verdict(
 ) -> Result<Reply, OutOfMemory>
     requires order { IsOrderOf station.now.graph station.now.order }
     requires fitting { HasSizeOf station.now.graph drawing.now }
-    ensures { IfOk result (λ r. IsVerdict station.now.graph station.now.order grid.now drawing.now r.status r.text.items) }
+    ensures { IfOk result (λ r. IsVerdict station.now.graph station.now.order grid.now drawing.now r.status
+        r.text.items) }
 {
     match broken_reply(alloc, station, grid, drawing)? {
         None => Ok(Reply {

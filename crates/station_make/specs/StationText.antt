@@ -88,4 +88,5 @@ file_end = codes "</tracks></infrastructure></railml>\n"
 
 -- the main track, and then the tracks of all loops from the west
 abbrev pub station_text : ℕ → List ℕ
-station_text n = byte_order_mark ++ (file_begin n ++ (main_track n ++ (flat_map loop_track (range_with_len 0 (loops n)) ++ file_end)))
+station_text n = byte_order_mark ++ (file_begin n ++
+    (main_track n ++ (flat_map loop_track (range_with_len 0 (loops n)) ++ file_end)))

@@ -2,7 +2,8 @@
 ghost use Rattle.std.specs.Prelude.{◌≡◌, ◌<◌, ◌++◌, OnOk, flat_map};
 ghost use Rattle.std.specs.List.{range_with_len};
 ghost use Rattle.station_make.specs.Station.{loops};
-ghost use Rattle.station_make.specs.StationText.{eastward_hand, westward_hand, leaving_switch, returning_switch, switches, main_begin, main_end, main_track};
+ghost use Rattle.station_make.specs.StationText.{eastward_hand, westward_hand, leaving_switch, returning_switch};
+ghost use Rattle.station_make.specs.StationText.{switches, main_begin, main_end, main_track};
 
 use crate::numbered::push_numbered;
 use crate::station::{leaving, loops, main_length, returning, side};

@@ -10,23 +10,35 @@ ghost use Rattle.plan_core.specs.Grid.{GridSize, grid_size};
 ghost use Rattle.plan_core.specs.Graph.{Graph, Overlap, IsTrackGraph};
 ghost use Rattle.plan_core.specs.Drawing.{Drawing};
 ghost use Rattle.plan_core.specs.Line.{Piece, is_piece, is_shape, is_line, bends, diagonal, height};
-ghost use Rattle.plan_core.specs.Lawful.{Fits, Lawful, NodeOnGrid, LineOnGrid, Ordered, Joined, Aligned, Apart, Over, Parted};
+ghost use Rattle.plan_core.specs.Lawful.{Fits, Lawful, NodeOnGrid, LineOnGrid, Ordered, Joined, Aligned, Apart, Over};
+ghost use Rattle.plan_core.specs.Lawful.{Parted};
 ghost use Rattle.plan_core.specs.Laws.{LineJoinsItsNodes};
 ghost use Rattle.plan_core.specs.Values.{values_of, value_of, limit_of, Better};
 ghost use Rattle.plan_core.specs.Readings.{MeetsItsNodes, IsLessAt, Interpolates, columns_off_level};
-ghost use Rattle.plan_core.specs.Examples.{point_at, longer, usual_grid, roomy_grid, roomy_drawing, measured, IsWorked, one_graph, none_above, one_drawing, loop_graph, loop_above, loop_drawing, back_graph, back_drawing, cross_graph, cross_above, cross_drawing, two_graph, two_drawing, scissors_graph, scissors_above, scissors_drawing, station_graph, station_above, station_drawing, farthest_drawing};
-ghost use Rattle.plan_core.specs.Breaches.{BreaksJust, meeting_graph, parted_graph, joined_graph, too_wide, too_high, uneven, swapped, short, exchanged, crowded, too_steep, bent_rising_path, bent_falling_path, bent_main, sloping, kinked, one_point, touching, begins_above, ends_below, touched_drawing, crossed_drawing, backwards_graph, flat_graph, loose_graph, misplaced_graph, stray_graph, one_legged_graph, idle_graph};
+ghost use Rattle.plan_core.specs.Examples.{point_at, longer, usual_grid, roomy_grid, roomy_drawing, measured, IsWorked};
+ghost use Rattle.plan_core.specs.Examples.{one_graph, none_above, one_drawing, loop_graph, loop_above, loop_drawing};
+ghost use Rattle.plan_core.specs.Examples.{back_graph, back_drawing, cross_graph, cross_above, cross_drawing};
+ghost use Rattle.plan_core.specs.Examples.{two_graph, two_drawing, scissors_graph, scissors_above, scissors_drawing};
+ghost use Rattle.plan_core.specs.Examples.{station_graph, station_above, station_drawing, farthest_drawing};
+ghost use Rattle.plan_core.specs.Breaches.{BreaksJust, meeting_graph, parted_graph, joined_graph, too_wide, too_high};
+ghost use Rattle.plan_core.specs.Breaches.{uneven, swapped, short, exchanged, crowded, too_steep, bent_rising_path};
+ghost use Rattle.plan_core.specs.Breaches.{bent_falling_path, bent_main, sloping, kinked, one_point, touching};
+ghost use Rattle.plan_core.specs.Breaches.{begins_above, ends_below, touched_drawing, crossed_drawing, backwards_graph};
+ghost use Rattle.plan_core.specs.Breaches.{flat_graph, loose_graph, misplaced_graph, stray_graph, one_legged_graph};
+ghost use Rattle.plan_core.specs.Breaches.{idle_graph};
 
 // Each worked drawing is lawful, and measures height, bends, diagonal and width as stated.
 fn worked_drawings()
     ensures one_track { IsWorked one_graph none_above usual_grid one_drawing (measured 0 0 0 1) }
-    ensures one_track_as_far_out_as_the_grid_goes { IsWorked one_graph none_above usual_grid farthest_drawing (measured 8 0 0 40) }
+    ensures one_track_as_far_out_as_the_grid_goes { IsWorked one_graph none_above usual_grid farthest_drawing
+        (measured 8 0 0 40) }
     ensures a_loop { IsWorked loop_graph loop_above usual_grid loop_drawing (measured 1 2 2 5) }
     ensures a_loop_listed_backwards { IsWorked back_graph loop_above usual_grid back_drawing (measured 1 2 2 5) }
     ensures a_crossover { IsWorked cross_graph cross_above usual_grid cross_drawing (measured 1 0 1 3) }
     ensures two_tracks { IsWorked two_graph none_above usual_grid two_drawing (measured 1 0 0 1) }
     ensures scissors { IsWorked scissors_graph scissors_above usual_grid scissors_drawing (measured 2 0 4 4) }
-    ensures a_loop_with_two_columns_for_each_edge { IsWorked loop_graph loop_above roomy_grid roomy_drawing (measured 1 2 2 7) }
+    ensures a_loop_with_two_columns_for_each_edge { IsWorked loop_graph loop_above roomy_grid roomy_drawing
+        (measured 1 2 2 7) }
     ensures a_station { IsWorked station_graph station_above usual_grid station_drawing (measured 2 2 3 7) }
 {}
 
@@ -35,11 +47,13 @@ fn broken_drawings()
     ensures too_wide { BreaksJust one_graph none_above usual_grid too_wide (NodeOnGrid 1 ∷ LineOnGrid 0 ∷ []) }
     ensures too_high { BreaksJust loop_graph loop_above usual_grid too_high (LineOnGrid 3 ∷ []) }
     ensures uneven { BreaksJust two_graph none_above usual_grid uneven (Ordered 1 3 ∷ []) }
-    ensures swapped { BreaksJust parted_graph none_above usual_grid swapped (Ordered 0 2 ∷ Ordered 0 3 ∷ Ordered 1 2 ∷ Ordered 1 3 ∷ []) }
+    ensures swapped { BreaksJust parted_graph none_above usual_grid swapped
+        (Ordered 0 2 ∷ Ordered 0 3 ∷ Ordered 1 2 ∷ Ordered 1 3 ∷ []) }
     ensures short { BreaksJust one_graph none_above usual_grid short (Joined 0 ∷ []) }
     ensures exchanged { BreaksJust two_graph none_above usual_grid exchanged (Joined 0 ∷ Joined 1 ∷ []) }
     ensures crowded { BreaksJust loop_graph loop_above roomy_grid crowded (Joined 2 ∷ []) }
-    ensures a_loop_with_one_column_at_its_ends { BreaksJust loop_graph loop_above roomy_grid loop_drawing (Joined 0 ∷ Joined 2 ∷ []) }
+    ensures a_loop_with_one_column_at_its_ends { BreaksJust loop_graph loop_above roomy_grid loop_drawing
+        (Joined 0 ∷ Joined 2 ∷ []) }
     ensures too_steep { BreaksJust loop_graph loop_above usual_grid too_steep (Aligned 3 ∷ []) }
     ensures bent_rising_path { BreaksJust scissors_graph scissors_above usual_grid bent_rising_path (Aligned 8 ∷ []) }
     ensures bent_falling_path { BreaksJust scissors_graph scissors_above usual_grid bent_falling_path (Aligned 8 ∷ []) }
@@ -77,7 +91,8 @@ fn lines()
     ensures upright { is_line (point_at 0 0 ∷ point_at 0 1 ∷ []) ≡ false }
     ensures westwards { is_line (point_at 2 0 ∷ point_at 0 0 ∷ []) ≡ false }
     ensures a_point { is_line (point_at 0 0 ∷ []) ≡ false }
-    ensures five_points { is_line (point_at 0 0 ∷ point_at 1 1 ∷ point_at 2 1 ∷ point_at 3 2 ∷ point_at 4 2 ∷ []) ≡ false }
+    ensures five_points { is_line (point_at 0 0 ∷ point_at 1 1 ∷ point_at 2 1 ∷ point_at 3 2 ∷ point_at 4 2 ∷ [])
+        ≡ false }
     ensures its_bends { bends (point_at 0 0 ∷ point_at 1 1 ∷ point_at 2 1 ∷ point_at 4 3 ∷ []) ≡ 2 }
     ensures its_diagonal { diagonal (point_at 0 0 ∷ point_at 1 1 ∷ point_at 2 1 ∷ point_at 4 3 ∷ []) ≡ 3 }
     ensures its_height { height (point_at 0 0 ∷ point_at 1 1 ∷ point_at 2 1 ∷ point_at 4 3 ∷ []) 3 ≡ 2 }
@@ -118,13 +133,18 @@ fn overlaps()
 // What the definitions come to in other words, for every graph, drawing, line and order.
 fn other_readings()
     ensures two_to_four_points { (l : List Point) → is_line l ≡ true → (2 ≤ length l) × (length l ≤ 4) }
-    ensures heights_interpolate { (p : Piece) (x : ℕ) → is_piece p ≡ true → p.west.x ≤ x → x ≤ p.east.x → Interpolates p x }
+    ensures heights_interpolate { (p : Piece) (x : ℕ) → is_piece p ≡ true → p.west.x ≤ x → x ≤ p.east.x →
+        Interpolates p x }
     ensures diagonal_counts_columns { (l : List Point) → is_line l ≡ true → diagonal l ≡ columns_off_level l }
-    ensures no_value_passes_its_limit { (g : Graph) (above : ℕ → ℕ → Bool) (grid : GridSize) (d : Drawing) → Lawful g above grid d → (c : Criterion) → value_of (values_of d) c ≤ limit_of g grid c }
-    ensures least_1_asks_no_more_than_that_ends_meet { (g : Graph) (width height : ℕ) (d : Drawing) (e : ℕ) → Fits g d → e < length g.edges → MeetsItsNodes g d e → LineJoinsItsNodes g (grid_size width height) d e }
-    ensures better_is_less_at_some_place { (order : List Criterion) (a b : Values) → Better order a b ↔ (i : ℕ) × IsLessAt order a b i }
+    ensures no_value_passes_its_limit { (g : Graph) (above : ℕ → ℕ → Bool) (grid : GridSize) (d : Drawing) →
+        Lawful g above grid d → (c : Criterion) → value_of (values_of d) c ≤ limit_of g grid c }
+    ensures least_1_asks_no_more_than_that_ends_meet { (g : Graph) (width height : ℕ) (d : Drawing) (e : ℕ) → Fits g d →
+        e < length g.edges → MeetsItsNodes g d e → LineJoinsItsNodes g (grid_size width height) d e }
+    ensures better_is_less_at_some_place { (order : List Criterion) (a b : Values) → Better order a b ↔ (i : ℕ)
+        × IsLessAt order a b i }
     ensures nothing_is_better_than_itself { (order : List Criterion) (a : Values) → Better order a a → ⊥ }
-    ensures better_than_a_better_one { (order : List Criterion) (a b c : Values) → Better order a b → Better order b c → Better order a c }
+    ensures better_than_a_better_one { (order : List Criterion) (a b c : Values) → Better order a b → Better order b c →
+        Better order a c }
 {}
 
 // How great the values of the loop's drawings may be: 4 edges, and columns 0 to 40 and rows 0 to 8.

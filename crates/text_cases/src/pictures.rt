@@ -41,7 +41,8 @@ fn a_track_has_its_picture(rt: HostRuntime) -> Result<(), Fail> {
 // definitions.
 fn picture_of_one_track()
     ensures extent { picture_begin 1 0 ≡ codes "<svg xmlns=\"http://www.w3.org/2000/svg\" viewBox=\"0 0 80 40\">\n" }
-    ensures track { polyline 0 (point_at 0 0 ∷ point_at 1 0 ∷ []) ≡ codes "<polyline points=\"20,20 60,20\" fill=\"none\" stroke=\"black\"/>\n" }
+    ensures track { polyline 0 (point_at 0 0 ∷ point_at 1 0 ∷ []) ≡ codes
+        "<polyline points=\"20,20 60,20\" fill=\"none\" stroke=\"black\"/>\n" }
     ensures west_name { label_begin 0 (point_at 0 0) ≡ codes "<text x=\"20\" y=\"14\">" }
     ensures east_name { label_begin 0 (point_at 1 0) ≡ codes "<text x=\"60\" y=\"14\">" }
     ensures row_below { label_begin 2 (point_at 1 0) ≡ codes "<text x=\"60\" y=\"94\">" }

@@ -11,7 +11,12 @@ pub record EdgeOrder : Type 0 where
   pub overlap_rows : List (List Bool)
 
 abbrev pub edge_order : ℕ → List (List Bool) → List (List Bool) → EdgeOrder
-edge_order edges above_rows overlap_rows = record { edges = edges; above_rows = above_rows; overlap_rows = overlap_rows }
+edge_order edges above_rows overlap_rows = record {
+  edges = edges;
+  above_rows = above_rows;
+  overlap_rows =
+      overlap_rows;
+}
 
 -- two tables with an entry for each two edges, of which there are not too many
 pub record AreTables (o : EdgeOrder) : Type 0 where

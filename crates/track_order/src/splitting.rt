@@ -34,7 +34,8 @@ fn add_split(
     requires walks { AreWalks g.now walks.now }
     requires upper { upper.0 < length g.now.edges }
     requires lower { lower.0 < length g.now.edges }
-    ensures { OnOk result ((of : List Fork) → AreSplits g.now of splits.old → AreSplits g.now (of ++ fork way upper.0 lower.0 ∷ []) splits.new) }
+    ensures { OnOk result ((of : List Fork) → AreSplits g.now of splits.old →
+        AreSplits g.now (of ++ fork way upper.0 lower.0 ∷ []) splits.new) }
 {
     let order = walks.order(way);
     let upper = reach(alloc, g, way, order, upper.0)?;
@@ -56,7 +57,8 @@ fn add_legs(
     requires walks { AreWalks g.now walks.now }
     requires straight { straight.0 < length g.now.edges }
     requires diverging { diverging.0 < length g.now.edges }
-    ensures { OnOk result ((of : List Fork) → AreSplits g.now of splits.old → AreSplits g.now (of ++ leg_fork legs branch straight.0 diverging.0 ∷ []) splits.new) }
+    ensures { OnOk result ((of : List Fork) → AreSplits g.now of splits.old →
+        AreSplits g.now (of ++ leg_fork legs branch straight.0 diverging.0 ∷ []) splits.new) }
 {
     match branch {
         Side::Upper => add_split(alloc, g, walks, legs, diverging, straight, splits),
@@ -74,7 +76,8 @@ fn add_splits(
 ) -> Result<(), OutOfMemory>
     requires walks { AreWalks g.now walks.now }
     requires there { n.0 < length g.now.nodes }
-    ensures { OnOk result ((of : List Fork) → AreSplits g.now of splits.old → AreSplits g.now (of ++ forks (node g.now n.0).ports) splits.new) }
+    ensures { OnOk result ((of : List Fork) → AreSplits g.now of splits.old →
+        AreSplits g.now (of ++ forks (node g.now n.0).ports) splits.new) }
 {
     match g.ports(n) {
         Ports::End { .. } | Ports::Joint { .. } => Ok(()),

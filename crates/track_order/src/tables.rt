@@ -128,7 +128,8 @@ fn first_with(rows: &Items<Row>, count: u16, e: u16) -> Option<u16>
 #[tactic(auto, using(crate::proofs::TableLemmas::none_begins, crate::proofs::TableLemmas::none_at_all))]
 pub(crate) fn first_both_ways(rows: &Items<Row>, count: u16) -> Option<(EdgeNo, EdgeNo)>
     requires table { IsTable count rows.now }
-    ensures { MatchOption result ((e f : ℕ) → e < f → f < count → IsBothWays rows.now e f → ⊥) (λ p. IsFirstBothWays rows.now count p.0.0 p.1.0) }
+    ensures { MatchOption result ((e f : ℕ) → e < f → f < count → IsBothWays rows.now e f → ⊥)
+        (λ p. IsFirstBothWays rows.now count p.0.0 p.1.0) }
 {
     for e in 0..count {
         if let Some(f) = first_with(rows, count, e) {

@@ -16,7 +16,8 @@ use std::alloc::Global;
 
 /// The front of two criteria, or as far as the search comes. The oracle knows the drawings' clauses, and no bound yet.
 /// What the outcome says of drawings holds with every log; and so many lines were told behind the clauses that they and
-/// these are those of a search with this end. After an error the log derives, and its Formula and Bound lines are the first
+/// these are those of a search with this end. After an error the log derives, and its Formula and Bound lines are the
+/// first
 /// of those that are expected.
 pub fn find_front<O: Oracle>(
     alloc: Global,
@@ -33,7 +34,8 @@ pub fn find_front<O: Oracle>(
         ToldBehind (O.knows oracle.new) (O.log oracle.old) (O.log oracle.new)
         (O.learnt oracle.old) (O.learnt oracle.new) from (λ more. IsFrontLog p a b r.ending (from ++ more))) }
     ensures left { let p = O.task oracle.old in
-        OnErr result (O.log oracle.old (first_lines p) → (lines : Lines) → O.log oracle.new lines → IsFrontLeft p a b lines) }
+        OnErr result (O.log oracle.old (first_lines p) → (lines : Lines) → O.log oracle.new lines →
+        IsFrontLeft p a b lines) }
     ensures task { O.task oracle.new ≡ O.task oracle.old }
     ensures later { O.is_later oracle.old oracle.new }
     ensures faults { O.faults oracle.old ≤ O.faults oracle.new }

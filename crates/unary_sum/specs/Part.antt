@@ -55,13 +55,15 @@ sum_of m = Outputs m.first m.count
 abbrev pub join_up : Join → ℕ → ℕ → Clauses
 join_up m i j =
     cond (nat_le (i + j) m.count)
-    (clause_of [] (flip (part_at_least m.left i) ∷ flip (part_at_least m.right j) ∷ part_at_least (sum_of m) (i + j) ∷ [])) []
+    (clause_of [] (flip (part_at_least m.left i) ∷ flip (part_at_least m.right j) ∷ part_at_least (sum_of m) (i + j)
+    ∷ [])) []
 
 -- where at most i are true on the left and at most j on the right, the sum is at most i + j
 abbrev pub join_down : Join → ℕ → ℕ → Clauses
 join_down m i j =
     cond (nat_lt (i + j) m.count)
-    (clause_of [] (part_at_least m.left (i + 1) ∷ part_at_least m.right (j + 1) ∷ flip (part_at_least (sum_of m) (i + j + 1)) ∷ [])) []
+    (clause_of [] (part_at_least m.left (i + 1) ∷ part_at_least m.right (j + 1)
+    ∷ flip (part_at_least (sum_of m) (i + j + 1)) ∷ [])) []
 
 abbrev pub join_cell : Join → ℕ → ℕ → Clauses
 join_cell m i j = join_up m i j ++ join_down m i j

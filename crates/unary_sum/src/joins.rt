@@ -2,7 +2,8 @@
 ghost use Rattle.std.specs.Prelude.{◌≡◌, ◌+◌, ◌<◌, ◌≤◌, IfOk};
 ghost use Rattle.cnf_core.specs.declared.limits.TheConstants.{VARS};
 ghost use Rattle.cnf_core.specs.Added.{AddsClauses};
-ghost use Rattle.unary_sum.specs.Part.{part_size, part_at_least, block, part_outputs, PartIsThere, JoinIsReady, join_clauses, join_row, join_cell, join_up, join_down};
+ghost use Rattle.unary_sum.specs.Part.{part_size, part_at_least, block, part_outputs, PartIsThere, JoinIsReady};
+ghost use Rattle.unary_sum.specs.Part.{join_clauses, join_row, join_cell, join_up, join_down};
 
 use cnf_core::{CnfFault, Formula, Lit, LitOrTruth, Var};
 use plan_core::OutOfMemory;

@@ -22,11 +22,13 @@ pub(crate) fn put_tree(m: &mut Truths, depth: u32, vars: u32, inputs: &[Lit], ca
     requires few { length inputs.now ≤ 65535 }
     requires cap { cap ≤ 65535 }
     requires inputs_set { AreThere (length m.old) inputs.now }
-    requires there { 0 < tree_count cap (tree_of depth inputs.now) → vars + tree_count cap (tree_of depth inputs.now) ≤ length m.old }
+    requires there { 0 < tree_count cap (tree_of depth inputs.now) → vars + tree_count cap (tree_of depth inputs.now) ≤
+        length m.old }
     requires limit { vars + tree_count cap (tree_of depth inputs.now) ≤ VARS }
     ensures size { result.size ≡ tree_size cap (tree_of depth inputs.now) }
     ensures end { result.end ≡ vars + tree_count cap (tree_of depth inputs.now) }
-    ensures same { SameOutside (vars + 1) (tree_count cap (tree_of depth inputs.now)) (assignment m.old) (assignment m.new) }
+    ensures same { SameOutside (vars + 1) (tree_count cap (tree_of depth inputs.now)) (assignment m.old)
+        (assignment m.new) }
     ensures model { SatisfiesAll (assignment m.new) (tree_clauses cap vars (tree_of depth inputs.now)) }
     ensures vars { length m.new ≡ length m.old }
 {

@@ -8,7 +8,8 @@ ghost use Rattle.cnf_core.specs.Added.{AddsBlock};
 ghost use Rattle.cnf_core.specs.Truths.{assignment};
 ghost use Rattle.unary_sum.specs.declared.joins.Part.TheVariants.{Outputs};
 ghost use Rattle.unary_sum.specs.Part.{IsLit, part_size, PartIsThere, join_clauses};
-ghost use Rattle.unary_sum.specs.Sum.{count_true, tree_of, tree_size, tree_count, tree_top, sides_join, tree_clauses, sum_vars, sum_count, sum_clauses, sum_outputs, sum_at_least};
+ghost use Rattle.unary_sum.specs.Sum.{count_true, tree_of, tree_size, tree_count, tree_top, sides_join, tree_clauses};
+ghost use Rattle.unary_sum.specs.Sum.{sum_vars, sum_count, sum_clauses, sum_outputs, sum_at_least};
 
 use crate::joins::{Join, Part, add_join};
 use crate::put::put_tree;
@@ -45,7 +46,8 @@ impl Sum {
         requires few { length inputs.now ≤ 65535 }
         requires cap { cap ≤ 65535 }
         ensures sum { IfOk result (λ s. s ≡ sum_vars inputs.now cap f.old.vars) }
-        ensures adds { let s = sum_vars inputs.now cap f.old.vars in AddsBlock result f.old f.new (sum_count s) (sum_clauses s) 3 }
+        ensures adds { let s = sum_vars inputs.now cap f.old.vars in AddsBlock result f.old f.new (sum_count s)
+            (sum_clauses s) 3 }
         ensures words { words_of f.new.clauses ≤ words_of f.old.clauses + 100 * (length inputs.now + 1) * (cap + 2) }
         ensures vars { f.new.vars ≤ f.old.vars + 10 * (length inputs.now + 1) * (cap + 2) }
         ensures means { let s = sum_vars inputs.now cap f.old.vars in
@@ -65,7 +67,8 @@ impl Sum {
         ensures at_zero { k ≡ 0 → result ≡ LitOrTruth.True }
         ensures above { length self.now.inputs < k → result ≡ LitOrTruth.False }
         ensures between { 1 ≤ k → k ≤ length self.now.inputs → IsLit result }
-        ensures means { (v : Assignment) → SatisfiesAll v (sum_clauses self.now) → value v result ≡ nat_le k (count_true v self.now.inputs) }
+        ensures means { (v : Assignment) → SatisfiesAll v (sum_clauses self.now) → value v result
+            ≡ nat_le k (count_true v self.now.inputs) }
     {
         self.top.at(k)
     }
@@ -103,7 +106,8 @@ fn make_sum(alloc: Global, f: &mut Formula, inputs: &[Lit], cap: u32) -> Result<
     requires few { length inputs.now ≤ 65535 }
     requires cap { cap ≤ 65535 }
     ensures sum { IfOk result (λ s. s ≡ sum_vars inputs.now cap f.old.vars) }
-    ensures adds { let s = sum_vars inputs.now cap f.old.vars in AddsBlock result f.old f.new (sum_count s) (sum_clauses s) 3 }
+    ensures adds { let s = sum_vars inputs.now cap f.old.vars in AddsBlock result f.old f.new (sum_count s)
+        (sum_clauses s) 3 }
 {
     let vars = f.vars();
     let kept = Vec::from_slice(alloc, inputs)?;
@@ -159,7 +163,8 @@ fn build_tree(f: &mut Formula, depth: u32, inputs: &[Lit], cap: u32) -> Result<P
     requires inputs { AreThere f.old.vars inputs.now }
     requires cap { cap ≤ 65535 }
     ensures part { IfOk result (λ p. p ≡ tree_top cap f.old.vars (tree_of depth inputs.now)) }
-    ensures adds { AddsBlock result f.old f.new (tree_count cap (tree_of depth inputs.now)) (tree_clauses cap f.old.vars (tree_of depth inputs.now)) 3 }
+    ensures adds { AddsBlock result f.old f.new (tree_count cap (tree_of depth inputs.now))
+        (tree_clauses cap f.old.vars (tree_of depth inputs.now)) 3 }
     ensures limit { OnOk result (f.new.vars ≤ VARS) }
 {
     if depth == 0 || inputs.len() <= 1 {

@@ -1,5 +1,6 @@
 -- The arena as contracts see it, and what holds of it together with a trail.
-use Rattle.std.specs.Prelude.{◌≡◌, ◌≤◌, ℕ, ◌+◌, ◌*◌, Option, Some, None, List, [], ◌∷◌, All, Contains, length, map, slice_index}
+use Rattle.std.specs.Prelude.{◌≡◌, ◌≤◌, ℕ, ◌+◌, ◌*◌, Option, Some, None, List, [], ◌∷◌, All, Contains, length, map}
+use Rattle.std.specs.Prelude.{slice_index}
 use Rattle.cnf_core.specs.declared.limits.TheConstants.{VARS, ROOM}
 use Rattle.cnf_core.specs.Lit.{Literal, negate, has}
 use Rattle.cnf_core.specs.Clause.{Clauses, AreDistinct, AreThere}
@@ -20,7 +21,14 @@ pub record Attached : Type 0 where
   pub visits : ℕ
 
 abbrev pub attached_of : ℕ → ℕ → List ℕ → List ℕ → ℕ → Attached
-attached_of vars room words places visits = record { vars = vars; room = room; words = words; places = places; visits = visits }
+attached_of vars room words places visits = record {
+  vars = vars;
+  room = room;
+  words = words;
+  places = places;
+  visits =
+      visits;
+}
 
 -- what each arena keeps: every watch of every clause stands once in the chain of its literal, and
 -- every chain ends

@@ -1,5 +1,6 @@
 -- Trails: the literals that are true, in the order in which they became so.
-use Rattle.std.specs.Prelude.{◌≡◌, ◌≤◌, ◌<◌, ℕ, ◌+◌, ◌*◌, min, nat_le, Bool, true, false, cond, Option, Some, None, List, [], ◌∷◌, ◌++◌, length, slice_index, slice_index_or, slice_set, take, replicate}
+use Rattle.std.specs.Prelude.{◌≡◌, ◌≤◌, ◌<◌, ℕ, ◌+◌, ◌*◌, min, nat_le, Bool, true, false, cond, Option, Some, None}
+use Rattle.std.specs.Prelude.{List, [], ◌∷◌, ◌++◌, length, slice_index, slice_index_or, slice_set, take, replicate}
 use Rattle.cnf_core.specs.declared.limits.TheConstants.{VARS}
 use Rattle.watch_arena.specs.declared.clause_ref.ClauseRef.{ClauseRef}
 use Rattle.cnf_core.specs.Lit.{Literal, negate, has}
@@ -18,7 +19,16 @@ pub record Marks : Type 0 where
   pub levels : List ℕ
 
 abbrev pub marks_of : ℕ → List Literal → ℕ → ℕ → List ℕ → ℕ → List ℕ → List ℕ → Marks
-marks_of vars order len front starts level reasons levels = record { vars = vars; lits = take len order; front = front; cuts = take level starts; reasons = reasons; levels = levels }
+marks_of vars order len front starts level reasons levels =
+    record {
+      vars = vars;
+      lits = take len order;
+      front = front;
+      cuts = take level starts;
+      reasons = reasons;
+      levels =
+          levels;
+    }
 
 -- 1 where a level that begins at place n has begun at place i, else 0
 abbrev pub begun : ℕ → ℕ → ℕ
@@ -31,7 +41,8 @@ trail_level (n ∷ cuts) i = begun n i + trail_level cuts i
 
 -- the table has the level of each literal's variable
 abbrev pub HasLevels : List ℕ → List Literal → List ℕ → Type 0
-HasLevels cuts lits levels = (i : ℕ) (d : Literal) → i < length lits → slice_index levels (slice_index_or lits i d).var ≡ trail_level cuts i
+HasLevels cuts lits levels = (i : ℕ) (d : Literal) → i < length lits → slice_index levels (slice_index_or lits i d).var
+    ≡ trail_level cuts i
 
 -- the places where levels begin rise, and each level has a literal
 pub record AreCuts (cuts : List ℕ) (len front : ℕ) : Type 0 where
@@ -41,7 +52,8 @@ pub record AreCuts (cuts : List ℕ) (len front : ℕ) : Type 0 where
   pub propagated : (k : ℕ) → k < length cuts → slice_index cuts k ≤ front
   pub rise : (j k : ℕ) → j < k → k < length cuts → slice_index cuts j < slice_index cuts k
 
-pub record IsStoredTrail (vars : ℕ) (truth : List Bool) (order : List Literal) (len front : ℕ) (starts : List ℕ) (level : ℕ) (reasons levels : List ℕ) : Type 0 where
+pub record IsStoredTrail (vars : ℕ) (truth : List Bool) (order : List Literal) (len front : ℕ) (starts : List ℕ)
+    (level : ℕ) (reasons levels : List ℕ) : Type 0 where
   pub limit : vars ≤ VARS
   pub table : IsTrail vars truth (take len order)
   pub size : length order ≡ 2 * vars + 2
@@ -68,15 +80,39 @@ pub record IsMarks (m : Marks) : Type 0 where
 
 -- one more literal is true, by the clause at a place or by none, which is 0, at the present level
 abbrev pub with_lit : Marks → Literal → ℕ → Marks
-with_lit m l reason = record { vars = m.vars; lits = m.lits ++ l ∷ []; front = m.front; cuts = m.cuts; reasons = slice_set m.reasons l.var reason; levels = slice_set m.levels l.var (length m.cuts) }
+with_lit m l reason = record {
+  vars = m.vars;
+  lits = m.lits ++ l ∷ [];
+  front = m.front;
+  cuts = m.cuts;
+  reasons =
+      slice_set m.reasons l.var reason;
+  levels = slice_set m.levels l.var (length m.cuts);
+}
 
 -- one more literal is propagated
 abbrev pub advanced : Marks → Marks
-advanced m = record { vars = m.vars; lits = m.lits; front = m.front + 1; cuts = m.cuts; reasons = m.reasons; levels = m.levels }
+advanced m = record {
+  vars = m.vars;
+  lits = m.lits;
+  front = m.front + 1;
+  cuts = m.cuts;
+  reasons = m.reasons;
+  levels =
+      m.levels;
+}
 
 -- a level begins
 abbrev pub opened : Marks → Marks
-opened m = record { vars = m.vars; lits = m.lits; front = m.front; cuts = m.cuts ++ length m.lits ∷ []; reasons = m.reasons; levels = m.levels }
+opened m = record {
+  vars = m.vars;
+  lits = m.lits;
+  front = m.front;
+  cuts = m.cuts ++ length m.lits ∷ [];
+  reasons =
+      m.reasons;
+  levels = m.levels;
+}
 
 -- where the level after this one begins, or the end
 abbrev pub level_end : Marks → ℕ → ℕ
@@ -84,11 +120,27 @@ level_end m level = slice_index_or m.cuts level (length m.lits)
 
 -- the literals of levels up to this one are left
 abbrev pub undone : Marks → ℕ → Marks
-undone m level = record { vars = m.vars; lits = take (level_end m level) m.lits; front = min m.front (level_end m level); cuts = take level m.cuts; reasons = m.reasons; levels = m.levels }
+undone m level = record {
+  vars = m.vars;
+  lits = take (level_end m level) m.lits;
+  front =
+      min m.front (level_end m level);
+  cuts = take level m.cuts;
+  reasons = m.reasons;
+  levels = m.levels;
+}
 
 -- further variables are there, unset
 abbrev pub widened : Marks → ℕ → Marks
-widened m n = record { vars = m.vars + n; lits = m.lits; front = m.front; cuts = m.cuts; reasons = m.reasons ++ replicate n 0; levels = m.levels ++ replicate n 0 }
+widened m n = record {
+  vars = m.vars + n;
+  lits = m.lits;
+  front = m.front;
+  cuts = m.cuts;
+  reasons = m.reasons
+      ++ replicate n 0;
+  levels = m.levels ++ replicate n 0;
+}
 
 -- the place of a clause that is the reason of a literal, or 0
 abbrev pub place_of : Option ClauseRef → ℕ

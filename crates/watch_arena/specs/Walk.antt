@@ -1,5 +1,6 @@
 -- The walk of one chain.
-use Rattle.std.specs.Prelude.{◌≡◌, ◌≢◌, ◌≤◌, ◌<◌, ◌⊎◌, ◌↔◌, take, ℕ, zero, suc, ◌+◌, ◌*◌, ◌/◌, Option, Some, None, List, [], ◌∷◌, ◌++◌, Contains, length, slice_index, slice_index_or}
+use Rattle.std.specs.Prelude.{◌≡◌, ◌≢◌, ◌≤◌, ◌<◌, ◌⊎◌, ◌↔◌, take, ℕ, zero, suc, ◌+◌, ◌*◌, ◌/◌, Option, Some, None}
+use Rattle.std.specs.Prelude.{List, [], ◌∷◌, ◌++◌, Contains, length, slice_index, slice_index_or}
 use Rattle.cnf_core.specs.Lit.{Literal, negate, literal_at, has}
 use Rattle.cnf_core.specs.Clause.{Clauses}
 use Rattle.cnf_core.specs.Propagation.{LiteralSet, IsIn, IsUnit, Falsifies, IsClosure}
@@ -59,7 +60,8 @@ pub record IsTrueNoLater (m : Marks) (f l : Literal) : Type 0 where
 -- for each watch that isn't out: where it is false by the literals that are done, the other one is
 -- true at no later level
 abbrev pub AreGuarded : List ℕ → List ℕ → LiteralSet → Marks → List ℕ → Type 0
-AreGuarded ws places done m out = (s : ℕ) → Contains places (s / 2) → times out s ≡ 0 → IsIn done (negate (lit_at ws (lit_of s))) → IsTrueNoLater m (negate (lit_at ws (lit_of s))) (lit_at ws (other_of s))
+AreGuarded ws places done m out = (s : ℕ) → Contains places (s / 2) → times out s ≡ 0 →
+    IsIn done (negate (lit_at ws (lit_of s))) → IsTrueNoLater m (negate (lit_at ws (lit_of s))) (lit_at ws (other_of s))
 
 -- the literals of the clause at a place, in any order
 abbrev pub IsClauseAt : List ℕ → ℕ → List Literal → Type 0
@@ -82,9 +84,12 @@ pub record IsReasonFor (ws places : List ℕ) (before : List Literal) (l : Liter
 -- each literal with a reason stands behind the negations of the other literals of that clause; the
 -- others begin a level, or are of level 0
 pub record IsReasoned (m : Marks) (ws places : List ℕ) : Type 0 where
-  pub reason : (i : ℕ) (l : Literal) → i < length m.lits → slice_index_or m.lits i l ≡ l → slice_index m.reasons l.var ≢ 0 → IsReasonFor ws places (take i m.lits) l (slice_index m.reasons l.var)
-  pub decided : (i : ℕ) (l : Literal) → i < length m.lits → slice_index_or m.lits i l ≡ l → slice_index m.reasons l.var ≡ 0 → Contains m.cuts i ⊎ ((n : ℕ) → Contains m.cuts n → i < n)
-  pub begins : (n : ℕ) (l : Literal) → Contains m.cuts n → slice_index_or m.lits n l ≡ l → slice_index m.reasons l.var ≡ 0
+  pub reason : (i : ℕ) (l : Literal) → i < length m.lits → slice_index_or m.lits i l ≡ l →
+      slice_index m.reasons l.var ≢ 0 → IsReasonFor ws places (take i m.lits) l (slice_index m.reasons l.var)
+  pub decided : (i : ℕ) (l : Literal) → i < length m.lits → slice_index_or m.lits i l ≡ l → slice_index m.reasons l.var
+      ≡ 0 → Contains m.cuts i ⊎ ((n : ℕ) → Contains m.cuts n → i < n)
+  pub begins : (n : ℕ) (l : Literal) → Contains m.cuts n → slice_index_or m.lits n l ≡ l → slice_index m.reasons l.var
+      ≡ 0
 
 abbrev pub GrowsBy : List ℕ → List ℕ → List Literal → List Literal → Type 0
 GrowsBy places ws old new = (clauses : Clauses) → HoldsClauses clauses ws places → Grows clauses old new
@@ -132,12 +137,16 @@ pub record IsWatched (m : Marks) (ws heads places : List ℕ) (done : LiteralSet
 
 -- the reasons of the old trail's variables stay
 abbrev pub KeepsReasons : Marks → Marks → Type 0
-KeepsReasons old new = (i : ℕ) (d : Literal) → i < length old.lits → slice_index new.reasons (slice_index_or old.lits i d).var ≡ slice_index old.reasons (slice_index_or old.lits i d).var
+KeepsReasons old new = (i : ℕ) (d : Literal) → i < length old.lits →
+    slice_index new.reasons (slice_index_or old.lits i d).var
+    ≡ slice_index old.reasons (slice_index_or old.lits i d).var
 
 -- the clause that the table has as reason of each further literal holds it, and its others were false
 -- before
 abbrev pub AddsReasons : Marks → Marks → List ℕ → List ℕ → Type 0
-AddsReasons old new ws places = (i : ℕ) (d : Literal) → length old.lits ≤ i → i < length new.lits → IsReasonFor ws places (take i new.lits) (slice_index_or new.lits i d) (slice_index new.reasons (slice_index_or new.lits i d).var)
+AddsReasons old new ws places = (i : ℕ) (d : Literal) → length old.lits ≤ i → i < length new.lits →
+    IsReasonFor ws places (take i new.lits) (slice_index_or new.lits i d)
+    (slice_index new.reasons (slice_index_or new.lits i d).var)
 
 -- what a walk adds to the trail, and leaves of the words
 pub record HasWalked (old new : Marks) (ws now places : List ℕ) : Type 0 where
@@ -156,7 +165,8 @@ AreFalse ws set p = (k : ℕ) → k < arena_word ws p → IsIn set (negate (lit_
 -- the clauses' literals stand where they stood
 pub record KeepsLits (places old new : List ℕ) : Type 0 where
   pub size : (p : ℕ) → Contains places p → arena_word new p ≡ arena_word old p
-  pub lits : (p k : ℕ) → Contains places p → k < arena_word old p → arena_word new (p + 3 + k) ≡ arena_word old (p + 3 + k)
+  pub lits : (p k : ℕ) → Contains places p → k < arena_word old p → arena_word new (p + 3 + k)
+      ≡ arena_word old (p + 3 + k)
 
 -- an attached clause all of whose literals are false
 pub record IsClash (ws places : List ℕ) (set : LiteralSet) (p : ℕ) : Type 0 where

@@ -1,5 +1,6 @@
 // Watched clauses.
-ghost use Rattle.std.specs.Prelude.{◌≡◌, ◌≤◌, ◌<◌, ◌+◌, ◌*◌, ◌↔◌, ◌∷◌, ◌++◌, ℕ, Contains, length, slice_index_or, [], IfSome, IfOk, OnOk, OnErr, IsErrOf};
+ghost use Rattle.std.specs.Prelude.{◌≡◌, ◌≤◌, ◌<◌, ◌+◌, ◌*◌, ◌↔◌, ◌∷◌, ◌++◌, ℕ, Contains, length, slice_index_or, []};
+ghost use Rattle.std.specs.Prelude.{IfSome, IfOk, OnOk, OnErr, IsErrOf};
 ghost use Rattle.cnf_core.specs.Clause.{AreDistinct, AreThere};
 ghost use Rattle.cnf_core.specs.Lit.{has};
 ghost use Rattle.cnf_core.specs.Propagation.{Falsifies, IsClosure};
@@ -7,7 +8,8 @@ ghost use Rattle.watch_arena.specs.declared.fault.ArenaFault.TheVariants.{Room};
 ghost use Rattle.watch_arena.specs.Trail.{Marks, IsMarks, IsLonger};
 ghost use Rattle.cnf_core.specs.Trail.{Grows};
 ghost use Rattle.watch_arena.specs.Walk.{KeepsReasons};
-ghost use Rattle.watch_arena.specs.Arena.{AreWatched, AreReasoned, AreBecause, AreAttached, IsSameText, IsMoreText, MayBeWatched, IsClashOf, attached_at, attached_clauses, spread};
+ghost use Rattle.watch_arena.specs.Arena.{AreWatched, AreReasoned, AreBecause, AreAttached, IsSameText, IsMoreText};
+ghost use Rattle.watch_arena.specs.Arena.{MayBeWatched, IsClashOf, attached_at, attached_clauses, spread};
 
 use crate::attach::attach;
 use crate::clause_ref::ClauseRef;
@@ -144,7 +146,8 @@ impl Arena {
         ensures clause { IfOk result (λ c. attached_at self.new c.0 ≡ lits.now) }
         ensures words { OnOk result (length self.new.words ≡ length self.old.words + length lits.now + 3) }
         ensures others { IsMoreText self.old self.new }
-        ensures watched { OnOk result ((m : Marks) → AreWatched self.old m → MayBeWatched m lits.now → AreWatched self.new m) }
+        ensures watched { OnOk result ((m : Marks) → AreWatched self.old m → MayBeWatched m lits.now →
+            AreWatched self.new m) }
         ensures reasoned { (m : Marks) → AreReasoned self.old m → AreReasoned self.new m }
         ensures attached { AreAttached self.new }
         ensures none { OnErr result (self.new ≡ self.old) }

@@ -1,5 +1,6 @@
 // Attaching clauses.
-ghost use Rattle.std.specs.Prelude.{◌≡◌, ◌≤◌, ◌<◌, ◌+◌, ◌*◌, ◌^◌, ◌∷◌, ◌++◌, [], length, OnOk, OnErr, IfOk, IsErrOf, take, ◌↔◌};
+ghost use Rattle.std.specs.Prelude.{◌≡◌, ◌≤◌, ◌<◌, ◌+◌, ◌*◌, ◌^◌, ◌∷◌, ◌++◌, [], length, OnOk, OnErr, IfOk, IsErrOf};
+ghost use Rattle.std.specs.Prelude.{take, ◌↔◌};
 ghost use Rattle.cnf_core.specs.Clause.{AreDistinct, AreThere};
 ghost use Rattle.watch_arena.specs.Words.{block_of};
 ghost use Rattle.watch_arena.specs.declared.fault.ArenaFault.TheVariants.{Room};

@@ -24,5 +24,6 @@ pub fn undone_leaves_levels_up_to()
 pub fn two_literals_may_be_watched()
     ensures open_ { (m : Marks) (k l : Literal) → AreOpen m k l → AreRight m k l }
     ensures held { (m : Marks) (k l : Literal) → IsMarks m → (IsHeldBy m k l ⊎ IsHeldBy m l k) → AreRight m k l }
-    ensures asserted { (m : Marks) (k l : Literal) (reason : ℕ) → IsMarks m → IsAsserting m k l → AreRight (with_lit m k reason) k l }
+    ensures asserted { (m : Marks) (k l : Literal) (reason : ℕ) → IsMarks m → IsAsserting m k l →
+        AreRight (with_lit m k reason) k l }
 {}

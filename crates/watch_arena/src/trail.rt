@@ -1,9 +1,11 @@
 // Trails.
-ghost use Rattle.std.specs.Prelude.{◌≡◌, ◌≢◌, ◌≤◌, ◌<◌, ◌+◌, ◌*◌, ℕ, [], ◌∷◌, ◌++◌, length, slice_index, slice_index_or, take, IfOk, OnOk, OnErr, MatchOption};
+ghost use Rattle.std.specs.Prelude.{◌≡◌, ◌≢◌, ◌≤◌, ◌<◌, ◌+◌, ◌*◌, ℕ, [], ◌∷◌, ◌++◌, length, slice_index};
+ghost use Rattle.std.specs.Prelude.{slice_index_or, take, IfOk, OnOk, OnErr, MatchOption};
 ghost use Rattle.cnf_core.specs.Lit.{negate, has};
 ghost use Rattle.cnf_core.specs.Clause.{IsThere};
 ghost use Rattle.cnf_core.specs.Trail.{IsTrail};
-ghost use Rattle.watch_arena.specs.Trail.{IsMarks, IsUnset, IsValue, IsReason, with_lit, advanced, opened, undone, widened, place_of};
+ghost use Rattle.watch_arena.specs.Trail.{IsMarks, IsUnset, IsValue, IsReason, with_lit, advanced, opened, undone};
+ghost use Rattle.watch_arena.specs.Trail.{widened, place_of};
 ghost use Rattle.watch_arena.specs.Arena.{Attached, AreWatched, AreReasoned, MayBeSet};
 
 use crate::clause_ref::{ClauseRef, place_of};
@@ -33,9 +35,11 @@ impl Model for Trail {
 
     ghost Value = { Marks };
 
-    ghost view = { λ t. marks_of t.vars t.order.items t.len t.front t.starts.items t.level t.reasons.items t.levels.items };
+    ghost view = { λ t. marks_of t.vars t.order.items t.len t.front t.starts.items t.level t.reasons.items
+        t.levels.items };
 
-    ghost invariant = { λ t. IsStoredTrail t.vars t.truth.items t.order.items t.len t.front t.starts.items t.level t.reasons.items t.levels.items };
+    ghost invariant = { λ t. IsStoredTrail t.vars t.truth.items t.order.items t.len t.front t.starts.items t.level
+        t.reasons.items t.levels.items };
 }
 
 impl Trail {
@@ -168,7 +172,8 @@ impl Trail {
         ensures value { self.new ≡ with_lit self.old l (place_of reason) }
         ensures marks { IsMarks self.new }
         ensures watched { (a : Attached) → AreWatched a self.old → AreWatched a self.new }
-        ensures reasoned { (a : Attached) → MayBeSet a self.old l reason → AreReasoned a self.old → AreReasoned a self.new }
+        ensures reasoned { (a : Attached) → MayBeSet a self.old l reason → AreReasoned a self.old →
+            AreReasoned a self.new }
     {
         self.truth[l.word() as usize] = true;
         self.order[self.len as usize] = l;

@@ -29,7 +29,8 @@ pub fn visit(
     ensures marks { IsMarks trail.new }
     ensures front { trail.new.front ≡ trail.old.front }
     ensures made { HasWalked trail.old trail.new words.old words.new places.now }
-    ensures stepped { IfSome result (λ next. IsStepped trail.new words.old words.new heads.new places.now (done_of trail.new) w s next) }
+    ensures stepped { IfSome result (λ next. IsStepped trail.new words.old words.new heads.new places.now
+        (done_of trail.new) w s next) }
     ensures falsified { result ≡ None → IsFalsified words.new (has trail.new.lits) s }
     ensures walking { result ≡ None → IsWalking trail.new words.new heads.new places.now (done_of trail.new) w s }
 {

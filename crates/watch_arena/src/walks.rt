@@ -2,7 +2,8 @@
 ghost use Rattle.std.specs.Prelude.{◌≡◌, ◌≢◌, ◌≤◌, ◌<◌, ◌+◌, ◌*◌, ◌/◌, length, IfSome, false};
 ghost use Rattle.cnf_core.specs.Lit.{negate, literal_at, has};
 ghost use Rattle.watch_arena.specs.Trail.{IsMarks};
-ghost use Rattle.watch_arena.specs.Walk.{IsWalking, IsWatched, HasWalked, IsClash, KeepsClauses, KeepsLits, Closes, Clashes, done_of, past_of};
+ghost use Rattle.watch_arena.specs.Walk.{IsWalking, IsWatched, HasWalked, IsClash, KeepsClauses, KeepsLits, Closes};
+ghost use Rattle.watch_arena.specs.Walk.{Clashes, done_of, past_of};
 
 use crate::chains::push;
 use crate::clause_ref::ClauseRef;

@@ -32,7 +32,8 @@ fn take_away<O: LawOracle>(
     law: u32,
 ) -> Result<Option<Stop>, WhyFault>
     requires ready { O.ready oracle.old }
-    requires narrowed { IsNarrowed (O.task oracle.old) progress.old.kept.items (progress.old.left.items ++ law ∷ []) progress.old.without.items }
+    requires narrowed { IsNarrowed (O.task oracle.old) progress.old.kept.items (progress.old.left.items ++ law ∷ [])
+        progress.old.without.items }
     ensures ready { OnOk result (O.ready oracle.new) }
     ensures narrowed { IfOk result (λ s. s ≡ None →
         IsNarrowed (O.task oracle.old) progress.new.kept.items progress.new.left.items progress.new.without.items) }

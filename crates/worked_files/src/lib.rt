@@ -1,7 +1,8 @@
 //! Runs over files in memory, for the cases of `run_cases`.
 //!
 //! `runs` has a run and what answers it, `stations` and `sheets` the files that it is given. What is proved of a run is
-//! long, and is met here alone, so that a change of a case proves no part of the program again. Runs of the program over
+//! long, and is met here alone, so that a change of a case proves no part of the program again. Runs of the program
+//! over
 //! the system's files stand in `cases/`, as texts.
 #![tactic(auto)]
 
