@@ -67,7 +67,8 @@ impl Search {
     pub fn add_vars(&mut self, n: u32) -> Result<(), AddFault>
         requires { IsIdle self.old }
         ensures idle { OnOk result (IsIdle self.new) }
-        ensures more { OnOk result (kept_of self.new None [] false ≡ with_more_vars (kept_of self.old None [] false) n) }
+        ensures more { OnOk result
+            (kept_of self.new None [] false ≡ with_more_vars (kept_of self.old None [] false) n) }
         ensures room { IsErrOf result AddFault.Room ↔ VARS < self.old.trail.vars + n }
         ensures cause { IsErrOf result AddFault.Log → ⊥ }
     {

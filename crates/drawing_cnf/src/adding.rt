@@ -97,7 +97,8 @@ pub fn criterion_bound<'a>(
         e.old.formula.clauses ++ clauses_of_bound e.old.graph (encoded_vars e.old) e.old.grid
         (bound c e.old.formula.vars cap)) }
     ensures vars { OnOk result (e.new.formula.vars ≡
-        e.old.formula.vars + size_of_bound e.old.graph (encoded_vars e.old) e.old.grid (bound c e.old.formula.vars cap)) }
+        e.old.formula.vars + size_of_bound e.old.graph (encoded_vars e.old) e.old.grid
+        (bound c e.old.formula.vars cap)) }
     ensures there { OnOk result (e.old.formula.vars + cap ≤ e.new.formula.vars) }
     ensures words_fit { let all = e.old.formula.clauses
         ++ clauses_of_bound e.old.graph (encoded_vars e.old) e.old.grid (bound c e.old.formula.vars cap) in

@@ -128,7 +128,8 @@ pub(crate) fn add_bound(
         c)
         (bound_clauses g.now (drawing_vars g.now grid.now) grid.now f.old.vars cap c)
         (length g.now.edges * (grid.now.width + 1) + length g.now.nodes + 3) }
-    ensures sums { IfOk result (λ v. v.items ≡ bound_sums g.now (drawing_vars g.now grid.now) grid.now f.old.vars cap c) }
+    ensures sums { IfOk result
+        (λ v. v.items ≡ bound_sums g.now (drawing_vars g.now grid.now) grid.now f.old.vars cap c) }
 {
     // what the types keep
     let _ = (g.nodes(), grid.width());

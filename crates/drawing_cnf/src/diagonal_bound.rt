@@ -165,7 +165,8 @@ fn add_sum_of(
     requires there { laws_first g.now grid.now ≤ f.old.vars + 1 }
     requires edge { e < length g.now.edges }
     requires most { most ≤ 65535 }
-    ensures sum { IfOk result (λ s. s ≡ steps_sum ((drawing_vars g.now grid.now).edge e) grid.now.width most f.old.vars) }
+    ensures sum { IfOk result
+        (λ s. s ≡ steps_sum ((drawing_vars g.now grid.now).edge e) grid.now.width most f.old.vars) }
     ensures adds { let s = steps_sum ((drawing_vars g.now grid.now).edge e) grid.now.width most f.old.vars in
         AddsBlock result f.old f.new (sum_count s) (edge_steps ((drawing_vars g.now grid.now).edge e) s) 3 }
 {
@@ -279,7 +280,8 @@ fn add_diagonal_sums(
         AddsBlock result f.old f.new (edges_count x grid.now.width (edge_most grid.now cap) (last + cap) edges.now +
         sum_count s)
         (edges_steps x grid.now.width (edge_most grid.now cap) (last + cap) edges.now ++ sum_bound s last) 3 }
-    ensures sums { IfOk result (λ v. v.items ≡ diagonal_sums (drawing_vars g.now grid.now) grid.now edges.now last cap) }
+    ensures sums { IfOk result
+        (λ v. v.items ≡ diagonal_sums (drawing_vars g.now grid.now) grid.now edges.now last cap) }
 {
     // what the types keep
     let _ = (g.nodes(), grid.width(), f.vars());

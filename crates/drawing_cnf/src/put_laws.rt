@@ -89,7 +89,8 @@ fn put_apart_pair(s: &Subject, u: u16, v: u16, first: u32, m: &mut Truths) -> u3
     requires put { IsPutTo s.now.graph.now s.now.grid.now s.now.drawing.now (assignment m.old) first }
     requires to { first + laws_size s.now.graph.now (Apart u v ∷ []) ≤ length m.old + 1 }
     requires small { first + laws_size s.now.graph.now (Apart u v ∷ []) ≤ VARS + 1 }
-    ensures puts { PutsLaws s.now.graph.now s.now.grid.now (Apart u v ∷ []) first (assignment m.old) (assignment m.new) }
+    ensures puts { PutsLaws s.now.graph.now s.now.grid.now (Apart u v ∷ []) first (assignment m.old)
+        (assignment m.new) }
     ensures next { result ≡ first + laws_size s.now.graph.now (Apart u v ∷ []) }
     ensures vars { length m.new ≡ length m.old }
 {

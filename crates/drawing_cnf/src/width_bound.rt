@@ -89,7 +89,8 @@ fn add_width_at(
     requires there { laws_first g.now grid.now ≤ f.old.vars + 1 }
     requires from { 1 ≤ b }
     requires to { b ≤ f.old.vars }
-    ensures { AddsClauses result f.old f.new (width_at g.now (drawing_vars g.now grid.now) b k) (length g.now.nodes + 3) }
+    ensures { AddsClauses result f.old f.new (width_at g.now (drawing_vars g.now grid.now) b k)
+        (length g.now.nodes + 3) }
 {
     add_columns_give(f, g, grid, b, k)?;
     add_some_column(alloc, f, g, grid, b, k)

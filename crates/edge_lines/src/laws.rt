@@ -23,7 +23,8 @@ pub fn a_track_is_a_line()
 pub fn a_line_is_a_track()
     ensures steps { (line : List Point) → is_line line ≡ true → (west_end line).x + steps_of line + 1
         ≡ (east_end line).x }
-    ensures track { (line : List Point) → is_line line ≡ true → IsTrack (height line) (west_end line).x (steps_of line) }
+    ensures track { (line : List Point) → is_line line ≡ true
+        → IsTrack (height line) (west_end line).x (steps_of line) }
     ensures flat { (line : List Point) → is_line line ≡ true → IsFlatOutside (height line) (west_end line).x
         (steps_of line) }
     ensures again { (line : List Point) → is_line line ≡ true → line_over (height line) (west_end line).x

@@ -94,7 +94,8 @@ fn bit(e: &Places, line: &Line, x: u32) -> bool
 pub(crate) fn put_line(e: &Places, line: &Line, m: &mut Truths)
     requires placed { EdgeIsPlaced e.now.first e.now.high e.now.width }
     requires there { e.now.first + edge_size e.now.high e.now.width ≤ length m.old + 1 }
-    ensures set { assignment m.new ≡ set_edge (line_bits line.now) e.now.first e.now.high e.now.width (assignment m.old) }
+    ensures set { assignment m.new
+        ≡ set_edge (line_bits line.now) e.now.first e.now.high e.now.width (assignment m.old) }
     ensures vars { length m.new ≡ length m.old }
 {
     let end = e.first + 6 + e.high + e.width * (e.high + 5);

@@ -97,7 +97,8 @@ fn bounded<O: Oracle>(
     ensures settled { IfOk result (λ r. r.settled ≤ length order.now) }
     ensures lines { IfOk result (λ r. Continues O.knows O.log O.learnt oracle.old oracle.new (λ lines more.
         SearchState (O.task oracle.old) order.now i held.now best (O.caps oracle.old) lines →
-        BoundedTo (O.task oracle.old) order.now i held.now r.stop r.settled r.best (O.caps oracle.new) (lines ++ more))) }
+        BoundedTo (O.task oracle.old) order.now i held.now r.stop r.settled r.best (O.caps oracle.new)
+        (lines ++ more))) }
     ensures later { O.is_later oracle.old oracle.new }
     ensures faults { O.faults oracle.old ≤ O.faults oracle.new }
     ensures cause { IsErrOf result MinFault.Log → Rose (O.faults oracle.old) (O.faults oracle.new) }

@@ -56,7 +56,8 @@ pub(crate) fn lower<O: Oracle>(
     requires order { IsOrder order.now }
     requires held { All (IsWithinCap (O.caps oracle.old)) held.now }
     requires before { AreBefore order.now i held.now }
-    requires bound { (c : Measure) → slice_get order.now i ≡ Some c → value_of (values_of best) c ≤ O.caps oracle.old c }
+    requires bound { (c : Measure) → slice_get order.now i ≡ Some c → value_of (values_of best) c
+        ≤ O.caps oracle.old c }
     requires lawful { IsLawful (O.task oracle.old) best }
     ensures ready { OnOk result (O.ready oracle.new) }
     ensures lawful { IfOk result (λ r. IsLawful (O.task oracle.old) r.best) }

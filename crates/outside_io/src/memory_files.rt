@@ -81,7 +81,8 @@ impl Files for MemoryFiles {
     /// Fails exactly where the call's number stands in the list or the name isn't there.
     fn read_front(&mut self, name: &str, limit: usize, into: &mut Vec<u8>) -> Result<(), FileFault>
         requires { 1 ≤ limit }
-        ensures ok { OnOk result (ReadsFront (Some (files_told self.old)) name.now limit into.old.items into.new.items) }
+        ensures ok { OnOk result
+            (ReadsFront (Some (files_told self.old)) name.now limit into.old.items into.new.items) }
         ensures begins { Begins into.old.items into.new.items }
         ensures same { SameFiles (files_told self.old) (files_told self.new) }
         ensures counts { files_counts self.new ≡ after_read result (files_counts self.old) }

@@ -95,7 +95,8 @@ fn push_edge_line(g: &PortGraph, e: u16, into: &mut Vec<u8>) -> Result<(), OutOf
 }
 
 fn push_above_line(e: u16, f: u16, into: &mut Vec<u8>) -> Result<(), OutOfMemory>
-    ensures ok { OnOk result (into.new.items ≡ into.old.items ++ line_text (codes "above") (decimal e ∷ decimal f ∷ [])) }
+    ensures ok { OnOk result
+        (into.new.items ≡ into.old.items ++ line_text (codes "above") (decimal e ∷ decimal f ∷ [])) }
     ensures begins { Begins into.old.items into.new.items }
 {
     push_text(into, b"above")?;

@@ -77,7 +77,8 @@ fn only_two(numbers: &[u16]) -> Option<(u16, u16)>
 }
 
 fn only_three(numbers: &[u16]) -> Option<(u16, u16, u16)>
-    ensures { MatchOption result ((x y z : ℕ) → numbers.now ≢ x ∷ y ∷ z ∷ []) (λ p. numbers.now ≡ p.0 ∷ p.1 ∷ p.2 ∷ []) }
+    ensures { MatchOption result ((x y z : ℕ) → numbers.now ≢ x ∷ y ∷ z ∷ [])
+        (λ p. numbers.now ≡ p.0 ∷ p.1 ∷ p.2 ∷ []) }
 {
     match numbers {
         [x, y, z] => Some((*x, *y, *z)),

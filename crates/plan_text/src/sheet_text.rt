@@ -70,7 +70,8 @@ fn push_point(p: Point, into: &mut Vec<u8>) -> Result<(), OutOfMemory>
 }
 
 fn push_points(points: &[Point], into: &mut Vec<u8>) -> Result<(), OutOfMemory>
-    ensures ok { OnOk result (into.new.items ≡ into.old.items ++ spaced (map decimal (flat_map coordinates points.now))) }
+    ensures ok { OnOk result
+        (into.new.items ≡ into.old.items ++ spaced (map decimal (flat_map coordinates points.now))) }
     ensures begins { Begins into.old.items into.new.items }
 {
     for p in points {
@@ -100,7 +101,8 @@ fn push_node_line(
 fn push_edge_head(g: &PortGraph, e: u16, into: &mut Vec<u8>) -> Result<(), OutOfMemory>
     requires { e < length g.now.edges }
     ensures ok { OnOk result (into.new.items ≡ into.old.items ++ (codes "edge"
-        ++ spaced (decimal e ∷ (edge g.now e).track ∷ decimal (edge g.now e).west ∷ decimal (edge g.now e).east ∷ []))) }
+        ++ spaced (decimal e ∷ (edge g.now e).track ∷ decimal (edge g.now e).west ∷ decimal (edge g.now e).east ∷
+        []))) }
     ensures begins { Begins into.old.items into.new.items }
 {
     push_named(into, b"edge", e, g.track(EdgeNo(e)).bytes())?;
@@ -137,7 +139,8 @@ fn push_node_lines(
     into: &mut Vec<u8>,
 ) -> Result<(), OutOfMemory>
     requires { HasSizeOf g.now d.now }
-    ensures ok { OnOk result (into.new.items ≡ into.old.items ++ flat_map text_of_line (node_lines Second g.now d.now)) }
+    ensures ok { OnOk result
+        (into.new.items ≡ into.old.items ++ flat_map text_of_line (node_lines Second g.now d.now)) }
     ensures begins { Begins into.old.items into.new.items }
 {
     for n in 0..g.nodes() {
@@ -163,7 +166,8 @@ fn push_places(
 
 fn push_edge_lines(g: &PortGraph, d: &Drawing, into: &mut Vec<u8>) -> Result<(), OutOfMemory>
     requires { HasSizeOf g.now d.now }
-    ensures ok { OnOk result (into.new.items ≡ into.old.items ++ flat_map text_of_line (edge_lines Second g.now d.now)) }
+    ensures ok { OnOk result
+        (into.new.items ≡ into.old.items ++ flat_map text_of_line (edge_lines Second g.now d.now)) }
     ensures begins { Begins into.old.items into.new.items }
 {
     for e in 0..g.edges() {

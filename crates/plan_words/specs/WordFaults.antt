@@ -115,7 +115,8 @@ pub record IsLeftmost (command : CommandWord) (arguments : List Argument) (what 
   where
     pub fault : SomeHasWordFault command arguments what position
     pub leftmost : (other : WordWhat) (place : ℕ) → SomeHasWordFault command arguments other place → position ≤ place
-    pub lowest : (other : WordWhat) → SomeHasWordFault command arguments other position → number_of what ≤ number_of other
+    pub lowest : (other : WordWhat) → SomeHasWordFault command arguments other position → number_of what ≤
+        number_of other
 
 -- no argument has a fault
 abbrev pub HaveNoFault : CommandWord → List Argument → Type 0

@@ -61,7 +61,8 @@ pub(crate) fn files_in(alloc: Global, arguments: &[Argument]) -> Result<Vec<File
 
 /// Whether one of the files has the name.
 fn has_name(files: &[FileWord], name: &Text) -> bool
-    ensures { MatchBool result (Contains (file_names files.now) name.now) (Contains (file_names files.now) name.now → ⊥) }
+    ensures { MatchBool result (Contains (file_names files.now) name.now)
+        (Contains (file_names files.now) name.now → ⊥) }
 {
     for file in files {
         if file.name.as_str() == name.as_str() {

@@ -164,7 +164,8 @@ fn inner_list(
     requires ready { IsReadySite site.now }
     requires start { IsStart begin.now }
     requires all_inner { All (λ i. passes_inner site.now.rows.now i ≡ true) numbers.now }
-    ensures { IfOk result (λ list. AllZip (IsInnerOf site.now.rows.now site.now.layouts.now begin.now) numbers.now list) }
+    ensures { IfOk result
+        (λ list. AllZip (IsInnerOf site.now.rows.now site.now.layouts.now begin.now) numbers.now list) }
 {
     let mut list = InnerList::new(alloc);
     for number in numbers {

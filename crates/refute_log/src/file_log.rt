@@ -46,7 +46,8 @@ fn fault_of(fault: FileFault) -> LogSinkFault
 fn prepare<F: Files>(alloc: Global, files: &mut F, name: &str) -> Result<Gathered, LogSinkFault>
     ensures kept { IfOk result (λ k. (string_bytes k.name ≡ name.now) × (k.learnt ≡ 0) × (k.failed ≡ false)
         × (k.bytes.items ≡ [])) }
-    ensures created { OnOk result (WhereTold (F.at files.old).contents (F.at files.new).contents (Sets name.now header)) }
+    ensures created { OnOk result
+        (WhereTold (F.at files.old).contents (F.at files.new).contents (Sets name.now header)) }
     ensures err { IfErr result (λ e. StartFails name.now (F.at files.old) e (F.at files.new)) }
     ensures later { (F.at files.old).write_faults ≤ (F.at files.new).write_faults }
     ensures read_faults { (F.at files.new).read_faults ≡ (F.at files.old).read_faults }

@@ -120,7 +120,8 @@ impl Arena {
         ensures because { AreBecause self.new trail.old trail.new }
         ensures front { trail.old.front ≤ trail.new.front }
         ensures all { result ≡ None → trail.new.front ≡ length trail.new.lits }
-        ensures closes { result ≡ None → IsClosure (attached_clauses self.old) (has trail.old.lits) (has trail.new.lits) }
+        ensures closes { result ≡ None
+            → IsClosure (attached_clauses self.old) (has trail.old.lits) (has trail.new.lits) }
         ensures clash { IfSome result (λ c. IsClashOf self.new trail.new c.0) }
         ensures falsifies { IfSome result (λ _. Falsifies (attached_clauses self.old) (has trail.old.lits)) }
         ensures visits { self.old.visits ≤ self.new.visits }
