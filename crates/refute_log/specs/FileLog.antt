@@ -76,6 +76,15 @@ pub record StartFails (name : List ℕ) (before : FilesAt) (fault : LogSinkFault
   pub later : before.write_faults ≤ after.write_faults
   pub cause : fault ≡ Failed → Rose before.write_faults after.write_faults
 
+-- what a log in a file keeps later, and the files then: its name is the same, no other file has changed, and nothing
+-- was read
+pub record IsKeptLater (kept : Gathered) (before : FilesAt) (now : Gathered) (after : FilesAt) : Type 0 where
+  pub name : name_of now ≡ name_of kept
+  pub others : WhereTold before.contents after.contents (SameElsewhere (name_of kept))
+  pub keeps : WhereTold before.contents after.contents (StillKeeps kept now)
+  pub read_faults : after.read_faults ≡ before.read_faults
+  pub reads : after.reads ≡ before.reads
+
 -- laws of the later state
 pub where_told_same : (c : Option Told) (name : List ℕ) → WhereTold c c (SameElsewhere name)
 where_told_same None name = tt
@@ -107,3 +116,21 @@ keeps_more None b c x y z h k = tt
 keeps_more (Some a) None c x y z h k = absurd h
 keeps_more (Some a) (Some b) None x y z h k = absurd k
 keeps_more (Some a) (Some b) (Some c) x y z h k = λ f. k (h f)
+
+pub later_itself : (kept : Gathered) (files : FilesAt) → IsKeptLater kept files kept files
+later_itself kept files = record {
+  name = refl;
+  others = where_told_same files.contents (name_of kept);
+  keeps = keeps_same files.contents kept;
+  read_faults = refl;
+  reads = refl;
+}
+
+pub later_again : (x y z : Gathered) (a b c : FilesAt) → IsKeptLater x a y b → IsKeptLater y b z c → IsKeptLater x a z c
+later_again x y z a b c h k = record {
+  name = k.name ∙ h.name;
+  others = where_told_more a.contents b.contents c.contents (name_of x) (name_of y) h.name h.others k.others;
+  keeps = keeps_more a.contents b.contents c.contents x y z h.keeps k.keeps;
+  read_faults = k.read_faults ∙ h.read_faults;
+  reads = k.reads ∙ h.reads;
+}

@@ -140,9 +140,8 @@ impl<'a, F: Files> FileLog<'a, F> {
 impl<'a, F: Files> LogSink for FileLog<'a, F> {
     ghost use Rattle.std.specs.Prelude.{◌≡◌};
     ghost use Rattle.std.proofs.Common.{refl, ◌∙◌};
-    ghost use Rattle.outside_io.specs.Contents.{WhereTold, SameElsewhere};
-    ghost use Rattle.refute_log.specs.FileLog.{TellsLines, name_of, learnt_of, StillKeeps, keeps_same, keeps_more};
-    ghost use Rattle.refute_log.specs.FileLog.{where_told_same, where_told_more, tells_once};
+    ghost use Rattle.refute_log.specs.FileLog.{TellsLines, name_of, learnt_of, IsKeptLater, later_itself, later_again};
+    ghost use Rattle.refute_log.specs.FileLog.{tells_once};
 
     ghost tells = { λ s lines. TellsLines s.kept (F.at s.files.now).contents lines };
 
@@ -150,11 +149,8 @@ impl<'a, F: Files> LogSink for FileLog<'a, F> {
 
     ghost faults = { λ s. (F.at s.files.now).write_faults };
 
-    ghost is_later = { λ s t. (t.files.ghost_name ≡ s.files.ghost_name) × (name_of t.kept ≡ name_of s.kept)
-        × WhereTold (F.at s.files.now).contents (F.at t.files.now).contents (SameElsewhere (name_of s.kept))
-        × WhereTold (F.at s.files.now).contents (F.at t.files.now).contents (StillKeeps s.kept t.kept)
-        × ((F.at t.files.now).read_faults ≡ (F.at s.files.now).read_faults)
-        × ((F.at t.files.now).reads ≡ (F.at s.files.now).reads) };
+    ghost is_later = { λ s t. (t.files.ghost_name ≡ s.files.ghost_name)
+        × IsKeptLater s.kept (F.at s.files.now) t.kept (F.at t.files.now) };
 
     fn tell(&mut self, line: &LogLine) -> Result<(), LogSinkFault> {
         if self.kept.failed {
@@ -184,24 +180,10 @@ impl<'a, F: Files> LogSink for FileLog<'a, F> {
 
     ghost counted = { λ s lines h. h.1 };
 
-    ghost later_same = { λ s. (
-      refl,
-      refl,
-      where_told_same (F.at s.files.now).contents (name_of s.kept),
-      keeps_same
-          (F.at s.files.now).contents s.kept,
-      refl,
-      refl,
-    ) };
+    ghost later_same = { λ s. (refl, later_itself s.kept (F.at s.files.now)) };
 
     ghost later_more = { λ a b c h k. (
       k.0 ∙ h.0,
-      k.1 ∙ h.1,
-      where_told_more (F.at a.files.now).contents
-          (F.at b.files.now).contents (F.at c.files.now).contents (name_of a.kept) (name_of b.kept) h.1 h.2 k.2,
-      keeps_more (F.at a.files.now).contents (F.at b.files.now).contents (F.at c.files.now).contents a.kept b.kept
-          c.kept h.3 k.3,
-      k.4 ∙ h.4,
-      k.5 ∙ h.5,
+      later_again a.kept b.kept c.kept (F.at a.files.now) (F.at b.files.now) (F.at c.files.now) h.1 k.1,
     ) };
 }

@@ -14,14 +14,14 @@ returns-in-Ok-finish-clause-searched g c =
     let mid = at c.in-Ok.log.files.now in
     let after = at c.search.new.log.files.now in
     let name = c.args.name.now in
-    let later = c.search.ensures.later in
+    let later = c.search.ensures.later.1 in
     let searched = c.in-Ok-search.ensures.searched in
     let created = subst (λ (n : List ℕ). WhereTold old mid (Sets n header)) c.as_str.ensures c.in-Ok.ensures.created in
     record {
       lines = searched.lines;
       told =
           at_end {X = g.row.F.Denot} (λ s. HoldsLog old (at s) name searched.lines) c.finish.new.self.0 _
-          (filed_holds old mid after (at c.finish.new.self.0) name c.in-Ok.log.kept c.search.new.log.kept searched.lines created c.in-Ok.ensures.tells (c.in-Ok.ensures.name ∙ c.as_str.ensures) later.1 later.2
+          (filed_holds old mid after (at c.finish.new.self.0) name c.in-Ok.log.kept c.search.new.log.kept searched.lines created c.in-Ok.ensures.tells (c.in-Ok.ensures.name ∙ c.as_str.ensures) later.name later.others
           searched.told.behind c.finish.ensures.others c.in-Ok-finish.ensures.text)
           (search rules);
       ended = searched.ended;
@@ -32,11 +32,11 @@ returns-in-Ok-finish-clause-others g c =
     let at = λ (f : g.row.F.Denot). (g.F.Files.at f).contents in
     let old = at c.args.files.now in
     let mid = at c.in-Ok.log.files.now in
-    let later = c.search.ensures.later in
+    let later = c.search.ensures.later.1 in
     let created = subst (λ (n : List ℕ). WhereTold old mid (Sets n header)) c.as_str.ensures c.in-Ok.ensures.created in
     at_end {X = g.row.F.Denot} (λ s. WhereTold old (at s) (SameElsewhere c.args.name.now)) c.finish.new.self.0 _
-    (filed_others old mid (at c.search.new.log.files.now) (at c.finish.new.self.0) c.args.name.now c.in-Ok.log.kept c.search.new.log.kept created (c.in-Ok.ensures.name ∙ c.as_str.ensures) later.1
-    later.2 c.finish.ensures.others)
+    (filed_others old mid (at c.search.new.log.files.now) (at c.finish.new.self.0) c.args.name.now c.in-Ok.log.kept c.search.new.log.kept created (c.in-Ok.ensures.name ∙ c.as_str.ensures) later.name
+    later.others c.finish.ensures.others)
     (search rules)
 
 pub returns-in-Ok-finish-clause-begun : goal.returns-in-Ok-finish-clause-begun
@@ -44,10 +44,10 @@ returns-in-Ok-finish-clause-begun g c =
     let at = λ (f : g.row.F.Denot). (g.F.Files.at f).contents in
     let old = at c.args.files.now in
     let name = c.args.name.now in
-    let later = c.search.ensures.later in
+    let later = c.search.ensures.later.1 in
     at_end {X = g.row.F.Denot} (λ s. WhereTold old (at s) (λ x y. (y name ≡ x name) ⊎ FileBeginsLog y name)) c.finish.new.self.0 _
     (filed_begun old (at c.in-Ok.log.files.now) (at c.search.new.log.files.now) (at c.finish.new.self.0) name c.in-Ok.log.kept c.search.new.log.kept c.in-Ok.ensures.keeps
-    (c.in-Ok.ensures.name ∙ c.as_str.ensures) later.1 later.3 c.finish.ensures.begins)
+    (c.in-Ok.ensures.name ∙ c.as_str.ensures) later.name later.keeps c.finish.ensures.begins)
     (search rules)
 
 pub returns-in-Err-finish-clause-others : goal.returns-in-Err-finish-clause-others
@@ -55,11 +55,11 @@ returns-in-Err-finish-clause-others g c =
     let at = λ (f : g.row.F.Denot). (g.F.Files.at f).contents in
     let old = at c.args.files.now in
     let mid = at c.in-Ok.log.files.now in
-    let later = c.search.ensures.later in
+    let later = c.search.ensures.later.1 in
     let created = subst (λ (n : List ℕ). WhereTold old mid (Sets n header)) c.as_str.ensures c.in-Ok.ensures.created in
     at_end {X = g.row.F.Denot} (λ s. WhereTold old (at s) (SameElsewhere c.args.name.now)) c.finish.new.self.0 _
-    (filed_others old mid (at c.search.new.log.files.now) (at c.finish.new.self.0) c.args.name.now c.in-Ok.log.kept c.search.new.log.kept created (c.in-Ok.ensures.name ∙ c.as_str.ensures) later.1
-    later.2 c.finish.ensures.others)
+    (filed_others old mid (at c.search.new.log.files.now) (at c.finish.new.self.0) c.args.name.now c.in-Ok.log.kept c.search.new.log.kept created (c.in-Ok.ensures.name ∙ c.as_str.ensures) later.name
+    later.others c.finish.ensures.others)
     (search rules)
 
 pub returns-in-Err-finish-clause-cause : goal.returns-in-Err-finish-clause-cause
@@ -75,10 +75,10 @@ returns-in-Err-finish-clause-begun g c =
     let at = λ (f : g.row.F.Denot). (g.F.Files.at f).contents in
     let old = at c.args.files.now in
     let name = c.args.name.now in
-    let later = c.search.ensures.later in
+    let later = c.search.ensures.later.1 in
     at_end {X = g.row.F.Denot} (λ s. WhereTold old (at s) (λ x y. (y name ≡ x name) ⊎ FileBeginsLog y name)) c.finish.new.self.0 _
     (filed_begun old (at c.in-Ok.log.files.now) (at c.search.new.log.files.now) (at c.finish.new.self.0) name c.in-Ok.log.kept c.search.new.log.kept c.in-Ok.ensures.keeps
-    (c.in-Ok.ensures.name ∙ c.as_str.ensures) later.1 later.3 c.finish.ensures.begins)
+    (c.in-Ok.ensures.name ∙ c.as_str.ensures) later.name later.keeps c.finish.ensures.begins)
     (search rules)
 
 pub returns-in-Err-search-clause-begun : goal.returns-in-Err-search-clause-begun
@@ -86,10 +86,10 @@ returns-in-Err-search-clause-begun g c =
     let at = λ (f : g.row.F.Denot). (g.F.Files.at f).contents in
     let old = at c.args.files.now in
     let name = c.args.name.now in
-    let later = c.search.ensures.later in
+    let later = c.search.ensures.later.1 in
     at_end {X = g.row.F.Denot} (λ s. WhereTold old (at s) (λ x y. (y name ≡ x name) ⊎ FileBeginsLog y name)) c.search.new.log.files.now _
-    (left_begun old (at c.in-Ok.log.files.now) (at c.search.new.log.files.now) name c.in-Ok.log.kept c.search.new.log.kept c.in-Ok.ensures.keeps (c.in-Ok.ensures.name ∙ c.as_str.ensures) later.1
-    later.3)
+    (left_begun old (at c.in-Ok.log.files.now) (at c.search.new.log.files.now) name c.in-Ok.log.kept c.search.new.log.kept c.in-Ok.ensures.keeps (c.in-Ok.ensures.name ∙ c.as_str.ensures) later.name
+    later.keeps)
     (search rules)
 
 pub returns-in-Err-clause-others : goal.returns-in-Err-clause-others

@@ -26,8 +26,16 @@ returns-in-Err-clause-later g c =
     let after = (g.F.Files.at c.append.new.self).contents in
     let kept = c.args.self.now.kept in
     let now = c.write_line.new.into.items in
-    let w = rw (c.as_str.ensures.value, c.deref.ensures.value) at c.in-Err.ensures.err in
-    (refl, refl, others_of_cut before after kept.name.bytes.items now w, cut_keeps before after kept.failed kept.name.bytes.items kept.bytes.items now c.args.line.now c.if-self.false c.requires (search rules) w, c.append.ensures.read_faults, c.append.ensures.reads)
+    let w = rw (c.as_str.ensures.value, c.deref.ensures.value) at c.in-Err.ensures.err in (
+      refl,
+      record {
+        name = refl;
+        others = others_of_cut before after kept.name.bytes.items now w;
+        keeps = cut_keeps before after kept.failed kept.name.bytes.items kept.bytes.items now c.args.line.now c.if-self.false c.requires (search rules) w;
+        read_faults = c.append.ensures.read_faults;
+        reads = c.append.ensures.reads;
+      },
+    )
 
 pub returns-clause-later : goal.returns-clause-later
 returns-clause-later g c =
@@ -38,6 +46,24 @@ returns-clause-later g c =
     elim c.if-len-ge-PIECE.branch [
       | then-len-ge-PIECE+in-Ok w ↦
           let v = rw (w.as_str.ensures.value, w.deref.ensures.value) at w.in-Ok.ensures.ok in
-          rw w.self-is (refl, refl, others_of_piece before (g.F.Files.at w.append.new.self).contents kept.name.bytes.items now v, piece_keeps before (g.F.Files.at w.append.new.self).contents kept.failed kept.name.bytes.items kept.bytes.items now _ c.args.line.now c.if-self.false c.requires written w.clear.ensures.items v, w.append.ensures.read_faults, w.append.ensures.reads)
-      | else-len-ge-PIECE w ↦ rw w.self-is (refl, refl, where_told_same before kept.name.bytes.items, line_keeps before kept.failed kept.name.bytes.items kept.bytes.items now c.args.line.now c.if-self.false c.requires written, refl, refl)
+          rw w.self-is (
+            refl,
+            record {
+              name = refl;
+              others = others_of_piece before (g.F.Files.at w.append.new.self).contents kept.name.bytes.items now v;
+              keeps = piece_keeps before (g.F.Files.at w.append.new.self).contents kept.failed kept.name.bytes.items kept.bytes.items now _ c.args.line.now c.if-self.false c.requires written w.clear.ensures.items v;
+              read_faults = w.append.ensures.read_faults;
+              reads = w.append.ensures.reads;
+            },
+          )
+      | else-len-ge-PIECE w ↦ rw w.self-is (
+        refl,
+        record {
+          name = refl;
+          others = where_told_same before kept.name.bytes.items;
+          keeps = line_keeps before kept.failed kept.name.bytes.items kept.bytes.items now c.args.line.now c.if-self.false c.requires written;
+          read_faults = refl;
+          reads = refl;
+        },
+      )
     ]
