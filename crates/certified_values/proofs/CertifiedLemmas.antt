@@ -17,7 +17,7 @@ use Rattle.refute_log.specs.Told.{Lines}
 use Rattle.refute_log.specs.Log.{given, refuted, Derives}
 use Rattle.refute_log.proofs.LogLemmas.{derived_hold}
 use Rattle.certified_values.specs.Bounds.{SaysAtLeast, MeetsLog}
-use Rattle.certified_values.specs.Certified.{IsOutOfReach, IsCertifiedLeast, Certifies, CertifiesNone, Settled}
+use Rattle.certified_values.specs.Certified.{IsOutOfReach, IsCertifiedLeast, IsLeastAt, Certifies, CertifiesNone, Settled}
 
 -- ---- values that meet a log that derives
 
@@ -141,6 +141,13 @@ certifies_next greatest lines order v i c here h least = λ j d low at. elim (be
       let there : slice_get order i ≡ Some d = ap (slice_get order) (sym e) ∙ at in
       let same : c ≡ d = same_Some c d (sym here ∙ there) in
       subst (λ n. IsCertifiedLeast greatest lines (take n order) d v) (sym e) (subst (λ b. IsCertifiedLeast greatest lines (take i order) b v) same least)
+]
+
+pub certifies_place : (greatest : Criterion → ℕ) (lines : Lines) (order : List Criterion) (v : Values) (i : ℕ) →
+    Certifies greatest lines order v i → IsLeastAt greatest lines order v i → Certifies greatest lines order v (i + 1)
+certifies_place greatest lines order v i h least = λ j c low at. elim (below_or_is j i low) [
+  | inl less ↦ h j c less at
+  | inr e ↦ subst (λ n. IsCertifiedLeast greatest lines (take n order) c v) (sym e) (least c (ap (slice_get order) (sym e) ∙ at))
 ]
 
 pub least_at : (greatest : Criterion → ℕ) (lines : Lines) (order : List Criterion) (v : Values) (i : ℕ) (c : Criterion) → slice_get order i ≡ Some c →

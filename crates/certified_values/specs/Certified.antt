@@ -26,6 +26,11 @@ pub record RefutesLess (greatest : Criterion → ℕ) (lines : Lines) (earlier :
 abbrev pub IsCertifiedLeast : (Criterion → ℕ) → Lines → List Criterion → Criterion → Values → Type 0
 IsCertifiedLeast greatest lines earlier c v = 1 ≤ value_of v c → RefutesLess greatest lines earlier c v
 
+-- the value of the criterion at this place of the order is least
+abbrev pub IsLeastAt : (Criterion → ℕ) → Lines → List Criterion → Values → ℕ → Type 0
+IsLeastAt greatest lines order v i =
+    (c : Criterion) → slice_get order i ≡ Some c → IsCertifiedLeast greatest lines (take i order) c v
+
 -- the log certifies the first s values of the order: at each place below s the value is least
 abbrev pub Certifies : (Criterion → ℕ) → Lines → List Criterion → Values → ℕ → Type 0
 Certifies greatest lines order v s =
@@ -34,6 +39,10 @@ Certifies greatest lines order v s =
 -- the log certifies that there is no drawing: it has a Refuted line without literals
 abbrev pub CertifiesNone : Lines → Type 0
 CertifiesNone lines = Contains lines (Refuted [])
+
+-- two values are the same at each of these criteria
+abbrev pub AreSameAt : List Criterion → Values → Values → Type 0
+AreSameAt order v w = All (λ c. value_of v c ≡ value_of w c) order
 
 -- s is the greatest number below the order's length to which v is certified
 pub record IsSettled (greatest : Criterion → ℕ) (lines : Lines) (order : List Criterion) (v : Values) (s : ℕ) : Type 0

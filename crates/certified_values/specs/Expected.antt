@@ -98,9 +98,27 @@ with_cap cap c n d = cond (same_criterion c d) n (cap d)
 
 -- c is the next criterion to have a cap: it stands once in an order, with these before and these behind it, and
 -- neither it nor one behind it has a cap
-pub record IsNextToCap (before : List Criterion) (c : Criterion) (behind : List Criterion) (cap : Criterion → ℕ) : Type
-    0 where
+pub record IsNextToCap (before : List Criterion) (c : Criterion) (behind : List Criterion) (cap : Criterion → ℕ)
+    : Type 0 where
   pub not_before : All (λ d. c ≢ d) before
   pub not_behind : All (λ d. c ≢ d) behind
   pub none : cap c ≡ 0
   pub none_behind : All (λ d. cap d ≡ 0) behind
+
+-- c stands once in the order
+pub record StandsOnce (order : List Criterion) (c : Criterion) : Type 0 where
+  pub before : List Criterion
+  pub behind : List Criterion
+  pub is : order ≡ before ++ c ∷ behind
+  pub not_before : All (λ d. c ≢ d) before
+  pub not_behind : All (λ d. c ≢ d) behind
+
+-- with n bounds for c its lines come at the end, and nothing else changes
+abbrev pub EndsWithSum : Problem → List Criterion → (Criterion → ℕ) → Criterion → ℕ → Type 0
+EndsWithSum e order cap c n = expected_lines e order (with_cap cap c n)
+    ≡ expected_lines e order cap ++ sum_lines e (expected_vars e order cap) c n
+
+-- and its variables come behind the others
+abbrev pub EndsWithSumVars : Problem → List Criterion → (Criterion → ℕ) → Criterion → ℕ → Type 0
+EndsWithSumVars e order cap c n = expected_vars e order (with_cap cap c n)
+    ≡ expected_vars e order cap + sum_vars_of e (expected_vars e order cap) c n

@@ -1,16 +1,18 @@
 // Laws of certified values. The functions do nothing: their contracts are the laws.
-ghost use Rattle.std.specs.Prelude.{◌≡◌, ◌≤◌, ◌+◌, ◌++◌, ℕ, Bool, List, Option, Some, length, take, slice_get, All};
+ghost use Rattle.std.specs.Prelude.{◌≡◌, ◌≤◌, ◌+◌, ◌++◌, ℕ, Bool, List, Option, take};
 ghost use Rattle.plan_core.specs.declared.criterion.Values.{Values};
 ghost use Rattle.plan_core.specs.declared.criterion.Criterion.{Criterion};
 ghost use Rattle.plan_core.specs.Grid.{GridSize};
 ghost use Rattle.plan_core.specs.Graph.{Graph};
 ghost use Rattle.plan_core.specs.Drawing.{Drawing};
 ghost use Rattle.plan_core.specs.Lawful.{Lawful};
-ghost use Rattle.plan_core.specs.Values.{values_of, value_of, Better, IsBest};
+ghost use Rattle.plan_core.specs.Values.{Better};
 ghost use Rattle.refute_log.specs.Told.{Lines};
 ghost use Rattle.refute_log.specs.Log.{Derives};
 ghost use Rattle.certified_values.specs.Bounds.{MeetsLog, CoversDrawings};
-ghost use Rattle.certified_values.specs.Certified.{IsCertifiedLeast, Certifies, CertifiesNone, Settled};
+ghost use Rattle.certified_values.specs.Certified.{IsCertifiedLeast, IsLeastAt, Certifies, CertifiesNone, AreSameAt};
+ghost use Rattle.certified_values.specs.Certified.{Settled};
+ghost use Rattle.certified_values.specs.Least.{CertifiedAreLeast, CertifiedAreBest};
 ghost use Rattle.certified_values.specs.Expected.{caps};
 
 /// Values that meet a log that derives are not better than those it certifies, on the criteria it
@@ -22,8 +24,7 @@ pub fn certified_values_are_least()
     ensures none { (lines : Lines) (w : Values) → MeetsLog lines w → Derives lines → CertifiesNone lines → ⊥ }
     ensures once { (greatest : Criterion → ℕ) (lines : Lines) (order : List Criterion) (v w : Values) (s : ℕ) →
         MeetsLog lines v → MeetsLog lines w → Derives lines → Certifies greatest lines order v s →
-        Certifies greatest lines order w s →
-        All (λ c. value_of v c ≡ value_of w c) (take s order) }
+        Certifies greatest lines order w s → AreSameAt (take s order) v w }
 {}
 
 /// Whoever wrote the log: where it covers the lawful drawings and derives, none of them is better on
@@ -31,17 +32,14 @@ pub fn certified_values_are_least()
 /// values it certifies on the whole order is best.
 pub fn certified_drawings_are_least()
     ensures least { (g : Graph) (above : ℕ → ℕ → Bool) (grid : GridSize) (greatest : Criterion → ℕ) (lines : Lines)
-        (order : List Criterion) (v : Values) (s : ℕ) →
-        CoversDrawings g above grid lines → Derives lines → Certifies greatest lines order v s →
-        (d : Drawing) → Lawful g above grid d → Better (take s order) (values_of d) v → ⊥ }
+        (order : List Criterion) → CoversDrawings g above grid lines → Derives lines →
+        CertifiedAreLeast g above grid greatest lines order }
     ensures none { (g : Graph) (above : ℕ → ℕ → Bool) (grid : GridSize) (lines : Lines) →
         CoversDrawings g above grid lines → Derives lines → CertifiesNone lines → (d : Drawing) →
         Lawful g above grid d → ⊥ }
     ensures best { (g : Graph) (above : ℕ → ℕ → Bool) (grid : GridSize) (greatest : Criterion → ℕ) (lines : Lines)
-        (order : List Criterion) (d : Drawing) →
-        CoversDrawings g above grid lines → Derives lines → Lawful g above grid d →
-        Certifies greatest lines order (values_of d) (length order) →
-        IsBest g above grid order d }
+        (order : List Criterion) → CoversDrawings g above grid lines → Derives lines →
+        CertifiedAreBest g above grid greatest lines order }
 {}
 
 /// A log certifies whatever a front of it certifies.
@@ -56,13 +54,11 @@ pub fn more_lines_certify_more()
 pub fn values_are_certified_place_by_place()
     ensures none { (greatest : Criterion → ℕ) (lines : Lines) (order : List Criterion) (v : Values) →
         Certifies greatest lines order v 0 }
-    ensures next { (greatest : Criterion → ℕ) (lines : Lines) (order : List Criterion) (v : Values) (i : ℕ)
-        (c : Criterion) → slice_get order i ≡ Some c →
-        Certifies greatest lines order v i → IsCertifiedLeast greatest lines (take i order) c v →
+    ensures next { (greatest : Criterion → ℕ) (lines : Lines) (order : List Criterion) (v : Values) (i : ℕ) →
+        Certifies greatest lines order v i → IsLeastAt greatest lines order v i →
         Certifies greatest lines order v (i + 1) }
-    ensures last { (greatest : Criterion → ℕ) (lines : Lines) (order : List Criterion) (v : Values) (i : ℕ)
-        (c : Criterion) → slice_get order i ≡ Some c →
-        Certifies greatest lines order v (i + 1) → IsCertifiedLeast greatest lines (take i order) c v }
+    ensures last { (greatest : Criterion → ℕ) (lines : Lines) (order : List Criterion) (v : Values) (i : ℕ) →
+        Certifies greatest lines order v (i + 1) → IsLeastAt greatest lines order v i }
     ensures fewer { (greatest : Criterion → ℕ) (lines : Lines) (order : List Criterion) (v : Values) (s t : ℕ) → t ≤ s →
         Certifies greatest lines order v s → Certifies greatest lines order v t }
 {}
@@ -70,7 +66,7 @@ pub fn values_are_certified_place_by_place()
 /// To some depth only the values of the criteria before it count.
 pub fn equal_values_are_certified_alike()
     ensures { (greatest : Criterion → ℕ) (lines : Lines) (order : List Criterion) (v w : Values) (s : ℕ) →
-        All (λ c. value_of v c ≡ value_of w c) (take s order) → Certifies greatest lines order v s →
+        AreSameAt (take s order) v w → Certifies greatest lines order v s →
         Certifies greatest lines order w s }
 {}
 

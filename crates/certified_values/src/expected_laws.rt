@@ -1,36 +1,28 @@
 // Laws of the lines that are expected. The functions do nothing: their contracts are the laws.
-ghost use Rattle.std.specs.Prelude.{◌≡◌, ◌≢◌, ◌≤◌, ◌+◌, ◌∷◌, ◌++◌, ℕ, Bool, List, take, map, All};
-ghost use Rattle.plan_core.specs.declared.criterion.Values.{Values};
+ghost use Rattle.std.specs.Prelude.{◌≡◌, ◌≤◌, ◌∷◌, ◌++◌, ℕ, Bool, List, map, All};
 ghost use Rattle.plan_core.specs.declared.criterion.Criterion.{Criterion};
 ghost use Rattle.plan_core.specs.Grid.{GridSize};
 ghost use Rattle.plan_core.specs.Graph.{Graph};
 ghost use Rattle.plan_core.specs.Drawing.{Drawing};
 ghost use Rattle.plan_core.specs.Lawful.{Lawful};
-ghost use Rattle.plan_core.specs.Values.{values_of, Better};
 ghost use Rattle.refute_log.specs.declared.line.LogLine.TheVariants.{Formula};
 ghost use Rattle.refute_log.specs.Told.{Lines};
-ghost use Rattle.refute_log.specs.Log.{Derives, clause_lines};
-ghost use Rattle.certified_values.specs.Bounds.{CoversDrawings};
-ghost use Rattle.certified_values.specs.Certified.{Certifies, CertifiesNone};
-ghost use Rattle.certified_values.specs.Expected.{Problem, HasAllBounds, caps, sum_lines, sum_vars_of, expected_lines};
-ghost use Rattle.certified_values.specs.Expected.{expected_vars, IsExpected, with_cap, IsNextToCap};
+ghost use Rattle.refute_log.specs.Log.{clause_lines};
+ghost use Rattle.certified_values.specs.Certified.{CertifiesNone};
+ghost use Rattle.certified_values.specs.Least.{IsLogOf, CertifiedAreLeast};
+ghost use Rattle.certified_values.specs.Expected.{Problem, HasAllBounds, caps, expected_lines, expected_vars};
+ghost use Rattle.certified_values.specs.Expected.{IsNextToCap, StandsOnce, EndsWithSum, EndsWithSumVars};
 
 /// Whoever wrote the log: where the expected lines cover the lawful drawings, with whatever caps, and
 /// the log's Formula and Bound lines begin those for its own caps, no lawful drawing is better on the
 /// criteria that it certifies, and there is none where it certifies that.
 pub fn certified_over_expected_lines_is_least()
     ensures least { (g : Graph) (above : ℕ → ℕ → Bool) (grid : GridSize) (e : Problem) (greatest : Criterion → ℕ)
-        (lines : Lines) (order : List Criterion) (v : Values) (s : ℕ) →
-        ((cap : Criterion → ℕ) → ((c : Criterion) → cap c ≤ greatest c) →
-        CoversDrawings g above grid (expected_lines e order cap)) →
-        IsExpected e greatest order lines → Derives lines → Certifies greatest lines order v s →
-        (d : Drawing) → Lawful g above grid d → Better (take s order) (values_of d) v → ⊥ }
+        (lines : Lines) (order : List Criterion) → IsLogOf g above grid e greatest lines order →
+        CertifiedAreLeast g above grid greatest lines order }
     ensures none { (g : Graph) (above : ℕ → ℕ → Bool) (grid : GridSize) (e : Problem) (greatest : Criterion → ℕ)
-        (lines : Lines) (order : List Criterion) →
-        ((cap : Criterion → ℕ) → ((c : Criterion) → cap c ≤ greatest c) →
-        CoversDrawings g above grid (expected_lines e order cap)) →
-        IsExpected e greatest order lines → Derives lines → CertifiesNone lines →
-        (d : Drawing) → Lawful g above grid d → ⊥ }
+        (lines : Lines) (order : List Criterion) → IsLogOf g above grid e greatest lines order →
+        CertifiesNone lines → (d : Drawing) → Lawful g above grid d → ⊥ }
 {}
 
 /// Without caps the file's clauses alone are expected. Only the caps count. With a cap for the next
@@ -45,19 +37,14 @@ pub fn expected_lines_come_sum_by_sum()
     ensures same_vars { (e : Problem) (order : List Criterion) (cap other : Criterion → ℕ) →
         ((c : Criterion) → cap c ≡ other c) → expected_vars e order cap ≡ expected_vars e order other }
     ensures next { (e : Problem) (before behind : List Criterion) (c : Criterion) (n : ℕ) (cap : Criterion → ℕ) →
-        IsNextToCap before c behind cap →
-        expected_lines e (before ++ c ∷ behind) (with_cap cap c n)
-        ≡ expected_lines e (before ++ c ∷ behind) cap ++ sum_lines e (expected_vars e (before ++ c ∷ behind) cap) c n }
+        IsNextToCap before c behind cap → EndsWithSum e (before ++ c ∷ behind) cap c n }
     ensures next_vars { (e : Problem) (before behind : List Criterion) (c : Criterion) (n : ℕ) (cap : Criterion → ℕ) →
-        IsNextToCap before c behind cap →
-        expected_vars e (before ++ c ∷ behind) (with_cap cap c n)
-        ≡ expected_vars e (before ++ c ∷ behind) cap + sum_vars_of e (expected_vars e (before ++ c ∷ behind) cap) c n }
+        IsNextToCap before c behind cap → EndsWithSumVars e (before ++ c ∷ behind) cap c n }
 {}
 
 /// Lines that are what is expected for some caps have just these caps.
 pub fn caps_are_those_told()
-    ensures { (e : Problem) (greatest cap : Criterion → ℕ) (before behind : List Criterion) (c : Criterion)
-        (lines : Lines) → HasAllBounds e →
-        All (λ d. c ≢ d) before → All (λ d. c ≢ d) behind → cap c ≤ greatest c →
-        clause_lines lines ≡ expected_lines e (before ++ c ∷ behind) cap → caps greatest lines c ≡ cap c }
+    ensures { (e : Problem) (greatest cap : Criterion → ℕ) (order : List Criterion) (c : Criterion) (lines : Lines) →
+        HasAllBounds e → StandsOnce order c → cap c ≤ greatest c → clause_lines lines ≡ expected_lines e order cap →
+        caps greatest lines c ≡ cap c }
 {}

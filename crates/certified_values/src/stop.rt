@@ -5,8 +5,7 @@
 pub enum Stop {
     /// The whole budget of learnt clauses is spent.
     BudgetSpent,
-    /// There is no room for a further learnt clause, or for the clauses of a criterion: `IsCause` says the first, and
-    /// for the
-    /// second see `NextSumPasses` and `CapsPass`.
+    /// There is no room for a further learnt clause, or for the clauses of a criterion. `IsCause` says the first; for
+    /// the second see `NextSumPasses` and `CapsPass`.
     RoomFull,
 }

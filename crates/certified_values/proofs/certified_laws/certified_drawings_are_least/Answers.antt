@@ -8,9 +8,9 @@ use Rattle.certified_values.proofs.certified_laws.certified_drawings_are_least.G
 
 pub returns : goal.returns
 returns c = record {
-  least = λ g above grid greatest lines order v s covers derives certified d lawful b. none_better greatest lines order v (values_of d) s (covers d lawful) derives certified b;
+  least = λ g above grid greatest lines order covers derives v s certified d lawful b. none_better greatest lines order v (values_of d) s (covers d lawful) derives certified b;
   none = λ g above grid lines covers derives none d lawful. none_meets lines (values_of d) (covers d lawful) derives none;
-  best = λ g above grid greatest lines order d covers derives lawful certified. record {
+  best = λ g above grid greatest lines order covers derives d lawful certified. record {
     lawful = lawful;
     none_better = λ other also b.
         let whole = subst (λ (cs : List Criterion). Better cs (values_of other) (values_of d)) (sym (take_all (length order) order (omega arith))) b in

@@ -1,5 +1,10 @@
+use Rattle.std.proofs.Common.{List, ◌∙◌, ap}
+use Rattle.plan_core.specs.declared.criterion.Criterion.{Criterion}
+use Rattle.certified_values.specs.Expected.{expected_lines}
 use Rattle.certified_values.proofs.CapsLemmas.{caps_told}
 use Rattle.certified_values.proofs.expected_laws.caps_are_those_told.Goals as goal
 
 pub returns : goal.returns
-returns c' = λ e greatest cap before behind c lines all out after within told. caps_told e all greatest cap before behind c lines out after within told
+returns c' = λ e greatest cap order c lines all once within told.
+    let here = told ∙ ap (λ (cs : List Criterion). expected_lines e cs cap) once.is in
+    caps_told e all greatest cap once.before once.behind c lines once.not_before once.not_behind within here

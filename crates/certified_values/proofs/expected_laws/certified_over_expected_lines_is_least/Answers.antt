@@ -6,10 +6,12 @@ use Rattle.certified_values.proofs.expected_laws.certified_over_expected_lines_i
 
 pub returns : goal.returns
 returns c = record {
-  least = λ g above grid e greatest lines order v s covers front derives certified d lawful b.
+  least = λ g above grid e greatest lines order log v s certified d lawful b.
       let cap = caps greatest lines in
-      none_better greatest lines order v (values_of d) s (meets_front (expected_lines e order cap) lines (values_of d) front (covers cap (caps_within greatest lines) d lawful)) derives certified b;
-  none = λ g above grid e greatest lines order covers front derives none d lawful.
+      let meets = meets_front (expected_lines e order cap) lines (values_of d) log.expected (log.covers cap (caps_within greatest lines) d lawful) in
+      none_better greatest lines order v (values_of d) s meets log.derives certified b;
+  none = λ g above grid e greatest lines order log none d lawful.
       let cap = caps greatest lines in
-      none_meets lines (values_of d) (meets_front (expected_lines e order cap) lines (values_of d) front (covers cap (caps_within greatest lines) d lawful)) derives none;
+      let meets = meets_front (expected_lines e order cap) lines (values_of d) log.expected (log.covers cap (caps_within greatest lines) d lawful) in
+      none_meets lines (values_of d) meets log.derives none;
 }
