@@ -9,7 +9,7 @@ use Rattle.plan_core.specs.Drawing.{Drawing}
 use Rattle.plan_core.specs.Order.{IsOrder}
 use Rattle.lex_search.specs.Task.{Task, IsLawful, greatest_of}
 use Rattle.lex_search.specs.Reached.{HasSameValues}
-use Rattle.lex_search.specs.Caps.{AllZero, IsCapAt, IsTurn, IsByTurns, AreCapped}
+use Rattle.lex_search.specs.Caps.{AllZero, IsCapAt, IsTurn, IsByTurns, AreCapped, WasReached}
 use Rattle.lex_search.proofs.LowerLemmas.{take_of_take, at_place, same_then}
 use Rattle.lex_search.proofs.RunLemmas.{no_more}
 use Rattle.lex_search.proofs.BuildLemmas.{places_apart, take_next}
@@ -82,10 +82,6 @@ same_left p order i reached d cap turn = elim turn.left [
 -- and no more of its criterion
 no_more_left : (p : Task) (order : List Criterion) (i : ℕ) (reached d : Drawing) (cap : Criterion → ℕ) (turn : IsTurn p order i reached d cap) → value_of (values_of d) turn.criterion ≤ value_of (values_of reached) turn.criterion
 no_more_left p order i reached d cap turn = no_more reached d turn.criterion (elim turn.left [ inl e ↦ inl e | inr less ↦ inr less.0 ])
-
-abbrev WasReached : Task → List Criterion → ℕ → Criterion → Drawing → (Criterion → ℕ) → Type 0
-WasReached p order i c d cap = (reached : Drawing) × IsLawful p reached × HasSameValues order i (values_of reached) (values_of d)
-    × (value_of (values_of d) c ≤ value_of (values_of reached) c) × IsCapAt (greatest_of p) order i c (values_of reached) (cap c)
 
 -- so it is of the drawing that a later turn leaves
 reached_before : (p : Task) (order : List Criterion) (s i : ℕ) (c : Criterion) (last d : Drawing) (cap : Criterion → ℕ) → IsTurn p order s last d cap → i < s → slice_get order i ≡ Some c → WasReached p order i c last cap → WasReached p order i c d cap

@@ -1,6 +1,6 @@
 -- What is so before each place of the order, and where a search stops.
-use Rattle.std.specs.Prelude.{◌≡◌, ◌≤◌, ◌<◌, ◌+◌, ◌⊎◌, ℕ, min, List, [], ◌∷◌, All, Contains, take, cond, nat_lt}
-use Rattle.std.specs.Prelude.{length, Option, None, Some, slice_get}
+use Rattle.std.specs.Prelude.{◌≡◌, ◌≤◌, ◌<◌, ◌+◌, ◌⊎◌, ℕ, min, List, [], ◌∷◌, ◌++◌, All, Contains, take, cond}
+use Rattle.std.specs.Prelude.{nat_lt, length, Option, None, Some, slice_get}
 use Rattle.plan_core.specs.declared.criterion.Values.{Values}
 use Rattle.plan_core.specs.declared.criterion.Criterion.{Criterion}
 use Rattle.plan_core.specs.Values.{values_of, value_of}
@@ -9,6 +9,7 @@ use Rattle.refute_log.specs.Told.{Lines}
 use Rattle.refute_log.specs.Log.{clause_lines}
 use Rattle.certified_values.specs.Expected.{expected_lines, expected_vars, IsAllExpected}
 use Rattle.lex_search.specs.declared.oracle.Below.{Below}
+use Rattle.lex_search.specs.declared.advancing.Advanced.{Advanced}
 use Rattle.certified_values.specs.declared.stop.Stop.{Stop}
 use Rattle.lex_search.specs.Task.{Task, greatest_of}
 use Rattle.lex_search.specs.Asked.{below_limit, AreOnce}
@@ -63,6 +64,9 @@ abbrev pub Advances : Task → List Criterion → ℕ → List Below → Option 
 Advances p order i held None s d cap lines = SearchState p order (i + 1) held d cap lines
 Advances p order i held (Some stop) s d cap lines = StoppedAt p order s stop d lines
 
+abbrev pub AdvancesTo : Task → List Criterion → ℕ → List Below → Advanced → (Criterion → ℕ) → Lines → Type 0
+AdvancesTo p order i held r cap lines = Advances p order i held r.stop r.settled r.best cap lines
+
 -- the cap for a criterion of this value: one more, and at most its greatest value, which isn't 0
 pub record IsCapOf (p : Task) (c : Criterion) (v : Values) (n : ℕ) : Type 0 where
   pub is : n ≡ min (value_of v c + 1) (greatest_of p c)
@@ -75,3 +79,10 @@ BoundedTo p order i held None s d cap lines = Reached p order (i + 1) d lines
     × (clause_lines lines ≡ expected_lines p.encoding order cap)
     × OnlyZeroSkipped p order (i + 1) cap × Holds p order i held (values_of d) × AreCapped p order (i + 1) d cap
 BoundedTo p order i held (Some stop) s d cap lines = StoppedAt p order s stop d lines
+
+abbrev pub BoundedSo : Task → List Criterion → ℕ → List Below → Advanced → (Criterion → ℕ) → Lines → Type 0
+BoundedSo p order i held r cap lines = BoundedTo p order i held r.stop r.settled r.best cap lines
+
+-- what is so of the lines before leads to what is so with the further ones
+abbrev pub Leads : (before behind : Lines → Type 0) → Lines → Lines → Type 0
+Leads before behind lines more = before lines → behind (lines ++ more)

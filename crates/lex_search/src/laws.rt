@@ -1,7 +1,6 @@
 // Laws of outcomes. The functions do nothing: their contracts are the laws.
-ghost use Rattle.std.specs.Prelude.{◌≡◌, ◌≤◌, ◌<◌, ℕ, List, Option, Some, length, flat_map, slice_get};
+ghost use Rattle.std.specs.Prelude.{◌≡◌, ◌<◌, ℕ, List, Option, Some, length, flat_map, slice_get};
 ghost use Rattle.plan_core.specs.declared.criterion.Criterion.{Criterion};
-ghost use Rattle.plan_core.specs.Values.{values_of, value_of};
 ghost use Rattle.plan_core.specs.Drawing.{Drawing};
 ghost use Rattle.refute_log.specs.Told.{Lines};
 ghost use Rattle.refute_log.specs.Log.{learnt, Open};
@@ -9,9 +8,8 @@ ghost use Rattle.certified_values.specs.Certified.{Settled};
 ghost use Rattle.certified_values.specs.Full.{IsFullLog};
 ghost use Rattle.certified_values.specs.declared.stop.Stop.{Stop as Cause};
 ghost use Rattle.certified_values.specs.declared.stop.Stop.TheVariants.{BudgetSpent, RoomFull};
-ghost use Rattle.lex_search.specs.Task.{Task, IsLawful, greatest_of};
-ghost use Rattle.lex_search.specs.Reached.{HasSameValues};
-ghost use Rattle.lex_search.specs.Caps.{IsCapAt, AreCapped};
+ghost use Rattle.lex_search.specs.Task.{Task, greatest_of};
+ghost use Rattle.lex_search.specs.Caps.{AreCapped, WasReached};
 ghost use Rattle.lex_search.specs.Outcome.{IsStoppedEnd, values_found};
 
 /// Where a search stopped, the criteria that it calls settled are those that are. Where it stopped for want of room the
@@ -30,13 +28,9 @@ pub fn what_unfinished_searches_are()
 {}
 
 /// Each criterion that had its turn was reached with a lawful drawing, which has the values of the last one at the
-/// places
-/// before and no less at its own; and it has the bounds that are built then.
+/// places before and no less at its own; and it has the bounds that are built then.
 pub fn bounds_are_of_a_lawful_drawing()
     ensures { (p : Task) (order : List Criterion) (s : ℕ) (d : Drawing) (cap : Criterion → ℕ) →
-        AreCapped p order s d cap →
-        (i : ℕ) (c : Criterion) → i < s → slice_get order i ≡ Some c →
-        (reached : Drawing) × IsLawful p reached × HasSameValues order i (values_of reached) (values_of d)
-        × (value_of (values_of d) c ≤ value_of (values_of reached) c)
-        × IsCapAt (greatest_of p) order i c (values_of reached) (cap c) }
+        AreCapped p order s d cap → (i : ℕ) (c : Criterion) → i < s → slice_get order i ≡ Some c →
+        WasReached p order i c d cap }
 {}
