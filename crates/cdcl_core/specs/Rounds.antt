@@ -1,5 +1,5 @@
 -- What a search tells, round by round.
-use Rattle.std.specs.Prelude.{◌≡◌, ℕ, Some, List, [], ◌∷◌, ◌++◌, length, map}
+use Rattle.std.specs.Prelude.{◌≡◌, ℕ, Option, Some, MatchOption, List, [], ◌∷◌, ◌++◌, length, map}
 use Rattle.cnf_core.specs.Lit.{Literal}
 use Rattle.cnf_core.specs.Clause.{Clauses}
 use Rattle.outside_io.specs.Counts.{next_count, rose_by}
@@ -66,6 +66,12 @@ pub record EndsSo (before now : Lines → Type 0) (count after : ℕ) (query : L
   pub belongs : (lines : Lines) → BelongsAt query lines (clauses old) old.words →
       BelongsTo (lines ++ ending) (clauses new) new.words
   pub counted : after ≡ count
+
+-- a clause was learnt, or the search ended with an answer
+abbrev pub LearnsOrEnds : (before now : Lines → Type 0) (count after : ℕ) (query : List Literal) (old new : Search) →
+    Option Answer → Type 0
+LearnsOrEnds before now count after query old new answer =
+    MatchOption answer (LearnsOne before now count after query old new) (EndsSo before now count after query old new)
 
 -- so many clauses were learnt, each where the query was open
 pub record HasGone (before now : Lines → Type 0) (count after : ℕ) (query : List Literal) (old new : Search) (n : ℕ) :

@@ -1,12 +1,11 @@
 // The rounds of a search: each goes down to a conflict and learns a clause from it.
 ghost use Rattle.std.specs.Prelude.{◌≡◌, ◌≤◌, ◌<◌, List, All, false, length, IfOk, OnOk, OnErr, IsErrOf, IfSome};
-ghost use Rattle.std.specs.Prelude.{MatchOption};
 ghost use Rattle.outside_io.specs.Counts.{Rose};
 ghost use Rattle.cnf_core.specs.Lit.{Literal};
 ghost use Rattle.cnf_core.specs.Clause.{AreDistinct, AreThere, IsNamed};
 ghost use Rattle.watch_arena.specs.Arena.{IsClashOf};
 ghost use Rattle.cdcl_core.specs.Search.{IsSearch, IsIdle, IsSameStore, IsAsking, clauses};
-ghost use Rattle.cdcl_core.specs.Rounds.{LearnsOne, EndsSo, BreaksOffAt, BreaksOffLog, EndsAfter, EndsBehindQuery};
+ghost use Rattle.cdcl_core.specs.Rounds.{LearnsOrEnds, EndsSo, BreaksOffAt, BreaksOffLog, EndsAfter, EndsBehindQuery};
 ghost use Rattle.cdcl_core.specs.Belongs.{HasCounted};
 
 use crate::answer::Answer;
@@ -36,10 +35,8 @@ impl Search {
         requires clash { IsClashOf self.old.arena self.old.trail clash.0 }
         requires above { self.old.levels < length self.old.trail.cuts }
         ensures search { OnOk result (IsSearch self.new) }
-        ensures learnt { IfOk result (λ r. MatchOption r (LearnsOne (L.tells log.old) (L.tells log.new)
-            (L.learnt log.old) (L.learnt log.new) query.now self.old self.new)
-            (λ a. EndsSo (L.tells log.old) (L.tells log.new)
-            (L.learnt log.old) (L.learnt log.new) query.now self.old self.new a)) }
+        ensures learnt { IfOk result (λ r. LearnsOrEnds (L.tells log.old) (L.tells log.new)
+            (L.learnt log.old) (L.learnt log.new) query.now self.old self.new r) }
         ensures unspent { IfOk result (λ r. IfSome r (λ a. a ≡ Answer.Spent → ⊥)) }
         ensures on { IfOk result (λ r. r ≡ None → IsAsking query.now self.new × (self.new.refuted ≡ false)) }
         ensures leaves { OnErr result (BreaksOffAt (L.tells log.old) (L.tells log.new) query.now self.old) }
@@ -71,10 +68,8 @@ impl Search {
         requires named { All (λ l. IsNamed (clauses self.old) l.var) query.now }
         requires clash { IsClashOf self.old.arena self.old.trail clash.0 }
         ensures search { OnOk result (IsSearch self.new) }
-        ensures learnt { IfOk result (λ r. MatchOption r (LearnsOne (L.tells log.old) (L.tells log.new)
-            (L.learnt log.old) (L.learnt log.new) query.now self.old self.new)
-            (λ a. EndsSo (L.tells log.old) (L.tells log.new)
-            (L.learnt log.old) (L.learnt log.new) query.now self.old self.new a)) }
+        ensures learnt { IfOk result (λ r. LearnsOrEnds (L.tells log.old) (L.tells log.new)
+            (L.learnt log.old) (L.learnt log.new) query.now self.old self.new r) }
         ensures unspent { IfOk result (λ r. IfSome r (λ a. a ≡ Answer.Spent → ⊥)) }
         ensures on { IfOk result (λ r. r ≡ None → IsAsking query.now self.new × (self.new.refuted ≡ false)) }
         ensures leaves { OnErr result (BreaksOffAt (L.tells log.old) (L.tells log.new) query.now self.old) }
@@ -131,10 +126,8 @@ impl Search {
         requires named { All (λ l. IsNamed (clauses self.old) l.var) query.now }
         requires asking { IsAsking query.now self.old }
         ensures search { OnOk result (IsSearch self.new) }
-        ensures learnt { IfOk result (λ r. MatchOption r (LearnsOne (L.tells log.old) (L.tells log.new)
-            (L.learnt log.old) (L.learnt log.new) query.now self.old self.new)
-            (λ a. EndsSo (L.tells log.old) (L.tells log.new)
-            (L.learnt log.old) (L.learnt log.new) query.now self.old self.new a)) }
+        ensures learnt { IfOk result (λ r. LearnsOrEnds (L.tells log.old) (L.tells log.new)
+            (L.learnt log.old) (L.learnt log.new) query.now self.old self.new r) }
         ensures unspent { IfOk result (λ r. IfSome r (λ a. a ≡ Answer.Spent → ⊥)) }
         ensures on { IfOk result (λ r. r ≡ None → IsAsking query.now self.new × (self.new.refuted ≡ false)) }
         ensures leaves { OnErr result (BreaksOffAt (L.tells log.old) (L.tells log.new) query.now self.old) }
