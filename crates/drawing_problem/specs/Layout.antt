@@ -1,8 +1,9 @@
 -- What is to be drawn, and on which grid; and the clause lists of its drawings.
-use Rattle.plan_core.specs.Grid.{GridSize}
+use Rattle.plan_core.specs.Grid.{GridSize, IsGrid}
 use Rattle.plan_core.specs.Graph.{Graph}
 use Rattle.certified_values.specs.Expected.{Problem}
-use Rattle.track_order.specs.Order.{EdgeOrder, is_above, is_overlap}
+use Rattle.port_graph.specs.StationGraph.{IsStationGraph}
+use Rattle.track_order.specs.Order.{EdgeOrder, is_above, is_overlap, IsOrderOf}
 use Rattle.drawing_cnf.specs.Encoding.{Encoding}
 use Rattle.drawing_problem.specs.Lists.{drawing_problem}
 
@@ -11,6 +12,12 @@ pub record Layout : Type 0 where
   pub graph : Graph
   pub order : EdgeOrder
   pub grid : GridSize
+
+-- a station's graph, an order of its edges, and a grid that there may be
+pub record IsLayout (y : Layout) : Type 0 where
+  pub station : IsStationGraph y.graph
+  pub ordered : IsOrderOf y.graph y.order
+  pub sized : IsGrid y.grid
 
 abbrev pub layout : Graph → EdgeOrder → GridSize → Layout
 layout graph order grid = record { graph = graph; order = order; grid = grid }

@@ -1,5 +1,6 @@
 -- The clause lists of a graph's drawings on a grid, as a log's lines.
 use Rattle.std.specs.Prelude.{ℕ, zero, suc, ◌+◌, Bool, List, [], ◌∷◌, ◌++◌, map, flat_map}
+use Rattle.plan_core.specs.declared.criterion.Criterion.{Criterion}
 use Rattle.plan_core.specs.Grid.{GridSize}
 use Rattle.plan_core.specs.Graph.{Graph}
 use Rattle.cnf_core.specs.declared.literal.Var.{Var}
@@ -9,7 +10,8 @@ use Rattle.certified_values.specs.Expected.{Problem, bound_lines}
 use Rattle.drawing_cnf.specs.Stands.{DrawingVars}
 use Rattle.drawing_cnf.specs.Expected.{drawing_vars, formula_clauses, formula_size}
 use Rattle.drawing_cnf.specs.Bounds.{bound_clauses, bound_size}
-use Rattle.drawing_cnf.specs.Bounded.{Bound, clauses_of_bound}
+use Rattle.drawing_cnf.specs.Bounded.{Bound, clauses_of_bound, expected_bounds}
+use Rattle.drawing_cnf.specs.Encoding.{Encoding, encoded_vars}
 
 -- the n variables behind the one of this number
 abbrev pub variables_behind : ℕ → ℕ → List Var
@@ -36,3 +38,12 @@ lines_of_bound g x grid b = map Formula (clauses_of_bound g x grid b)
 abbrev pub lines_with : Graph → (ℕ → ℕ → Bool) → (ℕ → ℕ → Bool) → GridSize → List Bound → Lines
 lines_with g above overlap grid bounds =
     map Formula (formula_clauses g above overlap grid) ++ flat_map (lines_of_bound g (drawing_vars g grid) grid) bounds
+
+-- the same of the bounds that an order has with its caps
+abbrev pub lines_for : Graph → (ℕ → ℕ → Bool) → (ℕ → ℕ → Bool) → GridSize → List Criterion → (Criterion → ℕ) → Lines
+lines_for g above overlap grid order caps =
+    lines_with g above overlap grid (expected_bounds g above overlap grid order caps)
+
+-- the lines of a bound behind the clauses that an encoding has
+abbrev pub lines_behind : Encoding → Bound → Lines
+lines_behind e b = lines_of_bound e.graph (encoded_vars e) e.grid b
