@@ -1,9 +1,7 @@
 -- The next line of a text.
-use Rattle.std.proofs.Common.{◌≡◌, ◌≢◌, ℕ, List, [], ◌∷◌, ◌++◌, refl, sym, ◌∙◌, ap, inl, inr, append_assoc}
-use Rattle.std.specs.Prelude.{codes}
-use Rattle.line_text.specs.Fields.{LacksByte, IsCutAt}
-use Rattle.refute_log.specs.declared.line.LogLine.{LogLine}
-use Rattle.refute_log.specs.Lines.{ended_text, log_line_text, MayBeTold}
+use Rattle.std.proofs.Common.{ℕ, List, [], ◌∷◌, ◌++◌, sym, ◌∙◌, ap, inl, append_assoc}
+use Rattle.line_text.specs.Fields.{IsCutAt}
+use Rattle.refute_log.specs.Lines.{ended_text}
 use Rattle.log_check.specs.declared.reading.Next.{Next}
 use Rattle.log_check.specs.declared.reading.Next.TheVariants.{Line, Fault}
 use Rattle.log_check.specs.Progress.{IsLineRead, IsNext}

@@ -20,6 +20,14 @@ use Rattle.log_check.specs.Accepted.{AcceptsFront}
 use Rattle.log_check.specs.Refused.{IsRefusedFor}
 use Rattle.log_check.specs.Claimed.{CertifiesClaim, LacksAt, IsTrueClaim}
 
+-- the whole log is accepted, by what is expected of its text, and certifies the claim
+pub record CertifiesWhole (y : Layout) (order : List Criterion) (claim : Claim) (log : List ℕ) : Type 0 where
+  pub expected : Expectation
+  pub lines : Lines
+  pub is_expected : IsExpectedOf y order log expected
+  pub whole : AcceptsFront expected log lines []
+  pub certified : CertifiesClaim (limit_of y.graph y.grid) lines order claim
+
 -- the whole log is accepted and certifies the claim, which is so, whoever wrote the log
 pub record IsCertified (y : Layout) (order : List Criterion) (claim : Claim) (e : Expectation) (bytes : List ℕ) : Type 0
   where

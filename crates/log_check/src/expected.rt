@@ -4,7 +4,8 @@ ghost use Rattle.plan_core.specs.declared.criterion.Criterion.{Criterion as Meas
 ghost use Rattle.plan_core.specs.Values.{value_of, limit_of};
 ghost use Rattle.cnf_core.specs.declared.limits.TheConstants.{VARS};
 ghost use Rattle.cnf_core.specs.declared.fault.CnfFault.TheVariants.{Room};
-ghost use Rattle.cnf_core.specs.Clause.{words_of};
+ghost use Rattle.cnf_core.specs.Formula.{Passes};
+ghost use Rattle.cnf_core.specs.Added.{TooMany};
 ghost use Rattle.track_order.specs.Order.{IsOrderOf};
 ghost use Rattle.drawing_cnf.specs.Encoding.{encoded_vars};
 ghost use Rattle.drawing_cnf.specs.Bounded.{bound, clauses_of_bound, size_of_bound};
@@ -73,14 +74,11 @@ fn add_bounds<'a>(
         b) }
     ensures few { OnOk result (e.old.encoded.formula.vars + cap ≤ VARS) }
     ensures parts { OnOk result (e.new.parts.items ≡
-        e.old.parts.items ++ Clauses (length e.new.encoded.formula.clauses) ∷ BoundsOf c e.old.encoded.formula.vars cap
-        ∷ []) }
-    ensures full { let b = bound c e.old.encoded.formula.vars cap in
-        let more = clauses_of_bound e.old.encoded.graph (encoded_vars e.old.encoded) e.old.encoded.grid b in
-        let size = size_of_bound e.old.encoded.graph (encoded_vars e.old.encoded) e.old.encoded.grid b in IsErrOf result
-        Room →
-        (VARS < e.old.encoded.formula.vars + size) ⊎ (e.old.encoded.formula.room < words_of
-        (e.old.encoded.formula.clauses ++ more)) }
+        e.old.parts.items ++ Clauses (length e.new.encoded.formula.clauses)
+        ∷ BoundsOf c e.old.encoded.formula.vars cap ∷ []) }
+    ensures full { let d = e.old.encoded in let b = bound c d.formula.vars cap in
+        IsErrOf result Room → TooMany d.formula (size_of_bound d.graph (encoded_vars d) d.grid b)
+        ⊎ Passes d.formula (clauses_of_bound d.graph (encoded_vars d) d.grid b) }
 {
     let last = e.encoded.formula().vars();
     criterion_bound(alloc, &mut e.encoded, c, cap)?;

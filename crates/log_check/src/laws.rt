@@ -2,15 +2,13 @@
 ghost use Rattle.std.specs.Prelude.{◌≡◌, ◌++◌, ◌∷◌, ℕ, List, [], take};
 ghost use Rattle.plan_core.specs.declared.criterion.Criterion.{Criterion};
 ghost use Rattle.plan_core.specs.declared.criterion.Values.{Values};
-ghost use Rattle.plan_core.specs.Grid.{IsGrid};
 ghost use Rattle.plan_core.specs.Drawing.{Drawing};
 ghost use Rattle.plan_core.specs.Lawful.{Lawful};
-ghost use Rattle.plan_core.specs.Values.{values_of, limit_of, Better};
-ghost use Rattle.port_graph.specs.StationGraph.{IsStationGraph};
-ghost use Rattle.track_order.specs.Order.{is_above, IsOrderOf};
+ghost use Rattle.plan_core.specs.Values.{values_of, Better};
+ghost use Rattle.track_order.specs.Order.{is_above};
 ghost use Rattle.refute_log.specs.declared.line.LogLine.{LogLine as Line};
 ghost use Rattle.refute_log.specs.Told.{Lines};
-ghost use Rattle.drawing_problem.specs.Layout.{Layout};
+ghost use Rattle.drawing_problem.specs.Layout.{Layout, IsLayout};
 ghost use Rattle.log_check.specs.declared.claim.Claim.{Claim as Claimed};
 ghost use Rattle.log_check.specs.declared.claim.Claim.TheVariants.{Least, NoDrawing};
 ghost use Rattle.log_check.specs.declared.verdict.Verdict.{Verdict as Answer};
@@ -18,14 +16,13 @@ ghost use Rattle.log_check.specs.declared.verdict.Verdict.TheVariants.{Certified
 ghost use Rattle.log_check.specs.declared.verdict.Refusal.{Refusal as Why};
 ghost use Rattle.log_check.specs.Faultless.{HasFaultless};
 ghost use Rattle.log_check.specs.Expectation.{Expectation, IsExpectedOf};
-ghost use Rattle.log_check.specs.Accepted.{AreAccepted, AcceptsFront};
+ghost use Rattle.log_check.specs.Accepted.{AreAccepted};
 ghost use Rattle.log_check.specs.Refused.{IsRefusedFor};
-ghost use Rattle.log_check.specs.Claimed.{IsClaimOf, CertifiesClaim};
-ghost use Rattle.log_check.specs.Judged.{IsLogJudged};
+ghost use Rattle.log_check.specs.Claimed.{IsClaimOf};
+ghost use Rattle.log_check.specs.Judged.{CertifiesWhole, IsLogJudged};
 
 /// One verdict at most is due to a log, whoever wrote it: its lines without a fault are one list, what is expected of
-/// it
-/// is one, and it stops at one place for one cause.
+/// it is one, and it stops at one place for one cause.
 pub fn one_verdict_is_due()
     ensures lines { (bytes : List ℕ) (a b : Lines) → HasFaultless bytes a → HasFaultless bytes b → a ≡ b }
     ensures expected { (y : Layout) (order : List Criterion) (bytes : List ℕ) (a b : Expectation) →
@@ -33,8 +30,8 @@ pub fn one_verdict_is_due()
     ensures cause { (e : Expectation) (before : Lines) (line : Line) (a b : Why) → IsRefusedFor e before line a →
         IsRefusedFor e before line b → a ≡ b }
     ensures verdict { (y : Layout) (order : List Criterion) (claim : Claimed) (log : List ℕ) (a b : Answer) →
-        IsStationGraph y.graph → IsOrderOf y.graph y.order → IsGrid y.grid → IsClaimOf order claim →
-        IsLogJudged y order claim log a → IsLogJudged y order claim log b → a ≡ b }
+        IsLayout y → IsClaimOf order claim → IsLogJudged y order claim log a → IsLogJudged y order claim log b →
+        a ≡ b }
 {}
 
 /// What is certified is so, whoever wrote the log: no lawful drawing is better on the claimed places, or none is
@@ -50,16 +47,11 @@ pub fn what_is_certified_is_so()
 /// Certified is the verdict exactly where all lines of the whole log are accepted, with what is expected of it, and
 /// certify the claim.
 pub fn certified_exactly()
-    ensures due { (y : Layout) (order : List Criterion) (claim : Claimed) (log : List ℕ) (e : Expectation)
-        (lines : Lines) (v : Answer) →
-        IsStationGraph y.graph → IsOrderOf y.graph y.order → IsGrid y.grid → IsClaimOf order claim →
-        IsExpectedOf y order log e → AcceptsFront e log lines [] →
-        CertifiesClaim (limit_of y.graph y.grid) lines order claim →
-        IsLogJudged y order claim log v → v ≡ Certified }
+    ensures due { (y : Layout) (order : List Criterion) (claim : Claimed) (log : List ℕ) (v : Answer) →
+        IsLayout y → IsClaimOf order claim → CertifiesWhole y order claim log → IsLogJudged y order claim log v →
+        v ≡ Certified }
     ensures only { (y : Layout) (order : List Criterion) (claim : Claimed) (log : List ℕ) →
-        IsLogJudged y order claim log Certified →
-        (e : Expectation) × (lines : Lines) × IsExpectedOf y order log e × AcceptsFront e log lines []
-        × CertifiesClaim (limit_of y.graph y.grid) lines order claim }
+        IsLogJudged y order claim log Certified → CertifiesWhole y order claim log }
 {}
 
 /// Accepted lines are closed under fronts.
