@@ -8,9 +8,8 @@ ghost use Rattle.cnf_core.specs.Clause.{words_of};
 ghost use Rattle.refute_log.specs.declared.line.LogLine.TheVariants.{Formula as FormulaLine};
 ghost use Rattle.certified_values.specs.Expected.{sum_lines};
 ghost use Rattle.drawing_cnf.specs.Bounded.{bound};
-ghost use Rattle.drawing_cnf.specs.Encoding.{encoded_vars};
 ghost use Rattle.drawing_cnf.specs.Whole.{IsWhole};
-ghost use Rattle.drawing_problem.specs.Lists.{lines_of_bound};
+ghost use Rattle.drawing_problem.specs.Lists.{lines_behind};
 ghost use Rattle.cdcl_core.specs.Kept.{with_more_vars};
 ghost use Rattle.cdcl_core.specs.Belongs.{Belongs};
 ghost use Rattle.lex_search.specs.declared.oracle.Built.TheVariants.{Whole as AllOfThem};
@@ -110,10 +109,8 @@ fn tell_criterion<L: LogSink>(
     ensures lines { OnOk result (GoesOn
         (KnowsWith known.old solver.old) (KnowsWith known.new solver.new)
         (L.tells log.old) (L.tells log.new) (L.learnt log.old) (L.learnt log.new)
-        (λ lines more.
-        more ≡ lines_of_bound known.old.encoded.graph (encoded_vars known.old.encoded) known.old.encoded.grid bounds)) }
-    ensures leaves { OnErr result (Leaves
-        (lines_of_bound known.old.encoded.graph (encoded_vars known.old.encoded) known.old.encoded.grid bounds)
+        (λ lines more. more ≡ lines_behind known.old.encoded bounds)) }
+    ensures leaves { OnErr result (Leaves (lines_behind known.old.encoded bounds)
         (KnowsWith known.old solver.old) (L.tells log.old) (L.tells log.new)) }
     ensures later { L.is_later log.old log.new }
     ensures faults { L.faults log.old ≤ L.faults log.new }
