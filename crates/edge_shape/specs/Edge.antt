@@ -182,19 +182,43 @@ abbrev pub column_clauses : EdgeLits → NodeInts → NodeInts → ℕ → ℕ �
 column_clauses e west east high width =
     each (λ c. rule_clauses (range_rules e west.x east.x c)) 0 (width + 1) ++ each (step_clauses e high) 0 width
 
+-- the slopes of the two ends
+abbrev pub end_slope_clauses : EdgeLits → IntVars → IntVars → ℕ → Clauses
+end_slope_clauses e west_x east_x width =
+    rule_clauses (end_rules e) ++ each (λ c. rule_clauses (slope_rules e west_x east_x c)) 0 width
+
+-- the bends behind the first piece and before the last
+abbrev pub two_bend_clauses : EdgeLits → ℕ → Clauses
+two_bend_clauses e width =
+    rule_clauses (bend_rules e.first_bend e.west_up e.west_down (e.seen (width - 1)))
+    ++ rule_clauses (bend_rules e.second_bend e.east_up e.east_down (e.seen (width - 1)))
+
 abbrev pub whole_clauses : EdgeLits → NodeInts → NodeInts → ℕ → Clauses
-whole_clauses e west east width =
-    (rule_clauses (end_rules e) ++ each (λ c. rule_clauses (slope_rules e west.x east.x c)) 0 width)
-    ++ (rule_clauses (bend_rules e.first_bend e.west_up e.west_down (e.seen (width - 1)))
-    ++ rule_clauses (bend_rules e.second_bend e.east_up e.east_down (e.seen (width - 1))))
+whole_clauses e west east width = end_slope_clauses e west.x east.x width ++ two_bend_clauses e width
+
+-- the inner points, and the diagonal steps by their pieces
+abbrev pub point_clauses : EdgeLits → ℕ → Clauses
+point_clauses e width =
+    each (λ c. rule_clauses (inner_rules e c)) 0 (width - 1) ++ each (λ c. rule_clauses (end_piece_rules e c)) 0 width
+
+-- what follows of the end slopes
+abbrev pub follow_clauses : EdgeLits → IntVars → IntVars → ℕ → ℕ → Clauses
+follow_clauses e west_y east_y high width =
+    rule_clauses (level_rules e (e.seen (width - 1))) ++ rule_clauses (beside_end_rules e west_y east_y high)
 
 abbrev pub further_clauses : EdgeLits → NodeInts → NodeInts → ℕ → ℕ → Clauses
-further_clauses e west east high width =
-    (each (λ c. rule_clauses (inner_rules e c)) 0 (width - 1) ++ each (λ c. rule_clauses (end_piece_rules e c)) 0 width)
-    ++ (rule_clauses (level_rules e (e.seen (width - 1))) ++ rule_clauses (beside_end_rules e west.y east.y high))
+further_clauses e west east high width = point_clauses e width ++ follow_clauses e west.y east.y high width
+
+-- the whole line and what goes with it, without its columns
+abbrev pub line_clauses : EdgeLits → NodeInts → NodeInts → ℕ → ℕ → Clauses
+line_clauses e west east high width = whole_clauses e west east width ++ further_clauses e west east high width
+
+-- the shape of the line, wherever its ends are
+abbrev pub shape_clauses : EdgeLits → NodeInts → NodeInts → ℕ → ℕ → Clauses
+shape_clauses e west east high width =
+    column_clauses e west east high width ++ line_clauses e west east high width
 
 abbrev pub edge_clauses : EdgeLits → NodeInts → NodeInts → ℕ → ℕ → ℕ → Clauses
 edge_clauses e west east least high width =
     (each (λ c. int_clauses (e.height c)) 0 (width + 1) ++ end_clauses e west east least width)
-    ++ (column_clauses e west east high width ++ (whole_clauses e west east width
-    ++ further_clauses e west east high width))
+    ++ shape_clauses e west east high width

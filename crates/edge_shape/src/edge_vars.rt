@@ -1,22 +1,20 @@
 // One edge of a drawing, as variables of a formula.
-ghost use Rattle.std.specs.Prelude.{◌≡◌, ◌≤◌, ◌<◌, ℕ, ◌+◌, ◌*◌, List, length, IfOk, All};
-ghost use Rattle.plan_core.specs.declared.point.Point.{Point as PointValue};
+ghost use Rattle.std.specs.Prelude.{◌≡◌, ◌≤◌, ◌<◌, ◌+◌, ◌*◌, length, IfOk, All};
 ghost use Rattle.plan_core.specs.Grid.{IsGrid, grid_size};
 ghost use Rattle.plan_core.specs.Laws.{IsOnGrid};
 ghost use Rattle.cnf_core.specs.declared.limits.TheConstants.{VARS};
 ghost use Rattle.cnf_core.specs.Clause.{words_of};
-ghost use Rattle.cnf_core.specs.Assignment.{Assignment, SatisfiesAll, SameOutside, Extends};
+ghost use Rattle.cnf_core.specs.Assignment.{SameOutside};
 ghost use Rattle.cnf_core.specs.Added.{AddsBlock};
 ghost use Rattle.cnf_core.specs.LitOrTruth.{yes};
 ghost use Rattle.cnf_core.specs.Truths.{assignment};
 ghost use Rattle.order_int.specs.IntVars.{IntIsThere};
-ghost use Rattle.order_int.specs.OrderInt.{Reads};
-ghost use Rattle.edge_lines.specs.Joins.{JoinsPoints};
-ghost use Rattle.edge_shape.specs.EdgeVars.{NodeInts, edge_lits, edge_size, edge_spot, lits_of, node_ints, up_at};
+ghost use Rattle.edge_shape.specs.EdgeVars.{edge_lits, edge_size, edge_spot, lits_of, node_ints, up_at};
 ghost use Rattle.edge_shape.specs.EdgeVars.{down_at};
-ghost use Rattle.edge_shape.specs.EdgeVars.{bend_at, LieBefore, EdgeIsPlaced, IsNode};
+ghost use Rattle.edge_shape.specs.EdgeVars.{bend_at, EdgeIsPlaced, IsNode};
 ghost use Rattle.edge_shape.specs.Edge.{edge_clauses};
-ghost use Rattle.edge_shape.specs.ReadsLine.{ReadsLine, LineIsRead};
+ghost use Rattle.edge_shape.specs.ReadsLine.{ReadsLine};
+ghost use Rattle.edge_shape.specs.Between.{HoldsBetween, ModelsAreLines, LinesAreModels};
 
 use crate::ends::add_edge_clauses;
 use crate::places::Places;
@@ -184,13 +182,7 @@ impl EdgeVars {
         ensures reads { ReadsLine (assignment m.new) (lits_of self.now) self.now.width line.now }
         ensures same { SameOutside self.now.first (edge_size self.now.high self.now.width) (assignment m.old)
             (assignment m.new) }
-        ensures satisfies { (west east : NodeInts) (least : ℕ) (p q : PointValue) →
-            LieBefore self.now.first west → LieBefore self.now.first east →
-            Reads (assignment m.old) west.x p.x → Reads (assignment m.old) west.y p.y →
-            Reads (assignment m.old) east.x q.x → Reads (assignment m.old) east.y q.y →
-            JoinsPoints self.now.width self.now.high least p q line.now →
-            SatisfiesAll (assignment m.new) (edge_clauses (lits_of self.now) west east least self.now.high
-            self.now.width) }
+        ensures satisfies { HoldsBetween (assignment m.old) (assignment m.new) self.now line.now }
         ensures vars { length m.new ≡ length m.old }
     {
         let _points = line.points();
@@ -219,22 +211,12 @@ pub fn add_edge(
     ensures words { words_of f.new.clauses ≤ words_of f.old.clauses + 2000 *
         ((grid.now.width + 1) * (grid.now.height + 1)) }
     ensures vars { f.new.vars ≤ f.old.vars + 100 * ((grid.now.width + 1) * (grid.now.height + 1)) }
-    ensures models { let g = grid.now in let e = edge_lits (f.old.vars + 1) g.height g.width in
-        (v : Assignment) (p q : PointValue) →
-        Reads v west.now.x p.x → Reads v west.now.y p.y → Reads v east.now.x q.x → Reads v east.now.y q.y →
-        SatisfiesAll v (edge_clauses e (node_ints west.now.x west.now.y) (node_ints east.now.x east.now.y) g.least
-        g.height
-        g.width) →
-        LineIsRead v e g.width g.height g.least p q }
-    ensures lines { let g = grid.now in let e = edge_lits (f.old.vars + 1) g.height g.width in
-        (v : Assignment) (p q : PointValue) (line : List PointValue) →
-        Reads v west.now.x p.x → Reads v west.now.y p.y → Reads v east.now.x q.x → Reads v east.now.y q.y →
-        JoinsPoints g.width g.height g.least p q line →
-        Extends (f.old.vars + 1) (edge_size g.height g.width) v
-        (λ w. ReadsLine w e g.width line
-        × SatisfiesAll w (edge_clauses e (node_ints west.now.x west.now.y) (node_ints east.now.x east.now.y) g.least
-        g.height
-        g.width)) }
+    ensures models { let g = grid.now in
+        ModelsAreLines (edge_spot (f.old.vars + 1) g.height g.width) (node_ints west.now.x west.now.y)
+        (node_ints east.now.x east.now.y) g.least }
+    ensures lines { let g = grid.now in
+        LinesAreModels (edge_spot (f.old.vars + 1) g.height g.width) (node_ints west.now.x west.now.y)
+        (node_ints east.now.x east.now.y) g.least }
 {
     make_edge(f, grid, west, east)
 }
