@@ -1,6 +1,6 @@
 -- The formula with bounds behind it: one list for a graph, a grid, and the criteria that are bounded in an order, each
 -- with its cap.
-use Rattle.std.specs.Prelude.{◌≤◌, ⊤, ℕ, ◌+◌, Bool, cond, nat_eq, List, [], ◌∷◌, ◌++◌, All}
+use Rattle.std.specs.Prelude.{◌≤◌, ⊤, ℕ, ◌+◌, ◌*◌, Bool, cond, length, nat_eq, List, [], ◌∷◌, ◌++◌, All}
 use Rattle.std.specs.List.{flat_map}
 use Rattle.plan_core.specs.declared.criterion.Criterion.{Criterion}
 use Rattle.plan_core.specs.declared.criterion.Values.{Values}
@@ -29,6 +29,10 @@ clauses_of_bound g x grid b = bound_clauses g x grid b.last b.cap b.criterion
 
 abbrev pub size_of_bound : Graph → DrawingVars → GridSize → Bound → ℕ
 size_of_bound g x grid b = bound_size g x grid b.last b.cap b.criterion
+
+-- how many literals the longest clause of a bound has at most
+abbrev pub longest_of_bound : Graph → GridSize → ℕ
+longest_of_bound g grid = length g.edges * (grid.width + 1) + length g.nodes + 3
 
 abbrev pub bounds_clauses : Graph → DrawingVars → GridSize → List Bound → Clauses
 bounds_clauses g x grid bounds = flat_map (clauses_of_bound g x grid) bounds

@@ -64,12 +64,20 @@ pair_by above below overlap e f = cond above (Over e f ∷ []) [] ++ below_by ab
 abbrev pub edge_pair : (ℕ → ℕ → Bool) → (ℕ → ℕ → Bool) → ℕ → ℕ → List Instance
 edge_pair above overlap e f = pair_by (above e f) (above f e) (overlap e f) e f
 
+-- those of laws 5, 6 and 7
+abbrev pub last_instances : Graph → (ℕ → ℕ → Bool) → (ℕ → ℕ → Bool) → List Instance
+last_instances g above overlap =
+    instance_pairs (length g.nodes) (λ u v. Apart u v ∷ [])
+    ++ instance_pairs (length g.edges) (edge_pair above overlap)
+
+-- and of law 4 before them
+abbrev pub later_instances : Graph → (ℕ → ℕ → Bool) → (ℕ → ℕ → Bool) → List Instance
+later_instances g above overlap =
+    instances_from (λ n. Aligned n ∷ []) 0 (length g.nodes) ++ last_instances g above overlap
+
 abbrev pub instances : Graph → (ℕ → ℕ → Bool) → (ℕ → ℕ → Bool) → List Instance
 instances g above overlap =
-    instance_pairs (length g.nodes) (λ u v. Ordered u v ∷ [])
-    ++ (instances_from (λ n. Aligned n ∷ []) 0 (length g.nodes)
-    ++ (instance_pairs (length g.nodes) (λ u v. Apart u v ∷ [])
-    ++ instance_pairs (length g.edges) (edge_pair above overlap)))
+    instance_pairs (length g.nodes) (λ u v. Ordered u v ∷ []) ++ later_instances g above overlap
 
 -- The parts.
 

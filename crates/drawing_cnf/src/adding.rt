@@ -6,11 +6,13 @@ ghost use Rattle.cnf_core.specs.declared.limits.TheConstants.{VARS};
 ghost use Rattle.cnf_core.specs.declared.fault.CnfFault.TheVariants.{Room};
 ghost use Rattle.cnf_core.specs.Lit.{negative_of};
 ghost use Rattle.cnf_core.specs.Clause.{words_of, IsNamed};
-ghost use Rattle.cnf_core.specs.Added.{AddsBlock};
+ghost use Rattle.cnf_core.specs.Formula.{Passes};
+ghost use Rattle.cnf_core.specs.Added.{AddsBlock, TooMany};
 ghost use Rattle.track_order.specs.Order.{is_above};
 ghost use Rattle.drawing_cnf.specs.Expected.{laws_first, parts};
 ghost use Rattle.drawing_cnf.specs.Bounds.{reach_of};
-ghost use Rattle.drawing_cnf.specs.Bounded.{bound, clauses_of_bound, size_of_bound, SoundWith, CoversWith};
+ghost use Rattle.drawing_cnf.specs.Bounded.{bound, clauses_of_bound, size_of_bound, longest_of_bound};
+ghost use Rattle.drawing_cnf.specs.Bounded.{SoundWith, CoversWith};
 ghost use Rattle.drawing_cnf.specs.Encoding.{encoded_vars};
 ghost use Rattle.drawing_cnf.specs.Whole.{IsWhole};
 
@@ -106,11 +108,9 @@ pub fn criterion_bound<'a>(
     ensures vars_fit { let size = size_of_bound e.old.graph (encoded_vars e.old) e.old.grid
         (bound c e.old.formula.vars cap) in
         OnOk result (e.old.formula.vars + size ≤ VARS) }
-    ensures full { let b = bound c e.old.formula.vars cap in
-        let all = e.old.formula.clauses ++ clauses_of_bound e.old.graph (encoded_vars e.old) e.old.grid b in
-        IsErrOf result Room →
-        (VARS < e.old.formula.vars + size_of_bound e.old.graph (encoded_vars e.old) e.old.grid b)
-        ⊎ (e.old.formula.room < words_of all) }
+    ensures full { let x = encoded_vars e.old in let b = bound c e.old.formula.vars cap in
+        IsErrOf result Room → TooMany e.old.formula (size_of_bound e.old.graph x e.old.grid b)
+        ⊎ Passes e.old.formula (clauses_of_bound e.old.graph x e.old.grid b) }
     ensures list_words { let b = bound c e.old.formula.vars cap in
         let most = parts e.old.graph * (e.old.grid.width + 1) * (cap + 2) in
         1 ≤ parts e.old.graph → words_of (clauses_of_bound e.old.graph (encoded_vars e.old) e.old.grid b) ≤ 400 * most }
@@ -157,10 +157,10 @@ fn add_kept<'a>(
     ensures grid { e.new.grid ≡ e.old.grid }
     ensures bound { IfOk result (λ b. b ≡ bound c e.old.formula.vars cap) }
     ensures bounds { OnOk result (e.new.bounds ≡ e.old.bounds ++ bound c e.old.formula.vars cap ∷ []) }
-    ensures adds { let b = bound c e.old.formula.vars cap in
-        AddsBlock result e.old.formula e.new.formula (size_of_bound e.old.graph (encoded_vars e.old) e.old.grid b)
-        (clauses_of_bound e.old.graph (encoded_vars e.old) e.old.grid b)
-        (length e.old.graph.edges * (e.old.grid.width + 1) + length e.old.graph.nodes + 3) }
+    ensures adds { let x = encoded_vars e.old in let b = bound c e.old.formula.vars cap in
+        AddsBlock result e.old.formula e.new.formula (size_of_bound e.old.graph x e.old.grid b)
+        (clauses_of_bound e.old.graph x e.old.grid b)
+        (longest_of_bound e.old.graph e.old.grid) }
 {
     let last = e.formula.vars();
     let sums = add_bound(alloc, &mut e.formula, e.graph, e.grid, c, cap)?;

@@ -5,6 +5,7 @@ ghost use Rattle.plan_core.specs.Values.{limit_of};
 ghost use Rattle.cnf_core.specs.Added.{AddsBlock};
 ghost use Rattle.drawing_cnf.specs.Expected.{drawing_vars, laws_first};
 ghost use Rattle.drawing_cnf.specs.Bounds.{bound_clauses, bound_size, bound_sums};
+ghost use Rattle.drawing_cnf.specs.Bounded.{longest_of_bound};
 
 use crate::diagonal_bound::add_diagonal_bound;
 use crate::height_bound::add_height_bound;
@@ -36,10 +37,10 @@ fn add_height(
 ) -> Result<Vec<Sum>, CnfFault>
     requires there { laws_first g.now grid.now ≤ f.old.vars + 1 }
     requires cap { cap ≤ grid.now.height }
-    ensures adds { AddsBlock result f.old f.new (bound_size g.now (drawing_vars g.now grid.now) grid.now f.old.vars cap
-        Height)
-        (bound_clauses g.now (drawing_vars g.now grid.now) grid.now f.old.vars cap Height)
-        (length g.now.edges * (grid.now.width + 1) + length g.now.nodes + 3) }
+    ensures adds { let x = drawing_vars g.now grid.now in
+        AddsBlock result f.old f.new (bound_size g.now x grid.now f.old.vars cap Height)
+        (bound_clauses g.now x grid.now f.old.vars cap Height)
+        (longest_of_bound g.now grid.now) }
     ensures sums { IfOk result (λ v. v.items ≡ bound_sums g.now (drawing_vars g.now grid.now) grid.now f.old.vars cap
         Height) }
 {
@@ -57,10 +58,10 @@ fn add_width(
 ) -> Result<Vec<Sum>, CnfFault>
     requires there { laws_first g.now grid.now ≤ f.old.vars + 1 }
     requires cap { cap ≤ grid.now.width }
-    ensures adds { AddsBlock result f.old f.new (bound_size g.now (drawing_vars g.now grid.now) grid.now f.old.vars cap
-        Width)
-        (bound_clauses g.now (drawing_vars g.now grid.now) grid.now f.old.vars cap Width)
-        (length g.now.edges * (grid.now.width + 1) + length g.now.nodes + 3) }
+    ensures adds { let x = drawing_vars g.now grid.now in
+        AddsBlock result f.old f.new (bound_size g.now x grid.now f.old.vars cap Width)
+        (bound_clauses g.now x grid.now f.old.vars cap Width)
+        (longest_of_bound g.now grid.now) }
     ensures sums { IfOk result (λ v. v.items ≡ bound_sums g.now (drawing_vars g.now grid.now) grid.now f.old.vars cap
         Width) }
 {
@@ -80,10 +81,10 @@ fn add_bends(
 ) -> Result<Vec<Sum>, CnfFault>
     requires there { laws_first g.now grid.now ≤ f.old.vars + 1 }
     requires cap { cap ≤ 65535 }
-    ensures adds { AddsBlock result f.old f.new (bound_size g.now (drawing_vars g.now grid.now) grid.now f.old.vars cap
-        Bends)
-        (bound_clauses g.now (drawing_vars g.now grid.now) grid.now f.old.vars cap Bends)
-        (length g.now.edges * (grid.now.width + 1) + length g.now.nodes + 3) }
+    ensures adds { let x = drawing_vars g.now grid.now in
+        AddsBlock result f.old f.new (bound_size g.now x grid.now f.old.vars cap Bends)
+        (bound_clauses g.now x grid.now f.old.vars cap Bends)
+        (longest_of_bound g.now grid.now) }
     ensures sums { IfOk result (λ v. v.items ≡ bound_sums g.now (drawing_vars g.now grid.now) grid.now f.old.vars cap
         Bends) }
 {
@@ -102,10 +103,10 @@ fn add_diagonal(
 ) -> Result<Vec<Sum>, CnfFault>
     requires there { laws_first g.now grid.now ≤ f.old.vars + 1 }
     requires cap { cap ≤ 65535 }
-    ensures adds { AddsBlock result f.old f.new (bound_size g.now (drawing_vars g.now grid.now) grid.now f.old.vars cap
-        Diagonal)
-        (bound_clauses g.now (drawing_vars g.now grid.now) grid.now f.old.vars cap Diagonal)
-        (length g.now.edges * (grid.now.width + 1) + length g.now.nodes + 3) }
+    ensures adds { let x = drawing_vars g.now grid.now in
+        AddsBlock result f.old f.new (bound_size g.now x grid.now f.old.vars cap Diagonal)
+        (bound_clauses g.now x grid.now f.old.vars cap Diagonal)
+        (longest_of_bound g.now grid.now) }
     ensures sums { IfOk result (λ v. v.items ≡ bound_sums g.now (drawing_vars g.now grid.now) grid.now f.old.vars cap
         Diagonal) }
 {
@@ -124,10 +125,10 @@ pub(crate) fn add_bound(
 ) -> Result<Vec<Sum>, CnfFault>
     requires there { laws_first g.now grid.now ≤ f.old.vars + 1 }
     requires cap { cap ≤ limit_of g.now grid.now c }
-    ensures adds { AddsBlock result f.old f.new (bound_size g.now (drawing_vars g.now grid.now) grid.now f.old.vars cap
-        c)
-        (bound_clauses g.now (drawing_vars g.now grid.now) grid.now f.old.vars cap c)
-        (length g.now.edges * (grid.now.width + 1) + length g.now.nodes + 3) }
+    ensures adds { let x = drawing_vars g.now grid.now in
+        AddsBlock result f.old f.new (bound_size g.now x grid.now f.old.vars cap c)
+        (bound_clauses g.now x grid.now f.old.vars cap c)
+        (longest_of_bound g.now grid.now) }
     ensures sums { IfOk result
         (λ v. v.items ≡ bound_sums g.now (drawing_vars g.now grid.now) grid.now f.old.vars cap c) }
 {

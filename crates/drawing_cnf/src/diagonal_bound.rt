@@ -11,7 +11,7 @@ ghost use Rattle.edge_shape.specs.EdgeVars.{lits_of, edge_size, EdgeIsPlaced};
 ghost use Rattle.drawing_cnf.specs.Expected.{drawing_vars, laws_first};
 ghost use Rattle.drawing_cnf.specs.Bounds.{west_first, step_lits, gives_output, end_outputs, steps_beside, edge_steps};
 ghost use Rattle.drawing_cnf.specs.Bounds.{steps_sum};
-ghost use Rattle.drawing_cnf.specs.Bounds.{edges_steps, edges_sums, edges_count, edge_most, sum_bound, diagonal_sum};
+ghost use Rattle.drawing_cnf.specs.Bounds.{edges_steps, edges_sums, edges_count, edge_most, sum_bound, diagonal_count};
 ghost use Rattle.drawing_cnf.specs.Bounds.{diagonal_sums, diagonal_bound, diagonal_bound_size};
 
 use crate::edge_laws::edge_vars;
@@ -276,10 +276,9 @@ fn add_diagonal_sums(
     requires edges { edges.now ≡ west_first g.now }
     requires cap { cap ≤ 65535 }
     requires behind { f.old.vars ≡ last + cap }
-    ensures adds { let x = drawing_vars g.now grid.now in let s = diagonal_sum x grid.now edges.now last cap in
-        AddsBlock result f.old f.new (edges_count x grid.now.width (edge_most grid.now cap) (last + cap) edges.now +
-        sum_count s)
-        (edges_steps x grid.now.width (edge_most grid.now cap) (last + cap) edges.now ++ sum_bound s last) 3 }
+    ensures adds { let x = drawing_vars g.now grid.now in
+        AddsBlock result f.old f.new (diagonal_count x grid.now edges.now last cap)
+        (diagonal_bound x grid.now edges.now last cap) 3 }
     ensures sums { IfOk result
         (λ v. v.items ≡ diagonal_sums (drawing_vars g.now grid.now) grid.now edges.now last cap) }
 {

@@ -9,9 +9,9 @@ ghost use Rattle.track_order.specs.Order.{is_above, is_overlap};
 ghost use Rattle.drawing_cnf.specs.Rank.{LiesBefore, west_rank};
 ghost use Rattle.drawing_cnf.specs.Bounds.{west_first, BeginsBefore};
 ghost use Rattle.drawing_cnf.specs.Expected.{formula_clauses, formula_size};
-ghost use Rattle.drawing_cnf.specs.Bounded.{bound, expected_bounds, expected};
+ghost use Rattle.drawing_cnf.specs.Bounded.{expected_bounds, expected};
 ghost use Rattle.drawing_cnf.specs.Encoding.{Encoding};
-ghost use Rattle.drawing_cnf.specs.Whole.{expected_last, IsWhole};
+ghost use Rattle.drawing_cnf.specs.Whole.{expected_last, one_bound_more, HasBoundsOf, IsWhole};
 
 /// Each node has a place of its own in the row, and the nodes lie there from west to east.
 pub fn nodes_lie_from_west_to_east()
@@ -35,9 +35,7 @@ pub fn one_criterion_more()
     ensures added { (g : Graph) (above overlap : ℕ → ℕ → Bool) (grid : GridSize) (order : List Criterion)
         (caps : Criterion → ℕ)
         (c : Criterion) → 0 < caps c →
-        expected_bounds g above overlap grid (order ++ c ∷ []) caps
-        ≡ expected_bounds g above overlap grid order caps
-        ++ bound c (expected_last g above overlap grid order caps) (caps c) ∷ [] }
+        expected_bounds g above overlap grid (order ++ c ∷ []) caps ≡ one_bound_more g above overlap grid order caps c }
     ensures skipped { (g : Graph) (above overlap : ℕ → ℕ → Bool) (grid : GridSize) (order : List Criterion)
         (caps : Criterion → ℕ)
         (c : Criterion) → caps c ≡ 0 →
@@ -47,10 +45,10 @@ pub fn one_criterion_more()
 /// A whole formula with the bounds of an order has just the clauses and variables that there are for the order.
 pub fn whole_is_expected()
     ensures clauses { (e : Encoding) (order : List Criterion) (caps : Criterion → ℕ) → IsWhole e →
-        e.bounds ≡ expected_bounds e.graph (is_above e.order) (is_overlap e.order) e.grid order caps →
+        HasBoundsOf e order caps →
         e.formula.clauses ≡ expected e.graph (is_above e.order) (is_overlap e.order) e.grid order caps }
     ensures vars { (e : Encoding) (order : List Criterion) (caps : Criterion → ℕ) → IsWhole e →
-        e.bounds ≡ expected_bounds e.graph (is_above e.order) (is_overlap e.order) e.grid order caps →
+        HasBoundsOf e order caps →
         e.formula.vars ≡ expected_last e.graph (is_above e.order) (is_overlap e.order) e.grid order caps }
 {}
 

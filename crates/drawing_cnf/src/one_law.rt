@@ -1,14 +1,12 @@
 // Each law with clauses, for its parties alone: a model of the clauses keeps the law, and where the law is kept the
 // clauses have a model. The laws on the grid and on ends of lines have no clauses of their own.
 ghost use Rattle.std.specs.Prelude.{◌≤◌, ◌<◌, ◌+◌, length};
-ghost use Rattle.std.specs.Ordering.{int_cmp};
-ghost use Rattle.plan_core.specs.Graph.{mileage};
 ghost use Rattle.plan_core.specs.Laws.{NodesAreOrdered, NodeIsAligned, NodesAreApart, EdgeIsOver, EdgesAreParted};
 ghost use Rattle.cnf_core.specs.declared.literal.LitOrTruth.TheVariants.{False};
 ghost use Rattle.cnf_core.specs.Clause.{AreThere};
 ghost use Rattle.cnf_core.specs.Added.{AddsClauses, AddsBlock};
-ghost use Rattle.drawing_cnf.specs.LawClauses.{ordered_clauses, aligned_clauses, anywhere_clauses, over_clauses};
-ghost use Rattle.drawing_cnf.specs.LawClauses.{parted_clauses};
+ghost use Rattle.drawing_cnf.specs.LawClauses.{by_mileage, ordered_clauses, aligned_clauses, anywhere_clauses};
+ghost use Rattle.drawing_cnf.specs.LawClauses.{over_clauses, parted_clauses};
 ghost use Rattle.drawing_cnf.specs.Expected.{drawing_vars, laws_first};
 ghost use Rattle.drawing_cnf.specs.OneLaw.{SaysLaw, AllowsLaw};
 
@@ -34,15 +32,15 @@ pub fn add_ordered_law(
     requires v { v.0 < length g.now.nodes }
     requires unless { AreThere f.old.vars unless.now }
     ensures adds { let x = drawing_vars g.now grid.now in
-        let clauses = ordered_clauses (int_cmp (mileage g.now u.0) (mileage g.now v.0)) (x.node u.0).x (x.node v.0).x
+        let clauses = ordered_clauses (by_mileage g.now u.0 v.0) (x.node u.0).x (x.node v.0).x
         unless.now in
         AddsClauses result f.old f.new clauses (length unless.now + 7) }
     ensures says { let x = drawing_vars g.now grid.now in
-        let clauses = ordered_clauses (int_cmp (mileage g.now u.0) (mileage g.now v.0)) (x.node u.0).x (x.node v.0).x
+        let clauses = ordered_clauses (by_mileage g.now u.0 v.0) (x.node u.0).x (x.node v.0).x
         unless.now in
         SaysLaw g.now grid.now unless.now clauses (λ d. NodesAreOrdered g.now d u.0 v.0) }
     ensures allows { let x = drawing_vars g.now grid.now in
-        let clauses = ordered_clauses (int_cmp (mileage g.now u.0) (mileage g.now v.0)) (x.node u.0).x (x.node v.0).x
+        let clauses = ordered_clauses (by_mileage g.now u.0 v.0) (x.node u.0).x (x.node v.0).x
         unless.now in
         AllowsLaw g.now grid.now unless.now (f.old.vars + 1) 0 clauses (λ d. NodesAreOrdered g.now d u.0 v.0) }
 {

@@ -16,7 +16,7 @@ ghost use Rattle.drawing_cnf.specs.Expected.{formula_clauses, formula_size};
 ghost use Rattle.drawing_cnf.specs.Bounded.{bounds_clauses, AreBehind};
 ghost use Rattle.drawing_cnf.specs.Encoding.{encoded_vars};
 ghost use Rattle.drawing_cnf.specs.Kept.{bound_of, AreKept};
-ghost use Rattle.drawing_cnf.specs.Whole.{bounds_last, IsWhole};
+ghost use Rattle.drawing_cnf.specs.Whole.{bounds_last, last_with, IsWhole};
 ghost use Rattle.drawing_cnf.specs.Puts.{HoldsBefore};
 
 use crate::Encoded;
@@ -163,13 +163,11 @@ fn put_all(s: &Subject, bounds: &[KeptBound], m: &mut Truths)
         (map bound_of bounds.now) ≤ VARS }
     ensures stands { StandsFor (assignment m.new) s.now.graph.now (drawing_vars s.now.graph.now s.now.grid.now)
         s.now.drawing.now }
-    ensures model { SatisfiesAll (assignment m.new)
-        (formula_clauses s.now.graph.now (is_above s.now.order.now) (is_overlap s.now.order.now) s.now.grid.now
-        ++ bounds_clauses s.now.graph.now (drawing_vars s.now.graph.now s.now.grid.now) s.now.grid.now
-        (map bound_of bounds.now)) }
-    ensures later { (y : ℕ) → bounds_last s.now.graph.now (drawing_vars s.now.graph.now s.now.grid.now) s.now.grid.now
-        (formula_size s.now.graph.now (is_above s.now.order.now) (is_overlap s.now.order.now) s.now.grid.now)
-        (map bound_of bounds.now) < y → assignment m.new y ≡ assignment m.old y }
+    ensures model { let g = s.now.graph.now in let t = s.now.order.now in let grid = s.now.grid.now in
+        SatisfiesAll (assignment m.new) (formula_clauses g (is_above t) (is_overlap t) grid
+        ++ bounds_clauses g (drawing_vars g grid) grid (map bound_of bounds.now)) }
+    ensures later { (y : ℕ) → last_with s.now.graph.now s.now.order.now s.now.grid.now (map bound_of bounds.now) < y →
+        assignment m.new y ≡ assignment m.old y }
     ensures vars { length m.new ≡ length m.old }
 {
     // what the types keep

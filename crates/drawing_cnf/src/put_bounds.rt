@@ -9,7 +9,7 @@ ghost use Rattle.drawing_cnf.specs.Expected.{drawing_vars, formula_size};
 ghost use Rattle.drawing_cnf.specs.Bounds.{IsExact};
 ghost use Rattle.drawing_cnf.specs.Bounded.{bounds_clauses, AreBehind};
 ghost use Rattle.drawing_cnf.specs.Kept.{bound_of, AreKept};
-ghost use Rattle.drawing_cnf.specs.Whole.{bounds_last};
+ghost use Rattle.drawing_cnf.specs.Whole.{bounds_last, last_with};
 ghost use Rattle.drawing_cnf.specs.Puts.{IsPutTo, HoldsBefore, AreInRow, sums_size, sums_clauses};
 
 use crate::kept_bound::KeptBound;
@@ -68,15 +68,11 @@ pub(crate) fn put_bounds(s: &Subject, bounds: &[KeptBound], values: &Values, m: 
     ensures below { (y : ℕ) →
         y ≤ formula_size s.now.graph.now (is_above s.now.order.now) (is_overlap s.now.order.now) s.now.grid.now →
         assignment m.new y ≡ assignment m.old y }
-    ensures holds { HoldsBefore (bounds_last s.now.graph.now (drawing_vars s.now.graph.now s.now.grid.now)
-        s.now.grid.now
-        (formula_size s.now.graph.now (is_above s.now.order.now) (is_overlap s.now.order.now) s.now.grid.now)
-        (map bound_of bounds.now) + 1) (assignment m.new)
-        (bounds_clauses s.now.graph.now (drawing_vars s.now.graph.now s.now.grid.now) s.now.grid.now
-        (map bound_of bounds.now)) }
-    ensures later { (y : ℕ) → bounds_last s.now.graph.now (drawing_vars s.now.graph.now s.now.grid.now) s.now.grid.now
-        (formula_size s.now.graph.now (is_above s.now.order.now) (is_overlap s.now.order.now) s.now.grid.now)
-        (map bound_of bounds.now) < y → assignment m.new y ≡ assignment m.old y }
+    ensures holds { let g = s.now.graph.now in let grid = s.now.grid.now in let bs = map bound_of bounds.now in
+        HoldsBefore (last_with g s.now.order.now grid bs + 1) (assignment m.new)
+        (bounds_clauses g (drawing_vars g grid) grid bs) }
+    ensures later { (y : ℕ) → last_with s.now.graph.now s.now.order.now s.now.grid.now (map bound_of bounds.now) < y →
+        assignment m.new y ≡ assignment m.old y }
     ensures vars { length m.new ≡ length m.old }
 {
     for k in bounds {

@@ -1,11 +1,10 @@
 // The whole formula.
-ghost use Rattle.std.specs.Prelude.{◌≡◌, ◌≤◌, ◌+◌, ◌-◌, ◌++◌, length, [], ◌∷◌, OnOk};
-ghost use Rattle.plan_core.specs.Lawful.{Ordered, Aligned, Apart};
+ghost use Rattle.std.specs.Prelude.{◌≡◌, ◌≤◌, ◌+◌, ◌-◌, ◌++◌, length, OnOk};
 ghost use Rattle.cnf_core.specs.declared.limits.TheConstants.{VARS};
 ghost use Rattle.cnf_core.specs.Clause.{words_of};
 ghost use Rattle.cnf_core.specs.Added.{AddsBlock};
 ghost use Rattle.track_order.specs.Order.{is_above, is_overlap};
-ghost use Rattle.drawing_cnf.specs.Expected.{drawing_vars, laws_first, instances_from, instance_pairs, edge_pair};
+ghost use Rattle.drawing_cnf.specs.Expected.{drawing_vars, laws_first, last_instances, later_instances};
 ghost use Rattle.drawing_cnf.specs.Expected.{instances};
 ghost use Rattle.drawing_cnf.specs.Expected.{expected_clauses, expected_size, formula_clauses, formula_size};
 ghost use Rattle.drawing_cnf.specs.AddsLaws.{AddsLaws};
@@ -28,8 +27,7 @@ fn add_last_laws(
     requires there { laws_first g.now grid.now ≤ f.old.vars + 1 }
     requires edges { t.now.edges ≡ length g.now.edges }
     ensures { AddsLaws result f.old f.new g.now (drawing_vars g.now grid.now) grid.now.width
-        (instance_pairs (length g.now.nodes) (λ u v. Apart u v ∷ [])
-        ++ instance_pairs (length g.now.edges) (edge_pair (is_above t.now) (is_overlap t.now))) 7 }
+        (last_instances g.now (is_above t.now) (is_overlap t.now)) 7 }
 {
     add_apart_pairs(f, g, grid)?;
     add_edge_pairs(f, g, grid, t)
@@ -45,9 +43,7 @@ fn add_later_laws(
     requires there { laws_first g.now grid.now ≤ f.old.vars + 1 }
     requires edges { t.now.edges ≡ length g.now.edges }
     ensures { AddsLaws result f.old f.new g.now (drawing_vars g.now grid.now) grid.now.width
-        (instances_from (λ n. Aligned n ∷ []) 0 (length g.now.nodes)
-        ++ (instance_pairs (length g.now.nodes) (λ u v. Apart u v ∷ [])
-        ++ instance_pairs (length g.now.edges) (edge_pair (is_above t.now) (is_overlap t.now)))) 7 }
+        (later_instances g.now (is_above t.now) (is_overlap t.now)) 7 }
 {
     add_aligned_nodes(f, g, grid)?;
     add_last_laws(f, g, t, grid)
