@@ -1,5 +1,5 @@
 -- What a log tells after an error in a search for the front.
-use Rattle.std.proofs.Common.{◌≡◌, ℕ, ◌+◌, [], ◌∷◌, ◌++◌, refl, sym, ◌∙◌, ap, subst, append-nil, append_assoc}
+use Rattle.std.proofs.Common.{◌≡◌, ℕ, ◌+◌, List, [], ◌∷◌, ◌++◌, refl, sym, ◌∙◌, ap, subst, append-nil, append_assoc}
 use Rattle.std.specs.Prelude.{Some, None, Option}
 use Rattle.plan_core.specs.declared.criterion.Criterion.{Criterion}
 use Rattle.refute_log.specs.Told.{Lines}

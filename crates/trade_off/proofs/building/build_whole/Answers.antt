@@ -1,4 +1,4 @@
-use Rattle.std.proofs.Common.{sym, ◌∙◌}
+use Rattle.std.proofs.Common.{sym, ◌∙◌, subst}
 use Rattle.lex_search.specs.Task.{greatest_of}
 use Rattle.trade_off.proofs.TellLemmas.{zero_caps, zero_vars, zero_lines, whole_caps, whole_vars, lines_whole}
 use Rattle.refute_log.proofs.StepLemmas.{on_err_always}
