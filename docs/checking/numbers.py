@@ -117,7 +117,7 @@ def commands():
     text = source("plan_words/src/command.rt")
     words = dict(re.findall(r"\"(\w+)\" => Some\(CommandWord::(\w+)\)", text))
     counts = {}
-    for variants, count in re.findall(r"^\s+((?:CommandWord::\w+[ |]*)+) => (\d+),", text, re.M):
+    for variants, count in re.findall(r"^\s+((?:CommandWord::\w+[\s|]*)+) => (\d+),", text, re.M):
         counts.update({variant: int(count) for variant in re.findall(r"::(\w+)", variants)})
     return {word: counts[variant] for word, variant in words.items()}
 
@@ -342,11 +342,12 @@ def prose_that_fails():
     height, bends, diagonal, width = re.search(r"^values (\d+) (\d+) (\d+) (\d+)$", read(TOP / "examples/station.sheet"), re.M).groups()
     *front, last = usual_order()
     names = {word: WORDS_OF_NUMBERS[number] for word, number in commands().items()}
+    ones = [f"`{word}`" for word, number in commands().items() if number == 1 and word not in ("make", "trial")]
     due = [(README, f"its highest row is row {height}, counted from 0, it has {bends} bends and {diagonal} columns of diagonals, its "
                     f"last column is column {width}"),
            (README, f"better in {', '.join(front)} and {last}"),
-           (FORMATS, f"`draw` and `graph` have {names['draw']} name, `verify` {names['verify']}, `check` {names['check']}, and `make` "
-                     f"and `trial` {names['make']}")]
+           (FORMATS, f"{', '.join(ones[:-1])} and {ones[-1]} have {names['draw']} name, `verify` {names['verify']}, `check` "
+                     f"{names['check']}, and `make` and `trial` {names['make']}")]
     return [f"{show(page)}: doesn't say '{text}'" for page, text in due if text not in " ".join(read(page).split())]
 
 
