@@ -1,6 +1,6 @@
 -- One line more: how it is compared, and what is known of the lines with it.
 use Rattle.std.proofs.Common.{◌≡◌, ◌≤◌, ◌<◌, ℕ, List, [], ◌∷◌, ◌++◌, refl, sym, ◌∙◌, ap, subst, inl, inr, arith, append-nil, append_assoc}
-use Rattle.std.specs.Prelude.{Option, Some, None, Result, Ok, Err, IfOk, OnOk, IfSome, flat_map, MatchOption, option_to_list}
+use Rattle.std.specs.Prelude.{false, Option, Some, None, Result, Ok, Err, IfOk, OnOk, IfSome, flat_map, MatchOption, option_to_list}
 use Rattle.cnf_core.specs.declared.limits.TheConstants.{ROOM}
 use Rattle.cnf_core.specs.Clause.{Clauses, words_of}
 use Rattle.refute_log.specs.declared.line.LogLine.{LogLine}
@@ -132,7 +132,7 @@ accepted_more e lines line p new h a = record {
 }
 
 abbrev kept_with : Facts → CheckedFacts
-kept_with facts = record { room = ROOM; facts = facts }
+kept_with facts = record { room = ROOM; facts = facts; lost = false }
 
 kept_more : (old new : CheckedFacts) (lines : Lines) (line : LogLine) → old ≡ kept_of_lines lines → new ≡ kept_after old line → new ≡ kept_of_lines (lines ++ line ∷ [])
 kept_more old new lines line is more =

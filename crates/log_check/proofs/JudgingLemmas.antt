@@ -1,6 +1,6 @@
 -- A log that is read line by line, and what the verdict on it says.
 use Rattle.std.proofs.Common.{◌≡◌, ◌≤◌, ◌<◌, ℕ, ◌+◌, List, [], ◌∷◌, ◌++◌, length, refl, sym, ◌∙◌, ap, subst, inl, inr, arith, append_assoc, length-append}
-use Rattle.std.specs.Prelude.{Option, Some, None, Result, Ok, Err, min, IfOk, IfSome, MatchOption}
+use Rattle.std.specs.Prelude.{Bool, false, Option, Some, None, Result, Ok, Err, min, IfOk, IfSome, MatchOption}
 use Rattle.std.specs.Borrow.{Bor}
 use Rattle.plan_core.specs.declared.criterion.Criterion.{Criterion}
 use Rattle.plan_core.specs.declared.criterion.Values.{Values}
@@ -263,12 +263,12 @@ pub no_header : (log : List ℕ) (r : Option (Bor (List ℕ))) → MatchOption r
 no_header log None h other = h
 no_header log (Some x) h other = absurd (other x refl)
 
-abbrev kept_by : ℕ → Facts → CheckedFacts
-kept_by room facts = record { room = room; facts = facts }
+abbrev kept_by : ℕ → Facts → Bool → CheckedFacts
+kept_by room facts lost = record { room = room; facts = facts; lost = lost }
 
 -- a new checker accepted no lines
-pub new_keeps : (k : CheckedFacts) → k.room ≡ ROOM → k.facts ≡ facts_of [] → k ≡ kept_of_lines []
-new_keeps k room facts = ap (λ n. kept_by n k.facts) room ∙ ap (λ (f : Facts). kept_by ROOM f) facts
+pub new_keeps : (k : CheckedFacts) → k.room ≡ ROOM → k.facts ≡ facts_of [] → k.lost ≡ false → k ≡ kept_of_lines []
+new_keeps k room facts there = ap (λ n. kept_by n k.facts k.lost) room ∙ ap (λ (f : Facts). kept_by ROOM f k.lost) facts ∙ ap (λ b. kept_by ROOM (facts_of []) b) there
 
 -- the claim is judged by the lines of a text that was read to its end
 pub text_judged : {X : Type 0} (res : Result Verdict X) (greatest : Criterion → ℕ) (order : List Criterion) (claim : Claim) (log : List ℕ) (o : Option Awaited) (old new : Progress) (r : Option Verdict) → r ≡ None →

@@ -1,5 +1,5 @@
 -- Why a line of a log is refused after lines that are accepted.
-use Rattle.std.specs.Prelude.{◌≡◌, ◌≢◌, ◌⊎◌, ℕ, List, [], ◌∷◌, ◌++◌, codes}
+use Rattle.std.specs.Prelude.{◌≡◌, ◌≢◌, ◌⊎◌, ℕ, List, [], ◌∷◌, ◌++◌, codes, false}
 use Rattle.cnf_core.specs.declared.limits.TheConstants.{ROOM}
 use Rattle.refute_log.specs.declared.line.LogLine.{LogLine}
 use Rattle.refute_log.specs.Told.{Lines}
@@ -26,7 +26,7 @@ pub record IsComparedLine (e : Expectation) (before : Lines) (line : LogLine) : 
 
 -- what a checker of ROOM words keeps of lines that it accepted
 abbrev pub kept_of_lines : Lines → CheckedFacts
-kept_of_lines lines = record { room = ROOM; facts = facts_of lines }
+kept_of_lines lines = record { room = ROOM; facts = facts_of lines; lost = false }
 
 -- where there are several causes: no room for what is expected, another line than the next, and then the checker's
 -- causes,

@@ -1,6 +1,6 @@
 -- What a checker answers, by what its tables are good for.
 use Rattle.std.proofs.Common.{◌≡◌, ℕ, ◌+◌, ◌-◌, ◌<◌, ◌≤◌, ◌⊎◌, max, List, [], ◌∷◌, ◌++◌, length, take, drop, get_or, refl, sym, ◌∙◌, ap, subst, inl, inr, arith, append-nil}
-use Rattle.std.specs.Prelude.{All, Contains, Option, MatchOption, Result, Ok, Err, OnOk, IfErr}
+use Rattle.std.specs.Prelude.{Bool, All, Contains, Option, MatchOption, Result, Ok, Err, OnOk, IfErr}
 use Rattle.std.proofs.lemmas.List.{take_all}
 use Rattle.std.proofs.lemmas.List.Elements.{All-weaker, All-nil}
 use Rattle.cnf_core.specs.Lit.{Literal, negate}
@@ -23,8 +23,8 @@ use Rattle.refute_check.specs.Kept.{CheckedFacts, checked_facts, kept_after, wit
 pub falsified_any : (clauses : Clauses) (start : LiteralSet) → Falsifies clauses nothing → Falsifies clauses start
 falsified_any clauses start f = falsifies_again clauses start nothing (λ k m. cc) f
 
-pub contradicted_any : (room : ℕ) (f : Cnf) (q : Option (List Literal)) (rs : Clauses) (kept : CheckedFacts) (start : LiteralSet) → IsContradicted f → checked_facts room f q rs ≡ kept → Falsifies kept.facts.clauses start
-contradicted_any room f q rs kept start h e = subst (λ (cs : Clauses). Falsifies cs start) (ap (λ (k : CheckedFacts). k.facts.clauses) e) (falsified_any f.clauses start h.falsified)
+pub contradicted_any : (room : ℕ) (f : Cnf) (q : Option (List Literal)) (rs : Clauses) (lost : Bool) (kept : CheckedFacts) (start : LiteralSet) → IsContradicted f → checked_facts room f q rs lost ≡ kept → Falsifies kept.facts.clauses start
+contradicted_any room f q rs lost kept start h e = subst (λ (cs : Clauses). Falsifies cs start) (ap (λ (k : CheckedFacts). k.facts.clauses) e) (falsified_any f.clauses start h.falsified)
 
 -- the parts of a clause with a first literal
 pub split_first : (lits : List Literal) (first : Literal) → 1 ≤ length lits → first ≡ get_or lits 0 first → lits ≡ first ∷ take (length lits - 1) (drop 1 lits)
@@ -44,8 +44,8 @@ new_first clauses lits first others greatest e le there f u = subst (λ (ls : Li
 })
 
 -- what is asked of a line's literals, of the checker's value
-pub named_line : (c lits : List Literal) (vars room : ℕ) (f : Cnf) (q : Option (List Literal)) (rs : Clauses) (kept : CheckedFacts) → lits ≡ c → vars ≡ f.vars → checked_facts room f q rs ≡ kept → All (λ l. l.var ≤ vars) lits → All (λ l. l.var ≤ kept.facts.greatest) c
-named_line c lits vars room f q rs kept e v k all =
+pub named_line : (c lits : List Literal) (vars room : ℕ) (f : Cnf) (q : Option (List Literal)) (rs : Clauses) (lost : Bool) (kept : CheckedFacts) → lits ≡ c → vars ≡ f.vars → checked_facts room f q rs lost ≡ kept → All (λ l. l.var ≤ vars) lits → All (λ l. l.var ≤ kept.facts.greatest) c
+named_line c lits vars room f q rs lost kept e v k all =
     let n : vars ≡ kept.facts.greatest = v ∙ ap (λ (m : CheckedFacts). m.facts.greatest) k in
     subst (λ (ls : List Literal). All (λ l. l.var ≤ kept.facts.greatest) ls) e (subst (λ m. All (λ (l : Literal). l.var ≤ m) lits) n all)
 
@@ -92,6 +92,7 @@ formula_accepts old new c lits most e g le fits k = record {
     with_refuted kept c vars rs = record {
       room = kept.room;
       facts = record { greatest = max kept.facts.greatest vars; clauses = kept.facts.clauses ++ c ∷ []; query = kept.facts.query; refuted = rs };
+      lost = kept.lost;
     }
 
 -- Learnt lines
@@ -131,17 +132,18 @@ learnt_accepts old mid last new c lits e same again named fits rup fresh k = rec
     with_refuted kept c rs = record {
       room = kept.room;
       facts = record { greatest = max kept.facts.greatest 0; clauses = kept.facts.clauses ++ c ∷ []; query = kept.facts.query; refuted = rs };
+      lost = kept.lost;
     }
 
 -- Refuted lines
-pub refuted_wrong : (kept : CheckedFacts) (room : ℕ) (f : Cnf) (q : Option (List Literal)) (rs : Clauses) (c lits : List Literal) → lits ≡ c → checked_facts room f q rs ≡ kept → All (λ l. l.var ≤ kept.facts.greatest) c → (MatchOption q ⊥ (λ p. All (λ l. Contains p (negate l)) lits) → ⊥) → AnswersWrongly kept (Refuted c)
-refuted_wrong kept room f q rs c lits e k named refutes = record {
+pub refuted_wrong : (kept : CheckedFacts) (room : ℕ) (f : Cnf) (q : Option (List Literal)) (rs : Clauses) (lost : Bool) (c lits : List Literal) → lits ≡ c → checked_facts room f q rs lost ≡ kept → All (λ l. l.var ≤ kept.facts.greatest) c → (MatchOption q ⊥ (λ p. All (λ l. Contains p (negate l)) lits) → ⊥) → AnswersWrongly kept (Refuted c)
+refuted_wrong kept room f q rs lost c lits e k named refutes = record {
   named = named;
   wrong = λ h. refutes (subst (λ (p : Option (List Literal)). Answers p (Refuted lits)) (sym (ap (λ (m : CheckedFacts). m.facts.query) k)) (subst (λ (ls : List Literal). Answers kept.facts.query (Refuted ls)) (sym e) h));
 }
 
-pub refuted_answers : (kept : CheckedFacts) (room : ℕ) (f : Cnf) (q : Option (List Literal)) (rs : Clauses) (c lits : List Literal) → lits ≡ c → checked_facts room f q rs ≡ kept → MatchOption q ⊥ (λ p. All (λ l. Contains p (negate l)) lits) → Answers kept.facts.query (Refuted c)
-refuted_answers kept room f q rs c lits e k h = subst (λ (ls : List Literal). Answers kept.facts.query (Refuted ls)) e (subst (λ (p : Option (List Literal)). Answers p (Refuted lits)) (ap (λ (m : CheckedFacts). m.facts.query) k) h)
+pub refuted_answers : (kept : CheckedFacts) (room : ℕ) (f : Cnf) (q : Option (List Literal)) (rs : Clauses) (lost : Bool) (c lits : List Literal) → lits ≡ c → checked_facts room f q rs lost ≡ kept → MatchOption q ⊥ (λ p. All (λ l. Contains p (negate l)) lits) → Answers kept.facts.query (Refuted c)
+refuted_answers kept room f q rs lost c lits e k h = subst (λ (ls : List Literal). Answers kept.facts.query (Refuted ls)) e (subst (λ (p : Option (List Literal)). Answers p (Refuted lits)) (ap (λ (m : CheckedFacts). m.facts.query) k) h)
 
 pub refuted_unproved : (kept : CheckedFacts) (c lits : List Literal) → lits ≡ c → All (λ l. l.var ≤ kept.facts.greatest) c → Answers kept.facts.query (Refuted c) → (Rup kept.facts.clauses lits → ⊥) → IsUnproved kept (Refuted c)
 refuted_unproved kept c lits e named answers refutes = record {
@@ -151,18 +153,18 @@ refuted_unproved kept c lits e named answers refutes = record {
   unproved = λ rup. refutes (subst (λ (ls : List Literal). Rup kept.facts.clauses ls) (sym e) rup);
 }
 
-pub refuted_accepts : (old mid new : CheckedFacts) (room : ℕ) (f : Cnf) (q : Option (List Literal)) (rs now : Clauses) (c lits d : List Literal) → lits ≡ c → d ≡ lits → mid ≡ old → checked_facts room f q rs ≡ mid → now ≡ rs ++ d ∷ [] → new ≡ checked_facts room f q now → All (λ l. l.var ≤ old.facts.greatest) c → Answers old.facts.query (Refuted c) → Rup old.facts.clauses lits → Accepts old new (Refuted c)
-refuted_accepts old mid new room f q rs now c lits d e de same k push is named answers rup = record {
+pub refuted_accepts : (old mid new : CheckedFacts) (room : ℕ) (f : Cnf) (q : Option (List Literal)) (rs : Clauses) (lost : Bool) (now : Clauses) (c lits d : List Literal) → lits ≡ c → d ≡ lits → mid ≡ old → checked_facts room f q rs lost ≡ mid → now ≡ rs ++ d ∷ [] → new ≡ checked_facts room f q now lost → All (λ l. l.var ≤ old.facts.greatest) c → Answers old.facts.query (Refuted c) → Rup old.facts.clauses lits → Accepts old new (Refuted c)
+refuted_accepts old mid new room f q rs lost now c lits d e de same k push is named answers rup = record {
   stands = record { named = named; answers = answers; implied = subst (λ (ls : List Literal). Rup old.facts.clauses ls) e rup; says_more = tt };
   fits = λ h. h;
-  kept = is ∙ ap (λ (xs : Clauses). checked_facts room f q xs) push ∙ ap (λ (ls : List Literal). checked_facts room f q (rs ++ ls ∷ [])) (de ∙ e) ∙ ap (λ (m : CheckedFacts). with_refuted m c) (k ∙ same) ∙ whole;
+  kept = is ∙ ap (λ (xs : Clauses). checked_facts room f q xs lost) push ∙ ap (λ (ls : List Literal). checked_facts room f q (rs ++ ls ∷ []) lost) (de ∙ e) ∙ ap (λ (m : CheckedFacts). with_refuted m c) (k ∙ same) ∙ whole;
 }
   where
     with_refuted : CheckedFacts → List Literal → CheckedFacts
-    with_refuted m c = record { room = m.room; facts = record { greatest = m.facts.greatest; clauses = m.facts.clauses; query = m.facts.query; refuted = m.facts.refuted ++ c ∷ [] } }
+    with_refuted m c = record { room = m.room; facts = record { greatest = m.facts.greatest; clauses = m.facts.clauses; query = m.facts.query; refuted = m.facts.refuted ++ c ∷ [] }; lost = m.lost }
 
     with_both : ℕ → Clauses → CheckedFacts
-    with_both n cs = record { room = old.room; facts = record { greatest = n; clauses = cs; query = old.facts.query; refuted = old.facts.refuted ++ c ∷ [] } }
+    with_both n cs = record { room = old.room; facts = record { greatest = n; clauses = cs; query = old.facts.query; refuted = old.facts.refuted ++ c ∷ [] }; lost = old.lost }
 
     whole : with_refuted old c ≡ kept_after old (Refuted c)
     whole = let zero : old.facts.greatest ≡ max old.facts.greatest 0 = omega arith in ap (λ n. with_both n old.facts.clauses) zero ∙ ap (λ (cs : Clauses). with_both (max old.facts.greatest 0) cs) (sym (append-nil old.facts.clauses))

@@ -1,6 +1,6 @@
 -- Whether some Refuted line has only allowed literals.
 use Rattle.std.proofs.Common.{◌≡◌, ℕ, ◌<◌, List, length, get_or, sym, ◌∙◌, ap, subst}
-use Rattle.std.specs.Prelude.{All, Any, Contains, Option}
+use Rattle.std.specs.Prelude.{Bool, All, Any, Contains, Option}
 use Rattle.std.proofs.lemmas.List.Elements.{All-contains, All-weaker, All-contains_itself}
 use Rattle.cnf_core.specs.Lit.{Literal}
 use Rattle.cnf_core.specs.Clause.{Clauses, HasAllOf}
@@ -13,13 +13,13 @@ includes_from allowed lits c e all = λ l m. All-contains (Contains allowed) c l
 pub includes_to : (allowed lits c : List Literal) → lits ≡ c → HasAllOf allowed c → All (λ l. Contains allowed l) lits
 includes_to allowed lits c e h = subst (λ (ls : List Literal). All (Contains allowed) ls) (sym e) (All-weaker (Contains c) (Contains allowed) (λ l m. h l m) c (All-contains_itself c))
 
-refuted_is : (room : ℕ) (f : Cnf) (q : Option (List Literal)) (rs items : Clauses) (kept : CheckedFacts) → items ≡ rs → checked_facts room f q rs ≡ kept → items ≡ kept.facts.refuted
-refuted_is room f q rs items kept e k = e ∙ ap (λ (m : CheckedFacts). m.facts.refuted) k
+refuted_is : (room : ℕ) (f : Cnf) (q : Option (List Literal)) (rs : Clauses) (lost : Bool) (items : Clauses) (kept : CheckedFacts) → items ≡ rs → checked_facts room f q rs lost ≡ kept → items ≡ kept.facts.refuted
+refuted_is room f q rs lost items kept e k = e ∙ ap (λ (m : CheckedFacts). m.facts.refuted) k
 
-pub refutes_at : (room : ℕ) (f : Cnf) (q : Option (List Literal)) (rs items : Clauses) (kept : CheckedFacts) (allowed : List Literal) (i : ℕ) (c : List Literal) → items ≡ rs → checked_facts room f q rs ≡ kept → i < length items → c ≡ get_or items i c → HasAllOf allowed c → Refutes kept allowed
-refutes_at room f q rs items kept allowed i c e k within at h = subst (λ (cs : Clauses). Any (λ d. HasAllOf allowed d) cs) (refuted_is room f q rs items kept e k) (i, c, within, sym at, h)
+pub refutes_at : (room : ℕ) (f : Cnf) (q : Option (List Literal)) (rs : Clauses) (lost : Bool) (items : Clauses) (kept : CheckedFacts) (allowed : List Literal) (i : ℕ) (c : List Literal) → items ≡ rs → checked_facts room f q rs lost ≡ kept → i < length items → c ≡ get_or items i c → HasAllOf allowed c → Refutes kept allowed
+refutes_at room f q rs lost items kept allowed i c e k within at h = subst (λ (cs : Clauses). Any (λ d. HasAllOf allowed d) cs) (refuted_is room f q rs lost items kept e k) (i, c, within, sym at, h)
 
-pub refutes_none : (room : ℕ) (f : Cnf) (q : Option (List Literal)) (rs items : Clauses) (kept : CheckedFacts) (allowed : List Literal) → items ≡ rs → checked_facts room f q rs ≡ kept → All (λ d. HasAllOf allowed d → ⊥) items → Refutes kept allowed → ⊥
-refutes_none room f q rs items kept allowed e k none r =
-    let some : Any (λ d. HasAllOf allowed d) items = subst (λ (cs : Clauses). Any (λ d. HasAllOf allowed d) cs) (sym (refuted_is room f q rs items kept e k)) r in
+pub refutes_none : (room : ℕ) (f : Cnf) (q : Option (List Literal)) (rs : Clauses) (lost : Bool) (items : Clauses) (kept : CheckedFacts) (allowed : List Literal) → items ≡ rs → checked_facts room f q rs lost ≡ kept → All (λ d. HasAllOf allowed d → ⊥) items → Refutes kept allowed → ⊥
+refutes_none room f q rs lost items kept allowed e k none r =
+    let some : Any (λ d. HasAllOf allowed d) items = subst (λ (cs : Clauses). Any (λ d. HasAllOf allowed d) cs) (sym (refuted_is room f q rs lost items kept e k)) r in
     All-contains (λ d. HasAllOf allowed d → ⊥) items some.1 none (some.0, some.2, some.3) some.4

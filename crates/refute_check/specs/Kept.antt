@@ -1,6 +1,6 @@
 -- What a checker keeps of the lines that it accepted, and why it refuses a line.
 use Rattle.std.specs.Prelude.{◌≡◌, ◌≤◌, ◌<◌, ◌⊎◌, ℕ, max, ⊤, Result, Ok, Err, Option, List, [], ◌∷◌, ◌++◌, All, Any}
-use Rattle.std.specs.Prelude.{Contains}
+use Rattle.std.specs.Prelude.{Bool, Contains}
 use Rattle.cnf_core.specs.Lit.{Literal}
 use Rattle.cnf_core.specs.Clause.{Clauses, HasAllOf, words_of}
 use Rattle.cnf_core.specs.Formula.{Cnf}
@@ -13,20 +13,22 @@ use Rattle.refute_check.specs.declared.fault.LineFault.TheVariants.{NewVar, Wron
 use Rattle.refute_check.specs.declared.fault.LineFault.TheVariants.{Memory}
 use Rattle.refute_log.specs.Log.{Facts, facts_after, bounded, Answers, IsImplied, StandsOn}
 
--- the room for words, and the facts of the accepted lines
+-- the room for words, the facts of the accepted lines, and whether memory was wanting once: then nothing is accepted any more
 pub record CheckedFacts : Type 0 where
   pub room : ℕ
   pub facts : Facts
+  pub lost : Bool
 
-abbrev pub checked_facts : ℕ → Cnf → Option (List Literal) → Clauses → CheckedFacts
-checked_facts room f query refuted = record {
+abbrev pub checked_facts : ℕ → Cnf → Option (List Literal) → Clauses → Bool → CheckedFacts
+checked_facts room f query refuted lost = record {
   room = room;
   facts =
       record { greatest = f.vars; clauses = f.clauses; query = query; refuted = refuted };
+  lost = lost;
 }
 
 abbrev pub kept_after : CheckedFacts → LogLine → CheckedFacts
-kept_after kept line = record { room = kept.room; facts = facts_after kept.facts line }
+kept_after kept line = record { room = kept.room; facts = facts_after kept.facts line; lost = kept.lost }
 
 -- a literal names a variable greater than all in the Formula lines
 abbrev pub NamesNew : Facts → LogLine → Type 0
@@ -99,6 +101,7 @@ with_clause kept c vars = record {
     query = kept.facts.query;
     refuted = kept.facts.refuted;
   };
+  lost = kept.lost;
 }
 
 -- a Learnt line's clause has all the literals of none of the clauses

@@ -1,5 +1,5 @@
 -- What a checker's tables are good for.
-use Rattle.std.specs.Prelude.{◌≤◌, ⊤}
+use Rattle.std.specs.Prelude.{◌≤◌, ⊤, Bool, true, false}
 use Rattle.cnf_core.specs.Formula.{Cnf}
 use Rattle.cnf_core.specs.Propagation.{Falsifies, greatest_var, nothing}
 use Rattle.refute_check.specs.declared.tables.Tables.{Tables}
@@ -21,3 +21,9 @@ abbrev pub IsChecker : Cnf → Tables → Standing → Type 0
 IsChecker f t Open = IsOpenChecker f t
 IsChecker f t Contradiction = IsContradicted f
 IsChecker f t Lost = ⊤
+
+-- memory couldn't be had once
+abbrev pub is_lost : Standing → Bool
+is_lost Open = false
+is_lost Contradiction = false
+is_lost Lost = true

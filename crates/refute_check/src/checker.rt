@@ -40,9 +40,9 @@ impl Model for Checker {
     ghost Value = { CheckedFacts };
 
     ghost use Rattle.refute_check.specs.Kept.{checked_facts};
-    ghost use Rattle.refute_check.specs.Standing.{IsChecker};
+    ghost use Rattle.refute_check.specs.Standing.{IsChecker, is_lost};
 
-    ghost view = { λ c. checked_facts c.room c.formula c.query c.refuted.items };
+    ghost view = { λ c. checked_facts c.room c.formula c.query c.refuted.items (is_lost c.standing) };
 
     ghost invariant = { λ c. IsChecker c.formula c.tables c.standing };
 }
@@ -53,6 +53,7 @@ impl Checker {
         requires { room ≤ ROOM }
         ensures room { IfOk result (λ c. c.room ≡ room) }
         ensures facts { IfOk result (λ c. c.facts ≡ facts_of []) }
+        ensures lost { IfOk result (λ c. c.lost ≡ false) }
     {
         let formula = Formula::new(alloc, room)?;
         let tables = Tables::new(alloc)?;
@@ -235,9 +236,6 @@ impl Checker {
         requires { IsWellFormed line.now }
         ensures { IsAnswer self.old self.new line.now result }
     {
-        if let Standing::Lost = self.standing {
-            return Err(LineFault::Memory);
-        }
         match line {
             LogLine::Formula(c) => self.feed_formula(c),
             LogLine::Learnt(c) => self.feed_learnt(c),
@@ -250,8 +248,7 @@ impl Checker {
 
     /// Accepts the line where it stands after the lines that were accepted before and there is room
     /// for it. A refused line isn't kept. Where several causes hold, the first in the order of
-    /// `LineFault` is answered. After `Memory` the checker isn't used further: where its tables were lost
-    /// it answers so to every line.
+    /// `LineFault` is answered. After `Memory` it answers so to every line.
     pub fn feed(&mut self, line: &LogLine) -> Result<(), LineFault>
         requires { IsWellFormed line.now }
         ensures ok { OnOk result (Accepts self.old self.new line.now) }
@@ -262,8 +259,17 @@ impl Checker {
         ensures not_new { IsErrOf result LineFault.NotNew → IsOld self.old line.now }
         ensures refused { IfErr result (λ e. (e ≡ LineFault.Memory → ⊥) → self.new ≡ self.old) }
         ensures finite { OnOk result (IncludesNone self.old.facts.clauses line.now) }
+        ensures loses { IsErrOf result LineFault.Memory → self.new.lost ≡ true }
+        ensures lost { self.old.lost ≡ true → IsErrOf result LineFault.Memory }
     {
-        self.judge(line)
+        if let Standing::Lost = self.standing {
+            return Err(LineFault::Memory);
+        }
+        let judged = self.judge(line);
+        if let Err(LineFault::Memory) = judged {
+            self.standing = Standing::Lost;
+        }
+        judged
     }
 
     /// Whether an accepted Refuted line has only literals among the allowed ones.

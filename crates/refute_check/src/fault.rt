@@ -26,7 +26,7 @@ pub enum LineFault {
     /// falsify a clause.
     #[error("the line's clause is not new")]
     NotNew,
-    /// Memory couldn't be had. The checker isn't used further.
+    /// Memory couldn't be had, at this line or at one before it.
     #[error("out of memory")]
     Memory,
 }

@@ -1,10 +1,10 @@
 // Keeping an accepted clause.
-ghost use Rattle.std.specs.Prelude.{◌≡◌, ◌≤◌, ◌<◌, ◌+◌, ◌^◌, max, [], ◌∷◌, ◌++◌, OnOk, IfOk, length};
+ghost use Rattle.std.specs.Prelude.{◌≡◌, ◌≤◌, ◌<◌, ◌+◌, ◌^◌, max, [], ◌∷◌, ◌++◌, OnOk, IfOk, length, false};
 ghost use Rattle.cnf_core.specs.Lit.{has};
 ghost use Rattle.cnf_core.specs.Clause.{AreThere, AreDistinct, words_of};
 ghost use Rattle.cnf_core.specs.Propagation.{greatest_in, greatest_var};
 ghost use Rattle.refute_check.specs.Settled.{AreSettled};
-ghost use Rattle.refute_check.specs.Standing.{IsChecker};
+ghost use Rattle.refute_check.specs.Standing.{IsChecker, is_lost};
 
 use crate::tables::Tables;
 use cnf_core::{Formula, Lit, VARS};
@@ -105,6 +105,7 @@ fn add_open(
     requires greatest { formula.old.vars ≤ greatest_var (formula.old.clauses ++ lits.now ∷ []) }
     ensures checker { IfOk result (λ s. IsChecker formula.new tables.new s) }
     ensures added { OnOk result (formula.new ≡ record formula.old { clauses = formula.old.clauses ++ lits.now ∷ [] }) }
+    ensures there { IfOk result (λ s. is_lost s ≡ false) }
 {
     tables.list(formula, lits)?;
     add_clause(formula, lits)?;
@@ -136,6 +137,7 @@ pub(crate) fn keep(
       clauses =
           formula.old.clauses ++ lits.now ∷ [];
     }) }
+    ensures there { IfOk result (λ s. is_lost s ≡ is_lost standing) }
 {
     match standing {
         Standing::Open => {
