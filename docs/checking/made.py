@@ -2,12 +2,13 @@
 import re
 import textwrap
 
-from checking.crates import DOCUMENTS, TOP, crates, head, module_of, read, root_text, show, spec_files, stands_on
+from checking.crates import DOCUMENTS, TOP, contracts_of, crates, head, module_of, read, root_text, show, spec_files, stands_on
 from checking.numbers import with_tables
 
 COLUMNS = 120
 MAP = TOP / "docs" / "crates.md"
 INDEX = TOP / "docs" / "index.md"
+CALLS = TOP / "docs" / "calls.md"
 
 
 # ---- the tree
@@ -85,13 +86,42 @@ def index_text():
     return "\n".join(lines).replace("\n\n\n", "\n\n") + "\n"
 
 
+# ---- the calls
+
+
+def call_told(contract):
+    """A call with the names of its clauses, those that it asks for behind the others."""
+    names = {kind: [clause.name for clause in contract.clauses if clause.name and clause.text.split()[0] == kind]
+             for kind in ("ensures", "requires")}
+    asks = [f"asks {', '.join(names['requires'])}"] if names["requires"] else []
+    told = "; ".join([", ".join(names["ensures"])] * bool(names["ensures"]) + asks)
+    return f"`{contract.owner + '::' if contract.owner else ''}{contract.name}`" + (f" ({told})" if told else "")
+
+
+def calls_text():
+    """Each crate's public calls with the names of their clauses, a line a file."""
+    lines = ["# The calls and their clauses", "",
+             "What each crate hands out, file by file of its `src/`: each call with the names of the clauses that it ensures, and behind",
+             "`asks` of those that it asks for. A clause without a name isn't told. `docs/check --write` makes this page."]
+    for crate in crates():
+        told = {}
+        for contract in contracts_of(crate):
+            if contract.public and any(clause.text.split()[0] in ("ensures", "requires") for clause in contract.clauses):
+                told.setdefault(contract.path, []).append(call_told(contract))
+        lines += ["", f"## `{crate}`", ""] * bool(told)
+        for path, calls in told.items():
+            lines += textwrap.wrap(f"- {path.relative_to(TOP / 'crates' / crate / 'src')}: {', '.join(calls)}", COLUMNS,
+                                   subsequent_indent="  ", break_long_words=False, break_on_hyphens=False)
+    return "\n".join(lines) + "\n"
+
+
 # ---- all of them
 
 
 def made_pages():
     """The pages of which a part is made from the crates, each as it is to be."""
     found = {path: with_tables(read(path)) for path in DOCUMENTS if "<!-- made: " in read(path)}
-    return {**found, MAP: with_tables(map_text()), INDEX: index_text()}
+    return {**found, MAP: with_tables(map_text()), INDEX: index_text(), CALLS: calls_text()}
 
 
 def pages_that_differ():

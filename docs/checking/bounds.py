@@ -1,0 +1,34 @@
+"""How long a clause and a line may be, so that a contract is read at one glance."""
+import re
+
+from checking.crates import TOP, read, show
+
+CLAUSE = 250
+LINE = 120
+
+
+def long_clauses(contracts):
+    """Clauses of src/, without their names, white space counted once."""
+    found = []
+    for contract in contracts:
+        for clause in contract.clauses:
+            body = " ".join(clause.text[clause.text.index("{") + 1:clause.text.rindex("}")].split())
+            if len(body) > CLAUSE:
+                found.append(f"{show(contract.path)}: the clause {contract.name}: {clause.name or 'without a name'} has "
+                             f"{len(body)} characters, above {CLAUSE}")
+    return found
+
+
+def long_lines():
+    """Lines of src/ and specs/. What can't be broken is passed over: an attribute, which the formatter puts on one line, and texts in
+    quotes, which are a file's."""
+    found = []
+    for path in sorted([*(TOP / "crates").glob("*/src/**/*.rt"), *(TOP / "crates").glob("*/specs/**/*.antt")]):
+        for number, line in enumerate(read(path).splitlines(), 1):
+            if len(re.sub(r'"(\\.|[^"\\])*"', '""', line)) > LINE and not re.match(r"\s*(#\[|<)", line):
+                found.append(f"{show(path)}:{number}: a line of {len(line)} columns, above {LINE}")
+    return found
+
+
+def all_failures(contracts):
+    return long_clauses(contracts) + long_lines()
