@@ -70,8 +70,19 @@ def constants():
     return found
 
 
+class Missing(Exception):
+    """What the sources no longer have, and a table here names"""
+
+
+def constant(crate, name):
+    """A number with the remark above it."""
+    if (crate, name) not in constants():
+        raise Missing(f"crates/{crate}: has no number {name} any more, which docs/checking names")
+    return constants()[crate, name]
+
+
 def number_of(crate, name):
-    return constants()[crate, name][0]
+    return constant(crate, name)[0]
 
 
 def arms(text, name):
@@ -164,7 +175,7 @@ def limits_table():
     """The limits, each with what the constant's remark says of it."""
     lines = ["| limit | of what | where it stands |", "|---|---|---|"]
     for crate, name in LIMITS:
-        number, told = constants()[crate, name]
+        number, told = constant(crate, name)
         sentence = told.split(". ")[0].rstrip(".")
         lines.append(f"| {number:,} | {sentence[0].lower() + sentence[1:]} | `{name}` of `{crate}` |")
     return lines
