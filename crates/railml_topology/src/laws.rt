@@ -9,10 +9,10 @@ ghost use Rattle.railml_topology.specs.Resolved.{IsTopologyOf};
 
 /// Rows have one first fault at most, at one place and with the same texts.
 pub fn one_fault()
-    ensures { (rows : List Elem) (a b : TopologyWhat) (at place : ℕ) (first second one other : List ℕ) →
+    ensures { (rows : List Elem) (a b : TopologyWhat) (at to : ℕ) (first second one other : List ℕ) →
         AreFormed rows →
-        IsFirstTopologyFault rows a at first second → IsFirstTopologyFault rows b place one other →
-        (a ≡ b) × (at ≡ place) × (first ≡ one) × (second ≡ other) }
+        IsFirstTopologyFault rows a at first second → IsFirstTopologyFault rows b to one other →
+        (a ≡ b) × (at ≡ to) × (first ≡ one) × (second ≡ other) }
 {}
 
 /// Rows of which nothing is wrong resolve to one topology at most.
