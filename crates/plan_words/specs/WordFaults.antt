@@ -64,8 +64,7 @@ TakesName Trial name = (n : ℕ) × IsSeed name n
 TakesName Signals name = name ≢ []
 
 -- the options of `signals`: it has no `--least`, since each edge is as long as its signals need, and no `--svg`, since
--- it
--- writes no picture
+-- it writes no picture
 abbrev pub IsSignalsOption : OptionWord → Type 0
 IsSignalsOption Width = ⊤
 IsSignalsOption Height = ⊤

@@ -86,8 +86,7 @@ pub enum Command {
         n: u32,
     },
     /// Draws `input` as `Draw` does, with each edge as long as its signals need, and says where the signals stand on
-    /// the
-    /// drawing. There is no picture, and the grid's least length is 1 until the signals are read.
+    /// the drawing. There is no picture, and the grid's least length is 1 until the signals are read.
     Signals {
         input: Text,
         grid: Grid,
