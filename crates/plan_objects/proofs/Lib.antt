@@ -9,3 +9,4 @@ pub mod StandLemmas
 pub mod EdgeLemmas
 pub mod ExactLemmas
 pub mod FileLemmas
+pub mod WritingLemmas
