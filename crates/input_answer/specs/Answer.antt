@@ -1,6 +1,5 @@
 -- What is answered to an input and to the bytes of a file: the status and the text that goes with it. What a command
--- answers
--- to a station, and which of it a run owes, is said in the crates above.
+-- answers to a station, and which of it a run owes, is said in the crates above.
 use Rattle.std.specs.Prelude.{◌≡◌, ℕ, suc, ◌⊎◌, List}
 use Rattle.outside_io.specs.Contents.{IsFileWhereTold}
 use Rattle.plan_core.specs.declared.limits.TheConstants.{MAX_FILE_BYTES, MAX_LOG_BYTES}
@@ -73,6 +72,11 @@ IsAnswerOn input done met Answers status text =
     ((bytes : List ℕ) × IsFileWhereTold met.before.contents input.name bytes
     × IsAnswerWithin input done met Answers bytes status text)
     ⊎ (ReadFails met done × IsFaultLine (ReadFailed input.number) status text)
+
+-- so is the one input of a command answered
+abbrev pub IsAnswerToFile : (input : List ℕ) → Met → (List ℕ → Status → List ℕ → Type 0) → Status → List ℕ → Type 0
+IsAnswerToFile input met Answers status text =
+    IsAnswerOn (text_input 1 input) 0 met (IsAnswerAfter 1 met Answers) status text
 
 -- ---- a station that was read
 

@@ -50,8 +50,7 @@ pub record HasStation (bytes : List ℕ) (g : TrackGraph) (o : EdgeOrder) : Type
   pub order : IsOrderOf g o
 
 -- the bytes have this fault, and none that is looked for before it; the signals of a file are no part of its station,
--- and
--- their faults none of the file's (`specs/Signals`)
+-- and their faults none of the file's (`specs/Signals`)
 abbrev pub HasFileFault : List ℕ → RunFault → Type 0
 HasFileFault bytes (Long input) = (input ≡ 1) × IsLong MAX_FILE_BYTES bytes
 HasFileFault bytes (Text what at) = IsShort MAX_FILE_BYTES bytes × IsTextFault bytes what at

@@ -1,8 +1,7 @@
 -- What a run meets outside: its files, as it begins and as it ends; and how it leaves them. The counts are told of all
 -- files, also of those whose contents aren't.
 use Rattle.std.specs.Prelude.{◌≡◌, ◌⊎◌, ℕ, ◌≤◌, List, Some}
-use Rattle.std.specs.declared.option.Option.{Option}
-use Rattle.outside_io.specs.Contents.{Told, FilesAt}
+use Rattle.outside_io.specs.Contents.{Told, FilesAt, WhereTold}
 use Rattle.outside_io.specs.Counts.{Rose, rose_by}
 
 -- the files at two moments, the second not before the first
@@ -35,8 +34,7 @@ pub record ReadsInputs (inputs : ℕ) (All : Type 0) (met : Met) : Type 0 where
   pub all : All → number ≡ inputs
 
 -- the count of faults of creating and appending is as it was. Neither call promises to leave it so: a run that is
--- proved to
--- leave it tries none
+-- proved to leave it tries none
 abbrev pub IsUnwritten : Met → Type 0
 IsUnwritten met = met.after.write_faults ≡ met.before.write_faults
 
@@ -44,3 +42,7 @@ IsUnwritten met = met.after.write_faults ≡ met.before.write_faults
 abbrev pub Leaves : (May : (name bytes : List ℕ) → Type 0) → (before after : Told) → Type 0
 Leaves May before after = (name : List ℕ) → (after name ≡ before name)
     ⊎ ((bytes : List ℕ) × (after name ≡ Some bytes) × May name bytes)
+
+-- where contents are told, the run left each file so
+abbrev pub HasLeft : Met → (May : (name bytes : List ℕ) → Type 0) → Type 0
+HasLeft met May = WhereTold met.before.contents met.after.contents (Leaves May)

@@ -8,8 +8,7 @@
 //! station's graph. `specs/Status` has the statuses and their numbers, `specs/Fault` the line of each fault,
 //! `specs/Input` what
 //! the bytes of a file are to a run, `specs/Met` what a run meets outside and how it leaves files, `specs/Answer` what
-//! is
-//! answered to an input and to a file; `specs/Reading` and `specs/Reply` say what the calls of those modules give.
+//! is answered to an input and to a file; `specs/Reading` and `specs/Reply` say what the calls of those modules give.
 //! `laws` says
 //! that a file has one station or one fault. It stands on the crates that read a station, and each command's crate on
 //! it.

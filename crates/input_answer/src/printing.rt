@@ -4,7 +4,7 @@ ghost use Rattle.outside_io.specs.Contents.{WhereTold, SameFiles};
 ghost use Rattle.track_order.specs.Order.{IsOrderOf};
 ghost use Rattle.input_answer.specs.Status.{IsAnswered};
 ghost use Rattle.input_answer.specs.Met.{between, ReadsInputs, IsUnwritten};
-ghost use Rattle.input_answer.specs.Answer.{IsPrinted, IsFileJudged, text_input, IsAnswerAfter, IsAnswerOn};
+ghost use Rattle.input_answer.specs.Answer.{IsPrinted, IsFileJudged, IsAnswerToFile};
 
 use crate::input::{Refusal, Station};
 use crate::reading::station_of;
@@ -31,7 +31,7 @@ fn print_station(alloc: Global, station: &Station) -> Result<Reply, OutOfMemory>
 /// What `graph` answers.
 pub fn print<F: Files>(alloc: Global, input: &Text, files: &mut F) -> Result<Reply, OutOfMemory>
     ensures answer { let met = between (F.at files.old) (F.at files.new) in
-        IfOk result (λ r. IsAnswerOn (text_input 1 input.now) 0 met (IsAnswerAfter 1 met (IsFileJudged IsPrinted))
+        IfOk result (λ r. IsAnswerToFile input.now met (IsFileJudged IsPrinted)
         r.status r.text.items) }
     ensures reads { let met = between (F.at files.old) (F.at files.new) in
         ReadsInputs 1 (IsOkAnd result (λ r. IsAnswered r.status)) met }

@@ -75,8 +75,7 @@ pub fn station_of<F: Files>(alloc: Global, input: &Text, files: &mut F) -> Resul
 }
 
 /// The station of the file of this name with its signals, or the first fault of the file or of its signals, or that it
-/// couldn't
-/// be read.
+/// couldn't be read.
 pub fn signals_of<F: Files>(
     alloc: Global,
     input: &Text,
