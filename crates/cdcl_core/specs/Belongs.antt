@@ -28,8 +28,7 @@ abbrev pub Belongs : Lines → Kept → Type 0
 Belongs lines k = BelongsTo lines k.clauses k.words
 
 -- whatever is told after an error has the Formula and Bound lines of what was told before, or these and a Formula line
--- of
--- this clause behind them
+-- of this clause behind them
 abbrev pub GivesAtMost : (Lines → Type 0) → (Lines → Type 0) → List Literal → Type 0
 GivesAtMost before now c = (lines : Lines) → before lines → (more : Lines) → now more →
     (clause_lines more ≡ clause_lines lines) ⊎ (clause_lines more ≡ clause_lines lines ++ Formula c ∷ [])

@@ -25,8 +25,7 @@ pub record KnowsLog (lines : Lines) (kept : CheckedFacts) (bounds : List ToldBou
 
 -- values that are less than in v at c and the same before it don't reach the bound: its number is within reach of its
 -- criterion, and it asks one more than v of an earlier criterion, or just v's value of c. A bound is unreached where
--- its
--- literal is out of reach (IsOutOfReach): one notion, of bounds and of literals
+-- its literal is out of reach (IsOutOfReach): one notion, of bounds and of literals
 pub record IsUnreached (greatest : Criterion → ℕ) (earlier : List Criterion) (c : Criterion) (v : Values)
     (b : ToldBound)
     : Type 0 where

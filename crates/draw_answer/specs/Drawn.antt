@@ -1,6 +1,5 @@
 -- What draw answers to a station: the sheet and the status of how its search ended, what the log of the search
--- certifies,
--- and the picture; and with which bytes it may leave a file.
+-- certifies, and the picture; and with which bytes it may leave a file.
 use Rattle.std.specs.Prelude.{◌≡◌, ◌⊎◌, ℕ, false, List, ◌++◌, None, Some}
 use Rattle.std.specs.declared.option.Option.{Option}
 use Rattle.plan_core.specs.declared.limits.TheConstants.{MAX_FILE_BYTES}
@@ -96,8 +95,7 @@ pub record IsDrawn (g : Graph) (o : EdgeOrder) (asked : Job) (IsTold : Lines →
   pub spelled : text ≡ sheet_text g (sheet_of asked outcome)
 
 -- what draw answers to a station, with what the run met and what the trace was told: it was drawn, with the lines of
--- the
--- search where the words say, and the picture of its drawing where they name a file for it
+-- the search where the words say, and the picture of its drawing where they name a file for it
 pub record IsDrawAnswer (asked : Job) (met : Met) (traced : Lines → Type 0) (g : Graph) (o : EdgeOrder)
     (status : Status) (text : List ℕ) : Type 0 where
   pub drawn : IsDrawn g o asked (IsLogOf asked.log met traced) status text
@@ -123,9 +121,8 @@ abbrev pub files_asked : Job → List (List ℕ)
 files_asked asked = file_named asked.log ++ file_named asked.svg
 
 -- the bytes with which draw may leave the file of this name: the file of its input was read and has a station; and
--- where
--- this one is named for the log they begin the text of some log, where for the picture that of the drawing with which a
--- search of that station ended, whose lines were told where the words say
+-- where this one is named for the log they begin the text of some log, where for the picture that of the drawing with
+-- which a search of that station ended, whose lines were told where the words say
 abbrev pub IsLeftByDraw : (input : List ℕ) → Job → Met → (traced : Lines → Type 0) → (name bytes : List ℕ) → Type 0
 IsLeftByDraw input asked met traced name bytes =
     (g : Graph) × (o : EdgeOrder) × IsReadStation input met g o

@@ -1,6 +1,5 @@
 -- The log of a search: the lines that a run told, to the file that is named for them or else to the trace. The trace is
--- the
--- log that is handed to a run; the program's keeps no line.
+-- the log that is handed to a run; the program's keeps no line.
 use Rattle.std.specs.Prelude.{◌≡◌, ℕ, List, None, Some}
 use Rattle.std.specs.declared.option.Option.{Option}
 use Rattle.outside_io.specs.Contents.{Told, WhereTold}

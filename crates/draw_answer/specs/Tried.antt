@@ -26,8 +26,7 @@ pub record IsMade (n : ℕ) (status : Status) (text : List ℕ) : Type 0 where
 -- ---- trial
 
 -- what is asked of a made station's drawing: 64 columns and 2 rows, the least height first and then the least width,
--- and
--- no files
+-- and no files
 abbrev pub trial_job : Job
 trial_job = job (grid_size 64 2) (criteria.Height ∷ criteria.Width ∷ []) 50000 None None
 

@@ -14,8 +14,7 @@ abbrev pub AreFilesApart : (names : List (List ℕ)) → Type 0
 AreFilesApart names = AllPairs (λ a b. a ≢ b) names
 
 -- the lines of a search, or a picture, couldn't be written: a write of the command's files failed, or the trace did,
--- where
--- the lines go to it
+-- where the lines go to it
 abbrev pub FailsToWrite : (outputs : List (List ℕ)) → (ToTrace : Type 0) → Met → (trace_rose : Type 0) → Type 0
 FailsToWrite outputs ToTrace met trace_rose =
     ((outputs ≢ []) × Rose met.before.write_faults met.after.write_faults) ⊎ (ToTrace × trace_rose)

@@ -20,9 +20,8 @@ ghost use Rattle.draw_answer.specs.SearchLog.{IsLogFile};
 ghost use Rattle.draw_answer.specs.Drawn.{Job, search_of, status_of};
 
 /// Of the lines of a search: where none is found to be lawful, that is certified. Where it is unfinished, the criteria
-/// that
-/// are called settled are those that are certified, and no more. It stops only where the whole budget of learnt clauses
-/// is spent and the last query is open, or where the log is full; and so where only the status 4 is known.
+/// that are called settled are those that are certified, and no more. It stops only where the whole budget of learnt
+/// clauses is spent and the last query is open, or where the log is full; and so where only the status 4 is known.
 pub fn how_searches_end()
     ensures none { (g : Graph) (o : EdgeOrder) (asked : Job) (lines : Lines) →
         IsOutcome (search_of g o asked) asked.order

@@ -3,8 +3,7 @@
 //! `drawing` searches for a station's best drawing, tells the lines of the search to a file or to the trace, and
 //! answers with
 //! the sheet of the outcome, before which `picturing` writes the picture of the drawing into a file; `signalling` does
-//! the same
-//! where each edge is as long as its signals need, and puts the signals' text behind the sheet of a drawing
+//! the same where each edge is as long as its signals need, and puts the signals' text behind the sheet of a drawing
 //! (`specs/Signalled`);
 //! `trialling` makes a station and tries it. `specs/Drawn` says what `draw` answers to a station, which sheet an
 //! outcome has and what a run may

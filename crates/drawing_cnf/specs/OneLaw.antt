@@ -16,8 +16,7 @@ SaysLaw g grid unless clauses sentence =
     (Satisfies v unless → ⊥) → SatisfiesAll v clauses → sentence d
 
 -- where the sentence holds, or one of the literals is true, the count variables from first on can be given truth values
--- so
--- that the clauses hold
+-- so that the clauses hold
 abbrev pub AllowsLaw : Graph → GridSize → List Literal → ℕ → ℕ → Clauses → (Drawing → Type 0) → Type 0
 AllowsLaw g grid unless first count clauses sentence =
     (v : Assignment) (d : Drawing) → ReadsDrawing v g (drawing_vars g grid) grid.width d → IsJoinedOnGrid g grid d →

@@ -9,8 +9,7 @@ use std::alloc::Global;
 use std::test::Fail;
 
 /// The front of height and width of a file's station, on a grid of this width and height, for so many learnt clauses
-/// and
-/// within so much room.
+/// and within so much room.
 fn front_of(
     alloc: Global,
     file: &str,
@@ -37,8 +36,7 @@ fn front_of(
 }
 
 /// The number of a made station, or none for the loop; the columns and rows of its grid; how many clauses may be
-/// learnt, and
-/// the room; the pairs of its front, and how the search ends.
+/// learnt, and the room; the pairs of its front, and how the search ends.
 type Front = (
     Option<u32>,
     (u16, u16),

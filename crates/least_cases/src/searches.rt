@@ -160,8 +160,7 @@ fn least_values_are_found_and_certified(rt: HostRuntime) -> Result<(), Fail> {
 }
 
 /// Searches a file's station in this order, on a grid of this width and height, for so many learnt clauses and within
-/// so much
-/// room.
+/// so much room.
 fn limited(
     alloc: Global,
     file: &str,

@@ -36,8 +36,7 @@ pub record HasGrown (old new : Encoding) (b : Bound) : Type 0 where
   pub covers : CoversWith new.graph (is_above new.order) new.grid (encoded_vars new) new.formula.clauses new.bounds
 
 -- the formula has the bound behind those that were told, and its clauses from this number on are the bound's, which
--- alone
--- the solver wasn't given
+-- alone the solver wasn't given
 pub record IsGrown (e : Encoding) (told : List Bound) (budget room : ℕ) (b : Bound) (from : ℕ) (k : Kept) : Type 0 where
   pub whole : IsWhole e
   pub bounds : e.bounds ≡ told ++ b ∷ []

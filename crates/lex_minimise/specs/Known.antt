@@ -52,10 +52,8 @@ pub record AreTold (y : Layout) (told : List Bound) : Type 0 where
   pub covers : CoversWith y.graph (is_above y.order) y.grid (drawing_vars y.graph y.grid) (told_clauses y told) told
 
 -- the lines belong to the solver, which has learnt no more than the budget allows, and their Formula and Bound lines
--- are
--- those of the bounds that were told. So they cover the lawful drawings, have just these bounds, no two of one
--- variable,
--- and have room
+-- are those of the bounds that were told. So they cover the lawful drawings, have just these bounds, no two of one
+-- variable, and have room
 pub record KnowsLines (y : Layout) (told : List Bound) (budget room : ℕ) (k : Kept) (lines : Lines) : Type 0 where
   pub facts : AreTold y told
   pub belongs : Belongs lines k

@@ -59,8 +59,7 @@ fn front_from<L: LogSink>(
 }
 
 /// The same as `front`, with a new solver that is handed in, so that a caller sees what it has learnt. It was made with
-/// the
-/// room of the limits.
+/// the room of the limits.
 pub fn front_with<L: LogSink>(
     alloc: Global,
     g: &PortGraph,
@@ -110,13 +109,11 @@ pub fn front_with<L: LogSink>(
 }
 
 /// The front of two criteria of the graph's lawful drawings on the grid, or as far as the budget of learnt clauses and
-/// the
-/// room for the words of all clauses allow.
+/// the room for the words of all clauses allow.
 ///
 /// The order `t` is that of the graph's edges, and the criteria differ. All lines are told to the log: the drawings'
 /// clauses, both criteria's clauses with all their bounds, the questions, what is learnt, and the answers. After an
-/// error a
-/// log that had no line derives, and its Formula and Bound lines are the first of those.
+/// error a log that had no line derives, and its Formula and Bound lines are the first of those.
 pub fn front<L: LogSink>(
     alloc: Global,
     g: &PortGraph,

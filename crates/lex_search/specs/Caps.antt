@@ -17,15 +17,15 @@ use Rattle.lex_search.specs.Reached.{HasSameValues}
 abbrev pub AllZero : List Criterion → ℕ → Values → Type 0
 AllZero order i v = (k : ℕ) (c : Criterion) → i ≤ k → slice_get order k ≡ Some c → value_of v c ≡ 0
 
--- n bounds are built for the criterion c, which stands at place i, where it is reached with these values: none where all
--- values are 0 from there on; else one more than its value, and at most its greatest value
+-- n bounds are built for the criterion c, which stands at place i, where it is reached with these values: none where
+-- all values are 0 from there on; else one more than its value, and at most its greatest value
 pub record IsCapAt (greatest : Criterion → ℕ) (order : List Criterion) (i : ℕ) (c : Criterion) (v : Values) (n : ℕ) :
     Type 0 where
   pub none : AllZero order i v → n ≡ 0
   pub some : (AllZero order i v → ⊥) → n ≡ min (value_of v c + 1) (greatest c)
 
--- the turn of the criterion at place i: it is reached with one drawing, and has the bounds that are built then; and it is
--- left with the drawing d, the same or one with less of it and the same values before it
+-- the turn of the criterion at place i: it is reached with one drawing, and has the bounds that are built then; and it
+-- is left with the drawing d, the same or one with less of it and the same values before it
 pub record IsTurn (p : Task) (order : List Criterion) (i : ℕ) (reached d : Drawing) (cap : Criterion → ℕ) : Type 0 where
   pub lawful : IsLawful p reached
   pub criterion : Criterion
@@ -44,8 +44,8 @@ pub record AreCapped (p : Task) (order : List Criterion) (s : ℕ) (d : Drawing)
   pub turns : IsByTurns p order s d cap
   pub no_other : (c : Criterion) → (Contains (take s order) c → ⊥) → cap c ≡ 0
 
--- the criterion at place i was reached with a lawful drawing, which has the values of d at the places before and no less
--- at its own; and it has the bounds that are built then
+-- the criterion at place i was reached with a lawful drawing, which has the values of d at the places before and no
+-- less at its own; and it has the bounds that are built then
 abbrev pub WasReached : Task → List Criterion → ℕ → Criterion → Drawing → (Criterion → ℕ) → Type 0
 WasReached p order i c d cap = (reached : Drawing) × IsLawful p reached
     × HasSameValues order i (values_of reached) (values_of d)

@@ -25,8 +25,7 @@ pub record HasAnswer (p : Task) (before : Lines) : Type 0 where
   pub met : IsMet (before ++ Model ∷ []) (values_of drawing)
 
 -- the criterion is reached with a lawful drawing, which meets the latest query before the last Model line: at the
--- places
--- of the order before it the drawing's values are certified
+-- places of the order before it the drawing's values are certified
 pub record IsReached (p : Task) (order : List Criterion) (before : Lines) (c : Criterion) : Type 0 where
   pub place : ℕ
   pub at : slice_get order place ≡ Some c
@@ -36,8 +35,7 @@ pub record IsReached (p : Task) (order : List Criterion) (before : Lines) (c : C
   pub certified : Certifies (greatest_of p) before order (values_of drawing) place
 
 -- the line may stand behind these: a Query line is a question, a Model line an answer, and a criterion's bounds are
--- told
--- once it is reached
+-- told once it is reached
 abbrev pub IsPlaced : Task → List Criterion → Lines → LogLine → Type 0
 IsPlaced p order before (Query query) = IsQuestion before query
 IsPlaced p order before Model = HasAnswer p before

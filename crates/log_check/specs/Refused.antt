@@ -29,8 +29,7 @@ abbrev pub kept_of_lines : Lines → CheckedFacts
 kept_of_lines lines = record { room = ROOM; facts = facts_of lines; lost = false }
 
 -- where there are several causes: no room for what is expected, another line than the next, and then the checker's
--- causes,
--- of which want of room comes behind a wrong answer to the query
+-- causes, of which want of room comes behind a wrong answer to the query
 abbrev pub IsRefusedFor : Expectation → Lines → LogLine → Refusal → Type 0
 IsRefusedFor e before line Room =
     IsOverLimits e before line ⊎ (IsComparedLine e before line × PassesRoom (kept_of_lines before) line)

@@ -13,7 +13,8 @@ use Rattle.refute_check.specs.declared.fault.LineFault.TheVariants.{NewVar, Wron
 use Rattle.refute_check.specs.declared.fault.LineFault.TheVariants.{Memory}
 use Rattle.refute_log.specs.Log.{Facts, facts_after, bounded, Answers, IsImplied, StandsOn}
 
--- the room for words, the facts of the accepted lines, and whether memory was wanting once: then nothing is accepted any more
+-- the room for words, the facts of the accepted lines, and whether memory was wanting once: then nothing is accepted
+-- any more
 pub record CheckedFacts : Type 0 where
   pub room : ℕ
   pub facts : Facts

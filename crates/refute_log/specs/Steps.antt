@@ -41,8 +41,7 @@ GivesNoMore log_old log_new =
     (lines : Lines) → log_old lines → (told : Lines) → log_new told → clause_lines told ≡ clause_lines lines
 
 -- a log with these lines had an error, and has those now: it derives, and its Formula and Bound lines are those of
--- before,
--- the first of the expected ones behind them, and no others
+-- before, the first of the expected ones behind them, and no others
 pub record IsLeft (expected before now : Lines) : Type 0 where
   pub derives : Derives now
   pub front : Lines

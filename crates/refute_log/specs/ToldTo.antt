@@ -5,8 +5,7 @@ use Rattle.refute_log.specs.Told.{Lines, AddsAll}
 use Rattle.refute_log.specs.Log.{learnt}
 
 -- it was told these lines: whatever list it told before, it tells with them at its end; and it counts their Learnt
--- ones,
--- also where it keeps no lines
+-- ones, also where it keeps no lines
 pub record IsToldTo (tells_before tells_after : Lines → Type 0) (count_before count_after : ℕ) (lines : Lines) : Type 0
   where
     pub behind : AddsAll tells_before tells_after lines

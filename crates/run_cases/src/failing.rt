@@ -100,8 +100,7 @@ fn same_files(left: &Left, whole: &Left) -> bool {
 }
 
 /// Whether a run that writes files answers so where this call of its files fails, and leaves so much of them. Where the
-/// read
-/// fails no file is created. Where a later call fails nothing is put, and the picture is begun behind a whole log.
+/// read fails no file is created. Where a later call fails nothing is put, and the picture is begun behind a whole log.
 fn tells_failing_call(left: &Left, whole: &Left, failing: u32) -> bool {
     if left.spared {
         left.status == 0 && left.put == whole.put && same_files(left, whole)
@@ -147,8 +146,7 @@ fn draw_tells_each_failing_call_of_its_files(rt: HostRuntime) -> Result<(), Fail
 }
 
 /// The words of a run that writes no file, how many files it reads, and the status and the text of the run that meets
-/// no
-/// failure.
+/// no failure.
 type Reading = (&'static [&'static str], u32, u8, &'static str);
 
 static READINGS: [Reading; 6] = [
@@ -197,8 +195,7 @@ fn each_failing_read_is_told(rt: HostRuntime) -> Result<(), Fail> {
 }
 
 /// Whether a run puts this text in one piece, and ends with 6 where that put fails: then a front of the text was put,
-/// and
-/// the files are as they are without a failure.
+/// and the files are as they are without a failure.
 fn tells_failing_put(
     alloc: Global,
     words: &[&'static str],

@@ -3,10 +3,8 @@
 //! The crate has nothing but tests. `failing` has runs one of whose calls of files or sink fails, each in its turn,
 //! `traced`
 //! a run whose trace keeps its lines, and `outside` a file that is cut short, at each of its bytes. A run that needs
-//! neither
-//! is a text under `cases/`. The crate stands on `worked_files`, so that a change of a case proves no part of the
-//! program
-//! again.
+//! neither is a text under `cases/`. The crate stands on `worked_files`, so that a change of a case proves no part of
+//! the program again.
 #![tactic(auto)]
 
 #[cfg(test)]

@@ -1,6 +1,5 @@
 -- What differs by command, a row for each: what it reads and writes, what it may leave, what it owes, how it may end,
--- and
--- when its inputs are sound.
+-- and when its inputs are sound.
 use Rattle.std.specs.Prelude.{◌≡◌, ◌≢◌, ◌⊎◌, ℕ, ⊤, Bool, false, true, List, [], ◌∷◌, ◌++◌, AllPairs, Some, None}
 use Rattle.std.specs.declared.option.Option.{Option}
 use Rattle.outside_io.specs.Contents.{Told, TellsAt}
@@ -63,8 +62,7 @@ TellsTrace (Trial n) = ⊤
 TellsTrace (Signals input grid order budget log) = log ≡ None
 
 -- a command has something to search: draw where it read its file and that has a station, trial where its made file has
--- one,
--- and signals where the file that it read has a station and signals without a fault
+-- one, and signals where the file that it read has a station and signals without a fault
 abbrev pub MaySearch : Command → Met → Type 0
 MaySearch (Draw input grid order budget svg log) met = HasReadStation input met
 MaySearch (PrintGraph input) met = ⊥
@@ -99,8 +97,8 @@ MayLeave (Signals input grid order budget log) met traced name bytes =
 
 -- with what the run met and what the trace was told, the status that a command ends with and the text that it puts.
 -- verify reads the file, and then the sheet, before it judges what they say, and check so the log too; draw, signals
--- and
--- graph read the file alone; make and trial read nothing, and trial judges a made file as draw does one that is read
+-- and graph read the file alone; make and trial read nothing, and trial judges a made file as draw does one that is
+-- read
 abbrev pub Owes : Command → Met → (traced : Lines → Type 0) → Status → List ℕ → Type 0
 Owes (Draw input grid order budget svg log) met traced status text =
     IsAnswerOn (text_input 1 input) 0 met (IsAnswerAfter 1 met

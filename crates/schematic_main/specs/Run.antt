@@ -85,8 +85,7 @@ abbrev pub WriteFails : List (List ℕ) → Met → (put_rose trace_rose : Type 
 WriteFails words met put_rose trace_rose = put_rose ⊎ Asks words (λ command. CommandFailsToWrite command met trace_rose)
 
 -- where nothing is wrong with the inputs of the command that the words ask for, and no read and no write failed, the
--- run
--- ends as its command does, or memory was wanting
+-- run ends as its command does, or memory was wanting
 abbrev pub Completes : List (List ℕ) → Met → (put_rose trace_rose : Type 0) → Status → Type 0
 Completes words met put_rose trace_rose status = WhereAsked words (λ command.
     AreSound command met.before.contents → (FailsIn command met → ⊥) → (WriteFails words met put_rose trace_rose → ⊥) →
@@ -99,8 +98,7 @@ TellsNothing words met = WhereAsked words (λ command. MayTell command met → �
 -- ---- a run of check on what a run of draw left
 
 -- the later run finds the file that the earlier one read, the text that it put under the name of the sheet, and the log
--- as
--- it left it, which isn't too long to be read
+-- as it left it, which isn't too long to be read
 pub record IsCheckOfDrawn (met next : Met) (input sheet log text : List ℕ) : Type 0 where
   pub before : Told
   pub after : Told

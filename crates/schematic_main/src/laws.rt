@@ -23,8 +23,7 @@ ghost use Rattle.schematic_main.specs.Run.{FailsIn, IsCheckOfDrawn};
 ghost use Rattle.sheet_answer.specs.Checked.{PassesCheck};
 
 /// A whole run of `verify`, none of whose reads failed, ends with 0 exactly where the drawing of the sheet that it
-/// reads is
-/// lawful for the file's station, and with 8 exactly where it isn't. What a trace was told plays no part.
+/// reads is lawful for the file's station, and with 8 exactly where it isn't. What a trace was told plays no part.
 pub fn lawful_runs_end_with_0()
     ensures lawful { (input sheet : List ℕ) (met : Met) (g : Graph) (o : EdgeOrder) (grid : GridSize) (d : PlainDrawing)
         (status :
@@ -39,8 +38,7 @@ pub fn lawful_runs_end_with_0()
 {}
 
 /// A whole run of `check`, none of whose reads failed, ends with 0 exactly where the log that it reads certifies what
-/// the
-/// sheet claims of the file's station.
+/// the sheet claims of the file's station.
 pub fn certified_runs_end_with_0()
     ensures due { (input sheet log : List ℕ) (met : Met) (g : Graph) (o : EdgeOrder) (said : PlainSheet)
         (status : Status) (line
@@ -55,10 +53,8 @@ pub fn certified_runs_end_with_0()
 {}
 
 /// What `draw` put for a station passes `check` with the log of the lines that it told; and a whole run of `check` ends
-/// with 0
-/// on what a whole run of `draw` put and left, where the log isn't too long to be read and no read fails. What a trace
-/// was
-/// told plays no part.
+/// with 0 on what a whole run of `draw` put and left, where the log isn't too long to be read and no read fails. What a
+/// trace was told plays no part.
 pub fn own_logs_are_certified()
     ensures passes { (g : Graph) (o : EdgeOrder) (asked : Job) (told : Lines) (status : Status) (text : List ℕ) →
         (drawn : IsDrawn

@@ -142,17 +142,15 @@ pub fn run<F: Files, O: Sink, T: LogSink>(
         EndsAs result (Completes (texts_of words.now) met put_rose trace_rose) }
 
     // No more reads are done than there are inputs, as many where the run is answered, and none where the words ask for
-    // no
-    // command that reads a file.
+    // no command that reads a file.
     ensures reads { let met = between (F.at files.old) (F.at files.new) in
         EndsAs result (λ status. WhereAsked (texts_of words.now) (λ command.
         ReadsInputs (length (inputs_of command)) (IsAnswered status) met)) }
     ensures unread { ReadsNothing (texts_of words.now) → IsUnread (between (F.at files.old) (F.at files.new)) }
 
     // No file is written but those that the words name for it, and none by a run that is refused or has nothing to
-    // search. With
-    // every status one that is named for a log begins a log's text, and one for a picture that of the drawing with
-    // which a
+    // search. With every status one that is named for a log begins a log's text, and one for a picture that of the
+    // drawing with which a
     // search of the file's station ended; or it stands as it stood.
     ensures unwritten { let met = between (F.at files.old) (F.at files.new) in
         EndsAs result (λ status. IsRefused status ⊎ WritesNothing (texts_of words.now) met →

@@ -138,8 +138,7 @@ fn the_clause_of_the_first_unique_implication_point(rt: HostRuntime) {
 }
 
 /// Of (-1 2), (-3 4) and (-1 -2 -3 -4) with 1 and then 3 decided, a clause is falsified; 2 follows from 1, so that -2
-/// is
-/// left out beside -1, and all four are met.
+/// is left out beside -1, and all four are met.
 #[test]
 fn a_literal_that_follows_from_the_others_is_left_out(rt: HostRuntime) {
     let alloc = rt.alloc();

@@ -80,8 +80,7 @@ fn ask_whether_one_is_false(solver: &mut Solver, log: &mut LineList) -> Result<A
 }
 
 /// The answer on the clauses (1 2) and (1 -2) where this literal is assumed, the solver and its log. The solver is
-/// handed
-/// on without what is known of it, so that what a test asks of it is soon proved.
+/// handed on without what is known of it, so that what a test asks of it is soon proved.
 fn asked(alloc: Global, assume: Lit) -> Result<(Answer, Solver, LineList), Fail>
     requires { (assume.var ≡ 1) ⊎ (assume.var ≡ 2) }
 {
@@ -229,8 +228,7 @@ fn the_empty_clause_is_refuted_at_once(rt: HostRuntime) -> Result<(), Fail> {
 }
 
 /// Whether (1 2) has a model, that stands, and none where a clause comes; whether with (1 -2) another is found, and
-/// none
-/// stands where -1 is refuted.
+/// none stands where -1 is refuted.
 fn stands_until_the_next_call(alloc: Global) -> Result<bool, Fail> {
     let mut log = LineList::new(alloc);
     let mut solver = Solver::new(alloc, 1000)?;

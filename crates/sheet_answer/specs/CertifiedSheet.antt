@@ -18,8 +18,7 @@ use Rattle.input_answer.specs.Input.{IsShort, HasStation}
 use Rattle.sheet_answer.specs.CheckLine.{claim_of}
 
 -- the bytes are the text of the sheet, whose drawing is lawful, if it has one; and the whole log is accepted, by what
--- is
--- expected of it, and certifies what the sheet claims
+-- is expected of it, and certifies what the sheet claims
 pub record CertifiesSheet (g : Graph) (o : EdgeOrder) (sheet log : List ℕ) (said : Sheet) : Type 0 where
   pub is_text : IsSheetText g false sheet said
   pub lawful : IfSome said.found (Lawful g (is_above o) said.grid)

@@ -97,8 +97,7 @@ abbrev pub IsVerified : List ℕ → List ℕ → Status → List ℕ → Type 0
 IsVerified bytes sheet status text = IsFileJudged (λ g o. IsSheetJudged g o sheet) bytes status text
 
 -- the files of these two names, as far as files are told: the first has this station, and the second is the text of a
--- sheet
--- with this drawing on this grid
+-- sheet with this drawing on this grid
 pub record HasDrawnFiles (contents : Option Told) (input sheet : List ℕ) (g : Graph) (o : EdgeOrder) (grid : GridSize)
     (d : Drawing) : Type 0 where
   pub file : List ℕ

@@ -76,8 +76,7 @@ fn fails_the_calls_that_are_listed_and_those_on_a_missing_name(
 }
 
 /// What writing one of two files in one go answers where the call of this number fails, and whether it holds this then
-/// and
-/// the other what it held.
+/// and the other what it held.
 fn written(alloc: Global, call: u32, contents: &str) -> Result<(char, bool), Fail> {
     let mut files = MemoryFiles::new(alloc, &[call])?;
     files.add("l", b"older")?;

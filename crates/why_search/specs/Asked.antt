@@ -19,8 +19,7 @@ abbrev pub NoneMeets : Task → List ℕ → Type 0
 NoneMeets p places = (d : Drawing) → IsLoose p.graph p.grid d → All (MeetsAt p d) places → ⊥
 
 -- a drawing that is found is loose and meets what was asked for; where there is none, some of what was asked for can't
--- be
--- met already
+-- be met already
 abbrev pub IsRightReply : Task → List ℕ → Reply → Type 0
 IsRightReply p wanted (Found d) = IsLoose p.graph p.grid d × All (MeetsAt p d) wanted
 IsRightReply p wanted (Refuted core) = All (Contains wanted) core × NoneMeets p core

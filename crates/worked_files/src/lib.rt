@@ -2,8 +2,7 @@
 //!
 //! `runs` has a run and what answers it, `stations` and `sheets` the files that it is given. What is proved of a run is
 //! long, and is met here alone, so that a change of a case proves no part of the program again. Runs of the program
-//! over
-//! the system's files stand in `cases/`, as texts.
+//! over the system's files stand in `cases/`, as texts.
 #![tactic(auto)]
 
 mod runs;
