@@ -132,7 +132,7 @@ SAYINGS = [
      "side_of_hand East Left = Upper side_of_hand East Right = Lower side_of_hand West Left = Lower side_of_hand West Right = Upper",
      [(FORMATS, "Left, seen from a switch's points towards its legs, is the upper side where the legs lie east, and the lower side "
                 "where they lie west."),
-      (README, "West is where mileages are smaller, and upper is on the left of who looks towards rising mileages.")]),
+      (README, "West is where mileages are smaller, and upper is to your left when you look towards rising mileages.")]),
     ("railml_topology/specs/Resolved.antt",
      "IsCourseOf switch branch hand false = branch.attrs.course ≡ Some (hand_word hand)",
      [(FORMATS, "With the course `left` or `right` the branch diverges to that hand and the track goes straight; with `straight` the "
