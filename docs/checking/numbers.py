@@ -25,12 +25,13 @@ LIMITS = [("plan_core", "MAX_FILE_BYTES"), ("plan_core", "MAX_LOG_BYTES"), ("rai
 # where the faults of a section of docs/formats.md are, in the order in which the sections stand
 FAULTS = {"Words": "plan_words/src/fault.rt", "A railML file": "railml_text/src/fault.rt",
           "The topology": "railml_topology/src/fault.rt", "The drawing text, or sheet": "plan_text/src/sheet_fault.rt",
-          "The track graph, and the graph text": "port_graph/src/fault.rt", "The log text": "refute_log/src/fault.rt"}
+          "The track graph, and the graph text": "port_graph/src/fault.rt", "The log text": "refute_log/src/fault.rt",
+          "The answer of signals": "plan_objects/src/fault.rt"}
 
 # the front of a fault's line, and where its faults are
 TABLES = {"words": "plan_words/src/fault.rt", "text": "railml_text/src/fault.rt", "topology": "railml_topology/src/fault.rt",
           "graph": "port_graph/src/fault.rt", "order": "track_order/src/fault.rt", "sheet": "plan_text/src/sheet_fault.rt",
-          "log": "refute_log/src/fault.rt"}
+          "log": "refute_log/src/fault.rt", "signal": "plan_objects/src/fault.rt"}
 
 # what the launcher's help says of each status
 ENDINGS = {"Done": "what was asked for was printed", "Refused": "an input was refused", "WordsRefused": "the words have a fault",
@@ -41,7 +42,7 @@ ENDINGS = {"Done": "what was asked for was printed", "Refused": "an input was re
 
 # texts behind `- **N**: ` that docs/formats.md has of each status
 ANSWERS = {"Done": ["the drawing text, the graph text, `lawful"],
-           "Refused": ["`long I`", "`text NO", "`topology NO", "`graph NO", "`order 1", "`sheet NO", "`log NO"],
+           "Refused": ["`long I`", "`text NO", "`topology NO", "`graph NO", "`order 1", "`signal NO", "`sheet NO", "`log NO"],
            "WordsRefused": ["`words NO"], "NoDrawing": ["the sheet with `end none`"],
            "Unfinished": ["the sheet with `end conflicts S` or `end room S`", "`check Room line N`"],
            "Unread": ["`read failed I`"], "Unwritten": ["nothing, or a prefix of what was due: the output, the log or the picture"],
@@ -252,7 +253,7 @@ def fault_lines_that_fail():
     """Lines of faults that pages print."""
     found = []
     for path in DOCUMENTS:
-        for table, number, word in re.findall(r"\b(words|text|topology|graph|order|sheet|log) (\d+) ([A-Z]\w+)", read(path)):
+        for table, number, word in re.findall(r"\b(words|text|topology|graph|order|sheet|signal|log) (\d+) ([A-Z]\w+)", read(path)):
             if (int(number), word) not in faults(TABLES[table]):
                 found.append(f"{show(path)}: there is no fault {table} {number} {word}")
     return found
