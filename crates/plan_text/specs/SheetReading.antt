@@ -24,8 +24,8 @@ use Rattle.plan_text.specs.SheetLine.{SheetLine, Title, GridLine, OrderLine, Nod
 use Rattle.plan_text.specs.SheetLine.{ValuesLine, EndLine, IsName, IsSmall, AreSmall, IsMileageText, field_told}
 use Rattle.plan_text.specs.SheetLine.{HasForm, IsSmallEnding, MayEnd, text_of_line}
 use Rattle.plan_text.specs.SheetText.{StatesSettled, mileage_field, track_field, picture_lines, drawing_lines}
-use Rattle.plan_text.specs.SheetFaults.{LineDue, BodyDue, ValuesDue, EdgesDue, IsToldIn, node_due, edge_due, due_after}
-use Rattle.plan_text.specs.SheetFaults.{order_told, drawing_told, HasWrongLine, AreRightLines}
+use Rattle.plan_text.specs.SheetFaults.{LineDue, TitleDue, BodyDue, ValuesDue, EdgesDue, IsToldIn, node_due, edge_due}
+use Rattle.plan_text.specs.SheetFaults.{due_after, order_told, drawing_told, HasWrongLine, AreRightLines}
 
 -- ---- fields
 
@@ -107,11 +107,14 @@ placed_lines edition g n [] = []
 placed_lines edition g n (p ∷ places) = NodeLine n (node g n).name p (mileage_field edition g n)
     ∷ placed_lines edition g (n + 1) places
 
+-- the line of an edge that has this line in the drawing
+abbrev pub drawn_line : Edition → Graph → ℕ → List Point → SheetLine
+drawn_line edition g e l = EdgeLine e (track_field edition g e) (edge g e).west (edge g e).east l
+
 -- the lines of the edges from this number on, which have these lines in the drawing
 abbrev pub drawn_lines : Edition → Graph → ℕ → List (List Point) → List SheetLine
 drawn_lines edition g e [] = []
-drawn_lines edition g e (l ∷ lines) = EdgeLine e (track_field edition g e) (edge g e).west (edge g e).east l
-    ∷ drawn_lines edition g (e + 1) lines
+drawn_lines edition g e (l ∷ lines) = drawn_line edition g e l ∷ drawn_lines edition g (e + 1) lines
 
 -- the lines stand in front of the text, and are right after those before them
 pub record AreReadTo (g : Graph) (before : List SheetLine) (due : LineDue) (text : List ℕ) (lines : List SheetLine)
@@ -136,6 +139,16 @@ pub record IsFirstFrom (g : Graph) (before : List SheetLine) (due : LineDue) (te
 abbrev pub IsFaultFrom : Graph → List SheetLine → LineDue → List ℕ → (number : ℕ) → SheetFault → Type 0
 IsFaultFrom g before due text number (SheetHas what line) = IsFirstFrom g before due text number what line
 IsFaultFrom g before due text number Memory = ⊤
+
+-- ---- the head, whatever the graph is, and whether or not a drawing is needed
+
+abbrev pub IsHeadTo : List ℕ → Edition → GridSize → List Criterion → List ℕ → Type 0
+IsHeadTo text edition grid order rest =
+    (g : Graph) (needs_drawing : Bool) →
+    AreReadTo g [] (TitleDue needs_drawing) text (head_lines edition grid order) rest
+
+abbrev pub IsHeadFault : List ℕ → SheetFault → Type 0
+IsHeadFault text fault = (g : Graph) (needs_drawing : Bool) → IsFaultFrom g [] (TitleDue needs_drawing) text 1 fault
 
 -- ---- what the readers of several lines say, behind any lines
 

@@ -13,7 +13,7 @@ ghost use Rattle.rail_mileage.specs.MetresText.{metres_text};
 ghost use Rattle.plan_text.specs.SheetText.{StatesSettled, mileage_field, track_field};
 ghost use Rattle.plan_text.specs.SheetFaults.{TitleDue, GridDue, OrderDue, BodyDue, NodeDue, EdgesDue, EdgeDue};
 ghost use Rattle.plan_text.specs.SheetFaults.{ValuesDue, EndDue, order_told, drawing_told, IsOfGraph};
-ghost use Rattle.plan_text.specs.SheetReading.{IsLineTo, IsEndFault, IsFaultHere, ending_told};
+ghost use Rattle.plan_text.specs.SheetReading.{IsLineTo, IsEndFault, IsFaultHere, drawn_line, ending_told};
 
 use crate::sheet_lines::{
     EdgeTold, EndTold, NodeTold, edge_line, end_line, grid_line, node_line, one_number, order_line,
@@ -248,7 +248,7 @@ pub(crate) fn edge<'a>(
 ) -> Result<(Line, &'a [u8]), SheetFault>
     requires { e < length g.now.edges }
     ensures { MatchResult result (λ p. (is_line p.0 ≡ true) × IsLineTo text.now
-        (EdgeLine e (track_field edition g.now e) (edge g.now e).west (edge g.now e).east p.0) p.1.now)
+        (drawn_line edition g.now e p.0) p.1.now)
         (λ fault. (before : List SheetLine) → IsFaultHere g.now before (EdgeDue edition e) text.now line fault) }
 {
     let Some((told, rest)) = edge_line(edition, text) else {

@@ -12,6 +12,7 @@ ghost use Rattle.plan_text.specs.SheetLine.{SheetLine, GridLine, OrderLine, Node
 ghost use Rattle.plan_text.specs.SheetLine.{grid_numbers, coordinates, text_of_line, IsSmall, AreSmall, IsMileageText};
 ghost use Rattle.plan_text.specs.SheetLine.{StandsForLeast, IsBetween, HasForm, IsSmallEnding};
 ghost use Rattle.plan_text.specs.SheetFaults.{GridDue, OrderDue, NodeDue, EdgeDue, ValuesDue, IsToldIn, BeginsWithLine};
+ghost use Rattle.plan_text.specs.SheetFaults.{IsMisformed};
 ghost use Rattle.plan_text.specs.SheetReading.{IsNamedAt, IsNumberedAt, IsNodeEnd, IsLineTo, ending_told};
 
 use crate::Edition;
@@ -134,8 +135,8 @@ fn grid_of(edition: Edition, numbers: &[u16]) -> Option<(u16, u16, u16)>
 
 /// The width, height and least length that the line of the grid tells, and what stands behind it.
 pub(crate) fn grid_line(edition: Edition, text: &[u8]) -> Option<(u16, u16, u16, &[u8])>
-    ensures { MatchOption result ((needs_drawing : Bool) (line : SheetLine) →
-        BeginsWithLine (GridDue edition needs_drawing) text.now line → ⊥)
+    ensures { MatchOption result ((needs_drawing : Bool) →
+        IsMisformed (GridDue edition needs_drawing) text.now)
         (λ p. IsLineTo text.now (GridLine edition (grid_with p.0 p.1 p.2)) p.3.now) }
 {
     let (numbers, rest) = numbered(text, b"grid")?;
@@ -145,8 +146,8 @@ pub(crate) fn grid_line(edition: Edition, text: &[u8]) -> Option<(u16, u16, u16,
 
 /// The criteria that the line of the order tells, and what stands behind it.
 pub(crate) fn order_line(text: &[u8]) -> Option<(ArrayVec<Criterion, 4>, &[u8])>
-    ensures { MatchOption result ((edition : Editions) (needs_drawing : Bool) (line : SheetLine) →
-        BeginsWithLine (OrderDue edition needs_drawing) text.now line → ⊥)
+    ensures { MatchOption result ((edition : Editions) (needs_drawing : Bool) →
+        IsMisformed (OrderDue edition needs_drawing) text.now)
         (λ p. IsBetween 1 4 (length p.0.items) × (text.now ≡ text_of_line (OrderLine p.0.items) ++ p.1.now)) }
 {
     let (criteria, rest) = criteria(behind(text, b"order")?)?;
@@ -201,7 +202,7 @@ fn node_end(edition: Edition, text: &[u8]) -> Option<(Option<&[u8]>, &[u8])>
 
 /// What the line of a node tells, and what stands behind it.
 pub(crate) fn node_line(edition: Edition, text: &[u8]) -> Option<(NodeTold<'_>, &[u8])>
-    ensures { MatchOption result ((n : ℕ) (line : SheetLine) → BeginsWithLine (NodeDue edition n) text.now line → ⊥)
+    ensures { MatchOption result ((n : ℕ) → IsMisformed (NodeDue edition n) text.now)
         (λ p. IsToldIn edition (option_copied p.0.mileage) × IsLineTo text.now
         (NodeLine p.0.number p.0.name.now p.0.place (option_copied p.0.mileage)) p.1.now) }
 {
@@ -261,7 +262,7 @@ fn numbered_edge(edition: Edition, text: &[u8]) -> Option<(u16, Option<&[u8]>, &
 
 /// What the line of an edge tells, and what stands behind it.
 pub(crate) fn edge_line(edition: Edition, text: &[u8]) -> Option<(EdgeTold<'_>, &[u8])>
-    ensures { MatchOption result ((e : ℕ) (line : SheetLine) → BeginsWithLine (EdgeDue edition e) text.now line → ⊥)
+    ensures { MatchOption result ((e : ℕ) → IsMisformed (EdgeDue edition e) text.now)
         (λ p. IsToldIn edition (option_copied p.0.track) × IsLineTo text.now
         (EdgeLine p.0.number (option_copied p.0.track) p.0.west p.0.east p.0.points.items) p.1.now) }
 {

@@ -13,7 +13,7 @@ ghost use Rattle.plan_core.specs.Lawful.{HasSizeOf};
 ghost use Rattle.plan_text.specs.SheetText.{StatesSettled};
 ghost use Rattle.plan_text.specs.SheetFaults.{TitleDue, BodyDue, EdgesDue, ValuesDue, NoneDue, node_due, edge_due};
 ghost use Rattle.plan_text.specs.SheetFaults.{IsSheetText, IsDrawingOf, IsSheetFault};
-ghost use Rattle.plan_text.specs.SheetReading.{head_lines, ending_told, AreReadTo, IsFaultHere, IsFaultFrom, ArePlaced};
+ghost use Rattle.plan_text.specs.SheetReading.{IsHeadTo, IsHeadFault, ending_told, IsFaultHere, ArePlaced};
 ghost use Rattle.plan_text.specs.SheetReading.{AreDrawn, ArePlacesTo, AreLinesTo, IsPictureTo, IsFaultAfterAny};
 ghost use Rattle.plan_text.specs.SheetReading.{IsClosing, IsFaultAfter, IsBody, IsUndrawnEnding, IsNoUndrawnEnding};
 ghost use Rattle.plan_text.specs.SheetReading.{IsUndrawnFault};
@@ -29,9 +29,7 @@ use std::alloc::Global;
 /// The edition, the grid and the order of criteria, and what stands behind their lines.
 fn head(text: &[u8]) -> Result<(Edition, Grid, Order, &[u8]), SheetFault>
     ensures { MatchResult result
-        (λ p. IsOrder p.2 × ((g : Graph) (needs_drawing : Bool) →
-        AreReadTo g [] (TitleDue needs_drawing) text.now (head_lines p.0 p.1 p.2) p.3.now))
-        (λ fault. (g : Graph) (needs_drawing : Bool) → IsFaultFrom g [] (TitleDue needs_drawing) text.now 1 fault) }
+        (λ p. IsOrder p.2 × IsHeadTo text.now p.0 p.1 p.2 p.3.now) (IsHeadFault text.now) }
 {
     let (edition, rest) = title(text)?;
     match grid(edition, rest) {
