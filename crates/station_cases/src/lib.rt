@@ -3,8 +3,8 @@
 //! The crate has nothing but tests. `items` has items of a document and their faults, `rows` the rows of
 //! `documents` and the faults of others, `metres` mileages, `resolved` topologies, `faults` what is told of
 //! `faulty_tracks`, `graphs` track graphs that are built, and `worked_graphs` those of the definitions'
-//! examples, as theorems. `reading` takes a document to its topology. The crate stands on the crates that read a
-//! station, so that a change of a case proves none of them again.
+//! examples, as theorems. `signals` has as many signals as may be, and one more. `reading` takes a document to its
+//! topology. The crate stands on the crates that read a station, so that a change of a case proves none of them again.
 #![tactic(auto)]
 
 #[cfg(test)]
@@ -25,5 +25,7 @@ mod reading;
 mod resolved;
 #[cfg(test)]
 mod rows;
+#[cfg(test)]
+mod signals;
 #[cfg(test)]
 mod worked_graphs;

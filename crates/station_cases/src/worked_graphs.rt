@@ -3,6 +3,7 @@
 ghost use Rattle.std.specs.Prelude.{[], ◌∷◌, ◌++◌, codes};
 ghost use Rattle.plan_core.specs.Topology.{IsResolved};
 ghost use Rattle.plan_core.specs.Examples.{one_graph, loop_graph, back_graph, cross_graph, two_graph, scissors_graph, station_graph};
+ghost use Rattle.station_cases.specs.Names.{scissors_nodes, scissors_tracks, station_nodes, station_tracks};
 ghost use Rattle.port_graph.specs.TopologyGraph.{IsGraphOf, IsGraphFault, HasFewNodes, HasFewEdges};
 ghost use Rattle.port_graph.specs.declared.fault.GraphFault.TheVariants.{TooManyNodes, TooManyEdges, NotForward, SideMismatch};
 ghost use Rattle.port_graph.specs.Examples.{with_names, one_topology, loop_topology, back_topology, cross_topology, two_topology, scissors_topology, station_topology, joint_topology, joint_graph, left_topology, left_graph, bent_topology, bent_graph, ring_topology, backing_topology, at_mile, topology, open_tracks, tracks_with_loops};
@@ -23,12 +24,9 @@ fn worked_graphs()
     ensures two_tracks { IsResolved two_topology × IsGraphOf two_topology
         (with_names (codes "ab" ∷ codes "ae" ∷ codes "bb" ∷ codes "be" ∷ []) (codes "a" ∷ codes "b" ∷ []) two_graph) }
     ensures scissors { IsResolved scissors_topology × IsGraphOf scissors_topology
-        (with_names (codes "pb" ∷ codes "pe" ∷ codes "a1" ∷ codes "b1" ∷ codes "qb" ∷ codes "qe" ∷ codes "a2" ∷ codes "b2" ∷ codes "k" ∷ [])
-        (codes "p" ∷ codes "p" ∷ codes "p" ∷ codes "q" ∷ codes "q" ∷ codes "q" ∷ codes "x" ∷ codes "x" ∷ codes "cb1" ∷ codes "ca2" ∷ [])
-        scissors_graph) }
+        (with_names scissors_nodes scissors_tracks scissors_graph) }
     ensures a_station { IsResolved station_topology × IsGraphOf station_topology
-        (with_names (codes "pb" ∷ codes "pe" ∷ codes "a" ∷ codes "qb" ∷ codes "qe" ∷ codes "b" ∷ codes "c" ∷ codes "d" ∷ [])
-        (codes "p" ∷ codes "p" ∷ codes "q" ∷ codes "q" ∷ codes "q" ∷ codes "q" ∷ codes "x" ∷ codes "l" ∷ []) station_graph) }
+        (with_names station_nodes station_tracks station_graph) }
     ensures a_crossing_to_the_left { IsResolved left_topology × IsGraphOf left_topology left_graph }
     ensures a_loop_that_goes_straight { IsResolved bent_topology × IsGraphOf bent_topology bent_graph }
     ensures a_joint { IsResolved joint_topology × IsGraphOf joint_topology joint_graph }
