@@ -101,18 +101,27 @@ fn lines()
 
 // The eleven shapes: each of these lines has one, and so many lists of slopes are shapes in all.
 fn shapes()
-    ensures each_is_one { list_all is_line
+    ensures each_of_one_piece { list_all is_line
         ((point_at 0 3 ∷ point_at 1 3 ∷ [])
         ∷ (point_at 0 3 ∷ point_at 1 4 ∷ [])
         ∷ (point_at 0 3 ∷ point_at 1 2 ∷ [])
-        ∷ (point_at 0 3 ∷ point_at 1 4 ∷ point_at 2 4 ∷ [])
+        ∷ [])
+        ≡ true }
+    ensures each_of_two_pieces { list_all is_line
+        ((point_at 0 3 ∷ point_at 1 4 ∷ point_at 2 4 ∷ [])
         ∷ (point_at 0 3 ∷ point_at 1 2 ∷ point_at 2 2 ∷ [])
         ∷ (point_at 0 3 ∷ point_at 1 3 ∷ point_at 2 4 ∷ [])
         ∷ (point_at 0 3 ∷ point_at 1 3 ∷ point_at 2 2 ∷ [])
-        ∷ (point_at 0 3 ∷ point_at 1 4 ∷ point_at 2 4 ∷ point_at 3 5 ∷ [])
-        ∷ (point_at 0 3 ∷ point_at 1 4 ∷ point_at 2 4 ∷ point_at 3 3 ∷ [])
-        ∷ (point_at 0 3 ∷ point_at 1 2 ∷ point_at 2 2 ∷ point_at 3 3 ∷ [])
+        ∷ [])
+        ≡ true }
+    ensures on_over_a_level_piece { list_all is_line
+        ((point_at 0 3 ∷ point_at 1 4 ∷ point_at 2 4 ∷ point_at 3 5 ∷ [])
         ∷ (point_at 0 3 ∷ point_at 1 2 ∷ point_at 2 2 ∷ point_at 3 1 ∷ [])
+        ∷ [])
+        ≡ true }
+    ensures back_over_a_level_piece { list_all is_line
+        ((point_at 0 3 ∷ point_at 1 4 ∷ point_at 2 4 ∷ point_at 3 3 ∷ [])
+        ∷ (point_at 0 3 ∷ point_at 1 2 ∷ point_at 2 2 ∷ point_at 3 3 ∷ [])
         ∷ [])
         ≡ true }
     ensures none_of_no_piece { is_shape [] ≡ false }
