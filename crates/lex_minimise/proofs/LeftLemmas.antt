@@ -16,7 +16,7 @@ use Rattle.refute_log.proofs.StepLemmas.{leaves_more, leaves_known, leaves_then}
 use Rattle.certified_values.specs.Expected.{bound_lines, sum_lines, sums}
 use Rattle.drawing_cnf.specs.Encoding.{Encoding, encoded_vars}
 use Rattle.drawing_cnf.specs.Expected.{drawing_vars}
-use Rattle.drawing_cnf.specs.Bounded.{Bound, bound, clauses_of_bound}
+use Rattle.drawing_cnf.specs.Bounded.{Bound, bound}
 use Rattle.track_order.specs.Order.{is_above, is_overlap}
 use Rattle.cdcl_core.specs.Kept.{Kept, blank}
 use Rattle.cdcl_core.specs.Belongs.{Belongs, GivesAtMost}
@@ -32,7 +32,7 @@ use Rattle.trade_off.specs.Outcome.{front_lines, IsFrontLeft}
 use Rattle.lex_minimise.specs.Known.{KnowsLines, IsReady}
 use Rattle.lex_minimise.specs.Task.{task_of}
 use Rattle.lex_minimise.specs.Grown.{HasGrown, IsGrown}
-use Rattle.lex_minimise.proofs.TellLemmas.{goes_weaker, told_next}
+use Rattle.lex_minimise.proofs.TellLemmas.{told_next}
 use Rattle.lex_minimise.proofs.StartLemmas.{IsFirst, first_does}
 
 -- ---- clauses

@@ -14,7 +14,7 @@ use Rattle.lex_minimise.specs.Known.{KnowsLines, IsReady}
 use Rattle.refute_log.specs.Steps.{GoesOn, Leaves}
 use Rattle.lex_minimise.specs.Told.{HasTaken}
 use Rattle.lex_minimise.proofs.GrownLemmas.{grown_small, ready_grown, grown_goes}
-use Rattle.refute_log.proofs.StepLemmas.{on_err_always, leaves_same, leaves_then}
+use Rattle.refute_log.proofs.StepLemmas.{on_err_always}
 use Rattle.lex_minimise.proofs.LeftLemmas.{criterion_left, criterion_begun, bounds_all}
 use Rattle.lex_minimise.proofs.building.tell_criterion.Goals as goal
 

@@ -122,7 +122,7 @@ returns-in_err-add_clauses-clause-left g c =
       vars_fit = e.vars_fit refl;
       covers = e.covers;
     } in
-    on_err_always _ _ (λ none lines is. front_begun y budget room c.args.a c.args.b c.in-Ok.encoded c.formula.result.now c.args.solver.now (k.tells c.args.log.now) (k.tells c.add_clauses.new.log) first c.formula.ensures c.requires.new c.in_err-add_clauses.ensures.leaves none lines is)
+    on_err_always _ _ (front_begun y budget room c.args.a c.args.b c.in-Ok.encoded c.formula.result.now c.args.solver.now (k.tells c.args.log.now) (k.tells c.add_clauses.new.log) first c.formula.ensures c.requires.new c.in_err-add_clauses.ensures.leaves)
 
 pub returns-clause-left : goal.returns-clause-left
 returns-clause-left g c =
