@@ -101,7 +101,7 @@ log_later : (named : Option (List ℕ)) (old mid new : FilesAt) (traced : Lines 
 log_later None old mid new traced lines same told = told
 log_later (Some name) old mid new traced lines same told = holds_later old.contents mid.contents new.contents name lines same told
 
-abbrev pub searched_later : (asked : Job) (old mid new : FilesAt) (traced : Lines → Type 0) (g : Graph) (o : EdgeOrder) (outcome : Outcome) → WhereTold old.contents mid.contents SameFiles →
+pub searched_later : (asked : Job) (old mid new : FilesAt) (traced : Lines → Type 0) (g : Graph) (o : EdgeOrder) (outcome : Outcome) → WhereTold old.contents mid.contents SameFiles →
     HasSearched g o asked (IsLogOf asked.log (between mid new) traced) outcome → HasSearched g o asked (IsLogOf asked.log (between old new) traced) outcome
 searched_later asked old mid new traced g o outcome same searched =
     record { lines = searched.lines; told = log_later asked.log old mid new traced searched.lines same searched.told; ended = searched.ended }

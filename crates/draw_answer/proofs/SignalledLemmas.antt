@@ -2,8 +2,9 @@
 use Rattle.std.proofs.Common.{◌≡◌, ◌≢◌, ◌⊎◌, ℕ, ◌<◌, ◌≤◌, List, [], ◌∷◌, ◌++◌, None, Some, length, refl, sym, ◌∙◌, ap, subst, inl, inr, arith}
 use Rattle.std.specs.Prelude.{false, All, IfSome}
 use Rattle.std.specs.declared.option.Option.{Option}
-use Rattle.outside_io.specs.Contents.{FilesAt, WhereTold, SameFiles}
+use Rattle.outside_io.specs.Contents.{Told, FilesAt, WhereTold, SameFiles}
 use Rattle.plan_core.specs.declared.limits.TheConstants.{MAX_FILE_BYTES}
+use Rattle.plan_core.specs.Grid.{GridSize, grid_with}
 use Rattle.plan_core.specs.Graph.{Graph}
 use Rattle.plan_core.specs.Drawing.{Drawing}
 use Rattle.plan_core.specs.Lawful.{Lawful}
@@ -14,7 +15,9 @@ use Rattle.plan_text.specs.SheetFaults.{IsSheetText}
 use Rattle.plan_objects.specs.declared.places.SignalPlace.{SignalPlace}
 use Rattle.plan_objects.specs.Places.{no_place, need_of}
 use Rattle.plan_objects.specs.Spread.{HasRoomFor}
+use Rattle.plan_objects.specs.Rows.{station}
 use Rattle.plan_objects.proofs.RoomLemmas.{room_in_lawful}
+use Rattle.plan_objects.proofs.PlaceLemmas.{as_many}
 use Rattle.refute_log.specs.Told.{Lines}
 use Rattle.lex_search.specs.declared.outcome.Outcome.{Outcome}
 use Rattle.lex_search.specs.declared.outcome.Outcome.TheVariants as outcomes
@@ -29,12 +32,13 @@ use Rattle.input_answer.specs.Fault.{IsFaultLine}
 use Rattle.input_answer.specs.Met.{Met, between, HasRead, IsUnwritten, Leaves}
 use Rattle.input_answer.specs.Answer.{text_input, IsAnswerAfter, IsAnswerOn}
 use Rattle.input_answer.specs.Signals.{HasFault, IsSignalStationOf, IsSignalRefusalOf}
+use Rattle.input_answer.proofs.FormedRows.{rows_formed}
 use Rattle.input_answer.proofs.SignalLemmas.{fault_short_or_long}
 use Rattle.refute_log.specs.FileLog.{BeginsLog}
 use Rattle.draw_answer.specs.Written.{file_named}
 use Rattle.draw_answer.specs.SearchLog.{IsLogOf}
 use Rattle.draw_answer.specs.Pictured.{IsPictured}
-use Rattle.draw_answer.specs.Drawn.{Job, search_of, sheet_of, found_by, status_of, HasSearched, IsDrawAnswer}
+use Rattle.draw_answer.specs.Drawn.{Job, job, search_of, sheet_of, found_by, status_of, HasSearched, IsDrawAnswer}
 use Rattle.draw_answer.specs.Signalled.{job_for, signals_behind, IsSignalled, IsSignalAnswer, IsSignalFileJudged, HasReadSignals, IsLeftBySignals}
 use Rattle.draw_answer.proofs.LeavesLemmas.{leaves_weaker, leaves_later, NamedMay}
 use Rattle.draw_answer.proofs.FiledLemmas.{searched_later}
@@ -59,6 +63,17 @@ found_has_room g o asked places (outcomes.Spent (Some d) settled) lines ended en
 found_has_room g o asked places (outcomes.Room None settled) lines ended enough drawn = tt
 found_has_room g o asked places (outcomes.Room (Some d) settled) lines ended enough drawn = room_on g o asked places d ended.lawful enough drawn
 
+-- there are as many places as signals
+pub as_many_places : (name : List ℕ) (contents : Option Told) (g : Graph) (o : EdgeOrder) (signals : List SignalElem) (places : List SignalPlace) → IsSignalStationOf name contents g o signals places → length signals ≡ length places
+as_many_places name contents g o signals places (bytes, is, has) =
+    let found = has.has_signals in
+    as_many (station found.rows found.topology g) signals places (rows_formed bytes found.rows found.beside.has_rows) found.placed.are
+
+-- what is asked of the search, where its grid is the one for the signals
+pub longer_is : (places : List SignalPlace) (inside asked : Job) (grid : GridSize) → inside ≡ asked → grid ≡ grid_with inside.grid.width inside.grid.height (need_of places) →
+    job grid inside.order inside.budget inside.svg inside.log ≡ job_for places asked
+longer_is places inside asked grid same is = ap (λ (g : GridSize). job g inside.order inside.budget inside.svg inside.log) is ∙ ap (λ (j : Job). job_for places j) same
+
 -- ---- the answer
 
 -- the parts of an answer to what is asked
@@ -80,6 +95,13 @@ signalled asked met traced g o signals places outcome status sheet text least un
     let parts : HasSignalled met traced g o signals places status text asked = (sheet, answer, behind) in
     let all = subst (λ (j : Job). HasSignalled met traced g o signals places status text j) (sym least) parts in
     record { sheet = all.0; answer = all.1; spelled = all.2 }
+
+-- an answer to what is asked of the search is one to what was asked
+pub signalled_for : (asked longer : Job) (met : Met) (traced : Lines → Type 0) (g : Graph) (o : EdgeOrder) (signals : List SignalElem) (places : List SignalPlace) (status : Status) (text : List ℕ) → longer ≡ job_for places asked →
+    IsSignalled longer met traced g o signals places status text → IsSignalled asked met traced g o signals places status text
+signalled_for asked longer met traced g o signals places status text same answer =
+    let s = subst (λ (j : Job). IsSignalled j met traced g o signals places status text) same answer in
+    record { sheet = s.sheet; answer = s.answer; spelled = s.spelled }
 
 -- ---- after a read
 

@@ -1,12 +1,14 @@
 -- What draw answers to a station: the sheet and the status of how its search ended, what the log of the search
 -- certifies, and the picture; and with which bytes it may leave a file.
-use Rattle.std.specs.Prelude.{◌≡◌, ◌⊎◌, ℕ, false, List, ◌++◌, None, Some}
+use Rattle.std.specs.Prelude.{◌≡◌, ◌⊎◌, ℕ, false, List, ◌++◌, None, Some, length, flat_map}
 use Rattle.std.specs.declared.option.Option.{Option}
 use Rattle.plan_core.specs.declared.limits.TheConstants.{MAX_FILE_BYTES}
 use Rattle.plan_core.specs.declared.criterion.Criterion.{Criterion}
 use Rattle.plan_core.specs.Grid.{GridSize}
 use Rattle.plan_core.specs.Graph.{Graph}
 use Rattle.plan_core.specs.Drawing.{Drawing}
+use Rattle.plan_core.specs.declared.criterion.Values.{Values}
+use Rattle.plan_core.specs.Values.{limit_of}
 use Rattle.cnf_core.specs.declared.limits.TheConstants.{ROOM}
 use Rattle.track_order.specs.Order.{EdgeOrder}
 use Rattle.plan_text.specs.declared.ending.Ending.{Ending}
@@ -15,11 +17,14 @@ use Rattle.plan_text.specs.SheetText.{Sheet, sheet_text}
 use Rattle.plan_text.specs.SheetFaults.{IsSheetText}
 use Rattle.refute_log.specs.Told.{Lines}
 use Rattle.refute_log.specs.FileLog.{BeginsLog}
+use Rattle.refute_log.specs.Log.{learnt, Open}
+use Rattle.certified_values.specs.Certified.{Settled}
+use Rattle.certified_values.specs.Full.{IsFullLog}
 use Rattle.lex_search.specs.declared.outcome.Outcome.{Outcome}
 use Rattle.lex_search.specs.declared.outcome.Outcome.TheVariants as outcomes
 use Rattle.lex_search.specs.Task.{Task}
-use Rattle.lex_search.specs.Outcome.{IsOutcome}
-use Rattle.drawing_problem.specs.Layout.{layout}
+use Rattle.lex_search.specs.Outcome.{IsOutcome, values_found}
+use Rattle.drawing_problem.specs.Layout.{layout, problem_of}
 use Rattle.lex_minimise.specs.Task.{task_of}
 use Rattle.input_answer.specs.declared.status.Status.{Status}
 use Rattle.input_answer.specs.declared.status.Status.TheVariants as statuses
@@ -73,6 +78,24 @@ status_of outcomes.NoDrawing = statuses.NoDrawing
 status_of (outcomes.Spent found settled) = statuses.Unfinished
 status_of (outcomes.Room found settled) = statuses.Unfinished
 
+-- a search for what is asked has this outcome, and these are its lines
+abbrev pub HasEnded : Graph → EdgeOrder → Job → Outcome → Lines → Type 0
+HasEnded g o asked outcome lines = IsOutcome (search_of g o asked) asked.order outcome lines
+
+-- the criteria that the lines certify of the values of what was found are the first of the order, so many and no more
+abbrev pub AreSettled : Graph → Job → Lines → Option Drawing → ℕ → Type 0
+AreSettled g asked lines found settled =
+    Settled (limit_of g asked.grid) lines asked.order (values_found found) settled
+
+-- the lines have as many learnt clauses as the search may learn, and the last query is open
+abbrev pub HasSpentAll : Job → Lines → Type 0
+HasSpentAll asked lines = (length (flat_map learnt lines) ≡ asked.budget) × Open lines
+
+-- the log of these lines, in which a drawing of these values was found, is full
+abbrev pub HasFilledRoom : Graph → EdgeOrder → Job → Lines → Option Values → Type 0
+HasFilledRoom g o asked lines found =
+    IsFullLog (problem_of (layout g o asked.grid)) (limit_of g asked.grid) asked.order lines found ROOM
+
 -- ---- what draw answers
 
 -- a search with this outcome told these lines: they certify of the drawing, and of all that are lawful, what the
@@ -81,7 +104,7 @@ pub record HasSearched (g : Graph) (o : EdgeOrder) (asked : Job) (IsTold : Lines
   where
     pub lines : Lines
     pub told : IsTold lines
-    pub ended : IsOutcome (search_of g o asked) asked.order outcome lines
+    pub ended : HasEnded g o asked outcome lines
 
 -- a search was done, and the text is the sheet of its outcome, which is read as that very sheet and isn't too long for
 -- it

@@ -12,9 +12,9 @@ ghost use Rattle.plan_text.specs.SheetText.{sheet_text};
 ghost use Rattle.plan_text.specs.SheetFaults.{IsSheetText};
 ghost use Rattle.refute_log.specs.FileLog.{BeginsLog, FileBeginsLog};
 ghost use Rattle.input_answer.specs.Status.{IsAnswered, IsRefused};
-ghost use Rattle.input_answer.specs.Answer.{IsFileJudged, text_input, IsAnswerAfter, IsAnswerOn, HasReadStation};
+ghost use Rattle.input_answer.specs.Answer.{IsFileJudged, IsAnswerToFile, HasReadStation};
 ghost use Rattle.input_answer.specs.Input.{IsShort};
-ghost use Rattle.input_answer.specs.Met.{between, ReadsInputs, IsUnwritten, Leaves};
+ghost use Rattle.input_answer.specs.Met.{between, ReadsInputs, IsUnwritten, Leaves, HasLeft};
 ghost use Rattle.refute_log.specs.ToldTo.{told_to};
 ghost use Rattle.draw_answer.specs.SearchLog.{HoldsLog, IsLogOf};
 ghost use Rattle.draw_answer.specs.Written.{AreFilesApart, file_named, FailsToWrite};
@@ -241,8 +241,8 @@ fn draw_station<F: Files, T: LogSink>(
         file_named asked.now.log ++ file_named asked.now.svg ≡ [] → IsUnwritten met }
     ensures leaves { let met = between (F.at files.old) (F.at files.new) in
         let told = told_to T.tells T.learnt trace.old trace.new in
-        WhereTold (F.at files.old).contents (F.at files.new).contents (Leaves (DrawMayLeave asked.now (HasBegunPicture
-        station.now.graph station.now.order asked.now (IsLogOf asked.now.log met told)))) }
+        HasLeft met (DrawMayLeave asked.now (HasBegunPicture station.now.graph station.now.order asked.now
+        (IsLogOf asked.now.log met told))) }
     ensures cause { let met = between (F.at files.old) (F.at files.new) in
         let rose = Rose (T.faults trace.old) (T.faults trace.new) in
         IsErrOf result Cut.Unwritten → FailsToWrite (file_named asked.now.log ++ file_named asked.now.svg)
@@ -266,8 +266,8 @@ pub fn draw<F: Files, T: LogSink>(
     requires apart { AreFilesApart (file_named asked.now.log ++ file_named asked.now.svg) }
     ensures answer { let met = between (F.at files.old) (F.at files.new) in
         let told = told_to T.tells T.learnt trace.old trace.new in
-        IfOk result (λ r. IsAnswerOn (text_input 1 input.now) 0 met (IsAnswerAfter 1 met (IsFileJudged (IsDrawAnswer
-        asked.now met told))) r.status r.text.items) }
+        IfOk result (λ r. IsAnswerToFile input.now met (IsFileJudged (IsDrawAnswer asked.now met told))
+        r.status r.text.items) }
     ensures reads { let met = between (F.at files.old) (F.at files.new) in
         ReadsInputs 1 (IsOkAnd result (λ r. IsAnswered r.status)) met }
     ensures unwritten { let met = between (F.at files.old) (F.at files.new) in
@@ -275,8 +275,8 @@ pub fn draw<F: Files, T: LogSink>(
         ⊎ ((files_asked asked.now ≢ []) × HasReadStation input.now met → ⊥) → IsUnwritten met }
     ensures leaves { let met = between (F.at files.old) (F.at files.new) in
         let told = told_to T.tells T.learnt trace.old trace.new in
-        WhereTold met.before.contents met.after.contents (Leaves (λ name bytes.
-        (IsOkAnd result (λ r. IsRefused r.status) → ⊥) × IsLeftByDraw input.now asked.now met told name bytes)) }
+        HasLeft met (λ name bytes. (IsOkAnd result (λ r. IsRefused r.status) → ⊥)
+        × IsLeftByDraw input.now asked.now met told name bytes) }
     ensures cause { let met = between (F.at files.old) (F.at files.new) in
         let rose = Rose (T.faults trace.old) (T.faults trace.new) in
         IsErrOf result Cut.Unwritten → FailsToWrite (file_named asked.now.log ++ file_named asked.now.svg)

@@ -2,7 +2,6 @@
 // behind the sheet of a drawing.
 ghost use Rattle.std.specs.Prelude.{◌≡◌, ◌≢◌, ◌<◌, ◌≤◌, ◌⊎◌, ◌++◌, ℕ, ⊤, false, [], None, Some, length, All, IfOk};
 ghost use Rattle.std.specs.Prelude.{OnOk, IfSome, IsOkAnd, IsErrOf};
-ghost use Rattle.outside_io.specs.Contents.{WhereTold};
 ghost use Rattle.outside_io.specs.Counts.{Rose};
 ghost use Rattle.plan_core.specs.declared.limits.TheConstants.{MAX_FILE_BYTES};
 ghost use Rattle.plan_core.specs.Grid.{grid_with};
@@ -15,9 +14,9 @@ ghost use Rattle.plan_objects.specs.Spread.{HasRoomFor};
 ghost use Rattle.refute_log.specs.FileLog.{BeginsLog};
 ghost use Rattle.refute_log.specs.ToldTo.{told_to};
 ghost use Rattle.input_answer.specs.Status.{IsAnswered, IsRefused};
-ghost use Rattle.input_answer.specs.Answer.{text_input, IsAnswerAfter, IsAnswerOn};
+ghost use Rattle.input_answer.specs.Answer.{IsAnswerToFile};
 ghost use Rattle.input_answer.specs.Input.{IsShort};
-ghost use Rattle.input_answer.specs.Met.{between, ReadsInputs, IsUnwritten, Leaves};
+ghost use Rattle.input_answer.specs.Met.{between, ReadsInputs, IsUnwritten, HasLeft};
 ghost use Rattle.draw_answer.specs.Written.{file_named, FailsToWrite};
 ghost use Rattle.draw_answer.specs.Drawn.{sheet_of, found_by as drawing_of, status_of as outcome_status, HasSearched};
 ghost use Rattle.draw_answer.specs.Signalled.{job_for, signals_behind as text_behind, IsSignalled, IsSignalFileJudged};
@@ -78,8 +77,7 @@ fn signal_reply(
     ensures short { OnOk result (IsShort MAX_FILE_BYTES (sheet_text found.now.station.graph
         (sheet_of asked.now outcome))) }
     ensures read { OnOk result (IsSheetText found.now.station.graph false
-        (sheet_text found.now.station.graph (sheet_of asked.now
-        outcome)) (sheet_of asked.now outcome)) }
+        (sheet_text found.now.station.graph (sheet_of asked.now outcome)) (sheet_of asked.now outcome)) }
 {
     let behind = signals_behind(alloc, found, &outcome)?;
     let mut reply = sheet_reply(alloc, &found.station, asked, outcome)?;
@@ -100,18 +98,15 @@ fn signal_station<F: Files, T: LogSink>(
     requires drawn { All (λ (p : APlace). p.edge.0 < length found.now.station.graph.edges) found.now.placed }
     requires least { job_for found.now.placed asked.now ≡ asked.now }
     requires unpictured { asked.now.svg ≡ None }
-    ensures answer { let met = between (F.at files.old) (F.at files.new) in
-        let told = told_to T.tells T.learnt trace.old trace.new in
-        IfOk result (λ r. IsSignalled asked.now met told found.now.station.graph found.now.station.order
-        found.now.signals
-        found.now.placed r.status r.text.items) }
+    ensures answer { IfOk result (λ r. IsSignalled asked.now (between (F.at files.old) (F.at files.new))
+        (told_to T.tells T.learnt trace.old trace.new) found.now.station.graph found.now.station.order
+        found.now.signals found.now.placed r.status r.text.items) }
     ensures read_faults { (F.at files.new).read_faults ≡ (F.at files.old).read_faults }
     ensures reads { (F.at files.new).reads ≡ (F.at files.old).reads }
     ensures unrefused { IsOkAnd result (λ r. IsRefused r.status) → ⊥ }
     ensures unwritten { let met = between (F.at files.old) (F.at files.new) in asked.now.log ≡ None → IsUnwritten met }
-    ensures leaves { WhereTold (F.at files.old).contents (F.at files.new).contents
-        (Leaves (λ name bytes. (asked.now.log ≡ Some
-        name) × BeginsLog bytes)) }
+    ensures leaves { let met = between (F.at files.old) (F.at files.new) in
+        HasLeft met (λ name bytes. (asked.now.log ≡ Some name) × BeginsLog bytes) }
     ensures cause { let met = between (F.at files.old) (F.at files.new) in
         IsErrOf result Cut.Unwritten → FailsToWrite (file_named asked.now.log) (asked.now.log ≡ None) met (Rose
         (T.faults trace.old) (T.faults trace.new)) }
@@ -134,16 +129,16 @@ pub fn signals<F: Files, T: LogSink>(
     requires unpictured { asked.now.svg ≡ None }
     ensures answer { let met = between (F.at files.old) (F.at files.new) in
         let told = told_to T.tells T.learnt trace.old trace.new in
-        IfOk result (λ r. IsAnswerOn (text_input 1 input.now) 0 met (IsAnswerAfter 1 met (IsSignalFileJudged
-        asked.now met told)) r.status r.text.items) }
+        IfOk result (λ r. IsAnswerToFile input.now met (IsSignalFileJudged asked.now met told)
+        r.status r.text.items) }
     ensures reads { let met = between (F.at files.old) (F.at files.new) in
         ReadsInputs 1 (IsOkAnd result (λ r. IsAnswered r.status)) met }
     ensures unwritten { let met = between (F.at files.old) (F.at files.new) in
         IsOkAnd result (λ r. IsRefused r.status)
         ⊎ ((file_named asked.now.log ≢ []) × HasReadSignals input.now met → ⊥) → IsUnwritten met }
     ensures leaves { let met = between (F.at files.old) (F.at files.new) in
-        WhereTold met.before.contents met.after.contents (Leaves (λ name bytes.
-        (IsOkAnd result (λ r. IsRefused r.status) → ⊥) × IsLeftBySignals input.now asked.now met name bytes)) }
+        HasLeft met (λ name bytes. (IsOkAnd result (λ r. IsRefused r.status) → ⊥)
+        × IsLeftBySignals input.now asked.now met name bytes) }
     ensures cause { let met = between (F.at files.old) (F.at files.new) in
         let rose = Rose (T.faults trace.old) (T.faults trace.new) in
         IsErrOf result Cut.Unwritten → FailsToWrite (file_named asked.now.log) (asked.now.log ≡ None) met rose }
