@@ -1,5 +1,5 @@
 -- When a log certifies what a sheet claims of the lawful drawings of a station.
-use Rattle.std.specs.Prelude.{ℕ, false, List, [], IfSome}
+use Rattle.std.specs.Prelude.{◌≡◌, ℕ, false, List, [], IfSome}
 use Rattle.std.specs.declared.option.Option.{Option}
 use Rattle.outside_io.specs.Contents.{Told, IsFileWhereTold}
 use Rattle.plan_core.specs.declared.limits.TheConstants.{MAX_LOG_BYTES}
@@ -15,7 +15,8 @@ use Rattle.log_check.specs.Expectation.{Expectation, IsExpectedOf}
 use Rattle.log_check.specs.Accepted.{AcceptsFront}
 use Rattle.log_check.specs.Claimed.{CertifiesClaim, IsTrueClaim}
 use Rattle.input_answer.specs.Input.{IsShort, HasStation}
-use Rattle.sheet_answer.specs.CheckLine.{claim_of}
+use Rattle.log_check.specs.declared.verdict.Verdict.TheVariants.{Certified}
+use Rattle.sheet_answer.specs.CheckLine.{claimed, claim_of, verdict_line}
 
 -- the bytes are the text of the sheet, whose drawing is lawful, if it has one; and the whole log is accepted, by what
 -- is expected of it, and certifies what the sheet claims
@@ -32,6 +33,10 @@ pub record CertifiesSheet (g : Graph) (o : EdgeOrder) (sheet log : List ℕ) (sa
 abbrev pub ClaimsTruly : Graph → EdgeOrder → Sheet → Type 0
 ClaimsTruly g o said = IsTrueClaim (Lawful g (is_above o) said.grid) said.order
     (claim_of said.order said.found said.ending)
+
+-- the line says on how many criteria that is certified
+abbrev pub IsCertifiedLine : Sheet → List ℕ → Type 0
+IsCertifiedLine said line = line ≡ verdict_line (claimed said.order said.ending) Certified
 
 -- the files of these three names, as far as files are told: the first has this station, the second is the text of this
 -- sheet, and the third, which isn't too long to be read, is a log that certifies what the sheet claims of the station

@@ -17,7 +17,8 @@ use Rattle.input_answer.specs.declared.status.Status.{Status}
 use Rattle.input_answer.specs.declared.status.Status.TheVariants.{Done}
 use Rattle.sheet_answer.specs.Verdict.{IsBrokenAnswer, IsSheetRefused}
 use Rattle.sheet_answer.specs.CheckLine.{claimed, claim_of, TellsVerdict, verdict_line}
-use Rattle.input_answer.specs.Answer.{IsFileJudged}
+use Rattle.input_answer.specs.Met.{Met}
+use Rattle.input_answer.specs.Answer.{text_input, log_input, IsFileJudged, IsAnswerAfter, IsAnswerOn}
 
 -- the sheet has a drawing that breaks a law, which the answer names, and the log isn't judged
 abbrev pub IsFoundBroken : Graph → EdgeOrder → Sheet → Option Drawing → Status → List ℕ → Type 0
@@ -51,6 +52,13 @@ IsClaimJudged g o sheet log status text = IsSheetChecked g o sheet log status te
 -- what check answers to the bytes of the file, the sheet and the log: the file's fault comes first, then the sheet's
 abbrev pub IsChecked : (file sheet log : List ℕ) → Status → List ℕ → Type 0
 IsChecked file sheet log status text = IsFileJudged (λ g o. IsClaimJudged g o sheet log) file status text
+
+-- what check answers to the files of these three names, as they stand where it reads them: it reads all three before it
+-- judges what they say
+abbrev pub IsCheckAnswer : (input sheet log : List ℕ) → Met → Status → List ℕ → Type 0
+IsCheckAnswer input sheet log met status text =
+    IsAnswerOn (text_input 1 input) 0 met (λ bytes. IsAnswerOn (text_input 2 sheet) 1 met
+    (λ said. IsAnswerOn (log_input 3 log) 2 met (IsAnswerAfter 3 met (IsChecked bytes said)))) status text
 
 -- check of this sheet with the log of these lines ends with 0
 abbrev pub PassesCheck : Graph → EdgeOrder → Sheet → Lines → Type 0

@@ -11,7 +11,7 @@ ghost use Rattle.input_answer.specs.Met.{between, ReadsInputs, IsUnwritten};
 ghost use Rattle.input_answer.specs.Answer.{text_input, log_input, IsAnswerAfter, IsAnswerOn};
 ghost use Rattle.sheet_answer.specs.CheckLine.{claimed as claimed_by, claim_of as claim_in};
 ghost use Rattle.sheet_answer.specs.CheckLine.{refusal_status as status_for, verdict_line as line_for, TellsVerdict};
-ghost use Rattle.sheet_answer.specs.Checked.{IsFoundBroken, IsSheetAnswer, IsClaimJudged, IsChecked};
+ghost use Rattle.sheet_answer.specs.Checked.{IsFoundBroken, IsSheetAnswer, IsClaimJudged, IsChecked, IsCheckAnswer};
 
 use crate::verdict::broken_reply;
 use input_answer::{
@@ -265,9 +265,7 @@ pub fn check<F: Files>(
     files: &mut F,
 ) -> Result<Reply, OutOfMemory>
     ensures answer { let met = between (F.at files.old) (F.at files.new) in
-        IfOk result (λ r. IsAnswerOn (text_input 1 input.now) 0 met (λ bytes. IsAnswerOn (text_input 2 sheet.now) 1
-        met (λ said. IsAnswerOn (log_input 3 log.now) 2 met (IsAnswerAfter 3 met (IsChecked bytes said))))
-        r.status r.text.items) }
+        IfOk result (λ r. IsCheckAnswer input.now sheet.now log.now met r.status r.text.items) }
     ensures reads { let met = between (F.at files.old) (F.at files.new) in
         ReadsInputs 3 (IsOkAnd result (λ r. IsAnswered r.status)) met }
     ensures unwritten { let met = between (F.at files.old) (F.at files.new) in IsUnwritten met }

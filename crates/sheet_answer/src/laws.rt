@@ -8,15 +8,13 @@ ghost use Rattle.plan_core.specs.Lawful.{Lawful};
 ghost use Rattle.plan_text.specs.SheetText.{Sheet as PlainSheet};
 ghost use Rattle.plan_text.specs.SheetFaults.{IsDrawingOf};
 ghost use Rattle.track_order.specs.Order.{EdgeOrder, is_above};
-ghost use Rattle.log_check.specs.declared.verdict.Verdict.TheVariants.{Certified};
 ghost use Rattle.input_answer.specs.declared.status.Status.{Status};
 ghost use Rattle.input_answer.specs.declared.status.Status.TheVariants.{Done, Broken};
 ghost use Rattle.input_answer.specs.Input.{HasStation};
 ghost use Rattle.sheet_answer.specs.Verdict.{lawful_line, IsSheetJudged};
 ghost use Rattle.sheet_answer.specs.Verdict.{IsVerified};
-ghost use Rattle.sheet_answer.specs.CheckLine.{claimed, verdict_line};
 ghost use Rattle.sheet_answer.specs.Checked.{IsChecked};
-ghost use Rattle.sheet_answer.specs.CertifiedSheet.{CertifiesSheet, ClaimsTruly};
+ghost use Rattle.sheet_answer.specs.CertifiedSheet.{CertifiesSheet, ClaimsTruly, IsCertifiedLine};
 
 /// A sheet has one answer at most for a station: one status, with one text.
 pub fn one_sheet_answer()
@@ -66,15 +64,12 @@ pub fn one_answer_of_check()
 {}
 
 /// `check` ends with 0 exactly where the log certifies what the sheet claims of the file's station; its line tells then
-/// on
-/// how many criteria, and what is claimed is so, whoever wrote the log.
+/// on how many criteria, and what is claimed is so, whoever wrote the log.
 pub fn certified_exactly()
     ensures due { (file sheet log : List ℕ) (g : Graph) (o : EdgeOrder) (said : PlainSheet) (status : Status)
-        (text : List ℕ) →
-        HasStation file g o → CertifiesSheet g o sheet log said → IsChecked file sheet log status text → (status ≡
-        Done) × (text ≡ verdict_line (claimed said.order said.ending) Certified) }
-    ensures only { (file sheet log text : List ℕ) → IsChecked file sheet log Done text → (g : Graph) × (o : EdgeOrder)
-        × (said :
-        PlainSheet) × HasStation file g o × CertifiesSheet g o sheet log said × ClaimsTruly g o said × (text ≡
-        verdict_line (claimed said.order said.ending) Certified) }
+        (text : List ℕ) → HasStation file g o → CertifiesSheet g o sheet log said →
+        IsChecked file sheet log status text → (status ≡ Done) × IsCertifiedLine said text }
+    ensures only { (file sheet log text : List ℕ) → IsChecked file sheet log Done text →
+        (g : Graph) × (o : EdgeOrder) × (said : PlainSheet) × HasStation file g o
+        × CertifiesSheet g o sheet log said × ClaimsTruly g o said × IsCertifiedLine said text }
 {}
