@@ -26,8 +26,8 @@ use Rattle.input_answer.specs.declared.status.Status.{Status}
 use Rattle.input_answer.specs.Input.{IsShort}
 use Rattle.input_answer.specs.declared.fault.RunFault.{RunFault}
 use Rattle.input_answer.specs.declared.fault.RunFault.TheVariants.{ReadFailed}
-use Rattle.input_answer.specs.declared.input.Refusal.{Refusal}
-use Rattle.input_answer.specs.declared.input.Refusal.TheVariants as refusals
+use Rattle.input_answer.specs.declared.input.InputRefusal.{InputRefusal}
+use Rattle.input_answer.specs.declared.input.InputRefusal.TheVariants as refusals
 use Rattle.input_answer.specs.Fault.{IsFaultLine}
 use Rattle.input_answer.specs.Met.{Met, between, HasRead, IsUnwritten, Leaves}
 use Rattle.input_answer.specs.Answer.{text_input, IsAnswerAfter, IsAnswerOn}
@@ -144,7 +144,7 @@ signalled_on asked name old mid new traced g o signals places status text (bytes
     inl (bytes, is, inr (has.has_station.has_graph.has_topology.has_rows.few, (read, inl here)))
 
 -- a file with a fault of its own or of its signals, or one that couldn't be read, is answered with that
-pub signals_refused_on : (asked : Job) (traced : Lines → Type 0) (name : List ℕ) (met : Met) (r : Refusal) (fault : RunFault) (status : Status) (text : List ℕ) → IsSignalRefusalOf name met r → r ≡ refusals.Fault fault →
+pub signals_refused_on : (asked : Job) (traced : Lines → Type 0) (name : List ℕ) (met : Met) (r : InputRefusal) (fault : RunFault) (status : Status) (text : List ℕ) → IsSignalRefusalOf name met r → r ≡ refusals.Fault fault →
     IsFaultLine fault status text → IsAnswerOn (text_input 1 name) 0 met (IsAnswerAfter 1 met (IsSignalFileJudged asked met traced)) status text
 signals_refused_on asked traced name met (refusals.Fault other) fault status text (inl ((bytes, is, has), read)) same told =
     let here : HasFault bytes fault = subst (λ (f : RunFault). HasFault bytes f) (cc) has in

@@ -1,7 +1,7 @@
 -- What signals answers to a station with its signals: what draw answers to the station where each edge goes over as
 -- many columns as its signals need, and behind a sheet with a drawing the text of the signals; and with which bytes it
 -- may leave a file.
-use Rattle.std.specs.Prelude.{◌≡◌, ◌⊎◌, ℕ, List, [], ◌++◌, None, Some}
+use Rattle.std.specs.Prelude.{◌≡◌, ◌<◌, ◌⊎◌, ℕ, List, [], ◌++◌, None, Some, length, ⊤}
 use Rattle.std.specs.declared.option.Option.{Option}
 use Rattle.plan_core.specs.Grid.{grid_with}
 use Rattle.plan_core.specs.Graph.{Graph}
@@ -9,8 +9,9 @@ use Rattle.plan_core.specs.Drawing.{Drawing}
 use Rattle.railml_read.specs.declared.rows.SignalElem.{SignalElem}
 use Rattle.track_order.specs.Order.{EdgeOrder}
 use Rattle.plan_objects.specs.declared.places.SignalPlace.{SignalPlace}
-use Rattle.plan_objects.specs.Places.{need_of}
-use Rattle.plan_objects.specs.SignalsText.{signals_text}
+use Rattle.plan_objects.specs.Places.{need_of, edge_at}
+use Rattle.plan_objects.specs.Spread.{AreSpread, column_on}
+use Rattle.plan_objects.specs.SignalsText.{line_under, signals_text}
 use Rattle.refute_log.specs.Told.{Lines}
 use Rattle.refute_log.specs.FileLog.{BeginsLog}
 use Rattle.input_answer.specs.declared.fault.RunFault.{RunFault}
@@ -64,6 +65,12 @@ pub record IsSignalFileRefused (bytes : List ℕ) (status : Status) (text : List
 abbrev pub IsSignalFileJudged : Job → Met → (traced : Lines → Type 0) → List ℕ → Status → List ℕ → Type 0
 IsSignalFileJudged asked met traced bytes status text = IsSignalAnswer asked met traced bytes status text
     ⊎ IsSignalFileRefused bytes status text
+
+-- on the drawing that was found the signals of each edge are spread over its line
+abbrev pub StandApart : List SignalPlace → Option Drawing → Type 0
+StandApart places None = ⊤
+StandApart places (Some d) = (i : ℕ) → i < length places →
+    AreSpread places (line_under places d i) (edge_at places i) (column_on places (line_under places d i))
 
 -- ---- what signals leaves
 

@@ -23,7 +23,7 @@ ghost use Rattle.draw_answer.specs.Drawn.{DrawMayLeave, files_asked, IsLeftByDra
 
 use crate::picturing::write_found;
 use cnf_core::ROOM;
-use input_answer::{Cut, Refusal, Reply, Station, Status, cut_of, fault_reply, station_of};
+use input_answer::{Cut, InputRefusal, Reply, Station, Status, cut_of, fault_reply, station_of};
 use lex_minimise::{Limits, MinFault, Outcome, minimise};
 use outside_io::Files;
 use plan_core::{Grid, Order, OutOfMemory, Text};
@@ -289,7 +289,7 @@ pub fn draw<F: Files, T: LogSink>(
 {
     match station_of(alloc, input, files) {
         Ok(station) => draw_station(alloc, &station, asked, files, trace),
-        Err(Refusal::Fault(fault)) => Ok(fault_reply(alloc, fault)?),
-        Err(Refusal::Memory) => Err(Cut::Memory),
+        Err(InputRefusal::Fault(fault)) => Ok(fault_reply(alloc, fault)?),
+        Err(InputRefusal::Memory) => Err(Cut::Memory),
     }
 }

@@ -19,6 +19,6 @@ mod signalling;
 mod trialling;
 
 pub use drawing::{Asked, draw};
-pub use laws::{how_searches_end, one_log_in_a_file};
+pub use laws::{how_searches_end, one_log_in_a_file, signals_stand_apart};
 pub use signalling::signals;
 pub use trialling::{made, trial};

@@ -24,7 +24,7 @@ ghost use Rattle.draw_answer.specs.Signalled.{HasReadSignals, IsLeftBySignals};
 
 use crate::drawing::{Asked, search_told, sheet_reply};
 use crate::picturing::found_by;
-use input_answer::{Cut, Refusal, Reply, SignalStation, fault_reply, signals_of};
+use input_answer::{Cut, InputRefusal, Reply, SignalStation, fault_reply, signals_of};
 use lex_minimise::Outcome;
 use outside_io::Files;
 use plan_core::{Grid, OutOfMemory, Text};
@@ -160,7 +160,7 @@ pub fn signals<F: Files, T: LogSink>(
             };
             signal_station(alloc, &found, &longer, files, trace)
         }
-        Err(Refusal::Fault(fault)) => Ok(fault_reply(alloc, fault)?),
-        Err(Refusal::Memory) => Err(Cut::Memory),
+        Err(InputRefusal::Fault(fault)) => Ok(fault_reply(alloc, fault)?),
+        Err(InputRefusal::Memory) => Err(Cut::Memory),
     }
 }

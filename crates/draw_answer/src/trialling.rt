@@ -15,7 +15,7 @@ ghost use Rattle.draw_answer.specs.Tried.{IsMade, IsTried, trial_job, graph_coun
 ghost use Rattle.draw_answer.specs.Tried.{trial_line};
 
 use crate::drawing::{Asked, search, status_of};
-use input_answer::{Cut, Refusal, Reply, Station, Status, fault_reply, station_in};
+use input_answer::{Cut, InputRefusal, Reply, Station, Status, fault_reply, station_in};
 use lex_minimise::Outcome;
 use line_text::{push_field, push_number_field, push_text};
 use plan_core::{Criterion, Grid, Order, OutOfMemory};
@@ -176,7 +176,7 @@ pub fn trial<L: LogSink>(alloc: Global, n: u32, log: &mut L) -> Result<Reply, Cu
     let file = make(alloc, n)?;
     match station_in(alloc, &file) {
         Ok(station) => try_station(alloc, n, &station, log),
-        Err(Refusal::Fault(fault)) => Ok(fault_reply(alloc, fault)?),
-        Err(Refusal::Memory) => Err(Cut::Memory),
+        Err(InputRefusal::Fault(fault)) => Ok(fault_reply(alloc, fault)?),
+        Err(InputRefusal::Memory) => Err(Cut::Memory),
     }
 }

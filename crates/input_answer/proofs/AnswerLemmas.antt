@@ -8,8 +8,8 @@ use Rattle.outside_io.specs.Contents.{FilesAt, Told, WhereTold, SameFiles, Reads
 use Rattle.outside_io.specs.Counts.{next_count}
 use Rattle.input_answer.specs.declared.fault.RunFault.{RunFault}
 use Rattle.input_answer.specs.declared.fault.RunFault.TheVariants.{ReadFailed}
-use Rattle.input_answer.specs.declared.input.Refusal.{Refusal}
-use Rattle.input_answer.specs.declared.input.Refusal.TheVariants as refusals
+use Rattle.input_answer.specs.declared.input.InputRefusal.{InputRefusal}
+use Rattle.input_answer.specs.declared.input.InputRefusal.TheVariants as refusals
 use Rattle.input_answer.specs.declared.status.Status.{Status}
 use Rattle.input_answer.specs.Fault.{IsFaultLine}
 use Rattle.input_answer.specs.Input.{IsLong, IsShort, HasFileFault, IsOfFile}
@@ -49,7 +49,7 @@ pub read_on : (input : InputFile) (done : ℕ) (met : Met) (Answers : List ℕ �
 read_on input done met Answers bytes status text is answer = inl (bytes, is.is_file, inr (is.short, answer))
 
 -- the first input, with a fault or one that couldn't be read, is answered with that
-pub refused_on : (Answers : Graph → EdgeOrder → Status → List ℕ → Type 0) (name : List ℕ) (met : Met) (r : Refusal) (fault : RunFault) (status : Status) (text : List ℕ) →
+pub refused_on : (Answers : Graph → EdgeOrder → Status → List ℕ → Type 0) (name : List ℕ) (met : Met) (r : InputRefusal) (fault : RunFault) (status : Status) (text : List ℕ) →
     IsRefusalOf name met r → r ≡ refusals.Fault fault → IsFaultLine fault status text → IsAnswerOn (text_input 1 name) 0 met (IsAnswerAfter 1 met (IsFileJudged Answers)) status text
 refused_on Answers name met (refusals.Fault other) fault status text (inl ((bytes, is, has), read)) same told =
     let here : HasFileFault bytes fault = subst (λ (f : RunFault). HasFileFault bytes f) (cc) has in

@@ -17,8 +17,8 @@ use Rattle.railml_topology.specs.Answers.{ResolvesTo}
 use Rattle.input_answer.specs.declared.fault.RunFault.{RunFault}
 use Rattle.input_answer.specs.declared.fault.RunFault.TheVariants.{Words, Long, Text, Topology, Graph, Order, Signal}
 use Rattle.input_answer.specs.declared.fault.RunFault.TheVariants.{Sheet, Log, ReadFailed}
-use Rattle.input_answer.specs.declared.input.Refusal.{Refusal}
-use Rattle.input_answer.specs.declared.input.Refusal.TheVariants as refusals
+use Rattle.input_answer.specs.declared.input.InputRefusal.{InputRefusal}
+use Rattle.input_answer.specs.declared.input.InputRefusal.TheVariants as refusals
 
 -- an input has more bytes than it may have, or hasn't; the limit is that of its kind
 abbrev pub IsLong : (limit : ℕ) → List ℕ → Type 0
@@ -69,7 +69,7 @@ abbrev pub HasSomeStation : List ℕ → Type 0
 HasSomeStation bytes = (g : TrackGraph) × (o : EdgeOrder) × HasStation bytes g o
 
 -- what an answer without a station says of the bytes
-abbrev pub IsRefusal : List ℕ → Refusal → Type 0
+abbrev pub IsRefusal : List ℕ → InputRefusal → Type 0
 IsRefusal bytes (refusals.Fault fault) = HasFileFault bytes fault
 IsRefusal bytes refusals.Memory = Unit {0}
 

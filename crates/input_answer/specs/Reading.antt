@@ -3,8 +3,8 @@ use Rattle.std.specs.Prelude.{◌≡◌, ◌⊎◌, ℕ, List, ⊤}
 use Rattle.std.specs.declared.option.Option.{Option}
 use Rattle.outside_io.specs.Contents.{Told, IsFileWhereTold}
 use Rattle.input_answer.specs.declared.fault.RunFault.TheVariants.{Long, ReadFailed}
-use Rattle.input_answer.specs.declared.input.Refusal.{Refusal}
-use Rattle.input_answer.specs.declared.input.Refusal.TheVariants as refusals
+use Rattle.input_answer.specs.declared.input.InputRefusal.{InputRefusal}
+use Rattle.input_answer.specs.declared.input.InputRefusal.TheVariants as refusals
 use Rattle.input_answer.specs.Input.{IsLong, IsShort, HasFileFault, IsOfFile}
 use Rattle.input_answer.specs.Met.{Met, HasRead, ReadFails}
 use Rattle.input_answer.specs.Answer.{InputFile}
@@ -15,14 +15,14 @@ pub record IsInput (input : InputFile) (contents : Option Told) (bytes : List �
   pub short : IsShort input.limit bytes
 
 -- the input was read and is too long, or it couldn't be read
-abbrev pub IsUnreadInput : InputFile → Met → Refusal → Type 0
+abbrev pub IsUnreadInput : InputFile → Met → InputRefusal → Type 0
 IsUnreadInput input met (refusals.Fault fault) =
     (IsOfFile (IsLong input.limit) input.name met.before.contents × HasRead met 1 × (fault ≡ Long input.number))
     ⊎ (ReadFails met 0 × (fault ≡ ReadFailed input.number))
 IsUnreadInput input met refusals.Memory = ⊤
 
 -- the file was read and has this fault, or it couldn't be read
-abbrev pub IsRefusalOf : List ℕ → Met → Refusal → Type 0
+abbrev pub IsRefusalOf : List ℕ → Met → InputRefusal → Type 0
 IsRefusalOf name met (refusals.Fault fault) =
     (IsOfFile (λ bytes. HasFileFault bytes fault) name met.before.contents × HasRead met 1)
     ⊎ (ReadFails met 0 × (fault ≡ ReadFailed 1))

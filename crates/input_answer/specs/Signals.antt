@@ -18,8 +18,8 @@ use Rattle.plan_objects.specs.Faults.{IsFirstSignalFault}
 use Rattle.plan_objects.specs.Answers.{ArePlaced}
 use Rattle.input_answer.specs.declared.fault.RunFault.{RunFault}
 use Rattle.input_answer.specs.declared.fault.RunFault.TheVariants.{Signal, ReadFailed}
-use Rattle.input_answer.specs.declared.input.Refusal.{Refusal}
-use Rattle.input_answer.specs.declared.input.Refusal.TheVariants as refusals
+use Rattle.input_answer.specs.declared.input.InputRefusal.{InputRefusal}
+use Rattle.input_answer.specs.declared.input.InputRefusal.TheVariants as refusals
 use Rattle.input_answer.specs.Input.{HasRows, HasStation, HasFileFault, IsOfFile}
 use Rattle.input_answer.specs.Met.{Met, HasRead, ReadFails}
 
@@ -64,7 +64,7 @@ pub record HasSignalStation (bytes : List ℕ) (g : TrackGraph) (o : EdgeOrder) 
   pub has_signals : HasSignals bytes g signals places
 
 -- what an answer without such a station says of the bytes
-abbrev pub IsSignalRefusal : List ℕ → Refusal → Type 0
+abbrev pub IsSignalRefusal : List ℕ → InputRefusal → Type 0
 IsSignalRefusal bytes (refusals.Fault fault) = HasFault bytes fault
 IsSignalRefusal bytes refusals.Memory = Unit {0}
 
@@ -77,7 +77,7 @@ IsSignalStationOf name contents g o signals places =
     IsOfFile (λ bytes. HasSignalStation bytes g o signals places) name contents
 
 -- the file was read and it or its signals have this fault, or it couldn't be read
-abbrev pub IsSignalRefusalOf : List ℕ → Met → Refusal → Type 0
+abbrev pub IsSignalRefusalOf : List ℕ → Met → InputRefusal → Type 0
 IsSignalRefusalOf name met (refusals.Fault fault) =
     (IsOfFile (λ bytes. HasFault bytes fault) name met.before.contents × HasRead met 1)
     ⊎ (ReadFails met 0 × (fault ≡ ReadFailed 1))

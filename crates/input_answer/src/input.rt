@@ -17,7 +17,7 @@ use track_order::{OrderFault, TrackOrder, derive};
 
 /// Why bytes give no station.
 #[derive(Drop)]
-pub enum Refusal {
+pub enum InputRefusal {
     /// They have this fault.
     Fault(RunFault),
     /// Memory couldn't be had.
@@ -25,7 +25,7 @@ pub enum Refusal {
 }
 
 /// The rows of bytes that aren't too many, or the fault of their text.
-pub(crate) fn rows_in(alloc: Global, bytes: &[u8]) -> Result<Records, Refusal>
+pub(crate) fn rows_in(alloc: Global, bytes: &[u8]) -> Result<Records, InputRefusal>
     requires { length bytes.now ≤ MAX_FILE_BYTES }
     ensures rows { IfOk result (λ rows. HasRows bytes.now rows) }
     ensures formed { IfOk result (λ rows. AreFormed rows) }
@@ -33,13 +33,13 @@ pub(crate) fn rows_in(alloc: Global, bytes: &[u8]) -> Result<Records, Refusal>
 {
     match read(alloc, bytes) {
         Ok(rows) => Ok(rows),
-        Err(ReadFault::Text { what, at }) => Err(Refusal::Fault(RunFault::Text { what, at })),
-        Err(ReadFault::Memory) => Err(Refusal::Memory),
+        Err(ReadFault::Text { what, at }) => Err(InputRefusal::Fault(RunFault::Text { what, at })),
+        Err(ReadFault::Memory) => Err(InputRefusal::Memory),
     }
 }
 
 /// The topology of rows, or their fault.
-pub(crate) fn topology_from(alloc: Global, rows: &Records) -> Result<Topology, Refusal>
+pub(crate) fn topology_from(alloc: Global, rows: &Records) -> Result<Topology, InputRefusal>
     requires { AreFormed rows.now }
     ensures topology { (bytes : List ℕ) → HasRows bytes rows.now → IfOk result (λ t. HasTopology bytes t) }
     ensures resolves { IfOk result (λ t. ResolvesTo rows.now t) }
@@ -55,18 +55,18 @@ pub(crate) fn topology_from(alloc: Global, rows: &Records) -> Result<Topology, R
                 first,
                 second,
             },
-        ) => Err(Refusal::Fault(RunFault::Topology {
+        ) => Err(InputRefusal::Fault(RunFault::Topology {
             what,
             at,
             first,
             second,
         })),
-        Err(ResolveFault::Memory) => Err(Refusal::Memory),
+        Err(ResolveFault::Memory) => Err(InputRefusal::Memory),
     }
 }
 
 /// The topology of bytes that aren't too many, or the first of their faults.
-fn topology_in(alloc: Global, bytes: &[u8]) -> Result<Topology, Refusal>
+fn topology_in(alloc: Global, bytes: &[u8]) -> Result<Topology, InputRefusal>
     requires { length bytes.now ≤ MAX_FILE_BYTES }
     ensures topology { IfOk result (λ t. HasTopology bytes.now t) }
     ensures resolved { IfOk result (λ t. IsResolved t) }
@@ -77,7 +77,7 @@ fn topology_in(alloc: Global, bytes: &[u8]) -> Result<Topology, Refusal>
 }
 
 /// The track graph of a topology, or its fault.
-pub(crate) fn graph_from(alloc: Global, topology: &Topology) -> Result<PortGraph, Refusal>
+pub(crate) fn graph_from(alloc: Global, topology: &Topology) -> Result<PortGraph, InputRefusal>
     requires { IsResolved topology.now }
     ensures graph { (bytes : List ℕ) → HasTopology bytes topology.now → IfOk result (λ g. HasGraph bytes g) }
     ensures built { IfOk result (λ g. IsStationGraphOf topology.now g) }
@@ -85,13 +85,13 @@ pub(crate) fn graph_from(alloc: Global, topology: &Topology) -> Result<PortGraph
 {
     match build(alloc, topology) {
         Ok(graph) => Ok(graph),
-        Err(GraphFault::Memory) => Err(Refusal::Memory),
-        Err(fault) => Err(Refusal::Fault(RunFault::Graph(fault))),
+        Err(GraphFault::Memory) => Err(InputRefusal::Memory),
+        Err(fault) => Err(InputRefusal::Fault(RunFault::Graph(fault))),
     }
 }
 
 /// The track graph of bytes that aren't too many, or the first of their faults.
-fn graph_in(alloc: Global, bytes: &[u8]) -> Result<PortGraph, Refusal>
+fn graph_in(alloc: Global, bytes: &[u8]) -> Result<PortGraph, InputRefusal>
     requires { length bytes.now ≤ MAX_FILE_BYTES }
     ensures graph { IfOk result (λ g. HasGraph bytes.now g) }
     ensures refusal { IfErr result (λ r. IsRefusal bytes.now r) }
@@ -101,14 +101,14 @@ fn graph_in(alloc: Global, bytes: &[u8]) -> Result<PortGraph, Refusal>
 }
 
 /// The order of a graph's edges, or its fault.
-pub(crate) fn order_from(alloc: Global, graph: &PortGraph) -> Result<TrackOrder, Refusal>
+pub(crate) fn order_from(alloc: Global, graph: &PortGraph) -> Result<TrackOrder, InputRefusal>
     ensures order { IfOk result (λ o. IsOrderOf graph.now o) }
     ensures refusal { (bytes : List ℕ) → HasGraph bytes graph.now → IfErr result (λ r. IsRefusal bytes r) }
 {
     match derive(alloc, graph) {
         Ok(order) => Ok(order),
-        Err(OrderFault::Memory) => Err(Refusal::Memory),
-        Err(fault) => Err(Refusal::Fault(RunFault::Order(fault))),
+        Err(OrderFault::Memory) => Err(InputRefusal::Memory),
+        Err(fault) => Err(InputRefusal::Fault(RunFault::Order(fault))),
     }
 }
 
@@ -120,7 +120,7 @@ pub struct Station {
 }
 
 /// The station of bytes that aren't too many, or the first of their faults.
-pub fn station_in(alloc: Global, bytes: &[u8]) -> Result<Station, Refusal>
+pub fn station_in(alloc: Global, bytes: &[u8]) -> Result<Station, InputRefusal>
     requires { length bytes.now ≤ MAX_FILE_BYTES }
     ensures station { IfOk result (λ s. HasStation bytes.now s.graph s.order) }
     ensures refusal { IfErr result (λ r. IsRefusal bytes.now r) }

@@ -24,7 +24,7 @@ mod signals;
 mod status;
 
 pub use fault::RunFault;
-pub use input::{Refusal, Station, station_in};
+pub use input::{InputRefusal, Station, station_in};
 pub use laws::{one_fault, one_graph, one_status_to_a_number, station_or_fault};
 pub use printing::print;
 pub use reading::{bytes_of, signals_of, station_of};

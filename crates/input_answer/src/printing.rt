@@ -6,7 +6,7 @@ ghost use Rattle.input_answer.specs.Status.{IsAnswered};
 ghost use Rattle.input_answer.specs.Met.{between, ReadsInputs, IsUnwritten};
 ghost use Rattle.input_answer.specs.Answer.{IsPrinted, IsFileJudged, IsAnswerToFile};
 
-use crate::input::{Refusal, Station};
+use crate::input::{InputRefusal, Station};
 use crate::reading::station_of;
 use crate::reply::{Reply, fault_reply};
 use crate::status::Status;
@@ -41,7 +41,7 @@ pub fn print<F: Files>(alloc: Global, input: &Text, files: &mut F) -> Result<Rep
 {
     match station_of(alloc, input, files) {
         Ok(station) => print_station(alloc, &station),
-        Err(Refusal::Fault(fault)) => fault_reply(alloc, fault),
-        Err(Refusal::Memory) => Err(OutOfMemory),
+        Err(InputRefusal::Fault(fault)) => fault_reply(alloc, fault),
+        Err(InputRefusal::Memory) => Err(OutOfMemory),
     }
 }

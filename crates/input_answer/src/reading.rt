@@ -11,7 +11,7 @@ ghost use Rattle.input_answer.specs.Reading.{IsInput, IsUnreadInput, IsRefusalOf
 ghost use Rattle.input_answer.specs.Signals.{IsSignalStationOf, IsSignalRefusalOf};
 
 use crate::fault::RunFault;
-use crate::input::{Refusal, Station, station_in};
+use crate::input::{InputRefusal, Station, station_in};
 use crate::signals::{SignalStation, signals_in};
 use outside_io::{FileFault, Files};
 use plan_core::{MAX_FILE_BYTES, MAX_LOG_BYTES, Text};
@@ -32,7 +32,7 @@ pub fn bytes_of<F: Files>(
     limit: usize,
     name: &Text,
     files: &mut F,
-) -> Result<Vec<u8>, Refusal>
+) -> Result<Vec<u8>, InputRefusal>
     requires { limit ≤ MAX_LOG_BYTES }
     ensures bytes { IfOk result (λ v. IsInput (input_file number name.now limit) (F.at files.old).contents v.items) }
     ensures refusal { let met = between (F.at files.old) (F.at files.new) in
@@ -47,17 +47,21 @@ pub fn bytes_of<F: Files>(
     match files.read_front(name.as_str(), limit + 1, &mut bytes) {
         Ok(()) => {
             if is_long(&bytes, limit) {
-                return Err(Refusal::Fault(RunFault::Long(number)));
+                return Err(InputRefusal::Fault(RunFault::Long(number)));
             }
             Ok(bytes)
         }
-        Err(FileFault::Failed) => Err(Refusal::Fault(RunFault::ReadFailed(number))),
-        Err(FileFault::Memory) => Err(Refusal::Memory),
+        Err(FileFault::Failed) => Err(InputRefusal::Fault(RunFault::ReadFailed(number))),
+        Err(FileFault::Memory) => Err(InputRefusal::Memory),
     }
 }
 
 /// The station of the file of this name, or its first fault, or that it couldn't be read.
-pub fn station_of<F: Files>(alloc: Global, input: &Text, files: &mut F) -> Result<Station, Refusal>
+pub fn station_of<F: Files>(
+    alloc: Global,
+    input: &Text,
+    files: &mut F,
+) -> Result<Station, InputRefusal>
     ensures station { IfOk result (λ s. IsStationOf input.now (F.at files.old).contents s.graph s.order) }
     ensures order { IfOk result (λ s. IsOrderOf s.graph s.order) }
     ensures refusal { let met = between (F.at files.old) (F.at files.new) in
@@ -80,7 +84,7 @@ pub fn signals_of<F: Files>(
     alloc: Global,
     input: &Text,
     files: &mut F,
-) -> Result<SignalStation, Refusal>
+) -> Result<SignalStation, InputRefusal>
     ensures station { IfOk result (λ s. IsSignalStationOf input.now (F.at files.old).contents s.station.graph
         s.station.order
         s.signals s.placed) }

@@ -11,7 +11,7 @@ ghost use Rattle.input_answer.specs.Input.{HasStation, IsRefusal};
 ghost use Rattle.input_answer.specs.Signals.{AreSignalsBeside, HasSignalStation, IsSignalRefusal};
 
 use crate::fault::RunFault;
-use crate::input::{Refusal, Station, graph_from, order_from, rows_in, topology_from};
+use crate::input::{InputRefusal, Station, graph_from, order_from, rows_in, topology_from};
 use plan_core::{MAX_FILE_BYTES, Topology};
 use plan_objects::{ObjectFault, Placed, objects};
 use port_graph::PortGraph;
@@ -19,7 +19,7 @@ use railml_read::{ReadFault, Records, SignalRows, read_signals};
 use std::alloc::Global;
 
 /// The signals of bytes that aren't too many, or the fault of their text.
-fn signal_rows_in(alloc: Global, bytes: &[u8]) -> Result<SignalRows, Refusal>
+fn signal_rows_in(alloc: Global, bytes: &[u8]) -> Result<SignalRows, InputRefusal>
     requires { length bytes.now ≤ MAX_FILE_BYTES }
     ensures signals { IfOk result (λ signals. GivesSignals bytes.now signals) }
     ensures rising { IfOk result (λ signals. AreRising signals) }
@@ -27,8 +27,8 @@ fn signal_rows_in(alloc: Global, bytes: &[u8]) -> Result<SignalRows, Refusal>
 {
     match read_signals(alloc, bytes) {
         Ok(signals) => Ok(signals),
-        Err(ReadFault::Text { what, at }) => Err(Refusal::Fault(RunFault::Text { what, at })),
-        Err(ReadFault::Memory) => Err(Refusal::Memory),
+        Err(ReadFault::Text { what, at }) => Err(InputRefusal::Fault(RunFault::Text { what, at })),
+        Err(ReadFault::Memory) => Err(InputRefusal::Memory),
     }
 }
 
@@ -39,7 +39,7 @@ fn placed_on(
     rows: &Records,
     topology: &Topology,
     graph: &PortGraph,
-) -> Result<Placed, Refusal>
+) -> Result<Placed, InputRefusal>
     requires file { AreOfOneFile rows.now topology.now signals.now }
     requires graph { IsStationGraphOf topology.now graph.now }
     ensures placed { IfOk result (λ p. ArePlaced (station rows.now topology.now graph.now) signals.now p) }
@@ -51,9 +51,9 @@ fn placed_on(
     match objects(alloc, signals, rows, topology, graph) {
         Ok(placed) => Ok(placed),
         Err(ObjectFault::Signal { what, at, first }) => {
-            Err(Refusal::Fault(RunFault::Signal { what, at, first }))
+            Err(InputRefusal::Fault(RunFault::Signal { what, at, first }))
         }
-        Err(ObjectFault::Memory) => Err(Refusal::Memory),
+        Err(ObjectFault::Memory) => Err(InputRefusal::Memory),
     }
 }
 
@@ -67,7 +67,7 @@ pub struct SignalStation {
 
 /// The station and the signals of bytes that aren't too many, or the first of their faults: one of the file's before
 /// one of the signals'. The rows and the topology are kept until the signals have their places.
-pub fn signals_in(alloc: Global, bytes: &[u8]) -> Result<SignalStation, Refusal>
+pub fn signals_in(alloc: Global, bytes: &[u8]) -> Result<SignalStation, InputRefusal>
     requires { length bytes.now ≤ MAX_FILE_BYTES }
     ensures station { IfOk result (λ s. HasSignalStation bytes.now s.station.graph s.station.order s.signals s.placed) }
     ensures order { IfOk result (λ s. IsOrderOf s.station.graph s.station.order) }

@@ -15,7 +15,7 @@ ghost use Rattle.sheet_answer.specs.Checked.{IsFoundBroken, IsSheetAnswer, IsCla
 
 use crate::verdict::broken_reply;
 use input_answer::{
-    Refusal as Unread, Reply, RunFault, Station, Status, bytes_of, fault_reply, station_in,
+    InputRefusal, Reply, RunFault, Station, Status, bytes_of, fault_reply, station_in,
 };
 use line_text::{push_field, push_number_field, push_place_field, push_text};
 use log_check::{Claim, Refusal, Verdict, judge_log};
@@ -199,8 +199,8 @@ fn judge(alloc: Global, bytes: &[u8], sheet: &[u8], log: &[u8]) -> Result<Reply,
 {
     match station_in(alloc, bytes) {
         Ok(station) => judge_sheet(alloc, &station, sheet, log),
-        Err(Unread::Fault(fault)) => fault_reply(alloc, fault),
-        Err(Unread::Memory) => Err(OutOfMemory),
+        Err(InputRefusal::Fault(fault)) => fault_reply(alloc, fault),
+        Err(InputRefusal::Memory) => Err(OutOfMemory),
     }
 }
 
@@ -226,8 +226,8 @@ fn check_sheet<F: Files>(
 {
     match bytes_of(alloc, 3, MAX_LOG_BYTES, log, files) {
         Ok(log) => judge(alloc, bytes, sheet, &log),
-        Err(Unread::Fault(fault)) => fault_reply(alloc, fault),
-        Err(Unread::Memory) => Err(OutOfMemory),
+        Err(InputRefusal::Fault(fault)) => fault_reply(alloc, fault),
+        Err(InputRefusal::Memory) => Err(OutOfMemory),
     }
 }
 
@@ -251,8 +251,8 @@ fn check_file<F: Files>(
 {
     match bytes_of(alloc, 2, MAX_FILE_BYTES, sheet, files) {
         Ok(sheet) => check_sheet(alloc, bytes, &sheet, log, files),
-        Err(Unread::Fault(fault)) => fault_reply(alloc, fault),
-        Err(Unread::Memory) => Err(OutOfMemory),
+        Err(InputRefusal::Fault(fault)) => fault_reply(alloc, fault),
+        Err(InputRefusal::Memory) => Err(OutOfMemory),
     }
 }
 
@@ -274,7 +274,7 @@ pub fn check<F: Files>(
 {
     match bytes_of(alloc, 1, MAX_FILE_BYTES, input, files) {
         Ok(bytes) => check_file(alloc, &bytes, sheet, log, files),
-        Err(Unread::Fault(fault)) => fault_reply(alloc, fault),
-        Err(Unread::Memory) => Err(OutOfMemory),
+        Err(InputRefusal::Fault(fault)) => fault_reply(alloc, fault),
+        Err(InputRefusal::Memory) => Err(OutOfMemory),
     }
 }

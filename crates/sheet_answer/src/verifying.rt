@@ -9,7 +9,7 @@ ghost use Rattle.sheet_answer.specs.Verdict.{IsVerified};
 ghost use Rattle.sheet_answer.specs.Verdict.{IsSheetJudged};
 
 use crate::verdict::verdict;
-use input_answer::{Refusal, Reply, RunFault, Station, bytes_of, fault_reply, station_in};
+use input_answer::{InputRefusal, Reply, RunFault, Station, bytes_of, fault_reply, station_in};
 use outside_io::Files;
 use plan_core::{MAX_FILE_BYTES, OutOfMemory, Text};
 use plan_text::{SheetFault, read_drawing};
@@ -36,8 +36,8 @@ fn judge(alloc: Global, bytes: &[u8], sheet: &[u8]) -> Result<Reply, OutOfMemory
 {
     match station_in(alloc, bytes) {
         Ok(station) => judge_sheet(alloc, &station, sheet),
-        Err(Refusal::Fault(fault)) => fault_reply(alloc, fault),
-        Err(Refusal::Memory) => Err(OutOfMemory),
+        Err(InputRefusal::Fault(fault)) => fault_reply(alloc, fault),
+        Err(InputRefusal::Memory) => Err(OutOfMemory),
     }
 }
 
@@ -60,8 +60,8 @@ fn verify_bytes<F: Files>(
 {
     match bytes_of(alloc, 2, MAX_FILE_BYTES, sheet, files) {
         Ok(sheet) => judge(alloc, bytes, &sheet),
-        Err(Refusal::Fault(fault)) => fault_reply(alloc, fault),
-        Err(Refusal::Memory) => Err(OutOfMemory),
+        Err(InputRefusal::Fault(fault)) => fault_reply(alloc, fault),
+        Err(InputRefusal::Memory) => Err(OutOfMemory),
     }
 }
 
@@ -83,7 +83,7 @@ pub fn verify<F: Files>(
 {
     match bytes_of(alloc, 1, MAX_FILE_BYTES, input, files) {
         Ok(bytes) => verify_bytes(alloc, &bytes, sheet, files),
-        Err(Refusal::Fault(fault)) => fault_reply(alloc, fault),
-        Err(Refusal::Memory) => Err(OutOfMemory),
+        Err(InputRefusal::Fault(fault)) => fault_reply(alloc, fault),
+        Err(InputRefusal::Memory) => Err(OutOfMemory),
     }
 }

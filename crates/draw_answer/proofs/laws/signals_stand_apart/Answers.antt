@@ -1,0 +1,27 @@
+use Rattle.std.proofs.Common.{ℕ, ◌<◌, List, None, Some, length, refl}
+use Rattle.std.specs.Prelude.{IfSome}
+use Rattle.std.specs.declared.option.Option.{Option}
+use Rattle.plan_core.specs.Drawing.{Drawing}
+use Rattle.plan_objects.specs.declared.places.SignalPlace.{SignalPlace}
+use Rattle.plan_objects.specs.Rows.{station}
+use Rattle.plan_objects.specs.Spread.{HasRoomFor}
+use Rattle.plan_objects.specs.SignalsText.{line_under}
+use Rattle.plan_objects.proofs.ExactLemmas.{edges_there}
+use Rattle.plan_objects.proofs.SpreadLemmas.{spread_at}
+use Rattle.draw_answer.specs.Signalled.{job_for, StandApart}
+use Rattle.draw_answer.specs.Drawn.{found_by}
+use Rattle.draw_answer.proofs.SignalledLemmas.{least_is_need, found_has_room}
+use Rattle.draw_answer.proofs.laws.signals_stand_apart.Goals as goal
+
+apart : (places : List SignalPlace) (found : Option Drawing) → IfSome found (λ d. (i : ℕ) → i < length places → HasRoomFor places d i) → StandApart places found
+apart places None room = tt
+apart places (Some d) room = λ i there. let r = room i there in spread_at places (line_under places d i) i there r.long
+
+pub returns : goal.returns
+returns c = λ asked met traced bytes status text a.
+    let found = a.has.has_signals in
+    let longer = job_for a.places asked in
+    let drawn = a.signalled.answer.drawn in
+    let there = edges_there (station found.rows found.topology a.graph) a.signals a.places found.beside.built found.placed.are in
+    apart a.places (found_by drawn.outcome)
+    (found_has_room a.graph a.order longer a.places drawn.outcome drawn.searched.lines drawn.searched.ended (least_is_need a.places longer refl) there)
