@@ -1,5 +1,5 @@
 -- The files that a command writes have different names.
-use Rattle.std.proofs.Common.{◌≡◌, ℕ, List, None, Some, refl, sym, arith}
+use Rattle.std.proofs.Common.{ℕ, List, None, Some, refl, sym, arith}
 use Rattle.plan_words.specs.declared.command.Command.{Command}
 use Rattle.plan_words.specs.declared.command.Command.TheVariants.{Draw, Verify, Check, Graph as PrintGraph, Make, Trial, Signals}
 use Rattle.plan_words.specs.Words.{IsCommandOf}

@@ -25,11 +25,10 @@ use Rattle.log_check.specs.declared.verdict.Verdict.TheVariants as verdicts
 use Rattle.log_check.specs.Judged.{IsLogJudged}
 use Rattle.plan_words.proofs.AnswerLemmas.{command_same, command_or_fault}
 use Rattle.input_answer.specs.declared.fault.RunFault.{RunFault}
-use Rattle.input_answer.specs.declared.fault.RunFault.TheVariants.{Words, Long, Text, Topology, Graph as GraphFault, Order, Sheet, Log, ReadFailed}
+use Rattle.input_answer.specs.declared.fault.RunFault.TheVariants.{Long}
 use Rattle.input_answer.specs.declared.status.Status.{Status}
 use Rattle.input_answer.specs.declared.status.Status.TheVariants.{Done, Refused, WordsRefused, NoDrawing, Unfinished, Unread, Broken}
 use Rattle.input_answer.specs.Status.{IsCutShort}
-use Rattle.input_answer.specs.Fault.{fault_status}
 use Rattle.input_answer.specs.Input.{IsLong, IsShort, HasStation, HasFileFault}
 use Rattle.input_answer.specs.Met.{Met, ReadFails}
 use Rattle.sheet_answer.specs.Verdict.{IsVerdict, IsSheetJudged, IsSoundSheet}

@@ -1,6 +1,6 @@
 -- What differs by command, a row for each: what it reads and writes, what it may leave, what it owes, how it may end,
 -- and when its inputs are sound.
-use Rattle.std.specs.Prelude.{◌≡◌, ◌≢◌, ◌⊎◌, ℕ, ⊤, Bool, false, true, List, [], ◌∷◌, ◌++◌, AllPairs, Some, None}
+use Rattle.std.specs.Prelude.{◌≡◌, ◌≢◌, ◌⊎◌, ℕ, ⊤, Bool, false, true, List, [], ◌∷◌, ◌++◌, Some, None}
 use Rattle.std.specs.declared.option.Option.{Option}
 use Rattle.outside_io.specs.Contents.{Told, TellsAt}
 use Rattle.plan_core.specs.declared.limits.TheConstants.{MAX_FILE_BYTES, MAX_LOG_BYTES}
@@ -20,14 +20,13 @@ use Rattle.input_answer.specs.Signals.{HasFault}
 use Rattle.sheet_answer.specs.Verdict.{IsSoundSheet}
 use Rattle.input_answer.specs.Met.{Met}
 use Rattle.input_answer.specs.Answer.{InputFile, text_input, log_input, IsPrinted, IsFileJudged, IsAnswerAfter}
-use Rattle.input_answer.specs.Answer.{IsAnswerOn, HasReadStation}
+use Rattle.input_answer.specs.Answer.{IsAnswerOn, IsAnswerToFile, HasReadStation}
 use Rattle.sheet_answer.specs.Verdict.{IsVerified}
-use Rattle.draw_answer.specs.SearchLog.{IsLogOf}
 use Rattle.draw_answer.specs.Written.{file_named}
 use Rattle.draw_answer.specs.Drawn.{job, IsDrawAnswer, IsLeftByDraw}
 use Rattle.draw_answer.specs.Signalled.{IsSignalFileJudged, HasReadSignals, IsLeftBySignals}
 use Rattle.draw_answer.specs.Tried.{IsMade, IsTried}
-use Rattle.sheet_answer.specs.Checked.{IsChecked}
+use Rattle.sheet_answer.specs.Checked.{IsCheckAnswer}
 
 -- ---- what it reads and writes
 
@@ -101,21 +100,16 @@ MayLeave (Signals input grid order budget log) met traced name bytes =
 -- read
 abbrev pub Owes : Command → Met → (traced : Lines → Type 0) → Status → List ℕ → Type 0
 Owes (Draw input grid order budget svg log) met traced status text =
-    IsAnswerOn (text_input 1 input) 0 met (IsAnswerAfter 1 met
-    (IsFileJudged (IsDrawAnswer (job grid order budget svg log) met traced))) status text
-Owes (PrintGraph input) met traced status text =
-    IsAnswerOn (text_input 1 input) 0 met (IsAnswerAfter 1 met (IsFileJudged IsPrinted)) status text
+    IsAnswerToFile input met (IsFileJudged (IsDrawAnswer (job grid order budget svg log) met traced)) status text
+Owes (PrintGraph input) met traced status text = IsAnswerToFile input met (IsFileJudged IsPrinted) status text
 Owes (Verify input sheet) met traced status text =
     IsAnswerOn (text_input 1 input) 0 met (λ bytes. IsAnswerOn (text_input 2 sheet) 1 met
     (IsAnswerAfter 2 met (IsVerified bytes))) status text
-Owes (Check input sheet log) met traced status text =
-    IsAnswerOn (text_input 1 input) 0 met (λ bytes. IsAnswerOn (text_input 2 sheet) 1 met
-    (λ said. IsAnswerOn (log_input 3 log) 2 met (IsAnswerAfter 3 met (IsChecked bytes said)))) status text
+Owes (Check input sheet log) met traced status text = IsCheckAnswer input sheet log met status text
 Owes (Make n) met traced status text = IsMade n status text
 Owes (Trial n) met traced status text = IsFileJudged (IsTried n traced) (station_text n) status text
 Owes (Signals input grid order budget log) met traced status text =
-    IsAnswerOn (text_input 1 input) 0 met (IsAnswerAfter 1 met
-    (IsSignalFileJudged (job grid order budget None log) met traced)) status text
+    IsAnswerToFile input met (IsSignalFileJudged (job grid order budget None log) met traced) status text
 
 -- ---- how it ends
 

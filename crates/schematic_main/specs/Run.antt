@@ -1,9 +1,8 @@
 -- What a run owes, by its words: what their command owes, or the line of their fault.
-use Rattle.std.specs.Prelude.{◌≡◌, ◌≢◌, ℕ, ◌<◌, ◌⊎◌, List, [], length, Some}
+use Rattle.std.specs.Prelude.{◌≡◌, ℕ, ◌<◌, ◌⊎◌, List, [], length, Some}
 use Rattle.std.specs.declared.option.Option.{Option}
 use Rattle.std.specs.Io.KnownBytes.{Appends, Keeps}
 use Rattle.outside_io.specs.Contents.{Told}
-use Rattle.outside_io.specs.Counts.{Rose}
 use Rattle.outside_io.specs.Given.{AppendsPrefix}
 use Rattle.plan_core.specs.declared.limits.TheConstants.{MAX_LOG_BYTES}
 use Rattle.plan_words.specs.declared.command.Command.{Command}

@@ -1,9 +1,8 @@
 // What each command answers.
 ghost use Rattle.std.specs.Prelude.{◌≡◌, ◌≤◌, ◌⊎◌, [], IfOk, IsOkAnd, IsErrOf, length};
 ghost use Rattle.outside_io.specs.Counts.{Rose};
-ghost use Rattle.outside_io.specs.Contents.{WhereTold};
 ghost use Rattle.input_answer.specs.Status.{IsAnswered, IsRefused};
-ghost use Rattle.input_answer.specs.Met.{between, ReadsInputs, IsUnread, IsUnwritten, Leaves};
+ghost use Rattle.input_answer.specs.Met.{between, ReadsInputs, IsUnread, IsUnwritten, HasLeft};
 ghost use Rattle.refute_log.specs.ToldTo.{told_to};
 ghost use Rattle.schematic_main.specs.Commands.{inputs_of, outputs_of, MayWrite, MayTell, MayLeave, Owes};
 ghost use Rattle.draw_answer.specs.Written.{AreFilesApart};
@@ -36,8 +35,8 @@ pub fn answer_to<F: Files, T: LogSink>(
         IsOkAnd result (λ r. IsRefused r.status) ⊎ (MayWrite command.now met → ⊥) → IsUnwritten met }
     ensures leaves { let met = between (F.at files.old) (F.at files.new) in
         let told = told_to T.tells T.learnt trace.old trace.new in
-        WhereTold (F.at files.old).contents (F.at files.new).contents (Leaves (λ name bytes. (IsOkAnd result (λ r.
-        IsRefused r.status) → ⊥) × MayLeave command.now met told name bytes)) }
+        HasLeft met (λ name bytes. (IsOkAnd result (λ r. IsRefused r.status) → ⊥)
+        × MayLeave command.now met told name bytes) }
     ensures cause { let met = between (F.at files.old) (F.at files.new) in
         IsErrOf result Cut.Unwritten → CommandFailsToWrite command.now met (Rose (T.faults trace.old) (T.faults
         trace.new)) }

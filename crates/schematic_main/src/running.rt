@@ -1,11 +1,10 @@
 // The top call.
 ghost use Rattle.std.specs.Prelude.{◌≡◌, ◌⊎◌, length, IfOk, IsOkAnd, IsErrOf};
 ghost use Rattle.outside_io.specs.Counts.{Rose};
-ghost use Rattle.outside_io.specs.Contents.{WhereTold};
 ghost use Rattle.plan_words.specs.Arguments.{texts_of};
 ghost use Rattle.input_answer.specs.Status.{IsAnswered, IsRefused, IsCutShort, EndsAs};
 ghost use Rattle.refute_log.specs.ToldTo.{told_to};
-ghost use Rattle.input_answer.specs.Met.{between, ReadsInputs, IsUnread, IsUnwritten, Leaves};
+ghost use Rattle.input_answer.specs.Met.{between, ReadsInputs, IsUnread, IsUnwritten, HasLeft};
 ghost use Rattle.schematic_main.specs.Commands.{inputs_of};
 ghost use Rattle.schematic_main.specs.Run.{Asks, WhereAsked, IsAnswerDue, IsSomeAnswerDue, Completes, GivenAll};
 ghost use Rattle.schematic_main.specs.Run.{GivenPrefix, ReadsNothing, FailsIn, WritesNothing, RunMayLeave};
@@ -37,8 +36,7 @@ fn reply_to<F: Files, T: LogSink>(
         IsUnwritten met }
     ensures leaves { let met = between (F.at files.old) (F.at files.new) in
         let told = told_to T.tells T.learnt trace.old trace.new in
-        WhereTold met.before.contents met.after.contents
-        (Leaves (RunMayLeave (texts_of words.now) (IsOkAnd result (λ r. IsRefused r.status)) met told)) }
+        HasLeft met (RunMayLeave (texts_of words.now) (IsOkAnd result (λ r. IsRefused r.status)) met told) }
     ensures cause { let met = between (F.at files.old) (F.at files.new) in
         IsErrOf result Cut.Unwritten → Asks (texts_of words.now) (λ command.
         CommandFailsToWrite command met (Rose (T.faults trace.old) (T.faults trace.new))) }
@@ -90,8 +88,7 @@ fn carry_out<F: Files, O: Sink, T: LogSink>(
         IsUnwritten met }
     ensures leaves { let met = between (F.at files.old) (F.at files.new) in
         let told = told_to T.tells T.learnt trace.old trace.new in
-        WhereTold met.before.contents met.after.contents
-        (Leaves (RunMayLeave (texts_of words.now) (IsRefused result) met told)) }
+        HasLeft met (RunMayLeave (texts_of words.now) (IsRefused result) met told) }
     ensures traced { T.is_later trace.old trace.new }
     ensures untold { let met = between (F.at files.old) (F.at files.new) in
         IsRefused result ⊎ TellsNothing (texts_of words.now) met →
@@ -120,26 +117,22 @@ pub fn run<F: Files, O: Sink, T: LogSink>(
     // Every run that isn't cut short has put a whole text: what its command, or the fault of its words, owes with its
     // status.
     ensures answer { let met = between (F.at files.old) (F.at files.new) in
-        let told = told_to T.tells T.learnt trace.old trace.new in
-        EndsAs result (λ status. (IsCutShort status → ⊥) →
-        GivenAll (O.given out.old) (O.given out.new) (IsAnswerDue (texts_of words.now) met told status)) }
+        EndsAs result (λ status. (IsCutShort status → ⊥) → GivenAll (O.given out.old) (O.given out.new)
+        (IsAnswerDue (texts_of words.now) met (told_to T.tells T.learnt trace.old trace.new) status)) }
     // One that is cut short has put nothing, or a prefix of a text that this run may answer.
     ensures cut_short { let met = between (F.at files.old) (F.at files.new) in
-        let told = told_to T.tells T.learnt trace.old trace.new in
-        EndsAs result (λ status. IsCutShort status →
-        GivenPrefix (O.given out.old) (O.given out.new) (IsSomeAnswerDue (texts_of words.now) met told)) }
+        EndsAs result (λ status. IsCutShort status → GivenPrefix (O.given out.old) (O.given out.new)
+        (IsSomeAnswerDue (texts_of words.now) met (told_to T.tells T.learnt trace.old trace.new))) }
 
     // The causes of the faults from outside, and how a run ends where there is none.
     ensures read_fault { let met = between (F.at files.old) (F.at files.new) in
         EndsAs result (λ status. status ≡ Status.Unread → Asks (texts_of words.now) (λ command. FailsIn command met)) }
     ensures write_fault { let met = between (F.at files.old) (F.at files.new) in
-        let put_rose = Rose (O.faults out.old) (O.faults out.new) in
-        EndsAs result (λ status. status ≡ Status.Unwritten →
-        WriteFails (texts_of words.now) met put_rose (Rose (T.faults trace.old) (T.faults trace.new))) }
+        EndsAs result (λ status. status ≡ Status.Unwritten → WriteFails (texts_of words.now) met
+        (Rose (O.faults out.old) (O.faults out.new)) (Rose (T.faults trace.old) (T.faults trace.new))) }
     ensures completes { let met = between (F.at files.old) (F.at files.new) in
-        let put_rose = Rose (O.faults out.old) (O.faults out.new) in
-        let trace_rose = Rose (T.faults trace.old) (T.faults trace.new) in
-        EndsAs result (Completes (texts_of words.now) met put_rose trace_rose) }
+        EndsAs result (Completes (texts_of words.now) met (Rose (O.faults out.old) (O.faults out.new))
+        (Rose (T.faults trace.old) (T.faults trace.new))) }
 
     // No more reads are done than there are inputs, as many where the run is answered, and none where the words ask for
     // no command that reads a file.
@@ -150,15 +143,13 @@ pub fn run<F: Files, O: Sink, T: LogSink>(
 
     // No file is written but those that the words name for it, and none by a run that is refused or has nothing to
     // search. With every status one that is named for a log begins a log's text, and one for a picture that of the
-    // drawing with which a
-    // search of the file's station ended; or it stands as it stood.
+    // drawing with which a search of the file's station ended; or it stands as it stood.
     ensures unwritten { let met = between (F.at files.old) (F.at files.new) in
         EndsAs result (λ status. IsRefused status ⊎ WritesNothing (texts_of words.now) met →
         IsUnwritten met) }
     ensures leaves { let met = between (F.at files.old) (F.at files.new) in
         let told = told_to T.tells T.learnt trace.old trace.new in
-        EndsAs result (λ status. WhereTold met.before.contents met.after.contents
-        (Leaves (RunMayLeave (texts_of words.now) (IsRefused status) met told))) }
+        EndsAs result (λ status. HasLeft met (RunMayLeave (texts_of words.now) (IsRefused status) met told)) }
 
     // The trace goes on from what it was told before, and is told nothing but where there is something to search.
     ensures traced { T.is_later trace.old trace.new }
