@@ -1,7 +1,7 @@
 """pages/run.py LAUNCHER PAGE [--unproved] WORDS..
 
-Runs the words, which are those of draw, signals or verify, and writes the page of the run. What the program puts and how it ends stay
-as they are; a page is written whole or not at all, and none where a fault was put."""
+Runs the words, which are those of draw, signals or verify, and writes the page of the run. What the program puts and how it ends
+stay as they are; a page is written whole or not at all, and none where a fault was put."""
 import os
 import signal
 import subprocess

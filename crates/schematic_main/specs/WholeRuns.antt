@@ -1,5 +1,5 @@
--- Whole runs, none of whose reads failed, and what they found: of verify and check on files whose contents are told, and
--- of draw, before check of what it put and left. What a trace was told plays no part.
+-- Whole runs, none of whose reads failed, and what they found: of verify and check on files whose contents are told,
+-- and of draw, before check of what it put and left. What a trace was told plays no part.
 use Rattle.std.specs.Prelude.{◌≢◌, ℕ, ⊤, List, None, Some}
 use Rattle.std.specs.declared.option.Option.{Option}
 use Rattle.outside_io.specs.Contents.{Told}
