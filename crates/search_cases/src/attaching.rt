@@ -1,10 +1,13 @@
 // Clauses that are attached, and literals that are decided.
-ghost use Rattle.std.specs.Prelude.{◌≡◌, ◌≢◌, ◌≤◌, ◌+◌, ◌*◌, [], Contains, IfSome, length};
+ghost use Rattle.std.specs.Prelude.{◌≡◌, ◌≢◌, ◌≤◌, ◌+◌, ◌*◌, [], Contains, IfSome, OnOk, length};
 ghost use Rattle.cnf_core.specs.Clause.{AreDistinct, AreThere, IsThere};
 ghost use Rattle.watch_arena.specs.Arena.{AreReasoned, AreWatched, IsClashOf};
 
+use crate::written::clause;
 use cnf_core::{Lit, Var};
+use std::alloc::Global;
 use std::process::Abort;
+use std::test::Fail;
 use watch_arena::{Arena, ClauseRef, Trail};
 
 /// Attaches a clause, on a trail without literals.
@@ -21,6 +24,29 @@ pub fn join(rt: &impl Abort, arena: &mut Arena, trail: &Trail, lits: &[Lit])
     ensures vars { arena.new.vars ≡ arena.old.vars }
 {
     let _clause = arena.attach(lits, trail).expect(rt, "room");
+}
+
+/// Attaches clauses, on a trail without literals.
+pub fn join_all(
+    rt: &impl Abort,
+    alloc: Global,
+    arena: &mut Arena,
+    trail: &Trail,
+    clauses: &[&[i32]],
+) -> Result<(), Fail>
+    requires vars { trail.now.vars ≡ arena.old.vars }
+    requires watched { AreWatched arena.old trail.now }
+    requires reasoned { AreReasoned arena.old trail.now }
+    requires empty { trail.now.lits ≡ [] }
+    ensures watched { OnOk result (AreWatched arena.new trail.now) }
+    ensures reasoned { OnOk result (AreReasoned arena.new trail.now) }
+    ensures vars { OnOk result (arena.new.vars ≡ arena.old.vars) }
+{
+    for numbers in clauses {
+        let lits = clause(alloc, trail.vars(), numbers)?;
+        join(rt, arena, trail, lits.as_slice());
+    }
+    Ok(())
 }
 
 /// Attaches so many clauses of two positive literals, over neighbouring variables.

@@ -1,14 +1,17 @@
 // Made conflicts: the learnt clause, and a false literal traced back.
-ghost use Rattle.std.specs.Prelude.{◌≡◌, true};
+ghost use Rattle.std.specs.Prelude.{◌≡◌, true, OnOk};
 ghost use Rattle.cnf_core.specs.Clause.{IsThere};
 ghost use Rattle.watch_arena.specs.Arena.{AreReasoned, AreWatched, IsClashOf};
 ghost use Rattle.cdcl_learn.specs.Sight.{sight};
 ghost use Rattle.cdcl_learn.specs.Cut.{IsConflict};
 
-use crate::attaching::{decide, join};
+use crate::attaching::{decide, join_all};
+use crate::written::{literal, number_of, spaced};
 use cdcl_learn::Analyser;
-use cnf_core::{Lit, Var};
+use cnf_core::Lit;
+use std::alloc::Global;
 use std::process::Abort;
+use std::test::Fail;
 use watch_arena::{Arena, ClauseRef, Trail};
 
 /// Whether a clause all of whose literals are false has one of the present level, above 0.
@@ -79,144 +82,165 @@ fn learn_from(
     }
 }
 
-/// Whether the latest analysis met a variable.
-fn has_met(analyser: &Analyser, v: u32) -> bool {
+/// Decides literals, from which no clause is falsified.
+fn decide_all(
+    rt: &impl Abort,
+    arena: &mut Arena,
+    trail: &mut Trail,
+    decided: &[i32],
+) -> Result<(), Fail>
+    requires same { trail.old.vars ≡ arena.old.vars }
+    requires watched { AreWatched arena.old trail.old }
+    requires reasoned { AreReasoned arena.old trail.old }
+    ensures vars { OnOk result (trail.new.vars ≡ trail.old.vars) }
+    ensures same { OnOk result (trail.new.vars ≡ arena.new.vars) }
+    ensures watched { OnOk result (AreWatched arena.new trail.new) }
+    ensures reasoned { OnOk result (AreReasoned arena.new trail.new) }
+{
+    for number in decided {
+        let l = literal(trail.vars(), *number)?;
+        if decide(rt, arena, trail, l).is_some() {
+            return Err(Fail::new("no clause is false"));
+        }
+    }
+    Ok(())
+}
+
+/// The literals of the latest analysis, in their order.
+fn literals_of(alloc: Global, analyser: &Analyser) -> Result<Vec<i64>, Fail> {
+    let mut numbers = Vec::new(alloc);
+    for i in 0..analyser.len() {
+        numbers.push(number_of(analyser.lit(i)))?;
+    }
+    Ok(numbers)
+}
+
+/// The variables that the latest analysis met, rising.
+fn met_by(alloc: Global, analyser: &Analyser) -> Result<Vec<i64>, Fail> {
+    let mut numbers = Vec::new(alloc);
     for i in 0..analyser.seen_len() {
-        if analyser.seen(i).0 == v {
-            return true;
-        }
+        numbers.push(i64::from(analyser.seen(i).0))?;
     }
-    false
+    numbers.sort()?;
+    Ok(numbers)
 }
 
-/// Whether the latest analysis learnt these literals, in their order, leaves this level, and met so many variables.
-fn has_learnt(analyser: &Analyser, lits: &[Lit], back: u32, met: u32) -> bool {
-    let len = analyser.len();
-    if len as usize != lits.len() {
-        return false;
+/// The clause that was learnt, the level to which it jumps back, and the variables that were met.
+fn learnt_told(alloc: Global, analyser: &Analyser) -> Result<String, Fail> {
+    let lits = literals_of(alloc, analyser)?;
+    let met = met_by(alloc, analyser)?;
+    let clause = spaced(alloc, lits.as_slice())?;
+    let vars = spaced(alloc, met.as_slice())?;
+    Ok(format!(in alloc;
+        "learns{} back {} met{}",
+        clause.as_str(),
+        analyser.back(),
+        vars.as_str()
+    )?)
+}
+
+/// What false literals are traced back to, with the literal's negation, rising.
+fn traces_told(
+    rt: &impl Abort,
+    alloc: Global,
+    analyser: &mut Analyser,
+    arena: &Arena,
+    trail: &Trail,
+    traced: &[i32],
+) -> Result<String, Fail>
+    requires vars { analyser.old.vars ≡ trail.now.vars }
+    requires same { trail.now.vars ≡ arena.now.vars }
+    requires reasoned { AreReasoned arena.now trail.now }
+{
+    let mut said = String::new(alloc);
+    for number in traced {
+        let l = literal(trail.vars(), *number)?;
+        trace(rt, analyser, arena, trail, l);
+        let mut lits = literals_of(alloc, analyser)?;
+        lits.sort()?;
+        let clause = spaced(alloc, lits.as_slice())?;
+        let line = format!(in alloc; "traces{} back {}; ", clause.as_str(), analyser.back())?;
+        said.push_str(line.as_str())?;
     }
-    for i in 0..len {
-        if analyser.lit(i) != lits[i as usize] {
-            return false;
-        }
+    Ok(said)
+}
+
+/// Clauses over so many variables; literals that are decided, and then one more, which falsifies a clause where no
+/// false literals are to be traced back; and what is told.
+struct Case {
+    shows: &'static str,
+    vars: u32,
+    clauses: &'static [&'static [i32]],
+    decided: &'static [i32],
+    last: i32,
+    traced: &'static [i32],
+    told: &'static str,
+}
+
+/// Decides a case's literals, and analyses. A clause that was learnt stays where a variable comes.
+fn play(rt: &impl Abort, alloc: Global, case: &Case) -> Result<String, Fail> {
+    if case.vars > 5 {
+        return Err(Fail::new("a case has few variables"));
     }
-    analyser.back() == back && analyser.seen_len() == met
+    let mut trail = Trail::with_vars(alloc, case.vars)?;
+    let mut arena = Arena::new(alloc, case.vars, 100)?;
+    let mut analyser = Analyser::with_vars(alloc, case.vars)?;
+    join_all(rt, alloc, &mut arena, &trail, case.clauses)?;
+    decide_all(rt, &mut arena, &mut trail, case.decided)?;
+    if case.traced.is_empty() {
+        let last = literal(case.vars, case.last)?;
+        learn_from(rt, &mut analyser, &mut arena, &mut trail, last);
+        analyser.add_vars(1)?;
+        return learnt_told(alloc, &analyser);
+    }
+    decide_all(rt, &mut arena, &mut trail, &[case.last])?;
+    traces_told(rt, alloc, &mut analyser, &arena, &trail, case.traced)
 }
 
-/// Of (-1 -2 3), (-3 4), (-3 5) and (-1 -4 -5) with 1 and then 2 decided, (-1 -4 -5) is falsified; the
-/// first unique implication point is 3, and 1, 3, 4 and 5 are met.
+static CASES: [Case; 4] = [
+    Case {
+        shows: "(-1 -4 -5) is falsified; the first unique implication point is 3.",
+        vars: 5,
+        clauses: &[&[-1, -2, 3], &[-3, 4], &[-3, 5], &[-1, -4, -5]],
+        decided: &[1],
+        last: 2,
+        traced: &[],
+        told: "learns -3 -1 back 1 met 1 3 4 5",
+    },
+    Case {
+        shows: "2 follows from 1, so that -2 is left out beside -1.",
+        vars: 4,
+        clauses: &[&[-1, 2], &[-3, 4], &[-1, -2, -3, -4]],
+        decided: &[1],
+        last: 3,
+        traced: &[],
+        told: "learns -3 -1 back 1 met 1 2 3 4",
+    },
+    Case {
+        shows: "2 is the implication point, and no level is left.",
+        vars: 3,
+        clauses: &[&[1, 2], &[-2, 3], &[-2, -3]],
+        decided: &[],
+        last: -1,
+        traced: &[],
+        told: "learns -2 back 0 met 2 3",
+    },
+    Case {
+        shows: "The false literal -4 follows from 1 and 3, and -2 from 1 alone.",
+        vars: 4,
+        clauses: &[&[-1, 2], &[-2, -3, 4]],
+        decided: &[1],
+        last: 3,
+        traced: &[-4, -2],
+        told: "traces -3 -1 4 back 0; traces -1 2 back 0; ",
+    },
+];
+
 #[test]
-fn the_clause_of_the_first_unique_implication_point(rt: HostRuntime) {
-    let alloc = rt.alloc();
-    let mut trail = Trail::with_vars(alloc, 5).expect(&rt, "memory");
-    let mut arena = Arena::new(alloc, 5, 100).expect(&rt, "memory");
-    let mut analyser = Analyser::with_vars(alloc, 5).expect(&rt, "memory");
-    let one = Lit::new(Var(1), true);
-    let two = Lit::new(Var(2), true);
-    let three = Lit::new(Var(3), true);
-    let four = Lit::new(Var(4), true);
-    let five = Lit::new(Var(5), true);
-    join(
-        &rt,
-        &mut arena,
-        &trail,
-        &[one.negated(), two.negated(), three],
-    );
-    join(&rt, &mut arena, &trail, &[three.negated(), four]);
-    join(&rt, &mut arena, &trail, &[three.negated(), five]);
-    join(
-        &rt,
-        &mut arena,
-        &trail,
-        &[one.negated(), four.negated(), five.negated()],
-    );
-    let none = decide(&rt, &mut arena, &mut trail, one);
-    assert!(rt; none.is_none());
-    learn_from(&rt, &mut analyser, &mut arena, &mut trail, two);
-    assert!(rt; has_learnt(&analyser, &[three.negated(), one.negated()], 1, 4));
-    assert!(rt; !has_met(&analyser, 2));
-}
-
-/// Of (-1 2), (-3 4) and (-1 -2 -3 -4) with 1 and then 3 decided, a clause is falsified; 2 follows from 1, so that -2
-/// is left out beside -1, and all four are met.
-#[test]
-fn a_literal_that_follows_from_the_others_is_left_out(rt: HostRuntime) {
-    let alloc = rt.alloc();
-    let mut trail = Trail::with_vars(alloc, 4).expect(&rt, "memory");
-    let mut arena = Arena::new(alloc, 4, 100).expect(&rt, "memory");
-    let mut analyser = Analyser::with_vars(alloc, 4).expect(&rt, "memory");
-    let one = Lit::new(Var(1), true);
-    let two = Lit::new(Var(2), true);
-    let three = Lit::new(Var(3), true);
-    let four = Lit::new(Var(4), true);
-    join(&rt, &mut arena, &trail, &[one.negated(), two]);
-    join(&rt, &mut arena, &trail, &[three.negated(), four]);
-    join(
-        &rt,
-        &mut arena,
-        &trail,
-        &[
-            one.negated(),
-            two.negated(),
-            three.negated(),
-            four.negated(),
-        ],
-    );
-    let none = decide(&rt, &mut arena, &mut trail, one);
-    assert!(rt; none.is_none());
-    learn_from(&rt, &mut analyser, &mut arena, &mut trail, three);
-    assert!(rt; has_learnt(&analyser, &[three.negated(), one.negated()], 1, 4));
-}
-
-/// Of (1 2), (-2 3) and (-2 -3) with -1 decided, a clause is falsified; 2 is the implication point, 2 and 3
-/// are met, no level is left, and the clause stays where a variable comes.
-#[test]
-fn a_clause_of_one_literal(rt: HostRuntime) {
-    let alloc = rt.alloc();
-    let mut trail = Trail::with_vars(alloc, 3).expect(&rt, "memory");
-    let mut arena = Arena::new(alloc, 3, 100).expect(&rt, "memory");
-    let mut analyser = Analyser::with_vars(alloc, 3).expect(&rt, "memory");
-    let one = Lit::new(Var(1), true);
-    let two = Lit::new(Var(2), true);
-    let three = Lit::new(Var(3), true);
-    join(&rt, &mut arena, &trail, &[one, two]);
-    join(&rt, &mut arena, &trail, &[two.negated(), three]);
-    join(&rt, &mut arena, &trail, &[two.negated(), three.negated()]);
-    learn_from(&rt, &mut analyser, &mut arena, &mut trail, one.negated());
-    analyser.add_vars(1).expect(&rt, "memory");
-    assert!(rt; has_learnt(&analyser, &[two.negated()], 0, 2) && !has_met(&analyser, 1));
-}
-
-/// Whether a false literal was traced back to these other ones, in one order or the other.
-fn has_traced(analyser: &Analyser, l: Lit, one: Lit, other: Lit) -> bool {
-    let met = analyser.seen_len();
-    has_learnt(analyser, &[l, one, other], 0, met) || has_learnt(analyser, &[l, other, one], 0, met)
-}
-
-/// With (-1 2) and (-2 -3 4) and 1 and then 3 decided, the false literal -4 follows from both, and -2 from 1 alone.
-#[test]
-fn a_false_literal_is_traced_back_to_decisions(rt: HostRuntime) {
-    let alloc = rt.alloc();
-    let mut trail = Trail::with_vars(alloc, 4).expect(&rt, "memory");
-    let mut arena = Arena::new(alloc, 4, 100).expect(&rt, "memory");
-    let mut analyser = Analyser::with_vars(alloc, 4).expect(&rt, "memory");
-    let one = Lit::new(Var(1), true);
-    let two = Lit::new(Var(2), true);
-    let three = Lit::new(Var(3), true);
-    let four = Lit::new(Var(4), true);
-    join(&rt, &mut arena, &trail, &[one.negated(), two]);
-    join(
-        &rt,
-        &mut arena,
-        &trail,
-        &[two.negated(), three.negated(), four],
-    );
-    let none = decide(&rt, &mut arena, &mut trail, one);
-    assert!(rt; none.is_none());
-    let none = decide(&rt, &mut arena, &mut trail, three);
-    assert!(rt; none.is_none());
-    trace(&rt, &mut analyser, &arena, &trail, four.negated());
-    assert!(rt; has_traced(&analyser, four, three.negated(), one.negated()));
-    trace(&rt, &mut analyser, &arena, &trail, two.negated());
-    assert!(rt; has_learnt(&analyser, &[two, one.negated()], 0, analyser.seen_len()));
+fn conflicts_are_analysed(rt: HostRuntime) -> Result<(), Fail> {
+    for case in &CASES {
+        let told = play(&rt, rt.alloc(), case)?;
+        assert_eq!(rt; told.as_str(), case.told, "{}", case.shows);
+    }
+    Ok(())
 }

@@ -1,9 +1,10 @@
 //! Searches and their parts on a few clauses: what propagates, what is learnt, and what is answered.
 //!
 //! The crate has nothing but tests. `propagation` has runs of the arena, `order` of the heap, `conflicts` of the
-//! analysis; `attaching` attaches the clauses of the first and the last. `queries` asks the solver on two clauses,
-//! and `four_pigeons` on a formula for which clauses are learnt; `failing_log` is a log that fails. The crate stands
-//! on `cdcl_core`, so that a change of a case proves nothing of the search again.
+//! analysis; `attaching` attaches the clauses of the first and the last, and `written` has their literals as numbers
+//! and what is told of them. `queries` asks the solver on a few clauses, and `four_pigeons` on a formula for which
+//! clauses are learnt; `failing_log` is a log that fails. The crate stands on `cdcl_core`, so that a change of a case
+//! proves nothing of the search again.
 #![tactic(auto)]
 
 #[cfg(test)]
@@ -20,3 +21,5 @@ mod order;
 mod propagation;
 #[cfg(test)]
 mod queries;
+#[cfg(test)]
+mod written;

@@ -1,6 +1,6 @@
 // Queries of a few clauses.
-ghost use Rattle.std.specs.Prelude.{◌≡◌, ◌≢◌, ◌⊎◌, false, OnOk};
-ghost use Rattle.cnf_core.specs.Clause.{IsNamed, IsThere};
+ghost use Rattle.std.specs.Prelude.{◌≡◌, ◌≢◌, ◌⊎◌, false, All, OnOk};
+ghost use Rattle.cnf_core.specs.Clause.{AreDistinct, AreThere, IsNamed, IsThere};
 
 use crate::failing_log::FailingLog;
 use cdcl_core::{AddFault, Answer, SolveFault, Solver};
@@ -266,5 +266,53 @@ fn a_model_is_gone_where_no_variable_is_added(rt: HostRuntime) -> Result<(), Fai
     let stood = solver.model().is_some();
     solver.add_vars(0)?;
     assert!(rt; answer == Answer::Model && stood && solver.model().is_none());
+    Ok(())
+}
+
+/// Adds a clause, whose variables then have one.
+fn add_named(solver: &mut Solver, log: &mut LineList, lits: &[Lit]) -> Result<(), SolveFault>
+    requires working { solver.old.failed ≡ false }
+    requires there { AreThere solver.old.vars lits.now }
+    requires distinct { AreDistinct lits.now }
+    ensures working { OnOk result (solver.new.failed ≡ false) }
+    ensures named { OnOk result (All (λ l. IsNamed solver.new.clauses l.var) lits.now) }
+{
+    match solver.add_clause(lits, log) {
+        Ok(()) => Ok(()),
+        Err(AddFault::Log) => Err(SolveFault::Log),
+        Err(AddFault::Room | AddFault::Memory) => Err(SolveFault::Memory),
+    }
+}
+
+/// The clauses (-1 -3 2), (-1 -3 -2) and (1 4 3), with 1, 4 and 3 assumed, of which 1 and 3 clash.
+fn clashing(alloc: Global) -> Result<(Answer, Solver, LineList), Fail> {
+    let mut log = LineList::new(alloc);
+    let mut solver = Solver::new(alloc, 1000)?;
+    solver.add_vars(4)?;
+    let one = Lit::new(Var(1), true);
+    let two = Lit::new(Var(2), true);
+    let three = Lit::new(Var(3), true);
+    let assumed = [one, Lit::new(Var(4), true), three];
+    solver.add_clause(&[one.negated(), three.negated(), two], &mut log)?;
+    solver.add_clause(&[one.negated(), three.negated(), two.negated()], &mut log)?;
+    add_named(&mut solver, &mut log, &assumed)?;
+    let answer = solver.solve(&assumed, 5, &mut log)?;
+    Ok((answer, solver, log))
+}
+
+/// Whether these are the literals 1 and 3, in one order or the other.
+fn are_one_and_three(lits: &[Lit]) -> bool {
+    let one = Lit::new(Var(1), true);
+    let three = Lit::new(Var(3), true);
+    lits == [one, three].as_slice() || lits == [three, one].as_slice()
+}
+
+/// Two of three assumptions can't be true together: these two are refuted, and the line has all three.
+#[test]
+fn the_assumptions_that_a_refutation_needs_are_told(rt: HostRuntime) -> Result<(), Fail> {
+    let (answer, solver, log) = clashing(rt.alloc())?;
+    assert!(rt; answer == Answer::Refuted && are_one_and_three(solver.refuted()));
+    let lines = log.len();
+    assert!(rt; lines > 0 && matches!(log.get(lines - 1), LogLine::Refuted(c) if c.len() == 3));
     Ok(())
 }

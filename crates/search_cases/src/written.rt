@@ -1,0 +1,60 @@
+// Literals as numbers, and what is told of them.
+ghost use Rattle.std.specs.Prelude.{◌≤◌, IfOk, length};
+ghost use Rattle.cnf_core.specs.Clause.{AreDistinct, AreThere, IsThere};
+
+use cnf_core::{LAST_VAR, Lit, Var};
+use refute_log::are_distinct;
+use std::alloc::Global;
+use std::test::Fail;
+
+/// The literal of a number: its variable, negative where the number is.
+pub fn literal(vars: u32, number: i32) -> Result<Lit, Fail>
+    ensures { IfOk result (λ l. IsThere vars l) }
+{
+    let v = number.unsigned_abs();
+    if v == 0 || v > vars || v > LAST_VAR {
+        return Err(Fail::new("a literal of a variable"));
+    }
+    Ok(Lit::new(Var(v), number > 0))
+}
+
+#[tactic(auto, using(crate::proofs::ThereLemmas::there_push))]
+fn literals(alloc: Global, vars: u32, numbers: &[i32]) -> Result<Vec<Lit>, Fail>
+    ensures { IfOk result (λ lits. AreThere vars lits.items) }
+{
+    let mut lits = Vec::new(alloc);
+    for number in numbers {
+        lits.push(literal(vars, *number)?)?;
+    }
+    Ok(lits)
+}
+
+/// A clause of two distinct literals or more.
+pub fn clause(alloc: Global, vars: u32, numbers: &[i32]) -> Result<Vec<Lit>, Fail>
+    ensures two { IfOk result (λ lits. 2 ≤ length lits.items) }
+    ensures there { IfOk result (λ lits. AreThere vars lits.items) }
+    ensures distinct { IfOk result (λ lits. AreDistinct lits.items) }
+{
+    let lits = literals(alloc, vars, numbers)?;
+    let apart = are_distinct(alloc, lits.as_slice())?;
+    if !apart || lits.len() < 2 {
+        return Err(Fail::new("a clause of distinct literals"));
+    }
+    Ok(lits)
+}
+
+/// The number of a literal.
+pub fn number_of(l: Lit) -> i64 {
+    let v = i64::from(l.var().0);
+    if l.positive() { v } else { -v }
+}
+
+/// The numbers, each behind a space.
+pub fn spaced(alloc: Global, numbers: &[i64]) -> Result<String, Fail> {
+    let mut said = String::new(alloc);
+    for n in numbers {
+        let word = format!(in alloc; " {}", n)?;
+        said.push_str(word.as_str())?;
+    }
+    Ok(said)
+}
