@@ -75,12 +75,11 @@ pub fn answer_to<F: Files, T: LogSink>(
             budget,
             log,
         } => {
-            let no_picture = None;
             let asked = Asked {
                 grid,
                 order,
                 budget: *budget,
-                svg: &no_picture,
+                svg: &None,
                 log,
             };
             signals(alloc, input, &asked, files, trace)
