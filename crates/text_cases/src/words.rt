@@ -43,6 +43,20 @@ fn grid_shown(alloc: Global, grid: &Grid) -> Result<String, AllocError> {
     format!(in alloc; "{width} {height} {least}")
 }
 
+/// What is searched, and how long.
+fn search_shown(
+    alloc: Global,
+    input: &Text,
+    grid: &Grid,
+    order: &Order,
+    budget: u32,
+) -> Result<String, AllocError> {
+    let input = input.as_str();
+    let grid = grid_shown(alloc, grid)?;
+    let order = order_shown(alloc, order)?;
+    format!(in alloc; "{input} {grid} {order} {budget}")
+}
+
 /// A line that shows a command.
 fn command_shown(alloc: Global, command: &Command) -> Result<String, AllocError> {
     match command {
@@ -54,12 +68,10 @@ fn command_shown(alloc: Global, command: &Command) -> Result<String, AllocError>
             svg,
             log,
         } => {
-            let input = input.as_str();
-            let grid = grid_shown(alloc, grid)?;
-            let order = order_shown(alloc, order)?;
+            let search = search_shown(alloc, input, grid, order, *budget)?;
             let svg = file_shown(svg);
             let log = file_shown(log);
-            format!(in alloc; "draw {input} {grid} {order} {budget} {svg} {log}")
+            format!(in alloc; "draw {search} {svg} {log}")
         }
         Command::Verify { input, sheet } => {
             let input = input.as_str();
@@ -72,10 +84,7 @@ fn command_shown(alloc: Global, command: &Command) -> Result<String, AllocError>
             let log = log.as_str();
             format!(in alloc; "check {input} {sheet} {log}")
         }
-        Command::Graph { input } => {
-            let input = input.as_str();
-            format!(in alloc; "graph {input}")
-        }
+        Command::Graph { input } => format!(in alloc; "graph {}", input.as_str()),
         Command::Make { n } => format!(in alloc; "make {n}"),
         Command::Trial { n } => format!(in alloc; "trial {n}"),
         Command::Signals {
@@ -85,11 +94,9 @@ fn command_shown(alloc: Global, command: &Command) -> Result<String, AllocError>
             budget,
             log,
         } => {
-            let input = input.as_str();
-            let grid = grid_shown(alloc, grid)?;
-            let order = order_shown(alloc, order)?;
+            let search = search_shown(alloc, input, grid, order, *budget)?;
             let log = file_shown(log);
-            format!(in alloc; "signals {input} {grid} {order} {budget} {log}")
+            format!(in alloc; "signals {search} {log}")
         }
     }
 }
