@@ -13,7 +13,7 @@ use Rattle.plan_core.specs.declared.criterion.Criterion.{Criterion}
 use Rattle.plan_words.specs.declared.command.CommandWord.{CommandWord}
 use Rattle.plan_words.specs.declared.command.CommandWord.TheVariants as words
 use Rattle.plan_words.specs.declared.command.Command.{Command}
-use Rattle.plan_words.specs.declared.command.Command.TheVariants.{Draw, Verify, Check, Graph, Make, Trial, Signals}
+use Rattle.plan_words.specs.declared.command.Command.TheVariants.{Draw, Verify, Check, Graph, Make, Trial, Signals, Front}
 use Rattle.plan_words.specs.declared.arguments.Argument.{Argument}
 use Rattle.plan_words.specs.declared.files.FileWord.{FileWord}
 use Rattle.plan_words.specs.declared.fault.WordWhat.{WordWhat}
@@ -23,7 +23,7 @@ use Rattle.plan_words.specs.declared.fault.WordFault.TheVariants as answers
 use Rattle.plan_words.specs.OptionValues.{IsOrderText, IsSeed}
 use Rattle.plan_words.specs.Arguments.{arguments_from, argument_names, files_in}
 use Rattle.plan_words.specs.WordFaults.{command_word, number_of, SomeHasWordFault, IsLeftmost, file_names, IsFirstRepeat, IsMissing, HasOneNameTwice, IsFaultOfArguments, IsFaultBehind, IsFaultOfWords}
-use Rattle.plan_words.specs.Words.{default_order, IsChosen, IsDrawCommand, command_kind, HasParts, AreSoundArguments, IsCommandOf, IsWordFault}
+use Rattle.plan_words.specs.Words.{default_order, IsChosen, IsDrawCommand, IsFrontCommand, command_kind, HasParts, AreSoundArguments, IsCommandOf, IsWordFault}
 use Rattle.plan_words.proofs.OrderTextLemmas.{criteria_text_injective}
 use Rattle.plan_words.proofs.FileLemmas.{values_apart}
 
@@ -31,7 +31,7 @@ use Rattle.plan_words.proofs.FileLemmas.{values_apart}
 
 abbrev command_at : List ℕ → CommandWord
 command_at [] = words.Draw
-command_at (b ∷ bytes) = if b == 118 then words.Verify else if b == 99 then words.Check else if b == 103 then words.Graph else if b == 109 then words.Make else if b == 116 then words.Trial else if b == 115 then words.Signals else words.Draw
+command_at (b ∷ bytes) = if b == 118 then words.Verify else if b == 99 then words.Check else if b == 103 then words.Graph else if b == 109 then words.Make else if b == 116 then words.Trial else if b == 115 then words.Signals else if b == 102 then words.Front else words.Draw
 
 command_at-word : (command : CommandWord) → command_at (command_word command) ≡ command
 command_at-word words.Draw = refl
@@ -41,6 +41,7 @@ command_at-word words.Graph = refl
 command_at-word words.Make = refl
 command_at-word words.Trial = refl
 command_at-word words.Signals = refl
+command_at-word words.Front = refl
 
 command_word_injective : (a b : CommandWord) → command_word a ≡ command_word b → a ≡ b
 command_word_injective a b is = sym (command_at-word a) ∙ ap command_at is ∙ command_at-word b
@@ -212,6 +213,22 @@ same_drawing arguments i j g h o r n m s t l k x y =
     let log : l ≡ k = x.log_name ∙ sym y.log_name in
     cc
 
+same_front : (arguments : List Argument) (i j : List ℕ) (a b d e : Criterion) (g h : GridSize) (n m : ℕ) →
+    IsFrontCommand arguments i a b g n → IsFrontCommand arguments j d e h m → Front i a b g n ≡ Front j d e h m
+same_front arguments i j a b d e g h n m x y =
+    let names : i ∷ x.pair ∷ [] ≡ j ∷ y.pair ∷ [] = sym x.names ∙ y.names in
+    let input : i ≡ j = cc in
+    let pair : x.pair ≡ y.pair = cc in
+    let criteria : a ∷ b ∷ [] ≡ d ∷ e ∷ [] = criteria_text_injective (a ∷ b ∷ []) (d ∷ e ∷ []) (sym x.criteria.written ∙ pair ∙ y.criteria.written) in
+    let first : a ≡ d = cc in
+    let second : b ≡ e = cc in
+    let width = chosen_number _ 1 MAX_WIDTH 40 g.width h.width (omega arith) x.width y.width in
+    let height = chosen_number _ 0 MAX_HEIGHT 8 g.height h.height (omega arith) x.height y.height in
+    let least = chosen_number _ 1 MAX_LEAST 1 g.least h.least (omega arith) x.least y.least in
+    let grid : grid_with g.width g.height g.least ≡ grid_with h.width h.height h.least = cc in
+    let budget : n ≡ m = chosen_number _ 1 MAX_BUDGET 50000 n m (omega arith) x.conflicts y.conflicts in
+    cc
+
 same_parts : (arguments : List Argument) (a b : Command) → command_kind a ≡ command_kind b → HasParts arguments a → HasParts arguments b → a ≡ b
 same_parts arguments (Draw i g o n s l) (Draw j h r m t k) word x y = same_drawing arguments i j g h o r n m s t l k x y
 same_parts arguments (Verify i s) (Verify j t) word x y = let names : i ∷ s ∷ [] ≡ j ∷ t ∷ [] = sym x ∙ y in cc
@@ -222,6 +239,7 @@ same_parts arguments (Trial n) (Trial m) word x y = ap (λ (k : ℕ). Trial k) (
 same_parts arguments (Signals i g o n l) (Signals j h r m k) word x y =
     let same : Draw i g o n None l ≡ Draw j h r m None k = same_drawing arguments i j g h o r n m None None l k x y in
     cc
+same_parts arguments (Front i a b g n) (Front j d e h m) word x y = same_front arguments i j a b d e g h n m x y
 same_parts arguments a b word x y = cc word
 
 pub command_same : (list : List (List ℕ)) (a b : Command) → IsCommandOf list a → IsCommandOf list b → a ≡ b

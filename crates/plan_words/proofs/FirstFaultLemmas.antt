@@ -40,7 +40,7 @@ bad_name_lowest command before at name few UnknownOption position h = absurd h
 bad_name_lowest command before at name few RepeatedOption position h = absurd h
 bad_name_lowest command before at name few BadValue position h = omega arith
 
-pub bad_name : (command : CommandWord) (before : List Argument) (at : ℕ) (name : List ℕ) → length (argument_names before) < name_count command → (TakesName command name → ⊥) → IsFirstWordFault command before (Name at name) BadValue at
+pub bad_name : (command : CommandWord) (before : List Argument) (at : ℕ) (name : List ℕ) → length (argument_names before) < name_count command → (TakesName command (length (argument_names before)) name → ⊥) → IsFirstWordFault command before (Name at name) BadValue at
 bad_name command before at name few refused = record {
   fault = (refused, refl);
   leftmost = λ other place h. fault_from command before (Name at name) other place h;

@@ -1,20 +1,20 @@
 -- What sound arguments give: values that are taken, and as many names as the command has.
-use Rattle.std.proofs.Common.{◌≡◌, ℕ, ◌≤◌, ◌⊎◌, inl, inr, true, false, None, Some, List, [], ◌∷◌, ◌++◌, length, refl, sym, ap, subst, ◌∙◌, arith}
-use Rattle.std.specs.Prelude.{Option, MatchOption, All, slice_get, bytes_eq, if◌then◌else◌, ⊤}
-use Rattle.std.proofs.lemmas.List.Elements.{All-nil, All-cons, All-head}
+use Rattle.std.proofs.Common.{◌≡◌, ℕ, zero, suc, ◌+◌, ◌≤◌, ◌⊎◌, inl, inr, true, false, None, Some, List, [], ◌∷◌, ◌++◌, length, refl, sym, ap, subst, ◌∙◌, length-append, arith}
+use Rattle.std.specs.Prelude.{Option, MatchOption, slice_get, bytes_eq, if◌then◌else◌, ⊤}
 use Rattle.std.proofs.lemmas.Slice.Eq.{bytes_eq-Decides}
 use Rattle.plan_words.specs.declared.command.CommandWord.{CommandWord}
-use Rattle.plan_words.specs.declared.command.CommandWord.TheVariants.{Draw, Make, Trial, Signals}
+use Rattle.plan_words.specs.declared.command.CommandWord.TheVariants.{Make, Trial, Signals, Front}
 use Rattle.plan_words.specs.declared.option_values.OptionWord.{OptionWord}
 use Rattle.plan_words.specs.declared.option_values.OptionWord.TheVariants.{Svg}
 use Rattle.plan_words.specs.declared.arguments.Argument.{Argument}
 use Rattle.plan_words.specs.declared.arguments.Argument.TheVariants.{Name, Setting}
-use Rattle.plan_words.specs.OptionValues.{option_word, IsSeed, Takes}
-use Rattle.plan_words.specs.Arguments.{argument_names, option_value}
+use Rattle.plan_core.specs.declared.criterion.Criterion.{Criterion}
+use Rattle.plan_words.specs.OptionValues.{option_word, IsSeed, IsPairText, Takes}
+use Rattle.plan_words.specs.Arguments.{argument_name, argument_names, option_value}
 use Rattle.plan_words.specs.WordFaults.{TakesName, IsOptionOf, IsSignalsOption}
-use Rattle.plan_words.specs.Soundness.{IsSoundBehind, SoundFrom}
+use Rattle.plan_words.specs.Soundness.{SoundFrom, AreTaken}
 use Rattle.plan_words.specs.Words.{given_for}
-use Rattle.plan_words.proofs.SoundLemmas.{option_word_injective, sound_at, names_most}
+use Rattle.plan_words.proofs.SoundLemmas.{option_word_injective, sound_at, names_most, argument_names-push}
 
 -- an option of this word with this value stands among the arguments
 record HasSetting (arguments : List Argument) (word value : List ℕ) : Type 0 where
@@ -64,12 +64,34 @@ pub given_is_taken : (command : CommandWord) (arguments : List Argument) (option
 given_is_taken command arguments option sound =
     elim (given_for option arguments) as (λ r. given_for option arguments ≡ r → MatchOption r ⊤ (Takes option)) [ None ↦ λ is. tt | Some value ↦ λ is. given_taken command arguments option value sound is ] refl
 
+pub all_taken : (command : CommandWord) (arguments : List Argument) → SoundFrom command [] arguments → AreTaken arguments
+all_taken command arguments sound = λ option. given_is_taken command arguments option sound
+
+-- an option that is given is taken
+pub taken_one : (arguments : List Argument) (option : OptionWord) (value : List ℕ) → AreTaken arguments → given_for option arguments ≡ Some value → Takes option value
+taken_one arguments option value taken is = let P : Option (List ℕ) → Type 0 = λ r. MatchOption r ⊤ (Takes option) in subst P is (taken option)
+
 -- ---- names
 
-pub names_taken : (command : CommandWord) (before arguments : List Argument) → SoundFrom command before arguments → All (TakesName command) (argument_names arguments)
-names_taken command before [] sound = All-nil (TakesName command)
-names_taken command before (Name at name ∷ arguments) sound = All-cons (TakesName command) name (argument_names arguments) sound.0.1 (names_taken command (before ++ Name at name ∷ []) arguments sound.1)
-names_taken command before (Setting at word value ∷ arguments) sound = names_taken command (before ++ Setting at word value ∷ []) arguments sound.1
+names_before : (before : List Argument) (argument : Argument) → length (argument_names (before ++ argument ∷ [])) ≡ length (argument_names before) + length (argument_name argument)
+names_before before argument = ap length (argument_names-push before argument) ∙ length-append (argument_names before) (argument_name argument)
+
+-- each name is taken, behind those before it
+pub name_taken : (command : CommandWord) (before arguments : List Argument) (i : ℕ) (name : List ℕ) → SoundFrom command before arguments → slice_get (argument_names arguments) i ≡ Some name → TakesName command (length (argument_names before) + i) name
+name_taken command before [] i name sound is = let e : None ≡ Some name = is in cc
+name_taken command before (Name at word ∷ arguments) zero name sound is =
+    let e : Some word ≡ Some name = is in
+    let same : word ≡ name = cc in
+    let place : length (argument_names before) ≡ length (argument_names before) + 0 = omega arith in
+    subst (λ (w : List ℕ). TakesName command (length (argument_names before) + 0) w) same (subst (λ n. TakesName command n word) place sound.0.1)
+name_taken command before (Name at word ∷ arguments) (suc i) name sound is =
+    let count = names_before before (Name at word) in
+    let place : length (argument_names (before ++ Name at word ∷ [])) + i ≡ length (argument_names before) + suc i = omega (arith, count) in
+    subst (λ n. TakesName command n name) place (name_taken command (before ++ Name at word ∷ []) arguments i name sound.1 is)
+name_taken command before (Setting at word value ∷ arguments) i name sound is =
+    let count = names_before before (Setting at word value) in
+    let place : length (argument_names (before ++ Setting at word value ∷ [])) + i ≡ length (argument_names before) + i = omega (arith, count) in
+    subst (λ n. TakesName command n name) place (name_taken command (before ++ Setting at word value ∷ []) arguments i name sound.1 is)
 
 pub one_name : (names : List (List ℕ)) (a : List ℕ) → length names ≤ 1 → slice_get names 0 ≡ Some a → names ≡ a ∷ []
 one_name [] a most first = let e : None ≡ Some a = first in cc
@@ -89,27 +111,13 @@ three_names (x ∷ y ∷ []) a b d most first second third = let e : None ≡ So
 three_names (x ∷ y ∷ z ∷ []) a b d most first second third = let e : Some x ≡ Some a = first in let f : Some y ≡ Some b = second in let g : Some z ≡ Some d = third in cc
 three_names (x ∷ y ∷ z ∷ u ∷ names) a b d most first second third = absurd (omega arith)
 
-pub first_taken : (command : CommandWord) (arguments : List Argument) (name : List ℕ) → SoundFrom command [] arguments → argument_names arguments ≡ name ∷ [] → TakesName command name
-first_taken command arguments name sound is = let P : List (List ℕ) → Type 0 = λ names. All (TakesName command) names in All-head (TakesName command) name [] (subst P is (names_taken command [] arguments sound))
+pub first_taken : (command : CommandWord) (arguments : List Argument) (name : List ℕ) → SoundFrom command [] arguments → argument_names arguments ≡ name ∷ [] → TakesName command 0 name
+first_taken command arguments name sound is = name_taken command [] arguments 0 name sound (ap (λ (names : List (List ℕ)). slice_get names 0) is)
+
+pub pair_taken : (arguments : List Argument) (name : List ℕ) → SoundFrom Front [] arguments → slice_get (argument_names arguments) 1 ≡ Some name → (a : Criterion) × (b : Criterion) × IsPairText name a b
+pair_taken arguments name sound is = name_taken Front [] arguments 1 name sound is
 
 -- ---- the arguments of `signals`
-
--- they are arguments of `draw`
-draws_too : (before : List Argument) (argument : Argument) → IsSoundBehind Signals before argument → IsSoundBehind Draw before argument
-draws_too before (Name at name) sound = sound
-draws_too before (Setting at word value) sound = record {
-  known = (sound.known.0, sound.known.1);
-  fresh = sound.fresh;
-  option = sound.option;
-  named = sound.named;
-  text = sound.text;
-  there = sound.there;
-  taken = sound.taken;
-}
-
-pub signals_draw : (before arguments : List Argument) → SoundFrom Signals before arguments → SoundFrom Draw before arguments
-signals_draw before [] sound = tt
-signals_draw before (argument ∷ arguments) sound = (draws_too before argument sound.0, signals_draw (before ++ argument ∷ []) arguments sound.1)
 
 no_svg : IsOptionOf Signals (option_word Svg) → ⊥
 no_svg (option, named, one) =

@@ -87,7 +87,7 @@ few_options words apart known =
     let most = length-le_from_distinct_below (map rank words) 7 (IsDistinct-from_apart eqb (map rank words) distinct) (ranks_are_small words) in
     omega (arith, n, most)
 
-argument_names-push : (before : List Argument) (argument : Argument) → argument_names (before ++ argument ∷ []) ≡ argument_names before ++ argument_name argument
+pub argument_names-push : (before : List Argument) (argument : Argument) → argument_names (before ++ argument ∷ []) ≡ argument_names before ++ argument_name argument
 argument_names-push before argument = flat_map-append argument_name before (argument ∷ []) ∙ ap (λ (ws : List (List ℕ)). argument_names before ++ ws) (append-nil (argument_name argument))
 
 options_in-push : (before : List Argument) (argument : Argument) → options_in (before ++ argument ∷ []) ≡ options_in before ++ option_of argument

@@ -1,5 +1,5 @@
 -- The words of options, and which values each takes.
-use Rattle.std.specs.Prelude.{◌≡◌, ◌≢◌, ℕ, codes, List, [], map}
+use Rattle.std.specs.Prelude.{◌≡◌, ◌≢◌, ℕ, codes, List, [], ◌∷◌, map}
 use Rattle.std.specs.List.{join_with_byte}
 use Rattle.plan_core.specs.declared.criterion.Criterion.{Criterion}
 use Rattle.plan_core.specs.declared.limits.TheConstants.{MAX_WIDTH, MAX_HEIGHT, MAX_LEAST, MAX_BUDGET}
@@ -28,6 +28,11 @@ criteria_text order = join_with_byte 44 (map criterion_word order)
 pub record IsOrderText (text : List ℕ) (order : List Criterion) : Type 0 where
   pub written : text ≡ criteria_text order
   pub is_order : IsOrder order
+
+-- the text is that of two criteria that differ
+pub record IsPairText (text : List ℕ) (first second : Criterion) : Type 0 where
+  pub written : text ≡ criteria_text (first ∷ second ∷ [])
+  pub apart : first ≢ second
 
 -- columns of the grid, its rows, the columns that each edge goes over at the least, learnt clauses, and the
 -- number that a station is made from

@@ -1,12 +1,12 @@
 -- What is known of arguments while they are looked at from left to right.
-use Rattle.std.specs.Prelude.{◌≡◌, ◌≤◌, ◌<◌, ℕ, ◌+◌, ◌^◌, Option, Some, List, [], ◌∷◌, ◌++◌, length, Contains, ⊤}
+use Rattle.std.specs.Prelude.{◌≡◌, ◌≤◌, ◌<◌, ℕ, ◌+◌, ◌^◌, Option, Some, MatchOption, List, [], ◌∷◌, ◌++◌, length, Contains, ⊤}
 use Rattle.plan_words.specs.declared.command.CommandWord.{CommandWord}
 use Rattle.plan_words.specs.declared.option_values.OptionWord.{OptionWord}
 use Rattle.plan_words.specs.declared.arguments.Argument.{Argument}
 use Rattle.plan_words.specs.declared.arguments.Argument.TheVariants.{Name, Setting}
 use Rattle.plan_words.specs.declared.fault.WordWhat.{WordWhat}
 use Rattle.plan_words.specs.OptionValues.{option_word, Takes}
-use Rattle.plan_words.specs.Arguments.{argument_names, options_in}
+use Rattle.plan_words.specs.Arguments.{argument_names, options_in, option_value}
 use Rattle.plan_words.specs.WordFaults.{number_of, name_count, TakesName, IsOptionOf, HasWordFault}
 
 -- where the argument stands, and where the next one does
@@ -49,7 +49,7 @@ pub record IsSoundSetting (command : CommandWord) (before : List Argument) (word
 -- the argument has no fault
 abbrev pub IsSoundBehind : CommandWord → List Argument → Argument → Type 0
 IsSoundBehind command before (Name at name) = (length (argument_names before) < name_count command)
-    × TakesName command name
+    × TakesName command (length (argument_names before)) name
 IsSoundBehind command before (Setting at word value) = IsSoundSetting command before word value
 
 -- no argument has a fault, behind those before
@@ -57,3 +57,8 @@ abbrev pub SoundFrom : CommandWord → List Argument → List Argument → Type 
 SoundFrom command before [] = ⊤
 SoundFrom command before (argument ∷ arguments) = IsSoundBehind command before argument
     × SoundFrom command (before ++ argument ∷ []) arguments
+
+-- each option that is given has a value that it takes
+abbrev pub AreTaken : List Argument → Type 0
+AreTaken arguments =
+    (option : OptionWord) → MatchOption (option_value (option_word option) arguments) ⊤ (λ value. Takes option value)

@@ -1,8 +1,9 @@
 -- What can be wrong with the words of a command line, and which fault counts.
-use Rattle.std.specs.Prelude.{◌≡◌, ◌≢◌, ◌≤◌, ◌<◌, ◌⊎◌, ℕ, ◌+◌, None, Some, List, [], ◌∷◌, ◌++◌, codes, length, map}
+use Rattle.std.specs.Prelude.{◌≡◌, ◌≢◌, ◌≤◌, ◌<◌, ◌⊎◌, ℕ, suc, ◌+◌, None, Some, List, [], ◌∷◌, ◌++◌, codes, length, map}
 use Rattle.std.specs.Prelude.{Contains, AllPairs, ⊤}
 use Rattle.plan_words.specs.declared.command.CommandWord.{CommandWord}
 use Rattle.plan_words.specs.declared.command.CommandWord.TheVariants.{Draw, Verify, Check, Graph, Make, Trial, Signals}
+use Rattle.plan_words.specs.declared.command.CommandWord.TheVariants.{Front}
 use Rattle.plan_words.specs.declared.option_values.OptionWord.{OptionWord}
 use Rattle.plan_words.specs.declared.option_values.OptionWord.TheVariants.{Width, Height, Least, Criteria, Conflicts}
 use Rattle.plan_words.specs.declared.option_values.OptionWord.TheVariants.{Svg, Log}
@@ -12,7 +13,8 @@ use Rattle.plan_words.specs.declared.files.FileWord.{FileWord}
 use Rattle.plan_words.specs.declared.fault.WordWhat.{WordWhat}
 use Rattle.plan_words.specs.declared.fault.WordWhat.TheVariants.{NoCommand, UnknownCommand, MissingName, ExtraWord}
 use Rattle.plan_words.specs.declared.fault.WordWhat.TheVariants.{UnknownOption, RepeatedOption, BadValue}
-use Rattle.plan_words.specs.OptionValues.{option_word, IsSeed, Takes}
+use Rattle.plan_core.specs.declared.criterion.Criterion.{Criterion}
+use Rattle.plan_words.specs.OptionValues.{option_word, IsSeed, IsPairText, Takes}
 use Rattle.plan_words.specs.Arguments.{arguments_from, argument_names, options_in, files_in}
 
 abbrev pub command_word : CommandWord → List ℕ
@@ -23,6 +25,7 @@ command_word Graph = codes "graph"
 command_word Make = codes "make"
 command_word Trial = codes "trial"
 command_word Signals = codes "signals"
+command_word Front = codes "front"
 
 -- the numbers of the table of faults, and their words
 abbrev pub number_of : WordWhat → ℕ
@@ -52,16 +55,20 @@ name_count Graph = 1
 name_count Make = 1
 name_count Trial = 1
 name_count Signals = 1
+name_count Front = 2
 
--- the command takes this name: the number of `make` and of `trial`, and any other that isn't empty
-abbrev pub TakesName : CommandWord → List ℕ → Type 0
-TakesName Draw name = name ≢ []
-TakesName Verify name = name ≢ []
-TakesName Check name = name ≢ []
-TakesName Graph name = name ≢ []
-TakesName Make name = (n : ℕ) × IsSeed name n
-TakesName Trial name = (n : ℕ) × IsSeed name n
-TakesName Signals name = name ≢ []
+-- the command takes this name behind so many others: the number of `make` and of `trial`, the two criteria of `front`
+-- behind its file, and any other that isn't empty
+abbrev pub TakesName : CommandWord → ℕ → List ℕ → Type 0
+TakesName Draw place name = name ≢ []
+TakesName Verify place name = name ≢ []
+TakesName Check place name = name ≢ []
+TakesName Graph place name = name ≢ []
+TakesName Make place name = (n : ℕ) × IsSeed name n
+TakesName Trial place name = (n : ℕ) × IsSeed name n
+TakesName Signals place name = name ≢ []
+TakesName Front 0 name = name ≢ []
+TakesName Front (suc place) name = (first : Criterion) × (second : Criterion) × IsPairText name first second
 
 -- the options of `signals`: it has no `--least`, since each edge is as long as its signals need, and no `--svg`, since
 -- it writes no picture
@@ -74,7 +81,17 @@ IsSignalsOption Conflicts = ⊤
 IsSignalsOption Svg = ⊥
 IsSignalsOption Log = ⊤
 
--- the word is an option of the command; only `draw`, which has all, and `signals` have options
+-- the options of `front`: it has no `--order`, since its two criteria are named, and it writes no file
+abbrev pub IsFrontOption : OptionWord → Type 0
+IsFrontOption Width = ⊤
+IsFrontOption Height = ⊤
+IsFrontOption Least = ⊤
+IsFrontOption Criteria = ⊥
+IsFrontOption Conflicts = ⊤
+IsFrontOption Svg = ⊥
+IsFrontOption Log = ⊥
+
+-- the word is an option of the command; only `draw`, which has all, `signals` and `front` have options
 abbrev pub IsOptionOf : CommandWord → List ℕ → Type 0
 IsOptionOf Draw word = (option : OptionWord) × (word ≡ option_word option)
 IsOptionOf Verify word = ⊥
@@ -83,6 +100,7 @@ IsOptionOf Graph word = ⊥
 IsOptionOf Make word = ⊥
 IsOptionOf Trial word = ⊥
 IsOptionOf Signals word = (option : OptionWord) × (word ≡ option_word option) × IsSignalsOption option
+IsOptionOf Front word = (option : OptionWord) × (word ≡ option_word option) × IsFrontOption option
 
 -- ---- faults of one argument, behind the arguments before it
 
@@ -90,7 +108,8 @@ IsOptionOf Signals word = (option : OptionWord) × (word ≡ option_word option)
 abbrev pub HasWordFault : CommandWord → List Argument → Argument → WordWhat → ℕ → Type 0
 HasWordFault command before (Name at name) ExtraWord position = (name_count command ≤ length (argument_names before))
     × (position ≡ at)
-HasWordFault command before (Name at name) BadValue position = (TakesName command name → ⊥) × (position ≡ at)
+HasWordFault command before (Name at name) BadValue position =
+    (TakesName command (length (argument_names before)) name → ⊥) × (position ≡ at)
 HasWordFault command before (Setting at word value) UnknownOption position = (IsOptionOf command word → ⊥)
     × (position ≡ at)
 HasWordFault command before (Setting at word value) RepeatedOption position = Contains (options_in before) word
@@ -151,6 +170,7 @@ WritesFiles Graph = ⊥
 WritesFiles Make = ⊥
 WritesFiles Trial = ⊥
 WritesFiles Signals = ⊤
+WritesFiles Front = ⊥
 
 -- no argument has a fault, no name is missing, and two files of a command that writes files have one name
 pub record HasOneNameTwice (command : CommandWord) (arguments : List Argument) (position : ℕ) : Type 0 where

@@ -6,13 +6,14 @@ use Rattle.plan_core.specs.Grid.{GridSize}
 use Rattle.plan_words.specs.declared.command.CommandWord.{CommandWord}
 use Rattle.plan_words.specs.declared.command.CommandWord.TheVariants as words
 use Rattle.plan_words.specs.declared.command.Command.{Command}
-use Rattle.plan_words.specs.declared.command.Command.TheVariants.{Draw, Verify, Check, Graph, Make, Trial, Signals}
+use Rattle.plan_words.specs.declared.command.Command.TheVariants.{Draw, Verify, Check, Graph, Make, Trial, Signals, Front}
 use Rattle.plan_words.specs.declared.option_values.OptionWord.{OptionWord}
 use Rattle.plan_words.specs.declared.option_values.OptionWord.TheVariants as options
 use Rattle.plan_words.specs.declared.arguments.Argument.{Argument}
 use Rattle.plan_words.specs.declared.fault.WordFault.{WordFault}
 use Rattle.plan_words.specs.declared.fault.WordFault.TheVariants as answers
 use Rattle.plan_words.specs.OptionValues.{option_word, IsWidth, IsHeight, IsLeastLength, IsBudget, IsSeed, IsOrderText}
+use Rattle.plan_words.specs.OptionValues.{IsPairText}
 use Rattle.plan_words.specs.Arguments.{arguments_from, argument_names, files_in, option_value}
 use Rattle.plan_words.specs.WordFaults.{command_word, name_count, HaveNoFault, WritesFiles, file_names, IsFaultOfWords}
 
@@ -40,6 +41,17 @@ pub record IsDrawCommand (arguments : List Argument) (input : List ℕ) (grid : 
   pub svg_name : svg ≡ given_for options.Svg arguments
   pub log_name : log ≡ given_for options.Log arguments
 
+-- the parts of the command for a front
+pub record IsFrontCommand (arguments : List Argument) (input : List ℕ) (first second : Criterion) (grid : GridSize)
+    (budget : ℕ) : Type 0 where
+  pub pair : List ℕ
+  pub names : argument_names arguments ≡ input ∷ pair ∷ []
+  pub criteria : IsPairText pair first second
+  pub width : IsChosen (given_for options.Width arguments) IsWidth 40 grid.width
+  pub height : IsChosen (given_for options.Height arguments) IsHeight 8 grid.height
+  pub least : IsChosen (given_for options.Least arguments) IsLeastLength 1 grid.least
+  pub conflicts : IsChosen (given_for options.Conflicts arguments) IsBudget 50000 budget
+
 abbrev pub command_kind : Command → CommandWord
 command_kind (Draw input grid order budget svg log) = words.Draw
 command_kind (Verify input sheet) = words.Verify
@@ -48,6 +60,7 @@ command_kind (Graph input) = words.Graph
 command_kind (Make n) = words.Make
 command_kind (Trial n) = words.Trial
 command_kind (Signals input grid order budget log) = words.Signals
+command_kind (Front input first second grid budget) = words.Front
 
 -- the command has the parts that its arguments give
 abbrev pub HasParts : List Argument → Command → Type 0
@@ -59,6 +72,7 @@ HasParts arguments (Make n) = (name : List ℕ) × (argument_names arguments ≡
 HasParts arguments (Trial n) = (name : List ℕ) × (argument_names arguments ≡ name ∷ []) × IsSeed name n
 -- those of `draw` without a picture; the least length is 1, for `signals` has no option that gives another
 HasParts arguments (Signals input grid order budget log) = IsDrawCommand arguments input grid order budget None log
+HasParts arguments (Front input first second grid budget) = IsFrontCommand arguments input first second grid budget
 
 -- the arguments of a command without a fault
 pub record AreSoundArguments (command : CommandWord) (arguments : List Argument) : Type 0 where

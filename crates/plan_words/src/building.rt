@@ -8,13 +8,13 @@ ghost use Rattle.line_text.specs.Numbers.{IsNumberIn};
 ghost use Rattle.plan_words.specs.OptionValues.{IsWidth, IsHeight, IsLeastLength, IsBudget, IsSeed, IsOrderText};
 ghost use Rattle.plan_words.specs.Arguments.{argument_names};
 ghost use Rattle.plan_words.specs.WordFaults.{name_count};
-ghost use Rattle.plan_words.specs.Soundness.{SoundFrom};
+ghost use Rattle.plan_words.specs.Soundness.{SoundFrom, AreTaken};
 ghost use Rattle.plan_words.specs.Words.{default_order, IsChosen, given_for, IsDrawCommand, command_kind, HasParts};
 
 use crate::Command;
 use crate::arguments::Argument;
 use crate::command::CommandWord;
-use crate::option_values::{MAX_SEED, OptionWord, number_in, order_in};
+use crate::option_values::{MAX_SEED, OptionWord, number_in, order_in, pair_in};
 use plan_core::{
     Criterion, Grid, MAX_BUDGET, MAX_HEIGHT, MAX_LEAST, MAX_WIDTH, Order, OutOfMemory, Text,
 };
@@ -96,7 +96,7 @@ fn number_given(
 
 /// The grid that the options give, or parts of the default in their place.
 fn grid_given(arguments: &[Argument]) -> Grid
-    requires { SoundFrom words.Draw [] arguments.now }
+    requires { AreTaken arguments.now }
     ensures width { IsChosen (given_for options.Width arguments.now) IsWidth 40 result.width }
     ensures height { IsChosen (given_for options.Height arguments.now) IsHeight 8 result.height }
     ensures least { IsChosen (given_for options.Least arguments.now) IsLeastLength 1 result.least }
@@ -139,7 +139,7 @@ fn usual_order() -> Order
 
 /// The order that the option gives, or the default.
 fn order_given(arguments: &[Argument]) -> Order
-    requires { SoundFrom words.Draw [] arguments.now }
+    requires { AreTaken arguments.now }
     ensures { IsChosen (given_for options.Criteria arguments.now) IsOrderText default_order result }
 {
     match value_given(arguments, OptionWord::Criteria) {
@@ -208,6 +208,30 @@ fn signals_of(alloc: Global, arguments: &[Argument]) -> Result<Command, OutOfMem
     })
 }
 
+fn front_of(alloc: Global, arguments: &[Argument]) -> Result<Command, OutOfMemory>
+    requires sound { SoundFrom words.Front [] arguments.now }
+    requires enough { 2 ≤ length (argument_names arguments.now) }
+    ensures word { IfOk result (λ c. command_kind c ≡ words.Front) }
+    ensures parts { IfOk result (λ c. HasParts arguments.now c) }
+{
+    let Some((first, second)) = pair_in(name_at(arguments, 1).as_str()) else {
+        unreachable!()
+    };
+    Ok(Command::Front {
+        input: name_copy(alloc, arguments, 0)?,
+        first,
+        second,
+        grid: grid_given(arguments),
+        budget: number_given(
+            arguments,
+            OptionWord::Conflicts,
+            1,
+            MAX_BUDGET,
+            DEFAULT_BUDGET,
+        ),
+    })
+}
+
 /// The number that `make` or `trial` has as its name.
 fn seed_of(arguments: &[Argument]) -> u32
     requires sound { SoundFrom words.Make [] arguments.now ⊎ SoundFrom words.Trial [] arguments.now }
@@ -252,5 +276,6 @@ pub(crate) fn command_of(
             n: seed_of(arguments),
         }),
         CommandWord::Signals => signals_of(alloc, arguments),
+        CommandWord::Front => front_of(alloc, arguments),
     }
 }

@@ -2,7 +2,7 @@
 ghost use Rattle.std.specs.Prelude.{◌≡◌, ◌≢◌, MatchOption};
 ghost use Rattle.plan_words.specs.WordFaults.{command_word, name_count as count_of};
 
-use plan_core::{Grid, Order, Text};
+use plan_core::{Criterion, Grid, Order, Text};
 
 /// A word that names a command.
 #[derive(Clone, Copy, Debug, PartialEq, Eq)]
@@ -14,6 +14,7 @@ pub(crate) enum CommandWord {
     Make,
     Trial,
     Signals,
+    Front,
 }
 
 impl CommandWord {
@@ -29,6 +30,7 @@ impl CommandWord {
             "make" => Some(CommandWord::Make),
             "trial" => Some(CommandWord::Trial),
             "signals" => Some(CommandWord::Signals),
+            "front" => Some(CommandWord::Front),
             _ => None,
         }
     }
@@ -43,7 +45,7 @@ impl CommandWord {
             | CommandWord::Make
             | CommandWord::Trial
             | CommandWord::Signals => 1,
-            CommandWord::Verify => 2,
+            CommandWord::Verify | CommandWord::Front => 2,
             CommandWord::Check => 3,
         }
     }
@@ -93,5 +95,14 @@ pub enum Command {
         order: Order,
         budget: u32,
         log: Option<Text>,
+    },
+    /// Finds each pair of values of the two criteria that no lawful drawing of `input` on the grid betters in both, with
+    /// at most so many learnt clauses as the budget says. The criteria differ.
+    Front {
+        input: Text,
+        first: Criterion,
+        second: Criterion,
+        grid: Grid,
+        budget: u32,
     },
 }

@@ -33,7 +33,8 @@ fn repeated_file(
         | CommandWord::Check
         | CommandWord::Graph
         | CommandWord::Make
-        | CommandWord::Trial => Ok(None),
+        | CommandWord::Trial
+        | CommandWord::Front => Ok(None),
     }
 }
 

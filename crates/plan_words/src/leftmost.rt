@@ -2,7 +2,7 @@
 ghost use Rattle.std.specs.Prelude.{◌≡◌, ◌<◌, ◌+◌, ◌^◌, length, Contains, MatchOption, []};
 ghost use Rattle.std.specs.Bool.{MatchBool};
 ghost use Rattle.plan_words.specs.declared.arguments.Argument.TheVariants.{Name, Setting};
-ghost use Rattle.plan_words.specs.declared.command.CommandWord.TheVariants.{Signals};
+ghost use Rattle.plan_words.specs.declared.command.CommandWord.TheVariants.{Signals, Front};
 ghost use Rattle.plan_words.specs.OptionValues.{option_word};
 ghost use Rattle.plan_words.specs.Arguments.{argument_names, options_in};
 ghost use Rattle.plan_words.specs.WordFaults.{TakesName, IsOptionOf, IsLeftmost};
@@ -11,7 +11,7 @@ ghost use Rattle.plan_words.specs.Soundness.{StandFrom, IsNear, IsFirstWordFault
 use crate::WordWhat;
 use crate::arguments::Argument;
 use crate::command::CommandWord;
-use crate::option_values::{MAX_SEED, OptionWord, number_in};
+use crate::option_values::{MAX_SEED, OptionWord, number_in, pair_in};
 use plan_core::Text;
 
 /// A fault, and the position of its word, counted from 1 at the command.
@@ -60,6 +60,17 @@ fn signals_option(word: &str) -> Option<OptionWord>
     }
 }
 
+/// The option of `front` that the word names, if it names one.
+fn front_option(word: &str) -> Option<OptionWord>
+    ensures { MatchOption result (IsOptionOf Front word.now → ⊥)
+        (λ o. IsOptionOf Front word.now × (word.now ≡ option_word o)) }
+{
+    match OptionWord::named(word) {
+        Some(OptionWord::Criteria | OptionWord::Svg | OptionWord::Log) => None,
+        other => other,
+    }
+}
+
 /// The option of the command that the word names, if it names one.
 fn option_of(command: CommandWord, word: &str) -> Option<OptionWord>
     ensures { MatchOption result (IsOptionOf command word.now → ⊥)
@@ -68,6 +79,7 @@ fn option_of(command: CommandWord, word: &str) -> Option<OptionWord>
     match command {
         CommandWord::Draw => OptionWord::named(word),
         CommandWord::Signals => signals_option(word),
+        CommandWord::Front => front_option(word),
         CommandWord::Verify
         | CommandWord::Check
         | CommandWord::Graph
@@ -76,12 +88,24 @@ fn option_of(command: CommandWord, word: &str) -> Option<OptionWord>
     }
 }
 
-/// Whether the command takes the name.
-fn takes_name(command: CommandWord, name: &str) -> bool
-    ensures { MatchBool result (TakesName command name.now) (TakesName command name.now → ⊥) }
+/// Whether `front` takes the name behind so many others.
+fn front_takes(place: usize, name: &str) -> bool
+    ensures { MatchBool result (TakesName Front place name.now) (TakesName Front place name.now → ⊥) }
+{
+    if place == 0 {
+        !name.is_empty()
+    } else {
+        pair_in(name).is_some()
+    }
+}
+
+/// Whether the command takes the name behind so many others.
+fn takes_name(command: CommandWord, place: usize, name: &str) -> bool
+    ensures { MatchBool result (TakesName command place name.now) (TakesName command place name.now → ⊥) }
 {
     match command {
         CommandWord::Make | CommandWord::Trial => number_in(name, 0, MAX_SEED).is_some(),
+        CommandWord::Front => front_takes(place, name),
         CommandWord::Draw
         | CommandWord::Verify
         | CommandWord::Check
@@ -95,13 +119,14 @@ fn name_fault(command: CommandWord, before: &[Argument], position: u32, name: &s
     ensures { MatchOption result (IsSoundBehind command before.now (Name position name.now))
         (λ found. IsFirstWordFault command before.now (Name position name.now) found.what found.position) }
 {
-    if command.name_count() <= count_names(before) {
+    let place = count_names(before);
+    if command.name_count() <= place {
         return Some(Found {
             what: WordWhat::ExtraWord,
             position,
         });
     }
-    if !takes_name(command, name) {
+    if !takes_name(command, place, name) {
         return Some(Found {
             what: WordWhat::BadValue,
             position,

@@ -3,7 +3,7 @@ ghost use Rattle.std.specs.Prelude.{◌≡◌, ◌≢◌, ◌≤◌, ℕ, List, 
 ghost use Rattle.std.specs.Bool.{MatchBool};
 ghost use Rattle.plan_core.specs.declared.criterion.Criterion.{Criterion as Measure};
 ghost use Rattle.line_text.specs.Numbers.{IsNumberIn};
-ghost use Rattle.plan_words.specs.OptionValues.{option_word, criteria_text, IsOrderText, Takes};
+ghost use Rattle.plan_words.specs.OptionValues.{option_word, criteria_text, IsOrderText, IsPairText, Takes};
 
 use arrayvec::ArrayVec;
 use line_text::{read_criterion, read_number};
@@ -88,6 +88,23 @@ pub(crate) fn order_in(text: &str) -> Option<Order>
 {
     match criteria_in(text) {
         Some(list) => Order::new(&list),
+        None => None,
+    }
+}
+
+/// The two criteria that the text writes, if it writes two that differ.
+pub(crate) fn pair_in(text: &str) -> Option<(Criterion, Criterion)>
+    ensures { MatchOption result ((a b : Measure) → IsPairText text.now a b → ⊥)
+        (λ pair. IsPairText text.now pair.0 pair.1) }
+{
+    match criteria_in(text) {
+        Some(list) => {
+            if list.len() == 2 && list[0] != list[1] {
+                Some((list[0], list[1]))
+            } else {
+                None
+            }
+        }
         None => None,
     }
 }
