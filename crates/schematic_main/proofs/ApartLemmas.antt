@@ -1,12 +1,12 @@
 -- The files that a command writes have different names.
 use Rattle.std.proofs.Common.{ℕ, List, None, Some, refl, sym, arith}
 use Rattle.plan_words.specs.declared.command.Command.{Command}
-use Rattle.plan_words.specs.declared.command.Command.TheVariants.{Draw, Verify, Check, Graph as PrintGraph, Make, Trial, Signals}
+use Rattle.plan_words.specs.declared.command.Command.TheVariants.{Draw, Verify, Check, Graph as PrintGraph, Make, Trial, Signals, Front}
 use Rattle.plan_words.specs.Words.{IsCommandOf}
 use Rattle.plan_words.proofs.AnswerLemmas.{outputs_apart}
 use Rattle.draw_answer.specs.Written.{AreFilesApart}
 use Rattle.draw_answer.proofs.LeavesLemmas.{two_apart}
-use Rattle.schematic_main.specs.Commands.{outputs_of}
+use Rattle.schematic_main.specs.Commands.{outputs_of, HasApartPair}
 
 pub asked_apart : (words : List (List ℕ)) (command : Command) → IsCommandOf words command → AreFilesApart (outputs_of command)
 asked_apart words (Draw input grid order budget None None) asked = λ i j d before within. absurd (omega (arith, within))
@@ -20,3 +20,15 @@ asked_apart words (Make n) asked = λ i j d before within. absurd (omega (arith,
 asked_apart words (Trial n) asked = λ i j d before within. absurd (omega (arith, within))
 asked_apart words (Signals input grid order budget None) asked = λ i j d before within. absurd (omega (arith, within))
 asked_apart words (Signals input grid order budget (Some l)) asked = λ i j d before within. absurd (omega (arith, before, within))
+asked_apart words (Front input first second grid budget) asked = λ i j d before within. absurd (omega (arith, within))
+
+-- the two criteria of a front differ
+pub pair_apart : (words : List (List ℕ)) (command : Command) → IsCommandOf words command → HasApartPair command
+pair_apart words (Draw input grid order budget svg log) asked = tt
+pair_apart words (PrintGraph input) asked = tt
+pair_apart words (Verify input sheet) asked = tt
+pair_apart words (Check input sheet log) asked = tt
+pair_apart words (Make n) asked = tt
+pair_apart words (Trial n) asked = tt
+pair_apart words (Signals input grid order budget log) asked = tt
+pair_apart words (Front input first second grid budget) asked = let parts = asked.parts in let pair = parts.criteria in pair.apart

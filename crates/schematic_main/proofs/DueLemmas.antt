@@ -9,7 +9,7 @@ use Rattle.plan_core.specs.Drawing.{Drawing}
 use Rattle.track_order.specs.Order.{EdgeOrder}
 use Rattle.outside_io.specs.Contents.{Told, IsFileWhereTold, TellsAt}
 use Rattle.plan_words.specs.declared.command.Command.{Command}
-use Rattle.plan_words.specs.declared.command.Command.TheVariants.{Draw, Verify, Check, Graph as PrintGraph, Make, Trial, Signals}
+use Rattle.plan_words.specs.declared.command.Command.TheVariants.{Draw, Verify, Check, Graph as PrintGraph, Make, Trial, Signals, Front}
 use Rattle.plan_words.specs.Words.{IsCommandOf}
 use Rattle.plan_text.specs.SheetText.{Sheet as PlainSheet}
 use Rattle.refute_log.specs.Lines.{log_text, MayAllBeTold}
@@ -38,6 +38,9 @@ use Rattle.sheet_answer.specs.CheckLine.{claim_of, refusal_status, verdict_statu
 use Rattle.sheet_answer.specs.Checked.{IsFoundBroken, IsClaimJudged, IsChecked}
 use Rattle.draw_answer.specs.Drawn.{Job, job, status_of, IsDrawAnswer}
 use Rattle.draw_answer.specs.Signalled.{job_for, IsSignalFileJudged}
+use Rattle.trade_off.specs.declared.outcome.FrontEnd.{FrontEnd}
+use Rattle.trade_off.specs.declared.outcome.FrontEnd.TheVariants.{Whole, Empty, Conflicts, Room as EndRoom}
+use Rattle.front_answer.specs.Fronted.{FrontJob, front_job, status_of_front, IsFronted}
 use Rattle.draw_answer.specs.Tried.{IsTried}
 use Rattle.schematic_main.specs.Commands.{Owes, ends_of, HasSoundFile, AreSound}
 use Rattle.schematic_main.specs.Run.{Asks, IsAnswerDue, FailsIn}
@@ -111,6 +114,15 @@ on_claim P g o sheet log status text owed (inl checked) = elim checked.answer [
 ]
 on_claim P g o sheet log status text owed (inr r) = subst P (sym r.answers.status_is) owed.refused
 
+on_ending : (P : Status → Type 0) (ending : FrontEnd) → P Done → P NoDrawing → P Unfinished → P (status_of_front ending)
+on_ending P Whole done none unfinished = done
+on_ending P Empty done none unfinished = none
+on_ending P Conflicts done none unfinished = unfinished
+on_ending P EndRoom done none unfinished = unfinished
+
+on_front : (P : Status → Type 0) (asked : FrontJob) (traced : Lines → Type 0) (g : Graph) (o : EdgeOrder) (status : Status) (text : List ℕ) → OfOwed P → IsFronted asked traced g o status text → P status
+on_front P asked traced g o status text owed f = subst P (sym f.status_is) (on_ending P f.ending owed.done owed.none owed.unfinished)
+
 on_command : (P : Status → Type 0) (command : Command) (met : Met) (traced : Lines → Type 0) (status : Status) (text : List ℕ) → OfOwed P → (FailsIn command met → P Unread) → Owes command met traced status text → P status
 on_command P (Draw input grid order budget svg log) met traced status text owed unread owes =
     let asked = job grid order budget svg log in
@@ -138,6 +150,11 @@ on_command P (Signals input grid order budget log) met traced status text owed u
     let asked = job grid order budget None log in
     on_input P (text_input 1 input) 0 met (IsAnswerAfter 1 met (IsSignalFileJudged asked met traced)) status text owed.refused (λ fails. unread (0, lit< tt, fails))
     (λ bytes answer. on_signals P asked met traced bytes status text owed answer.1)
+    owes
+on_command P (Front input first second grid budget) met traced status text owed unread owes =
+    let asked = front_job grid first second budget in
+    on_input P (text_input 1 input) 0 met (IsAnswerAfter 1 met (IsFileJudged (IsFronted asked traced))) status text owed.refused (λ fails. unread (0, lit< tt, fails))
+    (λ bytes answer. on_file P (IsFronted asked traced) bytes status text owed.refused (λ g o. on_front P asked traced g o status text owed) answer.1)
     owes
 
 on_due : (P : Status → Type 0) (words : List (List ℕ)) (met : Met) (traced : Lines → Type 0) (status : Status) (text : List ℕ) → OfOwed P → (Asks words (λ command. FailsIn command met) → P Unread) → IsAnswerDue words met traced status text → P status
@@ -270,6 +287,12 @@ sound_ends (Signals input grid order budget log) met traced status text file rea
       | inl a ↦ outcome_status a.signalled.answer.drawn.outcome status a.signalled.answer.drawn.status_is
       | inr r ↦ absurd (file.sound r.fault r.has)
     ]
+sound_ends (Front input first second grid budget) met traced status text file read owes =
+    let asked = front_job grid first second budget in
+    let judged = first_on input met file (IsAnswerAfter 1 met (IsFileJudged (IsFronted asked traced))) status text (λ fails. read (0, lit< tt, fails)) owes in
+    let found = sound_judged (IsFronted asked traced) file.bytes status text file.sound judged.1 in
+    subst (λ s. (s ≡ Done) ⊎ (s ≡ NoDrawing) ⊎ (s ≡ Unfinished)) (sym found.3.status_is)
+    (on_ending (λ s. (s ≡ Done) ⊎ (s ≡ NoDrawing) ⊎ (s ≡ Unfinished)) found.3.ending (inl refl) (inr (inl refl)) (inr (inr refl)))
 
 -- so do words that ask for it
 pub due_ends : (words : List (List ℕ)) (command : Command) (met : Met) (traced : Lines → Type 0) (status : Status) (text : List ℕ) → IsCommandOf words command → AreSound command met.before.contents → (FailsIn command met → ⊥) → IsAnswerDue words met traced status text → ends_of command status

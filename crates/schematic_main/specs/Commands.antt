@@ -7,7 +7,7 @@ use Rattle.plan_core.specs.declared.limits.TheConstants.{MAX_FILE_BYTES, MAX_LOG
 use Rattle.plan_core.specs.Graph.{Graph}
 use Rattle.plan_words.specs.declared.command.Command.{Command}
 use Rattle.plan_words.specs.declared.command.Command.TheVariants.{Draw, Verify, Check, Graph as PrintGraph, Make}
-use Rattle.plan_words.specs.declared.command.Command.TheVariants.{Trial, Signals}
+use Rattle.plan_words.specs.declared.command.Command.TheVariants.{Trial, Signals, Front}
 use Rattle.track_order.specs.Order.{EdgeOrder}
 use Rattle.refute_log.specs.Lines.{log_text, MayAllBeTold}
 use Rattle.refute_log.specs.Told.{Lines}
@@ -26,7 +26,21 @@ use Rattle.draw_answer.specs.Written.{file_named}
 use Rattle.draw_answer.specs.Drawn.{job, IsDrawAnswer, IsLeftByDraw}
 use Rattle.draw_answer.specs.Signalled.{IsSignalFileJudged, HasReadSignals, IsLeftBySignals}
 use Rattle.draw_answer.specs.Tried.{IsMade, IsTried}
+use Rattle.front_answer.specs.Fronted.{front_job, IsFronted}
 use Rattle.sheet_answer.specs.Checked.{IsCheckAnswer}
+
+-- ---- what is asked
+
+-- the two criteria of a front differ
+abbrev pub HasApartPair : Command → Type 0
+HasApartPair (Draw input grid order budget svg log) = ⊤
+HasApartPair (PrintGraph input) = ⊤
+HasApartPair (Verify input sheet) = ⊤
+HasApartPair (Check input sheet log) = ⊤
+HasApartPair (Make n) = ⊤
+HasApartPair (Trial n) = ⊤
+HasApartPair (Signals input grid order budget log) = ⊤
+HasApartPair (Front input first second grid budget) = first ≢ second
 
 -- ---- what it reads and writes
 
@@ -39,6 +53,7 @@ inputs_of (Check input sheet log) = text_input 1 input ∷ text_input 2 sheet �
 inputs_of (Make n) = []
 inputs_of (Trial n) = []
 inputs_of (Signals input grid order budget log) = text_input 1 input ∷ []
+inputs_of (Front input first second grid budget) = text_input 1 input ∷ []
 
 -- the names of the files that a command writes, in this order
 abbrev pub outputs_of : Command → List (List ℕ)
@@ -49,8 +64,9 @@ outputs_of (Check input sheet log) = []
 outputs_of (Make n) = []
 outputs_of (Trial n) = []
 outputs_of (Signals input grid order budget log) = file_named log
+outputs_of (Front input first second grid budget) = []
 
--- a command tells the lines of a search to the trace: draw and signals, where no file is named for them, and trial
+-- a command tells the lines of a search to the trace: draw and signals, where no file is named for them, trial, and front
 abbrev pub TellsTrace : Command → Type 0
 TellsTrace (Draw input grid order budget svg log) = log ≡ None
 TellsTrace (PrintGraph input) = ⊥
@@ -59,6 +75,7 @@ TellsTrace (Check input sheet log) = ⊥
 TellsTrace (Make n) = ⊥
 TellsTrace (Trial n) = ⊤
 TellsTrace (Signals input grid order budget log) = log ≡ None
+TellsTrace (Front input first second grid budget) = ⊤
 
 -- a command has something to search: draw where it read its file and that has a station, trial where its made file has
 -- one, and signals where the file that it read has a station and signals without a fault
@@ -70,6 +87,7 @@ MaySearch (Check input sheet log) met = ⊥
 MaySearch (Make n) met = ⊥
 MaySearch (Trial n) met = HasSomeStation (station_text n)
 MaySearch (Signals input grid order budget log) met = HasReadSignals input met
+MaySearch (Front input first second grid budget) met = HasReadStation input met
 
 -- it may write a file, with what the run met; it may tell the trace
 abbrev pub MayWrite : Command → Met → Type 0
@@ -91,6 +109,7 @@ MayLeave (Make n) met traced name bytes = ⊥
 MayLeave (Trial n) met traced name bytes = ⊥
 MayLeave (Signals input grid order budget log) met traced name bytes =
     IsLeftBySignals input (job grid order budget None log) met name bytes
+MayLeave (Front input first second grid budget) met traced name bytes = ⊥
 
 -- ---- what it owes
 
@@ -110,6 +129,8 @@ Owes (Make n) met traced status text = IsMade n status text
 Owes (Trial n) met traced status text = IsFileJudged (IsTried n traced) (station_text n) status text
 Owes (Signals input grid order budget log) met traced status text =
     IsAnswerToFile input met (IsSignalFileJudged (job grid order budget None log) met traced) status text
+Owes (Front input first second grid budget) met traced status text =
+    IsAnswerToFile input met (IsFileJudged (IsFronted (front_job grid first second budget) traced)) status text
 
 -- ---- how it ends
 
@@ -122,6 +143,7 @@ ends_of (Check input sheet log) status = (status ≡ Done) ⊎ (status ≡ Unfin
 ends_of (Make n) status = status ≡ Done
 ends_of (Trial n) status = (status ≡ Done) ⊎ (status ≡ NoDrawing) ⊎ (status ≡ Unfinished)
 ends_of (Signals input grid order budget log) status = (status ≡ Done) ⊎ (status ≡ NoDrawing) ⊎ (status ≡ Unfinished)
+ends_of (Front input first second grid budget) status = (status ≡ Done) ⊎ (status ≡ NoDrawing) ⊎ (status ≡ Unfinished)
 
 -- the file of this name is told, and its bytes have none of the faults
 pub record HasSoundFile (name : List ℕ) (contents : Option Told) : Type 0 where
@@ -166,3 +188,4 @@ AreSound (Check input sheet log) contents =
 AreSound (Make n) contents = ⊤
 AreSound (Trial n) contents = (fault : RunFault) → HasFileFault (station_text n) fault → ⊥
 AreSound (Signals input grid order budget log) contents = HasSoundSignals input contents
+AreSound (Front input first second grid budget) contents = HasSoundFile input contents

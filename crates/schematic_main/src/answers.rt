@@ -4,11 +4,12 @@ ghost use Rattle.outside_io.specs.Counts.{Rose};
 ghost use Rattle.input_answer.specs.Status.{IsAnswered, IsRefused};
 ghost use Rattle.input_answer.specs.Met.{between, ReadsInputs, IsUnread, IsUnwritten, HasLeft};
 ghost use Rattle.refute_log.specs.ToldTo.{told_to};
-ghost use Rattle.schematic_main.specs.Commands.{inputs_of, outputs_of, MayWrite, MayTell, MayLeave, Owes};
+ghost use Rattle.schematic_main.specs.Commands.{HasApartPair, inputs_of, outputs_of, MayWrite, MayTell, MayLeave, Owes};
 ghost use Rattle.draw_answer.specs.Written.{AreFilesApart};
 ghost use Rattle.schematic_main.specs.Run.{CommandFailsToWrite};
 
 use draw_answer::{Asked, draw, made, signals, trial};
+use front_answer::{FrontAsked, front};
 use input_answer::{Cut, Reply, print};
 use outside_io::Files;
 use plan_words::Command;
@@ -24,6 +25,7 @@ pub fn answer_to<F: Files, T: LogSink>(
     trace: &mut T,
 ) -> Result<Reply, Cut>
     requires apart { AreFilesApart (outputs_of command.now) }
+    requires pair { HasApartPair command.now }
     ensures answer { let met = between (F.at files.old) (F.at files.new) in
         let told = told_to T.tells T.learnt trace.old trace.new in
         IfOk result (λ r. Owes command.now met told r.status r.text.items) }
@@ -83,6 +85,21 @@ pub fn answer_to<F: Files, T: LogSink>(
                 log,
             };
             signals(alloc, input, &asked, files, trace)
+        }
+        Command::Front {
+            input,
+            first,
+            second,
+            grid,
+            budget,
+        } => {
+            let asked = FrontAsked {
+                grid,
+                first: *first,
+                second: *second,
+                budget: *budget,
+            };
+            front(alloc, input, &asked, files, trace)
         }
     }
 }

@@ -1,4 +1,4 @@
-use Rattle.std.proofs.Common.{◌≡◌, ◌⊎◌, sym, subst}
+use Rattle.std.proofs.Common.{◌≡◌, ◌⊎◌, inl, inr, sym, subst}
 use Rattle.std.specs.Prelude.{IfOk, IsOkAnd}
 use Rattle.outside_io.specs.Contents.{WhereTold}
 use Rattle.plan_words.specs.declared.command.Command.{Command}
@@ -85,3 +85,19 @@ returns-in-Signals-clause-untold g c =
     let met = between (g.F.Files.at c.args.files.now) (g.F.Files.at c.signals.new.files) in
     let Refused : Type 0 = IsOkAnd c.signals.result (λ r. IsRefused r.status) in
     subst (λ (command : Command). Refused ⊎ (MayTell command met → ⊥) → c.signals.new.trace ≡ c.args.trace.now) (sym c.in-Signals.is) c.signals.ensures.untold
+
+pub returns-in-Front-clause-answer : goal.returns-in-Front-clause-answer
+returns-in-Front-clause-answer g c =
+    let met = between (g.F.Files.at c.args.files.now) (g.F.Files.at c.front.new.files) in
+    let traced = told_to {Self = g.row.T.Denot} g.T.LogSink.tells g.T.LogSink.learnt c.args.trace.now c.front.new.trace in
+    subst (λ (command : Command). IfOk c.front.result (λ r. Owes command met traced r.status r.text.items)) (sym c.in-Front.is) c.front.ensures.answer
+
+pub returns-in-Front-clause-leaves : goal.returns-in-Front-clause-leaves
+returns-in-Front-clause-leaves g c = leaves_same _ (g.F.Files.at c.args.files.now).contents (g.F.Files.at c.front.new.files).contents c.front.ensures.same
+
+pub returns-in-Front-clause-untold : goal.returns-in-Front-clause-untold
+returns-in-Front-clause-untold g c =
+    let met = between (g.F.Files.at c.args.files.now) (g.F.Files.at c.front.new.files) in
+    let Refused : Type 0 = IsOkAnd c.front.result (λ r. IsRefused r.status) in
+    subst (λ (command : Command). Refused ⊎ (MayTell command met → ⊥) → c.front.new.trace ≡ c.args.trace.now) (sym c.in-Front.is)
+    (λ none. c.front.ensures.untold (elim none [ inl refused ↦ inl refused | inr nothing ↦ inr (λ may. nothing (tt, may)) ]))

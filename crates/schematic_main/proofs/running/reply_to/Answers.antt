@@ -8,11 +8,14 @@ use Rattle.input_answer.specs.Status.{IsAnswered}
 use Rattle.input_answer.specs.Met.{between, ReadsInputs}
 use Rattle.schematic_main.specs.Commands.{inputs_of}
 use Rattle.draw_answer.proofs.LeavesLemmas.{leaves_weaker}
-use Rattle.schematic_main.proofs.ApartLemmas.{asked_apart}
+use Rattle.schematic_main.proofs.ApartLemmas.{asked_apart, pair_apart}
 use Rattle.schematic_main.proofs.running.reply_to.Goals as goal
 
 pub answer_to-requires : goal.answer_to-requires
-answer_to-requires g c = record { apart = asked_apart (texts_of c.args.words.now) c.in-Ok.command c.in-Ok.ensures.value }
+answer_to-requires g c = record {
+  apart = asked_apart (texts_of c.args.words.now) c.in-Ok.command c.in-Ok.ensures.value;
+  pair = pair_apart (texts_of c.args.words.now) c.in-Ok.command c.in-Ok.ensures.value;
+}
 
 pub returns-in-Ok-clause-answer : goal.returns-in-Ok-clause-answer
 returns-in-Ok-clause-answer g c = IfOk-weaker c.answer_to.result _ _ (λ r owes. inl (c.in-Ok.command, c.in-Ok.ensures.value, owes)) c.answer_to.ensures.answer

@@ -1,0 +1,7 @@
+use Rattle.std.specs.Prelude.{◌≡◌, ◌++◌, flat_map}
+use Rattle.std.specs.List.{take}
+use Rattle.front_answer.specs.FrontText.{pair_line}
+use Rattle.front_answer.proofs.writing.push_pairs.Given as goal
+
+abbrev pub invariant-loop-pair : goal.invariant-loop-pair
+invariant-loop-pair l = l.into.items ≡ l.fn.into.items ++ flat_map pair_line (take l.pair-index l.pairs)

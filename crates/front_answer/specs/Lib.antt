@@ -1,0 +1,2 @@
+pub mod FrontText
+pub mod Fronted
