@@ -99,7 +99,8 @@ pub fn front<F: Files, T: LogSink>(
     requires apart { asked.now.first ≢ asked.now.second }
     ensures answer { let met = between (F.at files.old) (F.at files.new) in
         let told = told_to T.tells T.learnt trace.old trace.new in
-        IfOk result (λ r. IsAnswerToFile input.now met (IsFileJudged (IsFronted asked.now told)) r.status r.text.items) }
+        IfOk result (λ r. IsAnswerToFile input.now met (IsFileJudged (IsFronted asked.now told))
+        r.status r.text.items) }
     ensures reads { let met = between (F.at files.old) (F.at files.new) in
         ReadsInputs 1 (IsOkAnd result (λ r. IsAnswered r.status)) met }
     ensures unwritten { let met = between (F.at files.old) (F.at files.new) in IsUnwritten met }

@@ -1,5 +1,5 @@
 -- What can be wrong with the words of a command line, and which fault counts.
-use Rattle.std.specs.Prelude.{◌≡◌, ◌≢◌, ◌≤◌, ◌<◌, ◌⊎◌, ℕ, suc, ◌+◌, None, Some, List, [], ◌∷◌, ◌++◌, codes, length, map}
+use Rattle.std.specs.Prelude.{◌≡◌, ◌≢◌, ◌≤◌, ◌<◌, ◌⊎◌, ℕ, zero, suc, ◌+◌, None, Some, List, [], ◌∷◌, ◌++◌, codes, length, map}
 use Rattle.std.specs.Prelude.{Contains, AllPairs, ⊤}
 use Rattle.plan_words.specs.declared.command.CommandWord.{CommandWord}
 use Rattle.plan_words.specs.declared.command.CommandWord.TheVariants.{Draw, Verify, Check, Graph, Make, Trial, Signals}
@@ -67,7 +67,7 @@ TakesName Graph place name = name ≢ []
 TakesName Make place name = (n : ℕ) × IsSeed name n
 TakesName Trial place name = (n : ℕ) × IsSeed name n
 TakesName Signals place name = name ≢ []
-TakesName Front 0 name = name ≢ []
+TakesName Front zero name = name ≢ []
 TakesName Front (suc place) name = (first : Criterion) × (second : Criterion) × IsPairText name first second
 
 -- the options of `signals`: it has no `--least`, since each edge is as long as its signals need, and no `--svg`, since

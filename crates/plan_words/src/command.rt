@@ -96,8 +96,8 @@ pub enum Command {
         budget: u32,
         log: Option<Text>,
     },
-    /// Finds each pair of values of the two criteria that no lawful drawing of `input` on the grid betters in both, with
-    /// at most so many learnt clauses as the budget says. The criteria differ.
+    /// Finds each pair of values of the two criteria that no lawful drawing of `input` on the grid betters in both,
+    /// with at most so many learnt clauses as the budget says. The criteria differ.
     Front {
         input: Text,
         first: Criterion,

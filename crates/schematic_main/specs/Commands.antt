@@ -66,7 +66,8 @@ outputs_of (Trial n) = []
 outputs_of (Signals input grid order budget log) = file_named log
 outputs_of (Front input first second grid budget) = []
 
--- a command tells the lines of a search to the trace: draw and signals, where no file is named for them, trial, and front
+-- a command tells the lines of a search to the trace: draw and signals, where no file is named for them, trial and
+-- front
 abbrev pub TellsTrace : Command → Type 0
 TellsTrace (Draw input grid order budget svg log) = log ≡ None
 TellsTrace (PrintGraph input) = ⊥

@@ -98,6 +98,19 @@ fn command_shown(alloc: Global, command: &Command) -> Result<String, AllocError>
             let log = file_shown(log);
             format!(in alloc; "signals {search} {log}")
         }
+        Command::Front {
+            input,
+            first,
+            second,
+            grid,
+            budget,
+        } => {
+            let input = input.as_str();
+            let first = letter_of(*first);
+            let second = letter_of(*second);
+            let grid = grid_shown(alloc, grid)?;
+            format!(in alloc; "front {input} {first}{second} {grid} {budget}")
+        }
     }
 }
 
@@ -245,6 +258,34 @@ static SIGNALS: [(&[&str], &str); 9] = [
     (&["signals", "a", "--log", "a"], "7 BadValue 4"),
 ];
 
+static FRONTS: [(&[&str], &str); 9] = [
+    (&["front", "a", "height,width"], "front a hw 40 8 1 50000"),
+    (
+        &[
+            "front",
+            "--least",
+            "2",
+            "a",
+            "--width",
+            "9",
+            "diagonal,bends",
+            "--conflicts",
+            "7",
+        ],
+        "front a db 9 8 2 7",
+    ),
+    (&["front", "a"], "3 MissingName 3"),
+    (&["front", "", "height,width"], "7 BadValue 2"),
+    (&["front", "a", "height,height"], "7 BadValue 3"),
+    (&["front", "a", "height"], "7 BadValue 3"),
+    (&["front", "a", "height,bends,width"], "7 BadValue 3"),
+    (&["front", "a", "height,width", "b"], "4 ExtraWord 4"),
+    (
+        &["front", "a", "height,width", "--order", "width"],
+        "5 UnknownOption 4",
+    ),
+];
+
 #[test]
 fn words_are_a_command_or_have_the_fault_that_counts(rt: HostRuntime) -> Result<(), Fail> {
     let alloc = rt.alloc();
@@ -261,6 +302,18 @@ fn words_of_signals_are_a_command_or_have_the_fault_that_counts(
 ) -> Result<(), Fail> {
     let alloc = rt.alloc();
     for (words, want) in &SIGNALS {
+        let answer = answer_shown(alloc, words)?;
+        assert_eq!(rt; answer.as_str(), *want, "{words:?}");
+    }
+    Ok(())
+}
+
+#[test]
+fn words_of_fronts_are_a_command_or_have_the_fault_that_counts(
+    rt: HostRuntime,
+) -> Result<(), Fail> {
+    let alloc = rt.alloc();
+    for (words, want) in &FRONTS {
         let answer = answer_shown(alloc, words)?;
         assert_eq!(rt; answer.as_str(), *want, "{words:?}");
     }
