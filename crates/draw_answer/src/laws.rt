@@ -12,9 +12,10 @@ ghost use Rattle.lex_search.specs.Outcome.{values_found};
 ghost use Rattle.track_order.specs.Order.{EdgeOrder};
 ghost use Rattle.input_answer.specs.declared.status.Status.TheVariants.{Unfinished};
 ghost use Rattle.draw_answer.specs.SearchLog.{IsLogFile};
-ghost use Rattle.input_answer.specs.declared.status.Status.{Status};
-ghost use Rattle.input_answer.specs.Met.{Met};
-ghost use Rattle.draw_answer.specs.Signalled.{IsSignalAnswer, StandApart};
+ghost use Rattle.railml_read.specs.declared.rows.SignalElem.{SignalElem};
+ghost use Rattle.plan_objects.specs.declared.places.SignalPlace.{SignalPlace};
+ghost use Rattle.input_answer.specs.Signals.{HasSignalStation};
+ghost use Rattle.draw_answer.specs.Signalled.{job_for, StandApart};
 ghost use Rattle.draw_answer.specs.Drawn.{Job, found_by, status_of, HasEnded, AreSettled, HasSpentAll, HasFilledRoom};
 
 /// Of the lines of a search: where none is found to be lawful, that is certified. Where it is unfinished, the criteria
@@ -35,12 +36,12 @@ pub fn how_searches_end()
         ⊎ ((found : Option Values) × HasFilledRoom g o asked lines found) }
 {}
 
-/// On the drawing that `signals` puts the columns of each edge's signals lie strictly between the ends of its line and
-/// rise with mileage, at one mileage in file order; and no such columns have a greater least gap.
+/// On the drawing that a search for `signals` found the columns of each edge's signals lie strictly between the ends of
+/// its line and rise with mileage, at one mileage in file order; and no such columns have a greater least gap.
 pub fn signals_stand_apart()
-    ensures apart { (asked : Job) (met : Met) (traced : Lines → Type 0) (bytes : List ℕ) (status : Status)
-        (text : List ℕ) → (a : IsSignalAnswer asked met traced bytes status text) →
-        StandApart a.places (found_by a.signalled.answer.drawn.outcome) }
+    ensures { (bytes : List ℕ) (g : Graph) (o : EdgeOrder) (signals : List SignalElem) (places : List SignalPlace)
+        (asked : Job) (outcome : Outcome) (lines : Lines) → HasSignalStation bytes g o signals places →
+        HasEnded g o (job_for places asked) outcome lines → StandApart places (found_by outcome) }
 {}
 
 /// The lines of a log are one list, where a file is told to hold them.

@@ -18,10 +18,8 @@ apart places None room = tt
 apart places (Some d) room = λ i there. let r = room i there in spread_at places (line_under places d i) i there r.long
 
 pub returns : goal.returns
-returns c = λ asked met traced bytes status text a.
-    let found = a.has.has_signals in
-    let longer = job_for a.places asked in
-    let drawn = a.signalled.answer.drawn in
-    let there = edges_there (station found.rows found.topology a.graph) a.signals a.places found.beside.built found.placed.are in
-    apart a.places (found_by drawn.outcome)
-    (found_has_room a.graph a.order longer a.places drawn.outcome drawn.searched.lines drawn.searched.ended (least_is_need a.places longer refl) there)
+returns c = λ bytes g o signals places asked outcome lines has ended.
+    let found = has.has_signals in
+    let longer = job_for places asked in
+    let there = edges_there (station found.rows found.topology g) signals places found.beside.built found.placed.are in
+    apart places (found_by outcome) (found_has_room g o longer places outcome lines ended (least_is_need places longer refl) there)
