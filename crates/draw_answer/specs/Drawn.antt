@@ -82,7 +82,8 @@ status_of (outcomes.Room found settled) = statuses.Unfinished
 abbrev pub HasEnded : Graph → EdgeOrder → Job → Outcome → Lines → Type 0
 HasEnded g o asked outcome lines = IsOutcome (search_of g o asked) asked.order outcome lines
 
--- the criteria that the lines certify of the values of what was found are the first of the order, so many and no more
+-- the lines certify so many values of what was found, the first of the order, and that is the most below the order's
+-- length; none where nothing was found
 abbrev pub AreSettled : Graph → Job → Lines → Option Drawing → ℕ → Type 0
 AreSettled g asked lines found settled =
     Settled (limit_of g asked.grid) lines asked.order (values_found found) settled

@@ -1,6 +1,6 @@
 -- What signals answers to a station with its signals: what draw answers to the station where each edge goes over as
--- many columns as its signals need, and behind a sheet with a drawing the text of the signals; and with which bytes it
--- may leave a file.
+-- many columns at least as the edge with the most signals needs, and behind a sheet with a drawing the text of the
+-- signals; and with which bytes it may leave a file.
 use Rattle.std.specs.Prelude.{◌≡◌, ◌<◌, ◌⊎◌, ℕ, List, [], ◌++◌, None, Some, length, ⊤}
 use Rattle.std.specs.declared.option.Option.{Option}
 use Rattle.plan_core.specs.Grid.{grid_with}
@@ -23,8 +23,7 @@ use Rattle.draw_answer.specs.Drawn.{Job, job, found_by, IsDrawAnswer}
 
 -- ---- what is asked
 
--- the same of a drawing on which each edge goes over as many columns as these signals need, in place of the least
--- length that was asked for
+-- what is asked, with what these signals need as the least length of each edge, in place of the one that was asked for
 abbrev pub job_for : List SignalPlace → Job → Job
 job_for places asked = job (grid_with asked.grid.width asked.grid.height (need_of places)) asked.order asked.budget
     asked.svg asked.log

@@ -1,5 +1,5 @@
-// What signals answers: what draw answers where each edge is as long as its signals need, and the text of the signals
-// behind the sheet of a drawing.
+// What signals answers: what draw answers where each edge is as long at least as the one with the most signals needs,
+// and the text of the signals behind the sheet of a drawing.
 ghost use Rattle.std.specs.Prelude.{◌≡◌, ◌≢◌, ◌<◌, ◌≤◌, ◌⊎◌, ◌++◌, ℕ, ⊤, false, [], None, Some, length, All, IfOk};
 ghost use Rattle.std.specs.Prelude.{OnOk, IfSome, IsOkAnd, IsErrOf};
 ghost use Rattle.outside_io.specs.Counts.{Rose};
@@ -32,7 +32,7 @@ use plan_objects::{Placed, write_signals};
 use refute_log::LogSink;
 use std::alloc::Global;
 
-/// The grid on which each edge goes over as many columns as these signals need.
+/// The grid on which each edge goes over as many columns at least as these signals need.
 fn grid_for(placed: &Placed, grid: &Grid) -> Grid
     ensures { result ≡ grid_with grid.now.width grid.now.height (need_of placed.now) }
 {
