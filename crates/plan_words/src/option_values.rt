@@ -1,5 +1,5 @@
 // Options and the values that they take.
-ghost use Rattle.std.specs.Prelude.{◌≡◌, ◌≢◌, ◌≤◌, ℕ, List, length, MatchOption};
+ghost use Rattle.std.specs.Prelude.{◌≡◌, ◌≢◌, ◌≤◌, ℕ, List, [], ◌∷◌, length, MatchOption};
 ghost use Rattle.std.specs.Bool.{MatchBool};
 ghost use Rattle.plan_core.specs.declared.criterion.Criterion.{Criterion as Measure};
 ghost use Rattle.line_text.specs.Numbers.{IsNumberIn};
@@ -92,19 +92,29 @@ pub(crate) fn order_in(text: &str) -> Option<Order>
     }
 }
 
+/// The two criteria of the list, if it has two that differ.
+fn pair_of(list: &[Criterion]) -> Option<(Criterion, Criterion)>
+    ensures { MatchOption result ((a b : Measure) → a ≢ b → list.now ≢ a ∷ b ∷ [])
+        (λ pair. (pair.0 ≢ pair.1) × (list.now ≡ pair.0 ∷ pair.1 ∷ [])) }
+{
+    if list.len() != 2 {
+        return None;
+    }
+    let first = list[0];
+    let second = list[1];
+    if first == second {
+        return None;
+    }
+    Some((first, second))
+}
+
 /// The two criteria that the text writes, if it writes two that differ.
 pub(crate) fn pair_in(text: &str) -> Option<(Criterion, Criterion)>
     ensures { MatchOption result ((a b : Measure) → IsPairText text.now a b → ⊥)
         (λ pair. IsPairText text.now pair.0 pair.1) }
 {
     match criteria_in(text) {
-        Some(list) => {
-            if list.len() == 2 && list[0] != list[1] {
-                Some((list[0], list[1]))
-            } else {
-                None
-            }
-        }
+        Some(list) => pair_of(&list),
         None => None,
     }
 }
