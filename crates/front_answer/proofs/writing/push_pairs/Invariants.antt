@@ -1,5 +1,4 @@
-use Rattle.std.specs.Prelude.{◌≡◌, ◌++◌, flat_map}
-use Rattle.std.specs.List.{take}
+use Rattle.std.specs.Prelude.{◌≡◌, ◌++◌, flat_map, take}
 use Rattle.front_answer.specs.FrontText.{pair_line}
 use Rattle.front_answer.proofs.writing.push_pairs.Given as goal
 

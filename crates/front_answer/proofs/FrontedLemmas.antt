@@ -1,0 +1,42 @@
+-- What front answers, from what the search for the front says.
+use Rattle.std.proofs.Common.{◌≡◌, ◌⊎◌, ℕ, List, inl, inr, subst}
+use Rattle.plan_core.specs.declared.criterion.Criterion.{Criterion}
+use Rattle.plan_core.specs.Grid.{GridSize}
+use Rattle.plan_core.specs.Graph.{Graph}
+use Rattle.outside_io.specs.Contents.{FilesAt}
+use Rattle.cnf_core.specs.declared.limits.TheConstants.{ROOM}
+use Rattle.track_order.specs.Order.{EdgeOrder}
+use Rattle.refute_log.specs.Told.{Lines}
+use Rattle.lex_search.specs.Task.{IsLawful}
+use Rattle.trade_off.specs.declared.outcome.FrontEnd.{FrontEnd}
+use Rattle.trade_off.specs.Front.{Pairs}
+use Rattle.trade_off.specs.Outcome.{IsRightFront, IsFrontLog}
+use Rattle.drawing_problem.specs.Layout.{layout}
+use Rattle.lex_minimise.specs.Task.{task_of}
+use Rattle.input_answer.specs.declared.status.Status.{Status}
+use Rattle.input_answer.specs.Input.{IsStationOf}
+use Rattle.input_answer.specs.Met.{between, HasRead}
+use Rattle.input_answer.specs.Answer.{HasReadStation}
+use Rattle.front_answer.specs.FrontText.{front_text}
+use Rattle.front_answer.specs.Fronted.{FrontJob, front_job, status_of_front, IsFronted}
+
+pub fronted : (grid : GridSize) (a b : Criterion) (budget : ℕ) (asked : FrontJob) (IsTold : Lines → Type 0) (g : Graph) (o : EdgeOrder) (pairs : Pairs) (ending : FrontEnd) (status : Status) (text : List ℕ) → front_job grid a b budget ≡ asked →
+    IsRightFront (IsLawful (task_of (layout g o grid) budget ROOM)) a b pairs ending → (lines : Lines) × IsTold lines × IsFrontLog (task_of (layout g o grid) budget ROOM) a b ending lines →
+    status ≡ status_of_front ending → text ≡ front_text a b pairs ending → IsFronted asked IsTold g o status text
+fronted grid a b budget asked IsTold g o pairs ending status text same right log status_is spelled =
+    subst (λ (j : FrontJob). IsFronted j IsTold g o status text) same (record {
+      pairs = pairs;
+      ending = ending;
+      right = right;
+      lines = log.0;
+      told = log.1;
+      log = log.2;
+      status_is = status_is;
+      spelled = spelled;
+    })
+
+-- the trace is told nothing where the run is refused or has nothing to search; it is neither here
+pub untold_here : {T : Type 0} (name : List ℕ) (old new : FilesAt) (g : Graph) (o : EdgeOrder) (Refused : Type 0) (before after : T) → IsStationOf name old.contents g o → HasRead (between old new) 1 → (Refused → ⊥) →
+    Refused ⊎ (HasReadStation name (between old new) → ⊥) → after ≡ before
+untold_here name old new g o Refused before after has read answered (inl refused) = absurd (answered refused)
+untold_here name old new g o Refused before after has read answered (inr none) = absurd (none (g, o, (read, has)))
