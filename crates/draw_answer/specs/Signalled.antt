@@ -19,7 +19,8 @@ use Rattle.input_answer.specs.declared.status.Status.{Status}
 use Rattle.input_answer.specs.Fault.{IsFaultLine}
 use Rattle.input_answer.specs.Signals.{HasFault, HasSignalStation, IsSignalStationOf}
 use Rattle.input_answer.specs.Met.{Met, HasRead}
-use Rattle.draw_answer.specs.Drawn.{Job, job, found_by, IsDrawAnswer}
+use Rattle.lex_search.specs.declared.outcome.Outcome.{Outcome}
+use Rattle.draw_answer.specs.Drawn.{Job, job, found_by, HasEnded, IsDrawAnswer}
 
 -- ---- what is asked
 
@@ -70,6 +71,11 @@ abbrev pub StandApart : List SignalPlace → Option Drawing → Type 0
 StandApart places None = ⊤
 StandApart places (Some d) = (i : ℕ) → i < length places →
     AreSpread places (line_under places d i) (edge_at places i) (column_on places (line_under places d i))
+
+-- so it is with each search of the station for what signals asks
+abbrev pub StandApartWhereFound : Graph → EdgeOrder → List SignalPlace → Type 0
+StandApartWhereFound g o places = (asked : Job) (outcome : Outcome) (lines : Lines) →
+    HasEnded g o (job_for places asked) outcome lines → StandApart places (found_by outcome)
 
 -- ---- what signals leaves
 

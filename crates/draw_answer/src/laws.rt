@@ -15,8 +15,8 @@ ghost use Rattle.draw_answer.specs.SearchLog.{IsLogFile};
 ghost use Rattle.railml_read.specs.declared.rows.SignalElem.{SignalElem};
 ghost use Rattle.plan_objects.specs.declared.places.SignalPlace.{SignalPlace};
 ghost use Rattle.input_answer.specs.Signals.{HasSignalStation};
-ghost use Rattle.draw_answer.specs.Signalled.{job_for, StandApart};
-ghost use Rattle.draw_answer.specs.Drawn.{Job, found_by, status_of, HasEnded, AreSettled, HasSpentAll, HasFilledRoom};
+ghost use Rattle.draw_answer.specs.Signalled.{StandApartWhereFound};
+ghost use Rattle.draw_answer.specs.Drawn.{Job, status_of, HasEnded, AreSettled, HasSpentAll, HasFilledRoom};
 
 /// Of the lines of a search: where none is found to be lawful, that is certified. Where it is unfinished, the criteria
 /// that are called settled are those that are certified, and no more. It stops only where the whole budget of learnt
@@ -39,9 +39,8 @@ pub fn how_searches_end()
 /// On the drawing that a search for `signals` found the columns of each edge's signals lie strictly between the ends of
 /// its line and rise with mileage, at one mileage in file order; and no such columns have a greater least gap.
 pub fn signals_stand_apart()
-    ensures { (bytes : List ℕ) (g : Graph) (o : EdgeOrder) (signals : List SignalElem) (places : List SignalPlace)
-        (asked : Job) (outcome : Outcome) (lines : Lines) → HasSignalStation bytes g o signals places →
-        HasEnded g o (job_for places asked) outcome lines → StandApart places (found_by outcome) }
+    ensures { (bytes : List ℕ) (g : Graph) (o : EdgeOrder) (signals : List SignalElem) (places : List SignalPlace) →
+        HasSignalStation bytes g o signals places → StandApartWhereFound g o places }
 {}
 
 /// The lines of a log are one list, where a file is told to hold them.

@@ -18,7 +18,7 @@ apart places None room = tt
 apart places (Some d) room = λ i there. let r = room i there in spread_at places (line_under places d i) i there r.long
 
 pub returns : goal.returns
-returns c = λ bytes g o signals places asked outcome lines has ended.
+returns c = λ bytes g o signals places has asked outcome lines ended.
     let found = has.has_signals in
     let longer = job_for places asked in
     let there = edges_there (station found.rows found.topology g) signals places found.beside.built found.placed.are in
