@@ -31,6 +31,7 @@ def write_whole(name, text):
 def files_of(words):
     """the files that words name"""
     names, options = words_by_kind(words)
+    names = names[:1] if words[:1] == ["front"] else names
     return names + [options[name] for name in ("--svg", "--log") if options.get(name)]
 
 
