@@ -1,5 +1,5 @@
--- What front answers to a station: the pairs of values of two criteria that no lawful drawing betters in both, and how
--- the search for them ended.
+-- What front answers to a station: the front of two criteria, pairs of values of which no lawful drawing has less of
+-- one without more of the other, and how the search for them ended.
 use Rattle.std.specs.Prelude.{◌≡◌, ℕ, List}
 use Rattle.plan_core.specs.declared.criterion.Criterion.{Criterion}
 use Rattle.plan_core.specs.Grid.{GridSize}
