@@ -8,11 +8,11 @@ LINE = 120
 
 
 def long_clauses(contracts):
-    """Clauses of src/, without their names, white space counted once."""
+    """Clauses of src/ between their brackets, as they stand there, with line breaks and indentation."""
     found = []
     for contract in contracts:
         for clause in contract.clauses:
-            body = " ".join(clause.text[clause.text.index("{") + 1:clause.text.rindex("}")].split())
+            body = clause.text[clause.text.index("{") + 1:clause.text.rindex("}")].strip()
             if len(body) > CLAUSE:
                 found.append(f"{show(contract.path)}: the clause {contract.name}: {clause.name or 'without a name'} has "
                              f"{len(body)} characters, above {CLAUSE}")

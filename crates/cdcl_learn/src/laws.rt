@@ -26,8 +26,7 @@ pub fn closed_levels_stay()
     ensures opened { (s t : Sight) (clauses : Clauses) → t.level ≡ s.level + 1 → SameUpto s t t.level →
         IsStable clauses (upto s s.level) →
         HasClosedLevels s clauses → HasClosedLevels t clauses }
-    ensures learnt { (s t : Sight) (clauses : Clauses) (first : Literal) (rest : List Literal) →
-        AreDistinct s.lits → IsLearnt s first rest → IsBack s rest t.level → SameUpto s t t.level →
-        HasClosedLevels s clauses →
-        HasClosedLevels t (clauses ++ (first ∷ rest) ∷ []) }
+    ensures learnt { (s t : Sight) (cs : Clauses) (first : Literal) (rest : List Literal) → AreDistinct s.lits →
+        IsLearnt s first rest → IsBack s rest t.level → SameUpto s t t.level → HasClosedLevels s cs →
+        HasClosedLevels t (cs ++ (first ∷ rest) ∷ []) }
 {}

@@ -14,17 +14,16 @@ pub fn one_place_lacks_first()
         (found : Option ℕ) →
         s ≤ length order → Certifies greatest lines order v s → IsFirstLacking greatest lines order v s found → found
         ≡ None }
-    ensures once { (greatest : Criterion → ℕ) (lines : Lines) (order : List Criterion) (v : Values) (s : ℕ)
-        (found other : Option ℕ) → s ≤ length order →
-        IsFirstLacking greatest lines order v s found → IsFirstLacking greatest lines order v s other → found ≡ other }
+    ensures once { (top : Criterion → ℕ) (lines : Lines) (order : List Criterion) (v : Values) (s : ℕ)
+        (found other : Option ℕ) → s ≤ length order → IsFirstLacking top lines order v s found →
+        IsFirstLacking top lines order v s other → found ≡ other }
 {}
 
 /// Whatever gives the greatest values, only they count.
 pub fn only_greatest_values_lack()
-    ensures { (greatest other : Criterion → ℕ) (lines : Lines) (order : List Criterion) (v : Values) (s : ℕ)
-        (found : Option ℕ) →
-        ((b : Criterion) → greatest b ≡ other b) →
-        IsFirstLacking greatest lines order v s found → IsFirstLacking other lines order v s found }
+    ensures { (top other : Criterion → ℕ) (ls : Lines) (order : List Criterion) (v : Values) (s : ℕ) (found : Option ℕ)
+        → ((b : Criterion) → top b ≡ other b) → IsFirstLacking top ls order v s found →
+        IsFirstLacking other ls order v s found }
 {}
 
 /// The verdict on no literals is the one on there being no drawing.

@@ -22,9 +22,9 @@ pub fn certified_values_are_least()
     ensures least { (greatest : Criterion → ℕ) (lines : Lines) (order : List Criterion) (v w : Values) (s : ℕ) →
         MeetsLog lines w → Derives lines → Certifies greatest lines order v s → Better (take s order) w v → ⊥ }
     ensures none { (lines : Lines) (w : Values) → MeetsLog lines w → Derives lines → CertifiesNone lines → ⊥ }
-    ensures once { (greatest : Criterion → ℕ) (lines : Lines) (order : List Criterion) (v w : Values) (s : ℕ) →
-        MeetsLog lines v → MeetsLog lines w → Derives lines → Certifies greatest lines order v s →
-        Certifies greatest lines order w s → AreSameAt (take s order) v w }
+    ensures once { (greatest : Criterion → ℕ) (ls : Lines) (order : List Criterion) (v w : Values) (s : ℕ) →
+        MeetsLog ls v → MeetsLog ls w → Derives ls → Certifies greatest ls order v s → Certifies greatest ls order w s →
+        AreSameAt (take s order) v w }
 {}
 
 /// Whoever wrote the log: where it covers the lawful drawings and derives, none of them is better on
@@ -72,9 +72,9 @@ pub fn equal_values_are_certified_alike()
 
 /// Of what the greatest values come from nothing counts but the values themselves.
 pub fn only_the_greatest_values_count()
-    ensures least { (greatest other : Criterion → ℕ) (lines : Lines) (earlier : List Criterion) (c : Criterion)
-        (v : Values) → ((b : Criterion) → greatest b ≡ other b) →
-        IsCertifiedLeast greatest lines earlier c v → IsCertifiedLeast other lines earlier c v }
+    ensures least { (greatest other : Criterion → ℕ) (lines : Lines) (front : List Criterion) (c : Criterion)
+        (v : Values) → ((b : Criterion) → greatest b ≡ other b) → IsCertifiedLeast greatest lines front c v →
+        IsCertifiedLeast other lines front c v }
     ensures values { (greatest other : Criterion → ℕ) (lines : Lines) (order : List Criterion) (v : Values) (s : ℕ) →
         ((b : Criterion) → greatest b ≡ other b) →
         Certifies greatest lines order v s → Certifies other lines order v s }

@@ -20,9 +20,9 @@ pub fn certified_over_expected_lines_is_least()
     ensures least { (g : Graph) (above : ℕ → ℕ → Bool) (grid : GridSize) (e : Problem) (greatest : Criterion → ℕ)
         (lines : Lines) (order : List Criterion) → IsLogOf g above grid e greatest lines order →
         CertifiedAreLeast g above grid greatest lines order }
-    ensures none { (g : Graph) (above : ℕ → ℕ → Bool) (grid : GridSize) (e : Problem) (greatest : Criterion → ℕ)
-        (lines : Lines) (order : List Criterion) → IsLogOf g above grid e greatest lines order →
-        CertifiesNone lines → (d : Drawing) → Lawful g above grid d → ⊥ }
+    ensures none { (g : Graph) (above : ℕ → ℕ → Bool) (grid : GridSize) (e : Problem) (top : Criterion → ℕ) (ls : Lines)
+        (order : List Criterion) → IsLogOf g above grid e top ls order → CertifiesNone ls → (d : Drawing) →
+        Lawful g above grid d → ⊥ }
 {}
 
 /// Without caps the file's clauses alone are expected. Only the caps count. With a cap for the next
@@ -44,7 +44,7 @@ pub fn expected_lines_come_sum_by_sum()
 
 /// Lines that are what is expected for some caps have just these caps.
 pub fn caps_are_those_told()
-    ensures { (e : Problem) (greatest cap : Criterion → ℕ) (order : List Criterion) (c : Criterion) (lines : Lines) →
-        HasAllBounds e → StandsOnce order c → cap c ≤ greatest c → clause_lines lines ≡ expected_lines e order cap →
-        caps greatest lines c ≡ cap c }
+    ensures { (e : Problem) (greatest cap : Criterion → ℕ) (order : List Criterion) (c : Criterion) (ls : Lines) →
+        HasAllBounds e → StandsOnce order c → cap c ≤ greatest c → clause_lines ls ≡ expected_lines e order cap →
+        caps greatest ls c ≡ cap c }
 {}

@@ -240,13 +240,11 @@ fn draw_station<F: Files, T: LogSink>(
     ensures unwritten { let met = between (F.at files.old) (F.at files.new) in
         file_named asked.now.log ++ file_named asked.now.svg ≡ [] → IsUnwritten met }
     ensures leaves { let met = between (F.at files.old) (F.at files.new) in
-        let told = told_to T.tells T.learnt trace.old trace.new in
         HasLeft met (DrawMayLeave asked.now (HasBegunPicture station.now.graph station.now.order asked.now
-        (IsLogOf asked.now.log met told))) }
+        (IsLogOf asked.now.log met (told_to T.tells T.learnt trace.old trace.new)))) }
     ensures cause { let met = between (F.at files.old) (F.at files.new) in
-        let rose = Rose (T.faults trace.old) (T.faults trace.new) in
         IsErrOf result Cut.Unwritten → FailsToWrite (file_named asked.now.log ++ file_named asked.now.svg)
-        (asked.now.log ≡ None) met rose }
+        (asked.now.log ≡ None) met (Rose (T.faults trace.old) (T.faults trace.new)) }
     ensures traced { T.is_later trace.old trace.new }
     ensures untold { asked.now.log ≢ None → trace.new ≡ trace.old }
 {
@@ -265,22 +263,19 @@ pub fn draw<F: Files, T: LogSink>(
 ) -> Result<Reply, Cut>
     requires apart { AreFilesApart (file_named asked.now.log ++ file_named asked.now.svg) }
     ensures answer { let met = between (F.at files.old) (F.at files.new) in
-        let told = told_to T.tells T.learnt trace.old trace.new in
-        IfOk result (λ r. IsAnswerToFile input.now met (IsFileJudged (IsDrawAnswer asked.now met told))
-        r.status r.text.items) }
+        IfOk result (λ r. IsAnswerToFile input.now met (IsFileJudged
+        (IsDrawAnswer asked.now met (told_to T.tells T.learnt trace.old trace.new))) r.status r.text.items) }
     ensures reads { let met = between (F.at files.old) (F.at files.new) in
         ReadsInputs 1 (IsOkAnd result (λ r. IsAnswered r.status)) met }
     ensures unwritten { let met = between (F.at files.old) (F.at files.new) in
         IsOkAnd result (λ r. IsRefused r.status)
         ⊎ ((files_asked asked.now ≢ []) × HasReadStation input.now met → ⊥) → IsUnwritten met }
     ensures leaves { let met = between (F.at files.old) (F.at files.new) in
-        let told = told_to T.tells T.learnt trace.old trace.new in
         HasLeft met (λ name bytes. (IsOkAnd result (λ r. IsRefused r.status) → ⊥)
-        × IsLeftByDraw input.now asked.now met told name bytes) }
+        × IsLeftByDraw input.now asked.now met (told_to T.tells T.learnt trace.old trace.new) name bytes) }
     ensures cause { let met = between (F.at files.old) (F.at files.new) in
-        let rose = Rose (T.faults trace.old) (T.faults trace.new) in
         IsErrOf result Cut.Unwritten → FailsToWrite (file_named asked.now.log ++ file_named asked.now.svg)
-        (asked.now.log ≡ None) met rose }
+        (asked.now.log ≡ None) met (Rose (T.faults trace.old) (T.faults trace.new)) }
     ensures later { (F.at files.old).read_faults ≤ (F.at files.new).read_faults }
     ensures traced { T.is_later trace.old trace.new }
     ensures untold { let met = between (F.at files.old) (F.at files.new) in

@@ -31,9 +31,9 @@ pub fn how_searches_end()
         HasEnded g o asked (outcomes.Spent found s) lines → HasSpentAll asked lines }
     ensures full { (g : Graph) (o : EdgeOrder) (asked : Job) (lines : Lines) (found : Option Drawing) (s : ℕ) →
         HasEnded g o asked (outcomes.Room found s) lines → HasFilledRoom g o asked lines (values_found found) }
-    ensures unfinished { (g : Graph) (o : EdgeOrder) (asked : Job) (outcome : Outcome) (lines : Lines) →
-        HasEnded g o asked outcome lines → status_of outcome ≡ Unfinished → HasSpentAll asked lines
-        ⊎ ((found : Option Values) × HasFilledRoom g o asked lines found) }
+    ensures unfinished { (g : Graph) (o : EdgeOrder) (asked : Job) (outcome : Outcome) (ls : Lines) →
+        HasEnded g o asked outcome ls → status_of outcome ≡ Unfinished → HasSpentAll asked ls
+        ⊎ ((found : Option Values) × HasFilledRoom g o asked ls found) }
 {}
 
 /// On the drawing that a search for `signals` found the columns of each edge's signals lie strictly between the ends of

@@ -98,9 +98,9 @@ fn signal_station<F: Files, T: LogSink>(
     requires drawn { All (λ (p : APlace). p.edge.0 < length found.now.station.graph.edges) found.now.placed }
     requires least { job_for found.now.placed asked.now ≡ asked.now }
     requires unpictured { asked.now.svg ≡ None }
-    ensures answer { IfOk result (λ r. IsSignalled asked.now (between (F.at files.old) (F.at files.new))
-        (told_to T.tells T.learnt trace.old trace.new) found.now.station.graph found.now.station.order
-        found.now.signals found.now.placed r.status r.text.items) }
+    ensures answer { let f = found.now in
+        IfOk result (λ r. IsSignalled asked.now (between (F.at files.old) (F.at files.new)) (told_to T.tells T.learnt
+        trace.old trace.new) f.station.graph f.station.order f.signals f.placed r.status r.text.items) }
     ensures read_faults { (F.at files.new).read_faults ≡ (F.at files.old).read_faults }
     ensures reads { (F.at files.new).reads ≡ (F.at files.old).reads }
     ensures unrefused { IsOkAnd result (λ r. IsRefused r.status) → ⊥ }

@@ -124,10 +124,9 @@ pub fn criterion_bound<'a>(
     ensures named { let clauses = clauses_of_bound e.old.graph (encoded_vars e.old) e.old.grid
         (bound c e.old.formula.vars cap) in
         (k : ℕ) → 1 ≤ k → k ≤ cap → IsNamed clauses (e.old.formula.vars + k) }
-    ensures forced { let clauses = clauses_of_bound e.old.graph (encoded_vars e.old) e.old.grid
-        (bound c e.old.formula.vars cap) in
-        (k : ℕ) → 1 ≤ k → k ≤ cap → reach_of e.old.graph e.old.grid c < k →
-        Contains clauses (negative_of (e.old.formula.vars + k) ∷ []) }
+    ensures forced { let cs =
+        clauses_of_bound e.old.graph (encoded_vars e.old) e.old.grid (bound c e.old.formula.vars cap) in (k : ℕ) → 1 ≤ k
+        → k ≤ cap → reach_of e.old.graph e.old.grid c < k → Contains cs (negative_of (e.old.formula.vars + k) ∷ []) }
     ensures sound { OnOk result
         (SoundWith e.new.graph (is_above e.new.order) e.new.grid (encoded_vars e.new) e.new.formula.clauses
         e.new.bounds) }
@@ -157,10 +156,9 @@ fn add_kept<'a>(
     ensures grid { e.new.grid ≡ e.old.grid }
     ensures bound { IfOk result (λ b. b ≡ bound c e.old.formula.vars cap) }
     ensures bounds { OnOk result (e.new.bounds ≡ e.old.bounds ++ bound c e.old.formula.vars cap ∷ []) }
-    ensures adds { let x = encoded_vars e.old in let b = bound c e.old.formula.vars cap in
-        AddsBlock result e.old.formula e.new.formula (size_of_bound e.old.graph x e.old.grid b)
-        (clauses_of_bound e.old.graph x e.old.grid b)
-        (longest_of_bound e.old.graph e.old.grid) }
+    ensures adds { let o = e.old in let x = encoded_vars o in let b = bound c o.formula.vars cap in
+        AddsBlock result o.formula e.new.formula (size_of_bound o.graph x o.grid b)
+        (clauses_of_bound o.graph x o.grid b) (longest_of_bound o.graph o.grid) }
 {
     let last = e.formula.vars();
     let sums = add_bound(alloc, &mut e.formula, e.graph, e.grid, c, cap)?;

@@ -32,14 +32,12 @@ pub fn edges_begin_from_west_to_east()
 /// With one criterion more, there is a bound more right behind the last variable; none, where its cap is 0. So the
 /// calls of `criterion_bound` for the criteria of an order, one after another, make the bounds of the order.
 pub fn one_criterion_more()
-    ensures added { (g : Graph) (above overlap : ℕ → ℕ → Bool) (grid : GridSize) (order : List Criterion)
-        (caps : Criterion → ℕ)
-        (c : Criterion) → 0 < caps c →
-        expected_bounds g above overlap grid (order ++ c ∷ []) caps ≡ one_bound_more g above overlap grid order caps c }
-    ensures skipped { (g : Graph) (above overlap : ℕ → ℕ → Bool) (grid : GridSize) (order : List Criterion)
-        (caps : Criterion → ℕ)
-        (c : Criterion) → caps c ≡ 0 →
-        expected_bounds g above overlap grid (order ++ c ∷ []) caps ≡ expected_bounds g above overlap grid order caps }
+    ensures added { (g : Graph) (above overlap : ℕ → ℕ → Bool) (grid : GridSize) (cs : List Criterion)
+        (k : Criterion → ℕ) (c : Criterion) → 0 < k c → expected_bounds g above overlap grid (cs ++ c ∷ []) k
+        ≡ one_bound_more g above overlap grid cs k c }
+    ensures skipped { (g : Graph) (above overlap : ℕ → ℕ → Bool) (grid : GridSize) (cs : List Criterion)
+        (k : Criterion → ℕ) (c : Criterion) → k c ≡ 0 → expected_bounds g above overlap grid (cs ++ c ∷ []) k
+        ≡ expected_bounds g above overlap grid cs k }
 {}
 
 /// A whole formula with the bounds of an order has just the clauses and variables that there are for the order.
@@ -56,8 +54,7 @@ pub fn whole_is_expected()
 /// bounds of the whole order. So where those so far are more than there may be, those of the whole are.
 pub fn no_more_in_front()
     ensures words { (g : Graph) (above overlap : ℕ → ℕ → Bool) (grid : GridSize) (front rest : List Criterion)
-        (caps : Criterion → ℕ) →
-        words_of (expected g above overlap grid front caps) ≤ words_of
+        (caps : Criterion → ℕ) → words_of (expected g above overlap grid front caps) ≤ words_of
         (expected g above overlap grid (front ++ rest) caps) }
     ensures vars { (g : Graph) (above overlap : ℕ → ℕ → Bool) (grid : GridSize) (front rest : List Criterion)
         (caps : Criterion → ℕ) →

@@ -40,9 +40,8 @@ pub fn add_ordered_law(
         unless.now in
         SaysLaw g.now grid.now unless.now clauses (λ d. NodesAreOrdered g.now d u.0 v.0) }
     ensures allows { let x = drawing_vars g.now grid.now in
-        let clauses = ordered_clauses (by_mileage g.now u.0 v.0) (x.node u.0).x (x.node v.0).x
-        unless.now in
-        AllowsLaw g.now grid.now unless.now (f.old.vars + 1) 0 clauses (λ d. NodesAreOrdered g.now d u.0 v.0) }
+        let cs = ordered_clauses (by_mileage g.now u.0 v.0) (x.node u.0).x (x.node v.0).x unless.now in
+        AllowsLaw g.now grid.now unless.now (f.old.vars + 1) 0 cs (λ d. NodesAreOrdered g.now d u.0 v.0) }
 {
     add_ordered_between(f, g, grid, u, v, unless)
 }

@@ -132,10 +132,9 @@ fn put_drawing(s: &Subject, m: &mut Truths)
         ≤ VARS }
     ensures reads { ReadsDrawing (assignment m.new) s.now.graph.now (drawing_vars s.now.graph.now s.now.grid.now)
         s.now.grid.now.width s.now.drawing.now }
-    ensures holds { HoldsBefore
-        (formula_size s.now.graph.now (is_above s.now.order.now) (is_overlap s.now.order.now) s.now.grid.now + 1)
-        (assignment m.new)
-        (formula_clauses s.now.graph.now (is_above s.now.order.now) (is_overlap s.now.order.now) s.now.grid.now) }
+    ensures holds { let g = s.now.graph.now in let t = s.now.order.now in let w = s.now.grid.now in
+        HoldsBefore (formula_size g (is_above t) (is_overlap t) w + 1) (assignment m.new)
+        (formula_clauses g (is_above t) (is_overlap t) w) }
     ensures later { (y : ℕ) →
         formula_size s.now.graph.now (is_above s.now.order.now) (is_overlap s.now.order.now) s.now.grid.now < y →
         assignment m.new y ≡ assignment m.old y }
@@ -163,9 +162,9 @@ fn put_all(s: &Subject, bounds: &[KeptBound], m: &mut Truths)
         (map bound_of bounds.now) ≤ VARS }
     ensures stands { StandsFor (assignment m.new) s.now.graph.now (drawing_vars s.now.graph.now s.now.grid.now)
         s.now.drawing.now }
-    ensures model { let g = s.now.graph.now in let t = s.now.order.now in let grid = s.now.grid.now in
-        SatisfiesAll (assignment m.new) (formula_clauses g (is_above t) (is_overlap t) grid
-        ++ bounds_clauses g (drawing_vars g grid) grid (map bound_of bounds.now)) }
+    ensures model { let g = s.now.graph.now in let t = s.now.order.now in let w = s.now.grid.now in
+        SatisfiesAll (assignment m.new) (formula_clauses g (is_above t) (is_overlap t) w
+        ++ bounds_clauses g (drawing_vars g w) w (map bound_of bounds.now)) }
     ensures later { (y : ℕ) → last_with s.now.graph.now s.now.order.now s.now.grid.now (map bound_of bounds.now) < y →
         assignment m.new y ≡ assignment m.old y }
     ensures vars { length m.new ≡ length m.old }

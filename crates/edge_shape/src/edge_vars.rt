@@ -205,9 +205,8 @@ pub fn add_edge(
     requires east { IsNode f.old.vars grid.now.height grid.now.width (node_ints east.now.x east.now.y) }
     ensures edge { IfOk result (λ e. e ≡ edge_spot (f.old.vars + 1) grid.now.height grid.now.width) }
     ensures adds { let g = grid.now in
-        AddsBlock result f.old f.new (edge_size g.height g.width)
-        (edge_clauses (edge_lits (f.old.vars + 1) g.height g.width) (node_ints west.now.x west.now.y)
-        (node_ints east.now.x east.now.y) g.least g.height g.width) 5 }
+        AddsBlock result f.old f.new (edge_size g.height g.width) (edge_clauses (edge_lits (f.old.vars + 1) g.height
+        g.width) (node_ints west.now.x west.now.y) (node_ints east.now.x east.now.y) g.least g.height g.width) 5 }
     ensures words { words_of f.new.clauses ≤ words_of f.old.clauses + 2000 *
         ((grid.now.width + 1) * (grid.now.height + 1)) }
     ensures vars { f.new.vars ≤ f.old.vars + 100 * ((grid.now.width + 1) * (grid.now.height + 1)) }
@@ -233,9 +232,8 @@ fn make_edge(
     requires east_y { IntIsThere f.old.vars east.now.y }
     ensures edge { IfOk result (λ e. e ≡ edge_spot (f.old.vars + 1) grid.now.height grid.now.width) }
     ensures adds { let g = grid.now in
-        AddsBlock result f.old f.new (edge_size g.height g.width)
-        (edge_clauses (edge_lits (f.old.vars + 1) g.height g.width) (node_ints west.now.x west.now.y)
-        (node_ints east.now.x east.now.y) g.least g.height g.width) 5 }
+        AddsBlock result f.old f.new (edge_size g.height g.width) (edge_clauses (edge_lits (f.old.vars + 1) g.height
+        g.width) (node_ints west.now.x west.now.y) (node_ints east.now.x east.now.y) g.least g.height g.width) 5 }
     ensures is_grid { IsGrid grid.now }
 {
     let high = u32::from(grid.height());

@@ -50,9 +50,8 @@ pub fn least_count<Q: CountOracle>(questions: &mut Q) -> Result<Fewest, MinFault
     requires ready { Q.ready questions.old }
     requires start { Q.knows questions.old (formula_lines (Q.task questions.old)) }
     ensures right { IfOk result (IsRightFewest (Q.task questions.old)) }
-    ensures lines { IfOk result (λ r. let p = Q.task questions.old in
-        ToldBehind (Q.knows questions.new) (Q.log questions.old) (Q.log questions.new)
-        (Q.learnt questions.old) (Q.learnt questions.new) (formula_lines p)
+    ensures lines { IfOk result (λ r. let s = questions.old in let n = questions.new in let p = Q.task s in
+        ToldBehind (Q.knows n) (Q.log s) (Q.log n) (Q.learnt s) (Q.learnt n) (formula_lines p)
         (λ more. IsFewestLog p r (formula_lines p ++ more))) }
     ensures task { Q.task questions.new ≡ Q.task questions.old }
     ensures later { Q.is_later questions.old questions.new }

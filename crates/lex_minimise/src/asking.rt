@@ -88,10 +88,9 @@ fn query<L: LogSink>(
     requires assumed { AreAssumed known.now.told.items bounds.now assume.now }
     ensures ready { OnOk result (IsReadyWith known.now solver.new) }
     ensures answer { IfOk result (λ a. IsTrueAnswer a known.now.encoded.formula.clauses assume.now solver.new) }
-    ensures lines { IfOk result (λ a. GoesOn
-        (KnowsWith known.now solver.old) (KnowsWith known.now solver.new)
-        (L.tells log.old) (L.tells log.new) (L.learnt log.old) (L.learnt log.new)
-        (λ lines more. TellsAnswer (task_with known.now) lines bounds.now a more)) }
+    ensures lines { IfOk result
+        (λ a. GoesOn (KnowsWith known.now solver.old) (KnowsWith known.now solver.new) (L.tells log.old) (L.tells
+        log.new) (L.learnt log.old) (L.learnt log.new) (λ ls m. TellsAnswer (task_with known.now) ls bounds.now a m)) }
     ensures leaves { OnErr result (Leaves [] (KnowsWith known.now solver.old) (L.tells log.old) (L.tells log.new)) }
     ensures vars { OnOk result (solver.new.vars ≡ solver.old.vars) }
     ensures later { L.is_later log.old log.new }
@@ -152,10 +151,9 @@ pub(crate) fn ask<L: LogSink>(
         Lawful known.now.encoded.graph (is_above known.now.encoded.order) known.now.encoded.grid d.now) }
     ensures ready { OnOk result (IsReadyWith known.now solver.new) }
     ensures right { IfOk result (IsRightReply (task_with known.now) bounds.now) }
-    ensures lines { IfOk result (λ r. GoesOn
-        (KnowsWith known.now solver.old) (KnowsWith known.now solver.new)
-        (L.tells log.old) (L.tells log.new) (L.learnt log.old) (L.learnt log.new)
-        (λ lines more. IsReply (task_with known.now) lines bounds.now r more)) }
+    ensures lines { IfOk result
+        (λ r. GoesOn (KnowsWith known.now solver.old) (KnowsWith known.now solver.new) (L.tells log.old) (L.tells
+        log.new) (L.learnt log.old) (L.learnt log.new) (λ ls m. IsReply (task_with known.now) ls bounds.now r m)) }
     ensures leaves { OnErr result (Leaves [] (KnowsWith known.now solver.old) (L.tells log.old) (L.tells log.new)) }
     ensures vars { OnOk result (solver.new.vars ≡ solver.old.vars) }
     ensures later { L.is_later log.old log.new }

@@ -142,10 +142,9 @@ pub(crate) fn build<L: LogSink>(
     ensures ready { IfOk result (λ b. b ≡ AllOfThem → IsReadyWith known.new solver.new) }
     ensures built { IfOk result (λ b. AreBuiltTo (task_with known.old)
         (caps_of known.old.told.items) solver.old.vars c cap b (caps_of known.new.told.items) solver.new.vars) }
-    ensures lines { IfOk result (λ b. GoesOn
-        (KnowsWith known.old solver.old) (KnowsWith known.new solver.new)
+    ensures lines { IfOk result (λ b. GoesOn (KnowsWith known.old solver.old) (KnowsWith known.new solver.new)
         (L.tells log.old) (L.tells log.new) (L.learnt log.old) (L.learnt log.new)
-        (λ lines more. IsBuild (task_with known.old) solver.old.vars c cap b lines more)) }
+        (λ ls m. IsBuild (task_with known.old) solver.old.vars c cap b ls m)) }
     ensures leaves { OnErr result (Leaves (sum_lines (task_with known.old).encoding solver.old.vars c cap)
         (KnowsWith known.old solver.old) (L.tells log.old) (L.tells log.new)) }
     ensures later { L.is_later log.old log.new }

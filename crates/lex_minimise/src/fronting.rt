@@ -43,9 +43,8 @@ fn front_from<L: LogSink>(
     requires apart { a ≢ b }
     ensures right { IfOk result (λ r. IsRightFront (IsLawful (task_with known.old)) a b r.pairs r.ending) }
     ensures lines { let p = task_with known.old in
-        IfOk result (λ r. ToldBehind (IsLogOfSolver solver.new) (L.tells log.old) (L.tells log.new)
-        (L.learnt log.old) (L.learnt log.new) (first_lines p)
-        (λ more. IsFrontLog p a b r.ending (first_lines p ++ more))) }
+        IfOk result (λ r. ToldBehind (IsLogOfSolver solver.new) (L.tells log.old) (L.tells log.new) (L.learnt log.old)
+        (L.learnt log.new) (first_lines p) (λ m. IsFrontLog p a b r.ending (first_lines p ++ m))) }
     ensures left { let p = task_with known.old in
         OnErr result (L.tells log.old (first_lines p) → (lines : Lines) → L.tells log.new lines →
         IsFrontLeft p a b lines) }
@@ -79,8 +78,7 @@ pub fn front_with<L: LogSink>(
         IfOk result (λ r. IsRightFront (IsLawful p) a b r.pairs r.ending) }
     ensures lines { let p = task_of (layout g.now t.now grid.now) limits.now.budget limits.now.room in
         IfOk result (λ r. (lines : Lines) × told_to L.tells L.learnt log.old log.new lines
-        × IsFrontLog p a b r.ending lines
-        × IsLogOfSolver solver.new lines) }
+        × IsFrontLog p a b r.ending lines × IsLogOfSolver solver.new lines) }
     ensures left { let p = task_of (layout g.now t.now grid.now) limits.now.budget limits.now.room in
         OnErr result (L.tells log.old [] → (lines : Lines) → L.tells log.new lines → IsFrontLeft p a b lines) }
     ensures later { L.is_later log.old log.new }

@@ -38,9 +38,8 @@ fn search_from<L: LogSink>(
     requires start { KnowsWith known.old solver.old (first_lines (task_with known.old)) }
     ensures right { IfOk result (IsRightOutcome (task_with known.old) wanted.now) }
     ensures lines { let p = task_with known.old in
-        IfOk result (λ o. ToldBehind (IsLogOfSolver solver.new) (L.tells log.old) (L.tells log.new)
-        (L.learnt log.old) (L.learnt log.new) (first_lines p)
-        (λ more. IsOutcome p wanted.now o (first_lines p ++ more))) }
+        IfOk result (λ o. ToldBehind (IsLogOfSolver solver.new) (L.tells log.old) (L.tells log.new) (L.learnt log.old)
+        (L.learnt log.new) (first_lines p) (λ m. IsOutcome p wanted.now o (first_lines p ++ m))) }
     ensures later { L.is_later log.old log.new }
     ensures faults { L.faults log.old ≤ L.faults log.new }
     ensures cause { IsErrOf result MinFault.Log → Rose (L.faults log.old) (L.faults log.new) }
@@ -69,8 +68,7 @@ pub fn minimise_with<L: LogSink>(
         IfOk result (IsRightOutcome p wanted.now) }
     ensures lines { let p = task_of (layout g.now t.now grid.now) limits.now.budget limits.now.room in
         IfOk result (λ o. (lines : Lines) × told_to L.tells L.learnt log.old log.new lines
-        × IsOutcome p wanted.now o lines
-        × IsLogOfSolver solver.new lines) }
+        × IsOutcome p wanted.now o lines × IsLogOfSolver solver.new lines) }
     ensures later { L.is_later log.old log.new }
     ensures faults { L.faults log.old ≤ L.faults log.new }
     ensures cause { IsErrOf result MinFault.Log → Rose (L.faults log.old) (L.faults log.new) }

@@ -72,6 +72,12 @@ pub record IsCapOf (p : Task) (c : Criterion) (v : Values) (n : ℕ) : Type 0 wh
   pub is : n ≡ min (value_of v c + 1) (greatest_of p c)
   pub positive : 1 ≤ greatest_of p c
 
+-- a search that stands at place i with what is held, goes by the further lines to where it advances to
+abbrev pub GoesTo : Task → List Criterion → ℕ → (held after : List Below) → Drawing → (cap now : Criterion → ℕ) →
+    Advanced → Lines → Lines → Type 0
+GoesTo p order i held after best cap now r lines more = SearchState p order i held best cap lines →
+    AdvancesTo p order i after r now (lines ++ more)
+
 -- the bounds of the criterion at place i are told and its least value is reached, or the search stopped
 abbrev pub BoundedTo : Task → List Criterion → ℕ → List Below → Option Stop → ℕ → Drawing → (Criterion → ℕ) → Lines →
     Type 0

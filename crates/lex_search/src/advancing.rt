@@ -10,7 +10,7 @@ ghost use Rattle.lex_search.specs.Task.{IsLawful};
 ghost use Rattle.lex_search.specs.Asked.{IsWithinCap};
 ghost use Rattle.refute_log.specs.Steps.{Continues};
 ghost use Rattle.lex_search.specs.Caps.{AllZero};
-ghost use Rattle.lex_search.specs.State.{IsFirstPositive, AreBefore, Counted, SearchState, AdvancesTo, IsCapOf};
+ghost use Rattle.lex_search.specs.State.{IsFirstPositive, AreBefore, Counted, SearchState, GoesTo, IsCapOf};
 ghost use Rattle.lex_search.specs.State.{BoundedSo, Leads, hold as hold_of};
 
 use crate::MinFault;
@@ -95,9 +95,9 @@ fn bounded<O: Oracle>(
     ensures vars { OnOk result (O.vars oracle.new ≡ expected_vars (O.task oracle.old).encoding order.now
         (O.caps oracle.new)) }
     ensures settled { IfOk result (λ r. r.settled ≤ length order.now) }
-    ensures lines { IfOk result (λ r. Continues O.knows O.log O.learnt oracle.old oracle.new
-        (Leads (SearchState (O.task oracle.old) order.now i held.now best (O.caps oracle.old))
-        (BoundedSo (O.task oracle.old) order.now i held.now r (O.caps oracle.new)))) }
+    ensures lines { let p = O.task oracle.old in
+        IfOk result (λ r. Continues O.knows O.log O.learnt oracle.old oracle.new (Leads (SearchState p order.now i
+        held.now best (O.caps oracle.old)) (BoundedSo p order.now i held.now r (O.caps oracle.new)))) }
     ensures later { O.is_later oracle.old oracle.new }
     ensures faults { O.faults oracle.old ≤ O.faults oracle.new }
     ensures cause { IsErrOf result MinFault.Log → Rose (O.faults oracle.old) (O.faults oracle.new) }
@@ -147,9 +147,9 @@ pub(crate) fn advance<O: Oracle>(
     ensures vars { OnOk result (O.vars oracle.new ≡ expected_vars (O.task oracle.old).encoding order.now
         (O.caps oracle.new)) }
     ensures settled { IfOk result (λ r. r.settled ≤ length order.now) }
-    ensures lines { IfOk result (λ r. Continues O.knows O.log O.learnt oracle.old oracle.new
-        (Leads (SearchState (O.task oracle.old) order.now i held.old.items best (O.caps oracle.old))
-        (AdvancesTo (O.task oracle.old) order.now i held.new.items r (O.caps oracle.new)))) }
+    ensures lines { let p = O.task oracle.old in
+        IfOk result (λ r. Continues O.knows O.log O.learnt oracle.old oracle.new
+        (GoesTo p order.now i held.old.items held.new.items best (O.caps oracle.old) (O.caps oracle.new) r)) }
     ensures later { O.is_later oracle.old oracle.new }
     ensures faults { O.faults oracle.old ≤ O.faults oracle.new }
     ensures cause { IsErrOf result MinFault.Log → Rose (O.faults oracle.old) (O.faults oracle.new) }

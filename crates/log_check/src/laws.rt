@@ -37,9 +37,9 @@ pub fn one_verdict_is_due()
 /// What is certified is so, whoever wrote the log: no lawful drawing is better on the claimed places, or none is
 /// lawful.
 pub fn what_is_certified_is_so()
-    ensures least { (y : Layout) (order : List Criterion) (v : Values) (places : ℕ) (log : List ℕ) →
-        IsLogJudged y order (Least v places) log Certified →
-        (d : Drawing) → Lawful y.graph (is_above y.order) y.grid d → Better (take places order) (values_of d) v → ⊥ }
+    ensures least { (y : Layout) (order : List Criterion) (v : Values) (n : ℕ) (log : List ℕ) →
+        IsLogJudged y order (Least v n) log Certified → (d : Drawing) → Lawful y.graph (is_above y.order) y.grid d →
+        Better (take n order) (values_of d) v → ⊥ }
     ensures none { (y : Layout) (order : List Criterion) (log : List ℕ) →
         IsLogJudged y order NoDrawing log Certified → (d : Drawing) → Lawful y.graph (is_above y.order) y.grid d → ⊥ }
 {}

@@ -123,14 +123,12 @@ pub fn add_moved_count(
     ensures words_bounded { let n = length former.now in
         words_of (count_clauses (node_at nodes.now) former.now f.old.vars) ≤ 200 * ((n + 1) * (n + 2)) }
     ensures vars_bounded { let n = length former.now in count_size former.now f.old.vars ≤ 20 * ((n + 1) * (n + 2)) }
-    ensures exact { (v : Assignment) (place : ℕ → PlainPoint) →
-        ReadPoints v (node_at nodes.now) (length former.now) place →
+    ensures exact { (v : Assignment) (p : ℕ → PlainPoint) → ReadPoints v (node_at nodes.now) (length former.now) p →
         SatisfiesAll v (count_clauses (node_at nodes.now) former.now f.old.vars) →
-        TellsMoved v former.now f.old.vars (moved former.now place) }
-    ensures extends { (v : Assignment) (place : ℕ → PlainPoint) →
-        ReadPoints v (node_at nodes.now) (length former.now) place →
-        Extends (f.old.vars + 1) (count_size former.now f.old.vars) v
-        (λ w. SatisfiesAll w (count_clauses (node_at nodes.now) former.now f.old.vars)) }
+        TellsMoved v former.now f.old.vars (moved former.now p) }
+    ensures extends { let m = former.now in
+        (v : Assignment) (p : ℕ → PlainPoint) → ReadPoints v (node_at nodes.now) (length m) p → Extends (f.old.vars + 1)
+        (count_size m f.old.vars) v (λ w. SatisfiesAll w (count_clauses (node_at nodes.now) m f.old.vars)) }
     ensures named { (j : ℕ) → 1 ≤ j → j ≤ matched former.now →
         IsNamed (count_clauses (node_at nodes.now) former.now f.old.vars) (f.old.vars + j) }
 {

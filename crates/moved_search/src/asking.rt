@@ -60,10 +60,9 @@ fn query<L: LogSink>(
     requires assumed { assume.now ≡ query_of (task_with known.now) limit }
     ensures ready { OnOk result (IsReadyWith known.now solver.new) }
     ensures answer { IfOk result (λ a. IsTrueAnswer a (formula_with known.now) assume.now solver.new) }
-    ensures lines { IfOk result (λ a. GoesOn
-        (KnowsWith known.now solver.old) (KnowsWith known.now solver.new)
-        (L.tells log.old) (L.tells log.new) (L.learnt log.old) (L.learnt log.new)
-        (λ lines more. TellsAnswer (task_with known.now) lines limit a more)) }
+    ensures lines { IfOk result
+        (λ a. GoesOn (KnowsWith known.now solver.old) (KnowsWith known.now solver.new) (L.tells log.old) (L.tells
+        log.new) (L.learnt log.old) (L.learnt log.new) (λ ls m. TellsAnswer (task_with known.now) ls limit a m)) }
     ensures later { L.is_later log.old log.new }
     ensures faults { L.faults log.old ≤ L.faults log.new }
     ensures cause { IsErrOf result MinFault.Log → Rose (L.faults log.old) (L.faults log.new) }
@@ -119,10 +118,9 @@ pub(crate) fn ask<L: LogSink>(
     requires limit { MatchOption limit ⊤ (λ n. (1 ≤ n) × (n ≤ matched known.now.former.now)) }
     ensures ready { OnOk result (IsReadyWith known.now solver.new) }
     ensures right { IfOk result (IsRightAnswer (task_with known.now) limit) }
-    ensures lines { IfOk result (λ r. GoesOn
-        (KnowsWith known.now solver.old) (KnowsWith known.now solver.new)
-        (L.tells log.old) (L.tells log.new) (L.learnt log.old) (L.learnt log.new)
-        (λ lines more. IsAnswer (task_with known.now) lines limit r more)) }
+    ensures lines { IfOk result
+        (λ r. GoesOn (KnowsWith known.now solver.old) (KnowsWith known.now solver.new) (L.tells log.old)
+        (L.tells log.new) (L.learnt log.old) (L.learnt log.new) (λ ls m. IsAnswer (task_with known.now) ls limit r m)) }
     ensures later { L.is_later log.old log.new }
     ensures faults { L.faults log.old ≤ L.faults log.new }
     ensures cause { IsErrOf result MinFault.Log → Rose (L.faults log.old) (L.faults log.new) }

@@ -28,9 +28,9 @@ pub(crate) fn tell_both<L: LogSink>(
     ensures taken { OnOk result
         (HasTaken (with_more_vars solver.old (second.now.vars - solver.old.vars)) solver.new
         (first.now.clauses ++ second.now.clauses)) }
-    ensures lines { OnOk result (GoesOn (λ ls. Belongs ls solver.old) (λ ls. Belongs ls solver.new)
-        (L.tells log.old) (L.tells log.new) (L.learnt log.old) (L.learnt log.new)
-        (λ lines more. more ≡ map FormulaLine (first.now.clauses ++ second.now.clauses))) }
+    ensures lines { OnOk result
+        (GoesOn (λ ls. Belongs ls solver.old) (λ ls. Belongs ls solver.new) (L.tells log.old) (L.tells log.new)
+        (L.learnt log.old) (L.learnt log.new) (λ ls m. m ≡ map FormulaLine (first.now.clauses ++ second.now.clauses))) }
     ensures later { L.is_later log.old log.new }
     ensures faults { L.faults log.old ≤ L.faults log.new }
     ensures cause { IsErrOf result MinFault.Log → Rose (L.faults log.old) (L.faults log.new) }

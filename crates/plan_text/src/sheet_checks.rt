@@ -69,8 +69,8 @@ pub(crate) fn grid(edition: Edition, text: &[u8]) -> Result<(Grid, &[u8]), Sheet
 /// The order of criteria, and what stands behind its line.
 pub(crate) fn order(text: &[u8]) -> Result<(Order, &[u8]), SheetFault>
     ensures { MatchResult result (λ p. IsOrder p.0 × IsLineTo text.now (OrderLine p.0) p.1.now)
-        (λ fault. (g : Graph) (before : List SheetLine) (edition : Editions) (needs_drawing : Bool) →
-        IsFaultHere g before (OrderDue edition needs_drawing) text.now 3 fault) }
+        (λ fault. (g : Graph) (before : List SheetLine) (edition : Editions) (needs : Bool) →
+        IsFaultHere g before (OrderDue edition needs) text.now 3 fault) }
 {
     let Some((criteria, rest)) = order_line(text) else {
         return Err(SheetFault::Sheet {
@@ -331,9 +331,8 @@ pub(crate) fn ending<'a>(
     line: u32,
 ) -> Result<(Ending, &'a [u8]), SheetFault>
     ensures { MatchResult result (λ p. MayEnd true p.0 × StatesSettled order.now true p.0
-        × IsLineTo text.now (EndLine p.0) p.1.now)
-        (λ fault. (g : Graph) (before : List SheetLine) → order_told before ≡ order.now →
-        IsFaultHere g before EndDue text.now line fault) }
+        × IsLineTo text.now (EndLine p.0) p.1.now) (λ f. (g : Graph) (ls : List SheetLine) → order_told ls ≡ order.now →
+        IsFaultHere g ls EndDue text.now line f) }
 {
     let Some((told, rest)) = end_line(text) else {
         return Err(SheetFault::Sheet {

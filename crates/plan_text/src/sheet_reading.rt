@@ -84,9 +84,9 @@ fn lines<'a>(
     edition: Edition,
     text: &'a [u8],
 ) -> Result<(Vec<Line>, &'a [u8]), SheetFault>
-    ensures { MatchResult result (λ p. (length p.0.items ≡ length g.now.edges) × (length p.0.items ≤ MAX_EDGES)
-        × AreDrawn edition g.now text.now p.0.items p.1.now)
-        (IsFaultAfterAny g.now (edge_due edition g.now 0) text.now (length g.now.nodes + 6)) }
+    ensures { let h = g.now in
+        MatchResult result (λ p. (length p.0.items ≡ length h.edges) × (length p.0.items ≤ MAX_EDGES) × AreDrawn edition
+        h text.now p.0.items p.1.now) (IsFaultAfterAny h (edge_due edition h 0) text.now (length h.nodes + 6)) }
 {
     let first = u32::from(g.nodes()) + 6;
     let mut lines = Vec::new(alloc);

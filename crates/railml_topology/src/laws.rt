@@ -9,10 +9,9 @@ ghost use Rattle.railml_topology.specs.Resolved.{IsTopologyOf};
 
 /// Rows have one first fault at most, at one place and with the same texts.
 pub fn one_fault()
-    ensures { (rows : List Elem) (a b : TopologyWhat) (at to : ℕ) (first second one other : List ℕ) →
-        AreFormed rows →
-        IsFirstTopologyFault rows a at first second → IsFirstTopologyFault rows b to one other →
-        (a ≡ b) × (at ≡ to) × (first ≡ one) × (second ≡ other) }
+    ensures { (rows : List Elem) (a b : TopologyWhat) (at to : ℕ) (u v x y : List ℕ) → AreFormed rows →
+        IsFirstTopologyFault rows a at u v → IsFirstTopologyFault rows b to x y → (a ≡ b) × (at ≡ to) × (u ≡ x)
+        × (v ≡ y) }
 {}
 
 /// Rows of which nothing is wrong resolve to one topology at most.

@@ -36,9 +36,8 @@ pub fn answer_to<F: Files, T: LogSink>(
     ensures unwritten { let met = between (F.at files.old) (F.at files.new) in
         IsOkAnd result (λ r. IsRefused r.status) ⊎ (MayWrite command.now met → ⊥) → IsUnwritten met }
     ensures leaves { let met = between (F.at files.old) (F.at files.new) in
-        let told = told_to T.tells T.learnt trace.old trace.new in
         HasLeft met (λ name bytes. (IsOkAnd result (λ r. IsRefused r.status) → ⊥)
-        × MayLeave command.now met told name bytes) }
+        × MayLeave command.now met (told_to T.tells T.learnt trace.old trace.new) name bytes) }
     ensures cause { let met = between (F.at files.old) (F.at files.new) in
         IsErrOf result Cut.Unwritten → CommandFailsToWrite command.now met (Rose (T.faults trace.old) (T.faults
         trace.new)) }

@@ -63,23 +63,18 @@ fn carry_out<F: Files, O: Sink, T: LogSink>(
     trace: &mut T,
 ) -> Status
     ensures answer { let met = between (F.at files.old) (F.at files.new) in
-        let told = told_to T.tells T.learnt trace.old trace.new in
-        (IsCutShort result → ⊥) →
-        GivenAll (O.given out.old) (O.given out.new) (IsAnswerDue (texts_of words.now) met told result) }
+        (IsCutShort result → ⊥) → GivenAll (O.given out.old) (O.given out.new)
+        (IsAnswerDue (texts_of words.now) met (told_to T.tells T.learnt trace.old trace.new) result) }
     ensures cut_short { let met = between (F.at files.old) (F.at files.new) in
-        let told = told_to T.tells T.learnt trace.old trace.new in
-        IsCutShort result →
-        GivenPrefix (O.given out.old) (O.given out.new) (IsSomeAnswerDue (texts_of words.now) met told) }
+        IsCutShort result → GivenPrefix (O.given out.old) (O.given out.new)
+        (IsSomeAnswerDue (texts_of words.now) met (told_to T.tells T.learnt trace.old trace.new)) }
     ensures read_fault { let met = between (F.at files.old) (F.at files.new) in
         result ≡ Status.Unread → Asks (texts_of words.now) (λ command. FailsIn command met) }
     ensures write_fault { let met = between (F.at files.old) (F.at files.new) in
-        let put_rose = Rose (O.faults out.old) (O.faults out.new) in
-        result ≡ Status.Unwritten → WriteFails (texts_of words.now) met put_rose
+        result ≡ Status.Unwritten → WriteFails (texts_of words.now) met (Rose (O.faults out.old) (O.faults out.new))
         (Rose (T.faults trace.old) (T.faults trace.new)) }
-    ensures completes { let met = between (F.at files.old) (F.at files.new) in
-        let put_rose = Rose (O.faults out.old) (O.faults out.new) in
-        let trace_rose = Rose (T.faults trace.old) (T.faults trace.new) in
-        Completes (texts_of words.now) met put_rose trace_rose result }
+    ensures completes { let met = between (F.at files.old) (F.at files.new) in Completes (texts_of words.now) met
+        (Rose (O.faults out.old) (O.faults out.new)) (Rose (T.faults trace.old) (T.faults trace.new)) result }
     ensures reads { let met = between (F.at files.old) (F.at files.new) in
         WhereAsked (texts_of words.now) (λ command. ReadsInputs (length (inputs_of command)) (IsAnswered result) met) }
     ensures unread { ReadsNothing (texts_of words.now) → IsUnread (between (F.at files.old) (F.at files.new)) }
@@ -117,18 +112,18 @@ pub fn run<F: Files, O: Sink, T: LogSink>(
     // Every run that isn't cut short has put a whole text: what its command, or the fault of its words, owes with its
     // status.
     ensures answer { let met = between (F.at files.old) (F.at files.new) in
-        EndsAs result (λ status. (IsCutShort status → ⊥) → GivenAll (O.given out.old) (O.given out.new)
-        (IsAnswerDue (texts_of words.now) met (told_to T.tells T.learnt trace.old trace.new) status)) }
+        EndsAs result (λ s. (IsCutShort s → ⊥) → GivenAll (O.given out.old) (O.given out.new)
+        (IsAnswerDue (texts_of words.now) met (told_to T.tells T.learnt trace.old trace.new) s)) }
     // One that is cut short has put nothing, or a prefix of a text that this run may answer.
     ensures cut_short { let met = between (F.at files.old) (F.at files.new) in
-        EndsAs result (λ status. IsCutShort status → GivenPrefix (O.given out.old) (O.given out.new)
+        EndsAs result (λ s. IsCutShort s → GivenPrefix (O.given out.old) (O.given out.new)
         (IsSomeAnswerDue (texts_of words.now) met (told_to T.tells T.learnt trace.old trace.new))) }
 
     // The causes of the faults from outside, and how a run ends where there is none.
     ensures read_fault { let met = between (F.at files.old) (F.at files.new) in
         EndsAs result (λ status. status ≡ Status.Unread → Asks (texts_of words.now) (λ command. FailsIn command met)) }
     ensures write_fault { let met = between (F.at files.old) (F.at files.new) in
-        EndsAs result (λ status. status ≡ Status.Unwritten → WriteFails (texts_of words.now) met
+        EndsAs result (λ s. s ≡ Status.Unwritten → WriteFails (texts_of words.now) met
         (Rose (O.faults out.old) (O.faults out.new)) (Rose (T.faults trace.old) (T.faults trace.new))) }
     ensures completes { let met = between (F.at files.old) (F.at files.new) in
         EndsAs result (Completes (texts_of words.now) met (Rose (O.faults out.old) (O.faults out.new))

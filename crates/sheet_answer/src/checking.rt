@@ -129,10 +129,8 @@ fn broken_sheet(
 ) -> Result<Option<Reply>, OutOfMemory>
     requires order { IsOrderOf station.now.graph station.now.order }
     requires drawn { DrawsAll station.now.graph sheet.now }
-    ensures { IfOk result (λ r. MatchOption r (IfSome sheet.now.found
-        (Lawful station.now.graph (is_above station.now.order)
-        sheet.now.grid)) (λ x. IsFoundBroken station.now.graph station.now.order sheet.now sheet.now.found
-        x.status x.text.items)) }
+    ensures { let s = sheet.now in let y = station.now in IfOk result (λ r. MatchOption r (IfSome s.found (Lawful
+        y.graph (is_above y.order) s.grid)) (λ x. IsFoundBroken y.graph y.order s s.found x.status x.text.items)) }
 {
     match &sheet.found {
         Some(drawing) => broken_reply(alloc, station, &sheet.grid, drawing),
@@ -241,8 +239,8 @@ fn check_file<F: Files>(
 ) -> Result<Reply, OutOfMemory>
     requires { length bytes.now ≤ MAX_FILE_BYTES }
     ensures answer { let met = between (F.at files.old) (F.at files.new) in
-        IfOk result (λ r. IsAnswerOn (text_input 2 sheet.now) 0 met (λ said. IsAnswerOn (log_input 3 log.now) 1 met
-        (IsAnswerAfter 2 met (IsChecked bytes.now said))) r.status r.text.items) }
+        IfOk result (λ r. IsAnswerOn (text_input 2 sheet.now) 0 met (λ s. IsAnswerOn (log_input 3 log.now) 1 met
+        (IsAnswerAfter 2 met (IsChecked bytes.now s))) r.status r.text.items) }
     ensures reads { let met = between (F.at files.old) (F.at files.new) in
         ReadsInputs 2 (IsOkAnd result (λ r. IsAnswered r.status)) met }
     ensures unwritten { let met = between (F.at files.old) (F.at files.new) in IsUnwritten met }

@@ -33,14 +33,12 @@ pub fn verdict_of_drawing()
         (text : List ℕ)
         → IsDrawingOf g sheet grid d → IsSheetJudged g o sheet status text → (status ≡ Done) ↔ Lawful g (is_above
         o) grid d }
-    ensures line { (g : Graph) (o : EdgeOrder) (sheet : List ℕ) (grid : GridSize) (d : Drawing) (status : Status)
-        (text : List ℕ)
-        → IsDrawingOf g sheet grid d → IsSheetJudged g o sheet status text → Lawful g (is_above o) grid d → text ≡
-        lawful_line (values_of d) }
-    ensures broken { (g : Graph) (o : EdgeOrder) (sheet : List ℕ) (grid : GridSize) (d : Drawing) (status : Status)
-        (text : List ℕ)
-        → IsDrawingOf g sheet grid d → IsSheetJudged g o sheet status text → (status ≡ Broken) ↔ (Lawful g
-        (is_above o) grid d → ⊥) }
+    ensures line { (g : Graph) (o : EdgeOrder) (sheet : List ℕ) (grid : GridSize) (d : Drawing) (s : Status)
+        (text : List ℕ) → IsDrawingOf g sheet grid d → IsSheetJudged g o sheet s text → Lawful g (is_above o) grid d →
+        text ≡ lawful_line (values_of d) }
+    ensures broken { (g : Graph) (o : EdgeOrder) (sheet : List ℕ) (grid : GridSize) (d : Drawing) (s : Status)
+        (text : List ℕ) → IsDrawingOf g sheet grid d → IsSheetJudged g o sheet s text → (s ≡ Broken)
+        ↔ (Lawful g (is_above o) grid d → ⊥) }
 {}
 
 /// A file and a sheet have one answer at most: one status, with one text.
@@ -66,9 +64,9 @@ pub fn one_answer_of_check()
 /// `check` ends with 0 exactly where the log certifies what the sheet claims of the file's station; its line tells then
 /// on how many criteria, and what is claimed is so, whoever wrote the log.
 pub fn certified_exactly()
-    ensures due { (file sheet log : List ℕ) (g : Graph) (o : EdgeOrder) (said : PlainSheet) (status : Status)
-        (text : List ℕ) → HasStation file g o → CertifiesSheet g o sheet log said →
-        IsChecked file sheet log status text → (status ≡ Done) × IsCertifiedLine said text }
+    ensures due { (file sheet log : List ℕ) (g : Graph) (o : EdgeOrder) (said : PlainSheet) (s : Status) (t : List ℕ) →
+        HasStation file g o → CertifiesSheet g o sheet log said → IsChecked file sheet log s t → (s ≡ Done)
+        × IsCertifiedLine said t }
     ensures only { (file sheet log text : List ℕ) → IsChecked file sheet log Done text →
         (g : Graph) × (o : EdgeOrder) × (said : PlainSheet) × HasStation file g o
         × CertifiesSheet g o sheet log said × ClaimsTruly g o said × IsCertifiedLine said text }

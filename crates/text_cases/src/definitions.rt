@@ -107,13 +107,8 @@ fn shapes()
         ∷ (point_at 0 3 ∷ point_at 1 2 ∷ [])
         ∷ [])
         ≡ true }
-    ensures each_of_two_pieces { list_all is_line
-        ((point_at 0 3 ∷ point_at 1 4 ∷ point_at 2 4 ∷ [])
-        ∷ (point_at 0 3 ∷ point_at 1 2 ∷ point_at 2 2 ∷ [])
-        ∷ (point_at 0 3 ∷ point_at 1 3 ∷ point_at 2 4 ∷ [])
-        ∷ (point_at 0 3 ∷ point_at 1 3 ∷ point_at 2 2 ∷ [])
-        ∷ [])
-        ≡ true }
+    ensures each_of_two_pieces { let p = point_at in list_all is_line ((p 0 3 ∷ p 1 4 ∷ p 2 4 ∷ [])
+        ∷ (p 0 3 ∷ p 1 2 ∷ p 2 2 ∷ []) ∷ (p 0 3 ∷ p 1 3 ∷ p 2 4 ∷ []) ∷ (p 0 3 ∷ p 1 3 ∷ p 2 2 ∷ []) ∷ []) ≡ true }
     ensures on_over_a_level_piece { list_all is_line
         ((point_at 0 3 ∷ point_at 1 4 ∷ point_at 2 4 ∷ point_at 3 5 ∷ [])
         ∷ (point_at 0 3 ∷ point_at 1 2 ∷ point_at 2 2 ∷ point_at 3 1 ∷ [])

@@ -43,9 +43,9 @@ impl Filling {
         requires edge { e < length g.now.edges }
         requires edges { length self.old.edges.items ≡ length g.now.edges }
         requires nodes { length self.old.nodes.items ≡ length g.now.nodes }
-        ensures { (start : ℕ) (done : List ℕ) → start < length g.now.edges → IsBehind g.now way done e →
-            IsFilling g.now way start done self.old.edges.items self.old.nodes.items →
-            IsFilling g.now way start (done ++ e ∷ []) self.new.edges.items self.new.nodes.items }
+        ensures { (s : ℕ) (es : List ℕ) → s < length g.now.edges → IsBehind g.now way es e →
+            IsFilling g.now way s es self.old.edges.items self.old.nodes.items →
+            IsFilling g.now way s (es ++ e ∷ []) self.new.edges.items self.new.nodes.items }
     {
         if self.nodes[begin_of(g, way, e).0 as usize] {
             self.edges[e as usize] = true;
