@@ -16,27 +16,21 @@ use Rattle.cdcl_core.specs.declared.answer.Answer.{Answer}
 use Rattle.cdcl_core.specs.declared.answer.Answer.TheVariants.{Model, Refuted, Spent, Room}
 use Rattle.cdcl_core.specs.Belongs.{EndsWith, HasSpent, HasCounted, GivesAtMost, search_lines}
 use Rattle.cdcl_core.specs.Rounds.{BreaksOff}
+use Rattle.refute_log.proofs.StepLemmas.{learnt_no_clauses, same_clauses, rose_both}
 
 -- ---- Formula and Bound lines
-
-pub clause_push : (lines : Lines) (line : LogLine) → clause_line line ≡ [] → clause_lines (lines ++ line ∷ []) ≡ clause_lines lines
-clause_push lines line none = flat_map_last clause_line lines line ∙ ap (λ (ls : Lines). clause_lines lines ++ ls) none ∙ append-nil (clause_lines lines)
 
 pub clause_behind : (lines more : Lines) → clause_lines more ≡ [] → clause_lines (lines ++ more) ≡ clause_lines lines
 clause_behind lines more none = flat_map-append clause_line lines more ∙ ap (λ (ls : Lines). clause_lines lines ++ ls) none ∙ append-nil (clause_lines lines)
 
-pub clause_learnt : (cs : Clauses) → clause_lines (map Learnt cs) ≡ []
-clause_learnt [] = refl
-clause_learnt (c ∷ cs) = flat_map-cons clause_line (Learnt c) (map Learnt cs) ∙ clause_learnt cs
-
-clause_ending : (answer : Answer) (assume : List Literal) (ending : Lines) → EndsWith answer assume ending → clause_lines ending ≡ []
+pub clause_ending : (answer : Answer) (assume : List Literal) (ending : Lines) → EndsWith answer assume ending → clause_lines ending ≡ []
 clause_ending Model assume ending e = ap clause_lines e
 clause_ending Refuted assume ending e = ap clause_lines e.is
 clause_ending Spent assume ending e = ap clause_lines e
 clause_ending Room assume ending e = ap clause_lines e
 
 pub clause_searched : (answer : Answer) (assume : List Literal) (cs : Clauses) (ending : Lines) → EndsWith answer assume ending → clause_lines (search_lines assume cs ending) ≡ []
-clause_searched answer assume cs ending e = flat_map-cons clause_line (Query assume) (map Learnt cs ++ ending) ∙ clause_behind (map Learnt cs) ending (clause_ending answer assume ending e) ∙ clause_learnt cs
+clause_searched answer assume cs ending e = flat_map-cons clause_line (Query assume) (map Learnt cs ++ ending) ∙ clause_behind (map Learnt cs) ending (clause_ending answer assume ending e) ∙ learnt_no_clauses cs
 
 -- ---- what is told: nothing more, a line was refused, or a line that isn't a Formula or Bound line
 
@@ -51,7 +45,7 @@ left_refused before now P one fewer derives lines told more m = left_same before
 pub left_told : (before now P : Lines → Type 0) (line : LogLine) → clause_line line ≡ [] → ((a b : Lines) → now a → now b → a ≡ b) → AddsLine before now line → ((lines : Lines) → P lines → Derives (lines ++ line ∷ [])) → BreaksOff before now P
 left_told before now P line none one adds derives lines told more m =
     let e : lines ++ line ∷ [] ≡ more = one (lines ++ line ∷ []) more (adds lines told) m in
-    record { derives = λ p. subst Derives e (derives lines p); gives = ap clause_lines (sym e) ∙ clause_push lines line none }
+    record { derives = λ p. subst Derives e (derives lines p); gives = ap clause_lines (sym e) ∙ same_clauses lines line none }
 
 -- a clause is given
 
@@ -72,16 +66,12 @@ counted_none budget count after e = record { number = 0; few = omega arith; coun
 pub counted_one : (count after : ℕ) → after ≡ next_count count → HasCounted 1 count after
 counted_one count after e = record { number = 1; few = omega arith; counted = e }
 
-rose_twice : (m n k : ℕ) → rose_by n (rose_by m k) ≡ rose_by (m + n) k
-rose_twice m zero k = ap (λ a. rose_by a k) (let e : m ≡ m + 0 = omega arith in e)
-rose_twice m (suc n) k = ap next_count (rose_twice m n k) ∙ ap (λ a. rose_by a k) (let e : suc (m + n) ≡ m + suc n = omega arith in e)
-
 -- after some rounds
 pub counted_more : (budget told count between after : ℕ) → told < budget → between ≡ rose_by told count → HasCounted 1 between after → HasCounted budget count after
 counted_more budget told count between after lt e h = record {
   number = told + h.number;
   few = let f = h.few in omega arith;
-  counted = h.counted ∙ ap (rose_by h.number) e ∙ rose_twice told h.number count;
+  counted = h.counted ∙ ap (rose_by h.number) e ∙ rose_both told h.number count;
 }
 
 pub counted_after : {T : Type 0} (res : Result T SolveFault) (budget count between after : ℕ) → between ≡ rose_by budget count → OnErr res (after ≡ between) → OnErr res (HasCounted budget count after)

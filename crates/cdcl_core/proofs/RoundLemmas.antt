@@ -27,10 +27,11 @@ use Rattle.cdcl_core.specs.Search.{clauses, seen, IsSearch, IsAsking, IsAnalysed
 use Rattle.cdcl_core.specs.Rounds.{BelongsAt, BreaksOffAt, BreaksOffLog, LearnsOne, EndsSo, HasGone, EndsAfter, EndsBehindQuery}
 use Rattle.cdcl_core.proofs.SetLemmas.{among_more, among_append, among_itself, same_itself, same_more, same_append, same_equal}
 use Rattle.cdcl_core.proofs.StoreLemmas.{store_itself, store_more, analysed_store, analysed_clauses, analysed_full, kept_learnt}
-use Rattle.cdcl_core.proofs.LeftLemmas.{clause_push, clause_behind, clause_learnt, clause_searched, within_spent}
+use Rattle.cdcl_core.proofs.LeftLemmas.{clause_behind, clause_searched, within_spent}
 use Rattle.cdcl_core.proofs.LearnLemmas.{open_above}
 use Rattle.cdcl_core.proofs.ConflictLemmas.{unrefuted}
 use Rattle.cdcl_core.proofs.LogLemmas.{belongs_same, belongs_given, belongs_query, belongs_learnt, belongs_refuted, belongs_model, deduced_same}
+use Rattle.refute_log.proofs.StepLemmas.{learnt_no_clauses, same_clauses}
 
 -- a value that is there or not
 pub some_of : {A : Type 0} (r : Option A) (x : A) (P : Type 0) (Q : A → Type 0) → r ≡ Some x → MatchOption r P Q → Q x
@@ -330,7 +331,7 @@ rounds_ok (Ok a) before mid now count between after query r s t n h ends = ends_
 pub gone_err : (before mid now : Lines → Type 0) (count between : ℕ) (query : List Literal) (r s : Search) (n : ℕ) → HasGone before mid count between query r s n → BreaksOffAt mid now query s → BreaksOffAt before now query r
 gone_err before mid now count between query r s n h d = λ lines told more m.
     let left = d (lines ++ map Learnt h.learnt) (h.told lines told) more m in
-    record { derives = λ b. left.derives (h.belongs lines b); gives = left.gives ∙ clause_behind lines (map Learnt h.learnt) (clause_learnt h.learnt) }
+    record { derives = λ b. left.derives (h.belongs lines b); gives = left.gives ∙ clause_behind lines (map Learnt h.learnt) (learnt_no_clauses h.learnt) }
 
 pub rounds_err : (res : Result Answer SolveFault) (before mid now : Lines → Type 0) (count between : ℕ) (query : List Literal) (r s : Search) (n : ℕ) → HasGone before mid count between query r s n → OnErr res (BreaksOffAt mid now query s) → OnErr res (BreaksOffAt before now query r)
 rounds_err (Ok x) before mid now count between query r s n h d = tt
@@ -364,7 +365,7 @@ searched_same before now query k s t answer budget count after f h = record {
 pub query_err : (before mid now : Lines → Type 0) (query : List Literal) (s : Search) → MayBeTold (Query query) → All (λ l. IsNamed (clauses s) l.var) query → AddsLine before mid (Query query) → BreaksOffAt mid now query s → BreaksOffLog before now s
 query_err before mid now query s formed named adds d = λ lines told more m.
     let left = d (lines ++ Query query ∷ []) (adds lines told) more m in
-    record { derives = λ b. left.derives (belongs_query lines (clauses s) s.words query formed named b); gives = left.gives ∙ clause_push lines (Query query) refl }
+    record { derives = λ b. left.derives (belongs_query lines (clauses s) s.words query formed named b); gives = left.gives ∙ same_clauses lines (Query query) refl }
 
 pub query_err_of : (res : Result Answer SolveFault) (before mid now : Lines → Type 0) (query : List Literal) (s : Search) → MayBeTold (Query query) → All (λ l. IsNamed (clauses s) l.var) query → AddsLine before mid (Query query) → OnErr res (BreaksOffAt mid now query s) → OnErr res (BreaksOffLog before now s)
 query_err_of (Ok x) before mid now query s formed named adds d = tt

@@ -108,7 +108,7 @@ same_twice greatest lines order v w s mv mw derives cv cw = elim (better_or_same
 
 -- ---- more lines
 
-says_more : (greatest : Criterion → ℕ) (lines more : Lines) (c : Criterion) (k : ℕ) (l : Literal) → SaysAtLeast greatest lines c k l → SaysAtLeast greatest (lines ++ more) c k l
+pub says_more : (greatest : Criterion → ℕ) (lines more : Lines) (c : Criterion) (k : ℕ) (l : Literal) → SaysAtLeast greatest lines c k l → SaysAtLeast greatest (lines ++ more) c k l
 says_more greatest lines more c k l s = record { within = s.within; variable = s.variable; told = Contains-append_left lines more (Bound c k s.variable) s.told; is = s.is }
 
 pub out_of_reach_more : (greatest : Criterion → ℕ) (lines more : Lines) (earlier : List Criterion) (c : Criterion) (v : Values) (l : Literal) → IsOutOfReach greatest lines earlier c v l → IsOutOfReach greatest (lines ++ more) earlier c v l

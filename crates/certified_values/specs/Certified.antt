@@ -26,7 +26,7 @@ pub record RefutesLess (greatest : Criterion → ℕ) (lines : Lines) (earlier :
 abbrev pub IsCertifiedLeast : (Criterion → ℕ) → Lines → List Criterion → Criterion → Values → Type 0
 IsCertifiedLeast greatest lines earlier c v = 1 ≤ value_of v c → RefutesLess greatest lines earlier c v
 
--- the value of the criterion at this place of the order is least
+-- the log certifies that the value of the criterion at this place is least, if the order has one there
 abbrev pub IsLeastAt : (Criterion → ℕ) → Lines → List Criterion → Values → ℕ → Type 0
 IsLeastAt greatest lines order v i =
     (c : Criterion) → slice_get order i ≡ Some c → IsCertifiedLeast greatest lines (take i order) c v

@@ -14,8 +14,8 @@ ghost use Rattle.certified_values.specs.Expected.{Problem, HasAllBounds, caps, e
 ghost use Rattle.certified_values.specs.Expected.{IsNextToCap, StandsOnce, EndsWithSum, EndsWithSumVars};
 
 /// Whoever wrote the log: where the expected lines cover the lawful drawings, with whatever caps, and
-/// the log's Formula and Bound lines begin those for its own caps, no lawful drawing is better on the
-/// criteria that it certifies, and there is none where it certifies that.
+/// the log's Formula and Bound lines begin those for its own caps, and it derives, no lawful drawing is better on
+/// the criteria that it certifies, and there is none where it certifies that.
 pub fn certified_over_expected_lines_is_least()
     ensures least { (g : Graph) (above : ℕ → ℕ → Bool) (grid : GridSize) (e : Problem) (greatest : Criterion → ℕ)
         (lines : Lines) (order : List Criterion) → IsLogOf g above grid e greatest lines order →

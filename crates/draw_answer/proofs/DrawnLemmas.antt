@@ -19,7 +19,7 @@ use Rattle.lex_search.specs.declared.outcome.Outcome.{Outcome}
 use Rattle.lex_search.specs.declared.outcome.Outcome.TheVariants as outcomes
 use Rattle.lex_search.specs.Outcome.{IsOutcome}
 use Rattle.input_answer.specs.Met.{Met}
-use Rattle.draw_answer.specs.SearchLog.{IsLogOf}
+use Rattle.draw_answer.specs.SearchLog.{IsRunLog}
 use Rattle.draw_answer.specs.Drawn.{Job, search_of, sheet_of, found_by, HasSearched}
 
 -- ---- an order, criterion by criterion
@@ -88,8 +88,8 @@ ended_sheet g o asked outcome sheet same is searched = (
 
 -- lines told to a log of this name, where the words name it, are told where the words say
 pub searched_named : {E : Type 0} (g : Graph) (o : EdgeOrder) (asked : Job) (met : Met) (traced : Lines → Type 0) (named : Option (List ℕ)) (r : Result Outcome E) → asked.log ≡ named →
-    IfOk r (HasSearched g o asked (IsLogOf named met traced)) → IfOk r (HasSearched g o asked (IsLogOf asked.log met traced))
-searched_named g o asked met traced named (Ok outcome) is searched = subst (λ (log : Option (List ℕ)). HasSearched g o asked (IsLogOf log met traced) outcome) (sym is) searched
+    IfOk r (HasSearched g o asked (IsRunLog named met traced)) → IfOk r (HasSearched g o asked (IsRunLog asked.log met traced))
+searched_named g o asked met traced named (Ok outcome) is searched = subst (λ (log : Option (List ℕ)). HasSearched g o asked (IsRunLog log met traced) outcome) (sym is) searched
 searched_named g o asked met traced named (Err e) is searched = tt
 
 -- the drawing that was found has a point for each node and a line for each edge

@@ -19,11 +19,11 @@ use Rattle.plan_core.specs.Graph.{Graph}
 use Rattle.input_answer.specs.declared.reply.Cut.{Cut}
 use Rattle.input_answer.specs.declared.reply.Cut.TheVariants as cuts
 use Rattle.input_answer.specs.declared.status.Status.{Status}
-use Rattle.input_answer.specs.Met.{between, HasRead, IsUnwritten, Leaves}
+use Rattle.input_answer.specs.Met.{between, HasRead, IsUnwritten, LeftSo}
 use Rattle.input_answer.specs.Input.{IsStationOf}
 use Rattle.input_answer.specs.Reply.{cut_of}
 use Rattle.input_answer.specs.Answer.{text_input, IsFileJudged, IsAnswerAfter, IsAnswerOn, HasReadStation}
-use Rattle.draw_answer.specs.SearchLog.{HoldsLog, IsLogOf}
+use Rattle.draw_answer.specs.SearchLog.{HoldsLog, IsRunLog}
 use Rattle.draw_answer.specs.Drawn.{Job, found_by, HasSearched, IsDrawAnswer, HasBegunPicture, DrawMayLeave, files_asked, IsLeftByDraw}
 use Rattle.draw_answer.proofs.LeavesLemmas.{told_so, leaves_weaker, leaves_later}
 use Rattle.draw_answer.proofs.PictureLemmas.{StandsWhereNamed, named_same, pictured_later}
@@ -97,12 +97,12 @@ holds_later (Some a) None new name lines same holds = absurd same
 holds_later (Some a) (Some b) None name lines same holds = absurd holds
 holds_later (Some a) (Some b) (Some c) name lines same holds = holds
 
-log_later : (named : Option (List ℕ)) (old mid new : FilesAt) (traced : Lines → Type 0) (lines : Lines) → WhereTold old.contents mid.contents SameFiles → IsLogOf named (between mid new) traced lines → IsLogOf named (between old new) traced lines
+log_later : (named : Option (List ℕ)) (old mid new : FilesAt) (traced : Lines → Type 0) (lines : Lines) → WhereTold old.contents mid.contents SameFiles → IsRunLog named (between mid new) traced lines → IsRunLog named (between old new) traced lines
 log_later None old mid new traced lines same told = told
 log_later (Some name) old mid new traced lines same told = holds_later old.contents mid.contents new.contents name lines same told
 
 pub searched_later : (asked : Job) (old mid new : FilesAt) (traced : Lines → Type 0) (g : Graph) (o : EdgeOrder) (outcome : Outcome) → WhereTold old.contents mid.contents SameFiles →
-    HasSearched g o asked (IsLogOf asked.log (between mid new) traced) outcome → HasSearched g o asked (IsLogOf asked.log (between old new) traced) outcome
+    HasSearched g o asked (IsRunLog asked.log (between mid new) traced) outcome → HasSearched g o asked (IsRunLog asked.log (between old new) traced) outcome
 searched_later asked old mid new traced g o outcome same searched =
     record { lines = searched.lines; told = log_later asked.log old mid new traced searched.lines same searched.told; ended = searched.ended }
 
@@ -134,11 +134,11 @@ drawn_on asked name old mid new traced g o status text (bytes, is, has) same rea
 -- so is what it leaves
 pub leaves_on : (asked : Job) (name : List ℕ) (old mid new : FilesAt) (traced : Lines → Type 0) (g : Graph) (o : EdgeOrder) (Refused : Type 0) → IsStationOf name old.contents g o → HasRead (between old new) 1 →
     WhereTold old.contents mid.contents SameFiles → (Refused → ⊥) →
-    WhereTold mid.contents new.contents (Leaves (DrawMayLeave asked (HasBegunPicture g o asked (IsLogOf asked.log (between mid new) traced)))) →
-    WhereTold old.contents new.contents (Leaves (λ file bytes. (Refused → ⊥) × IsLeftByDraw name asked (between old new) traced file bytes))
+    WhereTold mid.contents new.contents (LeftSo (DrawMayLeave asked (HasBegunPicture g o asked (IsRunLog asked.log (between mid new) traced)))) →
+    WhereTold old.contents new.contents (LeftSo (λ file bytes. (Refused → ⊥) × IsLeftByDraw name asked (between old new) traced file bytes))
 leaves_on asked name old mid new traced g o Refused has read same answered leaves =
-    let Begun = HasBegunPicture g o asked (IsLogOf asked.log (between mid new) traced) in
-    let Later = HasBegunPicture g o asked (IsLogOf asked.log (between old new) traced) in
+    let Begun = HasBegunPicture g o asked (IsRunLog asked.log (between mid new) traced) in
+    let Later = HasBegunPicture g o asked (IsRunLog asked.log (between old new) traced) in
     let May : (file bytes : List ℕ) → Type 0 = λ file bytes. (Refused → ⊥) × IsLeftByDraw name asked (between old new) traced file bytes in
     leaves_later May old.contents mid.contents new.contents same
     (leaves_weaker (DrawMayLeave asked Begun) May mid.contents new.contents

@@ -3,7 +3,7 @@ use Rattle.std.proofs.Common.{◌≡◌, ◌≢◌, ◌⊎◌, ℕ, zero, suc, L
 use Rattle.std.specs.declared.option.Option.{Option}
 use Rattle.outside_io.specs.Contents.{Told, WhereTold, SameFiles, SameElsewhere}
 use Rattle.railml_read.proofs.Ends.{same_or_not}
-use Rattle.input_answer.specs.Met.{Leaves}
+use Rattle.input_answer.specs.Met.{LeftSo}
 use Rattle.draw_answer.specs.Written.{file_named, AreFilesApart}
 
 -- what holds of two steps in turn, where contents are told
@@ -22,33 +22,33 @@ told_so P Q (Some a) (Some b) weaker h = weaker a b h
 -- ---- nothing is written
 
 -- files that stand as they stood are left so, whatever they may be left with
-pub leaves_same : (May : (name bytes : List ℕ) → Type 0) (old new : Option Told) → WhereTold old new SameFiles → WhereTold old new (Leaves May)
-leaves_same May old new = told_so SameFiles (Leaves May) old new (λ a b same name. inl (same name))
+pub leaves_same : (May : (name bytes : List ℕ) → Type 0) (old new : Option Told) → WhereTold old new SameFiles → WhereTold old new (LeftSo May)
+leaves_same May old new = told_so SameFiles (LeftSo May) old new (λ a b same name. inl (same name))
 
-pub left_alone : (May : (name bytes : List ℕ) → Type 0) (c : Option Told) → WhereTold c c (Leaves May)
+pub left_alone : (May : (name bytes : List ℕ) → Type 0) (c : Option Told) → WhereTold c c (LeftSo May)
 left_alone May None = tt
 left_alone May (Some told) = λ name. inl refl
 
 -- ---- one step after the other
 
 -- more may be left than may be left
-pub leaves_weaker : (May More : (name bytes : List ℕ) → Type 0) (old new : Option Told) → ((name bytes : List ℕ) → May name bytes → More name bytes) → WhereTold old new (Leaves May) → WhereTold old new (Leaves More)
+pub leaves_weaker : (May More : (name bytes : List ℕ) → Type 0) (old new : Option Told) → ((name bytes : List ℕ) → May name bytes → More name bytes) → WhereTold old new (LeftSo May) → WhereTold old new (LeftSo More)
 leaves_weaker May More old new weaker =
-    told_so (Leaves May) (Leaves More) old new (λ a b leaves name. elim (leaves name) [ inl stands ↦ inl stands | inr (bytes, there, may) ↦ inr (bytes, there, weaker name bytes may) ])
+    told_so (LeftSo May) (LeftSo More) old new (λ a b leaves name. elim (leaves name) [ inl stands ↦ inl stands | inr (bytes, there, may) ↦ inr (bytes, there, weaker name bytes may) ])
 
 -- two steps leave what either may leave
-pub leaves_both : (May Also : (name bytes : List ℕ) → Type 0) (old mid new : Option Told) → WhereTold old mid (Leaves May) → WhereTold mid new (Leaves Also) → WhereTold old new (Leaves (λ name bytes. May name bytes ⊎ Also name bytes))
+pub leaves_both : (May Also : (name bytes : List ℕ) → Type 0) (old mid new : Option Told) → WhereTold old mid (LeftSo May) → WhereTold mid new (LeftSo Also) → WhereTold old new (LeftSo (λ name bytes. May name bytes ⊎ Also name bytes))
 leaves_both May Also old mid new =
-    told_then (Leaves May) (Leaves Also) (Leaves (λ name bytes. May name bytes ⊎ Also name bytes)) old mid new
+    told_then (LeftSo May) (LeftSo Also) (LeftSo (λ name bytes. May name bytes ⊎ Also name bytes)) old mid new
     (λ a b c first second name. elim (second name) as (λ _. (c name ≡ a name) ⊎ ((bytes : List ℕ) × (c name ≡ Some bytes) × (May name bytes ⊎ Also name bytes))) [
       | inl stands ↦ elim (first name) [ inl same ↦ inl (stands ∙ same) | inr (bytes, there, may) ↦ inr (bytes, stands ∙ there, inl may) ]
       | inr (bytes, there, also) ↦ inr (bytes, there, inr also)
     ])
 
 -- a read before changes nothing of that
-pub leaves_later : (May : (name bytes : List ℕ) → Type 0) (old mid new : Option Told) → WhereTold old mid SameFiles → WhereTold mid new (Leaves May) → WhereTold old new (Leaves May)
+pub leaves_later : (May : (name bytes : List ℕ) → Type 0) (old mid new : Option Told) → WhereTold old mid SameFiles → WhereTold mid new (LeftSo May) → WhereTold old new (LeftSo May)
 leaves_later May old mid new =
-    told_then SameFiles (Leaves May) (Leaves May) old mid new
+    told_then SameFiles (LeftSo May) (LeftSo May) old mid new
     (λ a b c same leaves name. elim (leaves name) [ inl stands ↦ inl (stands ∙ same name) | inr left ↦ inr left ])
 
 -- ---- one file is written
@@ -58,7 +58,7 @@ abbrev pub NamedMay : (named : Option (List ℕ)) → (P : List ℕ → Type 0) 
 NamedMay named P name bytes = (named ≡ Some name) × P bytes
 
 -- a file has such bytes, or stands as it stood, and no other changed
-pub left_alone_but : (P : List ℕ → Type 0) (name : List ℕ) (a b : Told) → SameElsewhere name a b → (b name ≡ a name) ⊎ ((bytes : List ℕ) × (b name ≡ Some bytes) × P bytes) → Leaves (NamedMay (Some name) P) a b
+pub left_alone_but : (P : List ℕ → Type 0) (name : List ℕ) (a b : Told) → SameElsewhere name a b → (b name ≡ a name) ⊎ ((bytes : List ℕ) × (b name ≡ Some bytes) × P bytes) → LeftSo (NamedMay (Some name) P) a b
 left_alone_but P name a b others begun other = elim (same_or_not other name) [
   | inl same ↦
       subst (λ (n : List ℕ). (b n ≡ a n) ⊎ ((bytes : List ℕ) × (b n ≡ Some bytes) × NamedMay (Some name) P n bytes)) (sym same)
@@ -68,14 +68,14 @@ left_alone_but P name a b others begun other = elim (same_or_not other name) [
 
 -- so it is where that is the name that was asked for
 pub leaves_named : (P : List ℕ → Type 0) (old new : Option Told) (named : Option (List ℕ)) (name : List ℕ) → named ≡ Some name → WhereTold old new (SameElsewhere name) →
-    WhereTold old new (λ before after. (after name ≡ before name) ⊎ ((bytes : List ℕ) × (after name ≡ Some bytes) × P bytes)) → WhereTold old new (Leaves (NamedMay named P))
+    WhereTold old new (λ before after. (after name ≡ before name) ⊎ ((bytes : List ℕ) × (after name ≡ Some bytes) × P bytes)) → WhereTold old new (LeftSo (NamedMay named P))
 leaves_named P None new named name is others begun = tt
 leaves_named P (Some a) None named name is others begun = absurd others
 leaves_named P (Some a) (Some b) named name is others begun =
-    subst (λ (n : Option (List ℕ)). Leaves (NamedMay n P) a b) (sym is) (left_alone_but P name a b others begun)
+    subst (λ (n : Option (List ℕ)). LeftSo (NamedMay n P) a b) (sym is) (left_alone_but P name a b others begun)
 
 -- a file of another name stands as it stood
-pub other_stands : (P : List ℕ → Type 0) (named : Option (List ℕ)) (name : List ℕ) (a b : Told) → (named ≡ Some name → ⊥) → Leaves (NamedMay named P) a b → b name ≡ a name
+pub other_stands : (P : List ℕ → Type 0) (named : Option (List ℕ)) (name : List ℕ) (a b : Told) → (named ≡ Some name → ⊥) → LeftSo (NamedMay named P) a b → b name ≡ a name
 other_stands P named name a b other leaves = elim (leaves name) [ inl stands ↦ stands | inr (bytes, there, may) ↦ absurd (other may.0) ]
 
 -- ---- the files of a log and of a picture have two names

@@ -29,14 +29,14 @@ use Rattle.input_answer.specs.declared.fault.RunFault.TheVariants.{ReadFailed}
 use Rattle.input_answer.specs.declared.input.InputRefusal.{InputRefusal}
 use Rattle.input_answer.specs.declared.input.InputRefusal.TheVariants as refusals
 use Rattle.input_answer.specs.Fault.{IsFaultLine}
-use Rattle.input_answer.specs.Met.{Met, between, HasRead, IsUnwritten, Leaves}
+use Rattle.input_answer.specs.Met.{Met, between, HasRead, IsUnwritten, LeftSo}
 use Rattle.input_answer.specs.Answer.{text_input, IsAnswerAfter, IsAnswerOn}
 use Rattle.input_answer.specs.Signals.{HasFault, IsSignalStationOf, IsSignalRefusalOf}
 use Rattle.input_answer.proofs.FormedRows.{rows_formed}
 use Rattle.input_answer.proofs.SignalLemmas.{fault_short_or_long}
 use Rattle.refute_log.specs.FileLog.{BeginsLog}
 use Rattle.draw_answer.specs.Written.{file_named}
-use Rattle.draw_answer.specs.SearchLog.{IsLogOf}
+use Rattle.draw_answer.specs.SearchLog.{IsRunLog}
 use Rattle.draw_answer.specs.Pictured.{IsPictured}
 use Rattle.draw_answer.specs.Drawn.{Job, job, search_of, sheet_of, found_by, status_of, HasSearched, IsDrawAnswer}
 use Rattle.draw_answer.specs.Signalled.{job_for, signals_behind, IsSignalled, IsSignalAnswer, IsSignalFileJudged, HasReadSignals, IsLeftBySignals}
@@ -83,7 +83,7 @@ HasSignalled met traced g o signals places status text asked =
 
 -- the sheet of a search's outcome, and what the signals give behind it
 pub signalled : (asked : Job) (met : Met) (traced : Lines → Type 0) (g : Graph) (o : EdgeOrder) (signals : List SignalElem) (places : List SignalPlace) (outcome : Outcome) (status : Status) (sheet text : List ℕ) →
-    job_for places asked ≡ asked → asked.svg ≡ None → HasSearched g o asked (IsLogOf asked.log met traced) outcome → IsSheetText g false (sheet_text g (sheet_of asked outcome)) (sheet_of asked outcome) →
+    job_for places asked ≡ asked → asked.svg ≡ None → HasSearched g o asked (IsRunLog asked.log met traced) outcome → IsSheetText g false (sheet_text g (sheet_of asked outcome)) (sheet_of asked outcome) →
     IsShort MAX_FILE_BYTES (sheet_text g (sheet_of asked outcome)) → status ≡ status_of outcome → sheet ≡ sheet_text g (sheet_of asked outcome) → text ≡ sheet ++ signals_behind signals places (found_by outcome) →
     IsSignalled asked met traced g o signals places status text
 signalled asked met traced g o signals places outcome status sheet text least unpictured searched read short status_is spelled behind =
@@ -160,8 +160,8 @@ signals_refused_on asked traced name met refusals.Memory fault status text refus
 -- so is what it leaves
 pub signals_leave : (asked : Job) (name : List ℕ) (old mid new : FilesAt) (g : Graph) (o : EdgeOrder) (signals : List SignalElem) (places : List SignalPlace) (Refused : Type 0) →
     IsSignalStationOf name old.contents g o signals places → HasRead (between old new) 1 → WhereTold old.contents mid.contents SameFiles → (Refused → ⊥) →
-    WhereTold mid.contents new.contents (Leaves (NamedMay asked.log BeginsLog)) →
-    WhereTold old.contents new.contents (Leaves (λ file bytes. (Refused → ⊥) × IsLeftBySignals name asked (between old new) file bytes))
+    WhereTold mid.contents new.contents (LeftSo (NamedMay asked.log BeginsLog)) →
+    WhereTold old.contents new.contents (LeftSo (λ file bytes. (Refused → ⊥) × IsLeftBySignals name asked (between old new) file bytes))
 signals_leave asked name old mid new g o signals places Refused has read same answered leaves =
     let May : (file bytes : List ℕ) → Type 0 = λ file bytes. (Refused → ⊥) × IsLeftBySignals name asked (between old new) file bytes in
     let found : HasReadSignals name (between old new) = record { graph = g; order = o; signals = signals; places = places; read = read; has = has } in

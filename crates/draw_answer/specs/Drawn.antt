@@ -32,7 +32,7 @@ use Rattle.input_answer.specs.Input.{IsShort}
 use Rattle.input_answer.specs.Met.{Met}
 use Rattle.input_answer.specs.Answer.{IsReadStation}
 use Rattle.draw_answer.specs.Written.{file_named}
-use Rattle.draw_answer.specs.SearchLog.{IsLogOf}
+use Rattle.draw_answer.specs.SearchLog.{IsRunLog}
 use Rattle.draw_answer.specs.Pictured.{BeginsPicture, IsPictured}
 
 -- ---- what is asked
@@ -82,10 +82,10 @@ status_of (outcomes.Room found settled) = statuses.Unfinished
 abbrev pub HasEnded : Graph → EdgeOrder → Job → Outcome → Lines → Type 0
 HasEnded g o asked outcome lines = IsOutcome (search_of g o asked) asked.order outcome lines
 
--- the lines certify so many values of what was found, the first of the order, and that is the most below the order's
--- length; none where nothing was found
-abbrev pub AreSettled : Graph → Job → Lines → Option Drawing → ℕ → Type 0
-AreSettled g asked lines found settled =
+-- the lines certify so many values of what was found, from the first of the order, the most below the order's length;
+-- 0 where nothing was found
+abbrev pub HasSettled : Graph → Job → Lines → Option Drawing → ℕ → Type 0
+HasSettled g asked lines found settled =
     Settled (limit_of g asked.grid) lines asked.order (values_found found) settled
 
 -- the lines have as many learnt clauses as the search may learn, and the last query is open
@@ -122,7 +122,7 @@ pub record IsDrawn (g : Graph) (o : EdgeOrder) (asked : Job) (IsTold : Lines →
 -- the search where the words say, and the picture of its drawing where they name a file for it
 pub record IsDrawAnswer (asked : Job) (met : Met) (traced : Lines → Type 0) (g : Graph) (o : EdgeOrder)
     (status : Status) (text : List ℕ) : Type 0 where
-  pub drawn : IsDrawn g o asked (IsLogOf asked.log met traced) status text
+  pub drawn : IsDrawn g o asked (IsRunLog asked.log met traced) status text
   pub pictured : IsPictured asked.svg met g (found_by drawn.outcome)
 
 -- ---- what draw leaves, also where it doesn't answer
@@ -150,4 +150,4 @@ files_asked asked = file_named asked.log ++ file_named asked.svg
 abbrev pub IsLeftByDraw : (input : List ℕ) → Job → Met → (traced : Lines → Type 0) → (name bytes : List ℕ) → Type 0
 IsLeftByDraw input asked met traced name bytes =
     (g : Graph) × (o : EdgeOrder) × IsReadStation input met g o
-    × DrawMayLeave asked (HasBegunPicture g o asked (IsLogOf asked.log met traced)) name bytes
+    × DrawMayLeave asked (HasBegunPicture g o asked (IsRunLog asked.log met traced)) name bytes

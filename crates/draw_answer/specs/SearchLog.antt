@@ -17,6 +17,6 @@ abbrev pub HoldsLog : (before after : Option Told) → List ℕ → Lines → Ty
 HoldsLog before after name lines = WhereTold before after (λ _ contents. IsLogFile name lines contents)
 
 -- the run told these lines: the file that is named for a log has them, or where none is named, the trace was told them
-abbrev pub IsLogOf : (named : Option (List ℕ)) → Met → (traced : Lines → Type 0) → Lines → Type 0
-IsLogOf None met traced lines = traced lines
-IsLogOf (Some name) met traced lines = HoldsLog met.before.contents met.after.contents name lines
+abbrev pub IsRunLog : (named : Option (List ℕ)) → Met → (traced : Lines → Type 0) → Lines → Type 0
+IsRunLog None met traced lines = traced lines
+IsRunLog (Some name) met traced lines = HoldsLog met.before.contents met.after.contents name lines

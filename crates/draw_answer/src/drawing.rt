@@ -14,9 +14,9 @@ ghost use Rattle.refute_log.specs.FileLog.{BeginsLog, FileBeginsLog};
 ghost use Rattle.input_answer.specs.Status.{IsAnswered, IsRefused};
 ghost use Rattle.input_answer.specs.Answer.{IsFileJudged, IsAnswerToFile, HasReadStation};
 ghost use Rattle.input_answer.specs.Input.{IsShort};
-ghost use Rattle.input_answer.specs.Met.{between, ReadsInputs, IsUnwritten, Leaves, HasLeft};
+ghost use Rattle.input_answer.specs.Met.{between, ReadsInputs, IsUnwritten, LeftSo, HasLeft};
 ghost use Rattle.refute_log.specs.ToldTo.{told_to};
-ghost use Rattle.draw_answer.specs.SearchLog.{HoldsLog, IsLogOf};
+ghost use Rattle.draw_answer.specs.SearchLog.{HoldsLog, IsRunLog};
 ghost use Rattle.draw_answer.specs.Written.{AreFilesApart, file_named, FailsToWrite};
 ghost use Rattle.draw_answer.specs.Drawn.{sheet_with, sheet_of, status_of, HasSearched, IsDrawAnswer, HasBegunPicture};
 ghost use Rattle.draw_answer.specs.Drawn.{DrawMayLeave, files_asked, IsLeftByDraw};
@@ -200,9 +200,9 @@ pub(crate) fn search_told<F: Files, T: LogSink>(
     requires order { IsOrderOf station.now.graph station.now.order }
     ensures searched { let met = between (F.at files.old) (F.at files.new) in
         let told = told_to T.tells T.learnt trace.old trace.new in
-        IfOk result (HasSearched station.now.graph station.now.order asked.now (IsLogOf asked.now.log met told)) }
+        IfOk result (HasSearched station.now.graph station.now.order asked.now (IsRunLog asked.now.log met told)) }
     ensures leaves { WhereTold (F.at files.old).contents (F.at files.new).contents
-        (Leaves (λ name bytes. (asked.now.log ≡ Some
+        (LeftSo (λ name bytes. (asked.now.log ≡ Some
         name) × BeginsLog bytes)) }
     ensures unwritten { let met = between (F.at files.old) (F.at files.new) in
         asked.now.log ≡ None → IsUnwritten met }
@@ -241,7 +241,7 @@ fn draw_station<F: Files, T: LogSink>(
         file_named asked.now.log ++ file_named asked.now.svg ≡ [] → IsUnwritten met }
     ensures leaves { let met = between (F.at files.old) (F.at files.new) in
         HasLeft met (DrawMayLeave asked.now (HasBegunPicture station.now.graph station.now.order asked.now
-        (IsLogOf asked.now.log met (told_to T.tells T.learnt trace.old trace.new)))) }
+        (IsRunLog asked.now.log met (told_to T.tells T.learnt trace.old trace.new)))) }
     ensures cause { let met = between (F.at files.old) (F.at files.new) in
         IsErrOf result Cut.Unwritten → FailsToWrite (file_named asked.now.log ++ file_named asked.now.svg)
         (asked.now.log ≡ None) met (Rose (T.faults trace.old) (T.faults trace.new)) }

@@ -16,7 +16,7 @@ ghost use Rattle.railml_read.specs.declared.rows.SignalElem.{SignalElem};
 ghost use Rattle.plan_objects.specs.declared.places.SignalPlace.{SignalPlace};
 ghost use Rattle.input_answer.specs.Signals.{HasSignalStation};
 ghost use Rattle.draw_answer.specs.Signalled.{StandApartWhereFound};
-ghost use Rattle.draw_answer.specs.Drawn.{Job, status_of, HasEnded, AreSettled, HasSpentAll, HasFilledRoom};
+ghost use Rattle.draw_answer.specs.Drawn.{Job, status_of, HasEnded, HasSettled, HasSpentAll, HasFilledRoom};
 
 /// Of the lines of a search: where none is found to be lawful, that is certified. Where it is unfinished, the criteria
 /// that are called settled are those that are certified, and no more. It stops only where the whole budget of learnt
@@ -26,7 +26,7 @@ pub fn how_searches_end()
         HasEnded g o asked outcomes.NoDrawing lines → CertifiesNone lines }
     ensures settled { (g : Graph) (o : EdgeOrder) (asked : Job) (lines : Lines) (found : Option Drawing) (s : ℕ) →
         HasEnded g o asked (outcomes.Spent found s) lines ⊎ HasEnded g o asked (outcomes.Room found s) lines →
-        AreSettled g asked lines found s }
+        HasSettled g asked lines found s }
     ensures spent { (g : Graph) (o : EdgeOrder) (asked : Job) (lines : Lines) (found : Option Drawing) (s : ℕ) →
         HasEnded g o asked (outcomes.Spent found s) lines → HasSpentAll asked lines }
     ensures full { (g : Graph) (o : EdgeOrder) (asked : Job) (lines : Lines) (found : Option Drawing) (s : ℕ) →

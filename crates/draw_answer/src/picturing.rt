@@ -4,7 +4,7 @@ ghost use Rattle.outside_io.specs.Counts.{Rose};
 ghost use Rattle.outside_io.specs.Contents.{WhereTold, Sets, MaySet};
 ghost use Rattle.plan_core.specs.Lawful.{HasSizeOf};
 ghost use Rattle.plan_text.specs.SvgText.{svg_text};
-ghost use Rattle.input_answer.specs.Met.{between, IsUnwritten, Leaves};
+ghost use Rattle.input_answer.specs.Met.{between, IsUnwritten, LeftSo};
 ghost use Rattle.draw_answer.specs.Pictured.{BeginsPicture, IsPictured};
 ghost use Rattle.draw_answer.specs.Drawn.{found_by};
 
@@ -68,7 +68,7 @@ fn write_named<F: Files>(
     ensures pictured { let met = between (F.at files.old) (F.at files.new) in
         OnOk result (IsPictured (Some name.now) met graph.now (found_by outcome.now)) }
     ensures leaves { WhereTold (F.at files.old).contents (F.at files.new).contents
-        (Leaves (λ named bytes. (Some name.now ≡ Some
+        (LeftSo (λ named bytes. (Some name.now ≡ Some
         named) × BeginsPicture graph.now (found_by outcome.now) bytes)) }
     ensures later { (F.at files.old).write_faults ≤ (F.at files.new).write_faults }
     ensures cause { IsErrOf result Cut.Unwritten → Rose (F.at files.old).write_faults (F.at files.new).write_faults }
@@ -93,7 +93,7 @@ pub fn write_found<F: Files>(
     ensures pictured { let met = between (F.at files.old) (F.at files.new) in
         OnOk result (IsPictured named.now met graph.now (found_by outcome.now)) }
     ensures leaves { WhereTold (F.at files.old).contents (F.at files.new).contents
-        (Leaves (λ name bytes. (named.now ≡ Some name) ×
+        (LeftSo (λ name bytes. (named.now ≡ Some name) ×
         BeginsPicture graph.now (found_by outcome.now) bytes)) }
     ensures unwritten { let met = between (F.at files.old) (F.at files.new) in named.now ≡ None → IsUnwritten met }
     ensures later { (F.at files.old).write_faults ≤ (F.at files.new).write_faults }

@@ -159,7 +159,7 @@ pair_few g grid a b o e f first =
     )
 
 -- ALL LAWS
-added : (all one two three four five six p q r s : ℕ) → all ≡ one + two → two ≡ three + four → four ≡ five + six → one ≤ p → three ≤ q → five ≤ r → six ≤ s → all ≤ p + (q + (r + s))
+pub added : (all one two three four five six p q r s : ℕ) → all ≡ one + two → two ≡ three + four → four ≡ five + six → one ≤ p → three ≤ q → five ≤ r → six ≤ s → all ≤ p + (q + (r + s))
 added all one two three four five six p q r s e1 e2 e3 h1 h2 h3 h4 = omega arith
 
 laws_few : (g : Graph) (grid : GridSize) (above overlap : ℕ → ℕ → Bool) (first : ℕ) → words_of (laws_clauses g (drawing_vars g grid) grid.width first (instances g above overlap)) ≤ length g.nodes * (length g.nodes * (22 * area grid)) + (length g.nodes * (66 * area grid) + (length g.nodes * (length g.nodes * (33 * area grid)) + length g.edges * (length g.edges * (44 * area grid))))

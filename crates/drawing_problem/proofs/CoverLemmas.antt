@@ -26,7 +26,7 @@ use Rattle.drawing_problem.specs.Lists.{lines_with}
 use Rattle.drawing_problem.specs.Layout.{layout, problem_of}
 use Rattle.drawing_problem.proofs.ListLemmas.{given_with, IsBoundLine, in_lines, expected_with}
 
-both_true : (b : Bool) (k n : ℕ) → b ≡ nat_le k n → (b ≡ true) ↔ (k ≤ n)
+pub both_true : (b : Bool) (k n : ℕ) → b ≡ nat_le k n → (b ≡ true) ↔ (k ≤ n)
 both_true b k n e = (λ t. leb-true k n (sym e ∙ t), λ le. e ∙ le-leb k n le)
 
 -- the values of a drawing that has such a model meet the lines of the bounds

@@ -14,7 +14,7 @@ pub record Layout : Type 0 where
   pub grid : GridSize
 
 -- a station's graph, an order of its edges, and a grid that there may be
-pub record IsLayout (y : Layout) : Type 0 where
+pub record IsStationLayout (y : Layout) : Type 0 where
   pub station : IsStationGraph y.graph
   pub ordered : IsOrderOf y.graph y.order
   pub sized : IsGrid y.grid

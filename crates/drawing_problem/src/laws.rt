@@ -11,7 +11,7 @@ ghost use Rattle.refute_log.specs.Log.{given};
 ghost use Rattle.certified_values.specs.Bounds.{CoversDrawings};
 ghost use Rattle.certified_values.specs.Expected.{HasAllBounds, expected_lines, expected_vars};
 ghost use Rattle.drawing_problem.specs.Lists.{drawing_problem, lines_for};
-ghost use Rattle.drawing_problem.specs.Layout.{Layout, IsLayout, problem_of};
+ghost use Rattle.drawing_problem.specs.Layout.{Layout, IsStationLayout, problem_of};
 
 /// The drawings' clause lists have a variable for each bound up to the cap: the first ones of the criterion's sum, one
 /// behind another. What is expected for an order with its caps are the lines of the drawings' clauses, with the bounds
@@ -32,13 +32,13 @@ pub fn drawing_lists_are_a_problem()
 
 /// What is expected covers the lawful drawings of a station's graph, for each order and all caps.
 pub fn expected_lines_cover()
-    ensures { (y : Layout) (order : List Criterion) (caps : Criterion → ℕ) → IsLayout y →
+    ensures { (y : Layout) (order : List Criterion) (caps : Criterion → ℕ) → IsStationLayout y →
         CoversDrawings y.graph (is_above y.order) y.grid (expected_lines (problem_of y) order caps) }
 {}
 
 /// Its clauses and its Bound lines name none but the variables that there are with it.
 pub fn expected_variables_are_there()
-    ensures clauses { (y : Layout) (order : List Criterion) (caps : Criterion → ℕ) → IsLayout y →
+    ensures clauses { (y : Layout) (order : List Criterion) (caps : Criterion → ℕ) → IsStationLayout y →
         let p = problem_of y in
         AllThere (expected_vars p order caps) (flat_map given (expected_lines p order caps)) }
     ensures bounds { (y : Layout) (order : List Criterion) (caps : Criterion → ℕ) (c : Criterion) (k : ℕ) (x : Var) →

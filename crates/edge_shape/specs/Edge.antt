@@ -213,12 +213,16 @@ further_clauses e west east high width = point_clauses e width ++ follow_clauses
 abbrev pub line_clauses : EdgeLits → NodeInts → NodeInts → ℕ → ℕ → Clauses
 line_clauses e west east high width = whole_clauses e west east width ++ further_clauses e west east high width
 
--- the shape of the line, wherever its ends are
+-- all clauses of an edge but those of its heights as integers and those that put its ends (`end_clauses`)
 abbrev pub shape_clauses : EdgeLits → NodeInts → NodeInts → ℕ → ℕ → Clauses
 shape_clauses e west east high width =
     column_clauses e west east high width ++ line_clauses e west east high width
 
+-- those of an edge's heights as integers and those that put its ends
+abbrev pub front_clauses : EdgeLits → NodeInts → NodeInts → ℕ → ℕ → Clauses
+front_clauses e west east least width =
+    each (λ c. int_clauses (e.height c)) 0 (width + 1) ++ end_clauses e west east least width
+
 abbrev pub edge_clauses : EdgeLits → NodeInts → NodeInts → ℕ → ℕ → ℕ → Clauses
 edge_clauses e west east least high width =
-    (each (λ c. int_clauses (e.height c)) 0 (width + 1) ++ end_clauses e west east least width)
-    ++ shape_clauses e west east high width
+    front_clauses e west east least width ++ shape_clauses e west east high width

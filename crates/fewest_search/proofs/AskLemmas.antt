@@ -16,8 +16,8 @@ use Rattle.certified_values.proofs.CertifiedLemmas.{refuted_holds}
 use Rattle.certified_values.specs.declared.stop.Stop.{Stop}
 use Rattle.certified_values.specs.declared.stop.Stop.TheVariants.{BudgetSpent, RoomFull}
 use Rattle.refute_log.specs.Steps.{ToldBehind, Continues, KnowsSome}
-use Rattle.refute_log.proofs.StepLemmas.{stays, goes_on, becomes}
-use Rattle.lex_search.proofs.QuestionLemmas.{no_clauses_both}
+use Rattle.refute_log.proofs.StepLemmas.{stays, goes_on, becomes, learnt_no_clauses}
+use Rattle.lex_search.proofs.QuestionLemmas.{no_clauses_both, none_in}
 use Rattle.fewest_search.specs.declared.questions.Answer.{Answer}
 use Rattle.fewest_search.specs.declared.questions.Answer.TheVariants.{Found, Refuted, Stopped}
 use Rattle.fewest_search.specs.declared.outcome.Fewest.{Fewest}
@@ -72,9 +72,6 @@ refuted_none knows log count a e q p limit r same was known laws within asked =
 
 -- ---- the lines of a question
 
-none_in : (xs : Lines) (x : LogLine) → All (λ l. l ≡ x → ⊥) xs → Contains xs x → ⊥
-none_in xs x all there = All-contains (λ (l : LogLine). l ≡ x → ⊥) xs x all there refl
-
 -- a Refuted or Model line of it stands at its end
 at_end : (p : Counted) (limit : Option ℕ) (ending more : Lines) (line : LogLine) → ((c : List Literal) → Query c ≡ line → ⊥) → ((c : List Literal) → Learnt c ≡ line → ⊥) → IsAsked p limit ending more → Contains more line → Contains ending line
 at_end p limit ending more line no_query no_learnt asked there =
@@ -109,10 +106,6 @@ no_model p limit lines more asked before there = elim (Contains-append_cases lin
   | inl h ↦ before h
   | inr h ↦ not_nothing Model (at_end p limit [] more Model (λ c e. cc) (λ c e. cc) asked h)
 ]
-
-learnt_no_clauses : (cs : Clauses) → clause_lines (map Learnt cs) ≡ []
-learnt_no_clauses [] = refl
-learnt_no_clauses (c ∷ cs) = flat_map-cons clause_line (Learnt c) (map Learnt cs) ∙ learnt_no_clauses cs
 
 pub asks_no_clauses : (p : Counted) (limit : Option ℕ) (ending more : Lines) → IsAsked p limit ending more → clause_lines ending ≡ [] → clause_lines more ≡ []
 asks_no_clauses p limit ending more asked none =

@@ -13,8 +13,7 @@ use Rattle.refute_log.specs.Log.{added, learnt, Derives, Due, clause_lines}
 use Rattle.certified_values.specs.declared.stop.Stop.{Stop}
 use Rattle.certified_values.specs.declared.stop.Stop.TheVariants.{BudgetSpent, RoomFull}
 use Rattle.refute_log.specs.Steps.{ToldBehind, Continues}
-use Rattle.refute_log.proofs.StepLemmas.{goes_on, becomes}
-use Rattle.lex_search.proofs.QuestionLemmas.{clause_lines_append}
+use Rattle.refute_log.proofs.StepLemmas.{goes_on, becomes, clause_lines_append}
 use Rattle.lex_search.proofs.BuildLemmas.{formulas_are_clauses}
 use Rattle.fewest_search.specs.declared.questions.Answer.{Answer}
 use Rattle.fewest_search.specs.declared.questions.Answer.TheVariants.{Found, Refuted, Stopped}

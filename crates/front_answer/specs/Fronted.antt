@@ -40,7 +40,7 @@ status_of_front Room = statuses.Unfinished
 
 -- a search for the front was done and told these lines, its pairs and its end say of the drawings what they are to say,
 -- and the text is theirs
-pub record IsFronted (asked : FrontJob) (IsTold : Lines → Type 0) (g : Graph) (o : EdgeOrder) (status : Status)
+pub record IsFrontAnswer (asked : FrontJob) (IsTold : Lines → Type 0) (g : Graph) (o : EdgeOrder) (status : Status)
     (text : List ℕ) : Type 0 where
   pub pairs : Pairs
   pub ending : FrontEnd

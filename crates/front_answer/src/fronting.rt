@@ -7,7 +7,7 @@ ghost use Rattle.refute_log.specs.ToldTo.{told_to};
 ghost use Rattle.input_answer.specs.Status.{IsAnswered, IsRefused};
 ghost use Rattle.input_answer.specs.Met.{between, ReadsInputs, IsUnwritten};
 ghost use Rattle.input_answer.specs.Answer.{IsFileJudged, IsAnswerToFile, HasReadStation};
-ghost use Rattle.front_answer.specs.Fronted.{IsFronted, status_of_front};
+ghost use Rattle.front_answer.specs.Fronted.{IsFrontAnswer, status_of_front};
 
 use crate::writing::text_of;
 use cnf_core::ROOM;
@@ -62,7 +62,7 @@ fn front_station<L: LogSink>(
     requires order { IsOrderOf station.now.graph station.now.order }
     requires apart { asked.now.first ≢ asked.now.second }
     ensures answer { let told = told_to L.tells L.learnt log.old log.new in
-        IfOk result (λ r. IsFronted asked.now told station.now.graph station.now.order r.status r.text.items) }
+        IfOk result (λ r. IsFrontAnswer asked.now told station.now.graph station.now.order r.status r.text.items) }
     ensures unrefused { IsOkAnd result (λ r. IsRefused r.status) → ⊥ }
     ensures later { L.is_later log.old log.new }
     ensures cause { IsErrOf result Cut.Unwritten → Rose (L.faults log.old) (L.faults log.new) }
@@ -98,9 +98,8 @@ pub fn front<F: Files, T: LogSink>(
 ) -> Result<Reply, Cut>
     requires apart { asked.now.first ≢ asked.now.second }
     ensures answer { let met = between (F.at files.old) (F.at files.new) in
-        let told = told_to T.tells T.learnt trace.old trace.new in
-        IfOk result (λ r. IsAnswerToFile input.now met (IsFileJudged (IsFronted asked.now told))
-        r.status r.text.items) }
+        IfOk result (λ r. IsAnswerToFile input.now met (IsFileJudged (IsFrontAnswer asked.now
+        (told_to T.tells T.learnt trace.old trace.new))) r.status r.text.items) }
     ensures reads { let met = between (F.at files.old) (F.at files.new) in
         ReadsInputs 1 (IsOkAnd result (λ r. IsAnswered r.status)) met }
     ensures unwritten { let met = between (F.at files.old) (F.at files.new) in IsUnwritten met }

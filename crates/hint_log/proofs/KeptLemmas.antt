@@ -20,6 +20,7 @@ use Rattle.hint_log.specs.Shortened.{is_used, NamesLater, AreMarked, IsRenumberi
 use Rattle.hint_log.proofs.UsedLemmas.{count_is}
 use Rattle.hint_log.proofs.HintedLemmas.{same_line}
 use Rattle.hint_log.proofs.ShortenLemmas.{good_renumbered, renumbering_kept, renumbering_left_out, renumbering_none}
+use Rattle.watch_arena.proofs.ChainLemmas.{contains_head}
 
 -- what a Learnt line is shortened to
 abbrev shortened_after : List Bool → List ℕ → ℕ → List Literal → List ℕ → HintLines → Bool → HintLines
@@ -138,12 +139,9 @@ cons_cases q p before h = elim (Contains-append_cases (p ∷ []) before q h) [
   | inr later ↦ inr later
 ]
 
-contains_first : (p : ℕ) (places : List ℕ) → Contains (p ∷ places) p
-contains_first p places = (0, omega arith, refl)
-
 cons_all : (wanted before places : List ℕ) (p q : ℕ) → ((r : ℕ) → Contains wanted r → Contains before r → Contains places r) → Contains wanted q → Contains (p ∷ before) q → Contains (p ∷ places) q
 cons_all wanted before places p q all asked among = elim (cons_cases q p before among) [
-  | inl is ↦ subst (λ r. Contains (p ∷ places) r) (sym is) (contains_first p places)
+  | inl is ↦ subst (λ r. Contains (p ∷ places) r) (sym is) (contains_head p places)
   | inr later ↦ Contains-append_right (p ∷ []) places q (all q asked later)
 ]
 

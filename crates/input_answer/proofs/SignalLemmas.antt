@@ -8,7 +8,7 @@ use Rattle.input_answer.specs.declared.input.InputRefusal.TheVariants as refusal
 use Rattle.input_answer.specs.declared.status.Status.TheVariants.{Refused}
 use Rattle.input_answer.specs.Fault.{fault_status}
 use Rattle.input_answer.specs.Input.{IsLong, IsShort, IsRefusal}
-use Rattle.input_answer.specs.Signals.{HasSignalFault, HasFault, IsSignalRefusal}
+use Rattle.input_answer.specs.Signals.{HasFaultOfSignal, HasFault, IsSignalRefusal}
 use Rattle.input_answer.proofs.InputLemmas.{file_fault_status, short_or_long}
 
 -- what is said of a file without a station is said of one with signals
@@ -16,7 +16,7 @@ pub refused_too : (bytes : List ℕ) (r : InputRefusal) → IsRefusal bytes r �
 refused_too bytes (refusals.Fault fault) refused = inl refused
 refused_too bytes refusals.Memory refused = refused
 
-signal_fault_status : (bytes : List ℕ) (fault : RunFault) → HasSignalFault bytes fault → fault_status fault ≡ Refused
+signal_fault_status : (bytes : List ℕ) (fault : RunFault) → HasFaultOfSignal bytes fault → fault_status fault ≡ Refused
 signal_fault_status bytes (Signal what at first) has = refl
 signal_fault_status bytes (Words what position) has = absurd has
 signal_fault_status bytes (Long input) has = absurd has
@@ -35,7 +35,7 @@ fault_refuses bytes fault (inr has) = signal_fault_status bytes fault has
 
 -- ---- how long the file is
 
-signal_fault_short : (bytes : List ℕ) (fault : RunFault) → HasSignalFault bytes fault → IsShort MAX_FILE_BYTES bytes
+signal_fault_short : (bytes : List ℕ) (fault : RunFault) → HasFaultOfSignal bytes fault → IsShort MAX_FILE_BYTES bytes
 signal_fault_short bytes (Signal what at first) has = has.2.has_graph.has_topology.has_rows.few
 signal_fault_short bytes (Words what position) has = absurd has
 signal_fault_short bytes (Long input) has = absurd has

@@ -39,10 +39,10 @@ abbrev pub IsUnwritten : Met → Type 0
 IsUnwritten met = met.after.write_faults ≡ met.before.write_faults
 
 -- each file stands as it stood, or is there with bytes with which it may be left
-abbrev pub Leaves : (May : (name bytes : List ℕ) → Type 0) → (before after : Told) → Type 0
-Leaves May before after = (name : List ℕ) → (after name ≡ before name)
+abbrev pub LeftSo : (May : (name bytes : List ℕ) → Type 0) → (before after : Told) → Type 0
+LeftSo May before after = (name : List ℕ) → (after name ≡ before name)
     ⊎ ((bytes : List ℕ) × (after name ≡ Some bytes) × May name bytes)
 
 -- where contents are told, the run left each file so
 abbrev pub HasLeft : Met → (May : (name bytes : List ℕ) → Type 0) → Type 0
-HasLeft met May = WhereTold met.before.contents met.after.contents (Leaves May)
+HasLeft met May = WhereTold met.before.contents met.after.contents (LeftSo May)

@@ -48,14 +48,14 @@ pub record HasFaultySignals (bytes : List ℕ) (g : TrackGraph) (what : SignalWh
     pub fault : IsFirstSignalFault (station rows topology g) signals what at first
 
 -- the bytes have a station, and their signals have this fault
-abbrev pub HasSignalFault : List ℕ → RunFault → Type 0
-HasSignalFault bytes (Signal what at first) = (g : TrackGraph) × (o : EdgeOrder) × HasStation bytes g o
+abbrev pub HasFaultOfSignal : List ℕ → RunFault → Type 0
+HasFaultOfSignal bytes (Signal what at first) = (g : TrackGraph) × (o : EdgeOrder) × HasStation bytes g o
     × HasFaultySignals bytes g what at first
-HasSignalFault bytes fault = ⊥
+HasFaultOfSignal bytes fault = ⊥
 
 -- the bytes have this fault, or their signals have it
 abbrev pub HasFault : List ℕ → RunFault → Type 0
-HasFault bytes fault = HasFileFault bytes fault ⊎ HasSignalFault bytes fault
+HasFault bytes fault = HasFileFault bytes fault ⊎ HasFaultOfSignal bytes fault
 
 -- the bytes have this station, and these signals with these places
 pub record HasSignalStation (bytes : List ℕ) (g : TrackGraph) (o : EdgeOrder) (signals : List SignalElem)

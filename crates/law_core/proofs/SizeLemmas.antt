@@ -18,7 +18,7 @@ use Rattle.drawing_cnf.specs.Stands.{slope_vars}
 use Rattle.drawing_cnf.specs.LawClauses.{apart_rows_clauses, over_clauses}
 use Rattle.drawing_cnf.specs.Expected.{drawing_vars, laws_first, base_clauses, instances_from, pairs_from, instance_pairs, edge_pair, instances, area, most_words, most_variables}
 use Rattle.drawing_cnf.proofs.LawWords.{ordered_words, rows_words}
-use Rattle.drawing_cnf.proofs.FormulaWords.{ports_words, over_few, base_few}
+use Rattle.drawing_cnf.proofs.FormulaWords.{ports_words, over_few, base_few, added}
 use Rattle.law_core.specs.Choices.{law_clauses, choice_size, choice_clauses, choices_size, choices_clauses, why_clauses, why_size}
 
 abbrev total : (Instance → ℕ) → List Instance → ℕ
@@ -91,9 +91,6 @@ pairs_sum s most n f h = listed_sum s (n * most) (pairs_from n f) (λ a.
     let here = listed_sum s most (f a) (h a) (a + 1) (n - (a + 1)) in
     let fewer : (n - (a + 1)) * most ≤ n * most = mul-le-mul_right most (omega arith) in
     omega arith) 0 n
-
-added : (all one two three four five six p q r s : ℕ) → all ≡ one + two → two ≡ three + four → four ≡ five + six → one ≤ p → three ≤ q → five ≤ r → six ≤ s → all ≤ p + (q + (r + s))
-added all one two three four five six p q r s e1 e2 e3 h1 h2 h3 h4 = omega arith
 
 all_sum : (s : Instance → ℕ) (g : Graph) (above overlap : ℕ → ℕ → Bool) (p q r t : ℕ) → ((u v : ℕ) → total s (Ordered u v ∷ []) ≤ p) → ((n : ℕ) → total s (Aligned n ∷ []) ≤ q) → ((u v : ℕ) → total s (Apart u v ∷ []) ≤ r) → ((e f : ℕ) → total s (edge_pair above overlap e f) ≤ t) →
     total s (instances g above overlap) ≤ length g.nodes * (length g.nodes * p) + (length g.nodes * q + (length g.nodes * (length g.nodes * r) + length g.edges * (length g.edges * t)))

@@ -227,12 +227,6 @@ pub count_of_search : (a : Answer) (assume : List Literal) (cs : Clauses) (lines
 count_of_search a assume cs lines ending e =
     ap length (flat_map-append learnt lines (search_lines assume cs ending) ∙ ap (λ (ds : Clauses). flat_map learnt lines ++ ds) (learnt_of_search a assume cs ending e)) ∙ length-append (flat_map learnt lines) cs
 
-pub no_clauses_at_end : (a : Answer) (assume : List Literal) (ending : Lines) → EndsWith a assume ending → clause_lines ending ≡ []
-no_clauses_at_end ModelAnswer assume ending e = ap clause_lines e
-no_clauses_at_end RefutedAnswer assume ending e = ap clause_lines e.is
-no_clauses_at_end SpentAnswer assume ending e = ap clause_lines e
-no_clauses_at_end RoomAnswer assume ending e = ap clause_lines e
-
 -- the query is the latest behind learnt lines
 query_stays : (q : Option (List Literal)) (cs : Clauses) → fold asked q (map Learnt cs) ≡ q
 query_stays q [] = refl
@@ -258,12 +252,6 @@ has_no_room lines k belongs full = record {
 }
 
 -- ---- the whole question
-
-pub within_budget : (a : Answer) (budget n : ℕ) → HasSpent a budget n → n ≤ budget
-within_budget ModelAnswer budget n h = h
-within_budget RefutedAnswer budget n h = h
-within_budget SpentAnswer budget n h = omega arith
-within_budget RoomAnswer budget n h = h
 
 learnt_exactly : (old n : ℕ) → old + n < 2 ^ 32 → more_learnt old n ≡ old + n
 learnt_exactly old zero low = omega arith

@@ -25,7 +25,6 @@ use Rattle.drawing_cnf.specs.Expected.{drawing_vars, formula_clauses, formula_si
 use Rattle.drawing_cnf.specs.Bounded.{Bound, clauses_of_bound, bounds_clauses, AreBehind, CoversWith}
 use Rattle.cdcl_core.specs.Kept.{Kept}
 use Rattle.cdcl_core.specs.Belongs.{Belongs}
-use Rattle.lex_search.proofs.QuestionLemmas.{clause_lines_append}
 use Rattle.lex_search.proofs.BuildLemmas.{sum_is_clauses}
 use Rattle.drawing_problem.specs.Lists.{drawing_problem, lines_of_bound, variables_behind}
 use Rattle.drawing_problem.specs.Layout.{Layout}
@@ -34,6 +33,7 @@ use Rattle.lex_minimise.proofs.CoverLemmas.{none_of}
 use Rattle.drawing_problem.proofs.ListLemmas.{first_line, sum_is_bound, with_more}
 use Rattle.certified_values.proofs.ExpectedLemmas.{same_itself}
 use Rattle.std.proofs.lemmas.List.Elements.{Contains-get_or}
+use Rattle.refute_log.proofs.StepLemmas.{clause_lines_append}
 
 -- ---- Bound lines belong to whatever the lines belonged to
 

@@ -12,7 +12,7 @@ use Rattle.refute_log.specs.Told.{Lines, AddsAll, TellsNoMore}
 use Rattle.refute_log.specs.Log.{facts_of, clause_lines, BeginsLines, Derives}
 use Rattle.refute_log.specs.Steps.{ToldBehind, GoesOn, StillDerives, GivesNoMore, Leaves}
 use Rattle.refute_log.proofs.LogLemmas.{derives_none, derives_more}
-use Rattle.refute_log.proofs.StepLemmas.{leaves_more, leaves_known, leaves_then}
+use Rattle.refute_log.proofs.StepLemmas.{leaves_more, leaves_known, leaves_then, clause_lines_append}
 use Rattle.certified_values.specs.Expected.{bound_lines, sum_lines, sums}
 use Rattle.drawing_cnf.specs.Encoding.{Encoding, encoded_vars}
 use Rattle.drawing_cnf.specs.Expected.{drawing_vars}
@@ -21,7 +21,6 @@ use Rattle.track_order.specs.Order.{is_above, is_overlap}
 use Rattle.cdcl_core.specs.Kept.{Kept, blank}
 use Rattle.cdcl_core.specs.Belongs.{Belongs, GivesAtMost}
 use Rattle.cdcl_core.proofs.ViewLemmas.{new_belongs}
-use Rattle.lex_search.proofs.QuestionLemmas.{clause_lines_append}
 use Rattle.lex_search.proofs.BuildLemmas.{formulas_are_clauses, bounds_are_clauses}
 use Rattle.lex_search.specs.Task.{Task, greatest_of}
 use Rattle.lex_search.specs.Outcome.{first_lines}

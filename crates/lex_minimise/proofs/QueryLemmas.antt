@@ -27,7 +27,7 @@ use Rattle.lex_search.specs.declared.oracle.Reply.TheVariants.{Found, Refuted, S
 use Rattle.certified_values.specs.declared.stop.Stop.TheVariants.{BudgetSpent, RoomFull}
 use Rattle.lex_search.specs.Task.{Task}
 use Rattle.lex_search.specs.Asked.{AreMet, IsAsked, IsReply}
-use Rattle.lex_search.proofs.QuestionLemmas.{clause_lines_append, asks_no_clauses}
+use Rattle.lex_search.proofs.QuestionLemmas.{asks_no_clauses}
 use Rattle.lex_minimise.specs.Task.{task_of}
 use Rattle.drawing_problem.specs.Layout.{layout_of}
 use Rattle.lex_minimise.specs.Known.{told_clauses, KnowsLines, IsReady}
@@ -35,7 +35,9 @@ use Rattle.refute_log.specs.Steps.{GoesOn}
 use Rattle.lex_minimise.specs.Asking.{AreAssumed, TellsAnswer, IsReplyOf}
 use Rattle.lex_minimise.proofs.CoverLemmas.{known_lines}
 use Rattle.lex_minimise.proofs.GrowLemmas.{named_in}
-use Rattle.lex_minimise.proofs.AskLemmas.{are_negated, are_named, are_met, answered, count_of_search, learnt_of_search, no_clauses_at_end, within_budget, count_after}
+use Rattle.lex_minimise.proofs.AskLemmas.{are_negated, are_named, are_met, answered, count_of_search, learnt_of_search, count_after}
+use Rattle.refute_log.proofs.StepLemmas.{clause_lines_append}
+use Rattle.cdcl_core.proofs.LeftLemmas.{clause_ending, within_spent}
 
 pub formula_told : (e : Encoding) (told : List Bound) (budget room : ℕ) (k : Kept) → IsReady e told budget room k → e.formula.clauses ≡ told_clauses (layout_of e) told
 formula_told e told budget room k ready = (ready.whole).clauses ∙ ap (λ (bs : List Bound). drawing_clauses e ++ bounds_clauses e.graph (drawing_vars e.graph e.grid) e.grid bs) ready.bounds
@@ -48,7 +50,7 @@ all_named e told budget room k bounds assume ready h =
 
 pub ready_after : (e : Encoding) (told : List Bound) (budget room : ℕ) (old new : Kept) (a : Answer) (cs : Clauses) → budget < 2 ^ 32 → IsReady e told budget room old → HasLearnt old new cs → HasSpent a (budget - old.learnt) (length cs) → AreGiven e.formula.clauses new.clauses → IsReady e told budget room new
 ready_after e told budget room old new a cs top ready h has given =
-    let n = within_budget a (budget - old.learnt) (length cs) has in
+    let n = within_spent a (budget - old.learnt) (length cs) has in
     let count = count_after old.learnt new.learnt (length cs) budget ready.spent n top h.learnt in
     record {
       whole = ready.whole;
@@ -69,12 +71,12 @@ search_goes e told budget room old new bounds assume a before now n m top ready 
     let more = search_lines assume s.learnt s.ending in
     let belongs = s.belongs lines k.belongs in
     let asked : IsAsked lines bounds s.ending more = record { query = assume; negated = are_negated (layout_of e) told lines bounds assume k.told_are h; clauses = s.learnt; is = refl } in
-    let few = within_budget a (budget - old.learnt) (length s.learnt) s.spent in
+    let few = within_spent a (budget - old.learnt) (length s.learnt) s.spent in
     let count = count_after old.learnt new.learnt (length s.learnt) budget ready.spent few top (s.kept).learnt in
     record {
       more = more;
       knows = known_lines (layout_of e) told budget room new (lines ++ more) k.facts belongs
-          (clause_lines_append lines more ∙ ap (λ (ls : Lines). clause_lines lines ++ ls) (asks_no_clauses lines bounds s.ending more asked (no_clauses_at_end a assume s.ending s.ends)) ∙ append-nil (clause_lines lines) ∙ k.told_are)
+          (clause_lines_append lines more ∙ ap (λ (ls : Lines). clause_lines lines ++ ls) (asks_no_clauses lines bounds s.ending more asked (clause_ending a assume s.ending s.ends)) ∙ append-nil (clause_lines lines) ∙ k.told_are)
           (let c = k.learnt_are in let d = count_of_search a assume s.learnt lines s.ending s.ends in omega arith) (let spent = ready.spent in omega (arith, spent, few, count)) fits vars;
       told = s.told;
       counted = s.counted ∙ ap (λ c. rose_by c n) (sym (ap length (learnt_of_search a assume s.learnt s.ending s.ends)));

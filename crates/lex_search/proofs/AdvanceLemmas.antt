@@ -26,8 +26,7 @@ use Rattle.lex_search.specs.Built.{IsBuild}
 use Rattle.lex_search.specs.Reached.{Reached, Holds, HasSameValues, IsLowered, RunTo}
 use Rattle.lex_search.specs.Caps.{AllZero, IsCapAt, IsTurn, AreCapped}
 use Rattle.lex_search.specs.State.{IsFirstPositive, hold, Counted, OnlyZeroSkipped, SearchState, StoppedAt, IsCapOf, BoundedTo, Advances}
-use Rattle.refute_log.proofs.StepLemmas.{goes_on, becomes, stays}
-use Rattle.lex_search.proofs.QuestionLemmas.{clause_lines_append}
+use Rattle.refute_log.proofs.StepLemmas.{goes_on, becomes, stays, clause_lines_append}
 use Rattle.lex_search.proofs.LowerLemmas.{holds_same, zero_reached}
 use Rattle.lex_search.proofs.BuildLemmas.{reached_built, told_built, next_passes, reached_zeros, holds_next, take_next}
 use Rattle.lex_search.proofs.CapLemmas.{capped_same, capped_next, capped_zeros, capped_only_zero}

@@ -32,9 +32,10 @@ use Rattle.lex_search.specs.Asked.{below_limit, Queries, after_line, queries}
 use Rattle.lex_search.specs.Reached.{Reached, Holds}
 use Rattle.lex_search.specs.Built.{SumPasses}
 use Rattle.lex_search.specs.State.{hold, Counted, OnlyZeroSkipped}
-use Rattle.lex_search.proofs.QuestionLemmas.{clause_lines_append, met_later}
+use Rattle.lex_search.proofs.QuestionLemmas.{met_later}
 use Rattle.lex_search.proofs.LowerLemmas.{answer_longer, zero_reached, at_place}
 use Rattle.lex_search.proofs.PlacedLemmas.{placed_built}
+use Rattle.refute_log.proofs.StepLemmas.{clause_lines_append}
 
 -- ---- the lines of a sum: clauses and bounds alone
 

@@ -37,8 +37,8 @@ use Rattle.lex_search.specs.Placed.{AreInTurn}
 use Rattle.lex_search.specs.Caps.{AreCapped}
 use Rattle.lex_search.specs.State.{Counted, SearchState, StoppedAt, Advances}
 use Rattle.lex_search.specs.Outcome.{IsOutcome, IsStoppedEnd, IsRightOutcome, IsRightSoFar, stopped_with, IsSearched, IsBestEnd, IsNoneEnd, IsUnfoundEnd, IsUnfinishedEnd, IsFresh, first_lines}
-use Rattle.refute_log.proofs.StepLemmas.{stays, goes_on, becomes}
-use Rattle.lex_search.proofs.QuestionLemmas.{refuted_before, not_model, not_nothing, ends_in, met_found, clause_lines_append, asks_no_clauses}
+use Rattle.refute_log.proofs.StepLemmas.{stays, goes_on, becomes, clause_lines_append}
+use Rattle.lex_search.proofs.QuestionLemmas.{refuted_before, not_model, not_nothing, ends_in, met_found, asks_no_clauses}
 use Rattle.lex_search.proofs.PlacedLemmas.{first_placed, placed_found, placed_refuted, placed_stopped}
 use Rattle.lex_search.proofs.BuildLemmas.{formulas_are_clauses}
 use Rattle.lex_search.proofs.CapLemmas.{capped_same, capped_first}

@@ -13,10 +13,11 @@ use Rattle.refute_log.specs.Log.{clause_line, clause_lines}
 use Rattle.lex_search.specs.declared.oracle.Below.{Below}
 use Rattle.plan_core.specs.declared.criterion.Values.{Values}
 use Rattle.lex_search.specs.Asked.{IsAsked, IsNegated, AreNegated, AreMet, Queries, after_line, queries, IsMet}
+use Rattle.refute_log.proofs.StepLemmas.{learnt_no_clauses, clause_lines_append}
 
 -- ---- the lines of one question
 
-none_in : (xs : Lines) (x : LogLine) → All (λ l. l ≡ x → ⊥) xs → Contains xs x → ⊥
+pub none_in : (xs : Lines) (x : LogLine) → All (λ l. l ≡ x → ⊥) xs → Contains xs x → ⊥
 none_in xs x all there = All-contains (λ (l : LogLine). l ≡ x → ⊥) xs x all there refl
 
 no_learnt : (clauses : Clauses) (clause : List Literal) → All (λ l. l ≡ Refuted clause → ⊥) (map Learnt clauses)
@@ -58,15 +59,8 @@ ends_in lines bounds line more asked =
 
 -- ---- no clauses are told in a question
 
-pub clause_lines_append : (xs ys : Lines) → clause_lines (xs ++ ys) ≡ clause_lines xs ++ clause_lines ys
-clause_lines_append xs ys = flat_map-append clause_line xs ys
-
 pub no_clauses_both : (xs ys : Lines) → clause_lines xs ≡ [] → clause_lines ys ≡ [] → clause_lines (xs ++ ys) ≡ []
 no_clauses_both xs ys e f = clause_lines_append xs ys ∙ ap (λ (ls : Lines). ls ++ clause_lines ys) e ∙ f
-
-learnt_no_clauses : (cs : Clauses) → clause_lines (map Learnt cs) ≡ []
-learnt_no_clauses [] = refl
-learnt_no_clauses (c ∷ cs) = flat_map-cons clause_line (Learnt c) (map Learnt cs) ∙ learnt_no_clauses cs
 
 pub asks_no_clauses : (lines : Lines) (bounds : List Below) (ending more : Lines) → IsAsked lines bounds ending more → clause_lines ending ≡ [] → clause_lines more ≡ []
 asks_no_clauses lines bounds ending more asked none =

@@ -90,5 +90,5 @@ abbrev pub BoundedSo : Task → List Criterion → ℕ → List Below → Advanc
 BoundedSo p order i held r cap lines = BoundedTo p order i held r.stop r.settled r.best cap lines
 
 -- what is so of the lines before leads to what is so with the further ones
-abbrev pub Leads : (before behind : Lines → Type 0) → Lines → Lines → Type 0
-Leads before behind lines more = before lines → behind (lines ++ more)
+abbrev pub LeadsTo : (before behind : Lines → Type 0) → Lines → Lines → Type 0
+LeadsTo before behind lines more = before lines → behind (lines ++ more)

@@ -11,7 +11,7 @@ ghost use Rattle.lex_search.specs.Asked.{IsWithinCap};
 ghost use Rattle.refute_log.specs.Steps.{Continues};
 ghost use Rattle.lex_search.specs.Caps.{AllZero};
 ghost use Rattle.lex_search.specs.State.{IsFirstPositive, AreBefore, Counted, SearchState, GoesTo, IsCapOf};
-ghost use Rattle.lex_search.specs.State.{BoundedSo, Leads, hold as hold_of};
+ghost use Rattle.lex_search.specs.State.{BoundedSo, LeadsTo, hold as hold_of};
 
 use crate::MinFault;
 use crate::lowering::lower;
@@ -96,7 +96,7 @@ fn bounded<O: Oracle>(
         (O.caps oracle.new)) }
     ensures settled { IfOk result (λ r. r.settled ≤ length order.now) }
     ensures lines { let p = O.task oracle.old in
-        IfOk result (λ r. Continues O.knows O.log O.learnt oracle.old oracle.new (Leads (SearchState p order.now i
+        IfOk result (λ r. Continues O.knows O.log O.learnt oracle.old oracle.new (LeadsTo (SearchState p order.now i
         held.now best (O.caps oracle.old)) (BoundedSo p order.now i held.now r (O.caps oracle.new)))) }
     ensures later { O.is_later oracle.old oracle.new }
     ensures faults { O.faults oracle.old ≤ O.faults oracle.new }

@@ -23,6 +23,7 @@ use Rattle.log_check.specs.Accepted.{AreAccepted}
 use Rattle.log_check.specs.Refused.{IsOverLimits, IsNextExpected, IsComparedLine, kept_of_lines, IsRefusedFor}
 use Rattle.log_check.specs.Awaited.{awaited_lines, IsAwaited}
 use Rattle.log_check.specs.Progress.{AreAwaited, HasAccepted, HasCompared, IsCompared, refusals_of}
+use Rattle.refute_log.proofs.StepLemmas.{same_clauses}
 
 -- ---- Formula and Bound lines
 
@@ -85,9 +86,6 @@ compared_next e lines line old new more h next awaited checker bounds = record {
   checker = checker ∙ h.checker;
   bounds = bounds ∙ h.bounds;
 }
-
-same_clauses : (lines : Lines) (line : LogLine) → clause_line line ≡ [] → clause_lines (lines ++ line ∷ []) ≡ clause_lines lines
-same_clauses lines line none = clauses_last lines line ∙ ap (λ (ls : Lines). clause_lines lines ++ ls) none ∙ append-nil (clause_lines lines)
 
 -- a line that isn't compared
 pub compared_same : (e : Expectation) (lines : Lines) (line : LogLine) (p : Progress) → HasAccepted e lines p → clause_line line ≡ [] → HasCompared e lines line p

@@ -8,7 +8,7 @@ ghost use Rattle.plan_core.specs.Values.{values_of, Better};
 ghost use Rattle.track_order.specs.Order.{is_above};
 ghost use Rattle.refute_log.specs.declared.line.LogLine.{LogLine as Line};
 ghost use Rattle.refute_log.specs.Told.{Lines};
-ghost use Rattle.drawing_problem.specs.Layout.{Layout, IsLayout};
+ghost use Rattle.drawing_problem.specs.Layout.{Layout, IsStationLayout};
 ghost use Rattle.log_check.specs.declared.claim.Claim.{Claim as Claimed};
 ghost use Rattle.log_check.specs.declared.claim.Claim.TheVariants.{Least, NoDrawing};
 ghost use Rattle.log_check.specs.declared.verdict.Verdict.{Verdict as Answer};
@@ -30,7 +30,7 @@ pub fn one_verdict_is_due()
     ensures cause { (e : Expectation) (before : Lines) (line : Line) (a b : Why) → IsRefusedFor e before line a →
         IsRefusedFor e before line b → a ≡ b }
     ensures verdict { (y : Layout) (order : List Criterion) (claim : Claimed) (log : List ℕ) (a b : Answer) →
-        IsLayout y → IsClaimOf order claim → IsLogJudged y order claim log a → IsLogJudged y order claim log b →
+        IsStationLayout y → IsClaimOf order claim → IsLogJudged y order claim log a → IsLogJudged y order claim log b →
         a ≡ b }
 {}
 
@@ -48,7 +48,7 @@ pub fn what_is_certified_is_so()
 /// certify the claim.
 pub fn certified_exactly()
     ensures due { (y : Layout) (order : List Criterion) (claim : Claimed) (log : List ℕ) (v : Answer) →
-        IsLayout y → IsClaimOf order claim → CertifiesWhole y order claim log → IsLogJudged y order claim log v →
+        IsStationLayout y → IsClaimOf order claim → CertifiesWhole y order claim log → IsLogJudged y order claim log v →
         v ≡ Certified }
     ensures only { (y : Layout) (order : List Criterion) (claim : Claimed) (log : List ℕ) →
         IsLogJudged y order claim log Certified → CertifiesWhole y order claim log }

@@ -21,6 +21,7 @@ use Rattle.moved_count.specs.MovedClauses.{clauses_by, clauses_at, nodes_first, 
 use Rattle.moved_count.specs.Nodes.{no_node, node_at}
 use Rattle.moved_count.proofs.BlockLemmas.{block_there, block_length}
 use Rattle.moved_count.proofs.CountLemmas.{matched_rises}
+use Rattle.drawing_cnf.proofs.BoundCode.{block_of_vars}
 
 pub room_for_one : (f : Option Point) (q : Point) (m vars : ℕ) → f ≡ Some q → m + one_when (is_matched f) ≤ vars + 1 → m ≤ vars
 room_for_one f q m vars e le = let h : m + 1 ≤ vars + 1 = subst (λ (o : Option Point). m + one_when (is_matched o) ≤ vars + 1) e le in omega (arith, h)
@@ -52,35 +53,6 @@ pub block_summed : {T : Type 0} (r : Result T CnfFault) (old new : Cnf) (items :
     AddsBlock r old new (sum_count (sum_vars (block first count) count old.vars)) (sum_bound (sum_vars (block first count) count old.vars) last) 3
 block_summed r old new items first count last is h = subst (λ (ls : List Literal). AddsBlock r old new (sum_count (sum_vars ls count old.vars)) (sum_bound (sum_vars ls count old.vars) last) 3) is h
 
-pub made_vars : {T : Type 0} (r : Result T CnfFault) (old new : Cnf) (n longest : ℕ) → OnOk r (new ≡ record old { vars = old.vars + n }) → (IsErrOf r Room → VARS < old.vars + n) → OnErr r (new ≡ old) → AddsBlock r old new n [] longest
-made_vars (Ok x) old new n longest ok room err =
-    let v = ap (λ (f : Cnf). f.vars) ok in
-    let e = ap (λ (f : Cnf). f.clauses) ok in
-    let w = ap (λ (f : Cnf). words_of f.clauses) ok in
-    record {
-      made = v;
-      added = e ∙ sym (append-nil old.clauses);
-      passes = λ k. cc;
-      full = λ k. cc;
-      words = omega arith;
-      from = omega arith;
-      vars = omega arith;
-      room = ap (λ (f : Cnf). f.room) ok;
-    }
-made_vars (Err e) old new n longest ok room err =
-    let v = ap (λ (f : Cnf). f.vars) err in
-    let w = ap (λ (f : Cnf). words_of f.clauses) err in
-    record {
-      made = tt;
-      added = tt;
-      passes = λ k. inl (room k);
-      full = λ k. inl (room k);
-      words = omega arith;
-      from = omega arith;
-      vars = omega arith;
-      room = ap (λ (f : Cnf). f.room) err;
-    }
-
 pub nodes_added : {T U : Type 0} (x : T) (r : Result U CnfFault) (old mid late : Cnf) (k : ℕ) (xs : Clauses) → AddsBlock (Ok x) old mid k [] 5 → AddsClauses r mid late xs 5 → AddsBlock r old late k xs 5
 nodes_added x r old mid late k xs f g =
     let h : k + 0 ≡ k = omega arith in
@@ -98,7 +70,7 @@ pub vars_refused : {T U : Type 0} (r : Result T CnfFault) (s : Result U CnfFault
     OnOk r (new ≡ record old { vars = old.vars + (count + count) }) → (IsErrOf r Room → VARS < old.vars + (count + count)) → OnErr r (new ≡ old) → AddsBlock s old new (count_size former old.vars) (count_clauses x former old.vars) 5
 vars_refused r s old new x former count b is same ok room err =
     subst (λ m. AddsBlock s old new (m + m + sum_count (moved_sum former old.vars)) (count_clauses x former old.vars) 5) b
-    (block_refused r s old new (count + count) (sum_count (moved_sum former old.vars)) [] (count_clauses x former old.vars) 5 is same (made_vars r old new (count + count) 5 ok room err))
+    (block_refused r s old new (count + count) (sum_count (moved_sum former old.vars)) [] (count_clauses x former old.vars) 5 is same (block_of_vars r old new (count + count) 5 ok room err))
 
 pub nodes_refused : {T U V : Type 0} (y : T) (r : Result U CnfFault) (s : Result V CnfFault) (old mid late : Cnf) (x : ℕ → NodeInts) (former : Former) (first count : ℕ) → first ≡ nodes_first former old.vars → count ≡ matched former → IsErr s → (IsErrOf s Room → IsErrOf r Room) →
     mid ≡ record old { vars = old.vars + (count + count) } → AddsClauses r mid late (nodes_clauses x former first) 5 → AddsBlock s old late (count_size former old.vars) (count_clauses x former old.vars) 5
@@ -107,7 +79,7 @@ nodes_refused y r s old mid late x former first count a b is same ok adds =
     let sum = moved_sum former old.vars in
     subst (λ m. AddsBlock s old late (m + m + sum_count sum) (count_clauses x former old.vars) 5) b
     (block_refused r s old late (count + count) (sum_count sum) nodes (sum_bound sum old.vars) 5 is same
-    (nodes_added y r old mid late (count + count) nodes (made_vars (Ok y) old mid (count + count) 5 ok (λ k. cc) tt) (subst (λ n. AddsClauses r mid late (nodes_clauses x former n) 5) a adds)))
+    (nodes_added y r old mid late (count + count) nodes (block_of_vars (Ok y) old mid (count + count) 5 ok (λ k. cc) tt) (subst (λ n. AddsClauses r mid late (nodes_clauses x former n) 5) a adds)))
 
 pub whole_added : {T U V : Type 0} (y : T) (z : U) (r : Result V CnfFault) (old mid late new : Cnf) (x : ℕ → NodeInts) (former : Former) (first count last : ℕ) → first ≡ nodes_first former old.vars → count ≡ matched former → last ≡ old.vars →
     mid ≡ record old { vars = old.vars + (count + count) } → AddsClauses (Ok z) mid late (nodes_clauses x former first) 5 →
@@ -119,7 +91,7 @@ whole_added y z r old mid late new x former first count last a b at ok nodes_in 
     let v : late.vars ≡ old.vars + (count + count) = nodes_in.vars ∙ ap (λ (f : Cnf). f.vars) ok in
     subst (λ m. AddsBlock r old new (m + m + sum_count sum) (count_clauses x former old.vars) 5) b
     (all_added y z r old mid late new (count + count) (sum_count sum) nodes (sum_bound sum old.vars)
-    (made_vars (Ok y) old mid (count + count) 5 ok (λ k. cc) tt)
+    (block_of_vars (Ok y) old mid (count + count) 5 ok (λ k. cc) tt)
     (subst (λ n. AddsClauses (Ok z) mid late (nodes_clauses x former n) 5) a nodes_in)
     (subst (λ l. AddsBlock r late new (sum_count sum) (sum_bound sum l) 3) at
     (subst (λ (s : SumVars). AddsBlock r late new (sum_count s) (sum_bound s last) 3) (sum_is former old.vars first count late.vars a b v) sum_in)))

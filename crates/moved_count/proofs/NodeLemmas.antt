@@ -15,6 +15,7 @@ use Rattle.edge_shape.specs.EdgeVars.{NodeInts}
 use Rattle.moved_count.specs.Moved.{is_moved}
 use Rattle.drawing_cnf.specs.Stands.{ReadsPoint}
 use Rattle.moved_count.specs.MovedClauses.{kept_clause, unlike_clauses, node_clauses}
+use Rattle.drawing_cnf.proofs.ApartLemmas.{flipped}
 
 -- ---- one integer
 
@@ -86,10 +87,6 @@ unlike_holds v i k n m r h =
 abbrev kept_list : NodeInts → Point → ℕ → List LitOrTruth
 kept_list n q m = flip (int_at_least n.x q.x) ∷ int_at_least n.x (q.x + 1) ∷ flip (int_at_least n.y q.y) ∷ int_at_least n.y (q.y + 1) ∷ flip (yes m) ∷ []
 
-not_true : (b : Bool) → not b ≡ true → b ≡ false
-not_true true e = cc
-not_true false e = refl
-
 kept_says : (v : Assignment) (n : NodeInts) (q p : Point) (m : ℕ) → ReadsPoint v n p → p.x ≡ q.x → p.y ≡ q.y → SatisfiesAll v (kept_clause n q m) → v m ≡ false
 kept_says v n q p m r ex ey h = by (clause_says v [] (kept_list n q m) h)
   where
@@ -99,7 +96,7 @@ kept_says v n q p m r ex ey h = by (clause_says v [] (kept_list n q m) h)
     by (inr (inr (inl s))) = absurd (not_both v (int_at_least n.x (q.x + 1)) s (from_false v n.x (q.x + 1) p.x r.x (omega (arith, ex))))
     by (inr (inr (inr (inl s)))) = absurd (not_both v (flip (int_at_least n.y q.y)) s (flip_false v (int_at_least n.y q.y) (from_true v n.y q.y p.y r.y (omega (arith, ey)))))
     by (inr (inr (inr (inr (inl s))))) = absurd (not_both v (int_at_least n.y (q.y + 1)) s (from_false v n.y (q.y + 1) p.y r.y (omega (arith, ey))))
-    by (inr (inr (inr (inr (inr (inl s)))))) = not_true (v m) s
+    by (inr (inr (inr (inr (inr (inl s)))))) = flipped (v m) s
     by (inr (inr (inr (inr (inr (inr s)))))) = absurd s
 
 kept_holds : (v : Assignment) (n : NodeInts) (q p : Point) (m : ℕ) → ReadsPoint v n p → (p.x ≡ q.x → p.y ≡ q.y → v m ≡ false) → SatisfiesAll v (kept_clause n q m)

@@ -19,17 +19,10 @@ use Rattle.moved_count.proofs.BlockLemmas.{block_length}
 use Rattle.drawing_cnf.specs.Rank.{count_below, one_when}
 use Rattle.moved_count.specs.Moved.{Former, former_at, is_matched, matched_before, matched}
 use Rattle.moved_count.specs.MovedClauses.{kept_clause, unlike_clauses, node_clauses, clauses_by, clauses_at, nodes_first, nodes_clauses, moved_sum, count_size, count_clauses}
-
-how_many_few : (p : ℕ → Bool) (n : ℕ) → count_below p n ≤ n
-how_many_few p zero = omega arith
-how_many_few p (suc n) = let h = how_many_few p n in by (p n) h
-  where
-    by : (b : Bool) → count_below p n ≤ n → count_below p n + one_when b ≤ suc n
-    by true h = omega (arith, h)
-    by false h = omega (arith, h)
+use Rattle.drawing_cnf.proofs.RankLemmas.{count_few}
 
 pub matched_few : (former : Former) → matched former ≤ length former
-matched_few former = how_many_few (λ k. is_matched (former_at former k)) (length former)
+matched_few former = count_few (λ k. is_matched (former_at former k)) (length former)
 
 unlike_words : (i : IntVars) (k m : ℕ) → words_of (unlike_clauses i k m) ≤ 10
 unlike_words i k m =

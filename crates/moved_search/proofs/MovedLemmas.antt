@@ -31,7 +31,7 @@ use Rattle.cdcl_core.specs.declared.answer.Answer.TheVariants.{Model, Refuted as
 use Rattle.cdcl_core.specs.Kept.{Kept, HasLearnt, HasModel, MakesTrue, AreGiven, IsTrueAnswer}
 use Rattle.cdcl_core.specs.Belongs.{Belongs, search_lines, EndsWith, HasSpent, HasSolved}
 use Rattle.certified_values.specs.declared.stop.Stop.TheVariants.{BudgetSpent, RoomFull}
-use Rattle.lex_search.proofs.QuestionLemmas.{clause_lines_append, no_clauses_both}
+use Rattle.lex_search.proofs.QuestionLemmas.{no_clauses_both}
 use Rattle.moved_count.specs.Moved.{Former, matched}
 use Rattle.moved_count.specs.MovedClauses.{count_clauses}
 use Rattle.moved_drawings.specs.MovedFormula.{moved_variable, moved_nodes}
@@ -42,17 +42,17 @@ use Rattle.fewest_search.specs.Asked.{IsBelow, query_of, SaysReached, IsAnswer}
 use Rattle.refute_log.specs.Steps.{GoesOn}
 use Rattle.moved_search.specs.Known.{formula_of, moved_task, IsMovedFormula, IsReady, KnowsMoved, TellsAnswer}
 use Rattle.moved_search.specs.Query.{query_at, IsAnswerOf}
-use Rattle.lex_minimise.proofs.AskLemmas.{no_clauses_at_end, learnt_of_search, count_of_search, is_open, has_no_room, within_budget, count_after}
+use Rattle.lex_minimise.proofs.AskLemmas.{learnt_of_search, count_of_search, is_open, has_no_room, count_after}
 use Rattle.lex_minimise.proofs.GrowLemmas.{named_in}
+use Rattle.refute_log.proofs.StepLemmas.{learnt_no_clauses, clause_lines_append}
+use Rattle.cdcl_core.proofs.LeftLemmas.{clause_ending, within_spent}
+use Rattle.drawing_problem.proofs.CoverLemmas.{both_true}
+use Rattle.drawing_cnf.proofs.ApartLemmas.{flipped}
 
 -- ---- a search tells no clauses of the formula
 
-learnt_no_clauses : (cs : Clauses) → clause_lines (map Learnt cs) ≡ []
-learnt_no_clauses [] = refl
-learnt_no_clauses (c ∷ cs) = learnt_no_clauses cs
-
 search_no_clauses : (a : Verdict) (assume : List Literal) (cs : Clauses) (ending : Lines) → EndsWith a assume ending → clause_lines (search_lines assume cs ending) ≡ []
-search_no_clauses a assume cs ending e = no_clauses_both (map Learnt cs) ending (learnt_no_clauses cs) (no_clauses_at_end a assume ending e)
+search_no_clauses a assume cs ending e = no_clauses_both (map Learnt cs) ending (learnt_no_clauses cs) (clause_ending a assume ending e)
 
 -- ---- the query
 
@@ -94,9 +94,6 @@ says_reached y former budget room (Some n) clause h =
 
 -- ---- the lines
 
-both_true : (b : Bool) (k n : ℕ) → b ≡ nat_le k n → (b ≡ true) ↔ (k ≤ n)
-both_true b k n e = (λ t. leb-true k n (sym e ∙ t), λ le. e ∙ le-leb k n le)
-
 true_positive : (v : Assignment) (x : ℕ) → truth v (positive_of x) ≡ v x
 true_positive v x = refl
 
@@ -115,7 +112,7 @@ lines_cover y former budget room lines facts are = λ d h.
 pub ready_after : (e : Encoding) (former : Former) (budget room : ℕ) (old new : Kept) (a : Verdict) (cs : Clauses) → budget < 2 ^ 32 → IsReady e former budget room old → HasLearnt old new cs → HasSpent a (budget - old.learnt) (length cs) →
     AreGiven (formula_of (layout_of e) former) new.clauses → IsReady e former budget room new
 ready_after e former budget room old new a cs top ready h has given =
-    let n = within_budget a (budget - old.learnt) (length cs) has in
+    let n = within_spent a (budget - old.learnt) (length cs) has in
     let count = count_after old.learnt new.learnt (length cs) budget ready.spent n top h.learnt in
     record {
       whole = ready.whole;
@@ -164,7 +161,7 @@ search_goes e former budget room old new limit a before now n m top ready s true
     let q = query_of (moved_task y former budget room) limit in
     let more = search_lines q s.learnt s.ending in
     let belongs = s.belongs lines k.belongs in
-    let few = within_budget a (budget - old.learnt) (length s.learnt) s.spent in
+    let few = within_spent a (budget - old.learnt) (length s.learnt) s.spent in
     let count = count_after old.learnt new.learnt (length s.learnt) budget ready.spent few top (s.kept).learnt in
     let are : clause_lines (lines ++ more) ≡ map Formula (formula_of y former) =
     clause_lines_append lines more ∙ ap (λ (ls : Lines). clause_lines lines ++ ls) (search_no_clauses a q s.learnt s.ending s.ends) ∙ append-nil (clause_lines lines) ∙ k.told_are in
@@ -207,10 +204,6 @@ long_enough e former budget room k n ready is = let last = last_is e former budg
 
 -- ---- the drawing that is found
 
-not_true : (t : Bool) → not t ≡ true → t ≡ false
-not_true true e = absurd (cc)
-not_true false e = refl
-
 pub is_below : (y : Layout) (former : Former) (budget room : ℕ) (limit : Option ℕ) (v : Assignment) (d : Drawing) → IsMovedFormula y former → MatchOption limit ⊤ (λ n. (1 ≤ n) × (n ≤ matched former)) → SatisfiesAll v (formula_of y former) →
     MakesTrue v (query_of (moved_task y former budget room) limit) →
     ((other : Drawing) → Lawful y.graph (is_above y.order) y.grid other → StandsFor v y.graph (drawing_vars y.graph y.grid) other → other ≡ d) → IsBelow limit (moved_nodes former d)
@@ -220,7 +213,7 @@ is_below y former budget room (Some n) v d facts h all true_all alone =
     let x = moved_variable y.graph (is_above y.order) (is_overlap y.order) y.grid n in
     let same : s.drawing ≡ d = alone s.drawing s.lawful s.stands in
     let holds : not (v x) ≡ true = All-head (λ l. truth v l ≡ true) (negative_of x) [] true_all in
-    let is_false : v x ≡ false = not_true (v x) holds in
+    let is_false : v x ≡ false = flipped (v x) holds in
     let reads : v x ≡ nat_le n (moved_nodes former d) = s.tells n h.0 h.1 ∙ ap (λ (z : Drawing). nat_le n (moved_nodes former z)) same in
     leb-false n (moved_nodes former d) (sym reads ∙ is_false)
 

@@ -71,8 +71,7 @@ TakesName Signals place name = name ≢ []
 TakesName Front zero name = name ≢ []
 TakesName Front (suc place) name = (first : Criterion) × (second : Criterion) × IsPairText name first second
 
--- the options of `signals`: it has no `--least`, since each edge is as long as its signals need, and no `--svg`, since
--- it writes no picture
+-- the options of `signals`: it has no `--least`, since the signals give it, and no `--svg`, since it writes no picture
 abbrev pub IsSignalsOption : OptionWord → Type 0
 IsSignalsOption Width = ⊤
 IsSignalsOption Height = ⊤

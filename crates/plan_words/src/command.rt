@@ -87,8 +87,9 @@ pub enum Command {
     Trial {
         n: u32,
     },
-    /// Draws `input` as `Draw` does, with each edge as long as its signals need, and says where the signals stand on
-    /// the drawing. There is no picture, and the grid's least length is 1 until the signals are read.
+    /// Draws `input` as `Draw` does, with each edge as long at least as the most signals of one need, and says where
+    /// the signals stand on the drawing. There is no picture, and the grid's least length is 1 until the signals are
+    /// read.
     Signals {
         input: Text,
         grid: Grid,
@@ -96,8 +97,9 @@ pub enum Command {
         budget: u32,
         log: Option<Text>,
     },
-    /// Finds each pair of values of the two criteria that no lawful drawing of `input` on the grid betters in both,
-    /// with at most so many learnt clauses as the budget says. The criteria differ.
+    /// Finds each pair of values of the two criteria that lawful drawings of `input` on the grid have, and of which
+    /// none has less in one without more in the other, with at most so many learnt clauses as the budget says. The
+    /// criteria differ.
     Front {
         input: Text,
         first: Criterion,

@@ -1,11 +1,16 @@
 -- Calls after each other.
-use Rattle.std.proofs.Common.{◌≡◌, ◌≤◌, ℕ, zero, suc, ◌+◌, [], ◌++◌, length, refl, sym, ◌∙◌, ap, subst, append-nil, append_assoc, arith, length-append, Ok, Err}
+use Rattle.std.proofs.Common.{◌≡◌, ◌≤◌, ℕ, zero, suc, ◌+◌, [], ◌∷◌, ◌++◌, map, length, refl, sym, ◌∙◌, ap, subst, append-nil, append_assoc, arith, length-append, Ok, Err}
 use Rattle.std.specs.Prelude.{⊤, flat_map, Result, OnErr}
 use Rattle.std.proofs.lemmas.Grind.{flat_map-append}
+use Rattle.std.proofs.lemmas.List.Concat.{flat_map-cons}
 use Rattle.outside_io.specs.Counts.{next_count, Rose, rose_by}
+use Rattle.cnf_core.specs.Clause.{Clauses}
+use Rattle.refute_log.specs.declared.line.LogLine.{LogLine}
+use Rattle.refute_log.specs.declared.line.LogLine.TheVariants.{Learnt}
 use Rattle.refute_log.specs.Told.{Lines}
 use Rattle.refute_log.specs.Log.{clause_line, clause_lines, learnt, Derives}
 use Rattle.refute_log.specs.Steps.{ToldBehind, GoesOn, Continues, KnowsSome, StillDerives, Leaves}
+use Rattle.refute_log.proofs.LogLemmas.{flat_map_last}
 
 -- ---- counts
 pub rose_later : (a b c : ℕ) → a ≤ b → Rose b c → Rose a c
@@ -87,8 +92,15 @@ derives_same knows log s derives one = λ lines known was told is. subst Derives
 
 -- ---- errors, and the Formula and Bound lines
 
-clauses_behind : (lines more : Lines) → clause_lines (lines ++ more) ≡ clause_lines lines ++ clause_lines more
-clauses_behind lines more = flat_map-append clause_line lines more
+pub clause_lines_append : (lines more : Lines) → clause_lines (lines ++ more) ≡ clause_lines lines ++ clause_lines more
+clause_lines_append lines more = flat_map-append clause_line lines more
+
+pub same_clauses : (lines : Lines) (line : LogLine) → clause_line line ≡ [] → clause_lines (lines ++ line ∷ []) ≡ clause_lines lines
+same_clauses lines line none = flat_map_last clause_line lines line ∙ ap (λ (ls : Lines). clause_lines lines ++ ls) none ∙ append-nil (clause_lines lines)
+
+pub learnt_no_clauses : (cs : Clauses) → clause_lines (map Learnt cs) ≡ []
+learnt_no_clauses [] = refl
+learnt_no_clauses (c ∷ cs) = flat_map-cons clause_line (Learnt c) (map Learnt cs) ∙ learnt_no_clauses cs
 
 -- where more lines are expected
 pub leaves_more : (xs ys : Lines) (known old new : Lines → Type 0) → Leaves xs known old new → Leaves (xs ++ ys) known old new
@@ -132,16 +144,12 @@ pub leaves_later : {S : Type 0} (knows log : S → Lines → Type 0) (count : S 
     ((lines more : Lines) → R lines more → clause_lines more ≡ xs) → Leaves ys (knows b) (log b) (log e) → Leaves (xs ++ ys) (knows a) (log a) (log e)
 leaves_later knows log count a b e R xs ys run gives after =
     leaves_then (knows a) (knows b) (log a) (log b) (log e) (count a) (count b) R xs ys run
-    (λ lines more ka kb r. clauses_behind lines more ∙ ap (λ (ls : Lines). clause_lines lines ++ ls) (gives lines more r)) after
+    (λ lines more ka kb r. clause_lines_append lines more ∙ ap (λ (ls : Lines). clause_lines lines ++ ls) (gives lines more r)) after
 
 -- and that tells nothing itself
 pub leaves_here : {S : Type 0} (knows log : S → Lines → Type 0) (count : S → ℕ) (a b : S) (R : Lines → Lines → Type 0) → Continues knows log count a b R →
     ((lines more : Lines) → R lines more → clause_lines more ≡ []) → ((lines : Lines) → knows b lines → Derives lines) → ((x y : Lines) → log b x → log b y → x ≡ y) → Leaves [] (knows a) (log a) (log b)
 leaves_here knows log count a b R run gives derives one = leaves_later knows log count a b b R [] [] run gives (leaves_same (knows b) (log b) derives one)
-
-pub on_err_always : {T E : Type 0} (r : Result T E) (P : Type 0) → P → OnErr r P
-on_err_always (Ok x) P h = tt
-on_err_always (Err e) P h = h
 
 pub on_err_weaker : {T E : Type 0} (r : Result T E) (P Q : Type 0) → (P → Q) → OnErr r P → OnErr r Q
 on_err_weaker (Ok x) P Q f h = tt

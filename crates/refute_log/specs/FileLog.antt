@@ -76,8 +76,8 @@ pub record StartFails (name : List ℕ) (before : FilesAt) (fault : LogSinkFault
   pub later : before.write_faults ≤ after.write_faults
   pub cause : fault ≡ Failed → Rose before.write_faults after.write_faults
 
--- what a log in a file keeps later, and the files then: its name is the same, no other file has changed, and nothing
--- was read
+-- a log in a file at a later state, and the files then: its name is the same, where contents are told it still keeps
+-- the text of a log and no other file has changed, and nothing was read
 pub record IsKeptLater (kept : Gathered) (before : FilesAt) (now : Gathered) (after : FilesAt) : Type 0 where
   pub name : name_of now ≡ name_of kept
   pub others : WhereTold before.contents after.contents (SameElsewhere (name_of kept))

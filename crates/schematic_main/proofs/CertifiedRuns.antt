@@ -25,7 +25,7 @@ use Rattle.sheet_answer.specs.CheckLine.{claimed, verdict_line}
 use Rattle.sheet_answer.specs.Checked.{IsClaimJudged, IsChecked, PassesCheck}
 use Rattle.sheet_answer.specs.CertifiedSheet.{ClaimsTruly, HasCertifiedFiles}
 use Rattle.schematic_main.specs.Commands.{Owes}
-use Rattle.draw_answer.specs.SearchLog.{HoldsLog, IsLogOf}
+use Rattle.draw_answer.specs.SearchLog.{HoldsLog, IsRunLog}
 use Rattle.draw_answer.specs.Drawn.{Job, job, sheet_of, IsDrawn, IsDrawAnswer}
 use Rattle.schematic_main.specs.Run.{FailsIn, IsCheckOfDrawn}
 use Rattle.input_answer.proofs.InputLemmas.{file_fault_status}
@@ -171,7 +171,7 @@ pub own_run : (input sheet log : List ℕ) (grid : GridSize) (order : List Crite
 own_run input sheet log grid order budget svg met next status other text line owes answered files read checks =
     let traced : Lines → Type 0 = λ lines. ⊤ in
     let asked = job grid order budget svg (Some log) in
-    let IsTold : Lines → Type 0 = IsLogOf (Some log) met traced in
+    let IsTold : Lines → Type 0 = IsRunLog (Some log) met traced in
     let file = answered_from (text_input 1 input) 0 met (IsAnswerAfter 1 met (IsFileJudged (IsDrawAnswer asked met traced))) status text answered owes in
     let judged = station_from (IsDrawAnswer asked met traced) file.0 status text answered file.2.1 in
     let drawn : IsDrawn judged.0 judged.1 asked IsTold status text = judged.3.drawn in

@@ -40,7 +40,7 @@ use Rattle.draw_answer.specs.Drawn.{Job, job, status_of, IsDrawAnswer}
 use Rattle.draw_answer.specs.Signalled.{job_for, IsSignalFileJudged}
 use Rattle.trade_off.specs.declared.outcome.FrontEnd.{FrontEnd}
 use Rattle.trade_off.specs.declared.outcome.FrontEnd.TheVariants.{Whole, Empty, Conflicts, Room as EndRoom}
-use Rattle.front_answer.specs.Fronted.{FrontJob, front_job, status_of_front, IsFronted}
+use Rattle.front_answer.specs.Fronted.{FrontJob, front_job, status_of_front, IsFrontAnswer}
 use Rattle.draw_answer.specs.Tried.{IsTried}
 use Rattle.schematic_main.specs.Commands.{Owes, ends_of, HasSoundFile, AreSound}
 use Rattle.schematic_main.specs.Run.{Asks, IsAnswerDue, FailsIn}
@@ -120,7 +120,7 @@ on_ending P Empty done none unfinished = none
 on_ending P Conflicts done none unfinished = unfinished
 on_ending P EndRoom done none unfinished = unfinished
 
-on_front : (P : Status → Type 0) (asked : FrontJob) (traced : Lines → Type 0) (g : Graph) (o : EdgeOrder) (status : Status) (text : List ℕ) → OfOwed P → IsFronted asked traced g o status text → P status
+on_front : (P : Status → Type 0) (asked : FrontJob) (traced : Lines → Type 0) (g : Graph) (o : EdgeOrder) (status : Status) (text : List ℕ) → OfOwed P → IsFrontAnswer asked traced g o status text → P status
 on_front P asked traced g o status text owed f = subst P (sym f.status_is) (on_ending P f.ending owed.done owed.none owed.unfinished)
 
 on_command : (P : Status → Type 0) (command : Command) (met : Met) (traced : Lines → Type 0) (status : Status) (text : List ℕ) → OfOwed P → (FailsIn command met → P Unread) → Owes command met traced status text → P status
@@ -153,8 +153,8 @@ on_command P (Signals input grid order budget log) met traced status text owed u
     owes
 on_command P (Front input first second grid budget) met traced status text owed unread owes =
     let asked = front_job grid first second budget in
-    on_input P (text_input 1 input) 0 met (IsAnswerAfter 1 met (IsFileJudged (IsFronted asked traced))) status text owed.refused (λ fails. unread (0, lit< tt, fails))
-    (λ bytes answer. on_file P (IsFronted asked traced) bytes status text owed.refused (λ g o. on_front P asked traced g o status text owed) answer.1)
+    on_input P (text_input 1 input) 0 met (IsAnswerAfter 1 met (IsFileJudged (IsFrontAnswer asked traced))) status text owed.refused (λ fails. unread (0, lit< tt, fails))
+    (λ bytes answer. on_file P (IsFrontAnswer asked traced) bytes status text owed.refused (λ g o. on_front P asked traced g o status text owed) answer.1)
     owes
 
 on_due : (P : Status → Type 0) (words : List (List ℕ)) (met : Met) (traced : Lines → Type 0) (status : Status) (text : List ℕ) → OfOwed P → (Asks words (λ command. FailsIn command met) → P Unread) → IsAnswerDue words met traced status text → P status
@@ -289,8 +289,8 @@ sound_ends (Signals input grid order budget log) met traced status text file rea
     ]
 sound_ends (Front input first second grid budget) met traced status text file read owes =
     let asked = front_job grid first second budget in
-    let judged = first_on input met file (IsAnswerAfter 1 met (IsFileJudged (IsFronted asked traced))) status text (λ fails. read (0, lit< tt, fails)) owes in
-    let found = sound_judged (IsFronted asked traced) file.bytes status text file.sound judged.1 in
+    let judged = first_on input met file (IsAnswerAfter 1 met (IsFileJudged (IsFrontAnswer asked traced))) status text (λ fails. read (0, lit< tt, fails)) owes in
+    let found = sound_judged (IsFrontAnswer asked traced) file.bytes status text file.sound judged.1 in
     subst (λ s. (s ≡ Done) ⊎ (s ≡ NoDrawing) ⊎ (s ≡ Unfinished)) (sym found.3.status_is)
     (on_ending (λ s. (s ≡ Done) ⊎ (s ≡ NoDrawing) ⊎ (s ≡ Unfinished)) found.3.ending (inl refl) (inr (inl refl)) (inr (inr refl)))
 

@@ -26,7 +26,7 @@ use Rattle.draw_answer.specs.Written.{file_named}
 use Rattle.draw_answer.specs.Drawn.{job, IsDrawAnswer, IsLeftByDraw}
 use Rattle.draw_answer.specs.Signalled.{IsSignalFileJudged, HasReadSignals, IsLeftBySignals}
 use Rattle.draw_answer.specs.Tried.{IsMade, IsTried}
-use Rattle.front_answer.specs.Fronted.{front_job, IsFronted}
+use Rattle.front_answer.specs.Fronted.{front_job, IsFrontAnswer}
 use Rattle.sheet_answer.specs.Checked.{IsCheckAnswer}
 
 -- ---- what is asked
@@ -131,7 +131,7 @@ Owes (Trial n) met traced status text = IsFileJudged (IsTried n traced) (station
 Owes (Signals input grid order budget log) met traced status text =
     IsAnswerToFile input met (IsSignalFileJudged (job grid order budget None log) met traced) status text
 Owes (Front input first second grid budget) met traced status text =
-    IsAnswerToFile input met (IsFileJudged (IsFronted (front_job grid first second budget) traced)) status text
+    IsAnswerToFile input met (IsFileJudged (IsFrontAnswer (front_job grid first second budget) traced)) status text
 
 -- ---- how it ends
 

@@ -18,7 +18,7 @@ pub fn literal(vars: u32, number: i32) -> Result<Lit, Fail>
     Ok(Lit::new(Var(v), number > 0))
 }
 
-#[tactic(auto, using(crate::proofs::ThereLemmas::there_push))]
+#[tactic(auto, using(cnf_core::proofs::GatherLemmas::there_push))]
 fn literals(alloc: Global, vars: u32, numbers: &[i32]) -> Result<Vec<Lit>, Fail>
     ensures { IfOk result (λ lits. AreThere vars lits.items) }
 {

@@ -12,7 +12,7 @@ use Rattle.refute_log.specs.declared.line.LogLine.TheVariants.{Bound, Refuted as
 use Rattle.refute_log.specs.Told.{Lines}
 use Rattle.refute_log.specs.Log.{Derives}
 use Rattle.certified_values.specs.Bounds.{SaysAtLeast, MeetsLog, CoversDrawings}
-use Rattle.certified_values.proofs.CertifiedLemmas.{refuted_holds, reached}
+use Rattle.certified_values.proofs.CertifiedLemmas.{refuted_holds, reached, says_more}
 use Rattle.lex_search.specs.declared.oracle.Below.{Below}
 use Rattle.lex_search.specs.declared.oracle.Reply.{Reply}
 use Rattle.lex_search.specs.declared.oracle.Reply.TheVariants.{Found, Refuted, Stopped}
@@ -31,9 +31,6 @@ less_or_more i j = grind arith
 
 -- ---- no drawing meets what was refuted
 
-says_longer : (greatest : Criterion → ℕ) (lines more : Lines) (c : Criterion) (k : ℕ) (l : Literal) → SaysAtLeast greatest lines c k l → SaysAtLeast greatest (lines ++ more) c k l
-says_longer greatest lines more c k l s = record { within = s.within; variable = s.variable; told = Contains-append_left lines more (Bound c k s.variable) s.told; is = s.is }
-
 excluded : (p : Task) (lines more : Lines) (bounds : List Below) (clause : List Literal) → CoversDrawings p.graph p.above p.grid (lines ++ more) → Derives (lines ++ more) →
     AreAgainst (greatest_of p) lines bounds clause → Contains (lines ++ more) (RefutedLine clause) → NoneMeets p bounds
 excluded p lines more bounds clause covers derives against there = λ d lawful met.
@@ -41,7 +38,7 @@ excluded p lines more bounds clause covers derives against there = λ d lawful m
     let some = some_from_satisfies m.assignment clause (refuted_holds m.assignment (lines ++ more) derives m.formula clause there) in
     let any : Any (λ b. SaysAtLeast (greatest_of p) lines b.criterion b.limit some.1) bounds =
     All-contains (λ l. Any (λ b. SaysAtLeast (greatest_of p) lines b.criterion b.limit l) bounds) clause some.1 against (some.0, some.2, some.3) in
-    let k = reached (greatest_of p) (lines ++ more) (values_of d) m (any.1).criterion (any.1).limit some.1 (says_longer (greatest_of p) lines more (any.1).criterion (any.1).limit some.1 any.4) some.4 in
+    let k = reached (greatest_of p) (lines ++ more) (values_of d) m (any.1).criterion (any.1).limit some.1 (says_more (greatest_of p) lines more (any.1).criterion (any.1).limit some.1 any.4) some.4 in
     let lt = All-contains (λ (b : Below). value_of (values_of d) b.criterion < b.limit) bounds any.1 met (any.0, any.2, any.3) in
     omega (arith, k, lt)
 

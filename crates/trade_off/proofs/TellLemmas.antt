@@ -20,8 +20,7 @@ use Rattle.certified_values.specs.Cause.{IsCause}
 use Rattle.lex_search.specs.Built.{SumPasses, IsBuild, AreBuiltTo}
 use Rattle.lex_search.specs.Outcome.{first_lines}
 use Rattle.refute_log.specs.Steps.{ToldBehind, Continues}
-use Rattle.refute_log.proofs.StepLemmas.{stays, goes_on, becomes}
-use Rattle.lex_search.proofs.QuestionLemmas.{clause_lines_append}
+use Rattle.refute_log.proofs.StepLemmas.{stays, goes_on, becomes, clause_lines_append}
 use Rattle.lex_search.proofs.BuildLemmas.{formulas_are_clauses, sum_is_clauses}
 use Rattle.trade_off.specs.declared.outcome.FrontEnd.{FrontEnd}
 use Rattle.trade_off.specs.declared.outcome.FrontEnd.TheVariants.{Whole, Empty, Conflicts, Room}

@@ -17,7 +17,8 @@ use Rattle.why_search.specs.declared.oracle.Reply.{Reply}
 use Rattle.why_search.specs.declared.oracle.Reply.TheVariants.{Found, Refuted}
 use Rattle.why_search.specs.Asked.{ArePlaces, NoneMeets, IsRightReply}
 use Rattle.why_search.specs.Narrowed.{has_number, IsNarrowed}
-use Rattle.why_search.proofs.PlaceLemmas.{all_left, all_right, all_last, pairs_left, pairs_last, pairs_both, has_contained}
+use Rattle.why_search.proofs.PlaceLemmas.{all_last, pairs_left, pairs_last, pairs_both, has_contained}
+use Rattle.plan_core.proofs.ListFacts.{all_front, all_back}
 
 pub narrow_none : (p : Task) (left : List ℕ) → ArePlaces p left → NoneMeets p left → IsNarrowed p [] left []
 narrow_none p left places none = record {
@@ -32,7 +33,7 @@ narrow_none p left places none = record {
 -- what is asked: all that are left but the last
 pub narrow_asked : (p : Task) (kept left : List ℕ) (n : ℕ) (without : List Drawing) → IsNarrowed p kept (left ++ n ∷ []) without → ArePlaces p (kept ++ left)
 narrow_asked p kept left n without h = record {
-  there = All-append (λ k. k < length p.laws) kept left h.kept_places.there (all_left (λ k. k < length p.laws) left (n ∷ []) h.left_places.there);
+  there = All-append (λ k. k < length p.laws) kept left h.kept_places.there (all_front (λ k. k < length p.laws) left (n ∷ []) h.left_places.there);
   once = pairs_both (λ a b. a ≢ b) kept left h.kept_places.once (pairs_left (λ a b. a ≢ b) left (n ∷ []) h.left_places.once)
       (λ a b ca cb. h.apart a b ca (Contains-append_left left (n ∷ []) b cb));
 }
@@ -51,12 +52,12 @@ keeps_place p kept left n without d count each found i e is =
           slice_get-get_or without i e lt ∙ ap Some (sym (get_or_append_left without (d ∷ []) e i lt) ∙ get_or_from_slice_get (without ++ d ∷ []) i e e is) in
           let old = each i e same in
           let all : All (MeetsAt p e) (remove kept i ++ (left ++ n ∷ [])) = old.1 in
-          let rest : All (MeetsAt p e) (left ++ n ∷ []) = all_right (MeetsAt p e) (remove kept i) (left ++ n ∷ []) all in (
+          let rest : All (MeetsAt p e) (left ++ n ∷ []) = all_back (MeetsAt p e) (remove kept i) (left ++ n ∷ []) all in (
             old.0,
             All-append (MeetsAt p e) (remove (kept ++ n ∷ []) i) left
                 (subst (All (MeetsAt p e)) (sym (remove-append_left kept (n ∷ []) i (omega arith)))
-                (All-push (MeetsAt p e) (remove kept i) n (all_left (MeetsAt p e) (remove kept i) (left ++ n ∷ []) all) (all_last (MeetsAt p e) left n rest)))
-                (all_left (MeetsAt p e) left (n ∷ []) rest),
+                (All-push (MeetsAt p e) (remove kept i) n (all_front (MeetsAt p e) (remove kept i) (left ++ n ∷ []) all) (all_last (MeetsAt p e) left n rest)))
+                (all_front (MeetsAt p e) left (n ∷ []) rest),
           )
       | inr at ↦
           let same : d ≡ e = sym (get_or-append_seam without d [] e) ∙ ap (λ k. get_or (without ++ d ∷ []) k e) (sym at) ∙ get_or_from_slice_get (without ++ d ∷ []) i e e is in
@@ -78,7 +79,7 @@ narrow_found p kept left n without d h found = record {
     once = all_pairs_push (λ a b. a ≢ b) kept n h.kept_places.once (λ k e lt. h.apart (get_or kept k e) n (Contains-get_or kept k e lt) (Contains-push left n));
   };
   left_places = record {
-    there = all_left (λ k. k < length p.laws) left (n ∷ []) h.left_places.there;
+    there = all_front (λ k. k < length p.laws) left (n ∷ []) h.left_places.there;
     once = pairs_left (λ a b. a ≢ b) left (n ∷ []) h.left_places.once;
   };
   apart = λ a b ca cb. elim (Contains-push_cases kept n a ca) [
@@ -86,9 +87,9 @@ narrow_found p kept left n without d h found = record {
     | inr same ↦ λ e. pairs_last (λ x y. x ≢ y) left n b h.left_places.once cb (sym (same ∙ e))
   ];
   none = λ e loose all. h.none e loose
-      (let front = all_left (MeetsAt p e) (kept ++ n ∷ []) left all in
-      All-append (MeetsAt p e) kept (left ++ n ∷ []) (all_left (MeetsAt p e) kept (n ∷ []) front)
-      (All-push (MeetsAt p e) left n (all_right (MeetsAt p e) (kept ++ n ∷ []) left all) (all_last (MeetsAt p e) kept n front)));
+      (let front = all_front (MeetsAt p e) (kept ++ n ∷ []) left all in
+      All-append (MeetsAt p e) kept (left ++ n ∷ []) (all_front (MeetsAt p e) kept (n ∷ []) front)
+      (All-push (MeetsAt p e) left n (all_back (MeetsAt p e) (kept ++ n ∷ []) left all) (all_last (MeetsAt p e) kept n front)));
   count = length-append without (d ∷ []) ∙ ap (λ k. k + 1) h.count ∙ sym (length-append kept (n ∷ []));
   each = keeps_place p kept left n without d h.count h.each found;
 }
@@ -97,7 +98,7 @@ narrow_found p kept left n without d h found = record {
 pub narrow_refuted : (p : Task) (kept left core : List ℕ) (n : ℕ) (without : List Drawing) → IsNarrowed p kept (left ++ n ∷ []) without →
     All (Contains (kept ++ left)) core × NoneMeets p core → IsNarrowed p kept (filter (has_number core) left) without
 narrow_refuted p kept left core n without h refuted =
-    let left_there = all_left (λ k. k < length p.laws) left (n ∷ []) h.left_places.there in
+    let left_there = all_front (λ k. k < length p.laws) left (n ∷ []) h.left_places.there in
     let left_once = pairs_left (λ a b. a ≢ b) left (n ∷ []) h.left_places.once in
     let only = filter (has_number core) left in
     record {
@@ -113,8 +114,8 @@ narrow_refuted p kept left core n without h refuted =
           let old = h.each i e is in
           let all : All (MeetsAt p e) (remove kept i ++ (left ++ n ∷ [])) = old.1 in (
             old.0,
-            All-append (MeetsAt p e) (remove kept i) only (all_left (MeetsAt p e) (remove kept i) (left ++ n ∷ []) all)
-                (All-filter (has_number core) (MeetsAt p e) left (all_left (MeetsAt p e) left (n ∷ []) (all_right (MeetsAt p e) (remove kept i) (left ++ n ∷ []) all))),
+            All-append (MeetsAt p e) (remove kept i) only (all_front (MeetsAt p e) (remove kept i) (left ++ n ∷ []) all)
+                (All-filter (has_number core) (MeetsAt p e) left (all_front (MeetsAt p e) left (n ∷ []) (all_back (MeetsAt p e) (remove kept i) (left ++ n ∷ []) all))),
           );
     }
   where
@@ -126,8 +127,8 @@ narrow_refuted p kept left core n without h refuted =
         let c = get_or core k d in
         let is : Contains core c = Contains-get_or core k d lt in
         elim (Contains-append_cases kept left c (among k d lt)) [
-          | inl there ↦ All-contains (MeetsAt p e) kept c (all_left (MeetsAt p e) kept (filter (has_number core) left) all) there
-          | inr there ↦ All-contains (MeetsAt p e) (filter (has_number core) left) c (all_right (MeetsAt p e) kept (filter (has_number core) left) all) (Contains-filter (has_number core) left c there (has_contained core c is))
+          | inl there ↦ All-contains (MeetsAt p e) kept c (all_front (MeetsAt p e) kept (filter (has_number core) left) all) there
+          | inr there ↦ All-contains (MeetsAt p e) (filter (has_number core) left) c (all_back (MeetsAt p e) kept (filter (has_number core) left) all) (Contains-filter (has_number core) left c there (has_contained core c is))
         ]
 
 -- those of the first refuted question

@@ -10,14 +10,9 @@ use Rattle.std.proofs.lemmas.List.Elements.{All-nil, All-cons, All-weaker, Conta
 use Rattle.std.proofs.lemmas.List.Kept.{AllPairs-cons}
 use Rattle.std.proofs.lemmas.List.Quantifiers.{all_pairs_push}
 use Rattle.why_search.specs.Narrowed.{countdown, has_number}
+use Rattle.plan_core.proofs.ListFacts.{pairs_tail}
 
 -- ---- parts of lists
-
-pub all_left : {X : Type 0} (P : X → Type 0) (xs ys : List X) → All P (xs ++ ys) → All P xs
-all_left P xs ys h = λ k d lt. subst P (get_or_append_left xs ys d k lt) (h k d (let n = length-append xs ys in omega arith))
-
-pub all_right : {X : Type 0} (P : X → Type 0) (xs ys : List X) → All P (xs ++ ys) → All P ys
-all_right P xs ys h = λ k d lt. subst P (get_or-append-add xs ys k d) (h (length xs + k) d (let n = length-append xs ys in omega arith))
 
 pub all_last : {X : Type 0} (P : X → Type 0) (xs : List X) (y : X) → All P (xs ++ y ∷ []) → P y
 all_last P xs y h = subst P (get_or-append_seam xs y [] y) (h (length xs) y (let n = length-append xs (y ∷ []) in omega arith))
@@ -38,9 +33,6 @@ pairs_last R xs y x h c =
     (subst (R (slice_index_or (xs ++ y ∷ []) k x)) (get_or-append_seam xs y [] x) (h k (length xs) x lt (omega arith)))
 
 -- the tail of pairs
-pub pairs_tail : {X : Type 0} (R : X → X → Type 0) (x : X) (xs : List X) → AllPairs R (x ∷ xs) → AllPairs R xs
-pairs_tail R x xs h = λ i j d lt within. h (suc i) (suc j) d (omega arith) (omega arith)
-
 pub pairs_head : {X : Type 0} (R : X → X → Type 0) (x y : X) (xs : List X) → AllPairs R (x ∷ xs) → Contains xs y → R x y
 pairs_head R x y xs h c =
     let k = c.0 in

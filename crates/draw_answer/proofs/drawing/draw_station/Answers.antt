@@ -3,9 +3,9 @@ use Rattle.std.specs.declared.option.Option.{Option}
 use Rattle.outside_io.specs.Contents.{WhereTold}
 use Rattle.refute_log.specs.ToldTo.{told_to}
 use Rattle.refute_log.specs.FileLog.{BeginsLog}
-use Rattle.input_answer.specs.Met.{between, Leaves}
+use Rattle.input_answer.specs.Met.{between, LeftSo}
 use Rattle.draw_answer.specs.Pictured.{BeginsPicture, IsPictured}
-use Rattle.draw_answer.specs.SearchLog.{IsLogOf}
+use Rattle.draw_answer.specs.SearchLog.{IsRunLog}
 use Rattle.draw_answer.specs.Drawn.{Job, found_by, HasBegunPicture, DrawMayLeave}
 use Rattle.draw_answer.proofs.DrawnLemmas.{found_draws}
 use Rattle.draw_answer.proofs.LeavesLemmas.{leaves_weaker, NamedMay}
@@ -24,7 +24,7 @@ returns-in_err-outcome-clause-leaves g c =
     let new = at c.search_told.new.files in
     let traced = told_to {Self = g.row.T.Denot} g.T.LogSink.tells g.T.LogSink.learnt c.args.trace.now c.search_told.new.trace in
     let asked = c.args.asked.now in
-    let IsPicture = HasBegunPicture c.args.station.now.graph c.args.station.now.order asked (IsLogOf asked.log (between old new) traced) in
+    let IsPicture = HasBegunPicture c.args.station.now.graph c.args.station.now.order asked (IsRunLog asked.log (between old new) traced) in
     leaves_weaker (NamedMay asked.log BeginsLog) (DrawMayLeave asked IsPicture) old.contents new.contents (λ name bytes log. inl log) c.search_told.ensures.leaves
 
 pub returns-in_err-write_found-clause-leaves : goal.returns-in_err-write_found-clause-leaves
@@ -61,5 +61,5 @@ returns-clause-answer g c =
     let reply = c.in_ok-sheet_reply.ensures in
     let is_svg = ap (λ (j : Job). j.svg) c.asked.view_is in
     drawn_answer graph c.args.station.now.order asked old mid new traced outcome _ _ c.requires.apart c.in_ok-outcome.ensures.searched c.search_told.ensures.leaves
-    (subst (λ (named : Option (List ℕ)). WhereTold mid.contents new.contents (Leaves (NamedMay named (BeginsPicture graph (found_by outcome))))) is_svg c.write_found.ensures.leaves)
+    (subst (λ (named : Option (List ℕ)). WhereTold mid.contents new.contents (LeftSo (NamedMay named (BeginsPicture graph (found_by outcome))))) is_svg c.write_found.ensures.leaves)
     (subst (λ (named : Option (List ℕ)). IsPictured named (between mid new) graph (found_by outcome)) is_svg c.in_ok-write_found.ensures.pictured) reply.read reply.short reply.status_is reply.spelled

@@ -6,7 +6,7 @@ use Rattle.outside_io.specs.Contents.{WhereTold}
 use Rattle.refute_log.specs.FileLog.{BeginsLog}
 use Rattle.refute_log.specs.ToldTo.{told_to}
 use Rattle.input_answer.specs.Status.{IsRefused}
-use Rattle.input_answer.specs.Met.{between, Leaves}
+use Rattle.input_answer.specs.Met.{between, LeftSo}
 use Rattle.input_answer.proofs.MetLemmas.{reads_one}
 use Rattle.draw_answer.specs.Drawn.{Job, job}
 use Rattle.draw_answer.specs.Signalled.{HasReadSignals}
@@ -51,7 +51,7 @@ returns-in-Ok-clause-leaves g c =
     let is_log = ap (λ (j : Job). j.log) c.asked.view_is in
     signals_leave c.args.asked.now c.args.input.now old mid new found.station.graph found.station.order found.signals found.placed Refused c.in-Ok.ensures.station (c.signal_station.ensures.reads ∙ c.in-Ok.ensures.reads) c.in-Ok.ensures.same
     c.signal_station.ensures.unrefused
-    (subst (λ (log : Option (List ℕ)). WhereTold mid.contents new.contents (Leaves (NamedMay log BeginsLog))) is_log c.signal_station.ensures.leaves)
+    (subst (λ (log : Option (List ℕ)). WhereTold mid.contents new.contents (LeftSo (NamedMay log BeginsLog))) is_log c.signal_station.ensures.leaves)
 
 pub returns-in-Ok-clause-unwritten : goal.returns-in-Ok-clause-unwritten
 returns-in-Ok-clause-unwritten g c =

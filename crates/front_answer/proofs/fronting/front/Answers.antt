@@ -5,7 +5,7 @@ use Rattle.input_answer.specs.Status.{IsRefused}
 use Rattle.input_answer.specs.Met.{between}
 use Rattle.input_answer.proofs.AnswerLemmas.{refused_on}
 use Rattle.input_answer.proofs.MetLemmas.{reads_one}
-use Rattle.front_answer.specs.Fronted.{IsFronted}
+use Rattle.front_answer.specs.Fronted.{IsFrontAnswer}
 use Rattle.front_answer.proofs.FrontedLemmas.{untold_here}
 use Rattle.front_answer.proofs.fronting.front.Goals as goal
 
@@ -24,5 +24,5 @@ returns-in_ok-fault_reply-in-Err-Fault-clause-answer g c =
     let met = between (at c.args.files.now) (at c.station_of.new.files) in
     let traced = told_to {Self = g.row.T.Denot} g.T.LogSink.tells g.T.LogSink.learnt c.args.trace.now c.args.trace.now in
     let reply = c.in_ok-fault_reply-in-Err-Fault.field-0 in
-    refused_on (IsFronted c.args.asked.now traced) c.args.input.now met c.in-Err-Fault.field-0 c.in-Err-Fault.fault reply.status reply.text.items c.in-Err-Fault.ensures.refusal
+    refused_on (IsFrontAnswer c.args.asked.now traced) c.args.input.now met c.in-Err-Fault.field-0 c.in-Err-Fault.fault reply.status reply.text.items c.in-Err-Fault.ensures.refusal
     c.in-Err-Fault.field-0-is c.in_ok-fault_reply-in-Err-Fault.ensures.told

@@ -10,8 +10,9 @@ use Rattle.lex_minimise.specs.Asking.{TellsAnswer}
 use Rattle.lex_minimise.proofs.TellLemmas.{goes_weaker}
 use Rattle.lex_minimise.proofs.QueryLemmas.{reply_lines}
 use Rattle.lex_minimise.proofs.LeftLemmas.{answer_left}
-use Rattle.refute_log.proofs.StepLemmas.{on_err_always, leaves_same}
+use Rattle.refute_log.proofs.StepLemmas.{leaves_same}
 use Rattle.lex_minimise.proofs.asking.ask.Goals as goal
+use Rattle.outside_io.proofs.Results.{on_err_anyway}
 
 pub returns-clause-lines : goal.returns-clause-lines
 returns-clause-lines g c =
@@ -31,20 +32,20 @@ returns-in_err-begin_near-clause-leaves g c =
     let k = g.L.LogSink in
     let x = c.args.known.now in
     let known = KnowsLines (layout_of x.encoded) x.told.items x.budget x.room c.args.solver.now in
-    on_err_always _ _ (leaves_same known (k.tells c.args.log.now) (λ lines b. b.belongs.derives) (g.met.L.LogSink.one_reading c.args.log.now))
+    on_err_anyway _ _ (leaves_same known (k.tells c.args.log.now) (λ lines b. b.belongs.derives) (g.met.L.LogSink.one_reading c.args.log.now))
 
 pub returns-in_err-assume-clause-leaves : goal.returns-in_err-assume-clause-leaves
 returns-in_err-assume-clause-leaves g c =
     let k = g.L.LogSink in
     let x = c.args.known.now in
     let known = KnowsLines (layout_of x.encoded) x.told.items x.budget x.room c.args.solver.now in
-    on_err_always _ _ (leaves_same known (k.tells c.args.log.now) (λ lines b. b.belongs.derives) (g.met.L.LogSink.one_reading c.args.log.now))
+    on_err_anyway _ _ (leaves_same known (k.tells c.args.log.now) (λ lines b. b.belongs.derives) (g.met.L.LogSink.one_reading c.args.log.now))
 
 pub returns-in_err-answer-clause-leaves : goal.returns-in_err-answer-clause-leaves
 returns-in_err-answer-clause-leaves g c =
     let k = g.L.LogSink in
     let x = c.args.known.now in
-    on_err_always _ _ (subst (λ (s : Kept). Leaves [] (KnowsLines (layout_of x.encoded) x.told.items x.budget x.room s) (k.tells c.args.log.now) (k.tells c.query.new.log)) c.in_ok-begin_near.ensures c.in_err-answer.ensures.leaves)
+    on_err_anyway _ _ (subst (λ (s : Kept). Leaves [] (KnowsLines (layout_of x.encoded) x.told.items x.budget x.room s) (k.tells c.args.log.now) (k.tells c.query.new.log)) c.in_ok-begin_near.ensures c.in_err-answer.ensures.leaves)
 
 pub returns-in_err-reply-clause-leaves : goal.returns-in_err-reply-clause-leaves
 returns-in_err-reply-clause-leaves g c =
@@ -52,7 +53,7 @@ returns-in_err-reply-clause-leaves g c =
     let x = c.args.known.now in
     let y = layout_of x.encoded in
     let tells = λ (lines more : Lines). TellsAnswer (task_of y x.budget x.room) lines c.args.bounds.now c.in_ok-answer.answer more in
-    on_err_always _ _ (answer_left y x.told.items x.budget x.room c.args.solver.now c.query.new.solver (k.tells c.args.log.now) (k.tells c.query.new.log) (k.learnt c.args.log.now) (k.learnt c.query.new.log) tells
+    on_err_anyway _ _ (answer_left y x.told.items x.budget x.room c.args.solver.now c.query.new.solver (k.tells c.args.log.now) (k.tells c.query.new.log) (k.learnt c.args.log.now) (k.learnt c.query.new.log) tells
     (subst (λ (s : Kept). GoesOn (KnowsLines y x.told.items x.budget x.room s) (KnowsLines y x.told.items x.budget x.room c.query.new.solver) (k.tells c.args.log.now) (k.tells c.query.new.log) (k.learnt c.args.log.now) (k.learnt c.query.new.log) tells)
     c.in_ok-begin_near.ensures c.in_ok-answer.ensures.lines)
     (leaves_same (KnowsLines y x.told.items x.budget x.room c.query.new.solver) (k.tells c.query.new.log) (λ lines b. b.belongs.derives) (g.met.L.LogSink.one_reading c.query.new.log)))

@@ -13,10 +13,11 @@ use Rattle.refute_log.specs.Steps.{GoesOn}
 use Rattle.lex_minimise.specs.Grown.{clauses_behind, PassesWith}
 use Rattle.lex_minimise.proofs.GrownLemmas.{some_grown, none_grown, grown_words, grown_rest, is_grown, no_room, grown_as, goes_as, goes_to, built_whole, build_goes}
 use Rattle.lex_minimise.proofs.RoomLemmas.{formula_passes, solver_passes, none_goes}
-use Rattle.refute_log.proofs.StepLemmas.{on_err_always, leaves_same, leaves_more}
+use Rattle.refute_log.proofs.StepLemmas.{leaves_same, leaves_more}
 use Rattle.lex_minimise.proofs.LeftLemmas.{build_left}
 use Rattle.certified_values.specs.Expected.{sum_lines}
 use Rattle.lex_minimise.proofs.building.build.Goals as goal
+use Rattle.outside_io.proofs.Results.{on_err_anyway}
 
 pub overflow_sub-more : goal.overflow_sub-more
 overflow_sub-more g c =
@@ -134,7 +135,7 @@ returns-in_err-bounds_for-clause-leaves g c =
     let k = g.L.LogSink in
     let x = c.args.known.now in
     let known = KnowsLines (layout_of x.encoded) x.told.items x.budget x.room c.args.solver.now in
-    on_err_always _ _ (leaves_more [] (sum_lines (problem_of (layout_of x.encoded)) c.args.solver.now.vars c.args.c c.args.cap) known (k.tells c.args.log.now) (k.tells c.args.log.now)
+    on_err_anyway _ _ (leaves_more [] (sum_lines (problem_of (layout_of x.encoded)) c.args.solver.now.vars c.args.c c.args.cap) known (k.tells c.args.log.now) (k.tells c.args.log.now)
     (leaves_same known (k.tells c.args.log.now) (λ lines b. b.belongs.derives) (g.met.L.LogSink.one_reading c.args.log.now)))
 
 pub returns-in_err-tell_criterion-in-Some-clause-leaves : goal.returns-in_err-tell_criterion-in-Some-clause-leaves
@@ -145,5 +146,5 @@ returns-in_err-tell_criterion-in-Some-clause-leaves g c =
     let o = c.in_ok-bounds_for.ensures in
     let b = bound c.args.c x.encoded.formula.vars c.args.cap in
     let grown = some_grown c.in_ok-bounds_for.field-0 c.in-Some.bounds b (PassesWith x.encoded b) x.encoded m.encoded c.in-Some.is o.bounds in
-    on_err_always _ _ (build_left x.encoded m.encoded x.told.items m.told.items x.budget m.budget x.room m.room c.args.solver.now c.args.c c.args.cap c.in-Some.bounds (k.tells c.args.log.now) (k.tells c.tell_criterion.new.log)
+    on_err_anyway _ _ (build_left x.encoded m.encoded x.told.items m.told.items x.budget m.budget x.room m.room c.args.solver.now c.args.c c.args.cap c.in-Some.bounds (k.tells c.args.log.now) (k.tells c.tell_criterion.new.log)
     c.requires.positive c.requires.ready grown.1 grown.0 o.told o.budget o.room c.in_err-tell_criterion-in-Some.ensures.leaves)

@@ -14,9 +14,9 @@ use Rattle.lex_minimise.specs.Known.{KnowsLines, IsReady}
 use Rattle.refute_log.specs.Steps.{GoesOn, Leaves}
 use Rattle.lex_minimise.specs.Told.{HasTaken}
 use Rattle.lex_minimise.proofs.GrownLemmas.{grown_small, ready_grown, grown_goes}
-use Rattle.refute_log.proofs.StepLemmas.{on_err_always}
 use Rattle.lex_minimise.proofs.LeftLemmas.{criterion_left, criterion_begun, bounds_all}
 use Rattle.lex_minimise.proofs.building.tell_criterion.Goals as goal
+use Rattle.outside_io.proofs.Results.{on_err_anyway}
 
 pub tell_bounds-requires : goal.tell_bounds-requires
 tell_bounds-requires g c =
@@ -58,7 +58,7 @@ returns-in_err-add_clauses-clause-leaves g c =
     let k = g.L.LogSink in
     let x = c.args.known.now in
     let old = c.args.solver.now in
-    on_err_always _ _ (criterion_begun x.encoded x.told.items x.budget x.room c.args.bounds c.args.from old (k.tells c.args.log.now) (k.tells c.add_clauses.new.log) c.requires.grown
+    on_err_anyway _ _ (criterion_begun x.encoded x.told.items x.budget x.room c.args.bounds c.args.from old (k.tells c.args.log.now) (k.tells c.add_clauses.new.log) c.requires.grown
     (subst (λ (f : Cnf). Leaves (map Formula (drop c.args.from f.clauses)) (λ ls. Belongs ls old) (k.tells c.args.log.now) (k.tells c.add_clauses.new.log)) c.formula.ensures c.in_err-add_clauses.ensures.leaves))
 
 pub returns-in_err-tell_bounds-clause-leaves : goal.returns-in_err-tell_bounds-clause-leaves
@@ -67,7 +67,7 @@ returns-in_err-tell_bounds-clause-leaves g c =
     let x = c.args.known.now in
     let old = c.args.solver.now in
     let new = c.add_clauses.new.solver in
-    on_err_always _ _ (criterion_left x.encoded x.told.items x.budget x.room c.args.bounds c.args.from old new (k.tells c.args.log.now) (k.tells c.add_clauses.new.log) (k.tells c.tell_bounds.new.log) (k.learnt c.args.log.now) (k.learnt c.add_clauses.new.log) c.requires.grown
+    on_err_anyway _ _ (criterion_left x.encoded x.told.items x.budget x.room c.args.bounds c.args.from old new (k.tells c.args.log.now) (k.tells c.add_clauses.new.log) (k.tells c.tell_bounds.new.log) (k.learnt c.args.log.now) (k.learnt c.add_clauses.new.log) c.requires.grown
     (subst (λ (f : Cnf). GoesOn (λ ls. Belongs ls old) (λ ls. Belongs ls new) (k.tells c.args.log.now) (k.tells c.add_clauses.new.log) (k.learnt c.args.log.now) (k.learnt c.add_clauses.new.log)
     (λ lines more. more ≡ map Formula (drop c.args.from f.clauses))) c.formula.ensures c.in_ok-add_clauses.ensures.lines) c.in_err-tell_bounds.ensures.leaves)
 
@@ -77,7 +77,7 @@ returns-in_err-push-clause-leaves g c =
     let x = c.args.known.now in
     let old = c.args.solver.now in
     let new = c.add_clauses.new.solver in
-    on_err_always _ _ (criterion_left x.encoded x.told.items x.budget x.room c.args.bounds c.args.from old new (k.tells c.args.log.now) (k.tells c.add_clauses.new.log) (k.tells c.tell_bounds.new.log) (k.learnt c.args.log.now) (k.learnt c.add_clauses.new.log) c.requires.grown
+    on_err_anyway _ _ (criterion_left x.encoded x.told.items x.budget x.room c.args.bounds c.args.from old new (k.tells c.args.log.now) (k.tells c.add_clauses.new.log) (k.tells c.tell_bounds.new.log) (k.learnt c.args.log.now) (k.learnt c.add_clauses.new.log) c.requires.grown
     (subst (λ (f : Cnf). GoesOn (λ ls. Belongs ls old) (λ ls. Belongs ls new) (k.tells c.args.log.now) (k.tells c.add_clauses.new.log) (k.learnt c.args.log.now) (k.learnt c.add_clauses.new.log)
     (λ lines more. more ≡ map Formula (drop c.args.from f.clauses))) c.formula.ensures c.in_ok-add_clauses.ensures.lines)
     (bounds_all (k.tells c.add_clauses.new.log) (k.tells c.tell_bounds.new.log) c.args.bounds.criterion c.args.bounds.last c.args.bounds.cap c.in_ok-tell_bounds.ensures.lines (g.met.L.LogSink.one_reading c.tell_bounds.new.log)))

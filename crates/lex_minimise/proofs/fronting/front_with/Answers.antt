@@ -12,8 +12,9 @@ use Rattle.lex_minimise.specs.Task.{task_of}
 use Rattle.lex_minimise.proofs.StartLemmas.{nothing_told, layout_is, IsFirst, first_ready, first_knows, whole_told, if_ok_from}
 use Rattle.lex_minimise.proofs.FrontLemmas.{no_room_front}
 use Rattle.lex_minimise.proofs.LeftLemmas.{front_unbegun, front_begun, front_left}
-use Rattle.refute_log.proofs.StepLemmas.{on_err_always, on_err_weaker}
+use Rattle.refute_log.proofs.StepLemmas.{on_err_weaker}
 use Rattle.lex_minimise.proofs.fronting.front_with.Goals as goal
+use Rattle.outside_io.proofs.Results.{on_err_anyway}
 
 pub returns-in-Err-Room-clause-right : goal.returns-in-Err-Room-clause-right
 returns-in-Err-Room-clause-right g c =
@@ -122,7 +123,7 @@ returns-in_err-add_clauses-clause-left g c =
       vars_fit = e.vars_fit refl;
       covers = e.covers;
     } in
-    on_err_always _ _ (front_begun y budget room c.args.a c.args.b c.in-Ok.encoded c.formula.result.now c.args.solver.now (k.tells c.args.log.now) (k.tells c.add_clauses.new.log) first c.formula.ensures c.requires.new c.in_err-add_clauses.ensures.leaves)
+    on_err_anyway _ _ (front_begun y budget room c.args.a c.args.b c.in-Ok.encoded c.formula.result.now c.args.solver.now (k.tells c.args.log.now) (k.tells c.add_clauses.new.log) first c.formula.ensures c.requires.new c.in_err-add_clauses.ensures.leaves)
 
 pub returns-clause-left : goal.returns-clause-left
 returns-clause-left g c =

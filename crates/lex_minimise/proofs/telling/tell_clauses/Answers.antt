@@ -4,9 +4,9 @@ use Rattle.cnf_core.specs.Formula.{clause_at}
 use Rattle.refute_log.specs.declared.line.LogLine.TheVariants.{Formula}
 use Rattle.cdcl_core.specs.Belongs.{Belongs}
 use Rattle.lex_minimise.proofs.TellLemmas.{taken_none, taken_more, goes_nothing, goes_then, told_none, told_next, next_fits}
-use Rattle.refute_log.proofs.StepLemmas.{on_err_always}
 use Rattle.lex_minimise.proofs.LeftLemmas.{clauses_left}
 use Rattle.lex_minimise.proofs.telling.tell_clauses.Goals as goal
+use Rattle.outside_io.proofs.Results.{on_err_anyway}
 
 pub loop-number-init : goal.loop-number-init
 loop-number-init g c =
@@ -49,5 +49,5 @@ tell_clause-requires-clause-fits g c =
 pub returns-in_err-tell_clause-clause-leaves : goal.returns-in_err-tell_clause-clause-leaves
 returns-in_err-tell_clause-clause-leaves g c =
     let k = g.L.LogSink in
-    on_err_always _ _ (clauses_left (λ ls. Belongs ls c.args.solver.now) (λ ls. Belongs ls c.loop-number.solver) (k.tells c.args.log.now) (k.tells c.loop-number.log) (k.tells c.tell_clause.new.log) (k.learnt c.args.log.now) (k.learnt c.loop-number.log)
+    on_err_anyway _ _ (clauses_left (λ ls. Belongs ls c.args.solver.now) (λ ls. Belongs ls c.loop-number.solver) (k.tells c.args.log.now) (k.tells c.loop-number.log) (k.tells c.tell_clause.new.log) (k.learnt c.args.log.now) (k.learnt c.loop-number.log)
     c.args.formula.now.clauses c.args.from c.loop-number.number c.loop-number.invariant.from (omega arith) c.loop-number.invariant.lines c.in_err-tell_clause.ensures.leaves)

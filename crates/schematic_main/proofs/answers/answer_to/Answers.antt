@@ -4,7 +4,7 @@ use Rattle.outside_io.specs.Contents.{WhereTold}
 use Rattle.plan_words.specs.declared.command.Command.{Command}
 use Rattle.refute_log.specs.ToldTo.{told_to}
 use Rattle.input_answer.specs.Status.{IsRefused}
-use Rattle.input_answer.specs.Met.{between, IsUnwritten, Leaves}
+use Rattle.input_answer.specs.Met.{between, IsUnwritten, LeftSo}
 use Rattle.schematic_main.specs.Commands.{MayWrite, MayTell, MayLeave, Owes}
 use Rattle.draw_answer.proofs.LeavesLemmas.{leaves_same, left_alone}
 use Rattle.schematic_main.proofs.answers.answer_to.Goals as goal
@@ -22,7 +22,7 @@ returns-in-Draw-clause-leaves g c =
     let met = between (g.F.Files.at c.args.files.now) (g.F.Files.at c.draw.new.files) in
     let traced = told_to {Self = g.row.T.Denot} g.T.LogSink.tells g.T.LogSink.learnt c.args.trace.now c.draw.new.trace in
     let Refused : Type 0 = IsOkAnd c.draw.result (λ r. IsRefused r.status) in
-    subst (λ (command : Command). WhereTold old new (Leaves (λ name bytes. (Refused → ⊥) × MayLeave command met traced name bytes))) (sym c.in-Draw.is) c.draw.ensures.leaves
+    subst (λ (command : Command). WhereTold old new (LeftSo (λ name bytes. (Refused → ⊥) × MayLeave command met traced name bytes))) (sym c.in-Draw.is) c.draw.ensures.leaves
 
 pub returns-in-Draw-clause-unwritten : goal.returns-in-Draw-clause-unwritten
 returns-in-Draw-clause-unwritten g c =
@@ -72,7 +72,7 @@ returns-in-Signals-clause-leaves g c =
     let met = between (g.F.Files.at c.args.files.now) (g.F.Files.at c.signals.new.files) in
     let traced = told_to {Self = g.row.T.Denot} g.T.LogSink.tells g.T.LogSink.learnt c.args.trace.now c.signals.new.trace in
     let Refused : Type 0 = IsOkAnd c.signals.result (λ r. IsRefused r.status) in
-    subst (λ (command : Command). WhereTold old new (Leaves (λ name bytes. (Refused → ⊥) × MayLeave command met traced name bytes))) (sym c.in-Signals.is) c.signals.ensures.leaves
+    subst (λ (command : Command). WhereTold old new (LeftSo (λ name bytes. (Refused → ⊥) × MayLeave command met traced name bytes))) (sym c.in-Signals.is) c.signals.ensures.leaves
 
 pub returns-in-Signals-clause-unwritten : goal.returns-in-Signals-clause-unwritten
 returns-in-Signals-clause-unwritten g c =

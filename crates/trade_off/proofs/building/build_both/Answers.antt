@@ -9,9 +9,10 @@ use Rattle.lex_search.specs.Outcome.{first_lines}
 use Rattle.refute_log.specs.Steps.{Continues}
 use Rattle.trade_off.specs.Outcome.{IsBuiltFront}
 use Rattle.trade_off.proofs.TellLemmas.{no_room_for_first, both_built, unbuilt_still, first_still, second_here}
-use Rattle.refute_log.proofs.StepLemmas.{on_err_always, on_err_weaker, leaves_more}
+use Rattle.refute_log.proofs.StepLemmas.{on_err_weaker, leaves_more}
 use Rattle.trade_off.proofs.LeftLemmas.{both_left}
 use Rattle.trade_off.proofs.building.build_both.Goals as goal
+use Rattle.outside_io.proofs.Results.{on_err_anyway}
 
 pub build_whole-requires-clause-none : goal.build_whole-requires-clause-none
 build_whole-requires-clause-none g c = c.requires.fresh.none c.args.a
@@ -62,7 +63,7 @@ pub returns-in_err-build_whole-clause-leaves : goal.returns-in_err-build_whole-c
 returns-in_err-build_whole-clause-leaves g c = let o = g.O.Oracle in
     let a = c.args.oracle.now in
     let p = o.task a in
-    on_err_always _ _ (leaves_more (sum_lines p.encoding (o.vars a) c.args.a (greatest_of p c.args.a)) (sums p.encoding (o.vars a + sum_vars_of p.encoding (o.vars a) c.args.a (greatest_of p c.args.a)) (c.args.b ∷ []) (greatest_of p))
+    on_err_anyway _ _ (leaves_more (sum_lines p.encoding (o.vars a) c.args.a (greatest_of p c.args.a)) (sums p.encoding (o.vars a + sum_vars_of p.encoding (o.vars a) c.args.a (greatest_of p c.args.a)) (c.args.b ∷ []) (greatest_of p))
     (o.knows a) (o.log a) (o.log c.build_whole.new.oracle) c.in_err-build_whole.ensures.leaves)
 
 pub returns-in-Whole-clause-leaves : goal.returns-in-Whole-clause-leaves

@@ -1,10 +1,10 @@
 use Rattle.std.proofs.Common.{sym, ◌∙◌, subst}
 use Rattle.lex_search.specs.Task.{greatest_of}
 use Rattle.trade_off.proofs.TellLemmas.{zero_caps, zero_vars, zero_lines, whole_caps, whole_vars, lines_whole}
-use Rattle.refute_log.proofs.StepLemmas.{on_err_always}
 use Rattle.certified_values.specs.Expected.{sum_lines}
 use Rattle.refute_log.specs.Steps.{Leaves}
 use Rattle.trade_off.proofs.building.build_whole.Goals as goal
+use Rattle.outside_io.proofs.Results.{on_err_anyway}
 
 pub returns-then-most-eq0-clause-caps : goal.returns-then-most-eq0-clause-caps
 returns-then-most-eq0-clause-caps g c = let o = g.O.Oracle in
@@ -38,4 +38,4 @@ returns-clause-lines g c = let o = g.O.Oracle in
 pub returns-in_err-built-clause-leaves : goal.returns-in_err-built-clause-leaves
 returns-in_err-built-clause-leaves g c = let o = g.O.Oracle in
     let a = c.args.oracle.now in
-    on_err_always _ _ (subst (λ n. Leaves (sum_lines (o.task a).encoding (o.vars a) c.args.c n) (o.knows a) (o.log a) (o.log c.build.new.self)) c.greatest-most.ensures c.in_err-built.ensures.leaves)
+    on_err_anyway _ _ (subst (λ n. Leaves (sum_lines (o.task a).encoding (o.vars a) c.args.c n) (o.knows a) (o.log a) (o.log c.build.new.self)) c.greatest-most.ensures c.in_err-built.ensures.leaves)

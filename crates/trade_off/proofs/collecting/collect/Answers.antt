@@ -11,9 +11,10 @@ use Rattle.trade_off.specs.Next.{IsNextPair, stop_of}
 use Rattle.trade_off.specs.Outcome.{IsRightFront, stop_behind}
 use Rattle.trade_off.proofs.AskLemmas.{asked_then}
 use Rattle.trade_off.proofs.FrontLemmas.{right_empty, right_stopped_first, stopped_behind, next_is}
-use Rattle.refute_log.proofs.StepLemmas.{on_err_always, on_err_weaker}
+use Rattle.refute_log.proofs.StepLemmas.{on_err_weaker}
 use Rattle.trade_off.proofs.LeftLemmas.{asked_later}
 use Rattle.trade_off.proofs.collecting.collect.Goals as goal
+use Rattle.outside_io.proofs.Results.{on_err_anyway}
 
 pub further_pairs-requires-clause-caps_first : goal.further_pairs-requires-clause-caps_first
 further_pairs-requires-clause-caps_first g c =
@@ -64,7 +65,7 @@ returns-in-Stopped-clause-lines g c = let o = g.O.Oracle in
 
 pub returns-in_err-first-clause-leaves : goal.returns-in_err-first-clause-leaves
 returns-in_err-first-clause-leaves g c = let o = g.O.Oracle in
-    on_err_always _ _ c.in_err-first.ensures.leaves
+    on_err_anyway _ _ c.in_err-first.ensures.leaves
 
 pub returns-in-Pair-clause-leaves : goal.returns-in-Pair-clause-leaves
 returns-in-Pair-clause-leaves g c = let o = g.O.Oracle in

@@ -11,9 +11,10 @@ use Rattle.trade_off.specs.Next.{IsNextPair, IsSoFar, stop_of}
 use Rattle.trade_off.proofs.AskLemmas.{asked_none, asked_then}
 use Rattle.trade_off.proofs.NextLemmas.{attained_within}
 use Rattle.trade_off.proofs.FrontLemmas.{first_so_far, next_so_far, right_whole, right_stopped, stopped_behind, next_is}
-use Rattle.refute_log.proofs.StepLemmas.{on_err_always, leaves_same}
+use Rattle.refute_log.proofs.StepLemmas.{leaves_same}
 use Rattle.trade_off.proofs.LeftLemmas.{asked_here, asked_later}
 use Rattle.trade_off.proofs.collecting.further_pairs.Goals as goal
+use Rattle.outside_io.proofs.Results.{on_err_anyway}
 
 pub loop-limit-init : goal.loop-limit-init
 loop-limit-init g c = let o = g.O.Oracle in
@@ -108,13 +109,13 @@ returns-clause-lines g c = c.loop-limit.invariant.lines
 
 pub returns-in_err-push-clause-leaves : goal.returns-in_err-push-clause-leaves
 returns-in_err-push-clause-leaves g c = let o = g.O.Oracle in
-    on_err_always _ _ (leaves_same (o.knows c.args.oracle.now) (o.log c.args.oracle.now) (g.met.O.Oracle.derives c.args.oracle.now) (g.met.O.Oracle.one_reading c.args.oracle.now))
+    on_err_anyway _ _ (leaves_same (o.knows c.args.oracle.now) (o.log c.args.oracle.now) (g.met.O.Oracle.derives c.args.oracle.now) (g.met.O.Oracle.one_reading c.args.oracle.now))
 
 pub returns-in_err-n-clause-leaves : goal.returns-in_err-n-clause-leaves
 returns-in_err-n-clause-leaves g c = let o = g.O.Oracle in
-    on_err_always _ _ (asked_later o.knows o.log o.learnt c.args.oracle.now c.loop-limit.oracle c.next_pair.new.oracle (o.task c.args.oracle.now) None c.loop-limit.invariant.lines c.in_err-n.ensures.leaves)
+    on_err_anyway _ _ (asked_later o.knows o.log o.learnt c.args.oracle.now c.loop-limit.oracle c.next_pair.new.oracle (o.task c.args.oracle.now) None c.loop-limit.invariant.lines c.in_err-n.ensures.leaves)
 
 pub returns-in_err-push-in-Pair-clause-leaves : goal.returns-in_err-push-in-Pair-clause-leaves
 returns-in_err-push-in-Pair-clause-leaves g c = let o = g.O.Oracle in
-    on_err_always _ _ (asked_later o.knows o.log o.learnt c.args.oracle.now c.loop-limit.oracle c.next_pair.new.oracle (o.task c.args.oracle.now) None c.loop-limit.invariant.lines
+    on_err_anyway _ _ (asked_later o.knows o.log o.learnt c.args.oracle.now c.loop-limit.oracle c.next_pair.new.oracle (o.task c.args.oracle.now) None c.loop-limit.invariant.lines
     (asked_here o.knows o.log o.learnt c.loop-limit.oracle c.next_pair.new.oracle (o.task c.loop-limit.oracle) (stop_of c.in_ok-n.field-0) c.in_ok-n.ensures.lines (g.met.O.Oracle.derives c.next_pair.new.oracle) (g.met.O.Oracle.one_reading c.next_pair.new.oracle)))

@@ -8,11 +8,12 @@ use Rattle.lex_search.specs.Task.{Task, IsLawful, greatest_of}
 use Rattle.refute_log.specs.Steps.{Continues}
 use Rattle.trade_off.specs.Least.{AreAsked}
 use Rattle.trade_off.specs.Next.{IsNext, stop_of}
-use Rattle.refute_log.proofs.StepLemmas.{known_after, on_err_always, on_err_weaker, leaves_same}
+use Rattle.refute_log.proofs.StepLemmas.{known_after, on_err_weaker, leaves_same}
 use Rattle.trade_off.proofs.AskLemmas.{asked_then, asks_found, asks_refuted, asks_stopped, refuted_none, laws_back}
 use Rattle.trade_off.proofs.NextLemmas.{under_within, under_once, none_from, found_fact}
 use Rattle.trade_off.proofs.LeftLemmas.{replied_later}
 use Rattle.trade_off.proofs.collecting.next_pair.Goals as goal
+use Rattle.outside_io.proofs.Results.{on_err_anyway}
 
 pub ask-requires-clause-there : goal.ask-requires-clause-there
 ask-requires-clause-there g c = let o = g.O.Oracle in
@@ -94,11 +95,11 @@ returns-in-Found-clause-lines g c = let o = g.O.Oracle in
 
 pub returns-in_err-bounds-clause-leaves : goal.returns-in_err-bounds-clause-leaves
 returns-in_err-bounds-clause-leaves g c = let o = g.O.Oracle in
-    on_err_always _ _ (leaves_same (o.knows c.args.oracle.now) (o.log c.args.oracle.now) (g.met.O.Oracle.derives c.args.oracle.now) (g.met.O.Oracle.one_reading c.args.oracle.now))
+    on_err_anyway _ _ (leaves_same (o.knows c.args.oracle.now) (o.log c.args.oracle.now) (g.met.O.Oracle.derives c.args.oracle.now) (g.met.O.Oracle.one_reading c.args.oracle.now))
 
 pub returns-in_err-first-clause-leaves : goal.returns-in_err-first-clause-leaves
 returns-in_err-first-clause-leaves g c = let o = g.O.Oracle in
-    on_err_always _ _ c.in_err-first.ensures.leaves
+    on_err_anyway _ _ c.in_err-first.ensures.leaves
 
 pub returns-in-Found-clause-leaves : goal.returns-in-Found-clause-leaves
 returns-in-Found-clause-leaves g c = let o = g.O.Oracle in

@@ -11,9 +11,10 @@ use Rattle.trade_off.specs.Least.{AreAsked}
 use Rattle.trade_off.specs.Next.{IsNext, IsSecondOf, stop_of}
 use Rattle.trade_off.proofs.AskLemmas.{asked_then}
 use Rattle.trade_off.proofs.NextLemmas.{under_within, under_beside, next_from}
-use Rattle.refute_log.proofs.StepLemmas.{on_err_always, on_err_weaker, leaves_same}
+use Rattle.refute_log.proofs.StepLemmas.{on_err_weaker, leaves_same}
 use Rattle.trade_off.proofs.LeftLemmas.{asked_later}
 use Rattle.trade_off.proofs.collecting.pair_from.Goals as goal
+use Rattle.outside_io.proofs.Results.{on_err_anyway}
 
 pub lower-requires-clause-held : goal.lower-requires-clause-held
 lower-requires-clause-held g c = let o = g.O.Oracle in
@@ -63,11 +64,11 @@ returns-clause-next g c = let o = g.O.Oracle in
 
 pub returns-in_err-held-clause-leaves : goal.returns-in_err-held-clause-leaves
 returns-in_err-held-clause-leaves g c = let o = g.O.Oracle in
-    on_err_always _ _ (leaves_same (o.knows c.args.oracle.now) (o.log c.args.oracle.now) (g.met.O.Oracle.derives c.args.oracle.now) (g.met.O.Oracle.one_reading c.args.oracle.now))
+    on_err_anyway _ _ (leaves_same (o.knows c.args.oracle.now) (o.log c.args.oracle.now) (g.met.O.Oracle.derives c.args.oracle.now) (g.met.O.Oracle.one_reading c.args.oracle.now))
 
 pub returns-in_err-lowered-clause-leaves : goal.returns-in_err-lowered-clause-leaves
 returns-in_err-lowered-clause-leaves g c = let o = g.O.Oracle in
-    on_err_always _ _ c.in_err-lowered.ensures.leaves
+    on_err_anyway _ _ c.in_err-lowered.ensures.leaves
 
 pub returns-clause-leaves : goal.returns-clause-leaves
 returns-clause-leaves g c = let o = g.O.Oracle in

@@ -7,8 +7,9 @@ use Rattle.lex_search.specs.State.{hold}
 use Rattle.refute_log.specs.Steps.{Continues}
 use Rattle.trade_off.specs.Least.{AreAsked}
 use Rattle.trade_off.proofs.NextLemmas.{hold_within, hold_beside, hold_meets, second_there}
-use Rattle.refute_log.proofs.StepLemmas.{on_err_always, leaves_same}
+use Rattle.refute_log.proofs.StepLemmas.{leaves_same}
 use Rattle.trade_off.proofs.collecting.second_from.Goals as goal
+use Rattle.outside_io.proofs.Results.{on_err_anyway}
 
 pub lower-requires-clause-held : goal.lower-requires-clause-held
 lower-requires-clause-held g c = let o = g.O.Oracle in
@@ -37,8 +38,8 @@ returns-clause-next g c = let o = g.O.Oracle in
 
 pub returns-in_err-held-clause-leaves : goal.returns-in_err-held-clause-leaves
 returns-in_err-held-clause-leaves g c = let o = g.O.Oracle in
-    on_err_always _ _ (leaves_same (o.knows c.args.oracle.now) (o.log c.args.oracle.now) (g.met.O.Oracle.derives c.args.oracle.now) (g.met.O.Oracle.one_reading c.args.oracle.now))
+    on_err_anyway _ _ (leaves_same (o.knows c.args.oracle.now) (o.log c.args.oracle.now) (g.met.O.Oracle.derives c.args.oracle.now) (g.met.O.Oracle.one_reading c.args.oracle.now))
 
 pub returns-in_err-lowered-clause-leaves : goal.returns-in_err-lowered-clause-leaves
 returns-in_err-lowered-clause-leaves g c = let o = g.O.Oracle in
-    on_err_always _ _ c.in_err-lowered.ensures.leaves
+    on_err_anyway _ _ c.in_err-lowered.ensures.leaves

@@ -5,10 +5,11 @@ use Rattle.plan_core.proofs.LimitLemmas.{value-le-limit}
 use Rattle.lex_search.specs.Task.{greatest_of}
 use Rattle.lex_search.specs.Asked.{IsReply}
 use Rattle.lex_search.proofs.RunLemmas.{built_all, found_less, found_lawful}
-use Rattle.refute_log.proofs.StepLemmas.{known_after, on_err_always}
+use Rattle.refute_log.proofs.StepLemmas.{known_after}
 use Rattle.trade_off.proofs.AskLemmas.{refuted_none, least_from, least_zero, found_meets, once_with, asked_none, asked_then, asks_found, asks_refuted, asks_stopped, laws_back}
 use Rattle.trade_off.proofs.LeftLemmas.{asked_here, asked_later}
 use Rattle.trade_off.proofs.lowering.lower.Goals as goal
+use Rattle.outside_io.proofs.Results.{on_err_anyway}
 
 pub loop-value-init : goal.loop-value-init
 loop-value-init g c = let o = g.O.Oracle in
@@ -123,8 +124,8 @@ returns-clause-lines g c = c.loop-value.invariant.lines
 
 pub returns-in_err-bounds-clause-leaves : goal.returns-in_err-bounds-clause-leaves
 returns-in_err-bounds-clause-leaves g c = let o = g.O.Oracle in
-    on_err_always _ _ (asked_here o.knows o.log o.learnt c.args.oracle.now c.loop-value.oracle (o.task c.args.oracle.now) None c.loop-value.invariant.lines (g.met.O.Oracle.derives c.loop-value.oracle) (g.met.O.Oracle.one_reading c.loop-value.oracle))
+    on_err_anyway _ _ (asked_here o.knows o.log o.learnt c.args.oracle.now c.loop-value.oracle (o.task c.args.oracle.now) None c.loop-value.invariant.lines (g.met.O.Oracle.derives c.loop-value.oracle) (g.met.O.Oracle.one_reading c.loop-value.oracle))
 
 pub returns-in_err-d-clause-leaves : goal.returns-in_err-d-clause-leaves
 returns-in_err-d-clause-leaves g c = let o = g.O.Oracle in
-    on_err_always _ _ (asked_later o.knows o.log o.learnt c.args.oracle.now c.loop-value.oracle c.ask.new.self (o.task c.args.oracle.now) None c.loop-value.invariant.lines c.in_err-d.ensures.leaves)
+    on_err_anyway _ _ (asked_later o.knows o.log o.learnt c.args.oracle.now c.loop-value.oracle c.ask.new.self (o.task c.args.oracle.now) None c.loop-value.invariant.lines c.in_err-d.ensures.leaves)

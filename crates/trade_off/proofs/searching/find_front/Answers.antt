@@ -7,11 +7,12 @@ use Rattle.refute_log.specs.Steps.{ToldBehind, Continues}
 use Rattle.trade_off.specs.Front.{IsFrontUpTo}
 use Rattle.trade_off.specs.Least.{AreAsked}
 use Rattle.trade_off.specs.Outcome.{IsRightFront, IsFrontLog, IsBuiltFront, stop_behind}
-use Rattle.refute_log.proofs.StepLemmas.{known_after, on_err_always, on_err_weaker}
+use Rattle.refute_log.proofs.StepLemmas.{known_after, on_err_weaker}
 use Rattle.trade_off.proofs.FrontLemmas.{up_to_none}
 use Rattle.trade_off.proofs.TellLemmas.{laws_at, tells_no_room, tells_front}
 use Rattle.trade_off.proofs.LeftLemmas.{build_left, collect_left}
 use Rattle.trade_off.proofs.searching.find_front.Goals as goal
+use Rattle.outside_io.proofs.Results.{on_err_anyway}
 
 pub returns-in-NoRoom-clause-right : goal.returns-in-NoRoom-clause-right
 returns-in-NoRoom-clause-right g c = let o = g.O.Oracle in
@@ -63,7 +64,7 @@ returns-in-Whole-clause-lines g c = let o = g.O.Oracle in
 pub returns-in_err-build_both-clause-left : goal.returns-in_err-build_both-clause-left
 returns-in_err-build_both-clause-left g c = let o = g.O.Oracle in
     let s = c.args.oracle.now in
-    on_err_always _ _ (build_left o.knows o.log s c.build_both.new.oracle (o.task s) c.args.a c.args.b (o.vars s) c.requires.fresh.vars_are c.requires.start c.in_err-build_both.ensures.leaves)
+    on_err_anyway _ _ (build_left o.knows o.log s c.build_both.new.oracle (o.task s) c.args.a c.args.b (o.vars s) c.requires.fresh.vars_are c.requires.start c.in_err-build_both.ensures.leaves)
 
 pub returns-in-Whole-clause-left : goal.returns-in-Whole-clause-left
 returns-in-Whole-clause-left g c = let o = g.O.Oracle in

@@ -9,14 +9,15 @@ use Rattle.refute_log.specs.Steps.{Continues, StillDerives}
 use Rattle.certified_values.specs.Cause.{IsCause}
 use Rattle.why_search.specs.Asked.{ArePlaces, IsRightReply, NoneMeets, TellsReply}
 use Rattle.why_search.specs.Outcome.{IsRightOutcome, TellsOutcome}
-use Rattle.refute_log.proofs.StepLemmas.{AnyLines, goes_on, becomes, derives_same, derives_later, on_err_always, on_err_weaker}
+use Rattle.refute_log.proofs.StepLemmas.{AnyLines, goes_on, becomes, derives_same, derives_later, on_err_weaker}
 use Rattle.why_search.proofs.NarrowLemmas.{first_refuted}
 use Rattle.why_search.proofs.OutcomeLemmas.{all_places_are, found_all}
 use Rattle.why_search.proofs.explaining.find_laws.Goals as goal
+use Rattle.outside_io.proofs.Results.{on_err_anyway}
 
 pub returns-in_err-all-clause-derives : goal.returns-in_err-all-clause-derives
 returns-in_err-all-clause-derives g c = let o = g.O.LawOracle in
-    on_err_always _ _ (derives_same o.knows o.log c.args.oracle.now (g.met.O.LawOracle.derives c.args.oracle.now) (g.met.O.LawOracle.one_reading c.args.oracle.now))
+    on_err_anyway _ _ (derives_same o.knows o.log c.args.oracle.now (g.met.O.LawOracle.derives c.args.oracle.now) (g.met.O.LawOracle.one_reading c.args.oracle.now))
 
 pub ask-requires-clause-places : goal.ask-requires-clause-places
 ask-requires-clause-places g c = let o = g.O.LawOracle in
@@ -24,7 +25,7 @@ ask-requires-clause-places g c = let o = g.O.LawOracle in
     subst (λ (w : List ℕ). ArePlaces p w) (sym (c.deref.ensures.value ∙ c.in_ok-all.ensures ∙ ap countdown c.laws.ensures)) (all_places_are p)
 
 pub returns-in_err-d-clause-derives : goal.returns-in_err-d-clause-derives
-returns-in_err-d-clause-derives g c = on_err_always _ _ c.in_err-d.ensures.derives
+returns-in_err-d-clause-derives g c = on_err_anyway _ _ c.in_err-d.ensures.derives
 
 pub returns-in-Found-clause-right : goal.returns-in-Found-clause-right
 returns-in-Found-clause-right g c = let o = g.O.LawOracle in

@@ -9,10 +9,11 @@ use Rattle.why_search.specs.Narrowed.{IsNarrowed}
 use Rattle.certified_values.specs.Cause.{IsCause}
 use Rattle.why_search.specs.Asked.{TellsStop}
 use Rattle.why_search.specs.Outcome.{IsRightOutcome, TellsOutcome}
-use Rattle.refute_log.proofs.StepLemmas.{AnyLines, stays, goes_on, becomes, derives_later, on_err_always}
+use Rattle.refute_log.proofs.StepLemmas.{AnyLines, stays, goes_on, becomes, derives_later}
 use Rattle.why_search.proofs.NarrowLemmas.{narrow_none, nothing_left}
 use Rattle.why_search.proofs.OutcomeLemmas.{narrowed_explains, narrowed_without}
 use Rattle.why_search.proofs.narrowing.narrow.Goals as goal
+use Rattle.outside_io.proofs.Results.{on_err_anyway}
 
 pub loop-law-init : goal.loop-law-init
 loop-law-init g c = let o = g.O.LawOracle in
@@ -61,7 +62,7 @@ loop-law-preserved g c = let o = g.O.LawOracle in
 
 pub returns-in_err-stop-clause-derives : goal.returns-in_err-stop-clause-derives
 returns-in_err-stop-clause-derives g c = let o = g.O.LawOracle in
-    on_err_always _ _ (derives_later o.knows o.log o.learnt c.args.oracle.now c.loop-law.oracle c.take_away.new.oracle AnyLines c.loop-law.invariant.lines c.in_err-stop.ensures.derives)
+    on_err_anyway _ _ (derives_later o.knows o.log o.learnt c.args.oracle.now c.loop-law.oracle c.take_away.new.oracle AnyLines c.loop-law.invariant.lines c.in_err-stop.ensures.derives)
 
 pub returns-in-Some-2-clause-lines : goal.returns-in-Some-2-clause-lines
 returns-in-Some-2-clause-lines g c = let o = g.O.LawOracle in

@@ -3,13 +3,14 @@ use Rattle.why_search.specs.declared.oracle.Reply.{Reply}
 use Rattle.why_search.specs.Narrowed.{has_number}
 use Rattle.certified_values.specs.Cause.{IsCause}
 use Rattle.why_search.specs.Asked.{ArePlaces, TellsReply}
-use Rattle.refute_log.proofs.StepLemmas.{AnyLines, becomes, derives_here, derives_same, on_err_always}
+use Rattle.refute_log.proofs.StepLemmas.{AnyLines, becomes, derives_here, derives_same}
 use Rattle.why_search.proofs.NarrowLemmas.{narrow_asked, found_narrowed, refuted_narrowed, filter_shorter}
 use Rattle.why_search.proofs.narrowing.take_away.Goals as goal
+use Rattle.outside_io.proofs.Results.{on_err_anyway}
 
 pub returns-in_err-wanted-clause-derives : goal.returns-in_err-wanted-clause-derives
 returns-in_err-wanted-clause-derives g c = let o = g.O.LawOracle in
-    on_err_always _ _ (derives_same o.knows o.log c.args.oracle.now (g.met.O.LawOracle.derives c.args.oracle.now) (g.met.O.LawOracle.one_reading c.args.oracle.now))
+    on_err_anyway _ _ (derives_same o.knows o.log c.args.oracle.now (g.met.O.LawOracle.derives c.args.oracle.now) (g.met.O.LawOracle.one_reading c.args.oracle.now))
 
 pub ask-requires-clause-places : goal.ask-requires-clause-places
 ask-requires-clause-places g c = let o = g.O.LawOracle in
@@ -18,18 +19,18 @@ ask-requires-clause-places g c = let o = g.O.LawOracle in
     (narrow_asked (o.task c.args.oracle.now) c.args.progress.now.kept.items c.args.progress.now.left.items c.args.law c.args.progress.now.without.items c.requires.narrowed)
 
 pub returns-in_err-d-clause-derives : goal.returns-in_err-d-clause-derives
-returns-in_err-d-clause-derives g c = on_err_always _ _ c.in_err-d.ensures.derives
+returns-in_err-d-clause-derives g c = on_err_anyway _ _ c.in_err-d.ensures.derives
 
 pub returns-in_err-push-in-Found-clause-derives : goal.returns-in_err-push-in-Found-clause-derives
 returns-in_err-push-in-Found-clause-derives g c = let o = g.O.LawOracle in
     let p = o.task c.args.oracle.now in
-    on_err_always _ _ (derives_here o.knows o.log o.learnt c.args.oracle.now c.ask.new.self (λ lines more. TellsReply p c.in_ok-d.field-0 (lines ++ more)) c.in_ok-d.ensures.lines
+    on_err_anyway _ _ (derives_here o.knows o.log o.learnt c.args.oracle.now c.ask.new.self (λ lines more. TellsReply p c.in_ok-d.field-0 (lines ++ more)) c.in_ok-d.ensures.lines
     (g.met.O.LawOracle.derives c.ask.new.self) (g.met.O.LawOracle.one_reading c.ask.new.self))
 
 pub returns-in_err-push-in-Found-2-clause-derives : goal.returns-in_err-push-in-Found-2-clause-derives
 returns-in_err-push-in-Found-2-clause-derives g c = let o = g.O.LawOracle in
     let p = o.task c.args.oracle.now in
-    on_err_always _ _ (derives_here o.knows o.log o.learnt c.args.oracle.now c.ask.new.self (λ lines more. TellsReply p c.in_ok-d.field-0 (lines ++ more)) c.in_ok-d.ensures.lines
+    on_err_anyway _ _ (derives_here o.knows o.log o.learnt c.args.oracle.now c.ask.new.self (λ lines more. TellsReply p c.in_ok-d.field-0 (lines ++ more)) c.in_ok-d.ensures.lines
     (g.met.O.LawOracle.derives c.ask.new.self) (g.met.O.LawOracle.one_reading c.ask.new.self))
 
 pub returns-in-Found-clause-narrowed : goal.returns-in-Found-clause-narrowed
