@@ -10,3 +10,4 @@ pub mod EdgeLemmas
 pub mod ExactLemmas
 pub mod FileLemmas
 pub mod WritingLemmas
+pub mod AlongLemmas

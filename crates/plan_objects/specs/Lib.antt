@@ -6,3 +6,4 @@ pub mod Faults
 pub mod Answers
 pub mod Telling
 pub mod SignalsText
+pub mod Along

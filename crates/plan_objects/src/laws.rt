@@ -16,7 +16,10 @@ ghost use Rattle.plan_objects.specs.Answers.{AreOfOneFile};
 ghost use Rattle.plan_objects.specs.declared.places.TheConstants.{MAX_SIGNALS, SIGNALS_OF_AN_EDGE};
 ghost use Rattle.plan_objects.specs.declared.places.SignalPlace.{SignalPlace as APlace};
 ghost use Rattle.plan_objects.specs.Places.{edge_at, need_of};
+ghost use Rattle.plan_objects.specs.Rows.{Station as AStation, IsPlaceOf};
+ghost use Rattle.plan_objects.specs.Along.{IsAlong, LiesOnItsEdge};
 ghost use Rattle.plan_objects.specs.Spread.{HasRoomFor};
+ghost use Rattle.port_graph.specs.TopologyGraph.{IsStationGraphOf};
 
 /// A lawful drawing on a grid of which each edge goes over as many columns as its signals need has room for each
 /// signal.
@@ -31,6 +34,14 @@ pub fn read_from_one_file()
     ensures { (bytes : List ℕ) (rows : List AnElem) (t : ATopology) (signals : List ASignal) →
         GivesRows bytes rows → AreFormed rows → ResolvesTo rows t → IsResolved t → GivesSignals bytes signals →
         AreRising signals → AreOfOneFile rows t signals }
+{}
+
+/// Mileages rise or fall along a track throughout. So a signal whose mileage lies between those of the nodes to which
+/// its track's two ends lead stands between the two nodes of its edge.
+pub fn signals_lie_on_their_edges()
+    ensures { (s : AStation) (signal : ASignal) (p : APlace) → IsResolved s.topology →
+        IsStationGraphOf s.topology s.graph → (is : IsPlaceOf s signal p) →
+        IsAlong s.topology is.track p.mile.0 → LiesOnItsEdge s.graph p }
 {}
 
 /// A file has at most 512 signals, and an edge 15.

@@ -29,7 +29,9 @@ mod repeats;
 mod writing;
 
 pub use fault::{ObjectFault, SignalWhat};
-pub use laws::{lawful_drawings_have_room, read_from_one_file, signals_are_limited};
+pub use laws::{
+    lawful_drawings_have_room, read_from_one_file, signals_are_limited, signals_lie_on_their_edges,
+};
 pub use placed::Placed;
 pub use places::{MAX_SIGNALS, SIGNALS_OF_AN_EDGE, SignalPlace};
 pub use placing::objects;
