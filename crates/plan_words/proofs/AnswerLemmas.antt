@@ -1,8 +1,8 @@
 -- Words have one answer.
-use Rattle.std.proofs.Common.{◌≡◌, ◌≢◌, ℕ, zero, suc, ◌+◌, ◌^◌, ◌<◌, ◌⊎◌, inl, inr, None, Some, List, [], ◌∷◌, ◌++◌, length, refl, sym, ap, subst, ◌∙◌, length-append, arith}
-use Rattle.std.specs.Prelude.{Result, IfOk, IfErr, Option, AllPairs, Contains, if◌then◌else◌, ◌==◌}
+use Rattle.std.proofs.Common.{◌≡◌, ◌≢◌, ℕ, zero, suc, ◌+◌, ◌^◌, ◌<◌, ◌⊎◌, inl, inr, None, Some, List, [], ◌∷◌, ◌++◌, length, get_or, refl, sym, ap, subst, ◌∙◌, length-append, arith}
+use Rattle.std.specs.Prelude.{Result, IfOk, IfErr, Option, if◌then◌else◌, ◌==◌}
 use Rattle.std.proofs.Math.Seq.{get_or-append_seam}
-use Rattle.std.proofs.lemmas.List.{get_or_append_left, map-append}
+use Rattle.std.proofs.lemmas.List.{get_or_append_left}
 use Rattle.std.proofs.lemmas.Fmt.{decimal_injective}
 use Rattle.plan_core.specs.Grid.{GridSize, grid_with}
 use Rattle.plan_core.specs.declared.limits.TheConstants.{MAX_WIDTH, MAX_HEIGHT, MAX_LEAST, MAX_BUDGET}
@@ -13,7 +13,7 @@ use Rattle.plan_core.specs.declared.criterion.Criterion.{Criterion}
 use Rattle.plan_words.specs.declared.command.CommandWord.{CommandWord}
 use Rattle.plan_words.specs.declared.command.CommandWord.TheVariants as words
 use Rattle.plan_words.specs.declared.command.Command.{Command}
-use Rattle.plan_words.specs.declared.command.Command.TheVariants.{Draw, Verify, Check, Graph, Make, Trial, Signals, Front}
+use Rattle.plan_words.specs.declared.command.Command.TheVariants.{Draw, Verify, Check, Graph, Make, Trial, Signals, Front, Redraw, Explain}
 use Rattle.plan_words.specs.declared.arguments.Argument.{Argument}
 use Rattle.plan_words.specs.declared.files.FileWord.{FileWord}
 use Rattle.plan_words.specs.declared.fault.WordWhat.{WordWhat}
@@ -22,8 +22,8 @@ use Rattle.plan_words.specs.declared.fault.WordFault.{WordFault}
 use Rattle.plan_words.specs.declared.fault.WordFault.TheVariants as answers
 use Rattle.plan_words.specs.OptionValues.{IsOrderText, IsSeed}
 use Rattle.plan_words.specs.Arguments.{arguments_from, argument_names, files_in}
-use Rattle.plan_words.specs.WordFaults.{command_word, number_of, SomeHasWordFault, IsLeftmost, file_names, IsFirstRepeat, IsMissing, HasOneNameTwice, IsFaultOfArguments, IsFaultBehind, IsFaultOfWords}
-use Rattle.plan_words.specs.Words.{default_order, IsChosen, IsDrawCommand, IsFrontCommand, command_kind, HasParts, AreSoundArguments, IsCommandOf, IsWordFault}
+use Rattle.plan_words.specs.WordFaults.{command_word, number_of, SomeHasWordFault, IsLeftmost, MayBothStand, AllMayStand, HasClash, IsFirstRepeat, IsMissing, HasOneNameTwice, IsFaultOfArguments, IsFaultBehind, IsFaultOfWords}
+use Rattle.plan_words.specs.Words.{default_order, IsChosen, IsDrawCommand, IsFrontCommand, IsRedrawCommand, command_kind, HasParts, AreSoundArguments, IsCommandOf, IsWordFault, IsExplainCommand}
 use Rattle.plan_words.proofs.OrderTextLemmas.{criteria_text_injective}
 use Rattle.plan_words.proofs.FileLemmas.{values_apart}
 
@@ -31,7 +31,7 @@ use Rattle.plan_words.proofs.FileLemmas.{values_apart}
 
 abbrev command_at : List ℕ → CommandWord
 command_at [] = words.Draw
-command_at (b ∷ bytes) = if b == 118 then words.Verify else if b == 99 then words.Check else if b == 103 then words.Graph else if b == 109 then words.Make else if b == 116 then words.Trial else if b == 115 then words.Signals else if b == 102 then words.Front else words.Draw
+command_at (b ∷ bytes) = if b == 118 then words.Verify else if b == 99 then words.Check else if b == 103 then words.Graph else if b == 109 then words.Make else if b == 116 then words.Trial else if b == 115 then words.Signals else if b == 102 then words.Front else if b == 114 then words.Redraw else if b == 101 then words.Explain else words.Draw
 
 command_at-word : (command : CommandWord) → command_at (command_word command) ≡ command
 command_at-word words.Draw = refl
@@ -42,6 +42,8 @@ command_at-word words.Make = refl
 command_at-word words.Trial = refl
 command_at-word words.Signals = refl
 command_at-word words.Front = refl
+command_at-word words.Redraw = refl
+command_at-word words.Explain = refl
 
 command_word_injective : (a b : CommandWord) → command_word a ≡ command_word b → a ≡ b
 command_word_injective a b is = sym (command_at-word a) ∙ ap command_at is ∙ command_at-word b
@@ -82,26 +84,21 @@ two_cuts (w ∷ before) x after (z ∷ front) y back e =
       | inr (inr h) ↦ let begins = h.1 in inr (inr (h.0, ap (λ (vs : List FileWord). w ∷ vs) begins ∙ ap (λ (v : FileWord). v ∷ (front ++ y ∷ h.0)) same))
     ]
 
-not_again : (names : List (List ℕ)) (name : List ℕ) (rest : List (List ℕ)) → AllPairs (λ a b. a ≢ b) (names ++ name ∷ rest) → Contains names name → ⊥
-not_again names name rest apart (k, within, is) =
-    apart k (length names) name within (omega (arith, length-append names (name ∷ rest)))
-    (get_or_append_left names (name ∷ rest) name k within ∙ is ∙ sym (get_or-append_seam names name rest name))
-
-abbrev name_in : FileWord → List ℕ
-name_in file = file.name
-
-apart_has_no_repeat : (files before : List FileWord) (file : FileWord) (after : List FileWord) → files ≡ before ++ file ∷ after → AllPairs (λ a b. a ≢ b) (file_names files) → Contains (file_names before) file.name → ⊥
-apart_has_no_repeat files before file after cut apart again =
-    let P : List (List ℕ) → Type 0 = λ names. AllPairs (λ a b. a ≢ b) names in
-    let names : file_names files ≡ file_names before ++ file.name ∷ file_names after = ap file_names cut ∙ map-append name_in before (file ∷ after) in
-    not_again (file_names before) file.name (file_names after) (subst P names apart) again
+apart_has_no_repeat : (files before : List FileWord) (file : FileWord) (after : List FileWord) → files ≡ before ++ file ∷ after → AllMayStand files → HasClash before file → ⊥
+apart_has_no_repeat files before file after cut apart (other, (k, within, is), clash) =
+    let whole = before ++ file ∷ after in
+    let P : List FileWord → Type 0 = λ xs. AllMayStand xs in
+    let left : get_or whole k other ≡ other = get_or_append_left before (file ∷ after) other k within ∙ is in
+    let here : get_or whole (length before) other ≡ file = get_or-append_seam before file after other in
+    let stand : MayBothStand (get_or whole k other) (get_or whole (length before) other) = subst P cut apart k (length before) other within (omega (arith, length-append before (file ∷ after))) in
+    subst (λ (f : FileWord). MayBothStand other f) here (subst (λ (e : FileWord). MayBothStand e (get_or whole (length before) other)) left stand) clash
 
 first_repeat_same : (files : List FileWord) (p q : ℕ) → IsFirstRepeat files p → IsFirstRepeat files q → p ≡ q
 first_repeat_same files p q x y =
     elim (two_cuts x.before x.file x.after y.before y.file y.after (sym x.cut ∙ y.cut)) [
       | inl h ↦ let same = h.1 in x.place ∙ ap (λ (f : FileWord). f.position) same ∙ sym y.place
-      | inr (inl h) ↦ absurd (apart_has_no_repeat y.before x.before x.file h.0 h.1 y.distinct x.again)
-      | inr (inr h) ↦ absurd (apart_has_no_repeat x.before y.before y.file h.0 h.1 x.distinct y.again)
+      | inr (inl h) ↦ absurd (apart_has_no_repeat y.before x.before x.file h.0 h.1 y.apart x.again)
+      | inr (inr h) ↦ absurd (apart_has_no_repeat x.before y.before y.file h.0 h.1 x.apart y.again)
     ]
 
 -- ---- one fault
@@ -163,7 +160,7 @@ sound_or_fault command arguments end what position sound (inl x) = sound.sound w
 sound_or_fault command arguments end what position sound (inr (inl x)) = let few = x.1.few in let enough = sound.enough in omega (arith, few, enough)
 sound_or_fault command arguments end what position sound (inr (inr x)) =
     let repeat = x.1.repeat in
-    apart_has_no_repeat (files_in arguments) repeat.before repeat.file repeat.after repeat.cut (sound.apart x.1.writes) repeat.again
+    apart_has_no_repeat (files_in arguments) repeat.before repeat.file repeat.after repeat.cut sound.apart repeat.again
 
 fault_of_command : (command : CommandWord) (rest : List (List ℕ)) (what : WordWhat) (position : ℕ) → AreSoundArguments command (arguments_from 2 rest) → IsFaultOfWords (command_word command ∷ rest) what position → ⊥
 fault_of_command command rest what position sound (inl x) = x.none command refl
@@ -229,6 +226,32 @@ same_front arguments i j a b d e g h n m x y =
     let budget : n ≡ m = chosen_number _ 1 MAX_BUDGET 50000 n m (omega arith) x.conflicts y.conflicts in
     cc
 
+same_redraw : (arguments : List Argument) (i j f e s t : List ℕ) (g h : GridSize) (n m : ℕ) (l k : Option (List ℕ)) →
+    IsRedrawCommand arguments i f s g n l → IsRedrawCommand arguments j e t h m k → Redraw i f s g n l ≡ Redraw j e t h m k
+same_redraw arguments i j f e s t g h n m l k x y =
+    let names : i ∷ f ∷ s ∷ [] ≡ j ∷ e ∷ t ∷ [] = sym x.names ∙ y.names in
+    let input : i ≡ j = cc in
+    let former : f ≡ e = cc in
+    let sheet : s ≡ t = cc in
+    let width = chosen_number _ 1 MAX_WIDTH 40 g.width h.width (omega arith) x.width y.width in
+    let height = chosen_number _ 0 MAX_HEIGHT 8 g.height h.height (omega arith) x.height y.height in
+    let least = chosen_number _ 1 MAX_LEAST 1 g.least h.least (omega arith) x.least y.least in
+    let grid : grid_with g.width g.height g.least ≡ grid_with h.width h.height h.least = cc in
+    let budget : n ≡ m = chosen_number _ 1 MAX_BUDGET 50000 n m (omega arith) x.conflicts y.conflicts in
+    let log : l ≡ k = x.log_name ∙ sym y.log_name in
+    cc
+
+same_explain : (arguments : List Argument) (i j : List ℕ) (g h : GridSize) (n m : ℕ) → IsExplainCommand arguments i g n → IsExplainCommand arguments j h m → Explain i g n ≡ Explain j h m
+same_explain arguments i j g h n m x y =
+    let names : i ∷ [] ≡ j ∷ [] = sym x.names ∙ y.names in
+    let input : i ≡ j = cc in
+    let width = chosen_number _ 1 MAX_WIDTH 40 g.width h.width (omega arith) x.width y.width in
+    let height = chosen_number _ 0 MAX_HEIGHT 8 g.height h.height (omega arith) x.height y.height in
+    let least = chosen_number _ 1 MAX_LEAST 1 g.least h.least (omega arith) x.least y.least in
+    let grid : grid_with g.width g.height g.least ≡ grid_with h.width h.height h.least = cc in
+    let budget : n ≡ m = chosen_number _ 1 MAX_BUDGET 50000 n m (omega arith) x.conflicts y.conflicts in
+    cc
+
 same_parts : (arguments : List Argument) (a b : Command) → command_kind a ≡ command_kind b → HasParts arguments a → HasParts arguments b → a ≡ b
 same_parts arguments (Draw i g o n s l) (Draw j h r m t k) word x y = same_drawing arguments i j g h o r n m s t l k x y
 same_parts arguments (Verify i s) (Verify j t) word x y = let names : i ∷ s ∷ [] ≡ j ∷ t ∷ [] = sym x ∙ y in cc
@@ -240,6 +263,8 @@ same_parts arguments (Signals i g o n l) (Signals j h r m k) word x y =
     let same : Draw i g o n None l ≡ Draw j h r m None k = same_drawing arguments i j g h o r n m None None l k x y in
     cc
 same_parts arguments (Front i a b g n) (Front j d e h m) word x y = same_front arguments i j a b d e g h n m x y
+same_parts arguments (Redraw i f s g n l) (Redraw j e t h m k) word x y = same_redraw arguments i j f e s t g h n m l k x y
+same_parts arguments (Explain i g n) (Explain j h m) word x y = same_explain arguments i j g h n m x y
 same_parts arguments a b word x y = cc word
 
 pub command_same : (list : List (List ℕ)) (a b : Command) → IsCommandOf list a → IsCommandOf list b → a ≡ b
@@ -272,4 +297,4 @@ words_exactly list answer command fault = answers_exactly answer answers.Memory 
 pub outputs_apart : (list : List (List ℕ)) (input : List ℕ) (grid : GridSize) (order : List Criterion) (budget : ℕ) (svg log : Option (List ℕ)) (picture name : List ℕ) →
     IsCommandOf list (Draw input grid order budget svg log) → svg ≡ Some picture → log ≡ Some name → picture ≢ name
 outputs_apart list input grid order budget svg log picture name x is_picture is_log =
-    values_apart (arguments_from 2 x.rest) picture name (sym x.parts.svg_name ∙ is_picture) (sym x.parts.log_name ∙ is_log) (x.sound.apart tt)
+    values_apart (arguments_from 2 x.rest) picture name (sym x.parts.svg_name ∙ is_picture) (sym x.parts.log_name ∙ is_log) x.sound.apart

@@ -11,7 +11,7 @@ use Rattle.std.proofs.lemmas.Map.Keys.{IsDistinct-from_apart}
 use Rattle.std.proofs.lemmas.Map.Steps.{length-le_from_distinct_below}
 use Rattle.std.specs.List.{list_any}
 use Rattle.plan_words.specs.declared.command.CommandWord.{CommandWord}
-use Rattle.plan_words.specs.declared.command.CommandWord.TheVariants.{Draw, Verify, Check, Graph, Make, Trial, Signals, Front}
+use Rattle.plan_words.specs.declared.command.CommandWord.TheVariants.{Draw, Verify, Check, Graph, Make, Trial, Signals, Front, Redraw, Explain}
 use Rattle.plan_words.specs.declared.option_values.OptionWord.{OptionWord}
 use Rattle.plan_words.specs.declared.option_values.OptionWord.TheVariants.{Width, Height, Least, Criteria, Conflicts, Svg, Log}
 use Rattle.plan_words.specs.declared.arguments.Argument.{Argument}
@@ -122,6 +122,8 @@ known_option Make word h = absurd h
 known_option Trial word h = absurd h
 known_option Signals word h = (h.0, h.1)
 known_option Front word h = (h.0, h.1)
+known_option Redraw word h = (h.0, h.1)
+known_option Explain word h = (h.0, h.1)
 
 options_push : (command : CommandWord) (before : List Argument) (argument : Argument) → AreOptions (options_in before) → IsSoundBehind command before argument → AreOptions (options_in (before ++ argument ∷ []))
 options_push command before (Name at name) are sound = subst AreOptions (sym (options_in-push before (Name at name) ∙ append-nil (options_in before))) are
@@ -155,6 +157,8 @@ name_count_small Make = omega arith
 name_count_small Trial = omega arith
 name_count_small Signals = omega arith
 name_count_small Front = omega arith
+name_count_small Redraw = omega arith
+name_count_small Explain = omega arith
 
 pub few_arguments : (command : CommandWord) (arguments : List Argument) → SoundFrom command [] arguments → length arguments ≤ 10
 few_arguments command arguments sound =

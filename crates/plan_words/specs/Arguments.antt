@@ -1,6 +1,6 @@
 -- The words behind the command, from left to right: names, and options with their values.
-use Rattle.std.specs.Prelude.{ℕ, ◌+◌, Bool, if◌then◌else◌, ◌||◌, Option, None, Some, List, [], ◌∷◌, codes, map}
-use Rattle.std.specs.Prelude.{flat_map, nat_eq, bytes_eq, string_bytes}
+use Rattle.std.specs.Prelude.{ℕ, ◌+◌, Bool, true, false, if◌then◌else◌, ◌||◌, Option, None, Some, List, [], ◌∷◌, codes}
+use Rattle.std.specs.Prelude.{map, flat_map, nat_eq, bytes_eq, string_bytes}
 use Rattle.std.specs.List.{starts_with}
 use Rattle.std.specs.declared.string.String.{String}
 use Rattle.std.specs.declared.alloc.Global.{Global}
@@ -60,14 +60,18 @@ option_value option (Setting at word value ∷ arguments) =
 abbrev pub takes_file : List ℕ → Bool
 takes_file option = bytes_eq option (option_word Svg) || bytes_eq option (option_word Log)
 
-abbrev pub file_word : ℕ → List ℕ → FileWord
-file_word position name = record { position = position; name = name }
+abbrev pub read_word : ℕ → List ℕ → FileWord
+read_word position name = record { position = position; name = name; written = false }
+
+abbrev pub written_word : ℕ → List ℕ → FileWord
+written_word position name = record { position = position; name = name; written = true }
 
 abbrev pub file_of : Argument → List FileWord
-file_of (Name at word) = file_word at word ∷ []
+file_of (Name at word) = read_word at word ∷ []
 file_of (Setting at word None) = []
-file_of (Setting at word (Some value)) = if takes_file word then file_word (at + 1) value ∷ [] else []
+file_of (Setting at word (Some value)) = if takes_file word then written_word (at + 1) value ∷ [] else []
 
--- the words that name files: the names, and the values of `--svg` and `--log`
+-- the words that name files: the names, of which a command reads the files, and the values of `--svg` and `--log`, of
+-- which it writes them
 abbrev pub files_in : List Argument → List FileWord
 files_in arguments = flat_map file_of arguments

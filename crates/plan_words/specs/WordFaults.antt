@@ -1,10 +1,10 @@
 -- What can be wrong with the words of a command line, and which fault counts.
 use Rattle.std.specs.Prelude.{◌≡◌, ◌≢◌, ◌≤◌, ◌<◌, ◌⊎◌, ℕ, zero, suc, ◌+◌}
-use Rattle.std.specs.Prelude.{None, Some, List, [], ◌∷◌, ◌++◌, codes, length, map}
+use Rattle.std.specs.Prelude.{true, None, Some, List, [], ◌∷◌, ◌++◌, codes, length}
 use Rattle.std.specs.Prelude.{Contains, AllPairs, ⊤}
 use Rattle.plan_words.specs.declared.command.CommandWord.{CommandWord}
 use Rattle.plan_words.specs.declared.command.CommandWord.TheVariants.{Draw, Verify, Check, Graph, Make, Trial, Signals}
-use Rattle.plan_words.specs.declared.command.CommandWord.TheVariants.{Front}
+use Rattle.plan_words.specs.declared.command.CommandWord.TheVariants.{Front, Redraw, Explain}
 use Rattle.plan_words.specs.declared.option_values.OptionWord.{OptionWord}
 use Rattle.plan_words.specs.declared.option_values.OptionWord.TheVariants.{Width, Height, Least, Criteria, Conflicts}
 use Rattle.plan_words.specs.declared.option_values.OptionWord.TheVariants.{Svg, Log}
@@ -27,6 +27,8 @@ command_word Make = codes "make"
 command_word Trial = codes "trial"
 command_word Signals = codes "signals"
 command_word Front = codes "front"
+command_word Redraw = codes "redraw"
+command_word Explain = codes "explain"
 
 -- the numbers of the table of faults, and their words
 abbrev pub number_of : WordWhat → ℕ
@@ -57,6 +59,8 @@ name_count Make = 1
 name_count Trial = 1
 name_count Signals = 1
 name_count Front = 2
+name_count Redraw = 3
+name_count Explain = 1
 
 -- the command takes this name behind so many others: the number of `make` and of `trial`, the two criteria of `front`
 -- behind its file, and any other that isn't empty
@@ -70,6 +74,8 @@ TakesName Trial place name = (n : ℕ) × IsSeed name n
 TakesName Signals place name = name ≢ []
 TakesName Front zero name = name ≢ []
 TakesName Front (suc place) name = (first : Criterion) × (second : Criterion) × IsPairText name first second
+TakesName Redraw place name = name ≢ []
+TakesName Explain place name = name ≢ []
 
 -- the options of `signals`: it has no `--least`, since the signals give it, and no `--svg`, since it writes no picture
 abbrev pub IsSignalsOption : OptionWord → Type 0
@@ -81,7 +87,8 @@ IsSignalsOption Conflicts = ⊤
 IsSignalsOption Svg = ⊥
 IsSignalsOption Log = ⊤
 
--- the options of `front`: it has no `--order`, since its two criteria are named, and it writes no file
+-- the options of `front` and of `explain`: no `--order`, since `front` names its two criteria and `explain` has none,
+-- and they write no file
 abbrev pub IsFrontOption : OptionWord → Type 0
 IsFrontOption Width = ⊤
 IsFrontOption Height = ⊤
@@ -91,7 +98,19 @@ IsFrontOption Conflicts = ⊤
 IsFrontOption Svg = ⊥
 IsFrontOption Log = ⊥
 
--- the word is an option of the command; only `draw`, which has all, `signals` and `front` have options
+-- the options of `redraw`: it has no `--order`, since few moved nodes are all that it looks for, and no `--svg`, since
+-- it writes no picture
+abbrev pub IsRedrawOption : OptionWord → Type 0
+IsRedrawOption Width = ⊤
+IsRedrawOption Height = ⊤
+IsRedrawOption Least = ⊤
+IsRedrawOption Criteria = ⊥
+IsRedrawOption Conflicts = ⊤
+IsRedrawOption Svg = ⊥
+IsRedrawOption Log = ⊤
+
+-- the word is an option of the command; only `draw`, which has all, `signals`, `front`, `redraw` and `explain`
+-- have options
 abbrev pub IsOptionOf : CommandWord → List ℕ → Type 0
 IsOptionOf Draw word = (option : OptionWord) × (word ≡ option_word option)
 IsOptionOf Verify word = ⊥
@@ -101,6 +120,8 @@ IsOptionOf Make word = ⊥
 IsOptionOf Trial word = ⊥
 IsOptionOf Signals word = (option : OptionWord) × (word ≡ option_word option) × IsSignalsOption option
 IsOptionOf Front word = (option : OptionWord) × (word ≡ option_word option) × IsFrontOption option
+IsOptionOf Redraw word = (option : OptionWord) × (word ≡ option_word option) × IsRedrawOption option
+IsOptionOf Explain word = (option : OptionWord) × (word ≡ option_word option) × IsFrontOption option
 
 -- ---- faults of one argument, behind the arguments before it
 
@@ -142,17 +163,34 @@ HaveNoFault command arguments = (what : WordWhat) (position : ℕ) → SomeHasWo
 
 -- ---- faults of the whole
 
-abbrev pub file_names : List FileWord → List (List ℕ)
-file_names files = map (λ file. file.name) files
+-- the command writes one of the two files
+abbrev pub WritesOne : FileWord → FileWord → Type 0
+WritesOne a b = (a.written ≡ true) ⊎ (b.written ≡ true)
 
--- the first file, from the left, that has the name of an earlier one stands at this position
+-- it writes one of them, and they have one name
+pub record Clash (a b : FileWord) : Type 0 where
+  pub writes : WritesOne a b
+  pub same : a.name ≡ b.name
+
+-- the two may stand in one command: they have different names, or are both read
+abbrev pub MayBothStand : FileWord → FileWord → Type 0
+MayBothStand a b = Clash a b → ⊥
+
+abbrev pub AllMayStand : List FileWord → Type 0
+AllMayStand files = AllPairs MayBothStand files
+
+-- one of the earlier files clashes with the file
+abbrev pub HasClash : (earlier : List FileWord) → FileWord → Type 0
+HasClash earlier file = (other : FileWord) × Contains earlier other × Clash other file
+
+-- the first file, from the left, that clashes with an earlier one stands at this position
 pub record IsFirstRepeat (files : List FileWord) (position : ℕ) : Type 0 where
   pub before : List FileWord
   pub file : FileWord
   pub after : List FileWord
   pub cut : files ≡ before ++ file ∷ after
-  pub distinct : AllPairs (λ a b. a ≢ b) (file_names before)
-  pub again : Contains (file_names before) file.name
+  pub apart : AllMayStand before
+  pub again : HasClash before file
   pub place : position ≡ file.position
 
 -- no argument has a fault, and a name is missing at the end, this position
@@ -161,22 +199,10 @@ pub record IsMissing (command : CommandWord) (arguments : List Argument) (end po
   pub few : length (argument_names arguments) < name_count command
   pub place : position ≡ end
 
--- the command writes files beside the one that it reads, so that no two of its files may have one name
-abbrev pub WritesFiles : CommandWord → Type 0
-WritesFiles Draw = ⊤
-WritesFiles Verify = ⊥
-WritesFiles Check = ⊥
-WritesFiles Graph = ⊥
-WritesFiles Make = ⊥
-WritesFiles Trial = ⊥
-WritesFiles Signals = ⊤
-WritesFiles Front = ⊥
-
--- no argument has a fault, no name is missing, and two files of a command that writes files have one name
+-- no argument has a fault, no name is missing, and two files clash
 pub record HasOneNameTwice (command : CommandWord) (arguments : List Argument) (position : ℕ) : Type 0 where
   pub sound : HaveNoFault command arguments
   pub enough : name_count command ≤ length (argument_names arguments)
-  pub writes : WritesFiles command
   pub repeat : IsFirstRepeat (files_in arguments) position
 
 -- the fault that counts of a command's arguments, behind which this position is the first free one

@@ -232,6 +232,47 @@ fn front_of(alloc: Global, arguments: &[Argument]) -> Result<Command, OutOfMemor
     })
 }
 
+fn redraw_of(alloc: Global, arguments: &[Argument]) -> Result<Command, OutOfMemory>
+    requires sound { SoundFrom words.Redraw [] arguments.now }
+    requires enough { 3 ≤ length (argument_names arguments.now) }
+    ensures word { IfOk result (λ c. command_kind c ≡ words.Redraw) }
+    ensures parts { IfOk result (λ c. HasParts arguments.now c) }
+{
+    Ok(Command::Redraw {
+        input: name_copy(alloc, arguments, 0)?,
+        former: name_copy(alloc, arguments, 1)?,
+        sheet: name_copy(alloc, arguments, 2)?,
+        grid: grid_given(arguments),
+        budget: number_given(
+            arguments,
+            OptionWord::Conflicts,
+            1,
+            MAX_BUDGET,
+            DEFAULT_BUDGET,
+        ),
+        log: file_given(alloc, arguments, OptionWord::Log)?,
+    })
+}
+
+fn explain_of(alloc: Global, arguments: &[Argument]) -> Result<Command, OutOfMemory>
+    requires sound { SoundFrom words.Explain [] arguments.now }
+    requires enough { 1 ≤ length (argument_names arguments.now) }
+    ensures word { IfOk result (λ c. command_kind c ≡ words.Explain) }
+    ensures parts { IfOk result (λ c. HasParts arguments.now c) }
+{
+    Ok(Command::Explain {
+        input: name_copy(alloc, arguments, 0)?,
+        grid: grid_given(arguments),
+        budget: number_given(
+            arguments,
+            OptionWord::Conflicts,
+            1,
+            MAX_BUDGET,
+            DEFAULT_BUDGET,
+        ),
+    })
+}
+
 /// The number that `make` or `trial` has as its name.
 fn seed_of(arguments: &[Argument]) -> u32
     requires sound { SoundFrom words.Make [] arguments.now ⊎ SoundFrom words.Trial [] arguments.now }
@@ -277,5 +318,7 @@ pub(crate) fn command_of(
         }),
         CommandWord::Signals => signals_of(alloc, arguments),
         CommandWord::Front => front_of(alloc, arguments),
+        CommandWord::Redraw => redraw_of(alloc, arguments),
+        CommandWord::Explain => explain_of(alloc, arguments),
     }
 }

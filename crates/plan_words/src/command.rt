@@ -15,6 +15,8 @@ pub(crate) enum CommandWord {
     Trial,
     Signals,
     Front,
+    Redraw,
+    Explain,
 }
 
 impl CommandWord {
@@ -31,6 +33,8 @@ impl CommandWord {
             "trial" => Some(CommandWord::Trial),
             "signals" => Some(CommandWord::Signals),
             "front" => Some(CommandWord::Front),
+            "redraw" => Some(CommandWord::Redraw),
+            "explain" => Some(CommandWord::Explain),
             _ => None,
         }
     }
@@ -44,9 +48,10 @@ impl CommandWord {
             | CommandWord::Graph
             | CommandWord::Make
             | CommandWord::Trial
-            | CommandWord::Signals => 1,
+            | CommandWord::Signals
+            | CommandWord::Explain => 1,
             CommandWord::Verify | CommandWord::Front => 2,
-            CommandWord::Check => 3,
+            CommandWord::Check | CommandWord::Redraw => 3,
         }
     }
 }
@@ -104,6 +109,24 @@ pub enum Command {
         input: Text,
         first: Criterion,
         second: Criterion,
+        grid: Grid,
+        budget: u32,
+    },
+    /// Draws `input` on the grid with as few nodes as can be at other points than in the drawing of `sheet`, which is
+    /// one of the railML file `former`, with at most so many learnt clauses as the budget says; writes a log where a
+    /// name is given for it.
+    Redraw {
+        input: Text,
+        former: Text,
+        sheet: Text,
+        grid: Grid,
+        budget: u32,
+        log: Option<Text>,
+    },
+    /// Finds laws that say why `input` has no lawful drawing on the grid, or a lawful drawing, with at most so many
+    /// learnt clauses as the budget says.
+    Explain {
+        input: Text,
         grid: Grid,
         budget: u32,
     },

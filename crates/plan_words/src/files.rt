@@ -1,9 +1,9 @@
 // The words that name files.
-ghost use Rattle.std.specs.Prelude.{◌≡◌, ◌≢◌, All, AllPairs, Contains, IfOk, MatchOption, option_to_list};
+ghost use Rattle.std.specs.Prelude.{◌≡◌, All, IfOk, MatchOption, option_to_list};
 ghost use Rattle.std.specs.Bool.{MatchBool};
 ghost use Rattle.plan_words.specs.Arguments.{takes_file as option_takes_file, file_of as named_file};
 ghost use Rattle.plan_words.specs.Arguments.{files_in as named_files};
-ghost use Rattle.plan_words.specs.WordFaults.{file_names, IsFirstRepeat};
+ghost use Rattle.plan_words.specs.WordFaults.{Clash, MayBothStand, HasClash, AllMayStand, IsFirstRepeat};
 ghost use Rattle.plan_words.specs.Soundness.{IsNear};
 
 use crate::arguments::Argument;
@@ -15,6 +15,8 @@ use std::alloc::Global;
 pub(crate) struct FileWord {
     pub(crate) position: u32,
     pub(crate) name: Text,
+    /// Whether the command writes the file; else it reads it.
+    pub(crate) written: bool,
 }
 
 fn takes_file(option: &str) -> bool
@@ -32,6 +34,7 @@ fn file_of(alloc: Global, argument: &Argument) -> Result<Option<FileWord>, OutOf
         Argument::Name { position, word } => Ok(Some(FileWord {
             position: *position as u32,
             name: word.copied(alloc)?,
+            written: false,
         })),
         Argument::Setting {
             position,
@@ -40,6 +43,7 @@ fn file_of(alloc: Global, argument: &Argument) -> Result<Option<FileWord>, OutOf
         } if takes_file(word.as_str()) => Ok(Some(FileWord {
             position: *position as u32 + 1,
             name: value.copied(alloc)?,
+            written: true,
         })),
         Argument::Setting { .. } => Ok(None),
     }
@@ -59,25 +63,31 @@ pub(crate) fn files_in(alloc: Global, arguments: &[Argument]) -> Result<Vec<File
     Ok(files)
 }
 
-/// Whether one of the files has the name.
-fn has_name(files: &[FileWord], name: &Text) -> bool
-    ensures { MatchBool result (Contains (file_names files.now) name.now)
-        (Contains (file_names files.now) name.now → ⊥) }
+/// Whether the command writes one of the two files, and both have one name.
+fn clash(a: &FileWord, b: &FileWord) -> bool
+    ensures { MatchBool result (Clash a.now b.now) (MayBothStand a.now b.now) }
 {
-    for file in files {
-        if file.name.as_str() == name.as_str() {
+    (a.written || b.written) && a.name.as_str() == b.name.as_str()
+}
+
+/// Whether one of the earlier files clashes with the file.
+fn has_clash(earlier: &[FileWord], file: &FileWord) -> bool
+    ensures { MatchBool result (HasClash earlier.now file.now) (All (λ e. MayBothStand e file.now) earlier.now) }
+{
+    for other in earlier {
+        if clash(other, file) {
             return true;
         }
     }
     false
 }
 
-/// The position of the first file, from the left, that has the name of an earlier one.
+/// The position of the first file, from the left, that clashes with an earlier one.
 pub(crate) fn first_repeat(files: &[FileWord]) -> Option<u32>
-    ensures { MatchOption result (AllPairs (λ a b. a ≢ b) (file_names files.now)) (IsFirstRepeat files.now) }
+    ensures { MatchOption result (AllMayStand files.now) (IsFirstRepeat files.now) }
 {
     for (i, file) in files.iter().enumerate() {
-        if has_name(&files[..i], &file.name) {
+        if has_clash(&files[..i], file) {
             return Some(file.position);
         }
     }

@@ -1,7 +1,7 @@
 // The fault that counts of a command's arguments.
-ghost use Rattle.std.specs.Prelude.{◌≡◌, ◌≢◌, ◌≤◌, ◌+◌, ◌*◌, [], length, All, AllPairs, IfOk, IfNone, MatchOption};
+ghost use Rattle.std.specs.Prelude.{◌≤◌, ◌+◌, ◌*◌, [], length, All, IfOk, IfNone, MatchOption};
 ghost use Rattle.plan_words.specs.Arguments.{files_in as named_files};
-ghost use Rattle.plan_words.specs.WordFaults.{WritesFiles, file_names, IsFirstRepeat, IsFaultOfArguments};
+ghost use Rattle.plan_words.specs.WordFaults.{AllMayStand, IsFirstRepeat, IsFaultOfArguments};
 ghost use Rattle.plan_words.specs.Soundness.{StandFrom, IsNear, SoundFrom};
 ghost use Rattle.plan_words.specs.Words.{AreSoundArguments};
 
@@ -13,29 +13,15 @@ use crate::leftmost::{Found, count_names, leftmost_fault};
 use plan_core::OutOfMemory;
 use std::alloc::Global;
 
-/// The position of the first file, from the left, that has the name of an earlier one, where the command writes files.
-fn repeated_file(
-    alloc: Global,
-    command: CommandWord,
-    arguments: &[Argument],
-) -> Result<Option<u32>, OutOfMemory>
+/// The position of the first file, from the left, that has the name of an earlier one, where the command writes one of
+/// the two.
+fn repeated_file(alloc: Global, arguments: &[Argument]) -> Result<Option<u32>, OutOfMemory>
     requires { All IsNear arguments.now }
-    ensures { IfOk result (λ found. MatchOption found (WritesFiles command →
-        AllPairs (λ a b. a ≢ b) (file_names (named_files arguments.now)))
-        (λ position. WritesFiles command × IsFirstRepeat (named_files arguments.now) position)) }
+    ensures { IfOk result (λ found. MatchOption found (AllMayStand (named_files arguments.now))
+        (IsFirstRepeat (named_files arguments.now))) }
 {
-    match command {
-        CommandWord::Draw | CommandWord::Signals => {
-            let files = files_in(alloc, arguments)?;
-            Ok(first_repeat(&files))
-        }
-        CommandWord::Verify
-        | CommandWord::Check
-        | CommandWord::Graph
-        | CommandWord::Make
-        | CommandWord::Trial
-        | CommandWord::Front => Ok(None),
-    }
+    let files = files_in(alloc, arguments)?;
+    Ok(first_repeat(&files))
 }
 
 /// The fault that counts of the arguments, behind which the position `end` is the first free one.
@@ -60,7 +46,7 @@ pub(crate) fn fault_that_counts(
             position: end as u32,
         }));
     }
-    match repeated_file(alloc, command, arguments)? {
+    match repeated_file(alloc, arguments)? {
         Some(position) => Ok(Some(Found {
             what: WordWhat::BadValue,
             position,

@@ -2,7 +2,7 @@
 ghost use Rattle.std.specs.Prelude.{◌≡◌, ◌<◌, ◌+◌, ◌^◌, length, Contains, MatchOption, []};
 ghost use Rattle.std.specs.Bool.{MatchBool};
 ghost use Rattle.plan_words.specs.declared.arguments.Argument.TheVariants.{Name, Setting};
-ghost use Rattle.plan_words.specs.declared.command.CommandWord.TheVariants.{Signals, Front};
+ghost use Rattle.plan_words.specs.declared.command.CommandWord.TheVariants.{Signals, Front, Redraw};
 ghost use Rattle.plan_words.specs.OptionValues.{option_word};
 ghost use Rattle.plan_words.specs.Arguments.{argument_names, options_in};
 ghost use Rattle.plan_words.specs.WordFaults.{TakesName, IsOptionOf, IsLeftmost};
@@ -60,13 +60,24 @@ fn signals_option(word: &str) -> Option<OptionWord>
     }
 }
 
-/// The option of `front` that the word names, if it names one.
+/// The option of `front`, and of `explain`, that the word names, if it names one.
 fn front_option(word: &str) -> Option<OptionWord>
     ensures { MatchOption result (IsOptionOf Front word.now → ⊥)
         (λ o. IsOptionOf Front word.now × (word.now ≡ option_word o)) }
 {
     match OptionWord::named(word) {
         Some(OptionWord::Criteria | OptionWord::Svg | OptionWord::Log) => None,
+        other => other,
+    }
+}
+
+/// The option of `redraw` that the word names, if it names one.
+fn redraw_option(word: &str) -> Option<OptionWord>
+    ensures { MatchOption result (IsOptionOf Redraw word.now → ⊥)
+        (λ o. IsOptionOf Redraw word.now × (word.now ≡ option_word o)) }
+{
+    match OptionWord::named(word) {
+        Some(OptionWord::Criteria | OptionWord::Svg) => None,
         other => other,
     }
 }
@@ -79,7 +90,8 @@ fn option_of(command: CommandWord, word: &str) -> Option<OptionWord>
     match command {
         CommandWord::Draw => OptionWord::named(word),
         CommandWord::Signals => signals_option(word),
-        CommandWord::Front => front_option(word),
+        CommandWord::Front | CommandWord::Explain => front_option(word),
+        CommandWord::Redraw => redraw_option(word),
         CommandWord::Verify
         | CommandWord::Check
         | CommandWord::Graph
@@ -110,7 +122,9 @@ fn takes_name(command: CommandWord, place: usize, name: &str) -> bool
         | CommandWord::Verify
         | CommandWord::Check
         | CommandWord::Graph
-        | CommandWord::Signals => !name.is_empty(),
+        | CommandWord::Signals
+        | CommandWord::Redraw => !name.is_empty(),
+        | CommandWord::Explain => !name.is_empty(),
     }
 }
 

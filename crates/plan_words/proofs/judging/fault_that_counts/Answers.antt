@@ -20,12 +20,10 @@ repeated_file-requires c = all_near c.args.command c.args.arguments.now c.in_def
 
 pub returns-in-Some-2-clause-fault : goal.returns-in-Some-2-clause-fault
 returns-in-Some-2-clause-fault c =
-    let repeated = rw c.in-Some-2.is at c.in_ok-position.ensures in
     inr (record {
       sound = sound_have_no_fault c.args.command c.args.arguments.now c.in_default.ensures;
       enough = omega (arith, c.count_names.ensures, c.name_count.ensures);
-      writes = repeated.0;
-      repeat = repeated.1;
+      repeat = rw c.in-Some-2.is at c.in_ok-position.ensures;
     })
 
 pub returns-in-None-clause-fault : goal.returns-in-None-clause-fault
