@@ -42,8 +42,10 @@ parts_appended a b c old one two three e f g =
     ∙ sym (flat_map-append text_of_line a (b ++ c)))
 
 -- where the first two parts are one list
-pub parts_grouped : (l : SheetLine) (a b c : List SheetLine) (old three : List ℕ) → three ≡ old ++ texts (l ∷ (a ++ (b ++ c))) → three ≡ old ++ texts (l ∷ ((a ++ b) ++ c))
-parts_grouped l a b c old three e = e ∙ ap (λ (lines : List SheetLine). old ++ texts (l ∷ lines)) (sym (append_assoc a b c))
+-- two parts
+pub both_appended : (a b : List SheetLine) (old one two : List ℕ) → one ≡ old ++ texts a → two ≡ one ++ texts b → two ≡ old ++ texts (a ++ b)
+both_appended a b old one two e f =
+    f ∙ ap (λ (t : List ℕ). t ++ texts b) e ∙ append_assoc old (texts a) (texts b) ∙ ap (λ (t : List ℕ). old ++ t) (sym (flat_map-append text_of_line a b))
 
 -- a line is a part
 pub line_appended : (line : SheetLine) (into new : List ℕ) → new ≡ into ++ text_of_line line → new ≡ into ++ texts (line ∷ [])

@@ -75,9 +75,13 @@ edge_lines edition g d = map (edge_line edition g d) (range_with_len 0 (length g
 abbrev pub picture_lines : Edition → Graph → Drawing → List SheetLine
 picture_lines edition g d = node_lines edition g d ++ EdgesLine (length g.edges) ∷ edge_lines edition g d
 
--- how many nodes there are, the picture, and the drawing's own values
+-- how many nodes there are, and the picture
+abbrev pub drawn_lines : Edition → Graph → Drawing → List SheetLine
+drawn_lines edition g d = NodesLine (length g.nodes) ∷ picture_lines edition g d
+
+-- and the drawing's own values behind them
 abbrev pub drawing_lines : Edition → Graph → Drawing → List SheetLine
-drawing_lines edition g d = NodesLine (length g.nodes) ∷ (picture_lines edition g d ++ ValuesLine (values_of d) ∷ [])
+drawing_lines edition g d = drawn_lines edition g d ++ ValuesLine (values_of d) ∷ []
 
 abbrev pub found_lines : Edition → Graph → Option Drawing → List SheetLine
 found_lines edition g None = []
@@ -89,6 +93,10 @@ sheet_lines edition g s = Title edition ∷ GridLine edition s.grid ∷ OrderLin
 
 abbrev pub text_in : Edition → Graph → Sheet → List ℕ
 text_in edition g s = flat_map text_of_line (sheet_lines edition g s)
+
+-- what is written of a drawing without its values
+abbrev pub drawn_text : Graph → Drawing → List ℕ
+drawn_text g d = flat_map text_of_line (drawn_lines Second g d)
 
 -- the text that is written
 abbrev pub sheet_text : Graph → Sheet → List ℕ

@@ -13,7 +13,7 @@ ghost use Rattle.plan_text.specs.SheetLine.{GridLine, OrderLine, NodesLine, Edge
 ghost use Rattle.plan_text.specs.SheetLine.{coordinates, text_of_line};
 ghost use Rattle.plan_core.specs.Lawful.{HasSizeOf};
 ghost use Rattle.plan_text.specs.SheetText.{DrawsAll, DrawsOnGrid, StatesSettled, node_line, edge_line, node_lines};
-ghost use Rattle.plan_text.specs.SheetText.{edge_lines, drawing_lines, found_lines, sheet_text};
+ghost use Rattle.plan_text.specs.SheetText.{edge_lines, drawing_lines, drawn_text, found_lines, sheet_text};
 
 use crate::line_parts::{push_count_line, push_mileage, push_named};
 use crate::{Ending, Sheet};
@@ -32,7 +32,8 @@ fn push_pair(a: u32, b: u32, into: &mut Vec<u8>) -> Result<(), OutOfMemory>
     push_number_field(into, b)
 }
 
-fn push_grid_line(grid: &Grid, into: &mut Vec<u8>) -> Result<(), OutOfMemory>
+/// Appends the line of a grid, of the second edition.
+pub fn write_grid(grid: &Grid, into: &mut Vec<u8>) -> Result<(), OutOfMemory>
     ensures ok { OnOk result (into.new.items ≡ into.old.items ++ text_of_line (GridLine Second grid.now)) }
     ensures begins { Begins into.old.items into.new.items }
 {
@@ -186,7 +187,25 @@ fn push_lines(g: &PortGraph, d: &Drawing, into: &mut Vec<u8>) -> Result<(), OutO
     push_edge_lines(g, d, into)
 }
 
-fn push_drawing(
+/// Appends what a sheet tells of a drawing but for its values: the points and mileages of all nodes and the tracks
+/// and lines of all edges.
+pub fn write_drawn(
+    alloc: Global,
+    g: &PortGraph,
+    d: &Drawing,
+    into: &mut Vec<u8>,
+) -> Result<(), OutOfMemory>
+    requires { HasSizeOf g.now d.now }
+    ensures ok { OnOk result (into.new.items ≡ into.old.items ++ drawn_text g.now d.now) }
+    ensures begins { Begins into.old.items into.new.items }
+{
+    push_places(alloc, g, d, into)?;
+    push_lines(g, d, into)
+}
+
+/// Appends what a sheet of the second edition tells of a drawing: the points and mileages of all nodes and the tracks
+/// and lines of all edges, both by number, and what it measures.
+pub fn write_drawing(
     alloc: Global,
     g: &PortGraph,
     d: &Drawing,
@@ -197,8 +216,7 @@ fn push_drawing(
         (drawing_lines Second g.now d.now)) }
     ensures begins { Begins into.old.items into.new.items }
 {
-    push_places(alloc, g, d, into)?;
-    push_lines(g, d, into)?;
+    write_drawn(alloc, g, d, into)?;
     push_values_line(values(d), into)
 }
 
@@ -215,7 +233,7 @@ fn push_found(
     ensures begins { Begins into.old.items into.new.items }
 {
     match &s.found {
-        Some(d) => push_drawing(alloc, g, d, into),
+        Some(d) => write_drawing(alloc, g, d, into),
         None => Ok(()),
     }
 }
@@ -259,7 +277,7 @@ pub fn write_sheet(
     ensures begins { Begins into.old.items into.new.items }
 {
     push_text(into, b"railplan 2\n")?;
-    push_grid_line(&s.grid, into)?;
+    write_grid(&s.grid, into)?;
     push_order_line(&s.order, into)?;
     push_found(alloc, g, s, into)?;
     push_ending(s.ending, into)

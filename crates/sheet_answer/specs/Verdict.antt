@@ -41,9 +41,13 @@ abbrev pub second_fields : Option Party → List (List ℕ)
 second_fields None = []
 second_fields (Some party) = party_fields party
 
+-- a law and its parties
+abbrev pub law_fields : LawBreak → List (List ℕ)
+law_fields b = decimal b.law ∷ party_fields b.first ++ second_fields b.second
+
 -- the line of a broken law: which it is, and by whom it is broken
 abbrev pub broken_line : LawBreak → List ℕ
-broken_line b = line_text (codes "broken law") (decimal b.law ∷ party_fields b.first ++ second_fields b.second)
+broken_line b = line_text (codes "broken law") (law_fields b)
 
 -- ---- the verdict on a drawing
 

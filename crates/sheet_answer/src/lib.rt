@@ -21,4 +21,5 @@ pub use laws::{
     certified_exactly, one_answer_of_check, one_answer_to_a_file, one_sheet_answer,
     verdict_of_drawing,
 };
+pub use verdict::push_law;
 pub use verifying::verify;

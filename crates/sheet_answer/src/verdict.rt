@@ -3,8 +3,8 @@ ghost use Rattle.std.specs.Prelude.{◌≡◌, ◌++◌, IfOk, OnOk, MatchOption
 ghost use Rattle.track_order.specs.Order.{is_above, IsOrderOf};
 ghost use Rattle.plan_core.specs.Lawful.{HasSizeOf, Lawful};
 ghost use Rattle.line_text.specs.Fields.{spaced};
-ghost use Rattle.sheet_answer.specs.Verdict.{lawful_line, broken_line, party_fields, second_fields, IsBrokenAnswer};
-ghost use Rattle.sheet_answer.specs.Verdict.{IsVerdict};
+ghost use Rattle.sheet_answer.specs.Verdict.{lawful_line, broken_line, party_fields, second_fields, law_fields};
+ghost use Rattle.sheet_answer.specs.Verdict.{IsBrokenAnswer, IsVerdict};
 
 use input_answer::{Reply, Station, Status};
 use lawful_check::{LawBreak, Party, broken};
@@ -52,14 +52,21 @@ fn push_second(into: &mut Vec<u8>, second: Option<Party>) -> Result<(), OutOfMem
     }
 }
 
+/// Appends the fields of a law: its number and its parties.
+pub fn push_law(into: &mut Vec<u8>, law: LawBreak) -> Result<(), OutOfMemory>
+    ensures { OnOk result (into.new.items ≡ into.old.items ++ spaced (law_fields law)) }
+{
+    push_number_field(into, u32::from(law.law))?;
+    push_party(into, law.first)?;
+    push_second(into, law.second)
+}
+
 /// The line of a broken law.
 fn broken_line(alloc: Global, found: LawBreak) -> Result<Vec<u8>, OutOfMemory>
     ensures { IfOk result (λ v. v.items ≡ broken_line found) }
 {
     let mut line = Vec::from_slice(alloc, b"broken law")?;
-    push_number_field(&mut line, u32::from(found.law))?;
-    push_party(&mut line, found.first)?;
-    push_second(&mut line, found.second)?;
+    push_law(&mut line, found)?;
     push_text(&mut line, b"\n")?;
     Ok(line)
 }
