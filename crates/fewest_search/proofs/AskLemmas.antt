@@ -1,6 +1,7 @@
 -- What answers say, and what questions tell.
 use Rattle.std.proofs.Common.{◌≡◌, ℕ, ◌<◌, ◌≤◌, ◌⊎◌, true, List, [], ◌∷◌, ◌++◌, map, get_or, refl, sym, ◌∙◌, ap, subst, inl, inr, arith, append-nil, append_assoc}
-use Rattle.std.specs.Prelude.{All, Contains, Some, None, Option, MatchOption, ⊤}
+use Rattle.std.specs.Prelude.{All, Contains, Some, None, Option, MatchOption, fold, ⊤}
+use Rattle.std.proofs.lemmas.Grind.{fold-append}
 use Rattle.std.proofs.lemmas.List.Concat.{flat_map-cons}
 use Rattle.std.proofs.lemmas.List.Elements.{All-nil, All-cons, All-map, All-contains, Contains-append_right, Contains-append_cases, Contains-push}
 use Rattle.plan_core.specs.Drawing.{Drawing}
@@ -11,7 +12,7 @@ use Rattle.cnf_core.proofs.QuantifierLemmas.{some_from_satisfies}
 use Rattle.refute_log.specs.declared.line.LogLine.{LogLine}
 use Rattle.refute_log.specs.declared.line.LogLine.TheVariants.{Learnt, Query, Refuted as RefutedLine, Model}
 use Rattle.refute_log.specs.Told.{Lines}
-use Rattle.refute_log.specs.Log.{Derives, clause_line, clause_lines}
+use Rattle.refute_log.specs.Log.{Derives, asked, clause_line, clause_lines, facts_of}
 use Rattle.certified_values.proofs.CertifiedLemmas.{refuted_holds}
 use Rattle.certified_values.specs.declared.stop.Stop.{Stop}
 use Rattle.certified_values.specs.declared.stop.Stop.TheVariants.{BudgetSpent, RoomFull}
@@ -152,7 +153,17 @@ stopped_end p stop best outcome lines is h = subst (λ (x : Fewest). IsEnd p x l
     by BudgetSpent h = h
     by RoomFull h = h
 
-pub ends_stopped : {S : Type 0} (knows log : S → Lines → Type 0) (count : S → ℕ) (a b e : S) (q p : Counted) (limit : Option ℕ) (r : Answer) (d : Drawing) (stop : Stop) (outcome : Fewest) → q ≡ p → r ≡ Stopped stop → outcome ≡ stopped_with stop (Some d) → 1 ≤ p.count d →
+-- the query of a question is the latest behind its learnt clauses
+query_stays : (q : Option (List Literal)) (cs : Clauses) → fold asked q (map Learnt cs) ≡ q
+query_stays q [] = refl
+query_stays q (c ∷ cs) = query_stays q cs
+
+latest_query : (p : Counted) (limit : Option ℕ) (lines more : Lines) → IsAsked p limit [] more → (facts_of (lines ++ more)).query ≡ Some (query_of p limit)
+latest_query p limit lines more a =
+    fold-append asked None lines more ∙ ap (fold asked (fold asked None lines)) (a.is ∙ ap (λ (ls : Lines). Query (query_of p limit) ∷ ls) (append-nil (map Learnt a.clauses)))
+    ∙ query_stays (Some (query_of p limit)) a.clauses
+
+pub ends_stopped : {S : Type 0} (knows log : S → Lines → Type 0) (count : S → ℕ) (a b e : S) (q p : Counted) (limit : Option ℕ) (r : Answer) (d : Drawing) (stop : Stop) (outcome : Fewest) → q ≡ p → r ≡ Stopped stop → outcome ≡ stopped_with stop (Some d) → (1 ≤ p.count d) × (limit ≡ Some (p.count d)) →
     Continues knows log count a b IsRun → Continues knows log count b e (λ lines more. IsAnswer q lines limit r more) → Continues knows log count a e (EndsIn p outcome)
 ends_stopped knows log count a b e q p limit r d stop outcome same was is positive run asked =
     goes_on knows log count a b e IsRun (λ lines more. IsAnswer q lines limit r more) (EndsIn p outcome) run asked
@@ -162,6 +173,6 @@ ends_stopped knows log count a b e q p limit r d stop outcome same was is positi
       λ nothing. stopped_end p stop (Some d) outcome (lines ++ (xs ++ ys)) is (
         subst (IsCause p.budget p.room stop) (append_assoc lines xs ys) got.1,
         subst RefutesNothing (append_assoc lines xs ys) (no_refuted p limit [] (lines ++ xs) ys got.0 (λ c there. not_nothing (RefutedLine c) there) (so_far.1 nothing)),
-        positive,
+        (positive.0, subst (λ (ls : Lines). (facts_of ls).query ≡ Some (query_of p (Some (p.count d)))) (append_assoc lines xs ys) (latest_query p limit (lines ++ xs) ys got.0 ∙ ap (λ (l : Option ℕ). Some (query_of p l)) positive.1)),
       ),
     ))

@@ -1,18 +1,19 @@
 -- What the outcome of a search for the least count says.
 use Rattle.std.specs.Prelude.{◌≡◌, ◌≤◌, ⊤, ℕ, List, [], All, Contains, map, flat_map, length}
-use Rattle.std.specs.Prelude.{MatchOption, Option}
+use Rattle.std.specs.Prelude.{MatchOption, Option, Some}
 use Rattle.plan_core.specs.Drawing.{Drawing}
 use Rattle.cnf_core.specs.Lit.{Literal}
 use Rattle.cnf_core.specs.Clause.{words_of}
 use Rattle.refute_log.specs.declared.line.LogLine.TheVariants.{Formula, Refuted, Model}
 use Rattle.refute_log.specs.Lines.{MayAllBeTold}
 use Rattle.refute_log.specs.Told.{Lines}
-use Rattle.refute_log.specs.Log.{added, learnt, Derives, Due, clause_lines}
+use Rattle.refute_log.specs.Log.{added, learnt, facts_of, Derives, Due, clause_lines}
 use Rattle.certified_values.specs.declared.stop.Stop.{Stop}
 use Rattle.certified_values.specs.declared.stop.Stop.TheVariants.{BudgetSpent, RoomFull}
 use Rattle.fewest_search.specs.declared.outcome.Fewest.{Fewest}
 use Rattle.fewest_search.specs.declared.outcome.Fewest.TheVariants.{Best, NoDrawing, Spent, Room}
 use Rattle.fewest_search.specs.Counted.{Counted, IsOne}
+use Rattle.fewest_search.specs.Asked.{query_of}
 use Rattle.certified_values.specs.Cause.{IsCause}
 
 -- what it says of drawings
@@ -28,11 +29,16 @@ pub record RefutesFewer (p : Counted) (lines : Lines) (n : ℕ) : Type 0 where
   pub among : Contains lines (Refuted clause)
   pub each : All (λ l. l ≡ p.at_least n) clause
 
--- where a search stopped: nothing was refuted; with a drawing its count is positive, without one no model was found
+-- the latest query asks for less than the drawing's count
+abbrev pub AsksBelow : Counted → Drawing → Lines → Type 0
+AsksBelow p d lines = (facts_of lines).query ≡ Some (query_of p (Some (p.count d)))
+
+-- where a search stopped: nothing was refuted; with a drawing its count is positive and the latest query asks for less,
+-- so that no drawing found before it counts less; without one no model was found
 abbrev pub IsStopped : Counted → Stop → Option Drawing → Lines → Type 0
 IsStopped p stop best lines = IsCause p.budget p.room stop lines
     × ((clause : List Literal) → Contains lines (Refuted clause) → ⊥)
-    × MatchOption best (Contains lines Model → ⊥) (λ d. 1 ≤ p.count d)
+    × MatchOption best (Contains lines Model → ⊥) (λ d. (1 ≤ p.count d) × AsksBelow p d lines)
 
 abbrev pub IsEnd : Counted → Fewest → Lines → Type 0
 IsEnd p (Best d) lines = 1 ≤ p.count d → RefutesFewer p lines (p.count d)

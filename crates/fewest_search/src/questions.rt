@@ -55,8 +55,8 @@ pub trait CountOracle {
         requires one { IsOne (task self.now) d.now }
         ensures { result ≡ (task self.now).count d.now };
 
-    /// Asks for a drawing with a count below the limit, where there is one. The search begins near the drawing that is
-    /// given.
+    /// Asks for a drawing with a count below the limit, where there is one. The search may begin near the drawing that
+    /// is given.
     fn ask(&mut self, limit: Option<u32>, near: Option<&Drawing>) -> Result<Answer, MinFault>
         requires ready { ready self.old }
         requires near { MatchOption near ⊤ (λ d. IsOne (task self.old) d.now) }

@@ -32,7 +32,7 @@ fn one_if(former: Option<Point>) -> u32
 }
 
 /// How many nodes have a former point.
-fn count_matched(former: &[Option<Point>]) -> u32
+pub fn count_matched(former: &[Option<Point>]) -> u32
     requires { length former.now ≤ 65535 }
     ensures value { result ≡ matched former.now }
     ensures few { result ≤ length former.now }

@@ -12,4 +12,4 @@
 mod counting;
 mod one_node;
 
-pub use counting::add_moved_count;
+pub use counting::{add_moved_count, count_matched};

@@ -90,7 +90,7 @@ returns-in-Stopped-clause-lines g c = let q = g.Q.CountOracle in
     let a = c.args.questions.now in
     let b = c.loop-count.questions in
     ends_stopped q.knows q.log q.learnt a b c.ask.new.self (q.task b) (q.task a) (Some c.loop-count.count) c.in_ok-d.field-0 c.loop-count.best c.in-Stopped.stop c.stopped_with.result c.loop-count.invariant.task c.in-Stopped.is c.stopped_with.ensures
-    (let is = c.loop-count.invariant.count in omega (arith, is)) c.loop-count.invariant.lines c.in_ok-d.ensures.lines
+    (let is = c.loop-count.invariant.count in (omega (arith, is), ap Some is)) c.loop-count.invariant.lines c.in_ok-d.ensures.lines
 
 pub returns-clause-right : goal.returns-clause-right
 returns-clause-right g c = let q = g.Q.CountOracle in
