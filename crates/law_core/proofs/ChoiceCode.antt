@@ -89,7 +89,7 @@ pub record IsChoosing (g : Graph) (x : DrawingVars) (width : ℕ) (old now : Cnf
 pub choosing_first : (g : Graph) (x : DrawingVars) (width : ℕ) (old : Cnf) (all : List Instance) → IsChoosing g x width old old all 0
 choosing_first g x width old all = record { vars = refl; from = omega arith; left = refl; room = refl }
 
-next_is : (all : List Instance) (k : ℕ) (i : Instance) → k < length all → get_or all k i ≡ i → drop k all ≡ i ∷ drop (k + 1) all
+pub next_is : (all : List Instance) (k : ℕ) (i : Instance) → k < length all → get_or all k i ≡ i → drop k all ≡ i ∷ drop (k + 1) all
 next_is all k i lt is = let e : suc k ≡ k + 1 = omega arith in drop-cons all k i lt ∙ ap (λ j. j ∷ drop (suc k) all) is ∙ ap (λ n. i ∷ drop n all) e
 
 pub choosing_more : {T : Type 0} (y : T) (g : Graph) (x : DrawingVars) (width : ℕ) (old now new : Cnf) (all : List Instance) (k : ℕ) (i : Instance) (longest : ℕ) → k < length all → get_or all k i ≡ i → IsChoosing g x width old now all k →

@@ -112,7 +112,7 @@ has_clauses (Parted e f) h = tt
 
 -- the list that a search goes over
 pub all_laws : (g : Graph) (above overlap : ℕ → ℕ → Bool) (grid : GridSize) (budget room : ℕ) → AreTablesOf g above overlap →
-    HasAllLaws (record { graph = g; above = above; grid = grid; laws = instances g above overlap; budget = budget; room = room })
+    HasAllLaws (record { graph = g; above = above; grid = grid; laws = instances g above overlap; clauses = why_clauses g above overlap grid; budget = budget; room = room })
 all_laws g above overlap grid budget room t = record {
   each = each_choice g above (instances g above overlap) (laws_are_choices g above overlap t);
   all = λ i is choice. (all_listed g above overlap t).all i is (has_clauses i choice);

@@ -11,7 +11,7 @@ use Rattle.drawing_cnf.specs.Expected.{drawing_vars, laws_first, instances}
 use Rattle.track_order.specs.Order.{EdgeOrder, is_above, is_overlap}
 use Rattle.why_search.specs.Explained.{IsLoose}
 use Rattle.why_search.specs.Task.{Task}
-use Rattle.law_core.specs.Choices.{selectors}
+use Rattle.law_core.specs.Choices.{selectors, why_clauses}
 
 -- the law at a place, and its selecting variable; nothing asks for them past the list's end
 abbrev pub law_at : List Instance → ℕ → Instance
@@ -55,6 +55,7 @@ why_task g order grid budget room = record {
   above = is_above order;
   grid = grid;
   laws = instances g (is_above order) (is_overlap order);
+  clauses = why_clauses g (is_above order) (is_overlap order) grid;
   budget = budget;
   room = room;
 }

@@ -9,15 +9,24 @@
 //! `why_search`'s words. The crate stands on `drawing_cnf`, `lawful_check` and `why_search`.
 #![tactic(auto)]
 
+mod asking;
+mod beginning;
 mod choices;
+mod ending;
 mod formula;
 mod laws;
 mod listing;
+mod naming;
 mod parties;
+mod search;
+mod selecting;
 mod whole;
 
+pub use beginning::explain;
+pub use ending::{DrawingList, LawList, Why};
 pub use formula::loose_formula;
 pub use laws::{all_laws_are_listed, loose_drawings_are_joined, selectors_are_apart};
 pub use listing::all_laws;
 pub use parties::Law;
 pub use whole::{WhyFormula, why_formula};
+pub use why_search::WhyFault;

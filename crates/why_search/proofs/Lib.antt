@@ -1,3 +1,4 @@
 pub mod PlaceLemmas
 pub mod NarrowLemmas
 pub mod OutcomeLemmas
+pub mod LeftLemmas

@@ -1,8 +1,8 @@
 // The whole search.
-ghost use Rattle.std.specs.Prelude.{◌≡◌, ◌≤◌, ◌++◌, OnErr, IfOk, IsErrOf};
+ghost use Rattle.std.specs.Prelude.{◌≡◌, ◌≤◌, ◌++◌, [], OnErr, IfOk, IsErrOf};
 ghost use Rattle.outside_io.specs.Counts.{Rose};
 ghost use Rattle.why_search.specs.Task.{HasAllLaws};
-ghost use Rattle.refute_log.specs.Steps.{Continues, StillDerives};
+ghost use Rattle.refute_log.specs.Steps.{Continues, Leaves};
 ghost use Rattle.why_search.specs.Outcome.{IsRightOutcome, TellsOutcome};
 
 use crate::narrowing::narrow;
@@ -12,14 +12,15 @@ use crate::{Outcome, WhyFault};
 use std::alloc::Global;
 
 /// A lawful drawing, or laws that explain why there is none and of which none can be left out, or as far as the search
-/// comes. What the outcome says of drawings holds with every log.
+/// comes. What the outcome says of drawings holds with every log. After an error a log that told what is known derives,
+/// and has no further Formula line.
 pub fn find_laws<O: LawOracle>(alloc: Global, oracle: &mut O) -> Result<Outcome, WhyFault>
     requires ready { O.ready oracle.old }
     requires laws { HasAllLaws (O.task oracle.old) }
     ensures right { IfOk result (IsRightOutcome (O.task oracle.old)) }
     ensures lines { IfOk result (λ o. Continues O.knows O.log O.learnt oracle.old oracle.new (λ lines more.
         TellsOutcome (O.task oracle.old) o (lines ++ more))) }
-    ensures derives { OnErr result (StillDerives (O.knows oracle.old) (O.log oracle.old) (O.log oracle.new)) }
+    ensures leaves { OnErr result (Leaves [] (O.knows oracle.old) (O.log oracle.old) (O.log oracle.new)) }
     ensures task { O.task oracle.new ≡ O.task oracle.old }
     ensures later { O.is_later oracle.old oracle.new }
     ensures faults { O.faults oracle.old ≤ O.faults oracle.new }

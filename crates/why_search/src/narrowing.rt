@@ -4,7 +4,7 @@ ghost use Rattle.outside_io.specs.Counts.{Rose};
 ghost use Rattle.why_search.specs.declared.outcome.Outcome.TheVariants.{Laws};
 ghost use Rattle.why_search.specs.Task.{HasAllLaws};
 ghost use Rattle.why_search.specs.Narrowed.{IsNarrowed};
-ghost use Rattle.refute_log.specs.Steps.{Continues, StillDerives};
+ghost use Rattle.refute_log.specs.Steps.{Continues, Leaves};
 ghost use Rattle.why_search.specs.Asked.{ArePlaces, NoneMeets, TellsStop};
 ghost use Rattle.why_search.specs.Outcome.{IsRightOutcome, TellsOutcome};
 
@@ -40,7 +40,7 @@ fn take_away<O: LawOracle>(
     ensures fewer { length progress.new.left.items ≤ length progress.old.left.items }
     ensures lines { IfOk result (λ s. Continues O.knows O.log O.learnt oracle.old oracle.new (λ lines more.
         TellsStop (O.task oracle.old) s (lines ++ more))) }
-    ensures derives { OnErr result (StillDerives (O.knows oracle.old) (O.log oracle.old) (O.log oracle.new)) }
+    ensures leaves { OnErr result (Leaves [] (O.knows oracle.old) (O.log oracle.old) (O.log oracle.new)) }
     ensures task { O.task oracle.new ≡ O.task oracle.old }
     ensures later { O.is_later oracle.old oracle.new }
     ensures faults { O.faults oracle.old ≤ O.faults oracle.new }
@@ -98,7 +98,7 @@ pub(crate) fn narrow<O: LawOracle>(
     ensures right { IfOk result (IsRightOutcome (O.task oracle.old)) }
     ensures lines { IfOk result (λ o. Continues O.knows O.log O.learnt oracle.old oracle.new (λ lines more.
         TellsOutcome (O.task oracle.old) o (lines ++ more))) }
-    ensures derives { OnErr result (StillDerives (O.knows oracle.old) (O.log oracle.old) (O.log oracle.new)) }
+    ensures leaves { OnErr result (Leaves [] (O.knows oracle.old) (O.log oracle.old) (O.log oracle.new)) }
     ensures task { O.task oracle.new ≡ O.task oracle.old }
     ensures later { O.is_later oracle.old oracle.new }
     ensures faults { O.faults oracle.old ≤ O.faults oracle.new }

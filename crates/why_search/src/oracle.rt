@@ -1,10 +1,11 @@
 // What is asked: the drawings' clauses, a solver and a log, as one thing.
-ghost use Rattle.std.specs.Prelude.{◌≡◌, ◌≤◌, ◌++◌, ℕ, OnOk, OnErr, IfOk, IsErrOf, length};
+ghost use Rattle.std.specs.Prelude.{◌≡◌, ◌≤◌, ◌++◌, [], ℕ, OnOk, OnErr, IfOk, IsErrOf, length, map};
 ghost use Rattle.outside_io.specs.Counts.{Rose};
 ghost use Rattle.refute_log.specs.Told.{Lines};
-ghost use Rattle.refute_log.specs.Log.{Derives, Due};
+ghost use Rattle.refute_log.specs.declared.line.LogLine.TheVariants.{Formula};
+ghost use Rattle.refute_log.specs.Log.{Derives, Due, clause_lines};
 ghost use Rattle.why_search.specs.Task.{Task};
-ghost use Rattle.refute_log.specs.Steps.{Continues, StillDerives};
+ghost use Rattle.refute_log.specs.Steps.{Continues, Leaves};
 ghost use Rattle.why_search.specs.Asked.{ArePlaces, IsRightReply, TellsReply};
 
 use crate::WhyFault;
@@ -49,6 +50,7 @@ pub trait LawOracle {
 
     /// How many laws there are to choose.
     fn laws(&self) -> u32
+        requires { ready self.now }
         ensures { result ≡ length (task self.now).laws };
 
     /// Asks for a loose drawing that meets the laws at these places.
@@ -58,7 +60,7 @@ pub trait LawOracle {
         ensures right { IfOk result (IsRightReply (task self.old) wanted.now) }
         ensures lines { IfOk result (λ r. Continues knows log learnt self.old self.new (λ lines more.
             TellsReply (task self.old) r (lines ++ more))) }
-        ensures derives { OnErr result (StillDerives (knows self.old) (log self.old) (log self.new)) }
+        ensures leaves { OnErr result (Leaves [] (knows self.old) (log self.old) (log self.new)) }
         ensures ready { OnOk result (ready self.new) }
         ensures task { task self.new ≡ task self.old }
         ensures later { is_later self.old self.new }
@@ -70,6 +72,9 @@ pub trait LawOracle {
 
     /// Each Learnt line of them is due.
     ghost due: { (s : Self) (lines : Lines) → knows s lines → Due lines };
+
+    /// Their Formula lines are the task's clauses, and they have no Bound line.
+    ghost gives: { (s : Self) (lines : Lines) → knows s lines → clause_lines lines ≡ map Formula (task s).clauses };
 
     /// A log tells one list at most.
     ghost one_reading: { (s : Self) (a b : Lines) → log s a → log s b → a ≡ b };

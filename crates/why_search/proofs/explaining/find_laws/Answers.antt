@@ -1,31 +1,32 @@
-use Rattle.std.proofs.Common.{◌++◌, List, ℕ, sym, ◌∙◌, ap, subst, append_assoc}
+use Rattle.std.proofs.Common.{[], ◌++◌, List, ℕ, sym, ◌∙◌, ap, subst, append_assoc}
 use Rattle.std.specs.Prelude.{IfOk}
 use Rattle.std.proofs.lemmas.Result.{IfOk-weaker}
 use Rattle.refute_log.specs.Told.{Lines}
 use Rattle.why_search.specs.declared.oracle.Reply.{Reply}
 use Rattle.why_search.specs.Task.{Task, HasAllLaws}
 use Rattle.why_search.specs.Narrowed.{countdown}
-use Rattle.refute_log.specs.Steps.{Continues, StillDerives}
+use Rattle.refute_log.specs.Steps.{Continues, Leaves}
 use Rattle.certified_values.specs.Cause.{IsCause}
 use Rattle.why_search.specs.Asked.{ArePlaces, IsRightReply, NoneMeets, TellsReply}
 use Rattle.why_search.specs.Outcome.{IsRightOutcome, TellsOutcome}
-use Rattle.refute_log.proofs.StepLemmas.{AnyLines, goes_on, becomes, derives_same, derives_later, on_err_weaker}
+use Rattle.refute_log.proofs.StepLemmas.{AnyLines, goes_on, becomes, leaves_same, on_err_weaker}
 use Rattle.why_search.proofs.NarrowLemmas.{first_refuted}
+use Rattle.why_search.proofs.LeftLemmas.{left_later}
 use Rattle.why_search.proofs.OutcomeLemmas.{all_places_are, found_all}
 use Rattle.why_search.proofs.explaining.find_laws.Goals as goal
 use Rattle.outside_io.proofs.Results.{on_err_anyway}
 
-pub returns-in_err-all-clause-derives : goal.returns-in_err-all-clause-derives
-returns-in_err-all-clause-derives g c = let o = g.O.LawOracle in
-    on_err_anyway _ _ (derives_same o.knows o.log c.args.oracle.now (g.met.O.LawOracle.derives c.args.oracle.now) (g.met.O.LawOracle.one_reading c.args.oracle.now))
+pub returns-in_err-all-clause-leaves : goal.returns-in_err-all-clause-leaves
+returns-in_err-all-clause-leaves g c = let o = g.O.LawOracle in
+    on_err_anyway _ _ (leaves_same (o.knows c.args.oracle.now) (o.log c.args.oracle.now) (g.met.O.LawOracle.derives c.args.oracle.now) (g.met.O.LawOracle.one_reading c.args.oracle.now))
 
 pub ask-requires-clause-places : goal.ask-requires-clause-places
 ask-requires-clause-places g c = let o = g.O.LawOracle in
     let p = o.task c.args.oracle.now in
     subst (λ (w : List ℕ). ArePlaces p w) (sym (c.deref.ensures.value ∙ c.in_ok-all.ensures ∙ ap countdown c.laws.ensures)) (all_places_are p)
 
-pub returns-in_err-d-clause-derives : goal.returns-in_err-d-clause-derives
-returns-in_err-d-clause-derives g c = on_err_anyway _ _ c.in_err-d.ensures.derives
+pub returns-in_err-d-clause-leaves : goal.returns-in_err-d-clause-leaves
+returns-in_err-d-clause-leaves g c = on_err_anyway _ _ c.in_err-d.ensures.leaves
 
 pub returns-in-Found-clause-right : goal.returns-in-Found-clause-right
 returns-in-Found-clause-right g c = let o = g.O.LawOracle in
@@ -76,13 +77,13 @@ returns-in-Refuted-clause-lines g c = let o = g.O.LawOracle in
     (λ lines xs ys ka kb ke r s. subst (λ (t : Task). TellsOutcome t x (lines ++ (xs ++ ys))) c.in_ok-d.ensures.task (subst (λ (ls : Lines). TellsOutcome (o.task b) x ls) (append_assoc lines xs ys) s)))
     c.narrow.ensures.lines
 
-pub returns-in-Refuted-clause-derives : goal.returns-in-Refuted-clause-derives
-returns-in-Refuted-clause-derives g c = let o = g.O.LawOracle in
+pub returns-in-Refuted-clause-leaves : goal.returns-in-Refuted-clause-leaves
+returns-in-Refuted-clause-leaves g c = let o = g.O.LawOracle in
     let a = c.args.oracle.now in
     let b = c.ask.new.self in
     let e = c.narrow.new.oracle in
-    on_err_weaker c.narrow.result (StillDerives (o.knows b) (o.log b) (o.log e)) (StillDerives (o.knows a) (o.log a) (o.log e))
-    (derives_later o.knows o.log o.learnt a b e (λ lines more. TellsReply (o.task a) c.in_ok-d.field-0 (lines ++ more)) c.in_ok-d.ensures.lines) c.narrow.ensures.derives
+    on_err_weaker c.narrow.result (Leaves [] (o.knows b) (o.log b) (o.log e)) (Leaves [] (o.knows a) (o.log a) (o.log e))
+    (left_later o.knows o.log o.learnt o.task a b e (λ lines more. TellsReply (o.task a) c.in_ok-d.field-0 (lines ++ more)) c.in_ok-d.ensures.lines g.met.O.LawOracle.gives c.in_ok-d.ensures.task) c.narrow.ensures.leaves
 
 pub returns-in-Stopped-clause-lines : goal.returns-in-Stopped-clause-lines
 returns-in-Stopped-clause-lines g c = let o = g.O.LawOracle in

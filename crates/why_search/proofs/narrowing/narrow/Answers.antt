@@ -9,8 +9,9 @@ use Rattle.why_search.specs.Narrowed.{IsNarrowed}
 use Rattle.certified_values.specs.Cause.{IsCause}
 use Rattle.why_search.specs.Asked.{TellsStop}
 use Rattle.why_search.specs.Outcome.{IsRightOutcome, TellsOutcome}
-use Rattle.refute_log.proofs.StepLemmas.{AnyLines, stays, goes_on, becomes, derives_later}
+use Rattle.refute_log.proofs.StepLemmas.{AnyLines, stays, goes_on, becomes}
 use Rattle.why_search.proofs.NarrowLemmas.{narrow_none, nothing_left}
+use Rattle.why_search.proofs.LeftLemmas.{left_later}
 use Rattle.why_search.proofs.OutcomeLemmas.{narrowed_explains, narrowed_without}
 use Rattle.why_search.proofs.narrowing.narrow.Goals as goal
 use Rattle.outside_io.proofs.Results.{on_err_anyway}
@@ -60,9 +61,9 @@ loop-law-preserved g c = let o = g.O.LawOracle in
           c.loop-law.invariant.lines e.lines (λ lines xs ys ka kb ke r s. tt);
     }
 
-pub returns-in_err-stop-clause-derives : goal.returns-in_err-stop-clause-derives
-returns-in_err-stop-clause-derives g c = let o = g.O.LawOracle in
-    on_err_anyway _ _ (derives_later o.knows o.log o.learnt c.args.oracle.now c.loop-law.oracle c.take_away.new.oracle AnyLines c.loop-law.invariant.lines c.in_err-stop.ensures.derives)
+pub returns-in_err-stop-clause-leaves : goal.returns-in_err-stop-clause-leaves
+returns-in_err-stop-clause-leaves g c = let o = g.O.LawOracle in
+    on_err_anyway _ _ (left_later o.knows o.log o.learnt o.task c.args.oracle.now c.loop-law.oracle c.take_away.new.oracle AnyLines c.loop-law.invariant.lines g.met.O.LawOracle.gives c.loop-law.invariant.task c.in_err-stop.ensures.leaves)
 
 pub returns-in-Some-2-clause-lines : goal.returns-in-Some-2-clause-lines
 returns-in-Some-2-clause-lines g c = let o = g.O.LawOracle in

@@ -3,14 +3,15 @@ use Rattle.why_search.specs.declared.oracle.Reply.{Reply}
 use Rattle.why_search.specs.Narrowed.{has_number}
 use Rattle.certified_values.specs.Cause.{IsCause}
 use Rattle.why_search.specs.Asked.{ArePlaces, TellsReply}
-use Rattle.refute_log.proofs.StepLemmas.{AnyLines, becomes, derives_here, derives_same}
+use Rattle.refute_log.proofs.StepLemmas.{AnyLines, becomes, leaves_same}
+use Rattle.why_search.proofs.LeftLemmas.{left_here}
 use Rattle.why_search.proofs.NarrowLemmas.{narrow_asked, found_narrowed, refuted_narrowed, filter_shorter}
 use Rattle.why_search.proofs.narrowing.take_away.Goals as goal
 use Rattle.outside_io.proofs.Results.{on_err_anyway}
 
-pub returns-in_err-wanted-clause-derives : goal.returns-in_err-wanted-clause-derives
-returns-in_err-wanted-clause-derives g c = let o = g.O.LawOracle in
-    on_err_anyway _ _ (derives_same o.knows o.log c.args.oracle.now (g.met.O.LawOracle.derives c.args.oracle.now) (g.met.O.LawOracle.one_reading c.args.oracle.now))
+pub returns-in_err-wanted-clause-leaves : goal.returns-in_err-wanted-clause-leaves
+returns-in_err-wanted-clause-leaves g c = let o = g.O.LawOracle in
+    on_err_anyway _ _ (leaves_same (o.knows c.args.oracle.now) (o.log c.args.oracle.now) (g.met.O.LawOracle.derives c.args.oracle.now) (g.met.O.LawOracle.one_reading c.args.oracle.now))
 
 pub ask-requires-clause-places : goal.ask-requires-clause-places
 ask-requires-clause-places g c = let o = g.O.LawOracle in
@@ -18,20 +19,20 @@ ask-requires-clause-places g c = let o = g.O.LawOracle in
     subst (λ (w : List ℕ). ArePlaces (o.task c.args.oracle.now) w) (sym asked)
     (narrow_asked (o.task c.args.oracle.now) c.args.progress.now.kept.items c.args.progress.now.left.items c.args.law c.args.progress.now.without.items c.requires.narrowed)
 
-pub returns-in_err-d-clause-derives : goal.returns-in_err-d-clause-derives
-returns-in_err-d-clause-derives g c = on_err_anyway _ _ c.in_err-d.ensures.derives
+pub returns-in_err-d-clause-leaves : goal.returns-in_err-d-clause-leaves
+returns-in_err-d-clause-leaves g c = on_err_anyway _ _ c.in_err-d.ensures.leaves
 
-pub returns-in_err-push-in-Found-clause-derives : goal.returns-in_err-push-in-Found-clause-derives
-returns-in_err-push-in-Found-clause-derives g c = let o = g.O.LawOracle in
+pub returns-in_err-push-in-Found-clause-leaves : goal.returns-in_err-push-in-Found-clause-leaves
+returns-in_err-push-in-Found-clause-leaves g c = let o = g.O.LawOracle in
     let p = o.task c.args.oracle.now in
-    on_err_anyway _ _ (derives_here o.knows o.log o.learnt c.args.oracle.now c.ask.new.self (λ lines more. TellsReply p c.in_ok-d.field-0 (lines ++ more)) c.in_ok-d.ensures.lines
-    (g.met.O.LawOracle.derives c.ask.new.self) (g.met.O.LawOracle.one_reading c.ask.new.self))
+    on_err_anyway _ _ (left_here o.knows o.log o.learnt o.task c.args.oracle.now c.ask.new.self (λ lines more. TellsReply p c.in_ok-d.field-0 (lines ++ more)) c.in_ok-d.ensures.lines
+    g.met.O.LawOracle.gives c.in_ok-d.ensures.task g.met.O.LawOracle.derives g.met.O.LawOracle.one_reading)
 
-pub returns-in_err-push-in-Found-2-clause-derives : goal.returns-in_err-push-in-Found-2-clause-derives
-returns-in_err-push-in-Found-2-clause-derives g c = let o = g.O.LawOracle in
+pub returns-in_err-push-in-Found-2-clause-leaves : goal.returns-in_err-push-in-Found-2-clause-leaves
+returns-in_err-push-in-Found-2-clause-leaves g c = let o = g.O.LawOracle in
     let p = o.task c.args.oracle.now in
-    on_err_anyway _ _ (derives_here o.knows o.log o.learnt c.args.oracle.now c.ask.new.self (λ lines more. TellsReply p c.in_ok-d.field-0 (lines ++ more)) c.in_ok-d.ensures.lines
-    (g.met.O.LawOracle.derives c.ask.new.self) (g.met.O.LawOracle.one_reading c.ask.new.self))
+    on_err_anyway _ _ (left_here o.knows o.log o.learnt o.task c.args.oracle.now c.ask.new.self (λ lines more. TellsReply p c.in_ok-d.field-0 (lines ++ more)) c.in_ok-d.ensures.lines
+    g.met.O.LawOracle.gives c.in_ok-d.ensures.task g.met.O.LawOracle.derives g.met.O.LawOracle.one_reading)
 
 pub returns-in-Found-clause-narrowed : goal.returns-in-Found-clause-narrowed
 returns-in-Found-clause-narrowed g c = λ e. let o = g.O.LawOracle in
