@@ -49,8 +49,8 @@ fn is_unreached(
     is_one_more(bound.k, v.of(bound.criterion))
 }
 
-/// The literals of the bounds that such values don't reach.
-fn unreached(
+/// The literals of the bounds that values don't reach which are less at `c`, and as in `v` before it.
+pub fn unreached(
     alloc: Global,
     bounds: &[ToldBound],
     greatest: &Values,

@@ -11,6 +11,6 @@ mod judging;
 mod laws;
 mod told_bound;
 
-pub use judging::{first_lacking, none_certified};
+pub use judging::{first_lacking, none_certified, unreached};
 pub use laws::{no_literals_certify_none, one_place_lacks_first, only_greatest_values_lack};
 pub use told_bound::ToldBound;

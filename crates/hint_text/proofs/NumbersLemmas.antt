@@ -1,0 +1,120 @@
+-- The numbers of hints, read field by field.
+use Rattle.std.proofs.Common.{◌≡◌, ℕ, ◌≤◌, Bool, true, false, List, [], ◌∷◌, ◌++◌, length, map, decimal, refl, sym, ◌∙◌, ap, subst, arith, append_assoc}
+use Rattle.std.specs.List.{AllByRecursion}
+use Rattle.plan_core.proofs.ListFacts.{each_pushed, each_front}
+use Rattle.cnf_core.specs.declared.limits.TheConstants.{LAST_VAR}
+use Rattle.line_text.specs.Fields.{LacksByte, IsCutAt}
+use Rattle.line_text.specs.Numbers.{IsNumberField}
+use Rattle.refute_log.specs.LineForm.{Field, IsNumber, AreNumbers}
+use Rattle.refute_log.specs.FieldText.{trailed, fields_left, HasFields}
+use Rattle.refute_log.proofs.ReadingLemmas.{same_cut, no_cut, number_is_one, zero_is_one, regroup, ahead}
+use Rattle.hint_text.specs.HintText.{IsClauseNumber}
+use Rattle.hint_text.specs.Parts.{AddsNumber, HasNumbers, HasWrongNumbers, LacksNumbers, AreNumbersRead, AreReadTo}
+
+pub none_read : (text : List ℕ) → AreReadTo text text true []
+none_read text = record { fields = []; numbers = tt; spelled = refl; read = (refl, tt) }
+
+-- ---- one more field
+
+trailed_more : (fields : List Field) (f : Field) (r : List ℕ) → trailed fields ++ (f ++ 32 ∷ r) ≡ trailed (fields ++ f ∷ []) ++ r
+trailed_more [] f r = sym (append_assoc (f ++ 32 ∷ []) [] r ∙ append_assoc f (32 ∷ []) r)
+trailed_more (g ∷ fields) f r =
+    append_assoc (g ++ 32 ∷ []) (trailed fields) (f ++ 32 ∷ r) ∙ ap (λ (t : List ℕ). (g ++ 32 ∷ []) ++ t) (trailed_more fields f r) ∙ sym (append_assoc (g ++ 32 ∷ []) (trailed (fields ++ f ∷ [])) r)
+
+map_more : (ns : List ℕ) (n : ℕ) → map decimal (ns ++ n ∷ []) ≡ map decimal ns ++ decimal n ∷ []
+map_more [] n = refl
+map_more (m ∷ ns) n = ap (λ (t : List Field). decimal m ∷ t) (map_more ns n)
+
+all_last : {A : Type 0} (P : A → Type 0) (xs : List A) (x : A) → AllByRecursion P (xs ++ x ∷ []) → P x
+all_last P [] x h = h.0
+all_last P (y ∷ xs) x h = all_last P xs x h.1
+
+read_right : (right : Bool) (fields : List Field) (ns new : List ℕ) (field : Field) → AreNumbersRead right fields ns → AddsNumber ns new field → AreNumbersRead right (fields ++ field ∷ []) new
+read_right true fields ns new field h a = (
+  ap (λ (t : List Field). t ++ field ∷ []) h.0 ∙ ap (λ (t : Field). map decimal ns ++ t ∷ []) a.is.written ∙ sym (map_more ns a.number) ∙ ap (λ (t : List ℕ). map decimal t) (sym a.added),
+  subst (AllByRecursion IsClauseNumber) (sym a.added) (each_pushed IsClauseNumber ns a.number h.1 (record { from = a.is.from; to = a.is.to })),
+)
+read_right false fields ns new field h a = λ all. h (each_front (IsNumberField 1 LAST_VAR) fields (field ∷ []) all)
+
+pub read_more : (text rest field after : List ℕ) (right : Bool) (ns new : List ℕ) → AreReadTo text rest right ns → IsCutAt 32 rest field after → IsNumber field → AddsNumber ns new field → AreReadTo text after right new
+read_more text rest field after right ns new h cut number a = record {
+  fields = h.fields ++ field ∷ [];
+  numbers = each_pushed IsNumber h.fields field h.numbers number;
+  spelled = h.spelled ∙ ap (λ (t : List ℕ). trailed h.fields ++ t) cut.spelled ∙ trailed_more h.fields field after;
+  read = read_right right h.fields ns new field h.read a;
+}
+
+pub read_wrong : (text rest field after : List ℕ) (right : Bool) (ns new : List ℕ) → AreReadTo text rest right ns → IsCutAt 32 rest field after → IsNumber field → (IsNumberField 1 LAST_VAR field → ⊥) → AreReadTo text after false new
+read_wrong text rest field after right ns new h cut number not = record {
+  fields = h.fields ++ field ∷ [];
+  numbers = each_pushed IsNumber h.fields field h.numbers number;
+  spelled = h.spelled ∙ ap (λ (t : List ℕ). trailed h.fields ++ t) cut.spelled ∙ trailed_more h.fields field after;
+  read = λ all. not (all_last (IsNumberField 1 LAST_VAR) h.fields field all);
+}
+
+-- ---- what is left
+
+pub lacks_at_end : (text rest : List ℕ) (right : Bool) (ns : List ℕ) → AreReadTo text rest right ns → LacksByte 32 rest → (rest ≡ 48 ∷ [] → ⊥) → LacksNumbers text
+lacks_at_end text rest right ns h one not = λ fields k.
+    let a = ahead h.fields fields rest h.numbers k.has.numbers (sym h.spelled ∙ k.has.spelled) in
+    end a.more a.left
+  where
+    end : (more : List Field) → rest ≡ fields_left more → ⊥
+    end [] e = not e
+    end (f ∷ more) e = no_cut rest f (fields_left more) one (e ∙ regroup f (trailed more) (48 ∷ []))
+
+pub lacks_at_field : (text rest field after : List ℕ) (right : Bool) (ns : List ℕ) → AreReadTo text rest right ns → IsCutAt 32 rest field after → (IsNumber field → ⊥) → LacksNumbers text
+lacks_at_field text rest field after right ns h cut not = λ fields k.
+    let a = ahead h.fields fields rest h.numbers k.has.numbers (sym h.spelled ∙ k.has.spelled) in
+    at a.more a.numbers a.left
+  where
+    at : (more : List Field) → AreNumbers more → rest ≡ fields_left more → ⊥
+    at [] n e = no_cut (48 ∷ []) field after zero_is_one (sym e ∙ cut.spelled)
+    at (f ∷ more) n e =
+        let same = same_cut field f after (fields_left more) cut.first (number_is_one f n.0) (sym cut.spelled ∙ e ∙ regroup f (trailed more) (48 ∷ [])) in
+        not (subst IsNumber (sym same.field) n.0)
+
+-- ---- all fields were read
+
+whole : (text rest : List ℕ) (right : Bool) (ns : List ℕ) (h : AreReadTo text rest right ns) → rest ≡ 48 ∷ [] → HasFields text h.fields
+whole text rest right ns h e = record { numbers = h.numbers; spelled = h.spelled ∙ ap (λ (t : List ℕ). trailed h.fields ++ t) e }
+
+some_wrong : (fields : List Field) → (AllByRecursion (IsNumberField 1 LAST_VAR) fields → ⊥) → 1 ≤ length fields
+some_wrong [] not = absurd (not tt)
+some_wrong (f ∷ fields) not = omega arith
+
+pub wrong_numbers : (text rest : List ℕ) (right : Bool) (ns : List ℕ) → AreReadTo text rest right ns → rest ≡ 48 ∷ [] → right ≡ false → HasWrongNumbers text
+wrong_numbers text rest right ns h e wrong =
+    let k : AreNumbersRead false h.fields ns = subst (λ (b : Bool). AreNumbersRead b h.fields ns) wrong h.read in
+    record { fields = h.fields; has = record { some = some_wrong h.fields k; has = whole text rest right ns h e }; wrong = k }
+
+fields_of : (fields : List Field) (ns : List ℕ) → fields ≡ map decimal ns → 1 ≤ length fields → 1 ≤ length ns
+fields_of fields [] e h = let z = ap length e in omega arith
+fields_of fields (n ∷ ns) e h = omega arith
+
+pub no_numbers : (text rest : List ℕ) (right : Bool) (ns : List ℕ) → AreReadTo text rest right ns → rest ≡ 48 ∷ [] → right ≡ true → length ns ≡ 0 → LacksNumbers text
+no_numbers text rest right ns h e fine none = λ fields k.
+    let r : AreNumbersRead true h.fields ns = subst (λ (b : Bool). AreNumbersRead b h.fields ns) fine h.read in
+    let a = ahead h.fields fields rest h.numbers k.has.numbers (sym h.spelled ∙ k.has.spelled) in
+    end a.more a.split a.left r.0 k.some
+  where
+    end : {fields : List Field} (more : List Field) → fields ≡ h.fields ++ more → rest ≡ fields_left more → h.fields ≡ map decimal ns → 1 ≤ length fields → ⊥
+    end [] s l m some = let n = fields_of h.fields ns m (front_some h.fields some s) in omega arith
+      where
+        front_some : {fields : List Field} (fs : List Field) → 1 ≤ length fields → fields ≡ fs ++ [] → 1 ≤ length fs
+        front_some [] some s = let z = ap length s in omega arith
+        front_some (f ∷ fs) some s = omega arith
+    end (f ∷ more) s l m some = no_cut (48 ∷ []) f (fields_left more) zero_is_one (sym e ∙ l ∙ regroup f (trailed more) (48 ∷ []))
+
+some_numbers : (ns : List ℕ) → (length ns ≡ 0 → ⊥) → 1 ≤ length ns
+some_numbers [] not = absurd (not refl)
+some_numbers (n ∷ ns) not = omega arith
+
+pub right_numbers : (text rest : List ℕ) (right : Bool) (ns : List ℕ) → AreReadTo text rest right ns → rest ≡ 48 ∷ [] → right ≡ true → (length ns ≡ 0 → ⊥) → HasNumbers text ns
+right_numbers text rest right ns h e fine some =
+    let k : AreNumbersRead true h.fields ns = subst (λ (b : Bool). AreNumbersRead b h.fields ns) fine h.read in
+    record {
+      some = some_numbers ns some;
+      each = k.1;
+      spelled = h.spelled ∙ ap (λ (t : List ℕ). trailed h.fields ++ t) e ∙ ap (λ (t : List Field). trailed t ++ 48 ∷ []) k.0;
+    }

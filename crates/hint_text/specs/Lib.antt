@@ -1,0 +1,5 @@
+pub mod HintText
+pub mod HintForm
+pub mod HintFaults
+pub mod Caps
+pub mod Parts
