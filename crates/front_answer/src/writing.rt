@@ -43,8 +43,8 @@ fn push_pair(pair: &(u32, u32), into: &mut Vec<u8>) -> Result<(), OutOfMemory>
 fn push_pairs(pairs: &PairList, into: &mut Vec<u8>) -> Result<(), OutOfMemory>
     ensures { OnOk result (into.new.items ≡ into.old.items ++ flat_map pair_line pairs.now) }
 {
-    for pair in pairs.as_slice() {
-        push_pair(pair, into)?;
+    for i in 0..pairs.len() {
+        push_pair(pairs.get(i), into)?;
     }
     Ok(())
 }

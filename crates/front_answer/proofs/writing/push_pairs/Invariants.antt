@@ -2,5 +2,5 @@ use Rattle.std.specs.Prelude.{◌≡◌, ◌++◌, flat_map, take}
 use Rattle.front_answer.specs.FrontText.{pair_line}
 use Rattle.front_answer.proofs.writing.push_pairs.Given as goal
 
-abbrev pub invariant-loop-pair : goal.invariant-loop-pair
-invariant-loop-pair l = l.into.items ≡ l.fn.into.items ++ flat_map pair_line (take l.pair-index l.pairs)
+abbrev pub invariant-loop-i : goal.invariant-loop-i
+invariant-loop-i l = l.into.items ≡ l.fn.into.items ++ flat_map pair_line (take l.i l.pairs)
