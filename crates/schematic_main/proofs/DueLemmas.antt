@@ -9,7 +9,7 @@ use Rattle.plan_core.specs.Drawing.{Drawing}
 use Rattle.track_order.specs.Order.{EdgeOrder}
 use Rattle.outside_io.specs.Contents.{Told, IsFileWhereTold, TellsAt}
 use Rattle.plan_words.specs.declared.command.Command.{Command}
-use Rattle.plan_words.specs.declared.command.Command.TheVariants.{Draw, Verify, Check, Graph as PrintGraph, Make, Trial, Signals, Front}
+use Rattle.plan_words.specs.declared.command.Command.TheVariants.{Draw, Verify, Check, Graph as PrintGraph, Make, Trial, Signals, Front, Redraw, Explain}
 use Rattle.plan_words.specs.Words.{IsCommandOf}
 use Rattle.plan_text.specs.SheetText.{Sheet as PlainSheet}
 use Rattle.refute_log.specs.Lines.{log_text, MayAllBeTold}
@@ -40,7 +40,16 @@ use Rattle.draw_answer.specs.Drawn.{Job, job, status_of, IsDrawAnswer}
 use Rattle.draw_answer.specs.Signalled.{job_for, IsSignalFileJudged}
 use Rattle.trade_off.specs.declared.outcome.FrontEnd.{FrontEnd}
 use Rattle.trade_off.specs.declared.outcome.FrontEnd.TheVariants.{Whole, Empty, Conflicts, Room as EndRoom}
+use Rattle.law_core.specs.declared.ending.Why.{Why}
+use Rattle.law_core.specs.declared.ending.Why.TheVariants as why
+use Rattle.explain_answer.specs.Explained.{ExplainJob, explain_job, status_of_why, IsExplainAnswer}
 use Rattle.front_answer.specs.Fronted.{FrontJob, front_job, status_of_front, IsFrontAnswer}
+use Rattle.moved_count.specs.Moved.{Former}
+use Rattle.fewest_search.specs.declared.outcome.Fewest.{Fewest}
+use Rattle.fewest_search.specs.declared.outcome.Fewest.TheVariants as fewest
+use Rattle.draw_answer.specs.SearchLog.{IsRunLog}
+use Rattle.redraw_answer.specs.Redrawn.{RedrawJob, redraw_job, status_of_moved, IsRedrawn}
+use Rattle.redraw_answer.specs.Judged.{IsFormerJudged, AreJudged}
 use Rattle.draw_answer.specs.Tried.{IsTried}
 use Rattle.schematic_main.specs.Commands.{Owes, ends_of, HasSoundFile, AreSound}
 use Rattle.schematic_main.specs.Run.{Asks, IsAnswerDue, FailsIn}
@@ -123,6 +132,33 @@ on_ending P EndRoom done none unfinished = unfinished
 on_front : (P : Status → Type 0) (asked : FrontJob) (traced : Lines → Type 0) (g : Graph) (o : EdgeOrder) (status : Status) (text : List ℕ) → OfOwed P → IsFrontAnswer asked traced g o status text → P status
 on_front P asked traced g o status text owed f = subst P (sym f.status_is) (on_ending P f.ending owed.done owed.none owed.unfinished)
 
+on_fewest : (P : Status → Type 0) (outcome : Fewest) → P Done → P NoDrawing → P Unfinished → P (status_of_moved outcome)
+on_fewest P (fewest.Best d) done none unfinished = done
+on_fewest P fewest.NoDrawing done none unfinished = none
+on_fewest P (fewest.Spent found) done none unfinished = unfinished
+on_fewest P (fewest.Room found) done none unfinished = unfinished
+
+-- what redraw answers to a station and its former points
+abbrev Redrawn : RedrawJob → (traced : Lines → Type 0) → Graph → EdgeOrder → Former → Status → List ℕ → Type 0
+Redrawn asked traced g o points = IsRedrawn g o asked points traced
+
+on_redrawn : (P : Status → Type 0) (asked : RedrawJob) (traced : Lines → Type 0) (g : Graph) (o : EdgeOrder) (points : Former) (status : Status) (text : List ℕ) → OfOwed P → IsRedrawn g o asked points traced status text → P status
+on_redrawn P asked traced g o points status text owed r = subst P (sym r.status_is) (on_fewest P r.outcome owed.done owed.none owed.unfinished)
+
+on_former : (P : Status → Type 0) (asked : RedrawJob) (traced : Lines → Type 0) (g : Graph) (o : EdgeOrder) (old said : List ℕ) (status : Status) (text : List ℕ) → OfOwed P → IsFormerJudged (Redrawn asked traced g o) g old said status text → P status
+on_former P asked traced g o old said status text owed (inl (h, q, has, inl (points, gives, redrawn))) = on_redrawn P asked traced g o points status text owed redrawn
+on_former P asked traced g o old said status text owed (inl (h, q, has, inr r)) = subst P (sym r.answers.status_is) owed.refused
+on_former P asked traced g o old said status text owed (inr r) = subst P (sym (r.status_is ∙ file_fault_status old r.fault r.has)) owed.refused
+
+on_why : (P : Status → Type 0) (w : Why) → P Done → P Unfinished → P (status_of_why w)
+on_why P (why.Exists d) done unfinished = done
+on_why P (why.Laws names without) done unfinished = done
+on_why P why.Spent done unfinished = unfinished
+on_why P why.Room done unfinished = unfinished
+
+on_explain : (P : Status → Type 0) (asked : ExplainJob) (traced : Lines → Type 0) (g : Graph) (o : EdgeOrder) (status : Status) (text : List ℕ) → OfOwed P → IsExplainAnswer asked traced g o status text → P status
+on_explain P asked traced g o status text owed f = subst P (sym f.status_is) (on_why P f.why owed.done owed.unfinished)
+
 on_command : (P : Status → Type 0) (command : Command) (met : Met) (traced : Lines → Type 0) (status : Status) (text : List ℕ) → OfOwed P → (FailsIn command met → P Unread) → Owes command met traced status text → P status
 on_command P (Draw input grid order budget svg log) met traced status text owed unread owes =
     let asked = job grid order budget svg log in
@@ -155,6 +191,18 @@ on_command P (Front input first second grid budget) met traced status text owed 
     let asked = front_job grid first second budget in
     on_input P (text_input 1 input) 0 met (IsAnswerAfter 1 met (IsFileJudged (IsFrontAnswer asked traced))) status text owed.refused (λ fails. unread (0, lit< tt, fails))
     (λ bytes answer. on_file P (IsFrontAnswer asked traced) bytes status text owed.refused (λ g o. on_front P asked traced g o status text owed) answer.1)
+    owes
+on_command P (Redraw input former sheet grid budget log) met traced status text owed unread owes =
+    let asked = redraw_job grid budget log in
+    let told : Lines → Type 0 = IsRunLog log met traced in
+    on_input P (text_input 1 input) 0 met (λ bytes. IsAnswerOn (text_input 2 former) 1 met (λ old. IsAnswerOn (text_input 3 sheet) 2 met (IsAnswerAfter 3 met (AreJudged (Redrawn asked told) bytes old)))) status text owed.refused (λ fails. unread (0, lit< tt, fails))
+    (λ bytes. on_input P (text_input 2 former) 1 met (λ old. IsAnswerOn (text_input 3 sheet) 2 met (IsAnswerAfter 3 met (AreJudged (Redrawn asked told) bytes old))) status text owed.refused (λ fails. unread (1, lit< tt, fails))
+    (λ old. on_input P (text_input 3 sheet) 2 met (IsAnswerAfter 3 met (AreJudged (Redrawn asked told) bytes old)) status text owed.refused (λ fails. unread (2, lit< tt, fails))
+    (λ said answer. on_file P (λ g o. IsFormerJudged (Redrawn asked told g o) g old said) bytes status text owed.refused (λ g o. on_former P asked told g o old said status text owed) answer.1)))
+on_command P (Explain input grid budget) met traced status text owed unread owes =
+    let asked = explain_job grid budget in
+    on_input P (text_input 1 input) 0 met (IsAnswerAfter 1 met (IsFileJudged (IsExplainAnswer asked traced))) status text owed.refused (λ fails. unread (0, lit< tt, fails))
+    (λ bytes answer. on_file P (IsExplainAnswer asked traced) bytes status text owed.refused (λ g o. on_explain P asked traced g o status text owed) answer.1)
     owes
 
 on_due : (P : Status → Type 0) (words : List (List ℕ)) (met : Met) (traced : Lines → Type 0) (status : Status) (text : List ℕ) → OfOwed P → (Asks words (λ command. FailsIn command met) → P Unread) → IsAnswerDue words met traced status text → P status
@@ -248,6 +296,18 @@ checked_status g o sheet lines status text sound formed (inl checked) = elim che
 ]
 checked_status g o sheet lines status text sound formed (inr refused) = absurd (sound.sound refused.what refused.line refused.first)
 
+fewest_status : (outcome : Fewest) (status : Status) → status ≡ status_of_moved outcome → (status ≡ Done) ⊎ (status ≡ NoDrawing) ⊎ (status ≡ Unfinished)
+fewest_status outcome status is =
+    subst (λ s. (s ≡ Done) ⊎ (s ≡ NoDrawing) ⊎ (s ≡ Unfinished)) (sym is)
+    (on_fewest (λ s. (s ≡ Done) ⊎ (s ≡ NoDrawing) ⊎ (s ≡ Unfinished)) outcome (inl refl) (inr (inl refl)) (inr (inr refl)))
+
+-- a former file and a sheet without a fault are answered
+redrawn_status : (asked : RedrawJob) (traced : Lines → Type 0) (g : Graph) (o : EdgeOrder) (old said : List ℕ) (status : Status) (text : List ℕ) → ((fault : RunFault) → HasFileFault old fault → ⊥) →
+    ((h : Graph) → (q : EdgeOrder) × HasStation old h q → IsSoundSheet h true said) → IsFormerJudged (Redrawn asked traced g o) g old said status text → (status ≡ Done) ⊎ (status ≡ NoDrawing) ⊎ (status ≡ Unfinished)
+redrawn_status asked traced g o old said status text sound drawn (inl (h, q, has, inl (points, gives, r))) = fewest_status r.outcome status r.status_is
+redrawn_status asked traced g o old said status text sound drawn (inl (h, q, has, inr r)) = let sheet = drawn h (q, has) in absurd (sheet.sound r.what r.line r.first)
+redrawn_status asked traced g o old said status text sound drawn (inr r) = absurd (sound r.fault r.has)
+
 -- a command whose inputs are sound, and none of whose reads failed, ends as it is there for
 sound_ends : (command : Command) (met : Met) (traced : Lines → Type 0) (status : Status) (text : List ℕ) → AreSound command met.before.contents → (FailsIn command met → ⊥) → Owes command met traced status text → ends_of command status
 sound_ends (Draw input grid order budget svg log) met traced status text file read owes =
@@ -293,6 +353,22 @@ sound_ends (Front input first second grid budget) met traced status text file re
     let found = sound_judged (IsFrontAnswer asked traced) file.bytes status text file.sound judged.1 in
     subst (λ s. (s ≡ Done) ⊎ (s ≡ NoDrawing) ⊎ (s ≡ Unfinished)) (sym found.3.status_is)
     (on_ending (λ s. (s ≡ Done) ⊎ (s ≡ NoDrawing) ⊎ (s ≡ Unfinished)) found.3.ending (inl refl) (inr (inl refl)) (inr (inr refl)))
+sound_ends (Redraw input former sheet grid budget log) met traced status text (file, old, said) read owes =
+    let asked = redraw_job grid budget log in
+    let told : Lines → Type 0 = IsRunLog log met traced in
+    let first =
+    first_on input met file (λ bytes. IsAnswerOn (text_input 2 former) 1 met (λ before. IsAnswerOn (text_input 3 sheet) 2 met (IsAnswerAfter 3 met (AreJudged (Redrawn asked told) bytes before)))) status text (λ fails. read (0, lit< tt, fails)) owes in
+    let second =
+    within_on (text_input 2 former) 1 met old.bytes (λ before. IsAnswerOn (text_input 3 sheet) 2 met (IsAnswerAfter 3 met (AreJudged (Redrawn asked told) file.bytes before))) status text old.there (λ long. old.sound (Long 1) (refl, long)) (λ fails. read (1, lit< tt, fails)) first in
+    let third =
+    within_on (text_input 3 sheet) 2 met said.bytes (IsAnswerAfter 3 met (AreJudged (Redrawn asked told) file.bytes old.bytes)) status text said.there (too_long MAX_FILE_BYTES said.bytes said.short) (λ fails. read (2, lit< tt, fails)) second in
+    let found = sound_judged (λ g o. IsFormerJudged (Redrawn asked told g o) g old.bytes said.bytes) file.bytes status text file.sound third.1 in
+    redrawn_status asked told found.0 found.1 old.bytes said.bytes status text old.sound said.sound found.3
+sound_ends (Explain input grid budget) met traced status text file read owes =
+    let asked = explain_job grid budget in
+    let judged = first_on input met file (IsAnswerAfter 1 met (IsFileJudged (IsExplainAnswer asked traced))) status text (λ fails. read (0, lit< tt, fails)) owes in
+    let found = sound_judged (IsExplainAnswer asked traced) file.bytes status text file.sound judged.1 in
+    subst (λ s. (s ≡ Done) ⊎ (s ≡ Unfinished)) (sym found.3.status_is) (on_why (λ s. (s ≡ Done) ⊎ (s ≡ Unfinished)) found.3.why (inl refl) (inr refl))
 
 -- so do words that ask for it
 pub due_ends : (words : List (List ℕ)) (command : Command) (met : Met) (traced : Lines → Type 0) (status : Status) (text : List ℕ) → IsCommandOf words command → AreSound command met.before.contents → (FailsIn command met → ⊥) → IsAnswerDue words met traced status text → ends_of command status

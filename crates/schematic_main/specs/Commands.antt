@@ -7,7 +7,7 @@ use Rattle.plan_core.specs.declared.limits.TheConstants.{MAX_FILE_BYTES, MAX_LOG
 use Rattle.plan_core.specs.Graph.{Graph}
 use Rattle.plan_words.specs.declared.command.Command.{Command}
 use Rattle.plan_words.specs.declared.command.Command.TheVariants.{Draw, Verify, Check, Graph as PrintGraph, Make}
-use Rattle.plan_words.specs.declared.command.Command.TheVariants.{Trial, Signals, Front}
+use Rattle.plan_words.specs.declared.command.Command.TheVariants.{Trial, Signals, Front, Redraw, Explain}
 use Rattle.track_order.specs.Order.{EdgeOrder}
 use Rattle.refute_log.specs.Lines.{log_text, MayAllBeTold}
 use Rattle.refute_log.specs.Told.{Lines}
@@ -27,6 +27,9 @@ use Rattle.draw_answer.specs.Drawn.{job, IsDrawAnswer, IsLeftByDraw}
 use Rattle.draw_answer.specs.Signalled.{IsSignalFileJudged, HasReadSignals, IsLeftBySignals}
 use Rattle.draw_answer.specs.Tried.{IsMade, IsTried}
 use Rattle.front_answer.specs.Fronted.{front_job, IsFrontAnswer}
+use Rattle.redraw_answer.specs.Redrawn.{redraw_job}
+use Rattle.redraw_answer.specs.Answer.{IsRedrawAnswer, HasReadFormer, IsLeftByRedraw}
+use Rattle.explain_answer.specs.Explained.{explain_job, IsExplainAnswer}
 use Rattle.sheet_answer.specs.Checked.{IsCheckAnswer}
 
 -- ---- what is asked
@@ -41,6 +44,8 @@ HasApartPair (Make n) = ⊤
 HasApartPair (Trial n) = ⊤
 HasApartPair (Signals input grid order budget log) = ⊤
 HasApartPair (Front input first second grid budget) = first ≢ second
+HasApartPair (Redraw input former sheet grid budget log) = ⊤
+HasApartPair (Explain input grid budget) = ⊤
 
 -- ---- what it reads and writes
 
@@ -54,6 +59,9 @@ inputs_of (Make n) = []
 inputs_of (Trial n) = []
 inputs_of (Signals input grid order budget log) = text_input 1 input ∷ []
 inputs_of (Front input first second grid budget) = text_input 1 input ∷ []
+inputs_of (Redraw input former sheet grid budget log) =
+    text_input 1 input ∷ text_input 2 former ∷ text_input 3 sheet ∷ []
+inputs_of (Explain input grid budget) = text_input 1 input ∷ []
 
 -- the names of the files that a command writes, in this order
 abbrev pub outputs_of : Command → List (List ℕ)
@@ -65,9 +73,11 @@ outputs_of (Make n) = []
 outputs_of (Trial n) = []
 outputs_of (Signals input grid order budget log) = file_named log
 outputs_of (Front input first second grid budget) = []
+outputs_of (Redraw input former sheet grid budget log) = file_named log
+outputs_of (Explain input grid budget) = []
 
--- a command tells the lines of a search to the trace: draw and signals, where no file is named for them, trial and
--- front
+-- a command tells the lines of a search to the trace: draw, signals and redraw, where no file is named for them, trial,
+-- front and explain
 abbrev pub TellsTrace : Command → Type 0
 TellsTrace (Draw input grid order budget svg log) = log ≡ None
 TellsTrace (PrintGraph input) = ⊥
@@ -77,9 +87,12 @@ TellsTrace (Make n) = ⊥
 TellsTrace (Trial n) = ⊤
 TellsTrace (Signals input grid order budget log) = log ≡ None
 TellsTrace (Front input first second grid budget) = ⊤
+TellsTrace (Redraw input former sheet grid budget log) = log ≡ None
+TellsTrace (Explain input grid budget) = ⊤
 
--- a command has something to search: draw where it read its file and that has a station, trial where its made file has
--- one, and signals where the file that it read has a station and signals without a fault
+-- a command has something to search: draw, front and explain where it read its file and that has a station, trial where
+-- its made file has one, signals where the file that it read has a station and signals without a fault, and redraw
+-- where the three files that it read have a station and former points
 abbrev pub MaySearch : Command → Met → Type 0
 MaySearch (Draw input grid order budget svg log) met = HasReadStation input met
 MaySearch (PrintGraph input) met = ⊥
@@ -89,6 +102,8 @@ MaySearch (Make n) met = ⊥
 MaySearch (Trial n) met = HasSomeStation (station_text n)
 MaySearch (Signals input grid order budget log) met = HasReadSignals input met
 MaySearch (Front input first second grid budget) met = HasReadStation input met
+MaySearch (Redraw input former sheet grid budget log) met = HasReadFormer input former sheet met
+MaySearch (Explain input grid budget) met = HasReadStation input met
 
 -- it may write a file, with what the run met; it may tell the trace
 abbrev pub MayWrite : Command → Met → Type 0
@@ -111,13 +126,16 @@ MayLeave (Trial n) met traced name bytes = ⊥
 MayLeave (Signals input grid order budget log) met traced name bytes =
     IsLeftBySignals input (job grid order budget None log) met name bytes
 MayLeave (Front input first second grid budget) met traced name bytes = ⊥
+MayLeave (Redraw input former sheet grid budget log) met traced name bytes =
+    IsLeftByRedraw input former sheet (redraw_job grid budget log) met name bytes
+MayLeave (Explain input grid budget) met traced name bytes = ⊥
 
 -- ---- what it owes
 
 -- with what the run met and what the trace was told, the status that a command ends with and the text that it puts.
--- verify reads the file, and then the sheet, before it judges what they say, and check so the log too; draw, signals
--- and graph read the file alone; make and trial read nothing, and trial judges a made file as draw does one that is
--- read
+-- verify reads the file, and then the sheet, before it judges what they say, check so the log too, and redraw the
+-- former file between them; draw, signals, front, explain and graph read the file alone; make and trial read nothing,
+-- and trial judges a made file as draw does one that is read
 abbrev pub Owes : Command → Met → (traced : Lines → Type 0) → Status → List ℕ → Type 0
 Owes (Draw input grid order budget svg log) met traced status text =
     IsAnswerToFile input met (IsFileJudged (IsDrawAnswer (job grid order budget svg log) met traced)) status text
@@ -132,6 +150,10 @@ Owes (Signals input grid order budget log) met traced status text =
     IsAnswerToFile input met (IsSignalFileJudged (job grid order budget None log) met traced) status text
 Owes (Front input first second grid budget) met traced status text =
     IsAnswerToFile input met (IsFileJudged (IsFrontAnswer (front_job grid first second budget) traced)) status text
+Owes (Redraw input former sheet grid budget log) met traced status text =
+    IsRedrawAnswer input former sheet (redraw_job grid budget log) met traced status text
+Owes (Explain input grid budget) met traced status text =
+    IsAnswerToFile input met (IsFileJudged (IsExplainAnswer (explain_job grid budget) traced)) status text
 
 -- ---- how it ends
 
@@ -145,6 +167,9 @@ ends_of (Make n) status = status ≡ Done
 ends_of (Trial n) status = (status ≡ Done) ⊎ (status ≡ NoDrawing) ⊎ (status ≡ Unfinished)
 ends_of (Signals input grid order budget log) status = (status ≡ Done) ⊎ (status ≡ NoDrawing) ⊎ (status ≡ Unfinished)
 ends_of (Front input first second grid budget) status = (status ≡ Done) ⊎ (status ≡ NoDrawing) ⊎ (status ≡ Unfinished)
+ends_of (Redraw input former sheet grid budget log) status =
+    (status ≡ Done) ⊎ (status ≡ NoDrawing) ⊎ (status ≡ Unfinished)
+ends_of (Explain input grid budget) status = (status ≡ Done) ⊎ (status ≡ Unfinished)
 
 -- the file of this name is told, and its bytes have none of the faults
 pub record HasSoundFile (name : List ℕ) (contents : Option Told) : Type 0 where
@@ -190,3 +215,7 @@ AreSound (Make n) contents = ⊤
 AreSound (Trial n) contents = (fault : RunFault) → HasFileFault (station_text n) fault → ⊥
 AreSound (Signals input grid order budget log) contents = HasSoundSignals input contents
 AreSound (Front input first second grid budget) contents = HasSoundFile input contents
+AreSound (Redraw input former sheet grid budget log) contents =
+    HasSoundFile input contents × (old : HasSoundFile former contents)
+    × HasSoundSheet sheet contents true (HasStationGraph old.bytes)
+AreSound (Explain input grid budget) contents = HasSoundFile input contents

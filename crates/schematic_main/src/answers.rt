@@ -9,10 +9,12 @@ ghost use Rattle.draw_answer.specs.Written.{AreFilesApart};
 ghost use Rattle.schematic_main.specs.Run.{CommandFailsToWrite};
 
 use draw_answer::{Asked, draw, made, signals, trial};
+use explain_answer::{ExplainAsked, explain};
 use front_answer::{FrontAsked, front};
 use input_answer::{Cut, Reply, print};
 use outside_io::Files;
 use plan_words::Command;
+use redraw_answer::{RedrawAsked, redraw};
 use refute_log::LogSink;
 use sheet_answer::{check, verify};
 use std::alloc::Global;
@@ -99,6 +101,32 @@ pub fn answer_to<F: Files, T: LogSink>(
                 budget: *budget,
             };
             front(alloc, input, &asked, files, trace)
+        }
+        Command::Redraw {
+            input,
+            former,
+            sheet,
+            grid,
+            budget,
+            log,
+        } => {
+            let asked = RedrawAsked {
+                grid,
+                budget: *budget,
+                log,
+            };
+            redraw(alloc, input, former, sheet, &asked, files, trace)
+        }
+        Command::Explain {
+            input,
+            grid,
+            budget,
+        } => {
+            let asked = ExplainAsked {
+                grid,
+                budget: *budget,
+            };
+            explain(alloc, input, &asked, files, trace)
         }
     }
 }

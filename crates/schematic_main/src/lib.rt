@@ -6,9 +6,10 @@
 //! inputs are sound; a new command is one more row of each. `specs/Run` says the same of the words that ask for it.
 //! `running` reads the words and puts the answer, and `answers` hands a command to the crate that answers it:
 //! input_answer (`graph`, and what every command does with an input), draw_answer (`draw`, `signals`, `make`,
-//! `trial`), front_answer (`front`), sheet_answer (`verify`, `check`). `laws` says when whole runs of `verify` and
-//! `check` end with 0, and that `check` does on what `draw` put and left. `read_words` and its types are those of
-//! `plan_words`. The program `railplan_main` stands on this crate, and so do runs over files in memory, `worked_files`.
+//! `trial`), front_answer (`front`), explain_answer (`explain`), redraw_answer (`redraw`), sheet_answer (`verify`,
+//! `check`). `laws` says when whole runs of `verify` and `check` end with 0, and that `check` does on what `draw` put
+//! and left. `read_words` and its types are those of `plan_words`. The program `railplan_main` stands on this crate,
+//! and so do runs over files in memory, `worked_files`.
 #![tactic(auto)]
 
 mod answers;

@@ -111,6 +111,30 @@ fn command_shown(alloc: Global, command: &Command) -> Result<String, AllocError>
             let grid = grid_shown(alloc, grid)?;
             format!(in alloc; "front {input} {first}{second} {grid} {budget}")
         }
+        Command::Redraw {
+            input,
+            former,
+            sheet,
+            grid,
+            budget,
+            log,
+        } => {
+            let input = input.as_str();
+            let former = former.as_str();
+            let sheet = sheet.as_str();
+            let grid = grid_shown(alloc, grid)?;
+            let log = file_shown(log);
+            format!(in alloc; "redraw {input} {former} {sheet} {grid} {budget} {log}")
+        }
+        Command::Explain {
+            input,
+            grid,
+            budget,
+        } => {
+            let input = input.as_str();
+            let grid = grid_shown(alloc, grid)?;
+            format!(in alloc; "explain {input} {grid} {budget}")
+        }
     }
 }
 
@@ -286,6 +310,88 @@ static FRONTS: [(&[&str], &str); 9] = [
     ),
 ];
 
+static REDRAWS: [(&[&str], &str); 14] = [
+    (&["redraw", "a", "b", "s"], "redraw a b s 40 8 1 50000 none"),
+    (
+        &[
+            "redraw",
+            "--log",
+            "l",
+            "a",
+            "--least",
+            "2",
+            "b",
+            "--width",
+            "9",
+            "s",
+            "--height",
+            "3",
+            "--conflicts",
+            "7",
+        ],
+        "redraw a b s 9 3 2 7 l",
+    ),
+    // The files that are read may be the same, and the log is another one.
+    (&["redraw", "a", "a", "a"], "redraw a a a 40 8 1 50000 none"),
+    (&["redraw", "a", "b", "s", "--log", "a"], "7 BadValue 6"),
+    (&["redraw", "a", "b", "s", "--log", "b"], "7 BadValue 6"),
+    (&["redraw", "a", "b", "--log", "s", "s"], "7 BadValue 6"),
+    (&["redraw", "a", "--log", "a", "a", "s"], "7 BadValue 4"),
+    (&["redraw", "--log", "l", "a", "a", "l"], "7 BadValue 6"),
+    (&["redraw", "a", "b"], "3 MissingName 4"),
+    (&["redraw", "a", "b", "s", "t"], "4 ExtraWord 5"),
+    (&["redraw", "a", "", "s"], "7 BadValue 3"),
+    (
+        &["redraw", "a", "b", "s", "--order", "width"],
+        "5 UnknownOption 5",
+    ),
+    (
+        &["redraw", "a", "b", "s", "--svg", "p"],
+        "5 UnknownOption 5",
+    ),
+    (&["redraw", "a", "b", "s", "--log", ""], "7 BadValue 6"),
+];
+
+#[test]
+fn words_of_redraws_are_a_command_or_have_the_fault_that_counts(
+    rt: HostRuntime,
+) -> Result<(), Fail> {
+    let alloc = rt.alloc();
+    for (words, want) in &REDRAWS {
+        let answer = answer_shown(alloc, words)?;
+        assert_eq!(rt; answer.as_str(), *want, "{words:?}");
+    }
+    Ok(())
+}
+
+static EXPLANATIONS: [(&[&str], &str); 8] = [
+    (&["explain", "a"], "explain a 40 8 1 50000"),
+    (
+        &[
+            "explain",
+            "--least",
+            "2",
+            "--height",
+            "0",
+            "a",
+            "--width",
+            "9",
+            "--conflicts",
+            "7",
+        ],
+        "explain a 9 0 2 7",
+    ),
+    (&["explain"], "3 MissingName 2"),
+    (&["explain", ""], "7 BadValue 2"),
+    (&["explain", "a", "b"], "4 ExtraWord 3"),
+    (&["explain", "a", "--order", "width"], "5 UnknownOption 3"),
+    (&["explain", "a", "--log", "l"], "5 UnknownOption 3"),
+    (
+        &["explain", "a", "--width", "4", "--width", "4"],
+        "6 RepeatedOption 5",
+    ),
+];
+
 #[test]
 fn words_are_a_command_or_have_the_fault_that_counts(rt: HostRuntime) -> Result<(), Fail> {
     let alloc = rt.alloc();
@@ -314,6 +420,18 @@ fn words_of_fronts_are_a_command_or_have_the_fault_that_counts(
 ) -> Result<(), Fail> {
     let alloc = rt.alloc();
     for (words, want) in &FRONTS {
+        let answer = answer_shown(alloc, words)?;
+        assert_eq!(rt; answer.as_str(), *want, "{words:?}");
+    }
+    Ok(())
+}
+
+#[test]
+fn words_of_explanations_are_a_command_or_have_the_fault_that_counts(
+    rt: HostRuntime,
+) -> Result<(), Fail> {
+    let alloc = rt.alloc();
+    for (words, want) in &EXPLANATIONS {
         let answer = answer_shown(alloc, words)?;
         assert_eq!(rt; answer.as_str(), *want, "{words:?}");
     }

@@ -101,3 +101,46 @@ returns-in-Front-clause-untold g c =
     let Refused : Type 0 = IsOkAnd c.front.result (λ r. IsRefused r.status) in
     subst (λ (command : Command). Refused ⊎ (MayTell command met → ⊥) → c.front.new.trace ≡ c.args.trace.now) (sym c.in-Front.is)
     (λ none. c.front.ensures.untold (elim none [ inl refused ↦ inl refused | inr nothing ↦ inr (λ may. nothing (tt, may)) ]))
+
+pub returns-in-Redraw-clause-answer : goal.returns-in-Redraw-clause-answer
+returns-in-Redraw-clause-answer g c =
+    let met = between (g.F.Files.at c.args.files.now) (g.F.Files.at c.redraw.new.files) in
+    let traced = told_to {Self = g.row.T.Denot} g.T.LogSink.tells g.T.LogSink.learnt c.args.trace.now c.redraw.new.trace in
+    subst (λ (command : Command). IfOk c.redraw.result (λ r. Owes command met traced r.status r.text.items)) (sym c.in-Redraw.is) c.redraw.ensures.answer
+
+pub returns-in-Redraw-clause-leaves : goal.returns-in-Redraw-clause-leaves
+returns-in-Redraw-clause-leaves g c =
+    let old = (g.F.Files.at c.args.files.now).contents in
+    let new = (g.F.Files.at c.redraw.new.files).contents in
+    let met = between (g.F.Files.at c.args.files.now) (g.F.Files.at c.redraw.new.files) in
+    let traced = told_to {Self = g.row.T.Denot} g.T.LogSink.tells g.T.LogSink.learnt c.args.trace.now c.redraw.new.trace in
+    let Refused : Type 0 = IsOkAnd c.redraw.result (λ r. IsRefused r.status) in
+    subst (λ (command : Command). WhereTold old new (LeftSo (λ name bytes. (Refused → ⊥) × MayLeave command met traced name bytes))) (sym c.in-Redraw.is) c.redraw.ensures.leaves
+
+pub returns-in-Redraw-clause-unwritten : goal.returns-in-Redraw-clause-unwritten
+returns-in-Redraw-clause-unwritten g c =
+    let met = between (g.F.Files.at c.args.files.now) (g.F.Files.at c.redraw.new.files) in
+    let Refused : Type 0 = IsOkAnd c.redraw.result (λ r. IsRefused r.status) in
+    subst (λ (command : Command). Refused ⊎ (MayWrite command met → ⊥) → IsUnwritten met) (sym c.in-Redraw.is) c.redraw.ensures.unwritten
+
+pub returns-in-Redraw-clause-untold : goal.returns-in-Redraw-clause-untold
+returns-in-Redraw-clause-untold g c =
+    let met = between (g.F.Files.at c.args.files.now) (g.F.Files.at c.redraw.new.files) in
+    let Refused : Type 0 = IsOkAnd c.redraw.result (λ r. IsRefused r.status) in
+    subst (λ (command : Command). Refused ⊎ (MayTell command met → ⊥) → c.redraw.new.trace ≡ c.args.trace.now) (sym c.in-Redraw.is) c.redraw.ensures.untold
+
+pub returns-in-Explain-clause-answer : goal.returns-in-Explain-clause-answer
+returns-in-Explain-clause-answer g c =
+    let met = between (g.F.Files.at c.args.files.now) (g.F.Files.at c.explain.new.files) in
+    let traced = told_to {Self = g.row.T.Denot} g.T.LogSink.tells g.T.LogSink.learnt c.args.trace.now c.explain.new.trace in
+    subst (λ (command : Command). IfOk c.explain.result (λ r. Owes command met traced r.status r.text.items)) (sym c.in-Explain.is) c.explain.ensures.answer
+
+pub returns-in-Explain-clause-leaves : goal.returns-in-Explain-clause-leaves
+returns-in-Explain-clause-leaves g c = leaves_same _ (g.F.Files.at c.args.files.now).contents (g.F.Files.at c.explain.new.files).contents c.explain.ensures.same
+
+pub returns-in-Explain-clause-untold : goal.returns-in-Explain-clause-untold
+returns-in-Explain-clause-untold g c =
+    let met = between (g.F.Files.at c.args.files.now) (g.F.Files.at c.explain.new.files) in
+    let Refused : Type 0 = IsOkAnd c.explain.result (λ r. IsRefused r.status) in
+    subst (λ (command : Command). Refused ⊎ (MayTell command met → ⊥) → c.explain.new.trace ≡ c.args.trace.now) (sym c.in-Explain.is)
+    (λ none. c.explain.ensures.untold (elim none [ inl refused ↦ inl refused | inr nothing ↦ inr (λ may. nothing (tt, may)) ]))

@@ -1,0 +1,2 @@
+pub mod WhyText
+pub mod Explained
