@@ -1,7 +1,7 @@
 """pages/run.py LAUNCHER PAGE [--unproved] WORDS..
 
-Runs the words, which are those of draw, signals, front or verify, and writes the page of the run. What the program puts and how
-it ends stay as they are; a page is written whole or not at all, and none where a fault was put."""
+Runs the words, which are those of draw, signals, front, explain, redraw or verify, and writes the page of the run. What the program puts
+and how it ends stay as they are; a page is written whole or not at all, and none where a fault was put."""
 import os
 import signal
 import subprocess
@@ -41,8 +41,8 @@ def run(command, page, words):
 def main(launcher, page="", *words):
     front = words[:1] if words[:1] == ("--unproved",) else ()
     words = list(words[len(front):])
-    if words[:1] not in (["draw"], ["signals"], ["front"], ["verify"]) or not page:
-        stop("a page is asked for by --html FILE and the words of draw, signals, front or verify")
+    if words[:1] not in (["draw"], ["signals"], ["front"], ["explain"], ["redraw"], ["verify"]) or not page:
+        stop("a page is asked for by --html FILE and the words of draw, signals, front, explain, redraw or verify")
     if os.path.realpath(page) in map(os.path.realpath, files_of(words)):
         stop("the page has the name of another file of the run")
     return run([sys.executable, launcher, *front, *words], page, words)

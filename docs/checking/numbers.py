@@ -354,13 +354,13 @@ def prose_that_fails():
     height, bends, diagonal, width = re.search(r"^values (\d+) (\d+) (\d+) (\d+)$", read(TOP / "examples/station.sheet"), re.M).groups()
     *front, last = usual_order()
     names = {word: WORDS_OF_NUMBERS[number] for word, number in commands().items()}
-    ones, twos = ([f"`{word}`" for word, number in commands().items() if number == many and word not in ("make", "trial")]
-                  for many in (1, 2))
+    ones, twos, threes = ([f"`{word}`" for word, number in commands().items() if number == many and word not in ("make", "trial")]
+                          for many in (1, 2, 3))
     due = [(README, f"its highest row is row {height}, counted from 0, it has {bends} bends and {diagonal} columns of diagonals, its "
                     f"last column is column {width}"),
            (README, f"better in {', '.join(front)} and {last}"),
-           (FORMATS, f"{', '.join(ones[:-1])} and {ones[-1]} have {names['draw']} name, {' and '.join(twos)} {names['verify']}, `check` "
-                     f"{names['check']}, and `make` and `trial` {names['make']}")]
+           (FORMATS, f"{', '.join(ones[:-1])} and {ones[-1]} have {names['draw']} name, {' and '.join(twos)} {names['verify']}, "
+                     f"{' and '.join(threes)} {names['check']}, and `make` and `trial` {names['make']}")]
     return [f"{show(page)}: doesn't say '{text}'" for page, text in due if text not in " ".join(read(page).split())]
 
 

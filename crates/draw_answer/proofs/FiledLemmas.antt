@@ -97,7 +97,7 @@ holds_later (Some a) None new name lines same holds = absurd same
 holds_later (Some a) (Some b) None name lines same holds = absurd holds
 holds_later (Some a) (Some b) (Some c) name lines same holds = holds
 
-log_later : (named : Option (List ℕ)) (old mid new : FilesAt) (traced : Lines → Type 0) (lines : Lines) → WhereTold old.contents mid.contents SameFiles → IsRunLog named (between mid new) traced lines → IsRunLog named (between old new) traced lines
+pub log_later : (named : Option (List ℕ)) (old mid new : FilesAt) (traced : Lines → Type 0) (lines : Lines) → WhereTold old.contents mid.contents SameFiles → IsRunLog named (between mid new) traced lines → IsRunLog named (between old new) traced lines
 log_later None old mid new traced lines same told = told
 log_later (Some name) old mid new traced lines same told = holds_later old.contents mid.contents new.contents name lines same told
 

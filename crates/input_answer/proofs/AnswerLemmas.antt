@@ -65,7 +65,7 @@ refused_on Answers name met refusals.Memory fault status text refused same told 
 -- ---- two reads
 
 -- a file that is told after a read is told before it
-told_before : (old mid : Option Told) (name bytes : List ℕ) → WhereTold old mid SameFiles → IsFileWhereTold mid name bytes → IsFileWhereTold old name bytes
+pub told_before : (old mid : Option Told) (name bytes : List ℕ) → WhereTold old mid SameFiles → IsFileWhereTold mid name bytes → IsFileWhereTold old name bytes
 told_before None mid name bytes same is = tt
 told_before (Some before) None name bytes same is = absurd same
 told_before (Some before) (Some after) name bytes same is = sym (same name) ∙ is

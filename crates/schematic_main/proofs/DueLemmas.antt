@@ -199,6 +199,7 @@ on_command P (Redraw input former sheet grid budget log) met traced status text 
     (λ bytes. on_input P (text_input 2 former) 1 met (λ old. IsAnswerOn (text_input 3 sheet) 2 met (IsAnswerAfter 3 met (AreJudged (Redrawn asked told) bytes old))) status text owed.refused (λ fails. unread (1, lit< tt, fails))
     (λ old. on_input P (text_input 3 sheet) 2 met (IsAnswerAfter 3 met (AreJudged (Redrawn asked told) bytes old)) status text owed.refused (λ fails. unread (2, lit< tt, fails))
     (λ said answer. on_file P (λ g o. IsFormerJudged (Redrawn asked told g o) g old said) bytes status text owed.refused (λ g o. on_former P asked told g o old said status text owed) answer.1)))
+    owes
 on_command P (Explain input grid budget) met traced status text owed unread owes =
     let asked = explain_job grid budget in
     on_input P (text_input 1 input) 0 met (IsAnswerAfter 1 met (IsFileJudged (IsExplainAnswer asked traced))) status text owed.refused (λ fails. unread (0, lit< tt, fails))
