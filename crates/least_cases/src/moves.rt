@@ -90,7 +90,7 @@ struct Move {
     ends: (&'static str, Option<u32>, bool),
 }
 
-static MOVES: [Move; 9] = [
+static MOVES: [Move; 7] = [
     Move {
         shows: "The best drawing stays.",
         grid: (40, 8, 1),
@@ -103,6 +103,13 @@ static MOVES: [Move; 9] = [
         grid: (40, 8, 2),
         former: BEST,
         limits: (50_000, ROOM),
+        ends: ("best", Some(3), true),
+    },
+    Move {
+        shows: "So it is where nothing may be learnt.",
+        grid: (40, 8, 2),
+        former: BEST,
+        limits: (0, ROOM),
         ends: ("best", Some(3), true),
     },
     Move {
@@ -127,32 +134,11 @@ static MOVES: [Move; 9] = [
         ends: ("none", None, true),
     },
     Move {
-        shows: "Nothing may be learnt.",
-        grid: (40, 8, 2),
-        former: BEST,
-        limits: (0, ROOM),
-        ends: ("conflicts", None, true),
-    },
-    Move {
         shows: "The formula has no room.",
         grid: (40, 8, 1),
         former: BEST,
         limits: (50_000, 1),
         ends: ("room", None, false),
-    },
-    Move {
-        shows: "The budget is spent behind a drawing.",
-        grid: (8, 2, 2),
-        former: BEST,
-        limits: (20, ROOM),
-        ends: ("conflicts", Some(3), true),
-    },
-    Move {
-        shows: "There is no room behind a drawing.",
-        grid: (8, 2, 2),
-        former: BEST,
-        limits: (50_000, 20_000),
-        ends: ("room", Some(3), true),
     },
 ];
 
