@@ -1,6 +1,7 @@
 """What the crates have: files, words of specs/, contracts and the calls that they hand out."""
 import re
 from collections import namedtuple
+from functools import cache
 from pathlib import Path
 
 TOP = Path(__file__).resolve().parent.parent.parent
@@ -107,10 +108,19 @@ def words_of(crate):
     return found
 
 
+@cache
+def handed_on():
+    """The files of specs/ that a crate hands on: the crate and the file as they are named above it, and those that are meant."""
+    roots = [(crate, TOP / "crates" / crate / "specs" / "Lib.antt") for crate in crates()]
+    return {(crate, module): (below, module) for crate, root in roots if root.exists()
+            for below, module in re.findall(r"^pub use Rattle\.(\w+)\.specs\.([\w.]+)$", read(root), re.M)}
+
+
 def imported_words(text):
     """The words of specs/ that a file imports: by the name that it uses, their crate, module and name."""
     found = {}
     for crate, module, listed in re.findall(r"use Rattle\.(\w+)\.specs\.([\w.]+)\.\{([^}]*)\}", text):
+        crate, module = handed_on().get((crate, module), (crate, module))
         for item in listed.split(","):
             name, _, other = item.strip().partition(" as ")
             found[other or name] = (crate, module, name)

@@ -19,33 +19,34 @@ LAWS = TOP / "docs" / "laws.md"
 LIMITS = [("plan_core", "MAX_FILE_BYTES"), ("plan_core", "MAX_LOG_BYTES"), ("railml_read", "MAX_DEPTH"),
           ("plan_core", "MAX_TRACKS"), ("plan_core", "MAX_ID_BYTES"), ("plan_core", "MAX_NODES"), ("plan_core", "MAX_EDGES"),
           ("plan_core", "MAX_WIDTH"), ("plan_core", "MAX_HEIGHT"), ("plan_core", "MAX_LEAST"), ("plan_core", "MAX_BUDGET"),
-          ("plan_words", "MAX_SEED"), ("line_text", "MAX_NUMBER"), ("plan_text", "MAX_METRES"), ("cnf_core", "LAST_VAR"),
+          ("plan_words", "MAX_SEED"), ("line_text", "MAX_NUMBER"), ("plan_writing", "MAX_METRES"), ("cnf_core", "LAST_VAR"),
           ("cnf_core", "VARS"), ("cnf_core", "ROOM")]
 
 # where the faults of a section of docs/formats.md are, in the order in which the sections stand
 FAULTS = {"Words": "plan_words/src/fault.rt", "A railML file": "railml_text/src/fault.rt",
           "The topology": "railml_topology/src/fault.rt", "The drawing text, or sheet": "plan_text/src/sheet_fault.rt",
           "The track graph, and the graph text": "port_graph/src/fault.rt", "The log text": "refute_log/src/fault.rt",
-          "The answer of signals": "plan_objects/src/fault.rt"}
+          "The answer of signals": "plan_objects/src/fault.rt", "The text of hinted lines": "hint_text/src/fault.rt"}
 
 # the front of a fault's line, and where its faults are
 TABLES = {"words": "plan_words/src/fault.rt", "text": "railml_text/src/fault.rt", "topology": "railml_topology/src/fault.rt",
           "graph": "port_graph/src/fault.rt", "order": "track_order/src/fault.rt", "sheet": "plan_text/src/sheet_fault.rt",
-          "log": "refute_log/src/fault.rt", "signal": "plan_objects/src/fault.rt"}
+          "log": "refute_log/src/fault.rt", "signal": "plan_objects/src/fault.rt", "hints": "hint_text/src/fault.rt"}
 
 # what the launcher's help says of each status
 ENDINGS = {"Done": "what was asked for was printed", "Refused": "an input was refused", "WordsRefused": "the words have a fault",
            "NoDrawing": "no drawing is lawful on this grid",
            "Unfinished": "the search isn't finished, or the log needs too much room", "Unread": "a file couldn't be read",
-           "Unwritten": "the output, the log or the picture couldn't be written", "NoMemory": "there was no memory",
-           "Broken": "verify, check: a law is broken; check: the log is refused"}
+           "Unwritten": "the output or a file couldn't be written", "NoMemory": "there was no memory",
+           "Broken": "verify, check, trim, recheck: a law is broken; check, trim, recheck: the log is refused"}
 
 # texts behind `- **N**: ` that docs/formats.md has of each status
 ANSWERS = {"Done": ["the drawing text, the graph text, `lawful"],
-           "Refused": ["`long I`", "`text NO", "`topology NO", "`graph NO", "`order 1", "`signal NO", "`sheet NO", "`log NO"],
+           "Refused": ["`long I`", "`text NO", "`topology NO", "`graph NO", "`order 1", "`signal NO", "`sheet NO", "`log NO",
+                       "`hints NO"],
            "WordsRefused": ["`words NO"], "NoDrawing": ["the sheet with `end none`"],
            "Unfinished": ["the sheet with `end conflicts S` or `end room S`", "`check Room line N`"],
-           "Unread": ["`read failed I`"], "Unwritten": ["nothing, or a prefix of what was due: the output, the log or the picture"],
+           "Unread": ["`read failed I`"], "Unwritten": ["nothing, or a prefix of what was due: the output or a file"],
            "NoMemory": ["nothing, or a prefix of what was due: there was no memory"],
            "Broken": ["`broken law L PARTY`", "`check REFUSAL line N`, but with Room, or `check Lacks"]}
 
@@ -253,7 +254,7 @@ def fault_lines_that_fail():
     """Lines of faults that pages print."""
     found = []
     for path in DOCUMENTS:
-        for table, number, word in re.findall(r"\b(words|text|topology|graph|order|sheet|signal|log) (\d+) ([A-Z]\w+)", read(path)):
+        for table, number, word in re.findall(r"\b(words|text|topology|graph|order|sheet|signal|log|hints) (\d+) ([A-Z]\w+)", read(path)):
             if (int(number), word) not in faults(TABLES[table]):
                 found.append(f"{show(path)}: there is no fault {table} {number} {word}")
     return found
@@ -360,7 +361,8 @@ def prose_that_fails():
                     f"last column is column {width}"),
            (README, f"better in {', '.join(front)} and {last}"),
            (FORMATS, f"{', '.join(ones[:-1])} and {ones[-1]} have {names['draw']} name, {' and '.join(twos)} {names['verify']}, "
-                     f"{' and '.join(threes)} {names['check']}, and `make` and `trial` {names['make']}")]
+                     f"{', '.join(threes[:-1])} and {threes[-1]} {names['check']}, `trim` {names['trim']}, and `make` and `trial` "
+                     f"{names['make']}")]
     return [f"{show(page)}: doesn't say '{text}'" for page, text in due if text not in " ".join(read(page).split())]
 
 

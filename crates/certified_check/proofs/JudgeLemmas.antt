@@ -39,7 +39,7 @@ comes_from f (x ∷ xs) y there = elim (Contains-append_cases (f x) (flat_map f 
   | inr h ↦ let r = comes_from f xs y h in record { origin = r.origin; among = Contains-tail x xs r.origin r.among; gives = r.gives }
 ]
 
-nothing : {X : Type 0} (y : X) (P : Type 0) → Contains [] y → P
+pub nothing : {X : Type 0} (y : X) (P : Type 0) → Contains [] y → P
 nothing y P h = absurd (let low = h.1 in omega arith)
 
 refuted_line : (lines : Lines) (c : List Literal) → Contains (flat_map refuted lines) c → Contains lines (Refuted c)

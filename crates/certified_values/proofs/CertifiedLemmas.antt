@@ -10,6 +10,7 @@ use Rattle.plan_core.specs.Values.{value_of, Better}
 use Rattle.plan_core.proofs.Listing.{Contains-flat_map}
 use Rattle.plan_core.proofs.TruthFacts.{below_or_is}
 use Rattle.cnf_core.specs.Lit.{Literal, positive_of}
+use Rattle.cnf_core.specs.declared.literal.Var.{Var}
 use Rattle.cnf_core.specs.Assignment.{Assignment, Satisfies, SatisfiesAll, truth}
 use Rattle.cnf_core.proofs.QuantifierLemmas.{some_from_satisfies, each_from_satisfies}
 use Rattle.refute_log.specs.declared.line.LogLine.TheVariants.{Bound, Refuted}
@@ -31,32 +32,48 @@ reached greatest lines w m c k l s t =
     let e : truth m.assignment (positive_of s.variable.0) ≡ true = ap (truth m.assignment) (sym s.is) ∙ t in
     (m.bounds c k s.variable s.told).0 e
 
+-- an assignment that satisfies each refuted clause of the log, and whose true bounds are reached by the values
+pub record Agrees (lines : Lines) (w : Values) : Type 0 where
+  pub assignment : Assignment
+  pub refuted : (c : List Literal) → Contains lines (Refuted c) → Satisfies assignment c
+  pub bounds : (c : Criterion) (k : ℕ) (x : Var) → Contains lines (Bound c k x) → assignment x.0 ≡ true → k ≤ value_of w c
+
+agrees : (lines : Lines) (w : Values) → MeetsLog lines w → Derives lines → Agrees lines w
+agrees lines w m derives = record {
+  assignment = m.assignment;
+  refuted = refuted_holds m.assignment lines derives m.formula;
+  bounds = λ c k x told. (m.bounds c k x told).0;
+}
+
+reached_by : (greatest : Criterion → ℕ) (lines : Lines) (w : Values) (m : Agrees lines w) (c : Criterion) (k : ℕ) (l : Literal) → SaysAtLeast greatest lines c k l → truth m.assignment l ≡ true → k ≤ value_of w c
+reached_by greatest lines w m c k l s t = m.bounds c k s.variable s.told (ap (truth m.assignment) (sym s.is) ∙ t)
+
 same_value : (v w : Values) (held : List Criterion) (c : Criterion) → All (λ b. value_of v b ≡ value_of w b) held → Contains held c → value_of v c ≡ value_of w c
 same_value v w held c all there = All-contains (λ b. value_of v b ≡ value_of w b) held c all there
 
 -- with equal values before it and less at c, no bound out of reach is reached
-out_of_reach : (greatest : Criterion → ℕ) (lines : Lines) (v w : Values) (m : MeetsLog lines w) (earlier : List Criterion) (c : Criterion) (l : Literal) →
+out_of_reach : (greatest : Criterion → ℕ) (lines : Lines) (v w : Values) (m : Agrees lines w) (earlier : List Criterion) (c : Criterion) (l : Literal) →
     All (λ b. value_of w b ≡ value_of v b) earlier → value_of w c < value_of v c → IsOutOfReach greatest lines earlier c v l → truth m.assignment l ≡ true → ⊥
 out_of_reach greatest lines v w m earlier c l same less (inl any) t =
-    let k = reached greatest lines w m any.1 (value_of v any.1 + 1) l any.4 t in
+    let k = reached_by greatest lines w m any.1 (value_of v any.1 + 1) l any.4 t in
     let e = same_value w v earlier any.1 same (any.0, any.2, any.3) in
     omega arith
-out_of_reach greatest lines v w m earlier c l same less (inr s) t = let k = reached greatest lines w m c (value_of v c) l s t in omega arith
+out_of_reach greatest lines v w m earlier c l same less (inr s) t = let k = reached_by greatest lines w m c (value_of v c) l s t in omega arith
 
-none_less : (greatest : Criterion → ℕ) (lines : Lines) (v w : Values) → MeetsLog lines w → Derives lines → (earlier : List Criterion) (c : Criterion) →
+none_less : (greatest : Criterion → ℕ) (lines : Lines) (v w : Values) → Agrees lines w → (earlier : List Criterion) (c : Criterion) →
     All (λ b. value_of w b ≡ value_of v b) earlier → IsCertifiedLeast greatest lines earlier c v → value_of w c < value_of v c → ⊥
-none_less greatest lines v w m derives earlier c same least less =
+none_less greatest lines v w m earlier c same least less =
     let r = least (omega arith) in
-    let some = some_from_satisfies m.assignment r.clause (refuted_holds m.assignment lines derives m.formula r.clause r.among) in
+    let some = some_from_satisfies m.assignment r.clause (m.refuted r.clause r.among) in
     out_of_reach greatest lines v w m earlier c some.1 same less (All-contains (IsOutOfReach greatest lines earlier c v) r.clause some.1 r.each (some.0, some.2, some.3)) some.4
 
-none_better_behind : (greatest : Criterion → ℕ) (lines : Lines) (v w : Values) → MeetsLog lines w → Derives lines → (earlier rest : List Criterion) →
+none_better_behind : (greatest : Criterion → ℕ) (lines : Lines) (v w : Values) → Agrees lines w → (earlier rest : List Criterion) →
     ((i : ℕ) (c : Criterion) → slice_get rest i ≡ Some c → IsCertifiedLeast greatest lines (earlier ++ take i rest) c v) → All (λ b. value_of w b ≡ value_of v b) earlier → Better rest w v → ⊥
-none_better_behind greatest lines v w m derives earlier [] least same b = b
-none_better_behind greatest lines v w m derives earlier (c ∷ rest) least same (inl less) =
-    none_less greatest lines v w m derives earlier c same (subst (λ (cs : List Criterion). IsCertifiedLeast greatest lines cs c v) (append-nil earlier) (least 0 c refl)) less
-none_better_behind greatest lines v w m derives earlier (c ∷ rest) least same (inr b) =
-    none_better_behind greatest lines v w m derives (earlier ++ c ∷ []) rest
+none_better_behind greatest lines v w m earlier [] least same b = b
+none_better_behind greatest lines v w m earlier (c ∷ rest) least same (inl less) =
+    none_less greatest lines v w m earlier c same (subst (λ (cs : List Criterion). IsCertifiedLeast greatest lines cs c v) (append-nil earlier) (least 0 c refl)) less
+none_better_behind greatest lines v w m earlier (c ∷ rest) least same (inr b) =
+    none_better_behind greatest lines v w m (earlier ++ c ∷ []) rest
     (λ i d at. subst (λ (cs : List Criterion). IsCertifiedLeast greatest lines cs d v) (sym (append_assoc earlier (c ∷ []) (take i rest))) (least (suc i) d at))
     (All-push (λ b. value_of w b ≡ value_of v b) earlier c same b.0) b.1
 
@@ -75,11 +92,14 @@ of_front (d ∷ order) (suc s) (suc i) c e =
     let f = of_front order s i c e in
     record { low = let low = f.low in omega arith; at = f.at; same = ap (λ (cs : List Criterion). d ∷ cs) f.same }
 
-pub none_better : (greatest : Criterion → ℕ) (lines : Lines) (order : List Criterion) (v w : Values) (s : ℕ) → MeetsLog lines w → Derives lines → Certifies greatest lines order v s → Better (take s order) w v → ⊥
-none_better greatest lines order v w s m derives certified b =
-    none_better_behind greatest lines v w m derives [] (take s order)
+pub none_better_agrees : (greatest : Criterion → ℕ) (lines : Lines) (order : List Criterion) (v w : Values) (s : ℕ) → Agrees lines w → Certifies greatest lines order v s → Better (take s order) w v → ⊥
+none_better_agrees greatest lines order v w s m certified b =
+    none_better_behind greatest lines v w m [] (take s order)
     (λ i c e. let f = of_front order s i c e in subst (λ (cs : List Criterion). IsCertifiedLeast greatest lines cs c v) (sym f.same) (certified i c f.low f.at))
     (All-nil (λ b. value_of w b ≡ value_of v b)) b
+
+pub none_better : (greatest : Criterion → ℕ) (lines : Lines) (order : List Criterion) (v w : Values) (s : ℕ) → MeetsLog lines w → Derives lines → Certifies greatest lines order v s → Better (take s order) w v → ⊥
+none_better greatest lines order v w s m derives = none_better_agrees greatest lines order v w s (agrees lines w m derives)
 
 pub none_meets : (lines : Lines) (w : Values) → MeetsLog lines w → Derives lines → CertifiesNone lines → ⊥
 none_meets lines w m derives none = refuted_holds m.assignment lines derives m.formula [] none

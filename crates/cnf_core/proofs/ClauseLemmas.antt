@@ -1,8 +1,10 @@
 -- Lists of clauses: what satisfies them, where their variables lie, and how many words they have.
-use Rattle.std.proofs.Common.{◌≡◌, ℕ, ◌+◌, ◌*◌, ◌<◌, ◌≤◌, ◌⊎◌, Bool, zero, suc, List, [], ◌∷◌, ◌++◌, length, get_or, ◌∙◌, ap, subst, inl, inr, arith}
+use Rattle.std.proofs.Common.{◌≡◌, ℕ, ◌+◌, ◌*◌, ◌<◌, ◌≤◌, ◌⊎◌, Bool, zero, suc, List, [], ◌∷◌, ◌++◌, length, get_or, sym, ◌∙◌, ap, subst, inl, inr, arith}
+use Rattle.std.specs.Prelude.{All, Contains}
 use Rattle.std.proofs.lemmas.Bool.Decides.{eqb_tells}
+use Rattle.std.proofs.lemmas.List.Elements.{All-contains, All-weaker, All-contains_itself}
 use Rattle.cnf_core.specs.Lit.{Literal, same_sign}
-use Rattle.cnf_core.specs.Clause.{Clauses, AreThere, AllThere, AreDistinct, AllDistinct, words_of}
+use Rattle.cnf_core.specs.Clause.{Clauses, AreThere, AllThere, AreDistinct, AllDistinct, HasAllOf, words_of}
 use Rattle.cnf_core.specs.Assignment.{Assignment, Satisfies, SatisfiesAll}
 use Rattle.cnf_core.specs.Formula.{each}
 
@@ -90,3 +92,10 @@ pub words_at : (cs : Clauses) (c : ℕ) → length (get_or cs c []) ≤ words_of
 words_at [] c = omega arith
 words_at (c ∷ cs) zero = omega arith
 words_at (c ∷ cs) (suc k) = omega (arith, words_at cs k)
+
+-- a clause has all of the allowed literals alone, as its list of them says it
+pub includes_from : (allowed lits c : List Literal) → lits ≡ c → All (λ l. Contains allowed l) lits → HasAllOf allowed c
+includes_from allowed lits c e all = λ l m. All-contains (Contains allowed) c l (subst (λ (ls : List Literal). All (Contains allowed) ls) e all) m
+
+pub includes_to : (allowed lits c : List Literal) → lits ≡ c → HasAllOf allowed c → All (λ l. Contains allowed l) lits
+includes_to allowed lits c e h = subst (λ (ls : List Literal). All (Contains allowed) ls) (sym e) (All-weaker (Contains c) (Contains allowed) (λ l m. h l m) c (All-contains_itself c))

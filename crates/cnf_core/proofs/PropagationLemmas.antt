@@ -292,7 +292,7 @@ from_units ls c h = at_place ls h.0 h.1 h.2
     at_place (l ∷ ls) zero lt e = record { lit = l; among = contains_first l ls; is = e }
     at_place (l ∷ ls) (suc i) lt e = let u = at_place ls i (omega arith) e in record { lit = u.lit; among = contains_later l u.lit ls u.among; is = u.is }
 
-only_one : (k l : Literal) → Contains (k ∷ []) l → k ≡ l
+pub only_one : (k l : Literal) → Contains (k ∷ []) l → k ≡ l
 only_one k l h = at_place h.0 h.1 h.2
   where
     at_place : (i : ℕ) → i < length (k ∷ []) → get_or (k ∷ []) i l ≡ l → k ≡ l

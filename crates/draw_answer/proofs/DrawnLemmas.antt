@@ -11,7 +11,7 @@ use Rattle.plan_core.specs.Lawful.{HasSizeOf}
 use Rattle.plan_core.specs.Order.{IsOrder}
 use Rattle.plan_core.proofs.LimitLemmas.{points_on_grid}
 use Rattle.track_order.specs.Order.{EdgeOrder, is_above}
-use Rattle.plan_text.specs.declared.ending.Ending.TheVariants as endings
+use Rattle.plan_writing.specs.declared.ending.Ending.TheVariants as endings
 use Rattle.plan_text.specs.SheetLine.{MayEnd}
 use Rattle.plan_text.specs.SheetText.{Sheet, MayBeSettled, DrawsAll, DrawsOnGrid, StatesSettled}
 use Rattle.refute_log.specs.Told.{Lines}

@@ -11,8 +11,8 @@ use Rattle.plan_core.specs.declared.criterion.Values.{Values}
 use Rattle.plan_core.specs.Values.{limit_of}
 use Rattle.cnf_core.specs.declared.limits.TheConstants.{ROOM}
 use Rattle.track_order.specs.Order.{EdgeOrder}
-use Rattle.plan_text.specs.declared.ending.Ending.{Ending}
-use Rattle.plan_text.specs.declared.ending.Ending.TheVariants as endings
+use Rattle.plan_writing.specs.declared.ending.Ending.{Ending}
+use Rattle.plan_writing.specs.declared.ending.Ending.TheVariants as endings
 use Rattle.plan_text.specs.SheetText.{Sheet, sheet_text}
 use Rattle.plan_text.specs.SheetFaults.{IsSheetText}
 use Rattle.refute_log.specs.Told.{Lines}

@@ -17,8 +17,8 @@ use Rattle.cnf_core.proofs.StepLemmas.{adds_longer, added_one}
 use Rattle.order_int.specs.IntVars.{IntVars}
 use Rattle.unary_sum.specs.Sum.{SumVars, sum_vars, sum_count, sum_clauses}
 use Rattle.edge_shape.specs.EdgeVars.{EdgeSpot, lits_of}
-use Rattle.drawing_cnf.specs.Stands.{DrawingVars}
-use Rattle.drawing_cnf.specs.Expected.{drawing_vars, laws_first}
+use Rattle.law_clauses.specs.Stands.{DrawingVars}
+use Rattle.law_clauses.specs.Expected.{drawing_vars, laws_first}
 use Rattle.drawing_cnf.specs.Bounds.{same_as, sum_bound, bend_lits, bends_bound, bends_bound_size, gives_bound, column_gives_bound, beside_clause, some_height_clause, height_lits, node_columns, some_column_clause}
 use Rattle.drawing_cnf.proofs.BoundLemmas.{bound_outputs}
 use Rattle.drawing_cnf.proofs.ListCode.{long_is, long_length}

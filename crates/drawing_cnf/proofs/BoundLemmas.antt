@@ -21,7 +21,7 @@ use Rattle.unary_sum.proofs.JoinLemmas.{at_within}
 use Rattle.unary_sum.proofs.SumLemmas.{sum_means, sum_extends, sum_there, top_there, tree_there}
 use Rattle.edge_lines.proofs.RunLemmas.{one_if}
 use Rattle.drawing_cnf.specs.Bounds.{IsExact, same_as, sum_bound, not_east, first_edges, west_first}
-use Rattle.drawing_cnf.proofs.GuardLemmas.{Is}
+use Rattle.law_clauses.proofs.GuardLemmas.{Is}
 
 -- a variable that is as a literal
 same_case : (b t : Bool) → (not b ≡ true) ⊎ (t ≡ true) → (not t ≡ true) ⊎ (b ≡ true) → b ≡ t

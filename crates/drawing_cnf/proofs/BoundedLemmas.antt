@@ -13,16 +13,16 @@ use Rattle.cnf_core.specs.declared.limits.TheConstants.{VARS}
 use Rattle.cnf_core.specs.Clause.{Clauses, AllThere}
 use Rattle.cnf_core.specs.Assignment.{Assignment, SatisfiesAll, Extends}
 use Rattle.cnf_core.proofs.ClauseLemmas.{satisfies_append, satisfies_left, satisfies_right, satisfies_all_same, all_there_append, all_there_more}
-use Rattle.drawing_cnf.specs.Stands.{DrawingVars}
-use Rattle.drawing_cnf.specs.LawClauses.{laws_clauses}
-use Rattle.drawing_cnf.specs.Expected.{drawing_vars, laws_first, base_clauses, expected_clauses, expected_size, instances, Covers}
+use Rattle.law_clauses.specs.Stands.{DrawingVars}
+use Rattle.law_clauses.specs.LawClauses.{laws_clauses}
+use Rattle.law_clauses.specs.Expected.{drawing_vars, laws_first, base_clauses, expected_clauses, expected_size, instances, Covers}
 use Rattle.drawing_cnf.specs.Bounds.{IsExact, bound_clauses, bound_size, west_first}
 use Rattle.drawing_cnf.specs.Bounded.{Bound, bound, clauses_of_bound, size_of_bound, bounds_clauses, bounds_from, expected_bounds, expected, AreBehind, Tells, SoundWith}
-use Rattle.drawing_cnf.proofs.ThereLemmas.{AreVars}
-use Rattle.drawing_cnf.proofs.OverLemmas.{Read}
-use Rattle.drawing_cnf.proofs.InstanceLemmas.{AreInstances, laws_there, read_stays}
-use Rattle.drawing_cnf.proofs.BaseLemmas.{base_means, base_last, base_vars, base_there, lawful_loose}
-use Rattle.drawing_cnf.proofs.MainLemmas.{ListsAll, AreTablesOf, all_listed, each_law, full_model, reads_stand}
+use Rattle.law_clauses.proofs.ThereLemmas.{AreVars}
+use Rattle.law_clauses.proofs.OverLemmas.{Read}
+use Rattle.law_clauses.proofs.InstanceLemmas.{AreInstances, laws_there, read_stays}
+use Rattle.law_clauses.proofs.BaseLemmas.{base_means, base_last, base_vars, base_there, lawful_loose}
+use Rattle.law_clauses.proofs.MainLemmas.{ListsAll, AreTablesOf, all_listed, each_law, full_model, reads_stand}
 use Rattle.drawing_cnf.proofs.BoundLemmas.{all_edges}
 use Rattle.drawing_cnf.proofs.BendsBound.{bends_exact, bends_extend, bends_there}
 use Rattle.drawing_cnf.proofs.HeightBound.{height_exact, height_extends, height_there}

@@ -27,12 +27,12 @@ use Rattle.edge_lines.proofs.GridLemmas.{heights_on_grid}
 use Rattle.edge_lines.proofs.RunLemmas.{one_if}
 use Rattle.edge_lines.proofs.DiagonalSteps.{diagonal_steps}
 use Rattle.edge_shape.specs.EdgeVars.{EdgeLits}
-use Rattle.drawing_cnf.specs.Stands.{DrawingVars, IsJoinedOnGrid}
+use Rattle.law_clauses.specs.Stands.{DrawingVars, IsJoinedOnGrid}
 use Rattle.drawing_cnf.specs.Bounds.{IsExact, step_lits, steps_sum, gives_output, steps_beside, edge_steps, edges_steps, edges_outputs, edges_count, edge_most, sum_bound, diagonal_sum, diagonal_bound, diagonal_bound_size}
-use Rattle.drawing_cnf.proofs.GuardLemmas.{some_to}
-use Rattle.drawing_cnf.proofs.OverLemmas.{Read}
-use Rattle.drawing_cnf.proofs.ThereLemmas.{AreVars, EdgeThere, vars_more}
-use Rattle.drawing_cnf.proofs.InstanceLemmas.{read_stays}
+use Rattle.law_clauses.proofs.GuardLemmas.{some_to}
+use Rattle.law_clauses.proofs.OverLemmas.{Read}
+use Rattle.law_clauses.proofs.ThereLemmas.{AreVars, EdgeThere, vars_more}
+use Rattle.law_clauses.proofs.InstanceLemmas.{read_stays}
 use Rattle.drawing_cnf.proofs.BoundLemmas.{set_bound, sum_bound_means, sum_bound_extends, sum_bound_there, output_within, AreEdges, sum_over_lines}
 use Rattle.drawing_cnf.proofs.BendsBound.{line_bends}
 use Rattle.drawing_cnf.proofs.DiagonalLines.{west_diagonal, east_diagonal, bent_diagonal, low_diagonal, count_steps}

@@ -34,12 +34,12 @@ use Rattle.edge_lines.proofs.StepLemmas.{up_is, down_is}
 use Rattle.edge_lines.proofs.RunLemmas.{line_west_slope, line_east_slope}
 use Rattle.edge_lines.proofs.GridLemmas.{on_grid_heights, heights_on_grid}
 use Rattle.edge_lines.proofs.LineHeights.{height_behind}
-use Rattle.drawing_cnf.specs.Stands.{DrawingVars, IsJoinedOnGrid}
+use Rattle.law_clauses.specs.Stands.{DrawingVars, IsJoinedOnGrid}
 use Rattle.drawing_cnf.specs.Bounds.{IsExact, column_heights, all_heights, some_height_clause, height_gives, height_beside, edge_height_gives, height_at, height_bound}
-use Rattle.drawing_cnf.proofs.GuardLemmas.{Is, some_from, some_to}
-use Rattle.drawing_cnf.proofs.OverLemmas.{Read}
-use Rattle.drawing_cnf.proofs.ThereLemmas.{AreVars, EdgeThere, vars_more}
-use Rattle.drawing_cnf.proofs.InstanceLemmas.{drawing_stays}
+use Rattle.law_clauses.proofs.GuardLemmas.{Is, some_from, some_to}
+use Rattle.law_clauses.proofs.OverLemmas.{Read}
+use Rattle.law_clauses.proofs.ThereLemmas.{AreVars, EdgeThere, vars_more}
+use Rattle.law_clauses.proofs.InstanceLemmas.{drawing_stays}
 use Rattle.drawing_cnf.proofs.BoundLemmas.{either_of, set_bound}
 
 abbrev pub height_of : Drawing → ℕ

@@ -21,12 +21,12 @@ use Rattle.edge_shape.specs.Edge.{edge_clauses}
 use Rattle.edge_shape.specs.ReadsLine.{ReadsLine}
 use Rattle.edge_shape.proofs.PlaceLemmas.{blocks}
 use Rattle.edge_shape.proofs.SizeLemmas.{edge_there}
-use Rattle.drawing_cnf.specs.Rank.{west_rank}
-use Rattle.drawing_cnf.specs.Stands.{ReadsPoint, ReadsShape, ReadsDrawing, IsJoinedOnGrid}
-use Rattle.drawing_cnf.specs.Expected.{ints_at_place, drawing_vars, edge_first, laws_first, node_clauses, edge_part, base_clauses}
-use Rattle.drawing_cnf.proofs.RankLemmas.{rank_once}
-use Rattle.drawing_cnf.proofs.InstanceLemmas.{shape_stays}
-use Rattle.drawing_cnf.proofs.BaseLemmas.{NodesAreRead, EdgeHolds, shape_of, node_spot, edge_spot_in, edge_literals}
+use Rattle.law_clauses.specs.Rank.{west_rank}
+use Rattle.law_clauses.specs.Stands.{ReadsPoint, ReadsShape, ReadsDrawing, IsJoinedOnGrid}
+use Rattle.law_clauses.specs.Expected.{ints_at_place, drawing_vars, edge_first, laws_first, node_clauses, edge_part, base_clauses}
+use Rattle.law_clauses.proofs.RankLemmas.{rank_once}
+use Rattle.law_clauses.proofs.InstanceLemmas.{shape_stays}
+use Rattle.law_clauses.proofs.BaseLemmas.{NodesAreRead, EdgeHolds, shape_of, node_spot, edge_spot_in, edge_literals}
 
 -- NODES
 -- those of number below n are read

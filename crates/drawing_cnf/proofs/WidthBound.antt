@@ -22,12 +22,12 @@ use Rattle.cnf_core.proofs.SettingLemmas.{patch, patch_same}
 use Rattle.order_int.specs.OrderInt.{int_at_least}
 use Rattle.order_int.proofs.IntLemmas.{at_least_within}
 use Rattle.edge_lines.proofs.GridLemmas.{heights_on_grid}
-use Rattle.drawing_cnf.specs.Stands.{DrawingVars, IsJoinedOnGrid}
+use Rattle.law_clauses.specs.Stands.{DrawingVars, IsJoinedOnGrid}
 use Rattle.drawing_cnf.specs.Bounds.{IsExact, node_columns, some_column_clause, column_gives, width_at, width_bound}
-use Rattle.drawing_cnf.proofs.GuardLemmas.{Is, some_to}
-use Rattle.drawing_cnf.proofs.OverLemmas.{Read}
-use Rattle.drawing_cnf.proofs.ThereLemmas.{AreVars, vars_more}
-use Rattle.drawing_cnf.proofs.InstanceLemmas.{read_stays}
+use Rattle.law_clauses.proofs.GuardLemmas.{Is, some_to}
+use Rattle.law_clauses.proofs.OverLemmas.{Read}
+use Rattle.law_clauses.proofs.ThereLemmas.{AreVars, vars_more}
+use Rattle.law_clauses.proofs.InstanceLemmas.{read_stays}
 use Rattle.drawing_cnf.proofs.BoundLemmas.{either_of, set_bound}
 use Rattle.drawing_cnf.proofs.HeightBound.{off_or, both_within}
 

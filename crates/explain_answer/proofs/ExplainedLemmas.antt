@@ -61,9 +61,3 @@ exists g o asked (Laws names without) right done = (
 )
 exists g o asked Spent right done = absurd (cc)
 exists g o asked Room right done = absurd (cc)
-
--- the trace is told nothing where the run is refused or has nothing to search; it is neither here
-pub untold_here : {T : Type 0} (name : List ℕ) (old new : FilesAt) (g : Graph) (o : EdgeOrder) (Refused : Type 0) (before after : T) → IsStationOf name old.contents g o → HasRead (between old new) 1 → (Refused → ⊥) →
-    Refused ⊎ (HasReadStation name (between old new) → ⊥) → after ≡ before
-untold_here name old new g o Refused before after has read answered (inl refused) = absurd (answered refused)
-untold_here name old new g o Refused before after has read answered (inr none) = absurd (none (g, o, (read, has)))

@@ -7,7 +7,7 @@ use Rattle.refute_log.specs.Told.{Lines}
 use Rattle.certified_values.specs.Cause.{IsCause}
 use Rattle.fewest_search.specs.declared.questions.Answer.{Answer}
 use Rattle.fewest_search.specs.declared.questions.Answer.TheVariants.{Found, Refuted, Stopped}
-use Rattle.fewest_search.specs.Counted.{Counted, IsOne}
+use Rattle.fewest_search.specs.CountTask.{CountTask, IsOne}
 
 -- a count is below the limit, where there is one
 abbrev pub IsBelow : Option ℕ → ℕ → Type 0
@@ -15,28 +15,28 @@ IsBelow None n = ⊤
 IsBelow (Some limit) n = n < limit
 
 -- as a query
-abbrev pub query_of : Counted → Option ℕ → List Literal
+abbrev pub query_of : CountTask → Option ℕ → List Literal
 query_of p None = []
 query_of p (Some limit) = negate (p.at_least limit) ∷ []
 
 -- the literal says that the limit is reached
-abbrev pub SaysReached : Counted → Option ℕ → Literal → Type 0
+abbrev pub SaysReached : CountTask → Option ℕ → Literal → Type 0
 SaysReached p None l = ⊥
 SaysReached p (Some limit) l = l ≡ p.at_least limit
 
 -- the lines are this query, learnt clauses, and this end
-pub record IsAsked (p : Counted) (limit : Option ℕ) (ending more : Lines) : Type 0 where
+pub record IsAsked (p : CountTask) (limit : Option ℕ) (ending more : Lines) : Type 0 where
   pub clauses : Clauses
   pub is : more ≡ Query (query_of p limit) ∷ (map Learnt clauses ++ ending)
 
-abbrev pub IsAnswer : Counted → Lines → Option ℕ → Answer → Lines → Type 0
+abbrev pub IsAnswer : CountTask → Lines → Option ℕ → Answer → Lines → Type 0
 IsAnswer p lines limit (Found d) more = IsAsked p limit (Model ∷ []) more
 IsAnswer p lines limit Refuted more =
     (clause : List Literal) × All (SaysReached p limit) clause × IsAsked p limit (RefutedLine clause ∷ []) more
 IsAnswer p lines limit (Stopped stop) more = IsAsked p limit [] more × IsCause p.budget p.room stop (lines ++ more)
 
 -- a drawing that is found is one, and below the limit
-abbrev pub IsRightAnswer : Counted → Option ℕ → Answer → Type 0
+abbrev pub IsRightAnswer : CountTask → Option ℕ → Answer → Type 0
 IsRightAnswer p limit (Found d) = IsOne p d × IsBelow limit (p.count d)
 IsRightAnswer p limit Refuted = ⊤
 IsRightAnswer p limit (Stopped stop) = ⊤

@@ -5,7 +5,7 @@ use Rattle.refute_log.specs.declared.line.LogLine.TheVariants.{Refuted}
 use Rattle.refute_log.specs.Told.{Lines}
 use Rattle.refute_log.specs.Log.{clause_lines}
 use Rattle.fewest_search.specs.declared.outcome.Fewest.{Fewest}
-use Rattle.fewest_search.specs.Counted.{Counted}
+use Rattle.fewest_search.specs.CountTask.{CountTask}
 use Rattle.fewest_search.specs.Fewest.{IsEnd}
 
 -- no line refutes anything
@@ -13,9 +13,9 @@ abbrev pub RefutesNothing : Lines → Type 0
 RefutesNothing lines = (clause : List Literal) → Contains lines (Refuted clause) → ⊥
 
 -- a run of questions with drawings as answers tells no clauses, and refutes nothing
-abbrev pub IsRun : Lines → Lines → Type 0
-IsRun lines more = (clause_lines more ≡ []) × (RefutesNothing lines → RefutesNothing (lines ++ more))
+abbrev pub IsRunOfDrawings : Lines → Lines → Type 0
+IsRunOfDrawings lines more = (clause_lines more ≡ []) × (RefutesNothing lines → RefutesNothing (lines ++ more))
 
 -- and so does one to this end
-abbrev pub EndsIn : Counted → Fewest → Lines → Lines → Type 0
-EndsIn p outcome lines more = (clause_lines more ≡ []) × (RefutesNothing lines → IsEnd p outcome (lines ++ more))
+abbrev pub IsRunToEnd : CountTask → Fewest → Lines → Lines → Type 0
+IsRunToEnd p outcome lines more = (clause_lines more ≡ []) × (RefutesNothing lines → IsEnd p outcome (lines ++ more))

@@ -5,7 +5,7 @@
 //! says what it asks and what the answers and the told lines are, so nothing here knows a solver, a formula or what
 //! is counted.
 //!
-//! `specs/Counted` says what is searched, `specs/Asked` which lines a question tells, `specs/Run` what is so in
+//! `specs/CountTask` says what is searched, `specs/Asked` which lines a question tells, `specs/Run` what is so in
 //! between, and `specs/Fewest` what an outcome says of drawings and of the lines. The crate stands on `lex_search`,
 //! whose faults it has, and on `certified_values` for why a search stopped.
 #![tactic(auto)]

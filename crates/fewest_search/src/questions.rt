@@ -7,7 +7,7 @@ ghost use Rattle.refute_log.specs.Lines.{MayAllBeTold};
 ghost use Rattle.refute_log.specs.Told.{Lines};
 ghost use Rattle.refute_log.specs.Log.{added, learnt as learnt_of, Derives, Due};
 ghost use Rattle.refute_log.specs.Steps.{Continues};
-ghost use Rattle.fewest_search.specs.Counted.{Counted, IsOne, CoversCounts};
+ghost use Rattle.fewest_search.specs.CountTask.{CountTask, IsOne, CoversCounts};
 ghost use Rattle.fewest_search.specs.Asked.{IsAnswer, IsRightAnswer};
 
 use certified_values::Stop;
@@ -29,7 +29,7 @@ pub enum Answer {
 /// further.
 pub trait CountOracle {
     /// What is searched.
-    ghost task: { Self → Counted };
+    ghost task: { Self → CountTask };
 
     /// It can be asked.
     ghost ready: { Self → Type 0 };
@@ -55,11 +55,9 @@ pub trait CountOracle {
         requires one { IsOne (task self.now) d.now }
         ensures { result ≡ (task self.now).count d.now };
 
-    /// Asks for a drawing with a count below the limit, where there is one. The search may begin near the drawing that
-    /// is given.
-    fn ask(&mut self, limit: Option<u32>, near: Option<&Drawing>) -> Result<Answer, MinFault>
+    /// Asks for a drawing with a count below the limit, where there is one.
+    fn ask(&mut self, limit: Option<u32>) -> Result<Answer, MinFault>
         requires ready { ready self.old }
-        requires near { MatchOption near ⊤ (λ d. IsOne (task self.old) d.now) }
         requires limit { MatchOption limit ⊤ (λ k. (1 ≤ k) × (k ≤ (task self.old).most)) }
         ensures right { IfOk result (IsRightAnswer (task self.old) limit) }
         ensures lines { IfOk result (λ r. Continues knows log learnt self.old self.new (λ lines more.

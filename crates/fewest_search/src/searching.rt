@@ -3,8 +3,8 @@ ghost use Rattle.std.specs.Prelude.{◌≡◌, ◌≤◌, ◌++◌, IfOk, IsErrO
 ghost use Rattle.outside_io.specs.Counts.{Rose};
 ghost use Rattle.refute_log.specs.Steps.{ToldBehind, Continues, KnowsSome};
 ghost use Rattle.fewest_search.specs.Fewest.{IsRightFewest, IsFewestLog, formula_lines};
-ghost use Rattle.fewest_search.specs.Counted.{IsOne};
-ghost use Rattle.fewest_search.specs.Run.{IsRun, EndsIn};
+ghost use Rattle.fewest_search.specs.CountTask.{IsOne};
+ghost use Rattle.fewest_search.specs.Run.{IsRunOfDrawings, IsRunToEnd};
 
 use crate::outcome::stopped_with;
 use crate::{Answer, CountOracle, Fewest};
@@ -19,7 +19,7 @@ fn lower<Q: CountOracle>(questions: &mut Q, first: Drawing) -> Result<Fewest, Mi
     ensures task { Q.task questions.new ≡ Q.task questions.old }
     ensures right { IfOk result (IsRightFewest (Q.task questions.old)) }
     ensures lines { IfOk result (λ r. Continues Q.knows Q.log Q.learnt questions.old questions.new
-        (EndsIn (Q.task questions.old) r)) }
+        (IsRunToEnd (Q.task questions.old) r)) }
     ensures later { Q.is_later questions.old questions.new }
     ensures faults { Q.faults questions.old ≤ Q.faults questions.new }
     ensures cause { IsErrOf result MinFault.Log → Rose (Q.faults questions.old) (Q.faults questions.new) }
@@ -27,7 +27,7 @@ fn lower<Q: CountOracle>(questions: &mut Q, first: Drawing) -> Result<Fewest, Mi
     let mut best = first;
     let mut count = questions.count(&best);
     while count > 0 {
-        match questions.ask(Some(count), Some(&best))? {
+        match questions.ask(Some(count))? {
             Answer::Found(d) => {
                 count = questions.count(&d);
                 best = d;
@@ -58,7 +58,7 @@ pub fn least_count<Q: CountOracle>(questions: &mut Q) -> Result<Fewest, MinFault
     ensures faults { Q.faults questions.old ≤ Q.faults questions.new }
     ensures cause { IsErrOf result MinFault.Log → Rose (Q.faults questions.old) (Q.faults questions.new) }
 {
-    match questions.ask(None, None)? {
+    match questions.ask(None)? {
         Answer::Found(first) => lower(questions, first),
         Answer::Refuted => Ok(Fewest::NoDrawing),
         Answer::Stopped(stop) => Ok(stopped_with(stop, None)),

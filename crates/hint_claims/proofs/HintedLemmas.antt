@@ -1,28 +1,29 @@
 -- What good hinted lines say of assignments that satisfy the clauses, and what is known of those that were accepted.
-use Rattle.std.proofs.Common.{◌≡◌, ℕ, zero, suc, ◌+◌, ◌<◌, ◌≤◌, true, List, [], ◌∷◌, ◌++◌, map, take, refl, sym, ◌∙◌, ap, subst, inl, inr, arith, append-nil, append_assoc}
-use Rattle.std.specs.Prelude.{All, Contains, Some, slice_get, flat_map, ◌↔◌, false, Any}
+use Rattle.std.proofs.Common.{◌≡◌, ℕ, ◌+◌, List, [], ◌∷◌, ◌++◌, map, take, refl, sym, ◌∙◌, ap, subst, inl, inr, append-nil}
+use Rattle.std.specs.Prelude.{Contains, flat_map, ◌↔◌, false, Any}
 use Rattle.std.proofs.lemmas.Grind.{flat_map-append}
-use Rattle.std.proofs.lemmas.Option.{none-some}
-use Rattle.std.proofs.lemmas.List.Elements.{All-nil, All-push, All-contains, Contains-append_right, Contains-append_cases, Contains-push_cases}
+use Rattle.std.proofs.lemmas.List.Elements.{All-contains, Contains-append_right, Contains-append_cases, Contains-push_cases}
 use Rattle.plan_core.specs.declared.criterion.Values.{Values}
 use Rattle.plan_core.specs.declared.criterion.Criterion.{Criterion}
-use Rattle.plan_core.specs.Values.{value_of, Better}
+use Rattle.plan_core.specs.Values.{Better}
 use Rattle.plan_core.proofs.Listing.{Contains-head}
 use Rattle.cnf_core.specs.Lit.{Literal}
 use Rattle.cnf_core.specs.Clause.{Clauses, HasAllOf}
 use Rattle.cnf_core.specs.declared.literal.Var.{Var}
-use Rattle.cnf_core.specs.Assignment.{Assignment, Satisfies, SatisfiesAll, truth}
+use Rattle.cnf_core.specs.Assignment.{Assignment, Satisfies, SatisfiesAll}
 use Rattle.cnf_core.proofs.ClauseLemmas.{satisfies_append}
 use Rattle.cnf_core.proofs.PropagationLemmas.{rup_sound}
-use Rattle.cnf_core.proofs.QuantifierLemmas.{some_from_satisfies, each_from_satisfies}
+use Rattle.cnf_core.proofs.QuantifierLemmas.{each_from_satisfies}
 use Rattle.refute_log.specs.declared.line.LogLine.TheVariants as lines
 use Rattle.refute_log.specs.Told.{Lines}
 use Rattle.refute_log.specs.Log.{given, refuted, facts_of, clause_lines}
 use Rattle.refute_check.specs.Kept.{CheckedFacts, Refutes as RefutesLog}
-use Rattle.certified_values.specs.Bounds.{SaysAtLeast, MeetsLog}
-use Rattle.certified_values.specs.Certified.{IsOutOfReach, IsCertifiedLeast, Certifies, CertifiesNone}
+use Rattle.certified_values.specs.Bounds.{MeetsLog}
+use Rattle.certified_values.specs.Certified.{Certifies, CertifiesNone}
+use Rattle.certified_values.proofs.CertifiedLemmas.{Agrees, none_better_agrees}
 use Rattle.certified_check.specs.declared.told_bound.ToldBound.{ToldBound}
 use Rattle.certified_check.specs.Lacking.{told_bound, KnowsLog}
+use Rattle.certified_check.proofs.JudgeLemmas.{nothing}
 use Rattle.hint_log.specs.declared.hint_line.HintLine.{HintLine}
 use Rattle.hint_log.specs.declared.hint_line.HintLine.TheVariants.{Learnt, Refuted}
 use Rattle.hint_log.specs.Checked.{HintFacts, refuted_of, Refutes}
@@ -42,9 +43,6 @@ good_hold a clauses (Refuted lits ns ∷ hints) good h =
     (holds, good_hold a clauses hints (subst (λ (cs : Clauses). AreGood cs hints) (append-nil clauses) good.1) h)
 
 -- ---- which lines the log has
-
-nothing : {X : Type 0} (y : X) (P : Type 0) → Contains [] y → P
-nothing y P h = absurd (let low = h.1 in omega arith)
 
 no_refuted : (ls : Lines) (c : List Literal) → Contains (clause_lines ls) (lines.Refuted c) → ⊥
 no_refuted [] c h = nothing (lines.Refuted c) ⊥ h
@@ -122,71 +120,19 @@ refuted_hold a told hints alone good h c there = elim (Contains-append_cases tol
 
 -- ---- values that meet the told lines
 
--- what meets the told lines, as it is needed: each refuted clause of the log holds, and each bound says what it does
-record Meets (log : Lines) (w : Values) : Type 0 where
-  assignment : Assignment
-  holds : (c : List Literal) → Contains log (lines.Refuted c) → Satisfies assignment c
-  bounds : (c : Criterion) (k : ℕ) (x : Var) → Contains log (lines.Bound c k x) → assignment x.0 ≡ true → k ≤ value_of w c
-
-meets_log : (told : Lines) (hints : HintLines) (w : Values) → AreClauseLines told → MeetsLog told w → AreGood (flat_map given told) hints → Meets (log_of told hints) w
-meets_log told hints w alone m good = record {
+agrees_with_log : (told : Lines) (hints : HintLines) (w : Values) → AreClauseLines told → MeetsLog told w → AreGood (flat_map given told) hints → Agrees (log_of told hints) w
+agrees_with_log told hints w alone m good = record {
   assignment = m.assignment;
-  holds = refuted_hold m.assignment told hints alone good m.formula;
+  refuted = refuted_hold m.assignment told hints alone good m.formula;
   bounds = λ c k x there t. elim (Contains-append_cases told (map line_of hints) (lines.Bound c k x) there) [
     | inl early ↦ (m.bounds c k x early).0 t
     | inr late ↦ absurd (no_bound hints c k x late)
   ];
 }
 
-reaches : (greatest : Criterion → ℕ) (log : Lines) (w : Values) (m : Meets log w) (c : Criterion) (k : ℕ) (l : Literal) → SaysAtLeast greatest log c k l → truth m.assignment l ≡ true → k ≤ value_of w c
-reaches greatest log w m c k l s t = m.bounds c k s.variable s.told (ap (truth m.assignment) (sym s.is) ∙ t)
-
-out_of_reach : (greatest : Criterion → ℕ) (log : Lines) (v w : Values) (m : Meets log w) (earlier : List Criterion) (c : Criterion) (l : Literal) →
-    All (λ b. value_of w b ≡ value_of v b) earlier → value_of w c < value_of v c → IsOutOfReach greatest log earlier c v l → truth m.assignment l ≡ true → ⊥
-out_of_reach greatest log v w m earlier c l same less (inl any) t =
-    let k = reaches greatest log w m any.1 (value_of v any.1 + 1) l any.4 t in
-    let e : value_of w any.1 ≡ value_of v any.1 = All-contains (λ b. value_of w b ≡ value_of v b) earlier any.1 same (any.0, any.2, any.3) in
-    omega arith
-out_of_reach greatest log v w m earlier c l same less (inr s) t = let k = reaches greatest log w m c (value_of v c) l s t in omega arith
-
-none_less : (greatest : Criterion → ℕ) (log : Lines) (v w : Values) → Meets log w → (earlier : List Criterion) (c : Criterion) →
-    All (λ b. value_of w b ≡ value_of v b) earlier → IsCertifiedLeast greatest log earlier c v → value_of w c < value_of v c → ⊥
-none_less greatest log v w m earlier c same least less =
-    let r = least (omega arith) in
-    let some = some_from_satisfies m.assignment r.clause (m.holds r.clause r.among) in
-    out_of_reach greatest log v w m earlier c some.1 same less (All-contains (IsOutOfReach greatest log earlier c v) r.clause some.1 r.each (some.0, some.2, some.3)) some.4
-
-none_better_behind : (greatest : Criterion → ℕ) (log : Lines) (v w : Values) → Meets log w → (earlier rest : List Criterion) →
-    ((i : ℕ) (c : Criterion) → slice_get rest i ≡ Some c → IsCertifiedLeast greatest log (earlier ++ take i rest) c v) → All (λ b. value_of w b ≡ value_of v b) earlier → Better rest w v → ⊥
-none_better_behind greatest log v w m earlier [] least same b = b
-none_better_behind greatest log v w m earlier (c ∷ rest) least same (inl less) =
-    none_less greatest log v w m earlier c same (subst (λ (cs : List Criterion). IsCertifiedLeast greatest log cs c v) (append-nil earlier) (least 0 c refl)) less
-none_better_behind greatest log v w m earlier (c ∷ rest) least same (inr b) =
-    none_better_behind greatest log v w m (earlier ++ c ∷ []) rest
-    (λ i d at. subst (λ (cs : List Criterion). IsCertifiedLeast greatest log cs d v) (sym (append_assoc earlier (c ∷ []) (take i rest))) (least (suc i) d at))
-    (All-push (λ b. value_of w b ≡ value_of v b) earlier c same b.0) b.1
-
--- a place of the first s places
-record IsOfFront (order : List Criterion) (s i : ℕ) (c : Criterion) : Type 0 where
-  low : i < s
-  at : slice_get order i ≡ Some c
-  same : take i (take s order) ≡ take i order
-
-of_front : (order : List Criterion) (s i : ℕ) (c : Criterion) → slice_get (take s order) i ≡ Some c → IsOfFront order s i c
-of_front [] zero i c e = absurd (none-some c e)
-of_front [] (suc s) i c e = absurd (none-some c e)
-of_front (d ∷ order) zero i c e = absurd (none-some c e)
-of_front (d ∷ order) (suc s) zero c e = record { low = omega arith; at = e; same = refl }
-of_front (d ∷ order) (suc s) (suc i) c e =
-    let f = of_front order s i c e in
-    record { low = let low = f.low in omega arith; at = f.at; same = ap (λ (cs : List Criterion). d ∷ cs) f.same }
-
 pub none_better : (greatest : Criterion → ℕ) (told : Lines) (hints : HintLines) (order : List Criterion) (v w : Values) (s : ℕ) → MeetsHints told hints w →
     Certifies greatest (log_of told hints) order v s → Better (take s order) w v → ⊥
-none_better greatest told hints order v w s m certified b =
-    none_better_behind greatest (log_of told hints) v w (meets_log told hints w m.alone m.meets m.good) [] (take s order)
-    (λ i c e. let f = of_front order s i c e in subst (λ (cs : List Criterion). IsCertifiedLeast greatest (log_of told hints) cs c v) (sym f.same) (certified i c f.low f.at))
-    (All-nil (λ b. value_of w b ≡ value_of v b)) b
+none_better greatest told hints order v w s m certified b = none_better_agrees greatest (log_of told hints) order v w s (agrees_with_log told hints w m.alone m.meets m.good) certified b
 
 pub none_meets : (told : Lines) (hints : HintLines) (w : Values) → MeetsHints told hints w → CertifiesNone (log_of told hints) → ⊥
 none_meets told hints w m none = refuted_hold m.meets.assignment told hints m.alone m.good m.meets.formula [] none

@@ -1,5 +1,5 @@
 -- The line of the caps: it has one form, is that of one list of caps, and has one fault or none.
-use Rattle.std.proofs.Common.{◌≡◌, ℕ, ◌≤◌, inr, rules, List, [], ◌∷◌, ◌++◌, decimal, refl, sym, ◌∙◌, ap, subst, arith}
+use Rattle.std.proofs.Common.{◌≡◌, ℕ, ◌≤◌, rules, List, [], ◌∷◌, ◌++◌, decimal, refl, sym, ◌∙◌, ap, subst, arith}
 use Rattle.std.specs.Prelude.{codes}
 use Rattle.std.specs.List.{AllByRecursion}
 use Rattle.std.proofs.lemmas.List.{append-nil}
@@ -8,8 +8,7 @@ use Rattle.plan_core.specs.declared.criterion.Criterion.TheVariants.{Height, Ben
 use Rattle.plan_core.specs.declared.criterion.Values.{Values}
 use Rattle.plan_core.specs.Values.{value_of}
 use Rattle.cnf_core.specs.declared.limits.TheConstants.{LAST_VAR}
-use Rattle.line_text.specs.Fields.{LacksByte, IsCutAt, IsOneField, unended_text}
-use Rattle.line_text.proofs.NumberLemmas.{decimal_is_one}
+use Rattle.line_text.specs.Fields.{LacksByte, IsCutAt, unended_text}
 use Rattle.line_text.specs.declared.numbers.TheConstants.{MAX_NUMBER}
 use Rattle.refute_log.specs.LineForm.{Field, IsNumber}
 use Rattle.refute_log.specs.OneText.{decimal_once}
@@ -19,7 +18,8 @@ use Rattle.hint_text.specs.declared.fault.HintsWhat.TheVariants.{Header, Form, N
 use Rattle.hint_text.specs.HintText.{caps_text}
 use Rattle.hint_text.specs.Caps.{CapsForm, caps_fields, IsOfCapsForm, HasRightCaps, AreSmallCaps, IsCapsText, AreInRange, HasCapsFault, AreCapsOf}
 use Rattle.hint_text.specs.Parts.{AreCapsIn}
-use Rattle.hint_text.proofs.FormLemmas.{decimal_is_number}
+use Rattle.refute_log.proofs.FeedLemmas.{lacks_both, decimal_lacks}
+use Rattle.refute_log.proofs.LawLemmas.{decimal_is_number}
 
 -- ---- the fields, one after another
 
@@ -178,19 +178,8 @@ caps_text_of text form caps h a = record {
 
 -- ---- one line
 
-pub lacks_one : (t : List ℕ) → IsOneField t → LacksByte 10 t
-lacks_one [] h = tt
-lacks_one (b ∷ t) h = ((λ e. h.0 (inr e)), lacks_one t h.1)
-
-pub lacks_append : (s t : List ℕ) → LacksByte 10 s → LacksByte 10 t → LacksByte 10 (s ++ t)
-lacks_append [] t h k = k
-lacks_append (b ∷ s) t h k = (h.0, lacks_append s t h.1 k)
-
-pub lacks_number : (n : ℕ) → n ≤ LAST_VAR → LacksByte 10 (decimal n)
-lacks_number n h = lacks_one (decimal n) (decimal_is_one n (omega arith))
-
 lacks_field : (n : ℕ) (t : List ℕ) → n ≤ MAX_NUMBER → LacksByte 10 t → LacksByte 10 (32 ∷ (decimal n ++ t))
-lacks_field n t h k = ((λ e. omega arith), lacks_append (decimal n) t (lacks_number n (small n h)) k)
+lacks_field n t h k = ((λ e. omega arith), lacks_both (decimal n) t (decimal_lacks n (small n h)) k)
 
 pub caps_lack : (caps : Values) → AreSmallCaps caps → LacksByte 10 (caps_text caps)
 caps_lack caps h =
@@ -198,7 +187,7 @@ caps_lack caps h =
     let diagonal = 32 ∷ (decimal caps.diagonal ++ width) in
     let bends = 32 ∷ (decimal caps.bends ++ diagonal) in
     let height = 32 ∷ (decimal caps.height ++ bends) in
-    lacks_append (codes "caps") height (search rules)
+    lacks_both (codes "caps") height (search rules)
     (lacks_field caps.height bends (h Height) (lacks_field caps.bends diagonal (h Bends) (lacks_field caps.diagonal width (h Diagonal) (lacks_field caps.width [] (h Width) tt))))
 
 -- ---- one fault or none

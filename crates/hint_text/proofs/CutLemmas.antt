@@ -6,7 +6,7 @@ use Rattle.line_text.specs.Fields.{LacksByte, spaced}
 use Rattle.refute_log.specs.LineForm.{Field, AreNumbers}
 use Rattle.refute_log.proofs.ReadingLemmas.{same_cut, zero_is_one, number_is_one}
 use Rattle.hint_text.specs.HintForm.{NoneIsZero}
-use Rattle.hint_text.specs.Parts.{NoneBefore, IsCutBehindZero}
+use Rattle.hint_text.specs.Parts.{NoZeroBefore, IsCutBehindZero}
 
 -- ---- the fields before it
 
@@ -63,7 +63,7 @@ not_before_letter letter fields (x ∷ a) b t other numbers none e =
 
 -- ---- fields before which no `0` ends
 
-pub none_is_zero : (front : List ℕ) (fields : List Field) (t : List ℕ) → NoneBefore ((front ++ spaced fields) ++ 32 ∷ 48 ∷ 32 ∷ t) (length (front ++ spaced fields)) → NoneIsZero fields
+pub none_is_zero : (front : List ℕ) (fields : List Field) (t : List ℕ) → NoZeroBefore ((front ++ spaced fields) ++ 32 ∷ 48 ∷ 32 ∷ t) (length (front ++ spaced fields)) → NoneIsZero fields
 none_is_zero front [] t none = tt
 none_is_zero front (f ∷ fields) t none = (
   λ zero.
@@ -77,7 +77,7 @@ none_is_zero front (f ∷ fields) t none = (
       let some : length (spaced (f ∷ fields)) ≡ suc (length (f ++ spaced fields)) = refl in
       omega arith,
   none_is_zero (front ++ 32 ∷ f) fields t
-      (subst (λ (s : List ℕ). NoneBefore (s ++ 32 ∷ 48 ∷ 32 ∷ t) (length s)) (sym (append_assoc front (32 ∷ f) (spaced fields))) none),
+      (subst (λ (s : List ℕ). NoZeroBefore (s ++ 32 ∷ 48 ∷ 32 ∷ t) (length s)) (sym (append_assoc front (32 ∷ f) (spaced fields))) none),
 )
 
 -- ---- two cuts of one text
@@ -111,7 +111,7 @@ cut_once text front other rest another h k =
     record { front_is = h.front_is ∙ ap (λ (t : List ℕ). t ++ 32 ∷ 48 ∷ []) p.front ∙ sym k.front_is; rest_is = tail_of rest another p.rest }
 
 -- the cut that such a loop finds
-pub cut_found : (text rest : List ℕ) (place : ℕ) → place ≤ length text → NoneBefore text place → drop place text ≡ 32 ∷ 48 ∷ 32 ∷ rest → IsCutBehindZero text (take (place + 2) text) rest
+pub cut_found : (text rest : List ℕ) (place : ℕ) → place ≤ length text → NoZeroBefore text place → drop place text ≡ 32 ∷ 48 ∷ 32 ∷ rest → IsCutBehindZero text (take (place + 2) text) rest
 cut_found text rest place low none here =
     let a = take place text in
     let size : length a ≡ place = length-take-le place text low in
@@ -121,5 +121,5 @@ cut_found text rest place low none here =
       front_is =
           ap (take (place + 2)) whole ∙ ap (λ n. take (n + 2) (a ++ 32 ∷ 48 ∷ 32 ∷ rest)) (sym size) ∙ take-append-add a (32 ∷ 48 ∷ 32 ∷ rest) 2;
       spelled = whole;
-      first = subst (NoneBefore text) (sym size) none;
+      first = subst (NoZeroBefore text) (sym size) none;
     }

@@ -3,28 +3,24 @@ use Rattle.std.proofs.Common.{◌≡◌, ◌≢◌, ℕ, ◌≤◌, ◌⊎◌, i
 use Rattle.std.specs.Prelude.{⊤, is_some}
 use Rattle.std.proofs.lemmas.Bool.{true≢false}
 use Rattle.std.specs.List.{AllByRecursion}
-use Rattle.std.specs.Char.{IsAsciiDigit}
-use Rattle.std.specs.Str.Parse.{AllDigits}
 use Rattle.std.proofs.lemmas.List.{append_cancel_right}
-use Rattle.std.proofs.lemmas.Str.Parse.{digit_from_value}
 use Rattle.plan_core.proofs.ListFacts.{same_heads}
 use Rattle.line_text.specs.Criteria.{criterion_word}
-use Rattle.cnf_core.specs.declared.limits.TheConstants.{LAST_VAR}
 use Rattle.line_text.specs.Fields.{spaced}
 use Rattle.refute_log.specs.declared.line.LogLine.{LogLine}
 use Rattle.refute_log.specs.declared.line.LogLine.TheVariants.{Formula, Learnt, Bound, Query, Refuted, Model}
 use Rattle.refute_log.specs.declared.fault.LogWhat.{LogWhat}
 use Rattle.refute_log.specs.declared.fault.LogWhat.TheVariants as logs
 use Rattle.refute_log.specs.Lines.{NamesOnce, with_zero, clause_fields, line_fields}
-use Rattle.refute_log.specs.LineForm.{Field, IsNumber, AreNumbers, LineForm, IsForm, form_text, IsOfForm}
+use Rattle.refute_log.specs.LineForm.{Field, AreNumbers, LineForm, IsForm, form_text, IsOfForm}
 use Rattle.refute_log.specs.LineForm.LineForm.{FormulaForm, LearntForm, BoundForm, QueryForm, RefutedForm, ModelForm}
 use Rattle.refute_log.specs.declared.fault.LineTextFault.{LineTextFault}
 use Rattle.refute_log.specs.declared.fault.LineTextFault.TheVariants.{Log, Memory as NoMemory}
 use Rattle.refute_log.specs.LineText.{SpellsLine, IsTextOf, HasLineFault, IsLineFault}
 use Rattle.refute_log.specs.FieldText.{fields_left}
-use Rattle.refute_log.specs.OneText.{spaced_with, is_decimal}
+use Rattle.refute_log.specs.OneText.{spaced_with}
 use Rattle.refute_log.proofs.LogLemmas.{flat_map_last}
-use Rattle.refute_log.proofs.LawLemmas.{right_form}
+use Rattle.refute_log.proofs.LawLemmas.{right_form, decimal_is_number}
 use Rattle.hint_log.specs.declared.hint_line.HintLine.{HintLine}
 use Rattle.hint_log.specs.declared.hint_line.HintLine.TheVariants as hints
 use Rattle.hint_log.specs.Hint.{hints_of}
@@ -36,7 +32,7 @@ use Rattle.hint_text.specs.HintForm.{NoneIsZero, EndsAtZero, HintForm, IsOfHintF
 use Rattle.hint_text.specs.declared.fault.HintTextFault.{HintTextFault}
 use Rattle.hint_text.specs.declared.fault.HintTextFault.TheVariants.{Hints, Memory}
 use Rattle.hint_text.specs.HintFaults.{SpellsHint, IsHintOf, HasHintFault, IsHintWhere}
-use Rattle.hint_text.specs.Parts.{IsCutBehindZero, NoneBefore, LacksZero, BeginsHinted, HasNumbers, HasNumberFields, HasWrongNumbers, LacksNumbers, IsFormFor, IsUnjoined, fault_of}
+use Rattle.hint_text.specs.Parts.{IsCutBehindZero, NoZeroBefore, LacksZero, BeginsHinted, HasHintNumbers, HasNumberFields, HasWrongNumbers, LacksNumbers, IsFormFor, IsUnjoined, fault_of}
 use Rattle.hint_text.proofs.CutLemmas.{not_before_letter, none_is_zero, SameCuts, cut_once}
 
 -- ---- texts of fields
@@ -96,7 +92,7 @@ front_none : (text front rest : List ℕ) (letter : ℕ) (fields : List Field) �
 front_none text front rest letter fields cut e =
     let before : cut.before ≡ letter ∷ spaced fields = append_cancel_right cut.before (letter ∷ spaced fields) (32 ∷ 48 ∷ []) (sym cut.front_is ∙ e ∙ lettered letter fields) in
     none_is_zero (letter ∷ []) fields rest
-    (subst (λ (t : List ℕ). NoneBefore (t ++ 32 ∷ 48 ∷ 32 ∷ rest) (length t)) before (subst (λ (t : List ℕ). NoneBefore t (length cut.before)) cut.spelled cut.first))
+    (subst (λ (t : List ℕ). NoZeroBefore (t ++ 32 ∷ 48 ∷ 32 ∷ rest) (length t)) before (subst (λ (t : List ℕ). NoZeroBefore t (length cut.before)) cut.spelled cut.first))
 
 pub other_letter : (letter : ℕ) (front rest : List ℕ) → BeginsHinted front → letter ≢ 108 → letter ≢ 114 → front ≡ letter ∷ rest → ⊥
 other_letter letter front rest begins l r e =
@@ -127,7 +123,7 @@ whole_form text front rest line fields cut begins h n = record {
 }
 
 -- the line of the whole
-spells_hint : (text front rest : List ℕ) (h : HintLine) → IsCutBehindZero text front rest → SpellsLine front (line_of h) → HasNumbers rest (hints_of h) → SpellsHint text h
+spells_hint : (text front rest : List ℕ) (h : HintLine) → IsCutBehindZero text front rest → SpellsLine front (line_of h) → HasHintNumbers rest (hints_of h) → SpellsHint text h
 spells_hint text front rest h cut s n = record {
   formed = record { formed = s.formed; some = n.some; numbers = n.each };
   spelled =
@@ -154,15 +150,6 @@ unhinted front (Refuted c) other begins s = other
 
 -- ---- numbers and their fields
 
-digits_in : (ds : List ℕ) → AllDigits 10 ds → AllByRecursion IsAsciiDigit ds
-digits_in [] h = tt
-digits_in (d ∷ ds) h = (digit_from_value d h.0, digits_in ds h.1)
-
-pub decimal_is_number : (n : ℕ) → n ≤ LAST_VAR → IsNumber (decimal n)
-decimal_is_number n h =
-    let numeral = is_decimal n h in
-    record { positive = true; digits = decimal n; some = numeral.0; only = digits_in (decimal n) numeral.1; spelled = refl }
-
 pub decimals_are_numbers : (ns : List ℕ) → AllByRecursion IsClauseNumber ns → AreNumbers (map decimal ns)
 decimals_are_numbers [] h = tt
 decimals_are_numbers (n ∷ ns) h = (decimal_is_number n h.0.to, decimals_are_numbers ns h.1)
@@ -171,7 +158,7 @@ pub some_decimals : (ns : List ℕ) → 1 ≤ length ns → 1 ≤ length (map de
 some_decimals [] h = h
 some_decimals (n ∷ ns) h = omega arith
 
-number_fields_of : (rest ns : List ℕ) → HasNumbers rest ns → HasNumberFields rest (map decimal ns)
+number_fields_of : (rest ns : List ℕ) → HasHintNumbers rest ns → HasNumberFields rest (map decimal ns)
 number_fields_of rest ns h = record { some = some_decimals ns h.some; has = record { numbers = decimals_are_numbers ns h.each; spelled = h.spelled } }
 
 -- ---- the faults of the parts are those of the whole
@@ -204,7 +191,7 @@ wrong_number text front rest read cut begins s w =
     let form = (right_form front).1 (read, s) in
     (record { line = form.0; numbers = w.fields }, whole_form text front rest form.0 w.fields cut begins form.1 w.has, λ right. w.wrong right.hints)
 
-line_twice : (text front rest ns : List ℕ) (read : LogLine) → IsCutBehindZero text front rest → BeginsHinted front → SpellsLine front read → (NamesOnce read → ⊥) → HasNumbers rest ns → HasHintFault text Twice
+line_twice : (text front rest ns : List ℕ) (read : LogLine) → IsCutBehindZero text front rest → BeginsHinted front → SpellsLine front read → (NamesOnce read → ⊥) → HasHintNumbers rest ns → HasHintFault text Twice
 line_twice text front rest ns (Learnt c) cut begins s not n = let h : HintLine = hints.Learnt c ns in (h, spells_hint text front rest h cut s n, not)
 line_twice text front rest ns (Refuted c) cut begins s not n = let h : HintLine = hints.Refuted c ns in (h, spells_hint text front rest h cut s n, not)
 line_twice text front rest ns (Formula c) cut begins s not n = absurd (unhinted front (Formula c) tt begins s)
@@ -212,7 +199,7 @@ line_twice text front rest ns (Bound d k x) cut begins s not n = absurd (unhinte
 line_twice text front rest ns (Query c) cut begins s not n = absurd (unhinted front (Query c) tt begins s)
 line_twice text front rest ns Model cut begins s not n = absurd (unhinted front Model tt begins s)
 
-pub part_fault : (text front rest : List ℕ) (found : Option (List ℕ)) (right : Bool) (what : LogWhat) → right ≡ is_some found → IsCutBehindZero text front rest → BeginsHinted front → MatchOption found (HasWrongNumbers rest) (HasNumbers rest) → HasLineFault front what →
+pub part_fault : (text front rest : List ℕ) (found : Option (List ℕ)) (right : Bool) (what : LogWhat) → right ≡ is_some found → IsCutBehindZero text front rest → BeginsHinted front → MatchOption found (HasWrongNumbers rest) (HasHintNumbers rest) → HasLineFault front what →
     HasHintFault text (fault_of what right)
 part_fault text front rest found right logs.Header is cut begins m fault = fault
 part_fault text front rest found right logs.Form is cut begins m fault = line_form text front rest cut fault
@@ -225,20 +212,20 @@ part_fault text front rest (Some ns) false logs.Twice is cut begins m fault = ab
 
 -- ---- both parts, joined
 
-pub joined : (text front rest : List ℕ) (h : HintLine) (read : LogLine) (found : Option (List ℕ)) → line_of h ≡ read → found ≡ Some (hints_of h) → IsCutBehindZero text front rest → IsTextOf front read → MatchOption found (HasWrongNumbers rest) (HasNumbers rest) → IsHintOf text h
+pub joined : (text front rest : List ℕ) (h : HintLine) (read : LogLine) (found : Option (List ℕ)) → line_of h ≡ read → found ≡ Some (hints_of h) → IsCutBehindZero text front rest → IsTextOf front read → MatchOption found (HasWrongNumbers rest) (HasHintNumbers rest) → IsHintOf text h
 joined text front rest h read found line hints cut t m =
-    let numbers : HasNumbers rest (hints_of h) = subst (λ (o : Option (List ℕ)). MatchOption o (HasWrongNumbers rest) (HasNumbers rest)) hints m in
+    let numbers : HasHintNumbers rest (hints_of h) = subst (λ (o : Option (List ℕ)). MatchOption o (HasWrongNumbers rest) (HasHintNumbers rest)) hints m in
     let is : IsTextOf front (line_of h) = subst (IsTextOf front) (sym line) t in
     record { spells = spells_hint text front rest h cut is.spells numbers; once = is.once }
 
-pub unjoined : (text front rest : List ℕ) (read : LogLine) (found : Option (List ℕ)) (what : HintsWhat) → IsCutBehindZero text front rest → BeginsHinted front → IsTextOf front read → MatchOption found (HasWrongNumbers rest) (HasNumbers rest) → IsUnjoined read found what → HasHintFault text what
+pub unjoined : (text front rest : List ℕ) (read : LogLine) (found : Option (List ℕ)) (what : HintsWhat) → IsCutBehindZero text front rest → BeginsHinted front → IsTextOf front read → MatchOption found (HasWrongNumbers rest) (HasHintNumbers rest) → IsUnjoined read found what → HasHintFault text what
 unjoined text front rest (Learnt c) found Form cut begins t m not = absurd (not (hints.Learnt c []) refl)
 unjoined text front rest (Refuted c) found Form cut begins t m not = absurd (not (hints.Refuted c []) refl)
 unjoined text front rest (Formula c) found Form cut begins t m not = absurd (unhinted front (Formula c) tt begins t.spells)
 unjoined text front rest (Bound d k x) found Form cut begins t m not = absurd (unhinted front (Bound d k x) tt begins t.spells)
 unjoined text front rest (Query c) found Form cut begins t m not = absurd (unhinted front (Query c) tt begins t.spells)
 unjoined text front rest Model found Form cut begins t m not = absurd (unhinted front Model tt begins t.spells)
-unjoined text front rest read found Number cut begins t m none = wrong_number text front rest read cut begins t.spells (subst (λ (o : Option (List ℕ)). MatchOption o (HasWrongNumbers rest) (HasNumbers rest)) none m)
+unjoined text front rest read found Number cut begins t m none = wrong_number text front rest read cut begins t.spells (subst (λ (o : Option (List ℕ)). MatchOption o (HasWrongNumbers rest) (HasHintNumbers rest)) none m)
 unjoined text front rest read found Header cut begins t m h = h
 unjoined text front rest read found Twice cut begins t m h = absurd h
 unjoined text front rest read found Range cut begins t m h = h
@@ -257,7 +244,7 @@ numbers_fault front rest line (Hints Twice n) h = absurd h.1
 numbers_fault front rest line (Hints Range n) h = absurd h.1
 numbers_fault front rest line Memory h = tt
 
-pub unjoined_fault : (front rest : List ℕ) (read : LogLine) (found : Option (List ℕ)) (line : ℕ) (fault : HintTextFault) → BeginsHinted front → IsTextOf front read → MatchOption found (HasWrongNumbers rest) (HasNumbers rest) →
+pub unjoined_fault : (front rest : List ℕ) (read : LogLine) (found : Option (List ℕ)) (line : ℕ) (fault : HintTextFault) → BeginsHinted front → IsTextOf front read → MatchOption found (HasWrongNumbers rest) (HasHintNumbers rest) →
     IsHintWhere (IsUnjoined read found) line fault → IsHintWhere (IsCutFault front rest) line fault
 unjoined_fault front rest read found line (Hints what n) begins t m h = (h.0, λ text cut. unjoined text front rest read found what cut begins t m h.1)
 unjoined_fault front rest read found line Memory begins t m h = tt

@@ -1,5 +1,5 @@
 -- The numbers of hints, read field by field.
-use Rattle.std.proofs.Common.{◌≡◌, ℕ, ◌≤◌, Bool, true, false, List, [], ◌∷◌, ◌++◌, length, map, decimal, refl, sym, ◌∙◌, ap, subst, arith, append_assoc}
+use Rattle.std.proofs.Common.{◌≡◌, ℕ, ◌≤◌, Bool, true, false, List, [], ◌∷◌, ◌++◌, length, map, decimal, refl, sym, ◌∙◌, ap, subst, arith}
 use Rattle.std.specs.List.{AllByRecursion}
 use Rattle.plan_core.proofs.ListFacts.{each_pushed, each_front}
 use Rattle.cnf_core.specs.declared.limits.TheConstants.{LAST_VAR}
@@ -7,27 +7,18 @@ use Rattle.line_text.specs.Fields.{LacksByte, IsCutAt}
 use Rattle.line_text.specs.Numbers.{IsNumberField}
 use Rattle.refute_log.specs.LineForm.{Field, IsNumber, AreNumbers}
 use Rattle.refute_log.specs.FieldText.{trailed, fields_left, HasFields}
-use Rattle.refute_log.proofs.ReadingLemmas.{same_cut, no_cut, number_is_one, zero_is_one, regroup, ahead}
+use Rattle.refute_log.proofs.ReadingLemmas.{same_cut, no_cut, number_is_one, zero_is_one, regroup, ahead, trailed_more, all_last}
 use Rattle.hint_text.specs.HintText.{IsClauseNumber}
-use Rattle.hint_text.specs.Parts.{AddsNumber, HasNumbers, HasWrongNumbers, LacksNumbers, AreNumbersRead, AreReadTo}
+use Rattle.hint_text.specs.Parts.{AddsNumber, HasHintNumbers, HasWrongNumbers, LacksNumbers, AreNumbersRead, AreHintsReadTo}
 
-pub none_read : (text : List ℕ) → AreReadTo text text true []
+pub none_read : (text : List ℕ) → AreHintsReadTo text text true []
 none_read text = record { fields = []; numbers = tt; spelled = refl; read = (refl, tt) }
 
 -- ---- one more field
 
-trailed_more : (fields : List Field) (f : Field) (r : List ℕ) → trailed fields ++ (f ++ 32 ∷ r) ≡ trailed (fields ++ f ∷ []) ++ r
-trailed_more [] f r = sym (append_assoc (f ++ 32 ∷ []) [] r ∙ append_assoc f (32 ∷ []) r)
-trailed_more (g ∷ fields) f r =
-    append_assoc (g ++ 32 ∷ []) (trailed fields) (f ++ 32 ∷ r) ∙ ap (λ (t : List ℕ). (g ++ 32 ∷ []) ++ t) (trailed_more fields f r) ∙ sym (append_assoc (g ++ 32 ∷ []) (trailed (fields ++ f ∷ [])) r)
-
 map_more : (ns : List ℕ) (n : ℕ) → map decimal (ns ++ n ∷ []) ≡ map decimal ns ++ decimal n ∷ []
 map_more [] n = refl
 map_more (m ∷ ns) n = ap (λ (t : List Field). decimal m ∷ t) (map_more ns n)
-
-all_last : {A : Type 0} (P : A → Type 0) (xs : List A) (x : A) → AllByRecursion P (xs ++ x ∷ []) → P x
-all_last P [] x h = h.0
-all_last P (y ∷ xs) x h = all_last P xs x h.1
 
 read_right : (right : Bool) (fields : List Field) (ns new : List ℕ) (field : Field) → AreNumbersRead right fields ns → AddsNumber ns new field → AreNumbersRead right (fields ++ field ∷ []) new
 read_right true fields ns new field h a = (
@@ -36,7 +27,7 @@ read_right true fields ns new field h a = (
 )
 read_right false fields ns new field h a = λ all. h (each_front (IsNumberField 1 LAST_VAR) fields (field ∷ []) all)
 
-pub read_more : (text rest field after : List ℕ) (right : Bool) (ns new : List ℕ) → AreReadTo text rest right ns → IsCutAt 32 rest field after → IsNumber field → AddsNumber ns new field → AreReadTo text after right new
+pub read_more : (text rest field after : List ℕ) (right : Bool) (ns new : List ℕ) → AreHintsReadTo text rest right ns → IsCutAt 32 rest field after → IsNumber field → AddsNumber ns new field → AreHintsReadTo text after right new
 read_more text rest field after right ns new h cut number a = record {
   fields = h.fields ++ field ∷ [];
   numbers = each_pushed IsNumber h.fields field h.numbers number;
@@ -44,7 +35,7 @@ read_more text rest field after right ns new h cut number a = record {
   read = read_right right h.fields ns new field h.read a;
 }
 
-pub read_wrong : (text rest field after : List ℕ) (right : Bool) (ns new : List ℕ) → AreReadTo text rest right ns → IsCutAt 32 rest field after → IsNumber field → (IsNumberField 1 LAST_VAR field → ⊥) → AreReadTo text after false new
+pub read_wrong : (text rest field after : List ℕ) (right : Bool) (ns new : List ℕ) → AreHintsReadTo text rest right ns → IsCutAt 32 rest field after → IsNumber field → (IsNumberField 1 LAST_VAR field → ⊥) → AreHintsReadTo text after false new
 read_wrong text rest field after right ns new h cut number not = record {
   fields = h.fields ++ field ∷ [];
   numbers = each_pushed IsNumber h.fields field h.numbers number;
@@ -54,7 +45,7 @@ read_wrong text rest field after right ns new h cut number not = record {
 
 -- ---- what is left
 
-pub lacks_at_end : (text rest : List ℕ) (right : Bool) (ns : List ℕ) → AreReadTo text rest right ns → LacksByte 32 rest → (rest ≡ 48 ∷ [] → ⊥) → LacksNumbers text
+pub lacks_at_end : (text rest : List ℕ) (right : Bool) (ns : List ℕ) → AreHintsReadTo text rest right ns → LacksByte 32 rest → (rest ≡ 48 ∷ [] → ⊥) → LacksNumbers text
 lacks_at_end text rest right ns h one not = λ fields k.
     let a = ahead h.fields fields rest h.numbers k.has.numbers (sym h.spelled ∙ k.has.spelled) in
     end a.more a.left
@@ -63,7 +54,7 @@ lacks_at_end text rest right ns h one not = λ fields k.
     end [] e = not e
     end (f ∷ more) e = no_cut rest f (fields_left more) one (e ∙ regroup f (trailed more) (48 ∷ []))
 
-pub lacks_at_field : (text rest field after : List ℕ) (right : Bool) (ns : List ℕ) → AreReadTo text rest right ns → IsCutAt 32 rest field after → (IsNumber field → ⊥) → LacksNumbers text
+pub lacks_at_field : (text rest field after : List ℕ) (right : Bool) (ns : List ℕ) → AreHintsReadTo text rest right ns → IsCutAt 32 rest field after → (IsNumber field → ⊥) → LacksNumbers text
 lacks_at_field text rest field after right ns h cut not = λ fields k.
     let a = ahead h.fields fields rest h.numbers k.has.numbers (sym h.spelled ∙ k.has.spelled) in
     at a.more a.numbers a.left
@@ -76,14 +67,14 @@ lacks_at_field text rest field after right ns h cut not = λ fields k.
 
 -- ---- all fields were read
 
-whole : (text rest : List ℕ) (right : Bool) (ns : List ℕ) (h : AreReadTo text rest right ns) → rest ≡ 48 ∷ [] → HasFields text h.fields
+whole : (text rest : List ℕ) (right : Bool) (ns : List ℕ) (h : AreHintsReadTo text rest right ns) → rest ≡ 48 ∷ [] → HasFields text h.fields
 whole text rest right ns h e = record { numbers = h.numbers; spelled = h.spelled ∙ ap (λ (t : List ℕ). trailed h.fields ++ t) e }
 
 some_wrong : (fields : List Field) → (AllByRecursion (IsNumberField 1 LAST_VAR) fields → ⊥) → 1 ≤ length fields
 some_wrong [] not = absurd (not tt)
 some_wrong (f ∷ fields) not = omega arith
 
-pub wrong_numbers : (text rest : List ℕ) (right : Bool) (ns : List ℕ) → AreReadTo text rest right ns → rest ≡ 48 ∷ [] → right ≡ false → HasWrongNumbers text
+pub wrong_numbers : (text rest : List ℕ) (right : Bool) (ns : List ℕ) → AreHintsReadTo text rest right ns → rest ≡ 48 ∷ [] → right ≡ false → HasWrongNumbers text
 wrong_numbers text rest right ns h e wrong =
     let k : AreNumbersRead false h.fields ns = subst (λ (b : Bool). AreNumbersRead b h.fields ns) wrong h.read in
     record { fields = h.fields; has = record { some = some_wrong h.fields k; has = whole text rest right ns h e }; wrong = k }
@@ -92,7 +83,7 @@ fields_of : (fields : List Field) (ns : List ℕ) → fields ≡ map decimal ns 
 fields_of fields [] e h = let z = ap length e in omega arith
 fields_of fields (n ∷ ns) e h = omega arith
 
-pub no_numbers : (text rest : List ℕ) (right : Bool) (ns : List ℕ) → AreReadTo text rest right ns → rest ≡ 48 ∷ [] → right ≡ true → length ns ≡ 0 → LacksNumbers text
+pub no_numbers : (text rest : List ℕ) (right : Bool) (ns : List ℕ) → AreHintsReadTo text rest right ns → rest ≡ 48 ∷ [] → right ≡ true → length ns ≡ 0 → LacksNumbers text
 no_numbers text rest right ns h e fine none = λ fields k.
     let r : AreNumbersRead true h.fields ns = subst (λ (b : Bool). AreNumbersRead b h.fields ns) fine h.read in
     let a = ahead h.fields fields rest h.numbers k.has.numbers (sym h.spelled ∙ k.has.spelled) in
@@ -110,7 +101,7 @@ some_numbers : (ns : List ℕ) → (length ns ≡ 0 → ⊥) → 1 ≤ length ns
 some_numbers [] not = absurd (not refl)
 some_numbers (n ∷ ns) not = omega arith
 
-pub right_numbers : (text rest : List ℕ) (right : Bool) (ns : List ℕ) → AreReadTo text rest right ns → rest ≡ 48 ∷ [] → right ≡ true → (length ns ≡ 0 → ⊥) → HasNumbers text ns
+pub right_numbers : (text rest : List ℕ) (right : Bool) (ns : List ℕ) → AreHintsReadTo text rest right ns → rest ≡ 48 ∷ [] → right ≡ true → (length ns ≡ 0 → ⊥) → HasHintNumbers text ns
 right_numbers text rest right ns h e fine some =
     let k : AreNumbersRead true h.fields ns = subst (λ (b : Bool). AreNumbersRead b h.fields ns) fine h.read in
     record {

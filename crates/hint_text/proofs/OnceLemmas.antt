@@ -10,12 +10,12 @@ use Rattle.line_text.specs.Fields.{LacksByte, spaced}
 use Rattle.line_text.specs.Criteria.{criterion_word}
 use Rattle.line_text.specs.Numbers.{IsNumberField}
 use Rattle.refute_log.specs.Lines.{NamesOnce, with_zero, literal_text, log_line_text}
-use Rattle.refute_log.specs.LineForm.{Field, AreNumbers, LineForm, form_text, IsOfForm, IsLiteral, HasRightNumbers}
+use Rattle.refute_log.specs.LineForm.{Field, LineForm, form_text, IsOfForm, IsLiteral, HasRightNumbers}
 use Rattle.refute_log.specs.LineForm.LineForm.{FormulaForm, LearntForm, BoundForm, QueryForm, RefutedForm, ModelForm}
 use Rattle.refute_log.specs.FieldText.{fields_left}
 use Rattle.refute_log.specs.OneText.{decimal_once}
-use Rattle.refute_log.proofs.LawLemmas.{form_once as line_form_once, line_once, right_form}
-use Rattle.refute_log.proofs.FeedLemmas.{line_lacks}
+use Rattle.refute_log.proofs.LawLemmas.{fields_once, form_once as line_form_once, line_once, right_form}
+use Rattle.refute_log.proofs.FeedLemmas.{lacks_both, decimal_lacks, line_lacks}
 use Rattle.hint_log.specs.declared.hint_line.HintLine.{HintLine}
 use Rattle.hint_log.specs.declared.hint_line.HintLine.TheVariants as hints
 use Rattle.hint_log.specs.Hint.{hints_of}
@@ -29,16 +29,9 @@ use Rattle.hint_text.specs.HintForm.{NoneIsZero, EndsAtZero, HintForm, IsOfHintF
 use Rattle.hint_text.specs.HintFaults.{SpellsHint, IsHintOf, HasHintFault, IsHintWhere, IsHintFault}
 use Rattle.hint_text.specs.Parts.{BeginsHinted}
 use Rattle.hint_text.proofs.CutLemmas.{cut_once}
-use Rattle.hint_text.proofs.CapsLemmas.{lacks_append, lacks_number}
 use Rattle.hint_text.proofs.FormLemmas.{has_cut, behind_space, other_letter, decimals_are_numbers, some_decimals}
 
 -- ---- one form
-
-numbers_once : (fs gs : List Field) → AreNumbers fs → AreNumbers gs → fields_left fs ≡ fields_left gs → fs ≡ gs
-numbers_once fs gs h k e =
-    let same : form_text (FormulaForm fs) ≡ form_text (FormulaForm gs) = ap (λ (t : List ℕ). 102 ∷ t) (behind_space fs ∙ ap (λ (t : List ℕ). 32 ∷ t) e ∙ sym (behind_space gs)) in
-    let forms = line_form_once (form_text (FormulaForm fs)) (FormulaForm fs) (FormulaForm gs) (record { is_form = h; spelled = refl }) (record { is_form = k; spelled = same }) in
-    cc
 
 abbrev form_with : LineForm → List Field → HintForm
 form_with line numbers = record { line = line; numbers = numbers }
@@ -47,7 +40,7 @@ pub form_once : (text : List ℕ) (a b : HintForm) → IsOfHintForm text a → I
 form_once text a b h k =
     let same = cut_once text (form_text a.line) (form_text b.line) (fields_left a.numbers) (fields_left b.numbers) (has_cut text a h) (has_cut text b k) in
     let line = line_form_once (form_text a.line) a.line b.line (record { is_form = h.is_form; spelled = refl }) (record { is_form = k.is_form; spelled = same.front_is }) in
-    let numbers = numbers_once a.numbers b.numbers h.numbers k.numbers same.rest_is in
+    let numbers = fields_once a.numbers b.numbers h.numbers k.numbers same.rest_is in
     ap (λ (l : LineForm). form_with l a.numbers) line ∙ ap (λ (ns : List Field). form_with b.line ns) numbers
 
 -- ---- the form of a line
@@ -131,7 +124,7 @@ hint_once text a b h k =
     let rb = (right_form (log_line_text (line_of b))).1 (line_of b, record { formed = k.formed.formed; spelled = refl }) in
     let front : log_line_text (line_of a) ≡ log_line_text (line_of b) = ra.1.spelled ∙ same.front_is ∙ sym rb.1.spelled in
     let line = line_once (log_line_text (line_of b)) (line_of a) (line_of b) (record { formed = h.formed.formed; spelled = front }) (record { formed = k.formed.formed; spelled = refl }) in
-    let texts = numbers_once (map decimal (hints_of a)) (map decimal (hints_of b)) fa.has.numbers fb.has.numbers same.rest_is in
+    let texts = fields_once (map decimal (hints_of a)) (map decimal (hints_of b)) fa.has.numbers fb.has.numbers same.rest_is in
     line_joined a b line (decimals_once (hints_of a) (hints_of b) h.formed.numbers k.formed.numbers texts)
 
 -- ---- one fault or none
@@ -194,7 +187,7 @@ read_exactly text number r line fault = answers_exactly r Memory (IsHintOf text)
 
 numbers_lack : (ns : List ℕ) → AllByRecursion IsClauseNumber ns → LacksByte 10 (spaced (number_fields ns))
 numbers_lack [] h = ((λ e. omega arith), ((λ e. omega arith), tt))
-numbers_lack (n ∷ ns) h = ((λ e. omega arith), lacks_append (decimal n) (spaced (number_fields ns)) (lacks_number n h.0.to) (numbers_lack ns h.1))
+numbers_lack (n ∷ ns) h = ((λ e. omega arith), lacks_both (decimal n) (spaced (number_fields ns)) (decimal_lacks n h.0.to) (numbers_lack ns h.1))
 
 pub hint_lacks : (line : HintLine) → MayBeWritten line → LacksByte 10 (hint_text line)
-hint_lacks line h = lacks_append (log_line_text (line_of line)) (spaced (number_fields (hints_of line))) (line_lacks (line_of line) h.formed.formed) (numbers_lack (hints_of line) h.formed.numbers)
+hint_lacks line h = lacks_both (log_line_text (line_of line)) (spaced (number_fields (hints_of line))) (line_lacks (line_of line) h.formed.formed) (numbers_lack (hints_of line) h.formed.numbers)

@@ -42,13 +42,13 @@ pub record IsCapsText (text : List ℕ) (caps : Values) : Type 0 where
   pub spelled : text ≡ caps_text caps
 
 -- a criterion's cap isn't above its greatest value, and is positive only where the order has the criterion
-pub record IsInRange (greatest : Criterion → ℕ) (order : List Criterion) (caps : Values) (c : Criterion) : Type 0 where
+pub record IsFitCap (greatest : Criterion → ℕ) (order : List Criterion) (caps : Values) (c : Criterion) : Type 0 where
   pub within : value_of caps c ≤ greatest c
   pub asked : 1 ≤ value_of caps c → Contains order c
 
 -- each cap is in range
 abbrev pub AreInRange : (Criterion → ℕ) → List Criterion → Values → Type 0
-AreInRange greatest order caps = AllByRecursion (IsInRange greatest order caps) (Height ∷ Bends ∷ Diagonal ∷ Width ∷ [])
+AreInRange greatest order caps = AllByRecursion (IsFitCap greatest order caps) (Height ∷ Bends ∷ Diagonal ∷ Width ∷ [])
 
 -- the text has no form of caps; a number isn't right; the caps aren't in range
 abbrev pub HasCapsFault : (Criterion → ℕ) → List Criterion → List ℕ → HintsWhat → Type 0

@@ -20,15 +20,15 @@ use Rattle.hint_text.specs.declared.fault.HintsWhat.TheVariants.{Header, Form, N
 use Rattle.hint_text.specs.HintText.{IsClauseNumber}
 
 -- a field `0` ends at no place before this one
-abbrev pub NoneBefore : List ℕ → ℕ → Type 0
-NoneBefore text place = (a b : List ℕ) → text ≡ a ++ (codes " 0 " ++ b) → place ≤ length a
+abbrev pub NoZeroBefore : List ℕ → ℕ → Type 0
+NoZeroBefore text place = (a b : List ℕ) → text ≡ a ++ (codes " 0 " ++ b) → place ≤ length a
 
 -- the text is cut behind its first field `0`
 pub record IsCutBehindZero (text front rest : List ℕ) : Type 0 where
   pub before : List ℕ
   pub front_is : front ≡ before ++ codes " 0"
   pub spelled : text ≡ before ++ (codes " 0 " ++ rest)
-  pub first : NoneBefore text (length before)
+  pub first : NoZeroBefore text (length before)
 
 -- there is none
 abbrev pub LacksZero : List ℕ → Type 0
@@ -45,7 +45,7 @@ pub record AddsNumber (old new : List ℕ) (field : Field) : Type 0 where
   pub is : IsNumberIn 1 LAST_VAR field number
 
 -- the text is that of these numbers and the last `0`
-pub record HasNumbers (text : List ℕ) (ns : List ℕ) : Type 0 where
+pub record HasHintNumbers (text : List ℕ) (ns : List ℕ) : Type 0 where
   pub some : 1 ≤ length ns
   pub each : AllByRecursion IsClauseNumber ns
   pub spelled : text ≡ fields_left (map decimal ns)
@@ -70,7 +70,7 @@ AreNumbersRead true fields ns = (fields ≡ map decimal ns) × AllByRecursion Is
 AreNumbersRead false fields ns = AllByRecursion (IsNumberField 1 LAST_VAR) fields → ⊥
 
 -- some fields of the text were read, and the rest stands behind them
-pub record AreReadTo (text rest : List ℕ) (right : Bool) (ns : List ℕ) : Type 0 where
+pub record AreHintsReadTo (text rest : List ℕ) (right : Bool) (ns : List ℕ) : Type 0 where
   pub fields : List Field
   pub numbers : AreNumbers fields
   pub spelled : text ≡ trailed fields ++ rest

@@ -4,7 +4,7 @@ ghost use Rattle.std.specs.List.{AllByRecursion};
 ghost use Rattle.plan_core.specs.Values.{value_of};
 ghost use Rattle.refute_log.specs.LineForm.{IsNumber};
 ghost use Rattle.hint_text.specs.Caps.{CapsForm, caps_fields, IsOfCapsForm, HasRightCaps, AreInRange, HasCapsFault};
-ghost use Rattle.hint_text.specs.Caps.{AreCapsOf, IsInRange};
+ghost use Rattle.hint_text.specs.Caps.{AreCapsOf, IsFitCap};
 ghost use Rattle.hint_text.specs.Parts.{caps_form, AreCapsIn};
 
 use crate::HintsWhat;
@@ -83,7 +83,7 @@ fn has(order: &Order, c: Criterion) -> bool
 
 /// Whether a criterion's cap is in range.
 fn is_in_range(caps: &Values, greatest: &Values, order: &Order, c: Criterion) -> bool
-    ensures { IsTrue result ↔ IsInRange (value_of greatest.now) order.now caps.now c }
+    ensures { IsTrue result ↔ IsFitCap (value_of greatest.now) order.now caps.now c }
 {
     caps.of(c) <= greatest.of(c) && (caps.of(c) == 0 || has(order, c))
 }

@@ -3,7 +3,7 @@ ghost use Rattle.std.specs.Prelude.{◌≡◌, ◌↔◌, codes, IsTrue, IfOk, I
 ghost use Rattle.cnf_core.specs.declared.limits.TheConstants.{LAST_VAR};
 ghost use Rattle.line_text.specs.Numbers.{IsNumberField};
 ghost use Rattle.hint_text.specs.HintFaults.{IsHintWhere};
-ghost use Rattle.hint_text.specs.Parts.{AddsNumber, HasNumbers, HasWrongNumbers, LacksNumbers, IsFormFor};
+ghost use Rattle.hint_text.specs.Parts.{AddsNumber, HasHintNumbers, HasWrongNumbers, LacksNumbers, IsFormFor};
 
 use crate::{HintTextFault, HintsWhat};
 use cnf_core::LAST_VAR;
@@ -40,7 +40,7 @@ pub(crate) fn read_numbers(
     text: &[u8],
     line: u32,
 ) -> Result<Option<Numbers>, HintTextFault>
-    ensures numbers { IfOk result (λ r. MatchOption r (HasWrongNumbers text.now) (HasNumbers text.now)) }
+    ensures numbers { IfOk result (λ r. MatchOption r (HasWrongNumbers text.now) (HasHintNumbers text.now)) }
     ensures fault { IfErr result (IsHintWhere (IsFormFor (LacksNumbers text.now)) line) }
 {
     let mut numbers = Vec::new(alloc);

@@ -1,5 +1,5 @@
 -- What was read of a file is answered as the file is.
-use Rattle.std.proofs.Common.{◌≡◌, ℕ, suc, ◌<◌, ◌≤◌, List, [], ◌++◌, None, Some, length, take, sym, ◌∙◌, ap, subst, inl, inr, arith}
+use Rattle.std.proofs.Common.{◌≡◌, ◌⊎◌, ℕ, suc, ◌<◌, ◌≤◌, List, [], ◌++◌, None, Some, length, take, sym, ◌∙◌, ap, subst, inl, inr, arith}
 use Rattle.std.specs.declared.option.Option.{Option}
 use Rattle.std.proofs.lemmas.List.{take_all, length-take}
 use Rattle.plan_core.specs.Graph.{Graph}
@@ -12,10 +12,10 @@ use Rattle.input_answer.specs.declared.input.InputRefusal.{InputRefusal}
 use Rattle.input_answer.specs.declared.input.InputRefusal.TheVariants as refusals
 use Rattle.input_answer.specs.declared.status.Status.{Status}
 use Rattle.input_answer.specs.Fault.{IsFaultLine}
-use Rattle.input_answer.specs.Input.{IsLong, IsShort, HasFileFault, IsOfFile}
-use Rattle.input_answer.specs.Met.{Met, between}
+use Rattle.input_answer.specs.Input.{IsLong, IsShort, HasFileFault, IsOfFile, IsStationOf}
+use Rattle.input_answer.specs.Met.{Met, between, HasRead}
 use Rattle.input_answer.specs.Reading.{IsInput, IsRefusalOf}
-use Rattle.input_answer.specs.Answer.{InputFile, text_input, IsFileJudged, IsAnswerAfter, IsAnswerOn}
+use Rattle.input_answer.specs.Answer.{InputFile, text_input, IsFileJudged, IsAnswerAfter, IsAnswerOn, HasReadStation}
 use Rattle.input_answer.proofs.InputLemmas.{short_or_long}
 use Rattle.input_answer.proofs.MetLemmas.{read_later, fails_later}
 
@@ -89,3 +89,11 @@ answer_before input done old mid new Answers Others status text read others (inr
 pub after_before : (done : ℕ) (old mid new : FilesAt) (Answers : List ℕ → Status → List ℕ → Type 0) (bytes : List ℕ) (status : Status) (text : List ℕ) → IsRead old mid →
     IsAnswerAfter done (between mid new) Answers bytes status text → IsAnswerAfter (suc done) (between old new) Answers bytes status text
 after_before done old mid new Answers bytes status text read (done_all, answer) = (read_later done old mid new read.one done_all, answer)
+
+-- ---- what is told
+
+-- the trace is told nothing where the run is refused or has nothing to search; it is neither here
+pub untold_here : {T : Type 0} (name : List ℕ) (old new : FilesAt) (g : Graph) (o : EdgeOrder) (Refused : Type 0) (before after : T) → IsStationOf name old.contents g o → HasRead (between old new) 1 → (Refused → ⊥) →
+    Refused ⊎ (HasReadStation name (between old new) → ⊥) → after ≡ before
+untold_here name old new g o Refused before after has read answered (inl refused) = absurd (answered refused)
+untold_here name old new g o Refused before after has read answered (inr none) = absurd (none (g, o, (read, has)))

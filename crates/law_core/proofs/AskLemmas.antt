@@ -16,13 +16,14 @@ use Rattle.cnf_core.specs.Assignment.{Assignment, SatisfiesAll, truth}
 use Rattle.cnf_core.specs.Truths.{assignment}
 use Rattle.cnf_core.specs.Propagation.{AreAmong}
 use Rattle.cnf_core.proofs.ClauseLemmas.{satisfies_left}
+use Rattle.cnf_core.proofs.PropagationLemmas.{only_one}
 use Rattle.drawing_cnf.specs.Stands.{StandsFor, IsJoinedOnGrid}
 use Rattle.drawing_cnf.specs.Expected.{drawing_vars, laws_first, base_clauses}
 use Rattle.drawing_problem.specs.Layout.{Layout}
 use Rattle.cdcl_core.specs.Kept.{Kept, MakesTrue, HasModel, AreRefuted}
 use Rattle.lex_minimise.proofs.GrowLemmas.{named_in}
 use Rattle.why_search.specs.Task.{MeetsAt}
-use Rattle.why_search.specs.Asked.{ArePlaces, NoneMeets}
+use Rattle.why_search.specs.Asked.{AreLawPlaces, NoneMeetsLaws}
 use Rattle.why_search.specs.Narrowed.{has_number}
 use Rattle.why_search.proofs.PlaceLemmas.{has_contained}
 use Rattle.law_core.specs.Choices.{choice_size, choices_size, choices_clauses, selectors, loose_clauses}
@@ -64,7 +65,7 @@ selecting_few y selecting budget room k ready =
     let few = (ready.facts).few in
     omega (arith, count, le, few)
 
-pub wanted_there : (y : Layout) (selecting wanted : List ℕ) (budget room : ℕ) → AreSelecting y selecting → ArePlaces (task_of y budget room) wanted → All (λ n. n < length selecting) wanted
+pub wanted_there : (y : Layout) (selecting wanted : List ℕ) (budget room : ℕ) → AreSelecting y selecting → AreLawPlaces (task_of y budget room) wanted → All (λ n. n < length selecting) wanted
 wanted_there y selecting wanted budget room is places =
     All-weaker (λ n. n < length (laws_of y)) (λ n. n < length selecting) (λ n lt. subst (λ m. n < m) (sym (selecting_count y selecting is)) lt) wanted places.there
 
@@ -85,7 +86,7 @@ query_distinct g grid laws (n ∷ ns) there once = (
   query_distinct g grid laws ns (All-tail (λ i. i < length laws) n ns there) (pairs_tail (λ a b. a ≢ b) n ns once),
 )
 
-pub distinct : (y : Layout) (selecting wanted : List ℕ) (budget room : ℕ) → AreSelecting y selecting → ArePlaces (task_of y budget room) wanted → AreDistinct (query_of selecting wanted)
+pub distinct : (y : Layout) (selecting wanted : List ℕ) (budget room : ℕ) → AreSelecting y selecting → AreLawPlaces (task_of y budget room) wanted → AreDistinct (query_of selecting wanted)
 distinct y selecting wanted budget room is places =
     subst (λ (xs : List ℕ). AreDistinct (query_of xs wanted)) (sym is) (query_distinct y.graph y.grid (laws_of y) wanted places.there places.once)
 
@@ -98,7 +99,7 @@ query_named g grid laws ds (n ∷ ns) among there =
     (named_in (loose_clauses g grid laws) ds x among (selectors_named g grid laws n (All-head (λ i. i < length laws) n ns there)))
     (query_named g grid laws ds ns among (All-tail (λ i. i < length laws) n ns there))
 
-pub named : (y : Layout) (selecting wanted : List ℕ) (budget room : ℕ) (ds : Clauses) → AreSelecting y selecting → AreAmong (formula_of y) ds → ArePlaces (task_of y budget room) wanted →
+pub named : (y : Layout) (selecting wanted : List ℕ) (budget room : ℕ) (ds : Clauses) → AreSelecting y selecting → AreAmong (formula_of y) ds → AreLawPlaces (task_of y budget room) wanted →
     All (λ l. IsNamed ds l.var) (query_of selecting wanted)
 named y selecting wanted budget room ds is among places =
     subst (λ (xs : List ℕ). All (λ l. IsNamed ds l.var) (query_of xs wanted)) (sym is) (query_named y.graph y.grid (laws_of y) ds wanted among places.there)
@@ -121,7 +122,7 @@ meets_each y budget room v d (n ∷ ns) meets there true_all =
     All-cons (MeetsAt (task_of y budget room) d) n ns (meets n (All-head (λ i. i < length (laws_of y)) n ns there) holds)
     (meets_each y budget room v d ns meets (All-tail (λ i. i < length (laws_of y)) n ns there) (All-tail (λ l. truth v l ≡ true) (positive_of x) rest true_all))
 
-found_meets : (y : Layout) (selecting wanted : List ℕ) (budget room : ℕ) (v : Assignment) (d : Drawing) → IsWhyFormula y → AreSelecting y selecting → ArePlaces (task_of y budget room) wanted → SatisfiesAll v (formula_of y) → MakesTrue v (query_of selecting wanted) →
+found_meets : (y : Layout) (selecting wanted : List ℕ) (budget room : ℕ) (v : Assignment) (d : Drawing) → IsWhyFormula y → AreSelecting y selecting → AreLawPlaces (task_of y budget room) wanted → SatisfiesAll v (formula_of y) → MakesTrue v (query_of selecting wanted) →
     ((other : Drawing) → IsJoinedOnGrid y.graph y.grid other → StandsFor v y.graph (drawing_vars y.graph y.grid) other → other ≡ d) → All (MeetsAt (task_of y budget room) d) wanted
 found_meets y selecting wanted budget room v d facts is places all true_all alone =
     let s = facts.sound v all in
@@ -129,7 +130,7 @@ found_meets y selecting wanted budget room v d facts is places all true_all alon
     subst (λ (x : Drawing). All (MeetsAt (task_of y budget room) x) wanted) same
     (meets_each y budget room v s.drawing wanted s.meets places.there (subst (λ (xs : List ℕ). MakesTrue v (query_of xs wanted)) is true_all))
 
-pub model_meets : (y : Layout) (selecting wanted : List ℕ) (budget room : ℕ) (k : Kept) (assume : List Literal) (m : List Bool) (d : Drawing) → IsReady y selecting budget room k → ArePlaces (task_of y budget room) wanted → assume ≡ query_of selecting wanted →
+pub model_meets : (y : Layout) (selecting wanted : List ℕ) (budget room : ℕ) (k : Kept) (assume : List Literal) (m : List Bool) (d : Drawing) → IsReady y selecting budget room k → AreLawPlaces (task_of y budget room) wanted → assume ≡ query_of selecting wanted →
     HasModel (formula_of y) assume k → k.model ≡ Some m → ((other : Drawing) → IsJoinedOnGrid y.graph y.grid other → StandsFor (assignment m) y.graph (drawing_vars y.graph y.grid) other → other ≡ d) → All (MeetsAt (task_of y budget room) d) wanted
 model_meets y selecting wanted budget room k assume m d ready places is model k_model alone =
     let same : model.values ≡ m = (let e : Some (model.values) ≡ Some m = sym model.model ∙ k_model in cc) in
@@ -158,9 +159,6 @@ variable_there (m ∷ ms) l (suc k, lt, is) = or_right (m.var == l.var) (has_var
     or_right true b h = refl
     or_right false b h = h
 
-only : (m l : Literal) → Contains (m ∷ []) l → m ≡ l
-only m l there = All-contains (λ (z : Literal). z ≡ l → m ≡ l) (m ∷ []) l (All-cons (λ (z : Literal). z ≡ l → m ≡ l) m [] (λ e. e) (All-nil (λ (z : Literal). z ≡ l → m ≡ l))) there refl
-
 -- an assumption is of one of the places
 record IsOfPlace (selecting wanted : List ℕ) (l : Literal) : Type 0 where
   place : ℕ
@@ -170,7 +168,7 @@ record IsOfPlace (selecting wanted : List ℕ) (l : Literal) : Type 0 where
 of_place : (selecting wanted : List ℕ) (l : Literal) → Contains (query_of selecting wanted) l → IsOfPlace selecting wanted l
 of_place selecting [] l there = absurd (let lt = there.1 in omega (arith, lt))
 of_place selecting (n ∷ ns) l there = elim (Contains-append_cases (positive_of (slice_index_or selecting n 0) ∷ []) (query_of selecting ns) l there) [
-  | inl here ↦ record { place = n; among = (0, omega arith, refl); is = sym (only (positive_of (slice_index_or selecting n 0)) l here) }
+  | inl here ↦ record { place = n; among = (0, omega arith, refl); is = sym (only_one (positive_of (slice_index_or selecting n 0)) l here) }
   | inr later ↦ let r = of_place selecting ns l later in record { place = r.place; among = Contains-append_right (n ∷ []) ns r.place r.among; is = r.is }
 ]
 
@@ -187,8 +185,8 @@ core_true y selecting wanted refuted v is there among selects = λ k d lt.
     let same : v x ≡ v (selector_at y.graph y.grid (laws_of y) n) = ap (λ (xs : List ℕ). v (slice_index_or xs n 0)) is in
     ap (truth v) r.is ∙ (same ∙ selects n within ∙ has_contained (places_in selecting refuted wanted) n core)
 
-pub core_refuted : (y : Layout) (selecting wanted : List ℕ) (budget room : ℕ) (assume refuted : List Literal) → IsWhyFormula y → AreSelecting y selecting → ArePlaces (task_of y budget room) wanted → assume ≡ query_of selecting wanted →
-    AreRefuted (formula_of y) assume refuted → NoneMeets (task_of y budget room) (places_in selecting refuted wanted)
+pub core_refuted : (y : Layout) (selecting wanted : List ℕ) (budget room : ℕ) (assume refuted : List Literal) → IsWhyFormula y → AreSelecting y selecting → AreLawPlaces (task_of y budget room) wanted → assume ≡ query_of selecting wanted →
+    AreRefuted (formula_of y) assume refuted → NoneMeetsLaws (task_of y budget room) (places_in selecting refuted wanted)
 core_refuted y selecting wanted budget room assume refuted facts is places asked none = λ d loose all.
     let core = places_in selecting refuted wanted in
     let m : ChoiceModel y.graph y.grid (laws_of y) (formula_of y) d (has_number core) =
@@ -206,9 +204,9 @@ kept_among t (x ∷ xs) = by (t x) (All-weaker (Contains xs) (Contains (x ∷ xs
     by false h = h
 
 -- the reply of a refuted question
-pub core_reply : (y : Layout) (selecting slice wanted core : List ℕ) (budget room : ℕ) (assume refuted literals : List Literal) → IsWhyFormula y → AreSelecting y selecting → ArePlaces (task_of y budget room) wanted → assume ≡ query_of selecting wanted →
-    AreRefuted (formula_of y) assume refuted → slice ≡ selecting → literals ≡ refuted → core ≡ places_in slice literals wanted → All (Contains wanted) core × NoneMeets (task_of y budget room) core
+pub core_reply : (y : Layout) (selecting slice wanted core : List ℕ) (budget room : ℕ) (assume refuted literals : List Literal) → IsWhyFormula y → AreSelecting y selecting → AreLawPlaces (task_of y budget room) wanted → assume ≡ query_of selecting wanted →
+    AreRefuted (formula_of y) assume refuted → slice ≡ selecting → literals ≡ refuted → core ≡ places_in slice literals wanted → All (Contains wanted) core × NoneMeetsLaws (task_of y budget room) core
 core_reply y selecting slice wanted core budget room assume refuted literals facts are places asked none same_slice same_literals is =
-    subst (λ (c : List ℕ). All (Contains wanted) c × NoneMeets (task_of y budget room) c)
+    subst (λ (c : List ℕ). All (Contains wanted) c × NoneMeetsLaws (task_of y budget room) c)
     (sym (is ∙ ap (λ (ls : List Literal). places_in slice ls wanted) same_literals ∙ ap (λ (xs : List ℕ). places_in xs refuted wanted) same_slice))
     (kept_among (λ n. has_variable refuted (slice_index_or selecting n 0)) wanted, core_refuted y selecting wanted budget room assume refuted facts are places asked none)

@@ -3,6 +3,7 @@ use Rattle.std.proofs.Common.{◌≡◌, ◌≤◌, ◌<◌, ℕ, zero, suc, ◌
 use Rattle.std.specs.Prelude.{flat_map, slice_index_or}
 use Rattle.std.proofs.lemmas.List.{length-map}
 use Rattle.std.proofs.lemmas.List.Elements.{All-weaker}
+use Rattle.plan_core.proofs.ListFacts.{all_mapped}
 use Rattle.plan_core.specs.Drawing.{Drawing}
 use Rattle.plan_core.specs.Lawful.{Instance, NodeOnGrid, Lawful}
 use Rattle.cnf_core.specs.declared.limits.TheConstants.{VARS}
@@ -33,7 +34,6 @@ use Rattle.why_search.specs.Task.{law_at, HasAllLaws}
 use Rattle.track_order.specs.Order.{is_above, is_overlap, IsOrderOf}
 use Rattle.drawing_cnf.proofs.MainLemmas.{order_tables}
 use Rattle.why_search.specs.Outcome.{laws_at, IsRightOutcome, TellsOutcome}
-use Rattle.why_search.proofs.PlaceLemmas.{all_mapped}
 use Rattle.law_core.specs.declared.parties.Law.{Law}
 use Rattle.law_core.specs.declared.ending.Why.{Why}
 use Rattle.law_core.specs.declared.ending.Why.TheVariants as why
@@ -41,7 +41,7 @@ use Rattle.law_core.specs.Law.{instance_of}
 use Rattle.law_core.specs.Choices.{choices_size, selectors}
 use Rattle.law_core.specs.Known.{laws_of, formula_of, task_of, HasFormula, AreSelecting, IsReady, KnowsWhy}
 use Rattle.law_core.proofs.FormulaLemmas.{all_laws}
-use Rattle.law_core.specs.Why.{IsRightWhy, IsWhyCause, IsWhyLog, IsWhyLeft, FormulaPasses, formula_lines, HasPlaces, IsAnswerOf}
+use Rattle.law_core.specs.Why.{IsRightWhy, IsWhyCause, IsWhyLog, IsWhyLeft, FormulaPasses, formula_lines, HasLawPlaces, IsWhyOf}
 
 -- ---- the selecting variables
 
@@ -122,7 +122,7 @@ mapped_both : {X Y Z : Type 0} (f : Y → Z) (h : X → Y) (xs : List X) → map
 mapped_both f h [] = refl
 mapped_both f h (x ∷ xs) = ap (λ zs. f (h x) ∷ zs) (mapped_both f h xs)
 
-pub right_answer : (y : Layout) (budget room : ℕ) (o : Outcome) (w : Why) → IsRightOutcome (task_of y budget room) o → IsAnswerOf (laws_of y) o w → IsRightWhy (task_of y budget room) w
+pub right_answer : (y : Layout) (budget room : ℕ) (o : Outcome) (w : Why) → IsRightOutcome (task_of y budget room) o → IsWhyOf (laws_of y) o w → IsRightWhy (task_of y budget room) w
 right_answer y budget room (Exists d) (why.Exists e) right is = let p = task_of y budget room in subst (λ (x : Drawing). Lawful p.graph p.above p.grid x) (sym is) right
 right_answer y budget room (Exists d) (why.Laws names without) right is = absurd is
 right_answer y budget room (Exists d) why.Spent right is = absurd is
@@ -156,7 +156,7 @@ choice_within (i ∷ rest) (suc n) choice = let lt = choice_within rest n choice
 pub all_searched : (y : Layout) (budget room : ℕ) → IsOrderOf y.graph y.order → HasAllLaws (task_of y budget room)
 all_searched y budget room ordered = all_laws y.graph (is_above y.order) (is_overlap y.order) y.grid budget room (order_tables y.graph y.order ordered)
 
-pub has_places : (y : Layout) (budget room : ℕ) (laws : List Law) (o : Outcome) → map instance_of laws ≡ laws_of y → IsRightOutcome (task_of y budget room) o → HasPlaces (length laws) o
+pub has_places : (y : Layout) (budget room : ℕ) (laws : List Law) (o : Outcome) → map instance_of laws ≡ laws_of y → IsRightOutcome (task_of y budget room) o → HasLawPlaces (length laws) o
 has_places y budget room laws (Exists d) are right = tt
 has_places y budget room laws (Laws places without) are right =
     let p = task_of y budget room in
@@ -165,7 +165,7 @@ has_places y budget room laws (Laws places without) are right =
     (all_mapped (IsChoiceOf p.graph p.above) (law_at p) places (right.0).each)
 has_places y budget room laws (Stopped stop) are right = tt
 
-why_cause : (y : Layout) (budget room : ℕ) (o : Outcome) (w : Why) (lines : Lines) → clause_lines lines ≡ formula_lines y → TellsOutcome (task_of y budget room) o lines → IsAnswerOf (laws_of y) o w → IsWhyCause y budget room w lines
+why_cause : (y : Layout) (budget room : ℕ) (o : Outcome) (w : Why) (lines : Lines) → clause_lines lines ≡ formula_lines y → TellsOutcome (task_of y budget room) o lines → IsWhyOf (laws_of y) o w → IsWhyCause y budget room w lines
 why_cause y budget room (Exists d) (why.Exists e) lines all tells is = all
 why_cause y budget room (Exists d) (why.Laws names without) lines all tells is = absurd is
 why_cause y budget room (Exists d) why.Spent lines all tells is = absurd is
@@ -183,7 +183,7 @@ why_cause y budget room (Stopped RoomFull) (why.Laws names without) lines all te
 why_cause y budget room (Stopped RoomFull) why.Spent lines all tells is = absurd is
 why_cause y budget room (Stopped RoomFull) why.Room lines all tells is = inr (all, tells)
 
-why_log : (y : Layout) (budget room : ℕ) (k : Kept) (o : Outcome) (w : Why) (lines : Lines) → KnowsWhy (task_of y budget room) k lines → TellsOutcome (task_of y budget room) o lines → IsAnswerOf (laws_of y) o w → IsWhyLog y budget room w lines
+why_log : (y : Layout) (budget room : ℕ) (k : Kept) (o : Outcome) (w : Why) (lines : Lines) → KnowsWhy (task_of y budget room) k lines → TellsOutcome (task_of y budget room) o lines → IsWhyOf (laws_of y) o w → IsWhyLog y budget room w lines
 why_log y budget room k o w lines h tells is = record {
   formed = (h.belongs).formed;
   derives = (h.belongs).derives;
@@ -196,7 +196,7 @@ why_log y budget room k o w lines h tells is = record {
 
 pub whole_log : (y : Layout) (budget room : ℕ) (laws : List Law) (f : Cnf) (o : Outcome) (w : Why) (old mid new : Kept) (l0 l1 l2 : Lines → Type 0) (n0 n1 n2 : ℕ) → HasFormula y room laws f → old ≡ blank room → HasTaken (with_more_vars old f.vars) mid f.clauses →
     GoesOn (λ ls. Belongs ls old) (λ ls. Belongs ls mid) l0 l1 n0 n1 (λ lines more. more ≡ map Formula f.clauses) →
-    GoesOn (KnowsWhy (task_of y budget room) mid) (KnowsWhy (task_of y budget room) new) l1 l2 n1 n2 (λ lines more. TellsOutcome (task_of y budget room) o (lines ++ more)) → IsAnswerOf (laws_of y) o w →
+    GoesOn (KnowsWhy (task_of y budget room) mid) (KnowsWhy (task_of y budget room) new) l1 l2 n1 n2 (λ lines more. TellsOutcome (task_of y budget room) o (lines ++ more)) → IsWhyOf (laws_of y) o w →
     (lines : Lines) × IsToldTo l0 l2 n0 n2 lines × IsWhyLog y budget room w lines
 whole_log y budget room laws f o w old mid new l0 l1 l2 n0 n1 n2 has blank_is t goes search is =
     let start = formula_lines y in

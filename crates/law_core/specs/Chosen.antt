@@ -14,8 +14,8 @@ use Rattle.why_search.specs.Task.{Task}
 use Rattle.law_core.specs.Choices.{selectors, why_clauses}
 
 -- the law at a place, and its selecting variable; nothing asks for them past the list's end
-abbrev pub law_at : List Instance → ℕ → Instance
-law_at laws n = slice_index_or laws n (NodeOnGrid 0)
+abbrev pub listed_law : List Instance → ℕ → Instance
+listed_law laws n = slice_index_or laws n (NodeOnGrid 0)
 
 abbrev pub selector_at : Graph → GridSize → List Instance → ℕ → ℕ
 selector_at g grid laws n = slice_index_or (selectors (laws_first g grid) laws) n 0
@@ -25,7 +25,8 @@ pub record StandsForLoose (v : Assignment) (g : Graph) (grid : GridSize) (laws :
   pub drawing : Drawing
   pub stands : StandsFor v g (drawing_vars g grid) drawing
   pub loose : IsLoose g grid drawing
-  pub meets : (n : ℕ) → n < length laws → v (selector_at g grid laws n) ≡ true → Meets g grid drawing (law_at laws n)
+  pub meets : (n : ℕ) → n < length laws → v (selector_at g grid laws n) ≡ true →
+      Meets g grid drawing (listed_law laws n)
 
 abbrev pub SoundChoices : Graph → GridSize → List Instance → Clauses → Type 0
 SoundChoices g grid laws clauses = (v : Assignment) → SatisfiesAll v clauses → StandsForLoose v g grid laws
@@ -40,7 +41,7 @@ pub record ChoiceModel (g : Graph) (grid : GridSize) (laws : List Instance) (cla
 
 -- the drawing meets each law that is chosen
 abbrev pub MeetsChosen : Graph → GridSize → List Instance → Drawing → (ℕ → Bool) → Type 0
-MeetsChosen g grid laws d chosen = (n : ℕ) → n < length laws → chosen n ≡ true → Meets g grid d (law_at laws n)
+MeetsChosen g grid laws d chosen = (n : ℕ) → n < length laws → chosen n ≡ true → Meets g grid d (listed_law laws n)
 
 -- each loose drawing, with each choice of laws that it meets, has such an assignment
 abbrev pub CoversChoices : Graph → GridSize → List Instance → Clauses → Type 0

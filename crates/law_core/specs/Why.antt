@@ -19,7 +19,7 @@ use Rattle.why_search.specs.Explained.{IsExplanation, AreWithout}
 use Rattle.why_search.specs.Task.{Task}
 use Rattle.law_core.specs.declared.ending.Why.{Why}
 use Rattle.law_core.specs.declared.ending.Why.TheVariants.{Exists, Laws, Spent, Room}
-use Rattle.law_core.specs.Chosen.{law_at}
+use Rattle.law_core.specs.Chosen.{listed_law}
 use Rattle.law_core.specs.Known.{formula_of, size_of}
 
 -- these are the names of laws that no loose drawing meets together, and the drawings, one for each, show that none of
@@ -71,16 +71,16 @@ pub record IsWhyLeft (y : Layout) (lines : Lines) : Type 0 where
   pub begins : BeginsLines (clause_lines lines) (formula_lines y)
 
 -- the places of an explanation are those of so many laws
-abbrev pub HasPlaces : (count : ℕ) → Outcome → Type 0
-HasPlaces count (outcome.Exists d) = ⊤
-HasPlaces count (outcome.Laws places drawings) = All (λ n. n < count) places
-HasPlaces count (outcome.Stopped stop) = ⊤
+abbrev pub HasLawPlaces : (count : ℕ) → Outcome → Type 0
+HasLawPlaces count (outcome.Exists d) = ⊤
+HasLawPlaces count (outcome.Laws places drawings) = All (λ n. n < count) places
+HasLawPlaces count (outcome.Stopped stop) = ⊤
 
 -- the answer is what the search came to, with the laws by their names
-abbrev pub IsAnswerOf : List Instance → Outcome → Why → Type 0
-IsAnswerOf laws (outcome.Exists d) (Exists e) = e ≡ d
-IsAnswerOf laws (outcome.Laws places drawings) (Laws names without) =
-    (names ≡ map (λ n. break_of (law_at laws n)) places) × (without ≡ drawings)
-IsAnswerOf laws (outcome.Stopped BudgetSpent) Spent = ⊤
-IsAnswerOf laws (outcome.Stopped RoomFull) Room = ⊤
-IsAnswerOf laws o w = ⊥
+abbrev pub IsWhyOf : List Instance → Outcome → Why → Type 0
+IsWhyOf laws (outcome.Exists d) (Exists e) = e ≡ d
+IsWhyOf laws (outcome.Laws places drawings) (Laws names without) =
+    (names ≡ map (λ n. break_of (listed_law laws n)) places) × (without ≡ drawings)
+IsWhyOf laws (outcome.Stopped BudgetSpent) Spent = ⊤
+IsWhyOf laws (outcome.Stopped RoomFull) Room = ⊤
+IsWhyOf laws o w = ⊥

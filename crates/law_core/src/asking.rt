@@ -6,7 +6,7 @@ ghost use Rattle.cnf_core.specs.declared.limits.TheConstants.{VARS};
 ghost use Rattle.cnf_core.specs.Lit.{positive_of};
 ghost use Rattle.cdcl_core.specs.Kept.{IsTrueAnswer, HasRefuted};
 ghost use Rattle.refute_log.specs.Steps.{GoesOn, Leaves};
-ghost use Rattle.why_search.specs.Asked.{ArePlaces, IsRightReply, TellsReply};
+ghost use Rattle.why_search.specs.Asked.{AreLawPlaces, IsRightReply, TellsReply};
 ghost use Rattle.law_core.specs.Known.{TellsAnswer};
 ghost use Rattle.law_core.specs.Query.{query_of, has_variable, places_in, IsReplyOf};
 ghost use Rattle.law_core.specs.Search.{task_with, formula_with, query_with, IsReadyWith, KnowsWith};
@@ -113,7 +113,7 @@ fn query<L: LogSink>(
     assume: &[Lit],
 ) -> Result<Answer, WhyFault>
     requires ready { IsReadyWith known.now solver.old }
-    requires places { ArePlaces (task_with known.now) wanted.now }
+    requires places { AreLawPlaces (task_with known.now) wanted.now }
     requires assumed { assume.now ≡ query_with known.now wanted.now }
     ensures ready { OnOk result (IsReadyWith known.now solver.new) }
     ensures answer { IfOk result (λ a. IsTrueAnswer a (formula_with known.now) assume.now solver.new) }
@@ -148,7 +148,7 @@ fn reply(
     answer: Answer,
 ) -> Result<Reply, OutOfMemory>
     requires ready { IsReadyWith known.now solver.now }
-    requires places { ArePlaces (task_with known.now) wanted.now }
+    requires places { AreLawPlaces (task_with known.now) wanted.now }
     requires assumed { assume.now ≡ query_with known.now wanted.now }
     requires answer { IsTrueAnswer answer (formula_with known.now) assume.now solver.now }
     requires refuted { HasRefuted answer (formula_with known.now) assume.now solver.now.refuted }
@@ -185,7 +185,7 @@ pub(crate) fn ask<L: LogSink>(
     wanted: &[u32],
 ) -> Result<Reply, WhyFault>
     requires ready { IsReadyWith known.now solver.old }
-    requires places { ArePlaces (task_with known.now) wanted.now }
+    requires places { AreLawPlaces (task_with known.now) wanted.now }
     ensures ready { OnOk result (IsReadyWith known.now solver.new) }
     ensures right { IfOk result (IsRightReply (task_with known.now) wanted.now) }
     ensures lines { IfOk result

@@ -5,7 +5,7 @@ ghost use Rattle.track_order.specs.Order.{is_above, is_overlap};
 ghost use Rattle.drawing_cnf.specs.Expected.{instances_from, pairs_from, instance_pairs, below_by, pair_by};
 ghost use Rattle.drawing_cnf.specs.Expected.{edge_pair, instances};
 ghost use Rattle.law_core.specs.Law.{instance_of};
-ghost use Rattle.law_core.specs.Listed.{Lists};
+ghost use Rattle.law_core.specs.Listed.{ListsLaws};
 
 use crate::parties::Law;
 use plan_core::{EdgeNo, NodeNo, OutOfMemory};
@@ -16,7 +16,7 @@ use track_order::TrackOrder;
 /// Law 2 for a node and each behind it.
 fn list_ordered_row(laws: &mut Vec<Law>, u: u16, end: u16) -> Result<(), OutOfMemory>
     requires { u < end }
-    ensures { Lists result laws.old.items laws.new.items (pairs_from end (λ u v. Ordered u v ∷ []) u) }
+    ensures { ListsLaws result laws.old.items laws.new.items (pairs_from end (λ u v. Ordered u v ∷ []) u) }
 {
     for v in u + 1..end {
         laws.push(Law::Ordered(NodeNo(u), NodeNo(v)))?;
@@ -26,7 +26,7 @@ fn list_ordered_row(laws: &mut Vec<Law>, u: u16, end: u16) -> Result<(), OutOfMe
 
 /// Law 2 for each two nodes.
 fn list_ordered(laws: &mut Vec<Law>, end: u16) -> Result<(), OutOfMemory>
-    ensures { Lists result laws.old.items laws.new.items (instance_pairs end (λ u v. Ordered u v ∷ [])) }
+    ensures { ListsLaws result laws.old.items laws.new.items (instance_pairs end (λ u v. Ordered u v ∷ [])) }
 {
     for u in 0..end {
         list_ordered_row(laws, u, end)?;
@@ -37,7 +37,7 @@ fn list_ordered(laws: &mut Vec<Law>, end: u16) -> Result<(), OutOfMemory>
 /// Law 5 for a node and each behind it.
 fn list_apart_row(laws: &mut Vec<Law>, u: u16, end: u16) -> Result<(), OutOfMemory>
     requires { u < end }
-    ensures { Lists result laws.old.items laws.new.items (pairs_from end (λ u v. Apart u v ∷ []) u) }
+    ensures { ListsLaws result laws.old.items laws.new.items (pairs_from end (λ u v. Apart u v ∷ []) u) }
 {
     for v in u + 1..end {
         laws.push(Law::Apart(NodeNo(u), NodeNo(v)))?;
@@ -47,7 +47,7 @@ fn list_apart_row(laws: &mut Vec<Law>, u: u16, end: u16) -> Result<(), OutOfMemo
 
 /// Law 5 for each two nodes.
 fn list_apart(laws: &mut Vec<Law>, end: u16) -> Result<(), OutOfMemory>
-    ensures { Lists result laws.old.items laws.new.items (instance_pairs end (λ u v. Apart u v ∷ [])) }
+    ensures { ListsLaws result laws.old.items laws.new.items (instance_pairs end (λ u v. Apart u v ∷ [])) }
 {
     for u in 0..end {
         list_apart_row(laws, u, end)?;
@@ -57,7 +57,7 @@ fn list_apart(laws: &mut Vec<Law>, end: u16) -> Result<(), OutOfMemory>
 
 /// Law 4 for each node.
 fn list_aligned(laws: &mut Vec<Law>, end: u16) -> Result<(), OutOfMemory>
-    ensures { Lists result laws.old.items laws.new.items (instances_from (λ n. Aligned n ∷ []) 0 end) }
+    ensures { ListsLaws result laws.old.items laws.new.items (instances_from (λ n. Aligned n ∷ []) 0 end) }
 {
     for n in 0..end {
         laws.push(Law::Aligned(NodeNo(n)))?;
@@ -67,7 +67,7 @@ fn list_aligned(laws: &mut Vec<Law>, end: u16) -> Result<(), OutOfMemory>
 
 /// A law, where it is to be listed.
 fn list_where(laws: &mut Vec<Law>, yes: bool, law: Law) -> Result<(), OutOfMemory>
-    ensures { Lists result laws.old.items laws.new.items (cond yes (instance_of law ∷ []) []) }
+    ensures { ListsLaws result laws.old.items laws.new.items (cond yes (instance_of law ∷ []) []) }
 {
     if yes {
         laws.push(law)?;
@@ -78,7 +78,7 @@ fn list_where(laws: &mut Vec<Law>, yes: bool, law: Law) -> Result<(), OutOfMemor
 
 /// A law, unless it isn't to be listed.
 fn list_unless(laws: &mut Vec<Law>, no: bool, law: Law) -> Result<(), OutOfMemory>
-    ensures { Lists result laws.old.items laws.new.items (cond no [] (instance_of law ∷ [])) }
+    ensures { ListsLaws result laws.old.items laws.new.items (cond no [] (instance_of law ∷ [])) }
 {
     if no {
         return Ok(());
@@ -103,7 +103,7 @@ fn list_below(
     e: u16,
     h: u16,
 ) -> Result<(), OutOfMemory>
-    ensures { Lists result laws.old.items laws.new.items (below_by above below overlap e h) }
+    ensures { ListsLaws result laws.old.items laws.new.items (below_by above below overlap e h) }
 {
     list_where(laws, below, Law::Over(EdgeNo(h), EdgeNo(e)))?;
     list_unless(
@@ -123,7 +123,7 @@ fn list_pair(
     e: u16,
     h: u16,
 ) -> Result<(), OutOfMemory>
-    ensures { Lists result laws.old.items laws.new.items (pair_by above below overlap e h) }
+    ensures { ListsLaws result laws.old.items laws.new.items (pair_by above below overlap e h) }
 {
     list_where(laws, above, Law::Over(EdgeNo(e), EdgeNo(h)))?;
     list_below(laws, above, below, overlap, e, h)?;
@@ -134,7 +134,7 @@ fn list_pair(
 fn list_edge_row(laws: &mut Vec<Law>, t: &TrackOrder, e: u16, end: u16) -> Result<(), OutOfMemory>
     requires edges { t.now.edges ≡ end }
     requires e { e < end }
-    ensures { Lists result laws.old.items laws.new.items
+    ensures { ListsLaws result laws.old.items laws.new.items
         (pairs_from end (edge_pair (is_above t.now) (is_overlap t.now)) e) }
 {
     for h in e + 1..end {
@@ -154,7 +154,7 @@ fn list_edge_row(laws: &mut Vec<Law>, t: &TrackOrder, e: u16, end: u16) -> Resul
 /// Laws 6 and 7 for each two edges.
 fn list_edges(laws: &mut Vec<Law>, t: &TrackOrder, end: u16) -> Result<(), OutOfMemory>
     requires edges { t.now.edges ≡ end }
-    ensures { Lists result laws.old.items laws.new.items
+    ensures { ListsLaws result laws.old.items laws.new.items
         (instance_pairs end (edge_pair (is_above t.now) (is_overlap t.now))) }
 {
     for e in 0..end {

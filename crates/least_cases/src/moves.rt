@@ -90,7 +90,7 @@ struct Move {
     ends: (&'static str, Option<u32>, bool),
 }
 
-static MOVES: [Move; 7] = [
+static MOVES: [Move; 9] = [
     Move {
         shows: "The best drawing stays.",
         grid: (40, 8, 1),
@@ -111,6 +111,13 @@ static MOVES: [Move; 7] = [
         former: BEST,
         limits: (0, ROOM),
         ends: ("best", Some(3), true),
+    },
+    Move {
+        shows: "The nodes are first put where they stood: where nothing may be learnt, they stay there.",
+        grid: (40, 8, 1),
+        former: [Some((20, 3)), Some((33, 3)), Some((24, 3)), Some((29, 3))],
+        limits: (0, ROOM),
+        ends: ("best", Some(0), true),
     },
     Move {
         shows: "A former point off the grid, and two nodes without one.",
@@ -139,6 +146,13 @@ static MOVES: [Move; 7] = [
         former: BEST,
         limits: (50_000, 1),
         ends: ("room", None, false),
+    },
+    Move {
+        shows: "Behind the first drawing, in which all nodes move, what is learnt has no room.",
+        grid: (6, 2, 1),
+        former: [Some((2, 2)), Some((0, 0)), Some((1, 0)), Some((4, 0))],
+        limits: (50_000, 8_915),
+        ends: ("room", Some(4), true),
     },
 ];
 

@@ -18,15 +18,15 @@ use Rattle.edge_shape.specs.EdgeVars.{NodeInts, node_ints}
 use Rattle.unary_sum.specs.Sum.{SumVars, sum_vars, sum_count}
 use Rattle.drawing_cnf.specs.Bounds.{sum_bound}
 use Rattle.moved_count.specs.MovedClauses.{clauses_by, clauses_at, nodes_first, nodes_clauses, moved_sum, count_size, count_clauses}
-use Rattle.moved_count.specs.Nodes.{no_node, node_at}
-use Rattle.moved_count.proofs.BlockLemmas.{block_there, block_length}
+use Rattle.moved_count.specs.Nodes.{no_node_vars, node_at}
+use Rattle.unary_sum.proofs.OutputLemmas.{block_there, length-block}
 use Rattle.moved_count.proofs.CountLemmas.{matched_rises}
 use Rattle.drawing_cnf.proofs.BoundCode.{block_of_vars}
 
 pub room_for_one : (f : Option Point) (q : Point) (m vars : ℕ) → f ≡ Some q → m + one_when (is_matched f) ≤ vars + 1 → m ≤ vars
 room_for_one f q m vars e le = let h : m + 1 ≤ vars + 1 = subst (λ (o : Option Point). m + one_when (is_matched o) ≤ vars + 1) e le in omega (arith, h)
 
-pub at_adds : {T : Type 0} (r : Result T CnfFault) (now new : Cnf) (nodes : List NodeVars) (former : Former) (first k m : ℕ) (n : NodeVars) → n ≡ slice_index_or nodes k no_node → m ≡ first + matched_before former k →
+pub at_adds : {T : Type 0} (r : Result T CnfFault) (now new : Cnf) (nodes : List NodeVars) (former : Former) (first k m : ℕ) (n : NodeVars) → n ≡ slice_index_or nodes k no_node_vars → m ≡ first + matched_before former k →
     AddsClauses r now new (clauses_by (former_at former k) (node_ints n.x n.y) m) 5 → AddsClauses r now new (clauses_at (node_at nodes) former first k) 5
 at_adds r now new nodes former first k m n is at h =
     subst (λ (i : ℕ). AddsClauses r now new (clauses_by (former_at former k) (node_at nodes k) i) 5) at
@@ -47,7 +47,7 @@ pub inputs_there : (first n vars : ℕ) (items : List Literal) → items ≡ blo
 inputs_there first n vars items is from to = subst (AreThere vars) (sym is) (block_there vars first n from (omega (arith, to)))
 
 pub inputs_few : (first n most : ℕ) (items : List Literal) → items ≡ block first n → n ≤ most → length items ≤ most
-inputs_few first n most items is le = let h = ap length is ∙ block_length first n in omega (arith, h, le)
+inputs_few first n most items is le = let h = ap length is ∙ length-block first n in omega (arith, h, le)
 
 pub block_summed : {T : Type 0} (r : Result T CnfFault) (old new : Cnf) (items : List Literal) (first count last : ℕ) → items ≡ block first count → AddsBlock r old new (sum_count (sum_vars items count old.vars)) (sum_bound (sum_vars items count old.vars) last) 3 →
     AddsBlock r old new (sum_count (sum_vars (block first count) count old.vars)) (sum_bound (sum_vars (block first count) count old.vars) last) 3

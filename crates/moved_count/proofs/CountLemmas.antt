@@ -20,10 +20,10 @@ use Rattle.drawing_cnf.proofs.BoundLemmas.{set_bound, sum_bound_means, sum_bound
 use Rattle.drawing_cnf.specs.Rank.{count_below, one_when}
 use Rattle.moved_count.specs.Moved.{Former, former_at, is_matched, is_moved, matched_before, matched, moved}
 use Rattle.drawing_cnf.specs.Stands.{ReadsPoint, NodeThere}
-use Rattle.moved_count.specs.MovedClauses.{kept_clause, unlike_clauses, node_clauses, clauses_by, clauses_at, nodes_clauses, nodes_first, moved_sum, count_size, count_clauses, TellsMoved}
+use Rattle.moved_count.specs.MovedClauses.{kept_clause, unlike_clauses, moved_clauses, clauses_by, clauses_at, nodes_clauses, nodes_first, moved_sum, count_size, count_clauses, TellsMoved}
 use Rattle.drawing_cnf.proofs.ThereLemmas.{node_more}
 use Rattle.moved_count.proofs.NodeLemmas.{node_means, node_holds}
-use Rattle.moved_count.proofs.BlockLemmas.{block_there}
+use Rattle.unary_sum.proofs.OutputLemmas.{block_there}
 use Rattle.moved_count.proofs.WithinLemmas.{kept_within}
 
 -- ---- counts
@@ -114,7 +114,7 @@ unlike_there vars i k m there from to =
     (clause_there vars [] (int_at_least i k ∷ yes m ∷ []) tt (at_least_within vars i k there, ((from, to), tt)))
     (clause_there vars [] (flip (int_at_least i (k + 1)) ∷ yes m ∷ []) tt (flip_within vars (int_at_least i (k + 1)) (at_least_within vars i (k + 1) there), ((from, to), tt)))
 
-node_there : (vars : ℕ) (n : NodeInts) (q : Point) (m : ℕ) → NodeThere vars n → 1 ≤ m → m ≤ vars → AllThere vars (node_clauses n q m)
+node_there : (vars : ℕ) (n : NodeInts) (q : Point) (m : ℕ) → NodeThere vars n → 1 ≤ m → m ≤ vars → AllThere vars (moved_clauses n q m)
 node_there vars n q m there from to =
     let x = unlike_clauses n.x q.x m in
     let y = unlike_clauses n.y q.y m in

@@ -14,22 +14,16 @@ use Rattle.order_int.specs.OrderInt.{Reads, int_at_least}
 use Rattle.edge_shape.specs.EdgeVars.{NodeInts}
 use Rattle.moved_count.specs.Moved.{is_moved}
 use Rattle.drawing_cnf.specs.Stands.{ReadsPoint}
-use Rattle.moved_count.specs.MovedClauses.{kept_clause, unlike_clauses, node_clauses}
+use Rattle.moved_count.specs.MovedClauses.{kept_clause, unlike_clauses, moved_clauses}
 use Rattle.drawing_cnf.proofs.ApartLemmas.{flipped}
 
 -- ---- one integer
 
-le_true : (k n : ℕ) → k ≤ n → nat_le k n ≡ true
-le_true k n le = grind (arith, nat_tests)
-
-le_false : (k n : ℕ) → n < k → nat_le k n ≡ false
-le_false k n lt = grind (arith, nat_tests)
-
 from_true : (v : Assignment) (i : IntVars) (k n : ℕ) → Reads v i n → k ≤ n → value v (int_at_least i k) ≡ true
-from_true v i k n r le = r.each k ∙ le_true k n le
+from_true v i k n r le = let test : nat_le k n ≡ true = grind (arith, nat_tests, le) in r.each k ∙ test
 
 from_false : (v : Assignment) (i : IntVars) (k n : ℕ) → Reads v i n → n < k → value v (int_at_least i k) ≡ false
-from_false v i k n r lt = r.each k ∙ le_false k n lt
+from_false v i k n r lt = let test : nat_le k n ≡ false = grind (arith, nat_tests, lt) in r.each k ∙ test
 
 flip_true : (v : Assignment) (t : LitOrTruth) → value v t ≡ false → value v (flip t) ≡ true
 flip_true v t e = value-flip v t ∙ ap not e
@@ -126,7 +120,7 @@ same_or_not a b = elim (cases_order a b) [
   | inr (inr more) ↦ inr (λ e. absurd (omega (arith, more, e)))
 ]
 
-pub node_means : (v : Assignment) (n : NodeInts) (q p : Point) (m : ℕ) → ReadsPoint v n p → SatisfiesAll v (node_clauses n q m) → v m ≡ is_moved (Some q) p
+pub node_means : (v : Assignment) (n : NodeInts) (q p : Point) (m : ℕ) → ReadsPoint v n p → SatisfiesAll v (moved_clauses n q m) → v m ≡ is_moved (Some q) p
 node_means v n q p m r h =
     let x = unlike_clauses n.x q.x m in
     let y = unlike_clauses n.y q.y m in
@@ -140,7 +134,7 @@ node_means v n q p m r h =
       ]
     ]
 
-pub node_holds : (v : Assignment) (n : NodeInts) (q p : Point) (m : ℕ) → ReadsPoint v n p → v m ≡ is_moved (Some q) p → SatisfiesAll v (node_clauses n q m)
+pub node_holds : (v : Assignment) (n : NodeInts) (q p : Point) (m : ℕ) → ReadsPoint v n p → v m ≡ is_moved (Some q) p → SatisfiesAll v (moved_clauses n q m)
 node_holds v n q p m r e =
     let x = unlike_clauses n.x q.x m in
     let y = unlike_clauses n.y q.y m in

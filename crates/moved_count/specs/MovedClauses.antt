@@ -30,12 +30,12 @@ unlike_clauses i k m =
     clause_of [] (int_at_least i k ∷ yes m ∷ []) ++ clause_of [] (flip (int_at_least i (k + 1)) ∷ yes m ∷ [])
 
 -- m is true exactly where the node isn't at its former point
-abbrev pub node_clauses : NodeInts → Point → ℕ → Clauses
-node_clauses n q m = kept_clause n q m ++ (unlike_clauses n.x q.x m ++ unlike_clauses n.y q.y m)
+abbrev pub moved_clauses : NodeInts → Point → ℕ → Clauses
+moved_clauses n q m = kept_clause n q m ++ (unlike_clauses n.x q.x m ++ unlike_clauses n.y q.y m)
 
 abbrev pub clauses_by : Option Point → NodeInts → ℕ → Clauses
 clauses_by None n m = []
-clauses_by (Some q) n m = node_clauses n q m
+clauses_by (Some q) n m = moved_clauses n q m
 
 -- those of node k, where the variables begin at first
 abbrev pub clauses_at : (ℕ → NodeInts) → Former → ℕ → ℕ → Clauses

@@ -9,7 +9,7 @@ ghost use Rattle.edge_shape.specs.EdgeVars.{node_ints};
 ghost use Rattle.drawing_cnf.specs.Rank.{one_when};
 ghost use Rattle.drawing_cnf.specs.Stands.{NodeThere};
 ghost use Rattle.moved_count.specs.Moved.{is_matched};
-ghost use Rattle.moved_count.specs.MovedClauses.{kept_clause, unlike_clauses, node_clauses, clauses_by};
+ghost use Rattle.moved_count.specs.MovedClauses.{kept_clause, unlike_clauses, moved_clauses, clauses_by};
 
 use cnf_core::{CnfFault, Formula, Lit, LitOrTruth, Var};
 use edge_shape::NodeVars;
@@ -102,7 +102,7 @@ fn add_node(f: &mut Formula, n: &NodeVars, q: Point, m: u32) -> Result<(), CnfFa
     requires there { NodeThere f.old.vars (node_ints n.now.x n.now.y) }
     requires from { 1 ≤ m }
     requires to { m ≤ f.old.vars }
-    ensures { AddsClauses result f.old f.new (node_clauses (node_ints n.now.x n.now.y) q m) 5 }
+    ensures { AddsClauses result f.old f.new (moved_clauses (node_ints n.now.x n.now.y) q m) 5 }
 {
     add_kept(f, n, q, m)?;
     add_moved(f, n, q, m)

@@ -13,6 +13,7 @@ use Rattle.cnf_core.specs.Assignment.{Assignment, SatisfiesAll, truth}
 use Rattle.cnf_core.specs.Truths.{assignment}
 use Rattle.cnf_core.specs.Propagation.{AreAmong}
 use Rattle.cnf_core.proofs.ClauseLemmas.{satisfies_left}
+use Rattle.cnf_core.proofs.PropagationLemmas.{only_one}
 use Rattle.track_order.specs.Order.{is_above, is_overlap}
 use Rattle.refute_log.specs.declared.line.LogLine.TheVariants.{Formula, Learnt}
 use Rattle.refute_log.specs.Told.{Lines}
@@ -37,7 +38,7 @@ use Rattle.moved_count.specs.MovedClauses.{count_clauses}
 use Rattle.moved_drawings.specs.MovedFormula.{moved_variable, moved_nodes}
 use Rattle.fewest_search.specs.declared.questions.Answer.{Answer}
 use Rattle.fewest_search.specs.declared.questions.Answer.TheVariants.{Found, Refuted, Stopped}
-use Rattle.fewest_search.specs.Counted.{Counted, CoversCounts}
+use Rattle.fewest_search.specs.CountTask.{CountTask, CoversCounts}
 use Rattle.fewest_search.specs.Asked.{IsBelow, query_of, SaysReached, IsAnswer}
 use Rattle.refute_log.specs.Steps.{GoesOn}
 use Rattle.moved_search.specs.Known.{formula_of, moved_task, IsMovedFormula, IsReady, KnowsMoved, TellsAnswer}
@@ -60,7 +61,7 @@ pub query_is : (y : Layout) (former : Former) (budget room last : ℕ) (limit : 
 query_is y former budget room last None e = refl
 query_is y former budget room last (Some n) e = ap (λ k. negative_of (k + n) ∷ []) e
 
-pub distinct : (p : Counted) (limit : Option ℕ) → AreDistinct (query_of p limit)
+pub distinct : (p : CountTask) (limit : Option ℕ) → AreDistinct (query_of p limit)
 distinct p None = tt
 distinct p (Some n) = (tt, tt)
 
@@ -70,9 +71,6 @@ named y former budget room ds None facts among h = All-nil (λ (l : Literal). Is
 named y former budget room ds (Some n) facts among h =
     let v = moved_variable y.graph (is_above y.order) (is_overlap y.order) y.grid n in
     All-cons (λ (l : Literal). IsNamed ds l.var) (negate (positive_of v)) [] (named_in (formula_of y former) ds v among (facts.named n h.0 h.1)) (All-nil (λ (l : Literal). IsNamed ds l.var))
-
-only : (m l : Literal) → Contains (m ∷ []) l → m ≡ l
-only m l there = All-contains (λ (z : Literal). z ≡ l → m ≡ l) (m ∷ []) l (All-cons (λ (z : Literal). z ≡ l → m ≡ l) m [] (λ e. e) (All-nil (λ (z : Literal). z ≡ l → m ≡ l))) there refl
 
 is_positive : (b : Bool) → not b ≡ false → b ≡ true
 is_positive true e = refl
@@ -90,7 +88,7 @@ says_reached y former budget room None clause h =
 says_reached y former budget room (Some n) clause h =
     let v = moved_variable y.graph (is_above y.order) (is_overlap y.order) y.grid n in
     All-weaker (λ l. Contains (negative_of v ∷ []) (negate l)) (SaysReached (moved_task y former budget room) (Some n))
-    (λ l there. turned l v (only (negative_of v) (negate l) there)) clause h
+    (λ l there. turned l v (only_one (negative_of v) (negate l) there)) clause h
 
 -- ---- the lines
 
@@ -189,6 +187,10 @@ formula_is e former budget room k ready =
 pub last_is : (e : Encoding) (former : Former) (budget room : ℕ) (k : Kept) → IsReady e former budget room k → e.formula.vars ≡ formula_size e.graph (is_above e.order) (is_overlap e.order) e.grid
 last_is e former budget room k ready = (ready.whole).vars ∙ ap (bounds_last e.graph (encoded_vars e) e.grid (drawing_last e)) ready.bounds
 
+-- the solver has the formula's variables
+pub formula_there : (e : Encoding) (former : Former) (budget room last : ℕ) (k : Kept) → IsReady e former budget room k → last ≡ k.vars → e.formula.vars ≤ last
+formula_there e former budget room last k ready is = let size = last_is e former budget room k ready in let vars = ready.vars in omega (arith, is, size, vars)
+
 pub few_variables : (e : Encoding) (former : Former) (budget room last : ℕ) (k : Kept) (limit : Option ℕ) → IsReady e former budget room k → last ≡ e.formula.vars → k.vars ≤ VARS → MatchOption limit ⊤ (λ n. (1 ≤ n) × (n ≤ matched former)) →
     MatchOption limit ⊤ (λ n. (1 ≤ n) × (last + n ≤ VARS))
 few_variables e former budget room last k None ready is few h = tt
@@ -227,7 +229,7 @@ model_below e former budget room k limit assume m d ready h is model k_model alo
 
 -- ---- the answer
 
-pub answer_lines : (p : Counted) (lines : Lines) (limit : Option ℕ) (a : Verdict) (r : Answer) (more : Lines) → IsAnswerOf a r → TellsAnswer p lines limit a more → IsAnswer p lines limit r more
+pub answer_lines : (p : CountTask) (lines : Lines) (limit : Option ℕ) (a : Verdict) (r : Answer) (more : Lines) → IsAnswerOf a r → TellsAnswer p lines limit a more → IsAnswer p lines limit r more
 answer_lines p lines limit Model (Found d) more is h = h
 answer_lines p lines limit Model Refuted more is h = absurd is
 answer_lines p lines limit Model (Stopped stop) more is h = absurd is

@@ -29,7 +29,7 @@ use Rattle.refute_log.specs.Steps.{ToldBehind, GoesOn}
 use Rattle.lex_search.proofs.BuildLemmas.{formulas_are_clauses}
 use Rattle.moved_count.specs.Moved.{Former, former_at, matched_before}
 use Rattle.moved_count.specs.MovedClauses.{clauses_by, clauses_at, nodes_first, moved_sum, count_size, count_clauses}
-use Rattle.moved_count.specs.Nodes.{no_node, node_at}
+use Rattle.moved_count.specs.Nodes.{no_node_vars, node_at}
 use Rattle.drawing_cnf.specs.Stands.{NodeThere}
 use Rattle.drawing_cnf.proofs.ThereLemmas.{node_more}
 use Rattle.drawing_cnf.specs.Bounds.{sum_bound}
@@ -51,7 +51,7 @@ use Rattle.lex_minimise.proofs.StartLemmas.{told_whole}
 pub nodes_none : (e : Encoding) (nodes : List NodeVars) (n : ℕ) → n ≡ 0 → AreNodes e nodes n
 nodes_none e nodes n none k lt = absurd (omega (arith, lt, none))
 
-node_same : (n : NodeVars) (i : NodeInts) → n.x ≡ i.x → n.y ≡ i.y → node_ints n.x n.y ≡ i
+pub node_same : (n : NodeVars) (i : NodeInts) → n.x ≡ i.x → n.y ≡ i.y → node_ints n.x n.y ≡ i
 node_same n i a b = ap (λ z. node_ints z n.y) a ∙ ap (node_ints i.x) b
 
 here_or_below : (j k : ℕ) → j < k + 1 → (j ≡ k) ⊎ (j < k)
@@ -69,10 +69,10 @@ nodes_more e nodes all n k size are is x y j lt = subst (λ (ns : List NodeVars)
   where
     by : (j ≡ k) ⊎ (j < k) → node_at (nodes ++ n ∷ []) j ≡ (encoded_vars e).node j
     by (inl here) =
-        let read : slice_index_or (nodes ++ n ∷ []) j no_node ≡ n = ap (λ i. slice_index_or (nodes ++ n ∷ []) i no_node) here ∙ get_or-append_right nodes (n ∷ []) k k no_node size (omega arith)
-        ∙ ap (λ i. slice_index_or (n ∷ []) i no_node) (let z : k - k ≡ 0 = omega arith in z) in
+        let read : slice_index_or (nodes ++ n ∷ []) j no_node_vars ≡ n = ap (λ i. slice_index_or (nodes ++ n ∷ []) i no_node_vars) here ∙ get_or-append_right nodes (n ∷ []) k k no_node_vars size (omega arith)
+        ∙ ap (λ i. slice_index_or (n ∷ []) i no_node_vars) (let z : k - k ≡ 0 = omega arith in z) in
         ap (λ (m : NodeVars). node_ints m.x m.y) read ∙ node_same n ((encoded_vars e).node k) x y ∙ ap (encoded_vars e).node (sym here)
-    by (inr low) = ap (λ (m : NodeVars). node_ints m.x m.y) (get_or_append_left nodes (n ∷ []) no_node j (omega (arith, low, size))) ∙ are j low
+    by (inr low) = ap (λ (m : NodeVars). node_ints m.x m.y) (get_or_append_left nodes (n ∷ []) no_node_vars j (omega (arith, low, size))) ∙ are j low
 
 -- ---- clauses over the same integers
 
@@ -97,12 +97,12 @@ drawings_are e whole none = whole.clauses ∙ ap (λ (bs : List Bound). drawing_
 pub drawings_last : (e : Encoding) → IsWhole e → e.bounds ≡ [] → e.formula.vars ≡ formula_size e.graph (is_above e.order) (is_overlap e.order) e.grid
 drawings_last e whole none = whole.vars ∙ ap (bounds_last e.graph (encoded_vars e) e.grid (drawing_last e)) none
 
-pub node_there : (e : Encoding) (vars k : ℕ) (i : NodeInts) → IsStationGraph e.graph → IsGrid e.grid → IsWhole e → e.bounds ≡ [] → vars ≡ e.formula.vars → k < length e.graph.nodes → i ≡ (encoded_vars e).node k → NodeThere vars i
-node_there e vars k i station size whole none is lt same =
+pub node_there : (e : Encoding) (vars k : ℕ) (i : NodeInts) → IsStationGraph e.graph → IsGrid e.grid → IsWhole e → e.bounds ≡ [] → e.formula.vars ≤ vars → k < length e.graph.nodes → i ≡ (encoded_vars e).node k → NodeThere vars i
+node_there e vars k i station size whole none le lt same =
     let few = few_variables e.graph e.grid size station.few_nodes station.few_edges in
     let a = base_vars e.graph e.grid size few in
     let last = drawings_last e whole none in
-    subst (NodeThere vars) (sym same) (node_more (base_last e.graph e.grid) vars ((encoded_vars e).node k) (omega (arith, last, is)) (record { x = a.node_x k lt; y = a.node_y k lt }))
+    subst (NodeThere vars) (sym same) (node_more (base_last e.graph e.grid) vars ((encoded_vars e).node k) (omega (arith, last, le)) (record { x = a.node_x k lt; y = a.node_y k lt }))
 
 -- ---- no room
 

@@ -17,7 +17,7 @@ use Rattle.certified_values.specs.declared.stop.Stop.TheVariants.{BudgetSpent, R
 use Rattle.moved_count.specs.Moved.{Former, matched}
 use Rattle.moved_drawings.specs.MovedFormula.{moved_formula, moved_size, moved_variable, moved_nodes}
 use Rattle.moved_drawings.specs.MovedFormula.{SoundMoved, CoversMoved}
-use Rattle.fewest_search.specs.Counted.{Counted, CoversCounts}
+use Rattle.fewest_search.specs.CountTask.{CountTask, CoversCounts}
 use Rattle.certified_values.specs.Cause.{IsCause}
 use Rattle.fewest_search.specs.Asked.{SaysReached, IsAsked}
 
@@ -25,7 +25,7 @@ abbrev pub formula_of : Layout → Former → Clauses
 formula_of y former = moved_formula y.graph (is_above y.order) (is_overlap y.order) y.grid former
 
 -- the lawful drawings of a layout, and how many of their nodes moved
-abbrev pub moved_task : Layout → Former → (budget room : ℕ) → Counted
+abbrev pub moved_task : Layout → Former → (budget room : ℕ) → CountTask
 moved_task y former budget room = record {
   graph = y.graph;
   above = is_above y.order;
@@ -67,7 +67,7 @@ pub record KnowsMoved (y : Layout) (former : Former) (budget room : ℕ) (k : Ke
   pub fits : words_of (flat_map added lines) ≤ room
 
 -- the lines of a question that the solver answered so
-abbrev pub TellsAnswer : Counted → Lines → Option ℕ → Answer → Lines → Type 0
+abbrev pub TellsAnswer : CountTask → Lines → Option ℕ → Answer → Lines → Type 0
 TellsAnswer p lines limit Model more = IsAsked p limit (ModelLine ∷ []) more
 TellsAnswer p lines limit Refuted more =
     (clause : List Literal) × All (SaysReached p limit) clause × IsAsked p limit (RefutedLine clause ∷ []) more

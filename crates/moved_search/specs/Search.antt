@@ -3,12 +3,12 @@ use Rattle.cnf_core.specs.Clause.{Clauses}
 use Rattle.refute_log.specs.Told.{Lines}
 use Rattle.drawing_problem.specs.Layout.{layout_of}
 use Rattle.cdcl_core.specs.Kept.{Kept}
-use Rattle.fewest_search.specs.Counted.{Counted}
+use Rattle.fewest_search.specs.CountTask.{CountTask}
 use Rattle.moved_search.specs.declared.asking.MovedKnown.{MovedKnown}
 use Rattle.moved_search.specs.Known.{formula_of, moved_task, IsReady, KnowsMoved}
 
 -- what is searched, and the clauses of its formula
-abbrev pub task_with : MovedKnown → Counted
+abbrev pub task_with : MovedKnown → CountTask
 task_with s = moved_task (layout_of s.encoded) s.former.now s.budget s.room
 
 abbrev pub formula_with : MovedKnown → Clauses

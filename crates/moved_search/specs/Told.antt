@@ -36,8 +36,8 @@ abbrev pub AreNodes : Encoding → List NodeVars → ℕ → Type 0
 AreNodes e nodes n = (k : ℕ) → k < n → node_at nodes k ≡ (encoded_vars e).node k
 
 -- the count's clauses behind the formula of the drawings, and how many variables there are with them
-abbrev pub clauses_behind : Encoding → Former → Clauses
-clauses_behind e former =
+abbrev pub count_clauses_behind : Encoding → Former → Clauses
+count_clauses_behind e former =
     count_clauses (encoded_vars e).node former (formula_size e.graph (is_above e.order) (is_overlap e.order) e.grid)
 
 abbrev pub size_with : Encoding → Former → ℕ

@@ -16,6 +16,7 @@ ghost use Rattle.moved_search.specs.Search.{task_with, IsReadyWith, KnowsWith};
 
 use crate::asking::MovedKnown;
 use crate::counting::counting;
+use crate::near::begin_near;
 use crate::search::MovedSearch;
 use crate::telling::tell_both;
 use cdcl_core::Solver;
@@ -30,7 +31,7 @@ use refute_log::LogSink;
 use std::alloc::Global;
 use track_order::TrackOrder;
 
-/// The search, once the solver and the log were told the formula's clauses.
+/// The search, once the solver and the log were told the formula's clauses. It begins near the former points.
 fn search_from<L: LogSink>(
     known: &MovedKnown,
     solver: &mut Solver,
@@ -46,6 +47,7 @@ fn search_from<L: LogSink>(
     ensures faults { L.faults log.old ≤ L.faults log.new }
     ensures cause { IsErrOf result MinFault.Log → Rose (L.faults log.old) (L.faults log.new) }
 {
+    begin_near(known, solver)?;
     let mut search = MovedSearch { known, solver, log };
     least_count(&mut search)
 }

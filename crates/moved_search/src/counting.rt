@@ -4,7 +4,7 @@ ghost use Rattle.cnf_core.specs.declared.limits.TheConstants.{VARS, ROOM};
 ghost use Rattle.cnf_core.specs.Clause.{words_of};
 ghost use Rattle.drawing_cnf.specs.Whole.{IsWhole};
 ghost use Rattle.drawing_problem.specs.Layout.{layout_of};
-ghost use Rattle.moved_search.specs.Told.{AreNodes, IsCounting, FormulaPasses, clauses_behind, size_with};
+ghost use Rattle.moved_search.specs.Told.{AreNodes, IsCounting, FormulaPasses, count_clauses_behind, size_with};
 
 use cnf_core::{CnfFault, Formula};
 use drawing_cnf::Encoded;
@@ -40,9 +40,10 @@ fn add_count(
     requires none { f.old.vars ≡ 0 }
     requires empty { f.old.clauses ≡ [] }
     ensures vars { OnOk result (f.new.vars ≡ size_with encoded.now former.now) }
-    ensures clauses { OnOk result (f.new.clauses ≡ clauses_behind encoded.now former.now) }
+    ensures clauses { OnOk result (f.new.clauses ≡ count_clauses_behind encoded.now former.now) }
     ensures room { IsErrOf result CnfFault.Room →
-        (VARS < size_with encoded.now former.now) ⊎ (f.old.room < words_of (clauses_behind encoded.now former.now)) }
+        (VARS < size_with encoded.now former.now)
+        ⊎ (f.old.room < words_of (count_clauses_behind encoded.now former.now)) }
 {
     // what the types keep
     let _ = (encoded.graph().nodes(), encoded.grid().width());

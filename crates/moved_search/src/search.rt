@@ -41,8 +41,7 @@ impl<'k, 's, 'l, 'a, L: LogSink> CountOracle for MovedSearch<'k, 's, 'l, 'a, L> 
         count_moved(d, self.known.former)
     }
 
-    fn ask(&mut self, limit: Option<u32>, near: Option<&Drawing>) -> Result<Answer, MinFault> {
-        let _near = near;
+    fn ask(&mut self, limit: Option<u32>) -> Result<Answer, MinFault> {
         ask(self.known, self.solver, self.log, limit)
     }
 

@@ -4,7 +4,8 @@ use Rattle.std.specs.Prelude.{slice_index_or}
 use Rattle.std.proofs.lemmas.Bool.{cases_lt, cases_eq}
 use Rattle.std.proofs.lemmas.Bool.Decides.{eqb_tells}
 use Rattle.std.proofs.lemmas.List.{get_or-set_other, get_or-set_same, get_or_past, get_or-replicate}
-use Rattle.pick_heap.specs.Tree.{entry_at, rank_of, IsWinner, HaveActivities, IsWonAt, IsWon, IsWonBut, leaf_word, KeepsLeaves, KeepsOthers, IsHeap}
+use Rattle.pick_heap.specs.Tree.{entry_at, rank_of, IsWinner, HaveActivities, IsWonAt, IsWon, IsWonBut, leaf_word, KeepsLeaves, KeepsOthers, AreWithin, IsHeap}
+use Rattle.pick_heap.specs.declared.heap.TheConstants.{HALVED_AT}
 use Rattle.pick_heap.specs.Heap.{ranked_of, IsGreatest, NoneHeld}
 
 pub rank_none : (acts : List ℕ) (v : ℕ) → v ≡ 0 → rank_of acts v ≡ 0
@@ -214,6 +215,7 @@ module _ (vars leaves : ℕ) (held : List Bool) (acts tree : List ℕ) (k : IsHe
     leaves_limit = k.leaves_limit;
     held_size = length-set held v b ∙ k.held_size;
     activities_size = k.activities_size;
+    within = k.within;
     none = get_or-set_other held v 0 b false (omega arith) ∙ k.none;
     size = let old = k.size in omega arith;
     named = named;
@@ -258,15 +260,19 @@ module _ (vars leaves : ℕ) (held : List Bool) (acts tree : List ℕ) (k : IsHe
             ]
       ]
 
-  pub heap_raised : (v n : ℕ) (mid new : List ℕ) → 1 ≤ v → v ≤ vars → length mid ≡ length tree → length new ≡ length mid → KeepsOthers leaves tree mid (leaves + v - 1) →
+  pub heap_raised : (v n : ℕ) (mid new : List ℕ) → 1 ≤ v → v ≤ vars → n ≤ HALVED_AT → length mid ≡ length tree → length new ≡ length mid → KeepsOthers leaves tree mid (leaves + v - 1) →
       HaveActivities (set acts v n) new → IsWon (set acts v n) new leaves → entry_at new (leaves + v - 1) ≡ leaf_word held v → KeepsOthers leaves mid new (leaves + v - 1) → IsHeap vars leaves held (set acts v n) new
-  heap_raised v n mid new from to size size2 others named won leaf others2 = record {
+  heap_raised v n mid new from to most size size2 others named won leaf others2 = record {
     limit = k.limit;
     some = k.some;
     fits = k.fits;
     leaves_limit = k.leaves_limit;
     held_size = k.held_size;
     activities_size = length-set acts v n ∙ k.activities_size;
+    within = λ j. elim (cases_eq j v) [
+      | inl e ↦ let same : entry_at (set acts v n) j ≡ n = ap (entry_at (set acts v n)) e ∙ get_or-set_same acts v n 0 (let large = k.activities_size in omega arith) in omega arith
+      | inr ne ↦ let same : entry_at (set acts v n) j ≡ entry_at acts j = get_or-set_other acts v j n 0 ne in let old = k.within j in omega arith
+    ];
     none = k.none;
     size = let old = k.size in omega arith;
     named = named;
@@ -278,14 +284,15 @@ module _ (vars leaves : ℕ) (held : List Bool) (acts tree : List ℕ) (k : IsHe
   }
 
   -- all activities are halved, and all matches played
-  pub heap_halved : (less : List ℕ) (new : List ℕ) → length less ≡ length acts → length new ≡ length tree → HaveActivities less new → IsWon less new leaves → KeepsLeaves leaves tree new → IsHeap vars leaves held less new
-  heap_halved less new same size named won kept = record {
+  pub heap_halved : (less : List ℕ) (new : List ℕ) → length less ≡ length acts → AreWithin less → length new ≡ length tree → HaveActivities less new → IsWon less new leaves → KeepsLeaves leaves tree new → IsHeap vars leaves held less new
+  heap_halved less new same within size named won kept = record {
     limit = k.limit;
     some = k.some;
     fits = k.fits;
     leaves_limit = k.leaves_limit;
     held_size = k.held_size;
     activities_size = same ∙ k.activities_size;
+    within = within;
     none = k.none;
     size = let old = k.size in omega arith;
     named = named;
@@ -320,6 +327,7 @@ heap_longer vars leaves held acts tree more k = record {
   leaves_limit = k.leaves_limit;
   held_size = k.held_size;
   activities_size = k.activities_size;
+  within = k.within;
   none = k.none;
   size = let old = k.size in omega (arith, length-append tree (replicate more 0));
   named = λ j. subst (λ n. n < length acts) (sym (get_padded tree more 0 j)) (k.named j);

@@ -11,7 +11,7 @@ use std::alloc::Global;
 use std::marker::Model;
 
 /// The activity at which all activities are halved, before one would rise further.
-pub const HALVED_AT: u16 = 65_535;
+pub const HALVED_AT: u16 = 63;
 
 /// Variables with whole-number activities, each held at most once.
 #[derive(Drop)]

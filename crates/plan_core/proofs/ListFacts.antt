@@ -1,9 +1,10 @@
 -- Lists by their places, and what holds of each element or of each two. What a list contains stands in Listing; std has more of
 -- places in lemmas.Option (slice_get_within, slice_get-get_or, same_Some, none-some) and of All in lemmas.List.Elements.
-use Rattle.std.proofs.Common.{◌≡◌, ◌⊎◌, inl, inr, ℕ, zero, suc, ◌+◌, ◌<◌, List, [], ◌∷◌, ◌++◌, length, Some, refl, ap, ◌∙◌, arith, zero-add}
+use Rattle.std.proofs.Common.{◌≡◌, ◌⊎◌, inl, inr, ℕ, zero, suc, ◌+◌, ◌<◌, List, [], ◌∷◌, ◌++◌, length, map, get_or, Some, refl, ap, subst, ◌∙◌, arith, zero-add}
 use Rattle.std.specs.Prelude.{All, AllPairs, slice_get}
 use Rattle.std.specs.List.{AllByRecursion}
 use Rattle.std.proofs.lemmas.Option.{none-some, same_Some}
+use Rattle.std.proofs.lemmas.List.{get_or_append_left, get_or-map, length-append, length-map}
 use Rattle.std.proofs.lemmas.List.Elements.{All-nil, All-cons, All-head, All-tail}
 
 -- ---- places
@@ -55,6 +56,11 @@ pub all_back : {X : Type 0} (P : X → Type 0) (xs ys : List X) → All P (xs ++
 all_back P [] ys h = h
 all_back P (x ∷ xs) ys h = all_back P xs ys (All-tail P x (xs ++ ys) h)
 
+-- what holds of an image holds of what it is the image of
+pub all_mapped : {X Y : Type 0} (P : Y → Type 0) (f : X → Y) (xs : List X) → All P (map f xs) → All (λ x. P (f x)) xs
+all_mapped P f xs all i d within =
+    subst P (get_or-map f xs i d (f d) within) (all i (f d) (let e = length-map xs f in omega (arith, e)))
+
 -- the same for facts by recursion
 pub each_pushed : {X : Type 0} (P : X → Type 0) (xs : List X) (x : X) → AllByRecursion P xs → P x → AllByRecursion P (xs ++ x ∷ [])
 each_pushed P [] x h k = (k, tt)
@@ -71,3 +77,9 @@ pairs_head R x xs pairs i d within = pairs 0 (suc i) d (omega arith) (omega arit
 
 pub pairs_tail : {X : Type 0} (R : X → X → Type 0) (x : X) (xs : List X) → AllPairs R (x ∷ xs) → AllPairs R xs
 pairs_tail R x xs pairs i j d less within = pairs (suc i) (suc j) d (omega arith) (omega arith)
+
+pub pairs_front : {X : Type 0} (R : X → X → Type 0) (xs ys : List X) → AllPairs R (xs ++ ys) → AllPairs R xs
+pairs_front {X} R xs ys pairs i j d less within =
+    subst (λ (z : X). R z (get_or xs j d)) (get_or_append_left xs ys d i (omega arith))
+    (subst (λ (z : X). R (get_or (xs ++ ys) i d) z) (get_or_append_left xs ys d j within)
+    (pairs i j d less (omega (arith, length-append xs ys))))

@@ -25,6 +25,7 @@ use Rattle.std.proofs.Common.{zero, suc, cond}
 use Rattle.std.proofs.lemmas.Option.{slice_get_within}
 use Rattle.std.proofs.lemmas.Bool.Decides.{Decides-eqb}
 use Rattle.plan_core.proofs.ListFacts.{get_within}
+use Rattle.railml_topology.proofs.BuildLemmas.{no_text}
 use Rattle.railml_topology.proofs.Zips.{zip_length}
 use Rattle.plan_objects.specs.declared.places.TheConstants.{SIGNALS_OF_AN_EDGE}
 use Rattle.plan_objects.specs.declared.fault.SignalWhat.TheVariants.{Crowded}
@@ -186,10 +187,6 @@ sum_is : (a b c : ℤ) → IsMileage a → IsOfSize (10 ^ 15) b → IsOfSize (10
 sum_is a b c h k m =
     let inner : word (word a +ℤ word b) ≡ a +ℤ b = ap (λ z. word (z +ℤ word b)) (to_z-of_z w64 a (fits_mile a h)) ∙ (ap (λ z. word (a +ℤ z)) (word_is b k) ∙ to_z-of_z w64 (a +ℤ b) (fits_sum a b h k)) in
     ap (λ z. word (z -ℤ word c)) inner ∙ (ap (λ z. word ((a +ℤ b) -ℤ z)) (word_is c m) ∙ to_z-of_z w64 ((a +ℤ b) -ℤ c) (fits_all a b c h k m))
-
-no_text : (o : Option (List ℕ)) → is_some o ≡ false → o ≡ None
-no_text None e = refl
-no_text (Some t) e = absurd cc
 
 pub measured_mileage : (rows : List Elem) (track : Track) (signal : SignalElem) (here from : ℤ) → is_some signal.abs_pos ≡ false → IsMileage track.begin.mile.0 → Gives signal.pos here → HasPositionAt rows track.begin.at from → IsOfSize (10 ^ 15) here → IsOfSize (10 ^ 15) from
     → HasMileage rows track signal (word (word (word track.begin.mile.0 +ℤ word here) -ℤ word from))

@@ -12,7 +12,7 @@ use Rattle.line_text.specs.Fields.{spaced, line_text, EndsField, IsOneField, End
 use Rattle.line_text.specs.Criteria.{criterion_word}
 use Rattle.line_text.proofs.NumberLemmas.{decimal_is_one}
 use Rattle.line_text.proofs.CriterionLemmas.{word_is_one, word_once}
-use Rattle.plan_text.specs.SheetLine.{field_told, IsName, IsSmall}
+use Rattle.plan_writing.specs.SheetLine.{field_told, IsName, IsSmall}
 
 -- ---- one field
 

@@ -1,6 +1,3 @@
-pub mod LineLemmas
-pub mod OrderWords
-pub mod SheetParts
 pub mod MileageLemmas
 pub mod FieldLemmas
 pub mod LineOnce

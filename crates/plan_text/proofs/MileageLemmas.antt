@@ -13,8 +13,8 @@ use Rattle.line_text.specs.Numbers.{IsNumberIn, BeginsCanonical}
 use Rattle.line_text.proofs.NumberLemmas.{field_begins, decimal_is_one}
 use Rattle.rail_mileage.specs.MetresText.{six_digits, size_text, metres_text}
 use Rattle.rail_mileage.proofs.WrittenLemmas.{six_are_digits}
-use Rattle.plan_text.specs.declared.mileage_text.TheConstants.{MAX_METRES}
-use Rattle.plan_text.specs.SheetLine.{AreDigits, IsWholeMetres, IsFraction, IsSize, minus_text, IsMileageText, field_told}
+use Rattle.plan_writing.specs.declared.sheet.TheConstants.{MAX_METRES}
+use Rattle.plan_writing.specs.SheetLine.{AreDigits, IsWholeMetres, IsFraction, IsSize, minus_text, IsMileageText, field_told}
 
 -- ---- a size, cut in front of its last seven bytes
 

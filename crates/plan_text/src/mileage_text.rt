@@ -1,11 +1,9 @@
 // A mileage's field, judged by its form.
 ghost use Rattle.std.specs.Prelude.{◌↔◌, IsTrue};
-ghost use Rattle.plan_text.specs.SheetLine.{AreDigits, IsWholeMetres, IsFraction, IsSize, IsMileageText};
+ghost use Rattle.plan_writing.specs.SheetLine.{AreDigits, IsWholeMetres, IsFraction, IsSize, IsMileageText};
 
 use line_text::{behind, read_long_number};
-
-/// The most whole metres that a sheet may tell: ten digits.
-pub(crate) const MAX_METRES: u64 = 9_999_999_999;
+use plan_writing::MAX_METRES;
 
 fn are_digits(text: &[u8]) -> bool
     ensures { IsTrue result ↔ AreDigits text.now }

@@ -6,11 +6,11 @@ ghost use Rattle.plan_core.specs.Order.{IsOrder};
 ghost use Rattle.plan_core.specs.Line.{is_line};
 ghost use Rattle.plan_core.specs.Graph.{Graph, node, edge};
 ghost use Rattle.plan_core.specs.Values.{values_of};
-ghost use Rattle.plan_text.specs.SheetLine.{SheetLine, Title, GridLine, OrderLine, NodesLine, NodeLine, EdgesLine};
-ghost use Rattle.plan_text.specs.SheetLine.{EdgeLine, ValuesLine, EndLine, MayEnd};
-ghost use Rattle.plan_text.specs.declared.edition.Edition.{Edition as Editions};
+ghost use Rattle.plan_writing.specs.SheetLine.{SheetLine, Title, GridLine, OrderLine, NodesLine, NodeLine, EdgesLine};
+ghost use Rattle.plan_writing.specs.SheetLine.{EdgeLine, ValuesLine, EndLine, MayEnd};
+ghost use Rattle.plan_writing.specs.declared.edition.Edition.{Edition as Editions};
 ghost use Rattle.rail_mileage.specs.MetresText.{metres_text};
-ghost use Rattle.plan_text.specs.SheetText.{StatesSettled, mileage_field, track_field};
+ghost use Rattle.plan_writing.specs.SheetText.{StatesSettled, mileage_field, track_field};
 ghost use Rattle.plan_text.specs.SheetFaults.{TitleDue, GridDue, OrderDue, BodyDue, NodeDue, EdgesDue, EdgeDue};
 ghost use Rattle.plan_text.specs.SheetFaults.{ValuesDue, EndDue, order_told, drawing_told, IsOfGraph};
 ghost use Rattle.plan_text.specs.SheetReading.{IsLineTo, IsEndFault, IsFaultHere, drawn_line, ending_told};
@@ -19,10 +19,11 @@ use crate::sheet_lines::{
     EdgeTold, EndTold, NodeTold, edge_line, end_line, grid_line, node_line, one_number, order_line,
     values_line,
 };
-use crate::{Edition, Ending, SheetFault, SheetWhat};
+use crate::{SheetFault, SheetWhat};
 use line_text::behind;
 use plan_core::{EdgeNo, Grid, NodeNo, Order, OutOfMemory, Point};
 use plan_geometry::{Drawing, Line, values};
+use plan_writing::{Edition, Ending};
 use port_graph::PortGraph;
 use rail_mileage::write_metres;
 use std::alloc::Global;

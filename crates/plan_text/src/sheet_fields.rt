@@ -5,7 +5,7 @@ ghost use Rattle.plan_core.specs.declared.criterion.Criterion.{Criterion as Meas
 ghost use Rattle.plan_core.specs.declared.point.Point.{Point as Told};
 ghost use Rattle.line_text.specs.Criteria.{criterion_word};
 ghost use Rattle.line_text.specs.Fields.{spaced};
-ghost use Rattle.plan_text.specs.SheetLine.{IsSmall, AreSmall};
+ghost use Rattle.plan_writing.specs.SheetLine.{IsSmall, AreSmall};
 ghost use Rattle.plan_text.specs.SheetReading.{IsFieldAt, IsNumberAt, IsNameAt, IsPointAt};
 
 use arrayvec::ArrayVec;

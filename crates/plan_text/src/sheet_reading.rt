@@ -8,9 +8,9 @@ ghost use Rattle.plan_core.specs.Drawing.{drawing};
 ghost use Rattle.plan_core.specs.Exactly.{AnswersExactly};
 ghost use Rattle.plan_text.specs.declared.sheet_fault.SheetWhat.TheVariants.{Range};
 ghost use Rattle.plan_text.specs.declared.sheet_fault.SheetFault.TheVariants.{Memory};
-ghost use Rattle.plan_text.specs.SheetLine.{SheetLine, EndLine, text_of_line, IsSmallEnding, MayEnd};
+ghost use Rattle.plan_writing.specs.SheetLine.{SheetLine, EndLine, text_of_line, IsSmallEnding, MayEnd};
 ghost use Rattle.plan_core.specs.Lawful.{HasSizeOf};
-ghost use Rattle.plan_text.specs.SheetText.{StatesSettled};
+ghost use Rattle.plan_writing.specs.SheetText.{StatesSettled};
 ghost use Rattle.plan_text.specs.SheetFaults.{TitleDue, BodyDue, EdgesDue, ValuesDue, NoneDue, node_due, edge_due};
 ghost use Rattle.plan_text.specs.SheetFaults.{IsSheetText, IsDrawingOf, IsSheetFault};
 ghost use Rattle.plan_text.specs.SheetReading.{IsHeadTo, IsHeadFault, ending_told, IsFaultHere, ArePlaced};
@@ -20,9 +20,10 @@ ghost use Rattle.plan_text.specs.SheetReading.{IsUndrawnFault};
 
 use crate::sheet_checks::{edge, edges, ending, grid, measured, node, nodes, order, title};
 use crate::sheet_lines::{EndTold, end_line};
-use crate::{Edition, Ending, Sheet, SheetFault, SheetWhat};
+use crate::{SheetFault, SheetWhat};
 use plan_core::{Grid, Order, Point};
 use plan_geometry::{Drawing, Line};
+use plan_writing::{Edition, Ending, Sheet};
 use port_graph::PortGraph;
 use std::alloc::Global;
 

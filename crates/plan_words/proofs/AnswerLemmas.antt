@@ -13,7 +13,7 @@ use Rattle.plan_core.specs.declared.criterion.Criterion.{Criterion}
 use Rattle.plan_words.specs.declared.command.CommandWord.{CommandWord}
 use Rattle.plan_words.specs.declared.command.CommandWord.TheVariants as words
 use Rattle.plan_words.specs.declared.command.Command.{Command}
-use Rattle.plan_words.specs.declared.command.Command.TheVariants.{Draw, Verify, Check, Graph, Make, Trial, Signals, Front, Redraw, Explain}
+use Rattle.plan_words.specs.declared.command.Command.TheVariants.{Draw, Verify, Check, Graph, Make, Trial, Signals, Front, Redraw, Explain, Trim, Recheck}
 use Rattle.plan_words.specs.declared.arguments.Argument.{Argument}
 use Rattle.plan_words.specs.declared.files.FileWord.{FileWord}
 use Rattle.plan_words.specs.declared.fault.WordWhat.{WordWhat}
@@ -31,7 +31,7 @@ use Rattle.plan_words.proofs.FileLemmas.{values_apart}
 
 abbrev command_at : List ℕ → CommandWord
 command_at [] = words.Draw
-command_at (b ∷ bytes) = if b == 118 then words.Verify else if b == 99 then words.Check else if b == 103 then words.Graph else if b == 109 then words.Make else if b == 116 then words.Trial else if b == 115 then words.Signals else if b == 102 then words.Front else if b == 114 then words.Redraw else if b == 101 then words.Explain else words.Draw
+command_at (b ∷ bytes) = if b == 118 then words.Verify else if b == 99 then words.Check else if b == 103 then words.Graph else if b == 109 then words.Make else if b == 116 then (if length bytes == 3 then words.Trim else words.Trial) else if b == 115 then words.Signals else if b == 102 then words.Front else if b == 114 then (if length bytes == 6 then words.Recheck else words.Redraw) else if b == 101 then words.Explain else words.Draw
 
 command_at-word : (command : CommandWord) → command_at (command_word command) ≡ command
 command_at-word words.Draw = refl
@@ -44,6 +44,8 @@ command_at-word words.Signals = refl
 command_at-word words.Front = refl
 command_at-word words.Redraw = refl
 command_at-word words.Explain = refl
+command_at-word words.Trim = refl
+command_at-word words.Recheck = refl
 
 command_word_injective : (a b : CommandWord) → command_word a ≡ command_word b → a ≡ b
 command_word_injective a b is = sym (command_at-word a) ∙ ap command_at is ∙ command_at-word b
@@ -136,7 +138,7 @@ sorts_same command arguments end a b p q (inr (inr x)) (inl y) = absurd (x.1.sou
 sorts_same command arguments end a b p q (inr (inl x)) (inr (inl y)) = (x.0 ∙ sym y.0, x.1.place ∙ sym y.1.place)
 sorts_same command arguments end a b p q (inr (inl x)) (inr (inr y)) = let few = x.1.few in let enough = y.1.enough in absurd (omega (arith, few, enough))
 sorts_same command arguments end a b p q (inr (inr x)) (inr (inl y)) = let enough = x.1.enough in let few = y.1.few in absurd (omega (arith, few, enough))
-sorts_same command arguments end a b p q (inr (inr x)) (inr (inr y)) = (x.0 ∙ sym y.0, first_repeat_same (files_in arguments) p q x.1.repeat y.1.repeat)
+sorts_same command arguments end a b p q (inr (inr x)) (inr (inr y)) = (x.0 ∙ sym y.0, first_repeat_same (files_in command arguments) p q x.1.repeat y.1.repeat)
 
 behind_same : (first : List ℕ) (rest : List (List ℕ)) (a b : WordWhat) (p q : ℕ) → IsFaultBehind first rest a p → IsFaultBehind first rest b q → (a ≡ b) × (p ≡ q)
 behind_same first rest a b p q x y =
@@ -160,7 +162,7 @@ sound_or_fault command arguments end what position sound (inl x) = sound.sound w
 sound_or_fault command arguments end what position sound (inr (inl x)) = let few = x.1.few in let enough = sound.enough in omega (arith, few, enough)
 sound_or_fault command arguments end what position sound (inr (inr x)) =
     let repeat = x.1.repeat in
-    apart_has_no_repeat (files_in arguments) repeat.before repeat.file repeat.after repeat.cut sound.apart repeat.again
+    apart_has_no_repeat (files_in command arguments) repeat.before repeat.file repeat.after repeat.cut sound.apart repeat.again
 
 fault_of_command : (command : CommandWord) (rest : List (List ℕ)) (what : WordWhat) (position : ℕ) → AreSoundArguments command (arguments_from 2 rest) → IsFaultOfWords (command_word command ∷ rest) what position → ⊥
 fault_of_command command rest what position sound (inl x) = x.none command refl
@@ -265,6 +267,8 @@ same_parts arguments (Signals i g o n l) (Signals j h r m k) word x y =
 same_parts arguments (Front i a b g n) (Front j d e h m) word x y = same_front arguments i j a b d e g h n m x y
 same_parts arguments (Redraw i f s g n l) (Redraw j e t h m k) word x y = same_redraw arguments i j f e s t g h n m l k x y
 same_parts arguments (Explain i g n) (Explain j h m) word x y = same_explain arguments i j g h n m x y
+same_parts arguments (Trim i s l h) (Trim j t k g) word x y = let names : i ∷ s ∷ l ∷ h ∷ [] ≡ j ∷ t ∷ k ∷ g ∷ [] = sym x ∙ y in cc
+same_parts arguments (Recheck i s h) (Recheck j t g) word x y = let names : i ∷ s ∷ h ∷ [] ≡ j ∷ t ∷ g ∷ [] = sym x ∙ y in cc
 same_parts arguments a b word x y = cc word
 
 pub command_same : (list : List (List ℕ)) (a b : Command) → IsCommandOf list a → IsCommandOf list b → a ≡ b
@@ -297,4 +301,4 @@ words_exactly list answer command fault = answers_exactly answer answers.Memory 
 pub outputs_apart : (list : List (List ℕ)) (input : List ℕ) (grid : GridSize) (order : List Criterion) (budget : ℕ) (svg log : Option (List ℕ)) (picture name : List ℕ) →
     IsCommandOf list (Draw input grid order budget svg log) → svg ≡ Some picture → log ≡ Some name → picture ≢ name
 outputs_apart list input grid order budget svg log picture name x is_picture is_log =
-    values_apart (arguments_from 2 x.rest) picture name (sym x.parts.svg_name ∙ is_picture) (sym x.parts.log_name ∙ is_log) x.sound.apart
+    values_apart words.Draw (arguments_from 2 x.rest) picture name (sym x.parts.svg_name ∙ is_picture) (sym x.parts.log_name ∙ is_log) x.sound.apart

@@ -7,12 +7,13 @@ use Rattle.std.proofs.lemmas.List.Elements.{All-contains, All-more, Contains-app
 use Rattle.std.proofs.lemmas.List.Quantifiers.{all_pairs_push}
 use Rattle.std.proofs.lemmas.Slice.Eq.{bytes_eq-Decides}
 use Rattle.plan_core.proofs.ListFacts.{pairs_head, pairs_tail}
+use Rattle.plan_words.specs.declared.command.CommandWord.{CommandWord}
 use Rattle.plan_words.specs.declared.option_values.OptionWord.TheVariants.{Svg, Log}
 use Rattle.plan_words.specs.declared.arguments.Argument.{Argument}
 use Rattle.plan_words.specs.declared.arguments.Argument.TheVariants.{Name, Setting}
 use Rattle.plan_words.specs.declared.files.FileWord.{FileWord}
 use Rattle.plan_words.specs.OptionValues.{option_word}
-use Rattle.plan_words.specs.Arguments.{option_value, takes_file, read_word, written_word, file_of, files_in}
+use Rattle.plan_words.specs.Arguments.{option_value, takes_file, named_word, written_word, file_of, files_in}
 use Rattle.plan_words.specs.WordFaults.{Clash, MayBothStand, AllMayStand, HasClash, IsFirstRepeat}
 use Rattle.plan_words.proofs.WordLemmas.{cut_at}
 
@@ -53,66 +54,66 @@ abbrev Writes : List FileWord → List ℕ → Type 0
 Writes files name = (position : ℕ) × Contains files (written_word position name)
 
 -- the value of an option that takes a file is one of the files
-value_in : (option : List ℕ) → takes_file option ≡ true → (arguments : List Argument) (name : List ℕ) → option_value option arguments ≡ Some name → Writes (files_in arguments) name
-value_in option takes [] name is = let none : None ≡ Some name = is in cc
-value_in option takes (Name at word ∷ rest) name is =
-    let later = value_in option takes rest name is in
-    (later.0, Contains-append_right (read_word at word ∷ []) (files_in rest) (written_word later.0 name) later.1)
-value_in option takes (Setting at word value ∷ rest) name is =
-    elim (bytes_eq word option) as (λ b. bytes_eq word option ≡ b → (if b then value else option_value option rest) ≡ Some name → Writes (files_in (Setting at word value ∷ rest)) name) [
+value_in : (command : CommandWord) (option : List ℕ) → takes_file option ≡ true → (arguments : List Argument) (name : List ℕ) → option_value option arguments ≡ Some name → Writes (files_in command arguments) name
+value_in command option takes [] name is = let none : None ≡ Some name = is in cc
+value_in command option takes (Name at word ∷ rest) name is =
+    let later = value_in command option takes rest name is in
+    (later.0, Contains-append_right (named_word command at word ∷ []) (files_in command rest) (written_word later.0 name) later.1)
+value_in command option takes (Setting at word value ∷ rest) name is =
+    elim (bytes_eq word option) as (λ b. bytes_eq word option ≡ b → (if b then value else option_value option rest) ≡ Some name → Writes (files_in command (Setting at word value ∷ rest)) name) [
       | true ↦ λ same there.
           let this : word ≡ option = (bytes_eq-Decides word option).0 same in
-          let Q : Argument → Type 0 = λ argument. Writes (files_in (argument ∷ rest)) name in
+          let Q : Argument → Type 0 = λ argument. Writes (files_in command (argument ∷ rest)) name in
           let is_this : Setting at word value ≡ Setting at option (Some name) = cc in
-          let R : Bool → Type 0 = λ b. Writes ((if b then written_word (at + 1) name ∷ [] else []) ++ files_in rest) name in
+          let R : Bool → Type 0 = λ b. Writes ((if b then written_word (at + 1) name ∷ [] else []) ++ files_in command rest) name in
           subst Q (sym is_this) (subst R (sym takes) (at + 1, (0, omega arith, refl)))
       | false ↦ λ differs later.
-          let there = value_in option takes rest name later in
-          (there.0, Contains-append_right (file_of (Setting at word value)) (files_in rest) (written_word there.0 name) there.1)
+          let there = value_in command option takes rest name later in
+          (there.0, Contains-append_right (file_of command (Setting at word value)) (files_in command rest) (written_word there.0 name) there.1)
     ] refl is
 
-abbrev NameApart : List Argument → Type 0
-NameApart arguments = AllMayStand (files_in arguments)
+abbrev NameApart : CommandWord → List Argument → Type 0
+NameApart command arguments = AllMayStand (files_in command arguments)
 
 -- an option that takes no file names none
-apart_later : (at : ℕ) (word : List ℕ) (value : Option (List ℕ)) (rest : List Argument) → takes_file word ≡ false → NameApart (Setting at word value ∷ rest) → NameApart rest
-apart_later at word None rest none apart = apart
-apart_later at word (Some value) rest none apart =
-    let R : Bool → Type 0 = λ b. AllMayStand ((if b then written_word (at + 1) value ∷ [] else []) ++ files_in rest) in
+apart_later : (command : CommandWord) (at : ℕ) (word : List ℕ) (value : Option (List ℕ)) (rest : List Argument) → takes_file word ≡ false → NameApart command (Setting at word value ∷ rest) → NameApart command rest
+apart_later command at word None rest none apart = apart
+apart_later command at word (Some value) rest none apart =
+    let R : Bool → Type 0 = λ b. AllMayStand ((if b then written_word (at + 1) value ∷ [] else []) ++ files_in command rest) in
     subst R none apart
 
 -- the first option of two that take a file has another value than the second
-first_apart : (at : ℕ) (word option other : List ℕ) (value : Option (List ℕ)) (rest : List Argument) (a b : List ℕ) → word ≡ option → value ≡ Some a → takes_file option ≡ true → takes_file other ≡ true → option_value other rest ≡ Some b →
-    NameApart (Setting at word value ∷ rest) → a ≢ b
-first_apart at word option other value rest a b this is takes also later apart =
+first_apart : (command : CommandWord) (at : ℕ) (word option other : List ℕ) (value : Option (List ℕ)) (rest : List Argument) (a b : List ℕ) → word ≡ option → value ≡ Some a → takes_file option ≡ true → takes_file other ≡ true → option_value other rest ≡ Some b →
+    NameApart command (Setting at word value ∷ rest) → a ≢ b
+first_apart command at word option other value rest a b this is takes also later apart =
     let is_this : Setting at word value ≡ Setting at option (Some a) = cc in
-    let R : Bool → Type 0 = λ t. AllMayStand ((if t then written_word (at + 1) a ∷ [] else []) ++ files_in rest) in
-    let Q : Argument → Type 0 = λ argument. NameApart (argument ∷ rest) in
+    let R : Bool → Type 0 = λ t. AllMayStand ((if t then written_word (at + 1) a ∷ [] else []) ++ files_in command rest) in
+    let Q : Argument → Type 0 = λ argument. NameApart command (argument ∷ rest) in
     let first = written_word (at + 1) a in
-    let pairs : AllMayStand (first ∷ files_in rest) = subst R takes (subst Q is_this apart) in
-    let second = value_in other also rest b later in
-    let stand : MayBothStand first (written_word second.0 b) = All-contains (λ n. MayBothStand first n) (files_in rest) (written_word second.0 b) (pairs_head MayBothStand first (files_in rest) pairs) second.1 in
+    let pairs : AllMayStand (first ∷ files_in command rest) = subst R takes (subst Q is_this apart) in
+    let second = value_in command other also rest b later in
+    let stand : MayBothStand first (written_word second.0 b) = All-contains (λ n. MayBothStand first n) (files_in command rest) (written_word second.0 b) (pairs_head MayBothStand first (files_in command rest) pairs) second.1 in
     λ same. stand (record { writes = inl refl; same = same })
 
 takes_neither : (word : List ℕ) → bytes_eq word (option_word Svg) ≡ false → bytes_eq word (option_word Log) ≡ false → takes_file word ≡ false
 takes_neither word not_svg not_log = ap (λ (b : Bool). b || bytes_eq word (option_word Log)) not_svg ∙ not_log
 
 -- a picture's file isn't a log's
-pub values_apart : (arguments : List Argument) (picture log : List ℕ) → option_value (option_word Svg) arguments ≡ Some picture → option_value (option_word Log) arguments ≡ Some log → NameApart arguments → picture ≢ log
-values_apart [] picture log is_picture is_log apart = let none : None ≡ Some picture = is_picture in absurd (cc)
-values_apart (Name at word ∷ rest) picture log is_picture is_log apart =
-    values_apart rest picture log is_picture is_log (pairs_tail MayBothStand (read_word at word) (files_in rest) apart)
-values_apart (Setting at word value ∷ rest) picture log is_picture is_log apart =
+pub values_apart : (command : CommandWord) (arguments : List Argument) (picture log : List ℕ) → option_value (option_word Svg) arguments ≡ Some picture → option_value (option_word Log) arguments ≡ Some log → NameApart command arguments → picture ≢ log
+values_apart command [] picture log is_picture is_log apart = let none : None ≡ Some picture = is_picture in absurd (cc)
+values_apart command (Name at word ∷ rest) picture log is_picture is_log apart =
+    values_apart command rest picture log is_picture is_log (pairs_tail MayBothStand (named_word command at word) (files_in command rest) apart)
+values_apart command (Setting at word value ∷ rest) picture log is_picture is_log apart =
     elim (bytes_eq word (option_word Svg)) as (λ s. bytes_eq word (option_word Svg) ≡ s → (if s then value else option_value (option_word Svg) rest) ≡ Some picture → picture ≢ log) [
       | true ↦ λ same there.
           let this : word ≡ option_word Svg = (bytes_eq-Decides word (option_word Svg)).0 same in
           let P : List ℕ → Type 0 = λ w. option_value (option_word Log) (Setting at w value ∷ rest) ≡ Some log in
-          first_apart at word (option_word Svg) (option_word Log) value rest picture log this there refl refl (subst P this is_log) apart
+          first_apart command at word (option_word Svg) (option_word Log) value rest picture log this there refl refl (subst P this is_log) apart
       | false ↦ λ not_svg later.
           elim (bytes_eq word (option_word Log)) as (λ s. bytes_eq word (option_word Log) ≡ s → (if s then value else option_value (option_word Log) rest) ≡ Some log → picture ≢ log) [
             | true ↦ λ same there.
-                let apart_so = first_apart at word (option_word Log) (option_word Svg) value rest log picture ((bytes_eq-Decides word (option_word Log)).0 same) there refl refl later apart in
+                let apart_so = first_apart command at word (option_word Log) (option_word Svg) value rest log picture ((bytes_eq-Decides word (option_word Log)).0 same) there refl refl later apart in
                 λ e. apart_so (sym e)
-            | false ↦ λ not_log also. values_apart rest picture log later also (apart_later at word value rest (takes_neither word not_svg not_log) apart)
+            | false ↦ λ not_log also. values_apart command rest picture log later also (apart_later command at word value rest (takes_neither word not_svg not_log) apart)
           ] refl is_log
     ] refl is_picture

@@ -111,6 +111,13 @@ three_names (x ∷ y ∷ []) a b d most first second third = let e : None ≡ So
 three_names (x ∷ y ∷ z ∷ []) a b d most first second third = let e : Some x ≡ Some a = first in let f : Some y ≡ Some b = second in let g : Some z ≡ Some d = third in cc
 three_names (x ∷ y ∷ z ∷ u ∷ names) a b d most first second third = absurd (omega arith)
 
+pub four_names : (names : List (List ℕ)) (a b d e : List ℕ) → length names ≤ 4 → slice_get names 0 ≡ Some a → slice_get names 1 ≡ Some b → slice_get names 2 ≡ Some d → slice_get names 3 ≡ Some e → names ≡ a ∷ b ∷ d ∷ e ∷ []
+four_names [] a b d e most first second third fourth = let none : None ≡ Some a = first in cc
+four_names (x ∷ names) a b d e most first second third fourth =
+    let is : Some x ≡ Some a = first in
+    let rest : names ≡ b ∷ d ∷ e ∷ [] = three_names names b d e (omega (arith, most)) second third fourth in
+    cc
+
 pub first_taken : (command : CommandWord) (arguments : List Argument) (name : List ℕ) → SoundFrom command [] arguments → argument_names arguments ≡ name ∷ [] → TakesName command 0 name
 first_taken command arguments name sound is = name_taken command [] arguments 0 name sound (ap (λ (names : List (List ℕ)). slice_get names 0) is)
 

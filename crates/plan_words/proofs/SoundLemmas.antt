@@ -11,7 +11,7 @@ use Rattle.std.proofs.lemmas.Map.Keys.{IsDistinct-from_apart}
 use Rattle.std.proofs.lemmas.Map.Steps.{length-le_from_distinct_below}
 use Rattle.std.specs.List.{list_any}
 use Rattle.plan_words.specs.declared.command.CommandWord.{CommandWord}
-use Rattle.plan_words.specs.declared.command.CommandWord.TheVariants.{Draw, Verify, Check, Graph, Make, Trial, Signals, Front, Redraw, Explain}
+use Rattle.plan_words.specs.declared.command.CommandWord.TheVariants.{Draw, Verify, Check, Graph, Make, Trial, Signals, Front, Redraw, Explain, Trim, Recheck}
 use Rattle.plan_words.specs.declared.option_values.OptionWord.{OptionWord}
 use Rattle.plan_words.specs.declared.option_values.OptionWord.TheVariants.{Width, Height, Least, Criteria, Conflicts, Svg, Log}
 use Rattle.plan_words.specs.declared.arguments.Argument.{Argument}
@@ -124,6 +124,8 @@ known_option Signals word h = (h.0, h.1)
 known_option Front word h = (h.0, h.1)
 known_option Redraw word h = (h.0, h.1)
 known_option Explain word h = (h.0, h.1)
+known_option Trim word h = absurd h
+known_option Recheck word h = absurd h
 
 options_push : (command : CommandWord) (before : List Argument) (argument : Argument) → AreOptions (options_in before) → IsSoundBehind command before argument → AreOptions (options_in (before ++ argument ∷ []))
 options_push command before (Name at name) are sound = subst AreOptions (sym (options_in-push before (Name at name) ∙ append-nil (options_in before))) are
@@ -148,7 +150,7 @@ length-parts [] = refl
 length-parts (Name at name ∷ arguments) = let n = length-parts arguments in omega (arith, n)
 length-parts (Setting at word value ∷ arguments) = let n = length-parts arguments in omega (arith, n)
 
-name_count_small : (command : CommandWord) → name_count command ≤ 3
+name_count_small : (command : CommandWord) → name_count command ≤ 4
 name_count_small Draw = omega arith
 name_count_small Verify = omega arith
 name_count_small Check = omega arith
@@ -159,8 +161,10 @@ name_count_small Signals = omega arith
 name_count_small Front = omega arith
 name_count_small Redraw = omega arith
 name_count_small Explain = omega arith
+name_count_small Trim = omega arith
+name_count_small Recheck = omega arith
 
-pub few_arguments : (command : CommandWord) (arguments : List Argument) → SoundFrom command [] arguments → length arguments ≤ 10
+pub few_arguments : (command : CommandWord) (arguments : List Argument) → SoundFrom command [] arguments → length arguments ≤ 11
 few_arguments command arguments sound =
     let parts = length-parts arguments in
     let names = names_few command [] arguments (omega arith) sound in

@@ -1,9 +1,12 @@
 -- The words behind the command, from left to right: names, and options with their values.
-use Rattle.std.specs.Prelude.{ℕ, ◌+◌, Bool, true, false, if◌then◌else◌, ◌||◌, Option, None, Some, List, [], ◌∷◌, codes}
-use Rattle.std.specs.Prelude.{map, flat_map, nat_eq, bytes_eq, string_bytes}
+use Rattle.std.specs.Prelude.{ℕ, ◌+◌, ◌==◌, Bool, true, false, if◌then◌else◌, ◌||◌, Option, None, Some, List, [], ◌∷◌}
+use Rattle.std.specs.Prelude.{codes, map, flat_map, nat_eq, bytes_eq, string_bytes}
 use Rattle.std.specs.List.{starts_with}
 use Rattle.std.specs.declared.string.String.{String}
 use Rattle.std.specs.declared.alloc.Global.{Global}
+use Rattle.plan_words.specs.declared.command.CommandWord.{CommandWord}
+use Rattle.plan_words.specs.declared.command.CommandWord.TheVariants.{Draw, Verify, Check, Graph, Make, Trial, Signals}
+use Rattle.plan_words.specs.declared.command.CommandWord.TheVariants.{Front, Redraw, Explain, Trim, Recheck}
 use Rattle.plan_words.specs.declared.option_values.OptionWord.TheVariants.{Svg, Log}
 use Rattle.plan_words.specs.declared.arguments.Argument.{Argument}
 use Rattle.plan_words.specs.declared.arguments.Argument.TheVariants.{Name, Setting}
@@ -60,18 +63,35 @@ option_value option (Setting at word value ∷ arguments) =
 abbrev pub takes_file : List ℕ → Bool
 takes_file option = bytes_eq option (option_word Svg) || bytes_eq option (option_word Log)
 
-abbrev pub read_word : ℕ → List ℕ → FileWord
-read_word position name = record { position = position; name = name; written = false }
+-- whether the command writes the file of a name at this position: `trim` writes that of its fourth, which stands there,
+-- since `trim` has no options
+abbrev pub writes_at : CommandWord → ℕ → Bool
+writes_at Draw at = false
+writes_at Verify at = false
+writes_at Check at = false
+writes_at Graph at = false
+writes_at Make at = false
+writes_at Trial at = false
+writes_at Signals at = false
+writes_at Front at = false
+writes_at Redraw at = false
+writes_at Explain at = false
+writes_at Trim at = at == 5
+writes_at Recheck at = false
+
+abbrev pub named_word : CommandWord → ℕ → List ℕ → FileWord
+named_word command position name =
+    record { position = position; name = name; written = writes_at command position }
 
 abbrev pub written_word : ℕ → List ℕ → FileWord
 written_word position name = record { position = position; name = name; written = true }
 
-abbrev pub file_of : Argument → List FileWord
-file_of (Name at word) = read_word at word ∷ []
-file_of (Setting at word None) = []
-file_of (Setting at word (Some value)) = if takes_file word then written_word (at + 1) value ∷ [] else []
+abbrev pub file_of : CommandWord → Argument → List FileWord
+file_of command (Name at word) = named_word command at word ∷ []
+file_of command (Setting at word None) = []
+file_of command (Setting at word (Some value)) = if takes_file word then written_word (at + 1) value ∷ [] else []
 
--- the words that name files: the names, of which a command reads the files, and the values of `--svg` and `--log`, of
--- which it writes them
-abbrev pub files_in : List Argument → List FileWord
-files_in arguments = flat_map file_of arguments
+-- the words that name files: the names, of which a command reads the files but that of the last one of `trim`, and the
+-- values of `--svg` and `--log`, of which it writes them
+abbrev pub files_in : CommandWord → List Argument → List FileWord
+files_in command arguments = flat_map (file_of command) arguments

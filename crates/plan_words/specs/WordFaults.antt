@@ -4,7 +4,7 @@ use Rattle.std.specs.Prelude.{true, None, Some, List, [], ◌∷◌, ◌++◌, c
 use Rattle.std.specs.Prelude.{Contains, AllPairs, ⊤}
 use Rattle.plan_words.specs.declared.command.CommandWord.{CommandWord}
 use Rattle.plan_words.specs.declared.command.CommandWord.TheVariants.{Draw, Verify, Check, Graph, Make, Trial, Signals}
-use Rattle.plan_words.specs.declared.command.CommandWord.TheVariants.{Front, Redraw, Explain}
+use Rattle.plan_words.specs.declared.command.CommandWord.TheVariants.{Front, Redraw, Explain, Trim, Recheck}
 use Rattle.plan_words.specs.declared.option_values.OptionWord.{OptionWord}
 use Rattle.plan_words.specs.declared.option_values.OptionWord.TheVariants.{Width, Height, Least, Criteria, Conflicts}
 use Rattle.plan_words.specs.declared.option_values.OptionWord.TheVariants.{Svg, Log}
@@ -29,6 +29,8 @@ command_word Signals = codes "signals"
 command_word Front = codes "front"
 command_word Redraw = codes "redraw"
 command_word Explain = codes "explain"
+command_word Trim = codes "trim"
+command_word Recheck = codes "recheck"
 
 -- the numbers of the table of faults, and their words
 abbrev pub number_of : WordWhat → ℕ
@@ -61,6 +63,8 @@ name_count Signals = 1
 name_count Front = 2
 name_count Redraw = 3
 name_count Explain = 1
+name_count Trim = 4
+name_count Recheck = 3
 
 -- the command takes this name behind so many others: the number of `make` and of `trial`, the two criteria of `front`
 -- behind its file, and any other that isn't empty
@@ -76,6 +80,8 @@ TakesName Front zero name = name ≢ []
 TakesName Front (suc place) name = (first : Criterion) × (second : Criterion) × IsPairText name first second
 TakesName Redraw place name = name ≢ []
 TakesName Explain place name = name ≢ []
+TakesName Trim place name = name ≢ []
+TakesName Recheck place name = name ≢ []
 
 -- the options of `signals`: it has no `--least`, since the signals give it, and no `--svg`, since it writes no picture
 abbrev pub IsSignalsOption : OptionWord → Type 0
@@ -122,6 +128,8 @@ IsOptionOf Signals word = (option : OptionWord) × (word ≡ option_word option)
 IsOptionOf Front word = (option : OptionWord) × (word ≡ option_word option) × IsFrontOption option
 IsOptionOf Redraw word = (option : OptionWord) × (word ≡ option_word option) × IsRedrawOption option
 IsOptionOf Explain word = (option : OptionWord) × (word ≡ option_word option) × IsFrontOption option
+IsOptionOf Trim word = ⊥
+IsOptionOf Recheck word = ⊥
 
 -- ---- faults of one argument, behind the arguments before it
 
@@ -203,7 +211,7 @@ pub record IsMissing (command : CommandWord) (arguments : List Argument) (end po
 pub record HasOneNameTwice (command : CommandWord) (arguments : List Argument) (position : ℕ) : Type 0 where
   pub sound : HaveNoFault command arguments
   pub enough : name_count command ≤ length (argument_names arguments)
-  pub repeat : IsFirstRepeat (files_in arguments) position
+  pub repeat : IsFirstRepeat (files_in command arguments) position
 
 -- the fault that counts of a command's arguments, behind which this position is the first free one
 abbrev pub IsFaultOfArguments : CommandWord → List Argument → ℕ → WordWhat → ℕ → Type 0

@@ -7,7 +7,7 @@ use Rattle.plan_words.specs.declared.command.CommandWord.{CommandWord}
 use Rattle.plan_words.specs.declared.command.CommandWord.TheVariants as words
 use Rattle.plan_words.specs.declared.command.Command.{Command}
 use Rattle.plan_words.specs.declared.command.Command.TheVariants.{Draw, Verify, Check, Graph, Make, Trial}
-use Rattle.plan_words.specs.declared.command.Command.TheVariants.{Signals, Front, Redraw, Explain}
+use Rattle.plan_words.specs.declared.command.Command.TheVariants.{Signals, Front, Redraw, Explain, Trim, Recheck}
 use Rattle.plan_words.specs.declared.option_values.OptionWord.{OptionWord}
 use Rattle.plan_words.specs.declared.option_values.OptionWord.TheVariants as options
 use Rattle.plan_words.specs.declared.arguments.Argument.{Argument}
@@ -82,6 +82,8 @@ command_kind (Signals input grid order budget log) = words.Signals
 command_kind (Front input first second grid budget) = words.Front
 command_kind (Redraw input former sheet grid budget log) = words.Redraw
 command_kind (Explain input grid budget) = words.Explain
+command_kind (Trim input sheet log hints) = words.Trim
+command_kind (Recheck input sheet hints) = words.Recheck
 
 -- the command has the parts that its arguments give
 abbrev pub HasParts : List Argument → Command → Type 0
@@ -97,12 +99,14 @@ HasParts arguments (Front input first second grid budget) = IsFrontCommand argum
 HasParts arguments (Redraw input former sheet grid budget log) =
     IsRedrawCommand arguments input former sheet grid budget log
 HasParts arguments (Explain input grid budget) = IsExplainCommand arguments input grid budget
+HasParts arguments (Trim input sheet log hints) = argument_names arguments ≡ input ∷ sheet ∷ log ∷ hints ∷ []
+HasParts arguments (Recheck input sheet hints) = argument_names arguments ≡ input ∷ sheet ∷ hints ∷ []
 
 -- the arguments of a command without a fault
 pub record AreSoundArguments (command : CommandWord) (arguments : List Argument) : Type 0 where
   pub sound : HaveNoFault command arguments
   pub enough : name_count command ≤ length (argument_names arguments)
-  pub apart : AllMayStand (files_in arguments)
+  pub apart : AllMayStand (files_in command arguments)
 
 -- the words have no fault, and this is the command that they ask for
 pub record IsCommandOf (words : List (List ℕ)) (command : Command) : Type 0 where

@@ -273,6 +273,33 @@ fn explain_of(alloc: Global, arguments: &[Argument]) -> Result<Command, OutOfMem
     })
 }
 
+fn trim_of(alloc: Global, arguments: &[Argument]) -> Result<Command, OutOfMemory>
+    requires sound { SoundFrom words.Trim [] arguments.now }
+    requires enough { 4 ≤ length (argument_names arguments.now) }
+    ensures word { IfOk result (λ c. command_kind c ≡ words.Trim) }
+    ensures parts { IfOk result (λ c. HasParts arguments.now c) }
+{
+    Ok(Command::Trim {
+        input: name_copy(alloc, arguments, 0)?,
+        sheet: name_copy(alloc, arguments, 1)?,
+        log: name_copy(alloc, arguments, 2)?,
+        hints: name_copy(alloc, arguments, 3)?,
+    })
+}
+
+fn recheck_of(alloc: Global, arguments: &[Argument]) -> Result<Command, OutOfMemory>
+    requires sound { SoundFrom words.Recheck [] arguments.now }
+    requires enough { 3 ≤ length (argument_names arguments.now) }
+    ensures word { IfOk result (λ c. command_kind c ≡ words.Recheck) }
+    ensures parts { IfOk result (λ c. HasParts arguments.now c) }
+{
+    Ok(Command::Recheck {
+        input: name_copy(alloc, arguments, 0)?,
+        sheet: name_copy(alloc, arguments, 1)?,
+        hints: name_copy(alloc, arguments, 2)?,
+    })
+}
+
 /// The number that `make` or `trial` has as its name.
 fn seed_of(arguments: &[Argument]) -> u32
     requires sound { SoundFrom words.Make [] arguments.now ⊎ SoundFrom words.Trial [] arguments.now }
@@ -320,5 +347,7 @@ pub(crate) fn command_of(
         CommandWord::Front => front_of(alloc, arguments),
         CommandWord::Redraw => redraw_of(alloc, arguments),
         CommandWord::Explain => explain_of(alloc, arguments),
+        CommandWord::Trim => trim_of(alloc, arguments),
+        CommandWord::Recheck => recheck_of(alloc, arguments),
     }
 }

@@ -17,6 +17,8 @@ pub(crate) enum CommandWord {
     Front,
     Redraw,
     Explain,
+    Trim,
+    Recheck,
 }
 
 impl CommandWord {
@@ -35,6 +37,8 @@ impl CommandWord {
             "front" => Some(CommandWord::Front),
             "redraw" => Some(CommandWord::Redraw),
             "explain" => Some(CommandWord::Explain),
+            "trim" => Some(CommandWord::Trim),
+            "recheck" => Some(CommandWord::Recheck),
             _ => None,
         }
     }
@@ -51,7 +55,8 @@ impl CommandWord {
             | CommandWord::Signals
             | CommandWord::Explain => 1,
             CommandWord::Verify | CommandWord::Front => 2,
-            CommandWord::Check | CommandWord::Redraw => 3,
+            CommandWord::Check | CommandWord::Redraw | CommandWord::Recheck => 3,
+            CommandWord::Trim => 4,
         }
     }
 }
@@ -129,5 +134,19 @@ pub enum Command {
         input: Text,
         grid: Grid,
         budget: u32,
+    },
+    /// Decides as `Check` does; where `log` certifies what `sheet` claims of `input`, writes those of its lines that
+    /// certify it, with their hints, into the file `hints`.
+    Trim {
+        input: Text,
+        sheet: Text,
+        log: Text,
+        hints: Text,
+    },
+    /// Decides whether the hinted lines of `hints` certify what `sheet` claims of `input`.
+    Recheck {
+        input: Text,
+        sheet: Text,
+        hints: Text,
     },
 }

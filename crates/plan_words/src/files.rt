@@ -2,11 +2,12 @@
 ghost use Rattle.std.specs.Prelude.{◌≡◌, All, IfOk, MatchOption, option_to_list};
 ghost use Rattle.std.specs.Bool.{MatchBool};
 ghost use Rattle.plan_words.specs.Arguments.{takes_file as option_takes_file, file_of as named_file};
-ghost use Rattle.plan_words.specs.Arguments.{files_in as named_files};
+ghost use Rattle.plan_words.specs.Arguments.{writes_at, files_in as named_files};
 ghost use Rattle.plan_words.specs.WordFaults.{Clash, MayBothStand, HasClash, AllMayStand, IsFirstRepeat};
 ghost use Rattle.plan_words.specs.Soundness.{IsNear};
 
 use crate::arguments::Argument;
+use crate::command::CommandWord;
 use plan_core::{OutOfMemory, Text};
 use std::alloc::Global;
 
@@ -25,16 +26,40 @@ fn takes_file(option: &str) -> bool
     option == "--svg" || option == "--log"
 }
 
-/// The word of the argument that names a file, if it has one.
-fn file_of(alloc: Global, argument: &Argument) -> Result<Option<FileWord>, OutOfMemory>
+/// Whether the command writes the file of a name at this position.
+fn writes_name(command: CommandWord, position: usize) -> bool
+    ensures { result ≡ writes_at command position }
+{
+    match command {
+        CommandWord::Trim => position == 5,
+        CommandWord::Draw
+        | CommandWord::Verify
+        | CommandWord::Check
+        | CommandWord::Graph
+        | CommandWord::Make
+        | CommandWord::Trial
+        | CommandWord::Signals
+        | CommandWord::Front
+        | CommandWord::Redraw
+        | CommandWord::Explain
+        | CommandWord::Recheck => false,
+    }
+}
+
+/// The word of the command's argument that names a file, if it has one.
+fn file_of(
+    alloc: Global,
+    command: CommandWord,
+    argument: &Argument,
+) -> Result<Option<FileWord>, OutOfMemory>
     requires { IsNear argument.now }
-    ensures { IfOk result (λ file. option_to_list file ≡ named_file argument.now) }
+    ensures { IfOk result (λ file. option_to_list file ≡ named_file command argument.now) }
 {
     match argument {
         Argument::Name { position, word } => Ok(Some(FileWord {
             position: *position as u32,
             name: word.copied(alloc)?,
-            written: false,
+            written: writes_name(command, *position),
         })),
         Argument::Setting {
             position,
@@ -49,14 +74,18 @@ fn file_of(alloc: Global, argument: &Argument) -> Result<Option<FileWord>, OutOf
     }
 }
 
-/// The words that name files.
-pub(crate) fn files_in(alloc: Global, arguments: &[Argument]) -> Result<Vec<FileWord>, OutOfMemory>
+/// The words of the command that name files.
+pub(crate) fn files_in(
+    alloc: Global,
+    command: CommandWord,
+    arguments: &[Argument],
+) -> Result<Vec<FileWord>, OutOfMemory>
     requires { All IsNear arguments.now }
-    ensures { IfOk result (λ files. files.items ≡ named_files arguments.now) }
+    ensures { IfOk result (λ files. files.items ≡ named_files command arguments.now) }
 {
     let mut files = Vec::new(alloc);
     for argument in arguments {
-        if let Some(file) = file_of(alloc, argument)? {
+        if let Some(file) = file_of(alloc, command, argument)? {
             files.push(file)?;
         }
     }

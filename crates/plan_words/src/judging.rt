@@ -15,12 +15,16 @@ use std::alloc::Global;
 
 /// The position of the first file, from the left, that has the name of an earlier one, where the command writes one of
 /// the two.
-fn repeated_file(alloc: Global, arguments: &[Argument]) -> Result<Option<u32>, OutOfMemory>
+fn repeated_file(
+    alloc: Global,
+    command: CommandWord,
+    arguments: &[Argument],
+) -> Result<Option<u32>, OutOfMemory>
     requires { All IsNear arguments.now }
-    ensures { IfOk result (λ found. MatchOption found (AllMayStand (named_files arguments.now))
-        (IsFirstRepeat (named_files arguments.now))) }
+    ensures { IfOk result (λ found. MatchOption found (AllMayStand (named_files command arguments.now))
+        (IsFirstRepeat (named_files command arguments.now))) }
 {
-    let files = files_in(alloc, arguments)?;
+    let files = files_in(alloc, command, arguments)?;
     Ok(first_repeat(&files))
 }
 
@@ -46,7 +50,7 @@ pub(crate) fn fault_that_counts(
             position: end as u32,
         }));
     }
-    match repeated_file(alloc, arguments)? {
+    match repeated_file(alloc, command, arguments)? {
         Some(position) => Ok(Some(Found {
             what: WordWhat::BadValue,
             position,

@@ -96,7 +96,9 @@ fn option_of(command: CommandWord, word: &str) -> Option<OptionWord>
         | CommandWord::Check
         | CommandWord::Graph
         | CommandWord::Make
-        | CommandWord::Trial => None,
+        | CommandWord::Trial
+        | CommandWord::Trim
+        | CommandWord::Recheck => None,
     }
 }
 
@@ -123,8 +125,10 @@ fn takes_name(command: CommandWord, place: usize, name: &str) -> bool
         | CommandWord::Check
         | CommandWord::Graph
         | CommandWord::Signals
-        | CommandWord::Redraw => !name.is_empty(),
-        | CommandWord::Explain => !name.is_empty(),
+        | CommandWord::Redraw
+        | CommandWord::Explain
+        | CommandWord::Trim
+        | CommandWord::Recheck => !name.is_empty(),
     }
 }
 

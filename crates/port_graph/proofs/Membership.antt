@@ -2,10 +2,9 @@
 use Rattle.std.proofs.Common.{◌≡◌, ◌≢◌, ℕ, zero, suc, ◌+◌, ◌<◌, List, [], ◌∷◌, ◌++◌, length, map, get_or, Option, Some, None, refl, sym, ap, subst, inl, inr, arith}
 use Rattle.std.specs.Prelude.{◌⊎◌, AllPairs, Contains, slice_get, option_and_then}
 use Rattle.std.specs.List.{flat_map, enumerate_from}
-use Rattle.std.proofs.lemmas.List.{get_or_append_left, length-append}
 use Rattle.std.proofs.lemmas.List.Elements.{All-contains}
 use Rattle.std.proofs.lemmas.Option.{same_Some, none-some}
-use Rattle.plan_core.proofs.ListFacts.{pairs_head, pairs_tail}
+use Rattle.plan_core.proofs.ListFacts.{pairs_head, pairs_tail, pairs_front}
 
 -- x stands in the list
 abbrev pub In : {X : Type 0} → X → List X → Type 0
@@ -103,12 +102,6 @@ pub pairs_right : {X : Type 0} (R : X → X → Type 0) (xs ys : List X) → All
 pairs_right R [] ys pairs = pairs
 pairs_right R (x ∷ xs) ys pairs = pairs_right R xs ys (pairs_tail R x (xs ++ ys) pairs)
 
-pub pairs_left : {X : Type 0} (R : X → X → Type 0) (xs ys : List X) → AllPairs R (xs ++ ys) → AllPairs R xs
-pairs_left {X} R xs ys pairs i j d less within =
-    subst (λ (z : X). R z (get_or xs j d)) (get_or_append_left xs ys d i (omega arith))
-    (subst (λ (z : X). R (get_or (xs ++ ys) i d) z) (get_or_append_left xs ys d j within)
-    (pairs i j d less (omega (arith, length-append xs ys))))
-
 -- two elements of different places, where the relation holds both ways
 pub pairs_at : {X : Type 0} (R : X → X → Type 0) (flip : (a b : X) → R a b → R b a) (xs : List X) (i j : ℕ) (a b : X) → AllPairs R xs → slice_get xs i ≡ Some a → slice_get xs j ≡ Some b → i ≢ j → R a b
 pairs_at R flip [] i j a b pairs p q differ = absurd (none-some a p)
@@ -134,5 +127,5 @@ pairs_apart R flip f (z ∷ zs) (suc i) (suc j) x y a b pairs p q differ h k =
 -- one part
 pub pairs_within : {X Y : Type 0} (R : Y → Y → Type 0) (f : X → List Y) (xs : List X) (i : ℕ) (x : X) → AllPairs R (flat_map f xs) → slice_get xs i ≡ Some x → AllPairs R (f x)
 pairs_within R f [] i x pairs p = absurd (none-some x p)
-pairs_within {Y = Y} R f (z ∷ zs) zero x pairs p = subst (λ (l : List Y). AllPairs R l) (ap f (same_Some z x p)) (pairs_left R (f z) (flat_map f zs) pairs)
+pairs_within {Y = Y} R f (z ∷ zs) zero x pairs p = subst (λ (l : List Y). AllPairs R l) (ap f (same_Some z x p)) (pairs_front R (f z) (flat_map f zs) pairs)
 pairs_within R f (z ∷ zs) (suc i) x pairs p = pairs_within R f zs i x (pairs_right R (f z) (flat_map f zs) pairs) p

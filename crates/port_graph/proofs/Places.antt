@@ -16,10 +16,10 @@ use Rattle.plan_core.specs.declared.topology.Place.{Place}
 use Rattle.plan_core.specs.declared.topology.Part.{Part}
 use Rattle.plan_core.specs.declared.topology.Part.TheVariants.{Begin, End, Branch, Incoming, Outgoing}
 use Rattle.plan_core.specs.Topology.{Element, conn_element, end_element, inner_element, connections, end_elements, inner_elements, track_element, track_elements, branch_of, incoming_of, outgoing_of, connection_of, connection, IsResolved}
-use Rattle.plan_core.proofs.ListFacts.{pairs_tail}
+use Rattle.plan_core.proofs.ListFacts.{pairs_front, pairs_tail}
 use Rattle.plan_core.proofs.PlaceFacts.{same_place}
 use Rattle.port_graph.specs.Spots.{end_spot, inner_spot, spot_on, spot_at, is_track_end}
-use Rattle.port_graph.proofs.Membership.{In, in_at, in_left, in_right, in_map, in_flat, bound, pairs_across, pairs_left, pairs_right, pairs_at, pairs_apart, pairs_within}
+use Rattle.port_graph.proofs.Membership.{In, in_at, in_left, in_right, in_map, in_flat, bound, pairs_across, pairs_right, pairs_at, pairs_apart, pairs_within}
 
 -- ---- places
 
@@ -175,7 +175,7 @@ end_and_inner track true i x a b pairs at_i h h' =
 
 inners_differ : (track : Track) → AllPairs Differ (parts track) → AllPairs Differ (flat_map inner_elements track.inner)
 inners_differ track pairs =
-    pairs_left Differ (flat_map inner_elements track.inner) (end_elements track.end)
+    pairs_front Differ (flat_map inner_elements track.inner) (end_elements track.end)
     (pairs_right Differ (end_elements track.begin) (flat_map inner_elements track.inner ++ end_elements track.end) pairs)
 
 -- the connections of one switch or crossing

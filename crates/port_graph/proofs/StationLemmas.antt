@@ -3,7 +3,7 @@ use Rattle.std.proofs.Common.{◌≡◌, ◌≢◌, ℕ, ◌<◌, inl, inr, List
 use Rattle.std.specs.Prelude.{slice_get, All, AllPairs, Contains}
 use Rattle.std.specs.List.{flat_map}
 use Rattle.std.proofs.lemmas.Option.{slice_get_within, get_or_from_slice_get, slice_get-get_or}
-use Rattle.std.proofs.lemmas.List.{length-map, get_or-map, get_or_default}
+use Rattle.std.proofs.lemmas.List.{length-map, get_or_default}
 use Rattle.std.proofs.lemmas.Bool.{cases_order}
 use Rattle.std.proofs.lemmas.List.Elements.{All-nil, All-cons, All-head, All-append, All-map, All-contains}
 use Rattle.std.proofs.lemmas.List.Sorted.{length_permutation}
@@ -11,7 +11,7 @@ use Rattle.plan_core.specs.declared.topology.Topology.{Topology}
 use Rattle.plan_core.specs.declared.topology.Track.{Track}
 use Rattle.plan_core.specs.Topology.{Element, elements, track_element, end_elements, inner_elements, track_elements, track_miles, IsId, IsMileage, IsResolved}
 use Rattle.plan_core.specs.Graph.{Graph, Node, Edge, IsTrackGraph}
-use Rattle.plan_core.proofs.ListFacts.{get_within, all_front, all_back}
+use Rattle.plan_core.proofs.ListFacts.{get_within, all_front, all_back, all_mapped}
 use Rattle.port_graph.specs.declared.runs.Spot.{Spot}
 use Rattle.port_graph.specs.declared.runs.Run.{Run}
 use Rattle.port_graph.specs.declared.runs.Join.{Join}
@@ -24,11 +24,6 @@ use Rattle.port_graph.specs.Ordered.{AreRunsOf, nodes_among}
 use Rattle.port_graph.proofs.Sublists.{sublist-All, sublist-AllPairs, pairs_of_map}
 use Rattle.port_graph.proofs.FromFile.{site_element, site_mile, join_element, sites_from_file, miles_from_file, joins_from_file}
 use Rattle.port_graph.proofs.GraphLemmas.{AreInOrder, Becomes, node_of_site, nodes_count, site_number, site_there}
-
--- what holds of an image holds of what it is the image of
-all_of_image : {A B : Type 0} (P : B → Type 0) (f : A → B) (xs : List A) → All P (map f xs) → All (λ x. P (f x)) xs
-all_of_image P f xs all i d within =
-    subst P (get_or-map f xs i d (f d) within) (all i (f d) (let e = length-map xs f in omega (arith, e)))
 
 -- Names of tracks.
 
@@ -46,7 +41,7 @@ pieces_named t (track ∷ tracks) all =
 
 joins_named : (t : Topology) → IsResolved t → All (λ (j : Join). IsId j.run.track) (joins t)
 joins_named t resolved =
-    all_of_image (λ (e : Element). IsId e.id) join_element (joins t) (sublist-All (λ (e : Element). IsId e.id) (map join_element (joins t)) (elements t) (joins_from_file t) resolved.ids)
+    all_mapped (λ (e : Element). IsId e.id) join_element (joins t) (sublist-All (λ (e : Element). IsId e.id) (map join_element (joins t)) (elements t) (joins_from_file t) resolved.ids)
 
 run_named : (t : Topology) → IsResolved t → (e : ℕ) (r : Run) → IsRun t e r → IsId r.track
 run_named t resolved e r (inl piece) =
@@ -73,11 +68,11 @@ all_nodes P edges ss nodes all each i d within =
 
 site_ids : (t : Topology) → IsResolved t → All (λ (s : Site). IsId s.id) (sites t)
 site_ids t resolved =
-    all_of_image (λ (e : Element). IsId e.id) site_element (sites t) (sublist-All (λ (e : Element). IsId e.id) (map site_element (sites t)) (elements t) (sites_from_file t) resolved.ids)
+    all_mapped (λ (e : Element). IsId e.id) site_element (sites t) (sublist-All (λ (e : Element). IsId e.id) (map site_element (sites t)) (elements t) (sites_from_file t) resolved.ids)
 
 site_miles : (t : Topology) → IsResolved t → All (λ (s : Site). IsMileage s.spot.mile.0) (sites t)
 site_miles t resolved =
-    all_of_image IsMileage site_mile (sites t) (sublist-All IsMileage (map site_mile (sites t)) (flat_map track_miles t.tracks) (miles_from_file t) resolved.miles)
+    all_mapped IsMileage site_mile (sites t) (sublist-All IsMileage (map site_mile (sites t)) (flat_map track_miles t.tracks) (miles_from_file t) resolved.miles)
 
 names_differ_apart : (t : Topology) → IsResolved t → AllPairs (λ (r s : Site). r.id ≢ s.id) (sites t)
 names_differ_apart t resolved =

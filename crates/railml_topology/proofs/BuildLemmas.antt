@@ -31,7 +31,7 @@ some_text : (o : Option (List ℕ)) → is_some o ≡ true → (t : List ℕ) ×
 some_text None e = absurd cc
 some_text (Some t) e = (t, refl)
 
-no_text : (o : Option (List ℕ)) → is_some o ≡ false → o ≡ None
+pub no_text : (o : Option (List ℕ)) → is_some o ≡ false → o ≡ None
 no_text None e = refl
 no_text (Some t) e = absurd cc
 

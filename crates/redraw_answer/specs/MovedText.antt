@@ -7,7 +7,7 @@ use Rattle.plan_core.specs.Grid.{GridSize}
 use Rattle.plan_core.specs.Graph.{Graph}
 use Rattle.plan_core.specs.Drawing.{Drawing}
 use Rattle.line_text.specs.Fields.{line_text}
-use Rattle.plan_text.specs.declared.edition.Edition.TheVariants.{Second}
+use Rattle.plan_writing.specs.declared.edition.Edition.TheVariants.{Second}
 use Rattle.plan_text.specs.SheetLine.{GridLine, text_of_line}
 use Rattle.plan_text.specs.SheetText.{drawing_lines}
 use Rattle.moved_count.specs.Moved.{Former, matched}

@@ -11,7 +11,7 @@ use Rattle.drawing_problem.specs.Layout.{layout}
 use Rattle.moved_count.specs.Moved.{Former}
 use Rattle.fewest_search.specs.declared.outcome.Fewest.{Fewest}
 use Rattle.fewest_search.specs.declared.outcome.Fewest.TheVariants.{Best, NoDrawing, Spent, Room}
-use Rattle.fewest_search.specs.Counted.{Counted}
+use Rattle.fewest_search.specs.CountTask.{CountTask}
 use Rattle.fewest_search.specs.Fewest.{IsRightFewest}
 use Rattle.moved_search.specs.Known.{moved_task}
 use Rattle.moved_search.specs.Told.{IsMovedEnd}
@@ -31,7 +31,7 @@ redraw_job grid budget log = record { grid = grid; budget = budget; log = log }
 
 -- what is searched: the lawful drawings of the station on that grid and how many of their nodes moved, within that
 -- budget and ROOM words
-abbrev pub moved_in : Graph → EdgeOrder → RedrawJob → Former → Counted
+abbrev pub moved_in : Graph → EdgeOrder → RedrawJob → Former → CountTask
 moved_in g o asked former = moved_task (layout g o asked.grid) former asked.budget ROOM
 
 abbrev pub status_of_moved : Fewest → Status

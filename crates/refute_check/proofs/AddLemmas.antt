@@ -14,7 +14,9 @@ use Rattle.cnf_core.proofs.ClauseLemmas.{there_more}
 use Rattle.cnf_core.proofs.TrailLemmas.{word_once, has_last, has_front, same_literal_or, push_keeps, front_lacks, front_includes}
 use Rattle.refute_check.specs.declared.tables.Tables.{Tables}
 use Rattle.cnf_core.specs.Trail.{marked, weight, IsTrail, Grows}
-use Rattle.refute_check.specs.Tables.{false_count, IsCountedTo, AreCounts, AreQuiet, IsQuiet, IsUnsetUnit, Lists, AreOccurrences, places_from}
+use Rattle.refute_check.specs.Tables.{false_count, IsCountedTo, AreCounts, AreQuiet, IsQuiet, IsUnsetUnit, Lists, AreOccurrences}
+use Rattle.refute_check.specs.declared.places.Rest.{Rest}
+use Rattle.refute_check.specs.Entries.{Entries, entries, no_entries, is_short, rest_of, shorts_in, shorts_from, is_counted, places_from, with_entry}
 use Rattle.refute_check.specs.Settled.{AreSettled, IsListed}
 use Rattle.refute_check.proofs.ScanLemmas.{IsFalse}
 use Rattle.cnf_core.proofs.GrowthLemmas.{grows_more, grows_unit, grows_reason}
@@ -27,25 +29,25 @@ false_step truth c i l b within at e =
     let here : weight (marked truth (negate (get_or c i l))) ≡ weight b = ap (λ (k : Literal). weight (marked truth (negate k))) (sym at) ∙ ap weight (sym e) in
     omega (arith, more, here)
 
--- a number is put into the lists of a clause's literals
-pub lists_none : (number : ℕ) (old : List (List ℕ)) → Lists [] number old old
-lists_none number old = record { size = refl; each = λ l within. sym (append-nil (get_or old (word_of l) [])) }
+-- a clause is put into the lists of its literals
+pub lists_none : (number : ℕ) (clause : List Literal) (old : List Entries) → Lists [] number clause old old
+lists_none number clause old = record { size = refl; each = λ l within. refl }
 
-pub lists_more : (lits : List Literal) (i : ℕ) (l : Literal) (number word : ℕ) (old mid : List (List ℕ)) (place now : List ℕ) → AreDistinct lits → i < length lits → l ≡ get_or lits i l → word ≡ word_of l → word_of l < length old → Lists (take i lits) number old mid → place ≡ get_or mid word place → now ≡ place ++ number ∷ [] → Lists (take (i + 1) lits) number old (set mid word now)
-lists_more lits i l number word old mid place now distinct within at w low s read push = record {
+pub lists_more : (lits : List Literal) (i : ℕ) (l : Literal) (number word : ℕ) (clause : List Literal) (old mid : List Entries) (place now : Entries) → AreDistinct lits → i < length lits → l ≡ get_or lits i l → word ≡ word_of l → word_of l < length old → Lists (take i lits) number clause old mid → place ≡ get_or mid word place → now ≡ with_entry number clause l place → Lists (take (i + 1) lits) number clause old (set mid word now)
+lists_more lits i l number word clause old mid place now distinct within at w low s read push = record {
   size = length-set mid word now ∙ s.size;
   each = λ m there. elim (same_literal_or m l) [
     | inl e ↦
         let same : word_of m ≡ word = ap word_of e ∙ sym w in
-        let now_at : get_or (set mid word now) (word_of m) [] ≡ now = get_or-set_at mid word (word_of m) now [] same (omega (arith, w, low, s.size)) in
-        let was : place ≡ get_or old (word_of l) [] =
-        read ∙ get_or_default mid word place [] (omega (arith, w, low, s.size)) ∙ ap (λ n. get_or mid n []) w ∙ s.each l low ∙ ap (λ b. get_or old (word_of l) [] ++ cond b (number ∷ []) []) lacks ∙ append-nil (get_or old (word_of l) []) in
+        let now_at : get_or (set mid word now) (word_of m) no_entries ≡ now = get_or-set_at mid word (word_of m) now no_entries same (omega (arith, w, low, s.size)) in
+        let was : place ≡ get_or old (word_of l) no_entries =
+        read ∙ get_or_default mid word place no_entries (omega (arith, w, low, s.size)) ∙ ap (λ n. get_or mid n no_entries) w ∙ s.each l low ∙ ap (λ b. cond b (with_entry number clause l (get_or old (word_of l) no_entries)) (get_or old (word_of l) no_entries)) lacks in
         let has_m : has (take (i + 1) lits) m ≡ true = ap (λ (ls : List Literal). has ls m) next ∙ ap (has (take i lits ++ l ∷ [])) e ∙ has_last (take i lits) l in
-        now_at ∙ push ∙ ap (λ (ns : List ℕ). ns ++ number ∷ []) (was ∙ ap (λ n. get_or old n []) (sym (ap word_of e))) ∙ ap (λ b. get_or old (word_of m) [] ++ cond b (number ∷ []) []) (sym has_m)
+        now_at ∙ push ∙ ap (with_entry number clause l) was ∙ ap (λ (k : Literal). with_entry number clause k (get_or old (word_of k) no_entries)) (sym e) ∙ ap (λ b. cond b (with_entry number clause m (get_or old (word_of m) no_entries)) (get_or old (word_of m) no_entries)) (sym has_m)
     | inr ne ↦
         let other : word_of m ≢ word = λ e. ne (word_once m l (e ∙ w)) in
         let has_m : has (take (i + 1) lits) m ≡ has (take i lits) m = ap (λ (ls : List Literal). has ls m) next ∙ has_front (take i lits) l m ne in
-        get_or-set_other mid word (word_of m) now [] other ∙ s.each m there ∙ ap (λ b. get_or old (word_of m) [] ++ cond b (number ∷ []) []) (sym has_m)
+        get_or-set_other mid word (word_of m) now no_entries other ∙ s.each m there ∙ ap (λ b. cond b (with_entry number clause m (get_or old (word_of m) no_entries)) (get_or old (word_of m) no_entries)) (sym has_m)
   ];
 }
   where
@@ -55,31 +57,46 @@ lists_more lits i l number word old mid place now distinct within at w low s rea
     next : take (i + 1) lits ≡ take i lits ++ l ∷ []
     next = take_more lits i l within ∙ ap (λ (k : Literal). take i lits ++ k ∷ []) (sym at)
 
-pub lists_all : (lits : List Literal) (i number : ℕ) (old new : List (List ℕ)) → length lits ≤ i → Lists (take i lits) number old new → Lists lits number old new
-lists_all lits i number old new end s = subst (λ (ls : List Literal). Lists ls number old new) (take_all i lits end) s
+pub lists_all : (lits : List Literal) (i number : ℕ) (clause : List Literal) (old new : List Entries) → length lits ≤ i → Lists (take i lits) number clause old new → Lists lits number clause old new
+lists_all lits i number clause old new end s = subst (λ (ls : List Literal). Lists ls number clause old new) (take_all i lits end) s
 
 -- one more clause
-places_push : (cs : Clauses) (c : List Literal) (l : Literal) (s n : ℕ) → n ≡ s + length cs → places_from s (cs ++ c ∷ []) l ≡ places_from s cs l ++ cond (has c l) (n ∷ []) []
-places_push [] c l s n e = ap (λ k. cond (has c l) (k ∷ []) []) (let same : s ≡ n = omega arith in same)
-places_push (d ∷ ds) c l s n e = by_test (has d l) (places_push ds c l (s + 1) n (omega arith))
+places_push : (cs : Clauses) (c : List Literal) (l : Literal) (s n : ℕ) → n ≡ s + length cs → places_from s (cs ++ c ∷ []) l ≡ places_from s cs l ++ cond (is_counted c l) (n ∷ []) []
+places_push [] c l s n e = ap (λ k. cond (is_counted c l) (k ∷ []) []) (let same : s ≡ n = omega arith in same)
+places_push (d ∷ ds) c l s n e = by_test (is_counted d l) (places_push ds c l (s + 1) n (omega arith))
   where
-    by_test : (b : Bool) → places_from (s + 1) (ds ++ c ∷ []) l ≡ places_from (s + 1) ds l ++ cond (has c l) (n ∷ []) [] → cond b (s ∷ places_from (s + 1) (ds ++ c ∷ []) l) (places_from (s + 1) (ds ++ c ∷ []) l) ≡ cond b (s ∷ places_from (s + 1) ds l) (places_from (s + 1) ds l) ++ cond (has c l) (n ∷ []) []
+    by_test : (b : Bool) → places_from (s + 1) (ds ++ c ∷ []) l ≡ places_from (s + 1) ds l ++ cond (is_counted c l) (n ∷ []) [] → cond b (s ∷ places_from (s + 1) (ds ++ c ∷ []) l) (places_from (s + 1) (ds ++ c ∷ []) l) ≡ cond b (s ∷ places_from (s + 1) ds l) (places_from (s + 1) ds l) ++ cond (is_counted c l) (n ∷ []) []
     by_test true h = ap (λ (ns : List ℕ). s ∷ ns) h
     by_test false h = h
 
-occurrences_push : (vars : ℕ) (clauses : Clauses) (c : List Literal) (old new : List (List ℕ)) → AreOccurrences vars clauses old → Lists c (length clauses) old new → AreOccurrences vars (clauses ++ c ∷ []) new
+shorts_push : (cs : Clauses) (c : List Literal) (l : Literal) → shorts_from (cs ++ c ∷ []) l ≡ shorts_from cs l ++ shorts_in c l
+shorts_push [] c l = append-nil (shorts_in c l)
+shorts_push (d ∷ ds) c l = ap (λ (rs : List Rest). shorts_in d l ++ rs) (shorts_push ds c l) ∙ sym (append_assoc (shorts_in d l) (shorts_from ds l) (shorts_in c l))
+
+-- what a list gains, by whether the clause has the literal and is short
+gained : (shorts : List Rest) (longer : List ℕ) (rest : Rest) (n : ℕ) (h s : Bool) → cond h (cond s (entries (shorts ++ rest ∷ []) longer) (entries shorts (longer ++ n ∷ []))) (entries shorts longer) ≡ entries (shorts ++ cond h (cond s (rest ∷ []) []) []) (longer ++ cond (cond s false h) (n ∷ []) [])
+gained shorts longer rest n true true = ap (entries (shorts ++ rest ∷ [])) (sym (append-nil longer))
+gained shorts longer rest n true false = ap (λ (rs : List Rest). entries rs (longer ++ n ∷ [])) (sym (append-nil shorts))
+gained shorts longer rest n false true = ap (λ (rs : List Rest). entries rs longer) (sym (append-nil shorts)) ∙ ap (entries (shorts ++ [])) (sym (append-nil longer))
+gained shorts longer rest n false false = ap (λ (rs : List Rest). entries rs longer) (sym (append-nil shorts)) ∙ ap (entries (shorts ++ [])) (sym (append-nil longer))
+
+occurrences_push : (vars : ℕ) (clauses : Clauses) (c : List Literal) (old new : List Entries) → AreOccurrences vars clauses old → Lists c (length clauses) c old new → AreOccurrences vars (clauses ++ c ∷ []) new
 occurrences_push vars clauses c old new o s = record {
   size = s.size ∙ o.size;
   each = λ l within.
       let low : word_of l < length old = omega (arith, within, s.size) in
-      s.each l low ∙ ap (λ (ns : List ℕ). ns ++ cond (has c l) (length clauses ∷ []) []) (o.each l low) ∙ sym (places_push clauses c l 0 (length clauses) (omega arith));
+      s.each l low ∙ ap (λ (e : Entries). cond (has c l) (with_entry (length clauses) c l e) e) (o.each l low) ∙ gained (shorts_from clauses l) (places_from 0 clauses l) (rest_of c l) (length clauses) (has c l) (is_short c)
+      ∙ ap (λ (rs : List Rest). entries rs (places_from 0 clauses l ++ cond (is_counted c l) (length clauses ∷ []) [])) (sym (shorts_push clauses c l))
+      ∙ ap (entries (shorts_from (clauses ++ c ∷ []) l)) (sym (places_push clauses c l 0 (length clauses) (omega arith)));
 }
 
 counts_push : (clauses : Clauses) (c : List Literal) (set : LiteralSet) (counts : List ℕ) (n : ℕ) → AreCounts clauses set counts → n + false_count set c ≡ length c → AreCounts (clauses ++ c ∷ []) set (counts ++ n ∷ [])
 counts_push clauses c set counts n right e = record {
   size = omega (arith, length-append clauses (c ∷ []), length-append counts (n ∷ []), right.size);
-  each = λ k within. elim (last_or_before k within) [
-    | inl low ↦ is_count (get_or_append_left clauses (c ∷ []) [] k low) (get_or_append_left counts (n ∷ []) 0 k (omega (arith, low, right.size))) (right.each k low)
+  each = λ k within long. elim (last_or_before k within) [
+    | inl low ↦
+        let same = get_or_append_left clauses (c ∷ []) [] k low in
+        is_count same (get_or_append_left counts (n ∷ []) 0 k (omega (arith, low, right.size))) (right.each k low (sym (ap is_short same) ∙ long))
     | inr last ↦ is_count (get_or_push clauses c [] k (sym last)) (get_or_push counts n 0 k (omega (arith, last, right.size))) e
   ];
 }
@@ -98,7 +115,7 @@ same_count vars truth trail (k ∷ c) t =
     let e : weight (marked truth (negate k)) ≡ weight (has trail (negate k)) = ap weight (t.marks (negate k)) in
     omega (arith, a, b, e, same_count vars truth trail c t)
 
-pub listed : (vars : ℕ) (clauses : Clauses) (c : List Literal) (n : ℕ) (old new : Tables) → AreSettled vars clauses old → Lists c (length clauses) old.occurrences.items new.occurrences.items → n + false_count (marked old.truth.items) c ≡ length c → new.counts.items ≡ old.counts.items ++ n ∷ [] → new.truth.items ≡ old.truth.items → new.trail.items ≡ old.trail.items → IsListed vars (clauses ++ c ∷ []) c new
+pub listed : (vars : ℕ) (clauses : Clauses) (c : List Literal) (n : ℕ) (old new : Tables) → AreSettled vars clauses old → Lists c (length clauses) c old.occurrences.items new.occurrences.items → n + false_count (marked old.truth.items) c ≡ length c → new.counts.items ≡ old.counts.items ++ n ∷ [] → new.truth.items ≡ old.truth.items → new.trail.items ≡ old.trail.items → IsListed vars (clauses ++ c ∷ []) c new
 listed vars clauses c n old new s lists count counts truth trail = record {
   among = Contains-push clauses c;
   occurrences = occurrences_push vars clauses c old.occurrences.items new.occurrences.items s.occurrences lists;
@@ -176,16 +193,28 @@ grown_falsified clauses old new within g f = record {
 }
 
 -- one more variable
+high_lacks : (vars : ℕ) (l : Literal) (c : List Literal) → vars < l.var → AreThere vars c → has c l ≡ false
+high_lacks vars l [] high h = refl
+high_lacks vars l (k ∷ c) high h = elim (eqb_tells k.var l.var) [
+  | inl e ↦ absurd (let low = h.0.1 in omega (arith, low, high, e.1))
+  | inr e ↦ rw e.0 (high_lacks vars l c high h.1)
+]
+
+never : (b h : Bool) → h ≡ false → cond b false h ≡ false
+never true h e = refl
+never false h e = e
+
 places_none : (clauses : Clauses) (l : Literal) (vars s : ℕ) → AllThere vars clauses → vars < l.var → places_from s clauses l ≡ []
 places_none [] l vars s there high = refl
-places_none (c ∷ cs) l vars s there high = ap (λ b. cond b (s ∷ places_from (s + 1) cs l) (places_from (s + 1) cs l)) (none c there.0) ∙ places_none cs l vars (s + 1) there.1 high
-  where
-    none : (c : List Literal) → AreThere vars c → has c l ≡ false
-    none [] h = refl
-    none (k ∷ c) h = elim (eqb_tells k.var l.var) [
-      | inl e ↦ absurd (let low = h.0.1 in omega (arith, low, high, e.1))
-      | inr e ↦ rw e.0 (none c h.1)
-    ]
+places_none (c ∷ cs) l vars s there high =
+    ap (λ b. cond b (s ∷ places_from (s + 1) cs l) (places_from (s + 1) cs l)) (never (is_short c) (has c l) (high_lacks vars l c high there.0)) ∙ places_none cs l vars (s + 1) there.1 high
+
+shorts_none : (clauses : Clauses) (l : Literal) (vars : ℕ) → AllThere vars clauses → vars < l.var → shorts_from clauses l ≡ []
+shorts_none [] l vars there high = refl
+shorts_none (c ∷ cs) l vars there high = ap (λ b. cond b (cond (is_short c) (rest_of c l ∷ []) []) [] ++ shorts_from cs l) (high_lacks vars l c high there.0) ∙ shorts_none cs l vars there.1 high
+
+entries_none : (clauses : Clauses) (l : Literal) (vars : ℕ) → AllThere vars clauses → vars < l.var → entries (shorts_from clauses l) (places_from 0 clauses l) ≡ no_entries
+entries_none clauses l vars there high = ap (λ (rs : List Rest). entries rs (places_from 0 clauses l)) (shorts_none clauses l vars there high) ∙ ap (entries []) (places_none clauses l vars 0 there high)
 
 high_var : (vars : ℕ) (l : Literal) → 2 * vars + 2 ≤ word_of l → vars < l.var
 high_var vars l h = high l.positive h
@@ -201,17 +230,17 @@ two_past [] (suc (suc i)) = refl
 two_past (x ∷ xs) zero = refl
 two_past (x ∷ xs) (suc i) = two_past xs i
 
-two_empty : (xs : List (List ℕ)) (i : ℕ) → get_or (xs ++ [] ∷ [] ∷ []) i [] ≡ get_or xs i []
+two_empty : (xs : List Entries) (i : ℕ) → get_or (xs ++ no_entries ∷ no_entries ∷ []) i no_entries ≡ get_or xs i no_entries
 two_empty [] zero = refl
 two_empty [] (suc zero) = refl
 two_empty [] (suc (suc i)) = refl
 two_empty (x ∷ xs) zero = refl
 two_empty (x ∷ xs) (suc i) = two_empty xs i
 
-pub var_added : (vars : ℕ) (clauses : Clauses) (old new : Tables) → AllThere vars clauses → AreSettled vars clauses old → new.occurrences.items ≡ old.occurrences.items ++ [] ∷ [] ∷ [] → new.truth.items ≡ old.truth.items ++ false ∷ false ∷ [] → new.trail.items ≡ old.trail.items → new.counts.items ≡ old.counts.items → AreSettled (vars + 1) clauses new
+pub var_added : (vars : ℕ) (clauses : Clauses) (old new : Tables) → AllThere vars clauses → AreSettled vars clauses old → new.occurrences.items ≡ old.occurrences.items ++ no_entries ∷ no_entries ∷ [] → new.truth.items ≡ old.truth.items ++ false ∷ false ∷ [] → new.trail.items ≡ old.trail.items → new.counts.items ≡ old.counts.items → AreSettled (vars + 1) clauses new
 var_added vars clauses old new there s occurrences truth trail counts = record {
   occurrences = rw occurrences (record {
-    size = let o = s.occurrences in omega (arith, length-append old.occurrences.items ([] ∷ [] ∷ []), o.size);
+    size = let o = s.occurrences in omega (arith, length-append old.occurrences.items (no_entries ∷ no_entries ∷ []), o.size);
     each = λ l within. two_empty old.occurrences.items (word_of l) ∙ by_place l (low_or_high (word_of l) (length old.occurrences.items));
   });
   counted = rw (truth, trail, counts) (record {
@@ -236,10 +265,10 @@ var_added vars clauses old new there s occurrences truth trail counts = record {
     low_or_high : (i n : ℕ) → (i < n) ⊎ (n ≤ i)
     low_or_high i n = grind arith
 
-    by_place : (l : Literal) → (word_of l < length old.occurrences.items) ⊎ (length old.occurrences.items ≤ word_of l) → get_or old.occurrences.items (word_of l) [] ≡ places_from 0 clauses l
+    by_place : (l : Literal) → (word_of l < length old.occurrences.items) ⊎ (length old.occurrences.items ≤ word_of l) → get_or old.occurrences.items (word_of l) no_entries ≡ entries (shorts_from clauses l) (places_from 0 clauses l)
     by_place l (inl low) = let o = s.occurrences in o.each l low
     by_place l (inr high) = let o = s.occurrences in
-        get_or_past old.occurrences.items (word_of l) [] high ∙ sym (places_none clauses l vars 0 there (high_var vars l (omega (arith, high, o.size))))
+        get_or_past old.occurrences.items (word_of l) no_entries high ∙ sym (entries_none clauses l vars there (high_var vars l (omega (arith, high, o.size))))
 
 pub settled_unit : (vars : ℕ) (clauses : Clauses) (c : List Literal) (l : Literal) (old new : Tables) (front : ℕ) → IsListed vars clauses c old → IsUnsetUnit (has old.trail.items) c l → new.occurrences.items ≡ old.occurrences.items → IsCountedTo vars clauses new.truth.items new.trail.items new.counts.items front → Grows clauses (old.trail.items ++ l ∷ []) new.trail.items → front ≡ length new.trail.items → AreQuiet clauses new.trail.items (length new.trail.items) → AreSettled vars clauses new
 settled_unit vars clauses c l old new front s u same counted g all quiet =

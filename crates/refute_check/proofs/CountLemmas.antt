@@ -61,3 +61,7 @@ counted_less ns old now i within there some up = λ m. elim (eqb_tells (get_or n
 -- while counting down, there is something to take
 pub some_left : (ns old now : List ℕ) (i : ℕ) → i < length ns → times ns (get_or ns i 0) ≤ get_or old (get_or ns i 0) 0 → CountedUp (take i ns) now old → 1 ≤ get_or now (get_or ns i 0) 0
 some_left ns old now i within enough up = omega (arith, times_at ns i within, up (get_or ns i 0))
+
+-- what is left then is at least one less than what was there
+pub one_less : (ns old now : List ℕ) (i : ℕ) → CountedUp (take i ns) now old → get_or now (get_or ns i 0) 0 - 1 ≤ get_or old (get_or ns i 0) 0 - 1
+one_less ns old now i up = omega (arith, up (get_or ns i 0))

@@ -1,5 +1,5 @@
 -- What follows of literals that are marked one after another, and which clauses are quiet.
-use Rattle.std.proofs.Common.{◌≡◌, ◌≢◌, ℕ, ◌+◌, ◌<◌, ◌≤◌, ◌⊎◌, Bool, cond, List, [], ◌∷◌, ◌++◌, length, take, get_or, set, sym, ◌∙◌, ap, subst, inl, inr, arith}
+use Rattle.std.proofs.Common.{◌≡◌, ◌≢◌, ℕ, ◌+◌, ◌-◌, ◌<◌, ◌≤◌, ◌⊎◌, Bool, true, false, cond, List, [], ◌∷◌, ◌++◌, length, take, get_or, set, refl, sym, ◌∙◌, ap, subst, inl, inr, arith}
 use Rattle.std.specs.Prelude.{All, Contains}
 use Rattle.std.proofs.lemmas.Bool.{both_ways}
 use Rattle.std.proofs.lemmas.List.Elements.{All-contains, All-weaker, All-head, All-tail, All-more, All-nil, All-cons}
@@ -11,7 +11,8 @@ use Rattle.cnf_core.proofs.PropagationLemmas.{unit_more}
 use Rattle.cnf_core.proofs.GrowthLemmas.{grows_none, grows_more}
 use Rattle.cnf_core.proofs.TrailLemmas.{has_last, distinct_consistent}
 use Rattle.cnf_core.specs.Trail.{marked, IsTrail, Grows}
-use Rattle.refute_check.specs.Tables.{false_count, IsQuiet, IsUnsetUnit, IsQuietNow, AreQuietNow}
+use Rattle.cnf_core.specs.Times.{times}
+use Rattle.refute_check.specs.Tables.{CountedUp, false_count, IsQuiet, IsUnsetUnit, IsQuietNow, AreQuietNow}
 use Rattle.refute_check.proofs.ScanLemmas.{IsFalse, IsLastOr}
 
 -- sets that agree
@@ -115,24 +116,45 @@ marked_now clause count trail l u = λ done within e. quiet_marked trail clause 
 pub still_now : (clause : List Literal) (count : ℕ) (first old new last : List Literal) → Includes (has old) (has first) → Includes (has last) (has new) → IsQuietNow clause count old new → IsQuietNow clause count first last
 still_now clause count first old new last before after q = λ done within e. quiet_more done (has new) (has last) clause after (q done (λ l h. before l (within l h)) e)
 
--- how far a list of clauses was looked at
-pub record Looked (vars : ℕ) (clauses : Clauses) (numbers counts : List ℕ) (old : List Literal) (truth : List Bool) (new : List Literal) : Type 0 where
+pub less_now : (clause : List Literal) (count most : ℕ) (old new : List Literal) → count ≤ most → IsQuietNow clause count old new → IsQuietNow clause most old new
+less_now clause count most old new le q = λ done within e. q done within (omega arith)
+
+-- how far a list of clauses was counted, and looked at until all literals of one were false
+pub record Passed (vars : ℕ) (clauses : Clauses) (numbers before : List ℕ) (old : List Literal) (counts : List ℕ) (truth : List Bool) (new : List Literal) (found : Bool) : Type 0 where
+  pub counted : CountedUp numbers counts before
   pub table : IsTrail vars truth new
   pub grows : Grows clauses old new
-  pub quiet : AreQuietNow clauses numbers counts old new
+  pub falsified : found ≡ true → Falsified clauses (has new)
+  pub quiet : found ≡ false → AreQuietNow clauses numbers before old new
 
-pub looked_none : (vars : ℕ) (clauses : Clauses) (counts : List ℕ) (truth : List Bool) (trail : List Literal) → IsTrail vars truth trail → Looked vars clauses [] counts trail truth trail
-looked_none vars clauses counts truth trail t = record {
+pub passed_none : (vars : ℕ) (clauses : Clauses) (counts : List ℕ) (truth : List Bool) (trail : List Literal) → IsTrail vars truth trail → Passed vars clauses [] counts trail counts truth trail false
+passed_none vars clauses counts truth trail t = record {
+  counted = λ n. let none : times [] n ≡ 0 = refl in omega (arith, none);
   table = t;
   grows = grows_none clauses trail;
-  quiet = All-nil (λ n. IsQuietNow (get_or clauses n []) (get_or counts n 0) trail trail);
+  falsified = λ h. absurd (both_ways false refl h);
+  quiet = λ _. All-nil (λ n. IsQuietNow (get_or clauses n []) (get_or counts n 0 - 1) trail trail);
 }
 
-pub looked_one : (vars : ℕ) (clauses : Clauses) (numbers counts : List ℕ) (old : List Literal) (truth then : List Bool) (mid new : List Literal) (i : ℕ) → i < length numbers → Looked vars clauses (take i numbers) counts old truth mid → IsTrail vars then new → Grows clauses mid new → IsQuietNow (get_or clauses (get_or numbers i 0) []) (get_or counts (get_or numbers i 0) 0) mid new → Looked vars clauses (take (i + 1) numbers) counts old then new
-looked_one vars clauses numbers counts old truth then mid new i within s t g q = record {
+-- one is false already
+pub passed_on : (vars : ℕ) (clauses : Clauses) (numbers before : List ℕ) (old : List Literal) (counts now : List ℕ) (truth : List Bool) (new : List Literal) (found : Bool) (i : ℕ) → Passed vars clauses (take i numbers) before old counts truth new found → found ≡ true → CountedUp (take (i + 1) numbers) now before → Passed vars clauses (take (i + 1) numbers) before old now truth new found
+passed_on vars clauses numbers before old counts now truth new found i s h up = record {
+  counted = up;
+  table = s.table;
+  grows = s.grows;
+  falsified = s.falsified;
+  quiet = λ no. absurd (both_ways found no h);
+}
+
+-- one more is looked at
+pub passed_look : (vars : ℕ) (clauses : Clauses) (numbers before : List ℕ) (old : List Literal) (counts now : List ℕ) (truth then : List Bool) (mid new : List Literal) (was found : Bool) (i count : ℕ) → i < length numbers → Passed vars clauses (take i numbers) before old counts truth mid was → was ≡ false → CountedUp (take (i + 1) numbers) now before → count ≤ get_or before (get_or numbers i 0) 0 - 1 → IsTrail vars then new → Grows clauses mid new → (found ≡ true → Falsified clauses (has new)) → (found ≡ false → IsQuietNow (get_or clauses (get_or numbers i 0) []) count mid new) → Passed vars clauses (take (i + 1) numbers) before old now then new found
+passed_look vars clauses numbers before old counts now truth then mid new was found i count within s open_yet up le t g falsified q = record {
+  counted = up;
   table = t;
   grows = grows_more clauses old mid new s.grows g;
-  quiet = All-more (λ n. IsQuietNow (get_or clauses n []) (get_or counts n 0) old new) numbers i 0 within
-      (All-weaker (λ n. IsQuietNow (get_or clauses n []) (get_or counts n 0) old mid) (λ n. IsQuietNow (get_or clauses n []) (get_or counts n 0) old new) (λ n h. still_now (get_or clauses n []) (get_or counts n 0) old old mid new (λ l m. m) g.keeps h) (take i numbers) s.quiet)
-      (still_now (get_or clauses (get_or numbers i 0) []) (get_or counts (get_or numbers i 0) 0) old mid new new (let k = s.grows in k.keeps) (λ l m. m) q);
+  falsified = falsified;
+  quiet = λ none. All-more (λ n. IsQuietNow (get_or clauses n []) (get_or before n 0 - 1) old new) numbers i 0 within
+      (All-weaker (λ n. IsQuietNow (get_or clauses n []) (get_or before n 0 - 1) old mid) (λ n. IsQuietNow (get_or clauses n []) (get_or before n 0 - 1) old new) (λ n h. still_now (get_or clauses n []) (get_or before n 0 - 1) old old mid new (λ l m. m) g.keeps h) (take i numbers) (s.quiet open_yet))
+      (less_now (get_or clauses (get_or numbers i 0) []) count (get_or before (get_or numbers i 0) 0 - 1) old new le
+      (still_now (get_or clauses (get_or numbers i 0) []) count old mid new new (let k = s.grows in k.keeps) (λ l m. m) (q none)));
 }

@@ -2,6 +2,7 @@ pub mod CountLemmas
 pub mod ScanLemmas
 pub mod GrowthLemmas
 pub mod FalseCountLemmas
+pub mod ShortLemmas
 pub mod AdvanceLemmas
 pub mod UndoLemmas
 pub mod AssumeLemmas

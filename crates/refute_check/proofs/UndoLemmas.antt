@@ -6,7 +6,8 @@ use Rattle.cnf_core.specs.Lit.{Literal, negate, word_of, has}
 use Rattle.cnf_core.specs.Clause.{Clauses, AreDistinct, AreThere, IsThere}
 use Rattle.cnf_core.proofs.TrailLemmas.{there_last, front_lacks}
 use Rattle.cnf_core.specs.Trail.{IsTrail}
-use Rattle.refute_check.specs.Tables.{places_from, AreCounts, AreOccurrences, IsCountedTo}
+use Rattle.refute_check.specs.Entries.{Entries, places_from}
+use Rattle.refute_check.specs.Tables.{AreCounts, AreOccurrences, IsCountedTo}
 use Rattle.refute_check.proofs.AdvanceLemmas.{places_read}
 
 pub record Dropped (vars : ℕ) (old : List Literal) (truth : List Bool) (new : List Literal) (front : ℕ) : Type 0 where
@@ -83,9 +84,9 @@ Ends old rest l = old ≡ rest ++ l ∷ []
 pub back_there : (vars : ℕ) (truth : List Bool) (old rest : List Literal) (l : Literal) → IsTrail vars truth old → Ends old rest l → IsThere vars l
 back_there vars truth old rest l t e = there_last vars rest l (subst (λ (ls : List Literal). AreThere vars ls) e t.there)
 
-pub back_places : (vars : ℕ) (clauses : Clauses) (lists : List (List ℕ)) (truth : List Bool) (old rest : List Literal) (l n : Literal) (word : ℕ) (list shown : List ℕ) → AreOccurrences vars clauses lists → IsTrail vars truth old → Ends old rest l → n ≡ negate l → word ≡ word_of n → list ≡ get_or lists word list → shown ≡ list → shown ≡ places_from 0 clauses (negate l)
+pub back_places : (vars : ℕ) (clauses : Clauses) (lists : List Entries) (truth : List Bool) (old rest : List Literal) (l n : Literal) (word : ℕ) (list : Entries) (shown : List ℕ) → AreOccurrences vars clauses lists → IsTrail vars truth old → Ends old rest l → n ≡ negate l → word ≡ word_of n → list ≡ get_or lists word list → shown ≡ list.longer → shown ≡ places_from 0 clauses (negate l)
 back_places vars clauses lists truth old rest l n word list shown o t e is w read s =
-    places_read vars clauses lists (negate l) word list shown o (back_there vars truth old rest l t e) (w ∙ ap word_of is) read s
+    s ∙ ap (λ (x : Entries). x.longer) (places_read vars clauses lists (negate l) word list o (back_there vars truth old rest l t e) (w ∙ ap word_of is) read)
 
 pub back_lacks : (vars : ℕ) (truth : List Bool) (old rest : List Literal) (l : Literal) → IsTrail vars truth old → Ends old rest l → has rest l ≡ false
 back_lacks vars truth old rest l t e = last_lacks rest l (subst (λ (ls : List Literal). AreDistinct ls) e t.distinct)

@@ -1,17 +1,11 @@
 -- Whether some Refuted line has only allowed literals.
 use Rattle.std.proofs.Common.{◌≡◌, ℕ, ◌<◌, List, length, get_or, sym, ◌∙◌, ap, subst}
-use Rattle.std.specs.Prelude.{Bool, All, Any, Contains, Option}
-use Rattle.std.proofs.lemmas.List.Elements.{All-contains, All-weaker, All-contains_itself}
+use Rattle.std.specs.Prelude.{Bool, All, Any, Option}
+use Rattle.std.proofs.lemmas.List.Elements.{All-contains}
 use Rattle.cnf_core.specs.Lit.{Literal}
 use Rattle.cnf_core.specs.Clause.{Clauses, HasAllOf}
 use Rattle.cnf_core.specs.Formula.{Cnf}
 use Rattle.refute_check.specs.Kept.{CheckedFacts, checked_facts, Refutes}
-
-pub includes_from : (allowed lits c : List Literal) → lits ≡ c → All (λ l. Contains allowed l) lits → HasAllOf allowed c
-includes_from allowed lits c e all = λ l m. All-contains (Contains allowed) c l (subst (λ (ls : List Literal). All (Contains allowed) ls) e all) m
-
-pub includes_to : (allowed lits c : List Literal) → lits ≡ c → HasAllOf allowed c → All (λ l. Contains allowed l) lits
-includes_to allowed lits c e h = subst (λ (ls : List Literal). All (Contains allowed) ls) (sym e) (All-weaker (Contains c) (Contains allowed) (λ l m. h l m) c (All-contains_itself c))
 
 refuted_is : (room : ℕ) (f : Cnf) (q : Option (List Literal)) (rs : Clauses) (lost : Bool) (items : Clauses) (kept : CheckedFacts) → items ≡ rs → checked_facts room f q rs lost ≡ kept → items ≡ kept.facts.refuted
 refuted_is room f q rs lost items kept e k = e ∙ ap (λ (m : CheckedFacts). m.facts.refuted) k

@@ -5,10 +5,11 @@ ghost use Rattle.cnf_core.specs.Lit.{has, negate};
 ghost use Rattle.cnf_core.specs.Clause.{IsThere, AreThere, AllThere, AreDistinct};
 ghost use Rattle.cnf_core.specs.Propagation.{Falsifies, Falsified, nothing};
 ghost use Rattle.cnf_core.specs.Trail.{IsTrail, marked, Grows};
+ghost use Rattle.refute_check.specs.Entries.{is_short, other_of, rest_of, with_entry};
 ghost use Rattle.refute_check.specs.Tables.{AreOccurrences, false_count, Lists, IsUnsetUnit, IsCountedTo, AreQuiet};
 ghost use Rattle.refute_check.specs.Settled.{AreSettled, IsListed};
 
-use crate::places::Places;
+use crate::places::{Places, Rest};
 use crate::propagation::propagate;
 use crate::scan::{Scan, scan_clause};
 use crate::tables::Tables;
@@ -42,7 +43,46 @@ fn count_open(lits: &[Lit], truth: &[bool], vars: u32) -> u32
     count
 }
 
-/// Puts the clause's number behind those of each of its literals.
+/// Whether there are two or three literals.
+fn is_short(lits: &[Lit]) -> bool
+    ensures { result ≡ is_short lits.now }
+{
+    lits.len() == 2 || lits.len() == 3
+}
+
+/// The one of two literals that isn't `l`, where `l` is one of them.
+fn other_of(a: Lit, b: Lit, l: Lit) -> Lit
+    ensures { result ≡ other_of a b l }
+{
+    if a == l { b } else { a }
+}
+
+/// The literals of a clause of two or three that stand beside `l`.
+fn rest_of(lits: &[Lit], l: Lit) -> Rest
+    requires { is_short lits.now ≡ true }
+    ensures { result ≡ rest_of lits.now l }
+{
+    let first = other_of(lits[0], lits[1], l);
+    let last = if lits.len() == 3 {
+        other_of(lits[2], lits[1], l)
+    } else {
+        first
+    };
+    Rest { first, last }
+}
+
+/// Puts the clause into the lists of one of its literals.
+fn list_at(places: &mut Places, lits: &[Lit], l: Lit, number: u32) -> Result<(), OutOfMemory>
+    ensures { OnOk result (places.new ≡ with_entry number lits.now l places.old) }
+{
+    if is_short(lits) {
+        places.push_short(rest_of(lits, l))
+    } else {
+        places.push_longer(number)
+    }
+}
+
+/// Puts the clause behind those that have its literals.
 fn list_clause(
     occurrences: &mut Vec<Places>,
     lits: &[Lit],
@@ -52,11 +92,11 @@ fn list_clause(
     requires table { length occurrences.old.items ≡ 2 * vars + 2 }
     requires there { AreThere vars lits.now }
     requires distinct { AreDistinct lits.now }
-    ensures { OnOk result (Lists lits.now number occurrences.old.items occurrences.new.items) }
+    ensures { OnOk result (Lists lits.now number lits.now occurrences.old.items occurrences.new.items) }
 {
     for l in lits {
         let places = &mut occurrences[l.word() as usize];
-        places.push(number)?;
+        list_at(places, lits, *l, number)?;
     }
     Ok(())
 }

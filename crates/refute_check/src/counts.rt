@@ -13,14 +13,3 @@ pub(crate) fn count_up(places: &[u32], counts: &mut [u32])
         counts[*n as usize] += 1;
     }
 }
-
-/// Takes one from the count of each clause that the list names, once for each time.
-pub(crate) fn count_down(places: &[u32], counts: &mut [u32])
-    requires there { All (λ n. n < length counts.old) places.now }
-    requires enough { All (λ n. times places.now n ≤ slice_index counts.old n) places.now }
-    ensures { CountedUp places.now counts.new counts.old }
-{
-    for n in places {
-        counts[*n as usize] -= 1;
-    }
-}

@@ -5,7 +5,7 @@
 //! after the accepted ones: they follow by unit propagation, and a learnt one is new. Which lines
 //! stand and which logs derive says `specs/Log` of `refute_log`, and `specs/Kept` what a checker keeps
 //! and why it refuses a line; both cite the closure of `cnf_core`. The other modules propagate by
-//! counting false literals over the lists of clauses that have a literal (`specs/Tables`,
+//! counting false literals over the lists of clauses that have a literal (`specs/Entries`, `specs/Tables`,
 //! `specs/Settled`, `specs/Standing`); they share definitions and laws with a solver, and no code. The
 //! command that checks a log file stands on this crate.
 #![tactic(auto)]

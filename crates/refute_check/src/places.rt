@@ -1,46 +1,74 @@
 // The clauses that have a literal.
 ghost use Rattle.std.specs.Prelude.{◌≡◌, [], ◌∷◌, ◌++◌, OnOk};
+ghost use Rattle.refute_check.specs.Entries.{entries, no_entries};
 
+use cnf_core::Lit;
 use plan_core::OutOfMemory;
 use std::alloc::Global;
 use std::marker::Model;
 
-/// The numbers of the clauses that have one literal, in rising order.
+/// The literals of a clause of two or three that stand beside one of it. Of a clause of two both are
+/// the same.
+#[derive(Clone, Copy)]
+pub(crate) struct Rest {
+    pub(crate) first: Lit,
+    pub(crate) last: Lit,
+}
+
+/// The clauses that have one literal, in the order in which they came: those of two and of three
+/// literals whole, of the longer ones the numbers.
 #[derive(Drop)]
 pub(crate) struct Places {
-    numbers: Vec<u32>,
+    shorts: Vec<Rest>,
+    longer: Vec<u32>,
 }
 
 impl Model for Places {
-    ghost use Rattle.std.specs.Prelude.{List, ℕ};
+    ghost use Rattle.refute_check.specs.Entries.{Entries, entries};
 
-    ghost Value = { List ℕ };
+    ghost Value = { Entries };
 
-    ghost view = { λ p. p.numbers.items };
+    ghost view = { λ p. entries p.shorts.items p.longer.items };
 }
 
 impl Places {
     /// No clause has the literal.
     pub(crate) fn new(alloc: Global) -> Places
-        ensures { result ≡ [] }
+        ensures { result ≡ no_entries }
     {
         Places {
-            numbers: Vec::new(alloc),
+            shorts: Vec::new(alloc),
+            longer: Vec::new(alloc),
         }
     }
 
-    /// One more clause has it.
-    pub(crate) fn push(&mut self, number: u32) -> Result<(), OutOfMemory>
-        ensures { OnOk result (self.new ≡ self.old ++ number ∷ []) }
+    /// One more clause of two or three literals has it.
+    pub(crate) fn push_short(&mut self, rest: Rest) -> Result<(), OutOfMemory>
+        ensures { OnOk result (self.new ≡ entries (self.old.shorts ++ rest ∷ []) self.old.longer) }
     {
-        self.numbers.push(number)?;
+        self.shorts.push(rest)?;
         Ok(())
     }
 
-    /// All numbers.
-    pub(crate) fn as_slice(&self) -> &[u32]
-        ensures { result.now ≡ self.now }
+    /// One more of the longer clauses has it.
+    pub(crate) fn push_longer(&mut self, number: u32) -> Result<(), OutOfMemory>
+        ensures { OnOk result (self.new ≡ entries self.old.shorts (self.old.longer ++ number ∷ [])) }
     {
-        &self.numbers
+        self.longer.push(number)?;
+        Ok(())
+    }
+
+    /// All clauses of two and of three literals.
+    pub(crate) fn shorts(&self) -> &[Rest]
+        ensures { result.now ≡ self.now.shorts }
+    {
+        &self.shorts
+    }
+
+    /// The numbers of all longer ones.
+    pub(crate) fn longer(&self) -> &[u32]
+        ensures { result.now ≡ self.now.longer }
+    {
+        &self.longer
     }
 }

@@ -5,14 +5,14 @@ ghost use Rattle.cnf_core.specs.Propagation.{Falsified};
 ghost use Rattle.cnf_core.specs.Trail.{IsTrail, Grows};
 ghost use Rattle.refute_check.specs.Tables.{IsCountedTo, AreOccurrences, AreQuiet};
 
-use crate::counts::count_down;
-use crate::looks::look_at_each;
+use crate::looks::{count_each, look_beside_each};
 use crate::places::Places;
 use cnf_core::{Formula, Lit};
 use plan_core::OutOfMemory;
 
-/// Counts the trail's literal at `front`, and looks at the clauses in which it became false. The
-/// answer is whether all literals of some clause are false.
+/// Looks at the clauses in which the trail's literal at `front` is false, the short ones first, and
+/// counts it in the longer ones, unless all literals of a short one are false. The answer is
+/// whether all literals of some clause are, and how far the trail is counted then.
 fn advance(
     formula: &Formula,
     occurrences: &[Places],
@@ -20,23 +20,27 @@ fn advance(
     truth: &mut [bool],
     trail: &mut Vec<Lit>,
     front: usize,
-) -> Result<bool, OutOfMemory>
+) -> Result<(bool, usize), OutOfMemory>
     requires occurrences { AreOccurrences formula.now.vars formula.now.clauses occurrences.now }
     requires counted { IsCountedTo formula.now.vars formula.now.clauses truth.old trail.old.items counts.old front }
     requires quiet { AreQuiet formula.now.clauses trail.old.items front }
     requires there { front < length trail.old.items }
-    ensures counted { OnOk result (IsCountedTo formula.now.vars formula.now.clauses truth.new trail.new.items counts.new
-        (front + 1)) }
+    ensures counted { IfOk result (λ r. IsCountedTo formula.now.vars formula.now.clauses truth.new trail.new.items
+        counts.new r.1) }
+    ensures on { IfOk result (λ r. front ≤ r.1) }
     ensures grows { OnOk result (Grows formula.now.clauses trail.old.items trail.new.items) }
-    ensures falsified { IfOk result (λ found. found ≡ true → Falsified formula.now.clauses (has trail.new.items)) }
-    ensures quiet { IfOk result (λ found. found ≡ false → AreQuiet formula.now.clauses trail.new.items (front + 1)) }
+    ensures falsified { IfOk result (λ r. r.0 ≡ true → Falsified formula.now.clauses (has trail.new.items)) }
+    ensures next { IfOk result (λ r. r.0 ≡ false → r.1 ≡ front + 1) }
+    ensures quiet { IfOk result (λ r. r.0 ≡ false → AreQuiet formula.now.clauses trail.new.items (front + 1)) }
 {
-    let l = trail[front];
-    let places = occurrences[l.negated().word() as usize].as_slice();
+    let l = trail[front].negated();
+    let places = &occurrences[l.word() as usize];
     let _formula = formula.vars();
-    count_down(places, counts);
-    let found = look_at_each(formula, places, counts, truth, trail)?;
-    Ok(found)
+    if look_beside_each(formula, l, places.shorts(), truth, trail)? {
+        return Ok((true, front));
+    }
+    let found = count_each(formula, places.longer(), counts, truth, trail)?;
+    Ok((found, front + 1))
 }
 
 /// Counts the trail's literals from `front` on, and marks what follows, until no more does or all
@@ -64,11 +68,11 @@ pub(crate) fn propagate(
 {
     let mut front = from;
     while front < trail.len() {
-        let found = advance(formula, occurrences, counts, truth, trail, front)?;
-        front += 1;
+        let (found, next) = advance(formula, occurrences, counts, truth, trail, front)?;
         if found {
-            return Ok((true, front));
+            return Ok((true, next));
         }
+        front = next;
     }
     Ok((false, front))
 }

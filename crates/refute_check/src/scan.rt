@@ -1,11 +1,12 @@
 // Looking at one clause.
-ghost use Rattle.std.specs.Prelude.{◌≡◌, ◌≤◌, ◌<◌, ◌+◌, ◌*◌, true, false, length};
+ghost use Rattle.std.specs.Prelude.{◌≡◌, ◌≤◌, ◌<◌, ◌+◌, ◌*◌, [], ◌∷◌, true, false, length};
 ghost use Rattle.cnf_core.specs.Lit.{negate};
 ghost use Rattle.cnf_core.specs.Clause.{AreThere, AreDistinct};
 ghost use Rattle.cnf_core.specs.Propagation.{IsConsistent};
 ghost use Rattle.cnf_core.specs.Trail.{marked};
 ghost use Rattle.refute_check.specs.Scans.{IsScan, IsTruth};
 
+use crate::places::Rest;
 use cnf_core::Lit;
 
 /// What a clause is where some literals are true.
@@ -63,5 +64,34 @@ pub(crate) fn scan_clause(clause: &[Lit], truth: &[bool], vars: u32) -> Scan
     match candidate {
         None => Scan::Falsified,
         Some(u) => Scan::Unit(u),
+    }
+}
+
+/// Looks at the literals of a clause that stand beside a false one.
+pub(crate) fn scan_rest(rest: Rest, truth: &[bool], vars: u32) -> Scan
+    requires table { length truth.now ≡ 2 * vars + 2 }
+    requires first { rest.first.var ≤ vars }
+    requires last { rest.last.var ≤ vars }
+    requires consistent { IsConsistent (marked truth.now) }
+    ensures { IsScan (marked truth.now) (rest.first ∷ rest.last ∷ []) result }
+{
+    match truth_of(truth, vars, rest.first) {
+        Truth::True => Scan::Quiet,
+        Truth::False => match truth_of(truth, vars, rest.last) {
+            Truth::True => Scan::Quiet,
+            Truth::False => Scan::Falsified,
+            Truth::Unset => Scan::Unit(rest.last),
+        },
+        Truth::Unset => match truth_of(truth, vars, rest.last) {
+            Truth::True => Scan::Quiet,
+            Truth::False => Scan::Unit(rest.first),
+            Truth::Unset => {
+                if rest.first == rest.last {
+                    Scan::Unit(rest.first)
+                } else {
+                    Scan::Quiet
+                }
+            }
+        },
     }
 }

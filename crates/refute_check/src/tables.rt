@@ -19,7 +19,7 @@ use std::alloc::Global;
 pub(crate) struct Tables {
     /// By a literal's word, the clauses that have the literal.
     pub(crate) occurrences: Vec<Places>,
-    /// By clause, how many of its literals are not false.
+    /// By clause of one literal or of more than three, how many of its literals are not false.
     pub(crate) counts: Vec<u32>,
     /// By a literal's word, whether it is true.
     pub(crate) truth: Vec<bool>,

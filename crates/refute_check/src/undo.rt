@@ -38,8 +38,8 @@ fn step_back(
 {
     let vars = formula.vars();
     if let Some(l) = unmark_last(truth, trail, vars) {
-        let places = occurrences[l.negated().word() as usize].as_slice();
-        count_up(places, counts);
+        let places = &occurrences[l.negated().word() as usize];
+        count_up(places.longer(), counts);
     }
 }
 

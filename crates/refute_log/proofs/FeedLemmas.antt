@@ -16,7 +16,7 @@ use Rattle.refute_log.specs.Lines.{IsWellFormed, MayBeTold, literal_sign, litera
 use Rattle.refute_log.specs.LineText.{IsTextOf}
 use Rattle.refute_log.specs.OneText.{is_decimal, feed_is_no_digit}
 
-lacks_both : (xs ys : List ℕ) → LacksByte 10 xs → LacksByte 10 ys → LacksByte 10 (xs ++ ys)
+pub lacks_both : (xs ys : List ℕ) → LacksByte 10 xs → LacksByte 10 ys → LacksByte 10 (xs ++ ys)
 lacks_both [] ys h k = k
 lacks_both (x ∷ xs) ys h k = (h.0, lacks_both xs ys h.1 k)
 
@@ -24,10 +24,10 @@ digits_lack : (ds : List ℕ) → AllDigits 10 ds → LacksByte 10 ds
 digits_lack [] h = tt
 digits_lack (d ∷ ds) h = (λ e. feed_is_no_digit (subst (λ (v : ℕ). digit_value v < 10) e h.0), digits_lack ds h.1)
 
-decimal_lacks : (n : ℕ) → n ≤ LAST_VAR → LacksByte 10 (decimal n)
+pub decimal_lacks : (n : ℕ) → n ≤ LAST_VAR → LacksByte 10 (decimal n)
 decimal_lacks n h = digits_lack (decimal n) (is_decimal n h).1
 
-field_lacks : (bs : List ℕ) → IsOneField bs → LacksByte 10 bs
+pub field_lacks : (bs : List ℕ) → IsOneField bs → LacksByte 10 bs
 field_lacks [] h = tt
 field_lacks (b ∷ bs) h = (λ e. h.0 (inr e), field_lacks bs h.1)
 

@@ -29,7 +29,7 @@ use Rattle.refute_log.proofs.ReadingLemmas.{ahead, zero_is_one, same_cut, no_cut
 use Rattle.refute_log.proofs.LetterLemmas.{same_behind}
 
 -- a text has one form
-fields_once : (fs gs : List Field) → AreNumbers fs → AreNumbers gs → fields_left fs ≡ fields_left gs → fs ≡ gs
+pub fields_once : (fs gs : List Field) → AreNumbers fs → AreNumbers gs → fields_left fs ≡ fields_left gs → fs ≡ gs
 fields_once fs gs h k e =
     let a = ahead fs gs (48 ∷ []) h k e in
     end a.more a.split a.left
@@ -61,11 +61,11 @@ line_once text a b h k =
     cc
 
 -- the text of a line has a form whose numbers are right
-digits_in : (ds : List ℕ) → AllDigits 10 ds → AllByRecursion IsAsciiDigit ds
+pub digits_in : (ds : List ℕ) → AllDigits 10 ds → AllByRecursion IsAsciiDigit ds
 digits_in [] h = tt
 digits_in (d ∷ ds) h = (digit_from_value d h.0, digits_in ds h.1)
 
-decimal_is_number : (n : ℕ) → n ≤ LAST_VAR → IsNumber (decimal n)
+pub decimal_is_number : (n : ℕ) → n ≤ LAST_VAR → IsNumber (decimal n)
 decimal_is_number n h =
     let numeral = is_decimal n h in
     record { positive = true; digits = decimal n; some = numeral.0; only = digits_in (decimal n) numeral.1; spelled = refl }

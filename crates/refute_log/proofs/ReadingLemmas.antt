@@ -88,12 +88,12 @@ no_form_at_field text rest field after right literals h cut not = λ fields k.
         not (subst IsNumber (sym same.field) n.0)
 
 -- one more field
-trailed_more : (fields : List Field) (f : Field) (r : List ℕ) → trailed fields ++ (f ++ 32 ∷ r) ≡ trailed (fields ++ f ∷ []) ++ r
+pub trailed_more : (fields : List Field) (f : Field) (r : List ℕ) → trailed fields ++ (f ++ 32 ∷ r) ≡ trailed (fields ++ f ∷ []) ++ r
 trailed_more [] f r = sym (append_assoc (f ++ 32 ∷ []) [] r ∙ append_assoc f (32 ∷ []) r)
 trailed_more (g ∷ fields) f r =
     append_assoc (g ++ 32 ∷ []) (trailed fields) (f ++ 32 ∷ r) ∙ ap (λ (t : List ℕ). (g ++ 32 ∷ []) ++ t) (trailed_more fields f r) ∙ sym (append_assoc (g ++ 32 ∷ []) (trailed (fields ++ f ∷ [])) r)
 
-all_last : {A : Type 0} (P : A → Type 0) (xs : List A) (x : A) → AllByRecursion P (xs ++ x ∷ []) → P x
+pub all_last : {A : Type 0} (P : A → Type 0) (xs : List A) (x : A) → AllByRecursion P (xs ++ x ∷ []) → P x
 all_last P [] x h = h.0
 all_last P (y ∷ xs) x h = all_last P xs x h.1
 

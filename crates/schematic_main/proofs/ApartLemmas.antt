@@ -1,7 +1,7 @@
 -- The files that a command writes have different names.
 use Rattle.std.proofs.Common.{ℕ, List, None, Some, refl, sym, arith}
 use Rattle.plan_words.specs.declared.command.Command.{Command}
-use Rattle.plan_words.specs.declared.command.Command.TheVariants.{Draw, Verify, Check, Graph as PrintGraph, Make, Trial, Signals, Front, Redraw, Explain}
+use Rattle.plan_words.specs.declared.command.Command.TheVariants.{Draw, Verify, Check, Graph as PrintGraph, Make, Trial, Signals, Front, Redraw, Explain, Trim, Recheck}
 use Rattle.plan_words.specs.Words.{IsCommandOf}
 use Rattle.plan_words.proofs.AnswerLemmas.{outputs_apart}
 use Rattle.draw_answer.specs.Written.{AreFilesApart}
@@ -24,6 +24,8 @@ asked_apart words (Front input first second grid budget) asked = λ i j d before
 asked_apart words (Redraw input former sheet grid budget None) asked = λ i j d before within. absurd (omega (arith, within))
 asked_apart words (Redraw input former sheet grid budget (Some l)) asked = λ i j d before within. absurd (omega (arith, before, within))
 asked_apart words (Explain input grid budget) asked = λ i j d before within. absurd (omega (arith, within))
+asked_apart words (Trim input sheet log hints) asked = λ i j d before within. absurd (omega (arith, before, within))
+asked_apart words (Recheck input sheet hints) asked = λ i j d before within. absurd (omega (arith, within))
 
 -- the two criteria of a front differ
 pub pair_apart : (words : List (List ℕ)) (command : Command) → IsCommandOf words command → HasApartPair command
@@ -37,3 +39,5 @@ pair_apart words (Signals input grid order budget log) asked = tt
 pair_apart words (Front input first second grid budget) asked = let parts = asked.parts in let pair = parts.criteria in pair.apart
 pair_apart words (Redraw input former sheet grid budget log) asked = tt
 pair_apart words (Explain input grid budget) asked = tt
+pair_apart words (Trim input sheet log hints) asked = tt
+pair_apart words (Recheck input sheet hints) asked = tt

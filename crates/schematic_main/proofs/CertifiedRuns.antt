@@ -50,13 +50,13 @@ bytes_answered input done met bytes Answers status line told is short read (inl 
 bytes_answered input done met bytes Answers status line told is short read (inr (fails, fault)) = absurd (read fails)
 
 -- what a run that ends with 0 answered to an input
-record IsAnsweredWith0 (input : InputFile) (met : Met) (Answers : List ℕ → Status → List ℕ → Type 0) (line : List ℕ) : Type 0 where
-  bytes : List ℕ
-  is : IsFileWhereTold met.before.contents input.name bytes
-  short : IsShort input.limit bytes
-  answer : Answers bytes Done line
+pub record IsAnsweredWith0 (input : InputFile) (met : Met) (Answers : List ℕ → Status → List ℕ → Type 0) (line : List ℕ) : Type 0 where
+  pub bytes : List ℕ
+  pub is : IsFileWhereTold met.before.contents input.name bytes
+  pub short : IsShort input.limit bytes
+  pub answer : Answers bytes Done line
 
-answered_with_0 : (input : InputFile) (done : ℕ) (met : Met) (Answers : List ℕ → Status → List ℕ → Type 0) (line : List ℕ) → IsAnswerOn input done met Answers Done line → IsAnsweredWith0 input met Answers line
+pub answered_with_0 : (input : InputFile) (done : ℕ) (met : Met) (Answers : List ℕ → Status → List ℕ → Type 0) (line : List ℕ) → IsAnswerOn input done met Answers Done line → IsAnsweredWith0 input met Answers line
 answered_with_0 input done met Answers line (inl (bytes, is, inl (long, done_all, fault))) = let no : Done ≡ Refused = fault.status_is in absurd (cc)
 answered_with_0 input done met Answers line (inl (bytes, is, inr (few, answer))) = record { bytes = bytes; is = is; short = few; answer = answer }
 answered_with_0 input done met Answers line (inr (fails, fault)) = let no : Done ≡ Unread = fault.status_is in absurd (cc)
@@ -156,7 +156,7 @@ station_from Answers bytes status text answered (inr refused) =
     absurd (subst IsAnswered (refused.answers.status_is ∙ file_fault_status bytes refused.fault refused.has) answered)
 
 -- the file of a name, where contents are told
-at_name : (contents : Option Told) (told : Told) (name bytes : List ℕ) → contents ≡ Some told → IsFileWhereTold contents name bytes → told name ≡ Some bytes
+pub at_name : (contents : Option Told) (told : Told) (name bytes : List ℕ) → contents ≡ Some told → IsFileWhereTold contents name bytes → told name ≡ Some bytes
 at_name contents told name bytes is file = subst (λ (c : Option Told). IsFileWhereTold c name bytes) is file
 
 held : (before after : Option Told) (old new : Told) (name : List ℕ) (lines : Lines) → before ≡ Some old → after ≡ Some new → HoldsLog before after name lines → new name ≡ Some (log_text lines)

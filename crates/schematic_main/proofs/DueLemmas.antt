@@ -9,7 +9,7 @@ use Rattle.plan_core.specs.Drawing.{Drawing}
 use Rattle.track_order.specs.Order.{EdgeOrder}
 use Rattle.outside_io.specs.Contents.{Told, IsFileWhereTold, TellsAt}
 use Rattle.plan_words.specs.declared.command.Command.{Command}
-use Rattle.plan_words.specs.declared.command.Command.TheVariants.{Draw, Verify, Check, Graph as PrintGraph, Make, Trial, Signals, Front, Redraw, Explain}
+use Rattle.plan_words.specs.declared.command.Command.TheVariants.{Draw, Verify, Check, Graph as PrintGraph, Make, Trial, Signals, Front, Redraw, Explain, Trim, Recheck}
 use Rattle.plan_words.specs.Words.{IsCommandOf}
 use Rattle.plan_text.specs.SheetText.{Sheet as PlainSheet}
 use Rattle.refute_log.specs.Lines.{log_text, MayAllBeTold}
@@ -36,6 +36,14 @@ use Rattle.input_answer.specs.Answer.{InputFile, text_input, log_input, IsPrinte
 use Rattle.sheet_answer.specs.Verdict.{IsVerified}
 use Rattle.sheet_answer.specs.CheckLine.{claim_of, refusal_status, verdict_status}
 use Rattle.sheet_answer.specs.Checked.{IsFoundBroken, IsClaimJudged, IsChecked}
+use Rattle.hint_text.specs.declared.fault.HintsWhat.{HintsWhat}
+use Rattle.hint_check.specs.declared.verdict.HintRefusal.TheVariants as hint_refusals
+use Rattle.hint_check.specs.declared.verdict.HintsVerdict.{HintsVerdict}
+use Rattle.hint_check.specs.declared.verdict.HintsVerdict.TheVariants as hint_verdicts
+use Rattle.hint_check.specs.Judged.{IsHintsJudged}
+use Rattle.hint_answer.specs.Texts.{hints_status}
+use Rattle.hint_answer.specs.Trimmed.{AreTrimmed}
+use Rattle.hint_answer.specs.Rechecked.{IsHintsClaimJudged, IsRechecked}
 use Rattle.draw_answer.specs.Drawn.{Job, job, status_of, IsDrawAnswer}
 use Rattle.draw_answer.specs.Signalled.{job_for, IsSignalFileJudged}
 use Rattle.trade_off.specs.declared.outcome.FrontEnd.{FrontEnd}
@@ -51,7 +59,7 @@ use Rattle.draw_answer.specs.SearchLog.{IsRunLog}
 use Rattle.redraw_answer.specs.Redrawn.{RedrawJob, redraw_job, status_of_moved, IsRedrawn}
 use Rattle.redraw_answer.specs.Judged.{IsFormerJudged, AreJudged}
 use Rattle.draw_answer.specs.Tried.{IsTried}
-use Rattle.schematic_main.specs.Commands.{Owes, ends_of, HasSoundFile, AreSound}
+use Rattle.schematic_main.specs.Commands.{Owes, ends_of, HasSoundFile, HasSoundHints, AreSound}
 use Rattle.schematic_main.specs.Run.{Asks, IsAnswerDue, FailsIn}
 use Rattle.draw_answer.proofs.OutcomeLemmas.{on_outcome}
 use Rattle.input_answer.proofs.InputLemmas.{file_fault_status}
@@ -159,6 +167,27 @@ on_why P why.Room done unfinished = unfinished
 on_explain : (P : Status → Type 0) (asked : ExplainJob) (traced : Lines → Type 0) (g : Graph) (o : EdgeOrder) (status : Status) (text : List ℕ) → OfOwed P → IsExplainAnswer asked traced g o status text → P status
 on_explain P asked traced g o status text owed f = subst P (sym f.status_is) (on_why P f.why owed.done owed.unfinished)
 
+on_checked : (P : Status → Type 0) (file sheet log : List ℕ) (status : Status) (text : List ℕ) → OfOwed P → IsChecked file sheet log status text → P status
+on_checked P file sheet log status text owed = on_file P (λ g o. IsClaimJudged g o sheet log) file status text owed.refused (λ g o. on_claim P g o sheet log status text owed)
+
+on_trimmed : (P : Status → Type 0) (hints : List ℕ) (met : Met) (file sheet log : List ℕ) (status : Status) (text : List ℕ) → OfOwed P → AreTrimmed hints met file sheet log status text → P status
+on_trimmed P hints met file sheet log status text owed (inl (checked, other)) = on_checked P file sheet log status text owed checked
+on_trimmed P hints met file sheet log status text owed (inr (r, leaves, told)) = subst P (sym told.status_is) owed.done
+
+on_hints : (P : Status → Type 0) (verdict : HintsVerdict) → OfOwed P → P (hints_status verdict)
+on_hints P hint_verdicts.Certified owed = owed.done
+on_hints P (hint_verdicts.Lacks place) owed = owed.broken
+on_hints P (hint_verdicts.Refused hint_refusals.BadHint line) owed = owed.broken
+on_hints P (hint_verdicts.Refused hint_refusals.Room line) owed = owed.unfinished
+on_hints P (hint_verdicts.Faulty what line) owed = owed.refused
+
+on_rechecked : (P : Status → Type 0) (g : Graph) (o : EdgeOrder) (sheet hints : List ℕ) (status : Status) (text : List ℕ) → OfOwed P → IsHintsClaimJudged g o sheet hints status text → P status
+on_rechecked P g o sheet hints status text owed (inl checked) = elim checked.answer [
+  | inl broken ↦ on_found P g o checked.said checked.said.found status text owed broken
+  | inr claim ↦ subst P (sym claim.told.status_is) (on_hints P claim.verdict owed)
+]
+on_rechecked P g o sheet hints status text owed (inr r) = subst P (sym r.answers.status_is) owed.refused
+
 on_command : (P : Status → Type 0) (command : Command) (met : Met) (traced : Lines → Type 0) (status : Status) (text : List ℕ) → OfOwed P → (FailsIn command met → P Unread) → Owes command met traced status text → P status
 on_command P (Draw input grid order budget svg log) met traced status text owed unread owes =
     let asked = job grid order budget svg log in
@@ -204,6 +233,18 @@ on_command P (Explain input grid budget) met traced status text owed unread owes
     let asked = explain_job grid budget in
     on_input P (text_input 1 input) 0 met (IsAnswerAfter 1 met (IsFileJudged (IsExplainAnswer asked traced))) status text owed.refused (λ fails. unread (0, lit< tt, fails))
     (λ bytes answer. on_file P (IsExplainAnswer asked traced) bytes status text owed.refused (λ g o. on_explain P asked traced g o status text owed) answer.1)
+    owes
+on_command P (Trim input sheet log hints) met traced status text owed unread owes =
+    on_input P (text_input 1 input) 0 met (λ bytes. IsAnswerOn (text_input 2 sheet) 1 met (λ said. IsAnswerOn (log_input 3 log) 2 met (IsAnswerAfter 3 met (AreTrimmed hints met bytes said)))) status text owed.refused (λ fails. unread (0, lit< tt, fails))
+    (λ bytes. on_input P (text_input 2 sheet) 1 met (λ said. IsAnswerOn (log_input 3 log) 2 met (IsAnswerAfter 3 met (AreTrimmed hints met bytes said))) status text owed.refused (λ fails. unread (1, lit< tt, fails))
+    (λ said. on_input P (log_input 3 log) 2 met (IsAnswerAfter 3 met (AreTrimmed hints met bytes said)) status text owed.refused (λ fails. unread (2, lit< tt, fails))
+    (λ told answer. on_trimmed P hints met bytes said told status text owed answer.1)))
+    owes
+on_command P (Recheck input sheet hints) met traced status text owed unread owes =
+    on_input P (text_input 1 input) 0 met (λ bytes. IsAnswerOn (text_input 2 sheet) 1 met (λ said. IsAnswerOn (log_input 3 hints) 2 met (IsAnswerAfter 3 met (IsRechecked bytes said)))) status text owed.refused (λ fails. unread (0, lit< tt, fails))
+    (λ bytes. on_input P (text_input 2 sheet) 1 met (λ said. IsAnswerOn (log_input 3 hints) 2 met (IsAnswerAfter 3 met (IsRechecked bytes said))) status text owed.refused (λ fails. unread (1, lit< tt, fails))
+    (λ said. on_input P (log_input 3 hints) 2 met (IsAnswerAfter 3 met (IsRechecked bytes said)) status text owed.refused (λ fails. unread (2, lit< tt, fails))
+    (λ told answer. on_file P (λ g o. IsHintsClaimJudged g o said told) bytes status text owed.refused (λ g o. on_rechecked P g o said told status text owed) answer.1)))
     owes
 
 on_due : (P : Status → Type 0) (words : List (List ℕ)) (met : Met) (traced : Lines → Type 0) (status : Status) (text : List ℕ) → OfOwed P → (Asks words (λ command. FailsIn command met) → P Unread) → IsAnswerDue words met traced status text → P status
@@ -309,6 +350,34 @@ redrawn_status asked traced g o old said status text sound drawn (inl (h, q, has
 redrawn_status asked traced g o old said status text sound drawn (inl (h, q, has, inr r)) = let sheet = drawn h (q, has) in absurd (sheet.sound r.what r.line r.first)
 redrawn_status asked traced g o old said status text sound drawn (inr r) = absurd (sound r.fault r.has)
 
+-- the three of trim
+trimmed_status : (hints : List ℕ) (met : Met) (file sheet : List ℕ) (lines : Lines) (status : Status) (text : List ℕ) → ((fault : RunFault) → HasFileFault file fault → ⊥) →
+    ((h : Graph) → (q : EdgeOrder) × HasStation file h q → IsSoundSheet h false sheet) → MayAllBeTold lines → AreTrimmed hints met file sheet (log_text lines) status text → (status ≡ Done) ⊎ (status ≡ Unfinished) ⊎ (status ≡ Broken)
+trimmed_status hints met file sheet lines status text sound drawn formed (inl (checked, other)) =
+    let found = sound_judged (λ g o. IsClaimJudged g o sheet (log_text lines)) file status text sound checked in
+    checked_status found.0 found.1 sheet lines status text (drawn found.0 (found.1, found.2)) formed found.3
+trimmed_status hints met file sheet lines status text sound drawn formed (inr (r, leaves, told)) = inl told.status_is
+
+-- hinted lines without a fault are judged to a verdict on lines
+hints_judged_status : (verdict : HintsVerdict) (Judged : HintsVerdict → Type 0) → ((what : HintsWhat) (line : ℕ) → Judged (hint_verdicts.Faulty what line) → ⊥) → Judged verdict →
+    (hints_status verdict ≡ Done) ⊎ (hints_status verdict ≡ Unfinished) ⊎ (hints_status verdict ≡ Broken)
+hints_judged_status hint_verdicts.Certified Judged sound judged = inl refl
+hints_judged_status (hint_verdicts.Lacks place) Judged sound judged = inr (inr refl)
+hints_judged_status (hint_verdicts.Refused hint_refusals.BadHint line) Judged sound judged = inr (inr refl)
+hints_judged_status (hint_verdicts.Refused hint_refusals.Room line) Judged sound judged = inr (inl refl)
+hints_judged_status (hint_verdicts.Faulty what line) Judged sound judged = absurd (sound what line judged)
+
+rechecked_status : (name : List ℕ) (contents : Option Told) (file sheet : List ℕ) (g : Graph) (o : EdgeOrder) (hints : HasSoundHints name contents file sheet) (status : Status) (text : List ℕ) → HasStation file g o → IsSoundSheet g false sheet →
+    IsHintsClaimJudged g o sheet hints.bytes status text → (status ≡ Done) ⊎ (status ≡ Unfinished) ⊎ (status ≡ Broken)
+rechecked_status name contents file sheet g o hints status text has sound (inl checked) = elim checked.answer [
+  | inl broken ↦ inr (inr (found_status g o checked.said checked.said.found status text broken))
+  | inr claim ↦
+      let said = checked.said in
+      let Judged : HintsVerdict → Type 0 = λ v. IsHintsJudged (layout g o said.grid) said.order (claim_of said.order said.found said.ending) hints.bytes v in
+      subst (λ s. (s ≡ Done) ⊎ (s ≡ Unfinished) ⊎ (s ≡ Broken)) (sym claim.told.status_is) (hints_judged_status claim.verdict Judged (hints.sound g o said has checked.is_text) claim.judged)
+]
+rechecked_status name contents file sheet g o hints status text has sound (inr refused) = absurd (sound.sound refused.what refused.line refused.first)
+
 -- a command whose inputs are sound, and none of whose reads failed, ends as it is there for
 sound_ends : (command : Command) (met : Met) (traced : Lines → Type 0) (status : Status) (text : List ℕ) → AreSound command met.before.contents → (FailsIn command met → ⊥) → Owes command met traced status text → ends_of command status
 sound_ends (Draw input grid order budget svg log) met traced status text file read owes =
@@ -370,6 +439,24 @@ sound_ends (Explain input grid budget) met traced status text file read owes =
     let judged = first_on input met file (IsAnswerAfter 1 met (IsFileJudged (IsExplainAnswer asked traced))) status text (λ fails. read (0, lit< tt, fails)) owes in
     let found = sound_judged (IsExplainAnswer asked traced) file.bytes status text file.sound judged.1 in
     subst (λ s. (s ≡ Done) ⊎ (s ≡ Unfinished)) (sym found.3.status_is) (on_why (λ s. (s ≡ Done) ⊎ (s ≡ Unfinished)) found.3.why (inl refl) (inr refl))
+sound_ends (Trim input sheet log hints) met traced status text (file, said, log_file) read owes =
+    let told = log_text log_file.lines in
+    let first =
+    first_on input met file (λ bytes. IsAnswerOn (text_input 2 sheet) 1 met (λ sheet_bytes. IsAnswerOn (log_input 3 log) 2 met (IsAnswerAfter 3 met (AreTrimmed hints met bytes sheet_bytes)))) status text (λ fails. read (0, lit< tt, fails)) owes in
+    let second =
+    within_on (text_input 2 sheet) 1 met said.bytes (λ sheet_bytes. IsAnswerOn (log_input 3 log) 2 met (IsAnswerAfter 3 met (AreTrimmed hints met file.bytes sheet_bytes))) status text said.there (too_long MAX_FILE_BYTES said.bytes said.short) (λ fails. read (1, lit< tt, fails)) first in
+    let third =
+    within_on (log_input 3 log) 2 met told (IsAnswerAfter 3 met (AreTrimmed hints met file.bytes said.bytes)) status text log_file.there (too_long MAX_LOG_BYTES told log_file.short) (λ fails. read (2, lit< tt, fails)) second in
+    trimmed_status hints met file.bytes said.bytes log_file.lines status text file.sound said.sound log_file.formed third.1
+sound_ends (Recheck input sheet hints) met traced status text (file, said, lines) read owes =
+    let first =
+    first_on input met file (λ bytes. IsAnswerOn (text_input 2 sheet) 1 met (λ sheet_bytes. IsAnswerOn (log_input 3 hints) 2 met (IsAnswerAfter 3 met (IsRechecked bytes sheet_bytes)))) status text (λ fails. read (0, lit< tt, fails)) owes in
+    let second =
+    within_on (text_input 2 sheet) 1 met said.bytes (λ sheet_bytes. IsAnswerOn (log_input 3 hints) 2 met (IsAnswerAfter 3 met (IsRechecked file.bytes sheet_bytes))) status text said.there (too_long MAX_FILE_BYTES said.bytes said.short) (λ fails. read (1, lit< tt, fails)) first in
+    let third =
+    within_on (log_input 3 hints) 2 met lines.bytes (IsAnswerAfter 3 met (IsRechecked file.bytes said.bytes)) status text lines.there (too_long MAX_LOG_BYTES lines.bytes lines.short) (λ fails. read (2, lit< tt, fails)) second in
+    let found = sound_judged (λ g o. IsHintsClaimJudged g o said.bytes lines.bytes) file.bytes status text file.sound third.1 in
+    rechecked_status hints met.before.contents file.bytes said.bytes found.0 found.1 lines status text found.2 (said.sound found.0 (found.1, found.2)) found.3
 
 -- so do words that ask for it
 pub due_ends : (words : List (List ℕ)) (command : Command) (met : Met) (traced : Lines → Type 0) (status : Status) (text : List ℕ) → IsCommandOf words command → AreSound command met.before.contents → (FailsIn command met → ⊥) → IsAnswerDue words met traced status text → ends_of command status

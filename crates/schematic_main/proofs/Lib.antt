@@ -1,7 +1,8 @@
 pub mod ApartLemmas
+pub mod AloneLemmas
 pub mod SoundLog
 pub mod DueLemmas
-pub mod OwnLog
 pub mod PassesLemmas
 pub mod CertifiedRuns
 pub mod VerifiedRuns
+pub mod HintedRuns

@@ -31,7 +31,7 @@ use Rattle.log_check.specs.Judged.{IsLogJudged}
 use Rattle.sheet_answer.specs.CheckLine.{claim_of}
 use Rattle.draw_answer.specs.Drawn.{Job, search_of, sheet_of}
 use Rattle.sheet_answer.specs.Checked.{PassesCheck}
-use Rattle.schematic_main.proofs.OwnLog.{own_lines}
+use Rattle.log_trim.proofs.OwnLog.{own_lines}
 
 -- ---- the lines are accepted
 

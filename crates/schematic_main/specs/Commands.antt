@@ -7,14 +7,22 @@ use Rattle.plan_core.specs.declared.limits.TheConstants.{MAX_FILE_BYTES, MAX_LOG
 use Rattle.plan_core.specs.Graph.{Graph}
 use Rattle.plan_words.specs.declared.command.Command.{Command}
 use Rattle.plan_words.specs.declared.command.Command.TheVariants.{Draw, Verify, Check, Graph as PrintGraph, Make}
-use Rattle.plan_words.specs.declared.command.Command.TheVariants.{Trial, Signals, Front, Redraw, Explain}
+use Rattle.plan_words.specs.declared.command.Command.TheVariants.{Trial, Signals, Front, Redraw, Explain, Trim}
+use Rattle.plan_words.specs.declared.command.Command.TheVariants.{Recheck}
+use Rattle.plan_text.specs.SheetText.{Sheet}
+use Rattle.plan_text.specs.SheetFaults.{IsSheetText}
 use Rattle.track_order.specs.Order.{EdgeOrder}
 use Rattle.refute_log.specs.Lines.{log_text, MayAllBeTold}
 use Rattle.refute_log.specs.Told.{Lines}
+use Rattle.drawing_problem.specs.Layout.{layout}
+use Rattle.hint_text.specs.declared.fault.HintsWhat.{HintsWhat}
+use Rattle.hint_check.specs.declared.verdict.HintsVerdict.TheVariants.{Faulty}
+use Rattle.hint_check.specs.Judged.{IsHintsJudged}
 use Rattle.station_make.specs.StationText.{station_text}
 use Rattle.input_answer.specs.declared.fault.RunFault.{RunFault}
 use Rattle.input_answer.specs.declared.status.Status.{Status}
 use Rattle.input_answer.specs.declared.status.Status.TheVariants.{Done, NoDrawing, Unfinished, Broken}
+use Rattle.input_answer.specs.Status.{IsRefused}
 use Rattle.input_answer.specs.Input.{IsShort, HasStation, HasSomeStation, HasFileFault}
 use Rattle.input_answer.specs.Signals.{HasFault}
 use Rattle.sheet_answer.specs.Verdict.{IsSoundSheet}
@@ -30,7 +38,10 @@ use Rattle.front_answer.specs.Fronted.{front_job, IsFrontAnswer}
 use Rattle.redraw_answer.specs.Redrawn.{redraw_job}
 use Rattle.redraw_answer.specs.Answer.{IsRedrawAnswer, HasReadFormer, IsLeftByRedraw}
 use Rattle.explain_answer.specs.Explained.{explain_job, IsExplainAnswer}
+use Rattle.sheet_answer.specs.CheckLine.{claim_of}
 use Rattle.sheet_answer.specs.Checked.{IsCheckAnswer}
+use Rattle.hint_answer.specs.Trimmed.{IsTrimAnswer, HasReadCertified, IsLeftByTrim}
+use Rattle.hint_answer.specs.Rechecked.{IsRecheckAnswer}
 
 -- ---- what is asked
 
@@ -46,6 +57,8 @@ HasApartPair (Signals input grid order budget log) = ⊤
 HasApartPair (Front input first second grid budget) = first ≢ second
 HasApartPair (Redraw input former sheet grid budget log) = ⊤
 HasApartPair (Explain input grid budget) = ⊤
+HasApartPair (Trim input sheet log hints) = ⊤
+HasApartPair (Recheck input sheet hints) = ⊤
 
 -- ---- what it reads and writes
 
@@ -62,6 +75,8 @@ inputs_of (Front input first second grid budget) = text_input 1 input ∷ []
 inputs_of (Redraw input former sheet grid budget log) =
     text_input 1 input ∷ text_input 2 former ∷ text_input 3 sheet ∷ []
 inputs_of (Explain input grid budget) = text_input 1 input ∷ []
+inputs_of (Trim input sheet log hints) = text_input 1 input ∷ text_input 2 sheet ∷ log_input 3 log ∷ []
+inputs_of (Recheck input sheet hints) = text_input 1 input ∷ text_input 2 sheet ∷ log_input 3 hints ∷ []
 
 -- the names of the files that a command writes, in this order
 abbrev pub outputs_of : Command → List (List ℕ)
@@ -75,6 +90,8 @@ outputs_of (Signals input grid order budget log) = file_named log
 outputs_of (Front input first second grid budget) = []
 outputs_of (Redraw input former sheet grid budget log) = file_named log
 outputs_of (Explain input grid budget) = []
+outputs_of (Trim input sheet log hints) = hints ∷ []
+outputs_of (Recheck input sheet hints) = []
 
 -- a command tells the lines of a search to the trace: draw, signals and redraw, where no file is named for them, trial,
 -- front and explain
@@ -89,10 +106,13 @@ TellsTrace (Signals input grid order budget log) = log ≡ None
 TellsTrace (Front input first second grid budget) = ⊤
 TellsTrace (Redraw input former sheet grid budget log) = log ≡ None
 TellsTrace (Explain input grid budget) = ⊤
+TellsTrace (Trim input sheet log hints) = ⊥
+TellsTrace (Recheck input sheet hints) = ⊥
 
 -- a command has something to search: draw, front and explain where it read its file and that has a station, trial where
 -- its made file has one, signals where the file that it read has a station and signals without a fault, and redraw
--- where the three files that it read have a station and former points
+-- where the three files that it read have a station and former points; trim has something to trim where the log that it
+-- read certifies what the sheet claims
 abbrev pub MaySearch : Command → Met → Type 0
 MaySearch (Draw input grid order budget svg log) met = HasReadStation input met
 MaySearch (PrintGraph input) met = ⊥
@@ -104,6 +124,8 @@ MaySearch (Signals input grid order budget log) met = HasReadSignals input met
 MaySearch (Front input first second grid budget) met = HasReadStation input met
 MaySearch (Redraw input former sheet grid budget log) met = HasReadFormer input former sheet met
 MaySearch (Explain input grid budget) met = HasReadStation input met
+MaySearch (Trim input sheet log hints) met = HasReadCertified input sheet log met
+MaySearch (Recheck input sheet hints) met = ⊥
 
 -- it may write a file, with what the run met; it may tell the trace
 abbrev pub MayWrite : Command → Met → Type 0
@@ -111,6 +133,21 @@ MayWrite command met = (outputs_of command ≢ []) × MaySearch command met
 
 abbrev pub MayTell : Command → Met → Type 0
 MayTell command met = TellsTrace command × MaySearch command met
+
+-- with these statuses it answers and writes no file: where it is refused, and trim where check would end with 4 or 8
+abbrev pub AnswersAlone : Command → Status → Type 0
+AnswersAlone (Draw input grid order budget svg log) status = IsRefused status
+AnswersAlone (PrintGraph input) status = IsRefused status
+AnswersAlone (Verify input sheet) status = IsRefused status
+AnswersAlone (Check input sheet log) status = IsRefused status
+AnswersAlone (Make n) status = IsRefused status
+AnswersAlone (Trial n) status = IsRefused status
+AnswersAlone (Signals input grid order budget log) status = IsRefused status
+AnswersAlone (Front input first second grid budget) status = IsRefused status
+AnswersAlone (Redraw input former sheet grid budget log) status = IsRefused status
+AnswersAlone (Explain input grid budget) status = IsRefused status
+AnswersAlone (Trim input sheet log hints) status = IsRefused status ⊎ (status ≡ Unfinished) ⊎ (status ≡ Broken)
+AnswersAlone (Recheck input sheet hints) status = IsRefused status
 
 -- ---- what it leaves
 
@@ -129,13 +166,15 @@ MayLeave (Front input first second grid budget) met traced name bytes = ⊥
 MayLeave (Redraw input former sheet grid budget log) met traced name bytes =
     IsLeftByRedraw input former sheet (redraw_job grid budget log) met name bytes
 MayLeave (Explain input grid budget) met traced name bytes = ⊥
+MayLeave (Trim input sheet log hints) met traced name bytes = IsLeftByTrim input sheet log hints met name bytes
+MayLeave (Recheck input sheet hints) met traced name bytes = ⊥
 
 -- ---- what it owes
 
 -- with what the run met and what the trace was told, the status that a command ends with and the text that it puts.
--- verify reads the file, and then the sheet, before it judges what they say, check so the log too, and redraw the
--- former file between them; draw, signals, front, explain and graph read the file alone; make and trial read nothing,
--- and trial judges a made file as draw does one that is read
+-- verify reads the file, and then the sheet, before it judges what they say, check and trim so the log too, recheck the
+-- hinted lines, and redraw the former file between them; draw, signals, front, explain and graph read the file alone;
+-- make and trial read nothing, and trial judges a made file as draw does one that is read
 abbrev pub Owes : Command → Met → (traced : Lines → Type 0) → Status → List ℕ → Type 0
 Owes (Draw input grid order budget svg log) met traced status text =
     IsAnswerToFile input met (IsFileJudged (IsDrawAnswer (job grid order budget svg log) met traced)) status text
@@ -154,6 +193,8 @@ Owes (Redraw input former sheet grid budget log) met traced status text =
     IsRedrawAnswer input former sheet (redraw_job grid budget log) met traced status text
 Owes (Explain input grid budget) met traced status text =
     IsAnswerToFile input met (IsFileJudged (IsExplainAnswer (explain_job grid budget) traced)) status text
+Owes (Trim input sheet log hints) met traced status text = IsTrimAnswer input sheet log hints met status text
+Owes (Recheck input sheet hints) met traced status text = IsRecheckAnswer input sheet hints met status text
 
 -- ---- how it ends
 
@@ -170,6 +211,8 @@ ends_of (Front input first second grid budget) status = (status ≡ Done) ⊎ (s
 ends_of (Redraw input former sheet grid budget log) status =
     (status ≡ Done) ⊎ (status ≡ NoDrawing) ⊎ (status ≡ Unfinished)
 ends_of (Explain input grid budget) status = (status ≡ Done) ⊎ (status ≡ Unfinished)
+ends_of (Trim input sheet log hints) status = (status ≡ Done) ⊎ (status ≡ Unfinished) ⊎ (status ≡ Broken)
+ends_of (Recheck input sheet hints) status = (status ≡ Done) ⊎ (status ≡ Unfinished) ⊎ (status ≡ Broken)
 
 -- the file of this name is told, and its bytes have none of the faults
 pub record HasSoundFile (name : List ℕ) (contents : Option Told) : Type 0 where
@@ -198,6 +241,15 @@ pub record HasSoundLog (name : List ℕ) (contents : Option Told) : Type 0 where
   pub there : TellsAt contents name (Some (log_text lines))
   pub short : IsShort MAX_LOG_BYTES (log_text lines)
 
+-- the hinted lines of this name are told, aren't too long, and have no fault as those of such a file and sheet
+pub record HasSoundHints (name : List ℕ) (contents : Option Told) (file sheet : List ℕ) : Type 0 where
+  pub bytes : List ℕ
+  pub there : TellsAt contents name (Some bytes)
+  pub short : IsShort MAX_LOG_BYTES bytes
+  pub sound : (g : Graph) (o : EdgeOrder) (said : Sheet) → HasStation file g o → IsSheetText g false sheet said →
+      (what : HintsWhat) (line : ℕ) → IsHintsJudged (layout g o said.grid) said.order
+      (claim_of said.order said.found said.ending) bytes (Faulty what line) → ⊥
+
 -- the bytes have a station with this graph
 abbrev pub HasStationGraph : List ℕ → Graph → Type 0
 HasStationGraph bytes g = (o : EdgeOrder) × HasStation bytes g o
@@ -219,3 +271,9 @@ AreSound (Redraw input former sheet grid budget log) contents =
     HasSoundFile input contents × (old : HasSoundFile former contents)
     × HasSoundSheet sheet contents true (HasStationGraph old.bytes)
 AreSound (Explain input grid budget) contents = HasSoundFile input contents
+AreSound (Trim input sheet log hints) contents =
+    (file : HasSoundFile input contents) × HasSoundSheet sheet contents false (HasStationGraph file.bytes)
+    × HasSoundLog log contents
+AreSound (Recheck input sheet hints) contents =
+    (file : HasSoundFile input contents) × (said : HasSoundSheet sheet contents false (HasStationGraph file.bytes))
+    × HasSoundHints hints contents file.bytes said.bytes

@@ -13,12 +13,13 @@ use Rattle.refute_log.specs.Told.{Lines}
 use Rattle.input_answer.specs.declared.fault.RunFault.TheVariants.{Words}
 use Rattle.input_answer.specs.declared.status.Status.{Status}
 use Rattle.input_answer.specs.declared.status.Status.TheVariants.{NoMemory}
+use Rattle.input_answer.specs.Status.{IsRefused}
 use Rattle.input_answer.specs.Fault.{IsFaultLine}
 use Rattle.input_answer.specs.Input.{IsShort}
 use Rattle.input_answer.specs.Met.{Met, ReadFails}
 use Rattle.draw_answer.specs.Written.{FailsToWrite}
 use Rattle.schematic_main.specs.Commands.{inputs_of, outputs_of, TellsTrace, MayWrite, MayTell, MayLeave, Owes}
-use Rattle.schematic_main.specs.Commands.{AreSound, ends_of}
+use Rattle.schematic_main.specs.Commands.{AnswersAlone, AreSound, ends_of}
 
 -- the words ask for a command of which this holds
 abbrev pub Asks : List (List ℕ) → (Command → Type 0) → Type 0
@@ -67,6 +68,11 @@ FailsIn command met = (done : ℕ) × (done < length (inputs_of command)) × Rea
 -- the words ask for no command that may write a file, with what the run met
 abbrev pub WritesNothing : List (List ℕ) → Met → Type 0
 WritesNothing words met = WhereAsked words (λ command. MayWrite command met → ⊥)
+
+-- a run that ends with this status has written no file: it is refused, or it is one with which the command that the
+-- words ask for answers alone
+abbrev pub EndsUnwritten : List (List ℕ) → Status → Type 0
+EndsUnwritten words status = IsRefused status ⊎ Asks words (λ command. AnswersAlone command status)
 
 -- the bytes with which a run may leave the file of a name: so may the command that the words ask for, and the run isn't
 -- refused

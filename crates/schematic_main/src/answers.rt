@@ -4,13 +4,15 @@ ghost use Rattle.outside_io.specs.Counts.{Rose};
 ghost use Rattle.input_answer.specs.Status.{IsAnswered, IsRefused};
 ghost use Rattle.input_answer.specs.Met.{between, ReadsInputs, IsUnread, IsUnwritten, HasLeft};
 ghost use Rattle.refute_log.specs.ToldTo.{told_to};
-ghost use Rattle.schematic_main.specs.Commands.{HasApartPair, inputs_of, outputs_of, MayWrite, MayTell, MayLeave, Owes};
+ghost use Rattle.schematic_main.specs.Commands.{HasApartPair, inputs_of, outputs_of, AnswersAlone, MayWrite, MayTell};
+ghost use Rattle.schematic_main.specs.Commands.{MayLeave, Owes};
 ghost use Rattle.draw_answer.specs.Written.{AreFilesApart};
 ghost use Rattle.schematic_main.specs.Run.{CommandFailsToWrite};
 
 use draw_answer::{Asked, draw, made, signals, trial};
 use explain_answer::{ExplainAsked, explain};
 use front_answer::{FrontAsked, front};
+use hint_answer::{recheck, trim};
 use input_answer::{Cut, Reply, print};
 use outside_io::Files;
 use plan_words::Command;
@@ -36,7 +38,7 @@ pub fn answer_to<F: Files, T: LogSink>(
     ensures unread { let met = between (F.at files.old) (F.at files.new) in
         inputs_of command.now ≡ [] → IsUnread met }
     ensures unwritten { let met = between (F.at files.old) (F.at files.new) in
-        IsOkAnd result (λ r. IsRefused r.status) ⊎ (MayWrite command.now met → ⊥) → IsUnwritten met }
+        IsOkAnd result (λ r. AnswersAlone command.now r.status) ⊎ (MayWrite command.now met → ⊥) → IsUnwritten met }
     ensures leaves { let met = between (F.at files.old) (F.at files.new) in
         HasLeft met (λ name bytes. (IsOkAnd result (λ r. IsRefused r.status) → ⊥)
         × MayLeave command.now met (told_to T.tells T.learnt trace.old trace.new) name bytes) }
@@ -128,5 +130,16 @@ pub fn answer_to<F: Files, T: LogSink>(
             };
             explain(alloc, input, &asked, files, trace)
         }
+        Command::Trim {
+            input,
+            sheet,
+            log,
+            hints,
+        } => trim(alloc, input, sheet, log, hints, files),
+        Command::Recheck {
+            input,
+            sheet,
+            hints,
+        } => Ok(recheck(alloc, input, sheet, hints, files)?),
     }
 }

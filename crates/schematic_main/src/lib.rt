@@ -7,15 +7,19 @@
 //! `running` reads the words and puts the answer, and `answers` hands a command to the crate that answers it:
 //! input_answer (`graph`, and what every command does with an input), draw_answer (`draw`, `signals`, `make`,
 //! `trial`), front_answer (`front`), explain_answer (`explain`), redraw_answer (`redraw`), sheet_answer (`verify`,
-//! `check`). `laws` says when whole runs of `verify` and `check` end with 0, and that `check` does on what `draw` put
-//! and left. `read_words` and its types are those of `plan_words`. The program `railplan_main` stands on this crate,
-//! and so do runs over files in memory, `worked_files`.
+//! `check`), hint_answer (`trim`, `recheck`). `laws` says when whole runs of `verify`, `check` and `recheck` end with
+//! 0, and that `check` does on what `draw` put and left, and `recheck` on what `trim` left. `read_words` and its types
+//! are those of `plan_words`. The program `railplan_main` stands on this crate, and so do runs over files in memory,
+//! `worked_files`.
 #![tactic(auto)]
 
 mod answers;
 mod laws;
 mod running;
 
-pub use laws::{certified_runs_end_with_0, lawful_runs_end_with_0, own_logs_are_certified};
+pub use laws::{
+    certified_runs_end_with_0, hinted_runs_end_with_0, lawful_runs_end_with_0,
+    own_hints_are_certified, own_logs_are_certified,
+};
 pub use plan_words::{Command, WordFault, WordWhat, read_words};
 pub use running::run;

@@ -8,7 +8,7 @@ ghost use Rattle.input_answer.specs.Met.{between, ReadsInputs, IsUnread, IsUnwri
 ghost use Rattle.schematic_main.specs.Commands.{inputs_of};
 ghost use Rattle.schematic_main.specs.Run.{Asks, WhereAsked, IsAnswerDue, IsSomeAnswerDue, Completes, GivenAll};
 ghost use Rattle.schematic_main.specs.Run.{GivenPrefix, ReadsNothing, FailsIn, WritesNothing, RunMayLeave};
-ghost use Rattle.schematic_main.specs.Run.{CommandFailsToWrite, WriteFails, TellsNothing};
+ghost use Rattle.schematic_main.specs.Run.{CommandFailsToWrite, WriteFails, EndsUnwritten, TellsNothing};
 
 use crate::answers::answer_to;
 use input_answer::{Cut, Reply, RunFault, Status, fault_reply};
@@ -32,7 +32,7 @@ fn reply_to<F: Files, T: LogSink>(
         ReadsInputs (length (inputs_of command)) (IsOkAnd result (λ r. IsAnswered r.status)) met) }
     ensures unread { ReadsNothing (texts_of words.now) → IsUnread (between (F.at files.old) (F.at files.new)) }
     ensures unwritten { let met = between (F.at files.old) (F.at files.new) in
-        IsOkAnd result (λ r. IsRefused r.status) ⊎ WritesNothing (texts_of words.now) met →
+        IsOkAnd result (λ r. EndsUnwritten (texts_of words.now) r.status) ⊎ WritesNothing (texts_of words.now) met →
         IsUnwritten met }
     ensures leaves { let met = between (F.at files.old) (F.at files.new) in
         let told = told_to T.tells T.learnt trace.old trace.new in
@@ -79,7 +79,7 @@ fn carry_out<F: Files, O: Sink, T: LogSink>(
         WhereAsked (texts_of words.now) (λ command. ReadsInputs (length (inputs_of command)) (IsAnswered result) met) }
     ensures unread { ReadsNothing (texts_of words.now) → IsUnread (between (F.at files.old) (F.at files.new)) }
     ensures unwritten { let met = between (F.at files.old) (F.at files.new) in
-        IsRefused result ⊎ WritesNothing (texts_of words.now) met →
+        EndsUnwritten (texts_of words.now) result ⊎ WritesNothing (texts_of words.now) met →
         IsUnwritten met }
     ensures leaves { let met = between (F.at files.old) (F.at files.new) in
         let told = told_to T.tells T.learnt trace.old trace.new in
@@ -136,11 +136,12 @@ pub fn run<F: Files, O: Sink, T: LogSink>(
         ReadsInputs (length (inputs_of command)) (IsAnswered status) met)) }
     ensures unread { ReadsNothing (texts_of words.now) → IsUnread (between (F.at files.old) (F.at files.new)) }
 
-    // No file is written but those that the words name for it, and none by a run that is refused or has nothing to
-    // search. With every status one that is named for a log begins a log's text, and one for a picture that of the
-    // drawing with which a search of the file's station ended; or it stands as it stood.
+    // No file is written but those that the words name for it, and none by a run that is refused, that answers its
+    // command alone, or that has nothing to search. With every status one that is named for a log begins a log's text,
+    // one for a picture that of the drawing with which a search of the file's station ended, and one for hinted lines
+    // that of what is left of the log that was read; or it stands as it stood.
     ensures unwritten { let met = between (F.at files.old) (F.at files.new) in
-        EndsAs result (λ status. IsRefused status ⊎ WritesNothing (texts_of words.now) met →
+        EndsAs result (λ status. EndsUnwritten (texts_of words.now) status ⊎ WritesNothing (texts_of words.now) met →
         IsUnwritten met) }
     ensures leaves { let met = between (F.at files.old) (F.at files.new) in
         let told = told_to T.tells T.learnt trace.old trace.new in

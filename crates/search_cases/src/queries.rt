@@ -59,7 +59,20 @@ fn ask<L: LogSink>(solver: &mut Solver, log: &mut L, assume: Lit) -> Result<Answ
     solver.solve(&[assume], 5, log)
 }
 
-/// Asks without assumptions. Clauses of the variable 1 are kept.
+/// Asks with these assumptions. Clauses of the variable 1 are kept.
+fn ask_under(solver: &mut Solver, log: &mut LineList, assume: &[Lit]) -> Result<Answer, SolveFault>
+    requires working { solver.old.failed ≡ false }
+    requires distinct { AreDistinct assume.now }
+    requires assumed { All (λ l. IsNamed solver.old.clauses l.var) assume.now }
+    requires named { IsNamed solver.old.clauses 1 }
+    ensures working { OnOk result (solver.new.failed ≡ false) }
+    ensures vars { OnOk result (solver.new.vars ≡ solver.old.vars) }
+    ensures named { OnOk result (IsNamed solver.new.clauses 1) }
+{
+    solver.solve(assume, 5, log)
+}
+
+/// Asks without assumptions.
 fn ask_freely(solver: &mut Solver, log: &mut LineList) -> Result<Answer, SolveFault>
     requires working { solver.old.failed ≡ false }
     requires named { IsNamed solver.old.clauses 1 }
@@ -67,16 +80,21 @@ fn ask_freely(solver: &mut Solver, log: &mut LineList) -> Result<Answer, SolveFa
     ensures vars { OnOk result (solver.new.vars ≡ solver.old.vars) }
     ensures named { OnOk result (IsNamed solver.new.clauses 1) }
 {
-    solver.solve(&[], 5, log)
+    ask_under(solver, log, &[])
 }
 
-/// Asks whether the variable 1 may be false.
-fn ask_whether_one_is_false(solver: &mut Solver, log: &mut LineList) -> Result<Answer, SolveFault>
+/// Asks where the variable 1 has this truth value.
+fn ask_where_one_is(
+    solver: &mut Solver,
+    log: &mut LineList,
+    one: bool,
+) -> Result<Answer, SolveFault>
     requires working { solver.old.failed ≡ false }
     requires named { IsNamed solver.old.clauses 1 }
+    ensures working { OnOk result (solver.new.failed ≡ false) }
+    ensures named { OnOk result (IsNamed solver.new.clauses 1) }
 {
-    let one = Lit::new(Var(1), true);
-    solver.solve(&[one.negated()], 5, log)
+    ask_under(solver, log, &[Lit::new(Var(1), one)])
 }
 
 /// The answer on the clauses (1 2) and (1 -2) where this literal is assumed, the solver and its log. The solver is
@@ -194,6 +212,32 @@ fn a_suggested_model_is_tried_first(rt: HostRuntime) -> Result<(), Fail> {
     Ok(())
 }
 
+/// The answer on the clause (1 2) behind a query with this truth value of 1, and the solver.
+fn asked_again(alloc: Global, one: bool) -> Result<(Answer, Solver), Fail> {
+    let mut log = LineList::new(alloc);
+    let mut solver = Solver::new(alloc, 1000)?;
+    solver.add_vars(2)?;
+    add_pair(
+        &mut solver,
+        &mut log,
+        Lit::new(Var(1), true),
+        Lit::new(Var(2), true),
+    )?;
+    let _first = ask_where_one_is(&mut solver, &mut log, one)?;
+    let answer = ask_freely(&mut solver, &mut log)?;
+    Ok((answer, solver))
+}
+
+/// What is decided first is what it was in the query before.
+#[test]
+fn truth_values_are_kept_from_one_query_to_the_next(rt: HostRuntime) -> Result<(), Fail> {
+    for one in [false, true] {
+        let (answer, solver) = asked_again(rt.alloc(), one)?;
+        assert!(rt; answer == Answer::Model && has_model(&solver, one, !one));
+    }
+    Ok(())
+}
+
 /// The clause (1), and the assumption -1: the answer speaks of the assumption.
 #[test]
 fn an_assumption_that_is_false_from_the_start_is_refuted(rt: HostRuntime) -> Result<(), Fail> {
@@ -242,7 +286,7 @@ fn stands_until_the_next_call(alloc: Global) -> Result<bool, Fail> {
     let fell = solver.model().is_none();
     let second = ask_freely(&mut solver, &mut log)?;
     let stands = solver.model().is_some();
-    let third = ask_whether_one_is_false(&mut solver, &mut log)?;
+    let third = ask_where_one_is(&mut solver, &mut log, false)?;
     let found = first == Answer::Model && second == Answer::Model && third == Answer::Refuted;
     Ok(found && stood && fell && stands && solver.model().is_none())
 }

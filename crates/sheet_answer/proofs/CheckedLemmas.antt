@@ -19,7 +19,7 @@ use Rattle.log_check.specs.declared.verdict.Refusal.TheVariants as refusals
 use Rattle.log_check.specs.declared.verdict.Verdict.{Verdict}
 use Rattle.log_check.specs.declared.verdict.Verdict.TheVariants as verdicts
 use Rattle.log_check.specs.Claimed.{IsClaimOf}
-use Rattle.log_check.specs.Judged.{IsLogJudged}
+use Rattle.log_check.specs.Judged.{CertifiesWhole, IsLogJudged}
 use Rattle.log_check.proofs.VerdictLemmas.{judged_once, certified_due}
 use Rattle.input_answer.specs.declared.status.Status.{Status}
 use Rattle.input_answer.specs.declared.status.Status.TheVariants.{Done, Refused, Broken}
@@ -49,7 +49,7 @@ one_broken g o said None status other text another a b = absurd a
 one_broken g o said (Some d) status other text another a b = one_verdict g o said.grid d status other text another (inr a) (inr b)
 
 -- a lawful drawing breaks no law
-lawful_not_broken : (g : Graph) (o : EdgeOrder) (said : Sheet) (found : Option Drawing) (status : Status) (text : List ℕ) → IfSome found (Lawful g (is_above o) said.grid) → IsFoundBroken g o said found status text → ⊥
+pub lawful_not_broken : (g : Graph) (o : EdgeOrder) (said : Sheet) (found : Option Drawing) (status : Status) (text : List ℕ) → IfSome found (Lawful g (is_above o) said.grid) → IsFoundBroken g o said found status text → ⊥
 lawful_not_broken g o said None status text lawful broken = broken
 lawful_not_broken g o said (Some d) status text lawful broken = lawful_breaks_none g (is_above o) said.grid d broken.broken lawful broken.least
 
@@ -155,7 +155,7 @@ done_certified (verdicts.Refused refusals.NotNew line) is = absurd (cc)
 done_certified (verdicts.Faulty what line) is = absurd (cc)
 
 -- nor a drawing that breaks a law
-done_not_broken : (g : Graph) (o : EdgeOrder) (said : Sheet) (found : Option Drawing) (text : List ℕ) → IsFoundBroken g o said found Done text → ⊥
+pub done_not_broken : (g : Graph) (o : EdgeOrder) (said : Sheet) (found : Option Drawing) (text : List ℕ) → IsFoundBroken g o said found Done text → ⊥
 done_not_broken g o said None text broken = broken
 done_not_broken g o said (Some d) text broken = let is : Done ≡ Broken = broken.status_is in cc
 
@@ -180,6 +180,21 @@ certified_answer g o sheet log text said is (inr claim) =
       judged.is_verdict.is_so,
       (certified_telling (claimed said.order said.ending) claim.verdict Done text same claim.told).1,
     )
+
+-- so the log certifies what the sheet claims, whatever its text
+pub certified_whole : (g : Graph) (o : EdgeOrder) (said : Sheet) (log text : List ℕ) → IsSheetAnswer g o said log Done text → CertifiesWhole (layout g o said.grid) said.order (claim_of said.order said.found said.ending) log
+certified_whole g o said log text (inl broken) = absurd (done_not_broken g o said said.found text broken)
+certified_whole g o said log text (inr claim) =
+    let same : claim.verdict ≡ verdicts.Certified = done_certified claim.verdict claim.told.status_is in
+    let judged : IsLogJudged (layout g o said.grid) said.order (claim_of said.order said.found said.ending) log verdicts.Certified =
+    subst (λ (v : Verdict). IsLogJudged (layout g o said.grid) said.order (claim_of said.order said.found said.ending) log v) same claim.judged in
+    record {
+      expected = judged.expected;
+      lines = judged.is_verdict.lines;
+      is_expected = judged.is_expected;
+      whole = judged.is_verdict.whole;
+      certified = judged.is_verdict.certified;
+    }
 
 pub only_certified : (file sheet log text : List ℕ) → IsChecked file sheet log Done text →
     (g : Graph) × (o : EdgeOrder) × (said : Sheet) × HasStation file g o × CertifiesSheet g o sheet log said × ClaimsTruly g o said × (text ≡ verdict_line (claimed said.order said.ending) verdicts.Certified)

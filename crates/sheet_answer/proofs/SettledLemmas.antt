@@ -9,9 +9,9 @@ use Rattle.plan_core.specs.Graph.{Graph}
 use Rattle.plan_core.specs.Drawing.{Drawing}
 use Rattle.plan_core.specs.Lawful.{HasSizeOf}
 use Rattle.plan_core.specs.Values.{values_of}
-use Rattle.plan_text.specs.declared.edition.Edition.{Edition}
-use Rattle.plan_text.specs.declared.ending.Ending.{Ending}
-use Rattle.plan_text.specs.declared.ending.Ending.TheVariants as endings
+use Rattle.plan_writing.specs.declared.edition.Edition.{Edition}
+use Rattle.plan_writing.specs.declared.ending.Ending.{Ending}
+use Rattle.plan_writing.specs.declared.ending.Ending.TheVariants as endings
 use Rattle.plan_text.specs.SheetLine.{SheetLine, Title, GridLine, OrderLine, NodesLine, ValuesLine, EndLine}
 use Rattle.plan_text.specs.SheetText.{Sheet, picture_lines, found_lines, StatesSettled}
 use Rattle.plan_text.specs.SheetFaults.{LineDue, TitleDue, GridDue, OrderDue, BodyDue, NodeDue, EdgesDue, EdgeDue, ValuesDue, EndDue, NoneDue, due_behind, due_after, criteria_told, order_told, IsInRange, AreRightLines, IsSheetText}

@@ -7,8 +7,8 @@ use Rattle.plan_core.specs.declared.criterion.Criterion.{Criterion}
 use Rattle.plan_core.specs.Drawing.{Drawing}
 use Rattle.plan_core.specs.Values.{values_of}
 use Rattle.line_text.specs.Fields.{line_text}
-use Rattle.plan_text.specs.declared.ending.Ending.{Ending}
-use Rattle.plan_text.specs.declared.ending.Ending.TheVariants as endings
+use Rattle.plan_writing.specs.declared.ending.Ending.{Ending}
+use Rattle.plan_writing.specs.declared.ending.Ending.TheVariants as endings
 use Rattle.log_check.specs.declared.claim.Claim.{Claim}
 use Rattle.log_check.specs.declared.claim.Claim.TheVariants as claims
 use Rattle.log_check.specs.declared.verdict.Refusal.{Refusal}

@@ -28,7 +28,7 @@ use std::alloc::Global;
 // ---- what a sheet claims
 
 /// How many values, from the first of the order, a sheet claims to be least.
-fn claimed(sheet: &Sheet) -> usize
+pub fn claimed(sheet: &Sheet) -> usize
     ensures { result ≡ claimed_by sheet.now.order sheet.now.ending }
 {
     match sheet.ending {
@@ -39,7 +39,7 @@ fn claimed(sheet: &Sheet) -> usize
 }
 
 /// What a sheet claims of the lawful drawings.
-fn claim_of(sheet: &Sheet) -> Claim
+pub fn claim_of(sheet: &Sheet) -> Claim
     ensures { result ≡ claim_in sheet.now.order sheet.now.found sheet.now.ending }
 {
     match &sheet.found {
@@ -69,7 +69,8 @@ fn refusal_status(why: Refusal) -> Status
     }
 }
 
-fn certified_line(alloc: Global, places: usize) -> Result<Vec<u8>, OutOfMemory>
+/// The line that so many places are certified.
+pub fn certified_line(alloc: Global, places: usize) -> Result<Vec<u8>, OutOfMemory>
     ensures { IfOk result (λ v. v.items ≡ line_for places Verdict.Certified) }
 {
     let mut line = Vec::from_slice(alloc, b"certified")?;
@@ -78,7 +79,8 @@ fn certified_line(alloc: Global, places: usize) -> Result<Vec<u8>, OutOfMemory>
     Ok(line)
 }
 
-fn lacking_line(alloc: Global, place: u32) -> Result<Vec<u8>, OutOfMemory>
+/// The line that this place isn't certified.
+pub fn lacking_line(alloc: Global, place: u32) -> Result<Vec<u8>, OutOfMemory>
     ensures { IfOk result (λ v. v.items ≡ line_for 0 (Verdict.Lacks place)) }
 {
     let mut line = Vec::from_slice(alloc, b"check Lacks place")?;
@@ -122,7 +124,7 @@ fn verdict_reply(alloc: Global, places: usize, verdict: Verdict) -> Result<Reply
 // ---- the answer to a sheet and a log
 
 /// What is answered to a sheet whose drawing breaks a law; nothing where it has none that does.
-fn broken_sheet(
+pub fn broken_sheet(
     alloc: Global,
     station: &Station,
     sheet: &Sheet,
@@ -139,7 +141,7 @@ fn broken_sheet(
 }
 
 /// What is answered to a sheet and the bytes of a log.
-fn check_claim(
+pub fn check_claim(
     alloc: Global,
     station: &Station,
     sheet: &Sheet,

@@ -16,7 +16,9 @@ mod laws;
 mod verdict;
 mod verifying;
 
-pub use checking::check;
+pub use checking::{
+    broken_sheet, certified_line, check, check_claim, claim_of, claimed, lacking_line,
+};
 pub use laws::{
     certified_exactly, one_answer_of_check, one_answer_to_a_file, one_sheet_answer,
     verdict_of_drawing,

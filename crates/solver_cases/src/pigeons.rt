@@ -39,7 +39,8 @@ fn part(case: &mut Case, pigeon: u32) -> Result<(), OutOfMemory>
     Ok(())
 }
 
-/// After 256 learnt clauses a search starts again from level 0, here more than once.
+/// After each 256 learnt clauses a search starts again from level 0, here three times: at other times it would learn
+/// another number.
 #[test]
 fn seven_pigeons_dont_fit_six_holes(rt: HostRuntime) -> Result<(), Fail> {
     let alloc = rt.alloc();
@@ -54,7 +55,7 @@ fn seven_pigeons_dont_fit_six_holes(rt: HostRuntime) -> Result<(), Fail> {
     assert!(rt; !case.is_refuted());
     let all = case.ask_all(100_000)?;
     assert!(rt; all == Some(Answer::Refuted));
-    assert!(rt; case.learnt() > 512, "{} clauses", case.learnt());
+    assert_eq!(rt; case.learnt(), 807);
     assert!(rt; case.is_refuted());
     Ok(())
 }

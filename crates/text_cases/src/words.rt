@@ -135,6 +135,28 @@ fn command_shown(alloc: Global, command: &Command) -> Result<String, AllocError>
             let grid = grid_shown(alloc, grid)?;
             format!(in alloc; "explain {input} {grid} {budget}")
         }
+        Command::Trim {
+            input,
+            sheet,
+            log,
+            hints,
+        } => {
+            let input = input.as_str();
+            let sheet = sheet.as_str();
+            let log = log.as_str();
+            let hints = hints.as_str();
+            format!(in alloc; "trim {input} {sheet} {log} {hints}")
+        }
+        Command::Recheck {
+            input,
+            sheet,
+            hints,
+        } => {
+            let input = input.as_str();
+            let sheet = sheet.as_str();
+            let hints = hints.as_str();
+            format!(in alloc; "recheck {input} {sheet} {hints}")
+        }
     }
 }
 
@@ -391,6 +413,43 @@ static EXPLANATIONS: [(&[&str], &str); 8] = [
         "6 RepeatedOption 5",
     ),
 ];
+
+static HINTED: [(&[&str], &str); 15] = [
+    (&["trim", "a", "s", "l", "h"], "trim a s l h"),
+    // The files that are read may be the same, and the last is another one.
+    (&["trim", "a", "a", "a", "h"], "trim a a a h"),
+    (&["trim", "h", "s", "l", "h"], "7 BadValue 5"),
+    (&["trim", "a", "h", "l", "h"], "7 BadValue 5"),
+    (&["trim", "a", "s", "h", "h"], "7 BadValue 5"),
+    (&["trim", "a", "s", "l", ""], "7 BadValue 5"),
+    (&["trim", "a", "s", "l"], "3 MissingName 5"),
+    (&["trim", "a", "s", "l", "h", "k"], "4 ExtraWord 6"),
+    (
+        &["trim", "a", "s", "l", "h", "--log", "k"],
+        "5 UnknownOption 6",
+    ),
+    (&["recheck", "a", "s", "h"], "recheck a s h"),
+    (&["recheck", "a", "a", "a"], "recheck a a a"),
+    (&["recheck", "a", "s"], "3 MissingName 4"),
+    (&["recheck", "a", "s", "h", "k"], "4 ExtraWord 5"),
+    (&["recheck", "a", "", "h"], "7 BadValue 3"),
+    (
+        &["recheck", "a", "s", "h", "--width", "4"],
+        "5 UnknownOption 5",
+    ),
+];
+
+#[test]
+fn words_of_hinted_lines_are_a_command_or_have_the_fault_that_counts(
+    rt: HostRuntime,
+) -> Result<(), Fail> {
+    let alloc = rt.alloc();
+    for (words, want) in &HINTED {
+        let answer = answer_shown(alloc, words)?;
+        assert_eq!(rt; answer.as_str(), *want, "{words:?}");
+    }
+    Ok(())
+}
 
 #[test]
 fn words_are_a_command_or_have_the_fault_that_counts(rt: HostRuntime) -> Result<(), Fail> {

@@ -136,7 +136,7 @@ both_built knows log count s t e q p a b vars many first r same was start size f
 -- ---- the whole search
 
 -- what is known of the lines
-pub record Laws {S : Type 0} (knows : S → Lines → Type 0) (s : S) (p : Task) : Type 0 where
+pub record FrontLaws {S : Type 0} (knows : S → Lines → Type 0) (s : S) (p : Task) : Type 0 where
   pub covers : (lines : Lines) → knows s lines → CoversDrawings p.graph p.above p.grid lines
   pub formed : (lines : Lines) → knows s lines → MayAllBeTold lines
   pub derives : (lines : Lines) → knows s lines → Derives lines
@@ -144,10 +144,10 @@ pub record Laws {S : Type 0} (knows : S → Lines → Type 0) (s : S) (p : Task)
   pub fits : (lines : Lines) → knows s lines → words_of (flat_map added lines) ≤ p.room
   pub within : (lines : Lines) → knows s lines → length (flat_map learnt lines) ≤ p.budget
 
-pub laws_at : {S : Type 0} (knows : S → Lines → Type 0) (s : S) (q p : Task) → q ≡ p → Laws knows s q → Laws knows s p
-laws_at knows s q p same laws = subst (Laws knows s) same laws
+pub laws_at : {S : Type 0} (knows : S → Lines → Type 0) (s : S) (q p : Task) → q ≡ p → FrontLaws knows s q → FrontLaws knows s p
+laws_at knows s q p same laws = subst (FrontLaws knows s) same laws
 
-front_log : {S : Type 0} (knows : S → Lines → Type 0) (s : S) (p : Task) (a b : Criterion) (ending : FrontEnd) (lines : Lines) → Laws knows s p → knows s lines → BeginsLines (clause_lines lines) (front_lines p a b) →
+front_log : {S : Type 0} (knows : S → Lines → Type 0) (s : S) (p : Task) (a b : Criterion) (ending : FrontEnd) (lines : Lines) → FrontLaws knows s p → knows s lines → BeginsLines (clause_lines lines) (front_lines p a b) →
     IsFrontCause p a b ending lines → IsFrontLog p a b ending lines
 front_log knows s p a b ending lines laws k begins cause = record {
   formed = laws.formed lines k;
@@ -160,7 +160,7 @@ front_log knows s p a b ending lines laws k begins cause = record {
   cause = cause;
 }
 
-pub tells_no_room : {S : Type 0} (knows log : S → Lines → Type 0) (count : S → ℕ) (s e : S) (p : Task) (a b : Criterion) (r : Built) → r ≡ NoRoom → Laws knows e p → knows s (first_lines p) →
+pub tells_no_room : {S : Type 0} (knows log : S → Lines → Type 0) (count : S → ℕ) (s e : S) (p : Task) (a b : Criterion) (r : Built) → r ≡ NoRoom → FrontLaws knows e p → knows s (first_lines p) →
     Continues knows log count s e (λ lines more. lines ≡ first_lines p → IsBuiltFront p a b r (lines ++ more)) →
     ToldBehind (knows e) (log s) (log e) (count s) (count e) (first_lines p) (λ more. IsFrontLog p a b Room (first_lines p ++ more))
 tells_no_room knows log count s e p a b r was laws start goes =
@@ -181,7 +181,7 @@ cause_of p a b Empty lines xs ys told h = told_still p None lines xs ys h ∙ to
 cause_of p a b Conflicts lines xs ys told h = subst (IsCause p.budget p.room BudgetSpent) (append_assoc lines xs ys) h.1
 cause_of p a b Room lines xs ys told h = inr (told_still p (Some RoomFull) lines xs ys h ∙ told, subst (IsCause p.budget p.room RoomFull) (append_assoc lines xs ys) h.1)
 
-pub tells_front : {S : Type 0} (knows log : S → Lines → Type 0) (count : S → ℕ) (s t e : S) (q p : Task) (a b : Criterion) (r : Built) (ending : FrontEnd) → q ≡ p → r ≡ AllOfThem → Laws knows e p → knows s (first_lines p) →
+pub tells_front : {S : Type 0} (knows log : S → Lines → Type 0) (count : S → ℕ) (s t e : S) (q p : Task) (a b : Criterion) (r : Built) (ending : FrontEnd) → q ≡ p → r ≡ AllOfThem → FrontLaws knows e p → knows s (first_lines p) →
     Continues knows log count s t (λ lines more. lines ≡ first_lines p → IsBuiltFront p a b r (lines ++ more)) →
     Continues knows log count t e (AreAsked q (stop_behind ending)) →
     ToldBehind (knows e) (log s) (log e) (count s) (count e) (first_lines p) (λ more. IsFrontLog p a b ending (first_lines p ++ more))

@@ -23,7 +23,7 @@ block_next first count k front lt =
     ∙ ap (λ n. front ++ (positive_of (first + k) ∷ block n (count - (k + 1)))) next
     ∙ sym (append_assoc front (positive_of (first + k) ∷ []) (block (first + (k + 1)) (count - (k + 1))))
 
-length-block : (first count : ℕ) → length (block first count) ≡ count
+pub length-block : (first count : ℕ) → length (block first count) ≡ count
 length-block first zero = refl
 length-block first (suc count) = omega (arith, length-block (first + 1) count)
 
@@ -32,7 +32,7 @@ pub length-outputs : (p : Part) → length (part_outputs p) ≡ part_size p
 length-outputs (Input l) = refl
 length-outputs (Outputs first count) = length-block first count
 
-block_there : (vars first count : ℕ) → 1 ≤ first → first + count ≤ vars + 1 → AreThere vars (block first count)
+pub block_there : (vars first count : ℕ) → 1 ≤ first → first + count ≤ vars + 1 → AreThere vars (block first count)
 block_there vars first zero from to = tt
 block_there vars first (suc count) from to = ((omega arith, omega arith), block_there vars (first + 1) count (omega arith) (omega arith))
 

@@ -60,7 +60,7 @@ levels_more vars cuts lits levels l n h size there unset e = λ i d lt. elim (ca
 ]
 
 -- a table that is longer by what it has past its end
-padded_none : {X : Type 0} (n i : ℕ) (x : X) → get_or (replicate n x) i x ≡ x
+pub padded_none : {X : Type 0} (n i : ℕ) (x : X) → get_or (replicate n x) i x ≡ x
 padded_none zero i x = refl
 padded_none (suc n) zero x = refl
 padded_none (suc n) (suc i) x = padded_none n i x

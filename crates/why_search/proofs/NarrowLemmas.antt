@@ -15,12 +15,12 @@ use Rattle.why_search.specs.Explained.{IsLoose}
 use Rattle.why_search.specs.Task.{Task, MeetsAt}
 use Rattle.why_search.specs.declared.oracle.Reply.{Reply}
 use Rattle.why_search.specs.declared.oracle.Reply.TheVariants.{Found, Refuted}
-use Rattle.why_search.specs.Asked.{ArePlaces, NoneMeets, IsRightReply}
+use Rattle.why_search.specs.Asked.{AreLawPlaces, NoneMeetsLaws, IsRightReply}
 use Rattle.why_search.specs.Narrowed.{has_number, IsNarrowed}
-use Rattle.why_search.proofs.PlaceLemmas.{all_last, pairs_left, pairs_last, pairs_both, has_contained}
-use Rattle.plan_core.proofs.ListFacts.{all_front, all_back}
+use Rattle.why_search.proofs.PlaceLemmas.{all_last, pairs_last, pairs_both, has_contained}
+use Rattle.plan_core.proofs.ListFacts.{all_front, all_back, pairs_front}
 
-pub narrow_none : (p : Task) (left : List ℕ) → ArePlaces p left → NoneMeets p left → IsNarrowed p [] left []
+pub narrow_none : (p : Task) (left : List ℕ) → AreLawPlaces p left → NoneMeetsLaws p left → IsNarrowed p [] left []
 narrow_none p left places none = record {
   kept_places = record { there = All-nil (λ n. n < length p.laws); once = λ i j d lt within. absurd (omega (arith, within)) };
   left_places = places;
@@ -31,10 +31,10 @@ narrow_none p left places none = record {
 }
 
 -- what is asked: all that are left but the last
-pub narrow_asked : (p : Task) (kept left : List ℕ) (n : ℕ) (without : List Drawing) → IsNarrowed p kept (left ++ n ∷ []) without → ArePlaces p (kept ++ left)
+pub narrow_asked : (p : Task) (kept left : List ℕ) (n : ℕ) (without : List Drawing) → IsNarrowed p kept (left ++ n ∷ []) without → AreLawPlaces p (kept ++ left)
 narrow_asked p kept left n without h = record {
   there = All-append (λ k. k < length p.laws) kept left h.kept_places.there (all_front (λ k. k < length p.laws) left (n ∷ []) h.left_places.there);
-  once = pairs_both (λ a b. a ≢ b) kept left h.kept_places.once (pairs_left (λ a b. a ≢ b) left (n ∷ []) h.left_places.once)
+  once = pairs_both (λ a b. a ≢ b) kept left h.kept_places.once (pairs_front (λ a b. a ≢ b) left (n ∷ []) h.left_places.once)
       (λ a b ca cb. h.apart a b ca (Contains-append_left left (n ∷ []) b cb));
 }
 
@@ -80,7 +80,7 @@ narrow_found p kept left n without d h found = record {
   };
   left_places = record {
     there = all_front (λ k. k < length p.laws) left (n ∷ []) h.left_places.there;
-    once = pairs_left (λ a b. a ≢ b) left (n ∷ []) h.left_places.once;
+    once = pairs_front (λ a b. a ≢ b) left (n ∷ []) h.left_places.once;
   };
   apart = λ a b ca cb. elim (Contains-push_cases kept n a ca) [
     | inl there ↦ h.apart a b there (Contains-append_left left (n ∷ []) b cb)
@@ -96,10 +96,10 @@ narrow_found p kept left n without d h found = record {
 
 -- the last is left out, and with it what isn't among those that can't be met
 pub narrow_refuted : (p : Task) (kept left core : List ℕ) (n : ℕ) (without : List Drawing) → IsNarrowed p kept (left ++ n ∷ []) without →
-    All (Contains (kept ++ left)) core × NoneMeets p core → IsNarrowed p kept (filter (has_number core) left) without
+    All (Contains (kept ++ left)) core × NoneMeetsLaws p core → IsNarrowed p kept (filter (has_number core) left) without
 narrow_refuted p kept left core n without h refuted =
     let left_there = all_front (λ k. k < length p.laws) left (n ∷ []) h.left_places.there in
-    let left_once = pairs_left (λ a b. a ≢ b) left (n ∷ []) h.left_places.once in
+    let left_once = pairs_front (λ a b. a ≢ b) left (n ∷ []) h.left_places.once in
     let only = filter (has_number core) left in
     record {
       kept_places = h.kept_places;
@@ -132,7 +132,7 @@ narrow_refuted p kept left core n without h refuted =
         ]
 
 -- those of the first refuted question
-pub first_left : (p : Task) (all core : List ℕ) → ArePlaces p all → All (Contains all) core × NoneMeets p core → ArePlaces p (filter (has_number core) all) × NoneMeets p (filter (has_number core) all)
+pub first_left : (p : Task) (all core : List ℕ) → AreLawPlaces p all → All (Contains all) core × NoneMeetsLaws p core → AreLawPlaces p (filter (has_number core) all) × NoneMeetsLaws p (filter (has_number core) all)
 first_left p all core places refuted = (
   record {
     there = All-filter (has_number core) (λ k. k < length p.laws) all places.there;
@@ -168,11 +168,11 @@ filter_short t (x ∷ xs) = pick (t x) (filter_short t xs)
 pub filter_shorter : (t : ℕ → Bool) (xs ys : List ℕ) → ys ≡ filter t xs → length ys ≤ length xs
 filter_shorter t xs ys e = subst (λ (l : List ℕ). length l ≤ length xs) (sym e) (filter_short t xs)
 
-pub first_refuted : (p : Task) (all core core_slice left : List ℕ) (reply : Reply) → ArePlaces p all → reply ≡ Refuted core → IsRightReply p all reply → core_slice ≡ core → left ≡ filter (has_number core_slice) all →
-    ArePlaces p left × NoneMeets p left
+pub first_refuted : (p : Task) (all core core_slice left : List ℕ) (reply : Reply) → AreLawPlaces p all → reply ≡ Refuted core → IsRightReply p all reply → core_slice ≡ core → left ≡ filter (has_number core_slice) all →
+    AreLawPlaces p left × NoneMeetsLaws p left
 first_refuted p all core core_slice left reply places is right same only =
     let got : IsRightReply p all (Refuted core) = subst (λ (r : Reply). IsRightReply p all r) is right in
-    subst (λ (l : List ℕ). ArePlaces p l × NoneMeets p l) (sym (only ∙ ap (λ (c : List ℕ). filter (has_number c) all) same)) (first_left p all core places got)
+    subst (λ (l : List ℕ). AreLawPlaces p l × NoneMeetsLaws p l) (sym (only ∙ ap (λ (c : List ℕ). filter (has_number c) all) same)) (first_left p all core places got)
 
 pub nothing_left : (left rest : List ℕ) (n : ℕ) → left ≡ rest ++ [] → rest ≡ take (n - 1) left → n ≡ 0 → left ≡ []
 nothing_left left rest n items front none = let z : n - 1 ≡ 0 = omega arith in items ∙ append-nil rest ∙ front ∙ ap (λ k. take k left) z

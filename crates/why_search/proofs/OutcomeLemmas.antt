@@ -6,6 +6,7 @@ use Rattle.std.proofs.lemmas.List.{length-map, get_or-map as at_map}
 use Rattle.std.proofs.lemmas.Option.{slice_get-get_or}
 use Rattle.std.proofs.lemmas.Bool.Decides.{eqb_tells}
 use Rattle.std.proofs.lemmas.List.Elements.{All-map, All-weaker, All-contains, Contains-get_or}
+use Rattle.plan_core.proofs.ListFacts.{all_mapped}
 use Rattle.plan_core.specs.Grid.{GridSize}
 use Rattle.plan_core.specs.Graph.{Graph}
 use Rattle.plan_core.specs.Drawing.{Drawing}
@@ -15,9 +16,9 @@ use Rattle.why_search.specs.Task.{Task, law_at, MeetsAt, HasAllLaws}
 use Rattle.why_search.specs.Narrowed.{countdown, IsNarrowed}
 use Rattle.why_search.specs.declared.oracle.Reply.{Reply}
 use Rattle.why_search.specs.declared.oracle.Reply.TheVariants.{Found}
-use Rattle.why_search.specs.Asked.{ArePlaces, IsRightReply}
+use Rattle.why_search.specs.Asked.{AreLawPlaces, IsRightReply}
 use Rattle.why_search.specs.Outcome.{laws_at}
-use Rattle.why_search.proofs.PlaceLemmas.{countdown_below, countdown_once, countdown_has, remove_map, all_mapped}
+use Rattle.why_search.proofs.PlaceLemmas.{countdown_below, countdown_once, countdown_has, remove_map}
 
 same_default : {X : Type 0} (xs : List X) (k : ℕ) (d e : X) → k < length xs → slice_index_or xs k d ≡ slice_index_or xs k e
 same_default [] k d e lt = absurd (omega (arith, lt))
@@ -43,7 +44,7 @@ meets_each p d h loose met (Parted e f) is = met_all p d h met (Parted e f) (h.a
 pub all_met : (p : Task) (d : Drawing) → HasAllLaws p → IsLoose p.graph p.grid d → All (MeetsAt p d) (countdown (length p.laws)) → Lawful p.graph p.above p.grid d
 all_met p d h loose met = record { fits = loose.fits; laws = meets_each p d h loose met }
 
-pub all_places_are : (p : Task) → ArePlaces p (countdown (length p.laws))
+pub all_places_are : (p : Task) → AreLawPlaces p (countdown (length p.laws))
 all_places_are p = record { there = countdown_below (length p.laws); once = countdown_once (length p.laws) }
 
 -- nothing is left to take away

@@ -2,8 +2,7 @@
 use Rattle.std.proofs.Common.{◌≡◌, ◌≢◌, ℕ, zero, suc, ◌+◌, ◌-◌, ◌<◌, ◌≤◌, Bool, true, false, List, [], ◌∷◌, ◌++◌, length, get_or, take, drop, refl, sym, ◌∙◌, ap, subst, inl, inr, arith, append-nil, append_assoc, length-append, map, drop-cons, ◌⊎◌}
 use Rattle.std.specs.Prelude.{◌||◌, ◌==◌, slice_index_or}
 use Rattle.std.specs.List.{All, AllPairs, Contains, remove}
-use Rattle.std.proofs.lemmas.List.{length-map, get_or_append_left, get_or-append-add, take-map, drop-map, map-append}
-use Rattle.std.proofs.lemmas.List.{get_or-map as at_map}
+use Rattle.std.proofs.lemmas.List.{get_or_append_left, take-map, drop-map, map-append}
 use Rattle.std.proofs.Math.Seq.{get_or-append_seam}
 use Rattle.std.proofs.lemmas.Bool.Decides.{nat_tests}
 use Rattle.std.proofs.lemmas.List.Elements.{All-nil, All-cons, All-weaker, Contains-get_or, Contains-append_cases}
@@ -11,17 +10,12 @@ use Rattle.std.proofs.lemmas.List.Kept.{AllPairs-cons}
 use Rattle.std.proofs.lemmas.List.Quantifiers.{all_pairs_push}
 use Rattle.why_search.specs.Narrowed.{countdown, has_number}
 use Rattle.plan_core.proofs.ListFacts.{pairs_tail}
+use Rattle.plan_core.proofs.Listing.{Contains-head, Contains-tail}
 
 -- ---- parts of lists
 
 pub all_last : {X : Type 0} (P : X → Type 0) (xs : List X) (y : X) → All P (xs ++ y ∷ []) → P y
 all_last P xs y h = subst P (get_or-append_seam xs y [] y) (h (length xs) y (let n = length-append xs (y ∷ []) in omega arith))
-
-pub pairs_left : {X : Type 0} (R : X → X → Type 0) (xs ys : List X) → AllPairs R (xs ++ ys) → AllPairs R xs
-pairs_left R xs ys h = λ i j d lt within.
-    let n = length-append xs ys in
-    subst (λ a. R a (slice_index_or xs j d)) (get_or_append_left xs ys d i (omega arith))
-    (subst (R (slice_index_or (xs ++ ys) i d)) (get_or_append_left xs ys d j within) (h i j d lt (omega arith)))
 
 pub pairs_last : {X : Type 0} (R : X → X → Type 0) (xs : List X) (y x : X) → AllPairs R (xs ++ y ∷ []) → Contains xs x → R x y
 pairs_last R xs y x h c =
@@ -40,20 +34,14 @@ pairs_head R x y xs h c =
     let is : slice_index_or xs k y ≡ y = c.2 in
     subst (R x) is (h 0 (suc k) y (omega arith) (omega arith))
 
-contains_head : {X : Type 0} (x : X) (xs : List X) → Contains (x ∷ xs) x
-contains_head x xs = (0, omega arith, refl)
-
-contains_tail : {X : Type 0} (x y : X) (xs : List X) → Contains xs y → Contains (x ∷ xs) y
-contains_tail x y xs c = (suc c.0, (let lt = c.1 in omega arith), c.2)
-
 pub pairs_both : {X : Type 0} (R : X → X → Type 0) (xs ys : List X) → AllPairs R xs → AllPairs R ys → ((a b : X) → Contains xs a → Contains ys b → R a b) → AllPairs R (xs ++ ys)
 pairs_both R xs [] p q h = subst (AllPairs R) (sym (append-nil xs)) p
 pairs_both R xs (y ∷ ys) p q h = subst (AllPairs R) (append_assoc xs (y ∷ []) ys)
     (pairs_both R (xs ++ y ∷ []) ys
-    (all_pairs_push R xs y p (λ k d lt. h (get_or xs k d) y (Contains-get_or xs k d lt) (contains_head y ys)))
+    (all_pairs_push R xs y p (λ k d lt. h (get_or xs k d) y (Contains-get_or xs k d lt) (Contains-head y ys)))
     (pairs_tail R y ys q)
     (λ a b ca cb. elim (Contains-append_cases xs (y ∷ []) a ca) [
-      | inl there ↦ h a b there (contains_tail y b ys cb)
+      | inl there ↦ h a b there (Contains-tail y ys b cb)
       | inr last ↦ subst (λ z. R z b) (last_is y a last) (pairs_head R y b ys q cb)
     ]))
   where
@@ -63,9 +51,6 @@ pairs_both R xs (y ∷ ys) p q h = subst (AllPairs R) (append_assoc xs (y ∷ []
 
 pub remove_map : {X Y : Type 0} (f : X → Y) (xs : List X) (i : ℕ) → remove (map f xs) i ≡ map f (remove xs i)
 remove_map f xs i = ap (λ z. z ++ drop (suc i) (map f xs)) (take-map f i xs) ∙ ap (λ z. map f (take i xs) ++ z) (drop-map f (suc i) xs) ∙ sym (map-append f (take i xs) (drop (suc i) xs))
-
-pub all_mapped : {X Y : Type 0} (P : Y → Type 0) (f : X → Y) (xs : List X) → All P (map f xs) → All (λ x. P (f x)) xs
-all_mapped P f xs h = λ k d lt. subst P (at_map f xs k d (f d) lt) (h k (f d) (let n = length-map xs f in omega arith))
 
 -- ---- all places
 
@@ -80,8 +65,8 @@ countdown_once (suc n) = AllPairs-cons (λ a b. a ≢ b) n (countdown n) (All-we
 pub countdown_has : (n k : ℕ) → k < n → Contains (countdown n) k
 countdown_has zero k lt = absurd (omega (arith, lt))
 countdown_has (suc n) k lt = elim (split k n lt) [
-  | inl less ↦ contains_tail n k (countdown n) (countdown_has n k less)
-  | inr same ↦ subst (Contains (n ∷ countdown n)) (sym same) (contains_head n (countdown n))
+  | inl less ↦ Contains-tail n (countdown n) k (countdown_has n k less)
+  | inr same ↦ subst (Contains (n ∷ countdown n)) (sym same) (Contains-head n (countdown n))
 ]
   where
     split : (k n : ℕ) → k < suc n → (k < n) ⊎ (k ≡ n)

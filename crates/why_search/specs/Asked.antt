@@ -10,19 +10,19 @@ use Rattle.why_search.specs.Explained.{IsLoose}
 use Rattle.why_search.specs.Task.{Task, MeetsAt}
 
 -- places of the list, each once
-pub record ArePlaces (p : Task) (places : List ℕ) : Type 0 where
+pub record AreLawPlaces (p : Task) (places : List ℕ) : Type 0 where
   pub there : All (λ n. n < length p.laws) places
   pub once : AllPairs (λ a b. a ≢ b) places
 
 -- no loose drawing meets the laws at all these places
-abbrev pub NoneMeets : Task → List ℕ → Type 0
-NoneMeets p places = (d : Drawing) → IsLoose p.graph p.grid d → All (MeetsAt p d) places → ⊥
+abbrev pub NoneMeetsLaws : Task → List ℕ → Type 0
+NoneMeetsLaws p places = (d : Drawing) → IsLoose p.graph p.grid d → All (MeetsAt p d) places → ⊥
 
 -- a drawing that is found is loose and meets what was asked for; where there is none, some of what was asked for can't
 -- be met already
 abbrev pub IsRightReply : Task → List ℕ → Reply → Type 0
 IsRightReply p wanted (Found d) = IsLoose p.graph p.grid d × All (MeetsAt p d) wanted
-IsRightReply p wanted (Refuted core) = All (Contains wanted) core × NoneMeets p core
+IsRightReply p wanted (Refuted core) = All (Contains wanted) core × NoneMeetsLaws p core
 IsRightReply p wanted (Stopped stop) = ⊤
 
 -- where a search stopped, and didn't go on, its lines have the cause

@@ -5,7 +5,7 @@ ghost use Rattle.why_search.specs.declared.outcome.Outcome.TheVariants.{Laws};
 ghost use Rattle.why_search.specs.Task.{HasAllLaws};
 ghost use Rattle.why_search.specs.Narrowed.{IsNarrowed};
 ghost use Rattle.refute_log.specs.Steps.{Continues, Leaves};
-ghost use Rattle.why_search.specs.Asked.{ArePlaces, NoneMeets, TellsStop};
+ghost use Rattle.why_search.specs.Asked.{AreLawPlaces, NoneMeetsLaws, TellsStop};
 ghost use Rattle.why_search.specs.Outcome.{IsRightOutcome, TellsOutcome};
 
 use crate::oracle::{LawOracle, Reply};
@@ -93,8 +93,8 @@ pub(crate) fn narrow<O: LawOracle>(
 ) -> Result<Outcome, WhyFault>
     requires ready { O.ready oracle.old }
     requires laws { HasAllLaws (O.task oracle.old) }
-    requires places { ArePlaces (O.task oracle.old) left.items }
-    requires none { NoneMeets (O.task oracle.old) left.items }
+    requires places { AreLawPlaces (O.task oracle.old) left.items }
+    requires none { NoneMeetsLaws (O.task oracle.old) left.items }
     ensures right { IfOk result (IsRightOutcome (O.task oracle.old)) }
     ensures lines { IfOk result (λ o. Continues O.knows O.log O.learnt oracle.old oracle.new (λ lines more.
         TellsOutcome (O.task oracle.old) o (lines ++ more))) }

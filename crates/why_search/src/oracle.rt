@@ -6,7 +6,7 @@ ghost use Rattle.refute_log.specs.declared.line.LogLine.TheVariants.{Formula};
 ghost use Rattle.refute_log.specs.Log.{Derives, Due, clause_lines};
 ghost use Rattle.why_search.specs.Task.{Task};
 ghost use Rattle.refute_log.specs.Steps.{Continues, Leaves};
-ghost use Rattle.why_search.specs.Asked.{ArePlaces, IsRightReply, TellsReply};
+ghost use Rattle.why_search.specs.Asked.{AreLawPlaces, IsRightReply, TellsReply};
 
 use crate::WhyFault;
 use certified_values::Stop;
@@ -56,7 +56,7 @@ pub trait LawOracle {
     /// Asks for a loose drawing that meets the laws at these places.
     fn ask(&mut self, wanted: &[u32]) -> Result<Reply, WhyFault>
         requires ready { ready self.old }
-        requires places { ArePlaces (task self.old) wanted.now }
+        requires places { AreLawPlaces (task self.old) wanted.now }
         ensures right { IfOk result (IsRightReply (task self.old) wanted.now) }
         ensures lines { IfOk result (λ r. Continues knows log learnt self.old self.new (λ lines more.
             TellsReply (task self.old) r (lines ++ more))) }

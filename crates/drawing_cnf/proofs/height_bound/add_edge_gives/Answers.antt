@@ -2,7 +2,7 @@ use Rattle.std.proofs.Common.{rules, ◌+◌}
 use Rattle.cnf_core.proofs.StepLemmas.{adds_refused, adds_after}
 use Rattle.cnf_core.specs.Formula.{each}
 use Rattle.edge_shape.specs.EdgeVars.{edge_spot}
-use Rattle.drawing_cnf.specs.Expected.{edge_first, drawing_vars}
+use Rattle.law_clauses.specs.Expected.{edge_first, drawing_vars}
 use Rattle.drawing_cnf.specs.Bounds.{height_gives, height_beside}
 use Rattle.drawing_cnf.proofs.BoundCode.{heights_adds}
 use Rattle.drawing_cnf.proofs.height_bound.add_edge_gives.Goals as goal

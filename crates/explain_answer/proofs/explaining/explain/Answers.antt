@@ -6,7 +6,7 @@ use Rattle.input_answer.specs.Met.{between}
 use Rattle.input_answer.proofs.AnswerLemmas.{refused_on}
 use Rattle.input_answer.proofs.MetLemmas.{reads_one}
 use Rattle.explain_answer.specs.Explained.{IsExplainAnswer}
-use Rattle.explain_answer.proofs.ExplainedLemmas.{untold_here}
+use Rattle.input_answer.proofs.AnswerLemmas.{untold_here}
 use Rattle.explain_answer.proofs.explaining.explain.Goals as goal
 
 pub returns-in-Ok-clause-reads : goal.returns-in-Ok-clause-reads

@@ -3,10 +3,10 @@ use Rattle.std.specs.Prelude.{None, IfOk}
 use Rattle.std.proofs.lemmas.Result.{IfOk-weaker}
 use Rattle.refute_log.specs.declared.line.LogLine.TheVariants.{Formula}
 use Rattle.refute_log.specs.Steps.{ToldBehind, Continues}
-use Rattle.fewest_search.specs.Counted.{Counted, IsOne}
+use Rattle.fewest_search.specs.CountTask.{CountTask, IsOne}
 use Rattle.fewest_search.specs.Asked.{IsAnswer}
 use Rattle.fewest_search.specs.Fewest.{IsRightFewest, IsFewestLog}
-use Rattle.fewest_search.specs.Run.{EndsIn}
+use Rattle.fewest_search.specs.Run.{IsRunToEnd}
 use Rattle.refute_log.proofs.StepLemmas.{known_after}
 use Rattle.fewest_search.proofs.AskLemmas.{laws_back, refuted_none}
 use Rattle.fewest_search.proofs.OutcomeLemmas.{found_fact, right_stopped, first_found, first_refuted, first_stopped, log_laws_at, tells}
@@ -19,10 +19,10 @@ lower-requires-clause-known g c = let q = g.Q.CountOracle in
 
 pub lower-requires-clause-one : goal.lower-requires-clause-one
 lower-requires-clause-one g c = let q = g.Q.CountOracle in
-    subst (λ (p : Counted). IsOne p c.in-Found.first) (sym c.in_ok-first.ensures.task) (found_fact (q.task c.args.questions.now) None c.in-Found.first c.in_ok-first.field-0 c.in-Found.is c.in_ok-first.ensures.right).0
+    subst (λ (p : CountTask). IsOne p c.in-Found.first) (sym c.in_ok-first.ensures.task) (found_fact (q.task c.args.questions.now) None c.in-Found.first c.in_ok-first.field-0 c.in-Found.is c.in_ok-first.ensures.right).0
 
 pub returns-in-Found-clause-right : goal.returns-in-Found-clause-right
-returns-in-Found-clause-right g c = subst (λ (p : Counted). IfOk c.lower.result (IsRightFewest p)) c.in_ok-first.ensures.task c.lower.ensures.right
+returns-in-Found-clause-right g c = subst (λ (p : CountTask). IfOk c.lower.result (IsRightFewest p)) c.in_ok-first.ensures.task c.lower.ensures.right
 
 pub returns-in-Found-clause-lines : goal.returns-in-Found-clause-lines
 returns-in-Found-clause-lines g c = let q = g.Q.CountOracle in
@@ -30,7 +30,7 @@ returns-in-Found-clause-lines g c = let q = g.Q.CountOracle in
     let b = c.ask.new.self in
     let e = c.lower.new.questions in
     let p = q.task a in
-    IfOk-weaker c.lower.result (λ r. Continues q.knows q.log q.learnt b e (EndsIn (q.task b) r))
+    IfOk-weaker c.lower.result (λ r. Continues q.knows q.log q.learnt b e (IsRunToEnd (q.task b) r))
     (λ r. ToldBehind (q.knows e) (q.log a) (q.log e) (q.learnt a) (q.learnt e) (map Formula p.clauses) (λ more. IsFewestLog p r (map Formula p.clauses ++ more)))
     (λ r h. tells q.knows q.log q.learnt a e p r
     (log_laws_at q.knows e (q.task e) p (c.lower.ensures.task ∙ c.in_ok-first.ensures.task)

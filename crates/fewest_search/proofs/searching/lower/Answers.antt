@@ -1,6 +1,6 @@
 use Rattle.std.proofs.Common.{◌≡◌, ◌≤◌, refl, sym, ◌∙◌, ap, subst, arith}
 use Rattle.std.specs.Prelude.{Some}
-use Rattle.fewest_search.specs.Counted.{Counted, IsOne}
+use Rattle.fewest_search.specs.CountTask.{CountTask, IsOne}
 use Rattle.fewest_search.specs.Asked.{IsAnswer}
 use Rattle.refute_log.proofs.StepLemmas.{known_after}
 use Rattle.fewest_search.proofs.AskLemmas.{laws_back, refuted_none, run_none, run_found, ends_refuted, ends_zero, ends_stopped}
@@ -22,25 +22,21 @@ loop-count-init g c = let q = g.Q.CountOracle in
       lines = run_none q.knows q.log q.learnt a;
     }
 
-pub ask-requires-clause-near : goal.ask-requires-clause-near
-ask-requires-clause-near g c = let q = g.Q.CountOracle in
-    subst (λ (p : Counted). IsOne p c.loop-count.best) (sym c.loop-count.invariant.task) c.loop-count.invariant.one
-
 pub ask-requires-clause-limit : goal.ask-requires-clause-limit
 ask-requires-clause-limit g c = let q = g.Q.CountOracle in
-    (omega arith, subst (λ (p : Counted). c.loop-count.count ≤ p.most) (sym c.loop-count.invariant.task) c.loop-count.invariant.within)
+    (omega arith, subst (λ (p : CountTask). c.loop-count.count ≤ p.most) (sym c.loop-count.invariant.task) c.loop-count.invariant.within)
 
 pub count-count-requires-in-Found-clause-one : goal.count-count-requires-in-Found-clause-one
 count-count-requires-in-Found-clause-one g c = let q = g.Q.CountOracle in
     let p = q.task c.loop-count.questions in
     let one = (found_fact p (Some c.loop-count.count) c.in-Found.d c.in_ok-d.field-0 c.in-Found.is c.in_ok-d.ensures.right).0 in
-    subst (λ (x : Counted). IsOne x c.in-Found.d) (sym c.in_ok-d.ensures.task) one
+    subst (λ (x : CountTask). IsOne x c.in-Found.d) (sym c.in_ok-d.ensures.task) one
 
 pub loop-count-smaller : goal.loop-count-smaller
 loop-count-smaller g c = let q = g.Q.CountOracle in
     let p = q.task c.loop-count.questions in
     let lt = (found_fact p (Some c.loop-count.count) c.in-Found.d c.in_ok-d.field-0 c.in-Found.is c.in_ok-d.ensures.right).1 in
-    let is : c.count-count-in-Found.result ≡ p.count c.in-Found.d = c.count-count-in-Found.ensures ∙ ap (λ (x : Counted). x.count c.in-Found.d) c.in_ok-d.ensures.task in
+    let is : c.count-count-in-Found.result ≡ p.count c.in-Found.d = c.count-count-in-Found.ensures ∙ ap (λ (x : CountTask). x.count c.in-Found.d) c.in_ok-d.ensures.task in
     omega (arith, is, lt)
 
 pub loop-count-preserved : goal.loop-count-preserved
@@ -50,8 +46,8 @@ loop-count-preserved g c = let q = g.Q.CountOracle in
     let e = c.ask.new.self in
     let same : q.task e ≡ q.task a = c.in_ok-d.ensures.task ∙ c.loop-count.invariant.task in
     let fact = found_fact (q.task b) (Some c.loop-count.count) c.in-Found.d c.in_ok-d.field-0 c.in-Found.is c.in_ok-d.ensures.right in
-    let one : IsOne (q.task a) c.in-Found.d = subst (λ (x : Counted). IsOne x c.in-Found.d) c.loop-count.invariant.task fact.0 in
-    let is : c.count-count-in-Found.result ≡ (q.task a).count c.in-Found.d = c.count-count-in-Found.ensures ∙ ap (λ (x : Counted). x.count c.in-Found.d) same in
+    let one : IsOne (q.task a) c.in-Found.d = subst (λ (x : CountTask). IsOne x c.in-Found.d) c.loop-count.invariant.task fact.0 in
+    let is : c.count-count-in-Found.result ≡ (q.task a).count c.in-Found.d = c.count-count-in-Found.ensures ∙ ap (λ (x : CountTask). x.count c.in-Found.d) same in
     record {
       count = is;
       within = (let le = g.met.Q.CountOracle.within a c.in-Found.d one in omega (arith, is, le));
@@ -72,7 +68,7 @@ returns-in-Refuted-clause-right g c = let q = g.Q.CountOracle in
     fewest_from (q.task a) c.loop-count.count c.loop-count.best c.loop-count.invariant.count c.loop-count.invariant.one
     (refuted_none q.knows q.log q.learnt b e (q.task b) (q.task a) (Some c.loop-count.count) c.in_ok-d.field-0 c.loop-count.invariant.task c.in-Refuted.is c.loop-count.invariant.known
     (laws_back q.knows e (q.task e) (q.task b) c.in_ok-d.ensures.task (record { covers = g.met.Q.CountOracle.covers e; derives = g.met.Q.CountOracle.derives e }))
-    (omega arith, subst (λ (p : Counted). c.loop-count.count ≤ p.most) (sym c.loop-count.invariant.task) c.loop-count.invariant.within)
+    (omega arith, subst (λ (p : CountTask). c.loop-count.count ≤ p.most) (sym c.loop-count.invariant.task) c.loop-count.invariant.within)
     c.in_ok-d.ensures.lines)
 
 pub returns-in-Refuted-clause-lines : goal.returns-in-Refuted-clause-lines

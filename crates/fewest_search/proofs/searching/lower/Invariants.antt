@@ -1,7 +1,7 @@
 use Rattle.std.proofs.Common.{◌≡◌, ◌≤◌}
 use Rattle.refute_log.specs.Steps.{Continues, KnowsSome}
-use Rattle.fewest_search.specs.Counted.{IsOne}
-use Rattle.fewest_search.specs.Run.{IsRun}
+use Rattle.fewest_search.specs.CountTask.{IsOne}
+use Rattle.fewest_search.specs.Run.{IsRunOfDrawings}
 use Rattle.fewest_search.proofs.searching.lower.Given as goal
 
 abbrev pub invariant-loop-count : goal.invariant-loop-count
@@ -14,7 +14,7 @@ invariant-loop-count g l = let q = g.Q.CountOracle in record {
   one : IsOne (q.task l.fn.questions) l.best;
   later : q.is_later l.fn.questions l.questions;
   faults : q.faults l.fn.questions ≤ q.faults l.questions;
-  lines : Continues q.knows q.log q.learnt l.fn.questions l.questions IsRun;
+  lines : Continues q.knows q.log q.learnt l.fn.questions l.questions IsRunOfDrawings;
 }
 
 abbrev pub decreases-loop-count : goal.decreases-loop-count

@@ -6,7 +6,7 @@ use Rattle.input_answer.specs.Met.{between}
 use Rattle.input_answer.proofs.AnswerLemmas.{refused_on}
 use Rattle.input_answer.proofs.MetLemmas.{reads_one}
 use Rattle.front_answer.specs.Fronted.{IsFrontAnswer}
-use Rattle.front_answer.proofs.FrontedLemmas.{untold_here}
+use Rattle.input_answer.proofs.AnswerLemmas.{untold_here}
 use Rattle.front_answer.proofs.fronting.front.Goals as goal
 
 pub returns-in-Ok-clause-reads : goal.returns-in-Ok-clause-reads

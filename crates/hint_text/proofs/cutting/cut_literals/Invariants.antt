@@ -1,5 +1,5 @@
-use Rattle.hint_text.specs.Parts.{NoneBefore}
+use Rattle.hint_text.specs.Parts.{NoZeroBefore}
 use Rattle.hint_text.proofs.cutting.cut_literals.Given as goal
 
 abbrev pub invariant-loop-place : goal.invariant-loop-place
-invariant-loop-place l = NoneBefore l.text l.place
+invariant-loop-place l = NoZeroBefore l.text l.place

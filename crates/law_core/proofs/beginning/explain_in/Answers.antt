@@ -7,7 +7,7 @@ use Rattle.why_search.specs.Outcome.{TellsOutcome}
 use Rattle.law_core.specs.declared.parties.Law.{Law}
 use Rattle.law_core.specs.Law.{instance_of}
 use Rattle.law_core.specs.Known.{task_of}
-use Rattle.law_core.specs.Why.{IsAnswerOf, HasPlaces}
+use Rattle.law_core.specs.Why.{IsWhyOf, HasLawPlaces}
 use Rattle.law_core.proofs.QueryLemmas.{known_left, later_left}
 use Rattle.law_core.proofs.BeginLemmas.{size_there, vars_few, words_fit, selecting_are, begun_ready, all_searched, has_places, right_answer, whole_log, left_none, left_begun, left_later}
 use Rattle.law_core.proofs.beginning.explain_in.Goals as goal
@@ -75,7 +75,7 @@ answer_of-requires g c =
     let w = c.args.whole.now in
     let budget = c.args.limits.now.budget in
     let room = c.args.limits.now.room in
-    subst (λ (ls : List Law). HasPlaces (length ls) c.in_ok-outcome.outcome) (sym c.deref-2.ensures.value) (has_places y budget room w.laws.items c.in_ok-outcome.outcome c.requires.formula.laws_are c.in_ok-outcome.ensures.right)
+    subst (λ (ls : List Law). HasLawPlaces (length ls) c.in_ok-outcome.outcome) (sym c.deref-2.ensures.value) (has_places y budget room w.laws.items c.in_ok-outcome.outcome c.requires.formula.laws_are c.in_ok-outcome.ensures.right)
 
 pub returns-clause-right : goal.returns-clause-right
 returns-clause-right g c =
@@ -84,7 +84,7 @@ returns-clause-right g c =
     let budget = c.args.limits.now.budget in
     let room = c.args.limits.now.room in
     right_answer y budget room c.in_ok-outcome.outcome c.in_ok-why.why c.in_ok-outcome.ensures.right
-    (subst (λ (is : List Instance). IsAnswerOf is c.in_ok-outcome.outcome c.in_ok-why.why) (ap (map instance_of) c.deref-2.ensures.value ∙ c.requires.formula.laws_are) c.in_ok-why.ensures)
+    (subst (λ (is : List Instance). IsWhyOf is c.in_ok-outcome.outcome c.in_ok-why.why) (ap (map instance_of) c.deref-2.ensures.value ∙ c.requires.formula.laws_are) c.in_ok-why.ensures)
 
 pub returns-clause-lines : goal.returns-clause-lines
 returns-clause-lines g c =
@@ -96,7 +96,7 @@ returns-clause-lines g c =
     whole_log y budget room w.laws.items w.formula c.in_ok-outcome.outcome c.in_ok-why.why c.args.solver.now c.begin.new.solver c.search_from.new.solver
     (k.tells c.args.log.now) (k.tells c.begin.new.log) (k.tells c.search_from.new.log) (k.learnt c.args.log.now) (k.learnt c.begin.new.log) (k.learnt c.search_from.new.log)
     c.requires.formula c.requires.new c.in_ok-begin.ensures.taken c.in_ok-begin.ensures.lines c.in_ok-outcome.ensures.lines
-    (subst (λ (is : List Instance). IsAnswerOf is c.in_ok-outcome.outcome c.in_ok-why.why) (ap (map instance_of) c.deref-2.ensures.value ∙ c.requires.formula.laws_are) c.in_ok-why.ensures)
+    (subst (λ (is : List Instance). IsWhyOf is c.in_ok-outcome.outcome c.in_ok-why.why) (ap (map instance_of) c.deref-2.ensures.value ∙ c.requires.formula.laws_are) c.in_ok-why.ensures)
 
 pub returns-in_err-selecting-clause-left : goal.returns-in_err-selecting-clause-left
 returns-in_err-selecting-clause-left g c =

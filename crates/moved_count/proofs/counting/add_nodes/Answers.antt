@@ -1,7 +1,7 @@
 use Rattle.std.proofs.Common.{rules, ◌≡◌, ◌∙◌, arith, slice_index_or}
 use Rattle.std.proofs.lemmas.List.{get_or_default}
 use Rattle.cnf_core.proofs.StepLemmas.{adding_more, adding_done, adding_refused}
-use Rattle.moved_count.specs.Nodes.{no_node}
+use Rattle.moved_count.specs.Nodes.{no_node_vars}
 use Rattle.moved_count.proofs.CodeLemmas.{matched_next, matched_room, at_adds}
 use Rattle.moved_count.proofs.counting.add_nodes.Goals as goal
 
@@ -14,7 +14,7 @@ add_by-requires-clause-to c =
 
 pub returns-in_err-add_by : goal.returns-in_err-add_by
 returns-in_err-add_by c =
-    let n : c.index-nodes-k.result ≡ slice_index_or c.args.nodes.now c.loop-k.k no_node = c.index-nodes-k.is ∙ get_or_default c.args.nodes.now c.loop-k.k c.index-nodes-k.result no_node (let lt = c.loop-k-test.true in let same = c.requires.same in omega (arith, lt, same)) in
+    let n : c.index-nodes-k.result ≡ slice_index_or c.args.nodes.now c.loop-k.k no_node_vars = c.index-nodes-k.is ∙ get_or_default c.args.nodes.now c.loop-k.k c.index-nodes-k.result no_node_vars (let lt = c.loop-k-test.true in let same = c.requires.same in omega (arith, lt, same)) in
     adding_refused c.add_by.result c.from_residual.result _ _ _ _ _ _ _ _ c.from_residual.ensures.0 (λ k. search (rules, k)) c.loop-k-test.true c.loop-k.invariant.adding
     (at_adds c.add_by.result _ _ c.args.nodes.now c.args.former.now c.args.first c.loop-k.k c.loop-k.m c.index-nodes-k.result n c.loop-k.invariant.next c.add_by.ensures)
 
@@ -28,7 +28,7 @@ overflow_add-m c =
 
 pub loop-k-preserved : goal.loop-k-preserved
 loop-k-preserved c =
-    let n : c.index-nodes-k.result ≡ slice_index_or c.args.nodes.now c.loop-k.k no_node = c.index-nodes-k.is ∙ get_or_default c.args.nodes.now c.loop-k.k c.index-nodes-k.result no_node (let lt = c.loop-k-test.true in let same = c.requires.same in omega (arith, lt, same)) in
+    let n : c.index-nodes-k.result ≡ slice_index_or c.args.nodes.now c.loop-k.k no_node_vars = c.index-nodes-k.is ∙ get_or_default c.args.nodes.now c.loop-k.k c.index-nodes-k.result no_node_vars (let lt = c.loop-k-test.true in let same = c.requires.same in omega (arith, lt, same)) in
     record {
       adding = adding_more _ _ _ _ _ _ _ _ _ c.loop-k-test.true c.loop-k.invariant.adding
           (at_adds _ _ _ c.args.nodes.now c.args.former.now c.args.first c.loop-k.k c.loop-k.m c.index-nodes-k.result n c.loop-k.invariant.next c.in_ok-add_by.ensures);

@@ -17,7 +17,7 @@ add_moved_count-requires-clause-there c = λ k lt.
     let are : AreNodes e c.deref.result.now (length e.graph.nodes) = subst (λ (ns : List NodeVars). AreNodes e ns (length e.graph.nodes)) (sym c.deref.ensures.value) c.in_ok-nodes.ensures.each in
     let here : k < length e.graph.nodes = (let same = c.requires.same in omega (arith, lt, same)) in
     node_there e c.new_vars.new.self.vars k (node_at c.deref.result.now k) (subst IsStationGraph c.graph.ensures c.nodes.ensures.station) (subst IsGrid c.grid.ensures c.width.ensures.is_grid)
-    c.requires.whole c.requires.bounds vars here (are k here)
+    c.requires.whole c.requires.bounds (let v = vars in omega (arith, v)) here (are k here)
 
 pub returns-clause-room : goal.returns-clause-room
 returns-clause-room c = λ err.

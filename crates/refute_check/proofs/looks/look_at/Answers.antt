@@ -1,4 +1,4 @@
-use Rattle.std.proofs.Common.{◌++◌, ◌∷◌, [], List, sym, subst, get_or}
+use Rattle.std.proofs.Common.{◌++◌, ◌∷◌, [], List, sym, subst}
 use Rattle.std.specs.Prelude.{Contains}
 use Rattle.std.proofs.lemmas.List.Elements.{All-contains, Contains-get_or}
 use Rattle.cnf_core.specs.Lit.{Literal, has}
@@ -12,11 +12,9 @@ use Rattle.refute_check.proofs.GrowthLemmas.{trail_consistent, unset_by_marks, f
 use Rattle.refute_check.proofs.looks.look_at.Goals as goal
 use Rattle.refute_check.proofs.looks.look_at.Goals.{In_ok-mark-in-Unit}
 
-pub returns-then-counts-number-gt1-clause-quiet : goal.returns-then-counts-number-gt1-clause-quiet
-returns-then-counts-number-gt1-clause-quiet c =
-    let count = get_or c.args.counts.now c.args.number 0 in
-    let trail = c.args.trail.now.items in
-    λ _. few_now (clause_at c.args.formula.now c.args.number) count trail (distinct_at c.args.formula.now.clauses c.args.number c.vars-vars.ensures.formula.distinct) c.if-counts-number-gt1.true
+pub returns-then-count-gt1-clause-quiet : goal.returns-then-count-gt1-clause-quiet
+returns-then-count-gt1-clause-quiet c =
+    λ _. few_now (clause_at c.args.formula.now c.args.number) c.args.count c.args.trail.now.items (distinct_at c.args.formula.now.clauses c.args.number c.vars-vars.ensures.formula.distinct) c.if-count-gt1.true
 
 pub scan_clause-requires-clause-consistent : goal.scan_clause-requires-clause-consistent
 scan_clause-requires-clause-consistent c = trail_consistent _ c.args.truth.now c.args.trail.now.items c.requires.trail
@@ -40,6 +38,6 @@ returns-in_ok-mark-in-Unit-clause-grows c =
 
 pub returns-in_ok-mark-in-Unit-clause-quiet : goal.returns-in_ok-mark-in-Unit-clause-quiet
 returns-in_ok-mark-in-Unit-clause-quiet c =
-    let count = get_or c.args.counts.now c.args.number 0 in
+    let count = c.args.count in
     let trail = c.args.trail.now.items in
     λ _. rw c.in_ok-mark-in-Unit.ensures.more (subst (λ (clause : List Literal). IsQuietNow clause count trail (trail ++ c.in-Unit.l ∷ [])) c.lits_of-clause.ensures.value (marked_now c.lits_of-clause.result.now count trail c.in-Unit.l (unset c)))

@@ -9,15 +9,16 @@ loop-front-init c = propagated_none c.args.formula.now.vars c.args.formula.now.c
 
 pub loop-front-preserved : goal.loop-front-preserved
 loop-front-preserved c =
-    propagated_more c.args.formula.now.vars c.args.formula.now.clauses c.args.trail.now.items c.loop-front.trail.items c.advance.new.trail.items c.loop-front.truth c.advance.new.truth c.loop-front.counts c.advance.new.counts c.args.from c.loop-front.front
-    c.loop-front.invariant c.in_ok-found.ensures.counted (c.in_ok-found.ensures.quiet c.if-found.false) c.in_ok-found.ensures.grows
+    let next = c.in_ok-found.ensures.next c.if-found.false in
+    rw next (propagated_more c.args.formula.now.vars c.args.formula.now.clauses c.args.trail.now.items c.loop-front.trail.items c.advance.new.trail.items c.loop-front.truth c.advance.new.truth c.loop-front.counts c.advance.new.counts c.args.from c.loop-front.front
+    c.loop-front.invariant (rw next at c.in_ok-found.ensures.counted) (c.in_ok-found.ensures.quiet c.if-found.false) c.in_ok-found.ensures.grows)
 
 pub loop-front-smaller : goal.loop-front-smaller
 loop-front-smaller c =
     let short = trail_short c.args.formula.now.vars c.loop-front.truth c.loop-front.trail.items c.loop-front.invariant.counted.table in
     let size = c.loop-front.invariant.counted.table.size in
     let same = c.advance.auto.truth in
-    omega (arith, short, size, same, c.len.ensures, c.loop-front-test.true)
+    omega (arith, short, size, same, c.len.ensures, c.loop-front-test.true, c.in_ok-found.ensures.next c.if-found.false)
 
 pub returns-then-found-clause-grows : goal.returns-then-found-clause-grows
 returns-then-found-clause-grows c =

@@ -5,7 +5,8 @@ use Rattle.cnf_core.specs.Formula.{IsFormula}
 use Rattle.cnf_core.proofs.TrailLemmas.{word_below}
 use Rattle.cnf_core.specs.Trail.{IsTrail}
 use Rattle.cnf_core.specs.Times.{times}
-use Rattle.refute_check.specs.Tables.{CountedUp, places_from}
+use Rattle.refute_check.specs.Entries.{places_from}
+use Rattle.refute_check.specs.Tables.{CountedUp}
 use Rattle.refute_check.proofs.FalseCountLemmas.{places_there, up_small, counts_up}
 use Rattle.refute_check.proofs.UndoLemmas.{counted_from, back_there, back_places, back_lacks, back_right, back_rest, back_some}
 use Rattle.refute_check.proofs.undo.step_back.Goals as goal
@@ -19,7 +20,7 @@ bounds-occurrences-word c =
 pub count_up-requires-clause-there : goal.count_up-requires-clause-there
 count_up-requires-clause-there c =
     let clauses = c.args.formula.now.clauses in
-    let is = back_places c.args.formula.now.vars c.args.formula.now.clauses c.args.occurrences.now c.args.truth.now c.args.trail.now.items c.unmark_last.new.trail.items c.in-Some.l c.negated.result c.word.result c.index-occurrences-word.result c.as_slice-places.result.now c.requires.occurrences c.requires.counted.table c.in-Some.ensures.last c.negated.ensures c.word.ensures.value c.index-occurrences-word.is c.as_slice-places.ensures in
+    let is = back_places c.args.formula.now.vars c.args.formula.now.clauses c.args.occurrences.now c.args.truth.now c.args.trail.now.items c.unmark_last.new.trail.items c.in-Some.l c.negated.result c.word.result c.index-occurrences-word.result c.longer.result.now c.requires.occurrences c.requires.counted.table c.in-Some.ensures.last c.negated.ensures c.word.ensures.value c.index-occurrences-word.is c.longer.ensures in
     subst (λ (ns : List ℕ). All (λ n. n < length c.args.counts.now) ns) (sym is) (subst (λ m. All (λ n. n < m) (places_from 0 clauses (negate c.in-Some.l))) (sym c.requires.counted.right.size) (places_there clauses (negate c.in-Some.l)))
 
 pub count_up-requires-clause-small : goal.count_up-requires-clause-small
@@ -27,7 +28,7 @@ count_up-requires-clause-small c =
     let f : IsFormula c.args.formula.now = c.vars-vars.ensures.formula in
     let within = f.within_room in
     let limit = f.room_limit in
-    let is = back_places c.args.formula.now.vars c.args.formula.now.clauses c.args.occurrences.now c.args.truth.now c.args.trail.now.items c.unmark_last.new.trail.items c.in-Some.l c.negated.result c.word.result c.index-occurrences-word.result c.as_slice-places.result.now c.requires.occurrences c.requires.counted.table c.in-Some.ensures.last c.negated.ensures c.word.ensures.value c.index-occurrences-word.is c.as_slice-places.ensures in
+    let is = back_places c.args.formula.now.vars c.args.formula.now.clauses c.args.occurrences.now c.args.truth.now c.args.trail.now.items c.unmark_last.new.trail.items c.in-Some.l c.negated.result c.word.result c.index-occurrences-word.result c.longer.result.now c.requires.occurrences c.requires.counted.table c.in-Some.ensures.last c.negated.ensures c.word.ensures.value c.index-occurrences-word.is c.longer.ensures in
     let right = back_right c.args.formula.now.vars c.args.formula.now.clauses c.args.truth.now c.args.trail.now.items c.unmark_last.new.trail.items c.in-Some.l c.args.counts.now c.requires.counted c.in-Some.ensures.last in
     let lacks = back_lacks c.args.formula.now.vars c.args.truth.now c.args.trail.now.items c.unmark_last.new.trail.items c.in-Some.l c.requires.counted.table c.in-Some.ensures.last in
     subst (λ (ns : List ℕ). All (λ n. get_or c.args.counts.now n 0 + times ns n < 2 ^ 32) ns) (sym is)
@@ -36,7 +37,7 @@ count_up-requires-clause-small c =
 pub returns-in-Some-clause-counted : goal.returns-in-Some-clause-counted
 returns-in-Some-clause-counted c =
     let clauses = c.args.formula.now.clauses in
-    let is = back_places c.args.formula.now.vars c.args.formula.now.clauses c.args.occurrences.now c.args.truth.now c.args.trail.now.items c.unmark_last.new.trail.items c.in-Some.l c.negated.result c.word.result c.index-occurrences-word.result c.as_slice-places.result.now c.requires.occurrences c.requires.counted.table c.in-Some.ensures.last c.negated.ensures c.word.ensures.value c.index-occurrences-word.is c.as_slice-places.ensures in
+    let is = back_places c.args.formula.now.vars c.args.formula.now.clauses c.args.occurrences.now c.args.truth.now c.args.trail.now.items c.unmark_last.new.trail.items c.in-Some.l c.negated.result c.word.result c.index-occurrences-word.result c.longer.result.now c.requires.occurrences c.requires.counted.table c.in-Some.ensures.last c.negated.ensures c.word.ensures.value c.index-occurrences-word.is c.longer.ensures in
     let right = back_right c.args.formula.now.vars clauses c.args.truth.now c.args.trail.now.items c.unmark_last.new.trail.items c.in-Some.l c.args.counts.now c.requires.counted c.in-Some.ensures.last in
     let lacks = back_lacks c.args.formula.now.vars c.args.truth.now c.args.trail.now.items c.unmark_last.new.trail.items c.in-Some.l c.requires.counted.table c.in-Some.ensures.last in
     let t = subst (λ vars. IsTrail vars c.unmark_last.new.truth c.unmark_last.new.trail.items) c.vars-vars.ensures.value c.in-Some.ensures.trail in

@@ -1,12 +1,16 @@
-use Rattle.std.proofs.Common.{◌≡◌, ◌⊎◌, inl, inr, sym, subst}
-use Rattle.std.specs.Prelude.{IfOk, IsOkAnd}
+use Rattle.std.proofs.Common.{◌≡◌, ◌≢◌, ◌⊎◌, [], ◌∷◌, inl, inr, sym, subst}
+use Rattle.std.specs.Prelude.{IfOk, IsOkAnd, IsErrOf}
 use Rattle.outside_io.specs.Contents.{WhereTold}
+use Rattle.outside_io.specs.Counts.{Rose}
 use Rattle.plan_words.specs.declared.command.Command.{Command}
 use Rattle.refute_log.specs.ToldTo.{told_to}
+use Rattle.input_answer.specs.declared.reply.Cut.TheVariants.{Unwritten}
 use Rattle.input_answer.specs.Status.{IsRefused}
 use Rattle.input_answer.specs.Met.{between, IsUnwritten, LeftSo}
-use Rattle.schematic_main.specs.Commands.{MayWrite, MayTell, MayLeave, Owes}
+use Rattle.schematic_main.specs.Commands.{AnswersAlone, MayWrite, MayTell, MayLeave, Owes}
+use Rattle.schematic_main.specs.Run.{CommandFailsToWrite}
 use Rattle.draw_answer.proofs.LeavesLemmas.{leaves_same, left_alone}
+use Rattle.schematic_main.proofs.AloneLemmas.{trimmed_alone}
 use Rattle.schematic_main.proofs.answers.answer_to.Goals as goal
 
 pub returns-in-Draw-clause-answer : goal.returns-in-Draw-clause-answer
@@ -27,8 +31,7 @@ returns-in-Draw-clause-leaves g c =
 pub returns-in-Draw-clause-unwritten : goal.returns-in-Draw-clause-unwritten
 returns-in-Draw-clause-unwritten g c =
     let met = between (g.F.Files.at c.args.files.now) (g.F.Files.at c.draw.new.files) in
-    let Refused : Type 0 = IsOkAnd c.draw.result (λ r. IsRefused r.status) in
-    subst (λ (command : Command). Refused ⊎ (MayWrite command met → ⊥) → IsUnwritten met) (sym c.in-Draw.is) c.draw.ensures.unwritten
+    subst (λ (command : Command). IsOkAnd c.draw.result (λ r. AnswersAlone command r.status) ⊎ (MayWrite command met → ⊥) → IsUnwritten met) (sym c.in-Draw.is) c.draw.ensures.unwritten
 
 pub returns-in-Draw-clause-untold : goal.returns-in-Draw-clause-untold
 returns-in-Draw-clause-untold g c =
@@ -77,8 +80,7 @@ returns-in-Signals-clause-leaves g c =
 pub returns-in-Signals-clause-unwritten : goal.returns-in-Signals-clause-unwritten
 returns-in-Signals-clause-unwritten g c =
     let met = between (g.F.Files.at c.args.files.now) (g.F.Files.at c.signals.new.files) in
-    let Refused : Type 0 = IsOkAnd c.signals.result (λ r. IsRefused r.status) in
-    subst (λ (command : Command). Refused ⊎ (MayWrite command met → ⊥) → IsUnwritten met) (sym c.in-Signals.is) c.signals.ensures.unwritten
+    subst (λ (command : Command). IsOkAnd c.signals.result (λ r. AnswersAlone command r.status) ⊎ (MayWrite command met → ⊥) → IsUnwritten met) (sym c.in-Signals.is) c.signals.ensures.unwritten
 
 pub returns-in-Signals-clause-untold : goal.returns-in-Signals-clause-untold
 returns-in-Signals-clause-untold g c =
@@ -120,8 +122,7 @@ returns-in-Redraw-clause-leaves g c =
 pub returns-in-Redraw-clause-unwritten : goal.returns-in-Redraw-clause-unwritten
 returns-in-Redraw-clause-unwritten g c =
     let met = between (g.F.Files.at c.args.files.now) (g.F.Files.at c.redraw.new.files) in
-    let Refused : Type 0 = IsOkAnd c.redraw.result (λ r. IsRefused r.status) in
-    subst (λ (command : Command). Refused ⊎ (MayWrite command met → ⊥) → IsUnwritten met) (sym c.in-Redraw.is) c.redraw.ensures.unwritten
+    subst (λ (command : Command). IsOkAnd c.redraw.result (λ r. AnswersAlone command r.status) ⊎ (MayWrite command met → ⊥) → IsUnwritten met) (sym c.in-Redraw.is) c.redraw.ensures.unwritten
 
 pub returns-in-Redraw-clause-untold : goal.returns-in-Redraw-clause-untold
 returns-in-Redraw-clause-untold g c =
@@ -144,3 +145,42 @@ returns-in-Explain-clause-untold g c =
     let Refused : Type 0 = IsOkAnd c.explain.result (λ r. IsRefused r.status) in
     subst (λ (command : Command). Refused ⊎ (MayTell command met → ⊥) → c.explain.new.trace ≡ c.args.trace.now) (sym c.in-Explain.is)
     (λ none. c.explain.ensures.untold (elim none [ inl refused ↦ inl refused | inr nothing ↦ inr (λ may. nothing (tt, may)) ]))
+
+pub returns-in-Trim-clause-answer : goal.returns-in-Trim-clause-answer
+returns-in-Trim-clause-answer g c =
+    let met = between (g.F.Files.at c.args.files.now) (g.F.Files.at c.trim.new.files) in
+    let traced = told_to {Self = g.row.T.Denot} g.T.LogSink.tells g.T.LogSink.learnt c.args.trace.now c.args.trace.now in
+    subst (λ (command : Command). IfOk c.trim.result (λ r. Owes command met traced r.status r.text.items)) (sym c.in-Trim.is) c.trim.ensures.answer
+
+pub returns-in-Trim-clause-leaves : goal.returns-in-Trim-clause-leaves
+returns-in-Trim-clause-leaves g c =
+    let old = (g.F.Files.at c.args.files.now).contents in
+    let new = (g.F.Files.at c.trim.new.files).contents in
+    let met = between (g.F.Files.at c.args.files.now) (g.F.Files.at c.trim.new.files) in
+    let traced = told_to {Self = g.row.T.Denot} g.T.LogSink.tells g.T.LogSink.learnt c.args.trace.now c.args.trace.now in
+    let Refused : Type 0 = IsOkAnd c.trim.result (λ r. IsRefused r.status) in
+    subst (λ (command : Command). WhereTold old new (LeftSo (λ name bytes. (Refused → ⊥) × MayLeave command met traced name bytes))) (sym c.in-Trim.is) c.trim.ensures.leaves
+
+pub returns-in-Trim-clause-unwritten : goal.returns-in-Trim-clause-unwritten
+returns-in-Trim-clause-unwritten g c =
+    let met = between (g.F.Files.at c.args.files.now) (g.F.Files.at c.trim.new.files) in
+    let one : c.in-Trim.hints ∷ [] ≢ [] = λ e. cc in
+    subst (λ (command : Command). IsOkAnd c.trim.result (λ r. AnswersAlone command r.status) ⊎ (MayWrite command met → ⊥) → IsUnwritten met) (sym c.in-Trim.is)
+    (λ none. c.trim.ensures.unwritten (elim none [ inl alone ↦ inl (trimmed_alone c.trim.result alone) | inr nothing ↦ inr (λ may. nothing (one, may)) ]))
+
+pub returns-in-Trim-clause-cause : goal.returns-in-Trim-clause-cause
+returns-in-Trim-clause-cause g c =
+    let met = between (g.F.Files.at c.args.files.now) (g.F.Files.at c.trim.new.files) in
+    let one : c.in-Trim.hints ∷ [] ≢ [] = λ e. cc in
+    subst (λ (command : Command). IsErrOf c.trim.result Unwritten → CommandFailsToWrite command met (Rose (g.T.LogSink.faults c.args.trace.now) (g.T.LogSink.faults c.args.trace.now))) (sym c.in-Trim.is)
+    (λ cut. inl (one, c.trim.ensures.cause cut))
+
+pub returns-in_ok-recheck-in-Recheck-clause-answer : goal.returns-in_ok-recheck-in-Recheck-clause-answer
+returns-in_ok-recheck-in-Recheck-clause-answer g c =
+    let met = between (g.F.Files.at c.args.files.now) (g.F.Files.at c.recheck.new.files) in
+    let traced = told_to {Self = g.row.T.Denot} g.T.LogSink.tells g.T.LogSink.learnt c.args.trace.now c.args.trace.now in
+    let reply = c.in_ok-recheck-in-Recheck.field-0 in
+    subst (λ (command : Command). Owes command met traced reply.status reply.text.items) (sym c.in-Recheck.is) c.in_ok-recheck-in-Recheck.ensures.answer
+
+pub returns-in_ok-recheck-in-Recheck-clause-leaves : goal.returns-in_ok-recheck-in-Recheck-clause-leaves
+returns-in_ok-recheck-in-Recheck-clause-leaves g c = leaves_same _ (g.F.Files.at c.args.files.now).contents (g.F.Files.at c.recheck.new.files).contents c.in_ok-recheck-in-Recheck.ensures.same

@@ -2,12 +2,14 @@ use Rattle.std.proofs.Common.{Err, sym, ap, subst, inl, inr}
 use Rattle.plan_words.specs.Arguments.{texts_of}
 use Rattle.refute_log.specs.ToldTo.{told_to}
 use Rattle.input_answer.specs.declared.status.Status.{Status}
-use Rattle.input_answer.specs.Status.{IsCutShort, IsRefused}
+use Rattle.input_answer.specs.declared.status.Status.TheVariants.{Unwritten, NoMemory}
+use Rattle.input_answer.specs.Status.{IsCutShort}
 use Rattle.input_answer.specs.Met.{between}
+use Rattle.schematic_main.proofs.AloneLemmas.{cut_not_alone, cut_is_short}
 use Rattle.schematic_main.proofs.DueLemmas.{due_is_whole, due_unread, due_ends}
 use Rattle.draw_answer.proofs.LeavesLemmas.{leaves_weaker}
 use Rattle.input_answer.proofs.MetLemmas.{reads_less}
-use Rattle.input_answer.proofs.StatusLemmas.{cut_unrefused, cut_ends}
+use Rattle.input_answer.proofs.StatusLemmas.{cut_ends}
 use Rattle.schematic_main.proofs.running.carry_out.Goals as goal
 
 -- ---- the text was put
@@ -42,7 +44,7 @@ pub returns-in-Err-Failed-clause-reads : goal.returns-in-Err-Failed-clause-reads
 returns-in-Err-Failed-clause-reads g c = λ command asked. reads_less _ _ _ _ (λ h. absurd h) (c.in-Ok.ensures.reads command asked)
 
 pub returns-in-Err-Failed-clause-unwritten : goal.returns-in-Err-Failed-clause-unwritten
-returns-in-Err-Failed-clause-unwritten g c = λ none. c.in-Ok.ensures.unwritten (elim none [ inl refused ↦ absurd refused | inr nothing ↦ inr nothing ])
+returns-in-Err-Failed-clause-unwritten g c = λ none. c.in-Ok.ensures.unwritten (elim none [ inl ends ↦ absurd (cut_not_alone (texts_of c.args.words.now) Unwritten tt ends) | inr nothing ↦ inr nothing ])
 
 pub returns-in-Err-Failed-clause-leaves : goal.returns-in-Err-Failed-clause-leaves
 returns-in-Err-Failed-clause-leaves g c =
@@ -55,7 +57,7 @@ pub returns-in-Ok-clause-reads : goal.returns-in-Ok-clause-reads
 returns-in-Ok-clause-reads g c = λ command asked. reads_less _ _ _ _ (λ h. absurd h) (c.in-Ok.ensures.reads command asked)
 
 pub returns-in-Ok-clause-unwritten : goal.returns-in-Ok-clause-unwritten
-returns-in-Ok-clause-unwritten g c = λ none. c.in-Ok.ensures.unwritten (elim none [ inl refused ↦ absurd refused | inr nothing ↦ inr nothing ])
+returns-in-Ok-clause-unwritten g c = λ none. c.in-Ok.ensures.unwritten (elim none [ inl ends ↦ absurd (cut_not_alone (texts_of c.args.words.now) NoMemory tt ends) | inr nothing ↦ inr nothing ])
 
 pub returns-in-Ok-clause-leaves : goal.returns-in-Ok-clause-leaves
 returns-in-Ok-clause-leaves g c =
@@ -69,7 +71,7 @@ returns-in-Ok-clause-untold g c = λ none. c.in-Ok.ensures.untold (elim none [ i
 pub returns-clause-unwritten : goal.returns-clause-unwritten
 returns-clause-unwritten g c = λ none.
     c.in-Err.ensures.unwritten (elim none [
-      | inl refused ↦ absurd (cut_unrefused c.in-Err.cut (subst (λ (s : Status). IsRefused s) c.status.ensures refused))
+      | inl ends ↦ absurd (cut_not_alone (texts_of c.args.words.now) c.status.result (cut_is_short c.in-Err.cut c.status.result c.status.ensures) ends)
       | inr nothing ↦ inr nothing
     ])
 

@@ -8,6 +8,7 @@ use Rattle.input_answer.specs.Status.{IsAnswered}
 use Rattle.input_answer.specs.Met.{between, ReadsInputs}
 use Rattle.schematic_main.specs.Commands.{inputs_of}
 use Rattle.draw_answer.proofs.LeavesLemmas.{leaves_weaker}
+use Rattle.schematic_main.proofs.AloneLemmas.{reply_alone}
 use Rattle.schematic_main.proofs.ApartLemmas.{asked_apart, pair_apart}
 use Rattle.schematic_main.proofs.running.reply_to.Goals as goal
 
@@ -30,7 +31,11 @@ pub returns-in-Ok-clause-unread : goal.returns-in-Ok-clause-unread
 returns-in-Ok-clause-unread g c = λ nothing. c.answer_to.ensures.unread (nothing c.in-Ok.command c.in-Ok.ensures.value)
 
 pub returns-in-Ok-clause-unwritten : goal.returns-in-Ok-clause-unwritten
-returns-in-Ok-clause-unwritten g c = λ none. c.answer_to.ensures.unwritten (elim none [ inl refused ↦ inl refused | inr nothing ↦ inr (nothing c.in-Ok.command c.in-Ok.ensures.value) ])
+returns-in-Ok-clause-unwritten g c = λ none.
+    c.answer_to.ensures.unwritten (elim none [
+      | inl ends ↦ inl (reply_alone (texts_of c.args.words.now) c.in-Ok.command c.answer_to.result c.in-Ok.ensures.value ends)
+      | inr nothing ↦ inr (nothing c.in-Ok.command c.in-Ok.ensures.value)
+    ])
 
 pub returns-in-Ok-clause-leaves : goal.returns-in-Ok-clause-leaves
 returns-in-Ok-clause-leaves g c =

@@ -7,7 +7,7 @@ use Rattle.why_search.specs.Task.{Task, HasAllLaws}
 use Rattle.why_search.specs.Narrowed.{countdown}
 use Rattle.refute_log.specs.Steps.{Continues, Leaves}
 use Rattle.certified_values.specs.Cause.{IsCause}
-use Rattle.why_search.specs.Asked.{ArePlaces, IsRightReply, NoneMeets, TellsReply}
+use Rattle.why_search.specs.Asked.{AreLawPlaces, IsRightReply, NoneMeetsLaws, TellsReply}
 use Rattle.why_search.specs.Outcome.{IsRightOutcome, TellsOutcome}
 use Rattle.refute_log.proofs.StepLemmas.{AnyLines, goes_on, becomes, leaves_same, on_err_weaker}
 use Rattle.why_search.proofs.NarrowLemmas.{first_refuted}
@@ -23,7 +23,7 @@ returns-in_err-all-clause-leaves g c = let o = g.O.LawOracle in
 pub ask-requires-clause-places : goal.ask-requires-clause-places
 ask-requires-clause-places g c = let o = g.O.LawOracle in
     let p = o.task c.args.oracle.now in
-    subst (λ (w : List ℕ). ArePlaces p w) (sym (c.deref.ensures.value ∙ c.in_ok-all.ensures ∙ ap countdown c.laws.ensures)) (all_places_are p)
+    subst (λ (w : List ℕ). AreLawPlaces p w) (sym (c.deref.ensures.value ∙ c.in_ok-all.ensures ∙ ap countdown c.laws.ensures)) (all_places_are p)
 
 pub returns-in_err-d-clause-leaves : goal.returns-in_err-d-clause-leaves
 returns-in_err-d-clause-leaves g c = on_err_anyway _ _ c.in_err-d.ensures.leaves
@@ -48,18 +48,18 @@ narrow-requires-clause-laws g c = let o = g.O.LawOracle in
 pub narrow-requires-clause-places : goal.narrow-requires-clause-places
 narrow-requires-clause-places g c = let o = g.O.LawOracle in
     let p = o.task c.args.oracle.now in
-    let start : ArePlaces p c.in_ok-all.all.items = subst (λ (w : List ℕ). ArePlaces p w) (sym (c.in_ok-all.ensures ∙ ap countdown c.laws.ensures)) (all_places_are p) in
+    let start : AreLawPlaces p c.in_ok-all.all.items = subst (λ (w : List ℕ). AreLawPlaces p w) (sym (c.in_ok-all.ensures ∙ ap countdown c.laws.ensures)) (all_places_are p) in
     let right = subst (λ (w : List ℕ). IsRightReply p w c.in_ok-d.field-0) c.deref.ensures.value c.in_ok-d.ensures.right in
     let both = first_refuted p c.in_ok-all.all.items c.in-Refuted.core c.as_slice.result.now c.keep_only.new.places.items c.in_ok-d.field-0 start c.in-Refuted.is right c.as_slice.ensures c.keep_only.ensures in
-    subst (λ (x : Task). ArePlaces x c.keep_only.new.places.items) (sym c.in_ok-d.ensures.task) both.0
+    subst (λ (x : Task). AreLawPlaces x c.keep_only.new.places.items) (sym c.in_ok-d.ensures.task) both.0
 
 pub narrow-requires-clause-none : goal.narrow-requires-clause-none
 narrow-requires-clause-none g c = let o = g.O.LawOracle in
     let p = o.task c.args.oracle.now in
-    let start : ArePlaces p c.in_ok-all.all.items = subst (λ (w : List ℕ). ArePlaces p w) (sym (c.in_ok-all.ensures ∙ ap countdown c.laws.ensures)) (all_places_are p) in
+    let start : AreLawPlaces p c.in_ok-all.all.items = subst (λ (w : List ℕ). AreLawPlaces p w) (sym (c.in_ok-all.ensures ∙ ap countdown c.laws.ensures)) (all_places_are p) in
     let right = subst (λ (w : List ℕ). IsRightReply p w c.in_ok-d.field-0) c.deref.ensures.value c.in_ok-d.ensures.right in
     let both = first_refuted p c.in_ok-all.all.items c.in-Refuted.core c.as_slice.result.now c.keep_only.new.places.items c.in_ok-d.field-0 start c.in-Refuted.is right c.as_slice.ensures c.keep_only.ensures in
-    subst (λ (x : Task). NoneMeets x c.keep_only.new.places.items) (sym c.in_ok-d.ensures.task) both.1
+    subst (λ (x : Task). NoneMeetsLaws x c.keep_only.new.places.items) (sym c.in_ok-d.ensures.task) both.1
 
 pub returns-in-Refuted-clause-right : goal.returns-in-Refuted-clause-right
 returns-in-Refuted-clause-right g c = subst (λ (x : Task). IfOk c.narrow.result (IsRightOutcome x)) c.in_ok-d.ensures.task c.narrow.ensures.right

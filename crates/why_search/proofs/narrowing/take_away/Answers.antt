@@ -2,7 +2,7 @@ use Rattle.std.proofs.Common.{◌++◌, List, ℕ, refl, sym, ◌∙◌, ap, sub
 use Rattle.why_search.specs.declared.oracle.Reply.{Reply}
 use Rattle.why_search.specs.Narrowed.{has_number}
 use Rattle.certified_values.specs.Cause.{IsCause}
-use Rattle.why_search.specs.Asked.{ArePlaces, TellsReply}
+use Rattle.why_search.specs.Asked.{AreLawPlaces, TellsReply}
 use Rattle.refute_log.proofs.StepLemmas.{AnyLines, becomes, leaves_same}
 use Rattle.why_search.proofs.LeftLemmas.{left_here}
 use Rattle.why_search.proofs.NarrowLemmas.{narrow_asked, found_narrowed, refuted_narrowed, filter_shorter}
@@ -16,7 +16,7 @@ returns-in_err-wanted-clause-leaves g c = let o = g.O.LawOracle in
 pub ask-requires-clause-places : goal.ask-requires-clause-places
 ask-requires-clause-places g c = let o = g.O.LawOracle in
     let asked = c.deref-3.ensures.value ∙ c.in_ok-wanted.ensures ∙ ap (λ (xs : List ℕ). xs ++ c.deref-2.result.now) c.deref.ensures.value ∙ ap (λ (xs : List ℕ). c.args.progress.now.kept.items ++ xs) c.deref-2.ensures.value in
-    subst (λ (w : List ℕ). ArePlaces (o.task c.args.oracle.now) w) (sym asked)
+    subst (λ (w : List ℕ). AreLawPlaces (o.task c.args.oracle.now) w) (sym asked)
     (narrow_asked (o.task c.args.oracle.now) c.args.progress.now.kept.items c.args.progress.now.left.items c.args.law c.args.progress.now.without.items c.requires.narrowed)
 
 pub returns-in_err-d-clause-leaves : goal.returns-in_err-d-clause-leaves

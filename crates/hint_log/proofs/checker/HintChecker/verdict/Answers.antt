@@ -1,7 +1,8 @@
 use Rattle.std.proofs.Common.{rules}
 use Rattle.cnf_core.specs.Clause.{HasAllOf}
 use Rattle.refute_log.proofs.AmongLemmas.{all_more_at, all_end}
-use Rattle.hint_log.proofs.VerdictLemmas.{includes_from, includes_to, refutes_at, refutes_none}
+use Rattle.cnf_core.proofs.ClauseLemmas.{includes_from, includes_to}
+use Rattle.hint_log.proofs.VerdictLemmas.{refutes_at, refutes_none}
 use Rattle.hint_log.proofs.checker.HintChecker.verdict.Goals as goal
 
 pub loop-clause-preserved : goal.loop-clause-preserved

@@ -1,7 +1,8 @@
 use Rattle.std.proofs.Common.{rules}
 use Rattle.cnf_core.specs.Clause.{HasAllOf}
 use Rattle.refute_log.proofs.AmongLemmas.{all_more_at, all_end}
-use Rattle.refute_check.proofs.VerdictLemmas.{includes_from, includes_to, refutes_at, refutes_none}
+use Rattle.cnf_core.proofs.ClauseLemmas.{includes_from, includes_to}
+use Rattle.refute_check.proofs.VerdictLemmas.{refutes_at, refutes_none}
 use Rattle.refute_check.specs.Standing.{is_lost}
 use Rattle.refute_check.proofs.checker.Checker.verdict.Goals as goal
 

@@ -1,0 +1,112 @@
+-- Three files that were read, or couldn't be.
+use Rattle.std.proofs.Common.{◌≡◌, ℕ, List, refl, sym, subst, inl, inr}
+use Rattle.std.specs.declared.option.Option.{Option}
+use Rattle.outside_io.specs.Contents.{FilesAt, Told, WhereTold, SameFiles}
+use Rattle.input_answer.specs.declared.fault.RunFault.{RunFault}
+use Rattle.input_answer.specs.declared.input.InputRefusal.{InputRefusal}
+use Rattle.input_answer.specs.declared.input.InputRefusal.TheVariants as refusals
+use Rattle.input_answer.specs.declared.status.Status.{Status}
+use Rattle.input_answer.specs.Fault.{IsFaultLine, fault_line, fault_status}
+use Rattle.input_answer.specs.Met.{Met, between, HasRead}
+use Rattle.input_answer.specs.Reading.{IsInput, IsUnreadInput}
+use Rattle.input_answer.specs.Answer.{InputFile, text_input, log_input, IsAnswerAfter, IsAnswerOn}
+use Rattle.input_answer.proofs.AnswerLemmas.{IsRead, read_on, told_before, answer_before}
+use Rattle.hint_answer.specs.Files.{IsAnswerToFiles, AreFiles, IsUnreadOfFiles}
+
+-- ---- more may be answered
+
+on_more : (input : InputFile) (done : ℕ) (met : Met) (A B : List ℕ → Status → List ℕ → Type 0) (status : Status) (text : List ℕ) → ((bytes : List ℕ) → A bytes status text → B bytes status text) →
+    IsAnswerOn input done met A status text → IsAnswerOn input done met B status text
+on_more input done met A B status text more (inl (bytes, is, inl long)) = inl (bytes, is, inl long)
+on_more input done met A B status text more (inl (bytes, is, inr (short, answer))) = inl (bytes, is, inr (short, more bytes answer))
+on_more input done met A B status text more (inr fails) = inr fails
+
+-- what follows the first file, and what the second
+abbrev AfterSheet : (third : List ℕ) → Met → (List ℕ → List ℕ → List ℕ → Status → List ℕ → Type 0) → (bytes said : List ℕ) → Status → List ℕ → Type 0
+AfterSheet third met A bytes said = IsAnswerOn (log_input 3 third) 2 met (IsAnswerAfter 3 met (A bytes said))
+
+abbrev AfterFile : (sheet third : List ℕ) → Met → (List ℕ → List ℕ → List ℕ → Status → List ℕ → Type 0) → (bytes : List ℕ) → Status → List ℕ → Type 0
+AfterFile sheet third met A bytes = IsAnswerOn (text_input 2 sheet) 1 met (AfterSheet third met A bytes)
+
+pub files_more : (input sheet third : List ℕ) (met : Met) (A B : List ℕ → List ℕ → List ℕ → Status → List ℕ → Type 0) (status : Status) (text : List ℕ) →
+    ((bytes said lines : List ℕ) → A bytes said lines status text → B bytes said lines status text) → IsAnswerToFiles input sheet third met A status text → IsAnswerToFiles input sheet third met B status text
+files_more input sheet third met A B status text more =
+    on_more (text_input 1 input) 0 met (AfterFile sheet third met A) (AfterFile sheet third met B) status text
+    (λ bytes. on_more (text_input 2 sheet) 1 met (AfterSheet third met A bytes) (AfterSheet third met B bytes) status text
+    (λ said. on_more (log_input 3 third) 2 met (IsAnswerAfter 3 met (A bytes said)) (IsAnswerAfter 3 met (B bytes said)) status text
+    (λ lines answer. (answer.0, more bytes said lines answer.1))))
+
+-- ---- one that is too long, or couldn't be read
+
+own_line : (fault named : RunFault) → fault ≡ named → IsFaultLine named (fault_status fault) (fault_line fault)
+own_line fault named is = subst (λ (f : RunFault). IsFaultLine f (fault_status fault) (fault_line fault)) is (record { status_is = refl; line_is = refl })
+
+unread_on : (input : InputFile) (met : Met) (fault : RunFault) (A : List ℕ → Status → List ℕ → Type 0) → IsUnreadInput input met (refusals.Fault fault) → IsAnswerOn input 0 met A (fault_status fault) (fault_line fault)
+unread_on input met fault A (inl ((bytes, is, long), read, named)) = inl (bytes, is, inl (long, read, own_line fault _ named))
+unread_on input met fault A (inr (fails, named)) = inr (fails, own_line fault _ named)
+
+-- no bytes are answered
+abbrev Nothing : List ℕ → Status → List ℕ → Type 0
+Nothing bytes status text = ⊥
+
+abbrev NothingOfThree : List ℕ → List ℕ → List ℕ → Status → List ℕ → Type 0
+NothingOfThree bytes said lines status text = ⊥
+
+pub first_unread : (input sheet third : List ℕ) (met : Met) (r : InputRefusal) → IsUnreadInput (text_input 1 input) met r → IsUnreadOfFiles input sheet third met r
+first_unread input sheet third met (refusals.Fault fault) unread = unread_on (text_input 1 input) met fault (AfterFile sheet third met NothingOfThree) unread
+first_unread input sheet third met refusals.Memory unread = tt
+
+pub second_unread : (input sheet third bytes : List ℕ) (old mid new : FilesAt) (r : InputRefusal) → IsInput (text_input 1 input) old.contents bytes → IsRead old mid → IsUnreadInput (text_input 2 sheet) (between mid new) r →
+    IsUnreadOfFiles input sheet third (between old new) r
+second_unread input sheet third bytes old mid new (refusals.Fault fault) is read unread =
+    let met = between old new in
+    let status = fault_status fault in
+    let text = fault_line fault in
+    read_on (text_input 1 input) 0 met (AfterFile sheet third met NothingOfThree) bytes status text is
+    (answer_before (text_input 2 sheet) 0 old mid new Nothing (AfterSheet third met NothingOfThree bytes) status text read (λ said none. absurd none) (unread_on (text_input 2 sheet) (between mid new) fault Nothing unread))
+second_unread input sheet third bytes old mid new refusals.Memory is read unread = tt
+
+pub third_unread : (input sheet third bytes said : List ℕ) (old mid late new : FilesAt) (r : InputRefusal) → IsInput (text_input 1 input) old.contents bytes → IsInput (text_input 2 sheet) mid.contents said → IsRead old mid → IsRead mid late →
+    IsUnreadInput (log_input 3 third) (between late new) r → IsUnreadOfFiles input sheet third (between old new) r
+third_unread input sheet third bytes said old mid late new (refusals.Fault fault) is also read again unread =
+    let met = between old new in
+    let status = fault_status fault in
+    let text = fault_line fault in
+    let Second : List ℕ → Status → List ℕ → Type 0 = λ s. IsAnswerOn (log_input 3 third) 1 (between mid new) Nothing in
+    read_on (text_input 1 input) 0 met (AfterFile sheet third met NothingOfThree) bytes status text is
+    (answer_before (text_input 2 sheet) 0 old mid new Second (AfterSheet third met NothingOfThree bytes) status text read
+    (λ s. answer_before (log_input 3 third) 1 old mid new Nothing (IsAnswerAfter 3 met (NothingOfThree bytes s)) status text read (λ lines none. absurd none))
+    (read_on (text_input 2 sheet) 0 (between mid new) Second said status text also
+    (answer_before (log_input 3 third) 0 mid late new Nothing Nothing status text again (λ lines none. none) (unread_on (log_input 3 third) (between late new) fault Nothing unread))))
+third_unread input sheet third bytes said old mid late new refusals.Memory is also read again unread = tt
+
+-- its line is an answer, whatever is answered to bytes
+pub unread_answer : (input sheet third : List ℕ) (met : Met) (A : List ℕ → List ℕ → List ℕ → Status → List ℕ → Type 0) (r : InputRefusal) (fault : RunFault) (status : Status) (text : List ℕ) → r ≡ refusals.Fault fault →
+    IsUnreadOfFiles input sheet third met r → IsFaultLine fault status text → IsAnswerToFiles input sheet third met A status text
+unread_answer input sheet third met A r fault status text is unread told =
+    let there : IsAnswerToFiles input sheet third met NothingOfThree (fault_status fault) (fault_line fault) = subst (IsUnreadOfFiles input sheet third met) is unread in
+    files_more input sheet third met NothingOfThree A status text (λ bytes said lines none. absurd none)
+    (subst (λ (s : Status). IsAnswerToFiles input sheet third met NothingOfThree s text) (sym told.status_is)
+    (subst (λ (t : List ℕ). IsAnswerToFiles input sheet third met NothingOfThree (fault_status fault) t) (sym told.line_is) there))
+
+-- ---- all three
+
+-- an input that was read after a read is what it was before it
+input_before : (input : InputFile) (old mid : Option Told) (bytes : List ℕ) → WhereTold old mid SameFiles → IsInput input mid bytes → IsInput input old bytes
+input_before input old mid bytes same is = record { is_file = told_before old mid input.name bytes same is.is_file; short = is.short }
+
+pub files_read : (input sheet third bytes said lines : List ℕ) (old mid late : Option Told) → WhereTold old mid SameFiles → WhereTold mid late SameFiles → IsInput (text_input 1 input) old bytes → IsInput (text_input 2 sheet) mid said →
+    IsInput (log_input 3 third) late lines → AreFiles input sheet third old bytes said lines
+files_read input sheet third bytes said lines old mid late same still first second last = record {
+  is_input = first;
+  is_sheet = input_before (text_input 2 sheet) old mid said same second;
+  is_third = input_before (log_input 3 third) old mid lines same (input_before (log_input 3 third) mid late lines still last);
+}
+
+-- the bytes of files that were read are answered so
+pub read_files : (input sheet third : List ℕ) (met : Met) (A : List ℕ → List ℕ → List ℕ → Status → List ℕ → Type 0) (bytes said lines : List ℕ) (status : Status) (text : List ℕ) → AreFiles input sheet third met.before.contents bytes said lines →
+    HasRead met 3 → A bytes said lines status text → IsAnswerToFiles input sheet third met A status text
+read_files input sheet third met A bytes said lines status text files read answer =
+    read_on (text_input 1 input) 0 met (AfterFile sheet third met A) bytes status text files.is_input
+    (read_on (text_input 2 sheet) 1 met (AfterSheet third met A bytes) said status text files.is_sheet
+    (read_on (log_input 3 third) 2 met (IsAnswerAfter 3 met (A bytes said)) lines status text files.is_third (read, answer)))

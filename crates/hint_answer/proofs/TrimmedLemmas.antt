@@ -1,0 +1,70 @@
+-- What the bytes of three files give to trim.
+use Rattle.std.proofs.Common.{◌≡◌, ◌≢◌, ℕ, false, List, sym, ◌∙◌, subst, inl, inr}
+use Rattle.outside_io.specs.Contents.{FilesAt, WhereTold, SameFiles}
+use Rattle.plan_core.specs.Graph.{Graph}
+use Rattle.track_order.specs.Order.{EdgeOrder}
+use Rattle.plan_text.specs.SheetText.{Sheet}
+use Rattle.plan_text.specs.SheetFaults.{IsSheetText}
+use Rattle.drawing_problem.specs.Layout.{layout}
+use Rattle.log_check.specs.Judged.{CertifiesWhole}
+use Rattle.log_trim.specs.declared.trimming.TrimmedLog.{TrimmedLog}
+use Rattle.input_answer.specs.declared.fault.RunFault.{RunFault}
+use Rattle.input_answer.specs.declared.status.Status.{Status}
+use Rattle.input_answer.specs.declared.status.Status.TheVariants.{Done, Refused}
+use Rattle.input_answer.specs.declared.reply.Reply.{Reply}
+use Rattle.input_answer.specs.Fault.{IsFaultLine}
+use Rattle.input_answer.specs.Met.{Met, between, HasRead}
+use Rattle.input_answer.specs.Input.{HasStation, HasFileFault}
+use Rattle.input_answer.proofs.InputLemmas.{file_fault_status}
+use Rattle.sheet_answer.specs.CheckLine.{claim_of}
+use Rattle.sheet_answer.specs.Checked.{IsSheetAnswer}
+use Rattle.sheet_answer.specs.CertifiedSheet.{CertifiesSheet}
+use Rattle.sheet_answer.proofs.CheckedLemmas.{certified_answer, certified_whole}
+use Rattle.hint_answer.specs.declared.trimming.Finding.{Finding}
+use Rattle.hint_answer.specs.declared.trimming.Finding.TheVariants.{Answered, Left}
+use Rattle.hint_answer.specs.Files.{AreFiles}
+use Rattle.hint_answer.specs.Trimmed.{LeavesLines, TellsLeft, AreTrimmed, IsTrimAnswer}
+use Rattle.hint_answer.proofs.FilesLemmas.{read_files}
+use Rattle.hint_answer.proofs.WrittenLemmas.{tells_later}
+use Rattle.hint_answer.specs.Finding.{IsClaimFinding, IsSheetFinding, IsFinding}
+
+-- where check ends with 0 the log certifies the claim
+pub whole_of : (g : Graph) (o : EdgeOrder) (said : Sheet) (log text : List ℕ) (status : Status) → status ≡ Done → IsSheetAnswer g o said log status text →
+    CertifiesWhole (layout g o said.grid) said.order (claim_of said.order said.found said.ending) log
+whole_of g o said log text status is answer = certified_whole g o said log text (subst (λ (s : Status). IsSheetAnswer g o said log s text) is answer)
+
+pub certifies_of : (g : Graph) (o : EdgeOrder) (said : Sheet) (log text : List ℕ) (status : Status) → status ≡ Done → IsSheetAnswer g o said log status text → (sheet : List ℕ) → IsSheetText g false sheet said → CertifiesSheet g o sheet log said
+certifies_of g o said log text status is answer sheet told = (certified_answer g o sheet log text said told (subst (λ (s : Status). IsSheetAnswer g o said log s text) is answer)).0
+
+-- ---- the sheet that was read, and the file
+
+pub sheet_finding : (g : Graph) (o : EdgeOrder) (sheet log : List ℕ) (said : Sheet) (f : Finding) → IsSheetText g false sheet said → IsClaimFinding g o said log f → IsSheetFinding g o sheet log f
+sheet_finding g o sheet log said (Answered reply) told h = (inl (record { said = said; is_text = told; answer = h.0 }), h.1)
+sheet_finding g o sheet log said (Left r) told h = record { said = said; certifies = h.0 sheet told; left = h.1 }
+
+pub file_finding : (file sheet log : List ℕ) (g : Graph) (o : EdgeOrder) (f : Finding) → HasStation file g o → IsSheetFinding g o sheet log f → IsFinding file sheet log f
+file_finding file sheet log g o (Answered reply) has h = (inl (g, o, has, h.0), h.1)
+file_finding file sheet log g o (Left r) has h = record { graph = g; order = o; said = h.said; station = has; certifies = h.certifies; left = h.left }
+
+-- a status that is a refusal's isn't 0
+pub refused_not_done : (status : Status) → status ≡ Refused → status ≢ Done
+refused_not_done status is same = let e : Refused ≡ Done = sym is ∙ same in cc
+
+pub fault_not_done : (file : List ℕ) (fault : RunFault) (status : Status) (text : List ℕ) → HasFileFault file fault → IsFaultLine fault status text → status ≢ Done
+fault_not_done file fault status text has told = refused_not_done status (told.status_is ∙ file_fault_status file fault has)
+
+-- ---- what is answered to the three files
+
+pub finding_of : (file sheet log b s l : List ℕ) (f e : Finding) → b ≡ file → s ≡ sheet → l ≡ log → f ≡ e → IsFinding b s l f → IsFinding file sheet log e
+finding_of file sheet log b s l f e first second third is h =
+    subst (IsFinding file sheet log) is
+    (subst (λ (x : List ℕ). IsFinding file sheet x f) third (subst (λ (x : List ℕ). IsFinding file x l f) second (subst (λ (x : List ℕ). IsFinding x s l f) first h)))
+
+pub answered_trim : (input sheet log hints bytes said lines : List ℕ) (met : Met) (reply : Reply) → AreFiles input sheet log met.before.contents bytes said lines → HasRead met 3 → IsFinding bytes said lines (Answered reply) →
+    IsTrimAnswer input sheet log hints met reply.status reply.text.items
+answered_trim input sheet log hints bytes said lines met reply files read h = read_files input sheet log met (AreTrimmed hints met) bytes said lines reply.status reply.text.items files read (inl h)
+
+pub left_trim : (input sheet log hints bytes said lines : List ℕ) (old mid new : FilesAt) (r : TrimmedLog) (status : Status) (text : List ℕ) → AreFiles input sheet log old.contents bytes said lines → HasRead (between old new) 3 →
+    WhereTold old.contents mid.contents SameFiles → LeavesLines bytes said lines r → TellsLeft r hints (between mid new) status text → IsTrimAnswer input sheet log hints (between old new) status text
+left_trim input sheet log hints bytes said lines old mid new r status text files read same leaves told =
+    read_files input sheet log (between old new) (AreTrimmed hints (between old new)) bytes said lines status text files read (inr (r, leaves, tells_later r hints old mid new status text same told))

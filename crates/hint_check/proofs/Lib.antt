@@ -1,0 +1,5 @@
+pub mod LineLemmas
+pub mod JudgingLemmas
+pub mod ExpectingLemmas
+pub mod VerdictLemmas
+pub mod OnceLemmas

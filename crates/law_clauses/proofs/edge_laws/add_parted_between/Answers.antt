@@ -1,0 +1,11 @@
+use Rattle.law_clauses.proofs.BaseLemmas.{node_x_there}
+use Rattle.law_clauses.proofs.edge_laws.add_parted_between.Goals as goal
+
+pub add_parted-requires-clause-e_west : goal.add_parted-requires-clause-e_west
+add_parted-requires-clause-e_west c = node_x_there c.args.g.now c.args.grid.now c.west-e_west.result.0 c.args.f.now.vars c.node_vars-e_from.result.x c.west-e_west.ensures.there c.requires.there c.node_vars-e_from.ensures.x
+
+pub add_parted-requires-clause-e_east : goal.add_parted-requires-clause-e_east
+add_parted-requires-clause-e_east c = node_x_there c.args.g.now c.args.grid.now c.east-e_east.result.0 c.args.f.now.vars c.node_vars-e_to.result.x c.east-e_east.ensures.there c.requires.there c.node_vars-e_to.ensures.x
+
+pub add_parted-requires-clause-g_west : goal.add_parted-requires-clause-g_west
+add_parted-requires-clause-g_west c = node_x_there c.args.g.now c.args.grid.now c.west-h_west.result.0 c.args.f.now.vars c.node_vars-h_from.result.x c.west-h_west.ensures.there c.requires.there c.node_vars-h_from.ensures.x

@@ -1,0 +1,10 @@
+pub mod Guards
+pub mod Stands
+pub mod Rank
+pub mod LawClauses
+pub mod Parties
+pub mod Expected
+pub mod WithoutLeast
+pub mod Joined
+pub mod AddsLaws
+pub mod OneLaw

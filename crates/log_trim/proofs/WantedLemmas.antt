@@ -1,0 +1,202 @@
+-- Lines by which a claim is certified, at their places.
+use Rattle.std.proofs.Common.{◌≡◌, ◌≤◌, ℕ, ◌+◌, ◌⊎◌, List, [], ◌∷◌, ◌++◌, length, take, get_or, false, Some, None, refl, sym, ◌∙◌, ap, subst, inl, inr, arith}
+use Rattle.std.specs.Prelude.{Contains, Option, slice_get, flat_map}
+use Rattle.std.proofs.lemmas.Bool.{cases_lt}
+use Rattle.std.proofs.lemmas.Option.{slice_get-get_or, same_Some}
+use Rattle.std.proofs.lemmas.List.Elements.{Contains-get_or, Contains-append_cases, Contains-append_left, Contains-push_cases, Contains-push}
+use Rattle.plan_core.specs.declared.criterion.Values.{Values}
+use Rattle.plan_core.specs.declared.criterion.Criterion.{Criterion}
+use Rattle.plan_core.specs.Searching.{FindsFirst, IsFirst, NoneBefore}
+use Rattle.plan_core.specs.Values.{value_of}
+use Rattle.plan_core.proofs.Listing.{Contains-head, Contains-tail}
+use Rattle.cnf_core.specs.declared.literal.Var.{Var}
+use Rattle.cnf_core.specs.Lit.{Literal, positive_of}
+use Rattle.cnf_core.specs.Clause.{HasAllOf}
+use Rattle.refute_log.specs.declared.line.LogLine.{LogLine}
+use Rattle.refute_log.specs.declared.line.LogLine.TheVariants.{Formula, Learnt, Bound, Query, Refuted, Model}
+use Rattle.refute_log.specs.Told.{Lines}
+use Rattle.refute_log.specs.Log.{IsRefutedWithin, facts_of, refuted}
+use Rattle.refute_check.specs.Kept.{CheckedFacts}
+use Rattle.certified_values.specs.Bounds.{SaysAtLeast}
+use Rattle.certified_values.specs.Certified.{IsOutOfReach, IsCertifiedLeast, CertifiesNone}
+use Rattle.certified_check.specs.declared.told_bound.ToldBound.{ToldBound}
+use Rattle.certified_check.specs.Lacking.{told_bound, IsUnreached}
+use Rattle.certified_check.proofs.JudgeLemmas.{nothing, AreUnreached, verdict_is}
+use Rattle.log_trim.specs.Wanted.{ShowsLeast, ShowsNone, IsClaimedPlace, AreOfLeast}
+
+-- ---- literals of bounds that aren't reached are out of reach
+
+-- the Bound line of a bound
+record HasLine (lines : Lines) (b : ToldBound) : Type 0 where
+  variable : Var
+  told : Contains lines (Bound b.criterion b.k variable)
+  is : b.literal ≡ positive_of variable.0
+
+line_more : (lines : Lines) (line : LogLine) (b : ToldBound) → HasLine lines b → HasLine (line ∷ lines) b
+line_more lines line b h = record { variable = h.variable; told = Contains-tail line lines (Bound b.criterion b.k h.variable) h.told; is = h.is }
+
+bound_line : (lines : Lines) (b : ToldBound) → Contains (flat_map told_bound lines) b → HasLine lines b
+bound_line [] b there = nothing b (HasLine [] b) there
+bound_line (Formula c ∷ lines) b there = line_more lines (Formula c) b (bound_line lines b there)
+bound_line (Learnt c ∷ lines) b there = line_more lines (Learnt c) b (bound_line lines b there)
+bound_line (Bound d k x ∷ lines) b there =
+    let told : ToldBound = record { criterion = d; k = k; literal = positive_of x.0 } in
+    elim (Contains-append_cases (told ∷ []) (flat_map told_bound lines) b there) [
+      | inl one ↦ elim (Contains-push_cases [] told b one) [
+        | inl before ↦ nothing b (HasLine (Bound d k x ∷ lines) b) before
+        | inr same ↦ subst (HasLine (Bound d k x ∷ lines)) same (record { variable = x; told = Contains-head (Bound d k x) lines; is = refl })
+      ]
+      | inr more ↦ line_more lines (Bound d k x) b (bound_line lines b more)
+    ]
+bound_line (Query c ∷ lines) b there = line_more lines (Query c) b (bound_line lines b there)
+bound_line (Refuted c ∷ lines) b there = line_more lines (Refuted c) b (bound_line lines b there)
+bound_line (Model ∷ lines) b there = line_more lines Model b (bound_line lines b there)
+
+out_of_reach : (greatest : Criterion → ℕ) (lines : Lines) (earlier : List Criterion) (c : Criterion) (v : Values) (l : Literal) (b : ToldBound) → HasLine lines b → IsUnreached greatest earlier c v b → b.literal ≡ l → IsOutOfReach greatest lines earlier c v l
+out_of_reach greatest lines earlier c v l b h u e =
+    let s : SaysAtLeast greatest lines b.criterion b.k l = record { within = u.within; variable = h.variable; told = h.told; is = sym e ∙ h.is } in
+    elim u.either [
+      | inl old ↦ (let there = old.0 in inl (there.0, b.criterion, there.1, there.2, subst (λ n. SaysAtLeast greatest lines b.criterion n l) old.1 s))
+      | inr now ↦ inr (subst (λ n. SaysAtLeast greatest lines c n l) now.1 (subst (λ d. SaysAtLeast greatest lines d b.k l) now.0 s))
+    ]
+
+-- ---- the first Refuted line within them
+
+pub found_shows : (greatest : Criterion → ℕ) (lines : Lines) (bounds : List ToldBound) (earlier : List Criterion) (c : Criterion) (v : Values) (literals : List Literal) (found : Option ℕ) (p : ℕ) → bounds ≡ flat_map told_bound lines →
+    AreUnreached greatest bounds earlier c v literals → found ≡ Some p → FindsFirst (λ _ line. IsRefutedWithin literals line) lines found → ShowsLeast greatest lines earlier c v p
+found_shows greatest lines bounds earlier c v literals found p are unreached is finds =
+    let first : IsFirst (λ _ line. IsRefutedWithin literals line) lines p = subst (λ (f : Option ℕ). FindsFirst (λ _ line. IsRefutedWithin literals line) lines f) is finds in
+    by first.x first.is first.holds
+  where
+    by : (line : LogLine) → slice_get lines p ≡ Some line → IsRefutedWithin literals line → ShowsLeast greatest lines earlier c v p
+    by (Formula d) at h = absurd h
+    by (Learnt d) at h = absurd h
+    by (Bound d k x) at h = absurd h
+    by (Query d) at h = absurd h
+    by (Refuted d) at h = record {
+      clause = d;
+      there = at;
+      each = λ k l low.
+          let x = get_or d k l in
+          let any = (unreached x).0 (h x (Contains-get_or d k l low)) in
+          out_of_reach greatest lines earlier c v x any.1 (bound_line lines any.1 (subst (λ (bs : List ToldBound). Contains bs any.1) are (any.0, any.2, any.3))) any.4.0 any.4.1;
+    }
+    by Model at h = absurd h
+
+-- what a checker keeps of the lines
+abbrev kept_of_log : Lines → CheckedFacts
+kept_of_log lines = record { room = 0; facts = facts_of lines; lost = false }
+
+refuted_there : (lines : Lines) (d : List Literal) → Contains (flat_map refuted lines) d → Contains lines (Refuted d)
+refuted_there [] d h = nothing d (Contains [] (Refuted d)) h
+refuted_there (Formula e ∷ lines) d h = Contains-tail (Formula e) lines (Refuted d) (refuted_there lines d h)
+refuted_there (Learnt e ∷ lines) d h = Contains-tail (Learnt e) lines (Refuted d) (refuted_there lines d h)
+refuted_there (Bound e k x ∷ lines) d h = Contains-tail (Bound e k x) lines (Refuted d) (refuted_there lines d h)
+refuted_there (Query e ∷ lines) d h = Contains-tail (Query e) lines (Refuted d) (refuted_there lines d h)
+refuted_there (Refuted e ∷ lines) d h = elim (Contains-append_cases (e ∷ []) (flat_map refuted lines) d h) [
+  | inl one ↦ elim (Contains-push_cases [] e d one) [
+    | inl before ↦ nothing d (Contains (Refuted e ∷ lines) (Refuted d)) before
+    | inr same ↦ subst (λ (f : List Literal). Contains (Refuted e ∷ lines) (Refuted f)) same (Contains-head (Refuted e) lines)
+  ]
+  | inr more ↦ Contains-tail (Refuted e) lines (Refuted d) (refuted_there lines d more)
+]
+refuted_there (Model ∷ lines) d h = Contains-tail Model lines (Refuted d) (refuted_there lines d h)
+
+-- a Refuted line within the literals is found
+not_missed : (lines : Lines) (literals d : List Literal) → Contains lines (Refuted d) → HasAllOf literals d → NoneBefore (λ _ line. IsRefutedWithin literals line) lines (length lines) → ⊥
+not_missed lines literals d there within none =
+    let at : slice_get lines there.0 ≡ Some (Refuted d) = slice_get-get_or lines there.0 (Refuted d) there.1 ∙ ap (λ (x : LogLine). Some x) there.2 in
+    none.none there.0 (Refuted d) there.1 at within
+
+pub none_missed : (greatest : Criterion → ℕ) (lines : Lines) (bounds : List ToldBound) (earlier : List Criterion) (c : Criterion) (v : Values) (literals : List Literal) (found : Option ℕ) → bounds ≡ flat_map told_bound lines →
+    AreUnreached greatest bounds earlier c v literals → 1 ≤ value_of v c → IsCertifiedLeast greatest lines earlier c v → found ≡ None → FindsFirst (λ _ line. IsRefutedWithin literals line) lines found → ⊥
+none_missed greatest lines bounds earlier c v literals found are unreached positive least is finds =
+    let none : NoneBefore (λ _ line. IsRefutedWithin literals line) lines (length lines) = subst (λ (f : Option ℕ). FindsFirst (λ _ line. IsRefutedWithin literals line) lines f) is finds in
+    let any = (verdict_is greatest lines (kept_of_log lines) bounds earlier c v literals (record { facts = refl; told = are }) unreached positive).1 least in
+    not_missed lines literals any.1 (refuted_there lines any.1 (any.0, any.2, any.3)) any.4 none
+
+-- ---- the same of a line without literals
+
+pub found_none : (lines : Lines) (found : Option ℕ) (p : ℕ) → found ≡ Some p → FindsFirst (λ _ line. IsRefutedWithin [] line) lines found → ShowsNone lines p
+found_none lines found p is finds =
+    let first : IsFirst (λ _ line. IsRefutedWithin [] line) lines p = subst (λ (f : Option ℕ). FindsFirst (λ _ line. IsRefutedWithin [] line) lines f) is finds in
+    by first.x first.is first.holds
+  where
+    empty : (d : List Literal) → HasAllOf [] d → d ≡ []
+    empty [] h = refl
+    empty (l ∷ ls) h = nothing l (l ∷ ls ≡ []) (h l (Contains-head l ls))
+
+    by : (line : LogLine) → slice_get lines p ≡ Some line → IsRefutedWithin [] line → ShowsNone lines p
+    by (Formula d) at h = absurd h
+    by (Learnt d) at h = absurd h
+    by (Bound d k x) at h = absurd h
+    by (Query d) at h = absurd h
+    by (Refuted d) at h = subst (λ (e : List Literal). slice_get lines p ≡ Some (Refuted e)) (empty d h) at
+    by Model at h = absurd h
+
+pub none_found : (lines : Lines) (found : Option ℕ) → CertifiesNone lines → found ≡ None → FindsFirst (λ _ line. IsRefutedWithin [] line) lines found → ⊥
+none_found lines found certified is finds =
+    let none : NoneBefore (λ _ line. IsRefutedWithin [] line) lines (length lines) = subst (λ (f : Option ℕ). FindsFirst (λ _ line. IsRefutedWithin [] line) lines f) is finds in
+    not_missed lines [] [] certified (λ l h. h) none
+
+-- ---- the places of the order, one by one
+
+pub of_none : (greatest : Criterion → ℕ) (lines : Lines) (order : List Criterion) (v : Values) → AreOfLeast greatest lines order v 0 []
+of_none greatest lines order v = record {
+  only = λ p h. nothing p ((i : ℕ) × (c : Criterion) × IsClaimedPlace order v 0 i c × ShowsLeast greatest lines (take i order) c v p) h;
+  each = λ i c claimed. absurd (let low = claimed.below in omega (arith, low));
+}
+
+-- a claimed place is one of more
+further : (order : List Criterion) (v : Values) (s i : ℕ) (c : Criterion) → IsClaimedPlace order v s i c → IsClaimedPlace order v (s + 1) i c
+further order v s i c h = record { below = (let low = h.below in omega (arith, low)); at = h.at; positive = h.positive }
+
+abbrev IsOfPlace : (Criterion → ℕ) → Lines → List Criterion → Values → ℕ → ℕ → Type 0
+IsOfPlace greatest lines order v s p = (i : ℕ) × (c : Criterion) × IsClaimedPlace order v s i c × ShowsLeast greatest lines (take i order) c v p
+
+abbrev IsShownIn : (Criterion → ℕ) → Lines → List Criterion → Values → List ℕ → ℕ → Criterion → Type 0
+IsShownIn greatest lines order v wanted i c = (p : ℕ) × Contains wanted p × ShowsLeast greatest lines (take i order) c v p
+
+only_further : (greatest : Criterion → ℕ) (lines : Lines) (order : List Criterion) (v : Values) (s p : ℕ) → IsOfPlace greatest lines order v s p → IsOfPlace greatest lines order v (s + 1) p
+only_further greatest lines order v s p (i, c, claimed, shows) = (i, c, further order v s i c claimed, shows)
+
+-- the last of the places, or one before
+last_place : (order : List Criterion) (v : Values) (s i : ℕ) (c d : Criterion) → slice_get order s ≡ Some d → IsClaimedPlace order v (s + 1) i c → IsClaimedPlace order v s i c ⊎ ((i ≡ s) × (c ≡ d))
+last_place order v s i c d at h = elim (cases_lt i s) [
+  | inl less ↦ inl (record { below = less; at = h.at; positive = h.positive })
+  | inr ge ↦
+      let low = h.below in
+      let same : i ≡ s = omega (arith, low, ge) in
+      inr (same, same_Some c d (sym h.at ∙ ap (λ n. slice_get order n) same ∙ at))
+]
+
+pub of_shown : (greatest : Criterion → ℕ) (lines : Lines) (order earlier : List Criterion) (v : Values) (s p : ℕ) (c : Criterion) (wanted new : List ℕ) → slice_get order s ≡ Some c → earlier ≡ take s order → 1 ≤ value_of v c →
+    ShowsLeast greatest lines earlier c v p → new ≡ wanted ++ p ∷ [] → AreOfLeast greatest lines order v s wanted → AreOfLeast greatest lines order v (s + 1) new
+of_shown greatest lines order earlier v s p c wanted new at is positive shows pushed h =
+    let here : ShowsLeast greatest lines (take s order) c v p = subst (λ (cs : List Criterion). ShowsLeast greatest lines cs c v p) is shows in
+    let claimed : IsClaimedPlace order v (s + 1) s c = record { below = omega arith; at = at; positive = positive } in
+    subst (AreOfLeast greatest lines order v (s + 1)) (sym pushed) (record {
+      only = λ q among. elim (Contains-push_cases wanted p q among) [
+        | inl old ↦ only_further greatest lines order v s q (h.only q old)
+        | inr same ↦ subst (IsOfPlace greatest lines order v (s + 1)) same (s, c, claimed, here)
+      ];
+      each = λ i d place. elim (last_place order v s i d c at place) [
+        | inl before ↦ (let old = h.each i d before in (old.0, Contains-append_left wanted (p ∷ []) old.0 old.1, old.2))
+        | inr now ↦
+            subst (λ n. IsShownIn greatest lines order v (wanted ++ p ∷ []) n d) (sym now.0)
+            (subst (λ e. IsShownIn greatest lines order v (wanted ++ p ∷ []) s e) (sym now.1) (p, Contains-push wanted p, here))
+      ];
+    })
+
+pub of_zero : (greatest : Criterion → ℕ) (lines : Lines) (order : List Criterion) (v : Values) (s : ℕ) (c : Criterion) (wanted : List ℕ) → slice_get order s ≡ Some c → value_of v c ≤ 0 →
+    AreOfLeast greatest lines order v s wanted → AreOfLeast greatest lines order v (s + 1) wanted
+of_zero greatest lines order v s c wanted at zero h = record {
+  only = λ q among. only_further greatest lines order v s q (h.only q among);
+  each = λ i d place. elim (last_place order v s i d c at place) [
+    | inl before ↦ h.each i d before
+    | inr now ↦ absurd (
+        let positive = subst (λ e. 1 ≤ value_of v e) now.1 place.positive in
+        omega (arith, positive, zero)
+        )
+  ];
+}

@@ -1,0 +1,77 @@
+// The lines of a log's text, and the bounds that they tell.
+ghost use Rattle.std.specs.Prelude.{◌≡◌, ◌++◌, ◌∷◌, [], IfOk, OnOk, flat_map, length};
+ghost use Rattle.refute_log.specs.Lines.{MayBeTold};
+ghost use Rattle.refute_log.specs.Log.{learnt};
+ghost use Rattle.certified_check.specs.Lacking.{told_bound};
+ghost use Rattle.log_trim.specs.TrimmedLog.{IsLogOf};
+ghost use Rattle.log_trim.specs.Shown.{IsSomeLog};
+
+use certified_check::ToldBound;
+use line_text::behind;
+use log_check::{Next, next_line};
+use plan_core::OutOfMemory;
+use refute_log::{LineList, LogLine, LogSink};
+use std::alloc::Global;
+
+/// The first line of every log's text.
+const HEADER: &[u8] = b"railplan-log 1\n";
+
+/// Adds the line at the end of the list.
+pub(crate) fn add_line(list: &mut LineList, line: &LogLine) -> Result<(), OutOfMemory>
+    requires { MayBeTold line.now }
+    ensures { OnOk result (list.new ≡ list.old ++ line.now ∷ []) }
+{
+    let _ = list.len();
+    match list.tell(line) {
+        Ok(()) => Ok(()),
+        Err(_) => Err(OutOfMemory),
+    }
+}
+
+/// The lines of a log's text.
+pub(crate) fn lines_in(alloc: Global, log: &[u8]) -> Result<LineList, OutOfMemory>
+    requires { IsSomeLog log.now }
+    ensures { IfOk result (λ lines. IsLogOf log.now lines) }
+{
+    let mut list = LineList::new(alloc);
+    let Some(body) = behind(log, HEADER) else {
+        unreachable!()
+    };
+    let mut rest = body;
+    while !rest.is_empty() {
+        match next_line(alloc, rest)? {
+            Next::Line(line, more) => {
+                add_line(&mut list, &line)?;
+                rest = more;
+            }
+            Next::Fault(_) => unreachable!(),
+        }
+    }
+    Ok(list)
+}
+
+/// The bounds of the Bound lines.
+pub(crate) fn bounds_of(alloc: Global, lines: &LineList) -> Result<Vec<ToldBound>, OutOfMemory>
+    ensures { IfOk result (λ bounds. bounds.items ≡ flat_map told_bound lines.now) }
+{
+    let mut bounds = Vec::new(alloc);
+    for i in 0..lines.len() {
+        if let Some(bound) = ToldBound::of(lines.get(i)) {
+            bounds.push(bound)?;
+        }
+    }
+    Ok(bounds)
+}
+
+/// How many Learnt lines there are.
+pub(crate) fn count_learnt(lines: &LineList) -> usize
+    ensures { result ≡ length (flat_map learnt lines.now) }
+{
+    let mut count = 0;
+    for i in 0..lines.len() {
+        if let LogLine::Learnt(_) = lines.get(i) {
+            count += 1;
+        }
+    }
+    count
+}

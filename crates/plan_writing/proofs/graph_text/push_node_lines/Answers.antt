@@ -1,0 +1,6 @@
+use Rattle.plan_writing.specs.GraphText.{node_line}
+use Rattle.line_text.proofs.LineLemmas.{line_more}
+use Rattle.plan_writing.proofs.graph_text.push_node_lines.Goals as goal
+
+pub loop-n-preserved : goal.loop-n-preserved
+loop-n-preserved c = line_more (node_line c.args.g.now) c.args.into.now.items c.loop-n.into.items c.push_node_line.new.into.items c.loop-n.n c.loop-n.invariant c.in_ok-push_node_line.ensures.ok

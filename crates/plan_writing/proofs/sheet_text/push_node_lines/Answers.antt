@@ -1,0 +1,7 @@
+use Rattle.plan_writing.specs.declared.edition.Edition.TheVariants.{Second}
+use Rattle.plan_writing.specs.SheetText.{node_line}
+use Rattle.plan_writing.proofs.SheetParts.{text_more}
+use Rattle.plan_writing.proofs.sheet_text.push_node_lines.Goals as goal
+
+pub loop-n-preserved : goal.loop-n-preserved
+loop-n-preserved c = text_more (node_line Second c.args.g.now c.args.d.now) c.args.into.now.items c.loop-n.into.items c.push_node_line.new.into.items c.loop-n.n c.loop-n.invariant c.in_ok-push_node_line.ensures.ok
