@@ -1,6 +1,7 @@
 -- The solver as one value.
 use Rattle.std.proofs.Common.{◌≡◌, ◌≤◌, ℕ, Bool, false, List, [], ◌∷◌, ◌++◌, refl, sym, ◌∙◌, ap, subst, None}
-use Rattle.std.specs.Prelude.{Option, All}
+use Rattle.std.specs.Prelude.{Option, All, Contains}
+use Rattle.std.proofs.lemmas.List.Elements.{Contains-push}
 use Rattle.cnf_core.specs.declared.limits.TheConstants.{ROOM}
 use Rattle.cnf_core.specs.Lit.{Literal}
 use Rattle.cnf_core.specs.Clause.{Clauses, IsNamed}
@@ -23,6 +24,12 @@ new_given k room e = subst (λ (x : Kept). AreGiven [] x.clauses) (sym e) (recor
 
 pub new_belongs : (k : Kept) (room : ℕ) → k ≡ blank room → Belongs [] k
 new_belongs k room e = subst (Belongs []) (sym e) belongs_none
+
+-- a variable of a clause that is given is named
+pub named_given : (old new : Kept) (c : List Literal) (l : Literal) → IsGivenOne old new c → Contains c l → IsNamed new.clauses l.var
+named_given old new c l given inside =
+    let d = given.clauses.there c (Contains-push old.clauses c) in
+    record { clause = d.0; among = d.1; lit = l; inside = (d.2 l).0 inside; var = refl }
 
 -- whether the solver has failed, as its fields say
 pub failed_field : (s : Search) (model : Option (List Bool)) (refuted : List Literal) (failed : Bool) (k : Kept) → kept_of s model refuted failed ≡ k → k.failed ≡ false → failed ≡ false

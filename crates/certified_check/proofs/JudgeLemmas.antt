@@ -42,7 +42,7 @@ comes_from f (x ∷ xs) y there = elim (Contains-append_cases (f x) (flat_map f 
 pub nothing : {X : Type 0} (y : X) (P : Type 0) → Contains [] y → P
 nothing y P h = absurd (let low = h.1 in omega arith)
 
-refuted_line : (lines : Lines) (c : List Literal) → Contains (flat_map refuted lines) c → Contains lines (Refuted c)
+pub refuted_line : (lines : Lines) (c : List Literal) → Contains (flat_map refuted lines) c → Contains lines (Refuted c)
 refuted_line lines c there = let r = comes_from refuted lines c there in by r.origin r.among r.gives
   where
     by : (line : LogLine) → Contains lines line → Contains (refuted line) c → Contains lines (Refuted c)
@@ -60,12 +60,12 @@ line_refuted : (lines : Lines) (c : List Literal) → Contains lines (Refuted c)
 line_refuted lines c there = Contains-flat_map refuted lines (Refuted c) c there (0, omega arith, refl)
 
 -- the Bound line of a bound
-record HasLine (lines : Lines) (b : ToldBound) : Type 0 where
-  variable : Var
-  told : Contains lines (Bound b.criterion b.k variable)
-  is : b.literal ≡ positive_of variable.0
+pub record HasLine (lines : Lines) (b : ToldBound) : Type 0 where
+  pub variable : Var
+  pub told : Contains lines (Bound b.criterion b.k variable)
+  pub is : b.literal ≡ positive_of variable.0
 
-bound_line : (lines : Lines) (b : ToldBound) → Contains (flat_map told_bound lines) b → HasLine lines b
+pub bound_line : (lines : Lines) (b : ToldBound) → Contains (flat_map told_bound lines) b → HasLine lines b
 bound_line lines b there = let r = comes_from told_bound lines b there in by r.origin r.among r.gives
   where
     by : (line : LogLine) → Contains lines line → Contains (told_bound line) b → HasLine lines b
@@ -86,13 +86,13 @@ line_bound lines c k x there = Contains-flat_map told_bound lines (Bound c k x) 
 
 -- ---- bounds that aren't reached are those out of reach
 
-abbrev IsUnreachedLiteral : (Criterion → ℕ) → List Criterion → Criterion → Values → Literal → ToldBound → Type 0
+abbrev pub IsUnreachedLiteral : (Criterion → ℕ) → List Criterion → Criterion → Values → Literal → ToldBound → Type 0
 IsUnreachedLiteral greatest earlier c v l b = IsUnreached greatest earlier c v b × (b.literal ≡ l)
 
 says : (greatest : Criterion → ℕ) (lines : Lines) (b : ToldBound) (l : Literal) → HasLine lines b → b.literal ≡ l → b.k ≤ greatest b.criterion → SaysAtLeast greatest lines b.criterion b.k l
 says greatest lines b l h e within = record { within = within; variable = h.variable; told = h.told; is = sym e ∙ h.is }
 
-out_of_reach : (greatest : Criterion → ℕ) (lines : Lines) (earlier : List Criterion) (c : Criterion) (v : Values) (l : Literal) (b : ToldBound) → HasLine lines b → IsUnreachedLiteral greatest earlier c v l b → IsOutOfReach greatest lines earlier c v l
+pub out_of_reach : (greatest : Criterion → ℕ) (lines : Lines) (earlier : List Criterion) (c : Criterion) (v : Values) (l : Literal) (b : ToldBound) → HasLine lines b → IsUnreachedLiteral greatest earlier c v l b → IsOutOfReach greatest lines earlier c v l
 out_of_reach greatest lines earlier c v l b h u =
     let s = says greatest lines b l h u.1 u.0.within in
     elim u.0.either [

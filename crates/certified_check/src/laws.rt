@@ -10,10 +10,10 @@ ghost use Rattle.certified_check.specs.Lacking.{KnowsLog, IsFirstLacking};
 
 /// No place lacks where the values are certified, and one place at most is the first that lacks.
 pub fn one_place_lacks_first()
-    ensures none { (greatest : Criterion → ℕ) (lines : Lines) (order : List Criterion) (v : Values) (s : ℕ)
+    ensures none { (greatest : Criterion → ℕ) (ls : Lines) (order : List Criterion) (v : Values) (s : ℕ)
         (found : Option ℕ) →
-        s ≤ length order → Certifies greatest lines order v s → IsFirstLacking greatest lines order v s found → found
-        ≡ None }
+        s ≤ length order → Certifies greatest ls order v s → IsFirstLacking greatest ls order v s found →
+        found ≡ None }
     ensures once { (top : Criterion → ℕ) (lines : Lines) (order : List Criterion) (v : Values) (s : ℕ)
         (found other : Option ℕ) → s ≤ length order → IsFirstLacking top lines order v s found →
         IsFirstLacking top lines order v s other → found ≡ other }

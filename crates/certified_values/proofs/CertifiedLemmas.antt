@@ -225,7 +225,7 @@ certifies_same greatest lines order v w s same h = λ i c low at.
 says_under : (greatest other : Criterion → ℕ) (lines : Lines) (c : Criterion) (k : ℕ) (l : Literal) → greatest c ≡ other c → SaysAtLeast greatest lines c k l → SaysAtLeast other lines c k l
 says_under greatest other lines c k l e s = record { within = subst (λ n. k ≤ n) e s.within; variable = s.variable; told = s.told; is = s.is }
 
-out_of_reach_under : (greatest other : Criterion → ℕ) (lines : Lines) (earlier : List Criterion) (c : Criterion) (v : Values) (l : Literal) → ((b : Criterion) → greatest b ≡ other b) →
+pub out_of_reach_under : (greatest other : Criterion → ℕ) (lines : Lines) (earlier : List Criterion) (c : Criterion) (v : Values) (l : Literal) → ((b : Criterion) → greatest b ≡ other b) →
     IsOutOfReach greatest lines earlier c v l → IsOutOfReach other lines earlier c v l
 out_of_reach_under greatest other lines earlier c v l same (inl any) =
     inl (any.0, any.1, any.2, any.3, says_under greatest other lines any.1 (value_of v any.1 + 1) l (same any.1) any.4)

@@ -18,8 +18,8 @@ ghost use Rattle.certified_values.specs.Expected.{IsNextToCap, StandsOnce, EndsW
 /// the criteria that it certifies, and there is none where it certifies that.
 pub fn certified_over_expected_lines_is_least()
     ensures least { (g : Graph) (above : ℕ → ℕ → Bool) (grid : GridSize) (e : Problem) (greatest : Criterion → ℕ)
-        (lines : Lines) (order : List Criterion) → IsLogOf g above grid e greatest lines order →
-        CertifiedAreLeast g above grid greatest lines order }
+        (ls : Lines) (order : List Criterion) → IsLogOf g above grid e greatest ls order →
+        CertifiedAreLeast g above grid greatest ls order }
     ensures none { (g : Graph) (above : ℕ → ℕ → Bool) (grid : GridSize) (e : Problem) (top : Criterion → ℕ) (ls : Lines)
         (order : List Criterion) → IsLogOf g above grid e top ls order → CertifiesNone ls → (d : Drawing) →
         Lawful g above grid d → ⊥ }
@@ -44,7 +44,7 @@ pub fn expected_lines_come_sum_by_sum()
 
 /// Lines that are what is expected for some caps have just these caps.
 pub fn caps_are_those_told()
-    ensures { (e : Problem) (greatest cap : Criterion → ℕ) (order : List Criterion) (c : Criterion) (ls : Lines) →
-        HasAllBounds e → StandsOnce order c → cap c ≤ greatest c → clause_lines ls ≡ expected_lines e order cap →
-        caps greatest ls c ≡ cap c }
+    ensures { (e : Problem) (most cap : Criterion → ℕ) (order : List Criterion) (c : Criterion) (ls : Lines) →
+        HasAllBounds e → StandsOnce order c → cap c ≤ most c → clause_lines ls ≡ expected_lines e order cap →
+        caps most ls c ≡ cap c }
 {}

@@ -21,10 +21,6 @@ told_so P Q (Some a) (Some b) weaker h = weaker a b h
 
 -- ---- nothing is written
 
--- files that stand as they stood are left so, whatever they may be left with
-pub leaves_same : (May : (name bytes : List ℕ) → Type 0) (old new : Option Told) → WhereTold old new SameFiles → WhereTold old new (LeftSo May)
-leaves_same May old new = told_so SameFiles (LeftSo May) old new (λ a b same name. inl (same name))
-
 pub left_alone : (May : (name bytes : List ℕ) → Type 0) (c : Option Told) → WhereTold c c (LeftSo May)
 left_alone May None = tt
 left_alone May (Some told) = λ name. inl refl

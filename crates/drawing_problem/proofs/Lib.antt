@@ -1,3 +1,4 @@
 pub mod ListLemmas
 pub mod CoverLemmas
 pub mod ThereLemmas
+pub mod LimitLemmas

@@ -19,10 +19,9 @@ ghost use Rattle.drawing_problem.specs.Layout.{Layout, IsStationLayout, problem_
 pub fn drawing_lists_are_a_problem()
     ensures bounds { (g : Graph) (above overlap : ℕ → ℕ → Bool) (grid : GridSize) →
         HasAllBounds (drawing_problem g above overlap grid) }
-    ensures first { (g : Graph) (above overlap : ℕ → ℕ → Bool) (grid : GridSize) (before : ℕ) (c : Criterion)
-        (cap k : ℕ) → k < cap →
-        slice_get ((drawing_problem g above overlap grid).bounds before c cap) k
-        ≡ Some (record { 0 = before + 1 + k }) }
+    ensures first { (g : Graph) (above overlap : ℕ → ℕ → Bool) (grid : GridSize) (b : ℕ) (c : Criterion) (cap k : ℕ) →
+        k < cap →
+        slice_get ((drawing_problem g above overlap grid).bounds b c cap) k ≡ Some (record { 0 = b + 1 + k }) }
     ensures within { (g : Graph) (above overlap : ℕ → ℕ → Bool) (grid : GridSize) (before : ℕ) (c : Criterion)
         (cap : ℕ) → cap ≤ (drawing_problem g above overlap grid).sum_vars before c cap }
     ensures lines { (g : Graph) (above overlap : ℕ → ℕ → Bool) (grid : GridSize) (order : List Criterion)

@@ -52,8 +52,8 @@ pub fn bends_are_two_variables()
 
 /// Its diagonal is the number of columns whose variable says that it rises or falls.
 pub fn diagonal_is_counted()
-    ensures { (v : Assignment) (e : EdgeLits) (width : ℕ) (line : List Point) → is_line line ≡ true →
-        (east_end line).x ≤ width →
-        ReadsLine v e width line →
-        diagonal line ≡ count_by (λ c. v (e.up c) || v (e.down c)) (range_with_len 0 width) }
+    ensures { (v : Assignment) (e : EdgeLits) (width : ℕ) (l : List Point) → is_line l ≡ true →
+        (east_end l).x ≤ width →
+        ReadsLine v e width l →
+        diagonal l ≡ count_by (λ c. v (e.up c) || v (e.down c)) (range_with_len 0 width) }
 {}

@@ -18,7 +18,7 @@ use Rattle.certified_values.specs.declared.stop.Stop.{Stop}
 use Rattle.certified_values.specs.declared.stop.Stop.TheVariants.{BudgetSpent, RoomFull}
 use Rattle.refute_log.specs.Steps.{ToldBehind, Continues, KnowsSome}
 use Rattle.refute_log.proofs.StepLemmas.{stays, goes_on, becomes, learnt_no_clauses}
-use Rattle.lex_search.proofs.QuestionLemmas.{no_clauses_both, none_in, not_model, not_nothing}
+use Rattle.lex_search.proofs.QuestionLemmas.{no_clauses_both, none_in, not_model, not_nothing, query_stays}
 use Rattle.fewest_search.specs.declared.questions.Answer.{Answer}
 use Rattle.fewest_search.specs.declared.questions.Answer.TheVariants.{Found, Refuted, Stopped}
 use Rattle.fewest_search.specs.declared.outcome.Fewest.{Fewest}
@@ -143,11 +143,6 @@ stopped_end p stop best outcome lines is h = subst (λ (x : Fewest). IsEnd p x l
     by : (stop : Stop) → IsStoppedSearch p stop best lines → IsEnd p (stopped_with stop best) lines
     by BudgetSpent h = h
     by RoomFull h = h
-
--- the query of a question is the latest behind its learnt clauses
-query_stays : (q : Option (List Literal)) (cs : Clauses) → fold asked q (map Learnt cs) ≡ q
-query_stays q [] = refl
-query_stays q (c ∷ cs) = query_stays q cs
 
 latest_query : (p : CountTask) (limit : Option ℕ) (lines more : Lines) → IsAsked p limit [] more → (facts_of (lines ++ more)).query ≡ Some (query_of p limit)
 latest_query p limit lines more a =

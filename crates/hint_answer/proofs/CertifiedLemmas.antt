@@ -1,5 +1,5 @@
 -- What is left of a log is accepted where it is checked again.
-use Rattle.std.proofs.Common.{◌≡◌, ◌≤◌, ◌≢◌, ℕ, zero, suc, ◌+◌, ◌*◌, ◌⊎◌, inl, inr, List, [], ◌∷◌, ◌++◌, length, map, Some, refl, sym, ◌∙◌, ap, subst, arith, append-nil, append_assoc, length-append}
+use Rattle.std.proofs.Common.{◌≡◌, ◌≤◌, ◌≢◌, ℕ, zero, suc, ◌+◌, ◌⊎◌, inl, inr, List, [], ◌∷◌, ◌++◌, length, map, Some, refl, sym, ◌∙◌, ap, subst, arith, append-nil, append_assoc, length-append}
 use Rattle.std.specs.Prelude.{All, Contains, flat_map, slice_get, true, false}
 use Rattle.std.specs.List.{AllByRecursion}
 use Rattle.std.proofs.lemmas.Bool.{false≢true}
@@ -8,11 +8,10 @@ use Rattle.std.proofs.lemmas.Option.{slice_get_within, same_Some}
 use Rattle.std.proofs.lemmas.List.Elements.{All-nil, All-cons}
 use Rattle.plan_core.specs.declared.criterion.Criterion.{Criterion}
 use Rattle.plan_core.specs.declared.criterion.Criterion.TheVariants.{Height, Bends, Diagonal, Width}
-use Rattle.plan_core.specs.Grid.{GridSize, IsGrid}
+use Rattle.plan_core.specs.Grid.{IsGrid}
 use Rattle.plan_core.specs.Graph.{Graph}
 use Rattle.plan_core.specs.Values.{value_of, limit_of}
 use Rattle.plan_core.proofs.Listing.{Contains-head, Contains-tail}
-use Rattle.line_text.specs.declared.numbers.TheConstants.{MAX_NUMBER}
 use Rattle.port_graph.specs.StationGraph.{IsStationGraph}
 use Rattle.cnf_core.specs.declared.limits.TheConstants.{ROOM, LAST_VAR}
 use Rattle.cnf_core.specs.declared.literal.Var.{Var}
@@ -21,7 +20,6 @@ use Rattle.cnf_core.specs.Clause.{Clauses, words_of}
 use Rattle.cnf_core.proofs.ClauseLemmas.{words_append}
 use Rattle.track_order.specs.Order.{EdgeOrder}
 use Rattle.plan_text.specs.SheetText.{Sheet}
-use Rattle.plan_text.specs.SheetFaults.{IsSheetText}
 use Rattle.refute_log.specs.declared.line.LogLine.TheVariants.{Formula}
 use Rattle.refute_log.specs.Lines.{MayBeTold, MayAllBeTold}
 use Rattle.refute_log.specs.Told.{Lines}
@@ -30,6 +28,7 @@ use Rattle.certified_values.specs.Expected.{Problem, same_criterion, bound_var, 
 use Rattle.certified_values.proofs.ExpectedLemmas.{same_itself, same_tells}
 use Rattle.certified_values.proofs.CapsLemmas.{formulas_none, sums_without, bounds_of_clauses}
 use Rattle.drawing_problem.specs.Layout.{Layout, layout, problem_of}
+use Rattle.drawing_problem.proofs.LimitLemmas.{small_limit}
 use Rattle.log_check.specs.Expectation.{PassesLimits}
 use Rattle.log_check.specs.declared.claim.Claim.{Claim}
 use Rattle.hint_log.specs.declared.hint_line.HintLine.{HintLine}
@@ -47,6 +46,7 @@ use Rattle.log_trim.proofs.CertifyingLemmas.{left_good, left_certify}
 use Rattle.input_answer.specs.declared.status.Status.{Status}
 use Rattle.input_answer.specs.declared.status.Status.TheVariants.{Done}
 use Rattle.sheet_answer.specs.CheckLine.{claim_of}
+use Rattle.sheet_answer.proofs.CheckedLemmas.{read_grid}
 use Rattle.hint_answer.specs.Texts.{left_text}
 use Rattle.hint_answer.specs.Trimmed.{IsLeftFor, LeavesLines}
 use Rattle.hint_answer.specs.Rechecked.{IsRechecked, HintsCertifySheet}
@@ -54,16 +54,6 @@ use Rattle.hint_answer.specs.Fitting.{expected_again, FitsRoom}
 use Rattle.hint_answer.proofs.RecheckedLemmas.{recheck_due}
 
 -- ---- the caps
-
--- the greatest values are none too great for the line of the caps
-small_limit : (g : Graph) (grid : GridSize) (c : Criterion) → IsStationGraph g → IsGrid grid → limit_of g grid c ≤ MAX_NUMBER
-small_limit g grid Height s is = let h = is.height_limit in omega (arith, h)
-small_limit g grid Bends s is = let e = s.few_edges in omega (arith, e)
-small_limit g grid Diagonal s is = let e = s.few_edges in let w = is.width_limit in product (length g.edges) grid.width e w
-  where
-    product : (m n : ℕ) → m ≤ 160 → n ≤ 64 → m * n ≤ MAX_NUMBER
-    product m n a b = grind (arith, a, b)
-small_limit g grid Width s is = let w = is.width_limit in omega (arith, w)
 
 -- the criterion is one of the order, or another than each of it
 one_of : (order : List Criterion) (c : Criterion) → Contains order c ⊎ All (λ d. c ≢ d) order
@@ -208,10 +198,6 @@ left_certifies g o said log r station sized left fits =
       };
     }
 
--- the grid of a sheet that was read is one
-sheet_grid : (g : Graph) (sheet : List ℕ) (said : Sheet) → IsSheetText g false sheet said → IsGrid said.grid
-sheet_grid g sheet said is = is.right.1.0.range
-
 pub left_is_certified : (file sheet log : List ℕ) (r : TrimmedLog) (status : Status) (text : List ℕ) → (left : LeavesLines file sheet log r) → FitsRoom left.graph left.order left.said r → IsRechecked file sheet (left_text r) status text →
     status ≡ Done
 left_is_certified file sheet log r status text left fits answer =
@@ -219,6 +205,6 @@ left_is_certified file sheet log r status text left fits answer =
     let certify : HintsCertifySheet left.graph left.order sheet (left_text r) left.said = record {
       is_text = c.is_text;
       lawful = c.lawful;
-      certify = left_certifies left.graph left.order left.said log r left.station.has_graph.built.station (sheet_grid left.graph sheet left.said c.is_text) left.left fits;
+      certify = left_certifies left.graph left.order left.said log r left.station.has_graph.built.station (read_grid left.graph sheet left.said c.is_text) left.left fits;
     } in
     (recheck_due file sheet (left_text r) left.graph left.order left.said status text left.station certify answer).0

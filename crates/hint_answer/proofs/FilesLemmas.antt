@@ -1,5 +1,5 @@
 -- Three files that were read, or couldn't be.
-use Rattle.std.proofs.Common.{◌≡◌, ℕ, List, refl, sym, subst, inl, inr}
+use Rattle.std.proofs.Common.{◌≡◌, ℕ, List, sym, subst}
 use Rattle.std.specs.declared.option.Option.{Option}
 use Rattle.outside_io.specs.Contents.{FilesAt, Told, WhereTold, SameFiles}
 use Rattle.input_answer.specs.declared.fault.RunFault.{RunFault}
@@ -9,17 +9,11 @@ use Rattle.input_answer.specs.declared.status.Status.{Status}
 use Rattle.input_answer.specs.Fault.{IsFaultLine, fault_line, fault_status}
 use Rattle.input_answer.specs.Met.{Met, between, HasRead}
 use Rattle.input_answer.specs.Reading.{IsInput, IsUnreadInput}
-use Rattle.input_answer.specs.Answer.{InputFile, text_input, log_input, IsAnswerAfter, IsAnswerOn}
-use Rattle.input_answer.proofs.AnswerLemmas.{IsRead, read_on, told_before, answer_before}
+use Rattle.input_answer.specs.Answer.{text_input, log_input, IsAnswerAfter, IsAnswerOn}
+use Rattle.input_answer.proofs.AnswerLemmas.{IsRead, read_on, on_weaker, unread_on, input_before, answer_before}
 use Rattle.hint_answer.specs.Files.{IsAnswerToFiles, AreFiles, IsUnreadOfFiles}
 
 -- ---- more may be answered
-
-on_more : (input : InputFile) (done : ℕ) (met : Met) (A B : List ℕ → Status → List ℕ → Type 0) (status : Status) (text : List ℕ) → ((bytes : List ℕ) → A bytes status text → B bytes status text) →
-    IsAnswerOn input done met A status text → IsAnswerOn input done met B status text
-on_more input done met A B status text more (inl (bytes, is, inl long)) = inl (bytes, is, inl long)
-on_more input done met A B status text more (inl (bytes, is, inr (short, answer))) = inl (bytes, is, inr (short, more bytes answer))
-on_more input done met A B status text more (inr fails) = inr fails
 
 -- what follows the first file, and what the second
 abbrev AfterSheet : (third : List ℕ) → Met → (List ℕ → List ℕ → List ℕ → Status → List ℕ → Type 0) → (bytes said : List ℕ) → Status → List ℕ → Type 0
@@ -31,19 +25,12 @@ AfterFile sheet third met A bytes = IsAnswerOn (text_input 2 sheet) 1 met (After
 pub files_more : (input sheet third : List ℕ) (met : Met) (A B : List ℕ → List ℕ → List ℕ → Status → List ℕ → Type 0) (status : Status) (text : List ℕ) →
     ((bytes said lines : List ℕ) → A bytes said lines status text → B bytes said lines status text) → IsAnswerToFiles input sheet third met A status text → IsAnswerToFiles input sheet third met B status text
 files_more input sheet third met A B status text more =
-    on_more (text_input 1 input) 0 met (AfterFile sheet third met A) (AfterFile sheet third met B) status text
-    (λ bytes. on_more (text_input 2 sheet) 1 met (AfterSheet third met A bytes) (AfterSheet third met B bytes) status text
-    (λ said. on_more (log_input 3 third) 2 met (IsAnswerAfter 3 met (A bytes said)) (IsAnswerAfter 3 met (B bytes said)) status text
+    on_weaker (text_input 1 input) 0 met (AfterFile sheet third met A) (AfterFile sheet third met B) status text
+    (λ bytes. on_weaker (text_input 2 sheet) 1 met (AfterSheet third met A bytes) (AfterSheet third met B bytes) status text
+    (λ said. on_weaker (log_input 3 third) 2 met (IsAnswerAfter 3 met (A bytes said)) (IsAnswerAfter 3 met (B bytes said)) status text
     (λ lines answer. (answer.0, more bytes said lines answer.1))))
 
 -- ---- one that is too long, or couldn't be read
-
-own_line : (fault named : RunFault) → fault ≡ named → IsFaultLine named (fault_status fault) (fault_line fault)
-own_line fault named is = subst (λ (f : RunFault). IsFaultLine f (fault_status fault) (fault_line fault)) is (record { status_is = refl; line_is = refl })
-
-unread_on : (input : InputFile) (met : Met) (fault : RunFault) (A : List ℕ → Status → List ℕ → Type 0) → IsUnreadInput input met (refusals.Fault fault) → IsAnswerOn input 0 met A (fault_status fault) (fault_line fault)
-unread_on input met fault A (inl ((bytes, is, long), read, named)) = inl (bytes, is, inl (long, read, own_line fault _ named))
-unread_on input met fault A (inr (fails, named)) = inr (fails, own_line fault _ named)
 
 -- no bytes are answered
 abbrev Nothing : List ℕ → Status → List ℕ → Type 0
@@ -90,10 +77,6 @@ unread_answer input sheet third met A r fault status text is unread told =
     (subst (λ (t : List ℕ). IsAnswerToFiles input sheet third met NothingOfThree (fault_status fault) t) (sym told.line_is) there))
 
 -- ---- all three
-
--- an input that was read after a read is what it was before it
-input_before : (input : InputFile) (old mid : Option Told) (bytes : List ℕ) → WhereTold old mid SameFiles → IsInput input mid bytes → IsInput input old bytes
-input_before input old mid bytes same is = record { is_file = told_before old mid input.name bytes same is.is_file; short = is.short }
 
 pub files_read : (input sheet third bytes said lines : List ℕ) (old mid late : Option Told) → WhereTold old mid SameFiles → WhereTold mid late SameFiles → IsInput (text_input 1 input) old bytes → IsInput (text_input 2 sheet) mid said →
     IsInput (log_input 3 third) late lines → AreFiles input sheet third old bytes said lines

@@ -83,12 +83,6 @@ trim_leaves input sheet log hints r old mid new Refused found same answered leav
     left_then (HintsMay hints r) (λ name bytes. (Refused → ⊥) × IsLeftByTrim input sheet log hints (between old new) name bytes) old.contents mid.contents new.contents
     (λ name bytes may. (answered, (may.0, (r, found, may.1)))) same leaves
 
--- files that stand as they stood are left so, whatever they may be left with
-pub leaves_all : (May : (name bytes : List ℕ) → Type 0) (old new : Option Told) → WhereTold old new SameFiles → WhereTold old new (LeftSo May)
-leaves_all May None new same = tt
-leaves_all May (Some a) None same = absurd same
-leaves_all May (Some a) (Some b) same = λ name. inl (same name)
-
 -- an answer that counts the lines has the status 0
 pub never_other : {E : Type 0} (x : Result Reply E) (r : TrimmedLog) (hints : List ℕ) (met : Met) → IfOk x (λ a. TellsLeft r hints met a.status a.text.items) → IsOkAnd x (λ a. a.status ≢ Done) → ⊥
 never_other (Ok a) r hints met told other = other told.status_is

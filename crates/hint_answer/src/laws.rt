@@ -15,9 +15,9 @@ ghost use Rattle.hint_answer.specs.Fitting.{FitsRoom};
 /// `recheck` ends with 0 exactly where the hinted lines certify what the sheet claims of the file's station; its line
 /// tells then on how many criteria, and what is claimed is so, whoever wrote the lines.
 pub fn rechecked_exactly()
-    ensures due { (file sheet hints : List ℕ) (g : Graph) (o : EdgeOrder) (said : PlainSheet) (s : Status)
-        (t : List ℕ) → HasStation file g o → HintsCertifySheet g o sheet hints said →
-        IsRechecked file sheet hints s t → (s ≡ Done) × IsHintsLine said t }
+    ensures due { (f sheet hints : List ℕ) (g : Graph) (o : EdgeOrder) (said : PlainSheet) (s : Status)
+        (t : List ℕ) → HasStation f g o → HintsCertifySheet g o sheet hints said →
+        IsRechecked f sheet hints s t → (s ≡ Done) × IsHintsLine said t }
     ensures only { (file sheet hints line : List ℕ) → IsRechecked file sheet hints Done line →
         AreHintedBytes file sheet hints line }
 {}

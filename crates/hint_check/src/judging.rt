@@ -147,9 +147,9 @@ fn judge_expected(
         expected.now.parts.items }
     requires claim { IsClaimOf order.now claim.now }
     requires short { length body.now ≤ MAX_LOG_BYTES }
-    ensures { IfOk result (λ v. (y : Layout) (cap : Measured → ℕ) →
-        IsExpectingWithin y order.now cap expected.now.encoded expected.now.parts.items →
-        IsBodyJudged (value_of greatest.now) order.now claim.now (expectation y order.now cap) body.now v) }
+    ensures { IfOk result (λ v. (y : Layout) (m : Measured → ℕ) →
+        IsExpectingWithin y order.now m expected.now.encoded expected.now.parts.items →
+        IsBodyJudged (value_of greatest.now) order.now claim.now (expectation y order.now m) body.now v) }
 {
     let bounds = bounds_in(alloc, &expected.parts)?;
     let formula = copied(alloc, expected.encoded.formula())?;

@@ -1,5 +1,5 @@
 -- What was read of a file is answered as the file is.
-use Rattle.std.proofs.Common.{◌≡◌, ◌⊎◌, ℕ, suc, ◌<◌, ◌≤◌, List, [], ◌++◌, None, Some, length, take, sym, ◌∙◌, ap, subst, inl, inr, arith}
+use Rattle.std.proofs.Common.{◌≡◌, ◌⊎◌, ℕ, suc, ◌<◌, ◌≤◌, List, [], ◌++◌, None, Some, length, take, refl, sym, ◌∙◌, ap, subst, inl, inr, arith}
 use Rattle.std.specs.declared.option.Option.{Option}
 use Rattle.std.proofs.lemmas.List.{take_all, length-take}
 use Rattle.plan_core.specs.Graph.{Graph}
@@ -11,10 +11,10 @@ use Rattle.input_answer.specs.declared.fault.RunFault.TheVariants.{ReadFailed}
 use Rattle.input_answer.specs.declared.input.InputRefusal.{InputRefusal}
 use Rattle.input_answer.specs.declared.input.InputRefusal.TheVariants as refusals
 use Rattle.input_answer.specs.declared.status.Status.{Status}
-use Rattle.input_answer.specs.Fault.{IsFaultLine}
+use Rattle.input_answer.specs.Fault.{IsFaultLine, fault_line, fault_status}
 use Rattle.input_answer.specs.Input.{IsLong, IsShort, HasFileFault, IsOfFile, IsStationOf}
-use Rattle.input_answer.specs.Met.{Met, between, HasRead}
-use Rattle.input_answer.specs.Reading.{IsInput, IsRefusalOf}
+use Rattle.input_answer.specs.Met.{Met, between, HasRead, LeftSo}
+use Rattle.input_answer.specs.Reading.{IsInput, IsUnreadInput, IsRefusalOf}
 use Rattle.input_answer.specs.Answer.{InputFile, text_input, IsFileJudged, IsAnswerAfter, IsAnswerOn, HasReadStation}
 use Rattle.input_answer.proofs.InputLemmas.{short_or_long}
 use Rattle.input_answer.proofs.MetLemmas.{read_later, fails_later}
@@ -97,3 +97,25 @@ pub untold_here : {T : Type 0} (name : List ℕ) (old new : FilesAt) (g : Graph)
     Refused ⊎ (HasReadStation name (between old new) → ⊥) → after ≡ before
 untold_here name old new g o Refused before after has read answered (inl refused) = absurd (answered refused)
 untold_here name old new g o Refused before after has read answered (inr none) = absurd (none (g, o, (read, has)))
+
+-- more may be answered
+pub on_weaker : (input : InputFile) (done : ℕ) (met : Met) (A B : List ℕ → Status → List ℕ → Type 0) (status : Status) (text : List ℕ) → ((bytes : List ℕ) → A bytes status text → B bytes status text) →
+    IsAnswerOn input done met A status text → IsAnswerOn input done met B status text
+on_weaker input done met A B status text weaker (inl (bytes, is, inl long)) = inl (bytes, is, inl long)
+on_weaker input done met A B status text weaker (inl (bytes, is, inr (short, answer))) = inl (bytes, is, inr (short, weaker bytes answer))
+on_weaker input done met A B status text weaker (inr fails) = inr fails
+
+-- an input that is too long, or couldn't be read
+pub unread_on : (input : InputFile) (met : Met) (fault : RunFault) (A : List ℕ → Status → List ℕ → Type 0) → IsUnreadInput input met (refusals.Fault fault) → IsAnswerOn input 0 met A (fault_status fault) (fault_line fault)
+unread_on input met fault A (inl ((bytes, is, long), read, named)) = inl (bytes, is, inl (long, read, subst (λ (f : RunFault). IsFaultLine f (fault_status fault) (fault_line fault)) named (record { status_is = refl; line_is = refl })))
+unread_on input met fault A (inr (fails, named)) = inr (fails, subst (λ (f : RunFault). IsFaultLine f (fault_status fault) (fault_line fault)) named (record { status_is = refl; line_is = refl }))
+
+-- an input that was read after a read is what it was before it
+pub input_before : (input : InputFile) (old mid : Option Told) (bytes : List ℕ) → WhereTold old mid SameFiles → IsInput input mid bytes → IsInput input old bytes
+input_before input old mid bytes same is = record { is_file = told_before old mid input.name bytes same is.is_file; short = is.short }
+
+-- files that stand as they stood are left so, whatever they may be left with
+pub leaves_same : (May : (name bytes : List ℕ) → Type 0) (old new : Option Told) → WhereTold old new SameFiles → WhereTold old new (LeftSo May)
+leaves_same May None new same = tt
+leaves_same May (Some a) None same = absurd same
+leaves_same May (Some a) (Some b) same = λ name. inl (same name)

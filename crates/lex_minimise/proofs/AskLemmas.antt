@@ -33,6 +33,7 @@ use Rattle.cdcl_core.specs.Belongs.{Belongs, search_lines, EndsWith, HasSpent}
 use Rattle.lex_search.specs.declared.oracle.Below.{Below}
 use Rattle.lex_search.specs.Task.{greatest_of}
 use Rattle.lex_search.specs.Asked.{IsWithinCap, AreOnce, AreMet, AreNegated, AreAgainst}
+use Rattle.lex_search.proofs.QuestionLemmas.{query_stays}
 use Rattle.drawing_problem.specs.Layout.{Layout}
 use Rattle.lex_minimise.specs.Task.{task_of}
 use Rattle.lex_minimise.specs.Known.{told_lines, told_clauses, caps_of, AreTold, KnowsLines}
@@ -226,11 +227,6 @@ learnt_of_search a assume cs ending e =
 pub count_of_search : (a : Answer) (assume : List Literal) (cs : Clauses) (lines ending : Lines) → EndsWith a assume ending → length (flat_map learnt (lines ++ search_lines assume cs ending)) ≡ length (flat_map learnt lines) + length cs
 count_of_search a assume cs lines ending e =
     ap length (flat_map-append learnt lines (search_lines assume cs ending) ∙ ap (λ (ds : Clauses). flat_map learnt lines ++ ds) (learnt_of_search a assume cs ending e)) ∙ length-append (flat_map learnt lines) cs
-
--- the query is the latest behind learnt lines
-query_stays : (q : Option (List Literal)) (cs : Clauses) → fold asked q (map Learnt cs) ≡ q
-query_stays q [] = refl
-query_stays q (c ∷ cs) = query_stays q cs
 
 latest_query : (assume : List Literal) (cs : Clauses) (lines : Lines) → (facts_of (lines ++ search_lines assume cs [])).query ≡ Some assume
 latest_query assume cs lines =

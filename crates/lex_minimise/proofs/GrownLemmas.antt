@@ -1,14 +1,12 @@
 -- A bound more behind the formula: what is so before its clauses are told, and behind.
-use Rattle.std.proofs.Common.{◌≡◌, ◌≤◌, ◌<◌, ℕ, ◌+◌, ◌-◌, ◌*◌, Bool, true, false, List, [], ◌∷◌, ◌++◌, length, drop, map, refl, sym, ◌∙◌, ap, subst, arith, append_assoc, length-append}
+use Rattle.std.proofs.Common.{◌≡◌, ◌≤◌, ◌<◌, ℕ, ◌+◌, ◌-◌, Bool, true, false, List, [], ◌∷◌, ◌++◌, length, drop, map, refl, sym, ◌∙◌, ap, subst, arith, append_assoc, length-append}
 use Rattle.std.specs.Prelude.{flat_map, Contains, Option, None, Some, MatchOption, IsTrue, ◌↔◌}
 use Rattle.std.proofs.Math.Seq.{drop-append_seam}
 use Rattle.std.proofs.lemmas.Grind.{flat_map-append, fold-append}
 use Rattle.std.proofs.lemmas.List.Elements.{All-contains, Contains-append_right}
 use Rattle.outside_io.specs.Counts.{rose_by}
 use Rattle.plan_core.specs.declared.criterion.Criterion.{Criterion}
-use Rattle.plan_core.specs.declared.criterion.Criterion.TheVariants.{Height, Bends, Diagonal, Width}
-use Rattle.plan_core.specs.Grid.{GridSize, IsGrid}
-use Rattle.plan_core.specs.Graph.{Graph}
+use Rattle.plan_core.specs.Grid.{IsGrid}
 use Rattle.plan_core.specs.Values.{limit_of}
 use Rattle.line_text.specs.declared.numbers.TheConstants.{MAX_NUMBER}
 use Rattle.port_graph.specs.StationGraph.{IsStationGraph}
@@ -27,6 +25,7 @@ use Rattle.drawing_cnf.specs.Whole.{drawing_clauses}
 use Rattle.drawing_problem.specs.Lists.{variables_behind, lines_of_bound}
 use Rattle.drawing_problem.specs.Layout.{Layout, problem_of, layout_of}
 use Rattle.drawing_problem.proofs.ListLemmas.{sum_is_bound, sum_vars_is_size}
+use Rattle.drawing_problem.proofs.LimitLemmas.{small_limit}
 use Rattle.cdcl_core.specs.Kept.{Kept, AreGiven, with_more_vars}
 use Rattle.cdcl_core.specs.Belongs.{Belongs}
 use Rattle.lex_search.specs.declared.oracle.Built.TheVariants.{Whole}
@@ -117,23 +116,13 @@ is_grown old new told budget room k c cap n ready g positive limit none is =
       spent = ready.spent;
     }
 
--- a grid's criteria stay within what a log's line may say
-pub limit_small : (g : Graph) (grid : GridSize) (c : Criterion) → IsStationGraph g → IsGrid grid → limit_of g grid c ≤ MAX_NUMBER
-limit_small g grid Height s is = let h = is.height_limit in omega (arith, h)
-limit_small g grid Bends s is = let e = s.few_edges in omega (arith, e)
-limit_small g grid Diagonal s is = let e = s.few_edges in let w = is.width_limit in product (length g.edges) grid.width e w
-  where
-    product : (m n : ℕ) → m ≤ 160 → n ≤ 64 → m * n ≤ MAX_NUMBER
-    product m n a b = grind (arith, a, b)
-limit_small g grid Width s is = let w = is.width_limit in omega (arith, w)
-
 last_there : (told : List Bound) (b : Bound) → Contains (told ++ b ∷ []) b
 last_there told b = Contains-append_right told (b ∷ []) b (0, omega arith, refl)
 
 pub grown_small : (e : Encoding) (told : List Bound) (budget room : ℕ) (b : Bound) (n : ℕ) (k : Kept) → IsGrown e told budget room b n k → IsStationGraph e.graph → IsGrid e.grid → b.cap ≤ MAX_NUMBER
 grown_small e told budget room b n k g s is =
     let within = All-contains (λ (t : Bound). t.cap ≤ limit_of e.graph e.grid t.criterion) (told ++ b ∷ []) b (g.facts).within (last_there told b) in
-    let small = limit_small e.graph e.grid b.criterion s is in
+    let small = small_limit e.graph e.grid b.criterion s is in
     omega (arith, within, small)
 
 -- ---- behind

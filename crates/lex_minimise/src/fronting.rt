@@ -77,8 +77,8 @@ pub fn front_with<L: LogSink>(
     ensures right { let p = task_of (layout g.now t.now grid.now) limits.now.budget limits.now.room in
         IfOk result (λ r. IsRightFront (IsLawful p) a b r.pairs r.ending) }
     ensures lines { let p = task_of (layout g.now t.now grid.now) limits.now.budget limits.now.room in
-        IfOk result (λ r. (lines : Lines) × told_to L.tells L.learnt log.old log.new lines
-        × IsFrontLog p a b r.ending lines × IsLogOfSolver solver.new lines) }
+        IfOk result (λ r. (ls : Lines) × told_to L.tells L.learnt log.old log.new ls
+        × IsFrontLog p a b r.ending ls × IsLogOfSolver solver.new ls) }
     ensures left { let p = task_of (layout g.now t.now grid.now) limits.now.budget limits.now.room in
         OnErr result (L.tells log.old [] → (lines : Lines) → L.tells log.new lines → IsFrontLeft p a b lines) }
     ensures later { L.is_later log.old log.new }

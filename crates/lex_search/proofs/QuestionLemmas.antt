@@ -1,7 +1,7 @@
 -- What one question tells.
 use Rattle.std.proofs.Common.{◌≡◌, List, [], ◌∷◌, ◌++◌, refl, sym, ◌∙◌, ap, subst, inl, inr, map}
-use Rattle.std.specs.Prelude.{All, Contains, Some, None, fold}
-use Rattle.std.proofs.lemmas.Grind.{flat_map-append, fold-append}
+use Rattle.std.specs.Prelude.{All, Contains, Some, None, Option, fold}
+use Rattle.std.proofs.lemmas.Grind.{fold-append}
 use Rattle.std.proofs.lemmas.List.Concat.{flat_map-cons}
 use Rattle.std.proofs.lemmas.List.Elements.{All-nil, All-cons, All-map, All-contains, Contains-append_left, Contains-append_right, Contains-append_cases, Contains-push}
 use Rattle.cnf_core.specs.Lit.{Literal}
@@ -9,7 +9,7 @@ use Rattle.cnf_core.specs.Clause.{Clauses}
 use Rattle.refute_log.specs.declared.line.LogLine.{LogLine}
 use Rattle.refute_log.specs.declared.line.LogLine.TheVariants.{Learnt, Bound, Query, Refuted, Model}
 use Rattle.refute_log.specs.Told.{Lines}
-use Rattle.refute_log.specs.Log.{clause_line, clause_lines}
+use Rattle.refute_log.specs.Log.{asked, clause_line, clause_lines}
 use Rattle.lex_search.specs.declared.oracle.Below.{Below}
 use Rattle.plan_core.specs.declared.criterion.Values.{Values}
 use Rattle.lex_search.specs.Asked.{IsAsked, IsNegated, AreNegated, AreMet, Queries, after_line, queries, IsMet}
@@ -105,3 +105,8 @@ met_refuted lines bounds more v clause asked m = met_later lines more v (ap (λ 
 
 pub met_stopped : (lines : Lines) (bounds : List Below) (more : Lines) (v : Values) → IsAsked lines bounds [] more → IsMet lines v → IsMet (lines ++ more) v
 met_stopped lines bounds more v asked m = met_later lines more v (ap (λ (q : Queries). q.modelled) (asked_queries lines bounds [] more asked)) m
+
+-- a query is the latest behind learnt lines
+pub query_stays : (q : Option (List Literal)) (cs : Clauses) → fold asked q (map Learnt cs) ≡ q
+query_stays q [] = refl
+query_stays q (c ∷ cs) = query_stays q cs

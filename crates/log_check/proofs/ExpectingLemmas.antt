@@ -64,7 +64,7 @@ after_append [] ys k = refl
 after_append (ClausesTo end ∷ xs) ys k = after_append xs ys end
 after_append (Bounds c last cap ∷ xs) ys k = after_append xs ys k
 
-drop_front : (cs more : Clauses) → drop (length cs) (cs ++ more) ≡ more
+pub drop_front : (cs more : Clauses) → drop (length cs) (cs ++ more) ≡ more
 drop_front [] more = refl
 drop_front (c ∷ cs) more = drop_front cs more
 

@@ -143,7 +143,7 @@ claim_is_so y order cap greatest e lines NoDrawing station is size expected a ce
 claim_is_so y order cap greatest e lines Nothing station is size expected a certified = tt
 
 -- the greatest values, whatever gives them
-certifies_as : (greatest other : Criterion → ℕ) (lines : Lines) (order : List Criterion) (claim : Claim) → ((c : Criterion) → greatest c ≡ other c) → CertifiesClaim greatest lines order claim → CertifiesClaim other lines order claim
+pub certifies_as : (greatest other : Criterion → ℕ) (lines : Lines) (order : List Criterion) (claim : Claim) → ((c : Criterion) → greatest c ≡ other c) → CertifiesClaim greatest lines order claim → CertifiesClaim other lines order claim
 certifies_as greatest other lines order (Least v places) same h = certifies_under greatest other lines order v places same h
 certifies_as greatest other lines order NoDrawing same h = h
 certifies_as greatest other lines order Nothing same h = h

@@ -18,6 +18,7 @@ use Rattle.refute_log.specs.declared.line.LogLine.TheVariants.{Formula, Refuted}
 use Rattle.refute_log.specs.Lines.{MayBeTold, MayAllBeTold}
 use Rattle.refute_log.specs.Told.{Lines}
 use Rattle.refute_log.specs.Log.{given, clause_lines, BeginsLines, Stands, Derives}
+use Rattle.log_check.proofs.ExpectingLemmas.{drop_front}
 use Rattle.refute_log.proofs.LogLemmas.{derives_more}
 use Rattle.refute_log.proofs.ListLemmas.{told_at}
 use Rattle.certified_check.proofs.JudgeLemmas.{nothing}
@@ -57,10 +58,6 @@ clause_told f c d h is distinct there =
     subst (λ (e : List Literal). MayBeTold (Formula e)) (sym is) (record { formed = there_more f.vars LAST_VAR c (omega (arith, limit)) there; once = distinct })
 
 -- ---- the clauses that are missing
-
-drop_front : (cs more : Clauses) → drop (length cs) (cs ++ more) ≡ more
-drop_front [] more = refl
-drop_front (c ∷ cs) more = drop_front cs more
 
 -- the clauses of the lines begin those that are expected
 pub record AreBegun (e : Expectation) (lines : Lines) : Type 0 where

@@ -1,8 +1,7 @@
 -- The lines of a log's text, one after another.
 use Rattle.std.proofs.Common.{◌≡◌, ◌≤◌, ℕ, ◌+◌, List, [], ◌∷◌, ◌++◌, length, take, Some, refl, sym, ◌∙◌, ap, subst, arith, append-nil, append_assoc, length-append}
 use Rattle.std.specs.Prelude.{flat_map, slice_get}
-use Rattle.std.proofs.lemmas.List.{append_cancel_left, take_more}
-use Rattle.std.proofs.lemmas.Option.{slice_get_within, get_or_from_slice_get}
+use Rattle.std.proofs.lemmas.List.{append_cancel_left}
 use Rattle.cnf_core.specs.Lit.{Literal}
 use Rattle.refute_log.specs.declared.line.LogLine.{LogLine}
 use Rattle.refute_log.specs.declared.line.LogLine.TheVariants.{Formula, Learnt, Bound, Query, Refuted, Model}
@@ -16,7 +15,8 @@ use Rattle.certified_check.specs.Lacking.{told_bound}
 use Rattle.log_check.specs.Faultless.{HasNextFault}
 use Rattle.log_check.proofs.CutLemmas.{same_line, line_goes_on, line_has_no_fault, no_next_fault}
 use Rattle.log_check.proofs.JudgingLemmas.{line_leaves_less}
-use Rattle.log_trim.specs.TrimmedLog.{IsLogOf}
+use Rattle.hint_log.proofs.HintedLemmas.{next_line}
+use Rattle.log_trim.specs.TrimmedLog.{IsSpelledLog}
 use Rattle.log_trim.specs.Shown.{IsSomeLog}
 
 -- the lines so far, with more behind them, are those of the log, and the rest is the text of these
@@ -24,32 +24,32 @@ pub record HasReadTo (log : List ℕ) (lines : Lines) (rest : List ℕ) : Type 0
   pub more : Lines
   pub formed : MayAllBeTold more
   pub rest_is : rest ≡ flat_map ended_text more
-  pub all : IsLogOf log (lines ++ more)
+  pub all : IsSpelledLog log (lines ++ more)
 
 pub read_none : (log rest : List ℕ) (lines : Lines) → lines ≡ [] → IsSomeLog log → log ≡ header ++ rest → HasReadTo log lines rest
 read_none log rest lines none some is = record {
   more = some.0;
   formed = some.1.formed;
   rest_is = append_cancel_left header rest (flat_map ended_text some.0) (sym is ∙ some.1.spelled);
-  all = subst (λ (ls : Lines). IsLogOf log (ls ++ some.0)) (sym none) some.1;
+  all = subst (λ (ls : Lines). IsSpelledLog log (ls ++ some.0)) (sym none) some.1;
 }
 
 pub read_next : (log rest after : List ℕ) (lines new : Lines) (line : LogLine) → MayBeTold line → rest ≡ ended_text line ++ after → new ≡ lines ++ line ∷ [] → HasReadTo log lines rest → HasReadTo log new after
 read_next log rest after lines new line told is pushed h = by h.more h.formed h.rest_is h.all
   where
-    by : (more : Lines) → MayAllBeTold more → rest ≡ flat_map ended_text more → IsLogOf log (lines ++ more) → HasReadTo log new after
+    by : (more : Lines) → MayAllBeTold more → rest ≡ flat_map ended_text more → IsSpelledLog log (lines ++ more) → HasReadTo log new after
     by [] formed rest_is all = absurd (line_goes_on line after (sym rest_is ∙ is))
     by (l ∷ more) formed rest_is all =
         let same = same_line line l after (flat_map ended_text more) told formed.0 (sym is ∙ rest_is) in
         let same_lines : lines ++ l ∷ more ≡ new ++ more =
         ap (λ (k : LogLine). lines ++ k ∷ more) (sym same.line) ∙ sym (append_assoc lines (line ∷ []) more) ∙ ap (λ (ls : Lines). ls ++ more) (sym pushed) in
-        record { more = more; formed = formed.1; rest_is = same.rest; all = subst (IsLogOf log) same_lines all }
+        record { more = more; formed = formed.1; rest_is = same.rest; all = subst (IsSpelledLog log) same_lines all }
 
-pub read_whole : (log rest : List ℕ) (lines : Lines) → rest ≡ [] → HasReadTo log lines rest → IsLogOf log lines
+pub read_whole : (log rest : List ℕ) (lines : Lines) → rest ≡ [] → HasReadTo log lines rest → IsSpelledLog log lines
 read_whole log rest lines empty h = by h.more h.rest_is h.all
   where
-    by : (more : Lines) → rest ≡ flat_map ended_text more → IsLogOf log (lines ++ more) → IsLogOf log lines
-    by [] rest_is all = subst (IsLogOf log) (append-nil lines) all
+    by : (more : Lines) → rest ≡ flat_map ended_text more → IsSpelledLog log (lines ++ more) → IsSpelledLog log lines
+    by [] rest_is all = subst (IsSpelledLog log) (append-nil lines) all
     by (l ∷ more) rest_is all = absurd (line_goes_on l (flat_map ended_text more) (sym empty ∙ rest_is))
 
 pub read_no_fault : (log rest : List ℕ) (lines : Lines) (what : LogWhat) → HasReadTo log lines rest → HasNextFault rest what → ⊥
@@ -60,11 +60,6 @@ read_no_fault log rest lines what h fault = by h.more h.formed h.rest_is
     by (l ∷ more) formed rest_is = line_has_no_fault l rest (flat_map ended_text more) what formed.0 rest_is fault
 
 -- ---- the lines at places
-
-pub next_line : (lines : Lines) (i : ℕ) (line : LogLine) → slice_get lines i ≡ Some line → take (i + 1) lines ≡ take i lines ++ line ∷ []
-next_line lines i line e =
-    let within = slice_get_within lines i line e in
-    take_more lines i line within ∙ ap (λ (k : LogLine). take i lines ++ k ∷ []) (get_or_from_slice_get lines i line line e)
 
 -- what each line gives, gathered
 pub gathered_next : {Y : Type 0} (f : LogLine → List Y) (lines : Lines) (i : ℕ) (line : LogLine) → slice_get lines i ≡ Some line → flat_map f (take (i + 1) lines) ≡ flat_map f (take i lines) ++ f line
@@ -107,7 +102,7 @@ few_lines (line ∷ lines) =
     let less = line_leaves_less (flat_map ended_text (line ∷ lines)) (flat_map ended_text lines) line refl in
     omega (arith, more, less)
 
-pub short_log : (log : List ℕ) (lines : Lines) → IsLogOf log lines → length lines ≤ length log
+pub short_log : (log : List ℕ) (lines : Lines) → IsSpelledLog log lines → length lines ≤ length log
 short_log log lines h =
     let few = few_lines lines in
     let is : length log ≡ length header + length (flat_map ended_text lines) = ap length h.spelled ∙ length-append header (flat_map ended_text lines) in

@@ -1,5 +1,5 @@
 -- What is known of a log that certifies a claim: its lines, its caps, and that the wanted lines are there.
-use Rattle.std.proofs.Common.{◌≡◌, ◌≤◌, ℕ, ◌+◌, inl, inr, List, [], ◌∷◌, take, Some, sym, ◌∙◌, ap, subst, append-nil}
+use Rattle.std.proofs.Common.{◌≡◌, ℕ, inl, inr, List, [], ◌∷◌, take, Some, sym, ◌∙◌, ap, subst, append-nil}
 use Rattle.std.specs.Prelude.{Contains, flat_map, slice_get, length, min}
 use Rattle.std.proofs.lemmas.List.Elements.{All-weaker, Contains-push_cases}
 use Rattle.plan_core.specs.declared.criterion.Criterion.{Criterion}
@@ -11,10 +11,9 @@ use Rattle.refute_log.specs.Lines.{log_text}
 use Rattle.refute_log.specs.Told.{Lines}
 use Rattle.refute_log.specs.OneText.{log_text_once, formed_lines}
 use Rattle.refute_log.specs.Log.{learnt}
-use Rattle.certified_values.specs.Bounds.{SaysAtLeast}
 use Rattle.certified_values.specs.Certified.{IsOutOfReach}
 use Rattle.certified_values.specs.Expected.{caps, bound_vars}
-use Rattle.certified_values.proofs.CertifiedLemmas.{certifies_under}
+use Rattle.certified_values.proofs.CertifiedLemmas.{out_of_reach_under}
 use Rattle.certified_check.proofs.JudgeLemmas.{nothing}
 use Rattle.drawing_problem.specs.Layout.{Layout}
 use Rattle.log_check.specs.declared.claim.Claim.{Claim}
@@ -25,11 +24,11 @@ use Rattle.log_check.specs.Accepted.{AreAccepted}
 use Rattle.log_check.specs.Claimed.{CertifiesClaim}
 use Rattle.log_check.specs.Judged.{CertifiesWhole}
 use Rattle.log_check.proofs.CutLemmas.{lines_once}
-use Rattle.log_check.proofs.JudgingLemmas.{same_expectation}
+use Rattle.log_check.proofs.JudgingLemmas.{same_expectation, certifies_as}
 use Rattle.hint_log.specs.Trimmed.{AreRefuted}
 use Rattle.log_trim.specs.declared.trimming.TrimmedLog.{TrimmedLog}
 use Rattle.log_trim.specs.Wanted.{ShowsLeast, AreWanted}
-use Rattle.log_trim.specs.TrimmedLog.{IsLogOf, IsTrimmedLog}
+use Rattle.log_trim.specs.TrimmedLog.{IsSpelledLog, IsTrimmedLog}
 use Rattle.log_trim.specs.Shown.{IsSomeLog, MayBeCompleted, IsKeptOf}
 use Rattle.log_trim.proofs.OwnLog.{own_lines}
 
@@ -38,24 +37,24 @@ use Rattle.log_trim.proofs.OwnLog.{own_lines}
 pub some_log : (y : Layout) (order : List Criterion) (claim : Claim) (log : List ℕ) → CertifiesWhole y order claim log → IsSomeLog log
 some_log y order claim log h = (h.lines, record { formed = h.whole.formed; spelled = h.whole.spelled ∙ append-nil (log_text h.lines) })
 
-one_log : (log : List ℕ) (a b : Lines) → IsLogOf log a → IsLogOf log b → a ≡ b
+one_log : (log : List ℕ) (a b : Lines) → IsSpelledLog log a → IsSpelledLog log b → a ≡ b
 one_log log a b h k = log_text_once a b (formed_lines a h.formed) (formed_lines b k.formed) (sym h.spelled ∙ k.spelled)
 
-faultless_of : (log : List ℕ) (lines : Lines) → IsLogOf log lines → HasFaultless log lines
+faultless_of : (log : List ℕ) (lines : Lines) → IsSpelledLog log lines → HasFaultless log lines
 faultless_of log lines h = subst (λ (text : List ℕ). HasFaultless text lines) (sym h.spelled) (own_lines lines h.formed)
 
 -- what was counted of the text is what the lines have
 abbrev pub AreCounted : (Criterion → ℕ) → List ℕ → (Criterion → ℕ) → Type 0
 AreCounted greatest log counted_of = (lines : Lines) × HasFaultless log lines × ((c : Criterion) → counted_of c ≡ caps greatest lines c)
 
-pub caps_of : (greatest limit counted_of : Criterion → ℕ) (log : List ℕ) (lines : Lines) → IsLogOf log lines → ((c : Criterion) → greatest c ≡ limit c) → AreCounted greatest log counted_of → (c : Criterion) → counted_of c ≡ caps limit lines c
+pub caps_of : (greatest limit counted_of : Criterion → ℕ) (log : List ℕ) (lines : Lines) → IsSpelledLog log lines → ((c : Criterion) → greatest c ≡ limit c) → AreCounted greatest log counted_of → (c : Criterion) → counted_of c ≡ caps limit lines c
 caps_of greatest limit counted_of log lines is same (others, faultless, are) c =
     let one : others ≡ lines = lines_once log others lines faultless (faultless_of log lines is) in
     are c ∙ ap (λ (ls : Lines). caps greatest ls c) one ∙ ap (λ n. min (length (bound_vars c lines)) n) (same c)
 
 -- ---- what is expected
 
-pub may_be : (y : Layout) (order : List Criterion) (claim : Claim) (log : List ℕ) (greatest counted_of : Criterion → ℕ) (lines : Lines) → CertifiesWhole y order claim log → IsLogOf log lines →
+pub may_be : (y : Layout) (order : List Criterion) (claim : Claim) (log : List ℕ) (greatest counted_of : Criterion → ℕ) (lines : Lines) → CertifiesWhole y order claim log → IsSpelledLog log lines →
     ((c : Criterion) → greatest c ≡ limit_of y.graph y.grid c) → AreCounted greatest log counted_of → MayBeCompleted (expectation y order counted_of) lines
 unfolding some_log
 may_be y order claim log greatest counted_of lines h is same counted =
@@ -72,18 +71,13 @@ may_be y order claim log greatest counted_of lines h is same counted =
 
 -- ---- the claim
 
-pub claim_under : (greatest other : Criterion → ℕ) (lines : Lines) (order : List Criterion) (claim : Claim) → ((c : Criterion) → greatest c ≡ other c) → CertifiesClaim greatest lines order claim → CertifiesClaim other lines order claim
-claim_under greatest other lines order (Least v s) same h = certifies_under greatest other lines order v s same h
-claim_under greatest other lines order NoDrawing same h = h
-claim_under greatest other lines order Nothing same h = h
-
-pub certified_by : (y : Layout) (order : List Criterion) (claim : Claim) (log : List ℕ) (greatest : Criterion → ℕ) (lines : Lines) → CertifiesWhole y order claim log → IsLogOf log lines →
+pub certified_by : (y : Layout) (order : List Criterion) (claim : Claim) (log : List ℕ) (greatest : Criterion → ℕ) (lines : Lines) → CertifiesWhole y order claim log → IsSpelledLog log lines →
     ((c : Criterion) → greatest c ≡ limit_of y.graph y.grid c) → CertifiesClaim greatest lines order claim
 unfolding some_log
 certified_by y order claim log greatest lines h is same =
     let limit = limit_of y.graph y.grid in
     let one : h.lines ≡ lines = one_log log h.lines lines (some_log y order claim log h).1 is in
-    claim_under limit greatest lines order claim (λ c. sym (same c)) (subst (λ (ls : Lines). CertifiesClaim limit ls order claim) one h.certified)
+    certifies_as limit greatest lines order claim (λ c. sym (same c)) (subst (λ (ls : Lines). CertifiesClaim limit ls order claim) one h.certified)
 
 -- ---- the wanted lines
 
@@ -99,18 +93,11 @@ are_refuted greatest lines order NoDrawing wanted h = λ p among. ([], only p (s
 are_refuted greatest lines order Nothing wanted h = λ p among. nothing p ((c : List Literal) × (slice_get lines p ≡ Some (Refuted c))) (subst (λ (ns : List ℕ). Contains ns p) h among)
 
 -- by greatest values that are the same
-says_so : (greatest other : Criterion → ℕ) (lines : Lines) (c : Criterion) (k : ℕ) (l : Literal) → greatest c ≡ other c → SaysAtLeast greatest lines c k l → SaysAtLeast other lines c k l
-says_so greatest other lines c k l e s = record { within = subst (λ n. k ≤ n) e s.within; variable = s.variable; told = s.told; is = s.is }
-
-reaches_so : (greatest other : Criterion → ℕ) (lines : Lines) (earlier : List Criterion) (c : Criterion) (v : Values) → ((b : Criterion) → greatest b ≡ other b) → (l : Literal) → IsOutOfReach greatest lines earlier c v l → IsOutOfReach other lines earlier c v l
-reaches_so greatest other lines earlier c v same l (inl any) = inl (any.0, any.1, any.2, any.3, says_so greatest other lines any.1 (value_of v any.1 + 1) l (same any.1) any.4)
-reaches_so greatest other lines earlier c v same l (inr s) = inr (says_so greatest other lines c (value_of v c) l (same c) s)
-
 shows_so : (greatest other : Criterion → ℕ) (lines : Lines) (earlier : List Criterion) (c : Criterion) (v : Values) (p : ℕ) → ((b : Criterion) → greatest b ≡ other b) → ShowsLeast greatest lines earlier c v p → ShowsLeast other lines earlier c v p
 shows_so greatest other lines earlier c v p same s = record {
   clause = s.clause;
   there = s.there;
-  each = All-weaker (IsOutOfReach greatest lines earlier c v) (IsOutOfReach other lines earlier c v) (reaches_so greatest other lines earlier c v same) s.clause s.each;
+  each = All-weaker (IsOutOfReach greatest lines earlier c v) (IsOutOfReach other lines earlier c v) (λ l. out_of_reach_under greatest other lines earlier c v l same) s.clause s.each;
 }
 
 wanted_under : (greatest other : Criterion → ℕ) (lines : Lines) (order : List Criterion) (claim : Claim) (wanted : List ℕ) → ((c : Criterion) → greatest c ≡ other c) → AreWanted greatest lines order claim wanted → AreWanted other lines order claim wanted
@@ -123,7 +110,7 @@ wanted_under greatest other lines order Nothing wanted same h = h
 
 -- ---- all of it
 
-pub trimmed_log : (y : Layout) (order : List Criterion) (claim : Claim) (log : List ℕ) (greatest : Criterion → ℕ) (r : TrimmedLog) (lines : Lines) (wanted : List ℕ) → IsLogOf log lines →
+pub trimmed_log : (y : Layout) (order : List Criterion) (claim : Claim) (log : List ℕ) (greatest : Criterion → ℕ) (r : TrimmedLog) (lines : Lines) (wanted : List ℕ) → IsSpelledLog log lines →
     ((c : Criterion) → greatest c ≡ limit_of y.graph y.grid c) → AreCounted greatest log (value_of r.caps) → MayBeCompleted (expectation y order (value_of r.caps)) lines → AreWanted greatest lines order claim wanted →
     IsKeptOf (expectation y order (value_of r.caps)) lines wanted r.kept → r.learnt ≡ length (flat_map learnt lines) → IsTrimmedLog y order claim log r
 trimmed_log y order claim log greatest r lines wanted is same counted may are kept count = record {

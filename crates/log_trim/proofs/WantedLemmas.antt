@@ -3,62 +3,24 @@ use Rattle.std.proofs.Common.{◌≡◌, ◌≤◌, ℕ, ◌+◌, ◌⊎◌, Lis
 use Rattle.std.specs.Prelude.{Contains, Option, slice_get, flat_map}
 use Rattle.std.proofs.lemmas.Bool.{cases_lt}
 use Rattle.std.proofs.lemmas.Option.{slice_get-get_or, same_Some}
-use Rattle.std.proofs.lemmas.List.Elements.{Contains-get_or, Contains-append_cases, Contains-append_left, Contains-push_cases, Contains-push}
+use Rattle.std.proofs.lemmas.List.Elements.{Contains-get_or, Contains-append_left, Contains-push_cases, Contains-push}
 use Rattle.plan_core.specs.declared.criterion.Values.{Values}
 use Rattle.plan_core.specs.declared.criterion.Criterion.{Criterion}
 use Rattle.plan_core.specs.Searching.{FindsFirst, IsFirst, NoneBefore}
 use Rattle.plan_core.specs.Values.{value_of}
-use Rattle.plan_core.proofs.Listing.{Contains-head, Contains-tail}
-use Rattle.cnf_core.specs.declared.literal.Var.{Var}
-use Rattle.cnf_core.specs.Lit.{Literal, positive_of}
+use Rattle.plan_core.proofs.Listing.{Contains-head}
+use Rattle.cnf_core.specs.Lit.{Literal}
 use Rattle.cnf_core.specs.Clause.{HasAllOf}
 use Rattle.refute_log.specs.declared.line.LogLine.{LogLine}
 use Rattle.refute_log.specs.declared.line.LogLine.TheVariants.{Formula, Learnt, Bound, Query, Refuted, Model}
 use Rattle.refute_log.specs.Told.{Lines}
-use Rattle.refute_log.specs.Log.{IsRefutedWithin, facts_of, refuted}
+use Rattle.refute_log.specs.Log.{IsRefutedWithin, facts_of}
 use Rattle.refute_check.specs.Kept.{CheckedFacts}
-use Rattle.certified_values.specs.Bounds.{SaysAtLeast}
-use Rattle.certified_values.specs.Certified.{IsOutOfReach, IsCertifiedLeast, CertifiesNone}
+use Rattle.certified_values.specs.Certified.{IsCertifiedLeast, CertifiesNone}
 use Rattle.certified_check.specs.declared.told_bound.ToldBound.{ToldBound}
-use Rattle.certified_check.specs.Lacking.{told_bound, IsUnreached}
-use Rattle.certified_check.proofs.JudgeLemmas.{nothing, AreUnreached, verdict_is}
+use Rattle.certified_check.specs.Lacking.{told_bound}
+use Rattle.certified_check.proofs.JudgeLemmas.{nothing, refuted_line, bound_line, out_of_reach, AreUnreached, verdict_is}
 use Rattle.log_trim.specs.Wanted.{ShowsLeast, ShowsNone, IsClaimedPlace, AreOfLeast}
-
--- ---- literals of bounds that aren't reached are out of reach
-
--- the Bound line of a bound
-record HasLine (lines : Lines) (b : ToldBound) : Type 0 where
-  variable : Var
-  told : Contains lines (Bound b.criterion b.k variable)
-  is : b.literal ≡ positive_of variable.0
-
-line_more : (lines : Lines) (line : LogLine) (b : ToldBound) → HasLine lines b → HasLine (line ∷ lines) b
-line_more lines line b h = record { variable = h.variable; told = Contains-tail line lines (Bound b.criterion b.k h.variable) h.told; is = h.is }
-
-bound_line : (lines : Lines) (b : ToldBound) → Contains (flat_map told_bound lines) b → HasLine lines b
-bound_line [] b there = nothing b (HasLine [] b) there
-bound_line (Formula c ∷ lines) b there = line_more lines (Formula c) b (bound_line lines b there)
-bound_line (Learnt c ∷ lines) b there = line_more lines (Learnt c) b (bound_line lines b there)
-bound_line (Bound d k x ∷ lines) b there =
-    let told : ToldBound = record { criterion = d; k = k; literal = positive_of x.0 } in
-    elim (Contains-append_cases (told ∷ []) (flat_map told_bound lines) b there) [
-      | inl one ↦ elim (Contains-push_cases [] told b one) [
-        | inl before ↦ nothing b (HasLine (Bound d k x ∷ lines) b) before
-        | inr same ↦ subst (HasLine (Bound d k x ∷ lines)) same (record { variable = x; told = Contains-head (Bound d k x) lines; is = refl })
-      ]
-      | inr more ↦ line_more lines (Bound d k x) b (bound_line lines b more)
-    ]
-bound_line (Query c ∷ lines) b there = line_more lines (Query c) b (bound_line lines b there)
-bound_line (Refuted c ∷ lines) b there = line_more lines (Refuted c) b (bound_line lines b there)
-bound_line (Model ∷ lines) b there = line_more lines Model b (bound_line lines b there)
-
-out_of_reach : (greatest : Criterion → ℕ) (lines : Lines) (earlier : List Criterion) (c : Criterion) (v : Values) (l : Literal) (b : ToldBound) → HasLine lines b → IsUnreached greatest earlier c v b → b.literal ≡ l → IsOutOfReach greatest lines earlier c v l
-out_of_reach greatest lines earlier c v l b h u e =
-    let s : SaysAtLeast greatest lines b.criterion b.k l = record { within = u.within; variable = h.variable; told = h.told; is = sym e ∙ h.is } in
-    elim u.either [
-      | inl old ↦ (let there = old.0 in inl (there.0, b.criterion, there.1, there.2, subst (λ n. SaysAtLeast greatest lines b.criterion n l) old.1 s))
-      | inr now ↦ inr (subst (λ n. SaysAtLeast greatest lines c n l) now.1 (subst (λ d. SaysAtLeast greatest lines d b.k l) now.0 s))
-    ]
 
 -- ---- the first Refuted line within them
 
@@ -79,28 +41,13 @@ found_shows greatest lines bounds earlier c v literals found p are unreached is 
       each = λ k l low.
           let x = get_or d k l in
           let any = (unreached x).0 (h x (Contains-get_or d k l low)) in
-          out_of_reach greatest lines earlier c v x any.1 (bound_line lines any.1 (subst (λ (bs : List ToldBound). Contains bs any.1) are (any.0, any.2, any.3))) any.4.0 any.4.1;
+          out_of_reach greatest lines earlier c v x any.1 (bound_line lines any.1 (subst (λ (bs : List ToldBound). Contains bs any.1) are (any.0, any.2, any.3))) any.4;
     }
     by Model at h = absurd h
 
 -- what a checker keeps of the lines
 abbrev kept_of_log : Lines → CheckedFacts
 kept_of_log lines = record { room = 0; facts = facts_of lines; lost = false }
-
-refuted_there : (lines : Lines) (d : List Literal) → Contains (flat_map refuted lines) d → Contains lines (Refuted d)
-refuted_there [] d h = nothing d (Contains [] (Refuted d)) h
-refuted_there (Formula e ∷ lines) d h = Contains-tail (Formula e) lines (Refuted d) (refuted_there lines d h)
-refuted_there (Learnt e ∷ lines) d h = Contains-tail (Learnt e) lines (Refuted d) (refuted_there lines d h)
-refuted_there (Bound e k x ∷ lines) d h = Contains-tail (Bound e k x) lines (Refuted d) (refuted_there lines d h)
-refuted_there (Query e ∷ lines) d h = Contains-tail (Query e) lines (Refuted d) (refuted_there lines d h)
-refuted_there (Refuted e ∷ lines) d h = elim (Contains-append_cases (e ∷ []) (flat_map refuted lines) d h) [
-  | inl one ↦ elim (Contains-push_cases [] e d one) [
-    | inl before ↦ nothing d (Contains (Refuted e ∷ lines) (Refuted d)) before
-    | inr same ↦ subst (λ (f : List Literal). Contains (Refuted e ∷ lines) (Refuted f)) same (Contains-head (Refuted e) lines)
-  ]
-  | inr more ↦ Contains-tail (Refuted e) lines (Refuted d) (refuted_there lines d more)
-]
-refuted_there (Model ∷ lines) d h = Contains-tail Model lines (Refuted d) (refuted_there lines d h)
 
 -- a Refuted line within the literals is found
 not_missed : (lines : Lines) (literals d : List Literal) → Contains lines (Refuted d) → HasAllOf literals d → NoneBefore (λ _ line. IsRefutedWithin literals line) lines (length lines) → ⊥
@@ -113,7 +60,7 @@ pub none_missed : (greatest : Criterion → ℕ) (lines : Lines) (bounds : List 
 none_missed greatest lines bounds earlier c v literals found are unreached positive least is finds =
     let none : NoneBefore (λ _ line. IsRefutedWithin literals line) lines (length lines) = subst (λ (f : Option ℕ). FindsFirst (λ _ line. IsRefutedWithin literals line) lines f) is finds in
     let any = (verdict_is greatest lines (kept_of_log lines) bounds earlier c v literals (record { facts = refl; told = are }) unreached positive).1 least in
-    not_missed lines literals any.1 (refuted_there lines any.1 (any.0, any.2, any.3)) any.4 none
+    not_missed lines literals any.1 (refuted_line lines any.1 (any.0, any.2, any.3)) any.4 none
 
 -- ---- the same of a line without literals
 

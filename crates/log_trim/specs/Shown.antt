@@ -7,11 +7,11 @@ use Rattle.refute_log.specs.Told.{Lines}
 use Rattle.refute_log.specs.Log.{given, clause_lines, BeginsLines, Derives}
 use Rattle.log_check.specs.Expectation.{Expectation, PassesLimits}
 use Rattle.hint_log.specs.Trimmed.{HintLines, IsTrimmed}
-use Rattle.log_trim.specs.TrimmedLog.{IsLogOf}
+use Rattle.log_trim.specs.TrimmedLog.{IsSpelledLog}
 
 -- the bytes are the text of some log
 abbrev pub IsSomeLog : List ℕ → Type 0
-IsSomeLog bytes = (lines : Lines) × IsLogOf bytes lines
+IsSomeLog bytes = (lines : Lines) × IsSpelledLog bytes lines
 
 -- the lines derive and begin what is expected, which is within the limits where they have a Formula or Bound line
 pub record MayBeCompleted (e : Expectation) (lines : Lines) : Type 0 where

@@ -16,7 +16,7 @@ use Rattle.log_trim.specs.declared.trimming.TrimmedLog.{TrimmedLog}
 use Rattle.log_trim.specs.Wanted.{AreWanted}
 
 -- the bytes are the text of these lines
-pub record IsLogOf (bytes : List ℕ) (lines : Lines) : Type 0 where
+pub record IsSpelledLog (bytes : List ℕ) (lines : Lines) : Type 0 where
   pub formed : MayAllBeTold lines
   pub spelled : bytes ≡ log_text lines
 
@@ -29,7 +29,7 @@ expected_by y order r = expectation y order (value_of r.caps)
 pub record IsTrimmedLog (y : Layout) (order : List Criterion) (claim : Claim) (log : List ℕ) (r : TrimmedLog) : Type 0
   where
     pub lines : Lines
-    pub is_log : IsLogOf log lines
+    pub is_log : IsSpelledLog log lines
     pub caps_are : (c : Criterion) → value_of r.caps c ≡ caps (limit_of y.graph y.grid) lines c
     pub begins : BeginsLines (clause_lines lines) (expected_by y order r).lines
     pub missing : Clauses

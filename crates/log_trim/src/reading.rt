@@ -3,7 +3,7 @@ ghost use Rattle.std.specs.Prelude.{◌≡◌, ◌++◌, ◌∷◌, [], IfOk, On
 ghost use Rattle.refute_log.specs.Lines.{MayBeTold};
 ghost use Rattle.refute_log.specs.Log.{learnt};
 ghost use Rattle.certified_check.specs.Lacking.{told_bound};
-ghost use Rattle.log_trim.specs.TrimmedLog.{IsLogOf};
+ghost use Rattle.log_trim.specs.TrimmedLog.{IsSpelledLog};
 ghost use Rattle.log_trim.specs.Shown.{IsSomeLog};
 
 use certified_check::ToldBound;
@@ -31,7 +31,7 @@ pub(crate) fn add_line(list: &mut LineList, line: &LogLine) -> Result<(), OutOfM
 /// The lines of a log's text.
 pub(crate) fn lines_in(alloc: Global, log: &[u8]) -> Result<LineList, OutOfMemory>
     requires { IsSomeLog log.now }
-    ensures { IfOk result (λ lines. IsLogOf log.now lines) }
+    ensures { IfOk result (λ lines. IsSpelledLog log.now lines) }
 {
     let mut list = LineList::new(alloc);
     let Some(body) = behind(log, HEADER) else {

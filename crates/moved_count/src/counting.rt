@@ -126,9 +126,9 @@ pub fn add_moved_count(
     ensures exact { (v : Assignment) (p : ℕ → PlainPoint) → ReadPoints v (node_at nodes.now) (length former.now) p →
         SatisfiesAll v (count_clauses (node_at nodes.now) former.now f.old.vars) →
         TellsMoved v former.now f.old.vars (moved former.now p) }
-    ensures extends { let m = former.now in
-        (v : Assignment) (p : ℕ → PlainPoint) → ReadPoints v (node_at nodes.now) (length m) p → Extends (f.old.vars + 1)
-        (count_size m f.old.vars) v (λ w. SatisfiesAll w (count_clauses (node_at nodes.now) m f.old.vars)) }
+    ensures extends { let m = former.now in let at = node_at nodes.now in
+        (v : Assignment) (p : ℕ → PlainPoint) → ReadPoints v at (length m) p →
+        Extends (f.old.vars + 1) (count_size m f.old.vars) v (λ w. SatisfiesAll w (count_clauses at m f.old.vars)) }
     ensures named { (j : ℕ) → 1 ≤ j → j ≤ matched former.now →
         IsNamed (count_clauses (node_at nodes.now) former.now f.old.vars) (f.old.vars + j) }
 {

@@ -7,7 +7,7 @@ use Rattle.std.proofs.lemmas.List.{length-map, get_or-map, get_or_past}
 use Rattle.cnf_core.specs.declared.limits.TheConstants.{VARS}
 use Rattle.pick_heap.specs.declared.heap.TheConstants.{HALVED_AT}
 use Rattle.pick_heap.specs.Heap.{Ranked, ranked_of, IsGreatest, NoneHeld, activity, halved, roomy}
-use Rattle.pick_heap.specs.Tree.{entry_at, HaveActivities, IsWon, leaf_word, HasLeaves, KeepsLeaves, KeepsOthers, AreWithin, IsHeap}
+use Rattle.pick_heap.specs.Tree.{entry_at, HaveActivities, IsWon, leaf_word, HasLeaves, KeepsLeaves, KeepsOthers, AreActivities, IsHeap}
 use Rattle.pick_heap.proofs.MatchLemmas.{get_padded, heap_set, heap_raised, heap_halved, won_raised, gone_from, root_greatest, root_none}
 
 -- the same with what calls were given, and what is left of a vector
@@ -42,7 +42,7 @@ module _ (vars leaves : ℕ) (held : List Bool) (acts tree given_acts given_tree
 pub named_length : (acts less tree : List ℕ) → length less ≡ length acts → HaveActivities acts tree → HaveActivities less tree
 named_length acts less tree e named = λ k. let lt = named k in omega arith
 
-halves_within : (acts : List ℕ) → AreWithin acts → AreWithin (map (λ a. a / 2) acts)
+halves_within : (acts : List ℕ) → AreActivities acts → AreActivities (map (λ a. a / 2) acts)
 halves_within acts within = λ j. elim (cases_lt j (length acts)) [
   | inl lt ↦ let e : entry_at (map (λ a. a / 2) acts) j ≡ entry_at acts j / 2 = get_or-map (λ a. a / 2) acts j 0 0 lt in let old = within j in omega arith
   | inr ge ↦ let e : entry_at (map (λ a. a / 2) acts) j ≡ 0 = get_or_past (map (λ a. a / 2) acts) j 0 (omega (arith, length-map acts (λ a. a / 2), ge)) in omega arith
@@ -52,7 +52,7 @@ pub heap_halved_at : (vars leaves : ℕ) (held : List Bool) (acts tree less give
     IsHeap vars leaves held got_less got
 heap_halved_at vars leaves held acts tree less given_less given_tree new got_less got k el egl el2 et eg size named won kept =
     subst (λ (g : List ℕ). IsHeap vars leaves held got_less g) (sym eg) (subst (λ (a : List ℕ). IsHeap vars leaves held a new) (sym egl)
-    (heap_halved vars leaves held acts tree k less new (ap length el ∙ length-map acts (λ a. a / 2)) (subst AreWithin (sym el) (halves_within acts k.within)) (size ∙ ap length et) (subst (λ (a : List ℕ). HaveActivities a new) el2 named) (subst (λ (a : List ℕ). IsWon a new leaves) el2 won)
+    (heap_halved vars leaves held acts tree k less new (ap length el ∙ length-map acts (λ a. a / 2)) (subst AreActivities (sym el) (halves_within acts k.within)) (size ∙ ap length et) (subst (λ (a : List ℕ). HaveActivities a new) el2 named) (subst (λ (a : List ℕ). IsWon a new leaves) el2 won)
     (subst (λ (t : List ℕ). KeepsLeaves leaves t new) et kept)))
 
 pub roomy_same : (h : Ranked) (v : ℕ) → activity h v < HALVED_AT → roomy h v ≡ h
@@ -61,7 +61,7 @@ roomy_same h v lt = elim (eqb_tells (activity h v) HALVED_AT) [ inl a ↦ let e 
 pub roomy_halved : (h : Ranked) (v : ℕ) → activity h v ≡ HALVED_AT → roomy h v ≡ halved h
 roomy_halved h v e = elim (eqb_tells (activity h v) HALVED_AT) [ inl a ↦ ap (λ b. cond b (halved h) h) a.0 | inr a ↦ absurd (a.1 e) ]
 
-pub full : (vars : ℕ) (held : List Bool) (acts : List ℕ) (h : Ranked) (v : ℕ) → AreWithin acts → ranked_of vars held acts ≡ h → HALVED_AT ≤ activity h v → activity h v ≡ HALVED_AT
+pub full : (vars : ℕ) (held : List Bool) (acts : List ℕ) (h : Ranked) (v : ℕ) → AreActivities acts → ranked_of vars held acts ≡ h → HALVED_AT ≤ activity h v → activity h v ≡ HALVED_AT
 full vars held acts h v within e most =
     let bound : activity h v ≤ HALVED_AT = subst (λ (x : Ranked). activity x v ≤ HALVED_AT) e (within v) in
     omega arith
@@ -70,14 +70,14 @@ pub half_below : (acts : List ℕ) (v : ℕ) → v < length acts → entry_at ac
 half_below acts v lt le = let e : entry_at (map (λ a. a / 2) acts) v ≡ entry_at acts v / 2 = get_or-map (λ a. a / 2) acts v 0 0 lt in omega arith
 
 -- activities of 0, alone and behind others
-pub zeros_within : (n : ℕ) → AreWithin (replicate n 0)
+pub zeros_within : (n : ℕ) → AreActivities (replicate n 0)
 zeros_within n = λ j. let e : entry_at (replicate n 0) j ≡ 0 = get_padded [] n 0 j in omega arith
 
-pub more_within : (acts : List ℕ) (n : ℕ) → AreWithin acts → AreWithin (acts ++ replicate n 0)
+pub more_within : (acts : List ℕ) (n : ℕ) → AreActivities acts → AreActivities (acts ++ replicate n 0)
 more_within acts n within = λ j. let e : entry_at (acts ++ replicate n 0) j ≡ entry_at acts j = get_padded acts n 0 j in let old = within j in omega arith
 
 -- a tree that was laid out
-pub heap_laid : (vars leaves : ℕ) (held : List Bool) (acts tree given_acts : List ℕ) (given_held : List Bool) (new : List ℕ) → vars ≤ VARS → 1 ≤ leaves → vars ≤ leaves → leaves ≤ 2 * VARS → length held ≡ vars + 1 → length acts ≡ vars + 1 → AreWithin acts → slice_index_or held 0 false ≡ false → 2 * leaves ≤ length tree →
+pub heap_laid : (vars leaves : ℕ) (held : List Bool) (acts tree given_acts : List ℕ) (given_held : List Bool) (new : List ℕ) → vars ≤ VARS → 1 ≤ leaves → vars ≤ leaves → leaves ≤ 2 * VARS → length held ≡ vars + 1 → length acts ≡ vars + 1 → AreActivities acts → slice_index_or held 0 false ≡ false → 2 * leaves ≤ length tree →
     given_acts ≡ acts → given_held ≡ held → tree ≡ new → HaveActivities given_acts new → IsWon given_acts new leaves → HasLeaves leaves given_held new → IsHeap vars leaves held acts tree
 heap_laid vars leaves held acts tree given_acts given_held new limit some fits leaves_limit held_size acts_size within none size ea eh et named won leaf =
     subst (λ (t : List ℕ). 2 * leaves ≤ length t → IsHeap vars leaves held acts t) (sym et) (λ large. record {

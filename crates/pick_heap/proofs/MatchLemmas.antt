@@ -4,7 +4,7 @@ use Rattle.std.specs.Prelude.{slice_index_or}
 use Rattle.std.proofs.lemmas.Bool.{cases_lt, cases_eq}
 use Rattle.std.proofs.lemmas.Bool.Decides.{eqb_tells}
 use Rattle.std.proofs.lemmas.List.{get_or-set_other, get_or-set_same, get_or_past, get_or-replicate}
-use Rattle.pick_heap.specs.Tree.{entry_at, rank_of, IsWinner, HaveActivities, IsWonAt, IsWon, IsWonBut, leaf_word, KeepsLeaves, KeepsOthers, AreWithin, IsHeap}
+use Rattle.pick_heap.specs.Tree.{entry_at, rank_of, IsWinner, HaveActivities, IsWonAt, IsWon, IsWonBut, leaf_word, KeepsLeaves, KeepsOthers, AreActivities, IsHeap}
 use Rattle.pick_heap.specs.declared.heap.TheConstants.{HALVED_AT}
 use Rattle.pick_heap.specs.Heap.{ranked_of, IsGreatest, NoneHeld}
 
@@ -138,12 +138,11 @@ word_held held v e = ap (λ b. cond b v 0) e
 pub word_free : (held : List Bool) (v : ℕ) → slice_index_or held v false ≡ false → leaf_word held v ≡ 0
 word_free held v e = let n : ℕ = 0 in ap (λ b. cond b v n) e
 
-bool_or : (b : Bool) → (b ≡ true) ⊎ (b ≡ false)
-bool_or true = inl refl
-bool_or false = inr refl
-
 pub held_or : (held : List Bool) (v : ℕ) → (slice_index_or held v false ≡ true) ⊎ (slice_index_or held v false ≡ false)
-held_or held v = bool_or (slice_index_or held v false)
+held_or held v = elim (slice_index_or held v false) as (λ b. (b ≡ true) ⊎ (b ≡ false)) [
+  | true ↦ inl refl
+  | false ↦ inr refl
+]
 
 module _ (vars leaves : ℕ) (held : List Bool) (acts tree : List ℕ) (k : IsHeap vars leaves held acts tree) where
   held_within : (w : ℕ) → slice_index_or held w false ≡ true → (1 ≤ w) × (w ≤ vars)
@@ -284,7 +283,7 @@ module _ (vars leaves : ℕ) (held : List Bool) (acts tree : List ℕ) (k : IsHe
   }
 
   -- all activities are halved, and all matches played
-  pub heap_halved : (less : List ℕ) (new : List ℕ) → length less ≡ length acts → AreWithin less → length new ≡ length tree → HaveActivities less new → IsWon less new leaves → KeepsLeaves leaves tree new → IsHeap vars leaves held less new
+  pub heap_halved : (less : List ℕ) (new : List ℕ) → length less ≡ length acts → AreActivities less → length new ≡ length tree → HaveActivities less new → IsWon less new leaves → KeepsLeaves leaves tree new → IsHeap vars leaves held less new
   heap_halved less new same within size named won kept = record {
     limit = k.limit;
     some = k.some;

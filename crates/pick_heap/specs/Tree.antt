@@ -47,8 +47,8 @@ abbrev pub KeepsOthers : ℕ → List ℕ → List ℕ → ℕ → Type 0
 KeepsOthers leaves old new leaf = (j : ℕ) → leaves ≤ j → j ≢ leaf → entry_at new j ≡ entry_at old j
 
 -- no activity is above the one at which all are halved
-abbrev pub AreWithin : List ℕ → Type 0
-AreWithin activities = (k : ℕ) → entry_at activities k ≤ HALVED_AT
+abbrev pub AreActivities : List ℕ → Type 0
+AreActivities activities = (k : ℕ) → entry_at activities k ≤ HALVED_AT
 
 -- what each heap keeps
 pub record IsHeap (vars leaves : ℕ) (held : List Bool) (activities tree : List ℕ) : Type 0 where
@@ -58,7 +58,7 @@ pub record IsHeap (vars leaves : ℕ) (held : List Bool) (activities tree : List
   pub leaves_limit : leaves ≤ 2 * VARS
   pub held_size : length held ≡ vars + 1
   pub activities_size : length activities ≡ vars + 1
-  pub within : AreWithin activities
+  pub within : AreActivities activities
   pub none : slice_index_or held 0 false ≡ false
   pub size : 2 * leaves ≤ length tree
   pub named : HaveActivities activities tree

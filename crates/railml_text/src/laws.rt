@@ -30,9 +30,9 @@ pub fn one_fault()
 pub fn fault_or_item()
     ensures sound { (first : Bool) (rest : List ℕ) (what : TextWhat) (kind : ItemKind) (after : List ℕ) →
         HasItemFault first rest what → ¬ (HasSoundItem first rest kind after) }
-    ensures none { (first : Bool) (rest : List ℕ) (shape : Shape) (after : List ℕ) →
+    ensures none { (first : Bool) (rest : List ℕ) (s : Shape) (after : List ℕ) →
         (HasItemFault first rest TextWhat.Doctype ⊎ HasItemFault first rest TextWhat.Markup
-        ⊎ HasItemFault first rest TextWhat.Unfinished) → ¬ (HasItem first rest shape after) }
+        ⊎ HasItemFault first rest TextWhat.Unfinished) → ¬ (HasItem first rest s after) }
 {}
 
 /// A file is cut into items in at most one way.

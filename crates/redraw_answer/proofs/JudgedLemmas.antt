@@ -1,5 +1,5 @@
 -- What three files are answered that were read and judged, or couldn't be.
-use Rattle.std.proofs.Common.{◌≡◌, ◌⊎◌, ℕ, List, ◌++◌, refl, sym, ◌∙◌, subst, inl, inr}
+use Rattle.std.proofs.Common.{◌≡◌, ◌⊎◌, ℕ, List, ◌++◌, sym, ◌∙◌, subst, inl, inr}
 use Rattle.std.specs.Prelude.{IfSome, true, codes}
 use Rattle.std.specs.declared.option.Option.{Option}
 use Rattle.outside_io.specs.Contents.{FilesAt, Told, WhereTold, SameFiles}
@@ -22,8 +22,8 @@ use Rattle.input_answer.specs.Fault.{IsFaultLine, fault_line, fault_status}
 use Rattle.input_answer.specs.Input.{HasStation, IsRefusal}
 use Rattle.input_answer.specs.Met.{Met, between, HasRead}
 use Rattle.input_answer.specs.Reading.{IsInput, IsUnreadInput}
-use Rattle.input_answer.specs.Answer.{InputFile, text_input, IsAnswerAfter, IsAnswerOn}
-use Rattle.input_answer.proofs.AnswerLemmas.{IsRead, read_on, told_before, answer_before}
+use Rattle.input_answer.specs.Answer.{text_input, IsAnswerAfter, IsAnswerOn}
+use Rattle.input_answer.proofs.AnswerLemmas.{IsRead, read_on, on_weaker, unread_on, input_before, answer_before}
 use Rattle.redraw_answer.specs.declared.judging.Rejected.{Rejected}
 use Rattle.redraw_answer.specs.declared.judging.Rejected.TheVariants.{With, Memory}
 use Rattle.redraw_answer.specs.FormerPoints.{AreFormer}
@@ -37,12 +37,6 @@ rejected_weaker P Q (With reply) weaker h = weaker reply.status reply.text.items
 rejected_weaker P Q Memory weaker h = tt
 
 -- ---- more may be answered
-
-on_weaker : (input : InputFile) (done : ℕ) (met : Met) (A B : List ℕ → Status → List ℕ → Type 0) (status : Status) (text : List ℕ) → ((bytes : List ℕ) → A bytes status text → B bytes status text) →
-    IsAnswerOn input done met A status text → IsAnswerOn input done met B status text
-on_weaker input done met A B status text weaker (inl (bytes, is, inl long)) = inl (bytes, is, inl long)
-on_weaker input done met A B status text weaker (inl (bytes, is, inr (short, answer))) = inl (bytes, is, inr (short, weaker bytes answer))
-on_weaker input done met A B status text weaker (inr fails) = inr fails
 
 pub three_weaker : (input former sheet : List ℕ) (met : Met) (A B : List ℕ → List ℕ → List ℕ → Status → List ℕ → Type 0) (status : Status) (text : List ℕ) →
     ((bytes old said : List ℕ) → A bytes old said status text → B bytes old said status text) → IsAnswerToThree input former sheet met A status text → IsAnswerToThree input former sheet met B status text
@@ -62,11 +56,6 @@ judged_weaker A B bytes old said status text weaker (inl (g, o, has, inr refused
 judged_weaker A B bytes old said status text weaker (inr refused) = inr refused
 
 -- ---- the three are read
-
--- an input that is too long, or couldn't be read
-unread_on : (input : InputFile) (met : Met) (fault : RunFault) (A : List ℕ → Status → List ℕ → Type 0) → IsUnreadInput input met (refusals.Fault fault) → IsAnswerOn input 0 met A (fault_status fault) (fault_line fault)
-unread_on input met fault A (inl ((bytes, is, long), read, named)) = inl (bytes, is, inl (long, read, subst (λ (f : RunFault). IsFaultLine f (fault_status fault) (fault_line fault)) named (record { status_is = refl; line_is = refl })))
-unread_on input met fault A (inr (fails, named)) = inr (fails, subst (λ (f : RunFault). IsFaultLine f (fault_status fault) (fault_line fault)) named (record { status_is = refl; line_is = refl }))
 
 abbrev Nothing : List ℕ → Status → List ℕ → Type 0
 Nothing said status text = ⊥
@@ -101,10 +90,6 @@ third_unread input former sheet bytes before old mid late new (refusals.Fault fa
     (read_on (text_input 2 former) 0 (between mid new) Second before status text also
     (answer_before (text_input 3 sheet) 0 mid late new Nothing Nothing status text again (λ said none. none) (unread_on (text_input 3 sheet) (between late new) fault Nothing unread))))
 third_unread input former sheet bytes before old mid late new refusals.Memory is also read again unread = tt
-
--- an input that was read after a read is what it was before it
-input_before : (input : InputFile) (old mid : Option Told) (bytes : List ℕ) → WhereTold old mid SameFiles → IsInput input mid bytes → IsInput input old bytes
-input_before input old mid bytes same is = record { is_file = told_before old mid input.name bytes same is.is_file; short = is.short }
 
 pub three_read : (input former sheet bytes before said : List ℕ) (old mid late : Option Told) → WhereTold old mid SameFiles → WhereTold mid late SameFiles → IsInput (text_input 1 input) old bytes → IsInput (text_input 2 former) mid before →
     IsInput (text_input 3 sheet) late said → AreInputs input former sheet old bytes before said

@@ -64,7 +64,7 @@ pub fn hinted_runs_end_with_0()
 /// A whole run of `recheck` ends with 0 on what a whole run of `trim` left, where that isn't too long to be read and
 /// has room, and no read fails.
 pub fn own_hints_are_certified()
-    ensures { (input sheet log hints : List ℕ) (met next : Met) (s : Status) (line : List ℕ) →
+    ensures { (input sheet log hints : List ℕ) (met next : Met) (s : Status) (t : List ℕ) →
         HasTrimmed input sheet log hints met → IsRecheckOfTrimmed met next input sheet log hints →
-        IsWholeRun (Recheck input sheet hints) next s line → s ≡ Done }
+        IsWholeRun (Recheck input sheet hints) next s t → s ≡ Done }
 {}

@@ -35,7 +35,7 @@ use Rattle.input_answer.proofs.InputLemmas.{file_fault_status}
 -- ---- one answer to a sheet and a log
 
 -- the grid of a sheet that was read is one
-read_grid : (g : Graph) (sheet : List ℕ) (said : Sheet) → IsSheetText g false sheet said → IsGrid said.grid
+pub read_grid : (g : Graph) (sheet : List ℕ) (said : Sheet) → IsSheetText g false sheet said → IsGrid said.grid
 read_grid g sheet said is = is.right.1.0.range
 
 one_telling : (places : ℕ) (v w : Verdict) (status other : Status) (text another : List ℕ) → v ≡ w → TellsVerdict places v status text → TellsVerdict places w other another → SameAnswer status other text another

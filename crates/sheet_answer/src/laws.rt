@@ -29,13 +29,12 @@ pub fn one_sheet_answer()
 /// Where a sheet's text is that of a drawing, its answer has the status 0 exactly where the drawing is lawful,
 /// and then the line of what it measures, and 8 exactly where it isn't.
 pub fn verdict_of_drawing()
-    ensures lawful { (g : Graph) (o : EdgeOrder) (sheet : List ℕ) (grid : GridSize) (d : Drawing) (status : Status)
-        (text : List ℕ)
-        → IsDrawingOf g sheet grid d → IsSheetJudged g o sheet status text → (status ≡ Done) ↔ Lawful g (is_above
-        o) grid d }
+    ensures lawful { (g : Graph) (o : EdgeOrder) (sheet : List ℕ) (grid : GridSize) (d : Drawing) (s : Status)
+        (text : List ℕ) → IsDrawingOf g sheet grid d → IsSheetJudged g o sheet s text →
+        (s ≡ Done) ↔ Lawful g (is_above o) grid d }
     ensures line { (g : Graph) (o : EdgeOrder) (sheet : List ℕ) (grid : GridSize) (d : Drawing) (s : Status)
-        (text : List ℕ) → IsDrawingOf g sheet grid d → IsSheetJudged g o sheet s text → Lawful g (is_above o) grid d →
-        text ≡ lawful_line (values_of d) }
+        (t : List ℕ) → IsDrawingOf g sheet grid d → IsSheetJudged g o sheet s t → Lawful g (is_above o) grid d →
+        t ≡ lawful_line (values_of d) }
     ensures broken { (g : Graph) (o : EdgeOrder) (sheet : List ℕ) (grid : GridSize) (d : Drawing) (s : Status)
         (text : List ℕ) → IsDrawingOf g sheet grid d → IsSheetJudged g o sheet s text → (s ≡ Broken)
         ↔ (Lawful g (is_above o) grid d → ⊥) }

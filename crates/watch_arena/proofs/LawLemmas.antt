@@ -1,15 +1,15 @@
 -- What levels say of a trail, and which literals may be watched.
-use Rattle.std.proofs.Common.{◌≡◌, ℕ, ◌+◌, ◌<◌, ◌≤◌, ◌⊎◌, zero, suc, List, [], ◌∷◌, length, take, get_or, sym, ◌∙◌, ap, inl, inr, arith, length-take-le}
+use Rattle.std.proofs.Common.{◌≡◌, ℕ, ◌+◌, ◌<◌, ◌≤◌, ◌⊎◌, zero, suc, List, [], ◌∷◌, length, take, get_or, true, false, sym, ◌∙◌, ap, subst, inl, inr, arith, length-take-le}
 use Rattle.std.specs.Prelude.{◌↔◌}
 use Rattle.std.proofs.lemmas.Bool.{cases_lt}
 use Rattle.std.proofs.lemmas.List.{get_or-take, get_or_past, get_or_default}
-use Rattle.cnf_core.specs.Lit.{Literal, has}
+use Rattle.cnf_core.specs.Lit.{Literal, negate, has}
 use Rattle.cnf_core.specs.Propagation.{IsIn}
 use Rattle.cnf_core.proofs.PropagationLemmas.{contains_from_has, has_from_contains}
 use Rattle.cnf_core.proofs.TrailLemmas.{front_includes}
 use Rattle.watch_arena.specs.Trail.{Marks, IsMarks, level_end, undone, trail_level, with_lit}
 use Rattle.watch_arena.specs.Walk.{AreRight}
-use Rattle.watch_arena.specs.Arena.{AreOpen, IsHeldBy, IsAsserting}
+use Rattle.watch_arena.specs.Arena.{AreOpen, MayBeWatched, IsHeldBy, IsAsserting}
 use Rattle.watch_arena.proofs.CutLemmas.{level_rise, level_most, level_past, level_take}
 use Rattle.watch_arena.proofs.LevelLemmas.{end_within, right_open, right_other, right_held, right_set, held_by_level, late_by_level}
 
@@ -102,3 +102,16 @@ may_held m k l marks (inr h) = right_other m k l (right_held m l k marks (held_b
 
 pub may_asserted : (m : Marks) (k l : Literal) (reason : ℕ) → IsMarks m → IsAsserting m k l → AreRight (with_lit m k reason) k l
 may_asserted m k l reason marks asserts = right_set m k l reason marks asserts.first (late_by_level m l marks asserts.level)
+
+-- on a trail without literals no literal is false
+none_false : (lits : List Literal) (l : Literal) → lits ≡ [] → IsIn (has lits) l → ⊥
+none_false lits l e h = clash (subst (λ (ls : List Literal). has ls l ≡ true) e h)
+  where
+    clash : false ≡ true → ⊥
+    clash x = cc
+
+-- on a trail without literals any two may be watched
+pub may_be_watched : (m : Marks) (lits : List Literal) → m.lits ≡ [] → 2 ≤ length lits → MayBeWatched m lits
+may_be_watched m [] e two = absurd (omega arith)
+may_be_watched m (k ∷ []) e two = absurd (omega arith)
+may_be_watched m (k ∷ l ∷ lits) e two = may_open m k l (record { first = none_false m.lits (negate k) e; second = none_false m.lits (negate l) e })

@@ -9,7 +9,8 @@ use Rattle.input_answer.specs.Status.{IsRefused}
 use Rattle.input_answer.specs.Met.{between, IsUnwritten, LeftSo}
 use Rattle.schematic_main.specs.Commands.{AnswersAlone, MayWrite, MayTell, MayLeave, Owes}
 use Rattle.schematic_main.specs.Run.{CommandFailsToWrite}
-use Rattle.draw_answer.proofs.LeavesLemmas.{leaves_same, left_alone}
+use Rattle.input_answer.proofs.AnswerLemmas.{leaves_same}
+use Rattle.draw_answer.proofs.LeavesLemmas.{left_alone}
 use Rattle.schematic_main.proofs.AloneLemmas.{trimmed_alone}
 use Rattle.schematic_main.proofs.answers.answer_to.Goals as goal
 
