@@ -1,6 +1,6 @@
 pub mod LeftLemmas
 pub mod NegationLemmas
-pub mod TableLemmas
+pub mod MarksLemmas
 pub mod HintLemmas
 pub mod VerdictLemmas
 pub mod JudgeLemmas

@@ -10,7 +10,7 @@ ghost use Rattle.hint_log.specs.Checked.{Accepts, PassesRoom, IsAnswer, Refutes}
 use crate::HintFault;
 use crate::hint_line::{HintLine, Numbers};
 use crate::judging::judge;
-use crate::marks::{greatest, reach, unmark_all};
+use crate::marks::MarkedLits;
 use cnf_core::{Clause, Formula, Lit};
 use plan_core::OutOfMemory;
 use refute_log::are_among;
@@ -25,9 +25,7 @@ pub struct HintChecker {
     given: Formula,
     learnt: Vec<Clause>,
     words: u64,
-    vars: u32,
-    truth: Vec<bool>,
-    trail: Vec<Lit>,
+    marks: MarkedLits,
     refuted: Vec<Clause>,
 }
 
@@ -38,7 +36,7 @@ impl Model for HintChecker {
 
     ghost view = { λ c. hint_facts c.room c.given.clauses c.learnt.items c.refuted.items };
 
-    ghost invariant = { λ c. IsHintChecker c.given.clauses c.learnt.items c.vars c.words c.truth.items c.trail.items };
+    ghost invariant = { λ c. IsHintChecker c.given.clauses c.learnt.items c.words c.marks };
 }
 
 impl HintChecker {
@@ -49,40 +47,27 @@ impl HintChecker {
         ensures clauses { IfOk result (λ c. c.clauses ≡ f.clauses) }
         ensures refuted { IfOk result (λ c. c.refuted ≡ []) }
     {
-        let vars = f.vars();
         let words = f.words() as u64;
-        let truth = vec![in alloc; false; 2 * vars as usize + 2]?;
+        let marks = MarkedLits::new(alloc, f.vars())?;
         Ok(HintChecker {
             alloc,
             room,
             given: f,
             learnt: Vec::new(alloc),
             words,
-            vars,
-            truth,
-            trail: Vec::new(alloc),
+            marks,
             refuted: Vec::new(alloc),
         })
     }
 
     /// Whether the hints show the clause of these literals: None, or the first place that fails.
     fn judge(&mut self, lits: &[Lit], hints: &[u32]) -> Result<Option<u32>, OutOfMemory>
-        requires distinct { AreDistinct lits.now }
-        requires short { length hints.now < 2 ^ 32 }
+        requires { length hints.now < 2 ^ 32 }
         ensures same { self.new ≡ self.old }
         ensures verdict { IfOk result (IsVerdict self.old.clauses (map negate lits.now) hints.now) }
     {
-        reach(&mut self.truth, &mut self.vars, greatest(lits))?;
-        let answer = judge(
-            &self.given,
-            &self.learnt,
-            &mut self.truth,
-            &mut self.trail,
-            self.vars,
-            lits,
-            hints,
-        );
-        unmark_all(&mut self.truth, &mut self.trail, self.vars);
+        let answer = judge(&self.given, &self.learnt, &mut self.marks, lits, hints);
+        self.marks.clear();
         answer
     }
 
@@ -103,7 +88,6 @@ impl HintChecker {
         ensures ok { OnOk result (self.new ≡ record self.old { clauses = self.old.clauses ++ lits.now ∷ [] }) }
         ensures err { OnErr result (self.new ≡ self.old) }
     {
-        reach(&mut self.truth, &mut self.vars, greatest(lits))?;
         let clause = Clause::new(self.alloc, lits)?;
         self.learnt.push(clause)?;
         self.words += lits.len() as u64 + 3;

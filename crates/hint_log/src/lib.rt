@@ -3,7 +3,8 @@
 //!
 //! A line is a clause and the numbers of clauses before it. `HintChecker` takes the lines one by one, and
 //! accepts exactly the good ones: each clause that is named has one literal left, and the last one has
-//! none. It looks at no other clause, and so takes time that is linear in the clauses that are named.
+//! none. It looks at no other clause, and at each literal of those that are named by one read of a table;
+//! a variable that the formula lacks takes a search among such literals that are marked.
 //! `trim` makes such lines of a log that derives, and leaves out what nothing rests on. `specs/Hint` says
 //! which lines are good and at which place a line fails, `specs/Checked` what a checker keeps, and
 //! `specs/Trimmed` what `trim` answers; `laws` states what follows from the definitions. `specs/Looks`,

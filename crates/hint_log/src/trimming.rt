@@ -1,6 +1,7 @@
 // Hinted lines of a log.
 ghost use Rattle.std.specs.Prelude.{◌≡◌, ◌≤◌, ◌<◌, ◌+◌, ◌++◌, ◌↔◌, [], ◌∷◌, All, Contains, IsTrue, IfOk, OnOk, length};
 ghost use Rattle.std.specs.Prelude.{flat_map};
+ghost use Rattle.cnf_core.specs.Clause.{AreThere};
 ghost use Rattle.refute_log.specs.Log.{Derives, given};
 ghost use Rattle.hint_log.specs.Found.{IsFinder};
 ghost use Rattle.hint_log.specs.Trimmed.{IsTrimmed, IsHinted, AreRefuted, IsWithin, MayBeHinted, AddsLearnt};
@@ -8,12 +9,23 @@ ghost use Rattle.hint_log.specs.Trimmed.{AddsRefuted};
 
 use crate::finder::Finder;
 use crate::hint_line::{HintLine, HintList};
-use crate::marks::greatest;
 use crate::shortening::shorten;
-use cnf_core::{Clause, LAST_VAR, VARS};
+use cnf_core::{Clause, LAST_VAR, Lit, VARS};
 use plan_core::{Items, OutOfMemory};
 use refute_log::{LineList, LogLine};
 use std::alloc::Global;
+
+/// The greatest variable of the literals, or 0 where there is none.
+fn greatest(lits: &[Lit]) -> u32
+    ensures there { AreThere result lits.now }
+    ensures limit { result ≤ LAST_VAR }
+{
+    let mut most = 0;
+    for l in lits {
+        most = l.var().0.max(most);
+    }
+    most
+}
 
 /// The greatest variable of the line's clause, or 0 where there is none.
 fn greatest_in(line: &LogLine) -> u32
@@ -182,7 +194,8 @@ fn hint_at(
 /// The hinted lines of a log that derives: of the Refuted lines that are wanted, by their places in the
 /// log, counted from 0, and of those Learnt lines on which they rest. The clauses of the Formula lines,
 /// wherever they stand, are numbered first, from 1, and the kept Learnt lines go on from there. A log of
-/// more than `VARS - 2` variables, or of more words than `ROOM`, is answered by want of memory.
+/// more than `VARS - 2` variables is answered by want of memory, and so is one whose words pass `ROOM`, where
+/// a clause of fewer than two literals counts as one of two.
 pub fn trim(alloc: Global, lines: &LineList, wanted: &[u32]) -> Result<HintList, OutOfMemory>
     requires derives { Derives lines.now }
     requires wanted { AreRefuted lines.now wanted.now }
