@@ -23,7 +23,7 @@ pub record MeetsHints (told : Lines) (lines : HintLines) (w : Values) : Type 0 w
   pub meets : MeetsLog told w
   pub good : AreGood (flat_map given told) lines
 
--- the checker accepted these lines, beside lines that tell the clauses and whose bounds these are
+-- the checker keeps the refuted clauses of these lines, beside lines that tell the clauses and whose bounds these are
 pub record KnowsHints (told : Lines) (lines : HintLines) (kept : HintFacts) (bounds : List ToldBound) : Type 0 where
   pub alone : AreClauseLines told
   pub refuted : kept.refuted ≡ flat_map refuted_of lines

@@ -241,7 +241,7 @@ pub record HasSoundLog (name : List ℕ) (contents : Option Told) : Type 0 where
   pub there : TellsAt contents name (Some (log_text lines))
   pub short : IsShort MAX_LOG_BYTES (log_text lines)
 
--- the hinted lines of this name are told, aren't too long, and have no fault as those of such a file and sheet
+-- the hinted lines of this name are told, aren't too long, and of such a file and sheet no fault of them decides
 pub record HasSoundHints (name : List ℕ) (contents : Option Told) (file sheet : List ℕ) : Type 0 where
   pub bytes : List ℕ
   pub there : TellsAt contents name (Some bytes)
