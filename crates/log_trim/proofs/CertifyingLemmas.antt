@@ -99,7 +99,7 @@ certifies_still greatest lines told missing wanted kept order (Least v s) begins
           r.2.each;
     }
 certifies_still greatest lines told missing wanted kept order NoDrawing begins trimmed are =
-    refuted_kept lines told missing wanted kept are.0 [] trimmed (subst (λ (ns : List ℕ). Contains ns are.0) (sym are.2) (Contains-head are.0 [])) are.1
+    refuted_kept lines told missing wanted kept are.0 [] trimmed (subst (λ (ns : List ℕ). Contains ns are.0) (sym are.2) (Contains-head are.0 [])) are.1.there
 certifies_still greatest lines told missing wanted kept order Nothing begins trimmed are = tt
 
 pub left_certify : (y : Layout) (order : List Criterion) (claim : Claim) (log : List ℕ) (r : TrimmedLog) → IsTrimmedLog y order claim log r →

@@ -88,7 +88,7 @@ are_refuted greatest lines order NoDrawing wanted h = λ p among. ([], only p (s
     only : (p : ℕ) → Contains (h.0 ∷ []) p → slice_get lines p ≡ Some (Refuted [])
     only p among = elim (Contains-push_cases [] h.0 p among) [
       | inl before ↦ nothing p (slice_get lines p ≡ Some (Refuted [])) before
-      | inr same ↦ subst (λ n. slice_get lines n ≡ Some (Refuted [])) same h.1
+      | inr same ↦ subst (λ n. slice_get lines n ≡ Some (Refuted [])) same h.1.there
     ]
 are_refuted greatest lines order Nothing wanted h = λ p among. nothing p ((c : List Literal) × (slice_get lines p ≡ Some (Refuted c))) (subst (λ (ns : List ℕ). Contains ns p) h among)
 
@@ -98,6 +98,8 @@ shows_so greatest other lines earlier c v p same s = record {
   clause = s.clause;
   there = s.there;
   each = All-weaker (IsOutOfReach greatest lines earlier c v) (IsOutOfReach other lines earlier c v) (λ l. out_of_reach_under greatest other lines earlier c v l same) s.clause s.each;
+  first = λ q d below at out. s.first q d below at
+      (All-weaker (IsOutOfReach other lines earlier c v) (IsOutOfReach greatest lines earlier c v) (λ l. out_of_reach_under other greatest lines earlier c v l (λ b. sym (same b))) d out);
 }
 
 wanted_under : (greatest other : Criterion → ℕ) (lines : Lines) (order : List Criterion) (claim : Claim) (wanted : List ℕ) → ((c : Criterion) → greatest c ≡ other c) → AreWanted greatest lines order claim wanted → AreWanted other lines order claim wanted

@@ -3,20 +3,21 @@ use Rattle.std.proofs.Common.{◌≡◌, ◌≤◌, ℕ, ◌+◌, ◌⊎◌, Lis
 use Rattle.std.specs.Prelude.{Contains, Option, slice_get, flat_map}
 use Rattle.std.proofs.lemmas.Bool.{cases_lt}
 use Rattle.std.proofs.lemmas.Option.{slice_get-get_or, same_Some}
-use Rattle.std.proofs.lemmas.List.Elements.{Contains-get_or, Contains-append_left, Contains-push_cases, Contains-push}
+use Rattle.std.proofs.lemmas.List.Elements.{All-contains, Contains-get_or, Contains-append_left, Contains-push_cases, Contains-push}
 use Rattle.plan_core.specs.declared.criterion.Values.{Values}
 use Rattle.plan_core.specs.declared.criterion.Criterion.{Criterion}
 use Rattle.plan_core.specs.Searching.{FindsFirst, IsFirst, NoneBefore}
 use Rattle.plan_core.specs.Values.{value_of}
-use Rattle.plan_core.proofs.Listing.{Contains-head}
-use Rattle.cnf_core.specs.Lit.{Literal}
+use Rattle.plan_core.proofs.Listing.{Contains-head, Contains-flat_map}
+use Rattle.cnf_core.specs.Lit.{Literal, positive_of}
 use Rattle.cnf_core.specs.Clause.{HasAllOf}
 use Rattle.refute_log.specs.declared.line.LogLine.{LogLine}
 use Rattle.refute_log.specs.declared.line.LogLine.TheVariants.{Formula, Learnt, Bound, Query, Refuted, Model}
 use Rattle.refute_log.specs.Told.{Lines}
 use Rattle.refute_log.specs.Log.{IsRefutedWithin, facts_of}
 use Rattle.refute_check.specs.Kept.{CheckedFacts}
-use Rattle.certified_values.specs.Certified.{IsCertifiedLeast, CertifiesNone}
+use Rattle.certified_values.specs.Certified.{IsCertifiedLeast, CertifiesNone, IsOutOfReach}
+use Rattle.certified_values.specs.Bounds.{SaysAtLeast}
 use Rattle.certified_check.specs.declared.told_bound.ToldBound.{ToldBound}
 use Rattle.certified_check.specs.Lacking.{told_bound}
 use Rattle.certified_check.proofs.JudgeLemmas.{nothing, refuted_line, bound_line, out_of_reach, AreUnreached, verdict_is}
@@ -24,26 +25,42 @@ use Rattle.log_trim.specs.Wanted.{ShowsLeast, ShowsNone, IsClaimedPlace, AreOfLe
 
 -- ---- the first Refuted line within them
 
+-- a literal that is out of reach is one of them
+reached : (greatest : Criterion → ℕ) (lines : Lines) (bounds : List ToldBound) (earlier : List Criterion) (c : Criterion) (v : Values) (literals : List Literal) → bounds ≡ flat_map told_bound lines → AreUnreached greatest bounds earlier c v literals →
+    (l : Literal) → IsOutOfReach greatest lines earlier c v l → Contains literals l
+reached greatest lines bounds earlier c v literals are unreached l out = elim out [
+  | inl any ↦ at any.1 (value_of v any.1 + 1) any.4 (inl ((any.0, any.2, any.3), refl))
+  | inr s ↦ at c (value_of v c) s (inr (refl, refl))
+]
+  where
+    at : (d : Criterion) (k : ℕ) → SaysAtLeast greatest lines d k l → ((Contains earlier d × (k ≡ value_of v d + 1)) ⊎ ((d ≡ c) × (k ≡ value_of v c))) → Contains literals l
+    at d k s either =
+        let b : ToldBound = record { criterion = d; k = k; literal = positive_of s.variable.0 } in
+        let told : Contains (flat_map told_bound lines) b = Contains-flat_map told_bound lines (Bound d k s.variable) b s.told (0, omega arith, refl) in
+        let there : Contains bounds b = subst (λ (bs : List ToldBound). Contains bs b) (sym are) told in
+        (unreached l).1 (there.0, b, there.1, there.2, (record { within = s.within; either = either }, sym s.is))
+
 pub found_shows : (greatest : Criterion → ℕ) (lines : Lines) (bounds : List ToldBound) (earlier : List Criterion) (c : Criterion) (v : Values) (literals : List Literal) (found : Option ℕ) (p : ℕ) → bounds ≡ flat_map told_bound lines →
     AreUnreached greatest bounds earlier c v literals → found ≡ Some p → FindsFirst (λ _ line. IsRefutedWithin literals line) lines found → ShowsLeast greatest lines earlier c v p
 found_shows greatest lines bounds earlier c v literals found p are unreached is finds =
     let first : IsFirst (λ _ line. IsRefutedWithin literals line) lines p = subst (λ (f : Option ℕ). FindsFirst (λ _ line. IsRefutedWithin literals line) lines f) is finds in
-    by first.x first.is first.holds
+    by first.before first.x first.is first.holds
   where
-    by : (line : LogLine) → slice_get lines p ≡ Some line → IsRefutedWithin literals line → ShowsLeast greatest lines earlier c v p
-    by (Formula d) at h = absurd h
-    by (Learnt d) at h = absurd h
-    by (Bound d k x) at h = absurd h
-    by (Query d) at h = absurd h
-    by (Refuted d) at h = record {
+    by : NoneBefore (λ _ line. IsRefutedWithin literals line) lines p → (line : LogLine) → slice_get lines p ≡ Some line → IsRefutedWithin literals line → ShowsLeast greatest lines earlier c v p
+    by before (Formula d) at h = absurd h
+    by before (Learnt d) at h = absurd h
+    by before (Bound d k x) at h = absurd h
+    by before (Query d) at h = absurd h
+    by before (Refuted d) at h = record {
       clause = d;
       there = at;
       each = λ k l low.
           let x = get_or d k l in
           let any = (unreached x).0 (h x (Contains-get_or d k l low)) in
           out_of_reach greatest lines earlier c v x any.1 (bound_line lines any.1 (subst (λ (bs : List ToldBound). Contains bs any.1) are (any.0, any.2, any.3))) any.4;
+      first = λ q e below found_at out. before.none q (Refuted e) below found_at (λ l within. reached greatest lines bounds earlier c v literals are unreached l (All-contains (IsOutOfReach greatest lines earlier c v) e l out within));
     }
-    by Model at h = absurd h
+    by before Model at h = absurd h
 
 -- what a checker keeps of the lines
 abbrev kept_of_log : Lines → CheckedFacts
@@ -67,19 +84,22 @@ none_missed greatest lines bounds earlier c v literals found are unreached posit
 pub found_none : (lines : Lines) (found : Option ℕ) (p : ℕ) → found ≡ Some p → FindsFirst (λ _ line. IsRefutedWithin [] line) lines found → ShowsNone lines p
 found_none lines found p is finds =
     let first : IsFirst (λ _ line. IsRefutedWithin [] line) lines p = subst (λ (f : Option ℕ). FindsFirst (λ _ line. IsRefutedWithin [] line) lines f) is finds in
-    by first.x first.is first.holds
+    by first.before first.x first.is first.holds
   where
     empty : (d : List Literal) → HasAllOf [] d → d ≡ []
     empty [] h = refl
     empty (l ∷ ls) h = nothing l (l ∷ ls ≡ []) (h l (Contains-head l ls))
 
-    by : (line : LogLine) → slice_get lines p ≡ Some line → IsRefutedWithin [] line → ShowsNone lines p
-    by (Formula d) at h = absurd h
-    by (Learnt d) at h = absurd h
-    by (Bound d k x) at h = absurd h
-    by (Query d) at h = absurd h
-    by (Refuted d) at h = subst (λ (e : List Literal). slice_get lines p ≡ Some (Refuted e)) (empty d h) at
-    by Model at h = absurd h
+    by : NoneBefore (λ _ line. IsRefutedWithin [] line) lines p → (line : LogLine) → slice_get lines p ≡ Some line → IsRefutedWithin [] line → ShowsNone lines p
+    by before (Formula d) at h = absurd h
+    by before (Learnt d) at h = absurd h
+    by before (Bound d k x) at h = absurd h
+    by before (Query d) at h = absurd h
+    by before (Refuted d) at h = record {
+      there = subst (λ (e : List Literal). slice_get lines p ≡ Some (Refuted e)) (empty d h) at;
+      first = λ q below found_at. before.none q (Refuted []) below found_at (λ l within. within);
+    }
+    by before Model at h = absurd h
 
 pub none_found : (lines : Lines) (found : Option ℕ) → CertifiesNone lines → found ≡ None → FindsFirst (λ _ line. IsRefutedWithin [] line) lines found → ⊥
 none_found lines found certified is finds =

@@ -10,16 +10,20 @@ use Rattle.certified_values.specs.Certified.{IsOutOfReach}
 use Rattle.log_check.specs.declared.claim.Claim.{Claim}
 use Rattle.log_check.specs.declared.claim.Claim.TheVariants.{Least, NoDrawing, Nothing}
 
--- the line at this place is a Refuted one all of whose literals are out of reach, so that the value of c can't be less
+-- the line at this place is the first Refuted one all of whose literals are out of reach, so that the value of c can't
+-- be less
 pub record ShowsLeast (greatest : Criterion → ℕ) (lines : Lines) (earlier : List Criterion) (c : Criterion)
     (v : Values) (p : ℕ) : Type 0 where
   pub clause : List Literal
   pub there : slice_get lines p ≡ Some (Refuted clause)
   pub each : All (IsOutOfReach greatest lines earlier c v) clause
+  pub first : (q : ℕ) (d : List Literal) → q < p → slice_get lines q ≡ Some (Refuted d)
+      → All (IsOutOfReach greatest lines earlier c v) d → ⊥
 
--- it is a Refuted line without literals, so that there is no drawing
-abbrev pub ShowsNone : Lines → ℕ → Type 0
-ShowsNone lines p = slice_get lines p ≡ Some (Refuted [])
+-- it is the first Refuted line without literals, so that there is no drawing
+pub record ShowsNone (lines : Lines) (p : ℕ) : Type 0 where
+  pub there : slice_get lines p ≡ Some (Refuted [])
+  pub first : (q : ℕ) → q < p → slice_get lines q ≡ Some (Refuted []) → ⊥
 
 -- the order has c at this place, one of the first s, and its value is positive: a value of 0 needs no line
 pub record IsClaimedPlace (order : List Criterion) (v : Values) (s i : ℕ) (c : Criterion) : Type 0 where

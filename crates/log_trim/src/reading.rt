@@ -10,7 +10,7 @@ use certified_check::ToldBound;
 use line_text::behind;
 use log_check::{Next, next_line};
 use plan_core::OutOfMemory;
-use refute_log::{LineList, LogLine, LogSink};
+use refute_log::{LineList, LogLine, LogSink, LogSinkFault};
 use std::alloc::Global;
 
 /// The first line of every log's text.
@@ -24,7 +24,8 @@ pub(crate) fn add_line(list: &mut LineList, line: &LogLine) -> Result<(), OutOfM
     let _ = list.len();
     match list.tell(line) {
         Ok(()) => Ok(()),
-        Err(_) => Err(OutOfMemory),
+        Err(LogSinkFault::Failed) => unreachable!(),
+        Err(LogSinkFault::Memory) => Err(OutOfMemory),
     }
 }
 

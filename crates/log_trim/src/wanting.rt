@@ -12,8 +12,8 @@ use plan_core::{Criterion, Order, OutOfMemory, Values};
 use refute_log::LineList;
 use std::alloc::Global;
 
-/// The place of a line that shows that the value of c, which is positive, can't be less, with the earlier ones as in
-/// `v`.
+/// The place of the first line that shows that the value of c, which is positive, can't be less, with the earlier ones
+/// as in `v`.
 fn line_for(
     alloc: Global,
     lines: &LineList,
@@ -36,7 +36,8 @@ fn line_for(
     }
 }
 
-/// The places of lines that show the first `s` values of the order to be least, one for each that is positive.
+/// The places of the lines that show the first `s` values of the order to be least: for each that is positive the first
+/// that shows it.
 fn least_lines(
     alloc: Global,
     lines: &LineList,
@@ -65,7 +66,7 @@ fn least_lines(
     Ok(wanted)
 }
 
-/// The place of a line that shows that there is no drawing.
+/// The place of the first line that shows that there is no drawing.
 fn line_for_none(lines: &LineList) -> u32
     requires short { length lines.now ≤ 2 ^ 32 }
     requires none { CertifiesNone lines.now }
