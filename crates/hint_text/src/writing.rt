@@ -79,11 +79,26 @@ pub fn write_hint(line: &HintLine, into: &mut Vec<u8>) -> Result<(), OutOfMemory
 }
 
 /// Appends the line of the caps, or the front of it that memory was had for.
-pub fn write_caps(caps: &Values, into: &mut Vec<u8>) -> Result<(), OutOfMemory>
+fn append_caps(caps: &Values, into: &mut Vec<u8>) -> Result<(), OutOfMemory>
     ensures ok { OnOk result (into.new.items ≡ into.old.items ++ ended_caps caps.now) }
     ensures begins { Begins into.old.items into.new.items }
 {
     push_text(into, b"caps")?;
     write_each(&[caps.height, caps.bends, caps.diagonal, caps.width], into)?;
     push_text(into, b"\n")
+}
+
+/// Appends the line of the caps with its line feed. Where memory couldn't be had, `into` is as it was.
+pub fn write_caps(caps: &Values, into: &mut Vec<u8>) -> Result<(), OutOfMemory>
+    ensures ok { OnOk result (into.new.items ≡ into.old.items ++ ended_caps caps.now) }
+    ensures err { OnErr result (into.new.items ≡ into.old.items) }
+{
+    let length = into.len();
+    match append_caps(caps, into) {
+        Ok(()) => Ok(()),
+        Err(fault) => {
+            into.truncate(length);
+            Err(fault)
+        }
+    }
 }
