@@ -72,6 +72,29 @@ fn good_lines_are_accepted_and_no_others(rt: HostRuntime) -> Result<(), Fail> {
 }
 
 #[test]
+fn a_variable_that_the_formula_lacks_is_judged_like_others(rt: HostRuntime) -> Result<(), Fail> {
+    let alloc = rt.alloc();
+    let mut c = checker(alloc, 100)?;
+    // Lines with the greatest variable: one that is refused, two that are kept, some that name those, with its literal
+    // left, false, and true already, and one for which no mark may have stayed.
+    let table = [
+        ("l 1073741823 0 1 0", Some(1)),
+        ("l 1073741823 1 0 1 2 0", None),
+        ("l -1073741823 1 0 1 2 0", None),
+        ("l 1 0 5 6 0", None),
+        ("l 1 1073741823 0 6 5 0", None),
+        ("l 1 -1073741823 0 5 6 0", None),
+        ("l 2 0 6 7 0", Some(1)),
+        ("r 0 7 3 4 0", None),
+    ];
+    for (text, place) in table {
+        assert_eq!(rt; fed(&rt, alloc, &mut c, text)?, place, "{text}");
+    }
+    assert!(rt; c.verdict(&[]));
+    Ok(())
+}
+
+#[test]
 fn a_learnt_line_needs_room(rt: HostRuntime) -> Result<(), Fail> {
     let alloc = rt.alloc();
     // four clauses of two literals have 20 words
