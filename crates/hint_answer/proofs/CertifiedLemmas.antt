@@ -34,7 +34,7 @@ use Rattle.log_check.specs.declared.claim.Claim.{Claim}
 use Rattle.hint_log.specs.declared.hint_line.HintLine.{HintLine}
 use Rattle.hint_log.specs.declared.hint_line.HintLine.TheVariants.{Learnt, Refuted}
 use Rattle.hint_log.specs.Hint.{hints_of, Leads, IsGood}
-use Rattle.hint_log.specs.Checked.{learnt_of}
+use Rattle.hint_log.specs.Checked.{clauses_learnt}
 use Rattle.hint_log.specs.Trimmed.{HintLines, line_of, StandAt, AreGood}
 use Rattle.hint_text.specs.HintText.{IsClauseNumber, MayBeWritten, MayAllBeWritten, ended_hint}
 use Rattle.hint_text.specs.Caps.{AreSmallCaps, IsFitCap}
@@ -150,16 +150,16 @@ few_clauses [] = omega arith
 few_clauses (c ∷ cs) = let more = few_clauses cs in omega (arith, more)
 
 all_written : (lines : Lines) (missing : Clauses) (wanted : List ℕ) (low high : ℕ) (places : List ℕ) (clauses : Clauses) (kept : HintLines) → MayAllBeTold lines → StandAt (lines ++ map Formula missing) wanted low high places kept →
-    AreGood clauses kept → words_of (clauses ++ flat_map learnt_of kept) ≤ ROOM → MayAllBeWritten kept
+    AreGood clauses kept → words_of (clauses ++ flat_map clauses_learnt kept) ≤ ROOM → MayAllBeWritten kept
 all_written lines missing wanted low high places clauses [] told stand good fits = tt
 all_written lines missing wanted low high [] clauses (line ∷ kept) told stand good fits = absurd stand
 all_written lines missing wanted low high (p ∷ places) clauses (line ∷ kept) told stand good fits =
-    let sum = words_append clauses (flat_map learnt_of (line ∷ kept)) in
+    let sum = words_append clauses (flat_map clauses_learnt (line ∷ kept)) in
     let few = few_clauses clauses in
     let here = good_written clauses line (omega (arith, few, sum, fits)) good.0 (told_line lines missing line p told stand.1.there) in
-    let next : words_of ((clauses ++ learnt_of line) ++ flat_map learnt_of kept) ≤ ROOM =
-    subst (λ (cs : Clauses). words_of cs ≤ ROOM) (sym (append_assoc clauses (learnt_of line) (flat_map learnt_of kept))) fits in
-    (here, all_written lines missing wanted (p + 1) high places (clauses ++ learnt_of line) kept told stand.2 good.1 next)
+    let next : words_of ((clauses ++ clauses_learnt line) ++ flat_map clauses_learnt kept) ≤ ROOM =
+    subst (λ (cs : Clauses). words_of cs ≤ ROOM) (sym (append_assoc clauses (clauses_learnt line) (flat_map clauses_learnt kept))) fits in
+    (here, all_written lines missing wanted (p + 1) high places (clauses ++ clauses_learnt line) kept told stand.2 good.1 next)
 
 -- ---- so it is accepted
 
@@ -167,7 +167,7 @@ fits_limits : (g : Graph) (o : EdgeOrder) (said : Sheet) (r : TrimmedLog) → Fi
 fits_limits g o said r fits (inl many) = let few = fits.vars in omega (arith, few, many)
 fits_limits g o said r fits (inr long) =
     let words = fits.words in
-    let sum = words_append (flat_map given (expected_again g o said r).lines) (flat_map learnt_of r.kept) in
+    let sum = words_append (flat_map given (expected_again g o said r).lines) (flat_map clauses_learnt r.kept) in
     omega (arith, words, sum, long)
 
 left_accepted : (g : Graph) (o : EdgeOrder) (said : Sheet) (log : List ℕ) (r : TrimmedLog) → IsLeftFor g o said log r → FitsRoom g o said r → AreAcceptedHints (expected_again g o said r) r.kept

@@ -2,7 +2,7 @@
 use Rattle.std.specs.Prelude.{◌≡◌, ℕ, List, [], ◌∷◌, length, flat_map, codes}
 use Rattle.std.specs.Fmt.{decimal}
 use Rattle.line_text.specs.Fields.{line_text}
-use Rattle.hint_log.specs.Checked.{learnt_of}
+use Rattle.hint_log.specs.Checked.{clauses_learnt}
 use Rattle.hint_text.specs.declared.fault.HintsWhat.{HintsWhat}
 use Rattle.hint_text.specs.HintFaults as hint_faults
 use Rattle.hint_text.specs.HintText.{hints_text}
@@ -26,7 +26,7 @@ left_text r = hints_text r.caps r.kept
 
 -- how many Learnt lines the log has, and how many of them are kept
 abbrev pub trimmed_line : TrimmedLog → List ℕ
-trimmed_line r = line_text (codes "trimmed") (decimal r.learnt ∷ decimal (length (flat_map learnt_of r.kept)) ∷ [])
+trimmed_line r = line_text (codes "trimmed") (decimal r.learnt ∷ decimal (length (flat_map clauses_learnt r.kept)) ∷ [])
 
 -- ---- recheck
 

@@ -1,6 +1,6 @@
 // The text of what is left of a log, and the lines that trim and recheck put.
 ghost use Rattle.std.specs.Prelude.{◌≡◌, ◌++◌, IfOk, OnOk, flat_map, length};
-ghost use Rattle.hint_log.specs.Checked.{learnt_of};
+ghost use Rattle.hint_log.specs.Checked.{clauses_learnt};
 ghost use Rattle.hint_log.specs.Trimmed.{HintLines};
 ghost use Rattle.hint_text.specs.HintText.{ended_hint};
 ghost use Rattle.hint_check.specs.declared.verdict.HintsVerdict.TheVariants as verdicts;
@@ -41,7 +41,7 @@ pub(crate) fn text_of(alloc: Global, left: &TrimmedLog) -> Result<Vec<u8>, OutOf
 
 /// How many Learnt lines there are.
 fn count_kept(lines: &HintList) -> usize
-    ensures { result ≡ length (flat_map learnt_of lines.now) }
+    ensures { result ≡ length (flat_map clauses_learnt lines.now) }
 {
     let mut count = 0;
     for i in 0..lines.len() {

@@ -14,8 +14,8 @@ use Rattle.log_check.specs.declared.claim.Claim.{Claim}
 use Rattle.log_check.specs.Expectation.{Expectation}
 use Rattle.hint_log.specs.declared.hint_line.HintLine.{HintLine}
 use Rattle.hint_log.specs.declared.hint_line.HintLine.TheVariants.{Learnt, Refuted}
-use Rattle.hint_log.specs.Hint.{IsGood, FailsAt, lits_of, hints_of}
-use Rattle.hint_log.specs.Checked.{HintFacts, learnt_of, refuted_of, facts_with, LacksRoom, Accepts, PassesRoom}
+use Rattle.hint_log.specs.Hint.{IsGood, FailsAt, shown_lits, hints_of}
+use Rattle.hint_log.specs.Checked.{HintFacts, clauses_learnt, refuted_of, facts_with, LacksHintRoom, AcceptsHint, PassesHintRoom}
 use Rattle.hint_log.specs.Trimmed.{HintLines}
 use Rattle.hint_log.proofs.HintLemmas.{not_both}
 use Rattle.hint_log.proofs.HintedLemmas.{good_more}
@@ -32,12 +32,12 @@ use Rattle.hint_check.specs.Progress.{facts_for, HasAcceptedHints, HasBegun, Are
 
 -- ---- one line
 
-clauses_more : (e : Expectation) (before : HintLines) (line : HintLine) → clauses_with e before ++ learnt_of line ≡ clauses_with e (before ++ line ∷ [])
+clauses_more : (e : Expectation) (before : HintLines) (line : HintLine) → clauses_with e before ++ clauses_learnt line ≡ clauses_with e (before ++ line ∷ [])
 clauses_more e before line =
-    append_assoc (flat_map given e.lines) (flat_map learnt_of before) (learnt_of line)
-    ∙ ap (λ (cs : Clauses). flat_map given e.lines ++ cs) (sym (flat_map_last learnt_of before line))
+    append_assoc (flat_map given e.lines) (flat_map clauses_learnt before) (clauses_learnt line)
+    ∙ ap (λ (cs : Clauses). flat_map given e.lines ++ cs) (sym (flat_map_last clauses_learnt before line))
 
-room_more : (e : Expectation) (before : HintLines) (line : HintLine) → words_of (clauses_with e before) ≤ ROOM → (LacksRoom (facts_for e before) line → ⊥) → words_of (clauses_with e (before ++ line ∷ [])) ≤ ROOM
+room_more : (e : Expectation) (before : HintLines) (line : HintLine) → words_of (clauses_with e before) ≤ ROOM → (LacksHintRoom (facts_for e before) line → ⊥) → words_of (clauses_with e (before ++ line ∷ [])) ≤ ROOM
 room_more e before (Learnt lits hints) fits has = let is = ap words_of (clauses_more e before (Learnt lits hints)) in elim (cases_lt ROOM (words_of (clauses_with e before ++ lits ∷ []))) [
   | inl high ↦ absurd (has high)
   | inr low ↦ omega (arith, is, low)
@@ -53,27 +53,27 @@ facts_more e before line old is =
     ∙ ap (λ (cs : Clauses). kept_by ROOM cs (flat_map refuted_of before ++ refuted_of line)) (clauses_more e before line)
     ∙ ap (λ (cs : Clauses). kept_by ROOM (clauses_with e (before ++ line ∷ [])) cs) (sym (flat_map_last refuted_of before line))
 
-pub accepted_next : (e : Expectation) (before : HintLines) (line : HintLine) (old new : HintFacts) → HasAcceptedHints e before old → Accepts old new line → HasAcceptedHints e (before ++ line ∷ []) new
+pub accepted_next : (e : Expectation) (before : HintLines) (line : HintLine) (old new : HintFacts) → HasAcceptedHints e before old → AcceptsHint old new line → HasAcceptedHints e (before ++ line ∷ []) new
 accepted_next e before line old new h a = record {
   accepted = record {
     within = h.accepted.within;
     good = good_more (flat_map given e.lines) before line h.accepted.good (subst (λ (k : HintFacts). IsGood k.clauses line) h.kept_is a.good);
-    room = room_more e before line h.accepted.room (subst (λ (k : HintFacts). LacksRoom k line → ⊥) h.kept_is a.fits);
+    room = room_more e before line h.accepted.room (subst (λ (k : HintFacts). LacksHintRoom k line → ⊥) h.kept_is a.fits);
   };
   kept_is = a.kept ∙ facts_more e before line old h.kept_is;
 }
 
-pub bad_refused : (e : Expectation) (before : HintLines) (line : HintLine) (old : HintFacts) (k : ℕ) → HasAcceptedHints e before old → FailsAt old.clauses (lits_of line) (hints_of line) k → IsHintRefusedFor e before line BadHint
+pub bad_refused : (e : Expectation) (before : HintLines) (line : HintLine) (old : HintFacts) (k : ℕ) → HasAcceptedHints e before old → FailsAt old.clauses (shown_lits line) (hints_of line) k → IsHintRefusedFor e before line BadHint
 bad_refused e before line old k h fails = λ good.
-    not_both (clauses_with e before) (lits_of line) (hints_of line) k good (subst (λ (f : HintFacts). FailsAt f.clauses (lits_of line) (hints_of line) k) h.kept_is fails)
+    not_both (clauses_with e before) (shown_lits line) (hints_of line) k good (subst (λ (f : HintFacts). FailsAt f.clauses (shown_lits line) (hints_of line) k) h.kept_is fails)
 
-passes_more : (e : Expectation) (before : HintLines) (line : HintLine) → LacksRoom (facts_for e before) line → ROOM < words_of (clauses_with e (before ++ line ∷ []))
+passes_more : (e : Expectation) (before : HintLines) (line : HintLine) → LacksHintRoom (facts_for e before) line → ROOM < words_of (clauses_with e (before ++ line ∷ []))
 passes_more e before (Learnt lits hints) lacks = let is = ap words_of (clauses_more e before (Learnt lits hints)) in omega arith
 passes_more e before (Refuted lits hints) lacks = absurd lacks
 
-pub room_refused : (e : Expectation) (before : HintLines) (line : HintLine) (old : HintFacts) → HasAcceptedHints e before old → PassesRoom old line → IsHintRefusedFor e before line Room
+pub room_refused : (e : Expectation) (before : HintLines) (line : HintLine) (old : HintFacts) → HasAcceptedHints e before old → PassesHintRoom old line → IsHintRefusedFor e before line Room
 room_refused e before line old h p =
-    let q : PassesRoom (facts_for e before) line = subst (λ (k : HintFacts). PassesRoom k line) h.kept_is p in
+    let q : PassesHintRoom (facts_for e before) line = subst (λ (k : HintFacts). PassesHintRoom k line) h.kept_is p in
     (q.good, passes_more e before line q.passes)
 
 -- ---- the lines so far

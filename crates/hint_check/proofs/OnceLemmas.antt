@@ -20,11 +20,11 @@ use Rattle.log_check.specs.Claimed.{IsClaimOf, CertifiesClaim, LacksAt}
 use Rattle.log_check.proofs.CutLemmas.{same_cut, no_cut}
 use Rattle.hint_log.specs.declared.hint_line.HintLine.{HintLine}
 use Rattle.hint_log.specs.Hint.{IsGood}
-use Rattle.hint_log.specs.Checked.{learnt_of}
+use Rattle.hint_log.specs.Checked.{clauses_learnt}
 use Rattle.hint_log.specs.Trimmed.{HintLines, AreGood}
 use Rattle.hint_text.specs.declared.fault.HintsWhat.{HintsWhat}
 use Rattle.hint_text.specs.HintText.{MayBeWritten, MayAllBeWritten, hint_text, ended_hint, hints_header, caps_text, ended_caps}
-use Rattle.hint_text.specs.HintFaults.{IsHintOf, HasHintFault}
+use Rattle.hint_text.specs.HintFaults.{IsHintOf, HasHintTextFault}
 use Rattle.hint_text.specs.Caps.{AreCapsOf, HasCapsFault}
 use Rattle.hint_text.proofs.CapsLemmas.{caps_once, caps_fault_once, caps_no_fault, caps_lack}
 use Rattle.hint_text.proofs.OnceLemmas.{hint_once, hint_no_fault, fault_once, hint_lacks}
@@ -66,7 +66,7 @@ line_has_no_fault l rest r what told e (inr h) = no_cut rest (hint_text l) r h.2
 next_fault_once : (rest : List ℕ) (a b : HintsWhat) → HasNextHintFault rest a → HasNextHintFault rest b → a ≡ b
 next_fault_once rest a b (inl h) (inl k) =
     let cut = same_cut h.0 k.0 h.1 k.1 h.2.first k.2.first (sym h.2.spelled ∙ k.2.spelled) in
-    fault_once k.0 a b (subst (λ (t : List ℕ). HasHintFault t a) cut.front h.3) k.3
+    fault_once k.0 a b (subst (λ (t : List ℕ). HasHintTextFault t a) cut.front h.3) k.3
 next_fault_once rest a b (inl h) (inr k) = absurd (no_cut rest h.0 h.1 k.2 h.2.spelled)
 next_fault_once rest a b (inr h) (inl k) = absurd (no_cut rest k.0 k.1 h.2 k.2.spelled)
 next_fault_once rest a b (inr h) (inr k) = h.0 ∙ sym k.0
@@ -95,18 +95,18 @@ fronts (x ∷ xs) (y ∷ ys) r s h k e =
 
 -- ---- an accepted line has no cause
 
-good_at : (clauses : Clauses) (xs : HintLines) (l : HintLine) (more : HintLines) → AreGood clauses (xs ++ l ∷ more) → IsGood (clauses ++ flat_map learnt_of xs) l
+good_at : (clauses : Clauses) (xs : HintLines) (l : HintLine) (more : HintLines) → AreGood clauses (xs ++ l ∷ more) → IsGood (clauses ++ flat_map clauses_learnt xs) l
 good_at clauses [] l more g = subst (λ (cs : Clauses). IsGood cs l) (sym (append-nil clauses)) g.0
-good_at clauses (x ∷ xs) l more g = subst (λ (cs : Clauses). IsGood cs l) (append_assoc clauses (learnt_of x) (flat_map learnt_of xs)) (good_at (clauses ++ learnt_of x) xs l more g.1)
+good_at clauses (x ∷ xs) l more g = subst (λ (cs : Clauses). IsGood cs l) (append_assoc clauses (clauses_learnt x) (flat_map clauses_learnt xs)) (good_at (clauses ++ clauses_learnt x) xs l more g.1)
 
 room_at : (e : Expectation) (xs : HintLines) (l : HintLine) (more : HintLines) → words_of (clauses_with e (xs ++ l ∷ more)) ≤ ROOM → words_of (clauses_with e (xs ++ l ∷ [])) ≤ ROOM
 room_at e xs l more low =
     let given_of = flat_map given e.lines in
-    let here = flat_map learnt_of (xs ++ l ∷ []) in
-    let later = flat_map learnt_of more in
+    let here = flat_map clauses_learnt (xs ++ l ∷ []) in
+    let later = flat_map clauses_learnt more in
     let split : clauses_with e (xs ++ l ∷ more) ≡ clauses_with e (xs ++ l ∷ []) ++ later =
-    ap (λ (ls : HintLines). given_of ++ flat_map learnt_of ls) (sym (append_assoc xs (l ∷ []) more))
-    ∙ ap (λ (cs : Clauses). given_of ++ cs) (flat_map-append learnt_of (xs ++ l ∷ []) more) ∙ sym (append_assoc given_of here later) in
+    ap (λ (ls : HintLines). given_of ++ flat_map clauses_learnt ls) (sym (append_assoc xs (l ∷ []) more))
+    ∙ ap (λ (cs : Clauses). given_of ++ cs) (flat_map-append clauses_learnt (xs ++ l ∷ []) more) ∙ sym (append_assoc given_of here later) in
     let all = ap words_of split in
     let size = words_append (clauses_with e (xs ++ l ∷ [])) later in
     omega arith

@@ -8,7 +8,7 @@ use Rattle.cnf_core.specs.Clause.{Clauses, words_of}
 use Rattle.refute_log.specs.Log.{given}
 use Rattle.drawing_problem.specs.Layout.{Layout}
 use Rattle.log_check.specs.Expectation.{Expectation, expectation, PassesLimits}
-use Rattle.hint_log.specs.Checked.{learnt_of}
+use Rattle.hint_log.specs.Checked.{clauses_learnt}
 use Rattle.hint_log.specs.Trimmed.{HintLines, AreGood}
 use Rattle.hint_text.specs.HintText.{hints_header, ended_hint, ended_caps, MayAllBeWritten}
 use Rattle.hint_text.specs.Caps.{AreSmallCaps, AreInRange}
@@ -30,7 +30,7 @@ pub record BeginsWithCaps (y : Layout) (order : List Criterion) (bytes : List �
 
 -- the clauses that a further line may name
 abbrev pub clauses_with : Expectation → HintLines → Clauses
-clauses_with e lines = flat_map given e.lines ++ flat_map learnt_of lines
+clauses_with e lines = flat_map given e.lines ++ flat_map clauses_learnt lines
 
 -- what is expected is within the limits, each line is good, and the clauses have room
 pub record AreAcceptedHints (e : Expectation) (lines : HintLines) : Type 0 where

@@ -9,7 +9,7 @@ use Rattle.hint_log.specs.Hint.{IsGood}
 use Rattle.hint_log.specs.Trimmed.{HintLines}
 use Rattle.hint_text.specs.declared.fault.HintsWhat.{HintsWhat}
 use Rattle.hint_text.specs.declared.fault.HintsWhat.TheVariants as whats
-use Rattle.hint_text.specs.HintFaults.{HasHintFault}
+use Rattle.hint_text.specs.HintFaults.{HasHintTextFault}
 use Rattle.hint_text.specs.Caps.{HasCapsFault}
 use Rattle.log_check.specs.Expectation.{Expectation}
 use Rattle.hint_check.specs.declared.verdict.HintRefusal.{HintRefusal}
@@ -25,7 +25,7 @@ IsHintRefusedFor e before line Room = IsGood (clauses_with e before) line
 -- the next line has this fault, or has no line feed
 abbrev pub HasNextHintFault : List ℕ → HintsWhat → Type 0
 HasNextHintFault rest what =
-    ((text : List ℕ) × (more : List ℕ) × IsCutAt 10 rest text more × HasHintFault text what)
+    ((text : List ℕ) × (more : List ℕ) × IsCutAt 10 rest text more × HasHintTextFault text what)
     ⊎ ((what ≡ whats.Form) × (rest ≢ []) × LacksByte 10 rest)
 
 -- the line of the caps has this fault, or is missing, or has no line feed

@@ -26,7 +26,7 @@ use Rattle.certified_check.specs.Lacking.{told_bound, KnowsLog}
 use Rattle.certified_check.proofs.JudgeLemmas.{nothing}
 use Rattle.hint_log.specs.declared.hint_line.HintLine.{HintLine}
 use Rattle.hint_log.specs.declared.hint_line.HintLine.TheVariants.{Learnt, Refuted}
-use Rattle.hint_log.specs.Checked.{HintFacts, refuted_of, Refutes}
+use Rattle.hint_log.specs.Checked.{HintFacts, refuted_of, RefutesByHints}
 use Rattle.hint_log.specs.Trimmed.{HintLines, line_of, AreGood}
 use Rattle.hint_log.proofs.HintLemmas.{good_follows}
 use Rattle.hint_claims.specs.Hinted.{log_of, AreClauseLines, MeetsHints, KnowsHints}
@@ -176,7 +176,7 @@ knows_log told hints kept bounds k = record {
       ∙ ap (λ (bs : List ToldBound). flat_map told_bound told ++ bs) (sym (bounds_of_hints hints)) ∙ sym (flat_map-append told_bound told (map line_of hints));
 }
 
-pub refutes_same : (told : Lines) (hints : HintLines) (kept : HintFacts) (bounds : List ToldBound) (allowed : List Literal) → KnowsHints told hints kept bounds → Refutes kept allowed ↔ RefutesLog (kept_as (log_of told hints)) allowed
+pub refutes_same : (told : Lines) (hints : HintLines) (kept : HintFacts) (bounds : List ToldBound) (allowed : List Literal) → KnowsHints told hints kept bounds → RefutesByHints kept allowed ↔ RefutesLog (kept_as (log_of told hints)) allowed
 refutes_same told hints kept bounds allowed k =
     let same : kept.refuted ≡ flat_map refuted (log_of told hints) = k.refuted ∙ sym (refuted_in_log told hints k.alone) in (
       subst (λ (cs : Clauses). Any (λ c. HasAllOf allowed c) cs) same,

@@ -14,9 +14,9 @@ use Rattle.refute_log.specs.Log.{given}
 use Rattle.hint_log.specs.declared.hint_line.HintLine.{HintLine}
 use Rattle.hint_log.specs.declared.hint_line.HintLine.TheVariants.{Learnt, Refuted}
 use Rattle.hint_log.specs.Hint.{hints_of}
-use Rattle.hint_log.specs.Checked.{learnt_of}
-use Rattle.hint_log.specs.Trimmed.{HintLines, StandAt, AreGood, IsNamed, AreUsed, IsTrimmed, IsHinted, AreRefuted}
-use Rattle.hint_log.specs.Shortened.{is_used, NamesLater, AreMarked, IsRenumbering, learnt_count, number_in, renumbered, shortened, IsShortened}
+use Rattle.hint_log.specs.Checked.{clauses_learnt}
+use Rattle.hint_log.specs.Trimmed.{HintLines, StandAt, AreGood, IsNamedLater, AreUsed, IsTrimmed, IsHinted, AreRefutedLines}
+use Rattle.hint_log.specs.Shortened.{is_used, NamesLater, MarksUsed, IsRenumbering, learnt_among, new_number_in, renumbered, shortened, AreShortened}
 use Rattle.hint_log.proofs.UsedLemmas.{count_is}
 use Rattle.hint_log.proofs.HintedLemmas.{same_line}
 use Rattle.hint_log.proofs.ShortenLemmas.{good_renumbered, renumbering_kept, renumbering_left_out, renumbering_none}
@@ -42,37 +42,37 @@ takes_refuted used numbers last old new rest lits hints e =
     ∙ append_assoc old (Refuted lits (renumbered numbers hints) ∷ []) (shortened used numbers last rest)
 
 -- a clause that a line names that stays is named by a line that is kept
-named_here : (n : ℕ) (line : HintLine) (rest : HintLines) → Contains (hints_of line) n → IsNamed n (line ∷ rest)
+named_here : (n : ℕ) (line : HintLine) (rest : HintLines) → Contains (hints_of line) n → IsNamedLater n (line ∷ rest)
 named_here n line rest h = (0, line, omega arith, refl, h)
 
-named_later : (n : ℕ) (line : HintLine) (rest : HintLines) → IsNamed n rest → IsNamed n (line ∷ rest)
+named_later : (n : ℕ) (line : HintLine) (rest : HintLines) → IsNamedLater n rest → IsNamedLater n (line ∷ rest)
 named_later n line rest a = (suc a.0, a.1, omega (arith, a.2), a.3, a.4)
 
-stays_named : (used : List Bool) (numbers : List ℕ) (last n m : ℕ) (list : HintLines) → length numbers ≡ n + 1 → m ≤ n → NamesLater used m n list → IsNamed (number_in numbers m) (shortened used numbers last list)
+stays_named : (used : List Bool) (numbers : List ℕ) (last n m : ℕ) (list : HintLines) → length numbers ≡ n + 1 → m ≤ n → NamesLater used m n list → IsNamedLater (new_number_in numbers m) (shortened used numbers last list)
 stays_named used numbers last n m [] size le h = absurd h
 stays_named used numbers last n m (Learnt lits hints ∷ rest) size le (inl h) =
     let stays : is_used used (length numbers) ≡ true = ap (is_used used) size ∙ h.0 in
-    subst (λ b. IsNamed (number_in numbers m) (shortened_after used numbers last lits hints rest b)) (sym stays)
-    (named_here (number_in numbers m) (Learnt lits (renumbered numbers hints)) (shortened used (numbers ++ (last + 1) ∷ []) (last + 1) rest) (Contains-map (number_in numbers) hints m h.1))
+    subst (λ b. IsNamedLater (new_number_in numbers m) (shortened_after used numbers last lits hints rest b)) (sym stays)
+    (named_here (new_number_in numbers m) (Learnt lits (renumbered numbers hints)) (shortened used (numbers ++ (last + 1) ∷ []) (last + 1) rest) (Contains-map (new_number_in numbers) hints m h.1))
 stays_named used numbers last n m (Learnt lits hints ∷ rest) size le (inr h) = elim (cases_Bool (is_used used (length numbers))) [
   | inl stays ↦
       let more = numbers ++ (last + 1) ∷ [] in
-      let same : number_in more m ≡ number_in numbers m = get_or_append_left numbers ((last + 1) ∷ []) 0 m (omega (arith, size, le)) in
+      let same : new_number_in more m ≡ new_number_in numbers m = get_or_append_left numbers ((last + 1) ∷ []) 0 m (omega (arith, size, le)) in
       let on = stays_named used more (last + 1) (n + 1) m rest (omega (arith, size, length-append numbers ((last + 1) ∷ []))) (omega (arith, le)) h in
-      subst (λ b. IsNamed (number_in numbers m) (shortened_after used numbers last lits hints rest b)) (sym stays)
-      (named_later (number_in numbers m) (Learnt lits (renumbered numbers hints)) (shortened used more (last + 1) rest) (subst (λ k. IsNamed k (shortened used more (last + 1) rest)) same on))
+      subst (λ b. IsNamedLater (new_number_in numbers m) (shortened_after used numbers last lits hints rest b)) (sym stays)
+      (named_later (new_number_in numbers m) (Learnt lits (renumbered numbers hints)) (shortened used more (last + 1) rest) (subst (λ k. IsNamedLater k (shortened used more (last + 1) rest)) same on))
   | inr out ↦
       let more = numbers ++ 0 ∷ [] in
-      let same : number_in more m ≡ number_in numbers m = get_or_append_left numbers (0 ∷ []) 0 m (omega (arith, size, le)) in
+      let same : new_number_in more m ≡ new_number_in numbers m = get_or_append_left numbers (0 ∷ []) 0 m (omega (arith, size, le)) in
       let on = stays_named used more last (n + 1) m rest (omega (arith, size, length-append numbers (0 ∷ []))) (omega (arith, le)) h in
-      subst (λ b. IsNamed (number_in numbers m) (shortened_after used numbers last lits hints rest b)) (sym out)
-      (subst (λ k. IsNamed k (shortened used more last rest)) same on)
+      subst (λ b. IsNamedLater (new_number_in numbers m) (shortened_after used numbers last lits hints rest b)) (sym out)
+      (subst (λ k. IsNamedLater k (shortened used more last rest)) same on)
 ]
-stays_named used numbers last n m (Refuted lits hints ∷ rest) size le (inl h) = named_here (number_in numbers m) (Refuted lits (renumbered numbers hints)) (shortened used numbers last rest) (Contains-map (number_in numbers) hints m h)
-stays_named used numbers last n m (Refuted lits hints ∷ rest) size le (inr h) = named_later (number_in numbers m) (Refuted lits (renumbered numbers hints)) (shortened used numbers last rest) (stays_named used numbers last n m rest size le h)
+stays_named used numbers last n m (Refuted lits hints ∷ rest) size le (inl h) = named_here (new_number_in numbers m) (Refuted lits (renumbered numbers hints)) (shortened used numbers last rest) (Contains-map (new_number_in numbers) hints m h)
+stays_named used numbers last n m (Refuted lits hints ∷ rest) size le (inr h) = named_later (new_number_in numbers m) (Refuted lits (renumbered numbers hints)) (shortened used numbers last rest) (stays_named used numbers last n m rest size le h)
 
 -- each Learnt line that stays is used
-pub stays_used : (used : List Bool) (numbers : List ℕ) (last n : ℕ) (list : HintLines) → length numbers ≡ n + 1 → AreMarked used n list → AreUsed last (shortened used numbers last list)
+pub stays_used : (used : List Bool) (numbers : List ℕ) (last n : ℕ) (list : HintLines) → length numbers ≡ n + 1 → MarksUsed used n list → AreUsed last (shortened used numbers last list)
 stays_used used numbers last n [] size h = tt
 stays_used used numbers last n (Learnt lits hints ∷ rest) size h = elim (cases_Bool (is_used used (length numbers))) [
   | inl stays ↦
@@ -81,9 +81,9 @@ stays_used used numbers last n (Learnt lits hints ∷ rest) size h = elim (cases
       let mark : is_used used (n + 1) ≡ true = ap (is_used used) (sym size) ∙ stays in
       let was = h.0 mark in
       let named = stays_named used more (last + 1) (n + 1) (n + 1) rest longer (omega arith) was.1 in
-      let is : number_in more (n + 1) ≡ last + 1 = get_or_push numbers (last + 1) 0 (n + 1) (omega (arith, size)) in
+      let is : new_number_in more (n + 1) ≡ last + 1 = get_or_push numbers (last + 1) 0 (n + 1) (omega (arith, size)) in
       subst (λ b. AreUsed last (shortened_after used numbers last lits hints rest b)) (sym stays)
-      (subst (λ k. IsNamed k (shortened used more (last + 1) rest)) is named, stays_used used more (last + 1) (n + 1) rest longer h.1)
+      (subst (λ k. IsNamedLater k (shortened used more (last + 1) rest)) is named, stays_used used more (last + 1) (n + 1) rest longer h.1)
   | inr out ↦
       subst (λ b. AreUsed last (shortened_after used numbers last lits hints rest b)) (sym out)
       (stays_used used (numbers ++ 0 ∷ []) last (n + 1) rest (omega (arith, size, length-append numbers (0 ∷ []))) h.1)
@@ -91,7 +91,7 @@ stays_used used numbers last n (Learnt lits hints ∷ rest) size h = elim (cases
 stays_used used numbers last n (Refuted lits hints ∷ rest) size h = stays_used used numbers last n rest size h.1
 
 -- the lines that stay are good
-pub stays_good : (used : List Bool) (numbers : List ℕ) (last n : ℕ) (old new : Clauses) (list : HintLines) → n ≡ length old → last ≡ length new → length numbers ≡ n + 1 → IsRenumbering used old new (number_in numbers) → AreMarked used n list → AreGood old list → AreGood new (shortened used numbers last list)
+pub stays_good : (used : List Bool) (numbers : List ℕ) (last n : ℕ) (old new : Clauses) (list : HintLines) → n ≡ length old → last ≡ length new → length numbers ≡ n + 1 → IsRenumbering used old new (new_number_in numbers) → MarksUsed used n list → AreGood old list → AreGood new (shortened used numbers last list)
 stays_good used numbers last n old new [] count kept size same h good = tt
 stays_good used numbers last n old new (Learnt lits hints ∷ rest) count kept size same h good =
     let places : length numbers ≡ length old + 1 = size ∙ ap (λ k. k + 1) count in
@@ -101,9 +101,9 @@ stays_good used numbers last n old new (Learnt lits hints ∷ rest) count kept s
           let more = numbers ++ (last + 1) ∷ [] in
           let mark : is_used used (n + 1) ≡ true = ap (is_used used) (sym size) ∙ stays in
           let was = h.0 mark in
-          let after : IsRenumbering used (old ++ lits ∷ []) (new ++ lits ∷ []) (number_in more) = subst (λ k. IsRenumbering used (old ++ lits ∷ []) (new ++ lits ∷ []) (number_in (numbers ++ (k + 1) ∷ []))) (sym kept) (renumbering_kept used old new numbers lits places same) in
+          let after : IsRenumbering used (old ++ lits ∷ []) (new ++ lits ∷ []) (new_number_in more) = subst (λ k. IsRenumbering used (old ++ lits ∷ []) (new ++ lits ∷ []) (new_number_in (numbers ++ (k + 1) ∷ []))) (sym kept) (renumbering_kept used old new numbers lits places same) in
           subst (λ b. AreGood new (shortened_after used numbers last lits hints rest b)) (sym stays) (
-            good_renumbered used old new (number_in numbers) same lits hints was.0 good.0,
+            good_renumbered used old new (new_number_in numbers) same lits hints was.0 good.0,
             stays_good used more (last + 1) (n + 1) (old ++ lits ∷ []) (new ++ lits ∷ []) rest next (omega (arith, kept, length-append new (lits ∷ []))) (omega (arith, size, length-append numbers ((last + 1) ∷ []))) after h.1 good.1,
           )
       | inr out ↦
@@ -113,7 +113,7 @@ stays_good used numbers last n old new (Learnt lits hints ∷ rest) count kept s
           (stays_good used more last (n + 1) (old ++ lits ∷ []) new rest next kept (omega (arith, size, length-append numbers (0 ∷ []))) (renumbering_left_out used old new numbers lits places left same) h.1 good.1)
     ]
 stays_good used numbers last n old new (Refuted lits hints ∷ rest) count kept size same h good = (
-  good_renumbered used old new (number_in numbers) same lits hints h.0 good.0,
+  good_renumbered used old new (new_number_in numbers) same lits hints h.0 good.0,
   subst (λ (cs : Clauses). AreGood cs (shortened used numbers last rest)) (sym (append-nil new))
       (stays_good used numbers last n old new rest count kept size same h.1 (subst (λ (cs : Clauses). AreGood cs rest) (append-nil old) good.1)),
 )
@@ -154,14 +154,14 @@ is_refuted (RefutedLine d) = true
 is_refuted ModelLine = false
 
 -- a Learnt line isn't wanted
-not_wanted : (lines : Lines) (wanted : List ℕ) (p : ℕ) (c : List Literal) → AreRefuted lines wanted → slice_get lines p ≡ Some (LearntLine c) → Contains wanted p → ⊥
+not_wanted : (lines : Lines) (wanted : List ℕ) (p : ℕ) (c : List Literal) → AreRefutedLines lines wanted → slice_get lines p ≡ Some (LearntLine c) → Contains wanted p → ⊥
 not_wanted lines wanted p c refuted e asked =
     let r = refuted p asked in
     let same : LearntLine c ≡ RefutedLine r.0 = same_line lines p (LearntLine c) (RefutedLine r.0) e r.1 in
     let yes : false ≡ true = ap is_refuted same in
     both_ways true (sym yes) refl
 
-pub stays_at : (lines : Lines) (wanted : List ℕ) (used : List Bool) (numbers : List ℕ) (last low high : ℕ) (places : List ℕ) (list : HintLines) → AreRefuted lines wanted → StandAt lines wanted low high places list → StaysAt lines wanted low high places (shortened used numbers last list)
+pub stays_at : (lines : Lines) (wanted : List ℕ) (used : List Bool) (numbers : List ℕ) (last low high : ℕ) (places : List ℕ) (list : HintLines) → AreRefutedLines lines wanted → StandAt lines wanted low high places list → StaysAt lines wanted low high places (shortened used numbers last list)
 stays_at lines wanted used numbers last low high [] [] refuted h = record { places = []; stand = h; all = λ p asked among. among }
 stays_at lines wanted used numbers last low high (p ∷ places) (Learnt lits hints ∷ rest) refuted h = elim (cases_Bool (is_used used (length numbers))) [
   | inl stays ↦
@@ -198,11 +198,11 @@ stand_below lines wanted low high top [] (line ∷ rest) le h = absurd h
 stand_below lines wanted low high top (p ∷ places) [] le h = absurd h
 
 -- lines are hinted up to a place behind all that are wanted
-pub trimmed : (lines : Lines) (wanted : List ℕ) (i : ℕ) (clauses : Clauses) (count : ℕ) (list kept : HintLines) → AreRefuted lines wanted → i ≤ length lines → All (λ p. p < i) wanted → count ≡ length (flat_map given lines) → IsHinted lines wanted i clauses list → IsShortened count list kept → IsTrimmed lines wanted kept
+pub trimmed : (lines : Lines) (wanted : List ℕ) (i : ℕ) (clauses : Clauses) (count : ℕ) (list kept : HintLines) → AreRefutedLines lines wanted → i ≤ length lines → All (λ p. p < i) wanted → count ≡ length (flat_map given lines) → IsHinted lines wanted i clauses list → AreShortened count list kept → IsTrimmed lines wanted kept
 trimmed lines wanted i clauses count list kept refuted within behind e h s =
     let first = flat_map given lines in
     let at = stays_at lines wanted s.used s.numbers count 0 i h.places list refuted h.stand in
-    let same : IsRenumbering s.used first first (number_in s.numbers) = renumbering_none s.used first s.numbers (λ m le. s.same m (omega (arith, le, e))) in
+    let same : IsRenumbering s.used first first (new_number_in s.numbers) = renumbering_none s.used first s.numbers (λ m le. s.same m (omega (arith, le, e))) in
     subst (λ (ls : HintLines). IsTrimmed lines wanted ls) (sym s.is) (record {
       places = at.places;
       stand = stand_below lines wanted 0 i (length lines) at.places (shortened s.used s.numbers count list) within at.stand;
@@ -211,8 +211,8 @@ trimmed lines wanted i clauses count list kept refuted within behind e h s =
       good = stays_good s.used s.numbers count count first first list e e s.size same s.marked h.good;
     })
 
-pub hinted_count : (lines : Lines) (wanted : List ℕ) (i : ℕ) (clauses : Clauses) (list : HintLines) → IsHinted lines wanted i clauses list → length clauses ≡ length (flat_map given lines) + learnt_count list
+pub hinted_count : (lines : Lines) (wanted : List ℕ) (i : ℕ) (clauses : Clauses) (list : HintLines) → IsHinted lines wanted i clauses list → length clauses ≡ length (flat_map given lines) + learnt_among list
 hinted_count lines wanted i clauses list h =
     ap (λ (cs : Clauses). length cs) (h.clauses_are ∙ ap (λ (cs : Clauses). flat_map given lines ++ cs) (sym h.learnt_are))
-    ∙ length-append (flat_map given lines) (flat_map learnt_of list)
+    ∙ length-append (flat_map given lines) (flat_map clauses_learnt list)
     ∙ ap (λ n. length (flat_map given lines) + n) (count_is list)

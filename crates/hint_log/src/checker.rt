@@ -3,9 +3,9 @@ ghost use Rattle.std.specs.Prelude.{◌≡◌, ◌≤◌, ◌<◌, ◌↔◌, �
 ghost use Rattle.std.specs.Prelude.{IsErrOf, map, length, true, false};
 ghost use Rattle.cnf_core.specs.Lit.{negate};
 ghost use Rattle.cnf_core.specs.Clause.{AreDistinct, words_of};
-ghost use Rattle.hint_log.specs.Hint.{FailsAt, lits_of, hints_of};
-ghost use Rattle.hint_log.specs.Looks.{IsVerdict};
-ghost use Rattle.hint_log.specs.Checked.{Accepts, PassesRoom, IsAnswer, Refutes};
+ghost use Rattle.hint_log.specs.Hint.{FailsAt, shown_lits, hints_of};
+ghost use Rattle.hint_log.specs.Looks.{IsHintVerdict};
+ghost use Rattle.hint_log.specs.Checked.{AcceptsHint, PassesHintRoom, IsHintAnswer, RefutesByHints};
 
 use crate::HintFault;
 use crate::hint_line::{HintLine, Numbers};
@@ -17,7 +17,7 @@ use refute_log::are_among;
 use std::alloc::Global;
 use std::marker::Model;
 
-/// Accepts hinted lines that are good after those that it accepted before.
+/// AcceptsHint hinted lines that are good after those that it accepted before.
 #[derive(Drop)]
 pub struct HintChecker {
     alloc: Global,
@@ -40,7 +40,7 @@ impl Model for HintChecker {
 }
 
 impl HintChecker {
-    /// Accepts lines over the clauses of this formula, as long as the words of these and of the Learnt
+    /// AcceptsHint lines over the clauses of this formula, as long as the words of these and of the Learnt
     /// lines are at most `room`. Where memory can't be had, the formula is dropped.
     pub fn new(alloc: Global, f: Formula, room: u32) -> Result<HintChecker, OutOfMemory>
         ensures room { IfOk result (λ c. c.room ≡ room) }
@@ -64,7 +64,7 @@ impl HintChecker {
     fn judge(&mut self, lits: &[Lit], hints: &[u32]) -> Result<Option<u32>, OutOfMemory>
         requires { length hints.now < 2 ^ 32 }
         ensures same { self.new ≡ self.old }
-        ensures verdict { IfOk result (IsVerdict self.old.clauses (map negate lits.now) hints.now) }
+        ensures verdict { IfOk result (IsHintVerdict self.old.clauses (map negate lits.now) hints.now) }
     {
         let answer = judge(&self.given, &self.learnt, &mut self.marks, lits, hints);
         self.marks.clear();
@@ -105,10 +105,10 @@ impl HintChecker {
         Ok(())
     }
 
-    /// Accepts a Learnt line, or says why not.
+    /// AcceptsHint a Learnt line, or says why not.
     fn feed_learnt(&mut self, lits: &Clause, hints: &Numbers) -> Result<(), HintFault>
         requires { length hints.now < 2 ^ 32 }
-        ensures { IsAnswer self.old self.new (HintLine.Learnt lits.now hints.now) result }
+        ensures { IsHintAnswer self.old self.new (HintLine.Learnt lits.now hints.now) result }
     {
         let clause = lits.as_slice();
         match self.judge(clause, hints.as_slice())? {
@@ -123,10 +123,10 @@ impl HintChecker {
         }
     }
 
-    /// Accepts a Refuted line, or says why not.
+    /// AcceptsHint a Refuted line, or says why not.
     fn feed_refuted(&mut self, lits: &Clause, hints: &Numbers) -> Result<(), HintFault>
         requires { length hints.now < 2 ^ 32 }
-        ensures { IsAnswer self.old self.new (HintLine.Refuted lits.now hints.now) result }
+        ensures { IsHintAnswer self.old self.new (HintLine.Refuted lits.now hints.now) result }
     {
         let clause = lits.as_slice();
         match self.judge(clause, hints.as_slice())? {
@@ -138,14 +138,14 @@ impl HintChecker {
         }
     }
 
-    /// Accepts the line where it is good after the lines that were accepted before and there is room for
+    /// AcceptsHint the line where it is good after the lines that were accepted before and there is room for
     /// it. A refused line isn't kept.
     pub fn feed(&mut self, line: &HintLine) -> Result<(), HintFault>
         requires { length (hints_of line.now) < 2 ^ 32 }
-        ensures ok { OnOk result (Accepts self.old self.new line.now) }
+        ensures ok { OnOk result (AcceptsHint self.old self.new line.now) }
         ensures bad { IfErr result (λ e. (k : ℕ) → e ≡ HintFault.BadHint k →
-            FailsAt self.old.clauses (lits_of line.now) (hints_of line.now) k) }
-        ensures room { IsErrOf result HintFault.Room → PassesRoom self.old line.now }
+            FailsAt self.old.clauses (shown_lits line.now) (hints_of line.now) k) }
+        ensures room { IsErrOf result HintFault.Room → PassesHintRoom self.old line.now }
         ensures refused { OnErr result (self.new ≡ self.old) }
     {
         match line {
@@ -156,7 +156,7 @@ impl HintChecker {
 
     /// Whether an accepted Refuted line has only literals among the allowed ones.
     pub fn verdict(&self, allowed: &[Lit]) -> bool
-        ensures { IsTrue result ↔ Refutes self.now allowed.now }
+        ensures { IsTrue result ↔ RefutesByHints self.now allowed.now }
     {
         for clause in &self.refuted {
             if are_among(clause.as_slice(), allowed) {

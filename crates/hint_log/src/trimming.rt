@@ -4,7 +4,7 @@ ghost use Rattle.std.specs.Prelude.{flat_map};
 ghost use Rattle.cnf_core.specs.Clause.{AreThere};
 ghost use Rattle.refute_log.specs.Log.{Derives, given};
 ghost use Rattle.hint_log.specs.Found.{IsFinder};
-ghost use Rattle.hint_log.specs.Trimmed.{IsTrimmed, IsHinted, AreRefuted, IsWithin, MayBeHinted, AddsLearnt};
+ghost use Rattle.hint_log.specs.Trimmed.{IsTrimmed, IsHinted, AreRefutedLines, IsLineWithin, MayBeHinted, AddsLearnt};
 ghost use Rattle.hint_log.specs.Trimmed.{AddsRefuted};
 
 use crate::finder::Finder;
@@ -29,7 +29,7 @@ fn greatest(lits: &[Lit]) -> u32
 
 /// The greatest variable of the line's clause, or 0 where there is none.
 fn greatest_in(line: &LogLine) -> u32
-    ensures within { IsWithin result line.now }
+    ensures within { IsLineWithin result line.now }
     ensures limit { result ≤ LAST_VAR }
 {
     match line {
@@ -42,7 +42,7 @@ fn greatest_in(line: &LogLine) -> u32
 
 /// The greatest variable of the lines' clauses, or 0 where there is none.
 fn greatest_of(lines: &LineList) -> u32
-    ensures within { All (IsWithin result) lines.now }
+    ensures within { All (IsLineWithin result) lines.now }
     ensures limit { result ≤ LAST_VAR }
 {
     let mut most = 0;
@@ -54,7 +54,7 @@ fn greatest_of(lines: &LineList) -> u32
 
 /// The place behind the last of the lines that are wanted.
 fn behind_last(lines: &LineList, wanted: &[u32]) -> usize
-    requires { AreRefuted lines.now wanted.now }
+    requires { AreRefutedLines lines.now wanted.now }
     ensures all { All (λ p. p < result) wanted.now }
     ensures within { result ≤ length lines.now }
 {
@@ -69,7 +69,7 @@ fn behind_last(lines: &LineList, wanted: &[u32]) -> usize
 /// Takes the clause of a Formula line.
 fn take_line(alloc: Global, finder: &mut Finder, line: &LogLine) -> Result<(), OutOfMemory>
     requires finder { IsFinder finder.old }
-    requires within { IsWithin finder.old.formula.vars line.now }
+    requires within { IsLineWithin finder.old.formula.vars line.now }
     ensures finder { OnOk result (IsFinder finder.new) }
     ensures vars { OnOk result (finder.new.formula.vars ≡ finder.old.formula.vars) }
     ensures clauses { OnOk result (finder.new.formula.clauses ≡ finder.old.formula.clauses ++ given line.now) }
@@ -86,7 +86,7 @@ fn take_line(alloc: Global, finder: &mut Finder, line: &LogLine) -> Result<(), O
 /// Takes the clauses of the Formula lines.
 fn take_given(alloc: Global, finder: &mut Finder, lines: &LineList) -> Result<(), OutOfMemory>
     requires finder { IsFinder finder.old }
-    requires within { All (IsWithin finder.old.formula.vars) lines.now }
+    requires within { All (IsLineWithin finder.old.formula.vars) lines.now }
     requires none { finder.old.formula.clauses ≡ [] }
     ensures finder { OnOk result (IsFinder finder.new) }
     ensures vars { OnOk result (finder.new.formula.vars ≡ finder.old.formula.vars) }
@@ -164,10 +164,10 @@ fn hint_at(
     list: &mut HintList,
 ) -> Result<(), OutOfMemory>
     requires derives { Derives lines.now }
-    requires wanted { AreRefuted lines.now wanted.now }
+    requires wanted { AreRefutedLines lines.now wanted.now }
     requires place { i < length lines.now }
     requires finder { IsFinder finder.old }
-    requires within { All (IsWithin finder.old.formula.vars) lines.now }
+    requires within { All (IsLineWithin finder.old.formula.vars) lines.now }
     requires hinted { IsHinted lines.now wanted.now i finder.old.formula.clauses list.old }
     ensures finder { OnOk result (IsFinder finder.new) }
     ensures vars { OnOk result (finder.new.formula.vars ≡ finder.old.formula.vars) }
@@ -198,7 +198,7 @@ fn hint_at(
 /// a clause of fewer than two literals counts as one of two.
 pub fn trim(alloc: Global, lines: &LineList, wanted: &[u32]) -> Result<HintList, OutOfMemory>
     requires derives { Derives lines.now }
-    requires wanted { AreRefuted lines.now wanted.now }
+    requires wanted { AreRefutedLines lines.now wanted.now }
     ensures { IfOk result (IsTrimmed lines.now wanted.now) }
 {
     let vars = greatest_of(lines);

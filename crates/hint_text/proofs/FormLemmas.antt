@@ -31,7 +31,7 @@ use Rattle.hint_text.specs.HintText.{IsClauseNumber, number_fields}
 use Rattle.hint_text.specs.HintForm.{NoneIsZero, EndsAtZero, HintForm, IsOfHintForm}
 use Rattle.hint_text.specs.declared.fault.HintTextFault.{HintTextFault}
 use Rattle.hint_text.specs.declared.fault.HintTextFault.TheVariants.{Hints, Memory}
-use Rattle.hint_text.specs.HintFaults.{SpellsHint, IsHintOf, HasHintFault, IsHintWhere}
+use Rattle.hint_text.specs.HintFaults.{SpellsHint, IsHintOf, HasHintTextFault, IsHintWhere}
 use Rattle.hint_text.specs.Parts.{IsCutBehindZero, NoZeroBefore, LacksZero, BeginsHinted, HasHintNumbers, HasNumberFields, HasWrongNumbers, LacksNumbers, IsFormFor, IsUnjoined, fault_of}
 use Rattle.hint_text.proofs.CutLemmas.{not_before_letter, none_is_zero, SameCuts, cut_once}
 
@@ -76,7 +76,7 @@ pub has_cut : (text : List ℕ) (form : HintForm) → IsOfHintForm text form →
 has_cut text form h = form_cut text form.line form.numbers h.is_form h.first h.spelled
 
 -- so without a cut there is no form, and with one the form has its parts
-pub no_cut_no_form : (text : List ℕ) → LacksZero text → HasHintFault text Form
+pub no_cut_no_form : (text : List ℕ) → LacksZero text → HasHintTextFault text Form
 no_cut_no_form text none = λ form h. let cut = has_cut text form h in none cut.before (fields_left form.numbers) cut.spelled
 
 parts_of : (text front rest : List ℕ) (form : HintForm) → IsCutBehindZero text front rest → IsOfHintForm text form → SameCuts front (form_text form.line) rest (fields_left form.numbers)
@@ -163,7 +163,7 @@ number_fields_of rest ns h = record { some = some_decimals ns h.some; has = reco
 
 -- ---- the faults of the parts are those of the whole
 
-pub unhinted_form : (text front rest : List ℕ) → IsCutBehindZero text front rest → (BeginsHinted front → ⊥) → HasHintFault text Form
+pub unhinted_form : (text front rest : List ℕ) → IsCutBehindZero text front rest → (BeginsHinted front → ⊥) → HasHintTextFault text Form
 unhinted_form text front rest cut not = λ form h. let p = parts_of text front rest form cut h in not (begins form.line h.first p.front_is)
   where
     begins : (line : LineForm) → EndsAtZero line → front ≡ form_text line → BeginsHinted front
@@ -174,24 +174,24 @@ unhinted_form text front rest cut not = λ form h. let p = parts_of text front r
     begins (QueryForm fields) none e = absurd none
     begins ModelForm none e = absurd none
 
-pub numbers_form : (text front rest : List ℕ) → IsCutBehindZero text front rest → LacksNumbers rest → HasHintFault text Form
+pub numbers_form : (text front rest : List ℕ) → IsCutBehindZero text front rest → LacksNumbers rest → HasHintTextFault text Form
 numbers_form text front rest cut lacks = λ form h.
     let p = parts_of text front rest form cut h in
     lacks form.numbers (record { some = h.some; has = record { numbers = h.numbers; spelled = p.rest_is } })
 
-line_form : (text front rest : List ℕ) → IsCutBehindZero text front rest → HasLineFault front logs.Form → HasHintFault text Form
+line_form : (text front rest : List ℕ) → IsCutBehindZero text front rest → HasLineFault front logs.Form → HasHintTextFault text Form
 line_form text front rest cut fault = λ form h. let p = parts_of text front rest form cut h in fault form.line (record { is_form = h.is_form; spelled = p.front_is })
 
-line_number : (text front rest : List ℕ) (fields : List Field) → IsCutBehindZero text front rest → BeginsHinted front → HasLineFault front logs.Number → HasNumberFields rest fields → HasHintFault text Number
+line_number : (text front rest : List ℕ) (fields : List Field) → IsCutBehindZero text front rest → BeginsHinted front → HasLineFault front logs.Number → HasNumberFields rest fields → HasHintTextFault text Number
 line_number text front rest fields cut begins fault n =
     (record { line = fault.0; numbers = fields }, whole_form text front rest fault.0 fields cut begins fault.1 n, λ right. fault.2 right.literals)
 
-wrong_number : (text front rest : List ℕ) (read : LogLine) → IsCutBehindZero text front rest → BeginsHinted front → SpellsLine front read → HasWrongNumbers rest → HasHintFault text Number
+wrong_number : (text front rest : List ℕ) (read : LogLine) → IsCutBehindZero text front rest → BeginsHinted front → SpellsLine front read → HasWrongNumbers rest → HasHintTextFault text Number
 wrong_number text front rest read cut begins s w =
     let form = (right_form front).1 (read, s) in
     (record { line = form.0; numbers = w.fields }, whole_form text front rest form.0 w.fields cut begins form.1 w.has, λ right. w.wrong right.hints)
 
-line_twice : (text front rest ns : List ℕ) (read : LogLine) → IsCutBehindZero text front rest → BeginsHinted front → SpellsLine front read → (NamesOnce read → ⊥) → HasHintNumbers rest ns → HasHintFault text Twice
+line_twice : (text front rest ns : List ℕ) (read : LogLine) → IsCutBehindZero text front rest → BeginsHinted front → SpellsLine front read → (NamesOnce read → ⊥) → HasHintNumbers rest ns → HasHintTextFault text Twice
 line_twice text front rest ns (Learnt c) cut begins s not n = let h : HintLine = hints.Learnt c ns in (h, spells_hint text front rest h cut s n, not)
 line_twice text front rest ns (Refuted c) cut begins s not n = let h : HintLine = hints.Refuted c ns in (h, spells_hint text front rest h cut s n, not)
 line_twice text front rest ns (Formula c) cut begins s not n = absurd (unhinted front (Formula c) tt begins s)
@@ -200,7 +200,7 @@ line_twice text front rest ns (Query c) cut begins s not n = absurd (unhinted fr
 line_twice text front rest ns Model cut begins s not n = absurd (unhinted front Model tt begins s)
 
 pub part_fault : (text front rest : List ℕ) (found : Option (List ℕ)) (right : Bool) (what : LogWhat) → right ≡ is_some found → IsCutBehindZero text front rest → BeginsHinted front → MatchOption found (HasWrongNumbers rest) (HasHintNumbers rest) → HasLineFault front what →
-    HasHintFault text (fault_of what right)
+    HasHintTextFault text (fault_of what right)
 part_fault text front rest found right logs.Header is cut begins m fault = fault
 part_fault text front rest found right logs.Form is cut begins m fault = line_form text front rest cut fault
 part_fault text front rest None right logs.Number is cut begins m fault = line_number text front rest m.fields cut begins fault m.has
@@ -218,7 +218,7 @@ joined text front rest h read found line hints cut t m =
     let is : IsTextOf front (line_of h) = subst (IsTextOf front) (sym line) t in
     record { spells = spells_hint text front rest h cut is.spells numbers; once = is.once }
 
-pub unjoined : (text front rest : List ℕ) (read : LogLine) (found : Option (List ℕ)) (what : HintsWhat) → IsCutBehindZero text front rest → BeginsHinted front → IsTextOf front read → MatchOption found (HasWrongNumbers rest) (HasHintNumbers rest) → IsUnjoined read found what → HasHintFault text what
+pub unjoined : (text front rest : List ℕ) (read : LogLine) (found : Option (List ℕ)) (what : HintsWhat) → IsCutBehindZero text front rest → BeginsHinted front → IsTextOf front read → MatchOption found (HasWrongNumbers rest) (HasHintNumbers rest) → IsUnjoined read found what → HasHintTextFault text what
 unjoined text front rest (Learnt c) found Form cut begins t m not = absurd (not (hints.Learnt c []) refl)
 unjoined text front rest (Refuted c) found Form cut begins t m not = absurd (not (hints.Refuted c []) refl)
 unjoined text front rest (Formula c) found Form cut begins t m not = absurd (unhinted front (Formula c) tt begins t.spells)
@@ -234,7 +234,7 @@ unjoined text front rest read found Range cut begins t m h = h
 
 -- the fault of a text that is so cut
 abbrev IsCutFault : List ℕ → List ℕ → HintsWhat → Type 0
-IsCutFault front rest what = (text : List ℕ) → IsCutBehindZero text front rest → HasHintFault text what
+IsCutFault front rest what = (text : List ℕ) → IsCutBehindZero text front rest → HasHintTextFault text what
 
 pub numbers_fault : (front rest : List ℕ) (line : ℕ) (fault : HintTextFault) → IsHintWhere (IsFormFor (LacksNumbers rest)) line fault → IsHintWhere (IsCutFault front rest) line fault
 numbers_fault front rest line (Hints Form n) h = (h.0, λ text cut. numbers_form text front rest cut h.1)

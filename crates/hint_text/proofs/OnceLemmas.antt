@@ -26,7 +26,7 @@ use Rattle.hint_text.specs.declared.fault.HintTextFault.{HintTextFault}
 use Rattle.hint_text.specs.declared.fault.HintTextFault.TheVariants.{Hints, Memory}
 use Rattle.hint_text.specs.HintText.{IsClauseNumber, MayBeWritten, hint_text, number_fields}
 use Rattle.hint_text.specs.HintForm.{NoneIsZero, EndsAtZero, HintForm, IsOfHintForm, HasRightHintNumbers}
-use Rattle.hint_text.specs.HintFaults.{SpellsHint, IsHintOf, HasHintFault, IsHintWhere, IsHintFault}
+use Rattle.hint_text.specs.HintFaults.{SpellsHint, IsHintOf, HasHintTextFault, IsHintWhere, IsHintTextFault}
 use Rattle.hint_text.specs.Parts.{BeginsHinted}
 use Rattle.hint_text.proofs.CutLemmas.{cut_once}
 use Rattle.hint_text.proofs.FormLemmas.{has_cut, behind_space, other_letter, decimals_are_numbers, some_decimals}
@@ -129,23 +129,23 @@ hint_once text a b h k =
 
 -- ---- one fault or none
 
-no_form_no_line : (text : List ℕ) (line : HintLine) → SpellsHint text line → HasHintFault text Form → ⊥
+no_form_no_line : (text : List ℕ) (line : HintLine) → SpellsHint text line → HasHintTextFault text Form → ⊥
 no_form_no_line text line s f = let r = right_form_of text line s in f r.form r.has
 
-wrong_number_no_line : (text : List ℕ) (line : HintLine) → SpellsHint text line → HasHintFault text Number → ⊥
+wrong_number_no_line : (text : List ℕ) (line : HintLine) → SpellsHint text line → HasHintTextFault text Number → ⊥
 wrong_number_no_line text line s f = let r = right_form_of text line s in f.2 (subst HasRightHintNumbers (form_once text r.form f.0 r.has f.1) r.right)
 
 abbrev NamesHintOnce : HintLine → Type 0
 NamesHintOnce line = NamesOnce (line_of line)
 
-pub hint_no_fault : (text : List ℕ) (line : HintLine) (what : HintsWhat) → IsHintOf text line → HasHintFault text what → ⊥
+pub hint_no_fault : (text : List ℕ) (line : HintLine) (what : HintsWhat) → IsHintOf text line → HasHintTextFault text what → ⊥
 hint_no_fault text line Header t f = f
 hint_no_fault text line Form t f = no_form_no_line text line t.spells f
 hint_no_fault text line Number t f = wrong_number_no_line text line t.spells f
 hint_no_fault text line Twice t f = f.2 (subst NamesHintOnce (hint_once text line f.0 t.spells f.1) t.once)
 hint_no_fault text line Range t f = f
 
-pub fault_once : (text : List ℕ) (a b : HintsWhat) → HasHintFault text a → HasHintFault text b → a ≡ b
+pub fault_once : (text : List ℕ) (a b : HintsWhat) → HasHintTextFault text a → HasHintTextFault text b → a ≡ b
 fault_once text Form Form f g = refl
 fault_once text Form Number f g = absurd (f g.0 g.1)
 fault_once text Form Twice f g = absurd (no_form_no_line text g.0 g.1 f)
@@ -165,22 +165,22 @@ fault_once text Twice Header f g = absurd g
 fault_once text Twice Range f g = absurd g
 
 -- so an answer that is right is the only one
-fault_at_once : (text : List ℕ) (number : ℕ) (e f : HintTextFault) → IsHintFault text number e → IsHintFault text number f → e ≡ f
+fault_at_once : (text : List ℕ) (number : ℕ) (e f : HintTextFault) → IsHintTextFault text number e → IsHintTextFault text number f → e ≡ f
 fault_at_once text number (Hints a m) (Hints b n) h k = let same : a ≡ b = fault_once text a b h.1 k.1 in cc (same, h.0, k.0)
 fault_at_once text number (Hints a m) Memory h k = absurd k
 fault_at_once text number Memory f h k = absurd h
 
-not_line_and_fault : (text : List ℕ) (number : ℕ) (line : HintLine) (f : HintTextFault) → IsHintOf text line → IsHintFault text number f → ⊥
+not_line_and_fault : (text : List ℕ) (number : ℕ) (line : HintLine) (f : HintTextFault) → IsHintOf text line → IsHintTextFault text number f → ⊥
 not_line_and_fault text number line (Hints what n) t h = hint_no_fault text line what t h.1
 not_line_and_fault text number line Memory t h = h
 
-want_or_fault : (text : List ℕ) (number : ℕ) (r : Result HintLine HintTextFault) → IfErr r (IsHintWhere (HasHintFault text) number) → IfErr r (λ e. (e ≡ Memory) ⊎ IsHintFault text number e)
+want_or_fault : (text : List ℕ) (number : ℕ) (r : Result HintLine HintTextFault) → IfErr r (IsHintWhere (HasHintTextFault text) number) → IfErr r (λ e. (e ≡ Memory) ⊎ IsHintTextFault text number e)
 want_or_fault text number (Ok line) h = tt
 want_or_fault text number (Err (Hints what n)) h = inr h
 want_or_fault text number (Err Memory) h = inl refl
 
-pub read_exactly : (text : List ℕ) (number : ℕ) (r : Result HintLine HintTextFault) → IfOk r (IsHintOf text) → IfErr r (IsHintWhere (HasHintFault text) number) → AnswersExactly r Memory (IsHintOf text) (IsHintFault text number)
-read_exactly text number r line fault = answers_exactly r Memory (IsHintOf text) (IsHintFault text number) line (want_or_fault text number r fault)
+pub read_exactly : (text : List ℕ) (number : ℕ) (r : Result HintLine HintTextFault) → IfOk r (IsHintOf text) → IfErr r (IsHintWhere (HasHintTextFault text) number) → AnswersExactly r Memory (IsHintOf text) (IsHintTextFault text number)
+read_exactly text number r line fault = answers_exactly r Memory (IsHintOf text) (IsHintTextFault text number) line (want_or_fault text number r fault)
     (λ a b h k. hint_once text a b h.spells k.spells) (fault_at_once text number) (not_line_and_fault text number)
 
 -- ---- a line has no line feed within

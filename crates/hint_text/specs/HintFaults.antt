@@ -22,12 +22,12 @@ pub record IsHintOf (text : List ℕ) (line : HintLine) : Type 0 where
 
 -- no form has the text; a form has it, but some number isn't right; a line has it, but some variable stands twice among
 -- its literals
-abbrev pub HasHintFault : List ℕ → HintsWhat → Type 0
-HasHintFault text Header = ⊥
-HasHintFault text Form = (form : HintForm) → IsOfHintForm text form → ⊥
-HasHintFault text Number = (form : HintForm) × IsOfHintForm text form × (HasRightHintNumbers form → ⊥)
-HasHintFault text Twice = (line : HintLine) × SpellsHint text line × (NamesOnce (line_of line) → ⊥)
-HasHintFault text Range = ⊥
+abbrev pub HasHintTextFault : List ℕ → HintsWhat → Type 0
+HasHintTextFault text Header = ⊥
+HasHintTextFault text Form = (form : HintForm) → IsOfHintForm text form → ⊥
+HasHintTextFault text Number = (form : HintForm) × IsOfHintForm text form × (HasRightHintNumbers form → ⊥)
+HasHintTextFault text Twice = (line : HintLine) × SpellsHint text line × (NamesOnce (line_of line) → ⊥)
+HasHintTextFault text Range = ⊥
 
 -- want of memory, or such a fault at this line
 abbrev pub IsHintWhere : (HintsWhat → Type 0) → ℕ → HintTextFault → Type 0
@@ -35,9 +35,9 @@ IsHintWhere Has number (Hints what line) = (line ≡ number) × Has what
 IsHintWhere Has number Memory = ⊤
 
 -- the fault of the text, which names the line by its number; want of memory is none
-abbrev pub IsHintFault : List ℕ → ℕ → HintTextFault → Type 0
-IsHintFault text number (Hints what line) = (line ≡ number) × HasHintFault text what
-IsHintFault text number Memory = ⊥
+abbrev pub IsHintTextFault : List ℕ → ℕ → HintTextFault → Type 0
+IsHintTextFault text number (Hints what line) = (line ≡ number) × HasHintTextFault text what
+IsHintTextFault text number Memory = ⊥
 
 abbrev pub number_of : HintsWhat → ℕ
 number_of Header = 1

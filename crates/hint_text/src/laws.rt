@@ -7,7 +7,7 @@ ghost use Rattle.hint_log.specs.declared.hint_line.HintLine.{HintLine as Line};
 ghost use Rattle.hint_text.specs.declared.fault.HintsWhat.{HintsWhat as What};
 ghost use Rattle.hint_text.specs.HintText.{MayBeWritten, hint_text, ended_hint, caps_text};
 ghost use Rattle.hint_text.specs.HintForm.{HintForm, IsOfHintForm};
-ghost use Rattle.hint_text.specs.HintFaults.{SpellsHint, IsHintOf, HasHintFault};
+ghost use Rattle.hint_text.specs.HintFaults.{SpellsHint, IsHintOf, HasHintTextFault};
 ghost use Rattle.hint_text.specs.Caps.{AreSmallCaps, IsCapsText, HasCapsFault, AreCapsOf};
 
 /// A text has one form at most.
@@ -22,8 +22,8 @@ pub fn one_hinted_line()
 
 /// A text has one fault at most, and none where it is that of a line in which no variable stands twice.
 pub fn one_hint_or_one_fault()
-    ensures fault { (text : List ℕ) (a b : What) → HasHintFault text a → HasHintFault text b → a ≡ b }
-    ensures line { (text : List ℕ) (line : Line) (what : What) → IsHintOf text line → HasHintFault text what → ⊥ }
+    ensures fault { (text : List ℕ) (a b : What) → HasHintTextFault text a → HasHintTextFault text b → a ≡ b }
+    ensures line { (text : List ℕ) (line : Line) (what : What) → IsHintOf text line → HasHintTextFault text what → ⊥ }
 {}
 
 /// The text of a line that may be written is the text of this line, and has no line feed but the one that ends it.

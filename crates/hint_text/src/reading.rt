@@ -3,7 +3,7 @@ ghost use Rattle.std.specs.Prelude.{◌≡◌, ℕ, List, Some, IfOk, IfErr, Mat
 ghost use Rattle.plan_core.specs.Exactly.{AnswersExactly};
 ghost use Rattle.hint_log.specs.Hint.{hints_of};
 ghost use Rattle.hint_log.specs.Trimmed.{line_of};
-ghost use Rattle.hint_text.specs.HintFaults.{IsHintOf, HasHintFault, IsHintWhere, IsHintFault};
+ghost use Rattle.hint_text.specs.HintFaults.{IsHintOf, HasHintTextFault, IsHintWhere, IsHintTextFault};
 ghost use Rattle.hint_text.specs.Parts.{IsCutBehindZero, IsUnjoined, fault_of};
 
 use crate::cutting::{begins_hinted, cut_literals};
@@ -69,7 +69,7 @@ fn read_parts(
 ) -> Result<HintLine, HintTextFault>
     ensures line { IfOk result (λ h. (text : List ℕ) → IsCutBehindZero text front.now rest.now → IsHintOf text h) }
     ensures fault { IfErr result (IsHintWhere (λ what. (text : List ℕ) → IsCutBehindZero text front.now rest.now →
-        HasHintFault text what) line) }
+        HasHintTextFault text what) line) }
 {
     if !begins_hinted(front) {
         return Err(HintTextFault::Hints {
@@ -94,7 +94,7 @@ fn read_parts(
 /// The line that the text is, or its fault.
 fn read_text(alloc: Global, text: &[u8], line: u32) -> Result<HintLine, HintTextFault>
     ensures line { IfOk result (IsHintOf text.now) }
-    ensures fault { IfErr result (IsHintWhere (HasHintFault text.now) line) }
+    ensures fault { IfErr result (IsHintWhere (HasHintTextFault text.now) line) }
 {
     match cut_literals(text) {
         Some((front, rest)) => read_parts(alloc, front, rest, line),
@@ -109,7 +109,7 @@ fn read_text(alloc: Global, text: &[u8], line: u32) -> Result<HintLine, HintText
 /// the whole text, which a fault names. `Form` comes before `Number`, and `Number` before `Twice`; `Header` and `Range`
 /// never come.
 pub fn read_hint(alloc: Global, text: &[u8], number: u32) -> Result<HintLine, HintTextFault>
-    ensures { AnswersExactly result HintTextFault.Memory (IsHintOf text.now) (IsHintFault text.now number) }
+    ensures { AnswersExactly result HintTextFault.Memory (IsHintOf text.now) (IsHintTextFault text.now number) }
 {
     read_text(alloc, text, number)
 }

@@ -25,7 +25,7 @@ use Rattle.certified_check.proofs.JudgeLemmas.{nothing}
 use Rattle.certified_values.proofs.CertifiedLemmas.{refuted_holds}
 use Rattle.certified_values.proofs.MeetsLemmas.{given_of_clauses}
 use Rattle.log_check.specs.Expectation.{Expectation, PassesLimits}
-use Rattle.hint_log.specs.Trimmed.{HintLines, AreRefuted, IsTrimmed}
+use Rattle.hint_log.specs.Trimmed.{HintLines, AreRefutedLines, IsTrimmed}
 use Rattle.log_trim.specs.Shown.{MayBeCompleted, IsCompleted, IsKeptOf}
 
 -- ---- one clause more
@@ -117,7 +117,7 @@ some_wanted : (wanted : List ℕ) → 1 ≤ length wanted → (p : ℕ) × Conta
 some_wanted [] some = absurd (omega (arith, some))
 some_wanted (p ∷ wanted) some = (p, Contains-head p wanted)
 
-pub has_room : (e : Expectation) (lines : Lines) (wanted : List ℕ) → MayBeCompleted e lines → AreRefuted lines wanted → 1 ≤ length wanted → PassesLimits e → ⊥
+pub has_room : (e : Expectation) (lines : Lines) (wanted : List ℕ) → MayBeCompleted e lines → AreRefutedLines lines wanted → 1 ≤ length wanted → PassesLimits e → ⊥
 has_room e lines wanted may refuted some passes =
     let one = some_wanted wanted some in
     let r = refuted one.0 one.1 in
@@ -142,7 +142,7 @@ at_front lines more p line e =
 pub still_derives : (e : Expectation) (old new : Lines) → Derives old → IsCompleted e old new → Derives new
 still_derives e old new d h = subst Derives (sym h.added) (derives_formulas old h.missing d)
 
-pub still_refuted : (e : Expectation) (old new : Lines) (wanted : List ℕ) → AreRefuted old wanted → IsCompleted e old new → AreRefuted new wanted
+pub still_refuted : (e : Expectation) (old new : Lines) (wanted : List ℕ) → AreRefutedLines old wanted → IsCompleted e old new → AreRefutedLines new wanted
 still_refuted e old new wanted refuted h = λ p among.
     let r = refuted p among in
     (r.0, subst (λ (ls : Lines). slice_get ls p ≡ Some (Refuted r.0)) (sym h.added) (at_front old (map Formula h.missing) p (Refuted r.0) r.1))

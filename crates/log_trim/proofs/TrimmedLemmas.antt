@@ -25,7 +25,7 @@ use Rattle.log_check.specs.Claimed.{CertifiesClaim}
 use Rattle.log_check.specs.Judged.{CertifiesWhole}
 use Rattle.log_check.proofs.CutLemmas.{lines_once}
 use Rattle.log_check.proofs.JudgingLemmas.{same_expectation, certifies_as}
-use Rattle.hint_log.specs.Trimmed.{AreRefuted}
+use Rattle.hint_log.specs.Trimmed.{AreRefutedLines}
 use Rattle.log_trim.specs.declared.trimming.TrimmedLog.{TrimmedLog}
 use Rattle.log_trim.specs.Wanted.{ShowsLeast, AreWanted}
 use Rattle.log_trim.specs.TrimmedLog.{IsSpelledLog, IsTrimmedLog}
@@ -81,7 +81,7 @@ certified_by y order claim log greatest lines h is same =
 
 -- ---- the wanted lines
 
-pub are_refuted : (greatest : Criterion → ℕ) (lines : Lines) (order : List Criterion) (claim : Claim) (wanted : List ℕ) → AreWanted greatest lines order claim wanted → AreRefuted lines wanted
+pub are_refuted : (greatest : Criterion → ℕ) (lines : Lines) (order : List Criterion) (claim : Claim) (wanted : List ℕ) → AreWanted greatest lines order claim wanted → AreRefutedLines lines wanted
 are_refuted greatest lines order (Least v s) wanted h = λ p among. let r = h.only p among in (r.3.clause, r.3.there)
 are_refuted greatest lines order NoDrawing wanted h = λ p among. ([], only p (subst (λ (ns : List ℕ). Contains ns p) h.2 among))
   where

@@ -7,7 +7,7 @@ ghost use Rattle.drawing_problem.specs.Layout.{layout};
 ghost use Rattle.log_check.specs.Expectation.{expectation, PassesLimits};
 ghost use Rattle.log_check.specs.Claimed.{IsClaimOf};
 ghost use Rattle.log_check.specs.Judged.{CertifiesWhole};
-ghost use Rattle.hint_log.specs.Trimmed.{AreRefuted};
+ghost use Rattle.hint_log.specs.Trimmed.{AreRefutedLines};
 ghost use Rattle.log_trim.specs.TrimmedLog.{IsTrimmedLog};
 ghost use Rattle.log_trim.specs.Shown.{MayBeCompleted, IsCompleted, IsKeptOf};
 
@@ -75,7 +75,7 @@ fn kept_of(
     requires order { IsOrderOf g.now t.now }
     requires caps { (c : Measured) → value_of caps.now c ≤ limit_of g.now grid.now c }
     requires may { MayBeCompleted (expectation (layout g.now t.now grid.now) order.now (value_of caps.now)) lines.old }
-    requires wanted { AreRefuted lines.old wanted.now }
+    requires wanted { AreRefutedLines lines.old wanted.now }
     ensures { IfOk result (IsKeptOf (expectation (layout g.now t.now grid.now) order.now (value_of caps.now)) lines.old
         wanted.now) }
 {

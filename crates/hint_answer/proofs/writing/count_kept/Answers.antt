@@ -1,5 +1,5 @@
 use Rattle.std.proofs.Common.{◌≡◌, length, arith}
-use Rattle.hint_log.specs.Checked.{learnt_of}
+use Rattle.hint_log.specs.Checked.{clauses_learnt}
 use Rattle.hint_answer.proofs.CountLemmas.{counted_next, one_learnt, no_learnt}
 use Rattle.hint_answer.proofs.writing.count_kept.Goals.{in-Learnt, in_default}
 use Rattle.hint_answer.proofs.writing.count_kept.Goals as goal
@@ -11,11 +11,11 @@ loop-i-preserved c =
     let within = c.loop-i.invariant.within in
     elim c.match-get.branch [
       | in-Learnt w ↦
-          let one : length (learnt_of line) ≡ 1 = one_learnt line w.in-Learnt.lits w.in-Learnt.hints w.in-Learnt.is in
+          let one : length (clauses_learnt line) ≡ 1 = one_learnt line w.in-Learnt.lits w.in-Learnt.hints w.in-Learnt.is in
           let is = w.count-is in
           record { count_is = omega (arith, one, is, next); within = omega (arith, within, is) }
       | in_default w ↦
-          let none : length (learnt_of line) ≡ 0 = no_learnt line w.in_default.not-Learnt in
+          let none : length (clauses_learnt line) ≡ 0 = no_learnt line w.in_default.not-Learnt in
           let is = w.count-is in
           record { count_is = omega (arith, none, is, next); within = omega (arith, within, is) }
     ]

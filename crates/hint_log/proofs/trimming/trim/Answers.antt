@@ -4,7 +4,7 @@ use Rattle.refute_log.specs.Log.{given}
 use Rattle.cnf_core.specs.Clause.{Clauses}
 use Rattle.hint_log.specs.Trimmed.{IsHinted}
 use Rattle.hint_log.proofs.HintedLemmas.{hinted_none}
-use Rattle.hint_log.specs.Shortened.{learnt_count}
+use Rattle.hint_log.specs.Shortened.{learnt_among}
 use Rattle.hint_log.proofs.UsedLemmas.{below_good}
 use Rattle.hint_log.proofs.KeptLemmas.{trimmed, hinted_count}
 use Rattle.hint_log.proofs.trimming.trim.Goals as goal
@@ -33,7 +33,7 @@ shorten-requires-clause-total c =
     let inv = c.loop-i.invariant in
     let f = c.loop-i.finder.formula in
     let given_is = c.count-given.ensures ∙ ap (λ (cs : Clauses). length cs) t.clauses in
-    c.count-total.ensures ∙ hinted_count c.args.lines.now c.args.wanted.now c.loop-i.i f.clauses c.loop-i.list inv.hinted ∙ ap (λ n. n + learnt_count c.loop-i.list) (sym given_is)
+    c.count-total.ensures ∙ hinted_count c.args.lines.now c.args.wanted.now c.loop-i.i f.clauses c.loop-i.list inv.hinted ∙ ap (λ n. n + learnt_among c.loop-i.list) (sym given_is)
 
 pub returns : goal.returns
 returns c =

@@ -1,7 +1,7 @@
 use Rattle.std.proofs.Common.{refl, subst, sym}
 use Rattle.std.proofs.lemmas.Bool.{false≢true}
 use Rattle.std.proofs.lemmas.Result.{IfOk-weaker, IfErr-weaker}
-use Rattle.hint_text.specs.HintFaults.{HasHintFault}
+use Rattle.hint_text.specs.HintFaults.{HasHintTextFault}
 use Rattle.hint_text.proofs.FormLemmas.{unhinted_form, numbers_fault, log_fault, part_fault, joined, unjoined_fault}
 use Rattle.hint_text.proofs.reading.read_parts.Goals as goal
 
@@ -23,7 +23,7 @@ pub returns-in-Err-Log-clause-fault : goal.returns-in-Err-Log-clause-fault
 returns-in-Err-Log-clause-fault c = (
   refl,
   λ text cut.
-      subst (HasHintFault text) (sym c.whole_fault.ensures)
+      subst (HasHintTextFault text) (sym c.whole_fault.ensures)
       (part_fault text c.args.front.now c.args.rest.now c.in-Ok.hints c.is_some.result c.in-Err-Log.what c.is_some.ensures cut (c.if-not-begins_hinted.ensures.0 refl) c.in-Ok.ensures.numbers
       (log_fault c.args.front.now c.args.line c.in-Err-Log.field-0 c.in-Err-Log.what c.in-Err-Log.field-0-1 c.in-Err-Log.field-0-is c.in-Err-Log.ensures.fault)),
 )
