@@ -22,8 +22,8 @@ pub enum Status {
     Unwritten,
     /// Memory couldn't be had.
     NoMemory,
-    /// The sheet's drawing breaks a law, a line of the log or a hinted line is refused, or these don't certify what the
-    /// sheet claims.
+    /// The sheet's drawing breaks a law, a line of the log is refused, or the log doesn't certify what the sheet
+    /// claims.
     Broken,
 }
 
