@@ -1,29 +1,39 @@
-// A line of four points, read column by column and traced again.
-use crate::lines::at;
-use edge_lines::{has_inner, has_level, height_over, is_level_by, step_over, trace};
-use plan_core::Slope;
+// A line of four points, read column by column.
+use edge_lines::{has_inner, is_level_by, step_over};
+use plan_core::{Point, Slope};
 use plan_geometry::Line;
 
+/// Its points, and what is told of each column: the slope behind it, whether an inner point is in it, and whether a
+/// level piece ends by its end.
+static POINTS: [Point; 4] = [
+    Point { x: 1, y: 0 },
+    Point { x: 2, y: 1 },
+    Point { x: 4, y: 1 },
+    Point { x: 5, y: 0 },
+];
+
+static COLUMNS: [(u16, Slope, bool, bool); 6] = [
+    (0, Slope::Level, false, false),
+    (1, Slope::Up, false, false),
+    (2, Slope::Level, true, true),
+    (3, Slope::Level, false, true),
+    (4, Slope::Down, true, true),
+    (5, Slope::Level, false, true),
+];
+
+/// Whether a column of the line is as told.
+fn is_told(line: &Line, column: &(u16, Slope, bool, bool)) -> bool {
+    let (c, slope, inner, level) = *column;
+    c < 6
+        && step_over(line, c) == slope
+        && has_inner(line, c) == inner
+        && is_level_by(line, c) == level
+}
+
 #[test]
-fn a_line_is_read_by_columns_and_traced_again(rt: HostRuntime) {
-    let points = [at(1, 0), at(2, 1), at(4, 1), at(5, 0)];
-    let heights = [0, 0, 1, 1, 1, 0, 0];
-    let slopes = [
-        Slope::Level,
-        Slope::Up,
-        Slope::Level,
-        Slope::Level,
-        Slope::Down,
-        Slope::Level,
-    ];
-    let line = Line::new(&points).expect(&rt, "the points of a line");
-    for c in 0..6u16 {
-        let k = c as usize;
-        assert_eq!(rt; height_over(&line, c), heights[k], "{c}");
-        assert_eq!(rt; step_over(&line, c), slopes[k], "{c}");
-        assert_eq!(rt; has_inner(&line, c), c == 2 || c == 4, "{c}");
-        assert_eq!(rt; is_level_by(&line, c), c >= 2, "{c}");
+fn a_line_is_read_by_columns(rt: HostRuntime) {
+    let line = Line::new(&POINTS).expect(&rt, "the points of a line");
+    for column in &COLUMNS {
+        assert!(rt; is_told(&line, column), "{}", column.0);
     }
-    assert!(rt; has_level(&line));
-    assert_eq!(rt; trace(&heights, 1, 5).points(), points.as_slice());
 }
