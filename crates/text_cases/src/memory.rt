@@ -1,21 +1,7 @@
-// Files and sinks in memory, through their traits.
-use outside_io::{
-    FileFault, Files, MemoryFiles, MemorySink, Sink, SinkFault, SureFiles, SureSink, write_file,
-};
+// Files and sinks in memory whose calls fail by their number, through their traits. `run_cases` has runs over them.
+use outside_io::{FileFault, Files, MemoryFiles, MemorySink, Sink, SinkFault};
 use std::alloc::Global;
 use std::test::Fail;
-
-/// What a read of up to `limit` bytes, at least one, leaves behind the two bytes that were held.
-pub fn read<F: Files>(
-    alloc: Global,
-    files: &mut F,
-    name: &str,
-    limit: usize,
-) -> Result<Vec<u8>, FileFault> {
-    let mut into = Vec::from_slice(alloc, b"> ")?;
-    files.read_front(name, limit.max(1), &mut into)?;
-    Ok(into)
-}
 
 /// How a call ended, in one letter.
 fn letter(outcome: Result<(), FileFault>) -> char {
@@ -26,139 +12,119 @@ fn letter(outcome: Result<(), FileFault>) -> char {
     }
 }
 
-/// Creates a file, appends to it twice and reads three bytes of it, through the trait alone.
-fn write_and_read<F: Files>(
-    files: &mut F,
-    name: &str,
-    into: &mut Vec<u8>,
-) -> (char, char, char, char) {
-    (
-        letter(files.create(name)),
-        letter(files.append(name, b"ab")),
-        letter(files.append(name, b"cd")),
-        letter(files.read_front(name, 3, into)),
-    )
+/// How a file's creation, two appends to it and a read of three of its bytes end, through the trait alone.
+fn write_and_read<F: Files>(files: &mut F, into: &mut Vec<u8>) -> [char; 4] {
+    [
+        letter(files.create("l")),
+        letter(files.append("l", b"ab")),
+        letter(files.append("l", b"cd")),
+        letter(files.read_front("l", 3, into)),
+    ]
 }
 
-#[test]
-fn fails_the_calls_that_are_listed_and_those_on_a_missing_name(
-    rt: HostRuntime,
-) -> Result<(), Fail> {
-    let alloc = rt.alloc();
-    let table = [
-        ([0, 0], ('o', 'o', 'o', 'o'), Some("abcd"), "> abc"),
-        ([1, 0], ('f', 'f', 'f', 'f'), None, "> "),
-        ([2, 0], ('o', 'f', 'o', 'o'), Some("cd"), "> cd"),
-        ([3, 0], ('o', 'o', 'f', 'o'), Some("ab"), "> ab"),
-        ([4, 5], ('o', 'o', 'o', 'f'), Some("abcd"), "> "),
-        ([3, 2], ('o', 'f', 'f', 'o'), Some(""), "> "),
-    ];
-    for (fail, outcomes, contents, read) in table {
-        let mut files = MemoryFiles::new(alloc, &fail)?;
-        // neither of these has a number
-        files.add("other", b"kept")?;
-        assert_eq!(rt; files.get("l"), None);
-        let mut into = Vec::from_slice(alloc, b"> ")?;
-        assert_eq!(rt;
-            write_and_read(&mut files, "l", &mut into),
-            outcomes,
-            "{fail:?}"
-        );
-        assert_eq!(rt;
-            files.get("l"),
-            contents.map(|text| text.as_bytes()),
-            "{fail:?}"
-        );
-        assert_eq!(rt; files.get("other"), Some(b"kept".as_slice()), "{fail:?}");
-        assert_eq!(rt; into.as_slice(), read.as_bytes(), "{fail:?}");
+/// Which calls fail, how each ends, and what is then in the file, where it is there, and was read.
+struct Case {
+    fail: [u32; 2],
+    outcomes: [char; 4],
+    contents: Option<&'static str>,
+    read: &'static str,
+}
+
+static CASES: [Case; 6] = [
+    Case {
+        fail: [0, 0],
+        outcomes: ['o', 'o', 'o', 'o'],
+        contents: Some("abcd"),
+        read: "> abc",
+    },
+    Case {
+        fail: [1, 0],
+        outcomes: ['f', 'f', 'f', 'f'],
+        contents: None,
+        read: "> ",
+    },
+    Case {
+        fail: [2, 0],
+        outcomes: ['o', 'f', 'o', 'o'],
+        contents: Some("cd"),
+        read: "> cd",
+    },
+    Case {
+        fail: [3, 0],
+        outcomes: ['o', 'o', 'f', 'o'],
+        contents: Some("ab"),
+        read: "> ab",
+    },
+    Case {
+        fail: [4, 5],
+        outcomes: ['o', 'o', 'o', 'f'],
+        contents: Some("abcd"),
+        read: "> ",
+    },
+    Case {
+        fail: [3, 2],
+        outcomes: ['o', 'f', 'f', 'o'],
+        contents: Some(""),
+        read: "> ",
+    },
+];
+
+/// Whether this is what the file has, where it is there.
+fn has(files: &MemoryFiles, name: &str, contents: Option<&str>) -> bool {
+    match (files.get(name), contents) {
+        (Some(bytes), Some(text)) => bytes == text.as_bytes(),
+        (None, None) => true,
+        _ => false,
     }
-    Ok(())
 }
 
-/// What writing one of two files in one go answers where the call of this number fails, and whether it holds this then
-/// and the other what it held.
-fn written(alloc: Global, call: u32, contents: &str) -> Result<(char, bool), Fail> {
-    let mut files = MemoryFiles::new(alloc, &[call])?;
-    files.add("l", b"older")?;
+/// Whether the calls end and leave what the case says, and another file what it held, which none of them numbers.
+fn is_as_told(alloc: Global, case: &Case) -> Result<bool, Fail> {
+    let mut files = MemoryFiles::new(alloc, &case.fail)?;
     files.add("other", b"kept")?;
-    let outcome = letter(write_file(&mut files, "l", b"new"));
-    let is_left = files.get("l") == Some(contents.as_bytes());
-    let is_kept = files.get("other") == Some(b"kept".as_slice());
-    Ok((outcome, is_left && is_kept))
+    let mut into = Vec::from_slice(alloc, b"> ")?;
+    let outcomes = write_and_read(&mut files, &mut into);
+    let is_left = has(&files, "l", case.contents) && has(&files, "other", Some("kept"));
+    Ok(is_left && outcomes == case.outcomes && into.as_slice() == case.read.as_bytes())
 }
 
 #[test]
-fn a_whole_file_is_written_or_a_front_of_it(rt: HostRuntime) -> Result<(), Fail> {
-    let alloc = rt.alloc();
-    assert_eq!(rt; written(alloc, 0, "new")?, ('o', true));
-    assert_eq!(rt; written(alloc, 1, "older")?, ('f', true));
-    assert_eq!(rt; written(alloc, 2, "")?, ('f', true));
-    Ok(())
-}
-
-#[test]
-fn has_every_name_and_never_fails(rt: HostRuntime) -> Result<(), Fail> {
-    let alloc = rt.alloc();
-    let mut files = SureFiles::new(alloc);
-    assert_eq!(rt; files.get("a"), Some(b"".as_slice()));
-    assert_eq!(rt;
-        read(alloc, &mut files, "a", 4)?.as_slice(),
-        b"> ".as_slice()
-    );
-    files.append("a", b"one")?;
-    files.append("a", b"two")?;
-    assert_eq!(rt; files.get("a"), Some(b"onetwo".as_slice()));
-    assert_eq!(rt;
-        read(alloc, &mut files, "a", 4)?.as_slice(),
-        b"> onet".as_slice()
-    );
-    files.add("b", b"three")?;
-    files.create("a")?;
-    assert_eq!(rt; files.get("a"), Some(b"".as_slice()));
-    assert_eq!(rt; files.get("b"), Some(b"three".as_slice()));
-    files.create("c")?;
-    assert_eq!(rt; files.get("c"), Some(b"".as_slice()));
+fn the_calls_that_are_listed_fail_and_those_on_a_missing_name(rt: HostRuntime) -> Result<(), Fail> {
+    for case in &CASES {
+        assert!(rt; is_as_told(rt.alloc(), case)?, "{:?}", case.fail);
+    }
     Ok(())
 }
 
 /// Puts three times, through the trait alone, and tells which puts failed by their number.
-fn put_thrice<O: Sink>(out: &mut O) -> (bool, bool, bool) {
-    (
+fn put_thrice<O: Sink>(out: &mut O) -> [bool; 3] {
+    [
         matches!(out.put(b"ab"), Err(SinkFault::Failed)),
         matches!(out.put(b"c"), Err(SinkFault::Failed)),
         matches!(out.put(b"de"), Err(SinkFault::Failed)),
-    )
+    ]
+}
+
+/// Which puts are to fail, which do, and what was put.
+static PUTS: [([u32; 2], [bool; 3], &str); 5] = [
+    ([0, 0], [false, false, false], "abcde"),
+    ([1, 0], [true, false, false], "cde"),
+    ([2, 0], [false, true, false], "abde"),
+    ([3, 1], [true, false, true], "c"),
+    ([4, 5], [false, false, false], "abcde"),
+];
+
+/// Whether three puts are as told where these fail.
+fn puts(alloc: Global, (fail, failed, given): &([u32; 2], [bool; 3], &str)) -> Result<bool, Fail> {
+    let mut out = MemorySink::new(alloc, fail)?;
+    let ended = put_thrice(&mut out);
+    Ok(ended == *failed && out.bytes() == given.as_bytes())
 }
 
 #[test]
-fn fails_the_puts_that_are_listed(rt: HostRuntime) -> Result<(), Fail> {
-    let alloc = rt.alloc();
-    let table = [
-        ([0, 0], (false, false, false), "abcde"),
-        ([1, 0], (true, false, false), "cde"),
-        ([2, 0], (false, true, false), "abde"),
-        ([3, 1], (true, false, true), "c"),
-        ([4, 5], (false, false, false), "abcde"),
-    ];
-    for (fail, failed, given) in table {
-        let mut out = MemorySink::new(alloc, &fail)?;
-        assert_eq!(rt; put_thrice(&mut out), failed, "{fail:?}");
-        assert_eq!(rt; out.bytes(), given.as_bytes(), "{fail:?}");
+fn the_puts_that_are_listed_fail(rt: HostRuntime) -> Result<(), Fail> {
+    for row in &PUTS {
+        assert!(rt; puts(rt.alloc(), row)?, "{:?}", row.0);
     }
-    Ok(())
-}
-
-/// Puts twice, through the trait alone.
-fn put_twice<O: Sink>(out: &mut O) -> Result<(), SinkFault> {
-    out.put(b"ab")?;
-    out.put(b"cde")
-}
-
-#[test]
-fn keeps_all_that_was_put(rt: HostRuntime) -> Result<(), Fail> {
-    let mut out = SureSink::new(rt.alloc());
-    assert_eq!(rt; out.bytes(), b"".as_slice());
-    put_twice(&mut out)?;
-    assert_eq!(rt; out.bytes(), b"abcde".as_slice());
     Ok(())
 }

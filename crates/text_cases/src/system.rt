@@ -1,68 +1,87 @@
 // The system's files, tried on a real one, and its output, tried on one that takes little.
-use crate::memory::read;
 use outside_io::{FileFault, Files, HostFiles, HostOut, Sink, SinkFault};
+use std::alloc::{AllocError, Global};
 use std::cell::Cell;
 use std::fmt::Display;
 use std::test::Fail;
 use std::{fs, io};
 
-#[test]
-fn creates_appends_to_and_reads_a_file_of_the_system(rt: HostRuntime) -> Result<(), Fail> {
-    let alloc = rt.alloc();
-    let name = "outside_io_host_files_test.tmp";
-    let _ = fs::remove_file(&rt, name);
-    let mut files = HostFiles::new(&rt);
+/// The file of the test, in the folder that the test is run in.
+const NAME: &str = "outside_io_host_files_test.tmp";
 
-    // a file that isn't there is neither read nor appended to, and no append makes it
-    assert!(rt; matches!(read(alloc, &mut files, name, 9), Err(FileFault::Failed)));
-    assert!(rt; matches!(files.append(name, b"lost"), Err(FileFault::Failed)));
-    assert!(rt; matches!(read(alloc, &mut files, name, 9), Err(FileFault::Failed)));
-    assert!(rt; matches!(files.create("no/such/folder"), Err(FileFault::Failed)));
+/// Whether a read of up to `limit` bytes, at least one, puts these behind the two bytes that were held.
+fn reads<F: Files>(alloc: Global, files: &mut F, limit: usize, want: &[u8]) -> Result<bool, Fail> {
+    let mut into = Vec::from_slice(alloc, b"> ")?;
+    files.read_front(NAME, limit.max(1), &mut into)?;
+    Ok(into.starts_with(b"> ") && into.get(2..) == Some(want))
+}
 
-    files.create(name)?;
-    assert_eq!(rt;
-        read(alloc, &mut files, name, 9)?.as_slice(),
-        b"> ".as_slice()
-    );
-    files.append(name, b"north ")?;
-    files.append(name, b"")?;
-    files.append(name, b"south")?;
-    for (limit, want) in [
-        (1, "> n"),
-        (6, "> north "),
-        (11, "> north south"),
-        (99, "> north south"),
-    ] {
-        assert_eq!(rt;
-            read(alloc, &mut files, name, limit)?.as_slice(),
-            want.as_bytes(),
-            "limit {limit}"
-        );
+/// Whether a file that isn't there is neither read nor appended to, no append makes it, and none is made in a folder
+/// that isn't there.
+fn is_missing<F: Files>(alloc: Global, files: &mut F) -> bool {
+    let mut into = Vec::new(alloc);
+    matches!(files.read_front(NAME, 9, &mut into), Err(FileFault::Failed))
+        && matches!(files.append(NAME, b"lost"), Err(FileFault::Failed))
+        && matches!(files.read_front(NAME, 9, &mut into), Err(FileFault::Failed))
+        && matches!(files.create("no/such/folder"), Err(FileFault::Failed))
+        && into.is_empty()
+}
+
+static FRONTS: [(usize, &str); 4] = [
+    (1, "n"),
+    (6, "north "),
+    (11, "north south"),
+    (99, "north south"),
+];
+
+/// Whether a file that is created is empty, and has what is appended.
+fn has_short<F: Files>(alloc: Global, files: &mut F) -> Result<bool, Fail> {
+    files.create(NAME)?;
+    let mut is_so = reads(alloc, files, 9, b"")?;
+    files.append(NAME, b"north ")?;
+    files.append(NAME, b"")?;
+    files.append(NAME, b"south")?;
+    for (limit, want) in &FRONTS {
+        is_so = is_so && reads(alloc, files, *limit, want.as_bytes())?;
     }
+    Ok(is_so)
+}
 
-    // more than two pieces, up to just before, at and behind the end
+/// More than two pieces of a file.
+fn long_bytes(alloc: Global) -> Result<Vec<u8>, AllocError> {
     let mut long = Vec::new(alloc);
     for i in 0..150_000u32 {
         long.push((i % 251) as u8)?;
     }
-    files.create(name)?;
-    files.append(name, &long)?;
-    for (limit, want) in [
+    Ok(long)
+}
+
+/// Whether such a file is read up to just before, at and behind its end, and is empty where it is created again.
+fn has_long<F: Files>(alloc: Global, files: &mut F) -> Result<bool, Fail> {
+    let long = long_bytes(alloc)?;
+    files.create(NAME)?;
+    files.append(NAME, &long)?;
+    let mut is_so = true;
+    for (limit, count) in [
         (65_536, 65_536),
         (149_999, 149_999),
         (150_000, 150_000),
         (4_194_305, 150_000),
     ] {
-        let bytes = read(alloc, &mut files, name, limit)?;
-        assert!(rt; bytes.get(2..) == long.get(..want), "limit {limit}");
+        is_so = is_so && reads(alloc, files, limit, long.get(..count).unwrap_or(b""))?;
     }
+    files.create(NAME)?;
+    Ok(is_so && reads(alloc, files, 9, b"")?)
+}
 
-    files.create(name)?;
-    assert_eq!(rt;
-        read(alloc, &mut files, name, 9)?.as_slice(),
-        b"> ".as_slice()
-    );
-    fs::remove_file(&rt, name)?;
+#[test]
+fn creates_appends_to_and_reads_a_file_of_the_system(rt: HostRuntime) -> Result<(), Fail> {
+    let _ = fs::remove_file(&rt, NAME);
+    let mut files = HostFiles::new(&rt);
+    assert!(rt; is_missing(rt.alloc(), &mut files));
+    assert!(rt; has_short(rt.alloc(), &mut files)?);
+    assert!(rt; has_long(rt.alloc(), &mut files)?);
+    fs::remove_file(&rt, NAME)?;
     Ok(())
 }
 
@@ -109,30 +128,36 @@ impl Print for Narrow {
     }
 }
 
+/// At which write it stops and whether it refuses then, and whether the put fails and how many bytes are taken.
+static STOPS: [(u8, bool, bool, usize); 5] = [
+    (0, false, false, 5),
+    (1, true, true, 0),
+    (2, true, true, 2),
+    (3, false, true, 4),
+    (4, true, false, 5),
+];
+
+/// Whether a put of five bytes fails, how many were taken, and whether it was offered another.
+fn put_five(stop: u8, refuses: bool) -> (bool, usize, bool) {
+    let narrow = Narrow {
+        due: b"abcde",
+        taken: Cell::new(0),
+        writes: Cell::new(0),
+        strays: Cell::new(false),
+        stop,
+        refuses,
+    };
+    let mut out = HostOut::new(&narrow);
+    let failed = matches!(out.put(b"abcde"), Err(SinkFault::Failed));
+    (failed, narrow.taken.get(), narrow.strays.get())
+}
+
 #[test]
 fn puts_every_byte_once_or_fails_where_a_write_does(rt: HostRuntime) -> Result<(), Fail> {
     HostOut::new(&rt).put(b"one line\n")?;
-    let table = [
-        (0, false, false, 5),
-        (1, true, true, 0),
-        (2, true, true, 2),
-        (3, false, true, 4),
-        (4, true, false, 5),
-    ];
-    for (stop, refuses, fails, taken) in table {
-        let narrow = Narrow {
-            due: b"abcde",
-            taken: Cell::new(0),
-            writes: Cell::new(0),
-            strays: Cell::new(false),
-            stop,
-            refuses,
-        };
-        let mut out = HostOut::new(&narrow);
-        let failed = matches!(out.put(b"abcde"), Err(SinkFault::Failed));
-        assert_eq!(rt; failed, fails, "stop {stop}");
-        assert_eq!(rt; narrow.taken.get(), taken, "stop {stop}");
-        assert!(rt; !narrow.strays.get(), "stop {stop}");
+    for (stop, refuses, fails, taken) in &STOPS {
+        let answer = put_five(*stop, *refuses);
+        assert_eq!(rt; answer, (*fails, *taken, false), "stop {stop}");
     }
     Ok(())
 }
