@@ -65,20 +65,6 @@ edge 3 2 3 1 0 2 1 3 1 4 0
 values 1 2 2 5
 ";
 
-/// The loop lies on the main track.
-pub const LOOP_FLAT: &str = "nodes 4
-node 0 mb 0 0
-node 1 me 5 0
-node 2 s1 1 0
-node 3 s2 4 0
-edges 4
-edge 0 0 2 0 0 1 0
-edge 1 2 3 1 0 4 0
-edge 2 3 1 4 0 5 0
-edge 3 2 3 1 0 4 0
-values 0 0 0 5
-";
-
 /// The best drawing of the loop with two columns for each edge.
 pub const LOOP_WIDE: &str = "nodes 4
 node 0 mb 0 0

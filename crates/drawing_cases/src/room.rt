@@ -38,49 +38,34 @@ fn a_formula_has_room_for_its_words(rt: HostRuntime) -> Result<(), Fail> {
     Ok(())
 }
 
-#[test]
-fn one_track_has_27_variables_and_115_clauses(rt: HostRuntime) -> Result<(), Fail> {
-    let grid = Grid::new(2, 1).ok_or("a grid")?;
-    let (graph, order) = station_of(rt.alloc(), ONE)?;
-    let e = encode(rt.alloc(), &graph, &order, &grid, ROOM)?;
-    assert_eq!(rt; e.formula().vars(), 27);
-    assert_eq!(rt; e.formula().clauses(), 115);
-    Ok(())
+/// The variables, clauses and words of a formula.
+fn sizes(f: &Formula) -> [u32; 3] {
+    [f.vars(), f.clauses(), f.words()]
 }
 
-/// Counted by hand: the same without the 2 variables, 13 clauses and 66 words of laws 2, 4 and 5.
-#[test]
-fn its_nodes_and_its_edge_have_25_variables_and_102_clauses(rt: HostRuntime) -> Result<(), Fail> {
+/// Of one track on a grid of width 2 and height 1: its formula's sizes, and those of its nodes and its edge alone,
+/// without the laws.
+fn of_one_track(alloc: Global) -> Result<([u32; 3], [u32; 3]), Fail> {
     let grid = Grid::new(2, 1).ok_or("a grid")?;
-    let (graph, _) = station_of(rt.alloc(), ONE)?;
-    let mut f = Formula::new(rt.alloc(), ROOM)?;
-    add_base(&mut f, &graph, &grid)?;
-    assert_eq!(rt; f.vars(), 25);
-    assert_eq!(rt; f.clauses(), 102);
-    assert_eq!(rt; f.words(), 584);
-    Ok(())
+    let (graph, order) = station_of(alloc, ONE)?;
+    let e = encode(alloc, &graph, &order, &grid, ROOM)?;
+    let mut base = Formula::new(alloc, ROOM)?;
+    add_base(&mut base, &graph, &grid)?;
+    Ok((sizes(e.formula()), sizes(&base)))
 }
 
-/// Counted by hand: behind nodes and edge two variables and a clause for each of four laws, and the laws' own with a
-/// literal more, law 5 for nodes in any order.
-#[test]
-fn with_its_laws_to_choose_it_has_35_variables_and_122_clauses(
-    rt: HostRuntime,
-) -> Result<(), Fail> {
+/// Of the same, where its laws are there to choose: its sizes, and how many laws there are.
+fn with_laws_to_choose(alloc: Global) -> Result<([u32; 3], usize), Fail> {
     let grid = Grid::new(2, 1).ok_or("a grid")?;
-    let (graph, order) = station_of(rt.alloc(), ONE)?;
-    let why = why_formula(rt.alloc(), &graph, &order, &grid, ROOM)?;
-    assert_eq!(rt; why.laws.len(), 4);
-    assert_eq!(rt; why.formula.vars(), 35);
-    assert_eq!(rt; why.formula.clauses(), 122);
-    assert_eq!(rt; why.formula.words(), 708);
-    Ok(())
+    let (graph, order) = station_of(alloc, ONE)?;
+    let why = why_formula(alloc, &graph, &order, &grid, ROOM)?;
+    Ok((sizes(&why.formula), why.laws.len()))
 }
 
-/// Counted by hand: of one node, whose columns go to 2 and rows to 1, and which stood in the corner.
-#[test]
-fn a_node_that_may_move_has_2_variables_and_5_clauses(rt: HostRuntime) -> Result<(), Fail> {
-    let mut f = Formula::new(rt.alloc(), ROOM)?;
+/// Of one node, whose columns go to 2 and rows to 1, and which stood in the corner: the sizes with those that count
+/// whether it moved, and the count's variables.
+fn of_a_node_that_may_move(alloc: Global) -> Result<([u32; 3], u32), CnfFault> {
+    let mut f = Formula::new(alloc, ROOM)?;
     f.new_vars(3)?;
     let y = OrderInt {
         low: 0,
@@ -93,10 +78,18 @@ fn a_node_that_may_move_has_2_variables_and_5_clauses(rt: HostRuntime) -> Result
         first: Var(2),
     };
     let former = [Some(Point { x: 0, y: 0 })];
-    let count = add_moved_count(rt.alloc(), &mut f, &[NodeVars { x, y }], &former)?;
-    assert_eq!(rt; count, 1);
-    assert_eq!(rt; f.vars(), 5);
-    assert_eq!(rt; f.clauses(), 5);
-    assert_eq!(rt; f.words(), 26);
+    let count = add_moved_count(alloc, &mut f, &[NodeVars { x, y }], &former)?;
+    Ok((sizes(&f), count))
+}
+
+/// Counted by hand. The laws 2, 4 and 5 have 2 variables, 13 clauses and 66 words; where they are to choose there are
+/// two variables and a clause for each of four laws, and a literal more in each of their own clauses, law 5 for nodes
+/// in any order.
+#[test]
+fn formulas_have_their_sizes(rt: HostRuntime) -> Result<(), Fail> {
+    let alloc = rt.alloc();
+    assert_eq!(rt; of_one_track(alloc)?, ([27, 115, 650], [25, 102, 584]));
+    assert_eq!(rt; with_laws_to_choose(alloc)?, ([35, 122, 708], 4));
+    assert_eq!(rt; of_a_node_that_may_move(alloc)?, ([5, 5, 26], 1));
     Ok(())
 }

@@ -32,26 +32,3 @@ pub fn satisfies(m: &Truths, f: &Formula) -> bool {
     }
     true
 }
-
-/// Makes the first positive literal of a clause true whose variable is behind this one.
-fn raise(lits: &[Lit], m: &mut Truths, from: u32) {
-    for l in lits {
-        if l.positive() && l.var().0 > from {
-            set(m, l.var().0, true);
-            return;
-        }
-    }
-}
-
-/// Makes those variables behind this one true that have to be, where all of them are false. So they are the fewest, if
-/// each clause has at most one of them as a positive literal.
-pub fn complete(f: &Formula, m: &mut Truths, from: u32) {
-    for _ in from..f.vars() {
-        for c in 0..f.clauses() {
-            let lits = f.lits_of(ClauseNo(c));
-            if !has_true(lits, m) {
-                raise(lits, m, from);
-            }
-        }
-    }
-}
