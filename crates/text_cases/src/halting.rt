@@ -1,6 +1,6 @@
 // The system's files, where a read fails on the way.
 use outside_io::{FileFault, Files, HostFiles};
-use std::alloc::Allocator;
+use std::alloc::{Allocator, Global};
 use std::fs::{Metadata, OpenFile, OpenOptions};
 use std::io::{self, ErrorKind, Read, Seek, SeekFrom, Write};
 use std::test::Fail;
@@ -123,21 +123,27 @@ impl std::rt::Files for System {
     }
 }
 
+/// After how many bytes reads fail, what a read of three is left with, and whether it fails.
+static ROWS: [(u8, &str, bool); 4] = [
+    (0, ">", true),
+    (2, ">\x01\x02", true),
+    (3, ">\x01\x02\x03", false),
+    (9, ">\x01\x02\x03", false),
+];
+
+/// Whether a read of three bytes behind one that was held ends so.
+fn is_kept(alloc: Global, (until, kept, fails): &(u8, &str, bool)) -> Result<bool, Fail> {
+    let mut into = Vec::from_slice(alloc, b">")?;
+    let system = System { until: *until };
+    let mut files = HostFiles::new(&system);
+    let failed = matches!(files.read_front("l", 3, &mut into), Err(FileFault::Failed));
+    Ok(failed == *fails && into.as_slice() == kept.as_bytes())
+}
+
 #[test]
 fn keeps_what_came_before_a_read_that_fails(rt: HostRuntime) -> Result<(), Fail> {
-    let table = [
-        (0, b">".as_slice(), true),
-        (2, b">\x01\x02".as_slice(), true),
-        (3, b">\x01\x02\x03".as_slice(), false),
-        (9, b">\x01\x02\x03".as_slice(), false),
-    ];
-    for (until, kept, fails) in table {
-        let mut into = Vec::from_slice(rt.alloc(), b">")?;
-        let system = System { until };
-        let mut files = HostFiles::new(&system);
-        let failed = matches!(files.read_front("l", 3, &mut into), Err(FileFault::Failed));
-        assert_eq!(rt; failed, fails, "until {until}");
-        assert_eq!(rt; into.as_slice(), kept, "until {until}");
+    for row in &ROWS {
+        assert!(rt; is_kept(rt.alloc(), row)?, "until {}", row.0);
     }
     Ok(())
 }

@@ -47,11 +47,11 @@ fn has_short<F: Files>(alloc: Global, files: &mut F) -> Result<bool, Fail> {
     Ok(is_so)
 }
 
-/// More than two pieces of a file.
+/// More than two pieces of a file, of which no two begin at the same of its fifteen letters.
 fn long_bytes(alloc: Global) -> Result<Vec<u8>, AllocError> {
     let mut long = Vec::new(alloc);
-    for i in 0..150_000u32 {
-        long.push((i % 251) as u8)?;
+    for _ in 0..10_000 {
+        long.extend_from_slice(b"abcdefghijklmno")?;
     }
     Ok(long)
 }
