@@ -1,9 +1,11 @@
 // What runs put and leave where one call of their files, or of their sink, fails: each call in its turn, until a run
 // meets no failure.
+use crate::runs::{run_untraced, words_from};
+use crate::sheets::{LOOP_SHEET, ONE_SHEET};
+use crate::stations::{LOOP, ONE, ONE_GRAPH};
 use outside_io::{Files, MemoryFiles, MemorySink, Sink};
 use std::alloc::{AllocError, Global};
 use std::test::Fail;
-use worked_files::{LOOP, LOOP_SHEET, ONE, ONE_GRAPH, ONE_SHEET, run_untraced, words_from};
 
 /// The first line of a log, behind which nothing stands.
 const TITLE: &str = "railplan-log 1\n";
@@ -84,14 +86,22 @@ fn begins(file: &Option<Vec<u8>>, text: &Option<Vec<u8>>) -> bool {
     }
 }
 
-/// The words of a run that writes files, and the sheet that it puts where it meets no failure.
-static DRAWINGS: [(&'static [&'static str], &'static str); 3] = [
+/// The words of a run that writes files, how many files it reads, and the text that it puts where it meets no failure.
+type Writing = (&'static [&'static str], u32, &'static str);
+
+static WRITINGS: [Writing; 4] = [
     (
         &["draw", "loop.xml", "--log", "l", "--svg", "s"],
+        1,
         LOOP_SHEET,
     ),
-    (&["draw", "one.xml", "--log", "l"], ONE_SHEET),
-    (&["draw", "one.xml", "--svg", "s"], ONE_SHEET),
+    (&["draw", "one.xml", "--log", "l"], 1, ONE_SHEET),
+    (&["draw", "one.xml", "--svg", "s"], 1, ONE_SHEET),
+    (
+        &["trim", "one.xml", "sheet", "log", "l"],
+        3,
+        "trimmed 0 0\n",
+    ),
 ];
 
 /// Whether both runs leave the same files.
@@ -99,14 +109,15 @@ fn same_files(left: &Left, whole: &Left) -> bool {
     left.log == whole.log && left.picture == whole.picture
 }
 
-/// Whether a run that writes files answers so where this call of its files fails, and leaves so much of them. Where the
-/// read fails no file is created. Where a later call fails nothing is put, and the picture is begun behind a whole log.
-fn tells_failing_call(left: &Left, whole: &Left, failing: u32) -> bool {
+/// Whether a run that writes files answers so where a call of its files fails, one of its reads or a later one, and
+/// leaves so much of them. Where a read fails this line is put, and no file is created. Where a later call fails
+/// nothing is put, and the picture is begun behind a whole log.
+fn tells_failing_call(left: &Left, whole: &Left, reads: bool, line: &str) -> bool {
     if left.spared {
         left.status == 0 && left.put == whole.put && same_files(left, whole)
-    } else if failing == 1 {
+    } else if reads {
         left.status == 5
-            && left.put.as_slice() == b"read failed 1\n".as_slice()
+            && left.put.as_slice() == line.as_bytes()
             && left.log.is_none()
             && left.picture.is_none()
     } else {
@@ -119,15 +130,17 @@ fn tells_failing_call(left: &Left, whole: &Left, failing: u32) -> bool {
 }
 
 /// Whether a run answers so each failing call of its files, in turn until it meets no failure, and then puts this
-/// sheet.
-fn tells_failing_calls(alloc: Global, words: &[&'static str], sheet: &str) -> Result<bool, Fail> {
+/// text.
+fn tells_failing_calls(alloc: Global, writing: &Writing) -> Result<bool, Fail> {
+    let (words, inputs, text) = writing;
     let whole = left_by(alloc, words, &[], &[])?;
-    if whole.put.as_slice() != sheet.as_bytes() {
+    if whole.put.as_slice() != text.as_bytes() {
         return Ok(false);
     }
     for failing in 1..MANY {
         let left = left_by(alloc, words, &[failing], &[])?;
-        if !tells_failing_call(&left, &whole, failing) {
+        let line = format!(in alloc; "read failed {failing}\n")?;
+        if !tells_failing_call(&left, &whole, failing <= *inputs, line.as_str()) {
             return Ok(false);
         }
         if left.spared {
@@ -138,9 +151,13 @@ fn tells_failing_calls(alloc: Global, words: &[&'static str], sheet: &str) -> Re
 }
 
 #[test]
-fn draw_tells_each_failing_call_of_its_files(rt: HostRuntime) -> Result<(), Fail> {
-    for (words, sheet) in &DRAWINGS {
-        assert!(rt; tells_failing_calls(rt.alloc(), words, sheet)?, "{sheet}");
+fn each_failing_call_of_files_is_told(rt: HostRuntime) -> Result<(), Fail> {
+    for writing in &WRITINGS {
+        assert!(rt;
+            tells_failing_calls(rt.alloc(), writing)?,
+            "{:?}",
+            writing.0
+        );
     }
     Ok(())
 }
@@ -149,13 +166,19 @@ fn draw_tells_each_failing_call_of_its_files(rt: HostRuntime) -> Result<(), Fail
 /// no failure.
 type Reading = (&'static [&'static str], u32, u8, &'static str);
 
-static READINGS: [Reading; 6] = [
+static READINGS: [Reading; 7] = [
     (&["draw", "one.xml"], 1, 0, ONE_SHEET),
     (&["graph", "one.xml"], 1, 0, ONE_GRAPH),
     (&["verify", "one.xml", "sheet"], 2, 0, "lawful 0 0 0 2\n"),
     (&["check", "one.xml", "sheet", "log"], 3, 0, "certified 3\n"),
     (
         &["check", "loop.xml", "sheet", "log"],
+        3,
+        1,
+        "sheet 3 Graph line 4\n",
+    ),
+    (
+        &["recheck", "loop.xml", "sheet", "log"],
         3,
         1,
         "sheet 3 Graph line 4\n",
@@ -214,8 +237,8 @@ fn tells_failing_put(
 #[test]
 fn each_failing_put_is_told(rt: HostRuntime) -> Result<(), Fail> {
     let alloc = rt.alloc();
-    for (words, sheet) in &DRAWINGS {
-        assert!(rt; tells_failing_put(alloc, words, 0, sheet)?, "{sheet}");
+    for (words, _, text) in &WRITINGS {
+        assert!(rt; tells_failing_put(alloc, words, 0, text)?, "{text}");
     }
     for (words, _, status, text) in &READINGS {
         assert!(rt; tells_failing_put(alloc, words, *status, text)?, "{text}");

@@ -1,6 +1,7 @@
 // What answers a file that is cut short.
+use crate::runs::answer_to;
+use crate::stations::LOOP;
 use std::test::Fail;
-use worked_files::{LOOP, answer_to};
 
 /// The loop's file, cut to each shorter length: of its bytes only the last, a line feed, may be missing.
 #[test]

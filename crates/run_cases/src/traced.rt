@@ -1,9 +1,10 @@
 // What a run tells its trace: the lines that it writes where a file is named for the log.
+use crate::runs::{answer_to, run_traced, words_from};
+use crate::stations::{LOOP, ONE};
 use outside_io::{SureFiles, SureSink};
 use refute_log::{LineList, LogLine, read_line};
 use std::alloc::Global;
 use std::test::Fail;
-use worked_files::{LOOP, ONE, answer_to, run_traced, words_from};
 
 /// What a run of `draw` wrote that names the log `l`.
 #[derive(Drop)]

@@ -10,7 +10,7 @@
 //! `check`), hint_answer (`trim`, `recheck`). `laws` says when whole runs of `verify`, `check` and `recheck` end with
 //! 0, and that `check` does on what `draw` put and left, and `recheck` on what `trim` left. `read_words` and its types
 //! are those of `plan_words`. The program `railplan_main` stands on this crate, and so do runs over files in memory,
-//! `worked_files`.
+//! `run_cases`.
 #![tactic(auto)]
 
 mod answers;
