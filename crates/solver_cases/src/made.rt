@@ -5,6 +5,7 @@ use crate::trying::FEW;
 use cdcl_core::Answer;
 use cnf_core::{Lit, Var};
 use plan_core::OutOfMemory;
+use std::alloc::Global;
 use std::test::Fail;
 
 /// What the queries of all formulas came to.
@@ -53,9 +54,8 @@ fn run(case: &mut Case, seed: u32, tally: &mut Tally) -> Result<(), OutOfMemory>
     Ok(())
 }
 
-#[test]
-fn answers_are_those_of_all_assignments(rt: HostRuntime) -> Result<(), Fail> {
-    let alloc = rt.alloc();
+/// Runs 300 formulas, whose answers are right. There are as many models, refutations and learnt clauses, or more.
+fn run_all(alloc: Global) -> Result<(), Fail> {
     let mut tally = Tally {
         models: 0,
         refuted: 0,
@@ -65,10 +65,17 @@ fn answers_are_those_of_all_assignments(rt: HostRuntime) -> Result<(), Fail> {
     for seed in 0..300 {
         let mut case = Case::new(alloc, FEW)?;
         run(&mut case, seed, &mut tally)?;
-        assert!(rt; tally.wrong == 0, "formula {seed}");
+        if tally.wrong > 0 {
+            return Err(Fail::new(seed));
+        }
     }
-    assert!(rt; tally.models >= 300);
-    assert!(rt; tally.refuted >= 300);
-    assert!(rt; tally.learnt >= 300);
+    if tally.models < 300 || tally.refuted < 300 || tally.learnt < 300 {
+        return Err(Fail::new("many answers of each kind"));
+    }
     Ok(())
+}
+
+#[test]
+fn answers_are_those_of_all_assignments(rt: HostRuntime) -> Result<(), Fail> {
+    run_all(rt.alloc())
 }

@@ -39,23 +39,36 @@ fn part(case: &mut Case, pigeon: u32) -> Result<(), OutOfMemory>
     Ok(())
 }
 
-/// After each 256 learnt clauses a search starts again from level 0, here three times: at other times it would learn
-/// another number.
-#[test]
-fn seven_pigeons_dont_fit_six_holes(rt: HostRuntime) -> Result<(), Fail> {
-    let alloc = rt.alloc();
+/// The case of the whole formula.
+fn crowd(alloc: Global) -> Result<Case, OutOfMemory> {
     let mut case = Case::new(alloc, 42)?;
     for pigeon in 0..7 {
         give_pigeon(alloc, &mut case, pigeon)?;
         part(&mut case, pigeon)?;
     }
-    let few = case.ask_all(20)?;
-    assert!(rt; few == Some(Answer::Spent));
-    assert!(rt; case.learnt() == 20);
-    assert!(rt; !case.is_refuted());
-    let all = case.ask_all(100_000)?;
-    assert!(rt; all == Some(Answer::Refuted));
-    assert_eq!(rt; case.learnt(), 807);
-    assert!(rt; case.is_refuted());
+    Ok(case)
+}
+
+/// Asks within a budget: the answer, how many clauses were learnt, and whether the checker accepted a refutation.
+fn ask(case: &mut Case, budget: u32) -> Result<(Option<Answer>, u32, bool), OutOfMemory> {
+    let answer = case.ask_all(budget)?;
+    Ok((answer, case.learnt(), case.is_refuted()))
+}
+
+/// After each 256 learnt clauses a search starts again from level 0, here three times. How many clauses it learns hangs
+/// on that, on what is bumped and how it fades, and on the truth values that are tried first.
+fn ask_twice(alloc: Global) -> Result<(), Fail> {
+    let mut case = crowd(alloc)?;
+    if ask(&mut case, 20)? != (Some(Answer::Spent), 20, false) {
+        return Err(Fail::new("a budget is spent"));
+    }
+    if ask(&mut case, 100_000)? != (Some(Answer::Refuted), 807, true) {
+        return Err(Fail::new("it is refuted by 807 learnt clauses"));
+    }
     Ok(())
+}
+
+#[test]
+fn seven_pigeons_dont_fit_six_holes(rt: HostRuntime) -> Result<(), Fail> {
+    ask_twice(rt.alloc())
 }
