@@ -1,35 +1,44 @@
-// Lines of small logs with their answers, verdicts, and a log of two long chains.
-use cnf_core::{Lit, Var};
+// Lines of small logs with their answers and verdicts, and a log of two long chains.
+ghost use Rattle.std.specs.Prelude.{◌≤◌};
+
+use cnf_core::{Clause, Lit, Var};
 use refute_check::{Checker, LineFault};
-use refute_log::read_line;
+use refute_log::{LogLine, read_line};
 use std::alloc::Global;
 use std::test::Fail;
 
-/// A room, and lines that a new checker with this room is told, each with its answer.
-struct Log(u32, &'static [(&'static str, &'static str)]);
+/// A room; lines that a new checker with this room is told, each with its answer; and the verdicts behind them, where
+/// no literal is allowed, where 1 is, and where 1 and 2 are.
+struct Log {
+    room: u32,
+    lines: &'static [(&'static str, &'static str)],
+    verdicts: [bool; 3],
+}
 
-static LOGS: [Log; 13] = [
-    Log(
-        100,
-        &[
+static LOGS: [Log; 15] = [
+    Log {
+        room: 100,
+        lines: &[
             ("f 1 2 3 0", "Accepted"),
             ("f 1 2 -3 0", "Accepted"),
             ("l 1 2 0", "Accepted"),
         ],
-    ),
-    Log(
-        100,
-        &[
+        verdicts: [false, false, false],
+    },
+    Log {
+        room: 100,
+        lines: &[
             ("f 1 2 3 0", "Accepted"),
             ("f 1 2 -3 0", "Accepted"),
             ("l 1 0", "NotImplied"),
             ("m", "Accepted"),
             ("b bends 1 1", "Accepted"),
         ],
-    ),
-    Log(
-        100,
-        &[
+        verdicts: [false, false, false],
+    },
+    Log {
+        room: 100,
+        lines: &[
             ("r 0", "WrongQuery"),
             ("f 1 2 0", "Accepted"),
             ("f 1 -2 0", "Accepted"),
@@ -48,20 +57,22 @@ static LOGS: [Log; 13] = [
             ("l 2 0", "NotNew"),
             ("q 3 0", "NewVar"),
         ],
-    ),
-    Log(
-        100,
-        &[
+        verdicts: [true, true, true],
+    },
+    Log {
+        room: 100,
+        lines: &[
             ("f 1 3 0", "Accepted"),
             ("f 1 4 0", "Accepted"),
             ("f 2 -3 -4 0", "Accepted"),
             ("l 2 1 0", "NotNew"),
             ("l 1 2 0", "Accepted"),
         ],
-    ),
-    Log(
-        100,
-        &[
+        verdicts: [false, false, false],
+    },
+    Log {
+        room: 100,
+        lines: &[
             ("q 0", "Accepted"),
             ("r 0", "NotImplied"),
             ("f 0", "Accepted"),
@@ -69,10 +80,11 @@ static LOGS: [Log; 13] = [
             ("f 1 2 0", "Accepted"),
             ("l 1 0", "NotNew"),
         ],
-    ),
-    Log(
-        100,
-        &[
+        verdicts: [true, true, true],
+    },
+    Log {
+        room: 100,
+        lines: &[
             ("f -1 0", "Accepted"),
             ("f 2 3 0", "Accepted"),
             ("q 1 0", "Accepted"),
@@ -80,10 +92,11 @@ static LOGS: [Log; 13] = [
             ("r 1 0", "WrongQuery"),
             ("r -1 0", "Accepted"),
         ],
-    ),
-    Log(
-        100,
-        &[
+        verdicts: [false, false, false],
+    },
+    Log {
+        room: 100,
+        lines: &[
             ("f -1 2 0", "Accepted"),
             ("f -2 3 0", "Accepted"),
             ("f -3 4 0", "Accepted"),
@@ -94,10 +107,11 @@ static LOGS: [Log; 13] = [
             ("l -1 0", "Accepted"),
             ("l 2 0", "NotImplied"),
         ],
-    ),
-    Log(
-        12,
-        &[
+        verdicts: [false, false, false],
+    },
+    Log {
+        room: 12,
+        lines: &[
             ("f 1 2 3 0", "Accepted"),
             ("f 1 2 3 4 0", "Room"),
             ("l 4 1 0", "NewVar"),
@@ -105,39 +119,77 @@ static LOGS: [Log; 13] = [
             ("l 1 2 0", "Room"),
             ("f 0", "Room"),
         ],
-    ),
-    Log(
-        100,
-        &[
+        verdicts: [false, false, false],
+    },
+    Log {
+        room: 100,
+        lines: &[
             ("f 16777217 0", "Room"),
             ("f 7 0", "Accepted"),
             ("q -5 0", "Accepted"),
             ("l 8 0", "NewVar"),
         ],
-    ),
-    Log(2, &[("f 0", "Room")]),
-    Log(3, &[("f 0", "Accepted")]),
+        verdicts: [false, false, false],
+    },
+    Log {
+        room: 2,
+        lines: &[("f 0", "Room")],
+        verdicts: [false, false, false],
+    },
+    Log {
+        room: 3,
+        lines: &[("f 0", "Accepted")],
+        verdicts: [false, false, false],
+    },
     // The literal behind the first is false already, and yet the line is new.
-    Log(
-        100,
-        &[
+    Log {
+        room: 100,
+        lines: &[
             ("f -1 0", "Accepted"),
             ("f 1 2 3 0", "Accepted"),
             ("f 1 2 -3 0", "Accepted"),
             ("l 2 1 0", "Accepted"),
         ],
-    ),
+        verdicts: [false, false, false],
+    },
     // Only Formula lines in front of a line name variables for it.
-    Log(
-        100,
-        &[
+    Log {
+        room: 100,
+        lines: &[
             ("f 1 2 0", "Accepted"),
             ("b height 1 3", "Accepted"),
             ("q 3 0", "NewVar"),
             ("f 2 3 0", "Accepted"),
             ("q 3 0", "Accepted"),
         ],
-    ),
+        verdicts: [false, false, false],
+    },
+    // A verdict wants a Refuted line whose literals are all allowed.
+    Log {
+        room: 100,
+        lines: &[
+            ("f 1 2 0", "Accepted"),
+            ("f -1 0", "Accepted"),
+            ("q -2 -1 0", "Accepted"),
+            ("r 0", "NotImplied"),
+            ("r 2 0", "Accepted"),
+        ],
+        verdicts: [false, false, true],
+    },
+    // A Query line and a Learnt one are none.
+    Log {
+        room: 100,
+        lines: &[
+            ("f 1 2 0", "Accepted"),
+            ("f 1 -2 0", "Accepted"),
+            ("f -1 2 0", "Accepted"),
+            ("f -1 -2 0", "Accepted"),
+            ("q 0", "Accepted"),
+            ("r 0", "NotImplied"),
+            ("l 1 0", "Accepted"),
+        ],
+        verdicts: [false, false, false],
+    },
 ];
 
 /// What a checker answers to the line of a text.
@@ -154,98 +206,103 @@ fn told(alloc: Global, checker: &mut Checker, text: &str) -> Result<&'static str
     })
 }
 
-#[test]
-fn each_line_has_its_answer(rt: HostRuntime) -> Result<(), Fail> {
-    let alloc = rt.alloc();
-    for log in &LOGS {
-        let room = if log.0 < 1000 { log.0 } else { 1000 };
-        let mut checker = Checker::new(alloc, room)?;
-        for (text, answer) in log.1 {
-            assert_eq!(rt; told(alloc, &mut checker, text)?, *answer, "{text:?}");
-        }
-    }
-    Ok(())
-}
-
-#[test]
-fn a_verdict_wants_a_refuted_line_of_allowed_literals(rt: HostRuntime) -> Result<(), Fail> {
-    let alloc = rt.alloc();
-    let mut checker = Checker::new(alloc, 100)?;
-    told(alloc, &mut checker, "f 1 2 0")?;
-    told(alloc, &mut checker, "f -1 0")?;
-    told(alloc, &mut checker, "q -2 -1 0")?;
+/// A checker's verdicts, as a `Log` has them.
+fn verdicts_of(checker: &Checker) -> [bool; 3] {
     let one = Lit::new(Var(1), true);
     let two = Lit::new(Var(2), true);
-    assert!(rt; !checker.verdict(&[one, two]));
-    told(alloc, &mut checker, "r 0")?;
-    assert!(rt; !checker.verdict(&[one, two]));
-    told(alloc, &mut checker, "r 2 0")?;
-    assert!(rt; checker.verdict(&[one, two]));
-    assert!(rt; !checker.verdict(&[one]));
-    assert!(rt; !checker.verdict(&[]));
+    [
+        checker.verdict(&[]),
+        checker.verdict(&[one]),
+        checker.verdict(&[one, two]),
+    ]
+}
+
+/// Tells a new checker the lines of a log, which have their answers and verdicts.
+fn play(alloc: Global, log: &Log) -> Result<(), Fail> {
+    let mut checker = Checker::new(alloc, log.room.min(1_000))?;
+    for (text, answer) in log.lines {
+        if told(alloc, &mut checker, text)? != *answer {
+            return Err(Fail::new(*text));
+        }
+    }
+    if verdicts_of(&checker) != log.verdicts {
+        return Err(Fail::new("other verdicts"));
+    }
     Ok(())
 }
 
-/// Four clauses of two variables have no model, which one learnt clause shows.
-#[test]
-fn a_refuted_line_without_literals_allows_none(rt: HostRuntime) -> Result<(), Fail> {
-    let alloc = rt.alloc();
-    let mut checker = Checker::new(alloc, 100)?;
-    for (text, answer) in [
-        ("f 1 2 0", "Accepted"),
-        ("f 1 -2 0", "Accepted"),
-        ("f -1 2 0", "Accepted"),
-        ("f -1 -2 0", "Accepted"),
-        ("q 0", "Accepted"),
-        ("r 0", "NotImplied"),
-        ("l 1 0", "Accepted"),
-        ("l 1 0", "NotNew"),
-    ] {
-        assert_eq!(rt; told(alloc, &mut checker, text)?, answer, "{text:?}");
-        assert!(rt; !checker.verdict(&[]), "{text:?}");
+fn play_all(alloc: Global) -> Result<(), Fail> {
+    for log in &LOGS {
+        play(alloc, log)?;
     }
-    assert_eq!(rt; told(alloc, &mut checker, "r 0")?, "Accepted");
-    assert!(rt; checker.verdict(&[]));
     Ok(())
+}
+
+#[test]
+fn each_line_has_its_answer_and_each_log_its_verdicts(rt: HostRuntime) -> Result<(), Fail> {
+    play_all(rt.alloc())
 }
 
 /// How many links each of the two chains of the long log has.
 const LINKS: u32 = 2_000;
 
-/// Tells that the first variable implies the second where the variable 1 is false.
-fn tell_link(alloc: Global, checker: &mut Checker, from: u32, to: u32) -> Result<(), Fail> {
-    let text = format!(in alloc; "f -{from} 1 {to} 0")?;
-    told(alloc, checker, &text)?;
+/// The literal of a variable.
+fn literal(v: u32, positive: bool) -> Lit
+    requires from { 1 ≤ v }
+    requires to { v ≤ 10000 }
+{
+    Lit::new(Var(v), positive)
+}
+
+/// Tells that one of two literals is true where the variable 1 is false.
+fn tell_either(alloc: Global, checker: &mut Checker, a: Lit, b: Lit) -> Result<(), Fail> {
+    if a.var().0 == 1 || b.var().0 == 1 || a.var().0 == b.var().0 {
+        return Err(Fail::new("three variables"));
+    }
+    let lits = [a, Lit::new(Var(1), true), b];
+    checker.feed(&LogLine::Formula(Clause::new(alloc, &lits)?))?;
     Ok(())
 }
 
-/// Tells the formula of the long log: two chains of implications, whose last variables aren't both
-/// true, and twenty variables that are true or start both chains.
+/// Tells the formula of the long log: two chains of implications, whose last variables aren't both true, and twenty
+/// variables that are true or start both chains.
 fn tell_chains(alloc: Global, checker: &mut Checker) -> Result<(), Fail> {
     told(alloc, checker, "f -1 0")?;
     for i in 2..LINKS {
-        tell_link(alloc, checker, i, i + 1)?;
-        tell_link(alloc, checker, i + LINKS, i + 1 + LINKS)?;
+        let j = i + LINKS;
+        tell_either(alloc, checker, literal(i, false), literal(i + 1, true))?;
+        tell_either(alloc, checker, literal(j, false), literal(j + 1, true))?;
     }
-    let ends = format!(in alloc; "f -{} -{} 0", LINKS, 2 * LINKS)?;
-    told(alloc, checker, &ends)?;
+    tell_either(
+        alloc,
+        checker,
+        literal(LINKS, false),
+        literal(2 * LINKS, false),
+    )?;
     for start in 2 * LINKS + 1..2 * LINKS + 21 {
-        let first = format!(in alloc; "f {start} 2 0")?;
-        told(alloc, checker, &first)?;
-        let second = format!(in alloc; "f {start} {} 0", 2 + LINKS)?;
-        told(alloc, checker, &second)?;
+        tell_either(alloc, checker, literal(start, true), literal(2, true))?;
+        tell_either(
+            alloc,
+            checker,
+            literal(start, true),
+            literal(2 + LINKS, true),
+        )?;
+    }
+    Ok(())
+}
+
+/// Tells the long log, and that each of the twenty variables is true.
+fn follow_chains(alloc: Global) -> Result<(), Fail> {
+    let mut checker = Checker::new(alloc, 1_000_000)?;
+    tell_chains(alloc, &mut checker)?;
+    for start in 2 * LINKS + 1..2 * LINKS + 21 {
+        let clause = Clause::new(alloc, &[literal(start, true)])?;
+        checker.feed(&LogLine::Learnt(clause))?;
     }
     Ok(())
 }
 
 #[test]
 fn long_chains_are_followed_to_their_end(rt: HostRuntime) -> Result<(), Fail> {
-    let alloc = rt.alloc();
-    let mut checker = Checker::new(alloc, 1_000_000)?;
-    tell_chains(alloc, &mut checker)?;
-    for start in 2 * LINKS + 1..2 * LINKS + 21 {
-        let text = format!(in alloc; "l {start} 0")?;
-        assert_eq!(rt; told(alloc, &mut checker, &text)?, "Accepted");
-    }
-    Ok(())
+    follow_chains(rt.alloc())
 }
