@@ -1,4 +1,4 @@
-// Made conflicts: the learnt clause, and a false literal traced back.
+// Made conflicts: the learnt clause, and the variables that were met.
 ghost use Rattle.std.specs.Prelude.{◌≡◌, true, OnOk};
 ghost use Rattle.cnf_core.specs.Clause.{IsThere};
 ghost use Rattle.watch_arena.specs.Arena.{AreReasoned, AreWatched, IsClashOf};
@@ -10,7 +10,6 @@ use crate::written::{literal, number_of, spaced};
 use cdcl_learn::Analyser;
 use cnf_core::Lit;
 use std::alloc::Global;
-use std::process::Abort;
 use std::test::Fail;
 use watch_arena::{Arena, ClauseRef, Trail};
 
@@ -32,63 +31,31 @@ fn is_present(arena: &Arena, trail: &Trail, clash: ClauseRef) -> bool
     false
 }
 
-/// Learns from a clause all of whose literals are false, one of them of the present level.
-fn learn(rt: &impl Abort, analyser: &mut Analyser, arena: &Arena, trail: &Trail, clash: ClauseRef)
-    requires vars { analyser.old.vars ≡ trail.now.vars }
-    requires same { trail.now.vars ≡ arena.now.vars }
-    requires reasoned { AreReasoned arena.now trail.now }
-    requires clash { IsClashOf arena.now trail.now clash.0 }
-    ensures { analyser.new.vars ≡ analyser.old.vars }
-{
-    let present = is_present(arena, trail, clash);
-    assert!(rt; present);
-    analyser.analyse(arena, trail, clash);
-}
-
-/// Traces a false literal back that has a reason.
-fn trace(rt: &impl Abort, analyser: &mut Analyser, arena: &Arena, trail: &Trail, l: Lit)
-    requires vars { analyser.old.vars ≡ trail.now.vars }
-    requires same { trail.now.vars ≡ arena.now.vars }
-    requires reasoned { AreReasoned arena.now trail.now }
-    requires there { IsThere trail.now.vars l }
-    ensures { analyser.new.vars ≡ analyser.old.vars }
-{
-    let falsified = trail.is_false(l);
-    assert!(rt; falsified);
-    match trail.reason(l.var()) {
-        Some(_) => analyser.trace_back(arena, trail, l),
-        None => assert!(rt; false),
-    }
-}
-
 /// Decides a literal, and learns from the clause that this falsifies.
 fn learn_from(
-    rt: &impl Abort,
     analyser: &mut Analyser,
     arena: &mut Arena,
     trail: &mut Trail,
     l: Lit,
-)
+) -> Result<(), Fail>
     requires vars { analyser.old.vars ≡ trail.old.vars }
     requires same { trail.old.vars ≡ arena.old.vars }
     requires watched { AreWatched arena.old trail.old }
     requires reasoned { AreReasoned arena.old trail.old }
     requires there { IsThere trail.old.vars l }
-    ensures { analyser.new.vars ≡ analyser.old.vars }
 {
-    match decide(rt, arena, trail, l) {
-        Some(clash) => learn(rt, analyser, arena, trail, clash),
-        None => assert!(rt; false),
+    let Some(clash) = decide(arena, trail, l)? else {
+        return Err(Fail::new("a clause is false"));
+    };
+    if !is_present(arena, trail, clash) {
+        return Err(Fail::new("a literal of the present level"));
     }
+    analyser.analyse(arena, trail, clash);
+    Ok(())
 }
 
 /// Decides literals, from which no clause is falsified.
-fn decide_all(
-    rt: &impl Abort,
-    arena: &mut Arena,
-    trail: &mut Trail,
-    decided: &[i32],
-) -> Result<(), Fail>
+fn decide_all(arena: &mut Arena, trail: &mut Trail, decided: &[i32]) -> Result<(), Fail>
     requires same { trail.old.vars ≡ arena.old.vars }
     requires watched { AreWatched arena.old trail.old }
     requires reasoned { AreReasoned arena.old trail.old }
@@ -99,7 +66,7 @@ fn decide_all(
 {
     for number in decided {
         let l = literal(trail.vars(), *number)?;
-        if decide(rt, arena, trail, l).is_some() {
+        if decide(arena, trail, l)?.is_some() {
             return Err(Fail::new("no clause is false"));
         }
     }
@@ -139,72 +106,39 @@ fn learnt_told(alloc: Global, analyser: &Analyser) -> Result<String, Fail> {
     )?)
 }
 
-/// What false literals are traced back to, with the literal's negation, rising.
-fn traces_told(
-    rt: &impl Abort,
-    alloc: Global,
-    analyser: &mut Analyser,
-    arena: &Arena,
-    trail: &Trail,
-    traced: &[i32],
-) -> Result<String, Fail>
-    requires vars { analyser.old.vars ≡ trail.now.vars }
-    requires same { trail.now.vars ≡ arena.now.vars }
-    requires reasoned { AreReasoned arena.now trail.now }
-{
-    let mut said = String::new(alloc);
-    for number in traced {
-        let l = literal(trail.vars(), *number)?;
-        trace(rt, analyser, arena, trail, l);
-        let mut lits = literals_of(alloc, analyser)?;
-        lits.sort()?;
-        let clause = spaced(alloc, lits.as_slice())?;
-        let line = format!(in alloc; "traces{} back {}; ", clause.as_str(), analyser.back())?;
-        said.push_str(line.as_str())?;
-    }
-    Ok(said)
-}
-
-/// Clauses over so many variables; literals that are decided, and then one more, which falsifies a clause where no
-/// false literals are to be traced back; and what is told.
+/// Clauses over so many variables; literals that are decided, and then one more, which falsifies a clause; and what is
+/// told.
 struct Case {
     shows: &'static str,
     vars: u32,
     clauses: &'static [&'static [i32]],
     decided: &'static [i32],
     last: i32,
-    traced: &'static [i32],
     told: &'static str,
 }
 
-/// Decides a case's literals, and analyses. A clause that was learnt stays where a variable comes.
-fn play(rt: &impl Abort, alloc: Global, case: &Case) -> Result<String, Fail> {
+/// Decides a case's literals, and learns.
+fn play(alloc: Global, case: &Case) -> Result<String, Fail> {
     if case.vars > 5 {
         return Err(Fail::new("a case has few variables"));
     }
     let mut trail = Trail::with_vars(alloc, case.vars)?;
     let mut arena = Arena::new(alloc, case.vars, 100)?;
     let mut analyser = Analyser::with_vars(alloc, case.vars)?;
-    join_all(rt, alloc, &mut arena, &trail, case.clauses)?;
-    decide_all(rt, &mut arena, &mut trail, case.decided)?;
-    if case.traced.is_empty() {
-        let last = literal(case.vars, case.last)?;
-        learn_from(rt, &mut analyser, &mut arena, &mut trail, last);
-        analyser.add_vars(1)?;
-        return learnt_told(alloc, &analyser);
-    }
-    decide_all(rt, &mut arena, &mut trail, &[case.last])?;
-    traces_told(rt, alloc, &mut analyser, &arena, &trail, case.traced)
+    join_all(alloc, &mut arena, &trail, case.clauses)?;
+    decide_all(&mut arena, &mut trail, case.decided)?;
+    let last = literal(case.vars, case.last)?;
+    learn_from(&mut analyser, &mut arena, &mut trail, last)?;
+    learnt_told(alloc, &analyser)
 }
 
-static CASES: [Case; 4] = [
+static CASES: [Case; 3] = [
     Case {
         shows: "(-1 -4 -5) is falsified; the first unique implication point is 3.",
         vars: 5,
         clauses: &[&[-1, -2, 3], &[-3, 4], &[-3, 5], &[-1, -4, -5]],
         decided: &[1],
         last: 2,
-        traced: &[],
         told: "learns -3 -1 back 1 met 1 3 4 5",
     },
     Case {
@@ -213,7 +147,6 @@ static CASES: [Case; 4] = [
         clauses: &[&[-1, 2], &[-3, 4], &[-1, -2, -3, -4]],
         decided: &[1],
         last: 3,
-        traced: &[],
         told: "learns -3 -1 back 1 met 1 2 3 4",
     },
     Case {
@@ -222,25 +155,20 @@ static CASES: [Case; 4] = [
         clauses: &[&[1, 2], &[-2, 3], &[-2, -3]],
         decided: &[],
         last: -1,
-        traced: &[],
         told: "learns -2 back 0 met 2 3",
-    },
-    Case {
-        shows: "The false literal -4 follows from 1 and 3, and -2 from 1 alone.",
-        vars: 4,
-        clauses: &[&[-1, 2], &[-2, -3, 4]],
-        decided: &[1],
-        last: 3,
-        traced: &[-4, -2],
-        told: "traces -3 -1 4 back 0; traces -1 2 back 0; ",
     },
 ];
 
-#[test]
-fn conflicts_are_analysed(rt: HostRuntime) -> Result<(), Fail> {
+fn play_all(alloc: Global) -> Result<(), Fail> {
     for case in &CASES {
-        let told = play(&rt, rt.alloc(), case)?;
-        assert_eq!(rt; told.as_str(), case.told, "{}", case.shows);
+        if play(alloc, case)?.as_str() != case.told {
+            return Err(Fail::new(case.shows));
+        }
     }
     Ok(())
+}
+
+#[test]
+fn conflicts_are_analysed(rt: HostRuntime) -> Result<(), Fail> {
+    play_all(rt.alloc())
 }

@@ -1,25 +1,25 @@
 // Literals as numbers, and what is told of them.
-ghost use Rattle.std.specs.Prelude.{◌≤◌, IfOk, length};
+ghost use Rattle.std.specs.Prelude.{◌≡◌, ◌≤◌, IfOk, length};
 ghost use Rattle.cnf_core.specs.Clause.{AreDistinct, AreThere, IsThere};
 
+use cdcl_core::AddFault;
 use cnf_core::{LAST_VAR, Lit, Var};
 use refute_log::are_distinct;
 use std::alloc::Global;
-use std::test::Fail;
 
-/// The literal of a number: its variable, negative where the number is.
-pub fn literal(vars: u32, number: i32) -> Result<Lit, Fail>
+/// The literal of a number: its variable, negative where the number is. There is no room for other variables.
+pub fn literal(vars: u32, number: i32) -> Result<Lit, AddFault>
     ensures { IfOk result (λ l. IsThere vars l) }
 {
     let v = number.unsigned_abs();
     if v == 0 || v > vars || v > LAST_VAR {
-        return Err(Fail::new("a literal of a variable"));
+        return Err(AddFault::Room);
     }
     Ok(Lit::new(Var(v), number > 0))
 }
 
 #[tactic(auto, using(cnf_core::proofs::GatherLemmas::there_push))]
-fn literals(alloc: Global, vars: u32, numbers: &[i32]) -> Result<Vec<Lit>, Fail>
+fn literals(alloc: Global, vars: u32, numbers: &[i32]) -> Result<Vec<Lit>, AddFault>
     ensures { IfOk result (λ lits. AreThere vars lits.items) }
 {
     let mut lits = Vec::new(alloc);
@@ -29,16 +29,14 @@ fn literals(alloc: Global, vars: u32, numbers: &[i32]) -> Result<Vec<Lit>, Fail>
     Ok(lits)
 }
 
-/// A clause of two distinct literals or more.
-pub fn clause(alloc: Global, vars: u32, numbers: &[i32]) -> Result<Vec<Lit>, Fail>
-    ensures two { IfOk result (λ lits. 2 ≤ length lits.items) }
+/// A clause of distinct literals. There is no room for others.
+pub fn clause(alloc: Global, vars: u32, numbers: &[i32]) -> Result<Vec<Lit>, AddFault>
     ensures there { IfOk result (λ lits. AreThere vars lits.items) }
     ensures distinct { IfOk result (λ lits. AreDistinct lits.items) }
 {
     let lits = literals(alloc, vars, numbers)?;
-    let apart = are_distinct(alloc, lits.as_slice())?;
-    if !apart || lits.len() < 2 {
-        return Err(Fail::new("a clause of distinct literals"));
+    if !are_distinct(alloc, lits.as_slice())? {
+        return Err(AddFault::Room);
     }
     Ok(lits)
 }
@@ -50,7 +48,7 @@ pub fn number_of(l: Lit) -> i64 {
 }
 
 /// The numbers, each behind a space.
-pub fn spaced(alloc: Global, numbers: &[i64]) -> Result<String, Fail> {
+pub fn spaced(alloc: Global, numbers: &[i64]) -> Result<String, AddFault> {
     let mut said = String::new(alloc);
     for n in numbers {
         let word = format!(in alloc; " {}", n)?;

@@ -1,28 +1,34 @@
-// Logs that fail.
+// A log that keeps its last line alone, and may fail.
 ghost use Rattle.std.specs.Prelude.{◌≡◌, ⊤};
 
-use refute_log::{LogLine, LogSink, LogSinkFault};
+use refute_log::{LogLine, LogSink, LogSinkFault, write_line};
+use std::alloc::Global;
 
-/// A log that keeps no line, and refuses the one behind so many.
+/// The text of the last line, and how many were told. The line behind so many is refused.
 #[derive(Drop)]
-pub struct FailingLog {
+pub struct LastLine {
     left: u32,
     learnt: u64,
+    pub lines: u32,
+    pub text: Vec<u8>,
+    /// How many lines were refused.
     pub faults: u64,
 }
 
-impl FailingLog {
-    /// The log that refuses the line behind so many.
-    pub fn after(left: u32) -> FailingLog {
-        FailingLog {
+impl LastLine {
+    /// The log that takes so many lines.
+    pub fn of(alloc: Global, left: u32) -> LastLine {
+        LastLine {
             left,
             learnt: 0,
+            lines: 0,
+            text: Vec::new(alloc),
             faults: 0,
         }
     }
 }
 
-impl LogSink for FailingLog {
+impl LogSink for LastLine {
     ghost tells = { λ _ _. ⊥ };
 
     ghost learnt = { λ s. s.learnt };
@@ -32,11 +38,13 @@ impl LogSink for FailingLog {
     ghost is_later = { λ _ _. ⊤ };
 
     fn tell(&mut self, line: &LogLine) -> Result<(), LogSinkFault> {
-        if self.left == 0 {
+        if self.lines >= self.left {
             self.faults = self.faults.saturating_add(1);
             return Err(LogSinkFault::Failed);
         }
-        self.left -= 1;
+        self.text.clear();
+        write_line(line, &mut self.text)?;
+        self.lines += 1;
         self.learnt = line.count_after(self.learnt);
         Ok(())
     }
