@@ -156,11 +156,16 @@ static MOVES: [Move; 9] = [
     },
 ];
 
-#[test]
-fn fewest_moved_nodes_are_found(rt: HostRuntime) -> Result<(), Fail> {
+fn move_all(alloc: Global) -> Result<(), Fail> {
     for one in &MOVES {
-        let ends = search_of(rt.alloc(), one.grid, &one.former, one.limits)?;
-        assert_eq!(rt; ends, one.ends, "{}", one.shows);
+        if search_of(alloc, one.grid, &one.former, one.limits)? != one.ends {
+            return Err(Fail::new(one.shows));
+        }
     }
     Ok(())
+}
+
+#[test]
+fn fewest_moved_nodes_are_found(rt: HostRuntime) -> Result<(), Fail> {
+    move_all(rt.alloc())
 }

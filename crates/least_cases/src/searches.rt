@@ -6,8 +6,8 @@ use crate::stations::{LOOP, ONE, station_of};
 use cdcl_core::Solver;
 use certified_check::{ToldBound, first_lacking, none_certified};
 use cnf_core::ROOM;
-use drawing_cnf::{encode, greatest};
-use lex_minimise::{Limits, Outcome, minimise, minimise_with};
+use drawing_cnf::greatest;
+use lex_minimise::{Limits, Outcome, minimise_with};
 use plan_core::{Criterion, Grid, Order, Values};
 use plan_geometry::values;
 use port_graph::PortGraph;
@@ -15,16 +15,180 @@ use std::alloc::Global;
 use std::test::Fail;
 use track_order::TrackOrder;
 
-const HEIGHT_FIRST: [Criterion; 4] = [
+/// How a search ends: in a word, with its drawing's values, if it has one, how many criteria it says are settled, and
+/// whether it told a line.
+type Ending = (&'static str, Option<Values>, u8, bool);
+
+/// What a search is asked: the columns and rows of its grid, its order, how many clauses may be learnt and the room;
+/// how it ends, and how many bounds each of its criteria has, where they are counted.
+struct Search {
+    shows: &'static str,
+    file: &'static str,
+    grid: (u16, u16),
+    criteria: &'static [Criterion],
+    limits: (u32, u32),
+    ends: Ending,
+    bounds: &'static [usize],
+}
+
+const HEIGHT_FIRST: &[Criterion] = &[
     Criterion::Height,
     Criterion::Bends,
     Criterion::Diagonal,
     Criterion::Width,
 ];
 
-const WIDTH_FIRST: [Criterion; 2] = [Criterion::Width, Criterion::Height];
+const WIDTH_FIRST: &[Criterion] = &[Criterion::Width, Criterion::Height];
 
-const WIDTH_AND_BENDS: [Criterion; 2] = [Criterion::Width, Criterion::Bends];
+const WIDTH_AND_BENDS: &[Criterion] = &[Criterion::Width, Criterion::Bends];
+
+const LOOP_VALUES: Option<Values> = Some(Values {
+    height: 1,
+    bends: 2,
+    diagonal: 2,
+    width: 5,
+});
+
+const ONE_VALUES: Option<Values> = Some(Values {
+    height: 0,
+    bends: 0,
+    diagonal: 0,
+    width: 1,
+});
+
+/// Limits that no search here meets.
+const AMPLE: (u32, u32) = (100_000, ROOM);
+
+/// The words of the formula of one track on a grid of one step.
+const WORDS_OF_ONE: u32 = 298;
+
+/// The loop's branches rise by one column, and its switches need one more between them and the ends. On some grids
+/// there is one drawing: there each criterion is reached with its least value, and has bounds up to one more, as far as
+/// the grid allows more. One whose value is 0 has a bound only where a later value isn't 0.
+static SEARCHES: [Search; 12] = [
+    Search {
+        shows: "The loop.",
+        file: LOOP,
+        grid: (40, 8),
+        criteria: HEIGHT_FIRST,
+        limits: AMPLE,
+        ends: ("best", LOOP_VALUES, 0, true),
+        bounds: &[],
+    },
+    Search {
+        shows: "Another order.",
+        file: LOOP,
+        grid: (40, 8),
+        criteria: WIDTH_FIRST,
+        limits: AMPLE,
+        ends: ("best", LOOP_VALUES, 0, true),
+        bounds: &[],
+    },
+    Search {
+        shows: "The least grid.",
+        file: LOOP,
+        grid: (5, 1),
+        criteria: HEIGHT_FIRST,
+        limits: AMPLE,
+        ends: ("best", LOOP_VALUES, 0, true),
+        bounds: &[1, 3, 3, 5],
+    },
+    Search {
+        shows: "There is no drawing of four columns.",
+        file: LOOP,
+        grid: (4, 8),
+        criteria: HEIGHT_FIRST,
+        limits: AMPLE,
+        ends: ("none", None, 0, true),
+        bounds: &[],
+    },
+    Search {
+        shows: "There is none of one row.",
+        file: LOOP,
+        grid: (40, 0),
+        criteria: HEIGHT_FIRST,
+        limits: AMPLE,
+        ends: ("none", None, 0, true),
+        bounds: &[],
+    },
+    Search {
+        shows: "One track.",
+        file: ONE,
+        grid: (40, 8),
+        criteria: HEIGHT_FIRST,
+        limits: AMPLE,
+        ends: ("best", ONE_VALUES, 0, true),
+        bounds: &[],
+    },
+    Search {
+        shows: "One track in another order.",
+        file: ONE,
+        grid: (40, 8),
+        criteria: WIDTH_FIRST,
+        limits: AMPLE,
+        ends: ("best", ONE_VALUES, 0, true),
+        bounds: &[],
+    },
+    Search {
+        shows: "One track on a grid of one step.",
+        file: ONE,
+        grid: (1, 0),
+        criteria: HEIGHT_FIRST,
+        limits: AMPLE,
+        ends: ("best", ONE_VALUES, 0, true),
+        bounds: &[0, 1, 1, 1],
+    },
+    Search {
+        shows: "The same in another order.",
+        file: ONE,
+        grid: (1, 0),
+        criteria: WIDTH_AND_BENDS,
+        limits: AMPLE,
+        ends: ("best", ONE_VALUES, 0, true),
+        bounds: &[1, 0],
+    },
+    Search {
+        shows: "Without room for the formula nothing is told.",
+        file: ONE,
+        grid: (40, 8),
+        criteria: HEIGHT_FIRST,
+        limits: (10, 1),
+        ends: ("room", None, 0, false),
+        bounds: &[0, 0, 0, 0],
+    },
+    Search {
+        shows: "With room for the formula alone there is a drawing, and no bound is told.",
+        file: ONE,
+        grid: (1, 0),
+        criteria: HEIGHT_FIRST,
+        limits: (10, WORDS_OF_ONE),
+        ends: ("room", ONE_VALUES, 3, true),
+        bounds: &[0, 0, 0, 0],
+    },
+    Search {
+        shows: "No clause is learnt past the budget.",
+        file: LOOP,
+        grid: (6, 1),
+        criteria: HEIGHT_FIRST,
+        limits: (1, ROOM),
+        ends: ("conflicts", LOOP_VALUES, 2, true),
+        bounds: &[],
+    },
+];
+
+/// How an outcome ends, behind so many lines.
+fn ending_of(outcome: &Outcome, lines: u32) -> Ending {
+    let (word, found, settled) = match outcome {
+        Outcome::Best(d) => ("best", Some(d), 0),
+        Outcome::NoDrawing => ("none", None, 0),
+        Outcome::Spent { best, settled } => ("conflicts", best.as_ref(), *settled),
+        Outcome::Room { best, settled } => ("room", best.as_ref(), *settled),
+    };
+    match found {
+        Some(d) => (word, Some(values(d)), settled, lines > 0),
+        None => (word, None, settled, lines > 0),
+    }
+}
 
 /// The greatest value of each criterion.
 fn all_greatest(g: &PortGraph, grid: &Grid) -> Values {
@@ -36,41 +200,31 @@ fn all_greatest(g: &PortGraph, grid: &Grid) -> Values {
     }
 }
 
-/// The values of an outcome's drawing, or none where no drawing is lawful; the log certifies as much.
-fn certified_values(
+/// Whether the log certifies the values of the best drawing, or that no drawing is lawful.
+fn is_certified(
     alloc: Global,
-    g: &PortGraph,
-    grid: &Grid,
+    greatest: &Values,
     order: &Order,
     log: &CheckedLog,
     outcome: &Outcome,
-) -> Result<Option<Values>, Fail> {
+) -> Result<bool, Fail> {
     match outcome {
         Outcome::Best(d) => {
             let best = values(d);
-            let most = all_greatest(g, grid);
             let places = order.len();
-            match first_lacking(
+            let lacking = first_lacking(
                 alloc,
                 &log.checker,
                 &log.bounds,
-                &most,
+                greatest,
                 order,
                 &best,
                 places,
-            )? {
-                Some(_) => Err(Fail::new("the log certifies each value")),
-                None => Ok(Some(best)),
-            }
+            )?;
+            Ok(lacking.is_none())
         }
-        Outcome::NoDrawing => {
-            if none_certified(&log.checker) {
-                Ok(None)
-            } else {
-                Err(Fail::new("the log certifies that there is no drawing"))
-            }
-        }
-        _ => Err(Fail::new("the search ends")),
+        Outcome::NoDrawing => Ok(none_certified(&log.checker)),
+        _ => Ok(true),
     }
 }
 
@@ -81,15 +235,16 @@ fn searched(
     t: &TrackOrder,
     grid: &Grid,
     order: &Order,
+    limits: (u32, u32),
     log: &mut CheckedLog,
 ) -> Result<Outcome, Fail>
     requires { IsOrderOf g.now t.now }
 {
     let limits = Limits {
-        budget: 100_000,
-        room: ROOM,
+        budget: limits.0,
+        room: limits.1.min(ROOM),
     };
-    let mut solver = Solver::new(alloc, ROOM)?;
+    let mut solver = Solver::new(alloc, limits.room)?;
     let outcome = minimise_with(alloc, g, t, grid, order, &limits, &mut solver, log)?;
     if log.refused {
         return Err(Fail::new("the checker accepts each line"));
@@ -100,83 +255,16 @@ fn searched(
     Ok(outcome)
 }
 
-/// The values of the best drawing of a file's station, or none where no drawing is lawful. The log certifies as much.
-fn best_values(
-    alloc: Global,
-    file: &str,
-    (width, height): (u16, u16),
-    criteria: &[Criterion],
-) -> Result<Option<Values>, Fail> {
-    let (g, t) = station_of(alloc, file)?;
-    let grid = Grid::new(width, height).ok_or("a grid")?;
-    let order = Order::new(criteria).ok_or("an order")?;
-    let mut log = CheckedLog::new(alloc, ROOM)?;
-    let outcome = searched(alloc, &g, &t, &grid, &order, &mut log)?;
-    certified_values(alloc, &g, &grid, &order, &log, &outcome)
-}
-
-/// A search's file, the columns and rows of its grid, its order, and its least values; none where no drawing is lawful.
-type Search = (
-    &'static str,
-    (u16, u16),
-    &'static [Criterion],
-    Option<Values>,
-);
-
-const LOOP_VALUES: Values = Values {
-    height: 1,
-    bends: 2,
-    diagonal: 2,
-    width: 5,
-};
-
-const ONE_VALUES: Values = Values {
-    height: 0,
-    bends: 0,
-    diagonal: 0,
-    width: 1,
-};
-
-/// The loop's branches rise by one column, and its switches need one more between them and the ends. So there is no
-/// drawing of four columns, and none of one row.
-static SEARCHES: [Search; 7] = [
-    (LOOP, (40, 8), &HEIGHT_FIRST, Some(LOOP_VALUES)),
-    (LOOP, (40, 8), &WIDTH_FIRST, Some(LOOP_VALUES)),
-    (LOOP, (5, 1), &HEIGHT_FIRST, Some(LOOP_VALUES)),
-    (LOOP, (4, 8), &HEIGHT_FIRST, None),
-    (LOOP, (40, 0), &HEIGHT_FIRST, None),
-    (ONE, (40, 8), &HEIGHT_FIRST, Some(ONE_VALUES)),
-    (ONE, (40, 8), &WIDTH_FIRST, Some(ONE_VALUES)),
-];
-
-#[test]
-fn least_values_are_found_and_certified(rt: HostRuntime) -> Result<(), Fail> {
-    let alloc = rt.alloc();
-    for (file, grid, order, least) in &SEARCHES {
-        let found = best_values(alloc, file, *grid, order)?;
-        assert_eq!(rt; found, *least, "{grid:?} {order:?}");
+/// Searches a station as it is asked. What is found is certified.
+fn ending_in(alloc: Global, search: &Search, log: &mut CheckedLog) -> Result<Ending, Fail> {
+    let (g, t) = station_of(alloc, search.file)?;
+    let grid = Grid::new(search.grid.0, search.grid.1).ok_or("a grid")?;
+    let order = Order::new(search.criteria).ok_or("an order")?;
+    let outcome = searched(alloc, &g, &t, &grid, &order, search.limits, log)?;
+    if !is_certified(alloc, &all_greatest(&g, &grid), &order, log, &outcome)? {
+        return Err(Fail::new("the log certifies what was found"));
     }
-    Ok(())
-}
-
-/// Searches a file's station in this order, on a grid of this width and height, for so many learnt clauses and within
-/// so much room.
-fn limited(
-    alloc: Global,
-    file: &str,
-    (width, height): (u16, u16),
-    criteria: &[Criterion],
-    (budget, room): (u32, u32),
-    log: &mut CheckedLog,
-) -> Result<Outcome, Fail> {
-    let (g, t) = station_of(alloc, file)?;
-    let grid = Grid::new(width, height).ok_or("a grid")?;
-    let order = Order::new(criteria).ok_or("an order")?;
-    let limits = Limits {
-        budget,
-        room: room.min(ROOM),
-    };
-    Ok(minimise(alloc, &g, &t, &grid, &order, &limits, log)?)
+    Ok(ending_of(&outcome, log.lines))
 }
 
 /// How many bounds of a criterion were told.
@@ -184,83 +272,28 @@ fn count_of(bounds: &[ToldBound], c: Criterion) -> usize {
     bounds.iter().filter(|b| b.criterion == c).count()
 }
 
-/// A search's file, the columns and rows of its grid, its order, and how many bounds each of its criteria has.
-type Counts = (
-    &'static str,
-    (u16, u16),
-    &'static [Criterion],
-    &'static [usize],
-);
+/// Whether each criterion has so many bounds.
+fn are_counted(bounds: &[ToldBound], criteria: &[Criterion], counts: &[usize]) -> bool {
+    for (c, count) in criteria.iter().zip(counts.iter()) {
+        if count_of(bounds, *c) != *count {
+            return false;
+        }
+    }
+    true
+}
 
-/// On such a grid there is one drawing: so each criterion is reached with its least value, and has bounds up to one
-/// more, as far as the grid allows more. One whose value is 0 has a bound only where a later value isn't 0.
-static COUNTS: [Counts; 3] = [
-    (ONE, (1, 0), &HEIGHT_FIRST, &[0, 1, 1, 1]),
-    (ONE, (1, 0), &WIDTH_AND_BENDS, &[1, 0]),
-    (LOOP, (5, 1), &HEIGHT_FIRST, &[1, 3, 3, 5]),
-];
-
-#[test]
-fn a_criterion_has_the_bounds_of_its_value(rt: HostRuntime) -> Result<(), Fail> {
-    let alloc = rt.alloc();
-    for (file, grid, criteria, counts) in &COUNTS {
+fn search_all(alloc: Global) -> Result<(), Fail> {
+    for search in &SEARCHES {
         let mut log = CheckedLog::new(alloc, ROOM)?;
-        limited(alloc, file, *grid, criteria, (100_000, ROOM), &mut log)?;
-        for (c, count) in criteria.iter().zip(counts.iter()) {
-            assert_eq!(rt; count_of(&log.bounds, *c), *count, "{file} {c:?}");
+        let ends = ending_in(alloc, search, &mut log)?;
+        if ends != search.ends || !are_counted(&log.bounds, search.criteria, search.bounds) {
+            return Err(Fail::new(search.shows));
         }
     }
     Ok(())
 }
 
-/// Without room for the formula nothing is told.
 #[test]
-fn a_formula_without_room_is_told_to_no_log(rt: HostRuntime) -> Result<(), Fail> {
-    let alloc = rt.alloc();
-    let mut log = CheckedLog::new(alloc, ROOM)?;
-    match limited(alloc, ONE, (40, 8), &HEIGHT_FIRST, (10, 1), &mut log)? {
-        Outcome::Room { best, settled } => {
-            assert!(rt; best.is_none() && settled == 0 && log.lines == 0);
-            Ok(())
-        }
-        _ => Err(Fail::new("there is no room")),
-    }
-}
-
-/// The words of the formula of one track on a grid of one step.
-fn words_of_one(alloc: Global) -> Result<u32, Fail> {
-    let (g, t) = station_of(alloc, ONE)?;
-    let grid = Grid::new(1, 0).ok_or("a grid")?;
-    Ok(encode(alloc, &g, &t, &grid, ROOM)?.formula().words())
-}
-
-/// With room for the formula alone there is a drawing, and the bounds of the first criterion whose value can be
-/// positive are told in no part. On a grid of one step all values but the width are 0.
-#[test]
-fn a_bound_without_room_ends_the_search(rt: HostRuntime) -> Result<(), Fail> {
-    let alloc = rt.alloc();
-    let words = words_of_one(alloc)?;
-    let mut log = CheckedLog::new(alloc, ROOM)?;
-    match limited(alloc, ONE, (1, 0), &HEIGHT_FIRST, (10, words), &mut log)? {
-        Outcome::Room { best, settled } => {
-            assert!(rt; best.is_some() && settled == 3);
-            assert!(rt; log.words == words && log.bounds.len() == 0);
-            Ok(())
-        }
-        _ => Err(Fail::new("there is no room")),
-    }
-}
-
-/// No clause is learnt past the budget.
-#[test]
-fn a_search_stops_at_its_budget(rt: HostRuntime) -> Result<(), Fail> {
-    let alloc = rt.alloc();
-    let mut log = CheckedLog::new(alloc, ROOM)?;
-    match limited(alloc, LOOP, (6, 1), &HEIGHT_FIRST, (1, ROOM), &mut log)? {
-        Outcome::Spent { settled, .. } => {
-            assert!(rt; settled < 4 && log.learnt == 1 && !log.refused);
-            Ok(())
-        }
-        _ => Err(Fail::new("the budget is spent")),
-    }
+fn searches_end_and_are_certified(rt: HostRuntime) -> Result<(), Fail> {
+    search_all(rt.alloc())
 }
