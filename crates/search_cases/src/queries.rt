@@ -165,10 +165,36 @@ fn play(alloc: Global, case: &Case, log: &mut LastLine) -> Result<String, Fail> 
 /// The clauses of two variables that have no model: (1) is learnt, and they are refuted.
 const FOUR: &[&[i32]] = &[&[1, 2], &[1, -2], &[-1, 2], &[-1, -2]];
 
+/// Four pigeons don't fit three holes: a pigeon sits in one of them, and no two sit in one.
+const PIGEONS: &[&[i32]] = &[
+    &[1, 2, 3],
+    &[4, 5, 6],
+    &[7, 8, 9],
+    &[10, 11, 12],
+    &[-1, -4],
+    &[-2, -5],
+    &[-3, -6],
+    &[-1, -7],
+    &[-2, -8],
+    &[-3, -9],
+    &[-1, -10],
+    &[-2, -11],
+    &[-3, -12],
+    &[-4, -7],
+    &[-5, -8],
+    &[-6, -9],
+    &[-4, -10],
+    &[-5, -11],
+    &[-6, -12],
+    &[-7, -10],
+    &[-8, -11],
+    &[-9, -12],
+];
+
 /// More lines than any case tells.
 const MANY: u32 = 10_000;
 
-static CASES: [Case; 13] = [
+static CASES: [Case; 16] = [
     Case {
         shows: "A refutation speaks of assumptions alone.",
         room: 1_000,
@@ -345,6 +371,42 @@ Ok(Model) -1 2, line 10 is m
             budget: 1,
         }],
         told: "Ok(Room), line 5 is q 0\n",
+    },
+    Case {
+        shows: "2 follows from -1, and 3 from 2.",
+        room: 1_000,
+        vars: 3,
+        suggested: None,
+        queries: &[Query {
+            clauses: &[&[-2, 3], &[1, 2]],
+            assume: &[-1],
+            budget: 0,
+        }],
+        told: "Ok(Model) -1 2 3, line 4 is m\n",
+    },
+    Case {
+        shows: "3 and -3 follow from -1, and nothing has to be learnt.",
+        room: 1_000,
+        vars: 3,
+        suggested: None,
+        queries: &[Query {
+            clauses: &[&[-2, 3], &[-2, -3], &[1, 2]],
+            assume: &[-1],
+            budget: 0,
+        }],
+        told: "Ok(Refuted) -1, line 5 is r 1 0\n",
+    },
+    Case {
+        shows: "One clause of two literals or more is learnt of four pigeons, and then the budget is spent.",
+        room: 1_000,
+        vars: 12,
+        suggested: None,
+        queries: &[Query {
+            clauses: PIGEONS,
+            assume: &[],
+            budget: 1,
+        }],
+        told: "Ok(Spent), line 24 is l -5 9 12 0\n",
     },
 ];
 
