@@ -7,7 +7,7 @@ use cdcl_core::Solver;
 use certified_check::{ToldBound, first_lacking, none_certified};
 use cnf_core::ROOM;
 use drawing_cnf::greatest;
-use lex_minimise::{Limits, Outcome, minimise_with};
+use lex_minimise::{Limits, Outcome, minimise, minimise_with};
 use plan_core::{Criterion, Grid, Order, Values};
 use plan_geometry::values;
 use port_graph::PortGraph;
@@ -296,4 +296,34 @@ fn search_all(alloc: Global) -> Result<(), Fail> {
 #[test]
 fn searches_end_and_are_certified(rt: HostRuntime) -> Result<(), Fail> {
     search_all(rt.alloc())
+}
+
+/// How the search of a track ends that has a solver of its own, with so many words.
+fn ending_with(alloc: Global, words: u32) -> Result<Ending, Fail> {
+    let (g, t) = station_of(alloc, ONE)?;
+    let grid = Grid::new(40, 8).ok_or("a grid")?;
+    let order = Order::new(HEIGHT_FIRST).ok_or("an order")?;
+    let limits = Limits {
+        budget: 100_000,
+        room: words.min(ROOM),
+    };
+    let mut log = CheckedLog::new(alloc, ROOM)?;
+    let outcome = minimise(alloc, &g, &t, &grid, &order, &limits, &mut log)?;
+    Ok(ending_of(&outcome, log.lines))
+}
+
+/// A room of one word is full before any line is told, and the greatest one isn't.
+fn end_in_rooms(alloc: Global) -> Result<(), Fail> {
+    if ending_with(alloc, 1)? != ("room", None, 0, false) {
+        return Err(Fail::new("a room of one word"));
+    }
+    if ending_with(alloc, ROOM)? != ("best", ONE_VALUES, 0, true) {
+        return Err(Fail::new("the greatest room"));
+    }
+    Ok(())
+}
+
+#[test]
+fn a_search_with_a_solver_of_its_own_ends_in_a_room(rt: HostRuntime) -> Result<(), Fail> {
+    end_in_rooms(rt.alloc())
 }
