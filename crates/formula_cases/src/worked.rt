@@ -82,15 +82,15 @@ static STEPPED: [Point; 4] = [
     Point { x: 4, y: 3 },
 ];
 
-/// The bends and the diagonal of a line, and its height in column 1, where the points are one.
-fn measured(points: &[Point]) -> Option<(u32, u32, u16)> {
+/// The bends and the diagonal of a line, and its height in a column, where the points are a line.
+fn measured(points: &[Point], column: u16) -> Option<(u32, u32, u16)> {
     let line = Line::new(points)?;
-    Some((line.bends(), line.diagonal(), line.height_at(1)?))
+    Some((line.bends(), line.diagonal(), line.height_at(column)?))
 }
 
 #[test]
 fn a_line_has_one_of_the_shapes(rt: HostRuntime) {
-    assert_eq!(rt; measured(&RISING), Some((0, 2, 1)));
-    assert_eq!(rt; measured(&PEAKED), None);
-    assert_eq!(rt; measured(&STEPPED), Some((2, 3, 1)));
+    assert_eq!(rt; measured(&RISING, 1), Some((0, 2, 1)));
+    assert_eq!(rt; measured(&PEAKED, 1), None);
+    assert_eq!(rt; measured(&STEPPED, 3), Some((2, 3, 2)));
 }
