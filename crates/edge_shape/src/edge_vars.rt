@@ -12,7 +12,7 @@ ghost use Rattle.order_int.specs.IntVars.{IntIsThere};
 ghost use Rattle.edge_shape.specs.EdgeVars.{edge_lits, edge_size, edge_spot, lits_of, node_ints, up_at};
 ghost use Rattle.edge_shape.specs.EdgeVars.{down_at};
 ghost use Rattle.edge_shape.specs.EdgeVars.{bend_at, EdgeIsPlaced, IsNode};
-ghost use Rattle.edge_shape.specs.Edge.{edge_clauses};
+ghost use Rattle.edge_shape.specs.Between.{spot_clauses};
 ghost use Rattle.edge_shape.specs.ReadsLine.{ReadsLine};
 ghost use Rattle.edge_shape.specs.Between.{HoldsBetween, ModelsAreLines, LinesAreModels};
 
@@ -204,9 +204,9 @@ pub fn add_edge(
     requires west { IsNode f.old.vars grid.now.height grid.now.width (node_ints west.now.x west.now.y) }
     requires east { IsNode f.old.vars grid.now.height grid.now.width (node_ints east.now.x east.now.y) }
     ensures edge { IfOk result (λ e. e ≡ edge_spot (f.old.vars + 1) grid.now.height grid.now.width) }
-    ensures adds { let g = grid.now in
-        AddsBlock result f.old f.new (edge_size g.height g.width) (edge_clauses (edge_lits (f.old.vars + 1) g.height
-        g.width) (node_ints west.now.x west.now.y) (node_ints east.now.x east.now.y) g.least g.height g.width) 5 }
+    ensures adds { let g = grid.now in AddsBlock result f.old f.new (edge_size g.height g.width)
+        (spot_clauses (edge_spot (f.old.vars + 1) g.height g.width) (node_ints west.now.x west.now.y)
+        (node_ints east.now.x east.now.y) g.least) 5 }
     ensures words { words_of f.new.clauses ≤ words_of f.old.clauses + 2000 *
         ((grid.now.width + 1) * (grid.now.height + 1)) }
     ensures vars { f.new.vars ≤ f.old.vars + 100 * ((grid.now.width + 1) * (grid.now.height + 1)) }
@@ -231,9 +231,9 @@ fn make_edge(
     requires east_x { IntIsThere f.old.vars east.now.x }
     requires east_y { IntIsThere f.old.vars east.now.y }
     ensures edge { IfOk result (λ e. e ≡ edge_spot (f.old.vars + 1) grid.now.height grid.now.width) }
-    ensures adds { let g = grid.now in
-        AddsBlock result f.old f.new (edge_size g.height g.width) (edge_clauses (edge_lits (f.old.vars + 1) g.height
-        g.width) (node_ints west.now.x west.now.y) (node_ints east.now.x east.now.y) g.least g.height g.width) 5 }
+    ensures adds { let g = grid.now in AddsBlock result f.old f.new (edge_size g.height g.width)
+        (spot_clauses (edge_spot (f.old.vars + 1) g.height g.width) (node_ints west.now.x west.now.y)
+        (node_ints east.now.x east.now.y) g.least) 5 }
     ensures is_grid { IsGrid grid.now }
 {
     let high = u32::from(grid.height());

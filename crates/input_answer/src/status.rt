@@ -13,8 +13,8 @@ pub enum Status {
     WordsRefused,
     /// No drawing is lawful.
     NoDrawing,
-    /// The search for a drawing, or the check of a log, stopped before its end: the budget is spent, or there is no
-    /// room.
+    /// The search for a drawing, or the check of a log or of hinted lines, stopped before its end: the budget is spent,
+    /// or there is no room.
     Unfinished,
     /// A file couldn't be read.
     Unread,
@@ -22,8 +22,8 @@ pub enum Status {
     Unwritten,
     /// Memory couldn't be had.
     NoMemory,
-    /// The sheet's drawing breaks a law, a line of the log is refused, or the log doesn't certify what the sheet
-    /// claims.
+    /// The sheet's drawing breaks a law, a line of the log or of the hinted lines is refused, or the lines don't
+    /// certify what the sheet claims.
     Broken,
 }
 

@@ -286,9 +286,9 @@ fn add_crossing_at(
     requires c { east_upper.0 < length g.now.edges }
     requires d { east_lower.0 < length g.now.edges }
     requires unless { AreThere f.old.vars unless.now }
-    ensures { let at = slope_vars g.now (drawing_vars g.now grid.now) n.0 in
-        AddsClauses result f.old f.new (unless_rules unless.now (crossing_rules (at west_upper.0) (at west_lower.0)
-        (at east_upper.0) (at east_lower.0))) (length unless.now + 2) }
+    ensures { let s = slope_vars g.now (drawing_vars g.now grid.now) n.0 in
+        AddsClauses result f.old f.new (unless_rules unless.now (crossing_rules (s west_upper.0) (s west_lower.0)
+        (s east_upper.0) (s east_lower.0))) (length unless.now + 2) }
 {
     let a = edge_vars(g, grid, west_upper);
     let b = edge_vars(g, grid, west_lower);

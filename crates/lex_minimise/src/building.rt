@@ -144,7 +144,7 @@ pub(crate) fn build<L: LogSink>(
         (caps_of known.old.told.items) solver.old.vars c cap b (caps_of known.new.told.items) solver.new.vars) }
     ensures lines { IfOk result (λ b. GoesOn (KnowsWith known.old solver.old) (KnowsWith known.new solver.new)
         (L.tells log.old) (L.tells log.new) (L.learnt log.old) (L.learnt log.new)
-        (λ l m. IsBuild (task_with known.old) solver.old.vars c cap b l m)) }
+        (IsBuild (task_with known.old) solver.old.vars c cap b)) }
     ensures leaves { OnErr result (Leaves (sum_lines (task_with known.old).encoding solver.old.vars c cap)
         (KnowsWith known.old solver.old) (L.tells log.old) (L.tells log.new)) }
     ensures later { L.is_later log.old log.new }

@@ -67,8 +67,8 @@ pub fn minimise_with<L: LogSink>(
     ensures right { let p = task_of (layout g.now t.now grid.now) limits.now.budget limits.now.room in
         IfOk result (IsRightOutcome p wanted.now) }
     ensures lines { let p = task_of (layout g.now t.now grid.now) limits.now.budget limits.now.room in
-        IfOk result (λ o. (lines : Lines) × told_to L.tells L.learnt log.old log.new lines
-        × IsOutcome p wanted.now o lines × IsLogOfSolver solver.new lines) }
+        IfOk result (λ o. (ls : Lines) × told_to L.tells L.learnt log.old log.new ls
+        × IsOutcome p wanted.now o ls × IsLogOfSolver solver.new ls) }
     ensures later { L.is_later log.old log.new }
     ensures faults { L.faults log.old ≤ L.faults log.new }
     ensures cause { IsErrOf result MinFault.Log → Rose (L.faults log.old) (L.faults log.new) }

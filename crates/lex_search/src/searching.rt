@@ -85,9 +85,9 @@ pub fn least_values<O: Oracle>(
     requires fresh { IsFresh (O.task oracle.old) (O.caps oracle.old) (O.vars oracle.old) }
     requires start { O.knows oracle.old (first_lines (O.task oracle.old)) }
     ensures right { IfOk result (IsRightOutcome (O.task oracle.old) wanted.now) }
-    ensures lines { IfOk result (λ o. let p = O.task oracle.old in let ls = first_lines p in
+    ensures lines { IfOk result (λ o. let p = O.task oracle.old in let l = first_lines p in
         ToldBehind (O.knows oracle.new) (O.log oracle.old) (O.log oracle.new) (O.learnt oracle.old)
-        (O.learnt oracle.new) ls (λ m. IsOutcome p wanted.now o (ls ++ m))) }
+        (O.learnt oracle.new) l (λ m. IsOutcome p wanted.now o (l ++ m))) }
     ensures task { O.task oracle.new ≡ O.task oracle.old }
     ensures later { O.is_later oracle.old oracle.new }
     ensures faults { O.faults oracle.old ≤ O.faults oracle.new }

@@ -86,6 +86,7 @@ impl Heap {
         ensures more { OnOk result (self.new ≡ with_fresh self.old n) }
         ensures none { OnErr result (self.new ≡ self.old) }
         ensures held { OnOk result ((v : ℕ) → self.old.vars < v → v ≤ self.new.vars → IsHeld self.new v) }
+        ensures idle { OnOk result ((v : ℕ) → self.old.vars < v → v ≤ self.new.vars → activity self.new v ≡ 0) }
     {
         let leaves = leaves_for(self.vars + n);
         if self.tree.len() < 2 * leaves as usize {

@@ -31,9 +31,9 @@ pub fn lawful_drawings_have_room()
 
 /// What is read of one file, and the topology that is resolved from it, are of one file.
 pub fn read_from_one_file()
-    ensures { (bytes : List ℕ) (rows : List AnElem) (t : ATopology) (signals : List ASignal) →
-        GivesRows bytes rows → AreFormed rows → ResolvesTo rows t → IsResolved t → GivesSignals bytes signals →
-        AreRising signals → AreOfOneFile rows t signals }
+    ensures { (bytes : List ℕ) (rows : List AnElem) (t : ATopology) (s : List ASignal) →
+        GivesRows bytes rows → AreFormed rows → ResolvesTo rows t → IsResolved t → GivesSignals bytes s →
+        AreRising s → AreOfOneFile rows t s }
 {}
 
 /// Mileages rise or fall along a track throughout. So a signal whose mileage lies between those of the nodes to which

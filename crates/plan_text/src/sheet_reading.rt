@@ -86,7 +86,7 @@ fn lines<'a>(
     text: &'a [u8],
 ) -> Result<(Vec<Line>, &'a [u8]), SheetFault>
     ensures { let h = g.now in
-        MatchResult result (λ p. (length p.0.items ≡ length h.edges) × (length p.0.items ≤ MAX_EDGES) × AreDrawn edition
+        MatchResult result (λ p. (length p.0.items ≡ length h.edges) × (length h.edges ≤ MAX_EDGES) × AreDrawn edition
         h text.now p.0.items p.1.now) (IsFaultAfterAny h (edge_due edition h 0) text.now (length h.nodes + 6)) }
 {
     let first = u32::from(g.nodes()) + 6;

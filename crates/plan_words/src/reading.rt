@@ -57,7 +57,8 @@ fn read_line(alloc: Global, words: &[String]) -> Result<Command, WordFault>
 /// the command line, without the program's own name.
 ///
 /// Positions count from 1 at the command. The leftmost fault of a name or an option counts; where
-/// there is none, that a name is missing; and then that two files of `draw` or `signals` have one name.
+/// there is none, that a name is missing; and then that a file which is written, of `draw`, `signals`, `redraw` or
+/// `trim`, has the name of another.
 pub fn read_words(alloc: Global, words: &[String]) -> Result<Command, WordFault>
     ensures { AnswersExactly result WordFault.Memory (IsCommandOf (texts_of words.now))
         (IsWordFault (texts_of words.now)) }

@@ -42,7 +42,7 @@ pub record IsRest (clause : List Literal) (l : Literal) (rest : Rest) : Type 0 w
   pub first : Contains clause rest.first
   pub last : Contains clause rest.last
 
--- some clause has l, and the two others beside it
+-- some clause has these two, and no others but l
 pub record IsShort (clauses : Clauses) (l : Literal) (rest : Rest) : Type 0 where
   pub clause : List Literal
   pub among : Contains clauses clause

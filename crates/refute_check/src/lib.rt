@@ -4,10 +4,11 @@
 //! and their answers. `Checker` takes the lines one by one and accepts exactly those that stand
 //! after the accepted ones: they follow by unit propagation, and a learnt one is new. Which lines
 //! stand and which logs derive says `specs/Log` of `refute_log`, and `specs/Kept` what a checker keeps
-//! and why it refuses a line; both cite the closure of `cnf_core`. The other modules propagate by
-//! counting false literals over the lists of clauses that have a literal (`specs/Entries`, `specs/Tables`,
-//! `specs/Settled`, `specs/Standing`); they share definitions and laws with a solver, and no code. The
-//! command that checks a log file stands on this crate.
+//! and why it refuses a line; both cite the closure of `cnf_core`. The other modules propagate over the lists
+//! of clauses that have a literal: they look at clauses of two and three literals whole, and in the others
+//! they count the literals that aren't false (`specs/Entries`, `specs/Tables`, `specs/Settled`,
+//! `specs/Standing`). They share definitions and laws with a solver, and no code. The command that checks a
+//! log file stands on this crate.
 #![tactic(auto)]
 
 mod adding;
