@@ -1,5 +1,5 @@
--- The lines of a text without a fault, and how many Bound lines they have.
-use Rattle.std.proofs.Common.{◌≡◌, ◌≤◌, ◌<◌, ℕ, ◌+◌, Bool, true, false, cond, List, [], ◌∷◌, ◌++◌, length, refl, sym, ◌∙◌, ap, inl, inr, arith, append-nil, append_assoc, length-append}
+-- The Bound lines of a text, and how many they are.
+use Rattle.std.proofs.Common.{◌≡◌, ◌≢◌, ◌≤◌, ◌<◌, ℕ, ◌+◌, Bool, true, false, cond, List, [], ◌∷◌, ◌++◌, length, refl, sym, ◌∙◌, ap, inl, inr, arith, append-nil, append_assoc, length-append}
 use Rattle.std.specs.Prelude.{All, Option, Some, None, flat_map, min, codes}
 use Rattle.std.proofs.lemmas.Grind.{flat_map-append}
 use Rattle.std.proofs.lemmas.List.Elements.{All-nil, All-cons, All-head, All-tail}
@@ -10,25 +10,68 @@ use Rattle.plan_core.specs.Values.{value_of}
 use Rattle.cnf_core.specs.declared.literal.Var.{Var}
 use Rattle.line_text.specs.Fields.{LacksByte, IsCutAt}
 use Rattle.refute_log.specs.declared.line.LogLine.{LogLine}
-use Rattle.refute_log.specs.declared.line.LogLine.TheVariants.{Bound}
+use Rattle.refute_log.specs.declared.line.LogLine.TheVariants.{Formula, Learnt, Bound, Query, Refuted, Model}
 use Rattle.refute_log.specs.declared.fault.LogWhat.{LogWhat}
+use Rattle.refute_log.specs.Lines.{log_line_text}
 use Rattle.refute_log.specs.LineText.{IsTextOf, HasLineFault}
 use Rattle.refute_log.specs.Told.{Lines}
-use Rattle.refute_log.proofs.LawLemmas.{line_no_fault}
+use Rattle.refute_log.proofs.LawLemmas.{line_once, line_no_fault}
 use Rattle.certified_values.specs.Expected.{same_criterion, bound_var, bound_vars, caps}
-use Rattle.log_check.specs.Faultless.{AreFaultless, HasFaultless}
+use Rattle.log_check.specs.TextLines.{AreToldBounds, HasToldBounds, IsBoundText, bound_line}
 use Rattle.log_check.specs.Counted.{count_of, IsCountOf, HasCounted}
 
 -- ---- one text
 
-pub one_line : (text : List ℕ) (line : LogLine) → IsTextOf text line → AreFaultless (text ∷ []) (line ∷ [])
-one_line text line is = inl (line, [], refl, is, tt)
+-- the text that was read, or was not, has so many Bound lines
+abbrev pub AreCounted : List ℕ → Option Criterion → Type 0
+AreCounted text found = (lines : Lines) × AreToldBounds (text ∷ []) lines × IsCountOf found lines
 
-pub no_line : (text : List ℕ) (what : LogWhat) → HasLineFault text what → AreFaultless (text ∷ []) []
-no_line text what fault = inr ((λ line is. line_no_fault text line what is fault), tt)
+-- the text of a line that is no Bound line is that of none
+pub no_other : (text : List ℕ) (line : LogLine) → bound_line line ≡ [] → IsTextOf text line → (other : LogLine) → IsBoundText text other → ⊥
+no_other text line none is other h =
+    let same : line ≡ other = line_once text line other is.spells h.1.spells in
+    let e : [] ≡ other ∷ [] = sym none ∙ ap bound_line same ∙ h.0 in
+    cc
+
+-- of the text of a line the Bound lines are those of the line
+pub told_by : (text : List ℕ) (line : LogLine) → IsTextOf text line → AreToldBounds (text ∷ []) (bound_line line)
+told_by text (Formula c) is = inr (no_other text (Formula c) refl is, tt)
+told_by text (Learnt c) is = inr (no_other text (Learnt c) refl is, tt)
+told_by text (Bound c k x) is = inl (Bound c k x, [], refl, (refl, is), tt)
+told_by text (Query c) is = inr (no_other text (Query c) refl is, tt)
+told_by text (Refuted c) is = inr (no_other text (Refuted c) refl is, tt)
+told_by text Model is = inr (no_other text Model refl is, tt)
+
+pub counted_line : (text : List ℕ) (line : LogLine) (found : Option Criterion) → IsTextOf text line → IsCountOf found (bound_line line) → AreCounted text found
+counted_line text line found is count = (bound_line line, told_by text line is, count)
 
 pub count_none : IsCountOf None []
 count_none = λ d. refl
+
+pub no_line : (text : List ℕ) (what : LogWhat) → HasLineFault text what → AreCounted text None
+no_line text what fault = ([], inr ((λ line is. line_no_fault text line what is.1 fault), tt), count_none)
+
+-- a text that doesn't begin with the letter is that of no Bound line
+begins_with : (b : ℕ) (text other : List ℕ) → text ≡ other → (first : List ℕ → ℕ) → ((x : ℕ) (xs : List ℕ) → first (x ∷ xs) ≡ x) → first [] ≢ b → first other ≡ b → (rest : List ℕ) × (text ≡ b ∷ rest)
+begins_with b text [] same first at none is = absurd (none is)
+begins_with b text (x ∷ xs) same first at none is = let e : x ≡ b = sym (at x xs) ∙ is in (xs, cc (same, e))
+
+abbrev first_byte : List ℕ → ℕ
+first_byte [] = 0
+first_byte (b ∷ bs) = b
+
+none_without : (text : List ℕ) → ((rest : List ℕ) → text ≢ codes "b" ++ rest) → (line : LogLine) → IsBoundText text line → ⊥
+none_without text none (Formula c) h = let e : [] ≡ Formula c ∷ [] = h.0 in cc
+none_without text none (Learnt c) h = let e : [] ≡ Learnt c ∷ [] = h.0 in cc
+none_without text none (Bound c k x) h =
+    let front = begins_with 98 text (log_line_text (Bound c k x)) h.1.spells.spelled first_byte (λ x xs. refl) (λ e. let f : 0 ≡ 98 = e in omega (arith, f)) refl in
+    none front.0 front.1
+none_without text none (Query c) h = let e : [] ≡ Query c ∷ [] = h.0 in cc
+none_without text none (Refuted c) h = let e : [] ≡ Refuted c ∷ [] = h.0 in cc
+none_without text none Model h = let e : [] ≡ Model ∷ [] = h.0 in cc
+
+pub no_letter : (text : List ℕ) → ((rest : List ℕ) → text ≢ codes "b" ++ rest) → AreCounted text None
+no_letter text none = ([], inr (none_without text none, tt), count_none)
 
 pub count_bound : (c : Criterion) (k : ℕ) (x : Var) → IsCountOf (Some c) (Bound c k x ∷ [])
 count_bound c k x = λ d. by (same_criterion d c)
@@ -50,14 +93,27 @@ counted_more greatest numbers new found lines more old count is c =
     let d = is c in
     omega arith
 
+-- the numbers of Bound lines are those of all lines
+pub bounds_alone : (c : Criterion) (lines : Lines) → bound_vars c (flat_map bound_line lines) ≡ bound_vars c lines
+bounds_alone c [] = refl
+bounds_alone c (Formula d ∷ lines) = bounds_alone c lines
+bounds_alone c (Learnt d ∷ lines) = bounds_alone c lines
+bounds_alone c (Bound d k x ∷ lines) = ap (λ (xs : List Var). bound_var c (Bound d k x) ++ xs) (bounds_alone c lines)
+bounds_alone c (Query d ∷ lines) = bounds_alone c lines
+bounds_alone c (Refuted d ∷ lines) = bounds_alone c lines
+bounds_alone c (Model ∷ lines) = bounds_alone c lines
+
+pub caps_alone : (greatest : Criterion → ℕ) (lines : Lines) (c : Criterion) → caps greatest (flat_map bound_line lines) c ≡ caps greatest lines c
+caps_alone greatest lines c = ap (λ (xs : List Var). min (length xs) (greatest c)) (bounds_alone c lines)
+
 -- ---- all texts
 
-faultless_append : (xs ys : List (List ℕ)) (a b : Lines) → AreFaultless xs a → AreFaultless ys b → AreFaultless (xs ++ ys) (a ++ b)
-faultless_append [] ys [] b h k = k
-faultless_append [] ys (l ∷ a) b h k = absurd h
-faultless_append (x ∷ xs) ys a b (inl h) k =
-    inl (h.0, h.1 ++ b, ap (λ (ls : Lines). ls ++ b) h.2, h.3, faultless_append xs ys h.1 b h.4 k)
-faultless_append (x ∷ xs) ys a b (inr h) k = inr (h.0, faultless_append xs ys a b h.1 k)
+told_append : (xs ys : List (List ℕ)) (a b : Lines) → AreToldBounds xs a → AreToldBounds ys b → AreToldBounds (xs ++ ys) (a ++ b)
+told_append [] ys [] b h k = k
+told_append [] ys (l ∷ a) b h k = absurd h
+told_append (x ∷ xs) ys a b (inl h) k =
+    inl (h.0, h.1 ++ b, ap (λ (ls : Lines). ls ++ b) h.2, h.3, told_append xs ys h.1 b h.4 k)
+told_append (x ∷ xs) ys a b (inr h) k = inr (h.0, told_append xs ys a b h.1 k)
 
 all_append : (P : List ℕ → Type 0) (xs : List (List ℕ)) (y : List ℕ) → All P xs → P y → All P (xs ++ y ∷ [])
 all_append P [] y h k = All-cons P y [] k (All-nil P)
@@ -72,14 +128,14 @@ counted_none log greatest numbers none = record {
   lines = [];
   each = All-nil (LacksByte 10);
   spelled = refl;
-  faultless = tt;
+  bounds = tt;
   counts = λ c. none c ∙ (let e : 0 ≡ min 0 (greatest c) = omega arith in e);
 }
 
 pub counted_next : (log rest text after : List ℕ) (greatest numbers new : Criterion → ℕ) → IsCutAt 10 rest text after →
-    (found : Option Criterion) (more : Lines) → AreFaultless (text ∷ []) more → IsCountOf found more →
+    (found : Option Criterion) (more : Lines) → AreToldBounds (text ∷ []) more → IsCountOf found more →
     ((d : Criterion) → new d ≡ min (numbers d + count_of found d) (greatest d)) → HasCounted log rest greatest numbers → HasCounted log after greatest new
-counted_next log rest text after greatest numbers new cut found more faultless count is h =
+counted_next log rest text after greatest numbers new cut found more bounds count is h =
     record {
       texts = h.texts ++ text ∷ [];
       lines = h.lines ++ more;
@@ -88,15 +144,15 @@ counted_next log rest text after greatest numbers new cut found more faultless c
           h.spelled ∙ ap (λ (ts : List ℕ). flat_map ended h.texts ++ ts) (cut.spelled ∙ sym (append_assoc text (10 ∷ []) after))
           ∙ sym (append_assoc (flat_map ended h.texts) (ended text) after)
           ∙ ap (λ (ts : List ℕ). ts ++ after) (ap (λ (ts : List ℕ). flat_map ended h.texts ++ ts) (sym (append-nil (ended text))) ∙ sym (flat_map-append ended h.texts (text ∷ [])));
-      faultless = faultless_append h.texts (text ∷ []) h.lines more h.faultless faultless;
+      bounds = told_append h.texts (text ∷ []) h.lines more h.bounds bounds;
       counts = counted_more greatest numbers new found h.lines more h.counts count is;
     }
 
 pub counted_all : (log rest : List ℕ) (greatest numbers : Criterion → ℕ) → LacksByte 10 rest → HasCounted log rest greatest numbers →
-    (lines : Lines) × HasFaultless log lines × ((c : Criterion) → numbers c ≡ caps greatest lines c)
+    (lines : Lines) × HasToldBounds log lines × ((c : Criterion) → numbers c ≡ caps greatest lines c)
 counted_all log rest greatest numbers unended h = (
   h.lines,
-  record { texts = h.texts; cut = record { rest = rest; each = h.each; unended = unended; spelled = h.spelled }; faultless = h.faultless },
+  record { texts = h.texts; cut = record { rest = rest; each = h.each; unended = unended; spelled = h.spelled }; bounds = h.bounds },
   h.counts,
 )
 

@@ -10,7 +10,7 @@ use Rattle.refute_log.specs.LineText.{IsTextOf, HasLineFault}
 use Rattle.refute_log.specs.Told.{Lines}
 use Rattle.refute_log.proofs.LawLemmas.{line_once, line_no_fault, fault_once}
 use Rattle.refute_log.proofs.FeedLemmas.{line_lacks, told_is_read}
-use Rattle.log_check.specs.Faultless.{AreTextLines, AreFaultless, HasFaultless, HasNextFault}
+use Rattle.log_check.specs.TextLines.{AreTextLines, AreToldBounds, HasToldBounds, HasNextFault}
 
 -- ---- one cut
 
@@ -58,21 +58,21 @@ text_lines_once text xs ys h k = same_lines xs ys h.rest k.rest h.each k.each h.
 read_once : (text : List ℕ) (a b : LogLine) → IsTextOf text a → IsTextOf text b → a ≡ b
 read_once text a b h k = line_once text a b h.spells k.spells
 
-pub faultless_once : (texts : List (List ℕ)) (a b : Lines) → AreFaultless texts a → AreFaultless texts b → a ≡ b
-faultless_once [] [] [] h k = refl
-faultless_once [] [] (l ∷ b) h k = absurd k
-faultless_once [] (l ∷ a) b h k = absurd h
-faultless_once (t ∷ texts) a b (inl h) (inl k) =
-    let line = read_once t h.0 k.0 h.3 k.3 in
-    let more = faultless_once texts h.1 k.1 h.4 k.4 in
+told_once : (texts : List (List ℕ)) (a b : Lines) → AreToldBounds texts a → AreToldBounds texts b → a ≡ b
+told_once [] [] [] h k = refl
+told_once [] [] (l ∷ b) h k = absurd k
+told_once [] (l ∷ a) b h k = absurd h
+told_once (t ∷ texts) a b (inl h) (inl k) =
+    let line = read_once t h.0 k.0 h.3.1 k.3.1 in
+    let more = told_once texts h.1 k.1 h.4 k.4 in
     h.2 ∙ ap (λ (l : LogLine). l ∷ h.1) line ∙ ap (λ (ls : Lines). k.0 ∷ ls) more ∙ sym k.2
-faultless_once (t ∷ texts) a b (inl h) (inr k) = absurd (k.0 h.0 h.3)
-faultless_once (t ∷ texts) a b (inr h) (inl k) = absurd (h.0 k.0 k.3)
-faultless_once (t ∷ texts) a b (inr h) (inr k) = faultless_once texts a b h.1 k.1
+told_once (t ∷ texts) a b (inl h) (inr k) = absurd (k.0 h.0 h.3)
+told_once (t ∷ texts) a b (inr h) (inl k) = absurd (h.0 k.0 k.3)
+told_once (t ∷ texts) a b (inr h) (inr k) = told_once texts a b h.1 k.1
 
-pub lines_once : (bytes : List ℕ) (a b : Lines) → HasFaultless bytes a → HasFaultless bytes b → a ≡ b
-lines_once bytes a b h k =
-    faultless_once h.texts a b h.faultless (subst (λ (ts : List (List ℕ)). AreFaultless ts b) (sym (text_lines_once bytes h.texts k.texts h.cut k.cut)) k.faultless)
+pub bounds_once : (bytes : List ℕ) (a b : Lines) → HasToldBounds bytes a → HasToldBounds bytes b → a ≡ b
+bounds_once bytes a b h k =
+    told_once h.texts a b h.bounds (subst (λ (ts : List (List ℕ)). AreToldBounds ts b) (sym (text_lines_once bytes h.texts k.texts h.cut k.cut)) k.bounds)
 
 -- ---- the text of lines
 

@@ -40,7 +40,7 @@ use Rattle.log_check.specs.declared.verdict.Verdict.{Verdict}
 use Rattle.log_check.specs.declared.verdict.Verdict.TheVariants.{Certified, Lacks, Refused, Faulty}
 use Rattle.log_check.specs.declared.awaited.Awaited.{Awaited}
 use Rattle.log_check.specs.declared.accepting.Progress.{Progress}
-use Rattle.log_check.specs.Faultless.{HasNextFault, HasFaultless}
+use Rattle.log_check.specs.TextLines.{HasNextFault, HasToldBounds}
 use Rattle.log_check.specs.Expectation.{Expectation, expectation, PassesLimits}
 use Rattle.log_check.specs.Accepted.{AreAccepted, AcceptsFront}
 use Rattle.log_check.specs.Refused.{IsRefusedFor, kept_of_lines}
@@ -179,13 +179,13 @@ same_expectation y order f h same =
 
 -- the caps that are counted are those of the whole text
 pub judged_log : (y : Layout) (order : List Criterion) (cap greatest : Criterion → ℕ) (claim : Claim) (log : List ℕ) (verdict : Verdict) → IsStationGraph y.graph → IsOrderOf y.graph y.order → IsGrid y.grid →
-    ((c : Criterion) → greatest c ≡ limit_of y.graph y.grid c) → (lines : Lines) → HasFaultless log lines → ((c : Criterion) → cap c ≡ caps greatest lines c) →
+    ((c : Criterion) → greatest c ≡ limit_of y.graph y.grid c) → (lines : Lines) → HasToldBounds log lines → ((c : Criterion) → cap c ≡ caps greatest lines c) →
     IsTextJudged greatest order claim (expectation y order cap) log verdict → IsLogJudged y order claim log verdict
-judged_log y order cap greatest claim log verdict station is size same lines faultless counted h =
+judged_log y order cap greatest claim log verdict station is size same lines bounds counted h =
     let limits : (c : Criterion) → cap c ≡ caps (limit_of y.graph y.grid) lines c = λ c. counted c ∙ ap (λ n. min (length (bound_vars c lines)) n) (same c) in
     record {
       expected = expectation y order cap;
-      is_expected = record { lines = lines; faultless = faultless; expected_is = same_expectation y order cap (caps (limit_of y.graph y.grid) lines) limits };
+      is_expected = record { lines = lines; bounds = bounds; expected_is = same_expectation y order cap (caps (limit_of y.graph y.grid) lines) limits };
       is_verdict = verdict_of y order cap greatest (expectation y order cap) claim log verdict station is size refl same h;
     }
 
@@ -251,11 +251,11 @@ pub awaited_begun : (e : Expectation) (a : Awaited) → (PassesLimits e → ⊥)
 awaited_begun e a fits h is = (fits, h, sym is)
 
 pub log_judged : {X : Type 0} (res : Result Verdict X) (y : Layout) (order : List Criterion) (cap greatest : Criterion → ℕ) (claim : Claim) (log : List ℕ) (o : Option Awaited) → IsStationGraph y.graph → IsOrderOf y.graph y.order → IsGrid y.grid →
-    ((c : Criterion) → greatest c ≡ limit_of y.graph y.grid c) → (lines : Lines) → HasFaultless log lines → ((c : Criterion) → cap c ≡ caps greatest lines c) → AreAwaited (expectation y order cap) [] o →
+    ((c : Criterion) → greatest c ≡ limit_of y.graph y.grid c) → (lines : Lines) → HasToldBounds log lines → ((c : Criterion) → cap c ≡ caps greatest lines c) → AreAwaited (expectation y order cap) [] o →
     IfOk res (λ v. (e : Expectation) → AreAwaited e [] o → IsTextJudged greatest order claim e log v) → IfOk res (IsLogJudged y order claim log)
-log_judged (Ok v) y order cap greatest claim log o station is size same lines faultless counted h k =
-    judged_log y order cap greatest claim log v station is size same lines faultless counted (k (expectation y order cap) h)
-log_judged (Err x) y order cap greatest claim log o station is size same lines faultless counted h k = tt
+log_judged (Ok v) y order cap greatest claim log o station is size same lines bounds counted h k =
+    judged_log y order cap greatest claim log v station is size same lines bounds counted (k (expectation y order cap) h)
+log_judged (Err x) y order cap greatest claim log o station is size same lines bounds counted h k = tt
 
 -- the text doesn't begin with the first line of every log
 pub no_header : (log : List ℕ) (r : Option (Bor (List ℕ))) → MatchOption r ((rest : List ℕ) → log ≡ header ++ rest → ⊥) (λ rest. log ≡ header ++ rest.now) → ((x : Bor (List ℕ)) → r ≡ Some x → ⊥) →

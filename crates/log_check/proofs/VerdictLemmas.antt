@@ -19,14 +19,14 @@ use Rattle.log_check.specs.declared.claim.Claim.TheVariants.{Least, NoDrawing, N
 use Rattle.log_check.specs.declared.verdict.Refusal.{Refusal}
 use Rattle.log_check.specs.declared.verdict.Verdict.{Verdict}
 use Rattle.log_check.specs.declared.verdict.Verdict.TheVariants.{Certified, Lacks, Refused, Faulty}
-use Rattle.log_check.specs.Faultless.{HasNextFault}
+use Rattle.log_check.specs.TextLines.{HasNextFault}
 use Rattle.log_check.specs.Expectation.{Expectation, expectation, IsExpectedOf}
 use Rattle.log_check.specs.Accepted.{AreAccepted, AcceptsFront}
 use Rattle.log_check.specs.Refused.{IsRefusedFor}
 use Rattle.log_check.specs.Claimed.{IsClaimOf, CertifiesClaim, LacksAt}
 use Rattle.log_check.specs.Judged.{IsHeaderRefused, IsLogVerdict, IsLogJudged}
 use Rattle.log_check.proofs.JudgingLemmas.{claim_is_so}
-use Rattle.log_check.proofs.CutLemmas.{lines_once, same_line, line_goes_on, line_has_no_fault, next_fault_once, no_next_fault, Begins, log_fronts}
+use Rattle.log_check.proofs.CutLemmas.{bounds_once, same_line, line_goes_on, line_has_no_fault, next_fault_once, no_next_fault, Begins, log_fronts}
 use Rattle.log_check.proofs.CauseLemmas.{NamesItsOwn, accepted_first, accepted_not_refused, refused_once}
 
 -- ---- where a log stops
@@ -183,7 +183,7 @@ verdict_once y order claim e bytes v w own within h k = by (stops y order claim 
 
 pub expected_once : (y : Layout) (order : List Criterion) (bytes : List ℕ) (a b : Expectation) → IsExpectedOf y order bytes a → IsExpectedOf y order bytes b → a ≡ b
 expected_once y order bytes a b h k =
-    h.expected_is ∙ ap (λ (ls : Lines). expectation y order (caps (limit_of y.graph y.grid) ls)) (lines_once bytes h.lines k.lines h.faultless k.faultless) ∙ sym k.expected_is
+    h.expected_is ∙ ap (λ (ls : Lines). expectation y order (caps (limit_of y.graph y.grid) ls)) (bounds_once bytes h.lines k.lines h.bounds k.bounds) ∙ sym k.expected_is
 
 names_its_own : (y : Layout) (order : List Criterion) (bytes : List ℕ) (e : Expectation) → IsStationGraph y.graph → IsOrderOf y.graph y.order → IsGrid y.grid → IsExpectedOf y order bytes e → NamesItsOwn e
 names_its_own y order bytes e station is size h =

@@ -4,7 +4,7 @@ use Rattle.plan_core.specs.declared.criterion.Criterion.{Criterion}
 use Rattle.refute_log.specs.Told.{Lines}
 use Rattle.line_text.specs.Fields.{LacksByte}
 use Rattle.certified_values.specs.Expected.{same_criterion, bound_vars, caps}
-use Rattle.log_check.specs.Faultless.{AreFaultless}
+use Rattle.log_check.specs.TextLines.{AreToldBounds}
 
 -- the counts with one more of a criterion
 abbrev pub count_more : Criterion → (Criterion → ℕ) → Criterion → ℕ
@@ -25,5 +25,5 @@ pub record HasCounted (log rest : List ℕ) (greatest numbers : Criterion → �
   pub lines : Lines
   pub each : All (LacksByte 10) texts
   pub spelled : log ≡ flat_map (λ line. line ++ codes "\n") texts ++ rest
-  pub faultless : AreFaultless texts lines
+  pub bounds : AreToldBounds texts lines
   pub counts : (c : Criterion) → numbers c ≡ caps greatest lines c

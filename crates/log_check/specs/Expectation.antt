@@ -8,7 +8,7 @@ use Rattle.refute_log.specs.Told.{Lines}
 use Rattle.refute_log.specs.Log.{given}
 use Rattle.certified_values.specs.Expected.{caps, expected_lines, expected_vars}
 use Rattle.drawing_problem.specs.Layout.{Layout, problem_of}
-use Rattle.log_check.specs.Faultless.{HasFaultless}
+use Rattle.log_check.specs.TextLines.{HasToldBounds}
 
 -- Formula and Bound lines, and how many variables there are with them
 pub record Expectation : Type 0 where
@@ -25,7 +25,7 @@ expectation y order cap = record {
 -- each criterion has as many bounds as the whole text has Bound lines of it without a fault, up to its greatest value
 pub record IsExpectedOf (y : Layout) (order : List Criterion) (bytes : List ℕ) (e : Expectation) : Type 0 where
   pub lines : Lines
-  pub faultless : HasFaultless bytes lines
+  pub bounds : HasToldBounds bytes lines
   pub expected_is : e ≡ expectation y order (caps (limit_of y.graph y.grid) lines)
 
 -- there are too many variables, or too many words

@@ -14,7 +14,7 @@ use Rattle.log_check.specs.declared.claim.Claim.{Claim}
 use Rattle.log_check.specs.declared.verdict.Refusal.{Refusal}
 use Rattle.log_check.specs.declared.verdict.Verdict.{Verdict}
 use Rattle.log_check.specs.declared.verdict.Verdict.TheVariants.{Certified, Lacks, Refused, Faulty}
-use Rattle.log_check.specs.Faultless.{HasNextFault}
+use Rattle.log_check.specs.TextLines.{HasNextFault}
 use Rattle.log_check.specs.Expectation.{Expectation, IsExpectedOf}
 use Rattle.log_check.specs.Accepted.{AcceptsFront}
 use Rattle.log_check.specs.Refused.{IsRefusedFor}

@@ -1,4 +1,4 @@
-pub mod Faultless
+pub mod TextLines
 pub mod Expectation
 pub mod Accepted
 pub mod Refused

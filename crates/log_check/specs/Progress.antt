@@ -21,7 +21,7 @@ use Rattle.log_check.specs.declared.awaited.Awaited.{Awaited}
 use Rattle.log_check.specs.declared.accepting.Progress.{Progress}
 use Rattle.log_check.specs.declared.accepting.Compared.{Compared}
 use Rattle.log_check.specs.declared.accepting.Compared.TheVariants as compared
-use Rattle.log_check.specs.Faultless.{HasNextFault}
+use Rattle.log_check.specs.TextLines.{HasNextFault}
 use Rattle.log_check.specs.Expectation.{Expectation, PassesLimits}
 use Rattle.log_check.specs.Accepted.{AreAccepted, AcceptsFront}
 use Rattle.log_check.specs.Refused.{IsOverLimits, IsNextExpected, IsComparedLine, kept_of_lines}

@@ -4,15 +4,18 @@ ghost use Rattle.plan_core.specs.declared.criterion.Criterion.{Criterion as Meas
 ghost use Rattle.plan_core.specs.Values.{value_of, limit_of};
 ghost use Rattle.refute_log.specs.Told.{Lines};
 ghost use Rattle.certified_values.specs.Expected.{caps};
-ghost use Rattle.log_check.specs.Faultless.{AreFaultless, HasFaultless};
+ghost use Rattle.log_check.specs.TextLines.{AreToldBounds, HasToldBounds, bound_line};
 ghost use Rattle.log_check.specs.Counted.{count_more, count_of, IsCountOf};
 
 use drawing_cnf::greatest;
-use line_text::cut_line;
+use line_text::{behind, cut_line};
 use plan_core::{Criterion, Grid, OutOfMemory, Values};
 use port_graph::PortGraph;
 use refute_log::{LineTextFault, LogLine, read_line};
 use std::alloc::Global;
+
+/// What a Bound line begins with.
+const LETTER: &[u8] = b"b";
 
 /// The greatest value of each criterion that a drawing may have.
 pub fn greatest_values(g: &PortGraph, grid: &Grid) -> Values
@@ -61,7 +64,7 @@ fn counted(numbers: &Values, greatest: &Values, found: Option<Criterion>) -> Val
 
 /// The criterion of a Bound line.
 fn criterion_of(line: &LogLine) -> Option<Criterion>
-    ensures { IsCountOf result (line.now ∷ []) }
+    ensures { IsCountOf result (bound_line line.now) }
 {
     match line {
         LogLine::Bound { criterion, .. } => Some(*criterion),
@@ -73,10 +76,14 @@ fn criterion_of(line: &LogLine) -> Option<Criterion>
     }
 }
 
-/// The criterion that the text is a Bound line of, if it is one without a fault.
+/// The criterion that the text is a Bound line of, if it is one without a fault. Any other line is told by its letter,
+/// and isn't read.
 fn bounded(alloc: Global, text: &[u8]) -> Result<Option<Criterion>, OutOfMemory>
-    ensures { IfOk result (λ found. (lines : Lines) × AreFaultless (text.now ∷ []) lines × IsCountOf found lines) }
+    ensures { IfOk result (λ found. (lines : Lines) × AreToldBounds (text.now ∷ []) lines × IsCountOf found lines) }
 {
+    let Some(_) = behind(text, LETTER) else {
+        return Ok(None);
+    };
     match read_line(alloc, text, 0) {
         Ok(line) => Ok(criterion_of(&line)),
         Err(LineTextFault::Log { .. }) => Ok(None),
@@ -86,7 +93,7 @@ fn bounded(alloc: Global, text: &[u8]) -> Result<Option<Criterion>, OutOfMemory>
 
 /// How many Bound lines without a fault the text has of each criterion, none above its greatest.
 pub fn caps_in(alloc: Global, log: &[u8], greatest: &Values) -> Result<Values, OutOfMemory>
-    ensures { IfOk result (λ v. (lines : Lines) × HasFaultless log.now lines
+    ensures { IfOk result (λ v. (lines : Lines) × HasToldBounds log.now lines
         × ((c : Measured) → value_of v c ≡ caps (value_of greatest.now) lines c)) }
 {
     let mut numbers = Values {

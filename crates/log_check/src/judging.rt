@@ -146,7 +146,7 @@ fn judge_text(
 /// order of criteria.
 ///
 /// The Formula and Bound lines are compared with those that are expected of the graph, and the other lines are
-/// judged by a checker. The text is read twice: once to count its Bound lines, and once line by line.
+/// judged by a checker. The text is gone through twice: once to count its Bound lines, and once line by line.
 pub fn judge_log(
     alloc: Global,
     g: &PortGraph,

@@ -14,17 +14,17 @@ ghost use Rattle.log_check.specs.declared.claim.Claim.TheVariants.{Least, NoDraw
 ghost use Rattle.log_check.specs.declared.verdict.Verdict.{Verdict as Answer};
 ghost use Rattle.log_check.specs.declared.verdict.Verdict.TheVariants.{Certified};
 ghost use Rattle.log_check.specs.declared.verdict.Refusal.{Refusal as Why};
-ghost use Rattle.log_check.specs.Faultless.{HasFaultless};
+ghost use Rattle.log_check.specs.TextLines.{HasToldBounds};
 ghost use Rattle.log_check.specs.Expectation.{Expectation, IsExpectedOf};
 ghost use Rattle.log_check.specs.Accepted.{AreAccepted};
 ghost use Rattle.log_check.specs.Refused.{IsRefusedFor};
 ghost use Rattle.log_check.specs.Claimed.{IsClaimOf};
 ghost use Rattle.log_check.specs.Judged.{CertifiesWhole, IsLogJudged};
 
-/// One verdict at most is due to a log, whoever wrote it: its lines without a fault are one list, what is expected of
-/// it is one, and it stops at one place for one cause.
+/// One verdict at most is due to a log, whoever wrote it: its Bound lines are one list, what is expected of it is one,
+/// and it stops at one place for one cause.
 pub fn one_verdict_is_due()
-    ensures lines { (bytes : List ℕ) (a b : Lines) → HasFaultless bytes a → HasFaultless bytes b → a ≡ b }
+    ensures bounds { (bytes : List ℕ) (a b : Lines) → HasToldBounds bytes a → HasToldBounds bytes b → a ≡ b }
     ensures expected { (y : Layout) (order : List Criterion) (bytes : List ℕ) (a b : Expectation) →
         IsExpectedOf y order bytes a → IsExpectedOf y order bytes b → a ≡ b }
     ensures cause { (e : Expectation) (before : Lines) (line : Line) (a b : Why) → IsRefusedFor e before line a →

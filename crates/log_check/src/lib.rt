@@ -5,7 +5,7 @@
 //! (`reading`), compares Formula and Bound lines with those that are still awaited (`awaited`) and has the checker
 //! of `refute_check` accept the line (`accepting`), and at the end asks `certified_check` for what the lines lack. A
 //! `Claim` is what is to be certified, a `Verdict` what is answered. `specs/Judged` says which verdict is due, by
-//! `Accepted`, `Refused`, `Faultless`, `Expectation` and `Claimed`; `laws` that one is due at most. Whoever takes a
+//! `Accepted`, `Refused`, `TextLines`, `Expectation` and `Claimed`; `laws` that one is due at most. Whoever takes a
 //! log's lines for another text has `next_line`, `caps_in` and `expected_of`. Nothing here
 //! reads a file or a sheet, and nothing searches: the crate shares no code with the solver.
 #![tactic(auto)]

@@ -1,15 +1,17 @@
--- The lines without a fault of the text of lines that may be told are these lines.
+-- The Bound lines of the text of lines that may be told are those of these lines.
 use Rattle.std.proofs.Common.{◌≡◌, ℕ, ◌<◌, true, List, [], ◌∷◌, ◌++◌, map, refl, sym, ◌∙◌, ap, inl, inr, arith, append-nil}
 use Rattle.std.specs.Prelude.{All, flat_map, codes, nat_lt}
 use Rattle.std.specs.List.{list_all}
 use Rattle.std.proofs.lemmas.Bool.{and_parts, ltb-true}
 use Rattle.std.proofs.lemmas.List.Elements.{All-nil, All-cons}
 use Rattle.line_text.specs.Fields.{LacksByte}
+use Rattle.refute_log.specs.declared.line.LogLine.{LogLine}
 use Rattle.refute_log.specs.declared.line.LogLine.TheVariants.{Formula, Learnt, Bound, Query, Refuted, Model}
 use Rattle.refute_log.specs.Lines.{ended_text, log_line_text, log_text, MayAllBeTold}
 use Rattle.refute_log.specs.Told.{Lines}
 use Rattle.refute_log.proofs.FeedLemmas.{line_lacks, told_is_read}
-use Rattle.log_check.specs.Faultless.{IsFaulty, AreFaultless, HasFaultless}
+use Rattle.log_check.specs.TextLines.{IsBoundText, AreToldBounds, HasToldBounds, bound_line}
+use Rattle.log_check.proofs.CountingLemmas.{no_other}
 
 abbrev title : List ℕ
 title = codes "railplan-log 1"
@@ -23,24 +25,24 @@ lacks (x ∷ xs) great =
     let more : 10 < x = ltb-true 10 x both.0 in
     (λ e. omega (arith, more), lacks xs both.1)
 
--- a text's first byte and its second
+-- a text's first byte
 abbrev first_byte : List ℕ → ℕ
 first_byte [] = 0
 first_byte (b ∷ bs) = b
 
-abbrev second_byte : List ℕ → ℕ
-second_byte [] = 0
-second_byte (b ∷ bs) = first_byte bs
-
--- it is that of no other line
-title_faulty : IsFaulty title
-title_faulty (Formula c) is = let e : 102 ≡ 114 = ap first_byte is.spells.spelled in omega (arith, e)
-title_faulty (Learnt c) is = let e : 108 ≡ 114 = ap first_byte is.spells.spelled in omega (arith, e)
-title_faulty (Bound criterion k x) is = let e : 98 ≡ 114 = ap first_byte is.spells.spelled in omega (arith, e)
-title_faulty (Query c) is = let e : 113 ≡ 114 = ap first_byte is.spells.spelled in omega (arith, e)
-title_faulty (Refuted []) is = let e : 32 ≡ 97 = ap second_byte is.spells.spelled in omega (arith, e)
-title_faulty (Refuted (l ∷ c)) is = let e : 32 ≡ 97 = ap second_byte is.spells.spelled in omega (arith, e)
-title_faulty Model is = let e : 109 ≡ 114 = ap first_byte is.spells.spelled in omega (arith, e)
+-- it is that of no Bound line
+title_none : (line : LogLine) → IsBoundText title line → ⊥
+title_none line is =
+    let e : bound_line line ≡ line ∷ [] = is.0 in
+    no_bound line e is.1.spells.spelled
+  where
+    no_bound : (l : LogLine) → bound_line l ≡ l ∷ [] → title ≡ log_line_text l → ⊥
+    no_bound (Formula c) e same = cc
+    no_bound (Learnt c) e same = cc
+    no_bound (Bound criterion k x) e same = let f : 98 ≡ 114 = sym (ap first_byte same) in omega (arith, f)
+    no_bound (Query c) e same = cc
+    no_bound (Refuted c) e same = cc
+    no_bound Model e same = cc
 
 -- ---- the others
 
@@ -52,12 +54,17 @@ spelled : (lines : Lines) → flat_map ended_text lines ≡ flat_map (λ (line :
 spelled [] = refl
 spelled (line ∷ lines) = ap (λ (text : List ℕ). ended_text line ++ text) (spelled lines)
 
-faultless : (lines : Lines) → MayAllBeTold lines → AreFaultless (map log_line_text lines) lines
-faultless [] told = tt
-faultless (line ∷ lines) told = inl (line, lines, refl, told_is_read line told.0, faultless lines told.1)
+bounds : (lines : Lines) → MayAllBeTold lines → AreToldBounds (map log_line_text lines) (flat_map bound_line lines)
+bounds [] told = tt
+bounds (Formula c ∷ lines) told = inr (no_other (log_line_text (Formula c)) (Formula c) refl (told_is_read (Formula c) told.0), bounds lines told.1)
+bounds (Learnt c ∷ lines) told = inr (no_other (log_line_text (Learnt c)) (Learnt c) refl (told_is_read (Learnt c) told.0), bounds lines told.1)
+bounds (Bound d k x ∷ lines) told = inl (Bound d k x, flat_map bound_line lines, refl, (refl, told_is_read (Bound d k x) told.0), bounds lines told.1)
+bounds (Query c ∷ lines) told = inr (no_other (log_line_text (Query c)) (Query c) refl (told_is_read (Query c) told.0), bounds lines told.1)
+bounds (Refuted c ∷ lines) told = inr (no_other (log_line_text (Refuted c)) (Refuted c) refl (told_is_read (Refuted c) told.0), bounds lines told.1)
+bounds (Model ∷ lines) told = inr (no_other (log_line_text Model) Model refl (told_is_read Model told.0), bounds lines told.1)
 
-pub own_lines : (lines : Lines) → MayAllBeTold lines → HasFaultless (log_text lines) lines
-own_lines lines told = record {
+pub own_bounds : (lines : Lines) → MayAllBeTold lines → HasToldBounds (log_text lines) (flat_map bound_line lines)
+own_bounds lines told = record {
   texts = title ∷ map log_line_text lines;
   cut = record {
     rest = [];
@@ -65,5 +72,5 @@ own_lines lines told = record {
     unended = tt;
     spelled = ap (λ (text : List ℕ). codes "railplan-log 1\n" ++ text) (spelled lines) ∙ sym (append-nil (codes "railplan-log 1\n" ++ flat_map (λ (line : List ℕ). line ++ codes "\n") (map log_line_text lines)));
   };
-  faultless = inr (title_faulty, faultless lines told);
+  bounds = inr (title_none, bounds lines told);
 }

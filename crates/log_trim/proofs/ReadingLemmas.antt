@@ -12,7 +12,7 @@ use Rattle.refute_log.specs.Log.{given, learnt}
 use Rattle.refute_log.proofs.LogLemmas.{flat_map_last}
 use Rattle.certified_check.specs.declared.told_bound.ToldBound.{ToldBound}
 use Rattle.certified_check.specs.Lacking.{told_bound}
-use Rattle.log_check.specs.Faultless.{HasNextFault}
+use Rattle.log_check.specs.TextLines.{HasNextFault}
 use Rattle.log_check.proofs.CutLemmas.{same_line, line_goes_on, line_has_no_fault, no_next_fault}
 use Rattle.log_check.proofs.JudgingLemmas.{line_leaves_less}
 use Rattle.hint_log.proofs.HintedLemmas.{next_line}

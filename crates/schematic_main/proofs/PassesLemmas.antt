@@ -24,14 +24,17 @@ use Rattle.lex_search.specs.declared.outcome.Outcome.TheVariants as outcomes
 use Rattle.lex_search.specs.Outcome.{IsOutcome, IsSearched}
 use Rattle.log_check.specs.declared.claim.Claim.{Claim}
 use Rattle.log_check.specs.declared.verdict.Verdict.TheVariants as verdicts
+use Rattle.log_check.specs.TextLines.{bound_line}
 use Rattle.log_check.specs.Expectation.{Expectation, expectation, PassesLimits}
 use Rattle.log_check.specs.Accepted.{AreAccepted}
 use Rattle.log_check.specs.Claimed.{CertifiesClaim, IsTrueClaim}
 use Rattle.log_check.specs.Judged.{IsLogJudged}
+use Rattle.log_check.proofs.CountingLemmas.{caps_alone}
+use Rattle.log_check.proofs.JudgingLemmas.{same_expectation}
 use Rattle.sheet_answer.specs.CheckLine.{claim_of}
 use Rattle.draw_answer.specs.Drawn.{Job, search_of, sheet_of}
 use Rattle.sheet_answer.specs.Checked.{PassesCheck}
-use Rattle.log_trim.proofs.OwnLog.{own_lines}
+use Rattle.log_trim.proofs.OwnLog.{own_bounds}
 
 -- ---- the lines are accepted
 
@@ -129,7 +132,11 @@ judged g o asked outcome lines ended =
     let searched = searched_of g o asked outcome lines ended in
     record {
       expected = expected_of g o asked lines;
-      is_expected = record { lines = lines; faultless = own_lines lines searched.formed; expected_is = refl };
+      is_expected = record {
+        lines = flat_map bound_line lines;
+        bounds = own_bounds lines searched.formed;
+        expected_is = same_expectation (layout g o asked.grid) asked.order (caps (limit_of g asked.grid) lines) (caps (limit_of g asked.grid) (flat_map bound_line lines)) (λ c. sym (caps_alone (limit_of g asked.grid) lines c));
+      };
       is_verdict = record {
         lines = lines;
         whole = record {

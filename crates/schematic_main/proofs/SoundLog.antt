@@ -8,7 +8,7 @@ use Rattle.refute_log.specs.Told.{Lines}
 use Rattle.drawing_problem.specs.Layout.{Layout}
 use Rattle.log_check.specs.declared.claim.Claim.{Claim}
 use Rattle.log_check.specs.declared.verdict.Verdict.TheVariants.{Faulty}
-use Rattle.log_check.specs.Faultless.{HasNextFault}
+use Rattle.log_check.specs.TextLines.{HasNextFault}
 use Rattle.log_check.specs.Judged.{IsLogJudged}
 use Rattle.log_check.proofs.CutLemmas.{log_fronts, line_goes_on, line_has_no_fault, no_next_fault}
 
