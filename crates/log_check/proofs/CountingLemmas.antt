@@ -1,5 +1,5 @@
 -- The Bound lines of a text, and how many they are.
-use Rattle.std.proofs.Common.{◌≡◌, ◌≢◌, ◌≤◌, ◌<◌, ℕ, ◌+◌, Bool, true, false, cond, List, [], ◌∷◌, ◌++◌, length, refl, sym, ◌∙◌, ap, inl, inr, arith, append-nil, append_assoc, length-append}
+use Rattle.std.proofs.Common.{◌≡◌, ◌≢◌, ◌≤◌, ◌<◌, ℕ, ◌+◌, Bool, true, false, cond, List, [], ◌∷◌, ◌++◌, length, refl, sym, ◌∙◌, ap, subst, ◌⊎◌, inl, inr, arith, append-nil, append_assoc, length-append}
 use Rattle.std.specs.Prelude.{All, Option, Some, None, flat_map, min, codes}
 use Rattle.std.proofs.lemmas.Grind.{flat_map-append}
 use Rattle.std.proofs.lemmas.List.Elements.{All-nil, All-cons, All-head, All-tail}
@@ -13,7 +13,9 @@ use Rattle.refute_log.specs.declared.line.LogLine.{LogLine}
 use Rattle.refute_log.specs.declared.line.LogLine.TheVariants.{Formula, Learnt, Bound, Query, Refuted, Model}
 use Rattle.refute_log.specs.declared.fault.LogWhat.{LogWhat}
 use Rattle.refute_log.specs.Lines.{log_line_text}
-use Rattle.refute_log.specs.LineText.{IsTextOf, HasLineFault}
+use Rattle.refute_log.specs.declared.fault.LineTextFault.{LineTextFault}
+use Rattle.refute_log.specs.declared.fault.LineTextFault.TheVariants.{Log, Memory}
+use Rattle.refute_log.specs.LineText.{IsTextOf, HasLineFault, IsLineFault}
 use Rattle.refute_log.specs.Told.{Lines}
 use Rattle.refute_log.proofs.LawLemmas.{line_once, line_no_fault}
 use Rattle.certified_values.specs.Expected.{same_criterion, bound_var, bound_vars, caps}
@@ -48,8 +50,12 @@ counted_line text line found is count = (bound_line line, told_by text line is, 
 pub count_none : IsCountOf None []
 count_none = λ d. refl
 
-pub no_line : (text : List ℕ) (what : LogWhat) → HasLineFault text what → AreCounted text None
+no_line : (text : List ℕ) (what : LogWhat) → HasLineFault text what → AreCounted text None
 no_line text what fault = ([], inr ((λ line is. line_no_fault text line what is.1 fault), tt), count_none)
+
+pub counted_fault : (text : List ℕ) (fault : LineTextFault) (what : LogWhat) (number : ℕ) → fault ≡ Log what number → (fault ≡ Memory) ⊎ IsLineFault text 0 fault → AreCounted text None
+counted_fault text fault what number is (inl wanting) = let e : Log what number ≡ Memory = sym is ∙ wanting in cc
+counted_fault text fault what number is (inr has) = no_line text what (subst (λ (f : LineTextFault). IsLineFault text 0 f) is has).1
 
 -- a text that doesn't begin with the letter is that of no Bound line
 begins_with : (b : ℕ) (text other : List ℕ) → text ≡ other → (first : List ℕ → ℕ) → ((x : ℕ) (xs : List ℕ) → first (x ∷ xs) ≡ x) → first [] ≢ b → first other ≡ b → (rest : List ℕ) × (text ≡ b ∷ rest)
@@ -64,7 +70,7 @@ none_without : (text : List ℕ) → ((rest : List ℕ) → text ≢ codes "b" +
 none_without text none (Formula c) h = let e : [] ≡ Formula c ∷ [] = h.0 in cc
 none_without text none (Learnt c) h = let e : [] ≡ Learnt c ∷ [] = h.0 in cc
 none_without text none (Bound c k x) h =
-    let front = begins_with 98 text (log_line_text (Bound c k x)) h.1.spells.spelled first_byte (λ x xs. refl) (λ e. let f : 0 ≡ 98 = e in omega (arith, f)) refl in
+    let front = begins_with 98 text (log_line_text (Bound c k x)) (sym h.1.spells.spelled) first_byte (λ x xs. refl) (λ e. let f : 0 ≡ 98 = e in omega (arith, f)) refl in
     none front.0 front.1
 none_without text none (Query c) h = let e : [] ≡ Query c ∷ [] = h.0 in cc
 none_without text none (Refuted c) h = let e : [] ≡ Refuted c ∷ [] = h.0 in cc
