@@ -8,6 +8,7 @@ pub mod MarkupLemmas
 pub mod ItemLemmas
 pub mod TextLemmas
 pub mod ValueLemmas
+pub mod PlainLemmas
 pub mod OneItem
 pub mod FaultLemmas
 pub mod PartLemmas

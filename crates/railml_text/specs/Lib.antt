@@ -7,3 +7,4 @@ pub mod Faults
 pub mod Cutting
 pub mod Reading
 pub mod Judging
+pub mod Plain

@@ -35,7 +35,7 @@ fn texts_of(alloc: Global, attrs: &[WrittenAttr]) -> Result<AttrList, ItemFault>
     ensures texts { IfOk result (λ texts. AreTextsOf (map written_of attrs.now) texts) }
     ensures fault { IfErr result (λ e. IsAttrsFault (map written_of attrs.now) e) }
 {
-    let mut texts = Items::new(alloc);
+    let mut texts = Items::from_vec(Vec::with_capacity(alloc, attrs.len())?);
     for attr in attrs {
         match text_of(alloc, attr.value) {
             Ok(value) => {

@@ -3,7 +3,7 @@
 //! `scan` answers the item that begins at a place of the bytes, or that item's own fault. Its
 //! contract is the grammar in `specs/`: `Bytes` (classes of bytes), `References`, `Values` (the text
 //! of an attribute), `Grammar` (the shapes), `Items` (the table of items), `Faults` (the table of
-//! faults, as far as it speaks of one item) and `Cutting` (a file cut into items). `Reading` and
+//! faults, as far as it speaks of one item) and `Cutting` (a file cut into items). `Reading`, `Plain` and
 //! `Judging` follow the code and are cited by private contracts alone. `laws` says that what begins
 //! at a place, and how a file is cut, is one thing.
 //! It stands on `plan_core`; `railml_read` stands on it, and for white space `rail_mileage`.

@@ -1,7 +1,9 @@
 // The text of an attribute.
 ghost use Rattle.std.specs.Prelude.{◌≡◌, ◌++◌, option_map, IfOk, IfErr, OnOk, IsUtf8};
+ghost use Rattle.std.specs.List.{list_all};
 ghost use Rattle.railml_text.specs.Values.{IsValueText};
 ghost use Rattle.railml_text.specs.Reading.{piece_at as piece, past_line_feed as past_feed, bytes_of, IsValueFault};
+ghost use Rattle.railml_text.specs.Plain.{is_plain as plain_byte};
 
 use crate::references::reference_at;
 use crate::{ItemFault, TextWhat};
@@ -58,8 +60,21 @@ fn push(text: &mut Vec<u8>, meaning: Meaning) -> Result<(), AllocError>
     Ok(())
 }
 
-/// The text of an attribute with this value, or Entity where an `&` of the value begins no reference.
-pub(crate) fn text_of(alloc: Global, value: &[u8]) -> Result<Text, ItemFault>
+/// Whether a byte stands for itself wherever it is in a value: no reference, no tab and no line end begins with it.
+fn is_plain(b: u8) -> bool
+    ensures { result ≡ plain_byte b }
+{
+    b != b'&' && b != b'\t' && b != b'\n' && b != b'\r'
+}
+
+fn are_plain(value: &[u8]) -> bool
+    ensures { result ≡ list_all plain_byte value.now }
+{
+    value.iter().all(|b| is_plain(*b))
+}
+
+/// The text of a value, piece by piece.
+fn text_of_pieces(alloc: Global, value: &[u8]) -> Result<Text, ItemFault>
     requires { IsUtf8 value.now }
     ensures text { IfOk result (λ text. IsValueText value.now text) }
     ensures fault { IfErr result (λ e. IsValueFault value.now e) }
@@ -76,4 +91,17 @@ pub(crate) fn text_of(alloc: Global, value: &[u8]) -> Result<Text, ItemFault>
         }
     }
     Ok(Text::from_bytes(alloc, &text)?)
+}
+
+/// The text of an attribute with this value, or Entity where an `&` of the value begins no reference. Most
+/// values are their own text, which is copied whole.
+pub(crate) fn text_of(alloc: Global, value: &[u8]) -> Result<Text, ItemFault>
+    requires { IsUtf8 value.now }
+    ensures text { IfOk result (λ text. IsValueText value.now text) }
+    ensures fault { IfErr result (λ e. IsValueFault value.now e) }
+{
+    if are_plain(value) {
+        return Ok(Text::from_bytes(alloc, value)?);
+    }
+    text_of_pieces(alloc, value)
 }

@@ -1,6 +1,6 @@
 use Rattle.std.proofs.Common.{length}
 use Rattle.railml_text.proofs.ValueLemmas.{SoFar}
-use Rattle.railml_text.proofs.values.text_of.Given as goal
+use Rattle.railml_text.proofs.values.text_of_pieces.Given as goal
 
 abbrev pub invariant-loop-rest : goal.invariant-loop-rest
 invariant-loop-rest l = SoFar l.value l.text.items l.rest
