@@ -5,7 +5,7 @@ use Rattle.std.proofs.lemmas.List.Folds.{list_any_more}
 use Rattle.std.specs.Str.{bytes_eq}
 use Rattle.railml_text.specs.declared.written.WrittenAttr.{WrittenAttr}
 use Rattle.railml_text.proofs.AttrLemmas.{seen_more, no_repeat_more, repeat_found}
-use Rattle.railml_text.proofs.repeats.has_repeat.Goals as goal
+use Rattle.railml_text.proofs.repeats.has_repeat_of_many.Goals as goal
 
 pub returns-then-is_some-clause-yes : goal.returns-then-is_some-clause-yes
 returns-then-is_some-clause-yes c =

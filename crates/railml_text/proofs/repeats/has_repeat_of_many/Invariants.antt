@@ -6,7 +6,7 @@ use Rattle.std.specs.BTreeMap as tree
 use Rattle.railml_text.specs.Faults.{HasRepeat}
 use Rattle.railml_text.specs.Reading.{written_of}
 use Rattle.railml_text.proofs.AttrLemmas.{has_name}
-use Rattle.railml_text.proofs.repeats.has_repeat.Given as goal
+use Rattle.railml_text.proofs.repeats.has_repeat_of_many.Given as goal
 
 abbrev pub invariant-loop-attr : goal.invariant-loop-attr
 invariant-loop-attr l = record {
