@@ -1,6 +1,7 @@
 // What is kept while the items of a document go by.
 ghost use Rattle.std.specs.Prelude.{◌≡◌, ◌<◌, ◌^◌, ◌+◌, ◌-◌, ◌++◌, ◌∷◌, ◌||◌, ◌==◌, [], length, take, fold, OnOk, IfOk};
-ghost use Rattle.std.specs.Prelude.{true, false, ◌≢◌, ◌⊎◌};
+ghost use Rattle.std.specs.Prelude.{true, false, ◌≢◌, ◌⊎◌, List};
+ghost use Rattle.railml_text.specs.declared.item.Attr.{Attr as Attribute};
 ghost use Rattle.railml_read.specs.Rows.{own_row, text_named as named_text, attrs_read};
 ghost use Rattle.railml_read.specs.Tree.{opens};
 ghost use Rattle.railml_read.specs.Places.{role_of, tags_at, begins_element};
@@ -69,19 +70,42 @@ fn text_named(alloc: Global, attrs: &[Attr], name: &str) -> Result<Option<Text>,
     Ok(None)
 }
 
-/// The attributes that a row has.
-fn read_attrs(alloc: Global, attrs: &[Attr]) -> Result<Attrs, OutOfMemory>
-    ensures { IfOk result (λ read. read ≡ attrs_read attrs.now) }
+/// Puts the text of an attribute where those of its name are kept, in place of one that is there.
+fn keep_text(read: &mut Attrs, attr: Attr)
+    ensures { (attrs : List Attribute) → read.old ≡ attrs_read attrs → read.new ≡ attrs_read (attr ∷ attrs) }
 {
-    Ok(Attrs {
-        id: text_named(alloc, attrs, "id")?,
-        pos: text_named(alloc, attrs, "pos")?,
-        abs_pos: text_named(alloc, attrs, "absPos")?,
-        reference: text_named(alloc, attrs, "ref")?,
-        course: text_named(alloc, attrs, "course")?,
-        orientation: text_named(alloc, attrs, "orientation")?,
-        continue_course: text_named(alloc, attrs, "trackContinueCourse")?,
-    })
+    let Attr { name, value } = attr;
+    match name.as_str() {
+        "id" => read.id = Some(value),
+        "pos" => read.pos = Some(value),
+        "absPos" => read.abs_pos = Some(value),
+        "ref" => read.reference = Some(value),
+        "course" => read.course = Some(value),
+        "orientation" => read.orientation = Some(value),
+        "trackContinueCourse" => read.continue_course = Some(value),
+        _ => {}
+    }
+}
+
+/// The attributes that a row has, with their texts themselves. The last is taken first, since the first of a name
+/// counts.
+fn read_attrs(attrs: Vec<Attr>) -> Attrs
+    ensures { result ≡ attrs_read attrs.items }
+{
+    let mut left = attrs;
+    let mut read = Attrs {
+        id: None,
+        pos: None,
+        abs_pos: None,
+        reference: None,
+        course: None,
+        orientation: None,
+        continue_course: None,
+    };
+    while let Some(attr) = left.pop() {
+        keep_text(&mut read, attr);
+    }
+    read
 }
 
 /// The frame of an element that opens inside these, whose own row would have this number.
@@ -176,17 +200,17 @@ impl Progress {
     /// Adds the row of an element that stands here, if it is selected.
     fn add_row(
         &mut self,
-        alloc: Global,
         at: usize,
-        attrs: &[Attr],
+        attrs: Vec<Attr>,
         context: Context,
         parent: Option<u32>,
     ) -> Result<(), OutOfMemory>
-        ensures rows { OnOk result (self.new.rows.items ≡ self.old.rows.items ++ own_row context at attrs.now parent) }
+        ensures rows { OnOk result (self.new.rows.items ≡ self.old.rows.items
+            ++ own_row context at attrs.items parent) }
         ensures others { self.new ≡ record self.old { rows = self.new.rows } }
     {
         if let Context::Selected(kind) = context {
-            let attrs = read_attrs(alloc, attrs)?;
+            let attrs = read_attrs(attrs);
             self.rows.push(Elem {
                 kind,
                 at,
@@ -227,21 +251,21 @@ impl Progress {
         alloc: Global,
         at: usize,
         name: Text,
-        attrs: &[Attr],
+        attrs: Vec<Attr>,
     ) -> Result<(), OutOfMemory>
         requires rows { length self.old.rows.items < 2 ^ 32 }
         requires tracks { self.old.tracks + 1 < 2 ^ 32 }
-        ensures state { OnOk result (state_of self.new ≡ after_tag (state_of self.old) (opens at name attrs.now)) }
+        ensures state { OnOk result (state_of self.new ≡ after_tag (state_of self.old) (opens at name attrs.items)) }
         ensures marks { OnOk result (marks_of self.new ≡ after_mark (state_of self.old) (marks_of self.old)
-            (opens at name attrs.now)) }
+            (opens at name attrs.items)) }
         ensures root { OnOk result (self.new.has_root ≡ true) }
     {
         let (_, parent) = innermost(&self.stack);
         let frame = frame_in(&self.stack, name, self.rows.len() as u32);
         let context = frame.context;
         self.tracks += own_track(context);
-        self.add_signal(alloc, at, attrs, context)?;
-        self.add_row(alloc, at, attrs, context, parent)?;
+        self.add_signal(alloc, at, &attrs, context)?;
+        self.add_row(at, attrs, context, parent)?;
         self.stack.push(frame)?;
         self.has_root = true;
         self.has_infrastructure = self.has_infrastructure || context == Context::Infrastructure;
@@ -272,7 +296,7 @@ impl Progress {
     {
         match kind {
             ItemKind::Start { name, attrs, empty } => {
-                self.enter(alloc, at, name, attrs.as_slice())?;
+                self.enter(alloc, at, name, attrs.into_vec())?;
                 if empty {
                     self.leave();
                 }
