@@ -1,6 +1,7 @@
-use Rattle.std.proofs.Common.{◌≡◌, ◌<◌, ◌≤◌, ◌+◌, ◌-◌, ℕ, List, arith, refl, length, take, get_or, set}
+use Rattle.std.proofs.Common.{◌≡◌, ◌<◌, ◌≤◌, ◌+◌, ◌-◌, ℕ, List, arith, refl, length, take, get_or, set, subst}
 use Rattle.std.proofs.lemmas.Grind.{get_or-set_at}
-use Rattle.refute_check.specs.Tables.{CountedUp}
+use Rattle.std.proofs.lemmas.List.{take_all}
+use Rattle.refute_check.specs.Tables.{CountedUp, AreQuietNow}
 use Rattle.refute_check.proofs.CountLemmas.{some_left, counted_less, one_less}
 use Rattle.refute_check.proofs.GrowthLemmas.{passed_none, passed_on, passed_look}
 use Rattle.refute_check.proofs.looks.count_each.Goals as goal
@@ -31,3 +32,21 @@ loop-n-preserved c =
       | else-not-found w ↦ rw (w.truth-is, w.trail-is, w.found-is)
           (passed_on c.args.formula.now.vars c.args.formula.now.clauses numbers c.args.counts.now c.args.trail.now.items counts now c.loop-n.truth c.loop-n.trail.items c.loop-n.found i c.loop-n.invariant w.if-not-found.false up)
     ]
+
+pub look_at-requires-clause-trail : goal.look_at-requires-clause-trail
+look_at-requires-clause-trail c = c.loop-n.invariant.table
+
+pub returns-clause-counted : goal.returns-clause-counted
+returns-clause-counted c = subst (λ (ns : List ℕ). CountedUp ns c.loop-n.counts c.args.counts.now) (take_all c.loop-n.n-index c.args.numbers.now c.loop-n-test.false) c.loop-n.invariant.counted
+
+pub returns-clause-trail : goal.returns-clause-trail
+returns-clause-trail c = c.loop-n.invariant.table
+
+pub returns-clause-grows : goal.returns-clause-grows
+returns-clause-grows c = c.loop-n.invariant.grows
+
+pub returns-clause-falsified : goal.returns-clause-falsified
+returns-clause-falsified c = c.loop-n.invariant.falsified
+
+pub returns-clause-quiet : goal.returns-clause-quiet
+returns-clause-quiet c = λ none. subst (λ (ns : List ℕ). AreQuietNow c.args.formula.now.clauses ns c.args.counts.now c.args.trail.now.items c.loop-n.trail.items) (take_all c.loop-n.n-index c.args.numbers.now c.loop-n-test.false) (c.loop-n.invariant.quiet none)

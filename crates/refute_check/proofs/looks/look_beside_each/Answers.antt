@@ -1,6 +1,7 @@
 use Rattle.std.proofs.Common.{List, sym, subst}
 use Rattle.std.specs.Prelude.{All}
 use Rattle.std.proofs.lemmas.List.{take_all}
+use Rattle.std.proofs.lemmas.Bool.{true≢false, false≢true}
 use Rattle.cnf_core.specs.Lit.{negate}
 use Rattle.cnf_core.proofs.GrowthLemmas.{grows_more}
 use Rattle.refute_check.specs.declared.places.Rest.{Rest}
@@ -29,3 +30,24 @@ returns-then-branch-clause-grows c =
 
 pub returns-clause-quiet : goal.returns-clause-quiet
 returns-clause-quiet c = λ _. subst (λ (rs : List Rest). All (IsRestQuiet c.args.l c.args.trail.now.items c.loop-r.trail.items) rs) (take_all c.loop-r.r-index c.args.shorts.now c.loop-r-test.false) c.loop-r.invariant.quiet
+
+pub look_beside-requires-clause-trail : goal.look_beside-requires-clause-trail
+look_beside-requires-clause-trail c = c.loop-r.invariant.table
+
+pub returns-then-branch-clause-trail : goal.returns-then-branch-clause-trail
+returns-then-branch-clause-trail c = c.in_ok-look_beside.ensures.trail
+
+pub returns-then-branch-clause-falsified : goal.returns-then-branch-clause-falsified
+returns-then-branch-clause-falsified c = λ _. c.in_ok-look_beside.ensures.falsified c.if-branch.true
+
+pub returns-then-branch-clause-quiet : goal.returns-then-branch-clause-quiet
+returns-then-branch-clause-quiet c = λ e. absurd (true≢false e)
+
+pub returns-clause-trail : goal.returns-clause-trail
+returns-clause-trail c = c.loop-r.invariant.table
+
+pub returns-clause-grows : goal.returns-clause-grows
+returns-clause-grows c = c.loop-r.invariant.grows
+
+pub returns-clause-falsified : goal.returns-clause-falsified
+returns-clause-falsified c = λ e. absurd (false≢true e)

@@ -1,5 +1,6 @@
-use Rattle.std.proofs.Common.{◌≡◌, ◌∙◌, ◌≤◌, ◌<◌, ℕ, List, length, get_or, take, sym, ap, subst, arith}
+use Rattle.std.proofs.Common.{◌≡◌, ◌∙◌, ◌≤◌, ◌<◌, ℕ, List, length, get_or, take, refl, sym, ap, subst, arith}
 use Rattle.std.specs.Prelude.{All}
+use Rattle.std.proofs.lemmas.Bool.{true≢false}
 use Rattle.cnf_core.specs.Lit.{Literal, negate, word_of}
 use Rattle.cnf_core.specs.Clause.{IsThere}
 use Rattle.cnf_core.proofs.TrailLemmas.{word_below, front_lacks}
@@ -71,3 +72,30 @@ returns-clause-quiet c = λ none.
     (subst (λ (k : Literal). All (IsRestQuiet k old mid) (shorts_from clauses (negate c.index.result.now))) c.negated-l.ensures
     (subst (λ (rs : List Rest). All (IsRestQuiet c.negated-l.result old mid) rs) shorts (c.in_ok-look_beside_each.ensures.quiet c.if-branch.false)))
     (subst (λ (ns : List ℕ). AreQuietNow clauses ns c.args.counts.now mid new) longer (c.in_ok-found.ensures.quiet none))
+
+pub look_beside_each-requires-clause-trail : goal.look_beside_each-requires-clause-trail
+look_beside_each-requires-clause-trail c = c.requires.counted.table
+
+pub returns-then-branch-clause-grows : goal.returns-then-branch-clause-grows
+returns-then-branch-clause-grows c = c.in_ok-look_beside_each.ensures.grows
+
+pub returns-then-branch-clause-falsified : goal.returns-then-branch-clause-falsified
+returns-then-branch-clause-falsified c = λ _. c.in_ok-look_beside_each.ensures.falsified c.if-branch.true
+
+pub returns-then-branch-clause-next : goal.returns-then-branch-clause-next
+returns-then-branch-clause-next c = λ e. absurd (true≢false e)
+
+pub returns-then-branch-clause-quiet : goal.returns-then-branch-clause-quiet
+returns-then-branch-clause-quiet c = λ e. absurd (true≢false e)
+
+pub count_each-requires-clause-size : goal.count_each-requires-clause-size
+count_each-requires-clause-size c = c.requires.counted.right.size
+
+pub count_each-requires-clause-trail : goal.count_each-requires-clause-trail
+count_each-requires-clause-trail c = c.in_ok-look_beside_each.ensures.trail
+
+pub returns-clause-falsified : goal.returns-clause-falsified
+returns-clause-falsified c = c.in_ok-found.ensures.falsified
+
+pub returns-clause-next : goal.returns-clause-next
+returns-clause-next c = λ _. refl

@@ -1,4 +1,5 @@
 use Rattle.std.proofs.Common.{arith}
+use Rattle.std.proofs.lemmas.Bool.{true≢false, false≢true}
 use Rattle.cnf_core.proofs.MarkLemmas.{trail_short}
 use Rattle.cnf_core.proofs.GrowthLemmas.{grows_more}
 use Rattle.refute_check.proofs.AdvanceLemmas.{propagated_none, propagated_more}
@@ -23,3 +24,30 @@ loop-front-smaller c =
 pub returns-then-found-clause-grows : goal.returns-then-found-clause-grows
 returns-then-found-clause-grows c =
     grows_more c.args.formula.now.clauses c.args.trail.now.items c.loop-front.trail.items c.advance.new.trail.items c.loop-front.invariant.grows c.in_ok-found.ensures.grows
+
+pub advance-requires-clause-counted : goal.advance-requires-clause-counted
+advance-requires-clause-counted c = c.loop-front.invariant.counted
+
+pub advance-requires-clause-quiet : goal.advance-requires-clause-quiet
+advance-requires-clause-quiet c = c.loop-front.invariant.quiet
+
+pub returns-then-found-clause-counted : goal.returns-then-found-clause-counted
+returns-then-found-clause-counted c = c.in_ok-found.ensures.counted
+
+pub returns-then-found-clause-falsified : goal.returns-then-found-clause-falsified
+returns-then-found-clause-falsified c = λ _. c.in_ok-found.ensures.falsified c.if-found.true
+
+pub returns-then-found-clause-all : goal.returns-then-found-clause-all
+returns-then-found-clause-all c = λ e. absurd (true≢false e)
+
+pub returns-then-found-clause-quiet : goal.returns-then-found-clause-quiet
+returns-then-found-clause-quiet c = λ e. absurd (true≢false e)
+
+pub returns-clause-counted : goal.returns-clause-counted
+returns-clause-counted c = c.loop-front.invariant.counted
+
+pub returns-clause-grows : goal.returns-clause-grows
+returns-clause-grows c = c.loop-front.invariant.grows
+
+pub returns-clause-falsified : goal.returns-clause-falsified
+returns-clause-falsified c = λ e. absurd (false≢true e)

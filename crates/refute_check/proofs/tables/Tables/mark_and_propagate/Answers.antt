@@ -25,3 +25,15 @@ propagate-requires-clause-quiet c =
 
 pub returns-clause-grows : goal.returns-clause-grows
 returns-clause-grows c = subst (λ (ls : List Literal). Grows c.args.formula.now.clauses ls c.propagate.new.trail.items) c.in_ok-mark.ensures.more c.in_ok-reached.ensures.grows
+
+pub propagate-requires-clause-occurrences : goal.propagate-requires-clause-occurrences
+propagate-requires-clause-occurrences c = rw c.deref.ensures.value c.requires.occurrences
+
+pub returns-clause-falsified : goal.returns-clause-falsified
+returns-clause-falsified c = c.in_ok-reached.ensures.falsified
+
+pub returns-clause-all : goal.returns-clause-all
+returns-clause-all c = c.in_ok-reached.ensures.all
+
+pub returns-clause-quiet : goal.returns-clause-quiet
+returns-clause-quiet c = c.in_ok-reached.ensures.quiet

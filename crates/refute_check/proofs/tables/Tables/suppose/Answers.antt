@@ -1,6 +1,6 @@
 use Rattle.std.proofs.Common.{◌≡◌, ◌∙◌, arith, length, subst, drop}
 use Rattle.cnf_core.specs.Trail.{IsTrail}
-use Rattle.refute_check.proofs.SupposeLemmas.{assumed_counted, clash_falsifies, supposed_falsifies, supposed_closure, written_back}
+use Rattle.refute_check.proofs.SupposeLemmas.{assumed_counted, assumed_quiet, clash_falsifies, supposed_falsifies, supposed_closure, supposed_front, written_back}
 use Rattle.refute_check.proofs.NoveltyLemmas.{supposed_reasoned}
 use Rattle.refute_check.proofs.tables.Tables.suppose.Goals as goal
 
@@ -14,6 +14,17 @@ propagate-requires-clause-counted c =
     let truth_is : c.deref_mut-3.result.now ≡ c.assume_false.new.truth = c.deref_mut-3.ensures.value ∙ written_back c.args.self.now.truth.len c.assume_false.new.truth (drop (length c.assume_false.new.truth) c.args.self.now.truth.items) size in
     let level : c.len-level.result ≡ length c.args.self.now.trail.items = omega (arith, c.len-level.ensures) in
     rw (truth_is, c.deref_mut-2.ensures.value, level) counted
+
+pub propagate-requires-clause-quiet : goal.propagate-requires-clause-quiet
+propagate-requires-clause-quiet c =
+    let level : c.len-level.result ≡ length c.args.self.now.trail.items = omega (arith, c.len-level.ensures) in
+    rw level (assumed_quiet c.args.formula.now.clauses c.args.self.now.trail.items c.assume_false.new.trail.items c.args.lits.now c.requires.settled.quiet c.in_ok-clash.ensures.assumes)
+
+pub returns-then-clash-clause-front : goal.returns-then-clash-clause-front
+returns-then-clash-clause-front c = let a = c.in_ok-clash.ensures.assumes in a.front
+
+pub returns-clause-front : goal.returns-clause-front
+returns-clause-front c = supposed_front c.args.formula.now.clauses c.args.self.now.trail.items c.assume_false.new.trail.items c.propagate.new.trail.items c.args.lits.now c.in_ok-clash.ensures.assumes c.in_ok-reached.ensures.grows
 
 pub returns-then-clash-clause-falsified : goal.returns-then-clash-clause-falsified
 returns-then-clash-clause-falsified c = λ _. clash_falsifies c.args.formula.now.clauses c.args.self.now.trail.items c.args.lits.now c.requires.settled.within c.requires.settled.reasoned (c.in_ok-clash.ensures.clash c.if-clash.true)
