@@ -24,12 +24,12 @@ LIMITS = [("plan_core", "MAX_FILE_BYTES"), ("plan_core", "MAX_LOG_BYTES"), ("rai
 
 # where the faults of a section of docs/formats.md are, in the order in which the sections stand
 FAULTS = {"Words": "plan_words/src/fault.rt", "A railML file": "railml_text/src/fault.rt",
-          "The topology": "railml_topology/src/fault.rt", "The drawing text, or sheet": "plan_text/src/sheet_fault.rt",
+          "The topology": "topology_faults/src/fault.rt", "The drawing text, or sheet": "plan_text/src/sheet_fault.rt",
           "The track graph, and the graph text": "port_graph/src/fault.rt", "The log text": "refute_log/src/fault.rt",
           "The answer of signals": "plan_objects/src/fault.rt", "The text of hinted lines": "hint_text/src/fault.rt"}
 
 # the front of a fault's line, and where its faults are
-TABLES = {"words": "plan_words/src/fault.rt", "text": "railml_text/src/fault.rt", "topology": "railml_topology/src/fault.rt",
+TABLES = {"words": "plan_words/src/fault.rt", "text": "railml_text/src/fault.rt", "topology": "topology_faults/src/fault.rt",
           "graph": "port_graph/src/fault.rt", "order": "track_order/src/fault.rt", "sheet": "plan_text/src/sheet_fault.rt",
           "log": "refute_log/src/fault.rt", "signal": "plan_objects/src/fault.rt", "hints": "hint_text/src/fault.rt"}
 

@@ -10,10 +10,10 @@ use Rattle.railml_read.specs.Tree.{XmlTree}
 use Rattle.railml_read.specs.Rows.{rows_of}
 use Rattle.railml_read.specs.Document.{IsTextFault}
 use Rattle.railml_read.proofs.FaultLemmas.{one_tree, one_fault as one_text_fault}
-use Rattle.railml_topology.specs.declared.fault.TopologyWhat.{TopologyWhat}
-use Rattle.railml_topology.specs.Faults.{IsFirstTopologyFault, HasNoFault}
+use Rattle.topology_faults.specs.declared.fault.TopologyWhat.{TopologyWhat}
+use Rattle.topology_faults.specs.Faults.{IsFirstTopologyFault, HasNoFault}
 use Rattle.railml_topology.specs.Resolved.{IsTopologyOf}
-use Rattle.railml_topology.proofs.LawLemmas.{one_first_fault}
+use Rattle.topology_faults.proofs.LawLemmas.{one_first_fault}
 use Rattle.railml_topology.proofs.OneTopologyLemmas.{one_topology as one_resolved}
 use Rattle.railml_topology.proofs.SoundLemmas.{sound as all_sound}
 use Rattle.railml_topology.proofs.ResolvedLemmas.{resolved as made_resolved}

@@ -6,9 +6,9 @@ use Rattle.line_text.specs.Fields.{line_text}
 use Rattle.plan_words.specs.WordFaults as word_faults
 use Rattle.rail_mileage.specs.MetresText.{metres_text}
 use Rattle.railml_text.specs.Faults as text_faults
-use Rattle.railml_topology.specs.declared.fault.TopologyWhat.{TopologyWhat}
-use Rattle.railml_topology.specs.declared.fault.TopologyWhat.TheVariants as topologies
-use Rattle.railml_topology.specs.Faults as topology_faults
+use Rattle.topology_faults.specs.declared.fault.TopologyWhat.{TopologyWhat}
+use Rattle.topology_faults.specs.declared.fault.TopologyWhat.TheVariants as topologies
+use Rattle.topology_faults.specs.Faults as topology_faults
 use Rattle.port_graph.specs.declared.fault.GraphFault.{GraphFault}
 use Rattle.port_graph.specs.declared.fault.GraphFault.TheVariants as graphs
 use Rattle.port_graph.specs.TopologyGraph as graph_faults

@@ -12,7 +12,7 @@ use Rattle.track_order.specs.Order.{EdgeOrder, IsOrderOf}
 use Rattle.track_order.specs.Causes.{IsOrderFault}
 use Rattle.railml_read.specs.declared.rows.Elem.{Elem}
 use Rattle.railml_read.specs.Document.{GivesRows, IsTextFault}
-use Rattle.railml_topology.specs.Faults.{IsFirstTopologyFault}
+use Rattle.topology_faults.specs.Faults.{IsFirstTopologyFault}
 use Rattle.railml_topology.specs.Answers.{ResolvesTo}
 use Rattle.input_answer.specs.declared.fault.RunFault.{RunFault}
 use Rattle.input_answer.specs.declared.fault.RunFault.TheVariants.{Words, Long, Text, Topology, Graph, Order, Signal}

@@ -6,12 +6,12 @@ use Rattle.plan_core.proofs.ExactlyLemmas.{answers_exactly}
 use Rattle.plan_core.specs.declared.topology.Topology.{Topology as Resolved}
 use Rattle.railml_read.specs.declared.rows.Elem.{Elem}
 use Rattle.railml_read.specs.Formed.{AreFormed}
+use Rattle.topology_faults.specs.Faults.{HasNoFault}
+use Rattle.topology_faults.proofs.LawLemmas.{one_first_fault}
 use Rattle.railml_topology.specs.declared.fault.ResolveFault.{ResolveFault}
 use Rattle.railml_topology.specs.declared.fault.ResolveFault.TheVariants.{Topology, Memory}
-use Rattle.railml_topology.specs.Faults.{HasNoFault}
 use Rattle.railml_topology.specs.Resolved.{IsTopologyOf}
 use Rattle.railml_topology.specs.Answers.{ResolvesTo, IsResolveFault}
-use Rattle.railml_topology.proofs.LawLemmas.{one_first_fault}
 use Rattle.railml_topology.proofs.OneTopologyLemmas.{one_topology}
 
 module _ (rows : List Elem) (formed : AreFormed rows) where

@@ -4,19 +4,19 @@ use Rattle.std.specs.List.{All}
 use Rattle.std.proofs.lemmas.List.{map-append, drop_more, drop_all, append-nil}
 use Rattle.std.proofs.lemmas.List.Elements.{All-push}
 use Rattle.std.proofs.lemmas.Option.{option_and_then_some, slice_get_within}
-use Rattle.railml_topology.proofs.PartLemmas.{only_some, only_child_entry}
+use Rattle.topology_faults.proofs.PartLemmas.{only_some, only_child_entry}
 use Rattle.railml_read.specs.declared.rows.Elem.{Elem}
 use Rattle.railml_read.specs.declared.rows.ElemKind.{ElemKind}
 use Rattle.railml_read.specs.declared.rows.ElemKind.TheVariants.{Track, Topology, Begin, End}
+use Rattle.topology_faults.specs.declared.tables.Tables.{Tables}
+use Rattle.topology_faults.specs.Rows.{same_kind, numbers_from, track_rows, is_of_kind, children}
+use Rattle.topology_faults.specs.Faults.{IsWholeTrack}
+use Rattle.topology_faults.specs.Tables.{HasOnlyChildren, entry_in, AreTablesOf}
+use Rattle.topology_faults.proofs.Family.{of_kind, only_child}
 use Rattle.railml_topology.specs.declared.layout.Layout.{Layout}
-use Rattle.railml_topology.specs.declared.tables.Tables.{Tables}
-use Rattle.railml_topology.specs.Rows.{same_kind, numbers_from, track_rows, is_of_kind, children}
-use Rattle.railml_topology.specs.Faults.{IsWholeTrack}
 use Rattle.railml_topology.specs.Resolved.{AreInner, IsLayout, AreLayouts}
-use Rattle.railml_topology.specs.Tables.{HasOnlyChildren, entry_in, AreTablesOf}
 use Rattle.railml_topology.specs.Plans.{HasOne}
 use Rattle.railml_topology.specs.Sound.{AreSoundRows}
-use Rattle.railml_topology.proofs.Family.{of_kind, only_child}
 
 pub entry_child : (rows : List Elem) (kind : ElemKind) (table : List (Option ℕ)) (i k : ℕ) → HasOnlyChildren rows kind table → entry_in table i ≡ Some k → children rows i kind ≡ k ∷ []
 entry_child rows kind table i k h e =

@@ -1,6 +1,4 @@
-pub mod Apart
 pub mod Zips
-pub mod Family
 pub mod PositionLemmas
 pub mod OrderLemmas
 pub mod LayoutLemmas
@@ -12,14 +10,4 @@ pub mod JoinLemmas
 pub mod ResolvedLemmas
 pub mod SoundLemmas
 pub mod OneTopologyLemmas
-pub mod TableLemmas
-pub mod ListLemmas
-pub mod FaultLemmas
-pub mod ToldLemmas
-pub mod LawLemmas
-pub mod PartLemmas
-pub mod OutsideLemmas
-pub mod IdLemmas
-pub mod ReferenceLemmas
-pub mod ChildLemmas
 pub mod AnswerLemmas

@@ -10,8 +10,8 @@ use Rattle.std.specs.List.{Contains, All, AllByRecursion}
 use Rattle.std.proofs.lemmas.Bool.Decides.{eqb_tells}
 use Rattle.std.proofs.lemmas.Option.{same_Some, slice_get_within, slice_get_read, option_and_then_some}
 use Rattle.plan_core.proofs.PlaceFacts.{same_place}
-use Rattle.railml_topology.proofs.PartLemmas.{only_child_entry}
-use Rattle.railml_topology.proofs.IdLemmas.{one_row}
+use Rattle.topology_faults.proofs.PartLemmas.{only_child_entry}
+use Rattle.topology_faults.proofs.IdLemmas.{one_row}
 use Rattle.plan_core.specs.declared.topology.Place.{Place}
 use Rattle.plan_core.specs.declared.topology.Part.{Part}
 use Rattle.plan_core.specs.declared.topology.Part.TheVariants as parts
@@ -19,22 +19,22 @@ use Rattle.plan_core.specs.declared.limits.TheConstants.{MAX_TRACKS}
 use Rattle.railml_read.specs.declared.rows.Elem.{Elem}
 use Rattle.railml_read.specs.declared.rows.ElemKind.{ElemKind}
 use Rattle.railml_read.specs.declared.rows.ElemKind.TheVariants.{Begin, End, Switch, Crossing, Connection}
+use Rattle.topology_faults.specs.declared.tables.Tables.{Tables}
+use Rattle.topology_faults.specs.Rows.{track_rows, is_of_kind, is_word, all_children, children}
+use Rattle.topology_faults.specs.Faults.{HasTwoWays, IsConnectionOf}
+use Rattle.topology_faults.specs.Tables.{entry_in, AreTablesOf}
+use Rattle.topology_faults.proofs.Apart.{Apart, Among, all_more, stands_weaker, stands_from_pairs, apart_short}
+use Rattle.topology_faults.proofs.Family.{among_from_contains, contains_from_among, among_filtered, filtered_among, of_kind, is_of_its_kind, IsChild, child, has_child, only_child}
+use Rattle.topology_faults.proofs.TableLemmas.{entry_written, slice_get-set_other}
 use Rattle.railml_topology.specs.declared.layout.Layout.{Layout}
-use Rattle.railml_topology.specs.declared.tables.Tables.{Tables}
-use Rattle.railml_topology.specs.Rows.{track_rows, is_of_kind, is_word, all_children, children}
-use Rattle.railml_topology.specs.Faults.{HasTwoWays, IsConnectionOf}
 use Rattle.railml_topology.specs.Resolved.{StandsBefore, way_word, IsLayout, AreLayouts, IsBranchOf, IsWayOf, IsAtPart, IsAtPlace}
-use Rattle.railml_topology.specs.Tables.{entry_in, AreTablesOf}
 use Rattle.railml_topology.specs.Places.{IsFilled, Adds, IsAtInner, IsOnInner, IsOnFirst, IsOnTrack, HasPlaces, goes_by}
 use Rattle.railml_topology.specs.Sound.{AreSoundRows}
-use Rattle.railml_topology.proofs.Apart.{Apart, Among, all_more, stands_weaker, stands_from_pairs, apart_short}
 use Rattle.railml_topology.proofs.PositionLemmas.{before_differs, inner_within}
 use Rattle.railml_topology.specs.Plans.{is_inner}
-use Rattle.railml_topology.proofs.Family.{among_from_contains, contains_from_among, among_filtered, filtered_among, of_kind, is_of_its_kind, IsChild, child, has_child, only_child}
 use Rattle.railml_topology.proofs.ElementLemmas.{way_child, all_that_among}
 use Rattle.railml_topology.proofs.LayoutLemmas.{entry_child}
 use Rattle.railml_topology.proofs.JoinLemmas.{one_way, kinds_clash, one_number}
-use Rattle.railml_topology.proofs.TableLemmas.{entry_written, slice_get-set_other}
 
 -- ---- one entry
 

@@ -1,4 +1,4 @@
--- A row has one position at most, and the order along a track never goes in a circle.
+-- The order along a track never goes in a circle, and mileages are far below the limits of a word.
 use Rattle.std.proofs.Common.{◌≡◌, ◌≢◌, FitsSigned, w64, to_z, of_z, ℕ, ◌<◌, List, slice_get, sym, ap, ◌∙◌, subst, inl, inr, arith}
 use Rattle.std.proofs.Common.{length, get_or, refl}
 use Rattle.std.specs.Prelude.{◌^◌, ◌||◌, Some, Bool, true, false, ℤ, ◌<ℤ◌}
@@ -7,22 +7,14 @@ use Rattle.std.proofs.lemmas.Option.{same_Some, slice_get_within, slice_get_read
 use Rattle.plan_core.specs.declared.numbers.Micro.{Micro}
 use Rattle.rail_mileage.specs.Metres.{MetresParts, IsMetres, mileage_told, micrometres, signed, is_minus, fraction_digits}
 use Rattle.rail_mileage.proofs.Digits.{size_below}
-use Rattle.rail_mileage.proofs.PartsLemmas.{one_reading}
 use Rattle.railml_read.specs.declared.rows.Elem.{Elem}
 use Rattle.railml_read.specs.declared.rows.ElemKind.TheVariants.{Switch, Crossing}
-use Rattle.railml_topology.specs.Rows.{is_of_kind, bears_position, ReadsMetres, HasPosition}
+use Rattle.topology_faults.specs.Rows.{is_of_kind, bears_position, ReadsMetres, HasPosition}
+use Rattle.topology_faults.proofs.Family.{of_kind}
+use Rattle.topology_faults.proofs.PositionLemmas.{one_position}
 use Rattle.railml_topology.specs.Resolved.{StandsBefore}
 use Rattle.railml_topology.specs.Plans.{is_inner, IsOfSize}
 use Rattle.railml_topology.specs.Sound.{AreSoundRows}
-use Rattle.railml_topology.proofs.Family.{of_kind}
-
-pub one_number : (text : List ℕ) (z w : ℤ) → ReadsMetres text z → ReadsMetres text w → z ≡ w
-one_number text z w a b = sym a.is ∙ (ap (λ (p : MetresParts). (mileage_told p).0) (one_reading text a.parts b.parts a.metres b.metres) ∙ b.is)
-
-pub one_position : (row : Elem) (z w : ℤ) → HasPosition row z → HasPosition row w → z ≡ w
-one_position row z w a b =
-    let same : b.text ≡ a.text = same_Some b.text a.text (sym b.has ∙ a.has) in
-    one_number a.text z w a.reads (subst (λ (v : List ℕ). ReadsMetres v w) same b.reads)
 
 never_below : (z : ℤ) → z <ℤ z → ⊥
 never_below z h = omega (arith, ints)

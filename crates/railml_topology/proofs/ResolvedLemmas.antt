@@ -13,13 +13,13 @@ use Rattle.plan_core.specs.declared.topology.Inner.{Inner}
 use Rattle.plan_core.specs.Topology.{Element, IsId, elements, IsMileage, track_miles, IsResolved}
 use Rattle.plan_core.specs.declared.limits.TheConstants.{MAX_TRACKS}
 use Rattle.railml_read.specs.declared.rows.Elem.{Elem}
+use Rattle.topology_faults.specs.Rows.{BearsId, ReadsMetres, HasPosition, track_rows}
+use Rattle.topology_faults.proofs.Apart.{all_more, all_joined, all_mapped, pairs_from_stands, stands_mapped, apart_short, Covers}
 use Rattle.railml_topology.specs.declared.layout.Layout.{Layout}
-use Rattle.railml_topology.specs.Rows.{BearsId, ReadsMetres, HasPosition, track_rows}
 use Rattle.railml_topology.specs.Resolved.{IsMeasuredFrom, HasMileage, IsInnerOf, IsTrackOf, IsTopologyOf}
 use Rattle.railml_topology.specs.Sound.{AreSoundRows}
 use Rattle.railml_topology.specs.Plans.{IsOfSize}
 use Rattle.railml_topology.proofs.PositionLemmas.{number_within}
-use Rattle.railml_topology.proofs.Apart.{all_more, all_joined, all_mapped, pairs_from_stands, stands_mapped, apart_short, Covers}
 use Rattle.railml_topology.proofs.ElementLemmas.{Bears, element_of, element_is, covered}
 use Rattle.railml_topology.proofs.JoinLemmas.{both_ways}
 use Rattle.railml_topology.proofs.Zips.{zip_length}

@@ -3,7 +3,7 @@ use Rattle.std.proofs.Common.{◌≡◌, ◌⊎◌, ℕ, suc, zero, ◌<◌, Boo
 use Rattle.std.specs.List.{Contains, filter}
 use Rattle.std.proofs.lemmas.List.Elements.{recursion_from_All}
 use Rattle.std.proofs.lemmas.Option.{slice_get_within, slice_get-get_or, option_and_then_some}
-use Rattle.railml_topology.proofs.IdLemmas.{one_row}
+use Rattle.topology_faults.proofs.IdLemmas.{one_row}
 use Rattle.plan_core.specs.declared.topology.Conn.{Conn}
 use Rattle.plan_core.specs.declared.topology.Place.{Place}
 use Rattle.plan_core.specs.declared.topology.Part.TheVariants as parts
@@ -11,17 +11,17 @@ use Rattle.railml_read.specs.declared.rows.Elem.{Elem}
 use Rattle.railml_read.specs.declared.rows.ElemKind.{ElemKind}
 use Rattle.railml_read.specs.declared.rows.ElemKind.TheVariants as kinds
 use Rattle.railml_read.specs.Formed.{may_hold, HasParent, IsRowPlaced, AreFormed}
+use Rattle.topology_faults.specs.declared.tables.Tables.{Tables}
+use Rattle.topology_faults.specs.Rows.{same_kind, track_rows, is_of_kind, all_children, children, bears_id}
+use Rattle.topology_faults.specs.Faults.{HasItsParts}
+use Rattle.topology_faults.specs.Tables.{only_of, IsReferredTo, IsTargetOf, HasTargets, entry_in, AreTablesOf}
+use Rattle.topology_faults.proofs.Apart.{Among}
+use Rattle.topology_faults.proofs.Family.{contains_from_among, of_kind, is_of_its_kind, has_number, among_filtered, IsChild, has_child, only_child, is_only}
 use Rattle.railml_topology.specs.declared.layout.Layout.{Layout}
-use Rattle.railml_topology.specs.declared.tables.Tables.{Tables}
-use Rattle.railml_topology.specs.Rows.{same_kind, track_rows, is_of_kind, all_children, children, bears_id}
-use Rattle.railml_topology.specs.Faults.{HasItsParts}
 use Rattle.railml_topology.specs.Resolved.{IsConnOf, IsJoinedAs, IsLayout, AreLayouts, IsWayOf, IsAtPlace}
-use Rattle.railml_topology.specs.Tables.{only_of, IsReferredTo, IsTargetOf, HasTargets, entry_in, AreTablesOf}
 use Rattle.railml_topology.specs.Places.{HasPlaces}
 use Rattle.railml_topology.specs.Sites.{IsEither}
 use Rattle.railml_topology.specs.Sound.{AreSoundRows}
-use Rattle.railml_topology.proofs.Apart.{Among}
-use Rattle.railml_topology.proofs.Family.{contains_from_among, of_kind, is_of_its_kind, has_number, among_filtered, IsChild, has_child, only_child, is_only}
 use Rattle.railml_topology.proofs.JoinLemmas.{all_at}
 use Rattle.railml_topology.proofs.LayoutLemmas.{entry_child}
 use Rattle.railml_topology.proofs.PlaceLemmas.{way_of_child}

@@ -19,14 +19,14 @@ use Rattle.railml_read.specs.declared.rows.Elem.{Elem}
 use Rattle.railml_read.specs.declared.rows.ElemKind.{ElemKind}
 use Rattle.railml_read.specs.declared.rows.ElemKind.TheVariants as kinds
 use Rattle.railml_read.specs.Formed.{AreFormed}
-use Rattle.railml_topology.specs.declared.attributes.Attribute.{Attribute}
-use Rattle.railml_topology.specs.declared.attributes.Attribute.TheVariants as attributes
-use Rattle.railml_topology.specs.declared.fault.TopologyWhat.TheVariants.{TooMany, Missing, Id, RepeatedId, Number, UnknownRef, NotMutual, SelfRef, EndKind, Course, Orientation}
-use Rattle.railml_topology.specs.Rows.{same_kind, track_rows, all_children, children, parent_of, bears_id, bears_position, id_of, BearsId, IsConnectionNamed, attribute_text, attribute_name, is_word, required_of, required, lacking, ReadsMetres, HasPosition}
-use Rattle.railml_topology.specs.Faults.{IsNoNumber, HasNoNumber, RefersTo, IsWholeTrack, AreOrientedAlike, HasTwoWays, HasItsParts, IsHand, IsStraight, IsCourseAt, IsConnectionOf, IsWay, HasNoFault}
+use Rattle.topology_faults.specs.declared.attributes.Attribute.{Attribute}
+use Rattle.topology_faults.specs.declared.attributes.Attribute.TheVariants as attributes
+use Rattle.topology_faults.specs.declared.fault.TopologyWhat.TheVariants.{TooMany, Missing, Id, RepeatedId, Number, UnknownRef, NotMutual, SelfRef, EndKind, Course, Orientation}
+use Rattle.topology_faults.specs.Rows.{same_kind, track_rows, all_children, children, parent_of, bears_id, bears_position, id_of, BearsId, IsConnectionNamed, attribute_text, attribute_name, is_word, required_of, required, lacking, ReadsMetres, HasPosition}
+use Rattle.topology_faults.specs.Faults.{IsNoNumber, HasNoNumber, RefersTo, IsWholeTrack, AreOrientedAlike, HasTwoWays, HasItsParts, IsHand, IsStraight, IsCourseAt, IsConnectionOf, IsWay, HasNoFault}
+use Rattle.topology_faults.proofs.Family.{among_from_contains, same_kind_is, same_kind_self}
 use Rattle.railml_topology.specs.Resolved.{way_word, hand_word, HasAbsPos, IsCourseOf}
 use Rattle.railml_topology.specs.Sound.{HasGoodId, IsMutual, IsConnectionOfInner, AreSoundRows}
-use Rattle.railml_topology.proofs.Family.{among_from_contains, same_kind_is, same_kind_self}
 use Rattle.railml_topology.proofs.ElementLemmas.{track_rows_kind}
 
 -- a statement that holds where its denial doesn't

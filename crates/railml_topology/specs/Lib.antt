@@ -1,11 +1,6 @@
-pub mod Rows
-pub mod Faults
 pub mod Resolved
 pub mod Sound
-pub mod Ids
-pub mod Tables
 pub mod Plans
 pub mod Places
 pub mod Sites
 pub mod Answers
-pub mod Telling

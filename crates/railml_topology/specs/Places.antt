@@ -6,10 +6,10 @@ use Rattle.plan_core.specs.declared.topology.Part.{Part}
 use Rattle.plan_core.specs.declared.topology.Part.TheVariants as parts
 use Rattle.railml_read.specs.declared.rows.Elem.{Elem}
 use Rattle.railml_read.specs.declared.rows.ElemKind.TheVariants as kinds
+use Rattle.topology_faults.specs.Rows.{is_of_kind, is_word}
+use Rattle.topology_faults.specs.Tables.{entry_in}
 use Rattle.railml_topology.specs.declared.layout.Layout.{Layout}
-use Rattle.railml_topology.specs.Rows.{is_of_kind, is_word}
 use Rattle.railml_topology.specs.Resolved.{IsBranchOf, IsWayOf, IsAtPart, IsAtPlace}
-use Rattle.railml_topology.specs.Tables.{entry_in}
 
 -- an entry of a table isn't empty
 pub record IsFilled {X : Type 0} (table : List (Option X)) (i : ℕ) : Type 0 where

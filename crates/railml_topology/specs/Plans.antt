@@ -3,8 +3,8 @@ use Rattle.std.specs.Prelude.{◌≡◌, ◌||◌, ℕ, Bool, List, [], ◌∷�
 use Rattle.railml_read.specs.declared.rows.Elem.{Elem}
 use Rattle.railml_read.specs.declared.rows.ElemKind.{ElemKind}
 use Rattle.railml_read.specs.declared.rows.ElemKind.TheVariants.{Switch, Crossing}
+use Rattle.topology_faults.specs.Rows.{is_of_kind, children, HasPosition}
 use Rattle.railml_topology.specs.declared.order.Standing.{Standing}
-use Rattle.railml_topology.specs.Rows.{is_of_kind, children, HasPosition}
 
 -- less than b from nought, either way
 abbrev pub IsOfSize : ℕ → ℤ → Type 0

@@ -1,18 +1,18 @@
 // Switches and crossings in their order along a track.
 ghost use Rattle.std.specs.Prelude.{◌≡◌, ◌<◌, ◌^◌, true, ℕ, ℤ, List, map, filter, length, All, IfOk, Some, slice_get};
 ghost use Rattle.std.specs.Prelude.{Option};
-ghost use Rattle.railml_topology.specs.Rows.{ReadsMetres, HasPosition};
+ghost use Rattle.topology_faults.specs.Rows.{ReadsMetres, HasPosition};
+ghost use Rattle.topology_faults.specs.Tables.{ListsChildren};
 ghost use Rattle.railml_topology.specs.Plans.{is_inner as passes_inner, IsStanding, IsOfSize};
 ghost use Rattle.railml_topology.specs.Resolved.{AreInner};
-ghost use Rattle.railml_topology.specs.Tables.{ListsChildren};
 ghost use Rattle.railml_topology.specs.Sound.{AreSoundRows};
 ghost use Rattle.railml_topology.specs.declared.order.Standing.{Standing as Placed};
 
-use crate::rows::is_of_kind;
 use plan_core::{Items, OutOfMemory, Text};
 use rail_mileage::read_metres;
 use railml_read::{Elem, ElemKind};
 use std::alloc::Global;
+use topology_faults::is_of_kind;
 
 /// A row with its position in micrometres. Rows stand in the order of these.
 #[derive(Clone, Copy, PartialEq, Eq, PartialOrd, Ord)]

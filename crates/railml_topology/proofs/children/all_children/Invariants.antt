@@ -1,5 +1,0 @@
-use Rattle.railml_topology.proofs.ChildLemmas.{Listed}
-use Rattle.railml_topology.proofs.children.all_children.Given as goal
-
-abbrev pub invariant-loop-i : goal.invariant-loop-i
-invariant-loop-i l = Listed l.rows l.i l.table.items

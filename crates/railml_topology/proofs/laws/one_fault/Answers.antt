@@ -1,5 +1,0 @@
-use Rattle.railml_topology.proofs.LawLemmas.{one_first_fault}
-use Rattle.railml_topology.proofs.laws.one_fault.Goals as goal
-
-pub returns : goal.returns
-returns c = one_first_fault

@@ -1,0 +1,13 @@
+pub mod Apart
+pub mod Family
+pub mod PositionLemmas
+pub mod TableLemmas
+pub mod ListLemmas
+pub mod FaultLemmas
+pub mod ToldLemmas
+pub mod LawLemmas
+pub mod PartLemmas
+pub mod OutsideLemmas
+pub mod IdLemmas
+pub mod ReferenceLemmas
+pub mod ChildLemmas

@@ -1,0 +1,5 @@
+pub mod Rows
+pub mod Faults
+pub mod Ids
+pub mod Tables
+pub mod Telling

@@ -1,0 +1,36 @@
+//! What is wrong with a document's rows: the first of their faults, or that they have none.
+//!
+//! Thirteen things can be wrong with rows. `specs/Rows` has the words that all speak in (a row's
+//! children, ids, attributes and positions), and `specs/Faults` says of each of the thirteen exactly
+//! where it holds and which texts are told with it; the fault that is told is the first by kind and
+//! then by place. `first_fault` answers it, by tables that are made of the rows once: `specs/Tables` says
+//! what they hold, and `specs/Telling` what is told. `specs/Ids` is for private contracts alone.
+//!
+//! It stands on `railml_read`, which gives the rows, and on `rail_mileage`, which reads positions and
+//! mileages; `railml_topology` builds the topology of rows without a fault.
+#![tactic(auto)]
+
+mod attributes;
+mod bad_ids;
+mod children;
+mod courses;
+mod fault;
+mod finding;
+mod ids;
+mod laws;
+mod missing;
+mod numbers;
+mod outside;
+mod parts;
+mod references;
+mod rows;
+mod tables;
+mod telling;
+mod tracks;
+
+pub use attributes::Attribute;
+pub use fault::TopologyWhat;
+pub use laws::one_fault;
+pub use rows::{is_kind, is_of_kind, is_word};
+pub use tables::{Tables, entry};
+pub use telling::{Told, first_fault};
