@@ -16,3 +16,4 @@ pub mod EncodeCode
 pub mod LawWords
 pub mod FormulaWords
 pub mod OneLaw
+pub mod SpotLemmas

@@ -14,6 +14,13 @@ add_guarded-requires-clause-a c =
     let placed : EdgeIsPlaced e.first e.high e.width = c.height-low.ensures.placed in
     subst (λ (i : IntVars). IntIsThere vars i) (sym c.height-low.ensures.value) (height_there e.first e.high e.width vars c.args.c placed.spot c.requires.g_there c.requires.g_column)
 
+pub add_guarded-requires-clause-b : goal.add_guarded-requires-clause-b
+add_guarded-requires-clause-b c =
+    let e = c.args.e.now.edge.now in
+    let vars = c.args.f.now.vars in
+    let placed : EdgeIsPlaced e.first e.high e.width = c.height-high.ensures.placed in
+    subst (λ (i : IntVars). IntIsThere vars i) (sym c.height-high.ensures.value) (height_there e.first e.high e.width vars c.args.c placed.spot c.requires.e_there c.requires.e_column)
+
 pub add_guarded-requires-clause-guards : goal.add_guarded-requires-clause-guards
 add_guarded-requires-clause-guards c =
     let e = c.args.e.now.edge.now in
