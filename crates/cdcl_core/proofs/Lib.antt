@@ -16,3 +16,5 @@ pub mod RoundLemmas
 pub mod ModelLemmas
 pub mod WideLemmas
 pub mod ViewLemmas
+pub mod StepLemmas
+pub mod StartLemmas

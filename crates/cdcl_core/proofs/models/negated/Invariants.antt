@@ -1,7 +1,7 @@
-use Rattle.std.proofs.Common.{◌≡◌, ◌++◌, map, drop}
+use Rattle.std.proofs.Common.{◌≡◌, map, take}
 use Rattle.cnf_core.specs.Lit.{negate}
 use Rattle.cdcl_core.proofs.models.negated.Given as goal
 
--- the negations so far, with those of what is left, are all of them
+-- those of the literals so far
 abbrev pub invariant-loop-l : goal.invariant-loop-l
-invariant-loop-l l = l.others.items ++ map negate (drop l.l-index l.lits) ≡ map negate l.lits
+invariant-loop-l l = l.others.items ≡ map negate (take l.l-index l.lits)

@@ -10,6 +10,7 @@ use Rattle.cdcl_core.specs.Search.{clauses, IsKeptOne}
 use Rattle.cdcl_core.proofs.ConflictLemmas.{formula_told}
 use Rattle.cdcl_core.proofs.LeftLemmas.{most_same, most_refused, most_told}
 use Rattle.cdcl_core.proofs.RoundLemmas.{given_err, still_same, still_refused}
+use Rattle.cdcl_core.proofs.StepLemmas.{not_err}
 use Rattle.cdcl_core.proofs.search.Search.add_fitting.Goals as goal
 
 pub tell-requires : goal.tell-requires
@@ -46,3 +47,9 @@ returns-in_err-tell-clause-gives g c = on_err_anyway _ _ (most_refused (g.L.LogS
 pub returns-in_err-keep_given-clause-gives : goal.returns-in_err-keep_given-clause-gives
 returns-in_err-keep_given-clause-gives g c = on_err_anyway _ _ (most_told (g.L.LogSink.tells c.args.log.now) (g.L.LogSink.tells c.tell.new.self) c.args.lits.now (g.met.L.LogSink.one_reading c.tell.new.self)
     (subst (λ (q : List Literal). AddsLine (g.L.LogSink.tells c.args.log.now) (g.L.LogSink.tells c.tell.new.self) (Formula q)) c.in_ok-new.ensures c.in_ok-tell.ensures.ok))
+
+pub returns-clause-cause : goal.returns-clause-cause
+returns-clause-cause g c = λ e. absurd (not_err _ _ e)
+
+pub returns-clause-fits : goal.returns-clause-fits
+returns-clause-fits g c = λ e. absurd (not_err _ _ e)

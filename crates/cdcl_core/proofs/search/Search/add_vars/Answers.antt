@@ -5,6 +5,7 @@ use Rattle.watch_arena.specs.Trail.{Marks}
 use Rattle.watch_arena.specs.Arena.{Attached}
 use Rattle.pick_heap.specs.Heap.{Ranked}
 use Rattle.cdcl_core.proofs.WideLemmas.{solving_wide, offered_wide}
+use Rattle.cdcl_core.proofs.StepLemmas.{not_err}
 use Rattle.cdcl_core.proofs.search.Search.add_vars.Goals as goal
 
 pub returns-clause-idle : goal.returns-clause-idle
@@ -38,3 +39,6 @@ returns-clause-idle c =
       };
       level = ap (λ (m : Marks). m.cuts) trail ∙ c.requires.level;
     }
+
+pub returns-clause-cause : goal.returns-clause-cause
+returns-clause-cause c = λ e. absurd (not_err _ _ e)

@@ -1,4 +1,4 @@
-use Rattle.std.proofs.Common.{◌≡◌, ℕ, List, false, get_or, sym, ◌∙◌, ap, subst, arith}
+use Rattle.std.proofs.Common.{◌≡◌, ℕ, List, false, get_or, refl, sym, ◌∙◌, ap, subst, arith}
 use Rattle.std.specs.Prelude.{Contains}
 use Rattle.std.proofs.lemmas.List.{get_or_default}
 use Rattle.cnf_core.specs.Lit.{Literal, has}
@@ -9,6 +9,9 @@ use Rattle.cdcl_core.specs.Roots.{AreOffered}
 use Rattle.cdcl_core.proofs.AskLemmas.{asking_implied, assumed_at}
 use Rattle.cdcl_core.proofs.SolvingLemmas.{solving_decided, fitted_vars}
 use Rattle.cdcl_core.proofs.HeapLemmas.{offered_decided}
+use Rattle.std.proofs.lemmas.Option.{none-some}
+use Rattle.cdcl_core.proofs.StoreLemmas.{store_itself}
+use Rattle.cdcl_core.proofs.StepLemmas.{decided_longer}
 use Rattle.cdcl_core.proofs.search.Search.assume.Goals as goal
 
 pub is_false-requires : goal.is_false-requires
@@ -45,3 +48,25 @@ pub returns-clause-asking : goal.returns-clause-asking
 returns-clause-asking c = assumed_at c.args.self.now.arena c.args.self.now.trail c.decide.new.self c.index-query-self.result c.args.query.now c.args.self.now.levels c.args.self.now.assumed c.decide.ensures.value c.requires.search.solving.grounded.marks c.decide.ensures.marks
     (untrue_here c.args.self.now.trail.lits c.args.query.now c.args.self.now.assumed c.index-query-self.result c.index-query-self.is c.requires.untrue, sym c.is_false.ensures ∙ c.if-is_false.false)
     c.requires.left (λ d. get_or_default c.args.query.now c.args.self.now.assumed d c.index-query-self.result c.requires.left ∙ sym c.index-query-self.is) c.requires.asking
+
+pub returns-clause-store : goal.returns-clause-store
+returns-clause-store c =
+    let same = store_itself c.args.self.now in
+    record {
+      clauses = same.clauses;
+      room = refl;
+      words = refl;
+      learnt = refl;
+      refuted = refl;
+      vars = ap (λ (m : Marks). m.vars) c.decide.ensures.value;
+      visits = same.visits;
+    }
+
+pub returns-clause-more : goal.returns-clause-more
+returns-clause-more c = λ _. decided_longer c.args.self.now.trail c.decide.new.self c.index-query-self.result c.decide.ensures.value
+
+pub returns-then-is_false-clause-store : goal.returns-then-is_false-clause-store
+returns-then-is_false-clause-store c = store_itself c.args.self.now
+
+pub returns-then-is_false-clause-more : goal.returns-then-is_false-clause-more
+returns-then-is_false-clause-more c = λ e. absurd (none-some _ (sym e))

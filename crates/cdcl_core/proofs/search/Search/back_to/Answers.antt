@@ -1,9 +1,10 @@
-use Rattle.std.proofs.Common.{◌≡◌, length, drop, sym, ◌∙◌, ap, subst}
+use Rattle.std.proofs.Common.{◌≡◌, length, drop, refl, sym, ◌∙◌, ap, subst}
 use Rattle.std.proofs.lemmas.List.{take_at}
 use Rattle.watch_arena.specs.Trail.{Marks}
 use Rattle.cdcl_core.specs.Roots.{AreOffered}
 use Rattle.cdcl_core.proofs.AskLemmas.{undone_at, again_at}
 use Rattle.cdcl_core.proofs.SolvingLemmas.{solving_undone, fitted_vars}
+use Rattle.cdcl_core.proofs.StoreLemmas.{store_itself}
 use Rattle.cdcl_core.proofs.search.Search.back_to.Goals as goal
 
 pub returns-then-level-self-clause-search : goal.returns-then-level-self-clause-search
@@ -37,3 +38,29 @@ returns-then-level-self-clause-asking c = λ query h. again_at c.args.self.now.a
 
 pub returns-else-level-self-clause-asking : goal.returns-else-level-self-clause-asking
 returns-else-level-self-clause-asking c = λ query h. undone_at c.args.self.now.arena c.args.self.now.trail c.undo_to.new.self query c.args.self.now.levels c.args.self.now.assumed c.args.level c.undo_to.ensures.value c.requires.search.solving.grounded.marks c.undo_to.ensures.marks c.requires.level c.if-level-self.false h
+
+pub returns-then-level-self-clause-store : goal.returns-then-level-self-clause-store
+returns-then-level-self-clause-store c =
+    let same = store_itself c.args.self.now in
+    record {
+      clauses = same.clauses;
+      room = refl;
+      words = refl;
+      learnt = refl;
+      refuted = refl;
+      vars = ap (λ (m : Marks). m.vars) c.undo_to.ensures.value;
+      visits = same.visits;
+    }
+
+pub returns-else-level-self-clause-store : goal.returns-else-level-self-clause-store
+returns-else-level-self-clause-store c =
+    let same = store_itself c.args.self.now in
+    record {
+      clauses = same.clauses;
+      room = refl;
+      words = refl;
+      learnt = refl;
+      refuted = refl;
+      vars = ap (λ (m : Marks). m.vars) c.undo_to.ensures.value;
+      visits = same.visits;
+    }

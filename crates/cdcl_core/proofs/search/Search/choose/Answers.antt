@@ -1,4 +1,4 @@
-use Rattle.std.proofs.Common.{◌≡◌, ℕ, List, true, sym, ◌∙◌, ap, subst}
+use Rattle.std.proofs.Common.{◌≡◌, ℕ, List, true, refl, sym, ◌∙◌, ap, subst}
 use Rattle.cnf_core.specs.Lit.{Literal, literal}
 use Rattle.watch_arena.specs.Trail.{Marks, IsUnset}
 use Rattle.cdcl_learn.specs.Sight.{sight}
@@ -8,6 +8,9 @@ use Rattle.cdcl_core.proofs.AskLemmas.{asking_all, decided_at}
 use Rattle.cdcl_core.proofs.SolvingLemmas.{solving_decided, settled_all, fitted_vars}
 use Rattle.cdcl_core.proofs.HeapLemmas.{offered_decided, unset_other}
 use Rattle.cdcl_core.proofs.ConflictLemmas.{unrefuted}
+use Rattle.std.proofs.lemmas.Option.{none-some}
+use Rattle.cdcl_core.proofs.StoreLemmas.{store_itself}
+use Rattle.cdcl_core.proofs.StepLemmas.{decided_longer}
 use Rattle.cdcl_core.proofs.search.Search.choose.Goals as goal
 
 pub returns-in-None-clause-search : goal.returns-in-None-clause-search
@@ -49,3 +52,27 @@ decide-requires-clause-unset c = chosen_unset c.args.self.now.trail.lits c.new-l
 pub returns-in-Some-clause-asking : goal.returns-in-Some-clause-asking
 returns-in-Some-clause-asking c = decided_at c.args.self.now.arena c.args.self.now.trail c.decide.new.self c.new-l.result c.args.query.now c.args.self.now.levels c.args.self.now.assumed c.decide.ensures.value c.requires.search.solving.grounded.marks c.decide.ensures.marks
     (chosen_unset c.args.self.now.trail.lits c.new-l.result c.in-Some.v.0 (ap (λ (k : Literal). k.var) c.new-l.ensures) c.in-Some.ensures.unset) c.requires.all c.requires.asking
+
+pub returns-in-Some-clause-store : goal.returns-in-Some-clause-store
+returns-in-Some-clause-store c =
+    let same = store_itself c.args.self.now in
+    record {
+      clauses = same.clauses;
+      room = refl;
+      words = refl;
+      learnt = refl;
+      refuted = refl;
+      vars = ap (λ (m : Marks). m.vars) c.decide.ensures.value;
+      visits = same.visits;
+    }
+
+pub returns-in-Some-clause-more : goal.returns-in-Some-clause-more
+returns-in-Some-clause-more c = λ _. decided_longer c.args.self.now.trail c.decide.new.self c.new-l.result c.decide.ensures.value
+
+pub returns-in-None-clause-store : goal.returns-in-None-clause-store
+returns-in-None-clause-store c =
+    let same = store_itself c.args.self.now in
+    record { clauses = same.clauses; room = refl; words = refl; learnt = refl; refuted = refl; vars = refl; visits = same.visits }
+
+pub returns-in-None-clause-more : goal.returns-in-None-clause-more
+returns-in-None-clause-more c = λ e. absurd (none-some _ (sym e))

@@ -35,3 +35,6 @@ loop-clash-preserved c = record {
   asking = c.decide_next.ensures.asking;
   store = store_more c.args.self.now c.propagate.new.self c.decide_next.new.self (store_more c.args.self.now c.loop-clash.self c.propagate.new.self c.loop-clash.invariant.store c.propagate.ensures.store) c.decide_next.ensures.store;
 }
+
+pub returns-in-Some-clause-asking : goal.returns-in-Some-clause-asking
+returns-in-Some-clause-asking c = c.propagate.ensures.asking c.args.query.now c.loop-clash.invariant.asking

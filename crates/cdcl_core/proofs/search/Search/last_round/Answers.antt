@@ -29,3 +29,12 @@ returns-in-Complete-clause-ends g c = last_ok c.complete.result (g.L.LogSink.tel
 
 pub returns-in-Complete-clause-leaves : goal.returns-in-Complete-clause-leaves
 returns-in-Complete-clause-leaves g c = round_err c.complete.result (g.L.LogSink.tells c.args.log.now) (g.L.LogSink.tells c.complete.new.log) c.args.query.now c.args.self.now c.descend.new.self c.in-Complete.ensures.store c.complete.ensures.leaves
+
+pub returns-in-Denied-clause-cause : goal.returns-in-Denied-clause-cause
+returns-in-Denied-clause-cause g c = c.refute.ensures.cause
+
+pub returns-in-Clash-clause-cause : goal.returns-in-Clash-clause-cause
+returns-in-Clash-clause-cause g c = c.meet_last.ensures.cause
+
+pub returns-in-Complete-clause-cause : goal.returns-in-Complete-clause-cause
+returns-in-Complete-clause-cause g c = c.complete.ensures.cause

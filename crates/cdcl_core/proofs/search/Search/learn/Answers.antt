@@ -1,4 +1,4 @@
-use Rattle.std.proofs.Common.{refl, sym, ◌∙◌, subst, arith}
+use Rattle.std.proofs.Common.{◌≡◌, refl, sym, ◌∙◌, subst, arith}
 use Rattle.outside_io.proofs.Results.{on_err_anyway}
 use Rattle.refute_log.specs.declared.line.LogLine.TheVariants.{Learnt}
 use Rattle.refute_log.specs.Told.{Lines}
@@ -7,8 +7,11 @@ use Rattle.cdcl_core.specs.Search.{clauses, IsLearntFrom, IsKeptOne}
 use Rattle.cdcl_core.specs.Rounds.{BelongsAt}
 use Rattle.cdcl_core.proofs.ConflictLemmas.{learnt_told}
 use Rattle.cdcl_core.proofs.LeftLemmas.{left_same, left_refused, left_told, counted_none, counted_one}
-use Rattle.cdcl_core.proofs.RoundLemmas.{some_of, learns_one, learn_derives}
+use Rattle.cdcl_core.proofs.RoundLemmas.{some_of, none_of, ends_full, learns_one, learn_derives}
 use Rattle.cdcl_core.proofs.StoreLemmas.{analysed_asking}
+use Rattle.std.proofs.lemmas.Option.{none-some}
+use Rattle.cdcl_core.specs.declared.answer.Answer.TheVariants.{Spent, Room}
+use Rattle.cdcl_core.proofs.StepLemmas.{not_err}
 use Rattle.cdcl_core.proofs.search.Search.learn.Goals as goal
 
 pub derive-requires-clause-above : goal.derive-requires-clause-above
@@ -51,3 +54,24 @@ returns-in_err-tell-clause-few g c = on_err_anyway _ _ (counted_none 1 (g.L.LogS
 
 pub returns-in_err-take_learnt-clause-few : goal.returns-in_err-take_learnt-clause-few
 returns-in_err-take_learnt-clause-few g c = on_err_anyway _ _ (counted_one (g.L.LogSink.learnt c.args.log.now) (g.L.LogSink.learnt c.tell.new.self) c.in_ok-tell.ensures.learnt)
+
+room_unspent : Room ≡ Spent → ⊥
+room_unspent e = cc
+
+pub returns-in_default-clause-learnt : goal.returns-in_default-clause-learnt
+returns-in_default-clause-learnt g c = ends_full (g.L.LogSink.tells c.args.log.now) (g.L.LogSink.learnt c.args.log.now) c.args.query.now c.args.self.now c.derive.new.self c.in_ok-clause.ensures.same (none_of _ (IsFull c.args.self.now.room c.args.self.now.words (clauses c.args.self.now)) (IsLearntFrom c.derive.new.self) c.in_default.is c.in_ok-clause.ensures.learnt)
+
+pub returns-in_default-clause-later : goal.returns-in_default-clause-later
+returns-in_default-clause-later g c = g.met.L.LogSink.later_same c.args.log.now
+
+pub returns-in_default-clause-on : goal.returns-in_default-clause-on
+returns-in_default-clause-on g c = λ e. absurd (none-some _ (sym e))
+
+pub returns-in_default-clause-unspent : goal.returns-in_default-clause-unspent
+returns-in_default-clause-unspent g c = room_unspent
+
+pub returns-in_default-clause-cause : goal.returns-in_default-clause-cause
+returns-in_default-clause-cause g c = λ e. absurd (not_err _ _ e)
+
+pub returns-clause-cause : goal.returns-clause-cause
+returns-clause-cause g c = λ e. absurd (not_err _ _ e)

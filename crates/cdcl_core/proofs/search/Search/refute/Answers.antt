@@ -1,3 +1,4 @@
+use Rattle.std.proofs.Common.{◌≡◌}
 use Rattle.outside_io.proofs.Results.{on_err_anyway}
 use Rattle.refute_log.specs.Told.{Lines}
 use Rattle.cdcl_core.specs.Search.{clauses}
@@ -6,6 +7,8 @@ use Rattle.cdcl_core.proofs.ConflictLemmas.{refuted_told}
 use Rattle.cdcl_core.proofs.StoreLemmas.{analysed_store, analysed_clauses}
 use Rattle.cdcl_core.proofs.LeftLemmas.{left_same, left_refused}
 use Rattle.cdcl_core.proofs.RoundLemmas.{ends_refuted}
+use Rattle.cdcl_core.specs.declared.answer.Answer.TheVariants.{Refuted as RefutedAnswer, Spent}
+use Rattle.cdcl_core.proofs.StepLemmas.{not_err}
 use Rattle.cdcl_core.proofs.search.Search.refute.Goals as goal
 
 pub tell-requires : goal.tell-requires
@@ -21,3 +24,12 @@ returns-in_err-clause-clause-leaves g c = on_err_anyway _ _ (left_same (g.L.LogS
 
 pub returns-in_err-tell-clause-leaves : goal.returns-in_err-tell-clause-leaves
 returns-in_err-tell-clause-leaves g c = on_err_anyway _ _ (left_refused (g.L.LogSink.tells c.args.log.now) (g.L.LogSink.tells c.tell.new.self) (λ (lines : Lines). BelongsAt c.args.query.now lines (clauses c.args.self.now) c.args.self.now.words) (g.met.L.LogSink.one_reading c.args.log.now) c.in_err-tell.ensures.err (λ lines b. b.belongs.derives))
+
+refuted_unspent : RefutedAnswer ≡ Spent → ⊥
+refuted_unspent e = cc
+
+pub returns-clause-cause : goal.returns-clause-cause
+returns-clause-cause g c = λ e. absurd (not_err _ _ e)
+
+pub returns-clause-unspent : goal.returns-clause-unspent
+returns-clause-unspent g c = refuted_unspent

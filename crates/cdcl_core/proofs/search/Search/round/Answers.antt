@@ -1,8 +1,10 @@
-use Rattle.std.proofs.Common.{◌∙◌}
+use Rattle.std.proofs.Common.{◌∙◌, sym}
 use Rattle.outside_io.proofs.Results.{on_err_anyway}
 use Rattle.cdcl_core.specs.Search.{clauses}
 use Rattle.cdcl_core.proofs.LeftLemmas.{counted_none}
 use Rattle.cdcl_core.proofs.RoundLemmas.{named_same, ends_from, left_from, round_ok, round_err}
+use Rattle.std.proofs.lemmas.Option.{none-some}
+use Rattle.cdcl_core.proofs.StepLemmas.{not_err}
 use Rattle.cdcl_core.proofs.search.Search.round.Goals as goal
 
 pub meet-requires-clause-unrefuted : goal.meet-requires-clause-unrefuted
@@ -37,3 +39,24 @@ returns-in_err-refute-in-Denied-clause-few g c = on_err_anyway _ _ (counted_none
 
 pub returns-in_err-complete-in-Complete-clause-few : goal.returns-in_err-complete-in-Complete-clause-few
 returns-in_err-complete-in-Complete-clause-few g c = on_err_anyway _ _ (counted_none 1 (g.L.LogSink.learnt c.args.log.now) (g.L.LogSink.learnt c.complete.new.log) c.in_err-complete-in-Complete.ensures.counted)
+
+pub returns-in_ok-refute-in-Denied-clause-on : goal.returns-in_ok-refute-in-Denied-clause-on
+returns-in_ok-refute-in-Denied-clause-on g c = λ e. absurd (none-some _ (sym e))
+
+pub returns-in_ok-complete-in-Complete-clause-on : goal.returns-in_ok-complete-in-Complete-clause-on
+returns-in_ok-complete-in-Complete-clause-on g c = λ e. absurd (none-some _ (sym e))
+
+pub returns-in_ok-refute-in-Denied-clause-cause : goal.returns-in_ok-refute-in-Denied-clause-cause
+returns-in_ok-refute-in-Denied-clause-cause g c = λ e. absurd (not_err _ _ e)
+
+pub returns-in_ok-complete-in-Complete-clause-cause : goal.returns-in_ok-complete-in-Complete-clause-cause
+returns-in_ok-complete-in-Complete-clause-cause g c = λ e. absurd (not_err _ _ e)
+
+pub returns-in_ok-refute-in-Denied-clause-unspent : goal.returns-in_ok-refute-in-Denied-clause-unspent
+returns-in_ok-refute-in-Denied-clause-unspent g c = c.in_ok-refute-in-Denied.ensures.unspent
+
+pub returns-in_ok-complete-in-Complete-clause-unspent : goal.returns-in_ok-complete-in-Complete-clause-unspent
+returns-in_ok-complete-in-Complete-clause-unspent g c = c.in_ok-complete-in-Complete.ensures.unspent
+
+pub returns-in-Clash-clause-cause : goal.returns-in-Clash-clause-cause
+returns-in-Clash-clause-cause g c = c.meet.ensures.cause

@@ -7,6 +7,7 @@ use Rattle.cdcl_core.specs.declared.answer.Answer.TheVariants.{Spent}
 use Rattle.cdcl_core.specs.Rounds.{LearnsOne, EndsSo, HasGone}
 use Rattle.cdcl_core.proofs.LeftLemmas.{counted_more, counted_after}
 use Rattle.cdcl_core.proofs.RoundLemmas.{some_of, none_of, if_some_of, gone_none, gone_same, gone_more, gone_err, ends_after, spent_less, named_same, named_more, rounds_ok, rounds_err}
+use Rattle.cdcl_core.proofs.StepLemmas.{not_err}
 use Rattle.cdcl_core.proofs.search.Search.rounds.Goals as goal
 
 pub loop-told-init : goal.loop-told-init
@@ -72,3 +73,15 @@ returns-clause-few g c =
     let end : c.loop-told.told ≡ c.args.budget = let a = c.loop-told.auto.told-end in let b = c.loop-told-test.false in omega arith in
     let gone = c.loop-told.invariant.gone in
     counted_after c.last_round.result c.args.budget (g.L.LogSink.learnt c.args.log.now) (g.L.LogSink.learnt c.loop-told.log) (g.L.LogSink.learnt c.last_round.new.log) (gone.counted ∙ ap (λ n. rose_by n (g.L.LogSink.learnt c.args.log.now)) end) c.last_round.ensures.counted
+
+pub returns-in_err-answer-clause-later : goal.returns-in_err-answer-clause-later
+returns-in_err-answer-clause-later g c = g.met.L.LogSink.later_more c.args.log.now c.loop-told.log c.round.new.log c.loop-told.invariant.later c.in_err-answer.ensures.later
+
+pub returns-in-Some-clause-later : goal.returns-in-Some-clause-later
+returns-in-Some-clause-later g c = g.met.L.LogSink.later_more c.args.log.now c.loop-told.log c.round.new.log c.loop-told.invariant.later c.in_ok-answer.ensures.later
+
+pub returns-clause-later : goal.returns-clause-later
+returns-clause-later g c = g.met.L.LogSink.later_more c.args.log.now c.loop-told.log c.last_round.new.log c.loop-told.invariant.later c.last_round.ensures.later
+
+pub returns-in-Some-clause-cause : goal.returns-in-Some-clause-cause
+returns-in-Some-clause-cause g c = λ e. absurd (not_err _ _ e)

@@ -12,6 +12,7 @@ use Rattle.cdcl_core.proofs.ConflictLemmas.{query_told}
 use Rattle.cdcl_core.proofs.ModelLemmas.{query_there}
 use Rattle.cdcl_core.proofs.LeftLemmas.{left_same, left_refused, counted_none, counted_from}
 use Rattle.cdcl_core.proofs.RoundLemmas.{searched_ok, searched_seen, searched_refuted, query_err, query_err_of}
+use Rattle.cdcl_core.proofs.StepLemmas.{not_err}
 use Rattle.cdcl_core.proofs.search.Search.search.Goals as goal
 
 pub tell-requires : goal.tell-requires
@@ -74,3 +75,15 @@ returns-then-self-clause-search g c =
       solving = search.solving;
       offered = search.offered;
     }
+
+pub returns-in_err-tell-2-clause-later : goal.returns-in_err-tell-2-clause-later
+returns-in_err-tell-2-clause-later g c = g.met.L.LogSink.later_more c.args.log.now c.tell.new.self c.tell-then-self.new.self c.in_ok-tell.ensures.later c.in_err-tell-2.ensures.later
+
+pub returns-then-self-clause-later : goal.returns-then-self-clause-later
+returns-then-self-clause-later g c = g.met.L.LogSink.later_more c.args.log.now c.tell.new.self c.tell-then-self.new.self c.in_ok-tell.ensures.later c.in_ok-tell-2.ensures.later
+
+pub returns-clause-later : goal.returns-clause-later
+returns-clause-later g c = g.met.L.LogSink.later_more c.args.log.now c.tell.new.self c.rounds.new.log c.in_ok-tell.ensures.later c.rounds.ensures.later
+
+pub returns-then-self-clause-cause : goal.returns-then-self-clause-cause
+returns-then-self-clause-cause g c = λ e. absurd (not_err _ _ e)

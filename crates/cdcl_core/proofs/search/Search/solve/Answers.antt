@@ -1,6 +1,7 @@
 use Rattle.outside_io.proofs.Results.{on_err_anyway}
 use Rattle.cdcl_core.specs.Search.{clauses, seen}
 use Rattle.cdcl_core.proofs.RoundLemmas.{searched_err, searched_counted, searched_same, given_same}
+use Rattle.cdcl_core.proofs.StepLemmas.{not_err}
 use Rattle.cdcl_core.proofs.search.Search.solve.Goals as goal
 
 pub conclude-requires-clause-says : goal.conclude-requires-clause-says
@@ -35,3 +36,6 @@ returns-in_err-refuted-clause-leaves g c = on_err_anyway _ _ (searched_err (g.L.
 
 pub returns-in_err-refuted-clause-few : goal.returns-in_err-refuted-clause-few
 returns-in_err-refuted-clause-few g c = on_err_anyway _ _ (searched_counted (g.L.LogSink.tells c.args.log.now) (g.L.LogSink.tells c.search.new.log) c.args.query.now c.args.self.now c.search.new.self c.in_ok-answer.answer c.args.budget (g.L.LogSink.learnt c.args.log.now) (g.L.LogSink.learnt c.search.new.log) c.in_ok-answer.ensures.searched.searched)
+
+pub returns-clause-cause : goal.returns-clause-cause
+returns-clause-cause g c = λ e. absurd (not_err _ _ e)

@@ -5,6 +5,7 @@ use Rattle.cdcl_core.specs.Search.{kept_of}
 use Rattle.cdcl_core.specs.Kept.{Kept, IsGivenOne}
 use Rattle.cdcl_core.proofs.ConflictLemmas.{formula_told}
 use Rattle.cdcl_core.proofs.ViewLemmas.{idle_now, given_view, given_now, belongs_now, still_view}
+use Rattle.cdcl_core.proofs.StepLemmas.{not_err}
 use Rattle.cdcl_core.proofs.solver.Solver.add_clause.Goals as goal
 
 pub add_clause-requires-clause-idle : goal.add_clause-requires-clause-idle
@@ -30,3 +31,6 @@ returns-in-Ok-clause-belongs g c = belongs_now c.args.self.now (kept_of c.add_cl
 
 pub returns-in-Err-clause-derives : goal.returns-in-Err-clause-derives
 returns-in-Err-clause-derives g c = still_view (g.L.LogSink.tells c.args.log.now) (g.L.LogSink.tells c.add_clause.new.log) c.self.inside.search c.self.inside.model c.self.inside.refuted.items c.self.inside.failed c.args.self.now c.self.view_is c.in-Err.ensures.derives
+
+pub returns-in-Ok-clause-cause : goal.returns-in-Ok-clause-cause
+returns-in-Ok-clause-cause g c = λ e. absurd (not_err _ _ e)

@@ -1,4 +1,5 @@
-use Rattle.cdcl_core.proofs.ViewLemmas.{idle_now, named_view, solved_given, still_view, refuted_view}
+use Rattle.cdcl_core.proofs.ViewLemmas.{idle_now, named_view, solved_given, still_view, refuted_view, searched_view}
+use Rattle.cdcl_core.proofs.StepLemmas.{not_err}
 use Rattle.cdcl_core.proofs.solver.Solver.solve.Goals as goal
 
 pub solve-requires-clause-idle : goal.solve-requires-clause-idle
@@ -18,3 +19,9 @@ returns-in-Err-clause-gives g c = λ lines told more m. (c.in-Err.ensures.leaves
 
 pub returns-in-Ok-clause-refuted : goal.returns-in-Ok-clause-refuted
 returns-in-Ok-clause-refuted g c = refuted_view c.self.inside.search c.self.inside.model c.self.inside.refuted.items c.in-Ok.refuted.items c.self.inside.failed c.args.self.now c.args.assume.now c.in-Ok.answer c.self.view_is c.in-Ok.ensures.refuted
+
+pub returns-in-Ok-clause-cause : goal.returns-in-Ok-clause-cause
+returns-in-Ok-clause-cause g c = λ e. absurd (not_err _ _ e)
+
+pub returns-in-Ok-clause-searched : goal.returns-in-Ok-clause-searched
+returns-in-Ok-clause-searched g c = searched_view (g.L.LogSink.tells c.args.log.now) (g.L.LogSink.tells c.solve.new.log) c.args.assume.now c.self.inside.search c.solve.new.self c.self.inside.model _ c.self.inside.refuted.items c.in-Ok.refuted.items c.self.inside.failed c.args.self.now c.in-Ok.answer c.args.budget (g.L.LogSink.learnt c.args.log.now) (g.L.LogSink.learnt c.solve.new.log) c.self.view_is c.requires.working c.in-Ok.ensures.searched
