@@ -6,6 +6,7 @@ pub mod VerdictLemmas
 pub mod JudgeLemmas
 pub mod CheckerLemmas
 pub mod FoundLemmas
+pub mod AssumingLemmas
 pub mod FinderLemmas
 pub mod HintedLemmas
 pub mod ShortenLemmas

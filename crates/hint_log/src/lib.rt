@@ -14,6 +14,7 @@
 //! `refute_log`, and for `trim` on the trail and the arena of `watch_arena`.
 #![tactic(auto)]
 
+mod assumptions;
 mod checker;
 mod fault;
 mod finder;
