@@ -1,5 +1,5 @@
 -- The columns of a graph, and the column of each node.
-use Rattle.std.proofs.Common.{◌≡◌, ℕ, ◌+◌, ◌<◌, ◌≤◌, ℤ, Bool, true, false, cond, ◌||◌, List, [], ◌∷◌, length, get_or, Option, Some, None, Err, refl, sym, ap, ◌∙◌, subst, inl, inr, arith}
+use Rattle.std.proofs.Common.{◌≡◌, ℕ, ◌+◌, ◌<◌, ◌≤◌, ℤ, Bool, true, false, cond, ◌||◌, List, [], ◌∷◌, ◌++◌, length, map, take, get_or, Option, Some, None, Err, refl, sym, ap, ◌∙◌, subst, inl, inr, arith}
 use Rattle.std.specs.Prelude.{◌<ℤ◌, All, AllPairs, Contains, slice_get}
 use Rattle.std.specs.Ordering.{nat_cmp, int_cmp, int_eq, match_ordering, is_lt}
 use Rattle.std.specs.declared.cmp.Ordering.TheVariants.{Less, Equal, Greater}
@@ -12,7 +12,7 @@ use Rattle.std.specs.FinMap.{int_cmp-IsAntisymmetric}
 use Rattle.std.proofs.lemmas.Bool.{cases_lt, cases_order}
 use Rattle.std.proofs.lemmas.Bool.Decides.{Decides-int_eq}
 use Rattle.std.proofs.lemmas.Cmp.{nat_cmp_total, int_cmp_total, int_ranked}
-use Rattle.std.proofs.lemmas.List.{length-map, get_or-map}
+use Rattle.std.proofs.lemmas.List.{length-map, get_or-map, map-append, map_more}
 use Rattle.std.proofs.lemmas.List.Elements.{All-contains}
 use Rattle.std.proofs.lemmas.List.Filters.{dedup_is}
 use Rattle.std.proofs.lemmas.List.Kept.{IsStrictlySortedBy-dedup}
@@ -179,6 +179,17 @@ mile_there columns nodes k n columns_is within is =
     subst (Contains columns)
     (get_or-map (λ (x : NodeRow). x.mileage.0) nodes k n n.mileage.0 within ∙ ap (λ (x : NodeRow). x.mileage.0) (sym is))
     (every k n.mileage.0 (omega arith))
+
+-- the place of one mileage more
+pub placed_over : (columns : List ℤ) (nodes : List NodeRow) (k : ℕ) (n : NodeRow) (numbers new : List ColumnNo) (c : ColumnNo) → k < length nodes → n ≡ get_or nodes k n → ArePlaces columns (miles_of (take k nodes)) numbers → new ≡ numbers ++ c ∷ [] → slice_get columns c.0 ≡ Some n.mileage.0 → ArePlaces columns (miles_of (take (k + 1) nodes)) new
+placed_over columns nodes k n numbers new c within is places pushed at_c =
+    let place : ColumnNo → Option ℤ = λ (x : ColumnNo). slice_get columns x.0 in
+    let more : miles_of (take (k + 1) nodes) ≡ miles_of (take k nodes) ++ n.mileage.0 ∷ [] = map_more (λ (x : NodeRow). x.mileage.0) nodes k n within ∙ ap (λ (x : NodeRow). miles_of (take k nodes) ++ x.mileage.0 ∷ []) (sym is) in
+    ap (map place) pushed
+    ∙ map-append place numbers (c ∷ [])
+    ∙ ap (λ (l : List (Option ℤ)). l ++ place c ∷ []) places
+    ∙ ap (λ (o : Option ℤ). map (λ (m : ℤ). Some m) (miles_of (take k nodes)) ++ o ∷ []) at_c
+    ∙ sym (ap (map (λ (m : ℤ). Some m)) more ∙ map-append (λ (m : ℤ). Some m) (miles_of (take k nodes)) (n.mileage.0 ∷ []))
 
 -- ---- the ends of an edge
 

@@ -1,5 +1,6 @@
--- What is added to the rows of edges.
+-- What is added to lists as they grow: to the rows of edges, and to what stands for the elements of a list.
 use Rattle.std.proofs.Common.{◌≡◌, ℕ, suc, ◌+◌, ◌<◌, List, [], ◌∷◌, ◌++◌, length, map, drop, get_or, sym, ap, ◌∙◌, append_assoc, drop-cons, add-one}
+use Rattle.std.specs.List.{enumerate_from, flat_map}
 use Rattle.std.proofs.lemmas.List.{map-append}
 use Rattle.plan_core.specs.Graph.{Edge}
 use Rattle.port_graph.specs.declared.rows.EdgeRow.{EdgeRow}
@@ -25,4 +26,27 @@ moved_over f there next all xs i x within is so_far pushed =
     ap (λ l. l ++ map f (drop (i + 1) xs)) pushed
     ∙ append_assoc there (f x ∷ []) (map f (drop (i + 1) xs))
     ∙ ap (λ l. there ++ map f l) (sym (drop_here xs i x within is))
+    ∙ so_far
+
+-- what one element of what is left stands for goes over to what is there
+pub all_moved_over : {A B : Type 0} (f : A → List B) (there next all : List B) (xs : List A) (i : ℕ) (x : A) → i < length xs → x ≡ get_or xs i x → there ++ flat_map f (drop i xs) ≡ all → next ≡ there ++ f x → next ++ flat_map f (drop (i + 1) xs) ≡ all
+all_moved_over f there next all xs i x within is so_far pushed =
+    ap (λ l. l ++ flat_map f (drop (i + 1) xs)) pushed
+    ∙ append_assoc there (f x) (flat_map f (drop (i + 1) xs))
+    ∙ ap (λ l. there ++ flat_map f l) (sym (drop_here xs i x within is))
+    ∙ so_far
+
+-- the same where the elements are counted
+pub counted_over : {A B : Type 0} (f : ℕ × A → B) (there next all : List B) (xs : List A) (i : ℕ) (x : A) → i < length xs → x ≡ get_or xs i x → there ++ map f (enumerate_from i (drop i xs)) ≡ all → next ≡ there ++ f (i, x) ∷ [] → next ++ map f (enumerate_from (i + 1) (drop (i + 1) xs)) ≡ all
+counted_over f there next all xs i x within is so_far pushed =
+    ap (λ l. l ++ map f (enumerate_from (i + 1) (drop (i + 1) xs))) pushed
+    ∙ append_assoc there (f (i, x) ∷ []) (map f (enumerate_from (i + 1) (drop (i + 1) xs)))
+    ∙ ap (λ l. there ++ map f (enumerate_from i l)) (sym (drop_here xs i x within is))
+    ∙ so_far
+
+pub all_counted_over : {A B : Type 0} (f : ℕ × A → List B) (there next all : List B) (xs : List A) (i : ℕ) (x : A) → i < length xs → x ≡ get_or xs i x → there ++ flat_map f (enumerate_from i (drop i xs)) ≡ all → next ≡ there ++ f (i, x) → next ++ flat_map f (enumerate_from (i + 1) (drop (i + 1) xs)) ≡ all
+all_counted_over f there next all xs i x within is so_far pushed =
+    ap (λ l. l ++ flat_map f (enumerate_from (i + 1) (drop (i + 1) xs))) pushed
+    ∙ append_assoc there (f (i, x)) (flat_map f (enumerate_from (i + 1) (drop (i + 1) xs)))
+    ∙ ap (λ l. there ++ flat_map f (enumerate_from i l)) (sym (drop_here xs i x within is))
     ∙ so_far

@@ -1,24 +1,14 @@
--- What is added to the rows of nodes.
-use Rattle.std.proofs.Common.{◌≡◌, ℕ, ◌+◌, ◌<◌, List, [], ◌∷◌, ◌++◌, length, map, drop, get_or, Some, IsSome, sym, ap, ◌∙◌, subst, append_assoc, below_more}
-use Rattle.std.specs.Prelude.{Option, slice_get}
-use Rattle.std.specs.List.{enumerate_from}
+-- The sites at which the edges lie as they must, and the first at which they don't.
+use Rattle.std.proofs.Common.{◌≡◌, ℕ, ◌+◌, ◌<◌, List, length, get_or, Some, IsSome, sym, ap, ◌∙◌, subst, below_more}
+use Rattle.std.specs.Prelude.{slice_get}
 use Rattle.std.proofs.lemmas.Option.{get_or_from_slice_get, slice_get-get_or}
-use Rattle.plan_core.specs.Graph.{Node, Edge}
+use Rattle.plan_core.specs.Graph.{Edge}
 use Rattle.port_graph.specs.declared.sites.Site.{Site}
 use Rattle.port_graph.specs.declared.fault.GraphFault.{GraphFault}
 use Rattle.port_graph.specs.declared.fault.GraphFault.TheVariants.{TooManyNodes, TooManyEdges, NotForward, SideMismatch, Memory}
 use Rattle.port_graph.specs.PortRule.{ports_of}
 use Rattle.port_graph.specs.TopologyGraph.{side_at}
-use Rattle.port_graph.specs.Ordered.{node_among, IsMismatchOf, IsMismatchFault}
-use Rattle.port_graph.proofs.EdgeLemmas.{drop_here}
-
--- one site of what is left goes over to what is there
-pub node_over : (edges : List Edge) (there next all : List (Option Node)) (ss : List Site) (i : ℕ) (s : Site) → i < length ss → s ≡ get_or ss i s → there ++ map (node_among edges) (enumerate_from i (drop i ss)) ≡ all → next ≡ there ++ node_among edges (i, s) ∷ [] → next ++ map (node_among edges) (enumerate_from (i + 1) (drop (i + 1) ss)) ≡ all
-node_over edges there next all ss i s within is so_far pushed =
-    ap (λ l. l ++ map (node_among edges) (enumerate_from (i + 1) (drop (i + 1) ss))) pushed
-    ∙ append_assoc there (node_among edges (i, s) ∷ []) (map (node_among edges) (enumerate_from (i + 1) (drop (i + 1) ss)))
-    ∙ ap (λ l. there ++ map (node_among edges) (enumerate_from i l)) (sym (drop_here ss i s within is))
-    ∙ so_far
+use Rattle.port_graph.specs.Ordered.{IsMismatchOf, IsMismatchFault}
 
 -- the edges lie as they must at each site below a number
 abbrev pub MatchBelow : List Edge → List Site → ℕ → Type 0
