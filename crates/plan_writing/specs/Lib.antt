@@ -1,4 +1,4 @@
+pub use Rattle.plan_picture.specs.SvgText
 pub mod GraphText
 pub mod SheetLine
 pub mod SheetText
-pub mod SvgText

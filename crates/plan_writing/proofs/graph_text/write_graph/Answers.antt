@@ -3,7 +3,7 @@ use Rattle.std.proofs.Common.{ap, ◌∙◌}
 use Rattle.std.proofs.lemmas.Result.{on_ok_weaker}
 use Rattle.track_order.specs.Order.{is_above}
 use Rattle.plan_writing.specs.GraphText.{nodes_text, edges_text, order_text}
-use Rattle.plan_writing.proofs.LineLemmas.{appended_four}
+use Rattle.plan_picture.proofs.LineLemmas.{appended_four, begins_more}
 use Rattle.plan_writing.proofs.graph_text.write_graph.Goals as goal
 
 pub returns-clause-ok : goal.returns-clause-ok
@@ -15,3 +15,6 @@ returns-clause-ok c =
     c.in_ok-push_text.ensures.ok c.in_ok-push_nodes.ensures.ok c.in_ok-push_edges.ensures.ok
     (last ∙ ap (λ (n : ℕ). c.push_edges.new.into.items ++ order_text (is_above c.args.t.now) n) c.requires.edges))
     c.push_order.ensures.ok
+
+pub returns-clause-begins : goal.returns-clause-begins
+returns-clause-begins c = begins_more _ _ _ (begins_more _ _ _ (begins_more _ _ _ c.push_text.ensures.begins c.push_nodes.ensures.begins) c.push_edges.ensures.begins) c.push_order.ensures.begins

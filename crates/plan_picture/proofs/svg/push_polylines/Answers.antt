@@ -2,9 +2,9 @@ use Rattle.std.proofs.Common.{◌≡◌, ℕ, ◌+◌, ◌<◌, List, ◌++◌, 
 use Rattle.std.specs.Prelude.{flat_map}
 use Rattle.std.proofs.lemmas.List.{at_drop_more}
 use Rattle.plan_core.specs.declared.point.Point.{Point}
-use Rattle.plan_writing.specs.SvgText.{polyline}
-use Rattle.plan_writing.proofs.LineLemmas.{begins_more}
-use Rattle.plan_writing.proofs.svg.push_polylines.Goals as goal
+use Rattle.plan_picture.specs.SvgText.{polyline}
+use Rattle.plan_picture.proofs.LineLemmas.{begins_more}
+use Rattle.plan_picture.proofs.svg.push_polylines.Goals as goal
 
 -- one line more
 more : (text : List Point → List ℕ) (lines : List (List Point)) (i : ℕ) (line : List Point) (before after whole : List ℕ) → i < length lines → line ≡ get_or lines i line → after ≡ before ++ text line → before ++ flat_map text (drop i lines) ≡ whole → after ++ flat_map text (drop (i + 1) lines) ≡ whole

@@ -1,8 +1,8 @@
 use Rattle.std.proofs.Common.{◌≡◌, ◌++◌, drop}
 use Rattle.std.specs.Prelude.{flat_map}
 use Rattle.outside_io.specs.Contents.{Begins}
-use Rattle.plan_writing.specs.SvgText.{polyline}
-use Rattle.plan_writing.proofs.svg.push_polylines.Given as goal
+use Rattle.plan_picture.specs.SvgText.{polyline}
+use Rattle.plan_picture.proofs.svg.push_polylines.Given as goal
 
 abbrev pub invariant-loop-line : goal.invariant-loop-line
 invariant-loop-line l = record {

@@ -5,9 +5,9 @@ use Rattle.std.proofs.lemmas.Result.{on_ok_weaker}
 use Rattle.plan_core.specs.declared.criterion.Values.{Values}
 use Rattle.plan_core.specs.declared.point.Point.{Point}
 use Rattle.plan_core.specs.Values.{values_of}
-use Rattle.plan_writing.specs.SvgText.{polyline, label, picture_begin}
-use Rattle.plan_writing.proofs.LineLemmas.{appended_four}
-use Rattle.plan_writing.proofs.svg.write_svg.Goals as goal
+use Rattle.plan_picture.specs.SvgText.{polyline, label, picture_begin}
+use Rattle.plan_picture.proofs.LineLemmas.{appended_four}
+use Rattle.plan_picture.proofs.svg.write_svg.Goals as goal
 
 pub returns-clause-ok : goal.returns-clause-ok
 returns-clause-ok c =

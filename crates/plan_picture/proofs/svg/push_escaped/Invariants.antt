@@ -1,7 +1,7 @@
 use Rattle.std.proofs.Common.{◌≡◌, ◌++◌, drop}
 use Rattle.outside_io.specs.Contents.{Begins}
-use Rattle.plan_writing.specs.SvgText.{escaped}
-use Rattle.plan_writing.proofs.svg.push_escaped.Given as goal
+use Rattle.plan_picture.specs.SvgText.{escaped}
+use Rattle.plan_picture.proofs.svg.push_escaped.Given as goal
 
 abbrev pub invariant-loop-b : goal.invariant-loop-b
 invariant-loop-b l = record {

@@ -1,8 +1,8 @@
 use Rattle.std.proofs.Common.{◌≡◌, ◌++◌, ◌∷◌, drop}
 use Rattle.std.specs.Prelude.{flat_map}
 use Rattle.outside_io.specs.Contents.{Begins}
-use Rattle.plan_writing.specs.SvgText.{point_text}
-use Rattle.plan_writing.proofs.svg.push_further_points.Given as goal
+use Rattle.plan_picture.specs.SvgText.{point_text}
+use Rattle.plan_picture.proofs.svg.push_further_points.Given as goal
 
 abbrev pub invariant-loop-p : goal.invariant-loop-p
 invariant-loop-p l = record {

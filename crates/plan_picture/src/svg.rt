@@ -4,8 +4,8 @@ ghost use Rattle.std.specs.List.{range_with_len};
 ghost use Rattle.outside_io.specs.Contents.{Begins};
 ghost use Rattle.plan_core.specs.Lawful.{HasSizeOf};
 ghost use Rattle.plan_core.specs.Values.{values_of};
-ghost use Rattle.plan_writing.specs.SvgText.{pixels_across, pixels_down, extent, escaped_byte, escaped, point_text};
-ghost use Rattle.plan_writing.specs.SvgText.{points_text, polyline, label_begin, label, picture_begin, svg_text};
+ghost use Rattle.plan_picture.specs.SvgText.{pixels_across, pixels_down, extent, escaped_byte, escaped, point_text};
+ghost use Rattle.plan_picture.specs.SvgText.{points_text, polyline, label_begin, label, picture_begin, svg_text};
 
 use line_text::{push_number, push_text};
 use plan_core::{NodeNo, OutOfMemory, Point};
