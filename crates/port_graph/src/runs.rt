@@ -3,7 +3,7 @@ use plan_core::{Micro, Text};
 
 /// Where a node stands: the byte of its element's start tag in the file, by which nodes are numbered,
 /// and its mileage.
-#[derive(Clone, Copy, Debug, PartialEq, Eq)]
+#[derive(Clone, Copy)]
 pub(crate) struct Spot {
     pub(crate) at: usize,
     pub(crate) mile: Micro,

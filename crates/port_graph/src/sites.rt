@@ -12,7 +12,7 @@ pub(crate) struct Site {
 
 /// The edges that meet at a node, as the file tells them apart. `before` and `after` are the pieces of
 /// the node's own track, in the track's direction. At a switch `hand` is that of the diverging leg.
-#[derive(Clone, Copy, Debug, PartialEq, Eq)]
+#[derive(Clone, Copy)]
 pub(crate) enum Meeting {
     /// An end of the railway.
     End {
