@@ -64,7 +64,7 @@ fn text_named(alloc: Global, attrs: &[Attr], name: &str) -> Result<Option<Text>,
 {
     for attr in attrs {
         if attr.name.as_str() == name {
-            return Ok(Some(Text::from_bytes(alloc, attr.value.bytes())?));
+            return Ok(Some(attr.value.copied(alloc)?));
         }
     }
     Ok(None)
