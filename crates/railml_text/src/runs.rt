@@ -17,10 +17,11 @@ pub(crate) fn begins_name(b: u8) -> bool
     b.is_ascii_alphabetic() || b == b'_' || b == b':' || 128 <= b
 }
 
+/// Most bytes of names are small letters, which are told by one test.
 fn goes_on_name(b: u8) -> bool
     ensures { result ≡ goes_on b }
 {
-    begins_name(b) || b.is_ascii_digit() || b == b'-' || b == b'.'
+    b.is_ascii_lowercase() || begins_name(b) || b.is_ascii_digit() || b == b'-' || b == b'.'
 }
 
 pub(crate) fn begins_blank(bytes: &[u8]) -> bool
