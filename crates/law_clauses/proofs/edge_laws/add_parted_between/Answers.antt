@@ -1,5 +1,5 @@
-use Rattle.law_clauses.proofs.BaseLemmas.{node_x_there}
 use Rattle.std.proofs.Common.{◌∙◌, sym, ap}
+use Rattle.law_clauses.proofs.BaseLemmas.{node_x_there}
 use Rattle.edge_shape.specs.EdgeVars.{EdgeSpot}
 use Rattle.law_clauses.proofs.SpotLemmas.{spot_there}
 use Rattle.law_clauses.proofs.edge_laws.add_parted_between.Goals as goal
