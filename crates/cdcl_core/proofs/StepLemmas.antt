@@ -1,6 +1,6 @@
 -- What a step adds to a list or to the trail, and what an exit with a result isn't.
 use Rattle.std.proofs.Common.{◌≡◌, ◌∙◌, ℕ, ◌<◌, ◌+◌, List, [], ◌∷◌, ◌++◌, length, get_or, map, take, sym, ap, arith}
-use Rattle.std.specs.Prelude.{Result, Ok, Err}
+use Rattle.std.specs.Prelude.{Ok, Err}
 use Rattle.std.proofs.lemmas.List.{length_push, take_more, map_more}
 use Rattle.cnf_core.specs.Lit.{Literal}
 use Rattle.watch_arena.specs.Trail.{Marks, opened, with_lit}

@@ -1,8 +1,8 @@
-use Rattle.std.proofs.Common.{◌≡◌, ◌∙◌, length, false, ap, sym, subst, arith}
+use Rattle.std.proofs.Common.{◌∙◌, length, false, ap, sym, subst, arith}
 use Rattle.std.proofs.lemmas.List.{length-replicate}
+use Rattle.std.proofs.lemmas.Bool.{false≢true}
 use Rattle.cnf_core.specs.Clause.{IsThere}
 use Rattle.cdcl_core.proofs.ModelLemmas.{truths_more}
-use Rattle.std.proofs.lemmas.Bool.{false≢true}
 use Rattle.cdcl_core.proofs.models.truths_of.Goals as goal
 
 pub set-requires : goal.set-requires

@@ -1,6 +1,7 @@
 use Rattle.std.proofs.Common.{◌≡◌, ℕ, List, false, get_or, refl, sym, ◌∙◌, ap, subst, arith}
 use Rattle.std.specs.Prelude.{Contains}
 use Rattle.std.proofs.lemmas.List.{get_or_default}
+use Rattle.std.proofs.lemmas.Option.{none-some}
 use Rattle.cnf_core.specs.Lit.{Literal, has}
 use Rattle.cnf_core.specs.Clause.{IsThere}
 use Rattle.cnf_core.proofs.TrailLemmas.{there_get}
@@ -9,7 +10,6 @@ use Rattle.cdcl_core.specs.Roots.{AreOffered}
 use Rattle.cdcl_core.proofs.AskLemmas.{asking_implied, assumed_at}
 use Rattle.cdcl_core.proofs.SolvingLemmas.{solving_decided, fitted_vars}
 use Rattle.cdcl_core.proofs.HeapLemmas.{offered_decided}
-use Rattle.std.proofs.lemmas.Option.{none-some}
 use Rattle.cdcl_core.proofs.StoreLemmas.{store_itself}
 use Rattle.cdcl_core.proofs.StepLemmas.{decided_longer}
 use Rattle.cdcl_core.proofs.search.Search.assume.Goals as goal

@@ -1,4 +1,5 @@
 use Rattle.std.proofs.Common.{◌≡◌, ℕ, List, true, refl, sym, ◌∙◌, ap, subst}
+use Rattle.std.proofs.lemmas.Option.{none-some}
 use Rattle.cnf_core.specs.Lit.{Literal, literal}
 use Rattle.watch_arena.specs.Trail.{Marks, IsUnset}
 use Rattle.cdcl_learn.specs.Sight.{sight}
@@ -8,7 +9,6 @@ use Rattle.cdcl_core.proofs.AskLemmas.{asking_all, decided_at}
 use Rattle.cdcl_core.proofs.SolvingLemmas.{solving_decided, settled_all, fitted_vars}
 use Rattle.cdcl_core.proofs.HeapLemmas.{offered_decided, unset_other}
 use Rattle.cdcl_core.proofs.ConflictLemmas.{unrefuted}
-use Rattle.std.proofs.lemmas.Option.{none-some}
 use Rattle.cdcl_core.proofs.StoreLemmas.{store_itself}
 use Rattle.cdcl_core.proofs.StepLemmas.{decided_longer}
 use Rattle.cdcl_core.proofs.search.Search.choose.Goals as goal

@@ -1,4 +1,5 @@
 use Rattle.std.proofs.Common.{◌≡◌, refl, sym, ◌∙◌, subst, arith}
+use Rattle.std.proofs.lemmas.Option.{none-some}
 use Rattle.outside_io.proofs.Results.{on_err_anyway}
 use Rattle.refute_log.specs.declared.line.LogLine.TheVariants.{Learnt}
 use Rattle.refute_log.specs.Told.{Lines}
@@ -9,7 +10,6 @@ use Rattle.cdcl_core.proofs.ConflictLemmas.{learnt_told}
 use Rattle.cdcl_core.proofs.LeftLemmas.{left_same, left_refused, left_told, counted_none, counted_one}
 use Rattle.cdcl_core.proofs.RoundLemmas.{some_of, none_of, ends_full, learns_one, learn_derives}
 use Rattle.cdcl_core.proofs.StoreLemmas.{analysed_asking}
-use Rattle.std.proofs.lemmas.Option.{none-some}
 use Rattle.cdcl_core.specs.declared.answer.Answer.TheVariants.{Spent, Room}
 use Rattle.cdcl_core.proofs.StepLemmas.{not_err}
 use Rattle.cdcl_core.proofs.search.Search.learn.Goals as goal

@@ -1,7 +1,7 @@
 use Rattle.std.proofs.Common.{sym, arith}
+use Rattle.std.proofs.lemmas.Option.{none-some}
 use Rattle.outside_io.proofs.Results.{on_err_anyway}
 use Rattle.cdcl_core.proofs.LeftLemmas.{counted_none}
-use Rattle.std.proofs.lemmas.Option.{none-some}
 use Rattle.cdcl_core.proofs.StepLemmas.{not_err}
 use Rattle.cdcl_core.proofs.search.Search.meet.Goals as goal
 

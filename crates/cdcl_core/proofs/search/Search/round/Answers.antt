@@ -1,9 +1,9 @@
 use Rattle.std.proofs.Common.{◌∙◌, sym}
+use Rattle.std.proofs.lemmas.Option.{none-some}
 use Rattle.outside_io.proofs.Results.{on_err_anyway}
 use Rattle.cdcl_core.specs.Search.{clauses}
 use Rattle.cdcl_core.proofs.LeftLemmas.{counted_none}
 use Rattle.cdcl_core.proofs.RoundLemmas.{named_same, ends_from, left_from, round_ok, round_err}
-use Rattle.std.proofs.lemmas.Option.{none-some}
 use Rattle.cdcl_core.proofs.StepLemmas.{not_err}
 use Rattle.cdcl_core.proofs.search.Search.round.Goals as goal
 
