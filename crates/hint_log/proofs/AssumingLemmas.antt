@@ -15,7 +15,7 @@ use Rattle.watch_arena.specs.Walk.{IsReasonFor, KeepsReasons}
 use Rattle.watch_arena.specs.Arena.{Attached, AreWatched, AreBecause, IsMoreText, IsSameText, MayBeWatched, attached_at}
 use Rattle.watch_arena.proofs.LevelLemmas.{right_open}
 use Rattle.watch_arena.proofs.WalkLemmas.{unit_keeps}
-use Rattle.hint_log.specs.Found.{HasReasonAt, HaveReasons, IsEmptyTrail, IsOpenTrail, IsIdle, HasTwoLevels, IsAssuming, assumed}
+use Rattle.hint_log.specs.Found.{HasReasonAt, HaveReasons, IsEmptyTrail, IsOpenTrail, IsAtRest, HasTwoLevels, IsDenying, assumed}
 use Rattle.hint_log.proofs.FoundLemmas.{assumed_low}
 use Rattle.hint_log.proofs.LeftLemmas.{avoids_contained}
 use Rattle.hint_log.proofs.NegationLemmas.{has_negated, negation_fresh}
@@ -107,7 +107,7 @@ pub reasons_none : (a : Attached) (m : Marks) (given : List Literal) → m.lits 
 reasons_none a m given e = λ i d lt. let size : length m.lits ≡ 0 = ap (λ (ls : List Literal). length ls) e in absurd (omega arith)
 
 -- the trail while something is assumed
-pub assuming_grown : (a b : Attached) (vars : ℕ) (lits : List Literal) (m n : Marks) → IsAssuming a vars lits m → IsSameText a b → IsLonger m n → KeepsReasons m n → AreBecause b m n → m.front ≤ n.front → AreWatched b n → IsAssuming b vars lits n
+pub assuming_grown : (a b : Attached) (vars : ℕ) (lits : List Literal) (m n : Marks) → IsDenying a vars lits m → IsSameText a b → IsLonger m n → KeepsReasons m n → AreBecause b m n → m.front ≤ n.front → AreWatched b n → IsDenying b vars lits n
 assuming_grown a b vars lits m n h text longer keeps because front watched = record {
   all_vars = longer.vars ∙ h.all_vars ∙ sym text.vars;
   watched = watched;
@@ -131,7 +131,7 @@ assuming_grown a b vars lits m n h text longer keeps because front watched = rec
   ];
 }
 
-pub has_levels : (a : Attached) (vars : ℕ) (lits : List Literal) (m : Marks) → IsAssuming a vars lits m → 1 ≤ length m.cuts
+pub has_levels : (a : Attached) (vars : ℕ) (lits : List Literal) (m : Marks) → IsDenying a vars lits m → 1 ≤ length m.cuts
 has_levels a vars lits m h = elim h.levels [
   | inl one ↦ let size : length m.cuts ≡ 1 = ap (λ (cs : List ℕ). length cs) one in omega arith
   | inr two ↦ let size : length m.cuts ≡ 2 = ap (λ (cs : List ℕ). length cs) two.cuts in omega arith
@@ -152,7 +152,7 @@ emptied_again m n e h = record {
   front = let low : n.front ≡ min m.front (get_or m.cuts 0 (length m.lits)) = ap (λ (x : Marks). x.front) e in let none = h.front in omega (arith, low, none);
 }
 
-pub idle_emptied : (a : Attached) (vars : ℕ) (m n : Marks) → IsIdle a vars m → n ≡ undone m 0 → AreWatched a n → IsEmptyTrail n × IsIdle a vars n
+pub idle_emptied : (a : Attached) (vars : ℕ) (m n : Marks) → IsAtRest a vars m → n ≡ undone m 0 → AreWatched a n → IsEmptyTrail n × IsAtRest a vars n
 idle_emptied a vars m n h e watched =
     let none : IsEmptyTrail n = elim h.state [ inl empty ↦ emptied_again m n e empty | inr level ↦ emptied m n e level.cuts ] in
     (none, record { all_vars = ap (λ (x : Marks). x.vars) e ∙ h.all_vars; watched = watched; state = inl none })
@@ -165,7 +165,7 @@ assumed_split vars lits k h lacks = elim (has_behind (assumed vars []) (map nega
 ]
 
 -- the first of two levels is left
-first_left : (a : Attached) (vars : ℕ) (lits : List Literal) (m n : Marks) → IsAssuming a vars lits m → (two : HasTwoLevels vars lits m) → n ≡ undone m 1 → IsOpenTrail a vars n
+first_left : (a : Attached) (vars : ℕ) (lits : List Literal) (m n : Marks) → IsDenying a vars lits m → (two : HasTwoLevels vars lits m) → n ≡ undone m 1 → IsOpenTrail a vars n
 first_left a vars lits m n h two e =
     let within = two.within in
     let low = two.front in
@@ -191,7 +191,7 @@ first_left a vars lits m n h two e =
           subst (HasReasonAt a n (assumed vars []) i) at here;
     }
 
-pub idle_left : (a : Attached) (vars : ℕ) (lits : List Literal) (m n : Marks) (level : ℕ) → IsAssuming a vars lits m → n ≡ undone m level → level + 1 ≡ length m.cuts → AreWatched a n → IsIdle a vars n
+pub idle_left : (a : Attached) (vars : ℕ) (lits : List Literal) (m n : Marks) (level : ℕ) → IsDenying a vars lits m → n ≡ undone m level → level + 1 ≡ length m.cuts → AreWatched a n → IsAtRest a vars n
 idle_left a vars lits m n level h e is watched = record {
   all_vars = ap (λ (x : Marks). x.vars) e ∙ h.all_vars;
   watched = watched;
@@ -208,7 +208,7 @@ idle_left a vars lits m n level h e is watched = record {
 }
 
 -- what follows without a clause is a level of its own
-pub idle_open : (a : Attached) (vars : ℕ) (m : Marks) → IsAssuming a vars [] m → m.cuts ≡ 0 ∷ [] → m.front ≡ length m.lits → IsIdle a vars m
+pub idle_open : (a : Attached) (vars : ℕ) (m : Marks) → IsDenying a vars [] m → m.cuts ≡ 0 ∷ [] → m.front ≡ length m.lits → IsAtRest a vars m
 idle_open a vars m h cuts front = record {
   all_vars = h.all_vars;
   watched = h.watched;
@@ -216,7 +216,7 @@ idle_open a vars m h cuts front = record {
 }
 
 -- a clause that comes
-pub idle_more : (a b : Attached) (vars q : ℕ) (m : Marks) → IsIdle a vars m → IsMoreText a b → b.places ≡ a.places ++ q ∷ [] → AreWatched b m → IsIdle b vars m
+pub idle_more : (a b : Attached) (vars q : ℕ) (m : Marks) → IsAtRest a vars m → IsMoreText a b → b.places ≡ a.places ++ q ∷ [] → AreWatched b m → IsAtRest b vars m
 idle_more a b vars q m h more places watched = record {
   all_vars = h.all_vars ∙ sym more.vars;
   watched = watched;
@@ -227,7 +227,7 @@ idle_more a b vars q m h more places watched = record {
 }
 
 -- the literals of a clause are assumed to be false
-pub assuming_anew : (a : Attached) (vars : ℕ) (lits : List Literal) (m : Marks) → m.vars ≡ a.vars → AreWatched a m → m.lits ≡ assumed vars [] ++ map negate lits → m.cuts ≡ 0 ∷ [] → HaveReasons a m (assumed vars lits) → IsAssuming a vars lits m
+pub assuming_anew : (a : Attached) (vars : ℕ) (lits : List Literal) (m : Marks) → m.vars ≡ a.vars → AreWatched a m → m.lits ≡ assumed vars [] ++ map negate lits → m.cuts ≡ 0 ∷ [] → HaveReasons a m (assumed vars lits) → IsDenying a vars lits m
 assuming_anew a vars lits m vars_are watched is cuts reasons = record {
   all_vars = vars_are;
   watched = watched;
@@ -242,7 +242,7 @@ apart_unset front lits k unset here there =
     let u : IsUnset front (negate k) = All-contains (λ l. IsUnset front l) lits (negate k) unset (contains_from_has lits (negate k) (sym (has_negated lits k) ∙ there)) in
     both_ways (has front k) (subst (λ (x : Literal). has front x ≡ false) (negate-negate k) u.1) here
 
-pub assuming_above : (a : Attached) (vars : ℕ) (lits : List Literal) (m n : Marks) → IsIdle a vars m → length m.cuts ≡ 1 → All (λ l. IsUnset m.lits l) lits → n.vars ≡ m.vars → n.lits ≡ m.lits ++ map negate lits → n.cuts ≡ m.cuts ++ length m.lits ∷ [] → n.front ≡ m.front → ((given : List Literal) → Includes (has given) (has (map negate lits)) → HaveReasons a m given → HaveReasons a n given) → AreWatched a n → IsAssuming a vars lits n
+pub assuming_above : (a : Attached) (vars : ℕ) (lits : List Literal) (m n : Marks) → IsAtRest a vars m → length m.cuts ≡ 1 → All (λ l. IsUnset m.lits l) lits → n.vars ≡ m.vars → n.lits ≡ m.lits ++ map negate lits → n.cuts ≡ m.cuts ++ length m.lits ∷ [] → n.front ≡ m.front → ((given : List Literal) → Includes (has given) (has (map negate lits)) → HaveReasons a m given → HaveReasons a n given) → AreWatched a n → IsDenying a vars lits n
 assuming_above a vars lits m n h one unset vars_are is cuts front reasons watched = elim h.state [
   | inl empty ↦ let none : length m.cuts ≡ 0 = ap (λ (cs : List ℕ). length cs) empty.cuts in absurd (omega arith)
   | inr level ↦
@@ -312,22 +312,21 @@ open_watched m (k ∷ l ∷ lits) a b two is_a is_b na nb = right_open m k l (λ
 pub unset_turned : (front : List Literal) (l k : Literal) → IsUnset front l → k ≡ negate l → IsUnset front k
 unset_turned front l k u e = (subst (λ (x : Literal). has front x ≡ false) (sym e) u.1, subst (λ (x : Literal). has front (negate x) ≡ false) (sym e) (subst (λ (x : Literal). has front x ≡ false) (sym (negate-negate l)) u.0))
 
--- the first of them, and the rest
-pub split_at_first : (lits : List Literal) (first : Literal) → 1 ≤ length lits → first ≡ get_or lits 0 first → lits ≡ first ∷ take (length lits - 1) (drop 1 lits)
-split_at_first [] first some is = absurd (omega arith)
-split_at_first (k ∷ ls) first some is = ap (λ (x : Literal). x ∷ ls) (sym is) ∙ ap (λ (xs : List Literal). first ∷ xs) (sym (take_all (length (k ∷ ls) - 1) ls (omega arith)))
+-- the literals behind the first
+pub rest_unset : (front lits : List Literal) (first k : Literal) → 1 ≤ length lits → first ≡ get_or lits 0 first → k ≡ negate first → AreDistinct lits → All (λ l. IsUnset front l) lits → All (λ l. IsUnset (front ++ k ∷ []) l) (take (length lits - 1) (drop 1 lits))
+rest_unset front [] first k some at is distinct unset = absurd (omega arith)
+rest_unset front (x ∷ ls) first k some at is distinct unset = subst (λ (rest : List Literal). All (λ l. IsUnset (front ++ k ∷ []) l) rest) (sym (take_all (length (x ∷ ls) - 1) ls (omega arith))) (λ i d lt.
+    let l = get_or ls i d in
+    let u : IsUnset front l = unset (suc i) d (omega (arith, lt)) in
+    let var : k.var ≡ x.var = ap (λ (y : Literal). y.var) is ∙ ap (λ (y : Literal). y.var) at in
+    let differs : (y : Literal) → y.var ≡ l.var → y ≡ k → ⊥ = λ y v e. avoids_contained x.var ls l distinct.0 (Contains-get_or ls i d lt) (sym var ∙ sym (ap (λ (z : Literal). z.var) e) ∙ v) in
+    (has_front front k l (differs l refl) ∙ u.0, has_front front k (negate l) (differs (negate l) refl) ∙ u.1))
 
-pub rest_unset : (front lits rest : List Literal) (first k : Literal) → lits ≡ first ∷ rest → k ≡ negate first → AreDistinct lits → All (λ l. IsUnset front l) lits → All (λ l. IsUnset (front ++ k ∷ []) l) rest
-rest_unset front lits rest first k split is distinct unset = λ i d lt.
-    let l = get_or rest i d in
-    let apart : AreDistinct (first ∷ rest) = subst AreDistinct split distinct in
-    let each : All (λ x. IsUnset front x) (first ∷ rest) = subst (λ (xs : List Literal). All (λ x. IsUnset front x) xs) split unset in
-    let u : IsUnset front l = each (suc i) d (omega (arith, lt)) in
-    let differs : (x : Literal) → x.var ≡ l.var → x ≡ k → ⊥ = λ x v e. avoids_contained first.var rest l apart.0 (Contains-get_or rest i d lt) (sym (ap (λ (y : Literal). y.var) (e ∙ is)) ∙ v) in
-    (has_front front k l (differs l refl) ∙ u.0, has_front front k (negate l) (differs (negate l) refl) ∙ u.1)
-
-pub rest_wider : (given lits rest : List Literal) (first : Literal) → lits ≡ first ∷ rest → Includes (has given) (has (map negate lits)) → Includes (has given) (has (map negate rest))
-rest_wider given lits rest first split wider k h = wider k (subst (λ (xs : List Literal). IsIn (has (map negate xs)) k) (sym split) (has_from_contains (negate first ∷ map negate rest) k (contains_later (negate first) k (map negate rest) (contains_from_has (map negate rest) k h))))
+pub rest_wider : (given lits : List Literal) → 1 ≤ length lits → Includes (has given) (has (map negate lits)) → Includes (has given) (has (map negate (take (length lits - 1) (drop 1 lits))))
+rest_wider given [] some wider k h = absurd (omega arith)
+rest_wider given (x ∷ ls) some wider k h =
+    let here : IsIn (has (map negate ls)) k = subst (λ (rest : List Literal). IsIn (has (map negate rest)) k) (take_all (length (x ∷ ls) - 1) ls (omega arith)) h in
+    wider k (has_from_contains (negate x ∷ map negate ls) k (contains_later (negate x) k (map negate ls) (contains_from_has (map negate ls) k here)))
 
 -- the further variables are those of no clause
 pub further_unset : (vars : ℕ) (lits : List Literal) → AreThere vars lits → All (λ l. IsUnset (assumed vars []) l) lits

@@ -5,7 +5,7 @@ ghost use Rattle.cnf_core.specs.Clause.{AreThere, AreDistinct};
 ghost use Rattle.cnf_core.specs.Propagation.{Includes};
 ghost use Rattle.watch_arena.specs.Trail.{IsUnset};
 ghost use Rattle.watch_arena.specs.Arena.{Attached, AreWatched, IsSameText, MayBeWatched};
-ghost use Rattle.hint_log.specs.Found.{IsIdle, IsAssuming, HaveReasons, assumed};
+ghost use Rattle.hint_log.specs.Found.{IsAtRest, IsDenying, HaveReasons, assumed};
 
 use cnf_core::{Lit, VARS, Var};
 use watch_arena::{Arena, Trail};
@@ -80,12 +80,12 @@ fn are_unset(trail: &Trail, lits: &[Lit]) -> bool
 /// Assumes the two further variables, and that the literals of a clause are false: above what follows
 /// without them where they are unset there, else anew.
 pub(crate) fn assume(trail: &mut Trail, lits: &[Lit], vars: u32)
-    requires idle { (a : Attached) × IsIdle a vars trail.old }
+    requires idle { (a : Attached) × IsAtRest a vars trail.old }
     requires vars { trail.old.vars ≡ vars + 2 }
     requires limit { vars + 2 ≤ VARS }
     requires there { AreThere vars lits.now }
     requires distinct { AreDistinct lits.now }
-    ensures { (a : Attached) → IsIdle a vars trail.old → IsAssuming a vars lits.now trail.new }
+    ensures { (a : Attached) → IsAtRest a vars trail.old → IsDenying a vars lits.now trail.new }
 {
     if trail.level() == 1 && !lits.is_empty() && are_unset(trail, lits) {
         deny_above(trail, lits);
@@ -99,8 +99,8 @@ pub(crate) fn assume(trail: &mut Trail, lits: &[Lit], vars: u32)
 /// Takes back what was assumed of a clause.
 pub(crate) fn leave(trail: &mut Trail)
     requires { 1 ≤ length trail.old.cuts }
-    ensures { (a : Attached) (vars : ℕ) (lits : List Literal) → IsAssuming a vars lits trail.old →
-        IsIdle a vars trail.new }
+    ensures { (a : Attached) (vars : ℕ) (lits : List Literal) → IsDenying a vars lits trail.old →
+        IsAtRest a vars trail.new }
 {
     let level = trail.level();
     trail.undo_to(level - 1);
@@ -109,10 +109,10 @@ pub(crate) fn leave(trail: &mut Trail)
 /// Begins the level of the two further variables and of what follows, if there is none. A formula that is
 /// refuted by them alone leaves the trail empty.
 pub(crate) fn follow(arena: &mut Arena, trail: &mut Trail, vars: u32)
-    requires idle { IsIdle arena.old vars trail.old }
+    requires idle { IsAtRest arena.old vars trail.old }
     requires vars { trail.old.vars ≡ vars + 2 }
     requires limit { vars + 2 ≤ VARS }
-    ensures idle { IsIdle arena.new vars trail.new }
+    ensures idle { IsAtRest arena.new vars trail.new }
     ensures text { IsSameText arena.old arena.new }
 {
     if trail.level() == 0 {
@@ -125,11 +125,11 @@ pub(crate) fn follow(arena: &mut Arena, trail: &mut Trail, vars: u32)
 
 /// Leaves of the trail what lets the first two literals of a clause be watched: all, or nothing.
 pub(crate) fn make_way(trail: &mut Trail, lits: &[Lit])
-    requires idle { (a : Attached) × (vars : ℕ) × IsIdle a vars trail.old }
+    requires idle { (a : Attached) × (vars : ℕ) × IsAtRest a vars trail.old }
     requires two { 2 ≤ length lits.now }
     requires there { AreThere trail.old.vars lits.now }
     ensures vars { trail.new.vars ≡ trail.old.vars }
-    ensures idle { (a : Attached) (vars : ℕ) → IsIdle a vars trail.old → IsIdle a vars trail.new }
+    ensures idle { (a : Attached) (vars : ℕ) → IsAtRest a vars trail.old → IsAtRest a vars trail.new }
     ensures open_ { MayBeWatched trail.new lits.now }
 {
     if trail.is_false(lits[0]) || trail.is_false(lits[1]) {
