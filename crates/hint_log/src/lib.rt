@@ -9,9 +9,9 @@
 //! which lines are good and at which place a line fails, `specs/Checked` what a checker keeps, and
 //! `specs/Trimmed` what `trim` answers; `laws` states what follows from the definitions. `specs/Looks`,
 //! `specs/Found` and `specs/Shortened` are for private contracts alone. `judging` goes along a line's hints
-//! over the marks of `marks`; `finder` finds hints by propagation, `needs` names them from the last one
-//! back, and `shortening` leaves lines out. It stands on the clauses of `cnf_core`, the lines of
-//! `refute_log`, and for `trim` on the trail and the arena of `watch_arena`.
+//! over the marks of `marks`; `finder` finds hints by propagation of what `assumptions` puts on the trail,
+//! `needs` names them from the last one back, and `shortening` leaves lines out. It stands on the clauses
+//! of `cnf_core`, the lines of `refute_log`, and for `trim` on the trail and the arena of `watch_arena`.
 #![tactic(auto)]
 
 mod assumptions;
