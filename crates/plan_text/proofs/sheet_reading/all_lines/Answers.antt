@@ -19,5 +19,5 @@ returns c =
     let g = c.args.g.now in
     let count = EdgesLine (length g.edges) in
     MatchResult-weaker c.lines.result c.lines.ensures
-    (λ p h. (h.0, h.1, λ before. read_append g before (EdgesDue c.args.edition) c.args.text.now c.in_ok-rest.rest.now p.1.now (count ∷ []) (drawn_lines c.args.edition g 0 p.0.items) (read_edges c.args.edition g before c.args.text.now c.in_ok-rest.rest.now c.in_ok-rest.ensures) (h.2 (before ++ count ∷ []))))
+    (λ p h. let same = h.0 in let few = h.1 in (h.0, omega (arith, same, few), λ before. read_append g before (EdgesDue c.args.edition) c.args.text.now c.in_ok-rest.rest.now p.1.now (count ∷ []) (drawn_lines c.args.edition g 0 p.0.items) (read_edges c.args.edition g before c.args.text.now c.in_ok-rest.rest.now c.in_ok-rest.ensures) (h.2 (before ++ count ∷ []))))
     (λ fault h before. first_later g before (EdgesDue c.args.edition) c.args.text.now c.in_ok-rest.rest.now (count ∷ []) (length g.nodes + 5) (length g.nodes + 6) fault (read_edges c.args.edition g before c.args.text.now c.in_ok-rest.rest.now c.in_ok-rest.ensures) (omega arith) (h (before ++ count ∷ [])))
