@@ -1,6 +1,8 @@
 -- Calls that add the sums of the diagonal.
-use Rattle.std.proofs.Common.{◌≡◌, ℕ, zero, suc, ◌+◌, ◌*◌, ◌≤◌, ◌<◌, true, false, List, [], ◌∷◌, ◌++◌, length, refl, sym, ◌∙◌, ap, subst, arith, Ok, Err, append_assoc, append-nil, inl, inr}
+use Rattle.std.proofs.Common.{◌≡◌, ℕ, zero, suc, ◌+◌, ◌*◌, ◌≤◌, ◌<◌, true, false, List, [], ◌∷◌, ◌++◌, length, get_or, refl, sym, ◌∙◌, ap, subst, arith, Ok, Err, append_assoc, append-nil, inl, inr}
 use Rattle.std.specs.Prelude.{Result, IsErr, IsErrOf, nat_le, cond, drop, slice_index_or}
+use Rattle.std.specs.List.{flat_map}
+use Rattle.std.proofs.lemmas.List.{at_drop_more, at_drop_all}
 use Rattle.std.proofs.Math.Nat.{mul-le-mul_left, mul-le-mul_right}
 use Rattle.std.proofs.lemmas.Bool.Decides.{nat_tests}
 use Rattle.plan_core.specs.declared.limits.TheConstants.{MAX_EDGES}
@@ -18,7 +20,7 @@ use Rattle.cnf_core.specs.Added.{AddsClauses, AddsBlock}
 use Rattle.cnf_core.proofs.BlockLemmas.{block_of_clauses, block_refused, block_after}
 use Rattle.cnf_core.proofs.ClauseLemmas.{words_append}
 use Rattle.cnf_core.proofs.StepLemmas.{grown, adds_longer, adds_nothing}
-use Rattle.unary_sum.specs.Sum.{SumVars, sum_vars, sum_count, sum_clauses, sum_at_least as sum_at_least}
+use Rattle.unary_sum.specs.Sum.{SumVars, sum_vars, sum_count, sum_clauses, sum_outputs, sum_at_least as sum_at_least}
 use Rattle.edge_shape.specs.EdgeVars.{EdgeSpot, lits_of, edge_size, EdgeIsPlaced}
 use Rattle.edge_shape.proofs.PlaceLemmas.{column_there}
 use Rattle.law_clauses.specs.Stands.{DrawingVars}
@@ -134,6 +136,17 @@ left_one (e ∷ es) zero d h = refl
 left_one (e ∷ es) (suc k) d h =
     let z : suc (k + 1) ≡ suc k + 1 = omega arith in
     left_one es k d (omega arith) ∙ ap (λ j. slice_index_or es k d ∷ drop j (e ∷ es)) z
+
+-- the loop over sums
+pub outputs_next : (all : List SumVars) (i : ℕ) (s : SumVars) (front own new : List Literal) → i < length all → s ≡ get_or all i s → own ≡ sum_outputs s → new ≡ front ++ own → front ++ flat_map sum_outputs (drop i all) ≡ flat_map sum_outputs all → new ++ flat_map sum_outputs (drop (i + 1) all) ≡ flat_map sum_outputs all
+outputs_next all i s front own new lt is outputs grown h =
+    let left = flat_map sum_outputs (drop (i + 1) all) in
+    let cut : flat_map sum_outputs (drop i all) ≡ sum_outputs (get_or all i s) ++ left = at_drop_more (flat_map sum_outputs) all i s lt in
+    ap (λ (ls : List Literal). ls ++ left) (grown ∙ ap (λ (ls : List Literal). front ++ ls) (outputs ∙ ap sum_outputs is))
+    ∙ append_assoc front (sum_outputs (get_or all i s)) left ∙ ap (λ (ls : List Literal). front ++ ls) (sym cut) ∙ h
+
+pub outputs_done : (all : List SumVars) (i : ℕ) (front : List Literal) → length all ≤ i → front ++ flat_map sum_outputs (drop i all) ≡ flat_map sum_outputs all → front ≡ flat_map sum_outputs all
+outputs_done all i front past h = sym (append-nil front) ∙ ap (λ (ls : List Literal). front ++ ls) (sym (at_drop_all (flat_map sum_outputs) all i past)) ∙ h
 
 -- the loop over edges
 pub record IsSumming (x : DrawingVars) (width most : ℕ) (old now : Cnf) (before sums : List SumVars) (edges rest : List ℕ) : Type 0 where

@@ -1,7 +1,6 @@
 -- Lists of literals as they grow, and the long clause of height as the literals that it is.
-use Rattle.std.proofs.Common.{◌≡◌, ℕ, zero, suc, ◌+◌, ◌-◌, ◌*◌, ◌≤◌, ◌<◌, false, List, [], ◌∷◌, ◌++◌, map, length, get_or, drop, inl, inr, refl, sym, ◌∙◌, ap, subst, arith, append_assoc, append-nil, length-append}
+use Rattle.std.proofs.Common.{◌≡◌, ℕ, zero, suc, ◌+◌, ◌-◌, ◌*◌, ◌≤◌, ◌<◌, false, List, [], ◌∷◌, ◌++◌, map, length, inl, inr, refl, sym, ◌∙◌, ap, subst, arith, append_assoc, append-nil, length-append}
 use Rattle.std.specs.Prelude.{nat_le, nat_lt}
-use Rattle.std.proofs.Math.Seq.{drop-cons}
 use Rattle.std.proofs.lemmas.Bool.Decides.{nat_tests, eqb_tells}
 use Rattle.std.proofs.lemmas.List.{map-append}
 use Rattle.plan_core.specs.Grid.{GridSize, IsGrid}
@@ -36,14 +35,15 @@ two_more front a b rest = sym (append_assoc (front ++ a ∷ []) (b ∷ []) rest 
 one_more : {X : Type 0} (front : List X) (a : X) (rest : List X) → front ++ (a ∷ rest) ≡ (front ++ a ∷ []) ++ rest
 one_more front a rest = sym (append_assoc front (a ∷ []) rest)
 
-pub bends_next : (x : DrawingVars) (es : List ℕ) (i e : ℕ) (front one two : List Literal) → i < length es → get_or es i e ≡ e → one ≡ front ++ positive_of (x.edge e).first_bend ∷ [] → two ≡ one ++ positive_of (x.edge e).second_bend ∷ [] → front ++ bend_lits x (drop i es) ≡ bend_lits x es → two ++ bend_lits x (drop (i + 1) es) ≡ bend_lits x es
-bends_next x es i e front one two lt is a b h =
-    let next : suc i ≡ i + 1 = omega arith in
-    let cut : drop i es ≡ e ∷ drop (i + 1) es = drop-cons es i e lt ∙ ap (λ k. k ∷ drop (suc i) es) is ∙ ap (λ j. e ∷ drop j es) next in
-    let whole : two ≡ (front ++ positive_of (x.edge e).first_bend ∷ []) ++ positive_of (x.edge e).second_bend ∷ [] = b ∙ ap (λ (ls : List Literal). ls ++ positive_of (x.edge e).second_bend ∷ []) a in
-    ap (λ (ls : List Literal). ls ++ bend_lits x (drop (i + 1) es)) whole
-    ∙ sym (two_more front (positive_of (x.edge e).first_bend) (positive_of (x.edge e).second_bend) (bend_lits x (drop (i + 1) es)))
+pub bends_next : (x : DrawingVars) (es rest later : List ℕ) (e : ℕ) (front one two : List Literal) (a b : Literal) → rest ≡ e ∷ later → a ≡ positive_of (x.edge e).first_bend → b ≡ positive_of (x.edge e).second_bend → one ≡ front ++ a ∷ [] → two ≡ one ++ b ∷ [] → front ++ bend_lits x rest ≡ bend_lits x es → two ++ bend_lits x later ≡ bend_lits x es
+bends_next x es rest later e front one two a b cut is_a is_b first second h =
+    let whole : two ≡ (front ++ a ∷ []) ++ b ∷ [] = second ∙ ap (λ (ls : List Literal). ls ++ b ∷ []) first in
+    ap (λ (ls : List Literal). ls ++ bend_lits x later) whole ∙ sym (two_more front a b (bend_lits x later))
+    ∙ ap (λ (l : Literal). front ++ l ∷ b ∷ bend_lits x later) is_a ∙ ap (λ (l : Literal). front ++ positive_of (x.edge e).first_bend ∷ l ∷ bend_lits x later) is_b
     ∙ ap (λ (ks : List ℕ). front ++ bend_lits x ks) (sym cut) ∙ h
+
+pub bends_done : (x : DrawingVars) (es rest : List ℕ) (front : List Literal) → rest ≡ [] → front ++ bend_lits x rest ≡ bend_lits x es → front ≡ bend_lits x es
+bends_done x es rest front none h = sym (append-nil front) ∙ ap (λ (ks : List ℕ). front ++ bend_lits x ks) (sym none) ∙ h
 
 pub steps_next : (e : EdgeLits) (c width : ℕ) (front one two whole : List Literal) → c < width → one ≡ front ++ positive_of (e.up c) ∷ [] → two ≡ one ++ positive_of (e.down c) ∷ [] → front ++ step_lits e c (width - c) ≡ whole → two ++ step_lits e (c + 1) (width - (c + 1)) ≡ whole
 steps_next e c width front one two whole lt a b h =

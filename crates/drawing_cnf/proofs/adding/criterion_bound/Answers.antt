@@ -81,3 +81,18 @@ returns-clause-covers c =
     covers_after c.add_kept-outcome.result c.e.inside.graph.now c.e.inside.grid.now c.add_kept-outcome.new.e s.track_graph s.few_nodes s.few_edges c.width.ensures.is_grid
     (k.graph ∙ sym (ap (λ (z : Encoding). z.graph) c.e.view_is)) (k.grid ∙ sym (ap (λ (z : Encoding). z.grid) c.e.view_is))
     (whole_after c.add_kept-outcome.result e c.add_kept-outcome.new.e c.args.c c.args.cap k.graph k.order k.grid k.bounds k.adds.made k.adds.added c.requires.whole)
+
+pub returns-clause-graph : goal.returns-clause-graph
+returns-clause-graph c = c.add_kept-outcome.ensures.graph
+
+pub returns-clause-order : goal.returns-clause-order
+returns-clause-order c = c.add_kept-outcome.ensures.order
+
+pub returns-clause-grid : goal.returns-clause-grid
+returns-clause-grid c = c.add_kept-outcome.ensures.grid
+
+pub returns-clause-bound : goal.returns-clause-bound
+returns-clause-bound c = c.add_kept-outcome.ensures.bound
+
+pub returns-clause-bounds : goal.returns-clause-bounds
+returns-clause-bounds c = c.add_kept-outcome.ensures.bounds

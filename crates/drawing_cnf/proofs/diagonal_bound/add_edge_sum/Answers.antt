@@ -1,5 +1,6 @@
-use Rattle.std.proofs.Common.{rules, ◌≡◌, List, ◌∙◌, ap, subst}
+use Rattle.std.proofs.Common.{rules, ◌≡◌, ◌+◌, List, ◌∙◌, sym, ap, subst}
 use Rattle.cnf_core.specs.Lit.{Literal}
+use Rattle.cnf_core.specs.Clause.{AreThere}
 use Rattle.cnf_core.specs.Added.{AddsClauses}
 use Rattle.cnf_core.proofs.BlockLemmas.{block_fault, block_same}
 use Rattle.unary_sum.specs.Sum.{SumVars, sum_vars, sum_count, sum_clauses}
@@ -70,3 +71,15 @@ returns-clause-sum c =
     let s = sum_vars inputs a.most a.f.now.vars in
     let is : c.deref.result.now ≡ inputs = c.deref.ensures.value ∙ c.in_ok-inputs.ensures in
     c.in_ok-sum.ensures.sum ∙ ap (λ (ls : List Literal). sum_vars ls a.most a.f.now.vars) is
+
+pub add_steps_beside-requires-clause-inputs : goal.add_steps_beside-requires-clause-inputs
+add_steps_beside-requires-clause-inputs c =
+    let a = c.args in
+    let is : c.deref.result.now ≡ step_lits (lits_of a.e.now) 0 a.width = c.deref.ensures.value ∙ c.in_ok-inputs.ensures in
+    subst (λ (s : SumVars). AreThere s.vars s.inputs) (sym c.in_ok-sum.ensures.sum) (steps_inputs a.e.now a.width a.f.now.vars c.deref.result.now c.requires.placed c.requires.edge c.requires.width is).there
+
+pub add_steps_beside-requires-clause-most : goal.add_steps_beside-requires-clause-most
+add_steps_beside-requires-clause-most c = sym (ap (λ (s : SumVars). s.most) c.in_ok-sum.ensures.sum)
+
+pub add_steps_beside-requires-clause-there : goal.add_steps_beside-requires-clause-there
+add_steps_beside-requires-clause-there c = subst (λ (s : SumVars). s.vars + sum_count s ≡ c.build.new.f.vars) (sym c.in_ok-sum.ensures.sum) (sym c.in_ok-sum.ensures.adds.made)

@@ -1,8 +1,20 @@
-use Rattle.std.proofs.Common.{rules}
+use Rattle.std.proofs.Common.{rules, ◌≤◌, sym, subst, arith}
 use Rattle.cnf_core.proofs.StepLemmas.{adding_more, adding_done, adding_refused}
+use Rattle.order_int.specs.IntVars.{IntVars, IntIsThere}
 use Rattle.edge_shape.specs.EdgeVars.{lits_of}
+use Rattle.edge_shape.proofs.PlaceLemmas.{height_there}
 use Rattle.drawing_cnf.proofs.BoundCode.{gives_adds}
 use Rattle.drawing_cnf.proofs.height_bound.add_heights_give.Goals as goal
+
+pub add_gives-requires-clause-there : goal.add_gives-requires-clause-there
+add_gives-requires-clause-there c =
+    let e = c.args.e.now in
+    let k = c.loop-c.c in
+    let test = c.loop-c-test.true in
+    let width = c.requires.width in
+    let within : k ≤ e.width = omega arith in
+    subst (λ (i : IntVars). IntIsThere c.loop-c.f.vars i) (sym c.height.ensures.value)
+    (subst (λ n. IntIsThere n ((lits_of e).height k)) (sym c.loop-c.invariant.vars) (height_there e.first e.high e.width c.args.f.now.vars k c.height.ensures.placed.spot c.requires.edge within))
 
 pub returns-in_err-add_gives : goal.returns-in_err-add_gives
 returns-in_err-add_gives c =
