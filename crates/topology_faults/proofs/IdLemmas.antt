@@ -30,6 +30,17 @@ under false o x h = absurd (none-some x h)
 later : (id_at : Elem → Option (List ℕ)) (rows : List Elem) (n j : ℕ) (id : List ℕ) → HasIdAt id_at rows n j id → HasIdAt id_at rows (n + 1) j id
 later id_at rows n j id h = record { row = h.row; before = (let b = h.before in omega arith); is = h.is; has = h.has }
 
+-- what a row has is what it has as the last of the rows
+pub last_has : (id_at : Elem → Option (List ℕ)) (rows : List Elem) (n : ℕ) (row : Elem) → slice_get rows n ≡ Some row → (j : ℕ) (id : List ℕ) → HasIdAt id_at rows (n + 1) j id → n ≤ j → id_at row ≡ Some id
+last_has id_at rows n row at j id h from =
+    let before : j < n + 1 = h.before in
+    let same : j ≡ n = omega arith in
+    ap id_at (one_row rows n row h.row at (subst (λ k. slice_get rows k ≡ Some h.row) same h.is)) ∙ h.has
+
+-- any other has it among those before
+pub earlier_has : (id_at : Elem → Option (List ℕ)) (rows : List Elem) (n j : ℕ) (id : List ℕ) → HasIdAt id_at rows (n + 1) j id → j < n → HasIdAt id_at rows n j id
+earlier_has id_at rows n j id h before = record { row = h.row; before = before; is = h.is; has = h.has }
+
 module _ (id_at : Elem → Option (List ℕ)) (rows : List Elem) where
   pub keeps_start : (numbers : BTreeMap (Bor (List ℕ)) ℕ) → numbers.entries ≡ [] → KeepsIds id_at rows 0 numbers
   keeps_start numbers empty = record {
@@ -47,13 +58,10 @@ module _ (id_at : Elem → Option (List ℕ)) (rows : List Elem) where
       at = row_at rows n row within is
 
       here : (j : ℕ) (id : List ℕ) → HasIdAt id_at rows (n + 1) j id → n ≤ j → id_at row ≡ Some id
-      here j id h from =
-          let before : j < n + 1 = h.before in
-          let same : j ≡ n = omega arith in
-          ap id_at (one_row rows n row h.row at (subst (λ k. slice_get rows k ≡ Some h.row) same h.is)) ∙ h.has
+      here = last_has id_at rows n row at
 
       earlier : (j : ℕ) (id : List ℕ) → HasIdAt id_at rows (n + 1) j id → j < n → HasIdAt id_at rows n j id
-      earlier j id h before = record { row = h.row; before = before; is = h.is; has = h.has }
+      earlier = earlier_has id_at rows n
 
       by : (o : Option (List ℕ)) → id_at row ≡ o → AddsId old new o n → KeepsIds id_at rows (n + 1) new
       by None e same = record {
@@ -88,7 +96,7 @@ module _ (id_at : Elem → Option (List ℕ)) (rows : List Elem) where
 bears : (rows : List Elem) (n j : ℕ) (id : List ℕ) → HasIdAt own_id rows n j id → BearsId rows j id
 bears rows n j id h = let parts = under (bears_id h.row.kind) h.row.attrs.id id h.has in record { row = h.row; is = h.is; bears = parts.0; has = parts.1 }
 
-owns : (rows : List Elem) (j : ℕ) (id : List ℕ) (h : BearsId rows j id) → own_id h.row ≡ Some id
+pub owns : (rows : List Elem) (j : ℕ) (id : List ℕ) (h : BearsId rows j id) → own_id h.row ≡ Some id
 owns rows j id h = ap (λ b. if b then h.row.attrs.id else None) h.bears ∙ h.has
 
 module _ (rows : List Elem) (n : ℕ) (row : Elem) (old : BTreeMap (Bor (List ℕ)) ℕ) (kept : KeepsIds own_id rows n old) (within : n < length rows) (is : row ≡ get_or rows n row) where

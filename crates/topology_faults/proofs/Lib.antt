@@ -9,5 +9,6 @@ pub mod LawLemmas
 pub mod PartLemmas
 pub mod OutsideLemmas
 pub mod IdLemmas
+pub mod DistinctLemmas
 pub mod ReferenceLemmas
 pub mod ChildLemmas

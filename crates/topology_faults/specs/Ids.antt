@@ -1,5 +1,6 @@
 -- Ids: which row's number an id is kept with.
-use Rattle.std.specs.Prelude.{◌≡◌, ◌<◌, ℕ, if◌then◌else◌, List, Option, Some, None, bytes_eq, slice_get, ⊤}
+use Rattle.std.specs.Prelude.{◌≡◌, ◌≢◌, ◌<◌, ℕ, if◌then◌else◌, List, [], ◌∷◌, ◌++◌, Option, Some, None, bytes_eq}
+use Rattle.std.specs.Prelude.{slice_get, AllPairs, Contains, ⊤}
 use Rattle.std.specs.Borrow.{Bor}
 use Rattle.std.specs.BTreeMap.{BTreeMap, get_by}
 use Rattle.std.specs.Cmp.Lexicographic.{slice_cmp}
@@ -54,3 +55,34 @@ pub record KeepsIds (id_at : Elem → Option (List ℕ)) (rows : List Elem) (n :
     Type 0 where
   pub found : (id : List ℕ) (j : ℕ) → number_in numbers id ≡ Some j → HasIdAt id_at rows n j id
   pub missed : (id : List ℕ) (j : ℕ) → number_in numbers id ≡ None → HasIdAt id_at rows n j id → ⊥
+
+-- ---- ids that are listed
+
+-- an id with its front and with the number of a row
+abbrev pub ListedId : Type 0
+ListedId = ℕ × Bor (List ℕ) × ℕ
+
+-- the text of such an id
+abbrev pub text_of : ListedId → List ℕ
+text_of id = id.1.now
+
+-- a row's id, if it has one, is listed with this number behind the others
+abbrev pub ListsOneMore : List ListedId → List ListedId → Option (List ℕ) → ℕ → Type 0
+ListsOneMore old new None number = new ≡ old
+ListsOneMore old new (Some id) number = (one : ListedId) × (new ≡ old ++ one ∷ [])
+    × (text_of one ≡ id) × (one.2 ≡ number)
+
+-- an id is listed with this number
+pub record IsListedAs (ids : List ListedId) (id : List ℕ) (number : ℕ) : Type 0 where
+  pub one : ListedId
+  pub there : Contains ids one
+  pub text : text_of one ≡ id
+  pub numbered : one.2 ≡ number
+
+-- the ids of the first n rows are listed with the rows' numbers
+abbrev pub ListsIds : List Elem → ℕ → List ListedId → Type 0
+ListsIds rows n ids = (j : ℕ) (id : List ℕ) → HasIdAt own_id rows n j id → IsListedAs ids id j
+
+-- no text is listed twice
+abbrev pub AreTextsDistinct : List ListedId → Type 0
+AreTextsDistinct ids = AllPairs (λ (a b : ListedId). text_of a ≢ text_of b) ids

@@ -8,6 +8,7 @@ ghost use Rattle.topology_faults.specs.Ids.{number_in, Numbers, AddsId, IsKnownI
 ghost use Rattle.topology_faults.specs.Ids.{connection_id as id_of_connection, reference_of as reference, KeepsIds};
 ghost use Rattle.plan_core.specs.Searching.{FindsFirst};
 
+use crate::distinct_ids::are_ids_distinct;
 use crate::rows::{bears_id, is_kind};
 use plan_core::OutOfMemory;
 use railml_read::{Elem, ElemKind};
@@ -38,7 +39,7 @@ pub(crate) fn keep<'a>(
 }
 
 /// A row's id, if it has one that counts.
-fn own_id(row: &Elem) -> Option<&str>
+pub(crate) fn own_id(row: &Elem) -> Option<&str>
     ensures { option_copied result ≡ id_of_row row.now }
 {
     match &row.attrs.id {
@@ -95,6 +96,18 @@ fn keep_own<'a>(
 
 /// The first row whose id an earlier row bears.
 pub(crate) fn first_repeated(alloc: Global, rows: &[Elem]) -> Result<Option<usize>, OutOfMemory>
+    requires { AreFormed rows.now }
+    ensures { IfOk result (λ found. FindsFirst (λ i _. Repeats rows.now i) rows.now found) }
+{
+    // Ids are sorted sooner than they are kept one by one, and hardly ever is one repeated.
+    if are_ids_distinct(alloc, rows)? {
+        return Ok(None);
+    }
+    first_kept_again(alloc, rows)
+}
+
+/// The same, by keeping the ids one by one until one is kept already.
+fn first_kept_again(alloc: Global, rows: &[Elem]) -> Result<Option<usize>, OutOfMemory>
     requires { AreFormed rows.now }
     ensures { IfOk result (λ found. FindsFirst (λ i _. Repeats rows.now i) rows.now found) }
 {

@@ -14,6 +14,7 @@ mod attributes;
 mod bad_ids;
 mod children;
 mod courses;
+mod distinct_ids;
 mod fault;
 mod finding;
 mod ids;

@@ -1,7 +1,7 @@
 use Rattle.topology_faults.specs.Ids.{own_id}
 use Rattle.topology_faults.proofs.IdLemmas.{keeps_more, repeats_again, repeats_none}
 use Rattle.plan_core.proofs.SearchLemmas.{found_first, none_more}
-use Rattle.topology_faults.proofs.ids.first_repeated.Goals as goal
+use Rattle.topology_faults.proofs.ids.first_kept_again.Goals as goal
 
 pub returns-then-branch : goal.returns-then-branch
 returns-then-branch c =
