@@ -36,10 +36,10 @@ title_none line is =
     let e : bound_line line ≡ line ∷ [] = is.0 in
     no_bound line e is.1.spells.spelled
   where
-    no_bound : (l : LogLine) → bound_line l ≡ l ∷ [] → title ≡ log_line_text l → ⊥
+    no_bound : (l : LogLine) → bound_line l ≡ l ∷ [] → log_line_text l ≡ title → ⊥
     no_bound (Formula c) e same = cc
     no_bound (Learnt c) e same = cc
-    no_bound (Bound criterion k x) e same = let f : 98 ≡ 114 = sym (ap first_byte same) in omega (arith, f)
+    no_bound (Bound criterion k x) e same = let f : 98 ≡ 114 = ap first_byte same in omega (arith, f)
     no_bound (Query c) e same = cc
     no_bound (Refuted c) e same = cc
     no_bound Model e same = cc
