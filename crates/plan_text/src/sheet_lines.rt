@@ -263,8 +263,8 @@ fn numbered_edge(edition: Edition, text: &[u8]) -> Option<(u16, Option<&[u8]>, &
 /// What the line of an edge tells, and what stands behind it.
 pub(crate) fn edge_line(edition: Edition, text: &[u8]) -> Option<(EdgeTold<'_>, &[u8])>
     ensures { MatchOption result ((e : ℕ) → IsMisformed (EdgeDue edition e) text.now)
-        (λ p. IsToldIn edition (option_copied p.0.track) × IsLineTo text.now
-        (EdgeLine p.0.number (option_copied p.0.track) p.0.west p.0.east p.0.points.items) p.1.now) }
+        (λ p. let track = option_copied p.0.track in IsToldIn edition track
+        × IsLineTo text.now (EdgeLine p.0.number track p.0.west p.0.east p.0.points.items) p.1.now) }
 {
     let (number, track, rest) = numbered_edge(edition, text)?;
     let (numbers, rest) = numbers(rest)?;

@@ -1,5 +1,5 @@
 -- Ids that are listed, and told apart once they are sorted.
-use Rattle.std.proofs.Common.{◌≡◌, ◌⊎◌, ℕ, suc, zero, ◌+◌, ◌<◌, ◌≤◌, List, [], ◌∷◌, ◌++◌, length, Option, Some, None, slice_get, get_or, refl, sym, ◌∙◌, ap, subst, inl, inr, arith}
+use Rattle.std.proofs.Common.{◌≡◌, ◌⊎◌, ℕ, suc, zero, ◌+◌, ◌<◌, ◌≤◌, List, [], ◌∷◌, length, Option, Some, None, get_or, refl, sym, ◌∙◌, ap, subst, inl, inr, arith}
 use Rattle.std.specs.Prelude.{Contains}
 use Rattle.std.specs.Cmp.Lexicographic.{slice_cmp}
 use Rattle.std.specs.List.{AllAdjacentBelow}
@@ -15,7 +15,7 @@ use Rattle.std.proofs.lemmas.Option.{same_Some, none-some, slice_get_within}
 use Rattle.railml_read.specs.declared.rows.Elem.{Elem}
 use Rattle.topology_faults.specs.Rows.{BearsId}
 use Rattle.topology_faults.specs.Faults.{AreIdsDistinct}
-use Rattle.topology_faults.specs.Ids.{own_id, HasIdAt, ListedId, text_of, ListsOneMore, IsListedAs, ListsIds, AreTextsDistinct}
+use Rattle.topology_faults.specs.Ids.{own_id, ListedId, text_of, ListsOneMore, IsListedAs, ListsIds, AreTextsDistinct}
 use Rattle.topology_faults.proofs.IdLemmas.{row_at, last_has, earlier_has, owns}
 
 -- ---- ids that are listed

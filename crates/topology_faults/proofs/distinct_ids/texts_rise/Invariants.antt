@@ -1,4 +1,3 @@
-use Rattle.std.proofs.Common.{ℕ, ◌<◌}
 use Rattle.std.specs.List.{AllAdjacentBelow}
 use Rattle.topology_faults.proofs.DistinctLemmas.{Rises}
 use Rattle.topology_faults.proofs.distinct_ids.texts_rise.Given as goal
