@@ -16,10 +16,10 @@ use Rattle.hint_log.specs.declared.hint_line.HintLine.TheVariants.{Learnt, Refut
 use Rattle.hint_log.specs.Hint.{hints_of}
 use Rattle.hint_log.specs.Checked.{clauses_learnt}
 use Rattle.hint_log.specs.Trimmed.{HintLines, StandAt, AreGood, IsNamedLater, AreUsed, IsTrimmed, IsHinted, AreRefutedLines}
-use Rattle.hint_log.specs.Shortened.{is_used, NamesLater, MarksUsed, IsRenumbering, learnt_among, new_number_in, renumbered, shortened, AreShortened}
+use Rattle.hint_log.specs.Shortened.{is_used, NamesLater, MarksUsed, learnt_among, new_number_in, renumbered, shortened, AreShortened}
 use Rattle.hint_log.proofs.UsedLemmas.{count_is}
 use Rattle.hint_log.proofs.HintedLemmas.{same_line}
-use Rattle.hint_log.proofs.ShortenLemmas.{good_renumbered, renumbering_kept, renumbering_left_out, renumbering_none}
+use Rattle.hint_log.proofs.ShortenLemmas.{IsRenumbering, good_renumbered, renumbering_kept, renumbering_left_out, renumbering_none}
 use Rattle.watch_arena.proofs.ChainLemmas.{contains_head}
 
 -- what a Learnt line is shortened to

@@ -17,7 +17,7 @@ use refute_log::are_among;
 use std::alloc::Global;
 use std::marker::Model;
 
-/// AcceptsHint hinted lines that are good after those that it accepted before.
+/// Accepts hinted lines that are good after those that it accepted before.
 #[derive(Drop)]
 pub struct HintChecker {
     alloc: Global,
@@ -40,7 +40,7 @@ impl Model for HintChecker {
 }
 
 impl HintChecker {
-    /// AcceptsHint lines over the clauses of this formula, as long as the words of these and of the Learnt
+    /// Accepts lines over the clauses of this formula, as long as the words of these and of the Learnt
     /// lines are at most `room`. Where memory can't be had, the formula is dropped.
     pub fn new(alloc: Global, f: Formula, room: u32) -> Result<HintChecker, OutOfMemory>
         ensures room { IfOk result (λ c. c.room ≡ room) }
@@ -105,7 +105,7 @@ impl HintChecker {
         Ok(())
     }
 
-    /// AcceptsHint a Learnt line, or says why not.
+    /// Accepts a Learnt line, or says why not.
     fn feed_learnt(&mut self, lits: &Clause, hints: &Numbers) -> Result<(), HintFault>
         requires { length hints.now < 2 ^ 32 }
         ensures { IsHintAnswer self.old self.new (HintLine.Learnt lits.now hints.now) result }
@@ -123,7 +123,7 @@ impl HintChecker {
         }
     }
 
-    /// AcceptsHint a Refuted line, or says why not.
+    /// Accepts a Refuted line, or says why not.
     fn feed_refuted(&mut self, lits: &Clause, hints: &Numbers) -> Result<(), HintFault>
         requires { length hints.now < 2 ^ 32 }
         ensures { IsHintAnswer self.old self.new (HintLine.Refuted lits.now hints.now) result }
@@ -138,7 +138,7 @@ impl HintChecker {
         }
     }
 
-    /// AcceptsHint the line where it is good after the lines that were accepted before and there is room for
+    /// Accepts the line where it is good after the lines that were accepted before and there is room for
     /// it. A refused line isn't kept.
     pub fn feed(&mut self, line: &HintLine) -> Result<(), HintFault>
         requires { length (hints_of line.now) < 2 ^ 32 }

@@ -19,7 +19,7 @@ use Rattle.refute_log.specs.LineText.{IsTextOf, HasLineFault, IsLineFault}
 use Rattle.refute_log.specs.Told.{Lines}
 use Rattle.refute_log.proofs.LawLemmas.{line_once, line_no_fault}
 use Rattle.certified_values.specs.Expected.{same_criterion, bound_var, bound_vars, caps}
-use Rattle.log_check.specs.TextLines.{AreToldBounds, HasToldBounds, IsBoundText, bound_line}
+use Rattle.log_check.specs.TextLines.{AreToldBounds, HasToldBounds, IsBoundText, told_bound_line}
 use Rattle.log_check.specs.Counted.{count_of, IsCountOf, HasCounted}
 
 -- ---- one text
@@ -29,14 +29,14 @@ abbrev pub AreCounted : List ℕ → Option Criterion → Type 0
 AreCounted text found = (lines : Lines) × AreToldBounds (text ∷ []) lines × IsCountOf found lines
 
 -- the text of a line that is no Bound line is that of none
-pub no_other : (text : List ℕ) (line : LogLine) → bound_line line ≡ [] → IsTextOf text line → (other : LogLine) → IsBoundText text other → ⊥
+pub no_other : (text : List ℕ) (line : LogLine) → told_bound_line line ≡ [] → IsTextOf text line → (other : LogLine) → IsBoundText text other → ⊥
 no_other text line none is other h =
     let same : line ≡ other = line_once text line other is.spells h.1.spells in
-    let e : [] ≡ other ∷ [] = sym none ∙ ap bound_line same ∙ h.0 in
+    let e : [] ≡ other ∷ [] = sym none ∙ ap told_bound_line same ∙ h.0 in
     cc
 
 -- of the text of a line the Bound lines are those of the line
-pub told_by : (text : List ℕ) (line : LogLine) → IsTextOf text line → AreToldBounds (text ∷ []) (bound_line line)
+pub told_by : (text : List ℕ) (line : LogLine) → IsTextOf text line → AreToldBounds (text ∷ []) (told_bound_line line)
 told_by text (Formula c) is = inr (no_other text (Formula c) refl is, tt)
 told_by text (Learnt c) is = inr (no_other text (Learnt c) refl is, tt)
 told_by text (Bound c k x) is = inl (Bound c k x, [], refl, (refl, is), tt)
@@ -44,8 +44,8 @@ told_by text (Query c) is = inr (no_other text (Query c) refl is, tt)
 told_by text (Refuted c) is = inr (no_other text (Refuted c) refl is, tt)
 told_by text Model is = inr (no_other text Model refl is, tt)
 
-pub counted_line : (text : List ℕ) (line : LogLine) (found : Option Criterion) → IsTextOf text line → IsCountOf found (bound_line line) → AreCounted text found
-counted_line text line found is count = (bound_line line, told_by text line is, count)
+pub counted_line : (text : List ℕ) (line : LogLine) (found : Option Criterion) → IsTextOf text line → IsCountOf found (told_bound_line line) → AreCounted text found
+counted_line text line found is count = (told_bound_line line, told_by text line is, count)
 
 pub count_none : IsCountOf None []
 count_none = λ d. refl
@@ -100,7 +100,7 @@ counted_more greatest numbers new found lines more old count is c =
     omega arith
 
 -- the numbers of Bound lines are those of all lines
-pub bounds_alone : (c : Criterion) (lines : Lines) → bound_vars c (flat_map bound_line lines) ≡ bound_vars c lines
+pub bounds_alone : (c : Criterion) (lines : Lines) → bound_vars c (flat_map told_bound_line lines) ≡ bound_vars c lines
 bounds_alone c [] = refl
 bounds_alone c (Formula d ∷ lines) = bounds_alone c lines
 bounds_alone c (Learnt d ∷ lines) = bounds_alone c lines
@@ -109,7 +109,7 @@ bounds_alone c (Query d ∷ lines) = bounds_alone c lines
 bounds_alone c (Refuted d ∷ lines) = bounds_alone c lines
 bounds_alone c (Model ∷ lines) = bounds_alone c lines
 
-pub caps_alone : (greatest : Criterion → ℕ) (lines : Lines) (c : Criterion) → caps greatest (flat_map bound_line lines) c ≡ caps greatest lines c
+pub caps_alone : (greatest : Criterion → ℕ) (lines : Lines) (c : Criterion) → caps greatest (flat_map told_bound_line lines) c ≡ caps greatest lines c
 caps_alone greatest lines c = ap (λ (xs : List Var). min (length xs) (greatest c)) (bounds_alone c lines)
 
 -- ---- all texts

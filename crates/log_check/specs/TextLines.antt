@@ -16,17 +16,17 @@ pub record AreTextLines (text : List ℕ) (lines : List (List ℕ)) : Type 0 whe
   pub spelled : text ≡ flat_map (λ line. line ++ codes "\n") lines ++ rest
 
 -- the line, where it is a Bound line
-abbrev pub bound_line : LogLine → Lines
-bound_line (Formula c) = []
-bound_line (Learnt c) = []
-bound_line (Bound c k x) = Bound c k x ∷ []
-bound_line (Query c) = []
-bound_line (Refuted c) = []
-bound_line Model = []
+abbrev pub told_bound_line : LogLine → Lines
+told_bound_line (Formula c) = []
+told_bound_line (Learnt c) = []
+told_bound_line (Bound c k x) = Bound c k x ∷ []
+told_bound_line (Query c) = []
+told_bound_line (Refuted c) = []
+told_bound_line Model = []
 
 -- the text is that of this Bound line
 abbrev pub IsBoundText : List ℕ → LogLine → Type 0
-IsBoundText text line = (bound_line line ≡ line ∷ []) × IsTextOf text line
+IsBoundText text line = (told_bound_line line ≡ line ∷ []) × IsTextOf text line
 
 -- of these texts the Bound lines that they are, one after another; what is the text of no Bound line is left out
 abbrev pub AreToldBounds : List (List ℕ) → Lines → Type 0
@@ -36,7 +36,7 @@ AreToldBounds (text ∷ texts) lines =
     ((line : LogLine) × (more : Lines) × (lines ≡ line ∷ more) × IsBoundText text line × AreToldBounds texts more)
     ⊎ (((line : LogLine) → IsBoundText text line → ⊥) × AreToldBounds texts lines)
 
--- the Bound lines of the whole text that have no fault
+-- the Bound lines of the whole text that have no fault; its first line is taken for one like any other
 pub record HasToldBounds (bytes : List ℕ) (lines : Lines) : Type 0 where
   pub texts : List (List ℕ)
   pub cut : AreTextLines bytes texts

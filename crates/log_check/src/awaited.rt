@@ -1,9 +1,8 @@
 // The lines that are expected of a log and haven't come yet.
-ghost use Rattle.std.specs.Prelude.{◌≡◌, ◌≤◌, ◌<◌, ◌+◌, ◌↔◌, ◌∷◌, IsTrue, MatchOption, length};
-ghost use Rattle.cnf_core.specs.Clause.{Clauses};
+ghost use Rattle.std.specs.Prelude.{◌≡◌, ◌<◌, ◌+◌, ◌↔◌, ◌∷◌, IsTrue, MatchOption};
 ghost use Rattle.refute_log.specs.declared.line.LogLine.TheVariants.{Formula as FormulaLine, Bound as BoundLine};
 ghost use Rattle.refute_log.specs.Told.{Lines};
-ghost use Rattle.log_check.specs.Awaited.{lines_from, IsPart, AreParts, awaited_lines, IsAwaited, HasMore};
+ghost use Rattle.log_check.specs.Awaited.{lines_from, AreParts, awaited_lines, IsAwaited, HasMore};
 
 use cnf_core::{ClauseNo, Formula, Lit};
 use plan_core::Criterion;

@@ -4,7 +4,7 @@ ghost use Rattle.plan_core.specs.declared.criterion.Criterion.{Criterion as Meas
 ghost use Rattle.plan_core.specs.Values.{value_of, limit_of};
 ghost use Rattle.refute_log.specs.Told.{Lines};
 ghost use Rattle.certified_values.specs.Expected.{caps};
-ghost use Rattle.log_check.specs.TextLines.{AreToldBounds, HasToldBounds, bound_line};
+ghost use Rattle.log_check.specs.TextLines.{AreToldBounds, HasToldBounds, told_bound_line};
 ghost use Rattle.log_check.specs.Counted.{count_more, count_of, IsCountOf};
 
 use drawing_cnf::greatest;
@@ -64,7 +64,7 @@ fn counted(numbers: &Values, greatest: &Values, found: Option<Criterion>) -> Val
 
 /// The criterion of a Bound line.
 fn criterion_of(line: &LogLine) -> Option<Criterion>
-    ensures { IsCountOf result (bound_line line.now) }
+    ensures { IsCountOf result (told_bound_line line.now) }
 {
     match line {
         LogLine::Bound { criterion, .. } => Some(*criterion),
@@ -76,8 +76,8 @@ fn criterion_of(line: &LogLine) -> Option<Criterion>
     }
 }
 
-/// The criterion that the text is a Bound line of, if it is one without a fault. Any other line is told by its letter,
-/// and isn't read.
+/// The criterion that the text is a Bound line of, if it is one without a fault. A line that begins with another
+/// letter isn't read.
 fn bounded(alloc: Global, text: &[u8]) -> Result<Option<Criterion>, OutOfMemory>
     ensures { IfOk result (λ found. (lines : Lines) × AreToldBounds (text.now ∷ []) lines × IsCountOf found lines) }
 {

@@ -10,7 +10,7 @@ use Rattle.refute_log.specs.declared.line.LogLine.TheVariants.{Formula, Learnt, 
 use Rattle.refute_log.specs.Lines.{ended_text, log_line_text, log_text, MayAllBeTold}
 use Rattle.refute_log.specs.Told.{Lines}
 use Rattle.refute_log.proofs.FeedLemmas.{line_lacks, told_is_read}
-use Rattle.log_check.specs.TextLines.{IsBoundText, AreToldBounds, HasToldBounds, bound_line}
+use Rattle.log_check.specs.TextLines.{IsBoundText, AreToldBounds, HasToldBounds, told_bound_line}
 use Rattle.log_check.proofs.CountingLemmas.{no_other}
 
 abbrev title : List ℕ
@@ -33,10 +33,10 @@ first_byte (b ∷ bs) = b
 -- it is that of no Bound line
 title_none : (line : LogLine) → IsBoundText title line → ⊥
 title_none line is =
-    let e : bound_line line ≡ line ∷ [] = is.0 in
+    let e : told_bound_line line ≡ line ∷ [] = is.0 in
     no_bound line e is.1.spells.spelled
   where
-    no_bound : (l : LogLine) → bound_line l ≡ l ∷ [] → log_line_text l ≡ title → ⊥
+    no_bound : (l : LogLine) → told_bound_line l ≡ l ∷ [] → log_line_text l ≡ title → ⊥
     no_bound (Formula c) e same = cc
     no_bound (Learnt c) e same = cc
     no_bound (Bound criterion k x) e same = let f : 98 ≡ 114 = ap first_byte same in omega (arith, f)
@@ -54,16 +54,16 @@ spelled : (lines : Lines) → flat_map ended_text lines ≡ flat_map (λ (line :
 spelled [] = refl
 spelled (line ∷ lines) = ap (λ (text : List ℕ). ended_text line ++ text) (spelled lines)
 
-bounds : (lines : Lines) → MayAllBeTold lines → AreToldBounds (map log_line_text lines) (flat_map bound_line lines)
+bounds : (lines : Lines) → MayAllBeTold lines → AreToldBounds (map log_line_text lines) (flat_map told_bound_line lines)
 bounds [] told = tt
 bounds (Formula c ∷ lines) told = inr (no_other (log_line_text (Formula c)) (Formula c) refl (told_is_read (Formula c) told.0), bounds lines told.1)
 bounds (Learnt c ∷ lines) told = inr (no_other (log_line_text (Learnt c)) (Learnt c) refl (told_is_read (Learnt c) told.0), bounds lines told.1)
-bounds (Bound d k x ∷ lines) told = inl (Bound d k x, flat_map bound_line lines, refl, (refl, told_is_read (Bound d k x) told.0), bounds lines told.1)
+bounds (Bound d k x ∷ lines) told = inl (Bound d k x, flat_map told_bound_line lines, refl, (refl, told_is_read (Bound d k x) told.0), bounds lines told.1)
 bounds (Query c ∷ lines) told = inr (no_other (log_line_text (Query c)) (Query c) refl (told_is_read (Query c) told.0), bounds lines told.1)
 bounds (Refuted c ∷ lines) told = inr (no_other (log_line_text (Refuted c)) (Refuted c) refl (told_is_read (Refuted c) told.0), bounds lines told.1)
 bounds (Model ∷ lines) told = inr (no_other (log_line_text Model) Model refl (told_is_read Model told.0), bounds lines told.1)
 
-pub own_bounds : (lines : Lines) → MayAllBeTold lines → HasToldBounds (log_text lines) (flat_map bound_line lines)
+pub own_bounds : (lines : Lines) → MayAllBeTold lines → HasToldBounds (log_text lines) (flat_map told_bound_line lines)
 own_bounds lines told = record {
   texts = title ∷ map log_line_text lines;
   cut = record {

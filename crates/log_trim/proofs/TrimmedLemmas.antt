@@ -18,7 +18,7 @@ use Rattle.certified_check.proofs.JudgeLemmas.{nothing}
 use Rattle.drawing_problem.specs.Layout.{Layout}
 use Rattle.log_check.specs.declared.claim.Claim.{Claim}
 use Rattle.log_check.specs.declared.claim.Claim.TheVariants.{Least, NoDrawing, Nothing}
-use Rattle.log_check.specs.TextLines.{HasToldBounds, bound_line}
+use Rattle.log_check.specs.TextLines.{HasToldBounds, told_bound_line}
 use Rattle.log_check.specs.Expectation.{Expectation, expectation}
 use Rattle.log_check.specs.Accepted.{AreAccepted}
 use Rattle.log_check.specs.Claimed.{CertifiesClaim}
@@ -41,8 +41,8 @@ some_log y order claim log h = (h.lines, record { formed = h.whole.formed; spell
 one_log : (log : List ℕ) (a b : Lines) → IsSpelledLog log a → IsSpelledLog log b → a ≡ b
 one_log log a b h k = log_text_once a b (formed_lines a h.formed) (formed_lines b k.formed) (sym h.spelled ∙ k.spelled)
 
-bounds_of : (log : List ℕ) (lines : Lines) → IsSpelledLog log lines → HasToldBounds log (flat_map bound_line lines)
-bounds_of log lines h = subst (λ (text : List ℕ). HasToldBounds text (flat_map bound_line lines)) (sym h.spelled) (own_bounds lines h.formed)
+bounds_of : (log : List ℕ) (lines : Lines) → IsSpelledLog log lines → HasToldBounds log (flat_map told_bound_line lines)
+bounds_of log lines h = subst (λ (text : List ℕ). HasToldBounds text (flat_map told_bound_line lines)) (sym h.spelled) (own_bounds lines h.formed)
 
 -- what was counted of the text is what the lines have
 abbrev pub AreCounted : (Criterion → ℕ) → List ℕ → (Criterion → ℕ) → Type 0
@@ -50,7 +50,7 @@ AreCounted greatest log counted_of = (lines : Lines) × HasToldBounds log lines 
 
 pub caps_of : (greatest limit counted_of : Criterion → ℕ) (log : List ℕ) (lines : Lines) → IsSpelledLog log lines → ((c : Criterion) → greatest c ≡ limit c) → AreCounted greatest log counted_of → (c : Criterion) → counted_of c ≡ caps limit lines c
 caps_of greatest limit counted_of log lines is same (others, bounds, are) c =
-    let one : others ≡ flat_map bound_line lines = bounds_once log others (flat_map bound_line lines) bounds (bounds_of log lines is) in
+    let one : others ≡ flat_map told_bound_line lines = bounds_once log others (flat_map told_bound_line lines) bounds (bounds_of log lines is) in
     are c ∙ ap (λ (ls : Lines). caps greatest ls c) one ∙ caps_alone greatest lines c ∙ ap (λ n. min (length (bound_vars c lines)) n) (same c)
 
 -- ---- what is expected
@@ -62,10 +62,10 @@ may_be y order claim log greatest counted_of lines h is same counted =
     let limit = limit_of y.graph y.grid in
     let one : h.lines ≡ lines = one_log log h.lines lines (some_log y order claim log h).1 is in
     let others = h.is_expected.lines in
-    let these : others ≡ flat_map bound_line lines = bounds_once log others (flat_map bound_line lines) h.is_expected.bounds (bounds_of log lines is) in
+    let these : others ≡ flat_map told_bound_line lines = bounds_once log others (flat_map told_bound_line lines) h.is_expected.bounds (bounds_of log lines is) in
     let e : h.expected ≡ expectation y order counted_of =
     h.is_expected.expected_is ∙ ap (λ (ls : Lines). expectation y order (caps limit ls)) these
-    ∙ same_expectation y order (caps limit (flat_map bound_line lines)) counted_of (λ c. caps_alone limit lines c ∙ sym (caps_of greatest limit counted_of log lines is same counted c)) in
+    ∙ same_expectation y order (caps limit (flat_map told_bound_line lines)) counted_of (λ c. caps_alone limit lines c ∙ sym (caps_of greatest limit counted_of log lines is same counted c)) in
     let accepted : AreAccepted (expectation y order counted_of) lines =
     subst (λ (x : Expectation). AreAccepted x lines) e (subst (λ (ls : Lines). AreAccepted h.expected ls) one h.whole.accepted) in
     record { formed = is.formed; begins = accepted.front; derives = accepted.derives; within = accepted.within }

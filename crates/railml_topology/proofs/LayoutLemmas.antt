@@ -15,12 +15,16 @@ use Rattle.topology_faults.specs.Tables.{HasOnlyChildren, entry_in, AreTablesOf}
 use Rattle.topology_faults.proofs.Family.{of_kind, only_child}
 use Rattle.railml_topology.specs.declared.layout.Layout.{Layout}
 use Rattle.railml_topology.specs.Resolved.{AreInner, IsLayout, AreLayouts}
-use Rattle.railml_topology.specs.Plans.{HasOne}
 use Rattle.railml_topology.specs.Sound.{AreSoundRows}
 
 pub entry_child : (rows : List Elem) (kind : ElemKind) (table : List (Option ℕ)) (i k : ℕ) → HasOnlyChildren rows kind table → entry_in table i ≡ Some k → children rows i kind ≡ k ∷ []
 entry_child rows kind table i k h e =
     option_and_then_some (λ (x : Option ℕ). x) (slice_get table i) k e (λ x at is. only_some (children rows i kind) k (sym (h.entry i x at) ∙ is))
+
+-- row i has just one child of this kind
+pub record HasOne (rows : List Elem) (i : ℕ) (kind : ElemKind) : Type 0 where
+  pub number : ℕ
+  pub only : children rows i kind ≡ number ∷ []
 
 pub one_entry : (rows : List Elem) (kind : ElemKind) (table : List (Option ℕ)) (i : ℕ) → HasOnlyChildren rows kind table → i < length rows → HasOne rows i kind → (k : ℕ) × (entry_in table i ≡ Some k)
 one_entry rows kind table i h within one = (one.number, only_child_entry rows kind table i one.number h within one.only)

@@ -1,19 +1,13 @@
 -- What is known while a topology is built from its rows.
-use Rattle.std.specs.Prelude.{◌≡◌, ◌||◌, ℕ, Bool, List, [], ◌∷◌, Some, slice_get, ℤ, pos, neg_ℤ, ◌<ℤ◌}
+use Rattle.std.specs.Prelude.{◌≡◌, ◌||◌, ℕ, Bool, List, Some, slice_get, ℤ, pos, neg_ℤ, ◌<ℤ◌}
 use Rattle.railml_read.specs.declared.rows.Elem.{Elem}
-use Rattle.railml_read.specs.declared.rows.ElemKind.{ElemKind}
 use Rattle.railml_read.specs.declared.rows.ElemKind.TheVariants.{Switch, Crossing}
-use Rattle.topology_faults.specs.Rows.{is_of_kind, children, HasPosition}
+use Rattle.topology_faults.specs.Rows.{is_of_kind, HasPosition}
 use Rattle.railml_topology.specs.declared.order.Standing.{Standing}
 
 -- less than b from nought, either way
 abbrev pub IsOfSize : ℕ → ℤ → Type 0
 IsOfSize b z = (neg_ℤ (pos b) <ℤ z) × (z <ℤ pos b)
-
--- row i has just one child of this kind
-pub record HasOne (rows : List Elem) (i : ℕ) (kind : ElemKind) : Type 0 where
-  pub number : ℕ
-  pub only : children rows i kind ≡ number ∷ []
 
 -- a switch or a crossing
 abbrev pub is_inner : List Elem → ℕ → Bool

@@ -1,5 +1,5 @@
 // Switches and crossings in their order along a track.
-ghost use Rattle.std.specs.Prelude.{◌≡◌, ◌<◌, ◌^◌, true, ℕ, ℤ, List, map, filter, length, All, IfOk, Some, slice_get};
+ghost use Rattle.std.specs.Prelude.{◌≡◌, ◌<◌, ◌^◌, true, ℕ, ℤ, List, map, filter, length, All, IfOk, Some};
 ghost use Rattle.std.specs.Prelude.{Option};
 ghost use Rattle.topology_faults.specs.Rows.{ReadsMetres, HasPosition};
 ghost use Rattle.topology_faults.specs.Tables.{ListsChildren};

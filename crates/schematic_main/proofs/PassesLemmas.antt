@@ -24,7 +24,7 @@ use Rattle.lex_search.specs.declared.outcome.Outcome.TheVariants as outcomes
 use Rattle.lex_search.specs.Outcome.{IsOutcome, IsSearched}
 use Rattle.log_check.specs.declared.claim.Claim.{Claim}
 use Rattle.log_check.specs.declared.verdict.Verdict.TheVariants as verdicts
-use Rattle.log_check.specs.TextLines.{bound_line}
+use Rattle.log_check.specs.TextLines.{told_bound_line}
 use Rattle.log_check.specs.Expectation.{Expectation, expectation, PassesLimits}
 use Rattle.log_check.specs.Accepted.{AreAccepted}
 use Rattle.log_check.specs.Claimed.{CertifiesClaim, IsTrueClaim}
@@ -133,9 +133,9 @@ judged g o asked outcome lines ended =
     record {
       expected = expected_of g o asked lines;
       is_expected = record {
-        lines = flat_map bound_line lines;
+        lines = flat_map told_bound_line lines;
         bounds = own_bounds lines searched.formed;
-        expected_is = same_expectation (layout g o asked.grid) asked.order (caps (limit_of g asked.grid) lines) (caps (limit_of g asked.grid) (flat_map bound_line lines)) (λ c. sym (caps_alone (limit_of g asked.grid) lines c));
+        expected_is = same_expectation (layout g o asked.grid) asked.order (caps (limit_of g asked.grid) lines) (caps (limit_of g asked.grid) (flat_map told_bound_line lines)) (λ c. sym (caps_alone (limit_of g asked.grid) lines c));
       };
       is_verdict = record {
         lines = lines;

@@ -1,4 +1,4 @@
--- Ids: which row's number an id is kept with.
+-- Ids: which row's number an id is kept with, and ids that are listed to be told apart.
 use Rattle.std.specs.Prelude.{◌≡◌, ◌≢◌, ◌<◌, ℕ, if◌then◌else◌, List, [], ◌∷◌, ◌++◌, Option, Some, None, bytes_eq}
 use Rattle.std.specs.Prelude.{slice_get, AllPairs, Contains, ⊤}
 use Rattle.std.specs.Borrow.{Bor}
@@ -14,8 +14,9 @@ abbrev pub number_in : BTreeMap (Bor (List ℕ)) ℕ → List ℕ → Option ℕ
 number_in numbers id = get_by (λ k. slice_cmp nat_cmp id k.now) numbers
 
 -- one id has this number from now on, and each other the number that it had
-abbrev pub Numbers : BTreeMap (Bor (List ℕ)) ℕ → BTreeMap (Bor (List ℕ)) ℕ → List ℕ → ℕ → Type 0
-Numbers old new id number = (q : List ℕ) → number_in new q ≡ (if bytes_eq id q then Some number else number_in old q)
+abbrev pub KeepsNumber : BTreeMap (Bor (List ℕ)) ℕ → BTreeMap (Bor (List ℕ)) ℕ → List ℕ → ℕ → Type 0
+KeepsNumber old new id number = (q : List ℕ) → number_in new q
+    ≡ (if bytes_eq id q then Some number else number_in old q)
 
 -- a row's id, if it has one that counts
 abbrev pub own_id : Elem → Option (List ℕ)
@@ -32,7 +33,7 @@ reference_of row = if same_kind row.kind Connection then row.attrs.reference els
 -- a row's id, if it has one, has this number from now on
 abbrev pub AddsId : BTreeMap (Bor (List ℕ)) ℕ → BTreeMap (Bor (List ℕ)) ℕ → Option (List ℕ) → ℕ → Type 0
 AddsId old new None number = (q : List ℕ) → number_in new q ≡ number_in old q
-AddsId old new (Some id) number = Numbers old new id number
+AddsId old new (Some id) number = KeepsNumber old new id number
 
 -- there is an id, and it is kept; where there is one, it isn't
 abbrev pub IsKnownId : BTreeMap (Bor (List ℕ)) ℕ → Option (List ℕ) → Type 0

@@ -47,7 +47,7 @@ IsSecond row Number second = (attribute : Attribute) → HasNoNumber row attribu
 IsSecond row NotMutual second = (name : List ℕ) → row.attrs.reference ≡ Some name → second ≡ name
 IsSecond row what second = second ≡ []
 
--- what is told of row i with this fault
+-- what is told of the row that has the fault
 pub record IsToldOf (rows : List Elem) (found : Finding) (told : Told) : Type 0 where
   pub row : Elem
   pub is : slice_get rows found.row ≡ Some row

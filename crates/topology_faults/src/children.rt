@@ -1,5 +1,5 @@
 // The children of rows.
-ghost use Rattle.std.specs.Prelude.{◌≡◌, ◌≢◌, ◌<◌, ◌^◌, ℕ, [], ◌∷◌, ◌++◌, IfOk, OnOk, Some, slice_get, vec_len, filter};
+ghost use Rattle.std.specs.Prelude.{◌≡◌, ◌<◌, ℕ, [], IfOk, OnOk, Some, slice_get, vec_len, filter};
 ghost use Rattle.railml_read.specs.Formed.{AreFormed};
 ghost use Rattle.topology_faults.specs.Rows.{is_of_kind as of_kind};
 ghost use Rattle.topology_faults.specs.Tables.{only_of, only_pair_of, HasOnlyChildren, ListsChildren, AddsChild};

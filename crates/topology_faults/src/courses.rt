@@ -1,5 +1,5 @@
 // Courses and orientations of the connections of switches and crossings.
-ghost use Rattle.std.specs.Prelude.{IsTrue, ◌↔◌, ◌≡◌, ◌⊎◌};
+ghost use Rattle.std.specs.Prelude.{IsTrue, ◌↔◌};
 ghost use Rattle.topology_faults.specs.Faults.{IsHand, IsWay, IsCourseAt, HasBadSwitchCourse, HasBadCrossingCourse};
 ghost use Rattle.topology_faults.specs.Faults.{HasBadCourse, HasBadOrientation};
 ghost use Rattle.plan_core.specs.Searching.{FindsFirst};

@@ -1,5 +1,5 @@
 // Which fault rows have, by its number and then by its place.
-ghost use Rattle.std.specs.Prelude.{◌≡◌, IfOk};
+ghost use Rattle.std.specs.Prelude.{IfOk};
 ghost use Rattle.railml_read.specs.Formed.{AreFormed};
 ghost use Rattle.topology_faults.specs.Faults.{number_of};
 ghost use Rattle.plan_core.specs.Searching.{FindsFirst};

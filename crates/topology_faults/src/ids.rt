@@ -4,7 +4,7 @@ ghost use Rattle.std.specs.Option.{option_copied};
 ghost use Rattle.railml_read.specs.Formed.{AreFormed};
 ghost use Rattle.topology_faults.specs.Rows.{id_of as id_or_empty};
 ghost use Rattle.topology_faults.specs.Faults.{Repeats};
-ghost use Rattle.topology_faults.specs.Ids.{number_in, Numbers, AddsId, IsKnownId, IsNewId, own_id as id_of_row};
+ghost use Rattle.topology_faults.specs.Ids.{number_in, KeepsNumber, AddsId, IsKnownId, IsNewId, own_id as id_of_row};
 ghost use Rattle.topology_faults.specs.Ids.{connection_id as id_of_connection, reference_of as reference, KeepsIds};
 ghost use Rattle.plan_core.specs.Searching.{FindsFirst};
 
@@ -33,7 +33,7 @@ pub(crate) fn keep<'a>(
     number: u32,
 ) -> Result<Option<u32>, OutOfMemory>
     ensures had { IfOk result (λ had. had ≡ number_in numbers.old id.now) }
-    ensures kept { OnOk result (Numbers numbers.old numbers.new id.now number) }
+    ensures kept { OnOk result (KeepsNumber numbers.old numbers.new id.now number) }
 {
     Ok(numbers.insert(id, number)?)
 }

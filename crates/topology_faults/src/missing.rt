@@ -1,6 +1,6 @@
 // Required attributes that are missing.
-ghost use Rattle.std.specs.Prelude.{◌≡◌, slice_get, length, filter};
-ghost use Rattle.std.specs.Option.{option_copied, option_map, is_none};
+ghost use Rattle.std.specs.Prelude.{◌≡◌, slice_get, filter};
+ghost use Rattle.std.specs.Option.{is_none};
 ghost use Rattle.topology_faults.specs.Rows.{attribute_text, attribute_name, required_of, lacking};
 ghost use Rattle.topology_faults.specs.Faults.{Lacks};
 ghost use Rattle.plan_core.specs.Searching.{FindsFirst};

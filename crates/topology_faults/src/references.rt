@@ -1,9 +1,9 @@
 // What connections refer to.
-ghost use Rattle.std.specs.Prelude.{◌≡◌, ◌&&◌, IsTrue, ◌↔◌, Some, IfOk, length};
+ghost use Rattle.std.specs.Prelude.{◌≡◌, ◌&&◌, IsTrue, ◌↔◌, Some, IfOk};
 ghost use Rattle.std.specs.Option.{is_some, is_none, option_and_then};
 ghost use Rattle.railml_read.specs.Formed.{AreFormed};
 ghost use Rattle.topology_faults.specs.Rows.{id_of as id_or_empty};
-ghost use Rattle.topology_faults.specs.Ids.{number_in, reference_of as reference, connection_id, KeepsIds};
+ghost use Rattle.topology_faults.specs.Ids.{number_in, reference_of as reference};
 ghost use Rattle.topology_faults.specs.Faults.{RefersToNone, IsNotReferredBack, RefersToItself, AreIdsDistinct};
 ghost use Rattle.plan_core.specs.Searching.{FindsFirst};
 ghost use Rattle.topology_faults.specs.Tables.{HasTargets, IsNotAnswered};
@@ -37,7 +37,7 @@ pub(crate) fn targets(alloc: Global, rows: &[Elem]) -> Result<Vec<Option<u32>>, 
     Ok(table)
 }
 
-/// Whether a row refers to something, which is this connection or none.
+/// Whether a row refers to what is no connection's id. The target is the connection that it refers to, or none.
 fn is_unknown(row: &Elem, target: Option<u32>) -> bool
     ensures { result ≡ (is_some (reference row.now) && is_none target) }
 {

@@ -1,12 +1,10 @@
 // What a single row is.
-ghost use Rattle.std.specs.Prelude.{◌≡◌, IsTrue, ◌↔◌, slice_get};
-ghost use Rattle.std.specs.Option.{option_copied, option_map};
+ghost use Rattle.std.specs.Prelude.{◌≡◌};
+ghost use Rattle.std.specs.Option.{option_copied};
 ghost use Rattle.topology_faults.specs.Rows.{same_kind, is_of_kind as of_kind, parent_of as holder_of};
-ghost use Rattle.topology_faults.specs.Rows.{bears_id as has_id, bears_position as has_position, attribute_text};
-ghost use Rattle.topology_faults.specs.Rows.{attribute_name, is_word as has_word, required_of};
-ghost use Rattle.topology_faults.specs.Rows.{required as attributes_of, lacking};
+ghost use Rattle.topology_faults.specs.Rows.{bears_id as has_id, bears_position as has_position};
+ghost use Rattle.topology_faults.specs.Rows.{is_word as has_word};
 
-use crate::attributes::Attribute;
 use plan_core::Text;
 use railml_read::{Elem, ElemKind};
 
