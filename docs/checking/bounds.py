@@ -1,6 +1,4 @@
 """How long a clause and a line may be, so that a contract is read at one glance."""
-import re
-
 from checking.crates import TOP, read, show
 
 CLAUSE = 250
@@ -20,12 +18,10 @@ def long_clauses(contracts):
 
 
 def long_lines():
-    """Lines of src/ and specs/. What can't be broken is passed over: an attribute, which the formatter puts on one line, and texts in
-    quotes, which are a file's."""
     found = []
     for path in sorted([*(TOP / "crates").glob("*/src/**/*.rt"), *(TOP / "crates").glob("*/specs/**/*.antt")]):
         for number, line in enumerate(read(path).splitlines(), 1):
-            if len(re.sub(r'"(\\.|[^"\\])*"', '""', line)) > LINE and not re.match(r"\s*(#\[|<)", line):
+            if len(line) > LINE:
                 found.append(f"{show(path)}:{number}: a line of {len(line)} columns, above {LINE}")
     return found
 

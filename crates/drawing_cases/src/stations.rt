@@ -44,8 +44,10 @@ pub const BACK: &str = "<infrastructure><tracks>
 <trackBegin id=\"mb\" pos=\"0\" absPos=\"600\"><openEnd/></trackBegin>
 <trackEnd id=\"me\" pos=\"600\" absPos=\"0\"><openEnd/></trackEnd>
 <connections>
-<switch id=\"s1\" pos=\"100\" absPos=\"500\"><connection id=\"c1\" ref=\"d1\" course=\"right\" orientation=\"outgoing\"/></switch>
-<switch id=\"s2\" pos=\"500\" absPos=\"100\"><connection id=\"c2\" ref=\"d2\" course=\"left\" orientation=\"incoming\"/></switch>
+<switch id=\"s1\" pos=\"100\" absPos=\"500\">
+<connection id=\"c1\" ref=\"d1\" course=\"right\" orientation=\"outgoing\"/></switch>
+<switch id=\"s2\" pos=\"500\" absPos=\"100\">
+<connection id=\"c2\" ref=\"d2\" course=\"left\" orientation=\"incoming\"/></switch>
 </connections></trackTopology></track>
 <track id=\"l\"><trackTopology>
 <trackBegin id=\"lb\" pos=\"0\" absPos=\"500\"><connection id=\"d1\" ref=\"c1\"/></trackBegin>

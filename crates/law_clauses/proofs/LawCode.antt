@@ -9,8 +9,8 @@ use Rattle.cnf_core.specs.Clause.{Clauses, words_of}
 use Rattle.cnf_core.specs.Formula.{Cnf}
 use Rattle.cnf_core.specs.Added.{AddsBlock}
 use Rattle.cnf_core.proofs.ClauseLemmas.{words_append}
-use Rattle.cnf_core.proofs.StepLemmas.{one_less, grown}
-use Rattle.cnf_core.proofs.BlockLemmas.{block_refused, block_after}
+use Rattle.cnf_core.proofs.StepLemmas.{one_less, grown, adds_longer}
+use Rattle.cnf_core.proofs.BlockLemmas.{block_refused, block_after, block_of_clauses}
 use Rattle.law_clauses.specs.Stands.{DrawingVars}
 use Rattle.law_clauses.specs.LawClauses.{instance_size, instance_clauses, laws_size, laws_clauses}
 use Rattle.law_clauses.specs.Expected.{instances_from}
@@ -129,3 +129,6 @@ laws_after y r old mid new g x width xs ys longest a b =
     subst (λ (cs : Clauses). AddsBlock r old new (laws_size g (xs ++ ys)) cs longest) (sym (laws_append g x width (old.vars + 1) xs ys))
     (subst (λ n. AddsBlock r old new n (one ++ two) longest) (sym (size_append g xs ys))
     (block_after y r old mid new (laws_size g xs) (laws_size g ys) one two longest a (subst (λ n. AddsBlock r mid new (laws_size g ys) (laws_clauses g x width n ys) longest) place b)))
+
+-- the clauses of one instance as a step of a formula
+pub ruleset one_law_added = (one_law, block_of_clauses, adds_longer)

@@ -354,7 +354,7 @@ pub(crate) fn add_ports(
 }
 
 /// Law 4 for a node.
-#[tactic(auto, using(crate::proofs::LawCode::one_law, cnf_core::proofs::BlockLemmas::block_of_clauses, cnf_core::proofs::StepLemmas::adds_longer))]
+#[tactic(auto, using(crate::proofs::LawCode::one_law_added))]
 fn add_aligned_node(f: &mut Formula, g: &PortGraph, grid: &Grid, n: u16) -> Result<(), CnfFault>
     requires there { laws_first g.now grid.now ≤ f.old.vars + 1 }
     requires n { n < length g.now.nodes }

@@ -9,6 +9,7 @@ use Rattle.cnf_core.specs.Formula.{each}
 use Rattle.cnf_core.proofs.ClauseLemmas.{satisfies_left, satisfies_right, satisfies_each, all_there_each, words_each}
 use Rattle.cnf_core.proofs.GatherLemmas.{not_not}
 use Rattle.cnf_core.proofs.SettingLemmas.{patch, patch_same, patch_at, extends_weaker}
+use Rattle.cnf_core.proofs.StepLemmas.{added_one, adds_same, adds_fault}
 use Rattle.order_int.specs.IntVars.{IntVars, size, IsInt, IntIsThere}
 use Rattle.order_int.specs.OrderInt.{int_at_least, link, chain, int_clauses, leading, number, Reads}
 
@@ -181,3 +182,6 @@ one_setting_for_each v w i n a b x low high =
     let s = steps_from_reads v i n a (x - i.first) (omega arith) in
     let t = steps_from_reads w i n b (x - i.first) (omega arith) in
     sym (ap v z) ∙ s ∙ sym t ∙ ap w z
+
+-- one clause as a step of a formula
+pub ruleset one_clause_added = (added_one, adds_same, adds_fault)

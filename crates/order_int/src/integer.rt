@@ -142,7 +142,7 @@ fn add_links(f: &mut Formula, first: u32, n: u32) -> Result<(), CnfFault>
 }
 
 /// Makes the variable behind x true only where x is.
-#[tactic(auto, using(cnf_core::proofs::StepLemmas::added_one, cnf_core::proofs::StepLemmas::adds_same, cnf_core::proofs::StepLemmas::adds_fault))]
+#[tactic(auto, using(crate::proofs::IntLemmas::one_clause_added))]
 fn add_link(f: &mut Formula, x: u32) -> Result<(), CnfFault>
     requires limit { f.old.vars ≤ VARS }
     requires from { 1 ≤ x }

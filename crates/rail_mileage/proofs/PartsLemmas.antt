@@ -9,7 +9,7 @@ use Rattle.plan_core.specs.declared.numbers.Micro.{Micro}
 use Rattle.std.specs.Char.{is_ascii_digit}
 use Rattle.rail_mileage.specs.Metres.{Sign, unsigned, plus, minus, sign_text, fraction_text, fraction_digits, MetresParts, IsMetres, mileage_told}
 use Rattle.rail_mileage.specs.Reading.{sign_at, past_sign, fraction_at, past_fraction, past_start, past_whole, parts_of, are_metres, reading_of}
-use Rattle.railml_text.proofs.RunLemmas.{front-past, front_passes}
+use Rattle.railml_text.proofs.RunLemmas.{front-past, front_passes, take_front, past_no_longer}
 
 -- a run that passes stops here
 abbrev pub Stops : (ℕ → Bool) → List ℕ → Type 0
@@ -166,3 +166,6 @@ only text r e = rw e (elim (are_metres (parts_of text)) as (λ v. are_metres (pa
   | true ↦ λ h. (parts_of text, are_parts text h, refl)
   | false ↦ λ h. tt
 ] refl)
+
+-- the run at the front of a text, and what is past it
+pub ruleset front_and_past = (take_front, past_no_longer, front_passes)

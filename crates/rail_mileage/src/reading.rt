@@ -34,7 +34,7 @@ fn past_digits(text: &[u8]) -> &[u8]
 }
 
 /// The digits at the front, and what follows them.
-#[tactic(auto, using(railml_text::proofs::RunLemmas::take_front, railml_text::proofs::RunLemmas::past_no_longer, railml_text::proofs::RunLemmas::front_passes))]
+#[tactic(auto, using(crate::proofs::PartsLemmas::front_and_past))]
 fn split_digits(text: &[u8]) -> (&[u8], &[u8])
     ensures digits { result.0.now ≡ front digit text.now }
     ensures are_digits { AllOfClass digit result.0.now }

@@ -1,11 +1,12 @@
 // A log in memory.
-ghost use Rattle.std.specs.Prelude.{◌≡◌, ◌<◌, ◌≤◌, ◌^◌, [], length, slice_get, Some};
+ghost use Rattle.std.specs.Prelude.{◌≡◌, ◌<◌, ◌≤◌, ◌^◌, ◌++◌, [], ◌∷◌, length, slice_get, Some, OnOk, OnErr};
 ghost use Rattle.plan_core.specs.Searching.{FindsFirst};
 ghost use Rattle.refute_log.specs.Lines.{MayBeTold, MayAllBeTold};
 ghost use Rattle.refute_log.specs.Log.{IsRefutedWithin};
 
 use crate::{LogLine, LogSink, LogSinkFault};
 use cnf_core::Lit;
+use plan_core::OutOfMemory;
 use std::alloc::Global;
 use std::marker::Model;
 
@@ -38,6 +39,18 @@ impl LineList {
             lines: Vec::new(alloc),
             learnt: 0,
         }
+    }
+
+    /// Keeps the line behind the others.
+    pub fn push(&mut self, line: LogLine) -> Result<(), OutOfMemory>
+        requires { MayBeTold line }
+        ensures ok { OnOk result (self.new ≡ self.old ++ line ∷ []) }
+        ensures err { OnErr result (self.new ≡ self.old) }
+    {
+        let learnt = line.count_after(self.learnt);
+        self.lines.push(line)?;
+        self.learnt = learnt;
+        Ok(())
     }
 
     /// The number of lines.
@@ -91,9 +104,7 @@ impl LogSink for LineList {
 
     fn tell(&mut self, line: &LogLine) -> Result<(), LogSinkFault> {
         let line = line.copied(self.alloc)?;
-        let learnt = line.count_after(self.learnt);
-        self.lines.push(line)?;
-        self.learnt = learnt;
+        self.push(line)?;
         Ok(())
     }
 

@@ -21,8 +21,10 @@ pub const LOOP: &str = "<infrastructure id=\"i\"><tracks>
 <trackBegin id=\"mb\" pos=\"0\" absPos=\"0\"><openEnd id=\"mo\"/></trackBegin>
 <trackEnd id=\"me\" pos=\"600\" absPos=\"600\"><openEnd id=\"mp\"/></trackEnd>
 <connections>
-<switch id=\"s1\" pos=\"100\" absPos=\"100\"><connection id=\"c1\" ref=\"d1\" course=\"left\" orientation=\"outgoing\"/></switch>
-<switch id=\"s2\" pos=\"500\" absPos=\"500\"><connection id=\"c2\" ref=\"d2\" course=\"right\" orientation=\"incoming\"/></switch>
+<switch id=\"s1\" pos=\"100\" absPos=\"100\">
+<connection id=\"c1\" ref=\"d1\" course=\"left\" orientation=\"outgoing\"/></switch>
+<switch id=\"s2\" pos=\"500\" absPos=\"500\">
+<connection id=\"c2\" ref=\"d2\" course=\"right\" orientation=\"incoming\"/></switch>
 </connections></trackTopology></track>
 <track id=\"l\"><trackTopology>
 <trackBegin id=\"lb\" pos=\"0\" absPos=\"100\"><connection id=\"d1\" ref=\"c1\"/></trackBegin>

@@ -173,3 +173,6 @@ pub filling_whole : (g : Graph) (way : Compass) (start : ℕ) (order : List ℕ)
     IsFilling g way start (take k order) edges nodes → IsReachRow g way start edges
 filling_whole g way start order k edges nodes walk past filling =
     filling_ends g way start order edges nodes walk (subst (λ (done : List ℕ). IsFilling g way start done edges nodes) (take_all k order past) filling)
+
+-- one more edge, whether it is marked or not
+pub ruleset filling_one_more = (filling_goes_on, filling_passes_over)

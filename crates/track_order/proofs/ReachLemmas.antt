@@ -23,3 +23,6 @@ kept_along g way e f held (next ∷ rest) onward here w = kept_along g way next 
 
 pub is_kept : (g : Graph) (way : Compass) (e : ℕ) (held : ℕ → Bool) → IsOnward g way (λ h. held h ≡ true) → held e ≡ true → (f : ℕ) → Reaches g way e f → held f ≡ true
 is_kept g way e held onward here f r = kept_along g way e f held r.edges onward here r.walk
+
+-- the least set that is kept from an edge on
+pub ruleset reaching = (reaches_self, reaches_on, is_kept)

@@ -75,3 +75,6 @@ none_in_row rows count e so_far = record {
 
 pub none_at_all : (rows : List (List Bool)) (count : ℕ) → HasNoneBefore rows count count 0 → (e f : ℕ) → e < f → f < count → IsBothWays rows e f → ⊥
 none_at_all rows count all e f rising there both = all.none e f rising there (inl (omega arith)) both
+
+-- what a walk over the pairs keeps
+pub ruleset none_so_far = (none_up_to, none_on, none_in_row)

@@ -8,7 +8,7 @@ ghost use Rattle.track_order.specs.Above.{Above};
 
 /// What is reached from an edge is the least set that holds it and, with each of its edges, every
 /// edge that follows it.
-#[tactic(auto, using(crate::proofs::ReachLemmas::reaches_self, crate::proofs::ReachLemmas::reaches_on, crate::proofs::ReachLemmas::is_kept))]
+#[tactic(auto, using(crate::proofs::ReachLemmas::reaching))]
 pub fn reach_is_the_least_onward_set()
     ensures start { (g : Graph) (way : Compass) (e : ℕ) → Reaches g way e e }
     ensures onward { (g : Graph) (way : Compass) (e : ℕ) → IsOnward g way (Reaches g way e) }

@@ -38,7 +38,7 @@ impl Filling {
     }
 
     /// Goes over one more edge, which is marked where it begins at a marked node.
-    #[tactic(auto, using(crate::proofs::FillingLemmas::filling_goes_on, crate::proofs::FillingLemmas::filling_passes_over))]
+    #[tactic(auto, using(crate::proofs::FillingLemmas::filling_one_more))]
     fn go_over(&mut self, g: &PortGraph, way: Compass, e: u16)
         requires edge { e < length g.now.edges }
         requires edges { length self.old.edges.items ≡ length g.now.edges }

@@ -109,7 +109,7 @@ pub(crate) fn above_table(
 }
 
 /// The least `f` behind `e` that the table marks with it both ways.
-#[tactic(auto, using(crate::proofs::TableLemmas::none_up_to, crate::proofs::TableLemmas::none_on, crate::proofs::TableLemmas::none_in_row))]
+#[tactic(auto, using(crate::proofs::TableLemmas::none_so_far))]
 fn first_with(rows: &Items<Row>, count: u16, e: u16) -> Option<u16>
     requires table { IsTable count rows.now }
     requires there { e < count }
