@@ -1,13 +1,17 @@
 -- What the bytes of three files give to trim.
 use Rattle.std.proofs.Common.{◌≡◌, ◌≢◌, ℕ, false, List, sym, ◌∙◌, subst, inl, inr}
+use Rattle.std.specs.Prelude.{Option, IfSome, MatchOption}
 use Rattle.outside_io.specs.Contents.{FilesAt, WhereTold, SameFiles}
 use Rattle.plan_core.specs.Graph.{Graph}
-use Rattle.track_order.specs.Order.{EdgeOrder}
+use Rattle.plan_core.specs.Lawful.{Lawful}
+use Rattle.track_order.specs.Order.{EdgeOrder, is_above}
 use Rattle.plan_text.specs.SheetText.{Sheet}
 use Rattle.plan_text.specs.SheetFaults.{IsSheetText}
 use Rattle.drawing_problem.specs.Layout.{layout}
+use Rattle.log_check.specs.declared.claim.Claim.{Claim}
 use Rattle.log_check.specs.Judged.{CertifiesWhole}
 use Rattle.log_trim.specs.declared.trimming.TrimmedLog.{TrimmedLog}
+use Rattle.log_trim.specs.TrimmedLog.{IsTrimmedLog}
 use Rattle.input_answer.specs.declared.fault.RunFault.{RunFault}
 use Rattle.input_answer.specs.declared.status.Status.{Status}
 use Rattle.input_answer.specs.declared.status.Status.TheVariants.{Done, Refused}
@@ -19,7 +23,7 @@ use Rattle.input_answer.proofs.InputLemmas.{file_fault_status}
 use Rattle.sheet_answer.specs.CheckLine.{claim_of}
 use Rattle.sheet_answer.specs.Checked.{IsSheetAnswer}
 use Rattle.sheet_answer.specs.CertifiedSheet.{CertifiesSheet}
-use Rattle.sheet_answer.proofs.CheckedLemmas.{certified_answer, certified_whole}
+use Rattle.sheet_answer.proofs.CheckedLemmas.{certified_whole}
 use Rattle.hint_answer.specs.declared.trimming.Finding.{Finding}
 use Rattle.hint_answer.specs.declared.trimming.Finding.TheVariants.{Answered, Left}
 use Rattle.hint_answer.specs.Files.{AreFiles}
@@ -28,13 +32,34 @@ use Rattle.hint_answer.proofs.FilesLemmas.{read_files}
 use Rattle.hint_answer.proofs.WrittenLemmas.{tells_later}
 use Rattle.hint_answer.specs.Finding.{IsClaimFinding, IsSheetFinding, IsFinding}
 
--- where check ends with 0 the log certifies the claim
-pub whole_of : (g : Graph) (o : EdgeOrder) (said : Sheet) (log text : List ℕ) (status : Status) → status ≡ Done → IsSheetAnswer g o said log status text →
-    CertifiesWhole (layout g o said.grid) said.order (claim_of said.order said.found said.ending) log
-whole_of g o said log text status is answer = certified_whole g o said log text (subst (λ (s : Status). IsSheetAnswer g o said log s text) is answer)
+-- ---- the sheet and the log
 
-pub certifies_of : (g : Graph) (o : EdgeOrder) (said : Sheet) (log text : List ℕ) (status : Status) → status ≡ Done → IsSheetAnswer g o said log status text → (sheet : List ℕ) → IsSheetText g false sheet said → CertifiesSheet g o sheet log said
-certifies_of g o said log text status is answer sheet told = (certified_answer g o sheet log text said told (subst (λ (s : Status). IsSheetAnswer g o said log s text) is answer)).0
+-- what is left of a log where it certifies a claim on the drawings of a sheet's grid and order
+abbrev pub IsTrimmedFor : Graph → EdgeOrder → Sheet → Claim → List ℕ → Option TrimmedLog → Type 0
+IsTrimmedFor g o said claim log r =
+    MatchOption r (CertifiesWhole (layout g o said.grid) said.order claim log → ⊥) (λ left. CertifiesWhole (layout g o said.grid) said.order claim log × IsTrimmedLog (layout g o said.grid) said.order claim log left)
+
+pub trimmed_for : (g : Graph) (o : EdgeOrder) (said inside : Sheet) (claim : Claim) (log : List ℕ) (r : Option TrimmedLog) → inside ≡ said → claim ≡ claim_of said.order said.found said.ending → IsTrimmedFor g o inside claim log r →
+    IsTrimmedFor g o said (claim_of said.order said.found said.ending) log r
+trimmed_for g o said inside claim log r same is h = subst (λ (k : Claim). IsTrimmedFor g o said k log r) is (subst (λ (s : Sheet). IsTrimmedFor g o s claim log r) same h)
+
+-- check ends with another status than 0 where the log doesn't certify the claim
+pub lacking_not_done : (g : Graph) (o : EdgeOrder) (said : Sheet) (log : List ℕ) (status : Status) (text : List ℕ) → (CertifiesWhole (layout g o said.grid) said.order (claim_of said.order said.found said.ending) log → ⊥) →
+    IsSheetAnswer g o said log status text → status ≢ Done
+lacking_not_done g o said log status text lacks answer is = lacks (certified_whole g o said log text (subst (λ (s : Status). IsSheetAnswer g o said log s text) is answer))
+
+-- where the drawing is lawful, if there is one, and the log certifies the claim, it certifies what the sheet claims
+pub certifies_of : (g : Graph) (o : EdgeOrder) (said : Sheet) (log : List ℕ) → IfSome said.found (Lawful g (is_above o) said.grid) → CertifiesWhole (layout g o said.grid) said.order (claim_of said.order said.found said.ending) log →
+    (sheet : List ℕ) → IsSheetText g false sheet said → CertifiesSheet g o sheet log said
+certifies_of g o said log lawful whole sheet told = record {
+  is_text = told;
+  lawful = lawful;
+  expected = whole.expected;
+  is_expected = whole.is_expected;
+  lines = whole.lines;
+  whole = whole.whole;
+  certified = whole.certified;
+}
 
 -- ---- the sheet that was read, and the file
 

@@ -19,7 +19,7 @@ use log_trim::{TrimmedLog, trim_log};
 use outside_io::{FileFault, Files, write_file};
 use plan_core::{MAX_LOG_BYTES, OutOfMemory, Text};
 use plan_text::{Sheet, SheetFault, read_sheet};
-use sheet_answer::{check_claim, claim_of};
+use sheet_answer::{broken_sheet, check_claim, claim_of};
 use std::alloc::Global;
 
 /// What the three files give: an answer, or what is left of the log.
@@ -32,6 +32,27 @@ pub(crate) enum Finding {
 }
 
 // ---- what is left
+
+/// What a sheet and the bytes of a log give that had no room in memory: `check` goes line by line, and may have the
+/// memory to refuse it.
+fn refused_claim(
+    alloc: Global,
+    station: &Station,
+    sheet: &Sheet,
+    log: &[u8],
+) -> Result<Finding, OutOfMemory>
+    requires order { IsOrderOf station.now.graph station.now.order }
+    requires drawn { DrawsAll station.now.graph sheet.now }
+    requires claim { IsClaimOf sheet.now.order (claim_in sheet.now.order sheet.now.found sheet.now.ending) }
+    requires short { length log.now ≤ MAX_LOG_BYTES }
+    ensures { IfOk result (IsClaimFinding station.now.graph station.now.order sheet.now log.now) }
+{
+    let checked = check_claim(alloc, station, sheet, log)?;
+    match checked.status {
+        Status::Done => Err(OutOfMemory),
+        _ => Ok(Finding::Answered(checked)),
+    }
+}
 
 /// What a sheet and the bytes of a log give.
 fn judge_claim(
@@ -46,22 +67,26 @@ fn judge_claim(
     requires short { length log.now ≤ MAX_LOG_BYTES }
     ensures { IfOk result (IsClaimFinding station.now.graph station.now.order sheet.now log.now) }
 {
-    let reply = check_claim(alloc, station, sheet, log)?;
-    match reply.status {
-        Status::Done => {
-            let claim = claim_of(sheet);
-            let left = trim_log(
-                alloc,
-                &station.graph,
-                &station.order,
-                &sheet.grid,
-                &sheet.order,
-                &claim,
-                log,
-            )?;
-            Ok(Finding::Left(left))
+    if let Some(reply) = broken_sheet(alloc, station, sheet)? {
+        return Ok(Finding::Answered(reply));
+    }
+    let claim = claim_of(sheet);
+    let left = trim_log(
+        alloc,
+        &station.graph,
+        &station.order,
+        &sheet.grid,
+        &sheet.order,
+        &claim,
+        log,
+    );
+    match left {
+        Ok(Some(left)) => Ok(Finding::Left(left)),
+        Ok(None) => {
+            let reply = check_claim(alloc, station, sheet, log)?;
+            Ok(Finding::Answered(reply))
         }
-        _ => Ok(Finding::Answered(reply)),
+        Err(OutOfMemory) => refused_claim(alloc, station, sheet, log),
     }
 }
 

@@ -1,15 +1,15 @@
 -- What is assumed on a trail, and what is left of it.
-use Rattle.std.proofs.Common.{◌≡◌, ℕ, ◌+◌, ◌-◌, ◌<◌, ◌≤◌, ◌⊎◌, Bool, true, false, None, Some, List, [], ◌∷◌, ◌++◌, suc, length, take, drop, min, get_or, set, map, refl, sym, ◌∙◌, ap, subst, inl, inr, arith, length-take-le, length-append, length-set}
+use Rattle.std.proofs.Common.{◌≡◌, ℕ, ◌+◌, ◌-◌, ◌<◌, ◌≤◌, ◌⊎◌, Bool, true, false, None, Some, List, [], ◌∷◌, ◌++◌, suc, zero, length, take, drop, min, get_or, set, map, refl, sym, ◌∙◌, ap, subst, inl, inr, arith, length-take-le, length-append, length-set}
 use Rattle.std.specs.Prelude.{All, Contains, Option, is_some}
 use Rattle.std.proofs.lemmas.Bool.{cases_lt, both_ways, false_from_ne_true}
-use Rattle.std.proofs.lemmas.List.{get_or-take, get_or_past, get_or_push, get_or-set_same, take_all, take_at, take-take}
+use Rattle.std.proofs.lemmas.List.{get_or-take, get_or_past, get_or_push, get_or-set_same, take_all, take_at, take-take, take-append-drop}
 use Rattle.std.proofs.lemmas.List.Elements.{All-contains, Contains-get_or, Contains-append_cases, Contains-append_left, Contains-append_right}
 use Rattle.plan_core.proofs.Listing.{Contains-map}
 use Rattle.cnf_core.specs.Lit.{Literal, negate, has, positive_of}
 use Rattle.cnf_core.specs.Clause.{AreDistinct, AreThere}
 use Rattle.cnf_core.specs.Propagation.{IsIn, Includes}
 use Rattle.cnf_core.proofs.PropagationLemmas.{contains_from_has, has_from_contains, contains_later, negate-negate, unit_same}
-use Rattle.cnf_core.proofs.TrailLemmas.{has_front, there_get}
+use Rattle.cnf_core.proofs.TrailLemmas.{has_front, has_last, there_get}
 use Rattle.watch_arena.specs.Trail.{Marks, IsUnset, IsValue, IsLonger, undone, opened, with_lit}
 use Rattle.watch_arena.specs.Walk.{IsReasonFor, KeepsReasons}
 use Rattle.watch_arena.specs.Arena.{Attached, AreWatched, AreBecause, IsMoreText, IsSameText, MayBeWatched, attached_at}
@@ -335,3 +335,69 @@ further_unset vars lits there = λ i d lt.
     let low = (there_get vars lits i d lt there).1 in
     let lacks : (x : Literal) → x.var ≤ vars → has (assumed vars []) x ≡ false = λ x le. false_from_ne_true (has (assumed vars []) x) (λ h. let none : false ≡ true = assumed_low vars [] x h le in cc) in
     (lacks l low, lacks (negate l) low)
+
+-- the first literal of a clause is assumed to be false too
+split_first : (vars : ℕ) (first : Literal) (others : List Literal) (k : Literal) → IsIn (has (map negate (first ∷ others))) k → (k ≡ negate first) ⊎ IsIn (has (map negate others)) k
+split_first vars first others k h = elim (has_behind (negate first ∷ []) (map negate others) k h) [
+  | inl one ↦
+      let at = contains_from_has (negate first ∷ []) k one in
+      inl (only_one (negate first) k at.0 at.1 at.2)
+  | inr more ↦ inr more
+]
+  where
+    only_one : (x y : Literal) (j : ℕ) → j < 1 → get_or (x ∷ []) j y ≡ y → y ≡ x
+    only_one x y zero lt is = sym is
+    only_one x y (suc j) lt is = absurd (omega (arith, lt))
+
+one_wider : (vars : ℕ) (first : Literal) (others : List Literal) → Includes (has (assumed vars (first ∷ others))) (has (assumed vars others))
+one_wider vars first others k h = elim (has_behind (assumed vars []) (map negate others) k h) [
+  | inl further ↦ has_left (assumed vars []) (map negate (first ∷ others)) k further
+  | inr later ↦ has_right (assumed vars []) (map negate (first ∷ others)) k (has_right (negate first ∷ []) (map negate others) k later)
+]
+
+in_whole : (lits : List Literal) (n : ℕ) (k : Literal) → IsIn (has (take n lits)) k → IsIn (has lits) k
+in_whole lits n k h = subst (λ (ls : List Literal). IsIn (has ls) k) (take-append-drop n lits) (has_left (take n lits) (drop n lits) k h)
+
+pub assuming_first : (a : Attached) (vars : ℕ) (first : Literal) (others : List Literal) (m n : Marks) → IsDenying a vars others m → IsUnset m.lits first → n ≡ with_lit m (negate first) 0 → AreWatched a n → IsDenying a vars (first ∷ others) n
+assuming_first a vars first others m n h unset e watched =
+    let l = negate first in
+    let lits : n.lits ≡ m.lits ++ l ∷ [] = ap (λ (x : Marks). x.lits) e in
+    let cuts : n.cuts ≡ m.cuts = ap (λ (x : Marks). x.cuts) e in
+    let front : n.front ≡ m.front = ap (λ (x : Marks). x.front) e in
+    let size : length n.lits ≡ length m.lits + 1 = ap (λ (ls : List Literal). length ls) lits ∙ length-append m.lits (l ∷ []) in
+    let taken : take (length m.lits) n.lits ≡ m.lits = ap (take (length m.lits)) lits ∙ take_at m.lits (l ∷ []) (length m.lits) refl in
+    let last : IsIn (has n.lits) l = subst (λ (ls : List Literal). IsIn (has ls) l) (sym lits) (has_last m.lits l) in
+    let given = assumed vars (first ∷ others) in
+    let mine : IsIn (has given) l = has_right (assumed vars []) (map negate (first ∷ others)) l (has_left (l ∷ []) (map negate others) l (has_from_contains (l ∷ []) l (0, omega arith, refl))) in
+    record {
+      all_vars = ap (λ (x : Marks). x.vars) e ∙ h.all_vars;
+      watched = watched;
+      whole = λ k i. elim (has_behind (assumed vars []) (map negate (first ∷ others)) k i) [
+        | inl further ↦ subst (λ (ls : List Literal). IsIn (has ls) k) (sym lits) (has_left m.lits (l ∷ []) k (h.whole k (has_left (assumed vars []) (map negate others) k further)))
+        | inr later ↦ elim (split_first vars first others k later) [
+          | inl is ↦ subst (λ (x : Literal). IsIn (has n.lits) x) (sym is) last
+          | inr more ↦ subst (λ (ls : List Literal). IsIn (has ls) k) (sym lits) (has_left m.lits (l ∷ []) k (h.whole k (has_right (assumed vars []) (map negate others) k more)))
+        ]
+      ];
+      reasons = reasons_with a m n l given (unset_turned m.lits first l unset refl) lits (ap (λ (x : Marks). x.reasons) e) mine (reasons_wider a m (assumed vars others) given (one_wider vars first others) h.reasons);
+      levels = elim h.levels [
+        | inl one ↦ inl (cuts ∙ one)
+        | inr two ↦
+            let within = two.within in
+            let low = two.front in
+            let same : take two.start n.lits ≡ take two.start m.lits = sym (take-take two.start (length m.lits) n.lits within) ∙ ap (take two.start) taken in
+            inr (record {
+              start = two.start;
+              cuts = cuts ∙ two.cuts;
+              within = omega (arith, within, size);
+              front = omega (arith, low, front);
+              further = λ k i. subst (λ (ls : List Literal). IsIn (has ls) k) (sym same) (two.further k i);
+              apart = λ k i j.
+                  let here : IsIn (has (take two.start m.lits)) k = subst (λ (ls : List Literal). IsIn (has ls) k) same i in
+                  elim (split_first vars first others k j) [
+                    | inl is ↦ both_ways (has m.lits l) unset.1 (subst (λ (x : Literal). IsIn (has m.lits) x) is (in_whole m.lits two.start k here))
+                    | inr more ↦ two.apart k here more
+                  ];
+            })
+      ];
+    }

@@ -1,8 +1,9 @@
 -- Lines that stay, with their clauses' new numbers.
-use Rattle.std.proofs.Common.{◌≡◌, ℕ, ◌+◌, ◌<◌, ◌≤◌, ◌⊎◌, Bool, true, false, cond, suc, Some, List, [], ◌∷◌, ◌++◌, length, refl, sym, ◌∙◌, ap, subst, inl, inr, arith, length-append, append-nil, append_assoc}
-use Rattle.std.specs.Prelude.{All, Contains, slice_get, flat_map}
+use Rattle.std.proofs.Common.{◌≡◌, ℕ, ◌+◌, ◌≤◌, ◌⊎◌, Bool, true, false, cond, suc, Some, List, [], ◌∷◌, ◌++◌, length, refl, sym, ◌∙◌, ap, subst, inl, inr, arith, length-append, append-nil, append_assoc}
+use Rattle.std.specs.Prelude.{Contains, slice_get, flat_map}
 use Rattle.std.proofs.lemmas.Bool.{both_ways, cases_Bool}
 use Rattle.std.proofs.lemmas.List.{get_or_append_left, get_or_push}
+use Rattle.std.proofs.lemmas.Option.{slice_get_within}
 use Rattle.std.proofs.lemmas.List.Elements.{All-nil, All-cons, All-contains, Contains-append_cases, Contains-append_right}
 use Rattle.plan_core.proofs.Listing.{Contains-map}
 use Rattle.cnf_core.specs.Lit.{Literal}
@@ -15,7 +16,8 @@ use Rattle.hint_log.specs.declared.hint_line.HintLine.{HintLine}
 use Rattle.hint_log.specs.declared.hint_line.HintLine.TheVariants.{Learnt, Refuted}
 use Rattle.hint_log.specs.Hint.{hints_of}
 use Rattle.hint_log.specs.Checked.{clauses_learnt}
-use Rattle.hint_log.specs.Trimmed.{HintLines, StandAt, AreGood, IsNamedLater, AreUsed, IsTrimmed, IsHinted, AreRefutedLines}
+use Rattle.hint_log.specs.Trimmed.{HintLines, StandAt, AreGood, IsNamedLater, AreUsed, IsTrimmed, AreRefutedLines}
+use Rattle.hint_log.specs.Hinting.{IsHinted, nameable}
 use Rattle.hint_log.specs.Shortened.{is_used, NamesLater, MarksUsed, learnt_among, new_number_in, renumbered, shortened, AreShortened}
 use Rattle.hint_log.proofs.UsedLemmas.{count_is}
 use Rattle.hint_log.proofs.HintedLemmas.{same_line}
@@ -191,28 +193,23 @@ stays_at lines wanted used numbers last low high [] (line ∷ rest) refuted h = 
 stays_at lines wanted used numbers last low high (p ∷ places) [] refuted h = absurd h
 
 -- the whole
-stand_below : (lines : Lines) (wanted : List ℕ) (low high top : ℕ) (places : List ℕ) (list : HintLines) → high ≤ top → StandAt lines wanted low high places list → StandAt lines wanted low top places list
-stand_below lines wanted low high top [] [] le h = omega (arith, le, h)
-stand_below lines wanted low high top (p ∷ places) (line ∷ rest) le h = (h.0, h.1, stand_below lines wanted (p + 1) high top places rest le h.2)
-stand_below lines wanted low high top [] (line ∷ rest) le h = absurd h
-stand_below lines wanted low high top (p ∷ places) [] le h = absurd h
-
--- lines are hinted up to a place behind all that are wanted
-pub trimmed : (lines : Lines) (wanted : List ℕ) (i : ℕ) (clauses : Clauses) (count : ℕ) (list kept : HintLines) → AreRefutedLines lines wanted → i ≤ length lines → All (λ p. p < i) wanted → count ≡ length (flat_map given lines) → IsHinted lines wanted i clauses list → AreShortened count list kept → IsTrimmed lines wanted kept
-trimmed lines wanted i clauses count list kept refuted within behind e h s =
+pub trimmed : (lines : Lines) (wanted : List ℕ) (count : ℕ) (list kept : HintLines) → AreRefutedLines lines wanted → count ≡ length (flat_map given lines) → IsHinted lines wanted (length lines) list → AreShortened count list kept → IsTrimmed lines wanted kept
+trimmed lines wanted count list kept refuted e h s =
     let first = flat_map given lines in
-    let at = stays_at lines wanted s.used s.numbers count 0 i h.places list refuted h.stand in
+    let at = stays_at lines wanted s.used s.numbers count 0 (length lines) h.places list refuted h.stand in
     let same : IsRenumbering s.used first first (new_number_in s.numbers) = renumbering_none s.used first s.numbers (λ m le. s.same m (omega (arith, le, e))) in
     subst (λ (ls : HintLines). IsTrimmed lines wanted ls) (sym s.is) (record {
       places = at.places;
-      stand = stand_below lines wanted 0 i (length lines) at.places (shortened s.used s.numbers count list) within at.stand;
-      all = λ p asked. at.all p asked (h.all p asked (All-contains (λ q. q < i) wanted p behind asked));
+      stand = at.stand;
+      all = λ p asked.
+          let r = refuted p asked in
+          at.all p asked (h.all p asked (slice_get_within lines p (RefutedLine r.0) r.1));
       used = subst (λ n. AreUsed n (shortened s.used s.numbers count list)) e (stays_used s.used s.numbers count count list s.size s.marked);
       good = stays_good s.used s.numbers count count first first list e e s.size same s.marked h.good;
     })
 
-pub hinted_count : (lines : Lines) (wanted : List ℕ) (i : ℕ) (clauses : Clauses) (list : HintLines) → IsHinted lines wanted i clauses list → length clauses ≡ length (flat_map given lines) + learnt_among list
-hinted_count lines wanted i clauses list h =
-    ap (λ (cs : Clauses). length cs) (h.clauses_are ∙ ap (λ (cs : Clauses). flat_map given lines ++ cs) (sym h.learnt_are))
+pub hinted_count : (lines : Lines) (wanted : List ℕ) (i : ℕ) (list : HintLines) → IsHinted lines wanted i list → length (nameable lines i) ≡ length (flat_map given lines) + learnt_among list
+hinted_count lines wanted i list h =
+    ap (λ (cs : Clauses). length (flat_map given lines ++ cs)) (sym h.learnt_are)
     ∙ length-append (flat_map given lines) (flat_map clauses_learnt list)
     ∙ ap (λ n. length (flat_map given lines) + n) (count_is list)

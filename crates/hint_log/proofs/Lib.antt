@@ -12,3 +12,4 @@ pub mod HintedLemmas
 pub mod ShortenLemmas
 pub mod UsedLemmas
 pub mod KeptLemmas
+pub mod HintingLemmas

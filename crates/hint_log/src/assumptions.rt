@@ -1,7 +1,7 @@
 // What is assumed while hints are found, on the trail.
 ghost use Rattle.std.specs.Prelude.{◌≡◌, ◌≤◌, ◌+◌, ◌++◌, ◌∷◌, [], ℕ, All, List, length, map, true};
 ghost use Rattle.cnf_core.specs.Lit.{Literal, negate, has};
-ghost use Rattle.cnf_core.specs.Clause.{AreThere, AreDistinct};
+ghost use Rattle.cnf_core.specs.Clause.{IsThere, AreThere, AreDistinct};
 ghost use Rattle.cnf_core.specs.Propagation.{Includes};
 ghost use Rattle.watch_arena.specs.Trail.{IsUnset};
 ghost use Rattle.watch_arena.specs.Arena.{Attached, AreWatched, IsSameText, MayBeWatched};
@@ -94,6 +94,16 @@ pub(crate) fn assume(trail: &mut Trail, lits: &[Lit], vars: u32)
         open(trail, vars);
         deny(trail, lits);
     }
+}
+
+/// Assumes besides that a literal is false, which is unset.
+pub(crate) fn assume_first(trail: &mut Trail, first: Lit)
+    requires there { IsThere trail.old.vars first }
+    requires unset { IsUnset trail.old.lits first }
+    ensures { (a : Attached) (vars : ℕ) (others : List Literal) → IsDenying a vars others trail.old →
+        IsDenying a vars (first ∷ others) trail.new }
+{
+    trail.set(first.negated(), None);
 }
 
 /// Takes back what was assumed of a clause.

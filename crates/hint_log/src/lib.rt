@@ -5,13 +5,16 @@
 //! accepts exactly the good ones: each clause that is named has one literal left, and the last one has
 //! none. It looks at no other clause, and at each literal of those that are named by one read of a table;
 //! a variable that the formula lacks takes a search among such literals that are marked.
-//! `trim` makes such lines of a log that derives, and leaves out what nothing rests on. `specs/Hint` says
-//! which lines are good and at which place a line fails, `specs/Checked` what a checker keeps, and
+//! `trim` makes such lines of a log, and leaves out what nothing rests on; it answers none where the log
+//! doesn't derive, since the propagation that finds a line's hints says whether the line stands. `specs/Hint`
+//! says which lines are good and at which place a line fails, `specs/Checked` what a checker keeps, and
 //! `specs/Trimmed` what `trim` answers; `laws` states what follows from the definitions. `specs/Looks`,
-//! `specs/Found` and `specs/Shortened` are for private contracts alone. `judging` goes along a line's hints
-//! over the marks of `marks`; `finder` finds hints by propagation of what `assumptions` puts on the trail,
-//! `needs` names them from the last one back, and `shortening` leaves lines out. It stands on the clauses
-//! of `cnf_core`, the lines of `refute_log`, and for `trim` on the trail and the arena of `watch_arena`.
+//! `specs/Found`, `specs/Hinting` and `specs/Shortened` are for private contracts alone. `judging` goes along
+//! a line's hints over the marks of `marks`; `trimming` takes the lines of a log one by one, `finder` finds
+//! hints by propagation of what `assumptions` puts on the trail, `needs` names them from the last one back,
+//! and `shortening` leaves lines out. It stands on the clauses of `cnf_core`, the lines of `refute_log`, and
+//! for `trim` on the trail and the arena of `watch_arena`, and on what `refute_check` asks of lines without
+//! propagation.
 #![tactic(auto)]
 
 mod assumptions;
@@ -31,4 +34,4 @@ pub use checker::HintChecker;
 pub use fault::HintFault;
 pub use hint_line::{HintLine, HintList, Numbers};
 pub use laws::{good_lines_follow, good_or_failing_at_one_place};
-pub use trimming::trim;
+pub use trimming::{count_given, trim};

@@ -1,19 +1,32 @@
 // Hinted lines of a log.
-ghost use Rattle.std.specs.Prelude.{◌≡◌, ◌≤◌, ◌<◌, ◌+◌, ◌++◌, ◌↔◌, [], ◌∷◌, All, Contains, IsTrue, IfOk, OnOk, length};
-ghost use Rattle.std.specs.Prelude.{flat_map};
-ghost use Rattle.cnf_core.specs.Clause.{AreThere};
+ghost use Rattle.std.specs.Prelude.{◌≡◌, ◌≤◌, ◌<◌, ◌+◌, ◌^◌, ◌++◌, ◌↔◌, [], ◌∷◌, ℕ, List, All, Contains, length};
+ghost use Rattle.std.specs.Prelude.{IsTrue, IfOk, OnOk, MatchBool, MatchOption, flat_map};
+ghost use Rattle.cnf_core.specs.Clause.{AreThere, AreDistinct};
 ghost use Rattle.refute_log.specs.Log.{Derives, given};
-ghost use Rattle.hint_log.specs.Found.{IsFinder};
-ghost use Rattle.hint_log.specs.Trimmed.{IsTrimmed, IsHinted, AreRefutedLines, IsLineWithin, MayBeHinted, AddsLearnt};
-ghost use Rattle.hint_log.specs.Trimmed.{AddsRefuted};
+ghost use Rattle.refute_check.specs.Timely.{AreTimely};
+ghost use Rattle.hint_log.specs.Trimmed.{IsTrimmed, AreRefutedLines};
+ghost use Rattle.hint_log.specs.Hinting.{IsHinting, IsLineWithin};
 
 use crate::finder::Finder;
-use crate::hint_line::{HintLine, HintList};
+use crate::hint_line::{HintLine, HintList, Numbers};
 use crate::shortening::shorten;
 use cnf_core::{Clause, LAST_VAR, Lit, VARS};
 use plan_core::{Items, OutOfMemory};
+use refute_check::are_timely;
 use refute_log::{LineList, LogLine};
 use std::alloc::Global;
+
+/// The hinted lines of a log up to a place, and what hints of further lines are found with. The clauses of the Formula
+/// lines have the first numbers, wherever they stand, and those of the Learnt lines go on from there.
+#[derive(Drop)]
+struct Hinting {
+    finder: Finder,
+    /// The number of the latest Formula line's clause, or 0.
+    formula: u32,
+    /// The number of the latest Learnt line's clause, or of the last Formula line's.
+    learnt: u32,
+    list: HintList,
+}
 
 /// The greatest variable of the literals, or 0 where there is none.
 fn greatest(lits: &[Lit]) -> u32
@@ -52,50 +65,17 @@ fn greatest_of(lines: &LineList) -> u32
     most
 }
 
-/// The place behind the last of the lines that are wanted.
-fn behind_last(lines: &LineList, wanted: &[u32]) -> usize
-    requires { AreRefutedLines lines.now wanted.now }
-    ensures all { All (λ p. p < result) wanted.now }
-    ensures within { result ≤ length lines.now }
+/// How many Formula lines a list has.
+pub fn count_given(lines: &LineList) -> usize
+    ensures { result ≡ length (flat_map given lines.now) }
 {
-    let _count = lines.len();
-    let mut end = 0;
-    for p in wanted {
-        end = (*p as usize + 1).max(end);
-    }
-    end
-}
-
-/// Takes the clause of a Formula line.
-fn take_line(alloc: Global, finder: &mut Finder, line: &LogLine) -> Result<(), OutOfMemory>
-    requires finder { IsFinder finder.old }
-    requires within { IsLineWithin finder.old.formula.vars line.now }
-    ensures finder { OnOk result (IsFinder finder.new) }
-    ensures vars { OnOk result (finder.new.formula.vars ≡ finder.old.formula.vars) }
-    ensures clauses { OnOk result (finder.new.formula.clauses ≡ finder.old.formula.clauses ++ given line.now) }
-{
-    match line {
-        LogLine::Formula(c) => {
-            finder.add(alloc, c.as_slice())?;
-            Ok(())
-        }
-        _ => Ok(()),
-    }
-}
-
-/// Takes the clauses of the Formula lines.
-fn take_given(alloc: Global, finder: &mut Finder, lines: &LineList) -> Result<(), OutOfMemory>
-    requires finder { IsFinder finder.old }
-    requires within { All (IsLineWithin finder.old.formula.vars) lines.now }
-    requires none { finder.old.formula.clauses ≡ [] }
-    ensures finder { OnOk result (IsFinder finder.new) }
-    ensures vars { OnOk result (finder.new.formula.vars ≡ finder.old.formula.vars) }
-    ensures clauses { OnOk result (finder.new.formula.clauses ≡ flat_map given lines.now) }
-{
+    let mut count = 0;
     for i in 0..lines.len() {
-        take_line(alloc, finder, lines.get(i))?;
+        if let LogLine::Formula(_) = lines.get(i) {
+            count += 1;
+        }
     }
-    Ok(())
+    count
 }
 
 /// Whether the line at a place is wanted.
@@ -105,114 +85,134 @@ fn is_wanted(wanted: &[u32], place: usize) -> bool
     wanted.iter().any(|p| *p as usize == place)
 }
 
-/// The hinted line of a Learnt line, whose clause is taken then.
-fn hint_learnt(
+/// Adds the hinted line of a Learnt line.
+fn add_learnt(
     alloc: Global,
-    finder: &mut Finder,
-    c: &Clause,
     list: &mut HintList,
+    lits: &[Lit],
+    hints: Numbers,
 ) -> Result<(), OutOfMemory>
-    requires finder { IsFinder finder.old }
-    requires hinted { MayBeHinted finder.old.formula c.now }
-    ensures finder { OnOk result (IsFinder finder.new) }
-    ensures vars { OnOk result (finder.new.formula.vars ≡ finder.old.formula.vars) }
-    ensures clauses { OnOk result (finder.new.formula.clauses ≡ finder.old.formula.clauses ++ c.now ∷ []) }
-    ensures hints { OnOk result (AddsLearnt finder.old.formula.clauses c.now list.old list.new) }
+    requires { AreDistinct lits.now }
+    ensures { OnOk result (list.new ≡ list.old ++ HintLine.Learnt lits.now hints ∷ []) }
 {
-    let lits = c.as_slice();
-    let hints = finder.find(alloc, lits)?;
-    let clause = Clause::new(alloc, lits)?;
-    list.push(HintLine::Learnt {
-        lits: clause,
-        hints,
-    })?;
-    finder.add(alloc, lits)?;
-    Ok(())
+    let lits = Clause::new(alloc, lits)?;
+    list.push(HintLine::Learnt { lits, hints })
 }
 
-/// The hinted line of a Refuted line.
-fn hint_refuted(
+/// Adds the hinted line of a Refuted line.
+fn add_refuted(
     alloc: Global,
-    finder: &mut Finder,
-    c: &Clause,
     list: &mut HintList,
+    lits: &[Lit],
+    hints: Numbers,
 ) -> Result<(), OutOfMemory>
-    requires finder { IsFinder finder.old }
-    requires hinted { MayBeHinted finder.old.formula c.now }
-    ensures finder { OnOk result (IsFinder finder.new) }
-    ensures same { OnOk result (finder.new.formula ≡ finder.old.formula) }
-    ensures hints { OnOk result (AddsRefuted finder.old.formula.clauses c.now list.old list.new) }
+    requires { AreDistinct lits.now }
+    ensures { OnOk result (list.new ≡ list.old ++ HintLine.Refuted lits.now hints ∷ []) }
 {
-    let lits = c.as_slice();
-    let hints = finder.find(alloc, lits)?;
-    let clause = Clause::new(alloc, lits)?;
-    list.push(HintLine::Refuted {
-        lits: clause,
-        hints,
-    })?;
-    Ok(())
+    let lits = Clause::new(alloc, lits)?;
+    list.push(HintLine::Refuted { lits, hints })
 }
 
-/// The hinted line of the log's line at a place, if that is a Learnt line or a Refuted line that is
-/// wanted.
-fn hint_at(
+impl Hinting {
+    /// Before the first line, where no variable is greater than `vars`.
+    fn new(alloc: Global, lines: &LineList, vars: u32) -> Result<Hinting, OutOfMemory>
+        requires limit { vars + 2 ≤ VARS }
+        requires within { All (IsLineWithin vars) lines.now }
+        requires few { length lines.now < 2 ^ 32 }
+        ensures { IfOk result (λ h. (wanted : List ℕ) → IsHinting lines.now wanted 0 h) }
+    {
+        let finder = Finder::new(alloc, vars)?;
+        let learnt = count_given(lines) as u32;
+        Ok(Hinting {
+            finder,
+            formula: 0,
+            learnt,
+            list: Items::new(alloc),
+        })
+    }
+
+    /// Judges the line at a place by those before it. Where it stands its clause is taken, and it is hinted if it is a
+    /// Learnt line, or a Refuted line that is wanted.
+    fn take(
+        &mut self,
+        alloc: Global,
+        lines: &LineList,
+        wanted: &[u32],
+        i: usize,
+    ) -> Result<bool, OutOfMemory>
+        requires place { i < length lines.now }
+        requires few { length lines.now < 2 ^ 32 }
+        requires wanted { AreRefutedLines lines.now wanted.now }
+        requires timely { AreTimely lines.now }
+        requires hinting { IsHinting lines.now wanted.now i self.old }
+        ensures { IfOk result (λ stands. MatchBool stands (IsHinting lines.now wanted.now (i + 1) self.new)
+            (Derives lines.now → ⊥)) }
+    {
+        match lines.get(i) {
+            LogLine::Formula(c) => {
+                self.formula += 1;
+                self.finder.add(alloc, c.as_slice(), self.formula)?;
+                Ok(true)
+            }
+            LogLine::Learnt(c) => {
+                let lits = c.as_slice();
+                match self.finder.find_new(alloc, lits)? {
+                    None => Ok(false),
+                    Some(hints) => {
+                        self.learnt += 1;
+                        self.finder.add(alloc, lits, self.learnt)?;
+                        add_learnt(alloc, &mut self.list, lits, hints)?;
+                        Ok(true)
+                    }
+                }
+            }
+            LogLine::Refuted(c) => {
+                let lits = c.as_slice();
+                match self.finder.find(alloc, lits)? {
+                    None => Ok(false),
+                    Some(hints) => {
+                        if is_wanted(wanted, i) {
+                            add_refuted(alloc, &mut self.list, lits, hints)?;
+                        }
+                        Ok(true)
+                    }
+                }
+            }
+            LogLine::Bound { .. } => Ok(true),
+            LogLine::Query(_) => Ok(true),
+            LogLine::Model => Ok(true),
+        }
+    }
+}
+
+/// The hinted lines of a log: of the Refuted lines that are wanted, by their places in the log, counted from 0, and of
+/// those Learnt lines on which they rest. None where the log doesn't derive. The clauses of the Formula lines,
+/// wherever they stand, are numbered first, from 1, and the kept Learnt lines go on from there. A log of more than
+/// `VARS - 2` variables is answered by want of memory, so is one whose words pass `ROOM`, where a clause of fewer than
+/// two literals counts as one of two, and so is one of 2^32 lines, which no text of a log has.
+pub fn trim(
     alloc: Global,
-    finder: &mut Finder,
     lines: &LineList,
     wanted: &[u32],
-    i: usize,
-    list: &mut HintList,
-) -> Result<(), OutOfMemory>
-    requires derives { Derives lines.now }
-    requires wanted { AreRefutedLines lines.now wanted.now }
-    requires place { i < length lines.now }
-    requires finder { IsFinder finder.old }
-    requires within { All (IsLineWithin finder.old.formula.vars) lines.now }
-    requires hinted { IsHinted lines.now wanted.now i finder.old.formula.clauses list.old }
-    ensures finder { OnOk result (IsFinder finder.new) }
-    ensures vars { OnOk result (finder.new.formula.vars ≡ finder.old.formula.vars) }
-    ensures hinted { OnOk result (IsHinted lines.now wanted.now (i + 1) finder.new.formula.clauses list.new) }
+) -> Result<Option<HintList>, OutOfMemory>
+    requires { AreRefutedLines lines.now wanted.now }
+    ensures { IfOk result (λ r. MatchOption r (Derives lines.now → ⊥)
+        (λ kept. Derives lines.now × IsTrimmed lines.now wanted.now kept)) }
 {
-    match lines.get(i) {
-        LogLine::Learnt(c) => {
-            hint_learnt(alloc, finder, c, list)?;
-            Ok(())
-        }
-        LogLine::Refuted(c) => {
-            if is_wanted(wanted, i) {
-                hint_refuted(alloc, finder, c, list)?;
-            }
-            Ok(())
-        }
-        LogLine::Formula(_) => Ok(()),
-        LogLine::Bound { .. } => Ok(()),
-        LogLine::Query(_) => Ok(()),
-        LogLine::Model => Ok(()),
+    if !are_timely(alloc, lines)? {
+        return Ok(None);
     }
-}
-
-/// The hinted lines of a log that derives: of the Refuted lines that are wanted, by their places in the
-/// log, counted from 0, and of those Learnt lines on which they rest. The clauses of the Formula lines,
-/// wherever they stand, are numbered first, from 1, and the kept Learnt lines go on from there. A log of
-/// more than `VARS - 2` variables is answered by want of memory, and so is one whose words pass `ROOM`, where
-/// a clause of fewer than two literals counts as one of two.
-pub fn trim(alloc: Global, lines: &LineList, wanted: &[u32]) -> Result<HintList, OutOfMemory>
-    requires derives { Derives lines.now }
-    requires wanted { AreRefutedLines lines.now wanted.now }
-    ensures { IfOk result (IsTrimmed lines.now wanted.now) }
-{
     let vars = greatest_of(lines);
-    if VARS - 2 < vars {
+    if VARS - 2 < vars || lines.len() > u32::MAX as usize {
         return Err(OutOfMemory);
     }
-    let mut finder = Finder::new(alloc, vars)?;
-    take_given(alloc, &mut finder, lines)?;
-    let given = finder.count();
-    let mut list = Items::new(alloc);
-    for i in 0..behind_last(lines, wanted) {
-        hint_at(alloc, &mut finder, lines, wanted, i, &mut list)?;
+    let mut hinting = Hinting::new(alloc, lines, vars)?;
+    let given = hinting.learnt;
+    for i in 0..lines.len() {
+        if !hinting.take(alloc, lines, wanted, i)? {
+            return Ok(None);
+        }
     }
-    let total = finder.count();
-    let kept = shorten(alloc, &list, given, total)?;
-    Ok(kept)
+    let kept = shorten(alloc, &hinting.list, given, hinting.learnt)?;
+    Ok(Some(kept))
 }

@@ -7,3 +7,4 @@ pub mod JudgingLemmas
 pub mod CutLemmas
 pub mod CauseLemmas
 pub mod VerdictLemmas
+pub mod FittingLemmas

@@ -40,7 +40,7 @@ pub(crate) enum Compared<'a> {
 }
 
 /// Whether it is a Formula or Bound line.
-fn is_clause_line(line: &LogLine) -> bool
+pub(crate) fn is_clause_line(line: &LogLine) -> bool
     ensures { MatchBool result (clause_line line.now ≡ line.now ∷ []) (clause_line line.now ≡ []) }
 {
     matches!(line, LogLine::Formula(_) | LogLine::Bound { .. })

@@ -1,15 +1,15 @@
 -- Formula lines at the end of a log that lacks them, and what is trimmed of it then.
-use Rattle.std.proofs.Common.{◌≡◌, ◌≤◌, ◌<◌, ℕ, zero, suc, ◌+◌, List, [], ◌∷◌, ◌++◌, length, map, take, drop, get_or, true, Some, refl, sym, ◌∙◌, ap, subst, arith, append-nil, append_assoc, length-append}
-use Rattle.std.specs.Prelude.{All, Contains, flat_map, slice_get, slice_index_or}
+use Rattle.std.proofs.Common.{◌≡◌, ◌≤◌, ◌<◌, ℕ, zero, suc, ◌+◌, List, [], ◌∷◌, ◌++◌, length, map, take, drop, get_or, Bool, true, false, Some, None, refl, sym, ◌∙◌, ap, subst, inl, inr, arith, append-nil, append_assoc, length-append}
+use Rattle.std.specs.Prelude.{All, Contains, Option, MatchBool, MatchOption, flat_map, slice_get, slice_index_or}
 use Rattle.std.proofs.lemmas.Grind.{flat_map-append}
-use Rattle.std.proofs.lemmas.List.{get_or_append_left, take-append-drop}
+use Rattle.std.proofs.lemmas.List.{get_or_append_left, take-append-drop, take-append-le}
 use Rattle.std.proofs.lemmas.List.Elements.{All-nil, All-head}
 use Rattle.std.proofs.lemmas.Option.{slice_get_within, slice_get_read, get_or_from_slice_get}
 use Rattle.plan_core.proofs.Listing.{Contains-head}
-use Rattle.cnf_core.specs.declared.limits.TheConstants.{LAST_VAR}
+use Rattle.cnf_core.specs.declared.limits.TheConstants.{LAST_VAR, ROOM}
 use Rattle.cnf_core.specs.Assignment.{Assignment, SatisfiesAll}
 use Rattle.cnf_core.specs.Lit.{Literal}
-use Rattle.cnf_core.specs.Clause.{Clauses, AreThere, AreDistinct}
+use Rattle.cnf_core.specs.Clause.{Clauses, AreThere, AreDistinct, words_of}
 use Rattle.cnf_core.specs.Formula.{Cnf, IsFormula}
 use Rattle.cnf_core.proofs.ClauseLemmas.{there_more}
 use Rattle.cnf_core.specs.Propagation.{greatest_var}
@@ -17,7 +17,7 @@ use Rattle.refute_log.specs.declared.line.LogLine.{LogLine}
 use Rattle.refute_log.specs.declared.line.LogLine.TheVariants.{Formula, Refuted}
 use Rattle.refute_log.specs.Lines.{MayBeTold, MayAllBeTold}
 use Rattle.refute_log.specs.Told.{Lines}
-use Rattle.refute_log.specs.Log.{given, clause_lines, BeginsLines, Stands, Derives}
+use Rattle.refute_log.specs.Log.{added, given, clause_lines, BeginsLines, Stands, Derives}
 use Rattle.log_check.proofs.ExpectingLemmas.{drop_front}
 use Rattle.refute_log.proofs.LogLemmas.{derives_more}
 use Rattle.refute_log.proofs.ListLemmas.{told_at}
@@ -25,8 +25,10 @@ use Rattle.certified_check.proofs.JudgeLemmas.{nothing}
 use Rattle.certified_values.proofs.CertifiedLemmas.{refuted_holds}
 use Rattle.certified_values.proofs.MeetsLemmas.{given_of_clauses}
 use Rattle.log_check.specs.Expectation.{Expectation, PassesLimits}
-use Rattle.hint_log.specs.Trimmed.{HintLines, AreRefutedLines, IsTrimmed}
-use Rattle.log_trim.specs.Shown.{MayBeCompleted, IsCompleted, IsKeptOf}
+use Rattle.log_check.specs.Accepted.{AreAccepted}
+use Rattle.hint_log.specs.declared.hint_line.HintLine.TheVariants.{Learnt, Refuted as RefutedHint}
+use Rattle.hint_log.specs.Trimmed.{HintLines, AreRefutedLines, StandAt, IsNamedLater, AreUsed, IsTrimmed}
+use Rattle.log_trim.specs.Shown.{IsCompleted, MayBeTrimmed, IsReadied, IsKeptOf}
 
 -- ---- one clause more
 
@@ -117,11 +119,22 @@ some_wanted : (wanted : List ℕ) → 1 ≤ length wanted → (p : ℕ) × Conta
 some_wanted [] some = absurd (omega (arith, some))
 some_wanted (p ∷ wanted) some = (p, Contains-head p wanted)
 
-pub has_room : (e : Expectation) (lines : Lines) (wanted : List ℕ) → MayBeCompleted e lines → AreRefutedLines lines wanted → 1 ≤ length wanted → PassesLimits e → ⊥
-has_room e lines wanted may refuted some passes =
+-- so no line is wanted where there is no room for what is expected
+pub not_wanted : (e : Expectation) (lines : Lines) (wanted : List ℕ) → MayAllBeTold lines → PassesLimits e → AreRefutedLines lines wanted → 1 ≤ length wanted → AreAccepted e lines → ⊥
+not_wanted e lines wanted told passes refuted some a =
     let one = some_wanted wanted some in
     let r = refuted one.0 one.1 in
-    may.within (λ none. none_refuted lines one.0 r.0 may.formed may.derives none r.1) passes
+    a.within (λ none. none_refuted lines one.0 r.0 told a.derives none r.1) passes
+
+-- ---- whether the lines fit what is expected
+
+pub no_room : (e : Expectation) (lines : Lines) → ROOM < words_of (flat_map added lines) → AreAccepted e lines → ⊥
+no_room e lines many a = let few = a.room in omega (arith, many, few)
+
+-- without Formula and Bound lines, and with none that is wanted, only their room counts
+pub readied_by_room : (e : Expectation) (lines : Lines) (wanted : List ℕ) (b : Bool) → wanted ≡ [] → clause_lines lines ≡ [] → MatchBool b (words_of (flat_map added lines) ≤ ROOM) (ROOM < words_of (flat_map added lines)) → IsReadied e lines wanted lines b
+readied_by_room e lines wanted true empty none room = record { front = (e.lines, ap (λ (ls : Lines). ls ++ e.lines) (sym none)); within = λ some. absurd (some none); room = room; completed = inr (empty, refl) }
+readied_by_room e lines wanted false empty none room = no_room e lines room
 
 -- ---- the lines with them
 
@@ -139,24 +152,70 @@ at_front lines more p line e =
     let read : get_or (lines ++ more) p line ≡ line = get_or_append_left lines more line p low ∙ get_or_from_slice_get lines p line line e in
     slice_get_read (lines ++ more) (length (lines ++ more)) p line refl (omega (arith, low, length-append lines more)) (sym read)
 
-pub still_derives : (e : Expectation) (old new : Lines) → Derives old → IsCompleted e old new → Derives new
-still_derives e old new d h = subst Derives (sym h.added) (derives_formulas old h.missing d)
+derives_front : (lines more : Lines) → Derives (lines ++ more) → Derives lines
+derives_front lines more d = λ i line e.
+    let low = slice_get_within lines i line e in
+    subst (λ (ls : Lines). Stands ls line) (take-append-le i lines more (omega (arith, low))) (d i line (at_front lines more i line e))
 
-pub still_refuted : (e : Expectation) (old new : Lines) (wanted : List ℕ) → AreRefutedLines old wanted → IsCompleted e old new → AreRefutedLines new wanted
-still_refuted e old new wanted refuted h = λ p among.
-    let r = refuted p among in
-    (r.0, subst (λ (ls : Lines). slice_get ls p ≡ Some (Refuted r.0)) (sym h.added) (at_front old (map Formula h.missing) p (Refuted r.0) r.1))
+-- the lines derive with them exactly where they do without
+pub still_derives : (e : Expectation) (old new : Lines) (wanted : List ℕ) → MayBeTrimmed e old wanted new → Derives old → Derives new
+still_derives e old new wanted may d = elim may.completed [
+  | inl h ↦ subst Derives (sym h.added) (derives_formulas old h.missing d)
+  | inr h ↦ subst Derives (sym h.1) d
+]
 
-pub kept_so : (e : Expectation) (old new : Lines) (wanted : List ℕ) (kept : HintLines) → IsCompleted e old new → IsTrimmed new wanted kept → IsKeptOf e old wanted kept
-kept_so e old new wanted kept h trimmed = record { missing = h.missing; whole = h.whole; trimmed = subst (λ (ls : Lines). IsTrimmed ls wanted kept) h.added trimmed }
+derived_before : (e : Expectation) (old new : Lines) (wanted : List ℕ) → MayBeTrimmed e old wanted new → Derives new → Derives old
+derived_before e old new wanted may d = elim may.completed [
+  | inl h ↦ derives_front old (map Formula h.missing) (subst Derives h.added d)
+  | inr h ↦ subst Derives h.1 d
+]
+
+pub still_refuted : (e : Expectation) (old new : Lines) (wanted : List ℕ) → MayBeTrimmed e old wanted new → AreRefutedLines old wanted → AreRefutedLines new wanted
+still_refuted e old new wanted may refuted = elim may.completed [
+  | inl h ↦ λ p among.
+      let r = refuted p among in
+      (r.0, subst (λ (ls : Lines). slice_get ls p ≡ Some (Refuted r.0)) (sym h.added) (at_front old (map Formula h.missing) p (Refuted r.0) r.1))
+  | inr h ↦ subst (λ (ls : Lines). AreRefutedLines ls wanted) (sym h.1) refuted
+]
+
+-- ---- what is left of them
+
+none_named : (n : ℕ) (kept : HintLines) → kept ≡ [] → IsNamedLater n kept → ⊥
+none_named n kept none named = let low = named.2 in let size = ap length none in omega (arith, low, size)
 
 -- nothing is kept where nothing is wanted
-pub none_kept : (e : Expectation) (lines : Lines) (wanted : List ℕ) (kept : HintLines) → BeginsLines (clause_lines lines) e.lines → wanted ≡ [] → kept ≡ [] → IsKeptOf e lines wanted kept
-none_kept e lines wanted kept begins none empty =
-    let b = begun e lines begins in
-    let all = lines ++ map Formula b.missing in
-    subst (λ (ns : List ℕ). IsKeptOf e lines ns kept) (sym none) (subst (IsKeptOf e lines []) (sym empty) (record {
-      missing = b.missing;
-      whole = b.whole;
-      trimmed = record { places = []; stand = (omega arith); all = λ p h. nothing p (Contains [] p) h; used = tt; good = tt };
-    }))
+nothing_kept : (lines : Lines) (low high count : ℕ) (places : List ℕ) (kept : HintLines) → StandAt lines [] low high places kept → AreUsed count kept → kept ≡ []
+nothing_kept lines low high count places [] stand used = refl
+nothing_kept lines low high count [] (line ∷ kept) stand used = absurd stand
+nothing_kept lines low high count (p ∷ places) (Learnt lits hints ∷ kept) stand used =
+    absurd (none_named (count + 1) kept (nothing_kept lines (p + 1) high (count + 1) places kept stand.2 used.1) used.0)
+nothing_kept lines low high count (p ∷ places) (RefutedHint lits hints ∷ kept) stand used = nothing p (RefutedHint lits hints ∷ kept ≡ []) stand.1.asked
+
+-- and so the missing lines don't count there
+none_trimmed : (lines : Lines) (missing : Clauses) (kept : HintLines) → IsTrimmed lines [] kept → IsTrimmed (lines ++ map Formula missing) [] kept
+none_trimmed lines missing kept h =
+    let all = lines ++ map Formula missing in
+    let empty = nothing_kept lines 0 (length lines) (length (flat_map given lines)) h.places kept h.stand h.used in
+    subst (IsTrimmed all []) (sym empty) (record { places = []; stand = (omega arith); all = λ p among. nothing p (Contains [] p) among; used = tt; good = tt })
+
+kept_so : (e : Expectation) (old new : Lines) (wanted : List ℕ) (kept : HintLines) → MayBeTrimmed e old wanted new → Derives new → IsTrimmed new wanted kept → IsKeptOf e old wanted kept
+kept_so e old new wanted kept may d trimmed = elim may.completed [
+  | inl h ↦ record { accepted = accepted; missing = h.missing; whole = h.whole; trimmed = subst (λ (ls : Lines). IsTrimmed ls wanted kept) h.added trimmed }
+  | inr h ↦
+      let b = begun e old may.front in
+      let none : IsTrimmed old [] kept = subst (λ (ls : Lines). IsTrimmed ls [] kept) h.1 (subst (λ (ns : List ℕ). IsTrimmed new ns kept) h.0 trimmed) in
+      record {
+        accepted = accepted;
+        missing = b.missing;
+        whole = b.whole;
+        trimmed = subst (λ (ns : List ℕ). IsTrimmed (old ++ map Formula b.missing) ns kept) (sym h.0) (none_trimmed old b.missing kept none);
+      }
+]
+  where
+    accepted : AreAccepted e old
+    accepted = record { front = may.front; within = may.within; derives = derived_before e old new wanted may d; room = may.room }
+
+pub kept_of : (e : Expectation) (old new : Lines) (wanted : List ℕ) (r : Option HintLines) → MayBeTrimmed e old wanted new → MatchOption r (Derives new → ⊥) (λ kept. Derives new × IsTrimmed new wanted kept) →
+    MatchOption r (AreAccepted e old → ⊥) (IsKeptOf e old wanted)
+kept_of e old new wanted None may none = λ a. none (still_derives e old new wanted may a.derives)
+kept_of e old new wanted (Some kept) may h = kept_so e old new wanted kept may h.0 h.1

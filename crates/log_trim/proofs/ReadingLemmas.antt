@@ -1,84 +1,78 @@
 -- The lines of a log's text, one after another.
-use Rattle.std.proofs.Common.{◌≡◌, ◌≤◌, ℕ, ◌+◌, List, [], ◌∷◌, ◌++◌, length, take, Some, refl, sym, ◌∙◌, ap, subst, arith, append-nil, append_assoc, length-append}
-use Rattle.std.specs.Prelude.{flat_map, slice_get}
-use Rattle.std.proofs.lemmas.List.{append_cancel_left}
+use Rattle.std.proofs.Common.{◌≡◌, ◌≤◌, ℕ, ◌+◌, List, [], ◌∷◌, ◌++◌, length, take, Some, None, inl, inr, refl, sym, ◌∙◌, ap, subst, arith, append-nil, append_assoc, length-append}
+use Rattle.std.specs.Prelude.{Contains, Option, MatchOption, flat_map, slice_get}
+use Rattle.std.proofs.lemmas.Option.{slice_get_within, get_or_from_slice_get}
+use Rattle.plan_core.proofs.Listing.{Contains-head, Contains-flat_map}
+use Rattle.plan_core.proofs.ListFacts.{each_pushed}
 use Rattle.cnf_core.specs.Lit.{Literal}
 use Rattle.refute_log.specs.declared.line.LogLine.{LogLine}
 use Rattle.refute_log.specs.declared.line.LogLine.TheVariants.{Formula, Learnt, Bound, Query, Refuted, Model}
 use Rattle.refute_log.specs.declared.fault.LogWhat.{LogWhat}
-use Rattle.refute_log.specs.Lines.{header, ended_text, MayBeTold, MayAllBeTold}
+use Rattle.refute_log.specs.Lines.{header, ended_text, log_text, MayBeTold, MayAllBeTold}
 use Rattle.refute_log.specs.Told.{Lines}
-use Rattle.refute_log.specs.Log.{given, learnt}
+use Rattle.refute_log.specs.Log.{given, learnt, clause_line, clause_lines}
 use Rattle.refute_log.proofs.LogLemmas.{flat_map_last}
+use Rattle.refute_log.proofs.TextLemmas.{log_text_more}
 use Rattle.certified_check.specs.declared.told_bound.ToldBound.{ToldBound}
 use Rattle.certified_check.specs.Lacking.{told_bound}
+use Rattle.certified_check.proofs.JudgeLemmas.{nothing}
 use Rattle.log_check.specs.TextLines.{HasNextFault}
-use Rattle.log_check.proofs.CutLemmas.{same_line, line_goes_on, line_has_no_fault, no_next_fault}
+use Rattle.log_check.proofs.CutLemmas.{line_goes_on, line_has_no_fault, no_next_fault, log_fronts}
 use Rattle.log_check.proofs.JudgingLemmas.{line_leaves_less}
-use Rattle.hint_log.proofs.HintedLemmas.{next_line}
+use Rattle.hint_log.proofs.HintedLemmas.{gathered_next}
 use Rattle.log_trim.specs.TrimmedLog.{IsSpelledLog}
 use Rattle.log_trim.specs.Shown.{IsSomeLog}
 
--- the lines so far, with more behind them, are those of the log, and the rest is the text of these
-pub record HasReadTo (log : List ℕ) (lines : Lines) (rest : List ℕ) : Type 0 where
-  pub more : Lines
-  pub formed : MayAllBeTold more
-  pub rest_is : rest ≡ flat_map ended_text more
-  pub all : IsSpelledLog log (lines ++ more)
+-- what is said of an answer that isn't there
+pub where_none : {X : Type 0} (P : Type 0) (Q : X → Type 0) (r : Option X) → MatchOption r P Q → ((x : X) → r ≡ Some x → ⊥) → P
+where_none P Q None h other = h
+where_none P Q (Some x) h other = absurd (other x refl)
 
-pub read_none : (log rest : List ℕ) (lines : Lines) → lines ≡ [] → IsSomeLog log → log ≡ header ++ rest → HasReadTo log lines rest
-read_none log rest lines none some is = record {
-  more = some.0;
-  formed = some.1.formed;
-  rest_is = append_cancel_left header rest (flat_map ended_text some.0) (sym is ∙ some.1.spelled);
-  all = subst (λ (ls : Lines). IsSpelledLog log (ls ++ some.0)) (sym none) some.1;
-}
+-- these are lines of the log, and the rest follows
+pub record HasReadTo (log : List ℕ) (lines : Lines) (rest : List ℕ) : Type 0 where
+  pub formed : MayAllBeTold lines
+  pub spelled : log ≡ log_text lines ++ rest
+
+pub read_none : (log rest : List ℕ) (lines : Lines) → lines ≡ [] → log ≡ header ++ rest → HasReadTo log lines rest
+read_none log rest lines none is =
+    let nothing_more : header ≡ header ++ [] = sym (append-nil header) in
+    subst (λ (ls : Lines). HasReadTo log ls rest) (sym none) (record { formed = tt; spelled = is ∙ ap (λ (t : List ℕ). t ++ rest) nothing_more })
 
 pub read_next : (log rest after : List ℕ) (lines new : Lines) (line : LogLine) → MayBeTold line → rest ≡ ended_text line ++ after → new ≡ lines ++ line ∷ [] → HasReadTo log lines rest → HasReadTo log new after
-read_next log rest after lines new line told is pushed h = by h.more h.formed h.rest_is h.all
-  where
-    by : (more : Lines) → MayAllBeTold more → rest ≡ flat_map ended_text more → IsSpelledLog log (lines ++ more) → HasReadTo log new after
-    by [] formed rest_is all = absurd (line_goes_on line after (sym rest_is ∙ is))
-    by (l ∷ more) formed rest_is all =
-        let same = same_line line l after (flat_map ended_text more) told formed.0 (sym is ∙ rest_is) in
-        let same_lines : lines ++ l ∷ more ≡ new ++ more =
-        ap (λ (k : LogLine). lines ++ k ∷ more) (sym same.line) ∙ sym (append_assoc lines (line ∷ []) more) ∙ ap (λ (ls : Lines). ls ++ more) (sym pushed) in
-        record { more = more; formed = formed.1; rest_is = same.rest; all = subst (IsSpelledLog log) same_lines all }
+read_next log rest after lines new line told is pushed h = subst (λ (ls : Lines). HasReadTo log ls after) (sym pushed) (record {
+  formed = each_pushed MayBeTold lines line h.formed told;
+  spelled =
+      h.spelled ∙ ap (λ (t : List ℕ). log_text lines ++ t) is ∙ sym (append_assoc (log_text lines) (ended_text line) after)
+      ∙ ap (λ (t : List ℕ). t ++ after) (log_text_more lines line);
+})
 
 pub read_whole : (log rest : List ℕ) (lines : Lines) → rest ≡ [] → HasReadTo log lines rest → IsSpelledLog log lines
-read_whole log rest lines empty h = by h.more h.rest_is h.all
-  where
-    by : (more : Lines) → rest ≡ flat_map ended_text more → IsSpelledLog log (lines ++ more) → IsSpelledLog log lines
-    by [] rest_is all = subst (IsSpelledLog log) (append-nil lines) all
-    by (l ∷ more) rest_is all = absurd (line_goes_on l (flat_map ended_text more) (sym empty ∙ rest_is))
+read_whole log rest lines empty h = record { formed = h.formed; spelled = h.spelled ∙ ap (λ (t : List ℕ). log_text lines ++ t) empty ∙ append-nil (log_text lines) }
 
-pub read_no_fault : (log rest : List ℕ) (lines : Lines) (what : LogWhat) → HasReadTo log lines rest → HasNextFault rest what → ⊥
-read_no_fault log rest lines what h fault = by h.more h.formed h.rest_is
+-- where a line has a fault no lines are so spelled
+pub read_faulty : (log rest : List ℕ) (lines : Lines) (what : LogWhat) → HasReadTo log lines rest → HasNextFault rest what → IsSomeLog log → ⊥
+read_faulty log rest lines what h fault (all, is) =
+    elim (log_fronts log lines all rest [] h.formed is.formed h.spelled (is.spelled ∙ sym (append-nil (log_text all)))) [
+      | inl b ↦ behind b.more b.told b.rest
+      | inr b ↦ before b.more b.rest
+    ]
   where
-    by : (more : Lines) → MayAllBeTold more → rest ≡ flat_map ended_text more → ⊥
-    by [] formed rest_is = no_next_fault what (subst (λ (text : List ℕ). HasNextFault text what) rest_is fault)
-    by (l ∷ more) formed rest_is = line_has_no_fault l rest (flat_map ended_text more) what formed.0 rest_is fault
+    none_left : rest ≡ [] → ⊥
+    none_left none = no_next_fault what (subst (λ (t : List ℕ). HasNextFault t what) none fault)
+
+    behind : (more : Lines) → MayAllBeTold more → rest ≡ flat_map ended_text more ++ [] → ⊥
+    behind [] told e = none_left e
+    behind (l ∷ more) told e = line_has_no_fault l rest (flat_map ended_text more ++ []) what told.0 (e ∙ append_assoc (ended_text l) (flat_map ended_text more) []) fault
+
+    before : (more : Lines) → [] ≡ flat_map ended_text more ++ rest → ⊥
+    before [] e = none_left (sym e)
+    before (l ∷ more) e = line_goes_on l (flat_map ended_text more ++ rest) (e ∙ append_assoc (ended_text l) (flat_map ended_text more) rest)
+
+-- nor where the first line is another
+pub read_headless : (log : List ℕ) → ((rest : List ℕ) → log ≡ header ++ rest → ⊥) → IsSomeLog log → ⊥
+read_headless log lacks some = lacks (flat_map ended_text some.0) some.1.spelled
 
 -- ---- the lines at places
-
--- what each line gives, gathered
-pub gathered_next : {Y : Type 0} (f : LogLine → List Y) (lines : Lines) (i : ℕ) (line : LogLine) → slice_get lines i ≡ Some line → flat_map f (take (i + 1) lines) ≡ flat_map f (take i lines) ++ f line
-gathered_next f lines i line e = ap (flat_map f) (next_line lines i line e) ∙ flat_map_last f (take i lines) line
-
-pub counted_next : {Y : Type 0} (f : LogLine → List Y) (lines : Lines) (i n : ℕ) (line : LogLine) → slice_get lines i ≡ Some line → n ≡ length (flat_map f (take i lines)) → length (flat_map f (take (i + 1) lines)) ≡ n + length (f line)
-counted_next f lines i n line e is =
-    ap length (gathered_next f lines i line e) ∙ length-append (flat_map f (take i lines)) (f line) ∙ ap (λ m. m + length (f line)) (sym is)
-
-pub one_given : (line : LogLine) (c : List Literal) → line ≡ Formula c → length (given line) ≡ 1
-one_given line c is = ap (λ (l : LogLine). length (given l)) is
-
-pub no_given : (line : LogLine) → ((c : List Literal) → line ≡ Formula c → ⊥) → length (given line) ≡ 0
-no_given (Formula c) other = absurd (other c refl)
-no_given (Learnt c) other = refl
-no_given (Bound d k x) other = refl
-no_given (Query c) other = refl
-no_given (Refuted c) other = refl
-no_given Model other = refl
 
 pub one_learnt : (line : LogLine) (c : List Literal) → line ≡ Learnt c → length (learnt line) ≡ 1
 one_learnt line c is = ap (λ (l : LogLine). length (learnt l)) is

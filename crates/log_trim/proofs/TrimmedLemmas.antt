@@ -30,7 +30,7 @@ use Rattle.hint_log.specs.Trimmed.{AreRefutedLines}
 use Rattle.log_trim.specs.declared.trimming.TrimmedLog.{TrimmedLog}
 use Rattle.log_trim.specs.Wanted.{ShowsLeast, AreWanted}
 use Rattle.log_trim.specs.TrimmedLog.{IsSpelledLog, IsTrimmedLog}
-use Rattle.log_trim.specs.Shown.{IsSomeLog, MayBeCompleted, IsKeptOf}
+use Rattle.log_trim.specs.Shown.{IsSomeLog, IsKeptOf}
 use Rattle.log_trim.proofs.OwnLog.{own_bounds}
 
 -- ---- the lines
@@ -55,10 +55,10 @@ caps_of greatest limit counted_of log lines is same (others, bounds, are) c =
 
 -- ---- what is expected
 
-pub may_be : (y : Layout) (order : List Criterion) (claim : Claim) (log : List ℕ) (greatest counted_of : Criterion → ℕ) (lines : Lines) → CertifiesWhole y order claim log → IsSpelledLog log lines →
-    ((c : Criterion) → greatest c ≡ limit_of y.graph y.grid c) → AreCounted greatest log counted_of → MayBeCompleted (expectation y order counted_of) lines
+pub accepted_by : (y : Layout) (order : List Criterion) (claim : Claim) (log : List ℕ) (greatest counted_of : Criterion → ℕ) (lines : Lines) → CertifiesWhole y order claim log → IsSpelledLog log lines →
+    ((c : Criterion) → greatest c ≡ limit_of y.graph y.grid c) → AreCounted greatest log counted_of → AreAccepted (expectation y order counted_of) lines
 unfolding some_log
-may_be y order claim log greatest counted_of lines h is same counted =
+accepted_by y order claim log greatest counted_of lines h is same counted =
     let limit = limit_of y.graph y.grid in
     let one : h.lines ≡ lines = one_log log h.lines lines (some_log y order claim log h).1 is in
     let others = h.is_expected.lines in
@@ -66,9 +66,7 @@ may_be y order claim log greatest counted_of lines h is same counted =
     let e : h.expected ≡ expectation y order counted_of =
     h.is_expected.expected_is ∙ ap (λ (ls : Lines). expectation y order (caps limit ls)) these
     ∙ same_expectation y order (caps limit (flat_map told_bound_line lines)) counted_of (λ c. caps_alone limit lines c ∙ sym (caps_of greatest limit counted_of log lines is same counted c)) in
-    let accepted : AreAccepted (expectation y order counted_of) lines =
-    subst (λ (x : Expectation). AreAccepted x lines) e (subst (λ (ls : Lines). AreAccepted h.expected ls) one h.whole.accepted) in
-    record { formed = is.formed; begins = accepted.front; derives = accepted.derives; within = accepted.within }
+    subst (λ (x : Expectation). AreAccepted x lines) e (subst (λ (ls : Lines). AreAccepted h.expected ls) one h.whole.accepted)
 
 -- ---- the claim
 
@@ -79,6 +77,25 @@ certified_by y order claim log greatest lines h is same =
     let limit = limit_of y.graph y.grid in
     let one : h.lines ≡ lines = one_log log h.lines lines (some_log y order claim log h).1 is in
     certifies_as limit greatest lines order claim (λ c. sym (same c)) (subst (λ (ls : Lines). CertifiesClaim limit ls order claim) one h.certified)
+
+-- ---- both
+
+pub whole_by : (y : Layout) (order : List Criterion) (claim : Claim) (log : List ℕ) (greatest counted_of : Criterion → ℕ) (lines : Lines) → IsSpelledLog log lines → ((c : Criterion) → greatest c ≡ limit_of y.graph y.grid c) →
+    AreCounted greatest log counted_of → AreAccepted (expectation y order counted_of) lines → CertifiesClaim greatest lines order claim → CertifiesWhole y order claim log
+whole_by y order claim log greatest counted_of lines is same counted accepted certified =
+    let limit = limit_of y.graph y.grid in
+    let bounds = flat_map told_bound_line lines in
+    record {
+      expected = expectation y order counted_of;
+      lines = lines;
+      is_expected = record {
+        lines = bounds;
+        bounds = bounds_of log lines is;
+        expected_is = same_expectation y order counted_of (caps limit bounds) (λ c. caps_of greatest limit counted_of log lines is same counted c ∙ sym (caps_alone limit lines c));
+      };
+      whole = record { formed = is.formed; spelled = is.spelled ∙ sym (append-nil (log_text lines)); accepted = accepted };
+      certified = certifies_as greatest limit lines order claim same certified;
+    }
 
 -- ---- the wanted lines
 
@@ -114,13 +131,13 @@ wanted_under greatest other lines order Nothing wanted same h = h
 -- ---- all of it
 
 pub trimmed_log : (y : Layout) (order : List Criterion) (claim : Claim) (log : List ℕ) (greatest : Criterion → ℕ) (r : TrimmedLog) (lines : Lines) (wanted : List ℕ) → IsSpelledLog log lines →
-    ((c : Criterion) → greatest c ≡ limit_of y.graph y.grid c) → AreCounted greatest log (value_of r.caps) → MayBeCompleted (expectation y order (value_of r.caps)) lines → AreWanted greatest lines order claim wanted →
+    ((c : Criterion) → greatest c ≡ limit_of y.graph y.grid c) → AreCounted greatest log (value_of r.caps) → AreWanted greatest lines order claim wanted →
     IsKeptOf (expectation y order (value_of r.caps)) lines wanted r.kept → r.learnt ≡ length (flat_map learnt lines) → IsTrimmedLog y order claim log r
-trimmed_log y order claim log greatest r lines wanted is same counted may are kept count = record {
+trimmed_log y order claim log greatest r lines wanted is same counted are kept count = record {
   lines = lines;
   is_log = is;
   caps_are = caps_of greatest (limit_of y.graph y.grid) (value_of r.caps) log lines is same counted;
-  begins = may.begins;
+  begins = kept.accepted.front;
   missing = kept.missing;
   whole = kept.whole;
   wanted = wanted;

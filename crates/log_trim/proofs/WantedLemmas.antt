@@ -1,8 +1,8 @@
 -- Lines by which a claim is certified, at their places.
-use Rattle.std.proofs.Common.{◌≡◌, ◌≤◌, ℕ, ◌+◌, ◌⊎◌, List, [], ◌∷◌, ◌++◌, length, take, get_or, false, Some, None, refl, sym, ◌∙◌, ap, subst, inl, inr, arith}
-use Rattle.std.specs.Prelude.{Contains, Option, slice_get, flat_map}
+use Rattle.std.proofs.Common.{◌≡◌, ◌≤◌, ◌<◌, ℕ, ◌+◌, ◌⊎◌, List, [], ◌∷◌, ◌++◌, length, take, get_or, Some, None, refl, sym, ◌∙◌, ap, subst, inl, inr, arith}
+use Rattle.std.specs.Prelude.{Contains, Option, MatchOption, slice_get, flat_map}
 use Rattle.std.proofs.lemmas.Bool.{cases_lt}
-use Rattle.std.proofs.lemmas.Option.{slice_get-get_or, same_Some}
+use Rattle.std.proofs.lemmas.Option.{slice_get-get_or, slice_get_within, get_or_from_slice_get, same_Some}
 use Rattle.std.proofs.lemmas.List.Elements.{All-contains, Contains-get_or, Contains-append_left, Contains-push_cases, Contains-push}
 use Rattle.plan_core.specs.declared.criterion.Values.{Values}
 use Rattle.plan_core.specs.declared.criterion.Criterion.{Criterion}
@@ -14,14 +14,16 @@ use Rattle.cnf_core.specs.Clause.{HasAllOf}
 use Rattle.refute_log.specs.declared.line.LogLine.{LogLine}
 use Rattle.refute_log.specs.declared.line.LogLine.TheVariants.{Formula, Learnt, Bound, Query, Refuted, Model}
 use Rattle.refute_log.specs.Told.{Lines}
-use Rattle.refute_log.specs.Log.{IsRefutedWithin, facts_of}
-use Rattle.refute_check.specs.Kept.{CheckedFacts}
-use Rattle.certified_values.specs.Certified.{IsCertifiedLeast, CertifiesNone, IsOutOfReach}
+use Rattle.refute_log.specs.Log.{IsRefutedWithin}
+use Rattle.certified_values.specs.Certified.{RefutesLess, Certifies, CertifiesNone, IsOutOfReach}
 use Rattle.certified_values.specs.Bounds.{SaysAtLeast}
 use Rattle.certified_check.specs.declared.told_bound.ToldBound.{ToldBound}
 use Rattle.certified_check.specs.Lacking.{told_bound}
-use Rattle.certified_check.proofs.JudgeLemmas.{nothing, refuted_line, bound_line, out_of_reach, AreUnreached, verdict_is}
-use Rattle.log_trim.specs.Wanted.{ShowsLeast, ShowsNone, IsClaimedPlace, AreOfLeast}
+use Rattle.certified_check.proofs.JudgeLemmas.{nothing, bound_line, out_of_reach, AreUnreached}
+use Rattle.log_check.specs.declared.claim.Claim.{Claim}
+use Rattle.log_check.specs.declared.claim.Claim.TheVariants.{Least, NoDrawing, Nothing}
+use Rattle.log_check.specs.Claimed.{CertifiesClaim}
+use Rattle.log_trim.specs.Wanted.{ShowsLeast, ShowsNone, IsClaimedPlace, AreOfLeast, AreWanted}
 
 -- ---- the first Refuted line within them
 
@@ -40,11 +42,9 @@ reached greatest lines bounds earlier c v literals are unreached l out = elim ou
         let there : Contains bounds b = subst (λ (bs : List ToldBound). Contains bs b) (sym are) told in
         (unreached l).1 (there.0, b, there.1, there.2, (record { within = s.within; either = either }, sym s.is))
 
-pub found_shows : (greatest : Criterion → ℕ) (lines : Lines) (bounds : List ToldBound) (earlier : List Criterion) (c : Criterion) (v : Values) (literals : List Literal) (found : Option ℕ) (p : ℕ) → bounds ≡ flat_map told_bound lines →
-    AreUnreached greatest bounds earlier c v literals → found ≡ Some p → FindsFirst (λ _ line. IsRefutedWithin literals line) lines found → ShowsLeast greatest lines earlier c v p
-found_shows greatest lines bounds earlier c v literals found p are unreached is finds =
-    let first : IsFirst (λ _ line. IsRefutedWithin literals line) lines p = subst (λ (f : Option ℕ). FindsFirst (λ _ line. IsRefutedWithin literals line) lines f) is finds in
-    by first.before first.x first.is first.holds
+first_shows : (greatest : Criterion → ℕ) (lines : Lines) (bounds : List ToldBound) (earlier : List Criterion) (c : Criterion) (v : Values) (literals : List Literal) (p : ℕ) → bounds ≡ flat_map told_bound lines →
+    AreUnreached greatest bounds earlier c v literals → IsFirst (λ _ line. IsRefutedWithin literals line) lines p → ShowsLeast greatest lines earlier c v p
+first_shows greatest lines bounds earlier c v literals p are unreached first = by first.before first.x first.is first.holds
   where
     by : NoneBefore (λ _ line. IsRefutedWithin literals line) lines p → (line : LogLine) → slice_get lines p ≡ Some line → IsRefutedWithin literals line → ShowsLeast greatest lines earlier c v p
     by before (Formula d) at h = absurd h
@@ -62,29 +62,27 @@ found_shows greatest lines bounds earlier c v literals found p are unreached is 
     }
     by before Model at h = absurd h
 
--- what a checker keeps of the lines
-abbrev kept_of_log : Lines → CheckedFacts
-kept_of_log lines = record { room = 0; facts = facts_of lines; lost = false }
-
 -- a Refuted line within the literals is found
 not_missed : (lines : Lines) (literals d : List Literal) → Contains lines (Refuted d) → HasAllOf literals d → NoneBefore (λ _ line. IsRefutedWithin literals line) lines (length lines) → ⊥
 not_missed lines literals d there within none =
     let at : slice_get lines there.0 ≡ Some (Refuted d) = slice_get-get_or lines there.0 (Refuted d) there.1 ∙ ap (λ (x : LogLine). Some x) there.2 in
     none.none there.0 (Refuted d) there.1 at within
 
-pub none_missed : (greatest : Criterion → ℕ) (lines : Lines) (bounds : List ToldBound) (earlier : List Criterion) (c : Criterion) (v : Values) (literals : List Literal) (found : Option ℕ) → bounds ≡ flat_map told_bound lines →
-    AreUnreached greatest bounds earlier c v literals → 1 ≤ value_of v c → IsCertifiedLeast greatest lines earlier c v → found ≡ None → FindsFirst (λ _ line. IsRefutedWithin literals line) lines found → ⊥
-none_missed greatest lines bounds earlier c v literals found are unreached positive least is finds =
-    let none : NoneBefore (λ _ line. IsRefutedWithin literals line) lines (length lines) = subst (λ (f : Option ℕ). FindsFirst (λ _ line. IsRefutedWithin literals line) lines f) is finds in
-    let any = (verdict_is greatest lines (kept_of_log lines) bounds earlier c v literals (record { facts = refl; told = are }) unreached positive).1 least in
-    not_missed lines literals any.1 (refuted_line lines any.1 (any.0, any.2, any.3)) any.4 none
+none_shows : (greatest : Criterion → ℕ) (lines : Lines) (bounds : List ToldBound) (earlier : List Criterion) (c : Criterion) (v : Values) (literals : List Literal) → bounds ≡ flat_map told_bound lines →
+    AreUnreached greatest bounds earlier c v literals → NoneBefore (λ _ line. IsRefutedWithin literals line) lines (length lines) → RefutesLess greatest lines earlier c v → ⊥
+none_shows greatest lines bounds earlier c v literals are unreached none less =
+    not_missed lines literals less.clause less.among (λ l within. reached greatest lines bounds earlier c v literals are unreached l (All-contains (IsOutOfReach greatest lines earlier c v) less.clause l less.each within)) none
+
+pub found_least : (greatest : Criterion → ℕ) (lines : Lines) (bounds : List ToldBound) (earlier : List Criterion) (c : Criterion) (v : Values) (literals : List Literal) (found : Option ℕ) → bounds ≡ flat_map told_bound lines →
+    AreUnreached greatest bounds earlier c v literals → FindsFirst (λ _ line. IsRefutedWithin literals line) lines found → MatchOption found (RefutesLess greatest lines earlier c v → ⊥) (ShowsLeast greatest lines earlier c v)
+found_least greatest lines bounds earlier c v literals None are unreached none = none_shows greatest lines bounds earlier c v literals are unreached none
+found_least greatest lines bounds earlier c v literals (Some p) are unreached first = first_shows greatest lines bounds earlier c v literals p are unreached first
 
 -- ---- the same of a line without literals
 
-pub found_none : (lines : Lines) (found : Option ℕ) (p : ℕ) → found ≡ Some p → FindsFirst (λ _ line. IsRefutedWithin [] line) lines found → ShowsNone lines p
-found_none lines found p is finds =
-    let first : IsFirst (λ _ line. IsRefutedWithin [] line) lines p = subst (λ (f : Option ℕ). FindsFirst (λ _ line. IsRefutedWithin [] line) lines f) is finds in
-    by first.before first.x first.is first.holds
+pub found_none : (lines : Lines) (found : Option ℕ) → FindsFirst (λ _ line. IsRefutedWithin [] line) lines found → MatchOption found (CertifiesNone lines → ⊥) (ShowsNone lines)
+found_none lines None none = λ certified. not_missed lines [] [] certified (λ l h. h) none
+found_none lines (Some p) first = by first.before first.x first.is first.holds
   where
     empty : (d : List Literal) → HasAllOf [] d → d ≡ []
     empty [] h = refl
@@ -101,12 +99,13 @@ found_none lines found p is finds =
     }
     by before Model at h = absurd h
 
-pub none_found : (lines : Lines) (found : Option ℕ) → CertifiesNone lines → found ≡ None → FindsFirst (λ _ line. IsRefutedWithin [] line) lines found → ⊥
-none_found lines found certified is finds =
-    let none : NoneBefore (λ _ line. IsRefutedWithin [] line) lines (length lines) = subst (λ (f : Option ℕ). FindsFirst (λ _ line. IsRefutedWithin [] line) lines f) is finds in
-    not_missed lines [] [] certified (λ l h. h) none
-
 -- ---- the places of the order, one by one
+
+-- a place that no line shows isn't certified
+pub not_shown : (greatest : Criterion → ℕ) (lines : Lines) (order earlier : List Criterion) (v : Values) (s i : ℕ) (c : Criterion) → i < s → slice_get order i ≡ Some c → earlier ≡ take i order → 1 ≤ value_of v c →
+    (RefutesLess greatest lines earlier c v → ⊥) → Certifies greatest lines order v s → ⊥
+not_shown greatest lines order earlier v s i c low at is positive none certified =
+    none (subst (λ (cs : List Criterion). RefutesLess greatest lines cs c v) (sym is) (certified i c low at positive))
 
 pub of_none : (greatest : Criterion → ℕ) (lines : Lines) (order : List Criterion) (v : Values) → AreOfLeast greatest lines order v 0 []
 of_none greatest lines order v = record {
@@ -167,3 +166,15 @@ of_zero greatest lines order v s c wanted at zero h = record {
         )
   ];
 }
+
+-- ---- so the claim is certified
+
+shown_among : (lines : Lines) (p : ℕ) (c : List Literal) → slice_get lines p ≡ Some (Refuted c) → Contains lines (Refuted c)
+shown_among lines p c at = (p, slice_get_within lines p (Refuted c) at, get_or_from_slice_get lines p (Refuted c) (Refuted c) at)
+
+pub wanted_certify : (greatest : Criterion → ℕ) (lines : Lines) (order : List Criterion) (claim : Claim) (wanted : List ℕ) → AreWanted greatest lines order claim wanted → CertifiesClaim greatest lines order claim
+wanted_certify greatest lines order (Least v s) wanted h = λ i c low at positive.
+    let r = h.each i c (record { below = low; at = at; positive = positive }) in
+    record { clause = r.2.clause; among = shown_among lines r.0 r.2.clause r.2.there; each = r.2.each }
+wanted_certify greatest lines order NoDrawing wanted h = shown_among lines h.0 [] h.1.there
+wanted_certify greatest lines order Nothing wanted h = tt

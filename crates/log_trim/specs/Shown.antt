@@ -1,11 +1,12 @@
 -- What is known of a log while it is trimmed, for private contracts alone.
-use Rattle.std.specs.Prelude.{◌≡◌, ◌≢◌, ℕ, List, [], ◌++◌, map, flat_map}
-use Rattle.cnf_core.specs.Clause.{Clauses}
+use Rattle.std.specs.Prelude.{◌≡◌, ◌≢◌, ◌≤◌, ◌⊎◌, ℕ, Bool, List, [], ◌++◌, MatchBool, map, flat_map}
+use Rattle.cnf_core.specs.declared.limits.TheConstants.{ROOM}
+use Rattle.cnf_core.specs.Clause.{Clauses, words_of}
 use Rattle.refute_log.specs.declared.line.LogLine.TheVariants.{Formula}
-use Rattle.refute_log.specs.Lines.{MayAllBeTold}
 use Rattle.refute_log.specs.Told.{Lines}
-use Rattle.refute_log.specs.Log.{given, clause_lines, BeginsLines, Derives}
+use Rattle.refute_log.specs.Log.{added, given, clause_lines, BeginsLines}
 use Rattle.log_check.specs.Expectation.{Expectation, PassesLimits}
+use Rattle.log_check.specs.Accepted.{AreAccepted}
 use Rattle.hint_log.specs.Trimmed.{HintLines, IsTrimmed}
 use Rattle.log_trim.specs.TrimmedLog.{IsSpelledLog}
 
@@ -13,21 +14,27 @@ use Rattle.log_trim.specs.TrimmedLog.{IsSpelledLog}
 abbrev pub IsSomeLog : List ℕ → Type 0
 IsSomeLog bytes = (lines : Lines) × IsSpelledLog bytes lines
 
--- the lines derive and begin what is expected, which is within the limits where they have a Formula or Bound line
-pub record MayBeCompleted (e : Expectation) (lines : Lines) : Type 0 where
-  pub formed : MayAllBeTold lines
-  pub begins : BeginsLines (clause_lines lines) e.lines
-  pub derives : Derives lines
-  pub within : clause_lines lines ≢ [] → PassesLimits e → ⊥
-
 -- Formula lines of the clauses that were missing stand at the end
 pub record IsCompleted (e : Expectation) (old new : Lines) : Type 0 where
   pub missing : Clauses
   pub whole : flat_map given e.lines ≡ flat_map given old ++ missing
   pub added : new ≡ old ++ map Formula missing
 
--- and the lines are trimmed to these
+-- the lines begin what is expected, within its limits, and have room, so that they are accepted if they derive; and
+-- they were completed, or left as they are where none is wanted
+pub record MayBeTrimmed (e : Expectation) (old : Lines) (wanted : List ℕ) (new : Lines) : Type 0 where
+  pub front : BeginsLines (clause_lines old) e.lines
+  pub within : clause_lines old ≢ [] → PassesLimits e → ⊥
+  pub room : words_of (flat_map added old) ≤ ROOM
+  pub completed : IsCompleted e old new ⊎ ((wanted ≡ []) × (new ≡ old))
+
+-- where they are ready, they may be trimmed so; where they aren't, they aren't accepted, whether they derive or not
+abbrev pub IsReadied : Expectation → Lines → List ℕ → Lines → Bool → Type 0
+IsReadied e old wanted new ready = MatchBool ready (MayBeTrimmed e old wanted new) (AreAccepted e old → ⊥)
+
+-- the lines are accepted, and with the missing clauses at their end they are trimmed to these
 pub record IsKeptOf (e : Expectation) (lines : Lines) (wanted : List ℕ) (kept : HintLines) : Type 0 where
+  pub accepted : AreAccepted e lines
   pub missing : Clauses
   pub whole : flat_map given e.lines ≡ flat_map given lines ++ missing
   pub trimmed : IsTrimmed (lines ++ map Formula missing) wanted kept

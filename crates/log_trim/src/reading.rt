@@ -1,6 +1,5 @@
 // The lines of a log's text, and the bounds that they tell.
-ghost use Rattle.std.specs.Prelude.{◌≡◌, ◌++◌, ◌∷◌, [], IfOk, OnOk, flat_map, length};
-ghost use Rattle.refute_log.specs.Lines.{MayBeTold};
+ghost use Rattle.std.specs.Prelude.{◌≡◌, IfOk, MatchOption, flat_map, length};
 ghost use Rattle.refute_log.specs.Log.{learnt};
 ghost use Rattle.certified_check.specs.Lacking.{told_bound};
 ghost use Rattle.log_trim.specs.TrimmedLog.{IsSpelledLog};
@@ -10,45 +9,31 @@ use certified_check::ToldBound;
 use line_text::behind;
 use log_check::{Next, next_line};
 use plan_core::OutOfMemory;
-use refute_log::{LineList, LogLine, LogSink, LogSinkFault};
+use refute_log::{LineList, LogLine};
 use std::alloc::Global;
 
 /// The first line of every log's text.
 const HEADER: &[u8] = b"railplan-log 1\n";
 
-/// Adds the line at the end of the list.
-pub(crate) fn add_line(list: &mut LineList, line: &LogLine) -> Result<(), OutOfMemory>
-    requires { MayBeTold line.now }
-    ensures { OnOk result (list.new ≡ list.old ++ line.now ∷ []) }
+/// The lines of a log's text, if it is one.
+pub(crate) fn lines_in(alloc: Global, log: &[u8]) -> Result<Option<LineList>, OutOfMemory>
+    ensures { IfOk result (λ r. MatchOption r (IsSomeLog log.now → ⊥) (IsSpelledLog log.now)) }
 {
-    let _ = list.len();
-    match list.tell(line) {
-        Ok(()) => Ok(()),
-        Err(LogSinkFault::Failed) => unreachable!(),
-        Err(LogSinkFault::Memory) => Err(OutOfMemory),
-    }
-}
-
-/// The lines of a log's text.
-pub(crate) fn lines_in(alloc: Global, log: &[u8]) -> Result<LineList, OutOfMemory>
-    requires { IsSomeLog log.now }
-    ensures { IfOk result (λ lines. IsSpelledLog log.now lines) }
-{
-    let mut list = LineList::new(alloc);
     let Some(body) = behind(log, HEADER) else {
-        unreachable!()
+        return Ok(None);
     };
+    let mut list = LineList::new(alloc);
     let mut rest = body;
     while !rest.is_empty() {
         match next_line(alloc, rest)? {
             Next::Line(line, more) => {
-                add_line(&mut list, &line)?;
+                list.push(line)?;
                 rest = more;
             }
-            Next::Fault(_) => unreachable!(),
+            Next::Fault(_) => return Ok(None),
         }
     }
-    Ok(list)
+    Ok(Some(list))
 }
 
 /// The bounds of the Bound lines.

@@ -1,23 +1,24 @@
 // The hinted lines of a log that certifies a claim.
-ghost use Rattle.std.specs.Prelude.{◌≡◌, ◌≢◌, ◌≤◌, [], IfOk, OnOk, length};
+ghost use Rattle.std.specs.Prelude.{◌≤◌, IfOk, MatchOption, length};
 ghost use Rattle.plan_core.specs.declared.criterion.Criterion.{Criterion as Measured};
 ghost use Rattle.plan_core.specs.Values.{value_of, limit_of};
 ghost use Rattle.track_order.specs.Order.{IsOrderOf};
 ghost use Rattle.drawing_problem.specs.Layout.{layout};
-ghost use Rattle.log_check.specs.Expectation.{expectation, PassesLimits};
+ghost use Rattle.log_check.specs.Expectation.{expectation};
+ghost use Rattle.log_check.specs.Accepted.{AreAccepted};
 ghost use Rattle.log_check.specs.Claimed.{IsClaimOf};
 ghost use Rattle.log_check.specs.Judged.{CertifiesWhole};
 ghost use Rattle.hint_log.specs.Trimmed.{AreRefutedLines};
 ghost use Rattle.log_trim.specs.TrimmedLog.{IsTrimmedLog};
-ghost use Rattle.log_trim.specs.Shown.{MayBeCompleted, IsCompleted, IsKeptOf};
+ghost use Rattle.log_trim.specs.Shown.{IsReadied, IsKeptOf};
 
-use crate::completing::complete;
+use crate::completing::{fit_by, may_lack_all};
 use crate::reading::{bounds_of, count_learnt, lines_in};
 use crate::wanting::wanted_of;
 use cnf_core::CnfFault;
 use hint_log::{HintList, trim};
 use log_check::{Claim, caps_in, expected_of, greatest_values};
-use plan_core::{Grid, Items, MAX_LOG_BYTES, Order, OutOfMemory, Values};
+use plan_core::{Grid, MAX_LOG_BYTES, Order, OutOfMemory, Values};
 use port_graph::PortGraph;
 use refute_log::LineList;
 use std::alloc::Global;
@@ -34,8 +35,9 @@ pub struct TrimmedLog {
     pub learnt: usize,
 }
 
-/// Adds the Formula lines that are expected for the caps and that the lines lack.
-fn complete_for(
+/// Whether the lines fit what is expected for the caps and have room, so that they are accepted if they derive. Where
+/// some are wanted, the Formula lines that are missing are added then.
+fn fit_for(
     alloc: Global,
     g: &PortGraph,
     t: &TrackOrder,
@@ -43,25 +45,22 @@ fn complete_for(
     order: &Order,
     caps: &Values,
     lines: &mut LineList,
-) -> Result<(), OutOfMemory>
+    wanted: &[u32],
+) -> Result<bool, OutOfMemory>
     requires order { IsOrderOf g.now t.now }
     requires caps { (c : Measured) → value_of caps.now c ≤ limit_of g.now grid.now c }
-    requires may { MayBeCompleted (expectation (layout g.now t.now grid.now) order.now (value_of caps.now)) lines.old }
-    requires within { PassesLimits (expectation (layout g.now t.now grid.now) order.now (value_of caps.now)) → ⊥ }
-    ensures { OnOk result (IsCompleted (expectation (layout g.now t.now grid.now) order.now (value_of caps.now))
-        lines.old lines.new) }
+    requires wanted { AreRefutedLines lines.old wanted.now }
+    ensures { IfOk result (IsReadied (expectation (layout g.now t.now grid.now) order.now (value_of caps.now)) lines.old
+        wanted.now lines.new) }
 {
     match expected_of(alloc, g, t, grid, order, caps) {
-        Ok(expected) => {
-            complete(alloc, lines, expected.encoded.formula())?;
-            Ok(())
-        }
-        Err(CnfFault::Room) => unreachable!(),
+        Ok(expected) => fit_by(alloc, &expected, lines, wanted),
+        Err(CnfFault::Room) => Ok(may_lack_all(lines, wanted)),
         Err(CnfFault::Memory) => Err(OutOfMemory),
     }
 }
 
-/// The hinted lines of the wanted ones; none where none is wanted.
+/// The hinted lines of the wanted ones, where the lines are accepted; none where they aren't.
 fn kept_of(
     alloc: Global,
     g: &PortGraph,
@@ -71,23 +70,22 @@ fn kept_of(
     caps: &Values,
     lines: &mut LineList,
     wanted: &[u32],
-) -> Result<HintList, OutOfMemory>
+) -> Result<Option<HintList>, OutOfMemory>
     requires order { IsOrderOf g.now t.now }
     requires caps { (c : Measured) → value_of caps.now c ≤ limit_of g.now grid.now c }
-    requires may { MayBeCompleted (expectation (layout g.now t.now grid.now) order.now (value_of caps.now)) lines.old }
     requires wanted { AreRefutedLines lines.old wanted.now }
-    ensures { IfOk result (IsKeptOf (expectation (layout g.now t.now grid.now) order.now (value_of caps.now)) lines.old
-        wanted.now) }
+    ensures { let e = expectation (layout g.now t.now grid.now) order.now (value_of caps.now) in
+        IfOk result (λ r. MatchOption r (AreAccepted e lines.old → ⊥) (IsKeptOf e lines.old wanted.now)) }
 {
-    if wanted.is_empty() {
-        return Ok(Items::new(alloc));
+    if !fit_for(alloc, g, t, grid, order, caps, lines, wanted)? {
+        return Ok(None);
     }
-    complete_for(alloc, g, t, grid, order, caps, lines)?;
     trim(alloc, lines, wanted)
 }
 
-/// What is left of the text of a log that certifies the claim on the lawful drawings of a graph on a grid, in an order
-/// of criteria: the Refuted lines by which it does, and those Learnt lines on which they rest, with their hints.
+/// What is left of the text of a log, if that certifies the claim on the lawful drawings of a graph on a grid, in an
+/// order of criteria: the Refuted lines by which it does, and those Learnt lines on which they rest, with their hints.
+/// None where it doesn't certify the claim.
 pub fn trim_log(
     alloc: Global,
     g: &PortGraph,
@@ -96,19 +94,26 @@ pub fn trim_log(
     order: &Order,
     claim: &Claim,
     log: &[u8],
-) -> Result<TrimmedLog, OutOfMemory>
+) -> Result<Option<TrimmedLog>, OutOfMemory>
     requires order { IsOrderOf g.now t.now }
     requires claim { IsClaimOf order.now claim.now }
     requires short { length log.now ≤ MAX_LOG_BYTES }
-    requires certified { CertifiesWhole (layout g.now t.now grid.now) order.now claim.now log.now }
-    ensures { IfOk result (IsTrimmedLog (layout g.now t.now grid.now) order.now claim.now log.now) }
+    ensures { let y = layout g.now t.now grid.now in
+        IfOk result (λ r. MatchOption r (CertifiesWhole y order.now claim.now log.now → ⊥)
+        (λ left. CertifiesWhole y order.now claim.now log.now × IsTrimmedLog y order.now claim.now log.now left)) }
 {
     let greatest = greatest_values(g, grid);
     let caps = caps_in(alloc, log, &greatest)?;
-    let mut lines = lines_in(alloc, log)?;
+    let Some(mut lines) = lines_in(alloc, log)? else {
+        return Ok(None);
+    };
     let learnt = count_learnt(&lines);
     let bounds = bounds_of(alloc, &lines)?;
-    let wanted = wanted_of(alloc, &lines, &bounds, &greatest, order, claim)?;
-    let kept = kept_of(alloc, g, t, grid, order, &caps, &mut lines, &wanted)?;
-    Ok(TrimmedLog { caps, kept, learnt })
+    let Some(wanted) = wanted_of(alloc, &lines, &bounds, &greatest, order, claim)? else {
+        return Ok(None);
+    };
+    let Some(kept) = kept_of(alloc, g, t, grid, order, &caps, &mut lines, &wanted)? else {
+        return Ok(None);
+    };
+    Ok(Some(TrimmedLog { caps, kept, learnt }))
 }

@@ -13,3 +13,4 @@ pub mod WordLemmas
 pub mod CheckerLemmas
 pub mod VerdictLemmas
 pub mod NoveltyLemmas
+pub mod TimelyLemmas

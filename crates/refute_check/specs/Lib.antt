@@ -1,4 +1,5 @@
 pub mod Kept
+pub mod Timely
 pub mod Entries
 pub mod Tables
 pub mod Words
