@@ -42,8 +42,8 @@ pub(crate) fn fit_by(
 ) -> Result<bool, OutOfMemory>
     requires { (y : Layout) × (order : List Measured) × (cap : Measured → ℕ) ×
         IsExpecting y order cap e.now.encoded e.now.parts.items }
-    ensures { (y : Layout) (order : List Measured) (cap : Measured → ℕ) → let d = expectation y order cap in
-        IsExpecting y order cap e.now.encoded e.now.parts.items → (PassesLimits d → ⊥) →
+    ensures { (y : Layout) (o : List Measured) (cap : Measured → ℕ) → let d = expectation y o cap in
+        IsExpecting y o cap e.now.encoded e.now.parts.items → (PassesLimits d → ⊥) →
         IfOk result (IsReadied d lines.old wanted.now lines.new) }
 {
     if !begin_expected(lines, e) {
