@@ -35,7 +35,8 @@ use Rattle.hint_log.specs.declared.hint_line.HintLine.{HintLine}
 use Rattle.hint_log.specs.declared.hint_line.HintLine.TheVariants.{Learnt, Refuted}
 use Rattle.hint_log.specs.Hint.{hints_of, Leads, IsGood}
 use Rattle.hint_log.specs.Checked.{clauses_learnt}
-use Rattle.hint_log.specs.Trimmed.{HintLines, line_of, StandAt, AreGood}
+use Rattle.hint_log.specs.HintedLines.{HintLines, line_of, AreGood}
+use Rattle.hint_trim.specs.Trimmed.{StandAt}
 use Rattle.hint_text.specs.HintText.{IsClauseNumber, MayBeWritten, MayAllBeWritten, ended_hint}
 use Rattle.hint_text.specs.Caps.{AreSmallCaps, IsFitCap}
 use Rattle.hint_check.specs.Accepted.{AreCapsFor, AreAcceptedHints}

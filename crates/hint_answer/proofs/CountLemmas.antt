@@ -8,7 +8,7 @@ use Rattle.refute_log.proofs.LogLemmas.{flat_map_last}
 use Rattle.hint_log.specs.declared.hint_line.HintLine.{HintLine}
 use Rattle.hint_log.specs.declared.hint_line.HintLine.TheVariants.{Learnt, Refuted}
 use Rattle.hint_log.specs.Checked.{clauses_learnt}
-use Rattle.hint_log.specs.Trimmed.{HintLines}
+use Rattle.hint_log.specs.HintedLines.{HintLines}
 
 pub counted_next : (lines : HintLines) (i n : ℕ) (line : HintLine) → slice_get lines i ≡ Some line → n ≡ length (flat_map clauses_learnt (take i lines)) → length (flat_map clauses_learnt (take (i + 1) lines)) ≡ n + length (clauses_learnt line)
 counted_next lines i n line at is =

@@ -1,7 +1,7 @@
 // The text of what is left of a log, and the lines that trim and recheck put.
 ghost use Rattle.std.specs.Prelude.{◌≡◌, ◌++◌, IfOk, OnOk, flat_map, length};
 ghost use Rattle.hint_log.specs.Checked.{clauses_learnt};
-ghost use Rattle.hint_log.specs.Trimmed.{HintLines};
+ghost use Rattle.hint_log.specs.HintedLines.{HintLines};
 ghost use Rattle.hint_text.specs.HintText.{ended_hint};
 ghost use Rattle.hint_check.specs.declared.verdict.HintsVerdict.TheVariants as verdicts;
 ghost use Rattle.hint_answer.specs.Texts.{left_text, trimmed_line, hints_fault_line, hints_line, hint_refusal_status};

@@ -1,7 +1,8 @@
 // Logs of a few lines: which of them derive, and how many hinted lines are left.
 ghost use Rattle.std.specs.Prelude.{◌≤◌, ◌^◌, length};
 
-use hint_log::{HintList, trim};
+use hint_log::HintList;
+use hint_trim::trim;
 use plan_core::OutOfMemory;
 use refute_log::{LineList, read_line};
 use std::alloc::Global;

@@ -16,9 +16,9 @@ use Rattle.hint_log.specs.declared.hint_line.HintLine.{HintLine}
 use Rattle.hint_log.specs.declared.hint_line.HintLine.TheVariants.{Learnt, Refuted}
 use Rattle.hint_log.specs.Hint.{IsGood, FailsAt, shown_lits, hints_of}
 use Rattle.hint_log.specs.Checked.{HintFacts, clauses_learnt, refuted_of, facts_with, LacksHintRoom, AcceptsHint, PassesHintRoom}
-use Rattle.hint_log.specs.Trimmed.{HintLines}
+use Rattle.hint_log.specs.HintedLines.{HintLines}
 use Rattle.hint_log.proofs.HintLemmas.{not_both}
-use Rattle.hint_log.proofs.HintedLemmas.{good_more}
+use Rattle.hint_log.proofs.HintedLinesLemmas.{good_more}
 use Rattle.hint_text.specs.declared.fault.HintsWhat.{HintsWhat}
 use Rattle.hint_text.specs.HintText.{ended_hint, MayBeWritten, MayAllBeWritten}
 use Rattle.hint_claims.specs.Hinted.{log_of, KnowsHints}

@@ -5,7 +5,7 @@ use Rattle.line_text.specs.Fields.{IsCutAt, spaced}
 use Rattle.refute_log.specs.Lines.{log_line_text}
 use Rattle.hint_log.specs.declared.hint_line.HintLine.{HintLine}
 use Rattle.hint_log.specs.Hint.{hints_of}
-use Rattle.hint_log.specs.Trimmed.{line_of}
+use Rattle.hint_log.specs.HintedLines.{line_of}
 use Rattle.hint_text.specs.HintText.{MayBeWritten, number_fields, hint_text, ended_hint}
 use Rattle.hint_text.specs.HintFaults.{IsHintOf}
 use Rattle.hint_text.specs.declared.fault.HintsWhat.{HintsWhat}

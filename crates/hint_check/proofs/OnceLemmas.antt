@@ -21,7 +21,7 @@ use Rattle.log_check.proofs.CutLemmas.{same_cut, no_cut}
 use Rattle.hint_log.specs.declared.hint_line.HintLine.{HintLine}
 use Rattle.hint_log.specs.Hint.{IsGood}
 use Rattle.hint_log.specs.Checked.{clauses_learnt}
-use Rattle.hint_log.specs.Trimmed.{HintLines, AreGood}
+use Rattle.hint_log.specs.HintedLines.{HintLines, AreGood}
 use Rattle.hint_text.specs.declared.fault.HintsWhat.{HintsWhat}
 use Rattle.hint_text.specs.HintText.{MayBeWritten, MayAllBeWritten, hint_text, ended_hint, hints_header, caps_text, ended_caps}
 use Rattle.hint_text.specs.HintFaults.{IsHintOf, HasHintTextFault}

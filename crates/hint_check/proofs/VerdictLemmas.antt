@@ -21,7 +21,7 @@ use Rattle.log_check.specs.declared.claim.Claim.{Claim}
 use Rattle.log_check.specs.declared.claim.Claim.TheVariants.{Least, NoDrawing, Nothing}
 use Rattle.log_check.specs.Expectation.{expectation, PassesLimits}
 use Rattle.log_check.specs.Claimed.{CertifiesClaim, IsTrueClaim}
-use Rattle.hint_log.specs.Trimmed.{HintLines}
+use Rattle.hint_log.specs.HintedLines.{HintLines}
 use Rattle.hint_text.specs.declared.fault.HintsWhat.{HintsWhat}
 use Rattle.hint_text.specs.HintText.{hints_header}
 use Rattle.hint_text.specs.declared.fault.HintsWhat.TheVariants as whats

@@ -9,7 +9,7 @@ use Rattle.refute_log.specs.Log.{given}
 use Rattle.drawing_problem.specs.Layout.{Layout}
 use Rattle.log_check.specs.Expectation.{Expectation, expectation, PassesLimits}
 use Rattle.hint_log.specs.Checked.{clauses_learnt}
-use Rattle.hint_log.specs.Trimmed.{HintLines, AreGood}
+use Rattle.hint_log.specs.HintedLines.{HintLines, AreGood}
 use Rattle.hint_text.specs.HintText.{hints_header, ended_hint, ended_caps, MayAllBeWritten}
 use Rattle.hint_text.specs.Caps.{AreSmallCaps, AreInRange}
 

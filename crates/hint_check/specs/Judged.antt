@@ -10,7 +10,7 @@ use Rattle.log_check.specs.declared.claim.Claim.{Claim}
 use Rattle.log_check.specs.Expectation.{Expectation, PassesLimits}
 use Rattle.log_check.specs.Claimed.{CertifiesClaim, LacksAt, IsTrueClaim}
 use Rattle.hint_log.specs.declared.hint_line.HintLine.{HintLine}
-use Rattle.hint_log.specs.Trimmed.{HintLines}
+use Rattle.hint_log.specs.HintedLines.{HintLines}
 use Rattle.hint_text.specs.declared.fault.HintsWhat.{HintsWhat}
 use Rattle.hint_text.specs.declared.fault.HintsWhat.TheVariants as whats
 use Rattle.hint_text.specs.HintText.{hints_header, ended_hint, MayBeWritten}

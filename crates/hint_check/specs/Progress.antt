@@ -15,7 +15,7 @@ use Rattle.drawing_problem.specs.Layout.{Layout}
 use Rattle.log_check.specs.Claimed.{CertifiesClaim, LacksAt}
 use Rattle.hint_log.specs.Hint.{hints_of}
 use Rattle.hint_log.specs.Checked.{HintFacts, refuted_of}
-use Rattle.hint_log.specs.Trimmed.{HintLines}
+use Rattle.hint_log.specs.HintedLines.{HintLines}
 use Rattle.hint_text.specs.HintText.{ended_hint, ended_caps, MayBeWritten}
 use Rattle.hint_text.specs.Caps.{AreSmallCaps, AreInRange}
 use Rattle.hint_claims.specs.Hinted.{log_of, AreClauseLines}

@@ -6,7 +6,7 @@ use Rattle.cnf_core.specs.Clause.{words_of}
 use Rattle.line_text.specs.Fields.{LacksByte, IsCutAt}
 use Rattle.hint_log.specs.declared.hint_line.HintLine.{HintLine}
 use Rattle.hint_log.specs.Hint.{IsGood}
-use Rattle.hint_log.specs.Trimmed.{HintLines}
+use Rattle.hint_log.specs.HintedLines.{HintLines}
 use Rattle.hint_text.specs.declared.fault.HintsWhat.{HintsWhat}
 use Rattle.hint_text.specs.declared.fault.HintsWhat.TheVariants as whats
 use Rattle.hint_text.specs.HintFaults.{HasHintTextFault}

@@ -9,7 +9,7 @@ ghost use Rattle.drawing_problem.specs.Layout.{Layout, layout};
 ghost use Rattle.log_check.specs.Expectation.{Expectation, expectation};
 ghost use Rattle.log_check.specs.Claimed.{IsClaimOf};
 ghost use Rattle.hint_log.specs.Hint.{hints_of};
-ghost use Rattle.hint_log.specs.Trimmed.{HintLines};
+ghost use Rattle.hint_log.specs.HintedLines.{HintLines};
 ghost use Rattle.hint_text.specs.HintText.{hints_header};
 ghost use Rattle.hint_claims.specs.Hinted.{log_of, KnowsHints};
 ghost use Rattle.hint_check.specs.Accepted.{AcceptsHints};

@@ -27,7 +27,7 @@ use Rattle.certified_check.proofs.JudgeLemmas.{nothing}
 use Rattle.hint_log.specs.declared.hint_line.HintLine.{HintLine}
 use Rattle.hint_log.specs.declared.hint_line.HintLine.TheVariants.{Learnt, Refuted}
 use Rattle.hint_log.specs.Checked.{HintFacts, refuted_of, RefutesByHints}
-use Rattle.hint_log.specs.Trimmed.{HintLines, line_of, AreGood}
+use Rattle.hint_log.specs.HintedLines.{HintLines, line_of, AreGood}
 use Rattle.hint_log.proofs.HintLemmas.{good_follows}
 use Rattle.hint_claims.specs.Hinted.{log_of, AreClauseLines, MeetsHints, KnowsHints}
 

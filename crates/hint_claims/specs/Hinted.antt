@@ -7,7 +7,7 @@ use Rattle.certified_values.specs.Bounds.{MeetsLog}
 use Rattle.certified_check.specs.declared.told_bound.ToldBound.{ToldBound}
 use Rattle.certified_check.specs.Lacking.{told_bound}
 use Rattle.hint_log.specs.Checked.{HintFacts, refuted_of}
-use Rattle.hint_log.specs.Trimmed.{HintLines, line_of, AreGood}
+use Rattle.hint_log.specs.HintedLines.{HintLines, line_of, AreGood}
 
 -- the log that tells these lines first, and then the clauses of the hinted lines
 abbrev pub log_of : Lines → HintLines → Lines

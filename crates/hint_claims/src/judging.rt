@@ -5,7 +5,7 @@ ghost use Rattle.refute_log.specs.Told.{Lines};
 ghost use Rattle.certified_values.specs.Certified.{IsCertifiedLeast, CertifiesNone};
 ghost use Rattle.certified_check.specs.declared.told_bound.ToldBound.{ToldBound as Told};
 ghost use Rattle.certified_check.specs.Lacking.{IsFirstLacking};
-ghost use Rattle.hint_log.specs.Trimmed.{HintLines};
+ghost use Rattle.hint_log.specs.HintedLines.{HintLines};
 ghost use Rattle.hint_claims.specs.Hinted.{log_of, KnowsHints};
 
 use certified_check::{ToldBound, unreached};

@@ -5,7 +5,7 @@ ghost use Rattle.plan_core.specs.declared.criterion.Criterion.{Criterion};
 ghost use Rattle.plan_core.specs.Values.{Better};
 ghost use Rattle.refute_log.specs.Told.{Lines};
 ghost use Rattle.certified_values.specs.Certified.{Certifies, CertifiesNone};
-ghost use Rattle.hint_log.specs.Trimmed.{HintLines};
+ghost use Rattle.hint_log.specs.HintedLines.{HintLines};
 ghost use Rattle.hint_claims.specs.Hinted.{log_of, MeetsHints};
 
 /// Values that meet the lines that tell clauses and bounds aren't better than those that good hinted lines certify, on

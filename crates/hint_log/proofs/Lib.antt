@@ -5,11 +5,4 @@ pub mod HintLemmas
 pub mod VerdictLemmas
 pub mod JudgeLemmas
 pub mod CheckerLemmas
-pub mod FoundLemmas
-pub mod AssumingLemmas
-pub mod FinderLemmas
-pub mod HintedLemmas
-pub mod ShortenLemmas
-pub mod UsedLemmas
-pub mod KeptLemmas
-pub mod HintingLemmas
+pub mod HintedLinesLemmas

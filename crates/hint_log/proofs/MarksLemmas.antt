@@ -4,13 +4,12 @@ use Rattle.std.specs.Ordering.{nat_cmp}
 use Rattle.std.specs.BTreeSet.{BTreeSet, contains, Updates, IsEmpty}
 use Rattle.std.proofs.lemmas.Bool.{cases_lt, both_ways, false_from_ne_true}
 use Rattle.std.proofs.lemmas.Bool.Decides.{nat_tests}
-use Rattle.std.proofs.lemmas.List.{get_or_past}
+use Rattle.std.proofs.lemmas.List.{get_or_past, get_or-replicate, length-replicate}
 use Rattle.cnf_core.specs.Lit.{Literal, word_of, has}
 use Rattle.cnf_core.specs.Propagation.{Includes}
 use Rattle.cnf_core.specs.Trail.{marked}
 use Rattle.cnf_core.proofs.MarkLemmas.{marked_same, marked_other}
 use Rattle.cnf_core.proofs.TrailLemmas.{word_once, has_last, has_front, same_literal_or}
-use Rattle.watch_arena.proofs.TrailLemmas.{padded_none}
 use Rattle.hint_log.specs.Looks.{AreMarkedBy}
 
 -- two literals of which one alone has a place in the table
@@ -73,6 +72,6 @@ cleared table beyond none empty = record {
 
 pub new_marks : (n : ℕ) (beyond : BTreeSet ℕ) → IsEmpty beyond → AreMarkedBy (replicate n false) beyond []
 new_marks n beyond empty = record {
-  inside = λ k below. padded_none n (word_of k) false;
+  inside = λ k below. get_or-replicate n (word_of k) false false (omega (arith, below, length-replicate n false));
   outside = λ k from. rw empty refl;
 }

@@ -24,7 +24,7 @@ use Rattle.refute_log.proofs.LawLemmas.{right_form, decimal_is_number}
 use Rattle.hint_log.specs.declared.hint_line.HintLine.{HintLine}
 use Rattle.hint_log.specs.declared.hint_line.HintLine.TheVariants as hints
 use Rattle.hint_log.specs.Hint.{hints_of}
-use Rattle.hint_log.specs.Trimmed.{line_of}
+use Rattle.hint_log.specs.HintedLines.{line_of}
 use Rattle.hint_text.specs.declared.fault.HintsWhat.{HintsWhat}
 use Rattle.hint_text.specs.declared.fault.HintsWhat.TheVariants.{Header, Form, Number, Twice, Range}
 use Rattle.hint_text.specs.HintText.{IsClauseNumber, number_fields}

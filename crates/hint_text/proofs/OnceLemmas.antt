@@ -19,7 +19,7 @@ use Rattle.refute_log.proofs.FeedLemmas.{lacks_both, decimal_lacks, line_lacks}
 use Rattle.hint_log.specs.declared.hint_line.HintLine.{HintLine}
 use Rattle.hint_log.specs.declared.hint_line.HintLine.TheVariants as hints
 use Rattle.hint_log.specs.Hint.{hints_of}
-use Rattle.hint_log.specs.Trimmed.{line_of}
+use Rattle.hint_log.specs.HintedLines.{line_of}
 use Rattle.hint_text.specs.declared.fault.HintsWhat.{HintsWhat}
 use Rattle.hint_text.specs.declared.fault.HintsWhat.TheVariants.{Header, Form, Number, Twice, Range}
 use Rattle.hint_text.specs.declared.fault.HintTextFault.{HintTextFault}

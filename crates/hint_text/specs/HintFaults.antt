@@ -2,7 +2,7 @@
 use Rattle.std.specs.Prelude.{◌≡◌, ⊤, ℕ, List, codes}
 use Rattle.refute_log.specs.Lines.{NamesOnce}
 use Rattle.hint_log.specs.declared.hint_line.HintLine.{HintLine}
-use Rattle.hint_log.specs.Trimmed.{line_of}
+use Rattle.hint_log.specs.HintedLines.{line_of}
 use Rattle.hint_text.specs.declared.fault.HintsWhat.{HintsWhat}
 use Rattle.hint_text.specs.declared.fault.HintsWhat.TheVariants.{Header, Form, Number, Twice, Range}
 use Rattle.hint_text.specs.declared.fault.HintTextFault.{HintTextFault}

@@ -7,7 +7,7 @@ use Rattle.line_text.specs.Fields.{spaced, unended_text}
 use Rattle.refute_log.specs.Lines.{IsWellFormed, NamesOnce, with_zero, log_line_text}
 use Rattle.hint_log.specs.declared.hint_line.HintLine.{HintLine}
 use Rattle.hint_log.specs.Hint.{hints_of}
-use Rattle.hint_log.specs.Trimmed.{HintLines, line_of}
+use Rattle.hint_log.specs.HintedLines.{HintLines, line_of}
 
 -- the number of a clause that a line may name
 pub record IsClauseNumber (n : ℕ) : Type 0 where

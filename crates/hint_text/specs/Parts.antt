@@ -14,7 +14,7 @@ use Rattle.refute_log.specs.declared.line.LogLine.{LogLine}
 use Rattle.refute_log.specs.declared.fault.LogWhat.{LogWhat}
 use Rattle.refute_log.specs.declared.fault.LogWhat.TheVariants as logs
 use Rattle.hint_log.specs.declared.hint_line.HintLine.{HintLine}
-use Rattle.hint_log.specs.Trimmed.{line_of}
+use Rattle.hint_log.specs.HintedLines.{line_of}
 use Rattle.hint_text.specs.declared.fault.HintsWhat.{HintsWhat}
 use Rattle.hint_text.specs.declared.fault.HintsWhat.TheVariants.{Header, Form, Number, Twice, Range}
 use Rattle.hint_text.specs.HintText.{IsClauseNumber}

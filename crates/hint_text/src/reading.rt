@@ -2,7 +2,7 @@
 ghost use Rattle.std.specs.Prelude.{◌≡◌, ℕ, List, Some, IfOk, IfErr, MatchResult};
 ghost use Rattle.plan_core.specs.Exactly.{AnswersExactly};
 ghost use Rattle.hint_log.specs.Hint.{hints_of};
-ghost use Rattle.hint_log.specs.Trimmed.{line_of};
+ghost use Rattle.hint_log.specs.HintedLines.{line_of};
 ghost use Rattle.hint_text.specs.HintFaults.{IsHintOf, HasHintTextFault, IsHintWhere, IsHintTextFault};
 ghost use Rattle.hint_text.specs.Parts.{IsCutBehindZero, IsUnjoined, fault_of};
 

@@ -3,7 +3,7 @@ ghost use Rattle.std.specs.Prelude.{◌≡◌, ◌++◌, ◌∷◌, [], decimal,
 ghost use Rattle.outside_io.specs.Contents.{Begins};
 ghost use Rattle.line_text.specs.Fields.{spaced, unended_text};
 ghost use Rattle.refute_log.specs.Lines.{clause_fields, log_line_text};
-ghost use Rattle.hint_log.specs.Trimmed.{line_of};
+ghost use Rattle.hint_log.specs.HintedLines.{line_of};
 ghost use Rattle.hint_text.specs.HintText.{number_fields, hint_text, ended_hint, ended_caps};
 
 use cnf_core::Lit;

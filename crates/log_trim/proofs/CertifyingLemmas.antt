@@ -23,7 +23,8 @@ use Rattle.log_check.specs.declared.claim.Claim.{Claim}
 use Rattle.log_check.specs.declared.claim.Claim.TheVariants.{Least, NoDrawing, Nothing}
 use Rattle.log_check.specs.Claimed.{CertifiesClaim}
 use Rattle.hint_log.specs.declared.hint_line.HintLine.{HintLine}
-use Rattle.hint_log.specs.Trimmed.{HintLines, line_of, StandAt, AreGood, IsTrimmed}
+use Rattle.hint_log.specs.HintedLines.{HintLines, line_of, AreGood}
+use Rattle.hint_trim.specs.Trimmed.{StandAt, IsTrimmed}
 use Rattle.hint_claims.specs.Hinted.{log_of}
 use Rattle.log_trim.specs.declared.trimming.TrimmedLog.{TrimmedLog}
 use Rattle.log_trim.specs.Wanted.{AreWanted}

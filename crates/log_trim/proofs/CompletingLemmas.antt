@@ -27,7 +27,8 @@ use Rattle.certified_values.proofs.MeetsLemmas.{given_of_clauses}
 use Rattle.log_check.specs.Expectation.{Expectation, PassesLimits}
 use Rattle.log_check.specs.Accepted.{AreAccepted}
 use Rattle.hint_log.specs.declared.hint_line.HintLine.TheVariants.{Learnt, Refuted as RefutedHint}
-use Rattle.hint_log.specs.Trimmed.{HintLines, AreRefutedLines, StandAt, IsNamedLater, AreUsed, IsTrimmed}
+use Rattle.hint_log.specs.HintedLines.{HintLines}
+use Rattle.hint_trim.specs.Trimmed.{AreRefutedLines, StandAt, IsNamedLater, AreUsed, IsTrimmed}
 use Rattle.log_trim.specs.Shown.{IsCompleted, MayBeTrimmed, IsReadied, IsKeptOf}
 
 -- ---- one clause more

@@ -19,7 +19,7 @@ use Rattle.certified_check.proofs.JudgeLemmas.{nothing}
 use Rattle.log_check.specs.TextLines.{HasNextFault}
 use Rattle.log_check.proofs.CutLemmas.{line_goes_on, line_has_no_fault, no_next_fault, log_fronts}
 use Rattle.log_check.proofs.JudgingLemmas.{line_leaves_less}
-use Rattle.hint_log.proofs.HintedLemmas.{gathered_next}
+use Rattle.hint_trim.proofs.HintedLemmas.{gathered_next}
 use Rattle.log_trim.specs.TrimmedLog.{IsSpelledLog}
 use Rattle.log_trim.specs.Shown.{IsSomeLog}
 

@@ -26,7 +26,7 @@ use Rattle.log_check.specs.Judged.{CertifiesWhole}
 use Rattle.log_check.proofs.CountingLemmas.{caps_alone}
 use Rattle.log_check.proofs.CutLemmas.{bounds_once}
 use Rattle.log_check.proofs.JudgingLemmas.{same_expectation, certifies_as}
-use Rattle.hint_log.specs.Trimmed.{AreRefutedLines}
+use Rattle.hint_trim.specs.Trimmed.{AreRefutedLines}
 use Rattle.log_trim.specs.declared.trimming.TrimmedLog.{TrimmedLog}
 use Rattle.log_trim.specs.Wanted.{ShowsLeast, AreWanted}
 use Rattle.log_trim.specs.TrimmedLog.{IsSpelledLog, IsTrimmedLog}

@@ -11,7 +11,7 @@ use Rattle.certified_values.specs.Expected.{caps}
 use Rattle.drawing_problem.specs.Layout.{Layout}
 use Rattle.log_check.specs.declared.claim.Claim.{Claim}
 use Rattle.log_check.specs.Expectation.{Expectation, expectation}
-use Rattle.hint_log.specs.Trimmed.{IsTrimmed}
+use Rattle.hint_trim.specs.Trimmed.{IsTrimmed}
 use Rattle.log_trim.specs.declared.trimming.TrimmedLog.{TrimmedLog}
 use Rattle.log_trim.specs.Wanted.{AreWanted}
 

@@ -7,11 +7,11 @@ ghost use Rattle.refute_log.specs.Log.{given, clause_line, clause_lines};
 ghost use Rattle.drawing_problem.specs.Layout.{Layout};
 ghost use Rattle.log_check.specs.Expectation.{Expectation, expectation, PassesLimits};
 ghost use Rattle.log_check.specs.Expecting.{IsExpecting};
-ghost use Rattle.hint_log.specs.Trimmed.{AreRefutedLines};
+ghost use Rattle.hint_trim.specs.Trimmed.{AreRefutedLines};
 ghost use Rattle.log_trim.specs.Shown.{IsReadied};
 
 use cnf_core::{Clause, ClauseNo, Formula};
-use hint_log::count_given;
+use hint_trim::count_given;
 use log_check::{Expected, begin_expected, has_clause_line, have_room};
 use plan_core::OutOfMemory;
 use refute_log::{LineList, LogLine};

@@ -6,7 +6,7 @@ ghost use Rattle.refute_log.specs.Log.{given};
 ghost use Rattle.drawing_problem.specs.Layout.{Layout};
 ghost use Rattle.log_check.specs.declared.claim.Claim.{Claim as Claimed};
 ghost use Rattle.log_check.specs.Claimed.{CertifiesClaim};
-ghost use Rattle.hint_log.specs.Trimmed.{AreGood};
+ghost use Rattle.hint_log.specs.HintedLines.{AreGood};
 ghost use Rattle.hint_claims.specs.Hinted.{log_of};
 ghost use Rattle.log_trim.specs.declared.trimming.TrimmedLog.{TrimmedLog as Left};
 ghost use Rattle.log_trim.specs.TrimmedLog.{expected_by, IsTrimmedLog};

@@ -8,7 +8,7 @@ ghost use Rattle.log_check.specs.Expectation.{expectation};
 ghost use Rattle.log_check.specs.Accepted.{AreAccepted};
 ghost use Rattle.log_check.specs.Claimed.{IsClaimOf};
 ghost use Rattle.log_check.specs.Judged.{CertifiesWhole};
-ghost use Rattle.hint_log.specs.Trimmed.{AreRefutedLines};
+ghost use Rattle.hint_trim.specs.Trimmed.{AreRefutedLines};
 ghost use Rattle.log_trim.specs.TrimmedLog.{IsTrimmedLog};
 ghost use Rattle.log_trim.specs.Shown.{IsReadied, IsKeptOf};
 
@@ -16,7 +16,8 @@ use crate::completing::{fit_by, may_lack_all};
 use crate::reading::{bounds_of, count_learnt, lines_in};
 use crate::wanting::wanted_of;
 use cnf_core::CnfFault;
-use hint_log::{HintList, trim};
+use hint_log::HintList;
+use hint_trim::trim;
 use log_check::{Claim, caps_in, expected_of, greatest_values};
 use plan_core::{Grid, MAX_LOG_BYTES, Order, OutOfMemory, Values};
 use port_graph::PortGraph;

@@ -7,7 +7,7 @@ use Rattle.refute_log.specs.declared.line.LogLine.{LogLine}
 use Rattle.refute_log.specs.declared.line.LogLine.TheVariants.{Formula, Learnt, Bound, Query, Refuted, Model}
 use Rattle.refute_log.specs.Told.{Lines}
 use Rattle.refute_log.specs.Log.{IsRefutedWithin}
-use Rattle.hint_log.specs.Trimmed.{AreRefutedLines}
+use Rattle.hint_trim.specs.Trimmed.{AreRefutedLines}
 use Rattle.hint_cases.proofs.trimming.left_of.Goals as goal
 
 abbrev IsRefutedAt : Lines → ℕ → Type 0

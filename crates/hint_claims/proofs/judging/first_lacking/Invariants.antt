@@ -2,7 +2,7 @@ use Rattle.std.proofs.Common.{◌≡◌, take}
 use Rattle.plan_core.specs.Values.{value_of}
 use Rattle.refute_log.specs.Told.{Lines}
 use Rattle.certified_values.specs.Certified.{Certifies}
-use Rattle.hint_log.specs.Trimmed.{HintLines}
+use Rattle.hint_log.specs.HintedLines.{HintLines}
 use Rattle.hint_claims.specs.Hinted.{log_of, KnowsHints}
 use Rattle.hint_claims.proofs.judging.first_lacking.Given as goal
 

@@ -1,0 +1,4 @@
+pub mod Found
+pub mod Trimmed
+pub mod Shortened
+pub mod Hinting

@@ -1,0 +1,49 @@
+-- What is left of a log: hinted lines that show the Refuted lines that are wanted.
+use Rattle.std.specs.Prelude.{◌≡◌, ◌≤◌, ℕ, ◌+◌, ⊤, Some, List, [], ◌∷◌, Any, Contains, length, flat_map, slice_get}
+use Rattle.cnf_core.specs.Lit.{Literal}
+use Rattle.refute_log.specs.declared.line.LogLine.TheVariants.{Refuted as RefutedLine}
+use Rattle.refute_log.specs.Told.{Lines}
+use Rattle.refute_log.specs.Log.{given}
+use Rattle.hint_log.specs.declared.hint_line.HintLine.{HintLine}
+use Rattle.hint_log.specs.declared.hint_line.HintLine.TheVariants.{Learnt, Refuted}
+use Rattle.hint_log.specs.Hint.{hints_of}
+use Rattle.hint_log.specs.HintedLines.{HintLines, line_of, AreGood}
+
+-- a Refuted line is one that is wanted
+abbrev pub IsWanted : List ℕ → ℕ → HintLine → Type 0
+IsWanted wanted p (Learnt lits hints) = ⊤
+IsWanted wanted p (Refuted lits hints) = Contains wanted p
+
+pub record IsLineAt (lines : Lines) (wanted : List ℕ) (p : ℕ) (line : HintLine) : Type 0 where
+  pub there : slice_get lines p ≡ Some (line_of line)
+  pub asked : IsWanted wanted p line
+
+-- the hinted lines stand in the log at these places, which rise, from low on and below high
+abbrev pub StandAt : Lines → List ℕ → ℕ → ℕ → List ℕ → HintLines → Type 0
+StandAt lines wanted low high [] [] = low ≤ high
+StandAt lines wanted low high (p ∷ places) (line ∷ rest) = (low ≤ p) × IsLineAt lines wanted p line
+    × StandAt lines wanted (p + 1) high places rest
+StandAt lines wanted low high [] (line ∷ rest) = ⊥
+StandAt lines wanted low high (p ∷ places) [] = ⊥
+
+-- some line names the clause of this number
+abbrev pub IsNamedLater : ℕ → HintLines → Type 0
+IsNamedLater n lines = Any (λ line. Contains (hints_of line) n) lines
+
+-- behind so many clauses, each Learnt line is a hint of a later line
+abbrev pub AreUsed : ℕ → HintLines → Type 0
+AreUsed count [] = ⊤
+AreUsed count (Learnt lits hints ∷ rest) = IsNamedLater (count + 1) rest × AreUsed (count + 1) rest
+AreUsed count (Refuted lits hints ∷ rest) = AreUsed count rest
+
+pub record IsTrimmed (lines : Lines) (wanted : List ℕ) (answer : HintLines) : Type 0 where
+  pub places : List ℕ
+  pub stand : StandAt lines wanted 0 (length lines) places answer
+  pub all : (p : ℕ) → Contains wanted p → Contains places p
+  pub used : AreUsed (length (flat_map given lines)) answer
+  pub good : AreGood (flat_map given lines) answer
+
+-- the places are those of Refuted lines
+abbrev pub AreRefutedLines : Lines → List ℕ → Type 0
+AreRefutedLines lines wanted = (p : ℕ) → Contains wanted p →
+    (c : List Literal) × (slice_get lines p ≡ Some (RefutedLine c))
