@@ -1,10 +1,9 @@
 //! Formulas, integers, sums and the lines of edges, on what was worked out by hand.
 //!
-//! The crate has nothing but tests. `worked` has a few rows of each, `integer_orders` all models of orders between
-//! integers and `sum_models` all of sums, `columns` a line column by column, and `edges` counts the models of an
-//! edge's clauses. `assignments` tries clauses on assignments. Which clauses a call adds, stored logs show, in
-//! `cases/check`. The crate stands on the crates of formulas and of lines, so that a change of a case proves none of
-//! them again.
+//! The crate has nothing but tests. `worked` has a few rows of each, `columns` a line column by column, and `edges`
+//! counts the models of an edge's clauses. `assignments` tries clauses on assignments and counts models. Which clauses
+//! a call adds, stored logs show, in `cases/check`. The crate stands on the crates of formulas and of lines, so that a
+//! change of a case proves none of them again.
 #![tactic(auto)]
 
 #[cfg(test)]
@@ -13,9 +12,5 @@ mod assignments;
 mod columns;
 #[cfg(test)]
 mod edges;
-#[cfg(test)]
-mod integer_orders;
-#[cfg(test)]
-mod sum_models;
 #[cfg(test)]
 mod worked;

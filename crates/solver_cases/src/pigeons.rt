@@ -1,46 +1,40 @@
 // Seven pigeons in six holes: a formula without models, for which many clauses are learnt.
-ghost use Rattle.std.specs.Prelude.{◌≤◌};
-
 use crate::case::Case;
-use cdcl_core::Answer;
-use cnf_core::{Lit, Var};
+use crate::written::literal;
+use cdcl_core::{AddFault, Answer};
+use cnf_core::Lit;
 use plan_core::OutOfMemory;
 use std::alloc::Global;
 use std::test::Fail;
 
-/// The variable that says that a pigeon sits in a hole, both counted from 0.
-fn sits(pigeon: u32, hole: u32) -> Lit
-    requires pigeon { pigeon ≤ 6 }
-    requires hole { hole ≤ 5 }
-{
-    Lit::new(Var(6 * pigeon + hole + 1), true)
+/// The literal that says that a pigeon sits in a hole, both counted from 0, or that it doesn't.
+fn sits(pigeon: u32, hole: u32, so: bool) -> Result<Lit, AddFault> {
+    let before = pigeon.saturating_mul(6).saturating_add(hole);
+    literal(42, before.saturating_add(1), so)
 }
 
 /// A pigeon sits in one of the holes.
-fn give_pigeon(alloc: Global, case: &mut Case, pigeon: u32) -> Result<(), OutOfMemory>
-    requires { pigeon ≤ 6 }
-{
+fn give_pigeon(alloc: Global, case: &mut Case, pigeon: u32) -> Result<(), Fail> {
     let mut lits = Vec::new(alloc);
     for hole in 0..6 {
-        lits.push(sits(pigeon, hole))?;
+        lits.push(sits(pigeon, hole, true)?)?;
     }
-    case.give(&lits)
+    case.give(&lits)?;
+    Ok(())
 }
 
 /// No pigeon sits where an earlier one does.
-fn part(case: &mut Case, pigeon: u32) -> Result<(), OutOfMemory>
-    requires { pigeon ≤ 6 }
-{
+fn part(case: &mut Case, pigeon: u32) -> Result<(), Fail> {
     for earlier in 0..pigeon {
         for hole in 0..6 {
-            case.give(&[sits(pigeon, hole).negated(), sits(earlier, hole).negated()])?;
+            case.give(&[sits(pigeon, hole, false)?, sits(earlier, hole, false)?])?;
         }
     }
     Ok(())
 }
 
 /// The case of the whole formula.
-fn crowd(alloc: Global) -> Result<Case, OutOfMemory> {
+fn crowd(alloc: Global) -> Result<Case, Fail> {
     let mut case = Case::new(alloc, 42)?;
     for pigeon in 0..7 {
         give_pigeon(alloc, &mut case, pigeon)?;

@@ -92,18 +92,22 @@ fn ask(
     }
 }
 
+/// Suggests a model that has all variables.
+fn suggest_model(solver: &mut Solver, model: &Truths) -> Result<(), AddFault> {
+    if solver.failed() || model.vars() != solver.vars() as usize {
+        return Err(AddFault::Memory);
+    }
+    solver.suggest(model);
+    Ok(())
+}
+
 /// Suggests the model in which so many variables are true, and those behind them false.
 fn suggest(alloc: Global, solver: &mut Solver, high: u32) -> Result<(), AddFault> {
     let mut values = Vec::new(alloc);
     for i in 0..solver.vars() {
         values.push(i < high)?;
     }
-    let model = Truths::from_vec(values);
-    if solver.failed() || model.vars() != solver.vars() as usize {
-        return Err(AddFault::Memory);
-    }
-    solver.suggest(&model);
-    Ok(())
+    suggest_model(solver, &Truths::from_vec(values))
 }
 
 /// The first four literals of the model, or the assumptions that are refuted, rising.
@@ -443,6 +447,71 @@ fn a_log_that_fails_at_any_line_ends_the_solver(rt: HostRuntime) -> Result<(), F
     fail_all(rt.alloc())
 }
 
+/// Cases whose log refuses the line behind so many: the last that it takes is the clause that is learnt first.
+static LEARNT: [(u32, Case); 3] = [
+    (
+        6,
+        Case {
+            shows: "(-1 -4 -5) is false where 1 and 2 are decided; the first unique implication point is 3.",
+            room: 1_000,
+            vars: 5,
+            suggested: Some(5),
+            queries: &[Query {
+                clauses: &[&[-1, -2, 3], &[-3, 4], &[-3, 5], &[-1, -4, -5]],
+                assume: &[],
+                budget: 1,
+            }],
+            told: "Err(Log), line 6 is l -3 -1 0\n",
+        },
+    ),
+    (
+        5,
+        Case {
+            shows: "2 follows from 1, so that -2 is left out beside -1.",
+            room: 1_000,
+            vars: 4,
+            suggested: Some(4),
+            queries: &[Query {
+                clauses: &[&[-1, 2], &[-3, 4], &[-1, -2, -3, -4]],
+                assume: &[],
+                budget: 1,
+            }],
+            told: "Err(Log), line 5 is l -3 -1 0\n",
+        },
+    ),
+    (
+        5,
+        Case {
+            shows: "2 is the implication point, and no level is left.",
+            room: 1_000,
+            vars: 3,
+            suggested: None,
+            queries: &[Query {
+                clauses: &[&[1, 2], &[-2, 3], &[-2, -3]],
+                assume: &[],
+                budget: 1,
+            }],
+            told: "Err(Log), line 5 is l -2 0\n",
+        },
+    ),
+];
+
+fn learn_all(alloc: Global) -> Result<(), Fail> {
+    for (taken, case) in &LEARNT {
+        let mut log = LastLine::of(alloc, *taken);
+        let said = play(alloc, case, &mut log)?;
+        if said.as_str() != case.told {
+            return Err(Fail::new(case.shows));
+        }
+    }
+    Ok(())
+}
+
+#[test]
+fn conflicts_are_analysed(rt: HostRuntime) -> Result<(), Fail> {
+    learn_all(rt.alloc())
+}
+
 /// So many clauses of two neighbouring variables, from a variable on; a query behind them, where all variables are
 /// suggested to be true; and how many clauses are looked at.
 struct Look {
@@ -500,16 +569,27 @@ static LOOKS: [Look; 4] = [
     },
 ];
 
+/// Adds the clauses of neighbouring variables.
+fn add_neighbours(
+    alloc: Global,
+    solver: &mut Solver,
+    log: &mut LastLine,
+    look: &Look,
+) -> Result<(), AddFault> {
+    for i in 0..look.count {
+        let v = look.from.saturating_add(i.saturating_mul(2));
+        add(alloc, solver, log, &[v, v.saturating_add(1)])?;
+    }
+    Ok(())
+}
+
 /// How many clauses are looked at until a model is found.
 fn seen_by(alloc: Global, look: &Look) -> Result<u64, AddFault> {
     let mut log = LastLine::of(alloc, MANY);
     let mut solver = Solver::new(alloc, 10_000)?;
     solver.add_vars(2_003)?;
     suggest(alloc, &mut solver, 2_003)?;
-    for i in 0..look.count {
-        let v = look.from.saturating_add(i.saturating_mul(2));
-        add(alloc, &mut solver, &mut log, &[v, v.saturating_add(1)])?;
-    }
+    add_neighbours(alloc, &mut solver, &mut log, look)?;
     ask(alloc, &mut solver, &mut log, &look.query)?;
     Ok(solver.visits())
 }

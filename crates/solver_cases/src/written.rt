@@ -7,24 +7,24 @@ use cnf_core::{LAST_VAR, Lit, Var};
 use refute_log::are_distinct;
 use std::alloc::Global;
 
-/// The literal of a number: its variable, negative where the number is. There is no room for other variables.
-pub fn literal(vars: u32, number: i32) -> Result<Lit, AddFault>
+/// The literal of a variable. There is no room for other variables.
+pub fn literal(vars: u32, v: u32, positive: bool) -> Result<Lit, AddFault>
     ensures { IfOk result (λ l. IsThere vars l) }
 {
-    let v = number.unsigned_abs();
     if v == 0 || v > vars || v > LAST_VAR {
         return Err(AddFault::Room);
     }
-    Ok(Lit::new(Var(v), number > 0))
+    Ok(Lit::new(Var(v), positive))
 }
 
+/// The literals of numbers: their variables, negative where the number is.
 #[tactic(auto, using(cnf_core::proofs::GatherLemmas::there_push))]
 fn literals(alloc: Global, vars: u32, numbers: &[i32]) -> Result<Vec<Lit>, AddFault>
     ensures { IfOk result (λ lits. AreThere vars lits.items) }
 {
     let mut lits = Vec::new(alloc);
     for number in numbers {
-        lits.push(literal(vars, *number)?)?;
+        lits.push(literal(vars, number.unsigned_abs(), *number > 0)?)?;
     }
     Ok(lits)
 }

@@ -37,10 +37,16 @@ static BUDGETS: [(&str, u32); 10] = [
     ("explain a --conflicts 9", 9),
 ];
 
-#[test]
-fn a_search_may_learn_so_many_clauses(rt: HostRuntime) -> Result<(), Fail> {
+fn read_all(alloc: Global) -> Result<(), Fail> {
     for (words, budget) in &BUDGETS {
-        assert_eq!(rt; budget_in(rt.alloc(), words)?, *budget, "{words}");
+        if budget_in(alloc, words)? != *budget {
+            return Err(Fail::new(*words));
+        }
     }
     Ok(())
+}
+
+#[test]
+fn a_search_may_learn_so_many_clauses(rt: HostRuntime) -> Result<(), Fail> {
+    read_all(rt.alloc())
 }

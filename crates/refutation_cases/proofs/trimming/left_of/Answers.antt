@@ -8,7 +8,7 @@ use Rattle.refute_log.specs.declared.line.LogLine.TheVariants.{Formula, Learnt, 
 use Rattle.refute_log.specs.Told.{Lines}
 use Rattle.refute_log.specs.Log.{IsRefutedWithin}
 use Rattle.hint_trim.specs.Trimmed.{AreRefutedLines}
-use Rattle.hint_cases.proofs.trimming.left_of.Goals as goal
+use Rattle.refutation_cases.proofs.trimming.left_of.Goals as goal
 
 abbrev IsRefutedAt : Lines → ℕ → Type 0
 IsRefutedAt lines p = (c : List Literal) × (slice_get lines p ≡ Some (Refuted c))

@@ -1,5 +1,5 @@
 use Rattle.std.proofs.Common.{◌≡◌}
-use Rattle.hint_cases.proofs.checker.checker.Given as goal
+use Rattle.refutation_cases.proofs.hint_checker.four_clauses.Given as goal
 
 abbrev pub invariant-loop-x : goal.invariant-loop-x
 invariant-loop-x l = l.f.vars ≡ 2

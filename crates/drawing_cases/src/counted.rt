@@ -1,40 +1,23 @@
-// A checker as a log, which counts what it is told.
-ghost use Rattle.std.specs.Prelude.{◌≤◌};
-ghost use Rattle.cnf_core.specs.declared.limits.TheConstants.{ROOM};
-
-use certified_check::ToldBound;
-use plan_core::OutOfMemory;
-use refute_check::Checker;
+// A log that counts what it is told.
 use refute_log::{LogLine, LogSink, LogSinkFault};
-use std::alloc::Global;
 
-/// Feeds each line to a checker, and remembers whether one was refused.
+/// How many lines were told, of these Bound and Learnt lines, and the words of all clauses that were told or learnt.
 #[derive(Drop)]
-pub struct CheckedLog {
-    pub checker: Checker,
-    /// The bounds that were told.
-    pub bounds: Vec<ToldBound>,
-    /// How many lines there were.
+pub struct CountedLog {
     pub lines: u32,
-    /// The words of all clauses that were told or learnt.
-    pub words: u32,
-    /// How many Learnt lines there were.
+    pub bounds: u32,
     pub learnt: u64,
-    pub refused: bool,
+    pub words: u32,
 }
 
-impl CheckedLog {
-    pub fn new(alloc: Global, room: u32) -> Result<CheckedLog, OutOfMemory>
-        requires { room ≤ ROOM }
-    {
-        Ok(CheckedLog {
-            checker: Checker::new(alloc, room)?,
-            bounds: Vec::new(alloc),
+impl CountedLog {
+    pub fn new() -> CountedLog {
+        CountedLog {
             lines: 0,
-            words: 0,
+            bounds: 0,
             learnt: 0,
-            refused: false,
-        })
+            words: 0,
+        }
     }
 }
 
@@ -50,7 +33,7 @@ fn words_of(line: &LogLine) -> u32 {
     }
 }
 
-impl LogSink for CheckedLog {
+impl LogSink for CountedLog {
     ghost use Rattle.std.specs.Prelude.{◌≡◌, ⊤};
 
     ghost tells = { λ _ _. ⊥ };
@@ -62,11 +45,8 @@ impl LogSink for CheckedLog {
     ghost is_later = { λ _ _. ⊤ };
 
     fn tell(&mut self, line: &LogLine) -> Result<(), LogSinkFault> {
-        if let Some(bound) = ToldBound::of(line) {
-            self.bounds.push(bound)?;
-        }
-        if self.checker.feed(line).is_err() {
-            self.refused = true;
+        if matches!(line, LogLine::Bound { .. }) {
+            self.bounds = self.bounds.saturating_add(1);
         }
         self.lines = self.lines.saturating_add(1);
         self.words = self.words.saturating_add(words_of(line));
