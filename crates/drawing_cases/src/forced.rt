@@ -1,4 +1,4 @@
-// A model has no truth value to spare.
+// A model has no truth value to spare, but one for each two nodes in two columns.
 use crate::pictures::{LOOP_BEST, ONE_STEP};
 use crate::reading::{drawing_of, model_of, station_of};
 use crate::stations::{LOOP, ONE};

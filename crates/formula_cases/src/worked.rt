@@ -50,7 +50,8 @@ fn is_settled(alloc: Global) -> Result<bool, CnfFault> {
     Ok(f.vars() == 0 && at_least)
 }
 
-/// Whether two of three inputs are at least 1 and 2, in a model of the sum's seven variables.
+/// Whether a sum of three inputs has seven variables and a model for each setting of the inputs, and two of them are at
+/// least 1 and 2 in its model.
 fn is_two(alloc: Global) -> Result<bool, CnfFault> {
     let mut f = Formula::new(alloc, ROOM)?;
     f.new_vars(3)?;
@@ -60,7 +61,8 @@ fn is_two(alloc: Global) -> Result<bool, CnfFault> {
         Lit::new(Var(3), true),
     ];
     let sum = Sum::build(alloc, &mut f, &inputs, 2)?;
-    if f.vars() != 7 {
+    let mut counting = Truths::all_false(alloc, f.vars())?;
+    if f.vars() != 7 || models(&f, &mut counting) != 8 {
         return Ok(false);
     }
     let mut m = Truths::from_bools(alloc, &[true, false, true, true, false, true, false])?;

@@ -221,8 +221,8 @@ fn each_failing_read_is_told(rt: HostRuntime) -> Result<(), Fail> {
     tell_all_reads(rt.alloc())
 }
 
-/// Whether a run puts this text in one piece, and ends with 6 where that put fails: then a front of the text was put,
-/// and the files are as they are without a failure.
+/// Whether a run puts this text in one piece, and ends with 6 where that put fails: then nothing was put, and the files
+/// are as they are without a failure.
 fn tells_failing_put(
     alloc: Global,
     words: &[&'static str],
@@ -234,8 +234,8 @@ fn tells_failing_put(
     let is_whole = whole.spared
         && whole.status == status
         && whole.put.as_slice() == text.as_bytes();
-    let is_front = text.as_bytes().starts_with(&failed.put) && same_files(&failed, &whole);
-    Ok(is_whole && is_front && failed.status == 6 && !failed.spared)
+    let is_nothing = failed.put.is_empty() && same_files(&failed, &whole);
+    Ok(is_whole && is_nothing && failed.status == 6 && !failed.spared)
 }
 
 fn tell_all_puts(alloc: Global) -> Result<(), Fail> {
