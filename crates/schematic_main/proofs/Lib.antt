@@ -6,3 +6,5 @@ pub mod PassesLemmas
 pub mod CertifiedRuns
 pub mod VerifiedRuns
 pub mod HintedRuns
+pub mod SoLemmas
+pub mod SoExcludes

@@ -1,3 +1,5 @@
 pub mod Commands
 pub mod Run
 pub mod WholeRuns
+pub mod So
+pub mod Excluded
