@@ -22,10 +22,6 @@ use Rattle.cdcl_learn.proofs.LevelLemmas.{upto_parts, upto_from}
 use Rattle.cdcl_core.specs.Roots.{IsAssuming}
 use Rattle.cdcl_core.proofs.MoveLemmas.{IsFurther, further_longer, further_lit, further_decided, further_undone, further_upto, back_upto, further_old, further_in, further_nth, further_cases, level_low}
 
--- the trail alone counts
-pub asking_arena : (a b : Attached) (m : Marks) (query : List Literal) (q n : ℕ) → IsAssuming query (sight a m) q n → IsAssuming query (sight b m) q n
-asking_arena a b m query q n h = record { within = h.within; some = h.some; first = h.first; only = h.only; left = h.left }
-
 -- what propagation adds has reasons, or is of level 0
 pub asking_longer : (a b : Attached) (m k : Marks) (query : List Literal) (q n : ℕ) → IsMarks m → IsMarks k → IsLonger m k → KeepsReasons m k → AreReasoned b k → IsAssuming query (sight a m) q n → IsAssuming query (sight b k) q n
 asking_longer a b m k query q n before after longer keeps reasoned h =

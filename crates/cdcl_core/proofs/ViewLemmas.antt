@@ -11,7 +11,7 @@ use Rattle.refute_log.specs.Told.{Lines}
 use Rattle.refute_log.specs.Steps.{StillDerives}
 use Rattle.cdcl_core.specs.declared.search.Search.{Search}
 use Rattle.cdcl_core.specs.declared.answer.Answer.{Answer}
-use Rattle.cdcl_core.specs.Kept.{Kept, blank, with_more_vars, AreGiven, IsGivenOne, IsTrueAnswer, HasModelOnly, HasRefuted}
+use Rattle.cdcl_core.specs.Kept.{Kept, blank, with_more_vars, AreGiven, IsGivenOne, HasRefuted}
 use Rattle.cdcl_core.specs.Belongs.{Belongs, BelongsTo, HasSolved}
 use Rattle.cdcl_core.specs.Search.{clauses, seen, kept_of, IsIdle, IsSolver, IsKeptOne}
 use Rattle.cdcl_core.proofs.SetLemmas.{among_itself}
@@ -87,13 +87,6 @@ named_view s model refuted failed k query view h = subst (λ (x : Kept). All (λ
 -- the same with another model
 abbrev with_model : Kept → Option (List Bool) → List Literal → Bool → Kept
 with_model k model refuted failed = record { room = k.room; vars = k.vars; clauses = k.clauses; words = k.words; learnt = k.learnt; visits = k.visits; model = model; refuted = refuted; failed = failed }
-
--- an answer
-pub answer_view : (s t : Search) (model new : Option (List Bool)) (refuted needed : List Literal) (failed : Bool) (k : Kept) (query : List Literal) (a : Answer) → kept_of s model refuted failed ≡ k → k.failed ≡ false → ((given : Clauses) → AreGiven given (clauses s) → IsTrueAnswer a given query (kept_of t new needed false)) → (given : Clauses) → AreGiven given k.clauses → IsTrueAnswer a given query (kept_of t new needed failed)
-answer_view s t model new refuted needed failed k query a view e h given g = subst (λ b. IsTrueAnswer a given query (kept_of t new needed b)) (sym (failed_field s model refuted failed k view e)) (h given (subst (λ (x : Kept). AreGiven given x.clauses) (sym view) g))
-
-pub model_view : (s t : Search) (model new : Option (List Bool)) (refuted needed : List Literal) (failed : Bool) (k : Kept) (a : Answer) → kept_of s model refuted failed ≡ k → k.failed ≡ false → HasModelOnly a (kept_of t new needed false) → HasModelOnly a (kept_of t new needed failed)
-model_view s t model new refuted needed failed k a view e h = subst (λ b. HasModelOnly a (kept_of t new needed b)) (sym (failed_field s model refuted failed k view e)) h
 
 pub solved_given : (s t : Search) (model : Option (List Bool)) (refuted : List Literal) (failed : Bool) (k : Kept) → kept_of s model refuted failed ≡ k → ((given : Clauses) → AreGiven given (clauses s) → AreGiven given (clauses t)) → (given : Clauses) → AreGiven given k.clauses → AreGiven given (clauses t)
 solved_given s t model refuted failed k view h given g = h given (subst (λ (x : Kept). AreGiven given x.clauses) (sym view) g)

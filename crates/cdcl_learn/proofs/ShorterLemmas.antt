@@ -17,10 +17,6 @@ use Rattle.cdcl_learn.proofs.LiteralLemmas.{avoids_all, Placed, placed, placed_a
 use Rattle.cdcl_learn.proofs.RupLemmas.{root_follows, text_among}
 use Rattle.cdcl_learn.proofs.BackLemmas.{contains_rest, all_within}
 
--- literal by literal
-pub shortened_none : (s : Sight) (seen : List Bool) → IsShortened s seen [] []
-shortened_none s seen = record { within = λ k h. h; dropped = λ k h. inl h; distinct = tt }
-
 last_differs : (ls : List Literal) (k m : Literal) → AreDistinct (ls ++ k ∷ []) → Contains ls m → m.var ≢ k.var
 last_differs ls k m distinct among e =
     let there : get_or (ls ++ k ∷ []) among.0 m ≡ m = get_or_append_left ls (k ∷ []) m among.0 among.1 ∙ among.2 in
@@ -147,11 +143,3 @@ met_step s seen c v i m w lt e is here before j d below = elim (cases_lt j i) [
       let read : w ≡ (get_or c j d).var = is ∙ ap (λ (x : Literal). x.var) (sym (get_or_default c i d m lt ∙ e)) ∙ ap (λ n. (get_or c n d).var) (sym same) in
       subst (λ n. (n ≡ v) ⊎ ((is_seen seen n ≡ true) ⊎ (get_or s.levels n 0 ≡ 0))) read here
 ]
-
-pub redundant_from : (s : Sight) (seen : List Bool) (k : Literal) (v n i : ℕ) → v ≡ k.var → get_or s.reasons v 0 ≡ n → 1 ≤ n → length (clause_in s n) ≤ i → ((j : ℕ) (d : Literal) → j < i → ((get_or (clause_in s n) j d).var ≡ k.var) ⊎ ((is_seen seen (get_or (clause_in s n) j d).var ≡ true) ⊎ (level_of s (get_or (clause_in s n) j d) ≡ 0))) → IsRedundant s seen k
-redundant_from s seen k v n i var e some le h = record {
-  place = n;
-  from = some;
-  reason = ap (λ x. get_or s.reasons x 0) (sym var) ∙ e;
-  others = λ j d lt. h j d (omega arith);
-}

@@ -86,18 +86,6 @@ lower_view vars seen touched count rest len pending v k w e same met lt =
 abbrev pub Marked : List Bool → List ℕ → ℕ → ℕ → Type 0
 Marked seen touched i count = (v : ℕ) → is_seen seen v ≡ true → (j : ℕ) × (i ≤ j) × (j < count) × (get_or touched j 0 ≡ v)
 
-pub unmark_step : (seen : List Bool) (touched : List ℕ) (i count t : ℕ) → t ≡ get_or touched i 0 → t < length seen → Marked seen touched i count → Marked (set seen t false) touched (i + 1) count
-unmark_step seen touched i count t is lt m v h = elim (cases_eq v t) [
-  | inl e ↦ absurd (both_ways (is_seen (set seen t false) v) (ap (is_seen (set seen t false)) e ∙ get_or-set_same seen t false false lt) h)
-  | inr ne ↦
-      let old = m v (sym (get_or-set_other seen t v false false ne) ∙ h) in
-      let from = old.1 in
-      elim (cases_eq old.0 i) [
-        | inl e ↦ absurd (ne (sym old.3 ∙ ap (λ j. get_or touched j 0) e ∙ sym is))
-        | inr other ↦ (old.0, omega arith, old.2, old.3)
-      ]
-]
-
 pub unmarked : (seen : List Bool) (touched : List ℕ) (i count : ℕ) → count ≤ i → Marked seen touched i count → (v : ℕ) → is_seen seen v ≡ false
 unmarked seen touched i count le m v = elim (cases_Bool (is_seen seen v)) [
   | inl h ↦ let j = m v h in let a = j.1 in let b = j.2 in absurd (omega arith)

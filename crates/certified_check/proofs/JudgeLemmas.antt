@@ -159,9 +159,6 @@ any_of_more P bounds b any = elim (Contains-push_cases bounds b any.1 (any.0, an
   | inr e ↦ inr (subst P (sym e) any.4)
 ]
 
-pub unreached_none : (greatest : Criterion → ℕ) (earlier : List Criterion) (c : Criterion) (v : Values) → AreUnreached greatest [] earlier c v []
-unreached_none greatest earlier c v = λ l. (λ h. nothing l (Any (λ b. IsUnreached greatest earlier c v b × (b.literal ≡ l)) []) h, λ any. absurd (let low = any.2 in omega arith))
-
 pub unreached_more : (greatest : Criterion → ℕ) (bounds : List ToldBound) (b : ToldBound) (earlier : List Criterion) (c : Criterion) (v : Values) (literals : List Literal) → IsUnreached greatest earlier c v b →
     AreUnreached greatest bounds earlier c v literals → AreUnreached greatest (bounds ++ b ∷ []) earlier c v (literals ++ b.literal ∷ [])
 unreached_more greatest bounds b earlier c v literals u are = λ l.

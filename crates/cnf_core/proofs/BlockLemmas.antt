@@ -117,14 +117,6 @@ pub record IsBuilding (count : ℕ → ℕ) (f : ℕ → Clauses) (old now : Cnf
 count_next : (count : ℕ → ℕ) (k end : ℕ) → k < end → count_each count k (end - k) ≡ count k + count_each count (k + 1) (end - (k + 1))
 count_next count k end h = ap (λ n. count_each count k n) (one_less k end h)
 
-pub building_first : (count : ℕ → ℕ) (f : ℕ → Clauses) (old : Cnf) (first n : ℕ) → IsBuilding count f old old (count_each count first n) (each f first n) first (first + n)
-building_first count f old first n = let z : first + n - first ≡ n = omega arith in record {
-  vars = ap (λ m. old.vars + count_each count first m) z;
-  from = omega arith;
-  left = ap (λ m. old.clauses ++ each f first m) z;
-  room = refl;
-}
-
 pub building_more : {T : Type 0} (x : T) (count : ℕ → ℕ) (f : ℕ → Clauses) (old now new : Cnf) (total : ℕ) (clauses : Clauses) (k end longest : ℕ) → k < end → IsBuilding count f old now total clauses k end → AddsBlock (Ok x) now new (count k) (f k) longest → IsBuilding count f old new total clauses (k + 1) end
 building_more x count f old now new total clauses k end longest h a b = record {
   vars = let made = b.made in let v = a.vars in omega (arith, count_next count k end h);

@@ -268,17 +268,6 @@ pub forced_follows : (clauses : Clauses) (start : LiteralSet) (l : Literal) → 
 forced_follows clauses start l f = closure_unit clauses start f.clause l f.among f.inside
     (All-weaker (λ k. (k ≡ l) ⊎ Closure clauses nothing (negate k)) (λ k. (k ≡ l) ⊎ Closure clauses start (negate k)) (λ k h. elim h [ inl e ↦ inl e | inr c ↦ inr (closure_any clauses start (negate k) c) ]) f.clause f.others)
 
--- a reason by literals that follow from the clauses alone
-pub forced_by_reason : (clauses : Clauses) (set : LiteralSet) (l : Literal) → ((k : Literal) → IsIn set k → Closure clauses nothing k) → HasReason clauses set l → IsForced clauses l
-forced_by_reason clauses set l within r =
-    let unit = r.unit in
-    record {
-      clause = r.reason;
-      among = r.among;
-      inside = unit.among;
-      others = All-weaker (λ k. (k ≡ l) ⊎ IsIn set (negate k)) (λ k. (k ≡ l) ⊎ Closure clauses nothing (negate k)) (λ k h. elim h [ inl e ↦ inl e | inr f ↦ inr (within (negate k) f) ]) r.reason unit.others;
-    }
-
 pub record IsUnitClause (ls c : List Literal) : Type 0 where
   pub lit : Literal
   pub among : Contains ls lit

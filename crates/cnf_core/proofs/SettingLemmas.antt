@@ -76,12 +76,6 @@ signed_true false false h = refl
 pub set_is : (v : Assignment) (x : ℕ) (b : Bool) → truth v (literal x b) ≡ true → v x ≡ b
 set_is v x b h = signed_true b (v x) h
 
-pub set_more : (first k : ℕ) (u v w : Assignment) → ((x : ℕ) → x ≢ first + k → w x ≡ v x) → SameOutside first k u v → SameOutside first (k + 1) u w
-set_more first k u v w others s = record {
-  below = λ x h. others x (omega arith) ∙ s.below x h;
-  above = λ x h. others x (omega arith) ∙ s.above x (omega arith);
-}
-
 -- blocks for one party after another, each of its own size
 pub place_rises : (place size : ℕ → ℕ) → ((k : ℕ) → place (k + 1) ≡ place k + size k) → (a b : ℕ) → a ≤ b → place a ≤ place b
 place_rises place size next a zero le = let z : a ≡ 0 = omega arith in let y : place a ≡ place 0 = ap place z in omega arith

@@ -12,7 +12,6 @@ use Rattle.plan_core.specs.Order.{IsOrder}
 use Rattle.plan_core.proofs.LimitLemmas.{points_on_grid}
 use Rattle.track_order.specs.Order.{EdgeOrder, is_above}
 use Rattle.plan_writing.specs.declared.ending.Ending.TheVariants as endings
-use Rattle.plan_text.specs.SheetLine.{MayEnd}
 use Rattle.plan_text.specs.SheetText.{Sheet, MayBeSettled, DrawsAll, DrawsOnGrid, StatesSettled}
 use Rattle.refute_log.specs.Told.{Lines}
 use Rattle.lex_search.specs.declared.outcome.Outcome.{Outcome}
@@ -32,14 +31,6 @@ taken_more order i c before after within is_c so_far more =
     ∙ sym (take_more order i c within)
 
 -- ---- the sheet
-
-pub may_be_spent : (is_drawn : Bool) (settled : ℕ) → MayEnd is_drawn (endings.Conflicts settled)
-may_be_spent true settled = tt
-may_be_spent false settled = tt
-
-pub may_be_full : (is_drawn : Bool) (settled : ℕ) → MayEnd is_drawn (endings.Room settled)
-may_be_full true settled = tt
-may_be_full false settled = tt
 
 -- the drawing has a point for each node and a line for each edge
 ended_draws : (g : Graph) (o : EdgeOrder) (asked : Job) (outcome : Outcome) (lines : Lines) → IsOutcome (search_of g o asked) asked.order outcome lines → DrawsAll g (sheet_of asked outcome)

@@ -3,7 +3,6 @@ use Rattle.lex_search.specs.declared.outcome.Outcome.{Outcome}
 use Rattle.lex_search.specs.declared.outcome.Outcome.TheVariants as outcomes
 use Rattle.input_answer.specs.declared.status.Status.{Status}
 use Rattle.input_answer.specs.declared.status.Status.TheVariants.{Done, NoDrawing, Unfinished}
-use Rattle.input_answer.specs.Status.{IsRefused}
 use Rattle.draw_answer.specs.Drawn.{status_of}
 
 -- how a run ends after an outcome
@@ -12,6 +11,3 @@ on_outcome P (outcomes.Best d) done none unfinished = done
 on_outcome P outcomes.NoDrawing done none unfinished = none
 on_outcome P (outcomes.Spent best settled) done none unfinished = unfinished
 on_outcome P (outcomes.Room best settled) done none unfinished = unfinished
-
-pub outcome_unrefused : (outcome : Outcome) → IsRefused (status_of outcome) → ⊥
-outcome_unrefused outcome = on_outcome (λ s. IsRefused s → ⊥) outcome (λ h. h) (λ h. h) (λ h. h)

@@ -54,20 +54,6 @@ block_of_vars (Err e) old new n longest ok room err =
       room = ap (λ (f : Cnf). f.room) err;
     }
 
--- want of memory before anything is added, or after all is
-pub block_none : {T : Type 0} (r : Result T CnfFault) (f : Cnf) (count longest : ℕ) (xs : Clauses) → IsErr r → (IsErrOf r Room → ⊥) → AddsBlock r f f count xs longest
-block_none (Ok x) f count longest xs err none = absurd (cc)
-block_none (Err e) f count longest xs err none = record {
-  made = tt;
-  added = tt;
-  passes = λ k. absurd (none k);
-  full = λ k. absurd (none k);
-  words = omega arith;
-  from = omega arith;
-  vars = omega arith;
-  room = refl;
-}
-
 pub block_lost : {T U : Type 0} (x : T) (r : Result U CnfFault) (old new : Cnf) (count longest : ℕ) (xs : Clauses) → IsErr r → (IsErrOf r Room → ⊥) → AddsBlock (Ok x) old new count xs longest → AddsBlock r old new count xs longest
 block_lost x (Ok y) old new count longest xs err none a = absurd (cc)
 block_lost x (Err e) old new count longest xs err none a = record {

@@ -15,14 +15,14 @@ use Rattle.cnf_core.specs.Assignment.{Assignment, SatisfiesAll, Extends}
 use Rattle.cnf_core.proofs.ClauseLemmas.{satisfies_append, satisfies_left, satisfies_right, satisfies_all_same, all_there_append, all_there_more}
 use Rattle.law_clauses.specs.Stands.{DrawingVars}
 use Rattle.law_clauses.specs.LawClauses.{laws_clauses}
-use Rattle.law_clauses.specs.Expected.{drawing_vars, laws_first, base_clauses, expected_clauses, expected_size, instances, Covers}
+use Rattle.law_clauses.specs.Expected.{drawing_vars, laws_first, base_clauses, expected_clauses, expected_size, Covers}
 use Rattle.drawing_cnf.specs.Bounds.{IsExact, bound_clauses, bound_size, west_first}
-use Rattle.drawing_cnf.specs.Bounded.{Bound, bound, clauses_of_bound, size_of_bound, bounds_clauses, bounds_from, expected_bounds, expected, AreBehind, Tells, SoundWith}
+use Rattle.drawing_cnf.specs.Bounded.{Bound, bound, clauses_of_bound, size_of_bound, bounds_clauses, bounds_from, AreBehind, Tells, SoundWith}
 use Rattle.law_clauses.proofs.ThereLemmas.{AreVars}
 use Rattle.law_clauses.proofs.OverLemmas.{Read}
 use Rattle.law_clauses.proofs.InstanceLemmas.{AreInstances, laws_there, read_stays}
 use Rattle.law_clauses.proofs.BaseLemmas.{base_means, base_last, base_vars, base_there, lawful_loose}
-use Rattle.law_clauses.proofs.MainLemmas.{ListsAll, AreTablesOf, all_listed, each_law, full_model, reads_stand}
+use Rattle.law_clauses.proofs.MainLemmas.{ListsAll, each_law, full_model, reads_stand}
 use Rattle.drawing_cnf.proofs.BoundLemmas.{all_edges}
 use Rattle.drawing_cnf.proofs.BendsBound.{bends_exact, bends_extend, bends_there}
 use Rattle.drawing_cnf.proofs.HeightBound.{height_exact, height_extends, height_there}
@@ -142,10 +142,3 @@ from_behind g x grid caps last (c ∷ rest) = cases (nat_eq (caps c) 0) (from_be
         AreBehind g x grid last (cond b (bounds_from g x grid caps last rest) (bound c last (caps c) ∷ bounds_from g x grid caps (last + bound_size g x grid last (caps c) c) rest))
     cases true skip take = skip
     cases false skip take = (omega arith, take)
-
-pub expected_sound : (g : Graph) (above overlap : ℕ → ℕ → Bool) (grid : GridSize) (order : List Criterion) (caps : Criterion → ℕ) → IsTrackGraph g → IsGrid grid → AreTablesOf g above overlap → SoundWith g above grid (drawing_vars g grid) (expected g above overlap grid order caps) (expected_bounds g above overlap grid order caps)
-expected_sound g above overlap grid order caps is size t = sound_with g above grid (instances g above overlap) (expected_bounds g above overlap grid order caps) is size (all_listed g above overlap t)
-
-pub expected_covers : (g : Graph) (above overlap : ℕ → ℕ → Bool) (grid : GridSize) (order : List Criterion) (caps : Criterion → ℕ) → IsTrackGraph g → IsGrid grid → laws_first g grid ≤ VARS + 1 → AreTablesOf g above overlap → Covers g above grid (drawing_vars g grid) (expected g above overlap grid order caps)
-expected_covers g above overlap grid order caps is size few t =
-    covers_with g above grid (instances g above overlap) (expected_bounds g above overlap grid order caps) is size few (all_listed g above overlap t).are (from_behind g (drawing_vars g grid) grid caps (expected_size g grid (instances g above overlap)) order)

@@ -14,13 +14,13 @@ use Rattle.cnf_core.specs.declared.limits.TheConstants.{VARS}
 use Rattle.cnf_core.specs.declared.literal.LitOrTruth.{LitOrTruth}
 use Rattle.cnf_core.specs.Lit.{Literal}
 use Rattle.cnf_core.specs.Clause.{Clauses, AreThere, words_of}
-use Rattle.cnf_core.specs.LitOrTruth.{yes, flip, clause_of}
+use Rattle.cnf_core.specs.LitOrTruth.{yes, flip}
 use Rattle.cnf_core.specs.Formula.{Cnf}
 use Rattle.cnf_core.specs.Added.{AddsClauses, AddsBlock}
 use Rattle.cnf_core.proofs.BlockLemmas.{block_of_clauses, block_refused, block_after}
 use Rattle.cnf_core.proofs.ClauseLemmas.{words_append}
-use Rattle.cnf_core.proofs.StepLemmas.{grown, adds_longer, adds_nothing}
-use Rattle.unary_sum.specs.Sum.{SumVars, sum_vars, sum_count, sum_clauses, sum_outputs, sum_at_least as sum_at_least}
+use Rattle.cnf_core.proofs.StepLemmas.{grown}
+use Rattle.unary_sum.specs.Sum.{SumVars, sum_vars, sum_count, sum_clauses, sum_outputs}
 use Rattle.edge_shape.specs.EdgeVars.{EdgeSpot, lits_of, edge_size, EdgeIsPlaced}
 use Rattle.edge_shape.proofs.PlaceLemmas.{column_there}
 use Rattle.law_clauses.specs.Stands.{DrawingVars}
@@ -33,19 +33,6 @@ use Rattle.drawing_cnf.proofs.DiagonalBound.{outputs_there}
 use Rattle.drawing_cnf.proofs.ListCode.{AreInputs}
 use Rattle.drawing_cnf.proofs.BoundWords.{steps_inputs_length}
 use Rattle.drawing_cnf.proofs.BoundForced.{outputs_few}
-
--- an output that the sum has, or hasn't
-pub output_skipped : {T : Type 0} (x : T) (r : Result T CnfFault) (f : Cnf) (s : SumVars) (ts : List LitOrTruth) (k : ℕ) → r ≡ Ok x → s.most < k → AddsClauses r f f (gives_output s ts k) 3
-output_skipped x r f s ts k is lt =
-    let none : nat_le k s.most ≡ false = grind (arith, nat_tests) in
-    let same : gives_output s ts k ≡ [] = ap (λ b. cond b (clause_of [] (ts ++ sum_at_least s k ∷ [])) []) none in
-    subst (λ q. AddsClauses q f f (gives_output s ts k) 3) (sym is) (subst (λ (cs : Clauses). AddsClauses (Ok x) f f cs 3) (sym same) (adds_nothing x f 3))
-
-pub output_adds : {T : Type 0} (r : Result T CnfFault) (old new : Cnf) (s : SumVars) (ts us : List LitOrTruth) (k longest : ℕ) → k ≤ s.most → us ≡ ts ++ sum_at_least s k ∷ [] → longest ≤ 3 → AddsClauses r old new (clause_of [] us) longest → AddsClauses r old new (gives_output s ts k) 3
-output_adds r old new s ts us k longest le is few h =
-    let has : nat_le k s.most ≡ true = grind (arith, nat_tests) in
-    let same : gives_output s ts k ≡ clause_of [] us = ap (λ b. cond b (clause_of [] (ts ++ sum_at_least s k ∷ [])) []) has ∙ ap (clause_of []) (sym is) in
-    subst (λ (cs : Clauses). AddsClauses r old new cs 3) (sym same) (adds_longer r old new (clause_of [] us) longest 3 few h)
 
 -- variables and clauses, and then clauses
 pub clauses_refused : {T U : Type 0} (r : Result T CnfFault) (t : Result U CnfFault) (old new : Cnf) (count : ℕ) (xs ys : Clauses) (longest : ℕ) → IsErr t → (IsErrOf t Room → IsErrOf r Room) → AddsBlock r old new count xs longest → AddsBlock t old new count (xs ++ ys) longest
@@ -152,9 +139,6 @@ outputs_done all i front past h = sym (append-nil front) ∙ ap (λ (ls : List L
 pub record IsSumming (x : DrawingVars) (width most : ℕ) (old now : Cnf) (before sums : List SumVars) (edges rest : List ℕ) : Type 0 where
   pub left : IsLeft old now (edges_count x width most now.vars rest) (edges_count x width most old.vars edges) (edges_steps x width most now.vars rest) (edges_steps x width most old.vars edges)
   pub kept : sums ++ edges_sums x width most now.vars rest ≡ before ++ edges_sums x width most old.vars edges
-
-pub summing_first : (x : DrawingVars) (width most : ℕ) (old : Cnf) (before : List SumVars) (edges : List ℕ) → IsSumming x width most old old before before edges edges
-summing_first x width most old before edges = record { left = record { vars = refl; from = omega arith; clauses = refl; room = refl }; kept = refl }
 
 pub summing_more : {T : Type 0} (y : T) (x : DrawingVars) (width most : ℕ) (old now new : Cnf) (before sums more : List SumVars) (edges rest later : List ℕ) (e : ℕ) → rest ≡ e ∷ later → IsSumming x width most old now before sums edges rest → AddsBlock (Ok y) now new (sum_count (steps_sum (x.edge e) width most now.vars)) (edge_steps (x.edge e) (steps_sum (x.edge e) width most now.vars)) 3 → more ≡ sums ++ steps_sum (x.edge e) width most now.vars ∷ [] → IsSumming x width most old new before more edges later
 summing_more y x width most old now new before sums more edges rest later e is a b grown_by =

@@ -68,10 +68,6 @@ heights_next x width k e end front more whole lt a h =
     ∙ append_assoc front (column_lits (x.edge e) k 0 (width + 1)) rest
     ∙ ap (λ n. front ++ height_lits x width k e n) (sym left) ∙ h
 
--- nothing is left at the end
-pub column_done : (e : EdgeLits) (k c end : ℕ) (front whole : List Literal) → end ≤ c → front ++ column_lits e k c (end - c) ≡ whole → front ≡ whole
-column_done e k c end front whole le h = let z : end - c ≡ 0 = omega arith in sym (append-nil front) ∙ ap (λ n. front ++ column_lits e k c n) (sym z) ∙ h
-
 pub heights_done : (x : DrawingVars) (width k e end : ℕ) (front whole : List Literal) → end ≤ e → front ++ height_lits x width k e (end - e) ≡ whole → front ≡ whole
 heights_done x width k e end front whole le h = let z : end - e ≡ 0 = omega arith in sym (append-nil front) ∙ ap (λ n. front ++ height_lits x width k e n) (sym z) ∙ h
 

@@ -3,8 +3,7 @@ use Rattle.std.proofs.Common.{◌≡◌, ℕ, zero, suc, ◌+◌, ◌≤◌, ◌
 use Rattle.std.specs.Prelude.{◌&&◌, ◌||◌, nat_lt, nat_le, nat_eq, slice_index_or}
 use Rattle.std.proofs.lemmas.Bool.Decides.{leb_tells, nat_tests}
 use Rattle.plan_core.specs.declared.point.Point.{Point}
-use Rattle.edge_lines.specs.Track.{step_slope}
-use Rattle.edge_lines.specs.Columns.{has_inner, is_level, is_level_step, seen_by}
+use Rattle.edge_lines.specs.Columns.{has_inner, is_level_step, seen_by}
 
 or_false : (b : Bool) → b ≡ (b || false)
 or_false true = refl
@@ -25,18 +24,6 @@ inner_four (a ∷ b ∷ []) d x is = absurd (omega arith)
 inner_four (a ∷ b ∷ c ∷ []) d x is = absurd (omega arith)
 inner_four (a ∷ b ∷ c ∷ e ∷ f ∷ rest) d x is = absurd (omega arith)
 
-pub inner_two : (line : List Point) (x : ℕ) → length line ≤ 2 → false ≡ has_inner line x
-inner_two [] x is = refl
-inner_two (a ∷ []) x is = refl
-inner_two (a ∷ b ∷ []) x is = refl
-inner_two (a ∷ b ∷ c ∷ rest) x is = absurd (omega arith)
-
-pub level_test : (y : ℕ → ℕ) (w n e c : ℕ) (p q : Bool) → w + n + 1 ≡ e → p ≡ (nat_le w c && nat_lt c e) → q ≡ is_level (step_slope y c) → (p && q) ≡ is_level_step y w n c
-level_test y w n e c p q is ep eq = elim (leb_tells w c) [
-  | inr a ↦ rw (ep, a.0) refl
-  | inl a ↦ let t : nat_lt c e ≡ nat_le c (w + n) = grind (arith, nat_tests) in rw (ep, a.0, t) (ap (λ b. nat_le c (w + n) && b) eq)
-]
-
 pub seen_false : (y : ℕ → ℕ) (w n c : ℕ) → ((j : ℕ) → j < c + 1 → is_level_step y w n j ≡ false) → seen_by y w n c ≡ false
 seen_false y w n zero h = h 0 (omega arith)
 seen_false y w n (suc c) h = rw (seen_false y w n c (λ j lt. h j (omega arith))) (h (suc c) (omega arith))
@@ -54,10 +41,4 @@ pub level_high : (y : ℕ → ℕ) (w n e c : ℕ) → w + n + 1 ≡ e → w < e
 level_high y w n e c is less le =
     let t : nat_le w c ≡ true = grind (arith, nat_tests) in
     let s : nat_le c (w + n) ≡ false = grind (arith, nat_tests) in
-    rw (t, s) refl
-
-pub level_between : (y : ℕ → ℕ) (w n e c : ℕ) → w + n + 1 ≡ e → w ≤ c → c < e → is_level (step_slope y c) ≡ is_level_step y w n c
-level_between y w n e c is from to =
-    let t : nat_le w c ≡ true = grind (arith, nat_tests) in
-    let s : nat_le c (w + n) ≡ true = grind (arith, nat_tests) in
     rw (t, s) refl

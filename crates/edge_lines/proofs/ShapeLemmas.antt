@@ -6,7 +6,7 @@ use Rattle.std.proofs.lemmas.Bool.Decides.{leb_tells}
 use Rattle.plan_core.specs.declared.point.Point.{Point}
 use Rattle.plan_core.specs.declared.point.Slope.{Slope}
 use Rattle.plan_core.specs.declared.point.Slope.TheVariants.{Down, Level, Up}
-use Rattle.plan_core.specs.Line.{pieces_from, is_piece, slope, is_shape, is_line, height_from, height, last_from, west_end, east_end}
+use Rattle.plan_core.specs.Line.{pieces_from, is_piece, slope, is_shape, is_line, height_from, height, last_from, east_end}
 use Rattle.plan_core.proofs.PieceLemmas.{Reaches}
 use Rattle.edge_lines.specs.Track.{step_slope, same_slope, over, points_behind, line_over, IsTrack}
 use Rattle.edge_lines.proofs.TrackLemmas.{reaches_by_slope, same_is, same_self, IsRun, run_more, run_one, run_slope, run_piece, run_height}
@@ -200,9 +200,6 @@ track_is_line y w n t =
     let steps = track_steps y w n t in
     let run = first_run y w n t in
     rw (pieces_over y w w n (omega arith) steps run, slopes_over y w w n (omega arith) steps run) (track_shape y w n t)
-
-pub track_west : (y : ℕ → ℕ) (w n : ℕ) → west_end (line_over y w n) ≡ over y w
-track_west y w n = refl
 
 pub track_east : (y : ℕ → ℕ) (w n : ℕ) → east_end (line_over y w n) ≡ over y (w + n + 1)
 track_east y w n = last_over y (over y w) w n

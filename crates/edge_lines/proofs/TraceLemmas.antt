@@ -9,9 +9,6 @@ use Rattle.edge_lines.proofs.ShapeLemmas.{rest_of, track_is_line}
 pub record IsTracing (y : ℕ → ℕ) (w n c : ℕ) (points : List Point) : Type 0 where
   pub left : points ++ points_behind y c (w + n - c) ≡ line_over y w n
 
-pub tracing_first : (y : ℕ → ℕ) (w n : ℕ) → IsTracing y w n w (over y w ∷ [])
-tracing_first y w n = let z : w + n - w ≡ n = omega arith in record { left = ap (λ k. over y w ∷ points_behind y w k) z }
-
 behind_is : (y : ℕ → ℕ) (c m n : ℕ) (same : Bool) → m ≡ suc n → same_slope (step_slope y c) (step_slope y (c + 1)) ≡ same → points_behind y c m ≡ rest_of same y c n
 behind_is y c m n same e s = ap (points_behind y c) e ∙ ap (λ b. rest_of b y c n) s
 

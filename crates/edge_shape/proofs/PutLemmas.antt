@@ -2,11 +2,8 @@
 use Rattle.std.proofs.Common.{◌≡◌, ◌≢◌, ℕ, ◌+◌, ◌-◌, ◌≤◌, ◌<◌, Bool, List, length, inl, inr, refl, sym, ◌∙◌, ap, arith}
 use Rattle.std.proofs.Math.Path.{fun_ext}
 use Rattle.std.proofs.lemmas.Bool.Decides.{leb_tells, eqb_tells}
-use Rattle.cnf_core.specs.Assignment.{Assignment, SameOutside}
+use Rattle.cnf_core.specs.Assignment.{Assignment}
 use Rattle.cnf_core.specs.Truths.{assignment}
-use Rattle.order_int.specs.IntVars.{IntVars, size}
-use Rattle.order_int.specs.OrderInt.{Reads}
-use Rattle.order_int.proofs.IntLemmas.{steps_from_reads}
 
 pub record PutTo (x : ℕ) (old target now : Assignment) : Type 0 where
   pub below : (k : ℕ) → k < x → now k ≡ target k
@@ -21,19 +18,6 @@ pub put_next : (x : ℕ) (old target now new : Assignment) → PutTo x old targe
 put_next x old target now new p is others = record {
   below = λ k lt. elim (eqb_tells k x) [ inl e ↦ ap new e.1 ∙ is ∙ sym (ap target e.1) | inr e ↦ let ne = e.1 in others k ne ∙ p.below k (omega arith) ];
   above = λ k le. others k (omega arith) ∙ p.above k (omega arith);
-}
-
--- an integer more
-pub put_int : (i : IntVars) (n : ℕ) (old target now new : Assignment) → PutTo i.first old target now → Reads new i n → Reads target i n → SameOutside i.first (size i) now new → PutTo (i.first + size i) old target new
-put_int i n old target now new p r t s = record {
-  below = λ k lt. elim (leb_tells i.first k) [
-    | inl a ↦
-        let from = a.1 in
-        let z : i.first + (k - i.first) ≡ k = omega arith in
-        sym (ap new z) ∙ steps_from_reads new i n r (k - i.first) (omega arith) ∙ sym (steps_from_reads target i n t (k - i.first) (omega arith)) ∙ ap target z
-    | inr a ↦ let low = a.1 in s.below k (omega arith) ∙ p.below k (omega arith)
-  ];
-  above = λ k le. s.above k le ∙ p.above k (omega arith);
 }
 
 -- after all, where the new values are the old ones from x on

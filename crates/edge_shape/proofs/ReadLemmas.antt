@@ -22,10 +22,6 @@ goes_by Up m n h = record { level = λ a b. cc; up = λ a. h; down = λ a. cc }
 
 -- the values of a column before
 
-before_case : (v : Assignment) (x : ℕ → ℕ) (c : ℕ) (P : ℕ → Type 0) → (P 0) → ((k : ℕ) → P (k + 1)) → P c
-before_case v x zero P a f = a
-before_case v x (suc c) P a f = let z : c + 1 ≡ suc c = omega arith in subst P z (f c)
-
 seen_back : (v : Assignment) (e : EdgeLits) (width : ℕ) (y : ℕ → ℕ) (w n : ℕ) → ReadsTrack v e width y w n → (c : ℕ) → c < width → v (e.seen c) ≡ (value v (before e.seen c) || is_level_step y w n c)
 seen_back v e width y w n r zero lt = r.seen zero lt
 seen_back v e width y w n r (suc c) lt = r.seen (suc c) lt ∙ ap (λ b. b || is_level_step y w n (suc c)) (sym (r.seen c (omega arith)))

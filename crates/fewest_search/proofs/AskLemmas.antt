@@ -31,9 +31,6 @@ use Rattle.fewest_search.specs.Run.{RefutesNothing, IsRunOfDrawings, IsRunToEnd}
 
 -- ---- no drawing is below a limit that was refuted
 
-abbrev pub NoneBelow : CountTask → Option ℕ → Type 0
-NoneBelow p limit = (d : Drawing) → IsOne p d → IsBelow limit (p.count d) → ⊥
-
 reached_limit : (p : CountTask) (lines : Lines) (limit : Option ℕ) (n : ℕ) (t : TellsCount p lines n) (l : Literal) → MatchOption limit ⊤ (λ k. (1 ≤ k) × (k ≤ p.most)) → SaysReached p limit l → truth t.assignment l ≡ true → IsBelow limit n → ⊥
 reached_limit p lines None n t l within says e below = says
 reached_limit p lines (Some k) n t l within says e below =

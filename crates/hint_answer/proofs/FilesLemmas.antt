@@ -1,7 +1,7 @@
 -- Three files that were read, or couldn't be.
 use Rattle.std.proofs.Common.{◌≡◌, ℕ, List, sym, subst}
 use Rattle.std.specs.declared.option.Option.{Option}
-use Rattle.outside_io.specs.Contents.{FilesAt, Told, WhereTold, SameFiles}
+use Rattle.outside_io.specs.Contents.{FilesAt}
 use Rattle.input_answer.specs.declared.fault.RunFault.{RunFault}
 use Rattle.input_answer.specs.declared.input.InputRefusal.{InputRefusal}
 use Rattle.input_answer.specs.declared.input.InputRefusal.TheVariants as refusals
@@ -10,7 +10,7 @@ use Rattle.input_answer.specs.Fault.{IsFaultLine, fault_line, fault_status}
 use Rattle.input_answer.specs.Met.{Met, between, HasRead}
 use Rattle.input_answer.specs.Reading.{IsInput, IsUnreadInput}
 use Rattle.input_answer.specs.Answer.{text_input, log_input, IsAnswerAfter, IsAnswerOn}
-use Rattle.input_answer.proofs.AnswerLemmas.{IsRead, read_on, on_weaker, unread_on, input_before, answer_before}
+use Rattle.input_answer.proofs.AnswerLemmas.{IsRead, read_on, on_weaker, unread_on, answer_before}
 use Rattle.hint_answer.specs.Files.{IsAnswerToFiles, AreFiles, IsUnreadOfFiles}
 
 -- ---- more may be answered
@@ -39,20 +39,6 @@ Nothing bytes status text = ⊥
 abbrev NothingOfThree : List ℕ → List ℕ → List ℕ → Status → List ℕ → Type 0
 NothingOfThree bytes said lines status text = ⊥
 
-pub first_unread : (input sheet third : List ℕ) (met : Met) (r : InputRefusal) → IsUnreadInput (text_input 1 input) met r → IsUnreadOfFiles input sheet third met r
-first_unread input sheet third met (refusals.Fault fault) unread = unread_on (text_input 1 input) met fault (AfterFile sheet third met NothingOfThree) unread
-first_unread input sheet third met refusals.Memory unread = tt
-
-pub second_unread : (input sheet third bytes : List ℕ) (old mid new : FilesAt) (r : InputRefusal) → IsInput (text_input 1 input) old.contents bytes → IsRead old mid → IsUnreadInput (text_input 2 sheet) (between mid new) r →
-    IsUnreadOfFiles input sheet third (between old new) r
-second_unread input sheet third bytes old mid new (refusals.Fault fault) is read unread =
-    let met = between old new in
-    let status = fault_status fault in
-    let text = fault_line fault in
-    read_on (text_input 1 input) 0 met (AfterFile sheet third met NothingOfThree) bytes status text is
-    (answer_before (text_input 2 sheet) 0 old mid new Nothing (AfterSheet third met NothingOfThree bytes) status text read (λ said none. absurd none) (unread_on (text_input 2 sheet) (between mid new) fault Nothing unread))
-second_unread input sheet third bytes old mid new refusals.Memory is read unread = tt
-
 pub third_unread : (input sheet third bytes said : List ℕ) (old mid late new : FilesAt) (r : InputRefusal) → IsInput (text_input 1 input) old.contents bytes → IsInput (text_input 2 sheet) mid.contents said → IsRead old mid → IsRead mid late →
     IsUnreadInput (log_input 3 third) (between late new) r → IsUnreadOfFiles input sheet third (between old new) r
 third_unread input sheet third bytes said old mid late new (refusals.Fault fault) is also read again unread =
@@ -77,14 +63,6 @@ unread_answer input sheet third met A r fault status text is unread told =
     (subst (λ (t : List ℕ). IsAnswerToFiles input sheet third met NothingOfThree (fault_status fault) t) (sym told.line_is) there))
 
 -- ---- all three
-
-pub files_read : (input sheet third bytes said lines : List ℕ) (old mid late : Option Told) → WhereTold old mid SameFiles → WhereTold mid late SameFiles → IsInput (text_input 1 input) old bytes → IsInput (text_input 2 sheet) mid said →
-    IsInput (log_input 3 third) late lines → AreFiles input sheet third old bytes said lines
-files_read input sheet third bytes said lines old mid late same still first second last = record {
-  is_input = first;
-  is_sheet = input_before (text_input 2 sheet) old mid said same second;
-  is_third = input_before (log_input 3 third) old mid lines same (input_before (log_input 3 third) mid late lines still last);
-}
 
 -- the bytes of files that were read are answered so
 pub read_files : (input sheet third : List ℕ) (met : Met) (A : List ℕ → List ℕ → List ℕ → Status → List ℕ → Type 0) (bytes said lines : List ℕ) (status : Status) (text : List ℕ) → AreFiles input sheet third met.before.contents bytes said lines →

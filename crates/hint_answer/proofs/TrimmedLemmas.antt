@@ -12,14 +12,11 @@ use Rattle.log_check.specs.declared.claim.Claim.{Claim}
 use Rattle.log_check.specs.Judged.{CertifiesWhole}
 use Rattle.log_trim.specs.declared.trimming.TrimmedLog.{TrimmedLog}
 use Rattle.log_trim.specs.TrimmedLog.{IsTrimmedLog}
-use Rattle.input_answer.specs.declared.fault.RunFault.{RunFault}
 use Rattle.input_answer.specs.declared.status.Status.{Status}
-use Rattle.input_answer.specs.declared.status.Status.TheVariants.{Done, Refused}
+use Rattle.input_answer.specs.declared.status.Status.TheVariants.{Done}
 use Rattle.input_answer.specs.declared.reply.Reply.{Reply}
-use Rattle.input_answer.specs.Fault.{IsFaultLine}
 use Rattle.input_answer.specs.Met.{Met, between, HasRead}
-use Rattle.input_answer.specs.Input.{HasStation, HasFileFault}
-use Rattle.input_answer.proofs.InputLemmas.{file_fault_status}
+use Rattle.input_answer.specs.Input.{HasStation}
 use Rattle.sheet_answer.specs.CheckLine.{claim_of}
 use Rattle.sheet_answer.specs.Checked.{IsSheetAnswer}
 use Rattle.sheet_answer.specs.CertifiedSheet.{CertifiesSheet}
@@ -70,15 +67,6 @@ sheet_finding g o sheet log said (Left r) told h = record { said = said; certifi
 pub file_finding : (file sheet log : List ℕ) (g : Graph) (o : EdgeOrder) (f : Finding) → HasStation file g o → IsSheetFinding g o sheet log f → IsFinding file sheet log f
 file_finding file sheet log g o (Answered reply) has h = (inl (g, o, has, h.0), h.1)
 file_finding file sheet log g o (Left r) has h = record { graph = g; order = o; said = h.said; station = has; certifies = h.certifies; left = h.left }
-
--- a status that is a refusal's isn't 0
-pub refused_not_done : (status : Status) → status ≡ Refused → status ≢ Done
-refused_not_done status is same = let e : Refused ≡ Done = sym is ∙ same in cc
-
-pub fault_not_done : (file : List ℕ) (fault : RunFault) (status : Status) (text : List ℕ) → HasFileFault file fault → IsFaultLine fault status text → status ≢ Done
-fault_not_done file fault status text has told = refused_not_done status (told.status_is ∙ file_fault_status file fault has)
-
--- ---- what is answered to the three files
 
 pub finding_of : (file sheet log b s l : List ℕ) (f e : Finding) → b ≡ file → s ≡ sheet → l ≡ log → f ≡ e → IsFinding b s l f → IsFinding file sheet log e
 finding_of file sheet log b s l f e first second third is h =

@@ -51,13 +51,6 @@ pub written_leaves : {T E : Type 0} (x : Result T E) (old new : Option Told) (hi
 written_leaves (Ok y) old new hints text r is all part = all_set hints r old new (subst (λ (t : List ℕ). WhereTold old new (Sets hints t)) is all)
 written_leaves (Err e) old new hints text r is all part = some_set hints r old new (subst (λ (t : List ℕ). WhereTold old new (MaySet hints t)) is part)
 
-pub stands_written : (old new : Option Told) (hints text : List ℕ) (r : TrimmedLog) → text ≡ left_text r → WhereTold old new (Sets hints text) → WhereTold old new (λ _ after. after hints ≡ Some (left_text r))
-stands_written None new hints text r is h = tt
-stands_written (Some a) None hints text r is h = absurd h
-stands_written (Some a) (Some b) hints text r is h = subst (λ (t : List ℕ). b hints ≡ Some t) is h.there
-
--- ---- after the reads
-
 same_then : (P : Told → Type 0) (old mid new : Option Told) → WhereTold old mid SameFiles → WhereTold mid new (λ _ after. P after) → WhereTold old new (λ _ after. P after)
 same_then P None mid new same h = tt
 same_then P (Some a) None new same h = absurd same

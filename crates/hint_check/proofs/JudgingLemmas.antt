@@ -15,7 +15,7 @@ use Rattle.log_check.specs.Expectation.{Expectation}
 use Rattle.hint_log.specs.declared.hint_line.HintLine.{HintLine}
 use Rattle.hint_log.specs.declared.hint_line.HintLine.TheVariants.{Learnt, Refuted}
 use Rattle.hint_log.specs.Hint.{IsGood, FailsAt, shown_lits, hints_of}
-use Rattle.hint_log.specs.Checked.{HintFacts, clauses_learnt, refuted_of, facts_with, LacksHintRoom, AcceptsHint, PassesHintRoom}
+use Rattle.hint_log.specs.Checked.{HintFacts, clauses_learnt, refuted_of, facts_with, LacksHintRoom, AcceptsHint}
 use Rattle.hint_log.specs.HintedLines.{HintLines}
 use Rattle.hint_log.proofs.HintLemmas.{not_both}
 use Rattle.hint_log.proofs.HintedLinesLemmas.{good_more}
@@ -23,7 +23,7 @@ use Rattle.hint_text.specs.declared.fault.HintsWhat.{HintsWhat}
 use Rattle.hint_text.specs.HintText.{ended_hint, MayBeWritten, MayAllBeWritten}
 use Rattle.hint_claims.specs.Hinted.{log_of, KnowsHints}
 use Rattle.hint_check.specs.declared.verdict.HintRefusal.{HintRefusal}
-use Rattle.hint_check.specs.declared.verdict.HintRefusal.TheVariants.{BadHint, Room}
+use Rattle.hint_check.specs.declared.verdict.HintRefusal.TheVariants.{BadHint}
 use Rattle.hint_check.specs.declared.verdict.HintsVerdict.{HintsVerdict}
 use Rattle.hint_check.specs.Accepted.{clauses_with, AcceptsHints}
 use Rattle.hint_check.specs.Refused.{IsHintRefusedFor, HasNextHintFault}
@@ -70,13 +70,6 @@ bad_refused e before line old k h fails = λ good.
 passes_more : (e : Expectation) (before : HintLines) (line : HintLine) → LacksHintRoom (facts_for e before) line → ROOM < words_of (clauses_with e (before ++ line ∷ []))
 passes_more e before (Learnt lits hints) lacks = let is = ap words_of (clauses_more e before (Learnt lits hints)) in omega arith
 passes_more e before (Refuted lits hints) lacks = absurd lacks
-
-pub room_refused : (e : Expectation) (before : HintLines) (line : HintLine) (old : HintFacts) → HasAcceptedHints e before old → PassesHintRoom old line → IsHintRefusedFor e before line Room
-room_refused e before line old h p =
-    let q : PassesHintRoom (facts_for e before) line = subst (λ (k : HintFacts). PassesHintRoom k line) h.kept_is p in
-    (q.good, passes_more e before line q.passes)
-
--- ---- the lines so far
 
 -- these lines of the text were accepted, and this is left
 pub record HasRead (e : Expectation) (body rest : List ℕ) (number : ℕ) (kept : HintFacts) : Type 0 where

@@ -43,13 +43,6 @@ marked_outside table old new lits l word w m past up = record {
   ];
 }
 
--- the literals are no fewer than the marks of the table
-pub marked_within : (table : List Bool) (beyond : BTreeSet ℕ) (lits : List Literal) → AreMarkedBy table beyond lits → Includes (has lits) (marked table)
-marked_within table beyond lits m = λ k h. elim (cases_lt (word_of k) (length table)) [
-  | inl below ↦ sym (m.inside k below) ∙ h
-  | inr past ↦ absurd (both_ways (marked table k) (get_or_past table (word_of k) false past) h)
-]
-
 -- one mark less
 pub unmarked_one : (table : List Bool) (lits : List Literal) (l : Literal) → Includes (has (lits ++ l ∷ [])) (marked table) → word_of l < length table → Includes (has lits) (marked (set table (word_of l) false))
 unmarked_one table lits l m within = λ k h. elim (same_literal_or k l) [
@@ -62,13 +55,6 @@ unmarked_none table lits l m past = λ k h. elim (same_literal_or k l) [
   | inl e ↦ absurd (both_ways (marked table k) (get_or_past table (word_of k) false (subst (λ (x : Literal). length table ≤ word_of x) (sym e) past)) h)
   | inr ne ↦ sym (has_front lits l k ne) ∙ m k h
 ]
-
--- no marks
-pub cleared : (table : List Bool) (beyond : BTreeSet ℕ) → Includes (has []) (marked table) → IsEmpty beyond → AreMarkedBy table beyond []
-cleared table beyond none empty = record {
-  inside = λ k below. false_from_ne_true (marked table k) (λ h. both_ways false refl (none k h));
-  outside = λ k from. rw empty refl;
-}
 
 pub new_marks : (n : ℕ) (beyond : BTreeSet ℕ) → IsEmpty beyond → AreMarkedBy (replicate n false) beyond []
 new_marks n beyond empty = record {

@@ -92,20 +92,6 @@ no_numbers text rest height more bends later diagonal width is cut next last not
     let same = same_form form height bends diagonal width (all_cut text rest height more bends later diagonal width form is cut next last h) in
     not (subst (λ (f : CapsForm). AllByRecursion IsNumber (caps_fields f)) (sym same) h.numbers)
 
-four_cut : (height bends diagonal width : Field) (text rest : List ℕ) → text ≡ behind_word rest → rest ≡ height ++ 32 ∷ (bends ++ 32 ∷ (diagonal ++ 32 ∷ width)) → text ≡ unended_text (codes "caps") (caps_fields (with_fields height bends diagonal width))
-four_cut height bends diagonal width text rest is e =
-    is ∙ ap behind_word (e ∙ ap (λ (t : List ℕ). height ++ 32 ∷ (bends ++ 32 ∷ (diagonal ++ 32 ∷ t))) (sym (append-nil width)))
-
-pub caps_cut : (text rest height more bends later diagonal width : List ℕ) → text ≡ behind_word rest → IsCutAt 32 rest height more → IsCutAt 32 more bends later → IsCutAt 32 later diagonal width →
-    AllByRecursion IsNumber (caps_fields (with_fields height bends diagonal width)) → IsOfCapsForm text (with_fields height bends diagonal width)
-caps_cut text rest height more bends later diagonal width is cut next last numbers = record {
-  numbers = numbers;
-  spelled = four_cut height bends diagonal width text rest is
-      (cut.spelled ∙ ap (λ (t : List ℕ). height ++ 32 ∷ t) (next.spelled ∙ ap (λ (t : List ℕ). bends ++ 32 ∷ t) last.spelled));
-}
-
--- ---- one form
-
 form_once : (text : List ℕ) (a b : CapsForm) → IsOfCapsForm text a → IsOfCapsForm text b → a ≡ b
 form_once text a b h k =
     let cut : (f : Field) (r : List ℕ) → IsNumber f → IsCutAt 32 (f ++ 32 ∷ r) f r = λ f r n. record { first = number_is_one f n; spelled = refl } in

@@ -9,12 +9,7 @@ use Rattle.refute_log.specs.LineForm.{Field, IsNumber, AreNumbers}
 use Rattle.refute_log.specs.FieldText.{trailed, fields_left, HasFields}
 use Rattle.refute_log.proofs.ReadingLemmas.{same_cut, no_cut, number_is_one, zero_is_one, regroup, ahead, trailed_more, all_last}
 use Rattle.hint_text.specs.HintText.{IsClauseNumber}
-use Rattle.hint_text.specs.Parts.{AddsNumber, HasHintNumbers, HasWrongNumbers, LacksNumbers, AreNumbersRead, AreHintsReadTo}
-
-pub none_read : (text : List ℕ) → AreHintsReadTo text text true []
-none_read text = record { fields = []; numbers = tt; spelled = refl; read = (refl, tt) }
-
--- ---- one more field
+use Rattle.hint_text.specs.Parts.{AddsNumber, LacksNumbers, AreNumbersRead, AreHintsReadTo}
 
 map_more : (ns : List ℕ) (n : ℕ) → map decimal (ns ++ n ∷ []) ≡ map decimal ns ++ decimal n ∷ []
 map_more [] n = refl
@@ -70,15 +65,6 @@ lacks_at_field text rest field after right ns h cut not = λ fields k.
 whole : (text rest : List ℕ) (right : Bool) (ns : List ℕ) (h : AreHintsReadTo text rest right ns) → rest ≡ 48 ∷ [] → HasFields text h.fields
 whole text rest right ns h e = record { numbers = h.numbers; spelled = h.spelled ∙ ap (λ (t : List ℕ). trailed h.fields ++ t) e }
 
-some_wrong : (fields : List Field) → (AllByRecursion (IsNumberField 1 LAST_VAR) fields → ⊥) → 1 ≤ length fields
-some_wrong [] not = absurd (not tt)
-some_wrong (f ∷ fields) not = omega arith
-
-pub wrong_numbers : (text rest : List ℕ) (right : Bool) (ns : List ℕ) → AreHintsReadTo text rest right ns → rest ≡ 48 ∷ [] → right ≡ false → HasWrongNumbers text
-wrong_numbers text rest right ns h e wrong =
-    let k : AreNumbersRead false h.fields ns = subst (λ (b : Bool). AreNumbersRead b h.fields ns) wrong h.read in
-    record { fields = h.fields; has = record { some = some_wrong h.fields k; has = whole text rest right ns h e }; wrong = k }
-
 fields_of : (fields : List Field) (ns : List ℕ) → fields ≡ map decimal ns → 1 ≤ length fields → 1 ≤ length ns
 fields_of fields [] e h = let z = ap length e in omega arith
 fields_of fields (n ∷ ns) e h = omega arith
@@ -96,16 +82,3 @@ no_numbers text rest right ns h e fine none = λ fields k.
         front_some [] some s = let z = ap length s in omega arith
         front_some (f ∷ fs) some s = omega arith
     end (f ∷ more) s l m some = no_cut (48 ∷ []) f (fields_left more) zero_is_one (sym e ∙ l ∙ regroup f (trailed more) (48 ∷ []))
-
-some_numbers : (ns : List ℕ) → (length ns ≡ 0 → ⊥) → 1 ≤ length ns
-some_numbers [] not = absurd (not refl)
-some_numbers (n ∷ ns) not = omega arith
-
-pub right_numbers : (text rest : List ℕ) (right : Bool) (ns : List ℕ) → AreHintsReadTo text rest right ns → rest ≡ 48 ∷ [] → right ≡ true → (length ns ≡ 0 → ⊥) → HasHintNumbers text ns
-right_numbers text rest right ns h e fine some =
-    let k : AreNumbersRead true h.fields ns = subst (λ (b : Bool). AreNumbersRead b h.fields ns) fine h.read in
-    record {
-      some = some_numbers ns some;
-      each = k.1;
-      spelled = h.spelled ∙ ap (λ (t : List ℕ). trailed h.fields ++ t) e ∙ ap (λ (t : List Field). trailed t ++ 48 ∷ []) k.0;
-    }

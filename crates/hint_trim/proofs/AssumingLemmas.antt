@@ -131,12 +131,6 @@ assuming_grown a b vars lits m n h text longer keeps because front watched = rec
   ];
 }
 
-pub has_levels : (a : Attached) (vars : ℕ) (lits : List Literal) (m : Marks) → IsDenying a vars lits m → 1 ≤ length m.cuts
-has_levels a vars lits m h = elim h.levels [
-  | inl one ↦ let size : length m.cuts ≡ 1 = ap (λ (cs : List ℕ). length cs) one in omega arith
-  | inr two ↦ let size : length m.cuts ≡ 2 = ap (λ (cs : List ℕ). length cs) two.cuts in omega arith
-]
-
 -- nothing is left of one level
 pub emptied : (m n : Marks) → n ≡ undone m 0 → m.cuts ≡ 0 ∷ [] → IsEmptyTrail n
 emptied m n e cuts = record {

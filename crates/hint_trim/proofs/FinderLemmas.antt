@@ -4,7 +4,6 @@ use Rattle.std.specs.Prelude.{Contains}
 use Rattle.std.proofs.lemmas.Bool.Decides.{eqb_tells}
 use Rattle.std.proofs.lemmas.List.{get_or_append_left, get_or_push}
 use Rattle.std.proofs.lemmas.List.Elements.{Contains-push, Contains-push_cases, Contains-append_left}
-use Rattle.cnf_core.specs.declared.limits.TheConstants.{VARS}
 use Rattle.cnf_core.specs.Lit.{Literal}
 use Rattle.cnf_core.specs.Clause.{Clauses, AreThere, AreDistinct}
 use Rattle.cnf_core.specs.Propagation.{SameLiterals}
@@ -104,18 +103,6 @@ module _ (vars : ℕ) (all taken : Clauses) (a b : Attached) (numbers now : List
     ];
     held = held_at;
   }
-
--- no clause yet
-none_among : {X : Type 0} (xs : List X) (x : X) → xs ≡ [] → Contains xs x → ⊥
-none_among {X} xs x e h = let among : Contains [] x = subst (λ (ys : List X). Contains ys x) e h in let lt = among.1 in omega arith
-
-pub clauses_none : (vars : ℕ) (all : Clauses) (a : Attached) (numbers : List ℕ) → a.vars ≡ vars + 2 → vars + 2 ≤ VARS → a.places ≡ [] → AreClauses vars all [] a numbers
-clauses_none vars all a numbers vars_are limit places = record {
-  vars_are = vars_are;
-  limit = limit;
-  known = λ q among. absurd (none_among a.places q places among);
-  held = λ c among. absurd (none_among [] c refl among);
-}
 
 -- clauses in another order of literals
 pub clauses_same : (vars : ℕ) (all taken : Clauses) (a b : Attached) (numbers : List ℕ) → AreClauses vars all taken a numbers → IsSameText a b → AreClauses vars all taken b numbers

@@ -7,7 +7,7 @@ use Rattle.std.proofs.lemmas.List.Elements.{All-contains, All-more, All-weaker, 
 use Rattle.plan_core.proofs.Listing.{Contains-map}
 use Rattle.cnf_core.specs.Lit.{Literal, negate, has, positive_of, negative_of}
 use Rattle.cnf_core.specs.Clause.{Clauses, AreThere, AreDistinct}
-use Rattle.cnf_core.specs.Propagation.{IsIn, Includes, IsUnit, IsClosed, IsClosure, Closure, Falsified, Falsifies, Rup, negations}
+use Rattle.cnf_core.specs.Propagation.{IsIn, Includes, IsUnit, IsClosed, IsClosure, Closure, Falsifies, Rup, negations}
 use Rattle.cnf_core.proofs.PropagationLemmas.{contains_from_has, has_from_contains, contains_later, negate-negate}
 use Rattle.cnf_core.proofs.TrailLemmas.{same_literal_or, has_last, has_front, push_keeps, distinct_consistent, there_get}
 use Rattle.watch_arena.specs.Walk.{lits_at, IsReasonFor}
@@ -117,19 +117,6 @@ go_on clauses vars m i l n d needed more hints lt is distinct number distinct_c 
     ] in
     subst (λ (ns : List ℕ). Shows clauses set ns) (sym (reverse-append hints (n ∷ [])))
     (shows_more clauses set n l (reverse hints) one (rest (set ++ l ∷ []) now (λ j e below none within_vars. push_keeps set l (get_or m.lits j e) (given j e below none within_vars)) further))
-
--- a literal that isn't needed is passed over, and so is one without a reason
-pub go_past : (clauses : Clauses) (vars : ℕ) (m : Marks) (i : ℕ) (l : Literal) (needed : List Bool) (hints : List ℕ) → i < length m.lits → get_or m.lits i l ≡ l → is_needed needed l.var ≡ false → ShowsFromFront clauses vars m (i + 1) needed hints → ShowsFromFront clauses vars m i needed hints
-go_past clauses vars m i l needed hints lt is not_mine rest = λ set within given needs. rest set within given (λ j e below mark. elim (cases_lt j i) [
-  | inl less ↦ needs j e less mark
-  | inr ge ↦ absurd (both_ways (is_needed needed l.var) not_mine (subst (λ (x : Literal). is_needed needed x.var ≡ true) (next_is m.lits i j l e lt is below ge) mark))
-])
-
-pub go_assumed : (clauses : Clauses) (vars : ℕ) (m : Marks) (i : ℕ) (l : Literal) (needed : List Bool) (hints : List ℕ) → i < length m.lits → get_or m.lits i l ≡ l → get_or m.reasons l.var 0 ≡ 0 → l.var ≤ vars → ShowsFromFront clauses vars m (i + 1) needed hints → ShowsFromFront clauses vars m i needed hints
-go_assumed clauses vars m i l needed hints lt is none low rest = λ set within given needs. rest set within given (λ j e below mark. elim (cases_lt j i) [
-  | inl less ↦ needs j e less mark
-  | inr ge ↦ subst (λ (x : Literal). IsIn (has set) x) (sym (next_is m.lits i j l e lt is below ge)) (subst (λ (x : Literal). get_or m.reasons x.var 0 ≡ 0 → x.var ≤ vars → IsIn (has set) x) is (given i l lt) none low)
-])
 
 -- one of what is assumed is of a further variable or the negation of a literal of the clause
 assumed_at : (vars : ℕ) (ls : List Literal) (k : Literal) (j : ℕ) → j < length ls + 2 → get_or (positive_of (vars + 1) ∷ positive_of (vars + 2) ∷ ls) j k ≡ k → k.var ≤ vars → Contains ls k
@@ -284,13 +271,6 @@ module _ (vars : ℕ) (all taken : Clauses) (a : Attached) (numbers : List ℕ) 
             let k = get_or c j e in
             trail_follows (negate k) (All-contains (IsFalse (has m.lits)) (attached_at a p) k clash.all_false (padded.whole k (Contains-get_or c j e lt))) (there_get vars c j e lt held.there).1;
       }
-
--- further variables are needed
-pub set_keeps : (needed : List Bool) (v x : ℕ) → v < length needed → is_needed needed x ≡ true → is_needed (set needed v true) x ≡ true
-set_keeps needed v x lt h = elim (eqb_tells x v) [
-  | inl e ↦ get_or-set_at needed v x true false e.1 lt
-  | inr e ↦ get_or-set_other needed v x true false e.1 ∙ h
-]
 
 pub needs_more : (lits : List Literal) (i : ℕ) (l : Literal) (old mid new : List Bool) → i < length lits → get_or lits i l ≡ l → length new ≡ length mid → ((x : ℕ) → is_needed mid x ≡ true → is_needed new x ≡ true) → (l.var < length new → is_needed new l.var ≡ true) → NeedsWithin (take i lits) old mid → NeedsWithin (take (i + 1) lits) old new
 needs_more lits i l old mid new within at size keeps mine h = record {

@@ -29,21 +29,6 @@ use Rattle.watch_arena.proofs.ChainLemmas.{contains_head}
 abbrev shortened_after : List Bool → List ℕ → ℕ → List Literal → List ℕ → HintLines → Bool → HintLines
 shortened_after used numbers last lits hints rest stays = cond stays (Learnt lits (renumbered numbers hints) ∷ shortened used (numbers ++ (last + 1) ∷ []) (last + 1) rest) (shortened used (numbers ++ 0 ∷ []) last rest)
 
--- one line, as the loop takes it
-pub takes_kept : (used : List Bool) (numbers : List ℕ) (last : ℕ) (old new rest : HintLines) (lits : List Literal) (hints : List ℕ) → is_used used (length numbers) ≡ true → new ≡ old ++ Learnt lits (renumbered numbers hints) ∷ [] → new ++ shortened used (numbers ++ (last + 1) ∷ []) (last + 1) rest ≡ old ++ shortened used numbers last (Learnt lits hints ∷ rest)
-takes_kept used numbers last old new rest lits hints stays e =
-    ap (λ (ls : HintLines). ls ++ shortened used (numbers ++ (last + 1) ∷ []) (last + 1) rest) e
-    ∙ append_assoc old (Learnt lits (renumbered numbers hints) ∷ []) (shortened used (numbers ++ (last + 1) ∷ []) (last + 1) rest)
-    ∙ ap (λ b. old ++ shortened_after used numbers last lits hints rest b) (sym stays)
-
-pub takes_left_out : (used : List Bool) (numbers : List ℕ) (last : ℕ) (old rest : HintLines) (lits : List Literal) (hints : List ℕ) → is_used used (length numbers) ≡ false → old ++ shortened used (numbers ++ 0 ∷ []) last rest ≡ old ++ shortened used numbers last (Learnt lits hints ∷ rest)
-takes_left_out used numbers last old rest lits hints out = ap (λ b. old ++ shortened_after used numbers last lits hints rest b) (sym out)
-
-pub takes_refuted : (used : List Bool) (numbers : List ℕ) (last : ℕ) (old new rest : HintLines) (lits : List Literal) (hints : List ℕ) → new ≡ old ++ Refuted lits (renumbered numbers hints) ∷ [] → new ++ shortened used numbers last rest ≡ old ++ shortened used numbers last (Refuted lits hints ∷ rest)
-takes_refuted used numbers last old new rest lits hints e =
-    ap (λ (ls : HintLines). ls ++ shortened used numbers last rest) e
-    ∙ append_assoc old (Refuted lits (renumbered numbers hints) ∷ []) (shortened used numbers last rest)
-
 -- a clause that a line names that stays is named by a line that is kept
 named_here : (n : ℕ) (line : HintLine) (rest : HintLines) → Contains (hints_of line) n → IsNamedLater n (line ∷ rest)
 named_here n line rest h = (0, line, omega arith, refl, h)

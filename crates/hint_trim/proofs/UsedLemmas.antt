@@ -16,37 +16,7 @@ use Rattle.hint_log.specs.Hint.{hints_of}
 use Rattle.hint_log.specs.Checked.{clauses_learnt}
 use Rattle.hint_log.specs.HintedLines.{HintLines, AreGood}
 use Rattle.hint_trim.specs.Shortened.{is_used, learnt_among, AreBelow, IsMarkedFrom, Uses}
-use Rattle.watch_arena.proofs.TrailLemmas.{padded_none}
 use Rattle.hint_trim.proofs.ShortenLemmas.{names_more, marked_more, good_below}
-
--- hints that are used one after another
-pub uses_none : (hints : List ℕ) (used : List Bool) → Uses (take 0 hints) used used
-uses_none hints used = record { size = refl; keeps = λ x h. h; back = λ x h. inl h; each = All-nil (λ n. is_used used n ≡ true) }
-
-set_uses : (used : List Bool) (v x : ℕ) → v < length used → is_used used x ≡ true → is_used (set used v true) x ≡ true
-set_uses used v x lt h = elim (eqb_tells x v) [
-  | inl e ↦ get_or-set_at used v x true false e.1 lt
-  | inr e ↦ get_or-set_other used v x true false e.1 ∙ h
-]
-
-pub uses_more : (hints : List ℕ) (i v : ℕ) (old mid : List Bool) → i < length hints → v ≡ get_or hints i v → v < length mid → Uses (take i hints) old mid → Uses (take (i + 1) hints) old (set mid v true)
-uses_more hints i v old mid within at lt h =
-    let so_far = take i hints in
-    let is : take (i + 1) hints ≡ so_far ++ v ∷ [] = take_more hints i v within ∙ ap (λ n. so_far ++ n ∷ []) (sym at) in
-    subst (λ (ns : List ℕ). Uses ns old (set mid v true)) (sym is) (record {
-      size = length-set mid v true ∙ h.size;
-      keeps = λ x m. set_uses mid v x lt (h.keeps x m);
-      back = λ x m. elim (eqb_tells x v) [
-        | inl e ↦ inr (subst (λ n. Contains (so_far ++ v ∷ []) n) (sym e.1) (Contains-push so_far v))
-        | inr e ↦ elim (h.back x (sym (get_or-set_other mid v x true false e.1) ∙ m)) [
-          | inl was ↦ inl was
-          | inr among ↦ inr (Contains-append_left so_far (v ∷ []) x among)
-        ]
-      ];
-      each = All-push (λ n. is_used (set mid v true) n ≡ true) so_far v
-          (All-weaker (λ n. is_used mid n ≡ true) (λ n. is_used (set mid v true) n ≡ true) (λ n m. set_uses mid v n lt m) so_far h.each)
-          (get_or-set_at mid v v true false refl lt);
-    })
 
 too_high : (hints : List ℕ) (n x : ℕ) → All (λ m. m ≤ n) hints → Contains hints x → n < x → ⊥
 too_high hints n x below among high = let le : x ≤ n = All-contains (λ m. m ≤ n) hints x below among in omega (arith, le, high)
@@ -81,16 +51,6 @@ marked_refuted old new n lits hints rest below u h = record {
     | inr among ↦ inl among
   ];
 }
-
-pub marked_left_out : (used : List Bool) (n : ℕ) (lits : List Literal) (hints : List ℕ) (rest : HintLines) → is_used used (n + 1) ≡ false → IsMarkedFrom used (n + 1) rest → IsMarkedFrom used n (Learnt lits hints ∷ rest)
-marked_left_out used n lits hints rest out h = record {
-  marked = ((λ mark. absurd (both_ways (is_used used (n + 1)) out mark)), h.marked);
-  named = λ m le now. inr (h.named m (omega (arith, le)) now);
-}
-
--- behind all lines
-pub marked_end : (size n : ℕ) → IsMarkedFrom (replicate size false) n []
-marked_end size n = record { marked = tt; named = λ m le now. absurd (both_ways (is_used (replicate size false) m) (padded_none size m false) now) }
 
 -- the lines from a place on
 pub below_at : (list : HintLines) (i from n : ℕ) → n + learnt_among (drop i list) ≡ from + learnt_among list → AreBelow from list → AreBelow n (drop i list)

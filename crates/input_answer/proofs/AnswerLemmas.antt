@@ -110,10 +110,6 @@ pub unread_on : (input : InputFile) (met : Met) (fault : RunFault) (A : List ℕ
 unread_on input met fault A (inl ((bytes, is, long), read, named)) = inl (bytes, is, inl (long, read, subst (λ (f : RunFault). IsFaultLine f (fault_status fault) (fault_line fault)) named (record { status_is = refl; line_is = refl })))
 unread_on input met fault A (inr (fails, named)) = inr (fails, subst (λ (f : RunFault). IsFaultLine f (fault_status fault) (fault_line fault)) named (record { status_is = refl; line_is = refl }))
 
--- an input that was read after a read is what it was before it
-pub input_before : (input : InputFile) (old mid : Option Told) (bytes : List ℕ) → WhereTold old mid SameFiles → IsInput input mid bytes → IsInput input old bytes
-input_before input old mid bytes same is = record { is_file = told_before old mid input.name bytes same is.is_file; short = is.short }
-
 -- files that stand as they stood are left so, whatever they may be left with
 pub leaves_same : (May : (name bytes : List ℕ) → Type 0) (old new : Option Told) → WhereTold old new SameFiles → WhereTold old new (LeftSo May)
 leaves_same May None new same = tt

@@ -3,18 +3,12 @@ use Rattle.std.proofs.Common.{◌≡◌, ◌⊎◌, ℕ, List, refl, inl, inr}
 use Rattle.plan_core.specs.declared.limits.TheConstants.{MAX_FILE_BYTES}
 use Rattle.input_answer.specs.declared.fault.RunFault.{RunFault}
 use Rattle.input_answer.specs.declared.fault.RunFault.TheVariants.{Words, Long, Text, Topology, Graph, Order, Signal, Sheet, Log, ReadFailed}
-use Rattle.input_answer.specs.declared.input.InputRefusal.{InputRefusal}
 use Rattle.input_answer.specs.declared.input.InputRefusal.TheVariants as refusals
 use Rattle.input_answer.specs.declared.status.Status.TheVariants.{Refused}
 use Rattle.input_answer.specs.Fault.{fault_status}
-use Rattle.input_answer.specs.Input.{IsLong, IsShort, IsRefusal}
-use Rattle.input_answer.specs.Signals.{HasFaultOfSignal, HasFault, IsSignalRefusal}
+use Rattle.input_answer.specs.Input.{IsLong, IsShort}
+use Rattle.input_answer.specs.Signals.{HasFaultOfSignal, HasFault}
 use Rattle.input_answer.proofs.InputLemmas.{file_fault_status, short_or_long}
-
--- what is said of a file without a station is said of one with signals
-pub refused_too : (bytes : List ℕ) (r : InputRefusal) → IsRefusal bytes r → IsSignalRefusal bytes r
-refused_too bytes (refusals.Fault fault) refused = inl refused
-refused_too bytes refusals.Memory refused = refused
 
 signal_fault_status : (bytes : List ℕ) (fault : RunFault) → HasFaultOfSignal bytes fault → fault_status fault ≡ Refused
 signal_fault_status bytes (Signal what at first) has = refl

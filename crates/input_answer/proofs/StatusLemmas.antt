@@ -50,11 +50,6 @@ pub refused_reply : {E : Type 0} (r : Result Reply E) → IfOk r (λ x. IsRefuse
 refused_reply (Ok x) refused answered = refused_unanswered x.status refused answered
 refused_reply (Err e) refused answered = answered
 
--- a run without an answer isn't refused
-pub cut_unrefused : (cut : Cut) → IsRefused (status_of_cut cut) → ⊥
-cut_unrefused cuts.Unwritten refused = refused
-cut_unrefused cuts.Memory refused = refused
-
 -- a run that is cut short ran out of memory, where nothing else may have cut it short
 pub cut_ends : (cut : Cut) (status : Status) (Ends Fails : Type 0) → status ≡ status_of_cut cut → (cut ≡ cuts.Unwritten → Fails) → (Fails → ⊥) → Ends ⊎ (status ≡ NoMemory)
 cut_ends cuts.Unwritten status Ends Fails is cause fine = absurd (fine (cause refl))

@@ -10,7 +10,7 @@ use Rattle.cnf_core.specs.Added.{AddsClauses}
 use Rattle.order_int.specs.IntVars.{IntVars}
 use Rattle.order_int.specs.OrderInt.{int_clauses}
 use Rattle.edge_shape.specs.EdgeVars.{EdgeLits}
-use Rattle.law_clauses.specs.Guards.{guards, two_guards, guarded_order}
+use Rattle.law_clauses.specs.Guards.{two_guards, guarded_order}
 use Rattle.law_clauses.specs.LawClauses.{SharingEdge, higher_clauses}
 
 -- the same clauses, spelt otherwise
@@ -20,15 +20,6 @@ adds_same_clauses r old new xs ys longest e h = subst (λ (cs : Clauses). AddsCl
 pub adds_lower : {T : Type 0} (r : Result T CnfFault) (old new : Cnf) (a b : IntVars) (s t u w : LitOrTruth) (unless : List Literal) (longest : ℕ) → s ≡ u → t ≡ w → AddsClauses r old new (guarded_order a b 1 (two_guards s t) unless) longest → AddsClauses r old new (guarded_order a b 1 (two_guards u w) unless) longest
 adds_lower r old new a b s t u w unless longest e k h =
     subst (λ (z : LitOrTruth). AddsClauses r old new (guarded_order a b 1 (two_guards u z) unless) longest) k (subst (λ (z : LitOrTruth). AddsClauses r old new (guarded_order a b 1 (two_guards z t) unless) longest) e h)
-
-pub adds_guarded : {T : Type 0} (r : Result T CnfFault) (old new : Cnf) (a b i j : IntVars) (s1 s2 s3 s4 s5 t1 t2 t3 t4 t5 : LitOrTruth) (unless : List Literal) (longest : ℕ) → a ≡ i → b ≡ j → s1 ≡ t1 → s2 ≡ t2 → s3 ≡ t3 → s4 ≡ t4 → s5 ≡ t5 → AddsClauses r old new (guarded_order a b 1 (guards s1 s2 s3 s4 s5) unless) longest → AddsClauses r old new (guarded_order i j 1 (guards t1 t2 t3 t4 t5) unless) longest
-adds_guarded r old new a b i j s1 s2 s3 s4 s5 t1 t2 t3 t4 t5 unless longest ea eb e1 e2 e3 e4 e5 h =
-    let e : guarded_order a b 1 (guards s1 s2 s3 s4 s5) unless ≡ guarded_order i j 1 (guards t1 t2 t3 t4 t5) unless =
-    ap (λ (z : IntVars). guarded_order z b 1 (guards s1 s2 s3 s4 s5) unless) ea ∙ ap (λ (z : IntVars). guarded_order i z 1 (guards s1 s2 s3 s4 s5) unless) eb
-    ∙ ap (λ (z : LitOrTruth). guarded_order i j 1 (guards z s2 s3 s4 s5) unless) e1 ∙ ap (λ (z : LitOrTruth). guarded_order i j 1 (guards t1 z s3 s4 s5) unless) e2
-    ∙ ap (λ (z : LitOrTruth). guarded_order i j 1 (guards t1 t2 z s4 s5) unless) e3 ∙ ap (λ (z : LitOrTruth). guarded_order i j 1 (guards t1 t2 t3 z s5) unless) e4
-    ∙ ap (λ (z : LitOrTruth). guarded_order i j 1 (guards t1 t2 t3 t4 z) unless) e5 in
-    subst (λ (cs : Clauses). AddsClauses r old new cs longest) e h
 
 pub adds_over : {T : Type 0} (r : Result T CnfFault) (old new : Cnf) (e : SharingEdge) (f : EdgeLits) (width : ℕ) (s t : LitOrTruth) (unless : List Literal) (longest : ℕ) → s ≡ t → AddsClauses r old new (higher_clauses e f width s unless) longest → AddsClauses r old new (higher_clauses e f width t unless) longest
 adds_over r old new e f width s t unless longest k h = subst (λ (z : LitOrTruth). AddsClauses r old new (higher_clauses e f width z unless) longest) k h

@@ -6,10 +6,9 @@ use Rattle.plan_core.specs.Graph.{Graph}
 use Rattle.plan_core.specs.Lawful.{Instance}
 use Rattle.cnf_core.specs.declared.fault.CnfFault.{CnfFault}
 use Rattle.cnf_core.specs.declared.fault.CnfFault.TheVariants.{Room}
-use Rattle.cnf_core.specs.declared.limits.TheConstants.{VARS}
-use Rattle.cnf_core.specs.Clause.{Clauses, words_of}
-use Rattle.cnf_core.specs.Formula.{Cnf, Passes, each, count_each}
-use Rattle.cnf_core.specs.Added.{AddsBlock, TooMany}
+use Rattle.cnf_core.specs.Clause.{Clauses}
+use Rattle.cnf_core.specs.Formula.{Cnf, each, count_each}
+use Rattle.cnf_core.specs.Added.{AddsBlock}
 use Rattle.cnf_core.proofs.BlockLemmas.{IsBuilding, block_refused, block_after}
 use Rattle.edge_shape.specs.EdgeVars.{edge_size}
 use Rattle.law_clauses.specs.LawClauses.{laws_size, laws_clauses}
@@ -46,11 +45,3 @@ formula_after y r old mid new g grid laws empty a b =
     subst (λ n. AddsBlock r old new n (expected_clauses g grid laws) 7) (total g grid laws)
     (block_after y r old mid new (base_size g grid) (laws_size g laws) (base_clauses g (drawing_vars g grid) grid) (laws_clauses g (drawing_vars g grid) grid.width (laws_first g grid) laws) 7 a
     (subst (λ n. AddsBlock r mid new (laws_size g laws) (laws_clauses g (drawing_vars g grid) grid.width n laws) 7) place b))
-
--- an empty formula is full where all words pass its room
-pub full_from_empty : (f : Cnf) (count room : ℕ) (cs : Clauses) → f.room ≡ room → f.vars ≡ 0 → f.clauses ≡ [] → TooMany f count ⊎ Passes f cs → (VARS < count) ⊎ (room < words_of cs)
-full_from_empty f count room cs er ev ec (inl a) = inl (omega arith)
-full_from_empty f count room cs er ev ec (inr a) = inr (let e : words_of (f.clauses ++ cs) ≡ words_of cs = ap (λ (xs : Clauses). words_of (xs ++ cs)) ec in omega (arith, a, e))
-
-pub words_from_empty : (f : Cnf) (room : ℕ) (cs : Clauses) → f.room ≡ room → f.clauses ≡ [] → words_of (f.clauses ++ cs) ≤ f.room → words_of cs ≤ room
-words_from_empty f room cs er ec h = let e : words_of (f.clauses ++ cs) ≡ words_of cs = ap (λ (xs : Clauses). words_of (xs ++ cs)) ec in omega (arith, h, e)

@@ -42,9 +42,6 @@ pub record IsLawing (g : Graph) (x : DrawingVars) (width : ℕ) (f : ℕ → Lis
   pub left : now.clauses ++ laws_clauses g x width (now.vars + 1) (instances_from f k (end - k)) ≡ old.clauses ++ laws_clauses g x width (old.vars + 1) all
   pub room : now.room ≡ old.room
 
-pub lawing_first : (g : Graph) (x : DrawingVars) (width : ℕ) (f : ℕ → List Instance) (old : Cnf) (first end : ℕ) → IsLawing g x width f old old (instances_from f first (end - first)) first end
-lawing_first g x width f old first end = record { vars = refl; from = omega arith; left = refl; room = refl }
-
 pub lawing_more : {T : Type 0} (y : T) (g : Graph) (x : DrawingVars) (width : ℕ) (f : ℕ → List Instance) (old now new : Cnf) (all : List Instance) (k end longest : ℕ) → k < end → IsLawing g x width f old now all k end → AddsLaws (Ok y) now new g x width (f k) longest → IsLawing g x width f old new all (k + 1) end
 lawing_more y g x width f old now new all k end longest lt a b =
     let rest = instances_from f (k + 1) (end - (k + 1)) in

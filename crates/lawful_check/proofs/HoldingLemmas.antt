@@ -3,12 +3,9 @@ use Rattle.std.specs.Prelude.{◌≡◌, ℕ, ◌+◌, ◌<◌, ◌≤◌}
 use Rattle.std.proofs.Common.{inl, inr, subst, arith}
 use Rattle.std.proofs.lemmas.Bool.{cases_lt}
 use Rattle.plan_core.proofs.TruthFacts.{below_or_is}
-use Rattle.lawful_check.specs.Holding.{Where, HoldsTo, HoldsForAll, FailsFirst, HoldsToPair, HoldsForPairs}
+use Rattle.lawful_check.specs.Holding.{Where, HoldsTo, HoldsForAll, HoldsToPair, HoldsForPairs}
 
 -- ---- one party
-
-pub to_begins : (C S : ℕ → Type 0) → HoldsTo C S 0
-to_begins C S = record { each = λ m less. absurd (omega arith) }
 
 pub to_on : (C S : ℕ → Type 0) (n : ℕ) → HoldsTo C S n → S n → HoldsTo C S (n + 1)
 to_on C S n so_far here = record {
@@ -23,14 +20,6 @@ to_on C S n so_far here = record {
 
 pub to_all : (S : ℕ → Type 0) (count n : ℕ) → count ≤ n → HoldsTo (λ m. m < count) S n → HoldsForAll (λ m. m < count) S
 to_all S count n past all = record { each = λ m. record { met = λ is. (all.each m (omega (arith, is, past))).met is } }
-
-pub fails_first : (C S : ℕ → Type 0) (n : ℕ) → C n → (S n → ⊥) → HoldsTo C S n → FailsFirst C S n
-fails_first C S n is fails before = record { is = is; fails = fails; before = before }
-
--- ---- two parties
-
-pub pair_begins : (C S : ℕ → ℕ → Type 0) → HoldsToPair C S 0 0
-pair_begins C S = record { each = λ c d earlier. elim earlier [ inl less ↦ absurd (omega arith) | inr same ↦ (let less = same.1 in absurd (omega arith)) ] }
 
 pub pair_on : (C S : ℕ → ℕ → Type 0) (a b : ℕ) → HoldsToPair C S a b → Where (C a b) (S a b) → HoldsToPair C S a (b + 1)
 pair_on C S a b so_far here = record {

@@ -23,10 +23,10 @@ use Rattle.certified_values.specs.Expected.{caps, expected_lines}
 use Rattle.certified_values.specs.Full.{CapsPass}
 use Rattle.certified_values.proofs.ExpectedLemmas.{expected_none, expected_vars_none}
 use Rattle.drawing_cnf.specs.Expected.{drawing_vars, formula_clauses, formula_size, Covers}
-use Rattle.drawing_cnf.specs.Encoding.{Encoding, encoded_vars}
+use Rattle.drawing_cnf.specs.Encoding.{Encoding}
 use Rattle.drawing_cnf.specs.Bounded.{Bound}
 use Rattle.drawing_cnf.specs.Bounds.{IsExact}
-use Rattle.drawing_cnf.specs.Whole.{IsWhole, bounds_last, drawing_last}
+use Rattle.drawing_cnf.specs.Whole.{IsWhole}
 use Rattle.drawing_problem.specs.Layout.{Layout, layout, problem_of, layout_of}
 use Rattle.drawing_problem.proofs.ListLemmas.{given_formulas}
 use Rattle.cdcl_core.specs.Kept.{Kept, AreGiven, blank, with_more_vars}
@@ -35,10 +35,10 @@ use Rattle.cdcl_core.proofs.ViewLemmas.{new_given, new_belongs}
 use Rattle.lex_search.specs.declared.outcome.Outcome.TheVariants.{Room}
 use Rattle.lex_search.specs.Task.{greatest_of}
 use Rattle.refute_log.specs.Steps.{ToldBehind, GoesOn}
-use Rattle.lex_search.specs.Outcome.{IsOutcome, IsFresh, first_lines}
+use Rattle.lex_search.specs.Outcome.{IsOutcome, first_lines}
 use Rattle.refute_log.proofs.StepLemmas.{rose_both, count_more}
 use Rattle.lex_search.proofs.BuildLemmas.{formulas_are_clauses}
-use Rattle.lex_minimise.specs.Known.{told_clauses, caps_of, AreTold, KnowsLines, IsReady}
+use Rattle.lex_minimise.specs.Known.{told_clauses, AreTold, KnowsLines, IsReady}
 use Rattle.lex_minimise.specs.Task.{task_of}
 use Rattle.lex_minimise.specs.Told.{HasTaken, IsLogOfSolver}
 use Rattle.lex_minimise.proofs.TellLemmas.{goes_weaker}
@@ -216,19 +216,8 @@ nothing_told k room n R log is end = (
 
 -- ---- the search
 
-pub is_fresh : (e : Encoding) (told : List Bound) (budget room : ℕ) (k : Kept) → told ≡ [] → IsReady e told budget room k → IsFresh (task_of (layout_of e) budget room) (caps_of told) k.vars
-is_fresh e told budget room k none ready = record {
-  none = λ c. ap (λ (ts : List Bound). caps_of ts c) none;
-  vars_are = ready.vars ∙ (ready.whole).vars ∙ ap (λ (bs : List Bound). bounds_last e.graph (encoded_vars e) e.grid (drawing_last e) bs) (ready.bounds ∙ none);
-}
-
 pub log_of : (y : Layout) (told : List Bound) (budget room : ℕ) (k : Kept) (lines : Lines) → KnowsLines y told budget room k lines → IsLogOfSolver k lines
 log_of y told budget room k lines h = record { belongs = h.belongs; learnt = h.learnt_are }
-
-pub told_known : (known log0 log1 : Lines → Type 0) (n0 n1 : ℕ) (k : Kept) (lines : Lines) (R : Lines → Type 0) → ((ls : Lines) → known ls → IsLogOfSolver k ls) → ToldBehind known log0 log1 n0 n1 lines R → ToldBehind (IsLogOfSolver k) log0 log1 n0 n1 lines R
-told_known known log0 log1 n0 n1 k lines R from t = record { more = t.more; knows = from (lines ++ t.more) t.knows; told = t.told; counted = t.counted; does = t.does }
-
--- ---- what doesn't change
 
 pub same_task : (y z : Layout) (a b m n : ℕ) → y ≡ z → a ≡ b → m ≡ n → task_of y a m ≡ task_of z b n
 same_task y z a b m n e f h = ap (λ (x : Layout). task_of x a m) e ∙ ap (λ x. task_of z x m) f ∙ ap (λ x. task_of z b x) h

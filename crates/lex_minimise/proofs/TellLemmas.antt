@@ -9,7 +9,6 @@ use Rattle.cnf_core.specs.declared.literal.Var.{Var}
 use Rattle.cnf_core.specs.Lit.{Literal}
 use Rattle.cnf_core.specs.Clause.{Clauses, words_of}
 use Rattle.cnf_core.proofs.ClauseLemmas.{words_append}
-use Rattle.refute_log.specs.declared.line.LogLine.{LogLine}
 use Rattle.refute_log.specs.declared.line.LogLine.TheVariants.{Bound as BoundLine}
 use Rattle.refute_log.specs.Told.{Lines, AddsAll}
 use Rattle.refute_log.specs.Log.{learnt}
@@ -91,13 +90,6 @@ ok_from {T} {E} (Err e) P Q h f = tt
 pub goes_from : (k0 k1 k2 l0 l1 : Lines → Type 0) (n0 n1 : ℕ) (R : Lines → Lines → Type 0) → ((lines : Lines) → k0 lines → k1 lines) → GoesOn k1 k2 l0 l1 n0 n1 R → GoesOn k0 k2 l0 l1 n0 n1 R
 goes_from k0 k1 k2 l0 l1 n0 n1 R from h = λ lines known. h lines (from lines known)
 
--- one line, told to the log alone or to both
-pub goes_one : (k0 k1 l0 l1 : Lines → Type 0) (n0 n1 : ℕ) (line : LogLine) → ((lines : Lines) → k0 lines → k1 (lines ++ line ∷ [])) → ((lines : Lines) → l0 lines → l1 (lines ++ line ∷ [])) → n1 ≡ rose_by (length (flat_map learnt (line ∷ []))) n0 →
-    GoesOn k0 k1 l0 l1 n0 n1 (λ lines more. more ≡ line ∷ [])
-goes_one k0 k1 l0 l1 n0 n1 line belongs told counted = λ lines k. record { more = line ∷ []; knows = belongs lines k; told = told; counted = counted; does = refl }
-
--- ---- the clauses from a number on
-
 pub told_none : (cs : Clauses) (from at : ℕ) → at ≡ from → take (at - from) (drop from cs) ≡ []
 told_none cs from at same = ap (λ n. take n (drop from cs)) (let e : at - from ≡ 0 = omega arith in e)
 
@@ -108,9 +100,6 @@ told_next cs from at le lt =
     let read : get_or (drop from cs) (at - from) [] ≡ get_or cs at [] = get_or-drop from cs (at - from) [] ∙ ap (λ n. get_or cs n []) (let e : from + (at - from) ≡ at = omega arith in e) in
     ap (λ (c : List Literal). take (at - from) (drop from cs) ++ c ∷ []) (sym read) ∙ sym (take-suc (drop from cs) (at - from) [] here)
     ∙ ap (λ n. take n (drop from cs)) (let e : suc (at - from) ≡ (at + 1) - from = omega arith in e)
-
-pub told_all : (cs : Clauses) (from end : ℕ) → end ≡ length cs → take (end - from) (drop from cs) ≡ drop from cs
-told_all cs from end is = let size = length-drop from cs in take_all (end - from) (drop from cs) (omega arith)
 
 pub front_words : (cs : Clauses) (n : ℕ) → words_of (take n cs) ≤ words_of cs
 front_words cs n =

@@ -14,7 +14,7 @@ use Rattle.plan_core.specs.Order.{IsOrder}
 use Rattle.refute_log.specs.Told.{Lines}
 use Rattle.refute_log.specs.Log.{clause_lines}
 use Rattle.certified_values.specs.Expected.{caps, same_criterion, expected_lines, with_cap}
-use Rattle.certified_values.proofs.ExpectedLemmas.{same_tells, with_cap_here, with_cap_other, expected_same}
+use Rattle.certified_values.proofs.ExpectedLemmas.{with_cap_here, with_cap_other, expected_same}
 use Rattle.lex_search.specs.declared.oracle.Below.{Below}
 use Rattle.lex_search.specs.declared.oracle.Built.TheVariants.{Whole, NoRoom}
 use Rattle.certified_values.specs.declared.stop.Stop.{Stop}
@@ -37,17 +37,6 @@ with_cap_zero f c n d le e = by (same_criterion c d) refl
     by : (b : Bool) → same_criterion c d ≡ b → f d ≡ 0
     by true t = let h : n ≡ 0 = sym (ap (λ b. cond b n (f d)) t) ∙ e in absurd (omega arith)
     by false t = sym (ap (λ b. cond b n (f d)) t) ∙ e
-
-pub with_cap_more : (f : Criterion → ℕ) (c : Criterion) (n : ℕ) (d : Criterion) → f c ≡ 0 → f d ≤ with_cap f c n d
-with_cap_more f c n d z = by (same_criterion c d) refl
-  where
-    by : (b : Bool) → same_criterion c d ≡ b → f d ≤ cond b n (f d)
-    by true t = let e : f d ≡ 0 = ap f (sym (same_tells c d t)) ∙ z in omega arith
-    by false t = omega arith
-
-pub built_more : (f h : Criterion → ℕ) (c : Criterion) (n : ℕ) (held : List Below) → h ≡ with_cap f c n → f c ≡ 0 → All (IsWithinCap f) held → All (IsWithinCap h) held
-built_more f h c n held is z all = subst (λ (m : Criterion → ℕ). All (IsWithinCap m) held) (sym is)
-    (All-weaker (IsWithinCap f) (IsWithinCap (with_cap f c n)) (λ b k. (k.0, (let m = with_cap_more f c n b.criterion z in let l = k.1 in omega arith))) held all)
 
 -- the value is at most the cap
 pub value_bounded : (p : Task) (order : List Criterion) (i : ℕ) (c m : Criterion) (n : ℕ) (d : Drawing) (f h : Criterion → ℕ) → IsLawful p d → slice_get order i ≡ Some c → IsCapOf p c (values_of d) n → h ≡ with_cap f c n → slice_get order i ≡ Some m → value_of (values_of d) m ≤ h m

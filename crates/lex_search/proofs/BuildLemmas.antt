@@ -161,9 +161,6 @@ counted_built p order i c n cap vars is at k = record {
 pub vars_same : (p : Task) (order : List Criterion) (cap now : Criterion → ℕ) (vars many : ℕ) → now ≡ cap → many ≡ vars → vars ≡ expected_vars p.encoding order cap → many ≡ expected_vars p.encoding order now
 vars_same p order cap now vars many same is were = is ∙ were ∙ ap (expected_vars p.encoding order) (sym same)
 
-pub counted_later : (p : Task) (order : List Criterion) (i : ℕ) (cap : Criterion → ℕ) (vars : ℕ) → Counted p order i cap vars → Counted p order (i + 1) cap vars
-counted_later p order i cap vars k = record { unbuilt = λ j d le there. k.unbuilt j d (omega arith) there; vars_are = k.vars_are }
-
 pub told_built : (p : Task) (order : List Criterion) (i : ℕ) (c : Criterion) (n : ℕ) (cap : Criterion → ℕ) (vars : ℕ) (now : Lines) → IsOrder order → slice_get order i ≡ Some c → Counted p order i cap vars →
     clause_lines now ≡ expected_lines p.encoding order cap → clause_lines (now ++ sum_lines p.encoding vars c n) ≡ expected_lines p.encoding order (with_cap cap c n)
 told_built p order i c n cap vars now is at k told =

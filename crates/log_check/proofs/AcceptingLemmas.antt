@@ -20,9 +20,9 @@ use Rattle.log_check.specs.declared.verdict.Refusal.{Refusal}
 use Rattle.log_check.specs.declared.verdict.Refusal.TheVariants as refusals
 use Rattle.log_check.specs.Expectation.{Expectation, PassesLimits}
 use Rattle.log_check.specs.Accepted.{AreAccepted}
-use Rattle.log_check.specs.Refused.{IsOverLimits, IsNextExpected, IsComparedLine, kept_of_lines, IsRefusedFor}
+use Rattle.log_check.specs.Refused.{IsOverLimits, IsNextExpected, kept_of_lines, IsRefusedFor}
 use Rattle.log_check.specs.Awaited.{awaited_lines, IsAwaited}
-use Rattle.log_check.specs.Progress.{AreAwaited, HasAccepted, HasCompared, IsCompared, refusals_of}
+use Rattle.log_check.specs.Progress.{AreAwaited, HasAccepted, HasCompared, IsCompared}
 use Rattle.refute_log.proofs.StepLemmas.{same_clauses}
 
 -- ---- Formula and Bound lines
@@ -165,17 +165,6 @@ cause_of kept line faults.NotImplied a b c d e = d refl
 cause_of kept line faults.NotNew a b c d e = e refl
 cause_of kept line faults.Memory a b c d e = tt
 
-refused_by : (e : Expectation) (lines : Lines) (line : LogLine) (fault : LineFault) (why : Refusal) → IsComparedLine e lines line → IsCauseOf (kept_of_lines lines) line fault → why ∷ [] ≡ refusals_of fault → IsRefusedFor e lines line why
-refused_by e lines line faults.NewVar why h cause is = subst (IsRefusedFor e lines line) (let w : refusals.NewVar ≡ why = cc in w) (h, cause)
-refused_by e lines line faults.WrongQuery why h cause is = subst (IsRefusedFor e lines line) (let w : refusals.WrongQuery ≡ why = cc in w) (h, cause)
-refused_by e lines line faults.Room why h cause is = subst (IsRefusedFor e lines line) (let w : refusals.Room ≡ why = cc in w) (inr (h, cause))
-refused_by e lines line faults.NotImplied why h cause is = subst (IsRefusedFor e lines line) (let w : refusals.NotImplied ≡ why = cc in w) (h, cause)
-refused_by e lines line faults.NotNew why h cause is = subst (IsRefusedFor e lines line) (let w : refusals.NotNew ≡ why = cc in w) (h, cause)
-refused_by e lines line faults.Memory why h cause is = absurd (cc)
-
-pub refused_for : (e : Expectation) (lines : Lines) (line : LogLine) (p : Progress) (fault : LineFault) (why : Refusal) → HasCompared e lines line p → IsCauseOf p.checker line fault → why ∷ [] ≡ refusals_of fault → IsRefusedFor e lines line why
-refused_for e lines line p fault why h cause is = refused_by e lines line fault why h.compared (subst (λ (k : CheckedFacts). IsCauseOf k line fault) h.checker cause) is
-
 -- the bounds with those of one line more
 pub bounds_pushed : (line : LogLine) (old new : List ToldBound) (b : ToldBound) → option_to_list (Some b) ≡ told_bound line → new ≡ old ++ b ∷ [] → new ≡ old ++ told_bound line
 bounds_pushed line old new b told is = is ∙ ap (λ (bs : List ToldBound). old ++ bs) told
@@ -199,7 +188,3 @@ pub feed_judged : {X : Type 0} (res : Result (Option Refusal) X) (line : LogLine
     IfOk res (λ r. (e : Expectation) (before : Lines) → HasAccepted e before old → MatchOption r (HasAccepted e (before ++ line ∷ []) new) (IsRefusedFor e before line))
 feed_judged (Ok r) line old mid new step h = λ e before known. h e before (step e before known)
 feed_judged (Err x) line old mid new step h = tt
-
-pub feed_awaited : {X : Type 0} (res : Result (Option Refusal) X) (old new : Option Awaited) → new ≡ old → IfSome old IsAwaited → OnOk res (IfSome new IsAwaited)
-feed_awaited (Ok r) old new is h = subst (λ (o : Option Awaited). IfSome o IsAwaited) (sym is) h
-feed_awaited (Err x) old new is h = tt

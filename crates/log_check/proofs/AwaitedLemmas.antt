@@ -11,7 +11,7 @@ use Rattle.cnf_core.proofs.TrailLemmas.{word_once}
 use Rattle.cnf_core.specs.Clause.{Clauses}
 use Rattle.plan_core.specs.declared.criterion.Criterion.{Criterion}
 use Rattle.refute_log.specs.declared.line.LogLine.{LogLine}
-use Rattle.refute_log.specs.declared.line.LogLine.TheVariants.{Formula, Bound}
+use Rattle.refute_log.specs.declared.line.LogLine.TheVariants.{Formula}
 use Rattle.refute_log.specs.Told.{Lines}
 use Rattle.certified_values.specs.Expected.{bound_lines}
 use Rattle.drawing_problem.specs.Lists.{variables_behind}
@@ -41,17 +41,6 @@ clause_comes cs parts end clause bound lt le =
     let more : end - clause ≡ suc (end - (clause + 1)) = omega arith in
     ap (λ n. map Formula (take n (drop clause cs)) ++ lines_from cs parts end 0) more
     ∙ ap (λ (ds : Clauses). map Formula ds ++ lines_from cs parts end 0) (taken cs clause (end - (clause + 1)) (omega arith))
-
--- the next bound of a part
-pub bound_comes : (cs : Clauses) (parts : List Part) (c : Criterion) (last cap clause bound : ℕ) → bound < cap →
-    lines_from cs (Bounds c last cap ∷ parts) clause bound ≡ Bound c (bound + 1) (record { 0 = last + (bound + 1) }) ∷ lines_from cs (Bounds c last cap ∷ parts) clause (bound + 1)
-bound_comes cs parts c last cap clause bound lt =
-    let more : cap - bound ≡ suc (cap - (bound + 1)) = omega arith in
-    let next : last + bound + 1 ≡ last + (bound + 1) = omega arith in
-    ap (λ n. bound_lines c (bound + 1) (variables_behind (last + bound) n) ++ lines_from cs parts clause 0) more
-    ∙ ap (λ n. Bound c (bound + 1) (record { 0 = n }) ∷ (bound_lines c (bound + 1 + 1) (variables_behind n (cap - (bound + 1))) ++ lines_from cs parts clause 0)) next
-
--- ---- by what the first part is
 
 as_first : (parts rest : List Part) (part first : Part) → parts ≡ part ∷ rest → part ≡ first → parts ≡ first ∷ rest
 as_first parts rest part first is same = is ∙ ap (λ (p : Part). p ∷ rest) same

@@ -12,7 +12,6 @@ use Rattle.line_text.specs.Fields.{LacksByte, IsCutAt}
 use Rattle.refute_log.specs.declared.line.LogLine.{LogLine}
 use Rattle.refute_log.specs.declared.line.LogLine.TheVariants.{Formula, Learnt, Bound, Query, Refuted, Model}
 use Rattle.refute_log.specs.declared.fault.LogWhat.{LogWhat}
-use Rattle.refute_log.specs.Lines.{log_line_text}
 use Rattle.refute_log.specs.declared.fault.LineTextFault.{LineTextFault}
 use Rattle.refute_log.specs.declared.fault.LineTextFault.TheVariants.{Log, Memory}
 use Rattle.refute_log.specs.LineText.{IsTextOf, HasLineFault, IsLineFault}
@@ -65,19 +64,6 @@ begins_with b text (x ∷ xs) same first at none is = let e : x ≡ b = sym (at 
 abbrev first_byte : List ℕ → ℕ
 first_byte [] = 0
 first_byte (b ∷ bs) = b
-
-none_without : (text : List ℕ) → ((rest : List ℕ) → text ≢ codes "b" ++ rest) → (line : LogLine) → IsBoundText text line → ⊥
-none_without text none (Formula c) h = let e : [] ≡ Formula c ∷ [] = h.0 in cc
-none_without text none (Learnt c) h = let e : [] ≡ Learnt c ∷ [] = h.0 in cc
-none_without text none (Bound c k x) h =
-    let front = begins_with 98 text (log_line_text (Bound c k x)) (sym h.1.spells.spelled) first_byte (λ x xs. refl) (λ e. let f : 0 ≡ 98 = e in omega (arith, f)) refl in
-    none front.0 front.1
-none_without text none (Query c) h = let e : [] ≡ Query c ∷ [] = h.0 in cc
-none_without text none (Refuted c) h = let e : [] ≡ Refuted c ∷ [] = h.0 in cc
-none_without text none Model h = let e : [] ≡ Model ∷ [] = h.0 in cc
-
-pub no_letter : (text : List ℕ) → ((rest : List ℕ) → text ≢ codes "b" ++ rest) → AreCounted text None
-no_letter text none = ([], inr (none_without text none, tt), count_none)
 
 pub count_bound : (c : Criterion) (k : ℕ) (x : Var) → IsCountOf (Some c) (Bound c k x ∷ [])
 count_bound c k x = λ d. by (same_criterion d c)

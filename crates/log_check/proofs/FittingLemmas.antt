@@ -56,11 +56,6 @@ room_missed whole room lines i line e is over =
     let behind = flat_map added (drop (suc i) lines) in
     omega (arith, ap words_of (around added lines i line e), words_append (flat_map added (take i lines)) (added line ++ behind), words_append (added line) behind)
 
-pub room_to_end : (whole room : ℕ) (lines : Lines) (i : ℕ) → length lines ≤ i → room + words_of (flat_map added (take i lines)) ≡ whole → words_of (flat_map added lines) ≤ whole
-room_to_end whole room lines i end is = omega (arith, ap (λ (ls : Lines). words_of (flat_map added ls)) (take_all i lines end))
-
--- ---- Formula and Bound lines
-
 pub no_line_next : (lines : Lines) (i : ℕ) (line : LogLine) → slice_get lines i ≡ Some line → clause_lines (take i lines) ≡ [] → clause_line line ≡ [] → clause_lines (take (i + 1) lines) ≡ []
 no_line_next lines i line at none is = at_next (λ ls. clause_lines ls ≡ []) lines i line at (flat_map_last clause_line (take i lines) line ∙ ap (λ (ls : Lines). ls ++ clause_line line) none ∙ is)
 

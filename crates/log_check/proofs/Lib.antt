@@ -1,7 +1,6 @@
 pub mod AwaitedLemmas
 pub mod ExpectingLemmas
 pub mod CountingLemmas
-pub mod ReadingLemmas
 pub mod AcceptingLemmas
 pub mod JudgingLemmas
 pub mod CutLemmas

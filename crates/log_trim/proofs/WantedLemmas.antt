@@ -107,12 +107,6 @@ pub not_shown : (greatest : Criterion → ℕ) (lines : Lines) (order earlier : 
 not_shown greatest lines order earlier v s i c low at is positive none certified =
     none (subst (λ (cs : List Criterion). RefutesLess greatest lines cs c v) (sym is) (certified i c low at positive))
 
-pub of_none : (greatest : Criterion → ℕ) (lines : Lines) (order : List Criterion) (v : Values) → AreOfLeast greatest lines order v 0 []
-of_none greatest lines order v = record {
-  only = λ p h. nothing p ((i : ℕ) × (c : Criterion) × IsClaimedPlace order v 0 i c × ShowsLeast greatest lines (take i order) c v p) h;
-  each = λ i c claimed. absurd (let low = claimed.below in omega (arith, low));
-}
-
 -- a claimed place is one of more
 further : (order : List Criterion) (v : Values) (s i : ℕ) (c : Criterion) → IsClaimedPlace order v s i c → IsClaimedPlace order v (s + 1) i c
 further order v s i c h = record { below = (let low = h.below in omega (arith, low)); at = h.at; positive = h.positive }

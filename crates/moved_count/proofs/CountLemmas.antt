@@ -82,9 +82,6 @@ first_counted v former place first (suc n) h =
         ∙ ap (λ x. x + one_when (v (first + matched_before former n))) before
         ∙ ap (λ x. count_below (λ k. is_moved (former_at former k) (place k)) n + x) (sym same)
 
-ReadsAll : Assignment → (ℕ → NodeInts) → Former → (ℕ → Point) → Type 0
-ReadsAll v x former place = (k : ℕ) → k < length former → ReadsPoint v (x k) (place k)
-
 by_means : (v : Assignment) (n : NodeInts) (p q : Point) (f : Option Point) (m : ℕ) → ReadsPoint v n p → f ≡ Some q → SatisfiesAll v (clauses_by f n m) → v m ≡ is_moved (Some q) p
 by_means v n p q f m r e h = node_means v n q p m r (subst (λ (o : Option Point). SatisfiesAll v (clauses_by o n m)) e h)
 

@@ -31,9 +31,6 @@ flip_true v t e = value-flip v t ∙ ap not e
 flip_false : (v : Assignment) (t : LitOrTruth) → value v t ≡ true → value v (flip t) ≡ false
 flip_false v t e = value-flip v t ∙ ap not e
 
-yes_is : (v : Assignment) (m : ℕ) → value v (yes m) ≡ v m
-yes_is v m = refl
-
 not_both : (v : Assignment) (t : LitOrTruth) → value v t ≡ true → value v t ≡ false → ⊥
 not_both v t a b = let e : true ≡ false = sym a ∙ b in absurd cc
 
@@ -43,9 +40,6 @@ second_of v t m (inl h) f = absurd h
 second_of v t m (inr (inl h)) f = absurd (not_both v t h f)
 second_of v t m (inr (inr (inl h))) f = h
 second_of v t m (inr (inr (inr h))) f = absurd h
-
-below_clause : IntVars → ℕ → ℕ → List LitOrTruth
-below_clause i k m = int_at_least i k ∷ yes m ∷ []
 
 pub unlike_says : (v : Assignment) (i : IntVars) (k n m : ℕ) → Reads v i n → SatisfiesAll v (unlike_clauses i k m) → n ≢ k → v m ≡ true
 unlike_says v i k n m r h ne =

@@ -187,10 +187,6 @@ formula_is e former budget room k ready =
 pub last_is : (e : Encoding) (former : Former) (budget room : ℕ) (k : Kept) → IsReady e former budget room k → e.formula.vars ≡ formula_size e.graph (is_above e.order) (is_overlap e.order) e.grid
 last_is e former budget room k ready = (ready.whole).vars ∙ ap (bounds_last e.graph (encoded_vars e) e.grid (drawing_last e)) ready.bounds
 
--- the solver has the formula's variables
-pub formula_there : (e : Encoding) (former : Former) (budget room last : ℕ) (k : Kept) → IsReady e former budget room k → last ≡ k.vars → e.formula.vars ≤ last
-formula_there e former budget room last k ready is = let size = last_is e former budget room k ready in let vars = ready.vars in omega (arith, is, size, vars)
-
 pub few_variables : (e : Encoding) (former : Former) (budget room last : ℕ) (k : Kept) (limit : Option ℕ) → IsReady e former budget room k → last ≡ e.formula.vars → k.vars ≤ VARS → MatchOption limit ⊤ (λ n. (1 ≤ n) × (n ≤ matched former)) →
     MatchOption limit ⊤ (λ n. (1 ≤ n) × (last + n ≤ VARS))
 few_variables e former budget room last k None ready is few h = tt

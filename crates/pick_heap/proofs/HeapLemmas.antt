@@ -4,11 +4,10 @@ use Rattle.std.specs.Prelude.{map, slice_index_or}
 use Rattle.std.proofs.lemmas.Bool.{cases_lt}
 use Rattle.std.proofs.lemmas.Bool.Decides.{eqb_tells}
 use Rattle.std.proofs.lemmas.List.{length-map, get_or-map, get_or_past}
-use Rattle.cnf_core.specs.declared.limits.TheConstants.{VARS}
 use Rattle.pick_heap.specs.declared.heap.TheConstants.{HALVED_AT}
-use Rattle.pick_heap.specs.Heap.{Ranked, ranked_of, IsGreatest, NoneHeld, activity, halved, roomy}
-use Rattle.pick_heap.specs.Tree.{entry_at, HaveActivities, IsWon, leaf_word, HasLeaves, KeepsLeaves, KeepsOthers, AreActivities, IsHeap}
-use Rattle.pick_heap.proofs.MatchLemmas.{get_padded, heap_set, heap_raised, heap_halved, won_raised, gone_from, root_greatest, root_none}
+use Rattle.pick_heap.specs.Heap.{Ranked, ranked_of, IsGreatest, NoneHeld, activity}
+use Rattle.pick_heap.specs.Tree.{entry_at, HaveActivities, IsWon, leaf_word, KeepsLeaves, KeepsOthers, AreActivities, IsHeap}
+use Rattle.pick_heap.proofs.MatchLemmas.{heap_set, heap_raised, heap_halved, won_raised, gone_from, root_greatest, root_none}
 
 -- the same with what calls were given, and what is left of a vector
 pub heap_set_at : (vars leaves : ℕ) (held : List Bool) (acts tree given_acts given_tree new got : List ℕ) (v : ℕ) (b : Bool) → IsHeap vars leaves held acts tree → given_acts ≡ acts → given_tree ≡ tree → got ≡ new → 1 ≤ v → v ≤ vars → length new ≡ length given_tree → HaveActivities given_acts new → IsWon given_acts new leaves →
@@ -38,10 +37,6 @@ module _ (vars leaves : ℕ) (held : List Bool) (acts tree given_acts given_tree
       (heap_raised vars leaves held acts tree k v n mid new from to most (size ∙ ap length et) (size2 ∙ ap length eg) others_old (subst (λ (a : List ℕ). HaveActivities a new) em named2) (subst (λ (a : List ℕ). IsWon a new leaves) em won2) (leaf ∙ is)
       (subst (λ (t : List ℕ). KeepsOthers leaves t new (leaves + v - 1)) eg others2))
 
--- all activities are halved
-pub named_length : (acts less tree : List ℕ) → length less ≡ length acts → HaveActivities acts tree → HaveActivities less tree
-named_length acts less tree e named = λ k. let lt = named k in omega arith
-
 halves_within : (acts : List ℕ) → AreActivities acts → AreActivities (map (λ a. a / 2) acts)
 halves_within acts within = λ j. elim (cases_lt j (length acts)) [
   | inl lt ↦ let e : entry_at (map (λ a. a / 2) acts) j ≡ entry_at acts j / 2 = get_or-map (λ a. a / 2) acts j 0 0 lt in let old = within j in omega arith
@@ -55,12 +50,6 @@ heap_halved_at vars leaves held acts tree less given_less given_tree new got_les
     (heap_halved vars leaves held acts tree k less new (ap length el ∙ length-map acts (λ a. a / 2)) (subst AreActivities (sym el) (halves_within acts k.within)) (size ∙ ap length et) (subst (λ (a : List ℕ). HaveActivities a new) el2 named) (subst (λ (a : List ℕ). IsWon a new leaves) el2 won)
     (subst (λ (t : List ℕ). KeepsLeaves leaves t new) et kept)))
 
-pub roomy_same : (h : Ranked) (v : ℕ) → activity h v < HALVED_AT → roomy h v ≡ h
-roomy_same h v lt = elim (eqb_tells (activity h v) HALVED_AT) [ inl a ↦ let e = a.1 in absurd (omega arith) | inr a ↦ ap (λ b. cond b (halved h) h) a.0 ]
-
-pub roomy_halved : (h : Ranked) (v : ℕ) → activity h v ≡ HALVED_AT → roomy h v ≡ halved h
-roomy_halved h v e = elim (eqb_tells (activity h v) HALVED_AT) [ inl a ↦ ap (λ b. cond b (halved h) h) a.0 | inr a ↦ absurd (a.1 e) ]
-
 pub full : (vars : ℕ) (held : List Bool) (acts : List ℕ) (h : Ranked) (v : ℕ) → AreActivities acts → ranked_of vars held acts ≡ h → HALVED_AT ≤ activity h v → activity h v ≡ HALVED_AT
 full vars held acts h v within e most =
     let bound : activity h v ≤ HALVED_AT = subst (λ (x : Ranked). activity x v ≤ HALVED_AT) e (within v) in
@@ -68,32 +57,6 @@ full vars held acts h v within e most =
 
 pub half_below : (acts : List ℕ) (v : ℕ) → v < length acts → entry_at acts v ≤ HALVED_AT → entry_at (map (λ a. a / 2) acts) v < HALVED_AT
 half_below acts v lt le = let e : entry_at (map (λ a. a / 2) acts) v ≡ entry_at acts v / 2 = get_or-map (λ a. a / 2) acts v 0 0 lt in omega arith
-
--- activities of 0, alone and behind others
-pub zeros_within : (n : ℕ) → AreActivities (replicate n 0)
-zeros_within n = λ j. let e : entry_at (replicate n 0) j ≡ 0 = get_padded [] n 0 j in omega arith
-
-pub more_within : (acts : List ℕ) (n : ℕ) → AreActivities acts → AreActivities (acts ++ replicate n 0)
-more_within acts n within = λ j. let e : entry_at (acts ++ replicate n 0) j ≡ entry_at acts j = get_padded acts n 0 j in let old = within j in omega arith
-
--- a tree that was laid out
-pub heap_laid : (vars leaves : ℕ) (held : List Bool) (acts tree given_acts : List ℕ) (given_held : List Bool) (new : List ℕ) → vars ≤ VARS → 1 ≤ leaves → vars ≤ leaves → leaves ≤ 2 * VARS → length held ≡ vars + 1 → length acts ≡ vars + 1 → AreActivities acts → slice_index_or held 0 false ≡ false → 2 * leaves ≤ length tree →
-    given_acts ≡ acts → given_held ≡ held → tree ≡ new → HaveActivities given_acts new → IsWon given_acts new leaves → HasLeaves leaves given_held new → IsHeap vars leaves held acts tree
-heap_laid vars leaves held acts tree given_acts given_held new limit some fits leaves_limit held_size acts_size within none size ea eh et named won leaf =
-    subst (λ (t : List ℕ). 2 * leaves ≤ length t → IsHeap vars leaves held acts t) (sym et) (λ large. record {
-      limit = limit;
-      some = some;
-      fits = fits;
-      leaves_limit = leaves_limit;
-      held_size = held_size;
-      activities_size = acts_size;
-      within = within;
-      none = none;
-      size = large;
-      named = subst (λ (a : List ℕ). HaveActivities a new) ea named;
-      won = subst (λ (a : List ℕ). IsWon a new leaves) ea won;
-      leaf = subst (λ (h : List Bool). HasLeaves leaves h new) eh leaf;
-    }) size
 
 -- the root, as the view has it
 pub greatest_at : (vars leaves : ℕ) (held : List Bool) (acts tree : List ℕ) (h : Ranked) (v : ℕ) → IsHeap vars leaves held acts tree → ranked_of vars held acts ≡ h → entry_at tree 1 ≡ v → v ≢ 0 → IsGreatest h v

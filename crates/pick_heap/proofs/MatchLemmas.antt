@@ -25,23 +25,6 @@ get_padded [] n x i = padded_none n i x
 get_padded (y ∷ xs) n x zero = refl
 get_padded (y ∷ xs) n x (suc i) = get_padded xs n x i
 
--- the three answers of a match
-pub first_alone : (acts : List ℕ) (a b : ℕ) → b ≡ 0 → IsWinner acts a b a
-first_alone acts a b e = record { one = inl refl; first = omega arith; second = let none = rank_none acts b e in omega arith }
-
-pub second_wins : (acts : List ℕ) (a b : ℕ) → b ≢ 0 → (a ≡ 0) ⊎ (entry_at acts a < entry_at acts b) → IsWinner acts a b b
-second_wins acts a b ne why = record { one = inr refl; first = below why; second = omega arith }
-  where
-    below : (a ≡ 0) ⊎ (entry_at acts a < entry_at acts b) → rank_of acts a ≤ rank_of acts b
-    below (inl e) = let none = rank_none acts a e in omega arith
-    below (inr lt) = elim (cases_eq a 0) [
-      | inl e ↦ let none = rank_none acts a e in omega arith
-      | inr na ↦ let x = rank_some acts a na in let y = rank_some acts b ne in omega arith
-    ]
-
-pub first_wins : (acts : List ℕ) (a b : ℕ) → a ≢ 0 → b ≢ 0 → entry_at acts b ≤ entry_at acts a → IsWinner acts a b a
-first_wins acts a b na nb le = record { one = inl refl; first = omega arith; second = let x = rank_some acts a na in let y = rank_some acts b nb in omega arith }
-
 -- a node is written
 module _ (acts tree : List ℕ) (leaves p w : ℕ) (within : p < length tree) where
   pub named_set : HaveActivities acts tree → w < length acts → HaveActivities acts (set tree p w)
@@ -93,9 +76,6 @@ won_same acts tree leaves p w here e but = record {
     | inr other ↦ but.won k from to other
   ];
 }
-
-pub won_all : (acts tree : List ℕ) (leaves but : ℕ) → but ≡ 0 → IsWonBut acts tree leaves but → IsWon acts tree leaves
-won_all acts tree leaves but e b = record { won = λ k from to. b.won k from to (omega arith) }
 
 -- the root
 module _ (acts tree : List ℕ) (leaves : ℕ) (all : IsWon acts tree leaves) where
@@ -339,16 +319,8 @@ heap_longer vars leaves held acts tree more k = record {
   leaf = λ i lt. get_padded tree more 0 (leaves + i) ∙ k.leaf i lt;
 }
 
--- the leaf of a variable that comes or goes
-pub set_held : (held : List Bool) (v : ℕ) → v < length held → leaf_word (set held v true) v ≡ v
-set_held held v lt = word_held (set held v true) v (get_or-set_same held v true false lt)
-
 pub set_free : (held : List Bool) (v : ℕ) → v < length held → leaf_word (set held v false) v ≡ 0
 set_free held v lt = word_free (set held v false) v (get_or-set_same held v false false lt)
-
--- all variables are held
-pub fresh_held : (n v : ℕ) → 1 ≤ v → v ≤ n → slice_index_or (set (replicate (n + 1) true) 0 false) v false ≡ true
-fresh_held n v from to = get_or-set_other (replicate (n + 1) true) 0 v false false (omega arith) ∙ get_or-replicate {A = Bool} (n + 1) v true false (omega arith)
 
 pub word_below : (held : List Bool) (v n : ℕ) → v < n → leaf_word held v < n
 word_below held v n lt = elim (held_or held v) [ inl h ↦ let e = word_held held v h in omega arith | inr f ↦ let e = word_free held v f in omega arith ]

@@ -41,10 +41,3 @@ Better-transitive (q ∷ rest) a b c (inl h) (inl k) = inl (omega (arith, h, k))
 Better-transitive (q ∷ rest) a b c (inl h) (inr k) = let same = k.0 in inl (omega (arith, h, same))
 Better-transitive (q ∷ rest) a b c (inr h) (inl k) = let same = h.0 in inl (omega (arith, same, k))
 Better-transitive (q ∷ rest) a b c (inr h) (inr k) = inr (h.0 ∙ k.0, Better-transitive rest a b c h.1 k.1)
-
--- better on the first criteria alone is better
-pub Better-take : (s : ℕ) (order : List Criterion) (a b : Values) → Better (take s order) a b → Better order a b
-Better-take zero order a b h = absurd h
-Better-take (suc s) [] a b h = absurd h
-Better-take (suc s) (c ∷ rest) a b (inl less) = inl less
-Better-take (suc s) (c ∷ rest) a b (inr h) = inr (h.0, Better-take s rest a b h.1)

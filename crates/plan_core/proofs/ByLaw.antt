@@ -40,6 +40,3 @@ meets_each g above grid d keeps (Aligned n) = keeps.aligned n
 meets_each g above grid d keeps (Apart u v) = keeps.apart u v
 meets_each g above grid d keeps (Over e f) = keeps.over e f
 meets_each g above grid d keeps (Parted e f) = keeps.parted e f
-
-pub lawful_from : (g : Graph) (above : ℕ → ℕ → Bool) (grid : GridSize) (d : Drawing) → KeepsEachLaw g above grid d → Lawful g above grid d
-lawful_from g above grid d keeps = record { fits = keeps.fits; laws = meets_each g above grid d keeps }

@@ -153,18 +153,6 @@ broken-only g above grid d i h =
 by_test : {P : Type 0} (t : Test P) → ((P → ⊥) → ⊥) → P
 by_test t h = shown t (true_from_ne_false t.passes (λ e. h (refuted t e)))
 
-nothing_in : {i : Instance} → Contains [] i → ⊥
-nothing_in h = let within = h.1 in omega arith
-
--- a drawing that fits is lawful where nothing is broken
-pub lawful_where_none_broken : (g : Graph) (above : ℕ → ℕ → Bool) (grid : GridSize) (d : Drawing) → Fits g d → broken g above grid d ≡ [] → Lawful g above grid d
-lawful_where_none_broken g above grid d fit none = record {
-  fits = fit;
-  laws = λ i speaks. by_test (meets g grid d i) (λ fails. nothing_in (subst (λ l. Contains l i) none (broken-has g above grid d i speaks fails)));
-}
-
--- a track graph
-
 abbrev pub lies_on : (side : Compass) (g : Graph) (n e : ℕ) → Test (LiesOn side g n e)
 lies_on East g n e = are_equal (edge g e).west n
 lies_on West g n e = are_equal (edge g e).east n

@@ -30,18 +30,6 @@ reached-step Down n y z d h less = omega arith
 reached-step Level n y z d h less = refl
 reached-step Up n y z d h less = omega arith
 
--- only one slope makes a step
-pub one_slope : (s t : Slope) (y z : ℕ) → Reaches s 1 y z → Reaches t 1 y z → s ≡ t
-one_slope Down Down y z h k = refl
-one_slope Down Level y z h k = absurd (omega arith)
-one_slope Down Up y z h k = absurd (omega arith)
-one_slope Level Down y z h k = absurd (omega arith)
-one_slope Level Level y z h k = refl
-one_slope Level Up y z h k = absurd (omega arith)
-one_slope Up Down y z h k = absurd (omega arith)
-one_slope Up Level y z h k = absurd (omega arith)
-one_slope Up Up y z h k = refl
-
 -- a piece's x rises, and its slope takes it from its west point to its east point
 pub record IsPiece (p : Piece) : Type 0 where
   pub rising : p.west.x < p.east.x

@@ -6,7 +6,7 @@ use Rattle.std.proofs.lemmas.Bool.{and_parts}
 use Rattle.std.proofs.lemmas.List.{length-take}
 use Rattle.plan_core.specs.declared.point.Point.{Point}
 use Rattle.plan_core.proofs.LineLemmas.{line_length}
-use Rattle.plan_core.specs.Line.{pieces_from, pieces, is_piece, slope, is_shape, is_line, height, height_from, diagonal, absolute_rise}
+use Rattle.plan_core.specs.Line.{pieces_from, pieces, is_piece, is_line, height, height_from, diagonal, absolute_rise}
 
 pub long_is_no_line : (line : List Point) → 5 ≤ length line → false ≡ is_line line
 long_is_no_line line long =
@@ -32,6 +32,3 @@ pub record IsOnTheWay (line : List Point) (x : ℕ) (west : Point) (rest : List 
 pub record IsMeasured (line : List Point) (west : Point) (rest : List Point) (sum steps : ℕ) : Type 0 where
   pub same : sum + sum_by absolute_rise (pieces_from west rest) ≡ diagonal line
   pub bounded : sum ≤ 65535 * steps
-
-pub pieces_of_line : (line : List Point) → is_line line ≡ true → list_all is_piece (pieces line) ≡ true
-pieces_of_line line h = (and_parts (list_all is_piece (pieces line)) (is_shape (map slope (pieces line))) h).0

@@ -9,5 +9,4 @@ pub mod StandLemmas
 pub mod EdgeLemmas
 pub mod ExactLemmas
 pub mod FileLemmas
-pub mod WritingLemmas
 pub mod AlongLemmas

@@ -183,9 +183,6 @@ no_plain_end edition is text none mileage rest h = at mileage (subst (λ (o : Ed
     at None h = none rest h.2
     at (Some field) h = h.0
 
-pub plain_end : (edition : Edition) → edition ≡ First → (text rest : List ℕ) → text ≡ codes "\n" ++ rest → IsNodeEnd edition text None rest
-plain_end edition is text rest e = let end : IsNodeEnd First text None rest = (tt, tt, e) in subst (λ (o : Edition). IsNodeEnd o text None rest) (sym is) end
-
 last_field : (field t : List ℕ) → spaced (field ∷ []) ++ t ≡ 32 ∷ (field ++ t)
 last_field field t = ap (λ (s : List ℕ). 32 ∷ s) (append_assoc field [] t)
 
@@ -292,33 +289,6 @@ too_few numbers rest points b so_far empty so few ps some e =
 -- where no track is told
 pub no_edge_word : (edition : Edition) (text : List ℕ) → ((rest : List ℕ) → text ≢ codes "edge" ++ rest) → (n : ℕ) (track : Option (List ℕ)) (rest : List ℕ) → IsNumberedAt edition text n track rest → ⊥
 no_edge_word edition text none n track rest h = none (spaced (decimal n ∷ field_told track) ++ rest) h.4
-
-pub no_edge_number : (edition : Edition) → edition ≡ First → (text r : List ℕ) → text ≡ codes "edge" ++ r → ((n : ℕ) (s : List ℕ) → IsNumberAt r n s → ⊥) → (n : ℕ) (track : Option (List ℕ)) (rest : List ℕ) → IsNumberedAt edition text n track rest → ⊥
-no_edge_number edition first text r is none n track rest h = at track (subst (λ (o : Edition). IsNumberedAt o text n track rest) first h)
-  where
-    at : (track : Option (List ℕ)) → IsNumberedAt First text n track rest → ⊥
-    at None h = none n rest (h.2, h.3, append_cancel_left (codes "edge") r (spaced (decimal n ∷ []) ++ rest) (sym is ∙ h.4) ∙ last_field (decimal n) rest)
-    at (Some name) h = h.0
-
-pub plain_number : (edition : Edition) → edition ≡ First → (text r : List ℕ) (n : ℕ) (rest : List ℕ) → text ≡ codes "edge" ++ r → IsNumberAt r n rest → IsNumberedAt edition text n None rest
-plain_number edition first text r n rest is h =
-    let told : IsNumberedAt First text n None rest = (tt, tt, h.0, h.1, is ∙ ap (λ (t : List ℕ). codes "edge" ++ t) (h.2 ∙ sym (last_field (decimal n) rest))) in
-    subst (λ (o : Edition). IsNumberedAt o text n None rest) (sym first) told
-
--- where one is
-pub no_edge_named : (edition : Edition) → edition ≡ Second → (text : List ℕ) → ((n : ℕ) (name rest : List ℕ) → IsNamedAt text (codes "edge") n name rest → ⊥) → (n : ℕ) (track : Option (List ℕ)) (rest : List ℕ) → IsNumberedAt edition text n track rest → ⊥
-no_edge_named edition second text none n track rest h = at track (subst (λ (o : Edition). IsNumberedAt o text n track rest) second h)
-  where
-    at : (track : Option (List ℕ)) → IsNumberedAt Second text n track rest → ⊥
-    at None h = h.0
-    at (Some name) h = none n name rest (h.2, h.1, h.3, h.4 ∙ ap (λ (t : List ℕ). codes "edge" ++ t) (two_fields (decimal n) name [] rest))
-
-pub told_number : (edition : Edition) → edition ≡ Second → (text : List ℕ) (n : ℕ) (track rest : List ℕ) → IsNamedAt text (codes "edge") n track rest → IsNumberedAt edition text n (Some track) rest
-told_number edition second text n track rest h =
-    let told : IsNumberedAt Second text n (Some track) rest = (tt, h.1, h.0, h.2, h.3 ∙ ap (λ (t : List ℕ). codes "edge" ++ t) (sym (two_fields (decimal n) track [] rest))) in
-    subst (λ (o : Edition). IsNumberedAt o text n (Some track) rest) (sym second) told
-
--- ---- an edge's line
 
 coordinates_length : (ps : List Point) → length (flat_map coordinates ps) ≡ length ps + length ps
 coordinates_length [] = refl

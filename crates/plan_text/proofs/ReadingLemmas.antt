@@ -10,7 +10,6 @@ use Rattle.std.proofs.Common.{Ok, Err, Option, None, Some, MatchOption}
 use Rattle.plan_core.specs.declared.point.Point.{Point}
 use Rattle.plan_core.specs.declared.criterion.Criterion.{Criterion}
 use Rattle.plan_core.specs.Grid.{GridSize, IsGrid}
-use Rattle.plan_core.specs.Order.{IsOrder}
 use Rattle.plan_core.specs.Graph.{Graph, node, edge}
 use Rattle.plan_core.specs.Values.{values_of}
 use Rattle.plan_writing.specs.declared.edition.Edition.{Edition}
@@ -19,10 +18,10 @@ use Rattle.plan_writing.specs.declared.ending.Ending.{Ending}
 use Rattle.plan_core.specs.Drawing.{Drawing, drawing}
 use Rattle.plan_text.specs.declared.sheet_fault.SheetFault.{SheetFault}
 use Rattle.plan_text.specs.declared.sheet_fault.SheetFault.TheVariants.{Sheet as SheetHas, Memory}
-use Rattle.plan_writing.specs.SheetLine.{SheetLine, Title, GridLine, OrderLine, NodeLine, EdgeLine, ValuesLine, EndLine, text_of_line, MayEnd}
+use Rattle.plan_writing.specs.SheetLine.{SheetLine, Title, GridLine, NodeLine, EdgeLine, ValuesLine, EndLine, text_of_line, MayEnd}
 use Rattle.plan_writing.specs.SheetText.{StatesSettled, mileage_field, track_field}
-use Rattle.plan_text.specs.SheetFaults.{LineDue, TitleDue, GridDue, OrderDue, NodeDue, EdgesDue, EdgeDue, ValuesDue, EndDue, IsToldIn, IsDue, node_due, edge_due, due_behind, due_after, criteria_told, place_told, line_told, order_told, drawing_told, IsInRange, IsOfGraph, HasShape, IsMeasured, AreRightLines, HasWrongLine}
-use Rattle.plan_text.specs.SheetReading.{IsLineTo, head_lines, placed_lines, drawn_lines, AreReadTo, IsFaultHere, IsFaultFrom}
+use Rattle.plan_text.specs.SheetFaults.{LineDue, TitleDue, GridDue, NodeDue, EdgesDue, EdgeDue, ValuesDue, EndDue, IsToldIn, IsDue, node_due, edge_due, due_behind, due_after, criteria_told, place_told, line_told, order_told, drawing_told, IsInRange, IsOfGraph, HasShape, IsMeasured, AreRightLines, HasWrongLine}
+use Rattle.plan_text.specs.SheetReading.{IsLineTo, placed_lines, drawn_lines, AreReadTo, IsFaultHere, IsFaultFrom}
 
 -- ---- results
 
@@ -199,14 +198,6 @@ pub read_grid : (edition : Edition) (g : Graph) (needs_drawing : Bool) (text mid
 read_grid edition g needs_drawing text mid rest grid title is to =
     read_append g [] (TitleDue needs_drawing) text mid rest (Title edition ∷ []) (GridLine edition grid ∷ []) (read_title edition g needs_drawing text mid title)
     (read_one g (Title edition ∷ []) (GridDue edition needs_drawing) mid rest (GridLine edition grid) refl is tt tt tt to)
-
-pub read_head : (edition : Edition) (g : Graph) (needs_drawing : Bool) (text one two rest : List ℕ) (grid : GridSize) (order : List Criterion) → IsLineTo text (Title edition) one → IsGrid grid → IsLineTo one (GridLine edition grid) two → IsOrder order → IsLineTo two (OrderLine order) rest →
-    AreReadTo g [] (TitleDue needs_drawing) text (head_lines edition grid order) rest
-read_head edition g needs_drawing text one two rest grid order title is grid_to is_order to =
-    read_append g [] (TitleDue needs_drawing) text two rest (Title edition ∷ GridLine edition grid ∷ []) (OrderLine order ∷ []) (read_grid edition g needs_drawing text one two grid title is grid_to)
-    (read_one g (Title edition ∷ GridLine edition grid ∷ []) (OrderDue edition needs_drawing) two rest (OrderLine order) tt is_order tt tt tt to)
-
--- ---- what the lines tell
 
 pub order_kept : (before lines : List SheetLine) (order : List Criterion) → order_told lines ≡ [] → order_told before ≡ order → order_told (before ++ lines) ≡ order
 order_kept before lines order none told = flat_map-append criteria_told before lines ∙ ap (λ (o : List Criterion). order_told before ++ o) none ∙ append-nil (order_told before) ∙ told

@@ -111,21 +111,6 @@ order_or_none text list (Some order) is (is_order, same) = record { written = is
 
 -- ---- two criteria
 
-pub wrong_count : (list : List Criterion) → (length list ≡ 2 → ⊥) → (a b : Criterion) → a ≢ b → list ≢ a ∷ b ∷ []
-wrong_count list wrong a b apart is = wrong (ap length is)
-
-pub one_twice : (list : List Criterion) (x y : Criterion) → x ≡ get_or list 0 x → y ≡ get_or list 1 y → x ≡ y → (a b : Criterion) → a ≢ b → list ≢ a ∷ b ∷ []
-one_twice list x y first second same a b apart is =
-    let at_first : x ≡ a = first ∙ ap (λ (cs : List Criterion). get_or cs 0 x) is in
-    let at_second : y ≡ b = second ∙ ap (λ (cs : List Criterion). get_or cs 1 y) is in
-    apart (sym at_first ∙ same ∙ at_second)
-
-pub two_criteria : (list : List Criterion) (x y : Criterion) → length list ≡ 2 → x ≡ get_or list 0 x → y ≡ get_or list 1 y → list ≡ x ∷ y ∷ []
-two_criteria [] x y count first second = absurd (omega (arith, count))
-two_criteria (c ∷ []) x y count first second = absurd (omega (arith, count))
-two_criteria (c ∷ d ∷ []) x y count first second = let e : x ≡ c = first in let f : y ≡ d = second in cc
-two_criteria (c ∷ d ∷ e ∷ rest) x y count first second = absurd (omega (arith, count))
-
 pub pair_or_none : (text : List ℕ) (list : List Criterion) (r : Option (Criterion × Criterion)) → text ≡ criteria_text list → MatchOption r ((a b : Criterion) → a ≢ b → list ≢ a ∷ b ∷ []) (λ pair. (pair.0 ≢ pair.1) × (list ≡ pair.0 ∷ pair.1 ∷ [])) →
     MatchOption r ((a b : Criterion) → IsPairText text a b → ⊥) (λ pair. IsPairText text pair.0 pair.1)
 pair_or_none text list None is none = λ a b p. none a b p.apart (criteria_text_injective list (a ∷ b ∷ []) (sym is ∙ p.written))

@@ -44,16 +44,6 @@ numbered_run t resolved e within =
           (j.0.run, inr (j.0, contains_in (joins t) j.0 j.1, number, refl))
     ]
 
-pub run_within : (t : Topology) (e : ℕ) (r : Run) → IsRun t e r → e < edge_count t
-run_within t e r (inl piece) =
-    let within = slice_get_within (pieces_of_tracks t) e r piece in
-    let total = length-pieces t in
-    omega (arith, within, total)
-run_within t e r (inr join) =
-    let below = rank_below (λ (j : Join). j.at) (joins t) join.0 (in_contains (joins t) join.0 join.1) in
-    let number : join_number t join.0.at ≡ e = join.2 in
-    omega (arith, below, number)
-
 -- each number below the count is that of a node
 pub numbered_site : (t : Topology) → IsResolved t → (n : ℕ) → n < length (sites t) → (s : Site) × In s (sites t) × (node_number t s.spot.at ≡ n)
 numbered_site t resolved n within = ranked (λ (s : Site). s.spot.at) (sites t) (site_places_differ t resolved) n within
@@ -119,14 +109,6 @@ end_at t edges e spot are r =
 
 pub all_of : {X : Type 0} (P : X → Type 0) (xs : List X) → ((x : X) → In x xs → P x) → All P xs
 all_of P xs each k d within = each (get_or xs k d) (in_contains xs (get_or xs k d) (Contains-get_or xs k d within))
-
--- what meets at a node is below the count of edges
-pub met_there : (t : Topology) → IsResolved t → (s : Site) → Contains (sites t) s → All (λ (e : ℕ). e < edge_count t) (edges_met s.meets)
-met_there t resolved s there =
-    all_of (λ (e : ℕ). e < edge_count t) (edges_met s.meets)
-    (λ e met. let r = met_run t resolved s e (in_contains (sites t) s there) met in run_within t e r.run r.numbered)
-
--- ---- the graph
 
 module _ (t : Topology) (g : Graph) (resolved : IsResolved t) (forward : AllForward t) (is : IsGraphOf t g) where
   run_of : (e : ℕ) → e < length g.edges → (r : Run) × IsRun t e r

@@ -24,10 +24,10 @@ use Rattle.port_graph.specs.declared.sites.Meeting.{Meeting}
 use Rattle.port_graph.specs.declared.sites.Meeting.TheVariants as meeting
 use Rattle.port_graph.specs.Runs.{pieces_of_tracks, joins}
 use Rattle.port_graph.specs.Sites.{node_number}
-use Rattle.port_graph.specs.PortRule.{ports_of, joint_ports, side_of_hand, switch_ports, crossing_ports}
+use Rattle.port_graph.specs.PortRule.{ports_of, joint_ports, switch_ports, crossing_ports}
 use Rattle.port_graph.specs.Sides.{edges_met}
 use Rattle.port_graph.specs.TopologyGraph.{west_of, east_of, edge_of, IsRun, AreEdgesOf, side_at, IsForward, AllForward}
-use Rattle.port_graph.specs.Turned.{turned_mile, turned_topology, other_side, turned_ports, turned_edge}
+use Rattle.port_graph.specs.Turned.{turned_mile, turned_topology, turned_ports, turned_edge}
 use Rattle.port_graph.proofs.MileLemmas.{less_true, less_false, neg_less}
 use Rattle.port_graph.proofs.TurnedTopology.{turned_spot, turned_run, turned_join, turned_site, pieces-turned, joins-turned, join_number-turned, edge_count-turned, node_number-turned}
 
@@ -140,12 +140,6 @@ joint-turned first other West East = refl
 joint-turned first other East West = refl
 joint-turned first other West West = refl
 joint-turned first other East East = refl
-
-hand-turned : (legs : Compass) (hand : Hand) → side_of_hand (opposite legs) hand ≡ other_side (side_of_hand legs hand)
-hand-turned East Left = refl
-hand-turned East Right = refl
-hand-turned West Left = refl
-hand-turned West Right = refl
 
 switch-turned : (hand : Hand) (t s d : ℕ) (a b c : Compass) → switch_ports hand t s d (opposite a) (opposite b) (opposite c) ≡ option_map turned_ports (switch_ports hand t s d a b c)
 switch-turned Left t s d West East East = refl

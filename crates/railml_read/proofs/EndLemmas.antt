@@ -153,10 +153,6 @@ not_lacking tree e l = l.lacks (railml_reached tree.children (sym (root_railml t
 pub names_closed : (bytes : List ℕ) (state : State) (root : Bool) (r : IsReadThrough bytes state root) → state.stack ≡ [] → open_names r.items ≡ []
 names_closed bytes state root r e = sym (names_open r.items state r.state_is) ∙ ap names_in e
 
-length_names : (stack : List Frame) → length (names_in stack) ≡ length stack
-length_names [] = refl
-length_names (frame ∷ stack) = ap (λ (n : ℕ). suc n) (length_names stack)
-
 still_open : (stack : List Frame) → names_in stack ≡ [] → stack ≡ []
 still_open [] e = refl
 still_open (frame ∷ stack) e = absurd cc

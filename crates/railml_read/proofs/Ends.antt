@@ -28,8 +28,5 @@ same_or_not a b = elim (bytes_eq a b) as (λ v. bytes_eq a b ≡ v → (a ≡ b)
   | false ↦ λ e. inr (λ same. let yes = (bytes_eq-Decides a b).1 same in cc)
 ] refl
 
-pub bytes_eq_refl : (a : List ℕ) → bytes_eq a a ≡ true
-bytes_eq_refl a = (bytes_eq-Decides a a).1 refl
-
 pub bytes_eq_true : (a b : List ℕ) → bytes_eq a b ≡ true → a ≡ b
 bytes_eq_true a b = (bytes_eq-Decides a b).0

@@ -26,9 +26,6 @@ CdataText = TurnText (λ _ _. item cdata) (IsWord (codes "CDATA[")) (UpToFirst (
 abbrev pub DoctypeText : List ℕ → Found → Type 0
 DoctypeText = MappedText (λ _. doctype) (IsWord (codes "OCTYPE"))
 
-some_up_to : (closing : List ℕ) → ((before after : List ℕ) → closing ≡ before ++ (closing ++ after) → after ≡ []) → SomeText (UpToFirst closing)
-some_up_to closing last = record { text = closing; read = tt; is = record { inner = []; parts = refl; first = last } }
-
 -- a point isn't in any closing
 Law-comment_end : Law (graph (bracket_at (codes "-->"))) (UpToFirst (codes "-->")) Anything
 Law-comment_end = Law-bracket 46 45 (45 ∷ 62 ∷ []) (refl, (refl, (refl, tt)))

@@ -239,10 +239,6 @@ pub record HasShape (text : List ℕ) (c : ℕ) : Type 0 where
   pub no_ampersand : AllOfClass (λ b. not (b == 38)) inner
   pub scalar : IsScalar c
 
-Passes-append : (p : ℕ → Bool) (xs ys : List ℕ) → AllOfClass p xs → AllOfClass p ys → AllOfClass p (xs ++ ys)
-Passes-append p [] ys h k = k
-Passes-append p (x ∷ xs) ys h k = (h.0, Passes-append p xs ys h.1 k)
-
 digit_no_ampersand : (base d : ℕ) → base ≤ 16 → digit_value d < base → not (d == 38) ≡ true
 digit_no_ampersand base d l h = ap not (false_from_ne_true (d == 38) (λ e. let same : d ≡ 38 = same_if_eq d 38 e in let k : digit_value 38 < base = subst (λ (m : ℕ). digit_value m < base) same h in absurd (omega (arith, k, l))))
 

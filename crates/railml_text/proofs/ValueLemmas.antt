@@ -162,9 +162,6 @@ pub record SoFar (value text rest : List ℕ) : Type 0 where
   pub pieces : List ValuePiece
   pub spelled : SpelledTo pieces value text rest
 
-pub SoFar-none : (value : List ℕ) → SoFar value [] value
-SoFar-none value = record { pieces = []; spelled = (refl, refl) }
-
 pub SoFar-more : (value text rest more after : List ℕ) → SoFar value text rest → piece_at rest ≡ Some (more, after) → SoFar value (text ++ more) after
 SoFar-more value text rest more after s e =
     let t = piece_takes rest more after e in

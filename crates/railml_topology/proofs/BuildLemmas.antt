@@ -41,9 +41,6 @@ mileage_text row h e =
     let reads = h.mileage there.0 there.1 in
     (there.0, reads.0, there.1, reads.1)
 
-pub start_text : (begin : Elem) → IsStart begin → (t : List ℕ) × (z : ℤ) × (begin.attrs.abs_pos ≡ Some t) × ReadsMetres t z
-start_text begin h = let s = h.starts in (s.1.text, s.0, s.1.has, s.1.reads)
-
 pub own_mileage : (begin row : Elem) (z : ℤ) → is_some row.attrs.abs_pos ≡ true → ((t : List ℕ) → row.attrs.abs_pos ≡ Some t → ReadsMetres t z) → IsOfSize (10 ^ 15) z → HasMileage begin row (to_z w64 (of_z w64 z))
 own_mileage begin row z e reads within =
     let there = some_text row.attrs.abs_pos e in
@@ -180,11 +177,6 @@ crossing_made rows layouts n coming leaving row hand c d v w is course cc' dd = 
 pub zip_taken : {A B : Type 0} (R : A → B → Type 0) (xs : List A) (ys : List B) (i : ℕ) (x : A) (y : B) → i < length xs → x ≡ get_or xs i x → AllZip R (take i xs) ys → R x y → AllZip R (take (i + 1) xs) (ys ++ y ∷ [])
 zip_taken R xs ys i x y within is h r =
     subst (λ v. AllZip R v (ys ++ y ∷ [])) (sym (take_more xs i x within ∙ ap (λ v. take i xs ++ v ∷ []) (sym is))) (zip_pushed R (take i xs) ys x y h r)
-
-pub zip_whole : {A B : Type 0} (R : A → B → Type 0) (xs : List A) (ys : List B) (i : ℕ) → length xs ≤ i → AllZip R (take i xs) ys → AllZip R xs ys
-zip_whole R xs ys i all h = subst (λ v. AllZip R v ys) (take_all i xs all) h
-
--- ---- the rows of a layout
 
 pub begin_kind : (rows : List Elem) (l : Layout) → IsLayout rows l → is_of_kind rows Begin l.begin ≡ true
 begin_kind rows l h = child_kind rows l.topology l.begin Begin (only_child rows l.topology Begin l.begin h.one_begin)

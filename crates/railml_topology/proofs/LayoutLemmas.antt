@@ -14,7 +14,7 @@ use Rattle.topology_faults.specs.Faults.{IsWholeTrack}
 use Rattle.topology_faults.specs.Tables.{HasOnlyChildren, entry_in, AreTablesOf}
 use Rattle.topology_faults.proofs.Family.{of_kind, only_child}
 use Rattle.railml_topology.specs.declared.layout.Layout.{Layout}
-use Rattle.railml_topology.specs.Resolved.{AreInner, IsLayout, AreLayouts}
+use Rattle.railml_topology.specs.Resolved.{IsLayout}
 use Rattle.railml_topology.specs.Sound.{AreSoundRows}
 
 pub entry_child : (rows : List Elem) (kind : ElemKind) (table : List (Option ℕ)) (i k : ℕ) → HasOnlyChildren rows kind table → entry_in table i ≡ Some k → children rows i kind ≡ k ∷ []
@@ -70,23 +70,10 @@ begin_entry rows s t h track topology is e = let f = topology_found rows s t h t
 pub end_entry : (rows : List Elem) → AreSoundRows rows → (t : Tables) → AreTablesOf rows t → (track topology : ℕ) → is_of_kind rows Track track ≡ true → entry_in t.topologies.items track ≡ Some topology → (k : ℕ) × (entry_in t.ends.items topology ≡ Some k)
 end_entry rows s t h track topology is e = let f = topology_found rows s t h track topology is e in one_entry rows End t.ends.items topology h.ends f.within f.end
 
-pub layout_made : (rows : List Elem) → AreSoundRows rows → (t : Tables) → AreTablesOf rows t → (l : Layout) → is_of_kind rows Track l.track ≡ true → entry_in t.topologies.items l.track ≡ Some l.topology → entry_in t.begins.items l.topology ≡ Some l.begin → entry_in t.ends.items l.topology ≡ Some l.end → AreInner rows l.topology l.inner → IsLayout rows l
-layout_made rows s t h l is topology begin end inner = record {
-  one_topology = entry_child rows Topology t.topologies.items l.track l.topology h.topologies topology;
-  one_begin = entry_child rows Begin t.begins.items l.topology l.begin h.begins begin;
-  one_end = entry_child rows End t.ends.items l.topology l.end h.ends end;
-  between = inner;
-}
-
--- ---- the layouts, a row at a time
-
 -- the layouts of the tracks among the first n rows
 pub record LaidUpTo (rows : List Elem) (n : ℕ) (layouts : List Layout) : Type 0 where
   pub tracks : map (λ (l : Layout). l.track) layouts ++ numbers_from (λ (row : Elem). same_kind row.kind Track) n (drop n rows) ≡ track_rows rows
   pub each : All (IsLayout rows) layouts
-
-pub laid_start : (rows : List Elem) → LaidUpTo rows 0 []
-laid_start rows = record { tracks = refl; each = (λ k d within. absurd (omega arith)) }
 
 rest_of_rows : (p : Elem → Bool) (rows : List Elem) (n : ℕ) (row : Elem) → n < length rows → row ≡ get_or rows n row → numbers_from p n (drop n rows) ≡ cond (p row) (n ∷ numbers_from p (n + 1) (drop (n + 1) rows)) (numbers_from p (n + 1) (drop (n + 1) rows))
 rest_of_rows p rows n row within is =
@@ -116,11 +103,3 @@ laid_passed rows n layouts row h within is other = record {
       ap (λ v. map (λ (w : Layout). w.track) layouts ++ v) (sym rest) ∙ h.tracks;
   each = h.each;
 }
-
-pub laid_all : (rows : List Elem) (n : ℕ) (layouts : List Layout) → LaidUpTo rows n layouts → length rows ≤ n → AreLayouts rows layouts
-laid_all rows n layouts h all =
-    let p : Elem → Bool = λ (r : Elem). same_kind r.kind Track in
-    record {
-      tracks = sym (append-nil (map (λ (v : Layout). v.track) layouts)) ∙ (ap (λ (v : List Elem). map (λ (w : Layout). w.track) layouts ++ numbers_from p n v) (sym (drop_all n rows all)) ∙ h.tracks);
-      each = h.each;
-    }

@@ -15,26 +15,25 @@ use Rattle.topology_faults.proofs.IdLemmas.{one_row}
 use Rattle.plan_core.specs.declared.topology.Place.{Place}
 use Rattle.plan_core.specs.declared.topology.Part.{Part}
 use Rattle.plan_core.specs.declared.topology.Part.TheVariants as parts
-use Rattle.plan_core.specs.declared.limits.TheConstants.{MAX_TRACKS}
 use Rattle.railml_read.specs.declared.rows.Elem.{Elem}
 use Rattle.railml_read.specs.declared.rows.ElemKind.{ElemKind}
 use Rattle.railml_read.specs.declared.rows.ElemKind.TheVariants.{Begin, End, Switch, Crossing, Connection}
 use Rattle.topology_faults.specs.declared.tables.Tables.{Tables}
-use Rattle.topology_faults.specs.Rows.{track_rows, is_of_kind, is_word, all_children, children}
+use Rattle.topology_faults.specs.Rows.{is_of_kind, is_word, all_children, children}
 use Rattle.topology_faults.specs.Faults.{HasTwoWays, IsConnectionOf}
 use Rattle.topology_faults.specs.Tables.{entry_in, AreTablesOf}
 use Rattle.topology_faults.proofs.Apart.{Apart, Among, all_more, stands_weaker, stands_from_pairs, apart_short}
 use Rattle.topology_faults.proofs.Family.{among_from_contains, contains_from_among, among_filtered, filtered_among, of_kind, is_of_its_kind, IsChild, child, has_child, only_child}
 use Rattle.topology_faults.proofs.TableLemmas.{entry_written, slice_get-set_other}
 use Rattle.railml_topology.specs.declared.layout.Layout.{Layout}
-use Rattle.railml_topology.specs.Resolved.{StandsBefore, way_word, IsLayout, AreLayouts, IsBranchOf, IsWayOf, IsAtPart, IsAtPlace}
+use Rattle.railml_topology.specs.Resolved.{StandsBefore, way_word, IsLayout, IsBranchOf, IsWayOf, IsAtPart, IsAtPlace}
 use Rattle.railml_topology.specs.Places.{IsFilled, Adds, IsAtInner, IsOnInner, IsOnFirst, IsOnTrack, HasPlaces, goes_by}
 use Rattle.railml_topology.specs.Sound.{AreSoundRows}
 use Rattle.railml_topology.proofs.PositionLemmas.{before_differs, inner_within}
 use Rattle.railml_topology.specs.Plans.{is_inner}
 use Rattle.railml_topology.proofs.ElementLemmas.{way_child, all_that_among}
 use Rattle.railml_topology.proofs.LayoutLemmas.{entry_child}
-use Rattle.railml_topology.proofs.JoinLemmas.{one_way, kinds_clash, one_number}
+use Rattle.railml_topology.proofs.JoinLemmas.{one_way, kinds_clash}
 
 -- ---- one entry
 
@@ -205,23 +204,6 @@ read_children rows t h i list within is =
 abbrev pub at_part : ℕ → Part → Place
 at_part track part = record { track = track; part = part }
 
-switch_places : (rows : List Elem) (track n inner branch : ℕ) → IsBranchOf rows inner branch → (i : ℕ) (track' : ℕ) (part : Part) → track' ≡ track → IsAtInner rows n inner i part → (i ≡ branch) × (at_part track' part ≡ at_part track (parts.Branch n))
-switch_places rows track n inner branch b i t parts.Begin e h = absurd h
-switch_places rows track n inner branch b i t parts.End e h = absurd h
-switch_places rows track n inner branch b i t (parts.Branch k) e h =
-    (one_number (children rows inner Connection) i branch h.1.only b.only, same_place (at_part t (parts.Branch k)) (at_part track (parts.Branch n)) e (ap (λ m. parts.Branch m) h.0))
-switch_places rows track n inner branch b i t (parts.Incoming k) e h = absurd (kinds_clash rows inner b.a_switch h.1.a_crossing)
-switch_places rows track n inner branch b i t (parts.Outgoing k) e h = absurd (kinds_clash rows inner b.a_switch h.1.a_crossing)
-
-pub switch_put : (rows : List Elem) (track n inner branch : ℕ) (old new : List (Option Place)) → IsBranchOf rows inner branch → Adds (λ i p. (i ≡ branch) × (p ≡ at_part track (parts.Branch n))) old new → Adds (IsOnInner rows track n inner) old new
-switch_put rows track n inner branch old new b h =
-    adds_as (λ i p. (i ≡ branch) × (p ≡ at_part track (parts.Branch n))) (IsOnInner rows track n inner) old new
-    (λ i p e. record {
-      on = ap (λ (v : Place). v.track) e.1;
-      here = subst (λ (v : Place). IsAtInner rows n inner i v.part) (sym e.1) (refl, subst (λ k. IsBranchOf rows inner k) (sym e.0) b);
-    })
-    (λ i p u. switch_places rows track n inner branch b i p.track p.part u.on u.here) h
-
 crossing_places : (rows : List Elem) → AreSoundRows rows → (track n inner coming leaving : ℕ) → IsWayOf rows inner false coming → IsWayOf rows inner true leaving → (i : ℕ) (track' : ℕ) (part : Part) → track' ≡ track → IsAtInner rows n inner i part
     → ((i ≡ coming) × (at_part track' part ≡ at_part track (parts.Incoming n))) ⊎ ((i ≡ leaving) × (at_part track' part ≡ at_part track (parts.Outgoing n)))
 crossing_places rows s track n inner coming leaving c l i t parts.Begin e h = absurd h
@@ -247,11 +229,6 @@ crossing_put rows s track n inner coming leaving old middle new c l h k =
 
 pub branch_within : (rows : List Elem) (switch k : ℕ) → IsBranchOf rows switch k → k < length rows
 branch_within rows switch k b = let c = only_child rows switch Connection k b.only in slice_get_within rows k c.row c.is
-
-pub way_within : (rows : List Elem) (crossing k : ℕ) (outgoing : Bool) → IsWayOf rows crossing outgoing k → k < length rows
-way_within rows crossing k outgoing w = slice_get_within rows k w.way.row w.way.is
-
--- ---- the switches and crossings of a track
 
 pub first_none : (rows : List Elem) (track : ℕ) (inner : List ℕ) (table : List (Option Place)) → Adds (IsOnFirst rows track inner 0) table table
 first_none rows track inner table = adds_none (IsOnFirst rows track inner 0) table (λ i p h. (let below : h.number < 0 = h.below in omega arith))
@@ -324,18 +301,6 @@ pub record PlacedUpTo (rows : List Elem) (layouts : List Layout) (k : ℕ) (tabl
   pub only : (i : ℕ) (p : Place) → entry_in table i ≡ Some p → IsAtPlace rows layouts i p
   pub all : (i : ℕ) (p : Place) → p.track < k → IsAtPlace rows layouts i p → IsFilled table i
 
-empty_entry : (n i : ℕ) (p : Place) → entry_in (replicate n None) i ≡ Some p → ⊥
-empty_entry zero i p e = cc
-empty_entry (suc n) zero p e = cc
-empty_entry (suc n) (suc i) p e = empty_entry n i p e
-
-pub placed_start : (rows : List Elem) (layouts : List Layout) (table : List (Option Place)) → table ≡ replicate (length rows) None → PlacedUpTo rows layouts 0 table
-placed_start rows layouts table is = record {
-  whole = ap length is ∙ length-replicate (length rows) None;
-  only = (λ i p e. absurd (empty_entry (length rows) i p (subst (λ (v : List (Option Place)). entry_in v i ≡ Some p) is e)));
-  all = (λ i p below h. absurd (omega arith));
-}
-
 pub placed_more : (rows : List Elem) (layouts : List Layout) (k : ℕ) (l : Layout) (old new : List (Option Place)) → k < length layouts → slice_get layouts k ≡ Some l → PlacedUpTo rows layouts k old → Adds (IsOnTrack rows k l) old new → PlacedUpTo rows layouts (k + 1) new
 placed_more rows layouts k l old new within at h a = record {
   whole = a.whole ∙ h.whole;
@@ -373,14 +338,4 @@ inner_few rows s l h =
     let apart : Apart l.inner = stands_weaker (StandsBefore rows) (λ (i j : ℕ). i ≢ j) (before_differs rows) l.inner (stands_from_pairs (StandsBefore rows) l.inner h.between.ordered) in
     let short : length l.inner ≤ length rows = apart_short (length rows) l.inner apart (all_more (λ i. is_inner rows i ≡ true) (λ i. i < length rows) (inner_within rows s) l.inner (inner_each rows l h)) in
     let few = s.formed.few in
-    omega arith
-
-pub layout_at : (rows : List Elem) (layouts : List Layout) → AreLayouts rows layouts → (k : ℕ) (l : Layout) → k < length layouts → l ≡ get_or layouts k l → IsLayout rows l
-layout_at rows layouts h k l within is = subst (IsLayout rows) (sym is) (h.each k l within)
-
-pub few_layouts : (rows : List Elem) (layouts : List Layout) → AreSoundRows rows → AreLayouts rows layouts → length layouts ≤ MAX_TRACKS
-few_layouts rows layouts s h =
-    let one : length (map (λ (l : Layout). l.track) layouts) ≡ length layouts = length-map layouts (λ (l : Layout). l.track) in
-    let two : length (map (λ (l : Layout). l.track) layouts) ≡ length (track_rows rows) = ap length h.tracks in
-    let few = s.few in
     omega arith

@@ -11,19 +11,16 @@ use Rattle.railml_read.specs.declared.rows.Elem.{Elem}
 use Rattle.railml_read.specs.declared.rows.ElemKind.{ElemKind}
 use Rattle.railml_read.specs.declared.rows.ElemKind.TheVariants as kinds
 use Rattle.railml_read.specs.Formed.{may_hold, HasParent, IsRowPlaced, AreFormed}
-use Rattle.topology_faults.specs.declared.tables.Tables.{Tables}
 use Rattle.topology_faults.specs.Rows.{same_kind, track_rows, is_of_kind, all_children, children, bears_id}
 use Rattle.topology_faults.specs.Faults.{HasItsParts}
-use Rattle.topology_faults.specs.Tables.{only_of, IsReferredTo, IsTargetOf, HasTargets, entry_in, AreTablesOf}
+use Rattle.topology_faults.specs.Tables.{only_of, IsReferredTo, IsTargetOf, HasTargets, entry_in}
 use Rattle.topology_faults.proofs.Apart.{Among}
-use Rattle.topology_faults.proofs.Family.{contains_from_among, of_kind, is_of_its_kind, has_number, among_filtered, IsChild, has_child, only_child, is_only}
+use Rattle.topology_faults.proofs.Family.{contains_from_among, of_kind, is_of_its_kind, has_number, among_filtered, IsChild, has_child, is_only}
 use Rattle.railml_topology.specs.declared.layout.Layout.{Layout}
-use Rattle.railml_topology.specs.Resolved.{IsConnOf, IsJoinedAs, IsLayout, AreLayouts, IsWayOf, IsAtPlace}
+use Rattle.railml_topology.specs.Resolved.{IsConnOf, IsLayout, AreLayouts, IsWayOf, IsAtPlace}
 use Rattle.railml_topology.specs.Places.{HasPlaces}
-use Rattle.railml_topology.specs.Sites.{IsEither}
 use Rattle.railml_topology.specs.Sound.{AreSoundRows}
 use Rattle.railml_topology.proofs.JoinLemmas.{all_at}
-use Rattle.railml_topology.proofs.LayoutLemmas.{entry_child}
 use Rattle.railml_topology.proofs.PlaceLemmas.{way_of_child}
 
 -- ---- each connection has a place
@@ -233,23 +230,3 @@ bears_by_kind rows kind k row b t is =
     subst (λ (v : ElemKind). bears_id v ≡ true) (sym (ap (λ (v : Elem). v.kind) (sym same) ∙ e)) b
 
 -- ---- begins and ends
-
-only_child_of : (rows : List Elem) → AreSoundRows rows → (k : ℕ) → IsEither rows k → (k < length rows) × ((part : ℕ) × (all_children rows k ≡ part ∷ []))
-only_child_of rows s k (inl t) = let (row, is, e) = of_kind rows kinds.Begin k t in (slice_get_within rows k row is, parts_at rows s k row kinds.Begin is e)
-only_child_of rows s k (inr t) = let (row, is, e) = of_kind rows kinds.End k t in (slice_get_within rows k row is, parts_at rows s k row kinds.End is e)
-
-pub joined_kind : (rows : List Elem) (t : Tables) → AreTablesOf rows t → (k j : ℕ) → entry_in t.connections.items k ≡ Some j → is_of_kind rows kinds.Connection j ≡ true
-joined_kind rows t h k j e =
-    let c = only_child rows k kinds.Connection j (entry_child rows kinds.Connection t.connections.items k j h.connections e) in
-    subst (λ (v : ElemKind). is_of_kind rows v j ≡ true) c.kind_is (is_of_its_kind rows j c.row c.is)
-
-pub joined_some : (rows : List Elem) (layouts : List Layout) (t : Tables) → AreTablesOf rows t → (k j : ℕ) (c : Conn) → entry_in t.connections.items k ≡ Some j → IsConnOf rows layouts j c → IsJoinedAs rows layouts k (Some c)
-joined_some rows layouts t h k j c e conn = (j, entry_child rows kinds.Connection t.connections.items k j h.connections e, conn)
-
-pub joined_none : (rows : List Elem) (layouts : List Layout) → AreSoundRows rows → (t : Tables) → AreTablesOf rows t → (k : ℕ) → IsEither rows k → entry_in t.connections.items k ≡ None → IsJoinedAs rows layouts k None
-joined_none rows layouts s t h k either e =
-    let below = only_child_of rows s k either in
-    let inside : k < length t.connections.items = subst (λ n. k < n) (sym h.connections.whole) below.0 in
-    let at : slice_get t.connections.items k ≡ Some (get_or t.connections.items k None) = slice_get-get_or t.connections.items k None inside in
-    let none : get_or t.connections.items k None ≡ None = (rw at at e) in
-    none_below rows k below.1.0 below.1.1 (sym (h.connections.entry k (get_or t.connections.items k None) at) ∙ none)

@@ -41,10 +41,6 @@ stable : (P : Type 0) → Known P → Stable P
 stable P (inl p) h = p
 stable P (inr n) h = absurd (h n)
 
-known_not : (P : Type 0) → Known P → Known (P → ⊥)
-known_not P (inl p) = inr (λ n. n p)
-known_not P (inr n) = inl n
-
 known_both : (P Q : Type 0) → Known P → Known Q → Known (P × Q)
 known_both P Q (inl p) (inl q) = inl (p, q)
 known_both P Q (inl p) (inr n) = inr (λ both. n both.1)

@@ -2,7 +2,7 @@
 use Rattle.std.proofs.Common.{◌≡◌, ◌⊎◌, ℕ, List, ◌++◌, sym, ◌∙◌, subst, inl, inr}
 use Rattle.std.specs.Prelude.{IfSome, true, codes}
 use Rattle.std.specs.declared.option.Option.{Option}
-use Rattle.outside_io.specs.Contents.{FilesAt, Told, WhereTold, SameFiles}
+use Rattle.outside_io.specs.Contents.{FilesAt}
 use Rattle.plan_core.specs.Grid.{GridSize}
 use Rattle.plan_core.specs.Graph.{Graph}
 use Rattle.plan_core.specs.Drawing.{Drawing}
@@ -23,11 +23,10 @@ use Rattle.input_answer.specs.Input.{HasStation, IsRefusal}
 use Rattle.input_answer.specs.Met.{Met, between, HasRead}
 use Rattle.input_answer.specs.Reading.{IsInput, IsUnreadInput}
 use Rattle.input_answer.specs.Answer.{text_input, IsAnswerAfter, IsAnswerOn}
-use Rattle.input_answer.proofs.AnswerLemmas.{IsRead, read_on, on_weaker, unread_on, input_before, answer_before}
+use Rattle.input_answer.proofs.AnswerLemmas.{IsRead, read_on, on_weaker, unread_on, answer_before}
 use Rattle.redraw_answer.specs.declared.judging.Rejected.{Rejected}
 use Rattle.redraw_answer.specs.declared.judging.Rejected.TheVariants.{With, Memory}
-use Rattle.redraw_answer.specs.FormerPoints.{AreFormer}
-use Rattle.redraw_answer.specs.Judged.{AreJudged, HaveFormer, HaveFault}
+use Rattle.redraw_answer.specs.Judged.{AreJudged, HaveFault}
 use Rattle.redraw_answer.specs.Rejection.{RejectedWith, IsUnreadOfThree}
 use Rattle.redraw_answer.specs.Answer.{IsAnswerToThree, AreInputs}
 
@@ -60,22 +59,6 @@ judged_weaker A B bytes old said status text weaker (inr refused) = inr refused
 abbrev Nothing : List ℕ → Status → List ℕ → Type 0
 Nothing said status text = ⊥
 
-pub first_unread : (input former sheet : List ℕ) (met : Met) (r : InputRefusal) → IsUnreadInput (text_input 1 input) met r → IsUnreadOfThree input former sheet met r
-first_unread input former sheet met (refusals.Fault fault) unread =
-    unread_on (text_input 1 input) met fault (λ bytes. IsAnswerOn (text_input 2 former) 1 met (λ old. IsAnswerOn (text_input 3 sheet) 2 met (IsAnswerAfter 3 met Nothing))) unread
-first_unread input former sheet met refusals.Memory unread = tt
-
-pub second_unread : (input former sheet bytes : List ℕ) (old mid new : FilesAt) (r : InputRefusal) → IsInput (text_input 1 input) old.contents bytes → IsRead old mid →
-    IsUnreadInput (text_input 2 former) (between mid new) r → IsUnreadOfThree input former sheet (between old new) r
-second_unread input former sheet bytes old mid new (refusals.Fault fault) is read unread =
-    let met = between old new in
-    let status = fault_status fault in
-    let text = fault_line fault in
-    let Third : List ℕ → Status → List ℕ → Type 0 = λ before. IsAnswerOn (text_input 3 sheet) 2 met (IsAnswerAfter 3 met Nothing) in
-    read_on (text_input 1 input) 0 met (λ bytes. IsAnswerOn (text_input 2 former) 1 met Third) bytes status text is
-    (answer_before (text_input 2 former) 0 old mid new Nothing Third status text read (λ before none. absurd none) (unread_on (text_input 2 former) (between mid new) fault Nothing unread))
-second_unread input former sheet bytes old mid new refusals.Memory is read unread = tt
-
 pub third_unread : (input former sheet bytes before : List ℕ) (old mid late new : FilesAt) (r : InputRefusal) → IsInput (text_input 1 input) old.contents bytes → IsInput (text_input 2 former) mid.contents before → IsRead old mid → IsRead mid late →
     IsUnreadInput (text_input 3 sheet) (between late new) r → IsUnreadOfThree input former sheet (between old new) r
 third_unread input former sheet bytes before old mid late new (refusals.Fault fault) is also read again unread =
@@ -91,14 +74,6 @@ third_unread input former sheet bytes before old mid late new (refusals.Fault fa
     (answer_before (text_input 3 sheet) 0 mid late new Nothing Nothing status text again (λ said none. none) (unread_on (text_input 3 sheet) (between late new) fault Nothing unread))))
 third_unread input former sheet bytes before old mid late new refusals.Memory is also read again unread = tt
 
-pub three_read : (input former sheet bytes before said : List ℕ) (old mid late : Option Told) → WhereTold old mid SameFiles → WhereTold mid late SameFiles → IsInput (text_input 1 input) old bytes → IsInput (text_input 2 former) mid before →
-    IsInput (text_input 3 sheet) late said → AreInputs input former sheet old bytes before said
-three_read input former sheet bytes before said old mid late same still first second third = record {
-  is_input = first;
-  is_former = input_before (text_input 2 former) old mid before same second;
-  is_sheet = input_before (text_input 3 sheet) old mid said same (input_before (text_input 3 sheet) mid late said still third);
-}
-
 -- the bytes of files that were read are answered so
 pub read_three : (input former sheet : List ℕ) (met : Met) (A : List ℕ → List ℕ → List ℕ → Status → List ℕ → Type 0) (bytes old said : List ℕ) (status : Status) (text : List ℕ) →
     AreInputs input former sheet met.before.contents bytes old said → HasRead met 3 → A bytes old said status text → IsAnswerToThree input former sheet met A status text
@@ -112,16 +87,6 @@ read_three input former sheet met A bytes old said status text inputs read answe
 -- a sheet's drawing has a point for each node and a line for each edge
 pub drawing_size : (old : Graph) (said : List ℕ) (d : Drawing) → (grid : GridSize) × IsDrawingOf old said grid d → HasSizeOf old d
 drawing_size old said d (grid, has) = subst (λ (found : Option Drawing). IfSome found (HasSizeOf old)) has.found has.told.draws_all
-
-pub have_former : (bytes old said : List ℕ) (g h : Graph) (o q : EdgeOrder) (d : Drawing) (former : Former) → HasStation bytes g o → HasStation old h q → (grid : GridSize) × IsDrawingOf h said grid d → AreFormer g h d former →
-    HaveFormer bytes old said g o former
-have_former bytes old said g h o q d former has before (grid, drawn) are = record {
-  has_station = has;
-  old_graph = h;
-  old_order = q;
-  old_station = before;
-  gives = record { grid = grid; drawn = d; has = drawn; are_former = are };
-}
 
 -- a fault of the former file, where the file has a station
 pub former_rejected : (bytes old said : List ℕ) (g : Graph) (o : EdgeOrder) (r : InputRefusal) (fault : RunFault) (status : Status) (text : List ℕ) → HasStation bytes g o → r ≡ refusals.Fault fault → IsRefusal old r →

@@ -2,10 +2,9 @@
 use Rattle.std.proofs.Common.{◌≡◌, ◌≢◌, ◌⊎◌, ℕ, List, [], ◌∷◌, length, None, Some, refl, sym, ◌∙◌, ap, subst, inl, inr}
 use Rattle.std.specs.Prelude.{Result, Ok, Err, IfOk, IfSome}
 use Rattle.std.specs.declared.option.Option.{Option}
-use Rattle.outside_io.specs.Contents.{FilesAt, Told, WhereTold, SameFiles}
+use Rattle.outside_io.specs.Contents.{FilesAt, WhereTold, SameFiles}
 use Rattle.plan_core.specs.Graph.{Graph}
 use Rattle.plan_core.specs.Lawful.{HasSizeOf}
-use Rattle.cnf_core.specs.declared.limits.TheConstants.{ROOM}
 use Rattle.track_order.specs.Order.{EdgeOrder}
 use Rattle.refute_log.specs.Told.{Lines}
 use Rattle.refute_log.specs.FileLog.{BeginsLog}
@@ -15,7 +14,6 @@ use Rattle.fewest_search.specs.declared.outcome.Fewest.TheVariants.{Best, NoDraw
 use Rattle.fewest_search.specs.Fewest.{IsRightFewest}
 use Rattle.input_answer.specs.declared.status.Status.{Status}
 use Rattle.input_answer.specs.declared.status.Status.TheVariants as statuses
-use Rattle.input_answer.specs.Status.{IsRefused}
 use Rattle.input_answer.specs.Met.{Met, between, HasRead, IsUnwritten, LeftSo}
 use Rattle.draw_answer.specs.SearchLog.{IsRunLog}
 use Rattle.draw_answer.specs.Written.{file_named}
@@ -43,12 +41,6 @@ fewest_size g o asked former (Spent None) right = tt
 fewest_size g o asked former (Spent (Some d)) right = right.fits.size
 fewest_size g o asked former (Room None) right = tt
 fewest_size g o asked former (Room (Some d)) right = right.fits.size
-
-pub moved_unrefused : (outcome : Fewest) → IsRefused (status_of_moved outcome) → ⊥
-moved_unrefused (Best d) refused = refused
-moved_unrefused NoDrawing refused = refused
-moved_unrefused (Spent found) refused = refused
-moved_unrefused (Room found) refused = refused
 
 -- a search and the text of its outcome are an answer
 pub redrawn : (asked inside : RedrawJob) (IsTold : Lines → Type 0) (g : Graph) (o : EdgeOrder) (points former : Former) (outcome : Fewest) (status : Status) (text : List ℕ) → inside ≡ asked → former ≡ points →

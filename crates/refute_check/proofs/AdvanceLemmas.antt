@@ -122,6 +122,3 @@ propagated_more vars clauses old mid new truth then counts now from front p coun
   grows = grows_more clauses old mid new p.grows g;
   on = let le = p.on in omega arith;
 }
-
-pub quiet_at_end : (clauses : Clauses) (trail : List Literal) (front : ℕ) → front ≤ length trail → length trail ≤ front → AreQuiet clauses trail front → AreQuiet clauses trail (length trail)
-quiet_at_end clauses trail front le ge quiet = let e : front ≡ length trail = omega arith in subst (λ n. AreQuiet clauses trail n) e quiet

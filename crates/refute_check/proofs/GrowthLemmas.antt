@@ -87,9 +87,6 @@ all_same_set set other c same all = All-weaker (IsFalse set) (IsFalse other) (λ
 unit_same_set : (set other : LiteralSet) (c : List Literal) (l : Literal) → ((l : Literal) → set l ≡ other l) → IsUnit set c l → IsUnit other c l
 unit_same_set set other c l same unit = unit_more set other c l (λ k h. sym (same k) ∙ h) unit
 
-pub falsified_by_marks : (vars : ℕ) (truth : List Bool) (trail : List Literal) (clauses : Clauses) (c : List Literal) → IsTrail vars truth trail → Contains clauses c → All (IsFalse (marked truth)) c → Falsified clauses (has trail)
-falsified_by_marks vars truth trail clauses c t among all = record { clause = c; among = among; each = all_same_set (marked truth) (has trail) c t.marks all }
-
 pub unset_by_marks : (vars : ℕ) (truth : List Bool) (trail : List Literal) (c : List Literal) (l : Literal) → IsTrail vars truth trail → IsUnsetUnit (marked truth) c l → IsUnsetUnit (has trail) c l
 unset_by_marks vars truth trail c l t u = record {
   unit = unit_same_set (marked truth) (has trail) c l t.marks u.unit;
@@ -102,9 +99,6 @@ quiet_by_marks vars truth trail c t q = record {
   closed = λ l unit. sym (t.marks l) ∙ q.closed l (unit_same_set (has trail) (marked truth) c l (λ k. sym (t.marks k)) unit);
   unfalsified = λ all. q.unfalsified (all_same_set (has trail) (marked truth) c (λ k. sym (t.marks k)) all);
 }
-
-pub quiet_now : (clause : List Literal) (count : ℕ) (trail : List Literal) → IsQuiet (has trail) (has trail) clause → IsQuietNow clause count trail trail
-quiet_now clause count trail q = λ done within e. quiet_part done (has trail) clause within q
 
 pub few_now : (clause : List Literal) (count : ℕ) (trail : List Literal) → AreDistinct clause → 1 < count → IsQuietNow clause count trail trail
 few_now clause count trail distinct few = λ done within e. quiet_few done (has trail) clause distinct (omega arith)

@@ -7,9 +7,9 @@ use Rattle.std.proofs.lemmas.List.{take_more, take_all, get_or-take}
 use Rattle.std.specs.declared.option.Option.{Option}
 use Rattle.cnf_core.specs.Lit.{Literal, negate}
 use Rattle.cnf_core.specs.Clause.{AreDistinct}
-use Rattle.cnf_core.specs.Propagation.{LiteralSet, IsIn, IsConsistent}
+use Rattle.cnf_core.specs.Propagation.{LiteralSet, IsIn}
 use Rattle.cnf_core.proofs.TrailLemmas.{front_differs}
-use Rattle.refute_check.specs.Tables.{IsQuiet, IsUnsetUnit}
+use Rattle.refute_check.specs.Tables.{IsQuiet}
 
 abbrev pub IsFalse : LiteralSet → Literal → Type 0
 IsFalse set k = IsIn set (negate k)
@@ -45,16 +45,6 @@ seen_unset set c i d within s h k = record {
   not_false = k;
 }
 
--- a literal that is true
-pub quiet_true : (set : LiteralSet) (c : List Literal) (i : ℕ) (d : Literal) → IsConsistent set → i < length c → IsIn set (get_or c i d) → IsQuiet set set c
-quiet_true set c i d consistent within h = record {
-  closed = λ l unit. elim (unit.others i d within) [
-    | inl e ↦ subst (λ (k : Literal). IsIn set k) e h
-    | inr f ↦ absurd (consistent (get_or c i d) h f)
-  ];
-  unfalsified = λ all. consistent (get_or c i d) h (all i d within);
-}
-
 -- two literals that aren't false
 pub quiet_two : (set : LiteralSet) (c : List Literal) (i : ℕ) (u d : Literal) → AreDistinct c → i < length c → SeenOne set (take i c) u → set (negate (get_or c i d)) ≡ false → IsQuiet set set c
 quiet_two set c i u d distinct within s not_false =
@@ -85,12 +75,3 @@ quiet_two set c i u d distinct within s not_false =
 -- at the end of the clause
 pub seen_all : (set : LiteralSet) (c : List Literal) (i : ℕ) → length c ≤ i → Seen set (take i c) None → All (IsFalse set) c
 seen_all set c i end s = subst (λ (front : List Literal). All (IsFalse set) front) (take_all i c end) s
-
-pub unset_at_end : (set : LiteralSet) (c : List Literal) (i : ℕ) (u : Literal) → length c ≤ i → SeenOne set (take i c) u → IsUnsetUnit set c u
-unset_at_end set c i u end s =
-    let one : SeenOne set c u = subst (λ (front : List Literal). SeenOne set front u) (take_all i c end) s in
-    record {
-      unit = record { among = one.among; others = one.others };
-      not_true = one.not_true;
-      not_false = one.not_false;
-    }

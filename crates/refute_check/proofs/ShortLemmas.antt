@@ -108,49 +108,6 @@ short_parts (a ∷ b ∷ []) l s h = two_parts a b l h (other_of a b l) refl
 short_parts (a ∷ b ∷ c ∷ []) l s h = three_parts a b c l h (other_of a b l) (other_of c b l) refl refl
 short_parts (a ∷ b ∷ c ∷ d ∷ rest) l s h = cc
 
--- which clauses are short
-pub short_two : (c : List Literal) → length c ≡ 2 → is_short c ≡ true
-short_two [] e = absurd (omega arith)
-short_two (a ∷ []) e = absurd (omega arith)
-short_two (a ∷ b ∷ []) e = refl
-short_two (a ∷ b ∷ c ∷ []) e = refl
-short_two (a ∷ b ∷ c ∷ d ∷ rest) e = absurd (omega arith)
-
-pub short_three : (c : List Literal) → length c ≡ 3 → is_short c ≡ true
-short_three [] e = absurd (omega arith)
-short_three (a ∷ []) e = absurd (omega arith)
-short_three (a ∷ b ∷ []) e = refl
-short_three (a ∷ b ∷ c ∷ []) e = refl
-short_three (a ∷ b ∷ c ∷ d ∷ rest) e = absurd (omega arith)
-
-pub not_short : (c : List Literal) → (length c ≡ 2 → ⊥) → (length c ≡ 3 → ⊥) → is_short c ≡ false
-not_short [] two three = refl
-not_short (a ∷ []) two three = refl
-not_short (a ∷ b ∷ []) two three = absurd (two refl)
-not_short (a ∷ b ∷ c ∷ []) two three = absurd (three refl)
-not_short (a ∷ b ∷ c ∷ d ∷ rest) two three = refl
-
-pub short_length : (c : List Literal) → is_short c ≡ true → (length c ≡ 2) ⊎ (length c ≡ 3)
-short_length [] s = cc
-short_length (a ∷ []) s = cc
-short_length (a ∷ b ∷ []) s = inl refl
-short_length (a ∷ b ∷ c ∷ []) s = inr refl
-short_length (a ∷ b ∷ c ∷ d ∷ rest) s = cc
-
-pub rest_two : (c : List Literal) (a b l : Literal) → length c ≡ 2 → a ≡ get_or c 0 a → b ≡ get_or c 1 b → rest_of c l ≡ beside (other_of a b l) (other_of a b l)
-rest_two [] a b l n e f = absurd (omega arith)
-rest_two (p ∷ []) a b l n e f = absurd (omega arith)
-rest_two (p ∷ q ∷ []) a b l n e f = ap (λ (k : Literal). beside (other_of k q l) (other_of k q l)) (sym e) ∙ ap (λ (k : Literal). beside (other_of a k l) (other_of a k l)) (sym f)
-rest_two (p ∷ q ∷ r ∷ []) a b l n e f = absurd (omega arith)
-rest_two (p ∷ q ∷ r ∷ s ∷ cs) a b l n e f = absurd (omega arith)
-
-pub rest_three : (c : List Literal) (a b d l : Literal) → length c ≡ 3 → a ≡ get_or c 0 a → b ≡ get_or c 1 b → d ≡ get_or c 2 d → rest_of c l ≡ beside (other_of a b l) (other_of d b l)
-rest_three [] a b d l n e f g = absurd (omega arith)
-rest_three (p ∷ []) a b d l n e f g = absurd (omega arith)
-rest_three (p ∷ q ∷ []) a b d l n e f g = absurd (omega arith)
-rest_three (p ∷ q ∷ r ∷ []) a b d l n e f g = ap (λ (k : Literal). beside (other_of k q l) (other_of r q l)) (sym e) ∙ ap (λ (k : Literal). beside (other_of a k l) (other_of r k l)) (sym f) ∙ ap (λ (k : Literal). beside (other_of a b l) (other_of k b l)) (sym g)
-rest_three (p ∷ q ∷ r ∷ s ∷ cs) a b d l n e f g = absurd (omega arith)
-
 -- the list of a literal has such clauses, and all of them
 short_more : (c : List Literal) (cs : Clauses) (l : Literal) (rest : Rest) → IsShort cs l rest → IsShort (c ∷ cs) l rest
 short_more c cs l rest s = record { clause = s.clause; among = let m = s.among in let lt = m.1 in (suc m.0, omega arith, m.2); parts = s.parts }
@@ -188,20 +145,6 @@ short_there vars clauses l rest there s =
 -- a look at two literals
 abbrev pub both : Rest → List Literal
 both rest = rest.first ∷ rest.last ∷ []
-
-pub unit_first : (set : LiteralSet) (f g : Literal) → set f ≡ false → set (negate f) ≡ false → IsLastOr set f g → IsUnsetUnit set (f ∷ g ∷ []) f
-unit_first set f g nt nf h = record {
-  unit = record { among = contains_first f (g ∷ []); others = All-cons (IsLastOr set f) f (g ∷ []) (inl refl) (All-cons (IsLastOr set f) g [] h (All-nil (IsLastOr set f))) };
-  not_true = nt;
-  not_false = nf;
-}
-
-pub unit_last : (set : LiteralSet) (f g : Literal) → set g ≡ false → set (negate g) ≡ false → IsFalse set f → IsUnsetUnit set (f ∷ g ∷ []) g
-unit_last set f g nt nf h = record {
-  unit = record { among = contains_later f g (g ∷ []) (contains_first g []); others = All-cons (IsLastOr set g) f (g ∷ []) (inr h) (All-cons (IsLastOr set g) g [] (inl refl) (All-nil (IsLastOr set g))) };
-  not_true = nt;
-  not_false = nf;
-}
 
 pub both_false : (set : LiteralSet) (f g : Literal) → IsFalse set f → IsFalse set g → All (IsFalse set) (f ∷ g ∷ [])
 both_false set f g hf hg = All-cons (IsFalse set) f (g ∷ []) hf (All-cons (IsFalse set) g [] hg (All-nil (IsFalse set)))

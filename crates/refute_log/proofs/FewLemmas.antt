@@ -123,10 +123,6 @@ distinct_left : (xs ys : Clauses) → AllDistinct (xs ++ ys) → AllDistinct xs
 distinct_left [] ys h = tt
 distinct_left (x ∷ xs) ys h = (h.0, distinct_left xs ys h.1)
 
-distinct_last : (xs : Clauses) (c : List Literal) → AllDistinct (xs ++ c ∷ []) → AreDistinct c
-distinct_last [] c h = h.0
-distinct_last (x ∷ xs) c h = distinct_last xs c h.1
-
 few_push : (v : ℕ) (cs clauses : Clauses) (c : List Literal) → Few v cs → ((d : List Literal) → Contains cs d → Contains clauses d) → AllDistinct cs → AreThere v c → IsNewClause clauses c → Few v (cs ++ c ∷ [])
 few_push v cs clauses c few among distinct there fresh = record {
   codes = subst (λ (ns : List ℕ). IsDistinct eqb ns) (sym (map-append (code v) cs (c ∷ []))) (IsDistinct-push nat_eq_equiv (map (code v) cs) (code v c) few.codes (false_from_ne_true (list_any (eqb (code v c)) (map (code v) cs)) (λ h.

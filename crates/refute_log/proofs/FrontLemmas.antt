@@ -57,11 +57,6 @@ others_of_piece None b name bytes w = tt
 others_of_piece (Some x) None name bytes w = absurd w
 others_of_piece (Some x) (Some y) name bytes w = w.others
 
--- the line couldn't be gathered
-pub failed_keeps : (c : Option Told) (failed : Bool) (name gathered now : List ℕ) → WhereTold c c (λ x y. KeepsLogText failed x name gathered → KeepsLogText true y name now)
-failed_keeps None failed name gathered now = tt
-failed_keeps (Some x) failed name gathered now = λ k. kept_begins failed x name gathered k
-
 -- the gathered text couldn't be appended, or not as a whole
 pub cut_keeps : (a b : Option Told) (failed : Bool) (name gathered now : List ℕ) (line : LogLine) → failed ≡ false → MayBeTold line → now ≡ gathered ++ ended_text line → WhereTold a b (MayAppendTo name now) → WhereTold a b (λ x y. KeepsLogText failed x name gathered → KeepsLogText true y name now)
 cut_keeps None b failed name gathered now line e f h w = tt

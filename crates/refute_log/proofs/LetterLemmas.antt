@@ -134,15 +134,6 @@ no_learnt text e (LearntForm (f ∷ fields)) k =
     no_cut (48 ∷ []) f (fields_left fields) zero_is_one (sym e ∙ fields_behind 108 text (f ∷ fields) k.spelled ∙ regroup f (trailed fields) (48 ∷ []))
 no_learnt text e form k = let z = ap (λ (t : List ℕ). get_or t 0 0) k.spelled in absurd (omega arith)
 
--- the letter is that of no line
-pub no_letter : (letter : ℕ) (text : List ℕ) → letter ≢ 102 → letter ≢ 108 → letter ≢ 98 → letter ≢ 113 → letter ≢ 114 → HasLineFault (letter ∷ 32 ∷ text) Form
-no_letter letter text f l b q r (FormulaForm fields) k = f (let e = k.spelled in cc)
-no_letter letter text f l b q r (LearntForm fields) k = l (let e = k.spelled in cc)
-no_letter letter text f l b q r (BoundForm criterion k x) h = b (let e = h.spelled in cc)
-no_letter letter text f l b q r (QueryForm fields) k = q (let e = k.spelled in cc)
-no_letter letter text f l b q r (RefutedForm fields) k = r (let e = k.spelled in cc)
-no_letter letter text f l b q r ModelForm k = let e = k.spelled in cc
-
 -- no letter and space stand in front
 pub no_front : (text : List ℕ) → ((letter : ℕ) (rest : List ℕ) → text ≢ letter ∷ 32 ∷ rest) → (text ≡ 109 ∷ [] → ⊥) → HasLineFault text Form
 no_front text h m (FormulaForm fields) k = h 102 (fields_left fields) (k.spelled ∙ behind_letter 102 fields)

@@ -141,6 +141,3 @@ all_right text rest right literals h e fine =
       there = k.1;
       spelled = h.spelled ∙ ap (λ (t : List ℕ). trailed h.fields ++ t) e ∙ ap (λ (t : List Field). trailed t ++ 48 ∷ []) k.0;
     }
-
-pub none_read : (text : List ℕ) → IsReadTo text text true []
-none_read text = record { fields = []; numbers = tt; spelled = refl; read = (refl, tt) }

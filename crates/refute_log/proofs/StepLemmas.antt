@@ -3,21 +3,14 @@ use Rattle.std.proofs.Common.{◌≡◌, ◌≤◌, ℕ, zero, suc, ◌+◌, [],
 use Rattle.std.specs.Prelude.{⊤, flat_map, Result, OnErr}
 use Rattle.std.proofs.lemmas.Grind.{flat_map-append}
 use Rattle.std.proofs.lemmas.List.Concat.{flat_map-cons}
-use Rattle.outside_io.specs.Counts.{next_count, Rose, rose_by}
+use Rattle.outside_io.specs.Counts.{next_count, rose_by}
 use Rattle.cnf_core.specs.Clause.{Clauses}
 use Rattle.refute_log.specs.declared.line.LogLine.{LogLine}
 use Rattle.refute_log.specs.declared.line.LogLine.TheVariants.{Learnt}
 use Rattle.refute_log.specs.Told.{Lines}
 use Rattle.refute_log.specs.Log.{clause_line, clause_lines, learnt, Derives}
-use Rattle.refute_log.specs.Steps.{ToldBehind, GoesOn, Continues, KnowsSome, StillDerives, Leaves}
+use Rattle.refute_log.specs.Steps.{ToldBehind, GoesOn, Continues, KnowsSome, Leaves}
 use Rattle.refute_log.proofs.LogLemmas.{flat_map_last}
-
--- ---- counts
-pub rose_later : (a b c : ℕ) → a ≤ b → Rose b c → Rose a c
-rose_later a b c le rose = grind (arith, le, rose)
-
-pub rose_still : (a b c : ℕ) → Rose a b → b ≤ c → Rose a c
-rose_still a b c rose le = grind (arith, le, rose)
 
 pub rose_both : (m n k : ℕ) → rose_by n (rose_by m k) ≡ rose_by (m + n) k
 rose_both m zero k = ap (λ a. rose_by a k) (let e : m ≡ m + 0 = omega arith in e)
@@ -71,26 +64,6 @@ abbrev pub AnyLines : Lines → Lines → Type 0
 AnyLines lines more = ⊤
 
 -- ---- errors
-
--- an error in a later call
-pub derives_later : {S : Type 0} (knows log : S → Lines → Type 0) (count : S → ℕ) (a b e : S) (R : Lines → Lines → Type 0) → Continues knows log count a b R →
-    StillDerives (knows b) (log b) (log e) → StillDerives (knows a) (log a) (log e)
-derives_later knows log count a b e R run after = λ lines known was told is.
-    let first : ToldBehind (knows b) (log a) (log b) (count a) (count b) lines (R lines) = run lines known in
-    after (lines ++ first.more) first.knows (first.told lines was) told is
-
--- an error that tells nothing
-pub derives_here : {S : Type 0} (knows log : S → Lines → Type 0) (count : S → ℕ) (a b : S) (R : Lines → Lines → Type 0) → Continues knows log count a b R →
-    ((lines : Lines) → knows b lines → Derives lines) → ((x y : Lines) → log b x → log b y → x ≡ y) → StillDerives (knows a) (log a) (log b)
-derives_here knows log count a b R run derives one = λ lines known was told is.
-    let first : ToldBehind (knows b) (log a) (log b) (count a) (count b) lines (R lines) = run lines known in
-    subst Derives (one (lines ++ first.more) told (first.told lines was) is) (derives (lines ++ first.more) first.knows)
-
--- an error before anything is told
-pub derives_same : {S : Type 0} (knows log : S → Lines → Type 0) (s : S) → ((lines : Lines) → knows s lines → Derives lines) → ((x y : Lines) → log s x → log s y → x ≡ y) → StillDerives (knows s) (log s) (log s)
-derives_same knows log s derives one = λ lines known was told is. subst Derives (one lines told was is) (derives lines known)
-
--- ---- errors, and the Formula and Bound lines
 
 pub clause_lines_append : (lines more : Lines) → clause_lines (lines ++ more) ≡ clause_lines lines ++ clause_lines more
 clause_lines_append lines more = flat_map-append clause_line lines more

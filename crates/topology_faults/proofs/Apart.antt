@@ -107,9 +107,6 @@ pub record Covers {E : Type 0} (what_at : ℕ → E) (G : ℕ → Type 0) (es : 
 pub covers_none : {E : Type 0} (e : ℕ → E) (G : ℕ → Type 0) → Covers e G []
 covers_none e G = record { ks = []; same = refl; good = tt; apart = tt }
 
-pub covers_one : {E : Type 0} (e : ℕ → E) (G : ℕ → Type 0) (k : ℕ) → G k → Covers e G (e k ∷ [])
-covers_one e G k g = record { ks = k ∷ []; same = refl; good = (g, tt); apart = (tt, tt) }
-
 pub covers_weaker : {E : Type 0} (e : ℕ → E) (G H : ℕ → Type 0) (es : List E) → ((k : ℕ) → G k → H k) → Covers e G es → Covers e H es
 covers_weaker e G H es weaker c = record { ks = c.ks; same = c.same; good = all_more G H weaker c.ks c.good; apart = c.apart }
 

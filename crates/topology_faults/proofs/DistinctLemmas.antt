@@ -20,9 +20,6 @@ use Rattle.topology_faults.proofs.IdLemmas.{row_at, last_has, earlier_has, owns}
 
 -- ---- ids that are listed
 
-pub lists_start : (rows : List Elem) (ids : List ListedId) → ListsIds rows 0 ids
-lists_start rows ids j id h = let before = h.before in absurd (omega arith)
-
 pub lists_more : (rows : List Elem) (n : ℕ) (row : Elem) (old new : List ListedId) → ListsIds rows n old → n < length rows → row ≡ get_or rows n row → ListsOneMore old new (own_id row) n → ListsIds rows (n + 1) new
 lists_more rows n row old new listed within is more j id h = by (cases_lt j n)
   where

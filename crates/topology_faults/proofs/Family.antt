@@ -48,10 +48,6 @@ same_kind_self OpenEnd = refl
 same_kind_self BufferStop = refl
 same_kind_self MacroNode = refl
 
--- row i is this row
-pub record IsRow (rows : List Elem) (i : ℕ) (row : Elem) : Type 0 where
-  pub is : slice_get rows i ≡ Some row
-
 pub of_kind : (rows : List Elem) (kind : ElemKind) (i : ℕ) → is_of_kind rows kind i ≡ true → (row : Elem) × (slice_get rows i ≡ Some row) × (row.kind ≡ kind)
 of_kind rows kind i h = choose (slice_get rows i) refl
   where

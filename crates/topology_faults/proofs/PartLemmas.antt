@@ -13,8 +13,8 @@ use Rattle.railml_read.specs.declared.rows.ElemKind.{ElemKind}
 use Rattle.railml_read.specs.declared.rows.ElemKind.TheVariants.{Topology, Begin, End, Connection}
 use Rattle.topology_faults.specs.declared.tables.Tables.{Tables}
 use Rattle.topology_faults.specs.Rows.{all_children, children, is_of_kind}
-use Rattle.topology_faults.specs.Faults.{IsWholeTrack, HasTwoWays, HasItsParts}
-use Rattle.topology_faults.specs.Tables.{only_of, only_pair_of, HasEntries, HasOnlyChildren, ListsChildren, AreTablesOf, entry_in, IsWholeBy, IsListAt, HasTwoWaysAmong}
+use Rattle.topology_faults.specs.Faults.{IsWholeTrack, HasItsParts}
+use Rattle.topology_faults.specs.Tables.{only_of, HasEntries, HasOnlyChildren, ListsChildren, AreTablesOf, entry_in, IsWholeBy, IsListAt}
 
 pub some_of : {X : Type 0} (o : Option X) → is_some o ≡ true → (x : X) × (o ≡ Some x)
 some_of None h = absurd (true≢false (sym h))
@@ -116,33 +116,6 @@ one_connection_part rows t i b tables within is = (
   λ h. (let one = some_of (entry_in t.connections.items i) (sym is ∙ h) in (one.0, only_child rows Connection t.connections.items i one.0 tables.connections within one.1)),
   λ p. is ∙ ap is_some (only_child_entry rows Connection t.connections.items i p.0 tables.connections within p.1),
 )
-
--- a list with just two entries
-pub pair_some : (list : List ℕ) (c d : ℕ) → only_pair_of list ≡ Some (c, d) → list ≡ c ∷ d ∷ []
-pair_some [] c d h = let pair : ℕ × ℕ = (c, d) in absurd (none-some pair h)
-pair_some (e ∷ list) c d h = by (only_of list) refl h
-  where
-    by : (o : Option ℕ) → only_of list ≡ o → option_map {U = ℕ × ℕ} (λ k. (e, k)) o ≡ Some (c, d) → e ∷ list ≡ c ∷ d ∷ []
-    by None s h = let pair : ℕ × ℕ = (c, d) in absurd (none-some pair h)
-    by (Some k) s h = let parts = some_pair_parts e c k d h in ap (λ l. e ∷ l) (only_some list k s) ∙ (ap (λ x. x ∷ k ∷ []) parts.0 ∙ ap (λ x. c ∷ x ∷ []) parts.1)
-
-pub two_ways : (rows : List Elem) (i : ℕ) (list : List ℕ) → list ≡ all_children rows i → HasTwoWaysAmong rows list → HasTwoWays rows i
-two_ways rows i list is w = record {
-  one = w.one;
-  other = w.other;
-  two = pair_some (children rows i Connection) w.one w.other (subst (λ l. only_pair_of (filter (is_of_kind rows Connection) l) ≡ Some (w.one, w.other)) is w.two);
-  differ = w.differ;
-}
-
-pub two_ways_among : (rows : List Elem) (i : ℕ) (list : List ℕ) → list ≡ all_children rows i → HasTwoWays rows i → HasTwoWaysAmong rows list
-two_ways_among rows i list is w = record {
-  one = w.one;
-  other = w.other;
-  two = ap (λ l. only_pair_of (filter (is_of_kind rows Connection) l)) is ∙ ap only_pair_of w.two;
-  differ = w.differ;
-}
-
--- ---- by kind
 
 module _ (rows : List Elem) (i : ℕ) (b : Bool) where
   abbrev Tells : ElemKind → Type 0

@@ -11,9 +11,8 @@ use Rattle.topology_faults.specs.declared.finding.Finding.{Finding}
 use Rattle.topology_faults.specs.declared.telling.Told.{Told}
 use Rattle.topology_faults.specs.Rows.{track_rows, attribute_name, id_of}
 use Rattle.topology_faults.specs.Faults.{RepeatsId, IsNotReferredBack, HasTopologyFault, HasFaultAt, HasNoTracks, IsTopologyFault, IsFirstTopologyFault, HasNoFault, number_of}
-use Rattle.topology_faults.specs.Telling.{HasKind, HasNone, IsLowest, first_told, IsSecond, IsFindingOf, IsToldOf, IsFirstTold, TellsNoTracks}
+use Rattle.topology_faults.specs.Telling.{HasKind, HasNone, IsLowest, first_told, IsSecond, IsFindingOf, IsToldOf, IsFirstTold}
 use Rattle.topology_faults.proofs.IdLemmas.{one_row, row_at}
-use Rattle.topology_faults.proofs.FaultLemmas.{numbers_from_one}
 
 module _ (rows : List Elem) (i : ℕ) (row : Elem) (at : slice_get rows i ≡ Some row) (first second : List ℕ) where
   repeated : (id : List ℕ) → RepeatsId rows i id → first ≡ id_of row → RepeatsId rows i first
@@ -71,19 +70,6 @@ module _ (rows : List Elem) (at : ℕ) (first second : List ℕ) where
   is_fault OutsideTrack h = h
 
 -- ---- the first fault
-
-pub told_no_tracks : (rows : List Elem) (told : Told) → slice_get (track_rows rows) 0 ≡ None → TellsNoTracks told → IsFirstTold rows told
-told_no_tracks rows told none t =
-    let start : told.at ≡ 0 = t.start in
-    subst (λ (what : TopologyWhat). IsFirstTopologyFault rows what told.at told.first told.second) (sym t.what) (record {
-      holds = record { none = empty (track_rows rows) none; start = start; no_first = t.no_first; no_second = t.no_second };
-      lowest = λ other place a b less h. (let more = numbers_from_one other in absurd (omega arith));
-      least = λ place a b before h. absurd (omega arith);
-    })
-  where
-    empty : (list : List ℕ) → slice_get list 0 ≡ None → list ≡ []
-    empty [] h = refl
-    empty (x ∷ list) h = absurd (none-some x (sym h))
 
 some_track : (rows : List Elem) → (slice_get (track_rows rows) 0 ≡ None → ⊥) → track_rows rows ≡ [] → ⊥
 some_track rows some none = some (ap (λ l. slice_get l 0) none)

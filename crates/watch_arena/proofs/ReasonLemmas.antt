@@ -156,11 +156,3 @@ module _ (m : Marks) (l : Literal) (p : ℕ) (marks : IsMarks m) (there : IsTher
 -- the reason that a look finds
 pub alone_reason : (ws places : List ℕ) (lits : List Literal) (w s : ℕ) (l : Literal) → Contains places (s / 2) → 2 ≤ arena_word ws (s / 2) → arena_word ws (lit_of s) ≡ w → IsIn (has lits) (negate (literal_at w)) → IsAlone ws lits s l → IsReasonFor ws places lits l (s / 2)
 alone_reason ws places lits w s l place two lit false_now a = record { place = place; unit = alone_unit ws lits w s l (lits_at ws (s / 2)) (is_clause ws (s / 2)) two lit false_now a }
-
--- a trail without literals
-pub none_reasoned : (m : Marks) (ws places : List ℕ) → m.lits ≡ [] → m.cuts ≡ [] → IsReasoned m ws places
-none_reasoned m ws places lits cuts = record {
-  reason = λ i l lt is some. absurd (let e = ap length lits in omega arith);
-  decided = λ i l lt is none. absurd (let e = ap length lits in omega arith);
-  begins = λ n l c is. absurd (let within = c.1 in let e = ap length cuts in omega arith);
-}

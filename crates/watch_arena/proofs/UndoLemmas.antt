@@ -7,7 +7,7 @@ use Rattle.cnf_core.specs.Lit.{Literal, word_of}
 use Rattle.cnf_core.specs.Clause.{AreThere}
 use Rattle.cnf_core.proofs.TrailLemmas.{there_last, word_below}
 use Rattle.cnf_core.specs.Trail.{IsTrail}
-use Rattle.watch_arena.specs.Trail.{IsStoredTrail, AreCuts, HasLevels, trail_level, IsMarks, Marks, marks_of, level_end, undone}
+use Rattle.watch_arena.specs.Trail.{IsStoredTrail, AreCuts, HasLevels, trail_level, Marks, marks_of, undone}
 use Rattle.watch_arena.proofs.CutLemmas.{level_take}
 use Rattle.cnf_core.proofs.MarkLemmas.{trail_less}
 use Rattle.watch_arena.proofs.TrailLemmas.{marks_same}
@@ -101,10 +101,3 @@ last_there vars truth order l n lt is t =
 
 pub last_unset : (vars : ℕ) (truth : List Bool) (order : List Literal) (l : Literal) (n : ℕ) → n < length order → get_or order n l ≡ l → IsTrail vars truth (take (n + 1) order) → IsTrail vars (set truth (word_of l) false) (take n order)
 last_unset vars truth order l n lt is t = trail_less vars truth (take n order) l (subst (λ (ls : List Literal). IsTrail vars truth ls) (last_split order l n lt is) t)
-
-pub undone_none : (m : Marks) (level : ℕ) → IsMarks m → length m.cuts ≤ level → m ≡ undone m level
-undone_none m level marks ge =
-    let e : level_end m level ≡ length m.lits = get_or_past m.cuts level (length m.lits) ge in
-    let front = marks.front in
-    marks_same m.vars m.lits (take (level_end m level) m.lits) m.front (min m.front (level_end m level)) m.cuts (take level m.cuts) m.reasons m.reasons m.levels m.levels
-    (sym (take_all (level_end m level) m.lits (omega arith))) (omega arith) (sym (take_all level m.cuts ge)) refl refl
