@@ -11,7 +11,7 @@ place=$(mktemp -d)
 trap 'rm -rf "$place"' EXIT
 crate=$place/crates/solver_bench
 mkdir -p "$crate/src" "$crate/proofs/give_drawn" "$crate/proofs/give_pigeons" "$crate/proofs/give_pairs"
-below='plan_core outside_io cnf_core line_text refute_log watch_arena pick_heap cdcl_learn cdcl_core'
+below='plan_core outside_io cnf_core refute_log watch_arena pick_heap cdcl_learn cdcl_core'
 for name in $below; do
     mkdir "$place/crates/$name"
     for part in src specs proofs; do

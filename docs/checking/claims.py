@@ -7,12 +7,7 @@ from checking.crates import (DOCUMENTS, TOP, calls_handed_out, crates, of_the_pr
 COLUMNS = 130
 
 
-# ---- each crate, and each file
-
-
-def crates_without_paragraph():
-    told = set(re.findall(r"^\*\*(\w+)\*\*", read(TOP / "docs" / "crates.md"), re.M))
-    return [f"docs/crates.md: no paragraph begins with **{crate}**" for crate in crates() if crate not in told]
+# ---- each file
 
 
 def files_that_fail():
@@ -35,10 +30,10 @@ def names_that_fail():
         if path.suffix in (".rt", ".antt") and "proofs" not in path.parts:
             known.update(re.findall(r"[A-Za-z_]\w*", read(path)))
     found = []
-    for name in ("crates.md", "definitions.md", "proved.md", "DECISIONS.md"):
-        text = " ".join(spans(read(TOP / "docs" / name)))
+    for name in ("crates/README.md", "docs/definitions.md", "docs/proved.md", "docs/DECISIONS.md"):
+        text = " ".join(spans(read(TOP / name)))
         named = {word for word in re.findall(r"[A-Za-z_]\w+", text) if not word.isupper()}
-        found += [f"docs/{name}: nothing is named {word}" for word in sorted(named - known)]
+        found += [f"{name}: nothing is named {word}" for word in sorted(named - known)]
     return found
 
 
@@ -142,6 +137,6 @@ def rows_made(text):
 
 
 def all_failures(contracts, words):
-    return (crates_without_paragraph() + count_that_fails() + words_without_sentence(contracts, words)
+    return (count_that_fails() + words_without_sentence(contracts, words)
             + citations_that_fail(contracts, words) + claims_without_citation() + names_that_fail() + calls_untold()
             + files_that_fail() + long_lines())

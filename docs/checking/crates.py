@@ -5,7 +5,7 @@ from functools import cache
 from pathlib import Path
 
 TOP = Path(__file__).resolve().parent.parent.parent
-DOCUMENTS = [TOP / "README.md"] + sorted((TOP / "docs").glob("*.md"))
+DOCUMENTS = [TOP / "README.md", TOP / "THEOREM.md", TOP / "crates" / "README.md"] + sorted((TOP / "docs").rglob("*.md"))
 
 Word = namedtuple("Word", "crate module name remark text")
 Clause = namedtuple("Clause", "name text")
@@ -25,7 +25,7 @@ def read(path):
 
 def stands_on():
     """Each crate, in the order of crates.txt, with the crates that it stands on."""
-    lines = [line.split(":") for line in read(TOP / "crates.txt").splitlines() if ":" in line]
+    lines = [line.split(":") for line in read(TOP / "crates.txt").splitlines() if ":" in line and not line.startswith("#")]
     return {name.strip(): below.split() for name, below in lines}
 
 

@@ -2,67 +2,13 @@
 import re
 import textwrap
 
-from checking.crates import DOCUMENTS, TOP, contracts_of, crates, head, module_of, read, root_text, show, spec_files, stands_on
+from checking.crates import DOCUMENTS, TOP, contracts_of, crates, head, module_of, read, root_text, show, spec_files
+from checking import theorem
 from checking.numbers import with_tables
 
 COLUMNS = 120
-MAP = TOP / "docs" / "crates.md"
-INDEX = TOP / "docs" / "index.md"
-CALLS = TOP / "docs" / "calls.md"
-
-
-# ---- the tree
-
-
-def depths(below):
-    """How long the longest chain of crates under each one is."""
-    found = {}
-    while len(found) < len(below):
-        found.update({crate: max([found[other] + 1 for other in others if other in below], default=0)
-                      for crate, others in below.items() if all(other in found for other in others if other in below)})
-    return found
-
-
-def under(below, crate):
-    """All crates that a crate stands on."""
-    direct = [other for other in below[crate] if other in below]
-    return set(direct).union(*(under(below, other) for other in direct))
-
-
-def branches(below):
-    """The crate that each one hangs from, the last of those with the longest chain, and those that it stands on besides."""
-    deep, found = depths(below), {}
-    for crate, others in below.items():
-        direct = [other for other in others if other in below]
-        longest = max([deep[other] for other in direct], default=0)
-        parent = [other for other in direct if deep[other] == longest][-1:]
-        stood = set(parent).union(*(under(below, other) for other in parent))
-        beside = [other for other in direct if other not in stood
-                  and not any(other in under(below, third) for third in direct if third not in stood)]
-        found[crate] = (parent[0] if parent else "", beside)
-    return found
-
-
-def tree_lines(below):
-    """The tree of the crates, each under the one that it hangs from, in the order of crates.txt."""
-    hung = branches(below)
-
-    def lines(crate, front, own):
-        beside = hung[crate][1]
-        found = [own + crate + (f"   (and {', '.join(beside)})" if beside else "")]
-        children = [other for other in below if hung[other][0] == crate]
-        for child in children:
-            last = child == children[-1]
-            found += lines(child, front + ("    " if last else "│   "), front + ("└── " if last else "├── "))
-        return found
-
-    return [line for crate in below if not hung[crate][0] for line in lines(crate, "", "")]
-
-
-def map_text():
-    """docs/crates.md with the tree that crates.txt gives."""
-    before, _, after = read(MAP).split("```", 2)
-    return before + "```\n" + "\n".join(tree_lines(stands_on())) + "\n```" + after
+INDEX = TOP / "docs" / "made" / "index.md"
+CALLS = TOP / "docs" / "made" / "calls.md"
 
 
 # ---- the index
@@ -121,7 +67,7 @@ def calls_text():
 def made_pages():
     """The pages of which a part is made from the crates, each as it is to be."""
     found = {path: with_tables(read(path)) for path in DOCUMENTS if "<!-- made: " in read(path)}
-    return {**found, MAP: with_tables(map_text()), INDEX: index_text(), CALLS: calls_text()}
+    return {**found, INDEX: index_text(), CALLS: calls_text(), theorem.PICTURE: theorem.picture()}
 
 
 def pages_that_differ():

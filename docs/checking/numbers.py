@@ -8,6 +8,7 @@ import functools
 import re
 import textwrap
 
+from checking import rooms, theorem
 from checking.crates import DOCUMENTS, TOP, head, read, show
 
 LAUNCHER = TOP / "railplan"
@@ -19,19 +20,19 @@ LAWS = TOP / "docs" / "laws.md"
 LIMITS = [("plan_core", "MAX_FILE_BYTES"), ("plan_core", "MAX_LOG_BYTES"), ("railml_read", "MAX_DEPTH"),
           ("plan_core", "MAX_TRACKS"), ("plan_core", "MAX_ID_BYTES"), ("plan_core", "MAX_NODES"), ("plan_core", "MAX_EDGES"),
           ("plan_core", "MAX_WIDTH"), ("plan_core", "MAX_HEIGHT"), ("plan_core", "MAX_LEAST"), ("plan_core", "MAX_BUDGET"),
-          ("plan_words", "MAX_SEED"), ("line_text", "MAX_NUMBER"), ("plan_writing", "MAX_METRES"), ("cnf_core", "LAST_VAR"),
+          ("plan_words", "MAX_SEED"), ("outside_io", "MAX_NUMBER"), ("plan_write", "MAX_METRES"), ("cnf_core", "LAST_VAR"),
           ("cnf_core", "VARS"), ("cnf_core", "ROOM")]
 
 # where the faults of a section of docs/formats.md are, in the order in which the sections stand
 FAULTS = {"Words": "plan_words/src/fault.rt", "A railML file": "railml_text/src/fault.rt",
-          "The topology": "topology_faults/src/fault.rt", "The drawing text, or sheet": "plan_text/src/sheet_fault.rt",
+          "The topology": "railml_faults/src/fault.rt", "The drawing text, or sheet": "plan_text/src/sheet_fault.rt",
           "The track graph, and the graph text": "port_graph/src/fault.rt", "The log text": "refute_log/src/fault.rt",
-          "The answer of signals": "plan_objects/src/fault.rt", "The text of hinted lines": "hint_text/src/fault.rt"}
+          "The answer of signals": "plan_objects/src/fault.rt", "The text of hinted lines": "hint_log/src/text_fault.rt"}
 
 # the front of a fault's line, and where its faults are
-TABLES = {"words": "plan_words/src/fault.rt", "text": "railml_text/src/fault.rt", "topology": "topology_faults/src/fault.rt",
+TABLES = {"words": "plan_words/src/fault.rt", "text": "railml_text/src/fault.rt", "topology": "railml_faults/src/fault.rt",
           "graph": "port_graph/src/fault.rt", "order": "track_order/src/fault.rt", "sheet": "plan_text/src/sheet_fault.rt",
-          "log": "refute_log/src/fault.rt", "signal": "plan_objects/src/fault.rt", "hints": "hint_text/src/fault.rt"}
+          "log": "refute_log/src/fault.rt", "signal": "plan_objects/src/fault.rt", "hints": "hint_log/src/text_fault.rt"}
 
 # what the launcher's help says of each status
 ENDINGS = {"Done": "what was asked for was printed", "Refused": "an input was refused", "WordsRefused": "the words have a fault",
@@ -116,13 +117,13 @@ def remarks(text, name):
 
 def statuses():
     """Each status: its number, its name and the remark beside it."""
-    text = source("input_answer/src/status.rt")
+    text = source("run_input/src/status.rt")
     told = remarks(text, "Status")
     return sorted((int(number), name, told[name]) for name, number in arms(text, "number").items())
 
 
 def criteria():
-    return re.findall(r"Criterion::\w+ => \"(\w+)\"", source("line_text/src/criteria.rt"))
+    return re.findall(r"Criterion::\w+ => \"(\w+)\"", source("outside_io/src/criteria.rt"))
 
 
 def commands():
@@ -154,7 +155,7 @@ def options():
 def usual_order():
     text = source("plan_words/src/building.rt")
     listed = re.search(r"DEFAULT_ORDER: .*? = \[(.*?)\];", text, re.S).group(1)
-    words = dict(re.findall(r"Criterion::(\w+) => \"(\w+)\"", source("line_text/src/criteria.rt")))
+    words = dict(re.findall(r"Criterion::(\w+) => \"(\w+)\"", source("outside_io/src/criteria.rt")))
     return [words[variant] for variant in re.findall(r"Criterion::(\w+)", listed)]
 
 
@@ -216,7 +217,8 @@ def laws_list():
 
 
 TABLES_MADE = {"limits": limits_table, "options": options_table, "statuses": statuses_table,
-               "laws": laws_list}
+               "laws": laws_list, "rooms": rooms.table, "so_clause": theorem.clause_lines, "so_counts": theorem.count_lines,
+               "so_rows": theorem.row_lines, "best_words": theorem.best_lines, "so_rest": theorem.rest_lines}
 
 
 def with_tables(text):

@@ -6,12 +6,9 @@ use Rattle.cnf_core.specs.Lit.{Literal}
 use Rattle.cnf_core.specs.Clause.{AreThere, IsThere}
 use Rattle.cdcl_learn.specs.Sight.{Sight, nth, reason_of, IsReasonAt, IsSound}
 use Rattle.cdcl_learn.specs.Cut.{Cut, is_seen, cut_with, cut_with_all, IsStage, IsResolving}
-use Rattle.cdcl_learn.proofs.LiteralLemmas.{stands, there_contains}
+use Rattle.cdcl_learn.proofs.LiteralLemmas.{there_contains}
 use Rattle.cdcl_learn.proofs.CountLemmas.{open_skip}
 use Rattle.cdcl_learn.proofs.RupLemmas.{stage_reason}
-
-pub lit_there : (s : Sight) (i : ℕ) → IsSound s → i < length s.lits → IsThere s.vars (nth s i)
-lit_there s i r lt = there_contains s.vars s.lits (nth s i) r.there (stands s i lt)
 
 pub clause_lit_there : (vars : ℕ) (c : List Literal) (i : ℕ) (k : Literal) → AreThere vars c → i < length c → get_or c i k ≡ k → IsThere vars k
 clause_lit_there vars c i k there lt e = there_contains vars c k there (i, lt, e)

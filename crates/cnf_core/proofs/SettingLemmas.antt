@@ -2,27 +2,13 @@
 use Rattle.std.proofs.Common.{◌≡◌, ◌≢◌, ℕ, ◌+◌, ◌<◌, ◌≤◌, Bool, true, false, cond, zero, suc, ◌++◌, refl, sym, ◌∙◌, ap, subst, inl, inr, arith}
 use Rattle.std.specs.Prelude.{◌-◌, nat_lt}
 use Rattle.std.proofs.lemmas.Bool.Decides.{nat_tests, eqb_tells}
-use Rattle.cnf_core.specs.Lit.{same_sign, literal}
 use Rattle.cnf_core.specs.Clause.{Clauses, AllThere}
-use Rattle.cnf_core.specs.Assignment.{Assignment, truth, SatisfiesAll, SameOutside, Extends}
+use Rattle.cnf_core.specs.Assignment.{Assignment, SatisfiesAll, SameOutside, Extends}
 use Rattle.cnf_core.proofs.ClauseLemmas.{satisfies_append, satisfies_all_same}
 
 -- assignments that differ in a block alone
 pub same_none : (first count : ℕ) (v : Assignment) → SameOutside first count v v
 same_none first count v = record { below = λ x h. refl; above = λ x h. refl }
-
-pub same_after : (first count : ℕ) (u v w : Assignment) → SameOutside first count u v → SameOutside first count v w → SameOutside first count u w
-same_after first count u v w a b = record {
-  below = λ x h. b.below x h ∙ a.below x h;
-  above = λ x h. b.above x h ∙ a.above x h;
-}
-
--- a block within a larger one
-pub same_within : (first count from size : ℕ) (v w : Assignment) → first ≤ from → from + size ≤ first + count → SameOutside from size v w → SameOutside first count v w
-same_within first count from size v w low high s = record {
-  below = λ x h. s.below x (omega arith);
-  above = λ x h. s.above x (omega arith);
-}
 
 -- a block behind another
 pub same_both : (first m n : ℕ) (u v w : Assignment) → SameOutside first m u v → SameOutside (first + m) n v w → SameOutside first (m + n) u w
@@ -66,15 +52,6 @@ patch_at first count f v k h =
     let b : nat_lt (first + k) (first + count) ≡ true = grind (arith, nat_tests) in
     let z : first + k - first ≡ k = omega arith in
     rw (a, b, z) refl
-
--- the next variable of a block is set, and no other
-signed_true : (sign b : Bool) → same_sign sign b ≡ true → b ≡ sign
-signed_true true b h = h
-signed_true false true h = cc
-signed_true false false h = refl
-
-pub set_is : (v : Assignment) (x : ℕ) (b : Bool) → truth v (literal x b) ≡ true → v x ≡ b
-set_is v x b h = signed_true b (v x) h
 
 -- blocks for one party after another, each of its own size
 pub place_rises : (place size : ℕ → ℕ) → ((k : ℕ) → place (k + 1) ≡ place k + size k) → (a b : ℕ) → a ≤ b → place a ≤ place b

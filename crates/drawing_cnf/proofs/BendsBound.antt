@@ -12,14 +12,14 @@ use Rattle.cnf_core.specs.Clause.{AreThere, AllThere}
 use Rattle.cnf_core.specs.Assignment.{Assignment, SatisfiesAll, Extends}
 use Rattle.cnf_core.proofs.SettingLemmas.{patch, patch_same, extends_both}
 use Rattle.unary_sum.specs.Sum.{sum_count, count_true}
-use Rattle.edge_lines.specs.Columns.{is_level, has_level_piece}
-use Rattle.edge_lines.proofs.RunLemmas.{one_if}
-use Rattle.edge_lines.proofs.BendLemmas.{bends_are}
-use Rattle.law_clauses.specs.Stands.{DrawingVars}
+use Rattle.edge_shape.specs.Columns.{is_level, has_level_piece}
+use Rattle.edge_shape.proofs.RunLemmas.{one_if}
+use Rattle.edge_shape.proofs.BendLemmas.{bends_are}
+use Rattle.cnf_laws.specs.Stands.{DrawingVars}
 use Rattle.drawing_cnf.specs.Bounds.{IsExact, bend_lits, bends_sum, bends_bound, bends_bound_size}
-use Rattle.law_clauses.proofs.OverLemmas.{Read}
-use Rattle.law_clauses.proofs.ThereLemmas.{AreVars, vars_more}
-use Rattle.law_clauses.proofs.InstanceLemmas.{read_stays}
+use Rattle.cnf_laws.proofs.OverLemmas.{Read}
+use Rattle.cnf_laws.proofs.ThereLemmas.{AreVars, vars_more}
+use Rattle.cnf_laws.proofs.InstanceLemmas.{read_stays}
 use Rattle.drawing_cnf.proofs.BoundLemmas.{set_bound, sum_bound_means, sum_bound_extends, sum_bound_there, AreEdges, sum_over_lines}
 
 pub line_bends : (v : Assignment) (g : Graph) (x : DrawingVars) (grid : GridSize) (d : Drawing) (e : ℕ) → Read v g x grid d → e < length g.edges → bends (line d e) ≡ one_if (v (x.edge e).first_bend) + one_if (v (x.edge e).second_bend)

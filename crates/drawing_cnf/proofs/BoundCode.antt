@@ -17,8 +17,8 @@ use Rattle.cnf_core.proofs.StepLemmas.{adds_longer, added_one}
 use Rattle.order_int.specs.IntVars.{IntVars}
 use Rattle.unary_sum.specs.Sum.{SumVars, sum_vars, sum_count, sum_clauses}
 use Rattle.edge_shape.specs.EdgeVars.{EdgeSpot, lits_of}
-use Rattle.law_clauses.specs.Stands.{DrawingVars}
-use Rattle.law_clauses.specs.Expected.{drawing_vars, laws_first}
+use Rattle.cnf_laws.specs.Stands.{DrawingVars}
+use Rattle.cnf_laws.specs.Expected.{drawing_vars, laws_first}
 use Rattle.drawing_cnf.specs.Bounds.{same_as, sum_bound, bend_lits, bends_bound, bends_bound_size, gives_bound, column_gives_bound, beside_clause, some_height_clause, height_lits, node_columns, some_column_clause}
 use Rattle.drawing_cnf.proofs.BoundLemmas.{bound_outputs}
 use Rattle.drawing_cnf.proofs.ListCode.{long_is, long_length}
@@ -90,18 +90,6 @@ bends_after y r old mid new inputs x edges last cap is at a b =
     let two = subst (λ n. AddsBlock r mid new (sum_count (sum_vars (bend_lits x edges) cap n)) (sum_bound (sum_vars (bend_lits x edges) cap n) last) 3) made one in
     let three = subst (λ l. AddsBlock r mid new (sum_count (sum_vars (bend_lits x edges) cap (old.vars + cap))) (sum_bound (sum_vars (bend_lits x edges) cap (old.vars + cap)) l) 3) at two in
     block_after y r old mid new cap (sum_count (sum_vars (bend_lits x edges) cap (old.vars + cap))) [] (bends_bound x edges old.vars cap) 3 a three
-
--- the same for clauses
-pub adds_none : {T : Type 0} (r : Result T CnfFault) (f : Cnf) (longest : ℕ) (xs : Clauses) → IsErr r → (IsErrOf r Room → ⊥) → AddsClauses r f f xs longest
-adds_none (Ok x) f longest xs err none = absurd (cc)
-adds_none (Err e) f longest xs err none = record {
-  added = tt;
-  passes = λ k. absurd (none k);
-  full = λ k. absurd (none k);
-  words = omega arith;
-  vars = refl;
-  room = refl;
-}
 
 -- the same clauses, spelt otherwise
 pub same_adds : {T : Type 0} (r : Result T CnfFault) (old new : Cnf) (b : ℕ) (s t : LitOrTruth) → s ≡ t → AddsClauses r old new (same_as b s) 2 → AddsClauses r old new (same_as b t) 2

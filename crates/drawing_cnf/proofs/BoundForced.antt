@@ -18,7 +18,7 @@ use Rattle.unary_sum.specs.Sum.{SumVars, sum_count, sum_clauses, sum_outputs, su
 use Rattle.unary_sum.proofs.SizeLemmas.{size_bound}
 use Rattle.unary_sum.proofs.JoinLemmas.{at_above}
 use Rattle.unary_sum.proofs.SumLemmas.{part_size-top}
-use Rattle.law_clauses.specs.Stands.{DrawingVars}
+use Rattle.cnf_laws.specs.Stands.{DrawingVars}
 use Rattle.drawing_cnf.specs.Bounds.{same_as, sum_bound, west_first, steps_sum, edges_steps, edges_outputs, edge_most, diagonal_sum, bound_clauses, reach_of}
 use Rattle.drawing_cnf.proofs.BoundLemmas.{bound_outputs, edges_length}
 use Rattle.drawing_cnf.proofs.BoundNames.{among_each}

@@ -19,9 +19,9 @@ use Rattle.cnf_core.proofs.SettingLemmas.{patch, patch_at, extends_weaker}
 use Rattle.unary_sum.specs.Sum.{SumVars, sum_vars, sum_count, sum_clauses, count_true, tree_top, tree_of, sum_at_least as sum_at_least}
 use Rattle.unary_sum.proofs.JoinLemmas.{at_within}
 use Rattle.unary_sum.proofs.SumLemmas.{sum_means, sum_extends, sum_there, top_there, tree_there}
-use Rattle.edge_lines.proofs.RunLemmas.{one_if}
+use Rattle.edge_shape.proofs.RunLemmas.{one_if}
 use Rattle.drawing_cnf.specs.Bounds.{IsExact, same_as, sum_bound, not_east, first_edges, west_first}
-use Rattle.law_clauses.proofs.GuardLemmas.{Is}
+use Rattle.cnf_laws.proofs.GuardLemmas.{Is}
 
 -- a variable that is as a literal
 same_case : (b t : Bool) → (not b ≡ true) ⊎ (t ≡ true) → (not t ≡ true) ⊎ (b ≡ true) → b ≡ t

@@ -22,12 +22,12 @@ use Rattle.order_int.specs.OrderInt.{int_at_least}
 use Rattle.unary_sum.specs.declared.joins.Part.TheVariants.{Outputs}
 use Rattle.unary_sum.specs.Part.{part_at_least, block, part_outputs}
 use Rattle.unary_sum.specs.Sum.{SumVars, sum_count, sum_clauses, sum_outputs, sum_at_least, sum_tree, tree_top, tree_of, tree_count, tree_size}
-use Rattle.law_clauses.specs.Stands.{DrawingVars}
-use Rattle.law_clauses.specs.Expected.{drawing_vars, laws_first}
+use Rattle.cnf_laws.specs.Stands.{DrawingVars}
+use Rattle.cnf_laws.specs.Expected.{drawing_vars, laws_first}
 use Rattle.drawing_cnf.specs.Bounds.{same_as, sum_bound, west_first, bends_sum, some_height_clause, edge_height_gives, height_at, height_lits, gives_bound, some_column_clause, column_gives, width_at, step_lits, steps_sum, edges_steps, edges_outputs, edge_most, diagonal_sum, bound_clauses}
 use Rattle.drawing_cnf.proofs.BoundLemmas.{bound_outputs, all_edges}
-use Rattle.law_clauses.proofs.BaseLemmas.{base_last, base_vars}
-use Rattle.law_clauses.proofs.ThereLemmas.{AreVars}
+use Rattle.cnf_laws.proofs.BaseLemmas.{base_last, base_vars}
+use Rattle.cnf_laws.proofs.ThereLemmas.{AreVars}
 use Rattle.drawing_cnf.proofs.BendsBound.{bends_lits_there}
 use Rattle.drawing_cnf.proofs.DiagonalBound.{steps_there}
 use Rattle.drawing_cnf.proofs.ListCode.{long_is}

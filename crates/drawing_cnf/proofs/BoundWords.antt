@@ -20,8 +20,8 @@ use Rattle.unary_sum.proofs.SizeLemmas.{size_bound, sum_words, sum_count as coun
 use Rattle.unary_sum.proofs.SumLemmas.{part_size-top}
 use Rattle.unary_sum.proofs.OutputLemmas.{length-outputs}
 use Rattle.edge_shape.specs.EdgeVars.{EdgeLits}
-use Rattle.law_clauses.specs.Stands.{DrawingVars}
-use Rattle.law_clauses.specs.Expected.{parts}
+use Rattle.cnf_laws.specs.Stands.{DrawingVars}
+use Rattle.cnf_laws.specs.Expected.{parts}
 use Rattle.drawing_cnf.specs.Bounds.{same_as, sum_bound, west_first, bend_lits, bends_sum, column_heights, all_heights, some_height_clause, gives_bound, height_gives, beside_clause, height_beside, edge_height_gives, height_at, height_bound, node_columns, some_column_clause, column_gives, width_at, width_bound, step_lits, steps_sum, gives_output, slope_outputs, end_outputs, steps_beside, edge_steps, edges_steps, edges_outputs, edges_count, edge_most, diagonal_sum, bound_clauses, bound_size}
 use Rattle.drawing_cnf.proofs.BoundLemmas.{bound_outputs, edges_length}
 

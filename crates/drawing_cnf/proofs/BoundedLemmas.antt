@@ -13,16 +13,16 @@ use Rattle.cnf_core.specs.declared.limits.TheConstants.{VARS}
 use Rattle.cnf_core.specs.Clause.{Clauses, AllThere}
 use Rattle.cnf_core.specs.Assignment.{Assignment, SatisfiesAll, Extends}
 use Rattle.cnf_core.proofs.ClauseLemmas.{satisfies_append, satisfies_left, satisfies_right, satisfies_all_same, all_there_append, all_there_more}
-use Rattle.law_clauses.specs.Stands.{DrawingVars}
-use Rattle.law_clauses.specs.LawClauses.{laws_clauses}
-use Rattle.law_clauses.specs.Expected.{drawing_vars, laws_first, base_clauses, expected_clauses, expected_size, Covers}
+use Rattle.cnf_laws.specs.Stands.{DrawingVars}
+use Rattle.cnf_laws.specs.LawClauses.{laws_clauses}
+use Rattle.cnf_laws.specs.Expected.{drawing_vars, laws_first, base_clauses, expected_clauses, expected_size, Covers}
 use Rattle.drawing_cnf.specs.Bounds.{IsExact, bound_clauses, bound_size, west_first}
 use Rattle.drawing_cnf.specs.Bounded.{Bound, bound, clauses_of_bound, size_of_bound, bounds_clauses, bounds_from, AreBehind, Tells, SoundWith}
-use Rattle.law_clauses.proofs.ThereLemmas.{AreVars}
-use Rattle.law_clauses.proofs.OverLemmas.{Read}
-use Rattle.law_clauses.proofs.InstanceLemmas.{AreInstances, laws_there, read_stays}
-use Rattle.law_clauses.proofs.BaseLemmas.{base_means, base_last, base_vars, base_there, lawful_loose}
-use Rattle.law_clauses.proofs.MainLemmas.{ListsAll, each_law, full_model, reads_stand}
+use Rattle.cnf_laws.proofs.ThereLemmas.{AreVars}
+use Rattle.cnf_laws.proofs.OverLemmas.{Read}
+use Rattle.cnf_laws.proofs.InstanceLemmas.{AreInstances, laws_there, read_stays}
+use Rattle.cnf_laws.proofs.BaseLemmas.{base_means, base_last, base_vars, base_there, lawful_loose}
+use Rattle.cnf_laws.proofs.MainLemmas.{ListsAll, each_law, full_model, reads_stand}
 use Rattle.drawing_cnf.proofs.BoundLemmas.{all_edges}
 use Rattle.drawing_cnf.proofs.BendsBound.{bends_exact, bends_extend, bends_there}
 use Rattle.drawing_cnf.proofs.HeightBound.{height_exact, height_extends, height_there}

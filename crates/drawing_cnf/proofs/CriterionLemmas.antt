@@ -11,15 +11,15 @@ use Rattle.cnf_core.specs.declared.limits.TheConstants.{VARS}
 use Rattle.cnf_core.specs.Clause.{Clauses}
 use Rattle.cnf_core.specs.Assignment.{SatisfiesAll}
 use Rattle.track_order.specs.Order.{EdgeOrder, is_above, is_overlap}
-use Rattle.law_clauses.specs.Stands.{DrawingVars}
-use Rattle.law_clauses.specs.Expected.{laws_first, instances}
+use Rattle.cnf_laws.specs.Stands.{DrawingVars}
+use Rattle.cnf_laws.specs.Expected.{laws_first, instances}
 use Rattle.drawing_cnf.specs.Bounds.{bound_size}
 use Rattle.drawing_cnf.specs.Bounded.{Bound, bound, clauses_of_bound, size_of_bound, bounds_clauses, AreBehind, SoundWith, CoversWith}
 use Rattle.drawing_cnf.specs.Encoding.{Encoding, encoding, encoded_vars}
 use Rattle.drawing_cnf.specs.declared.kept_bound.KeptBound.{KeptBound}
 use Rattle.drawing_cnf.specs.Kept.{AreKept, HasSums}
 use Rattle.drawing_cnf.specs.Whole.{drawing_clauses, drawing_last, bounds_last, IsWhole}
-use Rattle.law_clauses.proofs.MainLemmas.{few_variables, all_listed, order_tables}
+use Rattle.cnf_laws.proofs.MainLemmas.{few_variables, all_listed, order_tables}
 use Rattle.drawing_cnf.proofs.WholeLemmas.{last_rises, whole_sound, whole_tells}
 use Rattle.drawing_cnf.proofs.BoundedLemmas.{covers_with}
 

@@ -22,17 +22,17 @@ use Rattle.cnf_core.proofs.SettingLemmas.{same_none, patch, patch_same, extends_
 use Rattle.unary_sum.specs.Sum.{SumVars, sum_count, sum_clauses, sum_outputs, count_true, sum_at_least as sum_at_least}
 use Rattle.unary_sum.proofs.SumLemmas.{sum_means, sum_extends, sum_there}
 use Rattle.unary_sum.proofs.OutputLemmas.{sum_outputs_true, sum_outputs_there}
-use Rattle.edge_lines.proofs.StepLemmas.{up_diagonal, down_diagonal}
-use Rattle.edge_lines.proofs.GridLemmas.{heights_on_grid}
-use Rattle.edge_lines.proofs.RunLemmas.{one_if}
-use Rattle.edge_lines.proofs.DiagonalSteps.{diagonal_steps}
+use Rattle.edge_shape.proofs.StepLemmas.{up_diagonal, down_diagonal}
+use Rattle.edge_shape.proofs.GridLemmas.{heights_on_grid}
+use Rattle.edge_shape.proofs.RunLemmas.{one_if}
+use Rattle.edge_shape.proofs.DiagonalSteps.{diagonal_steps}
 use Rattle.edge_shape.specs.EdgeVars.{EdgeLits}
-use Rattle.law_clauses.specs.Stands.{DrawingVars, IsJoinedOnGrid}
+use Rattle.cnf_laws.specs.Stands.{DrawingVars, IsJoinedOnGrid}
 use Rattle.drawing_cnf.specs.Bounds.{IsExact, step_lits, steps_sum, gives_output, steps_beside, edge_steps, edges_steps, edges_outputs, edges_count, edge_most, sum_bound, diagonal_sum, diagonal_bound, diagonal_bound_size}
-use Rattle.law_clauses.proofs.GuardLemmas.{some_to}
-use Rattle.law_clauses.proofs.OverLemmas.{Read}
-use Rattle.law_clauses.proofs.ThereLemmas.{AreVars, EdgeThere, vars_more}
-use Rattle.law_clauses.proofs.InstanceLemmas.{read_stays}
+use Rattle.cnf_laws.proofs.GuardLemmas.{some_to}
+use Rattle.cnf_laws.proofs.OverLemmas.{Read}
+use Rattle.cnf_laws.proofs.ThereLemmas.{AreVars, EdgeThere, vars_more}
+use Rattle.cnf_laws.proofs.InstanceLemmas.{read_stays}
 use Rattle.drawing_cnf.proofs.BoundLemmas.{set_bound, sum_bound_means, sum_bound_extends, sum_bound_there, output_within, AreEdges, sum_over_lines}
 use Rattle.drawing_cnf.proofs.BendsBound.{line_bends}
 use Rattle.drawing_cnf.proofs.DiagonalLines.{west_diagonal, east_diagonal, bent_diagonal, low_diagonal, count_steps}

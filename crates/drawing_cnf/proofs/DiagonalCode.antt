@@ -23,11 +23,11 @@ use Rattle.cnf_core.proofs.StepLemmas.{grown}
 use Rattle.unary_sum.specs.Sum.{SumVars, sum_vars, sum_count, sum_clauses, sum_outputs}
 use Rattle.edge_shape.specs.EdgeVars.{EdgeSpot, lits_of, edge_size, EdgeIsPlaced}
 use Rattle.edge_shape.proofs.PlaceLemmas.{column_there}
-use Rattle.law_clauses.specs.Stands.{DrawingVars}
-use Rattle.law_clauses.specs.Expected.{drawing_vars, laws_first}
+use Rattle.cnf_laws.specs.Stands.{DrawingVars}
+use Rattle.cnf_laws.specs.Expected.{drawing_vars, laws_first}
 use Rattle.drawing_cnf.specs.Bounds.{west_first, step_lits, gives_output, slope_outputs, edge_steps, steps_sum, edges_steps, edges_sums, edges_outputs, edges_count, diagonal_sum, edge_most, sum_bound, diagonal_bound, diagonal_bound_size}
-use Rattle.law_clauses.proofs.BaseLemmas.{base_last, base_vars}
-use Rattle.law_clauses.proofs.ThereLemmas.{vars_more}
+use Rattle.cnf_laws.proofs.BaseLemmas.{base_last, base_vars}
+use Rattle.cnf_laws.proofs.ThereLemmas.{vars_more}
 use Rattle.drawing_cnf.proofs.BoundLemmas.{all_edges, edges_length}
 use Rattle.drawing_cnf.proofs.DiagonalBound.{outputs_there}
 use Rattle.drawing_cnf.proofs.ListCode.{AreInputs}

@@ -11,10 +11,10 @@ use Rattle.plan_core.specs.Line.{Piece, pieces_from, slope, slope_west, slope_ea
 use Rattle.plan_core.proofs.LineLemmas.{line_length}
 use Rattle.cnf_core.specs.Assignment.{Assignment}
 use Rattle.unary_sum.specs.Sum.{count_true}
-use Rattle.edge_lines.specs.Track.{step_slope}
-use Rattle.edge_lines.specs.Columns.{is_up, is_down}
-use Rattle.edge_lines.proofs.RunLemmas.{one_if}
-use Rattle.edge_lines.proofs.LineTrackLemmas.{three_slopes, shape_of}
+use Rattle.edge_shape.specs.Track.{step_slope}
+use Rattle.edge_shape.specs.Columns.{is_up, is_down}
+use Rattle.edge_shape.proofs.RunLemmas.{one_if}
+use Rattle.edge_shape.proofs.LineTrackLemmas.{three_slopes, shape_of}
 use Rattle.edge_shape.specs.EdgeVars.{EdgeLits}
 use Rattle.drawing_cnf.specs.Bounds.{step_lits}
 

@@ -28,18 +28,18 @@ use Rattle.cnf_core.proofs.SettingLemmas.{patch, patch_same}
 use Rattle.order_int.specs.IntVars.{IntVars, IntIsThere}
 use Rattle.order_int.specs.OrderInt.{int_at_least, Reads}
 use Rattle.order_int.proofs.IntLemmas.{at_least_within}
-use Rattle.edge_lines.specs.Track.{slope_by}
-use Rattle.edge_lines.specs.Columns.{is_up, is_down}
-use Rattle.edge_lines.proofs.StepLemmas.{up_is, down_is}
-use Rattle.edge_lines.proofs.RunLemmas.{line_west_slope, line_east_slope}
-use Rattle.edge_lines.proofs.GridLemmas.{on_grid_heights, heights_on_grid}
-use Rattle.edge_lines.proofs.LineHeights.{height_behind}
-use Rattle.law_clauses.specs.Stands.{DrawingVars, IsJoinedOnGrid}
+use Rattle.edge_shape.specs.Track.{slope_by}
+use Rattle.edge_shape.specs.Columns.{is_up, is_down}
+use Rattle.edge_shape.proofs.StepLemmas.{up_is, down_is}
+use Rattle.edge_shape.proofs.RunLemmas.{line_west_slope, line_east_slope}
+use Rattle.edge_shape.proofs.GridLemmas.{on_grid_heights, heights_on_grid}
+use Rattle.edge_shape.proofs.LineHeights.{height_behind}
+use Rattle.cnf_laws.specs.Stands.{DrawingVars, IsJoinedOnGrid}
 use Rattle.drawing_cnf.specs.Bounds.{IsExact, column_heights, all_heights, some_height_clause, height_gives, height_beside, edge_height_gives, height_at, height_bound}
-use Rattle.law_clauses.proofs.GuardLemmas.{Is, some_from, some_to}
-use Rattle.law_clauses.proofs.OverLemmas.{Read}
-use Rattle.law_clauses.proofs.ThereLemmas.{AreVars, EdgeThere, vars_more}
-use Rattle.law_clauses.proofs.InstanceLemmas.{drawing_stays}
+use Rattle.cnf_laws.proofs.GuardLemmas.{Is, some_from, some_to}
+use Rattle.cnf_laws.proofs.OverLemmas.{Read}
+use Rattle.cnf_laws.proofs.ThereLemmas.{AreVars, EdgeThere, vars_more}
+use Rattle.cnf_laws.proofs.InstanceLemmas.{drawing_stays}
 use Rattle.drawing_cnf.proofs.BoundLemmas.{either_of, set_bound}
 
 abbrev pub height_of : Drawing → ℕ

@@ -17,11 +17,11 @@ use Rattle.order_int.specs.IntVars.{int_vars}
 use Rattle.order_int.specs.OrderInt.{int_at_least}
 use Rattle.edge_shape.specs.EdgeVars.{EdgeLits, edge_lits, edge_size, height_first}
 use Rattle.edge_shape.proofs.PlaceLemmas.{blocks}
-use Rattle.law_clauses.specs.Stands.{DrawingVars}
-use Rattle.law_clauses.specs.Expected.{drawing_vars, edge_first, laws_first}
-use Rattle.law_clauses.proofs.BaseLemmas.{base_last, base_vars}
+use Rattle.cnf_laws.specs.Stands.{DrawingVars}
+use Rattle.cnf_laws.specs.Expected.{drawing_vars, edge_first, laws_first}
+use Rattle.cnf_laws.proofs.BaseLemmas.{base_last, base_vars}
 use Rattle.drawing_cnf.proofs.BoundLemmas.{all_edges, edges_length}
-use Rattle.law_clauses.proofs.ThereLemmas.{vars_more}
+use Rattle.cnf_laws.proofs.ThereLemmas.{vars_more}
 use Rattle.drawing_cnf.proofs.HeightBound.{both_within}
 use Rattle.drawing_cnf.proofs.WidthBound.{columns_within}
 use Rattle.drawing_cnf.proofs.BendsBound.{bends_lits_there}

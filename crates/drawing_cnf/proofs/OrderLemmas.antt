@@ -8,8 +8,8 @@ use Rattle.plan_core.specs.Grid.{GridSize}
 use Rattle.plan_core.specs.Graph.{Graph}
 use Rattle.cnf_core.specs.Clause.{words_of}
 use Rattle.cnf_core.proofs.ClauseLemmas.{words_append}
-use Rattle.law_clauses.specs.Stands.{DrawingVars}
-use Rattle.law_clauses.specs.Expected.{drawing_vars, formula_clauses, formula_size}
+use Rattle.cnf_laws.specs.Stands.{DrawingVars}
+use Rattle.cnf_laws.specs.Expected.{drawing_vars, formula_clauses, formula_size}
 use Rattle.drawing_cnf.specs.Bounds.{bound_size}
 use Rattle.drawing_cnf.specs.Bounded.{Bound, bound, clauses_of_bound, size_of_bound, bounds_clauses, bounds_from, expected_bounds, expected}
 use Rattle.drawing_cnf.specs.Whole.{bounds_last, expected_last}

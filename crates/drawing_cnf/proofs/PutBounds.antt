@@ -20,16 +20,16 @@ use Rattle.cnf_core.proofs.SettingLemmas.{same_none}
 use Rattle.unary_sum.specs.Sum.{SumVars, sum_vars, sum_count, sum_clauses, count_true, sum_at_least}
 use Rattle.unary_sum.proofs.SumLemmas.{sum_means, sum_there}
 use Rattle.drawing_cnf.specs.declared.kept_bound.KeptBound.{KeptBound}
-use Rattle.law_clauses.specs.Stands.{DrawingVars}
-use Rattle.law_clauses.specs.Expected.{drawing_vars}
+use Rattle.cnf_laws.specs.Stands.{DrawingVars}
+use Rattle.cnf_laws.specs.Expected.{drawing_vars}
 use Rattle.drawing_cnf.specs.Bounds.{IsExact, sum_bound, bend_lits, bends_sum, height_at, width_at, step_lits, steps_sum, edge_steps, edges_steps, edges_sums, edges_count, edge_most, diagonal_sum, steps_beside, west_first, bound_sums, bound_clauses, bound_size}
 use Rattle.drawing_cnf.specs.Bounded.{Bound, clauses_of_bound, size_of_bound, bounds_clauses, AreBehind}
 use Rattle.drawing_cnf.specs.Kept.{bound_of, HasSums, AreKept}
 use Rattle.drawing_cnf.specs.Whole.{bounds_last}
 use Rattle.drawing_cnf.specs.Puts.{IsPutTo, HoldsBefore, AreInRow, sums_size, sums_clauses}
-use Rattle.law_clauses.proofs.OverLemmas.{Read}
-use Rattle.law_clauses.proofs.ThereLemmas.{AreVars, vars_more}
-use Rattle.law_clauses.proofs.BaseLemmas.{base_last, base_vars}
+use Rattle.cnf_laws.proofs.OverLemmas.{Read}
+use Rattle.cnf_laws.proofs.ThereLemmas.{AreVars, vars_more}
+use Rattle.cnf_laws.proofs.BaseLemmas.{base_last, base_vars}
 use Rattle.drawing_cnf.proofs.BoundLemmas.{same_as_holds, bound_outputs, all_edges}
 use Rattle.drawing_cnf.proofs.BendsBound.{count_bends, bends_lits_there}
 use Rattle.drawing_cnf.proofs.HeightBound.{height_holds}

@@ -18,16 +18,16 @@ use Rattle.cnf_core.proofs.ClauseLemmas.{satisfies_append}
 use Rattle.cnf_core.proofs.SettingLemmas.{same_none}
 use Rattle.track_order.specs.Order.{EdgeOrder, is_above, is_overlap, IsOrderOf}
 use Rattle.edge_shape.specs.EdgeVars.{NodeInts}
-use Rattle.law_clauses.specs.Stands.{ReadsPoint}
-use Rattle.law_clauses.specs.LawClauses.{apart_size, apart_clauses, instance_size, instance_clauses, laws_size, laws_clauses}
-use Rattle.law_clauses.specs.Expected.{drawing_vars, instances_from, pairs_from, instance_pairs, edge_pair, instances}
+use Rattle.cnf_laws.specs.Stands.{ReadsPoint}
+use Rattle.cnf_laws.specs.LawClauses.{apart_size, apart_clauses, instance_size, instance_clauses, laws_size, laws_clauses}
+use Rattle.cnf_laws.specs.Expected.{drawing_vars, instances_from, pairs_from, instance_pairs, edge_pair, instances}
 use Rattle.drawing_cnf.specs.Puts.{IsPutTo, PutsLaws, ApartBits}
-use Rattle.law_clauses.proofs.ApartLemmas.{ordered_holds, differ_holds, west_holds}
-use Rattle.law_clauses.proofs.SlopeLemmas.{aligned_holds}
-use Rattle.law_clauses.proofs.OverLemmas.{Read, over_holds, parted_holds}
-use Rattle.law_clauses.proofs.InstanceLemmas.{drawing_stays}
-use Rattle.law_clauses.proofs.BaseLemmas.{base_last, base_vars}
-use Rattle.law_clauses.proofs.LawCode.{size_append, laws_append}
+use Rattle.cnf_laws.proofs.ApartLemmas.{ordered_holds, differ_holds, west_holds}
+use Rattle.cnf_laws.proofs.SlopeLemmas.{aligned_holds}
+use Rattle.cnf_laws.proofs.OverLemmas.{Read, over_holds, parted_holds}
+use Rattle.cnf_laws.proofs.InstanceLemmas.{drawing_stays}
+use Rattle.cnf_laws.proofs.BaseLemmas.{base_last, base_vars}
+use Rattle.cnf_laws.proofs.LawCode.{size_append, laws_append}
 
 -- the drawing is read still
 pub put_to_read : (g : Graph) (grid : GridSize) (d : Drawing) (v w : Assignment) (first : ℕ) → IsPutTo g grid d v first → ((y : ℕ) → y < first → w y ≡ v y) → Read w g (drawing_vars g grid) grid d

@@ -14,19 +14,19 @@ use Rattle.cnf_core.specs.Formula.{each}
 use Rattle.cnf_core.proofs.ClauseLemmas.{satisfies_append, satisfies_each, satisfies_all_same}
 use Rattle.order_int.specs.OrderInt.{int_clauses, Reads}
 use Rattle.order_int.proofs.IntLemmas.{int_holds, reads_same}
-use Rattle.edge_lines.specs.Joins.{JoinsPoints}
-use Rattle.edge_lines.proofs.GridLemmas.{heights_on_grid}
+use Rattle.edge_shape.specs.Joins.{JoinsPoints}
+use Rattle.edge_shape.proofs.GridLemmas.{heights_on_grid}
 use Rattle.edge_shape.specs.EdgeVars.{NodeInts, EdgeSpot, edge_spot, lits_of, edge_size, LieBefore}
 use Rattle.edge_shape.specs.Edge.{edge_clauses}
 use Rattle.edge_shape.specs.ReadsLine.{ReadsLine}
 use Rattle.edge_shape.proofs.PlaceLemmas.{blocks}
 use Rattle.edge_shape.proofs.SizeLemmas.{edge_there}
-use Rattle.law_clauses.specs.Rank.{west_rank}
-use Rattle.law_clauses.specs.Stands.{ReadsPoint, ReadsShape, ReadsDrawing, IsJoinedOnGrid}
-use Rattle.law_clauses.specs.Expected.{ints_at_place, drawing_vars, edge_first, laws_first, node_clauses, edge_part, base_clauses}
-use Rattle.law_clauses.proofs.RankLemmas.{rank_once}
-use Rattle.law_clauses.proofs.InstanceLemmas.{shape_stays}
-use Rattle.law_clauses.proofs.BaseLemmas.{NodesAreRead, EdgeHolds, shape_of, node_spot, edge_spot_in, edge_literals}
+use Rattle.cnf_laws.specs.Rank.{west_rank}
+use Rattle.cnf_laws.specs.Stands.{ReadsPoint, ReadsShape, ReadsDrawing, IsJoinedOnGrid}
+use Rattle.cnf_laws.specs.Expected.{ints_at_place, drawing_vars, edge_first, laws_first, node_clauses, edge_part, base_clauses}
+use Rattle.cnf_laws.proofs.RankLemmas.{rank_once}
+use Rattle.cnf_laws.proofs.InstanceLemmas.{shape_stays}
+use Rattle.cnf_laws.proofs.BaseLemmas.{NodesAreRead, EdgeHolds, shape_of, node_spot, edge_spot_in, edge_literals}
 
 -- NODES
 -- those of number below n are read

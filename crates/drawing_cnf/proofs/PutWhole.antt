@@ -7,12 +7,12 @@ use Rattle.cnf_core.specs.declared.limits.TheConstants.{VARS}
 use Rattle.cnf_core.specs.Clause.{Clauses}
 use Rattle.cnf_core.specs.Assignment.{Assignment, SatisfiesAll}
 use Rattle.cnf_core.proofs.ClauseLemmas.{satisfies_append, satisfies_all_same}
-use Rattle.law_clauses.specs.Stands.{ReadsDrawing, IsJoinedOnGrid, StandsFor}
-use Rattle.law_clauses.specs.LawClauses.{laws_clauses}
-use Rattle.law_clauses.specs.Expected.{drawing_vars, laws_first, base_clauses, instances, formula_clauses, formula_size}
+use Rattle.cnf_laws.specs.Stands.{ReadsDrawing, IsJoinedOnGrid, StandsFor}
+use Rattle.cnf_laws.specs.LawClauses.{laws_clauses}
+use Rattle.cnf_laws.specs.Expected.{drawing_vars, laws_first, base_clauses, instances, formula_clauses, formula_size}
 use Rattle.drawing_cnf.specs.Puts.{IsPutTo, HoldsBefore, PutsLaws}
-use Rattle.law_clauses.proofs.BaseLemmas.{base_last, base_there}
-use Rattle.law_clauses.proofs.MainLemmas.{reads_stand}
+use Rattle.cnf_laws.proofs.BaseLemmas.{base_last, base_there}
+use Rattle.cnf_laws.proofs.MainLemmas.{reads_stand}
 use Rattle.drawing_cnf.proofs.PutLaws.{put_to_read}
 
 pub put_base_to : (g : Graph) (grid : GridSize) (d : Drawing) (v : Assignment) → IsTrackGraph g → IsGrid grid → laws_first g grid ≤ VARS + 1 → IsJoinedOnGrid g grid d → ReadsDrawing v g (drawing_vars g grid) grid.width d → IsPutTo g grid d v (laws_first g grid)

@@ -14,17 +14,17 @@ use Rattle.cnf_core.specs.Clause.{Clauses}
 use Rattle.cnf_core.specs.Assignment.{Assignment, SatisfiesAll}
 use Rattle.cnf_core.proofs.ClauseLemmas.{satisfies_left}
 use Rattle.order_int.proofs.IntLemmas.{reads_once}
-use Rattle.edge_lines.proofs.LineHeights.{point_is}
-use Rattle.edge_lines.proofs.UniqueLemmas.{same_heights_same_line}
+use Rattle.edge_shape.proofs.LineHeights.{point_is}
+use Rattle.edge_shape.proofs.UniqueLemmas.{same_heights_same_line}
 use Rattle.track_order.specs.Order.{EdgeOrder, is_above, is_overlap, IsOrderOf}
-use Rattle.law_clauses.specs.Stands.{DrawingVars, StandsFor, IsJoinedOnGrid}
-use Rattle.law_clauses.specs.Expected.{instances, formula_clauses, formula_size}
+use Rattle.cnf_laws.specs.Stands.{DrawingVars, StandsFor, IsJoinedOnGrid}
+use Rattle.cnf_laws.specs.Expected.{instances, formula_clauses, formula_size}
 use Rattle.drawing_cnf.specs.Bounded.{Bound, size_of_bound, bounds_clauses, AreBehind, Tells, SoundWith}
 use Rattle.drawing_cnf.specs.Encoding.{Encoding, encoded_vars}
 use Rattle.drawing_cnf.specs.Whole.{drawing_clauses, drawing_last, bounds_last, IsWhole}
-use Rattle.law_clauses.proofs.BaseLemmas.{lawful_loose}
+use Rattle.cnf_laws.proofs.BaseLemmas.{lawful_loose}
 use Rattle.drawing_cnf.proofs.BoundedLemmas.{ReadsLawful, models_read, sound_with}
-use Rattle.law_clauses.proofs.MainLemmas.{all_listed, order_tables}
+use Rattle.cnf_laws.proofs.MainLemmas.{all_listed, order_tables}
 
 -- A FORMULA WITHOUT BOUNDS
 pub whole_of : (e : Encoding) (g : Graph) (o : EdgeOrder) (grid : GridSize) → e.graph ≡ g → e.order ≡ o → e.grid ≡ grid → IsOrderOf g o → e.formula.clauses ≡ formula_clauses g (is_above o) (is_overlap o) grid → e.formula.vars ≡ formula_size g (is_above o) (is_overlap o) grid → e.bounds ≡ [] → IsWhole e

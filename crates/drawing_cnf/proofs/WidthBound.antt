@@ -21,13 +21,13 @@ use Rattle.cnf_core.proofs.GatherLemmas.{value-flip, flip_within, clause_holds, 
 use Rattle.cnf_core.proofs.SettingLemmas.{patch, patch_same}
 use Rattle.order_int.specs.OrderInt.{int_at_least}
 use Rattle.order_int.proofs.IntLemmas.{at_least_within}
-use Rattle.edge_lines.proofs.GridLemmas.{heights_on_grid}
-use Rattle.law_clauses.specs.Stands.{DrawingVars, IsJoinedOnGrid}
+use Rattle.edge_shape.proofs.GridLemmas.{heights_on_grid}
+use Rattle.cnf_laws.specs.Stands.{DrawingVars, IsJoinedOnGrid}
 use Rattle.drawing_cnf.specs.Bounds.{IsExact, node_columns, some_column_clause, column_gives, width_at, width_bound}
-use Rattle.law_clauses.proofs.GuardLemmas.{Is, some_to}
-use Rattle.law_clauses.proofs.OverLemmas.{Read}
-use Rattle.law_clauses.proofs.ThereLemmas.{AreVars, vars_more}
-use Rattle.law_clauses.proofs.InstanceLemmas.{read_stays}
+use Rattle.cnf_laws.proofs.GuardLemmas.{Is, some_to}
+use Rattle.cnf_laws.proofs.OverLemmas.{Read}
+use Rattle.cnf_laws.proofs.ThereLemmas.{AreVars, vars_more}
+use Rattle.cnf_laws.proofs.InstanceLemmas.{read_stays}
 use Rattle.drawing_cnf.proofs.BoundLemmas.{either_of, set_bound}
 use Rattle.drawing_cnf.proofs.HeightBound.{off_or, both_within}
 

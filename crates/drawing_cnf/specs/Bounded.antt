@@ -11,8 +11,8 @@ use Rattle.plan_core.specs.Values.{values_of, value_of}
 use Rattle.plan_core.specs.Lawful.{Lawful}
 use Rattle.cnf_core.specs.Clause.{Clauses}
 use Rattle.cnf_core.specs.Assignment.{Assignment, SatisfiesAll}
-use Rattle.law_clauses.specs.Stands.{DrawingVars, StandsFor}
-use Rattle.law_clauses.specs.Expected.{drawing_vars, formula_clauses, formula_size}
+use Rattle.cnf_laws.specs.Stands.{DrawingVars, StandsFor}
+use Rattle.cnf_laws.specs.Expected.{drawing_vars, formula_clauses, formula_size}
 use Rattle.drawing_cnf.specs.Bounds.{IsExact, bound_clauses, bound_size}
 
 -- a criterion's bound: variable last + k says "at least k", for k from 1 to the cap

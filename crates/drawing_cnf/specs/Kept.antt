@@ -3,7 +3,7 @@ use Rattle.std.specs.Prelude.{◌≡◌, ⊤, List, [], ◌∷◌}
 use Rattle.plan_core.specs.Grid.{GridSize}
 use Rattle.plan_core.specs.Graph.{Graph}
 use Rattle.drawing_cnf.specs.declared.kept_bound.KeptBound.{KeptBound}
-use Rattle.law_clauses.specs.Expected.{drawing_vars}
+use Rattle.cnf_laws.specs.Expected.{drawing_vars}
 use Rattle.drawing_cnf.specs.Bounds.{bound_sums}
 use Rattle.drawing_cnf.specs.Bounded.{Bound, bound}
 

@@ -11,9 +11,9 @@ use Rattle.cnf_core.specs.declared.limits.TheConstants.{VARS}
 use Rattle.cnf_core.specs.Clause.{Clauses, AreThere}
 use Rattle.cnf_core.specs.Assignment.{Assignment, SatisfiesAll, SameOutside}
 use Rattle.unary_sum.specs.Sum.{SumVars, sum_count, sum_clauses}
-use Rattle.law_clauses.specs.Stands.{ReadsDrawing, IsJoinedOnGrid}
-use Rattle.law_clauses.specs.LawClauses.{laws_size, laws_clauses}
-use Rattle.law_clauses.specs.Expected.{drawing_vars, laws_first}
+use Rattle.cnf_laws.specs.Stands.{ReadsDrawing, IsJoinedOnGrid}
+use Rattle.cnf_laws.specs.LawClauses.{laws_size, laws_clauses}
+use Rattle.cnf_laws.specs.Expected.{drawing_vars, laws_first}
 
 -- the nodes' and the edges' variables have what the drawing has, and those from first on aren't theirs
 pub record IsPutTo (g : Graph) (grid : GridSize) (d : Drawing) (v : Assignment) (first : ℕ) : Type 0 where

@@ -5,8 +5,8 @@ use Rattle.plan_core.specs.Grid.{GridSize}
 use Rattle.plan_core.specs.Graph.{Graph}
 use Rattle.cnf_core.specs.Clause.{Clauses}
 use Rattle.track_order.specs.Order.{EdgeOrder, is_above, is_overlap, IsOrderOf}
-use Rattle.law_clauses.specs.Stands.{DrawingVars}
-use Rattle.law_clauses.specs.Expected.{drawing_vars, formula_clauses, formula_size}
+use Rattle.cnf_laws.specs.Stands.{DrawingVars}
+use Rattle.cnf_laws.specs.Expected.{drawing_vars, formula_clauses, formula_size}
 use Rattle.drawing_cnf.specs.Bounded.{Bound, bound, size_of_bound, bounds_clauses, AreBehind, expected_bounds}
 use Rattle.drawing_cnf.specs.Encoding.{Encoding, encoded_vars}
 

@@ -9,7 +9,7 @@ ghost use Rattle.cnf_core.specs.Clause.{words_of, IsNamed};
 ghost use Rattle.cnf_core.specs.Formula.{Passes};
 ghost use Rattle.cnf_core.specs.Added.{AddsBlock, TooMany};
 ghost use Rattle.track_order.specs.Order.{is_above};
-ghost use Rattle.law_clauses.specs.Expected.{laws_first, parts};
+ghost use Rattle.cnf_laws.specs.Expected.{laws_first, parts};
 ghost use Rattle.drawing_cnf.specs.Bounds.{reach_of};
 ghost use Rattle.drawing_cnf.specs.Bounded.{bound, clauses_of_bound, size_of_bound, longest_of_bound};
 ghost use Rattle.drawing_cnf.specs.Bounded.{SoundWith, CoversWith};

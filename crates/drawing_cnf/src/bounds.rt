@@ -3,7 +3,7 @@ ghost use Rattle.std.specs.Prelude.{◌≡◌, ◌≤◌, ◌+◌, ◌*◌, [], 
 ghost use Rattle.plan_core.specs.declared.criterion.Criterion.TheVariants.{Height, Bends, Diagonal, Width};
 ghost use Rattle.plan_core.specs.Values.{limit_of};
 ghost use Rattle.cnf_core.specs.Added.{AddsBlock};
-ghost use Rattle.law_clauses.specs.Expected.{drawing_vars, laws_first};
+ghost use Rattle.cnf_laws.specs.Expected.{drawing_vars, laws_first};
 ghost use Rattle.drawing_cnf.specs.Bounds.{bound_clauses, bound_size, bound_sums};
 ghost use Rattle.drawing_cnf.specs.Bounded.{longest_of_bound};
 

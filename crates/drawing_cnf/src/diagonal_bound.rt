@@ -8,7 +8,7 @@ ghost use Rattle.cnf_core.specs.LitOrTruth.{flip, IsWithin};
 ghost use Rattle.cnf_core.specs.Added.{AddsClauses, AddsBlock};
 ghost use Rattle.unary_sum.specs.Sum.{sum_vars, sum_count, sum_outputs};
 ghost use Rattle.edge_shape.specs.EdgeVars.{lits_of, edge_size, EdgeIsPlaced};
-ghost use Rattle.law_clauses.specs.Expected.{drawing_vars, laws_first};
+ghost use Rattle.cnf_laws.specs.Expected.{drawing_vars, laws_first};
 ghost use Rattle.drawing_cnf.specs.Bounds.{west_first, step_lits, gives_output, end_outputs, steps_beside, edge_steps};
 ghost use Rattle.drawing_cnf.specs.Bounds.{steps_sum};
 ghost use Rattle.drawing_cnf.specs.Bounds.{edges_steps, edges_sums, edges_count, edge_most, sum_bound, diagonal_count};
@@ -16,8 +16,8 @@ ghost use Rattle.drawing_cnf.specs.Bounds.{diagonal_sums, diagonal_bound, diagon
 
 use crate::sum_bounds::{add_sum_bound, literal_of};
 use cnf_core::{CnfFault, Formula, Lit, LitOrTruth};
+use cnf_laws::edge_vars;
 use edge_shape::EdgeVars;
-use law_clauses::edge_vars;
 use plan_core::{EdgeNo, Grid, OutOfMemory};
 use port_graph::PortGraph;
 use std::alloc::Global;

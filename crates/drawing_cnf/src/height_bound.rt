@@ -7,15 +7,15 @@ ghost use Rattle.cnf_core.specs.Formula.{each};
 ghost use Rattle.cnf_core.specs.Added.{AddsClauses, AddsBlock};
 ghost use Rattle.order_int.specs.IntVars.{IntIsThere};
 ghost use Rattle.edge_shape.specs.EdgeVars.{lits_of, edge_size};
-ghost use Rattle.law_clauses.specs.Expected.{drawing_vars, laws_first};
+ghost use Rattle.cnf_laws.specs.Expected.{drawing_vars, laws_first};
 ghost use Rattle.drawing_cnf.specs.Bounds.{gives_bound, column_gives_bound, beside_clause, height_beside};
 ghost use Rattle.drawing_cnf.specs.Bounds.{edge_height_gives};
 ghost use Rattle.drawing_cnf.specs.Bounds.{some_height_clause, height_at, height_bound, column_lits, height_lits};
 
 use crate::sum_bounds::literal_of;
 use cnf_core::{CnfFault, Formula, Lit, LitOrTruth, Var};
+use cnf_laws::{edge_vars, node_vars, yes_var};
 use edge_shape::EdgeVars;
-use law_clauses::{edge_vars, node_vars, yes_var};
 use order_int::OrderInt;
 use plan_core::{EdgeNo, Grid, OutOfMemory};
 use port_graph::PortGraph;

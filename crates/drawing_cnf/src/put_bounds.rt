@@ -5,7 +5,7 @@ ghost use Rattle.cnf_core.specs.Assignment.{SameOutside};
 ghost use Rattle.cnf_core.specs.Truths.{assignment};
 ghost use Rattle.plan_core.specs.Values.{values_of};
 ghost use Rattle.track_order.specs.Order.{is_above, is_overlap};
-ghost use Rattle.law_clauses.specs.Expected.{drawing_vars, formula_size};
+ghost use Rattle.cnf_laws.specs.Expected.{drawing_vars, formula_size};
 ghost use Rattle.drawing_cnf.specs.Bounds.{IsExact};
 ghost use Rattle.drawing_cnf.specs.Bounded.{bounds_clauses, AreBehind};
 ghost use Rattle.drawing_cnf.specs.Kept.{bound_of, AreKept};

@@ -8,13 +8,13 @@ ghost use Rattle.plan_core.specs.Graph.{mileage};
 ghost use Rattle.plan_core.specs.Laws.{NodesAreOrdered, NodesAreApart, EdgeIsOver, EdgesAreParted};
 ghost use Rattle.plan_core.specs.Lawful.{Apart, IsPair, IsAbovePair, IsOtherPair, Lawful};
 ghost use Rattle.track_order.specs.Order.{is_above, is_overlap, IsOrderOf};
-ghost use Rattle.law_clauses.specs.LawClauses.{apart_size, laws_size};
-ghost use Rattle.law_clauses.specs.Expected.{laws_first, pairs_from, instance_pairs, edge_pair, instances};
+ghost use Rattle.cnf_laws.specs.LawClauses.{apart_size, laws_size};
+ghost use Rattle.cnf_laws.specs.Expected.{laws_first, pairs_from, instance_pairs, edge_pair, instances};
 ghost use Rattle.drawing_cnf.specs.Puts.{IsPutTo, PutsLaws, ApartBits};
 
 use crate::put::Subject;
 use cnf_core::{Lit, Truths, Var};
-use law_clauses::is_settled;
+use cnf_laws::is_settled;
 use lawful_check::is_over;
 use plan_core::{EdgeNo, Grid, NodeNo, Point};
 use port_graph::PortGraph;

@@ -9,12 +9,12 @@ ghost use Rattle.cnf_core.specs.Formula.{each};
 ghost use Rattle.cnf_core.specs.Added.{AddsClauses, AddsBlock};
 ghost use Rattle.unary_sum.specs.Part.{IsLit};
 ghost use Rattle.unary_sum.specs.Sum.{sum_vars, sum_count, sum_at_least, count_true};
-ghost use Rattle.law_clauses.specs.Expected.{drawing_vars, laws_first};
+ghost use Rattle.cnf_laws.specs.Expected.{drawing_vars, laws_first};
 ghost use Rattle.drawing_cnf.specs.Bounds.{IsExact, same_as, sum_bound, bend_lits, bends_sum, bends_bound};
 ghost use Rattle.drawing_cnf.specs.Bounds.{bends_bound_size, west_first};
 
 use cnf_core::{CnfFault, Formula, Lit, LitOrTruth};
-use law_clauses::{edge_vars, same, yes_var};
+use cnf_laws::{edge_vars, same, yes_var};
 use plan_core::{EdgeNo, Grid, OutOfMemory};
 use port_graph::PortGraph;
 use std::alloc::Global;

@@ -3,12 +3,12 @@ ghost use Rattle.std.specs.Prelude.{◌≡◌, ◌≤◌, ◌+◌, length, IfOk}
 ghost use Rattle.cnf_core.specs.declared.limits.TheConstants.{VARS};
 ghost use Rattle.cnf_core.specs.Formula.{each};
 ghost use Rattle.cnf_core.specs.Added.{AddsClauses, AddsBlock};
-ghost use Rattle.law_clauses.specs.Expected.{drawing_vars, laws_first};
+ghost use Rattle.cnf_laws.specs.Expected.{drawing_vars, laws_first};
 ghost use Rattle.drawing_cnf.specs.Bounds.{column_gives, node_columns, some_column_clause, width_at, width_bound};
 
 use crate::height_bound::add_gives;
 use cnf_core::{CnfFault, Formula, LitOrTruth};
-use law_clauses::{node_vars, yes_var};
+use cnf_laws::{node_vars, yes_var};
 use plan_core::{Grid, NodeNo, OutOfMemory};
 use port_graph::PortGraph;
 use std::alloc::Global;

@@ -7,11 +7,11 @@ use Rattle.plan_core.specs.declared.point.Slope.TheVariants.{Level}
 use Rattle.plan_core.specs.Line.{is_line, west_end, east_end, height}
 use Rattle.cnf_core.specs.Assignment.{Assignment}
 use Rattle.cnf_core.specs.LitOrTruth.{value}
-use Rattle.edge_lines.specs.Track.{step_slope, same_slope}
-use Rattle.edge_lines.specs.Columns.{is_up, is_down, has_inner, steps_of, turns_behind}
-use Rattle.edge_lines.proofs.LineTrackLemmas.{line_again}
-use Rattle.edge_lines.proofs.LineHeights.{steps_are, line_is_flat, inner_before, inner_turns}
-use Rattle.edge_lines.proofs.StepLemmas.{level_outside}
+use Rattle.edge_shape.specs.Track.{step_slope, same_slope}
+use Rattle.edge_shape.specs.Columns.{is_up, is_down, has_inner, steps_of, turns_behind}
+use Rattle.edge_shape.proofs.LineTrackLemmas.{line_again}
+use Rattle.edge_shape.proofs.LineHeights.{steps_are, line_is_flat, inner_before, inner_turns}
+use Rattle.edge_shape.proofs.StepLemmas.{level_outside}
 use Rattle.edge_shape.specs.EdgeVars.{EdgeSpot, lits_of, up_at, down_at, bend_at}
 use Rattle.edge_shape.specs.ReadsLine.{ReadsLine}
 

@@ -4,11 +4,11 @@ use Rattle.std.specs.Prelude.{◌&&◌, ◌||◌}
 use Rattle.plan_core.specs.declared.point.Slope.TheVariants.{Down, Level, Up}
 use Rattle.cnf_core.specs.Assignment.{Assignment}
 use Rattle.cnf_core.specs.LitOrTruth.{value}
-use Rattle.edge_lines.specs.Track.{slope_by, step_slope, IsTrack}
+use Rattle.edge_shape.specs.Track.{slope_by, step_slope, IsTrack}
 use Rattle.edge_shape.specs.EdgeVars.{EdgeLits, before}
-use Rattle.edge_lines.specs.Columns.{within, is_up, is_down, is_level, is_level_step, seen_by}
-use Rattle.edge_lines.proofs.TrackLemmas.{slope_by_reaches}
-use Rattle.edge_lines.proofs.StepLemmas.{Is, up_is, down_is, is_level_by, within_true, within_parts, level_by, level_true, seen_true}
+use Rattle.edge_shape.specs.Columns.{within, is_up, is_down, is_level, is_level_step, seen_by}
+use Rattle.edge_shape.proofs.TrackLemmas.{slope_by_reaches}
+use Rattle.edge_shape.proofs.StepLemmas.{Is, up_is, down_is, is_level_by, within_true, within_parts, level_by, level_true, seen_true}
 use Rattle.edge_shape.proofs.FamilyLemmas.{StepFacts, ShapeFacts}
 use Rattle.edge_shape.proofs.HeightLemmas.{GoesBy, is_false, by_bools}
 

@@ -5,11 +5,11 @@ use Rattle.std.specs.List.{count_by, range_with_len}
 use Rattle.plan_core.specs.declared.point.Point.{Point}
 use Rattle.plan_core.specs.Line.{is_line, east_end, height, diagonal}
 use Rattle.cnf_core.specs.Assignment.{Assignment}
-use Rattle.edge_lines.specs.Track.{step_slope}
+use Rattle.edge_shape.specs.Track.{step_slope}
 use Rattle.edge_shape.specs.EdgeVars.{EdgeLits}
-use Rattle.edge_lines.specs.Columns.{is_up, is_down}
+use Rattle.edge_shape.specs.Columns.{is_up, is_down}
 use Rattle.edge_shape.specs.ReadsLine.{ReadsLine}
-use Rattle.edge_lines.proofs.DiagonalSteps.{count_same, diagonal_steps}
+use Rattle.edge_shape.proofs.DiagonalSteps.{count_same, diagonal_steps}
 
 pub diagonal_read : (v : Assignment) (e : EdgeLits) (width : ℕ) (line : List Point) → is_line line ≡ true → (east_end line).x ≤ width → ReadsLine v e width line → diagonal line ≡ count_by (λ c. v (e.up c) || v (e.down c)) (range_with_len 0 width)
 diagonal_read v e width line h size r =

@@ -11,13 +11,13 @@ use Rattle.order_int.specs.IntVars.{IntVars}
 use Rattle.order_int.specs.OrderInt.{int_clauses, Reads, le_clauses, equal_clauses}
 use Rattle.order_int.proofs.IntLemmas.{int_holds}
 use Rattle.order_int.proofs.OrderLemmas.{le_holds, equal_holds}
-use Rattle.edge_lines.specs.Track.{step_slope, IsTrack, IsFlatOutside}
+use Rattle.edge_shape.specs.Track.{step_slope, IsTrack, IsFlatOutside}
 use Rattle.edge_shape.specs.Rules.{rule_clauses, FollowsRules}
 use Rattle.edge_shape.specs.EdgeVars.{NodeInts, EdgeLits}
 use Rattle.edge_shape.specs.Edge.{range_rules, step_rules, height_clauses, seen_rules, shape_rules, end_rules, same_where, slope_rules, bend_rules, inner_rules, end_piece_rules, level_rules, beside_end_rules, step_clauses, end_clauses, column_clauses, whole_clauses, further_clauses, edge_clauses, ReadsTrack}
-use Rattle.edge_lines.specs.Columns.{is_up, is_down, is_level, has_level}
+use Rattle.edge_shape.specs.Columns.{is_up, is_down, is_level, has_level}
 use Rattle.edge_shape.proofs.RuleLemmas.{rules_hold}
-use Rattle.edge_lines.proofs.StepLemmas.{Is, up_is, down_is, turns_are, diagonal_bool, seen_to_end, track_reaches, through, one_slope_all, diagonal_inside, up_diagonal, down_diagonal, up_not_down}
+use Rattle.edge_shape.proofs.StepLemmas.{Is, up_is, down_is, turns_are, diagonal_bool, seen_to_end, track_reaches, through, one_slope_all, diagonal_inside, up_diagonal, down_diagonal, up_not_down}
 use Rattle.edge_shape.proofs.FamilyLemmas.{range_holds, step_holds, seen_holds, shape_holds, end_holds, same_holds, bend_holds, inner_holds, through_holds, level_holds, edge_holds}
 use Rattle.edge_shape.proofs.HeightLemmas.{height_holds}
 use Rattle.edge_shape.proofs.ColumnLemmas.{AreColumns}

@@ -8,16 +8,16 @@ use Rattle.order_int.specs.IntVars.{IntVars}
 use Rattle.order_int.specs.OrderInt.{int_clauses, Reads, number, le_clauses, equal_clauses}
 use Rattle.order_int.proofs.IntLemmas.{int_means}
 use Rattle.order_int.proofs.OrderLemmas.{le_means, equal_means}
-use Rattle.edge_lines.specs.Track.{step_slope, IsTrack, IsFlatOutside}
+use Rattle.edge_shape.specs.Track.{step_slope, IsTrack, IsFlatOutside}
 use Rattle.edge_shape.specs.Rules.{rule_clauses, FollowsRules}
 use Rattle.edge_shape.specs.EdgeVars.{NodeInts, EdgeLits}
 use Rattle.edge_shape.specs.Edge.{range_rules, step_rules, height_clauses, seen_rules, shape_rules, end_rules, same_where, slope_rules, bend_rules, inner_rules, end_piece_rules, level_rules, beside_end_rules, step_clauses, end_clauses, column_clauses, whole_clauses, further_clauses, edge_clauses, ReadsTrack}
-use Rattle.edge_lines.specs.Columns.{is_up, is_down, is_level, has_level}
+use Rattle.edge_shape.specs.Columns.{is_up, is_down, is_level, has_level}
 use Rattle.edge_shape.proofs.RuleLemmas.{rules_say}
 use Rattle.edge_shape.proofs.FamilyLemmas.{StepFacts, range_means, step_means, seen_means, shape_means, same_means, bend_means, inner_means}
 use Rattle.edge_shape.proofs.HeightLemmas.{height_means}
 use Rattle.edge_shape.proofs.ColumnLemmas.{AreColumns, columns-up, columns-down, columns-seen, columns_track, flat_west, flat_east}
-use Rattle.edge_lines.proofs.StepLemmas.{turns_are, diagonal_bool, seen_to_end}
+use Rattle.edge_shape.proofs.StepLemmas.{turns_are, diagonal_bool, seen_to_end}
 
 -- the edge's heights are integers of the grid's rows
 pub record HasRows (e : EdgeLits) (high width : ℕ) : Type 0 where

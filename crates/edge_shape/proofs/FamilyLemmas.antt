@@ -9,7 +9,7 @@ use Rattle.order_int.specs.OrderInt.{int_at_least, Reads}
 use Rattle.edge_shape.specs.Rules.{FollowsRules}
 use Rattle.edge_shape.specs.EdgeVars.{EdgeLits, before}
 use Rattle.edge_shape.specs.Edge.{range_rules, step_rules, seen_rules, shape_rules, end_rules, same_where, bend_rules, inner_rules, end_piece_rules, level_rules, beside_end_rules}
-use Rattle.edge_lines.proofs.StepLemmas.{Is}
+use Rattle.edge_shape.proofs.StepLemmas.{Is}
 
 range_bool : (i a b : Bool) → (Is i × (Is a × ⊤) → ⊥) × ((Is i × ⊤ → Is b ⊎ ⊥) × ((Is b × ⊤ → Is a ⊎ (Is i ⊎ ⊥)) × ⊤)) → i ≡ (not a && b)
 range_bool i a b h = grind (arith, h.0, h.1.0, h.1.1.0)

@@ -12,7 +12,7 @@ use Rattle.order_int.specs.OrderInt.{int_at_least, Reads, le_clauses}
 use Rattle.order_int.proofs.OrderLemmas.{le_means, le_holds}
 use Rattle.edge_shape.specs.EdgeVars.{EdgeLits}
 use Rattle.edge_shape.specs.Edge.{near_clause, near_clauses, height_clauses}
-use Rattle.edge_lines.proofs.StepLemmas.{Is}
+use Rattle.edge_shape.proofs.StepLemmas.{Is}
 
 -- a is at most b and 1
 pub near_means : (v : Assignment) (a b : IntVars) (m n high : ℕ) → Reads v a m → Reads v b n → m ≤ high → SatisfiesAll v (near_clauses a b high) → m ≤ n + 1

@@ -15,3 +15,15 @@ pub mod SettingLemmas
 pub mod SizeLemmas
 pub mod WordLemmas
 pub mod AccessLemmas
+pub mod TrackLemmas
+pub mod ShapeLemmas
+pub mod LineTrackLemmas
+pub mod RunLemmas
+pub mod LineHeights
+pub mod UniqueLemmas
+pub mod StepLemmas
+pub mod BendLemmas
+pub mod DiagonalSteps
+pub mod GridLemmas
+pub mod CodeLemmas
+pub mod TraceLemmas

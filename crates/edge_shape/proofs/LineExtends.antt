@@ -9,17 +9,17 @@ use Rattle.order_int.specs.IntVars.{IntVars, size}
 use Rattle.order_int.specs.OrderInt.{Reads}
 use Rattle.order_int.proofs.IntLemmas.{reads_same, reads_once}
 use Rattle.edge_shape.specs.EdgeVars.{NodeInts, EdgeLits, edge_lits, edge_size, LieBefore}
-use Rattle.edge_lines.specs.Columns.{is_level, has_level_piece}
+use Rattle.edge_shape.specs.Columns.{is_level, has_level_piece}
 use Rattle.edge_shape.specs.Edge.{edge_clauses}
 use Rattle.edge_shape.specs.ReadsLine.{ReadsLine, line_bits}
-use Rattle.edge_lines.specs.Joins.{JoinsPoints}
+use Rattle.edge_shape.specs.Joins.{JoinsPoints}
 use Rattle.edge_shape.specs.Setting.{set_edge}
-use Rattle.edge_lines.proofs.UniqueLemmas.{same_heights_same_line}
-use Rattle.edge_lines.proofs.RunLemmas.{one_if}
+use Rattle.edge_shape.proofs.UniqueLemmas.{same_heights_same_line}
+use Rattle.edge_shape.proofs.RunLemmas.{one_if}
 use Rattle.edge_shape.proofs.EdgeMeans.{HasRows}
 use Rattle.edge_shape.proofs.LineMeans.{lines_are_models}
 use Rattle.edge_shape.proofs.SettingLemmas.{set_same, edge_set}
-use Rattle.edge_lines.proofs.BendLemmas.{bends_are}
+use Rattle.edge_shape.proofs.BendLemmas.{bends_are}
 
 pub rows_of : (first high width : ℕ) → HasRows (edge_lits first high width) high width
 rows_of first high width = record { lowest = λ c le. refl; highest = λ c le. refl }

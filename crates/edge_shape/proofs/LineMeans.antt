@@ -7,18 +7,18 @@ use Rattle.plan_core.specs.Line.{is_line, height, west_end, east_end}
 use Rattle.plan_core.proofs.LineLemmas.{height-west_end, height-east_end}
 use Rattle.cnf_core.specs.Assignment.{Assignment, SatisfiesAll}
 use Rattle.order_int.specs.OrderInt.{Reads}
-use Rattle.edge_lines.specs.Track.{line_over}
-use Rattle.edge_lines.specs.Columns.{has_inner, is_up, is_down, is_level, has_level, steps_of}
+use Rattle.edge_shape.specs.Track.{line_over}
+use Rattle.edge_shape.specs.Columns.{has_inner, is_up, is_down, is_level, has_level, steps_of}
 use Rattle.edge_shape.specs.EdgeVars.{NodeInts, EdgeLits}
 use Rattle.edge_shape.specs.Edge.{ReadsTrack, edge_clauses}
 use Rattle.edge_shape.specs.ReadsLine.{ReadsLine, LineIsRead}
-use Rattle.edge_lines.specs.Joins.{JoinsPoints}
-use Rattle.edge_lines.proofs.ShapeLemmas.{track_is_line, track_east}
-use Rattle.edge_lines.proofs.LineTrackLemmas.{line_again}
-use Rattle.edge_lines.proofs.RunLemmas.{line_is_track, line_west_slope, line_east_slope}
+use Rattle.edge_shape.specs.Joins.{JoinsPoints}
+use Rattle.edge_shape.proofs.ShapeLemmas.{track_is_line, track_east}
+use Rattle.edge_shape.proofs.LineTrackLemmas.{line_again}
+use Rattle.edge_shape.proofs.RunLemmas.{line_is_track, line_west_slope, line_east_slope}
 use Rattle.edge_shape.proofs.EdgeMeans.{HasRows, edge_means}
 use Rattle.edge_shape.proofs.EdgeHolds.{edge_clauses_hold}
-use Rattle.edge_lines.proofs.LineHeights.{inner_turns, height_behind, steps_are, line_is_flat, heights_same, point_is}
+use Rattle.edge_shape.proofs.LineHeights.{inner_turns, height_behind, steps_are, line_is_flat, heights_same, point_is}
 
 -- a line that is read is a track that is read
 pub read_line : (v : Assignment) (e : EdgeLits) (width : ℕ) (line : List Point) → is_line line ≡ true → ReadsTrack v e width (height line) (west_end line).x (steps_of line) → ReadsLine v e width line

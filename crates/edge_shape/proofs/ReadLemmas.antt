@@ -6,11 +6,11 @@ use Rattle.plan_core.specs.declared.point.Slope.TheVariants.{Down, Level, Up}
 use Rattle.plan_core.proofs.PieceLemmas.{Reaches}
 use Rattle.cnf_core.specs.Assignment.{Assignment}
 use Rattle.cnf_core.specs.LitOrTruth.{value}
-use Rattle.edge_lines.specs.Track.{step_slope, IsTrack, IsFlatOutside}
+use Rattle.edge_shape.specs.Track.{step_slope, IsTrack, IsFlatOutside}
 use Rattle.edge_shape.specs.EdgeVars.{EdgeLits, before}
-use Rattle.edge_lines.specs.Columns.{within, is_up, is_down, is_level, is_level_step}
+use Rattle.edge_shape.specs.Columns.{within, is_up, is_down, is_level, is_level_step}
 use Rattle.edge_shape.specs.Edge.{ReadsTrack}
-use Rattle.edge_lines.proofs.StepLemmas.{Is, up_is, down_is, is_level_by, within_true, within_parts, level_by, diagonal_inside, up_diagonal, down_diagonal, up_not_down, track_reaches, seen_some, level_parts}
+use Rattle.edge_shape.proofs.StepLemmas.{Is, up_is, down_is, is_level_by, within_true, within_parts, level_by, diagonal_inside, up_diagonal, down_diagonal, up_not_down, track_reaches, seen_some, level_parts}
 use Rattle.edge_shape.proofs.FamilyLemmas.{StepFacts, ShapeFacts}
 use Rattle.edge_shape.proofs.HeightLemmas.{GoesBy}
 use Rattle.edge_shape.proofs.ColumnLemmas.{AreColumns}

@@ -4,7 +4,7 @@ use Rattle.plan_core.specs.declared.point.Point.{Point}
 use Rattle.cnf_core.specs.Clause.{Clauses}
 use Rattle.cnf_core.specs.Assignment.{Assignment, SatisfiesAll, Extends}
 use Rattle.order_int.specs.OrderInt.{Reads}
-use Rattle.edge_lines.specs.Joins.{JoinsPoints}
+use Rattle.edge_shape.specs.Joins.{JoinsPoints}
 use Rattle.edge_shape.specs.EdgeVars.{NodeInts, EdgeSpot, lits_of, edge_size, LieBefore}
 use Rattle.edge_shape.specs.Edge.{edge_clauses}
 use Rattle.edge_shape.specs.ReadsLine.{ReadsLine, LineIsRead}

@@ -7,10 +7,10 @@ use Rattle.cnf_core.specs.LitOrTruth.{yes, flip, clause_of}
 use Rattle.cnf_core.specs.Formula.{each}
 use Rattle.order_int.specs.IntVars.{IntVars}
 use Rattle.order_int.specs.OrderInt.{int_at_least, int_clauses, Reads, le_clauses, equal_clauses}
-use Rattle.edge_lines.specs.Track.{step_slope}
+use Rattle.edge_shape.specs.Track.{step_slope}
 use Rattle.edge_shape.specs.Rules.{Rule, rule, rule_clauses}
 use Rattle.edge_shape.specs.EdgeVars.{NodeInts, EdgeLits, before}
-use Rattle.edge_lines.specs.Columns.{is_up, is_down, is_level, within, seen_by, turns_behind, has_level}
+use Rattle.edge_shape.specs.Columns.{is_up, is_down, is_level, within, seen_by, turns_behind, has_level}
 
 -- which columns the line has
 abbrev pub range_rules : EdgeLits → IntVars → IntVars → ℕ → List Rule

@@ -4,3 +4,6 @@ pub mod Edge
 pub mod ReadsLine
 pub mod Between
 pub mod Setting
+pub mod Track
+pub mod Columns
+pub mod Joins

@@ -5,10 +5,10 @@ use Rattle.plan_core.specs.declared.point.Point.{Point}
 use Rattle.plan_core.specs.Line.{west_end, east_end, slope_west, slope_east, height}
 use Rattle.cnf_core.specs.Assignment.{Assignment}
 use Rattle.order_int.specs.OrderInt.{Reads}
-use Rattle.edge_lines.specs.Track.{step_slope}
-use Rattle.edge_lines.specs.Columns.{has_inner, is_up, is_down, is_level, line_is_level_from, has_level_piece}
+use Rattle.edge_shape.specs.Track.{step_slope}
+use Rattle.edge_shape.specs.Columns.{has_inner, is_up, is_down, is_level, line_is_level_from, has_level_piece}
 use Rattle.edge_shape.specs.EdgeVars.{EdgeLits}
-use Rattle.edge_lines.specs.Joins.{JoinsPoints}
+use Rattle.edge_shape.specs.Joins.{JoinsPoints}
 
 -- each variable has the truth value that its name says of the line
 pub record ReadsLine (v : Assignment) (e : EdgeLits) (width : ℕ) (line : List Point) : Type 0 where

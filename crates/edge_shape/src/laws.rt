@@ -6,9 +6,9 @@ ghost use Rattle.plan_core.specs.Line.{is_line, west_end, east_end, height, bend
 ghost use Rattle.cnf_core.specs.Assignment.{Assignment};
 ghost use Rattle.cnf_core.specs.LitOrTruth.{yes, value};
 ghost use Rattle.order_int.specs.OrderInt.{Reads};
-ghost use Rattle.edge_lines.specs.Track.{step_slope};
-ghost use Rattle.edge_lines.specs.Columns.{is_up, is_down, has_inner};
-ghost use Rattle.edge_lines.specs.Joins.{JoinsPoints};
+ghost use Rattle.edge_shape.specs.Track.{step_slope};
+ghost use Rattle.edge_shape.specs.Columns.{is_up, is_down, has_inner};
+ghost use Rattle.edge_shape.specs.Joins.{JoinsPoints};
 ghost use Rattle.edge_shape.specs.EdgeVars.{EdgeLits, EdgeSpot, lits_of, up_at, down_at, bend_at};
 ghost use Rattle.edge_shape.specs.ReadsLine.{ReadsLine};
 

@@ -7,8 +7,8 @@ ghost use Rattle.edge_shape.specs.ReadsLine.{whole_bits, line_bits};
 ghost use Rattle.edge_shape.specs.Setting.{bits, flags, setting, set_edge};
 
 use crate::places::Places;
+use crate::{has_inner, has_level, height_over, is_level_by, step_over};
 use cnf_core::{Lit, Truths, Var};
-use edge_lines::{has_inner, has_level, height_over, is_level_by, step_over};
 use plan_core::Slope;
 use plan_geometry::Line;
 

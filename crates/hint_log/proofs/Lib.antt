@@ -6,3 +6,8 @@ pub mod VerdictLemmas
 pub mod JudgeLemmas
 pub mod CheckerLemmas
 pub mod HintedLinesLemmas
+pub mod CutLemmas
+pub mod NumbersLemmas
+pub mod FormLemmas
+pub mod CapsLemmas
+pub mod OnceLemmas

@@ -55,9 +55,3 @@ unmarked_none table lits l m past = λ k h. elim (same_literal_or k l) [
   | inl e ↦ absurd (both_ways (marked table k) (get_or_past table (word_of k) false (subst (λ (x : Literal). length table ≤ word_of x) (sym e) past)) h)
   | inr ne ↦ sym (has_front lits l k ne) ∙ m k h
 ]
-
-pub new_marks : (n : ℕ) (beyond : BTreeSet ℕ) → IsEmpty beyond → AreMarkedBy (replicate n false) beyond []
-new_marks n beyond empty = record {
-  inside = λ k below. get_or-replicate n (word_of k) false false (omega (arith, below, length-replicate n false));
-  outside = λ k from. rw empty refl;
-}

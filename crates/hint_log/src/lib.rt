@@ -1,25 +1,43 @@
-//! Hinted logs: for each clause that a search learnt, the clauses from which it follows, so that a log
-//! is checked in one pass.
+//! Hinted lines: for each learnt clause the clauses from which it follows, so that one pass checks a log.
 //!
-//! A line is a clause and the numbers of clauses before it. `HintChecker` takes the lines one by one, and
-//! accepts exactly the good ones: each clause that is named has one literal left, and the last one has
-//! none. It looks at no other clause, and at each literal of those that are named by one read of a table;
-//! a variable that the formula lacks takes a search among such literals that are marked.
-//! `specs/Hint` says which lines are good and at which place a line fails, `specs/Checked` what a checker keeps,
-//! `specs/HintedLines` when lines one after another are good; `laws` states what follows from the definitions.
-//! `specs/Looks` is for private contracts alone. `judging` goes along a line's hints over the marks of `marks`. It
-//! stands on the clauses of `cnf_core` and the lines of `refute_log`, and shares nothing with a search.
+//! A line is a clause and the numbers of clauses before it. `HintChecker` accepts exactly the good lines: each clause
+//! that a line names has one literal left, and the last one has none. It reads one table entry for each literal of the
+//! named clauses; a variable that the formula lacks takes a search among such literals. `specs/Hint` says which lines
+//! are good and where a line fails, `specs/Checked` what a checker keeps, `specs/HintedLines` when lines in a row are
+//! good; `laws` says what follows. `judging` goes along a line's hints over the marks of `marks`; `specs/Looks` is for
+//! private contracts.
+//!
+//! The text has a first line, a line of caps (`capping`) and the hinted lines. `write_hint` writes one, `read_hint`
+//! reads one (`reading`, `cutting`, `numbers`). `specs/HintText` has the texts, `specs/HintForm` and `specs/HintFaults`
+//! say what a text is as a line, or its fault, `specs/Caps` the same of the caps, and `text_laws` that texts are read
+//! in one way. The crate uses clauses and log lines alone; it shares nothing with a search. `log_check` and `log_trim`
+//! use it.
 #![tactic(auto)]
 
+mod capping;
 mod checker;
+mod cutting;
 mod fault;
 mod hint_line;
 mod judging;
 mod laws;
 mod looks;
 mod marks;
+mod numbers;
+mod reading;
+mod text_fault;
+mod text_laws;
+mod writing;
 
+pub use capping::{are_in_range, read_caps};
 pub use checker::HintChecker;
 pub use fault::HintFault;
 pub use hint_line::{HintLine, HintList, Numbers};
 pub use laws::{good_lines_follow, good_or_failing_at_one_place};
+pub use reading::read_hint;
+pub use text_fault::{HintTextFault, HintsWhat};
+pub use text_laws::{
+    one_hint_form, one_hint_or_one_fault, one_hinted_line, one_line_of_caps,
+    written_hints_are_read_again,
+};
+pub use writing::{write_caps, write_hint};

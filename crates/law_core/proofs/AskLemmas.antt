@@ -19,13 +19,13 @@ use Rattle.cnf_core.proofs.ClauseLemmas.{satisfies_left}
 use Rattle.cnf_core.proofs.PropagationLemmas.{only_one}
 use Rattle.drawing_cnf.specs.Stands.{StandsFor, IsJoinedOnGrid}
 use Rattle.drawing_cnf.specs.Expected.{drawing_vars, laws_first, base_clauses}
-use Rattle.drawing_problem.specs.Layout.{Layout}
+use Rattle.drawing_cnf.specs.Layout.{Layout}
 use Rattle.cdcl_core.specs.Kept.{Kept, MakesTrue, HasModel, AreRefuted}
 use Rattle.lex_minimise.proofs.GrowLemmas.{named_in}
-use Rattle.why_search.specs.Task.{MeetsAt}
-use Rattle.why_search.specs.Asked.{AreLawPlaces, NoneMeetsLaws}
-use Rattle.why_search.specs.Narrowed.{has_number}
-use Rattle.why_search.proofs.PlaceLemmas.{has_contained}
+use Rattle.search_why.specs.Task.{MeetsAt}
+use Rattle.search_why.specs.Asked.{AreLawPlaces, NoneMeetsLaws}
+use Rattle.search_why.specs.Narrowed.{has_number}
+use Rattle.search_why.proofs.PlaceLemmas.{has_contained}
 use Rattle.law_core.specs.Choices.{choice_size, choices_size, choices_clauses, selectors, loose_clauses}
 use Rattle.law_core.specs.Chosen.{selector_at, ChoiceModel}
 use Rattle.law_core.specs.Known.{laws_of, formula_of, task_of, IsWhyFormula, AreSelecting, IsReady}

@@ -16,24 +16,24 @@ use Rattle.refute_log.specs.ToldTo.{IsToldTo}
 use Rattle.refute_log.specs.Log.{learnt, clause_lines}
 use Rattle.refute_log.specs.Steps.{ToldBehind, GoesOn, Leaves}
 use Rattle.refute_log.proofs.LogLemmas.{derives_none}
-use Rattle.certified_values.specs.declared.stop.Stop.TheVariants.{BudgetSpent, RoomFull}
+use Rattle.refute_log.specs.declared.stop.Stop.TheVariants.{BudgetSpent, RoomFull}
 use Rattle.drawing_cnf.specs.Expected.{laws_first}
-use Rattle.drawing_problem.specs.Layout.{Layout}
+use Rattle.drawing_cnf.specs.Layout.{Layout}
 use Rattle.cdcl_core.specs.Kept.{Kept, AreGiven, blank, with_more_vars}
 use Rattle.cdcl_core.specs.Belongs.{Belongs}
 use Rattle.cdcl_core.proofs.ViewLemmas.{new_given, new_belongs}
-use Rattle.lex_search.proofs.BuildLemmas.{formulas_are_clauses}
+use Rattle.search_least.proofs.BuildLemmas.{formulas_are_clauses}
 use Rattle.lex_minimise.specs.Told.{HasTaken, IsLogOfSolver}
 use Rattle.lex_minimise.proofs.TellLemmas.{goes_weaker}
 use Rattle.lex_minimise.proofs.GrowLemmas.{formula_count}
 use Rattle.lex_minimise.proofs.StartLemmas.{told_whole}
-use Rattle.why_search.specs.declared.outcome.Outcome.{Outcome}
-use Rattle.why_search.specs.declared.outcome.Outcome.TheVariants.{Exists, Laws, Stopped}
-use Rattle.why_search.specs.Explained.{IsChoice, IsChoiceOf, AreWithout}
-use Rattle.why_search.specs.Task.{law_at, HasAllLaws}
+use Rattle.search_why.specs.declared.outcome.Outcome.{Outcome}
+use Rattle.search_why.specs.declared.outcome.Outcome.TheVariants.{Exists, Laws, Stopped}
+use Rattle.search_why.specs.Explained.{IsChoice, IsChoiceOf, AreWithout}
+use Rattle.search_why.specs.Task.{law_at, HasAllLaws}
 use Rattle.track_order.specs.Order.{is_above, is_overlap, IsOrderOf}
 use Rattle.drawing_cnf.proofs.MainLemmas.{order_tables}
-use Rattle.why_search.specs.Outcome.{laws_at, IsRightOutcome, TellsOutcome}
+use Rattle.search_why.specs.Outcome.{laws_at, IsRightOutcome, TellsOutcome}
 use Rattle.law_core.specs.declared.parties.Law.{Law}
 use Rattle.law_core.specs.declared.ending.Why.{Why}
 use Rattle.law_core.specs.declared.ending.Why.TheVariants as why

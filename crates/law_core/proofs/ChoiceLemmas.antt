@@ -22,7 +22,7 @@ use Rattle.drawing_cnf.proofs.ThereLemmas.{AreVars, vars_more, ordered_there, al
 use Rattle.drawing_cnf.proofs.InstanceLemmas.{drawing_stays}
 use Rattle.drawing_cnf.proofs.BaseLemmas.{base_last, base_vars}
 use Rattle.drawing_cnf.proofs.OneLaw.{ordered_says, ordered_allows, aligned_says, aligned_allows, anywhere_says, anywhere_allows, over_says, over_allows, parted_says, parted_allows}
-use Rattle.why_search.specs.Explained.{IsChoice}
+use Rattle.search_why.specs.Explained.{IsChoice}
 use Rattle.law_core.specs.Choices.{law_size, law_clauses, choice_size, choice_clauses, choices_size, choices_clauses, selectors}
 
 -- ---- one law

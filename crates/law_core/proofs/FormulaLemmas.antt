@@ -13,8 +13,8 @@ use Rattle.drawing_cnf.specs.Expected.{drawing_vars, laws_first, base_clauses, i
 use Rattle.drawing_cnf.proofs.InstanceLemmas.{AreInstances, drawing_stays}
 use Rattle.drawing_cnf.proofs.BaseLemmas.{base_means, base_last, base_vars, base_there, BaseHolds, base_extends}
 use Rattle.drawing_cnf.proofs.MainLemmas.{reads_stand, HasClauses, AreTablesOf, all_listed}
-use Rattle.why_search.specs.Explained.{IsChoice, IsChoiceOf}
-use Rattle.why_search.specs.Task.{HasAllLaws}
+use Rattle.search_why.specs.Explained.{IsChoice, IsChoiceOf}
+use Rattle.search_why.specs.Task.{HasAllLaws}
 use Rattle.law_core.specs.Choices.{choices_size, choices_clauses, loose_clauses, why_clauses}
 use Rattle.law_core.specs.Chosen.{SoundChoices, CoversChoices}
 use Rattle.law_core.proofs.LooseLemmas.{joined_loose, loose_joined}

@@ -5,9 +5,9 @@ use Rattle.plan_core.specs.Grid.{GridSize}
 use Rattle.plan_core.specs.Graph.{Graph, edge, IsTrackGraph}
 use Rattle.plan_core.specs.Line.{is_line}
 use Rattle.plan_core.specs.Drawing.{Drawing, line}
-use Rattle.edge_lines.proofs.GridLemmas.{on_grid_heights, heights_on_grid}
+use Rattle.edge_shape.proofs.GridLemmas.{on_grid_heights, heights_on_grid}
 use Rattle.drawing_cnf.specs.Stands.{IsJoinedOnGrid}
-use Rattle.why_search.specs.Explained.{IsLoose}
+use Rattle.search_why.specs.Explained.{IsLoose}
 
 pub joined_loose : (g : Graph) (grid : GridSize) (d : Drawing) → IsJoinedOnGrid g grid d → IsLoose g grid d
 joined_loose g grid d h = record {

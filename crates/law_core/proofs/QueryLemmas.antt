@@ -8,19 +8,19 @@ use Rattle.refute_log.specs.Told.{Lines}
 use Rattle.refute_log.specs.Log.{learnt, Open, clause_lines}
 use Rattle.refute_log.specs.Steps.{GoesOn, Leaves}
 use Rattle.refute_log.proofs.StepLemmas.{leaves_same, leaves_then, clause_lines_append}
-use Rattle.certified_values.specs.Full.{NextClausePasses}
-use Rattle.certified_values.specs.declared.stop.Stop.TheVariants.{BudgetSpent, RoomFull}
-use Rattle.drawing_problem.specs.Layout.{Layout}
+use Rattle.refute_log.specs.Full.{NextClausePasses}
+use Rattle.refute_log.specs.declared.stop.Stop.TheVariants.{BudgetSpent, RoomFull}
+use Rattle.drawing_cnf.specs.Layout.{Layout}
 use Rattle.cdcl_core.specs.declared.answer.Answer.{Answer}
 use Rattle.cdcl_core.specs.declared.answer.Answer.TheVariants.{Model, Refuted as RefutedAnswer, Spent, Room}
 use Rattle.cdcl_core.specs.Kept.{Kept, HasLearnt, AreGiven, IsTrueAnswer}
 use Rattle.cdcl_core.specs.Belongs.{Belongs, search_lines, EndsWith, HasSpent, HasSolved}
 use Rattle.cdcl_core.proofs.LeftLemmas.{clause_searched, within_spent}
 use Rattle.lex_minimise.proofs.AskLemmas.{learnt_of_search, count_of_search, is_open, has_no_room, count_after}
-use Rattle.why_search.specs.declared.oracle.Reply.{Reply}
-use Rattle.why_search.specs.declared.oracle.Reply.TheVariants.{Found, Refuted, Stopped}
-use Rattle.why_search.specs.Task.{Task}
-use Rattle.why_search.specs.Asked.{TellsReply}
+use Rattle.search_why.specs.declared.oracle.Reply.{Reply}
+use Rattle.search_why.specs.declared.oracle.Reply.TheVariants.{Found, Refuted, Stopped}
+use Rattle.search_why.specs.Task.{Task}
+use Rattle.search_why.specs.Asked.{TellsReply}
 use Rattle.law_core.specs.Known.{formula_of, task_of, IsReady, KnowsWhy, TellsAnswer}
 use Rattle.law_core.specs.Query.{IsReplyOf}
 

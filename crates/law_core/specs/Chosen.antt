@@ -9,8 +9,8 @@ use Rattle.cnf_core.specs.Assignment.{Assignment, SatisfiesAll}
 use Rattle.drawing_cnf.specs.Stands.{StandsFor}
 use Rattle.drawing_cnf.specs.Expected.{drawing_vars, laws_first, instances}
 use Rattle.track_order.specs.Order.{EdgeOrder, is_above, is_overlap}
-use Rattle.why_search.specs.Explained.{IsLoose}
-use Rattle.why_search.specs.Task.{Task}
+use Rattle.search_why.specs.Explained.{IsLoose}
+use Rattle.search_why.specs.Task.{Task}
 use Rattle.law_core.specs.Choices.{selectors, why_clauses}
 
 -- the law at a place, and its selecting variable; nothing asks for them past the list's end

@@ -9,15 +9,15 @@ use Rattle.track_order.specs.Order.{is_above, is_overlap, IsOrderOf}
 use Rattle.refute_log.specs.declared.line.LogLine.TheVariants.{Formula}
 use Rattle.refute_log.specs.Told.{Lines}
 use Rattle.refute_log.specs.Log.{added, learnt, clause_lines}
-use Rattle.certified_values.specs.declared.stop.Stop.TheVariants.{BudgetSpent, RoomFull}
-use Rattle.certified_values.specs.Cause.{IsCause}
+use Rattle.refute_log.specs.declared.stop.Stop.TheVariants.{BudgetSpent, RoomFull}
+use Rattle.refute_log.specs.Cause.{IsCause}
 use Rattle.drawing_cnf.specs.Expected.{laws_first, instances}
-use Rattle.drawing_problem.specs.Layout.{Layout}
+use Rattle.drawing_cnf.specs.Layout.{Layout}
 use Rattle.cdcl_core.specs.declared.answer.Answer.{Answer}
 use Rattle.cdcl_core.specs.declared.answer.Answer.TheVariants.{Model, Refuted, Spent, Room}
 use Rattle.cdcl_core.specs.Kept.{Kept, AreGiven}
 use Rattle.cdcl_core.specs.Belongs.{Belongs}
-use Rattle.why_search.specs.Task.{Task}
+use Rattle.search_why.specs.Task.{Task}
 use Rattle.law_core.specs.declared.parties.Law.{Law}
 use Rattle.law_core.specs.Law.{instance_of}
 use Rattle.law_core.specs.Choices.{why_clauses, why_size, selectors}

@@ -1,11 +1,11 @@
 -- A question as assumptions of the solver, which places a refutation needs, and which reply is of which answer.
 use Rattle.std.specs.Prelude.{⊤, ℕ, Bool, false, ◌||◌, ◌==◌, List, [], ◌∷◌, map, filter, slice_index_or}
 use Rattle.cnf_core.specs.Lit.{Literal, positive_of}
-use Rattle.certified_values.specs.declared.stop.Stop.TheVariants.{BudgetSpent, RoomFull}
+use Rattle.refute_log.specs.declared.stop.Stop.TheVariants.{BudgetSpent, RoomFull}
 use Rattle.cdcl_core.specs.declared.answer.Answer.{Answer}
 use Rattle.cdcl_core.specs.declared.answer.Answer.TheVariants.{Model, Refuted as RefutedAnswer, Spent, Room}
-use Rattle.why_search.specs.declared.oracle.Reply.{Reply}
-use Rattle.why_search.specs.declared.oracle.Reply.TheVariants.{Found, Refuted, Stopped}
+use Rattle.search_why.specs.declared.oracle.Reply.{Reply}
+use Rattle.search_why.specs.declared.oracle.Reply.TheVariants.{Found, Refuted, Stopped}
 
 -- the selecting variables of the laws at these places are true
 abbrev pub query_of : (selecting wanted : List ℕ) → List Literal

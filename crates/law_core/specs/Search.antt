@@ -3,9 +3,9 @@ use Rattle.std.specs.Prelude.{ℕ, List}
 use Rattle.cnf_core.specs.Clause.{Clauses}
 use Rattle.cnf_core.specs.Lit.{Literal}
 use Rattle.refute_log.specs.Told.{Lines}
-use Rattle.drawing_problem.specs.Layout.{Layout, layout}
+use Rattle.drawing_cnf.specs.Layout.{Layout, layout}
 use Rattle.cdcl_core.specs.Kept.{Kept}
-use Rattle.why_search.specs.Task.{Task}
+use Rattle.search_why.specs.Task.{Task}
 use Rattle.law_core.specs.declared.asking.WhyKnown.{WhyKnown}
 use Rattle.law_core.specs.Known.{formula_of, task_of, IsReady, KnowsWhy}
 use Rattle.law_core.specs.Query.{query_of}

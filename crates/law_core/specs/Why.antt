@@ -10,13 +10,13 @@ use Rattle.refute_log.specs.declared.line.LogLine.TheVariants.{Formula}
 use Rattle.refute_log.specs.Lines.{MayAllBeTold}
 use Rattle.refute_log.specs.Told.{Lines}
 use Rattle.refute_log.specs.Log.{added, learnt, Derives, Due, BeginsLines, clause_lines}
-use Rattle.certified_values.specs.declared.stop.Stop.TheVariants.{BudgetSpent, RoomFull}
-use Rattle.certified_values.specs.Cause.{IsCause}
-use Rattle.drawing_problem.specs.Layout.{Layout}
-use Rattle.why_search.specs.declared.outcome.Outcome.{Outcome}
-use Rattle.why_search.specs.declared.outcome.Outcome.TheVariants as outcome
-use Rattle.why_search.specs.Explained.{IsExplanation, AreWithout}
-use Rattle.why_search.specs.Task.{Task}
+use Rattle.refute_log.specs.declared.stop.Stop.TheVariants.{BudgetSpent, RoomFull}
+use Rattle.refute_log.specs.Cause.{IsCause}
+use Rattle.drawing_cnf.specs.Layout.{Layout}
+use Rattle.search_why.specs.declared.outcome.Outcome.{Outcome}
+use Rattle.search_why.specs.declared.outcome.Outcome.TheVariants as outcome
+use Rattle.search_why.specs.Explained.{IsExplanation, AreWithout}
+use Rattle.search_why.specs.Task.{Task}
 use Rattle.law_core.specs.declared.ending.Why.{Why}
 use Rattle.law_core.specs.declared.ending.Why.TheVariants.{Exists, Laws, Spent, Room}
 use Rattle.law_core.specs.Chosen.{listed_law}

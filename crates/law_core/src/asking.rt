@@ -6,21 +6,20 @@ ghost use Rattle.cnf_core.specs.declared.limits.TheConstants.{VARS};
 ghost use Rattle.cnf_core.specs.Lit.{positive_of};
 ghost use Rattle.cdcl_core.specs.Kept.{IsTrueAnswer, HasRefuted};
 ghost use Rattle.refute_log.specs.Steps.{GoesOn, Leaves};
-ghost use Rattle.why_search.specs.Asked.{AreLawPlaces, IsRightReply, TellsReply};
+ghost use Rattle.search_why.specs.Asked.{AreLawPlaces, IsRightReply, TellsReply};
 ghost use Rattle.law_core.specs.Known.{TellsAnswer};
 ghost use Rattle.law_core.specs.Query.{query_of, has_variable, places_in, IsReplyOf};
 ghost use Rattle.law_core.specs.Search.{task_with, formula_with, query_with, IsReadyWith, KnowsWith};
 
 use cdcl_core::{Answer, SolveFault, Solver};
-use certified_values::Stop;
 use cnf_core::{Lit, Var};
 use model_decode::decode_loose;
 use plan_core::{Grid, Items, OutOfMemory};
 use port_graph::PortGraph;
-use refute_log::LogSink;
+use refute_log::{LogSink, Stop};
+use search_why::{Reply, WhyFault};
 use std::alloc::Global;
 use track_order::TrackOrder;
-use why_search::{Reply, WhyFault};
 
 /// What a search keeps beside the solver and the log.
 #[derive(Drop)]

@@ -10,10 +10,10 @@ ghost use Rattle.refute_log.specs.ToldTo.{told_to};
 ghost use Rattle.refute_log.specs.Steps.{ToldBehind, GoesOn, Leaves};
 ghost use Rattle.cdcl_core.specs.Kept.{blank, with_more_vars};
 ghost use Rattle.cdcl_core.specs.Belongs.{Belongs};
-ghost use Rattle.drawing_problem.specs.Layout.{layout};
+ghost use Rattle.drawing_cnf.specs.Layout.{layout};
 ghost use Rattle.lex_minimise.specs.Told.{HasTaken};
-ghost use Rattle.why_search.specs.Task.{HasAllLaws};
-ghost use Rattle.why_search.specs.Outcome.{IsRightOutcome, TellsOutcome};
+ghost use Rattle.search_why.specs.Task.{HasAllLaws};
+ghost use Rattle.search_why.specs.Outcome.{IsRightOutcome, TellsOutcome};
 ghost use Rattle.law_core.specs.Known.{task_of, HasFormula};
 ghost use Rattle.law_core.specs.Search.{task_with, IsReadyWith, KnowsWith};
 ghost use Rattle.law_core.specs.Why.{IsRightWhy, IsWhyLog, IsWhyLeft};
@@ -27,13 +27,13 @@ use crate::whole::{WhyFormula, why_formula};
 use cdcl_core::Solver;
 use cnf_core::{CnfFault, Formula};
 use lex_minimise::{Limits, add_clauses};
-use lex_search::MinFault;
 use plan_core::Grid;
 use port_graph::PortGraph;
 use refute_log::LogSink;
+use search_least::MinFault;
+use search_why::{Outcome, WhyFault, find_laws};
 use std::alloc::Global;
 use track_order::TrackOrder;
-use why_search::{Outcome, WhyFault, find_laws};
 
 /// Gives a new solver the formula's variables and clauses.
 fn begin<L: LogSink>(formula: &Formula, solver: &mut Solver, log: &mut L) -> Result<(), WhyFault>

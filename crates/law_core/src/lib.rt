@@ -6,7 +6,7 @@
 //! them. Every model stands for a loose drawing that meets each selected law, and every loose drawing, with each choice
 //! of laws that it meets, has a model. `specs/Choices` is the clause list, `specs/Chosen` both directions; the laws'
 //! clauses are those of `drawing_cnf`, unless the law isn't selected. A loose drawing and an explanation are
-//! `why_search`'s words. The crate stands on `drawing_cnf`, `lawful_check` and `why_search`.
+//! `search_why`'s words. The crate stands on `drawing_cnf`, `lawful_check` and `search_why`.
 #![tactic(auto)]
 
 mod asking;
@@ -28,5 +28,5 @@ pub use formula::loose_formula;
 pub use laws::{all_laws_are_listed, loose_drawings_are_joined, selectors_are_apart};
 pub use listing::all_laws;
 pub use parties::Law;
+pub use search_why::WhyFault;
 pub use whole::{WhyFormula, why_formula};
-pub use why_search::WhyFault;

@@ -8,11 +8,11 @@ ghost use Rattle.law_core.specs.Why.{HasLawPlaces, IsWhyOf};
 
 use crate::ending::Why;
 use crate::parties::Law;
-use certified_values::Stop;
 use lawful_check::LawBreak;
 use plan_core::{Items, OutOfMemory};
+use refute_log::Stop;
+use search_why::Outcome;
 use std::alloc::Global;
-use why_search::Outcome;
 
 /// The name of the law at a place.
 fn name_at(laws: &[Law], n: u32) -> LawBreak

@@ -2,7 +2,7 @@
 use crate::asking::{WhyKnown, ask};
 use cdcl_core::Solver;
 use refute_log::LogSink;
-use why_search::{LawOracle, Reply, WhyFault};
+use search_why::{LawOracle, Reply, WhyFault};
 
 /// What is asked: all of it is lent.
 #[derive(Drop)]

@@ -21,8 +21,8 @@ use Rattle.refute_log.specs.declared.line.LogLine.{LogLine}
 use Rattle.refute_log.specs.declared.line.LogLine.TheVariants.{Formula, Learnt, Bound as BoundLine, Query, Refuted as RefutedLine, Model as ModelLine}
 use Rattle.refute_log.specs.Told.{Lines}
 use Rattle.refute_log.specs.Log.{asked, learnt, facts_of, Open, clause_line, clause_lines}
-use Rattle.certified_values.specs.Bounds.{SaysAtLeast}
-use Rattle.certified_values.specs.Full.{NextClausePasses}
+use Rattle.refute_log.specs.Bounds.{SaysAtLeast}
+use Rattle.refute_log.specs.Full.{NextClausePasses}
 use Rattle.drawing_cnf.specs.Expected.{drawing_vars, formula_size}
 use Rattle.drawing_cnf.specs.Bounds.{IsExact}
 use Rattle.drawing_cnf.specs.Bounded.{Bound, Tells}
@@ -30,15 +30,15 @@ use Rattle.cdcl_core.specs.declared.answer.Answer.{Answer}
 use Rattle.cdcl_core.specs.declared.answer.Answer.TheVariants.{Model as ModelAnswer, Refuted as RefutedAnswer, Spent as SpentAnswer, Room as RoomAnswer}
 use Rattle.cdcl_core.specs.Kept.{Kept, more_learnt, MakesTrue, IsOpenQuery, IsFull, IsTrueAnswer}
 use Rattle.cdcl_core.specs.Belongs.{Belongs, search_lines, EndsWith, HasSpent}
-use Rattle.lex_search.specs.declared.oracle.Below.{Below}
-use Rattle.lex_search.specs.Task.{greatest_of}
-use Rattle.lex_search.specs.Asked.{IsWithinCap, AreOnce, AreMet, AreNegated, AreAgainst}
-use Rattle.lex_search.proofs.QuestionLemmas.{query_stays}
-use Rattle.drawing_problem.specs.Layout.{Layout}
+use Rattle.search_least.specs.declared.oracle.Below.{Below}
+use Rattle.search_least.specs.Task.{greatest_of}
+use Rattle.search_least.specs.Asked.{IsWithinCap, AreOnce, AreMet, AreNegated, AreAgainst}
+use Rattle.search_least.proofs.QuestionLemmas.{query_stays}
+use Rattle.drawing_cnf.specs.Layout.{Layout}
 use Rattle.lex_minimise.specs.Task.{task_of}
 use Rattle.lex_minimise.specs.Known.{told_lines, told_clauses, caps_of, AreTold, KnowsLines}
 use Rattle.lex_minimise.specs.Asking.{HasLimit, IsLimitOf, IsAssumed, AreAssumed, TellsAnswer}
-use Rattle.drawing_problem.proofs.ListLemmas.{line_there}
+use Rattle.drawing_cnf.proofs.ListLemmas.{line_there}
 use Rattle.cdcl_core.proofs.LogLemmas.{new_told}
 use Rattle.lex_minimise.proofs.CoverLemmas.{one_bound, told_of, HasTold}
 

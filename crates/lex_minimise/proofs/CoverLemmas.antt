@@ -18,21 +18,21 @@ use Rattle.refute_log.specs.Log.{learnt, clause_line, clause_lines}
 use Rattle.cnf_core.specs.declared.limits.TheConstants.{VARS}
 use Rattle.cdcl_core.specs.Kept.{Kept}
 use Rattle.cdcl_core.specs.Belongs.{Belongs}
-use Rattle.certified_values.specs.Bounds.{CoversDrawings}
-use Rattle.certified_values.specs.Expected.{same_criterion, bound_var, bound_vars, bound_lines, caps}
-use Rattle.certified_values.proofs.MeetsLemmas.{meets_front}
-use Rattle.certified_values.proofs.CapsLemmas.{bounds_same, bounds_other, formulas_none, bounds_of_clauses, differs}
-use Rattle.certified_values.proofs.ExpectedLemmas.{same_itself, same_tells}
+use Rattle.refute_log.specs.Bounds.{CoversDrawings}
+use Rattle.refute_log.specs.Expected.{same_criterion, bound_var, bound_vars, bound_lines, caps}
+use Rattle.refute_log.proofs.MeetsLemmas.{meets_front}
+use Rattle.refute_log.proofs.CapsLemmas.{bounds_same, bounds_other, formulas_none, bounds_of_clauses, differs}
+use Rattle.refute_log.proofs.ExpectedLemmas.{same_itself, same_tells}
 use Rattle.drawing_cnf.specs.Stands.{DrawingVars}
 use Rattle.drawing_cnf.specs.Expected.{drawing_vars, formula_clauses, formula_size}
 use Rattle.drawing_cnf.specs.Bounds.{bound_size}
 use Rattle.drawing_cnf.specs.Bounded.{Bound, clauses_of_bound, size_of_bound, AreBehind}
-use Rattle.lex_search.specs.Asked.{AreApart}
-use Rattle.drawing_problem.specs.Lists.{variables_behind, lines_of_bound}
-use Rattle.drawing_problem.specs.Layout.{Layout}
+use Rattle.search_least.specs.Asked.{AreApart}
+use Rattle.drawing_cnf.specs.Lists.{variables_behind, lines_of_bound}
+use Rattle.drawing_cnf.specs.Layout.{Layout}
 use Rattle.lex_minimise.specs.Known.{told_lines, with_bound, no_caps, caps_of, AreTold, KnowsLines}
-use Rattle.drawing_problem.proofs.CoverLemmas.{meets_with}
-use Rattle.drawing_problem.proofs.ListLemmas.{first_line, length-variables, IsBoundLine, IsOfBound, in_lines}
+use Rattle.drawing_cnf.proofs.CoverLemmas.{meets_with}
+use Rattle.drawing_cnf.proofs.ListLemmas.{first_line, length-variables, IsBoundLine, IsOfBound, in_lines}
 
 -- ---- they cover
 

@@ -6,14 +6,14 @@ use Rattle.cnf_core.specs.declared.limits.TheConstants.{VARS}
 use Rattle.cnf_core.specs.Clause.{words_of}
 use Rattle.track_order.specs.Order.{is_above, is_overlap}
 use Rattle.refute_log.specs.Log.{given}
-use Rattle.certified_values.specs.Expected.{sum_vars_of}
-use Rattle.certified_values.specs.Full.{CapsPass}
+use Rattle.refute_log.specs.Expected.{sum_vars_of}
+use Rattle.refute_log.specs.Full.{CapsPass}
 use Rattle.drawing_cnf.specs.Expected.{formula_clauses, formula_size}
-use Rattle.drawing_problem.specs.Layout.{Layout, problem_of}
-use Rattle.drawing_problem.proofs.ListLemmas.{given_formulas}
-use Rattle.lex_search.specs.Task.{greatest_of}
-use Rattle.lex_search.specs.Outcome.{IsUnfoundEnd, first_lines}
-use Rattle.certified_values.specs.declared.stop.Stop.TheVariants.{RoomFull}
+use Rattle.drawing_cnf.specs.Layout.{Layout, problem_of}
+use Rattle.drawing_cnf.proofs.ListLemmas.{given_formulas}
+use Rattle.search_least.specs.Task.{greatest_of}
+use Rattle.search_least.specs.Outcome.{IsUnfoundEnd, first_lines}
+use Rattle.refute_log.specs.declared.stop.Stop.TheVariants.{RoomFull}
 use Rattle.trade_off.specs.declared.outcome.FrontEnd.TheVariants.{Room}
 use Rattle.trade_off.specs.Outcome.{front_lines, IsFrontLog}
 use Rattle.trade_off.proofs.TellLemmas.{words_front}

@@ -15,23 +15,23 @@ use Rattle.cnf_core.specs.Propagation.{AreAmong}
 use Rattle.cnf_core.proofs.PropagationLemmas.{among_left, among_right}
 use Rattle.track_order.specs.Order.{is_above, is_overlap}
 use Rattle.refute_log.specs.declared.line.LogLine.TheVariants.{Formula, Bound as BoundLine}
-use Rattle.line_text.specs.declared.numbers.TheConstants.{MAX_NUMBER}
+use Rattle.outside_io.specs.declared.numbers.TheConstants.{MAX_NUMBER}
 use Rattle.refute_log.specs.Lines.{MayBeTold}
 use Rattle.refute_log.specs.Told.{Lines}
 use Rattle.refute_log.specs.Log.{added, learnt, facts_of, clause_lines}
 use Rattle.refute_log.proofs.LogLemmas.{derives_more, due_more}
-use Rattle.certified_values.specs.Expected.{bound_lines}
+use Rattle.refute_log.specs.Expected.{bound_lines}
 use Rattle.drawing_cnf.specs.Expected.{drawing_vars, formula_clauses, formula_size}
 use Rattle.drawing_cnf.specs.Bounded.{Bound, clauses_of_bound, bounds_clauses, AreBehind, CoversWith}
 use Rattle.cdcl_core.specs.Kept.{Kept}
 use Rattle.cdcl_core.specs.Belongs.{Belongs}
-use Rattle.lex_search.proofs.BuildLemmas.{sum_is_clauses}
-use Rattle.drawing_problem.specs.Lists.{drawing_problem, lines_of_bound, variables_behind}
-use Rattle.drawing_problem.specs.Layout.{Layout}
+use Rattle.search_least.proofs.BuildLemmas.{sum_is_clauses}
+use Rattle.drawing_cnf.specs.Lists.{drawing_problem, lines_of_bound, variables_behind}
+use Rattle.drawing_cnf.specs.Layout.{Layout}
 use Rattle.lex_minimise.specs.Known.{told_clauses, told_lines, with_bound, no_caps, caps_of, AreTold}
 use Rattle.lex_minimise.proofs.CoverLemmas.{none_of}
-use Rattle.drawing_problem.proofs.ListLemmas.{first_line, sum_is_bound, with_more}
-use Rattle.certified_values.proofs.ExpectedLemmas.{same_itself}
+use Rattle.drawing_cnf.proofs.ListLemmas.{first_line, sum_is_bound, with_more}
+use Rattle.refute_log.proofs.ExpectedLemmas.{same_itself}
 use Rattle.std.proofs.lemmas.List.Elements.{Contains-get_or}
 use Rattle.refute_log.proofs.StepLemmas.{clause_lines_append}
 

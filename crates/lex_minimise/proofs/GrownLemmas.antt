@@ -8,7 +8,7 @@ use Rattle.outside_io.specs.Counts.{rose_by}
 use Rattle.plan_core.specs.declared.criterion.Criterion.{Criterion}
 use Rattle.plan_core.specs.Grid.{IsGrid}
 use Rattle.plan_core.specs.Values.{limit_of}
-use Rattle.line_text.specs.declared.numbers.TheConstants.{MAX_NUMBER}
+use Rattle.outside_io.specs.declared.numbers.TheConstants.{MAX_NUMBER}
 use Rattle.port_graph.specs.StationGraph.{IsStationGraph}
 use Rattle.cnf_core.specs.declared.limits.TheConstants.{VARS}
 use Rattle.cnf_core.specs.Clause.{Clauses, words_of, IsNamed}
@@ -17,20 +17,20 @@ use Rattle.track_order.specs.Order.{is_above, is_overlap}
 use Rattle.refute_log.specs.declared.line.LogLine.TheVariants.{Formula}
 use Rattle.refute_log.specs.Told.{Lines, AddsAll}
 use Rattle.refute_log.specs.Log.{learnt}
-use Rattle.certified_values.specs.Expected.{bound_lines, with_cap, sum_lines, sum_vars_of}
+use Rattle.refute_log.specs.Expected.{bound_lines, with_cap, sum_lines, sum_vars_of}
 use Rattle.drawing_cnf.specs.Expected.{drawing_vars, formula_size}
 use Rattle.drawing_cnf.specs.Encoding.{Encoding, encoded_vars}
 use Rattle.drawing_cnf.specs.Bounded.{Bound, bound, clauses_of_bound, size_of_bound, bounds_clauses, AreBehind, CoversWith}
 use Rattle.drawing_cnf.specs.Whole.{drawing_clauses}
-use Rattle.drawing_problem.specs.Lists.{variables_behind, lines_of_bound}
-use Rattle.drawing_problem.specs.Layout.{Layout, problem_of, layout_of}
-use Rattle.drawing_problem.proofs.ListLemmas.{sum_is_bound, sum_vars_is_size}
-use Rattle.drawing_problem.proofs.LimitLemmas.{small_limit}
+use Rattle.drawing_cnf.specs.Lists.{variables_behind, lines_of_bound}
+use Rattle.drawing_cnf.specs.Layout.{Layout, problem_of, layout_of}
+use Rattle.drawing_cnf.proofs.ListLemmas.{sum_is_bound, sum_vars_is_size}
+use Rattle.drawing_cnf.proofs.LimitLemmas.{small_limit}
 use Rattle.cdcl_core.specs.Kept.{Kept, AreGiven, with_more_vars}
 use Rattle.cdcl_core.specs.Belongs.{Belongs}
-use Rattle.lex_search.specs.declared.oracle.Built.TheVariants.{Whole}
+use Rattle.search_least.specs.declared.oracle.Built.TheVariants.{Whole}
 use Rattle.refute_log.specs.Steps.{ToldBehind, GoesOn}
-use Rattle.lex_search.specs.Built.{IsBuild, AreBuiltTo}
+use Rattle.search_least.specs.Built.{IsBuild, AreBuiltTo}
 use Rattle.lex_minimise.specs.Known.{told_clauses, with_bound, no_caps, caps_of, AreTold, KnowsLines, IsReady}
 use Rattle.lex_minimise.specs.Task.{task_of}
 use Rattle.lex_minimise.specs.Told.{HasTaken}

@@ -13,7 +13,7 @@ use Rattle.refute_log.specs.Log.{facts_of, clause_lines, BeginsLines, Derives}
 use Rattle.refute_log.specs.Steps.{ToldBehind, GoesOn, StillDerives, GivesNoMore, Leaves}
 use Rattle.refute_log.proofs.LogLemmas.{derives_none, derives_more}
 use Rattle.refute_log.proofs.StepLemmas.{leaves_more, leaves_known, leaves_then, clause_lines_append}
-use Rattle.certified_values.specs.Expected.{bound_lines, sum_lines, sums}
+use Rattle.refute_log.specs.Expected.{bound_lines, sum_lines, sums}
 use Rattle.drawing_cnf.specs.Encoding.{Encoding, encoded_vars}
 use Rattle.drawing_cnf.specs.Expected.{drawing_vars}
 use Rattle.drawing_cnf.specs.Bounded.{Bound, bound}
@@ -21,12 +21,12 @@ use Rattle.track_order.specs.Order.{is_above, is_overlap}
 use Rattle.cdcl_core.specs.Kept.{Kept, blank}
 use Rattle.cdcl_core.specs.Belongs.{Belongs, GivesAtMost}
 use Rattle.cdcl_core.proofs.ViewLemmas.{new_belongs}
-use Rattle.lex_search.proofs.BuildLemmas.{formulas_are_clauses, bounds_are_clauses}
-use Rattle.lex_search.specs.Task.{Task, greatest_of}
-use Rattle.lex_search.specs.Outcome.{first_lines}
-use Rattle.drawing_problem.specs.Lists.{variables_behind, lines_of_bound}
-use Rattle.drawing_problem.specs.Layout.{Layout, problem_of, layout_of}
-use Rattle.drawing_problem.proofs.ListLemmas.{sum_is_bound}
+use Rattle.search_least.proofs.BuildLemmas.{formulas_are_clauses, bounds_are_clauses}
+use Rattle.search_least.specs.Task.{Task, greatest_of}
+use Rattle.search_least.specs.Outcome.{first_lines}
+use Rattle.drawing_cnf.specs.Lists.{variables_behind, lines_of_bound}
+use Rattle.drawing_cnf.specs.Layout.{Layout, problem_of, layout_of}
+use Rattle.drawing_cnf.proofs.ListLemmas.{sum_is_bound}
 use Rattle.trade_off.specs.Outcome.{front_lines, IsFrontLeft}
 use Rattle.lex_minimise.specs.Known.{KnowsLines, IsReady}
 use Rattle.lex_minimise.specs.Task.{task_of}

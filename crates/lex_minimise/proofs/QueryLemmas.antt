@@ -21,15 +21,15 @@ use Rattle.cdcl_core.specs.declared.answer.Answer.{Answer}
 use Rattle.cdcl_core.specs.declared.answer.Answer.TheVariants.{Model as ModelAnswer, Refuted as RefutedAnswer, Spent as SpentAnswer, Room as RoomAnswer}
 use Rattle.cdcl_core.specs.Kept.{Kept, HasLearnt, HasModel, MakesTrue, AreGiven, IsTrueAnswer}
 use Rattle.cdcl_core.specs.Belongs.{search_lines, HasSpent, HasSolved}
-use Rattle.lex_search.specs.declared.oracle.Below.{Below}
-use Rattle.lex_search.specs.declared.oracle.Reply.{Reply}
-use Rattle.lex_search.specs.declared.oracle.Reply.TheVariants.{Found, Refuted, Stopped}
-use Rattle.certified_values.specs.declared.stop.Stop.TheVariants.{BudgetSpent, RoomFull}
-use Rattle.lex_search.specs.Task.{Task}
-use Rattle.lex_search.specs.Asked.{AreMet, IsAsked, IsReply}
-use Rattle.lex_search.proofs.QuestionLemmas.{asks_no_clauses}
+use Rattle.search_least.specs.declared.oracle.Below.{Below}
+use Rattle.search_least.specs.declared.oracle.Reply.{Reply}
+use Rattle.search_least.specs.declared.oracle.Reply.TheVariants.{Found, Refuted, Stopped}
+use Rattle.refute_log.specs.declared.stop.Stop.TheVariants.{BudgetSpent, RoomFull}
+use Rattle.search_least.specs.Task.{Task}
+use Rattle.search_least.specs.Asked.{AreMet, IsAsked, IsReply}
+use Rattle.search_least.proofs.QuestionLemmas.{asks_no_clauses}
 use Rattle.lex_minimise.specs.Task.{task_of}
-use Rattle.drawing_problem.specs.Layout.{layout_of}
+use Rattle.drawing_cnf.specs.Layout.{layout_of}
 use Rattle.lex_minimise.specs.Known.{told_clauses, KnowsLines, IsReady}
 use Rattle.refute_log.specs.Steps.{GoesOn}
 use Rattle.lex_minimise.specs.Asking.{AreAssumed, TellsAnswer, IsReplyOf}

@@ -10,20 +10,20 @@ use Rattle.track_order.specs.Order.{is_above, is_overlap}
 use Rattle.refute_log.specs.Told.{Lines}
 use Rattle.refute_log.specs.Log.{given, learnt, clause_lines}
 use Rattle.refute_log.proofs.LogLemmas.{words_of_log}
-use Rattle.certified_values.specs.Expected.{sum_lines}
-use Rattle.certified_values.proofs.MeetsLemmas.{given_of_clauses}
+use Rattle.refute_log.specs.Expected.{sum_lines}
+use Rattle.refute_log.proofs.MeetsLemmas.{given_of_clauses}
 use Rattle.drawing_cnf.specs.Encoding.{Encoding}
 use Rattle.drawing_cnf.specs.Expected.{drawing_vars}
 use Rattle.drawing_cnf.specs.Bounded.{Bound, bound, clauses_of_bound, size_of_bound}
 use Rattle.cdcl_core.specs.Kept.{Kept}
-use Rattle.lex_search.specs.declared.oracle.Built.TheVariants.{NoRoom}
-use Rattle.lex_search.specs.Built.{SumPasses, IsBuild}
-use Rattle.drawing_problem.specs.Lists.{drawing_problem}
-use Rattle.drawing_problem.specs.Layout.{Layout, layout_of}
+use Rattle.search_least.specs.declared.oracle.Built.TheVariants.{NoRoom}
+use Rattle.search_least.specs.Built.{SumPasses, IsBuild}
+use Rattle.drawing_cnf.specs.Lists.{drawing_problem}
+use Rattle.drawing_cnf.specs.Layout.{Layout, layout_of}
 use Rattle.lex_minimise.specs.Task.{task_of}
 use Rattle.lex_minimise.specs.Known.{told_clauses, told_lines, KnowsLines, IsReady}
 use Rattle.refute_log.specs.Steps.{GoesOn}
-use Rattle.drawing_problem.proofs.ListLemmas.{given_with, given_bound, sum_is_bound, sum_vars_is_size}
+use Rattle.drawing_cnf.proofs.ListLemmas.{given_with, given_bound, sum_is_bound, sum_vars_is_size}
 use Rattle.lex_minimise.proofs.QueryLemmas.{formula_told}
 
 -- the clauses that are told, with the criterion's

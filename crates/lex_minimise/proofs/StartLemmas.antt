@@ -18,26 +18,26 @@ use Rattle.refute_log.specs.declared.line.LogLine.TheVariants.{Formula}
 use Rattle.refute_log.specs.Told.{Lines}
 use Rattle.refute_log.specs.ToldTo.{IsToldTo}
 use Rattle.refute_log.specs.Log.{given, learnt}
-use Rattle.certified_values.specs.Bounds.{MeetsLog}
-use Rattle.certified_values.specs.Expected.{caps, expected_lines}
-use Rattle.certified_values.specs.Full.{CapsPass}
-use Rattle.certified_values.proofs.ExpectedLemmas.{expected_none, expected_vars_none}
+use Rattle.refute_log.specs.Bounds.{MeetsLog}
+use Rattle.refute_log.specs.Expected.{caps, expected_lines}
+use Rattle.refute_log.specs.Full.{CapsPass}
+use Rattle.refute_log.proofs.ExpectedLemmas.{expected_none, expected_vars_none}
 use Rattle.drawing_cnf.specs.Expected.{drawing_vars, formula_clauses, formula_size, Covers}
 use Rattle.drawing_cnf.specs.Encoding.{Encoding}
 use Rattle.drawing_cnf.specs.Bounded.{Bound}
 use Rattle.drawing_cnf.specs.Bounds.{IsExact}
 use Rattle.drawing_cnf.specs.Whole.{IsWhole}
-use Rattle.drawing_problem.specs.Layout.{Layout, layout, problem_of, layout_of}
-use Rattle.drawing_problem.proofs.ListLemmas.{given_formulas}
+use Rattle.drawing_cnf.specs.Layout.{Layout, layout, problem_of, layout_of}
+use Rattle.drawing_cnf.proofs.ListLemmas.{given_formulas}
 use Rattle.cdcl_core.specs.Kept.{Kept, AreGiven, blank, with_more_vars}
 use Rattle.cdcl_core.specs.Belongs.{Belongs}
 use Rattle.cdcl_core.proofs.ViewLemmas.{new_given, new_belongs}
-use Rattle.lex_search.specs.declared.outcome.Outcome.TheVariants.{Room}
-use Rattle.lex_search.specs.Task.{greatest_of}
+use Rattle.search_least.specs.declared.outcome.Outcome.TheVariants.{Room}
+use Rattle.search_least.specs.Task.{greatest_of}
 use Rattle.refute_log.specs.Steps.{ToldBehind, GoesOn}
-use Rattle.lex_search.specs.Outcome.{IsOutcome, first_lines}
+use Rattle.search_least.specs.Outcome.{IsOutcome, first_lines}
 use Rattle.refute_log.proofs.StepLemmas.{rose_both, count_more}
-use Rattle.lex_search.proofs.BuildLemmas.{formulas_are_clauses}
+use Rattle.search_least.proofs.BuildLemmas.{formulas_are_clauses}
 use Rattle.lex_minimise.specs.Known.{told_clauses, AreTold, KnowsLines, IsReady}
 use Rattle.lex_minimise.specs.Task.{task_of}
 use Rattle.lex_minimise.specs.Told.{HasTaken, IsLogOfSolver}
@@ -215,9 +215,6 @@ nothing_told k room n R log is end = (
 )
 
 -- ---- the search
-
-pub log_of : (y : Layout) (told : List Bound) (budget room : ℕ) (k : Kept) (lines : Lines) → KnowsLines y told budget room k lines → IsLogOfSolver k lines
-log_of y told budget room k lines h = record { belongs = h.belongs; learnt = h.learnt_are }
 
 pub same_task : (y z : Layout) (a b m n : ℕ) → y ≡ z → a ≡ b → m ≡ n → task_of y a m ≡ task_of z b n
 same_task y z a b m n e f h = ap (λ (x : Layout). task_of x a m) e ∙ ap (λ x. task_of z x m) f ∙ ap (λ x. task_of z b x) h

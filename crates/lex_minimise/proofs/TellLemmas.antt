@@ -12,11 +12,11 @@ use Rattle.cnf_core.proofs.ClauseLemmas.{words_append}
 use Rattle.refute_log.specs.declared.line.LogLine.TheVariants.{Bound as BoundLine}
 use Rattle.refute_log.specs.Told.{Lines, AddsAll}
 use Rattle.refute_log.specs.Log.{learnt}
-use Rattle.certified_values.specs.Expected.{bound_lines}
+use Rattle.refute_log.specs.Expected.{bound_lines}
 use Rattle.cdcl_core.specs.Kept.{Kept, AreGiven, IsGivenOne}
 use Rattle.refute_log.specs.Steps.{ToldBehind, GoesOn}
 use Rattle.refute_log.proofs.StepLemmas.{rose_both, count_more}
-use Rattle.drawing_problem.specs.Lists.{variables_behind}
+use Rattle.drawing_cnf.specs.Lists.{variables_behind}
 use Rattle.lex_minimise.specs.Told.{HasTaken}
 
 -- ---- what the solver was given
@@ -115,9 +115,6 @@ next_fits cs from at words room le lt fits =
 
 -- ---- Bound lines
 
-pub bounds_none : (c : Criterion) (last i : ℕ) → i ≡ 0 → bound_lines c 1 (variables_behind last i) ≡ []
-bounds_none c last i e = ap (λ n. bound_lines c 1 (variables_behind last n)) e
-
 bounds_next_from : (c : Criterion) (k last i : ℕ) → bound_lines c k (variables_behind last i) ++ BoundLine c (k + i) (record { 0 = last + 1 + i }) ∷ [] ≡ bound_lines c k (variables_behind last (suc i))
 bounds_next_from c k last zero =
     ap (λ n. BoundLine c n (record { 0 = last + 1 + 0 }) ∷ []) (let e : k + 0 ≡ k = omega arith in e) ∙ ap (λ n. BoundLine c k (record { 0 = n }) ∷ []) (let e : last + 1 + 0 ≡ last + 1 = omega arith in e)
@@ -136,6 +133,3 @@ bounds_next c last i x is =
 
 pub adds_then : (a b c : Lines → Type 0) (xs ys zs : Lines) → AddsAll a b xs → AddsAll b c ys → xs ++ ys ≡ zs → AddsAll a c zs
 adds_then a b c xs ys zs h k is = λ lines t. subst (λ (ms : Lines). c (lines ++ ms)) is (subst c (append_assoc lines xs ys) (k (lines ++ xs) (h lines t)))
-
-pub adds_nothing : (a : Lines → Type 0) (xs : Lines) → xs ≡ [] → AddsAll a a xs
-adds_nothing a xs none = λ lines t. subst (λ (ms : Lines). a (lines ++ ms)) (sym none) (subst a (sym (append-nil lines)) t)

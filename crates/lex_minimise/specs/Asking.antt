@@ -8,13 +8,13 @@ use Rattle.cdcl_core.specs.declared.answer.Answer.TheVariants.{Model as ModelAns
 use Rattle.cdcl_core.specs.declared.answer.Answer.TheVariants.{Spent as SpentAnswer, Room as RoomAnswer}
 use Rattle.refute_log.specs.declared.line.LogLine.TheVariants.{Refuted as RefutedLine, Model as ModelLine}
 use Rattle.refute_log.specs.Told.{Lines}
-use Rattle.lex_search.specs.declared.oracle.Below.{Below}
-use Rattle.lex_search.specs.declared.oracle.Reply.{Reply}
-use Rattle.lex_search.specs.declared.oracle.Reply.TheVariants.{Found, Refuted, Stopped}
-use Rattle.certified_values.specs.declared.stop.Stop.TheVariants.{BudgetSpent, RoomFull}
-use Rattle.lex_search.specs.Task.{Task, greatest_of}
-use Rattle.certified_values.specs.Cause.{IsCause}
-use Rattle.lex_search.specs.Asked.{IsAsked, AreAgainst}
+use Rattle.search_least.specs.declared.oracle.Below.{Below}
+use Rattle.search_least.specs.declared.oracle.Reply.{Reply}
+use Rattle.search_least.specs.declared.oracle.Reply.TheVariants.{Found, Refuted, Stopped}
+use Rattle.refute_log.specs.declared.stop.Stop.TheVariants.{BudgetSpent, RoomFull}
+use Rattle.search_least.specs.Task.{Task, greatest_of}
+use Rattle.refute_log.specs.Cause.{IsCause}
+use Rattle.search_least.specs.Asked.{IsAsked, AreAgainst}
 
 -- the bound is of the criterion, and goes as far as the limit
 abbrev pub HasLimit : Below → Bound → Type 0

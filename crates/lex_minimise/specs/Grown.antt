@@ -7,7 +7,7 @@ use Rattle.drawing_cnf.specs.Encoding.{Encoding, encoded_vars}
 use Rattle.drawing_cnf.specs.Bounded.{Bound, clauses_of_bound, size_of_bound, CoversWith}
 use Rattle.drawing_cnf.specs.Whole.{IsWhole}
 use Rattle.cdcl_core.specs.Kept.{Kept, AreGiven}
-use Rattle.drawing_problem.specs.Layout.{layout_of}
+use Rattle.drawing_cnf.specs.Layout.{layout_of}
 use Rattle.lex_minimise.specs.Known.{told_clauses, AreTold}
 
 -- the clauses of a bound behind the formula, and how many variables they have

@@ -6,8 +6,8 @@ use Rattle.cnf_core.specs.declared.limits.TheConstants.{VARS}
 use Rattle.cnf_core.specs.Clause.{Clauses, IsNamed, words_of}
 use Rattle.refute_log.specs.Told.{Lines}
 use Rattle.refute_log.specs.Log.{added, learnt, clause_lines}
-use Rattle.certified_values.specs.Bounds.{CoversDrawings}
-use Rattle.certified_values.specs.Expected.{caps, with_cap}
+use Rattle.refute_log.specs.Bounds.{CoversDrawings}
+use Rattle.refute_log.specs.Expected.{caps, with_cap}
 use Rattle.track_order.specs.Order.{is_above, is_overlap}
 use Rattle.drawing_cnf.specs.Expected.{drawing_vars, formula_clauses, formula_size}
 use Rattle.drawing_cnf.specs.Encoding.{Encoding}
@@ -15,9 +15,9 @@ use Rattle.drawing_cnf.specs.Bounded.{Bound, bounds_clauses, AreBehind, CoversWi
 use Rattle.drawing_cnf.specs.Whole.{IsWhole}
 use Rattle.cdcl_core.specs.Kept.{Kept, AreGiven}
 use Rattle.cdcl_core.specs.Belongs.{Belongs}
-use Rattle.lex_search.specs.Asked.{AreApart}
-use Rattle.drawing_problem.specs.Lists.{lines_with}
-use Rattle.drawing_problem.specs.Layout.{Layout, layout_of}
+use Rattle.search_least.specs.Asked.{AreApart}
+use Rattle.drawing_cnf.specs.Lists.{lines_with}
+use Rattle.drawing_cnf.specs.Layout.{Layout, layout_of}
 
 -- the clauses, and the lines, of the drawings and of these bounds behind them
 abbrev pub told_clauses : Layout → List Bound → Clauses

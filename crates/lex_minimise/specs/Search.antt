@@ -1,8 +1,8 @@
 -- What a search with the solver keeps, as one value.
 use Rattle.refute_log.specs.Told.{Lines}
 use Rattle.cdcl_core.specs.Kept.{Kept}
-use Rattle.lex_search.specs.Task.{Task}
-use Rattle.drawing_problem.specs.Layout.{layout_of}
+use Rattle.search_least.specs.Task.{Task}
+use Rattle.drawing_cnf.specs.Layout.{layout_of}
 use Rattle.lex_minimise.specs.declared.search.Known.{Known}
 use Rattle.lex_minimise.specs.Known.{KnowsLines, IsReady}
 use Rattle.lex_minimise.specs.Task.{task_of}

@@ -5,22 +5,22 @@ ghost use Rattle.plan_core.specs.Lawful.{Lawful};
 ghost use Rattle.track_order.specs.Order.{is_above};
 ghost use Rattle.cdcl_core.specs.Kept.{IsTrueAnswer};
 ghost use Rattle.cnf_core.specs.declared.limits.TheConstants.{VARS};
-ghost use Rattle.lex_search.specs.Asked.{IsWithinCap, AreOnce, IsRightReply, IsReply};
+ghost use Rattle.search_least.specs.Asked.{IsWithinCap, AreOnce, IsRightReply, IsReply};
 ghost use Rattle.lex_minimise.specs.Known.{caps_of};
 ghost use Rattle.refute_log.specs.Steps.{GoesOn, Leaves};
 ghost use Rattle.lex_minimise.specs.Asking.{HasLimit, IsLimitOf, AreAssumed, TellsAnswer, IsReplyOf};
 ghost use Rattle.lex_minimise.specs.Search.{task_with, IsReadyWith, KnowsWith};
 
 use crate::search::Known;
+use crate::together::drawn_together;
 use cdcl_core::{Answer, SolveFault, Solver};
-use certified_values::Stop;
 use cnf_core::{Lit, Var};
 use drawing_cnf::Bounds;
-use lex_search::{Below, MinFault, Reply};
 use model_decode::{decode, encode_drawing};
 use plan_core::OutOfMemory;
 use plan_geometry::Drawing;
-use refute_log::LogSink;
+use refute_log::{LogSink, Stop};
+use search_least::{Below, MinFault, Reply};
 use std::alloc::Global;
 
 /// Whether the bound is of the criterion, and goes as far as the limit.
@@ -127,7 +127,11 @@ fn reply(
     let _counts = (bounds.len(), assume.len());
     match answer {
         Answer::Model => match solver.model() {
-            Some(model) => Ok(Reply::Found(decode(known.alloc, &known.encoded, model)?)),
+            Some(model) => {
+                let found = decode(known.alloc, &known.encoded, model)?;
+                let best = drawn_together(known.alloc, &known.encoded, bounds, found)?;
+                Ok(Reply::Found(best))
+            }
             None => unreachable!(),
         },
         Answer::Refuted => Ok(Reply::Refuted),

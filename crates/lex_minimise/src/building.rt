@@ -6,15 +6,15 @@ ghost use Rattle.plan_core.specs.Values.{limit_of};
 ghost use Rattle.cnf_core.specs.declared.limits.TheConstants.{VARS};
 ghost use Rattle.cnf_core.specs.Clause.{words_of};
 ghost use Rattle.refute_log.specs.declared.line.LogLine.TheVariants.{Formula as FormulaLine};
-ghost use Rattle.certified_values.specs.Expected.{sum_lines};
+ghost use Rattle.refute_log.specs.Expected.{sum_lines};
 ghost use Rattle.drawing_cnf.specs.Bounded.{bound};
 ghost use Rattle.drawing_cnf.specs.Whole.{IsWhole};
-ghost use Rattle.drawing_problem.specs.Lists.{lines_behind};
+ghost use Rattle.drawing_cnf.specs.Lists.{lines_behind};
 ghost use Rattle.cdcl_core.specs.Kept.{with_more_vars};
 ghost use Rattle.cdcl_core.specs.Belongs.{Belongs};
-ghost use Rattle.lex_search.specs.declared.oracle.Built.TheVariants.{Whole as AllOfThem};
-ghost use Rattle.lex_search.specs.Built.{IsBuild, AreBuiltTo};
-ghost use Rattle.drawing_problem.specs.Layout.{layout_of};
+ghost use Rattle.search_least.specs.declared.oracle.Built.TheVariants.{Whole as AllOfThem};
+ghost use Rattle.search_least.specs.Built.{IsBuild, AreBuiltTo};
+ghost use Rattle.drawing_cnf.specs.Layout.{layout_of};
 ghost use Rattle.lex_minimise.specs.Known.{caps_of};
 ghost use Rattle.refute_log.specs.Steps.{GoesOn, Leaves};
 ghost use Rattle.lex_minimise.specs.Told.{HasTaken};
@@ -26,9 +26,9 @@ use crate::telling::{tell_bounds, tell_clauses};
 use cdcl_core::{AddFault, Solver};
 use cnf_core::{CnfFault, Formula};
 use drawing_cnf::{Bounds, criterion_bound};
-use lex_search::{Built, MinFault};
 use plan_core::Criterion;
 use refute_log::LogSink;
+use search_least::{Built, MinFault};
 
 /// Gives the solver the formula's further variables, and its clauses from this number on.
 pub fn add_clauses<L: LogSink>(

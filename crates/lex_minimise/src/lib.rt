@@ -1,6 +1,6 @@
 //! Least values in order, with the solver: the search for a best drawing of a graph, and the log that certifies it.
 //!
-//! `minimise` gives the drawings' clauses to a solver and searches as `lex_search` says, and `front` finds the front
+//! `minimise` gives the drawings' clauses to a solver and searches as `search_least` says, and `front` finds the front
 //! of two criteria as `trade_off` says; `minimise_with` and `front_with` do so with a solver that a caller hands in.
 //! `search` makes one thing that is asked of the formula, the solver and the log: `asking` turns a question into
 //! assumptions and an answer into a drawing, `building` tells a criterion's clauses and bounds whole or not at all,
@@ -10,8 +10,8 @@
 //! `specs/Task` says what is searched, `specs/Told` what a solver has that was told lines, `specs/Known` when the
 //! search can be asked and which lines are known then, `specs/Search` the same of what it keeps as one value,
 //! `specs/Asking` what a question is to the solver, and `specs/Grown` what is so between a criterion's clauses in the
-//! formula and in the solver. The outcomes are those of `lex_search` and `trade_off`; the clause lists are those of
-//! `drawing_problem`.
+//! formula and in the solver. The outcomes are those of `search_least` and `trade_off`; the clause lists are those of
+//! `drawing_cnf`.
 #![tactic(auto)]
 
 mod asking;
@@ -21,11 +21,12 @@ mod limits;
 mod minimising;
 mod search;
 mod telling;
+mod together;
 
 pub use building::add_clauses;
 pub use fronting::{front, front_with};
-pub use lex_search::{MinFault, Outcome};
 pub use limits::Limits;
 pub use minimising::{minimise, minimise_with};
+pub use search_least::{MinFault, Outcome};
 pub use telling::tell_clauses;
 pub use trade_off::{FrontEnd, FrontFault, FrontList, PairList};

@@ -3,10 +3,10 @@ use crate::asking::ask;
 use crate::building::build;
 use cdcl_core::Solver;
 use drawing_cnf::{Bounds, Encoded, greatest};
-use lex_search::{Below, Built, MinFault, Oracle, Reply};
 use plan_core::Criterion;
 use plan_geometry::Drawing;
 use refute_log::LogSink;
+use search_least::{Below, Built, MinFault, Oracle, Reply};
 use std::alloc::Global;
 
 /// What a search keeps beside the solver and the log.

@@ -4,20 +4,20 @@ ghost use Rattle.outside_io.specs.Counts.{Rose};
 ghost use Rattle.cnf_core.specs.Clause.{words_of};
 ghost use Rattle.cnf_core.specs.Formula.{clause_at};
 ghost use Rattle.refute_log.specs.declared.line.LogLine.TheVariants.{Formula as FormulaLine};
-ghost use Rattle.line_text.specs.declared.numbers.TheConstants.{MAX_NUMBER};
+ghost use Rattle.outside_io.specs.declared.numbers.TheConstants.{MAX_NUMBER};
 ghost use Rattle.refute_log.specs.Told.{AddsAll};
 ghost use Rattle.refute_log.specs.Log.{Derives};
-ghost use Rattle.certified_values.specs.Expected.{bound_lines};
+ghost use Rattle.refute_log.specs.Expected.{bound_lines};
 ghost use Rattle.cdcl_core.specs.Belongs.{Belongs};
-ghost use Rattle.drawing_problem.specs.Lists.{variables_behind};
+ghost use Rattle.drawing_cnf.specs.Lists.{variables_behind};
 ghost use Rattle.refute_log.specs.Steps.{GoesOn, Leaves};
 ghost use Rattle.lex_minimise.specs.Told.{HasTaken};
 
 use cdcl_core::{AddFault, Solver};
 use cnf_core::{ClauseNo, Formula};
 use drawing_cnf::Bounds;
-use lex_search::MinFault;
 use refute_log::{LogLine, LogSink, LogSinkFault};
+use search_least::MinFault;
 
 /// Adds one clause of the formula to the solver, which tells it.
 fn tell_clause<L: LogSink>(

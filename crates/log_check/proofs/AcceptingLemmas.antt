@@ -8,11 +8,10 @@ use Rattle.refute_log.specs.declared.line.LogLine.TheVariants.{Formula, Learnt, 
 use Rattle.refute_log.specs.Told.{Lines}
 use Rattle.refute_log.specs.Log.{Facts, added, StandsOn, clause_line, clause_lines, BeginsLines}
 use Rattle.refute_log.proofs.LogLemmas.{flat_map_last, facts_more, derives_more}
-use Rattle.refute_check.specs.declared.fault.LineFault.{LineFault}
 use Rattle.refute_check.specs.declared.fault.LineFault.TheVariants as faults
-use Rattle.refute_check.specs.Kept.{CheckedFacts, kept_after, LacksRoom, Accepts, NamesNew, AnswersWrongly, PassesRoom, IsUnproved, IsOld}
-use Rattle.certified_check.specs.declared.told_bound.ToldBound.{ToldBound}
-use Rattle.certified_check.specs.Lacking.{told_bound}
+use Rattle.refute_check.specs.Kept.{CheckedFacts, kept_after, LacksRoom, Accepts}
+use Rattle.refute_check.specs.declared.told_bound.ToldBound.{ToldBound}
+use Rattle.refute_check.specs.Lacking.{told_bound}
 use Rattle.log_check.specs.declared.awaited.Awaited.{Awaited}
 use Rattle.log_check.specs.declared.accepting.Progress.{Progress}
 use Rattle.log_check.specs.declared.accepting.Compared.TheVariants.{Wrong}
@@ -146,24 +145,6 @@ has_accepted e lines line old new h a awaited bounds = record {
 }
 
 -- ---- the checker refuses it
-
--- the cause of a fault
-abbrev pub IsCauseOf : CheckedFacts → LogLine → LineFault → Type 0
-IsCauseOf kept line faults.NewVar = NamesNew kept.facts line
-IsCauseOf kept line faults.WrongQuery = AnswersWrongly kept line
-IsCauseOf kept line faults.Room = PassesRoom kept line
-IsCauseOf kept line faults.NotImplied = IsUnproved kept line
-IsCauseOf kept line faults.NotNew = IsOld kept line
-IsCauseOf kept line faults.Memory = Unit {0}
-
-pub cause_of : (kept : CheckedFacts) (line : LogLine) (fault : LineFault) → (fault ≡ faults.NewVar → NamesNew kept.facts line) → (fault ≡ faults.WrongQuery → AnswersWrongly kept line) → (fault ≡ faults.Room → PassesRoom kept line) →
-    (fault ≡ faults.NotImplied → IsUnproved kept line) → (fault ≡ faults.NotNew → IsOld kept line) → IsCauseOf kept line fault
-cause_of kept line faults.NewVar a b c d e = a refl
-cause_of kept line faults.WrongQuery a b c d e = b refl
-cause_of kept line faults.Room a b c d e = c refl
-cause_of kept line faults.NotImplied a b c d e = d refl
-cause_of kept line faults.NotNew a b c d e = e refl
-cause_of kept line faults.Memory a b c d e = tt
 
 -- the bounds with those of one line more
 pub bounds_pushed : (line : LogLine) (old new : List ToldBound) (b : ToldBound) → option_to_list (Some b) ≡ told_bound line → new ≡ old ++ b ∷ [] → new ≡ old ++ told_bound line

@@ -13,8 +13,8 @@ use Rattle.plan_core.specs.declared.criterion.Criterion.{Criterion}
 use Rattle.refute_log.specs.declared.line.LogLine.{LogLine}
 use Rattle.refute_log.specs.declared.line.LogLine.TheVariants.{Formula}
 use Rattle.refute_log.specs.Told.{Lines}
-use Rattle.certified_values.specs.Expected.{bound_lines}
-use Rattle.drawing_problem.specs.Lists.{variables_behind}
+use Rattle.refute_log.specs.Expected.{bound_lines}
+use Rattle.drawing_cnf.specs.Lists.{variables_behind}
 use Rattle.log_check.specs.declared.awaited.Part.{Part}
 use Rattle.log_check.specs.declared.awaited.Part.TheVariants.{ClausesTo, Bounds}
 use Rattle.log_check.specs.Awaited.{lines_from, IsPart, AreParts, HasMore}

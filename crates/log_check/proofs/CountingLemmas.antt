@@ -8,7 +8,7 @@ use Rattle.plan_core.specs.declared.criterion.Criterion.TheVariants.{Height, Ben
 use Rattle.plan_core.specs.declared.criterion.Values.{Values}
 use Rattle.plan_core.specs.Values.{value_of}
 use Rattle.cnf_core.specs.declared.literal.Var.{Var}
-use Rattle.line_text.specs.Fields.{LacksByte, IsCutAt}
+use Rattle.outside_io.specs.Fields.{LacksByte, IsCutAt}
 use Rattle.refute_log.specs.declared.line.LogLine.{LogLine}
 use Rattle.refute_log.specs.declared.line.LogLine.TheVariants.{Formula, Learnt, Bound, Query, Refuted, Model}
 use Rattle.refute_log.specs.declared.fault.LogWhat.{LogWhat}
@@ -17,7 +17,7 @@ use Rattle.refute_log.specs.declared.fault.LineTextFault.TheVariants.{Log, Memor
 use Rattle.refute_log.specs.LineText.{IsTextOf, HasLineFault, IsLineFault}
 use Rattle.refute_log.specs.Told.{Lines}
 use Rattle.refute_log.proofs.LawLemmas.{line_once, line_no_fault}
-use Rattle.certified_values.specs.Expected.{same_criterion, bound_var, bound_vars, caps}
+use Rattle.refute_log.specs.Expected.{bound_var, bound_vars, caps}
 use Rattle.log_check.specs.TextLines.{AreToldBounds, HasToldBounds, IsBoundText, told_bound_line}
 use Rattle.log_check.specs.Counted.{count_of, IsCountOf, HasCounted}
 
@@ -55,24 +55,6 @@ no_line text what fault = ([], inr ((λ line is. line_no_fault text line what is
 pub counted_fault : (text : List ℕ) (fault : LineTextFault) (what : LogWhat) (number : ℕ) → fault ≡ Log what number → (fault ≡ Memory) ⊎ IsLineFault text 0 fault → AreCounted text None
 counted_fault text fault what number is (inl wanting) = let e : Log what number ≡ Memory = sym is ∙ wanting in cc
 counted_fault text fault what number is (inr has) = no_line text what (subst (λ (f : LineTextFault). IsLineFault text 0 f) is has).1
-
--- a text that doesn't begin with the letter is that of no Bound line
-begins_with : (b : ℕ) (text other : List ℕ) → text ≡ other → (first : List ℕ → ℕ) → ((x : ℕ) (xs : List ℕ) → first (x ∷ xs) ≡ x) → first [] ≢ b → first other ≡ b → (rest : List ℕ) × (text ≡ b ∷ rest)
-begins_with b text [] same first at none is = absurd (none is)
-begins_with b text (x ∷ xs) same first at none is = let e : x ≡ b = sym (at x xs) ∙ is in (xs, cc (same, e))
-
-abbrev first_byte : List ℕ → ℕ
-first_byte [] = 0
-first_byte (b ∷ bs) = b
-
-pub count_bound : (c : Criterion) (k : ℕ) (x : Var) → IsCountOf (Some c) (Bound c k x ∷ [])
-count_bound c k x = λ d. by (same_criterion d c)
-  where
-    by : (b : Bool) → length (cond b (x ∷ []) [] ++ []) ≡ cond b 1 0
-    by true = refl
-    by false = refl
-
--- ---- one more
 
 -- what the numbers are with one line more, or none
 pub counted_more : (greatest numbers new : Criterion → ℕ) (found : Option Criterion) (lines more : Lines) → ((c : Criterion) → numbers c ≡ caps greatest lines c) → IsCountOf found more →

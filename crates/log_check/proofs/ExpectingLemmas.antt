@@ -17,15 +17,15 @@ use Rattle.track_order.specs.Order.{EdgeOrder, is_above, is_overlap}
 use Rattle.refute_log.specs.declared.line.LogLine.TheVariants.{Formula}
 use Rattle.refute_log.specs.Told.{Lines}
 use Rattle.refute_log.specs.Log.{given}
-use Rattle.certified_values.specs.Expected.{Problem, bound_lines, sum_lines, sum_vars_of, sums, vars_after, expected_lines, expected_vars}
-use Rattle.certified_check.proofs.JudgeLemmas.{take_next}
+use Rattle.refute_log.specs.Expected.{Problem, bound_lines, sum_lines, sum_vars_of, sums, vars_after, expected_lines, expected_vars}
+use Rattle.refute_check.proofs.JudgeLemmas.{take_next}
 use Rattle.drawing_cnf.specs.Expected.{formula_clauses, formula_size}
 use Rattle.drawing_cnf.specs.Bounded.{bound, clauses_of_bound, size_of_bound}
 use Rattle.drawing_cnf.specs.Encoding.{Encoding, encoded_vars}
 use Rattle.drawing_cnf.specs.Whole.{IsWhole}
-use Rattle.drawing_problem.specs.Lists.{variables_behind, lines_of_bound}
-use Rattle.drawing_problem.specs.Layout.{Layout, layout, layout_of, problem_of}
-use Rattle.drawing_problem.proofs.ListLemmas.{sum_is_bound, sum_vars_is_size, given_bound, given_with}
+use Rattle.drawing_cnf.specs.Lists.{variables_behind, lines_of_bound}
+use Rattle.drawing_cnf.specs.Layout.{Layout, layout, layout_of, problem_of}
+use Rattle.drawing_cnf.proofs.ListLemmas.{sum_is_bound, sum_vars_is_size, given_bound, given_with}
 use Rattle.log_check.specs.declared.awaited.Part.{Part}
 use Rattle.log_check.specs.declared.awaited.Part.TheVariants.{ClausesTo, Bounds}
 use Rattle.log_check.specs.Expectation.{expectation, PassesLimits}

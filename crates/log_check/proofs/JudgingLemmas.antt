@@ -21,16 +21,16 @@ use Rattle.refute_log.specs.Log.{Facts, facts_of}
 use Rattle.refute_log.proofs.LogLemmas.{derives_none}
 use Rattle.refute_log.proofs.TextLemmas.{log_text_more}
 use Rattle.refute_check.specs.Kept.{CheckedFacts}
-use Rattle.certified_values.specs.Bounds.{MeetsLog, CoversDrawings}
-use Rattle.certified_values.specs.Expected.{bound_vars, caps}
-use Rattle.certified_values.proofs.CertifiedLemmas.{none_better, none_meets, certifies_under}
-use Rattle.certified_values.proofs.MeetsLemmas.{meets_front}
-use Rattle.certified_values.proofs.ExpectedLemmas.{expected_same, expected_vars_same}
-use Rattle.certified_values.specs.Certified.{Certifies}
-use Rattle.certified_check.specs.Lacking.{KnowsLog, IsFirstLacking}
-use Rattle.certified_check.proofs.JudgeLemmas.{lacking_under}
-use Rattle.drawing_problem.specs.Layout.{Layout, problem_of}
-use Rattle.drawing_problem.proofs.CoverLemmas.{expected_cover}
+use Rattle.refute_log.specs.Bounds.{MeetsLog, CoversDrawings}
+use Rattle.refute_log.specs.Expected.{bound_vars, caps}
+use Rattle.refute_log.proofs.CertifiedLemmas.{none_better, none_meets, certifies_under}
+use Rattle.refute_log.proofs.MeetsLemmas.{meets_front}
+use Rattle.refute_log.proofs.ExpectedLemmas.{expected_same, expected_vars_same}
+use Rattle.refute_log.specs.Certified.{Certifies}
+use Rattle.refute_check.specs.Lacking.{KnowsLog, IsFirstLacking}
+use Rattle.refute_check.proofs.JudgeLemmas.{lacking_under}
+use Rattle.drawing_cnf.specs.Layout.{Layout, problem_of}
+use Rattle.drawing_cnf.proofs.CoverLemmas.{expected_cover}
 use Rattle.log_check.specs.declared.claim.Claim.{Claim}
 use Rattle.log_check.specs.declared.claim.Claim.TheVariants.{Least, NoDrawing, Nothing}
 use Rattle.log_check.specs.declared.reading.Next.{Next}

@@ -7,3 +7,9 @@ pub mod CutLemmas
 pub mod CauseLemmas
 pub mod VerdictLemmas
 pub mod FittingLemmas
+pub mod HintLineLemmas
+pub mod HintJudgingLemmas
+pub mod HintExpectingLemmas
+pub mod HintVerdictLemmas
+pub mod HintOnceLemmas
+pub mod HintedLemmas

@@ -10,10 +10,10 @@ use Rattle.refute_log.specs.declared.line.LogLine.{LogLine}
 use Rattle.refute_log.specs.declared.fault.LogWhat.{LogWhat}
 use Rattle.refute_log.specs.Lines.{header, ended_text, MayBeTold, MayAllBeTold}
 use Rattle.refute_log.specs.Told.{Lines}
-use Rattle.certified_values.specs.Expected.{caps}
-use Rattle.certified_check.proofs.JudgeLemmas.{none_lacking, lacking_once}
-use Rattle.drawing_problem.specs.Layout.{Layout}
-use Rattle.drawing_problem.proofs.ThereLemmas.{expected_clauses_there}
+use Rattle.refute_log.specs.Expected.{caps}
+use Rattle.refute_check.proofs.JudgeLemmas.{none_lacking, lacking_once}
+use Rattle.drawing_cnf.specs.Layout.{Layout}
+use Rattle.drawing_cnf.proofs.ProblemThere.{expected_clauses_there}
 use Rattle.log_check.specs.declared.claim.Claim.{Claim}
 use Rattle.log_check.specs.declared.claim.Claim.TheVariants.{Least, NoDrawing, Nothing}
 use Rattle.log_check.specs.declared.verdict.Refusal.{Refusal}

@@ -4,8 +4,8 @@ use Rattle.plan_core.specs.declared.criterion.Criterion.{Criterion}
 use Rattle.plan_core.specs.Drawing.{Drawing}
 use Rattle.plan_core.specs.Values.{values_of, Better}
 use Rattle.refute_log.specs.Told.{Lines}
-use Rattle.certified_values.specs.Certified.{Certifies, CertifiesNone}
-use Rattle.certified_check.specs.Lacking.{IsFirstLacking}
+use Rattle.refute_log.specs.Certified.{Certifies, CertifiesNone}
+use Rattle.refute_check.specs.Lacking.{IsFirstLacking}
 use Rattle.log_check.specs.declared.claim.Claim.{Claim}
 use Rattle.log_check.specs.declared.claim.Claim.TheVariants.{Least, NoDrawing, Nothing}
 

@@ -2,8 +2,8 @@
 use Rattle.std.specs.Prelude.{◌≡◌, ℕ, ◌+◌, ◌++◌, List, All, Option, Some, None, cond, length, flat_map, codes}
 use Rattle.plan_core.specs.declared.criterion.Criterion.{Criterion}
 use Rattle.refute_log.specs.Told.{Lines}
-use Rattle.line_text.specs.Fields.{LacksByte}
-use Rattle.certified_values.specs.Expected.{same_criterion, bound_vars, caps}
+use Rattle.outside_io.specs.Fields.{LacksByte}
+use Rattle.refute_log.specs.Expected.{same_criterion, bound_vars, caps}
 use Rattle.log_check.specs.TextLines.{AreToldBounds}
 
 -- the counts with one more of a criterion

@@ -6,8 +6,8 @@ use Rattle.cnf_core.specs.declared.limits.TheConstants.{ROOM, VARS}
 use Rattle.cnf_core.specs.Clause.{words_of}
 use Rattle.refute_log.specs.Told.{Lines}
 use Rattle.refute_log.specs.Log.{given}
-use Rattle.certified_values.specs.Expected.{caps, expected_lines, expected_vars}
-use Rattle.drawing_problem.specs.Layout.{Layout, problem_of}
+use Rattle.refute_log.specs.Expected.{caps, expected_lines, expected_vars}
+use Rattle.drawing_cnf.specs.Layout.{Layout, problem_of}
 use Rattle.log_check.specs.TextLines.{HasToldBounds}
 
 -- Formula and Bound lines, and how many variables there are with them

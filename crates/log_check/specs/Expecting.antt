@@ -5,7 +5,7 @@ use Rattle.cnf_core.specs.declared.limits.TheConstants.{ROOM}
 use Rattle.refute_log.specs.Log.{given}
 use Rattle.drawing_cnf.specs.Encoding.{Encoding}
 use Rattle.drawing_cnf.specs.Whole.{IsWhole}
-use Rattle.drawing_problem.specs.Layout.{Layout, layout_of}
+use Rattle.drawing_cnf.specs.Layout.{Layout, layout_of}
 use Rattle.log_check.specs.declared.awaited.Part.{Part}
 use Rattle.log_check.specs.Expectation.{expectation}
 use Rattle.log_check.specs.Awaited.{lines_from, clause_after, AreParts}

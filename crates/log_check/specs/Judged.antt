@@ -9,7 +9,7 @@ use Rattle.refute_log.specs.declared.fault.LogWhat.{LogWhat}
 use Rattle.refute_log.specs.declared.fault.LogWhat.TheVariants as whats
 use Rattle.refute_log.specs.Lines.{header, ended_text, MayBeTold}
 use Rattle.refute_log.specs.Told.{Lines}
-use Rattle.drawing_problem.specs.Layout.{Layout}
+use Rattle.drawing_cnf.specs.Layout.{Layout}
 use Rattle.log_check.specs.declared.claim.Claim.{Claim}
 use Rattle.log_check.specs.declared.verdict.Refusal.{Refusal}
 use Rattle.log_check.specs.declared.verdict.Verdict.{Verdict}

@@ -8,3 +8,9 @@ pub mod Counted
 pub mod Awaited
 pub mod Expecting
 pub mod Progress
+pub mod HintAccepted
+pub mod HintRefused
+pub mod HintsJudged
+pub mod HintExpected
+pub mod HintProgress
+pub mod Hinted

@@ -9,7 +9,7 @@ use Rattle.refute_log.specs.Log.{clause_line, clause_lines}
 use Rattle.refute_check.specs.declared.fault.LineFault.{LineFault}
 use Rattle.refute_check.specs.declared.fault.LineFault.TheVariants.{NewVar, WrongQuery, Room, NotImplied, NotNew}
 use Rattle.refute_check.specs.declared.fault.LineFault.TheVariants.{Memory}
-use Rattle.certified_check.specs.Lacking.{told_bound}
+use Rattle.refute_check.specs.Lacking.{told_bound}
 use Rattle.log_check.specs.declared.claim.Claim.{Claim}
 use Rattle.log_check.specs.declared.reading.Next.{Next}
 use Rattle.log_check.specs.declared.reading.Next.TheVariants.{Line, Fault}

@@ -1,6 +1,6 @@
 -- The lines of a log's text: which of them are Bound lines without a fault, and the next one's fault.
 use Rattle.std.specs.Prelude.{◌≡◌, ◌≢◌, ◌⊎◌, ℕ, ⊤, List, [], ◌∷◌, ◌++◌, All, flat_map, codes}
-use Rattle.line_text.specs.Fields.{LacksByte, IsCutAt}
+use Rattle.outside_io.specs.Fields.{LacksByte, IsCutAt}
 use Rattle.refute_log.specs.declared.line.LogLine.{LogLine}
 use Rattle.refute_log.specs.declared.line.LogLine.TheVariants.{Formula, Learnt, Bound, Query, Refuted, Model}
 use Rattle.refute_log.specs.declared.fault.LogWhat.{LogWhat}

@@ -12,9 +12,8 @@ ghost use Rattle.log_check.specs.Progress.{refusals_of};
 
 use crate::awaited::{Awaited, behind};
 use crate::verdict::Refusal;
-use certified_check::ToldBound;
 use plan_core::OutOfMemory;
-use refute_check::{Checker, LineFault};
+use refute_check::{Checker, LineFault, ToldBound};
 use refute_log::LogLine;
 
 /// What is kept of the lines that were accepted.

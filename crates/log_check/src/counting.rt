@@ -3,12 +3,12 @@ ghost use Rattle.std.specs.Prelude.{◌≡◌, ◌≤◌, ◌<◌, ◌+◌, [], 
 ghost use Rattle.plan_core.specs.declared.criterion.Criterion.{Criterion as Measured};
 ghost use Rattle.plan_core.specs.Values.{value_of, limit_of};
 ghost use Rattle.refute_log.specs.Told.{Lines};
-ghost use Rattle.certified_values.specs.Expected.{caps};
+ghost use Rattle.refute_log.specs.Expected.{caps};
 ghost use Rattle.log_check.specs.TextLines.{AreToldBounds, HasToldBounds, told_bound_line};
 ghost use Rattle.log_check.specs.Counted.{count_more, count_of, IsCountOf};
 
 use drawing_cnf::greatest;
-use line_text::{behind, cut_line};
+use outside_io::{behind, cut_line};
 use plan_core::{Criterion, Grid, OutOfMemory, Values};
 use port_graph::PortGraph;
 use refute_log::{LineTextFault, LogLine, read_line};

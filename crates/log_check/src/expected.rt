@@ -10,7 +10,7 @@ ghost use Rattle.track_order.specs.Order.{IsOrderOf};
 ghost use Rattle.drawing_cnf.specs.Encoding.{encoded_vars};
 ghost use Rattle.drawing_cnf.specs.Bounded.{bound, clauses_of_bound, size_of_bound};
 ghost use Rattle.drawing_cnf.specs.Whole.{IsWhole};
-ghost use Rattle.drawing_problem.specs.Layout.{layout, layout_of};
+ghost use Rattle.drawing_cnf.specs.Layout.{layout, layout_of};
 ghost use Rattle.log_check.specs.declared.awaited.Part.TheVariants.{ClausesTo as Clauses, Bounds as BoundsOf};
 ghost use Rattle.log_check.specs.Expectation.{expectation, PassesLimits};
 ghost use Rattle.log_check.specs.Expecting.{IsExpecting};

@@ -5,7 +5,7 @@ ghost use Rattle.cnf_core.specs.declared.limits.TheConstants.{ROOM};
 ghost use Rattle.cnf_core.specs.Clause.{words_of};
 ghost use Rattle.refute_log.specs.Told.{Lines};
 ghost use Rattle.refute_log.specs.Log.{added, clause_line, clause_lines, BeginsLines};
-ghost use Rattle.drawing_problem.specs.Layout.{Layout};
+ghost use Rattle.drawing_cnf.specs.Layout.{Layout};
 ghost use Rattle.log_check.specs.Expectation.{expectation};
 ghost use Rattle.log_check.specs.Expecting.{IsExpecting};
 ghost use Rattle.log_check.specs.Awaited.{awaited_lines, IsAwaited};

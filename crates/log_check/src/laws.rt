@@ -8,7 +8,7 @@ ghost use Rattle.plan_core.specs.Values.{values_of, Better};
 ghost use Rattle.track_order.specs.Order.{is_above};
 ghost use Rattle.refute_log.specs.declared.line.LogLine.{LogLine as Line};
 ghost use Rattle.refute_log.specs.Told.{Lines};
-ghost use Rattle.drawing_problem.specs.Layout.{Layout, IsStationLayout};
+ghost use Rattle.drawing_cnf.specs.Layout.{Layout, IsStationLayout};
 ghost use Rattle.log_check.specs.declared.claim.Claim.{Claim as Claimed};
 ghost use Rattle.log_check.specs.declared.claim.Claim.TheVariants.{Least, NoDrawing};
 ghost use Rattle.log_check.specs.declared.verdict.Verdict.{Verdict as Answer};

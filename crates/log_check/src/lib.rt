@@ -1,14 +1,16 @@
-//! The verdict on the text of a log: whether it certifies what is claimed of a graph's lawful drawings.
+//! The verdict on the text of a log, or of hinted lines: does it certify what is claimed of a graph's drawings?
 //!
-//! `judge_log` reads the text twice. `counting` counts its Bound lines, by which `expected` makes what is expected of
-//! the log: the clauses of `drawing_cnf`, as `drawing_problem` has them, in parts. Then `judging` takes line by line
-//! (`reading`), compares Formula and Bound lines with those that are still awaited (`awaited`) and has the checker
-//! of `refute_check` accept the line (`accepting`), and at the end asks `certified_check` for what the lines lack. A
-//! `Claim` is what is to be certified, a `Verdict` what is answered. `specs/Judged` says which verdict is due, by
-//! `Accepted`, `Refused`, `TextLines`, `Expectation` and `Claimed`; `laws` that one is due at most. Whoever takes a
-//! log's lines for another text has `next_line`, `caps_in` and `expected_of`; `fitting` has what is to be asked of such
-//! lines besides that they derive: that they begin what is expected, and that there is room for them. Nothing here
-//! reads a file or a sheet, and nothing searches: the crate shares no code with the solver.
+//! `judge_log` reads a log's text twice. `counting` counts its Bound lines; by them `expected` makes the clauses of
+//! `drawing_cnf` that the log is to begin with. `judging` then takes line by line (`reading`), compares Formula and
+//! Bound lines with those that are awaited (`awaited`), has `refute_check` accept the line (`accepting`), and asks at
+//! the end what the log lacks. A `Claim` is what is to be certified, a `Verdict` the answer. `specs/Judged` says which
+//! verdict is right, by `Accepted`, `Refused`, `TextLines`, `Expectation` and `Claimed`; `laws` that only one is.
+//! `fitting` asks of lines, besides that they derive, that they begin as expected and have room.
+//!
+//! `judge_hints` (`hint_judging`) does the same for hinted lines: `hint_expecting` makes the formula from the caps,
+//! `hint_reading` reads a line, `hint_log` accepts it, `hint_lacking` says what they lack (`specs/Hinted`).
+//! `specs/HintsJudged` says which verdict is right. Nothing here reads a file or searches; no code is shared with the
+//! solver.
 #![tactic(auto)]
 
 mod accepting;
@@ -17,6 +19,13 @@ mod claim;
 mod counting;
 mod expected;
 mod fitting;
+mod hint_claim_laws;
+mod hint_expecting;
+mod hint_judging;
+mod hint_lacking;
+mod hint_laws;
+mod hint_reading;
+mod hint_verdict;
 mod judging;
 mod laws;
 mod reading;
@@ -27,6 +36,13 @@ pub use claim::Claim;
 pub use counting::{caps_in, greatest_values};
 pub use expected::{Expected, expected_of};
 pub use fitting::{begin_expected, has_clause_line, have_room};
+pub use hint_claim_laws::what_hints_certify_is_so;
+pub use hint_judging::judge_hints;
+pub use hint_lacking::{first_lacking, none_certified};
+pub use hint_laws::{
+    hints_certified_exactly, one_hints_verdict_is_due, what_hinted_logs_certify_is_so,
+};
+pub use hint_verdict::{HintRefusal, HintsVerdict};
 pub use judging::judge_log;
 pub use laws::{
     certified_exactly, fronts_are_accepted, one_verdict_is_due, what_is_certified_is_so,

@@ -2,7 +2,7 @@
 ghost use Rattle.std.specs.Prelude.{◌≢◌, [], IfOk};
 ghost use Rattle.log_check.specs.Progress.{IsLineRead, IsNext};
 
-use line_text::cut_line;
+use outside_io::cut_line;
 use plan_core::OutOfMemory;
 use refute_log::{LineTextFault, LogLine, LogWhat, read_line};
 use std::alloc::Global;

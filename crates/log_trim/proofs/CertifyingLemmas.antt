@@ -14,18 +14,18 @@ use Rattle.cnf_core.specs.Clause.{Clauses}
 use Rattle.refute_log.specs.declared.line.LogLine.TheVariants.{Formula, Bound, Refuted}
 use Rattle.refute_log.specs.Told.{Lines}
 use Rattle.refute_log.specs.Log.{given, clause_line, clause_lines, BeginsLines}
-use Rattle.certified_values.specs.Bounds.{SaysAtLeast}
-use Rattle.certified_values.specs.Certified.{IsOutOfReach}
-use Rattle.certified_check.proofs.JudgeLemmas.{nothing}
-use Rattle.drawing_problem.specs.Layout.{Layout}
-use Rattle.drawing_problem.proofs.ListLemmas.{given_formulas}
+use Rattle.refute_log.specs.Bounds.{SaysAtLeast}
+use Rattle.refute_log.specs.Certified.{IsOutOfReach}
+use Rattle.refute_check.proofs.JudgeLemmas.{nothing}
+use Rattle.drawing_cnf.specs.Layout.{Layout}
+use Rattle.drawing_cnf.proofs.ListLemmas.{given_formulas}
 use Rattle.log_check.specs.declared.claim.Claim.{Claim}
 use Rattle.log_check.specs.declared.claim.Claim.TheVariants.{Least, NoDrawing, Nothing}
 use Rattle.log_check.specs.Claimed.{CertifiesClaim}
 use Rattle.hint_log.specs.declared.hint_line.HintLine.{HintLine}
 use Rattle.hint_log.specs.HintedLines.{HintLines, line_of, AreGood}
-use Rattle.hint_trim.specs.Trimmed.{StandAt, IsTrimmed}
-use Rattle.hint_claims.specs.Hinted.{log_of}
+use Rattle.log_trim.specs.Trimmed.{StandAt, IsTrimmed}
+use Rattle.log_check.specs.Hinted.{log_of}
 use Rattle.log_trim.specs.declared.trimming.TrimmedLog.{TrimmedLog}
 use Rattle.log_trim.specs.Wanted.{AreWanted}
 use Rattle.log_trim.specs.TrimmedLog.{expected_by, IsTrimmedLog}

@@ -21,39 +21,17 @@ use Rattle.refute_log.specs.Log.{added, given, clause_lines, BeginsLines, Stands
 use Rattle.log_check.proofs.ExpectingLemmas.{drop_front}
 use Rattle.refute_log.proofs.LogLemmas.{derives_more}
 use Rattle.refute_log.proofs.ListLemmas.{told_at}
-use Rattle.certified_check.proofs.JudgeLemmas.{nothing}
-use Rattle.certified_values.proofs.CertifiedLemmas.{refuted_holds}
-use Rattle.certified_values.proofs.MeetsLemmas.{given_of_clauses}
+use Rattle.refute_check.proofs.JudgeLemmas.{nothing}
+use Rattle.refute_log.proofs.CertifiedLemmas.{refuted_holds}
+use Rattle.refute_log.proofs.MeetsLemmas.{given_of_clauses}
 use Rattle.log_check.specs.Expectation.{Expectation, PassesLimits}
 use Rattle.log_check.specs.Accepted.{AreAccepted}
 use Rattle.hint_log.specs.declared.hint_line.HintLine.TheVariants.{Learnt, Refuted as RefutedHint}
 use Rattle.hint_log.specs.HintedLines.{HintLines}
-use Rattle.hint_trim.specs.Trimmed.{AreRefutedLines, StandAt, IsNamedLater, AreUsed, IsTrimmed}
+use Rattle.log_trim.specs.Trimmed.{AreRefutedLines, StandAt, IsNamedLater, AreUsed, IsTrimmed}
 use Rattle.log_trim.specs.Shown.{IsCompleted, MayBeTrimmed, IsReadied, IsKeptOf}
 
 -- ---- one clause more
-
-pub clause_next : (cs : Clauses) (i : ℕ) → i < length cs → drop i cs ≡ slice_index_or cs i [] ∷ drop (i + 1) cs
-clause_next [] i low = absurd (omega (arith, low))
-clause_next (c ∷ cs) zero low = refl
-clause_next (c ∷ cs) (suc i) low =
-    let further : suc (i + 1) ≡ suc i + 1 = omega arith in
-    clause_next cs i (omega (arith, low)) ∙ ap (λ n. get_or cs i [] ∷ drop n (c ∷ cs)) further
-
-pub one_more : (lines new all : Lines) (cs : Clauses) (i : ℕ) (c : List Literal) → i < length cs → c ≡ slice_index_or cs i [] → new ≡ lines ++ Formula c ∷ [] → lines ++ map Formula (drop i cs) ≡ all → new ++ map Formula (drop (i + 1) cs) ≡ all
-one_more lines new all cs i c low is pushed h =
-    let rest = map Formula (drop (i + 1) cs) in
-    ap (λ (ls : Lines). ls ++ rest) pushed ∙ append_assoc lines (Formula c ∷ []) rest ∙ ap (λ (d : List Literal). lines ++ Formula d ∷ rest) is
-    ∙ ap (λ (ds : Clauses). lines ++ map Formula ds) (sym (clause_next cs i low)) ∙ h
-
-drop_past : (cs : Clauses) (i : ℕ) → length cs ≤ i → drop i cs ≡ []
-drop_past [] zero high = refl
-drop_past [] (suc i) high = refl
-drop_past (c ∷ cs) zero high = absurd (omega (arith, high))
-drop_past (c ∷ cs) (suc i) high = drop_past cs i (omega (arith, high))
-
-pub no_more : (lines all : Lines) (cs : Clauses) (i : ℕ) → length cs ≤ i → lines ++ map Formula (drop i cs) ≡ all → lines ≡ all
-no_more lines all cs i high h = sym (append-nil lines) ∙ ap (λ (ds : Clauses). lines ++ map Formula ds) (sym (drop_past cs i high)) ∙ h
 
 pub clause_told : (f : Cnf) (c d : List Literal) → IsFormula f → d ≡ c → AreDistinct c → AreThere f.vars c → MayBeTold (Formula d)
 clause_told f c d h is distinct there =

@@ -4,3 +4,11 @@ pub mod WantedLemmas
 pub mod CompletingLemmas
 pub mod TrimmedLemmas
 pub mod CertifyingLemmas
+pub mod FoundLemmas
+pub mod AssumingLemmas
+pub mod FinderLemmas
+pub mod HintedLemmas
+pub mod ShortenLemmas
+pub mod UsedLemmas
+pub mod KeptLemmas
+pub mod HintingLemmas

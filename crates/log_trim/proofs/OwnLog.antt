@@ -4,7 +4,7 @@ use Rattle.std.specs.Prelude.{All, flat_map, codes, nat_lt}
 use Rattle.std.specs.List.{list_all}
 use Rattle.std.proofs.lemmas.Bool.{and_parts, ltb-true}
 use Rattle.std.proofs.lemmas.List.Elements.{All-nil, All-cons}
-use Rattle.line_text.specs.Fields.{LacksByte}
+use Rattle.outside_io.specs.Fields.{LacksByte}
 use Rattle.refute_log.specs.declared.line.LogLine.{LogLine}
 use Rattle.refute_log.specs.declared.line.LogLine.TheVariants.{Formula, Learnt, Bound, Query, Refuted, Model}
 use Rattle.refute_log.specs.Lines.{ended_text, log_line_text, log_text, MayAllBeTold}

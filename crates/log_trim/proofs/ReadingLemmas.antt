@@ -13,13 +13,13 @@ use Rattle.refute_log.specs.Told.{Lines}
 use Rattle.refute_log.specs.Log.{given, learnt, clause_line, clause_lines}
 use Rattle.refute_log.proofs.LogLemmas.{flat_map_last}
 use Rattle.refute_log.proofs.TextLemmas.{log_text_more}
-use Rattle.certified_check.specs.declared.told_bound.ToldBound.{ToldBound}
-use Rattle.certified_check.specs.Lacking.{told_bound}
-use Rattle.certified_check.proofs.JudgeLemmas.{nothing}
+use Rattle.refute_check.specs.declared.told_bound.ToldBound.{ToldBound}
+use Rattle.refute_check.specs.Lacking.{told_bound}
+use Rattle.refute_check.proofs.JudgeLemmas.{nothing}
 use Rattle.log_check.specs.TextLines.{HasNextFault}
 use Rattle.log_check.proofs.CutLemmas.{line_goes_on, line_has_no_fault, no_next_fault, log_fronts}
 use Rattle.log_check.proofs.JudgingLemmas.{line_leaves_less}
-use Rattle.hint_trim.proofs.HintedLemmas.{gathered_next}
+use Rattle.log_trim.proofs.HintedLemmas.{gathered_next}
 use Rattle.log_trim.specs.TrimmedLog.{IsSpelledLog}
 use Rattle.log_trim.specs.Shown.{IsSomeLog}
 

@@ -11,11 +11,11 @@ use Rattle.refute_log.specs.Lines.{log_text}
 use Rattle.refute_log.specs.Told.{Lines}
 use Rattle.refute_log.specs.OneText.{log_text_once, formed_lines}
 use Rattle.refute_log.specs.Log.{learnt}
-use Rattle.certified_values.specs.Certified.{IsOutOfReach}
-use Rattle.certified_values.specs.Expected.{caps, bound_vars}
-use Rattle.certified_values.proofs.CertifiedLemmas.{out_of_reach_under}
-use Rattle.certified_check.proofs.JudgeLemmas.{nothing}
-use Rattle.drawing_problem.specs.Layout.{Layout}
+use Rattle.refute_log.specs.Certified.{IsOutOfReach}
+use Rattle.refute_log.specs.Expected.{caps, bound_vars}
+use Rattle.refute_log.proofs.CertifiedLemmas.{out_of_reach_under}
+use Rattle.refute_check.proofs.JudgeLemmas.{nothing}
+use Rattle.drawing_cnf.specs.Layout.{Layout}
 use Rattle.log_check.specs.declared.claim.Claim.{Claim}
 use Rattle.log_check.specs.declared.claim.Claim.TheVariants.{Least, NoDrawing, Nothing}
 use Rattle.log_check.specs.TextLines.{HasToldBounds, told_bound_line}
@@ -26,7 +26,7 @@ use Rattle.log_check.specs.Judged.{CertifiesWhole}
 use Rattle.log_check.proofs.CountingLemmas.{caps_alone}
 use Rattle.log_check.proofs.CutLemmas.{bounds_once}
 use Rattle.log_check.proofs.JudgingLemmas.{same_expectation, certifies_as}
-use Rattle.hint_trim.specs.Trimmed.{AreRefutedLines}
+use Rattle.log_trim.specs.Trimmed.{AreRefutedLines}
 use Rattle.log_trim.specs.declared.trimming.TrimmedLog.{TrimmedLog}
 use Rattle.log_trim.specs.Wanted.{ShowsLeast, AreWanted}
 use Rattle.log_trim.specs.TrimmedLog.{IsSpelledLog, IsTrimmedLog}

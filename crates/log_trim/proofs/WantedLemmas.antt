@@ -15,11 +15,11 @@ use Rattle.refute_log.specs.declared.line.LogLine.{LogLine}
 use Rattle.refute_log.specs.declared.line.LogLine.TheVariants.{Formula, Learnt, Bound, Query, Refuted, Model}
 use Rattle.refute_log.specs.Told.{Lines}
 use Rattle.refute_log.specs.Log.{IsRefutedWithin}
-use Rattle.certified_values.specs.Certified.{RefutesLess, Certifies, CertifiesNone, IsOutOfReach}
-use Rattle.certified_values.specs.Bounds.{SaysAtLeast}
-use Rattle.certified_check.specs.declared.told_bound.ToldBound.{ToldBound}
-use Rattle.certified_check.specs.Lacking.{told_bound}
-use Rattle.certified_check.proofs.JudgeLemmas.{nothing, bound_line, out_of_reach, AreUnreached}
+use Rattle.refute_log.specs.Certified.{RefutesLess, Certifies, CertifiesNone, IsOutOfReach}
+use Rattle.refute_log.specs.Bounds.{SaysAtLeast}
+use Rattle.refute_check.specs.declared.told_bound.ToldBound.{ToldBound}
+use Rattle.refute_check.specs.Lacking.{told_bound}
+use Rattle.refute_check.proofs.JudgeLemmas.{nothing, bound_line, out_of_reach, AreUnreached}
 use Rattle.log_check.specs.declared.claim.Claim.{Claim}
 use Rattle.log_check.specs.declared.claim.Claim.TheVariants.{Least, NoDrawing, Nothing}
 use Rattle.log_check.specs.Claimed.{CertifiesClaim}

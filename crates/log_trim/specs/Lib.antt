@@ -1,3 +1,7 @@
 pub mod Wanted
 pub mod TrimmedLog
 pub mod Shown
+pub mod Found
+pub mod Trimmed
+pub mod Shortened
+pub mod Hinting

@@ -8,7 +8,7 @@ use Rattle.refute_log.specs.Log.{added, given, clause_lines, BeginsLines}
 use Rattle.log_check.specs.Expectation.{Expectation, PassesLimits}
 use Rattle.log_check.specs.Accepted.{AreAccepted}
 use Rattle.hint_log.specs.HintedLines.{HintLines}
-use Rattle.hint_trim.specs.Trimmed.{IsTrimmed}
+use Rattle.log_trim.specs.Trimmed.{IsTrimmed}
 use Rattle.log_trim.specs.TrimmedLog.{IsSpelledLog}
 
 -- the bytes are the text of some log

@@ -7,11 +7,11 @@ use Rattle.refute_log.specs.declared.line.LogLine.TheVariants.{Formula}
 use Rattle.refute_log.specs.Lines.{log_text, MayAllBeTold}
 use Rattle.refute_log.specs.Told.{Lines}
 use Rattle.refute_log.specs.Log.{given, learnt, clause_lines, BeginsLines}
-use Rattle.certified_values.specs.Expected.{caps}
-use Rattle.drawing_problem.specs.Layout.{Layout}
+use Rattle.refute_log.specs.Expected.{caps}
+use Rattle.drawing_cnf.specs.Layout.{Layout}
 use Rattle.log_check.specs.declared.claim.Claim.{Claim}
 use Rattle.log_check.specs.Expectation.{Expectation, expectation}
-use Rattle.hint_trim.specs.Trimmed.{IsTrimmed}
+use Rattle.log_trim.specs.Trimmed.{IsTrimmed}
 use Rattle.log_trim.specs.declared.trimming.TrimmedLog.{TrimmedLog}
 use Rattle.log_trim.specs.Wanted.{AreWanted}
 

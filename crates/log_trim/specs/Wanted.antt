@@ -6,7 +6,7 @@ use Rattle.plan_core.specs.Values.{value_of}
 use Rattle.cnf_core.specs.Lit.{Literal}
 use Rattle.refute_log.specs.declared.line.LogLine.TheVariants.{Refuted}
 use Rattle.refute_log.specs.Told.{Lines}
-use Rattle.certified_values.specs.Certified.{IsOutOfReach}
+use Rattle.refute_log.specs.Certified.{IsOutOfReach}
 use Rattle.log_check.specs.declared.claim.Claim.{Claim}
 use Rattle.log_check.specs.declared.claim.Claim.TheVariants.{Least, NoDrawing, Nothing}
 

@@ -4,14 +4,14 @@ ghost use Rattle.std.specs.Prelude.{flat_map, length, map};
 ghost use Rattle.plan_core.specs.declared.criterion.Criterion.{Criterion as Measured};
 ghost use Rattle.refute_log.specs.declared.line.LogLine.TheVariants.{Formula as FormulaLine};
 ghost use Rattle.refute_log.specs.Log.{given, clause_line, clause_lines};
-ghost use Rattle.drawing_problem.specs.Layout.{Layout};
+ghost use Rattle.drawing_cnf.specs.Layout.{Layout};
 ghost use Rattle.log_check.specs.Expectation.{Expectation, expectation, PassesLimits};
 ghost use Rattle.log_check.specs.Expecting.{IsExpecting};
-ghost use Rattle.hint_trim.specs.Trimmed.{AreRefutedLines};
+ghost use Rattle.log_trim.specs.Trimmed.{AreRefutedLines};
 ghost use Rattle.log_trim.specs.Shown.{IsReadied};
 
+use crate::count_given;
 use cnf_core::{Clause, ClauseNo, Formula};
-use hint_trim::count_given;
 use log_check::{Expected, begin_expected, has_clause_line, have_room};
 use plan_core::OutOfMemory;
 use refute_log::{LineList, LogLine};

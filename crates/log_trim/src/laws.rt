@@ -3,11 +3,11 @@ ghost use Rattle.std.specs.Prelude.{ℕ, List, flat_map};
 ghost use Rattle.plan_core.specs.declared.criterion.Criterion.{Criterion};
 ghost use Rattle.plan_core.specs.Values.{limit_of};
 ghost use Rattle.refute_log.specs.Log.{given};
-ghost use Rattle.drawing_problem.specs.Layout.{Layout};
+ghost use Rattle.drawing_cnf.specs.Layout.{Layout};
 ghost use Rattle.log_check.specs.declared.claim.Claim.{Claim as Claimed};
 ghost use Rattle.log_check.specs.Claimed.{CertifiesClaim};
 ghost use Rattle.hint_log.specs.HintedLines.{AreGood};
-ghost use Rattle.hint_claims.specs.Hinted.{log_of};
+ghost use Rattle.log_check.specs.Hinted.{log_of};
 ghost use Rattle.log_trim.specs.declared.trimming.TrimmedLog.{TrimmedLog as Left};
 ghost use Rattle.log_trim.specs.TrimmedLog.{expected_by, IsTrimmedLog};
 

@@ -1,19 +1,28 @@
-//! What is left of a log, if it certifies a claim: hinted lines for those Refuted lines by which it does.
+//! What is left of a log that certifies a claim: hinted lines for the Refuted lines that certify it.
 //!
-//! `trim_log` reads the lines of the log's text (`reading`), finds the wanted ones (`wanting`), compares all lines
-//! with what is expected and adds the Formula lines that the log lacks (`completing`), and has `trim` of `hint_trim`
-//! judge the lines and make the hinted ones. Where one of these finds something wrong nothing is left, and what it is
-//! isn't said: that is `log_check`'s. `specs/Wanted` says which lines are wanted and `specs/TrimmedLog` what is
-//! answered; `specs/Shown` is for private contracts alone. `laws` says that the hinted lines are good after what is
-//! expected for the caps, and certify the claim with it. Claims and expectations are those of `log_check`. Nothing here
-//! reads a file or a sheet, and nothing searches.
+//! `trim_log` reads the log's lines (`reading`), finds the wanted ones (`wanting`), compares all with what is expected
+//! and adds the Formula lines that the log lacks (`completing`). Then `trim` (`hint_trimming`) judges the lines and
+//! makes the hinted ones, without what nothing rests on: `finder` finds hints by propagating what `assumptions` assume,
+//! `needs` names them from the last one back, `shortening` leaves lines out. Where something is wrong nothing is left;
+//! what it is says `log_check`.
+//!
+//! `specs/Wanted` says which lines are wanted, `specs/TrimmedLog` and `specs/Trimmed` what is answered; `specs/Found`,
+//! `specs/Hinting`, `specs/Shortened` and `specs/Shown` are for private contracts. `laws` says that the hinted lines
+//! are good after what is expected, and certify the claim with it. This crate alone of the judges uses the solver's
+//! `watch_arena`. The command `trim` uses it.
 #![tactic(auto)]
 
+mod assumptions;
 mod completing;
+mod finder;
+mod hint_trimming;
 mod laws;
+mod needs;
 mod reading;
+mod shortening;
 mod trimming;
 mod wanting;
 
+pub use hint_trimming::{count_given, trim};
 pub use laws::trimmed_lines_certify;
 pub use trimming::{TrimmedLog, trim_log};

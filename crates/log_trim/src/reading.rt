@@ -1,14 +1,14 @@
 // The lines of a log's text, and the bounds that they tell.
 ghost use Rattle.std.specs.Prelude.{◌≡◌, IfOk, MatchOption, flat_map, length};
 ghost use Rattle.refute_log.specs.Log.{learnt};
-ghost use Rattle.certified_check.specs.Lacking.{told_bound};
+ghost use Rattle.refute_check.specs.Lacking.{told_bound};
 ghost use Rattle.log_trim.specs.TrimmedLog.{IsSpelledLog};
 ghost use Rattle.log_trim.specs.Shown.{IsSomeLog};
 
-use certified_check::ToldBound;
-use line_text::behind;
 use log_check::{Next, next_line};
+use outside_io::behind;
 use plan_core::OutOfMemory;
+use refute_check::ToldBound;
 use refute_log::{LineList, LogLine};
 use std::alloc::Global;
 

@@ -1,14 +1,14 @@
 // The lines that are wanted of a log.
 ghost use Rattle.std.specs.Prelude.{◌≡◌, ◌≤◌, ◌^◌, IfOk, MatchOption, flat_map, length};
 ghost use Rattle.plan_core.specs.Values.{value_of};
-ghost use Rattle.certified_values.specs.Certified.{Certifies, CertifiesNone, RefutesLess};
-ghost use Rattle.certified_check.specs.Lacking.{told_bound};
+ghost use Rattle.refute_log.specs.Certified.{Certifies, CertifiesNone, RefutesLess};
+ghost use Rattle.refute_check.specs.Lacking.{told_bound};
 ghost use Rattle.log_check.specs.Claimed.{IsClaimOf, CertifiesClaim};
 ghost use Rattle.log_trim.specs.Wanted.{ShowsLeast, ShowsNone, AreWanted, AreOfLeast};
 
-use certified_check::{ToldBound, unreached};
 use log_check::Claim;
 use plan_core::{Criterion, Order, OutOfMemory, Values};
+use refute_check::{ToldBound, unreached};
 use refute_log::LineList;
 use std::alloc::Global;
 

@@ -17,8 +17,8 @@ use Rattle.cnf_core.proofs.ClauseLemmas.{satisfies_left}
 use Rattle.order_int.specs.IntVars.{IntVars, IntIsThere, IntIsIn}
 use Rattle.order_int.specs.OrderInt.{Reads, int_clauses}
 use Rattle.order_int.proofs.IntLemmas.{int_holds, reads_once}
-use Rattle.edge_lines.specs.Columns.{listed_height}
-use Rattle.edge_lines.proofs.LineHeights.{point_is}
+use Rattle.edge_shape.specs.Columns.{listed_height}
+use Rattle.edge_shape.proofs.LineHeights.{point_is}
 use Rattle.track_order.specs.Order.{is_above, is_overlap}
 use Rattle.edge_shape.specs.EdgeVars.{EdgeSpot, edge_spot, lits_of}
 use Rattle.drawing_cnf.specs.Stands.{StandsFor, ReadsDrawing, IsJoinedOnGrid}

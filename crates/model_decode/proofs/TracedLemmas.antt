@@ -4,9 +4,9 @@ use Rattle.plan_core.specs.declared.point.Point.{Point}
 use Rattle.plan_core.specs.declared.point.Slope.{Slope}
 use Rattle.plan_core.specs.Line.{is_line, west_end, east_end, height}
 use Rattle.plan_core.proofs.LineLemmas.{ends_rise}
-use Rattle.edge_lines.specs.Track.{slope_by, step_slope, same_slope, over, turn, points_behind, line_over, IsTrack}
-use Rattle.edge_lines.proofs.LineTrackLemmas.{line_again}
-use Rattle.edge_lines.proofs.RunLemmas.{line_is_track}
+use Rattle.edge_shape.specs.Track.{slope_by, step_slope, same_slope, over, turn, points_behind, line_over, IsTrack}
+use Rattle.edge_shape.proofs.LineTrackLemmas.{line_again}
+use Rattle.edge_shape.proofs.RunLemmas.{line_is_track}
 
 -- two functions of the column that are the same at the columns from c to d
 abbrev pub AreSame : (ℕ → ℕ) → (ℕ → ℕ) → ℕ → ℕ → Type 0

@@ -1,7 +1,7 @@
 //! Drawings of models, and models of drawings.
 //!
 //! `decode` reads the drawing that a model of a drawing's formula stands for: each node's point from its
-//! two integers, and each edge's line from the edge's heights, which `edge_lines` traces. The drawing is
+//! two integers, and each edge's line from the edge's heights, which `edge_shape` traces. The drawing is
 //! lawful, it is the only lawful one for which the model stands, and the formula's bounds tell its values.
 //! `decode_loose` reads in the same way the one drawing with laws 1 and 3 for which a model of the nodes' and edges'
 //! clauses alone stands, whatever other laws it has.

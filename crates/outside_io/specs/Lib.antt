@@ -6,3 +6,6 @@ pub mod FailingCalls
 pub mod MemoryFiles
 pub mod MemorySink
 pub mod Streams
+pub mod Fields
+pub mod Numbers
+pub mod Criteria

@@ -5,7 +5,7 @@ use Rattle.std.proofs.lemmas.Bool.{cases_lt}
 use Rattle.std.proofs.lemmas.Bool.Decides.{eqb_tells}
 use Rattle.std.proofs.lemmas.List.{length-map, get_or-map, get_or_past}
 use Rattle.pick_heap.specs.declared.heap.TheConstants.{HALVED_AT}
-use Rattle.pick_heap.specs.Heap.{Ranked, ranked_of, IsGreatest, NoneHeld, activity}
+use Rattle.pick_heap.specs.Heap.{Ranked, ranked_of, IsGreatest, NoneHeld}
 use Rattle.pick_heap.specs.Tree.{entry_at, HaveActivities, IsWon, leaf_word, KeepsLeaves, KeepsOthers, AreActivities, IsHeap}
 use Rattle.pick_heap.proofs.MatchLemmas.{heap_set, heap_raised, heap_halved, won_raised, gone_from, root_greatest, root_none}
 
@@ -49,11 +49,6 @@ heap_halved_at vars leaves held acts tree less given_less given_tree new got_les
     subst (λ (g : List ℕ). IsHeap vars leaves held got_less g) (sym eg) (subst (λ (a : List ℕ). IsHeap vars leaves held a new) (sym egl)
     (heap_halved vars leaves held acts tree k less new (ap length el ∙ length-map acts (λ a. a / 2)) (subst AreActivities (sym el) (halves_within acts k.within)) (size ∙ ap length et) (subst (λ (a : List ℕ). HaveActivities a new) el2 named) (subst (λ (a : List ℕ). IsWon a new leaves) el2 won)
     (subst (λ (t : List ℕ). KeepsLeaves leaves t new) et kept)))
-
-pub full : (vars : ℕ) (held : List Bool) (acts : List ℕ) (h : Ranked) (v : ℕ) → AreActivities acts → ranked_of vars held acts ≡ h → HALVED_AT ≤ activity h v → activity h v ≡ HALVED_AT
-full vars held acts h v within e most =
-    let bound : activity h v ≤ HALVED_AT = subst (λ (x : Ranked). activity x v ≤ HALVED_AT) e (within v) in
-    omega arith
 
 pub half_below : (acts : List ℕ) (v : ℕ) → v < length acts → entry_at acts v ≤ HALVED_AT → entry_at (map (λ a. a / 2) acts) v < HALVED_AT
 half_below acts v lt le = let e : entry_at (map (λ a. a / 2) acts) v ≡ entry_at acts v / 2 = get_or-map (λ a. a / 2) acts v 0 0 lt in omega arith

@@ -14,17 +14,6 @@ rank_none acts v e = elim (eqb_tells v 0) [ inl a ↦ ap (λ b. cond b 0 (entry_
 pub rank_some : (acts : List ℕ) (v : ℕ) → v ≢ 0 → rank_of acts v ≡ entry_at acts v + 1
 rank_some acts v ne = elim (eqb_tells v 0) [ inl a ↦ absurd (ne a.1) | inr a ↦ ap (λ b. cond b 0 (entry_at acts v + 1)) a.0 ]
 
--- a table that is longer by what it has past its end
-padded_none : (n i x : ℕ) → get_or (replicate n x) i x ≡ x
-padded_none zero i x = refl
-padded_none (suc n) zero x = refl
-padded_none (suc n) (suc i) x = padded_none n i x
-
-pub get_padded : (xs : List ℕ) (n x i : ℕ) → get_or (xs ++ replicate n x) i x ≡ get_or xs i x
-get_padded [] n x i = padded_none n i x
-get_padded (y ∷ xs) n x zero = refl
-get_padded (y ∷ xs) n x (suc i) = get_padded xs n x i
-
 -- a node is written
 module _ (acts tree : List ℕ) (leaves p w : ℕ) (within : p < length tree) where
   pub named_set : HaveActivities acts tree → w < length acts → HaveActivities acts (set tree p w)
@@ -296,28 +285,6 @@ zero_set tree i k within zeros lt = elim (cases_eq k i) [
 
 pub free_past : (held : List Bool) (v : ℕ) → length held ≤ v → leaf_word held v ≡ 0
 free_past held v ge = word_free held v (get_or_past held v false ge)
-
--- a longer tree
-pub heap_longer : (vars leaves : ℕ) (held : List Bool) (acts tree : List ℕ) (more : ℕ) → IsHeap vars leaves held acts tree → IsHeap vars leaves held acts (tree ++ replicate more 0)
-heap_longer vars leaves held acts tree more k = record {
-  limit = k.limit;
-  some = k.some;
-  fits = k.fits;
-  leaves_limit = k.leaves_limit;
-  held_size = k.held_size;
-  activities_size = k.activities_size;
-  within = k.within;
-  none = k.none;
-  size = let old = k.size in omega (arith, length-append tree (replicate more 0));
-  named = λ j. subst (λ n. n < length acts) (sym (get_padded tree more 0 j)) (k.named j);
-  won = let w = k.won in record {
-    won = λ j from to.
-        subst (λ x. IsWinner acts x (entry_at (tree ++ replicate more 0) (2 * j + 1)) (entry_at (tree ++ replicate more 0) j)) (sym (get_padded tree more 0 (2 * j)))
-        (subst (λ x. IsWinner acts (entry_at tree (2 * j)) x (entry_at (tree ++ replicate more 0) j)) (sym (get_padded tree more 0 (2 * j + 1)))
-        (subst (λ x. IsWinner acts (entry_at tree (2 * j)) (entry_at tree (2 * j + 1)) x) (sym (get_padded tree more 0 j)) (w.won j from to)));
-  };
-  leaf = λ i lt. get_padded tree more 0 (leaves + i) ∙ k.leaf i lt;
-}
 
 pub set_free : (held : List Bool) (v : ℕ) → v < length held → leaf_word (set held v false) v ≡ 0
 set_free held v lt = word_free (set held v false) v (get_or-set_same held v false false lt)

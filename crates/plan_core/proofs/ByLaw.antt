@@ -4,7 +4,7 @@ use Rattle.plan_core.specs.Grid.{GridSize}
 use Rattle.plan_core.specs.Graph.{Graph}
 use Rattle.plan_core.specs.Drawing.{Drawing}
 use Rattle.plan_core.specs.Laws.{NodeIsOnGrid, LineIsOnGrid, NodesAreOrdered, LineJoinsItsNodes, NodeIsAligned, NodesAreApart, EdgeIsOver, EdgesAreParted}
-use Rattle.plan_core.specs.Lawful.{Instance, NodeOnGrid, LineOnGrid, Ordered, Joined, Aligned, Apart, Over, Parted, IsPair, IsAbovePair, IsOtherPair, IsInstance, Meets, Fits, Lawful}
+use Rattle.plan_core.specs.Lawful.{NodeOnGrid, LineOnGrid, Ordered, Joined, Aligned, Apart, Over, Parted, IsPair, IsAbovePair, IsOtherPair, Fits, Lawful}
 
 -- the drawing fits the graph, and each law holds for all its parties
 pub record KeepsEachLaw (g : Graph) (above : ℕ → ℕ → Bool) (grid : GridSize) (d : Drawing) : Type 0 where
@@ -30,13 +30,3 @@ each_law g above grid d lawful = record {
   over = λ e f. lawful.laws (Over e f);
   parted = λ e f. lawful.laws (Parted e f);
 }
-
-meets_each : (g : Graph) (above : ℕ → ℕ → Bool) (grid : GridSize) (d : Drawing) → KeepsEachLaw g above grid d → (i : Instance) → IsInstance g above i → Meets g grid d i
-meets_each g above grid d keeps (NodeOnGrid n) = keeps.nodes_on_grid n
-meets_each g above grid d keeps (LineOnGrid e) = keeps.lines_on_grid e
-meets_each g above grid d keeps (Ordered u v) = keeps.ordered u v
-meets_each g above grid d keeps (Joined e) = keeps.joined e
-meets_each g above grid d keeps (Aligned n) = keeps.aligned n
-meets_each g above grid d keeps (Apart u v) = keeps.apart u v
-meets_each g above grid d keeps (Over e f) = keeps.over e f
-meets_each g above grid d keeps (Parted e f) = keeps.parted e f

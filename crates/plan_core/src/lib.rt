@@ -5,7 +5,7 @@
 //! `Graph` (nodes, edges and ports), `Line` (the eleven shapes), `Drawing`, `Laws` (each law's
 //! sentence for its parties), `Lawful` (all laws for all parties), `Values` (what a drawing measures,
 //! and which of two is better) and `Topology` (what was resolved from a file). Of these, `Examples`,
-//! `Breaches` and `Readings` have examples and other words; `text_cases` states what holds of them.
+//! `Breaches` and `Readings` have examples and other words; `cases_text` states what holds of them.
 //! `docs/definitions.md` states each definition in plain words.
 //! Every other crate stands on this one, and it stands on none.
 #![tactic(auto)]

@@ -15,8 +15,8 @@ use Rattle.plan_core.specs.declared.topology.Topology.{Topology}
 use Rattle.plan_core.specs.declared.topology.Track.{Track}
 use Rattle.railml_read.specs.declared.rows.Elem.{Elem}
 use Rattle.railml_read.specs.Formed.{AreFormed}
-use Rattle.topology_faults.specs.Rows.{ReadsMetres, HasPosition}
-use Rattle.topology_faults.proofs.PositionLemmas.{one_number, one_position}
+use Rattle.railml_faults.specs.Rows.{ReadsMetres, HasPosition}
+use Rattle.railml_faults.proofs.PositionLemmas.{one_number, one_position}
 use Rattle.port_graph.specs.Runs.{piece_number}
 use Rattle.railml_read.specs.declared.rows.SignalElem.{SignalElem}
 use Rattle.plan_objects.specs.declared.places.SignalPlace.{SignalPlace}

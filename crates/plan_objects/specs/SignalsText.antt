@@ -3,7 +3,7 @@
 use Rattle.std.specs.Prelude.{ℕ, List, [], ◌∷◌, ◌++◌, codes, length, flat_map, slice_get}
 use Rattle.std.specs.Option.{option_map_or}
 use Rattle.std.specs.Fmt.{decimal}
-use Rattle.line_text.specs.Fields.{line_text}
+use Rattle.outside_io.specs.Fields.{line_text}
 use Rattle.plan_core.specs.declared.point.Point.{Point}
 use Rattle.plan_core.specs.Line.{height}
 use Rattle.plan_core.specs.Drawing.{Drawing, line}

@@ -6,7 +6,7 @@ use Rattle.plan_core.specs.declared.topology.Track.{Track}
 use Rattle.plan_core.specs.Topology.{IsMileage}
 use Rattle.railml_read.specs.declared.rows.Elem.{Elem}
 use Rattle.railml_read.specs.Formed.{AreFormed}
-use Rattle.topology_faults.specs.Faults.{IsNoNumber}
+use Rattle.railml_faults.specs.Faults.{IsNoNumber}
 use Rattle.railml_read.specs.declared.rows.SignalElem.{SignalElem}
 use Rattle.plan_objects.specs.declared.fault.SignalWhat.{SignalWhat}
 use Rattle.plan_objects.specs.declared.fault.SignalWhat.TheVariants.{TooMany, Missing, Id}

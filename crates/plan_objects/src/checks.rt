@@ -1,7 +1,7 @@
 // Faults that a signal has by its own attributes, or by those of earlier signals.
 ghost use Rattle.std.specs.Prelude.{◌≡◌, ◌<◌, IsTrue, ◌↔◌, length, chars, IfSome, IsSome};
 ghost use Rattle.std.specs.Option.{option_copied, is_some};
-ghost use Rattle.topology_faults.specs.Faults.{IsNoNumber};
+ghost use Rattle.railml_faults.specs.Faults.{IsNoNumber};
 ghost use Rattle.plan_objects.specs.Rows.{id_of as id_or_empty};
 ghost use Rattle.plan_objects.specs.Faults.{first_lacking as lacking, HasBadId, RepeatsId, HasNoNumber};
 ghost use Rattle.plan_core.specs.Searching.{FindsFirst};

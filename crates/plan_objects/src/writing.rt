@@ -2,14 +2,14 @@
 ghost use Rattle.std.specs.Prelude.{◌≡◌, ◌<◌, ◌++◌, ℕ, [], ◌∷◌, codes, length, flat_map, slice_get, Some, OnOk};
 ghost use Rattle.std.specs.Fmt.{decimal};
 ghost use Rattle.outside_io.specs.Contents.{Begins};
-ghost use Rattle.line_text.specs.Fields.{spaced, line_text};
+ghost use Rattle.outside_io.specs.Fields.{spaced, line_text};
 ghost use Rattle.plan_objects.specs.Places.{numbers};
 ghost use Rattle.plan_objects.specs.Spread.{HasRoomFor};
 ghost use Rattle.plan_objects.specs.SignalsText.{column_in, height_in, id_at as id_there, signal_line, signals_text};
 
 use crate::Placed;
 use crate::checks::id_of;
-use line_text::{push_field, push_number_field, push_text};
+use outside_io::{push_field, push_number_field, push_text};
 use plan_core::{OutOfMemory, Point};
 use plan_geometry::Drawing;
 use railml_read::{SignalElem, SignalRows};

@@ -6,13 +6,13 @@ use Rattle.std.proofs.lemmas.Bool.{eq-eqb, and_from}
 use Rattle.plan_core.specs.declared.criterion.Criterion.{Criterion}
 use Rattle.plan_core.specs.declared.criterion.Values.{Values}
 use Rattle.plan_core.specs.Graph.{Graph}
-use Rattle.plan_writing.specs.declared.edition.Edition.TheVariants.{First, Second}
-use Rattle.plan_writing.specs.declared.ending.Ending.{Ending}
-use Rattle.plan_writing.specs.declared.ending.Ending.TheVariants.{Best, NoDrawing, Conflicts, Room}
+use Rattle.plan_write.specs.declared.edition.Edition.TheVariants.{First, Second}
+use Rattle.plan_write.specs.declared.ending.Ending.{Ending}
+use Rattle.plan_write.specs.declared.ending.Ending.TheVariants.{Best, NoDrawing, Conflicts, Room}
 use Rattle.plan_text.specs.declared.sheet_fault.SheetWhat.{SheetWhat}
 use Rattle.plan_text.specs.declared.sheet_fault.SheetWhat.TheVariants as whats
-use Rattle.plan_writing.specs.SheetLine.{SheetLine, Title, EndLine, text_of_line, HasForm, IsSmallEnding, MayEnd}
-use Rattle.plan_writing.specs.SheetText.{StatesSettled}
+use Rattle.plan_write.specs.SheetLine.{SheetLine, Title, EndLine, text_of_line, HasForm, IsSmallEnding, MayEnd}
+use Rattle.plan_write.specs.SheetText.{StatesSettled}
 use Rattle.plan_text.specs.SheetFaults.{LineDue, TitleDue, EndDue, IsDue, BeginsWithLine, IsInRange, IsOfGraph, HasWrongLine, order_told}
 use Rattle.plan_text.specs.SheetReading.{IsEndFault}
 

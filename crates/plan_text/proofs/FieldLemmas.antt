@@ -8,11 +8,11 @@ use Rattle.std.proofs.lemmas.Fmt.{decimal_injective}
 use Rattle.std.proofs.lemmas.Bool.{eqb-true, false≢true}
 use Rattle.std.proofs.lemmas.List.{append-nil, append_cancel_left}
 use Rattle.plan_core.specs.declared.criterion.Criterion.{Criterion}
-use Rattle.line_text.specs.Fields.{spaced, line_text, EndsField, IsOneField, Ends}
-use Rattle.line_text.specs.Criteria.{criterion_word}
-use Rattle.line_text.proofs.NumberLemmas.{decimal_is_one}
-use Rattle.line_text.proofs.CriterionLemmas.{word_is_one, word_once}
-use Rattle.plan_writing.specs.SheetLine.{field_told, IsName, IsSmall}
+use Rattle.outside_io.specs.Fields.{spaced, line_text, EndsField, IsOneField, Ends}
+use Rattle.outside_io.specs.Criteria.{criterion_word}
+use Rattle.outside_io.proofs.NumberLemmas.{decimal_is_one}
+use Rattle.outside_io.proofs.CriterionLemmas.{word_is_one, word_once}
+use Rattle.plan_write.specs.SheetLine.{field_told, IsName, IsSmall}
 
 -- ---- one field
 
@@ -138,22 +138,6 @@ no_end {A} {P} {word} s text read rest h ends so_far no_space no_feed values beh
     at : (more : List A) → rest ≡ words word more ++ 10 ∷ behind → ⊥
     at [] f = no_feed behind f
     at (b ∷ more) f = no_space (word b ++ (words word more ++ 10 ∷ behind)) (f ∙ regroup (word b) (words word more) (10 ∷ behind))
-
--- one more value
-pub words_more : {A : Type 0} (word : A → List ℕ) (values : List A) (a : A) (left : List ℕ) → words word values ++ 32 ∷ (word a ++ left) ≡ words word (values ++ a ∷ []) ++ left
-words_more word [] a left = sym (regroup (word a) [] left)
-words_more word (b ∷ values) a left =
-    regroup (word b) (words word values) (32 ∷ (word a ++ left))
-    ∙ ap (λ (t : List ℕ). 32 ∷ (word b ++ t)) (words_more word values a left)
-    ∙ sym (regroup (word b) (words word (values ++ a ∷ [])) left)
-
-pub read_more : {A : Type 0} (word : A → List ℕ) (text : List ℕ) (read : List A) (rest after field left : List ℕ) (a : A) → text ≡ words word read ++ rest → rest ≡ 32 ∷ after → after ≡ field ++ left → field ≡ word a → text ≡ words word (read ++ a ∷ []) ++ left
-read_more word text read rest after field left a so_far is cut same =
-    so_far
-    ∙ ap (λ (t : List ℕ). words word read ++ t) (is ∙ ap (λ (t : List ℕ). 32 ∷ t) (cut ∙ ap (λ (t : List ℕ). t ++ left) same))
-    ∙ words_more word read a left
-
--- ---- numbers and criteria
 
 pub of_numbers : IsSpelling ℕ IsSmall decimal
 of_numbers = record {

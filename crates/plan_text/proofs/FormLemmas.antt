@@ -9,13 +9,13 @@ use Rattle.std.proofs.lemmas.List.{append_cancel_left}
 use Rattle.plan_core.specs.declared.point.Point.{Point}
 use Rattle.plan_core.specs.declared.criterion.Criterion.{Criterion}
 use Rattle.plan_core.specs.Grid.{GridSize, grid_with}
-use Rattle.line_text.specs.Fields.{spaced, line_text, IsOneField, Ends, IsFrontField}
-use Rattle.line_text.specs.Criteria.{criterion_word}
-use Rattle.plan_writing.specs.declared.edition.Edition.{Edition}
-use Rattle.plan_writing.specs.declared.edition.Edition.TheVariants.{First, Second}
-use Rattle.plan_writing.specs.declared.ending.Ending.{Ending}
-use Rattle.plan_writing.specs.declared.ending.Ending.TheVariants.{Best, NoDrawing, Conflicts, Room}
-use Rattle.plan_writing.specs.SheetLine.{SheetLine, GridLine, NodeLine, EdgeLine, EndLine, text_of_line, grid_numbers, coordinates, field_told, StandsForLeast, IsMileageText, IsSmall, AreSmall, IsBetween, IsSmallEnding}
+use Rattle.outside_io.specs.Fields.{spaced, line_text, IsOneField, Ends, IsFrontField}
+use Rattle.outside_io.specs.Criteria.{criterion_word}
+use Rattle.plan_write.specs.declared.edition.Edition.{Edition}
+use Rattle.plan_write.specs.declared.edition.Edition.TheVariants.{First, Second}
+use Rattle.plan_write.specs.declared.ending.Ending.{Ending}
+use Rattle.plan_write.specs.declared.ending.Ending.TheVariants.{Best, NoDrawing, Conflicts, Room}
+use Rattle.plan_write.specs.SheetLine.{SheetLine, GridLine, NodeLine, EdgeLine, EndLine, text_of_line, grid_numbers, coordinates, field_told, StandsForLeast, IsMileageText, IsSmall, AreSmall, IsBetween, IsSmallEnding}
 use Rattle.plan_text.specs.SheetFaults.{OrderDue, NodeDue, EdgeDue, IsToldIn, BeginsWithLine}
 use Rattle.plan_text.specs.SheetReading.{IsFieldAt, IsNumberAt, IsNameAt, IsPointAt, IsNamedAt, IsNumberedAt, IsNodeEnd, IsLineTo}
 use Rattle.plan_text.proofs.FieldLemmas.{SameField, same_field, words, words_once, of_numbers, of_criteria, any_criteria, line_front, fields_left, decimals_are_one, name_is_one, both_one, some_there, regroup}

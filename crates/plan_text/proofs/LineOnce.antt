@@ -8,11 +8,11 @@ use Rattle.plan_core.specs.declared.point.Point.{Point}
 use Rattle.plan_core.specs.declared.criterion.Values.{Values}
 use Rattle.plan_core.specs.declared.criterion.Criterion.{Criterion}
 use Rattle.plan_core.specs.Grid.{GridSize}
-use Rattle.line_text.specs.Fields.{line_text}
-use Rattle.line_text.specs.Criteria.{criterion_word}
-use Rattle.plan_writing.specs.declared.edition.Edition.{Edition}
-use Rattle.plan_writing.specs.declared.edition.Edition.TheVariants.{First, Second}
-use Rattle.plan_writing.specs.SheetLine.{SheetLine, GridLine, OrderLine, NodeLine, EdgeLine, ValuesLine, coordinates, text_of_line, field_told, AreSmall, HasForm}
+use Rattle.outside_io.specs.Fields.{line_text}
+use Rattle.outside_io.specs.Criteria.{criterion_word}
+use Rattle.plan_write.specs.declared.edition.Edition.{Edition}
+use Rattle.plan_write.specs.declared.edition.Edition.TheVariants.{First, Second}
+use Rattle.plan_write.specs.SheetLine.{SheetLine, GridLine, OrderLine, NodeLine, EdgeLine, ValuesLine, coordinates, text_of_line, field_told, AreSmall, HasForm}
 use Rattle.plan_text.specs.SheetFaults.{GridDue, OrderDue, NodeDue, EdgeDue, ValuesDue, IsToldIn, BeginsWithLine}
 use Rattle.plan_text.proofs.FieldLemmas.{SameWords, words, words_once, of_numbers, of_criteria, any_criteria, line_front}
 

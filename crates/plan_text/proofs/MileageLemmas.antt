@@ -8,13 +8,13 @@ use Rattle.std.proofs.lemmas.Bool.{false≢true}
 use Rattle.std.proofs.lemmas.Int.{ints}
 use Rattle.std.proofs.lemmas.List.{take-append-drop}
 use Rattle.plan_core.specs.Topology.{IsMileage}
-use Rattle.line_text.specs.Fields.{EndsField, IsOneField}
-use Rattle.line_text.specs.Numbers.{IsNumberIn, BeginsCanonical}
-use Rattle.line_text.proofs.NumberLemmas.{field_begins, decimal_is_one}
+use Rattle.outside_io.specs.Fields.{EndsField, IsOneField}
+use Rattle.outside_io.specs.Numbers.{IsNumberIn, BeginsCanonical}
+use Rattle.outside_io.proofs.NumberLemmas.{field_begins, decimal_is_one}
 use Rattle.rail_mileage.specs.MetresText.{six_digits, size_text, metres_text}
 use Rattle.rail_mileage.proofs.WrittenLemmas.{six_are_digits}
-use Rattle.plan_writing.specs.declared.sheet.TheConstants.{MAX_METRES}
-use Rattle.plan_writing.specs.SheetLine.{AreDigits, IsWholeMetres, IsFraction, IsSize, minus_text, IsMileageText, field_told}
+use Rattle.plan_write.specs.declared.sheet.TheConstants.{MAX_METRES}
+use Rattle.plan_write.specs.SheetLine.{AreDigits, IsWholeMetres, IsFraction, IsSize, minus_text, IsMileageText, field_told}
 
 -- ---- a size, cut in front of its last seven bytes
 

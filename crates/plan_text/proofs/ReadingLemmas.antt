@@ -12,14 +12,14 @@ use Rattle.plan_core.specs.declared.criterion.Criterion.{Criterion}
 use Rattle.plan_core.specs.Grid.{GridSize, IsGrid}
 use Rattle.plan_core.specs.Graph.{Graph, node, edge}
 use Rattle.plan_core.specs.Values.{values_of}
-use Rattle.plan_writing.specs.declared.edition.Edition.{Edition}
-use Rattle.plan_writing.specs.declared.edition.Edition.TheVariants.{First, Second}
-use Rattle.plan_writing.specs.declared.ending.Ending.{Ending}
+use Rattle.plan_write.specs.declared.edition.Edition.{Edition}
+use Rattle.plan_write.specs.declared.edition.Edition.TheVariants.{First, Second}
+use Rattle.plan_write.specs.declared.ending.Ending.{Ending}
 use Rattle.plan_core.specs.Drawing.{Drawing, drawing}
 use Rattle.plan_text.specs.declared.sheet_fault.SheetFault.{SheetFault}
 use Rattle.plan_text.specs.declared.sheet_fault.SheetFault.TheVariants.{Sheet as SheetHas, Memory}
-use Rattle.plan_writing.specs.SheetLine.{SheetLine, Title, GridLine, NodeLine, EdgeLine, ValuesLine, EndLine, text_of_line, MayEnd}
-use Rattle.plan_writing.specs.SheetText.{StatesSettled, mileage_field, track_field}
+use Rattle.plan_write.specs.SheetLine.{SheetLine, Title, GridLine, NodeLine, EdgeLine, ValuesLine, EndLine, text_of_line, MayEnd}
+use Rattle.plan_write.specs.SheetText.{StatesSettled, mileage_field, track_field}
 use Rattle.plan_text.specs.SheetFaults.{LineDue, TitleDue, GridDue, NodeDue, EdgesDue, EdgeDue, ValuesDue, EndDue, IsToldIn, IsDue, node_due, edge_due, due_behind, due_after, criteria_told, place_told, line_told, order_told, drawing_told, IsInRange, IsOfGraph, HasShape, IsMeasured, AreRightLines, HasWrongLine}
 use Rattle.plan_text.specs.SheetReading.{IsLineTo, placed_lines, drawn_lines, AreReadTo, IsFaultHere, IsFaultFrom}
 

@@ -13,15 +13,15 @@ use Rattle.plan_core.specs.Line.{origin}
 use Rattle.plan_core.specs.Graph.{Graph, node, edge}
 use Rattle.plan_core.specs.Drawing.{Drawing, drawing, place, line}
 use Rattle.plan_core.specs.Values.{values_of}
-use Rattle.plan_writing.specs.declared.edition.Edition.{Edition}
-use Rattle.plan_writing.specs.declared.ending.Ending.{Ending}
+use Rattle.plan_write.specs.declared.edition.Edition.{Edition}
+use Rattle.plan_write.specs.declared.ending.Ending.{Ending}
 use Rattle.plan_text.specs.declared.sheet_fault.SheetFault.{SheetFault}
 use Rattle.plan_text.specs.declared.sheet_fault.SheetFault.TheVariants.{Sheet as SheetHas, Memory}
 use Rattle.plan_text.specs.declared.sheet_fault.SheetWhat.{SheetWhat}
 use Rattle.plan_text.specs.declared.sheet_fault.SheetWhat.TheVariants as whats
-use Rattle.plan_writing.specs.SheetLine.{SheetLine, NodesLine, NodeLine, EdgesLine, EdgeLine, ValuesLine, EndLine, text_of_line, IsSmallEnding, MayEnd}
+use Rattle.plan_write.specs.SheetLine.{SheetLine, NodesLine, NodeLine, EdgesLine, EdgeLine, ValuesLine, EndLine, text_of_line, IsSmallEnding, MayEnd}
 use Rattle.plan_core.specs.Lawful.{HasSizeOf}
-use Rattle.plan_writing.specs.SheetText.{StatesSettled, mileage_field, track_field, node_line, edge_line, node_lines, edge_lines, picture_lines, drawing_lines}
+use Rattle.plan_write.specs.SheetText.{StatesSettled, mileage_field, track_field, node_line, edge_line, node_lines, edge_lines, picture_lines, drawing_lines}
 use Rattle.plan_text.specs.SheetFaults.{LineDue, TitleDue, BodyDue, NodeDue, EdgesDue, EdgeDue, ValuesDue, BeginsWithLine, node_due, edge_due, due_after, criteria_told, place_told, line_told, order_told, drawing_told, HasWrongLine, IsSheetText, IsSheetFault}
 use Rattle.plan_text.specs.SheetReading.{IsLineTo, head_lines, placed_lines, drawn_lines, AreReadTo, IsFirstFrom, IsFaultFrom, ArePlacesTo, AreLinesTo, IsPictureTo, IsClosing, IsNoUndrawnEnding}
 use Rattle.plan_text.proofs.ReadingLemmas.{due_append, read_append, read_one, first_later, due_places, due_lines, placed_length, drawn_length, order_kept, drawing_grown}

@@ -13,15 +13,15 @@ use Rattle.plan_core.specs.Drawing.{Drawing, drawing}
 use Rattle.plan_core.specs.Values.{values_of}
 use Rattle.plan_core.specs.Exactly.{AnswersExactly}
 use Rattle.plan_core.proofs.ExactlyLemmas.{answers_exactly}
-use Rattle.plan_writing.specs.declared.edition.Edition.{Edition}
-use Rattle.plan_writing.specs.declared.ending.Ending.{Ending}
+use Rattle.plan_write.specs.declared.edition.Edition.{Edition}
+use Rattle.plan_write.specs.declared.ending.Ending.{Ending}
 use Rattle.plan_text.specs.declared.sheet_fault.SheetWhat.{SheetWhat}
 use Rattle.plan_text.specs.declared.sheet_fault.SheetWhat.TheVariants as whats
 use Rattle.plan_text.specs.declared.sheet_fault.SheetFault.{SheetFault}
 use Rattle.plan_text.specs.declared.sheet_fault.SheetFault.TheVariants.{Sheet as SheetHas, Memory}
-use Rattle.plan_writing.specs.SheetLine.{SheetLine, Title, GridLine, OrderLine, NodesLine, EdgeLine, ValuesLine, EndLine, text_of_line}
+use Rattle.plan_write.specs.SheetLine.{SheetLine, Title, GridLine, OrderLine, NodesLine, EdgeLine, ValuesLine, EndLine, text_of_line}
 use Rattle.plan_core.specs.Lawful.{HasSizeOf}
-use Rattle.plan_writing.specs.SheetText.{Sheet, DrawsAll, picture_lines, drawing_lines, found_lines, sheet_lines}
+use Rattle.plan_write.specs.SheetText.{Sheet, DrawsAll, picture_lines, drawing_lines, found_lines, sheet_lines}
 use Rattle.plan_text.specs.SheetFaults.{LineDue, TitleDue, BodyDue, NoneDue, due_behind, due_after, place_told, line_told, drawing_told, BeginsWithLine, IsMisformed, HasWrongLine, IsInRange, IsOfGraph, HasShape, IsMeasured, IsRight, AreRightLines, IsSheetText, IsDrawingOf, HasSheetFault, IsSheetFault}
 use Rattle.plan_text.proofs.LineAgain.{once_due, none_due}
 use Rattle.plan_text.proofs.ReadingLemmas.{due_append}

@@ -16,13 +16,13 @@ use Rattle.plan_core.specs.Graph.{Graph, Node, Edge, no_node, no_edge, edge}
 use Rattle.plan_core.specs.Drawing.{Drawing}
 use Rattle.plan_core.specs.Values.{values_of}
 use Rattle.port_graph.specs.StationGraph.{IsStationGraph}
-use Rattle.line_text.specs.Fields.{spaced}
-use Rattle.line_text.specs.Criteria.{criterion_word}
-use Rattle.plan_writing.specs.declared.edition.Edition.{Edition}
-use Rattle.plan_writing.specs.declared.edition.Edition.TheVariants.{First, Second}
-use Rattle.plan_writing.specs.declared.ending.Ending.TheVariants.{Best, NoDrawing, Conflicts, Room}
-use Rattle.plan_writing.specs.SheetLine.{SheetLine, Title, GridLine, OrderLine, NodesLine, NodeLine, EdgesLine, EdgeLine, ValuesLine, EndLine, coordinates, first_field, other_fields, text_of_line, IsSmall, AreSmall, minus_text, IsMileageText, HasForm}
-use Rattle.plan_writing.specs.SheetText.{Sheet, node_line, edge_line, node_lines, edge_lines, found_lines, sheet_lines}
+use Rattle.outside_io.specs.Fields.{spaced}
+use Rattle.outside_io.specs.Criteria.{criterion_word}
+use Rattle.plan_write.specs.declared.edition.Edition.{Edition}
+use Rattle.plan_write.specs.declared.edition.Edition.TheVariants.{First, Second}
+use Rattle.plan_write.specs.declared.ending.Ending.TheVariants.{Best, NoDrawing, Conflicts, Room}
+use Rattle.plan_write.specs.SheetLine.{SheetLine, Title, GridLine, OrderLine, NodesLine, NodeLine, EdgesLine, EdgeLine, ValuesLine, EndLine, coordinates, first_field, other_fields, text_of_line, IsSmall, AreSmall, minus_text, IsMileageText, HasForm}
+use Rattle.plan_write.specs.SheetText.{Sheet, node_line, edge_line, node_lines, edge_lines, found_lines, sheet_lines}
 use Rattle.plan_text.specs.SheetFaults.{LineDue, TitleDue, due_behind, AreRightLines, IsSheetText}
 use Rattle.plan_text.proofs.MileageLemmas.{size_length}
 

@@ -24,20 +24,20 @@ use Rattle.plan_core.proofs.LineLemmas.{line_length}
 use Rattle.plan_core.proofs.LimitLemmas.{maximum-le, bends-le, diagonal-le}
 use Rattle.plan_core.proofs.OrderLemmas.{few_criteria}
 use Rattle.port_graph.specs.StationGraph.{IsStationGraph}
-use Rattle.plan_writing.specs.declared.edition.Edition.{Edition}
-use Rattle.plan_writing.specs.declared.edition.Edition.TheVariants.{First, Second}
-use Rattle.plan_writing.specs.declared.ending.Ending.{Ending}
-use Rattle.plan_writing.specs.declared.ending.Ending.TheVariants.{Best, NoDrawing, Conflicts, Room}
-use Rattle.plan_writing.specs.SheetLine.{SheetLine, GridLine, NodesLine, NodeLine, EdgesLine, EdgeLine, ValuesLine, EndLine, coordinates, IsName, IsMileageText, IsSmall, AreSmall, IsSmallEnding, StandsForLeast, HasForm, MayEnd}
+use Rattle.plan_write.specs.declared.edition.Edition.{Edition}
+use Rattle.plan_write.specs.declared.edition.Edition.TheVariants.{First, Second}
+use Rattle.plan_write.specs.declared.ending.Ending.{Ending}
+use Rattle.plan_write.specs.declared.ending.Ending.TheVariants.{Best, NoDrawing, Conflicts, Room}
+use Rattle.plan_write.specs.SheetLine.{SheetLine, GridLine, NodesLine, NodeLine, EdgesLine, EdgeLine, ValuesLine, EndLine, coordinates, IsName, IsMileageText, IsSmall, AreSmall, IsSmallEnding, StandsForLeast, HasForm, MayEnd}
 use Rattle.plan_core.specs.Lawful.{HasSizeOf}
-use Rattle.plan_writing.specs.SheetText.{Sheet, StatesSettled, DrawsAll, DrawsOnGrid, mileage_field, track_field, drawing_lines, found_lines, text_in}
+use Rattle.plan_write.specs.SheetText.{Sheet, StatesSettled, DrawsAll, DrawsOnGrid, mileage_field, track_field, drawing_lines, found_lines, text_in}
 use Rattle.plan_text.specs.SheetFaults.{LineDue, TitleDue, BodyDue, EdgesDue, ValuesDue, EndDue, IsDue, node_due, edge_due, order_told, drawing_told, IsRight, AreRightLines, IsSheetText}
 use Rattle.plan_text.specs.SheetReading.{head_lines, placed_lines, drawn_lines}
 use Rattle.plan_text.proofs.ReadingLemmas.{right_append, mileage_told, track_told, node_due_at, edge_due_at, order_kept, drawing_grown}
 use Rattle.plan_text.proofs.SheetAgain.{parts_of, no_criteria, parts_tell, due_nodes, due_parts, head_order}
 use Rattle.plan_text.proofs.MileageLemmas.{written_mileage}
 use Rattle.plan_text.proofs.SheetLaws.{lines_are}
-use Rattle.line_text.specs.Fields.{EndsField}
+use Rattle.outside_io.specs.Fields.{EndsField}
 
 -- ---- names
 

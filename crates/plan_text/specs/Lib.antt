@@ -1,7 +1,7 @@
-pub use Rattle.plan_writing.specs.GraphText
-pub use Rattle.plan_writing.specs.SheetLine
-pub use Rattle.plan_writing.specs.SheetText
-pub use Rattle.plan_writing.specs.SvgText
+pub use Rattle.plan_write.specs.GraphText
+pub use Rattle.plan_write.specs.SheetLine
+pub use Rattle.plan_write.specs.SheetText
+pub use Rattle.plan_write.specs.SvgText
 pub mod SheetFaults
 pub mod SheetWhats
 pub mod SheetReading

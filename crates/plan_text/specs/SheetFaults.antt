@@ -10,16 +10,16 @@ use Rattle.plan_core.specs.Line.{is_line}
 use Rattle.plan_core.specs.Graph.{Graph, node, edge}
 use Rattle.plan_core.specs.Drawing.{Drawing, drawing}
 use Rattle.plan_core.specs.Values.{values_of}
-use Rattle.plan_writing.specs.declared.edition.Edition.{Edition}
-use Rattle.plan_writing.specs.declared.edition.Edition.TheVariants.{First, Second}
+use Rattle.plan_write.specs.declared.edition.Edition.{Edition}
+use Rattle.plan_write.specs.declared.edition.Edition.TheVariants.{First, Second}
 use Rattle.plan_text.specs.declared.sheet_fault.SheetWhat.{SheetWhat}
 use Rattle.plan_text.specs.declared.sheet_fault.SheetWhat.TheVariants as whats
 use Rattle.plan_text.specs.declared.sheet_fault.SheetFault.{SheetFault}
 use Rattle.plan_text.specs.declared.sheet_fault.SheetFault.TheVariants.{Sheet as SheetHas, Memory}
-use Rattle.plan_writing.specs.SheetLine.{SheetLine, Title, GridLine, OrderLine, NodesLine, NodeLine, EdgesLine}
-use Rattle.plan_writing.specs.SheetLine.{EdgeLine, ValuesLine, EndLine, text_of_line, HasForm, MayEnd}
-use Rattle.plan_writing.specs.SheetText.{Sheet, StatesSettled, DrawsAll, mileage_field, track_field, sheet_lines}
-use Rattle.plan_writing.specs.SheetText.{text_in}
+use Rattle.plan_write.specs.SheetLine.{SheetLine, Title, GridLine, OrderLine, NodesLine, NodeLine, EdgesLine}
+use Rattle.plan_write.specs.SheetLine.{EdgeLine, ValuesLine, EndLine, text_of_line, HasForm, MayEnd}
+use Rattle.plan_write.specs.SheetText.{Sheet, StatesSettled, DrawsAll, mileage_field, track_field, sheet_lines}
+use Rattle.plan_write.specs.SheetText.{text_in}
 
 -- ---- which line is due
 

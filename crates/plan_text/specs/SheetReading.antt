@@ -9,21 +9,21 @@ use Rattle.plan_core.specs.Grid.{GridSize}
 use Rattle.plan_core.specs.Graph.{Graph, node, edge}
 use Rattle.plan_core.specs.Drawing.{Drawing, drawing}
 use Rattle.plan_core.specs.Values.{values_of}
-use Rattle.plan_writing.specs.declared.ending.Ending.{Ending}
-use Rattle.plan_writing.specs.declared.ending.Ending.TheVariants as endings
+use Rattle.plan_write.specs.declared.ending.Ending.{Ending}
+use Rattle.plan_write.specs.declared.ending.Ending.TheVariants as endings
 use Rattle.plan_text.specs.declared.sheet_fault.SheetWhat.{SheetWhat}
 use Rattle.plan_text.specs.declared.sheet_fault.SheetWhat.TheVariants.{Form, Range}
 use Rattle.plan_text.specs.declared.sheet_fault.SheetFault.{SheetFault}
 use Rattle.plan_text.specs.declared.sheet_fault.SheetFault.TheVariants.{Sheet as SheetHas, Memory}
 use Rattle.plan_text.specs.declared.sheet_lines.EndTold.{EndTold}
 use Rattle.plan_text.specs.declared.sheet_lines.EndTold.TheVariants.{Best, NoDrawing, Conflicts, Room}
-use Rattle.line_text.specs.Fields.{spaced, Ends, IsOneField}
-use Rattle.line_text.specs.Criteria.{criterion_word}
-use Rattle.plan_writing.specs.declared.edition.Edition.{Edition}
-use Rattle.plan_writing.specs.SheetLine.{SheetLine, Title, GridLine, OrderLine, NodesLine, NodeLine, EdgesLine}
-use Rattle.plan_writing.specs.SheetLine.{EdgeLine, ValuesLine, EndLine, IsName, IsSmall, AreSmall, IsMileageText}
-use Rattle.plan_writing.specs.SheetLine.{field_told, HasForm, IsSmallEnding, MayEnd, text_of_line}
-use Rattle.plan_writing.specs.SheetText.{StatesSettled, mileage_field, track_field, picture_lines, drawing_lines}
+use Rattle.outside_io.specs.Fields.{spaced, Ends, IsOneField}
+use Rattle.outside_io.specs.Criteria.{criterion_word}
+use Rattle.plan_write.specs.declared.edition.Edition.{Edition}
+use Rattle.plan_write.specs.SheetLine.{SheetLine, Title, GridLine, OrderLine, NodesLine, NodeLine, EdgesLine}
+use Rattle.plan_write.specs.SheetLine.{EdgeLine, ValuesLine, EndLine, IsName, IsSmall, AreSmall, IsMileageText}
+use Rattle.plan_write.specs.SheetLine.{field_told, HasForm, IsSmallEnding, MayEnd, text_of_line}
+use Rattle.plan_write.specs.SheetText.{StatesSettled, mileage_field, track_field, picture_lines, drawing_lines}
 use Rattle.plan_text.specs.SheetFaults.{LineDue, TitleDue, BodyDue, ValuesDue, EdgesDue, IsToldIn, node_due, edge_due}
 use Rattle.plan_text.specs.SheetFaults.{due_after, order_told, drawing_told, HasWrongLine, AreRightLines}
 

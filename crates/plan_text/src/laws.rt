@@ -6,14 +6,14 @@ ghost use Rattle.plan_core.specs.Line.{is_line};
 ghost use Rattle.plan_core.specs.Graph.{Graph, node, edge};
 ghost use Rattle.port_graph.specs.StationGraph.{IsStationGraph};
 ghost use Rattle.plan_text.specs.declared.sheet_fault.SheetWhat.{SheetWhat};
-ghost use Rattle.plan_writing.specs.SheetLine.{IsName};
-ghost use Rattle.plan_writing.specs.SheetText.{Sheet as PlainSheet, DrawsAll, DrawsOnGrid, StatesSettled, sheet_text};
-ghost use Rattle.plan_writing.specs.SheetText.{first_sheet_text};
+ghost use Rattle.plan_write.specs.SheetLine.{IsName};
+ghost use Rattle.plan_write.specs.SheetText.{Sheet as PlainSheet, DrawsAll, DrawsOnGrid, StatesSettled, sheet_text};
+ghost use Rattle.plan_write.specs.SheetText.{first_sheet_text};
 ghost use Rattle.plan_text.specs.SheetFaults.{HasSheetFault, IsSheetText};
 
 use plan_core::{EdgeNo, NodeNo};
 use plan_geometry::Drawing;
-use plan_writing::Sheet;
+use plan_write::Sheet;
 use port_graph::PortGraph;
 
 /// A text that is a sheet's has no line with a fault.

@@ -1,11 +1,11 @@
-//! The texts that tell what a station is and how it is drawn: they are written by `plan_writing`, and a sheet is read.
+//! The texts that tell what a station is and how it is drawn: they are written by `plan_write`, and a sheet is read.
 //!
 //! `read_sheet` and `read_drawing` read a sheet of either edition again, or answer the first line with a fault. `laws`
 //! says that a text is that of one sheet or has one first fault, that a sheet's text is never too long to be read, and
 //! that what is written is read again. `specs/SheetFaults` has the faults of a sheet's lines and `specs/SheetWhats` the
-//! faults' numbers and words; `specs/SheetReading` is for private contracts. The calls of `plan_writing` and its
+//! faults' numbers and words; `specs/SheetReading` is for private contracts. The calls of `plan_write` and its
 //! `specs/`, with the texts and the forms of a sheet's lines, are handed out here too. The crate stands on
-//! `plan_writing` and on `line_text`; the top call stands on it.
+//! `plan_write` and on `outside_io`; the top call stands on it.
 #![tactic(auto)]
 
 mod laws;
@@ -17,7 +17,7 @@ mod sheet_lines;
 mod sheet_reading;
 
 pub use laws::{one_sheet, one_sheet_fault, sheet_or_fault, sheets_are_short, written_is_read};
-pub use plan_writing::{
+pub use plan_write::{
     Edition, Ending, Sheet, write_drawing, write_drawn, write_graph, write_grid, write_sheet,
     write_svg,
 };

@@ -1,9 +1,9 @@
 // A mileage's field, judged by its form.
 ghost use Rattle.std.specs.Prelude.{◌↔◌, IsTrue};
-ghost use Rattle.plan_writing.specs.SheetLine.{AreDigits, IsWholeMetres, IsFraction, IsSize, IsMileageText};
+ghost use Rattle.plan_write.specs.SheetLine.{AreDigits, IsWholeMetres, IsFraction, IsSize, IsMileageText};
 
-use line_text::{behind, read_long_number};
-use plan_writing::MAX_METRES;
+use outside_io::{behind, read_long_number};
+use plan_write::MAX_METRES;
 
 fn are_digits(text: &[u8]) -> bool
     ensures { IsTrue result ↔ AreDigits text.now }

@@ -6,11 +6,11 @@ ghost use Rattle.plan_core.specs.Order.{IsOrder};
 ghost use Rattle.plan_core.specs.Line.{is_line};
 ghost use Rattle.plan_core.specs.Graph.{Graph, node, edge};
 ghost use Rattle.plan_core.specs.Values.{values_of};
-ghost use Rattle.plan_writing.specs.SheetLine.{SheetLine, Title, GridLine, OrderLine, NodesLine, NodeLine, EdgesLine};
-ghost use Rattle.plan_writing.specs.SheetLine.{EdgeLine, ValuesLine, EndLine, MayEnd};
-ghost use Rattle.plan_writing.specs.declared.edition.Edition.{Edition as Editions};
+ghost use Rattle.plan_write.specs.SheetLine.{SheetLine, Title, GridLine, OrderLine, NodesLine, NodeLine, EdgesLine};
+ghost use Rattle.plan_write.specs.SheetLine.{EdgeLine, ValuesLine, EndLine, MayEnd};
+ghost use Rattle.plan_write.specs.declared.edition.Edition.{Edition as Editions};
 ghost use Rattle.rail_mileage.specs.MetresText.{metres_text};
-ghost use Rattle.plan_writing.specs.SheetText.{StatesSettled, mileage_field, track_field};
+ghost use Rattle.plan_write.specs.SheetText.{StatesSettled, mileage_field, track_field};
 ghost use Rattle.plan_text.specs.SheetFaults.{TitleDue, GridDue, OrderDue, BodyDue, NodeDue, EdgesDue, EdgeDue};
 ghost use Rattle.plan_text.specs.SheetFaults.{ValuesDue, EndDue, order_told, drawing_told, IsOfGraph};
 ghost use Rattle.plan_text.specs.SheetReading.{IsLineTo, IsEndFault, IsFaultHere, drawn_line, ending_told};
@@ -20,10 +20,10 @@ use crate::sheet_lines::{
     values_line,
 };
 use crate::{SheetFault, SheetWhat};
-use line_text::behind;
+use outside_io::behind;
 use plan_core::{EdgeNo, Grid, NodeNo, Order, OutOfMemory, Point};
 use plan_geometry::{Drawing, Line, values};
-use plan_writing::{Edition, Ending};
+use plan_write::{Edition, Ending};
 use port_graph::PortGraph;
 use rail_mileage::write_metres;
 use std::alloc::Global;

@@ -3,13 +3,13 @@ ghost use Rattle.std.specs.Prelude.{◌≡◌, ◌≢◌, ◌≤◌, ◌++◌, �
 ghost use Rattle.std.specs.Fmt.{decimal};
 ghost use Rattle.plan_core.specs.declared.criterion.Criterion.{Criterion as Measure};
 ghost use Rattle.plan_core.specs.declared.point.Point.{Point as Told};
-ghost use Rattle.line_text.specs.Criteria.{criterion_word};
-ghost use Rattle.line_text.specs.Fields.{spaced};
-ghost use Rattle.plan_writing.specs.SheetLine.{IsSmall, AreSmall};
+ghost use Rattle.outside_io.specs.Criteria.{criterion_word};
+ghost use Rattle.outside_io.specs.Fields.{spaced};
+ghost use Rattle.plan_write.specs.SheetLine.{IsSmall, AreSmall};
 ghost use Rattle.plan_text.specs.SheetReading.{IsFieldAt, IsNumberAt, IsNameAt, IsPointAt};
 
 use arrayvec::ArrayVec;
-use line_text::{MAX_NUMBER, behind, front_field, read_criterion, read_number};
+use outside_io::{MAX_NUMBER, behind, front_field, read_criterion, read_number};
 use plan_core::{Criterion, Point};
 
 /// The field in front of the text, after one space, and what stands behind it, if a space is in front.

@@ -5,12 +5,12 @@ ghost use Rattle.std.specs.Option.{option_copied};
 ghost use Rattle.std.specs.declared.option.Option.{Option};
 ghost use Rattle.plan_core.specs.declared.point.Point.{Point as Told};
 ghost use Rattle.plan_core.specs.Grid.{GridSize, grid_with};
-ghost use Rattle.line_text.specs.Fields.{line_text};
-ghost use Rattle.plan_writing.specs.declared.edition.Edition.{Edition as Editions};
-ghost use Rattle.plan_writing.specs.declared.ending.Ending.{Ending};
-ghost use Rattle.plan_writing.specs.SheetLine.{SheetLine, GridLine, OrderLine, NodeLine, EdgeLine, ValuesLine, EndLine};
-ghost use Rattle.plan_writing.specs.SheetLine.{grid_numbers, coordinates, text_of_line, IsSmall, AreSmall};
-ghost use Rattle.plan_writing.specs.SheetLine.{IsMileageText, StandsForLeast, IsBetween, HasForm, IsSmallEnding};
+ghost use Rattle.outside_io.specs.Fields.{line_text};
+ghost use Rattle.plan_write.specs.declared.edition.Edition.{Edition as Editions};
+ghost use Rattle.plan_write.specs.declared.ending.Ending.{Ending};
+ghost use Rattle.plan_write.specs.SheetLine.{SheetLine, GridLine, OrderLine, NodeLine, EdgeLine, ValuesLine, EndLine};
+ghost use Rattle.plan_write.specs.SheetLine.{grid_numbers, coordinates, text_of_line, IsSmall, AreSmall};
+ghost use Rattle.plan_write.specs.SheetLine.{IsMileageText, StandsForLeast, IsBetween, HasForm, IsSmallEnding};
 ghost use Rattle.plan_text.specs.SheetFaults.{GridDue, OrderDue, NodeDue, EdgeDue, ValuesDue, IsToldIn, BeginsWithLine};
 ghost use Rattle.plan_text.specs.SheetFaults.{IsMisformed};
 ghost use Rattle.plan_text.specs.SheetReading.{IsNamedAt, IsNumberedAt, IsNodeEnd, IsLineTo, ending_told};
@@ -18,9 +18,9 @@ ghost use Rattle.plan_text.specs.SheetReading.{IsNamedAt, IsNumberedAt, IsNodeEn
 use crate::mileage_text::is_mileage;
 use crate::sheet_fields::{criteria, next_field, next_name, next_number, next_point, numbers};
 use arrayvec::ArrayVec;
-use line_text::behind;
+use outside_io::behind;
 use plan_core::{Criterion, Point, Values};
-use plan_writing::Edition;
+use plan_write::Edition;
 
 /// What a node's line tells; the mileage in the second edition alone.
 #[derive(Clone, Copy)]

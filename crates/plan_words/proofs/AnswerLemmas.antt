@@ -8,7 +8,7 @@ use Rattle.plan_core.specs.Grid.{GridSize, grid_with}
 use Rattle.plan_core.specs.declared.limits.TheConstants.{MAX_WIDTH, MAX_HEIGHT, MAX_LEAST, MAX_BUDGET}
 use Rattle.plan_core.specs.Exactly.{AnswersExactly}
 use Rattle.plan_core.proofs.ExactlyLemmas.{answers_exactly}
-use Rattle.line_text.specs.Numbers.{IsNumberIn}
+use Rattle.outside_io.specs.Numbers.{IsNumberIn}
 use Rattle.plan_core.specs.declared.criterion.Criterion.{Criterion}
 use Rattle.plan_words.specs.declared.command.CommandWord.{CommandWord}
 use Rattle.plan_words.specs.declared.command.CommandWord.TheVariants as words

@@ -2,7 +2,6 @@ pub mod ArgumentLemmas
 pub mod OrderTextLemmas
 pub mod PlaceLemmas
 pub mod SoundLemmas
-pub mod FirstFaultLemmas
 pub mod WordLemmas
 pub mod FileLemmas
 pub mod PartLemmas

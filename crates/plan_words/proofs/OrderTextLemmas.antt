@@ -9,7 +9,7 @@ use Rattle.plan_core.specs.declared.criterion.Criterion.{Criterion}
 use Rattle.plan_core.specs.declared.criterion.Criterion.TheVariants.{Height, Bends, Diagonal, Width}
 use Rattle.plan_core.specs.Order.{IsOrder}
 use Rattle.plan_core.proofs.OrderLemmas.{few_criteria}
-use Rattle.line_text.specs.Criteria.{criterion_word}
+use Rattle.outside_io.specs.Criteria.{criterion_word}
 use Rattle.plan_words.specs.OptionValues.{criteria_text, IsOrderText, IsPairText}
 
 abbrev pub pieces : List ℕ → List (List ℕ)

@@ -4,8 +4,8 @@ use Rattle.std.specs.List.{join_with_byte}
 use Rattle.plan_core.specs.declared.criterion.Criterion.{Criterion}
 use Rattle.plan_core.specs.declared.limits.TheConstants.{MAX_WIDTH, MAX_HEIGHT, MAX_LEAST, MAX_BUDGET}
 use Rattle.plan_core.specs.Order.{IsOrder}
-use Rattle.line_text.specs.Numbers.{IsNumberIn}
-use Rattle.line_text.specs.Criteria.{criterion_word}
+use Rattle.outside_io.specs.Numbers.{IsNumberIn}
+use Rattle.outside_io.specs.Criteria.{criterion_word}
 use Rattle.plan_words.specs.declared.option_values.TheConstants.{MAX_SEED}
 use Rattle.plan_words.specs.declared.option_values.OptionWord.{OptionWord}
 use Rattle.plan_words.specs.declared.option_values.OptionWord.TheVariants.{Width, Height, Least, Criteria, Conflicts}

@@ -4,7 +4,7 @@ ghost use Rattle.std.specs.Prelude.{⊤};
 ghost use Rattle.std.specs.Option.{option_copied};
 ghost use Rattle.plan_words.specs.declared.command.CommandWord.TheVariants as words;
 ghost use Rattle.plan_words.specs.declared.option_values.OptionWord.TheVariants as options;
-ghost use Rattle.line_text.specs.Numbers.{IsNumberIn};
+ghost use Rattle.outside_io.specs.Numbers.{IsNumberIn};
 ghost use Rattle.plan_words.specs.OptionValues.{IsWidth, IsHeight, IsLeastLength, IsBudget, IsSeed, IsOrderText};
 ghost use Rattle.plan_words.specs.Arguments.{argument_names};
 ghost use Rattle.plan_words.specs.WordFaults.{name_count};

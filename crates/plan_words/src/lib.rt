@@ -6,7 +6,7 @@
 //! without a fault ask for. `specs/Soundness` is what code keeps from left to right, for private
 //! contracts alone. `laws` says that words have one answer.
 //!
-//! The crate stands on `plan_core`, for grids, orders and texts, and on `line_text`, for numbers and the
+//! The crate stands on `plan_core`, for grids, orders and texts, and on `outside_io`, for numbers and the
 //! words of criteria. It is made for the program.
 #![tactic(auto)]
 

@@ -2,11 +2,11 @@
 ghost use Rattle.std.specs.Prelude.{◌≡◌, ◌≢◌, ◌≤◌, ℕ, List, [], ◌∷◌, length, MatchOption};
 ghost use Rattle.std.specs.Bool.{MatchBool};
 ghost use Rattle.plan_core.specs.declared.criterion.Criterion.{Criterion as Measure};
-ghost use Rattle.line_text.specs.Numbers.{IsNumberIn};
+ghost use Rattle.outside_io.specs.Numbers.{IsNumberIn};
 ghost use Rattle.plan_words.specs.OptionValues.{option_word, criteria_text, IsOrderText, IsPairText, Takes};
 
 use arrayvec::ArrayVec;
-use line_text::{read_criterion, read_number};
+use outside_io::{read_criterion, read_number};
 use plan_core::{Criterion, MAX_BUDGET, MAX_HEIGHT, MAX_LEAST, MAX_WIDTH, Order};
 
 /// The greatest number that a station is made from.

@@ -82,9 +82,6 @@ end_drop bytes at after lt b =
 pub end_sound : (first : Bool) (bytes : List ℕ) (at : ℕ) (kind : ItemKind) (after : List ℕ) → at < length bytes → HasSoundItem first (drop at bytes) kind after → HasSoundItem first (drop at bytes) kind (drop (length bytes - length after) bytes)
 end_sound first bytes at kind after lt h = subst (HasSoundItem first (drop at bytes) kind) (sym (end_drop bytes at after lt (between first bytes at kind after h))) h
 
-pub end_after : (first : Bool) (bytes : List ℕ) (at : ℕ) (kind : ItemKind) (after : List ℕ) → at < length bytes → HasSoundItem first (drop at bytes) kind after → at < length bytes - length after
-end_after first bytes at kind after lt h = let b = between first bytes at kind after h in omega (arith, b.shorter, length-drop at bytes)
-
 pub end_boundary : (first : Bool) (bytes : List ℕ) (at : ℕ) (kind : ItemKind) (after : List ℕ) → at < length bytes → IsUtf8 bytes → IsCharBoundary bytes at → HasSoundItem first (drop at bytes) kind after
     → IsCharBoundary bytes (length bytes - length after)
 end_boundary first bytes at kind after lt u c h =

@@ -6,8 +6,8 @@ use Rattle.plan_core.proofs.ExactlyLemmas.{answers_exactly}
 use Rattle.plan_core.specs.declared.topology.Topology.{Topology as Resolved}
 use Rattle.railml_read.specs.declared.rows.Elem.{Elem}
 use Rattle.railml_read.specs.Formed.{AreFormed}
-use Rattle.topology_faults.specs.Faults.{HasNoFault}
-use Rattle.topology_faults.proofs.LawLemmas.{one_first_fault}
+use Rattle.railml_faults.specs.Faults.{HasNoFault}
+use Rattle.railml_faults.proofs.LawLemmas.{one_first_fault}
 use Rattle.railml_topology.specs.declared.fault.ResolveFault.{ResolveFault}
 use Rattle.railml_topology.specs.declared.fault.ResolveFault.TheVariants.{Topology, Memory}
 use Rattle.railml_topology.specs.Resolved.{IsTopologyOf}

@@ -4,15 +4,15 @@ use Rattle.std.specs.Prelude.{codes, ℤ, ◌+ℤ◌, ◌-ℤ◌, is_some, Match
 use Rattle.std.specs.List.{AllZip}
 use Rattle.std.proofs.lemmas.Int.{ints, to_z-of_z}
 use Rattle.std.proofs.lemmas.List.{take_more, take_all}
-use Rattle.topology_faults.proofs.IdLemmas.{one_row}
+use Rattle.railml_faults.proofs.IdLemmas.{one_row}
 use Rattle.plan_core.specs.declared.sides.Hand.{Hand}
 use Rattle.plan_core.specs.declared.topology.Conn.{Conn}
 use Rattle.railml_read.specs.declared.rows.Elem.{Elem}
 use Rattle.railml_read.specs.declared.rows.ElemKind.{ElemKind}
 use Rattle.railml_read.specs.declared.rows.ElemKind.TheVariants.{Track, Begin, End, Switch, Crossing, Connection}
-use Rattle.topology_faults.specs.Rows.{is_of_kind, bears_id, bears_position, is_word, ReadsMetres, HasPosition}
-use Rattle.topology_faults.specs.Faults.{IsConnectionOf}
-use Rattle.topology_faults.proofs.Family.{of_kind, is_of_its_kind, IsChild, only_child}
+use Rattle.railml_faults.specs.Rows.{is_of_kind, bears_id, bears_position, is_word, ReadsMetres, HasPosition}
+use Rattle.railml_faults.specs.Faults.{IsConnectionOf}
+use Rattle.railml_faults.proofs.Family.{of_kind, is_of_its_kind, IsChild, only_child}
 use Rattle.railml_topology.specs.declared.layout.Layout.{Layout}
 use Rattle.railml_topology.specs.Resolved.{way_word, hand_word, HasWay, IsMeasuredFrom, HasMileage, IsLayout, AreLayouts, IsBranchOf, IsWayOf, IsConnOf, IsCourseOf, IsSwitchOf, IsCrossingOf}
 use Rattle.railml_topology.specs.Plans.{is_inner, IsOfSize}

@@ -6,7 +6,7 @@ use Rattle.std.proofs.lemmas.List.{append-nil}
 use Rattle.std.proofs.lemmas.List.Elements.{recursion_from_All}
 use Rattle.std.proofs.lemmas.List.Concat.{flat_map-append}
 use Rattle.std.proofs.lemmas.List.Folds.{flat_map-map}
-use Rattle.topology_faults.proofs.IdLemmas.{one_row}
+use Rattle.railml_faults.proofs.IdLemmas.{one_row}
 use Rattle.plan_core.specs.declared.topology.Topology.{Topology}
 use Rattle.plan_core.specs.declared.topology.Track.{Track as TrackOf}
 use Rattle.plan_core.specs.declared.topology.End.{End as EndOf}
@@ -19,9 +19,9 @@ use Rattle.railml_read.specs.declared.rows.Elem.{Elem}
 use Rattle.railml_read.specs.declared.rows.ElemKind.{ElemKind}
 use Rattle.railml_read.specs.declared.rows.ElemKind.TheVariants.{Track, Topology as TopologyKind, Begin, End, Switch, Crossing, Connection}
 use Rattle.railml_read.specs.Formed.{AreFormed}
-use Rattle.topology_faults.specs.Rows.{same_kind, numbers_from, track_rows, is_of_kind, children, bears_id, id_of}
-use Rattle.topology_faults.proofs.Apart.{Apart, all_more, all_both, all_joined, stands_joined, stands_from_pairs, stands_weaker, Among, all_among, Covers, covers_weaker, covers_groups}
-use Rattle.topology_faults.proofs.Family.{among_from_contains, contains_from_among, same_kind_is, is_of_its_kind, numbered, IsChild, child, only_child}
+use Rattle.railml_faults.specs.Rows.{same_kind, numbers_from, track_rows, is_of_kind, children, bears_id, id_of}
+use Rattle.railml_faults.proofs.Apart.{Apart, all_more, all_both, all_joined, stands_joined, stands_from_pairs, stands_weaker, Among, all_among, Covers, covers_weaker, covers_groups}
+use Rattle.railml_faults.proofs.Family.{among_from_contains, contains_from_among, same_kind_is, is_of_its_kind, numbered, IsChild, child, only_child}
 use Rattle.railml_topology.specs.declared.layout.Layout.{Layout}
 use Rattle.railml_topology.specs.Resolved.{StandsBefore, IsLayout, AreLayouts, way_word, HasWay, IsWayOf, IsConnOf, IsJoinedAs, IsTrackEndOf, IsInnerKindOf, IsInnerOf, IsTrackOf}
 use Rattle.railml_topology.proofs.PositionLemmas.{before_differs}

@@ -5,7 +5,7 @@ use Rattle.std.specs.List.{AllByRecursion, AllZip, Contains}
 use Rattle.std.specs.Option.{option_map_or, option_map, option_and_then}
 use Rattle.std.proofs.lemmas.Option.{same_Some, option_and_then_some, slice_get-map}
 use Rattle.plan_core.proofs.PlaceFacts.{same_place}
-use Rattle.topology_faults.proofs.IdLemmas.{one_row}
+use Rattle.railml_faults.proofs.IdLemmas.{one_row}
 use Rattle.plan_core.specs.declared.topology.Topology.{Topology}
 use Rattle.plan_core.specs.declared.topology.Track.{Track as TrackOf}
 use Rattle.plan_core.specs.declared.topology.End.{End as EndOf}
@@ -20,10 +20,10 @@ use Rattle.plan_core.specs.Topology.{branch_of, incoming_of, outgoing_of, connec
 use Rattle.railml_read.specs.declared.rows.Elem.{Elem}
 use Rattle.railml_read.specs.declared.rows.ElemKind.{ElemKind}
 use Rattle.railml_read.specs.declared.rows.ElemKind.TheVariants.{Track, Begin, End, Switch, Crossing, Connection}
-use Rattle.topology_faults.specs.Rows.{is_of_kind, children, is_word, id_of, IsConnectionNamed}
-use Rattle.topology_faults.specs.Faults.{RefersTo, AreOrientedAlike, HasTwoWays}
-use Rattle.topology_faults.proofs.Apart.{Apart, Among}
-use Rattle.topology_faults.proofs.Family.{among_from_contains, of_kind, IsChild, only_child}
+use Rattle.railml_faults.specs.Rows.{is_of_kind, children, is_word, id_of, IsConnectionNamed}
+use Rattle.railml_faults.specs.Faults.{RefersTo, AreOrientedAlike, HasTwoWays}
+use Rattle.railml_faults.proofs.Apart.{Apart, Among}
+use Rattle.railml_faults.proofs.Family.{among_from_contains, of_kind, IsChild, only_child}
 use Rattle.railml_topology.specs.declared.layout.Layout.{Layout}
 use Rattle.railml_topology.specs.Resolved.{AreLayouts, way_word, HasWay, IsBranchOf, IsWayOf, IsAtPart, IsAtPlace, IsConnOf, IsJoinedAs, IsTrackEndOf, IsInnerKindOf, IsInnerOf, IsTrackOf}
 use Rattle.railml_topology.specs.Sound.{AreSoundRows}

@@ -4,15 +4,15 @@ use Rattle.std.specs.List.{All}
 use Rattle.std.proofs.lemmas.List.{map-append, drop_more, drop_all, append-nil}
 use Rattle.std.proofs.lemmas.List.Elements.{All-push}
 use Rattle.std.proofs.lemmas.Option.{option_and_then_some, slice_get_within}
-use Rattle.topology_faults.proofs.PartLemmas.{only_some, only_child_entry}
+use Rattle.railml_faults.proofs.PartLemmas.{only_some, only_child_entry}
 use Rattle.railml_read.specs.declared.rows.Elem.{Elem}
 use Rattle.railml_read.specs.declared.rows.ElemKind.{ElemKind}
 use Rattle.railml_read.specs.declared.rows.ElemKind.TheVariants.{Track, Topology, Begin, End}
-use Rattle.topology_faults.specs.declared.tables.Tables.{Tables}
-use Rattle.topology_faults.specs.Rows.{same_kind, numbers_from, track_rows, is_of_kind, children}
-use Rattle.topology_faults.specs.Faults.{IsWholeTrack}
-use Rattle.topology_faults.specs.Tables.{HasOnlyChildren, entry_in, AreTablesOf}
-use Rattle.topology_faults.proofs.Family.{of_kind, only_child}
+use Rattle.railml_faults.specs.declared.tables.Tables.{Tables}
+use Rattle.railml_faults.specs.Rows.{same_kind, numbers_from, track_rows, is_of_kind, children}
+use Rattle.railml_faults.specs.Faults.{IsWholeTrack}
+use Rattle.railml_faults.specs.Tables.{HasOnlyChildren, entry_in, AreTablesOf}
+use Rattle.railml_faults.proofs.Family.{of_kind, only_child}
 use Rattle.railml_topology.specs.declared.layout.Layout.{Layout}
 use Rattle.railml_topology.specs.Resolved.{IsLayout}
 use Rattle.railml_topology.specs.Sound.{AreSoundRows}

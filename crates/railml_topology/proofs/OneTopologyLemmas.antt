@@ -6,7 +6,7 @@ use Rattle.std.specs.Option.{unwrap_or}
 use Rattle.std.proofs.lemmas.Int.{ints}
 use Rattle.std.proofs.lemmas.List.Elements.{recursion_from_All}
 use Rattle.std.proofs.lemmas.Option.{same_Some}
-use Rattle.topology_faults.proofs.IdLemmas.{one_row}
+use Rattle.railml_faults.proofs.IdLemmas.{one_row}
 use Rattle.plan_core.specs.declared.numbers.Micro.{Micro}
 use Rattle.plan_core.specs.declared.sides.Hand.{Hand}
 use Rattle.plan_core.specs.declared.sides.Hand.TheVariants.{Left, Right}
@@ -21,11 +21,11 @@ use Rattle.plan_core.specs.declared.topology.Place.{Place}
 use Rattle.railml_read.specs.declared.rows.Elem.{Elem}
 use Rattle.railml_read.specs.declared.rows.ElemKind.TheVariants as kinds
 use Rattle.railml_read.specs.Formed.{AreFormed}
-use Rattle.topology_faults.specs.Rows.{children, ReadsMetres, HasPosition, IsConnectionNamed}
-use Rattle.topology_faults.specs.Faults.{HasNoFault}
-use Rattle.topology_faults.proofs.Apart.{Stands, stands_from_pairs, Among, all_among}
-use Rattle.topology_faults.proofs.Family.{among_from_contains, contains_from_among}
-use Rattle.topology_faults.proofs.PositionLemmas.{one_number, one_position}
+use Rattle.railml_faults.specs.Rows.{children, ReadsMetres, HasPosition, IsConnectionNamed}
+use Rattle.railml_faults.specs.Faults.{HasNoFault}
+use Rattle.railml_faults.proofs.Apart.{Stands, stands_from_pairs, Among, all_among}
+use Rattle.railml_faults.proofs.Family.{among_from_contains, contains_from_among}
+use Rattle.railml_faults.proofs.PositionLemmas.{one_number, one_position}
 use Rattle.railml_topology.specs.declared.layout.Layout.{Layout}
 use Rattle.railml_topology.specs.Resolved.{StandsBefore, AreInner, IsAtPlace, IsLayout, AreLayouts, way_word, hand_word, HasWay, IsConnOf, IsMeasuredFrom, HasMileage, IsJoinedAs, IsTrackEndOf, IsCourseOf, IsInnerKindOf, IsInnerOf, IsTrackOf, IsTopologyOf}
 use Rattle.railml_topology.specs.Sound.{AreSoundRows}

@@ -21,9 +21,9 @@ use Rattle.std.proofs.lemmas.List.{map-append, drop_more}
 use Rattle.railml_read.specs.declared.rows.Elem.{Elem}
 use Rattle.railml_topology.specs.declared.order.Standing.{Standing}
 use Rattle.railml_read.specs.declared.rows.ElemKind.TheVariants.{Switch, Crossing}
-use Rattle.topology_faults.specs.Rows.{is_child_of, all_children, is_of_kind, children}
-use Rattle.topology_faults.proofs.Apart.{Apart, Among, Stands, all_more, all_both, pairs_from_stands, stands_from_pairs, stands_mapped}
-use Rattle.topology_faults.proofs.Family.{among_from_contains, contains_from_among, among_filtered, filtered_among}
+use Rattle.railml_faults.specs.Rows.{is_child_of, all_children, is_of_kind, children}
+use Rattle.railml_faults.proofs.Apart.{Apart, Among, Stands, all_more, all_both, pairs_from_stands, stands_from_pairs, stands_mapped}
+use Rattle.railml_faults.proofs.Family.{among_from_contains, contains_from_among, among_filtered, filtered_among}
 use Rattle.railml_topology.specs.Resolved.{StandsBefore, AreInner}
 use Rattle.railml_topology.specs.Plans.{is_inner, IsStanding}
 use Rattle.railml_topology.proofs.ElementLemmas.{numbers_apart}

@@ -10,21 +10,21 @@ use Rattle.std.specs.List.{Contains, All, AllByRecursion}
 use Rattle.std.proofs.lemmas.Bool.Decides.{eqb_tells}
 use Rattle.std.proofs.lemmas.Option.{same_Some, slice_get_within, slice_get_read, option_and_then_some}
 use Rattle.plan_core.proofs.PlaceFacts.{same_place}
-use Rattle.topology_faults.proofs.PartLemmas.{only_child_entry}
-use Rattle.topology_faults.proofs.IdLemmas.{one_row}
+use Rattle.railml_faults.proofs.PartLemmas.{only_child_entry}
+use Rattle.railml_faults.proofs.IdLemmas.{one_row}
 use Rattle.plan_core.specs.declared.topology.Place.{Place}
 use Rattle.plan_core.specs.declared.topology.Part.{Part}
 use Rattle.plan_core.specs.declared.topology.Part.TheVariants as parts
 use Rattle.railml_read.specs.declared.rows.Elem.{Elem}
 use Rattle.railml_read.specs.declared.rows.ElemKind.{ElemKind}
 use Rattle.railml_read.specs.declared.rows.ElemKind.TheVariants.{Begin, End, Switch, Crossing, Connection}
-use Rattle.topology_faults.specs.declared.tables.Tables.{Tables}
-use Rattle.topology_faults.specs.Rows.{is_of_kind, is_word, all_children, children}
-use Rattle.topology_faults.specs.Faults.{HasTwoWays, IsConnectionOf}
-use Rattle.topology_faults.specs.Tables.{entry_in, AreTablesOf}
-use Rattle.topology_faults.proofs.Apart.{Apart, Among, all_more, stands_weaker, stands_from_pairs, apart_short}
-use Rattle.topology_faults.proofs.Family.{among_from_contains, contains_from_among, among_filtered, filtered_among, of_kind, is_of_its_kind, IsChild, child, has_child, only_child}
-use Rattle.topology_faults.proofs.TableLemmas.{entry_written, slice_get-set_other}
+use Rattle.railml_faults.specs.declared.tables.Tables.{Tables}
+use Rattle.railml_faults.specs.Rows.{is_of_kind, is_word, all_children, children}
+use Rattle.railml_faults.specs.Faults.{HasTwoWays, IsConnectionOf}
+use Rattle.railml_faults.specs.Tables.{entry_in, AreTablesOf}
+use Rattle.railml_faults.proofs.Apart.{Apart, Among, all_more, stands_weaker, stands_from_pairs, apart_short}
+use Rattle.railml_faults.proofs.Family.{among_from_contains, contains_from_among, among_filtered, filtered_among, of_kind, is_of_its_kind, IsChild, child, has_child, only_child}
+use Rattle.railml_faults.proofs.TableLemmas.{entry_written, slice_get-set_other}
 use Rattle.railml_topology.specs.declared.layout.Layout.{Layout}
 use Rattle.railml_topology.specs.Resolved.{StandsBefore, way_word, IsLayout, IsBranchOf, IsWayOf, IsAtPart, IsAtPlace}
 use Rattle.railml_topology.specs.Places.{IsFilled, Adds, IsAtInner, IsOnInner, IsOnFirst, IsOnTrack, HasPlaces, goes_by}
@@ -77,11 +77,6 @@ adds_as T U a b to from h = record {
   kept = h.kept;
   added = (λ i p u. h.added i p (from i p u));
 }
-
-pub adds_none : (T : ℕ → Place → Type 0) (a : List (Option Place)) → ((i : ℕ) (p : Place) → T i p → ⊥) → Adds T a a
-adds_none T a none = record { whole = refl; only = (λ i p e. inl e); kept = (λ i there. there); added = (λ i p t. absurd (none i p t)) }
-
--- ---- the connections of a switch and of a crossing
 
 found_passes : (p : ℕ → Bool) (xs : List ℕ) (n : ℕ) → find p xs ≡ Some n → Among xs n × (p n ≡ true)
 found_passes p [] n e = absurd cc
@@ -229,9 +224,6 @@ crossing_put rows s track n inner coming leaving old middle new c l h k =
 
 pub branch_within : (rows : List Elem) (switch k : ℕ) → IsBranchOf rows switch k → k < length rows
 branch_within rows switch k b = let c = only_child rows switch Connection k b.only in slice_get_within rows k c.row c.is
-
-pub first_none : (rows : List Elem) (track : ℕ) (inner : List ℕ) (table : List (Option Place)) → Adds (IsOnFirst rows track inner 0) table table
-first_none rows track inner table = adds_none (IsOnFirst rows track inner 0) table (λ i p h. (let below : h.number < 0 = h.below in omega arith))
 
 pub first_more : (rows : List Elem) (track : ℕ) (inner : List ℕ) (n x : ℕ) (old middle new : List (Option Place)) → n < length inner → x ≡ get_or inner n x → Adds (IsOnFirst rows track inner n) old middle → Adds (IsOnInner rows track n x) middle new → Adds (IsOnFirst rows track inner (n + 1)) old new
 first_more rows track inner n x old middle new within is h k =

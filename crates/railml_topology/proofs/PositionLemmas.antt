@@ -9,9 +9,9 @@ use Rattle.rail_mileage.specs.Metres.{MetresParts, IsMetres, mileage_told, micro
 use Rattle.rail_mileage.proofs.Digits.{size_below}
 use Rattle.railml_read.specs.declared.rows.Elem.{Elem}
 use Rattle.railml_read.specs.declared.rows.ElemKind.TheVariants.{Switch, Crossing}
-use Rattle.topology_faults.specs.Rows.{is_of_kind, bears_position, ReadsMetres, HasPosition}
-use Rattle.topology_faults.proofs.Family.{of_kind}
-use Rattle.topology_faults.proofs.PositionLemmas.{one_position}
+use Rattle.railml_faults.specs.Rows.{is_of_kind, bears_position, ReadsMetres, HasPosition}
+use Rattle.railml_faults.proofs.Family.{of_kind}
+use Rattle.railml_faults.proofs.PositionLemmas.{one_position}
 use Rattle.railml_topology.specs.Resolved.{StandsBefore}
 use Rattle.railml_topology.specs.Plans.{is_inner, IsOfSize}
 use Rattle.railml_topology.specs.Sound.{AreSoundRows}

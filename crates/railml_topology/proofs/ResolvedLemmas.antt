@@ -13,8 +13,8 @@ use Rattle.plan_core.specs.declared.topology.Inner.{Inner}
 use Rattle.plan_core.specs.Topology.{Element, IsId, elements, IsMileage, track_miles, IsResolved}
 use Rattle.plan_core.specs.declared.limits.TheConstants.{MAX_TRACKS}
 use Rattle.railml_read.specs.declared.rows.Elem.{Elem}
-use Rattle.topology_faults.specs.Rows.{BearsId, ReadsMetres, HasPosition, track_rows}
-use Rattle.topology_faults.proofs.Apart.{all_more, all_joined, all_mapped, pairs_from_stands, stands_mapped, apart_short, Covers}
+use Rattle.railml_faults.specs.Rows.{BearsId, ReadsMetres, HasPosition, track_rows}
+use Rattle.railml_faults.proofs.Apart.{all_more, all_joined, all_mapped, pairs_from_stands, stands_mapped, apart_short, Covers}
 use Rattle.railml_topology.specs.declared.layout.Layout.{Layout}
 use Rattle.railml_topology.specs.Resolved.{IsMeasuredFrom, HasMileage, IsInnerOf, IsTrackOf, IsTopologyOf}
 use Rattle.railml_topology.specs.Sound.{AreSoundRows}

@@ -3,7 +3,7 @@ use Rattle.std.proofs.Common.{◌≡◌, ◌⊎◌, ℕ, suc, zero, ◌<◌, Boo
 use Rattle.std.specs.List.{Contains, filter}
 use Rattle.std.proofs.lemmas.List.Elements.{recursion_from_All}
 use Rattle.std.proofs.lemmas.Option.{slice_get_within, slice_get-get_or, option_and_then_some}
-use Rattle.topology_faults.proofs.IdLemmas.{one_row}
+use Rattle.railml_faults.proofs.IdLemmas.{one_row}
 use Rattle.plan_core.specs.declared.topology.Conn.{Conn}
 use Rattle.plan_core.specs.declared.topology.Place.{Place}
 use Rattle.plan_core.specs.declared.topology.Part.TheVariants as parts
@@ -11,11 +11,11 @@ use Rattle.railml_read.specs.declared.rows.Elem.{Elem}
 use Rattle.railml_read.specs.declared.rows.ElemKind.{ElemKind}
 use Rattle.railml_read.specs.declared.rows.ElemKind.TheVariants as kinds
 use Rattle.railml_read.specs.Formed.{may_hold, HasParent, IsRowPlaced, AreFormed}
-use Rattle.topology_faults.specs.Rows.{same_kind, track_rows, is_of_kind, all_children, children, bears_id}
-use Rattle.topology_faults.specs.Faults.{HasItsParts}
-use Rattle.topology_faults.specs.Tables.{only_of, IsReferredTo, IsTargetOf, HasTargets, entry_in}
-use Rattle.topology_faults.proofs.Apart.{Among}
-use Rattle.topology_faults.proofs.Family.{contains_from_among, of_kind, is_of_its_kind, has_number, among_filtered, IsChild, has_child, is_only}
+use Rattle.railml_faults.specs.Rows.{same_kind, track_rows, is_of_kind, all_children, children, bears_id}
+use Rattle.railml_faults.specs.Faults.{HasItsParts}
+use Rattle.railml_faults.specs.Tables.{IsReferredTo, IsTargetOf, HasTargets, entry_in}
+use Rattle.railml_faults.proofs.Apart.{Among}
+use Rattle.railml_faults.proofs.Family.{contains_from_among, of_kind, is_of_its_kind, has_number, among_filtered, IsChild, has_child, is_only}
 use Rattle.railml_topology.specs.declared.layout.Layout.{Layout}
 use Rattle.railml_topology.specs.Resolved.{IsConnOf, IsLayout, AreLayouts, IsWayOf, IsAtPlace}
 use Rattle.railml_topology.specs.Places.{HasPlaces}
@@ -132,13 +132,6 @@ only_below rows i part k e c =
     let same : k ≡ part = elim (let a : Among (part ∷ []) k = subst (λ (v : List ℕ). Among v k) e (among_filtered (is_of_kind rows kinds.Connection) (all_children rows i) k (has_child rows i kinds.Connection k c)).0 in a) [ inl x ↦ x | inr none ↦ absurd none ] in
     let passes : is_of_kind rows kinds.Connection part ≡ true = subst (λ n. is_of_kind rows kinds.Connection n ≡ true) same (subst (λ (v : ElemKind). is_of_kind rows v k ≡ true) c.kind_is (is_of_its_kind rows k c.row c.is)) in
     ap (filter (is_of_kind rows kinds.Connection)) e ∙ (rw passes (ap (λ (n : ℕ). n ∷ []) (sym same)))
-
-none_below : (rows : List Elem) (i part : ℕ) → all_children rows i ≡ part ∷ [] → only_of (children rows i kinds.Connection) ≡ None → children rows i kinds.Connection ≡ []
-none_below rows i part e none = choose (is_of_kind rows kinds.Connection part) refl
-  where
-    choose : (v : Bool) → is_of_kind rows kinds.Connection part ≡ v → children rows i kinds.Connection ≡ []
-    choose false t = ap (filter (is_of_kind rows kinds.Connection)) e ∙ (rw t refl)
-    choose true t = let one : children rows i kinds.Connection ≡ part ∷ [] = ap (filter (is_of_kind rows kinds.Connection)) e ∙ (rw t refl) in absurd (let f : None ≡ Some part = sym none ∙ ap only_of one in cc)
 
 parts_at : (rows : List Elem) → AreSoundRows rows → (i : ℕ) (row : Elem) (kind : ElemKind) → slice_get rows i ≡ Some row → row.kind ≡ kind → HasItsParts rows i kind
 parts_at rows s i row kind is e = subst (HasItsParts rows i) e (s.parts i row is)

@@ -19,12 +19,12 @@ use Rattle.railml_read.specs.declared.rows.Elem.{Elem}
 use Rattle.railml_read.specs.declared.rows.ElemKind.{ElemKind}
 use Rattle.railml_read.specs.declared.rows.ElemKind.TheVariants as kinds
 use Rattle.railml_read.specs.Formed.{AreFormed}
-use Rattle.topology_faults.specs.declared.attributes.Attribute.{Attribute}
-use Rattle.topology_faults.specs.declared.attributes.Attribute.TheVariants as attributes
-use Rattle.topology_faults.specs.declared.fault.TopologyWhat.TheVariants.{TooMany, Missing, Id, RepeatedId, Number, UnknownRef, NotMutual, SelfRef, EndKind, Course, Orientation}
-use Rattle.topology_faults.specs.Rows.{same_kind, track_rows, all_children, children, parent_of, bears_id, bears_position, id_of, BearsId, IsConnectionNamed, attribute_text, attribute_name, is_word, required_of, required, lacking, ReadsMetres, HasPosition}
-use Rattle.topology_faults.specs.Faults.{IsNoNumber, HasNoNumber, RefersTo, IsWholeTrack, AreOrientedAlike, HasTwoWays, HasItsParts, IsHand, IsStraight, IsCourseAt, IsConnectionOf, IsWay, HasNoFault}
-use Rattle.topology_faults.proofs.Family.{among_from_contains, same_kind_is, same_kind_self}
+use Rattle.railml_faults.specs.declared.attributes.Attribute.{Attribute}
+use Rattle.railml_faults.specs.declared.attributes.Attribute.TheVariants as attributes
+use Rattle.railml_faults.specs.declared.fault.TopologyWhat.TheVariants.{TooMany, Missing, Id, RepeatedId, Number, UnknownRef, NotMutual, SelfRef, EndKind, Course, Orientation}
+use Rattle.railml_faults.specs.Rows.{same_kind, track_rows, all_children, children, parent_of, bears_id, bears_position, id_of, BearsId, IsConnectionNamed, attribute_text, attribute_name, is_word, required_of, required, lacking, ReadsMetres, HasPosition}
+use Rattle.railml_faults.specs.Faults.{IsNoNumber, HasNoNumber, RefersTo, IsWholeTrack, AreOrientedAlike, HasTwoWays, HasItsParts, IsHand, IsStraight, IsCourseAt, IsConnectionOf, IsWay, HasNoFault}
+use Rattle.railml_faults.proofs.Family.{among_from_contains, same_kind_is, same_kind_self}
 use Rattle.railml_topology.specs.Resolved.{way_word, hand_word, HasAbsPos, IsCourseOf}
 use Rattle.railml_topology.specs.Sound.{HasGoodId, IsMutual, IsConnectionOfInner, AreSoundRows}
 use Rattle.railml_topology.proofs.ElementLemmas.{track_rows_kind}
@@ -139,9 +139,6 @@ there_is : (rows : List Elem) → HasNoFault rows → (i : ℕ) (row : Elem) →
 there_is rows h i row is a required_a =
     let nothing : lacking rows row ≡ [] = nothing_at (lacking rows row) (λ b lacks. h Missing row.at (attribute_name b) [] (record { number = i; row = row; is = is; place = refl; fault = (b, lacks, refl, refl) })) in
     some_text (attribute_text a row.attrs) (none_filtered (λ (b : Attribute). is_none (attribute_text b row.attrs)) (required rows row) a nothing required_a)
-
-first_in : (a : Attribute) (rest : List Attribute) → In (a ∷ rest) a
-first_in a rest = inl refl
 
 id_required : (k : ElemKind) (parent : Option ElemKind) (o : Option (List ℕ)) → bears_id k ≡ true → In (required_of k parent o) attributes.Id
 id_required kinds.Track parent o h = inl refl

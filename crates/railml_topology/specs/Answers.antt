@@ -2,7 +2,7 @@
 use Rattle.std.specs.Prelude.{List}
 use Rattle.plan_core.specs.declared.topology.Topology.{Topology as Resolved}
 use Rattle.railml_read.specs.declared.rows.Elem.{Elem}
-use Rattle.topology_faults.specs.Faults.{IsFirstTopologyFault, HasNoFault}
+use Rattle.railml_faults.specs.Faults.{IsFirstTopologyFault, HasNoFault}
 use Rattle.railml_topology.specs.declared.fault.ResolveFault.{ResolveFault}
 use Rattle.railml_topology.specs.declared.fault.ResolveFault.TheVariants.{Topology, Memory}
 use Rattle.railml_topology.specs.Resolved.{IsTopologyOf}

@@ -6,8 +6,8 @@ use Rattle.plan_core.specs.declared.topology.Part.{Part}
 use Rattle.plan_core.specs.declared.topology.Part.TheVariants as parts
 use Rattle.railml_read.specs.declared.rows.Elem.{Elem}
 use Rattle.railml_read.specs.declared.rows.ElemKind.TheVariants as kinds
-use Rattle.topology_faults.specs.Rows.{is_of_kind, is_word}
-use Rattle.topology_faults.specs.Tables.{entry_in}
+use Rattle.railml_faults.specs.Rows.{is_of_kind, is_word}
+use Rattle.railml_faults.specs.Tables.{entry_in}
 use Rattle.railml_topology.specs.declared.layout.Layout.{Layout}
 use Rattle.railml_topology.specs.Resolved.{IsBranchOf, IsWayOf, IsAtPart, IsAtPlace}
 

@@ -2,7 +2,7 @@
 use Rattle.std.specs.Prelude.{◌≡◌, ◌||◌, ℕ, Bool, List, Some, slice_get, ℤ, pos, neg_ℤ, ◌<ℤ◌}
 use Rattle.railml_read.specs.declared.rows.Elem.{Elem}
 use Rattle.railml_read.specs.declared.rows.ElemKind.TheVariants.{Switch, Crossing}
-use Rattle.topology_faults.specs.Rows.{is_of_kind, HasPosition}
+use Rattle.railml_faults.specs.Rows.{is_of_kind, HasPosition}
 use Rattle.railml_topology.specs.declared.order.Standing.{Standing}
 
 -- less than b from nought, either way

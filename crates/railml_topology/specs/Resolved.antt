@@ -17,8 +17,8 @@ use Rattle.plan_core.specs.declared.topology.Part.{Part}
 use Rattle.plan_core.specs.declared.topology.Part.TheVariants as parts
 use Rattle.railml_read.specs.declared.rows.Elem.{Elem}
 use Rattle.railml_read.specs.declared.rows.ElemKind.TheVariants as kinds
-use Rattle.topology_faults.specs.Rows.{track_rows, is_of_kind, children, IsConnectionNamed, ReadsMetres, HasPosition}
-use Rattle.topology_faults.specs.Faults.{RefersTo}
+use Rattle.railml_faults.specs.Rows.{track_rows, is_of_kind, children, IsConnectionNamed, ReadsMetres, HasPosition}
+use Rattle.railml_faults.specs.Faults.{RefersTo}
 use Rattle.railml_topology.specs.declared.layout.Layout.{Layout}
 
 -- ---- layouts

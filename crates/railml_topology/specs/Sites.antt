@@ -2,8 +2,8 @@
 use Rattle.std.specs.Prelude.{◌≡◌, ◌⊎◌, ℕ, true, List, Some, ℤ}
 use Rattle.railml_read.specs.declared.rows.Elem.{Elem}
 use Rattle.railml_read.specs.declared.rows.ElemKind.TheVariants.{Begin, End}
-use Rattle.topology_faults.specs.Rows.{is_of_kind, ReadsMetres, HasPosition}
-use Rattle.topology_faults.specs.Tables.{AreTablesOf}
+use Rattle.railml_faults.specs.Rows.{is_of_kind, ReadsMetres, HasPosition}
+use Rattle.railml_faults.specs.Tables.{AreTablesOf}
 use Rattle.railml_topology.specs.declared.sites.Site.{Site}
 use Rattle.railml_topology.specs.Resolved.{HasAbsPos, AreLayouts}
 use Rattle.railml_topology.specs.Places.{HasPlaces}

@@ -6,9 +6,9 @@ use Rattle.plan_core.specs.Topology.{IsId}
 use Rattle.railml_read.specs.declared.rows.Elem.{Elem}
 use Rattle.railml_read.specs.declared.rows.ElemKind.TheVariants.{Begin, Switch, Crossing, Connection}
 use Rattle.railml_read.specs.Formed.{AreFormed}
-use Rattle.topology_faults.specs.Rows.{track_rows, bears_id, bears_position, id_of, BearsId, IsConnectionNamed}
-use Rattle.topology_faults.specs.Rows.{ReadsMetres, HasPosition}
-use Rattle.topology_faults.specs.Faults.{RefersTo, HasItsParts, IsConnectionOf}
+use Rattle.railml_faults.specs.Rows.{track_rows, bears_id, bears_position, id_of, BearsId, IsConnectionNamed}
+use Rattle.railml_faults.specs.Rows.{ReadsMetres, HasPosition}
+use Rattle.railml_faults.specs.Faults.{RefersTo, HasItsParts, IsConnectionOf}
 use Rattle.railml_topology.specs.Resolved.{way_word, hand_word, HasAbsPos, IsCourseOf}
 
 -- a row's id is there, and is one

@@ -4,8 +4,8 @@ ghost use Rattle.std.specs.List.{AllZip};
 ghost use Rattle.plan_core.specs.declared.sides.Hand.{Hand as Side};
 ghost use Rattle.railml_read.specs.declared.rows.ElemKind.TheVariants.{Track as TrackRow, Switch as SwitchRow};
 ghost use Rattle.railml_read.specs.declared.rows.ElemKind.TheVariants.{Crossing as CrossingRow};
-ghost use Rattle.topology_faults.specs.Rows.{is_of_kind as of_kind};
-ghost use Rattle.topology_faults.specs.Tables.{AreTablesOf};
+ghost use Rattle.railml_faults.specs.Rows.{is_of_kind as of_kind};
+ghost use Rattle.railml_faults.specs.Tables.{AreTablesOf};
 ghost use Rattle.railml_topology.specs.Resolved.{hand_word, IsCourseOf, IsTrackEndOf, IsInnerKindOf, IsInnerOf};
 ghost use Rattle.railml_topology.specs.Resolved.{IsLayout, IsTrackOf, IsTopologyOf};
 ghost use Rattle.railml_topology.specs.Plans.{is_inner as passes_inner};
@@ -19,9 +19,9 @@ use crate::sites::{Site, conn_of, copied, joined_at, row_at};
 use plan_core::{
     End, Hand, Inner, InnerKind, InnerList, OutOfMemory, Text, Topology, Track, TrackList,
 };
+use railml_faults::{Tables, is_of_kind, is_word};
 use railml_read::{Elem, ElemKind};
 use std::alloc::Global;
-use topology_faults::{Tables, is_of_kind, is_word};
 
 /// The begin or end of a row of a track with this begin.
 fn end_of(alloc: Global, site: &Site<'_>, begin: &Elem, number: u32) -> Result<End, OutOfMemory>

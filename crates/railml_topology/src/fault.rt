@@ -3,9 +3,9 @@ ghost use Rattle.std.specs.Prelude.{◌≡◌};
 ghost use Rattle.railml_topology.specs.declared.fault.ResolveFault.TheVariants.{Memory};
 
 use plan_core::{OutOfMemory, Text};
+use railml_faults::TopologyWhat;
 use std::alloc::{AllocError, AllocFailed};
 use thiserror::Error;
-use topology_faults::TopologyWhat;
 
 /// Why rows give no topology.
 #[derive(Debug, Drop, Error)]

@@ -3,7 +3,7 @@ ghost use Rattle.std.specs.Prelude.{◌≡◌, List};
 ghost use Rattle.railml_read.specs.declared.rows.Elem.{Elem};
 ghost use Rattle.railml_read.specs.Formed.{AreFormed};
 ghost use Rattle.plan_core.specs.declared.topology.Topology.{Topology as Resolved};
-ghost use Rattle.topology_faults.specs.Faults.{HasNoFault};
+ghost use Rattle.railml_faults.specs.Faults.{HasNoFault};
 ghost use Rattle.railml_topology.specs.Resolved.{IsTopologyOf};
 
 /// Rows of which nothing is wrong resolve to one topology at most.

@@ -1,16 +1,16 @@
 // Which rows the tracks of a document consist of.
 ghost use Rattle.std.specs.Prelude.{◌≡◌, true, ℕ, IfOk, Some};
 ghost use Rattle.railml_read.specs.declared.rows.ElemKind.TheVariants.{Track};
-ghost use Rattle.topology_faults.specs.Rows.{is_of_kind as of_kind};
-ghost use Rattle.topology_faults.specs.Tables.{entry_in, AreTablesOf};
+ghost use Rattle.railml_faults.specs.Rows.{is_of_kind as of_kind};
+ghost use Rattle.railml_faults.specs.Tables.{entry_in, AreTablesOf};
 ghost use Rattle.railml_topology.specs.Resolved.{IsLayout, AreLayouts};
 ghost use Rattle.railml_topology.specs.Sound.{AreSoundRows};
 
 use crate::order::inner_rows;
 use plan_core::{Items, OutOfMemory};
+use railml_faults::{Tables, entry, is_kind};
 use railml_read::{Elem, ElemKind};
 use std::alloc::Global;
-use topology_faults::{Tables, entry, is_kind};
 
 /// The rows of a track, each by its number: the track, its topology with its begin and its end, and its
 /// switches and crossings, by position and then in file order.

@@ -4,7 +4,7 @@
 //! `resolve` answers exactly that topology, or exactly the first fault. The other files of `specs/` are for
 //! private contracts alone.
 //!
-//! It stands on `topology_faults`, which finds what is wrong with the rows, and has the words in which rows
+//! It stands on `railml_faults`, which finds what is wrong with the rows, and has the words in which rows
 //! are spoken of; the track graph is built from its topology.
 #![tactic(auto)]
 
@@ -20,5 +20,5 @@ mod sites;
 
 pub use fault::ResolveFault;
 pub use laws::one_topology;
+pub use railml_faults::TopologyWhat;
 pub use resolving::resolve;
-pub use topology_faults::TopologyWhat;

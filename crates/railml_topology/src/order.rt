@@ -1,8 +1,8 @@
 // Switches and crossings in their order along a track.
 ghost use Rattle.std.specs.Prelude.{◌≡◌, ◌<◌, ◌^◌, true, ℕ, ℤ, List, map, filter, length, All, IfOk, Some};
 ghost use Rattle.std.specs.Prelude.{Option};
-ghost use Rattle.topology_faults.specs.Rows.{ReadsMetres, HasPosition};
-ghost use Rattle.topology_faults.specs.Tables.{ListsChildren};
+ghost use Rattle.railml_faults.specs.Rows.{ReadsMetres, HasPosition};
+ghost use Rattle.railml_faults.specs.Tables.{ListsChildren};
 ghost use Rattle.railml_topology.specs.Plans.{is_inner as passes_inner, IsStanding, IsOfSize};
 ghost use Rattle.railml_topology.specs.Resolved.{AreInner};
 ghost use Rattle.railml_topology.specs.Sound.{AreSoundRows};
@@ -10,9 +10,9 @@ ghost use Rattle.railml_topology.specs.declared.order.Standing.{Standing as Plac
 
 use plan_core::{Items, OutOfMemory, Text};
 use rail_mileage::read_metres;
+use railml_faults::is_of_kind;
 use railml_read::{Elem, ElemKind};
 use std::alloc::Global;
-use topology_faults::is_of_kind;
 
 /// A row with its position in micrometres. Rows stand in the order of these.
 #[derive(Clone, Copy, PartialEq, Eq, PartialOrd, Ord)]

@@ -1,8 +1,8 @@
 // Where the connections of rows are.
 ghost use Rattle.std.specs.Prelude.{◌≡◌, ◌<◌, ◌^◌, ℕ, true, All, IfOk, find, Some, length};
 ghost use Rattle.railml_read.specs.declared.rows.ElemKind.TheVariants.{Switch, Crossing};
-ghost use Rattle.topology_faults.specs.Rows.{is_of_kind as of_kind};
-ghost use Rattle.topology_faults.specs.Tables.{entry_in, AreTablesOf};
+ghost use Rattle.railml_faults.specs.Rows.{is_of_kind as of_kind};
+ghost use Rattle.railml_faults.specs.Tables.{entry_in, AreTablesOf};
 ghost use Rattle.railml_topology.specs.Resolved.{way_word as word_of_way, IsBranchOf, IsWayOf, IsLayout, AreLayouts};
 ghost use Rattle.railml_topology.specs.Plans.{is_inner as passes_inner};
 ghost use Rattle.railml_topology.specs.Places.{goes_by, Adds, IsOnInner, IsOnFirst, IsOnTrack, HasPlaces};
@@ -10,9 +10,9 @@ ghost use Rattle.railml_topology.specs.Sound.{AreSoundRows};
 
 use crate::layout::{Layout, sure_entry};
 use plan_core::{OutOfMemory, Part, Place};
+use railml_faults::{Tables, entry, is_of_kind, is_word};
 use railml_read::{Elem, ElemKind};
 use std::alloc::Global;
-use topology_faults::{Tables, entry, is_of_kind, is_word};
 
 /// The word for an outgoing connection, or for an incoming one.
 fn way_word(outgoing: bool) -> &'static str

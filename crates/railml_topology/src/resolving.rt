@@ -4,17 +4,17 @@ ghost use Rattle.plan_core.specs.declared.limits.TheConstants.{MAX_TRACKS};
 ghost use Rattle.plan_core.specs.Exactly.{AnswersExactly};
 ghost use Rattle.plan_core.specs.Topology.{IsResolved};
 ghost use Rattle.railml_read.specs.Formed.{AreFormed};
-ghost use Rattle.topology_faults.specs.Faults.{HasNoFault};
-ghost use Rattle.topology_faults.specs.Tables.{AreTablesOf};
+ghost use Rattle.railml_faults.specs.Faults.{HasNoFault};
+ghost use Rattle.railml_faults.specs.Tables.{AreTablesOf};
 ghost use Rattle.railml_topology.specs.Resolved.{IsTopologyOf};
 ghost use Rattle.railml_topology.specs.Answers.{ResolvesTo, IsResolveFault};
 
 use crate::ResolveFault;
 use crate::building::topology_of;
 use plan_core::{OutOfMemory, Topology};
+use railml_faults::{Tables, Told, first_fault};
 use railml_read::{Elem, Records};
 use std::alloc::Global;
-use topology_faults::{Tables, Told, first_fault};
 
 /// The topology of rows of which nothing is wrong.
 fn faultless(alloc: Global, rows: &[Elem], tables: &Tables) -> Result<Topology, OutOfMemory>

@@ -1,15 +1,15 @@
 // What a topology is built from, and its connections.
 ghost use Rattle.std.specs.Prelude.{◌≡◌, ◌<◌, true, ℕ, List, IfOk, Some, length, slice_get};
 ghost use Rattle.railml_read.specs.declared.rows.ElemKind.TheVariants.{Connection};
-ghost use Rattle.topology_faults.specs.Rows.{is_of_kind as of_kind};
+ghost use Rattle.railml_faults.specs.Rows.{is_of_kind as of_kind};
 ghost use Rattle.railml_topology.specs.Resolved.{IsAtPlace, IsConnOf, IsJoinedAs};
 ghost use Rattle.railml_topology.specs.Sites.{IsReadySite, IsEither};
 
 use crate::layout::{Layout, sure_entry};
 use plan_core::{Conn, OutOfMemory, Place, Text};
+use railml_faults::{Tables, entry};
 use railml_read::Elem;
 use std::alloc::Global;
-use topology_faults::{Tables, entry};
 
 /// What a topology is built from: the rows, what is kept of them, the rows of each track, and the places
 /// of connections.

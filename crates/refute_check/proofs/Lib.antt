@@ -14,3 +14,4 @@ pub mod CheckerLemmas
 pub mod VerdictLemmas
 pub mod NoveltyLemmas
 pub mod TimelyLemmas
+pub mod JudgeLemmas

@@ -4,7 +4,7 @@ use Rattle.std.specs.Prelude.{All, Contains}
 use Rattle.std.proofs.lemmas.Bool.{both_ways}
 use Rattle.std.proofs.lemmas.List.{get_or_default}
 use Rattle.std.proofs.lemmas.List.Elements.{All-weaker, All-nil, All-cons, All-append, All-more, All-contains, Contains-append_left, Contains-append_right}
-use Rattle.cnf_core.specs.Lit.{Literal, negate, same_literal, has}
+use Rattle.cnf_core.specs.Lit.{Literal, same_literal, has}
 use Rattle.cnf_core.specs.Clause.{Clauses, IsThere, AreThere, AllThere}
 use Rattle.cnf_core.specs.Propagation.{LiteralSet, Includes, Falsified}
 use Rattle.cnf_core.proofs.PropagationLemmas.{contains_first, contains_later}
@@ -148,18 +148,6 @@ both rest = rest.first ∷ rest.last ∷ []
 
 pub both_false : (set : LiteralSet) (f g : Literal) → IsFalse set f → IsFalse set g → All (IsFalse set) (f ∷ g ∷ [])
 both_false set f g hf hg = All-cons (IsFalse set) f (g ∷ []) hf (All-cons (IsFalse set) g [] hg (All-nil (IsFalse set)))
-
-pub quiet_open : (set : LiteralSet) (f g : Literal) → set (negate f) ≡ false → set (negate g) ≡ false → (f ≡ g → ⊥) → IsQuiet set set (f ∷ g ∷ [])
-quiet_open set f g hf hg ne = record {
-  closed = λ l unit. elim (unit.others 0 f (omega arith)) [
-    | inl e ↦ elim (unit.others 1 g (omega arith)) [
-      | inl o ↦ absurd (ne (e ∙ sym o))
-      | inr t ↦ absurd (both_ways (set (negate g)) hg t)
-    ]
-    | inr t ↦ absurd (both_ways (set (negate f)) hf t)
-  ];
-  unfalsified = λ all. both_ways (set (negate f)) hf (all 0 f (omega arith));
-}
 
 -- of the clause in which they stand beside a false literal
 all_parts : (set : LiteralSet) (c : List Literal) (l : Literal) (rest : Rest) (P : Literal → Type 0) → IsRest c l rest → P l → P rest.first → P rest.last → All P c

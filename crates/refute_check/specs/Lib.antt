@@ -7,3 +7,4 @@ pub mod Scans
 pub mod Settled
 pub mod Standing
 pub mod Novelty
+pub mod Lacking

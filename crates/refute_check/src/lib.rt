@@ -1,15 +1,16 @@
-//! The checker of logs.
+//! The checker of logs, and whether an accepted log certifies values.
 //!
-//! A log is a list of lines: the clauses of a formula, clauses that a search learnt, its questions
-//! and their answers. `Checker` takes the lines one by one and accepts exactly those that stand
-//! after the accepted ones: they follow by unit propagation, and a learnt one is new. Which lines
-//! stand and which logs derive says `specs/Log` of `refute_log`, and `specs/Kept` what a checker keeps
-//! and why it refuses a line; both cite the closure of `cnf_core`. The other modules propagate over the lists
-//! of clauses that have a literal: they look at clauses of two and three literals whole, and in the others
-//! they count the literals that aren't false (`specs/Entries`, `specs/Tables`, `specs/Settled`,
-//! `specs/Standing`). They share definitions and laws with a solver, and no code. `are_timely` asks of all lines at
-//! once what needs no propagation (`specs/Timely`): the variables that they name, and which query they answer. The
-//! command that checks a log file stands on this crate.
+//! `Checker` takes lines one by one and accepts exactly those that may come after the accepted ones: each follows by
+//! unit propagation, and a learnt one is new. `specs/Log` of `refute_log` says which lines may come and which logs
+//! derive, `specs/Kept` what a checker keeps and why it refuses a line. It propagates over lists of clauses by literal:
+//! clauses of two and three literals are looked at whole, in longer ones it counts the literals that aren't false
+//! (`specs/Entries`, `specs/Tables`, `specs/Settled`, `specs/Standing`). It shares definitions and laws with the
+//! solver, and no code. `are_timely` asks what needs no propagation (`specs/Timely`): which variables lines name, which
+//! query they answer.
+//!
+//! `none_certified` asks an accepted log for a Refuted line without literals, `first_lacking` (`lacking`) for the first
+//! place of an order whose value it doesn't certify, by the bounds of its Bound lines (`ToldBound::of`).
+//! `specs/Lacking` defines both; `laws` says what follows. `log_check` and `log_trim` use this crate.
 #![tactic(auto)]
 
 mod adding;
@@ -19,6 +20,8 @@ mod counts;
 mod fault;
 mod judging;
 mod keeping;
+mod lacking;
+mod laws;
 mod looks;
 mod novelty;
 mod places;
@@ -27,9 +30,13 @@ mod question;
 mod scan;
 mod tables;
 mod timely;
+mod told_bound;
 mod trail;
 mod undo;
 
 pub use checker::Checker;
 pub use fault::LineFault;
+pub use lacking::{first_lacking, none_certified, unreached};
+pub use laws::{no_literals_certify_none, one_place_lacks_first, only_greatest_values_lack};
 pub use timely::are_timely;
+pub use told_bound::ToldBound;

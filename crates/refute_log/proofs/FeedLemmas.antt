@@ -7,9 +7,9 @@ use Rattle.plan_core.specs.declared.criterion.Criterion.{Criterion}
 use Rattle.cnf_core.specs.Lit.{Literal}
 use Rattle.cnf_core.specs.Clause.{AreThere}
 use Rattle.cnf_core.specs.declared.limits.TheConstants.{LAST_VAR}
-use Rattle.line_text.specs.Criteria.{criterion_word}
-use Rattle.line_text.specs.Fields.{spaced, LacksByte, IsOneField}
-use Rattle.line_text.proofs.CriterionLemmas.{word_is_one}
+use Rattle.outside_io.specs.Criteria.{criterion_word}
+use Rattle.outside_io.specs.Fields.{spaced, LacksByte, IsOneField}
+use Rattle.outside_io.proofs.CriterionLemmas.{word_is_one}
 use Rattle.refute_log.specs.declared.line.LogLine.{LogLine}
 use Rattle.refute_log.specs.declared.line.LogLine.TheVariants.{Formula, Learnt, Bound, Query, Refuted, Model}
 use Rattle.refute_log.specs.Lines.{IsWellFormed, MayBeTold, literal_sign, literal_text, clause_fields, log_line_text}

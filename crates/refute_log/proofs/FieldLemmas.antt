@@ -1,7 +1,7 @@
 -- Numbers and literals in a field.
 use Rattle.std.proofs.Common.{◌≡◌, ◌≢◌, ℕ, ◌<◌, ◌≤◌, ◌^◌, ◌++◌, ◌∷◌, List, Bool, true, false, IsTrue, get_or, decimal, Option, Some, None, MatchOption, sym, ◌∙◌, ap, refl, arith}
-use Rattle.line_text.specs.Numbers.{IsNumberIn, IsNumberField}
-use Rattle.line_text.proofs.NumberLemmas.{decimal_begins}
+use Rattle.outside_io.specs.Numbers.{IsNumberIn, IsNumberField}
+use Rattle.outside_io.proofs.NumberLemmas.{decimal_begins}
 use Rattle.cnf_core.specs.declared.limits.TheConstants.{LAST_VAR}
 use Rattle.refute_log.specs.Lines.{literal_sign}
 use Rattle.refute_log.specs.LineForm.{Field, IsLiteral}

@@ -10,7 +10,7 @@ use Rattle.plan_core.specs.Exactly.{AnswersExactly}
 use Rattle.plan_core.proofs.ExactlyLemmas.{answers_exactly}
 use Rattle.cnf_core.specs.Lit.{Literal}
 use Rattle.cnf_core.specs.Clause.{AreThere}
-use Rattle.line_text.proofs.CriterionLemmas.{word_in_front}
+use Rattle.outside_io.proofs.CriterionLemmas.{word_in_front}
 use Rattle.refute_log.specs.declared.line.LogLine.{LogLine}
 use Rattle.refute_log.specs.declared.line.LogLine.TheVariants.{Formula, Learnt, Bound, Query, Refuted, Model}
 use Rattle.refute_log.specs.declared.fault.LogWhat.{LogWhat}
@@ -19,7 +19,7 @@ use Rattle.refute_log.specs.declared.fault.LineTextFault.{LineTextFault}
 use Rattle.refute_log.specs.declared.fault.LineTextFault.TheVariants.{Log, Memory}
 use Rattle.cnf_core.specs.declared.limits.TheConstants.{LAST_VAR}
 use Rattle.refute_log.specs.Lines.{NamesOnce, literal_text, with_zero, clause_fields, log_line_text, header}
-use Rattle.line_text.specs.Fields.{spaced}
+use Rattle.outside_io.specs.Fields.{spaced}
 use Rattle.refute_log.specs.FieldText.{trailed, fields_left}
 use Rattle.refute_log.specs.LineForm.{Field, LineForm, IsNumber, AreNumbers, IsOfForm, form_text, IsLiteral, HasRightNumbers}
 use Rattle.refute_log.specs.LineForm.LineForm.{FormulaForm, LearntForm, BoundForm, QueryForm, RefutedForm, ModelForm}

@@ -7,17 +7,17 @@ use Rattle.plan_core.specs.declared.criterion.Criterion.{Criterion}
 use Rattle.plan_core.specs.declared.criterion.Criterion.TheVariants.{Height, Bends, Diagonal, Width}
 use Rattle.cnf_core.specs.Lit.{Literal}
 use Rattle.cnf_core.specs.Clause.{AreDistinct}
-use Rattle.line_text.specs.Criteria.{criterion_word}
-use Rattle.line_text.specs.Fields.{LacksByte, IsCutAt}
-use Rattle.refute_log.specs.declared.line.LogLine.TheVariants.{Formula, Learnt, Bound, Query, Refuted}
+use Rattle.outside_io.specs.Criteria.{criterion_word}
+use Rattle.outside_io.specs.Fields.{LacksByte, IsCutAt}
+use Rattle.refute_log.specs.declared.line.LogLine.TheVariants.{Formula, Learnt, Query, Refuted}
 use Rattle.refute_log.specs.declared.fault.LogWhat.{LogWhat}
 use Rattle.refute_log.specs.declared.fault.LogWhat.TheVariants.{Header, Form, Number, Twice}
 use Rattle.refute_log.specs.declared.fault.LineTextFault.{LineTextFault}
 use Rattle.refute_log.specs.declared.fault.LineTextFault.TheVariants.{Log, Memory}
 use Rattle.cnf_core.specs.declared.limits.TheConstants.{LAST_VAR}
-use Rattle.line_text.specs.declared.numbers.TheConstants.{MAX_NUMBER}
-use Rattle.line_text.specs.Fields.{spaced}
-use Rattle.line_text.specs.Numbers.{IsNumberIn, IsNumberField}
+use Rattle.outside_io.specs.declared.numbers.TheConstants.{MAX_NUMBER}
+use Rattle.outside_io.specs.Fields.{spaced}
+use Rattle.outside_io.specs.Numbers.{IsNumberField}
 use Rattle.refute_log.specs.Lines.{literal_text, with_zero, clause_fields}
 use Rattle.refute_log.specs.LineForm.{Field, IsNumber}
 use Rattle.refute_log.specs.LineForm.LineForm.{FormulaForm, LearntForm, BoundForm, QueryForm, RefutedForm, ModelForm}
@@ -189,16 +189,3 @@ wrong_bound text c k x h not = (
   record { is_form = (h.k_number, h.x_number); spelled = ap (λ (t : List ℕ). 98 ∷ 32 ∷ t) h.spelled ∙ sym (bound_ended c k x) },
   not,
 )
-
-pub bound_is : (text : List ℕ) (c : Criterion) (k x : Field) (m n : ℕ) → HasBound text c k x → IsNumberIn 1 MAX_NUMBER k m → IsNumberIn 1 LAST_VAR x n → IsTextOf (98 ∷ 32 ∷ text) (Bound c m (record { 0 = n }))
-bound_is text c k x m n h value variable = record {
-  spells = record {
-    formed = (value.from, value.to, variable.from, variable.to);
-    spelled =
-        bound_ended c (decimal m) (decimal n)
-        ∙ ap (λ (t : List ℕ). bound_behind c t (decimal n)) (sym value.written)
-        ∙ ap (λ (t : List ℕ). bound_behind c k t) (sym variable.written)
-        ∙ ap (λ (t : List ℕ). 98 ∷ 32 ∷ t) (sym h.spelled);
-  };
-  once = tt;
-}

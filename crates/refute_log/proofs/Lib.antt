@@ -12,3 +12,7 @@ pub mod FewLemmas
 pub mod StepLemmas
 pub mod AmongLemmas
 pub mod ListLemmas
+pub mod CertifiedLemmas
+pub mod ExpectedLemmas
+pub mod MeetsLemmas
+pub mod CapsLemmas

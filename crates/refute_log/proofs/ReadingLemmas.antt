@@ -5,8 +5,8 @@ use Rattle.std.specs.List.{AllByRecursion}
 use Rattle.plan_core.proofs.ListFacts.{each_pushed, each_front}
 use Rattle.cnf_core.specs.Lit.{Literal}
 use Rattle.cnf_core.specs.Clause.{IsThere, AreThere}
-use Rattle.line_text.specs.Fields.{LacksByte, IsCutAt}
-use Rattle.refute_log.specs.declared.fault.LogWhat.TheVariants.{Form, Number}
+use Rattle.outside_io.specs.Fields.{LacksByte, IsCutAt}
+use Rattle.refute_log.specs.declared.fault.LogWhat.TheVariants.{Form}
 use Rattle.cnf_core.specs.declared.limits.TheConstants.{LAST_VAR}
 use Rattle.refute_log.specs.Lines.{literal_sign, literal_text}
 use Rattle.refute_log.specs.LineForm.{Field, IsNumber, AreNumbers, IsLiteral}
@@ -127,12 +127,6 @@ read_wrong text rest field after right literals new h cut number not = record {
   spelled = h.spelled ∙ ap (λ (t : List ℕ). trailed h.fields ++ t) cut.spelled ∙ trailed_more h.fields field after;
   read = λ all. not (all_last IsLiteral h.fields field all);
 }
-
--- all fields were read
-pub wrong_number : (text rest : List ℕ) (right : Bool) (literals : List Literal) → IsReadTo text rest right literals → rest ≡ 48 ∷ [] → right ≡ false → HasFieldsFault text Number
-wrong_number text rest right literals h e wrong =
-    let k : AreRead false h.fields literals = subst (λ (b : Bool). AreRead b h.fields literals) wrong h.read in
-    (h.fields, record { numbers = h.numbers; spelled = h.spelled ∙ ap (λ (t : List ℕ). trailed h.fields ++ t) e }, k)
 
 pub all_right : (text rest : List ℕ) (right : Bool) (literals : List Literal) → IsReadTo text rest right literals → rest ≡ 48 ∷ [] → right ≡ true → HasLiterals text literals
 all_right text rest right literals h e fine =

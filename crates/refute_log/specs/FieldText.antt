@@ -4,7 +4,7 @@ use Rattle.std.specs.List.{AllByRecursion}
 use Rattle.plan_core.specs.declared.criterion.Criterion.{Criterion}
 use Rattle.cnf_core.specs.Lit.{Literal}
 use Rattle.cnf_core.specs.Clause.{IsThere, AreThere, AreDistinct}
-use Rattle.line_text.specs.Criteria.{criterion_word}
+use Rattle.outside_io.specs.Criteria.{criterion_word}
 use Rattle.refute_log.specs.declared.fault.LogWhat.{LogWhat}
 use Rattle.refute_log.specs.declared.fault.LogWhat.TheVariants.{Header, Form, Number, Twice}
 use Rattle.cnf_core.specs.declared.limits.TheConstants.{LAST_VAR}

@@ -10,3 +10,9 @@ pub mod FileLog
 pub mod LineForm
 pub mod LineText
 pub mod FieldText
+pub mod Bounds
+pub mod Certified
+pub mod Expected
+pub mod Least
+pub mod Full
+pub mod Cause

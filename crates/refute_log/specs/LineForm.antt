@@ -5,11 +5,11 @@ use Rattle.std.specs.List.{AllByRecursion}
 use Rattle.plan_core.specs.declared.criterion.Criterion.{Criterion}
 use Rattle.cnf_core.specs.Lit.{Literal}
 use Rattle.cnf_core.specs.Clause.{IsThere}
-use Rattle.line_text.specs.Criteria.{criterion_word}
-use Rattle.line_text.specs.Fields.{unended_text}
-use Rattle.line_text.specs.Numbers.{IsNumberField}
+use Rattle.outside_io.specs.Criteria.{criterion_word}
+use Rattle.outside_io.specs.Fields.{unended_text}
+use Rattle.outside_io.specs.Numbers.{IsNumberField}
 use Rattle.cnf_core.specs.declared.limits.TheConstants.{LAST_VAR}
-use Rattle.line_text.specs.declared.numbers.TheConstants.{MAX_NUMBER}
+use Rattle.outside_io.specs.declared.numbers.TheConstants.{MAX_NUMBER}
 use Rattle.refute_log.specs.Lines.{literal_sign, literal_text, with_zero}
 
 -- the bytes of a field where a number is due

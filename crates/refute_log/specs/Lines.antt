@@ -2,9 +2,9 @@
 use Rattle.std.specs.Prelude.{◌≤◌, ℕ, Bool, true, false, ⊤, cond, codes, decimal, map, List, [], ◌∷◌, ◌++◌, length}
 use Rattle.std.specs.Prelude.{flat_map}
 use Rattle.std.specs.List.{AllByRecursion}
-use Rattle.line_text.specs.Criteria.{criterion_word}
-use Rattle.line_text.specs.Fields.{unended_text, line_text}
-use Rattle.line_text.specs.declared.numbers.TheConstants.{MAX_NUMBER}
+use Rattle.outside_io.specs.Criteria.{criterion_word}
+use Rattle.outside_io.specs.Fields.{unended_text, line_text}
+use Rattle.outside_io.specs.declared.numbers.TheConstants.{MAX_NUMBER}
 use Rattle.cnf_core.specs.declared.limits.TheConstants.{LAST_VAR}
 use Rattle.cnf_core.specs.Lit.{Literal}
 use Rattle.cnf_core.specs.Clause.{AreThere, AreDistinct}

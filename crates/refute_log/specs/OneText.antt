@@ -10,9 +10,9 @@ use Rattle.plan_core.specs.declared.criterion.Criterion.{Criterion}
 use Rattle.cnf_core.specs.Lit.{Literal}
 use Rattle.cnf_core.specs.declared.literal.Var.{Var}
 use Rattle.cnf_core.specs.Clause.{AreThere}
-use Rattle.line_text.specs.Criteria.{criterion_word}
-use Rattle.line_text.specs.Fields.{spaced}
-use Rattle.line_text.proofs.CriterionLemmas.{word_in_front}
+use Rattle.outside_io.specs.Criteria.{criterion_word}
+use Rattle.outside_io.specs.Fields.{spaced}
+use Rattle.outside_io.proofs.CriterionLemmas.{word_in_front}
 use Rattle.refute_log.specs.declared.line.LogLine.{LogLine}
 use Rattle.refute_log.specs.declared.line.LogLine.TheVariants.{Formula, Learnt, Bound, Query, Refuted, Model}
 use Rattle.cnf_core.specs.declared.limits.TheConstants.{LAST_VAR}

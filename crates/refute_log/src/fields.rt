@@ -5,7 +5,7 @@ ghost use Rattle.std.specs.List.{AllByRecursion};
 ghost use Rattle.cnf_core.specs.Clause.{IsThere};
 ghost use Rattle.refute_log.specs.Lines.{literal_sign, literal_text};
 ghost use Rattle.refute_log.specs.LineForm.{IsNumber, IsLiteral};
-ghost use Rattle.line_text.specs.Numbers.{IsNumberIn, IsNumberField};
+ghost use Rattle.outside_io.specs.Numbers.{IsNumberIn, IsNumberField};
 
 use cnf_core::{LAST_VAR, Lit, Var};
 
@@ -38,7 +38,7 @@ pub fn is_number(field: &[u8]) -> bool
 pub(crate) fn read_number(field: &[u8], greatest: u32) -> Option<u32>
     ensures { MatchOption result (IsNumberField 1 greatest field.now → ⊥) (IsNumberIn 1 greatest field.now) }
 {
-    line_text::read_number(field, 1, greatest)
+    outside_io::read_number(field, 1, greatest)
 }
 
 /// The literal that the field is the text of, if it is one.

@@ -1,6 +1,6 @@
 // Laws of lines and their texts. The functions change nothing: their contracts are the laws.
 ghost use Rattle.std.specs.Prelude.{◌≡◌, ◌↔◌, ◌++◌, ℕ, List, codes};
-ghost use Rattle.line_text.specs.Fields.{LacksByte};
+ghost use Rattle.outside_io.specs.Fields.{LacksByte};
 ghost use Rattle.refute_log.specs.declared.line.LogLine.{LogLine as Line};
 ghost use Rattle.refute_log.specs.declared.fault.LogWhat.{LogWhat as What};
 ghost use Rattle.refute_log.specs.Lines.{IsWellFormed, MayBeTold, log_line_text, ended_text};

@@ -1,21 +1,22 @@
-//! The lines of a log, where they are told, and their text.
+//! The lines of a log, their text, and what a log certifies.
 //!
-//! A log is the certificate of a drawing: the clauses of its formula, the clauses that the search
-//! learnt, its questions and their answers, one a line. `LogSink` is what a search tells its lines
-//! to, `LineList` keeps them in memory, `NoLog` only counts, and `FileLog` writes them to a file of
-//! files that are lent. `write_line` writes a line's text, and `read_line` reads it; `is_number`, `read_literal`,
-//! `are_distinct` and `write_literals` are for other texts with lines of literals.
+//! A log is the certificate of a drawing, a line each: the clauses of its formula, learnt clauses, questions, answers.
+//! A search gives its lines to a `LogSink`: `LineList` keeps them, `NoLog` counts them, `FileLog` writes them to a
+//! file. `write_line` and `read_line` write and read a line's text; other texts with literals use `read_literal`,
+//! `write_literals`, `are_distinct` and `is_number`. `specs/Lines` says which lines there may be, `specs/LineText` and
+//! `specs/LineForm` what a text is as a line, or its fault, `specs/Log` which logs derive, `specs/Told`, `specs/ToldTo`
+//! and `specs/Steps` how a list of lines goes on through calls. `specs/FieldText` is for private contracts.
 //!
-//! `specs/Lines` says which lines may be told and the text of each, `specs/Told` what a log tells of
-//! its lines, `specs/ToldTo` which lines a log was told, `specs/Log` which lines stand after others and
-//! which logs derive, `specs/Steps` how one list of lines goes on through calls, whatever the log
-//! keeps, `specs/LineForm` what a text's form is and which of its numbers are right, and
-//! `specs/LineText` which line a text is and which fault it has. `specs/FieldText` is for private
-//! contracts alone; `laws` and `log_laws` state what follows from the definitions. It is the base for
-//! the checker of logs and for all that searches.
+//! A Bound line names the variable of "this criterion is at least k"; a Refuted line says that one of its literals
+//! holds in every lawful drawing. `specs/Bounds` and `specs/Certified` say which values a log certifies,
+//! `specs/Expected` which Formula and Bound lines the log of a file has, `specs/Full` when it has no more room,
+//! `specs/Cause` why a search stopped (`Stop`). `laws`, `log_laws`, `certified_laws` and `expected_laws` say what
+//! follows. Searches and judges use this crate.
 #![tactic(auto)]
 
 mod among;
+mod certified_laws;
+mod expected_laws;
 mod fault;
 mod fields;
 mod file_log;
@@ -27,9 +28,18 @@ mod log_laws;
 mod no_log;
 mod reading;
 mod sink;
+mod stop;
 mod writing;
 
 pub use among::are_among;
+pub use certified_laws::{
+    certified_drawings_are_least, certified_values_are_least, equal_values_are_certified_alike,
+    more_lines_certify_more, one_depth_is_settled, only_the_greatest_values_count,
+    values_are_certified_place_by_place,
+};
+pub use expected_laws::{
+    caps_are_those_told, certified_over_expected_lines_is_least, expected_lines_come_sum_by_sum,
+};
 pub use fault::{LineTextFault, LogWhat};
 pub use fields::{is_number, read_literal};
 pub use file_log::{FileLog, Gathered};
@@ -48,4 +58,5 @@ pub use log_laws::{
 pub use no_log::NoLog;
 pub use reading::read_line;
 pub use sink::{LogSink, LogSinkFault};
+pub use stop::Stop;
 pub use writing::{write_line, write_literals};

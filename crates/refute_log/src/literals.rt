@@ -8,7 +8,7 @@ ghost use Rattle.refute_log.specs.FieldText.{HasLiterals, AddsLiteral, HasFields
 use crate::fields::{is_number, read_literal};
 use crate::{LineTextFault, LogWhat};
 use cnf_core::{Clause, Lit};
-use line_text::cut_field;
+use outside_io::cut_field;
 use std::alloc::{AllocError, Global};
 
 /// Appends the literal that the field is the text of, and says whether it is one.

@@ -3,7 +3,7 @@ ghost use Rattle.std.specs.Prelude.{◌≡◌, ◌≢◌, ◌≤◌, ◌⊎◌, 
 ghost use Rattle.std.specs.Prelude.{IfErr, IsErrOf, IsTrue};
 ghost use Rattle.plan_core.specs.Exactly.{AnswersExactly};
 ghost use Rattle.plan_core.specs.declared.criterion.Criterion.{Criterion as Bounded};
-ghost use Rattle.line_text.specs.Numbers.{IsNumberIn, IsNumberField};
+ghost use Rattle.outside_io.specs.Numbers.{IsNumberIn, IsNumberField};
 ghost use Rattle.refute_log.specs.LineForm.{Field};
 ghost use Rattle.refute_log.specs.LineText.{IsTextOf, IsWantOrFault, IsLineFault};
 ghost use Rattle.refute_log.specs.FieldText.{HasBound};
@@ -12,7 +12,7 @@ use crate::fields::{is_number, read_number};
 use crate::literals::{is_end, read_clause};
 use crate::{LineTextFault, LogLine, LogWhat};
 use cnf_core::{LAST_VAR, Var};
-use line_text::{MAX_NUMBER, cut_field, read_criterion};
+use outside_io::{MAX_NUMBER, cut_field, read_criterion};
 use plan_core::Criterion;
 use std::alloc::Global;
 

@@ -1,13 +1,13 @@
 // The text of a line, written.
 ghost use Rattle.std.specs.Prelude.{◌≡◌, ◌++◌, ◌∷◌, [], codes, decimal, map, OnOk, OnErr};
 ghost use Rattle.outside_io.specs.Contents.{Begins};
-ghost use Rattle.line_text.specs.Criteria.{criterion_word as word_of};
-ghost use Rattle.line_text.specs.Fields.{spaced, unended_text};
+ghost use Rattle.outside_io.specs.Criteria.{criterion_word as word_of};
+ghost use Rattle.outside_io.specs.Fields.{spaced, unended_text};
 ghost use Rattle.refute_log.specs.Lines.{IsWellFormed, literal_sign, literal_text, clause_fields, ended_text};
 
 use crate::LogLine;
 use cnf_core::{Clause, Lit};
-use line_text::{criterion_word, push_field, push_number, push_number_field, push_text};
+use outside_io::{criterion_word, push_field, push_number, push_number_field, push_text};
 use plan_core::{Criterion, OutOfMemory};
 
 fn write_literal(literal: Lit, into: &mut Vec<u8>) -> Result<(), OutOfMemory>

@@ -5,13 +5,13 @@ use Rattle.plan_words.specs.declared.command.Command.{Command}
 use Rattle.plan_words.specs.declared.command.Command.TheVariants.{Draw, Verify, Check, Graph as PrintGraph, Make, Trial, Signals, Front, Redraw, Explain, Trim, Recheck}
 use Rattle.plan_words.specs.Words.{IsCommandOf}
 use Rattle.plan_words.proofs.AnswerLemmas.{command_same}
-use Rattle.input_answer.specs.declared.reply.Cut.{Cut}
-use Rattle.input_answer.specs.declared.reply.Cut.TheVariants as cuts
-use Rattle.input_answer.specs.declared.reply.Reply.{Reply}
-use Rattle.input_answer.specs.declared.status.Status.{Status}
-use Rattle.input_answer.specs.declared.status.Status.TheVariants.{Done, Refused, WordsRefused, NoDrawing, Unfinished, Unread, Unwritten, NoMemory, Broken}
-use Rattle.input_answer.specs.Status.{IsRefused, IsCutShort}
-use Rattle.input_answer.specs.Reply.{status_of_cut}
+use Rattle.run_input.specs.declared.reply.Cut.{Cut}
+use Rattle.run_input.specs.declared.reply.Cut.TheVariants as cuts
+use Rattle.run_input.specs.declared.reply.Reply.{Reply}
+use Rattle.run_input.specs.declared.status.Status.{Status}
+use Rattle.run_input.specs.declared.status.Status.TheVariants.{Done, Refused, WordsRefused, NoDrawing, Unfinished, Unread, Unwritten, NoMemory, Broken}
+use Rattle.run_input.specs.Status.{IsRefused, IsCutShort}
+use Rattle.run_input.specs.Reply.{status_of_cut}
 use Rattle.schematic_main.specs.Commands.{AnswersAlone}
 use Rattle.schematic_main.specs.Run.{EndsUnwritten}
 

@@ -15,22 +15,22 @@ use Rattle.plan_text.proofs.ShortSheet.{short_sheet}
 use Rattle.refute_log.specs.Lines.{log_text}
 use Rattle.refute_log.specs.Told.{Lines}
 use Rattle.log_check.specs.declared.verdict.Verdict.TheVariants.{Certified}
-use Rattle.input_answer.specs.declared.status.Status.{Status}
-use Rattle.input_answer.specs.declared.status.Status.TheVariants.{Done, Refused, Unread}
-use Rattle.input_answer.specs.Status.{IsAnswered}
-use Rattle.input_answer.specs.Input.{IsLong, IsShort, HasStation}
-use Rattle.input_answer.specs.Met.{Met, ReadFails}
-use Rattle.input_answer.specs.Answer.{InputFile, text_input, log_input, IsFileJudged, IsAnswerAfter, IsAnswerOn}
-use Rattle.sheet_answer.specs.CheckLine.{claimed, verdict_line}
-use Rattle.sheet_answer.specs.Checked.{IsClaimJudged, IsChecked, PassesCheck}
-use Rattle.sheet_answer.specs.CertifiedSheet.{ClaimsTruly, HasCertifiedFiles}
+use Rattle.run_input.specs.declared.status.Status.{Status}
+use Rattle.run_input.specs.declared.status.Status.TheVariants.{Done, Refused, Unread}
+use Rattle.run_input.specs.Status.{IsAnswered}
+use Rattle.run_input.specs.Input.{IsLong, IsShort, HasStation}
+use Rattle.run_input.specs.Met.{Met, ReadFails}
+use Rattle.run_input.specs.Answer.{InputFile, text_input, log_input, IsFileJudged, IsAnswerAfter, IsAnswerOn}
+use Rattle.run_check.specs.CheckLine.{claimed, verdict_line}
+use Rattle.run_check.specs.Checked.{IsClaimJudged, IsChecked, PassesCheck}
+use Rattle.run_check.specs.CertifiedSheet.{ClaimsTruly, HasCertifiedFiles}
 use Rattle.schematic_main.specs.Commands.{Owes}
-use Rattle.draw_answer.specs.SearchLog.{HoldsLog, IsRunLog}
-use Rattle.draw_answer.specs.Drawn.{Job, job, sheet_of, IsDrawn, IsDrawAnswer}
+use Rattle.run_draw_front.specs.SearchLog.{HoldsLog, IsRunLog}
+use Rattle.run_draw_front.specs.Drawn.{Job, job, sheet_of, IsDrawn, IsDrawAnswer}
 use Rattle.schematic_main.specs.Run.{FailsIn, IsCheckOfDrawn}
-use Rattle.input_answer.proofs.InputLemmas.{file_fault_status}
+use Rattle.run_input.proofs.InputLemmas.{file_fault_status}
 use Rattle.schematic_main.proofs.PassesLemmas.{ended_passes}
-use Rattle.sheet_answer.proofs.CheckedLemmas.{IsCertifiedSheet, certified_answer, certified_is_due, only_certified}
+use Rattle.run_check.proofs.CheckedLemmas.{IsCertifiedSheet, certified_answer, certified_is_due, only_certified}
 
 -- ---- one input
 

@@ -15,8 +15,8 @@ use Rattle.plan_text.specs.SheetText.{Sheet as PlainSheet}
 use Rattle.refute_log.specs.Lines.{log_text, MayAllBeTold}
 use Rattle.refute_log.specs.Told.{Lines}
 use Rattle.station_make.specs.StationText.{station_text}
-use Rattle.lex_search.specs.declared.outcome.Outcome.{Outcome}
-use Rattle.drawing_problem.specs.Layout.{Layout, layout}
+use Rattle.search_least.specs.declared.outcome.Outcome.{Outcome}
+use Rattle.drawing_cnf.specs.Layout.{Layout, layout}
 use Rattle.log_check.specs.declared.claim.Claim.{Claim}
 use Rattle.log_check.specs.declared.verdict.Refusal.{Refusal}
 use Rattle.log_check.specs.declared.verdict.Refusal.TheVariants as refusals
@@ -24,46 +24,46 @@ use Rattle.log_check.specs.declared.verdict.Verdict.{Verdict}
 use Rattle.log_check.specs.declared.verdict.Verdict.TheVariants as verdicts
 use Rattle.log_check.specs.Judged.{IsLogJudged}
 use Rattle.plan_words.proofs.AnswerLemmas.{command_same, command_or_fault}
-use Rattle.input_answer.specs.declared.fault.RunFault.{RunFault}
-use Rattle.input_answer.specs.declared.fault.RunFault.TheVariants.{Long}
-use Rattle.input_answer.specs.declared.status.Status.{Status}
-use Rattle.input_answer.specs.declared.status.Status.TheVariants.{Done, Refused, WordsRefused, NoDrawing, Unfinished, Unread, Broken}
-use Rattle.input_answer.specs.Status.{IsCutShort}
-use Rattle.input_answer.specs.Input.{IsLong, IsShort, HasStation, HasFileFault}
-use Rattle.input_answer.specs.Met.{Met, ReadFails}
-use Rattle.sheet_answer.specs.Verdict.{IsVerdict, IsSheetJudged, IsSoundSheet}
-use Rattle.input_answer.specs.Answer.{InputFile, text_input, log_input, IsPrinted, IsFileJudged, IsAnswerAfter, IsAnswerOn}
-use Rattle.sheet_answer.specs.Verdict.{IsVerified}
-use Rattle.sheet_answer.specs.CheckLine.{claim_of, refusal_status, verdict_status}
-use Rattle.sheet_answer.specs.Checked.{IsFoundBroken, IsClaimJudged, IsChecked}
-use Rattle.hint_text.specs.declared.fault.HintsWhat.{HintsWhat}
-use Rattle.hint_check.specs.declared.verdict.HintRefusal.TheVariants as hint_refusals
-use Rattle.hint_check.specs.declared.verdict.HintsVerdict.{HintsVerdict}
-use Rattle.hint_check.specs.declared.verdict.HintsVerdict.TheVariants as hint_verdicts
-use Rattle.hint_check.specs.Judged.{IsHintsJudged}
-use Rattle.hint_answer.specs.Texts.{hints_status}
-use Rattle.hint_answer.specs.Trimmed.{AreTrimmed}
-use Rattle.hint_answer.specs.Rechecked.{IsHintsClaimJudged, IsRechecked}
-use Rattle.draw_answer.specs.Drawn.{Job, job, status_of, IsDrawAnswer}
-use Rattle.draw_answer.specs.Signalled.{job_for, IsSignalFileJudged}
+use Rattle.run_input.specs.declared.fault.RunFault.{RunFault}
+use Rattle.run_input.specs.declared.fault.RunFault.TheVariants.{Long}
+use Rattle.run_input.specs.declared.status.Status.{Status}
+use Rattle.run_input.specs.declared.status.Status.TheVariants.{Done, Refused, WordsRefused, NoDrawing, Unfinished, Unread, Broken}
+use Rattle.run_input.specs.Status.{IsCutShort}
+use Rattle.run_input.specs.Input.{IsLong, IsShort, HasStation, HasFileFault}
+use Rattle.run_input.specs.Met.{Met, ReadFails}
+use Rattle.run_check.specs.Verdict.{IsVerdict, IsSheetJudged, IsSoundSheet}
+use Rattle.run_input.specs.Answer.{InputFile, text_input, log_input, IsPrinted, IsFileJudged, IsAnswerAfter, IsAnswerOn}
+use Rattle.run_check.specs.Verdict.{IsVerified}
+use Rattle.run_check.specs.CheckLine.{claim_of, refusal_status, verdict_status}
+use Rattle.run_check.specs.Checked.{IsFoundBroken, IsClaimJudged, IsChecked}
+use Rattle.hint_log.specs.declared.text_fault.HintsWhat.{HintsWhat}
+use Rattle.log_check.specs.declared.hint_verdict.HintRefusal.TheVariants as hint_refusals
+use Rattle.log_check.specs.declared.hint_verdict.HintsVerdict.{HintsVerdict}
+use Rattle.log_check.specs.declared.hint_verdict.HintsVerdict.TheVariants as hint_verdicts
+use Rattle.log_check.specs.HintsJudged.{IsHintsJudged}
+use Rattle.run_check.specs.Texts.{hints_status}
+use Rattle.run_check.specs.Trimmed.{AreTrimmed}
+use Rattle.run_check.specs.Rechecked.{IsHintsClaimJudged, IsRechecked}
+use Rattle.run_draw_front.specs.Drawn.{Job, job, status_of, IsDrawAnswer}
+use Rattle.run_draw_front.specs.Signalled.{job_for, IsSignalFileJudged}
 use Rattle.trade_off.specs.declared.outcome.FrontEnd.{FrontEnd}
 use Rattle.trade_off.specs.declared.outcome.FrontEnd.TheVariants.{Whole, Empty, Conflicts, Room as EndRoom}
 use Rattle.law_core.specs.declared.ending.Why.{Why}
 use Rattle.law_core.specs.declared.ending.Why.TheVariants as why
-use Rattle.explain_answer.specs.Explained.{ExplainJob, explain_job, status_of_why, IsExplainAnswer}
-use Rattle.front_answer.specs.Fronted.{FrontJob, front_job, status_of_front, IsFrontAnswer}
-use Rattle.moved_count.specs.Moved.{Former}
-use Rattle.fewest_search.specs.declared.outcome.Fewest.{Fewest}
-use Rattle.fewest_search.specs.declared.outcome.Fewest.TheVariants as fewest
-use Rattle.draw_answer.specs.SearchLog.{IsRunLog}
-use Rattle.redraw_answer.specs.Redrawn.{RedrawJob, redraw_job, status_of_moved, IsRedrawn}
-use Rattle.redraw_answer.specs.Judged.{IsFormerJudged, AreJudged}
-use Rattle.draw_answer.specs.Tried.{IsTried}
+use Rattle.run_explain_redraw.specs.Explained.{ExplainJob, explain_job, status_of_why, IsExplainAnswer}
+use Rattle.run_draw_front.specs.Fronted.{FrontJob, front_job, status_of_front, IsFrontAnswer}
+use Rattle.drawing_cnf.specs.Moved.{Former}
+use Rattle.search_least.specs.declared.fewest.Fewest.{Fewest}
+use Rattle.search_least.specs.declared.fewest.Fewest.TheVariants as fewest
+use Rattle.run_draw_front.specs.SearchLog.{IsRunLog}
+use Rattle.run_explain_redraw.specs.Redrawn.{RedrawJob, redraw_job, status_of_moved, IsRedrawn}
+use Rattle.run_explain_redraw.specs.Judged.{IsFormerJudged, AreJudged}
+use Rattle.run_draw_front.specs.Tried.{IsTried}
 use Rattle.schematic_main.specs.Commands.{Owes, ends_of, HasSoundFile, HasSoundHints, AreSound}
 use Rattle.schematic_main.specs.Run.{Asks, IsAnswerDue, FailsIn}
-use Rattle.draw_answer.proofs.OutcomeLemmas.{on_outcome}
-use Rattle.input_answer.proofs.InputLemmas.{file_fault_status}
-use Rattle.input_answer.proofs.SignalLemmas.{fault_refuses}
+use Rattle.run_draw_front.proofs.OutcomeLemmas.{on_outcome}
+use Rattle.run_input.proofs.InputLemmas.{file_fault_status}
+use Rattle.run_input.proofs.SignalLemmas.{fault_refuses}
 use Rattle.schematic_main.proofs.SoundLog.{sound_log}
 
 -- ---- the statuses: what holds of those that each part of an answer may have holds of the answer's

@@ -10,15 +10,15 @@ use Rattle.plan_words.specs.declared.command.Command.TheVariants.{Trim, Recheck}
 use Rattle.plan_text.specs.SheetText.{Sheet}
 use Rattle.plan_text.proofs.ShortSheet.{short_sheet}
 use Rattle.log_trim.specs.declared.trimming.TrimmedLog.{TrimmedLog}
-use Rattle.input_answer.specs.declared.status.Status.{Status}
-use Rattle.input_answer.specs.declared.status.Status.TheVariants.{Done}
-use Rattle.input_answer.specs.Met.{Met}
-use Rattle.input_answer.specs.Answer.{text_input, log_input, IsAnswerAfter, IsAnswerOn}
-use Rattle.hint_answer.specs.Texts.{left_text}
-use Rattle.hint_answer.specs.Trimmed.{AreTrimmed, HasReadLeft}
-use Rattle.hint_answer.specs.Rechecked.{IsRechecked, IsHintsLine}
-use Rattle.hint_answer.proofs.RecheckedLemmas.{recheck_due, recheck_only}
-use Rattle.hint_answer.proofs.CertifiedLemmas.{left_is_certified}
+use Rattle.run_input.specs.declared.status.Status.{Status}
+use Rattle.run_input.specs.declared.status.Status.TheVariants.{Done}
+use Rattle.run_input.specs.Met.{Met}
+use Rattle.run_input.specs.Answer.{text_input, log_input, IsAnswerAfter, IsAnswerOn}
+use Rattle.run_check.specs.Texts.{left_text}
+use Rattle.run_check.specs.Trimmed.{AreTrimmed, HasReadLeft}
+use Rattle.run_check.specs.Rechecked.{IsRechecked, IsHintsLine}
+use Rattle.run_check.proofs.RecheckedLemmas.{recheck_due, recheck_only}
+use Rattle.run_check.proofs.CertifiedLemmas.{left_is_certified}
 use Rattle.schematic_main.specs.Commands.{Owes}
 use Rattle.schematic_main.specs.Run.{FailsIn}
 use Rattle.schematic_main.specs.WholeRuns.{HasHintedFiles, AreHinted, IsRecheckOfTrimmed}

@@ -16,12 +16,12 @@ use Rattle.refute_log.specs.Lines.{log_text}
 use Rattle.refute_log.specs.Told.{Lines}
 use Rattle.refute_log.specs.Log.{given, added, clause_lines}
 use Rattle.refute_log.proofs.LogLemmas.{words_of_log}
-use Rattle.certified_values.specs.Expected.{caps, IsAllExpected}
-use Rattle.certified_values.proofs.MeetsLemmas.{given_of_clauses}
-use Rattle.drawing_problem.specs.Layout.{layout, problem_of}
-use Rattle.lex_search.specs.declared.outcome.Outcome.{Outcome}
-use Rattle.lex_search.specs.declared.outcome.Outcome.TheVariants as outcomes
-use Rattle.lex_search.specs.Outcome.{IsOutcome, IsSearched}
+use Rattle.refute_log.specs.Expected.{caps, IsAllExpected}
+use Rattle.refute_log.proofs.MeetsLemmas.{given_of_clauses}
+use Rattle.drawing_cnf.specs.Layout.{layout, problem_of}
+use Rattle.search_least.specs.declared.outcome.Outcome.{Outcome}
+use Rattle.search_least.specs.declared.outcome.Outcome.TheVariants as outcomes
+use Rattle.search_least.specs.Outcome.{IsOutcome, IsSearched}
 use Rattle.log_check.specs.declared.claim.Claim.{Claim}
 use Rattle.log_check.specs.declared.verdict.Verdict.TheVariants as verdicts
 use Rattle.log_check.specs.TextLines.{told_bound_line}
@@ -31,9 +31,9 @@ use Rattle.log_check.specs.Claimed.{CertifiesClaim, IsTrueClaim}
 use Rattle.log_check.specs.Judged.{IsLogJudged}
 use Rattle.log_check.proofs.CountingLemmas.{caps_alone}
 use Rattle.log_check.proofs.JudgingLemmas.{same_expectation}
-use Rattle.sheet_answer.specs.CheckLine.{claim_of}
-use Rattle.draw_answer.specs.Drawn.{Job, search_of, sheet_of}
-use Rattle.sheet_answer.specs.Checked.{PassesCheck}
+use Rattle.run_check.specs.CheckLine.{claim_of}
+use Rattle.run_draw_front.specs.Drawn.{Job, search_of, sheet_of}
+use Rattle.run_check.specs.Checked.{PassesCheck}
 use Rattle.log_trim.proofs.OwnLog.{own_bounds}
 
 -- ---- the lines are accepted

@@ -5,7 +5,7 @@ use Rattle.plan_core.specs.declared.criterion.Criterion.{Criterion}
 use Rattle.refute_log.specs.declared.fault.LogWhat.{LogWhat}
 use Rattle.refute_log.specs.Lines.{ended_text, log_text, MayAllBeTold}
 use Rattle.refute_log.specs.Told.{Lines}
-use Rattle.drawing_problem.specs.Layout.{Layout}
+use Rattle.drawing_cnf.specs.Layout.{Layout}
 use Rattle.log_check.specs.declared.claim.Claim.{Claim}
 use Rattle.log_check.specs.declared.verdict.Verdict.TheVariants.{Faulty}
 use Rattle.log_check.specs.TextLines.{HasNextFault}

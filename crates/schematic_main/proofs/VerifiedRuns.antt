@@ -7,11 +7,11 @@ use Rattle.plan_core.specs.Drawing.{Drawing}
 use Rattle.track_order.specs.Order.{EdgeOrder}
 use Rattle.plan_words.specs.declared.command.Command.TheVariants.{Verify}
 use Rattle.plan_text.proofs.ShortSheet.{short_sheet}
-use Rattle.input_answer.specs.declared.status.Status.{Status}
-use Rattle.input_answer.specs.Met.{Met}
-use Rattle.input_answer.specs.Answer.{text_input, IsAnswerAfter, IsAnswerOn}
-use Rattle.sheet_answer.specs.Verdict.{IsSheetJudged, IsVerified, HasDrawnFiles}
-use Rattle.sheet_answer.proofs.VerdictLemmas.{judged_at}
+use Rattle.run_input.specs.declared.status.Status.{Status}
+use Rattle.run_input.specs.Met.{Met}
+use Rattle.run_input.specs.Answer.{text_input, IsAnswerAfter, IsAnswerOn}
+use Rattle.run_check.specs.Verdict.{IsSheetJudged, IsVerified, HasDrawnFiles}
+use Rattle.run_check.proofs.VerdictLemmas.{judged_at}
 use Rattle.schematic_main.specs.Commands.{Owes}
 use Rattle.schematic_main.specs.Run.{FailsIn}
 use Rattle.schematic_main.proofs.CertifiedRuns.{bytes_answered}

@@ -14,34 +14,34 @@ use Rattle.plan_text.specs.SheetFaults.{IsSheetText}
 use Rattle.track_order.specs.Order.{EdgeOrder}
 use Rattle.refute_log.specs.Lines.{log_text, MayAllBeTold}
 use Rattle.refute_log.specs.Told.{Lines}
-use Rattle.drawing_problem.specs.Layout.{layout}
-use Rattle.hint_text.specs.declared.fault.HintsWhat.{HintsWhat}
-use Rattle.hint_check.specs.declared.verdict.HintsVerdict.TheVariants.{Faulty}
-use Rattle.hint_check.specs.Judged.{IsHintsJudged}
+use Rattle.drawing_cnf.specs.Layout.{layout}
+use Rattle.hint_log.specs.declared.text_fault.HintsWhat.{HintsWhat}
+use Rattle.log_check.specs.declared.hint_verdict.HintsVerdict.TheVariants.{Faulty}
+use Rattle.log_check.specs.HintsJudged.{IsHintsJudged}
 use Rattle.station_make.specs.StationText.{station_text}
-use Rattle.input_answer.specs.declared.fault.RunFault.{RunFault}
-use Rattle.input_answer.specs.declared.status.Status.{Status}
-use Rattle.input_answer.specs.declared.status.Status.TheVariants.{Done, NoDrawing, Unfinished, Broken}
-use Rattle.input_answer.specs.Status.{IsRefused}
-use Rattle.input_answer.specs.Input.{IsShort, HasStation, HasSomeStation, HasFileFault}
-use Rattle.input_answer.specs.Signals.{HasFault}
-use Rattle.sheet_answer.specs.Verdict.{IsSoundSheet}
-use Rattle.input_answer.specs.Met.{Met}
-use Rattle.input_answer.specs.Answer.{InputFile, text_input, log_input, IsPrinted, IsFileJudged, IsAnswerAfter}
-use Rattle.input_answer.specs.Answer.{IsAnswerOn, IsAnswerToFile, HasReadStation}
-use Rattle.sheet_answer.specs.Verdict.{IsVerified}
-use Rattle.draw_answer.specs.Written.{file_named}
-use Rattle.draw_answer.specs.Drawn.{job, IsDrawAnswer, IsLeftByDraw}
-use Rattle.draw_answer.specs.Signalled.{IsSignalFileJudged, HasReadSignals, IsLeftBySignals}
-use Rattle.draw_answer.specs.Tried.{IsMade, IsTried}
-use Rattle.front_answer.specs.Fronted.{front_job, IsFrontAnswer}
-use Rattle.redraw_answer.specs.Redrawn.{redraw_job}
-use Rattle.redraw_answer.specs.Answer.{IsRedrawAnswer, HasReadFormer, IsLeftByRedraw}
-use Rattle.explain_answer.specs.Explained.{explain_job, IsExplainAnswer}
-use Rattle.sheet_answer.specs.CheckLine.{claim_of}
-use Rattle.sheet_answer.specs.Checked.{IsCheckAnswer}
-use Rattle.hint_answer.specs.Trimmed.{IsTrimAnswer, HasReadCertified, IsLeftByTrim}
-use Rattle.hint_answer.specs.Rechecked.{IsRecheckAnswer}
+use Rattle.run_input.specs.declared.fault.RunFault.{RunFault}
+use Rattle.run_input.specs.declared.status.Status.{Status}
+use Rattle.run_input.specs.declared.status.Status.TheVariants.{Done, NoDrawing, Unfinished, Broken}
+use Rattle.run_input.specs.Status.{IsRefused}
+use Rattle.run_input.specs.Input.{IsShort, HasStation, HasSomeStation, HasFileFault}
+use Rattle.run_input.specs.Signals.{HasFault}
+use Rattle.run_check.specs.Verdict.{IsSoundSheet}
+use Rattle.run_input.specs.Met.{Met}
+use Rattle.run_input.specs.Answer.{InputFile, text_input, log_input, IsPrinted, IsFileJudged, IsAnswerAfter}
+use Rattle.run_input.specs.Answer.{IsAnswerOn, IsAnswerToFile, HasReadStation}
+use Rattle.run_check.specs.Verdict.{IsVerified}
+use Rattle.run_draw_front.specs.Written.{file_named}
+use Rattle.run_draw_front.specs.Drawn.{job, IsDrawAnswer, IsLeftByDraw}
+use Rattle.run_draw_front.specs.Signalled.{IsSignalFileJudged, HasReadSignals, IsLeftBySignals}
+use Rattle.run_draw_front.specs.Tried.{IsMade, IsTried}
+use Rattle.run_draw_front.specs.Fronted.{front_job, IsFrontAnswer}
+use Rattle.run_explain_redraw.specs.Redrawn.{redraw_job}
+use Rattle.run_explain_redraw.specs.Answer.{IsRedrawAnswer, HasReadFormer, IsLeftByRedraw}
+use Rattle.run_explain_redraw.specs.Explained.{explain_job, IsExplainAnswer}
+use Rattle.run_check.specs.CheckLine.{claim_of}
+use Rattle.run_check.specs.Checked.{IsCheckAnswer}
+use Rattle.run_check.specs.Trimmed.{IsTrimAnswer, HasReadCertified, IsLeftByTrim}
+use Rattle.run_check.specs.Rechecked.{IsRecheckAnswer}
 
 -- ---- what is asked
 

@@ -10,14 +10,14 @@ use Rattle.plan_words.specs.declared.fault.WordWhat.{WordWhat}
 use Rattle.plan_words.specs.WordFaults.{IsFaultOfWords}
 use Rattle.plan_words.specs.Words.{IsCommandOf}
 use Rattle.refute_log.specs.Told.{Lines}
-use Rattle.input_answer.specs.declared.fault.RunFault.TheVariants.{Words}
-use Rattle.input_answer.specs.declared.status.Status.{Status}
-use Rattle.input_answer.specs.declared.status.Status.TheVariants.{NoMemory}
-use Rattle.input_answer.specs.Status.{IsRefused}
-use Rattle.input_answer.specs.Fault.{IsFaultLine}
-use Rattle.input_answer.specs.Input.{IsShort}
-use Rattle.input_answer.specs.Met.{Met, ReadFails}
-use Rattle.draw_answer.specs.Written.{FailsToWrite}
+use Rattle.run_input.specs.declared.fault.RunFault.TheVariants.{Words}
+use Rattle.run_input.specs.declared.status.Status.{Status}
+use Rattle.run_input.specs.declared.status.Status.TheVariants.{NoMemory}
+use Rattle.run_input.specs.Status.{IsRefused}
+use Rattle.run_input.specs.Fault.{IsFaultLine}
+use Rattle.run_input.specs.Input.{IsShort}
+use Rattle.run_input.specs.Met.{Met, ReadFails}
+use Rattle.run_draw_front.specs.Written.{FailsToWrite}
 use Rattle.schematic_main.specs.Commands.{inputs_of, outputs_of, TellsTrace, MayWrite, MayTell, MayLeave, Owes}
 use Rattle.schematic_main.specs.Commands.{AnswersAlone, AreSound, ends_of}
 

@@ -14,17 +14,17 @@ use Rattle.plan_words.specs.declared.command.Command.TheVariants.{Draw, Verify, 
 use Rattle.plan_text.specs.SheetText.{Sheet}
 use Rattle.track_order.specs.Order.{EdgeOrder}
 use Rattle.log_trim.specs.declared.trimming.TrimmedLog.{TrimmedLog}
-use Rattle.input_answer.specs.declared.status.Status.{Status}
-use Rattle.input_answer.specs.declared.status.Status.TheVariants.{Done}
-use Rattle.input_answer.specs.Input.{IsShort, HasStation}
-use Rattle.input_answer.specs.Status.{IsAnswered}
-use Rattle.input_answer.specs.Met.{Met}
-use Rattle.sheet_answer.specs.Verdict.{HasDrawnFiles}
-use Rattle.sheet_answer.specs.CertifiedSheet.{ClaimsTruly, IsCertifiedLine, HasCertifiedFiles}
-use Rattle.hint_answer.specs.Texts.{left_text}
-use Rattle.hint_answer.specs.Trimmed.{HasReadLeft}
-use Rattle.hint_answer.specs.Rechecked.{HintsCertifySheet, IsHintsLine}
-use Rattle.hint_answer.specs.Fitting.{FitsRoom}
+use Rattle.run_input.specs.declared.status.Status.{Status}
+use Rattle.run_input.specs.declared.status.Status.TheVariants.{Done}
+use Rattle.run_input.specs.Input.{IsShort, HasStation}
+use Rattle.run_input.specs.Status.{IsAnswered}
+use Rattle.run_input.specs.Met.{Met}
+use Rattle.run_check.specs.Verdict.{HasDrawnFiles}
+use Rattle.run_check.specs.CertifiedSheet.{ClaimsTruly, IsCertifiedLine, HasCertifiedFiles}
+use Rattle.run_check.specs.Texts.{left_text}
+use Rattle.run_check.specs.Trimmed.{HasReadLeft}
+use Rattle.run_check.specs.Rechecked.{HintsCertifySheet, IsHintsLine}
+use Rattle.run_check.specs.Fitting.{FitsRoom}
 use Rattle.schematic_main.specs.Commands.{Owes}
 use Rattle.schematic_main.specs.Run.{FailsIn}
 

@@ -1,24 +1,21 @@
 // What each command answers.
 ghost use Rattle.std.specs.Prelude.{◌≡◌, ◌≤◌, ◌⊎◌, [], IfOk, IsOkAnd, IsErrOf, length};
 ghost use Rattle.outside_io.specs.Counts.{Rose};
-ghost use Rattle.input_answer.specs.Status.{IsAnswered, IsRefused};
-ghost use Rattle.input_answer.specs.Met.{between, ReadsInputs, IsUnread, IsUnwritten, HasLeft};
+ghost use Rattle.run_input.specs.Status.{IsAnswered, IsRefused};
+ghost use Rattle.run_input.specs.Met.{between, ReadsInputs, IsUnread, IsUnwritten, HasLeft};
 ghost use Rattle.refute_log.specs.ToldTo.{told_to};
 ghost use Rattle.schematic_main.specs.Commands.{HasApartPair, inputs_of, outputs_of, AnswersAlone, MayWrite, MayTell};
 ghost use Rattle.schematic_main.specs.Commands.{MayLeave, Owes};
-ghost use Rattle.draw_answer.specs.Written.{AreFilesApart};
+ghost use Rattle.run_draw_front.specs.Written.{AreFilesApart};
 ghost use Rattle.schematic_main.specs.Run.{CommandFailsToWrite};
 
-use draw_answer::{Asked, draw, made, signals, trial};
-use explain_answer::{ExplainAsked, explain};
-use front_answer::{FrontAsked, front};
-use hint_answer::{recheck, trim};
-use input_answer::{Cut, Reply, print};
 use outside_io::Files;
 use plan_words::Command;
-use redraw_answer::{RedrawAsked, redraw};
 use refute_log::LogSink;
-use sheet_answer::{check, verify};
+use run_check::{check, recheck, trim, verify};
+use run_draw_front::{Asked, FrontAsked, draw, front, made, signals, trial};
+use run_explain_redraw::{ExplainAsked, RedrawAsked, explain, redraw};
+use run_input::{Cut, Reply, print};
 use std::alloc::Global;
 
 /// What a command answers.

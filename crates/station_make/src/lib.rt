@@ -4,7 +4,7 @@
 //! `specs/Station` says how many loops there are, where and on which side, and `specs/StationText` what the
 //! file is. `station` has the numbers in code, `main_track` and `loop_track` the text of a track, and `making`
 //! the file.
-//! The crate stands on `plan_core`, and on `line_text` for what is appended.
+//! The crate stands on `plan_core`, and on `outside_io` for what is appended.
 #![tactic(auto)]
 
 mod loop_track;

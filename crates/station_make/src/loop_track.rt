@@ -6,7 +6,7 @@ ghost use Rattle.station_make.specs.StationText.{loop_begin, loop_end, loop_trac
 
 use crate::numbered::push_numbered;
 use crate::station::{leaving, loops};
-use line_text::push_text;
+use outside_io::push_text;
 use plan_core::OutOfMemory;
 
 fn push_loop_begin(i: u32, into: &mut Vec<u8>) -> Result<(), OutOfMemory>

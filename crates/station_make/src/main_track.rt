@@ -7,7 +7,7 @@ ghost use Rattle.station_make.specs.StationText.{switches, main_begin, main_end,
 
 use crate::numbered::push_numbered;
 use crate::station::{leaving, loops, main_length, returning, side};
-use line_text::push_text;
+use outside_io::push_text;
 use plan_core::{OutOfMemory, Side};
 
 fn eastward_hand(side: Side) -> &'static [u8]

@@ -5,7 +5,7 @@ ghost use Rattle.station_make.specs.StationText.{byte_order_mark, file_begin, fi
 use crate::loop_track::push_loop_tracks;
 use crate::main_track::push_main_track;
 use crate::numbered::push_numbered;
-use line_text::push_text;
+use outside_io::push_text;
 use plan_core::{MAX_FILE_BYTES, OutOfMemory};
 use std::alloc::Global;
 

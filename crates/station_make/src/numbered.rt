@@ -2,7 +2,7 @@
 ghost use Rattle.std.specs.Prelude.{◌≡◌, ◌++◌, OnOk};
 ghost use Rattle.station_make.specs.StationText.{numbered};
 
-use line_text::{push_number, push_text};
+use outside_io::{push_number, push_text};
 use plan_core::OutOfMemory;
 
 /// Appends a text and a number.

@@ -11,19 +11,19 @@ use Rattle.cnf_core.proofs.QuantifierLemmas.{some_from_satisfies}
 use Rattle.refute_log.specs.declared.line.LogLine.TheVariants.{Bound, Refuted as RefutedLine, Model}
 use Rattle.refute_log.specs.Told.{Lines}
 use Rattle.refute_log.specs.Log.{Derives}
-use Rattle.certified_values.specs.Bounds.{SaysAtLeast, MeetsLog, CoversDrawings}
-use Rattle.certified_values.proofs.CertifiedLemmas.{refuted_holds, reached, says_more}
-use Rattle.lex_search.specs.declared.oracle.Below.{Below}
-use Rattle.lex_search.specs.declared.oracle.Reply.{Reply}
-use Rattle.lex_search.specs.declared.oracle.Reply.TheVariants.{Found, Refuted, Stopped}
-use Rattle.certified_values.specs.declared.stop.Stop.{Stop}
-use Rattle.lex_search.specs.Task.{Task, IsLawful, greatest_of}
+use Rattle.refute_log.specs.Bounds.{SaysAtLeast, MeetsLog, CoversDrawings}
+use Rattle.refute_log.proofs.CertifiedLemmas.{refuted_holds, reached, says_more}
+use Rattle.search_least.specs.declared.oracle.Below.{Below}
+use Rattle.search_least.specs.declared.oracle.Reply.{Reply}
+use Rattle.search_least.specs.declared.oracle.Reply.TheVariants.{Found, Refuted, Stopped}
+use Rattle.refute_log.specs.declared.stop.Stop.{Stop}
+use Rattle.search_least.specs.Task.{Task, IsLawful, greatest_of}
 use Rattle.refute_log.specs.Steps.{ToldBehind, Continues, KnowsSome}
-use Rattle.certified_values.specs.Cause.{IsCause}
-use Rattle.lex_search.specs.Asked.{below_limit, AreMet, AreOnce, AreAgainst, IsReply, IsRightReply}
+use Rattle.refute_log.specs.Cause.{IsCause}
+use Rattle.search_least.specs.Asked.{below_limit, AreMet, AreOnce, AreAgainst, IsReply, IsRightReply}
 use Rattle.refute_log.proofs.StepLemmas.{stays, goes_on, becomes}
-use Rattle.lex_search.proofs.QuestionLemmas.{ends_in, no_clauses_both, asks_no_clauses}
-use Rattle.lex_search.proofs.RunLemmas.{Laws}
+use Rattle.search_least.proofs.QuestionLemmas.{ends_in, no_clauses_both, asks_no_clauses}
+use Rattle.search_least.proofs.RunLemmas.{Laws}
 use Rattle.trade_off.specs.Least.{IsLeastUnder, NoneMeets, AreBeside, AreAsked}
 
 pub less_or_more : (i j : ℕ) → (i ≤ j) ⊎ (j < i)

@@ -6,17 +6,17 @@ use Rattle.refute_log.specs.Told.{Lines}
 use Rattle.refute_log.specs.Log.{Derives, clause_lines}
 use Rattle.refute_log.specs.Steps.{ToldBehind, Continues, Leaves}
 use Rattle.refute_log.proofs.StepLemmas.{leaves_later, leaves_here}
-use Rattle.certified_values.specs.Expected.{sum_lines, sum_vars_of, sums}
-use Rattle.certified_values.specs.declared.stop.Stop.{Stop}
-use Rattle.lex_search.specs.declared.oracle.Below.{Below}
-use Rattle.lex_search.specs.declared.oracle.Reply.{Reply}
-use Rattle.lex_search.specs.declared.oracle.Built.{Built}
-use Rattle.lex_search.specs.declared.oracle.Built.TheVariants.{Whole as AllOfThem}
-use Rattle.lex_search.specs.Task.{Task, greatest_of}
-use Rattle.lex_search.specs.Asked.{IsReply}
-use Rattle.lex_search.specs.Built.{IsBuild}
-use Rattle.lex_search.specs.Outcome.{first_lines}
-use Rattle.lex_search.proofs.BuildLemmas.{formulas_are_clauses, sum_is_clauses}
+use Rattle.refute_log.specs.Expected.{sum_lines, sum_vars_of, sums}
+use Rattle.refute_log.specs.declared.stop.Stop.{Stop}
+use Rattle.search_least.specs.declared.oracle.Below.{Below}
+use Rattle.search_least.specs.declared.oracle.Reply.{Reply}
+use Rattle.search_least.specs.declared.oracle.Built.{Built}
+use Rattle.search_least.specs.declared.oracle.Built.TheVariants.{Whole as AllOfThem}
+use Rattle.search_least.specs.Task.{Task, greatest_of}
+use Rattle.search_least.specs.Asked.{IsReply}
+use Rattle.search_least.specs.Built.{IsBuild}
+use Rattle.search_least.specs.Outcome.{first_lines}
+use Rattle.search_least.proofs.BuildLemmas.{formulas_are_clauses, sum_is_clauses}
 use Rattle.trade_off.specs.Least.{AreAsked}
 use Rattle.trade_off.specs.Outcome.{front_lines, IsFrontLeft, IsBuiltFront}
 use Rattle.trade_off.proofs.AskLemmas.{reply_stop, reply_asked}

@@ -7,12 +7,12 @@ use Rattle.plan_core.specs.declared.criterion.Criterion.{Criterion}
 use Rattle.plan_core.specs.Values.{values_of, value_of}
 use Rattle.plan_core.specs.Drawing.{Drawing}
 use Rattle.plan_core.proofs.LimitLemmas.{value-le-limit}
-use Rattle.lex_search.specs.declared.oracle.Below.{Below}
-use Rattle.lex_search.specs.declared.oracle.Reply.{Reply}
-use Rattle.lex_search.specs.declared.oracle.Reply.TheVariants.{Found}
-use Rattle.lex_search.specs.Task.{Task, IsLawful, greatest_of}
-use Rattle.lex_search.specs.Asked.{below_limit, AreMet, AreOnce, IsRightReply, IsWithinCap}
-use Rattle.lex_search.specs.State.{hold}
+use Rattle.search_least.specs.declared.oracle.Below.{Below}
+use Rattle.search_least.specs.declared.oracle.Reply.{Reply}
+use Rattle.search_least.specs.declared.oracle.Reply.TheVariants.{Found}
+use Rattle.search_least.specs.Task.{Task, IsLawful, greatest_of}
+use Rattle.search_least.specs.Asked.{below_limit, AreMet, AreOnce, IsRightReply, IsWithinCap}
+use Rattle.search_least.specs.State.{hold}
 use Rattle.trade_off.specs.declared.collecting.Next.{Next}
 use Rattle.trade_off.specs.declared.collecting.Next.TheVariants.{Pair, NoMore, Stopped}
 use Rattle.trade_off.specs.Front.{IsAttained}

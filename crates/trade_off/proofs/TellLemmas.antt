@@ -7,21 +7,21 @@ use Rattle.cnf_core.specs.Clause.{Clauses, words_of}
 use Rattle.refute_log.specs.Lines.{MayAllBeTold}
 use Rattle.refute_log.specs.Told.{Lines}
 use Rattle.refute_log.specs.Log.{added, given, learnt, Derives, Due, BeginsLines, clause_lines}
-use Rattle.certified_values.specs.Bounds.{CoversDrawings}
-use Rattle.certified_values.specs.Expected.{sum_lines, sum_vars_of, with_cap, same_criterion}
-use Rattle.certified_values.specs.Full.{CapsPass}
-use Rattle.certified_values.proofs.ExpectedLemmas.{same_tells, with_cap_here, with_cap_other}
-use Rattle.lex_search.specs.declared.oracle.Built.{Built}
-use Rattle.lex_search.specs.declared.oracle.Built.TheVariants.{Whole as AllOfThem, NoRoom}
-use Rattle.certified_values.specs.declared.stop.Stop.{Stop}
-use Rattle.certified_values.specs.declared.stop.Stop.TheVariants.{BudgetSpent, RoomFull}
-use Rattle.lex_search.specs.Task.{Task, greatest_of}
-use Rattle.certified_values.specs.Cause.{IsCause}
-use Rattle.lex_search.specs.Built.{SumPasses, IsBuild, AreBuiltTo}
-use Rattle.lex_search.specs.Outcome.{first_lines}
+use Rattle.refute_log.specs.Bounds.{CoversDrawings}
+use Rattle.refute_log.specs.Expected.{sum_lines, sum_vars_of, with_cap, same_criterion}
+use Rattle.refute_log.specs.Full.{CapsPass}
+use Rattle.refute_log.proofs.ExpectedLemmas.{same_tells, with_cap_here, with_cap_other}
+use Rattle.search_least.specs.declared.oracle.Built.{Built}
+use Rattle.search_least.specs.declared.oracle.Built.TheVariants.{Whole as AllOfThem, NoRoom}
+use Rattle.refute_log.specs.declared.stop.Stop.{Stop}
+use Rattle.refute_log.specs.declared.stop.Stop.TheVariants.{BudgetSpent, RoomFull}
+use Rattle.search_least.specs.Task.{Task, greatest_of}
+use Rattle.refute_log.specs.Cause.{IsCause}
+use Rattle.search_least.specs.Built.{SumPasses, IsBuild, AreBuiltTo}
+use Rattle.search_least.specs.Outcome.{first_lines}
 use Rattle.refute_log.specs.Steps.{ToldBehind, Continues}
 use Rattle.refute_log.proofs.StepLemmas.{stays, goes_on, becomes, clause_lines_append}
-use Rattle.lex_search.proofs.BuildLemmas.{formulas_are_clauses, sum_is_clauses}
+use Rattle.search_least.proofs.BuildLemmas.{formulas_are_clauses, sum_is_clauses}
 use Rattle.trade_off.specs.declared.outcome.FrontEnd.{FrontEnd}
 use Rattle.trade_off.specs.declared.outcome.FrontEnd.TheVariants.{Whole, Empty, Conflicts, Room}
 use Rattle.trade_off.specs.Least.{AreAsked}

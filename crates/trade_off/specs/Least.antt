@@ -5,11 +5,11 @@ use Rattle.plan_core.specs.Drawing.{Drawing}
 use Rattle.plan_core.specs.Values.{values_of, value_of}
 use Rattle.refute_log.specs.Told.{Lines}
 use Rattle.refute_log.specs.Log.{clause_lines}
-use Rattle.lex_search.specs.declared.oracle.Below.{Below}
-use Rattle.certified_values.specs.declared.stop.Stop.{Stop}
-use Rattle.lex_search.specs.Task.{Task, IsLawful}
-use Rattle.certified_values.specs.Cause.{IsCause}
-use Rattle.lex_search.specs.Asked.{AreMet, AreOnce}
+use Rattle.search_least.specs.declared.oracle.Below.{Below}
+use Rattle.refute_log.specs.declared.stop.Stop.{Stop}
+use Rattle.search_least.specs.Task.{Task, IsLawful}
+use Rattle.refute_log.specs.Cause.{IsCause}
+use Rattle.search_least.specs.Asked.{AreMet, AreOnce}
 
 -- no lawful drawing that meets the bounds has less of the criterion
 abbrev pub IsLeastUnder : Task → List Below → Criterion → Drawing → Type 0

@@ -3,10 +3,10 @@ use Rattle.std.specs.Prelude.{◌≡◌, ◌≤◌, ◌<◌, ⊤, ℕ, List, [],
 use Rattle.plan_core.specs.declared.criterion.Criterion.{Criterion}
 use Rattle.plan_core.specs.Drawing.{Drawing}
 use Rattle.plan_core.specs.Values.{values_of, value_of}
-use Rattle.lex_search.specs.declared.oracle.Below.{Below}
-use Rattle.certified_values.specs.declared.stop.Stop.{Stop}
-use Rattle.lex_search.specs.Task.{Task, IsLawful}
-use Rattle.lex_search.specs.Asked.{below_limit}
+use Rattle.search_least.specs.declared.oracle.Below.{Below}
+use Rattle.refute_log.specs.declared.stop.Stop.{Stop}
+use Rattle.search_least.specs.Task.{Task, IsLawful}
+use Rattle.search_least.specs.Asked.{below_limit}
 use Rattle.trade_off.specs.declared.collecting.Next.{Next}
 use Rattle.trade_off.specs.declared.collecting.Next.TheVariants.{Pair, NoMore, Stopped}
 use Rattle.trade_off.specs.Front.{Pairs, IsAttained, AreOnFront}

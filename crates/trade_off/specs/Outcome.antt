@@ -6,15 +6,15 @@ use Rattle.cnf_core.specs.Clause.{words_of}
 use Rattle.refute_log.specs.Lines.{MayAllBeTold}
 use Rattle.refute_log.specs.Told.{Lines}
 use Rattle.refute_log.specs.Log.{added, learnt, Derives, Due, BeginsLines, clause_lines}
-use Rattle.certified_values.specs.Bounds.{CoversDrawings}
-use Rattle.certified_values.specs.Expected.{expected_lines}
-use Rattle.certified_values.specs.Cause.{IsCause}
-use Rattle.certified_values.specs.Full.{CapsPass}
-use Rattle.lex_search.specs.declared.oracle.Built.{Built}
-use Rattle.lex_search.specs.declared.oracle.Built.TheVariants.{Whole as AllOfThem, NoRoom}
-use Rattle.certified_values.specs.declared.stop.Stop.{Stop}
-use Rattle.certified_values.specs.declared.stop.Stop.TheVariants.{BudgetSpent, RoomFull}
-use Rattle.lex_search.specs.Task.{Task, greatest_of}
+use Rattle.refute_log.specs.Bounds.{CoversDrawings}
+use Rattle.refute_log.specs.Expected.{expected_lines}
+use Rattle.refute_log.specs.Cause.{IsCause}
+use Rattle.refute_log.specs.Full.{CapsPass}
+use Rattle.search_least.specs.declared.oracle.Built.{Built}
+use Rattle.search_least.specs.declared.oracle.Built.TheVariants.{Whole as AllOfThem, NoRoom}
+use Rattle.refute_log.specs.declared.stop.Stop.{Stop}
+use Rattle.refute_log.specs.declared.stop.Stop.TheVariants.{BudgetSpent, RoomFull}
+use Rattle.search_least.specs.Task.{Task, greatest_of}
 use Rattle.trade_off.specs.declared.outcome.FrontEnd.{FrontEnd}
 use Rattle.trade_off.specs.declared.outcome.FrontEnd.TheVariants.{Whole, Empty, Conflicts, Room}
 use Rattle.trade_off.specs.Front.{Pairs, IsWholeFront, IsFrontUpTo}

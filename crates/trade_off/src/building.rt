@@ -2,16 +2,16 @@
 ghost use Rattle.std.specs.Prelude.{◌≡◌, ◌≢◌, ◌≤◌, ◌+◌, ◌++◌, ◌∷◌, [], IfOk, OnErr, IsErrOf};
 ghost use Rattle.outside_io.specs.Counts.{Rose};
 ghost use Rattle.plan_core.specs.declared.criterion.Criterion.{Criterion as Measure};
-ghost use Rattle.certified_values.specs.Expected.{with_cap, sum_lines, sum_vars_of, sums};
-ghost use Rattle.lex_search.specs.declared.oracle.Built.TheVariants.{Whole as AllOfThem};
-ghost use Rattle.lex_search.specs.Task.{greatest_of};
-ghost use Rattle.lex_search.specs.Built.{IsBuild};
-ghost use Rattle.lex_search.specs.Outcome.{IsFresh, first_lines};
+ghost use Rattle.refute_log.specs.Expected.{with_cap, sum_lines, sum_vars_of, sums};
+ghost use Rattle.search_least.specs.declared.oracle.Built.TheVariants.{Whole as AllOfThem};
+ghost use Rattle.search_least.specs.Task.{greatest_of};
+ghost use Rattle.search_least.specs.Built.{IsBuild};
+ghost use Rattle.search_least.specs.Outcome.{IsFresh, first_lines};
 ghost use Rattle.refute_log.specs.Steps.{Continues, Leaves};
 ghost use Rattle.trade_off.specs.Outcome.{IsBuiltFront};
 
-use lex_search::{Built, MinFault, Oracle};
 use plan_core::Criterion;
+use search_least::{Built, MinFault, Oracle};
 
 /// Tells the bounds of a criterion up to its greatest value; where that is 0 there are none.
 fn build_whole<O: Oracle>(oracle: &mut O, c: Criterion) -> Result<Built, MinFault>

@@ -3,9 +3,9 @@ ghost use Rattle.std.specs.Prelude.{◌≡◌, ◌≢◌, ◌≤◌, ◌<◌, �
 ghost use Rattle.std.specs.Prelude.{MatchOption, ⊤};
 ghost use Rattle.outside_io.specs.Counts.{Rose};
 ghost use Rattle.plan_core.specs.Values.{values_of, value_of};
-ghost use Rattle.lex_search.specs.Asked.{AreMet};
-ghost use Rattle.lex_search.specs.Task.{IsLawful, greatest_of};
-ghost use Rattle.lex_search.specs.State.{hold as hold_of};
+ghost use Rattle.search_least.specs.Asked.{AreMet};
+ghost use Rattle.search_least.specs.Task.{IsLawful, greatest_of};
+ghost use Rattle.search_least.specs.State.{hold as hold_of};
 ghost use Rattle.refute_log.specs.Steps.{Continues, KnowsSome, Leaves};
 ghost use Rattle.trade_off.specs.Least.{IsLeastUnder, AreAsked};
 ghost use Rattle.trade_off.specs.Next.{IsUnder, under, IsNext, IsNextPair, IsSecondOf, stop_of, IsSoFar};
@@ -14,10 +14,10 @@ ghost use Rattle.trade_off.specs.Outcome.{IsRightFront, stop_behind};
 use crate::lowering::lower;
 use crate::outcome::stopped_by;
 use crate::{FrontEnd, FrontList, PairList};
-use certified_values::Stop;
-use lex_search::{Below, MinFault, Oracle, Reply};
 use plan_core::{Criterion, OutOfMemory};
 use plan_geometry::{Drawing, values};
+use refute_log::Stop;
+use search_least::{Below, MinFault, Oracle, Reply};
 use std::alloc::Global;
 
 /// What comes behind some pairs.

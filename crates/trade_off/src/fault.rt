@@ -1,10 +1,10 @@
 // Why there is no front.
 ghost use Rattle.std.specs.Prelude.{◌≡◌};
-ghost use Rattle.lex_search.specs.declared.fault.MinFault.TheVariants.{Log as OracleLog};
+ghost use Rattle.search_least.specs.declared.fault.MinFault.TheVariants.{Log as OracleLog};
 ghost use Rattle.trade_off.specs.declared.fault.FrontFault.TheVariants.{Log, Memory};
 
-use lex_search::MinFault;
 use plan_core::OutOfMemory;
+use search_least::MinFault;
 use thiserror::Error;
 
 /// Why there is no front.

@@ -2,15 +2,15 @@
 ghost use Rattle.std.specs.Prelude.{◌≡◌, ◌≤◌, ◌++◌, ◌∷◌, [], All, IfOk, OnOk, OnErr, IsErrOf, None};
 ghost use Rattle.outside_io.specs.Counts.{Rose};
 ghost use Rattle.plan_core.specs.Values.{values_of, value_of};
-ghost use Rattle.lex_search.specs.Asked.{below_limit, AreMet, IsWithinCap};
-ghost use Rattle.lex_search.specs.Task.{IsLawful, greatest_of};
+ghost use Rattle.search_least.specs.Asked.{below_limit, AreMet, IsWithinCap};
+ghost use Rattle.search_least.specs.Task.{IsLawful, greatest_of};
 ghost use Rattle.refute_log.specs.Steps.{Continues, KnowsSome, Leaves};
 ghost use Rattle.trade_off.specs.Least.{IsLeastUnder, AreBeside, AreAsked};
 
-use certified_values::Stop;
-use lex_search::{Below, MinFault, Oracle, Reply};
 use plan_core::{Criterion, OutOfMemory};
 use plan_geometry::{Drawing, values};
+use refute_log::Stop;
+use search_least::{Below, MinFault, Oracle, Reply};
 use std::alloc::Global;
 
 /// The drawing with the least value so far, and why the search stopped, if it did.

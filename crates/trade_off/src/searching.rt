@@ -1,8 +1,8 @@
 // The whole search for the front.
 ghost use Rattle.std.specs.Prelude.{◌≡◌, ◌≢◌, ◌≤◌, ◌++◌, IfOk, OnErr, IsErrOf};
 ghost use Rattle.outside_io.specs.Counts.{Rose};
-ghost use Rattle.lex_search.specs.Task.{IsLawful};
-ghost use Rattle.lex_search.specs.Outcome.{IsFresh, first_lines};
+ghost use Rattle.search_least.specs.Task.{IsLawful};
+ghost use Rattle.search_least.specs.Outcome.{IsFresh, first_lines};
 ghost use Rattle.refute_log.specs.Told.{Lines};
 ghost use Rattle.refute_log.specs.Steps.{ToldBehind};
 ghost use Rattle.trade_off.specs.Outcome.{IsRightFront, IsFrontLog, IsFrontLeft};
@@ -10,8 +10,8 @@ ghost use Rattle.trade_off.specs.Outcome.{IsRightFront, IsFrontLog, IsFrontLeft}
 use crate::building::build_both;
 use crate::collecting::collect;
 use crate::{FrontEnd, FrontList, PairList};
-use lex_search::{Built, MinFault, Oracle};
 use plan_core::Criterion;
+use search_least::{Built, MinFault, Oracle};
 use std::alloc::Global;
 
 /// The front of two criteria, or as far as the search comes. The oracle knows the drawings' clauses, and no bound yet.

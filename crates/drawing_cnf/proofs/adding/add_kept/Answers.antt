@@ -1,6 +1,6 @@
 use Rattle.std.proofs.Common.{rules, ◌≡◌, ◌≤◌, ◌+◌, ◌++◌, [], ◌∷◌, List, ◌∙◌, ap, subst, sym, arith}
 use Rattle.cnf_core.specs.declared.limits.TheConstants.{VARS}
-use Rattle.law_clauses.specs.Expected.{drawing_vars}
+use Rattle.cnf_laws.specs.Expected.{drawing_vars}
 use Rattle.drawing_cnf.specs.Bounds.{bound_sums}
 use Rattle.drawing_cnf.specs.Kept.{AreKept}
 use Rattle.drawing_cnf.specs.declared.kept_bound.KeptBound.{KeptBound}

@@ -1,7 +1,7 @@
 use Rattle.std.proofs.Common.{◌≡◌, List, ℕ, refl, ◌∙◌, subst, arith, Ok}
 use Rattle.cnf_core.specs.Added.{AddsBlock}
 use Rattle.cnf_core.proofs.BlockLemmas.{block_same, block_longer}
-use Rattle.law_clauses.specs.Expected.{drawing_vars}
+use Rattle.cnf_laws.specs.Expected.{drawing_vars}
 use Rattle.drawing_cnf.specs.Bounds.{west_first, bends_bound, bends_bound_size}
 use Rattle.drawing_cnf.specs.Bounded.{longest_of_bound}
 use Rattle.drawing_cnf.proofs.bounds.add_bends.Goals as goal

@@ -1,5 +1,5 @@
 use Rattle.std.proofs.Common.{rules, Ok}
-use Rattle.law_clauses.specs.Expected.{drawing_vars}
+use Rattle.cnf_laws.specs.Expected.{drawing_vars}
 use Rattle.drawing_cnf.proofs.BoundCode.{block_of_vars}
 use Rattle.drawing_cnf.proofs.DiagonalCode.{diagonal_after, diagonal_refused}
 use Rattle.drawing_cnf.proofs.diagonal_bound.add_diagonal_bound.Goals as goal

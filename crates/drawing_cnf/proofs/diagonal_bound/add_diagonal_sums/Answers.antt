@@ -2,7 +2,7 @@ use Rattle.std.proofs.Common.{rules, ◌<◌, ◌+◌, ◌++◌, ℕ, List, leng
 use Rattle.std.specs.List.{flat_map}
 use Rattle.cnf_core.proofs.BlockLemmas.{block_refused, block_fault, block_same, block_after}
 use Rattle.unary_sum.specs.Sum.{sum_count, sum_outputs}
-use Rattle.law_clauses.specs.Expected.{drawing_vars}
+use Rattle.cnf_laws.specs.Expected.{drawing_vars}
 use Rattle.drawing_cnf.specs.Bounds.{edges_steps, edges_outputs, edges_count, edge_most, sum_bound, diagonal_sum}
 use Rattle.drawing_cnf.proofs.BoundLemmas.{all_edges}
 use Rattle.drawing_cnf.proofs.DiagonalCode.{steps_at, top_at, steps_end, sums_are, diagonal_inputs}

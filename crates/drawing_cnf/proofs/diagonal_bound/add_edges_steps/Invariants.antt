@@ -1,5 +1,5 @@
 use Rattle.std.proofs.Common.{drop}
-use Rattle.law_clauses.specs.Expected.{drawing_vars}
+use Rattle.cnf_laws.specs.Expected.{drawing_vars}
 use Rattle.drawing_cnf.proofs.DiagonalCode.{IsSumming}
 use Rattle.drawing_cnf.proofs.diagonal_bound.add_edges_steps.Given as goal
 

@@ -2,7 +2,7 @@ use Rattle.std.proofs.Common.{◌≡◌, subst}
 use Rattle.std.specs.Prelude.{IfOk}
 use Rattle.edge_shape.specs.EdgeVars.{EdgeSpot, edge_spot, lits_of}
 use Rattle.unary_sum.specs.Sum.{SumVars}
-use Rattle.law_clauses.specs.Expected.{edge_first}
+use Rattle.cnf_laws.specs.Expected.{edge_first}
 use Rattle.drawing_cnf.specs.Bounds.{steps_sum}
 use Rattle.drawing_cnf.proofs.DiagonalCode.{edge_adds}
 use Rattle.drawing_cnf.proofs.diagonal_bound.add_sum_of.Goals as goal

@@ -1,7 +1,7 @@
 use Rattle.track_order.specs.Order.{is_above, is_overlap}
-use Rattle.law_clauses.proofs.MainLemmas.{formula_sound, formula_covers, order_tables, few_variables}
-use Rattle.law_clauses.proofs.JoinedLemmas.{least_one}
-use Rattle.law_clauses.proofs.FormulaWords.{formula_words, formula_variables}
+use Rattle.cnf_laws.proofs.MainLemmas.{formula_sound, formula_covers, order_tables, few_variables}
+use Rattle.cnf_laws.proofs.JoinedLemmas.{least_one}
+use Rattle.cnf_laws.proofs.FormulaWords.{formula_words, formula_variables}
 use Rattle.drawing_cnf.proofs.WholeLemmas.{whole_made}
 use Rattle.drawing_cnf.proofs.encoded.encode.Goals as goal
 

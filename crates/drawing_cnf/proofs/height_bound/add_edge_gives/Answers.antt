@@ -3,8 +3,8 @@ use Rattle.cnf_core.proofs.StepLemmas.{adds_refused, adds_after}
 use Rattle.cnf_core.specs.declared.limits.TheConstants.{VARS}
 use Rattle.cnf_core.specs.Formula.{each}
 use Rattle.edge_shape.specs.EdgeVars.{EdgeSpot, edge_spot}
-use Rattle.law_clauses.proofs.SpotLemmas.{spot_there}
-use Rattle.law_clauses.specs.Expected.{edge_first, laws_first, drawing_vars}
+use Rattle.cnf_laws.proofs.SpotLemmas.{spot_there}
+use Rattle.cnf_laws.specs.Expected.{edge_first, laws_first, drawing_vars}
 use Rattle.drawing_cnf.specs.Bounds.{height_gives, height_beside}
 use Rattle.drawing_cnf.proofs.BoundCode.{heights_adds}
 use Rattle.drawing_cnf.proofs.height_bound.add_edge_gives.Goals as goal

@@ -1,7 +1,7 @@
 use Rattle.std.specs.Prelude.{length}
 use Rattle.cnf_core.specs.Formula.{each}
 use Rattle.cnf_core.proofs.StepLemmas.{IsAdding}
-use Rattle.law_clauses.specs.Expected.{drawing_vars}
+use Rattle.cnf_laws.specs.Expected.{drawing_vars}
 use Rattle.drawing_cnf.specs.Bounds.{edge_height_gives}
 use Rattle.drawing_cnf.proofs.height_bound.add_edges_give.Given as goal
 

@@ -1,7 +1,7 @@
 use Rattle.std.proofs.Common.{rules, length, arith, ◌+◌, ◌*◌}
 use Rattle.cnf_core.proofs.StepLemmas.{adds_refused, adds_after, adds_longer}
 use Rattle.cnf_core.specs.Formula.{each}
-use Rattle.law_clauses.specs.Expected.{drawing_vars}
+use Rattle.cnf_laws.specs.Expected.{drawing_vars}
 use Rattle.drawing_cnf.specs.Bounds.{edge_height_gives, some_height_clause}
 use Rattle.drawing_cnf.proofs.height_bound.add_height_at.Goals as goal
 

@@ -5,8 +5,8 @@ use Rattle.cnf_core.specs.LitOrTruth.{yes}
 use Rattle.order_int.specs.IntVars.{IntVars, IntIsThere}
 use Rattle.edge_shape.specs.EdgeVars.{EdgeSpot, lits_of}
 use Rattle.plan_core.specs.Graph.{edge}
-use Rattle.law_clauses.specs.Rank.{west_rank}
-use Rattle.law_clauses.specs.Expected.{ints_at_place, drawing_vars, edges_first}
+use Rattle.cnf_laws.specs.Rank.{west_rank}
+use Rattle.cnf_laws.specs.Expected.{ints_at_place, drawing_vars, edges_first}
 use Rattle.drawing_cnf.specs.Bounds.{beside_clause}
 use Rattle.drawing_cnf.proofs.BoundCode.{beside_adds}
 use Rattle.drawing_cnf.proofs.height_bound.add_height_beside.Goals as goal

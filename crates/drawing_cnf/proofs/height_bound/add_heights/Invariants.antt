@@ -1,7 +1,7 @@
 use Rattle.std.specs.Prelude.{◌+◌}
 use Rattle.cnf_core.specs.Formula.{each}
 use Rattle.cnf_core.proofs.StepLemmas.{IsAdding}
-use Rattle.law_clauses.specs.Expected.{drawing_vars}
+use Rattle.cnf_laws.specs.Expected.{drawing_vars}
 use Rattle.drawing_cnf.specs.Bounds.{height_at}
 use Rattle.drawing_cnf.proofs.height_bound.add_heights.Given as goal
 

@@ -2,7 +2,7 @@ use Rattle.std.proofs.Common.{rules, ◌≡◌, ◌+◌, ◌*◌, ◌++◌, List
 use Rattle.cnf_core.specs.Lit.{Literal, negative_of}
 use Rattle.cnf_core.specs.Clause.{AreDistinct, AreThere}
 use Rattle.cnf_core.proofs.StepLemmas.{adds_same, adds_fault}
-use Rattle.law_clauses.specs.Expected.{drawing_vars}
+use Rattle.cnf_laws.specs.Expected.{drawing_vars}
 use Rattle.drawing_cnf.specs.Bounds.{height_lits}
 use Rattle.drawing_cnf.proofs.ListCode.{long_distinct, long_there}
 use Rattle.drawing_cnf.proofs.BoundCode.{some_adds}

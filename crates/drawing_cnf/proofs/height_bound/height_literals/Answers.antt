@@ -1,6 +1,6 @@
 use Rattle.std.proofs.Common.{◌≡◌, ◌≤◌, ◌<◌, ◌+◌, ◌++◌, length, sym, ◌∙◌, ap, subst, arith}
 use Rattle.edge_shape.specs.EdgeVars.{EdgeSpot, lits_of}
-use Rattle.law_clauses.specs.Expected.{drawing_vars}
+use Rattle.cnf_laws.specs.Expected.{drawing_vars}
 use Rattle.drawing_cnf.specs.Bounds.{column_lits, height_lits}
 use Rattle.drawing_cnf.proofs.ListCode.{heights_next, heights_done}
 use Rattle.drawing_cnf.proofs.height_bound.height_literals.Goals as goal

@@ -1,5 +1,5 @@
 use Rattle.std.proofs.Common.{◌≡◌, ◌++◌, ◌-◌, length}
-use Rattle.law_clauses.specs.Expected.{drawing_vars}
+use Rattle.cnf_laws.specs.Expected.{drawing_vars}
 use Rattle.drawing_cnf.specs.Bounds.{height_lits}
 use Rattle.drawing_cnf.proofs.height_bound.height_literals.Given as goal
 

@@ -1,4 +1,4 @@
-use Rattle.law_clauses.proofs.RankLemmas.{rank_below, rank_once, rank_rises}
+use Rattle.cnf_laws.proofs.RankLemmas.{rank_below, rank_once, rank_rises}
 use Rattle.drawing_cnf.proofs.laws.nodes_lie_from_west_to_east.Goals as goal
 
 pub returns-clause-within : goal.returns-clause-within

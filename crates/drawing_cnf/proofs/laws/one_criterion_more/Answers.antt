@@ -1,4 +1,4 @@
-use Rattle.law_clauses.specs.Expected.{drawing_vars, formula_size}
+use Rattle.cnf_laws.specs.Expected.{drawing_vars, formula_size}
 use Rattle.drawing_cnf.proofs.OrderLemmas.{from_more, from_same}
 use Rattle.drawing_cnf.proofs.laws.one_criterion_more.Goals as goal
 

@@ -1,11 +1,11 @@
 use Rattle.std.proofs.Common.{◌+◌, map, ◌∙◌, arith}
 use Rattle.cnf_core.specs.Truths.{assignment}
 use Rattle.track_order.specs.Order.{is_above, is_overlap}
-use Rattle.law_clauses.specs.Expected.{drawing_vars, formula_size, formula_clauses}
+use Rattle.cnf_laws.specs.Expected.{drawing_vars, formula_size, formula_clauses}
 use Rattle.drawing_cnf.specs.Bounded.{bounds_clauses}
 use Rattle.drawing_cnf.specs.Kept.{bound_of}
 use Rattle.drawing_cnf.specs.Whole.{bounds_last}
-use Rattle.law_clauses.proofs.BaseLemmas.{lawful_loose}
+use Rattle.cnf_laws.proofs.BaseLemmas.{lawful_loose}
 use Rattle.drawing_cnf.proofs.WholeLemmas.{last_rises}
 use Rattle.drawing_cnf.proofs.PutWhole.{put_drawing_to, whole_stands, whole_holds}
 use Rattle.drawing_cnf.proofs.put.put_all.Goals as goal

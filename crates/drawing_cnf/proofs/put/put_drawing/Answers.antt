@@ -1,7 +1,7 @@
 use Rattle.std.proofs.Common.{◌∙◌, arith}
 use Rattle.cnf_core.specs.Truths.{assignment}
 use Rattle.track_order.specs.Order.{is_above, is_overlap}
-use Rattle.law_clauses.proofs.BaseLemmas.{lawful_loose}
+use Rattle.cnf_laws.proofs.BaseLemmas.{lawful_loose}
 use Rattle.drawing_cnf.proofs.PutWhole.{put_base_to, drawing_reads, drawing_holds}
 use Rattle.drawing_cnf.proofs.put.put_drawing.Goals as goal
 

@@ -1,7 +1,7 @@
 use Rattle.std.proofs.Common.{refl, ◌∙◌, arith}
 use Rattle.cnf_core.specs.Truths.{assignment}
-use Rattle.law_clauses.proofs.BaseLemmas.{edge_spot_in}
-use Rattle.law_clauses.proofs.MainLemmas.{few_variables}
+use Rattle.cnf_laws.proofs.BaseLemmas.{edge_spot_in}
+use Rattle.cnf_laws.proofs.MainLemmas.{few_variables}
 use Rattle.drawing_cnf.proofs.PutLemmas.{no_edge_put, edge_put, edges_read, edges_hold}
 use Rattle.drawing_cnf.proofs.put.put_edges.Goals as goal
 

@@ -1,6 +1,6 @@
 use Rattle.std.specs.Prelude.{◌≡◌, ◌≤◌, ℕ, length}
 use Rattle.cnf_core.specs.Truths.{assignment}
-use Rattle.law_clauses.specs.Expected.{laws_first}
+use Rattle.cnf_laws.specs.Expected.{laws_first}
 use Rattle.drawing_cnf.proofs.PutLemmas.{EdgesPutTo}
 use Rattle.drawing_cnf.proofs.put.put_edges.Given as goal
 

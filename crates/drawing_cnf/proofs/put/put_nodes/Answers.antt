@@ -2,9 +2,9 @@ use Rattle.std.proofs.Common.{refl, sym, ◌∙◌, subst, arith}
 use Rattle.plan_core.specs.declared.point.Point.{Point}
 use Rattle.plan_core.specs.Laws.{IsOnGrid}
 use Rattle.cnf_core.specs.Truths.{assignment}
-use Rattle.law_clauses.specs.Stands.{ReadsPoint}
-use Rattle.law_clauses.specs.Expected.{drawing_vars}
-use Rattle.law_clauses.proofs.BaseLemmas.{node_spot}
+use Rattle.cnf_laws.specs.Stands.{ReadsPoint}
+use Rattle.cnf_laws.specs.Expected.{drawing_vars}
+use Rattle.cnf_laws.proofs.BaseLemmas.{node_spot}
 use Rattle.drawing_cnf.proofs.PutLemmas.{node_put}
 use Rattle.drawing_cnf.proofs.put.put_nodes.Goals as goal
 

@@ -1,6 +1,6 @@
 use Rattle.std.specs.Prelude.{◌≡◌, ◌≤◌, ℕ, length}
 use Rattle.cnf_core.specs.Truths.{assignment}
-use Rattle.law_clauses.specs.Expected.{edges_first}
+use Rattle.cnf_laws.specs.Expected.{edges_first}
 use Rattle.drawing_cnf.proofs.PutLemmas.{NodesReadTo}
 use Rattle.drawing_cnf.proofs.put.put_nodes.Given as goal
 

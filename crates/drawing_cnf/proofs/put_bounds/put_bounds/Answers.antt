@@ -3,7 +3,7 @@ use Rattle.plan_core.specs.declared.criterion.Values.{Values}
 use Rattle.plan_core.specs.Values.{values_of, value_of}
 use Rattle.cnf_core.specs.Truths.{assignment}
 use Rattle.track_order.specs.Order.{is_above, is_overlap}
-use Rattle.law_clauses.specs.Expected.{formula_size}
+use Rattle.cnf_laws.specs.Expected.{formula_size}
 use Rattle.drawing_cnf.specs.Bounds.{IsExact}
 use Rattle.drawing_cnf.proofs.PutBounds.{bounds_start, next_bound, bounds_more, bounds_done, bounds_later}
 use Rattle.drawing_cnf.proofs.put_bounds.put_bounds.Goals as goal

@@ -1,7 +1,7 @@
 use Rattle.std.specs.Prelude.{◌≡◌, length}
 use Rattle.cnf_core.specs.Truths.{assignment}
 use Rattle.track_order.specs.Order.{is_above, is_overlap}
-use Rattle.law_clauses.specs.Expected.{formula_size}
+use Rattle.cnf_laws.specs.Expected.{formula_size}
 use Rattle.drawing_cnf.proofs.PutBounds.{IsPuttingBounds}
 use Rattle.drawing_cnf.proofs.put_bounds.put_bounds.Given as goal
 

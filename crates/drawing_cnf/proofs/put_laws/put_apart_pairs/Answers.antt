@@ -2,7 +2,7 @@ use Rattle.std.proofs.Common.{◌≡◌, ◌+◌, ◌-◌, [], ◌∷◌, length
 use Rattle.plan_core.specs.Lawful.{Apart}
 use Rattle.cnf_core.specs.Truths.{assignment}
 use Rattle.cnf_core.specs.declared.limits.TheConstants.{VARS}
-use Rattle.law_clauses.specs.Expected.{instances_from, pairs_from, instance_pairs}
+use Rattle.cnf_laws.specs.Expected.{instances_from, pairs_from, instance_pairs}
 use Rattle.drawing_cnf.proofs.PutLaws.{put_to_more, putting_start, putting_room, putting_more, putting_next, putting_done}
 use Rattle.drawing_cnf.proofs.put_laws.put_apart_pairs.Goals as goal
 

@@ -1,7 +1,7 @@
 use Rattle.std.specs.Prelude.{◌≡◌, [], ◌∷◌, length}
 use Rattle.plan_core.specs.Lawful.{Apart}
 use Rattle.cnf_core.specs.Truths.{assignment}
-use Rattle.law_clauses.specs.Expected.{pairs_from}
+use Rattle.cnf_laws.specs.Expected.{pairs_from}
 use Rattle.drawing_cnf.proofs.PutLaws.{IsPuttingLaws}
 use Rattle.drawing_cnf.proofs.put_laws.put_apart_row.Given as goal
 

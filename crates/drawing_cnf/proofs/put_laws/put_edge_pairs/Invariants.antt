@@ -1,7 +1,7 @@
 use Rattle.std.specs.Prelude.{◌≡◌, length}
 use Rattle.track_order.specs.Order.{is_above, is_overlap}
 use Rattle.cnf_core.specs.Truths.{assignment}
-use Rattle.law_clauses.specs.Expected.{edge_pair, pairs_from, instance_pairs}
+use Rattle.cnf_laws.specs.Expected.{edge_pair, pairs_from, instance_pairs}
 use Rattle.drawing_cnf.proofs.PutLaws.{IsPuttingLaws}
 use Rattle.drawing_cnf.proofs.put_laws.put_edge_pairs.Given as goal
 

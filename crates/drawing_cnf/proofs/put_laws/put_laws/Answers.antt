@@ -2,7 +2,7 @@ use Rattle.std.proofs.Common.{[], ◌∷◌, length, sym, ◌∙◌, subst, arit
 use Rattle.plan_core.specs.Lawful.{Ordered, Apart, Over, Parted}
 use Rattle.cnf_core.specs.Truths.{assignment}
 use Rattle.track_order.specs.Order.{is_above, is_overlap}
-use Rattle.law_clauses.specs.Expected.{laws_first, instance_pairs}
+use Rattle.cnf_laws.specs.Expected.{laws_first, instance_pairs}
 use Rattle.drawing_cnf.specs.Puts.{IsPutTo, PutsLaws}
 use Rattle.drawing_cnf.proofs.PutLaws.{put_to_more, all_put, sizes_of_all}
 use Rattle.drawing_cnf.proofs.put_laws.put_laws.Goals as goal

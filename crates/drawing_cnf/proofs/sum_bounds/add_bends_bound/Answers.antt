@@ -4,7 +4,7 @@ use Rattle.cnf_core.specs.Lit.{Literal}
 use Rattle.cnf_core.specs.Formula.{Cnf}
 use Rattle.cnf_core.proofs.BlockLemmas.{block_refused}
 use Rattle.unary_sum.specs.Sum.{SumVars, sum_vars, sum_count}
-use Rattle.law_clauses.specs.Expected.{drawing_vars}
+use Rattle.cnf_laws.specs.Expected.{drawing_vars}
 use Rattle.drawing_cnf.specs.Bounds.{bend_lits, bends_sum, bends_bound}
 use Rattle.drawing_cnf.proofs.BoundLemmas.{all_edges}
 use Rattle.drawing_cnf.proofs.ListCode.{bends_inputs}

@@ -2,7 +2,7 @@ use Rattle.std.proofs.Common.{◌<◌, ◌≤◌, ◌+◌, ◌∙◌, drop, leng
 use Rattle.cnf_core.specs.LitOrTruth.{yes}
 use Rattle.edge_shape.specs.EdgeVars.{EdgeLits}
 use Rattle.unary_sum.specs.Part.{IsLit}
-use Rattle.law_clauses.specs.Expected.{drawing_vars}
+use Rattle.cnf_laws.specs.Expected.{drawing_vars}
 use Rattle.drawing_cnf.proofs.ListCode.{bends_next, bends_done}
 use Rattle.drawing_cnf.proofs.DiagonalCode.{left_none, left_one}
 use Rattle.drawing_cnf.proofs.sum_bounds.bend_literals.Goals as goal

@@ -1,6 +1,6 @@
 use Rattle.std.proofs.Common.{rules}
 use Rattle.cnf_core.proofs.StepLemmas.{adding_more, adding_done, adding_refused}
-use Rattle.law_clauses.specs.Expected.{drawing_vars}
+use Rattle.cnf_laws.specs.Expected.{drawing_vars}
 use Rattle.drawing_cnf.proofs.BoundCode.{gives_adds}
 use Rattle.drawing_cnf.proofs.width_bound.add_columns_give.Goals as goal
 

@@ -1,7 +1,7 @@
 use Rattle.std.specs.Prelude.{length}
 use Rattle.cnf_core.specs.Formula.{each}
 use Rattle.cnf_core.proofs.StepLemmas.{IsAdding}
-use Rattle.law_clauses.specs.Expected.{drawing_vars}
+use Rattle.cnf_laws.specs.Expected.{drawing_vars}
 use Rattle.drawing_cnf.specs.Bounds.{column_gives}
 use Rattle.drawing_cnf.proofs.width_bound.add_columns_give.Given as goal
 

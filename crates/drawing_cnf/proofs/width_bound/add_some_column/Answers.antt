@@ -1,7 +1,7 @@
 use Rattle.std.proofs.Common.{rules, ◌≡◌, ◌++◌, List, [], ◌∷◌, length, ◌∙◌, ap, arith}
 use Rattle.cnf_core.specs.declared.literal.LitOrTruth.{LitOrTruth}
 use Rattle.cnf_core.specs.LitOrTruth.{yes, flip}
-use Rattle.law_clauses.specs.Expected.{drawing_vars}
+use Rattle.cnf_laws.specs.Expected.{drawing_vars}
 use Rattle.drawing_cnf.specs.Bounds.{node_columns}
 use Rattle.drawing_cnf.proofs.ListCode.{some_column_within}
 use Rattle.drawing_cnf.proofs.BoundCode.{column_adds}

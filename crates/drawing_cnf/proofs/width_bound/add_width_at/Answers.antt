@@ -1,7 +1,7 @@
 use Rattle.std.proofs.Common.{rules, length, arith, ◌+◌}
 use Rattle.cnf_core.proofs.StepLemmas.{adds_refused, adds_after, adds_longer}
 use Rattle.cnf_core.specs.Formula.{each}
-use Rattle.law_clauses.specs.Expected.{drawing_vars}
+use Rattle.cnf_laws.specs.Expected.{drawing_vars}
 use Rattle.drawing_cnf.specs.Bounds.{column_gives, some_column_clause}
 use Rattle.drawing_cnf.proofs.width_bound.add_width_at.Goals as goal
 

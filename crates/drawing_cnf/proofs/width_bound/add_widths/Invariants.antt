@@ -1,7 +1,7 @@
 use Rattle.std.specs.Prelude.{◌+◌}
 use Rattle.cnf_core.specs.Formula.{each}
 use Rattle.cnf_core.proofs.StepLemmas.{IsAdding}
-use Rattle.law_clauses.specs.Expected.{drawing_vars}
+use Rattle.cnf_laws.specs.Expected.{drawing_vars}
 use Rattle.drawing_cnf.specs.Bounds.{width_at}
 use Rattle.drawing_cnf.proofs.width_bound.add_widths.Given as goal
 

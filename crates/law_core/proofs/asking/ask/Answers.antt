@@ -3,7 +3,7 @@ use Rattle.std.specs.Prelude.{All}
 use Rattle.cnf_core.specs.declared.limits.TheConstants.{VARS}
 use Rattle.outside_io.proofs.Results.{on_err_anyway}
 use Rattle.lex_minimise.proofs.TellLemmas.{goes_weaker}
-use Rattle.why_search.specs.Asked.{TellsReply}
+use Rattle.search_why.specs.Asked.{TellsReply}
 use Rattle.law_core.specs.Known.{KnowsWhy, TellsAnswer, task_of}
 use Rattle.law_core.specs.Query.{query_of}
 use Rattle.law_core.specs.Search.{layout_with}

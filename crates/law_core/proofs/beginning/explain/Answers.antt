@@ -1,5 +1,5 @@
 use Rattle.outside_io.proofs.Results.{on_err_anyway}
-use Rattle.drawing_problem.specs.Layout.{layout}
+use Rattle.drawing_cnf.specs.Layout.{layout}
 use Rattle.law_core.proofs.BeginLemmas.{left_none}
 use Rattle.law_core.proofs.beginning.explain.Goals as goal
 

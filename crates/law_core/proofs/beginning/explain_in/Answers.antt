@@ -2,8 +2,8 @@ use Rattle.std.proofs.Common.{List, ◌++◌, length, map, refl, sym, ◌∙◌,
 use Rattle.outside_io.proofs.Results.{on_err_anyway}
 use Rattle.plan_core.specs.Lawful.{Instance}
 use Rattle.cdcl_core.specs.Kept.{blank}
-use Rattle.drawing_problem.specs.Layout.{layout}
-use Rattle.why_search.specs.Outcome.{TellsOutcome}
+use Rattle.drawing_cnf.specs.Layout.{layout}
+use Rattle.search_why.specs.Outcome.{TellsOutcome}
 use Rattle.law_core.specs.declared.parties.Law.{Law}
 use Rattle.law_core.specs.Law.{instance_of}
 use Rattle.law_core.specs.Known.{task_of}

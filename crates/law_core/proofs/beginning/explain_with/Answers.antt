@@ -1,5 +1,5 @@
 use Rattle.std.proofs.Common.{Err, refl, ap}
-use Rattle.drawing_problem.specs.Layout.{layout}
+use Rattle.drawing_cnf.specs.Layout.{layout}
 use Rattle.law_core.proofs.BeginLemmas.{nothing_told, left_none}
 use Rattle.law_core.proofs.beginning.explain_with.Goals as goal
 

@@ -1,8 +1,8 @@
 use Rattle.std.proofs.Common.{◌++◌, sym, subst, IfOk}
 use Rattle.refute_log.specs.Steps.{GoesOn}
 use Rattle.cdcl_core.specs.Kept.{Kept}
-use Rattle.why_search.specs.Task.{Task}
-use Rattle.why_search.specs.Outcome.{TellsOutcome}
+use Rattle.search_why.specs.Task.{Task}
+use Rattle.search_why.specs.Outcome.{TellsOutcome}
 use Rattle.law_core.specs.Known.{KnowsWhy}
 use Rattle.law_core.specs.Search.{task_with}
 use Rattle.law_core.proofs.beginning.search_from.Goals as goal

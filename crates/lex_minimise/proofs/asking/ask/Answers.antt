@@ -1,7 +1,7 @@
 use Rattle.std.proofs.Common.{subst, []}
 use Rattle.cdcl_core.specs.Kept.{Kept}
-use Rattle.lex_search.specs.Asked.{IsReply}
-use Rattle.drawing_problem.specs.Layout.{layout_of}
+use Rattle.search_least.specs.Asked.{IsReply}
+use Rattle.drawing_cnf.specs.Layout.{layout_of}
 use Rattle.lex_minimise.specs.Known.{KnowsLines}
 use Rattle.lex_minimise.specs.Task.{task_of}
 use Rattle.refute_log.specs.Told.{Lines}

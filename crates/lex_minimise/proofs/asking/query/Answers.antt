@@ -1,6 +1,6 @@
 use Rattle.std.proofs.Common.{◌-◌, length, subst, arith, []}
 use Rattle.cdcl_core.specs.Belongs.{HasSpent, HasSolved, Belongs}
-use Rattle.drawing_problem.specs.Layout.{layout_of}
+use Rattle.drawing_cnf.specs.Layout.{layout_of}
 use Rattle.lex_minimise.proofs.AskLemmas.{are_distinct}
 use Rattle.lex_minimise.proofs.QueryLemmas.{all_named, ready_after, search_goes}
 use Rattle.lex_minimise.proofs.LeftLemmas.{search_left}

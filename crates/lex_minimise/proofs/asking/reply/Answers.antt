@@ -18,12 +18,9 @@ decode-requires-clause-vars c =
     let vars = c.requires.ready.vars in
     omega arith
 
-pub returns-in_ok-decode-in-Some-clause-right : goal.returns-in_ok-decode-in-Some-clause-right
-returns-in_ok-decode-in-Some-clause-right c =
+pub drawn_together-requires-clause-met : goal.drawn_together-requires-clause-met
+drawn_together-requires-clause-met c =
     let k = c.args.known.now in
     let given = k.encoded.formula.clauses in
     let h : HasModel given c.args.assume.now c.args.solver.now = subst (λ (a : Answer). IsTrueAnswer a given c.args.assume.now c.args.solver.now) c.in-Model.is c.requires.answer in
-    let e = c.in_ok-decode-in-Some.ensures in (
-      e.lawful,
-      model_met k.encoded k.told.items k.budget k.room c.args.solver.now c.args.bounds.now c.args.assume.now c.in-Some.model.now c.in_ok-decode-in-Some.field-0 c.requires.ready c.requires.assumed h c.in-Some.ensures e.tells,
-    )
+    model_met k.encoded k.told.items k.budget k.room c.args.solver.now c.args.bounds.now c.args.assume.now c.in-Some.model.now c.in_ok-found-in-Some.found c.requires.ready c.requires.assumed h c.in-Some.ensures c.in_ok-found-in-Some.ensures.tells

@@ -3,10 +3,10 @@ use Rattle.cnf_core.specs.Clause.{words_of}
 use Rattle.cnf_core.specs.Formula.{Cnf}
 use Rattle.drawing_cnf.specs.Bounded.{Bound, bound}
 use Rattle.drawing_cnf.specs.Encoding.{Encoding, encoded_vars}
-use Rattle.drawing_problem.specs.Lists.{lines_of_bound}
-use Rattle.lex_search.specs.declared.oracle.Built.TheVariants.{NoRoom, Whole}
-use Rattle.lex_search.specs.Built.{IsBuild}
-use Rattle.drawing_problem.specs.Layout.{layout_of, problem_of}
+use Rattle.drawing_cnf.specs.Lists.{lines_of_bound}
+use Rattle.search_least.specs.declared.oracle.Built.TheVariants.{NoRoom, Whole}
+use Rattle.search_least.specs.Built.{IsBuild}
+use Rattle.drawing_cnf.specs.Layout.{layout_of, problem_of}
 use Rattle.lex_minimise.specs.Known.{KnowsLines, IsReady}
 use Rattle.lex_minimise.specs.Task.{task_of}
 use Rattle.refute_log.specs.Steps.{GoesOn}
@@ -15,7 +15,7 @@ use Rattle.lex_minimise.proofs.GrownLemmas.{some_grown, none_grown, grown_words,
 use Rattle.lex_minimise.proofs.RoomLemmas.{formula_passes, solver_passes, none_goes}
 use Rattle.refute_log.proofs.StepLemmas.{leaves_same, leaves_more}
 use Rattle.lex_minimise.proofs.LeftLemmas.{build_left}
-use Rattle.certified_values.specs.Expected.{sum_lines}
+use Rattle.refute_log.specs.Expected.{sum_lines}
 use Rattle.lex_minimise.proofs.building.build.Goals as goal
 use Rattle.outside_io.proofs.Results.{on_err_anyway}
 

@@ -8,8 +8,8 @@ use Rattle.cdcl_core.specs.Kept.{with_more_vars}
 use Rattle.cdcl_core.specs.Belongs.{Belongs}
 use Rattle.drawing_cnf.specs.Bounded.{Bound}
 use Rattle.drawing_cnf.specs.Encoding.{encoded_vars}
-use Rattle.drawing_problem.specs.Lists.{lines_of_bound}
-use Rattle.drawing_problem.specs.Layout.{layout_of}
+use Rattle.drawing_cnf.specs.Lists.{lines_of_bound}
+use Rattle.drawing_cnf.specs.Layout.{layout_of}
 use Rattle.lex_minimise.specs.Known.{KnowsLines, IsReady}
 use Rattle.refute_log.specs.Steps.{GoesOn, Leaves}
 use Rattle.lex_minimise.specs.Told.{HasTaken}

@@ -1,4 +1,4 @@
-use Rattle.drawing_problem.specs.Layout.{layout}
+use Rattle.drawing_cnf.specs.Layout.{layout}
 use Rattle.lex_minimise.proofs.LeftLemmas.{front_unbegun}
 use Rattle.lex_minimise.proofs.fronting.front.Goals as goal
 use Rattle.outside_io.proofs.Results.{on_err_anyway}

@@ -1,8 +1,8 @@
 use Rattle.std.proofs.Common.{Err, refl, ap, List, IfOk, sym, subst}
 use Rattle.drawing_cnf.specs.Bounded.{Bound}
-use Rattle.drawing_problem.specs.Layout.{Layout, layout, layout_of}
-use Rattle.lex_search.specs.Task.{IsLawful}
-use Rattle.lex_search.specs.Outcome.{first_lines}
+use Rattle.drawing_cnf.specs.Layout.{Layout, layout, layout_of}
+use Rattle.search_least.specs.Task.{IsLawful}
+use Rattle.search_least.specs.Outcome.{first_lines}
 use Rattle.trade_off.specs.Front.{IsFrontUpTo}
 use Rattle.trade_off.specs.declared.outcome.FrontEnd.TheVariants.{Room}
 use Rattle.trade_off.specs.Outcome.{IsRightFront, IsFrontLog}

@@ -1,8 +1,8 @@
 use Rattle.std.proofs.Common.{None, Err, refl, ap, List, IfOk, sym, subst}
 use Rattle.drawing_cnf.specs.Bounded.{Bound}
-use Rattle.drawing_problem.specs.Layout.{Layout, layout, layout_of}
-use Rattle.lex_search.specs.declared.outcome.Outcome.TheVariants.{Room}
-use Rattle.lex_search.specs.Outcome.{IsOutcome, IsRightOutcome, first_lines}
+use Rattle.drawing_cnf.specs.Layout.{Layout, layout, layout_of}
+use Rattle.search_least.specs.declared.outcome.Outcome.TheVariants.{Room}
+use Rattle.search_least.specs.Outcome.{IsOutcome, IsRightOutcome, first_lines}
 use Rattle.lex_minimise.specs.Known.{KnowsLines, IsReady}
 use Rattle.lex_minimise.specs.Task.{task_of}
 use Rattle.lex_minimise.proofs.StartLemmas.{no_room_end, nothing_told, layout_is, IsFirst, first_ready, first_knows, whole_told, if_ok_from}

@@ -2,8 +2,8 @@ use Rattle.std.proofs.Common.{◌+◌, ◌∷◌, [], ◌∙◌, subst, arith}
 use Rattle.plan_core.specs.declared.criterion.Criterion.{Criterion}
 use Rattle.refute_log.specs.declared.line.LogLine.TheVariants.{Bound as BoundLine}
 use Rattle.refute_log.specs.Told.{AddsAll}
-use Rattle.certified_values.specs.Expected.{bound_lines}
-use Rattle.drawing_problem.specs.Lists.{variables_behind}
+use Rattle.refute_log.specs.Expected.{bound_lines}
+use Rattle.drawing_cnf.specs.Lists.{variables_behind}
 use Rattle.lex_minimise.proofs.TellLemmas.{bounds_next, adds_then}
 use Rattle.lex_minimise.proofs.LeftLemmas.{bounds_left}
 use Rattle.lex_minimise.proofs.telling.tell_bounds.Goals as goal

@@ -1,7 +1,7 @@
 use Rattle.std.proofs.Common.{◌≡◌, ◌≤◌}
-use Rattle.certified_values.specs.Expected.{bound_lines}
+use Rattle.refute_log.specs.Expected.{bound_lines}
 use Rattle.refute_log.specs.Told.{AddsAll}
-use Rattle.drawing_problem.specs.Lists.{variables_behind}
+use Rattle.drawing_cnf.specs.Lists.{variables_behind}
 use Rattle.lex_minimise.proofs.telling.tell_bounds.Given as goal
 
 abbrev pub invariant-loop-i : goal.invariant-loop-i

@@ -1,6 +1,6 @@
 use Rattle.std.proofs.Common.{◌≤◌, sym, ◌∙◌, arith}
 use Rattle.plan_core.specs.Values.{value_of}
-use Rattle.drawing_problem.specs.Layout.{layout_of}
+use Rattle.drawing_cnf.specs.Layout.{layout_of}
 use Rattle.log_check.proofs.ExpectingLemmas.{place_skipped, place_added_on, place_passes}
 use Rattle.log_check.proofs.expected.add_place.Goals as goal
 

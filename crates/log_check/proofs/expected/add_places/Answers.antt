@@ -1,6 +1,6 @@
 use Rattle.std.proofs.Common.{◌≡◌, ◌+◌, take, sym, length, arith, rules}
 use Rattle.plan_core.specs.Values.{value_of}
-use Rattle.drawing_problem.specs.Layout.{layout_of}
+use Rattle.drawing_cnf.specs.Layout.{layout_of}
 use Rattle.log_check.proofs.ExpectingLemmas.{rebased, passes_as, within_as, whole_order, front_passes}
 use Rattle.log_check.proofs.expected.add_places.Goals as goal
 

@@ -1,7 +1,7 @@
 use Rattle.std.proofs.Common.{[], sym, subst, rules}
 use Rattle.cnf_core.specs.Formula.{Cnf, IsFormula}
 use Rattle.plan_core.specs.Values.{value_of}
-use Rattle.drawing_problem.specs.Layout.{layout, layout_of}
+use Rattle.drawing_cnf.specs.Layout.{layout, layout_of}
 use Rattle.log_check.proofs.ExpectingLemmas.{rebased, passes_as, passes_more, within_as, within_limits}
 use Rattle.log_check.proofs.expected.expected_of.Goals as goal
 

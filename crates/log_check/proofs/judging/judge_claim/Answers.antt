@@ -1,7 +1,7 @@
 use Rattle.std.proofs.Common.{List, sym, subst, arith}
 use Rattle.plan_core.specs.Values.{value_of}
-use Rattle.certified_check.specs.declared.told_bound.ToldBound.{ToldBound}
-use Rattle.certified_check.specs.Lacking.{KnowsLog}
+use Rattle.refute_check.specs.declared.told_bound.ToldBound.{ToldBound}
+use Rattle.refute_check.specs.Lacking.{KnowsLog}
 use Rattle.log_check.specs.declared.claim.Claim.TheVariants.{Least}
 use Rattle.log_check.specs.declared.verdict.Verdict.TheVariants.{Certified}
 use Rattle.log_check.proofs.JudgingLemmas.{lacking_low, place_is_small, judged_as, none_lacks}

@@ -2,7 +2,7 @@ use Rattle.std.proofs.Common.{List, ap, ◌∙◌}
 use Rattle.std.specs.Prelude.{Some, None}
 use Rattle.plan_core.specs.Values.{value_of, limit_of}
 use Rattle.cnf_core.specs.Formula.{Cnf}
-use Rattle.drawing_problem.specs.Layout.{layout}
+use Rattle.drawing_cnf.specs.Layout.{layout}
 use Rattle.log_check.specs.declared.awaited.Part.{Part}
 use Rattle.log_check.specs.Awaited.{lines_from}
 use Rattle.log_check.specs.Expectation.{expectation}

@@ -1,6 +1,6 @@
 use Rattle.std.proofs.Common.{◌≡◌, take}
 use Rattle.std.specs.Prelude.{flat_map}
-use Rattle.certified_check.specs.Lacking.{told_bound}
+use Rattle.refute_check.specs.Lacking.{told_bound}
 use Rattle.log_trim.proofs.reading.bounds_of.Given as goal
 
 abbrev pub invariant-loop-i : goal.invariant-loop-i

@@ -1,6 +1,6 @@
 use Rattle.std.proofs.Common.{◌≡◌, length, arith}
 use Rattle.refute_log.specs.Log.{learnt}
-use Rattle.hint_trim.proofs.HintedLemmas.{counted_next}
+use Rattle.log_trim.proofs.HintedLemmas.{counted_next}
 use Rattle.log_trim.proofs.ReadingLemmas.{one_learnt, no_learnt}
 use Rattle.log_trim.proofs.reading.count_learnt.Goals.{in-Learnt, in_default}
 use Rattle.log_trim.proofs.reading.count_learnt.Goals as goal

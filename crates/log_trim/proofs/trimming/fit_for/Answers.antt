@@ -1,5 +1,5 @@
 use Rattle.plan_core.specs.Values.{value_of}
-use Rattle.drawing_problem.specs.Layout.{layout}
+use Rattle.drawing_cnf.specs.Layout.{layout}
 use Rattle.log_trim.proofs.trimming.fit_for.Goals as goal
 
 pub returns-in-Ok : goal.returns-in-Ok

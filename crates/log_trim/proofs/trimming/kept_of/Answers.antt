@@ -1,6 +1,6 @@
 use Rattle.std.proofs.lemmas.Result.{IfOk-weaker}
 use Rattle.plan_core.specs.Values.{value_of}
-use Rattle.drawing_problem.specs.Layout.{layout}
+use Rattle.drawing_cnf.specs.Layout.{layout}
 use Rattle.log_check.specs.Expectation.{expectation}
 use Rattle.log_trim.specs.Shown.{MayBeTrimmed}
 use Rattle.log_trim.proofs.CompletingLemmas.{still_refuted, kept_of}

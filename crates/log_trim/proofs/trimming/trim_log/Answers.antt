@@ -1,6 +1,6 @@
 use Rattle.std.proofs.Common.{ℕ, List, sym, subst, arith}
 use Rattle.plan_core.specs.Values.{value_of}
-use Rattle.drawing_problem.specs.Layout.{layout}
+use Rattle.drawing_cnf.specs.Layout.{layout}
 use Rattle.log_check.specs.Expectation.{expectation}
 use Rattle.log_trim.specs.TrimmedLog.{IsSpelledLog}
 use Rattle.log_trim.specs.Shown.{IsKeptOf}

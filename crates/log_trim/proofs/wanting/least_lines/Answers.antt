@@ -1,6 +1,6 @@
 use Rattle.std.proofs.Common.{◌≡◌, ◌≤◌, ◌+◌, ◌∙◌, ℕ, List, sym, ap, subst, rules, arith}
 use Rattle.plan_core.specs.Values.{value_of}
-use Rattle.certified_check.proofs.JudgeLemmas.{take_next}
+use Rattle.refute_check.proofs.JudgeLemmas.{take_next}
 use Rattle.log_trim.specs.Wanted.{AreOfLeast}
 use Rattle.log_trim.proofs.WantedLemmas.{not_shown, of_shown, of_zero}
 use Rattle.log_trim.proofs.wanting.least_lines.Goals.{then-of-gt0+in_ok-place+in-Some+in_ok-push-in-Some, else-of-gt0}

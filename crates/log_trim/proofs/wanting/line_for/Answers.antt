@@ -1,7 +1,7 @@
 use Rattle.std.proofs.Common.{List, sym, subst}
 use Rattle.plan_core.specs.Values.{value_of}
 use Rattle.cnf_core.specs.Lit.{Literal}
-use Rattle.certified_check.proofs.JudgeLemmas.{AreUnreached}
+use Rattle.refute_check.proofs.JudgeLemmas.{AreUnreached}
 use Rattle.log_trim.proofs.WantedLemmas.{found_least}
 use Rattle.log_trim.proofs.wanting.line_for.Goals as goal
 

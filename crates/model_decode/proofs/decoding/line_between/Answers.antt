@@ -1,8 +1,8 @@
 use Rattle.std.proofs.Common.{◌≡◌, ◌-◌, ℕ, List, length, sym, ◌∙◌, ap, subst, arith}
 use Rattle.plan_core.specs.Drawing.{line}
 use Rattle.cnf_core.specs.Truths.{assignment}
-use Rattle.edge_lines.specs.Track.{line_over, IsTrack}
-use Rattle.edge_lines.specs.Columns.{listed_height}
+use Rattle.edge_shape.specs.Track.{line_over, IsTrack}
+use Rattle.edge_shape.specs.Columns.{listed_height}
 use Rattle.model_decode.proofs.DecodeLemmas.{heights_are, height_model, height_in, spot_width, spot_high}
 use Rattle.model_decode.proofs.TracedLemmas.{AreHeights, heights_rise, heights_track, heights_line}
 use Rattle.model_decode.proofs.decoding.line_between.Goals as goal

@@ -3,7 +3,7 @@ use Rattle.std.specs.Prelude.{codes}
 use Rattle.std.specs.Fmt.{decimal}
 use Rattle.std.proofs.lemmas.List.{append-nil}
 use Rattle.std.proofs.lemmas.Result.{on_ok_weaker}
-use Rattle.line_text.specs.Fields.{spaced}
+use Rattle.outside_io.specs.Fields.{spaced}
 use Rattle.plan_objects.proofs.writing.push_point.Goals as goal
 
 -- three fields and what stands behind them, as they are appended one after another and as they are said

@@ -1,5 +1,5 @@
 use Rattle.plan_objects.specs.SignalsText.{signal_line}
-use Rattle.line_text.proofs.LineLemmas.{line_more}
+use Rattle.outside_io.proofs.LineLemmas.{line_more}
 use Rattle.plan_objects.proofs.writing.push_signals.Goals as goal
 
 pub loop-i-preserved : goal.loop-i-preserved

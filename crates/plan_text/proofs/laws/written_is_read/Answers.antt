@@ -1,8 +1,8 @@
 use Rattle.std.proofs.Common.{true, false, subst}
 use Rattle.std.proofs.lemmas.Bool.{false≢true}
-use Rattle.plan_writing.specs.declared.edition.Edition.TheVariants.{First, Second}
+use Rattle.plan_write.specs.declared.edition.Edition.TheVariants.{First, Second}
 use Rattle.plan_text.proofs.WrittenSheet.{IsKept, IsWritable, written}
-use Rattle.plan_writing.specs.SheetText.{sheet_text}
+use Rattle.plan_write.specs.SheetText.{sheet_text}
 use Rattle.plan_text.proofs.ShortSheet.{short_sheet}
 use Rattle.plan_text.proofs.laws.written_is_read.Goals as goal
 

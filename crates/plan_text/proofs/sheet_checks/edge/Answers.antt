@@ -3,7 +3,7 @@ use Rattle.std.specs.Option.{option_copied}
 use Rattle.std.proofs.lemmas.Bool.{false≢true}
 use Rattle.plan_core.specs.declared.point.Point.{Point}
 use Rattle.plan_core.specs.Line.{is_line}
-use Rattle.plan_writing.specs.SheetLine.{EdgeLine}
+use Rattle.plan_write.specs.SheetLine.{EdgeLine}
 use Rattle.plan_text.specs.SheetFaults.{EdgeDue}
 use Rattle.plan_text.proofs.CheckLemmas.{begins, not_of_graph}
 use Rattle.plan_text.proofs.sheet_checks.edge.Goals as goal

@@ -1,5 +1,5 @@
 use Rattle.std.proofs.Common.{refl, sym, ◌∙◌}
-use Rattle.plan_writing.specs.SheetLine.{EdgesLine}
+use Rattle.plan_write.specs.SheetLine.{EdgesLine}
 use Rattle.plan_text.specs.SheetFaults.{EdgesDue}
 use Rattle.plan_text.proofs.CheckLemmas.{not_of_graph}
 use Rattle.plan_text.proofs.sheet_checks.edges.Goals as goal

@@ -1,6 +1,6 @@
 use Rattle.std.proofs.Common.{refl}
 use Rattle.plan_core.specs.Grid.{grid_with}
-use Rattle.plan_writing.specs.SheetLine.{GridLine}
+use Rattle.plan_write.specs.SheetLine.{GridLine}
 use Rattle.plan_text.specs.SheetFaults.{GridDue}
 use Rattle.plan_text.proofs.CheckLemmas.{out_of_range}
 use Rattle.plan_text.proofs.sheet_checks.grid.Goals as goal

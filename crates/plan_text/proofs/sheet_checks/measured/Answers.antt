@@ -1,7 +1,7 @@
 use Rattle.std.proofs.Common.{refl, sym, ◌∙◌, ap}
 use Rattle.std.proofs.lemmas.Bool.{false≢true}
 use Rattle.plan_core.specs.Values.{values_of}
-use Rattle.plan_writing.specs.SheetLine.{ValuesLine}
+use Rattle.plan_write.specs.SheetLine.{ValuesLine}
 use Rattle.plan_text.specs.SheetFaults.{ValuesDue}
 use Rattle.plan_text.proofs.CheckLemmas.{begins, same_values}
 use Rattle.plan_text.proofs.sheet_checks.measured.Goals as goal

@@ -1,7 +1,7 @@
 use Rattle.std.proofs.Common.{refl, sym, ◌∙◌}
 use Rattle.std.specs.Option.{option_copied}
 use Rattle.std.proofs.lemmas.Bool.{false≢true}
-use Rattle.plan_writing.specs.SheetLine.{NodeLine}
+use Rattle.plan_write.specs.SheetLine.{NodeLine}
 use Rattle.plan_text.specs.SheetFaults.{NodeDue}
 use Rattle.plan_text.proofs.CheckLemmas.{not_of_graph}
 use Rattle.plan_text.proofs.sheet_checks.node.Goals as goal

@@ -1,5 +1,5 @@
 use Rattle.std.proofs.Common.{true, refl, sym, ◌∙◌}
-use Rattle.plan_writing.specs.SheetLine.{NodesLine}
+use Rattle.plan_write.specs.SheetLine.{NodesLine}
 use Rattle.plan_text.specs.SheetFaults.{BodyDue}
 use Rattle.plan_text.proofs.CheckLemmas.{not_of_graph}
 use Rattle.plan_text.proofs.sheet_checks.nodes.Goals as goal

@@ -1,6 +1,6 @@
 use Rattle.std.proofs.Common.{refl, subst, sym}
 use Rattle.plan_core.specs.Order.{IsOrder}
-use Rattle.plan_writing.specs.SheetLine.{OrderLine}
+use Rattle.plan_write.specs.SheetLine.{OrderLine}
 use Rattle.plan_text.specs.SheetFaults.{OrderDue}
 use Rattle.plan_text.proofs.CheckLemmas.{out_of_range}
 use Rattle.plan_text.proofs.sheet_checks.order.Goals as goal

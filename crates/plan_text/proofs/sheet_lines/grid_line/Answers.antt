@@ -3,7 +3,7 @@ use Rattle.std.specs.Prelude.{codes}
 use Rattle.plan_core.proofs.OptionFacts.{none_at}
 use Rattle.plan_text.proofs.LineOnce.{tells_grid, numbers_once}
 use Rattle.plan_text.proofs.FormLemmas.{few_grid_numbers, grid_read}
-use Rattle.plan_writing.specs.SheetLine.{grid_numbers}
+use Rattle.plan_write.specs.SheetLine.{grid_numbers}
 use Rattle.plan_text.proofs.sheet_lines.grid_line.Goals as goal
 
 pub returns-in_err-numbers : goal.returns-in_err-numbers

@@ -1,6 +1,6 @@
 use Rattle.std.proofs.Common.{◌≡◌, ◌++◌, length}
 use Rattle.std.specs.Prelude.{flat_map}
-use Rattle.plan_writing.specs.SheetLine.{coordinates}
+use Rattle.plan_write.specs.SheetLine.{coordinates}
 use Rattle.plan_text.proofs.sheet_lines.points_of.Given as goal
 
 abbrev pub invariant-loop-x : goal.invariant-loop-x

@@ -1,6 +1,6 @@
 use Rattle.std.proofs.Common.{length, ◌+◌, [], ◌∷◌, ◌++◌, arith}
 use Rattle.std.proofs.lemmas.Result.{MatchResult-weaker}
-use Rattle.plan_writing.specs.SheetLine.{EdgesLine}
+use Rattle.plan_write.specs.SheetLine.{EdgesLine}
 use Rattle.plan_text.specs.SheetFaults.{EdgesDue}
 use Rattle.plan_text.specs.SheetReading.{drawn_lines}
 use Rattle.plan_text.proofs.ReadingLemmas.{fails, first_here, first_later, read_append}

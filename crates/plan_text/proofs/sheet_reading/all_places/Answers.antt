@@ -1,6 +1,6 @@
 use Rattle.std.proofs.Common.{length, [], ◌∷◌, ◌++◌, refl}
 use Rattle.std.proofs.lemmas.Result.{MatchResult-weaker}
-use Rattle.plan_writing.specs.SheetLine.{NodesLine}
+use Rattle.plan_write.specs.SheetLine.{NodesLine}
 use Rattle.plan_text.specs.SheetFaults.{BodyDue}
 use Rattle.std.proofs.Common.{true}
 use Rattle.plan_text.specs.SheetReading.{placed_lines}

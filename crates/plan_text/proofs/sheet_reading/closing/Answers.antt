@@ -1,6 +1,6 @@
 use Rattle.std.proofs.Common.{[], ◌∷◌, ◌++◌, refl, arith}
 use Rattle.plan_core.specs.Values.{values_of}
-use Rattle.plan_writing.specs.SheetLine.{ValuesLine, EndLine}
+use Rattle.plan_write.specs.SheetLine.{ValuesLine, EndLine}
 use Rattle.plan_text.specs.SheetFaults.{ValuesDue}
 use Rattle.plan_text.proofs.ReadingLemmas.{fails, first_here, later_here, order_kept, read_values, read_ending}
 use Rattle.plan_text.proofs.sheet_reading.closing.Goals as goal

@@ -1,5 +1,5 @@
 use Rattle.std.proofs.Common.{[], ◌∷◌, refl, rules}
-use Rattle.plan_writing.specs.SheetLine.{Title, GridLine}
+use Rattle.plan_write.specs.SheetLine.{Title, GridLine}
 use Rattle.plan_text.specs.SheetFaults.{TitleDue}
 use Rattle.plan_text.proofs.ReadingLemmas.{fails, first_here, later_here, read_title, read_grid}
 use Rattle.plan_text.proofs.sheet_reading.head.Goals as goal

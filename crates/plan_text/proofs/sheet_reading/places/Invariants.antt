@@ -1,5 +1,5 @@
 use Rattle.std.proofs.Common.{◌≡◌, List, length}
-use Rattle.plan_writing.specs.SheetLine.{SheetLine}
+use Rattle.plan_write.specs.SheetLine.{SheetLine}
 use Rattle.plan_text.specs.SheetFaults.{node_due}
 use Rattle.plan_text.specs.SheetReading.{placed_lines, AreReadTo}
 use Rattle.plan_text.proofs.sheet_reading.places.Given as goal

@@ -1,6 +1,6 @@
 use Rattle.std.proofs.Common.{false, [], ◌∷◌, ◌++◌, refl}
 use Rattle.plan_text.specs.declared.sheet_fault.SheetFault.TheVariants.{Sheet as SheetHas}
-use Rattle.plan_writing.specs.SheetLine.{EndLine}
+use Rattle.plan_write.specs.SheetLine.{EndLine}
 use Rattle.plan_text.specs.SheetFaults.{BodyDue, order_told}
 use Rattle.plan_text.proofs.ReadingLemmas.{fails, first_here, later_here}
 use Rattle.plan_text.proofs.SheetAgain.{read_undrawn, settled_fault}

@@ -1,7 +1,7 @@
 use Rattle.std.proofs.Common.{◌≡◌, ℕ, Option, MatchOption, List, sym, subst}
 use Rattle.std.specs.Prelude.{⊤}
 use Rattle.plan_core.specs.declared.limits.TheConstants.{MAX_WIDTH, MAX_HEIGHT, MAX_LEAST}
-use Rattle.line_text.specs.Numbers.{IsNumberIn}
+use Rattle.outside_io.specs.Numbers.{IsNumberIn}
 use Rattle.plan_words.specs.declared.option_values.OptionWord.TheVariants.{Width, Height, Least}
 use Rattle.plan_words.proofs.building.grid_given.Goals as goal
 

@@ -1,6 +1,6 @@
 use Rattle.std.proofs.Common.{◌≡◌, length, take, map, eqb}
 use Rattle.std.specs.List.{slice_split}
-use Rattle.line_text.specs.Criteria.{criterion_word}
+use Rattle.outside_io.specs.Criteria.{criterion_word}
 use Rattle.plan_words.proofs.option_values.criteria_in.Given as goal
 
 abbrev pub invariant-loop-word : goal.invariant-loop-word

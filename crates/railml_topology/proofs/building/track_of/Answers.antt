@@ -1,6 +1,6 @@
 use Rattle.std.proofs.Common.{◌≡◌, true, ℕ, List, subst, sym, inl, inr, All}
 use Rattle.railml_read.specs.declared.rows.ElemKind.TheVariants.{Begin}
-use Rattle.topology_faults.proofs.Family.{within_of_kind}
+use Rattle.railml_faults.proofs.Family.{within_of_kind}
 use Rattle.railml_topology.specs.Plans.{is_inner as passes_inner}
 use Rattle.railml_topology.proofs.PlaceLemmas.{inner_all}
 use Rattle.railml_topology.proofs.BuildLemmas.{begin_kind, end_kind, begin_start, track_id}

@@ -1,5 +1,5 @@
 use Rattle.std.proofs.Common.{◌≡◌, ℕ, List, Option, Some, subst, sym}
-use Rattle.topology_faults.specs.Tables.{entry_in}
+use Rattle.railml_faults.specs.Tables.{entry_in}
 use Rattle.railml_topology.proofs.LayoutLemmas.{topology_entry, begin_entry, end_entry, topology_found}
 use Rattle.railml_topology.proofs.layout.layout_of.Goals as goal
 

@@ -1,7 +1,7 @@
 use Rattle.std.proofs.Common.{◌≡◌, ◌<◌, List, ℕ, length, slice_get, Some, map, filter, refl, subst, sym, ap, ◌∙◌}
 use Rattle.std.proofs.lemmas.Option.{slice_get_read}
 use Rattle.std.proofs.lemmas.Result.{IfOk-weaker}
-use Rattle.topology_faults.specs.Rows.{all_children}
+use Rattle.railml_faults.specs.Rows.{all_children}
 use Rattle.railml_topology.specs.declared.order.Standing.{Standing as Placed}
 use Rattle.railml_topology.specs.Plans.{is_inner as passes_inner}
 use Rattle.railml_topology.specs.Resolved.{AreInner}

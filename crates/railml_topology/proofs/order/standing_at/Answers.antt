@@ -1,6 +1,6 @@
 use Rattle.std.proofs.Common.{subst, sym}
 use Rattle.std.specs.Prelude.{ℤ}
-use Rattle.topology_faults.specs.Rows.{HasPosition}
+use Rattle.railml_faults.specs.Rows.{HasPosition}
 use Rattle.railml_topology.proofs.PositionLemmas.{inner_read, word_is}
 use Rattle.railml_topology.proofs.order.standing_at.Goals as goal
 

@@ -1,6 +1,6 @@
 use Rattle.std.proofs.Common.{◌≡◌, ◌<◌, ◌^◌, true, ℕ, List, Option, Some, length, subst, sym, ◌∙◌, All}
 use Rattle.plan_core.specs.declared.topology.Part.TheVariants as parts
-use Rattle.topology_faults.specs.Tables.{entry_in}
+use Rattle.railml_faults.specs.Tables.{entry_in}
 use Rattle.railml_topology.specs.Plans.{is_inner as passes_inner}
 use Rattle.railml_topology.specs.Places.{Adds, IsOnFirst}
 use Rattle.railml_topology.proofs.PlaceLemmas.{AtEnd, at_part, entry_within, track_put, inner_all, inner_few}

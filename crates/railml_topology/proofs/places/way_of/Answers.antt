@@ -1,8 +1,8 @@
 use Rattle.std.proofs.Common.{◌≡◌, ℕ, List, Some, None, sym, ap, ◌∙◌}
 use Rattle.std.specs.Prelude.{find}
 use Rattle.railml_read.specs.declared.rows.ElemKind.TheVariants.{Crossing}
-use Rattle.topology_faults.specs.Rows.{all_children}
-use Rattle.topology_faults.proofs.Family.{within_of_kind}
+use Rattle.railml_faults.specs.Rows.{all_children}
+use Rattle.railml_faults.proofs.Family.{within_of_kind}
 use Rattle.railml_topology.specs.Resolved.{way_word as word_of_way}
 use Rattle.railml_topology.specs.Places.{goes_by}
 use Rattle.railml_topology.proofs.PlaceLemmas.{way_found, way_not_missing, read_children}

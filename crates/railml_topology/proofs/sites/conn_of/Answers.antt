@@ -1,7 +1,7 @@
 use Rattle.std.proofs.Common.{◌≡◌, ℕ, List, Option, Some, refl, subst, sym}
 use Rattle.railml_read.specs.declared.rows.ElemKind.TheVariants.{Connection}
 use Rattle.plan_core.specs.declared.topology.Conn.{Conn}
-use Rattle.topology_faults.specs.Tables.{entry_in}
+use Rattle.railml_faults.specs.Tables.{entry_in}
 use Rattle.railml_topology.proofs.SiteLemmas.{target_there, target_is, target_kind, conn_made, id_there, bears_by_kind}
 use Rattle.railml_topology.proofs.sites.conn_of.Goals as goal
 

@@ -1,7 +1,7 @@
 use Rattle.std.proofs.Common.{◌≡◌, ℕ, List, [], ◌∷◌, ◌++◌, decimal, ◌∙◌, ap, sym, append_assoc}
 use Rattle.std.proofs.lemmas.List.{append-nil}
 use Rattle.std.proofs.lemmas.Result.{on_ok_weaker}
-use Rattle.line_text.specs.Criteria.{criterion_word as word_of}
+use Rattle.outside_io.specs.Criteria.{criterion_word as word_of}
 use Rattle.refute_log.proofs.writing.write_bound.Goals as goal
 use Rattle.refute_log.proofs.writing.write_bound.Goals.{After-push_number_field-2}
 

@@ -1,7 +1,7 @@
 use Rattle.std.proofs.Common.{◌≡◌, ℕ, List, [], ◌∷◌, ◌++◌, map, sym, ◌∙◌, ap, append_assoc}
 use Rattle.std.proofs.lemmas.Result.{on_ok_weaker}
 use Rattle.cnf_core.specs.Lit.{Literal}
-use Rattle.line_text.specs.Fields.{spaced, unended_text}
+use Rattle.outside_io.specs.Fields.{spaced, unended_text}
 use Rattle.refute_log.specs.Lines.{literal_text, clause_fields}
 use Rattle.refute_log.proofs.LogLemmas.{flat_map_last}
 use Rattle.refute_log.proofs.writing.write_clause.Goals as goal

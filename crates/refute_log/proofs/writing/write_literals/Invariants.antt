@@ -1,7 +1,7 @@
 use Rattle.std.proofs.Common.{◌≡◌, ◌++◌, drop, map}
 use Rattle.outside_io.specs.Contents.{Begins}
 use Rattle.refute_log.specs.Lines.{literal_text}
-use Rattle.line_text.specs.Fields.{spaced}
+use Rattle.outside_io.specs.Fields.{spaced}
 use Rattle.refute_log.proofs.writing.write_literals.Given as goal
 
 -- what is written, with the text of what is left, is the whole text

@@ -4,13 +4,13 @@ use Rattle.outside_io.specs.Contents.{WhereTold}
 use Rattle.outside_io.specs.Counts.{Rose}
 use Rattle.plan_words.specs.declared.command.Command.{Command}
 use Rattle.refute_log.specs.ToldTo.{told_to}
-use Rattle.input_answer.specs.declared.reply.Cut.TheVariants.{Unwritten}
-use Rattle.input_answer.specs.Status.{IsRefused}
-use Rattle.input_answer.specs.Met.{between, IsUnwritten, LeftSo}
+use Rattle.run_input.specs.declared.reply.Cut.TheVariants.{Unwritten}
+use Rattle.run_input.specs.Status.{IsRefused}
+use Rattle.run_input.specs.Met.{between, IsUnwritten, LeftSo}
 use Rattle.schematic_main.specs.Commands.{AnswersAlone, MayWrite, MayTell, MayLeave, Owes}
 use Rattle.schematic_main.specs.Run.{CommandFailsToWrite}
-use Rattle.input_answer.proofs.AnswerLemmas.{leaves_same}
-use Rattle.draw_answer.proofs.LeavesLemmas.{left_alone}
+use Rattle.run_input.proofs.AnswerLemmas.{leaves_same}
+use Rattle.run_draw_front.proofs.LeavesLemmas.{left_alone}
 use Rattle.schematic_main.proofs.AloneLemmas.{trimmed_alone}
 use Rattle.schematic_main.proofs.answers.answer_to.Goals as goal
 

@@ -1,4 +1,4 @@
-use Rattle.sheet_answer.proofs.VerdictLemmas.{lawful_is_0, broken_is_8}
+use Rattle.run_check.proofs.VerdictLemmas.{lawful_is_0, broken_is_8}
 use Rattle.schematic_main.proofs.VerifiedRuns.{verified_run}
 use Rattle.schematic_main.proofs.laws.lawful_runs_end_with_0.Goals as goal
 

@@ -1,15 +1,15 @@
 use Rattle.std.proofs.Common.{Err, sym, ap, subst, inl, inr}
 use Rattle.plan_words.specs.Arguments.{texts_of}
 use Rattle.refute_log.specs.ToldTo.{told_to}
-use Rattle.input_answer.specs.declared.status.Status.{Status}
-use Rattle.input_answer.specs.declared.status.Status.TheVariants.{Unwritten, NoMemory}
-use Rattle.input_answer.specs.Status.{IsCutShort}
-use Rattle.input_answer.specs.Met.{between}
+use Rattle.run_input.specs.declared.status.Status.{Status}
+use Rattle.run_input.specs.declared.status.Status.TheVariants.{Unwritten, NoMemory}
+use Rattle.run_input.specs.Status.{IsCutShort}
+use Rattle.run_input.specs.Met.{between}
 use Rattle.schematic_main.proofs.AloneLemmas.{cut_not_alone, cut_is_short}
 use Rattle.schematic_main.proofs.DueLemmas.{due_is_whole, due_unread, due_ends}
-use Rattle.draw_answer.proofs.LeavesLemmas.{leaves_weaker}
-use Rattle.input_answer.proofs.MetLemmas.{reads_less}
-use Rattle.input_answer.proofs.StatusLemmas.{cut_ends}
+use Rattle.run_draw_front.proofs.LeavesLemmas.{leaves_weaker}
+use Rattle.run_input.proofs.MetLemmas.{reads_less}
+use Rattle.run_input.proofs.StatusLemmas.{cut_ends}
 use Rattle.schematic_main.proofs.running.carry_out.Goals as goal
 
 -- ---- the text was put

@@ -4,10 +4,10 @@ use Rattle.std.proofs.lemmas.Result.{IfOk-weaker}
 use Rattle.plan_words.specs.declared.command.Command.{Command}
 use Rattle.plan_words.specs.Arguments.{texts_of}
 use Rattle.plan_words.proofs.AnswerLemmas.{command_same}
-use Rattle.input_answer.specs.Status.{IsAnswered}
-use Rattle.input_answer.specs.Met.{between, ReadsInputs}
+use Rattle.run_input.specs.Status.{IsAnswered}
+use Rattle.run_input.specs.Met.{between, ReadsInputs}
 use Rattle.schematic_main.specs.Commands.{inputs_of}
-use Rattle.draw_answer.proofs.LeavesLemmas.{leaves_weaker}
+use Rattle.run_draw_front.proofs.LeavesLemmas.{leaves_weaker}
 use Rattle.schematic_main.proofs.AloneLemmas.{reply_alone}
 use Rattle.schematic_main.proofs.ApartLemmas.{asked_apart, pair_apart}
 use Rattle.schematic_main.proofs.running.reply_to.Goals as goal

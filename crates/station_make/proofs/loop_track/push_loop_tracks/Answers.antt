@@ -1,5 +1,5 @@
 use Rattle.station_make.specs.StationText.{loop_track}
-use Rattle.line_text.proofs.LineLemmas.{line_more}
+use Rattle.outside_io.proofs.LineLemmas.{line_more}
 use Rattle.station_make.proofs.loop_track.push_loop_tracks.Goals as goal
 
 pub loop-i-preserved : goal.loop-i-preserved

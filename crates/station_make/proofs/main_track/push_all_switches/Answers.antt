@@ -1,5 +1,5 @@
 use Rattle.station_make.specs.StationText.{switches}
-use Rattle.line_text.proofs.LineLemmas.{line_more}
+use Rattle.outside_io.proofs.LineLemmas.{line_more}
 use Rattle.station_make.proofs.main_track.push_all_switches.Goals as goal
 
 pub loop-i-preserved : goal.loop-i-preserved

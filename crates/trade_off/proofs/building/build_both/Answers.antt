@@ -1,11 +1,11 @@
 use Rattle.std.proofs.Common.{◌≡◌, ◌++◌, ◌∙◌, ap, ◌+◌, ◌∷◌, []}
 use Rattle.std.proofs.lemmas.Result.{IfOk-weaker}
 use Rattle.plan_core.specs.declared.criterion.Criterion.{Criterion}
-use Rattle.certified_values.specs.Expected.{with_cap, sum_lines, sum_vars_of, sums}
-use Rattle.lex_search.specs.declared.oracle.Built.TheVariants.{Whole}
-use Rattle.lex_search.specs.Task.{Task, greatest_of}
-use Rattle.lex_search.specs.Built.{IsBuild}
-use Rattle.lex_search.specs.Outcome.{first_lines}
+use Rattle.refute_log.specs.Expected.{with_cap, sum_lines, sum_vars_of, sums}
+use Rattle.search_least.specs.declared.oracle.Built.TheVariants.{Whole}
+use Rattle.search_least.specs.Task.{Task, greatest_of}
+use Rattle.search_least.specs.Built.{IsBuild}
+use Rattle.search_least.specs.Outcome.{first_lines}
 use Rattle.refute_log.specs.Steps.{Continues}
 use Rattle.trade_off.specs.Outcome.{IsBuiltFront}
 use Rattle.trade_off.proofs.TellLemmas.{no_room_for_first, both_built, unbuilt_still, first_still, second_here}

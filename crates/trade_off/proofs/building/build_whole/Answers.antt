@@ -1,7 +1,7 @@
 use Rattle.std.proofs.Common.{sym, ◌∙◌, subst}
-use Rattle.lex_search.specs.Task.{greatest_of}
+use Rattle.search_least.specs.Task.{greatest_of}
 use Rattle.trade_off.proofs.TellLemmas.{zero_caps, zero_vars, zero_lines, whole_caps, whole_vars, lines_whole}
-use Rattle.certified_values.specs.Expected.{sum_lines}
+use Rattle.refute_log.specs.Expected.{sum_lines}
 use Rattle.refute_log.specs.Steps.{Leaves}
 use Rattle.trade_off.proofs.building.build_whole.Goals as goal
 use Rattle.outside_io.proofs.Results.{on_err_anyway}

@@ -1,6 +1,6 @@
 use Rattle.std.proofs.Common.{◌≡◌, ◌≤◌}
 use Rattle.std.specs.Prelude.{None}
-use Rattle.lex_search.specs.Task.{IsLawful, greatest_of}
+use Rattle.search_least.specs.Task.{IsLawful, greatest_of}
 use Rattle.refute_log.specs.Steps.{Continues, KnowsSome}
 use Rattle.trade_off.specs.Least.{AreAsked}
 use Rattle.trade_off.specs.Next.{IsSoFar}

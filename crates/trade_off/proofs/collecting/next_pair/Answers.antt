@@ -2,9 +2,9 @@ use Rattle.std.proofs.Common.{refl, sym, ◌∙◌, ap, subst, List}
 use Rattle.std.specs.Prelude.{IfOk, MatchOption, ⊤, ◌≤◌}
 use Rattle.std.proofs.lemmas.Result.{IfOk-weaker}
 use Rattle.plan_core.specs.Values.{values_of}
-use Rattle.lex_search.specs.declared.oracle.Below.{Below}
-use Rattle.lex_search.specs.Asked.{AreMet, IsReply}
-use Rattle.lex_search.specs.Task.{Task, IsLawful, greatest_of}
+use Rattle.search_least.specs.declared.oracle.Below.{Below}
+use Rattle.search_least.specs.Asked.{AreMet, IsReply}
+use Rattle.search_least.specs.Task.{Task, IsLawful, greatest_of}
 use Rattle.refute_log.specs.Steps.{Continues}
 use Rattle.trade_off.specs.Least.{AreAsked}
 use Rattle.trade_off.specs.Next.{IsNext, stop_of}

@@ -2,10 +2,10 @@ use Rattle.std.proofs.Common.{sym, ◌∙◌, ap, subst, List}
 use Rattle.std.specs.Prelude.{Option}
 use Rattle.std.proofs.lemmas.Result.{IfOk-weaker}
 use Rattle.plan_core.specs.Values.{values_of}
-use Rattle.lex_search.specs.declared.oracle.Below.{Below}
-use Rattle.certified_values.specs.declared.stop.Stop.{Stop}
-use Rattle.lex_search.specs.Asked.{AreMet}
-use Rattle.lex_search.specs.Task.{Task, IsLawful, greatest_of}
+use Rattle.search_least.specs.declared.oracle.Below.{Below}
+use Rattle.refute_log.specs.declared.stop.Stop.{Stop}
+use Rattle.search_least.specs.Asked.{AreMet}
+use Rattle.search_least.specs.Task.{Task, IsLawful, greatest_of}
 use Rattle.refute_log.specs.Steps.{Continues}
 use Rattle.trade_off.specs.Least.{AreAsked}
 use Rattle.trade_off.specs.Next.{IsNext, IsSecondOf, stop_of}

@@ -2,8 +2,8 @@ use Rattle.std.proofs.Common.{◌≡◌, sym, ◌∙◌, ap, subst, arith}
 use Rattle.std.specs.Prelude.{Option}
 use Rattle.plan_core.specs.declared.criterion.Values.{Values}
 use Rattle.plan_core.specs.Values.{values_of, value_of}
-use Rattle.certified_values.specs.declared.stop.Stop.{Stop}
-use Rattle.lex_search.specs.State.{hold}
+use Rattle.refute_log.specs.declared.stop.Stop.{Stop}
+use Rattle.search_least.specs.State.{hold}
 use Rattle.refute_log.specs.Steps.{Continues}
 use Rattle.trade_off.specs.Least.{AreAsked}
 use Rattle.trade_off.proofs.NextLemmas.{hold_within, hold_beside, hold_meets, second_there}

@@ -2,9 +2,9 @@ use Rattle.std.proofs.Common.{◌≡◌, ◌≤◌, refl, ◌∙◌, ap, arith}
 use Rattle.std.specs.Prelude.{None, Some}
 use Rattle.plan_core.specs.Values.{values_of, value_of}
 use Rattle.plan_core.proofs.LimitLemmas.{value-le-limit}
-use Rattle.lex_search.specs.Task.{greatest_of}
-use Rattle.lex_search.specs.Asked.{IsReply}
-use Rattle.lex_search.proofs.RunLemmas.{built_all, found_less, found_lawful}
+use Rattle.search_least.specs.Task.{greatest_of}
+use Rattle.search_least.specs.Asked.{IsReply}
+use Rattle.search_least.proofs.RunLemmas.{built_all, found_less, found_lawful}
 use Rattle.refute_log.proofs.StepLemmas.{known_after}
 use Rattle.trade_off.proofs.AskLemmas.{refuted_none, least_from, least_zero, found_meets, once_with, asked_none, asked_then, asks_found, asks_refuted, asks_stopped, laws_back}
 use Rattle.trade_off.proofs.LeftLemmas.{asked_here, asked_later}

@@ -1,8 +1,8 @@
 use Rattle.std.proofs.Common.{◌≡◌, ◌≤◌}
 use Rattle.std.specs.Prelude.{None}
 use Rattle.plan_core.specs.Values.{values_of, value_of}
-use Rattle.lex_search.specs.Task.{IsLawful, greatest_of}
-use Rattle.lex_search.specs.Asked.{AreMet}
+use Rattle.search_least.specs.Task.{IsLawful, greatest_of}
+use Rattle.search_least.specs.Asked.{AreMet}
 use Rattle.refute_log.specs.Steps.{Continues, KnowsSome}
 use Rattle.trade_off.specs.Least.{AreAsked}
 use Rattle.trade_off.proofs.lowering.lower.Given as goal

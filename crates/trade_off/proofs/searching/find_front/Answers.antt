@@ -1,8 +1,8 @@
 use Rattle.std.proofs.Common.{◌≡◌, ◌++◌, sym, ◌∙◌, ap, subst}
 use Rattle.std.specs.Prelude.{IfOk}
 use Rattle.std.proofs.lemmas.Result.{IfOk-weaker}
-use Rattle.lex_search.specs.Task.{Task, IsLawful, greatest_of}
-use Rattle.lex_search.specs.Outcome.{first_lines}
+use Rattle.search_least.specs.Task.{Task, IsLawful, greatest_of}
+use Rattle.search_least.specs.Outcome.{first_lines}
 use Rattle.refute_log.specs.Steps.{ToldBehind, Continues}
 use Rattle.trade_off.specs.Front.{IsFrontUpTo}
 use Rattle.trade_off.specs.Least.{AreAsked}

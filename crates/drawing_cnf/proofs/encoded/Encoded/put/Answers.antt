@@ -5,8 +5,8 @@ use Rattle.cnf_core.specs.Clause.{Clauses}
 use Rattle.cnf_core.specs.Truths.{assignment}
 use Rattle.track_order.specs.Order.{is_above, is_overlap}
 use Rattle.drawing_cnf.specs.declared.kept_bound.KeptBound.{KeptBound}
-use Rattle.law_clauses.specs.Stands.{StandsFor}
-use Rattle.law_clauses.specs.Expected.{drawing_vars, formula_clauses, formula_size}
+use Rattle.cnf_laws.specs.Stands.{StandsFor}
+use Rattle.cnf_laws.specs.Expected.{drawing_vars, formula_clauses, formula_size}
 use Rattle.drawing_cnf.specs.Bounded.{bounds_clauses, AreBehind}
 use Rattle.drawing_cnf.specs.Encoding.{Encoding, encoded_vars}
 use Rattle.drawing_cnf.specs.Kept.{bound_of}

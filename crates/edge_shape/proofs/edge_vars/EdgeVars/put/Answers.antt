@@ -1,6 +1,6 @@
 use Rattle.std.proofs.Common.{◌≡◌, sym, subst}
 use Rattle.plan_core.specs.Grid.{grid_size}
-use Rattle.edge_lines.proofs.GridLemmas.{on_grid_heights}
+use Rattle.edge_shape.proofs.GridLemmas.{on_grid_heights}
 use Rattle.cnf_core.specs.Assignment.{Assignment, SatisfiesAll, SameOutside}
 use Rattle.cnf_core.specs.Truths.{assignment}
 use Rattle.edge_shape.specs.EdgeVars.{EdgeSpot, IsSpot, lits_of, edge_size}

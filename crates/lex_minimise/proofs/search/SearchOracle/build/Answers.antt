@@ -1,4 +1,4 @@
-use Rattle.drawing_problem.specs.Layout.{layout_of}
+use Rattle.drawing_cnf.specs.Layout.{layout_of}
 use Rattle.lex_minimise.proofs.StartLemmas.{same_task}
 use Rattle.lex_minimise.proofs.search.SearchOracle.build.Goals as goal
 

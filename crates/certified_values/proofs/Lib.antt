@@ -1,4 +1,0 @@
-pub mod CertifiedLemmas
-pub mod ExpectedLemmas
-pub mod MeetsLemmas
-pub mod CapsLemmas

@@ -1,5 +1,0 @@
-use Rattle.certified_values.proofs.CertifiedLemmas.{none_better, none_meets, same_twice}
-use Rattle.certified_values.proofs.certified_laws.certified_values_are_least.Goals as goal
-
-pub returns : goal.returns
-returns c = record { least = none_better; none = none_meets; once = same_twice }

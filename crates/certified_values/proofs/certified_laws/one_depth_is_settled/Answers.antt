@@ -1,5 +1,0 @@
-use Rattle.certified_values.proofs.CertifiedLemmas.{settled_once}
-use Rattle.certified_values.proofs.certified_laws.one_depth_is_settled.Goals as goal
-
-pub returns : goal.returns
-returns c = settled_once

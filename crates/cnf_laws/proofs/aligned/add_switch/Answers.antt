@@ -1,0 +1,31 @@
+use Rattle.std.proofs.Common.{rules, sym, ◌++◌}
+use Rattle.cnf_core.proofs.StepLemmas.{adds_refused, adds_after}
+use Rattle.edge_shape.specs.EdgeVars.{lits_of}
+use Rattle.cnf_laws.specs.Guards.{unless_rules}
+use Rattle.cnf_laws.specs.Stands.{end_slope}
+use Rattle.cnf_laws.specs.LawClauses.{same_rules, diverge_rules}
+use Rattle.cnf_laws.proofs.PairCode.{rules_append}
+use Rattle.cnf_laws.proofs.CodeLemmas.{adds_same_clauses}
+use Rattle.cnf_laws.proofs.aligned.add_switch.Goals as goal
+
+pub returns-in_err-add_same : goal.returns-in_err-add_same
+returns-in_err-add_same c =
+    let t = end_slope c.args.trunk.now.west (lits_of c.args.trunk.now.edge.now) in
+    let s = end_slope c.args.straight.now.west (lits_of c.args.straight.now.edge.now) in
+    let d = end_slope c.args.diverging.now.west (lits_of c.args.diverging.now.edge.now) in
+    let one = same_rules s t in
+    let two = diverge_rules c.args.legs c.args.branch t d in
+    let u = c.args.unless.now in
+    adds_same_clauses c.from_residual.result _ _ (unless_rules u one ++ unless_rules u two) _ _ (sym (rules_append u one two))
+    (adds_refused c.add_same.result c.from_residual.result _ _ _ _ _ c.from_residual.ensures.0 (λ k. search (rules, k)) c.add_same.ensures)
+
+pub returns : goal.returns
+returns c =
+    let t = end_slope c.args.trunk.now.west (lits_of c.args.trunk.now.edge.now) in
+    let s = end_slope c.args.straight.now.west (lits_of c.args.straight.now.edge.now) in
+    let d = end_slope c.args.diverging.now.west (lits_of c.args.diverging.now.edge.now) in
+    let one = same_rules s t in
+    let two = diverge_rules c.args.legs c.args.branch t d in
+    let u = c.args.unless.now in
+    adds_same_clauses c.add_diverging.result _ _ (unless_rules u one ++ unless_rules u two) _ _ (sym (rules_append u one two))
+    (adds_after _ c.add_diverging.result _ _ _ _ _ _ c.in_ok-add_same.ensures c.add_diverging.ensures)

@@ -1,0 +1,24 @@
+use Rattle.std.proofs.Common.{rules, [], ◌∷◌, ◌++◌, length}
+use Rattle.plan_core.specs.Lawful.{Aligned, Apart}
+use Rattle.track_order.specs.Order.{is_above, is_overlap}
+use Rattle.cnf_laws.specs.Expected.{drawing_vars, instances_from, instance_pairs, edge_pair}
+use Rattle.cnf_laws.proofs.LawCode.{laws_refused, laws_after}
+use Rattle.cnf_laws.proofs.whole.add_later_laws.Goals as goal
+
+pub returns-in_err-add_aligned_nodes : goal.returns-in_err-add_aligned_nodes
+returns-in_err-add_aligned_nodes c =
+    let g = c.args.g.now in
+    let d = c.args.grid.now in
+    let last = instance_pairs (length g.edges) (edge_pair (is_above c.args.t.now) (is_overlap c.args.t.now)) in
+    let xs = instances_from (λ n. Aligned n ∷ []) 0 (length g.nodes) in
+    let ys = instance_pairs (length g.nodes) (λ u v. Apart u v ∷ []) ++ last in
+    laws_refused c.add_aligned_nodes.result c.from_residual.result _ _ g (drawing_vars g d) d.width xs ys 7 c.from_residual.ensures.0 (λ k. search (rules, k)) c.add_aligned_nodes.ensures
+
+pub returns : goal.returns
+returns c =
+    let g = c.args.g.now in
+    let d = c.args.grid.now in
+    let last = instance_pairs (length g.edges) (edge_pair (is_above c.args.t.now) (is_overlap c.args.t.now)) in
+    let xs = instances_from (λ n. Aligned n ∷ []) 0 (length g.nodes) in
+    let ys = instance_pairs (length g.nodes) (λ u v. Apart u v ∷ []) ++ last in
+    laws_after _ c.add_last_laws.result _ _ _ g (drawing_vars g d) d.width xs ys 7 c.in_ok-add_aligned_nodes.ensures c.add_last_laws.ensures

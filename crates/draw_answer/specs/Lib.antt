@@ -1,6 +1,0 @@
-pub mod Written
-pub mod SearchLog
-pub mod Pictured
-pub mod Drawn
-pub mod Signalled
-pub mod Tried

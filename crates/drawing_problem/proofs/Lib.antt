@@ -1,4 +1,0 @@
-pub mod ListLemmas
-pub mod CoverLemmas
-pub mod ThereLemmas
-pub mod LimitLemmas

@@ -1,5 +1,0 @@
-use Rattle.edge_lines.proofs.UniqueLemmas.{same_heights_same_line}
-use Rattle.edge_lines.proofs.laws.heights_determine_a_line.Goals as goal
-
-pub returns : goal.returns
-returns c = same_heights_same_line

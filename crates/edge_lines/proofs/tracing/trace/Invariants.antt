@@ -1,7 +1,0 @@
-use Rattle.std.proofs.Common.{◌-◌}
-use Rattle.edge_lines.specs.Columns.{listed_height}
-use Rattle.edge_lines.proofs.TraceLemmas.{IsTracing}
-use Rattle.edge_lines.proofs.tracing.trace.Given as goal
-
-abbrev pub invariant-loop-c : goal.invariant-loop-c
-invariant-loop-c l = IsTracing (listed_height l.heights) l.west (l.east - l.west - 1) l.c l.points.items

@@ -1,3 +1,0 @@
-pub mod Track
-pub mod Columns
-pub mod Joins

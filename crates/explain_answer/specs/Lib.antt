@@ -1,2 +1,0 @@
-pub mod WhyText
-pub mod Explained

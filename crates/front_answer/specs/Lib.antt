@@ -1,2 +1,0 @@
-pub mod FrontText
-pub mod Fronted

@@ -1,6 +1,0 @@
-pub mod FilesLemmas
-pub mod RecheckedLemmas
-pub mod TrimmedLemmas
-pub mod CountLemmas
-pub mod WrittenLemmas
-pub mod CertifiedLemmas

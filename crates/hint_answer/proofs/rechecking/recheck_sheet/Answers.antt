@@ -1,6 +1,0 @@
-use Rattle.std.specs.Prelude.{false}
-use Rattle.sheet_answer.proofs.SettledLemmas.{sheet_claims}
-use Rattle.hint_answer.proofs.rechecking.recheck_sheet.Goals as goal
-
-pub recheck_claim-requires-clause-claim : goal.recheck_claim-requires-clause-claim
-recheck_claim-requires-clause-claim c = sheet_claims c.args.station.now.graph false c.args.sheet.now c.in-Ok.sheet c.in-Ok.ensures.value

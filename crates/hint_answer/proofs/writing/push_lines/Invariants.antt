@@ -1,7 +1,0 @@
-use Rattle.std.proofs.Common.{◌≡◌, ◌++◌, drop}
-use Rattle.std.specs.Prelude.{flat_map}
-use Rattle.hint_text.specs.HintText.{ended_hint}
-use Rattle.hint_answer.proofs.writing.push_lines.Given as goal
-
-abbrev pub invariant-loop-line : goal.invariant-loop-line
-invariant-loop-line l = l.into.items ++ flat_map ended_hint (drop l.line-index l.lines) ≡ l.fn.into.items ++ flat_map ended_hint l.lines

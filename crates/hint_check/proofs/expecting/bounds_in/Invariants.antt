@@ -1,6 +1,0 @@
-use Rattle.std.proofs.Common.{◌≡◌, ◌++◌, drop}
-use Rattle.hint_check.specs.Expected.{bounds_of}
-use Rattle.hint_check.proofs.expecting.bounds_in.Given as goal
-
-abbrev pub invariant-loop-part : goal.invariant-loop-part
-invariant-loop-part l = l.bounds.items ++ bounds_of (drop l.part-index l.parts) ≡ bounds_of l.parts

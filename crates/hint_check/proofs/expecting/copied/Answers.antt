@@ -1,7 +1,0 @@
-use Rattle.std.proofs.Common.{rules}
-use Rattle.hint_check.proofs.ExpectingLemmas.{copy_has_room}
-use Rattle.hint_check.proofs.expecting.copied.Goals as goal
-
-pub unreachable-requires-in-Err-Room-add : goal.unreachable-requires-in-Err-Room-add
-unreachable-requires-in-Err-Room-add c =
-    copy_has_room c.args.f.now c.loop-i.copy c.loop-i.i c.lits_of.result.now c.words.ensures.formula c.loop-i.invariant.room c.loop-i.invariant.clauses (search rules) c.lits_of.ensures.value (c.in-Err-Room-add.ensures.room.0 (cc))

@@ -1,5 +1,0 @@
-pub mod Accepted
-pub mod Refused
-pub mod Judged
-pub mod Expected
-pub mod Progress

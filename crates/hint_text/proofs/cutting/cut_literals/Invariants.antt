@@ -1,5 +1,0 @@
-use Rattle.hint_text.specs.Parts.{NoZeroBefore}
-use Rattle.hint_text.proofs.cutting.cut_literals.Given as goal
-
-abbrev pub invariant-loop-place : goal.invariant-loop-place
-invariant-loop-place l = NoZeroBefore l.text l.place

@@ -1,5 +1,0 @@
-use Rattle.hint_text.proofs.OnceLemmas.{fault_once, hint_no_fault}
-use Rattle.hint_text.proofs.laws.one_hint_or_one_fault.Goals as goal
-
-pub returns : goal.returns
-returns c = record { fault = fault_once; line = hint_no_fault }

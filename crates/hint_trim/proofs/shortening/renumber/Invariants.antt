@@ -1,6 +1,0 @@
-use Rattle.std.proofs.Common.{◌≡◌, take}
-use Rattle.hint_trim.specs.Shortened.{renumbered}
-use Rattle.hint_trim.proofs.shortening.renumber.Given as goal
-
-abbrev pub invariant-loop-n : goal.invariant-loop-n
-invariant-loop-n l = l.new ≡ renumbered l.numbers (take l.n-index l.n-items)

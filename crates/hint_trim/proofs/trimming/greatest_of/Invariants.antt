@@ -1,8 +1,0 @@
-use Rattle.std.proofs.Common.{◌≤◌, take}
-use Rattle.std.specs.Prelude.{All}
-use Rattle.cnf_core.specs.declared.limits.TheConstants.{LAST_VAR}
-use Rattle.hint_trim.specs.Hinting.{IsLineWithin}
-use Rattle.hint_trim.proofs.trimming.greatest_of.Given as goal
-
-abbrev pub invariant-loop-i : goal.invariant-loop-i
-invariant-loop-i l = record { within : All (IsLineWithin l.most) (take l.i l.lines); limit : l.most ≤ LAST_VAR }

@@ -1,4 +1,0 @@
-pub mod Found
-pub mod Trimmed
-pub mod Shortened
-pub mod Hinting

@@ -1,5 +1,0 @@
-use Rattle.input_answer.proofs.StatusLemmas.{one_status}
-use Rattle.input_answer.proofs.laws.one_status_to_a_number.Goals as goal
-
-pub returns : goal.returns
-returns c = one_status

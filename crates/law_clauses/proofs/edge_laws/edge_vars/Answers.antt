@@ -1,5 +1,0 @@
-use Rattle.law_clauses.proofs.BaseLemmas.{spot_within}
-use Rattle.law_clauses.proofs.edge_laws.edge_vars.Goals as goal
-
-pub returns-clause-within : goal.returns-clause-within
-returns-clause-within c = spot_within c.args.g.now c.args.grid.now c.args.e.0 c.requires

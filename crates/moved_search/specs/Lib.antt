@@ -1,4 +1,0 @@
-pub mod Known
-pub mod Query
-pub mod Told
-pub mod Search

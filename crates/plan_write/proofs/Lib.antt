@@ -1,0 +1,4 @@
+pub mod LineLemmas
+pub mod OrderWords
+pub mod SheetParts
+pub mod PictureLineLemmas

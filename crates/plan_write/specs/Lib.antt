@@ -1,0 +1,4 @@
+pub mod GraphText
+pub mod SheetLine
+pub mod SheetText
+pub mod SvgText

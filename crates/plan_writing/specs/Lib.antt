@@ -1,4 +1,0 @@
-pub use Rattle.plan_picture.specs.SvgText
-pub mod GraphText
-pub mod SheetLine
-pub mod SheetText

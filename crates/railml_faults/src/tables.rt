@@ -1,0 +1,59 @@
+// What is kept of rows while they are judged and built from.
+ghost use Rattle.std.specs.Prelude.{◌≡◌, IfOk};
+ghost use Rattle.railml_read.specs.Formed.{AreFormed};
+ghost use Rattle.railml_faults.specs.Tables.{AreTablesOf, entry_in};
+
+use crate::children::{all_children, only_children};
+use crate::outside::positions;
+use crate::references::targets;
+use plan_core::{Micro, OutOfMemory};
+use railml_read::{Elem, ElemKind};
+use std::alloc::Global;
+
+/// Tables with an entry for each row: its children, its only topology, begin, end and connection if it
+/// has just one, the connection that it refers to, each by its row's number, and its position in micrometres.
+#[derive(Drop)]
+pub struct Tables {
+    pub children: Vec<Vec<u32>>,
+    pub topologies: Vec<Option<u32>>,
+    pub begins: Vec<Option<u32>>,
+    pub ends: Vec<Option<u32>>,
+    pub connections: Vec<Option<u32>>,
+    pub targets: Vec<Option<u32>>,
+    pub positions: Vec<Option<Micro>>,
+}
+
+impl Tables {
+    /// The tables of rows.
+    pub fn new(alloc: Global, rows: &[Elem]) -> Result<Self, OutOfMemory>
+        requires { AreFormed rows.now }
+        ensures { IfOk result (λ tables. AreTablesOf rows.now tables) }
+    {
+        let children = all_children(alloc, rows)?;
+        let topologies = only_children(alloc, rows, &children, ElemKind::Topology)?;
+        let begins = only_children(alloc, rows, &children, ElemKind::Begin)?;
+        let ends = only_children(alloc, rows, &children, ElemKind::End)?;
+        let connections = only_children(alloc, rows, &children, ElemKind::Connection)?;
+        let targets = targets(alloc, rows)?;
+        let positions = positions(alloc, rows)?;
+        Ok(Tables {
+            children,
+            topologies,
+            begins,
+            ends,
+            connections,
+            targets,
+            positions,
+        })
+    }
+}
+
+/// An entry of a table of numbers, if it is there and isn't empty.
+pub fn entry(table: &[Option<u32>], i: usize) -> Option<u32>
+    ensures { result ≡ entry_in table.now i }
+{
+    match table.get(i) {
+        Some(entry) => *entry,
+        None => None,
+    }
+}

@@ -1,9 +1,0 @@
-use Rattle.std.proofs.Common.{◌≡◌, length}
-use Rattle.redraw_answer.proofs.PointLemmas.{AreFirst}
-use Rattle.redraw_answer.proofs.former_points.former_points.Given as goal
-
-abbrev pub invariant-loop-n : goal.invariant-loop-n
-invariant-loop-n l = record {
-  size : length l.points.items ≡ l.n;
-  first : AreFirst l.g l.old l.d l.points.items l.n;
-}

@@ -1,0 +1,9 @@
+pub mod SettledLemmas
+pub mod VerdictLemmas
+pub mod CheckedLemmas
+pub mod FilesLemmas
+pub mod RecheckedLemmas
+pub mod TrimmedLemmas
+pub mod CountLemmas
+pub mod WrittenLemmas
+pub mod CertifiedLemmas

@@ -1,0 +1,6 @@
+use Rattle.std.specs.Prelude.{false}
+use Rattle.run_check.proofs.SettledLemmas.{sheet_claims}
+use Rattle.run_check.proofs.rechecking.recheck_sheet.Goals as goal
+
+pub recheck_claim-requires-clause-claim : goal.recheck_claim-requires-clause-claim
+recheck_claim-requires-clause-claim c = sheet_claims c.args.station.now.graph false c.args.sheet.now c.in-Ok.sheet c.in-Ok.ensures.value

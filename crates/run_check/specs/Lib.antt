@@ -1,0 +1,10 @@
+pub mod Verdict
+pub mod CheckLine
+pub mod Checked
+pub mod CertifiedSheet
+pub mod Texts
+pub mod Files
+pub mod Trimmed
+pub mod Finding
+pub mod Rechecked
+pub mod Fitting

@@ -1,0 +1,36 @@
+-- What front answers, from what the search for the front says.
+use Rattle.std.proofs.Common.{◌≡◌, ◌⊎◌, ℕ, List, inl, inr, subst}
+use Rattle.plan_core.specs.declared.criterion.Criterion.{Criterion}
+use Rattle.plan_core.specs.Grid.{GridSize}
+use Rattle.plan_core.specs.Graph.{Graph}
+use Rattle.outside_io.specs.Contents.{FilesAt}
+use Rattle.cnf_core.specs.declared.limits.TheConstants.{ROOM}
+use Rattle.track_order.specs.Order.{EdgeOrder}
+use Rattle.refute_log.specs.Told.{Lines}
+use Rattle.search_least.specs.Task.{IsLawful}
+use Rattle.trade_off.specs.declared.outcome.FrontEnd.{FrontEnd}
+use Rattle.trade_off.specs.Front.{Pairs}
+use Rattle.trade_off.specs.Outcome.{IsRightFront, IsFrontLog}
+use Rattle.drawing_cnf.specs.Layout.{layout}
+use Rattle.lex_minimise.specs.Task.{task_of}
+use Rattle.run_input.specs.declared.status.Status.{Status}
+use Rattle.run_input.specs.Input.{IsStationOf}
+use Rattle.run_input.specs.Met.{between, HasRead}
+use Rattle.run_input.specs.Answer.{HasReadStation}
+use Rattle.run_draw_front.specs.FrontText.{front_text}
+use Rattle.run_draw_front.specs.Fronted.{FrontJob, front_job, status_of_front, IsFrontAnswer}
+
+pub fronted : (grid : GridSize) (a b : Criterion) (budget : ℕ) (asked : FrontJob) (IsTold : Lines → Type 0) (g : Graph) (o : EdgeOrder) (pairs : Pairs) (ending : FrontEnd) (status : Status) (text : List ℕ) → front_job grid a b budget ≡ asked →
+    IsRightFront (IsLawful (task_of (layout g o grid) budget ROOM)) a b pairs ending → (lines : Lines) × IsTold lines × IsFrontLog (task_of (layout g o grid) budget ROOM) a b ending lines →
+    status ≡ status_of_front ending → text ≡ front_text a b pairs ending → IsFrontAnswer asked IsTold g o status text
+fronted grid a b budget asked IsTold g o pairs ending status text same right log status_is spelled =
+    subst (λ (j : FrontJob). IsFrontAnswer j IsTold g o status text) same (record {
+      pairs = pairs;
+      ending = ending;
+      right = right;
+      lines = log.0;
+      told = log.1;
+      log = log.2;
+      status_is = status_is;
+      spelled = spelled;
+    })

@@ -1,0 +1,28 @@
+use Rattle.std.specs.Prelude.{IsOkAnd}
+use Rattle.std.proofs.lemmas.Result.{IfOk-weaker}
+use Rattle.refute_log.specs.ToldTo.{told_to}
+use Rattle.run_input.specs.Status.{IsRefused}
+use Rattle.run_input.specs.Met.{between}
+use Rattle.run_input.proofs.AnswerLemmas.{refused_on}
+use Rattle.run_input.proofs.MetLemmas.{reads_one}
+use Rattle.run_draw_front.specs.Fronted.{IsFrontAnswer}
+use Rattle.run_input.proofs.AnswerLemmas.{untold_here}
+use Rattle.run_draw_front.proofs.fronting.front.Goals as goal
+
+pub returns-in-Ok-clause-reads : goal.returns-in-Ok-clause-reads
+returns-in-Ok-clause-reads g c = reads_one _ _ c.in-Ok.ensures.reads
+
+pub returns-in-Ok-clause-untold : goal.returns-in-Ok-clause-untold
+returns-in-Ok-clause-untold g c =
+    let at = g.F.Files.at in
+    let Refused : Type 0 = IsOkAnd c.front_station.result (λ r. IsRefused r.status) in
+    untold_here c.args.input.now (at c.args.files.now) (at c.station_of.new.files) c.in-Ok.station.graph c.in-Ok.station.order Refused c.args.trace.now c.front_station.new.log c.in-Ok.ensures.station c.in-Ok.ensures.reads c.front_station.ensures.unrefused
+
+pub returns-in_ok-fault_reply-in-Err-Fault-clause-answer : goal.returns-in_ok-fault_reply-in-Err-Fault-clause-answer
+returns-in_ok-fault_reply-in-Err-Fault-clause-answer g c =
+    let at = g.F.Files.at in
+    let met = between (at c.args.files.now) (at c.station_of.new.files) in
+    let traced = told_to {Self = g.row.T.Denot} g.T.LogSink.tells g.T.LogSink.learnt c.args.trace.now c.args.trace.now in
+    let reply = c.in_ok-fault_reply-in-Err-Fault.field-0 in
+    refused_on (IsFrontAnswer c.args.asked.now traced) c.args.input.now met c.in-Err-Fault.field-0 c.in-Err-Fault.fault reply.status reply.text.items c.in-Err-Fault.ensures.refusal
+    c.in-Err-Fault.field-0-is c.in_ok-fault_reply-in-Err-Fault.ensures.told

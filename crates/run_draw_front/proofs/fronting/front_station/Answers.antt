@@ -1,0 +1,9 @@
+use Rattle.refute_log.specs.ToldTo.{told_to}
+use Rattle.run_draw_front.proofs.FrontedLemmas.{fronted}
+use Rattle.run_draw_front.proofs.fronting.front_station.Goals as goal
+
+pub returns-in_ok-text_of-in-Ok-clause-answer : goal.returns-in_ok-text_of-in-Ok-clause-answer
+returns-in_ok-text_of-in-Ok-clause-answer g c =
+    let traced = told_to {Self = g.row.L.Denot} g.L.LogSink.tells g.L.LogSink.learnt c.args.log.now c.front.new.log in
+    fronted c.asked.inside.grid.now c.asked.inside.first c.asked.inside.second c.asked.inside.budget c.args.asked.now traced c.args.station.now.graph c.args.station.now.order c.in-Ok.found.pairs c.in-Ok.found.ending c.status_of.result
+    c.in_ok-text_of-in-Ok.field-0.items c.asked.view_is c.in-Ok.ensures.right c.in-Ok.ensures.lines c.status_of.ensures c.in_ok-text_of-in-Ok.ensures

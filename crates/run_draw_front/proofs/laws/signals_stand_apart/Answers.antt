@@ -1,0 +1,25 @@
+use Rattle.std.proofs.Common.{ℕ, ◌<◌, List, None, Some, length, refl}
+use Rattle.std.specs.Prelude.{IfSome}
+use Rattle.std.specs.declared.option.Option.{Option}
+use Rattle.plan_core.specs.Drawing.{Drawing}
+use Rattle.plan_objects.specs.declared.places.SignalPlace.{SignalPlace}
+use Rattle.plan_objects.specs.Rows.{station}
+use Rattle.plan_objects.specs.Spread.{HasRoomFor}
+use Rattle.plan_objects.specs.SignalsText.{line_under}
+use Rattle.plan_objects.proofs.ExactLemmas.{edges_there}
+use Rattle.plan_objects.proofs.SpreadLemmas.{spread_at}
+use Rattle.run_draw_front.specs.Signalled.{job_for, StandApart}
+use Rattle.run_draw_front.specs.Drawn.{found_by}
+use Rattle.run_draw_front.proofs.SignalledLemmas.{least_is_need, found_has_room}
+use Rattle.run_draw_front.proofs.laws.signals_stand_apart.Goals as goal
+
+apart : (places : List SignalPlace) (found : Option Drawing) → IfSome found (λ d. (i : ℕ) → i < length places → HasRoomFor places d i) → StandApart places found
+apart places None room = tt
+apart places (Some d) room = λ i there. let r = room i there in spread_at places (line_under places d i) i there r.long
+
+pub returns : goal.returns
+returns c = λ bytes g o signals places has asked outcome lines ended.
+    let found = has.has_signals in
+    let longer = job_for places asked in
+    let there = edges_there (station found.rows found.topology g) signals places found.beside.built found.placed.are in
+    apart places (found_by outcome) (found_has_room g o longer places outcome lines ended (least_is_need places longer refl) there)

@@ -1,0 +1,5 @@
+use Rattle.std.proofs.Common.{rules, append_assoc}
+use Rattle.run_draw_front.proofs.writing.push_criteria.Goals as goal
+
+pub returns : goal.returns
+returns c = search (rules, append_assoc)

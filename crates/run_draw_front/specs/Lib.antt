@@ -1,0 +1,8 @@
+pub mod Written
+pub mod SearchLog
+pub mod Pictured
+pub mod Drawn
+pub mod Signalled
+pub mod Tried
+pub mod FrontText
+pub mod Fronted

@@ -1,0 +1,291 @@
+// What draw answers to a station: the sheet of how its search ended, with the lines of the search told and the picture
+// written.
+ghost use Rattle.std.specs.Prelude.{◌≡◌, ◌≢◌, ◌≤◌, ◌⊎◌, ◌++◌, [], ⊤, false, IfOk, OnOk, IsOkAnd, IsErrOf, None};
+ghost use Rattle.std.specs.Option.{is_some};
+ghost use Rattle.outside_io.specs.Contents.{WhereTold, SameElsewhere};
+ghost use Rattle.outside_io.specs.Counts.{Rose};
+ghost use Rattle.plan_core.specs.declared.limits.TheConstants.{MAX_FILE_BYTES};
+ghost use Rattle.plan_core.specs.Order.{IsOrder};
+ghost use Rattle.track_order.specs.Order.{IsOrderOf};
+ghost use Rattle.plan_text.specs.SheetLine.{MayEnd};
+ghost use Rattle.plan_text.specs.SheetText.{sheet_text};
+ghost use Rattle.plan_text.specs.SheetFaults.{IsSheetText};
+ghost use Rattle.refute_log.specs.FileLog.{BeginsLog, FileBeginsLog};
+ghost use Rattle.run_input.specs.Status.{IsAnswered, IsRefused};
+ghost use Rattle.run_input.specs.Answer.{IsFileJudged, IsAnswerToFile, HasReadStation};
+ghost use Rattle.run_input.specs.Input.{IsShort};
+ghost use Rattle.run_input.specs.Met.{between, ReadsInputs, IsUnwritten, LeftSo, HasLeft};
+ghost use Rattle.refute_log.specs.ToldTo.{told_to};
+ghost use Rattle.run_draw_front.specs.SearchLog.{HoldsLog, IsRunLog};
+ghost use Rattle.run_draw_front.specs.Written.{AreFilesApart, file_named, FailsToWrite};
+ghost use Rattle.run_draw_front.specs.Drawn.{sheet_with, sheet_of, status_of, HasSearched, IsDrawAnswer};
+ghost use Rattle.run_draw_front.specs.Drawn.{HasBegunPicture};
+ghost use Rattle.run_draw_front.specs.Drawn.{DrawMayLeave, files_asked, IsLeftByDraw};
+
+use crate::picturing::write_found;
+use cnf_core::ROOM;
+use lex_minimise::{Limits, MinFault, Outcome, minimise};
+use outside_io::Files;
+use plan_core::{Grid, Order, OutOfMemory, Text};
+use plan_geometry::Drawing;
+use plan_text::{Ending, Sheet, write_sheet, written_is_read};
+use refute_log::{FileLog, LogSink};
+use run_input::{Cut, InputRefusal, Reply, Station, Status, cut_of, fault_reply, station_of};
+use std::alloc::Global;
+use std::marker::Model;
+
+/// What is asked of a drawing.
+#[derive(Drop)]
+pub struct Asked<'a> {
+    /// The columns and rows that it may take, and the least length of its lines.
+    pub grid: &'a Grid,
+    /// What is to be least, the most important first.
+    pub order: &'a Order,
+    /// With how many learnt clauses the search gives up.
+    pub budget: u32,
+    /// The name of the file for a picture.
+    pub svg: &'a Option<Text>,
+    /// The name of the file for the search's log.
+    pub log: &'a Option<Text>,
+}
+
+impl<'a> Model for Asked<'a> {
+    ghost use Rattle.run_draw_front.specs.Drawn.{Job, job};
+
+    ghost Value = { Job };
+
+    ghost view = { λ s. job s.grid.now s.order.now s.budget s.svg.now s.log.now };
+}
+
+/// The outcome of a search for the station's best drawing, whose lines the log is told.
+pub fn search<L: LogSink>(
+    alloc: Global,
+    station: &Station,
+    asked: &Asked,
+    log: &mut L,
+) -> Result<Outcome, Cut>
+    requires order { IsOrderOf station.now.graph station.now.order }
+    ensures searched { IfOk result (HasSearched station.now.graph station.now.order asked.now
+        (told_to L.tells L.learnt log.old
+        log.new)) }
+    ensures later { L.is_later log.old log.new }
+    ensures faults { L.faults log.old ≤ L.faults log.new }
+    ensures cause { IsErrOf result Cut.Unwritten → Rose (L.faults log.old) (L.faults log.new) }
+{
+    let limits = Limits {
+        budget: asked.budget,
+        room: ROOM,
+    };
+    match minimise(
+        alloc,
+        &station.graph,
+        &station.order,
+        asked.grid,
+        asked.order,
+        &limits,
+        log,
+    ) {
+        Ok(outcome) => Ok(outcome),
+        Err(MinFault::Log) => Err(Cut::Unwritten),
+        Err(MinFault::Memory) => Err(Cut::Memory),
+    }
+}
+
+/// The sheet of what was asked, with this drawing and this ending.
+fn sheet_with(asked: &Asked, found: Option<Drawing>, ending: Ending) -> Sheet
+    requires { MayEnd (is_some found) ending }
+    ensures sheet { result ≡ sheet_with asked.now found ending }
+    ensures is_order { IsOrder asked.now.order }
+{
+    let _ = asked.order.len();
+    Sheet {
+        grid: *asked.grid,
+        order: asked.order.copied(),
+        found,
+        ending,
+    }
+}
+
+/// The sheet of an outcome.
+fn sheet_of(asked: &Asked, outcome: Outcome) -> Sheet
+    ensures sheet { result ≡ sheet_of asked.now outcome }
+    ensures is_order { IsOrder asked.now.order }
+{
+    match outcome {
+        Outcome::Best(drawing) => sheet_with(asked, Some(drawing), Ending::Best),
+        Outcome::NoDrawing => sheet_with(asked, None, Ending::NoDrawing),
+        Outcome::Spent { best, settled } => sheet_with(asked, best, Ending::Conflicts(settled)),
+        Outcome::Room { best, settled } => sheet_with(asked, best, Ending::Room(settled)),
+    }
+}
+
+/// How the run ends after an outcome.
+pub fn status_of(outcome: &Outcome) -> Status
+    ensures { result ≡ status_of outcome.now }
+{
+    match outcome {
+        Outcome::Best(_) => Status::Done,
+        Outcome::NoDrawing => Status::NoDrawing,
+        Outcome::Spent { .. } | Outcome::Room { .. } => Status::Unfinished,
+    }
+}
+
+/// The status and the sheet of an outcome.
+pub(crate) fn sheet_reply(
+    alloc: Global,
+    station: &Station,
+    asked: &Asked,
+    outcome: Outcome,
+) -> Result<Reply, OutOfMemory>
+    requires { HasSearched station.now.graph station.now.order asked.now (λ lines. ⊤) outcome }
+    ensures status_is { IfOk result (λ r. r.status ≡ status_of outcome) }
+    ensures spelled { IfOk result (λ r. r.text.items ≡ sheet_text station.now.graph (sheet_of asked.now outcome)) }
+    ensures short { OnOk result (IsShort MAX_FILE_BYTES (sheet_text station.now.graph (sheet_of asked.now outcome))) }
+    ensures read { OnOk result (IsSheetText station.now.graph false (sheet_text station.now.graph
+        (sheet_of asked.now outcome))
+        (sheet_of asked.now outcome)) }
+{
+    let status = status_of(&outcome);
+    let sheet = sheet_of(asked, outcome);
+    // what is written is read again, and isn't too long for that
+    written_is_read(&station.graph, &sheet);
+    let mut text = Vec::new(alloc);
+    write_sheet(alloc, &station.graph, &sheet, &mut text)?;
+    Ok(Reply { status, text })
+}
+
+/// The same search with a new log in the file of this name.
+fn search_filed<F: Files>(
+    alloc: Global,
+    station: &Station,
+    asked: &Asked,
+    name: &Text,
+    files: &mut F,
+) -> Result<Outcome, Cut>
+    requires order { IsOrderOf station.now.graph station.now.order }
+    ensures searched { IfOk result (HasSearched station.now.graph station.now.order asked.now
+        (HoldsLog (F.at files.old).contents
+        (F.at files.new).contents name.now)) }
+    ensures others { WhereTold (F.at files.old).contents (F.at files.new).contents (SameElsewhere name.now) }
+    ensures begun { WhereTold (F.at files.old).contents (F.at files.new).contents
+        (λ before after. (after name.now ≡ before
+        name.now) ⊎ FileBeginsLog after name.now) }
+    ensures later { (F.at files.old).write_faults ≤ (F.at files.new).write_faults }
+    ensures cause { IsErrOf result Cut.Unwritten → Rose (F.at files.old).write_faults (F.at files.new).write_faults }
+    ensures read_faults { (F.at files.new).read_faults ≡ (F.at files.old).read_faults }
+    ensures reads { (F.at files.new).reads ≡ (F.at files.old).reads }
+{
+    match FileLog::start(alloc, files, name.as_str()) {
+        Ok(mut log) => match search(alloc, station, asked, &mut log) {
+            Ok(outcome) => match log.finish() {
+                Ok(()) => Ok(outcome),
+                Err(fault) => Err(cut_of(fault)),
+            },
+            Err(cut) => {
+                log.abandon();
+                Err(cut)
+            }
+        },
+        Err((fault, _files)) => Err(cut_of(fault)),
+    }
+}
+
+/// The same search, its lines told to the file that is named for them or else to the trace.
+pub(crate) fn search_told<F: Files, T: LogSink>(
+    alloc: Global,
+    station: &Station,
+    asked: &Asked,
+    files: &mut F,
+    trace: &mut T,
+) -> Result<Outcome, Cut>
+    requires order { IsOrderOf station.now.graph station.now.order }
+    ensures searched { let met = between (F.at files.old) (F.at files.new) in
+        let told = told_to T.tells T.learnt trace.old trace.new in
+        IfOk result (HasSearched station.now.graph station.now.order asked.now (IsRunLog asked.now.log met told)) }
+    ensures leaves { WhereTold (F.at files.old).contents (F.at files.new).contents
+        (LeftSo (λ name bytes. (asked.now.log ≡ Some
+        name) × BeginsLog bytes)) }
+    ensures unwritten { let met = between (F.at files.old) (F.at files.new) in
+        asked.now.log ≡ None → IsUnwritten met }
+    ensures later { (F.at files.old).write_faults ≤ (F.at files.new).write_faults }
+    ensures cause { let met = between (F.at files.old) (F.at files.new) in
+        IsErrOf result Cut.Unwritten → FailsToWrite (file_named asked.now.log) (asked.now.log ≡ None) met (Rose
+        (T.faults trace.old) (T.faults trace.new)) }
+    ensures read_faults { (F.at files.new).read_faults ≡ (F.at files.old).read_faults }
+    ensures reads { (F.at files.new).reads ≡ (F.at files.old).reads }
+    ensures traced { T.is_later trace.old trace.new }
+    ensures untold { asked.now.log ≢ None → trace.new ≡ trace.old }
+{
+    match asked.log {
+        Some(name) => search_filed(alloc, station, asked, name, files),
+        None => search(alloc, station, asked, trace),
+    }
+}
+
+/// What `draw` answers to a station.
+fn draw_station<F: Files, T: LogSink>(
+    alloc: Global,
+    station: &Station,
+    asked: &Asked,
+    files: &mut F,
+    trace: &mut T,
+) -> Result<Reply, Cut>
+    requires order { IsOrderOf station.now.graph station.now.order }
+    requires apart { AreFilesApart (file_named asked.now.log ++ file_named asked.now.svg) }
+    ensures answer { let met = between (F.at files.old) (F.at files.new) in
+        let told = told_to T.tells T.learnt trace.old trace.new in
+        IfOk result (λ r. IsDrawAnswer asked.now met told station.now.graph station.now.order r.status r.text.items) }
+    ensures read_faults { (F.at files.new).read_faults ≡ (F.at files.old).read_faults }
+    ensures reads { (F.at files.new).reads ≡ (F.at files.old).reads }
+    ensures unrefused { IsOkAnd result (λ r. IsRefused r.status) → ⊥ }
+    ensures unwritten { let met = between (F.at files.old) (F.at files.new) in
+        file_named asked.now.log ++ file_named asked.now.svg ≡ [] → IsUnwritten met }
+    ensures leaves { let met = between (F.at files.old) (F.at files.new) in
+        HasLeft met (DrawMayLeave asked.now (HasBegunPicture station.now.graph station.now.order asked.now
+        (IsRunLog asked.now.log met (told_to T.tells T.learnt trace.old trace.new)))) }
+    ensures cause { let met = between (F.at files.old) (F.at files.new) in
+        IsErrOf result Cut.Unwritten → FailsToWrite (file_named asked.now.log ++ file_named asked.now.svg)
+        (asked.now.log ≡ None) met (Rose (T.faults trace.old) (T.faults trace.new)) }
+    ensures traced { T.is_later trace.old trace.new }
+    ensures untold { asked.now.log ≢ None → trace.new ≡ trace.old }
+{
+    let outcome = search_told(alloc, station, asked, files, trace)?;
+    write_found(alloc, &station.graph, &outcome, asked.svg, files)?;
+    Ok(sheet_reply(alloc, station, asked, outcome)?)
+}
+
+/// What `draw` answers.
+pub fn draw<F: Files, T: LogSink>(
+    alloc: Global,
+    input: &Text,
+    asked: &Asked,
+    files: &mut F,
+    trace: &mut T,
+) -> Result<Reply, Cut>
+    requires apart { AreFilesApart (file_named asked.now.log ++ file_named asked.now.svg) }
+    ensures answer { let met = between (F.at files.old) (F.at files.new) in
+        IfOk result (λ r. IsAnswerToFile input.now met (IsFileJudged
+        (IsDrawAnswer asked.now met (told_to T.tells T.learnt trace.old trace.new))) r.status r.text.items) }
+    ensures reads { let met = between (F.at files.old) (F.at files.new) in
+        ReadsInputs 1 (IsOkAnd result (λ r. IsAnswered r.status)) met }
+    ensures unwritten { let met = between (F.at files.old) (F.at files.new) in
+        IsOkAnd result (λ r. IsRefused r.status)
+        ⊎ ((files_asked asked.now ≢ []) × HasReadStation input.now met → ⊥) → IsUnwritten met }
+    ensures leaves { let met = between (F.at files.old) (F.at files.new) in
+        HasLeft met (λ name bytes. (IsOkAnd result (λ r. IsRefused r.status) → ⊥)
+        × IsLeftByDraw input.now asked.now met (told_to T.tells T.learnt trace.old trace.new) name bytes) }
+    ensures cause { let met = between (F.at files.old) (F.at files.new) in
+        IsErrOf result Cut.Unwritten → FailsToWrite (file_named asked.now.log ++ file_named asked.now.svg)
+        (asked.now.log ≡ None) met (Rose (T.faults trace.old) (T.faults trace.new)) }
+    ensures later { (F.at files.old).read_faults ≤ (F.at files.new).read_faults }
+    ensures traced { T.is_later trace.old trace.new }
+    ensures untold { let met = between (F.at files.old) (F.at files.new) in
+        IsOkAnd result (λ r. IsRefused r.status)
+        ⊎ ((asked.now.log ≡ None) × HasReadStation input.now met → ⊥) → trace.new ≡ trace.old }
+{
+    match station_of(alloc, input, files) {
+        Ok(station) => draw_station(alloc, &station, asked, files, trace),
+        Err(InputRefusal::Fault(fault)) => Ok(fault_reply(alloc, fault)?),
+        Err(InputRefusal::Memory) => Err(Cut::Memory),
+    }
+}

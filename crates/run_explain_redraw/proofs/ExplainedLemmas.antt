@@ -1,0 +1,63 @@
+-- What explain answers, from what the search for an explanation says.
+use Rattle.std.proofs.Common.{◌≡◌, ◌⊎◌, ℕ, List, [], ◌∷◌, get_or, refl, sym, ap, inl, inr, subst}
+use Rattle.std.specs.Prelude.{All, Bool, false, codes, ◌↔◌, ◌==◌}
+use Rattle.std.proofs.lemmas.Option.{slice_get-get_or}
+use Rattle.plan_core.specs.Grid.{GridSize}
+use Rattle.plan_core.specs.Graph.{Graph}
+use Rattle.plan_core.specs.Drawing.{Drawing}
+use Rattle.plan_core.specs.Lawful.{HasSizeOf, Lawful}
+use Rattle.std.proofs.lemmas.Bool.{false≢true}
+use Rattle.outside_io.specs.Contents.{FilesAt}
+use Rattle.cnf_core.specs.declared.limits.TheConstants.{ROOM}
+use Rattle.lawful_check.specs.declared.law_break.LawBreak.{LawBreak}
+use Rattle.track_order.specs.Order.{EdgeOrder, is_above}
+use Rattle.refute_log.specs.Told.{Lines}
+use Rattle.drawing_cnf.specs.Layout.{layout}
+use Rattle.search_why.proofs.OutcomeLemmas.{none_lawful}
+use Rattle.search_why.specs.Task.{Task}
+use Rattle.search_why.specs.Explained.{IsWithout}
+use Rattle.law_core.specs.declared.ending.Why.{Why}
+use Rattle.law_core.specs.declared.ending.Why.TheVariants.{Exists, Laws, Spent, Room}
+use Rattle.law_core.specs.Known.{task_of}
+use Rattle.law_core.specs.Why.{AreNamed, IsRightWhy, IsWhyLog}
+use Rattle.run_input.specs.declared.status.Status.{Status}
+use Rattle.run_input.specs.declared.status.Status.TheVariants.{Done}
+use Rattle.run_input.specs.Input.{IsStationOf}
+use Rattle.run_input.specs.Met.{between, HasRead}
+use Rattle.run_input.specs.Answer.{HasReadStation}
+use Rattle.run_explain_redraw.specs.WhyText.{why_text}
+use Rattle.run_explain_redraw.specs.Explained.{ExplainJob, explain_job, explain_task, status_of_why, IsExplainAnswer}
+
+-- the drawings are of the graph's size
+pub all_fit : (p : Task) (names : List LawBreak) (without : List Drawing) → AreNamed p names without → All (HasSizeOf p.graph) without
+all_fit p names without are = λ k d lt.
+    let w : IsWithout p.graph p.grid are.laws k (get_or without k d) = (are.irreducible).each k (get_or without k d) (slice_get-get_or without k d lt) in
+    w.loose.fits.size
+
+pub explained : (grid : GridSize) (budget : ℕ) (asked : ExplainJob) (IsTold : Lines → Type 0) (g : Graph) (o : EdgeOrder) (w : Why) (status : Status) (text : List ℕ) → explain_job grid budget ≡ asked →
+    IsRightWhy (task_of (layout g o grid) budget ROOM) w → (lines : Lines) × IsTold lines × IsWhyLog (layout g o grid) budget ROOM w lines → status ≡ status_of_why w → text ≡ why_text g w → IsExplainAnswer asked IsTold g o status text
+explained grid budget asked IsTold g o w status text same right log status_is spelled =
+    subst (λ (j : ExplainJob). IsExplainAnswer j IsTold g o status text) same (record {
+      why = w;
+      right = right;
+      lines = log.0;
+      told = log.1;
+      log = log.2;
+      status_is = status_is;
+      spelled = spelled;
+    })
+
+-- the text begins as the first line of an explanation does
+begins_railplan : List ℕ → Bool
+begins_railplan [] = false
+begins_railplan (b ∷ bytes) = b == 114
+
+pub exists : (g : Graph) (o : EdgeOrder) (asked : ExplainJob) (w : Why) → IsRightWhy (explain_task g o asked) w → status_of_why w ≡ Done → (why_text g w ≡ codes "drawing exists\n") ↔ ((d : Drawing) × Lawful g (is_above o) asked.grid d)
+unfolding begins_railplan
+exists g o asked (Exists d) right done = (λ e. (d, right), λ h. refl)
+exists g o asked (Laws names without) right done = (
+  λ e. absurd (false≢true (sym (ap begins_railplan e))),
+  λ h. absurd (none_lawful g (is_above o) asked.grid right.laws right.explanation h.0 h.1),
+)
+exists g o asked Spent right done = absurd (cc)
+exists g o asked Room right done = absurd (cc)

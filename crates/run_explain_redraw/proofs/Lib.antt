@@ -1,0 +1,4 @@
+pub mod ExplainedLemmas
+pub mod PointLemmas
+pub mod JudgedLemmas
+pub mod RedrawnLemmas

@@ -1,0 +1,5 @@
+use Rattle.std.proofs.Common.{rules, append_assoc}
+use Rattle.run_explain_redraw.proofs.redraw_writing.text_of.Goals as goal
+
+pub returns : goal.returns
+returns c = search (rules, append_assoc)

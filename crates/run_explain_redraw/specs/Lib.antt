@@ -1,0 +1,9 @@
+pub mod WhyText
+pub mod Explained
+pub mod FormerPoints
+pub mod MovedText
+pub mod Redrawn
+pub mod Judged
+pub mod Rejection
+pub mod Known
+pub mod Answer

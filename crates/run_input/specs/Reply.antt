@@ -1,0 +1,15 @@
+-- How a run ends that has no answer.
+use Rattle.refute_log.specs.declared.sink.LogSinkFault.{LogSinkFault}
+use Rattle.refute_log.specs.declared.sink.LogSinkFault.TheVariants as faults
+use Rattle.run_input.specs.declared.reply.Cut.{Cut}
+use Rattle.run_input.specs.declared.reply.Cut.TheVariants as cuts
+use Rattle.run_input.specs.declared.status.Status.{Status}
+use Rattle.run_input.specs.declared.status.Status.TheVariants.{Unwritten, NoMemory}
+
+abbrev pub status_of_cut : Cut → Status
+status_of_cut cuts.Unwritten = Unwritten
+status_of_cut cuts.Memory = NoMemory
+
+abbrev pub cut_of : LogSinkFault → Cut
+cut_of faults.Failed = cuts.Unwritten
+cut_of faults.Memory = cuts.Memory

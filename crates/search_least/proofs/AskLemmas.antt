@@ -1,0 +1,161 @@
+-- What answers say, and what questions tell.
+use Rattle.std.proofs.Common.{◌≡◌, ℕ, ◌≤◌, true, List, [], ◌∷◌, ◌++◌, map, get_or, refl, sym, ◌∙◌, ap, subst, inl, inr, arith, append-nil, append_assoc}
+use Rattle.std.specs.Prelude.{All, Contains, Some, None, Option, MatchOption, fold, ⊤}
+use Rattle.std.proofs.lemmas.Grind.{fold-append}
+use Rattle.std.proofs.lemmas.List.Concat.{flat_map-cons}
+use Rattle.std.proofs.lemmas.List.Elements.{All-nil, All-cons, All-map, All-contains, Contains-append_right, Contains-append_cases, Contains-push}
+use Rattle.plan_core.specs.Drawing.{Drawing}
+use Rattle.cnf_core.specs.Lit.{Literal}
+use Rattle.cnf_core.specs.Clause.{Clauses}
+use Rattle.cnf_core.specs.Assignment.{truth}
+use Rattle.cnf_core.proofs.QuantifierLemmas.{some_from_satisfies}
+use Rattle.refute_log.specs.declared.line.LogLine.{LogLine}
+use Rattle.refute_log.specs.declared.line.LogLine.TheVariants.{Learnt, Query, Refuted as RefutedLine, Model}
+use Rattle.refute_log.specs.Told.{Lines}
+use Rattle.refute_log.specs.Log.{Derives, asked, clause_line, clause_lines, facts_of}
+use Rattle.refute_log.proofs.CertifiedLemmas.{refuted_holds}
+use Rattle.refute_log.specs.declared.stop.Stop.{Stop}
+use Rattle.refute_log.specs.declared.stop.Stop.TheVariants.{BudgetSpent, RoomFull}
+use Rattle.refute_log.specs.Steps.{ToldBehind, Continues, KnowsSome}
+use Rattle.refute_log.proofs.StepLemmas.{stays, goes_on, becomes, learnt_no_clauses}
+use Rattle.search_least.proofs.QuestionLemmas.{no_clauses_both, none_in, not_model, not_nothing, query_stays}
+use Rattle.search_least.specs.declared.questions.Answer.{Answer}
+use Rattle.search_least.specs.declared.questions.Answer.TheVariants.{Found, Refuted, Stopped}
+use Rattle.search_least.specs.declared.fewest.Fewest.{Fewest}
+use Rattle.search_least.specs.declared.fewest.Fewest.TheVariants.{Best}
+use Rattle.search_least.specs.CountTask.{CountTask, IsOne, TellsCount, CoversCounts}
+use Rattle.refute_log.specs.Cause.{IsCause}
+use Rattle.search_least.specs.CountAsked.{IsBelow, query_of, SaysReached, IsAsked, IsAnswer}
+use Rattle.search_least.specs.Fewest.{IsStoppedSearch, IsEnd, stopped_with}
+use Rattle.search_least.specs.Run.{RefutesNothing, IsRunOfDrawings, IsRunToEnd}
+
+-- ---- no drawing is below a limit that was refuted
+
+reached_limit : (p : CountTask) (lines : Lines) (limit : Option ℕ) (n : ℕ) (t : TellsCount p lines n) (l : Literal) → MatchOption limit ⊤ (λ k. (1 ≤ k) × (k ≤ p.most)) → SaysReached p limit l → truth t.assignment l ≡ true → IsBelow limit n → ⊥
+reached_limit p lines None n t l within says e below = says
+reached_limit p lines (Some k) n t l within says e below =
+    let le : k ≤ n = (t.tells k within.0 within.1).0 (ap (truth t.assignment) (sym says) ∙ e) in
+    omega (arith, le, below)
+
+excluded : (p : CountTask) (lines : Lines) (limit : Option ℕ) (clause : List Literal) → CoversCounts p lines → Derives lines → MatchOption limit ⊤ (λ k. (1 ≤ k) × (k ≤ p.most)) → All (SaysReached p limit) clause →
+    Contains lines (RefutedLine clause) → (d : Drawing) → IsOne p d → IsBelow limit (p.count d) → ⊥
+excluded p lines limit clause covers derives within against there d one below =
+    let t : TellsCount p lines (p.count d) = covers d one in
+    let some = some_from_satisfies t.assignment clause (refuted_holds t.assignment lines derives t.formula clause there) in
+    reached_limit p lines limit (p.count d) t some.1 within (All-contains (SaysReached p limit) clause some.1 against (some.0, some.2, some.3)) some.4 below
+
+pub record Laws {S : Type 0} (knows : S → Lines → Type 0) (s : S) (p : CountTask) : Type 0 where
+  pub covers : (lines : Lines) → knows s lines → CoversCounts p lines
+  pub derives : (lines : Lines) → knows s lines → Derives lines
+
+pub laws_back : {S : Type 0} (knows : S → Lines → Type 0) (s : S) (q p : CountTask) → q ≡ p → Laws knows s q → Laws knows s p
+laws_back knows s q p same laws = subst (λ (x : CountTask). Laws knows s x) same laws
+
+pub ends_in : (p : CountTask) (limit : Option ℕ) (lines more : Lines) (line : LogLine) → IsAsked p limit (line ∷ []) more → Contains (lines ++ more) line
+ends_in p limit lines more line asked =
+    let h : Contains ((Query (query_of p limit) ∷ []) ++ (map Learnt asked.clauses ++ line ∷ [])) line = Contains-append_right (Query (query_of p limit) ∷ []) (map Learnt asked.clauses ++ line ∷ []) line (Contains-push (map Learnt asked.clauses) line) in
+    Contains-append_right lines more line (subst (λ (ls : Lines). Contains ls line) (sym asked.is) h)
+
+pub refuted_none : {S : Type 0} (knows log : S → Lines → Type 0) (count : S → ℕ) (a e : S) (q p : CountTask) (limit : Option ℕ) (r : Answer) → q ≡ p → r ≡ Refuted → KnowsSome knows a → Laws knows e q → MatchOption limit ⊤ (λ k. (1 ≤ k) × (k ≤ q.most)) →
+    Continues knows log count a e (λ lines more. IsAnswer q lines limit r more) → (d : Drawing) → IsOne p d → IsBelow limit (p.count d) → ⊥
+refuted_none knows log count a e q p limit r same was known laws within asked =
+    let lines = known.0 in
+    let t : ToldBehind (knows e) (log a) (log e) (count a) (count e) lines (λ more. IsAnswer q lines limit r more) = asked lines known.1 in
+    let got : IsAnswer q lines limit Refuted t.more = subst (λ (x : Answer). IsAnswer q lines limit x t.more) was t.does in
+    subst (λ (x : CountTask). (d : Drawing) → IsOne x d → IsBelow limit (x.count d) → ⊥) same
+    (excluded q (lines ++ t.more) limit got.0 (laws.covers (lines ++ t.more) t.knows) (laws.derives (lines ++ t.more) t.knows) within got.1 (ends_in q limit lines t.more (RefutedLine got.0) got.2))
+
+-- ---- the lines of a question
+
+-- a Refuted or Model line of it stands at its end
+at_end : (p : CountTask) (limit : Option ℕ) (ending more : Lines) (line : LogLine) → ((c : List Literal) → Query c ≡ line → ⊥) → ((c : List Literal) → Learnt c ≡ line → ⊥) → IsAsked p limit ending more → Contains more line → Contains ending line
+at_end p limit ending more line no_query no_learnt asked there =
+    let q = query_of p limit in
+    let P : LogLine → Type 0 = λ l. l ≡ line → ⊥ in
+    let h : Contains ((Query q ∷ []) ++ (map Learnt asked.clauses ++ ending)) line = subst (λ (ls : Lines). Contains ls line) asked.is there in
+    elim (Contains-append_cases (Query q ∷ []) (map Learnt asked.clauses ++ ending) line h) [
+      | inl first ↦ absurd (none_in (Query q ∷ []) line (All-cons P (Query q) [] (no_query q) (All-nil P)) first)
+      | inr rest ↦ elim (Contains-append_cases (map Learnt asked.clauses) ending line rest) [
+        | inl k ↦ absurd (none_in (map Learnt asked.clauses) line (All-map P Learnt asked.clauses (λ k d lt. no_learnt (get_at asked.clauses k d))) k)
+        | inr e ↦ e
+      ]
+    ]
+  where
+    get_at : Clauses → ℕ → List Literal → List Literal
+    get_at cs k d = get_or cs k d
+
+pub no_refuted : (p : CountTask) (limit : Option ℕ) (ending lines more : Lines) → IsAsked p limit ending more → ((c : List Literal) → Contains ending (RefutedLine c) → ⊥) → RefutesNothing lines → RefutesNothing (lines ++ more)
+no_refuted p limit ending lines more asked none before = λ clause there. elim (Contains-append_cases lines more (RefutedLine clause) there) [
+  | inl h ↦ before clause h
+  | inr h ↦ none clause (at_end p limit ending more (RefutedLine clause) (λ c e. cc) (λ c e. cc) asked h)
+]
+
+pub no_model : (p : CountTask) (limit : Option ℕ) (lines more : Lines) → IsAsked p limit [] more → (Contains lines Model → ⊥) → Contains (lines ++ more) Model → ⊥
+no_model p limit lines more asked before there = elim (Contains-append_cases lines more Model there) [
+  | inl h ↦ before h
+  | inr h ↦ none_in [] Model (All-nil (λ (l : LogLine). l ≡ Model → ⊥)) (at_end p limit [] more Model (λ c e. cc) (λ c e. cc) asked h)
+]
+
+pub asks_no_clauses : (p : CountTask) (limit : Option ℕ) (ending more : Lines) → IsAsked p limit ending more → clause_lines ending ≡ [] → clause_lines more ≡ []
+asks_no_clauses p limit ending more asked none =
+    ap clause_lines asked.is ∙ flat_map-cons clause_line (Query (query_of p limit)) (map Learnt asked.clauses ++ ending) ∙ no_clauses_both (map Learnt asked.clauses) ending (learnt_no_clauses asked.clauses) none
+
+-- ---- runs of questions
+
+pub run_none : {S : Type 0} (knows log : S → Lines → Type 0) (count : S → ℕ) (s : S) → Continues knows log count s s IsRunOfDrawings
+run_none knows log count s = stays knows log count s IsRunOfDrawings (λ lines k. (refl, λ h. subst RefutesNothing (sym (append-nil lines)) h))
+
+found_runs : (p : CountTask) (limit : Option ℕ) (lines more : Lines) → IsAsked p limit (Model ∷ []) more → IsRunOfDrawings lines more
+found_runs p limit lines more asked = (asks_no_clauses p limit (Model ∷ []) more asked refl, no_refuted p limit (Model ∷ []) lines more asked not_model)
+
+run_both : (lines xs ys : Lines) → IsRunOfDrawings lines xs → IsRunOfDrawings (lines ++ xs) ys → IsRunOfDrawings lines (xs ++ ys)
+run_both lines xs ys f g = (no_clauses_both xs ys f.0 g.0, λ h. subst RefutesNothing (append_assoc lines xs ys) (g.1 (f.1 h)))
+
+pub run_found : {S : Type 0} (knows log : S → Lines → Type 0) (count : S → ℕ) (a b e : S) (q : CountTask) (limit : Option ℕ) (r : Answer) (d : Drawing) → r ≡ Found d →
+    Continues knows log count a b IsRunOfDrawings → Continues knows log count b e (λ lines more. IsAnswer q lines limit r more) → Continues knows log count a e IsRunOfDrawings
+run_found knows log count a b e q limit r d was run asked =
+    goes_on knows log count a b e IsRunOfDrawings (λ lines more. IsAnswer q lines limit r more) IsRunOfDrawings run asked
+    (λ lines xs ys ka kb ke so_far answer. run_both lines xs ys so_far (found_runs q limit (lines ++ xs) ys (subst (λ (x : Answer). IsAnswer q (lines ++ xs) limit x ys) was answer)))
+
+pub ends_refuted : {S : Type 0} (knows log : S → Lines → Type 0) (count : S → ℕ) (a b e : S) (q p : CountTask) (n : ℕ) (r : Answer) (d : Drawing) → q ≡ p → r ≡ Refuted → n ≡ p.count d →
+    Continues knows log count a b IsRunOfDrawings → Continues knows log count b e (λ lines more. IsAnswer q lines (Some n) r more) → Continues knows log count a e (IsRunToEnd p (Best d))
+ends_refuted knows log count a b e q p n r d same was is run asked =
+    goes_on knows log count a b e IsRunOfDrawings (λ lines more. IsAnswer q lines (Some n) r more) (IsRunToEnd p (Best d)) run asked
+    (λ lines xs ys ka kb ke so_far answer.
+    let got : IsAnswer p (lines ++ xs) (Some n) Refuted ys = subst (λ (x : CountTask). IsAnswer x (lines ++ xs) (Some n) Refuted ys) same (subst (λ (x : Answer). IsAnswer q (lines ++ xs) (Some n) x ys) was answer) in (
+      no_clauses_both xs ys so_far.0 (asks_no_clauses p (Some n) (RefutedLine got.0 ∷ []) ys got.2 refl),
+      λ nothing positive. record {
+        clause = got.0;
+        among = subst (λ (ls : Lines). Contains ls (RefutedLine got.0)) (append_assoc lines xs ys) (ends_in p (Some n) (lines ++ xs) ys (RefutedLine got.0) got.2);
+        each = subst (λ m. All (λ l. l ≡ p.at_least m) got.0) is got.1;
+      },
+    ))
+
+pub ends_zero : {S : Type 0} (knows log : S → Lines → Type 0) (count : S → ℕ) (a b : S) (p : CountTask) (d : Drawing) → p.count d ≡ 0 → Continues knows log count a b IsRunOfDrawings → Continues knows log count a b (IsRunToEnd p (Best d))
+ends_zero knows log count a b p d nil run = becomes knows log count a b IsRunOfDrawings (IsRunToEnd p (Best d)) run (λ lines xs ka kb so_far. (so_far.0, λ nothing positive. absurd (omega (arith, nil, positive))))
+
+pub stopped_end : (p : CountTask) (stop : Stop) (best : Option Drawing) (outcome : Fewest) (lines : Lines) → outcome ≡ stopped_with stop best → IsStoppedSearch p stop best lines → IsEnd p outcome lines
+stopped_end p stop best outcome lines is h = subst (λ (x : Fewest). IsEnd p x lines) (sym is) (by stop h)
+  where
+    by : (stop : Stop) → IsStoppedSearch p stop best lines → IsEnd p (stopped_with stop best) lines
+    by BudgetSpent h = h
+    by RoomFull h = h
+
+latest_query : (p : CountTask) (limit : Option ℕ) (lines more : Lines) → IsAsked p limit [] more → (facts_of (lines ++ more)).query ≡ Some (query_of p limit)
+latest_query p limit lines more a =
+    fold-append asked None lines more ∙ ap (fold asked (fold asked None lines)) (a.is ∙ ap (λ (ls : Lines). Query (query_of p limit) ∷ ls) (append-nil (map Learnt a.clauses)))
+    ∙ query_stays (Some (query_of p limit)) a.clauses
+
+pub ends_stopped : {S : Type 0} (knows log : S → Lines → Type 0) (count : S → ℕ) (a b e : S) (q p : CountTask) (limit : Option ℕ) (r : Answer) (d : Drawing) (stop : Stop) (outcome : Fewest) → q ≡ p → r ≡ Stopped stop → outcome ≡ stopped_with stop (Some d) → (1 ≤ p.count d) × (limit ≡ Some (p.count d)) →
+    Continues knows log count a b IsRunOfDrawings → Continues knows log count b e (λ lines more. IsAnswer q lines limit r more) → Continues knows log count a e (IsRunToEnd p outcome)
+ends_stopped knows log count a b e q p limit r d stop outcome same was is positive run asked =
+    goes_on knows log count a b e IsRunOfDrawings (λ lines more. IsAnswer q lines limit r more) (IsRunToEnd p outcome) run asked
+    (λ lines xs ys ka kb ke so_far answer.
+    let got : IsAnswer p (lines ++ xs) limit (Stopped stop) ys = subst (λ (x : CountTask). IsAnswer x (lines ++ xs) limit (Stopped stop) ys) same (subst (λ (x : Answer). IsAnswer q (lines ++ xs) limit x ys) was answer) in (
+      no_clauses_both xs ys so_far.0 (asks_no_clauses p limit [] ys got.0 refl),
+      λ nothing. stopped_end p stop (Some d) outcome (lines ++ (xs ++ ys)) is (
+        subst (IsCause p.budget p.room stop) (append_assoc lines xs ys) got.1,
+        subst RefutesNothing (append_assoc lines xs ys) (no_refuted p limit [] (lines ++ xs) ys got.0 not_nothing (so_far.1 nothing)),
+        (positive.0, subst (λ (ls : Lines). (facts_of ls).query ≡ Some (query_of p (Some (p.count d)))) (append_assoc lines xs ys) (latest_query p limit (lines ++ xs) ys got.0 ∙ ap (λ (l : Option ℕ). Some (query_of p l)) positive.1)),
+      ),
+    ))

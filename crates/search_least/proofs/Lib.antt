@@ -1,0 +1,12 @@
+pub mod QuestionLemmas
+pub mod PlacedLemmas
+pub mod LowerLemmas
+pub mod RunLemmas
+pub mod BuildLemmas
+pub mod AdvanceLemmas
+pub mod FinalLemmas
+pub mod OutcomeLemmas
+pub mod BeforeLemmas
+pub mod CapLemmas
+pub mod AskLemmas
+pub mod FewestLemmas

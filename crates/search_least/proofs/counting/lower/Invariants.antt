@@ -1,0 +1,21 @@
+use Rattle.std.proofs.Common.{◌≡◌, ◌≤◌}
+use Rattle.refute_log.specs.Steps.{Continues, KnowsSome}
+use Rattle.search_least.specs.CountTask.{IsOne}
+use Rattle.search_least.specs.Run.{IsRunOfDrawings}
+use Rattle.search_least.proofs.counting.lower.Given as goal
+
+abbrev pub invariant-loop-count : goal.invariant-loop-count
+invariant-loop-count g l = let q = g.Q.CountOracle in record {
+  count : l.count ≡ (q.task l.fn.questions).count l.best;
+  within : l.count ≤ (q.task l.fn.questions).most;
+  task : q.task l.questions ≡ q.task l.fn.questions;
+  ready : q.ready l.questions;
+  known : KnowsSome q.knows l.questions;
+  one : IsOne (q.task l.fn.questions) l.best;
+  later : q.is_later l.fn.questions l.questions;
+  faults : q.faults l.fn.questions ≤ q.faults l.questions;
+  lines : Continues q.knows q.log q.learnt l.fn.questions l.questions IsRunOfDrawings;
+}
+
+abbrev pub decreases-loop-count : goal.decreases-loop-count
+decreases-loop-count g l = l.count

@@ -1,0 +1,24 @@
+use Rattle.std.proofs.Common.{◌≡◌, ◌≤◌, ◌<◌, ◌⊎◌}
+use Rattle.plan_core.specs.Values.{values_of, value_of}
+use Rattle.search_least.specs.Task.{IsLawful}
+use Rattle.refute_log.specs.Steps.{Continues}
+use Rattle.search_least.specs.Reached.{Run}
+use Rattle.search_least.proofs.lowering.lower.Given as goal
+
+abbrev pub invariant-loop-value : goal.invariant-loop-value
+invariant-loop-value g l = let o = g.O.Oracle in record {
+  value : l.value ≡ value_of (values_of l.best) l.c;
+  task : o.task l.oracle ≡ o.task l.fn.oracle;
+  caps : o.caps l.oracle ≡ o.caps l.fn.oracle;
+  vars : o.vars l.oracle ≡ o.vars l.fn.oracle;
+  ready : o.ready l.oracle;
+  lawful : IsLawful (o.task l.fn.oracle) l.best;
+  less : (l.best ≡ l.fn.best) ⊎ (l.value < value_of (values_of l.fn.best) l.c);
+  bound : l.value ≤ o.caps l.fn.oracle l.c;
+  later : o.is_later l.fn.oracle l.oracle;
+  faults : o.faults l.fn.oracle ≤ o.faults l.oracle;
+  lines : Continues o.knows o.log o.learnt l.fn.oracle l.oracle (Run (o.task l.fn.oracle) l.order l.i l.held l.fn.best l.best);
+}
+
+abbrev pub decreases-loop-value : goal.decreases-loop-value
+decreases-loop-value g l = l.value

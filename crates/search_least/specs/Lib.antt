@@ -1,0 +1,12 @@
+pub mod Task
+pub mod Asked
+pub mod Placed
+pub mod Reached
+pub mod Built
+pub mod Caps
+pub mod State
+pub mod Outcome
+pub mod CountTask
+pub mod CountAsked
+pub mod Fewest
+pub mod Run

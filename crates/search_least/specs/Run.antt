@@ -1,0 +1,21 @@
+-- What is so in between two questions.
+use Rattle.std.specs.Prelude.{◌≡◌, List, [], ◌++◌, Contains}
+use Rattle.cnf_core.specs.Lit.{Literal}
+use Rattle.refute_log.specs.declared.line.LogLine.TheVariants.{Refuted}
+use Rattle.refute_log.specs.Told.{Lines}
+use Rattle.refute_log.specs.Log.{clause_lines}
+use Rattle.search_least.specs.declared.fewest.Fewest.{Fewest}
+use Rattle.search_least.specs.CountTask.{CountTask}
+use Rattle.search_least.specs.Fewest.{IsEnd}
+
+-- no line refutes anything
+abbrev pub RefutesNothing : Lines → Type 0
+RefutesNothing lines = (clause : List Literal) → Contains lines (Refuted clause) → ⊥
+
+-- a run of questions with drawings as answers tells no clauses, and refutes nothing
+abbrev pub IsRunOfDrawings : Lines → Lines → Type 0
+IsRunOfDrawings lines more = (clause_lines more ≡ []) × (RefutesNothing lines → RefutesNothing (lines ++ more))
+
+-- and so does one to this end
+abbrev pub IsRunToEnd : CountTask → Fewest → Lines → Lines → Type 0
+IsRunToEnd p outcome lines more = (clause_lines more ≡ []) × (RefutesNothing lines → IsEnd p outcome (lines ++ more))

@@ -1,0 +1,4 @@
+pub mod TellLemmas
+pub mod MovedLemmas
+pub mod StartLemmas
+pub mod MovedDrawingLemmas

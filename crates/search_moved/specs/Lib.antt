@@ -1,0 +1,5 @@
+pub mod Known
+pub mod Query
+pub mod Told
+pub mod Search
+pub mod MovedFormula

@@ -1,0 +1,87 @@
+// What is asked: the drawings' clauses, a solver and a log, as one thing.
+ghost use Rattle.std.specs.Prelude.{◌≡◌, ◌≤◌, ◌++◌, [], ℕ, OnOk, OnErr, IfOk, IsErrOf, length, map};
+ghost use Rattle.outside_io.specs.Counts.{Rose};
+ghost use Rattle.refute_log.specs.Told.{Lines};
+ghost use Rattle.refute_log.specs.declared.line.LogLine.TheVariants.{Formula};
+ghost use Rattle.refute_log.specs.Log.{Derives, Due, clause_lines};
+ghost use Rattle.search_why.specs.Task.{Task};
+ghost use Rattle.refute_log.specs.Steps.{Continues, Leaves};
+ghost use Rattle.search_why.specs.Asked.{AreLawPlaces, IsRightReply, TellsReply};
+
+use crate::WhyFault;
+use plan_core::Items;
+use plan_geometry::Drawing;
+use refute_log::Stop;
+
+/// The answer to a question.
+#[derive(Drop)]
+pub enum Reply {
+    /// A loose drawing that meets the laws.
+    Found(Drawing),
+    /// There is none: these of the places can't be met together.
+    Refuted(Items<u32>),
+    /// The search stopped.
+    Stopped(Stop),
+}
+
+/// The clauses of loose drawings with laws to choose in a solver, and a log to which all is told. After an error it
+/// isn't used further.
+pub trait LawOracle {
+    /// What is searched.
+    ghost task: { Self → Task };
+
+    /// It can be asked.
+    ghost ready: { Self → Type 0 };
+
+    /// The lines that were told since the start: they belong to the solver and to the clauses.
+    ghost knows: { Self → Lines → Type 0 };
+
+    /// What the log tells.
+    ghost log: { Self → Lines → Type 0 };
+
+    /// How many Learnt lines the log was told.
+    ghost learnt: { Self → ℕ };
+
+    /// How many faults the log had.
+    ghost faults: { Self → ℕ };
+
+    /// The second's log is a later state of the first's.
+    ghost is_later: { Self → Self → Type 0 };
+
+    /// How many laws there are to choose.
+    fn laws(&self) -> u32
+        requires { ready self.now }
+        ensures { result ≡ length (task self.now).laws };
+
+    /// Asks for a loose drawing that meets the laws at these places.
+    fn ask(&mut self, wanted: &[u32]) -> Result<Reply, WhyFault>
+        requires ready { ready self.old }
+        requires places { AreLawPlaces (task self.old) wanted.now }
+        ensures right { IfOk result (IsRightReply (task self.old) wanted.now) }
+        ensures lines { IfOk result (λ r. Continues knows log learnt self.old self.new (λ lines more.
+            TellsReply (task self.old) r (lines ++ more))) }
+        ensures leaves { OnErr result (Leaves [] (knows self.old) (log self.old) (log self.new)) }
+        ensures ready { OnOk result (ready self.new) }
+        ensures task { task self.new ≡ task self.old }
+        ensures later { is_later self.old self.new }
+        ensures faults { faults self.old ≤ faults self.new }
+        ensures cause { IsErrOf result WhyFault.Log → Rose (faults self.old) (faults self.new) };
+
+    /// The lines that are known derive.
+    ghost derives: { (s : Self) (lines : Lines) → knows s lines → Derives lines };
+
+    /// Each Learnt line of them is due.
+    ghost due: { (s : Self) (lines : Lines) → knows s lines → Due lines };
+
+    /// Their Formula lines are the task's clauses, and they have no Bound line.
+    ghost gives: { (s : Self) (lines : Lines) → knows s lines → clause_lines lines ≡ map Formula (task s).clauses };
+
+    /// A log tells one list at most.
+    ghost one_reading: { (s : Self) (a b : Lines) → log s a → log s b → a ≡ b };
+
+    /// Each state is a later state of itself.
+    ghost later_same: { (s : Self) → is_later s s };
+
+    /// What is later than a later state is later.
+    ghost later_more: { (a b c : Self) → is_later a b → is_later b c → is_later a c };
+}

@@ -1,3 +1,0 @@
-pub mod SettledLemmas
-pub mod VerdictLemmas
-pub mod CheckedLemmas

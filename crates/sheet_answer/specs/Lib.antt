@@ -1,4 +1,0 @@
-pub mod Verdict
-pub mod CheckLine
-pub mod Checked
-pub mod CertifiedSheet

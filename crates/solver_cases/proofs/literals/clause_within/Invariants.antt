@@ -1,5 +1,0 @@
-use Rattle.cnf_core.specs.Clause.{AreDistinct, AreThere}
-use Rattle.solver_cases.proofs.literals.clause_within.Given as goal
-
-abbrev pub invariant-loop-l : goal.invariant-loop-l
-invariant-loop-l l = AreDistinct l.lits.items × AreThere l.vars l.lits.items

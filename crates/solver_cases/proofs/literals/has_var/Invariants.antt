@@ -1,6 +1,0 @@
-use Rattle.std.proofs.Common.{◌≢◌, take}
-use Rattle.std.specs.Prelude.{All}
-use Rattle.solver_cases.proofs.literals.has_var.Given as goal
-
-abbrev pub invariant-loop-k : goal.invariant-loop-k
-invariant-loop-k l = All (λ k. k.var ≢ l.l.var) (take l.k-index l.lits)

@@ -1,6 +1,0 @@
-use Rattle.std.specs.Prelude.{All}
-use Rattle.cnf_core.specs.Clause.{IsNamed}
-use Rattle.solver_cases.proofs.queries.assumptions.Given as goal
-
-abbrev pub invariant-loop-number : goal.invariant-loop-number
-invariant-loop-number l = All (λ k. IsNamed l.solver.clauses k.var) l.held.items

@@ -1,6 +1,0 @@
-use Rattle.std.proofs.Common.{◌+◌}
-use Rattle.topology_faults.specs.Telling.{HasNoneBelow}
-use Rattle.topology_faults.proofs.finding.first_finding.Given as goal
-
-abbrev pub invariant-loop-what : goal.invariant-loop-what
-invariant-loop-what l = HasNoneBelow l.rows (l.what-index + 1)

@@ -1,5 +1,0 @@
-use Rattle.topology_faults.proofs.LawLemmas.{one_first_fault}
-use Rattle.topology_faults.proofs.laws.one_fault.Goals as goal
-
-pub returns : goal.returns
-returns c = one_first_fault

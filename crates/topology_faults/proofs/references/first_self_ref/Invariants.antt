@@ -1,6 +1,0 @@
-use Rattle.topology_faults.specs.Faults.{RefersToItself}
-use Rattle.plan_core.specs.Searching.{NoneBefore}
-use Rattle.topology_faults.proofs.references.first_self_ref.Given as goal
-
-abbrev pub invariant-loop-i : goal.invariant-loop-i
-invariant-loop-i l = NoneBefore (λ _ row. RefersToItself row) l.rows l.i
