@@ -1,0 +1,167 @@
+"""The parts of THEOREM.md that are made from the sources: the clause, its rows, the words of the best drawing, what the rest
+rests on, and the picture of the way from bytes to the best drawing."""
+import re
+import textwrap
+from functools import cache
+from html import escape
+
+from checking.crates import TOP, crates, head, imported_words, module_of, read, spec_files, words_of
+
+PAGE = TOP / "THEOREM.md"
+PICTURE = TOP / "docs" / "made" / "theorem.svg"
+RUN = TOP / "crates" / "schematic_main" / "src" / "running.rt"
+ROWS, BEST = ("schematic_main", "So"), ("plan_core", "Values", "IsBest")
+STATION = ("run_input", "Input", "HasStation")
+
+# the way from bytes to the best drawing: a definition, and what it says in a few words
+WAY = [(("run_input", "Input", "HasRows"), "the bytes are read as rows"),
+       (("run_input", "Input", "HasTopology"), "the rows are a topology"),
+       (("run_input", "Input", "HasGraph"), "the topology has a track graph"),
+       (STATION, "no two edges contradict each other"),
+       (("schematic_main", "So", "OfStation"), "the file has this station"),
+       (("plan_core", "Lawful", "Lawful"), "a drawing meets the seven laws"),
+       (("plan_core", "Values", "values_of"), "what it measures"),
+       (("plan_core", "Values", "Better"), "which of two is better"),
+       (BEST, "lawful, and none is better"),
+       (("schematic_main", "So", "IsTextOf"), "the text of its sheet"),
+       (("schematic_main", "So", "DrawIsSo"), "what draw prints with 0"),
+       (("schematic_main", "So", "IsSoFor"), "what a run prints is true")]
+
+
+@cache
+def words():
+    """Each public definition of specs/, by its crate, file and name."""
+    return {(word.crate, word.module, word.name): word for crate in crates() for word in words_of(crate)}
+
+
+@cache
+def imports():
+    return {(crate, module_of(crate, path)): imported_words(read(path)) for crate in crates() for path in spec_files(crate)}
+
+
+def behind(key):
+    """The definitions that a definition names, in the order in which it names them."""
+    crate, module, _ = key
+    named = re.findall(r"(?<![.\w])[A-Za-z_][\w'-]*", words()[key].text)
+    found = (imports()[crate, module].get(name, (crate, module, name)) for name in named)
+    return list(dict.fromkeys(other for other in found if other in words() and other != key))
+
+
+def resting_on(*keys):
+    """The definitions on which these rest, and they, each behind those that it names."""
+    found, seen = [], set()
+
+    def visit(key):
+        if key not in seen:
+            seen.add(key)
+            for other in behind(key):
+                visit(other)
+            found.append(key)
+    for key in keys:
+        visit(key)
+    return found
+
+
+def body_of(path):
+    """A file of specs/ without its imports."""
+    lines = [line for line in read(path).splitlines() if not re.match(r"(pub )?use ", line)]
+    return re.sub(r"\n{3,}", "\n\n", "\n".join(lines)).strip().splitlines()
+
+
+def spec_path(crate, module):
+    return TOP / "crates" / crate / "specs" / (module.replace(".", "/") + ".antt")
+
+
+def clause_lines():
+    """The clause as it stands on the call."""
+    text = read(RUN)
+    clause = re.search(r"^    // What a run that .*?\n(    ensures so \{.*?\}\n)(?=    //)", text, re.M | re.S)
+    call = re.search(r"^pub fn run<.*?\n\) -> u8\n", text, re.M | re.S)
+    return ["```", *call.group(0).rstrip().splitlines(), *clause.group(0).rstrip().splitlines(), "```"]
+
+
+def row_lines():
+    return ["```", *body_of(spec_path(*ROWS)), "```"]
+
+
+def best_lines():
+    """The definitions on which IsBest rests, file by file, each with its remark."""
+    files, lines = {}, []
+    for key in resting_on(BEST):
+        files.setdefault(key[:2], []).append(key)
+    for (crate, module), keys in sorted(files.items(), key=lambda file: min(order_of(file[0]))):
+        lines += ["", f"`crates/{crate}/specs/{module}.antt`", "", "```"]
+        whole = [key for key in words() if key[:2] == (crate, module) and key in keys]
+        for key in whole:
+            remark = textwrap.wrap(words()[key].remark, 116)
+            lines += [*(f"-- {line}" for line in remark), *words()[key].text.rstrip().splitlines(), ""]
+        lines[-1] = "```"
+    return lines[1:]
+
+
+def order_of(file):
+    """The places at which a file's definitions come among those of IsBest."""
+    return [place for place, key in enumerate(resting_on(BEST)) if key[:2] == file]
+
+
+def rest_lines():
+    """What the rows rest on besides, file by file: what the file defines, and the names."""
+    whole = set(resting_on(BEST))
+    roots = [key for key in words() if key[:2] == ROWS]
+    files = {}
+    for key in resting_on(*roots):
+        if key not in whole and key[:2] != ROWS:
+            files.setdefault(key[:2], []).append(key[2])
+    lines = []
+    for (crate, module), names in files.items():
+        said = re.split(r"(?<=\.) ", head(read(spec_path(crate, module)), "--"))[0]
+        entry = f"- {said} (`crates/{crate}/specs/{module.replace('.', '/')}.antt`): {', '.join(f'`{name}`' for name in names)}"
+        lines += textwrap.wrap(entry, 118, subsequent_indent="  ", break_long_words=False, break_on_hyphens=False)
+    return lines
+
+
+def count_lines():
+    """How much there is to read."""
+    rows = [key for key in words() if key[:2] == ROWS]
+    counted = [("the rows of all commands", rows), ("of these, `draw`", [(*ROWS, "DrawIsSo")]),
+               ("of these, a station read from a file", [STATION]), ("of these, the best drawing", [BEST])]
+    lines = ["| what | definitions | lines | files |", "|---|---|---|---|"]
+    for said, roots in counted:
+        found = resting_on(*roots)
+        size = sum(words()[key].text.rstrip().count("\n") + 1 for key in found)
+        lines.append(f"| {said} | {len(found)} | {size} | {len({key[:2] for key in found})} |")
+    return lines
+
+
+def picture():
+    """The way from bytes to the best drawing, a box for each definition."""
+    wide, high, gap, across = 250, 58, 26, 3
+    rows = (len(WAY) + across - 1) // across
+    width, height = across * (wide + gap) + gap, rows * (high + gap) + gap
+    found = [f'<svg xmlns="http://www.w3.org/2000/svg" viewBox="0 0 {width} {height}" width="{width}" height="{height}" '
+             'font-family="sans-serif">',
+             "<title>The way from a file's bytes to the best drawing</title>",
+             f'<rect width="{width}" height="{height}" fill="white"/>']
+    middles = []
+    for number, (key, said) in enumerate(WAY):
+        row, place = divmod(number, across)
+        place = place if row % 2 == 0 else across - 1 - place
+        x, y = gap + place * (wide + gap), gap + row * (high + gap)
+        middles.append((x + wide / 2, y + high / 2))
+        found += [f'<rect x="{x}" y="{y}" width="{wide}" height="{high}" rx="6" fill="#eef3f8" stroke="#446"/>',
+                  f'<text x="{x + 12}" y="{y + 22}" font-size="15" font-weight="bold">{escape(key[2])}</text>',
+                  f'<text x="{x + 12}" y="{y + 38}" font-size="12">{escape(said)}</text>',
+                  f'<text x="{x + 12}" y="{y + 52}" font-size="10" fill="#556">{escape(key[0])}/specs/{escape(key[1])}</text>']
+    for (x, y), (to_x, to_y) in zip(middles, middles[1:]):
+        if y == to_y:
+            step = 1 if to_x > x else -1
+            begin, end, at = x + step * wide / 2, to_x - step * wide / 2, y
+            found.append(f'<path d="M{begin} {at}H{end}m{-6 * step} -4l{6 * step} 4l{-6 * step} 4" fill="none" stroke="#446"/>')
+        else:
+            found.append(f'<path d="M{x} {y + high / 2}V{to_y - high / 2}m-4 -6l4 6l4 -6" fill="none" stroke="#446"/>')
+    return "\n".join([*found, "</svg>"]) + "\n"
+
+
+def all_failures():
+    """Definitions of the picture that aren't there."""
+    return [f"docs/checking/theorem.py: there is no {'.'.join(key)}" for key, _ in WAY if key not in words()]
