@@ -5,7 +5,7 @@ import textwrap
 from functools import cache
 from html import escape
 
-from checking.crates import TOP, crates, head, imported_words, module_of, read, spec_files, words_of
+from checking.crates import TOP, crates, handed_on, head, imported_words, module_of, read, spec_files, words_of
 
 PAGE = TOP / "THEOREM.md"
 PICTURE = TOP / "docs" / "made" / "theorem.svg"
@@ -39,11 +39,20 @@ def imports():
     return {(crate, module_of(crate, path)): imported_words(read(path)) for crate in crates() for path in spec_files(crate)}
 
 
+@cache
+def files_named(crate, module):
+    """The files of specs/ that a file imports whole, by the names that it gives them."""
+    found = re.findall(r"^use Rattle\.(\w+)\.specs\.(\w+) as (\w+)$", read(spec_path(crate, module)), re.M)
+    return {name: handed_on().get((other, file), (other, file)) for other, file, name in found}
+
+
 def behind(key):
     """The definitions that a definition names, in the order in which it names them."""
     crate, module, _ = key
-    named = re.findall(r"(?<![.\w])[A-Za-z_][\w'-]*", words()[key].text)
-    found = (imports()[crate, module].get(name, (crate, module, name)) for name in named)
+    found = []
+    for file, name in re.findall(r"(?<![.\w])(?:(\w+)\.)?([A-Za-z_][\w'-]*)", words()[key].text):
+        other = files_named(crate, module).get(file)
+        found.append((*other, name) if other else imports()[crate, module].get(name, (crate, module, name)))
     return list(dict.fromkeys(other for other in found if other in words() and other != key))
 
 
@@ -81,7 +90,39 @@ def clause_lines():
 
 
 def row_lines():
-    return ["```", *body_of(spec_path(*ROWS)), "```"]
+    """The file of the rows: the imports that give other names, and all definitions."""
+    path = spec_path(*ROWS)
+    renamed = [line for line in read(path).splitlines() if line.startswith("use ") and " as " in line]
+    return ["```", *renamed, "", *body_of(path), "```"]
+
+
+def status_lines():
+    """With which statuses each command prints an answer: its rows that aren't the last, which is never so."""
+    text, names = read(spec_path(*ROWS)), ["Done", "NoDrawing", "Unfinished", "Broken", "Refused", "Unread"]
+    lines, found = ["| rows of | 0 | 3 | 4 | 8 | 1 | 5 |", "|---|---|---|---|---|---|---|"], {}
+    for row in re.findall(r"^abbrev pub (\w+(?:IsSo|AreSo)) :", text, re.M):
+        as_in = re.search(rf"^{row} .*\bstatus text = (\w+)", text, re.M)
+        found[row] = {name for name in names if re.search(rf"^{row} .*\b{name} text =", text, re.M)}
+        found[row] |= found.get(as_in.group(1), set()) if as_in else set()
+        if found[row]:
+            lines.append(f"| `{row}` | " + " | ".join("yes" if name in found[row] else "" for name in names) + " |")
+    return lines
+
+
+def type_lines():
+    """The types of the code that the rows and the best drawing name, as the sources declare them, without remarks."""
+    files = dict.fromkeys([ROWS, *(key[:2] for key in resting_on(BEST))])
+    named = [found for crate, module in files
+             for found in re.findall(r"use Rattle\.(\w+)\.specs\.declared\.(\w+)\.(\w+)\.", read(spec_path(crate, module)))]
+    lines = []
+    for crate, module, name in (it for it in dict.fromkeys(named) if it[0] in crates()):
+        text = read(TOP / "crates" / crate / "src" / f"{module}.rt")
+        kept = "\n".join(line for line in text.splitlines() if line.strip() and not re.match(r"\s*(//|#\[)", line))
+        found = re.search(rf"^pub (?:struct|enum) {name}\b[^;]*?^}}$", kept, re.M | re.S)
+        if found:
+            flat = re.sub(r"\s+", " ", found.group(0)).replace("( ", "(").replace(", }", " }")
+            lines += textwrap.wrap(flat, 116, subsequent_indent="    ", break_long_words=False) if "ghost" not in flat else []
+    return ["```", *lines, "```"]
 
 
 def best_lines():
