@@ -20,6 +20,8 @@ holds that program.
 Nothing here judges what the program judges. `fault` is for the time before a program is there, and a test holds it to the
 program's own answers.
 """
+from __future__ import annotations
+
 from dataclasses import dataclass, field
 
 
