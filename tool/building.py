@@ -12,8 +12,8 @@ import subprocess
 from tool import built
 from tool.saying import end, say, why
 
-NO_RT = ("the Rattle toolchain's command rt isn't on the PATH. It comes with the Rattle kit: unpack the kit, and put its folder "
-         "with rt on the PATH; README.md names the kit that this version was proved with")
+NO_RT = ("the Rattle toolchain's command rt isn't on the PATH. It comes with the Rattle kit: unpack the kit, and add its folder "
+         "with rt to the PATH; README.md names the kit that this version was proved with")
 
 
 def need_rt() -> str:

@@ -33,6 +33,9 @@ def answer_unrun(line: words.Line) -> None:
 
 def tell(line: words.Line, ran: running.Ran) -> None:
     """says what a run's end means, where that isn't what was asked for"""
+    if ran.status:
+        from tool import telling
+        telling.tell(line, ran)
 
 
 def run_unproved(clone: built.Clone, line: words.Line) -> None:
@@ -71,7 +74,7 @@ def run_program(clone: built.Clone, line: words.Line) -> running.Ran:
     return running.run(clone.program, line.words)
 
 
-def put(line: words.Line, ran: running.Ran) -> int:
+def hand_on(line: words.Line, ran: running.Ran) -> int:
     """hands on what a run printed, says what it means, and ends as it ended"""
     if not ran.was_stopped:
         write_output(ran.output)
@@ -113,7 +116,7 @@ def run(clone: built.Clone, given: list[str]) -> int:
     if line.is_unproved:
         run_unproved(clone, line)
     fresh(clone, line)
-    return put(line, run_program(clone, line))
+    return hand_on(line, run_program(clone, line))
 
 
 def own(clone: built.Clone, line: words.Line, given: list[str]) -> int:

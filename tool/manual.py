@@ -48,11 +48,11 @@ def table(rows: list[tuple[str, str]], front: int, column: int) -> list[str]:
     lines = []
     for word, said in rows:
         left = " " * front + word
-        told = textwrap.wrap(said, COLUMNS - column, break_on_hyphens=False)
+        wrapped = textwrap.wrap(said, COLUMNS - column, break_on_hyphens=False)
         if len(left) > column - 2:
             lines.append(left)
             left = ""
-        lines += [left.ljust(column) + told[0]] + [" " * column + it for it in told[1:]] if told else [left] * bool(left)
+        lines += [left.ljust(column) + wrapped[0]] + [" " * column + it for it in wrapped[1:]] if wrapped else [left] * bool(left)
     return lines
 
 

@@ -110,7 +110,7 @@ class Watch:
     """Shows each second how far a run is, on a terminal"""
 
     def __init__(self, line: words.Line, log: str):
-        self.line, self.log = line, Log(log) if log else None
+        self.line, self.log, self.is_shown = line, Log(log) if log else None, False
 
     def text(self, seconds: float) -> str:
         if not self.log:
@@ -122,12 +122,14 @@ class Watch:
                 f"{seconds:.0f} s")
 
     def show(self, seconds: float) -> None:
+        self.is_shown = True
         width = shutil.get_terminal_size((100, 24)).columns - 1
         text = f"railplan: {self.text(seconds)}"
         write_error("\r" + (text if len(text) <= width else text[:max(0, width - 1)] + "…") + "\033[K")
 
     def clear(self) -> None:
-        write_error("\r\033[K")
+        if self.is_shown:
+            write_error("\r\033[K")
 
 
 def own_log() -> str:
@@ -155,7 +157,7 @@ def run_watched(program: str, line: words.Line) -> running.Ran:
         ran = running.run(program, line.words + ["--log", own] * bool(own), watch.show)
         if ran.status == 6 and own:
             os.unlink(own)
-            watch, own = Watch(line, ""), ""
+            watch.log, own = None, ""
             ran = running.run(program, line.words, watch.show)
         if ran.was_stopped and watch.log:
             watch.log.follow()

@@ -5,8 +5,8 @@
     COMMANDS, OPTIONS, PAGE_WORDS   the tables, by word; PAGED names the commands that have pages
     line = words.read(list)         a command line, taken apart; page words count before and behind the command
     line.command                    its command, or ""
-    line.names, line.options        what stands at its names, in their order; what stands behind each option, by the option
-    line.pages                      what stands behind each page word, by the page word: {"--html": "p.html"}
+    line.names, line.options        its names, in their order; the value of each option, by the option
+    line.pages                      the value of each page word, by the page word: {"--html": "p.html"}
     line.files_read, line.files_written     the names of files, as File: its word, what it is (kind), where (option or name)
     line.words                      the words that the program gets: those without page words and `--unproved`
     line.in_order()                 page words and `--unproved` first, then the program's words
@@ -219,7 +219,7 @@ class Line:
 
     @property
     def options(self) -> dict[str, str]:
-        """what stands behind each option; of one that comes again the first"""
+        """the value of each option; of one that comes again the first"""
         return {word: self.words[at + 1] for word, at in parts(self.words)[1].items() if at + 1 < len(self.words)}
 
     @property
@@ -254,7 +254,7 @@ class Line:
 
 
 def parts(words: list[str]) -> tuple[list[int], dict[str, int]]:
-    """the places of the names and of the options of a command's words; an option's value stands behind it"""
+    """the places of the names and of the options of a command's words; the word behind an option is its value"""
     names: list[int] = []
     options: dict[str, int] = {}
     at = 1
@@ -269,7 +269,7 @@ def parts(words: list[str]) -> tuple[list[int], dict[str, int]]:
 
 
 def read(given: list[str]) -> Line:
-    """takes a command line apart. What stands behind a program's option is its value, whatever it is"""
+    """takes a command line apart. The word behind a program's option is its value, whatever it is"""
     line, at, has_command = Line(), 0, False
     while at < len(given):
         word = given[at]
