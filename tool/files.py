@@ -98,30 +98,54 @@ def refuse_unwritable(line: words.Line) -> None:
             end(6, f"{what}: you haven't the right to make files in {folder}. Name another file")
 
 
-def lock(line: words.Line) -> list[int]:
+def lock(line: words.Line) -> dict[str, int]:
     """holds the files that are written for this run alone, as long as the handles are open: two runs that write one file at a
     time would leave neither's. Where there is a page, the run that it starts holds the others"""
-    held: list[int] = []
+    held: dict[str, int] = {}
     written = [it for it in line.files_written if it.at < 0 or not line.pages]
     folder = lock_folder() if written else ""
     for it in written if folder else []:
         there = state_of(it.word)
         if there is not None and not stat.S_ISREG(there.st_mode):
             continue
-        import fcntl
         import hashlib
-        name = hashlib.sha256(os.fsencode(os.path.realpath(it.word))).hexdigest()
+        path = f"{folder}/{hashlib.sha256(os.fsencode(os.path.realpath(it.word))).hexdigest()}"
+        handle = hold(path)
+        if handle is None:
+            end(2, f"another run is writing {it.word}. Wait for its end, or name another file")
+        if handle >= 0:
+            os.set_inheritable(handle, bool(line.pages or line.is_unproved))
+            held[path] = handle
+    return held
+
+
+def hold(path: str) -> int | None:
+    """the handle of a lock that is ours, -1 where there can be none, or nothing where another run has it"""
+    import fcntl
+    while True:
         try:
-            handle = os.open(f"{folder}/{name}", os.O_RDWR | os.O_CREAT | os.O_NOFOLLOW, 0o600)
+            handle = os.open(path, os.O_RDWR | os.O_CREAT | os.O_NOFOLLOW, 0o600)
         except OSError:
-            continue
+            return -1
         try:
             fcntl.flock(handle, fcntl.LOCK_EX | fcntl.LOCK_NB)
         except OSError:
-            end(2, f"another run is writing {it.word}. Wait for its end, or name another file")
-        os.set_inheritable(handle, bool(line.pages or line.is_unproved))
-        held.append(handle)
-    return held
+            os.close(handle)
+            return None
+        there = state_of(path)
+        if there and os.path.samestat(there, os.fstat(handle)):
+            return handle
+        os.close(handle)
+
+
+def release(held: dict[str, int]) -> None:
+    """takes locks away; who opens one meanwhile sees that it is gone"""
+    for path, handle in held.items():
+        try:
+            os.unlink(path)
+        except OSError:
+            pass
+        os.close(handle)
 
 
 def lock_folder() -> str:

@@ -104,13 +104,21 @@ def run(clone: built.Clone, given: list[str]) -> int:
         os.getcwd()
     except OSError:
         end(10, "the current folder isn't there any more. Go to another one: cd ~")
-    held = []
     if line.lacking:
         end(2, f"behind {line.lacking} its value is missing: {called()} {line.lacking} {words.PAGE_WORDS[line.lacking].value} "
                f"{' '.join(line.words) or 'draw FILE'}")
+    held = {}
     if not words.fault(line.words):
         files.look(line)
         held = files.lock(line)
+    try:
+        return run_words(clone, line)
+    finally:
+        files.release(held)
+
+
+def run_words(clone: built.Clone, line: words.Line) -> int:
+    """runs the program's words, by way of pages where page words are among them"""
     if line.pages:
         page(clone, line)
     if line.is_unproved:
