@@ -8,49 +8,34 @@ by its time, as of a build with `rt`, and nothing is said to be proved of it.
 from __future__ import annotations
 
 import os
-from dataclasses import dataclass, field
 
 TITLE = "railplan-built 1"
 PROGRAM = "crates/railplan_main/out/railplan_main"
 
 
-@dataclass
 class Clone:
     """The folders of a clone."""
-    top: str
 
-    @property
-    def crate(self) -> str:
-        return f"{self.top}/crates/railplan_main"
-
-    @property
-    def out(self) -> str:
-        return f"{self.crate}/out"
-
-    @property
-    def program(self) -> str:
-        return f"{self.top}/{PROGRAM}"
-
-    @property
-    def built_list(self) -> str:
-        return f"{self.out}/built"
+    def __init__(self, top: str):
+        self.top = top
+        self.crate = f"{top}/crates/railplan_main"
+        self.out = f"{self.crate}/out"
+        self.program = f"{top}/{PROGRAM}"
+        self.built_list = f"{self.out}/built"
 
 
-@dataclass
 class Built:
     """What is known of the program: whether it can be run as it is, why not, whether it was proved, and what made it."""
-    is_fresh: bool
-    reason: str = ""
-    is_proved: bool = False
-    sha256: str = ""
-    kit: str = ""
+
+    def __init__(self, is_fresh: bool, reason: str = "", is_proved: bool = False, sha256: str = "", kit: str = ""):
+        self.is_fresh, self.reason, self.is_proved, self.sha256, self.kit = is_fresh, reason, is_proved, sha256, kit
 
 
-@dataclass
 class Listed:
     """The list: what made the program, and of each path its state and its SHA-256; of a folder the names of its sources."""
-    kit: str = ""
-    states: dict[str, tuple[str, str]] = field(default_factory=dict)
+
+    def __init__(self, kit: str, states: dict[str, tuple[str, str]]):
+        self.kit, self.states = kit, states
 
 
 def state_of(path: str) -> str:
@@ -91,13 +76,10 @@ def folders_of(clone: Clone) -> list[str]:
     found, left = [], [f"crates/{name}" for name in sorted(crates_of(clone), reverse=True)]
     while left:
         folder = left.pop()
-        try:
-            with os.scandir(f"{clone.top}/{folder}") as entries:
-                below = sorted(it.name for it in entries if it.is_dir() and it.name not in ("out", "must-fail"))
-        except OSError:
-            continue
-        found.append(folder)
-        left += [f"{folder}/{name}" for name in reversed(below)]
+        if os.path.isdir(f"{clone.top}/{folder}"):
+            found.append(folder)
+            below = [it for it in names_in(f"{clone.top}/{folder}").split("/") if it and not is_source(it)]
+            left += [f"{folder}/{name}" for name in reversed(below)]
     return found
 
 
@@ -141,11 +123,11 @@ def read_list(clone: Clone) -> Listed | None:
             lines = it.read().split("\n")
         if lines[0] != TITLE or not lines[1].startswith("kit ") or lines[-1]:
             return None
-        listed = Listed(lines[1][4:])
+        states = {}
         for line in lines[2:-1]:
             path, state, known = line.split("\t")
-            listed.states[path] = (state, known)
-        return listed
+            states[path] = (state, known)
+        return Listed(lines[1][4:], states)
     except (OSError, ValueError, IndexError):
         return None
 
@@ -173,15 +155,30 @@ def differing(clone: Clone, listed: Listed) -> str:
     return ""
 
 
-def is_older(clone: Clone) -> str:
-    """of a program without a list, the first source that is younger than it"""
+def younger(folder: str, built: float) -> str:
+    """a source in a folder that is younger than the program"""
+    below = []
+    with os.scandir(folder) as entries:
+        for it in entries:
+            if is_source(it.name):
+                if it.stat().st_mtime > built:
+                    return it.path
+            elif it.name not in ("out", "must-fail") and it.is_dir():
+                below.append(it.path)
+    return next((found for it in below if (found := younger(it, built))), "")
+
+
+def changed_since(clone: Clone) -> str:
+    """of a program without a list, a source that is younger than it"""
     built = os.stat(clone.program).st_mtime
-    for folder in folders_of(clone):
-        with os.scandir(f"{clone.top}/{folder}") as entries:
-            for it in entries:
-                if is_source(it.name) and it.stat().st_mtime > built:
-                    return f"{folder}/{it.name}"
-    return "crates.txt" if os.stat(f"{clone.top}/crates.txt").st_mtime > built else ""
+    if os.stat(f"{clone.top}/crates.txt").st_mtime > built:
+        return "crates.txt"
+    for name in crates_of(clone):
+        folder = f"{clone.top}/crates/{name}"
+        found = younger(folder, built) if os.path.isdir(folder) else ""
+        if found:
+            return found[len(clone.top) + 1:]
+    return ""
 
 
 def find(clone: Clone) -> Built:
@@ -193,7 +190,7 @@ def find(clone: Clone) -> Built:
         changed = differing(clone, listed)
         reason = f"{changed.rstrip('/')} isn't as it was when the program was built" if changed else ""
         return Built(not changed, reason, not changed, listed.states[PROGRAM][1], listed.kit)
-    changed = is_older(clone)
+    changed = changed_since(clone)
     return Built(not changed, f"{changed} is younger than the program" if changed else "")
 
 

@@ -48,8 +48,7 @@ def refuse_output(line: words.Line) -> None:
     for it in line.files_read + line.files_written:
         there = state_of(it.word)
         if there and os.path.samestat(there, out):
-            done = "reads. The shell has emptied it by now" if it in line.files_read and not out.st_size else \
-                "reads" if it in line.files_read else "writes"
+            done = "writes" if it.is_written else "reads" if out.st_size else "reads. The shell has emptied it by now"
             end(2, f"standard output goes into {it.word}, which this run {done}. Name another file behind >")
 
 

@@ -45,7 +45,7 @@ def run_unproved(clone: built.Clone, line: words.Line) -> None:
     say("without its proofs the program is built anew for each run, in about a minute, and searches a hundred times as long")
     asked = list(line.words)
     command = words.COMMANDS.get(line.command)
-    at_files = {it.at for it, _ in line.files()}
+    at_files = {it.at for it in line.files()}
     if command and command.names[0].is_file:
         at_files.update(at for at in line.places[len(command.names):] if asked[at])
     for at in at_files:

@@ -4,7 +4,6 @@ from __future__ import annotations
 import os
 import signal
 import time
-from dataclasses import dataclass
 
 from tool.saying import end, why
 
@@ -15,13 +14,11 @@ if TYPE_CHECKING:
 STOPPING = (signal.SIGINT, signal.SIGTERM, signal.SIGHUP)
 
 
-@dataclass
 class Ran:
     """How a run ended: its status, what it printed, how long it took, and whether somebody stopped it."""
-    status: int
-    output: bytes
-    seconds: float
-    was_stopped: bool = False
+
+    def __init__(self, status: int, output: bytes, seconds: float, was_stopped: bool = False):
+        self.status, self.output, self.seconds, self.was_stopped = status, output, seconds, was_stopped
 
     @property
     def lines(self) -> list[str]:

@@ -17,63 +17,52 @@ The launcher starts `pages/run.py LAUNCHER WORDS..` where a page word is among t
 RAILPLAN_BUILD, which is `proved SHA256` or `unproved SHA256` of the program. Behind `--unproved` it is `unproved -`: no file
 holds that program.
 
-Nothing here judges what the program judges. `fault` is for the time before a program is there, and a test holds it to the
+The records are plain classes: this module is read before each start of the program, and dataclasses alone would take longer
+to import than all else. Nothing here judges what the program judges. `fault` is for the time before a program is there, and a test holds it to the
 program's own answers.
 """
 from __future__ import annotations
 
-from dataclasses import dataclass, field
 
-
-@dataclass(frozen=True)
 class Name:
     """A name of a command: how help writes it, what it is, and of which kind. A kind of file is read, or written by the run."""
-    word: str
-    what: str
-    kind: str
-    is_written: bool = False
+
+    def __init__(self, word: str, what: str, kind: str, is_written: bool = False):
+        self.word, self.what, self.kind, self.is_written = word, what, kind, is_written
 
     @property
     def is_file(self) -> bool:
         return self.kind in ("railml", "sheet", "log", "hints", "folder")
 
 
-@dataclass(frozen=True)
 class Option:
     """An option: how help writes its value, what it is, and what it takes: a number (low, high, usual), an order, a file of a
-    kind that the run writes, or one of some words."""
-    word: str
-    value: str
-    what: str
-    takes: str
-    low: int = 0
-    high: int = 0
-    usual: str = ""
-    kind: str = ""
-    choices: tuple[str, ...] = ()
+    kind that the run writes, a word, or nothing."""
+
+    def __init__(self, word: str, value: str, what: str, takes: str, low: int = 0, high: int = 0, usual: str = "", kind: str = ""):
+        self.word, self.value, self.what, self.takes = word, value, what, takes
+        self.low, self.high, self.usual, self.kind = low, high, usual, kind
 
     @property
     def is_file(self) -> bool:
         return self.takes == "file"
 
 
-@dataclass(frozen=True)
 class Command:
     """A command: its names, its options, what it does in a line and in more, and whether it may run for long."""
-    word: str
-    names: tuple[Name, ...]
-    options: tuple[str, ...]
-    what: str
-    more: str
-    takes_long: bool = False
+
+    def __init__(self, word: str, names: tuple[Name, ...], options: tuple[str, ...], what: str, more: str,
+                 takes_long: bool = False):
+        self.word, self.names, self.options = word, names, options
+        self.what, self.more, self.takes_long = what, more, takes_long
 
 
-@dataclass(frozen=True)
 class File:
-    """A file that the words name: its word, its kind, and its place among the program's words, from 0. A page word has none."""
-    word: str
-    kind: str
-    at: int = -1
+    """A file that the words name: its word, its kind, whether the run writes it, and its place among the program's words, from
+    0; of a page word it is -1."""
+
+    def __init__(self, word: str, kind: str, is_written: bool, at: int = -1):
+        self.word, self.kind, self.is_written, self.at = word, kind, is_written, at
 
 
 FILE = Name("FILE", "a railML 2 file", "railml")
@@ -181,11 +170,11 @@ FAULTS = {1: "NoCommand", 2: "UnknownCommand", 3: "MissingName", 4: "ExtraWord",
           7: "BadValue"}
 
 
-@dataclass(frozen=True)
 class Fault:
     """A fault of the words: its number, and its position, counted from 1."""
-    number: int
-    position: int
+
+    def __init__(self, number: int, position: int):
+        self.number, self.position = number, position
 
     @property
     def name(self) -> str:
@@ -195,14 +184,15 @@ class Fault:
         return f"words {self.number} {self.name} {self.position}"
 
 
-@dataclass
 class Line:
-    """A command line, taken apart."""
-    words: list[str] = field(default_factory=list)
-    pages: dict[str, str] = field(default_factory=dict)
-    lacking: str = ""
-    is_unproved: bool = False
-    asks_help: bool = False
+    """A command line, taken apart: the program's words, the values of page words, a page word that lacks its value, and whether
+    `--unproved` and `--help` are among the words."""
+
+    def __init__(self, words: list[str] | None = None):
+        self.words: list[str] = words or []
+        self.pages: dict[str, str] = {}
+        self.lacking = ""
+        self.is_unproved = self.asks_help = False
 
     @property
     def command(self) -> str:
@@ -224,26 +214,26 @@ class Line:
 
     @property
     def files_read(self) -> list[File]:
-        return [it for it, is_written in self.files() if not is_written]
+        return [it for it in self.files() if not it.is_written]
 
     @property
     def files_written(self) -> list[File]:
         """the files that the program writes, and those that pages write"""
-        own = [it for it, is_written in self.files() if is_written]
-        return own + [File(name, PAGE_WORDS[word].kind) for word, name in self.pages.items() if PAGE_WORDS[word].is_file and name]
+        return [it for it in self.files() if it.is_written] + \
+            [File(name, PAGE_WORDS[word].kind, True) for word, name in self.pages.items() if PAGE_WORDS[word].is_file and name]
 
-    def files(self) -> list[tuple[File, bool]]:
-        """each file that the program's words name, and whether the run writes it"""
+    def files(self) -> list[File]:
+        """each file that the program's words name"""
         command = COMMANDS.get(self.command)
         if not command:
             return []
         names, options = parts(self.words)
-        found = [(File(self.words[at], name.kind, at), name.is_written)
+        found = [File(self.words[at], name.kind, name.is_written, at)
                  for at, name in zip(names, command.names) if name.is_file and self.words[at]]
         for word in command.options:
             at = options.get(word, len(self.words)) + 1
             if OPTIONS[word].is_file and at < len(self.words) and self.words[at]:
-                found.append((File(self.words[at], OPTIONS[word].kind, at), True))
+                found.append(File(self.words[at], OPTIONS[word].kind, True, at))
         return found
 
     def in_order(self) -> list[str]:
@@ -356,6 +346,6 @@ def fault(words: list[str]) -> Fault | None:
 def equal_names(words: list[str]) -> Fault | None:
     """a file that is written has the name of another file of the run: the later one's place, the least such"""
     files = Line(words).files()
-    places = [max(one.at, other.at) for one, is_written in files for other, _ in files
-              if is_written and one.at != other.at and one.word == other.word]
+    places = [max(one.at, other.at) for one in files for other in files
+              if one.is_written and one.at != other.at and one.word == other.word]
     return Fault(7, min(places) + 1) if places else None
