@@ -171,14 +171,12 @@ def younger(folder: str, built: float) -> str:
 def changed_since(clone: Clone) -> str:
     """of a program without a list, a source that is younger than it"""
     built = os.stat(clone.program).st_mtime
-    if os.stat(f"{clone.top}/crates.txt").st_mtime > built:
-        return "crates.txt"
     for name in crates_of(clone):
         folder = f"{clone.top}/crates/{name}"
         found = younger(folder, built) if os.path.isdir(folder) else ""
         if found:
             return found[len(clone.top) + 1:]
-    return ""
+    return "crates.txt" if os.stat(f"{clone.top}/crates.txt").st_mtime > built else ""
 
 
 def find(clone: Clone) -> Built:

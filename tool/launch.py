@@ -96,8 +96,9 @@ def run(clone: built.Clone, given: list[str]) -> int:
     open_all()
     running.listen()
     line = words.read(given)
-    if line.asks_help or line.command in words.OWN:
-        return own(clone, line, given)
+    if line.asks_help or line.command in words.OWN or line.command == "--version":
+        from tool import own
+        return own.run(clone, line, given)
     if not line.words and not line.pages and not line.lacking:
         return no_words()
     try:
@@ -125,14 +126,6 @@ def run_words(clone: built.Clone, line: words.Line) -> int:
         run_unproved(clone, line)
     fresh(clone, line)
     return hand_on(line, run_program(clone, line))
-
-
-def own(clone: built.Clone, line: words.Line, given: list[str]) -> int:
-    """what the launcher does without the program"""
-    from tool import manual
-    write_output(manual.overview(called()).encode())
-    close_output()
-    return 0
 
 
 def no_words() -> int:

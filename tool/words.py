@@ -105,7 +105,7 @@ COMMANDS = {it.word: it for it in (
             "The last line says how the search ended: `end best`, `end none` where no drawing is lawful on this grid, or "
             "`end conflicts S` where it stopped at its budget.", takes_long=True),
     Command("signals", (FILE,), ("--width", "--height", "--order", "--conflicts", "--log"),
-            "draws it so that each signal has a column of its own, and says where each is",
+            "draws the station so that each signal has a column of its own, and says where each is",
             "Each edge takes one column more than the most signals that lie on one edge. The lines from `signals` on are no "
             "part of the sheet: sed '/^end /q' takes the sheet out.", takes_long=True),
     Command("front", (FILE, PAIR), SEARCH,
@@ -117,7 +117,8 @@ COMMANDS = {it.word: it for it in (
             "without each; or that a drawing exists",
             "Give it the grid on which draw ended with `end none`.", takes_long=True),
     Command("redraw", (FILE, OLD, SHEET), (*SEARCH, "--log"),
-            "draws it with as few nodes as can be at other points than in the sheet, a drawing of the former file OLD",
+            "draws a changed station with as few nodes as can be at other points than in the sheet, a drawing of the former "
+            "file OLD",
             "A grid little larger than the former drawing gives a narrower one. Its answer is no sheet for verify.",
             takes_long=True),
     Command("graph", (FILE,), (), "prints the file's track graph",
@@ -146,7 +147,7 @@ OWN = {it.word: it for it in (
             ("-j", "--certify", "--shard", "--join"),
             "draws each station of the folder IN into the folder OUT, with a page for all of them",
             "Each station is drawn on the grid that is asked for, and where no drawing is lawful there on larger ones. What "
-            "hasn't changed isn't drawn again. Behind the two folders stand options of draw too.", takes_long=True),
+            "hasn't changed isn't drawn again. Options of draw count too, but those of files.", takes_long=True),
     Command("prepare", (Name("IN", "a railML 2 file", "railml"), Name("OUT", "the file for what is mended", "railml")), (),
             "writes a file anew as railplan reads it, where the file itself says what is missing",
             "It says each change. Where it would have to guess it writes nothing. It is no part of what is proved."),
