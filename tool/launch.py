@@ -21,21 +21,21 @@ def open_all() -> None:
         end(6, "standard output is closed, so nothing could be printed")
 
 
-def answer_unrun(line: words.Line) -> None:
+def answer_unrun(clone: built.Clone, line: words.Line) -> None:
     """before anything is built: a fault of the words, or an input that can't be read, is answered as the program does"""
     fault = words.fault(line.words)
     status, text = (2, fault.line()) if fault else files.unread(line) or (0, "")
     if status:
         write_output(text.encode() + b"\n")
-        tell(line, running.Ran(status, text.encode() + b"\n", 0))
+        tell(clone, line, running.Ran(status, text.encode() + b"\n", 0))
         raise Ended(status)
 
 
-def tell(line: words.Line, ran: running.Ran) -> None:
-    """says what a run's end means, where that isn't what was asked for"""
-    if ran.status:
+def tell(clone: built.Clone, line: words.Line, ran: running.Ran) -> None:
+    """says what a run's end means where that isn't what was asked for, and what a drawing doesn't show"""
+    if ran.status or line.command in ("draw", "signals", "redraw", "explain"):
         from tool import telling
-        telling.tell(line, ran)
+        telling.tell(clone.program, line, ran)
 
 
 def run_unproved(clone: built.Clone, line: words.Line) -> None:
@@ -58,7 +58,7 @@ def fresh(clone: built.Clone, line: words.Line) -> built.Built:
     """the program that these sources make, which is built where it isn't there; files are looked at again behind a build"""
     found = built.find(clone)
     if not found.is_fresh:
-        answer_unrun(line)
+        answer_unrun(clone, line)
         from tool.building import build
         found = build(clone, found.reason)
         files.look(line)
@@ -74,12 +74,12 @@ def run_program(clone: built.Clone, line: words.Line) -> running.Ran:
     return running.run(clone.program, line.words)
 
 
-def hand_on(line: words.Line, ran: running.Ran) -> int:
+def hand_on(clone: built.Clone, line: words.Line, ran: running.Ran) -> int:
     """hands on what a run printed, says what it means, and ends as it ended"""
     if not ran.was_stopped:
         write_output(ran.output)
         close_output()
-        tell(line, ran)
+        tell(clone, line, ran)
     return ran.status
 
 
@@ -125,7 +125,7 @@ def run_words(clone: built.Clone, line: words.Line) -> int:
     if line.is_unproved:
         run_unproved(clone, line)
     fresh(clone, line)
-    return hand_on(line, run_program(clone, line))
+    return hand_on(clone, line, run_program(clone, line))
 
 
 def no_words() -> int:

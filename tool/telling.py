@@ -141,10 +141,18 @@ class Ending:
         return []
 
 
-def tell(line: words.Line, ran: running.Ran) -> None:
-    """says what a run's end means, where that isn't what was asked for; what can't be explained is left as it is"""
+def of_answer(program: str, line: words.Line, ran: running.Ran) -> list[Note]:
+    """what is said of an answer, if it is one: else of the fault"""
+    if ran.status in (0, 3, 4) and not ran.output.startswith(b"check "):
+        from tool import advice
+        return advice.notes(program, line, ran)
+    return Ending(line, ran).notes()
+
+
+def tell(program: str, line: words.Line, ran: running.Ran) -> None:
+    """says what a run's end means; what can't be explained is left as it is"""
     try:
-        said = Ending(line, ran).notes() if ran.status in (1, 2, 4, 5, 6, 7, 8, 10) or ran.status > 128 else []
+        said = of_answer(program, line, ran)
     except (ValueError, IndexError, KeyError, OSError, re.error):
         said = []
     notes.show(said)

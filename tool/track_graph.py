@@ -40,6 +40,11 @@ class TrackGraph:
         for track in self.tracks:
             self.add_pieces(track)
         self.add_joins()
+        self.leaving: dict[str, dict[int, list[int]]] = {"east": {}, "west": {}}
+        for number, it in enumerate(self.edges):
+            self.leaving["east"].setdefault(it.west.place, []).append(number)
+            self.leaving["west"].setdefault(it.east.place, []).append(number)
+        self.known: dict[tuple[str, int], set[int]] = {}
         self.forks = [fork for track in self.tracks for it in railml.points(track) for fork in self.forks_of(it)]
 
     # ---- edges
@@ -120,14 +125,16 @@ class TrackGraph:
 
     def reached(self, way: str, edge: int) -> set[int]:
         """the edges that are reached from an edge in a direction, itself among them"""
+        if (way, edge) in self.known:
+            return self.known[way, edge]
         found, left = set(), [edge]
         while left:
             one = left.pop()
-            if one in found:
-                continue
-            found.add(one)
-            end = self.edges[one].east if way == "east" else self.edges[one].west
-            left += [number for number, it in enumerate(self.edges) if (it.west if way == "east" else it.east) is end]
+            if one not in found:
+                found.add(one)
+                end = self.edges[one].east if way == "east" else self.edges[one].west
+                left += self.leaving[way].get(end.place, [])
+        self.known[way, edge] = found
         return found
 
     def origins(self, upper: int, lower: int) -> list[Fork]:
