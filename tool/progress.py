@@ -2,9 +2,9 @@
 from __future__ import annotations
 
 import os
-import re
 import shlex
 import shutil
+import time
 from dataclasses import dataclass, field
 
 from tool import running, words
@@ -13,6 +13,9 @@ from tool.saying import called, say, write_error
 BAR = 16
 # room that is left for a log that is only read for what it says of the search
 ROOM = 2 << 30
+# bytes of a log that are read at once, and for how long it is read each second
+PIECE = 4 << 20
+PATIENCE = 0.3
 # what a command without a log is doing
 DOING = {"front": "looking for the pairs", "explain": "looking for laws that can't be met together", "trial": "searching",
          "check": "checking the log", "trim": "trimming the log", "recheck": "checking the hinted lines"}
@@ -27,40 +30,49 @@ class Log:
     rest: bytes = b""
     bounds: dict[int, tuple[str, int]] = field(default_factory=dict)
     learnt: int = 0
-    learnt_at_model: int = 0
     asked: dict[str, int] = field(default_factory=dict)
     has_query: bool = False
     has_model: bool = False
     is_refuted: bool = False
 
     def follow(self) -> None:
-        """reads what was added since"""
+        """reads what was added since; of a log that grows faster than it is read, a part"""
+        until = time.monotonic() + PATIENCE
         try:
             with open(self.path, "rb") as it:
                 it.seek(self.place)
-                data = it.read()
+                while time.monotonic() < until:
+                    data = it.read(PIECE)
+                    if not data:
+                        break
+                    self.place += len(data)
+                    whole, feed, self.rest = (self.rest + data).rpartition(b"\n")
+                    self.take(whole + feed)
         except OSError:
             return
-        self.place += len(data)
-        whole, feed, self.rest = (self.rest + data).rpartition(b"\n")
-        if feed:
-            self.take(whole + feed)
 
     def take(self, data: bytes) -> None:
-        for found in re.finditer(rb"^(l|b|q|r|m)\b(.*)$", data, re.M):
-            if found[1] == b"l":
-                self.learnt += 1
-            else:
-                self.take_line(found[1].decode(), found[2].decode("ascii", "replace").split())
+        """takes whole lines; those of the formula, which are most, are only passed over"""
+        data = b"\n" + data
+        self.learnt += data.count(b"\nl ")
+        places = []
+        for kind in (b"b", b"q", b"r", b"m"):
+            at = data.find(b"\n" + kind)
+            while at >= 0:
+                places.append(at + 1)
+                at = data.find(b"\n" + kind, at + 1)
+        for at in sorted(places):
+            fields = data[at:data.find(b"\n", at)].decode("ascii", "replace").split(" ")
+            self.take_line(fields[0], fields[1:])
 
     def take_line(self, kind: str, fields: list[str]) -> None:
-        if kind == "b":
+        if kind == "b" and len(fields) == 3:
             self.bounds[int(fields[2])] = (fields[0], int(fields[1]))
         elif kind == "m":
-            self.has_model, self.is_refuted, self.learnt_at_model = True, False, self.learnt
+            self.has_model, self.is_refuted = True, False
         elif kind == "q":
             self.asked, self.has_query, self.is_refuted = self.limits(fields), True, False
-        else:
+        elif kind == "r":
             self.is_refuted = True
 
     def limits(self, fields: list[str]) -> dict[str, int]:
@@ -112,20 +124,27 @@ class Watch:
     def __init__(self, line: words.Line, log: str):
         self.line, self.log, self.is_shown = line, Log(log) if log else None, False
 
-    def text(self, seconds: float) -> str:
+    def parts(self, seconds: float) -> list[str]:
+        """what is shown, in its order: the second part, a bar, is left out first"""
         if not self.log:
-            return f"{DOING.get(self.line.command, 'running')} · {seconds:.0f} s"
+            return [DOING.get(self.line.command, "running"), "", f"{seconds:.0f} s"]
         self.log.follow()
         budget = budget_of(self.line)
         said = "looking for a drawing with fewer moved nodes" if self.line.command == "redraw" else self.log.in_words()
-        return (f"{said} · {bar(self.log.learnt, budget)} {grouped(self.log.learnt)} of {grouped(budget)} · "
-                f"{seconds:.0f} s")
+        return [said, bar(self.log.learnt, budget), f"{grouped(self.log.learnt)} of {grouped(budget)} · {seconds:.0f} s"]
+
+    def text(self, seconds: float, width: int) -> str:
+        """a line that has room on the terminal"""
+        said, shown, end = self.parts(seconds)
+        for text in (f"railplan: {said} · {shown} {end}" if shown else f"railplan: {said} · {end}", f"railplan: {said} · {end}",
+                     f"{said} · {end}"):
+            if len(text) <= width:
+                return text
+        return f"{said[:max(0, width - len(end) - 4)]}… · {end}"[:width]
 
     def show(self, seconds: float) -> None:
         self.is_shown = True
-        width = shutil.get_terminal_size((100, 24)).columns - 1
-        text = f"railplan: {self.text(seconds)}"
-        write_error("\r" + (text if len(text) <= width else text[:max(0, width - 1)] + "…") + "\033[K")
+        write_error("\r" + self.text(seconds, shutil.get_terminal_size((100, 24)).columns - 1) + "\033[K")
 
     def clear(self) -> None:
         if self.is_shown:
