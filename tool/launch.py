@@ -5,7 +5,7 @@ import os
 import sys
 
 from tool import built, files, running, words
-from tool.saying import Ended, called, close_output, end, is_terminal, say, write_error, write_output
+from tool.saying import Ended, called, close_output, end, is_terminal, say, why, write_error, write_output
 
 
 def open_all() -> None:
@@ -143,5 +143,11 @@ def main(given: list[str], top: str) -> int:
         return run(built.Clone(top), given)
     except Ended as ended:
         return ended.status
+    except OSError as error:
+        say(f"{error.filename or 'the system'}: {why(error)}")
+        return 10
+    except Exception as error:
+        say(f"this is a fault of the launcher itself, so nothing more is known: {type(error).__name__}: {error}")
+        return 10
     except KeyboardInterrupt:
         return 130

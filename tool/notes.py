@@ -19,5 +19,12 @@ class Note:
         return f"{coloured(self.place.head() + ':', '1')} {self.text}\n{self.place.excerpt()}"
 
 
+def plain(note: Note) -> str:
+    """the note without colours, to be kept"""
+    if note.place is None:
+        return note.text + "\n"
+    return f"{note.place.head()}: {note.text}\n{note.place.excerpt(False)}"
+
+
 def show(notes: list[Note]) -> None:
     write_error("".join(it.show() for it in notes))

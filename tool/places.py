@@ -19,12 +19,13 @@ class Place:
     def head(self) -> str:
         return f"{self.name}:{self.line}:{self.column}"
 
-    def excerpt(self) -> str:
+    def excerpt(self, has_colour: bool = True) -> str:
         """the line, cut to the width of a screen, with a mark below the column"""
         cut = max(0, self.column - 1 - WIDTH // 3) if len(self.text) > WIDTH else 0
         shown = ("…" if cut else "") + self.text[cut:cut + WIDTH] + ("…" if len(self.text) > cut + WIDTH else "")
+        mark = coloured("^", "1;32") if has_colour else "^"
         before = " " * (self.column - 1 - cut + (1 if cut else 0))
-        return f"{self.line:5} | {printable(shown)}\n      | {before}{coloured('^', '1;32')}\n"
+        return f"{self.line:5} | {printable(shown)}\n      | {before}{mark}\n"
 
 
 def printable(text: str) -> str:

@@ -52,7 +52,7 @@ class InClone(unittest.TestCase):
         return {"PATH": f"{self.top}/bin:/usr/bin:/bin", "HERE": str(self.top), **more}
 
     def start(self, *given: str, **more: str) -> subprocess.Popen:
-        return subprocess.Popen([sys.executable, "-B", str(self.top / "railplan"), *given], cwd=self.top, stdin=subprocess.DEVNULL,
+        return subprocess.Popen([sys.executable, "-SB", str(self.top / "railplan"), *given], cwd=self.top, stdin=subprocess.DEVNULL,
                                 stdout=subprocess.PIPE, stderr=subprocess.PIPE, text=True, env=self.environment(**more))
 
     def launch(self, *given: str, **more: str) -> tuple[int, str, str]:
