@@ -40,6 +40,8 @@ def of_byte(name: str, data: bytes, place: int) -> Place:
     line = data[begun:len(data) if ended < 0 else ended]
     front = data[begun:place].decode("utf-8", "replace")
     text = line.decode("utf-8", "replace").rstrip("\r")
+    if "\0" in text:
+        text = text.replace("\0", "").lstrip("\ufffd")
     if begun == 0 and text.startswith("\ufeff"):
         text, front = text[1:], front[1:]
     return Place(name, data.count(b"\n", 0, place) + 1, len(front) + 1, text)

@@ -124,6 +124,9 @@ def unknown_ref(station: Station, it: Element | None, tells: list[str]) -> str:
     known = railml.by_id(station.document)
     meant = difflib.get_close_matches(given, [*known], 1, 0.8)
     said = f"the connection {tells[0]} refers to {given or 'nothing'}, and no connection that is read has this id"
+    owner = it.parent if it else None
+    if owner and owner.name in railml.POINTS and len(owner.named("connection")) > (2 if owner.name == "crossing" else 1):
+        return f"{said}. Besides, {kind_of_crossing(owner) if owner.name == 'crossing' else kind_of_switch(owner)}"
     if meant and meant[0] != tells[0]:
         return f"{said}. Did you mean {meant[0]}?"
     return f"{said}. Was its track left out of the export? Where the line goes on, write <openEnd id=\"..\"/> in place of the " \
