@@ -22,9 +22,11 @@ def files_that_fail():
 
 def names_that_fail():
     """Names in the map, the definitions, the claims and the decisions that no source and no file of the crates has."""
-    known = set(re.findall(r"[A-Za-z_]\w*", read(TOP / "crates.txt") + read(TOP / "railplan")))
+    known = set(re.findall(r"[A-Za-z_]\w*", " ".join(map(read, [TOP / "crates.txt", TOP / "railplan",
+                                                                     *TOP.glob("tool/*.py")]))))
     folders = [path for part in ("src", "specs", "proofs") for path in TOP.glob(f"crates/*/{part}")]
-    beside = [path for pattern in ("*", "bench/*", "bench/*/*", "cases/*", "cases/*/*", "docs/*", "docs/checking/*", "pages/*") for path in TOP.glob(pattern)]
+    beside = [path for pattern in ("*", "bench/*", "bench/*/*", "cases/*", "cases/*/*", "docs/*", "docs/checking/*", "pages/*",
+                                   "tool/*") for path in TOP.glob(pattern)]
     for path in [path for folder in folders for path in folder.rglob("*")] + beside:
         known.update(re.findall(r"[A-Za-z_]\w*", str(show(path))))
         if path.suffix in (".rt", ".antt") and "proofs" not in path.parts:

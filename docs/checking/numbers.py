@@ -3,15 +3,18 @@
 A table that is made from them stands in a page between the marks `<!-- made: NAME -->` and `<!-- end -->`. What a page says of
 them in prose is held by the patterns below: a place in braces is the number that a constant has.
 """
-import ast
 import functools
 import re
+import sys
 import textwrap
 
 from checking import rooms, theorem
 from checking.crates import DOCUMENTS, TOP, head, read, show
 
-LAUNCHER = TOP / "railplan"
+sys.path.insert(0, str(TOP))
+
+from tool import manual, words  # noqa: E402
+
 README = TOP / "README.md"
 FORMATS = TOP / "docs" / "formats.md"
 LAWS = TOP / "docs" / "laws.md"
@@ -35,7 +38,7 @@ TABLES = {"words": "plan_words/src/fault.rt", "text": "railml_text/src/fault.rt"
           "log": "refute_log/src/fault.rt", "signal": "plan_objects/src/fault.rt", "hints": "hint_log/src/text_fault.rt"}
 
 # what the launcher's help says of each status
-ENDINGS = {"Done": "what was asked for was printed", "Refused": "an input was refused", "WordsRefused": "the words have a fault",
+ENDINGS = {"Done": "what was asked for was printed", "Refused": "an input was refused", "WordsRefused": "the words have a fault, or a file of the run is in the way",
            "NoDrawing": "no drawing is lawful on this grid",
            "Unfinished": "the search isn't finished, or the log needs too much room", "Unread": "a file couldn't be read",
            "Unwritten": "the output or a file couldn't be written", "NoMemory": "there was no memory",
@@ -270,74 +273,44 @@ def refusals_that_differ():
     return [] if told == words else ["docs/formats.md: what check answers isn't what crates/log_check/src/verdict.rt has, in its order"]
 
 
-def help_text():
-    return ast.get_docstring(ast.parse(read(LAUNCHER)), clean=False)
-
-
 def help_options():
-    """What the launcher's help says of each option, without its numbers."""
-    opened = re.search(r"\./railplan draw.*?(?=\n  \./railplan)", help_text(), re.S).group(0)
-    found = {}
-    for names, said in re.findall(r"^      ((?:--\w+ [A-Z]+(?:, )?)+)\s+(.*?)(?=\n      --|\Z)", opened, re.M | re.S):
-        words, said = re.findall(r"--\w+", names), re.sub(r",? [\d ]*(?:to \d+ )?\([^)]*\)$", "", " ".join(said.split()))
-        found.update(dict(zip(words, said.split(", "))) if len(words) > 1 else {words[0]: said})
-    return found
-
-
-def help_endings():
-    """What the launcher's help says of each status; its lines have one or two columns."""
-    found, last = {}, {}
-    block = help_text().split("A run ends with\n")[1].split("README.md")[0]
-    for line in block.splitlines():
-        halves = [line] if re.match(r"  (?:8|10) ", line) else [line[:33], line[33:]]
-        for side, half in enumerate(halves):
-            begun = re.match(r"\s*(\d+)\s+(.*)", half)
-            if begun:
-                last[side] = int(begun[1])
-                found[last[side]] = begun[2].strip()
-            elif half.strip():
-                found[last[side]] += " " + half.strip()
-    return found
+    """What the launcher's table of words says of each option, without its numbers."""
+    return {word: option.what for word, option in words.OPTIONS.items()}
 
 
 def statuses_that_fail():
     """The statuses of the launcher's help and of docs/formats.md."""
-    found, told = [], help_endings()
+    found, told = [], manual.ENDINGS
     section_text = " ".join(section(FORMATS, "Faults and statuses").split())
     for number, name, _ in statuses():
         if told.get(number) != ENDINGS.get(name):
-            found.append(f"railplan: the help says of status {number} '{told.get(number)}', but {name} is '{ENDINGS.get(name)}'")
+            found.append(f"tool/manual.py: says of status {number} '{told.get(number)}', but {name} is '{ENDINGS.get(name)}'")
         found += [f"docs/formats.md: no answer of status {number} begins with {answer}"
                   for answer in ANSWERS[name] if f"- **{number}**: {answer}" not in section_text]
-    numbers = {number for number, _, _ in statuses()} | {10}
+    numbers = {number for number, _, _ in statuses()} | {10, 130}
     beyond = set(told) - numbers | {int(number) for number in re.findall(r"- \*\*(\d+)\*\*", section_text)} - numbers
-    return found + [f"railplan, docs/formats.md: there is no status {number}" for number in sorted(beyond)]
+    return found + [f"tool/manual.py, docs/formats.md: there is no status {number}" for number in sorted(beyond)]
 
 
 def help_that_fails():
-    """The commands and options of the launcher's help."""
-    text, found = help_text(), []
-    told = {word: len(re.findall(r"[A-Z]+\b", names))
-            for word, names in re.findall(r"^  \./railplan (\w+)((?: [A-Z]+)*)", text, re.M)}
+    """The commands and options of the launcher's table of words, and whether its help names each."""
+    found, told = [], {word: len(command.names) for word, command in words.COMMANDS.items()}
     if told != commands():
-        found.append(f"railplan: the help has the commands {told}, the program {commands()}")
-    opened = re.search(r"\./railplan draw.*?(?=\n  \./railplan)", text, re.S).group(0)
-    named = re.findall(r"--\w+", opened)
-    if named != list(options()):
-        found.append(f"railplan: the help has the options {named}, the program {list(options())}")
+        found.append(f"tool/words.py: has the commands {told}, the program {commands()}")
+    if list(words.OPTIONS) != list(options()):
+        found.append(f"tool/words.py: has the options {list(words.OPTIONS)}, the program {list(options())}")
     for word, taken in options().items():
-        there = re.search(rf"{word} (.*?)(?=\n      --|\Z)", opened, re.S)
-        if not there:
-            found.append(f"railplan: the help doesn't name {word}")
+        option = words.OPTIONS.get(word)
+        if not option:
             continue
-        said = " ".join(there.group(1).split())
-        if isinstance(taken, tuple):
+        if isinstance(taken, tuple) and (option.low, option.high, option.usual) != (taken[0], taken[1], str(taken[2])):
             low, high, usual = taken
-            if not said.endswith(f", {low} to {high} ({usual})"):
-                found.append(f"railplan: the help says of {word} '{said}', but it takes {low} to {high}, without it {usual}")
-        if taken == "order" and not said.endswith(f"({','.join(usual_order())})"):
-            found.append(f"railplan: the help says of {word} '{said}', but the order is {','.join(usual_order())}")
-    return found
+            found.append(f"tool/words.py: {word} takes {low} to {high}, without it {usual}")
+        if taken == "order" and option.usual != ",".join(usual_order()):
+            found.append(f"tool/words.py: says of {word} '{option.usual}', but the order is {','.join(usual_order())}")
+    text = manual.overview("railplan")
+    return found + [f"tool/manual.py: the help doesn't name {word}" for word in [*told, *words.OPTIONS]
+                    if not re.search(rf"^  {word}\b", text, re.M)]
 
 
 def laws_that_fail():

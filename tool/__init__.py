@@ -1,0 +1,1 @@
+"""The package of the launcher `railplan`: what there is around the program. No part of it is proved."""

@@ -1,0 +1,239 @@
+"""What is said where a run ends without what was wanted, and what a drawing doesn't show of its file."""
+from __future__ import annotations
+
+import shlex
+import subprocess
+from collections import Counter
+
+from tool import railml, running, words
+from tool.notes import Note
+from tool.railml import Document, Element
+from tool.saying import called
+
+WIDEST, HIGHEST = words.OPTIONS["--width"].high, words.OPTIONS["--height"].high
+LARGEST = {"--width": str(WIDEST), "--height": str(HIGHEST)}
+MOST = words.OPTIONS["--conflicts"].high
+SLIPS = {"doubleSwitchCrossing": "a double slip", "simpleSwitchCrossing": "a single slip"}
+# from how many signals on one piece of track on it is said why each edge takes so many columns
+MANY_SIGNALS = 4
+PASSED_GROUPS = ("trackElements", "ocsElements")
+READ = ("track", "trackTopology", "trackBegin", "trackEnd", "connections", "switch", "crossing", "connection")
+
+
+def again(line: words.Line, **options: str) -> str:
+    """the line to type: the words of this run, with some options otherwise"""
+    changed = {f"--{name}": value for name, value in options.items()}
+    kept, at, given = [], 0, line.words
+    while at < len(given):
+        if at and given[at].startswith("--"):
+            kept += given[at:at + 2] if given[at] not in changed else []
+            at += 2
+        else:
+            kept.append(given[at])
+            at += 1
+    return f"{called()} {shlex.join(kept + [it for name, value in changed.items() if value for it in (name, value)])}"
+
+
+# ---- no drawing
+
+
+def longest_chain(graph: list[str]) -> int:
+    """how many edges of a track graph's text lie one behind another at most"""
+    nodes = [line.split() for line in graph if line.startswith("node ")]
+    edges = [line.split() for line in graph if line.startswith("edge ")]
+    mileages = [float(fields[-1]) for fields in nodes]
+    far = [0] * len(nodes)
+    for west, east in sorted(((int(it[3]), int(it[4])) for it in edges), key=lambda it: mileages[it[0]]):
+        far[east] = max(far[east], far[west] + 1)
+    return max(far, default=0)
+
+
+def chain_of(program: str, name: str) -> int:
+    """the same of a file, as the program has its graph; 0 where that can't be had"""
+    ran = subprocess.run([program, "graph", name], stdin=subprocess.DEVNULL, capture_output=True, text=True)
+    return longest_chain(ran.stdout.splitlines()) if ran.returncode == 0 else 0
+
+
+def grid_of(line: words.Line, said: list[str]) -> tuple[int, int, int]:
+    """the grid that was asked for: as the answer says it, or by the options"""
+    fields = next((it.split() for it in said if it.startswith("grid ")), [])
+    if len(fields) == 4:
+        return int(fields[1]), int(fields[2]), int(fields[3])
+    width, height, least = (int(line.options.get(it, words.OPTIONS[it].usual)) for it in ("--width", "--height", "--least"))
+    return width, height, least
+
+
+def no_drawing(program: str, line: words.Line, said: list[str]) -> list[Note]:
+    width, height, least = grid_of(line, said)
+    text = f"no lawful drawing lies on columns 0 to {width}, rows 0 to {height}"
+    chain = chain_of(program, line.names[0])
+    need = chain * least
+    if need > width:
+        each = f", each of {least} columns or more" if least > 1 else ""
+        text += f". A piece of track takes {need} columns or more" if chain == 1 else \
+            f". {chain} pieces of track lie one behind another{each}, which takes {need} columns"
+        if need > WIDEST:
+            return [Note(f"{text}, and a grid has at most {WIDEST}. {shorter(line, least)}")]
+    if width < WIDEST or height < HIGHEST:
+        text += f". A larger grid may do: {again(line, width=str(WIDEST), height=str(HIGHEST))}"
+        if need <= width:
+            text += f". Why there is none on this one: {explaining(line, width, height, least)}"
+        return [Note(text)]
+    return [Note(f"{text}, and no grid is larger. Why: {explaining(line, width, height, least)}")]
+
+
+def larger(program: str, line: words.Line, said: list[str]) -> Note:
+    """after an explanation, that a larger grid may do"""
+    width, height, least = grid_of(line, said)
+    need = chain_of(program, line.names[0]) * least
+    if need > width:
+        return Note(f"the pieces of track that lie one behind another take {need} columns, and this grid has {width}")
+    if width < WIDEST or height < HIGHEST:
+        options = ["--width", str(WIDEST), "--height", str(HIGHEST)] + (["--least", str(least)] if least > 1 else [])
+        return Note(f"a larger grid may do: {called()} draw {shlex.join([line.names[0], *options])}")
+    return Note("no grid is larger. Look at the places that these laws name")
+
+
+def shorter(line: words.Line, least: int) -> str:
+    if line.command == "signals":
+        return "Leave out signals of the piece that has most, or draw a part of the station"
+    return "A smaller --least helps" if least > 1 else "Draw a part of the station"
+
+
+def explaining(line: words.Line, width: int, height: int, least: int) -> str:
+    """the line that explains why there is no drawing"""
+    options = ["--width", str(width), "--height", str(height)] + (["--least", str(least)] if least > 1 else [])
+    return f"{called()} --html why.html explain {shlex.join([line.names[0], *options])}"
+
+
+# ---- stopped searches
+
+
+def stopped(line: words.Line, said: list[str]) -> list[Note]:
+    """the search ended before it was done: what is true of what it found, and the ways on"""
+    end = next((it.split() for it in reversed(said) if it.startswith(("end ", "why "))), [])
+    why = "there was no room for more clauses" if "room" in end else "its budget of clauses was spent"
+    found = any(it.startswith("values ") for it in said)
+    pairs = any(it.startswith("pair ") for it in said)
+    text = f"the search stopped, as {why}. "
+    if line.command in ("draw", "signals"):
+        text += settled(said, end) if found else "No drawing was found, and none is ruled out"
+    elif line.command == "redraw":
+        text += "The drawing is lawful, but one with fewer moved nodes may exist" if found else \
+            "No drawing was found, and none is ruled out"
+    elif line.command == "front":
+        text += "The pairs are all up to the last one; more may follow" if pairs else "No pair is known yet"
+    else:
+        text += "Nothing is known by then"
+    return [Note(f"{text}. {ways_on(line, 'room' in end)}")]
+
+
+def settled(said: list[str], end: list[str]) -> str:
+    order = next((it.split()[1:] for it in said if it.startswith("order ")), [])
+    count = int(end[2]) if len(end) > 2 else 0
+    if not count:
+        return "The drawing is lawful, but a better one may exist"
+    known, open_ = " and ".join(order[:count]), " and ".join(order[count:])
+    return f"The drawing is lawful, and none is better in {known}; one that is better in {open_} may exist"
+
+
+def ways_on(line: words.Line, is_room: bool) -> str:
+    ways = []
+    if not is_room and int(line.options.get("--conflicts", words.OPTIONS["--conflicts"].usual)) < MOST:
+        ways.append(f"more clauses, {again(line, conflicts=str(MOST))}")
+    first = line.options.get("--order", words.OPTIONS["--order"].usual).split(",")
+    if line.command in ("draw", "signals") and len(first) > 1:
+        ways.append(f"fewer criteria, {again(line, order=first[0])}")
+    return f"Ways on: {'; '.join([*ways, 'a smaller grid, by --width and --height'])}"
+
+
+# ---- what a drawing doesn't show
+
+
+def data_of(name: str) -> Document | None:
+    try:
+        with open(name, "rb") as it:
+            return railml.read(it.read())
+    except OSError:
+        return None
+
+
+def slips(document: Document) -> list[str]:
+    return [f"{it.id} is {SLIPS[it.attributes['type']]} in the file; it is drawn as a crossing, without its slips"
+            for track in document.tracks() for it in railml.points(track)
+            if it.name == "crossing" and it.attributes.get("type") in SLIPS]
+
+
+def bent_tracks(document: Document) -> list[str]:
+    """switches at which the file has the track turn off too, as at a Y switch"""
+    found = []
+    for it in (it for track in document.tracks() for it in railml.points(track) if it.name == "switch"):
+        course = next((c.attributes.get("course") for c in it.named("connection")), "")
+        goes_on = it.attributes.get("trackContinueCourse", "")
+        if course in ("left", "right") and goes_on in ("left", "right"):
+            found.append(f"{it.id}: the file has the track go on to the {goes_on}; it is drawn straight")
+    return found
+
+
+def passed_over(document: Document, command: str) -> list[str]:
+    """what a track has besides its topology, by kinds; signals are drawn by signals"""
+    kinds: Counter[str] = Counter()
+    for track in document.tracks():
+        for group in track.named(*PASSED_GROUPS):
+            kinds.update(leaf.name for leaf in leaves(group) if leaf.name != "signal" or command != "signals")
+    listed = ", ".join(f"{count} {name}" for name, count in sorted(kinds.items()))
+    signals = "; signals draws signals" if kinds.get("signal") else ""
+    return [f"not drawn: {listed}{signals}"] if listed else []
+
+
+def leaves(group: Element) -> list[Element]:
+    """the elements of a group's lists"""
+    return [it for listed in group.children for it in listed.children]
+
+
+def prefixed(document: Document, command: str) -> list[str]:
+    """elements that would be read without their prefix"""
+    read = READ + (("signal",) if command == "signals" else ())
+    kinds = Counter(it.name for it in document.elements if ":" in it.name and it.name.rpartition(":")[2] in read)
+    return [f"{count} {name} {'has' if count == 1 else 'have'} a prefix, so {'it is' if count == 1 else 'they are'} passed over"
+            for name, count in sorted(kinds.items())]
+
+
+def crowded_piece(document: Document, line: words.Line, said: list[str]) -> list[str]:
+    """why each edge takes so many columns"""
+    least = grid_of(line, said)[2]
+    if line.command != "signals" or least <= MANY_SIGNALS:
+        return []
+    on = Counter(it.split()[3] for it in said if it.startswith("signal "))
+    edges = {it.split()[1]: it.split() for it in said if it.startswith("edge ")}
+    nodes = {it.split()[1]: it.split()[2] for it in said if it.startswith("node ")}
+    if on:
+        track, west, east = edges[on.most_common(1)[0][0]][2:5]
+        piece = f"{track} from {nodes[west]} to {nodes[east]} has"
+    else:
+        piece = "one piece of track has"
+    return [f"{piece} {least - 1} signals, so each edge takes {least} columns"]
+
+
+def not_shown(line: words.Line, said: list[str]) -> list[Note]:
+    document = data_of(line.names[0])
+    if document is None:
+        return []
+    found = slips(document) + bent_tracks(document) + prefixed(document, line.command)
+    return [Note(it) for it in found + passed_over(document, line.command) + crowded_piece(document, line, said)]
+
+
+def notes(program: str, line: words.Line, ran: running.Ran) -> list[Note]:
+    """what is said of an answer that is no fault"""
+    said, command = ran.lines, line.command
+    found = []
+    if command in ("draw", "signals", "redraw"):
+        found += not_shown(line, said)
+    if ran.status == 0 and command == "explain" and any(it.startswith("laws ") for it in said):
+        from tool import explained
+        found += explained.laws(program, line, said) + [larger(program, line, said)]
+    if ran.status == 3 and command in ("draw", "signals", "redraw", "front"):
+        found += no_drawing(program, line, said)
+    if ran.status == 4 and command in ("draw", "signals", "redraw", "front", "explain"):
+        found += stopped(line, said)
+    return found

@@ -1,0 +1,54 @@
+"""What explain answers, with names in place of numbers, and the switch or crossing from which an order comes."""
+from __future__ import annotations
+
+import subprocess
+
+from tool import railml, words
+from tool.graph_faults import hand
+from tool.notes import Note
+from tool.track_graph import TrackGraph
+
+LAWS = {2: "{0} and {1} lie in the order of their mileages", 4: "at {0} the lines meet as they must", 5: "{0} and {1} lie apart",
+        6: "{0} lies above {1}", 7: "{0} and {1} don't cross"}
+
+
+class Named:
+    """The names of a track graph's nodes and edges, as the program numbers them."""
+
+    def __init__(self, program: str, name: str):
+        ran = subprocess.run([program, "graph", name], stdin=subprocess.DEVNULL, capture_output=True, text=True, errors="replace")
+        fields = [line.split() for line in ran.stdout.splitlines()]
+        self.nodes = {it[1]: it[2] for it in fields if it[0] == "node"}
+        self.edges = {it[1]: it[2:5] for it in fields if it[0] == "edge"}
+
+    def party(self, kind: str, number: str) -> str:
+        if kind == "node":
+            return self.nodes.get(number, f"node {number}")
+        if number not in self.edges:
+            return f"edge {number}"
+        track, west, east = self.edges[number]
+        return f"{track} from {self.nodes[west]} to {self.nodes[east]}"
+
+
+def origin(graph: TrackGraph, upper: int, lower: int) -> str:
+    """the switch or crossing by which one edge lies above another"""
+    fork = next(iter(graph.origins(upper, lower)), None)
+    return f", by the {railml.what(fork.node)} ({hand(fork)})" if fork else ""
+
+
+def laws(program: str, line: words.Line, said: list[str]) -> list[Note]:
+    """the laws of the answer, each with its parties by name"""
+    listed = [it.split() for it in said if it.startswith("law ")]
+    if not listed:
+        return []
+    named = Named(program, line.names[0])
+    with open(line.names[0], "rb") as it:
+        graph = TrackGraph(railml.read(it.read()))
+    found = []
+    for fields in listed:
+        parties = list(zip(fields[2::2], fields[3::2]))
+        names = [named.party(*it) for it in parties] + [""]
+        text = LAWS.get(int(fields[1]), "{0} {1}").format(*names)
+        by = origin(graph, int(parties[0][1]), int(parties[1][1])) if fields[1] == "6" else ""
+        found.append(f"\n  law {fields[1]}: {text}{by}")
+    return [Note("no drawing on this grid meets these laws together:" + "".join(found))]

@@ -1,0 +1,187 @@
+"""The files that a run names, looked at before it: nothing that is something else is written over, and nothing is lost late."""
+from __future__ import annotations
+
+import os
+import stat
+
+from tool import words
+from tool.saying import end, why
+
+# how a file of each kind begins, and what a kind is called
+BEGINS = {"log": (b"railplan-log",), "picture": (b"<svg",), "hints": (b"railplan-hints",), "page": (b"<!doctype html",)}
+OTHERS = (b"<", b"\xef\xbb\xbf<", b"\xff\xfe<", b"\xfe\xff\x00<", b"railplan", b"railgraph")
+CALLED = {"log": "a log", "picture": "a picture", "hints": "hinted lines", "page": "a page", "dxf": "a CAD drawing",
+          "csv": "a table", "railml": "a railML file", "sheet": "a sheet"}
+
+MOST_BYTES = {"railml": 4194304, "sheet": 4194304, "log": 536870912, "hints": 536870912}
+
+
+def state_of(name: str) -> os.stat_result | None:
+    try:
+        return os.stat(name)
+    except (OSError, ValueError):
+        return None
+
+
+def is_one_file(one: str, other: str) -> bool:
+    if os.path.realpath(one) == os.path.realpath(other):
+        return True
+    there, too = state_of(one), state_of(other)
+    return bool(there and too and os.path.samestat(there, too))
+
+
+def refuse_one_file(line: words.Line) -> None:
+    """the program compares names and not files: what it has read, or its log, would be written over"""
+    read, written = line.files_read, line.files_written
+    for number, it in enumerate(written):
+        for other in read + written[:number]:
+            if (it.word != other.word or it.at < 0) and is_one_file(other.word, it.word):
+                end(2, f"{other.word} and {it.word} are one file" if it.word != other.word else
+                    f"{it.word} is named twice; a file that is written needs a name of its own")
+
+
+def refuse_output(line: words.Line) -> None:
+    """standard output that goes into a file of the run"""
+    out = os.fstat(1)
+    if not stat.S_ISREG(out.st_mode):
+        return
+    for it in line.files_read + line.files_written:
+        there = state_of(it.word)
+        if there and os.path.samestat(there, out):
+            done = "writes" if it.is_written else "reads" if out.st_size else "reads. The shell has emptied it by now"
+            end(2, f"standard output goes into {it.word}, which this run {done}. Name another file behind >")
+
+
+def begins_as(data: bytes, kind: str) -> bool:
+    """whether a file that begins so may be written over by one of a kind. Of tables and CAD drawings the beginnings vary: they
+    don't begin as a file that is known to be something else"""
+    if kind not in BEGINS:
+        return not data.startswith(OTHERS)
+    return data.removeprefix(b"\xef\xbb\xbf").lower().startswith(BEGINS[kind])
+
+
+def refuse_other_kinds(line: words.Line) -> None:
+    """a file that is there, isn't empty and doesn't begin as its kind does"""
+    for it in line.files_written:
+        there = state_of(it.word)
+        if there is None:
+            continue
+        if stat.S_ISFIFO(there.st_mode) and it.at >= 0:
+            end(2, f"{it.word} is a pipe, and {CALLED[it.kind]} is written piece by piece: a reader would see its end too early. "
+                   "Name a file")
+        if not stat.S_ISREG(there.st_mode) or not there.st_size:
+            continue
+        try:
+            with open(it.word, "rb") as file:
+                begun = file.read(32)
+        except OSError:
+            continue
+        if not begins_as(begun, it.kind):
+            end(2, f"{it.word} is there and isn't {CALLED[it.kind]}. Name another file, or delete it")
+
+
+def refuse_unwritable(line: words.Line) -> None:
+    """a file that couldn't be written: it would be lost after the search"""
+    for it in line.files_written:
+        there, folder = state_of(it.word), os.path.dirname(it.word) or "."
+        what = f"{it.word} can't be written"
+        if there is not None:
+            if stat.S_ISDIR(there.st_mode):
+                end(6, f"{what}: it is a folder. Name a file in it")
+            if not os.access(it.word, os.W_OK):
+                end(6, f"{what}: you haven't the right to. Name another file")
+        elif not os.path.isdir(folder):
+            where = f"{folder} is no folder" if os.path.lexists(folder) else f"{folder} isn't there"
+            end(6, f"{what}: {where}. Make the folder, or name another file")
+        elif not os.access(folder, os.W_OK | os.X_OK):
+            end(6, f"{what}: you haven't the right to make files in {folder}. Name another file")
+
+
+def lock(line: words.Line) -> dict[str, int]:
+    """holds the files that are written for this run alone, as long as the handles are open: two runs that write one file at a
+    time would leave neither's. Where there is a page, the run that it starts holds the others"""
+    held: dict[str, int] = {}
+    written = [it for it in line.files_written if it.at < 0 or not line.pages]
+    folder = lock_folder() if written else ""
+    for it in written if folder else []:
+        there = state_of(it.word)
+        if there is not None and not stat.S_ISREG(there.st_mode):
+            continue
+        import hashlib
+        path = f"{folder}/{hashlib.sha256(os.fsencode(os.path.realpath(it.word))).hexdigest()}"
+        handle = hold(path)
+        if handle is None:
+            end(2, f"another run is writing {it.word}. Wait for its end, or name another file")
+        if handle >= 0:
+            os.set_inheritable(handle, bool(line.pages or line.is_unproved))
+            held[path] = handle
+    return held
+
+
+def hold(path: str) -> int | None:
+    """the handle of a lock that is ours, -1 where there can be none, or nothing where another run has it"""
+    import fcntl
+    while True:
+        try:
+            handle = os.open(path, os.O_RDWR | os.O_CREAT | os.O_NOFOLLOW, 0o600)
+        except OSError:
+            return -1
+        try:
+            fcntl.flock(handle, fcntl.LOCK_EX | fcntl.LOCK_NB)
+        except OSError:
+            os.close(handle)
+            return None
+        there = state_of(path)
+        if there and os.path.samestat(there, os.fstat(handle)):
+            return handle
+        os.close(handle)
+
+
+def release(held: dict[str, int]) -> None:
+    """takes locks away; who opens one meanwhile sees that it is gone"""
+    for path, handle in held.items():
+        try:
+            os.unlink(path)
+        except OSError:
+            pass
+        os.close(handle)
+
+
+def lock_folder() -> str:
+    """a folder of this user alone"""
+    folder = f"{os.environ.get('TMPDIR') or '/tmp'}/railplan-{os.getuid()}"
+    try:
+        os.makedirs(folder, 0o700, exist_ok=True)
+        there = os.lstat(folder)
+    except OSError:
+        return ""
+    return folder if stat.S_ISDIR(there.st_mode) and there.st_uid == os.getuid() and not there.st_mode & 0o022 else ""
+
+
+def look(line: words.Line) -> None:
+    """refuses with 2 what would be written over, and with 6 what couldn't be written"""
+    refuse_one_file(line)
+    refuse_output(line)
+    refuse_other_kinds(line)
+    refuse_unwritable(line)
+
+
+def unread(line: words.Line) -> tuple[int, str] | None:
+    """the status and the line with which the program answers to the first input that isn't there or is too long"""
+    for number, it in enumerate(line.files_read, 1):
+        there = state_of(it.word)
+        if there is None or stat.S_ISDIR(there.st_mode) or not os.access(it.word, os.R_OK):
+            return 5, f"read failed {number}"
+        if stat.S_ISREG(there.st_mode) and there.st_size > MOST_BYTES[it.kind]:
+            return 1, f"long {number}"
+    return None
+
+
+def couldnt(name: str) -> str:
+    """why a file couldn't be read"""
+    try:
+        with open(name, "rb") as file:
+            file.read(1)
+    except OSError as error:
+        return why(error)
+    return ""

@@ -1,0 +1,208 @@
+"""`railplan folder IN OUT`: draws each station of a folder, several side by side, and makes one page of them."""
+from __future__ import annotations
+
+import argparse
+import os
+import time
+from concurrent.futures import FIRST_COMPLETED, Future, ThreadPoolExecutor, wait
+from pathlib import Path
+from typing import NoReturn
+
+from tool import built, files, folder_index, words
+from tool.folder_station import ENDINGS, RECORDS, Jobs, Record, Setting, draw, read_record, whole
+from tool.progress import bar
+from tool.saying import Ended, called, end, is_terminal, say, why, write_error
+
+DRAW_OPTIONS = [it for it in words.COMMANDS["draw"].options if not words.OPTIONS[it].is_file]
+FORM = "folder IN OUT [-j N] [--certify] [--shard I/N] [--join] [options of draw]"
+BEGINS = {"page": b"<!doctype html", "picture": b"<svg", "sheet": b"railplan ", "hints": b"railplan-hints"}
+
+
+class Words(argparse.ArgumentParser):
+    """The words of folder; a fault of them is said as all faults of words are"""
+
+    def error(self, message: str) -> NoReturn:
+        end(2, f"{message}. {called()} {FORM}")
+
+
+def shard(text: str) -> tuple[int, int]:
+    part, sign, all_ = text.partition("/")
+    if not sign or not words.is_number(all_, 1, 100000) or not words.is_number(part, 1, int(all_)):
+        raise argparse.ArgumentTypeError(f"`{text}` is no part: write I/N, as 1/4 for the first of four")
+    return int(part), int(all_)
+
+
+def jobs(text: str) -> int:
+    if not words.is_number(text, 1, words.OWN_OPTIONS["-j"].high):
+        raise argparse.ArgumentTypeError(f"`{text}` is no number of stations, 1 to {words.OWN_OPTIONS['-j'].high}")
+    return int(text)
+
+
+def processors() -> int:
+    return len(os.sched_getaffinity(0)) if hasattr(os, "sched_getaffinity") else os.cpu_count() or 1
+
+
+def read_words(given: list[str]) -> argparse.Namespace:
+    parser = Words(prog=called(), add_help=False, allow_abbrev=False)
+    parser.add_argument("IN")
+    parser.add_argument("OUT")
+    parser.add_argument("-j", type=jobs, default=processors())
+    parser.add_argument("--certify", action="store_true")
+    parser.add_argument("--shard", type=shard, default=(1, 1))
+    parser.add_argument("--join", action="store_true")
+    for option in DRAW_OPTIONS:
+        parser.add_argument(option)
+    asked = parser.parse_args(given)
+    asked.options = tuple(it for option in DRAW_OPTIONS if getattr(asked, option[2:]) is not None
+                          for it in (option, getattr(asked, option[2:])))
+    from tool.word_faults import sentence
+    fault = words.fault(["draw", "x", *asked.options])
+    if fault:
+        end(2, sentence(fault.name, fault.position, ["draw", "x", *asked.options], called()))
+    return asked
+
+
+# ---- the stations
+
+
+def stations(folder: Path) -> dict[str, Path]:
+    """the railML files of a folder by the names of what is made of them, in the order of these"""
+    if not folder.is_dir():
+        end(5, f"{folder} " + ("is no folder" if folder.exists() else "isn't there") + ". Name a folder with railML files")
+    found = sorted(it for it in folder.iterdir() if it.suffix.lower() in (".xml", ".railml") and it.is_file())
+    if not found:
+        end(5, f"{folder} has no file *.xml or *.railml")
+    stems = [it.stem for it in found]
+    return {it.stem if stems.count(it.stem) == 1 else it.name: it for it in found}
+
+
+def of_shard(names: list[str], part: tuple[int, int]) -> list[str]:
+    return [name for at, name in enumerate(sorted(names)) if at % part[1] == part[0] - 1]
+
+
+def refuse_others(out: Path, names: list[str]) -> None:
+    """nothing that is something else is written over"""
+    listed = [(out / f"{name}{ending}", BEGINS[kind]) for name in names for kind, ending in ENDINGS.items()]
+    for path, begins in [*listed, (out / "index.html", BEGINS["page"])]:
+        there = files.state_of(str(path))
+        if there is None or not there.st_size:
+            continue
+        if not path.is_file() or path.is_symlink() or not path.read_bytes()[:32].lower().startswith(begins):
+            end(2, f"{path} is there, and railplan didn't make it. Name another folder, or delete it")
+
+
+def make_folder(out: Path) -> None:
+    try:
+        (out / RECORDS).mkdir(parents=True, exist_ok=True)
+    except OSError as error:
+        end(6, f"{out} can't be made: {why(error)}")
+    if not os.access(out, os.W_OK | os.X_OK):
+        end(6, f"{out} can't be written: you haven't the right to make files in it")
+
+
+# ---- the run
+
+
+class Shown:
+    """How far the run is, on a terminal, and each fault as it is found"""
+
+    def __init__(self, total: int):
+        self.total, self.done, self.faults, self.began = total, 0, 0, time.monotonic()
+
+    def seconds(self) -> float:
+        return time.monotonic() - self.began
+
+    def take(self, record: Record) -> None:
+        self.done += 1
+        if record.status not in (0, 3, 4):
+            self.faults += 1
+            self.clear()
+            write_error(record.said or f"railplan: {record.name} ended with {record.status}\n")
+
+    def show(self) -> None:
+        if is_terminal():
+            faults = f" · {self.faults} refused" if self.faults else ""
+            write_error(f"\r{bar(self.done, self.total)} {self.done} of {self.total} stations{faults} · {self.seconds():.0f} s\033[K")
+
+    def clear(self) -> None:
+        if is_terminal():
+            write_error("\r\033[K")
+
+
+def draw_all(listed: dict[str, Path], setting: Setting, count: int) -> list[Record]:
+    """draws the stations, so many side by side; an interrupt ends all, and leaves those that are done"""
+    running, shown, found = Jobs(), Shown(len(listed)), []
+    with ThreadPoolExecutor(count) as pool:
+        left: set[Future[Record]] = {pool.submit(draw, path, name, setting, running) for name, path in listed.items()}
+        try:
+            while left:
+                done, left = wait(left, timeout=0.5, return_when=FIRST_COMPLETED)
+                for it in done:
+                    found.append(it.result())
+                    shown.take(found[-1])
+                shown.show()
+        except KeyboardInterrupt:
+            running.stop()
+            pool.shutdown(wait=True, cancel_futures=True)
+            shown.clear()
+            count_done = len(found) + sum(it.done() and not it.cancelled() and not it.exception() for it in left)
+            say(f"stopped; {count_done} of {len(listed)} stations are done. The same line goes on from there")
+            raise Ended(130) from None
+        except OSError as error:
+            running.stop()
+            pool.shutdown(wait=True, cancel_futures=True)
+            end(6, f"{error.filename or setting.out}: {why(error)}")
+    shown.clear()
+    return found
+
+
+def write_index(out: Path, title: str, records: list[Record]) -> None:
+    part = out / f".index.{os.getpid()}"
+    try:
+        part.write_text(folder_index.text(title, records), encoding="utf-8", errors="replace")
+        whole(part, out / "index.html")
+    except OSError as error:
+        end(6, f"{out / 'index.html'} couldn't be written: {why(error)}")
+    finally:
+        part.unlink(missing_ok=True)
+
+
+def join(out: Path, listed: dict[str, Path]) -> list[Record]:
+    """what is there of each station; of one that isn't drawn yet that it isn't"""
+    return [read_record(out, name) or Record(name, "") for name in listed]
+
+
+def setting_of(clone: built.Clone, asked: argparse.Namespace) -> Setting:
+    found = built.find(clone)
+    if not found.is_fresh:
+        from tool.building import build
+        found = build(clone, found.reason)
+    build_words = built.in_words(clone, found)
+    return Setting(clone.program, build_words.split()[1], build_words, clone.top, Path(asked.OUT), asked.options, asked.certify)
+
+
+def words_behind(given: list[str]) -> list[str]:
+    """the words of folder: no page words and no --unproved come before it"""
+    if given[:1] != ["folder"]:
+        end(2, f"{given[0]} doesn't go with folder, which makes a page of each station. {called()} {FORM}")
+    return given[1:]
+
+
+def run(clone: built.Clone, given: list[str]) -> int:
+    asked = read_words(words_behind(given))
+    out, began = Path(asked.OUT), time.monotonic()
+    all_ = stations(Path(asked.IN))
+    mine = {name: all_[name] for name in of_shard(list(all_), asked.shard)}
+    refuse_others(out, list(all_))
+    make_folder(out)
+    if not asked.join:
+        found = draw_all(mine, setting_of(clone, asked), asked.j)
+    is_part = asked.shard[1] > 1
+    if is_part and not asked.join:
+        say(f"{len(found)} stations: {folder_index.counts(found)}, in {time.monotonic() - began:.0f} s. "
+            f"{called()} folder --join {asked.IN} {asked.OUT} makes the page of all parts")
+        return folder_index.worst(found)
+    records = join(out, all_)
+    write_index(out, f"Stations of {Path(asked.IN).name or asked.IN}", records)
+    say(f"{len(records)} stations: {folder_index.counts(records)}, in {time.monotonic() - began:.0f} s. Open {out / 'index.html'}")
+    return folder_index.worst(records)

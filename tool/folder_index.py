@@ -1,0 +1,94 @@
+"""The page of a folder: each station with its small drawing, faults first."""
+from __future__ import annotations
+
+from tool.folder_station import Record
+from tool.markup import Element, document
+
+# statuses from the best to the worst; and what a run that ended so is called
+WORST = (0, 3, 4, 8, 5, 1, 2, 7, 6, 10)
+CALLED = {0: "best", 1: "refused", 3: "no drawing", 4: "stopped", 5: "unread", 6: "unwritten", 7: "no memory", 8: "broken",
+          10: "not started"}
+
+RULES = """
+body{font:15px/1.4 system-ui,sans-serif;margin:2em auto;max-width:75em;padding:0 1em;color:#222;background:#fff}
+table{border-collapse:collapse;width:100%}th{text-align:left;font-weight:600}
+td,th{border-top:1px solid #ccc;padding:.5em .6em;vertical-align:top}
+img{max-width:32em;max-height:7em;background:#fff}pre{margin:0;white-space:pre-wrap;font-size:13px}
+.fault td{background:#fdecea}.open td{background:#fff6dd}.badge{border:1px solid #2a7a2a;color:#2a7a2a;border-radius:.6em;
+padding:0 .5em;white-space:nowrap}.number{text-align:right;white-space:nowrap}
+@media print{body{margin:0;max-width:none}tr{break-inside:avoid}}
+@media (prefers-color-scheme:dark){body{background:#1b1b1b;color:#ddd}.fault td{background:#43211e}.open td{background:#3d3520}
+.badge{color:#7ac77a;border-color:#7ac77a}}
+"""
+
+
+def rank(status: int) -> int:
+    return WORST.index(status) if status in WORST else len(WORST)
+
+
+def worst(records: list[Record]) -> int:
+    return max((it.status for it in records), key=rank, default=0)
+
+
+def called(record: Record) -> str:
+    if record.status == 4 and not record.end:
+        return "not drawn yet"
+    return CALLED.get(record.status, f"ended with {record.status}")
+
+
+def in_order(records: list[Record]) -> list[Record]:
+    """faults first, then what isn't finished, then by name"""
+    return sorted(records, key=lambda it: (-rank(it.status), it.name))
+
+
+def link(record: Record) -> Element | str:
+    page = f"{record.name}.html"
+    return Element("a", record.name, href=page) if page in record.files else record.name
+
+
+def badge(record: Record) -> Element | str:
+    """the certificate: which values recheck found to be the least, or that there is no drawing"""
+    word, _, count = record.certified.partition(" ")
+    if word != "certified":
+        return record.certified
+    if record.end == "end none":
+        said = "certified: no drawing"
+    elif count == "0":
+        return "claims nothing"
+    else:
+        said = f"certified: {count} of {len(record.order)}"
+    return Element("a", said, href=f"{record.name}.hints", class_="badge", title="what is left of the search's log was checked again")
+
+
+def shown(record: Record) -> list[Element]:
+    """the small drawing, and what is said of the run"""
+    picture = f"{record.name}.svg"
+    found = [Element("img", src=picture, alt=f"the drawing of {record.name}", loading="lazy")] if picture in record.files else []
+    return found + ([Element("pre", record.said.rstrip("\n"))] if record.said else [])
+
+
+def row(record: Record) -> Element:
+    kind = {0: "good", 3: "open", 4: "open"}.get(record.status, "fault")
+    ended = called(record) + (f" ({record.end})" if record.status not in (0, 3) and record.end else "")
+    grid = " by ".join(map(str, record.grid))
+    cells = [Element("td", link(record)), Element("td", ended), Element("td", " ".join(map(str, record.values)), class_="number"),
+             Element("td", grid, class_="number"), Element("td", badge(record)),
+             Element("td", f"{record.seconds:.1f} s" if record.seconds else "", class_="number"), Element("td", *shown(record))]
+    return Element("tr", *cells, class_=kind)
+
+
+def counts(records: list[Record]) -> str:
+    """how many stations ended how, as 47 best, 3 refused"""
+    kinds: dict[str, int] = {}
+    for it in sorted(records, key=lambda it: rank(it.status)):
+        kinds[called(it)] = kinds.get(called(it), 0) + 1
+    return ", ".join(f"{count} {kind}" for kind, count in kinds.items())
+
+
+def text(title: str, records: list[Record]) -> str:
+    heads = ("station", "end", "height bends diagonal width", "grid", "certificate", "time", "drawing")
+    table = Element("table", Element("thead", Element("tr", *(Element("th", it) for it in heads))),
+                    Element("tbody", *(row(it) for it in in_order(records))))
+    certified = sum(isinstance(badge(it), Element) for it in records)
+    said = f"{counts(records)}." + (f" {certified} with a certificate that was checked again." if certified else "")
+    return document(title, RULES, Element("h1", f"{len(records)} stations"), Element("p", said), table)

@@ -1,0 +1,153 @@
+"""The launcher: from the words of a command line to the program's answer, and what is said of it."""
+from __future__ import annotations
+
+import os
+import sys
+
+from tool import built, files, running, words
+from tool.saying import Ended, called, close_output, end, is_terminal, say, why, write_error, write_output
+
+
+def open_all() -> None:
+    """closed handles are opened on nothing, so that no file of the run is taken for one of them; without an output a run
+    ends with 6, as the program does"""
+    closed = []
+    for handle in (0, 1, 2):
+        try:
+            os.fstat(handle)
+        except OSError:
+            closed.append(os.open(os.devnull, os.O_RDWR))
+    if 1 in closed:
+        end(6, "standard output is closed, so nothing could be printed")
+
+
+def answer_unrun(clone: built.Clone, line: words.Line) -> None:
+    """before anything is built: a fault of the words, or an input that can't be read, is answered as the program does"""
+    fault = words.fault(line.words)
+    status, text = (2, fault.line()) if fault else files.unread(line) or (0, "")
+    if status:
+        write_output(text.encode() + b"\n")
+        tell(clone, line, running.Ran(status, text.encode() + b"\n", 0))
+        raise Ended(status)
+
+
+def tell(clone: built.Clone, line: words.Line, ran: running.Ran) -> None:
+    """says what a run's end means where that isn't what was asked for, and what a drawing doesn't show"""
+    if ran.status or line.command in ("draw", "signals", "redraw", "explain"):
+        from tool import telling
+        telling.tell(clone.program, line, ran)
+
+
+def run_unproved(clone: built.Clone, line: words.Line) -> None:
+    """runs the words in the program's folder; so names of files, and no other words, are made absolute"""
+    from tool.building import need_rt
+    rt = need_rt()
+    say("without its proofs the program is built anew for each run, in about a minute, and searches a hundred times as long")
+    asked = list(line.words)
+    command = words.COMMANDS.get(line.command)
+    at_files = {it.at for it in line.files()}
+    if command and command.names[0].is_file:
+        at_files.update(at for at in line.places[len(command.names):] if asked[at])
+    for at in at_files:
+        asked[at] = os.path.join(os.getcwd(), asked[at])
+    os.chdir(clone.crate)
+    running.become(rt, ["rt", "try", "--seconds", "3600", "--", *asked])
+
+
+def fresh(clone: built.Clone, line: words.Line) -> built.Built:
+    """the program that these sources make, which is built where it isn't there; files are looked at again behind a build"""
+    found = built.find(clone)
+    if not found.is_fresh:
+        answer_unrun(clone, line)
+        from tool.building import build
+        found = build(clone, found.reason)
+        files.look(line)
+    return found
+
+
+def run_program(clone: built.Clone, line: words.Line) -> running.Ran:
+    """runs the program; a command that may take long is watched where somebody sees it"""
+    command = words.COMMANDS.get(line.command)
+    if command and command.takes_long and is_terminal() and not words.fault(line.words):
+        from tool.progress import run_watched
+        return run_watched(clone.program, line)
+    return running.run(clone.program, line.words)
+
+
+def hand_on(clone: built.Clone, line: words.Line, ran: running.Ran) -> int:
+    """hands on what a run printed, says what it means, and ends as it ended"""
+    if not ran.was_stopped:
+        write_output(ran.output)
+        close_output()
+        tell(clone, line, ran)
+    return ran.status
+
+
+def page(clone: built.Clone, line: words.Line) -> None:
+    """has pages/run.py run the words and write what page words ask for"""
+    os.environ["RAILPLAN_CALLED"] = called()
+    os.environ["RAILPLAN_BUILD"] = "unproved -" if line.is_unproved else built.in_words(clone, fresh(clone, line))
+    given = line.in_order()
+    running.become(sys.executable, [sys.executable, f"{clone.top}/pages/run.py", f"{clone.top}/railplan",
+                                    *given[given[:1] == ["--html"]:]])
+
+
+def run(clone: built.Clone, given: list[str]) -> int:
+    open_all()
+    running.listen()
+    line = words.read(given)
+    if line.asks_help or line.command in words.OWN or line.command == "--version":
+        from tool import own
+        return own.run(clone, line, given)
+    if not line.words and not line.pages and not line.lacking:
+        return no_words()
+    try:
+        os.getcwd()
+    except OSError:
+        end(10, "the current folder isn't there any more. Go to another one: cd ~")
+    if line.lacking:
+        end(2, f"behind {line.lacking} its value is missing: {called()} {line.lacking} {words.PAGE_WORDS[line.lacking].value} "
+               f"{' '.join(line.words) or 'draw FILE'}")
+    held = {}
+    if not words.fault(line.words):
+        files.look(line)
+        held = files.lock(line)
+    try:
+        return run_words(clone, line)
+    finally:
+        files.release(held)
+
+
+def run_words(clone: built.Clone, line: words.Line) -> int:
+    """runs the program's words, by way of pages where page words are among them"""
+    if line.pages:
+        page(clone, line)
+    if line.is_unproved:
+        run_unproved(clone, line)
+    fresh(clone, line)
+    return hand_on(clone, line, run_program(clone, line))
+
+
+def no_words() -> int:
+    """the program's own answer to no words, which nobody should wait for"""
+    from tool import manual
+    write_output(b"words 1 NoCommand 1\n")
+    close_output()
+    say(f"a command is missing: {called()} draw FILE draws a station")
+    write_error(manual.overview(called()))
+    return 2
+
+
+def main(given: list[str], top: str) -> int:
+    try:
+        return run(built.Clone(top), given)
+    except Ended as ended:
+        return ended.status
+    except OSError as error:
+        say(f"{error.filename or 'the system'}: {why(error)}")
+        return 10
+    except Exception as error:
+        say(f"this is a fault of the launcher itself, so nothing more is known: {type(error).__name__}: {error}")
+        return 10
+    except KeyboardInterrupt:
+        return 130

@@ -1,0 +1,30 @@
+"""Notes to people: a sentence, and where there is one the place that it is about."""
+from __future__ import annotations
+
+from dataclasses import dataclass
+
+from tool.places import Place
+from tool.saying import coloured, write_error
+
+
+@dataclass(frozen=True)
+class Note:
+    """A sentence, and its place in a file."""
+    text: str
+    place: Place | None = None
+
+    def show(self) -> str:
+        if self.place is None:
+            return f"railplan: {self.text}\n"
+        return f"{coloured(self.place.head() + ':', '1')} {self.text}\n{self.place.excerpt()}"
+
+
+def plain(note: Note) -> str:
+    """the note without colours, to be kept"""
+    if note.place is None:
+        return note.text + "\n"
+    return f"{note.place.head()}: {note.text}\n{note.place.excerpt(False)}"
+
+
+def show(notes: list[Note]) -> None:
+    write_error("".join(it.show() for it in notes))

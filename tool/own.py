@@ -1,0 +1,56 @@
+"""What the launcher does itself: help, version, install, folder and prepare."""
+from __future__ import annotations
+
+import os
+
+from tool import built, manual, words
+from tool.saying import called, close_output, end, write_output
+from tool.version import VERSION
+
+
+def show(text: str) -> int:
+    write_output(text.encode("utf-8", "surrogateescape"))
+    close_output()
+    return 0
+
+
+def help_of(line: words.Line) -> int:
+    """the help, or that of the command that is named"""
+    asked = line.words[1:] if line.command == "help" else line.words
+    named = asked[0] if asked else ""
+    if not named or named == "--version":
+        return show(manual.overview(called()))
+    if named not in manual.all_commands():
+        from tool.word_faults import unknown_help
+        end(2, unknown_help(named, called()))
+    return show(manual.of_command(named, called()))
+
+
+def version(clone: built.Clone) -> int:
+    """version, program, whether it is proved, and the kit that proved it"""
+    found = built.find(clone)
+    lines = [f"railplan {VERSION}"]
+    if found.is_proved:
+        lines += [f"program: proved and built from these sources{f' with {found.kit}' if found.kit else ''}", f"SHA-256: {found.sha256}"]
+    elif not os.access(clone.program, os.X_OK):
+        lines += ["program: not built yet; the first run proves and builds it"]
+    else:
+        state = "not known to be proved: something else than railplan built it" if found.is_fresh else \
+            f"not that of these sources: {found.reason}; the next run builds it"
+        lines += [f"program: {state}", f"SHA-256: {built.sha256_of(clone.program)}"]
+    return show("\n".join(lines) + "\n")
+
+
+def run(clone: built.Clone, line: words.Line, given: list[str]) -> int:
+    if line.asks_help or line.command == "help":
+        return help_of(line)
+    if line.command in ("version", "--version"):
+        return version(clone)
+    if line.command in ("install", "uninstall"):
+        from tool import install
+        return install.run(clone, line)
+    if line.command == "prepare":
+        from tool import prepare
+        return prepare.run(line)
+    from tool import folder
+    return folder.run(clone, given)

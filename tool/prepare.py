@@ -1,0 +1,276 @@
+"""`railplan prepare IN OUT`: writes a railML 2 file anew as railplan reads it, where the file itself says what is missing.
+
+It is no part of what is proved. It changes the encoding, a prefix, how numbers of metres are written, and mileages of begins that
+are joined to a point whose mileage the file says. All else stays to the byte. Where it would have to guess it writes nothing.
+"""
+from __future__ import annotations
+
+import codecs
+import os
+import re
+from decimal import Decimal, InvalidOperation
+from pathlib import Path
+from xml.parsers import expat
+
+from tool import files, railml, words
+from tool.places import of_byte
+from tool.railml import Element
+from tool.saying import called, end, say, why, write_error
+
+MARK = "prepared by railplan; no part of what is proved"
+TAG = re.compile(rb"<[^\s/>]+(?:\s+[^\s=<>]+\s*=\s*(?:\"[^\"]*\"|'[^']*'))*\s*/?>")
+DECLARED = re.compile(r"""<\?xml[^>]*?encoding\s*=\s*["']([^"'<>]+)["']""")
+READ_AS = re.compile(r"\s*[+-]?(\d{1,9}(\.\d{0,6})?|\.\d{1,6})\s*")
+MEASURED = (*railml.ENDS, *railml.POINTS, "signal")
+
+
+class Guess(Exception):
+    """what the file doesn't say, and would have to be guessed"""
+
+
+class Prepared:
+    """A file's bytes while it is mended, and what was said of it: changes, and what would have to be guessed."""
+
+    def __init__(self, name: str, data: bytes):
+        self.name, self.data = name, data
+        self.changes: list[str] = []
+        self.guesses: list[str] = []
+
+    def replace(self, edits: list[tuple[int, int, bytes]]) -> None:
+        """writes each text in place of the bytes from one to the other"""
+        for begun, ended, text in sorted(edits, reverse=True):
+            self.data = self.data[:begun] + text + self.data[ended:]
+
+    def tag(self, place: int) -> tuple[int, bytes]:
+        found = TAG.match(self.data, place)
+        return place, found[0] if found else b""
+
+    def at(self, place: int) -> str:
+        return of_byte(self.name, self.data, place).head()
+
+
+# ---- the encoding
+
+
+def text_of(data: bytes) -> tuple[str, str]:
+    """the text, and the name of the encoding where it isn't UTF-8"""
+    for mark, name in ((codecs.BOM_UTF8, "utf-8-sig"), (codecs.BOM_UTF16_LE, "utf-16"), (codecs.BOM_UTF16_BE, "utf-16"),
+                       (b"<\0", "utf-16-le"), (b"\0<", "utf-16-be")):
+        if data.startswith(mark):
+            return data.decode(name), "" if name == "utf-8-sig" else "UTF-16"
+    found = DECLARED.match(data[:200].decode("latin-1"))
+    name = found[1] if found else "UTF-8"
+    try:
+        if codecs.lookup(name).name == "utf-8":
+            return data.decode("utf-8"), ""
+        return data.decode(name), name
+    except LookupError:
+        raise Guess(f"the file says that it is {name}, and this encoding isn't known") from None
+    except UnicodeDecodeError as error:
+        raise Guess(f"{'the file says that it is' if found else 'without a word on its encoding a file is'} {name}, and byte "
+                    f"{error.start} isn't. Name its encoding in the first line, as encoding=\"ISO-8859-1\"") from None
+
+
+def mend_encoding(it: Prepared) -> None:
+    text, name = text_of(it.data)
+    found = DECLARED.match(text)
+    if name or found and found[1].upper() != "UTF-8":
+        it.changes.append(f"{name or found[1]} is written as UTF-8")
+        if found:
+            text = text[:found.start(1)] + "UTF-8" + text[found.end(1):]
+        it.data = text.encode("utf-8")
+
+
+# ---- prefixes
+
+
+def prefixes_of(it: Prepared) -> dict[str, str]:
+    """the prefixes that elements have which are read without one, each with its namespace"""
+    elements = railml.read(it.data).elements
+    used = {e.name.partition(":")[0] for e in elements if ":" in e.name and e.name.partition(":")[2] in
+            ("railml", "infrastructure", "tracks", "track", "trackTopology")}
+    spaces = {key[6:]: value for e in elements for key, value in e.attributes.items() if key.startswith("xmlns:")}
+    return {prefix: spaces.get(prefix, "") for prefix in sorted(used)}
+
+
+def mend_prefix(it: Prepared) -> None:
+    found = prefixes_of(it)
+    if not found:
+        return
+    elements = railml.read(it.data).elements
+    if len(found) > 1 or any("xmlns" in e.attributes for e in elements):
+        raise Guess(f"elements have the prefixes {', '.join(found)} and there is another namespace without a prefix, so it isn't "
+                    "clear which elements are meant" if len(found) == 1 else f"elements have the prefixes {', '.join(found)}, so it "
+                    "isn't clear which are meant")
+    prefix, space = next(iter(found.items()))
+    front = re.escape(prefix.encode())
+    edits = [(m.start(1), m.end(1), b"") for e in elements if e.name.startswith(prefix + ":")
+             for m in [re.compile(rb"<(" + front + rb":)").match(it.data, e.place)] if m]
+    edits += [(m.start(1), m.end(1), b"") for m in re.finditer(rb"</(" + front + rb":)", it.data)]
+    place, tag = it.tag(elements[0].place)
+    name = re.match(rb"<[^\s/>]+", tag)
+    if space and name:
+        edits.append((place + len(name[0]), place + len(name[0]), b' xmlns="' + space.encode() + b'"'))
+    it.replace(edits)
+    it.changes.append(f"the prefix {prefix}: is taken off {len([e for e in elements if e.name.startswith(prefix + ':')])} elements")
+
+
+# ---- numbers
+
+
+def as_read(text: str) -> str:
+    """a number of metres as railplan reads it; nothing where it isn't clear which number it is"""
+    plain = text.strip()
+    if plain.count(",") == 1 and "." not in plain:
+        plain = plain.replace(",", ".")
+    try:
+        number = Decimal(plain)
+    except InvalidOperation:
+        return ""
+    if not number.is_finite() or abs(number) >= 10**9:
+        return ""
+    rounded = format(number.quantize(Decimal("0.000001")), "f")
+    return rounded.rstrip("0").rstrip(".") if "." in rounded else rounded
+
+
+def attribute(tag: bytes, name: str) -> re.Match[bytes] | None:
+    return re.search(rb"\s" + name.encode() + rb"\s*=\s*([\"'])(.*?)\1", tag, re.S)
+
+
+def mend_numbers(it: Prepared) -> None:
+    edits: list[tuple[int, int, bytes]] = []
+    for element in railml.read(it.data).elements:
+        if element.name not in MEASURED or not element.above("track"):
+            continue
+        place, tag = it.tag(element.place)
+        for name in ("pos", "absPos"):
+            found = attribute(tag, name)
+            given = element.attributes.get(name, "")
+            if not found or READ_AS.fullmatch(given):
+                continue
+            written = as_read(given)
+            if not written:
+                it.guesses.append(f"{it.at(place)}: {name}=\"{given}\" of {railml.what(element)} is no number of metres that is clear")
+                continue
+            edits.append((place + found.start(2), place + found.end(2), written.encode()))
+            it.changes.append(f"{it.at(place)}: {name}=\"{given}\" of {railml.what(element)} is written as {written}")
+    it.replace(edits)
+
+
+# ---- mileages
+
+
+def known_mileage(document: railml.Document, begin: Element) -> tuple[Element, str] | None:
+    """the point that a begin is joined to, with its mileage where the file says it"""
+    by_id = railml.by_id(document)
+    for connection in begin.named("connection"):
+        other = by_id.get(connection.attributes.get("ref", ""))
+        owner = other.parent if other else None
+        metres = railml.mileage(owner) if owner else None
+        if metres is not None:
+            return owner, as_read(str(metres))
+    return None
+
+
+def begins_without(document: railml.Document) -> list[Element]:
+    begins = (railml.end_of(track, "trackBegin") for track in document.tracks())
+    return [it for it in begins if it is not None and "absPos" not in it.attributes]
+
+
+def mend_mileages(it: Prepared) -> None:
+    """writes what the file says, as long as that says more"""
+    while True:
+        document, edits = railml.read(it.data), []
+        lacking = begins_without(document)
+        for begin in lacking:
+            known = known_mileage(document, begin)
+            if known:
+                place = begin.place + len("<trackBegin")
+                edits.append((place, place, f' absPos="{known[1]}"'.encode()))
+                it.changes.append(f"{it.at(begin.place)}: absPos=\"{known[1]}\" is written at {railml.what(begin)}, as "
+                                  f"{railml.what(known[0])} has, to which it is joined")
+        if not edits:
+            break
+        it.replace(edits)
+    it.guesses += [f"{it.at(begin.place)}: nothing in the file says the mileage of {railml.what(begin)}. Write its absPos"
+                   for begin in lacking]
+
+
+# ---- the file
+
+
+def refuse_text(it: Prepared) -> None:
+    """what isn't XML is left to the program, which says what is wrong"""
+    parser = expat.ParserCreate("UTF-8")
+    try:
+        parser.Parse(it.data, True)
+    except expat.ExpatError as error:
+        place = of_byte(it.name, it.data, parser.ErrorByteIndex).head()
+        raise Guess(f"{place}: this isn't XML: {expat.ErrorString(error.code)}. {called()} graph {it.name} says more") from None
+
+
+def with_mark(data: bytes) -> bytes:
+    """the file with a comment that says who wrote it, behind the declaration"""
+    if MARK.encode() in data[:400]:
+        return data
+    found = re.match(rb"(\xef\xbb\xbf)?<\?xml[^>]*\?>", data)
+    at = found.end() if found else 0
+    return data[:at] + (b"\n" if at else b"") + f"<!-- {MARK} -->".encode() + (b"" if at else b"\n") + data[at:]
+
+
+def mended(name: str, data: bytes) -> Prepared:
+    """the file as it is to be, with what was changed and what would have to be guessed"""
+    it = Prepared(name, data)
+    try:
+        mend_encoding(it)
+        refuse_text(it)
+        mend_prefix(it)
+        mend_numbers(it)
+        mend_mileages(it)
+    except Guess as guess:
+        it.guesses.append(str(guess))
+    return it
+
+
+def refuse_other(out: str, source: str) -> None:
+    """no file but one that prepare wrote is written over"""
+    there = files.state_of(out)
+    if there is None:
+        return
+    if files.is_one_file(out, source):
+        end(2, f"{source} and {out} are one file. Name another one for what is mended")
+    if there.st_size and MARK.encode() not in Path(out).read_bytes()[:400]:
+        end(2, f"{out} is there, and prepare didn't write it. Name another file, or delete it")
+
+
+def write(out: str, data: bytes) -> None:
+    part = f"{out}.{os.getpid()}.part"
+    try:
+        with open(part, "xb") as file:
+            file.write(data)
+        os.replace(part, out)
+    except OSError as error:
+        end(6, f"{out} couldn't be written: {why(error)}")
+    finally:
+        if os.path.exists(part):
+            os.unlink(part)
+
+
+def run(line: words.Line) -> int:
+    if len(line.words) != 3:
+        end(2, f"prepare takes a file and a name for what is mended: {called()} prepare IN OUT")
+    source, out = line.words[1:]
+    try:
+        with open(source, "rb") as file:
+            data = file.read(files.MOST_BYTES["railml"] * 4)
+    except OSError as error:
+        end(5, f"{source}: {why(error)}")
+    refuse_other(out, source)
+    it = mended(source, data)
+    write_error("".join(f"railplan: {said}\n" for said in it.changes + it.guesses))
+    if it.guesses:
+        end(1, f"nothing is written: {len(it.guesses)} {'thing' if len(it.guesses) == 1 else 'things'} would have to be guessed")
+    write(out, with_mark(it.data) if it.changes else it.data)
+    count = f"{len(it.changes)} {'change' if len(it.changes) == 1 else 'changes'}" if it.changes else "no change was needed"
+    say(f"{out} is written: {count}. This is no part of what is proved. On with {called()} draw {out}")
+    return 0

@@ -1,0 +1,152 @@
+"""The elements of a railML file with their places, to explain a fault that the program found, and to say what it passes over.
+
+What is selected is what the program selects: names without a prefix along infrastructure, tracks, track, trackTopology.
+"""
+from __future__ import annotations
+
+from dataclasses import dataclass, field
+from decimal import Decimal, InvalidOperation
+from xml.parsers import expat
+
+ENDS = ("trackBegin", "trackEnd")
+POINTS = ("switch", "crossing")
+ENDINGS = ("connection", "openEnd", "bufferStop", "macroscopicNode")
+
+
+@dataclass(eq=False)
+class Element:
+    """An element: the byte where its tag begins, its name, attributes, parent and children."""
+    place: int
+    name: str
+    attributes: dict[str, str]
+    parent: "Element | None"
+    children: list["Element"] = field(default_factory=list)
+
+    @property
+    def id(self) -> str:
+        return self.attributes.get("id", "")
+
+    def named(self, *names: str) -> list["Element"]:
+        return [it for it in self.children if it.name in names]
+
+    def above(self, name: str) -> "Element | None":
+        """the element itself or the nearest around it of this name"""
+        it: Element | None = self
+        while it is not None and it.name != name:
+            it = it.parent
+        return it
+
+
+@dataclass
+class Document:
+    """The elements of a file in file order, and those that are open where reading stopped."""
+    elements: list[Element] = field(default_factory=list)
+    open: list[Element] = field(default_factory=list)
+
+    @property
+    def root(self) -> Element | None:
+        return self.elements[0] if self.elements else None
+
+    def at(self, place: int) -> Element | None:
+        return next((it for it in self.elements if it.place == place), None)
+
+    def tracks(self) -> list[Element]:
+        root = self.root
+        if root is None:
+            return []
+        stations = [root] if root.name == "infrastructure" else root.named("infrastructure") if root.name == "railml" else []
+        return [track for station in stations for tracks in station.named("tracks") for track in tracks.named("track")]
+
+
+def read(data: bytes) -> Document:
+    """the elements, as far as the text goes without a fault"""
+    document = Document()
+    parser = expat.ParserCreate("UTF-8")
+    stack = document.open
+
+    def begin(name: str, attributes: dict[str, str]) -> None:
+        it = Element(parser.CurrentByteIndex, name, attributes, stack[-1] if stack else None)
+        document.elements.append(it)
+        if stack:
+            stack[-1].children.append(it)
+        stack.append(it)
+
+    def end(name: str) -> None:
+        stack.pop()
+
+    parser.StartElementHandler, parser.EndElementHandler = begin, end
+    try:
+        parser.Parse(data, True)
+    except expat.ExpatError:
+        pass
+    return document
+
+
+def metres(text: str | None) -> Decimal | None:
+    """a number of metres, or nothing"""
+    try:
+        number = Decimal((text or "").strip())
+    except InvalidOperation:
+        return None
+    return number if number.is_finite() else None
+
+
+# ---- the topology of a track
+
+
+def topology(track: Element) -> Element | None:
+    return next(iter(track.named("trackTopology")), None)
+
+
+def end_of(track: Element, name: str) -> Element | None:
+    below = topology(track)
+    return next(iter(below.named(name)), None) if below else None
+
+
+def points(track: Element) -> list[Element]:
+    """the switches and crossings of a track, in file order"""
+    below = topology(track)
+    return [it for group in below.named("connections") for it in group.named(*POINTS)] if below else []
+
+
+def position(it: Element) -> Decimal:
+    return metres(it.attributes.get("pos")) or Decimal(0)
+
+
+def mileage(it: Element) -> Decimal | None:
+    """an element's absPos; without one its track begin's, as far as the two positions are apart"""
+    own = metres(it.attributes.get("absPos"))
+    track = it.above("track")
+    begin = end_of(track, "trackBegin") if track else None
+    if own is not None or begin is None or begin is it:
+        return own
+    base = metres(begin.attributes.get("absPos"))
+    if base is None or metres(it.attributes.get("pos")) is None or metres(begin.attributes.get("pos")) is None:
+        return None
+    return base + position(it) - position(begin)
+
+
+def connections(document: Document) -> list[Element]:
+    """the connections that are selected, in file order"""
+    owners = [it for track in document.tracks() for it in places_of(track)]
+    return sorted((it for owner in owners for it in owner.named("connection")), key=lambda it: it.place)
+
+
+def places_of(track: Element) -> list[Element]:
+    """the ends, switches and crossings of a track"""
+    below = topology(track)
+    return [*below.named(*ENDS), *points(track)] if below else []
+
+
+def by_id(document: Document) -> dict[str, Element]:
+    """the connections by their ids"""
+    return {it.id: it for it in connections(document)}
+
+
+def what(it: Element) -> str:
+    """an element in words"""
+    called = {"trackBegin": "begin", "trackEnd": "end"}.get(it.name, it.name)
+    if it.name in ENDS:
+        track = it.above("track")
+        return f"the {called} of track {track.id}" if track and track.id else f"the {called} {it.id}"
+    return f"{called} {it.id}".rstrip()

@@ -1,0 +1,110 @@
+"""Runs the program, and keeps what it prints, so that more can be said of it."""
+from __future__ import annotations
+
+import os
+import signal
+import time
+
+from tool.saying import end, why
+
+TYPE_CHECKING = False
+if TYPE_CHECKING:
+    from collections.abc import Callable
+
+STOPPING = (signal.SIGINT, signal.SIGTERM, signal.SIGHUP)
+
+
+class Ran:
+    """How a run ended: its status, what it printed, how long it took, and whether somebody stopped it."""
+
+    def __init__(self, status: int, output: bytes, seconds: float, was_stopped: bool = False):
+        self.status, self.output, self.seconds, self.was_stopped = status, output, seconds, was_stopped
+
+    @property
+    def lines(self) -> list[str]:
+        return self.output.decode("utf-8", "replace").splitlines()
+
+
+def start(program: str, words: list[str]) -> tuple[int, int]:
+    """the program's number, and where its output is read"""
+    reading, writing = os.pipe()
+    os.set_inheritable(writing, True)
+    actions = [(os.POSIX_SPAWN_DUP2, writing, 1), (os.POSIX_SPAWN_CLOSE, writing)] if writing != 1 else []
+    try:
+        number = os.posix_spawn(program, ["railplan_main", *words], os.environ, file_actions=actions,
+                                setsigdef=(signal.SIGPIPE,), setsigmask=())
+    except OSError as error:
+        end(10, f"{program} couldn't be started: {why(error)}")
+    os.close(writing)
+    return number, reading
+
+
+def read_all(reading: int, each_second: Callable[[float], None] | None) -> bytes:
+    """what the program prints until it ends; meanwhile something is done each second"""
+    pieces, began = [], time.monotonic()
+    if each_second:
+        import select
+        waiting = select.poll()
+        waiting.register(reading, select.POLLIN | select.POLLHUP)
+    while True:
+        if each_second and not waiting.poll(1000):
+            each_second(time.monotonic() - began)
+            continue
+        piece = os.read(reading, 1 << 20)
+        if not piece:
+            return b"".join(pieces)
+        pieces.append(piece)
+
+
+def run(program: str, words: list[str], each_second: Callable[[float], None] | None = None) -> Ran:
+    """runs the program; where somebody stops this run, it stops the program too"""
+    began = time.monotonic()
+    signal.pthread_sigmask(signal.SIG_BLOCK, STOPPING)
+    number, reading = start(program, words)
+    try:
+        signal.pthread_sigmask(signal.SIG_UNBLOCK, STOPPING)
+        output = read_all(reading, each_second)
+        status = os.waitstatus_to_exitcode(os.waitpid(number, 0)[1])
+    except KeyboardInterrupt:
+        leave_alone()
+        stop(number)
+        return Ran(130, b"", time.monotonic() - began, was_stopped=True)
+    finally:
+        os.close(reading)
+    return Ran(status if status >= 0 else 128 - status, output, time.monotonic() - began)
+
+
+def stop(number: int) -> None:
+    """ends a program of ours that somebody stopped, if it hasn't ended"""
+    for sign in (signal.SIGTERM, signal.SIGKILL):
+        try:
+            os.kill(number, sign)
+            until = time.monotonic() + 5
+            while time.monotonic() < until:
+                if os.waitpid(number, os.WNOHANG)[0]:
+                    return
+                time.sleep(0.01)
+        except (ProcessLookupError, ChildProcessError):
+            return
+
+
+def listen() -> None:
+    """has an interrupt, an end and a lost terminal stop this run; under nohup a lost terminal doesn't"""
+    for sign in STOPPING:
+        if sign != signal.SIGHUP or signal.getsignal(sign) is not signal.SIG_IGN:
+            signal.signal(sign, signal.default_int_handler)
+
+
+def leave_alone() -> None:
+    """no second interrupt disturbs the end"""
+    for sign in STOPPING:
+        signal.signal(sign, signal.SIG_IGN)
+
+
+def become(program: str, words: list[str]) -> None:
+    """runs a program in the launcher's place"""
+    signal.signal(signal.SIGPIPE, signal.SIG_DFL)
+    try:
+        os.execv(program, words)
+    except OSError as error:
+        end(10, f"{program} couldn't be started: {why(error)}")

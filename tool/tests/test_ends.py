@@ -1,0 +1,86 @@
+"""How runs end that are stopped or whose program ends otherwise."""
+import os
+import signal
+import time
+import unittest
+
+from tool.tests.clones import InClone
+
+SLOW = "#!/bin/sh\necho $$ > begun\nexec sleep 60\n"
+
+
+class Stopped(InClone):
+    def setUp(self):
+        super().setUp()
+        self.script("crates/railplan_main/out/railplan_main", SLOW)
+
+    def begun(self):
+        """the number of the program, when it has begun"""
+        until = time.time() + 20
+        while time.time() < until:
+            text = (self.top / "begun").read_text() if (self.top / "begun").exists() else ""
+            if text.strip():
+                return int(text)
+            time.sleep(0.02)
+        self.fail("the program hasn't begun")
+
+    def is_there(self, number):
+        try:
+            os.kill(number, 0)
+        except ProcessLookupError:
+            return False
+        return True
+
+    def test_a_signal_ends_the_run_with_130_and_leaves_no_process(self):
+        for sign in (signal.SIGINT, signal.SIGTERM, signal.SIGHUP):
+            with self.subTest(sign):
+                job = self.start("draw", "one.xml")
+                number = self.begun()
+                job.send_signal(sign)
+                out, err = job.communicate(timeout=20)
+                self.assertEqual((job.returncode, out), (130, ""))
+                self.assertNotIn("Traceback", err)
+                self.assertFalse(self.is_there(number))
+                (self.top / "begun").unlink()
+
+    def test_a_program_that_is_killed(self):
+        job = self.start("draw", "one.xml")
+        os.kill(self.begun(), signal.SIGKILL)
+        err = job.communicate(timeout=20)[1]
+        self.assertEqual(job.returncode, 137)
+        self.assertIn("ended by signal 9", err)
+
+    def test_statuses_without_a_line_are_explained(self):
+        for status, piece in ((6, "couldn't be written"), (7, "no memory"), (10, "words of the command line")):
+            with self.subTest(status):
+                self.script("crates/railplan_main/out/railplan_main", f"#!/bin/sh\nexit {status}\n")
+                found, out, err = self.launch("graph", "one.xml")
+                self.assertEqual((found, out), (status, ""))
+                self.assertIn(piece, err)
+
+    def test_a_program_that_cannot_be_started(self):
+        self.script("crates/railplan_main/out/railplan_main", "#!/nowhere\n")
+        found, out, err = self.launch("graph", "one.xml")
+        self.assertEqual((found, out), (10, ""))
+        self.assertIn("couldn't be started", err)
+
+    def test_an_interrupt_while_another_run_builds(self):
+        self.touch("crates/low/src/lib.rt", 9999)
+        first = self.start("graph", "one.xml", SLOW="30")
+        until = time.time() + 20
+        while "run" not in self.text("asked").split() and time.time() < until:
+            time.sleep(0.05)
+        second = self.start("graph", "one.xml")
+        said = second.stderr.readline()
+        self.assertIn("another run is building", said)
+        for job in (second, first):
+            job.send_signal(signal.SIGINT)
+            job.communicate(timeout=30)
+            self.assertEqual(job.returncode, 130)
+
+    def text(self, name):
+        return (self.top / name).read_text() if (self.top / name).exists() else ""
+
+
+if __name__ == "__main__":
+    unittest.main()

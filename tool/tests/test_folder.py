@@ -1,0 +1,189 @@
+"""A folder of stations: what is drawn, on which grids, what is not drawn again, parts, and the page of all."""
+import json
+import signal
+import time
+
+from tool import folder_index, folder_station
+from tool.folder_station import Record, Setting
+from tool.tests.clones import InClone
+
+# a program that answers by the name of the file: it says in `asked` what it was asked for
+PROGRAM = """#!/bin/sh
+echo "$@" >> "$HERE/asked_of_program"
+case $1 in
+graph) printf 'railgraph 1\\nnodes 3\\nnode 0 a end 0.000000\\nnode 1 b end 5.000000\\nnode 2 c end 9.000000\\nedges 2\\n'
+    printf 'edge 0 t 0 1\\nedge 1 t 1 2\\n' ;;
+draw)
+    case $2 in
+    *refused*) echo 'text 8 Root at 0'; exit 1 ;;
+    *slow*) sleep 30 ;;
+    *none*) printf 'railplan 2\\ngrid 40 8 1\\norder height\\nend none\\n'; exit 3 ;;
+    *large*) case "$*" in *'--width 64 --height 12'*) ;; *) printf 'railplan 2\\norder height\\nend none\\n'; exit 3 ;; esac ;;
+    esac
+    while test $# -gt 0; do case $1 in --svg) echo '<svg>' > "$2" ;; --log) echo 'railplan-log 1' > "$2" ;; esac; shift; done
+    printf 'railplan 2\\ngrid 40 8 1\\norder height bends\\nnodes 1\\nvalues 1 2 3 4\\nend best\\n' ;;
+trim) echo 'railplan-hints 1' > "$5"; echo 'trimmed 2 1' ;;
+recheck) echo 'certified 2' ;;
+esac
+"""
+RUN = """import subprocess, sys
+ran = subprocess.run([sys.executable, "-S", sys.argv[1], *sys.argv[3:]], stdout=subprocess.PIPE)
+if ran.returncode != 1: open(sys.argv[2], "w").write("<!DOCTYPE html>")
+sys.stdout.buffer.write(ran.stdout)
+sys.exit(ran.returncode)
+"""
+
+
+class Folders(InClone):
+    def setUp(self):
+        super().setUp()
+        self.script("crates/railplan_main/out/railplan_main", PROGRAM)
+        self.write("pages/run.py", RUN)
+
+    def stations(self, *names):
+        for name in names:
+            self.write(f"in/{name}.xml", f"<{name}/>")
+
+    def folder(self, *more):
+        return self.launch("folder", "in", "out", *more)
+
+    def made(self):
+        return sorted(it.name for it in (self.top / "out").iterdir() if it.name != "records")
+
+    def drawn(self):
+        """the draw runs of the program so far, which are forgotten then"""
+        path = self.top / "asked_of_program"
+        lines = path.read_text().splitlines() if path.exists() else []
+        path.write_text("")
+        return [line.split(" --svg")[0] for line in lines if line.startswith("draw")]
+
+    def record(self, name):
+        return json.loads((self.top / f"out/records/{name}.json").read_text())
+
+    def test_each_station_has_its_files_and_the_page_has_all_faults_first(self):
+        self.stations("b", "refused", "a")
+        status, out, err = self.folder("-j", "2")
+        self.assertEqual((status, out), (1, ""))
+        self.assertIn("in/refused.xml:1:1: the first element is refused", err)
+        self.assertIn("3 stations: 2 best, 1 refused, in ", err)
+        self.assertEqual(self.made(), ["a.html", "a.sheet", "a.svg", "b.html", "b.sheet", "b.svg", "index.html"])
+        page = (self.top / "out/index.html").read_text()
+        places = [page.index(it) for it in (">refused<", ">a<", ">b<")]
+        self.assertEqual(places, sorted(places))
+        self.assertIn('<img src="a.svg"', page)
+        self.assertEqual(self.record("a")["values"], [1, 2, 3, 4])
+
+    def test_larger_grids_are_tried(self):
+        self.stations("large", "none")
+        self.assertEqual(self.folder("-j", "1")[0], 3)
+        grids = ["--width 40 --height 8", "--width 64 --height 8", "--width 64 --height 12"]
+        self.assertEqual(sorted(self.drawn()), sorted(f"draw in/{name}.xml {it}" for name in ("large", "none") for it in grids))
+        self.assertEqual(self.record("large")["grid"], [64, 12])
+
+    def test_what_has_not_changed_is_not_drawn_again(self):
+        self.stations("a", "b", "refused")
+        self.folder()
+        self.assertEqual(len(self.drawn()), 3)
+        self.folder()
+        self.assertEqual(self.drawn(), [])
+        self.write("in/a.xml", "<other/>")
+        (self.top / "out/b.svg").unlink()
+        self.assertEqual(self.folder()[0], 1)
+        self.assertEqual(len(self.drawn()), 2)
+        self.folder("--least", "2")
+        self.assertEqual(len(self.drawn()), 3)
+        self.assertTrue(self.record("a")["key"])
+
+    def test_another_program_draws_anew(self):
+        self.stations("a")
+        self.folder()
+        self.drawn()
+        self.script("crates/railplan_main/out/railplan_main", PROGRAM + "# other\n")
+        self.folder()
+        self.assertEqual(len(self.drawn()), 1)
+
+    def test_certificates(self):
+        self.stations("a", "none")
+        self.folder("--certify")
+        self.assertEqual(self.record("a")["certified"], "certified 2")
+        self.assertIn("a.hints", self.made())
+        self.assertNotIn("a.log", self.made())
+        page = (self.top / "out/index.html").read_text()
+        self.assertIn(">certified: 2 of 2<", page)
+        self.assertIn(">certified: no drawing<", page)
+
+    def test_parts_and_their_page(self):
+        self.stations("a", "b", "c", "d", "e")
+        for part, names in (("1/2", ["a", "c", "e"]), ("2/2", ["b", "d"])):
+            if part == "2/2":
+                self.assertEqual(self.folder("--join")[0], 4)
+                self.assertIn("not drawn yet", (self.top / "out/index.html").read_text())
+                (self.top / "out/index.html").unlink()
+            status, out, err = self.folder("--shard", part)
+            self.assertEqual((status, out), (0, ""))
+            self.assertIn("folder --join in out", err)
+            self.assertEqual([it.split()[1] for it in sorted(self.drawn())], [f"in/{name}.xml" for name in names])
+            self.assertNotIn("index.html", self.made())
+        self.assertEqual(self.folder("--join")[0], 0)
+        self.assertEqual(self.drawn(), [])
+        self.assertIn("5 best", (self.top / "out/index.html").read_text())
+
+    def test_files_of_others_stay(self):
+        self.stations("a")
+        for name in ("index.html", "a.svg", "a.html", "a.sheet"):
+            with self.subTest(name):
+                self.write(f"out/{name}", "mine")
+                status, out, err = self.folder()
+                self.assertEqual(status, 2)
+                self.assertIn(f"out/{name} is there, and railplan didn't make it", err)
+                (self.top / "out" / name).unlink()
+        self.assertEqual(self.drawn(), [])
+
+    def test_an_interrupt_leaves_what_is_done(self):
+        self.stations("a", "slow")
+        job = self.start("folder", "in", "out", "-j", "2")
+        until = time.time() + 30
+        while not (self.top / "out/records/a.json").exists() and time.time() < until:
+            time.sleep(0.05)
+        job.send_signal(signal.SIGINT)
+        err = job.communicate(timeout=20)[1]
+        self.assertEqual(job.returncode, 130)
+        self.assertIn("1 of 2 stations are done", err)
+        self.drawn()
+        self.stations("slow2")
+        (self.top / "in/slow.xml").rename(self.top / "in/quick.xml")
+        (self.top / "in/slow2.xml").unlink()
+        self.assertEqual(self.folder()[0], 0)
+        self.assertEqual(len(self.drawn()), 1)
+
+    def test_words_with_a_fault(self):
+        self.stations("a")
+        for more, piece in ((["--shard", "3/2"], "`3/2` is no part"), (["-j", "0"], "no number of stations"),
+                            (["--width", "65"], "`65` can't be behind --width"), (["x"], "unrecognized arguments: x"),
+                            (["--svg", "s"], "unrecognized arguments")):
+            with self.subTest(more):
+                status, out, err = self.folder(*more)
+                self.assertEqual((status, out), (2, ""))
+                self.assertIn(piece, err)
+        self.assertEqual(self.launch("folder", "nosuch", "out")[0], 5)
+        self.assertEqual(self.launch("folder", "bin", "out")[0], 5)
+        self.assertEqual(self.launch("--html", "p", "folder", "in", "out")[0], 2)
+
+    def test_grids(self):
+        def grids(options, chain):
+            return folder_station.grids(Setting("", "", "", "", self.top, options, False), chain)
+        self.assertEqual(grids((), 0), [(40, 8), (64, 8), (64, 12)])
+        self.assertEqual(grids((), 41), [(64, 8), (64, 12)])
+        self.assertEqual(grids((), 65), [(40, 8)])
+        self.assertEqual(grids(("--width", "64", "--height", "12"), 5), [(64, 12)])
+        self.assertEqual(grids(("--width", "20", "--least", "2"), 11), [(64, 8), (64, 12)])
+
+    def test_the_status_is_the_worst(self):
+        for statuses, worst in (([0, 0], 0), ([0, 3], 3), ([3, 4, 0], 4), ([4, 1, 3], 1), ([5, 1], 1), ([7, 6], 6), ([], 0)):
+            self.assertEqual(folder_index.worst([Record("", "", it) for it in statuses]), worst)
+
+    def test_names_in_the_page_are_text(self):
+        page = folder_index.text("<b>", [Record("<i>&", "", 1, said="<u>")])
+        self.assertNotIn("<i>", page)
+        self.assertNotIn("<u>", page)
+        self.assertIn("&lt;i&gt;&amp;", page)

@@ -1,0 +1,151 @@
+"""What the launcher does without the program: help, version, the manual page, completions, install and uninstall."""
+import os
+import re
+import shutil
+import subprocess
+import unittest
+
+from tool import completions, manual, words
+from tool.tests.clones import InClone
+from tool.version import VERSION
+
+
+class Help(InClone):
+    def setUp(self):
+        super().setUp()
+        os.unlink(self.top / "bin/rt")
+
+    def test_help_in_each_spelling(self):
+        text = self.launch("help")[1]
+        for given in (["--help"], ["-h"], ["--unproved", "--help"], ["help"]):
+            with self.subTest(given):
+                self.assertEqual(self.launch(*given), (0, text, ""))
+
+    def test_help_of_a_command_in_each_spelling(self):
+        text = self.launch("help", "draw")[1]
+        self.assertIn("--conflicts N", text)
+        for given in (["draw", "--help"], ["--help", "draw"], ["draw", "one.xml", "--help"], ["draw", "--width", "4", "--help"],
+                      ["--html", "p", "draw", "--help"]):
+            with self.subTest(given):
+                self.assertEqual(self.launch(*given), (0, text, ""))
+
+    def test_every_command_has_a_help(self):
+        for word in manual.all_commands():
+            with self.subTest(word):
+                text = manual.of_command(word, "railplan")
+                self.assertTrue(text.startswith(f"railplan {word}"))
+                for line in text.splitlines():
+                    self.assertLessEqual(len(line), 80)
+
+    def test_the_overview_names_all_and_is_80_columns_wide(self):
+        text = manual.overview("./railplan")
+        for word in [*manual.all_commands(), *words.OPTIONS, *words.PAGE_WORDS, "--unproved"]:
+            self.assertRegex(text, rf"(?m)^  {word}\b")
+        self.assertEqual([line for line in text.splitlines() if len(line) > 84], [])
+
+    def test_help_of_what_is_no_command(self):
+        status, out, err = self.launch("help", "drow")
+        self.assertEqual((status, out), (2, ""))
+        self.assertIn("Did you mean", err)
+
+
+class Version(InClone):
+    def test_without_a_program(self):
+        for given in ("--version", "version"):
+            status, out, err = self.launch(given)
+            self.assertEqual((status, err), (0, ""))
+            self.assertEqual(out, f"railplan {VERSION}\nprogram: not built yet; the first run proves and builds it\n")
+
+    def test_of_a_program_that_was_built(self):
+        self.launch("graph", "one.xml")
+        self.assertRegex(self.launch("--version")[1],
+                         rf"^railplan {re.escape(VERSION)}\nprogram: proved and built from these sources with kit-1\nSHA-256: \w{{64}}\n$")
+
+    def test_of_a_program_that_is_none_of_these_sources(self):
+        self.launch("graph", "one.xml")
+        self.write("crates/low/src/lib.rt", "// other\n")
+        self.assertIn("not that of these sources: crates/low/src/lib.rt isn't", self.launch("--version")[1])
+
+    def test_of_a_program_that_something_else_built(self):
+        self.script("crates/railplan_main/out/railplan_main", "#!/bin/sh\n")
+        self.assertIn("program: not known to be proved", self.launch("--version")[1])
+
+
+class Installed(InClone):
+    def prefix(self, *given):
+        return self.launch(*given, str(self.top / "prefix"))
+
+    def files(self):
+        return sorted(str(it.relative_to(self.top / "prefix")) for it in (self.top / "prefix").rglob("*") if not it.is_dir())
+
+    def test_install_and_uninstall(self):
+        self.script("crates/railplan_main/out/railplan_main", "#!/bin/sh\necho ran\n")
+        status, out, err = self.prefix("install")
+        self.assertEqual((status, out), (0, ""))
+        self.assertIn("isn't on the PATH", err)
+        self.assertEqual(self.files(), ["bin/railplan", "share/bash-completion/completions/railplan", "share/man/man1/railplan.1",
+                                        "share/zsh/site-functions/_railplan"])
+        self.assertEqual(self.prefix("install")[0], 0)
+        environment = self.environment()
+        environment["PATH"] = f"{self.top}/prefix/bin:{environment['PATH']}"
+        ran = subprocess.run("railplan graph one.xml; railplan drow", shell=True, cwd=self.top, env=environment, capture_output=True,
+                             text=True)
+        self.assertEqual(ran.stdout, "ran\nran\n")
+        self.assertEqual(self.prefix("uninstall")[0], 0)
+        self.assertEqual(self.files(), [])
+        self.assertEqual(self.prefix("uninstall")[0], 2)
+
+    def test_files_of_others_stay(self):
+        for name in ("bin/railplan", "share/man/man1/railplan.1"):
+            with self.subTest(name):
+                self.write(f"prefix/{name}", "mine\n")
+                self.assertEqual(self.prefix("install")[0], 2)
+                self.prefix("uninstall")
+                self.assertEqual((self.top / "prefix" / name).read_text(), "mine\n")
+                shutil.rmtree(self.top / "prefix")
+
+    def test_a_folder_that_cannot_be_written(self):
+        self.write("prefix", "")
+        status, out, err = self.prefix("install")
+        self.assertEqual(status, 6)
+        self.assertNotIn("Traceback", err)
+
+
+class Made(unittest.TestCase):
+    def test_the_manual_page_has_every_word(self):
+        page = manual.man_page(VERSION)
+        for word in [*manual.all_commands(), *words.OPTIONS, *words.OWN_OPTIONS, *words.PAGE_WORDS]:
+            self.assertIn(f"\\fB{manual.escaped(word)}", page)
+
+    @unittest.skipUnless(shutil.which("groff"), "there is no groff")
+    def test_the_manual_page_is_troff(self):
+        ran = subprocess.run(["groff", "-man", "-Tascii", "-ww"], input=manual.man_page(VERSION), capture_output=True, text=True)
+        self.assertEqual((ran.returncode, ran.stderr), (0, ""))
+        self.assertIn("EXIT STATUS", re.sub(".\x08", "", ran.stdout))
+
+    def complete(self, *typed):
+        """what bash offers for the last of these words"""
+        line = " ".join(f"'{it}'" for it in ("railplan", *typed))
+        script = completions.bash() + f"COMP_WORDS=({line}); COMP_CWORD={len(typed)}; _railplan; printf '%s\\n' \"${{COMPREPLY[@]}}\""
+        return subprocess.run(["bash", "-c", script], capture_output=True, text=True).stdout.split()
+
+    @unittest.skipUnless(shutil.which("bash"), "there is no bash")
+    def test_completions_of_bash(self):
+        self.assertEqual(self.complete("dr"), ["draw"])
+        self.assertEqual(self.complete("re"), [it for it in manual.all_commands() if it.startswith("re")])
+        self.assertEqual(self.complete("draw", "--he"), ["--height", "--help"])
+        self.assertEqual(self.complete("graph", "--"), ["--help"])
+        self.assertEqual(self.complete("draw", "--order", "b"), ["bends"])
+        self.assertEqual(self.complete("front", "x", "height,w"), ["height,width"])
+        self.assertEqual(self.complete("help", "expl"), ["explain"])
+        self.assertIn("--certify", self.complete("folder", "a", "b", "--c"))
+        self.assertEqual(self.complete("draw", "--width", ""), [])
+
+    def test_completions_of_zsh_name_every_word(self):
+        text = completions.zsh()
+        for word in [*manual.all_commands(), *words.OPTIONS, *words.OWN_OPTIONS, *words.PAGE_WORDS]:
+            self.assertIn(word, text)
+
+
+if __name__ == "__main__":
+    unittest.main()

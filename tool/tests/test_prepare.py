@@ -1,0 +1,104 @@
+"""prepare: what is mended, what stays to the byte, and where nothing is written."""
+import unittest
+
+from tool import prepare
+
+TRACK = ('<railml xmlns="x"><infrastructure><tracks>'
+         '<track id="a"><trackTopology><trackBegin id="ab" pos="0" absPos="100"><openEnd/></trackBegin>'
+         '<trackEnd id="ae" pos="50"><openEnd/></trackEnd><connections>'
+         '<switch id="w" pos="20"><connection id="c" ref="d" course="left" orientation="outgoing"/></switch>'
+         '</connections></trackTopology></track>'
+         '<track id="b"><trackTopology><trackBegin id="bb" pos="0"><connection id="d" ref="c"/></trackBegin>'
+         '<trackEnd id="be" pos="9"><openEnd/></trackEnd></trackTopology></track>'
+         "</tracks></infrastructure></railml>")
+
+
+def mended(text, encoding="utf-8"):
+    it = prepare.mended("s.xml", text.encode(encoding) if isinstance(text, str) else text)
+    return it.data.decode("utf-8", "replace"), it.changes, it.guesses
+
+
+class Mended(unittest.TestCase):
+    def test_the_mileage_of_a_joined_begin(self):
+        text, changes, guesses = mended(TRACK)
+        self.assertEqual(text, TRACK.replace('<trackBegin id="bb"', '<trackBegin absPos="120" id="bb"'))
+        self.assertEqual((len(changes), guesses), (1, []))
+
+    def test_a_chain_of_begins(self):
+        more = ('<track id="e"><trackTopology><trackBegin id="eb" pos="0"><connection id="g" ref="h"/></trackBegin>'
+                '<trackEnd id="ee" pos="9"><openEnd/></trackEnd></trackTopology></track></tracks>')
+        text, changes, guesses = mended(TRACK.replace("</tracks>", more).replace(
+            '<trackEnd id="be" pos="9"><openEnd/>', '<trackEnd id="be" pos="9"><connection id="h" ref="g"/>'))
+        self.assertIn('<trackBegin absPos="129" id="eb"', text)
+        self.assertEqual((len(changes), guesses), (2, []))
+
+    def test_a_mileage_that_nothing_says(self):
+        text, changes, guesses = mended(TRACK.replace(' absPos="100"', ""))
+        self.assertEqual((len(changes), len(guesses)), (0, 2))
+        self.assertIn("nothing in the file says the mileage of the begin of track a", guesses[0])
+
+    def test_numbers(self):
+        for given, written in (("20,5", "20.5"), ("2.05E1", "20.5"), ("20.5000001", "20.5"), ("20.12345678", "20.123457"), ("1e-7", "0")):
+            text, changes, guesses = mended(TRACK.replace('id="w" pos="20"', f'id="w" pos="{given}"'))
+            with self.subTest(given):
+                self.assertIn(f'id="w" pos="{written}"', text)
+                self.assertEqual(guesses, [])
+                self.assertIn(f'pos="{given}" of switch w is written as {written}', changes[0])
+
+    def test_numbers_that_are_not_clear(self):
+        for given in ("1.234,5", "1,234,5", "twenty", "", "1e99", "nan", "1234567890"):
+            text, changes, guesses = mended(TRACK.replace('id="w" pos="20"', f'id="w" pos="{given}"'))
+            with self.subTest(given):
+                self.assertIn("is no number of metres that is clear", guesses[0])
+
+    def test_numbers_that_are_read_stay_as_they_are(self):
+        for given in ("20.50", "+20", " 20 ", "020", "20.", ".5", "20.000000"):
+            text = TRACK.replace('id="w" pos="20"', f'id="w" pos="{given}"').replace('pos="0"><connection', 'pos="0" absPos="1"><connection')
+            with self.subTest(given):
+                self.assertEqual(mended(text), (text, [], []))
+
+    def test_encodings(self):
+        named = '<?xml version="1.0" encoding="ISO-8859-1"?><!-- \u00fc -->' + TRACK
+        for text, encoding, change in ((named, "latin-1", "ISO-8859-1 is written as UTF-8"),
+                                       ("\ufeff" + named.replace("ISO-8859-1", "UTF-16"), "utf-16-le", "UTF-16 is written as UTF-8"),
+                                       ("\ufeff" + named.replace("ISO-8859-1", "UTF-16"), "utf-16-be", "UTF-16 is written as UTF-8"),
+                                       (named.replace("ISO-8859-1", "windows-1252"), "cp1252", "windows-1252 is written as UTF-8")):
+            with self.subTest(encoding):
+                found, changes, guesses = mended(text, encoding)
+                self.assertTrue(found.startswith('<?xml version="1.0" encoding="UTF-8"?><!-- \u00fc -->'))
+                self.assertEqual((changes[0], guesses), (change, []))
+
+    def test_encodings_that_the_file_does_not_say(self):
+        for text in ("<!-- \u00fc -->" + TRACK, '<?xml version="1.0" encoding="UTF-8"?><!-- \u00fc -->' + TRACK):
+            found, changes, guesses = mended(text.encode("latin-1"))
+            self.assertIn("Name its encoding in the first line", guesses[0])
+        self.assertIn("isn't known", mended('<?xml version="1.0" encoding="x-y"?>' + TRACK)[2][0])
+
+    def test_a_prefix(self):
+        text = TRACK.replace("<", "<r:").replace("<r:/", "</r:").replace('xmlns="x"', 'xmlns:r="x"')
+        found, changes, guesses = mended(text)
+        self.assertEqual(found, mended(TRACK.replace('<railml xmlns="x"', '<railml xmlns="x" xmlns:r="x"'))[0])
+        self.assertEqual(guesses, [])
+
+    def test_prefixes_that_are_not_clear(self):
+        text = TRACK.replace("<track id", "<r:track id").replace("</track>", "</r:track>").replace('xmlns="x"', 'xmlns="x" xmlns:r="y"')
+        self.assertIn("isn't clear", mended(text)[2][0])
+
+    def test_what_is_no_xml(self):
+        self.assertIn("this isn't XML", mended(TRACK[:-5])[2][0])
+
+    def test_what_is_whole_stays_to_the_byte(self):
+        whole = '<?xml version="1.0"?>\r\n' + mended(TRACK)[0] + "\n\n<!-- pos=\"1,5\" -->"
+        self.assertEqual(mended(whole), (whole, [], []))
+
+    def test_comments_and_other_elements_are_left_alone(self):
+        text = TRACK.replace("<connections>", '<!-- <switch pos="1,5"/> --><connections>').replace(
+            "</trackTopology></track><track", '</trackTopology><trackElements><bridge pos="1,5"/></trackElements></track><track')
+        found, changes, guesses = mended(text)
+        self.assertIn('<!-- <switch pos="1,5"/> -->', found)
+        self.assertIn('<bridge pos="1,5"/>', found)
+        self.assertEqual((len(changes), guesses), (1, []))
+
+
+if __name__ == "__main__":
+    unittest.main()

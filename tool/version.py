@@ -1,0 +1,2 @@
+"""Which version this is."""
+VERSION = "0.9"

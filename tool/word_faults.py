@@ -1,0 +1,138 @@
+"""What a fault of the words means: what was typed, what was meant, and the line to type."""
+from __future__ import annotations
+
+import difflib
+import os
+import shlex
+
+from tool import manual, words
+
+# what an option's value is, in words
+TAKES = {"--width": "a number of columns, 1 to 64", "--height": "a number of rows, 0 to 12",
+         "--least": "a number of columns, 1 to 16", "--conflicts": "a number of clauses, 1 to 200000, in digits alone",
+         "--order": "one to four of height, bends, diagonal and width, with commas and no blanks between them",
+         "--svg": "the name of a file", "--log": "the name of a file"}
+
+
+def quoted(word: str) -> str:
+    return f"`{word}`" if word else "an empty word"
+
+
+def near(word: str, among: list[str]) -> str:
+    """the word that was meant, as far as it can be seen"""
+    found = difflib.get_close_matches(word.lower(), among, 1, 0.6)
+    return found[0] if found else ""
+
+
+def usage(command: str, called: str) -> str:
+    return " ".join([called, command, *(name.word for name in words.COMMANDS[command].names)])
+
+
+def typed(called: str, line: list[str]) -> str:
+    return f"{called} {shlex.join(line)}"
+
+
+def no_command(given: list[str], at: int, called: str) -> str:
+    return f"a command is missing: {called} draw FILE draws a station, and {called} help says all commands"
+
+
+def unknown_command(given: list[str], at: int, called: str) -> str:
+    word = given[0]
+    if word.startswith("-"):
+        known = word in words.OPTIONS
+        command = next((it for it in given if it in words.COMMANDS), "")
+        if command and known:
+            rest = [it for it in given[given.index(command):]]
+            return f"the command comes first: {typed(called, [*rest, *given[:given.index(command)]])}"
+        meant = near(word, [*words.PAGE_WORDS, "--unproved", "--help", "--version"])
+        return f"{quoted(word)} is no command, and no word that is known before one" + \
+            (f". Did you mean `{meant}`?" if meant else f": {called} draw FILE {word} .." if known else f": {called} help says all")
+    if os.path.isdir(word):
+        return f"{quoted(word)} is a folder, and a command is missing: {typed(called, ['folder', word])} OUT draws each station in it"
+    if word and os.path.exists(word):
+        return f"{quoted(word)} is a file, and a command is missing before it: {typed(called, ['draw', *given])}"
+    meant = near(word, [*words.COMMANDS, *words.OWN])
+    return f"{quoted(word)} is no command" + \
+        (f". Did you mean {typed(called, [meant, *given[1:]])}" if meant else f": {called} help says all commands")
+
+
+def missing_name(given: list[str], at: int, called: str) -> str:
+    command = words.COMMANDS[given[0]]
+    lacking = command.names[len(words.parts(given)[0]):]
+    listed = " and ".join(f"{it.word}, {it.what}" for it in lacking)
+    return f"{given[0]} needs {'one name more' if len(lacking) == 1 else f'{len(lacking)} names more'}: {listed}. " \
+           f"{usage(given[0], called)}"
+
+
+def joined_pair(given: list[str], at: int, called: str) -> str:
+    return "the two criteria are one word with a comma between them: " + \
+        typed(called, [*given[:at], f"{given[at]},{given[at + 1]}", *given[at + 2:]])
+
+
+def extra_word(given: list[str], at: int, called: str) -> str:
+    word, command = given[at], given[0]
+    if word.startswith(("-", "—", "–")) and len(word) > 1:
+        option = "--" + word.strip("-—–")
+        known = words.COMMANDS[command].options
+        meant = near(option, list(known))
+        return f"{quoted(word)} was taken for a name: an option begins with two hyphens" + \
+            (f", as {meant}" if meant else f". {command} has {', '.join(known) or 'no options'}")
+    if command in ("draw", "signals", "graph", "explain"):
+        return f"{quoted(word)} is one name too many: one run takes one station. Many are drawn by {called} folder IN OUT"
+    return f"{quoted(word)} is one name too many: {usage(command, called)}"
+
+
+def unknown_option(given: list[str], at: int, called: str) -> str:
+    word, command = given[at], given[0]
+    known = list(words.COMMANDS[command].options)
+    if "=" in word and word.partition("=")[0] in known:
+        return f"an option and its value are two words: " \
+               f"{typed(called, [*given[:at], *word.split('=', 1), *given[at + 1:]])}"
+    if word == "--":
+        return f"{command} has no option --: names need none before them"
+    having = [it for it in words.COMMANDS if word in words.COMMANDS[it].options]
+    meant = "" if having else near(word, [*known, *words.PAGE_WORDS, "--help"])
+    if meant:
+        return f"{command} has no option {word}. Did you mean {typed(called, [*given[:at], meant, *given[at + 1:]])}"
+    listed = f"{command} has {'the options ' + ', '.join(known) if known else 'no options'}"
+    return f"{word} is an option of {' and '.join(having)}; {listed}" if having else f"{command} has no option {word}: {listed}"
+
+
+def repeated_option(given: list[str], at: int, called: str) -> str:
+    return f"{given[at]} comes twice. Leave out one of the two"
+
+
+def bad_value(given: list[str], at: int, called: str) -> str:
+    word = given[at] if at < len(given) else ""
+    names, options = words.parts(given)
+    places = {place: option for option, place in options.items()}
+    if at in places and at + 1 >= len(given):
+        return f"behind {word} its value is missing, {TAKES[word]}"
+    if at - 1 in places:
+        option = places[at - 1]
+        if not words.allows(words.OPTIONS[option], word):
+            return f"{quoted(word)} can't be behind {option}, which takes {TAKES[option]}"
+    if at in names:
+        name = words.COMMANDS[given[0]].names[names.index(at)]
+        if not words.may_be(name, word):
+            if name.kind == "pair" and word in words.CRITERIA and given[at + 1:at + 2] and given[at + 1] in words.CRITERIA:
+                return joined_pair(given, at, called)
+            if name.kind == "pair":
+                return f"{quoted(word)} is no pair: write two of height, bends, diagonal and width with a comma between them, " \
+                       "as height,width"
+            return f"{quoted(word)} can't be {name.word}, which is {name.what}"
+    return f"{quoted(word)} is named twice: a file that is written needs a name of its own"
+
+
+SAID = {"NoCommand": no_command, "UnknownCommand": unknown_command, "MissingName": missing_name, "ExtraWord": extra_word,
+        "UnknownOption": unknown_option, "RepeatedOption": repeated_option, "BadValue": bad_value}
+
+
+def sentence(fault: str, position: int, given: list[str], called: str) -> str:
+    """what is said of the words' fault; the position counts from 1"""
+    return SAID[fault](given, position - 1, called)
+
+
+def unknown_help(word: str, called: str) -> str:
+    meant = near(word, [*manual.all_commands()])
+    return f"{quoted(word)} is no command" + (f". Did you mean {called} help {meant}" if meant else f": {called} help says all")
