@@ -1,0 +1,7 @@
+"""What is known to be otherwise than it is to be, each with its sentence.
+
+A script that sees such a thing goes on and says so. A script that looks for it and doesn't see it any more fails: then the
+entry is to be taken out, so that it can't come back unseen."""
+
+KNOWN: dict[str, str] = {
+}
