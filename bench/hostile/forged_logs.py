@@ -43,7 +43,7 @@ def forged_clause(case: Case, literals: list[str], others: list[str]) -> list[st
 
 def others_of(case: Case, lines: list[str]) -> list[str]:
     """literals that may come into a line: of the Learnt, Query and Refuted lines, negated too, and of any clause"""
-    found = [field for line in lines if line[:2] in ("l ", "q ", "r ", "b ") for field in line.split(" ")[1:] if field.lstrip("-").isdigit()]
+    found = [field for line in lines if line[:2] in ("l ", "q ", "r ", "b ") for field in line.split(" ")[1:]]
     found += [field for line in case.chance.sample(lines, min(20, len(lines))) for field in line.split(" ")[1:-1]]
     found = [field for field in found if field.lstrip("-").isdigit() and field != "0"]
     return found + [field.removeprefix("-") if field.startswith("-") else "-" + field for field in found]
