@@ -7,8 +7,9 @@ from opinion import stations
 
 Chance = random.Random
 BYTES = [b"\x00", b"\n", b"\r\n", b"\r", b"\t", b" ", b"  ", b"\x7f", b"\xff", b"\xc3", b"\xc2\x80", b"\xef\xbf\xbe",
-         b"\xef\xbf\xbf", b"\xed\xa0\x80", b"\xf4\x90\x80\x80", b"\xf0\x9f\x9a\x82", b"\xe2\x80\xae", b"\xef\xbb\xbf", b"0", b"-", b"+", b".", b"<", b">",
-         b"&", b'"', b"'", b"=", b"/", b"&#xFFFE;", b"&#0;", b"&#x85;", b"9" * 20, b"-1", b"4294967296", b"18446744073709551616"]
+         b"\xef\xbf\xbf", b"\xed\xa0\x80", b"\xf4\x90\x80\x80", b"\xf0\x9f\x9a\x82", b"\xe2\x80\xae", b"\xef\xbb\xbf", b"0",
+         b"-", b"+", b".", b"<", b">", b"&", b'"', b"'", b"=", b"/", b"&#xFFFE;", b"&#0;", b"&#x85;", b"9" * 20, b"-1",
+         b"4294967296", b"18446744073709551616"]
 NUMBERS = [0, 1, 2, 3, 12, 13, 16, 17, 64, 65, 127, 128, 129, 160, 161, 65535, 65536, 1073741823, 1073741824, 2147483648,
            4294967295, 4294967296, 2 ** 63, 2 ** 64]
 

@@ -4,4 +4,7 @@ A script that sees such a thing goes on and says so. A script that looks for it 
 entry is to be taken out, so that it can't come back unseen."""
 
 KNOWN: dict[str, str] = {
+    "failed close": "A close that fails, of a log, a picture or hints, isn't told: the run ends as if nothing had failed.",
+    "interrupted read": "A read that is interrupted isn't tried again: the run ends with 5.",
+    "interrupted write": "A write that is interrupted isn't tried again: the run ends with 6.",
 }
