@@ -69,7 +69,8 @@ def judge(case: Case, base: preload.Base, at: int, how: dict[str, str], answer: 
         ends = answer.status == 6 and preload.are_fronts(case, base, answer)
         is_closed = call == "fsync" or any(path_of(base, later)[1] and base.calls[later][0] == "close"
                                            for later in range(at, len(base.calls)))
-        case.hold_that(ends if is_closed else same, f"a {call} that fails isn't told: {said}", f"failed {call}" if is_closed else "")
+        known = f"failed {call}" if is_closed else ""
+        case.hold_that(ends if is_closed else same, f"a {call} that fails isn't told: {said}", known)
     elif is_written:
         case.hold_that(answer.status == 6 and preload.are_fronts(case, base, answer), f"a failed {call}: {said}")
     else:
