@@ -6,10 +6,11 @@ In a Learnt, Query, Refuted or Bound line of a log a literal is dropped, added o
 accepts each pair. Where `check` certifies what the sheet claims, `trim` writes hints, and just then `check_lrat.py` accepts
 each of their Refuted lines. The same is done to lines of these hints, and `check_lrat.py` accepts the Refuted lines just where
 `recheck` accepts all lines. Where `cadical` or `drat-trim` is on the PATH, it judges the pairs too: each formula of a pair that
-is accepted has no model, and `drat-trim` verifies its proof."""
+is accepted has no model, and `drat-trim` verifies its proof.
+
+Each case forges four logs and four hints."""
 from __future__ import annotations
 
-import argparse
 import shutil
 import sys
 
@@ -156,9 +157,5 @@ def attempt(case: Case) -> None:
             judge_hints(case, hinted)
 
 
-def more(parser: argparse.ArgumentParser) -> None:
-    parser.epilog = f"Each case forges {FORGED} logs and {FORGED} hints."
-
-
 if __name__ == "__main__":
-    sys.exit(main(__doc__ or "", attempt, 10, more))
+    sys.exit(main(__doc__ or "", attempt, 10))

@@ -1,11 +1,12 @@
 #!/usr/bin/env python3
 """Forges certificates of claims that aren't true, and holds that none is certified.
 
-A station is drawn. By the second opinion its drawing is lawful, and so it refutes each claim that no drawing is lawful, and each
-claim that a worse drawing is best: such worse drawings are those of other orders and of small budgets, on the same grid. For each
-such claim logs and hints are forged: the Refuted lines and the queries that the claim needs are written into certificates of other
-claims, grids and orders, with Learnt lines that say too much, clauses and Bound lines left out or exchanged, other caps, and
-changes by chance. `check` and `recheck` may end with anything but 0."""
+A station is drawn. By the second opinion its drawing is lawful, and so it refutes each claim that no drawing is lawful, and
+each claim that a worse drawing is best. Such worse drawings are those of other orders and of small budgets, on the same grid.
+
+For each such claim logs and hints are forged. The Refuted lines and the queries that the claim needs are written into
+certificates of other claims, grids and orders. Some get Learnt lines that say too much, lack clauses or Bound lines or have
+others, have other caps, and are changed by chance. `check` and `recheck` refuse each of them."""
 from __future__ import annotations
 
 import sys

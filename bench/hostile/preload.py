@@ -1,6 +1,7 @@
 """The library of failing.c, runs of commands under it, and what such runs are to leave."""
 from __future__ import annotations
 
+import atexit
 import os
 import shutil
 import subprocess
@@ -11,7 +12,7 @@ from functools import cache
 from pathlib import Path
 
 from opinion import load, stations
-from trying import Answer, Case
+from trying import Answer, Case, NotHere
 
 SOURCE = Path(__file__).resolve().with_name("failing.c")
 GRID = ["--width", "6", "--height", "1"]
@@ -39,17 +40,14 @@ RUNS = [
 WRITTEN = ("a_log", "a_picture", "some_hints")
 
 
-class NoCompiler(Exception):
-    """there is no C compiler"""
-
-
 @cache
 def library() -> str:
-    """the path of the library, which is built once for each process"""
+    """the path of the library, which is built before the cases begin"""
     compiler = next(filter(None, map(shutil.which, ("cc", "gcc", "clang"))), None)
     if not compiler or not sys.platform.startswith("linux"):
-        raise NoCompiler("there is no C compiler, or this isn't Linux")
+        raise NotHere("there is no C compiler, or this isn't Linux")
     folder = tempfile.mkdtemp(prefix="failing_")
+    atexit.register(shutil.rmtree, folder)
     path = f"{folder}/failing.so"
     subprocess.run([compiler, "-shared", "-fPIC", "-O1", "-o", path, str(SOURCE)], check=True)
     return path

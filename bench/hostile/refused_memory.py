@@ -52,9 +52,4 @@ def attempt(case: Case) -> None:
 
 
 if __name__ == "__main__":
-    try:
-        preload.library()
-    except preload.NoCompiler as why:
-        print(f"refused_memory: not tried, as {why}")
-        sys.exit(0)
-    sys.exit(main(__doc__ or "", attempt, 2 * len(preload.RUNS)))
+    sys.exit(main(__doc__ or "", attempt, 2 * len(preload.RUNS), lambda words: preload.library()))

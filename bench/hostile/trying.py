@@ -149,7 +149,12 @@ class Case:
                        f"{answer.printed[:200]!r} {answer.said[:200]!r}")
 
 
+class NotHere(Exception):
+    """what a script needs of the system, and isn't here"""
+
+
 Try = Callable[[Case], None]
+Prepare = Callable[[argparse.Namespace], object]
 
 
 def emptied(folder: Path) -> None:
@@ -217,11 +222,9 @@ def report(words: argparse.Namespace, tally: Tally) -> int:
     return 1 if tally.wrong else 0
 
 
-def main(text: str, attempt: Try, count: int, more: Callable[[argparse.ArgumentParser], None] | None = None) -> int:
-    """reads a script's words, tries its cases and reports"""
+def main(text: str, attempt: Try, count: int, prepare: Prepare | None = None) -> int:
+    """reads a script's words, tries its cases and reports; `prepare` makes what all cases share"""
     parser = parser_of(text, count)
-    if more:
-        more(parser)
     words = parser.parse_args()
     words.program = words.program.resolve()
     if not os.access(words.program, os.X_OK):
@@ -230,6 +233,12 @@ def main(text: str, attempt: Try, count: int, more: Callable[[argparse.ArgumentP
     words.until = words.began + words.seconds
     words.keep = words.keep and words.keep.resolve()
     tally = Tally()
+    try:
+        if prepare:
+            prepare(words)
+    except NotHere as why:
+        print(f"{words.name}: not tried, as {why}")
+        return 0
     for one in tallies(words, attempt):
         tally.add(one)
         for what in one.wrong[:3]:
