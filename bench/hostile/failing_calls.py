@@ -4,7 +4,8 @@
 Each case is a command on a station by chance. It is run once with all calls listed, and then once for each of its calls. A
 read or an opening that fails is told as `read failed I`; a write, a file that can't be created, and a close of a file that was
 written end with 6, and what was written begins what was due. A close of an input doesn't matter. Short reads and writes, and
-reads and writes that are interrupted, change nothing. An input that ends early is answered in the command's form."""
+reads and writes that are interrupted, change nothing. An input that ends early is answered in the command's form. Where a file
+may not grow beyond a limit, the run ends with 6."""
 from __future__ import annotations
 
 import errno
@@ -78,6 +79,18 @@ def judge(case: Case, base: preload.Base, at: int, how: dict[str, str], answer: 
         case.hold_that((answer.status, answer.printed) == (5, wanted) and not preload.files_of(case), f"a failed {call}: {said}")
 
 
+def limit_files(case: Case, base: preload.Base) -> None:
+    """lets no file grow beyond so many blocks"""
+    for blocks in ("0", "1", "8"):
+        preload.clear(case)
+        answer = case.start(["/bin/sh", "-c", f'ulimit -f {blocks}; exec "$@"', "sh", case.program, *base.words])
+        if preload.is_same(case, base, answer):
+            continue
+        case.count(f"the size of files limited, and the run ended with {answer.status}")
+        case.hold_that(answer.status == 6 and preload.are_fronts(case, base, answer),
+                       preload.told(base.words, {"blocks": blocks}, answer), "size of files")
+
+
 def attempt(case: Case) -> None:
     preload.prepare(case)
     base = preload.base_of(case, preload.RUNS[case.number % len(preload.RUNS)])
@@ -91,6 +104,7 @@ def attempt(case: Case) -> None:
             case.wrong(f"{preload.told(base.words, how, answer)} {answer.said[:100]!r}")
         else:
             judge(case, base, at, {"call": call, "at": str(numbers[call]), **how}, answer)
+    limit_files(case, base)
 
 
 if __name__ == "__main__":

@@ -7,6 +7,7 @@ KNOWN: dict[str, str] = {
     "failed close": "A close that fails, of a log, a picture or hints, isn't told: the run ends as if nothing had failed.",
     "interrupted read": "A read that is interrupted isn't tried again: the run ends with 5.",
     "interrupted write": "A write that is interrupted isn't tried again: the run ends with 6.",
+    "size of files": "A file that may not grow further ends the program alone by the signal XFSZ, and not with 6.",
     "page, SIGINT alone": "A run with a page goes on where the process that was started, and not its group, gets an interrupt.",
     "page, SIGHUP alone": "A run with a page leaves its search running where its terminal is gone.",
     "signs of a picture": "An id with U+FFFE is written as it is into a picture, which is no XML then.",
