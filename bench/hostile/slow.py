@@ -1,7 +1,7 @@
 #!/usr/bin/env python3
-"""Measures how long `recheck`, `check` and `trim` take on hints and logs that are made to take long.
+"""Measures how long commands take on hints, logs, railML files and sheets that are made to take long.
 
-Of each family of slow_families.py files of doubling sizes are made, and the seconds of the processor are taken. The table has a
+Of each family of slow_families.py and slow_files.py files of doubling sizes are made, and the seconds of the processor are taken. The table has a
 line for each size: bytes, seconds, seconds for each megabyte, and how often the seconds a byte of the ordinary kind, at the
 same size, that is. A family is slow where its last line has more than --times of these, or where a run takes longer than
 --limit; less than --floor seconds are never slow. `--count` says how many sizes there are."""
@@ -21,12 +21,17 @@ sys.dont_write_bytecode = True
 
 from known import KNOWN  # noqa: E402
 from slow_families import HINTS, LOGS, Maker, Material  # noqa: E402
+from slow_files import FILES, SHEETS  # noqa: E402
+from slow_files import MOST as MOST_FILE  # noqa: E402
 from trying import TOP, Tally, parser_of, report  # noqa: E402
 
 WORDS = {"recheck": ["recheck", "station", "sheet", "made"], "check": ["check", "station", "sheet", "made"],
-         "trim": ["trim", "station", "sheet", "made", "out"]}
-FAMILIES = {"recheck": HINTS, "check": LOGS, "trim": LOGS}
-STATUSES = (0, 8)
+         "trim": ["trim", "station", "sheet", "made", "out"], "graph": ["graph", "made"],
+         "verify": ["verify", "station", "made"]}
+FAMILIES = {"recheck": HINTS, "check": LOGS, "trim": LOGS, "graph": FILES, "verify": SHEETS}
+# the greatest size of what a command reads
+MOST = {"graph": MOST_FILE, "verify": MOST_FILE}
+STATUSES = (0, 1, 8)
 
 
 @dataclass
@@ -111,7 +116,7 @@ def try_family(words: argparse.Namespace, command: str, family: str, material: M
     """measures a family at each size, until it is slow"""
     slow = False
     for doubling in range(words.count):
-        size = words.least << doubling
+        size = min(words.least << doubling, MOST.get(command, 1 << 29) - 2000)
         one = measure(words, command, FAMILIES[command][family], material, size)
         tally.runs += 1
         if family == "ordinary":
@@ -120,10 +125,8 @@ def try_family(words: argparse.Namespace, command: str, family: str, material: M
         slow = is_slow(words, one, rates[size])
         if not one.was_ended and one.status not in STATUSES:
             tally.wrong.append(f"{command}, {family}: ends with {one.status}")
-        if one.was_ended or family == "ordinary" and command != "recheck" or time.time() > words.until:
+        if one.was_ended or size < words.least << doubling or time.time() > words.until:
             break
-    if family == "ordinary" and command != "recheck":
-        rates.update({words.least << doubling: rates[words.least] for doubling in range(words.count)})
     key = f"slow: {command}, {family}"
     tally.cases += 1
     if key in KNOWN:
