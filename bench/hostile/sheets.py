@@ -1,8 +1,8 @@
 #!/usr/bin/env python3
 """Changes sheets of both editions by chance, and holds the program to what it is to answer.
 
-`verify` is judged byte for byte by the second opinion. `check` and `redraw` are to tell the same fault of the sheet, or else
-to answer in their forms."""
+`verify`, and `check` with an empty log, are judged byte for byte by the second opinion. `redraw` is to tell the same fault of the
+sheet as `verify`, or else to answer in its form."""
 from __future__ import annotations
 
 import sys
@@ -11,11 +11,12 @@ sys.dont_write_bytecode = True
 
 from changes import changed_sheet  # noqa: E402
 from forms import why_otherwise  # noqa: E402
-from opinion import drawing, graph, stations  # noqa: E402
+from opinion import drawing, graph, log, stations  # noqa: E402
 from small import station  # noqa: E402
 from trying import Case, main  # noqa: E402
 
 SHEETS = 6
+EMPTY_LOG = b"railplan-log 1\n"
 
 
 def sheet_of(case: Case, found: graph.Graph) -> bytes:
@@ -28,22 +29,17 @@ def sheet_of(case: Case, found: graph.Graph) -> bytes:
     return drawing.sheet_text(sheet, sheet.least > 1 or case.chance.random() < 0.6)
 
 
-def others(case: Case, wanted: tuple[int, bytes]) -> None:
-    """`check` and `redraw` of the same sheet"""
-    has_fault = wanted[0] == 1
-    case.write("log", b"railplan-log 1\n")
-    for words in (["check", "station", "sheet", "log"], ["redraw", "station", "station", "sheet", "--width", "5", "--height", "1",
-                                                         "--conflicts", "50"]):
-        answer = case.run(*words)
-        case.count(f"{words[0]} ends with {answer.status}")
-        why = why_otherwise(words[0], answer)
-        if why:
-            case.wrong(why)
-        # a sheet without a drawing has a fault for `verify`, and for `check` it hasn't
-        if has_fault and answer.status != 1 and not (words[0] == "check" and b" Form " in wanted[1]):
-            case.wrong(f"{words[0]} of a sheet with a fault ends with {answer.status}, and verify says {wanted[1]!r}")
-        if answer.status == 1 and answer.printed != wanted[1]:
-            case.wrong(f"{words[0]} says {answer.printed!r}, and verify is to say {wanted[1]!r}")
+def others(case: Case, found: graph.Graph, sheet: bytes, wanted: tuple[int, bytes]) -> None:
+    """`check` of the same sheet and an empty log, and `redraw`, which tells the same faults as `verify`"""
+    case.write("log", EMPTY_LOG)
+    case.hold("check", log.check(found, sheet, EMPTY_LOG, log.Written(found, [])), case.run("check", "station", "sheet", "log"))
+    answer = case.run("redraw", "station", "station", "sheet", "--width", "5", "--height", "1", "--conflicts", "50")
+    case.count(f"redraw ends with {answer.status}")
+    why = why_otherwise("redraw", answer)
+    if why:
+        case.wrong(why)
+    if wanted[0] == 1 and (answer.status, answer.printed) != wanted or wanted[0] != 1 and answer.status == 1:
+        case.wrong(f"redraw says {answer.printed[:100]!r} of a sheet of which verify is to say {wanted[1]!r}")
 
 
 def attempt(case: Case) -> None:
@@ -58,7 +54,7 @@ def attempt(case: Case) -> None:
         wanted = drawing.verify(text, sheet, graph.load)
         case.hold("verify", wanted, case.run("verify", "station", "sheet"))
         if number == SHEETS - 1:
-            others(case, wanted)
+            others(case, found, sheet, wanted)
 
 
 if __name__ == "__main__":
