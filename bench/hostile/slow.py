@@ -1,13 +1,15 @@
 #!/usr/bin/env python3
 """Measures how long commands take on hints, logs, railML files and sheets that are made to take long.
 
-Of each family of slow_families.py and slow_files.py files of doubling sizes are made, and the seconds of the processor are taken. The table has a
-line for each size: bytes, seconds, seconds for each megabyte, and how often the seconds a byte of the ordinary kind, at the
-same size, that is. A family is slow where its last line has more than --times of these, or where a run takes longer than
+Of each family of slow_families.py and slow_files.py files of doubling sizes are made, and the seconds of the processor are
+taken. The table has a line for each size: bytes, seconds, seconds for each megabyte, how often the seconds a byte of the
+ordinary kind, at the same size, that is, and the power of the bytes with which the seconds grow since the line before: 1 is
+linear. A family is slow where its last line has more than --times of the ordinary seconds, or where a run takes longer than
 --limit; less than --floor seconds are never slow. `--count` says how many sizes there are."""
 from __future__ import annotations
 
 import argparse
+import math
 import os
 import random
 import signal
@@ -101,10 +103,17 @@ def measure(words: argparse.Namespace, command: str, maker: Maker, material: Mat
     return Measured(Path("made").stat().st_size, *took)
 
 
-def line_of(command: str, family: str, one: Measured, ordinary: float) -> str:
+def power_of(before: Measured | None, one: Measured) -> str:
+    """the power with which the seconds grow; nothing where they are too few to say"""
+    if before is None or before.seconds < 0.02 or one.was_ended or one.size == before.size:
+        return ""
+    return f"power {math.log(one.seconds / before.seconds) / math.log(one.size / before.size):.1f}"
+
+
+def line_of(command: str, family: str, one: Measured, ordinary: float, power: str) -> str:
     end = "ended at the limit" if one.was_ended else f"status {one.status}"
     return (f"{command:8}{family:40}{one.size:12,}{one.seconds:10.3f} s{one.rate():10.3f} s/MB"
-            f"{one.rate() / ordinary:9.1f} times  {end}")
+            f"{one.rate() / ordinary:9.1f} times  {power:10} {end}")
 
 
 def is_slow(words: argparse.Namespace, one: Measured, ordinary: float) -> bool:
@@ -114,14 +123,15 @@ def is_slow(words: argparse.Namespace, one: Measured, ordinary: float) -> bool:
 def try_family(words: argparse.Namespace, command: str, family: str, material: Material, rates: dict[int, float],
                tally: Tally) -> None:
     """measures a family at each size, until it is slow"""
-    slow = False
+    slow, before = False, None
     for doubling in range(words.count):
         size = min(words.least << doubling, MOST.get(command, 1 << 29) - 2000)
         one = measure(words, command, FAMILIES[command][family], material, size)
         tally.runs += 1
         if family == "ordinary":
             rates[size] = max(one.rate(), 1e-4)
-        print(line_of(command, family, one, rates[size]), flush=True)
+        print(line_of(command, family, one, rates[size], power_of(before, one)), flush=True)
+        before = one
         slow = is_slow(words, one, rates[size])
         if not one.was_ended and one.status not in STATUSES:
             tally.wrong.append(f"{command}, {family}: ends with {one.status}")

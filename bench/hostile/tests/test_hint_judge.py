@@ -25,8 +25,8 @@ class Lines(unittest.TestCase):
         greatest = [1, 2, 0, 4]
         for text, wanted in (
                 (b"caps 1 2 0 4", [1, 2, 0, 4]), (b"caps 0 0 0 0", [0, 0, 0, 0]), (b"caps 1 2 0", 2), (b"caps 1 2 0 x", 2),
-                (b"caps 1 2 0 4 ", 2), (b"caps 01 2 0 4", 3), (b"caps 1 -2 0 4", 3), (b"caps 1 65536 0 4", 3), (b"caps 2 2 0 4", 5),
-                (b"caps 1 2 1 4", 5), (b"caps 1 2 65535 4", 5)):
+                (b"caps 1 2 0 4 ", 2), (b"caps 01 2 0 4", 3), (b"caps 1 -2 0 4", 3), (b"caps 1 65536 0 4", 3),
+                (b"caps 2 2 0 4", 5), (b"caps 1 2 1 4", 5), (b"caps 1 2 65535 4", 5)):
             self.assertEqual(caps_of(text, greatest), wanted, text)
 
 

@@ -53,12 +53,14 @@ class Pages(unittest.TestCase):
             return case.tally.wrong
 
     def test_names_that_are_text(self) -> None:
-        for page in ("<p>&lt;script&gt;zz9&lt;/script&gt;</p>", '<p title="&quot;&gt;zz9">x</p>', "<svg><text>zz9 &amp; x</text></svg>"):
+        for page in ("<p>&lt;script&gt;zz9&lt;/script&gt;</p>", '<p title="&quot;&gt;zz9">x</p>',
+                     "<svg><text>zz9 &amp; x</text></svg>"):
             self.assertEqual(self.wrong(page), [], page)
 
     def test_names_that_are_markup(self) -> None:
         for page in ("<zz9>", "<img src=x onerror=zz9>", "<p zz9=1>", "<!--zz9-->", "<script>let a = '<b>zz9'</script>",
-                     '<a href="javascript:zz9">x</a>', "<p>\x01</p>", "<p>\ufffe</p>", "<svg><text>&nbsp;</text></svg>", "<svg><a></svg>"):
+                     '<a href="javascript:zz9">x</a>', "<p>\x01</p>", "<p>\ufffe</p>", "<svg><text>&nbsp;</text></svg>",
+                     "<svg><a></svg>"):
             self.assertNotEqual(self.wrong(page), [], page)
 
 
@@ -76,5 +78,6 @@ class Sessions(unittest.TestCase):
 class Launched(unittest.TestCase):
     def test_the_launcher_runs_the_program(self) -> None:
         launcher, environment = launched.clone_of(str(PROGRAM.resolve()))
-        done = subprocess.run([launcher, "draw", str(TOP / "examples/one.xml")], env=environment, capture_output=True, check=False)
+        words = [launcher, "draw", str(TOP / "examples/one.xml")]
+        done = subprocess.run(words, env=environment, capture_output=True, check=False)
         self.assertEqual(done.stdout, (TOP / "examples/one.sheet").read_bytes())

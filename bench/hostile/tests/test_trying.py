@@ -91,9 +91,9 @@ class Known(unittest.TestCase):
 class Forms(unittest.TestCase):
     def test_answers_in_their_form(self) -> None:
         for command, answer in (("draw", Answer(0, SHEET)), ("check", Answer(8, b"check NotNew line 12\n")),
-                                ("verify", Answer(8, b"broken law 6 edge 1 edge 2\n")), ("graph", Answer(1, b"text 1 NotUtf8 at 5\n")),
-                                ("recheck", Answer(1, b"hints 5 Range line 2\n")), ("redraw", Answer(1, b"old text 4 Markup at 0\n")),
-                                ("draw", Answer(2, b"words 7 BadValue 4\n")), ("trim", Answer(5, b"read failed 3\n"))):
+                                ("verify", Answer(8, b"broken law 6 edge 1 edge 2\n")),
+                                ("graph", Answer(1, b"text 1 NotUtf8 at 5\n")), ("recheck", Answer(1, b"hints 5 Range line 2\n")),
+                                ("redraw", Answer(1, b"old text 4 Markup at 0\n")), ("draw", Answer(2, b"words 7 BadValue 4\n")), ("trim", Answer(5, b"read failed 3\n"))):
             self.assertEqual(forms.why_otherwise(command, answer), "")
 
     def test_answers_that_are_not(self) -> None:
