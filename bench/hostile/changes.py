@@ -105,7 +105,7 @@ def changed_numbers(chance: Chance, numbers: list[bytes], others: list[bytes]) -
         numbers.insert(at, chance.choice(others))
     elif kind == 5:
         chance.shuffle(numbers)
-    else:
+    elif numbers[at].removeprefix(b"-").isdigit():
         numbers[at] = b"%d" % (int(numbers[at]) + chance.choice([-1, 1]))
     return numbers
 

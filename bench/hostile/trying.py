@@ -12,6 +12,7 @@ import signal
 import sys
 import tempfile
 import time
+import traceback
 from collections import Counter
 from collections.abc import Callable, Iterator, Mapping
 from concurrent.futures import ProcessPoolExecutor
@@ -172,7 +173,10 @@ def try_some(words: argparse.Namespace, attempt: Try, numbers: range) -> Tally:
             if time.time() > words.until:
                 break
             case = Case(words.program, runner, words.seed, number)
-            attempt(case)
+            try:
+                attempt(case)
+            except Exception as why:  # a fault of the script isn't to lose what it has tried so far
+                case.wrong(f"the script fails: {why!r}, {traceback.format_tb(why.__traceback__)[-1].strip()}")
             if case.tally.wrong and words.keep:
                 shutil.copytree(folder, words.keep / f"{words.name}_{words.seed}_{number}", dirs_exist_ok=True)
             tally.add(case.tally)

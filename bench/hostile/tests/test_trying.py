@@ -62,6 +62,19 @@ class Runs(unittest.TestCase):
         self.assertNotEqual(one, other)
 
 
+class Scripts(unittest.TestCase):
+    def test_a_fault_of_a_script_is_wrong_and_the_others_are_tried(self) -> None:
+        def attempt(case: Case) -> None:
+            case.count("tried")
+            if case.number == 1:
+                raise ValueError("here")
+
+        words = argparse.Namespace(program=Path("/bin/sh"), seed=1, until=time.time() + 60, keep=None)
+        tally = trying.try_some(words, attempt, range(3))
+        self.assertEqual((tally.cases, tally.counts["tried"], len(tally.wrong)), (3, 3, 1))
+        self.assertIn("seed 1, case 1: the script fails: ValueError('here')", tally.wrong[0])
+
+
 class Known(unittest.TestCase):
     def tally(self, seen: list[bool], known: str) -> Tally:
         with tempfile.TemporaryDirectory() as folder, mock.patch.dict(trying.KNOWN, {"a fault": "It is otherwise."}):
@@ -93,7 +106,8 @@ class Forms(unittest.TestCase):
         for command, answer in (("draw", Answer(0, SHEET)), ("check", Answer(8, b"check NotNew line 12\n")),
                                 ("verify", Answer(8, b"broken law 6 edge 1 edge 2\n")),
                                 ("graph", Answer(1, b"text 1 NotUtf8 at 5\n")), ("recheck", Answer(1, b"hints 5 Range line 2\n")),
-                                ("redraw", Answer(1, b"old text 4 Markup at 0\n")), ("draw", Answer(2, b"words 7 BadValue 4\n")), ("trim", Answer(5, b"read failed 3\n"))):
+                                ("redraw", Answer(1, b"old text 4 Markup at 0\n")),
+                                ("draw", Answer(2, b"words 7 BadValue 4\n")), ("trim", Answer(5, b"read failed 3\n"))):
             self.assertEqual(forms.why_otherwise(command, answer), "")
 
     def test_answers_that_are_not(self) -> None:
