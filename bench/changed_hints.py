@@ -1,120 +1,79 @@
 #!/usr/bin/env python3
-"""changed_hints.py PROGRAM FILE [COUNT] [SEED]   draws the station of the file, trims the log, and changes one digit of the
-                                               hinted lines by chance, COUNT times (2,000), always of those that `trim` left
+"""Draws the station of a file, trims the log, and changes one digit of the hints by chance, so many times.
 
-`recheck` judges each text, and so does this script, by the sentences of docs/formats.md: it shares nothing with the program
-but the Formula lines of the log, in which a search that has ended tells all clauses that are expected for its caps. Where
-the two differ the text's line is printed, and the status is 1. Other caps than the log's it can't judge: how many texts with
-such were certified it says apart."""
+`recheck` judges each text, and so does bench/hostile/hint_judge.py, by the sentences of docs/formats.md: it shares nothing
+with the program but the Formula lines of the log, in which a search that has ended tells all clauses that are expected for
+its caps. Where the two differ the text's line is printed, and the status is 1. Other caps than the log's it can't judge."""
+from __future__ import annotations
+
+import argparse
 import random
-import re
 import subprocess
 import sys
 import tempfile
 from collections import Counter
 from pathlib import Path
 
-HEADER = "railplan-hints 1"
-GREATEST = 1_073_741_823
+sys.dont_write_bytecode = True
+sys.path.insert(0, str(Path(__file__).resolve().parent / "hostile"))
+
+import hint_judge  # noqa: E402
+from opinion import graph, log  # noqa: E402
+
+# the first line stays as it is
+FRONT = len(hint_judge.HEADER)
 
 
-def ask(program, *words):
-    done = subprocess.run([program, *words], stdout=subprocess.PIPE, stderr=subprocess.PIPE, text=True, check=False)
+def ask(*words: str | Path) -> tuple[int, bytes]:
+    done = subprocess.run(words, stdout=subprocess.PIPE, stderr=subprocess.STDOUT, check=False)
     return done.returncode, done.stdout
 
 
-def right(field, least):
-    """whether the number is canonical and, without its sign, from `least` to the greatest one"""
-    return re.fullmatch(r"-?[1-9][0-9]*", field) and least <= int(field) and abs(int(field)) <= GREATEST
+def changed(chance: random.Random, text: bytes) -> bytes:
+    """the text with another digit in place of one"""
+    place = chance.choice([at for at in range(FRONT, len(text)) if text[at:at + 1].isdigit()])
+    digit = chance.choice([digit for digit in b"0123456789" if digit != text[place]])
+    return text[:place] + bytes([digit]) + text[place + 1:]
 
 
-def parts_of(line):
-    """the word, literals and hints of a line, or the fault that it has"""
-    word, *fields = line.split(" ")
-    if word not in ("l", "r") or not all(re.fullmatch(r"-?[0-9]+", field) for field in fields) or "0" not in fields:
-        return "Form"
-    end = fields.index("0")
-    literals, hints = fields[:end], fields[end + 1:]
-    if hints[-1:] != ["0"] or "0" in hints[:-1] or len(hints) < 2 or (word == "l" and not literals):
-        return "Form"
-    if not all(right(field, -GREATEST) for field in literals) or not all(right(field, 1) for field in hints[:-1]):
-        return "Number"
-    literals = [int(field) for field in literals]
-    if len({abs(literal) for literal in literals}) < len(literals):
-        return "Twice"
-    return word, literals, [int(field) for field in hints[:-1]]
-
-
-def is_good(clauses, literals, hints):
-    """whether the hints show the clause"""
-    true = {-literal for literal in literals}
-    for place, hint in enumerate(hints):
-        if hint > len(clauses):
-            return False
-        left = [literal for literal in clauses[hint - 1] if -literal not in true]
-        if len(left) != (place + 1 < len(hints)):
-            return False
-        true.update(left)
-    return True
-
-
-def judged(formula, text):
-    """the first line behind the caps that has a fault or isn't good, as `recheck` says it; nothing where there is none"""
-    clauses = list(formula)
-    for number, line in enumerate(text.splitlines()[2:], 3):
-        parts = parts_of(line)
-        if isinstance(parts, str):
-            return f"{parts} line {number}"
-        word, literals, hints = parts
-        if not is_good(clauses, literals, hints):
-            return f"BadHint line {number}"
-        if word == "l":
-            clauses.append(literals)
-    return ""
-
-
-def told(answer):
-    """what `recheck` says of the first line that has a fault or isn't good"""
-    said = re.fullmatch(r"(?:hints [0-9]|check) (\w+ line [0-9]+)\n", answer)
-    return said[1] if said else ""
-
-
-def main():
-    if not 3 <= len(sys.argv) <= 5:
-        sys.exit(__doc__)
-    program, station = (str(Path(word).resolve()) for word in sys.argv[1:3])
-    count, seed = [int(word) for word in sys.argv[3:]] + [2000, 1][len(sys.argv) - 3:]
-    chance = random.Random(seed)
-    ends, differing, other_caps = Counter(), 0, 0
-    with tempfile.TemporaryDirectory() as room:
-        sheet, log, hints, changed = (f"{room}/{name}" for name in ("sheet", "log", "hints", "changed"))
-        status, drawn = ask(program, "draw", station, "--log", log)
-        Path(sheet).write_text(drawn)
-        if status not in (0, 3) or ask(program, "trim", station, sheet, log, hints)[0]:
-            sys.exit("the station isn't drawn, or its log isn't trimmed")
-        text = Path(hints).read_text()
-        with open(log, encoding="ascii") as lines:
-            formula = [[int(field) for field in line.split()[1:-1]] for line in lines if line.startswith("f ")]
-        if judged(formula, text) or ask(program, "recheck", station, sheet, hints)[0]:
-            sys.exit("what was left isn't accepted")
-        digits = [place for place in range(len(HEADER) + 1, len(text)) if text[place].isdigit()]
-        for _ in range(count):
-            place = chance.choice(digits)
-            digit = chance.choice([d for d in "0123456789" if d != text[place]])
-            new = f"{text[:place]}{digit}{text[place + 1:]}"
-            Path(changed).write_text(new)
-            status, answer = ask(program, "recheck", station, sheet, changed)
-            ends[" ".join(answer.split()[:1 if status == 0 else 3 if answer[0] == "h" else 2])] += 1
-            if new.splitlines()[1] != text.splitlines()[1]:
-                other_caps += status == 0
-            elif status not in (0, 1, 8) or told(answer) != judged(formula, new):
-                differing += 1
-                print(f"{answer.strip()}, and here {judged(formula, new) or 'all are good'}: a digit at {place}")
-    print(f"{count} changes, {differing} judged otherwise, {other_caps} certified with other caps")
+def judge(words: argparse.Namespace, room: Path) -> int:
+    """the status of the script"""
+    sheet, written, hints, other = (room / name for name in ("sheet", "log", "hints", "changed"))
+    status, drawn = ask(words.program, "draw", words.file, "--log", written)
+    sheet.write_bytes(drawn)
+    if status not in (0, 3) or ask(words.program, "trim", words.file, sheet, written, hints)[0]:
+        sys.exit("the station isn't drawn, or its log isn't trimmed")
+    found, text, chance = graph.load(words.file.read_bytes()), hints.read_bytes(), random.Random(words.seed)
+    lines = log.Written(found, log.read_log(written.read_bytes()))
+    ends: Counter[str] = Counter()
+    for number in range(words.count + 1):
+        new = changed(chance, text) if number else text
+        other.write_bytes(new)
+        answer = ask(words.program, "recheck", words.file, sheet, other)
+        ends[" ".join(answer[1].decode().split()[:3 if answer[0] == 1 else 2])] += 1
+        try:
+            if hint_judge.recheck(found, drawn, new, lines) != answer:
+                ends["judged otherwise"] += 1
+                print(f"{answer[1].decode().strip()}, and here another answer: change {number} of seed {words.seed}")
+        except hint_judge.Unknown:
+            ends["with other caps, not judged"] += 1
+    print(f"{words.count} changes, {ends['judged otherwise']} judged otherwise")
     for end, times in sorted(ends.items()):
         print(f"{times:6} {end}")
-    sys.exit(differing > 0)
+    return int(ends["judged otherwise"] > 0)
+
+
+def main() -> int:
+    parser = argparse.ArgumentParser(description=__doc__, formatter_class=argparse.RawDescriptionHelpFormatter)
+    parser.add_argument("program", type=Path, metavar="PROGRAM")
+    parser.add_argument("file", type=Path, metavar="FILE")
+    parser.add_argument("count", type=int, nargs="?", default=2000, metavar="COUNT")
+    parser.add_argument("seed", type=int, nargs="?", default=1, metavar="SEED")
+    words = parser.parse_args()
+    words.program, words.file = words.program.resolve(), words.file.resolve()
+    with tempfile.TemporaryDirectory() as room:
+        return judge(words, Path(room))
 
 
 if __name__ == "__main__":
-    main()
+    sys.exit(main())

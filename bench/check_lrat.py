@@ -1,63 +1,69 @@
 #!/usr/bin/env python3
-"""check_lrat.py FORMULA PROOF: goes through a proof in LRAT from its first line on, and says whether the hints show each
-clause, and whether the empty clause is among them. The clauses that a line names have all literals false but one, which
-becomes true; the last one has all false. A line without such hints is refused, also one that is RAT. It is small, for
-machines without a checker of LRAT, and shares nothing with the program."""
+"""Goes through a proof in LRAT from its first line on, and says whether it refutes the formula.
+
+The clauses that a line names have all literals false but one, which becomes true; the last one has all false. The empty
+clause is to be among the lines. A line without such hints is refused, also one that is RAT. This is small, for machines
+without a checker of LRAT, and shares nothing with the program."""
+import argparse
 import sys
+from pathlib import Path
 
 
-def numbers(line):
+class Refused(Exception):
+    """why a text is refused, or a proof isn't accepted"""
+
+
+def numbers(line: str) -> list[int]:
     try:
         return [int(field) for field in line.split()]
-    except ValueError:
-        sys.exit(f"not a line of numbers: {line.strip()}")
+    except ValueError as why:
+        raise Refused(f"not a line of numbers: {line.strip()}") from why
 
 
-def formula_in(path):
+def formula_in(path: Path) -> dict[int, list[int]]:
     """the clauses, by their numbers from 1"""
-    clauses = {}
-    with open(path, encoding="ascii") as formula:
+    clauses: dict[int, list[int]] = {}
+    with path.open(encoding="latin-1") as formula:
         for line in formula:
             if line.startswith(("c", "p")):
                 continue
             fields = numbers(line)
             if not fields or fields[-1] != 0 or 0 in fields[:-1]:
-                sys.exit(f"not a clause: {line.strip()}")
+                raise Refused(f"not a clause: {line.strip()}")
             clauses[len(clauses) + 1] = fields[:-1]
     return clauses
 
 
-def parts_of(line):
+def parts_of(line: str) -> tuple[int, list[int], list[int]]:
     """a line's number, literals and hints"""
     fields = numbers(line)
     if len(fields) < 3 or fields[-1] != 0 or fields[1:].count(0) != 2:
-        sys.exit(f"not a line of a proof: {line.strip()}")
+        raise Refused(f"not a line of a proof: {line.strip()}")
     end = fields.index(0, 1)
     return fields[0], fields[1:end], fields[end + 1:-1]
 
 
-def why_refused(clauses, literals, hints):
-    """why the hints don't show the clause, if so"""
+def why_refused(clauses: dict[int, list[int]], literals: list[int], hints: list[int]) -> str:
+    """why the hints don't show the clause; nothing where they do"""
     true = {-literal for literal in literals}
     for place, hint in enumerate(hints, 1):
         if hint not in clauses:
             return f"hint {hint} is no clause before it"
         left = {literal for literal in clauses[hint] if -literal not in true}
         if not left:
-            return None if place == len(hints) else f"a hint stands behind {hint}, whose literals are all false"
+            return "" if place == len(hints) else f"a hint is behind {hint}, whose literals are all false"
         if len(left) > 1:
             return f"hint {hint} has more than one literal that isn't false"
         true |= left
     return "no hint has all literals false"
 
 
-def main(words):
-    if len(words) != 2:
-        sys.exit(__doc__)
-    clauses = formula_in(words[0])
-    last, empty = len(clauses), False
-    with open(words[1], encoding="ascii") as proof:
-        for line in proof:
+def judge(formula: Path, proof: Path) -> None:
+    """refused where the proof doesn't refute the formula"""
+    clauses = formula_in(formula)
+    last, has_empty = len(clauses), False
+    with proof.open(encoding="latin-1") as lines:
+        for line in lines:
             if line.startswith("c"):
                 continue
             if line.split()[1:2] == ["d"]:
@@ -67,11 +73,28 @@ def main(words):
             number, literals, hints = parts_of(line)
             why = "its number isn't above those before it" if number <= last else why_refused(clauses, literals, hints)
             if why:
-                print(f"not accepted: line {number}: {why}")
-                sys.exit(1)
-            clauses[number], last, empty = literals, number, empty or not literals
-    print("accepted" if empty else "not accepted: there is no empty clause")
-    sys.exit(0 if empty else 1)
+                raise Refused(f"line {number}: {why}")
+            clauses[number], last, has_empty = literals, number, has_empty or not literals
+    if not has_empty:
+        raise Refused("there is no empty clause")
 
 
-main(sys.argv[1:])
+def main() -> int:
+    parser = argparse.ArgumentParser(description=__doc__, formatter_class=argparse.RawDescriptionHelpFormatter)
+    parser.add_argument("formula", type=Path, metavar="FORMULA")
+    parser.add_argument("proof", type=Path, metavar="PROOF")
+    words = parser.parse_args()
+    try:
+        judge(words.formula, words.proof)
+    except Refused as why:
+        print(f"not accepted: {why}")
+        return 1
+    except OSError as why:
+        print(f"{why.filename}: {why.strerror}", file=sys.stderr)
+        return 2
+    print("accepted")
+    return 0
+
+
+if __name__ == "__main__":
+    sys.exit(main())

@@ -1,0 +1,142 @@
+"""Cases, runs and reports, and the changes by chance."""
+import argparse
+import contextlib
+import io
+import random
+import tempfile
+import time
+import unittest
+from pathlib import Path
+from unittest import mock
+
+import changes
+import forms
+import slow
+import trying
+from trying import Answer, Case, Runner, Tally
+
+SHEET = b"railplan 2\ngrid 1 0 1\norder height\nnodes 2\nnode 0 a 0 0 0.000000\nnode 1 b 1 0 1.000000\nend best\n"
+LOG = b"railplan-log 1\nf 1 2 0\nf -1 3 0\nq 0\nl 3 2 0\nb height 1 3\nq -3 0\nr 3 0\n"
+HINTS = b"railplan-hints 1\ncaps 1 0 0 0\nl 3 2 0 1 2 0\nr 3 0 1 3 0\n"
+
+
+def case_of(folder: str, number: int = 0) -> Case:
+    return Case(Path("/bin/sh"), Runner(Path(folder)), 1, number)
+
+
+def reported(tally: Tally) -> tuple[int, str]:
+    said = io.StringIO()
+    with contextlib.redirect_stdout(said):
+        status = trying.report(argparse.Namespace(name="x", seed=1, began=time.time()), tally)
+    return status, said.getvalue()
+
+
+class Runs(unittest.TestCase):
+    def test_what_a_run_prints_says_and_ends_with(self) -> None:
+        with tempfile.TemporaryDirectory() as folder:
+            answer = case_of(folder).run("-c", "echo out; echo err >&2; exit 3")
+        self.assertEqual(answer, Answer(3, b"out\n", b"err\n", False))
+
+    def test_a_run_that_ends_by_a_signal(self) -> None:
+        with tempfile.TemporaryDirectory() as folder:
+            self.assertEqual(case_of(folder).run("-c", "kill -SEGV $$").status, -11)
+
+    def test_a_run_that_hangs_is_wrong(self) -> None:
+        with tempfile.TemporaryDirectory() as folder:
+            case = case_of(folder)
+            answer = case.run("-c", "exec sleep 60", seconds=0.2)
+        self.assertTrue(answer.hung)
+        self.assertEqual(len(case.tally.wrong), 1)
+
+    def test_an_answer_is_held_to_the_byte(self) -> None:
+        for answer, wrong in ((Answer(0, b"a\n"), 0), (Answer(0, b"a"), 1), (Answer(1, b"a\n"), 1), (Answer(0, b"a\n", b"x"), 1)):
+            with tempfile.TemporaryDirectory() as folder:
+                case = case_of(folder)
+                case.hold("what", (0, b"a\n"), answer)
+                self.assertEqual(len(case.tally.wrong), wrong, answer)
+
+    def test_a_case_follows_from_its_number(self) -> None:
+        with tempfile.TemporaryDirectory() as folder:
+            one, again, other = (case_of(folder, number).chance.random() for number in (4, 4, 5))
+        self.assertEqual(one, again)
+        self.assertNotEqual(one, other)
+
+
+class Scripts(unittest.TestCase):
+    def test_a_fault_of_a_script_is_wrong_and_the_others_are_tried(self) -> None:
+        def attempt(case: Case) -> None:
+            case.count("tried")
+            if case.number == 1:
+                raise ValueError("here")
+
+        words = argparse.Namespace(program=Path("/bin/sh"), seed=1, until=time.time() + 60, keep=None)
+        tally = trying.try_some(words, attempt, range(3))
+        self.assertEqual((tally.cases, tally.counts["tried"], len(tally.wrong)), (3, 3, 1))
+        self.assertIn("seed 1, case 1: the script fails: ValueError('here')", tally.wrong[0])
+
+
+class Known(unittest.TestCase):
+    def tally(self, seen: list[bool], known: str) -> Tally:
+        with tempfile.TemporaryDirectory() as folder, mock.patch.dict(trying.KNOWN, {"a fault": "It is otherwise."}):
+            case = case_of(folder)
+            for is_so in seen:
+                case.hold_that(is_so, "not so", known)
+            return case.tally
+
+    def test_a_known_fault_is_said_and_not_wrong(self) -> None:
+        with mock.patch.dict(trying.KNOWN, {"a fault": "It is otherwise."}):
+            status, said = reported(self.tally([True, False], "a fault"))
+        self.assertEqual(status, 0)
+        self.assertIn("known, 1 of 2 times: It is otherwise.", said)
+
+    def test_one_that_is_mended_is_to_be_taken_out(self) -> None:
+        with mock.patch.dict(trying.KNOWN, {"a fault": "It is otherwise."}):
+            status, said = reported(self.tally([True, True], "a fault"))
+        self.assertEqual(status, 1)
+        self.assertIn("take it out: a fault", said)
+
+    def test_others_are_wrong(self) -> None:
+        status, said = reported(self.tally([True, False], "another"))
+        self.assertEqual(status, 1)
+        self.assertIn("wrong: seed 1, case 0: not so", said)
+
+
+class Forms(unittest.TestCase):
+    def test_answers_in_their_form(self) -> None:
+        for command, answer in (("draw", Answer(0, SHEET)), ("check", Answer(8, b"check NotNew line 12\n")),
+                                ("verify", Answer(8, b"broken law 6 edge 1 edge 2\n")),
+                                ("graph", Answer(1, b"text 1 NotUtf8 at 5\n")), ("recheck", Answer(1, b"hints 5 Range line 2\n")),
+                                ("redraw", Answer(1, b"old text 4 Markup at 0\n")),
+                                ("draw", Answer(2, b"words 7 BadValue 4\n")), ("trim", Answer(5, b"read failed 3\n"))):
+            self.assertEqual(forms.why_otherwise(command, answer), "")
+
+    def test_answers_that_are_not(self) -> None:
+        for command, answer in (("draw", Answer(3, SHEET)), ("draw", Answer(-11, b"")), ("check", Answer(0, b"certified\n")),
+                                ("check", Answer(0, b"certified 4\n", b"warning")), ("verify", Answer(3, b"")),
+                                ("graph", Answer(1, b"text 1 NotUtf8 at 5\nmore\n")), ("graph", Answer(9, b""))):
+            self.assertNotEqual(forms.why_otherwise(command, answer), "", answer)
+
+
+class Changes(unittest.TestCase):
+    def test_they_follow_from_the_chances_and_change_the_text(self) -> None:
+        file = b'<infrastructure><tracks><track id="a" pos="12"/></tracks></infrastructure>'
+        for change, text in ((changes.changed_file, file), (changes.changed_sheet, SHEET), (changes.changed_log, LOG),
+                             (changes.changed_hints, HINTS), (changes.changed_bytes, SHEET), (changes.changed_number, LOG)):
+            made = [change(random.Random(seed), text) for seed in range(300)]
+            self.assertEqual(made, [change(random.Random(seed), text) for seed in range(300)])
+            self.assertGreater(sum(one != text for one in made), 200, change)
+            self.assertGreater(len(set(made)), 90, change)
+
+
+class Slow(unittest.TestCase):
+    def test_what_is_slow(self) -> None:
+        words = argparse.Namespace(floor=0.3, times=20.0)
+        for seconds, ended, slow_one in ((0.2, False, False), (1.0, False, False), (3.0, False, True), (0.1, True, True)):
+            self.assertEqual(slow.is_slow(words, slow.Measured(1_000_000, seconds, 0, ended), 0.1), slow_one)
+
+    def test_seconds_of_the_processor(self) -> None:
+        seconds, status, ended = slow.timed(["/bin/sh", "-c", "while :; do :; done"], 0.3)
+        self.assertTrue(ended)
+        self.assertGreater(seconds, 0.25)
+        self.assertEqual(status, -9)
+        self.assertEqual(slow.timed(["/bin/sh", "-c", "exit 8"], 5.0)[1:], (8, False))
