@@ -112,7 +112,7 @@ def power_of(before: Measured | None, one: Measured) -> str:
 
 def line_of(command: str, family: str, one: Measured, ordinary: float, power: str) -> str:
     end = "ended at the limit" if one.was_ended else f"status {one.status}"
-    return (f"{command:8}{family:40}{one.size:12,}{one.seconds:10.3f} s{one.rate():10.3f} s/MB"
+    return (f"{command:8}{family:44}{one.size:12,}{one.seconds:10.3f} s{one.rate():10.3f} s/MB"
             f"{one.rate() / ordinary:9.1f} times  {power:10} {end}")
 
 

@@ -89,12 +89,12 @@ def named_again(material: Material, size: int, beyond: bool) -> Iterator[bytes]:
     yield own[:at] + number * max(1, (size - len(first) - len(own)) // len(number)) + own[at:]
 
 
-def named_again_by_lines(material: Material, size: int) -> Iterator[bytes]:
+def named_by_lines(material: Material, size: int, beyond: bool) -> Iterator[bytes]:
     """long clauses, as many as each has literals, and as many lines that name each of them once"""
     literals, hints = material.learnt()
     clause = material.clauses[hints[0] - 1]
-    number = max(2, int((size / 30) ** 0.5))
-    padding = material.padding(number, True, [])
+    number = max(2, int((size / (30 if beyond else 17)) ** 0.5))
+    padding = material.padding(number, beyond, [*literals, *clause])
     yield front(material)
     for at in range(number):
         yield text_of(b"l", clause + padding[at:] + padding[:at], [hints[0]])
@@ -156,7 +156,8 @@ HINTS: dict[str, Maker] = {
     "ordinary": ordinary_hints,
     "a long clause named again": lambda material, size: named_again(material, size, False),
     "one beyond the formula named again": lambda material, size: named_again(material, size, True),
-    "long clauses named by many lines": named_again_by_lines,
+    "long clauses named by many lines": lambda material, size: named_by_lines(material, size, False),
+    "ones beyond the formula named by many lines": lambda material, size: named_by_lines(material, size, True),
     "variables beyond the formula": beyond_lines,
     "far clauses": far_clauses,
     "tiny lines": tiny_lines,
