@@ -5,7 +5,8 @@ import random
 import re
 from typing import Callable
 
-from made_stations import EVERYDAY, crossovers, depot, fan, ladder, line, loops, parallel, passing, scissors, terminus, through, yard
+from made_stations import EVERYDAY, crossovers, depot, fan, ladder, line, loops, parallel, passing, scissors, terminus
+from made_stations import through, yard
 
 NAMINGS: dict[str, Callable[[int, str], str]] = {
     "plain": lambda number, id: "",
@@ -17,9 +18,12 @@ NAMINGS: dict[str, Callable[[int, str], str]] = {
 }
 LARGE = [("line 10", line(10)), ("ladder 5", ladder(5)), ("scissors 12", scissors(12)), ("passing places 15", passing(15, 2)),
          ("yard 10", yard(10)), ("loops 40", loops(40, lambda at: at % 2 == 0)), ("crossovers 30", crossovers(30))]
-MORE = [("loops above 6", loops(6, lambda at: True)), ("loops in turn 15", loops(15, lambda at: at % 2 == 0)), ("crossovers 4", crossovers(4)),
-        ("crossovers 16", crossovers(16)), ("scissors 1", scissors(1)), ("scissors 3", scissors(3)), ("yard 1", yard(1)), ("yard 4", yard(4)),
-        ("fan 3", fan(3)), ("fan 6", fan(6)), ("parallel 2", parallel(2)), ("parallel 9", parallel(9)), ("passing places 8", passing(8, 1)),
+MORE = [("loops above 6", loops(6, lambda at: True)), ("loops in turn 15", loops(15, lambda at: at % 2 == 0)),
+        ("crossovers 4", crossovers(4)),
+        ("crossovers 16", crossovers(16)), ("scissors 1", scissors(1)), ("scissors 3", scissors(3)), ("yard 1", yard(1)),
+        ("yard 4", yard(4)),
+        ("fan 3", fan(3)), ("fan 6", fan(6)), ("parallel 2", parallel(2)), ("parallel 9", parallel(9)),
+        ("passing places 8", passing(8, 1)),
         ("through station 4 4", through(4, 4, True)), ("terminus 7", terminus(7, True)), ("depot 9", depot(9, True))]
 STATIONS = EVERYDAY + MORE + LARGE
 

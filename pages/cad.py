@@ -100,9 +100,12 @@ def longest(points: list[tuple[int, int]]) -> tuple[tuple[int, int], tuple[int, 
 
 def tables() -> list[Code]:
     """one line type and the layers"""
-    codes: list[Code] = [(0, "SECTION"), (2, "HEADER"), (9, "$ACADVER"), (1, "AC1009"), (9, "$INSUNITS"), (70, 4), (0, "ENDSEC"),
-                         (0, "SECTION"), (2, "TABLES"), (0, "TABLE"), (2, "LTYPE"), (70, 1), (0, "LTYPE"), (2, "CONTINUOUS"), (70, 0),
-                         (3, "Solid line"), (72, 65), (73, 0), (40, "0.0"), (0, "ENDTAB"), (0, "TABLE"), (2, "LAYER"), (70, len(LAYERS))]
+    codes: list[Code] = [(0, "SECTION"), (2, "HEADER"), (9, "$ACADVER"), (1, "AC1009"), (9, "$INSUNITS"), (70, 4),
+                         (0, "ENDSEC"),
+                         (0, "SECTION"), (2, "TABLES"), (0, "TABLE"), (2, "LTYPE"), (70, 1), (0, "LTYPE"), (2, "CONTINUOUS"),
+                         (70, 0),
+                         (3, "Solid line"), (72, 65), (73, 0), (40, "0.0"), (0, "ENDTAB"), (0, "TABLE"), (2, "LAYER"),
+                         (70, len(LAYERS))]
     for name, colour in LAYERS:
         codes += [(0, "LAYER"), (2, name), (70, 0), (62, colour), (6, "CONTINUOUS")]
     return codes + [(0, "ENDTAB"), (0, "ENDSEC"), (0, "SECTION"), (2, "ENTITIES")]

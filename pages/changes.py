@@ -74,7 +74,8 @@ class Changes:
             kinds = [" ".join(filter(None, (station.kind(number), it.legs, it.side)))
                      for station, number, it in ((self.former, old.number, one), (self.now, node.number, other))]
             if kinds[0] != kinds[1]:
-                found.append(self.item(f"n{node.number}", f"another kind: {self.now.both(node.name)}, from {kinds[0]} to {kinds[1]}"))
+                found.append(self.item(f"n{node.number}",
+                                       f"another kind: {self.now.both(node.name)}, from {kinds[0]} to {kinds[1]}"))
         return found
 
     @staticmethod

@@ -1,4 +1,4 @@
-"""The words of `--html`, and a run from them to its page: inputs are read once, the program gets copies, the page is written whole."""
+"""A run from the words of `--html` to its page: inputs are read once, the program gets copies, the page is written whole."""
 from __future__ import annotations
 
 import contextlib
@@ -183,14 +183,14 @@ def read_inputs(line: table.Line, folder: Path) -> tuple[list[Input], list[str]]
     return inputs, words
 
 
-def front_drawings(run: Run, program: Program, words: list[str]) -> dict[tuple[int, int], tuple[list[str], str]]:
+def front_drawings(run: Run, program: Program) -> dict[tuple[int, int], tuple[list[str], str]]:
     """for each pair of a front the words of a run that draws it, and its sheet, where one is had so"""
     front, found = texts.read_front(run.output), {}
     for number, pair in enumerate(front.pairs):
         options = pair_options(front, number, run.options)
         if options is None:
             continue
-        status, output = program.run(["draw", words[1], *options], is_quiet=True)
+        status, output = program.run(["draw", run.inputs[0].copy, *options], is_quiet=True)
         text = output.decode("utf-8", "replace")
         with contextlib.suppress(NoPage, ValueError):
             sheet = texts.read_sheet(text) if status in (0, 4) else None
@@ -216,12 +216,12 @@ def pair_options(front: texts.Front, number: int, options: dict[str, str]) -> Op
     return [word for pair_ in given.items() for word in pair_]
 
 
-def complete(run: Run, program: Program, words: list[str], line: table.Line) -> None:
+def complete(run: Run, program: Program, line: table.Line) -> None:
     """what a page needs beside the output: graphs, the drawings of a front, and the log's hash"""
     if run.status in ANSWERED:
         run.graphs = [program.graph(it) for it in run.inputs[:2 if run.command == "redraw" else 1]]
         if run.command == "front":
-            run.drawings = front_drawings(run, program, words)
+            run.drawings = front_drawings(run, program)
     if line.options.get("--log") and run.status in ANSWERED:
         run.log = hashed(line.options["--log"])
 
@@ -255,8 +255,8 @@ def run_asked(launcher: str, asked: Asked, folder: Path, outputs: dict[str, Outp
     ended = give_all(output, is_open)
     run = Run(asked.words, line.names, line.options, output.decode("utf-8", "replace"), status, inputs, log=None,
               settings=asked.settings, build=Build.of(os.environ, asked.is_unproved), date=date_of(),
-              page=asked.files.get("--html", ""), front_words=shown_front(asked))
-    complete(run, program, words, line)
+              page=asked.files.get("--html", ""), front_words=shown_front(asked), copied=words)
+    complete(run, program, line)
     try:
         write(run, outputs)
     except Refused as why:

@@ -202,11 +202,13 @@ def alone(picture: Picture, style: str, title: str) -> Element:
     parts, top, wide = [], 0.0, max(box[2] - box[0] for box in picture.boxes)
     for strip, box in zip(picture.strips, picture.boxes):
         wide_, high = box[2] - box[0], box[3] - box[1]
-        inner = [without_hits(it) for it in flat(strip.children) if isinstance(it, Element) and it.attributes.get("class") != "grid"]
+        inner = [without_hits(it) for it in flat(strip.children) if isinstance(it, Element)
+                 and it.attributes.get("class") != "grid"]
         parts.append(element("svg", inner, x=0, y=shown(top), width=shown(wide_), height=shown(high),
                              viewBox=strip.attributes["viewBox"]))
         top += high + 12
     plain = re.sub(r"var\(--[a-z]+, ([^)]*)\)", r"\1", style)
     return element("svg", element("title", title), element("style", plain),
-                   element("rect", width=shown(wide), height=shown(top), fill="#fff"), *parts, xmlns="http://www.w3.org/2000/svg",
+                   element("rect", width=shown(wide), height=shown(top), fill="#fff"), *parts,
+                   xmlns="http://www.w3.org/2000/svg",
                    viewBox=f"0 0 {shown(wide)} {shown(top)}", width=shown(wide), height=shown(top))

@@ -1,4 +1,4 @@
-"""What a page says of where it comes from: files and their hashes, the program and its proofs, and the command that checks again."""
+"""Where a page comes from: files and their hashes, the program and its proofs, and the command that checks it again."""
 from __future__ import annotations
 
 import shlex
@@ -96,7 +96,8 @@ def block(facts: Provenance, shown: object) -> Element:
         program.append(element("p", "Version ", facts.version))
     cells = [cell("Station", element("p", show(facts.title), class_="station")),
              *(of_file(title, file, show(file.name)) for title, file in facts.files),
-             cell("Program", *program, wide=True), cell("Date", element("p", day(facts.date))), blank("Revision"), blank("Checked by"),
+             cell("Program", *program, wide=True), cell("Date", element("p", day(facts.date))), blank("Revision"),
+             blank("Checked by"),
              cell("Made by", element("p", command(facts.made_by)), wide=True)]
     if facts.check:
         cells.append(cell("Check it again", element("p", command(facts.check)), element("p", facts.needs), wide=True))

@@ -156,7 +156,8 @@ class Reader:
 
     def signal(self, attributes: Attributes) -> None:
         one = attributes.get("id", "")
-        self.found.signals.setdefault(one, SignalInFile(one, attributes.get("name", ""), self.track().id, attributes.get("dir", ""),
+        self.found.signals.setdefault(one, SignalInFile(one, attributes.get("name", ""), self.track().id,
+                                                        attributes.get("dir", ""),
                                                         number(attributes, "absPos"), number(attributes, "pos")))
 
 

@@ -48,6 +48,7 @@ class Run:
     date: Optional[float] = None
     page: str = ""
     front_words: list[str] = field(default_factory=list)
+    copied: list[str] = field(default_factory=list)
 
     @property
     def command(self) -> str:
@@ -126,7 +127,8 @@ def signs_in(scene: Scene) -> list[str]:
 
 
 def table(rows: list[tuple[str, object, str]]) -> Element:
-    return element("table", [element("tr", element("td", name), element("td", str(number), class_="number"), element("td", words))
+    return element("table", [element("tr", element("td", name), element("td", str(number), class_="number"),
+                                     element("td", words))
                              for name, number, words in rows], class_="values")
 
 
@@ -172,7 +174,8 @@ def add_sheet(page: Page, run: Run) -> None:
     import hashlib
     page.sheet = texts.sheet_part(run.output)
     content = page.sheet.encode("utf-8")
-    page.provenance.files.insert(len(run.inputs), ("Sheet", FileFacts(sheet_name(run), hashlib.sha256(content).hexdigest(), len(content))))
+    page.provenance.files.insert(len(run.inputs), ("Sheet", FileFacts(sheet_name(run), hashlib.sha256(content).hexdigest(),
+                                                                      len(content))))
     page.provenance.needs = f"{sheet_name(run)} is the sheet that this page holds; save it first."
     if run.log and run.log.sha256:
         page.provenance.check = ["./railplan", "check", run.file, sheet_name(run), run.log.name]
@@ -280,9 +283,11 @@ def add_panels(page: Page, run: Run, why: texts.Why) -> None:
         kept = [str(at) for at in range(1, len(why.laws) + 1) if at != number]
         keeps = f"It keeps {sentences.listed(kept)} of the list. " if kept else "The list has no other law. "
         page.draw(run.scene(drawing, page.station, marks=marks, has_scale=False, part=0.5 if len(why.laws) > 1 else 1.0),
-                  element("b", f"Given up: {number}. "), f"{sentences.sentence(text)} {keeps}Laws outside the list aren't kept.",
+                  element("b", f"Given up: {number}. "),
+                  f"{sentences.sentence(text)} {keeps}Laws outside the list aren't kept.",
                   kind="panel", title=f"without {number}")
-    page.fact("Colours", element("p", element("span", "Red, broken lines and squares", class_="broken"), ": what the drawing gives up."),
+    page.fact("Colours", element("p", element("span", "Red, broken lines and squares", class_="broken"),
+                                 ": what the drawing gives up."),
               element("p", element("span", "Blue, solid lines and circles", class_="party"), ": what it keeps of the list."),
               "Grey: what no law of the list speaks of.")
 
@@ -339,7 +344,8 @@ def front_page(run: Run) -> Page:
             page.draw(run.scene(sheet.drawing, page.station), element("b", f"{one} {pair[0]}, {other} {pair[1]}. "),
                       "Had from ", facts.command(["./railplan", *words]), ".", kind="choice", id=links[pair],
                       title=f"{one} {pair[0]}, {other} {pair[1]}")
-    rows = [(f"{one} {pair[0]}", "", f"{other} {pair[1]}" + ("" if pair in run.drawings else ", of which there is no drawing here"))
+    rows = [(f"{one} {pair[0]}", "", f"{other} {pair[1]}" + ("" if pair in run.drawings
+                                                             else ", of which there is no drawing here"))
             for pair in found.pairs]
     page.fact("Pairs", table(rows), f"On a grid of {sentences.grid_in_words(grid_of(run))}.")
     page.fact("How the search ended", sentences.ending_of_front(found.ending))
@@ -351,26 +357,28 @@ def fault_page(run: Run) -> Page:
     """the fault in words, the line that the program gave, and the lines of the file that are meant"""
     page = page_of(run, "Not drawn: a fault")
     page.badge = ("broken", "fault")
-    fault = faults.of_run(run.command if run.words else "", run.output, run.status, [it.content for it in run.inputs])
-    page.lead = [element("b", fault.sentence)]
+    fault = faults.of_run(run.copied or run.words, run.output, run.status, run.inputs)
+    page.lead = [element("p", element("b", fault.sentences[0])), *(element("p", it) for it in fault.sentences[1:])]
     if fault.line:
         page.lead += [element("p", "The program's own line: ", facts.code(fault.line))]
-    for part in fault.excerpts:
-        page.figures.append(Figure(None, [excerpt(part)], [part.title], kind="excerpt"))
-    if len(fault.excerpts) > 1:
-        meant = [number for part in fault.excerpts for number in part.meant]
-        page.lead.append(element("p", "What is meant: ", [[element("a", f"line {number}", href=f"#·line-{number}"), " "] for number in meant]))
+    for number, part in enumerate(fault.excerpts, 1):
+        page.figures.append(Figure(None, [excerpt(part, number)], [part.name], kind="excerpt"))
+    meant = [(number, line) for number, part in enumerate(fault.excerpts, 1) for line in part.meant]
+    if len(meant) > 1:
+        links = [[element("a", f"line {line}", href=f"#·line-{number}-{line}"), " "] for number, line in meant]
+        page.lead.append(element("p", "What is meant: ", links))
     page.provenance.check = ["./railplan", *run.words]
     return page
 
 
-def excerpt(part: faults.Excerpt) -> Element:
+def excerpt(part: faults.Excerpt, figure: int) -> Element:
+    """lines of a file, with those that are meant marked"""
     rows = []
     for number, line in enumerate(part.lines, part.first):
         is_meant = number in part.meant
         rows.append(element("tr", element("td", ("▸ " if is_meant else "") + str(number), class_="number"),
                             element("td", element("code", texts_shown(line))), class_="meant" if is_meant else None,
-                            id=f"·line-{number}" if is_meant else None))
+                            id=f"·line-{figure}-{number}" if is_meant else None))
     return element("table", rows, class_="lines-of-file")
 
 
@@ -379,7 +387,8 @@ def texts_shown(line: str) -> str:
     return visible(line.replace("\t", "    "))
 
 
-PAGES: dict[str, Callable[[Run], Page]] = {"draw": draw_page, "signals": draw_page, "verify": verify_page, "explain": explain_page,
+PAGES: dict[str, Callable[[Run], Page]] = {"draw": draw_page, "signals": draw_page, "verify": verify_page,
+                                           "explain": explain_page,
                                            "redraw": redraw_page, "front": front_page}
 
 

@@ -1,4 +1,4 @@
-"""The objects of a drawing as a list: nodes, pieces of track and signals by kilometre, what is said of each, and the list as CSV."""
+"""The objects of a drawing by kilometre: nodes, pieces of track and signals, what is said of each, and the list as CSV."""
 from __future__ import annotations
 
 import csv
@@ -98,9 +98,11 @@ class Objects:
         km = km_of(west.mileage)
         track = edge.track or f"edge {edge.number}"
         type_ = self.station.file.tracks[track].type if track in self.station.file.tracks else ""
-        entry = Entry(self.scene.key("e", edge.number), self.station.shown(track), self.station.name(track), "piece of track", km,
+        entry = Entry(self.scene.key("e", edge.number), self.station.shown(track), self.station.name(track), "piece of track",
+                      km,
                       (metres(west.mileage), 1, edge.number), point=edge.points[0], track=self.station.shown(track))
-        entry.facts = [("from", self.at(edge.west), self.scene.key("n", edge.west)), ("to", self.at(edge.east), self.scene.key("n", edge.east))]
+        entry.facts = [("from", self.at(edge.west), self.scene.key("n", edge.west)),
+                       ("to", self.at(edge.east), self.scene.key("n", edge.east))]
         if length(edge, self.scene):
             entry.facts.append(("length", length(edge, self.scene), ""))
         if type_:
@@ -122,7 +124,8 @@ class Objects:
                       kilometres(f"{mileage:f}") if mileage is not None else "", (place, 2, signal.number),
                       track=self.station.shown(track), point=signal.point,
                       side={None: "", True: "east", False: "west"}[east])
-        entry.facts = [("for", way_of(east), ""), ("on", f"{self.station.label(track)}, from {self.at(edge.west)} to {self.at(edge.east)}",
+        entry.facts = [("for", way_of(east), ""),
+                       ("on", f"{self.station.label(track)}, from {self.at(edge.west)} to {self.at(edge.east)}",
                                                    self.scene.key("e", edge.number))]
         return entry
 

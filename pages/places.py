@@ -226,7 +226,8 @@ def along(wish: Wish, pieces: list[tuple[float, float, float]], text: str, size:
         shifts = sorted((step * 7 for step in range(-steps, steps + 1)), key=abs)
         for shift in shifts:
             middle = (left + right) / 2 + shift
-            found += [name_at(wish, text, size, middle - width / 2, top, anchor=(middle, y)) for top in (y - 3.4 - height, y + 3.4)]
+            found += [name_at(wish, text, size, middle - width / 2, top, anchor=(middle, y))
+                      for top in (y - 3.4 - height, y + 3.4)]
     return found
 
 
@@ -310,7 +311,8 @@ def make_room(field_: Field, names: dict[str, Name], choices: dict[str, list[Nam
     return False
 
 
-def place(field_: Field, wishes: list[Wish], step: float, may_lack: Callable[[Wish], bool] = lambda wish: False) -> dict[str, Name]:
+def place(field_: Field, wishes: list[Wish], step: float, may_lack: Callable[[Wish], bool] = lambda wish: False) -> dict[str,
+                                                                                                                         Name]:
     """a place for each name, by what it names; those with the fewest free places choose first"""
     names: dict[str, Name] = {}
     waiting = []

@@ -14,7 +14,8 @@ HEAD = 4.0
 MEANINGS = {"switch": "switch: the wedge is at its toe", "joint": "joint of two tracks", "crossing": "crossing",
             "open end": "open end", "line goes on": "end, the line goes on", "buffer stop": "buffer stop",
             "end": "end of which the file says no more", "node": "node of which no kind is known",
-            "signal": "signal, beside the track on its side, with its foot at the rear", "signal both": "signal of which the file "
+            "signal": "signal, beside the track on its side, with its foot at the rear",
+            "signal both": "signal of which the file "
             "doesn't say for which way", "main": "main track", "track": "other track"}
 
 
@@ -82,7 +83,8 @@ def signal_sign(heads_east: Optional[bool], is_left: bool) -> tuple[list[Element
     """a foot, a mast and a head beside the track, on the right or left of the trains that it is for, or else upright on it;
     and the corners of its room"""
     if heads_east is None:
-        return [element("path", class_="mast", d="M-4,-4 H4 M0,-4 V-9"), element("circle", class_="head", cx=0, cy=-13, r=HEAD)], \
+        return [element("path", class_="mast", d="M-4,-4 H4 M0,-4 V-9"),
+                element("circle", class_="head", cx=0, cy=-13, r=HEAD)], \
             [(-4.8, -17.8), (4.8, -17.8), (4.8, -3), (-4.8, -3)]
     way = 1 if heads_east else -1
     hand = -way if is_left else way

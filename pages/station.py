@@ -53,7 +53,8 @@ class Station:
 
     def name(self, id: str) -> str:
         """the name that the file has for an id, or nothing"""
-        name = self.file.signals[id].name if id in self.file.signals and id not in self.file.names else self.file.names.get(id, "")
+        name = self.file.signals[id].name if id in self.file.signals and id not in self.file.names else self.file.names.get(id,
+                                                                                                                            "")
         return self.shown(name) if name.strip() and name != id else ""
 
     def signal_name(self, id: str) -> str:

@@ -190,7 +190,8 @@ class StripPlan:
         run = element("g", *parts, transform=f"rotate({shown(math.degrees(turn))})" if turn else None)
         self.things.append(element("g", element("title", said), run, class_="sign signal",
                                    transform=f"translate({shown(x)},{shown(y)})", data_key=self.scene.key("s", signal.number)))
-        turned = [(x + a * math.cos(turn) - b * math.sin(turn), y + a * math.sin(turn) + b * math.cos(turn)) for a, b in corners]
+        turned = [(x + a * math.cos(turn) - b * math.sin(turn), y + a * math.sin(turn) + b * math.cos(turn)) for a,
+                  b in corners]
         box = bounds([(a, b, a, b) for a, b in turned])
         owner = f"signal {signal.number}"
         self.field.add(Sign(box, owner))
@@ -319,12 +320,14 @@ class StripPlan:
             self.field.add(Line(start, end, 0.6))
         if top > height:
             y = self.at((0, height))[1]
-            self.frame.append(line_at("limit", (-14.0, y), (self.x(self.high) + 14, y)).add(element("title", "the grid's last row")))
+            self.frame.append(line_at("limit", (-14.0, y), (self.x(self.high) + 14, y)).add(element("title",
+                                                                                                    "the grid's last row")))
             self.field.add(Line((-14.0, y), (self.x(self.high) + 14, y), 0.6))
 
     def put_grid(self, box: Box) -> None:
         """the columns and rows, which are shown where they are asked for"""
-        rows = max([node.point[1] for node in self.scene.drawing.nodes] + [y for it in self.scene.drawing.edges for _, y in it.points])
+        rows = max([node.point[1] for node in self.scene.drawing.nodes]
+                   + [y for it in self.scene.drawing.edges for _, y in it.points])
         for column in range(self.strip.first, self.strip.last + 1):
             x = self.x(column)
             self.grid.append(line_at("", (x, box[1]), (x, box[3])))

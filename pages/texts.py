@@ -1,4 +1,4 @@
-"""The texts that the program prints, as records: graphs, sheets, verdicts, signals, explanations, former drawings, pairs of values.
+"""The texts that the program prints, as records: graphs, sheets, verdicts, signals, explanations, pairs of values.
 
 What is read here was written by the program, or has passed it. So a text of another form isn't reported: it is NoPage.
 """

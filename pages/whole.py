@@ -57,7 +57,8 @@ def object_list(objects: Objects, changes: list[Element]) -> Element:
     if changes:
         parts += [element("h2", "Changes, to be ticked off"), element("ul", changes, class_="changes")]
     parts += [element("h2", "Objects by kilometre"), element("table", head, body)]
-    said = element("div", element("p", "Choose a row or a sign. Two signals, one after the other, show the path between them.", class_="screen"),
+    said = element("div", element("p", "Choose a row or a sign. Two signals, one after the other, show the path between them.",
+                                  class_="screen"),
                    class_="said", aria_live="polite")
     return element("aside", said, *parts, class_="list", aria_label="objects by kilometre")
 
@@ -70,13 +71,16 @@ def data_of(page: Page) -> dict[str, object]:
     key, station = scene.key, page.station
     links = objects.links()
     found: dict[str, object] = {
-        "objects": {it.key: {"id": it.id, "name": it.name, "kind": it.kind, "km": it.km, "facts": it.facts, "link": links[it.key]}
+        "objects": {it.key: {"id": it.id, "name": it.name, "kind": it.kind, "km": it.km, "facts": it.facts,
+                             "link": links[it.key]}
                     for it in objects.entries},
         "edges": {key("e", it.number): [key("n", it.west), key("n", it.east)] for it in scene.drawing.edges},
-        "ways": {key("n", it.number): [[key("e", way.one), key("e", way.other), way.position] for way in station.ways(it.number)]
+        "ways": {key("n", it.number): [[key("e", way.one), key("e", way.other), way.position]
+                                       for way in station.ways(it.number)]
                  for it in scene.drawing.nodes if station.node(it.number)},
         "signals": {key("s", it.number): [key("e", it.edge), it.point[0], station.heads_east(it)] for it in scene.signals}}
-    found["name"] = page.provenance.files[0][1].name.rsplit("/", 1)[-1].removesuffix(".xml") if page.provenance.files else "station"
+    found["name"] = page.provenance.files[0][1].name.rsplit("/",
+                                                            1)[-1].removesuffix(".xml") if page.provenance.files else "station"
     found["save"] = {"csv": objects.csv(), "dxf": dxf_of(page), "sheet": page.sheet}
     return found
 
@@ -120,8 +124,10 @@ def tools(page: Page) -> Optional[Element]:
         ("grid", "grid", "the grid's columns and rows (g)"), ("svg", "SVG", "save the drawing as SVG"),
         *((("dxf", "DXF", "save the drawing for a CAD program"),) if page.scene else ()),
         ("csv", "CSV", "save the list of objects"), *((("sheet", "sheet", "save the sheet"),) if page.sheet else ()))]
-    return element("div", element("label", "find ", element("input", type="search", class_="find", placeholder="name, id, km or kind ( / )")),
-                   button, element("small", "/ find, n next, + − 0 zoom, arrows move, Esc lets go"), class_="tools", hidden=True)
+    return element("div", element("label", "find ", element("input", type="search", class_="find",
+                                                            placeholder="name, id, km or kind ( / )")),
+                   button, element("small", "/ find, n next, + − 0 zoom, arrows move, Esc lets go"), class_="tools",
+                   hidden=True)
 
 
 def shortened(page: Page) -> Optional[Element]:
@@ -136,19 +142,22 @@ def head(page: Page, styles: list[str], script: str, title: str) -> Element:
     return element("head", element("meta", charset="utf-8"),
                    Element("meta", {"http-equiv": "Content-Security-Policy", "content": policy(styles, script)}, ()),
                    element("meta", name="viewport", content="width=device-width, initial-scale=1"),
-                   element("title", f"{title}: {page.subject}"), element("style", styles[0]), element("style", styles[1], class_="drawing"))
+                   element("title", f"{title}: {page.subject}"), element("style", styles[0]),
+                   element("style", styles[1], class_="drawing"))
 
 
 def body(page: Page, title: str) -> Iterable[Child]:
     badges = [element("span", text, class_="badge " + kind) for kind, text in (page.badge,) if text]
     badges.append(element("span", page.provenance.build.badge(), class_=f"badge {page.provenance.build.state or 'unknown'}"))
-    yield element("header", element("h1", element("bdi", title)), element("span", page.subject), element("div", badges, class_="badges"))
+    yield element("header", element("h1", element("bdi", title)), element("span", page.subject),
+                  element("div", badges, class_="badges"))
     if page.lead:
         yield element("div", page.lead, class_="lead")
     yield tools(page)
     said = element("div", [element("section", element("h2", title_), *parts) for title_, parts in page.facts], class_="facts")
     sheet = element("details", element("summary", "The sheet, as a text"), element("pre", page.sheet)) if page.sheet else None
-    left = element("div", figures(page), legend(page), said, facts.block(page.provenance, page.station.shown), shortened(page), sheet,
+    left = element("div", figures(page), legend(page), said, facts.block(page.provenance, page.station.shown), shortened(page),
+                   sheet,
                    class_="left")
     yield element("main", left, object_list(page.objects, page.changes) if page.objects else None,
                   class_="work" if page.objects else None)

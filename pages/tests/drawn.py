@@ -117,7 +117,8 @@ def of_text(one: Element, matrix: Matrix, title: str) -> Written:
     own = times(matrix, matrix_of(str(one.attributes.get("transform") or "")))
     box = around([moved(own, spot) for spot in ((x, y - size * ASCENT), (x + wide, y - size * ASCENT), (x, y + size * DESCENT),
                                                 (x + wide, y + size * DESCENT))])
-    return Written(text, box, str(one.attributes.get("data-name") or ""), title, size, str(one.attributes.get("class") or "").split())
+    return Written(text, box, str(one.attributes.get("data-name") or ""), title, size,
+                   str(one.attributes.get("class") or "").split())
 
 
 def spots_of(one: Element) -> list[Spot]:

@@ -41,7 +41,8 @@ def run_of(words: list[str], output: str, status: int = 0, files: Optional[dict[
     line = table.read(words)
     inputs = [input_of(name, (files or {}).get(name)) for name in line.names[:INPUTS.get(line.command, 0)]]
     found = graphs if graphs is not None else [graph_of(it.facts.name) for it in inputs[:2]]
-    return Run(words, line.names, line.options, output, status, inputs, found, settings=settings or Settings(), **{"date": DATE, **more})
+    return Run(words, line.names, line.options, output, status, inputs, found, settings=settings or Settings(),
+               **{"date": DATE, **more})
 
 
 def page_of(words: list[str], output: str, status: int = 0, **more: object) -> Page:

@@ -43,7 +43,8 @@ class Case(unittest.TestCase):
         (self.base / "launcher").write_text(LAUNCHER)
         (self.base / "a.xml").write_bytes((TOP / "examples/station.xml").read_bytes())
         (self.base / "tmp").mkdir()
-        self.environment = {**os.environ, "BASE": str(self.base), "TMPDIR": str(self.base / "tmp"), "OUTPUT": str(TOP / "examples/station.sheet"),
+        self.environment = {**os.environ, "BASE": str(self.base), "TMPDIR": str(self.base / "tmp"),
+                            "OUTPUT": str(TOP / "examples/station.sheet"),
                             "GRAPH": str(TOP / "examples/station.graph"), "PYTHONDONTWRITEBYTECODE": "1"}
         self.environment.pop("RAILPLAN_BUILD", None)
 
@@ -59,7 +60,8 @@ class Case(unittest.TestCase):
 
     def left(self) -> list[str]:
         """the names in the folder that no test made"""
-        return sorted(it.name for it in self.base.iterdir() if it.name not in ("launcher", "a.xml", "seen", "tmp", "started")) + \
+        return sorted(it.name for it in self.base.iterdir() if it.name not in ("launcher", "a.xml", "seen", "tmp",
+                                                                               "started")) + \
             sorted("tmp/" + it.name for it in (self.base / "tmp").iterdir())
 
     def page(self, name: str = "p.html") -> str:
@@ -117,17 +119,18 @@ class Runs(Case):
             self.assertEqual(self.start("p.html", *words, environment={"STATUS": "2"}).returncode, 2)
 
     def test_a_fault_has_a_page(self) -> None:
-        (self.base / "out").write_text("topology 8 NotMutual at 100 W1.branch track4.west\n")
+        (self.base / "out").write_text("topology 3 Missing at 440 absPos\n")
         self.base.joinpath("p.html").write_text("<!DOCTYPE html>\nolder")
         ran = self.start("p.html", "draw", "a.xml", environment={"OUTPUT": str(self.base / "out"), "STATUS": "1"})
-        self.assertEqual((ran.returncode, ran.stdout), (1, b"topology 8 NotMutual at 100 W1.branch track4.west\n"))
-        self.assertIn("W1.branch refers to track4.west, but track4.west doesn't refer back to W1.branch", self.page())
+        self.assertEqual((ran.returncode, ran.stdout), (1, b"topology 3 Missing at 440 absPos\n"))
+        self.assertIn("has no absPos", self.page())
         self.assertNotIn("older", self.page())
 
     def test_a_file_that_lacks_has_a_page(self) -> None:
         (self.base / "out").write_text("read failed 1\n")
-        self.assertEqual(self.start("p.html", "draw", "no.xml", environment={"OUTPUT": str(self.base / "out"), "STATUS": "5"}).returncode, 5)
-        self.assertIn("Not read: the railML file.", self.page())
+        self.assertEqual(self.start("p.html", "draw", "no.xml", environment={"OUTPUT": str(self.base / "out"),
+                                                                             "STATUS": "5"}).returncode, 5)
+        self.assertIn("no.xml isn't there", self.page())
 
     def test_dxf_and_csv_without_a_page(self) -> None:
         ran = self.start("--dxf", "s.dxf", "--csv", "s.csv", "draw", "a.xml")
@@ -137,7 +140,8 @@ class Runs(Case):
 
     def test_no_drawing_no_dxf(self) -> None:
         (self.base / "out").write_text("railplan 2\ngrid 4 0 1\norder height\nend none\n")
-        ran = self.start("p.html", "--dxf", "s.dxf", "draw", "a.xml", environment={"OUTPUT": str(self.base / "out"), "STATUS": "3"})
+        ran = self.start("p.html", "--dxf", "s.dxf", "draw", "a.xml",
+                         environment={"OUTPUT": str(self.base / "out"), "STATUS": "3"})
         self.assertEqual((ran.returncode, self.left()), (3, ["out", "p.html"]))
         self.assertIn(b"there is no drawing, so s.dxf isn't written", ran.stderr)
 
@@ -191,7 +195,8 @@ class Files(Case):
     def test_standard_output_is_not_the_page(self) -> None:
         (self.base / "p.html").write_text("")
         with open(self.base / "p.html", "wb") as out:
-            ran = subprocess.run(self.command("p.html", "draw", "a.xml"), cwd=self.base, env=self.environment, stdout=out, stderr=subprocess.PIPE)
+            ran = subprocess.run(self.command("p.html", "draw", "a.xml"), cwd=self.base, env=self.environment, stdout=out,
+                                 stderr=subprocess.PIPE)
         self.assertEqual(ran.returncode, 2)
         self.assertIn(b"standard output goes to p.html", ran.stderr)
 
@@ -202,14 +207,16 @@ class Files(Case):
         self.assertFalse((self.base / "seen").exists())
 
     def test_the_sheet_is_given_though_the_page_can_not_be_written(self) -> None:
-        ran = subprocess.run(["sh", "-c", 'ulimit -f 8; exec "$@"', "sh", *self.command("p.html", "draw", "a.xml")], cwd=self.base,
+        ran = subprocess.run(["sh", "-c", 'ulimit -f 8; exec "$@"', "sh", *self.command("p.html", "draw", "a.xml")],
+                             cwd=self.base,
                              env=self.environment, capture_output=True)
         self.assertEqual((ran.returncode, ran.stdout), (6, (TOP / "examples/station.sheet").read_bytes()))
         self.assertIn(b"couldn't write: p.html", ran.stderr)
         self.assertEqual(self.left(), [])
 
     def test_two_runs_of_one_page_are_both_whole(self) -> None:
-        jobs = [subprocess.Popen(self.command("p.html", "draw", "a.xml"), cwd=self.base, env=self.environment, stdout=subprocess.DEVNULL)
+        jobs = [subprocess.Popen(self.command("p.html", "draw", "a.xml"), cwd=self.base, env=self.environment,
+                                 stdout=subprocess.DEVNULL)
                 for _ in range(3)]
         self.assertEqual([job.wait(60) for job in jobs], [0, 0, 0])
         self.assertEqual(self.left(), ["p.html"])
@@ -220,7 +227,8 @@ class Ends(Case):
     def test_an_interrupt_leaves_nothing(self) -> None:
         for number in (signal.SIGINT, signal.SIGTERM, signal.SIGHUP):
             (self.base / "started").unlink(missing_ok=True)
-            job = subprocess.Popen(self.command("p.html", "draw", "a.xml"), cwd=self.base, env={**self.environment, "SLEEP": "30"},
+            job = subprocess.Popen(self.command("p.html", "draw", "a.xml"), cwd=self.base,
+                                   env={**self.environment, "SLEEP": "30"},
                                    stdout=subprocess.PIPE, stderr=subprocess.PIPE)
             until = time.time() + 30
             while not (self.base / "started").exists() and time.time() < until:
@@ -234,14 +242,16 @@ class Ends(Case):
 
     def test_closed_outputs(self) -> None:
         for closing in (">&-", ">&- 2>&-", ">/dev/full"):
-            ran = subprocess.run(["sh", "-c", f'exec "$@" {closing}', "sh", *self.command("p.html", "draw", "a.xml")], cwd=self.base,
+            ran = subprocess.run(["sh", "-c", f'exec "$@" {closing}', "sh", *self.command("p.html", "draw", "a.xml")],
+                                 cwd=self.base,
                                  env=self.environment, capture_output=True)
             self.assertEqual((ran.returncode, ran.stdout), (6, b""), closing)
             self.assertNotIn(b"Traceback", ran.stderr)
             self.assertTrue(self.page().endswith("</html>\n"))
 
     def test_a_reader_that_goes(self) -> None:
-        ran = subprocess.run(["sh", "-c", '"$@"; echo $? >status', "sh", *self.command("p.html", "draw", "a.xml")], cwd=self.base, env=self.environment,
+        ran = subprocess.run(["sh", "-c", '"$@"; echo $? >status', "sh", *self.command("p.html", "draw", "a.xml")],
+                             cwd=self.base, env=self.environment,
                              stdout=subprocess.DEVNULL, stderr=subprocess.PIPE)
         self.assertNotIn(b"Traceback", ran.stderr)
         self.assertEqual((self.base / "status").read_text(), "0\n")
@@ -249,19 +259,24 @@ class Ends(Case):
 
 class Words(unittest.TestCase):
     def test_words_of_pages(self) -> None:
-        found = asked_of(["p", "--paper", "A1", "--labels", "id", "--side", "left", "--dxf", "d", "--unproved", "draw", "f", "--width", "9"])
-        self.assertEqual((found.files, found.settings.paper, found.settings.labels, found.settings.side, found.is_unproved, found.words),
+        found = asked_of(["p", "--paper", "A1", "--labels", "id", "--side", "left", "--dxf", "d", "--unproved", "draw", "f",
+                          "--width", "9"])
+        self.assertEqual((found.files, found.settings.paper, found.settings.labels, found.settings.side, found.is_unproved,
+                          found.words),
                          ({"--html": "p", "--dxf": "d"}, "A1", "id", "left", True, ["draw", "f", "--width", "9"]))
 
     def test_words_that_are_none(self) -> None:
-        for words in ([], ["p"], ["p", "graph", "f"], ["draw", "f"], ["p", "--paper", "A9", "draw", "f"], ["p", "--paper"], ["", "draw", "f"],
+        for words in ([], ["p"], ["p", "graph", "f"], ["draw", "f"], ["p", "--paper", "A9", "draw", "f"], ["p", "--paper"],
+                      ["", "draw", "f"],
                       ["p", "--labels", "x", "draw", "f"], ["--paper", "A4", "draw", "f"]):
             self.assertRaises(Refused, asked_of, words)
 
     def test_which_run_draws_a_pair(self) -> None:
         front = Front(("height", "width"), [(2, 9), (3, 7)], "whole")
-        self.assertEqual(pair_options(front, 1, {"--conflicts": "9"}), ["--conflicts", "9", "--height", "3", "--order", "width"])
-        self.assertEqual(pair_options(Front(("bends", "width"), [(2, 9)], "whole"), 0, {}), ["--width", "9", "--order", "bends"])
+        self.assertEqual(pair_options(front, 1, {"--conflicts": "9"}),
+                         ["--conflicts", "9", "--height", "3", "--order", "width"])
+        self.assertEqual(pair_options(Front(("bends", "width"), [(2, 9)], "whole"), 0, {}),
+                         ["--width", "9", "--order", "bends"])
         front = Front(("bends", "diagonal"), [(1, 9), (2, 8), (3, 7)], "whole")
         self.assertEqual([pair_options(front, at, {}) for at in range(3)],
                          [["--order", "bends,diagonal"], None, ["--order", "diagonal,bends"]])

@@ -10,7 +10,8 @@ from pages.kinds import Settings, dxf_of, make
 from pages.objects import Entry, Objects, safe
 from pages.tests.fixtures import example, run_of, sample
 
-TWO = ("railplan 2\ngrid 9 1 1\norder width\nnodes 2\nnode 0 {} 0 0 -5.500000\nnode 1 b 3 0 9.000000\nedges 1\nedge 0 {} 0 1 0 0 3 0\n"
+TWO = ("railplan 2\ngrid 9 1 1\norder width\nnodes 2\nnode 0 {} 0 0 -5.500000\nnode 1 b 3 0 9.000000\n"
+       "edges 1\nedge 0 {} 0 1 0 0 3 0\n"
        "values 0 0 0 3\nend best\n")
 
 
@@ -23,7 +24,8 @@ class Entries(unittest.TestCase):
         objects = make(sample("signals")).objects
         orders = [it.order for it in objects.entries]
         self.assertEqual(orders, sorted(orders))
-        self.assertEqual([it.km for it in objects.entries if it.kind == "signal"], ["0.040", "0.150", "0.160", "0.300", "0.440", "0.450", "0.560"])
+        self.assertEqual([it.km for it in objects.entries if it.kind == "signal"],
+                         ["0.040", "0.150", "0.160", "0.300", "0.440", "0.450", "0.560"])
 
     def test_a_switch_says_its_legs_and_the_next_nodes(self) -> None:
         facts = entry(make(example()).objects, "n6").facts
@@ -36,7 +38,8 @@ class Entries(unittest.TestCase):
         one = entry(make(sample("signals")).objects, "e1")
         self.assertEqual(one.facts[2], ("length", "400 m", ""))
         self.assertEqual([text for term, text, _ in one.facts if term == "signal"],
-                         ["P1, km 0.150, for trains that run west", "Ls1, km 0.300, for a way that the file doesn't say", "N1, km 0.450, for trains that run east"])
+                         ["P1, km 0.150, for trains that run west", "Ls1, km 0.300, for a way that the file doesn't say",
+                          "N1, km 0.450, for trains that run east"])
         self.assertEqual([key for term, _, key in one.facts if term == "signal"], ["s2", "s4", "s1"])
 
     def test_links_are_ids(self) -> None:
@@ -47,7 +50,8 @@ class Entries(unittest.TestCase):
     def test_csv(self) -> None:
         rows = list(csv.DictReader(io.StringIO(make(example()).objects.csv())))
         self.assertEqual(len(rows), 16)
-        self.assertEqual(next(it for it in rows if it["id"] == "W3"), {"km": "12.520", "kind": "switch", "name": "", "id": "W3", "track": "",
+        self.assertEqual(next(it for it in rows if it["id"] == "W3"),
+                         {"km": "12.520", "kind": "switch", "name": "", "id": "W3", "track": "",
                                                                       "column": "3", "row": "1", "side": "east upper"})
         self.assertEqual([safe(it) for it in ("=1+1", "-5.500", "-x", "@a", "W1")], ["'=1+1", "-5.500", "'-x", "'@a", "W1"])
 
@@ -61,7 +65,8 @@ class Dxf(unittest.TestCase):
 
     def test_layers_and_counts(self) -> None:
         pairs = self.pairs(dxf_of(make(sample("signals"))))
-        made = [(value, pairs[at + 1][1]) for at, (code, value) in enumerate(pairs) if code == "0" and value in ("POLYLINE", "POINT", "TEXT", "CIRCLE")]
+        made = [(value, pairs[at + 1][1]) for at, (code, value) in enumerate(pairs) if code == "0"
+                and value in ("POLYLINE", "POINT", "TEXT", "CIRCLE")]
         self.assertEqual(made.count(("POLYLINE", "TRACK")), 4)
         self.assertEqual(made.count(("POINT", "NODE")), 4)
         self.assertEqual(made.count(("CIRCLE", "SIGNAL")), 7)

@@ -9,7 +9,8 @@ from pages.letters import Letters, visible
 from pages.markup import element
 from pages.whole import written_json
 
-HOSTILE = ["<script>x()</script>", "\"><img src=x onerror=x()>", "' onload='x()", "&lt;b&gt;", "</style><b>", "]]>", "<!--", "a\x00b", "\ufffe",
+HOSTILE = ["<script>x()</script>", "\"><img src=x onerror=x()>", "' onload='x()", "&lt;b&gt;", "</style><b>", "]]>", "<!--",
+           "a\x00b", "\ufffe",
            "\u202e2W", "W1\u200b", "\ud800"]
 
 
@@ -33,7 +34,8 @@ class Markup(unittest.TestCase):
         self.assertEqual(json.loads(text), HOSTILE[:-1])
 
     def test_void_elements_and_attributes_that_lack(self) -> None:
-        self.assertEqual(str(element("input", type="text", hidden=True, id=None, class_="a")), '<input type="text" hidden="hidden" class="a">')
+        self.assertEqual(str(element("input", type="text", hidden=True, id=None, class_="a")),
+                         '<input type="text" hidden="hidden" class="a">')
 
 
 class Seen(unittest.TestCase):

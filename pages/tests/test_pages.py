@@ -14,9 +14,12 @@ from pages.markup import Element
 from pages.tests.fixtures import DATE, PROVED, SAMPLES, TOP, example, page_of, run_of, sample, samples
 from pages.whole import data_of, hash_of, page_text
 
-ALLOWED = {"html", "head", "meta", "title", "style", "body", "header", "h1", "h2", "h3", "span", "div", "bdi", "label", "input", "button", "small",
-           "main", "figure", "figcaption", "svg", "g", "polyline", "polygon", "line", "circle", "rect", "path", "text", "ul", "ol", "li",
-           "section", "p", "code", "table", "thead", "tbody", "tr", "td", "th", "aside", "details", "summary", "pre", "script", "b", "a"}
+ALLOWED = {"html", "head", "meta", "title", "style", "body", "header", "h1", "h2", "h3", "span", "div", "bdi", "label",
+           "input", "button", "small",
+           "main", "figure", "figcaption", "svg", "g", "polyline", "polygon", "line", "circle", "rect", "path", "text", "ul",
+           "ol", "li",
+           "section", "p", "code", "table", "thead", "tbody", "tr", "td", "th", "aside", "details", "summary", "pre", "script",
+           "b", "a"}
 
 
 class Read(HTMLParser):
@@ -61,7 +64,8 @@ def block(page: Page) -> str:
 class Proofs(unittest.TestCase):
     def test_the_page_says_what_the_launcher_knows(self) -> None:
         digest = "0123456789abcdef" * 4
-        for given, is_unproved, state, hash_ in ((f"proved {digest}", False, "proved", digest), (f"unproved {digest}", False, "unproved", digest),
+        for given, is_unproved, state, hash_ in ((f"proved {digest}", False, "proved", digest),
+                                                 (f"unproved {digest}", False, "unproved", digest),
                                                  ("", False, "", ""), (f"proved {digest}", True, "unproved", ""),
                                                  (f"perhaps {digest}", False, "", ""), ("unproved -", True, "unproved", ""),
                                                  ("proved <b>", False, "proved", "")):
@@ -85,8 +89,10 @@ class TitleBlock(unittest.TestCase):
         run = example(build=PROVED, version="9.1", log=log, page="p.html", front_words=["--paper", "A2"])
         text = block(make(run))
         sheet = (TOP / "examples/station.sheet").read_bytes()
-        for wanted in (hashlib.sha256((TOP / "examples/station.xml").read_bytes()).hexdigest(), hashlib.sha256(sheet).hexdigest(), "c" * 64,
-                       "a" * 64, "Version 9.1", "2023-11-14 22:13 UTC", "Revision", "Checked by", "./railplan --html p.html --paper A2 draw "
+        for wanted in (hashlib.sha256((TOP / "examples/station.xml").read_bytes()).hexdigest(),
+                       hashlib.sha256(sheet).hexdigest(), "c" * 64,
+                       "a" * 64, "Version 9.1", "2023-11-14 22:13 UTC", "Revision", "Checked by",
+                       "./railplan --html p.html --paper A2 draw "
                        "examples/station.xml", "./railplan check examples/station.xml station.sheet 'a b.log'"):
             self.assertIn(wanted, text)
 
@@ -101,7 +107,8 @@ class TitleBlock(unittest.TestCase):
         self.assertIn("verify", page.provenance.check)
 
     def test_the_station_has_a_name(self) -> None:
-        xml = (TOP / "examples/station.xml").read_text().replace('<infrastructure id="station"', '<infrastructure id="station" name="Bärstadt"')
+        xml = (TOP / "examples/station.xml").read_text().replace('<infrastructure id="station"',
+                                                                 '<infrastructure id="station" name="Bärstadt"')
         self.assertEqual(make(example(files={"examples/station.xml": xml.encode()})).provenance.title, "Bärstadt")
         self.assertEqual(make(example()).provenance.title, "station")
 
@@ -124,7 +131,8 @@ class Explaining(unittest.TestCase):
         for number, caption in enumerate(captions, 1):
             kept = [str(it) for it in range(1, 5) if it != number]
             self.assertIn(f"Given up: {number}. ", caption)
-            self.assertIn(f"It keeps {kept[0]}, {kept[1]} and {kept[2]} of the list. Laws outside the list aren't kept.", caption)
+            self.assertIn(f"It keeps {kept[0]}, {kept[1]} and {kept[2]} of the list. Laws outside the list aren't kept.",
+                          caption)
 
     def test_one_law_alone_and_other_answers(self) -> None:
         self.assertIn("A lawful drawing exists", words_of(make(sample("explain_exists")).lead))
@@ -134,8 +142,10 @@ class Explaining(unittest.TestCase):
 class Commands(unittest.TestCase):
     def test_endings(self) -> None:
         sheet = (TOP / "examples/station.sheet").read_text()
-        for ending, badge, said in (("best", "lawful, and none better", "No lawful drawing on this grid is better in height, bends, diagonal and width"),
-                                    ("conflicts 2", "search stopped", "On height and bends no lawful drawing is better; the rest isn't settled."),
+        for ending, badge, said in (("best", "lawful, and none better",
+                                     "No lawful drawing on this grid is better in height, bends, diagonal and width"),
+                                    ("conflicts 2", "search stopped",
+                                     "On height and bends no lawful drawing is better; the rest isn't settled."),
                                     ("room 0", "search stopped", "Whether a lawful drawing is better isn't settled.")):
             page = page_of(["draw", "examples/station.xml"], sheet.replace("end best", f"end {ending}"), 4)
             self.assertEqual(page.badge[1], badge)
@@ -151,7 +161,8 @@ class Commands(unittest.TestCase):
         page = make(sample("redraw_station"))
         self.assertIn("Of 6 nodes that the former drawing has too, 2 moved.", words_of(page.lead))
         changes = [it.text().strip() for it in page.changes]
-        self.assertEqual(changes[:4], ["moved: B1, from column 3, row 0 to column 13, row 0", "moved: B2, from column 3, row 1 to column 13, row 1",
+        self.assertEqual(changes[:4], ["moved: B1, from column 3, row 0 to column 13, row 0",
+                                       "moved: B2, from column 3, row 1 to column 13, row 1",
                                        "new node: W3, column 9, row 1", "new node: W4, column 12, row 1"])
         self.assertIn("gone piece of track: second main track (track2), from W2 to B2", changes)
         self.assertEqual([it.attributes["data-key"] for it in page.changes][:4], ["n1", "n4", "n6", "n7"])
@@ -180,7 +191,8 @@ class Commands(unittest.TestCase):
 
 
 class Hostile(unittest.TestCase):
-    NAMES = ["<script>alert(1)</script>", "\"onload='x()'", "</style><img/src=x>", "</script><b>", "]]>&lt;b&gt;", "a\u202eb\u200b", "\ufffe<!--",
+    NAMES = ["<script>alert(1)</script>", "\"onload='x()'", "</style><img/src=x>", "</script><b>", "]]>&lt;b&gt;",
+             "a\u202eb\u200b", "\ufffe<!--",
              "javascript:alert(1)"]
 
     def page(self, command: str) -> str:
@@ -192,7 +204,8 @@ class Hostile(unittest.TestCase):
             hostile = self.NAMES[at % len(self.NAMES)].replace(" ", "") + str(at)
             quoted = hostile.replace("&", "&amp;").replace("<", "&lt;").replace('"', "&quot;")
             xml = re.sub(rf'id="{id}"( name="[^"]*")?', lambda found: f'id="{quoted}" name="{quoted}n"', xml)
-            output, graph = (re.sub(rf"(?m)^((?:node|edge|signal) \d+) {id} ", lambda found: f"{found[1]} {hostile} ", it) for it in (output, graph))
+            output, graph = (re.sub(rf"(?m)^((?:node|edge|signal) \d+) {id} ", lambda found: f"{found[1]} {hostile} ", it)
+                             for it in (output, graph))
         from pages import texts
         files = {"<i>.xml": xml.encode("utf-8")}
         words = [command, "<i>.xml"]
@@ -202,7 +215,8 @@ class Hostile(unittest.TestCase):
     def test_no_name_becomes_markup(self) -> None:
         read = Read(self.page("signals"))
         self.assertEqual(read.tags - ALLOWED, set())
-        self.assertFalse([it for it in read.attributes if it[1].startswith("on") or it[1] in ("src", "style", "action", "srcdoc")])
+        self.assertFalse([it for it in read.attributes if it[1].startswith("on")
+                          or it[1] in ("src", "style", "action", "srcdoc")])
         self.assertFalse([it for it in read.attributes if it[1] == "href" and not it[2].startswith("#")])
         self.assertEqual(len(read.bare["script"]), 2)
         self.assertIn("<script>alert(1)</script>0n", read.texts)
@@ -210,8 +224,10 @@ class Hostile(unittest.TestCase):
         self.assertIn("‹U+FFFE›<!--6n", read.texts)
 
     def test_heading_and_title(self) -> None:
-        xml = (TOP / "examples/one.xml").read_text(encoding="utf-8").replace("<infrastructure ", '<infrastructure name="&lt;img src=x>" ', 1)
-        text = page_text(page_of(["draw", "examples/one.xml"], (TOP / "examples/one.sheet").read_text(), files={"examples/one.xml": xml.encode()}))
+        xml = (TOP / "examples/one.xml").read_text(encoding="utf-8").replace("<infrastructure ",
+                                                                             '<infrastructure name="&lt;img src=x>" ', 1)
+        text = page_text(page_of(["draw", "examples/one.xml"], (TOP / "examples/one.sheet").read_text(),
+                                 files={"examples/one.xml": xml.encode()}))
         self.assertIn("&lt;img src=x&gt;", text)
         self.assertNotIn("<img", text)
 
@@ -220,7 +236,8 @@ class Whole(unittest.TestCase):
     def test_the_policy_allows_this_script_and_these_styles_alone(self) -> None:
         for name in samples():
             read = Read(page_text(make(sample(name))))
-            policy = next(value for tag, attribute, value in read.attributes if attribute == "content" and value.startswith("default-src"))
+            policy = next(value for tag, attribute, value in read.attributes if attribute == "content"
+                          and value.startswith("default-src"))
             allowed = dict(part.split(" ", 1) for part in policy.split("; "))
             self.assertEqual(allowed["default-src"], "'none'")
             self.assertEqual(allowed["script-src"], hash_of(read.bare["script"][1]))
@@ -247,7 +264,8 @@ class Whole(unittest.TestCase):
     def test_the_stored_example_is_what_is_made(self) -> None:
         from pages.check import examples
         for path, text in examples():
-            self.assertEqual(path.read_text(encoding="utf-8"), text, f"{path.name}: python3 pages/check.py --write makes it anew")
+            self.assertEqual(path.read_text(encoding="utf-8"), text,
+                             f"{path.name}: python3 pages/check.py --write makes it anew")
 
 
 if __name__ == "__main__":

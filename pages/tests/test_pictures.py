@@ -87,9 +87,11 @@ class SignsOfNodes(unittest.TestCase):
 class MarksOfLaws(unittest.TestCase):
     def test_broken_and_kept(self) -> None:
         page = make(sample("explain_above"))
-        self.assertEqual([(sign(page, f"n{at}", 0).attributes["class"], sign(page, f"n{at}", 1).attributes["class"]) for at in (0, 3, 2)],
+        self.assertEqual([(sign(page, f"n{at}", 0).attributes["class"], sign(page, f"n{at}", 1).attributes["class"])
+                          for at in (0, 3, 2)],
                          [("sign node broken", "sign node party")] * 2 + [("sign node other", "sign node other")])
-        edges = [{str(it.attributes["data-key"]): str(line.attributes["class"]) for it in by_class(page, "lines", at)[0].children
+        edges = [{str(it.attributes["data-key"]): str(line.attributes["class"])
+                  for it in by_class(page, "lines", at)[0].children
                   for line in it.all() if line.tag == "polyline" and "edge" in str(line.attributes["class"])} for at in (0, 1)]
         self.assertEqual([edges[0]["e2"], edges[1]["e2"], edges[0]["e4"]], ["edge party", "edge broken", "edge other"])
 
@@ -100,14 +102,16 @@ class MarksOfLaws(unittest.TestCase):
 
     def test_rings_differ_in_form(self) -> None:
         from pages.strip import ring
-        made = {kind: (ring(kind).tag, str(ring(kind).attributes.get("d"))) for kind in ("broken", "party", "moved", "new", "gone")}
+        made = {kind: (ring(kind).tag, str(ring(kind).attributes.get("d")))
+                for kind in ("broken", "party", "moved", "new", "gone")}
         self.assertEqual(made["broken"][0], "rect")
         self.assertEqual(made["party"][0], "circle")
         self.assertEqual(len({made[kind] for kind in ("moved", "new", "gone")}), 3)
 
     def test_moved_nodes_have_rings(self) -> None:
         page = make(sample("redraw_station"))
-        before, now = ({str(it.attributes["data-key"]): str(it.attributes["class"]).split()[-1] for it in by_class(page, "sign", at)}
+        before, now = ({str(it.attributes["data-key"]): str(it.attributes["class"]).split()[-1]
+                        for it in by_class(page, "sign", at)}
                        for at in (0, 1))
         self.assertEqual([now[it] for it in ("n1", "n4", "n6", "n7", "n0")], ["moved", "moved", "new", "new", "node"])
         self.assertEqual(before["n1"], "moved")
@@ -129,7 +133,8 @@ class Paper(unittest.TestCase):
             self.assertGreaterEqual(min(size for it in sizes.values() for size in it) * CAP / MM, 1.8)
 
     def test_no_strip_is_wider_than_the_paper(self) -> None:
-        sheet = crowded.sheet_of(7, 40, crowded.crossovers_of(__import__("random").Random(3), 7, 40), "W{}".format, "t{}".format)
+        sheet = crowded.sheet_of(7, 40, crowded.crossovers_of(__import__("random").Random(3), 7, 40), "W{}".format,
+                                 "t{}".format)
         for paper in columns.PAPERS:
             page = make(fixtures.run_of(["draw", "no.xml"], sheet, settings=Settings(paper=paper)))
             picture = page.figures[0].picture
@@ -150,7 +155,8 @@ class Paper(unittest.TestCase):
         self.assertEqual(cuts, there)
 
     def test_level_columns_are_squeezed(self) -> None:
-        sheet = ("railplan 2\ngrid 64 1 1\norder width\nnodes 4\nnode 0 a 0 0 0.000000\nnode 1 b 30 0 9.000000\nnode 2 c 0 1 0.000000\n"
+        sheet = ("railplan 2\ngrid 64 1 1\norder width\nnodes 4\nnode 0 a 0 0 0.000000\nnode 1 b 30 0 9.000000\n"
+                 "node 2 c 0 1 0.000000\n"
                  "node 3 d 30 1 9.000000\nedges 2\nedge 0 s 0 1 0 0 30 0\nedge 1 t 2 3 0 1 30 1\nvalues 1 0 0 30\nend best\n")
         found = draw(Scene(texts.read_sheet(sheet).drawing, Station(), paper="A4")).columns.at
         self.assertLess(max(b - a for a, b in zip(found, found[1:])), 40)
@@ -165,7 +171,8 @@ class Paper(unittest.TestCase):
         self.assertEqual([it.first for it in found[1:]], [it.last + 1 for it in found[:-1]])
 
     def test_main_tracks_are_wider(self) -> None:
-        xml = (fixtures.TOP / "examples/station.xml").read_text().replace('id="track1"', 'id="track1" type="mainTrack"').encode()
+        xml = (fixtures.TOP / "examples/station.xml").read_text().replace('id="track1"',
+                                                                          'id="track1" type="mainTrack"').encode()
         page = make(example(files={"examples/station.xml": xml}))
         classes = [str(it.attributes["class"]) for it in by_class(page, "edge")]
         self.assertEqual((classes.count("edge main"), classes.count("edge")), (2, 6))
@@ -194,7 +201,8 @@ class Names(unittest.TestCase):
             self.assertTrue(whole.startswith(first) and whole.endswith(last))
 
     def test_label_of_a_name(self) -> None:
-        named = station_of('<infrastructure><tracks><track id="t" name="1"><trackTopology><trackBegin id="a" name="North"/></trackTopology>'
+        named = station_of('<infrastructure><tracks><track id="t" name="1"><trackTopology><trackBegin id="a" name="North"/>'
+                           "</trackTopology>"
                            "</track></tracks></infrastructure>")
         self.assertEqual((named.label("a"), named.label("t"), named.label("b")), ("North", "1", "b"))
 

@@ -8,7 +8,8 @@ from pages.tests.fixtures import SAMPLES, TOP, graph_of, page_of, sample, statio
 from pages.station import Way
 
 FORMER = """<former><trackTopology><trackBegin id="A1"><bufferStop id="x"/></trackBegin><connections><switch id="W3" name="wrong"
-trackContinueCourse="right"><connection id="q" ref="r" course="right" orientation="outgoing"/></switch></connections></trackTopology>
+trackContinueCourse="right"><connection id="q" ref="r" course="right" orientation="outgoing"/></switch></connections>
+</trackTopology>
 <ocsElements><signals><signal id="S" pos="1" dir="up"/></signals></ocsElements></former>"""
 SCISSORS = (TOP / "cases/stations/scissors.xml").read_text(encoding="utf-8")
 SCISSORS_GRAPH = """railgraph 1
@@ -61,7 +62,8 @@ class ByTheProgramsPath(unittest.TestCase):
         self.assertEqual(plain.legs(6), former.legs(6))
 
     def test_names_have_no_prefix(self) -> None:
-        xml = (TOP / "examples/station.xml").read_text(encoding="utf-8").replace("<openEnd id=\"A1.open\"/>", "<x:bufferStop id=\"A1.open\"/>")
+        xml = (TOP / "examples/station.xml").read_text(encoding="utf-8").replace("<openEnd id=\"A1.open\"/>",
+                                                                                 "<x:bufferStop id=\"A1.open\"/>")
         self.assertEqual(station_of(xml).file.ends.get("A1"), None)
 
     def test_characters_that_expat_refuses(self) -> None:
@@ -78,7 +80,8 @@ class ByTheProgramsPath(unittest.TestCase):
 class Switches(unittest.TestCase):
     def test_legs_of_the_example(self) -> None:
         station = example()
-        found = {station.graph.nodes[at].name: (it.trunk, it.straight, it.diverging) for at in (2, 5, 6, 7) if (it := station.legs(at))}
+        found = {station.graph.nodes[at].name: (it.trunk, it.straight, it.diverging) for at in (2, 5, 6, 7)
+                 if (it := station.legs(at))}
         self.assertEqual(found, {"W1": (0, 1, 7), "W2": (3, 2, 7), "W3": (3, 4, 6), "W4": (5, 4, 6)})
 
     def test_ways_through_a_crossing_and_a_switch(self) -> None:
@@ -88,7 +91,8 @@ class Switches(unittest.TestCase):
         self.assertEqual(station.ways(0), [])
 
     def test_the_upper_side_is_that_of_the_graph(self) -> None:
-        graph = (TOP / "examples/station.graph").read_text(encoding="utf-8").replace("W3 switch east upper", "W3 switch east lower")
+        graph = (TOP / "examples/station.graph").read_text(encoding="utf-8").replace("W3 switch east upper",
+                                                                                     "W3 switch east lower")
         station = station_of((TOP / "examples/station.xml").read_text(encoding="utf-8"), graph)
         legs = station.legs(6)
         self.assertEqual((legs.straight, legs.diverging), (6, 4))
@@ -106,9 +110,11 @@ class Signals(unittest.TestCase):
 
     def test_a_track_that_runs_west_turns_its_signals(self) -> None:
         xml = (SAMPLES / "signals.xml").read_text(encoding="utf-8")
-        turned = xml.replace('pos="0" absPos="0"', 'pos="0" absPos="600"').replace('pos="600" absPos="600"', 'pos="600" absPos="0"')
+        turned = xml.replace('pos="0" absPos="0"', 'pos="0" absPos="600"').replace('pos="600" absPos="600"',
+                                                                                   'pos="600" absPos="0"')
         self.assertNotEqual(xml, turned)
-        graph = texts.read_graph("railgraph 1\nnodes 2\nnode 0 mb end 600.000000\nnode 1 me end 0.000000\nedges 1\nedge 0 m 1 0\n")
+        graph = texts.read_graph("railgraph 1\nnodes 2\nnode 0 mb end 600.000000\nnode 1 me end 0.000000\nedges 1\n"
+                                 "edge 0 m 1 0\n")
         station = station_of(turned)
         station.graph = graph
         self.assertEqual(station.heads_east(texts.Signal(0, "A", 0, (1, 0))), False)
