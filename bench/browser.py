@@ -20,16 +20,29 @@ class Gone(Exception):
     """the browser doesn't answer"""
 
 
+def low_handles() -> list[int]:
+    """takes the handles up to 4, which a browser talks over, so that nothing of ours has them"""
+    found = [os.open(os.devnull, os.O_RDWR)]
+    while found[-1] <= 4:
+        found.append(os.open(os.devnull, os.O_RDWR))
+    return found
+
+
 class Browser:
     """one browser with a profile of its own"""
 
     def __init__(self) -> None:
         self.profile = tempfile.TemporaryDirectory(ignore_cleanup_errors=True)
+        self.low = low_handles()
         orders, answers = os.pipe(), os.pipe()
-        command = ["sh", "-c", f'exec "$@" 3<&{orders[0]} 4>&{answers[1]}', "sh", "chromium", *FLAGS,
-                   f"--user-data-dir={self.profile.name}", "about:blank"]
-        self.job = subprocess.Popen(command, pass_fds=(orders[0], answers[1]), stdin=subprocess.DEVNULL,
-                                    stdout=subprocess.DEVNULL, stderr=subprocess.DEVNULL)
+
+        def hand_over() -> None:
+            os.dup2(orders[0], 3)
+            os.dup2(answers[1], 4)
+
+        self.job = subprocess.Popen(["chromium", *FLAGS, f"--user-data-dir={self.profile.name}", "about:blank"], pass_fds=(3, 4),
+                                    preexec_fn=hand_over, stdin=subprocess.DEVNULL, stdout=subprocess.DEVNULL,
+                                    stderr=subprocess.DEVNULL)
         os.close(orders[0])
         os.close(answers[1])
         self.orders, self.answers = orders[1], answers[0]
@@ -43,8 +56,8 @@ class Browser:
         except (Gone, OSError, subprocess.TimeoutExpired):
             self.job.kill()
             self.job.wait()
-        os.close(self.orders)
-        os.close(self.answers)
+        for handle in (self.orders, self.answers, *self.low):
+            os.close(handle)
         self.profile.cleanup()
 
     def __enter__(self) -> Browser:

@@ -169,6 +169,7 @@ def saving(tab: Tab, sheet: str) -> Iterator[Check]:
       HTMLAnchorElement.prototype.click = function () { caught[this.download] = last }""")
     for deed in ("svg", "dxf", "csv", "sheet"):
         tab.run(f"document.querySelector('[data-do={deed}]').click()")
+    tab.run("new Promise(r => setTimeout(r, 200))")
     texts = tab.run("(async () => Object.fromEntries(await Promise.all(Object.entries(caught).map(async ([k, v]) => [k.split('.').pop(), await v.text()]))))()")
     yield "the sheet is saved as it was", texts.get("sheet") == sheet
     yield "SVG is saved", bool(re.match(r"<svg [^>]*xmlns", texts.get("svg", ""))) and "var(" not in texts["svg"] and "<style>" in texts["svg"]

@@ -4,6 +4,7 @@ from __future__ import annotations
 import base64
 import hashlib
 import json
+import zlib
 from pathlib import Path
 from typing import Iterable, Optional
 
@@ -14,6 +15,7 @@ from pages.markup import Child, Element, document, element
 from pages.objects import Entry, Objects
 from pages.widths import FONT
 
+LONG = 100_000
 SCREEN = Path(__file__).resolve().parent / "screen"
 
 
@@ -81,8 +83,16 @@ def data_of(page: Page) -> dict[str, object]:
         "signals": {key("s", it.number): [key("e", it.edge), it.point[0], station.heads_east(it)] for it in scene.signals}}
     found["name"] = page.provenance.files[0][1].name.rsplit("/",
                                                             1)[-1].removesuffix(".xml") if page.provenance.files else "station"
-    found["save"] = {"csv": objects.csv(), "dxf": dxf_of(page), "sheet": page.sheet}
+    found["save"] = {word: packed(text) for word, text in (("csv", objects.csv()), ("dxf", dxf_of(page)), ("sheet", page.sheet))}
     return found
+
+
+def packed(text: str) -> object:
+    """a text to be saved; a long one is deflated, so that a page of a large station stays small"""
+    if len(text) < LONG:
+        return text
+    deflate = zlib.compressobj(9, zlib.DEFLATED, -15)
+    return {"deflated": base64.b64encode(deflate.compress(text.encode("utf-8")) + deflate.flush()).decode("ascii")}
 
 
 def written_json(data: object) -> str:

@@ -212,6 +212,11 @@ const save = (ending, type, content) => {
   link.download = known.name + ending;
   link.click();
 };
+const saved = async text => {
+  if (!text.deflated) return text;
+  const bytes = Uint8Array.from(atob(text.deflated), it => it.charCodeAt(0));
+  return new Response(new Blob([bytes]).stream().pipeThrough(new DecompressionStream("deflate-raw"))).text();
+};
 const svgText = () => {
   const ours = strips.filter(svg => svg.closest("figure") == strips[0].closest("figure"));
   const whole = document.createElementNS("http://www.w3.org/2000/svg", "svg");
@@ -237,8 +242,9 @@ const svgText = () => {
 const deeds = {
   in: () => zoom(current, 1 / 1.4), out: () => zoom(current, 1.4), home: () => strips.forEach(svg => show(svg, [...homes.get(svg).home])),
   grid: () => document.body.classList.toggle("with-grid"), svg: () => save(".svg", "image/svg+xml", svgText()),
-  dxf: () => save(".dxf", "image/vnd.dxf", known.save.dxf), csv: () => save(".csv", "text/csv", known.save.csv),
-  sheet: () => save(".sheet", "text/plain", known.save.sheet)};
+  dxf: async () => save(".dxf", "image/vnd.dxf", await saved(known.save.dxf)),
+  csv: async () => save(".csv", "text/csv", await saved(known.save.csv)),
+  sheet: async () => save(".sheet", "text/plain", await saved(known.save.sheet))};
 
 // ---- the drawings of a front
 

@@ -1,10 +1,12 @@
 """What the pages of the commands say, and that they say no more than is known."""
 from __future__ import annotations
 
+import base64
 import hashlib
 import json
 import re
 import unittest
+import zlib
 from html.parser import HTMLParser
 
 from pages import kinds
@@ -12,7 +14,7 @@ from pages.facts import Build, FileFacts
 from pages.kinds import Page, make
 from pages.markup import Element
 from pages.tests.fixtures import DATE, PROVED, SAMPLES, TOP, example, page_of, run_of, sample, samples
-from pages.whole import data_of, hash_of, page_text
+from pages.whole import data_of, hash_of, packed, page_text
 
 ALLOWED = {"html", "head", "meta", "title", "style", "body", "header", "h1", "h2", "h3", "span", "div", "bdi", "label",
            "input", "button", "small",
@@ -250,6 +252,11 @@ class Whole(unittest.TestCase):
         self.assertEqual(data["signals"]["s0"], ["e0", 2, True])
         self.assertIn(["e0", "e3", "diverging"], data["ways"]["n2"])
         self.assertEqual(data["objects"]["s0"]["link"], "A")
+
+    def test_a_long_text_to_be_saved_is_deflated(self) -> None:
+        text = "0\r\nSECTION Ä " * 20_000
+        self.assertEqual(packed("short"), "short")
+        self.assertEqual(zlib.decompress(base64.b64decode(packed(text)["deflated"]), -15).decode("utf-8"), text)
 
     def test_ids_are_given_once(self) -> None:
         for name in samples():
