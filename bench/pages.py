@@ -1,105 +1,256 @@
 #!/usr/bin/env python3
-"""bench/pages.py [FOLDER]    asks a browser, Debian's chromium, how the pages of pages/check.py come out
+"""bench/pages.py measure [N] [FOLDER]   asks a browser, Debian's chromium, how the pages of stations come out: N of 43 stations,
+                              six kinds of page, and six namings in turn; FOLDER keeps the pages
+bench/pages.py drive          drives each interaction of each kind of page
+bench/pages.py largest        opens the page of 120 nodes, 158 pieces and 512 signals, and says how long that takes
+bench/pages.py planted        plants wrong lines in a copy of pages/, and says which the tests of the package don't see
+bench/pages.py dxf            has LibreCAD's dxf2pdf print the drawings of some stations
 
-Looked for are names that the browser sets on a line, on a node, on another text or outside of their picture, and pages that are
-wider than their window, or that print on another paper than A3 landscape. FOLDER keeps each page as HTML, PNG and PDF. It ends
-with the line `N passed, N failed`, and with 1 where one failed. Words behind FOLDER choose pages by their names.
-"""
-import json
+Looked for by `measure` are names that the browser sets on a line, a sign or another text or outside of their picture, signals
+on lines or other signals, letters below 1.8 mm on A3, requests, scripts and elements that no page has, and what is wider than
+a phone. Each ends with the line `N passed, N failed`, and with 1 where one failed."""
+from __future__ import annotations
+
+import os
 import re
 import subprocess
 import sys
 import tempfile
-from concurrent.futures import ThreadPoolExecutor
-from html import unescape
+import time
+from concurrent.futures import ProcessPoolExecutor
 from pathlib import Path
+from typing import Iterator
 
 sys.dont_write_bytecode = True
-sys.path.insert(0, str(Path(__file__).resolve().parent.parent / "pages"))
+TOP = Path(__file__).resolve().parent.parent
+sys.path[0:0] = [str(TOP), str(TOP / "bench")]
 
-from check import is_inside, meets, overlap, runs  # noqa: E402
-from kinds import page_text  # noqa: E402
+import page_stations  # noqa: E402
+from browser import Browser, Gone, Tab  # noqa: E402
+from pages.columns import MM, room_on  # noqa: E402
+from pages.tests.drawn import faults_of_names, faults_of_signs, Drawn, Written  # noqa: E402
 
-BROWSER = ["chromium", "--headless", "--no-sandbox", "--disable-gpu", "--hide-scrollbars"]
-WINDOW = (1600, 1000)
-ASKED = """<script>addEventListener("load", () => {
-  const corners = r => [r.left, r.top, r.right, r.bottom];
-  const seen = one => !one.closest(".grid");
-  const points = one => one.tagName == "polyline" ? [...one.points]
-    : [[one.x1, one.y1], [one.x2, one.y2]].map(([x, y]) => new DOMPoint(x.baseVal.value, y.baseVal.value));
-  const pictures = [...document.querySelectorAll("svg")].map(svg => ({
-    frame: corners(svg.getBoundingClientRect()),
-    scale: svg.getScreenCTM().a,
-    texts: [...svg.querySelectorAll("text")].filter(seen)
-      .map(one => [one.lastChild.textContent, corners(one.getBoundingClientRect())]),
-    lines: [...svg.querySelectorAll(".edge, .leader, .limit, .steps, .axis, .tick")].map(one => points(one).map(p => {
-      const q = p.matrixTransform(svg.getScreenCTM()); return [q.x, q.y] })),
-    dots: [...svg.querySelectorAll(".node circle, .pair, .former circle")].map(one => corners(one.getBoundingClientRect()))}));
-  const told = document.createElement("pre");
-  told.id = "told";
-  told.textContent = JSON.stringify({pictures, wide: document.documentElement.scrollWidth});
-  document.body.append(told) })</script>"""
+PROGRAM = TOP / "crates/railplan_main/out/railplan_main"
+SAMPLES = TOP / "pages/tests/samples"
+KINDS = ("draw", "signals", "explain", "verify", "redraw", "front")
+WORDS = {"draw": ["--width", "64", "--height", "12", "--conflicts", "3000"], "signals": ["--width", "64", "--height", "12", "--conflicts", "1500"],
+         "explain": ["--height", "0", "--conflicts", "500"], "verify": [], "redraw": ["--width", "64", "--height", "12", "--conflicts", "800"],
+         "front": ["--width", "40", "--height", "5", "--conflicts", "150"]}
+SEEN = """(() => {
+  const box = it => { const r = it.getBoundingClientRect(); return [r.left, r.top, r.right, r.bottom] };
+  const context = document.createElement('canvas').getContext('2d');
+  context.font = '100px ' + getComputedStyle(document.querySelector('svg.strip text, h1')).fontFamily;
+  const cap = context.measureText('H').actualBoundingBoxAscent / 100;
+  const points = it => it.points ? [...it.points] : [[it.x1, it.y1], [it.x2, it.y2]].map(p => new DOMPoint(p[0].baseVal.value, p[1].baseVal.value));
+  const placed = it => points(it).map(p => p.matrixTransform(it.getScreenCTM())).map(p => [p.x, p.y]);
+  const pictures = [...document.querySelectorAll('svg.strip, svg.plot')].filter(it => it.getClientRects().length).map(svg => ({
+    frame: box(svg), scale: svg.getScreenCTM().a,
+    texts: [...svg.querySelectorAll('text')].filter(it => it.getClientRects().length && !it.closest('.grid')).map(it => [it.textContent, box(it),
+      it.className.baseVal, parseFloat(getComputedStyle(it).fontSize) * svg.getScreenCTM().a * cap]),
+    lines: [...svg.querySelectorAll('.edge, .leader, .limit, .steps, .axis, .tick, line.match')].map(it => [it.classList[0], placed(it)]),
+    wedges: [...svg.querySelectorAll('.wedge')].map(it => { const p = placed(it); return [...p, p[0]] }),
+    signs: [...svg.querySelectorAll('.sign')].flatMap(it => [...it.querySelectorAll('circle, path, rect')].map(part => [it.dataset.key, box(part)]))}));
+  const small = [...document.querySelectorAll('body *')].filter(it => it.getClientRects().length && !it.closest('svg') &&
+    [...it.childNodes].some(part => part.nodeType == 3 && part.data.trim())).map(it => parseFloat(getComputedStyle(it).fontSize) * cap);
+  return {pictures, small: Math.min(...small), wide: document.documentElement.scrollWidth,
+    foreign: document.querySelectorAll('img, iframe, object, embed, link, base, form, video, audio, foreignObject').length,
+    scripts: document.querySelectorAll('script').length,
+    handlers: [...document.querySelectorAll('*')].filter(it => [...it.attributes].some(a => a.name.startsWith('on') || a.name == 'style')).length}
+})()"""
 
 
-def ask(page, *options):
-    """what the browser answers of a page; it has a profile of its own, so that several run at once"""
-    with tempfile.TemporaryDirectory() as profile:
-        command = [*BROWSER, f"--user-data-dir={profile}", "--window-size=%d,%d" % WINDOW, *options, page.resolve().as_uri()]
-        run = subprocess.run(command, stdout=subprocess.PIPE, stderr=subprocess.DEVNULL, timeout=300)
-        return run.stdout.decode("utf-8", "replace")
+def program(*words: str) -> tuple[int, str]:
+    ran = subprocess.run([str(PROGRAM), *words], capture_output=True, timeout=600)
+    return ran.returncode, ran.stdout.decode("utf-8", "replace")
 
 
-def shrunk(box):
+def page_of(page: Path, words: list[str], front: list[str] = []) -> tuple[int, str]:
+    """makes a page as a user does; the status, and what was printed"""
+    ran = subprocess.run([str(TOP / "railplan"), "--html", str(page), *front, *words], capture_output=True, timeout=900)
+    return ran.returncode, ran.stdout.decode("utf-8", "replace")
+
+
+# ---- measured
+
+
+def shrunk(box: list[float]) -> tuple[float, float, float, float]:
     """a browser's box, which is rounded, a little smaller"""
-    return (box[0] + 0.4, box[1] + 0.4, box[2] - 0.4, box[3] - 0.4)
+    return box[0] + 0.5, box[1] + 0.5, box[2] - 0.5, box[3] - 0.5
 
 
-def faults_of(picture):
-    texts = [(name, shrunk(box)) for name, box in picture["texts"]]
-    lines = [piece for points in picture["lines"] for piece in zip(points, points[1:])]
-    for at, (name, box) in enumerate(texts):
-        if any(meets(box, line, picture["scale"]) for line in lines):
-            yield f"{name} lies on a line"
-        if any(overlap(box, shrunk(dot)) for dot in picture["dots"]):
-            yield f"{name} lies on a node"
-        if not is_inside(box, picture["frame"]):
-            yield f"{name} is cut off"
-        yield from (f"{name} lies on {other}" for other, near in texts[at + 1:] if overlap(box, near))
+def drawn_of(picture: dict) -> Drawn:
+    """what the browser shows of a picture, for the same questions that the tests ask"""
+    left, top, right, bottom = picture["frame"]
+    found = Drawn((left - 0.5, top - 0.5, right + 0.5, bottom + 0.5))
+    found.texts = [Written(text, shrunk(box), "", "", 0, kind.split()) for text, box, kind, _ in picture["texts"]]
+    found.lines = [(kind, (tuple(a), tuple(b))) for kind, line in picture["lines"] for a, b in zip(line, line[1:])]
+    found.lines += [("wedge", (tuple(a), tuple(b))) for line in picture["wedges"] for a, b in zip(line, line[1:])]
+    found.signs = [(key, shrunk(box)) for key, box in picture["signs"]]
+    return found
 
 
-def faults_of_page(folder, name, text):
-    page = folder / f"{name}.html"
-    page.write_text(text.replace("</body>", ASKED + "</body>"), encoding="utf-8", errors="replace")
-    told = re.search(r'<pre id="told">(.*?)</pre>', ask(page, "--dump-dom"), re.S)
-    if not told:
-        return ["the browser doesn't answer"]
-    told = json.loads(unescape(told[1]))
-    faults = [fault for picture in told["pictures"] for fault in faults_of(picture)]
-    if told["wide"] > WINDOW[0]:
-        faults.append("the page is wider than its window")
-    page.write_text(text, encoding="utf-8", errors="replace")
-    ask(page, f"--screenshot={folder / name}.png")
-    ask(page, "--no-pdf-header-footer", f"--print-to-pdf={folder / name}.pdf")
-    boxes = re.findall(rb"/MediaBox\s*\[\s*0\s+0\s+([\d.]+)\s+([\d.]+)", (folder / f"{name}.pdf").read_bytes())
-    if not boxes or {(round(float(wide)), round(float(high))) for wide, high in boxes} - {(1191, 842), (1190, 842)}:
-        faults.append("it prints on other paper")
-    return faults
+def faults_of(seen: dict) -> Iterator[str]:
+    for picture in seen["pictures"]:
+        drawn = drawn_of(picture)
+        yield from faults_of_names(drawn)
+        yield from faults_of_signs(drawn)
+        if picture["scale"] < 0.999:
+            yield f"a picture is {picture['scale']:.3f} of its size on paper"
+        for text, _, kind, high in picture["texts"]:
+            if high / MM < 1.8:
+                yield f"{text} ({kind}) is {high / MM:.2f} mm high"
+    if seen["small"] / MM < 1.8:
+        yield f"there are letters of {seen['small'] / MM:.2f} mm"
+    if seen["foreign"] or seen["scripts"] != 2 or seen["handlers"]:
+        yield "there are elements that no page has"
 
 
-def main():
-    folder = Path(sys.argv[1]) if sys.argv[1:] else Path(tempfile.mkdtemp())
-    folder.mkdir(parents=True, exist_ok=True)
-    wanted = [(name.replace(" ", "_"), page_text(words, output, drawings=drawings)) for name, words, output, drawings in runs()
-              if not sys.argv[2:] or name in sys.argv[2:]]
+def look(tab: Tab, page: Path, paper: str = "A3") -> tuple[list[str], dict]:
+    """what is wrong with a page, as it is printed and on a phone"""
+    tab.size(round(room_on(paper)[0]), 1000)
+    tab.media("print")
+    tab.open(page)
+    seen = tab.run(SEEN)
+    found = list(faults_of(seen))
+    found += [f"it asks for {it}" for it in tab.requests()] + tab.alarms()
+    tab.media()
+    tab.size(390, 800, True)
+    tab.open(page)
+    if tab.run("document.documentElement.scrollWidth") > 390:
+        found.append("it is wider than a phone")
+    tab.size(1600, 1000)
+    return found, seen
+
+
+def words_of(kind: str, file: Path, folder: Path) -> list[str]:
+    """the words of a run of a kind; its sheets are made before"""
+    if kind in ("verify", "redraw"):
+        sheet = folder / (file.stem + ".sheet")
+        sheet.write_text(program("draw", str(file), *WORDS["draw"])[1], encoding="utf-8")
+        if kind == "redraw":
+            return ["redraw", str(file), str(file), str(sheet), *WORDS["redraw"]]
+        lines = sheet.read_text(encoding="utf-8").split("\n")
+        lines[1] = re.sub(r"^grid \d+ \d+", lambda it: "grid " + " ".join(str(int(n) - (at == 1)) for at, n in enumerate(it[0].split()[1:])), lines[1])
+        return ["verify", str(file), str(sheet)]
+    return [kind, str(file)] + (["height,width"] if kind == "front" else []) + WORDS[kind]
+
+
+def measured(number: int, folder: Path) -> list[tuple[str, list[str]]]:
+    """what is wrong with the pages of a station: all kinds, each in another naming"""
+    name, station = page_stations.STATIONS[number]
     answers = []
-    with ThreadPoolExecutor(4) as pool:
-        for (name, _), faults in zip(wanted, pool.map(lambda page: faults_of_page(folder, *page), wanted)):
-            answers.append(faults)
-            print(f"{name}: " + (f"{faults[0]}, and {len(faults) - 1} more" if faults else "as it is to be"), flush=True)
-    failed = sum(map(bool, answers))
+    with Browser() as browser:
+        tab = Tab(browser)
+        for at, kind in enumerate(KINDS):
+            naming = list(page_stations.NAMINGS)[(number + at) % len(page_stations.NAMINGS)]
+            stem = f"{name}.{kind}.{naming}".replace(" ", "_")
+            file, page = folder / f"{stem}.xml", folder / f"{stem}.html"
+            file.write_text(page_stations.file_of(station, naming, 2 if kind == "signals" else 0, number), encoding="utf-8")
+            try:
+                status, output = page_of(page, words_of(kind, file, folder))
+                faults, seen = look(tab, page)
+                what = f"{stem} (status {status}, {len(seen['pictures'])} pictures, {page.stat().st_size // 1024} KB)"
+                answers.append((what, faults))
+            except (Gone, OSError, subprocess.TimeoutExpired) as error:
+                answers.append((stem, [repr(error)]))
+    return answers
+
+
+def measure(words: list[str]) -> list[tuple[str, list[str]]]:
+    count = int(words[0]) if words else len(page_stations.STATIONS)
+    folder = Path(words[1]) if words[1:] else Path(tempfile.mkdtemp())
+    folder.mkdir(parents=True, exist_ok=True)
+    found = []
+    with ProcessPoolExecutor(max(1, (os.cpu_count() or 2) // 2)) as pool:
+        for answers in pool.map(measured, range(count), [folder] * count):
+            for what, faults in answers:
+                print(f"{what}: " + (f"{faults[0]}, and {len(faults) - 1} more" if faults else "as it is to be"), flush=True)
+            found += answers
+    return found
+
+
+# ---- driven
+
+
+def drive(words: list[str]) -> list[tuple[str, list[str]]]:
+    import pages_driven
+    found = []
+    with tempfile.TemporaryDirectory() as base:
+        folder = Path(base)
+        file = folder / "ladder.xml"
+        file.write_text(page_stations.file_of(dict(page_stations.STATIONS)["ladder 1"], "usual", 1), encoding="utf-8")
+        runs = {"draw": ["draw", str(TOP / "examples/station.xml")], "signals": ["signals", str(file), "--width", "64"],
+                "explain": ["explain", str(SAMPLES / "loop.xml"), "--width", "4"], "front": ["front", str(SAMPLES / "made16.xml"), "height,width"],
+                "redraw": ["redraw", str(SAMPLES / "station.xml"), str(SAMPLES / "before.xml"), str(SAMPLES / "before.sheet")],
+                "verify": ["verify", str(SAMPLES / "loop.xml"), str(SAMPLES / "below.sheet")],
+                "fault": ["draw", str(TOP / "cases/stations/mutual.xml")]}
+        with Browser() as browser:
+            for kind, given in runs.items():
+                page = folder / f"{kind}.html"
+                _, output = page_of(page, given)
+                try:
+                    checks = pages_driven.drive(browser, kind, page, output, program("graph", given[1])[1])
+                except Gone as error:
+                    checks = [(str(error), False)]
+                for what, is_good in checks:
+                    print(f"{kind}: {what}: {'yes' if is_good else 'NO'}", flush=True)
+                    found.append((f"{kind}: {what}", [] if is_good else ["no"]))
+    return found
+
+
+def largest(words: list[str]) -> list[tuple[str, list[str]]]:
+    """the page of as much as a file may have, from a drawing that is written and not searched for"""
+    from largest_page import page_text_of_largest
+    with tempfile.TemporaryDirectory() as folder, Browser() as browser:
+        page = Path(words[0]) if words else Path(folder) / "largest.html"
+        began = time.time()
+        page.write_text(page_text_of_largest(), encoding="utf-8")
+        made = time.time() - began
+        tab = Tab(browser)
+        seconds = min(tab.open(page) for _ in range(3))
+        rows, size = tab.run("rows.length"), page.stat().st_size
+        found, seen = look(tab, page)
+        names = sum(len(it["texts"]) for it in seen["pictures"])
+        print(f"{rows} objects, {names} texts in {len(seen['pictures'])} strips, {size:,} bytes; made in {made:.1f} s, open in {seconds:.2f} s")
+    slow = ["it opens slowly"] if seconds >= 2 else []
+    big = ["it is too big"] if size > 1_000_000 else []
+    return [("the largest page", slow + big + found)]
+
+
+def planted(words: list[str]) -> list[tuple[str, list[str]]]:
+    import planted_pages
+    return planted_pages.tried(words)
+
+
+def dxf(words: list[str]) -> list[tuple[str, list[str]]]:
+    """LibreCAD prints the drawings; a PDF with less than the lines of the drawing would be too small"""
+    found = []
+    with tempfile.TemporaryDirectory() as base:
+        for name in ("ladder 1", "terminus 3", "line 2", "scissors 1"):
+            file = Path(base) / f"{name.replace(' ', '_')}.xml"
+            file.write_text(page_stations.file_of(dict(page_stations.STATIONS)[name], "wide", 1), encoding="utf-8")
+            subprocess.run([str(TOP / "railplan"), "--dxf", str(file.with_suffix(".dxf")), "signals", str(file), "--width", "64"], capture_output=True)
+            subprocess.run(["librecad", "dxf2pdf", "-o", str(file.with_suffix(".pdf")), str(file.with_suffix(".dxf"))],
+                           capture_output=True, env={**os.environ, "QT_QPA_PLATFORM": "offscreen"}, timeout=120)
+            pdf = file.with_suffix(".pdf")
+            is_good = pdf.is_file() and pdf.stat().st_size > 2000
+            print(f"{name}: {pdf.stat().st_size if pdf.is_file() else 0} bytes of PDF")
+            found.append((name, [] if is_good else ["no PDF"]))
+    return found
+
+
+def main(words: list[str]) -> int:
+    todo = {"measure": measure, "drive": drive, "largest": largest, "planted": planted, "dxf": dxf}
+    if not words or words[0] not in todo:
+        sys.exit(__doc__)
+    answers = todo[words[0]](words[1:])
+    for what, faults in answers:
+        if faults:
+            print(f"{what}: {faults[:3]}")
+    failed = sum(bool(faults) for _, faults in answers)
     print(f"{len(answers) - failed} passed, {failed} failed")
     return int(failed > 0)
 
 
 if __name__ == "__main__":
-    sys.exit(main())
+    sys.exit(main(sys.argv[1:]))

@@ -1,333 +1,405 @@
-"""The pages of the commands: what is drawn, and what stands below it."""
-import hashlib
-import os
-import shlex
+"""The pages of the commands: what is drawn, what is said of it, and what a fault's page says."""
+from __future__ import annotations
+
 from dataclasses import dataclass, field
-from html import escape
+from typing import Callable, Optional
 
-import sentences
-import texts
-from drawing import STYLE, Marks, draw, svg_of
-from plot import plot
-from station import read_station
-from texts import NoPage
-from widths import FONT
+from pages import cad, facts, faults, sentences, signs, texts
+from pages.drawing import Marks, Picture, Scene, draw
+from pages.facts import Build, FileFacts, Provenance
+from pages.files import Input
+from pages.infrastructure import Infrastructure, read
+from pages.markup import Child, Element, element
+from pages.objects import Objects
+from pages.plot import plot
+from pages.station import Station
+from pages.texts import Drawing, Graph, Law, NoPage
 
-PAGE_STYLE = """@page { size: A3 landscape; margin: 10mm }
-* { box-sizing: border-box }
-body { margin: 0; padding: 20px 30px; background: #fff; color: #000; font: 14px/1.4 %s }
-header { display: flex; justify-content: space-between; align-items: baseline; padding-bottom: 4px }
-header { border-bottom: 2px solid #000 }
-h1 { font-size: 26px; margin: 0 }
-h2 { font-size: 13px; margin: 0 0 4px }
-header span { font-size: 15px }
-.lead { font-size: 16px; margin: 14px 0 }
-.lead b { color: #c00 }
-figure { margin: 16px 0; break-inside: avoid }
-figure svg { display: block; margin: 0 auto; max-width: 100%%; height: auto }
-figcaption { margin-top: 8px; text-align: center; color: #333 }
-.panels { display: grid; grid-template-columns: repeat(auto-fit, minmax(min(100%%, 34em), 1fr)); gap: 0 24px }
-.panels figure { border: 1px solid #999; padding: 12px; margin: 8px 0 }
-.facts { display: flex; flex-wrap: wrap; border: 1px solid #000; break-inside: avoid; margin-top: 16px }
-.facts section { flex: 1 1 15em; padding: 8px 12px; border-left: 1px solid #000; margin-left: -1px }
-.facts p { margin: 0 0 4px }
-.short { margin-top: 12px; font-size: 12px }
-.short ul { columns: 26em; list-style: none; margin: 0; padding: 0; overflow-wrap: anywhere }
-code { font: 12px/1.4 'Liberation Mono', 'DejaVu Sans Mono', Consolas, monospace; overflow-wrap: anywhere }
-table { border-collapse: collapse }
-td { padding: 0 10px 2px 0; vertical-align: top }
-td.number { text-align: right }
-ol { margin: 8px 0; padding-left: 2em }
-.broken { color: #c00 }
-.party { color: #05b }
-.ringed { color: #b60 }
-.toggle { position: absolute; right: 30px; top: 62px; color: #333; font-size: 13px }
-.toggle input { vertical-align: middle }
-body:has(#grid:checked) .grid { display: inline }
-.attained { fill: #eee }
-.steps { fill: none; stroke: #000; stroke-width: 1.2 }
-.pair { fill: #000 }
-@media print {
-  body { padding: 0 1px; min-height: 274mm; display: flex; flex-direction: column }
-  main { flex: 1; display: flex; flex-direction: column }
-  main > figure { margin: auto 0 }
-  .toggle, .screen { display: none }
-  .panels { grid-template-columns: 1fr 1fr }
-  figure svg { max-height: 185mm }
-  main > figure svg { width: min(100%%, 2.4 * var(--wide)) }
-  .panels svg { max-height: 100mm }
-}
-""" % FONT
-HOVER = '<span class="screen"> A node, a line or a name tells more under the pointer.</span>'
 CAPTION = "Not to scale: mileages rise from west to east, and upper is on the left seen in this direction."
+NO_LOG = "No log was kept. With --log NAME the search leaves one, which others can judge."
+ANSWERED = (0, 3, 4, 8)
+INPUTS = {"draw": 1, "signals": 1, "front": 1, "explain": 1, "verify": 2, "redraw": 3}
+
+
+@dataclass
+class Settings:
+    """what is asked of the pictures"""
+    paper: str = "A3"
+    labels: str = "name"
+    side: str = "right"
 
 
 @dataclass
 class Run:
-    """the words of a run, and what it put"""
+    """the words of a run and what it gave: its output, its files as they were read, and the graphs of its railML files"""
 
-    command: str
-    names: list
-    options: dict
+    words: list[str]
+    names: list[str]
+    options: dict[str, str]
     output: str
-    file: str
-    words: list
+    status: int = 0
+    inputs: list[Input] = field(default_factory=list)
+    graphs: list[Optional[Graph]] = field(default_factory=list)
+    drawings: dict[tuple[int, int], tuple[list[str], str]] = field(default_factory=dict)
+    log: Optional[FileFacts] = None
+    settings: Settings = field(default_factory=Settings)
+    build: Build = field(default_factory=Build)
+    version: str = ""
+    date: Optional[float] = None
     page: str = ""
-    drawings: list = field(default_factory=list)
+    front_words: list[str] = field(default_factory=list)
+    copied: list[str] = field(default_factory=list)
 
     @property
-    def station(self):
-        return read_station(self.file)
+    def command(self) -> str:
+        return self.words[0]
+
+    @property
+    def file(self) -> str:
+        return self.names[0] if self.names else ""
+
+    def content(self, number: int) -> bytes:
+        return (self.inputs[number].content or b"") if number < len(self.inputs) else b""
+
+    def text(self, number: int) -> str:
+        return self.content(number).decode("utf-8", "replace")
+
+    def station(self, number: int = 0) -> Station:
+        graph = self.graphs[number] if number < len(self.graphs) else None
+        return Station(graph, read(self.content(number)) if self.content(number) else Infrastructure(), self.settings.labels)
+
+    def scene(self, drawing: Drawing, station: Station, **more: object) -> Scene:
+        return Scene(drawing, station, is_left=self.settings.side == "left", paper=self.settings.paper, **more)
+
+
+@dataclass
+class Figure:
+    picture: Optional[Picture]
+    parts: list[Element]
+    caption: list[Child]
+    title: str = ""
+    id: str = ""
+    kind: str = ""
 
 
 @dataclass
 class Page:
     subject: str
-    lead: str = ""
-    figures: list = field(default_factory=list)
-    panels: list = field(default_factory=list)
-    facts: list = field(default_factory=list)
-    short: list = field(default_factory=list)
+    station: Station
+    provenance: Provenance
+    lead: list[Child] = field(default_factory=list)
+    badge: tuple[str, str] = ("", "")
+    figures: list[Figure] = field(default_factory=list)
+    facts: list[tuple[str, list[Child]]] = field(default_factory=list)
+    changes: list[Element] = field(default_factory=list)
+    objects: Optional[Objects] = None
+    scene: Optional[Scene] = None
+    signs: list[str] = field(default_factory=list)
+    short: list[tuple[str, str]] = field(default_factory=list)
+    sheet: str = ""
+    is_left: bool = False
 
-    def draw(self, picture, caption):
-        self.figures.append(figure(picture, caption, self))
+    def draw(self, scene: Scene, *caption: Child, **more: str) -> Picture:
+        """adds the picture of a scene; the first one's objects are those of the list"""
+        picture = draw(scene)
+        self.figures.append(Figure(picture, picture.strips, list(caption), **more))
+        self.short += [pair for pair in picture.short if pair not in self.short]
+        self.signs += [kind for kind in signs_in(scene) if kind not in self.signs]
+        self.is_left = scene.is_left
+        if not self.objects:
+            self.objects, self.scene = Objects(scene), scene
+        return picture
 
-    def panel(self, picture, caption):
-        self.panels.append(figure(picture, caption, self))
-
-    def fact(self, title, *paragraphs):
-        self.facts.append((title, "".join(f"<p>{text}</p>" for text in paragraphs)))
-
-
-def words_by_kind(words):
-    """the names behind the command, and the options with their values"""
-    names, options, left = [], {}, list(words[1:])
-    while left:
-        word = left.pop(0)
-        if word.startswith("--"):
-            options.setdefault(word, left.pop(0) if left else "")
-        else:
-            names.append(word)
-    return names, options
-
-
-def run_of(words, output, file, drawings, page):
-    names, options = words_by_kind(words)
-    if not names or words[0] not in PAGES:
-        raise NoPage("no command of which there is a page")
-    return Run(words[0], names, options, output, file or names[0], list(words), page, list(drawings))
+    def fact(self, title: str, *paragraphs: Child) -> None:
+        self.facts.append((title, [element("p", it) if isinstance(it, str) else it for it in paragraphs]))
 
 
-def read_file(name):
-    """a text that the run has read, or that is shown beside it"""
-    with open(name, encoding="utf-8") as file:
-        return file.read()
+def signs_in(scene: Scene) -> list[str]:
+    """the kinds of signs that a scene has"""
+    found = [scene.station.kind(node.number) for node in scene.drawing.nodes]
+    tracks = ["main" if scene.station.is_main(edge.track) else "track" for edge in scene.drawing.edges]
+    signals = ["signal both" if scene.station.heads_east(it) is None else "signal" for it in scene.signals]
+    seen = {*found, *signals, *(tracks if "main" in tracks else [])}
+    return [kind for kind in signs.MEANINGS if kind in seen]
 
 
-def figure(picture, caption, page):
-    """a picture with what is said of it; names that are shortened in it are told on the page"""
-    page.short += [pair for pair in picture.short if pair not in page.short]
-    wide = picture.box[2] - picture.box[0]
-    return f'<figure style="--wide: {wide:.0f}px">\n{svg_of(picture)}\n<figcaption>{caption}</figcaption></figure>'
+# ---- what is said below
 
 
-# ---- what stands below
+def table(rows: list[tuple[str, object, str]]) -> Element:
+    return element("table", [element("tr", element("td", name), element("td", str(number), class_="number"),
+                                     element("td", words))
+                             for name, number, words in rows], class_="values")
 
 
-def table(rows):
-    cells = [f'<td>{escape(name)}</td><td class="number">{number}</td><td>{escape(words)}</td>' for name, number, words in rows]
-    return "<table>" + "".join(f"<tr>{row}</tr>" for row in cells) + "</table>"
+def add_values(page: Page, values: dict[str, int], grid: tuple[int, ...]) -> None:
+    page.fact("Values", table(sentences.measured(values)), f"On a grid of {sentences.grid_in_words(grid)}.")
 
 
-def add_values(page, values, grid):
-    page.facts.append(("Values", table(sentences.measured(values)) + f"<p>On a grid of {sentences.grid_in_words(grid)}.</p>"))
-
-
-def add_certificate(page, run, without):
+def add_certificate(page: Page, run: Run, without: str) -> None:
     """the log, by its name and its hash"""
-    name = run.options.get("--log")
-    if name is None:
+    if not run.log:
         page.fact("What certifies it", without)
-        return
-    try:
-        with open(name, "rb") as file:
-            log = file.read()
-    except OSError:
-        page.fact("What certifies it", f"The log <code>{escape(name)}</code>, which couldn't be read for this page.")
-        return
-    page.fact("What certifies it", f"The log <code>{escape(name)}</code> of the search, {len(log):,} bytes, with the SHA-256",
-              f"<code>{hashlib.sha256(log).hexdigest()}</code>")
+    elif run.log.sha256:
+        page.fact("What certifies it", f"The log of the search certifies what the sheet claims, where check accepts it. It has "
+                  f"{run.log.size:,} bytes.")
+    else:
+        page.fact("What certifies it", f"A log was asked for. {run.log.why}")
 
 
-def add_command(page, run):
-    words = ["./railplan"] + (["--html", run.page] if run.page else []) + run.words
-    page.fact("Made by", f"<code>{escape(shlex.join(words))}</code>")
+def provenance(run: Run, station: Station) -> Provenance:
+    """what the title block says of a run"""
+    title = station.file.title or run.file.rsplit("/", 1)[-1].removesuffix(".xml") or "no station"
+    made = ["./railplan"] + (["--html", run.page] if run.page else []) + run.front_words + run.words
+    found = Provenance(title, run.build, run.version, run.date, made_by=made)
+    titles = {"verify": ["railML file", "Sheet"], "redraw": ["railML file", "Former railML file", "Former sheet"]}
+    for name, input_ in zip(titles.get(run.command, ["railML file"]), run.inputs):
+        found.files.append((name, input_.facts))
+    if run.log:
+        found.files.append(("Log", run.log))
+    return found
 
 
-NO_LOG = "No log was kept. With <code>--log NAME</code> the search leaves one, which others can judge."
+def grid_of(run: Run) -> tuple[int, ...]:
+    """the grid that the words ask for"""
+    return tuple(int(run.options.get(name, usual)) for name, usual in (("--width", 40), ("--height", 8), ("--least", 1)))
+
+
+def sheet_name(run: Run) -> str:
+    return (run.file.rsplit("/", 1)[-1].removesuffix(".xml") or "station") + ".sheet"
+
+
+def add_sheet(page: Page, run: Run) -> None:
+    """the sheet, to be saved from the page, its hash, and the command that judges it again"""
+    import hashlib
+    page.sheet = texts.sheet_part(run.output)
+    content = page.sheet.encode("utf-8")
+    page.provenance.files.insert(len(run.inputs), ("Sheet", FileFacts(sheet_name(run), hashlib.sha256(content).hexdigest(),
+                                                                      len(content))))
+    page.provenance.needs = f"{sheet_name(run)} is the sheet that this page holds; save it first."
+    if run.log and run.log.sha256:
+        page.provenance.check = ["./railplan", "check", run.file, sheet_name(run), run.log.name]
+    else:
+        page.provenance.check = ["./railplan", "verify", run.file, sheet_name(run)]
+        page.provenance.needs += " Without a log only the drawing's laws can be judged."
 
 
 # ---- the pages
 
 
-def draw_page(run):
+def page_of(run: Run, subject: str, number: int = 0) -> Page:
+    station = run.station(number)
+    page = Page(subject, station, provenance(run, station))
+    if station.file.trouble:
+        page.fact("Names and ends", f"They couldn't be read from the file ({station.file.trouble}), so the page lacks them.")
+    return page
+
+
+def draw_page(run: Run) -> Page:
     sheet, signals = texts.read_signals(run.output)
-    page = Page("Track schematic" + (" with signals" if signals else ""))
+    page = page_of(run, "Track schematic" + (" with signals" if signals else ""))
+    page.badge = sentences.badge_of(sheet.ending)
     if sheet.drawing:
-        page.draw(draw(sheet.drawing, run.station, signals=signals), CAPTION + HOVER)
+        page.draw(run.scene(sheet.drawing, page.station, signals=signals), CAPTION)
         add_values(page, sheet.values, sheet.grid)
+        add_sheet(page, run)
     else:
-        page.lead = f"There is no drawing. It was looked for on a grid of {sentences.grid_in_words(sheet.grid)}."
-    page.fact("How the search ended", escape(sentences.ending_of_search(sheet.ending, sheet.order)))
+        page.lead = [f"There is no drawing. It was looked for on a grid of {sentences.grid_in_words(sheet.grid)}."]
+    page.fact("How the search ended", sentences.ending_of_search(sheet.ending, sheet.order))
     add_certificate(page, run, NO_LOG)
     return page
 
 
-def verify_page(run):
-    law, sheet, station = texts.read_verdict(run.output), texts.read_sheet(read_file(run.names[1])), run.station
-    page, marks = Page("Track schematic, judged by the seven laws"), Marks()
+def verify_page(run: Run) -> Page:
+    law, sheet = texts.read_verdict(run.output), texts.read_sheet(run.text(1))
+    page, marks = page_of(run, "Track schematic, judged by the seven laws"), Marks()
     if not sheet.drawing:
         raise NoPage("the sheet has no drawing")
-    page.lead = "The drawing is lawful: it keeps all seven laws."
+    page.lead, page.badge = ["The drawing is lawful: it keeps all seven laws."], ("settled", "lawful")
     if law:
         marks = marked(law.parties, "broken")
-        marks.limits = sheet.grid[:2] if law.number == 1 else None
-        page.lead = f"<b>{escape(sentences.broken(law, sheet.drawing, station))}</b>"
-    page.draw(draw(sheet.drawing, station, marks), CAPTION + HOVER)
+        marks.limits = (sheet.grid[0], sheet.grid[1]) if law.number == 1 else None
+        page.badge = ("broken", f"law {law.number} is broken")
+        page.lead = [law_item(law, sentences.broken(law, sheet.drawing, page.station), "b")]
+    is_rising = not law or law.number > 2
+    page.draw(run.scene(sheet.drawing, page.station, marks=marks, has_scale=is_rising),
+              CAPTION if is_rising else "Not to scale, and mileages needn't rise from west to east here.")
     add_values(page, sheet.values, sheet.grid)
-    page.fact("What was judged", f"The drawing of the sheet <code>{escape(run.names[1])}</code>.",
-              "What the sheet says of a search wasn't judged.")
-    page.fact("What certifies it", "The program that judges is proved: a drawing that it calls lawful keeps the seven laws.")
+    page.fact("What was judged", "The drawing of the sheet that is named. What the sheet says of a search wasn't judged.")
+    page.provenance.check = ["./railplan", *run.words]
     return page
 
 
-def marked(parties, kind, marks=None):
+def key_of(party: texts.Party) -> str:
+    return f"{'n' if party[0] == 'node' else 'e'}{party[1]}"
+
+
+def law_item(law: Law, text: str, tag: str) -> Element:
+    """what a law asks; its parties light up with it"""
+    return element(tag, text, class_="law", data_parties=" ".join(map(key_of, law.parties)), tabindex=0)
+
+
+def marked(parties: list[texts.Party], kind: str, marks: Optional[Marks] = None) -> Marks:
     marks = marks or Marks()
     for what, number in parties:
         (marks.nodes if what == "node" else marks.edges)[number] = kind
     return marks
 
 
-def explain_page(run):
-    why, station = texts.read_why(run.output), run.station
-    page = Page("Why there is no drawing")
+def explain_page(run: Run) -> Page:
+    why = texts.read_why(run.output)
+    page = page_of(run, "Why there is no drawing")
+    page.fact("Grid", sentences.sentence(sentences.grid_in_words(grid_of(run))))
+    page.provenance.check = ["./railplan", *run.words]
     if why.ending:
-        page.lead = {"drawing exists": "A lawful drawing exists on this grid.",
-                     "why conflicts": "The search for a reason ended early, since its budget of conflicts was spent.",
-                     "why room": "The search for a reason ended early, since there was no room for more."}[why.ending]
+        page.lead = [{"drawing exists": "A lawful drawing exists on this grid.",
+                      "why conflicts": "The search for a reason ended early, since its budget of conflicts was spent.",
+                      "why room": "The search for a reason ended early, since there was no room for more."}[why.ending]]
+        page.badge = ("settled", "a drawing exists") if why.ending == "drawing exists" else ("open", "search stopped")
     elif not why.laws:
-        page.lead = "The lines alone don't fit on this grid: no drawing has each line between its nodes on it."
+        page.lead = ["The lines alone don't fit on this grid: no drawing has each line between its nodes on it."]
+        page.badge = ("broken", "no drawing")
     else:
-        told = [sentences.asked(law, why.without[0], station) for law in why.laws]
-        items = "".join(f"<li>{escape(sentences.sentence(text))} (law {law.number})</li>" for law, text in zip(why.laws, told))
-        page.lead = ("No drawing on this grid keeps all of these at once. Give up any one of them, and a drawing keeps the "
-                     f"others.<ol>{items}</ol>")
-        for number, (law, text, drawing) in enumerate(zip(why.laws, told, why.without), 1):
-            marks = Marks()
-            for other in why.laws:
-                marked(other.parties, "party", marks)
-            page.panel(draw(drawing, station, marked(law.parties, "broken", marks)),
-                       f'Keeps all but {number}. <span class="broken">Given up: {escape(text)}.</span>')
-    page.fact("Grid", f"{sentences.sentence(sentences.grid_in_words(grid_of(run)))}")
-    if why.laws:
-        page.fact("Colours", '<span class="broken">Red: what the drawing gives up.</span>',
-                  '<span class="party">Blue: what it keeps of them.</span>')
-    page.fact("What certifies it", "The program is proved: it answers so only where it is so.")
+        page.badge = ("broken", "no drawing keeps all of these")
+        add_panels(page, run, why)
     return page
 
 
-def grid_of(run):
-    """the grid that the words ask for"""
-    return tuple(int(run.options.get(name, usual)) for name, usual in (("--width", 40), ("--height", 8), ("--least", 1)))
+def add_panels(page: Page, run: Run, why: texts.Why) -> None:
+    """for each law of the list a drawing that gives it up, and keeps the others of the list"""
+    asked = [sentences.asked(law, why.without[0], page.station) for law in why.laws]
+    items = [law_item(law, f"{sentences.sentence(text)} (law {law.number})", "li") for law, text in zip(why.laws, asked)]
+    page.lead = ["No drawing on this grid keeps all of these at once. Give up any one of them, and a drawing keeps the others.",
+                 element("ol", *items)]
+    for number, (law, text, drawing) in enumerate(zip(why.laws, asked, why.without), 1):
+        marks = Marks()
+        for other in why.laws:
+            marked(other.parties, "party", marks)
+        marked(law.parties, "broken", marks)
+        for kind, things in (("node", drawing.nodes), ("edge", drawing.edges)):
+            found = marks.nodes if kind == "node" else marks.edges
+            for thing in things:
+                found.setdefault(thing.number, "other")
+        kept = [str(at) for at in range(1, len(why.laws) + 1) if at != number]
+        keeps = f"It keeps {sentences.listed(kept)} of the list. " if kept else "The list has no other law. "
+        page.draw(run.scene(drawing, page.station, marks=marks, has_scale=False, part=0.5 if len(why.laws) > 1 else 1.0),
+                  element("b", f"Given up: {number}. "),
+                  f"{sentences.sentence(text)} {keeps}Laws outside the list aren't kept.",
+                  kind="panel", title=f"without {number}")
+    page.fact("Colours", element("p", element("span", "Red, broken lines and squares", class_="broken"),
+                                 ": what the drawing gives up."),
+              element("p", element("span", "Blue, solid lines and circles", class_="party"), ": what it keeps of the list."),
+              "Grey: what no law of the list speaks of.")
 
 
-def redraw_page(run):
-    found, former, station = texts.read_moved(run.output), texts.read_sheet(read_file(run.names[2])), run.station
-    page = Page("Track schematic, redrawn with the fewest nodes moved")
-    if found.drawing:
-        old, new = ({node.name for node in drawing.nodes} for drawing in (former.drawing, found.drawing))
-        verb = "stands" if found.moved == 1 else "stand"
-        page.lead = f"Of {found.of} nodes that the former drawing has too, {found.moved} {verb} elsewhere."
-        page.draw(draw(found.drawing, station, former=former.drawing), CAPTION + HOVER)
+def redraw_page(run: Run) -> Page:
+    found, former = texts.read_moved(run.output), texts.read_sheet(run.text(2))
+    page = page_of(run, "Track schematic, redrawn with the fewest nodes moved")
+    page.badge = sentences.badge_of([found.ending])
+    if found.drawing and former.drawing:
+        page.badge = ("settled", "none with fewer moved") if found.ending == "best" else ("open", "search stopped")
+        page.lead = [f"Of {found.of} nodes that the former drawing has too, {found.moved} moved."]
+        add_versions(page, run, found.drawing, former.drawing)
         add_values(page, found.values, found.grid)
-        listed = [f"{title}: {escape(', '.join(sorted(names)))}."
-                  for title, names in (("New nodes", new - old), ("Gone nodes", old - new)) if names]
-        page.fact("Changes", '<span class="ringed">In a ring: a node that moved, with its way.</span>',
-                  "Grey, behind: the former drawing.", *listed)
     else:
-        page.lead = f"There is no drawing. It was looked for on a grid of {sentences.grid_in_words(found.grid)}."
-    page.fact("How the search ended", escape(sentences.ending_of_moved(found.ending)))
+        page.lead = [f"There is no drawing. It was looked for on a grid of {sentences.grid_in_words(found.grid)}."]
+    page.fact("How the search ended", sentences.ending_of_moved(found.ending))
     add_certificate(page, run, NO_LOG)
+    page.provenance.check = ["./railplan", *run.words]
     return page
 
 
-def front_page(run):
-    found, station = texts.read_front(run.output), run.station
+def add_versions(page: Page, run: Run, new: Drawing, old: Drawing) -> None:
+    """both drawings, marked, and what changed from one to the other"""
+    from pages.changes import Changes
+    former = run.station(1)
+    changes = Changes(old, new, former, page.station)
+    scenes = [run.scene(old, former, marks=changes.old_marks(), title="the former drawing", key=changes.old_key, part=0.5),
+              run.scene(new, page.station, marks=changes.new_marks(), title="the new drawing", part=0.5)]
+    is_wide = any(len(draw(scene).strips) > 1 for scene in scenes)
+    for scene, word in zip(scenes, ("Before. ", "Now. ")):
+        scene.part = 1.0 if is_wide else 0.5
+        page.draw(scene, element("b", word), CAPTION, kind="" if is_wide else "version", title=scene.title)
+    page.objects, page.scene = Objects(scenes[1]), scenes[1]
+    page.changes = changes.items()
+    page.fact("Marks", "A circle: a node that moved. A square on its corner: a new one. A cross: one that is gone.",
+              "Broken lines: pieces of track that are new or gone.")
+
+
+def front_page(run: Run) -> Page:
+    found = texts.read_front(run.output)
     one, other = found.criteria
-    page = Page(f"The best pairs of {one} and {other}")
+    page = page_of(run, f"The best pairs of {one} and {other}")
+    page.badge = {"whole": ("settled", "these are all"), "none": ("settled", "no drawing on this grid")}.get(
+        found.ending, ("open", "search stopped"))
     if found.pairs:
-        page.draw(plot(found.pairs, found.criteria), "Each point is a pair that some lawful drawing has, and no lawful drawing "
-                  "has less of one without more of the other. What has at least the values of a point lies in the grey.")
-    sheets = [texts.read_sheet(read_file(name)) for name in run.drawings]
+        links = {pair: f"·pair-{pair[0]}-{pair[1]}" for pair in run.drawings}
+        page.figures.append(Figure(None, [plot(found.pairs, found.criteria, links)], [
+            "Each point is a pair that some lawful drawing has, and no lawful drawing has less of one without more of the other. "
+            "What has at least the values of a point lies in the grey."], kind="front"))
     for pair in found.pairs:
-        for sheet in sheets:
-            if sheet.drawing and (sheet.values[one], sheet.values[other]) == pair:
-                page.panel(draw(sheet.drawing, station), f"{one} {pair[0]}, {other} {pair[1]}")
-                break
-    rows = [(f"{one} {pair[0]}", "", f"{other} {pair[1]}") for pair in found.pairs]
-    page.facts.append(("Pairs", table(rows) + f"<p>On a grid of {sentences.grid_in_words(grid_of(run))}.</p>"))
+        if pair in run.drawings:
+            words, text = run.drawings[pair]
+            sheet = texts.read_sheet(text)
+            page.draw(run.scene(sheet.drawing, page.station), element("b", f"{one} {pair[0]}, {other} {pair[1]}. "),
+                      "Had from ", facts.command(["./railplan", *words]), ".", kind="choice", id=links[pair],
+                      title=f"{one} {pair[0]}, {other} {pair[1]}")
+    rows = [(f"{one} {pair[0]}", "", f"{other} {pair[1]}" + ("" if pair in run.drawings
+                                                             else ", of which there is no drawing here"))
+            for pair in found.pairs]
+    page.fact("Pairs", table(rows), f"On a grid of {sentences.grid_in_words(grid_of(run))}.")
     page.fact("How the search ended", sentences.ending_of_front(found.ending))
-    page.fact("What certifies it", "The program is proved: each pair is that of a lawful drawing, and none is as good in both "
-              "and better in one.")
+    page.provenance.check = ["./railplan", *run.words]
     return page
 
 
-PAGES = {"draw": draw_page, "signals": draw_page, "verify": verify_page, "explain": explain_page, "redraw": redraw_page,
-         "front": front_page}
+def fault_page(run: Run) -> Page:
+    """the fault in words, the line that the program gave, and the lines of the file that are meant"""
+    page = page_of(run, "Not drawn: a fault")
+    page.badge = ("broken", "fault")
+    fault = faults.of_run(run.copied or run.words, run.output, run.status, run.inputs)
+    page.lead = [element("p", element("b", fault.sentences[0])), *(element("p", it) for it in fault.sentences[1:])]
+    if fault.line:
+        page.lead += [element("p", "The program's own line: ", facts.code(fault.line))]
+    for number, part in enumerate(fault.excerpts, 1):
+        page.figures.append(Figure(None, [excerpt(part, number)], [part.name], kind="excerpt"))
+    meant = [(number, line) for number, part in enumerate(fault.excerpts, 1) for line in part.meant]
+    if len(meant) > 1:
+        links = [[element("a", f"line {line}", href=f"#·line-{number}-{line}"), " "] for number, line in meant]
+        page.lead.append(element("p", "What is meant: ", links))
+    page.provenance.check = ["./railplan", *run.words]
+    return page
 
 
-# ---- the whole
+def excerpt(part: faults.Excerpt, figure: int) -> Element:
+    """lines of a file, with those that are meant marked"""
+    rows = []
+    for number, line in enumerate(part.lines, part.first):
+        is_meant = number in part.meant
+        rows.append(element("tr", element("td", ("▸ " if is_meant else "") + str(number), class_="number"),
+                            element("td", element("code", texts_shown(line))), class_="meant" if is_meant else None,
+                            id=f"·line-{figure}-{number}" if is_meant else None))
+    return element("table", rows, class_="lines-of-file")
 
 
-def page_text(words, output, file=None, drawings=(), grid=False, name=""):
-    """the page of a run as one HTML text"""
-    run = run_of(words, output, file, drawings, name)
-    page = PAGES[run.command](run)
-    add_command(page, run)
-    title = escape(os.path.basename(run.file))
-    facts = "".join(f"<section><h2>{title}</h2>{text}</section>\n" for title, text in page.facts)
-    lead = f'<div class="lead">{page.lead}</div>\n' if page.lead else ""
-    toggle = toggle_of(grid) if any('class="grid"' in figure for figure in page.figures + page.panels) else ""
-    panels = f'<div class="panels">{"".join(page.panels)}</div>\n' if page.panels else ""
-    return (f'<!DOCTYPE html>\n<html lang="en"><head><meta charset="utf-8"><title>{title}: {escape(page.subject)}</title>\n'
-            f"<style>\n{PAGE_STYLE}{STYLE}</style></head><body>\n"
-            f"<header><h1>{title}</h1><span>{escape(page.subject)}</span></header>\n"
-            f'{toggle}<main>\n{lead}{"".join(page.figures)}\n{panels}</main>\n'
-            f'<div class="facts">\n{facts}</div>\n{shortened(page.short)}</body></html>\n')
+def texts_shown(line: str) -> str:
+    from pages.letters import visible
+    return visible(line.replace("\t", "    "))
 
 
-def shortened(pairs):
-    """the names that stand shortened in a picture, whole"""
-    if not pairs:
-        return ""
-    items = "".join(f"<li>{escape(short)} <b>{escape(whole)}</b></li>" for short, whole in pairs)
-    return f'<div class="short"><h2>Names that are shortened above</h2><ul>{items}</ul></div>\n'
+PAGES: dict[str, Callable[[Run], Page]] = {"draw": draw_page, "signals": draw_page, "verify": verify_page,
+                                           "explain": explain_page,
+                                           "redraw": redraw_page, "front": front_page}
 
 
-def toggle_of(grid):
-    """the box that shows and hides the grid's columns and rows"""
-    return f'<label class="toggle">columns and rows <input type="checkbox" id="grid"{" checked" if grid else ""}></label>\n'
+def make(run: Run) -> Page:
+    """the page of a run, or of its fault"""
+    return PAGES[run.command](run) if run.status in ANSWERED else fault_page(run)
 
 
-def picture_text(words, output, file=None):
-    """the drawing of a run alone, as one SVG text"""
-    run = run_of(words, output, file, (), "")
-    if run.command == "redraw":
-        drawing = texts.read_moved(run.output).drawing
-        signals, former = (), texts.read_sheet(read_file(run.names[2])).drawing
-    else:
-        sheet, signals = texts.read_signals(run.output)
-        drawing, former = sheet.drawing, None
-    if not drawing:
-        raise NoPage("there is no drawing")
-    return svg_of(draw(drawing, run.station, signals=signals, former=former), alone=True, title=os.path.basename(run.file)) + "\n"
+def dxf_of(page: Page) -> str:
+    """the drawing of a page as DXF; nothing where it has none"""
+    for figure in page.figures:
+        if figure.picture and page.scene:
+            return cad.dxf(page.scene, figure.picture.columns)
+    return ""

@@ -1,52 +1,13 @@
-"""pages/run.py LAUNCHER PAGE [--unproved] WORDS..
+"""pages/run.py LAUNCHER PAGE WORDS..    what the launcher starts for `--html PAGE WORDS..`, and for `--dxf` and `--csv`
 
-Runs the words, which are those of draw, signals, front, explain, redraw or verify, and writes the page of the run. What the program puts
-and how it ends stay as they are; a page is written whole or not at all, and none where a fault was put."""
-import os
-import signal
-import subprocess
+The page is made by the package; here only the package's folder is added to where Python looks."""
 import sys
+from pathlib import Path
 
 sys.dont_write_bytecode = True
+sys.path[0] = str(Path(__file__).resolve().parent.parent)
 
-from page import files_of, write_page  # noqa: E402
-
-# the statuses with which a run has put what its command is there for
-ANSWERED = (0, 3, 4, 8)
-
-
-def stop(why):
-    print(f"railplan: {why}", file=sys.stderr)
-    sys.exit(2)
-
-
-def run(command, page, words):
-    """runs the command, writes the page of these words, and puts what the command put; ends as it ended"""
-    job = subprocess.Popen(command, stdout=subprocess.PIPE)
-    signal.signal(signal.SIGINT, signal.SIG_IGN)
-    signal.signal(signal.SIGTERM, lambda number, frame: job.terminate())
-    output = job.communicate()[0]
-    try:
-        if job.returncode in ANSWERED and not write_page(page, words, output.decode("utf-8", "replace")):
-            print("railplan: there is no page of this run", file=sys.stderr)
-        sys.stdout.buffer.write(output)
-        sys.stdout.flush()
-    except OSError as error:
-        print(f"railplan: couldn't write: {error}", file=sys.stderr)
-        os.dup2(os.open(os.devnull, os.O_WRONLY), 1)
-        return 6
-    return job.returncode if job.returncode >= 0 else 128 - job.returncode
-
-
-def main(launcher, page="", *words):
-    front = words[:1] if words[:1] == ("--unproved",) else ()
-    words = list(words[len(front):])
-    if words[:1] not in (["draw"], ["signals"], ["front"], ["explain"], ["redraw"], ["verify"]) or not page:
-        stop("a page is asked for by --html FILE and the words of draw, signals, front, explain, redraw or verify")
-    if os.path.realpath(page) in map(os.path.realpath, files_of(words)):
-        stop("the page has the name of another file of the run")
-    return run([sys.executable, launcher, *front, *words], page, words)
-
+from pages.command import start  # noqa: E402
 
 if __name__ == "__main__":
-    sys.exit(main(*sys.argv[1:]))
+    sys.exit(start(sys.argv[1:]))

@@ -1,28 +1,36 @@
 """Laws, values and endings in words."""
-from texts import VALUES, kilometres
+from __future__ import annotations
+
+from typing import Iterable, Sequence
+
+from pages.station import Station
+from pages.texts import VALUES, Drawing, Law, Node, Party, kilometres
 
 MEASURED = {"height": ("row above the lowest", "rows above the lowest"),
             "bends": ("point at which a line turns", "points at which lines turn"),
             "diagonal": ("column in which a line rises or falls", "columns in which lines rise or fall"),
             "width": ("column east of the first", "columns east of the first")}
+LAWS = {1: "all lies on the grid", 2: "mileages rise from west to east", 3: "lines join their nodes",
+        4: "slopes at nodes are those of their kinds", 5: "no two nodes have one point", 6: "what is above lies above",
+        7: "lines don't cross"}
 
 
-def measured(values):
+def measured(values: dict[str, int]) -> list[tuple[str, int, str]]:
     """for each value its name, the number and what it counts"""
     return [(name, values[name], MEASURED[name][values[name] != 1]) for name in VALUES]
 
 
-def listed(words):
+def listed(words: Sequence[str]) -> str:
     return words[0] if len(words) == 1 else ", ".join(words[:-1]) + " and " + words[-1]
 
 
-def grid_in_words(grid):
+def grid_in_words(grid: Iterable[int]) -> str:
     width, height, least = grid
     each = "" if least == 1 else f", each edge over {least} columns or more"
     return f"columns 0 to {width}, rows 0 to {height}{each}"
 
 
-def ending_of_search(ending, order):
+def ending_of_search(ending: list[str], order: list[str]) -> str:
     """what the last line of a sheet says"""
     word, settled = ending[0], int(ending[1]) if len(ending) > 1 else 0
     if word == "best":
@@ -36,60 +44,67 @@ def ending_of_search(ending, order):
             "settled.")
 
 
-def ending_of_moved(ending):
+def badge_of(ending: list[str]) -> tuple[str, str]:
+    """how the search ended, in a word or two, and which kind of ending it is"""
+    return {"best": ("settled", "lawful, and none better"), "none": ("settled", "no drawing on this grid"),
+            "conflicts": ("open", "search stopped"), "room": ("open", "search stopped")}[ending[0]]
+
+
+def ending_of_moved(ending: str) -> str:
     return {"best": "In no lawful drawing on this grid fewer nodes move.",
             "none": "No drawing on this grid is lawful.",
             "conflicts": "The search ended early, since its budget of conflicts was spent. Fewer nodes may do.",
             "room": "The search ended early, since there was no room for more. Fewer nodes may do."}[ending]
 
 
-def ending_of_front(ending):
+def ending_of_front(ending: str) -> str:
     return {"whole": "These are all: each lawful drawing on this grid has at least the values of one of these pairs.",
             "none": "No drawing on this grid is lawful.",
             "conflicts": "The search for the front ended early, its budget of conflicts spent. These are on it; more may follow.",
             "room": "The search for the front ended early, for want of room. These are on it; more may follow."}[ending]
 
 
-def name_of(party, drawing):
+def name_of(party: Party, drawing: Drawing, station: Station) -> str:
     kind, number = party
     if kind == "node":
-        return f"the node {drawing.nodes[number].name}"
+        return f"the node {station.label(drawing.nodes[number].name)}"
     edge = drawing.edges[number]
-    names = [drawing.nodes[end].name for end in (edge.west, edge.east)]
-    track = f"of track {edge.track}" if edge.track else f"{number}"
+    names = [station.label(drawing.nodes[end].name) for end in (edge.west, edge.east)]
+    track = f"of track {station.label(edge.track)}" if edge.track else f"{number}"
     return f"the piece {track} from {names[0]} to {names[1]}"
 
 
-def at_node(node, station):
-    kind = station.kind(node.name)
+def at_node(node: Node, station: Station) -> str:
+    known, name = station.node(node.number), station.label(node.name)
+    kind = known.kind if known else "node"
     if kind == "switch":
-        sides = station.sides(node.name)
-        where = f"the {sides[1]} side" if sides else "its own side"
-        return (f"at the switch {node.name} the trunk and the straight leg have one slope, and the diverging leg is one step "
-                f"steeper on {where}")
+        return (f"at the switch {name} the trunk and the straight leg have one slope, and the diverging leg is one step "
+                f"steeper on the {known.side} side")
     if kind == "crossing":
-        return f"at the crossing {node.name} each path has one slope on both sides, and the rising path's is the greater"
+        return f"at the crossing {name} each path has one slope on both sides, and the rising path's is the greater"
     if kind == "joint":
-        return f"through the joint {node.name} both lines have one slope"
+        return f"through the joint {name} both lines have one slope"
     if kind == "node":
-        return f"at {node.name} the lines' slopes are those that its kind asks for"
-    return f"at the end {node.name} the line is level"
+        return f"at {name} the lines' slopes are those that its kind asks for"
+    return f"at the end {name} the line is level"
 
 
-def by_mileage(one, other):
+def by_mileage(one: Node, other: Node, station: Station) -> str:
     """law 2 of two nodes"""
     if not one.mileage or not other.mileage:
-        return f"the nodes {one.name} and {other.name} stand from west to east as their mileages do"
+        names = station.label(one.name), station.label(other.name)
+        return f"the nodes {names[0]} and {names[1]} lie from west to east as their mileages do"
     west, east = (one, other) if float(one.mileage) <= float(other.mileage) else (other, one)
+    names = station.label(west.name), station.label(east.name)
     if float(west.mileage) == float(east.mileage):
-        return f"the nodes {west.name} and {east.name}, both at km {kilometres(west.mileage)}, stand in one column"
-    return (f"the node {west.name}, at km {kilometres(west.mileage)}, doesn't stand further east than {east.name}, at km "
+        return f"the nodes {names[0]} and {names[1]}, both at km {kilometres(west.mileage)}, lie in one column"
+    return (f"the node {names[0]}, at km {kilometres(west.mileage)}, doesn't lie further east than {names[1]}, at km "
             f"{kilometres(east.mileage)}")
 
 
-def asked(law, drawing, station):
+def asked(law: Law, drawing: Drawing, station: Station) -> str:
     """what a law asks of its parties, as part of a sentence"""
-    names = [name_of(party, drawing) for party in law.parties]
+    names = [name_of(party, drawing, station) for party in law.parties]
     if law.number == 1:
         return f"{names[0]} lies on the grid"
     if law.number == 3:
@@ -97,18 +112,18 @@ def asked(law, drawing, station):
     if law.number == 4:
         return at_node(drawing.nodes[law.parties[0][1]], station)
     if law.number == 2:
-        return by_mileage(*(drawing.nodes[number] for _, number in law.parties))
+        return by_mileage(*(drawing.nodes[number] for _, number in law.parties), station)
     if law.number == 5:
-        return f"{names[0]} and {names[1]} stand at two points, and not at one"
+        return f"{names[0]} and {names[1]} lie at two points, and not at one"
     if law.number == 6:
         return f"{names[0]} lies above {names[1]}"
     return f"{names[0]} and {names[1]} don't cross"
 
 
-def sentence(text):
+def sentence(text: str) -> str:
     return text[:1].upper() + text[1:] + "."
 
 
-def broken(law, drawing, station):
+def broken(law: Law, drawing: Drawing, station: Station) -> str:
     """what a verdict says"""
     return f"Law {law.number} is broken. It asks: {asked(law, drawing, station)}. In this drawing that isn't so."

@@ -1,127 +1,166 @@
-"""What the page takes from the railML file besides the texts: kinds of ends, names, directions of signals.
+"""What a page knows of a station: kinds, sides and what is above what from the program's graph, names from the railML file.
 
-None of it is proved. A file that isn't as expected tells nothing, and then the page has less to say.
+Without a graph it knows no kinds, and without a file no names: then the page has less to say.
 """
-import html
-import re
-from dataclasses import dataclass, field
+from __future__ import annotations
 
-ITEM = re.compile(r"""<!--.*?--> | <!\[CDATA\[.*?\]\]> | <\?.*?\?> | </(?P<end>[^\s>]+)\s*>
-    | <(?P<start>[^\s<>/!?]+)(?P<attributes>(?:\s+[^\s=<>]+\s*=\s*(?:"[^"<]*"|'[^'<]*'))*)\s*(?P<closed>/?)>""", re.S | re.X)
-ATTRIBUTE = re.compile(r"""([^\s=<>]+)\s*=\s*(?:"([^"<]*)"|'([^'<]*)')""")
-ENDS = {"openEnd": "open end", "bufferStop": "buffer stop", "macroscopicNode": "end, the line goes on", "connection": "joint"}
+from dataclasses import dataclass, field
+from decimal import Decimal
+from typing import Iterator, Optional
+
+from pages.infrastructure import Infrastructure, SignalInFile
+from pages.letters import Letters
+from pages.texts import Graph, GraphNode, Signal
+
+PLAIN = "node"
+STRAIGHT, DIVERGING = "straight", "diverging"
 
 
 @dataclass
-class Track:
-    name: str
-    mileages: dict = field(default_factory=dict)
-    runs_east: bool = True
+class Legs:
+    """the edges of a switch: the trunk, the straight leg, and the diverging one"""
+    trunk: int
+    straight: int
+    diverging: int
+
+
+@dataclass
+class Way:
+    """a way through a node, from one edge to another, and how the node's switch lies for it"""
+    one: int
+    other: int
+    position: str = ""
 
 
 @dataclass
 class Station:
-    kinds: dict = field(default_factory=dict)
-    names: dict = field(default_factory=dict)
-    tracks: dict = field(default_factory=dict)
-    heading: dict = field(default_factory=dict)
-    switches: dict = field(default_factory=dict)
+    graph: Optional[Graph] = None
+    file: Infrastructure = field(default_factory=Infrastructure)
+    labels: str = "name"
+    letters: Letters = field(default_factory=Letters)
 
-    def kind(self, name):
-        return self.kinds.get(name, "node")
+    def __post_init__(self) -> None:
+        file = self.file
+        texts = {*file.names, *file.names.values(), *file.tracks, *file.signals, *(it.name for it in file.signals.values())}
+        if self.graph:
+            texts |= {it.name for it in self.graph.nodes} | {it.track for it in self.graph.edges}
+        self.letters = Letters(texts)
 
-    def sides(self, name):
-        """where a switch's legs lie, and to which side the diverging one turns off; none where the file doesn't say so"""
-        track, orientation, course, going_on = self.switches.get(name, (None, "", "", ""))
-        hand = going_on if course == "straight" else course
-        if track not in self.tracks or orientation not in ("outgoing", "incoming") or hand not in ("left", "right"):
+    # ---- names
+
+    def shown(self, text: str) -> str:
+        return self.letters.shown(text)
+
+    def name(self, id: str) -> str:
+        """the name that the file has for an id, or nothing"""
+        name = self.file.signals[id].name if id in self.file.signals and id not in self.file.names else self.file.names.get(id,
+                                                                                                                            "")
+        return self.shown(name) if name.strip() and name != id else ""
+
+    def signal_name(self, id: str) -> str:
+        name = self.file.signals[id].name if id in self.file.signals else ""
+        return self.shown(name) if name.strip() and name != id else ""
+
+    def label(self, id: str, is_signal: bool = False) -> str:
+        """what is written at a thing: its name where there is one and names are asked for, else its id"""
+        name = self.signal_name(id) if is_signal else self.name(id)
+        return name if name and self.labels == "name" else self.shown(id)
+
+    def both(self, id: str, is_signal: bool = False) -> str:
+        """the label, and behind it what it isn't of name and id"""
+        name, own = (self.signal_name(id) if is_signal else self.name(id)), self.shown(id)
+        if not name:
+            return own
+        return f"{name} ({own})" if self.labels == "name" else f"{own} ({name})"
+
+    # ---- kinds and sides, from the graph
+
+    def node(self, number: int) -> Optional[GraphNode]:
+        return self.graph.nodes[number] if self.graph and number < len(self.graph.nodes) else None
+
+    def kind(self, number: int) -> str:
+        """the kind of a node; an end's is that of its element"""
+        node = self.node(number)
+        if not node:
+            return PLAIN
+        return self.file.ends.get(node.name, "end") if node.kind == "end" else node.kind
+
+    def edges_at(self, number: int, side: str) -> list[int]:
+        """the edges that leave a node to a side, the upper one first"""
+        if not self.graph:
+            return []
+        found = [it.number for it in self.graph.edges if (it.west if side == "east" else it.east) == number]
+        return sorted(found, key=lambda it: sum((other, it) in self.graph.above for other in found))
+
+    def legs(self, number: int) -> Optional[Legs]:
+        """a switch's edges; none where the graph doesn't say which is which"""
+        node = self.node(number)
+        if not node or node.kind != "switch":
             return None
-        legs_east = self.tracks[track].runs_east == (orientation == "outgoing")
-        return ("east" if legs_east else "west"), ("upper" if legs_east == (hand == "left") else "lower")
+        legs = self.edges_at(number, node.legs)
+        trunk = self.edges_at(number, "west" if node.legs == "east" else "east")
+        if len(legs) != 2 or len(trunk) != 1:
+            return None
+        upper, lower = legs
+        straight, diverging = (lower, upper) if node.side == "upper" else (upper, lower)
+        return Legs(trunk[0], straight, diverging)
 
+    def ways(self, number: int) -> list[Way]:
+        """the ways through a node: no train turns from one leg of a switch into the other"""
+        node, legs = self.node(number), self.legs(number)
+        if legs:
+            return [Way(legs.trunk, legs.straight, STRAIGHT), Way(legs.trunk, legs.diverging, DIVERGING)]
+        west, east = self.edges_at(number, "west"), self.edges_at(number, "east")
+        if node and node.kind == "joint" and len(west) == len(east) == 1:
+            return [Way(west[0], east[0])]
+        if node and node.kind == "crossing" and len(west) == len(east) == 2:
+            return [Way(west[1], east[0]), Way(west[0], east[1])]
+        return []
 
-def items_of(text):
-    """each start tag with its attributes, and each end tag as none; a tag that is closed at once gives both"""
-    for item in ITEM.finditer(text):
-        if item["start"]:
-            yield item["start"], {name: html.unescape(one or other) for name, one, other in ATTRIBUTE.findall(item["attributes"])}
-        if item["end"] or item["closed"]:
-            yield None, None
+    # ---- tracks and signals
 
+    def is_main(self, track: Optional[str]) -> bool:
+        return track in self.file.tracks and self.file.tracks[track].type == "mainTrack"
 
-def number(attributes, name):
-    try:
-        return float(attributes.get(name, "").strip())
-    except ValueError:
-        return None
+    def pieces(self, track: str) -> list[int]:
+        """the edges of a track, from its begin to its end"""
+        return [it.number for it in self.graph.edges if it.track == track] if self.graph else []
 
+    def nodes_along(self, track: str) -> list[int]:
+        """the nodes of a track from its begin to its end; none where its begin isn't known"""
+        known, pieces = self.file.tracks.get(track), self.pieces(track)
+        if not known or not pieces or not self.graph:
+            return []
+        begins = {known.begin.id, self.file.owners.get(known.begin.ref, "")}
+        first = self.graph.edges[pieces[0]]
+        found = [it for it in (first.west, first.east) if self.graph.nodes[it].name in begins]
+        if len(found) != 1:
+            return []
+        for number in pieces:
+            edge = self.graph.edges[number]
+            if found[-1] not in (edge.west, edge.east):
+                return []
+            found.append(edge.east if edge.west == found[-1] else edge.west)
+        return found
 
-def mileage_of(track, attributes):
-    """the mileage of a track's end, by itself or by its distance from the begin"""
-    own, pos, begin = number(attributes, "absPos"), number(attributes, "pos"), track.mileages.get("trackBegin", {})
-    if own is None and pos is not None and number(begin, "absPos") is not None and number(begin, "pos") is not None:
-        return number(begin, "absPos") + pos - number(begin, "pos")
-    return own
+    def signal(self, id: str) -> Optional[SignalInFile]:
+        return self.file.signals.get(id)
 
+    def heads_east(self, signal: Signal) -> Optional[bool]:
+        """whether trains that a signal is for run east; none where file and graph don't say so"""
+        known = self.signal(signal.name)
+        if not known or known.direction not in ("up", "down"):
+            return None
+        along, pieces = self.nodes_along(known.track), self.pieces(known.track)
+        if signal.edge not in pieces or not along:
+            return None
+        at = pieces.index(signal.edge)
+        return (self.graph.edges[signal.edge].west == along[at]) == (known.direction == "up")
 
-def track_of(path):
-    """the id of the track that a path leads through"""
-    return next((attributes.get("id") for name, attributes in path if name == "track"), None)
+    def signal_mileage(self, id: str) -> Optional[Decimal]:
+        known = self.signal(id)
+        return known.mileage(self.file.tracks[known.track].begin) if known else None
 
-
-def add_track(station, path):
-    """what is known of a track when its topology ends"""
-    track = station.tracks.get(track_of(path))
-    if track:
-        first, last = (mileage_of(track, track.mileages.get(end, {})) for end in ("trackBegin", "trackEnd"))
-        track.runs_east = first is None or last is None or first < last
-
-
-def look_at(station, path):
-    """takes what one element tells, the last of a path"""
-    (name, attributes), (above, outer) = path[-1], path[-2] if len(path) > 1 else (None, {})
-    own = attributes.get("id")
-    if name == "track":
-        station.tracks[own] = Track(attributes.get("name", ""))
-    elif name in ("trackBegin", "trackEnd"):
-        track = track_of(path)
-        if track in station.tracks:
-            station.tracks[track].mileages[name] = attributes
-    elif name in ("switch", "crossing"):
-        station.kinds[own] = name
-    elif name in ENDS and above in ("trackBegin", "trackEnd"):
-        station.kinds[outer.get("id")] = ENDS[name]
-    elif name == "signal":
-        station.heading[own] = track_of(path), attributes.get("dir", "")
-    elif name == "connection" and above == "switch":
-        station.switches[outer.get("id")] = (track_of(path), attributes.get("orientation", ""), attributes.get("course", ""),
-                                             outer.get("trackContinueCourse", ""))
-    if own and attributes.get("name"):
-        station.names[own] = attributes["name"]
-
-
-def read_station(path):
-    """what a railML file tells the page; nothing where it can't be read"""
-    station, open_elements = Station(), []
-    try:
-        with open(path, encoding="utf-8-sig") as file:
-            text = file.read()
-    except (OSError, UnicodeDecodeError, TypeError):
-        return station
-    for name, attributes in items_of(text):
-        if name:
-            open_elements.append((name, attributes))
-            look_at(station, open_elements)
-        elif open_elements:
-            if open_elements[-1][0] == "trackTopology":
-                add_track(station, open_elements)
-            open_elements.pop()
-    return station
-
-
-def heads_east(station, signal):
-    """whether trains that a signal is for run east; none where the file doesn't say so"""
-    track, direction = station.heading.get(signal, (None, ""))
-    if direction not in ("up", "down") or track not in station.tracks:
-        return None
-    return station.tracks[track].runs_east == (direction == "up")
+    def in_order(self, edge: int, signals: list[Signal]) -> Iterator[Signal]:
+        """the signals of an edge from west to east, as they are drawn"""
+        yield from sorted((it for it in signals if it.edge == edge), key=lambda it: it.point[0])

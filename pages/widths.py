@@ -3,6 +3,8 @@
 The widths are those of Helvetica, which Arial and Liberation Sans share, in thousandths of the letter's size. A page sets each
 text's length to the width that it has by this table, so that it takes the same room in any other font too.
 """
+from __future__ import annotations
+
 import unicodedata
 
 FONT = "'Liberation Sans', Arial, Helvetica, sans-serif"
@@ -14,7 +16,7 @@ SAME = {191: "'", 222: "ijl", 260: "|", 278: " !,./:;I[\\]ft·", 333: "()-`r", 3
 WIDTHS = {letter: width for width, letters in SAME.items() for letter in letters}
 
 
-def letter_width(letter):
+def letter_width(letter: str) -> int:
     if letter in WIDTHS:
         return WIDTHS[letter]
     if unicodedata.combining(letter):
@@ -25,16 +27,16 @@ def letter_width(letter):
     return WIDTHS.get(plain, OTHER)
 
 
-def width_of(text, size):
+def width_of(text: str, size: float) -> float:
     """the width of a text, in the units of the letters' size; one of marks alone has some too"""
     return max(sum(map(letter_width, text)), 200) * size / 1000
 
 
-def height_of(size):
+def height_of(size: float) -> float:
     return (ASCENT + DESCENT) * size
 
 
-def shortened(text, size, room):
+def shortened(text: str, size: float, room: float) -> str:
     """the text, or its two ends around three dots, as long as the room allows; at least two letters remain"""
     if width_of(text, size) <= room:
         return text

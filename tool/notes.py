@@ -1,6 +1,8 @@
 """Notes to people: a sentence, and where there is one the place that it is about."""
 from __future__ import annotations
 
+import json
+import os
 from dataclasses import dataclass
 
 from tool.places import Place
@@ -26,5 +28,12 @@ def plain(note: Note) -> str:
     return f"{note.place.head()}: {note.text}\n{note.place.excerpt(False)}"
 
 
+def named(text: str) -> str:
+    """the text with the names of files in the place of those of the copies that pages hand to the program"""
+    for copy, name in json.loads(os.environ.get("RAILPLAN_NAMES") or "{}").items():
+        text = text.replace(copy, name)
+    return text
+
+
 def show(notes: list[Note]) -> None:
-    write_error("".join(it.show() for it in notes))
+    write_error(named("".join(it.show() for it in notes)))

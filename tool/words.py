@@ -93,7 +93,8 @@ PAGE_WORDS = {it.word: it for it in (
     Option("--dxf", "FILE", "the drawing for a CAD program", "file", kind="dxf"),
     Option("--csv", "FILE", "the drawing's points as a table", "file", kind="csv"),
     Option("--paper", "SIZE", "the paper that the page is for", "word"),
-    Option("--labels", "KIND", "what is written at nodes: names or ids", "word"),
+    Option("--labels", "KIND", "what is written at nodes, tracks and signals: name or id", "word"),
+    Option("--side", "SIDE", "the side of the track on which signals are: right or left", "word"),
 )}
 
 SEARCH = ("--width", "--height", "--least", "--conflicts")

@@ -1,0 +1,67 @@
+"""Stations for the pages' bench: those of made_stations.py with names in six namings, types of tracks, and signals."""
+from __future__ import annotations
+
+import random
+import re
+from typing import Callable
+
+from made_stations import EVERYDAY, crossovers, depot, fan, ladder, line, loops, parallel, passing, scissors, terminus
+from made_stations import through, yard
+
+NAMINGS: dict[str, Callable[[int, str], str]] = {
+    "plain": lambda number, id: "",
+    "short": lambda number, id: f"{number}",
+    "usual": lambda number, id: f"W{number:03d}",
+    "long": lambda number, id: f"Central Station West, switch {number}",
+    "signs": lambda number, id: f"<b>&\"'{number}</script>",
+    "wide": lambda number, id: f"轉轍器{number}Ä\u202e\u200b",
+}
+LARGE = [("line 10", line(10)), ("ladder 5", ladder(5)), ("scissors 12", scissors(12)), ("passing places 15", passing(15, 2)),
+         ("yard 10", yard(10)), ("loops 40", loops(40, lambda at: at % 2 == 0)), ("crossovers 30", crossovers(30))]
+MORE = [("loops above 6", loops(6, lambda at: True)), ("loops in turn 15", loops(15, lambda at: at % 2 == 0)),
+        ("crossovers 4", crossovers(4)),
+        ("crossovers 16", crossovers(16)), ("scissors 1", scissors(1)), ("scissors 3", scissors(3)), ("yard 1", yard(1)),
+        ("yard 4", yard(4)),
+        ("fan 3", fan(3)), ("fan 6", fan(6)), ("parallel 2", parallel(2)), ("parallel 9", parallel(9)),
+        ("passing places 8", passing(8, 1)),
+        ("through station 4 4", through(4, 4, True)), ("terminus 7", terminus(7, True)), ("depot 9", depot(9, True))]
+STATIONS = EVERYDAY + MORE + LARGE
+
+
+def escaped(text: str) -> str:
+    return text.replace("&", "&amp;").replace("<", "&lt;").replace('"', "&quot;")
+
+
+def file_of(station: object, naming: str, signals_on_piece: int = 0, seed: int = 0) -> str:
+    """the station's railML file, with names, two main tracks, and signals on its tracks"""
+    chance, count = random.Random(seed), iter(range(1, 10000))
+    name = NAMINGS[naming]
+
+    def named(found: re.Match[str]) -> str:
+        text = name(next(count), found[2])
+        return f'<{found[1]} id="{found[2]}"' + (f' name="{escaped(text)}"' if text else "")
+
+    text = re.sub(r'<(track|switch|crossing|trackBegin|trackEnd) id="([^"]*)"', named, station.text())
+    text = re.sub(r'<track id="t([01])"', r'<track id="t\1" type="mainTrack"', text)
+    if signals_on_piece:
+        text = add_signals(text, name, count, signals_on_piece, chance)
+    return text
+
+
+def add_signals(text: str, name: Callable[[int, str], str], count: object, most: int, chance: random.Random) -> str:
+    """signals between the points of each track, some for one way and some for the other"""
+    parts = re.split(r"(</trackTopology></track>)", text)
+    total = 0
+    for at in range(0, len(parts) - 1, 2):
+        places = sorted({int(pos) for pos in re.findall(r'pos="(\d+)"', parts[at].rsplit("<track ", 1)[-1])})
+        made = []
+        for west, east in zip(places, places[1:]):
+            for step in range(1, most + 1):
+                if total < 512 and east - west > most + 1:
+                    total += 1
+                    shown = name(next(count), "")
+                    way = chance.choice(["up", "down", "up", "down", ""])
+                    made.append(f'<signal id="N{total}" pos="{west + step * (east - west) // (most + 1)}"'
+                                + (f' name="{escaped(shown)}"' if shown else "") + (f' dir="{way}"' if way else "") + "/>")
+        parts[at + 1] = f"</trackTopology><ocsElements><signals>{''.join(made)}</signals></ocsElements></track>"
+    return "".join(parts)

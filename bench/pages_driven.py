@@ -1,0 +1,329 @@
+"""Each interaction of a page, driven by keys and pointers in a browser, and what is to be seen of it."""
+from __future__ import annotations
+
+import json
+import re
+from pathlib import Path
+from typing import Callable, Iterator
+
+from browser import Browser, Tab, centre
+
+SIGN = 'svg.strip .sign[data-key="{}"]'
+ROW = 'aside.list tr[data-key="{}"]'
+Check = tuple[str, bool]
+
+
+def marked(tab: Tab, name: str) -> list[str]:
+    """the keys of what has a mark"""
+    return sorted(set(tab.run(f"[...document.querySelectorAll('.{name}[data-key]')].map(it => it.dataset.key)")))
+
+
+def said(tab: Tab) -> str:
+    return re.sub(r"\s+", " ", tab.run("[...document.querySelector('.said').querySelectorAll('h2, dt, dd')].map(it => it.textContent).join(' ')"))
+
+
+def scale(tab: Tab) -> float:
+    return tab.run("(svg => svg.getScreenCTM().a)(document.querySelector('svg.strip'))")
+
+
+def measure(tab: Tab) -> list[float]:
+    """the height of a name and the width of a line, as they are seen"""
+    return tab.run("""(() => { letGo(); mark('over', []); const name = document.querySelector('svg.strip .name.node');
+      return [name.getBoundingClientRect().height, parseFloat(getComputedStyle(document.querySelector('svg.strip .edge')).strokeWidth)] })()""")
+
+
+def key_of(tab: Tab, id: str) -> str:
+    return tab.run(f"Object.entries(objects).find(([key, it]) => it.id == {json.dumps(id)} && key[0] != 'e')[0]")
+
+
+# ---- draw and signals
+
+
+def search(tab: Tab) -> Iterator[Check]:
+    rows = tab.run("rows.length")
+    tab.key("/")
+    yield "`/` goes to the search", tab.run("document.activeElement.classList.contains('find')")
+    tab.type("switch")
+    left = tab.run("rows.filter(it => !it.hidden).length")
+    yield "a word leaves the rows that have it", 0 < left < rows and tab.run(
+        "rows.filter(it => !it.hidden).every(it => it.textContent.includes('switch'))")
+    tab.key("Enter")
+    first = tab.run("chosen")
+    yield "Enter chooses the first", first == tab.run("rows.find(it => !it.hidden).dataset.key")
+    tab.key("n")
+    second = tab.run("chosen")
+    yield "`n` chooses the next", second != first and second == tab.run("rows.filter(it => !it.hidden)[1].dataset.key")
+    tab.key("N")
+    yield "`N` chooses the one before", tab.run("chosen") == first
+    tab.key("/")
+    tab.key("Escape")
+    yield "Escape empties the search", tab.run("rows.every(it => !it.hidden)")
+    tab.key("Escape")
+    yield "Escape lets go", tab.run("chosen") is None and tab.run("location.hash") == ""
+
+
+def both_ways(tab: Tab, switch: str) -> Iterator[Check]:
+    tab.run(f"document.querySelector('{SIGN.format(switch)}').scrollIntoView({{block: 'center'}})")
+    tab.move(*centre(tab, SIGN.format(switch)))
+    yield "a sign lights its row", tab.run(f"document.querySelector('{ROW.format(switch)}').classList.contains('over')")
+    tab.run(f"document.querySelector('{ROW.format(switch)}').scrollIntoView({{block: 'center'}})")
+    tab.move(*centre(tab, ROW.format(switch)))
+    yield "a row lights its sign", tab.run(f"document.querySelector('{SIGN.format(switch)}').classList.contains('over')")
+    tab.click(*centre(tab, ROW.format(switch)))
+    yield "a row is chosen", marked(tab, "chosen") == [switch]
+    yield "its link is its id", tab.run(f"decodeURIComponent(location.hash) == '#' + objects['{switch}'].link")
+
+
+def switches(tab: Tab, switch: str) -> Iterator[Check]:
+    text = said(tab)
+    yield "a switch says its legs, the next nodes and sides", all(re.search(it, text) for it in (
+        r"legs in the (east|west); the diverging leg is on the (upper|lower) side", r"trunk (east|west), by .* to .*km",
+        r"straight leg (east|west), by", r"diverging leg (east|west), by"))
+    lit = marked(tab, "related")
+    yield "its legs light up", sum(it.startswith("e") for it in lit) == 3
+
+
+def pieces(tab: Tab) -> Iterator[Check]:
+    edge = tab.run("Object.keys(objects).find(it => it[0] == 'e' && objects[it].facts.filter(f => f[0] == 'signal').length > 0) || 'e0'")
+    tab.run(f"document.querySelector('svg.strip [data-key=\"{edge}\"] .hit').scrollIntoView({{block: 'center'}})")
+    at = tab.run(f"""(() => {{ const it = document.querySelector('svg.strip [data-key="{edge}"] .hit');
+      const p = it.getPointAtLength(it.getTotalLength() * 0.37).matrixTransform(it.getScreenCTM()); return [p.x, p.y + 3] }})()""")
+    tab.click(*at)
+    text = said(tab)
+    yield "a piece is chosen on its line, three points beside it", marked(tab, "chosen") == [edge]
+    yield "a piece says its track, kilometres and length", all(it in text for it in ("id ", "km ", "from ", "to ", "length "))
+    columns = tab.run(f"objects['{edge}'].facts.filter(f => f[0] == 'signal').map(f => known.signals[f[2]][1])")
+    yield "its signals come in their order", columns == sorted(columns) and len(columns) == text.count("signal ")
+
+
+def paths(tab: Tab, expected: Callable[[str, str], object]) -> Iterator[Check]:
+    """the path between each two of some signals is that of another search"""
+    signals = tab.run("Object.keys(known.signals)")
+    some, good, found = signals[:: max(1, len(signals) // 12)][:12], 0, 0
+    for one in some:
+        for other in some:
+            if one == other:
+                continue
+            tab.run(f"letGo(); choose('{one}', true); choose('{other}', true)")
+            wanted = expected(one, other)
+            text = said(tab)
+            if wanted is None:
+                good += text.startswith("No path between")
+                continue
+            found += 1
+            pieces_, positions = wanted
+            lit = marked(tab, "path")
+            seen = re.findall(r"switch (\S+|.+?) (straight|diverging)(?= |$)", text)
+            good += [it for it in lit if it[0] == "e"] == sorted(set(pieces_)) and [it[1] for it in seen] == positions
+    yield f"paths between {len(some)} signals with each switch's position ({found} paths)", good == len(some) * (len(some) - 1) and found > 0
+
+
+def zooming(tab: Tab) -> Iterator[Check]:
+    tab.run("window.scrollTo(0, 0); document.activeElement.blur()")
+    before, letters = scale(tab), measure(tab)
+    at = centre(tab, "svg.strip")
+    tab.move(*at)
+    tab.wheel(*at, -120)
+    tab.run("new Promise(r => setTimeout(r, 80))")
+    yield "control and the wheel bring it nearer", scale(tab) > before * 1.1
+    tab.key("+")
+    tab.run("new Promise(r => setTimeout(r, 50))")
+    near, now = scale(tab), measure(tab)
+    yield "`+` brings it nearer", near > before * 1.5
+    yield "letters and lines keep their width", all(abs(a - b) < 0.6 for a, b in zip(letters, now))
+    box = tab.run("homes.get(strips[0]).box")
+    tab.key("ArrowRight")
+    yield "an arrow moves it", tab.run("homes.get(strips[0]).box[0]") > box[0]
+    box = tab.run("homes.get(strips[0]).box")
+    tab.press(*at, "mousePressed")
+    tab.move(at[0] - 60, at[1], 1)
+    tab.press(at[0] - 60, at[1], "mouseReleased")
+    yield "the pointer drags it", tab.run("homes.get(strips[0]).box[0]") > box[0] + 5
+    tab.key("0")
+    yield "`0` shows the whole", abs(scale(tab) - before) < 1e-6
+
+
+def keyboard(tab: Tab) -> Iterator[Check]:
+    """a row is chosen with the keyboard alone: Tab to the list, arrows and Enter"""
+    tab.run("letGo(); document.activeElement.blur(); window.scrollTo(0, 0)")
+    for _ in range(40):
+        tab.key("Tab")
+        if tab.run("!!document.activeElement.closest('aside.list tr')"):
+            break
+    yield "Tab leads to the list", tab.run("!!document.activeElement.closest('aside.list tr')")
+    at = tab.run("rows.indexOf(document.activeElement)")
+    tab.key("ArrowDown")
+    key = tab.run("document.activeElement.dataset.key")
+    yield "an arrow leads to the next row", key == tab.run(f"rows[{at} + 1].dataset.key")
+    tab.key("Enter")
+    yield "Enter chooses it", marked(tab, "chosen") == [key]
+    unnamed = tab.run("""[...document.querySelectorAll('button, input, a, svg[role=img], aside, section')].filter(it =>
+      !(it.textContent.trim() || it.getAttribute('aria-label') || (it.labels && it.labels.length) || it.title)).length""")
+    yield "everything has an accessible name", unnamed == 0
+
+
+def saving(tab: Tab, sheet: str) -> Iterator[Check]:
+    """the texts that the buttons save, caught before they become files"""
+    tab.run("""window.caught = {}; window.realURL = URL.createObjectURL;
+      URL.createObjectURL = blob => { window.last = blob; return realURL.call(URL, blob) };
+      HTMLAnchorElement.prototype.click = function () { caught[this.download] = last }""")
+    for deed in ("svg", "dxf", "csv", "sheet"):
+        tab.run(f"document.querySelector('[data-do={deed}]').click()")
+    tab.run("new Promise(r => setTimeout(r, 200))")
+    texts = tab.run("(async () => Object.fromEntries(await Promise.all(Object.entries(caught).map(async ([k, v]) => [k.split('.').pop(), await v.text()]))))()")
+    yield "the sheet is saved as it was", texts.get("sheet") == sheet
+    yield "SVG is saved", bool(re.match(r"<svg [^>]*xmlns", texts.get("svg", ""))) and "var(" not in texts["svg"] and "<style>" in texts["svg"]
+    yield "DXF is saved", texts.get("dxf", "").endswith("0\r\nEOF\r\n")
+    yield "CSV is saved", texts.get("csv", "").startswith("km,kind,name,id,")
+
+
+def links(tab: Tab, page: Path, id: str, key: str) -> Iterator[Check]:
+    tab.open(page, "#" + id)
+    yield f"#{id} is a link", marked(tab, "chosen") == [key]
+
+
+def looks(tab: Tab, page: Path) -> Iterator[Check]:
+    """dark and light, and a phone"""
+    colours = []
+    for dark in (False, True):
+        tab.media(dark=dark)
+        tab.open(page)
+        colours.append(tab.run("[getComputedStyle(document.body).backgroundColor, getComputedStyle(document.querySelector('.edge')).stroke]"))
+    yield "it is light, and dark where that is wished", colours[0] == ["rgb(255, 255, 255)", "rgb(0, 0, 0)"] and \
+        sum(map(int, re.findall(r"\d+", colours[1][0])[:3])) < 150 < sum(map(int, re.findall(r"\d+", colours[1][1])[:3]))
+    tab.media()
+    tab.size(390, 800, True)
+    tab.open(page)
+    yield "nothing is wider than a phone", tab.run("document.documentElement.scrollWidth") <= 390
+    yield "what is wide can be scrolled", tab.run("""[...document.querySelectorAll('.canvas')].every(it => it.scrollWidth <= it.clientWidth
+      || getComputedStyle(it).overflowX == 'auto')""")
+    tab.size(1600, 1000)
+
+
+# ---- other pages
+
+
+def laws(tab: Tab) -> Iterator[Check]:
+    count = tab.run("document.querySelectorAll('.law').length")
+    good = 0
+    for number in range(count):
+        at = tab.run(f"""(() => {{ const it = document.querySelectorAll('.law')[{number}]; it.scrollIntoView({{block: 'center'}});
+          const box = it.getClientRects()[0]; return [box.left + 20, (box.top + box.bottom) / 2] }})()""")
+        tab.move(*at)
+        wanted = tab.run(f"document.querySelectorAll('.law')[{number}].dataset.parties.split(' ')")
+        good += marked(tab, "lit") == sorted(wanted)
+    yield f"each law lights its parties ({count})", good == count > 0
+
+
+def points(tab: Tab) -> Iterator[Check]:
+    count = tab.run("document.querySelectorAll('svg.plot a').length")
+    good = 0
+    for number in range(count):
+        tab.run("window.scrollTo(0, 0)")
+        at = tab.run(f"""(() => {{ const it = document.querySelectorAll('svg.plot a')[{number}].querySelector('circle').getBoundingClientRect();
+          return [(it.left + it.right) / 2, (it.top + it.bottom) / 2] }})()""")
+        tab.click(*at)
+        tab.run("new Promise(r => setTimeout(r, 60))")
+        shown = tab.run("[...document.querySelectorAll('figure.choice')].filter(it => it.getClientRects().length).map(it => '#' + it.id)")
+        good += shown == [tab.run(f"document.querySelectorAll('svg.plot a')[{number}].getAttribute('href')")]
+    yield f"each point opens its drawing ({count})", good == count > 0
+
+
+def versions(tab: Tab) -> Iterator[Check]:
+    yield "two drawings lie side by side", tab.run("""(() => { const [a, b] = [...document.querySelectorAll('figure.version')].map(it => it.getBoundingClientRect());
+      return !!b && a.right <= b.left + 1 })()""")
+    first = tab.run("document.querySelector('.changes li').dataset.key")
+    tab.move(*centre(tab, ".changes li"))
+    yield "a change lights what it is about", marked(tab, "over") == [first]
+    tab.run("document.querySelector('.changes input').click()")
+    yield "a change is ticked off", tab.run("document.querySelector('.changes input').checked")
+
+
+def lines_of_fault(tab: Tab) -> Iterator[Check]:
+    hrefs = tab.run("[...document.querySelectorAll('.lead a')].map(it => it.getAttribute('href'))")
+    yield f"a fault links the lines that are meant ({len(hrefs)})", len(hrefs) == 2 and all(
+        tab.run(f"!!document.getElementById({json.dumps(it[1:])})") for it in hrefs)
+
+
+def expected_paths(text: str, graph: str) -> Callable[[str, str], object]:
+    """another search for paths, from the program's own texts: of the pieces and the positions of switches"""
+    nodes, edges, above, signals = {}, {}, set(), {}
+    for line in graph.split("\n"):
+        fields = line.split(" ")
+        if fields[0] == "node":
+            nodes[int(fields[1])] = fields[3:-1]
+        elif fields[0] == "edge":
+            edges[int(fields[1])] = (int(fields[3]), int(fields[4]))
+        elif fields[0] == "above":
+            above.add((int(fields[1]), int(fields[2])))
+    for line in text.split("\n"):
+        fields = line.split(" ")
+        if fields[0] == "signal":
+            signals[f"s{fields[1]}"] = (int(fields[3]), int(fields[4]))
+
+    def onward(edge: int, east: bool) -> list[tuple[int, str]]:
+        node = edges[edge][1 if east else 0]
+        out = [it for it, (west, far) in edges.items() if (west if east else far) == node]
+        into = [it for it, (west, far) in edges.items() if (far if east else west) == node]
+        kind = nodes[node]
+        if kind[0] == "switch":
+            legs = out if len(out) == 2 else into
+            upper = legs[0] if (legs[0], legs[1]) in above else legs[1]
+            turn = {it: "diverging" if (it == upper) == (kind[2] == "upper") else "straight" for it in legs}
+            return [(it, turn[it]) for it in out] if len(out) == 2 else [(it, turn[edge]) for it in out]
+        if kind[0] == "crossing":
+            high, far_high = (into[0] if (into[0], into[1]) in above else into[1]), (out[0] if (out[0], out[1]) in above else out[1])
+            return [(it, "") for it in out if (edge == high) != (it == far_high)]
+        return [(it, "") for it in out] if kind[0] == "joint" else []
+
+    def search_(one: str, other: str, east: bool) -> object:
+        (start, column), (goal, there) = signals[one], signals[other]
+        if start == goal and (there > column if east else there < column):
+            return [f"e{start}"], []
+        seen, waiting = {start}, [(start, [f"e{start}"], [])]
+        for edge, pieces_, positions in waiting:
+            for further, position in onward(edge, east):
+                if further in seen:
+                    continue
+                found = [*pieces_, f"e{further}"], positions + ([position] if position else [])
+                if further == goal:
+                    return found
+                seen.add(further)
+                waiting.append((further, *found))
+        return None
+
+    def expected(one: str, other: str, ways: dict[str, object] = {}) -> object:
+        for first, second in ((one, other), (other, one)):
+            for east in ([True, False] if ways.get(first) is None else [ways[first]]):
+                found = search_(first, second, east)
+                if found:
+                    return found
+        return None
+    expected.__defaults__[0].update({})
+    return expected
+
+
+def drive(browser: Browser, kind: str, page: Path, output: str, graph: str) -> list[Check]:
+    """all checks of a page of a kind"""
+    tab = Tab(browser)
+    try:
+        tab.open(page)
+        found: list[Check] = []
+        if kind in ("draw", "signals"):
+            switch = tab.run("Object.keys(objects).find(it => objects[it].kind == 'switch')")
+            for check in (search(tab), both_ways(tab, switch), switches(tab, switch), pieces(tab), zooming(tab), keyboard(tab),
+                          saving(tab, output[:output.index("\nend ")] + "\n" + output[output.index("\nend ") + 1:].split("\n")[0] + "\n")):
+                found += list(check)
+            if kind == "signals":
+                expected = expected_paths(output, graph)
+                ways = tab.run("Object.fromEntries(Object.entries(known.signals).map(([k, v]) => [k, v[2]]))")
+                found += list(paths(tab, lambda one, other: expected(one, other, ways)))
+            found += list(links(tab, page, tab.run(f"objects['{switch}'].link"), switch))
+            found += list(looks(tab, page))
+        else:
+            found += list({"explain": laws, "verify": laws, "front": points, "redraw": versions, "fault": lines_of_fault}[kind](tab))
+        found.append(("no request leaves the page", tab.requests() == []))
+        found.append(("no script failed", tab.alarms() == []))
+        return found
+    finally:
+        tab.close()

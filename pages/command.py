@@ -1,0 +1,313 @@
+"""A run from the words of `--html` to its page: inputs are read once, the program gets copies, the page is written whole."""
+from __future__ import annotations
+
+import contextlib
+import json
+import os
+import shutil
+import signal
+import subprocess
+import sys
+import tempfile
+import time
+from dataclasses import dataclass, field
+from pathlib import Path
+from types import FrameType
+from typing import Iterator, Optional
+
+from pages import kinds, texts
+from pages.columns import PAPERS
+from pages.facts import Build
+from pages.files import Input, Output, Refused, hashed, is_one_file, read_once
+from pages.kinds import ANSWERED, INPUTS, Page, Run, Settings
+from pages.texts import Graph, NoPage
+from pages.whole import page_text
+from tool import words as table
+
+USE = "a page is asked for by --html FILE and the words of draw, signals, front, explain, redraw or verify"
+CHOICES = {"--paper": tuple(PAPERS), "--labels": ("name", "id"), "--side": ("right", "left")}
+FILES = {"--html": b"<!DOCTYPE html>", "--dxf": b"0\r\nSECTION", "--csv": b"km,kind,name,id"}
+
+
+class Stopped(Exception):
+    """the run was interrupted"""
+
+
+@dataclass
+class Asked:
+    """what is asked for: the files to be written, by their word, how pictures are drawn, and the program's words"""
+    files: dict[str, str] = field(default_factory=dict)
+    settings: Settings = field(default_factory=Settings)
+    front: list[str] = field(default_factory=list)
+    words: list[str] = field(default_factory=list)
+    is_unproved: bool = False
+
+
+def say(text: str) -> None:
+    with contextlib.suppress(OSError, ValueError, AttributeError):
+        print(f"railplan: {text}", file=sys.stderr, flush=True)
+
+
+# ---- the words
+
+
+def asked_of(given: list[str]) -> Asked:
+    """takes the words apart: a page's name where the first is no option, options of pages, and the program's words"""
+    found, left = Asked(), list(given)
+    if left and left[0] not in (*FILES, *CHOICES):
+        found.files["--html"] = left.pop(0)
+    while left and (left[0] in FILES or left[0] in CHOICES or left[0] == "--unproved"):
+        word = left.pop(0)
+        if word == "--unproved":
+            found.is_unproved = True
+            continue
+        if not left:
+            raise Refused(f"a value lacks behind {word}")
+        value = left.pop(0)
+        found.front += [word, value]
+        if word in FILES:
+            found.files[word] = value
+        elif value not in CHOICES[word]:
+            raise Refused(f"{word} {value}: it is one of {', '.join(CHOICES[word])}")
+        else:
+            setattr(found.settings, word[2:], value)
+    found.words = left
+    if not found.files or not all(found.files.values()) or left[:1] == [] or left[0] not in kinds.PAGES:
+        raise Refused(USE)
+    return found
+
+
+def refuse_one_file(asked: Asked, names: list[str]) -> None:
+    """no file that pages write is another file of the run, by any spelling or link, nor where standard output goes"""
+    written = list(asked.files.values())
+    for number, name in enumerate(written):
+        if any(is_one_file(name, other) for other in [*names, *written[:number]]):
+            raise Refused("the page has the name of another file of the run" if name == asked.files.get("--html")
+                          else f"{name} is the name of another file of the run")
+        with contextlib.suppress(OSError, ValueError):
+            if os.path.samestat(os.stat(name), os.fstat(1)) and os.path.isfile(name):
+                raise Refused(f"standard output goes to {name}, which is to be written; give it another name")
+
+
+# ---- running the program
+
+
+class Program:
+    """the launcher, which is started with copies of the inputs in the place of their names; its environment has the names"""
+
+    def __init__(self, launcher: str, asked: Asked, inputs: list[Input]) -> None:
+        self.command = [sys.executable, launcher] + (["--unproved"] if asked.is_unproved else [])
+        names = {it.copy: it.facts.name for it in inputs if it.copy}
+        self.environment = {**os.environ, "RAILPLAN_NAMES": json.dumps(names)}
+        self.job: Optional[subprocess.Popen[bytes]] = None
+
+    def run(self, words: list[str], is_quiet: bool = False) -> tuple[int, bytes]:
+        """the status and the output of a run"""
+        self.job = subprocess.Popen([*self.command, *words], stdout=subprocess.PIPE, env=self.environment,
+                                    stderr=subprocess.DEVNULL if is_quiet else None)
+        try:
+            output = self.job.communicate()[0]
+        except BaseException:
+            self.stop()
+            raise
+        return (self.job.returncode if self.job.returncode >= 0 else 128 - self.job.returncode), output
+
+    def stop(self) -> None:
+        """ends a run, and waits until it has ended"""
+        if not self.job:
+            return
+        self.job.terminate()
+        try:
+            self.job.wait(10)
+        except subprocess.TimeoutExpired:
+            self.job.kill()
+            self.job.wait()
+
+    def graph(self, input_: Input) -> Optional[Graph]:
+        """the track graph of a file that was read, or nothing"""
+        status, output = self.run(["graph", input_.copy], is_quiet=True) if input_.copy else (1, b"")
+        try:
+            return texts.read_graph(output.decode("utf-8", "replace")) if status == 0 else None
+        except (NoPage, ValueError):
+            return None
+
+
+@contextlib.contextmanager
+def stoppable() -> Iterator[None]:
+    """an interrupt, a request to end and a closed terminal end the run, with everything taken away"""
+    def stop(number: int, frame: Optional[FrameType]) -> None:
+        for other in (signal.SIGINT, signal.SIGTERM, signal.SIGHUP):
+            signal.signal(other, signal.SIG_IGN)
+        raise Stopped
+
+    for number in (signal.SIGINT, signal.SIGTERM, signal.SIGHUP):
+        signal.signal(number, stop)
+    yield
+
+
+def open_ends() -> bool:
+    """opens what of the three streams is closed, so that no file gets its number; says whether the output was open"""
+    was_open = True
+    for number in (0, 1, 2):
+        try:
+            os.fstat(number)
+        except OSError:
+            was_open = was_open and number != 1
+            os.open(os.devnull, os.O_RDWR)
+    return was_open
+
+
+def give(output: bytes) -> None:
+    """writes what the run gave to standard output"""
+    left = memoryview(output)
+    while left:
+        left = left[os.write(1, left):]
+
+
+# ---- from words to the page
+
+
+def read_inputs(line: table.Line, folder: Path) -> tuple[list[Input], list[str]]:
+    """the inputs of a run, and its words with their copies; words that have a fault are left as they are"""
+    words = list(line.words)
+    read, written = ([it.word for it in files] for files in (line.files_read, line.files_written))
+    is_one = any(is_one_file(one, other) for at, one in enumerate(written) for other in read + written[:at])
+    if table.fault(words) or is_one:
+        return [], words
+    inputs: list[Input] = []
+    for number, at in enumerate(line.places[:INPUTS[line.command]]):
+        same = next((it for it in inputs if it.facts.name == words[at]), None)
+        found = same or read_once(words[at], folder, number)
+        inputs.append(found)
+        words[at] = found.copy or words[at]
+    return inputs, words
+
+
+def front_drawings(run: Run, program: Program) -> dict[tuple[int, int], tuple[list[str], str]]:
+    """for each pair of a front the words of a run that draws it, and its sheet, where one is had so"""
+    front, found = texts.read_front(run.output), {}
+    for number, pair in enumerate(front.pairs):
+        options = pair_options(front, number, run.options)
+        if options is None:
+            continue
+        status, output = program.run(["draw", run.inputs[0].copy, *options], is_quiet=True)
+        text = output.decode("utf-8", "replace")
+        with contextlib.suppress(NoPage, ValueError):
+            sheet = texts.read_sheet(text) if status in (0, 4) else None
+            if sheet and sheet.drawing and tuple(sheet.values[it] for it in front.criteria) == pair:
+                found[pair] = (["draw", run.file, *options], text)
+    return found
+
+
+def pair_options(front: texts.Front, number: int, options: dict[str, str]) -> Optional[list[str]]:
+    """the options with which draw gives the drawing of a pair; none where it gives none of that pair"""
+    (one, other), pair = front.criteria, front.pairs[number]
+    given = dict(options)
+    if one in ("height", "width"):
+        given["--" + one], given["--order"] = str(pair[0]), other
+    elif other in ("height", "width"):
+        given["--" + other], given["--order"] = str(pair[1]), one
+    elif number == 0:
+        given["--order"] = f"{one},{other}"
+    elif number == len(front.pairs) - 1 and front.ending == "whole":
+        given["--order"] = f"{other},{one}"
+    else:
+        return None
+    return [word for pair_ in given.items() for word in pair_]
+
+
+def complete(run: Run, program: Program, line: table.Line) -> None:
+    """what a page needs beside the output: graphs, the drawings of a front, and the log's hash"""
+    if run.status in ANSWERED:
+        run.graphs = [program.graph(it) for it in run.inputs[:2 if run.command == "redraw" else 1]]
+        if run.command == "front":
+            run.drawings = front_drawings(run, program)
+    if line.options.get("--log") and run.status in ANSWERED:
+        run.log = hashed(line.options["--log"])
+
+
+def write(run: Run, outputs: dict[str, Output]) -> None:
+    """makes the page, and writes each file that is asked for"""
+    page = kinds.make(run)
+    made = {"--html": lambda: page_text(page, run.settings.paper), "--dxf": lambda: kinds.dxf_of(page),
+            "--csv": lambda: page.objects.csv() if page.objects else ""}
+    for word, output in outputs.items():
+        text = made[word]()
+        if text:
+            output.write(text)
+        else:
+            say(f"there is no drawing, so {output.name} isn't written")
+
+
+def date_of() -> float:
+    """the time of the run, or the one that the environment sets for builds that are to be the same again"""
+    given = os.environ.get("SOURCE_DATE_EPOCH", "")
+    return float(given) if given.isdecimal() else time.time()
+
+
+def run_asked(launcher: str, asked: Asked, folder: Path, outputs: dict[str, Output], is_open: bool) -> int:
+    line = table.read(asked.words)
+    inputs, words = read_inputs(line, folder)
+    program = Program(launcher, asked, inputs)
+    status, output = program.run(words)
+    if status > 128:
+        return status
+    ended = give_all(output, is_open)
+    run = Run(asked.words, line.names, line.options, output.decode("utf-8", "replace"), status, inputs, log=None,
+              settings=asked.settings, build=Build.of(os.environ, asked.is_unproved), date=date_of(),
+              page=asked.files.get("--html", ""), front_words=shown_front(asked), copied=words)
+    complete(run, program, line)
+    try:
+        write(run, outputs)
+    except Refused as why:
+        say(str(why))
+        return why.status
+    except NoPage as why:
+        say(f"there is no page of this run: {why}")
+        return 6
+    return ended or status
+
+
+def shown_front(asked: Asked) -> list[str]:
+    """the words before the command, but the page's own name"""
+    pairs = zip(asked.front[::2], asked.front[1::2])
+    return [it for word, value in pairs if word != "--html" for it in (word, value)] + ["--unproved"] * asked.is_unproved
+
+
+def give_all(output: bytes, is_open: bool) -> int:
+    """gives the output; 6 where it can't be written"""
+    try:
+        if not is_open and output:
+            raise OSError(9, "Bad file descriptor")
+        give(output)
+    except OSError as error:
+        say(f"couldn't write: {error.strerror}")
+        return 6
+    return 0
+
+
+def start(given: list[str]) -> int:
+    """the whole: the status of the run, or of what couldn't be done for its page"""
+    is_open = open_ends()
+    folder, outputs = "", {}
+    try:
+        with stoppable():
+            asked = asked_of(given[1:])
+            line = table.read(asked.words)
+            refuse_one_file(asked, [it.word for it in line.files_read + line.files_written])
+            for word, name in asked.files.items():
+                outputs[word] = Output(name, FILES[word])
+            folder = tempfile.mkdtemp(prefix="railplan-")
+            return run_asked(given[0], asked, Path(folder), outputs, is_open)
+    except Refused as why:
+        say(str(why))
+        return why.status
+    except Stopped:
+        return 130
+    except OSError as error:
+        say(f"couldn't make the page: {error.strerror or error}")
+        return 6
+    finally:
+        for output in outputs.values():
+            output.drop()
+        shutil.rmtree(folder, ignore_errors=True) if folder else None
