@@ -25,8 +25,8 @@ def names_that_fail():
     known = set(re.findall(r"[A-Za-z_]\w*", " ".join(map(read, [TOP / "crates.txt", TOP / "railplan",
                                                                      *TOP.glob("tool/*.py")]))))
     folders = [path for part in ("src", "specs", "proofs") for path in TOP.glob(f"crates/*/{part}")]
-    beside = [path for pattern in ("*", "bench/*", "bench/*/*", "cases/*", "cases/*/*", "docs/*", "docs/checking/*", "pages/*",
-                                   "tool/*") for path in TOP.glob(pattern)]
+    beside = [path for pattern in ("*", "bench/*", "bench/*/*", "cases/*", "cases/*/*", "docs/*", "docs/checking/*", "pages/*", "pages/*/*",
+                                   "tool/*", "tool/*/*") for path in TOP.glob(pattern)]
     for path in [path for folder in folders for path in folder.rglob("*")] + beside:
         known.update(re.findall(r"[A-Za-z_]\w*", str(show(path))))
         if path.suffix in (".rt", ".antt") and "proofs" not in path.parts:
