@@ -98,7 +98,7 @@ class Output:
             raise Refused(f"{self.name} is no plain file, and isn't replaced; name another file")
         with open(self.name, "rb") as file:
             first = file.read(len(begins))
-        if first and first != begins:
+        if first and first.lower() != begins.lower():
             raise Refused(f"{self.name} is there and is something else, so it isn't written over; delete it, or name another file")
         if not os.access(self.name, os.W_OK):
             raise PermissionError(13, "Permission denied")
