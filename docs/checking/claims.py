@@ -1,6 +1,7 @@
 """What the documents name: whether it is there, is claimed, and is told."""
 import re
 
+from checking import rooms
 from checking.crates import (DOCUMENTS, TOP, calls_handed_out, crates, of_the_program, read, show, spans,
                              words_behind, words_of_public_contracts)
 
@@ -106,15 +107,19 @@ def claims_without_citation():
     return found
 
 
+def of_the_commands():
+    return next(found for name, _, found in rooms.rooms() if name == "commands")
+
+
 def calls_untold():
-    """Calls that crates hand out and no document names, and laws, by the name of their file, that aren't claimed."""
+    """Calls that crates hand out and no document names, and laws of whole runs, by the name of their file, that aren't claimed."""
     named = {path: set(re.findall(r"\w+", " ".join(spans(read(path))))) for path in DOCUMENTS}
     anywhere, claimed = set().union(*named.values()), named[TOP / "docs" / "proved.md"]
     calls = [(crate, path, name) for crate in crates() for path, name in calls_handed_out(crate)]
     return [f"docs: no document names {name}, which {crate} hands out"
             for crate, _, name in calls if name not in anywhere] + [
             f"docs/proved.md: no claim names the law {name} of {crate}"
-            for crate, path, name in calls if path.stem.endswith("laws") and name not in claimed]
+            for crate, path, name in calls if crate in of_the_commands() and path.stem.endswith("laws") and name not in claimed]
 
 
 # ---- numbers and lines

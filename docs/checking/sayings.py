@@ -59,15 +59,6 @@ NUMBERS = [
     ("plan_core", "MAX_FILE_BYTES", 1, "docs/proved.md", r"read no more than # bytes of an input"),
     ("plan_core", "MAX_LOG_BYTES", 1, "docs/proved.md", r"of a log no more than\s+#\."),
     ("plan_core", "MAX_LOG_BYTES", 0, "docs/proved.md", r"that text has at most # bytes"),
-    ("plan_core", "MAX_WIDTH", 0, "docs/proved.md", r"where width isn't 1 to # or height"),
-    ("plan_core", "MAX_HEIGHT", 0, "docs/proved.md", r"height isn't 0 to #,"),
-    ("plan_core", "MAX_LEAST", 0, "docs/proved.md", r"least length isn't 1 to #\."),
-    ("plan_core", "MAX_TRACKS", 0, "docs/proved.md", r"answered has at most # tracks"),
-    ("plan_core", "MAX_NODES", 0, "docs/proved.md", r"SideMismatch; # nodes"),
-    ("plan_core", "MAX_EDGES", 0, "docs/proved.md", r"and # edges are within the limits"),
-    ("plan_core", "MAX_NODES", 0, "docs/proved.md", r"is a track graph of at most # nodes"),
-    ("plan_objects", "MAX_SIGNALS", 0, "docs/proved.md", r"a file has at most # signals"),
-    ("plan_objects", "SIGNALS_OF_AN_EDGE", 0, "docs/proved.md", r"signals, and an edge #\."),
 ]
 
 GEOMETRY = "plan_core/specs/Laws.antt"
