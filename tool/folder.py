@@ -146,7 +146,7 @@ def draw_all(listed: dict[str, Path], setting: Setting, count: int) -> list[Reco
             pool.shutdown(wait=True, cancel_futures=True)
             shown.clear()
             count_done = len(found) + sum(it.done() and not it.cancelled() and not it.exception() for it in left)
-            say(f"stopped; {count_done} of {len(listed)} stations are done. The same line goes on from there")
+            say(f"stopped; of {folder_index.stations(len(listed))} {count_done} {'is' if count_done == 1 else 'are'} done. The same line goes on from there")
             raise Ended(130) from None
         except OSError as error:
             running.stop()
@@ -199,10 +199,10 @@ def run(clone: built.Clone, given: list[str]) -> int:
         found = draw_all(mine, setting_of(clone, asked), asked.j)
     is_part = asked.shard[1] > 1
     if is_part and not asked.join:
-        say(f"{len(found)} stations: {folder_index.counts(found)}, in {time.monotonic() - began:.0f} s. "
+        say(f"{folder_index.stations(len(found))}: {folder_index.counts(found)}, in {time.monotonic() - began:.0f} s. "
             f"{called()} folder --join {asked.IN} {asked.OUT} makes the page of all parts")
         return folder_index.worst(found)
     records = join(out, all_)
     write_index(out, f"Stations of {Path(asked.IN).name or asked.IN}", records)
-    say(f"{len(records)} stations: {folder_index.counts(records)}, in {time.monotonic() - began:.0f} s. Open {out / 'index.html'}")
+    say(f"{folder_index.stations(len(records))}: {folder_index.counts(records)}, in {time.monotonic() - began:.0f} s. Open {out / 'index.html'}")
     return folder_index.worst(records)

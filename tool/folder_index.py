@@ -30,6 +30,10 @@ def worst(records: list[Record]) -> int:
     return max((it.status for it in records), key=rank, default=0)
 
 
+def stations(count: int) -> str:
+    return f"{count} station" if count == 1 else f"{count} stations"
+
+
 def called(record: Record) -> str:
     if record.status == 4 and not record.end:
         return "not drawn yet"
@@ -91,4 +95,4 @@ def text(title: str, records: list[Record]) -> str:
                     Element("tbody", *(row(it) for it in in_order(records))))
     certified = sum(isinstance(badge(it), Element) for it in records)
     said = f"{counts(records)}." + (f" {certified} with a certificate that was checked again." if certified else "")
-    return document(title, RULES, Element("h1", f"{len(records)} stations"), Element("p", said), table)
+    return document(title, RULES, Element("h1", stations(len(records))), Element("p", said), table)

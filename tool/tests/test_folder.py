@@ -148,7 +148,7 @@ class Folders(InClone):
         job.send_signal(signal.SIGINT)
         err = job.communicate(timeout=20)[1]
         self.assertEqual(job.returncode, 130)
-        self.assertIn("1 of 2 stations are done", err)
+        self.assertIn("of 2 stations 1 is done", err)
         self.drawn()
         self.stations("slow2")
         (self.top / "in/slow.xml").rename(self.top / "in/quick.xml")
