@@ -106,7 +106,8 @@ def build(clone: built.Clone, reason: str) -> built.Built:
         found = built.find(clone)
         if found.is_fresh:
             return found
-        say((f"{reason}. Building it anew" if reason else "proving and building the program") + ": some tens of minutes the first time")
+        doing = f"{reason}. Building it anew" if reason else "proving and building the program"
+        say(f"{doing}: some tens of minutes the first time")
         with contextlib.suppress(OSError):
             os.unlink(clone.built_list)
         states = built.look(clone)

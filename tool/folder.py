@@ -122,7 +122,8 @@ class Shown:
     def show(self) -> None:
         if is_terminal():
             faults = f" · {self.faults} refused" if self.faults else ""
-            write_error(f"\r{bar(self.done, self.total)} {self.done} of {self.total} stations{faults} · {self.seconds():.0f} s\033[K")
+            write_error(f"\r{bar(self.done, self.total)} {self.done} of {self.total} stations{faults} · {self.seconds():.0f} "
+                        f"s\033[K")
 
     def clear(self) -> None:
         if is_terminal():
@@ -146,7 +147,8 @@ def draw_all(listed: dict[str, Path], setting: Setting, count: int) -> list[Reco
             pool.shutdown(wait=True, cancel_futures=True)
             shown.clear()
             count_done = len(found) + sum(it.done() and not it.cancelled() and not it.exception() for it in left)
-            say(f"stopped; of {folder_index.stations(len(listed))} {count_done} {'is' if count_done == 1 else 'are'} done. The same line goes on from there")
+            say(f"stopped; of {folder_index.stations(len(listed))} {count_done} {'is' if count_done == 1 else 'are'} done. The "
+                f"same line goes on from there")
             raise Ended(130) from None
         except OSError as error:
             running.stop()
@@ -204,5 +206,6 @@ def run(clone: built.Clone, given: list[str]) -> int:
         return folder_index.worst(found)
     records = join(out, all_)
     write_index(out, f"Stations of {Path(asked.IN).name or asked.IN}", records)
-    say(f"{folder_index.stations(len(records))}: {folder_index.counts(records)}, in {time.monotonic() - began:.0f} s. Open {out / 'index.html'}")
+    say(f"{folder_index.stations(len(records))}: {folder_index.counts(records)}, in {time.monotonic() - began:.0f} s. Open "
+        f"{out / 'index.html'}")
     return folder_index.worst(records)

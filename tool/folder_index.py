@@ -61,7 +61,8 @@ def badge(record: Record) -> Element | str:
         return "claims nothing"
     else:
         said = f"certified: {count} of {len(record.order)}"
-    return Element("a", said, href=f"{record.name}.hints", class_="badge", title="what is left of the search's log was checked again")
+    return Element("a", said, href=f"{record.name}.hints", class_="badge",
+                   title="what is left of the search's log was checked again")
 
 
 def shown(record: Record) -> list[Element]:

@@ -156,8 +156,9 @@ class Drawing:
         for grid in grids(self.setting, chain):
             given = self.words_on(grid)
             more = ["--svg", str(self.path("picture"))] + ["--log", str(self.path("log"))] * self.setting.certifies
-            command = [sys.executable, "-S", f"{self.setting.top}/pages/run.py", f"{self.setting.top}/tool/bare.py", str(self.path("page"))]
-            ran, output = self.jobs.run([*command, *given], RAILPLAN_PROGRAM=self.setting.program, RAILPLAN_MORE="\n".join(more),
+            top = self.setting.top
+            command = [sys.executable, "-S", f"{top}/pages/run.py", f"{top}/tool/bare.py", str(self.path("page")), *given]
+            ran, output = self.jobs.run(command, RAILPLAN_PROGRAM=self.setting.program, RAILPLAN_MORE="\n".join(more),
                                         RAILPLAN_BUILD=self.setting.build)
             if ran != 3:
                 break

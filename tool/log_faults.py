@@ -16,7 +16,8 @@ LOG = {
 HINTS = {
     "Header": "hinted lines begin with the line railplan-hints 1",
     "Form": f"this is no hinted line, or it isn't whole. {ENDING}",
-    "Number": "a number in this line isn't written as digits alone, or is out of range: variables and clauses are 1 to 1073741823, "
+    "Number": "a number in this line isn't written as digits alone, or is out of range: variables and clauses are 1 to "
+              "1073741823, "
               "caps at most 65535",
     "Twice": "one variable comes twice among the literals of this line",
     "Range": "a cap is greater than its criterion can be, or the sheet's order doesn't have this criterion",
@@ -24,7 +25,8 @@ HINTS = {
 
 # refusals of check, trim and recheck; the log may be whole and yet be of another station
 REFUSALS = {
-    "Room": "there is no room for this line: the log needs more clauses than are kept. A search on a smaller grid has a shorter log",
+    "Room": "there is no room for this line: the log needs more clauses than are kept. A search on a smaller grid has a shorter "
+            "log",
     "Differs": "this line isn't the one that this file and sheet call for. Is the log of another file, sheet or grid?",
     "NewVar": "this line names a variable that no formula line before it has",
     "WrongQuery": "this line doesn't answer the question before it",
@@ -58,10 +60,12 @@ def refused(name: str, refusal: str, number: int) -> list[Note]:
 def lacks(name: str, place: int, order: list[str], claims_none: bool) -> list[Note]:
     """lines that are all right and don't show what the sheet claims"""
     if place == 0 or claims_none:
-        return [Note(f"{name}: its lines are all right, but don't show that no drawing is lawful, as the sheet claims. Did the search "
+        return [Note(f"{name}: its lines are all right, but don't show that no drawing is lawful, as the sheet claims. Did the "
+                     f"search "
                      "end?")]
     criterion = order[place - 1] if place <= len(order) else f"criterion {place}"
-    return [Note(f"{name}: its lines are all right, but don't show that the sheet's {criterion} is the least, as the sheet claims. "
+    return [Note(f"{name}: its lines are all right, but don't show that the sheet's {criterion} is the least, as the sheet "
+                 f"claims. "
                  "Is the log that of this sheet, and did its search end?")]
 
 

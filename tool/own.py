@@ -31,7 +31,8 @@ def version(clone: built.Clone) -> int:
     found = built.find(clone)
     lines = [f"railplan {VERSION}"]
     if found.is_proved:
-        lines += [f"program: proved and built from these sources{f' with {found.kit}' if found.kit else ''}", f"SHA-256: {found.sha256}"]
+        by = f" with {found.kit}" if found.kit else ""
+        lines += [f"program: proved and built from these sources{by}", f"SHA-256: {found.sha256}"]
     elif not os.access(clone.program, os.X_OK):
         lines += ["program: not built yet; the first run proves and builds it"]
     else:

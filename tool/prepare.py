@@ -99,9 +99,8 @@ def mend_prefix(it: Prepared) -> None:
         return
     elements = railml.read(it.data).elements
     if len(found) > 1 or any("xmlns" in e.attributes for e in elements):
-        raise Guess(f"elements have the prefixes {', '.join(found)} and there is another namespace without a prefix, so it isn't "
-                    "clear which elements are meant" if len(found) == 1 else f"elements have the prefixes {', '.join(found)}, so it "
-                    "isn't clear which are meant")
+        others = " and there is another namespace without a prefix" if len(found) == 1 else ""
+        raise Guess(f"elements have the prefix {', '.join(found)}{others}, so it isn't clear which elements are meant")
     prefix, space = next(iter(found.items()))
     front = re.escape(prefix.encode())
     edits = [(m.start(1), m.end(1), b"") for e in elements if e.name.startswith(prefix + ":")
@@ -112,7 +111,8 @@ def mend_prefix(it: Prepared) -> None:
     if space and name:
         edits.append((place + len(name[0]), place + len(name[0]), b' xmlns="' + space.encode() + b'"'))
     it.replace(edits)
-    it.changes.append(f"the prefix {prefix}: is taken off {len([e for e in elements if e.name.startswith(prefix + ':')])} elements")
+    count = sum(e.name.startswith(prefix + ":") for e in elements)
+    it.changes.append(f"the prefix {prefix}: is taken off {count} elements")
 
 
 # ---- numbers
@@ -150,7 +150,8 @@ def mend_numbers(it: Prepared) -> None:
                 continue
             written = as_read(given)
             if not written:
-                it.guesses.append(f"{it.at(place)}: {name}=\"{given}\" of {railml.what(element)} is no number of metres that is clear")
+                it.guesses.append(f"{it.at(place)}: {name}=\"{given}\" of {railml.what(element)} is no number of metres that is "
+                                  f"clear")
                 continue
             edits.append((place + found.start(2), place + found.end(2), written.encode()))
             it.changes.append(f"{it.at(place)}: {name}=\"{given}\" of {railml.what(element)} is written as {written}")

@@ -46,9 +46,11 @@ def unknown_command(given: list[str], at: int, called: str) -> str:
             return f"the command comes first: {typed(called, [*rest, *given[:given.index(command)]])}"
         meant = near(word, [*words.PAGE_WORDS, "--unproved", "--help", "--version"])
         return f"{quoted(word)} is no command, and no word that is known before one" + \
-            (f". Did you mean `{meant}`?" if meant else f": {called} draw FILE {word} .." if known else f": {called} help says all")
+            (f". Did you mean `{meant}`?" if meant else
+             f": {called} draw FILE {word} .." if known else f": {called} help says all")
     if os.path.isdir(word):
-        return f"{quoted(word)} is a folder, and a command is missing: {typed(called, ['folder', word])} OUT draws each station in it"
+        return f"{quoted(word)} is a folder, and a command is missing: {typed(called, ['folder', word])} OUT draws each station " \
+            f"in it"
     if word and os.path.exists(word):
         return f"{quoted(word)} is a file, and a command is missing before it: {typed(called, ['draw', *given])}"
     meant = near(word, [*words.COMMANDS, *words.OWN])

@@ -18,8 +18,8 @@ RAILPLAN_BUILD, which is `proved SHA256` or `unproved SHA256` of the program. Be
 holds that program.
 
 The records are plain classes: this module is read before each start of the program, and dataclasses alone would take longer
-to import than all else. Nothing here judges what the program judges. `fault` is for the time before a program is there, and a test holds it to the
-program's own answers.
+to import than all else. Nothing here judges what the program judges. `fault` is for the time before a program is there, and a
+test holds it to the program's own answers.
 """
 from __future__ import annotations
 
@@ -39,7 +39,8 @@ class Option:
     """An option: how help writes its value, what it is, and what it takes: a number (low, high, usual), an order, a file of a
     kind that the run writes, a word, or nothing."""
 
-    def __init__(self, word: str, value: str, what: str, takes: str, low: int = 0, high: int = 0, usual: str = "", kind: str = ""):
+    def __init__(self, word: str, value: str, what: str, takes: str, low: int = 0, high: int = 0, usual: str = "",
+                 kind: str = ""):
         self.word, self.value, self.what, self.takes = word, value, what, takes
         self.low, self.high, self.usual, self.kind = low, high, usual, kind
 

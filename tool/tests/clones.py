@@ -32,8 +32,8 @@ class InClone(unittest.TestCase):
         shutil.copytree(TOP / "pages", self.top / "pages", ignore=shutil.ignore_patterns("samples", "__pycache__"))
         shutil.copy(TOP / "railplan", self.top / "railplan")
         (self.top / "crates.txt").write_text("low:\nrailplan_main: low\nother: low\n")
-        for name in ("crates/low/src/lib.rt", "crates/low/specs/A.antt", "crates/railplan_main/src/main.rt", "crates/other/src/lib.rt",
-                     "crates/low/must-fail/x.rt"):
+        for name in ("crates/low/src/lib.rt", "crates/low/specs/A.antt", "crates/railplan_main/src/main.rt",
+                     "crates/other/src/lib.rt", "crates/low/must-fail/x.rt"):
             self.write(name, f"// {name}\n")
         self.clone = built.Clone(str(self.top))
         self.script("bin/rt", RT)
@@ -52,8 +52,9 @@ class InClone(unittest.TestCase):
         return {"PATH": f"{self.top}/bin:/usr/bin:/bin", "HERE": str(self.top), **more}
 
     def start(self, *given: str, **more: str) -> subprocess.Popen:
-        return subprocess.Popen([sys.executable, "-SB", str(self.top / "railplan"), *given], cwd=self.top, stdin=subprocess.DEVNULL,
-                                stdout=subprocess.PIPE, stderr=subprocess.PIPE, text=True, env=self.environment(**more))
+        return subprocess.Popen([sys.executable, "-SB", str(self.top / "railplan"), *given], cwd=self.top, text=True,
+                                stdin=subprocess.DEVNULL, stdout=subprocess.PIPE, stderr=subprocess.PIPE,
+                                env=self.environment(**more))
 
     def launch(self, *given: str, **more: str) -> tuple[int, str, str]:
         job = self.start(*given, **more)

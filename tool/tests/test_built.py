@@ -15,7 +15,8 @@ class Sources(InClone):
 
     def hold(self, is_fresh, reason=""):
         found = built.find(self.clone)
-        self.assertEqual((found.is_fresh, found.reason), (is_fresh, reason and f"{reason} isn't as it was when the program was built"))
+        self.assertEqual(found.is_fresh, is_fresh)
+        self.assertEqual(found.reason, reason and f"{reason} isn't as it was when the program was built")
         return found
 
     def test_what_was_built_is_known(self):
@@ -96,7 +97,8 @@ class Programs(InClone):
     def test_a_list_that_is_spoilt_counts_for_nothing(self):
         self.launch("graph", "one.xml")
         path = self.top / "crates/railplan_main/out/built"
-        for text in ("", "railplan-built 1\n", path.read_text()[:-9], "x" + path.read_text(), path.read_text().replace("\t", " ")):
+        whole = path.read_text()
+        for text in ("", "railplan-built 1\n", whole[:-9], "x" + whole, whole.replace("\t", " ")):
             with self.subTest(text=text[:20]):
                 path.write_text(text)
                 self.assertFalse(built.find(self.clone).is_proved)
@@ -107,7 +109,8 @@ class Programs(InClone):
         self.assertEqual(self.asked(), 1)
 
     def test_a_source_that_changes_while_the_program_is_built(self):
-        self.script("bin/rt", "#!/bin/sh\ncase $1 in run) echo '// other' > ../low/src/lib.rt; cp ../../program out/railplan_main; "
+        self.script("bin/rt", "#!/bin/sh\ncase $1 in run) echo '// other' > ../low/src/lib.rt; cp ../../program "
+                              "out/railplan_main; "
                     "echo 'rt: running';; esac\n")
         self.assertEqual(self.launch("graph", "one.xml")[1], "ran\n")
         self.assertFalse(built.find(self.clone).is_fresh)

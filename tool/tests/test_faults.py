@@ -40,7 +40,8 @@ def tracks(count, more=b""):
 def one_loop_more():
     """a track with 54 loops: cases/stations has one with 53, as many as there may be"""
     text = (TOP / "cases/stations/loops_53.xml").read_bytes()
-    return edited((b"</connections>", b'<switch id="a" pos="52900"><connection id="ca" ref="la" course="left" orientation="outgoing"/>'
+    return edited((b"</connections>", b'<switch id="a" pos="52900"><connection id="ca" ref="la" course="left" '
+                                      b'orientation="outgoing"/>'
                    b'</switch><switch id="b" pos="52950"><connection id="cb" ref="lb" course="right" orientation="incoming"/>'
                    b"</switch></connections>"),
                   (b"</tracks>", b'<track id="l"><trackTopology><trackBegin id="f" pos="0" absPos="52900"><connection id="la" '
@@ -64,7 +65,8 @@ FILES = {
     "text NoInfrastructure": (b"<railml><timetable/></railml>", "1:30", "only timetable"),
     "topology NoTracks": (b"<railml><infrastructure><tracks/></infrastructure></railml>", "1:9", "no track"),
     "topology TooMany": (tracks(129), "1:", "129 of 129"),
-    "topology Missing": (edited((b' absPos="12520"><connection id="track3', b'><connection id="track3')), "20:1", 'write absPos="12520"'),
+    "topology Missing": (edited((b' absPos="12520"><connection id="track3', b'><connection id="track3')), "20:1",
+                         'write absPos="12520"'),
     "topology Id": (edited((b'"W1"', b'"W 1"')), "9:1", "blank"),
     "topology RepeatedId": (edited((b'"W3"', b'"W2"')), "16:1", "W2"),
     "topology Number": (edited((b'"402.5"', b'"402,5"')), "15:1", "402,5"),
@@ -189,7 +191,8 @@ class Provoked(unittest.TestCase):
                 self.hold("l", fault, place, piece, ["check", one, sheet, self.file("l", data)])
 
     def sheet_of_log(self):
-        ran = subprocess.run([PROGRAM, "draw", str(TOP / "examples/one.xml"), "--width", "2", "--height", "1"], capture_output=True)
+        ran = subprocess.run([PROGRAM, "draw", str(TOP / "examples/one.xml"), "--width", "2", "--height", "1"],
+                             capture_output=True)
         return self.file("d.sheet", ran.stdout)
 
     def test_hints(self):

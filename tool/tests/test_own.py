@@ -59,7 +59,8 @@ class Version(InClone):
     def test_of_a_program_that_was_built(self):
         self.launch("graph", "one.xml")
         self.assertRegex(self.launch("--version")[1],
-                         rf"^railplan {re.escape(VERSION)}\nprogram: proved and built from these sources with kit-1\nSHA-256: \w{{64}}\n$")
+                         rf"^railplan {re.escape(VERSION)}\nprogram: proved and built from these sources with kit-1\nSHA-256: "
+                         rf"\w{{64}}\n$")
 
     def test_of_a_program_that_is_none_of_these_sources(self):
         self.launch("graph", "one.xml")
@@ -88,8 +89,8 @@ class Installed(InClone):
         self.assertEqual(self.prefix("install")[0], 0)
         environment = self.environment()
         environment["PATH"] = f"{self.top}/prefix/bin:{environment['PATH']}"
-        ran = subprocess.run("railplan graph one.xml; railplan drow", shell=True, cwd=self.top, env=environment, capture_output=True,
-                             text=True)
+        ran = subprocess.run("railplan graph one.xml; railplan drow", shell=True, cwd=self.top, env=environment,
+                             capture_output=True, text=True)
         self.assertEqual(ran.stdout, "ran\nran\n")
         self.assertEqual(self.prefix("uninstall")[0], 0)
         self.assertEqual(self.files(), [])
@@ -126,7 +127,8 @@ class Made(unittest.TestCase):
     def complete(self, *typed):
         """what bash offers for the last of these words"""
         line = " ".join(f"'{it}'" for it in ("railplan", *typed))
-        script = completions.bash() + f"COMP_WORDS=({line}); COMP_CWORD={len(typed)}; _railplan; printf '%s\\n' \"${{COMPREPLY[@]}}\""
+        script = completions.bash() + f"COMP_WORDS=({line}); COMP_CWORD={len(typed)}; _railplan; printf '%s\\n' " \
+            f"\"${{COMPREPLY[@]}}\""
         return subprocess.run(["bash", "-c", script], capture_output=True, text=True).stdout.split()
 
     @unittest.skipUnless(shutil.which("bash"), "there is no bash")

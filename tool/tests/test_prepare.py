@@ -38,7 +38,8 @@ class Mended(unittest.TestCase):
         self.assertIn("nothing in the file says the mileage of the begin of track a", guesses[0])
 
     def test_numbers(self):
-        for given, written in (("20,5", "20.5"), ("2.05E1", "20.5"), ("20.5000001", "20.5"), ("20.12345678", "20.123457"), ("1e-7", "0")):
+        for given, written in (("20,5", "20.5"), ("2.05E1", "20.5"), ("20.5000001", "20.5"), ("20.12345678", "20.123457"),
+                               ("1e-7", "0")):
             text, changes, guesses = mended(TRACK.replace('id="w" pos="20"', f'id="w" pos="{given}"'))
             with self.subTest(given):
                 self.assertIn(f'id="w" pos="{written}"', text)
@@ -53,16 +54,19 @@ class Mended(unittest.TestCase):
 
     def test_numbers_that_are_read_stay_as_they_are(self):
         for given in ("20.50", "+20", " 20 ", "020", "20.", ".5", "20.000000"):
-            text = TRACK.replace('id="w" pos="20"', f'id="w" pos="{given}"').replace('pos="0"><connection', 'pos="0" absPos="1"><connection')
+            text = TRACK.replace('id="w" pos="20"', f'id="w" pos="{given}"')
+            text = text.replace('pos="0"><connection', 'pos="0" absPos="1"><connection')
             with self.subTest(given):
                 self.assertEqual(mended(text), (text, [], []))
 
     def test_encodings(self):
         named = '<?xml version="1.0" encoding="ISO-8859-1"?><!-- \u00fc -->' + TRACK
+        wide = "\ufeff" + named.replace("ISO-8859-1", "UTF-16")
         for text, encoding, change in ((named, "latin-1", "ISO-8859-1 is written as UTF-8"),
-                                       ("\ufeff" + named.replace("ISO-8859-1", "UTF-16"), "utf-16-le", "UTF-16 is written as UTF-8"),
-                                       ("\ufeff" + named.replace("ISO-8859-1", "UTF-16"), "utf-16-be", "UTF-16 is written as UTF-8"),
-                                       (named.replace("ISO-8859-1", "windows-1252"), "cp1252", "windows-1252 is written as UTF-8")):
+                                       (wide, "utf-16-le", "UTF-16 is written as UTF-8"),
+                                       (wide, "utf-16-be", "UTF-16 is written as UTF-8"),
+                                       (named.replace("ISO-8859-1", "windows-1252"), "cp1252",
+                                        "windows-1252 is written as UTF-8")):
             with self.subTest(encoding):
                 found, changes, guesses = mended(text, encoding)
                 self.assertTrue(found.startswith('<?xml version="1.0" encoding="UTF-8"?><!-- \u00fc -->'))
@@ -81,7 +85,8 @@ class Mended(unittest.TestCase):
         self.assertEqual(guesses, [])
 
     def test_prefixes_that_are_not_clear(self):
-        text = TRACK.replace("<track id", "<r:track id").replace("</track>", "</r:track>").replace('xmlns="x"', 'xmlns="x" xmlns:r="y"')
+        text = TRACK.replace("<track id", "<r:track id").replace("</track>", "</r:track>")
+        text = text.replace('xmlns="x"', 'xmlns="x" xmlns:r="y"')
         self.assertIn("isn't clear", mended(text)[2][0])
 
     def test_what_is_no_xml(self):
