@@ -30,14 +30,12 @@ def not_forward(station: Station, tells: list[str]) -> list[Note]:
         return [Note(f"{station.name}: both ends of a piece of {tells[0]} are at {tells[1]} m. Give them two mileages")]
     if level.west is level.east:
         return [Note(f"the track {tells[0]} is joined to itself, so both its ends are at {tells[1]} m. A ring has no west and "
-                     f"east: "
-                     "cut it, and write two ends", station.place(level.west))]
+                     "east: cut it, and write two ends", station.place(level.west))]
     first, second = sorted((level.west, level.east), key=lambda it: it.place)
     ends = [it for it in (first, second) if it.name in railml.ENDS]
     advice = "Move the switch or crossing a little away from the track's end" if ends else "Write them half a metre apart"
     return [Note(f"{railml.what(first)} and {railml.what(second)} are both at {tells[1]} m, and a piece of {tells[0]} goes from "
-                 f"the "
-                 f"one to the other. {advice}, in pos and absPos", station.place(first)),
+                 f"the one to the other. {advice}, in pos and absPos", station.place(first)),
             Note(f"{railml.what(second)} is here", station.place(second))]
 
 
@@ -75,8 +73,7 @@ def mismatch_of_crossing(station: Station, it: Element) -> str:
 
 def mismatch_of_joint(station: Station, it: Element) -> str:
     return f"at {railml.what(it)}{at(it)} two tracks are joined, and both lie on one side of it. One of them has a mileage " \
-        f"(absPos) " \
-           "that is counted otherwise than the other's: one file has one mileage"
+        "(absPos) that is counted otherwise than the other's: one file has one mileage"
 
 
 SAID = {"TooManyNodes": too_many_nodes, "TooManyEdges": too_many_edges, "NotForward": not_forward, "SideMismatch": side_mismatch}
@@ -105,8 +102,7 @@ def contradicts(name: str, data: bytes, tells: list[str], called: str) -> list[N
     found = [(upper, lower, fork) for upper, lower in ((one, other), (other, one)) for fork in graph.origins(upper, lower)[:1]]
     found.sort(key=lambda it: it[2].node.place)
     said = [Note(f"{name}: the piece of track {pieces[0]} and the piece {pieces[1]} would each lie above the other. Of the "
-                 f"places "
-                 "below one turns off to the wrong hand (course) or the wrong way (orientation)")]
+                 "places below one turns off to the wrong hand (course) or the wrong way (orientation)")]
     for upper, lower, fork in found:
         said.append(Note(f"by the {railml.what(fork.node)} ({hand(fork)}) {graph.piece_in_words(upper)} lies above "
                          f"{graph.piece_in_words(lower)}", station.place(fork.node)))

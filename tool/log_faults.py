@@ -17,8 +17,7 @@ HINTS = {
     "Header": "hinted lines begin with the line railplan-hints 1",
     "Form": f"this is no hinted line, or it isn't whole. {ENDING}",
     "Number": "a number in this line isn't written as digits alone, or is out of range: variables and clauses are 1 to "
-              "1073741823, "
-              "caps at most 65535",
+              "1073741823, caps at most 65535",
     "Twice": "one variable comes twice among the literals of this line",
     "Range": "a cap is greater than its criterion can be, or the sheet's order doesn't have this criterion",
 }
@@ -61,12 +60,10 @@ def lacks(name: str, place: int, order: list[str], claims_none: bool) -> list[No
     """lines that are all right and don't show what the sheet claims"""
     if place == 0 or claims_none:
         return [Note(f"{name}: its lines are all right, but don't show that no drawing is lawful, as the sheet claims. Did the "
-                     f"search "
-                     "end?")]
+                     "search end?")]
     criterion = order[place - 1] if place <= len(order) else f"criterion {place}"
     return [Note(f"{name}: its lines are all right, but don't show that the sheet's {criterion} is the least, as the sheet "
-                 f"claims. "
-                 "Is the log that of this sheet, and did its search end?")]
+                 "claims. Is the log that of this sheet, and did its search end?")]
 
 
 def is_whole(at: Place) -> bool:

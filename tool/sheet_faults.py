@@ -53,9 +53,8 @@ def graph(sheet: str, at: Place, usage: str) -> str:
 
 
 def shape(sheet: str, at: Place, usage: str) -> str:
-    return "these points are no line: a line goes from west to east, level or rising or falling by one row a column, in at most " \
-        "" \
-           "three parts. docs/laws.md shows the eleven shapes"
+    return "these points are no line: a line goes from west to east, level or rising or falling by one row a column, in at " \
+        "most three parts. docs/laws.md shows the eleven shapes"
 
 
 def values(sheet: str, at: Place, usage: str) -> str:

@@ -172,9 +172,8 @@ def kind_of_switch(it: Element) -> str:
     count = len(it.named("connection"))
     if count == 0:
         return f"the switch {it.id} has no connection, so its branch leads nowhere. Write the connection to the branching track"
-    return f"the switch {it.id} has {count} connections, and a switch has one. A three-way switch is written as two switches at " \
-        f"" \
-           "two positions, as half a metre apart"
+    return f"the switch {it.id} has {count} connections, and a switch has one. A three-way switch is written as two switches " \
+        "at two positions, as half a metre apart"
 
 
 def kind_of_crossing(it: Element) -> str:
@@ -193,16 +192,14 @@ def course(station: Station, it: Element | None, tells: list[str]) -> str:
     if given == "straight":
         return f"the branch {tells[0]} goes straight, so the track itself turns off, and nothing says to which hand. Write " \
                "trackContinueCourse=\"left\" or \"right\" at the switch"
-    return f"course=\"{given}\" of {tells[0]} is no hand. Write left or right: the hand to which the branch turns off, seen from " \
-        f"" \
-           "the points"
+    return f"course=\"{given}\" of {tells[0]} is no hand. Write left or right: the hand to which the branch turns off, seen " \
+        "from the points"
 
 
 def orientation(station: Station, it: Element | None, tells: list[str]) -> str:
     given = it.attributes.get("orientation", "") if it else ""
     return f"orientation=\"{given}\" of {tells[0]} isn't read. Write outgoing where the branch leaves towards the track's end, " \
-        f"and " \
-           "incoming where it comes from the track's begin"
+        "and incoming where it comes from the track's begin"
 
 
 def outside_track(station: Station, it: Element | None, tells: list[str]) -> str:
@@ -213,8 +210,7 @@ def outside_track(station: Station, it: Element | None, tells: list[str]) -> str
     low, high = (end.attributes.get("pos") for end in ends)
     if it.name == "trackEnd":
         return f"pos=\"{high}\" of the end {tells[0]} is less than that of the track's begin, {low}. A track's positions rise " \
-            f"from " \
-               "its begin to its end"
+            "from its begin to its end"
     return f"pos=\"{it.attributes.get('pos')}\" of {tells[0]} lies outside its track, which goes from {low} to {high}"
 
 

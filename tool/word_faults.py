@@ -49,8 +49,8 @@ def unknown_command(given: list[str], at: int, called: str) -> str:
             (f". Did you mean `{meant}`?" if meant else
              f": {called} draw FILE {word} .." if known else f": {called} help says all")
     if os.path.isdir(word):
-        return f"{quoted(word)} is a folder, and a command is missing: {typed(called, ['folder', word])} OUT draws each station " \
-            f"in it"
+        return f"{quoted(word)} is a folder, and a command is missing: {typed(called, ['folder', word])} OUT draws each " \
+            f"station in it"
     if word and os.path.exists(word):
         return f"{quoted(word)} is a file, and a command is missing before it: {typed(called, ['draw', *given])}"
     meant = near(word, [*words.COMMANDS, *words.OWN])
