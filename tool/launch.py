@@ -68,10 +68,16 @@ def fresh(clone: built.Clone, line: words.Line) -> built.Built:
 def run_program(clone: built.Clone, line: words.Line) -> running.Ran:
     """runs the program; a command that may take long is watched where somebody sees it"""
     command = words.COMMANDS.get(line.command)
-    if command and command.takes_long and is_terminal() and not words.fault(line.words):
+    if not command or not command.takes_long or words.fault(line.words):
+        return running.run(clone.program, line.words)
+    if is_terminal():
         from tool.progress import run_watched
         return run_watched(clone.program, line)
-    return running.run(clone.program, line.words)
+    ran = running.run(clone.program, line.words)
+    if ran.was_stopped:
+        from tool.progress import stopped
+        stopped(line, ran)
+    return ran
 
 
 def hand_on(clone: built.Clone, line: words.Line, ran: running.Ran) -> int:

@@ -16,6 +16,8 @@ ROOM = 2 << 30
 # bytes of a log that are read at once, and for how long it is read each second
 PIECE = 4 << 20
 PATIENCE = 0.3
+# from how many seconds on a check is long
+LONG = 10
 # what a command without a log is doing
 DOING = {"front": "looking for the pairs", "explain": "looking for laws that can't be met together", "trial": "searching",
          "check": "checking the log", "trim": "trimming the log", "recheck": "checking the hinted lines"}
@@ -186,7 +188,19 @@ def run_watched(program: str, line: words.Line) -> running.Ran:
     watch.clear()
     if ran.was_stopped:
         tell_stopped(watch, ran.seconds, named)
+    if line.command == "check" and ran.status == 0 and ran.seconds >= LONG:
+        files_named = shlex.join(line.names)
+        say(f"that took {ran.seconds:.0f} s. {called()} trim {files_named} HINTS once, and recheck of HINTS takes a fraction of it")
     return ran
+
+
+def stopped(line: words.Line, ran: running.Ran) -> None:
+    """says what an interrupted run leaves that nobody watched"""
+    named = line.options.get("--log", "") if "--log" in words.COMMANDS[line.command].options else ""
+    watch = Watch(line, named)
+    if watch.log:
+        watch.log.follow()
+    tell_stopped(watch, ran.seconds, named)
 
 
 def tell_stopped(watch: Watch, seconds: float, named: str) -> None:

@@ -39,9 +39,22 @@ class Stopped(InClone):
                 job.send_signal(sign)
                 out, err = job.communicate(timeout=20)
                 self.assertEqual((job.returncode, out), (130, ""))
+                self.assertIn("stopped after", err)
                 self.assertNotIn("Traceback", err)
                 self.assertFalse(self.is_there(number))
                 (self.top / "begun").unlink()
+
+    def test_what_was_found_is_said_from_the_log(self):
+        self.script("crates/railplan_main/out/railplan_main",
+                    "#!/bin/sh\nprintf 'railplan-log 1\\nq 0\\nl 1 0\\nl 2 0\\nm\\nb height 1 5\\nq -5 0\\n' > l\n"
+                    "echo $$ > begun\nexec sleep 60\n")
+        job = self.start("draw", "one.xml", "--log", "l", "--conflicts", "70")
+        self.begun()
+        job.send_signal(signal.SIGINT)
+        err = job.communicate(timeout=20)[1]
+        self.assertIn("found so far: a drawing; height: at most 1 found, looking for 0.", err)
+        self.assertIn("railplan draw one.xml --log l --conflicts 2\n", err)
+        self.assertIn("l holds the first ", err)
 
     def test_a_program_that_is_killed(self):
         job = self.start("draw", "one.xml")

@@ -6,8 +6,9 @@ import sys
 import tempfile
 import unittest
 from pathlib import Path
+from unittest import mock
 
-from tool import graph_faults, log_faults, running, sheet_faults, telling, text_faults, topology_faults, word_faults, words
+from tool import graph_faults, log_faults, running, saying, sheet_faults, telling, text_faults, topology_faults, word_faults, words
 from tool.tests.places import PROGRAM, TOP
 
 sys.path.insert(0, str(TOP / "docs"))
@@ -214,6 +215,17 @@ class Provoked(unittest.TestCase):
                              (["draw", self.file("x", b" " * 4194305)], "4 MiB")):
             with self.subTest(given=given):
                 self.assertIn(piece, self.told(given)[1][0].text)
+
+
+class Colours(unittest.TestCase):
+    def test_only_on_a_terminal_and_where_nobody_asked_for_none(self):
+        for is_terminal, more, due in ((True, {}, True), (True, {"NO_COLOR": "1"}, False), (True, {"TERM": "dumb"}, False),
+                                       (False, {}, False), (True, {"NO_COLOR": ""}, True)):
+            with self.subTest(more=more, is_terminal=is_terminal), mock.patch("os.isatty", lambda handle: is_terminal), \
+                    mock.patch.dict(os.environ, {"TERM": "xterm", **more}):
+                if not more:
+                    os.environ.pop("NO_COLOR", None)
+                self.assertEqual(saying.has_colour(), due)
 
 
 class Complete(unittest.TestCase):
