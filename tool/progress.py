@@ -7,7 +7,7 @@ import shutil
 import time
 from dataclasses import dataclass, field
 
-from tool import running, words
+from tool import notes, running, words
 from tool.saying import called, say, write_error
 
 BAR = 16
@@ -212,7 +212,7 @@ def tell_stopped(watch: Watch, seconds: float, named: str) -> None:
         if "--conflicts" in asked:
             at = asked.index("--conflicts")
             del asked[at:at + 2]
-        say(f"found so far: a drawing; {log.in_words()}. This gives the best drawing found so far: "
-            f"{called()} {shlex.join(asked)} --conflicts {max(1, log.learnt)}")
+        notes.show([notes.Note(f"found so far: a drawing; {log.in_words()}. This gives the best drawing found so far: "
+                               f"{called()} {shlex.join(asked)} --conflicts {max(1, log.learnt)}")])
     if named and log and log.place:
         say(f"{named} holds the first {log.place} bytes of a log, which certify nothing")
