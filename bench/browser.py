@@ -40,7 +40,8 @@ class Browser:
             os.dup2(orders[0], 3)
             os.dup2(answers[1], 4)
 
-        self.job = subprocess.Popen(["chromium", *FLAGS, f"--user-data-dir={self.profile.name}", "about:blank"], pass_fds=(3, 4),
+        self.job = subprocess.Popen(["chromium", *FLAGS, f"--user-data-dir={self.profile.name}", "about:blank"],
+                                    pass_fds=(3, 4),
                                     preexec_fn=hand_over, stdin=subprocess.DEVNULL, stdout=subprocess.DEVNULL,
                                     stderr=subprocess.DEVNULL)
         os.close(orders[0])
@@ -131,7 +132,8 @@ class Tab:
         while time.time() < until:
             ready = self.ask("Runtime.evaluate", expression="document.readyState + location.protocol", returnByValue=True)
             if ready["result"].get("value") == "completefile:":
-                self.ask("Runtime.evaluate", expression="new Promise(r => requestAnimationFrame(() => requestAnimationFrame(r)))",
+                self.ask("Runtime.evaluate",
+                         expression="new Promise(r => requestAnimationFrame(() => requestAnimationFrame(r)))",
                          awaitPromise=True)
                 return time.time() - began
             time.sleep(0.01)
@@ -168,7 +170,8 @@ class Tab:
         self.press(x, y, "mouseReleased")
 
     def wheel(self, x: float, y: float, down: float, with_control: bool = True) -> None:
-        self.ask("Input.dispatchMouseEvent", type="mouseWheel", x=x, y=y, deltaX=0, deltaY=down, modifiers=2 if with_control else 0)
+        self.ask("Input.dispatchMouseEvent", type="mouseWheel", x=x, y=y, deltaX=0, deltaY=down,
+                 modifiers=2 if with_control else 0)
 
     def picture(self, path: Path) -> None:
         path.write_bytes(base64.b64decode(self.ask("Page.captureScreenshot", format="png")["data"]))
@@ -179,11 +182,13 @@ class Tab:
     def requests(self) -> list[str]:
         """what was asked for beside the page itself"""
         asked = [it["params"]["request"]["url"] for it in self.browser.events if it["method"] == "Network.requestWillBeSent"]
-        return [it for it in asked if not it.startswith(("file:", "blob:"))] + sorted({it for it in asked if it.startswith("file:")})[1:]
+        return [it for it in asked if not it.startswith(("file:", "blob:"))] + sorted({it for it in asked
+                                                                                       if it.startswith("file:")})[1:]
 
     def alarms(self) -> list[str]:
         """dialogues, and scripts that failed"""
-        return [it["method"] for it in self.browser.events if it["method"] in ("Page.javascriptDialogOpening", "Runtime.exceptionThrown")]
+        return [it["method"] for it in self.browser.events if it["method"] in ("Page.javascriptDialogOpening",
+                                                                               "Runtime.exceptionThrown")]
 
 
 def centre(tab: Tab, what: str) -> Optional[tuple[float, float]]:

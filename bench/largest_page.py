@@ -25,7 +25,8 @@ def graph_of(drawing: Drawing) -> Graph:
     nodes, above = [], set()
     for node in drawing.nodes:
         east = sorted((it for it in drawing.edges if it.west == node.number), key=lambda it: it.points[1][1] - it.points[0][1])
-        west = sorted((it for it in drawing.edges if it.east == node.number), key=lambda it: it.points[-2][1] - it.points[-1][1])
+        west = sorted((it for it in drawing.edges if it.east == node.number),
+                      key=lambda it: it.points[-2][1] - it.points[-1][1])
         for legs in (east, west):
             above |= {(legs[1].number, legs[0].number)} if len(legs) == 2 else set()
         side = "east" if len(east) == 2 else "west"
@@ -46,8 +47,10 @@ def file_of(drawing: Drawing, signals: list[texts.Signal]) -> str:
         numbers = {it.number for it in pieces}
         inner = "".join(f'<signal id="{it.name}" name="Signal {it.number}" pos="{it.number}" absPos="{1000 + 50 * it.point[0]}" '
                         f'dir="{"up" if it.number % 2 else "down"}"/>' for it in signals if it.edge in numbers)
-        parts.append(f'<track id="{track}" name="Track {track}" type="mainTrack"><trackTopology><trackBegin id="{begin}" pos="0" absPos="0">'
-                     f'<openEnd id="{begin}o"/></trackBegin><trackEnd id="{end}" pos="9" absPos="9"><bufferStop id="{end}o"/></trackEnd>'
+        parts.append(f'<track id="{track}" name="Track {track}" type="mainTrack"><trackTopology>'
+                     f'<trackBegin id="{begin}" pos="0" absPos="0">'
+                     f'<openEnd id="{begin}o"/></trackBegin><trackEnd id="{end}" pos="9" absPos="9">'
+                     f'<bufferStop id="{end}o"/></trackEnd>'
                      f"</trackTopology><ocsElements><signals>{inner}</signals></ocsElements></track>")
     return "".join([*parts, "</tracks></infrastructure>"])
 
@@ -58,9 +61,12 @@ def page_text_of_largest() -> str:
     places = [(edge.number, column, edge.points[0][1]) for edge in drawing.edges if edge.points[0][1] == edge.points[-1][1]
               for column in range(edge.points[0][0] + 1, edge.points[-1][0])]
     random.Random(7).shuffle(places)
-    signals = [texts.Signal(number, f"N{number}", edge, (column, row)) for number, (edge, column, row) in enumerate(sorted(places[:SIGNALS]))]
-    output = sheet + "\n".join([f"signals {len(signals)}", *(f"signal {it.number} {it.name} {it.edge} {it.point[0]} {it.point[1]}"
+    signals = [texts.Signal(number, f"N{number}", edge, (column, row)) for number,
+               (edge, column, row) in enumerate(sorted(places[:SIGNALS]))]
+    output = sheet + "\n".join([f"signals {len(signals)}",
+                                *(f"signal {it.number} {it.name} {it.edge} {it.point[0]} {it.point[1]}"
                                                                 for it in signals), ""])
     file = file_of(drawing, signals).encode("utf-8")
-    run = run_of(["signals", "largest.xml", "--width", "64", "--height", "12"], output, files={"largest.xml": file}, graphs=[graph_of(drawing)])
+    run = run_of(["signals", "largest.xml", "--width", "64", "--height", "12"], output, files={"largest.xml": file},
+                 graphs=[graph_of(drawing)])
     return page_text(make(run))

@@ -1,6 +1,6 @@
 #!/usr/bin/env python3
-"""bench/pages.py measure [N] [FOLDER]   asks a browser, Debian's chromium, how the pages of stations come out: N of 43 stations,
-                              six kinds of page, and six namings in turn; FOLDER keeps the pages
+"""bench/pages.py measure [N] [K] [FOLDER]    asks a browser, Debian's chromium, how the pages of stations come out: N of 43
+                              stations, K of six kinds of page of each, in six namings by turns; FOLDER keeps the pages
 bench/pages.py drive          drives each interaction of each kind of page
 bench/pages.py largest        opens the page of 120 nodes, 158 pieces and 512 signals, and says how long that takes
 bench/pages.py planted        plants wrong lines in a copy of pages/, and says which the tests of the package don't see
@@ -33,29 +33,37 @@ from pages.tests.drawn import faults_of_names, faults_of_signs, Drawn, Written  
 PROGRAM = TOP / "crates/railplan_main/out/railplan_main"
 SAMPLES = TOP / "pages/tests/samples"
 KINDS = ("draw", "signals", "explain", "verify", "redraw", "front")
-WORDS = {"draw": ["--width", "64", "--height", "12", "--conflicts", "3000"], "signals": ["--width", "64", "--height", "12", "--conflicts", "1500"],
-         "explain": ["--height", "0", "--conflicts", "500"], "verify": [], "redraw": ["--width", "64", "--height", "12", "--conflicts", "800"],
+WORDS = {"draw": ["--width", "64", "--height", "12", "--conflicts", "3000"],
+         "signals": ["--width", "64", "--height", "12", "--conflicts", "1500"],
+         "explain": ["--height", "0", "--conflicts", "500"], "verify": [],
+         "redraw": ["--width", "64", "--height", "12", "--conflicts", "800"],
          "front": ["--width", "40", "--height", "5", "--conflicts", "150"]}
 SEEN = """(() => {
   const box = it => { const r = it.getBoundingClientRect(); return [r.left, r.top, r.right, r.bottom] };
   const context = document.createElement('canvas').getContext('2d');
   context.font = '100px ' + getComputedStyle(document.querySelector('svg.strip text, h1')).fontFamily;
   const cap = context.measureText('H').actualBoundingBoxAscent / 100;
-  const points = it => it.points ? [...it.points] : [[it.x1, it.y1], [it.x2, it.y2]].map(p => new DOMPoint(p[0].baseVal.value, p[1].baseVal.value));
+  const points = it => it.points ? [...it.points] : [[it.x1, it.y1], [it.x2, it.y2]].map(p =>
+    new DOMPoint(p[0].baseVal.value, p[1].baseVal.value));
   const placed = it => points(it).map(p => p.matrixTransform(it.getScreenCTM())).map(p => [p.x, p.y]);
   const pictures = [...document.querySelectorAll('svg.strip, svg.plot')].filter(it => it.getClientRects().length).map(svg => ({
     frame: box(svg), scale: svg.getScreenCTM().a,
-    texts: [...svg.querySelectorAll('text')].filter(it => it.getClientRects().length && !it.closest('.grid')).map(it => [it.textContent, box(it),
+    texts: [...svg.querySelectorAll('text')].filter(it => it.getClientRects().length && !it.closest('.grid')).map(it => [
+      it.textContent, box(it),
       it.className.baseVal, parseFloat(getComputedStyle(it).fontSize) * svg.getScreenCTM().a * cap]),
-    lines: [...svg.querySelectorAll('.edge, .leader, .limit, .steps, .axis, .tick, line.match')].map(it => [it.classList[0], placed(it)]),
+    lines: [...svg.querySelectorAll('.edge, .leader, .limit, .steps, .axis, .tick, line.match')].map(it =>
+      [it.classList[0], placed(it)]),
     wedges: [...svg.querySelectorAll('.wedge')].map(it => { const p = placed(it); return [...p, p[0]] }),
-    signs: [...svg.querySelectorAll('.sign')].flatMap(it => [...it.querySelectorAll('circle, path, rect')].map(part => [it.dataset.key, box(part)]))}));
+    signs: [...svg.querySelectorAll('.sign')].flatMap(it => [...it.querySelectorAll('circle, path, rect')].map(part =>
+      [it.dataset.key, box(part)]))}));
   const small = [...document.querySelectorAll('body *')].filter(it => it.getClientRects().length && !it.closest('svg') &&
-    [...it.childNodes].some(part => part.nodeType == 3 && part.data.trim())).map(it => parseFloat(getComputedStyle(it).fontSize) * cap);
+    [...it.childNodes].some(part => part.nodeType == 3 && part.data.trim())).map(it =>
+      parseFloat(getComputedStyle(it).fontSize) * cap);
   return {pictures, small: Math.min(...small), wide: document.documentElement.scrollWidth,
     foreign: document.querySelectorAll('img, iframe, object, embed, link, base, form, video, audio, foreignObject').length,
     scripts: document.querySelectorAll('script').length,
-    handlers: [...document.querySelectorAll('*')].filter(it => [...it.attributes].some(a => a.name.startsWith('on') || a.name == 'style')).length}
+    handlers: [...document.querySelectorAll('*')].filter(it => [...it.attributes].some(a =>
+      a.name.startsWith('on') || a.name == 'style')).length}
 })()"""
 
 
@@ -64,10 +72,18 @@ def program(*words: str) -> tuple[int, str]:
     return ran.returncode, ran.stdout.decode("utf-8", "replace")
 
 
-def page_of(page: Path, words: list[str], front: list[str] = []) -> tuple[int, str]:
-    """makes a page as a user does; the status, and what was printed"""
-    ran = subprocess.run([str(TOP / "railplan"), "--html", str(page), *front, *words], capture_output=True, timeout=900)
+def run_pages(*words: str) -> tuple[int, str]:
+    """runs the pages as the launcher does, with the program that is there: nothing is built; the status, and what was printed"""
+    with tempfile.TemporaryDirectory() as folder:
+        launcher = Path(folder) / "launcher"
+        launcher.write_text(f"import os, sys\nos.execv({str(PROGRAM)!r}, ['railplan_main', *sys.argv[1:]])\n", encoding="utf-8")
+        ran = subprocess.run([sys.executable, str(TOP / "pages/run.py"), str(launcher), *words], capture_output=True,
+                             timeout=900)
     return ran.returncode, ran.stdout.decode("utf-8", "replace")
+
+
+def page_of(page: Path, words: list[str]) -> tuple[int, str]:
+    return run_pages(str(page), *words)
 
 
 # ---- measured
@@ -130,19 +146,21 @@ def words_of(kind: str, file: Path, folder: Path) -> list[str]:
         if kind == "redraw":
             return ["redraw", str(file), str(file), str(sheet), *WORDS["redraw"]]
         lines = sheet.read_text(encoding="utf-8").split("\n")
-        lines[1] = re.sub(r"^grid \d+ \d+", lambda it: "grid " + " ".join(str(int(n) - (at == 1)) for at, n in enumerate(it[0].split()[1:])), lines[1])
+        lines[1] = re.sub(r"^grid \d+ \d+", lambda it: "grid " + " ".join(str(int(n) - (at == 1)) for at,
+                                                                          n in enumerate(it[0].split()[1:])), lines[1])
         return ["verify", str(file), str(sheet)]
     return [kind, str(file)] + (["height,width"] if kind == "front" else []) + WORDS[kind]
 
 
-def measured(number: int, folder: Path) -> list[tuple[str, list[str]]]:
-    """what is wrong with the pages of a station: all kinds, each in another naming"""
+def measured(number: int, folder: Path, count: int) -> list[tuple[str, list[str]]]:
+    """what is wrong with the pages of a station: of so many kinds, each in another naming"""
     name, station = page_stations.STATIONS[number]
     answers = []
     with Browser() as browser:
         tab = Tab(browser)
-        for at, kind in enumerate(KINDS):
-            naming = list(page_stations.NAMINGS)[(number + at) % len(page_stations.NAMINGS)]
+        for at in range(count):
+            kind = KINDS[(number + at) % len(KINDS)]
+            naming = list(page_stations.NAMINGS)[(number // len(KINDS) + number + at) % len(page_stations.NAMINGS)]
             stem = f"{name}.{kind}.{naming}".replace(" ", "_")
             file, page = folder / f"{stem}.xml", folder / f"{stem}.html"
             file.write_text(page_stations.file_of(station, naming, 2 if kind == "signals" else 0, number), encoding="utf-8")
@@ -158,11 +176,12 @@ def measured(number: int, folder: Path) -> list[tuple[str, list[str]]]:
 
 def measure(words: list[str]) -> list[tuple[str, list[str]]]:
     count = int(words[0]) if words else len(page_stations.STATIONS)
-    folder = Path(words[1]) if words[1:] else Path(tempfile.mkdtemp())
+    kinds = int(words[1]) if words[1:] else len(KINDS)
+    folder = Path(words[2]) if words[2:] else Path(tempfile.mkdtemp())
     folder.mkdir(parents=True, exist_ok=True)
     found = []
     with ProcessPoolExecutor(max(1, (os.cpu_count() or 2) // 2)) as pool:
-        for answers in pool.map(measured, range(count), [folder] * count):
+        for answers in pool.map(measured, range(count), [folder] * count, [kinds] * count):
             for what, faults in answers:
                 print(f"{what}: " + (f"{faults[0]}, and {len(faults) - 1} more" if faults else "as it is to be"), flush=True)
             found += answers
@@ -180,7 +199,8 @@ def drive(words: list[str]) -> list[tuple[str, list[str]]]:
         file = folder / "ladder.xml"
         file.write_text(page_stations.file_of(dict(page_stations.STATIONS)["ladder 1"], "usual", 1), encoding="utf-8")
         runs = {"draw": ["draw", str(TOP / "examples/station.xml")], "signals": ["signals", str(file), "--width", "64"],
-                "explain": ["explain", str(SAMPLES / "loop.xml"), "--width", "4"], "front": ["front", str(SAMPLES / "made16.xml"), "height,width"],
+                "explain": ["explain", str(SAMPLES / "loop.xml"), "--width", "4"],
+                "front": ["front", str(SAMPLES / "made16.xml"), "height,width"],
                 "redraw": ["redraw", str(SAMPLES / "station.xml"), str(SAMPLES / "before.xml"), str(SAMPLES / "before.sheet")],
                 "verify": ["verify", str(SAMPLES / "loop.xml"), str(SAMPLES / "below.sheet")],
                 "fault": ["draw", str(TOP / "cases/stations/mutual.xml")]}
@@ -211,7 +231,8 @@ def largest(words: list[str]) -> list[tuple[str, list[str]]]:
         rows, size = tab.run("rows.length"), page.stat().st_size
         found, seen = look(tab, page)
         names = sum(len(it["texts"]) for it in seen["pictures"])
-        print(f"{rows} objects, {names} texts in {len(seen['pictures'])} strips, {size:,} bytes; made in {made:.1f} s, open in {seconds:.2f} s")
+        print(f"{rows} objects, {names} texts in {len(seen['pictures'])} strips, {size:,} bytes; "
+              f"made in {made:.1f} s, open in {seconds:.2f} s")
     slow = ["it opens slowly"] if seconds >= 2 else []
     big = ["it is too big"] if size > 1_000_000 else []
     return [("the largest page", slow + big + found)]
@@ -229,7 +250,7 @@ def dxf(words: list[str]) -> list[tuple[str, list[str]]]:
         for name in ("ladder 1", "terminus 3", "line 2", "scissors 1"):
             file = Path(base) / f"{name.replace(' ', '_')}.xml"
             file.write_text(page_stations.file_of(dict(page_stations.STATIONS)[name], "wide", 1), encoding="utf-8")
-            subprocess.run([str(TOP / "railplan"), "--dxf", str(file.with_suffix(".dxf")), "signals", str(file), "--width", "64"], capture_output=True)
+            run_pages("--dxf", str(file.with_suffix(".dxf")), "signals", str(file), "--width", "64")
             subprocess.run(["librecad", "dxf2pdf", "-o", str(file.with_suffix(".pdf")), str(file.with_suffix(".dxf"))],
                            capture_output=True, env={**os.environ, "QT_QPA_PLATFORM": "offscreen"}, timeout=120)
             pdf = file.with_suffix(".pdf")

@@ -19,7 +19,8 @@ def marked(tab: Tab, name: str) -> list[str]:
 
 
 def said(tab: Tab) -> str:
-    return re.sub(r"\s+", " ", tab.run("[...document.querySelector('.said').querySelectorAll('h2, dt, dd')].map(it => it.textContent).join(' ')"))
+    return re.sub(r"\s+", " ", tab.run("[...document.querySelectorAll('.said h2, .said dt, .said dd')]"
+                                        ".map(it => it.textContent).join(' ')"))
 
 
 def scale(tab: Tab) -> float:
@@ -29,7 +30,8 @@ def scale(tab: Tab) -> float:
 def measure(tab: Tab) -> list[float]:
     """the height of a name and the width of a line, as they are seen"""
     return tab.run("""(() => { letGo(); mark('over', []); const name = document.querySelector('svg.strip .name.node');
-      return [name.getBoundingClientRect().height, parseFloat(getComputedStyle(document.querySelector('svg.strip .edge')).strokeWidth)] })()""")
+      return [name.getBoundingClientRect().height,
+        parseFloat(getComputedStyle(document.querySelector('svg.strip .edge')).strokeWidth)] })()""")
 
 
 def key_of(tab: Tab, id: str) -> str:
@@ -84,10 +86,11 @@ def switches(tab: Tab, switch: str) -> Iterator[Check]:
 
 
 def pieces(tab: Tab) -> Iterator[Check]:
-    edge = tab.run("Object.keys(objects).find(it => it[0] == 'e' && objects[it].facts.filter(f => f[0] == 'signal').length > 0) || 'e0'")
+    edge = tab.run("Object.keys(objects).find(it => it[0] == 'e' && objects[it].facts.some(f => f[0] == 'signal')) || 'e0'")
     tab.run(f"document.querySelector('svg.strip [data-key=\"{edge}\"] .hit').scrollIntoView({{block: 'center'}})")
     at = tab.run(f"""(() => {{ const it = document.querySelector('svg.strip [data-key="{edge}"] .hit');
-      const p = it.getPointAtLength(it.getTotalLength() * 0.37).matrixTransform(it.getScreenCTM()); return [p.x, p.y + 3] }})()""")
+      const p = it.getPointAtLength(it.getTotalLength() * 0.37).matrixTransform(it.getScreenCTM());
+      return [p.x, p.y + 3] }})()""")
     tab.click(*at)
     text = said(tab)
     yield "a piece is chosen on its line, three points beside it", marked(tab, "chosen") == [edge]
@@ -115,7 +118,8 @@ def paths(tab: Tab, expected: Callable[[str, str], object]) -> Iterator[Check]:
             lit = marked(tab, "path")
             seen = re.findall(r"switch (\S+|.+?) (straight|diverging)(?= |$)", text)
             good += [it for it in lit if it[0] == "e"] == sorted(set(pieces_)) and [it[1] for it in seen] == positions
-    yield f"paths between {len(some)} signals with each switch's position ({found} paths)", good == len(some) * (len(some) - 1) and found > 0
+    yield (f"paths between {len(some)} signals with each switch's position ({found} paths)",
+           good == len(some) * (len(some) - 1) and found > 0)
 
 
 def zooming(tab: Tab) -> Iterator[Check]:
@@ -170,9 +174,11 @@ def saving(tab: Tab, sheet: str) -> Iterator[Check]:
     for deed in ("svg", "dxf", "csv", "sheet"):
         tab.run(f"document.querySelector('[data-do={deed}]').click()")
     tab.run("new Promise(r => setTimeout(r, 200))")
-    texts = tab.run("(async () => Object.fromEntries(await Promise.all(Object.entries(caught).map(async ([k, v]) => [k.split('.').pop(), await v.text()]))))()")
+    texts = tab.run("""(async () => Object.fromEntries(await Promise.all(Object.entries(caught).map(
+      async ([k, v]) => [k.split('.').pop(), await v.text()]))))()""")
     yield "the sheet is saved as it was", texts.get("sheet") == sheet
-    yield "SVG is saved", bool(re.match(r"<svg [^>]*xmlns", texts.get("svg", ""))) and "var(" not in texts["svg"] and "<style>" in texts["svg"]
+    svg = texts.get("svg", "")
+    yield "SVG is saved", bool(re.match(r"<svg [^>]*xmlns", svg)) and "var(" not in svg and "<style>" in svg
     yield "DXF is saved", texts.get("dxf", "").endswith("0\r\nEOF\r\n")
     yield "CSV is saved", texts.get("csv", "").startswith("km,kind,name,id,")
 
@@ -188,14 +194,16 @@ def looks(tab: Tab, page: Path) -> Iterator[Check]:
     for dark in (False, True):
         tab.media(dark=dark)
         tab.open(page)
-        colours.append(tab.run("[getComputedStyle(document.body).backgroundColor, getComputedStyle(document.querySelector('.edge')).stroke]"))
+        colours.append(tab.run("[getComputedStyle(document.body).backgroundColor, "
+                               "getComputedStyle(document.querySelector('.edge')).stroke]"))
     yield "it is light, and dark where that is wished", colours[0] == ["rgb(255, 255, 255)", "rgb(0, 0, 0)"] and \
         sum(map(int, re.findall(r"\d+", colours[1][0])[:3])) < 150 < sum(map(int, re.findall(r"\d+", colours[1][1])[:3]))
     tab.media()
     tab.size(390, 800, True)
     tab.open(page)
     yield "nothing is wider than a phone", tab.run("document.documentElement.scrollWidth") <= 390
-    yield "what is wide can be scrolled", tab.run("""[...document.querySelectorAll('.canvas')].every(it => it.scrollWidth <= it.clientWidth
+    yield "what is wide can be scrolled", tab.run("""[...document.querySelectorAll('.canvas')].every(it =>
+      it.scrollWidth <= it.clientWidth
       || getComputedStyle(it).overflowX == 'auto')""")
     tab.size(1600, 1000)
 
@@ -220,17 +228,19 @@ def points(tab: Tab) -> Iterator[Check]:
     good = 0
     for number in range(count):
         tab.run("window.scrollTo(0, 0)")
-        at = tab.run(f"""(() => {{ const it = document.querySelectorAll('svg.plot a')[{number}].querySelector('circle').getBoundingClientRect();
+        at = tab.run(f"""(() => {{ const it = document.querySelectorAll('svg.plot a circle')[{number}].getBoundingClientRect();
           return [(it.left + it.right) / 2, (it.top + it.bottom) / 2] }})()""")
         tab.click(*at)
         tab.run("new Promise(r => setTimeout(r, 60))")
-        shown = tab.run("[...document.querySelectorAll('figure.choice')].filter(it => it.getClientRects().length).map(it => '#' + it.id)")
+        shown = tab.run("[...document.querySelectorAll('figure.choice')].filter(it => it.getClientRects().length)"
+                        ".map(it => '#' + it.id)")
         good += shown == [tab.run(f"document.querySelectorAll('svg.plot a')[{number}].getAttribute('href')")]
     yield f"each point opens its drawing ({count})", good == count > 0
 
 
 def versions(tab: Tab) -> Iterator[Check]:
-    yield "two drawings lie side by side", tab.run("""(() => { const [a, b] = [...document.querySelectorAll('figure.version')].map(it => it.getBoundingClientRect());
+    yield "two drawings lie side by side", tab.run("""(() => {
+      const [a, b] = [...document.querySelectorAll('figure.version')].map(it => it.getBoundingClientRect());
       return !!b && a.right <= b.left + 1 })()""")
     first = tab.run("document.querySelector('.changes li').dataset.key")
     tab.move(*centre(tab, ".changes li"))
@@ -272,7 +282,8 @@ def expected_paths(text: str, graph: str) -> Callable[[str, str], object]:
             turn = {it: "diverging" if (it == upper) == (kind[2] == "upper") else "straight" for it in legs}
             return [(it, turn[it]) for it in out] if len(out) == 2 else [(it, turn[edge]) for it in out]
         if kind[0] == "crossing":
-            high, far_high = (into[0] if (into[0], into[1]) in above else into[1]), (out[0] if (out[0], out[1]) in above else out[1])
+            high, far_high = (into[0] if (into[0], into[1]) in above else into[1]), (out[0] if (out[0], out[1]) in above
+                                                                                     else out[1])
             return [(it, "") for it in out if (edge == high) != (it == far_high)]
         return [(it, "") for it in out] if kind[0] == "joint" else []
 
@@ -312,7 +323,8 @@ def drive(browser: Browser, kind: str, page: Path, output: str, graph: str) -> l
         if kind in ("draw", "signals"):
             switch = tab.run("Object.keys(objects).find(it => objects[it].kind == 'switch')")
             for check in (search(tab), both_ways(tab, switch), switches(tab, switch), pieces(tab), zooming(tab), keyboard(tab),
-                          saving(tab, output[:output.index("\nend ")] + "\n" + output[output.index("\nend ") + 1:].split("\n")[0] + "\n")):
+                          saving(tab, output[:output.index("\nend ")] + "\n"
+                                 + output[output.index("\nend ") + 1:].split("\n")[0] + "\n")):
                 found += list(check)
             if kind == "signals":
                 expected = expected_paths(output, graph)
@@ -321,7 +333,8 @@ def drive(browser: Browser, kind: str, page: Path, output: str, graph: str) -> l
             found += list(links(tab, page, tab.run(f"objects['{switch}'].link"), switch))
             found += list(looks(tab, page))
         else:
-            found += list({"explain": laws, "verify": laws, "front": points, "redraw": versions, "fault": lines_of_fault}[kind](tab))
+            found += list({"explain": laws, "verify": laws, "front": points, "redraw": versions,
+                           "fault": lines_of_fault}[kind](tab))
         found.append(("no request leaves the page", tab.requests() == []))
         found.append(("no script failed", tab.alarms() == []))
         return found

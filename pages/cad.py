@@ -13,7 +13,7 @@ from pages.texts import kilometres
 
 LAYERS = (("TRACK", 7), ("MAIN", 7), ("NODE", 1), ("NAME", 3), ("SIGNAL", 5), ("KILOMETRE", 8))
 CAP = 0.716
-STEP = 12.0
+MARGIN = 30.0
 Code = tuple[int, object]
 
 
@@ -40,7 +40,7 @@ class Dxf:
         self.codes: list[Code] = []
 
     def at(self, point: tuple[float, float]) -> tuple[float, float]:
-        return self.columns.x(point[0], self.strip) / MM, point[1] * self.columns.row / MM
+        return MARGIN + self.columns.x(point[0], self.strip) / MM, MARGIN + point[1] * self.columns.row / MM
 
     def put(self, kind: str, layer: str, *codes: Code) -> None:
         self.codes += [(0, kind), (8, layer), *codes]

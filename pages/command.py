@@ -23,6 +23,7 @@ from pages.kinds import ANSWERED, INPUTS, Page, Run, Settings
 from pages.texts import Graph, NoPage
 from pages.whole import page_text
 from tool import words as table
+from tool.version import VERSION
 
 USE = "a page is asked for by --html FILE and the words of draw, signals, front, explain, redraw or verify"
 CHOICES = {"--paper": tuple(PAPERS), "--labels": ("name", "id"), "--side": ("right", "left")}
@@ -254,7 +255,7 @@ def run_asked(launcher: str, asked: Asked, folder: Path, outputs: dict[str, Outp
         return status
     ended = give_all(output, is_open)
     run = Run(asked.words, line.names, line.options, output.decode("utf-8", "replace"), status, inputs, log=None,
-              settings=asked.settings, build=Build.of(os.environ, asked.is_unproved), date=date_of(),
+              settings=asked.settings, build=Build.of(os.environ, asked.is_unproved), version=VERSION, date=date_of(),
               page=asked.files.get("--html", ""), front_words=shown_front(asked), copied=words)
     complete(run, program, line)
     try:

@@ -95,11 +95,11 @@ class Output:
         if stat.S_ISLNK(there.st_mode):
             raise Refused(f"{self.name} is a link, and isn't replaced; name the file that it leads to")
         if not stat.S_ISREG(there.st_mode):
-            raise Refused(f"{self.name} is no plain file, and isn't replaced; name another file")
+            raise Refused(f"{self.name} is no plain file, and isn't replaced; name another")
         with open(self.name, "rb") as file:
             first = file.read(len(begins))
         if first and first.lower() != begins.lower():
-            raise Refused(f"{self.name} is there and is something else, so it isn't written over; delete it, or name another file")
+            raise Refused(f"{self.name} is there and is something else, so it isn't written over; name another file")
         if not os.access(self.name, os.W_OK):
             raise PermissionError(13, "Permission denied")
         return there

@@ -18,6 +18,8 @@ from pages.texts import Drawing, Graph, Law, NoPage
 CAPTION = "Not to scale: mileages rise from west to east, and upper is on the left seen in this direction."
 NO_LOG = "No log was kept. With --log NAME the search leaves one, which others can judge."
 ANSWERED = (0, 3, 4, 8)
+# of a paper's width: what a framed picture may have, and each of two side by side
+FRAMED, HALF = 0.97, 0.475
 INPUTS = {"draw": 1, "signals": 1, "front": 1, "explain": 1, "verify": 2, "redraw": 3}
 
 
@@ -282,7 +284,7 @@ def add_panels(page: Page, run: Run, why: texts.Why) -> None:
                 found.setdefault(thing.number, "other")
         kept = [str(at) for at in range(1, len(why.laws) + 1) if at != number]
         keeps = f"It keeps {sentences.listed(kept)} of the list. " if kept else "The list has no other law. "
-        page.draw(run.scene(drawing, page.station, marks=marks, has_scale=False, part=0.5 if len(why.laws) > 1 else 1.0),
+        page.draw(run.scene(drawing, page.station, marks=marks, has_scale=False, part=HALF if len(why.laws) > 1 else FRAMED),
                   element("b", f"Given up: {number}. "),
                   f"{sentences.sentence(text)} {keeps}Laws outside the list aren't kept.",
                   kind="panel", title=f"without {number}")
@@ -314,11 +316,11 @@ def add_versions(page: Page, run: Run, new: Drawing, old: Drawing) -> None:
     from pages.changes import Changes
     former = run.station(1)
     changes = Changes(old, new, former, page.station)
-    scenes = [run.scene(old, former, marks=changes.old_marks(), title="the former drawing", key=changes.old_key, part=0.5),
-              run.scene(new, page.station, marks=changes.new_marks(), title="the new drawing", part=0.5)]
+    scenes = [run.scene(old, former, marks=changes.old_marks(), title="the former drawing", key=changes.old_key, part=HALF),
+              run.scene(new, page.station, marks=changes.new_marks(), title="the new drawing", part=HALF)]
     is_wide = any(len(draw(scene).strips) > 1 for scene in scenes)
     for scene, word in zip(scenes, ("Before. ", "Now. ")):
-        scene.part = 1.0 if is_wide else 0.5
+        scene.part = 1.0 if is_wide else HALF
         page.draw(scene, element("b", word), CAPTION, kind="" if is_wide else "version", title=scene.title)
     page.objects, page.scene = Objects(scenes[1]), scenes[1]
     page.changes = changes.items()

@@ -1,5 +1,6 @@
-"""Names as a reader sees them: what shows nothing, or turns the direction of writing, is spelled as ‹U+200B›, and of two names
-that look alike each letter beyond ASCII is."""
+"""Names as a reader sees them: what shows nothing, or turns the direction of writing, is spelled as ‹U+200B›.
+
+Of two names that look alike each letter beyond ASCII is spelled so."""
 from __future__ import annotations
 
 import unicodedata

@@ -8,7 +8,7 @@ from typing import Optional
 from pages.markup import Element, element
 
 Spot = tuple[float, float]
-WEDGE = 13.0
+WEDGE = 16.0
 HEAD = 4.0
 # what each sign means, in the order of a legend
 MEANINGS = {"switch": "switch: the wedge is at its toe", "joint": "joint of two tracks", "crossing": "crossing",

@@ -2,6 +2,7 @@
 from __future__ import annotations
 
 import base64
+import functools
 import hashlib
 import json
 import re
@@ -63,6 +64,12 @@ def block(page: Page) -> str:
     return " ".join(Read(page_text(page)).texts)
 
 
+@functools.cache
+def text_of(name: str) -> str:
+    """the page of a stored run"""
+    return page_text(make(sample(name)))
+
+
 class Proofs(unittest.TestCase):
     def test_the_page_says_what_the_launcher_knows(self) -> None:
         digest = "0123456789abcdef" * 4
@@ -76,7 +83,7 @@ class Proofs(unittest.TestCase):
 
     def test_no_page_claims_a_proof_that_is_not_known(self) -> None:
         for name in samples():
-            text = " ".join(Read(page_text(make(sample(name)))).texts)
+            text = " ".join(Read(text_of(name)).texts)
             self.assertIn("Whether the program's proofs passed isn't known here.", text)
             self.assertNotRegex(text, r"is proved|are proved|proofs had passed")
         for build, said in ((PROVED, "after all its proofs had passed"), (Build("unproved", "b" * 64), "a first look"),):
@@ -237,7 +244,7 @@ class Hostile(unittest.TestCase):
 class Whole(unittest.TestCase):
     def test_the_policy_allows_this_script_and_these_styles_alone(self) -> None:
         for name in samples():
-            read = Read(page_text(make(sample(name))))
+            read = Read(text_of(name))
             policy = next(value for tag, attribute, value in read.attributes if attribute == "content"
                           and value.startswith("default-src"))
             allowed = dict(part.split(" ", 1) for part in policy.split("; "))
@@ -260,7 +267,7 @@ class Whole(unittest.TestCase):
 
     def test_ids_are_given_once(self) -> None:
         for name in samples():
-            ids = [value for _, attribute, value in Read(page_text(make(sample(name)))).attributes if attribute == "id"]
+            ids = [value for _, attribute, value in Read(text_of(name)).attributes if attribute == "id"]
             self.assertEqual(len(ids), len(set(ids)), name)
 
     def test_paper_and_date(self) -> None:

@@ -2,6 +2,7 @@
 from __future__ import annotations
 
 import math
+import re
 import unittest
 
 from pages import columns, drawing, signs, texts
@@ -12,6 +13,7 @@ from pages.markup import Element
 from pages.station import Station
 from pages.tests import crowded, drawn, fixtures
 from pages.tests.fixtures import example, sample, station_of
+from pages.whole import styles_of
 
 CAP = 0.688
 
@@ -100,6 +102,17 @@ class MarksOfLaws(unittest.TestCase):
         self.assertEqual(sign(page, "n2").attributes["class"], "sign node broken")
         self.assertEqual(sign(page, "n1").attributes["class"], "sign node")
 
+    def test_colours_are_those_that_the_page_names(self) -> None:
+        style = "".join(styles_of("A3"))
+        for kind, colour in (("broken", "red"), ("party", "blue")):
+            rule = re.search(rf"\.edge\.{kind} {{ stroke: var\(--(\w+), (#\w+)\)([^}}]*)", style)
+            self.assertEqual(rule[1], kind)
+            self.assertEqual("stroke-dasharray" in rule[3], kind == "broken")
+            red, green, blue = (int(rule[2][at:at + 2], 16) for at in (1, 3, 5))
+            self.assertEqual("red" if red > blue else "blue", colour)
+        said = " ".join(part.text() for title, parts in make(sample("explain")).facts if title == "Colours" for part in parts)
+        self.assertRegex(said, "Red, broken lines and squares: what the drawing gives up. Blue, solid lines and circles: what it keeps")
+
     def test_rings_differ_in_form(self) -> None:
         from pages.strip import ring
         made = {kind: (ring(kind).tag, str(ring(kind).attributes.get("d")))
@@ -115,6 +128,9 @@ class MarksOfLaws(unittest.TestCase):
                        for at in (0, 1))
         self.assertEqual([now[it] for it in ("n1", "n4", "n6", "n7", "n0")], ["moved", "moved", "new", "new", "node"])
         self.assertEqual(before["n1"], "moved")
+        rings = {key: [it.tag for it in sign(page, key, 1).all() if it.attributes.get("class") == "ring"]
+                 for key in ("n1", "n6", "n0")}
+        self.assertEqual(rings, {"n1": ["circle"], "n6": ["path"], "n0": []})
 
     def test_no_scale_where_mileages_need_not_rise(self) -> None:
         self.assertFalse(by_class(make(sample("explain_above")), "axis"))

@@ -1,0 +1,110 @@
+"""Wrong lines, each planted in a copy of pages/: the tests of the package that are named are to fail."""
+from __future__ import annotations
+
+import os
+import shutil
+import subprocess
+import sys
+import tempfile
+from concurrent.futures import ThreadPoolExecutor
+from pathlib import Path
+
+TOP = Path(__file__).resolve().parent.parent
+# what is planted, in which file, what is there, what comes in its place, and which tests are asked
+PLANTED = [
+    ("a signal's direction is turned", "station.py", "== along[at]) == (known.direction", "== along[at]) != (known.direction",
+     "station"),
+    ("signals are on the wrong side", "signs.py", "hand = -way if is_left else way", "hand = way if is_left else -way",
+     "pictures"),
+    ("a buffer stop is turned", "signs.py", 'd=f"M{-5 * out},-6 H0 V6 H{-5 * out}"', 'd=f"M{5 * out},-6 H0 V6 H{5 * out}"',
+     "pictures"),
+    ("texts aren't escaped: headings, commands", "markup.py", '.replace("<", "&lt;")', "", "pages"),
+    ("values aren't escaped", "markup.py", '.replace(\'"\', "&quot;")', "", "markup"),
+    ("colours of what is broken and kept are exchanged", "screen/drawing.css", ".edge.broken { stroke: var(--broken, #b00020)",
+     ".edge.broken { stroke: var(--party, #0059b3)", "pictures"),
+    ("marks of what is broken and kept are exchanged", "kinds.py", 'marked(law.parties, "broken", marks)',
+     'marked(law.parties, "party", marks)', "pictures"),
+    ("another party is marked", "kinds.py", "(marks.nodes if what == \"node\" else marks.edges)[number] = kind",
+     "(marks.nodes if what == \"node\" else marks.edges)[number ^ 1] = kind", "pictures"),
+    ("rings are gone", "strip.py", "parts.append(ring(mark))", "pass", "pictures"),
+    ("names may lie on signals", "strip.py", "self.field.add(Sign(box, owner))\n        middle", "middle", "layout"),
+    ("names may lie on lines", "strip.py", "self.field.add(Line(start, end, half))", "pass", "layout"),
+    ("a hash is that of other bytes", "files.py", "hashlib.sha256(content).hexdigest(), len(content), date)",
+     "hashlib.sha256(content[1:]).hexdigest(), len(content), date)", "command"),
+    ("a proof is claimed that isn't known", "facts.py", 'state, sha256 = "", ""', 'state, sha256 = "proved", ""', "pages"),
+    ("--unproved says proved", "facts.py",
+     'return cls("unproved", sha256 if state == "unproved" else "") if is_unproved else cls(state, sha256)',
+     "return cls(state, sha256)", "pages"),
+    ("the program reads the file itself", "command.py", "words[at] = found.copy or words[at]", "pass", "command"),
+    ("legs are exchanged", "station.py", '(lower, upper) if node.side == "upper" else (upper, lower)',
+     '(upper, lower) if node.side == "upper" else (lower, upper)', "station"),
+    ("trains turn from leg to leg", "station.py", "Way(legs.trunk, legs.diverging, DIVERGING)",
+     "Way(legs.straight, legs.diverging, DIVERGING)", "station"),
+    ("paths of a crossing are parallel", "station.py", "[Way(west[1], east[0]), Way(west[0], east[1])]",
+     "[Way(west[0], east[0]), Way(west[1], east[1])]", "station"),
+    ("skipped elements are read", "infrastructure.py",
+     "elif path[1:4] == TOPOLOGY:\n            self.in_topology(path[4:], attributes)",
+     "elif \"trackTopology\" in path and self.found.tracks:\n            "
+     "self.in_topology(path[path.index(\"trackTopology\") + 1:], attributes)", "station"),
+    ("kilometres lack a digit", "texts.py", 'return sign + whole[:-3] + "." + decimals.ljust(3, "0")',
+     'return sign + whole[:-3] + "." + decimals[:3].ljust(3, "0")', "lists"),
+    ("the sheet has the signals too", "texts.py", 'if line.startswith("end "):\n            return "\\n".join(kept) + "\\n"',
+     'if False:\n            return ""', "pages"),
+    ("explain claims that all other laws are kept", "kinds.py", "{keeps}Laws outside the list aren't kept.",
+     "It keeps all others.", "pages"),
+    ("explain's drawings have a scale", "kinds.py", "marks=marks, has_scale=False, part", "marks=marks, has_scale=True, part",
+     "pictures"),
+    ("letters are small", "places.py", '"track": 10.5', '"track": 8.5', "pictures"),
+    ("what can't be seen isn't spelled", "letters.py", 'UNSEEN = {"Cc", "Cf",', 'UNSEEN = {"Cc",', "markup"),
+    ("any script may run", "whole.py", "script-src {hash_of(script)}", "script-src 'unsafe-inline'", "pages"),
+    ("links are followed", "files.py", "if stat.S_ISLNK(there.st_mode):", "if False:", "command"),
+    ("what is left isn't taken away", "files.py", "os.unlink(self.part)", "pass", "command"),
+    ("rights are others", "files.py", "stat.S_IMODE(there.st_mode) if there else", "0o600 if there else", "command"),
+    ("the drawing of another pair", "command.py", 'given["--" + one], given["--order"] = str(pair[0]), other',
+     'given["--" + one], given["--order"] = str(pair[1]), other', "command"),
+    ("gone nodes have the keys of others", "changes.py", 'return f"{kind}{same.number}" if same else f"gone-{kind}{number}"',
+     'return f"{kind}{number}"', "pictures"),
+    ("an interrupt ends with 0", "command.py", "return 130", "return 0", "command"),
+    ("strips leave columns out", "columns.py", "Strip(one + 1, other, one >= 0, other < last)",
+     "Strip(one + 2, other, one >= 0, other < last)", "pictures"),
+    ("the second element isn't linked", "faults.py", "for it in notes if it.place]", "for it in notes[:1] if it.place]",
+     "faults"),
+    ("y falls in DXF", "cad.py", "MARGIN + point[1]", "MARGIN - point[1]", "lists"),
+    ("two names that look alike look alike", "letters.py", "return spelled_out(text) if text in self.alike else visible(text)",
+     "return visible(text)", "markup"),
+    ("wedges point from the legs", "strip.py", "(x, y), (u, v) = points[:2] if side == \"east\" else reversed(points[-2:])",
+     "(u, v), (x, y) = points[:2] if side == \"east\" else reversed(points[-2:])", "pictures"),
+    ("the output isn't given where the page can't be written", "command.py", "    ended = give_all(output, is_open)\n",
+     "    ended = 0\n", "command"),
+]
+
+
+def plant(base: Path, one: tuple[str, str, str, str, str]) -> tuple[str, list[str]]:
+    """the answer of the tests with one wrong line"""
+    what, name, old, new, asked = one
+    with tempfile.TemporaryDirectory(dir=base) as folder:
+        copy = Path(folder) / "clone"
+        for part in ("pages", "tool", "examples"):
+            shutil.copytree(TOP / part, copy / part, ignore=shutil.ignore_patterns("__pycache__"))
+        shutil.copytree(TOP / "cases/stations", copy / "cases/stations")
+        path = copy / "pages" / name
+        text = path.read_text(encoding="utf-8")
+        if old not in text:
+            return what, ["it can't be planted: the line isn't there"]
+        path.write_text(text.replace(old, new), encoding="utf-8")
+        ran = subprocess.run([sys.executable, "-m", "unittest", "-f", f"pages.tests.test_{asked}"], cwd=copy,
+                             capture_output=True, timeout=900,
+                             env={**os.environ, "PYTHONDONTWRITEBYTECODE": "1"})
+        said = ran.stderr.decode("utf-8", "replace")
+        failed = next((line for line in said.split("\n") if line.startswith(("FAIL:", "ERROR:"))), "")
+        return what, [] if ran.returncode and failed else ["no test fails"]
+
+
+def tried(words: list[str]) -> list[tuple[str, list[str]]]:
+    chosen = [one for one in PLANTED if not words or any(word in one[0] for word in words)]
+    with tempfile.TemporaryDirectory() as base, ThreadPoolExecutor(2) as pool:
+        found = []
+        for answer in pool.map(lambda one: plant(Path(base), one), chosen):
+            print(f"{answer[0]}: " + (answer[1][0] if answer[1] else "a test fails"), flush=True)
+            found.append(answer)
+    return found
