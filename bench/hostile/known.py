@@ -8,11 +8,7 @@ KNOWN: dict[str, str] = {
     "interrupted read": "A read that is interrupted isn't tried again: the run ends with 5.",
     "interrupted write": "A write that is interrupted isn't tried again: the run ends with 6.",
     "size of files": "A file that may not grow further ends the program alone by the signal XFSZ, and not with 6.",
-    "page, SIGINT alone": "A run with a page goes on where the process that was started, and not its group, gets an interrupt.",
-    "page, SIGHUP alone": "A run with a page leaves its search running where its terminal is gone.",
     "signs of a picture": "An id with U+FFFE is written as it is into a picture, which is no XML then.",
-    "signs of a page": "Control characters of a track's name, and U+FFFE, stand raw in a page.",
-    "no room for names": "An explanation whose names have no room has no page, and the run ends with 0.",
     "slow: recheck, one beyond the formula named again":
         "A line of hints may name a long clause again and again, and each costs its length: the seconds grow as the square.",
 }

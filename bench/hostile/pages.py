@@ -132,17 +132,17 @@ def judge_page(case: Case, text: bytes) -> None:
     for why in reader.wrong[:3]:
         case.wrong(why)
     odd = odd_characters(page)
-    if not is_passed_over(case):
+    if not is_passed_over(case, "signs of a page"):
         case.hold_that(not odd, f"the page has {odd}")
         for picture in re.findall(rb"<svg\b.*?</svg>", text, re.S):
             why = why_no_xml(picture)
             case.hold_that(not why, f"a page's picture is {why}")
 
 
-def is_passed_over(case: Case) -> bool:
-    """whether a change has made a sign in the station that no page is to have, and that one is known to have"""
+def is_passed_over(case: Case, known: str) -> bool:
+    """whether the station has a sign that no page and no picture is to have, and that these are known to have"""
     text = (case.text_of("station") or b"").decode("utf-8", "replace")
-    return "signs of a page" in KNOWN and (bool(odd_characters(text)) or "&#" in text)
+    return known in KNOWN and (bool(odd_characters(text)) or "&#" in text)
 
 
 def judge(case: Case, words: list[str], plain: Answer, shown: Answer) -> None:
@@ -190,7 +190,7 @@ def attempt(case: Case) -> None:
     words = COMMANDS[case.number % len(COMMANDS)]
     plain = case.run(*words)
     picture = case.text_of("picture")
-    if picture is not None and not is_passed_over(case):
+    if picture is not None and not is_passed_over(case, "signs of a picture"):
         why = why_no_xml(picture)
         case.hold_that(not why, f"the program's picture is {why}")
     shown = case.start([launcher, "--html", "page.html", *words], environment=environment)

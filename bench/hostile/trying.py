@@ -1,10 +1,11 @@
 """What the scripts of this folder share: their words, cases that follow from a seed, runs of the program, and the tally.
 
 A script has a function that tries one case. Each case has a number and its own chances, which follow from the seed and the
-number: `--seed S --first N --count 1` tries case N of the seed S again."""
+number: `--seed S --first N --count 1` tries case N of the seed S again. A script that is interrupted says what it has tried."""
 from __future__ import annotations
 
 import argparse
+import multiprocessing
 import os
 import random
 import shutil
@@ -154,6 +155,22 @@ class NotHere(Exception):
     """what a script needs of the system, and isn't here"""
 
 
+class Stop:
+    """whether the script is asked to end: by an interrupt, and likewise by a request to end"""
+    asked = False
+
+    @classmethod
+    def ask(cls, *_: object) -> None:
+        cls.asked = True
+        for worker in multiprocessing.active_children():
+            os.kill(worker.pid, signal.SIGINT)
+
+    @classmethod
+    def listen(cls) -> None:
+        for number in (signal.SIGINT, signal.SIGTERM):
+            signal.signal(number, cls.ask)
+
+
 Try = Callable[[Case], None]
 Prepare = Callable[[argparse.Namespace], object]
 
@@ -170,13 +187,15 @@ def try_some(words: argparse.Namespace, attempt: Try, numbers: range) -> Tally:
         folder = Path(name)
         runner = Runner(folder)
         for number in numbers:
-            if time.time() > words.until:
+            if Stop.asked or time.time() > words.until:
                 break
             case = Case(words.program, runner, words.seed, number)
             try:
                 attempt(case)
             except Exception as why:  # a fault of the script isn't to lose what it has tried so far
                 case.wrong(f"the script fails: {why!r}, {traceback.format_tb(why.__traceback__)[-1].strip()}")
+            if Stop.asked:  # its runs may have been ended with it
+                break
             if case.tally.wrong and words.keep:
                 shutil.copytree(folder, words.keep / f"{words.name}_{words.seed}_{number}", dirs_exist_ok=True)
             tally.add(case.tally)
@@ -237,6 +256,7 @@ def main(text: str, attempt: Try, count: int, prepare: Prepare | None = None) ->
     words.until = words.began + words.seconds
     words.keep = words.keep and words.keep.resolve()
     tally = Tally()
+    Stop.listen()
     try:
         if prepare:
             prepare(words)

@@ -3,6 +3,9 @@ import argparse
 import contextlib
 import io
 import random
+import signal
+import subprocess
+import sys
 import tempfile
 import time
 import unittest
@@ -73,6 +76,20 @@ class Scripts(unittest.TestCase):
         tally = trying.try_some(words, attempt, range(3))
         self.assertEqual((tally.cases, tally.counts["tried"], len(tally.wrong)), (3, 3, 1))
         self.assertIn("seed 1, case 1: the script fails: ValueError('here')", tally.wrong[0])
+
+
+class Interrupts(unittest.TestCase):
+    def test_a_script_that_is_interrupted_says_what_it_has_tried(self) -> None:
+        text = ("import sys; sys.path.insert(0, sys.argv.pop(1)); import trying; "
+                "trying.main('', lambda case: (case.run('-c', 'sleep 0.05'), print('tried', flush=True)), 10 ** 6)")
+        for number in (signal.SIGINT, signal.SIGTERM):
+            command = [sys.executable, "-c", text, str(Path(trying.__file__).parent), "/bin/sh"]
+            job = subprocess.Popen(command, stdout=subprocess.PIPE, text=True)
+            self.assertEqual(job.stdout.readline(), "tried\n")
+            job.send_signal(number)
+            said = job.communicate(timeout=60)[0].splitlines()[-1]
+            self.assertRegex(said, "cases tried in [0-9]+ runs, 0 wrong, seed 1")
+            self.assertEqual(job.returncode, 0)
 
 
 class Known(unittest.TestCase):
