@@ -15,6 +15,7 @@ from dataclasses import asdict, dataclass, field
 from pathlib import Path
 
 from tool import advice, notes, running, telling, words
+from tool.files import state_of
 from tool.version import VERSION
 
 # the files that are left of a station, by their kinds
@@ -139,7 +140,9 @@ class Drawing:
         self.station, self.name, self.setting, self.jobs, self.work = station, name, setting, jobs, work
 
     def path(self, kind: str) -> Path:
-        return self.work / f"{self.name}{ENDINGS.get(kind, '.' + kind)}"
+        """where a file is until it is done; the page, which names itself, is where it belongs, and is written whole or not"""
+        folder = self.setting.out if kind == "page" else self.work
+        return folder / f"{self.name}{ENDINGS.get(kind, '.' + kind)}"
 
     def program(self, *given: str) -> tuple[int, bytes]:
         return self.jobs.run([self.setting.program, *given])
@@ -188,6 +191,12 @@ class Drawing:
         return record
 
 
+def written(path: Path) -> tuple[int, int]:
+    """which file there is and when it was written, to see whether it is another one by now"""
+    there = state_of(str(path))
+    return (there.st_ino, there.st_mtime_ns) if there else (0, 0)
+
+
 def draw(station: Path, name: str, setting: Setting, jobs: Jobs) -> Record:
     """the record of a station; its files are where they belong when the record is"""
     key = key_of(station, setting)
@@ -196,15 +205,17 @@ def draw(station: Path, name: str, setting: Setting, jobs: Jobs) -> Record:
         return known
     with tempfile.TemporaryDirectory(prefix="railplan-") as folder:
         drawing = Drawing(station, name, setting, jobs, Path(folder))
+        page = written(drawing.path("page"))
         record = drawing.record(key)
         for kind, ending in ENDINGS.items():
-            target = setting.out / f"{name}{ending}"
-            if drawing.path(kind).exists():
-                whole(drawing.path(kind), target)
+            source, target = drawing.path(kind), setting.out / f"{name}{ending}"
+            if source.exists() and (kind != "page" or written(source) != page):
+                if source != target:
+                    whole(source, target)
                 record.files.append(target.name)
             elif known and target.name in known.files:
                 target.unlink(missing_ok=True)
-        written = Path(folder, "record")
-        written.write_text(json.dumps(asdict(record), indent=1), encoding="utf-8")
-        whole(written, record_path(setting.out, name))
+        kept = Path(folder, "record")
+        kept.write_text(json.dumps(asdict(record), indent=1), encoding="utf-8")
+        whole(kept, record_path(setting.out, name))
     return record
