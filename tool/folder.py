@@ -22,7 +22,11 @@ class Words(argparse.ArgumentParser):
     """The words of folder; a fault of them is said as all faults of words are"""
 
     def error(self, message: str) -> NoReturn:
-        end(2, f"{message}. {called()} {FORM}")
+        missing = message.partition("arguments are required: ")[2]
+        extra = message.partition("unrecognized arguments: ")[2]
+        said = f"{missing.replace(', ', ' and ')} {'are' if ',' in missing else 'is'} missing" if missing else \
+            f"folder has no word `{extra}`" if extra else message
+        end(2, f"{said}: {called()} {FORM}")
 
 
 def shard(text: str) -> tuple[int, int]:

@@ -1,6 +1,8 @@
 """The page of a folder: each station with its small drawing, faults first."""
 from __future__ import annotations
 
+from itertools import groupby
+
 from tool.folder_station import Record
 from tool.markup import Element, document
 
@@ -10,16 +12,18 @@ CALLED = {0: "best", 1: "refused", 3: "no drawing", 4: "stopped", 5: "unread", 6
           10: "not started"}
 
 RULES = """
-body{font:15px/1.4 system-ui,sans-serif;margin:2em auto;max-width:75em;padding:0 1em;color:#222;background:#fff}
+body{font:15px/1.4 system-ui,sans-serif;margin:2em auto;max-width:90em;padding:0 1em;color:#222;background:#fff}
 table{border-collapse:collapse;width:100%}th{text-align:left;font-weight:600}
-td,th{border-top:1px solid #ccc;padding:.5em .6em;vertical-align:top}
-img{max-width:32em;max-height:7em;background:#fff}pre{margin:0;white-space:pre-wrap;font-size:13px}
+td,th{border-top:1px solid #ccc;padding:.5em .6em;vertical-align:top}td p{margin:0 0 .3em}
+td.drawing{width:46%;max-width:34em}img{max-width:100%;max-height:8em;background:#fff}
+pre{margin:0 0 .5em;overflow-x:auto;font-size:12px}.line{color:#777;font-size:12px}
 .fault td{background:#fdecea}.open td{background:#fff6dd}.badge{border:1px solid #2a7a2a;color:#2a7a2a;border-radius:.6em;
-padding:0 .5em;white-space:nowrap}.number{text-align:right;white-space:nowrap}
+padding:0 .5em;white-space:nowrap}.number{white-space:nowrap}
 @media print{body{margin:0;max-width:none}tr{break-inside:avoid}}
-@media (prefers-color-scheme:dark){body{background:#1b1b1b;color:#ddd}.fault td{background:#43211e}.open td{background:#3d3520}
-.badge{color:#7ac77a;border-color:#7ac77a}}
+@media (prefers-color-scheme:dark){body{background:#1b1b1b;color:#ddd}a{color:#8ab4f8}.fault td{background:#43211e}
+.open td{background:#3d3520}.badge{color:#7ac77a;border-color:#7ac77a}.line{color:#aaa}}
 """
+HEADS = ("station", "drawing", "end", "height, bends, diagonal, width", "grid", "checked", "time")
 
 
 def rank(status: int) -> int:
@@ -56,29 +60,47 @@ def badge(record: Record) -> Element | str:
     if word != "certified":
         return record.certified
     if record.end == "end none":
-        said = "certified: no drawing"
+        text = "certified: no drawing"
     elif count == "0":
         return "claims nothing"
     else:
-        said = f"certified: {count} of {len(record.order)}"
-    return Element("a", said, href=f"{record.name}.hints", class_="badge",
+        text = f"certified: {count} of {len(record.order)}"
+    return Element("a", text, href=f"{record.name}.hints", class_="badge",
                    title="what is left of the search's log was checked again")
+
+
+def is_excerpt(line: str) -> bool:
+    """whether a line that was said is a line of a file, or the mark below it"""
+    return line[:5].strip().isdigit() and line[5:8] == " | " or line.startswith("      | ")
+
+
+def said(text: str) -> list[Element]:
+    """sentences as text, and lines of files as they are"""
+    found: list[Element] = []
+    for is_code, lines in groupby(text.rstrip("\n").split("\n") if text else [], is_excerpt):
+        found += [Element("pre", "\n".join(lines))] if is_code else [Element("p", it) for it in lines]
+    return found
 
 
 def shown(record: Record) -> list[Element]:
     """the small drawing, and what is said of the run"""
     picture = f"{record.name}.svg"
     found = [Element("img", src=picture, alt=f"the drawing of {record.name}", loading="lazy")] if picture in record.files else []
-    return found + ([Element("pre", record.said.rstrip("\n"))] if record.said else [])
+    return found + said(record.said)
+
+
+def ended(record: Record) -> list[Element | str]:
+    """how the run ended, and the program's own line where that says more"""
+    return [called(record)] + ([Element("br"), Element("span", record.end, class_="line")]
+                               if record.status not in (0, 3) and record.end else [])
 
 
 def row(record: Record) -> Element:
     kind = {0: "good", 3: "open", 4: "open"}.get(record.status, "fault")
-    ended = called(record) + (f" ({record.end})" if record.status not in (0, 3) and record.end else "")
-    grid = " by ".join(map(str, record.grid))
-    cells = [Element("td", link(record)), Element("td", ended), Element("td", " ".join(map(str, record.values)), class_="number"),
-             Element("td", grid, class_="number"), Element("td", badge(record)),
-             Element("td", f"{record.seconds:.1f} s" if record.seconds else "", class_="number"), Element("td", *shown(record))]
+    grid = " by ".join(map(str, record.grid)) if kind != "fault" else ""
+    cells = [Element("td", link(record)), Element("td", *shown(record), class_="drawing"), Element("td", *ended(record)),
+             Element("td", ", ".join(map(str, record.values)), class_="number"), Element("td", grid, class_="number"),
+             Element("td", badge(record)), Element("td", f"{record.seconds:.1f} s" if record.seconds else "", class_="number")]
     return Element("tr", *cells, class_=kind)
 
 
@@ -91,9 +113,8 @@ def counts(records: list[Record]) -> str:
 
 
 def text(title: str, records: list[Record]) -> str:
-    heads = ("station", "end", "height bends diagonal width", "grid", "certificate", "time", "drawing")
-    table = Element("table", Element("thead", Element("tr", *(Element("th", it) for it in heads))),
+    table = Element("table", Element("thead", Element("tr", *(Element("th", it) for it in HEADS))),
                     Element("tbody", *(row(it) for it in in_order(records))))
     certified = sum(isinstance(badge(it), Element) for it in records)
-    said = f"{counts(records)}." + (f" {certified} with a certificate that was checked again." if certified else "")
-    return document(title, RULES, Element("h1", stations(len(records))), Element("p", said), table)
+    line = f"{counts(records)}." + (f" {certified} with a certificate that was checked again." if certified else "")
+    return document(title, RULES, Element("h1", stations(len(records))), Element("p", line), table)

@@ -159,14 +159,15 @@ class Folders(InClone):
     def test_words_with_a_fault(self):
         self.stations("a")
         for more, piece in ((["--shard", "3/2"], "`3/2` is no part"), (["-j", "0"], "no number of stations"),
-                            (["--width", "65"], "`65` can't be behind --width"), (["x"], "unrecognized arguments: x"),
-                            (["--svg", "s"], "unrecognized arguments")):
+                            (["--width", "65"], "`65` can't be behind --width"), (["x"], "folder has no word `x`"),
+                            (["--svg", "s"], "folder has no word `--svg s`")):
             with self.subTest(more):
                 status, out, err = self.folder(*more)
                 self.assertEqual((status, out), (2, ""))
                 self.assertIn(piece, err)
         self.assertEqual(self.launch("folder", "nosuch", "out")[0], 5)
         self.assertEqual(self.launch("folder", "bin", "out")[0], 5)
+        self.assertIn("IN and OUT are missing", self.launch("folder")[2])
         self.assertEqual(self.launch("--html", "p", "folder", "in", "out")[0], 2)
 
     def test_grids(self):
