@@ -5,7 +5,7 @@ import shlex
 import subprocess
 from collections import Counter
 
-from tool import railml, running, words
+from tool import files, railml, running, words
 from tool.notes import Note
 from tool.railml import Document, Element
 from tool.saying import called
@@ -50,6 +50,8 @@ def longest_chain(graph: list[str]) -> int:
 
 def chain_of(program: str, name: str) -> int:
     """the same of a file, as the program has its graph; 0 where that can't be had"""
+    if not files.is_plain(name):
+        return 0
     ran = subprocess.run([program, "graph", name], stdin=subprocess.DEVNULL, capture_output=True, text=True)
     return longest_chain(ran.stdout.splitlines()) if ran.returncode == 0 else 0
 
@@ -150,14 +152,6 @@ def ways_on(line: words.Line, is_room: bool) -> str:
 # ---- what a drawing doesn't show
 
 
-def data_of(name: str) -> Document | None:
-    try:
-        with open(name, "rb") as it:
-            return railml.read(it.read())
-    except OSError:
-        return None
-
-
 def slips(document: Document) -> list[str]:
     return [f"{it.id} is {SLIPS[it.attributes['type']]} in the file; it is drawn as a crossing, without its slips"
             for track in document.tracks() for it in railml.points(track)
@@ -216,9 +210,10 @@ def crowded_piece(document: Document, line: words.Line, said: list[str]) -> list
 
 
 def not_shown(line: words.Line, said: list[str]) -> list[Note]:
-    document = data_of(line.names[0])
-    if document is None:
+    data = files.reread(line.names[0])
+    if data is None:
         return []
+    document = railml.read(data)
     found = slips(document) + bent_tracks(document) + prefixed(document, line.command)
     return [Note(it) for it in found + passed_over(document, line.command) + crowded_piece(document, line, said)]
 

@@ -3,7 +3,7 @@ from __future__ import annotations
 
 import subprocess
 
-from tool import railml, words
+from tool import files, railml, words
 from tool.graph_faults import hand
 from tool.notes import Note
 from tool.track_graph import TrackGraph
@@ -41,9 +41,10 @@ def laws(program: str, line: words.Line, said: list[str]) -> list[Note]:
     listed = [it.split() for it in said if it.startswith("law ")]
     if not listed:
         return []
-    named = Named(program, line.names[0])
-    with open(line.names[0], "rb") as it:
-        graph = TrackGraph(railml.read(it.read()))
+    data = files.reread(line.names[0])
+    if data is None:
+        return []
+    named, graph = Named(program, line.names[0]), TrackGraph(railml.read(data))
     found = []
     for fields in listed:
         parties = list(zip(fields[2::2], fields[3::2]))

@@ -23,6 +23,24 @@ def state_of(name: str) -> os.stat_result | None:
         return None
 
 
+def reread(name: str) -> bytes | None:
+    """what a file has, to explain what the program said of it; a pipe has been read, and would be waited for"""
+    there = state_of(name)
+    if there is None or not stat.S_ISREG(there.st_mode):
+        return None
+    try:
+        with open(name, "rb") as file:
+            return file.read(MOST_BYTES["railml"] + 1)
+    except OSError:
+        return None
+
+
+def is_plain(name: str) -> bool:
+    """whether a file can be read again"""
+    there = state_of(name)
+    return bool(there and stat.S_ISREG(there.st_mode))
+
+
 def is_one_file(one: str, other: str) -> bool:
     if os.path.realpath(one) == os.path.realpath(other):
         return True

@@ -1,6 +1,9 @@
 """What a fault of a sheet means, and which law a sheet's drawing breaks."""
 from __future__ import annotations
 
+import os
+
+from tool.files import is_plain
 from tool.notes import Note
 from tool.places import Place, of_line
 
@@ -91,7 +94,7 @@ class Drawing:
     def __init__(self, sheet: str):
         self.sheet, self.nodes, self.edges = sheet, {}, {}
         try:
-            with open(sheet, encoding="utf-8", errors="replace") as lines:
+            with open(sheet if is_plain(sheet) else os.devnull, encoding="utf-8", errors="replace") as lines:
                 for number, line in enumerate(lines, 1):
                     self.take(number, line.split())
         except OSError:

@@ -10,14 +10,6 @@ from tool.places import of_line
 from tool.saying import called
 
 
-def data_of(name: str) -> bytes:
-    try:
-        with open(name, "rb") as it:
-            return it.read(files.MOST_BYTES["railml"] + 1)
-    except OSError:
-        return b""
-
-
 def unread(name: str) -> str:
     """why a file couldn't be read, and what to do"""
     if name == "-":
@@ -90,9 +82,9 @@ class Ending:
         return [Note(too_long(it.word, it.kind))]
 
     def of_station(self, name: str, fields: list[str]) -> list[Note]:
-        data, fault = data_of(name), fields[2]
-        if not data and fields[0] != "text":
-            return [Note(f"{name} has a fault, and can't be read again to show it: {' '.join(fields)}")]
+        data, fault = files.reread(name), fields[2]
+        if data is None:
+            return [Note(f"{name} has a fault, and can't be read again to show where: {' '.join(fields)}. Name a file")]
         if fields[0] == "text":
             from tool import text_faults
             return text_faults.notes(name, data, fault, int(fields[4]), called())
