@@ -92,6 +92,9 @@ def zsh_option(it: words.Option) -> str:
 def zsh() -> str:
     lines = []
     for word in manual.all_commands():
+        if word == "help":
+            lines.append("        (help) _describe command commands ;;")
+            continue
         names = f"'*:pair or file:({' '.join(pairs())})'" if word == "front" else "'*:file:_files'"
         lines.append(f"        ({word}) _arguments {' '.join([*(zsh_option(it) for it in options_of(word)), names])} ;;")
     described = "\n".join(f"        '{word}:{quoted(it.what)}'" for word, it in manual.all_commands().items())

@@ -41,6 +41,7 @@ def tell(clone: built.Clone, line: words.Line, ran: running.Ran) -> None:
 def run_unproved(clone: built.Clone, line: words.Line) -> None:
     """runs the words in the program's folder; so names of files, and no other words, are made absolute"""
     from tool.building import need_rt
+    answer_unrun(clone, line)
     rt = need_rt()
     say("without its proofs the program is built anew for each run, in about a minute, and searches a hundred times as long")
     asked = list(line.words)

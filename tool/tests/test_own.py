@@ -147,6 +147,12 @@ class Made(unittest.TestCase):
         text = completions.zsh()
         for word in [*manual.all_commands(), *words.OPTIONS, *words.OWN_OPTIONS, *words.PAGE_WORDS]:
             self.assertIn(word, text)
+        self.assertIn("(help) _describe", text)
+
+    @unittest.skipUnless(shutil.which("zsh"), "there is no zsh")
+    def test_completions_of_zsh_are_a_script(self):
+        ran = subprocess.run(["zsh", "-n"], input=completions.zsh(), capture_output=True, text=True)
+        self.assertEqual((ran.returncode, ran.stderr), (0, ""))
 
 
 if __name__ == "__main__":
