@@ -57,7 +57,7 @@ PLANTED = [
     ("letters are small", "places.py", '"track": 10.5', '"track": 8.5', "pictures"),
     ("what can't be seen isn't spelled", "letters.py", 'UNSEEN = {"Cc", "Cf",', 'UNSEEN = {"Cc",', "markup"),
     ("any script may run", "whole.py", "script-src {hash_of(script)}", "script-src 'unsafe-inline'", "pages"),
-    ("links are followed", "files.py", "if stat.S_ISLNK(there.st_mode):", "if False:", "command"),
+    ("links are followed", "files.py", "os.lstat(self.name)", "os.stat(self.name)", "command"),
     ("what is left isn't taken away", "files.py", "os.unlink(self.part)", "pass", "command"),
     ("rights are others", "files.py", "stat.S_IMODE(there.st_mode) if there else", "0o600 if there else", "command"),
     ("the drawing of another pair", "command.py", 'given["--" + one], given["--order"] = str(pair[0]), other',

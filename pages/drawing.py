@@ -151,8 +151,9 @@ def drawn(scene: Scene, columns: Columns) -> tuple[Picture, list[float]]:
     lacking = {f"track {edge.track}" for edge in scene.drawing.edges if edge.track is not None} - named
     if lacking:
         raise NoPlace(min(lacking))
-    trouble = sum(name.trouble() for _, name in names) + 12 * (len(plans) - 1)
-    worst = [plan.column_of(name) for plan, name in names if name.trouble()]
+    clashes = [float(column) for plan in plans for column in plan.clashes]
+    trouble = sum(name.trouble() for _, name in names) + 12 * (len(plans) - 1) + 20 * len(clashes)
+    worst = [plan.column_of(name) for plan, name in names if name.trouble()] + clashes
     short = sorted({(name.text, name.whole) for _, name in names if name.text != name.whole})
     return Picture([plan.svg() for plan in plans], [plan.box for plan in plans], columns, short, trouble), worst
 

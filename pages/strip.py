@@ -24,6 +24,11 @@ def bounds(boxes: list[Box]) -> Box:
     return min(lefts), min(tops), max(rights), max(bottoms)
 
 
+def shrunk(box: Box) -> Box:
+    """a box without the distance that names keep from lines"""
+    return box[0] + 2.6, box[1] + 2.6, box[2] - 2.6, box[3] - 2.6
+
+
 def joined(*words: str) -> str:
     return " ".join(word for word in words if word)
 
@@ -67,6 +72,7 @@ class StripPlan:
         self.frame: list[Element] = []
         self.grid: list[Element] = []
         self.names: dict[str, Name] = {}
+        self.clashes: list[int] = []
         self.box: Box = (0, 0, 0, 0)
 
     # ---- places
@@ -178,6 +184,12 @@ class StripPlan:
                   for (left, high), (right, low) in zip(points, points[1:]) if left <= x <= right]
         return angles[-1 if east else 0] if angles else 0.0
 
+    def see_clash(self, column: int, box: Box, is_level: bool) -> None:
+        """notes the column of a signal that lies on another sign, or beside a level line on another line"""
+        near = [it for it in self.field.near(box) if places.overlap(it.box, box, 0, 0)]
+        if any(isinstance(it, Sign) or is_level and isinstance(it, Line) and it.meets(shrunk(box)) for it in near):
+            self.clashes.append(column)
+
     def put_signal(self, signal: Signal) -> Wish:
         """a signal on its side of the track, turned as its line runs"""
         (x, y), east, is_left = self.at(signal.point), self.scene.station.heads_east(signal), self.scene.is_left
@@ -194,6 +206,7 @@ class StripPlan:
                   b in corners]
         box = bounds([(a, b, a, b) for a, b in turned])
         owner = f"signal {signal.number}"
+        self.see_clash(signal.point[0], (box[0] + 0.5, box[1] + 0.5, box[2] - 0.5, box[3] - 0.5), not turn)
         self.field.add(Sign(box, owner))
         middle = ((box[0] + box[2]) / 2, (box[1] + box[3]) / 2)
         wish = Wish(owner, "signal", self.scene.label(signal.name, "signal"), middle, lambda text, size: [],

@@ -11,6 +11,7 @@ from pages.drawing import Marks, Scene, draw
 from pages.kinds import Page, Settings, make
 from pages.markup import Element
 from pages.station import Station
+from pages.strip import StripPlan
 from pages.tests import crowded, drawn, fixtures
 from pages.tests.fixtures import example, sample, station_of
 from pages.whole import styles_of
@@ -128,6 +129,7 @@ class MarksOfLaws(unittest.TestCase):
                        for at in (0, 1))
         self.assertEqual([now[it] for it in ("n1", "n4", "n6", "n7", "n0")], ["moved", "moved", "new", "new", "node"])
         self.assertEqual(before["n1"], "moved")
+        self.assertEqual([sign(page, key, 0).text().split(":")[0] for key in ("n1", "n4", "n5")], ["B1", "B2", "W2"])
         rings = {key: [it.tag for it in sign(page, key, 1).all() if it.attributes.get("class") == "ring"]
                  for key in ("n1", "n6", "n0")}
         self.assertEqual(rings, {"n1": ["circle"], "n6": ["path"], "n0": []})
@@ -198,6 +200,21 @@ class Paper(unittest.TestCase):
         one = columns.Columns([0.0, 10.0, 40.0], 44, [])
         strip = Strip(1, 2, True, False)
         self.assertEqual([one.x(it, strip) for it in (0.5, 1, 1.5, 2)], [-30, 0, 15, 30])
+
+
+class Clashes(unittest.TestCase):
+    def test_signals_on_signs_and_lines_are_noted(self) -> None:
+        run = sample("signals")
+        sheet, signals = texts.read_signals(run.output)
+        scene = run.scene(sheet.drawing, run.station(), signals=signals)
+        found = drawing.layout(scene, {}, 1.0)
+        plan = StripPlan(scene, found, found.strips[0], set())
+        plan.lay()
+        self.assertEqual(plan.clashes, [])
+        x, y = plan.at(signals[0].point)
+        for box, is_level in (((x, y + 5, x + 15, y + 13), True), ((x, y - 4, x + 15, y + 3.5), True)):
+            plan.see_clash(7, box, is_level)
+        self.assertEqual(plan.clashes, [7, 7])
 
 
 class Names(unittest.TestCase):
