@@ -129,7 +129,9 @@ class MarksOfLaws(unittest.TestCase):
                        for at in (0, 1))
         self.assertEqual([now[it] for it in ("n1", "n4", "n6", "n7", "n0")], ["moved", "moved", "new", "new", "node"])
         self.assertEqual(before["n1"], "moved")
-        self.assertEqual([sign(page, key, 0).text().split(":")[0] for key in ("n1", "n4", "n5")], ["B1", "B2", "W2"])
+        pieces = [{str(it.attributes.get("data-key")): it.text().split(", from ")[1] for it in by_class(page, "lines", at)[0].children}
+                  for at in (0, 1)]
+        self.assertEqual((pieces[0].pop("gone-e3"), set(pieces[0].items()) - set(pieces[1].items())), ("W2 to B2", set()))
         rings = {key: [it.tag for it in sign(page, key, 1).all() if it.attributes.get("class") == "ring"]
                  for key in ("n1", "n6", "n0")}
         self.assertEqual(rings, {"n1": ["circle"], "n6": ["path"], "n0": []})
