@@ -20,7 +20,6 @@ from pathlib import Path
 sys.dont_write_bytecode = True
 
 import launched  # noqa: E402
-from known import KNOWN  # noqa: E402
 from trying import TOP, Case, main  # noqa: E402
 
 WAYS = ("program", "launcher", "terminal", "page", "page with a terminal")
@@ -52,7 +51,15 @@ def read_all(handle: int) -> None:
             return
 
 
+def hear(numbers: tuple[signal.Signals, ...]) -> None:
+    """takes the signals that this script was started to ignore as they come: what it starts would ignore them too"""
+    for number in numbers:
+        if signal.getsignal(number) == signal.SIG_IGN:
+            signal.signal(number, signal.SIG_DFL)
+
+
 def start(case: Case, way: str) -> Started:
+    hear((*SIGNALS, signal.SIGQUIT))
     launcher, environment = launched.clone_of(case.program)
     front = ["--html", "page.html"] if "page" in way else []
     more = ["--log", "a_log"] if case.chance.random() < 0.5 else []
@@ -127,8 +134,7 @@ def attempt(case: Case) -> None:
     files = {path.name for path in case.folder.iterdir()} - {"station", "a_log"}
     case.count(f"{number.name}, {way}: {status if has_ended else 'goes on'}")
     wanted = {130, -2} if number == signal.SIGINT else {130, 128 + number, -number}
-    key = f"{'page' if 'page' in way else way}, {number.name} alone"
-    known = key if key in KNOWN and not to_group else ""
+    known = f"{'page' if 'page' in way else way}, {number.name} {'to the group' if to_group else 'alone'}"
     is_right = has_ended and status in wanted and is_empty and not files
     left = "no process" if is_empty else "processes"
     case.hold_that(is_right, f"ends with {status}, leaves {sorted(files)} and {left}: {said}", known)

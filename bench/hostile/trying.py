@@ -26,6 +26,8 @@ from known import KNOWN
 TOP = Path(__file__).resolve().parents[2]
 # a run that takes longer is said to hang
 SECONDS = 60.0
+# signals that a run takes as a program does that is started from a terminal, however the script was started
+DEFAULT = (signal.SIGPIPE, signal.SIGXFSZ, signal.SIGHUP, signal.SIGINT, signal.SIGQUIT, signal.SIGTERM)
 # so many cases are handed to a process at a time
 BATCH = 25
 
@@ -87,7 +89,7 @@ class Runner:
         self.hung = False
         os.chdir(self.folder)
         self.running = os.posix_spawn(command[0], command, os.environ if environment is None else environment,
-                                      file_actions=actions, setsigmask=(), setsigdef=(signal.SIGPIPE, signal.SIGXFSZ))
+                                      file_actions=actions, setsigmask=(), setsigdef=DEFAULT)
         signal.setitimer(signal.ITIMER_REAL, seconds)
         _, status = os.waitpid(self.running, 0)
         self.running = 0

@@ -1,5 +1,6 @@
 """Each script finds a program that lies. Where no program is built nothing is tried."""
 import os
+import signal
 import subprocess
 import sys
 import tempfile
@@ -65,6 +66,14 @@ class Pages(unittest.TestCase):
 
 
 class Sessions(unittest.TestCase):
+    def test_a_signal_that_is_ignored_is_heard(self) -> None:
+        before = signal.signal(signal.SIGHUP, signal.SIG_IGN)
+        try:
+            signals.hear((signal.SIGHUP,))
+            self.assertEqual(signal.getsignal(signal.SIGHUP), signal.SIG_DFL)
+        finally:
+            signal.signal(signal.SIGHUP, before)
+
     def test_processes_of_a_session(self) -> None:
         job = subprocess.Popen(["/bin/sh", "-c", "sleep 30 & sleep 30"], start_new_session=True)
         try:
