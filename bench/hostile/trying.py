@@ -5,6 +5,7 @@ number: `--seed S --first N --count 1` tries case N of the seed S again. A scrip
 from __future__ import annotations
 
 import argparse
+import contextlib
 import multiprocessing
 import os
 import random
@@ -26,6 +27,7 @@ from known import KNOWN
 TOP = Path(__file__).resolve().parents[2]
 # a run that takes longer is said to hang
 SECONDS = 60.0
+TICK = 0.1
 # signals that a run takes as a program does that is started from a terminal, however the script was started
 DEFAULT = (signal.SIGPIPE, signal.SIGXFSZ, signal.SIGHUP, signal.SIGINT, signal.SIGQUIT, signal.SIGTERM)
 # so many cases are handed to a process at a time
@@ -71,14 +73,17 @@ class Runner:
         self.folder = folder
         self.nothing = os.open(os.devnull, os.O_RDONLY)
         self.texts = [os.memfd_create(name) for name in ("printed", "said")]
-        self.running, self.hung = 0, False
-        signal.signal(signal.SIGALRM, self.end)
+        self.running, self.hung, self.left = 0, False, 0.0
+        signal.signal(signal.SIGALRM, self.tick)
 
-    def end(self, *_: object) -> None:
-        """ends the run, which has taken too long"""
-        if self.running:
-            self.hung = True
-            os.kill(self.running, signal.SIGKILL)
+    def tick(self, *_: object) -> None:
+        """comes again and again while a run goes on, and ends it once it has taken too long. While the script itself is
+        stopped no tick is counted"""
+        self.left -= TICK
+        if self.running and self.left <= 0:
+            with contextlib.suppress(ProcessLookupError):
+                os.kill(self.running, signal.SIGKILL)
+                self.hung = True
 
     def run(self, command: list[str | bytes], seconds: float = SECONDS, environment: Mapping[str, str] | None = None) -> Answer:
         for text in self.texts:
@@ -86,11 +91,11 @@ class Runner:
             os.lseek(text, 0, os.SEEK_SET)
         handles = zip((self.nothing, *self.texts), range(3))
         actions = [(os.POSIX_SPAWN_DUP2, ours, theirs) for ours, theirs in handles]
-        self.hung = False
+        self.hung, self.left = False, seconds
         os.chdir(self.folder)
         self.running = os.posix_spawn(command[0], command, os.environ if environment is None else environment,
                                       file_actions=actions, setsigmask=(), setsigdef=DEFAULT)
-        signal.setitimer(signal.ITIMER_REAL, seconds)
+        signal.setitimer(signal.ITIMER_REAL, TICK, TICK)
         _, status = os.waitpid(self.running, 0)
         self.running = 0
         signal.setitimer(signal.ITIMER_REAL, 0)
