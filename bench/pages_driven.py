@@ -255,6 +255,24 @@ def lines_of_fault(tab: Tab) -> Iterator[Check]:
         tab.run(f"!!document.getElementById({json.dumps(it[1:])})") for it in hrefs)
 
 
+def onward(nodes: dict, edges: dict, above: set, edge: int, east: bool) -> list[tuple[int, str]]:
+    """where an edge leads on, and how the switch lies for that"""
+    node = edges[edge][1 if east else 0]
+    out = [it for it, (west, far) in edges.items() if (west if east else far) == node]
+    into = [it for it, (west, far) in edges.items() if (far if east else west) == node]
+    kind = nodes[node]
+    if kind[0] == "switch":
+        legs = out if len(out) == 2 else into
+        upper = legs[0] if (legs[0], legs[1]) in above else legs[1]
+        turn = {it: "diverging" if (it == upper) == (kind[2] == "upper") else "straight" for it in legs}
+        return [(it, turn[it]) for it in out] if len(out) == 2 else [(it, turn[edge]) for it in out]
+    if kind[0] == "crossing":
+        high, far_high = (into[0] if (into[0], into[1]) in above else into[1]), (out[0] if (out[0], out[1]) in above
+                                                                                 else out[1])
+        return [(it, "") for it in out if (edge == high) != (it == far_high)]
+    return [(it, "") for it in out] if kind[0] == "joint" else []
+
+
 def expected_paths(text: str, graph: str) -> Callable[[str, str], object]:
     """another search for paths, from the program's own texts: of the pieces and the positions of switches"""
     nodes, edges, above, signals = {}, {}, set(), {}
@@ -271,29 +289,13 @@ def expected_paths(text: str, graph: str) -> Callable[[str, str], object]:
         if fields[0] == "signal":
             signals[f"s{fields[1]}"] = (int(fields[3]), int(fields[4]))
 
-    def onward(edge: int, east: bool) -> list[tuple[int, str]]:
-        node = edges[edge][1 if east else 0]
-        out = [it for it, (west, far) in edges.items() if (west if east else far) == node]
-        into = [it for it, (west, far) in edges.items() if (far if east else west) == node]
-        kind = nodes[node]
-        if kind[0] == "switch":
-            legs = out if len(out) == 2 else into
-            upper = legs[0] if (legs[0], legs[1]) in above else legs[1]
-            turn = {it: "diverging" if (it == upper) == (kind[2] == "upper") else "straight" for it in legs}
-            return [(it, turn[it]) for it in out] if len(out) == 2 else [(it, turn[edge]) for it in out]
-        if kind[0] == "crossing":
-            high, far_high = (into[0] if (into[0], into[1]) in above else into[1]), (out[0] if (out[0], out[1]) in above
-                                                                                     else out[1])
-            return [(it, "") for it in out if (edge == high) != (it == far_high)]
-        return [(it, "") for it in out] if kind[0] == "joint" else []
-
     def search_(one: str, other: str, east: bool) -> object:
         (start, column), (goal, there) = signals[one], signals[other]
         if start == goal and (there > column if east else there < column):
             return [f"e{start}"], []
         seen, waiting = {start}, [(start, [f"e{start}"], [])]
         for edge, pieces_, positions in waiting:
-            for further, position in onward(edge, east):
+            for further, position in onward(nodes, edges, above, edge, east):
                 if further in seen:
                     continue
                 found = [*pieces_, f"e{further}"], positions + ([position] if position else [])
@@ -310,7 +312,6 @@ def expected_paths(text: str, graph: str) -> Callable[[str, str], object]:
                 if found:
                     return found
         return None
-    expected.__defaults__[0].update({})
     return expected
 
 

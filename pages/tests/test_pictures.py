@@ -112,7 +112,8 @@ class MarksOfLaws(unittest.TestCase):
             red, green, blue = (int(rule[2][at:at + 2], 16) for at in (1, 3, 5))
             self.assertEqual("red" if red > blue else "blue", colour)
         said = " ".join(part.text() for title, parts in make(sample("explain")).facts if title == "Colours" for part in parts)
-        self.assertRegex(said, "Red, broken lines and squares: what the drawing gives up. Blue, solid lines and circles: what it keeps")
+        self.assertRegex(said, "Red, broken lines and squares: what the drawing gives up. "
+                               "Blue, solid lines and circles: what it keeps")
 
     def test_rings_differ_in_form(self) -> None:
         from pages.strip import ring
@@ -129,7 +130,8 @@ class MarksOfLaws(unittest.TestCase):
                        for at in (0, 1))
         self.assertEqual([now[it] for it in ("n1", "n4", "n6", "n7", "n0")], ["moved", "moved", "new", "new", "node"])
         self.assertEqual(before["n1"], "moved")
-        pieces = [{str(it.attributes.get("data-key")): it.text().split(", from ")[1] for it in by_class(page, "lines", at)[0].children}
+        pieces = [{str(it.attributes.get("data-key")): it.text().split(", from ")[1]
+                 for it in by_class(page, "lines", at)[0].children}
                   for at in (0, 1)]
         self.assertEqual((pieces[0].pop("gone-e3"), set(pieces[0].items()) - set(pieces[1].items())), ("W2 to B2", set()))
         rings = {key: [it.tag for it in sign(page, key, 1).all() if it.attributes.get("class") == "ring"]
