@@ -79,4 +79,5 @@ def table():
 
 
 def all_failures():
-    return misplaced() + judges_that_search() + too_many()
+    """An edge that goes up may close a ring, in which nothing else can be counted."""
+    return misplaced() or judges_that_search() + too_many()
