@@ -28,8 +28,9 @@ class Build:
     @classmethod
     def of(cls, environment: Mapping[str, str], is_unproved: bool) -> Build:
         state, _, sha256 = environment.get("RAILPLAN_BUILD", "").partition(" ")
-        if state not in ("proved", "unproved"):
+        if state not in ("proved", "unproved", "unknown"):
             state, sha256 = "", ""
+        state = "" if state == "unknown" else state
         if len(sha256) != 64 or set(sha256) - set("0123456789abcdef"):
             sha256 = ""
         return cls("unproved", sha256 if state == "unproved" else "") if is_unproved else cls(state, sha256)

@@ -89,7 +89,8 @@ def larger(program: str, line: words.Line, said: list[str]) -> Note:
     width, height, least = grid_of(line, said)
     need = chain_of(program, line.names[0]) * least
     if need > width:
-        return Note(f"the pieces of track that lie one behind another take {need} columns, and this grid has {width}")
+        return Note(f"the pieces of track that lie one behind another need columns 0 to {need} at least, and this grid ends at "
+                    f"column {width}")
     if width < WIDEST or height < HIGHEST:
         options = ["--width", str(WIDEST), "--height", str(HIGHEST)] + (["--least", str(least)] if least > 1 else [])
         return Note(f"a larger grid may do: {called()} draw {shlex.join([line.names[0], *options])}")

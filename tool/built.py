@@ -194,4 +194,4 @@ def find(clone: Clone) -> Built:
 
 def in_words(clone: Clone, built: Built) -> str:
     """what RAILPLAN_BUILD says to pages"""
-    return f"proved {built.sha256}" if built.is_proved else f"unproved {sha256_of(clone.program)}"
+    return f"proved {built.sha256}" if built.is_proved else f"unknown {sha256_of(clone.program)}"

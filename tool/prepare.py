@@ -137,9 +137,17 @@ def attribute(tag: bytes, name: str) -> re.Match[bytes] | None:
     return re.search(rb"\s" + name.encode() + rb"\s*=\s*([\"'])(.*?)\1", tag, re.S)
 
 
+def has_decimal_commas(elements: list[Element]) -> bool:
+    """whether some number has a comma that can't part thousands, so that those of the file part decimals"""
+    given = (it.attributes.get(name, "").strip() for it in elements for name in ("pos", "absPos"))
+    return any(re.fullmatch(r"[+-]?(?:(?:0|\d{4,}),\d+|\d+,(?:\d{1,2}|\d{4,}))", it) for it in given)
+
+
 def mend_numbers(it: Prepared) -> None:
     edits: list[tuple[int, int, bytes]] = []
-    for element in railml.read(it.data).elements:
+    elements = railml.read(it.data).elements
+    are_decimal = has_decimal_commas(elements)
+    for element in elements:
         if element.name not in MEASURED or not element.above("track"):
             continue
         place, tag = it.tag(element.place)
@@ -149,6 +157,10 @@ def mend_numbers(it: Prepared) -> None:
             if not found or READ_AS.fullmatch(given):
                 continue
             written = as_read(given)
+            if not are_decimal and re.fullmatch(r"[+-]?\d{1,3},\d{3}", given.strip()):
+                it.guesses.append(f"{it.at(place)}: {name}=\"{given}\" of {railml.what(element)} may be {written} or "
+                                  f"{given.strip().replace(',', '')}")
+                continue
             if not written:
                 it.guesses.append(f"{it.at(place)}: {name}=\"{given}\" of {railml.what(element)} is no number of metres that is "
                                   f"clear")
@@ -272,6 +284,6 @@ def run(line: words.Line) -> int:
     if it.guesses:
         end(1, f"nothing is written: {len(it.guesses)} {'thing' if len(it.guesses) == 1 else 'things'} would have to be guessed")
     write(out, with_mark(it.data) if it.changes else it.data)
-    count = f"{len(it.changes)} {'change' if len(it.changes) == 1 else 'changes'}" if it.changes else "no change was needed"
-    say(f"{out} is written: {count}. This is no part of what is proved. On with {called()} draw {out}")
+    count = f"{len(it.changes)} {'change' if len(it.changes) == 1 else 'changes'}" if it.changes else "nothing in it is of a kind that prepare mends"
+    say(f"{out} is written: {count}. This is no part of what is proved. Next: {called()} draw {out}")
     return 0

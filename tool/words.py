@@ -14,7 +14,7 @@
 
 The launcher starts `pages/run.py LAUNCHER WORDS..` where a page word is among the words. WORDS are `line.in_order()`, and where
 `--html` is among them, it comes first and is itself left out, so that WORDS begin with the page's name. The environment has
-RAILPLAN_BUILD, which is `proved SHA256` or `unproved SHA256` of the program. Behind `--unproved` it is `unproved -`: no file
+RAILPLAN_BUILD, which is `proved SHA256` or `unknown SHA256` of the program. Behind `--unproved` it is `unproved -`: no file
 holds that program.
 
 The records are plain classes: this module is read before each start of the program, and dataclasses alone would take longer

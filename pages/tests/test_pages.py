@@ -76,7 +76,7 @@ class Proofs(unittest.TestCase):
         for given, is_unproved, state, hash_ in ((f"proved {digest}", False, "proved", digest),
                                                  (f"unproved {digest}", False, "unproved", digest),
                                                  ("", False, "", ""), (f"proved {digest}", True, "unproved", ""),
-                                                 (f"perhaps {digest}", False, "", ""), ("unproved -", True, "unproved", ""),
+                                                 (f"perhaps {digest}", False, "", ""), (f"unknown {digest}", False, "", digest), ("unproved -", True, "unproved", ""),
                                                  ("proved <b>", False, "proved", "")):
             build = Build.of({"RAILPLAN_BUILD": given}, is_unproved)
             self.assertEqual((build.state, build.sha256), (state, hash_), given)

@@ -90,7 +90,7 @@ class Programs(InClone):
         self.script("crates/railplan_main/out/railplan_main", "#!/bin/sh\necho mine\n")
         found = built.find(self.clone)
         self.assertEqual((found.is_fresh, found.is_proved), (True, False))
-        self.assertEqual(built.in_words(self.clone, found), f"unproved {built.sha256_of(self.clone.program)}")
+        self.assertEqual(built.in_words(self.clone, found), f"unknown {built.sha256_of(self.clone.program)}")
         self.touch("crates/low/src/lib.rt", 9999)
         self.assertEqual(built.find(self.clone).reason, "crates/low/src/lib.rt is younger than the program")
 

@@ -46,6 +46,14 @@ class Mended(unittest.TestCase):
                 self.assertEqual(guesses, [])
                 self.assertIn(f'pos="{given}" of switch w is written as {written}', changes[0])
 
+    def test_a_comma_that_may_part_thousands(self):
+        text, changes, guesses = mended(TRACK.replace('absPos="100"', 'absPos="1,200"'))
+        self.assertIn('absPos="1,200" of', guesses[0])
+        self.assertIn("may be 1.2 or 1200", guesses[0])
+        text, changes, guesses = mended(TRACK.replace('absPos="100"', 'absPos="1,200"').replace('pos="50"', 'pos="50,5"'))
+        self.assertEqual(guesses, [])
+        self.assertIn('absPos="1.2"', text)
+
     def test_numbers_that_are_not_clear(self):
         for given in ("1.234,5", "1,234,5", "twenty", "", "1e99", "nan", "1234567890"):
             text, changes, guesses = mended(TRACK.replace('id="w" pos="20"', f'id="w" pos="{given}"'))
