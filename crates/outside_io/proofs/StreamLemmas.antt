@@ -1,6 +1,6 @@
 -- Bytes that come or go in pieces.
-use Rattle.std.proofs.Common.{◌≡◌, ℕ, ◌+◌, ◌-◌, ◌≤◌, List, ◌++◌, length, take, drop, ap, sym, ◌∙◌, append_assoc, length-drop, arith, Option, None, Some}
-use Rattle.std.specs.Io.KnownBytes.{Appends}
+use Rattle.std.proofs.Common.{◌≡◌, ℕ, ◌+◌, ◌-◌, ◌≤◌, List, ◌++◌, length, take, drop, ap, sym, ◌∙◌, append_assoc, length-drop, arith, Option, None, Some, Result, Ok, Err, subst}
+use Rattle.std.specs.Io.KnownBytes.{Appends, Keeps, ReadConsumes, WriteAppends}
 use Rattle.std.proofs.lemmas.List.{take-take, take-append-le, take_all, drop-drop}
 use Rattle.std.proofs.Math.Seq.{take-append-add, take-append_seam, take-add}
 
@@ -43,3 +43,23 @@ Appends-more (Some xs) (Some ys) (Some zs) bytes done taken before more =
     more ∙ ap (λ (b : List ℕ). b ++ take taken (drop done bytes)) before
     ∙ append_assoc xs (take done bytes) (take taken (drop done bytes))
     ∙ ap (λ (t : List ℕ). xs ++ t) (sym (take-add done taken bytes))
+
+-- a read behind reads that took nothing
+pub read_kept :
+    {E : Type 0} (first then now : Option (List ℕ)) (r : Result ℕ E) (buf : List ℕ)
+    → Keeps first then → ReadConsumes then now r buf → ReadConsumes first now r buf
+read_kept None then now (Ok n) buf kept read = (tt, read.1)
+read_kept None then now (Err e) buf kept read = tt
+read_kept (Some xs) None now r buf kept read = absurd kept
+read_kept (Some xs) (Some ys) now r buf kept read =
+    subst (λ (zs : List ℕ). ReadConsumes (Some zs) now r buf) kept read
+
+-- a write behind writes that put nothing
+pub write_kept :
+    {E : Type 0} (first then now : Option (List ℕ)) (r : Result ℕ E) (buf : List ℕ)
+    → Keeps first then → WriteAppends then now r buf → WriteAppends first now r buf
+write_kept None then now (Ok n) buf kept wrote = tt
+write_kept None then now (Err e) buf kept wrote = tt
+write_kept (Some xs) None now r buf kept wrote = absurd kept
+write_kept (Some xs) (Some ys) now r buf kept wrote =
+    subst (λ (zs : List ℕ). WriteAppends (Some zs) now r buf) kept wrote

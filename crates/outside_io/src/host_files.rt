@@ -4,10 +4,20 @@ ghost use Rattle.std.specs.Prelude.{◌≡◌, None};
 use crate::counting::Count;
 use crate::streams::{read_up_to, write_whole};
 use crate::{FileFault, Files};
-use std::fs::{self, OpenOptions};
+use std::fs::{self, OpenFile, OpenOptions};
+use std::io::ErrorKind;
+
+/// Whether the system has what was written on its disk. What would fail only when the file is closed,
+/// as on a disk of another machine or past a quota, fails here. A pipe and a device have no disk to wait for.
+fn is_kept<F: OpenFile>(file: &F) -> bool {
+    match file.sync_data() {
+        Ok(()) => true,
+        Err(e) => matches!(e.kind(), ErrorKind::InvalidInput | ErrorKind::Unsupported),
+    }
+}
 
 /// Files of the system, over the program's runtime. A call that the system refuses fails, and so
-/// does a write that takes nothing.
+/// does a write that takes nothing or doesn't reach the disk.
 #[derive(Drop)]
 pub struct HostFiles<'a, R: std::rt::Files> {
     rt: &'a R,
@@ -77,6 +87,7 @@ impl<'a, R: std::rt::Files> Files for HostFiles<'a, R> {
         options.append(true);
         if let Ok(mut file) = options.open(self.rt, name)
             && write_whole(&mut file, bytes)
+            && is_kept(&file)
         {
             return Ok(());
         }

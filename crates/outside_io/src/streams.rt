@@ -1,12 +1,13 @@
 // The loops over a reader and a writer.
 ghost use Rattle.std.specs.Prelude.{◌≡◌, ◌≤◌, ◌++◌, [], None, take, IfOk, IfSome, OnOk, OnErr, MatchBool};
-ghost use Rattle.std.specs.Io.KnownBytes.{Appends};
+ghost use Rattle.std.specs.Io.{ReadsAtMost, WritesAtMost};
+ghost use Rattle.std.specs.Io.KnownBytes.{Appends, ReadConsumes, WriteAppends};
 ghost use Rattle.outside_io.specs.Contents.{ReadsFront, Begins};
 ghost use Rattle.outside_io.specs.Given.{AppendsPrefix};
 ghost use Rattle.outside_io.specs.Streams.{AddsPiece};
 
 use crate::FileFault;
-use std::io::{Read, Write};
+use std::io::{self, ErrorKind, Read, Write};
 
 /// How many bytes one read asks for at most.
 const PIECE: usize = 65_536;
@@ -45,7 +46,7 @@ fn read_piece<S: Read>(source: &mut S, most: usize, into: &mut Vec<u8>) -> Resul
 {
     let start = into.len();
     into.resize(start + most, 0)?;
-    match source.read(&mut into[start..]) {
+    match read_once(source, &mut into[start..]) {
         Ok(came) => {
             into.truncate(start + came);
             Ok(came)
@@ -57,6 +58,36 @@ fn read_piece<S: Read>(source: &mut S, most: usize, into: &mut Vec<u8>) -> Resul
     }
 }
 
+/// One read. It is tried again where a signal interrupts it.
+#[tactic(auto, using(crate::proofs::StreamLemmas::read_kept))]
+fn read_once<S: Read>(source: &mut S, buf: &mut [u8]) -> io::Result<usize>
+    ensures bound { ReadsAtMost result buf.new }
+    ensures bytes { ReadConsumes (S.remaining source.old) (S.remaining source.new) result buf.new }
+{
+    for _ in 0..u64::MAX {
+        match source.read(buf) {
+            Err(e) if e.kind() == ErrorKind::Interrupted => {}
+            read => return read,
+        }
+    }
+    source.read(buf)
+}
+
+/// One write. It is tried again where a signal interrupts it.
+#[tactic(auto, using(crate::proofs::StreamLemmas::write_kept))]
+fn write_once<W: Write>(out: &mut W, bytes: &[u8]) -> io::Result<usize>
+    ensures bound { WritesAtMost result bytes.now }
+    ensures bytes { WriteAppends (W.contents out.old) (W.contents out.new) result bytes.now }
+{
+    for _ in 0..u64::MAX {
+        match out.write(bytes) {
+            Err(e) if e.kind() == ErrorKind::Interrupted => {}
+            written => return written,
+        }
+    }
+    out.write(bytes)
+}
+
 /// Writes all bytes, and tells whether it could. A write that failed or took nothing ends it.
 pub fn write_whole<W: Write>(out: &mut W, bytes: &[u8]) -> bool
     ensures { MatchBool result (Appends (W.contents out.old) (W.contents out.new) bytes.now)
@@ -64,7 +95,7 @@ pub fn write_whole<W: Write>(out: &mut W, bytes: &[u8]) -> bool
 {
     let mut rest = bytes;
     while !rest.is_empty() {
-        match out.write(rest) {
+        match write_once(out, rest) {
             Ok(taken) if taken > 0 => rest = &rest[taken..],
             _ => return false,
         }
