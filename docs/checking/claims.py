@@ -33,7 +33,7 @@ def names_that_fail():
         if path.suffix in (".rt", ".antt") and "proofs" not in path.parts:
             known.update(re.findall(r"[A-Za-z_]\w*", read(path)))
     found = []
-    for name in ("crates/README.md", "docs/definitions.md", "docs/proved.md", "docs/DECISIONS.md"):
+    for name in ("crates/README.md", "docs/definitions.md", "docs/trusted.md", "docs/DECISIONS.md"):
         text = " ".join(spans(read(TOP / name)))
         named = {word for word in re.findall(r"[A-Za-z_]\w+", text) if not word.isupper()}
         found += [f"{name}: nothing is named {word}" for word in sorted(named - known)]
@@ -43,24 +43,13 @@ def names_that_fail():
 # ---- words
 
 
-def words_with_sentence():
-    """The words that docs/definitions.md names, each with the crate whose specs/ were named last."""
-    found, crate = set(), ""
-    for paragraph in re.split(r"\n(?=\n|- |#)", read(TOP / "docs" / "definitions.md")):
-        named = re.findall(r"crates/(\w+)/specs", paragraph)
-        crate = named[0] if named else crate
-        for span in spans(paragraph):
-            found.update((crate, name) for name in re.findall(r"[A-Za-z_]\w*", span))
-    return found
-
-
-def words_without_sentence(contracts, words):
-    """Words that public contracts cite, and facts, records and data behind these that have no remark where they stand."""
-    told, remarks = words_with_sentence(), {(word.crate, word.module, word.name): word.remark for word in words}
+def words_without_remark(contracts, words):
+    """Words that public contracts cite, and facts, records and data behind these, that have no remark where they are defined."""
+    remarks = {(word.crate, word.module, word.name): word.remark for word in words}
     cited = words_of_public_contracts(contracts, words)
-    behind = {key for key in words_behind(cited, words) if key[2][0].isupper() and not remarks[key]}
-    return [f"docs/definitions.md: no sentence for {name} of crates/{crate}/specs/{module.replace('.', '/')}.antt"
-            for crate, module, name in sorted(cited | behind) if (crate, name) not in told]
+    wanted = cited | {key for key in words_behind(cited, words) if key[2][0].isupper()}
+    return [f"crates/{crate}/specs/{module.replace('.', '/')}.antt: {name} has no remark"
+            for crate, module, name in sorted(wanted) if not remarks[crate, module, name]]
 
 
 # ---- claims
@@ -77,19 +66,18 @@ def is_there(span, section, contracts, words):
         return any(wanted <= {clause.name for clause in contract.clauses} for contract in matching)
     if any(contract.clauses for contract in matching):
         return True
-    is_told = span in {name for _, name in words_with_sentence()} and any(word.name == span for word in words)
-    return is_told or span in crates() or (TOP / span).exists()
+    return any(word.name == span and word.remark for word in words) or span in crates() or (TOP / span).exists()
 
 
 def citations_that_fail(contracts, words):
     found, section = [], []
-    for paragraph in re.split(r"\n(?=\n|- |#|  \*By\*)", read(TOP / "docs" / "proved.md")):
+    for paragraph in re.split(r"\n(?=\n|- |#|  \*By\*)", read(TOP / "docs" / "trusted.md")):
         text = paragraph.strip()
         if text.startswith("#"):
             section = [span for span in spans(text) if span in crates()]
         elif text.startswith("*By*"):
             near = section + [span for span in spans(text) if span in crates()]
-            found += [f"docs/proved.md: {span} isn't there, in {', '.join(near) or 'no crate'}"
+            found += [f"docs/trusted.md: {span} isn't there, in {', '.join(near) or 'no crate'}"
                       for span in spans(text) if not is_there(span, near, contracts, words)]
     return found
 
@@ -97,13 +85,13 @@ def citations_that_fail(contracts, words):
 def claims_without_citation():
     """Claims of the sections that name crates, of which no clause is told."""
     found, section = [], False
-    paragraphs = re.split(r"\n(?=\n|- |#)", read(TOP / "docs" / "proved.md"))
+    paragraphs = re.split(r"\n(?=\n|- |#)", read(TOP / "docs" / "trusted.md"))
     for paragraph in paragraphs:
         text = paragraph.strip()
         if text.startswith("## "):
             section = any(span in crates() for span in spans(text))
         elif section and text.startswith("- ") and "*By* " not in text:
-            found.append(f"docs/proved.md: no clause is told of: {text.splitlines()[0][2:70]}")
+            found.append(f"docs/trusted.md: no clause is told of: {text.splitlines()[0][2:70]}")
     return found
 
 
@@ -114,11 +102,11 @@ def of_the_commands():
 def calls_untold():
     """Calls that crates hand out and no document names, and laws of whole runs, by the name of their file, that aren't claimed."""
     named = {path: set(re.findall(r"\w+", " ".join(spans(read(path))))) for path in DOCUMENTS}
-    anywhere, claimed = set().union(*named.values()), named[TOP / "docs" / "proved.md"]
+    anywhere, claimed = set().union(*named.values()), named[TOP / "docs" / "trusted.md"]
     calls = [(crate, path, name) for crate in crates() for path, name in calls_handed_out(crate)]
     return [f"docs: no document names {name}, which {crate} hands out"
             for crate, _, name in calls if name not in anywhere] + [
-            f"docs/proved.md: no claim names the law {name} of {crate}"
+            f"docs/trusted.md: no claim names the law {name} of {crate}"
             for crate, path, name in calls if crate in of_the_commands() and path.stem.endswith("laws") and name not in claimed]
 
 
@@ -144,6 +132,6 @@ def rows_made(text):
 
 
 def all_failures(contracts, words):
-    return (count_that_fails() + words_without_sentence(contracts, words)
+    return (count_that_fails() + words_without_remark(contracts, words)
             + citations_that_fail(contracts, words) + claims_without_citation() + names_that_fail() + calls_untold()
             + files_that_fail() + long_lines())

@@ -2,13 +2,15 @@
 import re
 import textwrap
 
-from checking.crates import DOCUMENTS, TOP, contracts_of, crates, head, module_of, read, root_text, show, spec_files
+from checking.crates import (DOCUMENTS, TOP, contracts_of, crates, head, module_of, read, root_text, show, spec_files,
+                             words_of, words_of_public_contracts)
 from checking import theorem
 from checking.numbers import with_tables
 
 COLUMNS = 120
 INDEX = TOP / "docs" / "made" / "index.md"
 CALLS = TOP / "docs" / "made" / "calls.md"
+GLOSSARY = TOP / "docs" / "made" / "glossary.md"
 
 
 # ---- the index
@@ -23,13 +25,38 @@ def index_text():
     """Each crate's and each file's own first sentence."""
     lines = ["# The index of the definitions", "",
              "What each crate is for and what each file of its `specs/` defines, by the first sentence of its root file and of",
-             "the file. `docs/check --write` makes this page; `docs/definitions.md` says the definitions in plain words."]
+             "the file. `docs/check --write` makes this page; `docs/made/glossary.md` has each word of a public contract."]
     for crate in crates():
         lines += ["", f"## `{crate}`", ""] + textwrap.wrap(first_sentence(head(root_text(crate), "//!")), COLUMNS) + [""]
         for path in spec_files(crate):
             told = f"- `{module_of(crate, path).replace('.', '/')}`: {first_sentence(head(read(path), '--'))}"
             lines += textwrap.wrap(told, COLUMNS, subsequent_indent="  ", break_long_words=False, break_on_hyphens=False)
     return "\n".join(lines).replace("\n\n\n", "\n\n") + "\n"
+
+
+# ---- the glossary
+
+
+def glossary_text():
+    """Each word that a public contract cites, with the remark beside its definition, crate by crate and file by file."""
+    contracts = [contract for crate in crates() for contract in contracts_of(crate)]
+    words = [word for crate in crates() for word in words_of(crate)]
+    cited = words_of_public_contracts(contracts, words)
+    lines = ["# The words of the contracts", "",
+             "Each definition that a public contract cites, with the remark beside it. `docs/definitions.md` has those by which the",
+             "product is judged. `docs/check --write` makes this page."]
+    place = None
+    for word in words:
+        if (word.crate, word.module, word.name) not in cited:
+            continue
+        if place is None or word.crate != place[0]:
+            lines += ["", f"## `{word.crate}`"]
+        if (word.crate, word.module) != place:
+            lines += ["", f"`{word.module.replace('.', '/')}`", ""]
+        place = word.crate, word.module
+        lines += textwrap.wrap(f"- `{word.name}`: {word.remark}", COLUMNS, subsequent_indent="  ", break_long_words=False,
+                               break_on_hyphens=False)
+    return "\n".join(lines) + "\n"
 
 
 # ---- the calls
@@ -67,7 +94,7 @@ def calls_text():
 def made_pages():
     """The pages of which a part is made from the crates, each as it is to be."""
     found = {path: with_tables(read(path)) for path in DOCUMENTS if "<!-- made: " in read(path)}
-    return {**found, INDEX: index_text(), CALLS: calls_text(), theorem.PICTURE: theorem.picture()}
+    return {**found, INDEX: index_text(), GLOSSARY: glossary_text(), CALLS: calls_text(), theorem.PICTURE: theorem.picture()}
 
 
 def pages_that_differ():

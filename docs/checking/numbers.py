@@ -257,10 +257,11 @@ def fault_lists_that_differ():
 
 
 def fault_lines_that_fail():
-    """Lines of faults that pages print."""
+    """Lines of faults that pages print; behind a signal's own line are three numbers."""
     found = []
     for path in DOCUMENTS:
-        for table, number, word in re.findall(r"\b(words|text|topology|graph|order|sheet|signal|log|hints) (\d+) ([A-Z]\w+)", read(path)):
+        for table, number, word in re.findall(r"\b(words|text|topology|graph|order|sheet|signal|log|hints) (\d+) ([A-Z]\w+)"
+                                              r"(?! \d+ \d+ \d+)\b", read(path)):
             if (int(number), word) not in faults(TABLES[table]):
                 found.append(f"{show(path)}: there is no fault {table} {number} {word}")
     return found

@@ -24,6 +24,7 @@ pub record BelongsTo (lines : Lines) (clauses : Clauses) (count : ℕ) : Type 0 
   pub all : AreAmong clauses (facts_of lines).clauses
   pub words : count ≡ words_of (facts_of lines).clauses
 
+-- a log of these lines belongs to this solver
 abbrev pub Belongs : Lines → Kept → Type 0
 Belongs lines k = BelongsTo lines k.clauses k.words
 
@@ -49,13 +50,15 @@ pub record IsRefutedLine (assume : List Literal) (ending : Lines) : Type 0 where
   pub is : ending ≡ RefutedLine clause ∷ []
   pub answers : All (λ l. Contains assume (negate l)) clause
 
+-- how the lines of a search end: with a Model line, with a Refuted line, or with no line more
 abbrev pub EndsWith : Answer → List Literal → Lines → Type 0
 EndsWith Model assume ending = ending ≡ ModelLine ∷ []
 EndsWith Refuted assume ending = IsRefutedLine assume ending
 EndsWith Spent assume ending = ending ≡ []
 EndsWith Room assume ending = ending ≡ []
 
--- as many clauses were learnt as the budget allows
+-- as many clauses were learnt as the budget allows where the answer is Spent, and no more than that
+-- otherwise
 abbrev pub HasSpent : Answer → ℕ → ℕ → Type 0
 HasSpent Model budget n = n ≤ budget
 HasSpent Refuted budget n = n ≤ budget

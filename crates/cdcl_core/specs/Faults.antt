@@ -6,10 +6,12 @@ use Rattle.cdcl_core.specs.declared.fault.AddFault.TheVariants.{Log as AddLog, M
 use Rattle.cdcl_core.specs.declared.fault.SolveFault.{SolveFault}
 use Rattle.cdcl_core.specs.declared.fault.SolveFault.TheVariants.{Log as SolveLog, Memory as SolveMemory}
 
+-- which `AddFault` a log's fault becomes
 abbrev pub add_fault : LogSinkFault → AddFault
 add_fault Failed = AddLog
 add_fault Memory = AddMemory
 
+-- which `SolveFault` a log's fault becomes
 abbrev pub solve_fault : LogSinkFault → SolveFault
 solve_fault Failed = SolveLog
 solve_fault Memory = SolveMemory

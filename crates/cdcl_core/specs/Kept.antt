@@ -88,11 +88,13 @@ pub record HasLearnt (old new : Kept) (cs : Clauses) : Type 0 where
   pub visits : old.visits ≤ new.visits
   pub failed : new.failed ≡ false
 
--- each of the given clauses is kept, and all that are kept follow from them
+-- each of the given clauses is kept, and all that are kept follow from them, so that what is said of given
+-- clauses holds whatever was learnt
 pub record AreGiven (given clauses : Clauses) : Type 0 where
   pub kept : AreAmong given clauses
   pub follow : (v : Assignment) → SatisfiesAll v given → SatisfiesAll v clauses
 
+-- the assignment makes all assumptions true
 abbrev pub MakesTrue : Assignment → List Literal → Type 0
 MakesTrue v assume = All (λ l. truth v l ≡ true) assume
 

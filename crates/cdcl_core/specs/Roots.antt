@@ -40,6 +40,7 @@ pub record IsGrounded (a : Attached) (m : Marks) (own : Clauses) (refuted : Bool
   pub own_true : refuted ≡ false → All (IsTrueAtRoot (sight a m)) own
   pub falsified : refuted ≡ true → Rup (all_of a own) []
 
+-- the arena is watched on the trail, and the rest holds that a solver keeps of them (`IsGrounded`)
 pub record IsSolving (a : Attached) (m : Marks) (own : Clauses) (refuted : Bool) : Type 0 where
   pub watched : AreWatched a m
   pub grounded : IsGrounded a m own refuted

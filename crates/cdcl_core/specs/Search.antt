@@ -35,10 +35,13 @@ pub record AreFitted (room vars heap analyser phases arena_room arena_words own_
   pub sum : arena_words + own_words ≡ words + 1
   pub within : words ≤ room
 
+-- the parts of a search have tables of one size, and its words are those of the arena and of the own list
 abbrev pub IsFitted : Search → Type 0
 IsFitted s = AreFitted s.room s.trail.vars s.heap.vars s.analyser.vars (length s.phases.items) s.arena.room
     (length s.arena.words) (words_of s.own.items) s.words
 
+-- what the state of a search keeps: tables of one size, an arena that is watched and a trail that is
+-- reasoned, and each unset variable may be decided
 pub record IsSearch (s : Search) : Type 0 where
   pub fitted : IsFitted s
   pub solving : IsSolving s.arena s.trail s.own.items s.refuted
@@ -49,6 +52,7 @@ pub record IsIdle (s : Search) : Type 0 where
   pub search : IsSearch s
   pub level : s.trail.cuts ≡ []
 
+-- what each solver keeps: as long as no call has failed, its search is idle (`IsIdle`)
 abbrev pub IsSolver : Search → Bool → Type 0
 IsSolver s failed = failed ≡ false → IsIdle s
 

@@ -18,6 +18,8 @@ pub record Analysis : Type 0 where
   pub back : ℕ
   pub seen : List ℕ
 
+-- an analyser seen so: its clause has the first literal in front, where it is headed, and the variables
+-- that were met are the first `len` of the table
 abbrev pub analysis_of : Cut → Bool → Literal → ℕ → List ℕ → ℕ → Analysis
 analysis_of w headed first back side len = record {
   vars = w.vars;

@@ -53,13 +53,13 @@ with_resolved w = record { vars = w.vars; seen = w.seen; met = w.met; rest = w.r
 abbrev pub IsBlank : Cut → Type 0
 IsBlank w = (v : ℕ) → is_seen w.seen v ≡ false
 
--- the cut with one more false literal
+-- the cut with one more false literal; one that is seen or of level 0 is passed over
 abbrev pub cut_with : Sight → Cut → Literal → Cut
 cut_with s w k = cond (is_seen w.seen k.var) w
     (cond (nat_eq (level_of s k) 0) w
     (cond (nat_eq (level_of s k) s.level) (with_open w k) (with_lower w k)))
 
--- and with all literals of a clause
+-- the cut with all literals of a clause, one after another
 abbrev pub cut_with_all : Sight → Cut → List Literal → Cut
 cut_with_all s w [] = w
 cut_with_all s w (k ∷ ks) = cut_with_all s (cut_with s w k) ks

@@ -39,7 +39,8 @@ pub record IsTracing (s : Sight) (w : Cut) (front : List Literal) (end : ℕ) : 
   pub within : end ≤ length s.lits
   pub rup : Falsifies (known s) (tracing s w front end)
 
--- the clause of the literals in front and of negated decisions follows by unit propagation
+-- the clause of the literals in front and of negated decisions follows by unit propagation; none are in
+-- front where a false clause is traced back
 pub record IsTraced (s : Sight) (front rest : List Literal) : Type 0 where
   pub distinct : AreDistinct (front ++ rest)
   pub decisions : All (IsDecision s) rest

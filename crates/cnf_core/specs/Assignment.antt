@@ -7,6 +7,7 @@ use Rattle.cnf_core.specs.Clause.{Clauses}
 abbrev pub Assignment : Type 0
 Assignment = ℕ → Bool
 
+-- the truth value of a literal
 abbrev pub truth : Assignment → Literal → Bool
 truth v l = same_sign l.positive (v l.var)
 
@@ -15,6 +16,7 @@ abbrev pub Satisfies : Assignment → List Literal → Type 0
 Satisfies v [] = ⊥
 Satisfies v (l ∷ ls) = (truth v l ≡ true) ⊎ Satisfies v ls
 
+-- it satisfies each of the clauses
 abbrev pub SatisfiesAll : Assignment → Clauses → Type 0
 SatisfiesAll v [] = ⊤
 SatisfiesAll v (c ∷ cs) = Satisfies v c × SatisfiesAll v cs

@@ -2,6 +2,7 @@
 use Rattle.std.specs.Prelude.{◌≡◌, ◌≢◌, ◌≤◌, ◌<◌, ⊤, ℕ, ◌+◌, List, [], ◌∷◌, length, Contains}
 use Rattle.cnf_core.specs.Lit.{Literal}
 
+-- a list of clauses, each of which is a list of literals
 abbrev pub Clauses : Type 0
 Clauses = List (List Literal)
 
@@ -28,14 +29,17 @@ HasAllOf c d = (l : Literal) → Contains d l → Contains c l
 abbrev pub IsThere : ℕ → Literal → Type 0
 IsThere vars l = (1 ≤ l.var) × (l.var ≤ vars)
 
+-- the variable of each of the literals is one of 1 to vars
 abbrev pub AreThere : ℕ → List Literal → Type 0
 AreThere vars [] = ⊤
 AreThere vars (l ∷ ls) = IsThere vars l × AreThere vars ls
 
+-- the variables of each of the clauses are among 1 to vars
 abbrev pub AllThere : ℕ → Clauses → Type 0
 AllThere vars [] = ⊤
 AllThere vars (c ∷ cs) = AreThere vars c × AllThere vars cs
 
+-- each of the clauses is one of distinct variables
 abbrev pub AllDistinct : Clauses → Type 0
 AllDistinct [] = ⊤
 AllDistinct (c ∷ cs) = AreDistinct c × AllDistinct cs

@@ -5,6 +5,7 @@ use Rattle.cnf_core.specs.declared.limits.TheConstants.{VARS, ROOM}
 use Rattle.cnf_core.specs.Lit.{Literal}
 use Rattle.cnf_core.specs.Clause.{Clauses, AllThere, AllDistinct, words_of}
 
+-- room for words, the number of variables, and the clauses
 pub record Cnf : Type 0 where
   pub room : ℕ
   pub vars : ℕ
@@ -50,9 +51,12 @@ abbrev pub AreEnds : ℕ → List ℕ → ℕ → Type 0
 AreEnds start [] last = start ≡ last
 AreEnds start (end ∷ rest) last = (start ≤ end) × AreEnds end rest last
 
+-- the formula of this room and so many variables that is stored as the literals of all clauses in one list,
+-- and the places where clauses end
 abbrev pub cnf_of : ℕ → ℕ → List Literal → List ℕ → Cnf
 cnf_of room vars lits ends = record { room = room; vars = vars; clauses = cuts lits 0 ends }
 
+-- the places where clauses end rise up to the number of literals, and what is stored so is a formula
 pub record IsStored (room vars : ℕ) (lits : List Literal) (ends : List ℕ) : Type 0 where
   pub ends_rise : AreEnds 0 ends (length lits)
   pub formula : IsFormula (cnf_of room vars lits ends)

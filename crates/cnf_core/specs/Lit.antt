@@ -1,19 +1,23 @@
 -- Literals: a variable, counted from 1, with a sign.
 use Rattle.std.specs.Prelude.{◌≤◌, ◌<◌, ◌^◌, ℕ, Bool, true, false, not, cond, ◌+◌, ◌*◌, ◌/◌, ◌%◌, nat_eq, List, [], ◌∷◌}
 
+-- a variable, and whether it stands positively
 pub record Literal : Type 0 where
   pub var : ℕ
   pub positive : Bool
 
+-- the literal of a variable and a sign
 abbrev pub literal : ℕ → Bool → Literal
 literal x sign = record { var = x; positive = sign }
 
 abbrev pub positive_of : ℕ → Literal
 positive_of x = literal x true
 
+-- the negative literal of a variable
 abbrev pub negative_of : ℕ → Literal
 negative_of x = literal x false
 
+-- the negation of a literal
 abbrev pub negate : Literal → Literal
 negate l = literal l.var (not l.positive)
 
@@ -21,6 +25,7 @@ negate l = literal l.var (not l.positive)
 abbrev pub word_of : Literal → ℕ
 word_of l = 2 * l.var + cond l.positive 0 1
 
+-- the literal of a word
 abbrev pub literal_at : ℕ → Literal
 literal_at word = literal (word / 2) (nat_eq (word % 2) 0)
 

@@ -6,6 +6,7 @@ use Rattle.cnf_core.specs.Lit.{Literal, negate, positive_of, has}
 use Rattle.cnf_core.specs.Clause.{Clauses, IsThere}
 use Rattle.cnf_core.specs.Assignment.{Assignment, truth}
 
+-- what is true where the literal or truth value isn't
 abbrev pub flip : LitOrTruth → LitOrTruth
 flip (OfLit l) = OfLit (negate l)
 flip True = False
@@ -15,6 +16,7 @@ flip False = True
 abbrev pub yes : ℕ → LitOrTruth
 yes x = OfLit (positive_of x)
 
+-- the truth of a literal, or of a truth value that stands in its place
 abbrev pub value : Assignment → LitOrTruth → Bool
 value v (OfLit l) = truth v l
 value v True = true
@@ -31,6 +33,7 @@ IsWithin vars (OfLit l) = IsThere vars l
 IsWithin vars True = ⊤
 IsWithin vars False = ⊤
 
+-- each of them is a truth value, or a literal of one of the variables 1 to vars
 abbrev pub AreWithin : ℕ → List LitOrTruth → Type 0
 AreWithin vars [] = ⊤
 AreWithin vars (t ∷ ts) = IsWithin vars t × AreWithin vars ts
@@ -44,6 +47,7 @@ gathered front (OfLit l ∷ ts) = cond (has front l) (gathered front ts)
 gathered front (True ∷ ts) = []
 gathered front (False ∷ ts) = gathered front ts
 
--- the clause "one of unless is true, or one of ts"
+-- the clause "one of unless is true, or one of ts", each literal once; there is none where a literal stands
+-- with its negation, or true is among them
 abbrev pub clause_of : List Literal → List LitOrTruth → Clauses
 clause_of unless ts = gathered [] (map OfLit unless ++ ts)

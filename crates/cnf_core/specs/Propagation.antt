@@ -7,13 +7,15 @@ use Rattle.cnf_core.specs.Clause.{Clauses}
 abbrev pub LiteralSet : Type 0
 LiteralSet = Literal → Bool
 
+-- the set has the literal
 abbrev pub IsIn : LiteralSet → Literal → Type 0
 IsIn set l = set l ≡ true
 
+-- the first set has each literal of the second
 abbrev pub Includes : LiteralSet → LiteralSet → Type 0
 Includes set start = (l : Literal) → IsIn start l → IsIn set l
 
--- no literal
+-- no literal: from this set the closure of the clauses alone starts
 abbrev pub nothing : LiteralSet
 nothing l = false
 
@@ -54,7 +56,8 @@ pub record IsClosure (clauses : Clauses) (start set : LiteralSet) : Type 0 where
   pub within : (l : Literal) → IsIn set l → Closure clauses start l
   pub unfalsified : Falsified clauses set → ⊥
 
--- a clause of one literal for each of them
+-- a clause of one literal for each of them; they add nothing where each literal follows from the clauses
+-- alone
 abbrev pub units : List Literal → Clauses
 units [] = []
 units (l ∷ ls) = (l ∷ []) ∷ units ls
@@ -68,7 +71,8 @@ pub record Falsifies (clauses : Clauses) (start : LiteralSet) : Type 0 where
 abbrev pub negations : List Literal → LiteralSet
 negations clause l = has clause (negate l)
 
--- the clause follows by unit propagation: the negations of its literals falsify a clause
+-- the clause follows by unit propagation: the negations of its literals falsify a clause (Goldberg and
+-- Novikov 2003)
 abbrev pub Rup : Clauses → List Literal → Type 0
 Rup clauses clause = Falsifies clauses (negations clause)
 
@@ -82,15 +86,17 @@ greatest_var [] = 0
 greatest_var (c ∷ cs) = max (greatest_in c) (greatest_var cs)
 
 -- the clause of first and others says more than propagation knows, and names no further variable
+-- (Pipatsrisawat and Darwiche 2008)
 pub record IsNew (clauses : Clauses) (first : Literal) (others : List Literal) : Type 0 where
   pub named : All (λ l. l.var ≤ greatest_var clauses) (first ∷ others)
   pub unfalsified : Falsifies clauses (negations others) → ⊥
   pub unknown : Closure clauses (negations others) first → ⊥
 
--- each clause of the first list has one in the second with the same literals
+-- the two clauses have the same literals
 abbrev pub SameLiterals : List Literal → List Literal → Type 0
 SameLiterals c d = (l : Literal) → Contains c l ↔ Contains d l
 
+-- each clause of the first list has one in the second with the same literals
 abbrev pub AreAmong : Clauses → Clauses → Type 0
 AreAmong clauses more = (c : List Literal) → Contains clauses c → (d : List Literal) × Contains more d
     × SameLiterals c d

@@ -10,9 +10,11 @@ use Rattle.cnf_core.specs.Propagation.{LiteralSet, IsIn, Includes, HasReason, Cl
 abbrev pub marked : List Bool → LiteralSet
 marked truth l = slice_index_or truth (word_of l) false
 
+-- 1 for a mark and 0 for none
 abbrev pub weight : Bool → ℕ
 weight b = cond b 1 0
 
+-- how many marks the table has
 abbrev pub mark_count : List Bool → ℕ
 mark_count truth = sum_by weight truth
 

@@ -23,18 +23,23 @@ ints_at_place grid k =
     node_ints (int_vars 0 grid.width (1 + k * (grid.height + grid.width) + grid.height))
     (int_vars 0 grid.height (1 + k * (grid.height + grid.width)))
 
+-- the first variable behind those of the nodes
 abbrev pub edges_first : Graph → GridSize → ℕ
 edges_first g grid = 1 + length g.nodes * (grid.height + grid.width)
 
+-- the first variable of edge e; the edges lie one behind another, by number
 abbrev pub edge_first : Graph → GridSize → ℕ → ℕ
 edge_first g grid e = edges_first g grid + e * edge_size grid.height grid.width
 
+-- where the variables of each node and of each edge lie: the nodes' from west to east, then the edges' by
+-- number
 abbrev pub drawing_vars : Graph → GridSize → DrawingVars
 drawing_vars g grid = record {
   node = λ n. ints_at_place grid (west_rank g n);
   edge = λ e. edge_lits (edge_first g grid e) grid.height grid.width;
 }
 
+-- the first variable behind those of nodes and edges
 abbrev pub laws_first : Graph → GridSize → ℕ
 laws_first g grid = edge_first g grid (length g.edges)
 
@@ -75,6 +80,7 @@ abbrev pub later_instances : Graph → (ℕ → ℕ → Bool) → (ℕ → ℕ �
 later_instances g above overlap =
     instances_from (λ n. Aligned n ∷ []) 0 (length g.nodes) ++ last_instances g above overlap
 
+-- the instances of a graph that have clauses: those of law 2, then of law 4, law 5, and laws 6 and 7
 abbrev pub instances : Graph → (ℕ → ℕ → Bool) → (ℕ → ℕ → Bool) → List Instance
 instances g above overlap =
     instance_pairs (length g.nodes) (λ u v. Ordered u v ∷ []) ++ later_instances g above overlap
@@ -88,6 +94,7 @@ abbrev pub edge_part : Graph → DrawingVars → GridSize → ℕ → Clauses
 edge_part g x grid e = edge_clauses (x.edge e) (x.node (edge g e).west) (x.node (edge g e).east) grid.least grid.height
     grid.width
 
+-- the clauses of nodes and of edges
 abbrev pub base_clauses : Graph → DrawingVars → GridSize → Clauses
 base_clauses g x grid = each (λ n. node_clauses (x.node n)) 0 (length g.nodes)
     ++ each (edge_part g x grid) 0 (length g.edges)
@@ -103,24 +110,30 @@ expected_size g grid laws = laws_first g grid + laws_size g laws - 1
 
 -- The formula of a graph whose tables say which edges are above which, and which overlap.
 
+-- the clauses of a graph's drawings: those of its nodes, of its edges, and of each instance of a law
 abbrev pub formula_clauses : Graph → (ℕ → ℕ → Bool) → (ℕ → ℕ → Bool) → GridSize → Clauses
 formula_clauses g above overlap grid = expected_clauses g grid (instances g above overlap)
 
+-- how many variables these clauses have
 abbrev pub formula_size : Graph → (ℕ → ℕ → Bool) → (ℕ → ℕ → Bool) → GridSize → ℕ
 formula_size g above overlap grid = expected_size g grid (instances g above overlap)
 
 -- How many words and variables it has at most: the parts of a graph are its nodes and edges, the area of a grid its
 -- points.
 
+-- how many nodes and edges the graph has together
 abbrev pub parts : Graph → ℕ
 parts g = length g.nodes + length g.edges
 
+-- how many points the grid has
 abbrev pub area : GridSize → ℕ
 area grid = (grid.width + 1) * (grid.height + 1)
 
+-- how many words the formula has at most
 abbrev pub most_words : Graph → GridSize → ℕ
 most_words g grid = 2000 * (parts g * area grid) + 100 * (parts g * parts g * area grid)
 
+-- how many variables the formula has at most
 abbrev pub most_variables : Graph → GridSize → ℕ
 most_variables g grid = 100 * (parts g * area grid) + 10 * (parts g * parts g * (grid.width + 1))
 
@@ -133,6 +146,7 @@ pub record StandsForLawful (v : Assignment) (g : Graph) (above : ℕ → ℕ →
   pub stands : StandsFor v g x drawing
   pub lawful : Lawful g above grid drawing
 
+-- every assignment that satisfies the clauses stands for a lawful drawing
 abbrev pub Sound : Graph → (ℕ → ℕ → Bool) → GridSize → DrawingVars → Clauses → Type 0
 Sound g above grid x clauses = (v : Assignment) → SatisfiesAll v clauses → StandsForLawful v g above grid x
 
@@ -142,5 +156,6 @@ pub record ModelOf (g : Graph) (x : DrawingVars) (clauses : Clauses) (d : Drawin
   pub satisfies : SatisfiesAll to clauses
   pub stands : StandsFor to g x d
 
+-- every lawful drawing has an assignment that satisfies the clauses and stands for it
 abbrev pub Covers : Graph → (ℕ → ℕ → Bool) → GridSize → DrawingVars → Clauses → Type 0
 Covers g above grid x clauses = (d : Drawing) → Lawful g above grid d → ModelOf g x clauses d

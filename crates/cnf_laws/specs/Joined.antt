@@ -14,6 +14,7 @@ pub record StandsForJoined (v : Assignment) (g : Graph) (grid : GridSize) : Type
   pub reads : ReadsDrawing v g (drawing_vars g grid) grid.width drawing
   pub stands : StandsFor v g (drawing_vars g grid) drawing
 
+-- every assignment that satisfies the clauses says a drawing with laws 1 and 3, and stands for it
 abbrev pub SoundJoined : Graph → GridSize → Clauses → Type 0
 SoundJoined g grid clauses = (v : Assignment) → SatisfiesAll v clauses → StandsForJoined v g grid
 
@@ -24,5 +25,6 @@ pub record JoinedModel (g : Graph) (grid : GridSize) (clauses : Clauses) (d : Dr
   pub reads : ReadsDrawing to g (drawing_vars g grid) grid.width d
   pub stands : StandsFor to g (drawing_vars g grid) d
 
+-- every drawing with laws 1 and 3 has an assignment that satisfies the clauses, says it and stands for it
 abbrev pub CoversJoined : Graph → GridSize → Clauses → Type 0
 CoversJoined g grid clauses = (d : Drawing) → IsJoinedOnGrid g grid d → JoinedModel g grid clauses d

@@ -1,4 +1,6 @@
 -- The clauses of laws 2, 4, 5, 6 and 7, each for its parties, with the first of its new variables.
+-- Laws 2, 5, 6 and 7 are orders of two integers that hold unless one of five guards is true; law 4 is rules
+-- of at most two literals.
 use Rattle.std.specs.Prelude.{ℕ, ◌+◌, Bool, ◌||◌, cond, List, [], ◌∷◌, ◌++◌, nat_eq}
 use Rattle.std.specs.Ordering.{int_cmp}
 use Rattle.std.specs.declared.cmp.Ordering.{Ordering}
@@ -28,6 +30,7 @@ use Rattle.cnf_laws.specs.Stands.{DrawingVars, SlopeVars, slope_vars}
 abbrev pub by_mileage : Graph → ℕ → ℕ → Ordering
 by_mileage g u v = int_cmp (mileage g u) (mileage g v)
 
+-- the clauses of law 2 for the columns of two nodes, by how the mileages compare
 abbrev pub ordered_clauses : Ordering → IntVars → IntVars → List Literal → Clauses
 ordered_clauses Less u v unless = guarded_order u v 0 no_guards unless
 ordered_clauses Equal u v unless = guarded_order u v 0 no_guards unless ++ guarded_order v u 0 no_guards unless
@@ -88,6 +91,7 @@ ports_rules at (Switch legs branch trunk straight diverging) =
 ports_rules at (Crossing west_upper west_lower east_upper east_lower) =
     crossing_rules (at west_upper) (at west_lower) (at east_upper) (at east_lower)
 
+-- the clauses of law 4 for a node
 abbrev pub aligned_clauses : Graph → DrawingVars → ℕ → List Literal → Clauses
 aligned_clauses g x n unless = unless_rules unless (ports_rules (slope_vars g x n) (node g n).ports)
 
@@ -193,6 +197,8 @@ instance_size g (Apart u v) = apart_size (int_cmp (mileage g u) (mileage g v))
 instance_size g (Parted e f) = 1
 instance_size g other = 0
 
+-- the clauses of one instance, whose own variables begin at first, unless one of these literals is true;
+-- laws 1 and 3 have none here
 abbrev pub instance_clauses : Graph → DrawingVars → ℕ → Instance → ℕ → List Literal → Clauses
 instance_clauses g x width (Ordered u v) first unless =
     ordered_clauses (int_cmp (mileage g u) (mileage g v)) (x.node u).x (x.node v).x unless

@@ -15,6 +15,7 @@ comes_by Greater u v = false
 abbrev pub LiesBefore : Graph → ℕ → ℕ → Type 0
 LiesBefore g u v = (mileage g u <ℤ mileage g v) ⊎ ((mileage g u ≡ mileage g v) × (u < v))
 
+-- the same as a test
 abbrev pub comes_before : Graph → ℕ → ℕ → Bool
 comes_before g u v = comes_by (int_cmp (mileage g u) (mileage g v)) u v
 

@@ -30,6 +30,7 @@ pub record StandsFor (v : Assignment) (g : Graph) (x : DrawingVars) (d : Drawing
   pub heights : (e : ℕ) → e < length g.edges → (c : ℕ) → HasColumn (line d e) c →
       Reads v ((x.edge e).height c) (height (line d e) c)
 
+-- the assignment gives the node's integers this point
 pub record ReadsPoint (v : Assignment) (n : NodeInts) (p : Point) : Type 0 where
   pub x : Reads v n.x p.x
   pub y : Reads v n.y p.y
@@ -54,6 +55,7 @@ east_slope e = record { rises = e.east_up; falls = e.east_down }
 abbrev pub end_slope : Bool → EdgeLits → SlopeVars
 end_slope west e = (if west then west_slope e else east_slope e)
 
+-- the assignment gives the two variables this slope
 pub record ReadsSlope (v : Assignment) (s : SlopeVars) (slope : Slope) : Type 0 where
   pub rises : v s.rises ≡ is_up slope
   pub falls : v s.falls ≡ is_down slope

@@ -28,6 +28,8 @@ base_without_least g x high width =
     ++ each (λ e. edge_without_least (x.edge e) (x.node (edge g e).west) (x.node (edge g e).east) high width) 0
     (length g.edges)
 
+-- the formula's clauses with no word of a least length: of each edge the west node's column is less than
+-- the east node's
 abbrev pub clauses_without_least : Graph → (ℕ → ℕ → Bool) → (ℕ → ℕ → Bool) → GridSize → Clauses
 clauses_without_least g above overlap grid =
     base_without_least g (drawing_vars g grid) grid.height grid.width

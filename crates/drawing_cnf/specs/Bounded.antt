@@ -21,12 +21,15 @@ pub record Bound : Type 0 where
   pub last : ℕ
   pub cap : ℕ
 
+-- the bound of this criterion and cap, behind the variable of number last
 abbrev pub bound : Criterion → ℕ → ℕ → Bound
 bound criterion last cap = record { criterion = criterion; last = last; cap = cap }
 
+-- the clauses of a bound
 abbrev pub clauses_of_bound : Graph → DrawingVars → GridSize → Bound → Clauses
 clauses_of_bound g x grid b = bound_clauses g x grid b.last b.cap b.criterion
 
+-- how many variables a bound has
 abbrev pub size_of_bound : Graph → DrawingVars → GridSize → Bound → ℕ
 size_of_bound g x grid b = bound_size g x grid b.last b.cap b.criterion
 
@@ -51,11 +54,14 @@ bounds_from g x grid caps last (c ∷ rest) =
 
 -- The clauses and variables that there are for an order with its caps.
 
+-- the bounds of those criteria of an order that have a cap above 0, one right behind another, the first
+-- behind the drawing's variables
 abbrev pub expected_bounds : Graph → (ℕ → ℕ → Bool) → (ℕ → ℕ → Bool) → GridSize → List Criterion → (Criterion → ℕ) →
     List Bound
 expected_bounds g above overlap grid order caps =
     bounds_from g (drawing_vars g grid) grid caps (formula_size g above overlap grid) order
 
+-- the clauses of the drawing, and behind them those of these bounds
 abbrev pub expected : Graph → (ℕ → ℕ → Bool) → (ℕ → ℕ → Bool) → GridSize → List Criterion → (Criterion → ℕ) → Clauses
 expected g above overlap grid order caps =
     formula_clauses g above overlap grid
@@ -75,6 +81,7 @@ pub record StandsAndTells (v : Assignment) (g : Graph) (above : ℕ → ℕ → 
   pub lawful : Lawful g above grid drawing
   pub tells : Tells v (values_of drawing) bounds
 
+-- every assignment that satisfies the clauses stands for a lawful drawing, and the bounds tell its values
 abbrev pub SoundWith : Graph → (ℕ → ℕ → Bool) → GridSize → DrawingVars → Clauses → List Bound → Type 0
 SoundWith g above grid x clauses bounds = (v : Assignment) → SatisfiesAll v clauses →
     StandsAndTells v g above grid x bounds
@@ -87,5 +94,7 @@ pub record TellingModel (g : Graph) (x : DrawingVars) (clauses : Clauses) (bound
     pub stands : StandsFor to g x d
     pub tells : Tells to (values_of d) bounds
 
+-- every lawful drawing has an assignment that satisfies the clauses and stands for it, and whose bounds
+-- tell its values
 abbrev pub CoversWith : Graph → (ℕ → ℕ → Bool) → GridSize → DrawingVars → Clauses → List Bound → Type 0
 CoversWith g above grid x clauses bounds = (d : Drawing) → Lawful g above grid d → TellingModel g x clauses bounds d

@@ -17,6 +17,7 @@ pub record Encoding : Type 0 where
   pub formula : Cnf
   pub bounds : List Bound
 
+-- the encoding of these parts
 abbrev pub encoding : Graph → EdgeOrder → GridSize → Cnf → List Bound → Encoding
 encoding graph order grid formula bounds =
     record { graph = graph; order = order; grid = grid; formula = formula; bounds = bounds }

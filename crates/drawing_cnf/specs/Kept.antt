@@ -7,9 +7,12 @@ use Rattle.cnf_laws.specs.Expected.{drawing_vars}
 use Rattle.drawing_cnf.specs.Bounds.{bound_sums}
 use Rattle.drawing_cnf.specs.Bounded.{Bound, bound}
 
+-- the bound that is kept
 abbrev pub bound_of : KeptBound → Bound
 bound_of k = bound k.criterion k.last k.cap
 
+-- the kept sums are those of the bound: none for height and width, the bends' one, and for the diagonal
+-- each edge's from west to east, then that of their outputs
 abbrev pub HasSums : Graph → GridSize → KeptBound → Type 0
 HasSums g grid k = k.sums.items ≡ bound_sums g (drawing_vars g grid) grid k.last k.cap k.criterion
 

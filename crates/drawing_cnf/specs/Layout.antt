@@ -19,6 +19,7 @@ pub record IsStationLayout (y : Layout) : Type 0 where
   pub ordered : IsOrderOf y.graph y.order
   pub sized : IsGrid y.grid
 
+-- the layout of this graph, this order and this grid
 abbrev pub layout : Graph → EdgeOrder → GridSize → Layout
 layout graph order grid = record { graph = graph; order = order; grid = grid }
 

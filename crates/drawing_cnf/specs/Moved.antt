@@ -26,6 +26,7 @@ is_moved (Some q) p = not (is_point p q)
 abbrev pub matched_before : Former → ℕ → ℕ
 matched_before former n = count_below (λ k. is_matched (former_at former k)) n
 
+-- how many nodes have a former point
 abbrev pub matched : Former → ℕ
 matched former = matched_before former (length former)
 

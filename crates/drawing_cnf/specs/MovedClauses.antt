@@ -55,10 +55,11 @@ moved_sum former vars =
     sum_vars (block (nodes_first former vars) (matched former)) (matched former)
     (vars + (matched former + matched former))
 
--- the whole: how many variables, and the clauses
+-- how many variables count the moved nodes
 abbrev pub count_size : Former → ℕ → ℕ
 count_size former vars = matched former + matched former + sum_count (moved_sum former vars)
 
+-- the clauses that count the moved nodes: those of each node with a former point, and of the sum over these
 abbrev pub count_clauses : (ℕ → NodeInts) → Former → ℕ → Clauses
 count_clauses x former vars = nodes_clauses x former (nodes_first former vars) ++ sum_bound (moved_sum former vars) vars
 

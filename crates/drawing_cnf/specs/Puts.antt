@@ -43,10 +43,12 @@ ApartBits Greater v first p q = (v first ≡ nat_le p.x q.x) × (v (first + 1) �
 
 -- Sums one behind another.
 
+-- how many variables the sums have together
 abbrev pub sums_size : List SumVars → ℕ
 sums_size [] = 0
 sums_size (s ∷ rest) = sum_count s + sums_size rest
 
+-- the clauses of all the sums
 abbrev pub sums_clauses : List SumVars → Clauses
 sums_clauses [] = []
 sums_clauses (s ∷ rest) = sum_clauses s ++ sums_clauses rest

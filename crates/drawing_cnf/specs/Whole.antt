@@ -10,10 +10,11 @@ use Rattle.cnf_laws.specs.Expected.{drawing_vars, formula_clauses, formula_size}
 use Rattle.drawing_cnf.specs.Bounded.{Bound, bound, size_of_bound, bounds_clauses, AreBehind, expected_bounds}
 use Rattle.drawing_cnf.specs.Encoding.{Encoding, encoded_vars}
 
--- the clauses of the drawing, and their last variable
+-- the clauses of the drawing
 abbrev pub drawing_clauses : Encoding → Clauses
 drawing_clauses e = formula_clauses e.graph (is_above e.order) (is_overlap e.order) e.grid
 
+-- the last variable of the drawing's clauses
 abbrev pub drawing_last : Encoding → ℕ
 drawing_last e = formula_size e.graph (is_above e.order) (is_overlap e.order) e.grid
 
@@ -44,7 +45,9 @@ one_bound_more g above overlap grid order caps c =
 abbrev pub HasBoundsOf : Encoding → List Criterion → (Criterion → ℕ) → Type 0
 HasBoundsOf e order caps = e.bounds ≡ expected_bounds e.graph (is_above e.order) (is_overlap e.order) e.grid order caps
 
--- after an error of a call that adds a bound this needn't hold
+-- the clauses are the drawing's and behind them those of each bound, the variables of each bound lie behind
+-- those before it, and there are no further variables; after an error of a call that adds a bound this
+-- needn't hold
 pub record IsWhole (e : Encoding) : Type 0 where
   pub order : IsOrderOf e.graph e.order
   pub clauses : e.formula.clauses ≡ drawing_clauses e ++ bounds_clauses e.graph (encoded_vars e) e.grid e.bounds

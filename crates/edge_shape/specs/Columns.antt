@@ -7,14 +7,17 @@ use Rattle.plan_core.specs.declared.point.Slope.TheVariants.{Down, Level, Up}
 use Rattle.plan_core.specs.Line.{west_end, east_end, height}
 use Rattle.edge_shape.specs.Track.{step_slope, same_slope}
 
+-- the slope goes up
 abbrev pub is_up : Slope → Bool
 is_up Up = true
 is_up s = false
 
+-- the slope goes down
 abbrev pub is_down : Slope → Bool
 is_down Down = true
 is_down s = false
 
+-- the slope is level
 abbrev pub is_level : Slope → Bool
 is_level Level = true
 is_level s = false

@@ -124,14 +124,16 @@ inner_rules e c =
     (yes (e.down c) ∷ yes (e.bend (c + 1)) ∷ [])
     ∷ []
 
--- a diagonal step is one of the first or of the last piece
+-- a diagonal step is one of the first or of the last piece; this follows from the other clauses, and is
+-- there for the search
 abbrev pub end_piece_rules : EdgeLits → ℕ → List Rule
 end_piece_rules e c =
     rule (yes (e.up c) ∷ []) (yes e.west_up ∷ yes e.east_up ∷ [])
     ∷ rule (yes (e.down c) ∷ []) (yes e.west_down ∷ yes e.east_down ∷ [])
     ∷ []
 
--- a line without a level piece is one diagonal piece
+-- a line without a level piece is one diagonal piece; this follows from the other clauses, and is there for
+-- the search
 abbrev pub level_rules : EdgeLits → ℕ → List Rule
 level_rules e level =
     rule [] (yes e.west_up ∷ yes e.west_down ∷ yes level ∷ [])
@@ -142,7 +144,7 @@ level_rules e level =
     ∷ rule (yes e.east_down ∷ []) (yes e.west_down ∷ yes level ∷ [])
     ∷ []
 
--- the height beside an end is on the grid
+-- the height beside an end is on the grid; this follows from the other clauses, and is there for the search
 abbrev pub beside_end_rules : EdgeLits → IntVars → IntVars → ℕ → List Rule
 beside_end_rules e west_y east_y high =
     rule (yes e.west_down ∷ []) (int_at_least west_y 1 ∷ [])
@@ -223,6 +225,7 @@ abbrev pub front_clauses : EdgeLits → NodeInts → NodeInts → ℕ → ℕ �
 front_clauses e west east least width =
     each (λ c. int_clauses (e.height c)) 0 (width + 1) ++ end_clauses e west east least width
 
+-- all clauses of an edge, family by family
 abbrev pub edge_clauses : EdgeLits → NodeInts → NodeInts → ℕ → ℕ → ℕ → Clauses
 edge_clauses e west east least high width =
     front_clauses e west east least width ++ shape_clauses e west east high width

@@ -12,10 +12,13 @@ pub record NodeInts : Type 0 where
   pub x : IntVars
   pub y : IntVars
 
+-- the integers of a node: of its column and of its row
 abbrev pub node_ints : IntVars → IntVars → NodeInts
 node_ints x y = record { x = x; y = y }
 
--- the variables by column, and the six of the whole line
+-- the variables by column (whether the line has it, rises or falls from it, was level by then, has an inner
+-- point there, and its height), and six of the whole line: whether its first piece and its last rise or
+-- fall, and whether it bends at either end of its level piece
 pub record EdgeLits : Type 0 where
   pub inside : ℕ → ℕ
   pub up : ℕ → ℕ
@@ -96,9 +99,11 @@ pub record EdgeSpot : Type 0 where
   pub high : ℕ
   pub width : ℕ
 
+-- the spot with this first variable, on a grid of this height and width
 abbrev pub edge_spot : ℕ → ℕ → ℕ → EdgeSpot
 edge_spot first high width = record { first = first; high = high; width = width }
 
+-- the variables of the edge at this spot
 abbrev pub lits_of : EdgeSpot → EdgeLits
 lits_of e = edge_lits e.first e.high e.width
 

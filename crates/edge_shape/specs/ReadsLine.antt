@@ -10,7 +10,7 @@ use Rattle.edge_shape.specs.Columns.{has_inner, is_up, is_down, is_level, line_i
 use Rattle.edge_shape.specs.EdgeVars.{EdgeLits}
 use Rattle.edge_shape.specs.Joins.{JoinsPoints}
 
--- each variable has the truth value that its name says of the line
+-- each variable has the truth value that its name says of the line, whose height goes on level outside it
 pub record ReadsLine (v : Assignment) (e : EdgeLits) (width : ℕ) (line : List Point) : Type 0 where
   pub inside : (c : ℕ) → c ≤ width → v (e.inside c) ≡ (nat_le (west_end line).x c && nat_le c (east_end line).x)
   pub up : (c : ℕ) → c < width → v (e.up c) ≡ is_up (step_slope (height line) c)

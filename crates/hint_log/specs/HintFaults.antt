@@ -39,6 +39,7 @@ abbrev pub IsHintTextFault : List ℕ → ℕ → HintTextFault → Type 0
 IsHintTextFault text number (Hints what line) = (line ≡ number) × HasHintTextFault text what
 IsHintTextFault text number Memory = ⊥
 
+-- the number of each fault
 abbrev pub number_of : HintsWhat → ℕ
 number_of Header = 1
 number_of Form = 2
@@ -46,6 +47,7 @@ number_of Number = 3
 number_of Twice = 4
 number_of Range = 5
 
+-- the word of each fault
 abbrev pub word_of : HintsWhat → List ℕ
 word_of Header = codes "Header"
 word_of Form = codes "Form"

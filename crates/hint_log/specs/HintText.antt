@@ -25,6 +25,7 @@ pub record MayBeWritten (line : HintLine) : Type 0 where
   pub formed : IsWellFormedHint line
   pub once : NamesOnce (line_of line)
 
+-- so it is of each line
 abbrev pub MayAllBeWritten : HintLines → Type 0
 MayAllBeWritten lines = AllByRecursion MayBeWritten lines
 
@@ -32,10 +33,12 @@ MayAllBeWritten lines = AllByRecursion MayBeWritten lines
 abbrev pub number_fields : List ℕ → List (List ℕ)
 number_fields ns = with_zero (map decimal ns)
 
--- the text of a line: that of the line of a log with its literals, and its numbers behind that; with its line feed
+-- the text of a line, without its line feed: that of the line of a log with its literals, and its numbers
+-- behind that
 abbrev pub hint_text : HintLine → List ℕ
 hint_text line = log_line_text (line_of line) ++ spaced (number_fields (hints_of line))
 
+-- the text of a line with its line feed
 abbrev pub ended_hint : HintLine → List ℕ
 ended_hint line = hint_text line ++ codes "\n"
 
@@ -43,11 +46,12 @@ ended_hint line = hint_text line ++ codes "\n"
 abbrev pub hints_header : List ℕ
 hints_header = codes "railplan-hints 1\n"
 
--- the line of the caps, without its line feed, and with it
+-- the line of the caps, without its line feed: the caps in the order height, bends, diagonal, width
 abbrev pub caps_text : Values → List ℕ
 caps_text caps = unended_text (codes "caps")
     (decimal caps.height ∷ decimal caps.bends ∷ decimal caps.diagonal ∷ decimal caps.width ∷ [])
 
+-- the line of the caps with its line feed
 abbrev pub ended_caps : Values → List ℕ
 ended_caps caps = caps_text caps ++ codes "\n"
 

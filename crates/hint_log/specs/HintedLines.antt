@@ -8,6 +8,7 @@ use Rattle.hint_log.specs.declared.hint_line.HintLine.TheVariants.{Learnt, Refut
 use Rattle.hint_log.specs.Hint.{IsGood}
 use Rattle.hint_log.specs.Checked.{clauses_learnt}
 
+-- hinted lines, in their order
 abbrev pub HintLines : Type 0
 HintLines = List HintLine
 

@@ -65,8 +65,10 @@ loose_size g grid laws = laws_first g grid + choices_size laws - 1
 
 -- The formula of a graph whose tables say which edges are above which, and which overlap: with all of its laws.
 
+-- the clauses of all laws of a graph, each of which can be selected
 abbrev pub why_clauses : Graph → (ℕ → ℕ → Bool) → (ℕ → ℕ → Bool) → GridSize → Clauses
 why_clauses g above overlap grid = loose_clauses g grid (instances g above overlap)
 
+-- how many variables these clauses have
 abbrev pub why_size : Graph → (ℕ → ℕ → Bool) → (ℕ → ℕ → Bool) → GridSize → ℕ
 why_size g above overlap grid = loose_size g grid (instances g above overlap)

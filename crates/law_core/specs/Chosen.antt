@@ -13,10 +13,11 @@ use Rattle.search_why.specs.Explained.{IsLoose}
 use Rattle.search_why.specs.Task.{Task}
 use Rattle.law_core.specs.Choices.{selectors, why_clauses}
 
--- the law at a place, and its selecting variable; nothing asks for them past the list's end
+-- the law at a place; nothing asks for one past the list's end
 abbrev pub listed_law : List Instance → ℕ → Instance
 listed_law laws n = slice_index_or laws n (NodeOnGrid 0)
 
+-- the selecting variable of the law at a place; nothing asks for one past the list's end
 abbrev pub selector_at : Graph → GridSize → List Instance → ℕ → ℕ
 selector_at g grid laws n = slice_index_or (selectors (laws_first g grid) laws) n 0
 
@@ -28,6 +29,7 @@ pub record StandsForLoose (v : Assignment) (g : Graph) (grid : GridSize) (laws :
   pub meets : (n : ℕ) → n < length laws → v (selector_at g grid laws n) ≡ true →
       Meets g grid drawing (listed_law laws n)
 
+-- every assignment that satisfies the clauses stands for a loose drawing that meets each selected law
 abbrev pub SoundChoices : Graph → GridSize → List Instance → Clauses → Type 0
 SoundChoices g grid laws clauses = (v : Assignment) → SatisfiesAll v clauses → StandsForLoose v g grid laws
 

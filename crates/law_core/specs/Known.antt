@@ -23,13 +23,15 @@ use Rattle.law_core.specs.Law.{instance_of}
 use Rattle.law_core.specs.Choices.{why_clauses, why_size, selectors}
 use Rattle.law_core.specs.Chosen.{SoundChoices, CoversChoices, why_task}
 
--- the laws of a layout, and the formula in which each of them can be selected
+-- the laws of a layout
 abbrev pub laws_of : Layout → List Instance
 laws_of y = instances y.graph (is_above y.order) (is_overlap y.order)
 
+-- the clauses of a layout, in which each of its laws can be selected
 abbrev pub formula_of : Layout → Clauses
 formula_of y = why_clauses y.graph (is_above y.order) (is_overlap y.order) y.grid
 
+-- how many variables these clauses have
 abbrev pub size_of : Layout → ℕ
 size_of y = why_size y.graph (is_above y.order) (is_overlap y.order) y.grid
 

@@ -5,6 +5,7 @@ use Rattle.plan_core.specs.Lawful.{Instance, Ordered, Aligned, Apart, Over, Part
 use Rattle.law_core.specs.declared.parties.Law.{Law}
 use Rattle.law_core.specs.declared.parties.Law.TheVariants as law
 
+-- the law as `plan_core` has it
 abbrev pub instance_of : Law → Instance
 instance_of (law.Ordered u v) = Ordered u.0 v.0
 instance_of (law.Aligned n) = Aligned n.0

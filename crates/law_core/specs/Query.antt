@@ -20,6 +20,7 @@ has_variable (l ∷ ls) x = (l.var == x) || has_variable ls x
 abbrev pub places_in : List ℕ → List Literal → List ℕ → List ℕ
 places_in selecting literals wanted = filter (λ n. has_variable literals (slice_index_or selecting n 0)) wanted
 
+-- the reply is one of this answer
 abbrev pub IsReplyOf : Answer → Reply → Type 0
 IsReplyOf Model (Found d) = ⊤
 IsReplyOf RefutedAnswer (Refuted core) = ⊤

@@ -10,13 +10,15 @@ use Rattle.law_core.specs.declared.asking.WhyKnown.{WhyKnown}
 use Rattle.law_core.specs.Known.{formula_of, task_of, IsReady, KnowsWhy}
 use Rattle.law_core.specs.Query.{query_of}
 
+-- the layout that is searched
 abbrev pub layout_with : WhyKnown → Layout
 layout_with s = layout s.graph.now s.order.now s.grid.now
 
--- what is searched, and the clauses of its formula
+-- what is searched
 abbrev pub task_with : WhyKnown → Task
 task_with s = task_of (layout_with s) s.budget s.room
 
+-- the clauses of its formula
 abbrev pub formula_with : WhyKnown → Clauses
 formula_with s = formula_of (layout_with s)
 

@@ -42,6 +42,7 @@ second_of (Apart u v) = v
 second_of (Over e f) = f
 second_of (Parted e f) = f
 
+-- by law, then by the first party, then by the second
 abbrev pub IsBefore : Instance → Instance → Type 0
 IsBefore i j = (law_rank i < law_rank j) ⊎ ((law_rank i ≡ law_rank j)
     × IsEarlier (first_of i) (second_of i) (first_of j) (second_of j))

@@ -33,6 +33,7 @@ pub record IsLimitOf (told : List Bound) (b : Below) (x : Var) : Type 0 where
 abbrev pub IsAssumed : List Bound → Below → Literal → Type 0
 IsAssumed told b l = (x : Var) × IsLimitOf told b x × (l ≡ negative_of x.0)
 
+-- the literals say so of each limit, in their order
 abbrev pub AreAssumed : List Bound → List Below → List Literal → Type 0
 AreAssumed told [] [] = ⊤
 AreAssumed told [] (l ∷ ls) = ⊥

@@ -10,10 +10,11 @@ use Rattle.cdcl_core.specs.Kept.{Kept, AreGiven}
 use Rattle.drawing_cnf.specs.Layout.{layout_of}
 use Rattle.lex_minimise.specs.Known.{told_clauses, AreTold}
 
--- the clauses of a bound behind the formula, and how many variables they have
+-- the clauses of a bound behind the formula
 abbrev pub clauses_behind : Encoding → Bound → Clauses
 clauses_behind e b = clauses_of_bound e.graph (encoded_vars e) e.grid b
 
+-- how many variables a bound adds behind the formula
 abbrev pub size_behind : Encoding → Bound → ℕ
 size_behind e b = size_of_bound e.graph (encoded_vars e) e.grid b
 

@@ -19,22 +19,25 @@ use Rattle.search_least.specs.Asked.{AreApart}
 use Rattle.drawing_cnf.specs.Lists.{lines_with}
 use Rattle.drawing_cnf.specs.Layout.{Layout, layout_of}
 
--- the clauses, and the lines, of the drawings and of these bounds behind them
+-- the clauses of the drawings, and of these bounds behind them
 abbrev pub told_clauses : Layout → List Bound → Clauses
 told_clauses y told =
     formula_clauses y.graph (is_above y.order) (is_overlap y.order) y.grid
     ++ bounds_clauses y.graph (drawing_vars y.graph y.grid) y.grid told
 
+-- the lines of the drawings' clauses, and of these bounds behind them
 abbrev pub told_lines : Layout → List Bound → Lines
 told_lines y told = lines_with y.graph (is_above y.order) (is_overlap y.order) y.grid told
 
--- how many bounds each criterion has
+-- these numbers of bounds, but for the bound's criterion its cap
 abbrev pub with_bound : (Criterion → ℕ) → Bound → Criterion → ℕ
 with_bound caps b = with_cap caps b.criterion b.cap
 
+-- no criterion has a bound
 abbrev pub no_caps : Criterion → ℕ
 no_caps c = 0
 
+-- how many bounds each criterion has with these, 0 where none of them is of it
 abbrev pub caps_of : List Bound → Criterion → ℕ
 caps_of told = fold with_bound no_caps told
 

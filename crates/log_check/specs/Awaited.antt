@@ -1,4 +1,5 @@
 -- The lines that are still awaited of a log: those that are expected, behind the ones that came.
+-- No public clause names this.
 use Rattle.std.specs.Prelude.{◌≤◌, ◌<◌, ⊤, ℕ, ◌+◌, ◌-◌, List, [], ◌∷◌, ◌++◌, All, length, map, take, drop}
 use Rattle.cnf_core.specs.declared.limits.TheConstants.{VARS}
 use Rattle.cnf_core.specs.Clause.{Clauses}
@@ -29,6 +30,7 @@ abbrev pub IsPart : Clauses → Part → Type 0
 IsPart clauses (ClausesTo end) = end ≤ length clauses
 IsPart clauses (Bounds c last cap) = last + cap ≤ VARS
 
+-- so it is of each part
 abbrev pub AreParts : Clauses → List Part → Type 0
 AreParts clauses parts = All (IsPart clauses) parts
 

@@ -1,4 +1,5 @@
 -- Counts of Bound lines.
+-- No public clause names this.
 use Rattle.std.specs.Prelude.{◌≡◌, ℕ, ◌+◌, ◌++◌, List, All, Option, Some, None, cond, length, flat_map, codes}
 use Rattle.plan_core.specs.declared.criterion.Criterion.{Criterion}
 use Rattle.refute_log.specs.Told.{Lines}

@@ -9,7 +9,8 @@ use Rattle.refute_check.specs.Lacking.{told_bound}
 use Rattle.hint_log.specs.Checked.{HintFacts, refuted_of}
 use Rattle.hint_log.specs.HintedLines.{HintLines, line_of, AreGood}
 
--- the log that tells these lines first, and then the clauses of the hinted lines
+-- the log that tells these lines first, and then the clauses of the hinted lines; what it certifies, the
+-- hinted lines certify
 abbrev pub log_of : Lines → HintLines → Lines
 log_of told lines = told ++ map line_of lines
 

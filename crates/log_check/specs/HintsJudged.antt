@@ -81,7 +81,8 @@ pub record IsJudgedBehind (y : Layout) (order : List Criterion) (claim : Claim) 
   pub begins : BeginsWithCaps y order bytes caps body
   pub is_verdict : IsBodyVerdict y order claim (expected_for y order caps) body verdict
 
--- the text has caps, and all lines behind them are accepted and certify the claim
+-- the text has caps, and all lines behind them are accepted and certify the claim; where the order has as
+-- many places as are claimed, the verdict is Certified exactly then (proved by hints_certified_exactly)
 pub record HintsCertify (y : Layout) (order : List Criterion) (claim : Claim) (bytes : List ℕ) : Type 0 where
   pub caps : Values
   pub body : List ℕ

@@ -67,6 +67,7 @@ pub record IsHeaderRefused (bytes : List ℕ) (what : LogWhat) (number : ℕ) : 
   pub what_is : what ≡ whats.Header
   pub numbered : number ≡ 1
 
+-- the verdict on the text by what is expected of it
 abbrev pub IsLogVerdict : Layout → List Criterion → Claim → Expectation → List ℕ → Verdict → Type 0
 IsLogVerdict y order claim e bytes Certified = IsCertified y order claim e bytes
 IsLogVerdict y order claim e bytes (Lacks place) = IsLacking y order claim e bytes place

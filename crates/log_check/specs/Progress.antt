@@ -1,4 +1,5 @@
 -- A log that is read line by line: what stands next, and what is known of the lines that were accepted.
+-- No public clause names this but IsNext.
 use Rattle.std.specs.Prelude.{◌≡◌, ◌≢◌, ◌⊎◌, ⊤, ℕ, Option, Some, List, [], ◌∷◌, ◌++◌, MatchOption, flat_map}
 use Rattle.plan_core.specs.declared.criterion.Criterion.{Criterion}
 use Rattle.refute_log.specs.declared.line.LogLine.{LogLine}

@@ -14,6 +14,7 @@ abbrev pub IsWanted : List ℕ → ℕ → HintLine → Type 0
 IsWanted wanted p (Learnt lits hints) = ⊤
 IsWanted wanted p (Refuted lits hints) = Contains wanted p
 
+-- the line at this place of the log is the one that the hinted line is, and a Refuted line is wanted
 pub record IsLineAt (lines : Lines) (wanted : List ℕ) (p : ℕ) (line : HintLine) : Type 0 where
   pub there : slice_get lines p ≡ Some (line_of line)
   pub asked : IsWanted wanted p line
@@ -36,6 +37,9 @@ AreUsed count [] = ⊤
 AreUsed count (Learnt lits hints ∷ rest) = IsNamedLater (count + 1) rest × AreUsed (count + 1) rest
 AreUsed count (Refuted lits hints ∷ rest) = AreUsed count rest
 
+-- these lines are left of a log: they stand in it at places that rise; each wanted place is among them;
+-- each Learnt line is a hint of a later one; and each line is good after the clauses of the Formula lines
+-- and the Learnt lines before it
 pub record IsTrimmed (lines : Lines) (wanted : List ℕ) (answer : HintLines) : Type 0 where
   pub places : List ℕ
   pub stand : StandAt lines wanted 0 (length lines) places answer

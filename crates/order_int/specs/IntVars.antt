@@ -8,6 +8,7 @@ pub record IntVars : Type 0 where
   pub high : ℕ
   pub first : ℕ
 
+-- the integer of this range, whose first variable this is
 abbrev pub int_vars : ℕ → ℕ → ℕ → IntVars
 int_vars low high first = record { low = low; high = high; first = first }
 
@@ -15,6 +16,7 @@ int_vars low high first = record { low = low; high = high; first = first }
 abbrev pub size : IntVars → ℕ
 size i = i.high - i.low
 
+-- the range isn't empty and ends at 65,535 or before, and the variables may be there
 pub record IsInt (i : IntVars) : Type 0 where
   pub order : i.low ≤ i.high
   pub small : i.high ≤ 65535

@@ -73,12 +73,12 @@ ReadsFront (Some told) name limit old new = (bytes : List ℕ) × (told name ≡
 abbrev pub Begins : List ℕ → List ℕ → Type 0
 Begins old new = (more : List ℕ) × (new ≡ old ++ more)
 
--- the file has these bytes, or isn't told
+-- the file has these bytes, or nothing is known of the contents; for contracts of whole runs
 abbrev pub IsFileWhereTold : Option Told → List ℕ → List ℕ → Type 0
 IsFileWhereTold None name bytes = ⊤
 IsFileWhereTold (Some told) name bytes = told name ≡ Some bytes
 
--- the contents are told, and this is what they tell of the name
+-- the contents are known, and this is what they tell of the name; for accessors
 abbrev pub TellsAt : Option Told → List ℕ → Option (List ℕ) → Type 0
 TellsAt None name answer = ⊥
 TellsAt (Some told) name answer = answer ≡ told name

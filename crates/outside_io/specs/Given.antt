@@ -1,4 +1,5 @@
 -- What a sink was given, where it tells that.
+-- That known bytes have grown by a whole list is `Appends` of the standard library.
 use Rattle.std.specs.Prelude.{ℕ, List, take}
 use Rattle.std.specs.declared.option.Option.{Option}
 use Rattle.std.specs.Io.KnownBytes.{Appends}

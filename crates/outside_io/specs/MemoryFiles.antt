@@ -13,14 +13,17 @@ use Rattle.outside_io.specs.FailingCalls.{FailingCalls, plan_of}
 abbrev pub files_told : MemoryFiles → Told
 files_told files = told_of files.named
 
+-- which calls on the files are to fail, and how many calls there were
 abbrev pub files_plan : MemoryFiles → FailingCalls
 files_plan files = plan_of files.plan
 
+-- the three counts: faults of reading, faults of creating and appending, and reads that were done
 pub record FileCounts : Type 0 where
   pub read_faults : ℕ
   pub write_faults : ℕ
   pub reads : ℕ
 
+-- the counts of the files
 abbrev pub files_counts : MemoryFiles → FileCounts
 files_counts files = record {
   read_faults = files.read_faults.value;

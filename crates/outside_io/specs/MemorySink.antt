@@ -7,12 +7,15 @@ use Rattle.outside_io.specs.declared.sink.SinkFault.TheVariants.{Failed, Memory}
 use Rattle.outside_io.specs.Counts.{next_count}
 use Rattle.outside_io.specs.FailingCalls.{FailingCalls, plan_of}
 
+-- the bytes that the sink was given
 abbrev pub sink_bytes : MemorySink → List ℕ
 sink_bytes sink = sink.bytes.items
 
+-- which puts are to fail, and how many puts there were
 abbrev pub sink_plan : MemorySink → FailingCalls
 sink_plan sink = plan_of sink.plan
 
+-- the count of puts that failed
 abbrev pub sink_faults : MemorySink → ℕ
 sink_faults sink = sink.faults.value
 

@@ -22,6 +22,7 @@ pub record IsWinner (activities : List ℕ) (a b w : ℕ) : Type 0 where
 abbrev pub HaveActivities : List ℕ → List ℕ → Type 0
 HaveActivities activities tree = (k : ℕ) → entry_at tree k < length activities
 
+-- node k has the winner of the nodes 2k and 2k + 1
 abbrev pub IsWonAt : List ℕ → List ℕ → ℕ → Type 0
 IsWonAt activities tree k = IsWinner activities (entry_at tree (2 * k)) (entry_at tree (2 * k + 1)) (entry_at tree k)
 

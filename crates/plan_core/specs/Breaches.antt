@@ -1,4 +1,6 @@
 -- Drawings that break one law alone, and graphs that are no track graphs.
+-- There are at least two drawings for each law. `crates/cases_text/src/definitions.rt` states what they
+-- break.
 use Rattle.std.specs.Prelude.{◌↔◌, ℕ, Bool, List, [], ◌∷◌, Contains}
 use Rattle.plan_core.specs.declared.sides.Compass.TheVariants.{East, West}
 use Rattle.plan_core.specs.declared.sides.Side.TheVariants.{Upper}

@@ -9,12 +9,15 @@ pub record Drawing : Type 0 where
   pub places : List Point
   pub lines : List (List Point)
 
+-- the drawing of these points and lines
 abbrev pub drawing : List Point → List (List Point) → Drawing
 drawing places lines = record { places = places; lines = lines }
 
+-- the point of the node of this number
 abbrev pub place : Drawing → ℕ → Point
 place d n = slice_index_or d.places n origin
 
+-- the line of the edge of this number
 abbrev pub line : Drawing → ℕ → List Point
 line d e = slice_index_or d.lines e []
 

@@ -1,4 +1,5 @@
 -- Track graphs and drawings that were worked out by hand, as examples of the definitions.
+-- `crates/cases_text/src/definitions.rt` states what holds of them, as clauses of functions without code.
 use Rattle.std.specs.Prelude.{◌≡◌, ℕ, ◌*◌, Bool, ◌&&◌, ◌==◌, List, [], ◌∷◌, pos}
 use Rattle.std.specs.List.{list_any, flat_map}
 use Rattle.plan_core.specs.declared.point.Point.{Point}

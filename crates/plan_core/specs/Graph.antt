@@ -4,6 +4,8 @@
 -- a joint. A switch splits its trunk into two legs, the straight one and the diverging one. At a
 -- crossing two paths cross: the rising one goes from west lower to east upper, the falling one from
 -- west upper to east lower.
+-- Which edge is to be above which is not part of the graph: the laws are given it as a test of two edges,
+-- `above`.
 use Rattle.std.specs.Prelude.{◌≡◌, ◌≢◌, ℕ, ℤ, pos, ◌⊎◌, ◌<◌, ◌<ℤ◌, List, [], ◌∷◌, length, slice_index_or, All}
 use Rattle.std.specs.Prelude.{AllPairs, Contains}
 use Rattle.std.specs.Int.{int_max, int_min}
@@ -32,23 +34,28 @@ pub record Edge : Type 0 where
   pub west : ℕ
   pub east : ℕ
 
+-- a list of nodes and a list of edges
 pub record Graph : Type 0 where
   pub nodes : List Node
   pub edges : List Edge
 
--- what stands past the end of a list; no definition asks for it in a track graph
+-- the node past the end of a list; no definition asks for it in a track graph
 abbrev pub no_node : Node
 no_node = record { name = []; mileage = pos 0; ports = End 0 East }
 
+-- the edge past the end of a list; no definition asks for it in a track graph
 abbrev pub no_edge : Edge
 no_edge = record { track = []; west = 0; east = 0 }
 
+-- the node of this number
 abbrev pub node : Graph → ℕ → Node
 node g n = slice_index_or g.nodes n no_node
 
+-- the edge of this number
 abbrev pub edge : Graph → ℕ → Edge
 edge g e = slice_index_or g.edges e no_edge
 
+-- the mileage of the node of this number, in micrometres
 abbrev pub mileage : Graph → ℕ → ℤ
 mileage g n = (node g n).mileage
 
@@ -56,7 +63,8 @@ mileage g n = (node g n).mileage
 abbrev pub IsEndOf : Graph → ℕ → ℕ → Type 0
 IsEndOf g e n = ((edge g e).west ≡ n) ⊎ ((edge g e).east ≡ n)
 
--- the greater of the two west mileages is below the smaller of the two east mileages
+-- the greater of the two west mileages is below the smaller of the two east mileages; edges that only meet
+-- in a mileage don't overlap
 abbrev pub Overlap : Graph → ℕ → ℕ → Type 0
 Overlap g e f =
     int_max (mileage g (edge g e).west) (mileage g (edge g f).west)
@@ -74,6 +82,7 @@ abbrev pub LiesOn : Compass → Graph → ℕ → ℕ → Type 0
 LiesOn East g n e = (edge g e).west ≡ n
 LiesOn West g n e = (edge g e).east ≡ n
 
+-- east for west, and west for east
 abbrev pub opposite : Compass → Compass
 opposite East = West
 opposite West = East

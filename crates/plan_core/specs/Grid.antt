@@ -2,11 +2,13 @@
 use Rattle.std.specs.Prelude.{ℕ, ◌≤◌}
 use Rattle.plan_core.specs.declared.limits.TheConstants.{MAX_WIDTH, MAX_HEIGHT, MAX_LEAST}
 
+-- a width, a height and a least length
 pub record GridSize : Type 0 where
   pub width : ℕ
   pub height : ℕ
   pub least : ℕ
 
+-- the grid of this width, height and least length
 abbrev pub grid_with : ℕ → ℕ → ℕ → GridSize
 grid_with width height least = record { width = width; height = height; least = least }
 

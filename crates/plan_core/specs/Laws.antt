@@ -17,29 +17,36 @@ use Rattle.plan_core.specs.Drawing.{Drawing, place, line}
 
 -- Law 1: the point lies on the grid.
 
+-- x is at most the grid's width, and y at most its height
 pub record IsOnGrid (grid : GridSize) (p : Point) : Type 0 where
   pub in_width : p.x ≤ grid.width
   pub in_height : p.y ≤ grid.height
 
+-- law 1 of a node: its point lies on the grid
 abbrev pub NodeIsOnGrid : GridSize → Drawing → ℕ → Type 0
 NodeIsOnGrid grid d n = IsOnGrid grid (place d n)
 
+-- law 1 of a line: each of its points lies on the grid
 abbrev pub LineIsOnGrid : GridSize → Drawing → ℕ → Type 0
 LineIsOnGrid grid d e = All (IsOnGrid grid) (line d e)
 
 -- Law 2: a node of smaller mileage has no greater x, and nodes of one mileage have one x.
 
+-- by how two mileages compare, the first x is no greater than the second, equal to it, or no less
 abbrev pub InOrder : Ordering → ℕ → ℕ → Type 0
 InOrder Less u_x v_x = u_x ≤ v_x
 InOrder Equal u_x v_x = u_x ≡ v_x
 InOrder Greater u_x v_x = v_x ≤ u_x
 
+-- law 2: of two nodes the one of smaller mileage has no greater x, and equal mileages have one x
 abbrev pub NodesAreOrdered : Graph → Drawing → ℕ → ℕ → Type 0
 NodesAreOrdered g d u v = InOrder (int_cmp (mileage g u) (mileage g v)) (place d u).x (place d v).x
 
 -- Law 3: the edge's line begins at its west node's point and ends at its east node's point, and the x of
 -- the second exceeds that of the first by the grid's least length or more.
 
+-- law 3; in a drawing that fits, with a least length of 1, it asks no more than that the ends meet the
+-- nodes, proved by `least_1_asks_no_more_than_that_ends_meet`
 pub record LineJoinsItsNodes (g : Graph) (grid : GridSize) (d : Drawing) (e : ℕ) : Type 0 where
   pub begins : west_end (line d e) ≡ place d (edge g e).west
   pub ends : east_end (line d e) ≡ place d (edge g e).east
@@ -92,11 +99,13 @@ PortsAreAligned at_node (Crossing west_upper west_lower east_upper east_lower) =
 abbrev pub slope_at : Graph → Drawing → ℕ → ℕ → Slope
 slope_at g d n e = (if (edge g e).west == n then slope_west (line d e) else slope_east (line d e))
 
+-- law 4: the slopes of the edges at the node fit its ports
 abbrev pub NodeIsAligned : Graph → Drawing → ℕ → Type 0
 NodeIsAligned g d n = PortsAreAligned (slope_at g d n) (node g n).ports
 
 -- Law 5: distinct nodes have distinct points.
 
+-- law 5: the two nodes have distinct points
 abbrev pub NodesAreApart : Drawing → ℕ → ℕ → Type 0
 NodesAreApart d u v = place d u ≢ place d v
 

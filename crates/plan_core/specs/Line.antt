@@ -51,7 +51,8 @@ is_shape (Down ∷ Level ∷ Up ∷ []) = true
 is_shape (Down ∷ Level ∷ Down ∷ []) = true
 is_shape other = false
 
--- pieces of which each is one, in one of the eleven shapes; so there are two to four points
+-- pieces of which each is one, in one of the eleven shapes; so there are two to four points, proved by
+-- `other_readings`, `two_to_four_points`
 abbrev pub is_line : List Point → Bool
 is_line line = list_all is_piece (pieces line) && is_shape (map slope (pieces line))
 
@@ -63,20 +64,22 @@ abbrev pub last_from : Point → List Point → Point
 last_from a [] = a
 last_from a (b ∷ rest) = last_from b rest
 
--- the first point and the last
+-- the first point
 abbrev pub west_end : List Point → Point
 west_end [] = origin
 west_end (a ∷ rest) = a
 
+-- the last point
 abbrev pub east_end : List Point → Point
 east_end [] = origin
 east_end (a ∷ rest) = last_from a rest
 
--- the slope of the first piece and that of the last
+-- the slope of the first piece
 abbrev pub slope_west : List Point → Slope
 slope_west (a ∷ b ∷ rest) = slope (record { west = a; east = b })
 slope_west other = Level
 
+-- the slope of the last piece; a line has one to three
 abbrev pub slope_east : List Point → Slope
 slope_east (a ∷ b ∷ []) = slope (record { west = a; east = b })
 slope_east (a ∷ b ∷ c ∷ []) = slope (record { west = b; east = c })
@@ -94,7 +97,7 @@ reached Down y columns = y - columns
 reached Level y columns = y
 reached Up y columns = y + columns
 
--- the height of a piece at a column of its own, by interpolation
+-- the height of a piece at a column of its own, by interpolation, proved by `heights_interpolate`
 abbrev pub height_on : Piece → ℕ → ℕ
 height_on p x = reached (slope p) p.west.y (x - p.west.x)
 
@@ -116,6 +119,7 @@ bends line = length line - 2
 abbrev pub absolute_rise : Piece → ℕ
 absolute_rise p = (p.east.y - p.west.y) + (p.west.y - p.east.y)
 
--- the absolute rises of all pieces together
+-- the absolute rises of all pieces together; of a line this is also the number of columns from which it
+-- goes up or down to the next, proved by `diagonal_counts_columns`
 abbrev pub diagonal : List Point → ℕ
 diagonal line = sum_by absolute_rise (pieces line)

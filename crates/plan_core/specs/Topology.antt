@@ -1,6 +1,8 @@
 -- What a topology is that was read from a file: each element has an id and a file place of its own,
 -- joins lead both ways, and mileages stay in a range. A topology is built by resolving a file's rows, and
 -- the track graph is built from one that is so.
+-- A topology has tracks in file order, each with its begin, its end, and its switches and crossings (its
+-- inner elements) from begin to end.
 use Rattle.std.specs.Prelude.{◌≡◌, ◌≢◌, ℕ, ◌^◌, ◌*◌, ◌<◌, ◌≤◌, ◌⊎◌, Bool, nat_lt, ◌&&◌, ◌||◌, ℤ, pos, neg_ℤ, ◌<ℤ◌}
 use Rattle.std.specs.Prelude.{Option, Some, None, List, [], ◌∷◌, ◌++◌, length, map, flat_map, slice_get}
 use Rattle.std.specs.Prelude.{option_and_then, option_to_list, All, AllPairs, chars}
@@ -53,6 +55,7 @@ abbrev pub track_elements : Track → List Element
 track_elements track =
     track_element track ∷ (end_elements track.begin ++ (flat_map inner_elements track.inner ++ end_elements track.end))
 
+-- the elements of a topology: its tracks, their begins and ends, switches, crossings and connections
 abbrev pub elements : Topology → List Element
 elements t = flat_map track_elements t.tracks
 

@@ -24,21 +24,23 @@ values_of d = record {
   width = maximum (map (λ p. p.x) (all_points d));
 }
 
+-- the value of this criterion
 abbrev pub value_of : Values → Criterion → ℕ
 value_of v Height = v.height
 value_of v Bends = v.bends
 value_of v Diagonal = v.diagonal
 value_of v Width = v.width
 
--- what no lawful drawing's value passes
+-- what no lawful drawing's value passes, proved by `no_value_passes_its_limit`
 abbrev pub limit_of : Graph → GridSize → Criterion → ℕ
 limit_of g grid Height = grid.height
 limit_of g grid Bends = 2 * length g.edges
 limit_of g grid Diagonal = length g.edges * grid.width
 limit_of g grid Width = grid.width
 
--- a is less than b at the first criterion of the order at which they differ; on the first s criteria
--- alone where the order is take s of one
+-- a is less than b at the first criterion of the order at which they differ, proved by
+-- `better_is_less_at_some_place`; on the first s criteria alone where the order is take s of one. Criteria
+-- that are not in the order are free, a repeat adds nothing, and in an empty order nothing is better
 abbrev pub Better : List Criterion → Values → Values → Type 0
 Better [] a b = ⊥
 Better (c ∷ rest) a b = (value_of a c < value_of b c) ⊎ ((value_of a c ≡ value_of b c) × Better rest a b)

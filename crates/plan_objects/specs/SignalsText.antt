@@ -17,10 +17,11 @@ use Rattle.plan_objects.specs.Rows.{id_of}
 abbrev pub line_under : List SignalPlace → Drawing → ℕ → List Point
 line_under places d i = line d (edge_at places i)
 
--- the column of a signal, and the height of its edge's line there
+-- the column of a signal on its edge's line
 abbrev pub column_in : List SignalPlace → Drawing → ℕ → ℕ
 column_in places d i = column_on places (line_under places d i) i
 
+-- the height of the edge's line in the signal's column
 abbrev pub height_in : List SignalPlace → Drawing → ℕ → ℕ
 height_in places d i = height (line_under places d i) (column_in places d i)
 
@@ -28,12 +29,14 @@ height_in places d i = height (line_under places d i) (column_in places d i)
 abbrev pub id_at : List SignalElem → ℕ → List ℕ
 id_at signals i = option_map_or id_of (slice_get signals i) []
 
+-- the line of signal i: its number, its id, its edge, its column and its height
 abbrev pub signal_line : List SignalElem → List SignalPlace → Drawing → ℕ → List ℕ
 signal_line signals places d i =
     line_text (codes "signal")
     (decimal i ∷ id_at signals i ∷ decimal (edge_at places i) ∷ decimal (column_in places d i)
     ∷ decimal (height_in places d i) ∷ [])
 
+-- a line with the number of signals, and then the line of each, in file order
 abbrev pub signals_text : List SignalElem → List SignalPlace → Drawing → List ℕ
 signals_text signals places d =
     line_text (codes "signals") (decimal (length places) ∷ [])

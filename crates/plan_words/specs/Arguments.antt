@@ -1,4 +1,5 @@
 -- The words behind the command, from left to right: names, and options with their values.
+-- Positions count from 1 at the command.
 use Rattle.std.specs.Prelude.{ℕ, ◌+◌, ◌==◌, Bool, true, false, if◌then◌else◌, ◌||◌, Option, None, Some, List, [], ◌∷◌}
 use Rattle.std.specs.Prelude.{codes, map, flat_map, nat_eq, bytes_eq, string_bytes}
 use Rattle.std.specs.List.{starts_with}

@@ -34,20 +34,23 @@ pub record IsPairText (text : List ℕ) (first second : Criterion) : Type 0 wher
   pub written : text ≡ criteria_text (first ∷ second ∷ [])
   pub apart : first ≢ second
 
--- columns of the grid, its rows, the columns that each edge goes over at the least, learnt clauses, and the
--- number that a station is made from
+-- the text is a width of the grid, and this is it
 abbrev pub IsWidth : List ℕ → ℕ → Type 0
 IsWidth = IsNumberIn 1 MAX_WIDTH
 
+-- the text is a height of the grid, and this is it
 abbrev pub IsHeight : List ℕ → ℕ → Type 0
 IsHeight = IsNumberIn 0 MAX_HEIGHT
 
+-- the text is a number of columns that each edge goes over at the least, and this is it
 abbrev pub IsLeastLength : List ℕ → ℕ → Type 0
 IsLeastLength = IsNumberIn 1 MAX_LEAST
 
+-- the text is a budget of learnt clauses, and this is it
 abbrev pub IsBudget : List ℕ → ℕ → Type 0
 IsBudget = IsNumberIn 1 MAX_BUDGET
 
+-- the text is the number from which `make` and `trial` make a station, and this is it
 abbrev pub IsSeed : List ℕ → ℕ → Type 0
 IsSeed = IsNumberIn 0 MAX_SEED
 

@@ -1,4 +1,5 @@
 -- What is known of arguments while they are looked at from left to right.
+-- Private contracts alone cite this module.
 use Rattle.std.specs.Prelude.{◌≡◌, ◌≤◌, ◌<◌, ℕ, ◌+◌, ◌^◌, Option, Some, List, [], ◌∷◌, ◌++◌, length, Contains, ⊤}
 use Rattle.std.specs.Prelude.{MatchOption}
 use Rattle.plan_words.specs.declared.command.CommandWord.{CommandWord}

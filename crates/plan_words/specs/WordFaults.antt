@@ -32,7 +32,7 @@ command_word Explain = codes "explain"
 command_word Trim = codes "trim"
 command_word Recheck = codes "recheck"
 
--- the numbers of the table of faults, and their words
+-- the number of a fault in the table of faults
 abbrev pub number_of : WordWhat → ℕ
 number_of NoCommand = 1
 number_of UnknownCommand = 2
@@ -42,6 +42,7 @@ number_of UnknownOption = 5
 number_of RepeatedOption = 6
 number_of BadValue = 7
 
+-- the word of a fault in the table of faults
 abbrev pub word_of : WordWhat → List ℕ
 word_of NoCommand = codes "NoCommand"
 word_of UnknownCommand = codes "UnknownCommand"
@@ -184,6 +185,7 @@ pub record Clash (a b : FileWord) : Type 0 where
 abbrev pub MayBothStand : FileWord → FileWord → Type 0
 MayBothStand a b = Clash a b → ⊥
 
+-- no two of the files clash; files that are only read may have one name
 abbrev pub AllMayStand : List FileWord → Type 0
 AllMayStand files = AllPairs MayBothStand files
 
@@ -232,7 +234,8 @@ pub record IsUnknown (first : List ℕ) (what : WordWhat) (position : ℕ) : Typ
   pub kind : what ≡ UnknownCommand
   pub place : position ≡ 1
 
--- the words have this fault, and it is the one that counts
+-- the words have this fault, and it is the one that counts: that there are no words, or a first word that
+-- is no command, else the leftmost fault of the arguments, then a missing name, then two files that clash
 abbrev pub IsFaultOfWords : List (List ℕ) → WordWhat → ℕ → Type 0
 IsFaultOfWords [] what position = (what ≡ NoCommand) × (position ≡ 1)
 IsFaultOfWords (first ∷ rest) what position = IsUnknown first what position ⊎ IsFaultBehind first rest what position

@@ -56,5 +56,7 @@ edges_text g = line_text (codes "edges") (decimal (length g.edges) ∷ [])
 abbrev pub order_text : (ℕ → ℕ → Bool) → ℕ → List ℕ
 order_text above edges = flat_map (above_lines above edges) (range_with_len 0 edges)
 
+-- the first line; how many nodes there are, and each by number; how many edges, and each by number; and a
+-- line for each two edges of which the first is above the second
 abbrev pub graph_text : Graph → (ℕ → ℕ → Bool) → List ℕ
 graph_text g above = codes "railgraph 1\n" ++ (nodes_text g ++ (edges_text g ++ order_text above (length g.edges)))

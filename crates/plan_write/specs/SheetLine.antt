@@ -82,6 +82,7 @@ other_fields (EdgeLine number track west east points) = decimal number
 other_fields (ValuesLine values) = map decimal (values.height ∷ values.bends ∷ values.diagonal ∷ values.width ∷ [])
 other_fields (EndLine ending) = ending_fields ending
 
+-- the text of a line: its fields with one space between them, and a line feed
 abbrev pub text_of_line : SheetLine → List ℕ
 text_of_line line = line_text (first_field line) (other_fields line)
 
@@ -91,13 +92,16 @@ text_of_line line = line_text (first_field line) (other_fields line)
 abbrev pub IsSmall : ℕ → Type 0
 IsSmall n = n ≤ MAX_NUMBER
 
+-- each of the numbers is at most 65,535 (`MAX_NUMBER`)
 abbrev pub AreSmall : List ℕ → Type 0
 AreSmall numbers = AllByRecursion IsSmall numbers
 
+-- a byte or more, without a space or line feed
 pub record IsName (name : List ℕ) : Type 0 where
   pub some : 1 ≤ length name
   pub one : IsOneField name
 
+-- each byte is a digit
 abbrev pub AreDigits : List ℕ → Type 0
 AreDigits bytes = AllByRecursion IsAsciiDigit bytes
 
@@ -134,6 +138,7 @@ pub record IsBetween (least most count : ℕ) : Type 0 where
   pub from : least ≤ count
   pub to : count ≤ most
 
+-- the number of settled criteria, where the ending has one, is at most 65,535
 abbrev pub IsSmallEnding : Ending → Type 0
 IsSmallEnding Best = ⊤
 IsSmallEnding NoDrawing = ⊤

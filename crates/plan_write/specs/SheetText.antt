@@ -33,6 +33,7 @@ pub record MayBeSettled (order : List Criterion) (is_drawn : Bool) (settled : �
   pub some_left : settled < length order
   pub none_undrawn : is_drawn ≡ false → settled ≡ 0
 
+-- of a search that was cut short no more criteria are said to be settled than may be (`MayBeSettled`)
 abbrev pub StatesSettled : List Criterion → (is_drawn : Bool) → Ending → Type 0
 StatesSettled order is_drawn Best = ⊤
 StatesSettled order is_drawn NoDrawing = ⊤
@@ -79,7 +80,7 @@ picture_lines edition g d = node_lines edition g d ++ EdgesLine (length g.edges)
 abbrev pub drawn_lines : Edition → Graph → Drawing → List SheetLine
 drawn_lines edition g d = NodesLine (length g.nodes) ∷ picture_lines edition g d
 
--- and the drawing's own values behind them
+-- the lines of a drawing, from the number of nodes to its own values
 abbrev pub drawing_lines : Edition → Graph → Drawing → List SheetLine
 drawing_lines edition g d = drawn_lines edition g d ++ ValuesLine (values_of d) ∷ []
 
@@ -87,10 +88,13 @@ abbrev pub found_lines : Edition → Graph → Option Drawing → List SheetLine
 found_lines edition g None = []
 found_lines edition g (Some d) = drawing_lines edition g d
 
+-- the lines of a sheet in an edition: the title, the grid, the order, those of the drawing, if any, and the
+-- ending
 abbrev pub sheet_lines : Edition → Graph → Sheet → List SheetLine
 sheet_lines edition g s = Title edition ∷ GridLine edition s.grid ∷ OrderLine s.order
     ∷ (found_lines edition g s.found ++ EndLine s.ending ∷ [])
 
+-- the text of a sheet in an edition
 abbrev pub text_in : Edition → Graph → Sheet → List ℕ
 text_in edition g s = flat_map text_of_line (sheet_lines edition g s)
 

@@ -28,6 +28,7 @@ abbrev pub escaped_byte : ℕ → List ℕ
 escaped_byte b = if b == 38 then codes "&amp;" else
     (if b == 60 then codes "&lt;" else (if b == 62 then codes "&gt;" else b ∷ []))
 
+-- a name in which `&`, `<` and `>` are escaped
 abbrev pub escaped : List ℕ → List ℕ
 escaped name = flat_map escaped_byte name
 

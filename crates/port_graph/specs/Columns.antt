@@ -12,6 +12,7 @@ unfoldable pub rising : List ℤ → List ℤ
 rising [] = []
 rising (m ∷ ms) = insert_key int_cmp (rising ms) m
 
+-- the distinct mileages of the nodes, in rising order
 unfoldable pub columns_of : Graph → List ℤ
 columns_of g = rising (mileages g)
 

@@ -9,6 +9,8 @@ use Rattle.port_graph.specs.Columns.{mileages, columns_of}
 abbrev pub ArePlaces : List ℤ → List ℤ → List ColumnNo → Type 0
 ArePlaces columns miles numbers = map (λ (c : ColumnNo). slice_get columns c.0) numbers ≡ map Some miles
 
+-- what each `PortGraph` keeps: it is a station's graph, it has so many columns, and these are the columns
+-- of its nodes
 pub record IsKeptGraph (g : Graph) (columns : ℕ) (numbers : List ColumnNo) : Type 0 where
   pub station : IsStationGraph g
   pub count : columns ≡ length (columns_of g)

@@ -29,6 +29,7 @@ mirrored_inner x = record x { what = mirrored_kind x.what }
 abbrev pub mirrored_track : Track → Track
 mirrored_track track = record track { inner = map mirrored_inner track.inner }
 
+-- the topology with every hand the other one
 abbrev pub mirrored_topology : Topology → Topology
 mirrored_topology t = record { tracks = map mirrored_track t.tracks }
 
@@ -44,5 +45,6 @@ mirrored_ports (Crossing west_upper west_lower east_upper east_lower) =
 abbrev pub mirrored_node : Node → Node
 mirrored_node n = record n { ports = mirrored_ports n.ports }
 
+-- the graph with upper and lower exchanged, and nothing else
 abbrev pub mirrored_graph : Graph → Graph
 mirrored_graph g = record { nodes = map mirrored_node g.nodes; edges = g.edges }

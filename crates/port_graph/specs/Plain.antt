@@ -8,6 +8,7 @@ use Rattle.port_graph.specs.declared.ports.NodeKind.TheVariants as kind
 use Rattle.port_graph.specs.declared.rows.NodeRow.{NodeRow}
 use Rattle.port_graph.specs.declared.rows.EdgeRow.{EdgeRow}
 
+-- a node's ports in the plain graph
 abbrev pub plain_ports : NodePorts → Ports
 plain_ports (port.End edge side) = End edge.0 side
 plain_ports (port.Joint west east) = Joint west.0 east.0
@@ -28,6 +29,7 @@ plain_node n = record { name = n.name; mileage = n.mileage.0; ports = plain_port
 abbrev pub plain_edge : EdgeRow → Edge
 plain_edge e = record { track = e.track; west = e.west.0; east = e.east.0 }
 
+-- a graph's rows as plan_core's plain graph
 abbrev pub plain_graph : List NodeRow → List EdgeRow → Graph
 plain_graph nodes edges = record { nodes = map plain_node nodes; edges = map plain_edge edges }
 

@@ -43,8 +43,8 @@ abbrev pub paths_crossed : Hand → (own_west own_east other_west other_east : �
 paths_crossed Left own_west own_east other_west other_east = ports_of_paths other_west other_east own_west own_east
 paths_crossed Right own_west own_east other_west other_east = ports_of_paths own_west own_east other_west other_east
 
--- each path of a crossing has an edge on each side, and the outgoing edge lies on the side of the
--- track's piece after the crossing
+-- a crossing's own track is one path, and the other goes from the incoming to the outgoing connection. Each
+-- has an edge on each side, and the outgoing edge lies on the side of the track's piece after the crossing
 abbrev pub crossing_ports : Hand → (before after incoming outgoing : ℕ) → Compass → Compass → Compass → Compass →
     Option Ports
 crossing_ports hand before after incoming outgoing West East West East =
@@ -53,7 +53,9 @@ crossing_ports hand before after incoming outgoing East West East West =
     Some (paths_crossed hand after before outgoing incoming)
 crossing_ports hand before after incoming outgoing _ _ _ _ = None
 
--- the ports of what meets at a node at which the edges lie so; none where they don't lie as they must
+-- the ports of what meets at a node at which the edges lie so, or none where they don't lie as they must. A
+-- switch's trunk is the track's piece before it where the branch is outgoing, and else the piece after it;
+-- the track's course says whether the other piece or the branch diverges
 abbrev pub ports_of : (ℕ → Compass) → Meeting → Option Ports
 ports_of side (meeting.End e) = Some (End e.0 (side e.0))
 ports_of side (meeting.Joint first other) = joint_ports first.0 other.0 (side first.0) (side other.0)

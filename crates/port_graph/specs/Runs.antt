@@ -69,7 +69,7 @@ inner_joins t x = flat_map (begun_join t x) (connections x.what)
 abbrev pub track_joins : Topology → Track → List Join
 track_joins t track = flat_map (inner_joins t) track.inner
 
--- the joins, each by the connection that is listed first
+-- the joins, each by the connection that is listed first, and named by its id
 abbrev pub joins : Topology → List Join
 joins t = flat_map (track_joins t) t.tracks
 

@@ -1,4 +1,5 @@
 -- The track graph of a topology, and why it may have none.
+-- All of this is meant of a resolved topology (`IsResolved` of plan_core).
 use Rattle.std.specs.Prelude.{◌≡◌, ◌≢◌, ℕ, ◌≤◌, ◌<◌, ℤ, ◌⊎◌, nat_eq, int_lt, if◌then◌else◌, List, [], codes, length}
 use Rattle.std.specs.Prelude.{Contains, Some, None, IsSome, slice_get, slice_index_or}
 use Rattle.plan_core.specs.declared.limits.TheConstants.{MAX_NODES, MAX_EDGES}
@@ -18,10 +19,11 @@ use Rattle.port_graph.specs.Sites.{sites, number_among, node_number}
 use Rattle.port_graph.specs.PortRule.{ports_of}
 use Rattle.port_graph.specs.StationGraph.{IsStationGraph}
 
--- the two nodes of a run, the one of smaller mileage first
+-- the node of a run that has the smaller mileage; where both have one mileage, the node to which it leads
 abbrev pub west_of : Run → Spot
 west_of r = if int_lt r.from.mile.0 r.to.mile.0 then r.from else r.to
 
+-- the other node of the run
 abbrev pub east_of : Run → Spot
 east_of r = if int_lt r.from.mile.0 r.to.mile.0 then r.to else r.from
 
@@ -72,6 +74,7 @@ pub record IsStationGraphOf (t : Topology) (g : Graph) : Type 0 where
 
 -- Faults.
 
+-- the ends of a run have different mileages
 abbrev pub IsForward : Run → Type 0
 IsForward r = r.from.mile.0 ≢ r.to.mile.0
 
@@ -103,13 +106,17 @@ pub record IsFirstMismatch (t : Topology) (n : ℕ) (name : List ℕ) : Type 0 w
   pub mismatched : ports_of (side_at edges n) site.meets ≡ None
   pub before : (s : Site) → Contains (sites t) s → node_number t s.spot.at < n → Matches t edges s
 
+-- there are at most 128 nodes
 abbrev pub HasFewNodes : Topology → Type 0
 HasFewNodes t = length (sites t) ≤ MAX_NODES
 
+-- there are at most 160 edges
 abbrev pub HasFewEdges : Topology → Type 0
 HasFewEdges t = edge_count t ≤ MAX_EDGES
 
--- the fault holds of the topology, and none before it in the order of their kinds; want of memory is no fault of it
+-- the fault holds of the topology, and none before it in the order of their kinds; want of memory is no
+-- fault of it. How many tracks there are doesn't matter: 65 open tracks have too many nodes, and none of
+-- those past the 65,536th can be joined to another
 abbrev pub IsGraphFault : Topology → GraphFault → Type 0
 IsGraphFault t (TooManyNodes n) = (n ≡ length (sites t)) × (MAX_NODES < n)
 IsGraphFault t (TooManyEdges n) = HasFewNodes t × (n ≡ edge_count t) × (MAX_EDGES < n)
@@ -117,7 +124,7 @@ IsGraphFault t (NotForward edge track mileage) = HasFewNodes t × HasFewEdges t 
 IsGraphFault t (SideMismatch node name) = HasFewNodes t × HasFewEdges t × AllForward t × IsFirstMismatch t node.0 name
 IsGraphFault t Memory = ⊥
 
--- the number and the word by which a fault is told; want of memory has neither
+-- the number of a fault; want of memory has none, and so 0
 abbrev pub number_of : GraphFault → ℕ
 number_of (TooManyNodes n) = 1
 number_of (TooManyEdges n) = 2
@@ -125,6 +132,7 @@ number_of (NotForward edge track mileage) = 3
 number_of (SideMismatch node name) = 4
 number_of Memory = 0
 
+-- the word of a fault; want of memory has none, and so an empty text
 abbrev pub word_of : GraphFault → List ℕ
 word_of (TooManyNodes n) = codes "TooManyNodes"
 word_of (TooManyEdges n) = codes "TooManyEdges"

@@ -32,6 +32,7 @@ turned_track track = record track {
       map turned_inner track.inner;
 }
 
+-- the topology with every mileage negated
 abbrev pub turned_topology : Topology → Topology
 turned_topology t = record { tracks = map turned_track t.tracks }
 
@@ -55,11 +56,14 @@ turned_node n = record n { mileage = neg_ℤ n.mileage; ports = turned_ports n.p
 abbrev pub turned_edge : Edge → Edge
 turned_edge e = record e { west = e.east; east = e.west }
 
+-- the graph seen from the other end: every mileage is negated, and east and west, and upper and lower, are
+-- exchanged
 abbrev pub turned_graph : Graph → Graph
 turned_graph g = record { nodes = map turned_node g.nodes; edges = map turned_edge g.edges }
 
 -- Faults.
 
+-- the fault seen from the other end: its mileage is negated, where it has one
 abbrev pub turned_fault : GraphFault → GraphFault
 turned_fault (TooManyNodes n) = TooManyNodes n
 turned_fault (TooManyEdges n) = TooManyEdges n

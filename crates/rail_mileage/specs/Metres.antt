@@ -6,6 +6,7 @@ use Rattle.std.specs.Str.Parse.{digits_value}
 use Rattle.plan_core.specs.declared.numbers.Micro.{Micro}
 use Rattle.railml_text.specs.Bytes.{is_blank, AllOfClass}
 
+-- the sign of a number: none, `+` or `-`
 pub data Sign : Type 0 where
   unsigned : Sign
   plus : Sign
@@ -33,7 +34,8 @@ abbrev pub fraction_digits : Option (List ℕ) → List ℕ
 fraction_digits None = []
 fraction_digits (Some digits) = digits
 
--- the text is a number of metres, and these are its parts
+-- the text is a number of metres, and these are its parts; it is one in at most one way, proved by
+-- `one_reading`
 pub record IsMetres (text : List ℕ) (parts : MetresParts) : Type 0 where
   pub blank_before : AllOfClass is_blank parts.before
   pub blank_after : AllOfClass is_blank parts.after

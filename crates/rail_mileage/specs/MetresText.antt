@@ -15,7 +15,7 @@ six_digits n = last_digit (n / 100000) ∷ last_digit (n / 10000) ∷ last_digit
 abbrev pub size_text : ℕ → List ℕ
 size_text n = decimal (n / 1000000) ++ codes "." ++ six_digits n
 
--- the text of a mileage in micrometres, with `-` in front where it is negative
+-- the text of a mileage in micrometres, with `-` in front where it is negative; zero is `0.000000`
 abbrev pub metres_text : ℤ → List ℕ
 metres_text (pos n) = size_text n
 metres_text (negsuc n) = codes "-" ++ size_text (suc n)

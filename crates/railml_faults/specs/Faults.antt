@@ -118,6 +118,7 @@ HasItsParts rows i kind = ⊤
 abbrev pub LacksItsParts : List Elem → ℕ → Elem → Type 0
 LacksItsParts rows i row = HasItsParts rows i row.kind → ⊥
 
+-- one of the words `left` and `right`
 abbrev pub IsHand : List ℕ → Type 0
 IsHand word = (word ≡ codes "left") ⊎ (word ≡ codes "right")
 
@@ -138,6 +139,7 @@ pub record IsConnectionOf (rows : List Elem) (row : Elem) (kind : ElemKind) (par
   pub holds : parent_of rows row ≡ Some parent
   pub of_kind : parent.kind ≡ kind
 
+-- the course of a switch's connection is none that it may have
 pub record HasBadSwitchCourse (rows : List Elem) (row : Elem) : Type 0 where
   pub switch : Elem
   pub of_switch : IsConnectionOf rows row kinds.Switch switch
@@ -145,6 +147,7 @@ pub record HasBadSwitchCourse (rows : List Elem) (row : Elem) : Type 0 where
   pub has : row.attrs.course ≡ Some word
   pub bad : IsCourseAt switch word → ⊥
 
+-- the course of a crossing's outgoing connection is neither `left` nor `right`
 pub record HasBadCrossingCourse (rows : List Elem) (row : Elem) : Type 0 where
   pub crossing : Elem
   pub of_crossing : IsConnectionOf rows row kinds.Crossing crossing
@@ -157,6 +160,7 @@ pub record HasBadCrossingCourse (rows : List Elem) (row : Elem) : Type 0 where
 abbrev pub HasBadCourse : List Elem → Elem → Type 0
 HasBadCourse rows row = HasBadSwitchCourse rows row ⊎ HasBadCrossingCourse rows row
 
+-- one of the words `incoming` and `outgoing`
 abbrev pub IsWay : List ℕ → Type 0
 IsWay word = (word ≡ codes "incoming") ⊎ (word ≡ codes "outgoing")
 
@@ -168,9 +172,11 @@ pub record HasBadOrientation (rows : List Elem) (row : Elem) : Type 0 where
   pub has : row.attrs.orientation ≡ Some word
   pub bad : IsWay word → ⊥
 
+-- by their positions the row comes before the begin beside it
 abbrev pub IsBeforeBegin : List Elem → Elem → Type 0
 IsBeforeBegin rows row = (begin : Elem) × IsBeginBeside rows row begin × ComesBefore row begin
 
+-- by their positions the row comes after the end beside it
 abbrev pub IsBehindEnd : List Elem → Elem → Type 0
 IsBehindEnd rows row = (end : Elem) × IsEndBeside rows row end × ComesBefore end row
 
@@ -230,6 +236,7 @@ IsTopologyFault rows what at first second = HasFaultAt rows what at first second
 
 -- ---- which fault is told
 
+-- the number of a fault in the table
 abbrev pub number_of : TopologyWhat → ℕ
 number_of NoTracks = 1
 number_of TooMany = 2
@@ -245,7 +252,7 @@ number_of Course = 11
 number_of Orientation = 12
 number_of OutsideTrack = 13
 
--- the words of the table
+-- the word of a fault in the table
 abbrev pub word_of : TopologyWhat → List ℕ
 word_of NoTracks = codes "NoTracks"
 word_of TooMany = codes "TooMany"
@@ -261,7 +268,8 @@ word_of Course = codes "Course"
 word_of Orientation = codes "Orientation"
 word_of OutsideTrack = codes "OutsideTrack"
 
--- of all faults this one has the lowest number, and the least place among those of its kind
+-- of all faults this one has the lowest number, and the least place among those of its kind; formed rows
+-- have at most one such fault, proved by `one_fault`
 pub record IsFirstTopologyFault (rows : List Elem) (what : TopologyWhat) (at : ℕ) (first second : List ℕ) : Type 0 where
   pub holds : IsTopologyFault rows what at first second
   pub lowest : (other : TopologyWhat) (place : ℕ) (a b : List ℕ) → number_of other < number_of what →

@@ -1,4 +1,5 @@
 -- Ids: which row's number an id is kept with, and ids that are listed to be told apart.
+-- Private contracts alone cite this module.
 use Rattle.std.specs.Prelude.{◌≡◌, ◌≢◌, ◌<◌, ℕ, if◌then◌else◌, List, [], ◌∷◌, ◌++◌, Option, Some, None, bytes_eq}
 use Rattle.std.specs.Prelude.{slice_get, AllPairs, Contains, ⊤}
 use Rattle.std.specs.Borrow.{Bor}

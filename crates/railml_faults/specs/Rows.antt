@@ -15,6 +15,7 @@ use Rattle.railml_faults.specs.declared.attributes.Attribute.TheVariants.{Id, Po
 
 -- ---- kinds and children
 
+-- the two kinds are one
 abbrev pub same_kind : ElemKind → ElemKind → Bool
 same_kind Track Track = true
 same_kind Topology Topology = true
@@ -44,6 +45,7 @@ is_child_of i row = option_map_or (λ parent. parent == i) row.parent false
 abbrev pub all_children : List Elem → ℕ → List ℕ
 all_children rows i = numbers_from (is_child_of i) 0 rows
 
+-- row i is there, and of this kind
 abbrev pub is_of_kind : List Elem → ElemKind → ℕ → Bool
 is_of_kind rows kind i = option_map_or (λ row. same_kind row.kind kind) (slice_get rows i) false
 
@@ -100,6 +102,7 @@ attribute_name Ref = codes "ref"
 attribute_name Orientation = codes "orientation"
 attribute_name Course = codes "course"
 
+-- the text is there, and is this word
 abbrev pub is_word : List ℕ → Option (List ℕ) → Bool
 is_word word text = option_map_or (λ other. bytes_eq other word) text false
 
@@ -117,6 +120,7 @@ required_of Connection (Some Crossing) orientation =
 required_of Connection parent orientation = Id ∷ Ref ∷ []
 required_of kind parent orientation = []
 
+-- the attributes that the row must have, in their order
 abbrev pub required : List Elem → Elem → List Attribute
 required rows row = required_of row.kind (option_map (λ parent. parent.kind) (parent_of rows row)) row.attrs.orientation
 
@@ -162,9 +166,10 @@ pub record HasOnBeside (rows : List Elem) (row : Elem) (kind : ElemKind) (other 
   pub only : children rows topology kind ≡ number ∷ []
   pub is : slice_get rows number ≡ Some other
 
--- the begin and the end of the track that a row stands on
+-- the other row is the only begin of the topology that holds this row
 abbrev pub IsBeginBeside : List Elem → Elem → Elem → Type 0
 IsBeginBeside rows row begin = HasOnBeside rows row Begin begin
 
+-- the other row is the only end of the topology that holds this row
 abbrev pub IsEndBeside : List Elem → Elem → Elem → Type 0
 IsEndBeside rows row end = HasOnBeside rows row End end

@@ -1,4 +1,5 @@
 -- What is kept of rows while they are judged and built from: tables with an entry for each row.
+-- But for `AreTablesOf` and `entry_in`, private contracts alone cite this module.
 use Rattle.std.specs.Prelude.{◌≡◌, ◌≢◌, ◌⊎◌, ℕ, filter, List, [], ◌∷◌, ◌++◌, length, Option, Some, None, slice_get, ℤ}
 use Rattle.std.specs.Prelude.{◌<ℤ◌}
 use Rattle.std.specs.Option.{option_map, option_and_then}

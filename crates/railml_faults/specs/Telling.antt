@@ -1,4 +1,5 @@
 -- Which fault is found first, and what is told with it.
+-- But for `IsFirstTold`, private contracts alone cite this module.
 use Rattle.std.specs.Prelude.{◌≡◌, ◌<◌, ℕ, List, [], length, Option, Some, None, slice_get}
 use Rattle.std.specs.Option.{option_map_or}
 use Rattle.railml_read.specs.declared.rows.Elem.{Elem}

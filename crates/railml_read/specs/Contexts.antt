@@ -34,7 +34,8 @@ below_selected Switch name = if bytes_eq name (codes "connection") then Selected
 below_selected Crossing name = if bytes_eq name (codes "connection") then Selected Connection else Skipped
 below_selected kind name = Skipped
 
--- where an element of this name stands whose parent stands here; the root's parent stands outside
+-- where an element of this name stands whose parent stands here; the root's parent stands outside. Names
+-- with a prefix are other names, and off the path everything is skipped whole
 abbrev pub below : Context → List ℕ → Context
 below Outside name =
     if bytes_eq name (codes "railml") then Railml

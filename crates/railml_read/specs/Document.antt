@@ -20,8 +20,9 @@ IsFreeOutside before [] = ⊤
 IsFreeOutside before (item ∷ items) = (open_names before ≡ [] → role_of item.kind ≢ content)
     × IsFreeOutside (before ++ item ∷ []) items
 
--- The bytes are the items of the tree in the order of the document, with only items between them that
--- are passed over: their tags are those of the tree, and no content stands outside of the root.
+-- the bytes are the items of the tree in the order of the document, with only items between them that are
+-- passed over: their tags are those of the tree, and no content stands outside of the root. There is at
+-- most one such tree, proved by `one_tree`
 pub record SpellsTree (bytes : List ℕ) (tree : XmlTree) : Type 0 where
   pub items : List Placed
   pub cut : IsCutInto bytes items
@@ -71,8 +72,9 @@ pub record LacksInfrastructure (bytes : List ℕ) (at : ℕ) : Type 0 where
   pub lacks : Contains (names_of tree.children) (codes "infrastructure") → ⊥
   pub end : at ≡ length bytes
 
--- The table of faults of a whole text: this is its fault, at this place. That it isn't UTF-8 comes
--- before all others, at the length of its longest front that is.
+-- the table of faults of a whole text: this is its fault, at this place. That it isn't UTF-8 comes before
+-- all others, at the length of its longest front that is. A text has at most one fault, proved by
+-- `one_fault`
 abbrev pub IsTextFault : List ℕ → TextWhat → ℕ → Type 0
 IsTextFault bytes NotUtf8 at = IsValidUpTo bytes at
 IsTextFault bytes Unfinished at = IsFirstTextFault bytes Unfinished at ⊎ EndsOpen bytes at

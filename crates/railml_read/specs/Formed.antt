@@ -24,7 +24,7 @@ may_hold Switch Connection = true
 may_hold Crossing Connection = true
 may_hold parent child = false
 
--- a track has no parent; every other row's parent is an earlier row that may hold it
+-- the row's parent is an earlier row of a kind that may hold it
 pub record HasParent (rows : List Elem) (i : ℕ) (row : Elem) : Type 0 where
   pub number : ℕ
   pub parent : Elem
@@ -33,6 +33,7 @@ pub record HasParent (rows : List Elem) (i : ℕ) (row : Elem) : Type 0 where
   pub at : slice_get rows number ≡ Some parent
   pub holds : may_hold parent.kind row.kind ≡ true
 
+-- a track has no parent; every other row's parent is an earlier row that may hold it
 abbrev pub IsRowPlaced : List Elem → ℕ → Elem → ElemKind → Type 0
 IsRowPlaced rows i row Track = row.parent ≡ None
 IsRowPlaced rows i row kind = HasParent rows i row

@@ -67,6 +67,7 @@ begins_element kind = false
 abbrev pub has_root : List Placed → Bool
 has_root items = list_any (λ item. begins_element item.kind) items
 
+-- a name that the root may have
 abbrev pub IsRootName : List ℕ → Type 0
 IsRootName name = (name ≡ codes "railml") ⊎ (name ≡ codes "infrastructure")
 

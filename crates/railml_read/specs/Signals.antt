@@ -45,6 +45,7 @@ signals_from context tracks (element at name attrs children after) =
     own_signal here at attrs begun ++ (signals_from here begun children
     ++ signals_from context (begun + tracks_from here children) after)
 
+-- the signals of a tree, in file order
 abbrev pub signals_of : XmlTree → List SignalElem
 signals_of tree = signals_from Outside 0 (root_of tree)
 
@@ -64,10 +65,11 @@ pub record AreRising (signals : List SignalElem) : Type 0 where
   pub rise : (i j : ℕ) (a b : SignalElem) → i < j → slice_get signals i ≡ Some a → slice_get signals j ≡ Some b →
       a.at < b.at
 
--- how many rows are tracks
+-- an element of this kind is a track
 abbrev pub is_track : ElemKind → Bool
 is_track Track = true
 is_track kind = false
 
+-- how many rows are tracks
 abbrev pub track_count : List Elem → ℕ
 track_count rows = count_by (λ (row : Elem). is_track row.kind) rows

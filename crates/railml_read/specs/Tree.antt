@@ -18,11 +18,12 @@ pub record XmlTree : Type 0 where
 abbrev pub root_of : XmlTree → Elements
 root_of tree = element tree.at tree.name tree.attrs tree.children none
 
+-- an opening tag with its place, name and attributes, or a closing tag with its name
 pub data Tag : Type 0 where
   opens : (at : ℕ) (name : List ℕ) (attrs : List Attr) → Tag
   closes : (name : List ℕ) → Tag
 
--- the tags of elements, in the order of the document
+-- the tags of elements, in the order of the document; `<a/>` and `<a></a>` have the same tags
 abbrev pub tags_of : Elements → List Tag
 tags_of none = []
 tags_of (element at name attrs children after) = opens at name attrs ∷ (tags_of children ++ closes name ∷ tags_of after)

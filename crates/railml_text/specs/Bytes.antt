@@ -28,11 +28,12 @@ is_in_text b = not (b == 60) && not (b == 38)
 abbrev pub AllOfClass : (ℕ → Bool) → List ℕ → Type 0
 AllOfClass class bytes = AllByRecursion (λ b. class b ≡ true) bytes
 
--- the longest front of bytes of the class, and what follows it
+-- the longest front of bytes of the class
 abbrev pub front : (ℕ → Bool) → List ℕ → List ℕ
 front class [] = []
 front class (b ∷ bytes) = if class b then b ∷ front class bytes else []
 
+-- what follows the longest front of bytes of the class
 abbrev pub past : (ℕ → Bool) → List ℕ → List ℕ
 past class [] = []
 past class (b ∷ bytes) = if class b then past class bytes else b ∷ bytes

@@ -80,12 +80,14 @@ pub record IsUnfinished (first : Bool) (rest : List ℕ) : Type 0 where
   pub no_item : HasNoItem first rest
   pub front : IsFront first rest
 
+-- the rest begins with a declaration that names another encoding than UTF-8
 pub record HasOtherEncoding (first : Bool) (rest : List ℕ) : Type 0 where
   pub attrs : List Written
   pub after : List ℕ
   pub item : HasItem first rest (declaration attrs) after
   pub names : NamesOtherEncoding attrs
 
+-- the rest begins with a start tag, in a value of which an `&` begins no reference
 pub record HasLooseInTag (first : Bool) (rest : List ℕ) : Type 0 where
   pub name : List ℕ
   pub attrs : List Written
@@ -94,6 +96,7 @@ pub record HasLooseInTag (first : Bool) (rest : List ℕ) : Type 0 where
   pub item : HasItem first rest (start_tag name attrs empty) after
   pub loose : Any (λ attr. HasLoose attr.value) attrs
 
+-- the rest begins with an item that has two attributes of one name
 pub record HasRepeatedAttr (first : Bool) (rest : List ℕ) : Type 0 where
   pub shape : Shape
   pub after : List ℕ

@@ -2,6 +2,7 @@
 use Rattle.std.specs.Prelude.{◌≡◌, ◌≢◌, ◌⊎◌, ℕ, Bool, true, codes, if◌then◌else◌, List, [], ◌∷◌, ◌++◌}
 use Rattle.railml_text.specs.Bytes.{is_blank, begins_name, goes_on_name, is_in_value, is_in_text, AllOfClass}
 
+-- a letter of ASCII, `_`, `:` or a character from U+0080 on, and then these, digits, `-` and `.`
 abbrev pub IsXmlName : List ℕ → Type 0
 IsXmlName [] = ⊥
 IsXmlName (b ∷ bytes) = (begins_name b ≡ true) × AllOfClass goes_on_name bytes

@@ -20,6 +20,7 @@ pub record IsNumbered (base : ℕ) (opening text : List ℕ) (c : ℕ) : Type 0 
   pub not_zero : c ≢ 0
   pub spelled : text ≡ opening ++ digits ++ codes ";"
 
+-- the text is a reference to this character, one of the five by name, or by a decimal or hexadecimal number
 abbrev pub IsReference : List ℕ → ℕ → Type 0
 IsReference text c = Contains named_references (text, c) ⊎ IsNumbered 10 (codes "&#") text c
     ⊎ IsNumbered 16 (codes "&#x") text c

@@ -36,6 +36,7 @@ AreSpelled (piece ∷ pieces) value text =
     (after rest : List ℕ) × IsPiece piece after × (value ≡ piece_value piece ++ after)
     × (text ≡ piece_text piece ++ rest) × AreSpelled pieces after rest
 
+-- the value falls into pieces, and the text is what they stand for
 abbrev pub IsValueText : List ℕ → List ℕ → Type 0
 IsValueText value text = (pieces : List ValuePiece) × AreSpelled pieces value text
 

@@ -1,4 +1,5 @@
 -- Where the connections of rows are: what is kept of it, row by row.
+-- Private contracts alone cite this module.
 use Rattle.std.specs.Prelude.{◌≡◌, ◌⊎◌, ◌<◌, ◌&&◌, ℕ, Bool, true, false, List, length, Option, Some, slice_get}
 use Rattle.std.specs.Option.{option_map_or}
 use Rattle.plan_core.specs.declared.topology.Place.{Place}

@@ -1,4 +1,5 @@
 -- What is known while a topology is built from its rows.
+-- Private contracts alone cite this module.
 use Rattle.std.specs.Prelude.{◌≡◌, ◌||◌, ℕ, Bool, List, Some, slice_get, ℤ, pos, neg_ℤ, ◌<ℤ◌}
 use Rattle.railml_read.specs.declared.rows.Elem.{Elem}
 use Rattle.railml_read.specs.declared.rows.ElemKind.TheVariants.{Switch, Crossing}

@@ -175,6 +175,7 @@ pub record IsCrossingOf (rows : List Elem) (layouts : List Layout) (i : ℕ) (ha
   pub leaving_conn : IsConnOf rows layouts leaving outgoing
   pub course : leaving_conn.row.attrs.course ≡ Some (hand_word hand)
 
+-- row i is a switch or a crossing, and this is what it connects
 abbrev pub IsInnerKindOf : List Elem → List Layout → ℕ → Elem → InnerKind → Type 0
 IsInnerKindOf rows layouts i row (Switch outgoing hand track_diverges c) =
     IsSwitchOf rows layouts i row outgoing hand track_diverges c
@@ -201,7 +202,8 @@ pub record IsTrackOf (rows : List Elem) (layouts : List Layout) (l : Layout) (tr
   pub end : IsTrackEndOf rows layouts begin_row l.end track.end
   pub inner : AllZip (IsInnerOf rows layouts begin_row) l.inner track.inner
 
--- what these rows resolve to
+-- what these rows resolve to; formed rows without a fault resolve to at most one topology, proved by
+-- `one_topology`
 pub record IsTopologyOf (rows : List Elem) (t : Topology) : Type 0 where
   pub layouts : List Layout
   pub laid_out : AreLayouts rows layouts

@@ -1,4 +1,5 @@
 -- What a topology is built from.
+-- Private contracts alone cite this module.
 use Rattle.std.specs.Prelude.{◌≡◌, ◌⊎◌, ℕ, true, List, Some, ℤ}
 use Rattle.railml_read.specs.declared.rows.Elem.{Elem}
 use Rattle.railml_read.specs.declared.rows.ElemKind.TheVariants.{Begin, End}

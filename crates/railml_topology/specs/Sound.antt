@@ -1,4 +1,5 @@
 -- What holds of each row where nothing is wrong with the rows. The builder of the topology goes by it.
+-- Private contracts alone cite this module.
 use Rattle.std.specs.Prelude.{◌≡◌, ◌≢◌, ◌⊎◌, ◌≤◌, ℕ, Bool, true, codes, List, length, Some, slice_get, ℤ}
 use Rattle.plan_core.specs.declared.limits.TheConstants.{MAX_TRACKS}
 use Rattle.plan_core.specs.declared.sides.Hand.{Hand}

@@ -1,10 +1,12 @@
 -- What stands in the lists of a literal: the clauses of two and of three literals that have it, whole, and the numbers
 -- of the others.
+-- No public clause names this.
 use Rattle.std.specs.Prelude.{◌≡◌, ◌⊎◌, ℕ, ◌+◌, Bool, true, false, cond, List, [], ◌∷◌, ◌++◌, All, Contains}
 use Rattle.cnf_core.specs.Lit.{Literal, same_literal, has}
 use Rattle.cnf_core.specs.Clause.{Clauses}
 use Rattle.refute_check.specs.declared.places.Rest.{Rest}
 
+-- the lists of one literal: of a clause of two or three literals the others, and the numbers of the longer ones
 pub record Entries : Type 0 where
   pub shorts : List Rest
   pub longer : List ℕ

@@ -20,6 +20,8 @@ pub record CheckedFacts : Type 0 where
   pub facts : Facts
   pub lost : Bool
 
+-- what a checker's parts are seen as: its room, its formula, the latest query, the clauses of the Refuted
+-- lines, and whether memory was wanting once
 abbrev pub checked_facts : ℕ → Cnf → Option (List Literal) → Clauses → Bool → CheckedFacts
 checked_facts room f query refuted lost = record {
   room = room;
@@ -35,6 +37,7 @@ kept_after kept line = record { room = kept.room; facts = facts_after kept.facts
 abbrev pub NamesNew : Facts → LogLine → Type 0
 NamesNew facts line = Any (λ l. facts.greatest < l.var) (bounded line)
 
+-- a Learnt, Query or Refuted line names no variable above the greatest of the Formula lines
 abbrev pub NamesNoNew : Facts → LogLine → Type 0
 NamesNoNew facts line = All (λ l. l.var ≤ facts.greatest) (bounded line)
 
@@ -49,6 +52,7 @@ abbrev pub IsKnownClause : Clauses → List Literal → Type 0
 IsKnownClause clauses [] = ⊥
 IsKnownClause clauses (first ∷ others) = Falsifies clauses (negations others) ⊎ Closure clauses (negations others) first
 
+-- the line is a Learnt line whose clause is known already
 abbrev pub IsKnown : Clauses → LogLine → Type 0
 IsKnown clauses (Learnt c) = IsKnownClause clauses c
 IsKnown clauses line = ⊥
@@ -59,22 +63,27 @@ pub record Accepts (old new : CheckedFacts) (line : LogLine) : Type 0 where
   pub fits : LacksRoom old line → ⊥
   pub kept : new ≡ kept_after old line
 
--- the causes of the refusals, each without those before it
+-- the line names no new variable, and is a Refuted line that doesn't answer the latest query. Each cause of
+-- the five refusals is one only where those before it don't hold: NamesNew, AnswersWrongly, PassesRoom,
+-- IsUnproved, IsOld
 pub record AnswersWrongly (kept : CheckedFacts) (line : LogLine) : Type 0 where
   pub named : NamesNoNew kept.facts line
   pub wrong : Answers kept.facts.query line → ⊥
 
+-- no cause before holds, and there is no room for the line
 pub record PassesRoom (kept : CheckedFacts) (line : LogLine) : Type 0 where
   pub named : NamesNoNew kept.facts line
   pub answers : Answers kept.facts.query line
   pub passes : LacksRoom kept line
 
+-- no cause before holds, and the line's clause doesn't follow
 pub record IsUnproved (kept : CheckedFacts) (line : LogLine) : Type 0 where
   pub named : NamesNoNew kept.facts line
   pub answers : Answers kept.facts.query line
   pub fits : LacksRoom kept line → ⊥
   pub unproved : IsImplied kept.facts.clauses line → ⊥
 
+-- no cause before holds, and the line is a Learnt line whose clause is known already
 pub record IsOld (kept : CheckedFacts) (line : LogLine) : Type 0 where
   pub named : NamesNoNew kept.facts line
   pub answers : Answers kept.facts.query line

@@ -1,4 +1,5 @@
 -- What a look at one clause answers.
+-- No public clause names this.
 use Rattle.std.specs.Prelude.{◌≡◌, false, List, All}
 use Rattle.cnf_core.specs.Lit.{Literal, negate}
 use Rattle.cnf_core.specs.Propagation.{LiteralSet, IsIn}

@@ -1,4 +1,5 @@
 -- Tables between two lines: what is true without assumptions.
+-- No public clause names this.
 use Rattle.std.specs.Prelude.{◌≡◌, ◌⊎◌, ℕ, List, length, take, All, Contains}
 use Rattle.cnf_core.specs.Lit.{Literal, has}
 use Rattle.cnf_core.specs.Clause.{Clauses}

@@ -1,4 +1,5 @@
 -- What a checker's tables are good for.
+-- No public clause names this but the view and the invariant of Checker.
 use Rattle.std.specs.Prelude.{◌≤◌, ⊤, Bool, true, false}
 use Rattle.cnf_core.specs.Formula.{Cnf}
 use Rattle.cnf_core.specs.Propagation.{Falsifies, greatest_var, nothing}
@@ -17,6 +18,8 @@ pub record IsOpenChecker (f : Cnf) (t : Tables) : Type 0 where
   pub settled : AreSettled f.vars f.clauses t
   pub greatest : f.vars ≤ greatest_var f.clauses
 
+-- what a checker keeps of its tables, by how they stand: they are right, or some clause is falsified
+-- without assumptions, or nothing, where memory was wanting once
 abbrev pub IsChecker : Cnf → Tables → Standing → Type 0
 IsChecker f t Open = IsOpenChecker f t
 IsChecker f t Contradiction = IsContradicted f

@@ -1,4 +1,5 @@
 -- Tables by clause and by literal, over which the literals are counted that aren't false.
+-- No public clause names this.
 use Rattle.std.specs.Prelude.{◌≡◌, ◌≤◌, ◌<◌, ◌⊎◌, ℕ, ◌+◌, ◌-◌, ◌*◌, Bool, false, cond, List, []}
 use Rattle.std.specs.Prelude.{All, Contains, length, slice_index, slice_index_or, take}
 use Rattle.std.specs.List.{count_by}

@@ -1,5 +1,6 @@
 -- Which lines of a log are timely: their variables came in Formula lines before, and a Refuted line answers the latest
 -- query.
+-- This is all that StandsOn asks of a line besides that its clause follows and is new.
 use Rattle.std.specs.Prelude.{◌≡◌, ℕ, Some, slice_get, take}
 use Rattle.refute_log.specs.declared.line.LogLine.{LogLine}
 use Rattle.refute_log.specs.Told.{Lines}

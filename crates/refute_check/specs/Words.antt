@@ -1,4 +1,5 @@
 -- Sets of the words of literals.
+-- No public clause names this.
 use Rattle.std.specs.Prelude.{◌≡◌, ℕ, List}
 use Rattle.std.specs.Ordering.{nat_cmp}
 use Rattle.std.specs.BTreeSet.{BTreeSet, contains}

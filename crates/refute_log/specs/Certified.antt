@@ -1,4 +1,7 @@
 -- Which values a log certifies: that with those of the criteria before it, none can be less.
+-- What a log certifies is said of values alone, by each criterion's greatest value; for a graph on a grid
+-- that is `limit_of`. A log that is written out in crates/cases_refutation/specs/Examples.antt shows what
+-- is certified and what lacks.
 use Rattle.std.specs.Prelude.{◌≡◌, ◌≤◌, ◌<◌, ◌+◌, ◌⊎◌, ℕ, List, [], All, Any, Contains, Option, Some, MatchOption}
 use Rattle.std.specs.Prelude.{length, take, slice_get}
 use Rattle.plan_core.specs.declared.criterion.Values.{Values}

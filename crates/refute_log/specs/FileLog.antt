@@ -58,6 +58,7 @@ abbrev pub KeepsLogText : Bool → Told → List ℕ → List ℕ → Type 0
 KeepsLogText true told name gathered = FileBeginsLog told name
 KeepsLogText false told name gathered = (lines : Lines) × TellsText false (Some told) name gathered lines
 
+-- the same (`KeepsLogText`) of a log's own name and gathered bytes
 abbrev pub KeepsLog : Gathered → Told → Type 0
 KeepsLog kept told = KeepsLogText kept.failed told (name_of kept) kept.bytes.items
 
@@ -70,7 +71,9 @@ abbrev pub HasText : Option Told → List ℕ → Lines → Type 0
 HasText None name lines = ⊥
 HasText (Some told) name lines = told name ≡ Some (log_text lines)
 
--- the files after a log that couldn't be started
+-- the files after a log that couldn't be started: where they are known, its file stands as it stood, or has
+-- the first line or a front of it, and no other changed. A failure comes only with a count of faults that
+-- rose
 pub record StartFails (name : List ℕ) (before : FilesAt) (fault : LogSinkFault) (after : FilesAt) : Type 0 where
   pub file : WhereTold before.contents after.contents (MaySet name header)
   pub later : before.write_faults ≤ after.write_faults

@@ -24,9 +24,12 @@ pub record IsNumber (field : Field) : Type 0 where
   pub only : AllByRecursion IsAsciiDigit digits
   pub spelled : field ≡ literal_sign positive ++ digits
 
+-- each of the fields is an optional `-` and digits
 abbrev pub AreNumbers : List Field → Type 0
 AreNumbers fields = AllByRecursion IsNumber fields
 
+-- the kind of a line, of a Bound line its criterion, and the fields of its numbers as they stand there; the
+-- last field of a clause, the fixed text `0`, isn't among them
 pub data LineForm : Type 0 where
   FormulaForm : List Field → LineForm
   LearntForm : List Field → LineForm
@@ -63,7 +66,8 @@ pub record IsLiteral (field : Field) : Type 0 where
   pub there : IsThere LAST_VAR literal
   pub spelled : field ≡ literal_text literal
 
--- each number is canonical and within its limits
+-- each number is canonical and within its limits: a variable is 1 to 1,073,741,823, and the number of a
+-- Bound line 1 to 65,535
 abbrev pub HasRightNumbers : LineForm → Type 0
 HasRightNumbers (FormulaForm fields) = AllByRecursion IsLiteral fields
 HasRightNumbers (LearntForm fields) = AllByRecursion IsLiteral fields

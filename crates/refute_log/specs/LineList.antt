@@ -5,6 +5,8 @@ use Rattle.refute_log.specs.Told.{Lines}
 use Rattle.refute_log.specs.Lines.{MayAllBeTold}
 use Rattle.refute_log.specs.Log.{learnt_count}
 
+-- what a `LineList` keeps: each of its lines is one that a log takes (`MayBeTold`), and its count is that
+-- of their Learnt lines
 pub record IsKept (lines : Lines) (learnt : ℕ) : Type 0 where
   pub counted : learnt ≡ learnt_count lines
   pub told : MayAllBeTold lines

@@ -18,8 +18,9 @@ pub record IsTextOf (text : List ℕ) (line : LogLine) : Type 0 where
   pub spells : SpellsLine text line
   pub once : NamesOnce line
 
--- no form has the text; a form has it, but some number isn't right; a line has it, but some variable
--- stands twice
+-- no form has the text; a form has it, but some number isn't right; a line has it, but some variable stands
+-- twice. A text has one fault at most, and none where it is that of a line (`IsTextOf`), proved by
+-- one_line_or_one_fault
 abbrev pub HasLineFault : List ℕ → LogWhat → Type 0
 HasLineFault text Header = ⊥
 HasLineFault text Form = (form : LineForm) → IsOfForm text form → ⊥

@@ -11,7 +11,8 @@ use Rattle.cnf_core.specs.Clause.{AreThere, AreDistinct}
 use Rattle.refute_log.specs.declared.line.LogLine.{LogLine}
 use Rattle.refute_log.specs.declared.line.LogLine.TheVariants.{Formula, Learnt, Bound, Query, Refuted, Model}
 
--- a Learnt clause has a literal, each variable is one that a log may name, and a Bound line's value is none too great
+-- a Learnt clause has a literal, each variable is 1 to 1,073,741,823 (`LAST_VAR`), and the number of a
+-- Bound line is 1 to 65,535 (`MAX_NUMBER`)
 abbrev pub IsWellFormed : LogLine → Type 0
 IsWellFormed (Formula c) = AreThere LAST_VAR c
 IsWellFormed (Learnt c) = AreThere LAST_VAR c × (1 ≤ length c)
@@ -20,6 +21,7 @@ IsWellFormed (Query c) = AreThere LAST_VAR c
 IsWellFormed (Refuted c) = AreThere LAST_VAR c
 IsWellFormed Model = ⊤
 
+-- each of the lines is well formed
 abbrev pub AreWellFormed : List LogLine → Type 0
 AreWellFormed lines = AllByRecursion IsWellFormed lines
 
@@ -37,9 +39,11 @@ pub record MayBeTold (line : LogLine) : Type 0 where
   pub formed : IsWellFormed line
   pub once : NamesOnce line
 
+-- each of the lines is one that a log takes (`MayBeTold`)
 abbrev pub MayAllBeTold : List LogLine → Type 0
 MayAllBeTold lines = AllByRecursion MayBeTold lines
 
+-- the line is a Learnt line
 abbrev pub is_learnt : LogLine → Bool
 is_learnt (Formula c) = false
 is_learnt (Learnt c) = true
@@ -64,7 +68,7 @@ with_zero fields = fields ++ codes "0" ∷ []
 abbrev pub clause_fields : List Literal → List (List ℕ)
 clause_fields ls = with_zero (map literal_text ls)
 
--- the first field of a line, a letter, and its other fields
+-- the first field of a line, a letter
 abbrev pub line_letter : LogLine → List ℕ
 line_letter (Formula c) = codes "f"
 line_letter (Learnt c) = codes "l"
@@ -73,6 +77,7 @@ line_letter (Query c) = codes "q"
 line_letter (Refuted c) = codes "r"
 line_letter Model = codes "m"
 
+-- the other fields of a line
 abbrev pub line_fields : LogLine → List (List ℕ)
 line_fields (Formula c) = clause_fields c
 line_fields (Learnt c) = clause_fields c
@@ -81,10 +86,11 @@ line_fields (Query c) = clause_fields c
 line_fields (Refuted c) = clause_fields c
 line_fields Model = []
 
--- the text of a line, without the line feed at its end, and with it
+-- the text of a line, without the line feed at its end
 abbrev pub log_line_text : LogLine → List ℕ
 log_line_text line = unended_text (line_letter line) (line_fields line)
 
+-- the text of a line, with the line feed at its end
 abbrev pub ended_text : LogLine → List ℕ
 ended_text line = line_text (line_letter line) (line_fields line)
 

@@ -15,15 +15,17 @@ added (Formula c) = c ∷ []
 added (Learnt c) = c ∷ []
 added line = []
 
--- the clause of a Formula line, of a Learnt line, of a Refuted line
+-- the clause of a Formula line
 abbrev pub given : LogLine → Clauses
 given (Formula c) = c ∷ []
 given line = []
 
+-- the clause of a Learnt line
 abbrev pub learnt : LogLine → Clauses
 learnt (Learnt c) = c ∷ []
 learnt line = []
 
+-- the clause of a Refuted line
 abbrev pub refuted : LogLine → Clauses
 refuted (Refuted c) = c ∷ []
 refuted line = []
@@ -47,7 +49,7 @@ abbrev pub IsRefutedWithin : List Literal → LogLine → Type 0
 IsRefutedWithin allowed (Refuted c) = HasAllOf allowed c
 IsRefutedWithin allowed line = ⊥
 
--- how many Learnt lines there are, up to where every count ends
+-- how many Learnt lines there are, up to 2^64 - 1
 abbrev pub learnt_count : Lines → ℕ
 learnt_count lines = min (length (flat_map learnt lines)) last_count
 
@@ -64,6 +66,7 @@ pub record Facts : Type 0 where
   pub query : Option (List Literal)
   pub refuted : Clauses
 
+-- the facts of these lines
 abbrev pub facts_of : Lines → Facts
 facts_of lines = record {
   greatest = greatest_var (flat_map given lines);
@@ -93,15 +96,19 @@ abbrev pub Answers : Option (List Literal) → LogLine → Type 0
 Answers query (Refuted c) = MatchOption query ⊥ (λ q. All (λ l. Contains q (negate l)) c)
 Answers query line = ⊤
 
+-- the clause of a Learnt or Refuted line follows by unit propagation
 abbrev pub IsImplied : Clauses → LogLine → Type 0
 IsImplied clauses (Learnt c) = Rup clauses c
 IsImplied clauses (Refuted c) = Rup clauses c
 IsImplied clauses line = ⊤
 
+-- the clause has a literal and is new: it names no variable above the greatest of the clauses, and where
+-- its literals but the first are false, propagation falsifies no clause and doesn't make the first true
 abbrev pub IsNewClause : Clauses → List Literal → Type 0
 IsNewClause clauses [] = ⊥
 IsNewClause clauses (first ∷ others) = IsNew clauses first others
 
+-- the clause of a Learnt line is new
 abbrev pub SaysMore : Clauses → LogLine → Type 0
 SaysMore clauses (Learnt c) = IsNewClause clauses c
 SaysMore clauses line = ⊤
@@ -115,6 +122,7 @@ pub record StandsOn (facts : Facts) (line : LogLine) : Type 0 where
   pub implied : IsImplied facts.clauses line
   pub says_more : SaysMore facts.clauses line
 
+-- the line stands on the facts of these lines, which are those before it
 abbrev pub Stands : Lines → LogLine → Type 0
 Stands lines line = StandsOn (facts_of lines) line
 
@@ -126,6 +134,8 @@ Derives lines = (i : ℕ) (line : LogLine) → slice_get lines i ≡ Some line �
 abbrev pub IsOpen : Facts → Type 0
 IsOpen facts = MatchOption facts.query ⊥ (λ q. Falsifies facts.clauses (has q) → ⊥)
 
+-- the log of these lines is open: it has a query, and the literals of the latest one falsify no clause by
+-- unit propagation
 abbrev pub Open : Lines → Type 0
 Open lines = IsOpen (facts_of lines)
 

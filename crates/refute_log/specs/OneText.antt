@@ -1,4 +1,5 @@
 -- Two lists of lines have different texts.
+-- A lemma, which is cited by the law that a log in a file has one list of lines at most.
 use Rattle.std.specs.Prelude.{◌≡◌, ◌≤◌, ◌<◌, ◌^◌, ℕ, Bool, true, false, decimal, map, List, [], ◌∷◌, ◌++◌, flat_map}
 use Rattle.std.specs.Prelude.{refl}
 use Rattle.std.specs.Str.Parse.{IsNumeral, AllDigits}

@@ -4,6 +4,7 @@ use Rattle.outside_io.specs.Counts.{next_count}
 use Rattle.refute_log.specs.declared.line.LogLine.{LogLine}
 use Rattle.refute_log.specs.Lines.{is_learnt}
 
+-- the lines of a log
 abbrev pub Lines : Type 0
 Lines = List LogLine
 
@@ -19,6 +20,6 @@ AddsAll old new more = (lines : Lines) → old lines → new (lines ++ more)
 abbrev pub TellsNoMore : (Lines → Type 0) → (Lines → Type 0) → Type 0
 TellsNoMore old new = (lines : Lines) → new lines → old lines
 
--- the number of Learnt lines told, after a line
+-- the number of Learnt lines after one more line: for a Learnt line it is one more, and ends at 2^64 - 1
 abbrev pub learnt_after : LogLine → ℕ → ℕ
 learnt_after line n = cond (is_learnt line) (next_count n) n

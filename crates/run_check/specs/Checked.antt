@@ -33,6 +33,8 @@ pub record IsClaimChecked (g : Graph) (o : EdgeOrder) (said : Sheet) (log : List
   pub judged : IsLogJudged (layout g o said.grid) said.order (claim_of said.order said.found said.ending) log verdict
   pub told : TellsVerdict (claimed said.order said.ending) verdict status text
 
+-- what check answers to a station, a sheet and the bytes of a log: the sheet's drawing breaks a law, or it
+-- is lawful, if there is one, and the answer tells the verdict on the log
 abbrev pub IsSheetAnswer : Graph → EdgeOrder → Sheet → List ℕ → Status → List ℕ → Type 0
 IsSheetAnswer g o said log status text = IsFoundBroken g o said said.found status text
     ⊎ IsClaimChecked g o said log status text

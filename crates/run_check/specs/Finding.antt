@@ -19,12 +19,13 @@ IsClaimFinding g o said log (Answered reply) = IsSheetAnswer g o said log reply.
 IsClaimFinding g o said log (Left r) =
     ((sheet : List ℕ) → IsSheetText g false sheet said → CertifiesSheet g o sheet log said) × IsLeftFor g o said log r
 
--- the bytes of a sheet and of a log
+-- the bytes are those of a sheet and of a log that certifies what the sheet claims, and this is left of it
 pub record LeavesOfSheet (g : Graph) (o : EdgeOrder) (sheet log : List ℕ) (r : TrimmedLog) : Type 0 where
   pub said : Sheet
   pub certifies : CertifiesSheet g o sheet log said
   pub left : IsLeftFor g o said log r
 
+-- what the bytes of a sheet and of a log give: the answer of check, which isn't 0, or what is left
 abbrev pub IsSheetFinding : Graph → EdgeOrder → (sheet log : List ℕ) → Finding → Type 0
 IsSheetFinding g o sheet log (Answered reply) = IsClaimJudged g o sheet log reply.status reply.text.items
     × (reply.status ≢ Done)

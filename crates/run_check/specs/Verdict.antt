@@ -66,6 +66,7 @@ pub record IsBrokenAnswer (g : Graph) (o : EdgeOrder) (grid : GridSize) (d : Dra
   pub status_is : status ≡ Broken
   pub line_is : text ≡ broken_line broken
 
+-- the verdict on a drawing: it is lawful, or it breaks a law
 abbrev pub IsVerdict : Graph → EdgeOrder → GridSize → Drawing → Status → List ℕ → Type 0
 IsVerdict g o grid d status text = IsLawfulAnswer g o grid d status text ⊎ IsBrokenAnswer g o grid d status text
 

@@ -46,6 +46,7 @@ pub record Job : Type 0 where
   pub svg : Option (List ℕ)
   pub log : Option (List ℕ)
 
+-- what is asked, of these parts
 abbrev pub job : GridSize → List Criterion → (budget : ℕ) → (svg log : Option (List ℕ)) → Job
 job grid order budget svg log = record { grid = grid; order = order; budget = budget; svg = svg; log = log }
 
@@ -55,10 +56,12 @@ search_of g o asked = task_of (layout g o asked.grid) asked.budget ROOM
 
 -- ---- how a search ends
 
+-- the sheet with the grid and the order that are asked for, the drawing that was found, if one was, and
+-- this ending
 abbrev pub sheet_with : Job → Option Drawing → Ending → Sheet
 sheet_with asked found ending = record { grid = asked.grid; order = asked.order; found = found; ending = ending }
 
--- the sheet that says so
+-- the sheet of each outcome
 abbrev pub sheet_of : Job → Outcome → Sheet
 sheet_of asked (outcomes.Best d) = sheet_with asked (Some d) endings.Best
 sheet_of asked outcomes.NoDrawing = sheet_with asked None endings.NoDrawing
@@ -72,6 +75,7 @@ found_by outcomes.NoDrawing = None
 found_by (outcomes.Spent found settled) = found
 found_by (outcomes.Room found settled) = found
 
+-- the status of each outcome
 abbrev pub status_of : Outcome → Status
 status_of (outcomes.Best d) = statuses.Done
 status_of outcomes.NoDrawing = statuses.NoDrawing

@@ -15,9 +15,11 @@ end_word Empty = codes "none"
 end_word Conflicts = codes "conflicts"
 end_word Room = codes "room"
 
+-- the line of a pair
 abbrev pub pair_line : ℕ × ℕ → List ℕ
 pair_line pair = line_text (codes "pair") (decimal pair.0 ∷ decimal pair.1 ∷ [])
 
+-- the text of a front with these pairs and this end
 abbrev pub front_text : Criterion → Criterion → Pairs → FrontEnd → List ℕ
 front_text a b pairs ending =
     codes "railplan-front 1\n"

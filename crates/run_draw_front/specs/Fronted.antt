@@ -25,6 +25,7 @@ pub record FrontJob : Type 0 where
   pub second : Criterion
   pub budget : ℕ
 
+-- what is asked, of these parts
 abbrev pub front_job : GridSize → (first second : Criterion) → (budget : ℕ) → FrontJob
 front_job grid first second budget = record { grid = grid; first = first; second = second; budget = budget }
 
@@ -32,6 +33,7 @@ front_job grid first second budget = record { grid = grid; first = first; second
 abbrev pub front_task : Graph → EdgeOrder → FrontJob → Task
 front_task g o asked = task_of (layout g o asked.grid) asked.budget ROOM
 
+-- how a run with this end of the search ends
 abbrev pub status_of_front : FrontEnd → Status
 status_of_front Whole = statuses.Done
 status_of_front Empty = statuses.NoDrawing

@@ -62,6 +62,8 @@ pub record IsSignalFileRefused (bytes : List ℕ) (status : Status) (text : List
   pub has : HasFault bytes fault
   pub answers : IsFaultLine fault status text
 
+-- what signals answers to a file's bytes: the answer to their station and signals, or the line of their
+-- fault or of their signals' fault
 abbrev pub IsSignalFileJudged : Job → Met → (traced : Lines → Type 0) → List ℕ → Status → List ℕ → Type 0
 IsSignalFileJudged asked met traced bytes status text = IsSignalAnswer asked met traced bytes status text
     ⊎ IsSignalFileRefused bytes status text

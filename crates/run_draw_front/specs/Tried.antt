@@ -45,6 +45,7 @@ trial_end g outcomes.NoDrawing = spaced (codes "none" ∷ [])
 trial_end g (outcomes.Spent found settled) = spaced (codes "conflicts" ∷ [])
 trial_end g (outcomes.Room found settled) = spaced (codes "room" ∷ [])
 
+-- the line of a trial: the station's number, and how the search ended
 abbrev pub trial_line : ℕ → Graph → Outcome → List ℕ
 trial_line n g outcome = codes "trial" ++ spaced (decimal n ∷ []) ++ trial_end g outcome ++ codes "\n"
 

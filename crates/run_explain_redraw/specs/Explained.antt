@@ -21,6 +21,7 @@ pub record ExplainJob : Type 0 where
   pub grid : GridSize
   pub budget : ℕ
 
+-- what is asked, of these parts
 abbrev pub explain_job : GridSize → (budget : ℕ) → ExplainJob
 explain_job grid budget = record { grid = grid; budget = budget }
 
@@ -28,6 +29,7 @@ explain_job grid budget = record { grid = grid; budget = budget }
 abbrev pub explain_task : Graph → EdgeOrder → ExplainJob → Task
 explain_task g o asked = task_of (layout g o asked.grid) asked.budget ROOM
 
+-- how a run with this answer of the search ends
 abbrev pub status_of_why : Why → Status
 status_of_why (Exists d) = Done
 status_of_why (Laws names without) = Done

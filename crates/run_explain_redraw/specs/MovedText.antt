@@ -29,6 +29,7 @@ moved_end_word NoDrawing = codes "none"
 moved_end_word (Spent found) = codes "conflicts"
 moved_end_word (Room found) = codes "room"
 
+-- the line of how many nodes moved, of how many that have a former point
 abbrev pub moved_line : Former → Drawing → List ℕ
 moved_line former d = line_text (codes "moved")
     (decimal (moved_nodes former d) ∷ codes "of" ∷ decimal (matched former) ∷ [])
@@ -38,6 +39,7 @@ abbrev pub moved_drawing_text : Graph → Former → Option Drawing → List ℕ
 moved_drawing_text g former None = []
 moved_drawing_text g former (Some d) = moved_line former d ++ flat_map text_of_line (drawing_lines Second g d)
 
+-- the text of an outcome
 abbrev pub moved_text : Graph → GridSize → Former → Fewest → List ℕ
 moved_text g grid former outcome =
     codes "railplan-moved 1\n"

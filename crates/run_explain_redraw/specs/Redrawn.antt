@@ -26,6 +26,7 @@ pub record RedrawJob : Type 0 where
   pub budget : ℕ
   pub log : Option (List ℕ)
 
+-- what is asked, of these parts
 abbrev pub redraw_job : GridSize → (budget : ℕ) → (log : Option (List ℕ)) → RedrawJob
 redraw_job grid budget log = record { grid = grid; budget = budget; log = log }
 
@@ -34,6 +35,7 @@ redraw_job grid budget log = record { grid = grid; budget = budget; log = log }
 abbrev pub moved_in : Graph → EdgeOrder → RedrawJob → Former → CountTask
 moved_in g o asked former = moved_task (layout g o asked.grid) former asked.budget ROOM
 
+-- how a run with this outcome of the search ends
 abbrev pub status_of_moved : Fewest → Status
 status_of_moved (Best d) = statuses.Done
 status_of_moved NoDrawing = statuses.NoDrawing

@@ -11,6 +11,7 @@ use Rattle.run_check.specs.Verdict.{law_fields}
 use Rattle.law_core.specs.declared.ending.Why.{Why}
 use Rattle.law_core.specs.declared.ending.Why.TheVariants.{Exists, Laws, Spent, Room}
 
+-- the line of a law and its parties
 abbrev pub law_line : LawBreak → List ℕ
 law_line law = line_text (codes "law") (law_fields law)
 
@@ -23,6 +24,8 @@ abbrev pub without_texts : Graph → ℕ → List Drawing → List ℕ
 without_texts g number [] = []
 without_texts g number (d ∷ rest) = without_text g number d ++ without_texts g (number + 1) rest
 
+-- the text of an explanation: how many laws there are, the laws, and for each a drawing that meets the
+-- others
 abbrev pub laws_text : Graph → List LawBreak → List Drawing → List ℕ
 laws_text g names without =
     codes "railplan-why 1\n"
@@ -31,6 +34,7 @@ laws_text g names without =
     ++ without_texts g 1 without
     ++ codes "end why\n"
 
+-- the text of each answer: that a drawing exists; the laws; or why the search gave up
 abbrev pub why_text : Graph → Why → List ℕ
 why_text g (Exists d) = codes "drawing exists\n"
 why_text g (Laws names without) = laws_text g names without

@@ -42,6 +42,7 @@ pub record InputFile : Type 0 where
   pub name : List ℕ
   pub limit : ℕ
 
+-- an input with this number, name and limit
 abbrev pub input_file : (number : ℕ) → List ℕ → (limit : ℕ) → InputFile
 input_file number name limit = record { number = number; name = name; limit = limit }
 

@@ -77,6 +77,8 @@ signal_told signals.Crowded first = first ∷ []
 abbrev pub told_line : List ℕ → ℕ → List ℕ → List (List ℕ) → List ℕ
 told_line table number word told = line_text table (decimal number ∷ word ∷ told)
 
+-- the line of each fault of a run: the number and the word that it has in its own crate, and what it tells;
+-- that of an input that is too long or couldn't be read has the input's number alone
 abbrev pub fault_line : RunFault → List ℕ
 fault_line (Words what position) = told_line (codes "words") (word_faults.number_of what) (word_faults.word_of what)
     (decimal position ∷ [])
@@ -101,6 +103,7 @@ fault_line (ReadFailed input) = line_text (codes "read failed") (decimal input �
 
 -- ---- the status
 
+-- the status of each fault of a run
 abbrev pub fault_status : RunFault → Status
 fault_status (Words what position) = WordsRefused
 fault_status (Long input) = Refused

@@ -20,10 +20,12 @@ use Rattle.run_input.specs.declared.fault.RunFault.TheVariants.{Sheet, Log, Read
 use Rattle.run_input.specs.declared.input.InputRefusal.{InputRefusal}
 use Rattle.run_input.specs.declared.input.InputRefusal.TheVariants as refusals
 
--- an input has more bytes than it may have, or hasn't; the limit is that of its kind
+-- an input has more bytes than the limit of its kind, which for a railML file and a sheet is
+-- MAX_FILE_BYTES, and for a log and hinted lines MAX_LOG_BYTES
 abbrev pub IsLong : (limit : ℕ) → List ℕ → Type 0
 IsLong limit bytes = limit < length bytes
 
+-- an input hasn't more bytes than the limit of its kind
 abbrev pub IsShort : (limit : ℕ) → List ℕ → Type 0
 IsShort limit bytes = length bytes ≤ limit
 

@@ -9,10 +9,11 @@ pub record Met : Type 0 where
   pub before : FilesAt
   pub after : FilesAt
 
+-- these two moments as one value
 abbrev pub between : FilesAt → FilesAt → Met
 between before after = record { before = before; after = after }
 
--- so many reads were done
+-- so many reads were done in this run, of whatever names; one that fails isn't counted
 abbrev pub HasRead : Met → ℕ → Type 0
 HasRead met done = met.after.reads ≡ rose_by done met.before.reads
 

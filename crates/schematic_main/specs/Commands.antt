@@ -127,10 +127,11 @@ MaySearch (Explain input grid budget) met = HasReadStation input met
 MaySearch (Trim input sheet log hints) met = HasReadCertified input sheet log met
 MaySearch (Recheck input sheet hints) met = ⊥
 
--- it may write a file, with what the run met; it may tell the trace
+-- it may write a file, with what the run met
 abbrev pub MayWrite : Command → Met → Type 0
 MayWrite command met = (outputs_of command ≢ []) × MaySearch command met
 
+-- it may tell the trace, with what the run met
 abbrev pub MayTell : Command → Met → Type 0
 MayTell command met = TellsTrace command × MaySearch command met
 

@@ -60,7 +60,7 @@ AreCertified contents input sheet log line =
     (g : Graph) × (o : EdgeOrder) × (said : Sheet) × HasCertifiedFiles contents input sheet log g o said
     × ClaimsTruly g o said × IsCertifiedLine said line
 
--- a run of draw that has an answer, which names a file for the log, has an answer and puts this text
+-- a run of draw, which names a file for the log, has an answer and puts this text
 pub record HasDrawn (input log : List ℕ) (met : Met) (text : List ℕ) : Type 0 where
   pub grid : GridSize
   pub order : List Criterion

@@ -37,6 +37,7 @@ AreMet v bounds = All (λ b. value_of v b.criterion < b.limit) bounds
 abbrev pub IsNegated : Lines → Below → Literal → Type 0
 IsNegated lines b l = (x : Var) × Contains lines (Bound b.criterion b.limit x) × (l ≡ negative_of x.0)
 
+-- the literals are the negations of these bounds, one for each, in their order
 abbrev pub AreNegated : Lines → List Below → List Literal → Type 0
 AreNegated lines [] [] = ⊤
 AreNegated lines [] (l ∷ ls) = ⊥
@@ -79,11 +80,13 @@ pub record Queries : Type 0 where
   pub latest : Option (List Literal)
   pub modelled : Option (List Literal)
 
+-- the queries after one more line
 abbrev pub after_line : Queries → LogLine → Queries
 after_line q (Query c) = record { latest = Some c; modelled = q.modelled }
 after_line q Model = record { latest = q.latest; modelled = q.latest }
 after_line q line = q
 
+-- the latest query of these lines, and the latest before the last Model line
 abbrev pub queries : Lines → Queries
 queries lines = fold after_line (record { latest = None; modelled = None }) lines
 

@@ -29,6 +29,8 @@ pub record IsAsked (p : CountTask) (limit : Option ℕ) (ending more : Lines) : 
   pub clauses : Clauses
   pub is : more ≡ Query (query_of p limit) ∷ (map Learnt clauses ++ ending)
 
+-- the lines of a question with this answer: the query, Learnt lines, and a Model line, a Refuted line that
+-- has no literal but the limit's, or nothing, where the search stopped for its cause
 abbrev pub IsAnswer : CountTask → Lines → Option ℕ → Answer → Lines → Type 0
 IsAnswer p lines limit (Found d) more = IsAsked p limit (Model ∷ []) more
 IsAnswer p lines limit Refuted more =

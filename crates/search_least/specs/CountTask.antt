@@ -24,6 +24,7 @@ pub record CountTask : Type 0 where
   pub budget : ℕ
   pub room : ℕ
 
+-- the drawing is one that is searched: it is lawful
 abbrev pub IsOne : CountTask → Drawing → Type 0
 IsOne p d = Lawful p.graph p.above p.grid d
 
@@ -33,5 +34,6 @@ pub record TellsCount (p : CountTask) (lines : Lines) (n : ℕ) : Type 0 where
   pub formula : SatisfiesAll assignment (flat_map given lines)
   pub tells : (j : ℕ) → 1 ≤ j → j ≤ p.most → (truth assignment (p.at_least j) ≡ true) ↔ (j ≤ n)
 
+-- for each lawful drawing some assignment satisfies the Formula lines and tells its count
 abbrev pub CoversCounts : CountTask → Lines → Type 0
 CoversCounts p lines = (d : Drawing) → IsOne p d → TellsCount p lines (p.count d)

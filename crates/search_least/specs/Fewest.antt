@@ -40,6 +40,9 @@ IsStoppedSearch p stop best lines = IsCause p.budget p.room stop lines
     × ((clause : List Literal) → Contains lines (Refuted clause) → ⊥)
     × MatchOption best (Contains lines Model → ⊥) (λ d. (1 ≤ p.count d) × AsksBelow p d lines)
 
+-- the end of the lines: a Refuted line that leaves no count smaller than the drawing's, if that is
+-- positive; one without literals, where there is no drawing; or the search stopped for its cause, with
+-- nothing refuted
 abbrev pub IsEnd : CountTask → Fewest → Lines → Type 0
 IsEnd p (Best d) lines = 1 ≤ p.count d → RefutesFewer p lines (p.count d)
 IsEnd p NoDrawing lines = Contains lines (Refuted [])

@@ -1,4 +1,5 @@
 -- The outcome of a search, and what its lines are then.
+-- A search is said of the list of all lines that it tells, whatever the log keeps of them.
 use Rattle.std.specs.Prelude.{◌≡◌, ◌≢◌, ◌≤◌, ◌⊎◌, ℕ, List, [], Contains, map, flat_map, take, length, Option, None}
 use Rattle.std.specs.Prelude.{Some}
 use Rattle.plan_core.specs.declared.criterion.Values.{Values}
@@ -85,6 +86,7 @@ pub record IsUnfoundEnd (p : Task) (order : List Criterion) (settled : ℕ) (sto
   pub cause : IsCause p.budget p.room stop lines ⊎ ((stop ≡ RoomFull)
       × CapsPass p.encoding order lines p.room (caps (greatest_of p) lines))
 
+-- a search that stopped with a drawing (`IsUnfinishedEnd`), or without one (`IsUnfoundEnd`)
 abbrev pub IsStoppedEnd : Task → List Criterion → ℕ → Stop → Option Drawing → Lines → Type 0
 IsStoppedEnd p order settled stop None lines = IsUnfoundEnd p order settled stop lines
 IsStoppedEnd p order settled stop (Some d) lines = IsUnfinishedEnd p order settled stop d lines
@@ -106,16 +108,20 @@ pub record IsFresh (p : Task) (cap : Criterion → ℕ) (vars : ℕ) : Type 0 wh
   pub none : (c : Criterion) → cap c ≡ 0
   pub vars_are : vars ≡ p.encoding.vars
 
+-- the lines of the clauses of the drawings alone
 abbrev pub first_lines : Task → Lines
 first_lines p = map Formula p.encoding.clauses
 
--- what the outcome says of drawings, whatever the log keeps
+-- what is said of the best drawing so far: it is lawful, and none is better on the settled criteria; where
+-- there is none, none is settled
 abbrev pub IsRightSoFar : Task → List Criterion → ℕ → Option Drawing → Type 0
 IsRightSoFar p order settled None = settled ≡ 0
 IsRightSoFar p order settled (Some d) =
     IsLawful p d × ((other : Drawing) → IsLawful p other → Better (take settled order) (values_of other) (values_of d) →
     ⊥)
 
+-- what the outcome says of drawings, whatever the log keeps: the best is lawful and none is better; none is
+-- lawful; or it is right so far
 abbrev pub IsRightOutcome : Task → List Criterion → Outcome → Type 0
 IsRightOutcome p order (Best d) = IsBest p.graph p.above p.grid order d
 IsRightOutcome p order NoDrawing = (d : Drawing) → IsLawful p d → ⊥

@@ -42,6 +42,7 @@ pub record Holds (p : Task) (order : List Criterion) (i : ℕ) (bounds : List Be
   pub all : All (λ c. Contains bounds (below_limit c (value_of v c + 1)) ⊎ (greatest_of p c ≤ value_of v c))
       (take i order)
 
+-- the two values are the same at the first i criteria of the order
 abbrev pub HasSameValues : List Criterion → ℕ → Values → Values → Type 0
 HasSameValues order i v w = All (λ c. value_of v c ≡ value_of w c) (take i order)
 

@@ -16,6 +16,7 @@ RefutesNothing lines = (clause : List Literal) → Contains lines (Refuted claus
 abbrev pub IsRunOfDrawings : Lines → Lines → Type 0
 IsRunOfDrawings lines more = (clause_lines more ≡ []) × (RefutesNothing lines → RefutesNothing (lines ++ more))
 
--- and so does one to this end
+-- a run of questions to this end tells no clauses of the formula; where the lines before it refute nothing,
+-- all together have this end
 abbrev pub IsRunToEnd : CountTask → Fewest → Lines → Lines → Type 0
 IsRunToEnd p outcome lines more = (clause_lines more ≡ []) × (RefutesNothing lines → IsEnd p outcome (lines ++ more))

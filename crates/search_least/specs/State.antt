@@ -59,6 +59,7 @@ pub record StoppedAt (p : Task) (order : List Criterion) (s : ℕ) (stop : Stop)
     pub told : IsAllExpected p.encoding (greatest_of p) order lines
     pub cause : IsCauseWith p order s stop d lines
 
+-- how place i leads on: what is so before the next place, or where the search stopped
 abbrev pub Advances : Task → List Criterion → ℕ → List Below → Option Stop → ℕ → Drawing → (Criterion → ℕ) → Lines →
     Type 0
 Advances p order i held None s d cap lines = SearchState p order (i + 1) held d cap lines

@@ -18,6 +18,7 @@ pub record Task : Type 0 where
   pub budget : ℕ
   pub room : ℕ
 
+-- the drawing is a lawful one of the task's graph on its grid
 abbrev pub IsLawful : Task → Drawing → Type 0
 IsLawful p d = Lawful p.graph p.above p.grid d
 

@@ -21,6 +21,7 @@ use Rattle.search_least.specs.CountTask.{CountTask, CoversCounts}
 use Rattle.refute_log.specs.Cause.{IsCause}
 use Rattle.search_least.specs.CountAsked.{SaysReached, IsAsked}
 
+-- the clauses of a layout's drawings, and behind them those that count the moved nodes
 abbrev pub formula_of : Layout → Former → Clauses
 formula_of y former = moved_formula y.graph (is_above y.order) (is_overlap y.order) y.grid former
 

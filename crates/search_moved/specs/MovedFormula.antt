@@ -11,6 +11,7 @@ use Rattle.drawing_cnf.specs.Expected.{drawing_vars, formula_clauses, formula_si
 use Rattle.drawing_cnf.specs.Moved.{Former, moved}
 use Rattle.drawing_cnf.specs.MovedClauses.{count_size, count_clauses, TellsMoved}
 
+-- the clauses of the drawings, and behind them those that count how many nodes moved
 abbrev pub moved_formula : Graph → (ℕ → ℕ → Bool) → (ℕ → ℕ → Bool) → GridSize → Former → Clauses
 moved_formula g above overlap grid former =
     formula_clauses g above overlap grid
@@ -37,6 +38,8 @@ pub record StandsAndTellsMoved (v : Assignment) (g : Graph) (above overlap : ℕ
   pub lawful : Lawful g above grid drawing
   pub tells : TellsMoved v former (formula_size g above overlap grid) (moved_nodes former drawing)
 
+-- every assignment that satisfies `moved_formula` stands for a lawful drawing, and tells how many of its
+-- nodes moved
 abbrev pub SoundMoved : Graph → (ℕ → ℕ → Bool) → (ℕ → ℕ → Bool) → GridSize → Former → Type 0
 SoundMoved g above overlap grid former =
     (v : Assignment) → SatisfiesAll v (moved_formula g above overlap grid former) →
@@ -50,6 +53,8 @@ pub record MovedModel (g : Graph) (above overlap : ℕ → ℕ → Bool) (grid :
   pub stands : StandsFor to g (drawing_vars g grid) d
   pub tells : TellsMoved to former (formula_size g above overlap grid) (moved_nodes former d)
 
+-- every lawful drawing has an assignment that satisfies `moved_formula`, stands for the drawing and tells
+-- how many of its nodes moved
 abbrev pub CoversMoved : Graph → (ℕ → ℕ → Bool) → (ℕ → ℕ → Bool) → GridSize → Former → Type 0
 CoversMoved g above overlap grid former =
     (d : Drawing) → Lawful g above grid d → MovedModel g above overlap grid former d

@@ -7,10 +7,13 @@ use Rattle.refute_log.specs.declared.stop.Stop.TheVariants.{BudgetSpent, RoomFul
 use Rattle.search_least.specs.declared.questions.Answer.{Answer}
 use Rattle.search_least.specs.declared.questions.Answer.TheVariants.{Found, Refuted, Stopped}
 
+-- the question as an assumption: the negation of the variable that stands as far behind the last as the
+-- limit says; nothing where there is no limit
 abbrev pub query_at : ℕ → Option ℕ → List Literal
 query_at last None = []
 query_at last (Some n) = negative_of (last + n) ∷ []
 
+-- the answer to the question is of this answer of the solver
 abbrev pub IsAnswerOf : Verdict → Answer → Type 0
 IsAnswerOf Model (Found d) = ⊤
 IsAnswerOf RefutedVerdict Refuted = ⊤

@@ -7,10 +7,11 @@ use Rattle.search_least.specs.CountTask.{CountTask}
 use Rattle.search_moved.specs.declared.asking.MovedKnown.{MovedKnown}
 use Rattle.search_moved.specs.Known.{formula_of, moved_task, IsReady, KnowsMoved}
 
--- what is searched, and the clauses of its formula
+-- what is searched
 abbrev pub task_with : MovedKnown → CountTask
 task_with s = moved_task (layout_of s.encoded) s.former.now s.budget s.room
 
+-- the clauses of its formula
 abbrev pub formula_with : MovedKnown → Clauses
 formula_with s = formula_of (layout_of s.encoded) s.former.now
 

@@ -35,15 +35,17 @@ IsMovedEnd y former budget room o lines =
 abbrev pub AreNodes : Encoding → List NodeVars → ℕ → Type 0
 AreNodes e nodes n = (k : ℕ) → k < n → node_at nodes k ≡ (encoded_vars e).node k
 
--- the count's clauses behind the formula of the drawings, and how many variables there are with them
+-- the count's clauses, as they stand behind the formula of the drawings
 abbrev pub count_clauses_behind : Encoding → Former → Clauses
 count_clauses_behind e former =
     count_clauses (encoded_vars e).node former (formula_size e.graph (is_above e.order) (is_overlap e.order) e.grid)
 
+-- how many variables there are with the count's clauses
 abbrev pub size_with : Encoding → Former → ℕ
 size_with e former = moved_size e.graph (is_above e.order) (is_overlap e.order) e.grid former
 
--- a formula of the clauses that stand behind it
+-- the count's clauses as a formula of their own, with as many variables as behind the formula of the
+-- drawings; the words of both together are within the room
 pub record IsCounting (y : Layout) (former : Former) (room : ℕ) (f : Cnf) : Type 0 where
   pub vars : f.vars ≡ moved_size y.graph (is_above y.order) (is_overlap y.order) y.grid former
   pub clauses : f.clauses ≡ count_clauses (drawing_vars y.graph y.grid).node former

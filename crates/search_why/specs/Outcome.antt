@@ -8,6 +8,7 @@ use Rattle.search_why.specs.Explained.{IsExplanation, AreWithout}
 use Rattle.search_why.specs.Task.{Task, law_at}
 use Rattle.refute_log.specs.Cause.{IsCause}
 
+-- the laws at these places
 abbrev pub laws_at : Task → List ℕ → List Instance
 laws_at p places = map (law_at p) places
 

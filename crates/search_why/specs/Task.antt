@@ -23,6 +23,7 @@ pub record Task : Type 0 where
 abbrev pub law_at : Task → ℕ → Instance
 law_at p n = slice_index_or p.laws n (NodeOnGrid 0)
 
+-- the drawing meets the law at this place
 abbrev pub MeetsAt : Task → Drawing → ℕ → Type 0
 MeetsAt p d n = Meets p.graph p.grid d (law_at p n)
 

@@ -12,10 +12,11 @@ loops n = n % 15 + 1
 abbrev pub side : ℕ → ℕ → Side
 side n i = if bit_at (n / 15) i == 0 then Upper else Lower
 
--- where loop i leaves the main track, and where it comes back, in metres
+-- where loop i, counted from 0, leaves the main track, in metres
 abbrev pub leaving : ℕ → ℕ
 leaving i = 1000 * i + 200
 
+-- where loop i, counted from 0, comes back to the main track, in metres
 abbrev pub returning : ℕ → ℕ
 returning i = 1000 * i + 800
 

@@ -43,7 +43,8 @@ pub record ForkParts (g : Graph) (k : Fork) (e f : ℕ) : Type 0 where
   pub second : IsReachedAlone g k.way k.lower k.upper f
   pub overlap : Overlap g e f
 
--- a fork of some node has e on its upper and f on its lower side
+-- a fork of some node has e on its upper and f on its lower side. No edge is above itself, proved by
+-- no_edge_is_above_itself; seen from the other end, what was above is below, proved by order_turns_round
 pub record Above (g : Graph) (e f : ℕ) : Type 0 where
   pub at : ℕ
   pub there : at < length g.nodes

@@ -10,11 +10,12 @@ abbrev pub IsOrderFault : Graph → OrderFault → Type 0
 IsOrderFault g (Contradicts e f) = IsFirstContradiction g e.0 f.0
 IsOrderFault g Memory = ⊥
 
--- want of memory has neither
+-- the number of a fault; want of memory has none, and so 0
 abbrev pub number_of : OrderFault → ℕ
 number_of (Contradicts e f) = 1
 number_of Memory = 0
 
+-- the word of a fault; want of memory has none, and so an empty text
 abbrev pub word_of : OrderFault → List ℕ
 word_of (Contradicts e f) = codes "Contradicts"
 word_of Memory = []

@@ -5,11 +5,14 @@ use Rattle.plan_core.specs.Graph.{Graph, Overlap}
 use Rattle.track_order.specs.Above.{Above, Contradicts}
 use Rattle.track_order.specs.Tables.{entry, IsTable}
 
+-- how many edges there are, and two tables with an entry for each two edges: which are above which, and
+-- which overlap
 pub record EdgeOrder : Type 0 where
   pub edges : ℕ
   pub above_rows : List (List Bool)
   pub overlap_rows : List (List Bool)
 
+-- the order of so many edges with these two tables
 abbrev pub edge_order : ℕ → List (List Bool) → List (List Bool) → EdgeOrder
 edge_order edges above_rows overlap_rows = record {
   edges = edges;
@@ -18,15 +21,17 @@ edge_order edges above_rows overlap_rows = record {
       overlap_rows;
 }
 
--- two tables with an entry for each two edges, of which there are not too many
+-- two tables with an entry for each two edges, of which there are at most 160
 pub record AreTables (o : EdgeOrder) : Type 0 where
   pub few : o.edges ≤ MAX_EDGES
   pub above : IsTable o.edges o.above_rows
   pub overlap : IsTable o.edges o.overlap_rows
 
+-- the first table says that e is above f
 abbrev pub is_above : EdgeOrder → ℕ → ℕ → Bool
 is_above o e f = entry o.above_rows e f
 
+-- the second table says that e and f overlap
 abbrev pub is_overlap : EdgeOrder → ℕ → ℕ → Bool
 is_overlap o e f = entry o.overlap_rows e f
 

@@ -22,7 +22,8 @@ abbrev pub IsWalk : Graph → Compass → ℕ → List ℕ → ℕ → Type 0
 IsWalk g way e [] f = e ≡ f
 IsWalk g way e (next ∷ rest) f = (next < length g.edges) × EdgeFollows g way e next × IsWalk g way next rest f
 
--- some walk leads from e to f
+-- some walk leads from e to f in this direction. What e reaches is the least set that holds e and every
+-- edge that follows one of its edges, proved by reach_is_the_least_onward_set
 pub record Reaches (g : Graph) (way : Compass) (e f : ℕ) : Type 0 where
   pub edges : List ℕ
   pub walk : IsWalk g way e edges f

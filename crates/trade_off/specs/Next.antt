@@ -29,6 +29,8 @@ pub record IsNextPair (IsOne : Drawing → Type 0) (a b : Criterion) (limit : Op
   pub least_first : (k l : ℕ) → IsAttained IsOne a b k l → IsUnder limit l → n ≤ k
   pub least_second : (k l : ℕ) → IsAttained IsOne a b k l → k ≤ n → m ≤ l
 
+-- this pair comes next below the limit on the second number, or there is none; where the search stopped
+-- nothing is said
 abbrev pub IsNext : (Drawing → Type 0) → Criterion → Criterion → Option ℕ → Next → Type 0
 IsNext IsOne a b limit (Pair n m) = IsNextPair IsOne a b limit n m
 IsNext IsOne a b limit NoMore = (k l : ℕ) → IsAttained IsOne a b k l → IsUnder limit l → ⊥
@@ -50,6 +52,7 @@ pub record IsSecond (p : Task) (a b : Criterion) (before : Drawing) (n m : ℕ) 
   pub no_more : m ≤ value_of (values_of before) b
   pub least : (e : Drawing) → IsLawful p e → value_of (values_of e) a ≤ n → m ≤ value_of (values_of e) b
 
+-- the same once the first number is found: there is such a second number, unless the search stopped
 abbrev pub IsSecondOf : Task → Criterion → Criterion → Drawing → Next → Type 0
 IsSecondOf p a b before (Pair n m) = IsSecond p a b before n m
 IsSecondOf p a b before NoMore = ⊥

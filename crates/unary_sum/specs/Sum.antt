@@ -15,6 +15,7 @@ abbrev pub count_true : Assignment → List Literal → ℕ
 count_true v [] = 0
 count_true v (l ∷ ls) = cond (truth v l) 1 0 + count_true v ls
 
+-- a tree over inputs: none, one of them, or two sides that are joined
 pub data InputTree : Type 0 where
   Empty : InputTree
   Leaf : Literal → InputTree
@@ -66,15 +67,18 @@ pub record SumVars : Type 0 where
   pub most : ℕ
   pub vars : ℕ
 
+-- the sum of these inputs up to this cap, behind the variable of number vars
 abbrev pub sum_vars : List Literal → ℕ → ℕ → SumVars
 sum_vars inputs most vars = record { inputs = inputs; most = most; vars = vars }
 
 abbrev pub sum_tree : SumVars → InputTree
 sum_tree s = tree_of (length s.inputs) s.inputs
 
+-- how many variables the sum has
 abbrev pub sum_count : SumVars → ℕ
 sum_count s = tree_count s.most (sum_tree s)
 
+-- the clauses of all joins of the sum
 abbrev pub sum_clauses : SumVars → Clauses
 sum_clauses s = tree_clauses s.most s.vars (sum_tree s)
 
@@ -82,7 +86,8 @@ sum_clauses s = tree_clauses s.most s.vars (sum_tree s)
 abbrev pub sum_at_least : SumVars → ℕ → LitOrTruth
 sum_at_least s k = part_at_least (tree_top s.most s.vars (sum_tree s)) k
 
--- "at least 1", "at least 2" and so on, up to the cap or the number of inputs
+-- "at least 1", "at least 2" and so on, up to the cap or the number of inputs; they may be the inputs of a
+-- further sum
 abbrev pub sum_outputs : SumVars → List Literal
 sum_outputs s = take s.most (part_outputs (tree_top s.most s.vars (sum_tree s)))
 
@@ -93,6 +98,7 @@ pub record IsSum (s : SumVars) : Type 0 where
   pub there : AreThere s.vars s.inputs
   pub limit : s.vars + sum_count s ≤ VARS
 
+-- what each sum keeps, and that this is what counts its inputs
 pub record IsBuilt (s : SumVars) (built : Part) : Type 0 where
   pub sum : IsSum s
   pub is_top : built ≡ tree_top s.most s.vars (sum_tree s)

@@ -20,6 +20,7 @@ pub record Attached : Type 0 where
   pub places : List ℕ
   pub visits : ℕ
 
+-- an arena seen so
 abbrev pub attached_of : ℕ → ℕ → List ℕ → List ℕ → ℕ → Attached
 attached_of vars room words places visits = record {
   vars = vars;
@@ -44,6 +45,7 @@ pub record IsArena (vars room : ℕ) (words heads places : List ℕ) : Type 0 wh
 abbrev pub attached_at : Attached → ℕ → List Literal
 attached_at a p = lits_at a.words p
 
+-- the clauses of the arena, in the order of the list of their places
 abbrev pub attached_clauses : Attached → Clauses
 attached_clauses a = map (lits_at a.words) a.places
 
@@ -54,6 +56,7 @@ pub record IsAttachedClause (vars : ℕ) (clause : List Literal) (p : ℕ) : Typ
   pub there : AreThere vars clause
   pub distinct : AreDistinct clause
 
+-- each clause has two or more literals of distinct variables that are there
 abbrev pub AreAttached : Attached → Type 0
 AreAttached a = (p : ℕ) → Contains a.places p → IsAttachedClause a.vars (attached_at a p) p
 
@@ -83,12 +86,13 @@ AreReasoned a m = IsReasoned m a.words a.places
 abbrev pub AreBecause : Attached → Marks → Marks → Type 0
 AreBecause a old new = AddsReasons old new a.words a.places
 
--- a literal may be set for this reason: a clause of which all other literals are false, or none
--- at level 0
+-- the clause at this place holds the literal, and all its others are false
 pub record IsReasonOf (a : Attached) (m : Marks) (l : Literal) (p : ℕ) : Type 0 where
   pub from : 1 ≤ p
   pub unit : IsReasonFor a.words a.places m.lits l p
 
+-- a literal may be set for this reason: a clause of which all other literals are false, or none where the
+-- present level is 0
 abbrev pub MayBeSet : Attached → Marks → Literal → Option ClauseRef → Type 0
 MayBeSet a m l None = length m.cuts ≡ 0
 MayBeSet a m l (Some c) = IsReasonOf a m l c.0
@@ -98,24 +102,27 @@ pub record IsClashOf (a : Attached) (m : Marks) (p : ℕ) : Type 0 where
   pub place : Contains a.places p
   pub all_false : All (λ k. IsIn (has m.lits) (negate k)) (attached_at a p)
 
--- neither of the two is false
+-- neither of the two is false, so that they may be watched, proved by two_literals_may_be_watched
 pub record AreOpen (m : Marks) (a b : Literal) : Type 0 where
   pub first : IsIn (has m.lits) (negate a) → ⊥
   pub second : IsIn (has m.lits) (negate b) → ⊥
 
--- the first is false, and the second true at no later level
+-- the first is false, and the second true at no later level, so that they may be watched, proved by
+-- two_literals_may_be_watched
 pub record IsHeldBy (m : Marks) (a b : Literal) : Type 0 where
   pub first : IsIn (has m.lits) (negate a)
   pub second : IsIn (has m.lits) b
   pub level : slice_index m.levels b.var ≤ slice_index m.levels a.var
 
--- the first is unset, and the second false and of the present level
+-- the first is unset, and the second false and of the present level, so that they may be watched as soon as
+-- the first is set, proved by two_literals_may_be_watched
 pub record IsAsserting (m : Marks) (a b : Literal) : Type 0 where
   pub first : IsUnset m.lits a
   pub second : IsIn (has m.lits) (negate b)
   pub level : slice_index m.levels b.var ≡ length m.cuts
 
--- the first two literals of a clause may be watched
+-- the first two literals of a clause may be watched; on each trail on which that is so and the arena was
+-- watched, `attach` leaves it watched, whenever the clause came
 abbrev pub MayBeWatched : Marks → List Literal → Type 0
 MayBeWatched m [] = ⊥
 MayBeWatched m (k ∷ []) = ⊥

@@ -18,6 +18,8 @@ pub record Marks : Type 0 where
   pub reasons : List ℕ
   pub levels : List ℕ
 
+-- a trail seen so: the first `len` literals of its order, and the first `level` places at which levels
+-- begin
 abbrev pub marks_of : ℕ → List Literal → ℕ → ℕ → List ℕ → ℕ → List ℕ → List ℕ → Marks
 marks_of vars order len front starts level reasons levels =
     record {
@@ -44,7 +46,8 @@ abbrev pub HasLevels : List ℕ → List Literal → List ℕ → Type 0
 HasLevels cuts lits levels = (i : ℕ) (d : Literal) → i < length lits → slice_index levels (slice_index_or lits i d).var
     ≡ trail_level cuts i
 
--- the places where levels begin rise, and each level has a literal
+-- the places where levels begin rise, each level has a literal, and all literals before its place are
+-- propagated
 pub record AreCuts (cuts : List ℕ) (len front : ℕ) : Type 0 where
   pub count : length cuts ≤ len
   pub from : (k : ℕ) → k < length cuts → k ≤ slice_index cuts k
@@ -52,6 +55,7 @@ pub record AreCuts (cuts : List ℕ) (len front : ℕ) : Type 0 where
   pub propagated : (k : ℕ) → k < length cuts → slice_index cuts k ≤ front
   pub rise : (j k : ℕ) → j < k → k < length cuts → slice_index cuts j < slice_index cuts k
 
+-- what each trail keeps of the tables in which it is stored
 pub record IsStoredTrail (vars : ℕ) (truth : List Bool) (order : List Literal) (len front : ℕ) (starts : List ℕ)
     (level : ℕ) (reasons levels : List ℕ) : Type 0 where
   pub limit : vars ≤ VARS
@@ -155,9 +159,11 @@ pub record IsLonger (old new : Marks) : Type 0 where
   pub longer : length old.lits ≤ length new.lits
   pub keeps : Includes (has new.lits) (has old.lits)
 
+-- neither the literal nor its negation is true
 abbrev pub IsUnset : List Literal → Literal → Type 0
 IsUnset lits l = (has lits l ≡ false) × (has lits (negate l) ≡ false)
 
+-- the literal is true, false or unset, as the answer says
 abbrev pub IsValue : List Literal → Literal → Option Bool → Type 0
 IsValue lits l (Some true) = IsIn (has lits) l
 IsValue lits l (Some false) = IsIn (has lits) (negate l)

@@ -1,4 +1,7 @@
 -- The walk of one chain.
+-- A walk goes through the chain of a literal that became false. Where the other watch isn't true and a
+-- further literal isn't false, that one changes places with the false one, and its chain gets the watch;
+-- where there is none, the other watch becomes true, or the clause is falsified.
 use Rattle.std.specs.Prelude.{◌≡◌, ◌≢◌, ◌≤◌, ◌<◌, ◌⊎◌, ◌↔◌, take, ℕ, zero, suc, ◌+◌, ◌*◌, ◌/◌, Option, Some, None}
 use Rattle.std.specs.Prelude.{List, [], ◌∷◌, ◌++◌, Contains, length, slice_index, slice_index_or}
 use Rattle.cnf_core.specs.Lit.{Literal, negate, literal_at, has}

@@ -1,0 +1,48 @@
+"""Plain English: how long the sentences of the pages are, and words that they don't use."""
+import re
+
+from checking.crates import DOCUMENTS, TOP, read, show
+
+MOST_WORDS = 20
+WORDS_NOT_USED = ("due", "told", "stands", "is put", "was put", "are put", "were put")
+MADE = TOP / "docs" / "made"
+
+
+def prose_of(text):
+    """The paragraphs and entries of lists of a page, without its titles, tables, blocks and made parts."""
+    text = re.sub(r"<!-- made: .*?<!-- end -->|^```.*?^```|^<!--.*?-->", "", text, flags=re.M | re.S)
+    parts = re.split(r"\n\s*\n|\n(?=\s*- )", text)
+    parts = [" ".join(part.split()).removeprefix("- ") for part in parts]
+    return [part for part in parts if part and part[0] not in "#|!" and not part.startswith("*By*")]
+
+
+def sentences_of(part):
+    """The sentences of a paragraph; a piece of code counts as one word."""
+    plain = re.sub(r"\*By\*.*", "", part)
+    plain = re.sub(r"\[([^]]*)\]\([^)]*\)", r"\1", re.sub(r"`[^`]*`", "code", plain)).replace("*", "")
+    return [sentence for sentence in re.split(r"(?<=[.?!:;])\s+", plain) if re.search(r"\w", sentence)]
+
+
+def pages():
+    return [path for path in DOCUMENTS if MADE not in path.parents]
+
+
+def words_a_sentence(text):
+    """How many words a sentence of the page has, on average."""
+    counts = [len(sentence.split()) for part in prose_of(text) for sentence in sentences_of(part)]
+    return sum(counts) / len(counts) if counts else 0
+
+
+def all_failures():
+    found = []
+    for path in pages():
+        text = read(path)
+        average = words_a_sentence(text)
+        if average > MOST_WORDS:
+            found.append(f"{show(path)}: {average:.1f} words a sentence, and {MOST_WORDS} are the most")
+        prose = "\n".join(prose_of(text))
+        for word in WORDS_NOT_USED:
+            for place in re.finditer(rf"(?<![`\w]){word}(?![`\w])", re.sub(r"`[^`]*`", "`code`", prose), re.I):
+                around = prose[max(0, place.start() - 30):place.end() + 20].replace("\n", " ")
+                found.append(f"{show(path)}: the word `{word}` in `{around}`")
+    return found
