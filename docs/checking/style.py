@@ -20,7 +20,7 @@ def sentences_of(part):
     """The sentences of a paragraph; a piece of code counts as one word."""
     plain = re.sub(r"\*By\*.*", "", part)
     plain = re.sub(r"\[([^]]*)\]\([^)]*\)", r"\1", re.sub(r"`[^`]*`", "code", plain)).replace("*", "")
-    return [sentence for sentence in re.split(r"(?<=[.?!:;])\s+", plain) if re.search(r"\w", sentence)]
+    return [sentence for sentence in re.split(r"(?<=[.?!:])\s+", plain) if re.search(r"\w", sentence)]
 
 
 def pages():
