@@ -50,8 +50,8 @@ ANSWERS = {"Done": ["the drawing text, the graph text, `lawful"],
                        "`hints NO"],
            "WordsRefused": ["`words NO"], "NoDrawing": ["the sheet with `end none`"],
            "Unfinished": ["the sheet with `end conflicts S` or `end room S`", "`check Room line N`"],
-           "Unread": ["`read failed I`"], "Unwritten": ["nothing, or a prefix of what was due: the output or a file"],
-           "NoMemory": ["nothing, or a prefix of what was due: there was no memory"],
+           "Unread": ["`read failed I`"], "Unwritten": ["nothing, or a prefix of what was wanted: the output or a file"],
+           "NoMemory": ["nothing, or a prefix of what was wanted: there was no memory"],
            "Broken": ["`broken law L PARTY`", "`check REFUSAL line N`, but with Room, or `check Lacks"]}
 
 WORDS_OF_NUMBERS = "none one two three four five six seven eight nine ten eleven twelve".split()

@@ -41,7 +41,7 @@ NUMBERS = [
     ("plan_core", "MAX_NODES", 0, DEFINITIONS, r"There are at most # nodes"),
     ("plan_core", "MAX_EDGES", 0, DEFINITIONS, r"at most \d+ nodes and # edges"),
     ("plan_objects", "MAX_SIGNALS", 0, FORMATS, r"more than # signals"),
-    ("plan_objects", "MAX_SIGNALS", 1, FORMATS, r"told of the #th"),
+    ("plan_objects", "MAX_SIGNALS", 1, FORMATS, r"it is the #th\."),
     ("plan_objects", "SIGNALS_OF_AN_EDGE", 1, FORMATS, r"it is the #th signal"),
     ("plan_core", "MAX_FILE_BYTES", 1, "docs/trusted.md", r"one byte: # bytes for `draw`"),
     ("plan_core", "MAX_LOG_BYTES", 1, "docs/trusted.md", r"`verify`, # of a log"),

@@ -1,4 +1,4 @@
-"""Plain English: how long the sentences of the pages are, and words that they don't use."""
+"""Plain English: how long the sentences of the pages are, words that they don't use, and how much there is to read."""
 import re
 
 from checking.crates import DOCUMENTS, TOP, read, show
@@ -6,6 +6,7 @@ from checking.crates import DOCUMENTS, TOP, read, show
 MOST_WORDS = 20
 WORDS_NOT_USED = ("due", "told", "stands", "is put", "was put", "are put", "were put")
 MADE = TOP / "docs" / "made"
+MOST_BYTES = 170_000
 
 
 def prose_of(text):
@@ -33,8 +34,15 @@ def words_a_sentence(text):
     return sum(counts) / len(counts) if counts else 0
 
 
+def too_much():
+    """The bytes of docs/ that are written by hand."""
+    bytes_by_hand = sum(len(re.sub(r"<!-- made: .*?<!-- end -->", "", read(path), flags=re.S).encode())
+                        for path in pages() if TOP / "docs" in path.parents)
+    return [f"docs: {bytes_by_hand} bytes are written by hand, and {MOST_BYTES} are the most"] * (bytes_by_hand > MOST_BYTES)
+
+
 def all_failures():
-    found = []
+    found = too_much()
     for path in pages():
         text = read(path)
         average = words_a_sentence(text)
