@@ -95,6 +95,12 @@ def refuse_others(out: Path, names: list[str]) -> None:
             end(2, f"{path} is there, and railplan didn't make it. Name another folder, or delete it")
 
 
+def refuse_one_folder(asked: argparse.Namespace) -> None:
+    """what is drawn isn't put between the files that are read"""
+    if files.is_one_file(asked.IN, asked.OUT):
+        end(2, f"{asked.IN} and {asked.OUT} are one folder. Name another one for what is drawn, as {Path(asked.IN) / 'drawn'}")
+
+
 def make_folder(out: Path) -> None:
     try:
         (out / RECORDS).mkdir(parents=True, exist_ok=True)
@@ -198,6 +204,7 @@ def run(clone: built.Clone, given: list[str]) -> int:
     asked = read_words(words_behind(given))
     out, began = Path(asked.OUT), time.monotonic()
     all_ = stations(Path(asked.IN))
+    refuse_one_folder(asked)
     mine = {name: all_[name] for name in of_shard(list(all_), asked.shard)}
     refuse_others(out, list(all_))
     make_folder(out)

@@ -97,7 +97,7 @@ def ended(record: Record) -> list[Element | str]:
 
 def row(record: Record) -> Element:
     kind = {0: "good", 3: "open", 4: "open"}.get(record.status, "fault")
-    grid = " by ".join(map(str, record.grid)) if kind != "fault" else ""
+    grid = f"columns 0 to {record.grid[0]}, rows 0 to {record.grid[1]}" if kind != "fault" and record.grid else ""
     cells = [Element("td", link(record)), Element("td", *shown(record), class_="drawing"), Element("td", *ended(record)),
              Element("td", ", ".join(map(str, record.values)), class_="number"), Element("td", grid, class_="number"),
              Element("td", badge(record)), Element("td", f"{record.seconds:.1f} s" if record.seconds else "", class_="number")]

@@ -29,12 +29,13 @@ class Guess(Exception):
 
 
 class Prepared:
-    """A file's bytes while it is mended, and what was said of it: changes, and what would have to be guessed."""
+    """A file's bytes while it is mended, and what was said of it: changes, what would have to be guessed, and what to look at."""
 
     def __init__(self, name: str, data: bytes):
         self.name, self.data = name, data
         self.changes: list[str] = []
         self.guesses: list[str] = []
+        self.doubts: list[str] = []
 
     def replace(self, edits: list[tuple[int, int, bytes]]) -> None:
         """writes each text in place of the bytes from one to the other"""
@@ -190,6 +191,26 @@ def begins_without(document: railml.Document) -> list[Element]:
     return [it for it in begins if it is not None and "absPos" not in it.attributes]
 
 
+def metres_of(element: Element, name: str) -> Decimal | None:
+    written = as_read(element.attributes.get(name, ""))
+    return Decimal(written) if written else None
+
+
+def doubt_end(it: Prepared, begin: Element, mileage: Decimal) -> None:
+    """whether the mileage of the track's end, by its length, speaks against that of its begin; rounding and rails that were
+    measured along a curve don't"""
+    end_ = railml.end_of(begin.above("track"), "trackEnd")
+    if end_ is None:
+        return
+    its_own, begun, ended = metres_of(end_, "absPos"), metres_of(begin, "pos"), metres_of(end_, "pos")
+    if its_own is None or begun is None or ended is None:
+        return
+    length = abs(ended - begun)
+    if abs(abs(its_own - mileage) - length) > max(Decimal(1), length / 10):
+        it.doubts.append(f"{it.at(begin.place)}: {railml.what(begin)} is at {mileage} and the end at {its_own}, but the track is "
+                         f"{length} m long. One of the three may be wrong: look at them")
+
+
 def mend_mileages(it: Prepared) -> None:
     """writes what the file says, as long as that says more"""
     while True:
@@ -198,6 +219,8 @@ def mend_mileages(it: Prepared) -> None:
         for begin in lacking:
             known = known_mileage(document, begin)
             if known:
+                if known[1]:
+                    doubt_end(it, begin, Decimal(known[1]))
                 place = begin.place + len("<trackBegin")
                 edits.append((place, place, f' absPos="{known[1]}"'.encode()))
                 it.changes.append(f"{it.at(begin.place)}: absPos=\"{known[1]}\" is written at {railml.what(begin)}, as "
@@ -280,7 +303,7 @@ def run(line: words.Line) -> int:
         end(5, f"{source}: {why(error)}")
     refuse_other(out, source)
     it = mended(source, data)
-    write_error("".join(f"railplan: {said}\n" for said in it.changes + it.guesses))
+    write_error("".join(f"railplan: {said}\n" for said in it.changes + it.guesses + it.doubts))
     if it.guesses:
         end(1, f"nothing is written: {len(it.guesses)} {'thing' if len(it.guesses) == 1 else 'things'} would have to be guessed")
     write(out, with_mark(it.data) if it.changes else it.data)

@@ -23,13 +23,19 @@ def unread(name: str) -> str:
 
 
 def nearby(name: str) -> str:
-    """a file of the same folder whose name is nearly the same"""
+    """a file of the same folder whose name is nearly the same, and either the part before the ending or the ending the very same"""
     import difflib
     folder, base = os.path.split(name)
     try:
-        found = difflib.get_close_matches(base, os.listdir(folder or "."), 1, 0.8)
+        others = os.listdir(folder or ".")
     except OSError:
         return ""
+    parts = {other: os.path.splitext(other.lower()) for other in others}
+    stem, ending = os.path.splitext(base.lower())
+    stems = {it[0]: other for other, it in parts.items() if it[1] == ending}
+    endings = {it[1]: other for other, it in parts.items() if it[0] == stem}
+    found = [stems[it] for it in difflib.get_close_matches(stem, stems, 1, 0.8)] + \
+        [endings[it] for it in difflib.get_close_matches(ending, endings, 1, 0.6)]
     return os.path.join(folder, found[0]) if found else ""
 
 

@@ -24,7 +24,25 @@ def doctype(name: str, data: bytes, place: int, called: str) -> str:
     return "a DOCTYPE isn't read, and railML needs none. Delete it"
 
 
+# how files begin that are no XML, and what to do with them
+OTHERS = ((b"PK", "a packed archive. Unpack it, and name the railML file in it"), (b"\x1f\x8b", "a packed file. Unpack it first"),
+          (b"%PDF", "a PDF. Export the station as railML 2"), (b"{", "JSON, as it seems. Export the station as railML 2"),
+          (b"[", "JSON, as it seems. Export the station as railML 2"))
+
+
+def no_xml(data: bytes) -> str:
+    """what a file is that has no tag where an XML file begins"""
+    text = data.removeprefix(b"\xef\xbb\xbf").lstrip()
+    if text.startswith(b"<"):
+        return ""
+    kind = next((said for begin, said in OTHERS if text.startswith(begin)), "")
+    return kind or ("" if b"<" in data[:4096] else "no XML: no tag is in its first 4,096 bytes. Is it the right file?")
+
+
 def markup(name: str, data: bytes, place: int, called: str) -> str:
+    other = no_xml(data)
+    if other:
+        return f"this file is {other}"
     if not data[place:place + 1] == b"<":
         return "nothing but comments may come before the first element. Delete this text"
     return "this isn't XML. Look in this tag for a `<` inside a value (write &lt;), a value without quotes, or two attributes " \

@@ -104,6 +104,17 @@ def repeated_option(given: list[str], at: int, called: str) -> str:
     return f"{given[at]} comes twice. Leave out one of the two"
 
 
+def meant_criteria(word: str) -> str:
+    """the criteria that were meant, with commas between them; nothing where it isn't clear"""
+    found = [near(it.strip(), words.CRITERIA) for it in word.replace(";", ",").split(",")]
+    return ",".join(found) if all(found) and len(set(found)) == len(found) else ""
+
+
+def did_you_mean(given: list[str], at: int, called: str) -> str:
+    meant = meant_criteria(given[at])
+    return f". Did you mean {typed(called, [*given[:at], meant, *given[at + 1:]])}" if meant and meant != given[at] else ""
+
+
 def bad_value(given: list[str], at: int, called: str) -> str:
     word = given[at] if at < len(given) else ""
     names, options = words.parts(given)
@@ -113,7 +124,8 @@ def bad_value(given: list[str], at: int, called: str) -> str:
     if at - 1 in places:
         option = places[at - 1]
         if not words.allows(words.OPTIONS[option], word):
-            return f"{quoted(word)} can't be behind {option}, which takes {TAKES[option]}"
+            also = did_you_mean(given, at, called) if option == "--order" else ""
+            return f"{quoted(word)} can't be behind {option}, which takes {TAKES[option]}{also}"
     if at in names:
         name = words.COMMANDS[given[0]].names[names.index(at)]
         if not words.may_be(name, word):
@@ -121,7 +133,7 @@ def bad_value(given: list[str], at: int, called: str) -> str:
                 return joined_pair(given, at, called)
             if name.kind == "pair":
                 return f"{quoted(word)} is no pair: write two of height, bends, diagonal and width with a comma between them, " \
-                       "as height,width"
+                       f"as height,width{did_you_mean(given, at, called) if word.count(',') == 1 else ''}"
             return f"{quoted(word)} can't be {name.word}, which is {name.what}"
     return f"{quoted(word)} is named twice: a file that is written needs a name of its own"
 

@@ -175,6 +175,19 @@ class Provoked(unittest.TestCase):
                 command = "signals" if fault.startswith("signal") else "graph"
                 self.hold("s.xml", fault, place, piece, [command, self.file("s.xml", data)])
 
+    def test_files_of_other_kinds_are_called_what_they_are(self):
+        for data, piece in ((b"PK\3\4zip", "a packed archive"), (b"%PDF-1.7", "a PDF"), (b'{"a": 1}', "JSON"),
+                            (b"name;km\n", "no XML"), (b"text <railml>", "nothing but comments")):
+            with self.subTest(piece):
+                self.assertIn(piece, text_faults.notes("f", data, "Markup", 0, "railplan")[0].text)
+
+    def test_a_file_of_another_name_is_not_meant(self):
+        for missing, meant in (("station.xm", "station.xml"), ("statoin.xml", "station.xml"), ("depot.xml", ""), ("statio.sheet", "")):
+            self.file("station.xml", b"")
+            with self.subTest(missing):
+                found = telling.nearby(os.path.join(self.folder, missing))
+                self.assertEqual(os.path.basename(found), meant)
+
     def test_the_former_file(self):
         one = str(TOP / "examples/one.xml")
         found, notes = self.told(["redraw", one, self.file("old.xml", b"<x/>"), str(TOP / "examples/one.sheet")])

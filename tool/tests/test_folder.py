@@ -60,6 +60,19 @@ class Folders(InClone):
     def record(self, name):
         return json.loads((self.top / f"out/records/{name}.json").read_text())
 
+    def test_the_two_folders_are_not_one(self):
+        self.stations("a")
+        for again in ("in", "./in", "in/../in"):
+            status, out, err = self.launch("folder", "in", again)
+            with self.subTest(again):
+                self.assertEqual(status, 2)
+                self.assertIn("are one folder. Name another one for what is drawn, as in/drawn", err)
+
+    def test_the_page_says_the_grid_as_it_is_counted(self):
+        self.stations("a")
+        self.folder()
+        self.assertIn("columns 0 to 40, rows 0 to 8", (self.top / "out/index.html").read_text())
+
     def test_each_station_has_its_files_and_the_page_has_all_faults_first(self):
         self.stations("b", "refused", "a")
         status, out, err = self.folder("-j", "2")

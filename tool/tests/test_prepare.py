@@ -24,6 +24,13 @@ class Mended(unittest.TestCase):
         self.assertEqual(text, TRACK.replace('<trackBegin id="bb"', '<trackBegin absPos="120" id="bb"'))
         self.assertEqual((len(changes), guesses), (1, []))
 
+    def test_an_end_that_speaks_against_the_joined_begin_is_doubted(self):
+        for end_, doubts in (("129", 0), ("111", 0), ("128.5", 0), ("900", 1)):
+            it = prepare.mended("s.xml", TRACK.replace('id="be" pos="9"', f'id="be" pos="9" absPos="{end_}"').encode())
+            with self.subTest(end_):
+                self.assertEqual((len(it.changes), it.guesses, len(it.doubts)), (1, [], doubts))
+        self.assertIn("the begin of track b is at 120 and the end at 900, but the track is 9 m long", it.doubts[0])
+
     def test_a_chain_of_begins(self):
         more = ('<track id="e"><trackTopology><trackBegin id="eb" pos="0"><connection id="g" ref="h"/></trackBegin>'
                 '<trackEnd id="ee" pos="9"><openEnd/></trackEnd></trackTopology></track></tracks>')

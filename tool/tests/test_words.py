@@ -6,7 +6,7 @@ import shlex
 import subprocess
 import unittest
 
-from tool import words
+from tool import word_faults, words
 from tool.tests.places import PROGRAM, TOP, case_rows
 
 
@@ -50,6 +50,18 @@ class Faults(unittest.TestCase):
                      ["redraw", "a", "a", "s"], ["trim", "a", "s", "l", "h"], ["draw", "-"], ["draw", "a", "--order", "width"]):
             with self.subTest(line=line):
                 self.assertIsNone(words.fault(line))
+
+
+class Meant(unittest.TestCase):
+    def test_criteria_that_were_meant(self):
+        for line, meant in ((["front", "a", "height,bend"], "railplan front a height,bends"),
+                            (["draw", "a", "--order", "hight,widht"], "railplan draw a --order height,width"),
+                            (["draw", "a", "--order", "height;width"], "railplan draw a --order height,width"),
+                            (["draw", "a", "--order", "height,xyz"], ""), (["front", "a", "height,height"], "")):
+            fault = words.fault(line)
+            said = word_faults.sentence(fault.name, fault.position, line, "railplan")
+            with self.subTest(line=line):
+                self.assertEqual(said.partition("Did you mean ")[2], meant)
 
 
 class Lines(unittest.TestCase):
