@@ -210,6 +210,17 @@ def crowded_piece(document: Document, line: words.Line, said: list[str]) -> list
     return [f"{piece} {least - 1} signals, so each edge takes {least} columns"]
 
 
+def odd_picture(line: words.Line, said: list[str]) -> list[Note]:
+    """ids that the program's picture has as they are, though XML has no such characters"""
+    ids = {it.split(" ")[2] for it in said if it.startswith(("node ", "edge "))}
+    odd = sorted(it for it in ids if "\ufffe" in it or "\uffff" in it)
+    if not odd or "--svg" not in line.options:
+        return []
+    shown = ", ".join(it.replace("\ufffe", "<U+FFFE>").replace("\uffff", "<U+FFFF>") for it in odd)
+    return [Note(f"{line.options['--svg']} is no XML, and other programs may refuse it: XML has no such character as in the id "
+                 f"{shown}. Give it another id, or ask for a page by --html")]
+
+
 def not_shown(line: words.Line, said: list[str]) -> list[Note]:
     data = files.reread(line.names[0])
     if data is None:
@@ -225,6 +236,8 @@ def notes(program: str, line: words.Line, ran: running.Ran) -> list[Note]:
     found = []
     if command in ("draw", "signals", "redraw"):
         found += not_shown(line, said)
+    if command == "draw":
+        found += odd_picture(line, said)
     if ran.status == 0 and command == "explain" and any(it.startswith("laws ") for it in said):
         from tool import explained
         found += explained.laws(program, line, said) + [larger(program, line, said)]

@@ -3,8 +3,8 @@ rests on, and the picture of the way from bytes to the best drawing."""
 import re
 import textwrap
 from functools import cache
-from html import escape
 
+from checking import pictures
 from checking.crates import TOP, crates, handed_on, head, imported_words, module_of, read, spec_files, words_of
 
 PAGE = TOP / "THEOREM.md"
@@ -176,31 +176,8 @@ def count_lines():
 
 def picture():
     """The way from bytes to the best drawing, a box for each definition."""
-    wide, high, gap, across = 250, 58, 26, 3
-    rows = (len(WAY) + across - 1) // across
-    width, height = across * (wide + gap) + gap, rows * (high + gap) + gap
-    found = [f'<svg xmlns="http://www.w3.org/2000/svg" viewBox="0 0 {width} {height}" width="{width}" height="{height}" '
-             'font-family="sans-serif">',
-             "<title>The way from a file's bytes to the best drawing</title>",
-             f'<rect width="{width}" height="{height}" fill="white"/>']
-    middles = []
-    for number, (key, said) in enumerate(WAY):
-        row, place = divmod(number, across)
-        place = place if row % 2 == 0 else across - 1 - place
-        x, y = gap + place * (wide + gap), gap + row * (high + gap)
-        middles.append((x + wide / 2, y + high / 2))
-        found += [f'<rect x="{x}" y="{y}" width="{wide}" height="{high}" rx="6" fill="#eef3f8" stroke="#446"/>',
-                  f'<text x="{x + 12}" y="{y + 22}" font-size="15" font-weight="bold">{escape(key[2])}</text>',
-                  f'<text x="{x + 12}" y="{y + 38}" font-size="12">{escape(said)}</text>',
-                  f'<text x="{x + 12}" y="{y + 52}" font-size="10" fill="#556">{escape(key[0])}/specs/{escape(key[1])}</text>']
-    for (x, y), (to_x, to_y) in zip(middles, middles[1:]):
-        if y == to_y:
-            step = 1 if to_x > x else -1
-            begin, end, at = x + step * wide / 2, to_x - step * wide / 2, y
-            found.append(f'<path d="M{begin} {at}H{end}m{-6 * step} -4l{6 * step} 4l{-6 * step} 4" fill="none" stroke="#446"/>')
-        else:
-            found.append(f'<path d="M{x} {y + high / 2}V{to_y - high / 2}m-4 -6l4 6l4 -6" fill="none" stroke="#446"/>')
-    return "\n".join([*found, "</svg>"]) + "\n"
+    listed = [pictures.Box(key[2], [said], [f"{key[0]}/specs/{key[1]}"]) for key, said in WAY]
+    return pictures.boxes("The way from a file's bytes to the best drawing", listed, pictures.Size(250, 58, 3))
 
 
 def all_failures():

@@ -99,7 +99,7 @@ impl Search {
         }
     }
 
-    /// The same for a clause that is within the room.
+    /// Tells a clause that is within the room as a Formula line, and keeps it.
     fn add_fitting<L: LogSink>(&mut self, lits: &[Lit], log: &mut L) -> Result<(), AddFault>
         requires idle { IsIdle self.old }
         requires there { AreThere self.old.trail.vars lits.now }
@@ -213,7 +213,7 @@ impl Search {
         }
     }
 
-    /// The same for a clause of one literal, in the solver's own list.
+    /// Keeps a true clause of one literal in the solver's own list.
     fn keep_owned(&mut self, clause: Clause) -> Result<(), OutOfMemory>
         requires idle { IsIdle self.old }
         requires there { AreThere self.old.trail.vars clause }
@@ -230,7 +230,7 @@ impl Search {
         Ok(())
     }
 
-    /// The same for a longer clause, in the arena.
+    /// Keeps a longer clause that makes no literal true in the arena.
     fn keep_attached(&mut self, clause: Clause) -> Result<(), OutOfMemory>
         requires idle { IsIdle self.old }
         requires there { AreThere self.old.trail.vars clause }

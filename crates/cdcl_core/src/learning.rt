@@ -99,7 +99,7 @@ impl Search {
         }
     }
 
-    /// The same for a clause of one literal.
+    /// Keeps a clause of one literal, at level 0, and makes the literal true.
     fn keep_single(&mut self, clause: Clause) -> Result<(), OutOfMemory>
         requires search { IsSearch self.old }
         requires room { self.old.words + length clause + 3 ≤ self.old.room }
@@ -119,7 +119,7 @@ impl Search {
         Ok(())
     }
 
-    /// The same for a longer clause.
+    /// Keeps a longer clause whose others are false, and makes its first literal true.
     fn keep_long(&mut self, clause: Clause) -> Result<(), OutOfMemory>
         requires search { IsSearch self.old }
         requires room { self.old.words + length clause + 3 ≤ self.old.room }

@@ -85,7 +85,7 @@ impl Search {
         }
     }
 
-    /// The same where nothing may be learnt any more.
+    /// Meets a clause that is false where nothing may be learnt any more: refutes the query, or gives up.
     fn meet_last<L: LogSink>(
         &mut self,
         query: &[Lit],

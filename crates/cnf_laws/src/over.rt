@@ -29,7 +29,7 @@ fn at_west(shares: bool, x: &OrderInt, c: u32) -> LitOrTruth
     if shares { x.at_least(c) } else { NO }
 }
 
-/// The same of the east node.
+/// In a column of the line: it is that of the east node, if the other edge has this node.
 fn at_east(shares: bool, x: &OrderInt, c: u32) -> LitOrTruth
     requires { c ≤ 65535 }
     ensures { result ≡ at_east_of shares x.now c }

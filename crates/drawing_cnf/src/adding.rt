@@ -142,7 +142,7 @@ pub fn criterion_bound<'a>(
     outcome
 }
 
-/// The same, which keeps the bound and its sums.
+/// Adds a criterion's bound up to a cap, and keeps it with its sums.
 fn add_kept<'a>(
     alloc: Global,
     e: &mut Encoded<'a>,

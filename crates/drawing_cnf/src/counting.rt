@@ -135,7 +135,7 @@ pub fn add_moved_count(
     make_count(alloc, f, nodes, former)
 }
 
-/// The same, without what the clauses say.
+/// Adds the variables and clauses that count the moved nodes; what the clauses say isn't in its contract.
 fn make_count(
     alloc: Global,
     f: &mut Formula,
@@ -155,7 +155,7 @@ fn make_count(
     Ok(count)
 }
 
-/// The same, for so many nodes with a former point.
+/// Adds the variables and clauses that count the moved nodes, where so many have a former point.
 fn add_all(
     alloc: Global,
     f: &mut Formula,

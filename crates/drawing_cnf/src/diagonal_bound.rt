@@ -153,7 +153,7 @@ fn add_edge_sum(
     Ok(sum)
 }
 
-/// The same of the edge of a number.
+/// The sum of the steps of the edge of a number, up to a number.
 fn add_sum_of(
     alloc: Global,
     f: &mut Formula,
@@ -176,7 +176,7 @@ fn add_sum_of(
     add_edge_sum(alloc, f, &vars, grid.width(), most)
 }
 
-/// The same, put behind the sums of other edges.
+/// The sum of the steps of the edge of a number, put behind the sums of other edges.
 fn add_next_sum(
     alloc: Global,
     f: &mut Formula,

@@ -32,7 +32,7 @@ pub(crate) fn add_gives(f: &mut Formula, i: &OrderInt, b: u32, k: u32) -> Result
     f.add_clause(&[], &[i.at_least(k).negated(), yes_var(b)])
 }
 
-/// The same of an edge's heights.
+/// Where one of an edge's heights is at least k, the bound's variable b is true.
 fn add_heights_give(
     f: &mut Formula,
     e: &EdgeVars,

@@ -108,7 +108,7 @@ fn add_node(f: &mut Formula, n: &NodeVars, q: Point, m: u32) -> Result<(), CnfFa
     add_moved(f, n, q, m)
 }
 
-/// The same, where the node has a former point.
+/// The variable m is true exactly where the node isn't at its former point, if it has one.
 pub(crate) fn add_by(
     f: &mut Formula,
     n: &NodeVars,

@@ -109,7 +109,8 @@ pub fn add_sum_bound(
     make_sum_bound(alloc, f, inputs, cap, last)
 }
 
-/// The same, without what its clauses say.
+/// A sum, and the variables behind number `last` as its outputs, up to a cap; what the clauses say isn't in its
+/// contract.
 fn make_sum_bound(
     alloc: Global,
     f: &mut Formula,

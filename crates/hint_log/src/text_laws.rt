@@ -32,8 +32,7 @@ pub fn written_hints_are_read_again()
     ensures one_line { (line : Line) → MayBeWritten line → LacksByte 10 (hint_text line) }
 {}
 
-/// The same of the line of the caps: a text is that of one list of caps at most, has one fault at most, and none where
-/// it is that of caps in range.
+/// A text is the line of one list of caps at most, has one fault at most, and none where it is that of caps in range.
 pub fn one_line_of_caps()
     ensures caps { (text : List ℕ) (a b : Values) → IsCapsText text a → IsCapsText text b → a ≡ b }
     ensures fault { (greatest : Criterion → ℕ) (order : List Criterion) (text : List ℕ) (a b : What) →

@@ -27,7 +27,7 @@ pub struct WhyFormula {
     pub formula: Formula,
 }
 
-/// The same, without what its clauses say.
+/// The formula of a search for a reason; what its clauses say isn't in its contract.
 fn make_why_formula(
     alloc: Global,
     g: &PortGraph,

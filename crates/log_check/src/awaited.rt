@@ -77,7 +77,7 @@ fn is_bound(line: &LogLine, c: Criterion, number: u32, variable: u32) -> bool
     }
 }
 
-/// The same lines, from the first part on that has one still to come.
+/// The lines that are awaited, from the first part on that has one still to come.
 #[tactic(auto, using(crate::proofs::AwaitedLemmas::skipping))]
 fn skipped<'a>(awaited: &Awaited<'a>) -> Awaited<'a>
     requires { IsAwaited awaited.now }

@@ -45,7 +45,7 @@ fn deny(trail: &mut Trail, lits: &[Lit])
     }
 }
 
-/// The same at a further level, which one literal at least begins.
+/// Assumes at a further level that literals are false, which are unset; there is at least one.
 fn deny_above(trail: &mut Trail, lits: &[Lit])
     requires there { AreThere trail.old.vars lits.now }
     requires distinct { AreDistinct lits.now }

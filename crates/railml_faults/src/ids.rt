@@ -106,7 +106,7 @@ pub(crate) fn first_repeated(alloc: Global, rows: &[Elem]) -> Result<Option<usiz
     first_kept_again(alloc, rows)
 }
 
-/// The same, by keeping the ids one by one until one is kept already.
+/// The first row whose id an earlier row bears, by keeping the ids one by one until one is kept already.
 fn first_kept_again(alloc: Global, rows: &[Elem]) -> Result<Option<usize>, OutOfMemory>
     requires { AreFormed rows.now }
     ensures { IfOk result (λ found. FindsFirst (λ i _. Repeats rows.now i) rows.now found) }

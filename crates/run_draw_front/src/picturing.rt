@@ -81,7 +81,8 @@ fn write_named<F: Files>(
     }
 }
 
-/// The same where a file is named for the picture, and else nothing.
+/// Leaves the picture of the drawing that a search ended with, where there is a drawing and a file is named for its
+/// picture.
 pub fn write_found<F: Files>(
     alloc: Global,
     graph: &PortGraph,
