@@ -2,9 +2,9 @@
 """Lets one call of the system fail in a run, or each from one on, and holds how the run ends.
 
 Each case is a command on a station by chance. It is run once with all calls listed, and then once for each of its calls. A
-read or an opening that fails is told as `read failed I`; a write, a file that can't be created, and a close of a file that was
-written end with 6, and what was written begins what was due. A close of an input doesn't matter. Short reads and writes, and
-reads and writes that are interrupted, change nothing. An input that ends early is answered in the command's form. Where a file
+read or an opening that fails is told as `read failed I`; a write, a file that can't be created, and a file that can't be synced
+end with 6, and what was written begins what was due. A close that fails changes nothing: what was written is synced by then.
+Short reads and writes, and reads and writes that are interrupted, change nothing. An input that ends early is answered in the command's form. Where a file
 may not grow beyond a limit, the run ends with 6."""
 from __future__ import annotations
 
@@ -63,15 +63,12 @@ def judge(case: Case, base: preload.Base, at: int, how: dict[str, str], answer: 
     elif how["how"] == "none":
         case.hold_that(same or answer.status == 6 and preload.are_fronts(case, base, answer), f"nothing is written: {said}")
     elif how["how"] == str(errno.EINTR):
-        case.hold_that(same, f"a {call} that is interrupted isn't tried again: {said}", f"interrupted {call}")
-    elif call == "close" and not is_written and "on" not in how:
-        case.hold_that(same, f"a close of an input changes the run: {said}")
-    elif call in ("close", "fsync"):
+        case.hold_that(same, f"a {call} that is interrupted isn't tried again: {said}")
+    elif call == "close":
+        case.hold_that(same, f"a close that fails changes the run: {said}")
+    elif call == "fsync":
         ends = answer.status == 6 and preload.are_fronts(case, base, answer)
-        is_closed = call == "fsync" or any(path_of(base, later)[1] and base.calls[later][0] == "close"
-                                           for later in range(at, len(base.calls)))
-        known = f"failed {call}" if is_closed else ""
-        case.hold_that(ends if is_closed else same, f"a {call} that fails isn't told: {said}", known)
+        case.hold_that(ends, f"a file that can't be synced isn't told: {said}")
     elif is_written:
         case.hold_that(answer.status == 6 and preload.are_fronts(case, base, answer), f"a failed {call}: {said}")
     else:

@@ -4,7 +4,6 @@ A script that sees such a thing goes on and says so. A script that looks for it 
 entry is to be taken out, so that it can't come back unseen."""
 
 KNOWN: dict[str, str] = {
-    "failed close": "A close that fails, of a log, a picture or hints, isn't told: the run ends as if nothing had failed.",
     "size of files": "A file that may not grow further ends the program alone by the signal XFSZ, and not with 6.",
     "page, SIGQUIT to the group": "A run with a page that is ended by a quit leaves a hidden file where the page was to be.",
     "signs of a picture": "An id with U+FFFE is in the bare program's picture as it is, which is no XML then; the launcher says so.",
