@@ -24,7 +24,7 @@ def files_that_fail():
 def names_that_fail():
     """Names in the map, the definitions, the claims and the decisions that no source and no file of the crates has."""
     known = set(re.findall(r"[A-Za-z_]\w*", " ".join(map(read, [TOP / "crates.txt", TOP / "railplan",
-                                                                     *TOP.glob("tool/*.py")]))))
+                                                                     *TOP.glob("tool/*.py"), *TOP.glob("pages/*.py")]))))
     folders = [path for part in ("src", "specs", "proofs") for path in TOP.glob(f"crates/*/{part}")]
     beside = [path for pattern in ("*", "bench/*", "bench/*/*", "cases/*", "cases/*/*", "docs/*", "docs/checking/*", "pages/*", "pages/*/*",
                                    "tool/*", "tool/*/*") for path in TOP.glob(pattern)]

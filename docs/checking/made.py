@@ -75,7 +75,7 @@ def calls_text():
     """Each crate's public calls with the names of their clauses, a line a file."""
     lines = ["# The calls and their clauses", "",
              "What each crate hands out, file by file of its `src/`: each call with the names of the clauses that it ensures, and behind",
-             "`asks` of those that it asks for. A clause without a name isn't told. `docs/check --write` makes this page."]
+             "`asks` of those that it asks for. Clauses without a name aren't listed. `docs/check --write` makes this page."]
     for crate in crates():
         told = {}
         for contract in contracts_of(crate):

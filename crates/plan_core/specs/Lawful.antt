@@ -70,7 +70,8 @@ pub record Fits (g : Graph) (d : Drawing) : Type 0 where
   pub are_lines : All (λ l. is_line l ≡ true) d.lines
 
 -- the drawing fits the graph and meets all laws. above e f says that e is above f; where it said so both
--- ways, no drawing could be lawful. Cite it beside IsTrackGraph: past the lists' ends the laws say nothing
+-- ways of two edges that have a column to compare, no drawing could be lawful. Cite it beside IsTrackGraph:
+-- past the lists' ends the laws say nothing
 pub record Lawful (g : Graph) (above : ℕ → ℕ → Bool) (grid : GridSize) (d : Drawing) : Type 0 where
   pub fits : Fits g d
   pub laws : (i : Instance) → IsInstance g above i → Meets g grid d i
