@@ -283,8 +283,8 @@ def add_panels(page: Page, run: Run, why: texts.Why) -> None:
             for thing in things:
                 found.setdefault(thing.number, "other")
         kept = [str(at) for at in range(1, len(why.laws) + 1) if at != number]
-        numbers = f"{'number' if len(kept) == 1 else 'numbers'} {sentences.listed(kept)}"
-        keeps = f"It keeps {numbers} of the list. " if kept else "The list has no other law. "
+        many = "number" if len(kept) == 1 else "numbers"
+        keeps = f"It keeps {many} {sentences.listed(kept)} of the list. " if kept else "The list has no other law. "
         page.draw(run.scene(drawing, page.station, marks=marks, has_scale=False, part=HALF if len(why.laws) > 1 else FRAMED),
                   element("b", f"Given up: {number}. "),
                   f"{sentences.sentence(text)} {keeps}Laws outside the list aren't kept.",

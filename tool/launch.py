@@ -3,6 +3,7 @@ from __future__ import annotations
 
 import os
 import sys
+from typing import NoReturn
 
 from tool import built, files, running, words
 from tool.saying import Ended, called, close_output, end, is_terminal, say, why, write_error, write_output
@@ -38,7 +39,7 @@ def tell(clone: built.Clone, line: words.Line, ran: running.Ran) -> None:
         telling.tell(clone.program, line, ran)
 
 
-def run_unproved(clone: built.Clone, line: words.Line) -> None:
+def run_unproved(clone: built.Clone, line: words.Line) -> NoReturn:
     """runs the words in the program's folder; so names of files, and no other words, are made absolute"""
     from tool.building import need_rt
     answer_unrun(clone, line)
@@ -90,13 +91,24 @@ def hand_on(clone: built.Clone, line: words.Line, ran: running.Ran) -> int:
     return ran.status
 
 
-def page(clone: built.Clone, line: words.Line) -> None:
+def refuse_page_words(given: list[str]) -> None:
+    """words of pages with a fault are answered before anything is built"""
+    from pages import command
+    try:
+        command.asked_of(given)
+    except command.Refused as refused:
+        end(refused.status, str(refused))
+
+
+def page(clone: built.Clone, line: words.Line) -> NoReturn:
     """has pages/run.py run the words and write what page words ask for"""
+    given = line.in_order()
+    given = given[given[:1] == ["--html"]:]
+    if not words.fault(line.words):
+        refuse_page_words(given)
     os.environ["RAILPLAN_CALLED"] = called()
     os.environ["RAILPLAN_BUILD"] = "unproved -" if line.is_unproved else built.in_words(clone, fresh(clone, line))
-    given = line.in_order()
-    running.become(sys.executable, [sys.executable, f"{clone.top}/pages/run.py", f"{clone.top}/railplan",
-                                    *given[given[:1] == ["--html"]:]])
+    running.become(sys.executable, [sys.executable, f"{clone.top}/pages/run.py", f"{clone.top}/railplan", *given])
 
 
 def run(clone: built.Clone, given: list[str]) -> int:
@@ -126,10 +138,10 @@ def run(clone: built.Clone, given: list[str]) -> int:
 
 
 def run_words(clone: built.Clone, line: words.Line) -> int:
-    """runs the program's words, by way of pages where page words are among them"""
+    """runs the program's words, by way of pages where page words are among them; these two run something else in its place"""
     if line.pages:
         page(clone, line)
-    if line.is_unproved:
+    elif line.is_unproved:
         run_unproved(clone, line)
     fresh(clone, line)
     return hand_on(clone, line, run_program(clone, line))

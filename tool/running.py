@@ -10,6 +10,7 @@ from tool.saying import end, why
 TYPE_CHECKING = False
 if TYPE_CHECKING:
     from collections.abc import Callable
+    from typing import NoReturn
 
 STOPPING = (signal.SIGINT, signal.SIGTERM, signal.SIGHUP)
 
@@ -101,7 +102,7 @@ def leave_alone() -> None:
         signal.signal(sign, signal.SIG_IGN)
 
 
-def become(program: str, words: list[str]) -> None:
+def become(program: str, words: list[str]) -> NoReturn:
     """runs a program in the launcher's place"""
     signal.signal(signal.SIGPIPE, signal.SIG_DFL)
     try:
