@@ -1,4 +1,4 @@
-"""Stations of several kinds, written as files of the profile: what bench/stations.sh and bench/everyday.sh draw."""
+"""Stations of several kinds, written as files of the profile: what bench/stations.py and bench/everyday.py draw."""
 from types import SimpleNamespace
 
 

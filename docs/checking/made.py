@@ -4,7 +4,7 @@ import textwrap
 
 from checking.crates import (DOCUMENTS, TOP, contracts_of, crates, head, module_of, read, root_text, show, spec_files,
                              words_of, words_of_public_contracts)
-from checking import pictures, theorem
+from checking import pictures, results, theorem
 from checking.numbers import with_tables
 
 COLUMNS = 120
@@ -95,7 +95,7 @@ def made_pages():
     """The pages of which a part is made from the crates, each as it is to be."""
     found = {path: with_tables(read(path)) for path in DOCUMENTS if "<!-- made: " in read(path)}
     return {**found, INDEX: index_text(), GLOSSARY: glossary_text(), CALLS: calls_text(), theorem.PICTURE: theorem.picture(),
-            pictures.ROOMS: pictures.rooms_picture()}
+            pictures.ROOMS: pictures.rooms_picture(), results.PLOT: results.together_plot()}
 
 
 def pages_that_differ():

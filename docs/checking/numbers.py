@@ -8,7 +8,7 @@ import re
 import sys
 import textwrap
 
-from checking import rooms, theorem
+from checking import results, rooms, theorem
 from checking.crates import DOCUMENTS, TOP, head, read, show
 
 sys.path.insert(0, str(TOP))
@@ -222,7 +222,7 @@ def laws_list():
 TABLES_MADE = {"limits": limits_table, "options": options_table, "statuses": statuses_table,
                "laws": laws_list, "rooms": rooms.table, "so_clause": theorem.clause_lines, "so_counts": theorem.count_lines,
                "so_rows": theorem.row_lines, "so_statuses": theorem.status_lines, "so_types": theorem.type_lines,
-               "best_words": theorem.best_lines, "so_rest": theorem.rest_lines}
+               "best_words": theorem.best_lines, "so_rest": theorem.rest_lines, **results.tables()}
 
 
 def with_tables(text):

@@ -1,0 +1,95 @@
+"""What the scripts that measure have in common: the program's name, a run with its time and memory, and a table as CSV."""
+from __future__ import annotations
+
+import argparse
+import csv
+import os
+import subprocess
+import sys
+import time
+from dataclasses import dataclass
+from pathlib import Path
+
+sys.dont_write_bytecode = True
+TOP = Path(__file__).resolve().parent.parent
+BUILT = TOP / "crates" / "railplan_main" / "out" / "railplan_main"
+RESULTS = TOP / "bench" / "results"
+
+
+@dataclass
+class Ran:
+    """How a run ended, what it printed, its processor time in seconds and its memory in MB."""
+    status: int
+    text: str
+    seconds: float
+    megabytes: float
+
+    def lines(self, front: str) -> list[str]:
+        """what is behind this front, of each line that has it"""
+        return [line[len(front):] for line in self.text.split("\n") if line.startswith(front)]
+
+    def first(self, front: str, lacking: str = "-") -> str:
+        return next(iter(self.lines(front)), lacking)
+
+
+def run(command: list[str | Path], out: Path | None = None) -> Ran:
+    """runs a command; what it prints also goes into a file, where one is named"""
+    child = subprocess.Popen(command, stdout=subprocess.PIPE, stderr=subprocess.DEVNULL)
+    assert child.stdout
+    printed = child.stdout.read()
+    _, status, used = os.wait4(child.pid, 0)
+    if out:
+        out.write_bytes(printed)
+    return Ran(os.waitstatus_to_exitcode(status), printed.decode("utf-8", "replace"), used.ru_utime + used.ru_stime,
+               used.ru_maxrss / 1024)
+
+
+def lines_of(log: Path, letter: str) -> int:
+    """how many lines of a log begin with this letter"""
+    with log.open("rb") as text:
+        return sum(line.startswith(letter.encode() + b" ") for line in text)
+
+
+def counts_of(program: Path, station: Path) -> list[str]:
+    """how many nodes and edges a station has; or its fault"""
+    graph = run([program, "graph", station])
+    return [graph.first("nodes "), graph.first("edges ")] if graph.status == 0 else [graph.text.strip(), "-"]
+
+
+def reader_of_words(about: str | None, **more: str) -> argparse.ArgumentParser:
+    """the words that each script takes: a program, and where its table goes"""
+    parser = argparse.ArgumentParser(description=about, formatter_class=argparse.RawDescriptionHelpFormatter)
+    parser.add_argument("program", type=Path, nargs="?", default=BUILT, metavar="PROGRAM",
+                        help="the program that is measured (the one that ./railplan built)")
+    parser.add_argument("--write", action="store_true", help="write the table into bench/results, from which docs/measured.md is made")
+    for name, said in more.items():
+        parser.add_argument(f"--{name}", nargs="*", default=[], help=said)
+    return parser
+
+
+def read_words(parser: argparse.ArgumentParser) -> argparse.Namespace:
+    words = parser.parse_args()
+    if not os.access(words.program, os.X_OK):
+        parser.error(f"{words.program} isn't there; ./railplan draw examples/one.xml builds the program")
+    return words
+
+
+class Table:
+    """A table that is printed row by row, and may be written as CSV."""
+
+    def __init__(self, name: str, head: list[str]) -> None:
+        self.path, self.head = RESULTS / f"{name}.csv", head
+        self.rows: list[list[str]] = []
+        print(f"{os.cpu_count()} processors, {time.strftime('%Y-%m-%d')}")
+        print(f"| {' | '.join(head)} |\n|{'---|' * len(head)}", flush=True)
+
+    def add(self, *cells: object) -> None:
+        row = [f"{cell:.2f}" if isinstance(cell, float) else str(cell) for cell in cells]
+        self.rows.append(row)
+        print(f"| {' | '.join(row)} |", flush=True)
+
+    def end(self, is_written: bool) -> None:
+        if is_written:
+            self.path.parent.mkdir(exist_ok=True)
+            with self.path.open("w", encoding="utf-8", newline="") as text:
+                csv.writer(text, lineterminator="\n").writerows([self.head, *self.rows])
