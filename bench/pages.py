@@ -1,25 +1,30 @@
 #!/usr/bin/env python3
-"""bench/pages.py measure [N] [K] [FOLDER]    asks a browser, Debian's chromium, how the pages of stations come out: N of 43
-                              stations, K of six kinds of page of each, in six namings by turns; FOLDER keeps the pages
-bench/pages.py drive          drives each interaction of each kind of page
-bench/pages.py largest        opens the page of 120 nodes, 158 pieces and 512 signals, and says how long that takes
-bench/pages.py planted        plants wrong lines in a copy of pages/, and says which the tests of the package don't see
-bench/pages.py dxf            has LibreCAD's dxf2pdf print the drawings of some stations
+"""How pages come out in a browser, Debian's chromium.
+
+  measure   asks the browser how the pages of made stations come out, of six kinds, in six namings by turns or in all
+  drive     drives each interaction of each kind of page
+  largest   opens the page of 120 nodes, 158 pieces and 512 signals, and says how long that takes
+  planted   plants wrong lines in a copy of pages/, and says which the tests of the package don't see
+  dxf       has LibreCAD's dxf2pdf print the drawings of some stations
 
 Looked for by `measure` are names that the browser sets on a line, a sign or another text or outside of their picture, signals
 on lines or other signals, letters below 1.8 mm on A3, requests, scripts and elements that no page has, and what is wider than
 a phone. Each ends with the line `N passed, N failed`, and with 1 where one failed."""
 from __future__ import annotations
 
+import argparse
+import contextlib
 import os
 import re
+import shutil
 import subprocess
 import sys
 import tempfile
 import time
 from concurrent.futures import ProcessPoolExecutor
+from functools import partial
 from pathlib import Path
-from typing import Iterator
+from typing import Callable, Iterator
 
 sys.dont_write_bytecode = True
 TOP = Path(__file__).resolve().parent.parent
@@ -152,15 +157,21 @@ def words_of(kind: str, file: Path, folder: Path) -> list[str]:
     return [kind, str(file)] + (["height,width"] if kind == "front" else []) + WORDS[kind]
 
 
-def measured(number: int, folder: Path, count: int) -> list[tuple[str, list[str]]]:
-    """what is wrong with the pages of a station: of so many kinds, each in another naming"""
+def pages_of(number: int, kinds: int, namings: int) -> Iterator[tuple[str, str]]:
+    """the kinds and namings of the pages of a station: by turns, so that all come where there are many stations"""
+    names = list(page_stations.NAMINGS)
+    for at in range(kinds):
+        for turn in range(namings):
+            yield KINDS[(number + at) % len(KINDS)], names[(number // len(KINDS) + number + at + turn) % len(names)]
+
+
+def measured(number: int, folder: Path, kinds: int, namings: int) -> list[tuple[str, list[str]]]:
+    """what is wrong with the pages of a station"""
     name, station = page_stations.STATIONS[number]
     answers = []
     with Browser() as browser:
         tab = Tab(browser)
-        for at in range(count):
-            kind = KINDS[(number + at) % len(KINDS)]
-            naming = list(page_stations.NAMINGS)[(number // len(KINDS) + number + at) % len(page_stations.NAMINGS)]
+        for kind, naming in pages_of(number, kinds, namings):
             stem = f"{name}.{kind}.{naming}".replace(" ", "_")
             file, page = folder / f"{stem}.xml", folder / f"{stem}.html"
             file.write_text(page_stations.file_of(station, naming, 2 if kind == "signals" else 0, number), encoding="utf-8")
@@ -174,14 +185,14 @@ def measured(number: int, folder: Path, count: int) -> list[tuple[str, list[str]
     return answers
 
 
-def measure(words: list[str]) -> list[tuple[str, list[str]]]:
-    count = int(words[0]) if words else len(page_stations.STATIONS)
-    kinds = int(words[1]) if words[1:] else len(KINDS)
-    folder = Path(words[2]) if words[2:] else Path(tempfile.mkdtemp())
-    folder.mkdir(parents=True, exist_ok=True)
+def measure(words: argparse.Namespace) -> list[tuple[str, list[str]]]:
     found = []
-    with ProcessPoolExecutor(max(1, (os.cpu_count() or 2) // 2)) as pool:
-        for answers in pool.map(measured, range(count), [folder] * count, [kinds] * count):
+    with contextlib.ExitStack() as stack:
+        folder = words.folder or Path(stack.enter_context(tempfile.TemporaryDirectory()))
+        folder.mkdir(parents=True, exist_ok=True)
+        pool = stack.enter_context(ProcessPoolExecutor(words.jobs))
+        ask = partial(measured, folder=folder, kinds=words.kinds, namings=words.namings)
+        for answers in pool.map(ask, range(words.first, words.stations)):
             for what, faults in answers:
                 print(f"{what}: " + (f"{faults[0]}, and {len(faults) - 1} more" if faults else "as it is to be"), flush=True)
             found += answers
@@ -191,7 +202,7 @@ def measure(words: list[str]) -> list[tuple[str, list[str]]]:
 # ---- driven
 
 
-def drive(words: list[str]) -> list[tuple[str, list[str]]]:
+def drive(words: argparse.Namespace) -> list[tuple[str, list[str]]]:
     import pages_driven
     found = []
     with tempfile.TemporaryDirectory() as base:
@@ -218,11 +229,11 @@ def drive(words: list[str]) -> list[tuple[str, list[str]]]:
     return found
 
 
-def largest(words: list[str]) -> list[tuple[str, list[str]]]:
+def largest(words: argparse.Namespace) -> list[tuple[str, list[str]]]:
     """the page of as much as a file may have, from a drawing that is written and not searched for"""
     from largest_page import page_text_of_largest
     with tempfile.TemporaryDirectory() as folder, Browser() as browser:
-        page = Path(words[0]) if words else Path(folder) / "largest.html"
+        page = Path(folder) / "largest.html"
         began = time.time()
         page.write_text(page_text_of_largest(), encoding="utf-8")
         made = time.time() - began
@@ -238,12 +249,12 @@ def largest(words: list[str]) -> list[tuple[str, list[str]]]:
     return [("the largest page", slow + big + found)]
 
 
-def planted(words: list[str]) -> list[tuple[str, list[str]]]:
+def planted(words: argparse.Namespace) -> list[tuple[str, list[str]]]:
     import planted_pages
-    return planted_pages.tried(words)
+    return planted_pages.tried()
 
 
-def dxf(words: list[str]) -> list[tuple[str, list[str]]]:
+def dxf(words: argparse.Namespace) -> list[tuple[str, list[str]]]:
     """LibreCAD prints the drawings; a PDF with less than the lines of the drawing would be too small"""
     found = []
     with tempfile.TemporaryDirectory() as base:
@@ -260,11 +271,31 @@ def dxf(words: list[str]) -> list[tuple[str, list[str]]]:
     return found
 
 
-def main(words: list[str]) -> int:
-    todo = {"measure": measure, "drive": drive, "largest": largest, "planted": planted, "dxf": dxf}
-    if not words or words[0] not in todo:
-        sys.exit(__doc__)
-    answers = todo[words[0]](words[1:])
+def read_words() -> argparse.Namespace:
+    parser = argparse.ArgumentParser(description=__doc__, formatter_class=argparse.RawDescriptionHelpFormatter)
+    parser.add_argument("what", choices=list(TODO))
+    count = len(page_stations.STATIONS)
+    parser.add_argument("--first", type=int, default=0, help="measure: leave out so many stations (0)")
+    parser.add_argument("--stations", type=int, default=count, help=f"measure: up to this one ({count})")
+    parser.add_argument("--kinds", type=int, default=len(KINDS), help="measure: kinds of page of each station (6)")
+    parser.add_argument("--namings", type=int, default=1, help="measure: namings of each page, 6 for all (1)")
+    parser.add_argument("--jobs", type=int, default=max(1, (os.cpu_count() or 2) // 2), help="measure: browsers side by side")
+    parser.add_argument("--folder", type=Path, help="measure: a folder that keeps the pages")
+    words = parser.parse_args()
+    if not os.access(PROGRAM, os.X_OK):
+        parser.error(f"{PROGRAM} isn't there; ./railplan draw examples/one.xml builds it")
+    if not shutil.which("chromium"):
+        parser.error("chromium isn't there: Debian's package has the name")
+    return words
+
+
+TODO: dict[str, Callable[[argparse.Namespace], list[tuple[str, list[str]]]]] = {
+    "measure": measure, "drive": drive, "largest": largest, "planted": planted, "dxf": dxf}
+
+
+def main() -> int:
+    words = read_words()
+    answers = TODO[words.what](words)
     for what, faults in answers:
         if faults:
             print(f"{what}: {faults[:3]}")
@@ -274,4 +305,4 @@ def main(words: list[str]) -> int:
 
 
 if __name__ == "__main__":
-    sys.exit(main(sys.argv[1:]))
+    sys.exit(main())

@@ -100,7 +100,7 @@ def plant(base: Path, one: tuple[str, str, str, str, str]) -> tuple[str, list[st
         return what, [] if ran.returncode and failed else ["no test fails"]
 
 
-def tried(words: list[str]) -> list[tuple[str, list[str]]]:
+def tried(words: tuple[str, ...] = ()) -> list[tuple[str, list[str]]]:
     chosen = [one for one in PLANTED if not words or any(word in one[0] for word in words)]
     with tempfile.TemporaryDirectory() as base, ThreadPoolExecutor(2) as pool:
         found = []
