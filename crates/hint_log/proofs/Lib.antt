@@ -1,6 +1,7 @@
 pub mod LeftLemmas
 pub mod NegationLemmas
 pub mod MarksLemmas
+pub mod NotesLemmas
 pub mod HintLemmas
 pub mod VerdictLemmas
 pub mod JudgeLemmas

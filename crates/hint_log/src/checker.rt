@@ -11,6 +11,7 @@ use crate::HintFault;
 use crate::hint_line::{HintLine, Numbers};
 use crate::judging::judge;
 use crate::marks::MarkedLits;
+use crate::notes::Notes;
 use cnf_core::{Clause, Formula, Lit};
 use plan_core::OutOfMemory;
 use refute_log::are_among;
@@ -26,6 +27,7 @@ pub struct HintChecker {
     learnt: Vec<Clause>,
     words: u64,
     marks: MarkedLits,
+    notes: Notes,
     refuted: Vec<Clause>,
 }
 
@@ -56,6 +58,7 @@ impl HintChecker {
             learnt: Vec::new(alloc),
             words,
             marks,
+            notes: Notes::new(alloc),
             refuted: Vec::new(alloc),
         })
     }
@@ -66,7 +69,15 @@ impl HintChecker {
         ensures same { self.new ≡ self.old }
         ensures verdict { IfOk result (IsHintVerdict self.old.clauses (map negate lits.now) hints.now) }
     {
-        let answer = judge(&self.given, &self.learnt, &mut self.marks, lits, hints);
+        self.notes.clear();
+        let answer = judge(
+            &self.given,
+            &self.learnt,
+            &mut self.marks,
+            &mut self.notes,
+            lits,
+            hints,
+        );
         self.marks.clear();
         answer
     }

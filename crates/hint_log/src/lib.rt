@@ -2,10 +2,10 @@
 //!
 //! A line is a clause and the numbers of clauses before it. `HintChecker` accepts exactly the good lines: each clause
 //! that a line names has one literal left, and the last one has none. It reads one table entry for each literal of the
-//! named clauses; a variable that the formula lacks takes a search among such literals. `specs/Hint` says which lines
-//! are good and where a line fails, `specs/Checked` what a checker keeps, `specs/HintedLines` when lines in a row are
-//! good; `laws` says what follows. `judging` goes along a line's hints over the marks of `marks`; `specs/Looks` is for
-//! private contracts.
+//! clauses that a line names, whose literals it goes through once a line; a variable that the formula lacks takes a
+//! search among such literals. `specs/Hint` says which lines are good and where a line fails, `specs/Checked` what a
+//! checker keeps, `specs/HintedLines` when lines in a row are good; `laws` says what follows. `judging` goes along a
+//! line's hints over the marks of `marks` and the notes of `notes`; `specs/Looks` is for private contracts.
 //!
 //! The text has a first line, a line of caps (`capping`) and the hinted lines. `write_hint` writes one, `read_hint`
 //! reads one (`reading`, `cutting`, `numbers`). `specs/HintText` has the texts, `specs/HintForm` and `specs/HintFaults`
@@ -23,6 +23,7 @@ mod judging;
 mod laws;
 mod looks;
 mod marks;
+mod notes;
 mod numbers;
 mod reading;
 mod text_fault;

@@ -1,22 +1,23 @@
 -- What is assumed on a trail, and what is left of it.
 use Rattle.std.proofs.Common.{◌≡◌, ℕ, ◌+◌, ◌-◌, ◌<◌, ◌≤◌, ◌⊎◌, Bool, true, false, None, Some, List, [], ◌∷◌, ◌++◌, suc, zero, length, take, drop, min, get_or, set, map, refl, sym, ◌∙◌, ap, subst, inl, inr, arith, length-take-le, length-append, length-set}
 use Rattle.std.specs.Prelude.{All, Contains, Option, is_some}
+use Rattle.std.proofs.lemmas.Bool.Decides.{eqb_tells}
 use Rattle.std.proofs.lemmas.Bool.{cases_lt, both_ways, false_from_ne_true}
-use Rattle.std.proofs.lemmas.List.{get_or-take, get_or_past, get_or_push, get_or-set_same, take_all, take_at, take-take, take-append-drop}
+use Rattle.std.proofs.lemmas.List.{get_or-take, get_or_past, get_or_push, get_or-set_same, get_or-set_other, take_all, take_at, take-take, take-append-drop}
 use Rattle.std.proofs.lemmas.List.Elements.{All-contains, Contains-get_or, Contains-append_cases, Contains-append_left, Contains-append_right}
 use Rattle.plan_core.proofs.Listing.{Contains-map}
 use Rattle.cnf_core.specs.Lit.{Literal, negate, has, positive_of}
 use Rattle.cnf_core.specs.Clause.{AreDistinct, AreThere}
 use Rattle.cnf_core.specs.Propagation.{IsIn, Includes}
 use Rattle.cnf_core.proofs.PropagationLemmas.{contains_from_has, has_from_contains, contains_later, negate-negate, unit_same}
-use Rattle.cnf_core.proofs.TrailLemmas.{has_front, has_last, there_get}
+use Rattle.cnf_core.proofs.TrailLemmas.{same_literal_or, has_front, has_last, there_get}
 use Rattle.watch_arena.specs.Trail.{Marks, IsUnset, IsValue, IsLonger, undone, opened, with_lit}
 use Rattle.watch_arena.specs.Walk.{IsReasonFor, KeepsReasons}
 use Rattle.watch_arena.specs.Arena.{Attached, AreWatched, AreBecause, IsMoreText, IsSameText, MayBeWatched, attached_at}
 use Rattle.watch_arena.proofs.LevelLemmas.{right_open}
 use Rattle.watch_arena.proofs.WalkLemmas.{unit_keeps}
-use Rattle.log_trim.specs.Found.{HasReasonAt, HaveReasons, IsEmptyTrail, IsOpenTrail, IsAtRest, HasTwoLevels, IsDenying, assumed}
-use Rattle.log_trim.proofs.FoundLemmas.{assumed_low}
+use Rattle.log_trim.specs.Found.{HasReasonAt, HaveReasons, HaveNoReason, IsEmptyTrail, IsOpenTrail, IsAtRest, HasTwoLevels, IsDenying, assumed}
+use Rattle.log_trim.proofs.FoundLemmas.{assumed_low, assumed_later}
 use Rattle.hint_log.proofs.LeftLemmas.{avoids_contained}
 use Rattle.hint_log.proofs.NegationLemmas.{has_negated, negation_fresh}
 
@@ -78,7 +79,23 @@ none_at reasons v = elim (cases_lt v (length reasons)) [
   | inr ge ↦ get_or_past (set reasons v 0) v 0 (let size = length-set reasons v 0 in omega arith)
 ]
 
+-- a variable that has none keeps none where another gets none
+pub none_stays : (reasons : List ℕ) (v w : ℕ) → get_or reasons w 0 ≡ 0 → get_or (set reasons v 0) w 0 ≡ 0
+none_stays reasons v w none = elim (eqb_tells w v) [
+  | inl same ↦ ap (λ x. get_or (set reasons v 0) x 0) same.1 ∙ none_at reasons v
+  | inr other ↦ get_or-set_other reasons v w 0 0 other.1 ∙ none
+]
+
 -- one more literal without a reason
+pub bare_with : (m n : Marks) (l : Literal) (ls : List Literal) → n.reasons ≡ set m.reasons l.var 0 → HaveNoReason m ls → HaveNoReason n (ls ++ l ∷ [])
+bare_with m n l ls reasons h k i = ap (λ (rs : List ℕ). get_or rs k.var 0) reasons ∙ elim (same_literal_or k l) [
+  | inl e ↦ ap (λ (x : Literal). get_or (set m.reasons l.var 0) x.var 0) e ∙ none_at m.reasons l.var
+  | inr ne ↦ none_stays m.reasons l.var k.var (h k (sym (has_front ls l k ne) ∙ i))
+]
+
+pub bare_none : (m : Marks) → HaveNoReason m []
+bare_none m k i = absurd (both_ways (has [] k) refl i)
+
 pub reasons_with : (a : Attached) (m n : Marks) (l : Literal) (given : List Literal) → IsUnset m.lits l → n.lits ≡ m.lits ++ l ∷ [] → n.reasons ≡ set m.reasons l.var 0 → IsIn (has given) l → HaveReasons a m given → HaveReasons a n given
 reasons_with a m n l given unset lits reasons mine h = λ i d lt. elim (cases_lt i (length m.lits)) [
   | inl less ↦ front_kept a a m n given i d (keeps_nothing_new a) less (ap (take (length m.lits)) lits ∙ take_at m.lits (l ∷ []) (length m.lits) refl)
@@ -113,6 +130,10 @@ assuming_grown a b vars lits m n h text longer keeps because front watched = rec
   watched = watched;
   whole = λ k i. longer.keeps k (h.whole k i);
   reasons = reasons_grown a b m n (assumed vars lits) text longer keeps because h.reasons;
+  bare = λ k i.
+      let at = contains_from_has m.lits k (h.whole k (assumed_later vars lits k i)) in
+      let lt = at.1 in
+      subst (λ (x : Literal). get_or n.reasons x.var 0 ≡ 0) at.2 (keeps at.0 k lt ∙ ap (λ (x : Literal). get_or m.reasons x.var 0) at.2 ∙ h.bare k i);
   levels = elim h.levels [
     | inl one ↦ inl (longer.cuts ∙ one)
     | inr two ↦
@@ -221,12 +242,13 @@ idle_more a b vars q m h more places watched = record {
 }
 
 -- the literals of a clause are assumed to be false
-pub assuming_anew : (a : Attached) (vars : ℕ) (lits : List Literal) (m : Marks) → m.vars ≡ a.vars → AreWatched a m → m.lits ≡ assumed vars [] ++ map negate lits → m.cuts ≡ 0 ∷ [] → HaveReasons a m (assumed vars lits) → IsDenying a vars lits m
-assuming_anew a vars lits m vars_are watched is cuts reasons = record {
+pub assuming_anew : (a : Attached) (vars : ℕ) (lits : List Literal) (m : Marks) → m.vars ≡ a.vars → AreWatched a m → m.lits ≡ assumed vars [] ++ map negate lits → m.cuts ≡ 0 ∷ [] → HaveReasons a m (assumed vars lits) → HaveNoReason m (map negate lits) → IsDenying a vars lits m
+assuming_anew a vars lits m vars_are watched is cuts reasons bare = record {
   all_vars = vars_are;
   watched = watched;
   whole = λ k i. subst (λ (ls : List Literal). IsIn (has ls) k) (sym is) i;
   reasons = reasons;
+  bare = bare;
   levels = inl cuts;
 }
 
@@ -236,8 +258,8 @@ apart_unset front lits k unset here there =
     let u : IsUnset front (negate k) = All-contains (λ l. IsUnset front l) lits (negate k) unset (contains_from_has lits (negate k) (sym (has_negated lits k) ∙ there)) in
     both_ways (has front k) (subst (λ (x : Literal). has front x ≡ false) (negate-negate k) u.1) here
 
-pub assuming_above : (a : Attached) (vars : ℕ) (lits : List Literal) (m n : Marks) → IsAtRest a vars m → length m.cuts ≡ 1 → All (λ l. IsUnset m.lits l) lits → n.vars ≡ m.vars → n.lits ≡ m.lits ++ map negate lits → n.cuts ≡ m.cuts ++ length m.lits ∷ [] → n.front ≡ m.front → ((given : List Literal) → Includes (has given) (has (map negate lits)) → HaveReasons a m given → HaveReasons a n given) → AreWatched a n → IsDenying a vars lits n
-assuming_above a vars lits m n h one unset vars_are is cuts front reasons watched = elim h.state [
+pub assuming_above : (a : Attached) (vars : ℕ) (lits : List Literal) (m n : Marks) → IsAtRest a vars m → length m.cuts ≡ 1 → All (λ l. IsUnset m.lits l) lits → n.vars ≡ m.vars → n.lits ≡ m.lits ++ map negate lits → n.cuts ≡ m.cuts ++ length m.lits ∷ [] → n.front ≡ m.front → ((given : List Literal) → Includes (has given) (has (map negate lits)) → HaveReasons a m given → HaveReasons a n given) → HaveNoReason n (map negate lits) → AreWatched a n → IsDenying a vars lits n
+assuming_above a vars lits m n h one unset vars_are is cuts front reasons bare watched = elim h.state [
   | inl empty ↦ let none : length m.cuts ≡ 0 = ap (λ (cs : List ℕ). length cs) empty.cuts in absurd (omega arith)
   | inr level ↦
       let fronted = level.front in
@@ -251,6 +273,7 @@ assuming_above a vars lits m n h one unset vars_are is cuts front reasons watche
           | inr later ↦ has_right m.lits (map negate lits) k later
         ]);
         reasons = reasons (assumed vars lits) (has_right (assumed vars []) (map negate lits)) (reasons_wider a m (assumed vars []) (assumed vars lits) (has_left (assumed vars []) (map negate lits)) level.reasons);
+        bare = bare;
         levels = inr (record {
           start = length m.lits;
           cuts = cuts ∙ ap (λ (cs : List ℕ). cs ++ length m.lits ∷ []) level.cuts;
@@ -374,6 +397,10 @@ assuming_first a vars first others m n h unset e watched =
         ]
       ];
       reasons = reasons_with a m n l given (unset_turned m.lits first l unset refl) lits (ap (λ (x : Marks). x.reasons) e) mine (reasons_wider a m (assumed vars others) given (one_wider vars first others) h.reasons);
+      bare = λ k i. ap (λ (x : Marks). get_or x.reasons k.var 0) e ∙ elim (split_first vars first others k i) [
+        | inl is ↦ ap (λ (x : Literal). get_or (set m.reasons l.var 0) x.var 0) is ∙ none_at m.reasons l.var
+        | inr more ↦ none_stays m.reasons l.var k.var (h.bare k more)
+      ];
       levels = elim h.levels [
         | inl one ↦ inl (cuts ∙ one)
         | inr two ↦

@@ -175,7 +175,7 @@ none_trimmed : (lines : Lines) (missing : Clauses) (kept : HintLines) → IsTrim
 none_trimmed lines missing kept h =
     let all = lines ++ map Formula missing in
     let empty = nothing_kept lines 0 (length lines) (length (flat_map given lines)) h.places kept h.stand h.used in
-    subst (IsTrimmed all []) (sym empty) (record { places = []; stand = (omega arith); all = λ p among. nothing p (Contains [] p) among; used = tt; good = tt })
+    subst (IsTrimmed all []) (sym empty) (record { places = []; stand = (omega arith); all = λ p among. nothing p (Contains [] p) among; used = tt; good = tt; lean = tt })
 
 kept_so : (e : Expectation) (old new : Lines) (wanted : List ℕ) (kept : HintLines) → MayBeTrimmed e old wanted new → Derives new → IsTrimmed new wanted kept → IsKeptOf e old wanted kept
 kept_so e old new wanted kept may d trimmed = elim may.completed [

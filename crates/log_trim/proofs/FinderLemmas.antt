@@ -38,7 +38,7 @@ clauses_named vars all taken a numbers c old = record {
 }
 
 pub finder_more : (all taken : Clauses) (c : List Literal) (f : Finder) → IsFinder all taken f → IsFinder (all ++ c ∷ []) taken f
-finder_more all taken c f h = record { clauses = clauses_named f.vars all taken f.arena f.numbers.items c h.clauses; idle = h.idle; size = h.size }
+finder_more all taken c f h = record { clauses = clauses_named f.vars all taken f.arena f.numbers.items c h.clauses; idle = h.idle; size = h.size; unneeded = h.unneeded }
 
 -- one more clause is taken, which has a number
 module _ (vars : ℕ) (all taken : Clauses) (a b : Attached) (numbers now : List ℕ) (c d : List Literal) (p n : ℕ) (old : AreClauses vars all taken a numbers) (places : b.places ≡ a.places ++ p ∷ []) (clause : attached_at b p ≡ d) (more : IsMoreText a b) (attached : AreAttached b) (padded : IsPadded vars c d) (there : AreThere vars c) (distinct : AreDistinct c) (valid : NamesClause all n) (is : numbered all n ≡ c) (number : (q : ℕ) → number_of_place now q ≡ cond (nat_eq q p) n (number_of_place numbers q)) where

@@ -2,22 +2,25 @@
 use Rattle.std.proofs.Common.{◌≡◌, ℕ, ◌+◌, ◌-◌, ◌<◌, ◌≤◌, ◌⊎◌, Bool, true, false, zero, suc, List, [], ◌∷◌, ◌++◌, length, take, drop, get_or, map, reverse, refl, sym, ◌∙◌, ap, subst, inl, inr, arith, length-take-le}
 use Rattle.std.specs.Prelude.{All, Contains}
 use Rattle.std.proofs.lemmas.Bool.{both_ways, cases_lt, false_from_ne_true}
-use Rattle.std.proofs.lemmas.List.{take_all, get_or-take, get_or_default, get_or-set_other, reverse-append}
+use Rattle.std.proofs.lemmas.List.{take_all, take_more, get_or-take, get_or_default, get_or-set_other, reverse-append}
 use Rattle.std.proofs.lemmas.List.Elements.{All-contains, All-more, All-weaker, Contains-get_or}
 use Rattle.plan_core.proofs.Listing.{Contains-map}
 use Rattle.cnf_core.specs.Lit.{Literal, negate, has, positive_of, negative_of}
 use Rattle.cnf_core.specs.Clause.{Clauses, AreThere, AreDistinct}
 use Rattle.cnf_core.specs.Propagation.{IsIn, Includes, IsUnit, IsClosed, IsClosure, Closure, Falsifies, Rup, negations}
 use Rattle.cnf_core.proofs.PropagationLemmas.{contains_from_has, has_from_contains, contains_later, negate-negate}
-use Rattle.cnf_core.proofs.TrailLemmas.{same_literal_or, has_last, has_front, push_keeps, distinct_consistent, there_get}
+use Rattle.cnf_core.proofs.QuantifierLemmas.{pairs_from_distinct}
+use Rattle.cnf_core.proofs.TrailLemmas.{same_literal_or, has_last, has_front, push_keeps, same_place, distinct_consistent, there_get}
 use Rattle.watch_arena.specs.Walk.{lits_at, IsReasonFor}
 use Rattle.watch_arena.specs.Arena.{Attached, IsClashOf, attached_at, attached_clauses}
 use Rattle.std.proofs.Common.{set, length-set}
 use Rattle.std.proofs.lemmas.Bool.Decides.{eqb_tells}
 use Rattle.std.proofs.lemmas.Grind.{get_or-set_at}
 use Rattle.watch_arena.specs.Trail.{Marks}
-use Rattle.hint_log.specs.Hint.{numbered, NamesClause, LeavesOne, Shows, IsGoodHint}
-use Rattle.log_trim.specs.Found.{IsPadded, number_of_place, HasReasonAt, HaveReasons, AreClauses, IsDenying, IsUnfalsifiedEnd, is_needed, HasNeeded, ShowsFromFront, NeedsWithin, assumed}
+use Rattle.hint_log.specs.Hint.{numbered, NamesClause, LeavesOne, Shows}
+use Rattle.log_trim.specs.Trimmed.{IsInNamed, AreLean}
+use Rattle.log_trim.specs.Found.{IsPadded, number_of_place, HasReasonAt, HaveReasons, AreClauses, IsDenying, IsUnfalsifiedEnd, is_needed, NoneNeeded, HasNeeded, HasAssumed, HasVar, ShowsFromFront, IsBefore, AreNeededByHints, AreLeanFromFront, IsFoundFromFront, IsLeanHint, NeedsWithin, assumed}
+use Rattle.log_trim.proofs.LeanLemmas.{needed_within, lean_more, named_first, named_later, front_within}
 use Rattle.hint_log.proofs.LeftLemmas.{IsFalse, IsOneOrFalse, left_one, left_none}
 use Rattle.hint_log.proofs.NegationLemmas.{has_negated}
 
@@ -31,12 +34,6 @@ shows_more clauses set n l hints one s = record {
   leads = (l, one, s.leads);
   none = s.none;
 }
-
--- what is needed is within the table
-pub needed_within : (needed : List Bool) (x : ℕ) → is_needed needed x ≡ true → x < length needed
-needed_within [] x h = cc
-needed_within (b ∷ needed) zero h = omega arith
-needed_within (b ∷ needed) (suc x) h = let lt = needed_within needed x h in omega (arith, lt)
 
 -- a literal of the front of the trail that is needed
 in_set : (trail : List Literal) (i : ℕ) (needed : List Bool) (set : List Literal) (k : Literal) → i ≤ length trail → HasNeeded trail i needed set → IsIn (has (take i trail)) k → is_needed needed k.var ≡ true → IsIn (has set) k
@@ -85,8 +82,8 @@ needs_clause vars c d needed more padded there size need = λ j e lt.
     All-contains (λ (x : Literal). x.var < length more → is_needed more x.var ≡ true) d k need.each (padded.whole k (Contains-get_or c j e lt)) (omega (arith, low, size))
 
 -- the clause whose literals are all false is the last hint
-pub go_first : (clauses : Clauses) (vars : ℕ) (m : Marks) (n : ℕ) (d : List Literal) (more : List Bool) → NamesClause clauses n → IsPadded vars (numbered clauses n) d → All (IsFalse (has m.lits)) d → All (λ k. is_needed more k.var ≡ true) (numbered clauses n) → ShowsFromFront clauses vars m (length m.lits) more (n ∷ [])
-go_first clauses vars m n d more number padded all need = λ set within given needs.
+shows_first : (clauses : Clauses) (vars : ℕ) (m : Marks) (n : ℕ) (d : List Literal) (more : List Bool) → NamesClause clauses n → IsPadded vars (numbered clauses n) d → All (IsFalse (has m.lits)) d → All (λ k. is_needed more k.var ≡ true) (numbered clauses n) → ShowsFromFront clauses vars m (length m.lits) more (n ∷ [])
+shows_first clauses vars m n d more number padded all need = λ set within given needs.
     let whole : All (IsFalse (has (take (length m.lits) m.lits))) d = subst (λ (ls : List Literal). All (IsFalse (has ls)) d) (sym (take_all (length m.lits) m.lits (omega arith))) all in
     record {
       front = [];
@@ -97,26 +94,144 @@ go_first clauses vars m n d more number padded all need = λ set within given ne
       none = record { number = number; none = left_none (has set) (numbered clauses n) (falsified m.lits (length m.lits) more set (omega arith) needs vars (numbered clauses n) d padded need whole) };
     }
 
+-- a literal of a named clause whose variable is that of a literal of the trail is its negation
+named_negation : (trail : List Literal) (vars : ℕ) (c d : List Literal) (t k : Literal) → AreDistinct trail → Contains trail t → Contains d k → k.var ≡ t.var → t.var ≤ vars → IsPadded vars c d → Contains trail (negate k) → Contains c (negate t)
+named_negation trail vars c d t k distinct on among var low padded turned =
+    let same : negate k ≡ t = same_place trail (negate k) t distinct turned on var in
+    let is : k ≡ negate t = sym (negate-negate k) ∙ ap negate same in
+    subst (λ (x : Literal). Contains c x) is (not_further vars c d k (subst (λ x. x ≤ vars) (sym var) low) padded among)
+
+pub go_first : (clauses : Clauses) (vars : ℕ) (m : Marks) (n : ℕ) (d : List Literal) (needed more : List Bool) → AreDistinct m.lits → NamesClause clauses n → IsPadded vars (numbered clauses n) d → All (IsFalse (has m.lits)) d → All (λ k. is_needed more k.var ≡ true) (numbered clauses n) → NoneNeeded needed → length more ≡ vars + 1 → NeedsWithin d needed more → IsFoundFromFront clauses vars m (length m.lits) more (n ∷ [])
+go_first clauses vars m n d needed more distinct number padded all need none size within_d = record {
+  shows = shows_first clauses vars m n d more number padded all need;
+  named = λ j e below mark.
+      let t = get_or m.lits j e in
+      let low : t.var ≤ vars = let lt = needed_within more t.var mark in omega (arith, lt, size) in
+      elim (within_d.only t.var mark) [
+        | inl before ↦ absurd (both_ways (is_needed needed t.var) (none t.var) before)
+        | inr var ↦
+            let among : Contains d var.1 = (var.0, var.2, var.3) in
+            named_first clauses (negate t) n [] (named_negation m.lits vars (numbered clauses n) d t var.1 distinct (Contains-get_or m.lits j e below) among var.4 low padded (contains_from_has m.lits (negate var.1) (All-contains (IsFalse (has m.lits)) d var.1 all among)))
+      ];
+  lean = λ set within given needs before. tt;
+}
+
 -- the reason of a literal that is needed is the next hint
-pub go_on : (clauses : Clauses) (vars : ℕ) (m : Marks) (i : ℕ) (l : Literal) (n : ℕ) (d : List Literal) (needed more : List Bool) (hints : List ℕ) → i < length m.lits → get_or m.lits i l ≡ l → AreDistinct m.lits → NamesClause clauses n → AreDistinct (numbered clauses n) → IsPadded vars (numbered clauses n) d → IsUnit (has (take i m.lits)) d l → l.var ≤ vars → All (λ k. is_needed more k.var ≡ true) (numbered clauses n) → ((x : ℕ) → is_needed needed x ≡ true → is_needed more x ≡ true) → ShowsFromFront clauses vars m (i + 1) needed hints → ShowsFromFront clauses vars m i more (hints ++ n ∷ [])
-go_on clauses vars m i l n d needed more hints lt is distinct number distinct_c padded unit low need keeps rest = λ set within given needs.
-    let c = numbered clauses n in
-    let here : IsIn (has m.lits) l = has_from_contains m.lits l (i, lt, is) in
-    let open_ : has set (negate l) ≡ false = false_from_ne_true (has set (negate l)) (λ h. distinct_consistent m.lits distinct l here (within (negate l) h)) in
-    let one : LeavesOne clauses (has set) n l = record {
-      number = number;
-      one = left_one (has set) c l distinct_c (record { among = not_further vars c d l low padded unit.among; others = others m.lits i more set (omega arith) needs vars c d l padded need unit.others }) open_;
-    } in
-    let now : Includes (has m.lits) (has (set ++ l ∷ [])) = λ k h. elim (same_literal_or k l) [
-      | inl e ↦ subst (λ (x : Literal). IsIn (has m.lits) x) (sym e) here
-      | inr ne ↦ within k (sym (has_front set l k ne) ∙ h)
-    ] in
-    let further : HasNeeded m.lits (i + 1) needed (set ++ l ∷ []) = λ j e below mark. elim (cases_lt j i) [
-      | inl less ↦ push_keeps set l (get_or m.lits j e) (needs j e less (keeps (get_or m.lits j e).var mark))
-      | inr ge ↦ subst (λ (x : Literal). IsIn (has (set ++ l ∷ [])) x) (sym (next_is m.lits i j l e lt is below ge)) (has_last set l)
-    ] in
-    subst (λ (ns : List ℕ). Shows clauses set ns) (sym (reverse-append hints (n ∷ [])))
-    (shows_more clauses set n l (reverse hints) one (rest (set ++ l ∷ []) now (λ j e below none within_vars. push_keeps set l (get_or m.lits j e) (given j e below none within_vars)) further))
+module _ (clauses : Clauses) (vars : ℕ) (m : Marks) (i : ℕ) (l : Literal) (n : ℕ) (d : List Literal) (needed more : List Bool) (hints : List ℕ) (lt : i < length m.lits) (is : get_or m.lits i l ≡ l) (distinct : AreDistinct m.lits) (number : NamesClause clauses n) (distinct_c : AreDistinct (numbered clauses n)) (padded : IsPadded vars (numbered clauses n) d) (unit : IsUnit (has (take i m.lits)) d l) (low : l.var ≤ vars) (need : All (λ k. is_needed more k.var ≡ true) (numbered clauses n)) (within_d : NeedsWithin d needed more) (size : length more ≡ vars + 1) (mine : is_needed needed l.var ≡ true) (reason : 1 ≤ get_or m.reasons l.var 0) where
+  on_trail : IsIn (has m.lits) l
+  on_trail = has_from_contains m.lits l (i, lt, is)
+
+  leaves_here : (set : List Literal) → Includes (has m.lits) (has set) → HasNeeded m.lits i more set → LeavesOne clauses (has set) n l
+  leaves_here set within needs =
+      let c = numbered clauses n in
+      let open_ : has set (negate l) ≡ false = false_from_ne_true (has set (negate l)) (λ h. distinct_consistent m.lits distinct l on_trail (within (negate l) h)) in
+      record {
+        number = number;
+        one = left_one (has set) c l distinct_c (record { among = not_further vars c d l low padded unit.among; others = others m.lits i more set (omega arith) needs vars c d l padded need unit.others }) open_;
+      }
+
+  wider_now : (set : List Literal) → Includes (has m.lits) (has set) → Includes (has m.lits) (has (set ++ l ∷ []))
+  wider_now set within k h = elim (same_literal_or k l) [
+    | inl e ↦ subst (λ (x : Literal). IsIn (has m.lits) x) (sym e) on_trail
+    | inr ne ↦ within k (sym (has_front set l k ne) ∙ h)
+  ]
+
+  given_now : (set : List Literal) → HasAssumed vars m set → HasAssumed vars m (set ++ l ∷ [])
+  given_now set given j e below none within_vars = push_keeps set l (get_or m.lits j e) (given j e below none within_vars)
+
+  needed_now : (set : List Literal) → HasNeeded m.lits i more set → HasNeeded m.lits (i + 1) needed (set ++ l ∷ [])
+  needed_now set needs j e below mark = elim (cases_lt j i) [
+    | inl less ↦ push_keeps set l (get_or m.lits j e) (needs j e less (within_d.keeps (get_or m.lits j e).var mark))
+    | inr ge ↦ subst (λ (x : Literal). IsIn (has (set ++ l ∷ [])) x) (sym (next_is m.lits i j l e lt is below ge)) (has_last set l)
+  ]
+
+  shows_on : ShowsFromFront clauses vars m (i + 1) needed hints → ShowsFromFront clauses vars m i more (hints ++ n ∷ [])
+  shows_on rest = λ set within given needs.
+      subst (λ (ns : List ℕ). Shows clauses set ns) (sym (reverse-append hints (n ∷ [])))
+      (shows_more clauses set n l (reverse hints) (leaves_here set within needs) (rest (set ++ l ∷ []) (wider_now set within) (given_now set given) (needed_now set needs)))
+
+  -- the literal isn't on the trail before its place
+  not_before : IsIn (has (take i m.lits)) l → ⊥
+  not_before h =
+      let at = contains_from_has (take i m.lits) l h in
+      let less = at.1 in
+      let count : length (take i m.lits) ≡ i = length-take-le i m.lits (omega arith) in
+      let below : at.0 < i = omega (arith, less, count) in
+      let there : get_or m.lits at.0 l ≡ l = sym (get_or-take i m.lits at.0 l below) ∙ at.2 in
+      pairs_from_distinct m.lits distinct at.0 i l below lt (ap (λ (x : Literal). x.var) (there ∙ sym is))
+
+  named_on : AreNeededByHints clauses m.lits (i + 1) needed hints → AreNeededByHints clauses m.lits i more (hints ++ n ∷ [])
+  named_on h = λ j e below mark.
+      let t = get_or m.lits j e in
+      let t_low : t.var ≤ vars = let within = needed_within more t.var mark in omega (arith, within, size) in
+      subst (λ (ns : List ℕ). IsInNamed clauses (negate t) ns) (sym (reverse-append hints (n ∷ [])))
+      (elim (within_d.only t.var mark) [
+        | inl before ↦ named_later clauses (negate t) n (reverse hints) (h j e (omega (arith, below)) before)
+        | inr var ↦
+            let k = var.1 in
+            let among : Contains d k = (var.0, var.2, var.3) in
+            named_first clauses (negate t) n (reverse hints) (elim (All-contains (IsOneOrFalse (has (take i m.lits)) l) d k unit.others among) [
+              | inl same ↦ absurd (pairs_from_distinct m.lits distinct j i e below lt (sym var.4 ∙ ap (λ (x : Literal). x.var) (same ∙ sym is ∙ sym (get_or_default m.lits i e l lt))))
+              | inr f ↦ named_negation m.lits vars (numbered clauses n) d t k distinct (Contains-get_or m.lits j e (omega (arith, below, lt))) among var.4 t_low padded (front_within m.lits i (negate k) (omega (arith, lt)) f)
+            ])
+      ])
+
+  -- the front of the trail with the literal
+  up_to_here : take (i + 1) m.lits ≡ take i m.lits ++ l ∷ []
+  up_to_here = take_more m.lits i l lt ∙ ap (λ (x : Literal). take i m.lits ++ x ∷ []) is
+
+  before_now : (set : List Literal) → IsBefore m i set → IsBefore m (i + 1) (set ++ l ∷ [])
+  before_now set before k h = elim (same_literal_or k l) [
+    | inl e ↦ inl (subst (λ (ls : List Literal). IsIn (has ls) k) (sym up_to_here) (subst (λ (x : Literal). IsIn (has (take i m.lits ++ l ∷ [])) x) (sym e) (has_last (take i m.lits) l)))
+    | inr ne ↦ elim (before k (sym (has_front set l k ne) ∙ h)) [
+      | inl front ↦ inl (subst (λ (ls : List Literal). IsIn (has ls) k) (sym up_to_here) (push_keeps (take i m.lits) l k front))
+      | inr none ↦ inr none
+    ]
+  ]
+
+  is_new : (set : List Literal) → IsBefore m i set → has set l ≡ false
+  is_new set before = false_from_ne_true (has set l) (λ h. elim (before l h) [
+    | inl front ↦ not_before front
+    | inr none ↦ omega (arith, none, reason)
+  ])
+
+  lean_on : IsFoundFromFront clauses vars m (i + 1) needed hints → AreLeanFromFront clauses vars m i more (hints ++ n ∷ [])
+  lean_on rest = λ set within given needs before.
+      let named : IsInNamed clauses (negate l) (reverse hints) =
+      subst (λ (x : Literal). IsInNamed clauses (negate x) (reverse hints)) is (rest.named i l (omega arith) (subst (λ (x : Literal). is_needed needed x.var ≡ true) (sym is) mine)) in
+      subst (λ (ns : List ℕ). AreLean clauses set ns) (sym (reverse-append hints (n ∷ [])))
+      (lean_more clauses set n l (reverse hints) (leaves_here set within needs) (is_new set before) named (rest.lean (set ++ l ∷ []) (wider_now set within) (given_now set given) (needed_now set needs) (before_now set before)))
+
+  pub go_on : IsFoundFromFront clauses vars m (i + 1) needed hints → IsFoundFromFront clauses vars m i more (hints ++ n ∷ [])
+  go_on rest = record { shows = shows_on rest.shows; named = named_on rest.named; lean = lean_on rest }
+
+-- a literal that isn't needed, or has no reason, is passed over
+module _ (clauses : Clauses) (vars : ℕ) (m : Marks) (i : ℕ) (l : Literal) (needed : List Bool) (hints : List ℕ) (lt : i < length m.lits) (is : get_or m.lits i l ≡ l) where
+  go_past : ((set : List Literal) → HasAssumed vars m set → HasNeeded m.lits i needed set → HasNeeded m.lits (i + 1) needed set) → IsFoundFromFront clauses vars m (i + 1) needed hints → IsFoundFromFront clauses vars m i needed hints
+  go_past further rest = record {
+    shows = λ set within given needs. rest.shows set within given (further set given needs);
+    named = λ j e below mark. rest.named j e (omega (arith, below)) mark;
+    lean = λ set within given needs before. rest.lean set within given (further set given needs) (λ k h. elim (before k h) [
+      | inl front ↦ inl (subst (λ (ls : List Literal). IsIn (has ls) k) (sym (take_more m.lits i l lt)) (push_keeps (take i m.lits) (get_or m.lits i l) k front))
+      | inr none ↦ inr none
+    ]);
+  }
+
+  pub past_unneeded : is_needed needed l.var ≡ false → IsFoundFromFront clauses vars m (i + 1) needed hints → IsFoundFromFront clauses vars m i needed hints
+  past_unneeded unneeded = go_past (λ set given needs j e below mark. elim (cases_lt j i) [
+    | inl less ↦ needs j e less mark
+    | inr ge ↦ absurd (both_ways (is_needed needed l.var) unneeded (subst (λ (x : Literal). is_needed needed x.var ≡ true) (next_is m.lits i j l e lt is below ge) mark))
+  ])
+
+  pub past_bare : get_or m.reasons l.var 0 ≡ 0 → length needed ≡ vars + 1 → IsFoundFromFront clauses vars m (i + 1) needed hints → IsFoundFromFront clauses vars m i needed hints
+  past_bare bare size = go_past (λ set given needs j e below mark. elim (cases_lt j i) [
+    | inl less ↦ needs j e less mark
+    | inr ge ↦
+        let t = get_or m.lits j e in
+        let same : t ≡ l = next_is m.lits i j l e lt is below ge in
+        let low : t.var ≤ vars = let within = needed_within needed t.var mark in omega (arith, within, size) in
+        given j e (omega (arith, below, lt)) (ap (λ (x : Literal). get_or m.reasons x.var 0) same ∙ bare) low
+  ])
 
 -- one of what is assumed is of a further variable or the negation of a literal of the clause
 assumed_at : (vars : ℕ) (ls : List Literal) (k : Literal) (j : ℕ) → j < length ls + 2 → get_or (positive_of (vars + 1) ∷ positive_of (vars + 2) ∷ ls) j k ≡ k → k.var ≤ vars → Contains ls k
@@ -139,15 +254,24 @@ no_reason vars all taken a numbers before l p clauses r e =
     let from = known.from in
     omega (arith, from, e)
 
--- from the negations of the clause's literals the hints show what they have to
-pub go_done : (vars : ℕ) (all taken : Clauses) (a : Attached) (numbers : List ℕ) (m : Marks) (lits : List Literal) (needed : List Bool) (hints : List ℕ) → AreClauses vars all taken a numbers → IsDenying a vars lits m → ShowsFromFront all vars m 0 needed hints → IsGoodHint all lits (reverse hints)
-go_done vars all taken a numbers m lits needed hints clauses assuming h = h (map negate lits)
-    (λ k i. assuming.whole k (assumed_later vars lits k i))
-    (λ j d lt none low. elim (assuming.reasons j d lt) [
+-- from the negations of the clause's literals the hints show what they have to, and are lean
+pub go_done : (vars : ℕ) (all taken : Clauses) (a : Attached) (numbers : List ℕ) (m : Marks) (lits : List Literal) (needed : List Bool) (hints : List ℕ) → AreClauses vars all taken a numbers → IsDenying a vars lits m → IsFoundFromFront all vars m 0 needed hints → IsLeanHint all lits (reverse hints)
+go_done vars all taken a numbers m lits needed hints clauses assuming h = record {
+  good = h.shows (map negate lits) whole given needs;
+  lean = h.lean (map negate lits) whole given needs (λ k i. inr (assuming.bare k i));
+}
+  where
+    whole : Includes (has m.lits) (has (map negate lits))
+    whole k i = assuming.whole k (assumed_later vars lits k i)
+
+    given : HasAssumed vars m (map negate lits)
+    given j d lt none low = elim (assuming.reasons j d lt) [
       | inl r ↦ absurd (no_reason vars all taken a numbers (take j m.lits) (get_or m.lits j d) (get_or m.reasons (get_or m.lits j d).var 0) clauses r none)
       | inr g ↦ assumed_low vars lits (get_or m.lits j d) g.1 low
-    ])
-    (λ j d lt mark. absurd (omega arith))
+    ]
+
+    needs : HasNeeded m.lits 0 needed (map negate lits)
+    needs j d lt mark = absurd (omega arith)
 
 -- what is propagated to its end falsifies none of the clauses that were taken
 module _ (vars : ℕ) (all taken : Clauses) (a : Attached) (numbers : List ℕ) (lits from to : List Literal) (clauses : AreClauses vars all taken a numbers) (start : Includes (has from) (has (assumed vars lits))) (closure : IsClosure (attached_clauses a) (has from) (has to)) where
@@ -272,14 +396,29 @@ module _ (vars : ℕ) (all taken : Clauses) (a : Attached) (numbers : List ℕ) 
             trail_follows (negate k) (All-contains (IsFalse (has m.lits)) (attached_at a p) k clash.all_false (padded.whole k (Contains-get_or c j e lt))) (there_get vars c j e lt held.there).1;
       }
 
-pub needs_more : (lits : List Literal) (i : ℕ) (l : Literal) (old mid new : List Bool) → i < length lits → get_or lits i l ≡ l → length new ≡ length mid → ((x : ℕ) → is_needed mid x ≡ true → is_needed new x ≡ true) → (l.var < length new → is_needed new l.var ≡ true) → NeedsWithin (take i lits) old mid → NeedsWithin (take (i + 1) lits) old new
-needs_more lits i l old mid new within at size keeps mine h = record {
+pub needs_more : (lits : List Literal) (i : ℕ) (l : Literal) (old mid new : List Bool) → i < length lits → get_or lits i l ≡ l → length new ≡ length mid → ((x : ℕ) → is_needed mid x ≡ true → is_needed new x ≡ true) → (l.var < length new → is_needed new l.var ≡ true) → ((x : ℕ) → is_needed new x ≡ true → (is_needed mid x ≡ true) ⊎ (l.var ≡ x)) → NeedsWithin (take i lits) old mid → NeedsWithin (take (i + 1) lits) old new
+needs_more lits i l old mid new within at size keeps mine only h = record {
   size = size ∙ h.size;
   keeps = λ x m. keeps x (h.keeps x m);
+  only = λ x m. elim (only x m) [
+    | inl before ↦ elim (h.only x before) [
+      | inl first ↦ inl first
+      | inr var ↦ inr (var_later var)
+    ]
+    | inr here ↦ inr (i, l, (let count = length-take-le (i + 1) lits (omega (arith, within)) in omega (arith, count)), get_or-take (i + 1) lits i l (omega arith) ∙ at, here)
+  ];
   each = All-more (λ k. k.var < length new → is_needed new k.var ≡ true) lits i l within
       (All-weaker (λ k. k.var < length mid → is_needed mid k.var ≡ true) (λ k. k.var < length new → is_needed new k.var ≡ true) (λ k m lt. keeps k.var (m (omega (arith, lt, size)))) (take i lits) h.each)
       (subst (λ (k : Literal). k.var < length new → is_needed new k.var ≡ true) (sym at) mine);
 }
+  where
+    var_later : {x : ℕ} → HasVar (take i lits) x → HasVar (take (i + 1) lits) x
+    var_later v =
+        let count : length (take i lits) ≡ i = length-take-le i lits (omega (arith, within)) in
+        let more : length (take (i + 1) lits) ≡ i + 1 = length-take-le (i + 1) lits (omega (arith, within)) in
+        let lt = v.2 in
+        let below : v.0 < i = omega (arith, lt, count) in
+        (v.0, v.1, omega (arith, below, more), get_or-take (i + 1) lits v.0 v.1 (omega (arith, below)) ∙ sym (get_or-take i lits v.0 v.1 below) ∙ v.3, v.4)
 
 -- the reason of a literal of the trail
 pub reason_at : (a : Attached) (m : Marks) (given : List Literal) (i : ℕ) (l : Literal) (v p : ℕ) → HaveReasons a m given → i < length m.lits → get_or m.lits i l ≡ l → v ≡ l.var → get_or m.reasons v 0 ≡ p → 1 ≤ get_or m.reasons v 0 → IsReasonFor a.words a.places (take i m.lits) l p

@@ -1,11 +1,11 @@
 -- Hinted lines of a log, one after another.
-use Rattle.std.proofs.Common.{◌≡◌, ℕ, ◌+◌, ◌≤◌, max, Bool, true, false, List, [], ◌∷◌, ◌++◌, length, take, Some, refl, sym, ◌∙◌, ap, subst, inl, inr, arith, append-nil, length-append}
+use Rattle.std.proofs.Common.{◌≡◌, ℕ, ◌+◌, ◌≤◌, max, Bool, true, false, List, [], ◌∷◌, ◌++◌, length, take, Some, refl, sym, ◌∙◌, ap, subst, inl, inr, arith, append-nil, length-append, map}
 use Rattle.std.specs.Prelude.{All, Contains, slice_get, flat_map}
 use Rattle.std.proofs.lemmas.Bool.{cases_lt, both_ways}
 use Rattle.std.proofs.lemmas.List.{take_more, take_all}
 use Rattle.std.proofs.lemmas.List.Elements.{Contains-append_left, Contains-push, All-more, All-weaker}
 use Rattle.std.proofs.lemmas.Option.{slice_get_within, get_or_from_slice_get}
-use Rattle.cnf_core.specs.Lit.{Literal}
+use Rattle.cnf_core.specs.Lit.{Literal, negate}
 use Rattle.cnf_core.specs.Clause.{Clauses}
 use Rattle.cnf_core.proofs.ClauseLemmas.{there_more}
 use Rattle.refute_log.specs.declared.line.LogLine.{LogLine}
@@ -14,11 +14,13 @@ use Rattle.refute_log.specs.Told.{Lines}
 use Rattle.refute_log.specs.Log.{given, learnt}
 use Rattle.hint_log.specs.declared.hint_line.HintLine.{HintLine}
 use Rattle.hint_log.specs.declared.hint_line.HintLine.TheVariants.{Learnt, Refuted}
-use Rattle.hint_log.specs.Hint.{IsGood, IsGoodHint}
+use Rattle.hint_log.specs.Hint.{shown_lits, hints_of, IsGood}
 use Rattle.hint_log.specs.Checked.{clauses_learnt}
 use Rattle.hint_log.specs.HintedLines.{HintLines, line_of, AreGood}
 use Rattle.hint_log.proofs.HintedLinesLemmas.{good_more}
-use Rattle.log_trim.specs.Trimmed.{IsLineAt, StandAt, AreRefutedLines}
+use Rattle.log_trim.specs.Trimmed.{IsLineAt, StandAt, AreLean, HaveLeanHints, AreRefutedLines}
+use Rattle.log_trim.specs.Found.{IsLeanHint}
+use Rattle.log_trim.proofs.LeanLemmas.{lean_line_more}
 use Rattle.log_trim.specs.Hinting.{IsHinted, IsLineWithin, nameable}
 use Rattle.refute_log.proofs.LogLemmas.{flat_map_last}
 
@@ -68,13 +70,17 @@ hinted_none lines wanted answer f = record {
   stand = subst (λ (hs : HintLines). StandAt lines wanted 0 0 [] hs) (sym f) (omega arith);
   all = λ p among lt. absurd (omega (arith, lt));
   good = subst (λ (hs : HintLines). AreGood (flat_map given lines) hs) (sym f) tt;
+  lean = subst (λ (hs : HintLines). HaveLeanHints (flat_map given lines) hs) (sym f) tt;
 }
 
 good_here : (lines : Lines) (wanted : List ℕ) (i : ℕ) (answer : HintLines) (line : HintLine) → IsHinted lines wanted i answer → IsGood (nameable lines i) line → AreGood (flat_map given lines) (answer ++ line ∷ [])
 good_here lines wanted i answer line h g = good_more (flat_map given lines) answer line h.good (subst (λ (cs : Clauses). IsGood (flat_map given lines ++ cs) line) (sym h.learnt_are) g)
 
+lean_here : (lines : Lines) (wanted : List ℕ) (i : ℕ) (answer : HintLines) (line : HintLine) → IsHinted lines wanted i answer → AreLean (nameable lines i) (map negate (shown_lits line)) (hints_of line) → HaveLeanHints (flat_map given lines) (answer ++ line ∷ [])
+lean_here lines wanted i answer line h v = lean_line_more (flat_map given lines) answer line h.lean (subst (λ (cs : Clauses). AreLean (flat_map given lines ++ cs) (map negate (shown_lits line)) (hints_of line)) (sym h.learnt_are) v)
+
 -- one more hinted line, of the line at a place
-hinted_here : (lines : Lines) (wanted : List ℕ) (i : ℕ) (answer : HintLines) (line : HintLine) → clauses_learnt line ≡ learnt (line_of line) → IsLineAt lines wanted i line → IsHinted lines wanted i answer → IsGood (nameable lines i) line → IsHinted lines wanted (i + 1) (answer ++ line ∷ [])
+hinted_here : (lines : Lines) (wanted : List ℕ) (i : ℕ) (answer : HintLines) (line : HintLine) → clauses_learnt line ≡ learnt (line_of line) → IsLineAt lines wanted i line → IsHinted lines wanted i answer → IsLeanHint (nameable lines i) (shown_lits line) (hints_of line) → IsHinted lines wanted (i + 1) (answer ++ line ∷ [])
 hinted_here lines wanted i answer line same at h g = record {
   learnt_are = flat_map_last clauses_learnt answer line ∙ ap (λ (cs : Clauses). cs ++ clauses_learnt line) h.learnt_are ∙ ap (λ (cs : Clauses). flat_map learnt (take i lines) ++ cs) same ∙ sym (gathered_next learnt lines i (line_of line) at.there);
   places = h.places ++ i ∷ [];
@@ -85,13 +91,14 @@ hinted_here lines wanted i answer line same at h g = record {
         let same_place : p ≡ i = omega arith in
         subst (λ q. Contains (h.places ++ i ∷ []) q) (sym same_place) (Contains-push h.places i)
   ];
-  good = good_here lines wanted i answer line h g;
+  good = good_here lines wanted i answer line h g.good;
+  lean = lean_here lines wanted i answer line h g.lean;
 }
 
-pub hinted_learnt : (lines : Lines) (wanted : List ℕ) (i : ℕ) (answer now : HintLines) (c : List Literal) (hints : List ℕ) → slice_get lines i ≡ Some (LearntLine c) → IsHinted lines wanted i answer → IsGoodHint (nameable lines i) c hints → now ≡ answer ++ Learnt c hints ∷ [] → IsHinted lines wanted (i + 1) now
+pub hinted_learnt : (lines : Lines) (wanted : List ℕ) (i : ℕ) (answer now : HintLines) (c : List Literal) (hints : List ℕ) → slice_get lines i ≡ Some (LearntLine c) → IsHinted lines wanted i answer → IsLeanHint (nameable lines i) c hints → now ≡ answer ++ Learnt c hints ∷ [] → IsHinted lines wanted (i + 1) now
 hinted_learnt lines wanted i answer now c hints e h good is = subst (λ (hs : HintLines). IsHinted lines wanted (i + 1) hs) (sym is) (hinted_here lines wanted i answer (Learnt c hints) refl (record { there = e; asked = tt }) h good)
 
-pub hinted_refuted : (lines : Lines) (wanted : List ℕ) (i : ℕ) (answer now : HintLines) (c : List Literal) (hints : List ℕ) → Contains wanted i → slice_get lines i ≡ Some (RefutedLine c) → IsHinted lines wanted i answer → IsGoodHint (nameable lines i) c hints → now ≡ answer ++ Refuted c hints ∷ [] → IsHinted lines wanted (i + 1) now
+pub hinted_refuted : (lines : Lines) (wanted : List ℕ) (i : ℕ) (answer now : HintLines) (c : List Literal) (hints : List ℕ) → Contains wanted i → slice_get lines i ≡ Some (RefutedLine c) → IsHinted lines wanted i answer → IsLeanHint (nameable lines i) c hints → now ≡ answer ++ Refuted c hints ∷ [] → IsHinted lines wanted (i + 1) now
 hinted_refuted lines wanted i answer now c hints asked e h good is = subst (λ (hs : HintLines). IsHinted lines wanted (i + 1) hs) (sym is) (hinted_here lines wanted i answer (Refuted c hints) refl (record { there = e; asked = asked }) h good)
 
 -- a line that is neither a Learnt line nor wanted
@@ -107,6 +114,7 @@ hinted_past lines wanted i answer line e none not_wanted h = record {
         absurd (not_wanted (subst (λ q. Contains wanted q) same_place among))
   ];
   good = h.good;
+  lean = h.lean;
 }
 
 -- a line that is neither a Learnt nor a Refuted line

@@ -18,8 +18,8 @@ use Rattle.refute_log.proofs.LogLemmas.{derives_none, derives_more}
 use Rattle.refute_check.specs.Kept.{IsKnownClause}
 use Rattle.refute_check.specs.Timely.{AreTimely}
 use Rattle.hint_log.specs.declared.hint_line.HintLine.TheVariants.{Learnt as HintLearnt}
-use Rattle.hint_log.specs.Hint.{numbered, NamesClause, IsGoodHint}
-use Rattle.log_trim.specs.Found.{IsFinder, ShowsOrNone, ShowsNewOrNone}
+use Rattle.hint_log.specs.Hint.{numbered, NamesClause}
+use Rattle.log_trim.specs.Found.{IsFinder, IsLeanHint, ShowsOrNone, ShowsNewOrNone}
 use Rattle.log_trim.specs.declared.finder.Finder.{Finder}
 use Rattle.log_trim.specs.declared.hint_trimming.Hinting.{Hinting}
 use Rattle.hint_log.specs.HintedLines.{HintLines}
@@ -173,7 +173,7 @@ learnt_fails lines wanted i c answer h e old found is derives =
     let unshown : ShowsNewOrNone (nameable lines i) taken c None = subst (ShowsNewOrNone (nameable lines i) taken c) is (found (nameable lines i) taken old.finder) in
     not_known taken c stands.says_more (unshown stands.implied)
 
-pub took_refuted : (lines : Lines) (wanted : List ℕ) (i : ℕ) (c : List Literal) (answer : Option (List ℕ)) (hints : List ℕ) (h new : Hinting) → slice_get lines i ≡ Some (Refuted c) → AreTimely lines → IsHinting lines wanted i h → ((all taken : Clauses) → IsFinder all taken h.finder → ShowsOrNone all taken c answer) → answer ≡ Some hints → ((all taken : Clauses) → IsFinder all taken h.finder → IsFinder all taken new.finder) → new.finder.vars ≡ h.finder.vars → new.formula ≡ h.formula → new.learnt ≡ h.learnt → (IsGoodHint (nameable lines i) c hints → IsHinted lines wanted (i + 1) new.list) → IsHinting lines wanted (i + 1) new
+pub took_refuted : (lines : Lines) (wanted : List ℕ) (i : ℕ) (c : List Literal) (answer : Option (List ℕ)) (hints : List ℕ) (h new : Hinting) → slice_get lines i ≡ Some (Refuted c) → AreTimely lines → IsHinting lines wanted i h → ((all taken : Clauses) → IsFinder all taken h.finder → ShowsOrNone all taken c answer) → answer ≡ Some hints → ((all taken : Clauses) → IsFinder all taken h.finder → IsFinder all taken new.finder) → new.finder.vars ≡ h.finder.vars → new.formula ≡ h.formula → new.learnt ≡ h.learnt → (IsLeanHint (nameable lines i) c hints → IsHinted lines wanted (i + 1) new.list) → IsHinting lines wanted (i + 1) new
 took_refuted lines wanted i c answer hints h new e timely old found is goes vars formula learnt_is hinted =
     let all = nameable lines i in
     let taken = flat_map added (take i lines) in

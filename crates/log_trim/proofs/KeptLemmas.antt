@@ -1,12 +1,12 @@
 -- Lines that stay, with their clauses' new numbers.
-use Rattle.std.proofs.Common.{◌≡◌, ℕ, ◌+◌, ◌≤◌, ◌⊎◌, Bool, true, false, cond, suc, Some, List, [], ◌∷◌, ◌++◌, length, refl, sym, ◌∙◌, ap, subst, inl, inr, arith, length-append, append-nil, append_assoc}
+use Rattle.std.proofs.Common.{◌≡◌, ℕ, ◌+◌, ◌≤◌, ◌⊎◌, Bool, true, false, cond, suc, Some, List, [], ◌∷◌, ◌++◌, length, map, refl, sym, ◌∙◌, ap, subst, inl, inr, arith, length-append, append-nil, append_assoc}
 use Rattle.std.specs.Prelude.{Contains, slice_get, flat_map}
 use Rattle.std.proofs.lemmas.Bool.{both_ways, cases_Bool}
 use Rattle.std.proofs.lemmas.List.{get_or_append_left, get_or_push}
 use Rattle.std.proofs.lemmas.Option.{slice_get_within}
 use Rattle.std.proofs.lemmas.List.Elements.{All-nil, All-cons, All-contains, Contains-append_cases, Contains-append_right}
 use Rattle.plan_core.proofs.Listing.{Contains-map}
-use Rattle.cnf_core.specs.Lit.{Literal}
+use Rattle.cnf_core.specs.Lit.{Literal, negate}
 use Rattle.cnf_core.specs.Clause.{Clauses}
 use Rattle.refute_log.specs.declared.line.LogLine.{LogLine}
 use Rattle.refute_log.specs.declared.line.LogLine.TheVariants.{Formula as FormulaLine, Learnt as LearntLine, Bound as BoundLine, Query as QueryLine, Refuted as RefutedLine, Model as ModelLine}
@@ -14,15 +14,16 @@ use Rattle.refute_log.specs.Told.{Lines}
 use Rattle.refute_log.specs.Log.{given}
 use Rattle.hint_log.specs.declared.hint_line.HintLine.{HintLine}
 use Rattle.hint_log.specs.declared.hint_line.HintLine.TheVariants.{Learnt, Refuted}
-use Rattle.hint_log.specs.Hint.{hints_of}
+use Rattle.hint_log.specs.Hint.{shown_lits, hints_of, IsGoodHint}
 use Rattle.hint_log.specs.Checked.{clauses_learnt}
 use Rattle.hint_log.specs.HintedLines.{HintLines, AreGood}
-use Rattle.log_trim.specs.Trimmed.{StandAt, IsNamedLater, AreUsed, IsTrimmed, AreRefutedLines}
+use Rattle.log_trim.specs.Trimmed.{StandAt, IsNamedLater, AreUsed, AreLean, HaveLeanHints, IsTrimmed, AreRefutedLines}
+use Rattle.log_trim.specs.Found.{IsLeanHint}
 use Rattle.log_trim.specs.Hinting.{IsHinted, nameable}
-use Rattle.log_trim.specs.Shortened.{is_used, NamesLater, MarksUsed, learnt_among, new_number_in, renumbered, shortened, AreShortened}
+use Rattle.log_trim.specs.Shortened.{is_used, AllUsed, NamesLater, MarksUsed, learnt_among, new_number_in, renumbered, shortened, AreShortened}
 use Rattle.log_trim.proofs.UsedLemmas.{count_is}
 use Rattle.log_trim.proofs.HintedLemmas.{same_line}
-use Rattle.log_trim.proofs.ShortenLemmas.{IsRenumbering, good_renumbered, renumbering_kept, renumbering_left_out, renumbering_none}
+use Rattle.log_trim.proofs.ShortenLemmas.{IsRenumbering, good_renumbered, lean_renumbered, renumbering_kept, renumbering_left_out, renumbering_none}
 use Rattle.watch_arena.proofs.ChainLemmas.{contains_head}
 
 -- what a Learnt line is shortened to
@@ -78,33 +79,45 @@ stays_used used numbers last n (Learnt lits hints ∷ rest) size h = elim (cases
 ]
 stays_used used numbers last n (Refuted lits hints ∷ rest) size h = stays_used used numbers last n rest size h.1
 
--- the lines that stay are good
-pub stays_good : (used : List Bool) (numbers : List ℕ) (last n : ℕ) (old new : Clauses) (list : HintLines) → n ≡ length old → last ≡ length new → length numbers ≡ n + 1 → IsRenumbering used old new (new_number_in numbers) → MarksUsed used n list → AreGood old list → AreGood new (shortened used numbers last list)
-stays_good used numbers last n old new [] count kept size same h good = tt
+-- the lines that stay are good, and their hints are lean
+abbrev AreLeanAndGood : Clauses → HintLines → Type 0
+AreLeanAndGood clauses lines = AreGood clauses lines × HaveLeanHints clauses lines
+
+-- one more such line in front
+good_first : (clauses : Clauses) (line : HintLine) (rest : HintLines) → IsLeanHint clauses (shown_lits line) (hints_of line) → AreLeanAndGood (clauses ++ clauses_learnt line) rest → AreLeanAndGood clauses (line ∷ rest)
+good_first clauses line rest h r = ((h.good, r.0), (h.lean, r.1))
+
+renumbered_hint : (used : List Bool) (old new : Clauses) (numbers : List ℕ) (lits : List Literal) (hints : List ℕ) → IsRenumbering used old new (new_number_in numbers) → AllUsed used hints → IsGoodHint old lits hints → AreLean old (map negate lits) hints → IsLeanHint new lits (renumbered numbers hints)
+renumbered_hint used old new numbers lits hints same all good lean = record {
+  good = good_renumbered used old new (new_number_in numbers) same lits hints all good;
+  lean = lean_renumbered used old new (new_number_in numbers) same (map negate lits) hints all lean;
+}
+
+pub stays_good : (used : List Bool) (numbers : List ℕ) (last n : ℕ) (old new : Clauses) (list : HintLines) → n ≡ length old → last ≡ length new → length numbers ≡ n + 1 → IsRenumbering used old new (new_number_in numbers) → MarksUsed used n list → AreLeanAndGood old list → AreLeanAndGood new (shortened used numbers last list)
+stays_good used numbers last n old new [] count kept size same h good = (tt, tt)
 stays_good used numbers last n old new (Learnt lits hints ∷ rest) count kept size same h good =
     let places : length numbers ≡ length old + 1 = size ∙ ap (λ k. k + 1) count in
     let next : n + 1 ≡ length (old ++ lits ∷ []) = omega (arith, count, length-append old (lits ∷ [])) in
+    let later : AreLeanAndGood (old ++ lits ∷ []) rest = (good.0.1, good.1.1) in
     elim (cases_Bool (is_used used (length numbers))) [
       | inl stays ↦
           let more = numbers ++ (last + 1) ∷ [] in
           let mark : is_used used (n + 1) ≡ true = ap (is_used used) (sym size) ∙ stays in
           let was = h.0 mark in
           let after : IsRenumbering used (old ++ lits ∷ []) (new ++ lits ∷ []) (new_number_in more) = subst (λ k. IsRenumbering used (old ++ lits ∷ []) (new ++ lits ∷ []) (new_number_in (numbers ++ (k + 1) ∷ []))) (sym kept) (renumbering_kept used old new numbers lits places same) in
-          subst (λ b. AreGood new (shortened_after used numbers last lits hints rest b)) (sym stays) (
-            good_renumbered used old new (new_number_in numbers) same lits hints was.0 good.0,
-            stays_good used more (last + 1) (n + 1) (old ++ lits ∷ []) (new ++ lits ∷ []) rest next (omega (arith, kept, length-append new (lits ∷ []))) (omega (arith, size, length-append numbers ((last + 1) ∷ []))) after h.1 good.1,
-          )
+          subst (λ b. AreLeanAndGood new (shortened_after used numbers last lits hints rest b)) (sym stays)
+          (good_first new (Learnt lits (renumbered numbers hints)) (shortened used more (last + 1) rest) (renumbered_hint used old new numbers lits hints same was.0 good.0.0 good.1.0)
+          (stays_good used more (last + 1) (n + 1) (old ++ lits ∷ []) (new ++ lits ∷ []) rest next (omega (arith, kept, length-append new (lits ∷ []))) (omega (arith, size, length-append numbers ((last + 1) ∷ []))) after h.1 later))
       | inr out ↦
           let more = numbers ++ 0 ∷ [] in
           let left : is_used used (length old + 1) ≡ false = ap (is_used used) (sym places) ∙ out in
-          subst (λ b. AreGood new (shortened_after used numbers last lits hints rest b)) (sym out)
-          (stays_good used more last (n + 1) (old ++ lits ∷ []) new rest next kept (omega (arith, size, length-append numbers (0 ∷ []))) (renumbering_left_out used old new numbers lits places left same) h.1 good.1)
+          subst (λ b. AreLeanAndGood new (shortened_after used numbers last lits hints rest b)) (sym out)
+          (stays_good used more last (n + 1) (old ++ lits ∷ []) new rest next kept (omega (arith, size, length-append numbers (0 ∷ []))) (renumbering_left_out used old new numbers lits places left same) h.1 later)
     ]
-stays_good used numbers last n old new (Refuted lits hints ∷ rest) count kept size same h good = (
-  good_renumbered used old new (new_number_in numbers) same lits hints h.0 good.0,
-  subst (λ (cs : Clauses). AreGood cs (shortened used numbers last rest)) (sym (append-nil new))
-      (stays_good used numbers last n old new rest count kept size same h.1 (subst (λ (cs : Clauses). AreGood cs rest) (append-nil old) good.1)),
-)
+stays_good used numbers last n old new (Refuted lits hints ∷ rest) count kept size same h good =
+    let later : AreLeanAndGood old rest = subst (λ (cs : Clauses). AreLeanAndGood cs rest) (append-nil old) (good.0.1, good.1.1) in
+    good_first new (Refuted lits (renumbered numbers hints)) (shortened used numbers last rest) (renumbered_hint used old new numbers lits hints same h.0 good.0.0 good.1.0)
+    (subst (λ (cs : Clauses). AreLeanAndGood cs (shortened used numbers last rest)) (sym (append-nil new)) (stays_good used numbers last n old new rest count kept size same h.1 later))
 
 -- places in the log of the lines that stay
 pub record StaysAt (lines : Lines) (wanted : List ℕ) (low high : ℕ) (before : List ℕ) (list : HintLines) : Type 0 where
@@ -184,6 +197,7 @@ trimmed lines wanted count list kept refuted e h s =
     let first = flat_map given lines in
     let at = stays_at lines wanted s.used s.numbers count 0 (length lines) h.places list refuted h.stand in
     let same : IsRenumbering s.used first first (new_number_in s.numbers) = renumbering_none s.used first s.numbers (λ m le. s.same m (omega (arith, le, e))) in
+    let stay = stays_good s.used s.numbers count count first first list e e s.size same s.marked (h.good, h.lean) in
     subst (λ (ls : HintLines). IsTrimmed lines wanted ls) (sym s.is) (record {
       places = at.places;
       stand = at.stand;
@@ -191,7 +205,8 @@ trimmed lines wanted count list kept refuted e h s =
           let r = refuted p asked in
           at.all p asked (h.all p asked (slice_get_within lines p (RefutedLine r.0) r.1));
       used = subst (λ n. AreUsed n (shortened s.used s.numbers count list)) e (stays_used s.used s.numbers count count list s.size s.marked);
-      good = stays_good s.used s.numbers count count first first list e e s.size same s.marked h.good;
+      good = stay.0;
+      lean = stay.1;
     })
 
 pub hinted_count : (lines : Lines) (wanted : List ℕ) (i : ℕ) (list : HintLines) → IsHinted lines wanted i list → length (nameable lines i) ≡ length (flat_map given lines) + learnt_among list

@@ -4,6 +4,7 @@ pub mod WantedLemmas
 pub mod CompletingLemmas
 pub mod TrimmedLemmas
 pub mod CertifyingLemmas
+pub mod LeanLemmas
 pub mod FoundLemmas
 pub mod AssumingLemmas
 pub mod FinderLemmas

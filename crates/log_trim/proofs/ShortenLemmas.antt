@@ -1,14 +1,16 @@
 -- Lines with new numbers for their hints.
 use Rattle.std.proofs.Common.{◌≡◌, ℕ, ◌+◌, ◌<◌, ◌≤◌, Bool, true, false, zero, suc, List, [], ◌∷◌, ◌++◌, length, get_or, map, refl, sym, ◌∙◌, ap, subst, inl, inr, arith, length-append}
-use Rattle.std.specs.Prelude.{All}
+use Rattle.std.specs.Prelude.{All, Contains}
 use Rattle.std.proofs.lemmas.Bool.{both_ways, cases_lt}
-use Rattle.std.proofs.lemmas.List.{map-append, get_or_append_left, get_or_push}
+use Rattle.std.proofs.lemmas.List.{map-append, get_or_append_left, get_or_past, get_or_push}
 use Rattle.std.proofs.lemmas.List.Elements.{All-nil, All-cons, All-push, All-contains, All-head, All-tail, All-weaker, Contains-push}
+use Rattle.plan_core.proofs.Listing.{Contains-map}
 use Rattle.cnf_core.specs.Lit.{Literal, negate, has}
 use Rattle.cnf_core.specs.Clause.{Clauses}
 use Rattle.hint_log.specs.declared.hint_line.HintLine.TheVariants.{Learnt, Refuted}
 use Rattle.hint_log.specs.Hint.{numbered, NamesClause, left_of, Leads, IsGoodHint}
 use Rattle.hint_log.specs.HintedLines.{HintLines}
+use Rattle.log_trim.specs.Trimmed.{IsInNamed, AreLean}
 use Rattle.log_trim.specs.Shortened.{is_used, AllUsed, NamesLater, MarksUsed, new_number_in}
 use Rattle.log_trim.proofs.FinderLemmas.{numbered_front}
 
@@ -19,6 +21,16 @@ numbered_at cs (suc n) k e = ap (λ m. get_or cs m []) (omega (arith, e))
 
 pub numbered_last : (cs : Clauses) (c : List Literal) (n : ℕ) → n ≡ length cs + 1 → numbered (cs ++ c ∷ []) n ≡ c
 numbered_last cs c n e = numbered_at (cs ++ c ∷ []) n (length cs) e ∙ get_or_push cs c [] (length cs) refl
+
+-- a number whose clause has a literal is that of a clause
+named_valid : (cs : Clauses) (n : ℕ) (l : Literal) → Contains (numbered cs n) l → NamesClause cs n
+named_valid cs zero l h = absurd (let lt = h.1 in omega (arith, lt))
+named_valid cs (suc n) l h = elim (cases_lt n (length cs)) [
+  | inl lt ↦ record { from = omega arith; to = omega (arith, lt) }
+  | inr ge ↦
+      let none : numbered cs (suc n) ≡ [] = get_or_past cs n [] ge in
+      absurd (let lt = h.1 in let size = ap (λ (c : List Literal). length c) none in omega (arith, lt, size))
+]
 
 -- the new number of each clause that is used is that of the same clause
 abbrev pub IsRenumbering : List Bool → Clauses → Clauses → (ℕ → ℕ) → Type 0
@@ -53,6 +65,23 @@ module _ (used : List Bool) (old new : Clauses) (number : ℕ → ℕ) (same : I
         leads = leads_renumbered (map negate lits) s.front s.to (all_front s.front s.last parts) s.leads;
         none = record { number = r.0; none = ap (left_of (has s.to)) r.1 ∙ none.none };
       }
+
+  -- so do the clauses that have a literal
+  named_renumbered : (l : Literal) (ns : List ℕ) → AllUsed used ns → IsInNamed old l ns → IsInNamed new l (map number ns)
+  named_renumbered l ns all h =
+      let there : Contains ns h.1 = (h.0, h.2, h.3) in
+      let r = same h.1 (named_valid old h.1 l h.4) (All-contains (IsUsed used) ns h.1 all there) in
+      let at = Contains-map number ns h.1 there in
+      (at.0, number h.1, at.1, at.2, subst (λ (c : List Literal). Contains c l) (sym r.1) h.4)
+
+  pub lean_renumbered : (set : List Literal) (ns : List ℕ) → AllUsed used ns → AreLean old set ns → AreLean new set (map number ns)
+  lean_renumbered set [] all h = tt
+  lean_renumbered set (n ∷ []) all h = tt
+  lean_renumbered set (n ∷ m ∷ ns) all h =
+      let one = h.1 in
+      let r = same n one.number (All-head (IsUsed used) n (m ∷ ns) all) in
+      let rest = All-tail (IsUsed used) n (m ∷ ns) all in
+      (h.0, record { number = r.0; one = ap (left_of (has set)) r.1 ∙ one.one }, h.2, named_renumbered (negate h.0) (m ∷ ns) rest h.3, lean_renumbered (set ++ h.0 ∷ []) (m ∷ ns) rest h.4)
 
 pub renumbering_kept : (used : List Bool) (old new : Clauses) (numbers : List ℕ) (c : List Literal) → length numbers ≡ length old + 1 → IsRenumbering used old new (new_number_in numbers) → IsRenumbering used (old ++ c ∷ []) (new ++ c ∷ []) (new_number_in (numbers ++ (length new + 1) ∷ []))
 renumbering_kept used old new numbers c size same = λ m valid mark. elim (cases_lt m (length numbers)) [

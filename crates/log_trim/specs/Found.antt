@@ -1,5 +1,5 @@
 -- Clauses by number beside an arena that propagates over them, and what was found on a trail.
-use Rattle.std.specs.Prelude.{◌≡◌, ◌≤◌, ◌<◌, ◌⊎◌, ℕ, ◌+◌, Bool, true, false, Option, List, [], All, Contains}
+use Rattle.std.specs.Prelude.{◌≡◌, ◌≤◌, ◌<◌, ◌⊎◌, ℕ, ◌+◌, Bool, true, false, Option, List, [], All, Any, Contains}
 use Rattle.std.specs.Prelude.{MatchOption, length, map, reverse, slice_index, slice_index_or, take, ◌∷◌}
 use Rattle.cnf_core.specs.declared.limits.TheConstants.{VARS}
 use Rattle.cnf_core.specs.Lit.{Literal, negate, positive_of, negative_of, has}
@@ -10,6 +10,7 @@ use Rattle.watch_arena.specs.Walk.{IsReasonFor}
 use Rattle.watch_arena.specs.Arena.{Attached, AreWatched, attached_at}
 use Rattle.refute_check.specs.Kept.{IsKnownClause}
 use Rattle.hint_log.specs.Hint.{numbered, NamesClause, Shows, IsGoodHint}
+use Rattle.log_trim.specs.Trimmed.{IsInNamed, AreLean}
 use Rattle.log_trim.specs.declared.finder.Finder.{Finder}
 
 -- two further variables are assumed to be true; a short clause has their negations besides, so that
@@ -65,6 +66,10 @@ HasReasonAt a m given i l = IsReasonFor a.words a.places (take i m.lits) l (slic
 abbrev pub HaveReasons : Attached → Marks → List Literal → Type 0
 HaveReasons a m given = (i : ℕ) (d : Literal) → i < length m.lits → HasReasonAt a m given i (slice_index_or m.lits i d)
 
+-- the variables of these literals have no reason
+abbrev pub HaveNoReason : Marks → List Literal → Type 0
+HaveNoReason m ls = (k : Literal) → IsIn (has ls) k → slice_index m.reasons k.var ≡ 0
+
 -- no literal is on the trail
 pub record IsEmptyTrail (m : Marks) : Type 0 where
   pub lits : m.lits ≡ []
@@ -99,19 +104,28 @@ pub record IsDenying (a : Attached) (vars : ℕ) (lits : List Literal) (m : Mark
   pub watched : AreWatched a m
   pub whole : Includes (has m.lits) (has (assumed vars lits))
   pub reasons : HaveReasons a m (assumed vars lits)
+  pub bare : HaveNoReason m (map negate lits)
   pub levels : (m.cuts ≡ 0 ∷ []) ⊎ HasTwoLevels vars lits m
+
+abbrev pub is_needed : List Bool → ℕ → Bool
+is_needed needed x = slice_index_or needed x false
+
+abbrev pub NoneNeeded : List Bool → Type 0
+NoneNeeded needed = (x : ℕ) → is_needed needed x ≡ false
 
 -- clauses were taken, and hints name clauses by their numbers among all, which may have some that come later
 pub record IsFinder (all taken : Clauses) (f : Finder) : Type 0 where
   pub clauses : AreClauses f.vars all taken f.arena f.numbers.items
   pub idle : IsAtRest f.arena f.vars f.trail
   pub size : length f.needed.items ≡ f.vars + 1
+  pub unneeded : NoneNeeded f.needed.items
 
 -- clauses were taken, and it is assumed that the literals of a clause are false
 pub record IsSupposing (all taken : Clauses) (lits : List Literal) (f : Finder) : Type 0 where
   pub clauses : AreClauses f.vars all taken f.arena f.numbers.items
   pub denying : IsDenying f.arena f.vars lits f.trail
   pub size : length f.needed.items ≡ f.vars + 1
+  pub unneeded : NoneNeeded f.needed.items
 
 -- propagation of the negations of a clause's literals has come to its end without a false clause: the set is closed,
 -- has them, and falsifies none
@@ -120,17 +134,19 @@ pub record IsUnfalsifiedEnd (clauses : Clauses) (lits : List Literal) (set : Lit
   pub includes : Includes set (negations lits)
   pub unfalsified : Falsified clauses set → ⊥
 
+-- the hints show the clause, and are lean
+pub record IsLeanHint (clauses : Clauses) (c : List Literal) (hints : List ℕ) : Type 0 where
+  pub good : IsGoodHint clauses c hints
+  pub lean : AreLean clauses (map negate c) hints
+
 -- the hints show the clause, which follows; or there are none, and it doesn't follow
 abbrev pub ShowsOrNone : (all taken : Clauses) → List Literal → Option (List ℕ) → Type 0
-ShowsOrNone all taken c found = MatchOption found (Rup taken c → ⊥) (λ hints. Rup taken c × IsGoodHint all c hints)
+ShowsOrNone all taken c found = MatchOption found (Rup taken c → ⊥) (λ hints. Rup taken c × IsLeanHint all c hints)
 
 -- the hints show the clause, which follows and isn't known yet; or there are none, and if it follows it is known
 abbrev pub ShowsNewOrNone : (all taken : Clauses) → List Literal → Option (List ℕ) → Type 0
 ShowsNewOrNone all taken c found = MatchOption found (Rup taken c → IsKnownClause taken c)
-    (λ hints. Rup taken c × (IsKnownClause taken c → ⊥) × IsGoodHint all c hints)
-
-abbrev pub is_needed : List Bool → ℕ → Bool
-is_needed needed x = slice_index_or needed x false
+    (λ hints. Rup taken c × (IsKnownClause taken c → ⊥) × IsLeanHint all c hints)
 
 -- the set has the literals of the front of the trail whose variables are needed
 abbrev pub HasNeeded : List Literal → ℕ → List Bool → List Literal → Type 0
@@ -149,14 +165,43 @@ abbrev pub ShowsFromFront : Clauses → ℕ → Marks → ℕ → List Bool → 
 ShowsFromFront clauses vars m i needed hints = (set : List Literal) → Includes (has m.lits) (has set) →
     HasAssumed vars m set → HasNeeded m.lits i needed set → Shows clauses set (reverse hints)
 
--- where the later hints show what they have to from the next place of the trail on, so do these from this place on,
--- with what is needed then
-abbrev pub GoOn : (vars : ℕ) (all : Clauses) → Marks → ℕ → (old new : List Bool) → (before after : List ℕ) → Type 0
-GoOn vars all m i old new before after = length old ≡ vars + 1 → ShowsFromFront all vars m (i + 1) old before →
-    ShowsFromFront all vars m i new after
+-- each literal of the set is on the front of the trail, or has no reason
+abbrev pub IsBefore : Marks → ℕ → List Literal → Type 0
+IsBefore m i set = (k : Literal) → IsIn (has set) k → IsIn (has (take i m.lits)) k ⊎ (slice_index m.reasons k.var ≡ 0)
 
--- further variables are needed, those of these literals among them that the table has
+-- the negation of each needed literal of the front of the trail stands in a clause that a hint names
+abbrev pub AreNeededByHints : Clauses → List Literal → ℕ → List Bool → List ℕ → Type 0
+AreNeededByHints clauses trail i needed hints = (j : ℕ) (d : Literal) → j < i →
+    is_needed needed (slice_index_or trail j d).var ≡ true →
+    IsInNamed clauses (negate (slice_index_or trail j d)) (reverse hints)
+
+-- whatever such set has no later literal of the trail with a reason, from there the hints are lean
+abbrev pub AreLeanFromFront : Clauses → ℕ → Marks → ℕ → List Bool → List ℕ → Type 0
+AreLeanFromFront clauses vars m i needed hints = (set : List Literal) → Includes (has m.lits) (has set) →
+    HasAssumed vars m set → HasNeeded m.lits i needed set → IsBefore m i set → AreLean clauses set (reverse hints)
+
+pub record IsFoundFromFront (clauses : Clauses) (vars : ℕ) (m : Marks) (i : ℕ) (needed : List Bool) (hints : List ℕ) :
+    Type 0 where
+  pub shows : ShowsFromFront clauses vars m i needed hints
+  pub named : AreNeededByHints clauses m.lits i needed hints
+  pub lean : AreLeanFromFront clauses vars m i needed hints
+
+-- where the later hints are found from the next place of the trail on, so are these from this place on, with what is
+-- needed then
+abbrev pub GoOn : (vars : ℕ) (all : Clauses) → Marks → ℕ → (old new : List Bool) → (before after : List ℕ) → Type 0
+GoOn vars all m i old new before after = length old ≡ vars + 1 → IsFoundFromFront all vars m (i + 1) old before →
+    IsFoundFromFront all vars m i new after
+
+-- the variable is that of one of the literals
+abbrev pub HasVar : List Literal → ℕ → Type 0
+HasVar lits x = Any (λ k. k.var ≡ x) lits
+
+abbrev pub AreOnTrail : List Bool → List Literal → Type 0
+AreOnTrail needed trail = (x : ℕ) → is_needed needed x ≡ true → HasVar trail x
+
+-- further variables are needed, those of these literals that the table has
 pub record NeedsWithin (lits : List Literal) (old new : List Bool) : Type 0 where
   pub size : length new ≡ length old
   pub keeps : (x : ℕ) → is_needed old x ≡ true → is_needed new x ≡ true
+  pub only : (x : ℕ) → is_needed new x ≡ true → (is_needed old x ≡ true) ⊎ HasVar lits x
   pub each : All (λ k. k.var < length new → is_needed new k.var ≡ true) lits

@@ -9,7 +9,7 @@ use Rattle.log_trim.specs.declared.hint_trimming.Hinting.{Hinting}
 use Rattle.hint_log.specs.Checked.{clauses_learnt}
 use Rattle.log_trim.specs.Found.{IsFinder}
 use Rattle.hint_log.specs.HintedLines.{HintLines, AreGood}
-use Rattle.log_trim.specs.Trimmed.{StandAt}
+use Rattle.log_trim.specs.Trimmed.{StandAt, HaveLeanHints}
 
 -- the line's clause has no greater variable
 abbrev pub IsLineWithin : ℕ → LogLine → Type 0
@@ -29,6 +29,7 @@ pub record IsHinted (lines : Lines) (wanted : List ℕ) (i : ℕ) (answer : Hint
   pub stand : StandAt lines wanted 0 i places answer
   pub all : (p : ℕ) → Contains wanted p → p < i → Contains places p
   pub good : AreGood (flat_map given lines) answer
+  pub lean : HaveLeanHints (flat_map given lines) answer
 
 -- the lines before a place stand, their clauses are taken, and they are hinted
 pub record IsHinting (lines : Lines) (wanted : List ℕ) (i : ℕ) (h : Hinting) : Type 0 where

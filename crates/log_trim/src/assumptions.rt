@@ -5,7 +5,7 @@ ghost use Rattle.cnf_core.specs.Clause.{IsThere, AreThere, AreDistinct};
 ghost use Rattle.cnf_core.specs.Propagation.{Includes};
 ghost use Rattle.watch_arena.specs.Trail.{IsUnset};
 ghost use Rattle.watch_arena.specs.Arena.{Attached, AreWatched, IsSameText, MayBeWatched};
-ghost use Rattle.log_trim.specs.Found.{IsAtRest, IsDenying, HaveReasons, assumed};
+ghost use Rattle.log_trim.specs.Found.{IsAtRest, IsDenying, HaveReasons, HaveNoReason, assumed};
 
 use cnf_core::{Lit, VARS, Var};
 use watch_arena::{Arena, Trail};
@@ -38,6 +38,8 @@ fn deny(trail: &mut Trail, lits: &[Lit])
     ensures front { trail.new.front ≡ trail.old.front }
     ensures reasons { (a : Attached) (given : List Literal) → Includes (has given) (has (map negate lits.now)) →
         HaveReasons a trail.old given → HaveReasons a trail.new given }
+    ensures bare { (ls : List Literal) → HaveNoReason trail.old ls →
+        HaveNoReason trail.new (ls ++ map negate lits.now) }
     ensures watched { (a : Attached) → AreWatched a trail.old → AreWatched a trail.new }
 {
     for l in lits {
@@ -58,6 +60,7 @@ fn deny_above(trail: &mut Trail, lits: &[Lit])
     ensures front { trail.new.front ≡ trail.old.front }
     ensures reasons { (a : Attached) (given : List Literal) → Includes (has given) (has (map negate lits.now)) →
         HaveReasons a trail.old given → HaveReasons a trail.new given }
+    ensures bare { HaveNoReason trail.new (map negate lits.now) }
     ensures watched { (a : Attached) → AreWatched a trail.old → AreWatched a trail.new }
 {
     trail.decide(lits[0].negated());

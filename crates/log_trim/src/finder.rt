@@ -6,9 +6,9 @@ ghost use Rattle.cnf_core.specs.Clause.{Clauses, IsThere, AreThere, AreDistinct}
 ghost use Rattle.cnf_core.specs.Propagation.{Rup};
 ghost use Rattle.watch_arena.specs.Trail.{Marks, IsUnset};
 ghost use Rattle.watch_arena.specs.Arena.{AreWatched, AreAttached, IsClashOf, IsMoreText, MayBeWatched, attached_at};
-ghost use Rattle.hint_log.specs.Hint.{numbered, NamesClause, IsGoodHint};
+ghost use Rattle.hint_log.specs.Hint.{numbered, NamesClause};
 ghost use Rattle.log_trim.specs.Found.{IsFinder, IsPadded, IsNumberedClause, IsSupposing, IsUnfalsifiedEnd};
-ghost use Rattle.log_trim.specs.Found.{ShowsOrNone, ShowsNewOrNone, number_of_place};
+ghost use Rattle.log_trim.specs.Found.{NoneNeeded, IsLeanHint, ShowsOrNone, ShowsNewOrNone, number_of_place};
 
 use crate::assumptions::{assume, assume_first, follow, leave, make_way};
 use crate::needs::{clear, name_all};
@@ -84,7 +84,8 @@ fn attach(arena: &mut Arena, trail: &Trail, lits: &[Lit]) -> Result<ClauseRef, O
 
 /// A table in which nothing is needed.
 fn table_of(alloc: Global, size: usize) -> Result<Vec<bool>, OutOfMemory>
-    ensures { IfOk result (λ t. length t.items ≡ size) }
+    ensures size { IfOk result (λ t. length t.items ≡ size) }
+    ensures none { IfOk result (λ t. NoneNeeded t.items) }
 {
     Ok(vec![in alloc; false; size]?)
 }
@@ -194,7 +195,7 @@ impl Finder {
         ensures finder { OnOk result ((all taken : Clauses) (lits : List Literal) →
             IsSupposing all taken lits self.old → IsFinder all taken self.new) }
         ensures good { IfOk result (λ hints. (all taken : Clauses) (lits : List Literal) →
-            IsSupposing all taken lits self.old → IsGoodHint all lits hints) }
+            IsSupposing all taken lits self.old → IsLeanHint all lits hints) }
         ensures follows { (all taken : Clauses) (lits : List Literal) → IsSupposing all taken lits self.old →
             Rup taken lits }
     {

@@ -3,8 +3,8 @@
 //! `trim_log` reads the log's lines (`reading`), finds the wanted ones (`wanting`), compares all with what is expected
 //! and adds the Formula lines that the log lacks (`completing`). Then `trim` (`hint_trimming`) judges the lines and
 //! makes the hinted ones, without what nothing rests on: `finder` finds hints by propagating what `assumptions` assume,
-//! `needs` names them from the last one back, `shortening` leaves lines out. Where something is wrong nothing is left;
-//! what it is says `log_check`.
+//! `needs` names them from the last one back, as far as later ones need them, `shortening` leaves lines out. Where
+//! something is wrong nothing is left; what it is says `log_check`.
 //!
 //! `specs/Wanted` says which lines are wanted, `specs/TrimmedLog` and `specs/Trimmed` what is answered; `specs/Found`,
 //! `specs/Hinting`, `specs/Shortened` and `specs/Shown` are for private contracts. `laws` says that the hinted lines

@@ -1,10 +1,10 @@
 // Which variables are needed, and the hints that are found by them.
-ghost use Rattle.std.specs.Prelude.{◌≡◌, ◌≤◌, ◌<◌, ◌+◌, ◌++◌, ◌∷◌, [], ℕ, List, All, Contains, length, OnOk, true};
+ghost use Rattle.std.specs.Prelude.{◌≡◌, ◌≤◌, ◌<◌, ◌⊎◌, ◌+◌, ◌++◌, ◌∷◌, [], ℕ, List, All, Contains, length, OnOk, true};
 ghost use Rattle.cnf_core.specs.Lit.{Literal};
 ghost use Rattle.cnf_core.specs.Clause.{Clauses};
 ghost use Rattle.watch_arena.specs.Arena.{IsClashOf, attached_at};
-ghost use Rattle.log_trim.specs.Found.{AreClauses, ShowsFromFront, GoOn, NeedsWithin, HaveReasons, is_needed};
-ghost use Rattle.log_trim.specs.Found.{number_of_place};
+ghost use Rattle.log_trim.specs.Found.{AreClauses, IsFoundFromFront, GoOn, NeedsWithin, HaveReasons, is_needed};
+ghost use Rattle.log_trim.specs.Found.{number_of_place, NoneNeeded, AreOnTrail};
 
 use cnf_core::Var;
 use plan_core::OutOfMemory;
@@ -30,6 +30,7 @@ fn need_var(needed: &mut [bool], v: Var)
     ensures size { length needed.new ≡ length needed.old }
     ensures keeps { (x : ℕ) → is_needed needed.old x ≡ true → is_needed needed.new x ≡ true }
     ensures needed_ { v.0 < length needed.new → is_needed needed.new v.0 ≡ true }
+    ensures only { (x : ℕ) → is_needed needed.new x ≡ true → (is_needed needed.old x ≡ true) ⊎ (v.0 ≡ x) }
 {
     let i = v.0 as usize;
     if i < needed.len() {
@@ -49,7 +50,8 @@ fn need(needed: &mut [bool], arena: &Arena, clause: ClauseRef)
 
 /// No variable of the trail is needed any more.
 pub(crate) fn clear(needed: &mut [bool], trail: &Trail)
-    ensures { length needed.new ≡ length needed.old }
+    ensures size { length needed.new ≡ length needed.old }
+    ensures none { AreOnTrail needed.old trail.now.lits → NoneNeeded needed.new }
 {
     for i in 0..trail.len() {
         let v = trail.lit(i).var().0 as usize;
@@ -90,6 +92,7 @@ fn name_reason(
     ensures size { length needed.new ≡ length needed.old }
     ensures goes_on { OnOk result ((vars : ℕ) (all taken : Clauses) → AreClauses vars all taken arena.now numbers.now →
         GoOn vars all trail.now i needed.old needed.new hints.old.items hints.new.items) }
+    ensures on_trail { OnOk result (AreOnTrail needed.old trail.now.lits → AreOnTrail needed.new trail.now.lits) }
 {
     let v = trail.lit(i).var();
     if !is_needed(needed, v) {
@@ -116,9 +119,11 @@ pub(crate) fn name_all(
     requires reasons { (given : List Literal) × HaveReasons arena.now trail.now given }
     requires clash { IsClashOf arena.now trail.now clash.0 }
     requires none { hints.old.items ≡ [] }
+    requires unneeded { NoneNeeded needed.old }
     ensures size { length needed.new ≡ length needed.old }
+    ensures on_trail { OnOk result (AreOnTrail needed.new trail.now.lits) }
     ensures goes_on { OnOk result ((vars : ℕ) (all taken : Clauses) → AreClauses vars all taken arena.now numbers.now →
-        length needed.old ≡ vars + 1 → ShowsFromFront all vars trail.now 0 needed.new hints.new.items) }
+        length needed.old ≡ vars + 1 → IsFoundFromFront all vars trail.now 0 needed.new hints.new.items) }
 {
     name(arena, numbers, needed, hints, clash)?;
     let mut i = trail.len();

@@ -5,7 +5,7 @@ use Rattle.std.specs.Prelude.{All}
 use Rattle.cnf_core.proofs.ClauseLemmas.{there_more}
 use Rattle.watch_arena.specs.Trail.{Marks, IsUnset}
 use Rattle.log_trim.specs.Found.{assumed}
-use Rattle.log_trim.proofs.AssumingLemmas.{assuming_above, assuming_anew, further_unset, reasons_wider, has_left, has_right}
+use Rattle.log_trim.proofs.AssumingLemmas.{assuming_above, assuming_anew, bare_none, further_unset, reasons_wider, has_left, has_right}
 use Rattle.log_trim.proofs.assumptions.assume.Goals as goal
 
 pub are_unset-requires : goal.are_unset-requires
@@ -26,7 +26,7 @@ pub returns-then-are_unset : goal.returns-then-are_unset
 returns-then-are_unset c = λ a idle.
     let d = c.deny_above.ensures in
     assuming_above a c.args.vars c.args.lits.now c.args.trail.now c.deny_above.new.trail idle (sym c.level.ensures.value ∙ c.if-level-eq1.true) (c.are_unset.ensures c.if-are_unset.true)
-    d.vars d.lits d.cuts d.front (d.reasons a) (d.watched a idle.watched)
+    d.vars d.lits d.cuts d.front (d.reasons a) d.bare (d.watched a idle.watched)
 
 pub returns-else-level-eq1 : goal.returns-else-level-eq1
 returns-else-level-eq1 c = λ a idle.
@@ -38,3 +38,4 @@ returns-else-level-eq1 c = λ a idle.
     assuming_anew a vars lits c.deny.new.trail (d.vars ∙ o.vars ∙ ap (λ (x : Marks). x.vars) u.value ∙ idle.all_vars) (d.watched a (o.watched a (u.watched a idle.watched)))
     (d.lits ∙ ap (λ (ls : List Literal). ls ++ map negate lits) o.lits) (d.cuts ∙ o.cuts)
     (d.reasons a (assumed vars lits) (has_right (assumed vars []) (map negate lits)) (reasons_wider a c.open.new.trail (assumed vars []) (assumed vars lits) (has_left (assumed vars []) (map negate lits)) (o.reasons a)))
+    (d.bare [] (bare_none c.open.new.trail))

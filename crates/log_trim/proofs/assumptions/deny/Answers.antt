@@ -1,9 +1,10 @@
-use Rattle.std.proofs.Common.{◌≡◌, ◌∙◌, ◌++◌, ◌∷◌, [], List, take, get_or, map, sym, ap, subst, arith, append_assoc}
+use Rattle.std.proofs.Common.{◌≡◌, ◌∙◌, ◌++◌, ◌∷◌, ◌+◌, [], List, take, get_or, map, sym, ap, subst, arith, append_assoc}
 use Rattle.cnf_core.specs.Lit.{Literal, negate}
 use Rattle.cnf_core.specs.Clause.{IsThere}
 use Rattle.cnf_core.proofs.TrailLemmas.{there_get}
 use Rattle.watch_arena.specs.Trail.{Marks, IsUnset}
-use Rattle.log_trim.proofs.AssumingLemmas.{next_unset, negation_in, reasons_with}
+use Rattle.log_trim.specs.Found.{HaveNoReason}
+use Rattle.log_trim.proofs.AssumingLemmas.{next_unset, negation_in, reasons_with, bare_with}
 use Rattle.hint_log.proofs.NegationLemmas.{negations_more}
 use Rattle.log_trim.proofs.assumptions.deny.Goals as goal
 
@@ -38,5 +39,9 @@ loop-l-preserved c =
       cuts = ap (λ (x : Marks). x.cuts) value ∙ inv.cuts;
       front = ap (λ (x : Marks). x.front) value ∙ inv.front;
       reasons = λ a given wider h. reasons_with a c.loop-l.trail c.set.new.self k given unset pushed (ap (λ (x : Marks). x.reasons) value) (wider k (negation_in lits i c.l-item.result k c.loop-l-test.true is)) (inv.reasons a given wider h);
+      bare = λ ls h.
+          let more : map negate (take (i + 1) lits) ≡ map negate (take i lits) ++ k ∷ [] = negations_more lits i c.l-item.result c.loop-l-test.true ∙ ap (λ (x : Literal). map negate (take i lits) ++ x ∷ []) (sym is) in
+          subst (λ (ks : List Literal). HaveNoReason c.set.new.self ks) (append_assoc ls (map negate (take i lits)) (k ∷ []) ∙ ap (λ (ks : List Literal). ls ++ ks) (sym more))
+          (bare_with c.loop-l.trail c.set.new.self k (ls ++ map negate (take i lits)) (ap (λ (x : Marks). x.reasons) value) (inv.bare ls h));
       watched = λ a w. c.set.ensures.watched a (inv.watched a w);
     }

@@ -13,6 +13,7 @@ returns-clause-supposing c = λ all taken h.
       clauses = clauses_same old.vars all taken c.follow.new.arena c.propagate.new.self old.numbers.items first p.text;
       denying = assuming_grown c.follow.new.arena c.propagate.new.self old.vars lits c.assume.new.trail c.propagate.new.trail (c.assume.ensures c.follow.new.arena c.follow.ensures.idle) p.text p.longer p.reasons p.because p.front p.watched;
       size = h.size;
+      unneeded = h.unneeded;
     }
 
 pub returns-clause-ends : goal.returns-clause-ends

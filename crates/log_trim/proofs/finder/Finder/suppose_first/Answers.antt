@@ -26,6 +26,7 @@ returns-clause-supposing c = λ all taken others h.
       clauses = clauses_same old.vars all taken old.arena c.propagate.new.self old.numbers.items h.clauses p.text;
       denying = assuming_grown old.arena c.propagate.new.self old.vars (c.args.first ∷ others) c.assume_first.new.trail c.propagate.new.trail (c.assume_first.ensures old.arena old.vars others h.denying) p.text p.longer p.reasons p.because p.front p.watched;
       size = h.size;
+      unneeded = h.unneeded;
     }
 
 pub returns-clause-ends : goal.returns-clause-ends
