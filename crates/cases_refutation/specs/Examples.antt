@@ -15,11 +15,15 @@ abbrev pub height_up_to : ℕ → Criterion → ℕ
 height_up_to n Height = n
 height_up_to n c = 9
 
+-- two criteria, one before the other
+abbrev pub in_order : Criterion → Criterion → List Criterion
+in_order first second = first ∷ second ∷ []
+
 abbrev pub height_then_width : List Criterion
-height_then_width = Height ∷ Width ∷ []
+height_then_width = in_order Height Width
 
 abbrev pub width_then_height : List Criterion
-width_then_height = Width ∷ Height ∷ []
+width_then_height = in_order Width Height
 
 abbrev pub all_four : List Criterion
 all_four = Height ∷ Bends ∷ Diagonal ∷ Width ∷ []

@@ -41,7 +41,8 @@ record SameDrawing (grid other : GridSize) (d e : Drawing) : Type 0 where
   grid_is : grid ≡ other
   drawn_is : d ≡ e
 
-same_found : (d e : Drawing) → Some d ≡ Some e → d ≡ e
+-- what is found is one drawing
+pub same_found : (d e : Drawing) → Some d ≡ Some e → d ≡ e
 same_found d e same = cc
 
 -- a text is that of a sheet with one drawing, on one grid

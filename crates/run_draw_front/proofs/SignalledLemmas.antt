@@ -1,5 +1,5 @@
 -- What signals answers, from what the steps of draw give.
-use Rattle.std.proofs.Common.{◌≡◌, ◌≢◌, ◌⊎◌, ℕ, ◌<◌, ◌≤◌, List, [], ◌∷◌, ◌++◌, None, Some, length, refl, sym, ◌∙◌, ap, subst, inl, inr, arith}
+use Rattle.std.proofs.Common.{◌≡◌, ◌≢◌, ◌⊎◌, ℕ, ◌<◌, ◌≤◌, List, [], ◌∷◌, ◌++◌, None, Some, length, refl, sym, tt, ◌∙◌, ap, subst, inl, inr, arith}
 use Rattle.std.specs.Prelude.{false, All, IfSome}
 use Rattle.std.specs.declared.option.Option.{Option}
 use Rattle.outside_io.specs.Contents.{Told, FilesAt, WhereTold, SameFiles}
@@ -15,8 +15,10 @@ use Rattle.plan_text.specs.SheetFaults.{IsSheetText}
 use Rattle.plan_objects.specs.declared.places.SignalPlace.{SignalPlace}
 use Rattle.plan_objects.specs.Places.{no_place, need_of}
 use Rattle.plan_objects.specs.Spread.{HasRoomFor}
+use Rattle.plan_objects.specs.SignalsText.{line_under}
 use Rattle.plan_objects.specs.Rows.{station}
 use Rattle.plan_objects.proofs.RoomLemmas.{room_in_lawful}
+use Rattle.plan_objects.proofs.SpreadLemmas.{spread_at}
 use Rattle.plan_objects.proofs.PlaceLemmas.{as_many}
 use Rattle.refute_log.specs.Told.{Lines}
 use Rattle.search_least.specs.declared.outcome.Outcome.{Outcome}
@@ -39,7 +41,7 @@ use Rattle.run_draw_front.specs.Written.{file_named}
 use Rattle.run_draw_front.specs.SearchLog.{IsRunLog}
 use Rattle.run_draw_front.specs.Pictured.{IsPictured}
 use Rattle.run_draw_front.specs.Drawn.{Job, job, search_of, sheet_of, found_by, status_of, HasSearched, IsDrawAnswer}
-use Rattle.run_draw_front.specs.Signalled.{job_for, signals_behind, IsSignalled, IsSignalAnswer, IsSignalFileJudged, HasReadSignals, IsLeftBySignals}
+use Rattle.run_draw_front.specs.Signalled.{job_for, signals_behind, StandApart, IsSignalled, IsSignalAnswer, IsSignalFileJudged, HasReadSignals, IsLeftBySignals}
 use Rattle.run_draw_front.proofs.LeavesLemmas.{leaves_weaker, leaves_later, NamedMay}
 use Rattle.run_draw_front.proofs.FiledLemmas.{searched_later}
 
@@ -181,3 +183,8 @@ pub signals_untold : {T : Type 0} (log : Option (List ℕ)) (name : List ℕ) (o
 signals_untold log name old new Refused before after found answered same (inl refused) = absurd (answered refused)
 signals_untold None name old new Refused before after found answered same (inr none) = absurd (none (refl, found))
 signals_untold (Some file) name old new Refused before after found answered same (inr none) = same (λ e. let no : Some file ≡ None = e in absurd (cc))
+
+-- where each signal has room, the signals of each edge are spread over its line
+pub apart : (places : List SignalPlace) (found : Option Drawing) → IfSome found (λ d. (i : ℕ) → i < length places → HasRoomFor places d i) → StandApart places found
+apart places None room = tt
+apart places (Some d) room = λ i there. let r = room i there in spread_at places (line_under places d i) i there r.long

@@ -1,8 +1,9 @@
 -- What make and trial answer to a number: the made station's file, and how the search for its drawing ended.
 use Rattle.std.specs.Prelude.{◌≡◌, ℕ, List, [], ◌∷◌, ◌++◌, None, codes, length}
 use Rattle.std.specs.Fmt.{decimal}
+use Rattle.plan_core.specs.declared.criterion.Criterion.{Criterion}
 use Rattle.plan_core.specs.declared.criterion.Criterion.TheVariants as criteria
-use Rattle.plan_core.specs.Grid.{grid_size}
+use Rattle.plan_core.specs.Grid.{GridSize, grid_size}
 use Rattle.plan_core.specs.Graph.{Graph}
 use Rattle.plan_core.specs.Drawing.{Drawing}
 use Rattle.plan_core.specs.Values.{values_of}
@@ -25,10 +26,17 @@ pub record IsMade (n : ℕ) (status : Status) (text : List ℕ) : Type 0 where
 
 -- ---- trial
 
--- what is asked of a made station's drawing: 64 columns and 2 rows, the least height first and then the least width,
--- and no files
+-- the grid of trial: 64 columns and 2 rows
+abbrev pub trial_grid : GridSize
+trial_grid = grid_size 64 2
+
+-- the order of trial: the least height first, then the least width
+abbrev pub trial_order : List Criterion
+trial_order = criteria.Height ∷ criteria.Width ∷ []
+
+-- what is asked of a made station's drawing, with no files
 abbrev pub trial_job : Job
-trial_job = job (grid_size 64 2) (criteria.Height ∷ criteria.Width ∷ []) 50000 None None
+trial_job = job trial_grid trial_order 50000 None None
 
 -- the counts of a graph, and the values of its best drawing, as fields of a line
 abbrev pub graph_counts : Graph → List (List ℕ)

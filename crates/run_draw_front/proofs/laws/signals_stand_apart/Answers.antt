@@ -10,12 +10,8 @@ use Rattle.plan_objects.proofs.ExactLemmas.{edges_there}
 use Rattle.plan_objects.proofs.SpreadLemmas.{spread_at}
 use Rattle.run_draw_front.specs.Signalled.{job_for, StandApart}
 use Rattle.run_draw_front.specs.Drawn.{found_by}
-use Rattle.run_draw_front.proofs.SignalledLemmas.{least_is_need, found_has_room}
+use Rattle.run_draw_front.proofs.SignalledLemmas.{least_is_need, found_has_room, apart}
 use Rattle.run_draw_front.proofs.laws.signals_stand_apart.Goals as goal
-
-apart : (places : List SignalPlace) (found : Option Drawing) → IfSome found (λ d. (i : ℕ) → i < length places → HasRoomFor places d i) → StandApart places found
-apart places None room = tt
-apart places (Some d) room = λ i there. let r = room i there in spread_at places (line_under places d i) i there r.long
 
 pub returns : goal.returns
 returns c = λ bytes g o signals places has asked outcome lines ended.
